@@ -1,0 +1,57 @@
+-- Allowed: which access a list of grants in force allows, and which part fails first where it allows none.
+-- Sums are whole numbers that never wrap.
+use Rattle.std.specs.Prelude.{◌≡◌, Bool, true, false, ◌&&◌, ◌||◌, not, nat_le, ◌==◌, ◌+◌, if◌then◌else◌, List, [], ◌∷◌, Option, None, Some}
+use Rattle.ca_base.specs.declared.access.Ask.{Ask}
+use Rattle.ca_base.specs.declared.access.Denial.{Denial}
+use Rattle.ca_base.specs.declared.access.Denial.TheVariants.{NoGrant, WrongQueue, NoRight, OutOfRange}
+use Rattle.ca_base.specs.declared.access.Kind.{Kind}
+use Rattle.ca_base.specs.declared.access.Kind.TheVariants as kinds
+use Rattle.ca_base.specs.declared.grant.Grant.{Grant}
+use Rattle.ca_base.specs.declared.names.QueueId.{QueueId}
+use Rattle.ca_base.specs.declared.rights.Rights.{Rights}
+use Rattle.ca_base.specs.Equal.{key_eq, domain_eq, queue_eq}
+
+-- part 1: the grant has this key and this domain, and may be used as an L_Key where one is asked
+abbrev pub fits : Ask → Grant → Bool
+fits ask g = key_eq g.key ask.key && domain_eq g.domain ask.domain && (not ask.local || g.local)
+
+-- part 2: the grant names no queue pair, or this one
+abbrev pub serves : Option QueueId → QueueId → Bool
+serves None queue = true
+serves (Some named) queue = queue_eq named queue
+
+-- part 3: the right that an access of this kind needs, by an L_Key or by an R_Key; no L_Key is used for an atomic
+abbrev pub suffice : Rights → Bool → Kind → Bool
+suffice rights false kinds.Read = rights.remote_read
+suffice rights false kinds.Write = rights.remote_write
+suffice rights false kinds.CmpSwap = rights.remote_atomic
+suffice rights false kinds.FetchAdd = rights.remote_atomic
+suffice rights true kinds.Read = true
+suffice rights true kinds.Write = rights.local_write
+suffice rights true kinds.CmpSwap = false
+suffice rights true kinds.FetchAdd = false
+
+-- part 4: all addresses that are asked for are the grant's
+abbrev pub covers : Grant → Ask → Bool
+covers g ask = nat_le g.address ask.address && nat_le (ask.address + ask.length) (g.address + g.length)
+
+-- the first of parts 2 to 4 that fails
+abbrev pub denial_by : Ask → Grant → Option Denial
+denial_by ask g =
+    if not (serves g.queue ask.queue) then Some WrongQueue
+    else if not (suffice g.rights ask.local ask.kind) then Some NoRight
+    else if not (covers g ask) then Some OutOfRange
+    else None
+
+-- the first part that fails by the latest grant that passes part 1
+abbrev pub denial_among : Ask → List Grant → Option Denial
+denial_among ask [] = Some NoGrant
+denial_among ask (g ∷ grants) = if fits ask g then denial_by ask g else denial_among ask grants
+
+-- The first part that fails, over the grants in force, the latest first. An access of no bytes is allowed.
+abbrev pub denial_of : Ask → List Grant → Option Denial
+denial_of ask grants = if ask.length == 0 then None else denial_among ask grants
+
+-- no part fails
+abbrev pub IsAllowed : Ask → List Grant → Type 0
+IsAllowed ask grants = denial_of ask grants ≡ None

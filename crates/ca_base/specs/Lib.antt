@@ -1,0 +1,4 @@
+pub mod Numbers
+pub mod Memory
+pub mod Equal
+pub mod Allowed

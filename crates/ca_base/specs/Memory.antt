@@ -1,0 +1,33 @@
+-- Memory: a place is an adapter, a buffer and an offset, and memory gives each place a byte.
+use Rattle.std.specs.Prelude.{ℕ, ◌-◌, List, [], ◌∷◌, map, take, drop, if◌then◌else◌}
+use Rattle.std.specs.List.{flat_map, range_with_len}
+use Rattle.ca_base.specs.declared.place.Place.{Place}
+use Rattle.ca_base.specs.declared.place.Run.{Run}
+use Rattle.ca_base.specs.declared.grant.Grant.{Grant}
+use Rattle.ca_base.specs.Equal.{place_eq}
+
+-- a byte for each place
+abbrev pub ByteMap : Type 0
+ByteMap = Place → ℕ
+
+-- an opening of zeros
+abbrev pub zeros : ByteMap
+zeros place = 0
+
+-- the places of a run, from its offset on
+abbrev pub run_places : Run → List Place
+run_places r = map (λ at. record { adapter = r.adapter; buffer = r.buffer; offset = at }) (range_with_len r.offset r.length)
+
+-- the places of a grant: its runs byte by byte in order, one place for each address from its first on
+abbrev pub places_of : Grant → List Place
+places_of g = flat_map run_places g.runs
+
+-- the places that a grant has for this many addresses from `address` on
+abbrev pub places_at : Grant → ℕ → ℕ → List Place
+places_at g address count = take count (drop (address - g.address) (places_of g))
+
+-- memory after these bytes were written to these places, one after the other
+abbrev pub written : ByteMap → List Place → List ℕ → ByteMap
+written m [] bytes = m
+written m (p ∷ ps) [] = m
+written m (p ∷ ps) (b ∷ bs) = written (λ q. if place_eq p q then b else m q) ps bs

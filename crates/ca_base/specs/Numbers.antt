@@ -1,0 +1,36 @@
+-- How keys, queue pairs and addresses are numbered. All of it is this profile's choice.
+use Rattle.std.specs.Prelude.{ℕ, ◌+◌, ◌-◌, ◌*◌, ◌/◌, ◌%◌}
+use Rattle.ca_base.specs.declared.key.Key.{Key}
+use Rattle.ca_base.specs.declared.names.DomainId.{DomainId}
+use Rattle.ca_base.specs.declared.names.Slot.{Slot}
+use Rattle.ca_base.specs.declared.names.QueueId.{QueueId}
+
+-- the key index of the region in a slot
+abbrev pub region_index : Slot → ℕ
+region_index s = s.domain.domain * 0x10000 + s.slot
+
+-- the key index of the window in a slot
+abbrev pub window_index : Slot → ℕ
+window_index s = s.domain.domain * 0x10000 + 0x8000 + s.slot
+
+-- the key with this index and this low byte
+abbrev pub key_at : ℕ → ℕ → Key
+key_at index low = record { 0 = index * 256 + low }
+
+abbrev pub index_of : Key → ℕ
+index_of k = k.0 / 256
+
+abbrev pub low_of : Key → ℕ
+low_of k = k.0 % 256
+
+-- the queue pair in a slot
+abbrev pub queue_of : Slot → QueueId
+queue_of s = record { adapter = s.domain.adapter; number = (s.domain.domain + 1) * 256 + s.slot }
+
+-- the domain of a queue pair, by its number
+abbrev pub domain_of : QueueId → DomainId
+domain_of q = record { adapter = q.adapter; domain = q.number / 256 - 1 }
+
+-- the address of a buffer's first byte
+abbrev pub first_address : ℕ → ℕ
+first_address buffer = (buffer + 1) * 0x1_0000_0000

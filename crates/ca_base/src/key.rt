@@ -1,0 +1,43 @@
+ghost use Rattle.std.specs.Prelude.{◌≡◌, ◌<◌};
+
+use crate::names::Slot;
+
+/// A memory key. The L_Key and the R_Key of a region are one number (this profile's choice): the key index of its
+/// slot in the high 24 bits, and the low byte, which changes from grant to grant.
+#[derive(Clone, Copy, Debug, PartialEq, Eq)]
+pub struct Key(pub u32);
+
+impl Key {
+    ghost use Rattle.ca_base.specs.Numbers.{region_index, window_index, index_of, low_of, key_at};
+
+    /// The key of the region in a slot, with this low byte.
+    pub fn of_region(slot: Slot, low: u8) -> Key
+        ensures { result ≡ key_at (region_index slot) low }
+    {
+        Key((u32::from(slot.domain.domain) * 0x10000 + u32::from(slot.slot)) * 256 + u32::from(low))
+    }
+
+    /// The key of the window in a slot, with this low byte. Window indices stand above all region indices of the
+    /// domain.
+    pub fn of_window(slot: Slot, low: u8) -> Key
+        requires { slot.slot < 32768 }
+        ensures { result ≡ key_at (window_index slot) low }
+    {
+        let index = u32::from(slot.domain.domain) * 0x10000 + 0x8000 + u32::from(slot.slot);
+        Key(index * 256 + u32::from(low))
+    }
+
+    /// The key index: the high 24 bits.
+    pub fn index(self) -> u32
+        ensures { result ≡ index_of self }
+    {
+        self.0 / 256
+    }
+
+    /// The low byte.
+    pub fn low(self) -> u8
+        ensures { result ≡ low_of self }
+    {
+        (self.0 % 256) as u8
+    }
+}

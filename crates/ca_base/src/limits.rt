@@ -1,0 +1,71 @@
+/// The most adapters that stand in one process.
+pub const MAX_ADAPTERS: u8 = 8;
+
+/// The most protection domains of an adapter.
+pub const MAX_DOMAINS: u8 = 16;
+
+/// The most buffers of an adapter.
+pub const MAX_BUFFERS: u16 = 16;
+
+/// The most bytes of a buffer.
+pub const MAX_BUFFER_BYTES: u32 = 1_048_576;
+
+/// The most bytes of all buffers together.
+pub const MAX_TOTAL_BYTES: u32 = 67_108_864;
+
+/// The most memory regions of a domain.
+pub const MAX_REGIONS: u16 = 256;
+
+/// The most memory windows of a domain.
+pub const MAX_WINDOWS: u16 = 256;
+
+/// The most completion queues of a domain.
+pub const MAX_CQS: u16 = 64;
+
+/// The most shared receive queues of a domain.
+pub const MAX_SRQS: u16 = 64;
+
+/// The most queue pairs of a domain.
+pub const MAX_QPS: u16 = 64;
+
+/// The most parts of a fabric, summed over its adapters.
+pub const MAX_PARTS: u32 = 4096;
+
+/// The most pieces of a request's scatter or gather list.
+pub const MAX_PIECES: usize = 4;
+
+/// The most bytes of a message.
+pub const MAX_MESSAGE_BYTES: u32 = 1_048_576;
+
+/// The most requests of a send, a receive or a shared receive queue.
+pub const MAX_DEPTH: u16 = 256;
+
+/// The most completions that a completion queue holds.
+pub const MAX_CAPACITY: u16 = 4096;
+
+/// The most completions that one poll takes.
+pub const MAX_POLLED: u8 = 16;
+
+/// The most PSNs that a queue pair has outstanding.
+pub const MAX_OUTSTANDING_PSNS: u32 = 8192;
+
+/// The most request packets that a queue pair has outstanding.
+pub const MAX_OUTSTANDING_PACKETS: u32 = 64;
+
+/// The most bytes of one host store or load.
+pub const MAX_STORE_BYTES: u32 = 4096;
+
+/// The most events that a configuration may allow.
+pub const MAX_EVENTS: u32 = 131_072;
+
+/// The most consumers of a script.
+pub const MAX_CONSUMERS: u32 = 64;
+
+/// The most bytes of a script.
+pub const MAX_SCRIPT_BYTES: usize = 1_048_576;
+
+/// The most worker threads of a race.
+pub const MAX_WORKERS: u32 = 16;
+
+/// The most bytes of a packet's payload: the largest path MTU.
+pub const MAX_PAYLOAD_BYTES: usize = 4096;

@@ -1,0 +1,50 @@
+ghost use Rattle.std.specs.Prelude.{◌≡◌, ◌+◌, ◌*◌, ◌<◌, ◌≤◌};
+
+/// A protection domain: the adapter that it is of, and its number there.
+#[derive(Clone, Copy, Debug, PartialEq, Eq)]
+pub struct DomainId {
+    pub adapter: u8,
+    pub domain: u8,
+}
+
+/// An object of a domain: a region, a window, a completion queue, a shared receive queue or a queue pair.
+#[derive(Clone, Copy, Debug, PartialEq, Eq)]
+pub struct Slot {
+    pub domain: DomainId,
+    pub slot: u16,
+}
+
+/// A queue pair: the adapter that it is of, and its queue pair number there. The number carries the domain, as
+/// `(domain + 1) * 256 + slot`, so that the reserved numbers 0 and 1 never occur (this profile's choice).
+#[derive(Clone, Copy, Debug, PartialEq, Eq)]
+pub struct QueueId {
+    pub adapter: u8,
+    pub number: u32,
+}
+
+impl QueueId {
+    ghost use Rattle.ca_base.specs.Numbers.{queue_of, domain_of};
+
+    /// The queue pair that stands in a slot, which is one of at most 256 of its domain.
+    pub fn of_slot(slot: Slot) -> QueueId
+        requires { slot.slot < 256 }
+        ensures { result ≡ queue_of slot }
+    {
+        QueueId {
+            adapter: slot.domain.adapter,
+            number: (u32::from(slot.domain.domain) + 1) * 256 + u32::from(slot.slot),
+        }
+    }
+
+    /// The domain of a queue pair, by its number, which is one that a slot has.
+    pub fn domain(self) -> DomainId
+        requires named { 256 ≤ self.number }
+        requires in_domains { self.number < 65792 }
+        ensures { result ≡ domain_of self }
+    {
+        DomainId {
+            adapter: self.adapter,
+            domain: (self.number / 256 - 1) as u8,
+        }
+    }
+}
