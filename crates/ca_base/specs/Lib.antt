@@ -2,3 +2,4 @@ pub mod Numbers
 pub mod Memory
 pub mod Equal
 pub mod Allowed
+pub mod Registered

@@ -1,0 +1,5 @@
+pub mod Marks
+pub mod MarksView
+pub mod Entries
+pub mod History
+pub mod HistoryView

@@ -1,0 +1,24 @@
+//! What happened at the adapters: verbs and turns, their answers and marks, and the history that lists them.
+//!
+//! To the layers above it promises types in which each event says what it did, and definitions that say of a finished
+//! history what each access, each grant and each packet in it must be. No definition looks at an adapter.
+//!
+//! Source: InfiniBand Architecture Specification Volume 1, the chapters on the software transport interface and on
+//! the transport layer.
+#![tactic(auto)]
+
+mod answer;
+mod entry;
+mod event;
+mod history;
+mod mark;
+mod marks;
+mod verb;
+
+pub use answer::{Answer, Refusal};
+pub use entry::Entry;
+pub use event::Event;
+pub use history::History;
+pub use mark::Mark;
+pub use marks::Marks;
+pub use verb::Verb;

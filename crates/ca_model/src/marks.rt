@@ -1,0 +1,75 @@
+use crate::mark::Mark;
+use ca_base::Memory;
+use std::alloc::Global;
+use std::marker::Model;
+
+/// The marks of an event, in order. Contracts see them as a list, beside the spare room for more.
+#[derive(Debug, Drop)]
+pub struct Marks {
+    items: Vec<Mark>,
+}
+
+impl Model for Marks {
+    ghost use Rattle.ca_model.specs.Marks.{MarkList};
+
+    ghost Value = { MarkList };
+
+    ghost use Rattle.ca_model.specs.MarksView.{view_of};
+
+    ghost view = { view_of };
+}
+
+impl Marks {
+    ghost use Rattle.std.specs.Prelude.{◌≡◌, ◌≤◌, ◌<◌, ◌+◌, [], ◌∷◌, ◌++◌, OnOk, OnErr};
+
+    /// No marks. It takes no memory; what is reserved later comes from `alloc`.
+    pub fn empty(alloc: Global) -> Marks
+        ensures { result.marks ≡ [] }
+    {
+        Marks {
+            items: Vec::new(alloc),
+        }
+    }
+
+    /// Makes room for at least `n` more marks.
+    pub fn reserve(&mut self, n: u32) -> Result<(), Memory>
+        ensures room { OnOk result (n ≤ self.new.room) }
+        ensures same { self.new.marks ≡ self.old.marks }
+    {
+        self.items.reserve(n as usize)?;
+        Ok(())
+    }
+
+    /// Adds a mark at the end, in the spare room. It takes no memory.
+    pub fn push(&mut self, mark: Mark)
+        requires { 0 < self.old.room }
+        ensures marks { self.new.marks ≡ self.old.marks ++ mark ∷ [] }
+        ensures room { self.old.room ≤ self.new.room + 1 }
+    {
+        self.items.push(mark).unwrap()
+    }
+
+    /// The marks in order.
+    pub fn as_slice(&self) -> &[Mark]
+        ensures { result.now ≡ self.now.marks }
+    {
+        self.items.as_slice()
+    }
+
+    /// The vector that holds the marks. It takes no memory.
+    pub fn into_vec(self) -> Vec<Mark>
+        ensures { result.items ≡ self.marks }
+    {
+        self.items
+    }
+}
+
+impl From<Vec<Mark>> for Marks {
+    ghost use Rattle.std.specs.Prelude.{◌≡◌};
+
+    ghost from_gives = { λ v m. m.marks ≡ v.items };
+
+    fn from(items: Vec<Mark>) -> Marks {
+        Marks { items }
+    }
+}
