@@ -43,14 +43,19 @@ denial_by ask g =
     else if not (covers g ask) then Some OutOfRange
     else None
 
--- the first part that fails by the latest grant that passes part 1
-abbrev pub denial_among : Ask → List Grant → Option Denial
-denial_among ask [] = Some NoGrant
-denial_among ask (g ∷ grants) = if fits ask g then denial_by ask g else denial_among ask grants
+-- the grant that an ask goes by: of the grants in force, the latest first, the first that passes part 1
+abbrev pub grant_for : Ask → List Grant → Option Grant
+grant_for ask [] = None
+grant_for ask (g ∷ grants) = if fits ask g then Some g else grant_for ask grants
+
+-- the first part that fails under the grant that the ask goes by
+abbrev pub denial_under : Ask → Option Grant → Option Denial
+denial_under ask None = Some NoGrant
+denial_under ask (Some g) = denial_by ask g
 
 -- The first part that fails, over the grants in force, the latest first. An access of no bytes is allowed.
 abbrev pub denial_of : Ask → List Grant → Option Denial
-denial_of ask grants = if ask.length == 0 then None else denial_among ask grants
+denial_of ask grants = if ask.length == 0 then None else denial_under ask (grant_for ask grants)
 
 -- no part fails
 abbrev pub IsAllowed : Ask → List Grant → Type 0

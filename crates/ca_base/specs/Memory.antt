@@ -1,9 +1,12 @@
 -- Memory: a place is an adapter, a buffer and an offset, and memory gives each place a byte.
 use Rattle.std.specs.Prelude.{ℕ, ◌-◌, List, [], ◌∷◌, map, take, drop, if◌then◌else◌}
 use Rattle.std.specs.List.{flat_map, range_with_len}
+use Rattle.std.specs.Option.{option_map_or}
 use Rattle.ca_base.specs.declared.place.Place.{Place}
 use Rattle.ca_base.specs.declared.place.Run.{Run}
 use Rattle.ca_base.specs.declared.grant.Grant.{Grant}
+use Rattle.ca_base.specs.declared.access.Ask.{Ask}
+use Rattle.ca_base.specs.Allowed.{grant_for}
 use Rattle.ca_base.specs.Equal.{place_eq}
 
 -- a byte for each place
@@ -25,6 +28,14 @@ places_of g = flat_map run_places g.runs
 -- the places that a grant has for this many addresses from `address` on
 abbrev pub places_at : Grant → ℕ → ℕ → List Place
 places_at g address count = take count (drop (address - g.address) (places_of g))
+
+-- the places that the grant that an ask goes by has for this many addresses from the ask's address on
+abbrev pub places_for : Ask → List Grant → ℕ → List Place
+places_for ask grants count = option_map_or (λ g. places_at g ask.address count) (grant_for ask grants) []
+
+-- the bytes that memory holds at these places
+abbrev pub bytes_at : ByteMap → List Place → List ℕ
+bytes_at m places = map m places
 
 -- memory after these bytes were written to these places, one after the other
 abbrev pub written : ByteMap → List Place → List ℕ → ByteMap

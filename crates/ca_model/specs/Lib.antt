@@ -3,3 +3,9 @@ pub mod MarksView
 pub mod Entries
 pub mod History
 pub mod HistoryView
+pub mod Past
+pub mod InForce
+pub mod Licensed
+pub mod Packets
+pub mod Judged
+pub mod Carried

@@ -2,6 +2,6 @@ use Rattle.std.proofs.Common.{◌≡◌, drop}
 use Rattle.ca_base.specs.Allowed as allowed
 use Rattle.ca_base.proofs.access.Ask.denial.Given as goal
 
--- what the grants so far left open is what the others answer
+-- the grant that the ask goes by is among those to come
 abbrev pub invariant-loop-grant : goal.invariant-loop-grant
-invariant-loop-grant l = allowed.denial_among l.self (drop l.grant-index l.in_force) ≡ allowed.denial_among l.self l.in_force
+invariant-loop-grant l = allowed.grant_for l.self (drop l.grant-index l.in_force) ≡ allowed.grant_for l.self l.in_force
