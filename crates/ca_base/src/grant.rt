@@ -1,8 +1,10 @@
 use crate::access::{Ask, Denial, Kind};
 use crate::key::Key;
 use crate::lists::Runs;
+use crate::memory::Memory;
 use crate::names::{DomainId, QueueId};
 use crate::rights::Rights;
+use std::alloc::Global;
 
 /// What a key in force grants: to the queue pairs of a domain, or to one of them, the rights over `length` addresses
 /// from `address` on. The addresses stand for the bytes of `runs`, in order. `local` says that the key may be used as
@@ -20,8 +22,24 @@ pub struct Grant {
 }
 
 impl Grant {
-    ghost use Rattle.std.specs.Prelude.{◌≡◌};
+    ghost use Rattle.std.specs.Prelude.{◌≡◌, IfOk};
     ghost use Rattle.ca_base.specs.Allowed as allowed;
+
+    /// A copy of the grant.
+    pub fn copy(&self, alloc: Global) -> Result<Grant, Memory>
+        ensures { IfOk result (λ grant. grant ≡ self.now) }
+    {
+        Ok(Grant {
+            key: self.key,
+            domain: self.domain,
+            queue: self.queue,
+            local: self.local,
+            address: self.address,
+            length: self.length,
+            rights: self.rights,
+            runs: Runs::copy_of(alloc, self.runs.as_slice())?,
+        })
+    }
 
     /// Whether the grant has the key and the domain of the ask, and may be used as an L_Key where one is asked.
     pub fn fits(&self, ask: &Ask) -> bool

@@ -95,6 +95,15 @@ impl Runs {
         }
     }
 
+    /// A copy of a slice.
+    pub fn copy_of(alloc: Global, runs: &[Run]) -> Result<Runs, Memory>
+        ensures { IfOk result (λ r. r ≡ runs.now) }
+    {
+        Ok(Runs {
+            items: Vec::from_slice(alloc, runs)?,
+        })
+    }
+
     /// The runs in order.
     pub fn as_slice(&self) -> &[Run]
         ensures { result.now ≡ self.now }

@@ -23,7 +23,7 @@ impl Model for History {
 }
 
 impl History {
-    ghost use Rattle.std.specs.Prelude.{◌≡◌, [], ◌∷◌, ◌++◌, length, map, OnOk, OnErr};
+    ghost use Rattle.std.specs.Prelude.{◌≡◌, ◌==◌, [], ◌∷◌, ◌++◌, length, map, OnOk, OnErr};
     ghost use Rattle.ca_model.specs.Entries.{entry_of};
     ghost use Rattle.ca_model.specs.History.{IsEntry, IsHistory};
 
@@ -34,6 +34,20 @@ impl History {
         History {
             entries: Vec::new(alloc),
         }
+    }
+
+    /// How many entries there are.
+    pub fn len(&self) -> usize
+        ensures { result ≡ length self.now }
+    {
+        self.entries.len()
+    }
+
+    /// Whether there are none.
+    pub fn is_empty(&self) -> bool
+        ensures { result ≡ (length self.now == 0) }
+    {
+        self.entries.is_empty()
     }
 
     /// Adds an entry at the end. Its stamp is the number of entries, and its marks are those that its event may have.

@@ -1,0 +1,120 @@
+-- Reading fails exactly where a test refuses the bytes, and with that test's fault.
+use Rattle.std.proofs.Common.{◌≡◌, ℕ, ◌-◌, ◌/◌, ◌%◌, ◌^◌, ◌≤◌, Bool, true, false, not, ◌&&◌, cond, eqb, ltb, List, [], ◌∷◌, length, take, Option, Some, None, Result, Ok, Err, refl, sym, ap, ◌∙◌, arith, inl, inr}
+use Rattle.std.specs.Prelude.{is_none, IfOk, IfErr, OnOk, IsOkAnd}
+use Rattle.std.specs.Int.{w32}
+use Rattle.std.proofs.lemmas.Bool.{lt-ltb, le-ltb, cases_lt, cases_eq, eq-eqb, ne_eqb}
+use Rattle.std.proofs.lemmas.List.{get_or-take}
+use Rattle.ca_wire.specs.declared.bth.Bth.{Bth}
+use Rattle.ca_wire.specs.declared.packet.Packet.{Packet}
+use Rattle.ca_wire.specs.declared.wire_error.WireError.{WireError}
+use Rattle.ca_wire.specs.declared.wire_error.WireError.TheVariants.{TooShort, Opcode, Length, Pad}
+use Rattle.ca_wire.specs.Table.{Row, row_of, allows_payload, layout}
+use Rattle.ca_wire.specs.Packet.{Fields, first_of, opcode_in, version_in, pad_in, headers_size, refusal_of, fields_of, Spells}
+use Rattle.ca_wire.specs.Reading.{◌>>=◌, Gives, number_at, bth_at, bth_from, version_of, headers_at, whole_headers_at, payload_at, fields_from, packet_at}
+use Rattle.ca_wire.proofs.NumberLaws.{IsBytes, wide32, number_takes}
+use Rattle.ca_wire.proofs.PacketLaws.{after_bth, headers_take, packet_takes, packet_again}
+use Rattle.ca_wire.proofs.PartLaws.{done, ok_is}
+use Rattle.ca_wire.proofs.TableRows.{row_orderly}
+
+-- the fault of a reading
+abbrev pub fault : {A : Type 0} → Result A WireError → Option WireError
+fault (Ok x) = None
+fault (Err e) = Some e
+
+fault_then : {A B : Type 0} (r : Result A WireError) (f : A → B) → fault (r >>= λ x. Ok (f x)) ≡ fault r
+fault_then (Ok x) f = refl
+fault_then (Err e) f = refl
+
+abbrev payload_tests : ℕ → Bool → ℕ → List (Bool × WireError)
+payload_tests n allowed pad =
+    (not (eqb (n % 4) 0), Length)
+    ∷ (not (eqb n 0) && not allowed, Length)
+    ∷ (ltb 4096 (n - pad), Length)
+    ∷ (eqb n 0 && not (eqb pad 0), Pad)
+    ∷ []
+
+abbrev opcode_tests : Option Row → ℕ → ℕ → Bool → ℕ → ℕ → List (Bool × WireError)
+opcode_tests row n size allowed rest pad = (is_none row, Opcode) ∷ (ltb n size, TooShort) ∷ payload_tests rest allowed pad
+
+four_tests : {A : Type 0} (a b c d : Bool) (ea eb ec ed : WireError) (x : A) → fault (cond a (Err ea) (cond b (Err eb) (cond c (Err ec) (cond d (Err ed) (Ok x))))) ≡ first_of ((a, ea) ∷ (b, eb) ∷ (c, ec) ∷ (d, ed) ∷ [])
+four_tests true b c d ea eb ec ed x = refl
+four_tests false true c d ea eb ec ed x = refl
+four_tests false false true d ea eb ec ed x = refl
+four_tests false false false true ea eb ec ed x = refl
+four_tests false false false false ea eb ec ed x = refl
+
+payload_fault : (allowed : Bool) (pad : ℕ) (rest : List ℕ) → fault (payload_at allowed pad rest) ≡ first_of (payload_tests (length rest) allowed pad)
+unfolding payload_at
+payload_fault allowed pad rest =
+    let n = length rest in
+    four_tests (not (eqb (n % 4) 0)) (not (eqb n 0) && not allowed) (ltb 4096 (n - pad)) (eqb n 0 && not (eqb pad 0)) Length Length Length Pad (take (n - pad) rest)
+
+row_fault : (b : Bth × List ℕ) (o : Option Row) → IsBytes b.1 → row_of b.0.opcode ≡ o → fault (after_bth b) ≡ first_of (opcode_tests (row_of b.0.opcode) (length b.1) (headers_size b.0.opcode) (allows_payload b.0.opcode) (length b.1 - headers_size b.0.opcode) b.0.pad)
+unfolding whole_headers_at
+row_fault b None fits e = rw e refl
+row_fault b (Some r) fits e =
+    let l = layout r in
+    let row = row_orderly b.0.opcode r e in
+    rw e (elim (cases_lt (length b.1) l.size) [
+      | inl lt ↦ rw (lt-ltb (length b.1) l.size lt) refl
+      | inr le ↦
+          let th = headers_take l b.1 fits (omega (arith, row.0.size)) in
+          let rest : length (headers_at l b.1).1 ≡ length b.1 - l.size = omega (arith, th.len, row.0.size) in
+          rw (le-ltb (length b.1) l.size le) (fault_then (payload_at l.payload b.0.pad (headers_at l b.1).1) (λ p. fields_from b.0 (headers_at l b.1).0 p) ∙ payload_fault l.payload b.0.pad (headers_at l b.1).1 ∙ ap (λ n. first_of (payload_tests n r.payload b.0.pad)) rest)
+    ])
+
+-- the first word holds the opcode, the pad count and the version where the bytes do
+in_first_word : (bytes : List ℕ) → IsBytes bytes → ((number_at w32 bytes).0 / 2 ^ 24 ≡ opcode_in bytes) × ((number_at w32 bytes).0 / 2 ^ 20 % 4 ≡ pad_in bytes) × (version_of (number_at w32 bytes).0 ≡ version_in bytes)
+unfolding number_at
+in_first_word bytes fits =
+    let g0 = get_or-take 4 bytes 0 0 (omega arith) in
+    let g1 = get_or-take 4 bytes 1 0 (omega arith) in
+    let g2 = get_or-take 4 bytes 2 0 (omega arith) in
+    let g3 = get_or-take 4 bytes 3 0 (omega arith) in
+    (omega (arith, g0, g1, g2, g3, fits 0, fits 1, fits 2, fits 3), omega (arith, g0, g1, g2, g3, fits 0, fits 1, fits 2, fits 3), omega (arith, g0, g1, g2, g3, fits 0, fits 1, fits 2, fits 3))
+
+refused_long : (bytes : List ℕ) → IsBytes bytes → 12 ≤ length bytes → refusal_of bytes ≡ fault (packet_at bytes)
+unfolding refusal_of packet_at bth_at
+refused_long bytes fits long =
+    let a = number_at w32 bytes in
+    let b = number_at w32 a.1 in
+    let c = number_at w32 b.1 in
+    let ta = number_takes w32 (2 ^ 32) wide32 bytes fits (omega arith) in
+    let la = ta.len in
+    let tb = number_takes w32 (2 ^ 32) wide32 a.1 ta.fits (omega arith) in
+    let lb = tb.len in
+    let tc = number_takes w32 (2 ^ 32) wide32 b.1 tb.fits (omega arith) in
+    let lc = tc.len in
+    let len : length bytes - 12 ≡ length c.1 = omega arith in
+    let w = in_first_word bytes fits in
+    rw (le-ltb (length bytes) 12 long, ← w.2) (elim (cases_eq (version_of a.0) 0) [
+      | inl is ↦ rw (eq-eqb _ _ is, len, ← w.0, ← w.1) (sym (row_fault (bth_from a.0 b.0 c.0, c.1) _ tc.fits refl))
+      | inr ne ↦ rw (ne_eqb _ _ ne) refl
+    ])
+
+-- reading fails exactly where a test refuses
+pub refusal_is : (bytes : List ℕ) → IsBytes bytes → refusal_of bytes ≡ fault (packet_at bytes)
+unfolding refusal_of packet_at bth_at
+refusal_is bytes fits =
+    elim (cases_lt (length bytes) 12) [
+      | inl lt ↦ rw (lt-ltb (length bytes) 12 lt) refl
+      | inr le ↦ refused_long bytes fits le
+    ]
+
+-- ---- what reading gives, as the clauses of a decoder say it
+
+pub is_found : (r : Result Packet WireError) (bytes : List ℕ) → IsBytes bytes → Gives fields_of r (packet_at bytes) → IfOk r (λ p. Spells bytes (fields_of p))
+is_found (Ok p) bytes fits h = packet_takes bytes (fields_of p) fits h
+is_found (Err e) bytes fits h = tt
+
+pub is_only : (r : Result Packet WireError) (bytes : List ℕ) (f : Fields) → Gives fields_of r (packet_at bytes) → Spells bytes f → IsOkAnd r (λ p. fields_of p ≡ f)
+is_only (Ok p) bytes f h s = ok_is (fields_of p) f (sym h ∙ packet_again bytes f s)
+is_only (Err e) bytes f h s = absurd (let k : done f ≡ Err e = sym (packet_again bytes f s) ∙ h in cc)
+
+pub is_refused : (r : Result Packet WireError) (bytes : List ℕ) → IsBytes bytes → Gives fields_of r (packet_at bytes) → IfErr r (λ e. refusal_of bytes ≡ Some e)
+is_refused (Ok p) bytes fits h = tt
+is_refused (Err e) bytes fits h = refusal_is bytes fits ∙ ap (λ (x : Result Fields WireError). fault x) h
+
+pub is_taken : (r : Result Packet WireError) (bytes : List ℕ) → IsBytes bytes → Gives fields_of r (packet_at bytes) → OnOk r (refusal_of bytes ≡ None)
+is_taken (Ok p) bytes fits h = refusal_is bytes fits ∙ ap (λ (x : Result Fields WireError). fault x) h
+is_taken (Err e) bytes fits h = tt

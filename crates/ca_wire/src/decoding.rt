@@ -1,0 +1,51 @@
+ghost use Rattle.std.specs.Prelude.{◌≡◌, List, ℕ, None, Some, IfOk, IfErr, OnOk, IsOkAnd, drop, take, length, ◌+◌};
+ghost use Rattle.ca_wire.specs.Packet.{Fields, Spells, fields_of, refusal_of};
+ghost use Rattle.ca_wire.specs.Reading.{Gives, packet_at};
+
+use crate::bth::bth_of;
+use crate::headers::headers_of;
+use crate::layout::layout_of;
+use crate::packet::Packet;
+use crate::payload::payload_of;
+use crate::wire_error::WireError;
+
+#[tactic(auto, unfolding(crate::specs::Reading::packet_at))]
+fn packet_of(bytes: &[u8]) -> Result<Packet<'_>, WireError>
+    ensures { Gives fields_of result (packet_at bytes.now) }
+{
+    let (bth, rest) = bth_of(bytes)?;
+    let layout = layout_of(bth.opcode).ok_or(WireError::Opcode)?;
+    let (headers, rest) = headers_of(layout, rest)?;
+    let payload = payload_of(layout.payload, bth.pad, rest)?;
+    Ok(Packet {
+        opcode: bth.opcode,
+        solicited: bth.solicited,
+        migrated: bth.migrated,
+        pkey: bth.pkey,
+        queue: bth.queue,
+        ack: bth.ack,
+        psn: bth.psn,
+        reth: headers.reth,
+        atomic: headers.atomic,
+        aeth: headers.aeth,
+        result: headers.result,
+        imm: headers.imm,
+        ieth: headers.ieth,
+        payload,
+    })
+}
+
+/// The packet that these bytes spell, all of them. The payload is a slice of `bytes`; no memory is taken. A refusal is
+/// the first test that holds, in the order of the variants of [`WireError`], but that `TooShort` is tested again after
+/// `Opcode`, for the headers that the opcode has.
+pub fn decode(bytes: &[u8]) -> Result<Packet<'_>, WireError>
+    // What is read is spelt so.
+    ensures found { IfOk result (λ p. Spells bytes.now (fields_of p)) }
+    // What is spelt so is read.
+    ensures only { (f : Fields) → Spells bytes.now f → IsOkAnd result (λ p. fields_of p ≡ f) }
+    // Which test refuses.
+    ensures refused { IfErr result (λ e. refusal_of bytes.now ≡ Some e) }
+    ensures taken { OnOk result (refusal_of bytes.now ≡ None) }
+{
+    packet_of(bytes)
+}
