@@ -1,5 +1,5 @@
 -- How keys, queue pairs and addresses are numbered. All of it is this profile's choice.
-use Rattle.std.specs.Prelude.{ℕ, ◌+◌, ◌-◌, ◌*◌, ◌/◌, ◌%◌}
+use Rattle.std.specs.Prelude.{◌≡◌, ℕ, ◌+◌, ◌-◌, ◌*◌, ◌/◌, ◌%◌}
 use Rattle.ca_base.specs.declared.key.Key.{Key}
 use Rattle.ca_base.specs.declared.names.DomainId.{DomainId}
 use Rattle.ca_base.specs.declared.names.Slot.{Slot}
@@ -30,6 +30,10 @@ queue_of s = record { adapter = s.domain.adapter; number = (s.domain.domain + 1)
 -- the domain of a queue pair, by its number
 abbrev pub domain_of : QueueId → DomainId
 domain_of q = record { adapter = q.adapter; domain = q.number / 256 - 1 }
+
+-- the queue pair's number is one of this domain
+abbrev pub IsOfDomain : QueueId → DomainId → Type 0
+IsOfDomain q d = (d.adapter ≡ q.adapter) × (q.number / 256 ≡ d.domain + 1)
 
 -- the address of a buffer's first byte
 abbrev pub first_address : ℕ → ℕ

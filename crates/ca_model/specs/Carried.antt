@@ -27,12 +27,13 @@ has_named past source target = is_present (past.named source)
 abbrev pub has_path : Past → QueueId → QueueId → Bool
 has_path past source target = has_named past source target && has_named past target source
 
--- one of the last 256 envelopes of a queue pair has this index and is not lost
+-- the latest of these envelopes with this index is not lost
 abbrev pub IsUnderWay : ℕ → List Envelope → Type 0
 IsUnderWay index [] = ⊥
 IsUnderWay index (e ∷ es) = MatchBool (e.index == index) (e.lost ≡ false) (IsUnderWay index es)
 
--- A packet that arrives by an index was sent with it and is under way. One without an index is injected by its event.
+-- A packet that arrives by an index is among the last 256 that were sent to the queue pair, and is not lost. One without
+-- an index is injected by its event.
 abbrev pub HasArrived : Past → QueueId → Option ℕ → Type 0
 HasArrived past target (Some index) = IsUnderWay index (take 256 (past.sent target))
 HasArrived past target None = IsSomeAnd past.at_hand.injected (λ i. i.target ≡ target)
@@ -45,8 +46,8 @@ GoesOn ask w = (w.key ≡ ask.key) × (w.address + w.wrote ≡ ask.address) × (
 abbrev pub NamesWrite : Past → Ask → Fields → Type 0
 NamesWrite past ask p =
     MatchBool (begins_write p.opcode)
-      (p.reth ≡ Some (record { address = ask.address; key = ask.key; length = ask.length }))
-      (MatchBool (continues_write p.opcode) (IsSomeAnd (past.latest_write ask.queue) (GoesOn ask)) ⊥)
+    (p.reth ≡ Some (record { address = ask.address; key = ask.key; length = ask.length }))
+    (MatchBool (continues_write p.opcode) (IsSomeAnd (past.latest_write ask.queue) (GoesOn ask)) ⊥)
 
 -- an atomic's packet is of the kind of the mark and names its key and address
 abbrev pub NamesAtomic : Ask → Fields → Type 0

@@ -1,14 +1,13 @@
 -- Judged: what each access of a history must be, by the grants and the bytes before it.
-use Rattle.std.specs.Prelude.{◌≡◌, ℕ, ◌%◌, ◌<◌, ◌≤◌, List, length, Option, None, Some, IsSomeAnd}
+use Rattle.std.specs.Prelude.{◌≡◌, ℕ, ◌%◌, ◌<◌, ◌≤◌, List, length, Option, Some, IsSomeAnd}
 use Rattle.std.specs.Int.{w64, from_le_bytes}
 use Rattle.ca_base.specs.declared.access.Ask.{Ask}
-use Rattle.ca_base.specs.declared.access.Kind.{Kind}
 use Rattle.ca_base.specs.declared.access.Kind.TheVariants as kinds
 use Rattle.ca_base.specs.declared.access.Verdict.{Verdict}
 use Rattle.ca_base.specs.declared.access.Verdict.TheVariants as verdicts
 use Rattle.ca_base.specs.Allowed.{denial_of, IsAllowed}
 use Rattle.ca_base.specs.Memory.{ByteMap, places_of, places_for, bytes_at}
-use Rattle.ca_base.specs.Numbers.{domain_of}
+use Rattle.ca_base.specs.Numbers.{IsOfDomain}
 use Rattle.ca_wire.specs.Packet.{Fields, Spells}
 use Rattle.ca_model.specs.declared.mark.Mark.{Mark}
 use Rattle.ca_model.specs.declared.mark.Mark.TheVariants as marks
@@ -46,7 +45,7 @@ IsVerdict past ask envelope (verdicts.Swapped found put) =
 abbrev pub IsJudged : Past → Mark → Type 0
 IsJudged past (marks.Granted g) = length (places_of g) ≡ g.length
 IsJudged past (marks.Remote queue domain envelope key kind address length verdict) =
-    (domain ≡ domain_of queue) × IsVerdict past (remote_ask queue domain key kind address length) envelope verdict
+    IsOfDomain queue domain × IsVerdict past (remote_ask queue domain key kind address length) envelope verdict
 IsJudged past mark = Unit {0}
 
 -- each mark of the history is judged rightly, over the bytes that memory opened with

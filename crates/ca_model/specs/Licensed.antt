@@ -1,10 +1,9 @@
 -- Licensed: which grants a history may hold.
-use Rattle.std.specs.Prelude.{◌≡◌, ℕ, Bool, false, List, Option, None, Some, IsSome}
+use Rattle.std.specs.Prelude.{◌≡◌, ℕ, false, List, Option, None, Some, IsSome}
 use Rattle.std.specs.List.{list_any}
 use Rattle.ca_base.specs.declared.grant.Grant.{Grant}
 use Rattle.ca_base.specs.declared.names.Slot.{Slot}
 use Rattle.ca_base.specs.declared.place.Run.{Run}
-use Rattle.ca_base.specs.declared.rights.Rights.{Rights}
 use Rattle.ca_base.specs.Memory.{ByteMap}
 use Rattle.ca_base.specs.Numbers.{region_index}
 use Rattle.ca_base.specs.Registered.{registered, next_low}
@@ -15,7 +14,7 @@ use Rattle.ca_model.specs.declared.mark.Mark.TheVariants as marks
 use Rattle.ca_model.specs.declared.verb.Verb.{Verb}
 use Rattle.ca_model.specs.declared.verb.Verb.TheVariants as verbs
 use Rattle.ca_model.specs.Entries.{EntryValue}
-use Rattle.ca_model.specs.Past.{Past, Answered, KeySlot, opened, key_slot_of, key_slot_eq, EachEntry}
+use Rattle.ca_model.specs.Past.{Past, Answered, opened, key_slot_of, key_slot_eq, EachEntry}
 
 -- the low byte that the next registration in a slot takes
 abbrev pub fresh_low : Past → Slot → ℕ
@@ -46,15 +45,16 @@ abbrev pub IsLicensed : Past → Mark → Type 0
 IsLicensed past (marks.Granted g) = HasLicense past past.at_hand.answered g × IsAlone past.grants g
 IsLicensed past mark = Unit {0}
 
--- what a verb owes: a registration that was answered with a key has granted it
-abbrev pub IsPaidFor : Verb → Answer → Option Grant → Type 0
-IsPaidFor (verbs.RegMr slot buffer offset length rights) (answers.Key key) granted = IsSome granted
-IsPaidFor verb answer granted = Unit {0}
+-- a registration that was answered with a key has granted one
+abbrev pub HasGranted : Verb → Answer → Option Grant → Type 0
+HasGranted (verbs.RegMr slot buffer offset length rights) (answers.Key key) granted = IsSome granted
+HasGranted verb answer granted = Unit {0}
 
-abbrev pub IsPaid : Option Answered → Option Grant → Type 0
-IsPaid None granted = Unit {0}
-IsPaid (Some a) granted = IsPaidFor a.verb a.answer granted
+-- the same of the verb of an event, if it has one
+abbrev pub HasGrant : Option Answered → Option Grant → Type 0
+HasGrant None granted = Unit {0}
+HasGrant (Some a) granted = HasGranted a.verb a.answer granted
 
 -- each grant is licensed, and each registration that was answered with a key has its grant
 abbrev pub Licensed : ByteMap → List EntryValue → Type 0
-Licensed bytes es = EachEntry IsLicensed (λ past. IsPaid past.at_hand.answered past.at_hand.granted) (opened bytes) es
+Licensed bytes es = EachEntry IsLicensed (λ past. HasGrant past.at_hand.answered past.at_hand.granted) (opened bytes) es

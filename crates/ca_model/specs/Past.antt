@@ -4,16 +4,13 @@ use Rattle.std.specs.Prelude.{ℕ, suc, Bool, true, false, ◌&&◌, ◌==◌, i
 use Rattle.std.specs.Int.{w64, to_le_bytes}
 use Rattle.ca_base.specs.declared.access.Ask.{Ask}
 use Rattle.ca_base.specs.declared.access.Kind.{Kind}
-use Rattle.ca_base.specs.declared.access.Kind.TheVariants as kinds
 use Rattle.ca_base.specs.declared.access.Verdict.{Verdict}
 use Rattle.ca_base.specs.declared.access.Verdict.TheVariants as verdicts
-use Rattle.ca_base.specs.declared.change.Change.{Change}
 use Rattle.ca_base.specs.declared.change.Change.TheVariants as changes
 use Rattle.ca_base.specs.declared.grant.Grant.{Grant}
 use Rattle.ca_base.specs.declared.key.Key.{Key}
 use Rattle.ca_base.specs.declared.names.DomainId.{DomainId}
 use Rattle.ca_base.specs.declared.names.QueueId.{QueueId}
-use Rattle.ca_base.specs.declared.names.Slot.{Slot}
 use Rattle.ca_base.specs.Equal.{queue_eq}
 use Rattle.ca_base.specs.Memory.{ByteMap, places_for, written}
 use Rattle.ca_base.specs.Numbers.{index_of, low_of, queue_of}
@@ -104,7 +101,14 @@ key_slot_of g = record { adapter = g.domain.adapter; index = index_of g.key }
 -- the ask of a remote access
 abbrev pub remote_ask : QueueId → DomainId → Key → Kind → ℕ → ℕ → Ask
 remote_ask queue domain key kind address length = record {
-  queue = queue; domain = domain; key = key; local = false; kind = kind; address = address; length = length; touch = length
+  queue = queue;
+  domain = domain;
+  key = key;
+  local = false;
+  kind = kind;
+  address = address;
+  length = length;
+  touch = length;
 }
 
 -- nothing yet of an event
@@ -119,8 +123,15 @@ injected_by event = None
 -- before any event, over these bytes
 abbrev pub opened : ByteMap → Past
 opened bytes = record {
-  grants = []; memory = bytes; low = λ k. 0; incarnation = λ q. 0; named = λ q. None; sent = λ q. [];
-  count = λ q. 0; latest_write = λ q. None; at_hand = nothing_at_hand
+  grants = [];
+  memory = bytes;
+  low = λ k. 0;
+  incarnation = λ q. 0;
+  named = λ q. None;
+  sent = λ q. [];
+  count = λ q. 0;
+  latest_write = λ q. None;
+  at_hand = nothing_at_hand;
 }
 
 -- as an event begins
@@ -146,7 +157,7 @@ after_access ask (verdicts.Read bytes) past = past
 after_access ask (verdicts.Wrote bytes) past = record past {
   memory = written past.memory (places_for ask past.grants (length bytes)) bytes;
   latest_write = with_at queue_eq past.latest_write ask.queue
-    (Some (record { key = ask.key; address = ask.address; asked = ask.length; wrote = length bytes }));
+      (Some (record { key = ask.key; address = ask.address; asked = ask.length; wrote = length bytes }));
 }
 after_access ask (verdicts.Swapped found put) past =
     record past { memory = written past.memory (places_for ask past.grants 8) (to_le_bytes w64 put) }
@@ -182,7 +193,7 @@ after_lost target None past =
 abbrev pub after_mark : Mark → Past → Past
 after_mark (marks.Verb by verb answer) past =
     after_verb verb answer (record past {
-      at_hand = record past.at_hand { answered = Some (record { verb = verb; answer = answer }) }
+      at_hand = record past.at_hand { answered = Some (record { verb = verb; answer = answer }) };
     })
 after_mark (marks.Granted g) past = record past {
   grants = g ∷ past.grants;

@@ -5,7 +5,7 @@ use ca_base::{Grant, Key, Memory, RegionError, Rights, Run, Runs, Slot, first_ad
 use std::alloc::Global;
 use std::marker::Model;
 
-/// The key slot of a memory region. Its low byte opens at 0 and stays when the slot is vacated, so that a key that was
+/// The key slot of a memory region. Its low byte opens at 0 and rises with each registration, so that the key that was
 /// granted last is not the one that is granted next (this profile's choice).
 #[derive(Debug, Drop)]
 pub struct Region {
