@@ -1,19 +1,18 @@
--- Reading fails exactly where a test refuses the bytes, and with that test's fault.
-use Rattle.std.proofs.Common.{◌≡◌, ℕ, ◌-◌, ◌/◌, ◌%◌, ◌^◌, ◌≤◌, Bool, true, false, not, ◌&&◌, cond, eqb, ltb, List, [], ◌∷◌, length, take, Option, Some, None, Result, Ok, Err, refl, sym, ap, ◌∙◌, arith, inl, inr}
-use Rattle.std.specs.Prelude.{is_none, IfOk, IfErr, OnOk, IsOkAnd}
-use Rattle.std.specs.Int.{w32}
-use Rattle.std.proofs.lemmas.Bool.{lt-ltb, le-ltb, cases_lt, cases_eq, eq-eqb, ne_eqb}
-use Rattle.std.proofs.lemmas.List.{get_or-take}
-use Rattle.ca_wire.specs.declared.bth.Bth.{Bth}
-use Rattle.ca_wire.specs.declared.packet.Packet.{Packet}
-use Rattle.ca_wire.specs.declared.wire_error.WireError.{WireError}
-use Rattle.ca_wire.specs.declared.wire_error.WireError.TheVariants.{TooShort, Opcode, Length, Pad}
+-- Reading fails exactly where a test refuses the bytes, and with the fault of that test.
+use Rattle.ca_wire.specs.Packet.{headers_size, first_of, opcode_in, version_in, pad_in, refusal_of, bth_refusal_of}
+use Rattle.ca_wire.specs.Reading.{number_at, bth_at, bth_from, version_of, payload_at, ◌>>=◌, headers_at, whole_headers_at, fields_from, packet_at, front_at}
 use Rattle.ca_wire.specs.Table.{Row, row_of, allows_payload, layout}
-use Rattle.ca_wire.specs.Packet.{Fields, first_of, opcode_in, version_in, pad_in, headers_size, refusal_of, fields_of, Spells}
-use Rattle.ca_wire.specs.Reading.{◌>>=◌, Gives, number_at, bth_at, bth_from, version_of, headers_at, whole_headers_at, payload_at, fields_from, packet_at}
+use Rattle.ca_wire.specs.declared.bth.Bth.{Bth}
+use Rattle.ca_wire.specs.declared.wire_error.WireError.{WireError}
+use Rattle.ca_wire.specs.declared.wire_error.WireError.TheVariants.{TooShort, Length, Pad, Opcode}
+use Rattle.std.proofs.Common.{◌≡◌, ℕ, ◌-◌, ◌/◌, ◌%◌, ◌^◌, ◌≤◌, Bool, true, false, not, ◌&&◌, cond, eqb, ltb, List, [], ◌∷◌, length, take, Option, Some, None, Result, Ok, Err, refl, sym, ap, ◌∙◌, arith, inl, inr}
+use Rattle.std.proofs.lemmas.Bool.{le-ltb, eq-eqb, ne_eqb, cases_eq, lt-ltb, cases_lt}
+use Rattle.std.proofs.lemmas.List.{get_or-take}
+use Rattle.std.specs.Int.{w32}
+use Rattle.std.specs.Prelude.{is_none}
 use Rattle.ca_wire.proofs.NumberLaws.{IsBytes, wide32, number_takes}
-use Rattle.ca_wire.proofs.PacketLaws.{after_bth, headers_take, packet_takes, packet_again}
-use Rattle.ca_wire.proofs.PartLaws.{done, ok_is}
+use Rattle.ca_wire.proofs.AllHeaders.{headers_take}
+use Rattle.ca_wire.proofs.PacketLaws.{after_bth}
 use Rattle.ca_wire.proofs.TableRows.{row_orderly}
 
 -- the fault of a reading
@@ -64,7 +63,7 @@ row_fault b (Some r) fits e =
     ])
 
 -- the first word holds the opcode, the pad count and the version where the bytes do
-in_first_word : (bytes : List ℕ) → IsBytes bytes → ((number_at w32 bytes).0 / 2 ^ 24 ≡ opcode_in bytes) × ((number_at w32 bytes).0 / 2 ^ 20 % 4 ≡ pad_in bytes) × (version_of (number_at w32 bytes).0 ≡ version_in bytes)
+pub in_first_word : (bytes : List ℕ) → IsBytes bytes → ((number_at w32 bytes).0 / 2 ^ 24 ≡ opcode_in bytes) × ((number_at w32 bytes).0 / 2 ^ 20 % 4 ≡ pad_in bytes) × (version_of (number_at w32 bytes).0 ≡ version_in bytes)
 unfolding number_at
 in_first_word bytes fits =
     let g0 = get_or-take 4 bytes 0 0 (omega arith) in
@@ -101,20 +100,15 @@ refusal_is bytes fits =
       | inr le ↦ refused_long bytes fits le
     ]
 
--- ---- what reading gives, as the clauses of a decoder say it
-
-pub is_found : (r : Result Packet WireError) (bytes : List ℕ) → IsBytes bytes → Gives fields_of r (packet_at bytes) → IfOk r (λ p. Spells bytes (fields_of p))
-is_found (Ok p) bytes fits h = packet_takes bytes (fields_of p) fits h
-is_found (Err e) bytes fits h = tt
-
-pub is_only : (r : Result Packet WireError) (bytes : List ℕ) (f : Fields) → Gives fields_of r (packet_at bytes) → Spells bytes f → IsOkAnd r (λ p. fields_of p ≡ f)
-is_only (Ok p) bytes f h s = ok_is (fields_of p) f (sym h ∙ packet_again bytes f s)
-is_only (Err e) bytes f h s = absurd (let k : done f ≡ Err e = sym (packet_again bytes f s) ∙ h in cc)
-
-pub is_refused : (r : Result Packet WireError) (bytes : List ℕ) → IsBytes bytes → Gives fields_of r (packet_at bytes) → IfErr r (λ e. refusal_of bytes ≡ Some e)
-is_refused (Ok p) bytes fits h = tt
-is_refused (Err e) bytes fits h = refusal_is bytes fits ∙ ap (λ (x : Result Fields WireError). fault x) h
-
-pub is_taken : (r : Result Packet WireError) (bytes : List ℕ) → IsBytes bytes → Gives fields_of r (packet_at bytes) → OnOk r (refusal_of bytes ≡ None)
-is_taken (Ok p) bytes fits h = refusal_is bytes fits ∙ ap (λ (x : Result Fields WireError). fault x) h
-is_taken (Err e) bytes fits h = tt
+pub front_refused : (bytes : List ℕ) → IsBytes bytes → bth_refusal_of bytes ≡ fault (front_at bytes)
+unfolding bth_at front_at
+front_refused bytes fits =
+    elim (cases_lt (length bytes) 12) [
+      | inl lt ↦ rw (lt-ltb (length bytes) 12 lt) refl
+      | inr le ↦
+          let w = in_first_word bytes fits in
+          rw (le-ltb (length bytes) 12 le, ← w.2) (elim (cases_eq (version_of (number_at w32 bytes).0) 0) [
+            | inl is ↦ rw (eq-eqb _ _ is) refl
+            | inr ne ↦ rw (ne_eqb _ _ ne) refl
+          ])
+    ]

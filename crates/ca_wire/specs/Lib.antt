@@ -1,3 +1,4 @@
 pub mod Table
 pub mod Packet
 pub mod Reading
+pub mod Writing

@@ -29,6 +29,7 @@ pub record Fields : Type 0 where
   pub ieth : Option ℕ
   pub payload : List ℕ
 
+-- what this packet says
 abbrev pub fields_of : Packet → Fields
 fields_of p = record {
   opcode = p.opcode;
@@ -46,8 +47,6 @@ fields_of p = record {
   ieth = p.ieth;
   payload = p.payload.now;
 }
-
--- ---- which packets there are
 
 -- whether this header follows the base transport header of a packet with this opcode
 abbrev pub follows : Header → ℕ → Bool
@@ -69,9 +68,11 @@ pub record IsWellFormed (f : Fields) : Type 0 where
   pub most : length f.payload ≤ 4096
   pub empty : allows_payload f.opcode ≡ false → f.payload ≡ []
 
+-- the numbers of a RETH fit their bits
 abbrev pub FitsReth : Reth → Type 0
 FitsReth h = (h.address < 2 ^ 64) × (h.key.0 < 2 ^ 32) × (h.length < 2 ^ 32)
 
+-- the numbers of an AtomicETH fit their bits
 abbrev pub FitsAtomic : AtomicEth → Type 0
 FitsAtomic h = (h.address < 2 ^ 64) × (h.key.0 < 2 ^ 32) × (h.swap < 2 ^ 64) × (h.compare < 2 ^ 64)
 
@@ -85,12 +86,11 @@ pub record FitsBits (f : Fields) : Type 0 where
   pub imm : IfSome f.imm (λ n. n < 2 ^ 32)
   pub ieth : IfSome f.ieth (λ n. n < 2 ^ 32)
 
--- ---- how a packet is spelt
-
 -- a number as bytes, the highest first
 unfoldable pub be_bytes : Width → ℕ → List ℕ
 be_bytes w n = to_be_bytes w n
 
+-- a flag as one bit
 abbrev pub bit : Bool → ℕ
 bit b = if b then 1 else 0
 
@@ -125,6 +125,14 @@ bth_of f = record {
   psn = f.psn;
 }
 
+-- the fields of a base transport header fit their bits
+pub record FitsBth (b : Bth) : Type 0 where
+  pub opcode : b.opcode < 2 ^ 8
+  pub pad : b.pad < 4
+  pub pkey : b.pkey < 2 ^ 16
+  pub queue : b.queue < 2 ^ 24
+  pub psn : b.psn < 2 ^ 24
+
 -- OpCode 8, SE 1, M 1, Pad 2, TVer 4, P_Key 16
 abbrev pub first_word : Bth → List (ℕ × ℕ)
 first_word b = (8, b.opcode) ∷ (1, bit b.solicited) ∷ (1, bit b.migrated) ∷ (2, b.pad) ∷ (4, 0) ∷ (16, b.pkey) ∷ []
@@ -137,6 +145,7 @@ second_word reserved b = (8, reserved) ∷ (24, b.queue) ∷ []
 abbrev pub third_word : ℕ → Bth → List (ℕ × ℕ)
 third_word reserved b = (1, bit b.ack) ∷ (7, reserved) ∷ (24, b.psn) ∷ []
 
+-- the three words of the base transport header
 abbrev pub bth_bytes : Ignored → Bth → List ℕ
 bth_bytes i b = word (first_word b) ++ (word (second_word i.before_queue b) ++ word (third_word i.before_psn b))
 
@@ -175,23 +184,36 @@ pub record Spells (bytes : List ℕ) (f : Fields) : Type 0 where
   pub pad : length ignored.pad ≡ pad_count (length f.payload)
   pub whole : bytes ≡ written ignored f
 
--- the canonical spelling: all that is ignored is 0
-abbrev pub spelling : Fields → List ℕ
-spelling f = written (record { before_queue = 0; before_psn = 0; pad = replicate (pad_count (length f.payload)) 0 }) f
+-- what a sender puts in place of what is ignored: zeros, with this many pad bytes
+abbrev pub canonical : ℕ → Ignored
+canonical pad = record { before_queue = 0; before_psn = 0; pad = replicate pad 0 }
 
--- ---- what is refused
+-- the canonical spelling
+abbrev pub spelling : Fields → List ℕ
+spelling f = written (canonical (pad_count (length f.payload))) f
+
+-- These twelve bytes spell this base transport header.
+pub record SpellsBth (bytes : List ℕ) (b : Bth) : Type 0 where
+  pub fits : FitsBth b
+  pub ignored : Ignored
+  pub before_queue : ignored.before_queue < 2 ^ 8
+  pub before_psn : ignored.before_psn < 2 ^ 7
+  pub whole : bytes ≡ bth_bytes ignored b
 
 -- the first of these whose test holds
 abbrev pub first_of : List (Bool × WireError) → Option WireError
 first_of [] = None
 first_of (t ∷ ts) = if t.0 then Some t.1 else first_of ts
 
+-- the first byte
 abbrev pub opcode_in : List ℕ → ℕ
 opcode_in bytes = slice_index bytes 0
 
+-- the low half of the second byte
 abbrev pub version_in : List ℕ → ℕ
 version_in bytes = slice_index bytes 1 % 16
 
+-- the two bits above it
 abbrev pub pad_in : List ℕ → ℕ
 pad_in bytes = slice_index bytes 1 / 16 % 4
 
@@ -215,3 +237,7 @@ refusal_of bytes = first_of (
     ∷ (nat_lt 4096 (rest_in bytes - pad_in bytes), Length)
     ∷ ((rest_in bytes == 0) && not (pad_in bytes == 0), Pad)
     ∷ [])
+
+-- why these bytes do not begin with a base transport header
+abbrev pub bth_refusal_of : List ℕ → Option WireError
+bth_refusal_of bytes = first_of ((nat_lt (length bytes) 12, TooShort) ∷ (not (version_in bytes == 0), Version) ∷ [])

@@ -18,6 +18,7 @@ abbrev pub Gives : {X Y : Type 0} → (X → Y) → Result X WireError → Resul
 Gives view (Ok x) read = read ≡ Ok (view x)
 Gives view (Err e) read = read ≡ Err e
 
+-- a step after another, where that one did not fail
 infixl 10 ◌>>=◌
 abbrev pub ◌>>=◌ : {A B : Type 0} → Result A WireError → (A → Result B WireError) → Result B WireError
 (Ok x) >>= f = f x
@@ -44,6 +45,7 @@ bth_from a b c = record {
 abbrev pub version_of : ℕ → ℕ
 version_of a = a / 2 ^ 16 % 16
 
+-- the base transport header at the front, and the bytes after it
 unfoldable pub bth_at : List ℕ → Result (Bth × List ℕ) WireError
 bth_at bytes =
     if nat_lt (length bytes) 12 then Err TooShort else
@@ -52,13 +54,21 @@ bth_at bytes =
     let c = number_at w32 b.1 in
     if version_of a.0 == 0 then Ok (bth_from a.0 b.0 c.0, c.1) else Err Version)
 
+-- the base transport header, whatever follows it
+unfoldable pub front_at : List ℕ → Result Bth WireError
+front_at bytes = do
+  b ← bth_at bytes
+  Ok b.0
+
 -- as many bytes as a header has, where it is there
 abbrev pub if_there : Bool → ℕ → ℕ
 if_there present size = if present then size else 0
 
+-- how many bytes the headers of a layout have
 abbrev pub flags_size : Layout → ℕ
 flags_size l = if_there l.reth 16 + if_there l.atomic 28 + if_there l.aeth 4 + if_there l.«result» 8 + if_there l.imm 4 + if_there l.ieth 4
 
+-- the RETH at the front where it is there, and the bytes after it
 unfoldable pub reth_at : Bool → List ℕ → Option Reth × List ℕ
 reth_at false bytes = (None, bytes)
 reth_at true bytes =
@@ -67,6 +77,7 @@ reth_at true bytes =
     let c = number_at w32 b.1 in
     (Some (record { address = a.0; key = record { 0 = b.0 }; length = c.0 }), c.1)
 
+-- the AtomicETH at the front where it is there, and the bytes after it
 unfoldable pub atomic_at : Bool → List ℕ → Option AtomicEth × List ℕ
 atomic_at false bytes = (None, bytes)
 atomic_at true bytes =
@@ -76,9 +87,11 @@ atomic_at true bytes =
     let d = number_at w64 c.1 in
     (Some (record { address = a.0; key = record { 0 = b.0 }; swap = c.0; compare = d.0 }), d.1)
 
+-- the AETH of one word
 abbrev pub aeth_from : ℕ → Aeth
 aeth_from a = record { syndrome = a / 2 ^ 24; msn = a % 2 ^ 24 }
 
+-- the AETH at the front where it is there, and the bytes after it
 unfoldable pub aeth_at : Bool → List ℕ → Option Aeth × List ℕ
 aeth_at false bytes = (None, bytes)
 aeth_at true bytes =
@@ -92,6 +105,7 @@ one_at w true bytes =
     let a = number_at w bytes in
     (Some a.0, a.1)
 
+-- the headers of a layout at the front, and the bytes after them
 unfoldable pub headers_at : Layout → List ℕ → Headers × List ℕ
 headers_at l bytes =
     let a = reth_at l.reth bytes in
@@ -102,9 +116,11 @@ headers_at l bytes =
     let f = one_at w32 l.ieth e.1 in
     (record { reth = a.0; atomic = b.0; aeth = c.0; «result» = d.0; imm = e.0; ieth = f.0 }, f.1)
 
+-- the same, where they are whole
 unfoldable pub whole_headers_at : Layout → List ℕ → Result (Headers × List ℕ) WireError
 whole_headers_at l bytes = if nat_lt (length bytes) l.size then Err TooShort else Ok (headers_at l bytes)
 
+-- the payload of what follows the headers
 unfoldable pub payload_at : Bool → ℕ → List ℕ → Result (List ℕ) WireError
 payload_at allowed pad rest =
     if not (length rest % 4 == 0) then Err Length
@@ -113,6 +129,7 @@ payload_at allowed pad rest =
     else if (length rest == 0) && not (pad == 0) then Err Pad
     else Ok (take (length rest - pad) rest)
 
+-- the packet of its parts
 abbrev pub fields_from : Bth → Headers → List ℕ → Fields
 fields_from b h payload = record {
   opcode = b.opcode;
@@ -131,6 +148,7 @@ fields_from b h payload = record {
   payload = payload;
 }
 
+-- the packet that all of the bytes spell
 unfoldable pub packet_at : List ℕ → Result Fields WireError
 packet_at bytes = do
   b ← bth_at bytes

@@ -28,9 +28,11 @@ pub record Row : Type 0 where
   pub headers : List Header
   pub payload : Bool
 
+-- one row of the table
 abbrev pub row : ℕ → List Header → Bool → Row
 row opcode headers payload = record { opcode = opcode; headers = headers; payload = payload }
 
+-- the opcodes of the reliable connection
 abbrev pub table : List Row
 table =
     row 0 [] true  -- SEND First
@@ -70,6 +72,7 @@ headers_of opcode = option_map_or (λ r. r.headers) (row_of opcode) []
 abbrev pub allows_payload : ℕ → Bool
 allows_payload opcode = option_map_or (λ r. r.payload) (row_of opcode) false
 
+-- each header by a number of its own
 abbrev pub place_of : Header → ℕ
 place_of RETH = 0
 place_of AtomicETH = 1

@@ -1,5 +1,7 @@
-ghost use Rattle.std.specs.Prelude.{◌≡◌};
-ghost use Rattle.ca_wire.specs.Reading.{Gives, bth_at};
+ghost use Rattle.std.specs.Prelude.{◌≡◌, List, take, None, Some, IfOk, IfErr, OnOk, IsOkAnd};
+ghost use Rattle.ca_wire.specs.declared.bth.Bth.{Bth};
+ghost use Rattle.ca_wire.specs.Packet.{SpellsBth, bth_refusal_of};
+ghost use Rattle.ca_wire.specs.Reading.{Gives, bth_at, front_at};
 
 use crate::numbers::u32_at;
 use crate::wire_error::WireError;
@@ -50,4 +52,23 @@ pub fn bth_of(bytes: &[u8]) -> Result<(Bth, &[u8]), WireError>
         psn: third % 0x100_0000,
     };
     Ok((bth, rest))
+}
+
+#[tactic(auto, unfolding(crate::specs::Reading::front_at))]
+fn front_of(bytes: &[u8]) -> Result<Bth, WireError>
+    ensures { Gives (λ b. b) result (front_at bytes.now) }
+{
+    let (bth, _) = bth_of(bytes)?;
+    Ok(bth)
+}
+
+/// The base transport header at the front of these bytes, whatever follows it: `TooShort` exactly where there are fewer
+/// than 12 bytes, and else `Version` exactly where the header version is not 0. It takes no memory.
+pub fn read_bth(bytes: &[u8]) -> Result<Bth, WireError>
+    ensures found { IfOk result (λ b. SpellsBth (take 12 bytes.now) b) }
+    ensures only { (b : Bth) → SpellsBth (take 12 bytes.now) b → IsOkAnd result (λ r. r ≡ b) }
+    ensures refused { IfErr result (λ e. bth_refusal_of bytes.now ≡ Some e) }
+    ensures taken { OnOk result (bth_refusal_of bytes.now ≡ None) }
+{
+    front_of(bytes)
 }

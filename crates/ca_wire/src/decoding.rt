@@ -1,5 +1,5 @@
 ghost use Rattle.std.specs.Prelude.{◌≡◌, List, ℕ, None, Some, IfOk, IfErr, OnOk, IsOkAnd, drop, take, length, ◌+◌};
-ghost use Rattle.ca_wire.specs.Packet.{Fields, Spells, fields_of, refusal_of};
+ghost use Rattle.ca_wire.specs.Packet.{Fields, Spells, fields_of, headers_size, refusal_of};
 ghost use Rattle.ca_wire.specs.Reading.{Gives, packet_at};
 
 use crate::bth::bth_of;
@@ -46,6 +46,9 @@ pub fn decode(bytes: &[u8]) -> Result<Packet<'_>, WireError>
     // Which test refuses.
     ensures refused { IfErr result (λ e. refusal_of bytes.now ≡ Some e) }
     ensures taken { OnOk result (refusal_of bytes.now ≡ None) }
+    // Which part of the bytes the payload is.
+    ensures payload { IfOk result (λ p. p.payload.now
+        ≡ take (length p.payload.now) (drop (12 + headers_size p.opcode) bytes.now)) }
 {
     packet_of(bytes)
 }

@@ -1,4 +1,4 @@
-ghost use Rattle.std.specs.Prelude.{◌≡◌, IfSome};
+ghost use Rattle.std.specs.Prelude.{◌≡◌, ◌≤◌, IfSome};
 ghost use Rattle.std.specs.Option.{option_map};
 ghost use Rattle.ca_wire.specs.Table.{row_of, layout};
 ghost use Rattle.ca_wire.specs.Reading.{flags_size};
@@ -35,6 +35,7 @@ const PAYLOAD: Layout = Layout {
 pub fn layout_of(opcode: u8) -> Option<Layout>
     ensures row { result ≡ option_map layout (row_of opcode) }
     ensures size { IfSome result (λ l. l.size ≡ flags_size l) }
+    ensures most { IfSome result (λ l. l.size ≤ 28) }
 {
     let layout = match opcode {
         SEND_FIRST | SEND_MIDDLE | SEND_LAST | SEND_ONLY => PAYLOAD,

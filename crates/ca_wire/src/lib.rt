@@ -10,17 +10,25 @@
 
 mod bth;
 mod decoding;
+mod encoding;
 mod header;
 mod headers;
+mod laws;
 mod layout;
 mod numbers;
 pub mod opcode;
 mod packet;
 mod payload;
 mod wire_error;
+mod writing;
 
-pub use bth::Bth;
+pub use bth::{Bth, read_bth};
 pub use decoding::decode;
+pub use encoding::encode;
 pub use header::{Aeth, AtomicEth, Reth};
+pub use laws::{one_packet, round_trip};
 pub use packet::Packet;
 pub use wire_error::WireError;
+
+#[cfg(test)]
+mod tests;

@@ -2,7 +2,7 @@ use crate::header::{Aeth, AtomicEth, Reth};
 
 /// A packet of the reliable connection. The payload is a slice of the bytes that it was read from, without its pad
 /// bytes.
-#[derive(Debug)]
+#[derive(Debug, Drop)]
 pub struct Packet<'a> {
     /// What the packet is, by the table of opcodes.
     pub opcode: u8,

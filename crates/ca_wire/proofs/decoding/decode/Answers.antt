@@ -1,5 +1,5 @@
 use Rattle.std.proofs.Common.{arith}
-use Rattle.ca_wire.proofs.RefusalLaws.{is_found, is_only, is_refused, is_taken}
+use Rattle.ca_wire.proofs.DecoderLaws.{is_found, is_only, is_refused, is_taken, is_placed}
 use Rattle.ca_wire.proofs.decoding.decode.Goals as goal
 
 pub returns-clause-found : goal.returns-clause-found
@@ -13,3 +13,6 @@ returns-clause-refused c = is_refused c.packet_of.result c.args.bytes.now (λ i.
 
 pub returns-clause-taken : goal.returns-clause-taken
 returns-clause-taken c = is_taken c.packet_of.result c.args.bytes.now (λ i. omega (arith, c.type_inv.bytes i)) c.packet_of.ensures
+
+pub returns-clause-payload : goal.returns-clause-payload
+returns-clause-payload c = is_placed c.packet_of.result c.args.bytes.now (λ i. omega (arith, c.type_inv.bytes i)) c.packet_of.ensures
