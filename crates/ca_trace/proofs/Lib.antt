@@ -1,0 +1,2 @@
+pub mod ExampleTexts
+pub mod DigitLemmas

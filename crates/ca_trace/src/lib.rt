@@ -1,0 +1,24 @@
+//! The text of a history: one line for each event and one for each of its marks, in the words of the script.
+//!
+//! To the layers above it promises that what is printed is, byte for byte, the text that the definitions give, and
+//! that want of memory leaves the output as it was.
+//!
+//! Source: this profile's choice. The words for verbs and keys follow the InfiniBand Architecture Specification
+//! Volume 1, the chapter on the software transport interface.
+#![tactic(auto)]
+
+mod answer;
+mod call;
+mod entry;
+mod history;
+mod mark;
+mod names;
+mod spelling;
+mod word;
+
+pub use call::print_call;
+pub use entry::print;
+pub use history::print_history;
+
+#[cfg(test)]
+mod tests;
