@@ -1,0 +1,7 @@
+pub mod FirstPath
+pub mod Form
+pub mod Outside
+pub mod Reading
+pub mod Run
+pub mod Status
+pub mod Words

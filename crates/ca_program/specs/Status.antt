@@ -1,0 +1,54 @@
+-- The exit code and the line of each status.
+use Rattle.std.specs.Prelude.{ℕ, Bool, true, false, List, [], ◌++◌, codes, decimal}
+use Rattle.ca_program.specs.declared.script.ScriptCause.{ScriptCause}
+use Rattle.ca_program.specs.declared.script.ScriptCause.TheVariants.{NotBuilt}
+use Rattle.ca_program.specs.declared.script.ScriptError.{ScriptError}
+use Rattle.ca_program.specs.declared.script.ScriptError.TheVariants as errors
+use Rattle.ca_program.specs.declared.outside.transfer.ReadStop.{ReadStop}
+use Rattle.ca_program.specs.declared.outside.transfer.ReadStop.TheVariants as stops
+use Rattle.ca_program.specs.declared.status.Status.{Status}
+use Rattle.ca_program.specs.declared.status.Status.TheVariants as statuses
+
+abbrev pub exit_code : Status → ℕ
+exit_code statuses.Fine = 0
+exit_code (statuses.Script line cause) = 1
+exit_code statuses.Usage = 2
+exit_code statuses.ReadFault = 3
+exit_code statuses.WriteFault = 4
+exit_code statuses.Memory = 7
+
+-- why a script is refused
+abbrev pub cause_text : ScriptCause → List ℕ
+cause_text NotBuilt = codes "not built"
+
+-- the end of a line that tells of it
+abbrev pub cause_end : ScriptCause → List ℕ
+cause_end cause = codes ": " ++ cause_text cause ++ codes "\n"
+
+-- the line that tells of a status; there is none of Fine
+abbrev pub status_line : Status → List ℕ
+status_line statuses.Fine = []
+status_line (statuses.Script line cause) = codes "script: line " ++ (decimal line ++ cause_end cause)
+status_line statuses.Usage = codes "usage\n"
+status_line statuses.ReadFault = codes "read fault\n"
+status_line statuses.WriteFault = codes "write fault\n"
+status_line statuses.Memory = codes "memory\n"
+
+-- whether anything may have been written
+abbrev pub writes : Status → Bool
+writes statuses.Fine = true
+writes (statuses.Script line cause) = false
+writes statuses.Usage = false
+writes statuses.ReadFault = false
+writes statuses.WriteFault = true
+writes statuses.Memory = false
+
+-- the status of a script that is not read
+abbrev pub refused_by : ScriptError → Status
+refused_by (errors.Refused line cause) = statuses.Script line cause
+refused_by errors.Memory = statuses.Memory
+
+-- the status of bytes that did not all come
+abbrev pub stopped_by : ReadStop → Status
+stopped_by stops.Failed = statuses.ReadFault
+stopped_by stops.Memory = statuses.Memory

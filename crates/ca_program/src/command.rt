@@ -1,0 +1,47 @@
+use crate::outside::{StdSink, StdSource};
+use crate::run::run;
+use crate::status::{Status, exit_code, status_line};
+use std::io::ErrorKind;
+use std::process::ExitCode;
+use std::rt::Env;
+use std::{env, io};
+
+/// Runs the program on the standard streams, with the words behind the program's name. What its status says goes to
+/// standard error, unless it is `Fine`.
+pub fn start<R: Env + Input + Print + Eprint + AllocGlobal>(rt: &R) -> ExitCode {
+    let status = status_of(rt);
+    if status != Status::Fine {
+        tell(rt, &status);
+    }
+    ExitCode::from(exit_code(&status))
+}
+
+fn status_of<R: Env + Input + Print + AllocGlobal>(rt: &R) -> Status {
+    let words = match words(rt) {
+        Ok(words) => words,
+        Err(status) => return status,
+    };
+    let mut source = StdSource::over(rt.reader());
+    let mut sink = StdSink::over(io::writer(rt));
+    run(rt.alloc(), &words, &mut source, &mut sink)
+}
+
+// The words behind the program's name. One that is not UTF-8 makes a faulty command line.
+fn words<R: Env + AllocGlobal>(rt: &R) -> Result<Vec<String>, Status> {
+    let args = match env::args(rt) {
+        Ok(args) => args,
+        Err(error) if error.kind() == ErrorKind::OutOfMemory => return Err(Status::Memory),
+        Err(_) => return Err(Status::Usage),
+    };
+    args.skip(1).collect(rt.alloc()).map_err(|_| Status::Memory)
+}
+
+fn tell<R: Eprint + AllocGlobal>(rt: &R, status: &Status) {
+    let mut line = Vec::new(rt.alloc());
+    if status_line(status, &mut line).is_err() {
+        return;
+    }
+    if let Ok(text) = str::from_utf8(&line) {
+        let _ = rt.eprint(text);
+    }
+}
