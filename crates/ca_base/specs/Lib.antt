@@ -3,3 +3,4 @@ pub mod Memory
 pub mod Equal
 pub mod Allowed
 pub mod Registered
+pub mod Refusals
