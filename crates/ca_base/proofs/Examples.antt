@@ -1,4 +1,4 @@
--- What the definitions say of small values.
+-- What the definitions say of small values. For proofs only.
 use Rattle.std.proofs.Common.{◌≡◌, ℕ, [], ◌∷◌, true, false, None, Some, refl}
 use Rattle.ca_base.specs.declared.access.Ask.{Ask}
 use Rattle.ca_base.specs.declared.access.Denial.TheVariants.{NoGrant, WrongQueue, NoRight, OutOfRange}
@@ -10,12 +10,12 @@ use Rattle.ca_base.specs.declared.names.DomainId.{DomainId}
 use Rattle.ca_base.specs.declared.names.QueueId.{QueueId}
 use Rattle.ca_base.specs.declared.names.Slot.{Slot}
 use Rattle.ca_base.specs.declared.place.Run.{Run}
-use Rattle.ca_base.specs.declared.region_error.RegionError.TheVariants.{Empty, OutsideBuffer, RightsNeedLocalWrite}
+use Rattle.ca_base.specs.declared.refusals.RegionError.TheVariants.{Empty, OutsideBuffer, RightsNeedLocalWrite}
 use Rattle.ca_base.specs.declared.rights.Rights.{Rights}
 use Rattle.ca_base.specs.Allowed.{denial_of}
-use Rattle.ca_base.specs.Memory.{zeros, places_at, written}
+use Rattle.ca_base.specs.Memory.{zeros, places_at, memory_after}
 use Rattle.ca_base.specs.Numbers.{key_at, region_index, window_index, queue_of, domain_of, first_address}
-use Rattle.ca_base.specs.Registered.{registered, registration_refusal, next_low}
+use Rattle.ca_base.specs.Grants.{grant_of_registration, registration_refusal, next_low}
 
 abbrev domain : ℕ → DomainId
 domain d = record { adapter = 0; domain = d }
@@ -45,7 +45,7 @@ abbrev run : ℕ → ℕ → Run
 run offset count = record { adapter = 0; buffer = 0; offset = offset; length = count }
 
 abbrev region : Rights → Grant
-region rights = registered (slot 0 0) (run 0 64) rights 1
+region rights = grant_of_registration (slot 0 0) (run 0 64) rights 1
 
 -- a remote access by queue pair 256 of domain 0
 abbrev asks : Kind → ℕ → ℕ → ℕ → Ask
@@ -147,8 +147,8 @@ after_255 = refl
 two_places : places_at (region lw) 0x10000003e 4 ≡ record { adapter = 0; buffer = 0; offset = 62 } ∷ record { adapter = 0; buffer = 0; offset = 63 } ∷ []
 two_places = refl
 
-later_byte : written zeros (record { adapter = 0; buffer = 0; offset = 5 } ∷ record { adapter = 0; buffer = 0; offset = 5 } ∷ []) (7 ∷ 8 ∷ 9 ∷ []) (record { adapter = 0; buffer = 0; offset = 5 }) ≡ 8
+later_byte : memory_after zeros (record { adapter = 0; buffer = 0; offset = 5 } ∷ record { adapter = 0; buffer = 0; offset = 5 } ∷ []) (7 ∷ 8 ∷ 9 ∷ []) (record { adapter = 0; buffer = 0; offset = 5 }) ≡ 8
 later_byte = refl
 
-other_byte : written zeros (record { adapter = 0; buffer = 0; offset = 5 } ∷ []) (7 ∷ []) (record { adapter = 0; buffer = 0; offset = 6 }) ≡ 0
+other_byte : memory_after zeros (record { adapter = 0; buffer = 0; offset = 5 } ∷ []) (7 ∷ []) (record { adapter = 0; buffer = 0; offset = 6 }) ≡ 0
 other_byte = refl

@@ -1,4 +1,4 @@
--- Tests of names, by their numbers.
+-- Tests of names, by their numbers. Contracts cite it.
 use Rattle.std.specs.Prelude.{Bool, ◌==◌, ◌&&◌}
 use Rattle.ca_base.specs.declared.key.Key.{Key}
 use Rattle.ca_base.specs.declared.names.DomainId.{DomainId}

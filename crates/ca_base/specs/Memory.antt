@@ -1,5 +1,6 @@
--- Memory: a place is an adapter, a buffer and an offset, and memory gives each place a byte.
+-- Memory: a place is an adapter, a buffer and an offset, and memory gives each place a byte. Contracts cite it.
 use Rattle.std.specs.Prelude.{ℕ, ◌-◌, List, [], ◌∷◌, map, take, drop, if◌then◌else◌}
+use Rattle.std.specs.Int.{w64, to_le_bytes, from_le_bytes}
 use Rattle.std.specs.List.{flat_map, range_with_len}
 use Rattle.std.specs.Option.{option_map_or}
 use Rattle.ca_base.specs.declared.place.Place.{Place}
@@ -38,7 +39,15 @@ abbrev pub bytes_at : ByteMap → List Place → List ℕ
 bytes_at m places = map m places
 
 -- memory after these bytes were written to these places, one after the other
-abbrev pub written : ByteMap → List Place → List ℕ → ByteMap
-written m [] bytes = m
-written m (p ∷ ps) [] = m
-written m (p ∷ ps) (b ∷ bs) = written (λ q. if place_eq p q then b else m q) ps bs
+abbrev pub memory_after : ByteMap → List Place → List ℕ → ByteMap
+memory_after m [] bytes = m
+memory_after m (p ∷ ps) [] = m
+memory_after m (p ∷ ps) (b ∷ bs) = memory_after (λ q. if place_eq p q then b else m q) ps bs
+
+-- the number that eight bytes hold, least significant first
+abbrev pub little_endian : List ℕ → ℕ
+little_endian bytes = from_le_bytes w64 bytes
+
+-- the eight bytes of a number, least significant first
+abbrev pub little_endian_bytes : ℕ → List ℕ
+little_endian_bytes n = to_le_bytes w64 n
