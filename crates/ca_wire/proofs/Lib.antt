@@ -9,3 +9,6 @@ pub mod PacketLaws
 pub mod RefusalLaws
 pub mod DecoderLaws
 pub mod WritingLaws
+pub mod SyndromeLaws
+pub mod BuilderLaws
+pub mod ArmLaws
