@@ -11,4 +11,3 @@ pub mod DecoderLaws
 pub mod WritingLaws
 pub mod SyndromeLaws
 pub mod BuilderLaws
-pub mod ArmLaws

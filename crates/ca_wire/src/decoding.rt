@@ -5,7 +5,7 @@ ghost use Rattle.ca_wire.specs.Decoding.{Returns, packet_in};
 use crate::aeth::{AETH_BYTES, Aeth};
 use crate::atomic_eth::{ATOMIC_ETH_BYTES, AtomicEth};
 use crate::bth::{BTH_BYTES, Bth};
-use crate::numbers::{ATOMIC_ACK_ETH_BYTES, IETH_BYTES, IMM_DT_BYTES, u32_from, u64_from};
+use crate::numbers::{ATOMIC_ACK_ETH_BYTES, IETH_BYTES, IMM_DT_BYTES, u32_behind, u32_from, u64_behind};
 use crate::opcode::*;
 use crate::packet::Packet;
 use crate::payload::payload_after;
@@ -50,7 +50,7 @@ fn packet_of(bytes: &[u8]) -> Result<Packet<'_>, WireError>
             let payload = payload_after(RETH_BYTES + IMM_DT_BYTES, true, bth.pad, rest)?;
             Ok(Packet {
                 reth: Some(Reth::read(rest)),
-                imm: Some(u32_from(&rest[RETH_BYTES..])),
+                imm: Some(u32_behind(RETH_BYTES, rest)),
                 ..Packet::bare(bth, payload)
             })
         }
@@ -79,7 +79,7 @@ fn packet_of(bytes: &[u8]) -> Result<Packet<'_>, WireError>
             let payload = payload_after(AETH_BYTES + ATOMIC_ACK_ETH_BYTES, false, bth.pad, rest)?;
             Ok(Packet {
                 aeth: Some(Aeth::read(rest)),
-                result: Some(u64_from(&rest[AETH_BYTES..])),
+                result: Some(u64_behind(AETH_BYTES, rest)),
                 ..Packet::bare(bth, payload)
             })
         }

@@ -1,4 +1,4 @@
-ghost use Rattle.std.specs.Prelude.{◌≡◌, ◌+◌, ◌++◌, ◌≤◌, length};
+ghost use Rattle.std.specs.Prelude.{◌≡◌, ◌+◌, ◌++◌, ◌≤◌, length, drop};
 ghost use Rattle.std.specs.Int.{w32, w64};
 ghost use Rattle.ca_wire.specs.Packet.{be_bytes};
 ghost use Rattle.ca_wire.specs.Decoding.{number_at, number_from};
@@ -53,10 +53,30 @@ pub fn u32_from(bytes: &[u8]) -> u32
     u32_at(bytes).0
 }
 
+/// The big-endian number of four bytes behind this many.
+#[inline(always)]
+pub fn u32_behind(size: usize, bytes: &[u8]) -> u32
+    requires { size + 4 ≤ length bytes.now }
+    ensures { result ≡ number_from w32 (drop size bytes.now) }
+{
+    let (_, rest) = bytes.split_at(size);
+    u32_from(rest)
+}
+
+/// The big-endian number of eight bytes behind this many.
+#[inline(always)]
+pub fn u64_behind(size: usize, bytes: &[u8]) -> u64
+    requires { size + 8 ≤ length bytes.now }
+    ensures { result ≡ number_from w64 (drop size bytes.now) }
+{
+    let (_, rest) = bytes.split_at(size);
+    u64_from(rest)
+}
+
 /// The big-endian number of eight bytes at the front.
 #[inline(always)]
 #[tactic(auto, unfolding(crate::specs::Decoding::number_from))]
-pub fn u64_from(bytes: &[u8]) -> u64
+fn u64_from(bytes: &[u8]) -> u64
     requires { 8 ≤ length bytes.now }
     ensures { result ≡ number_from w64 bytes.now }
 {
