@@ -1,5 +1,5 @@
 -- The grants that a registration, a fast registration and a bind make. Contracts cite it.
-use Rattle.std.specs.Prelude.{ℕ, ◌+◌, ◌-◌, ◌*◌, ◌%◌, Bool, true, false, not, ◌&&◌, ◌||◌, ◌==◌, nat_lt, nat_le, min, if◌then◌else◌, List, [], ◌∷◌, map, Option, None, Some}
+use Rattle.std.specs.Prelude.{ℕ, ◌+◌, ◌*◌, ◌%◌, Bool, true, false, not, ◌&&◌, ◌||◌, ◌==◌, nat_lt, List, [], ◌∷◌, map, Option, None, Some}
 use Rattle.ca_base.specs.declared.grant.Grant.{Grant}
 use Rattle.ca_base.specs.declared.limits.TheConstants.{PAGE_BYTES}
 use Rattle.ca_base.specs.declared.names.QueueId.{QueueId}
@@ -8,6 +8,7 @@ use Rattle.ca_base.specs.declared.place.Run.{Run}
 use Rattle.ca_base.specs.declared.refusals.RegionError.{RegionError}
 use Rattle.ca_base.specs.declared.refusals.RegionError.TheVariants.{Empty, OutsideBuffer, RightsNeedLocalWrite}
 use Rattle.ca_base.specs.declared.rights.Rights.{Rights}
+use Rattle.ca_base.specs.Memory.{cut, runs_at}
 use Rattle.ca_base.specs.Numbers.{key_at, region_index, window_index, first_address}
 use Rattle.ca_base.specs.Refusals.{first_of}
 
@@ -32,18 +33,6 @@ region_grant slot low address count rights runs = record {
 abbrev pub grant_of_registration : Slot → Run → Rights → ℕ → Grant
 grant_of_registration slot at rights low =
     region_grant slot low (first_address at.buffer + at.offset) at.length rights (at ∷ [])
-
--- the run of this many bytes of a run, without so many at its front
-abbrev pub run_part : Run → ℕ → ℕ → Run
-run_part r skip count = record r { offset = r.offset + skip; length = count }
-
--- runs cut to this many bytes, without so many at their front; a run of which nothing is left does not stand
-abbrev pub cut : ℕ → ℕ → List Run → List Run
-cut skip count [] = []
-cut skip count (r ∷ rs) =
-    if nat_le r.length skip then cut (skip - r.length) count rs
-    else if count == 0 then []
-    else run_part r skip (min count (r.length - skip)) ∷ cut 0 (count - (r.length - skip)) rs
 
 -- the run of a page of a buffer
 abbrev pub page_run : ℕ → ℕ → ℕ → Run
@@ -74,7 +63,7 @@ grant_of_bind slot low queue region address count rights = record {
   address = address;
   length = count;
   rights = remote_rights rights;
-  runs = cut (address - region.address) count region.runs;
+  runs = runs_at region address count;
 }
 
 -- remote write or remote atomic without local write

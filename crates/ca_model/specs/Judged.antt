@@ -1,5 +1,5 @@
 -- Judged: what each access of a history must be, by the grants and the bytes before it. Contracts cite it.
-use Rattle.std.specs.Prelude.{◌≡◌, ℕ, ◌-◌, ◌/◌, ◌%◌, ◌<◌, ◌≤◌, nat_le, nat_lt, Bool, true, false, not, ◌&&◌, ◌||◌, ◌==◌, List, length, Option, None, Some, is_none, IsTrue}
+use Rattle.std.specs.Prelude.{ℕ, ◌+◌, ◌/◌, ◌%◌, nat_le, nat_lt, Bool, true, false, not, ◌&&◌, ◌||◌, ◌==◌, List, [], ◌∷◌, length, Option, None, Some, is_none, IsTrue}
 use Rattle.std.specs.Option.{option_eq, option_map_or}
 use Rattle.std.specs.Str.{bytes_eq}
 use Rattle.ca_base.specs.declared.access.Ask.{Ask}
@@ -12,7 +12,7 @@ use Rattle.ca_base.specs.declared.verdict.Verdict.{Verdict}
 use Rattle.ca_base.specs.declared.verdict.Verdict.TheVariants as verdicts
 use Rattle.ca_base.specs.Allowed.{denial_of}
 use Rattle.ca_base.specs.Equal.{kind_eq, denial_eq}
-use Rattle.ca_base.specs.Memory.{ByteMap, places_of, places_for, run_places, bytes_at, little_endian}
+use Rattle.ca_base.specs.Memory.{ByteMap, places_count, runs_for, bytes_at, little_endian}
 use Rattle.ca_wire.specs.declared.atomic_eth.AtomicEth.{AtomicEth}
 use Rattle.ca_wire.specs.Packet.{Fields}
 use Rattle.ca_model.specs.declared.answer.Answer.{Answer}
@@ -31,7 +31,7 @@ is_allowed past ask = is_none (denial_of ask past.grants)
 
 -- the bytes that memory holds at the first addresses of an ask
 abbrev pub held : Past → Ask → ℕ → List ℕ
-held past ask count = bytes_at past.memory (places_for ask past.grants count)
+held past ask count = bytes_at past.memory (runs_for ask past.grants count)
 
 -- the bytes of one packet: at most as many as were judged, and none only where none were
 abbrev pub touches : Ask → List ℕ → Bool
@@ -68,14 +68,14 @@ is_read_or_write kind = kind_eq kind kinds.Read || kind_eq kind kinds.Write
 abbrev pub is_loaded : Past → Verb → Answer → Bool
 is_loaded past (verbs.Load adapter buffer offset count) (answers.Loaded bytes) =
     bytes_eq bytes (bytes_at past.memory
-      (run_places (record { adapter = adapter; buffer = buffer; offset = offset; length = count })))
+      (record { adapter = adapter; buffer = buffer; offset = offset; length = count } ∷ []))
 is_loaded past verb (answers.Loaded bytes) = false
 is_loaded past verb answer = true
 
 -- A grant has as many places as its length. An access is by a queue pair of the domain that the mark names.
 abbrev pub is_judged : Past → Mark → Bool
 is_judged past (marks.Verb by verb answer) = is_loaded past verb answer
-is_judged past (marks.Granted g) = length (places_of g) == g.length
+is_judged past (marks.Granted g) = places_count g.runs == g.length
 is_judged past (marks.Remote queue domain envelope key kind address count verdict) =
     is_of_domain queue domain && is_verdict past (remote_ask queue domain key kind address count) envelope verdict
 is_judged past (marks.Local queue domain key kind address count verdict) =

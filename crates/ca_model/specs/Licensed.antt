@@ -1,5 +1,5 @@
 -- Licensed: which grants a history may hold, and when a key comes into force and ends. Contracts cite it.
-use Rattle.std.specs.Prelude.{ℕ, ◌-◌, Bool, true, false, not, ◌&&◌, ◌||◌, ◌==◌, nat_le, ◌+◌, find, List, Option, None, Some, is_none, IsTrue}
+use Rattle.std.specs.Prelude.{ℕ, Bool, true, false, not, ◌&&◌, ◌||◌, ◌==◌, nat_le, ◌+◌, find, List, Option, None, Some, is_none, IsTrue}
 use Rattle.std.specs.List.{list_any, list_all}
 use Rattle.std.specs.Cmp.Lexicographic.{pointwise}
 use Rattle.std.specs.Option.{option_map_or, option_eq}
@@ -15,8 +15,8 @@ use Rattle.ca_base.specs.declared.request.SendOp.{SendOp}
 use Rattle.ca_base.specs.declared.request.SendOp.TheVariants as ops
 use Rattle.ca_base.specs.declared.rights.Rights.{Rights}
 use Rattle.ca_base.specs.Equal.{key_eq, domain_eq, queue_eq, grant_eq, run_eq, operation_eq}
-use Rattle.ca_base.specs.Grants.{grant_of_registration, grant_of_fast_registration, grant_of_bind, next_low, needs_local_write, cut}
-use Rattle.ca_base.specs.Memory.{ByteMap}
+use Rattle.ca_base.specs.Grants.{grant_of_registration, grant_of_fast_registration, grant_of_bind, next_low, needs_local_write}
+use Rattle.ca_base.specs.Memory.{ByteMap, runs_at}
 use Rattle.ca_base.specs.Numbers.{region_index, window_index, index_of, domain_of}
 use Rattle.ca_wire.specs.Packet.{Fields}
 use Rattle.ca_model.specs.declared.answer.Answer.{Answer}
@@ -101,7 +101,7 @@ is_alone past g = not (list_any (λ h. key_slot_eq (key_slot_of h) (key_slot_of 
 abbrev pub lies_in : Grant → Grant → Bool
 lies_in window region =
     region.local && domain_eq region.domain window.domain && may_hold region window.address window.length window.rights
-    && pointwise run_eq window.runs (cut (window.address - region.address) window.length region.runs)
+    && pointwise run_eq window.runs (runs_at region window.address window.length)
 
 -- each window's grant in force lies in a region's grant in force
 abbrev pub windows_lie_in_regions : Past → Bool

@@ -15,6 +15,7 @@ use Rattle.ca_base.specs.declared.completion.WcOp.TheVariants as operations
 use Rattle.ca_base.specs.declared.completion.WcStatus.TheVariants.{Success}
 use Rattle.ca_base.specs.declared.grant.Grant.{Grant}
 use Rattle.ca_base.specs.declared.key.Key.{Key}
+use Rattle.ca_base.specs.declared.limits.TheConstants.{ATOMIC_BYTES}
 use Rattle.ca_base.specs.declared.names.DomainId.{DomainId}
 use Rattle.ca_base.specs.declared.names.QueueId.{QueueId}
 use Rattle.ca_base.specs.declared.names.Slot.{Slot}
@@ -26,7 +27,7 @@ use Rattle.ca_base.specs.declared.verdict.Verdict.{Verdict}
 use Rattle.ca_base.specs.declared.verdict.Verdict.TheVariants as verdicts
 use Rattle.ca_base.specs.Equal.{key_eq, queue_eq, slot_eq, operation_eq, status_eq}
 use Rattle.ca_base.specs.Grants.{next_low}
-use Rattle.ca_base.specs.Memory.{ByteMap, run_places, places_for, memory_after, little_endian_bytes}
+use Rattle.ca_base.specs.Memory.{ByteMap, runs_for, memory_after, little_endian_bytes}
 use Rattle.ca_base.specs.Numbers.{index_of, low_of, queue_of, domain_of, window_index}
 use Rattle.ca_wire.specs.Packet.{Fields}
 use Rattle.ca_model.specs.declared.answer.Answer.{Answer}
@@ -447,9 +448,9 @@ way_at_hand past = by (operation_at_hand past)
 
 -- memory after the bytes of an access were written at the places of the grant that the ask went by
 abbrev pub memory_after_access : Past → Ask → Verdict → ByteMap
-memory_after_access past ask (verdicts.Wrote bytes) = memory_after past.memory (places_for ask past.grants (length bytes)) bytes
+memory_after_access past ask (verdicts.Wrote bytes) = memory_after past.memory (runs_for ask past.grants (length bytes)) bytes
 memory_after_access past ask (verdicts.Swapped found put) =
-    memory_after past.memory (places_for ask past.grants 8) (little_endian_bytes put)
+    memory_after past.memory (runs_for ask past.grants ATOMIC_BYTES) (little_endian_bytes put)
 memory_after_access past ask verdict = past.memory
 
 -- the write that a later packet of its message goes on with; one that was denied leaves none
@@ -644,7 +645,7 @@ after_mark (marks.Local queue domain key kind address length verdict) past =
     after_local (local_ask queue domain key kind address length) verdict past
 after_mark (marks.Stored place bytes) past = record past {
   memory = memory_after past.memory
-      (run_places (record { adapter = place.adapter; buffer = place.buffer; offset = place.offset; length = length bytes })) bytes;
+      (record { adapter = place.adapter; buffer = place.buffer; offset = place.offset; length = length bytes } ∷ []) bytes;
 }
 after_mark (marks.Sent source target index request bytes) past = after_sent source target index request bytes past
 after_mark (marks.Lost target index) past = after_lost target index past
