@@ -28,6 +28,7 @@ use Rattle.ca_base.specs.declared.refusals.RegionError.{RegionError}
 use Rattle.ca_base.specs.declared.refusals.RegionError.TheVariants as regions
 use Rattle.ca_base.specs.declared.refusals.WindowError.{WindowError}
 use Rattle.ca_base.specs.declared.refusals.WindowError.TheVariants as windows
+use Rattle.ca_base.specs.declared.request.Piece.{Piece}
 use Rattle.ca_base.specs.declared.rights.Rights.{Rights}
 
 -- nothing is spelled `-`
@@ -68,6 +69,10 @@ address_text at = codes "0x" ++ digits 16 false at
 abbrev pub run_text : Run → List ℕ
 run_text r =
     decimal r.adapter ++ codes "/" ++ decimal r.buffer ++ codes ":" ++ decimal r.offset ++ codes "+" ++ decimal r.length
+
+-- KEY:ADDRESS:LENGTH
+abbrev pub piece_text : Piece → List ℕ
+piece_text p = key_text p.key ++ codes ":" ++ address_text p.address ++ codes ":" ++ decimal p.length
 
 -- the letter, where it holds
 abbrev pub letter : Bool → List ℕ → List ℕ

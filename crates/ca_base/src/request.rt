@@ -1,7 +1,12 @@
+ghost use Rattle.std.specs.Prelude.{Some};
+ghost use Rattle.ca_base.specs.Spelling.{piece_text};
+
 use crate::key::Key;
 use crate::lists::Pages;
 use crate::rights::Rights;
+use crate::spelling::Address;
 use arrayvec::ArrayVec;
+use std::fmt;
 
 /// One part of a request's scatter or gather list: `length` bytes from `address` on, by an L_Key.
 #[derive(Clone, Copy, Default, PartialEq, Eq)]
@@ -9,6 +14,17 @@ pub struct Piece {
     pub address: u64,
     pub key: Key,
     pub length: u32,
+}
+
+impl fmt::Display for Piece {
+    ghost output = { λ piece. Some (piece_text piece) };
+
+    fn fmt<W: fmt::Write>(&self, f: &mut fmt::Formatter<W>) -> fmt::Result {
+        let key = self.key;
+        let address = Address(self.address);
+        let length = self.length;
+        write!(f, "{key}:{address}:{length}")
+    }
 }
 
 /// What a request of a send queue asks for: a message, an access to the peer's memory, or a local operation.
