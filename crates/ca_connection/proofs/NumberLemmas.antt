@@ -1,0 +1,6 @@
+-- Where a PSN stands for one whole number.
+use Rattle.std.proofs.Common.{◌≡◌, ℕ, ◌+◌, ◌%◌, ◌^◌, ◌<◌, ◌≤◌, arith}
+use Rattle.ca_psn.specs.Psn.{widened}
+
+pub widened-exact : (near n : ℕ) → 2 ^ 23 ≤ near → near ≤ n + 2 ^ 23 → n < near + 2 ^ 23 → widened near (n % 2 ^ 24) ≡ n
+widened-exact near n low below above = omega arith

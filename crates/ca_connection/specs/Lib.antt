@@ -1,0 +1,6 @@
+pub mod Acknowledge
+pub mod Invariant
+pub mod Layout
+pub mod Link
+pub mod Moves
+pub mod Once

@@ -1,0 +1,58 @@
+-- What the laws of a connection say: how often a packet acted, and which response fits a request. Contracts cite it.
+use Rattle.std.specs.Prelude.{◌≡◌, ℕ, suc, ◌+◌, ◌%◌, ◌^◌, ◌<◌, ◌≤◌, ◌↔◌, min, true, Bool, ◌==◌, ◌&&◌, nat_le, nat_lt, List, slice_get, Some}
+use Rattle.std.specs.List.{count_by}
+use Rattle.ca_base.specs.declared.limits.TheConstants.{MAX_OUTSTANDING_PSNS, MAX_KEPT_ENVELOPES}
+use Rattle.ca_psn.specs.Psn.{widened}
+use Rattle.ca_connection.specs.Layout.{Direction, is_read, is_atomic, first, bytes_left, span}
+use Rattle.ca_connection.specs.Link.{Packet, Answer, number_of, Mark, Link}
+use Rattle.ca_connection.specs.Link.Answer.{Ack, Nak, Data, Found}
+use Rattle.ca_connection.specs.Invariant.{request_distance, response_distance}
+
+-- how many marks stem from the packets with this number
+abbrev pub marks_of_packet : ℕ → List Mark → ℕ
+marks_of_packet n marks = count_by (λ m. m.number == n) marks
+
+-- how many marks stem from the packets of the request at this place
+abbrev pub marks_of_request : ℕ → List Mark → ℕ
+marks_of_request place marks = count_by (λ m. m.place == place) marks
+
+-- the packet of the mark took the number n
+abbrev pub covers : Direction → ℕ → Mark → Bool
+covers d n m = nat_le m.number n && nat_lt n (m.number + span d m.place m.number)
+
+-- all numbers of the request are acknowledged or answered
+abbrev pub HasSucceeded : Direction → Link → ℕ → Type 0
+HasSucceeded d l place = first d (suc place) ≤ l.requester.una
+
+-- the request's envelope is in the responder's mailbox with k later ones, and may be delivered
+pub record MayArrive (l : Link) (k : ℕ) (packet : Packet) : Type 0 where
+  pub is : slice_get l.requests k ≡ Some (Some packet)
+  pub recent : k < MAX_KEPT_ENVELOPES
+
+-- the response's envelope is in the requester's mailbox with k later ones, and may be delivered
+pub record MayBeTaken (l : Link) (k : ℕ) (a : Answer) : Type 0 where
+  pub is : slice_get l.responses k ≡ Some (Some a)
+  pub recent : k < MAX_KEPT_ENVELOPES
+
+-- The number of a request that is delivered lies at most so far below the expected one, less than the window above it; and its
+-- PSN alone tells it.
+pub record RequestIsNear (l : Link) (packet : Packet) : Type 0 where
+  pub low : l.responder.expected ≤ packet.number + request_distance
+  pub high : packet.number < l.responder.expected + MAX_OUTSTANDING_PSNS
+  pub exact : widened l.responder.expected (packet.number % 2 ^ 24) ≡ packet.number
+
+-- The number of a response that is delivered lies at most so far below `una`, at most the window above it; and its PSN alone
+-- tells it.
+pub record ResponseIsNear (l : Link) (a : Answer) : Type 0 where
+  pub low : l.requester.una ≤ number_of a + response_distance
+  pub high : number_of a ≤ l.requester.una + MAX_OUTSTANDING_PSNS
+  pub exact : widened l.requester.una (number_of a % 2 ^ 24) ≡ number_of a
+
+-- A response fits the request that has its number: a READ response is of a READ, its payload is as long as the segment there,
+-- and it is a last one exactly at the READ's last number; an ATOMIC Acknowledge is of an atomic.
+abbrev pub Fits : Direction → ℕ → Answer → Type 0
+Fits d place (Ack n) = Unit {0}
+Fits d place (Nak code n) = Unit {0}
+Fits d place (Data n left) =
+    (is_read (d.work place) ≡ true) × (min d.mtu left ≡ min d.mtu (bytes_left d place n)) × ((left ≤ d.mtu) ↔ (n + 1 ≡ first d (suc place)))
+Fits d place (Found n found) = is_atomic (d.work place) ≡ true
