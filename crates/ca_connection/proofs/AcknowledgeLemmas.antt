@@ -5,9 +5,7 @@ use Rattle.ca_connection.specs.Layout.{Work, Direction, psns, first, is_answered
 use Rattle.ca_connection.specs.Layout.Work.{Local, Send, Write, Read, Atomic}
 use Rattle.ca_connection.specs.Acknowledge.{PassesNone, first_unanswered, IsFirstUnanswered, Acknowledges}
 use Rattle.ca_connection.proofs.LayoutLemmas.{packets-some, names-one}
-
-cases-lt : (x y : ℕ) → (x < y) ⊎ (y ≤ x)
-cases-lt x y = grind arith
+use Rattle.ca_connection.proofs.NumberLemmas.{cases-lt}
 
 left_false : (a b : Bool) → (a && b) ≡ false → b ≡ true → a ≡ false
 left_false true true e t = e

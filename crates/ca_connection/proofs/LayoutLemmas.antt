@@ -4,6 +4,7 @@ use Rattle.std.proofs.Math.Nat.{add-div_right, div-lt_iff_lt-mul, mul-le-mul_lef
 use Rattle.std.proofs.lemmas.Nat.{le-div}
 use Rattle.ca_connection.specs.Layout.{Work, Direction, is_data, is_read, is_atomic, is_answered, bytes_of, packets, psns, start, first, Names, bytes_left, span_of, span}
 use Rattle.ca_connection.specs.Layout.Work.{Local, Send, Write, Read, Atomic}
+use Rattle.ca_connection.proofs.NumberLemmas.{cases-lt}
 
 pub packets-some : (mtu bytes : ℕ) → 1 ≤ packets mtu bytes
 packets-some mtu bytes = omega arith
@@ -53,21 +54,15 @@ names-one d p q n a b = go (cases p q)
 -- each number from the start on below a request's first one belongs to a request before that
 pub names-some : (d : Direction) (k n : ℕ) → start d ≤ n → n < first d k → (p : ℕ) × (p < k) × Names d p n
 names-some d zero n low high = absurd (omega arith)
-names-some d (suc k) n low high = go (names-some d k n low) (cases n (first d k))
+names-some d (suc k) n low high = go (names-some d k n low) (cases-lt n (first d k))
   where
-    cases : (x y : ℕ) → (x < y) ⊎ (y ≤ x)
-    cases x y = grind arith
-
     go : (n < first d k → (p : ℕ) × (p < k) × Names d p n) → (n < first d k) ⊎ (first d k ≤ n) → (p : ℕ) × (p < suc k) × Names d p n
     go before (inl lt) = let r = before lt in (r.0, omega (arith, r.1), r.2)
     go before (inr ge) = (k, omega arith, record { from = ge; below = high })
 
 two_packets : (mtu bytes : ℕ) → 0 < mtu → 2 ≤ packets mtu bytes → mtu < bytes
-two_packets mtu bytes some two = go (cases mtu bytes)
+two_packets mtu bytes some two = go (cases-lt mtu bytes)
   where
-    cases : (x y : ℕ) → (x < y) ⊎ (y ≤ x)
-    cases x y = grind arith
-
     go : (mtu < bytes) ⊎ (bytes ≤ mtu) → mtu < bytes
     go (inl lt) = lt
     go (inr le) = absurd (omega (arith, packets-one mtu bytes some le))

@@ -1,5 +1,14 @@
 pub mod AcknowledgeLemmas
+pub mod CountLemmas
+pub mod Examples
 pub mod LayoutLemmas
-pub mod LinkLemmas
+pub mod ListLemmas
+pub mod MarkLemmas
+pub mod MoveLemmas
 pub mod NumberLemmas
 pub mod OnceLemmas
+pub mod QueueLemmas
+pub mod ReceiveLemmas
+pub mod RespondLemmas
+pub mod SendLemmas
+pub mod TakeLemmas

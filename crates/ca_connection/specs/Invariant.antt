@@ -1,19 +1,11 @@
 -- What holds of every link that moves lead to: seven facts. Contracts cite it.
-use Rattle.std.specs.Prelude.{◌≡◌, ℕ, suc, ◌+◌, ◌-◌, ◌*◌, ◌<◌, ◌≤◌, max, true, List, [], ◌∷◌, slice_get, Some}
+use Rattle.std.specs.Prelude.{◌≡◌, ℕ, suc, ◌+◌, ◌*◌, ◌<◌, ◌≤◌, max, true, List, [], ◌∷◌, slice_get, Some}
 use Rattle.std.specs.List.{Contains}
-use Rattle.ca_base.specs.declared.limits.TheConstants.{MAX_MESSAGE_PACKETS, MAX_OUTSTANDING_PSNS, MAX_KEPT_ENVELOPES}
+use Rattle.ca_connection.specs.Limits.{window, greatest_span, request_distance}
 use Rattle.ca_connection.specs.Layout.{Direction, is_read, is_atomic, start, first, Names, bytes_left, span}
 use Rattle.ca_connection.specs.Link.{Packet, Code, Answer, number_of, reach, reach_of_all, Saved, Mark, Refusal, Completion, Link}
 use Rattle.ca_connection.specs.Link.Code.{SequenceError, InvalidRequest, RemoteAccess, RemoteOperation, ReceiverNotReady}
 use Rattle.ca_connection.specs.Link.Answer.{Ack, Nak, Data, Found}
-
--- how far below the expected number a request can be that is delivered
-abbrev pub request_distance : ℕ
-request_distance = MAX_OUTSTANDING_PSNS + MAX_MESSAGE_PACKETS * (MAX_KEPT_ENVELOPES - 1)
-
--- how far below `una` a response can be that is delivered
-abbrev pub response_distance : ℕ
-response_distance = request_distance + MAX_OUTSTANDING_PSNS * (MAX_KEPT_ENVELOPES - 1)
 
 -- 1. The numbers of the two sides form one chain, no longer than the window.
 pub record Numbers (begin una cursor answered expected top : ℕ) : Type 0 where
@@ -23,14 +15,14 @@ pub record Numbers (begin una cursor answered expected top : ℕ) : Type 0 where
   pub una_answered : una ≤ answered
   pub answered_expected : answered ≤ expected
   pub expected_top : expected ≤ top
-  pub top_una : top ≤ una + MAX_OUTSTANDING_PSNS
+  pub top_una : top ≤ una + window
 
 -- 2. A request's envelope with k later ones carries a number of its request, all of it below `top`; and `top` has gone on
 -- since it was sent by at most one message for each later envelope.
 pub record RequestFact (d : Direction) (top k : ℕ) (packet : Packet) : Type 0 where
   pub low : start d ≤ packet.number
   pub below : packet.number + span d packet.place packet.number ≤ top
-  pub near : top ≤ packet.number + MAX_OUTSTANDING_PSNS + MAX_MESSAGE_PACKETS * k
+  pub near : top ≤ packet.number + window + greatest_span * k
   pub names : Names d packet.place packet.number
 
 -- the packet with this number has the mark of an atomic that found this value
@@ -71,7 +63,7 @@ Holds d marks refusals (Found n found) = Swapped d marks n found
 -- by at most the window for each later envelope; and what it says has happened.
 pub record ResponseFact (d : Direction) (marks : List Mark) (refusals : List Refusal) (answered k : ℕ) (a : Answer) : Type 0 where
   pub below : reach a ≤ answered
-  pub near : answered ≤ number_of a + request_distance + MAX_OUTSTANDING_PSNS * k
+  pub near : answered ≤ number_of a + request_distance + window * k
   pub holds : Holds d marks refusals a
 
 -- 4. The response queue is a chain. `low` is how far the responses that were sent and the items so far can bring `una`: never

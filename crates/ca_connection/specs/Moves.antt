@@ -2,8 +2,9 @@
 -- responder does. Contracts cite it.
 use Rattle.std.specs.Prelude.{◌≡◌, ℕ, suc, ◌+◌, ◌-◌, ◌%◌, ◌^◌, ◌<◌, ◌≤◌, max, true, nat_lt, if◌then◌else◌, List, [], ◌∷◌, ◌++◌, slice_get, Option, None, Some}
 use Rattle.std.specs.List.{Contains}
-use Rattle.ca_base.specs.declared.limits.TheConstants.{MIN_PATH_MTU, MAX_MESSAGE_PACKETS, MAX_OUTSTANDING_PSNS, MAX_KEPT_ENVELOPES}
+use Rattle.ca_base.specs.declared.limits.TheConstants.{MIN_PATH_MTU}
 use Rattle.ca_psn.specs.Psn.{widened}
+use Rattle.ca_connection.specs.Limits.{window, greatest_span, kept_requests, kept_responses}
 use Rattle.ca_connection.specs.Layout.{Direction, is_data, is_read, is_atomic, Names, bytes_left, span}
 use Rattle.ca_connection.specs.Acknowledge.{PassesNone}
 use Rattle.ca_connection.specs.Link.{Packet, Code, Answer, number_of, gain, reach, Saved, Mark, Refusal, Completion, Requester, Responder, Link, opening}
@@ -72,8 +73,7 @@ pub data Receives (d : Direction) (packet : Packet) (w : ℕ) (r : Responder) : 
       → is_read (d.work packet.place) ≡ true
       → Keeps r.answers kept
       → Receives d packet w r (past (w + span d packet.place packet.number) r.saved kept (Data w (bytes_left d packet.place packet.number))) (Accepted 0)
-  atomic : {kept : List Answer} {saved : List Saved} (found : ℕ)
-      → w ≡ r.expected
+  atomic : {kept : List Answer} {saved : List Saved} (found : ℕ) → w ≡ r.expected
       → is_atomic (d.work packet.place) ≡ true
       → Keeps r.answers kept
       → Keeps r.saved saved
@@ -165,18 +165,33 @@ after_arrival l packet w responder receipt = record l {
   refusals = refusals_after w packet.place receipt l.refusals;
 }
 
+-- The request's envelope is in the responder's mailbox with k later ones, and may be delivered.
+pub record MayArrive (l : Link) (k : ℕ) (packet : Packet) : Type 0 where
+  pub is : slice_get l.requests k ≡ Some (Some packet)
+  pub recent : k < kept_requests
+
+-- The response's envelope is in the requester's mailbox with k later ones, and may be delivered.
+pub record MayBeTaken (l : Link) (k : ℕ) (a : Answer) : Type 0 where
+  pub is : slice_get l.responses k ≡ Some (Some a)
+  pub recent : k < kept_responses
+
+-- The request at this place has the number at the cursor, and its packet leaves no more numbers outstanding than the window has.
+pub record MaySend (d : Direction) (l : Link) (place : ℕ) : Type 0 where
+  pub names : Names d place l.requester.cursor
+  pub room : l.requester.cursor + span d place l.requester.cursor ≤ l.requester.una + window
+
 -- The moves of a link. `send_nowhere` and `respond_nowhere` are those where no path leads to the other side: nothing of this
--- side is in the mailbox there, and no envelope is made. An envelope k behind the newest can be delivered, any number of
--- times, while k is below the number that a mailbox keeps. Its PSN alone comes over the wire.
+-- side is in the mailbox there, and no envelope is made. A kept envelope may be delivered in any order and any number of
+-- times; of its number the PSN alone comes over the wire. A timer lets the requester go back. Errors empty a response queue,
+-- and only so many results stay saved (`forget`). The other direction takes places in the mailboxes, and a side that is reset
+-- loses its mailbox.
 pub data Move (d : Direction) (l : Link) : Link → Type 0 where
   send : (place : ℕ)
-      → Names d place l.requester.cursor
-      → span d place l.requester.cursor ≤ MAX_MESSAGE_PACKETS
-      → l.requester.cursor + span d place l.requester.cursor ≤ l.requester.una + MAX_OUTSTANDING_PSNS
+      → MaySend d l place
+      → span d place l.requester.cursor ≤ greatest_span
       → Move d l (after_request d place l (Some (record { number = l.requester.cursor; place = place }) ∷ l.requests))
   send_nowhere : (place : ℕ)
-      → Names d place l.requester.cursor
-      → l.requester.cursor + span d place l.requester.cursor ≤ l.requester.una + MAX_OUTSTANDING_PSNS
+      → MaySend d l place
       → l.requests ≡ []
       → Move d l (after_request d place l [])
   respond : (a : Answer) (rest : List Answer) (refusal : Option Refusal)
@@ -187,13 +202,11 @@ pub data Move (d : Direction) (l : Link) : Link → Type 0 where
       → l.responses ≡ []
       → Move d l (after_response l a rest refusal [])
   arrive : (k : ℕ) (packet : Packet) (responder : Responder) (receipt : Receipt)
-      → slice_get l.requests k ≡ Some (Some packet)
-      → k < MAX_KEPT_ENVELOPES
+      → MayArrive l k packet
       → Receives d packet (widened l.responder.expected (packet.number % 2 ^ 24)) l.responder responder receipt
       → Move d l (after_arrival l packet (widened l.responder.expected (packet.number % 2 ^ 24)) responder receipt)
   take : (k : ℕ) (a : Answer) (requester : Requester) (completion : Option Completion)
-      → slice_get l.responses k ≡ Some (Some a)
-      → k < MAX_KEPT_ENVELOPES
+      → MayBeTaken l k a
       → Takes d a (widened l.requester.una (number_of a % 2 ^ 24)) l.requester requester completion
       → Move d l (record l { requester = requester; completions = with_one completion l.completions })
   go_back : (cursor : ℕ)

@@ -1,12 +1,11 @@
 -- What the laws of a connection say: how often a packet acted, and which response fits a request. Contracts cite it.
-use Rattle.std.specs.Prelude.{◌≡◌, ℕ, suc, ◌+◌, ◌%◌, ◌^◌, ◌<◌, ◌≤◌, ◌↔◌, min, true, Bool, ◌==◌, ◌&&◌, nat_le, nat_lt, List, slice_get, Some}
+use Rattle.std.specs.Prelude.{◌≡◌, ℕ, suc, ◌+◌, ◌%◌, ◌^◌, ◌<◌, ◌≤◌, ◌↔◌, min, true, Bool, ◌==◌, ◌&&◌, nat_le, nat_lt, List}
 use Rattle.std.specs.List.{count_by}
-use Rattle.ca_base.specs.declared.limits.TheConstants.{MAX_OUTSTANDING_PSNS, MAX_KEPT_ENVELOPES}
 use Rattle.ca_psn.specs.Psn.{widened}
 use Rattle.ca_connection.specs.Layout.{Direction, is_read, is_atomic, first, bytes_left, span}
 use Rattle.ca_connection.specs.Link.{Packet, Answer, number_of, Mark, Link}
 use Rattle.ca_connection.specs.Link.Answer.{Ack, Nak, Data, Found}
-use Rattle.ca_connection.specs.Invariant.{request_distance, response_distance}
+use Rattle.ca_connection.specs.Limits.{window, request_distance, response_distance}
 
 -- how many marks stem from the packets with this number
 abbrev pub marks_of_packet : ℕ → List Mark → ℕ
@@ -24,28 +23,18 @@ covers d n m = nat_le m.number n && nat_lt n (m.number + span d m.place m.number
 abbrev pub HasSucceeded : Direction → Link → ℕ → Type 0
 HasSucceeded d l place = first d (suc place) ≤ l.requester.una
 
--- the request's envelope is in the responder's mailbox with k later ones, and may be delivered
-pub record MayArrive (l : Link) (k : ℕ) (packet : Packet) : Type 0 where
-  pub is : slice_get l.requests k ≡ Some (Some packet)
-  pub recent : k < MAX_KEPT_ENVELOPES
-
--- the response's envelope is in the requester's mailbox with k later ones, and may be delivered
-pub record MayBeTaken (l : Link) (k : ℕ) (a : Answer) : Type 0 where
-  pub is : slice_get l.responses k ≡ Some (Some a)
-  pub recent : k < MAX_KEPT_ENVELOPES
-
 -- The number of a request that is delivered lies at most so far below the expected one, less than the window above it; and its
 -- PSN alone tells it.
 pub record RequestIsNear (l : Link) (packet : Packet) : Type 0 where
   pub low : l.responder.expected ≤ packet.number + request_distance
-  pub high : packet.number < l.responder.expected + MAX_OUTSTANDING_PSNS
+  pub high : packet.number < l.responder.expected + window
   pub exact : widened l.responder.expected (packet.number % 2 ^ 24) ≡ packet.number
 
 -- The number of a response that is delivered lies at most so far below `una`, at most the window above it; and its PSN alone
 -- tells it.
 pub record ResponseIsNear (l : Link) (a : Answer) : Type 0 where
   pub low : l.requester.una ≤ number_of a + response_distance
-  pub high : number_of a ≤ l.requester.una + MAX_OUTSTANDING_PSNS
+  pub high : number_of a ≤ l.requester.una + window
   pub exact : widened l.requester.una (number_of a % 2 ^ 24) ≡ number_of a
 
 -- A response fits the request that has its number: a READ response is of a READ, its payload is as long as the segment there,

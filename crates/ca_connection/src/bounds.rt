@@ -2,8 +2,8 @@ ghost use Rattle.std.specs.Prelude.{ℕ};
 ghost use Rattle.ca_connection.specs.Invariant.{Numbers};
 ghost use Rattle.ca_connection.specs.Layout.{Direction, start};
 ghost use Rattle.ca_connection.specs.Link.{Answer, Link, Packet};
-ghost use Rattle.ca_connection.specs.Moves.{Reached};
-ghost use Rattle.ca_connection.specs.Once.{MayArrive, MayBeTaken, RequestIsNear, ResponseIsNear};
+ghost use Rattle.ca_connection.specs.Moves.{MayArrive, MayBeTaken, Reached};
+ghost use Rattle.ca_connection.specs.Once.{RequestIsNear, ResponseIsNear};
 
 /// `una`, the greatest `una` that a response can bring, the expected number and the greatest number that was sent stand in
 /// this order, and all lie within one window from `una` on.

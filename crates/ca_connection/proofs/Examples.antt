@@ -1,0 +1,173 @@
+-- Small links, computed move by move.
+use Rattle.std.proofs.Common.{◌≡◌, ◌≢◌, ℕ, zero, suc, ◌+◌, ◌-◌, ◌*◌, ◌%◌, ◌^◌, List, [], ◌∷◌, Option, None, Some, false, refl, arith}
+use Rattle.ca_psn.specs.Psn.{widened}
+use Rattle.ca_connection.specs.Layout.{Work, Direction, Names, is_answered}
+use Rattle.ca_connection.specs.Layout.Work.{Local, Write, Read, Atomic}
+use Rattle.ca_connection.specs.Link.{Packet, Answer, Saved, Mark, Completion, Link}
+use Rattle.ca_connection.specs.Link.Answer.{Ack, Data, Found}
+use Rattle.ca_connection.specs.Moves.{Reached}
+use Rattle.ca_connection.specs.Moves.Keeps.{none, leave}
+use Rattle.ca_connection.specs.Moves.Receives.{atomic_again, read_again, write_and_acknowledge, write as accept_write, read as accept_read, atomic as swap}
+use Rattle.ca_connection.specs.Moves.Responds.{front}
+use Rattle.ca_connection.specs.Moves.Takes.{acknowledge, read as take_bytes, atomic as complete}
+use Rattle.ca_connection.specs.Moves.Move.{send, respond, arrive, take, go_back}
+use Rattle.ca_connection.specs.Moves.Reached.{begin, move}
+use Rattle.ca_connection.specs.Limits.{request_distance, response_distance}
+
+-- the two sides, their mailboxes, and what has happened, where nothing was refused
+abbrev link : ℕ → ℕ → ℕ → List Answer → List Saved → List (Option Packet) → List (Option Answer) → ℕ → ℕ → List Mark → List Completion → Link
+link una cursor expected answers saved requests responses top answered marks completions = record {
+  requester = record { una = una; cursor = cursor };
+  responder = record { expected = expected; answers = answers; saved = saved };
+  requests = requests;
+  responses = responses;
+  top = top;
+  answered = answered;
+  marks = marks;
+  refusals = [];
+  completions = completions;
+}
+
+abbrev packet : ℕ → ℕ → Option Packet
+packet number place = Some (record { number = number; place = place })
+
+abbrev mark : ℕ → ℕ → ℕ → Mark
+mark number place found = record { number = number; place = place; found = found }
+
+-- One atomic, from PSN 0 on. Its answer is lost. It is sent again, and the responder answers both copies, the later one first,
+-- by the saved result. The atomic has acted once, and its completion gives what it found.
+abbrev one_atomic : Direction
+one_atomic = record { psn = 0; mtu = 256; work = atomic_first }
+  where
+    atomic_first : ℕ → Work
+    atomic_first zero = Atomic
+    atomic_first (suc place) = Local
+
+abbrev s : ℕ
+s = 2 ^ 24
+
+abbrev result : Saved
+result = record { number = 2 ^ 24; found = 7 }
+
+abbrev found : Option Answer
+found = Some (Found (2 ^ 24) 7)
+
+lost_answer : Reached one_atomic (link (s + 1) (s + 1) (s + 1) [] (result ∷ []) (packet s 0 ∷ packet s 0 ∷ []) (found ∷ found ∷ []) (s + 1) (s + 1) (mark s 0 7 ∷ []) (record { place = 0; found = 7 } ∷ []))
+lost_answer =
+    let named : Names one_atomic 0 s = record { from = omega arith; below = omega arith } in
+    let opened : Reached one_atomic (link s s s [] [] [] [] s s [] []) = begin (omega arith) in
+    let sent : Reached one_atomic (link s (s + 1) s [] [] (packet s 0 ∷ []) [] (s + 1) s [] []) =
+    move opened (send 0 (record { names = named; room = omega arith }) (omega arith)) in
+    let acted : Reached one_atomic (link s (s + 1) (s + 1) (Found s 7 ∷ []) (result ∷ []) (packet s 0 ∷ []) [] (s + 1) s (mark s 0 7 ∷ []) []) =
+    move sent (arrive 0 _ _ _ (record { is = refl; recent = omega arith }) (swap 7 refl refl none none)) in
+    let answered : Reached one_atomic (link s (s + 1) (s + 1) [] (result ∷ []) (packet s 0 ∷ []) (found ∷ []) (s + 1) (s + 1) (mark s 0 7 ∷ []) []) =
+    move acted (respond (Found s 7) [] None (front (Found s 7) [] refl)) in
+    let back : Reached one_atomic (link s s (s + 1) [] (result ∷ []) (packet s 0 ∷ []) (found ∷ []) (s + 1) (s + 1) (mark s 0 7 ∷ []) []) =
+    move answered (go_back s (omega arith) (omega arith)) in
+    let again : Reached one_atomic (link s (s + 1) (s + 1) [] (result ∷ []) (packet s 0 ∷ packet s 0 ∷ []) (found ∷ []) (s + 1) (s + 1) (mark s 0 7 ∷ []) []) =
+    move back (send 0 (record { names = named; room = omega arith }) (omega arith)) in
+    let second : Reached one_atomic (link s (s + 1) (s + 1) (Found s 7 ∷ []) (result ∷ []) (packet s 0 ∷ packet s 0 ∷ []) (found ∷ []) (s + 1) (s + 1) (mark s 0 7 ∷ []) []) =
+    move again (arrive 0 _ _ _ (record { is = refl; recent = omega arith }) (atomic_again 7 (0, omega arith, refl) none)) in
+    let first_again : Reached one_atomic (link s (s + 1) (s + 1) (Found s 7 ∷ []) (result ∷ []) (packet s 0 ∷ packet s 0 ∷ []) (found ∷ []) (s + 1) (s + 1) (mark s 0 7 ∷ []) []) =
+    move second (arrive 1 _ _ _ (record { is = refl; recent = omega arith }) (atomic_again 7 (0, omega arith, refl) (leave none))) in
+    let answered_again : Reached one_atomic (link s (s + 1) (s + 1) [] (result ∷ []) (packet s 0 ∷ packet s 0 ∷ []) (found ∷ found ∷ []) (s + 1) (s + 1) (mark s 0 7 ∷ []) []) =
+    move first_again (respond (Found s 7) [] None (front (Found s 7) [] refl)) in
+    move answered_again (take 0 _ _ _ (record { is = refl; recent = omega arith }) (complete s 7 0 refl named refl (omega arith) (omega arith) (λ p n low high names. absurd (omega arith))))
+
+-- A READ of 600 bytes at path MTU 256, from PSN 5 on. Its second response is lost. The requester goes back, and asks from the
+-- middle for the rest, which is read again: three responses bring `una` to its end, and it was accepted once.
+abbrev one_read : Direction
+one_read = record { psn = 5; mtu = 256; work = read_first }
+  where
+    read_first : ℕ → Work
+    read_first zero = Read 600
+    read_first (suc place) = Local
+
+abbrev r : ℕ
+r = 2 ^ 24 + 5
+
+abbrev bytes : ℕ → ℕ → Option Answer
+bytes n left = Some (Data n left)
+
+abbrev after_lost : List (Option Answer)
+after_lost = bytes (r + 1) 344 ∷ bytes r 600 ∷ []
+
+abbrev after_rest : List (Option Answer)
+after_rest = bytes (r + 2) 88 ∷ bytes (r + 1) 344 ∷ after_lost
+
+read_from_the_middle : Reached one_read (link (r + 3) (r + 3) (r + 3) [] [] (packet (r + 1) 0 ∷ packet r 0 ∷ []) after_rest (r + 3) (r + 3) (mark r 0 0 ∷ []) [])
+read_from_the_middle =
+    let opened : Reached one_read (link r r r [] [] [] [] r r [] []) = begin (omega arith) in
+    let sent : Reached one_read (link r (r + 3) r [] [] (packet r 0 ∷ []) [] (r + 3) r [] []) =
+    move opened (send 0 (record { names = record { from = omega arith; below = omega arith }; room = omega arith }) (omega arith)) in
+    let accepted : Reached one_read (link r (r + 3) (r + 3) (Data r 600 ∷ []) [] (packet r 0 ∷ []) [] (r + 3) r (mark r 0 0 ∷ []) []) =
+    move sent (arrive 0 _ _ _ (record { is = refl; recent = omega arith }) (accept_read refl refl none)) in
+    let one_sent : Reached one_read (link r (r + 3) (r + 3) (Data (r + 1) 344 ∷ []) [] (packet r 0 ∷ []) (bytes r 600 ∷ []) (r + 3) (r + 1) (mark r 0 0 ∷ []) []) =
+    move accepted (respond (Data r 600) _ None (front (Data r 600) [] refl)) in
+    let one_taken : Reached one_read (link (r + 1) (r + 3) (r + 3) (Data (r + 1) 344 ∷ []) [] (packet r 0 ∷ []) (bytes r 600 ∷ []) (r + 3) (r + 1) (mark r 0 0 ∷ []) []) =
+    move one_sent (take 0 _ _ _ (record { is = refl; recent = omega arith }) (take_bytes r 600 0 refl (record { from = omega arith; below = omega arith }) refl (omega arith) (omega arith) (λ p n low high names. absurd (omega arith)))) in
+    let lost : Reached one_read (link (r + 1) (r + 3) (r + 3) (Data (r + 2) 88 ∷ []) [] (packet r 0 ∷ []) after_lost (r + 3) (r + 2) (mark r 0 0 ∷ []) []) =
+    move one_taken (respond (Data (r + 1) 344) _ None (front (Data (r + 1) 344) [] refl)) in
+    let back : Reached one_read (link (r + 1) (r + 1) (r + 3) (Data (r + 2) 88 ∷ []) [] (packet r 0 ∷ []) after_lost (r + 3) (r + 2) (mark r 0 0 ∷ []) []) =
+    move lost (go_back (r + 1) (omega arith) (omega arith)) in
+    let asked : Reached one_read (link (r + 1) (r + 3) (r + 3) (Data (r + 2) 88 ∷ []) [] (packet (r + 1) 0 ∷ packet r 0 ∷ []) after_lost (r + 3) (r + 2) (mark r 0 0 ∷ []) []) =
+    move back (send 0 (record { names = record { from = omega arith; below = omega arith }; room = omega arith }) (omega arith)) in
+    let again : Reached one_read (link (r + 1) (r + 3) (r + 3) (Data (r + 1) 344 ∷ []) [] (packet (r + 1) 0 ∷ packet r 0 ∷ []) after_lost (r + 3) (r + 2) (mark r 0 0 ∷ []) []) =
+    move asked (arrive 0 _ _ _ (record { is = refl; recent = omega arith }) (read_again refl (omega arith) (leave none))) in
+    let second : Reached one_read (link (r + 1) (r + 3) (r + 3) (Data (r + 2) 88 ∷ []) [] (packet (r + 1) 0 ∷ packet r 0 ∷ []) (bytes (r + 1) 344 ∷ after_lost) (r + 3) (r + 2) (mark r 0 0 ∷ []) []) =
+    move again (respond (Data (r + 1) 344) _ None (front (Data (r + 1) 344) [] refl)) in
+    let third : Reached one_read (link (r + 1) (r + 3) (r + 3) [] [] (packet (r + 1) 0 ∷ packet r 0 ∷ []) after_rest (r + 3) (r + 3) (mark r 0 0 ∷ []) []) =
+    move second (respond (Data (r + 2) 88) _ None (front (Data (r + 2) 88) [] refl)) in
+    let two_taken : Reached one_read (link (r + 2) (r + 3) (r + 3) [] [] (packet (r + 1) 0 ∷ packet r 0 ∷ []) after_rest (r + 3) (r + 3) (mark r 0 0 ∷ []) []) =
+    move third (take 1 _ _ _ (record { is = refl; recent = omega arith }) (take_bytes (r + 1) 344 0 refl (record { from = omega arith; below = omega arith }) refl (omega arith) (omega arith) (λ p n low high names. absurd (omega arith)))) in
+    move two_taken (take 0 _ _ _ (record { is = refl; recent = omega arith }) (take_bytes (r + 2) 88 0 refl (record { from = omega arith; below = omega arith }) refl (omega arith) (omega arith) (λ p n low high names. absurd (omega arith))))
+
+-- A WRITE of two packets whose PSNs are the last and the first: the number goes on, the PSN starts anew.
+abbrev one_write : Direction
+one_write = record { psn = 2 ^ 24 - 1; mtu = 256; work = write_first }
+  where
+    write_first : ℕ → Work
+    write_first zero = Write 300
+    write_first (suc place) = Local
+
+abbrev u : ℕ
+u = 2 ^ 25 - 1
+
+not_answered : (p : ℕ) → is_answered (one_write.work p) ≡ false
+not_answered zero = refl
+not_answered (suc p) = refl
+
+last_psn : u % 2 ^ 24 ≡ 2 ^ 24 - 1
+last_psn = refl
+
+first_psn : (u + 1) % 2 ^ 24 ≡ 0
+first_psn = refl
+
+wrap : Reached one_write (link (u + 2) (u + 2) (u + 2) [] [] (packet (u + 1) 0 ∷ packet u 0 ∷ []) (Some (Ack (u + 1)) ∷ []) (u + 2) (u + 2) (mark (u + 1) 0 0 ∷ mark u 0 0 ∷ []) [])
+wrap =
+    let opened : Reached one_write (link u u u [] [] [] [] u u [] []) = begin (omega arith) in
+    let one_sent : Reached one_write (link u (u + 1) u [] [] (packet u 0 ∷ []) [] (u + 1) u [] []) =
+    move opened (send 0 (record { names = record { from = omega arith; below = omega arith }; room = omega arith }) (omega arith)) in
+    let two_sent : Reached one_write (link u (u + 2) u [] [] (packet (u + 1) 0 ∷ packet u 0 ∷ []) [] (u + 2) u [] []) =
+    move one_sent (send 0 (record { names = record { from = omega arith; below = omega arith }; room = omega arith }) (omega arith)) in
+    let one_placed : Reached one_write (link u (u + 2) (u + 1) [] [] (packet (u + 1) 0 ∷ packet u 0 ∷ []) [] (u + 2) u (mark u 0 0 ∷ []) []) =
+    move two_sent (arrive 1 _ _ _ (record { is = refl; recent = omega arith }) (accept_write refl refl none)) in
+    let two_placed : Reached one_write (link u (u + 2) (u + 2) (Ack (u + 1) ∷ []) [] (packet (u + 1) 0 ∷ packet u 0 ∷ []) [] (u + 2) u (mark (u + 1) 0 0 ∷ mark u 0 0 ∷ []) []) =
+    move one_placed (arrive 0 _ _ _ (record { is = refl; recent = omega arith }) (write_and_acknowledge refl refl none)) in
+    let answered : Reached one_write (link u (u + 2) (u + 2) [] [] (packet (u + 1) 0 ∷ packet u 0 ∷ []) (Some (Ack (u + 1)) ∷ []) (u + 2) (u + 2) (mark (u + 1) 0 0 ∷ mark u 0 0 ∷ []) []) =
+    move two_placed (respond (Ack (u + 1)) _ None (front (Ack (u + 1)) [] refl)) in
+    move answered (take 0 _ _ _ (record { is = refl; recent = omega arith }) (acknowledge (u + 2) (u + 2) (omega arith) (omega arith) (λ p n low high names. not_answered p) (omega arith) (omega arith)))
+
+-- At the greatest distances that the laws allow a PSN still stands for its number.
+furthest_request : widened (s + request_distance) (s % 2 ^ 24) ≡ s
+furthest_request = refl
+
+furthest_response : widened (s + response_distance) (s % 2 ^ 24) ≡ s
+furthest_response = refl
+
+-- With 4096 kept envelopes in place of 256, or 1024 of responses, it could stand for another.
+too_many_requests : widened (s + (8192 + 4096 * 4095)) (s % 2 ^ 24) ≢ s
+too_many_requests e = absurd (omega (arith, e))
+
+too_many_responses : widened (s + (request_distance + 8192 * 1023)) (s % 2 ^ 24) ≢ s
+too_many_responses e = absurd (omega (arith, e))
