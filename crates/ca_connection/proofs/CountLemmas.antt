@@ -1,12 +1,12 @@
--- How many marks a packet or a request has.
+-- How many acceptances a packet or a request has.
 use Rattle.std.proofs.Common.{◌≡◌, ℕ, suc, ◌+◌, ◌<◌, ◌≤◌, ◌⊎◌, ◌&&◌, inl, inr, true, false, Bool, cond, List, [], ◌∷◌, refl, sym, ◌∙◌, ap, subst, arith, ltb-true, lt-ltb, eqb-true, eq-eqb, ne_eqb, le-leb, leb-true}
 use Rattle.std.proofs.lemmas.List.Sums.{sum_by-cons}
 use Rattle.std.specs.List.{Contains, count_by}
 use Rattle.std.specs.Prelude.{nat_lt, nat_le, ◌==◌}
-use Rattle.ca_connection.specs.Layout.{Direction, is_read, is_atomic, start, first, Names, span}
-use Rattle.ca_connection.specs.Link.{Mark}
-use Rattle.ca_connection.specs.Invariant.{Marks}
-use Rattle.ca_connection.specs.Once.{marks_of_packet, marks_of_request, covers}
+use Rattle.ca_connection.specs.Layout.{Direction, is_read, is_atomic, start, first, HasNumber, span}
+use Rattle.ca_connection.specs.Link.{Acceptance}
+use Rattle.ca_connection.specs.Invariant.{AcceptanceFact}
+use Rattle.ca_connection.specs.Once.{acceptances_of_packet, acceptances_of_request, covers}
 use Rattle.ca_connection.proofs.LayoutLemmas.{names-one, span-some, span-within, first-is_atomic, names-is_atomic, span-not_read}
 use Rattle.ca_connection.proofs.ListLemmas.{contains-head, contains-more}
 use Rattle.ca_connection.proofs.NumberLemmas.{cases-lt}
@@ -31,46 +31,46 @@ count-yes test x xs passes = omega (arith, sum_by-cons (λ y. cond (test y) 1 0)
 count-not : {A : Type 0} (test : A → Bool) (x : A) (xs : List A) → test x ≡ false → count_by test (x ∷ xs) ≡ count_by test xs
 count-not test x xs fails = omega (arith, sum_by-cons (λ y. cond (test y) 1 0) x xs, ap {B = ℕ} (λ b. cond b 1 0) fails)
 
--- no mark has a number from the bound on
-packet-none : (d : Direction) (bound n : ℕ) (marks : List Mark) → Marks d bound marks → bound ≤ n → marks_of_packet n marks ≡ 0
+-- no acceptance has a number from the bound on
+packet-none : (d : Direction) (bound n : ℕ) (acceptances : List Acceptance) → AcceptanceFact d bound acceptances → bound ≤ n → acceptances_of_packet n acceptances ≡ 0
 packet-none d bound n [] fact above = refl
 packet-none d bound n (m ∷ rest) fact above =
     let long = span-some d m.place m.number in
     let other : (m.number == n) ≡ false = ne_eqb m.number n (λ e. omega (arith, fact.0)) in
-    omega (arith, count-not (λ (x : Mark). x.number == n) m rest other, packet-none d m.number n rest fact.2 (omega (arith, fact.0)))
+    omega (arith, count-not (λ (x : Acceptance). x.number == n) m rest other, packet-none d m.number n rest fact.2 (omega (arith, fact.0)))
 
-pub packet-once : (d : Direction) (bound n : ℕ) (marks : List Mark) → Marks d bound marks → marks_of_packet n marks ≤ 1
+pub packet-once : (d : Direction) (bound n : ℕ) (acceptances : List Acceptance) → AcceptanceFact d bound acceptances → acceptances_of_packet n acceptances ≤ 1
 packet-once d bound n [] fact = omega arith
 packet-once d bound n (m ∷ rest) fact = go (packet-once d m.number n rest fact.2) (m.number == n) refl
   where
-    go : marks_of_packet n rest ≤ 1 → (b : Bool) → (m.number == n) ≡ b → marks_of_packet n (m ∷ rest) ≤ 1
-    go before true is = omega (arith, count-yes (λ (x : Mark). x.number == n) m rest is, packet-none d m.number n rest fact.2 (omega (arith, eqb-true m.number n is)))
-    go before false is = omega (arith, count-not (λ (x : Mark). x.number == n) m rest is, before)
+    go : acceptances_of_packet n rest ≤ 1 → (b : Bool) → (m.number == n) ≡ b → acceptances_of_packet n (m ∷ rest) ≤ 1
+    go before true is = omega (arith, count-yes (λ (x : Acceptance). x.number == n) m rest is, packet-none d m.number n rest fact.2 (omega (arith, eqb-true m.number n is)))
+    go before false is = omega (arith, count-not (λ (x : Acceptance). x.number == n) m rest is, before)
 
--- the marks of an atomic's request are those of its one number
-pub atomic-marks : (d : Direction) (bound place : ℕ) (marks : List Mark) → is_atomic (d.work place) ≡ true → Marks d bound marks
-    → marks_of_request place marks ≡ marks_of_packet (first d place) marks
-atomic-marks d bound place [] is fact = refl
-atomic-marks d bound place (m ∷ rest) is fact = go (atomic-marks d m.number place rest is fact.2) (m.place == place) refl
+-- the acceptances of an atomic's request are those of its one number
+pub atomic-acceptances : (d : Direction) (bound place : ℕ) (acceptances : List Acceptance) → is_atomic (d.work place) ≡ true → AcceptanceFact d bound acceptances
+    → acceptances_of_request place acceptances ≡ acceptances_of_packet (first d place) acceptances
+atomic-acceptances d bound place [] is fact = refl
+atomic-acceptances d bound place (m ∷ rest) is fact = go (atomic-acceptances d m.number place rest is fact.2) (m.place == place) refl
   where
-    go : marks_of_request place rest ≡ marks_of_packet (first d place) rest → (b : Bool) → (m.place == place) ≡ b
-        → marks_of_request place (m ∷ rest) ≡ marks_of_packet (first d place) (m ∷ rest)
+    go : acceptances_of_request place rest ≡ acceptances_of_packet (first d place) rest → (b : Bool) → (m.place == place) ≡ b
+        → acceptances_of_request place (m ∷ rest) ≡ acceptances_of_packet (first d place) (m ∷ rest)
     go before true own =
         let same : m.place ≡ place = eqb-true m.place place own in
-        let at : m.number ≡ first d place = names-is_atomic d place m.number is (subst (λ p. Names d p m.number) same fact.1) in
-        omega (arith, before, count-yes (λ (x : Mark). x.place == place) m rest own, count-yes (λ (x : Mark). x.number == first d place) m rest (eq-eqb m.number (first d place) at))
+        let at : m.number ≡ first d place = names-is_atomic d place m.number is (subst (λ p. HasNumber d p m.number) same fact.1) in
+        omega (arith, before, count-yes (λ (x : Acceptance). x.place == place) m rest own, count-yes (λ (x : Acceptance). x.number == first d place) m rest (eq-eqb m.number (first d place) at))
     go before false other =
         let apart : (m.number == first d place) ≡ false = ne_eqb m.number (first d place) (λ e.
-        let named : Names d m.place (first d place) = subst (Names d m.place) e fact.1 in
-        let own : Names d place (first d place) = record { from = omega arith; below = omega (arith, first-is_atomic d place is) } in
+        let named : HasNumber d m.place (first d place) = subst (HasNumber d m.place) e fact.1 in
+        let own : HasNumber d place (first d place) = record { from = omega arith; below = omega (arith, first-is_atomic d place is) } in
         let same : m.place ≡ place = names-one d m.place place (first d place) named own in
         let yes_ : (m.place == place) ≡ true = eq-eqb m.place place same in
         let bad : true ≡ false = sym yes_ ∙ other in
         cc) in
-        omega (arith, before, count-not (λ (x : Mark). x.place == place) m rest other, count-not (λ (x : Mark). x.number == first d place) m rest apart)
+        omega (arith, before, count-not (λ (x : Acceptance). x.place == place) m rest other, count-not (λ (x : Acceptance). x.number == first d place) m rest apart)
 
--- each number below the bound is covered by one mark
-covers-none : (d : Direction) (bound n : ℕ) (marks : List Mark) → Marks d bound marks → bound ≤ n → count_by (covers d n) marks ≡ 0
+-- each number below the bound is covered by one acceptance
+covers-none : (d : Direction) (bound n : ℕ) (acceptances : List Acceptance) → AcceptanceFact d bound acceptances → bound ≤ n → count_by (covers d n) acceptances ≡ 0
 covers-none d bound n [] fact above = refl
 covers-none d bound n (m ∷ rest) fact above =
     let long = span-some d m.place m.number in
@@ -81,7 +81,7 @@ covers-none d bound n (m ∷ rest) fact above =
     and_false true b e = e
     and_false false b e = refl
 
-pub covers-one : (d : Direction) (bound n : ℕ) (marks : List Mark) → Marks d bound marks → start d ≤ n → n < bound → count_by (covers d n) marks ≡ 1
+pub covers-one : (d : Direction) (bound n : ℕ) (acceptances : List Acceptance) → AcceptanceFact d bound acceptances → start d ≤ n → n < bound → count_by (covers d n) acceptances ≡ 1
 covers-one d bound n [] fact low high = absurd (omega (arith, fact))
 covers-one d bound n (m ∷ rest) fact low high = go (covers-one d m.number n rest fact.2 low) (cases-lt n m.number)
   where
@@ -93,29 +93,29 @@ covers-one d bound n (m ∷ rest) fact low high = go (covers-one d m.number n re
         let here : covers d n m ≡ true = ap (λ b. b && nat_lt n (m.number + span d m.place m.number)) (le-leb m.number n le) ∙ lt-ltb n (m.number + span d m.place m.number) (omega (arith, fact.0)) in
         omega (arith, count-yes (covers d n) m rest here, covers-none d m.number n rest fact.2 le)
 
--- a packet of one number below the bound has its mark, and the mark is of its request
-pub packet-marked : (d : Direction) (bound place n : ℕ) (marks : List Mark) → 0 < d.mtu → is_read (d.work place) ≡ false
-    → Marks d bound marks → Names d place n → start d ≤ n → n < bound
-    → (marks_of_packet n marks ≡ 1) × ((found : ℕ) × Contains marks (record { number = n; place = place; found = found }))
-packet-marked d bound place n [] some kind fact names low high = absurd (omega (arith, fact))
-packet-marked d bound place n (m ∷ rest) some kind fact names low high = go (packet-marked d m.number place n rest some kind fact.2 names low) (cases-lt n m.number)
+-- a packet of one number below the bound has its acceptance, and the acceptance is of its request
+pub packet-accepted : (d : Direction) (bound place n : ℕ) (acceptances : List Acceptance) → 0 < d.mtu → is_read (d.work place) ≡ false
+    → AcceptanceFact d bound acceptances → HasNumber d place n → start d ≤ n → n < bound
+    → (acceptances_of_packet n acceptances ≡ 1) × ((found : ℕ) × Contains acceptances (record { number = n; place = place; found = found }))
+packet-accepted d bound place n [] some kind fact names low high = absurd (omega (arith, fact))
+packet-accepted d bound place n (m ∷ rest) some kind fact names low high = go (packet-accepted d m.number place n rest some kind fact.2 names low) (cases-lt n m.number)
   where
-    go : (n < m.number → (marks_of_packet n rest ≡ 1) × ((found : ℕ) × Contains rest (record { number = n; place = place; found = found })))
+    go : (n < m.number → (acceptances_of_packet n rest ≡ 1) × ((found : ℕ) × Contains rest (record { number = n; place = place; found = found })))
         → (n < m.number) ⊎ (m.number ≤ n)
-        → (marks_of_packet n (m ∷ rest) ≡ 1) × ((found : ℕ) × Contains (m ∷ rest) (record { number = n; place = place; found = found }))
+        → (acceptances_of_packet n (m ∷ rest) ≡ 1) × ((found : ℕ) × Contains (m ∷ rest) (record { number = n; place = place; found = found }))
     go before (inl lt) =
         let other : (m.number == n) ≡ false = ne_eqb m.number n (λ e. omega arith) in
         let r = before lt in
-        (count-not (λ (x : Mark). x.number == n) m rest other ∙ r.0, (r.1.0, contains-more m _ rest r.1.1))
+        (count-not (λ (x : Acceptance). x.number == n) m rest other ∙ r.0, (r.1.0, contains-more m _ rest r.1.1))
     go before (inr le) =
         let within = span-within d m.place m.number some fact.1 in
-        let named : Names d m.place n = record { from = omega (arith, fact.1.from); below = omega (arith, fact.0, within) } in
+        let named : HasNumber d m.place n = record { from = omega (arith, fact.1.from); below = omega (arith, fact.0, within) } in
         let same : m.place ≡ place = names-one d m.place place n named names in
         let one : span d m.place m.number ≡ 1 = span-not_read d m.place m.number (ap (λ p. is_read (d.work p)) same ∙ kind) in
         let at : m.number ≡ n = omega (arith, fact.0, one) in
         let is : (m.number == n) ≡ true = eq-eqb m.number n at in
-        let gone : marks_of_packet n rest ≡ 0 = packet-none d m.number n rest fact.2 (omega arith) in (
-          count-yes (λ (x : Mark). x.number == n) m rest is ∙ ap suc gone,
+        let gone : acceptances_of_packet n rest ≡ 0 = packet-none d m.number n rest fact.2 (omega arith) in (
+          count-yes (λ (x : Acceptance). x.number == n) m rest is ∙ ap suc gone,
           (
             m.found,
             subst (λ p. Contains (m ∷ rest) (record { number = n; place = p; found = m.found })) same

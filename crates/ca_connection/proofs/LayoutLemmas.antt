@@ -2,7 +2,7 @@
 use Rattle.std.proofs.Common.{◌≡◌, ℕ, zero, suc, ◌+◌, ◌-◌, ◌*◌, ◌/◌, ◌<◌, ◌≤◌, ◌⊎◌, inl, inr, true, false, refl, ◌∙◌, ap, arith}
 use Rattle.std.proofs.Math.Nat.{add-div_right, div-lt_iff_lt-mul, mul-le-mul_left}
 use Rattle.std.proofs.lemmas.Nat.{le-div}
-use Rattle.ca_connection.specs.Layout.{Work, Direction, is_data, is_read, is_atomic, is_answered, bytes_of, packets, psns, start, first, Names, bytes_left, span_of, span}
+use Rattle.ca_connection.specs.Layout.{Work, Direction, is_data, is_read, is_atomic, is_answered, bytes_of, packets, psns, start, first, HasNumber, bytes_left, span_of, span}
 use Rattle.ca_connection.specs.Layout.Work.{Local, Send, Write, Read, Atomic}
 use Rattle.ca_connection.proofs.NumberLemmas.{cases-lt}
 
@@ -40,7 +40,7 @@ pub start-le : (d : Direction) (p : ℕ) → start d ≤ first d p
 start-le d p = first-le d 0 p (omega arith)
 
 -- a number belongs to one request
-pub names-one : (d : Direction) (p q n : ℕ) → Names d p n → Names d q n → p ≡ q
+pub names-one : (d : Direction) (p q n : ℕ) → HasNumber d p n → HasNumber d q n → p ≡ q
 names-one d p q n a b = go (cases p q)
   where
     cases : (x y : ℕ) → (x < y) ⊎ ((x ≡ y) ⊎ (y < x))
@@ -52,11 +52,11 @@ names-one d p q n a b = go (cases p q)
     go (inr (inr gt)) = absurd (omega (arith, first-le d (suc q) p gt, b.below, a.from))
 
 -- each number from the start on below a request's first one belongs to a request before that
-pub names-some : (d : Direction) (k n : ℕ) → start d ≤ n → n < first d k → (p : ℕ) × (p < k) × Names d p n
+pub names-some : (d : Direction) (k n : ℕ) → start d ≤ n → n < first d k → (p : ℕ) × (p < k) × HasNumber d p n
 names-some d zero n low high = absurd (omega arith)
 names-some d (suc k) n low high = go (names-some d k n low) (cases-lt n (first d k))
   where
-    go : (n < first d k → (p : ℕ) × (p < k) × Names d p n) → (n < first d k) ⊎ (first d k ≤ n) → (p : ℕ) × (p < suc k) × Names d p n
+    go : (n < first d k → (p : ℕ) × (p < k) × HasNumber d p n) → (n < first d k) ⊎ (first d k ≤ n) → (p : ℕ) × (p < suc k) × HasNumber d p n
     go before (inl lt) = let r = before lt in (r.0, omega (arith, r.1), r.2)
     go before (inr ge) = (k, omega arith, record { from = ge; below = high })
 
@@ -94,7 +94,7 @@ span_of-within mtu (Read bytes) f n some from below = omega (arith, packets-left
 span_of-within mtu Atomic f n some from below = omega arith
 
 -- a packet's numbers lie in its request's
-pub span-within : (d : Direction) (p n : ℕ) → 0 < d.mtu → Names d p n → n + span d p n ≤ first d (suc p)
+pub span-within : (d : Direction) (p n : ℕ) → 0 < d.mtu → HasNumber d p n → n + span d p n ≤ first d (suc p)
 span-within d p n some names = span_of-within d.mtu (d.work p) (first d p) n some names.from names.below
 
 span_of-read : (mtu : ℕ) (w : Work) (f n : ℕ) → 0 < mtu → is_read w ≡ true → f ≤ n → n < f + psns mtu w → n + span_of mtu w (bytes_of w - (n - f) * mtu) ≡ f + psns mtu w
@@ -105,7 +105,7 @@ span_of-read mtu (Read bytes) f n some read from below = omega (arith, packets-l
 span_of-read mtu Atomic f n some read from below = absurd (cc)
 
 -- a READ's request asks for all that is left
-pub span-read : (d : Direction) (p n : ℕ) → 0 < d.mtu → is_read (d.work p) ≡ true → Names d p n → n + span d p n ≡ first d (suc p)
+pub span-read : (d : Direction) (p n : ℕ) → 0 < d.mtu → is_read (d.work p) ≡ true → HasNumber d p n → n + span d p n ≡ first d (suc p)
 span-read d p n some read names = span_of-read d.mtu (d.work p) (first d p) n some read names.from names.below
 
 span_of-is_read : (mtu : ℕ) (w : Work) (left : ℕ) → is_read w ≡ true → span_of mtu w left ≡ packets mtu left
@@ -149,7 +149,7 @@ psns-is_atomic mtu Atomic is = refl
 pub first-is_atomic : (d : Direction) (p : ℕ) → is_atomic (d.work p) ≡ true → first d (suc p) ≡ first d p + 1
 first-is_atomic d p is = ap (λ n. first d p + n) (psns-is_atomic d.mtu (d.work p) is)
 
-pub names-is_atomic : (d : Direction) (p n : ℕ) → is_atomic (d.work p) ≡ true → Names d p n → n ≡ first d p
+pub names-is_atomic : (d : Direction) (p n : ℕ) → is_atomic (d.work p) ≡ true → HasNumber d p n → n ≡ first d p
 names-is_atomic d p n is names = omega (arith, names.from, names.below, first-is_atomic d p is)
 
 pub read-not_atomic : (w : Work) → is_read w ≡ true → is_atomic w ≡ true → ⊥

@@ -1,9 +1,8 @@
+pub mod AcceptanceLemmas
 pub mod AcknowledgeLemmas
 pub mod CountLemmas
-pub mod Examples
 pub mod LayoutLemmas
 pub mod ListLemmas
-pub mod MarkLemmas
 pub mod MoveLemmas
 pub mod NumberLemmas
 pub mod OnceLemmas
@@ -11,4 +10,5 @@ pub mod QueueLemmas
 pub mod ReceiveLemmas
 pub mod RespondLemmas
 pub mod SendLemmas
+pub mod SmallLinks
 pub mod TakeLemmas

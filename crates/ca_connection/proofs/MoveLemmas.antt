@@ -3,11 +3,11 @@ use Rattle.std.proofs.Common.{◌≡◌, ℕ, zero, suc, ◌%◌, ◌^◌, ◌<�
 use Rattle.ca_psn.specs.Psn.{widened}
 use Rattle.ca_connection.specs.Limits.{kept_requests, kept_responses}
 use Rattle.ca_connection.specs.Layout.{Direction, start}
-use Rattle.ca_connection.specs.Link.{Packet, Answer, number_of, Link}
+use Rattle.ca_connection.specs.Link.{RequestPacket, Response, number_of, Link}
 use Rattle.ca_connection.specs.Moves.{Receives, Takes, after_arrival, Move, Reached}
 use Rattle.ca_connection.specs.Moves.Move.{send, send_nowhere, respond, respond_nowhere, arrive, take as take_answer, go_back, forget, other_request, other_response, clear_requests, clear_responses}
 use Rattle.ca_connection.specs.Moves.Reached.{begin, move as one_move}
-use Rattle.ca_connection.specs.Invariant.{Numbers, RequestFact, ResponseFact, Sound}
+use Rattle.ca_connection.specs.Invariant.{NumberFact, RequestFact, ResponseFact, Sound}
 use Rattle.ca_connection.proofs.LayoutLemmas.{span-some}
 use Rattle.ca_connection.proofs.NumberLemmas.{widened-exact}
 use Rattle.ca_connection.proofs.ListLemmas.{keeps-contains}
@@ -18,17 +18,17 @@ use Rattle.ca_connection.proofs.ReceiveLemmas.{receives-sound}
 use Rattle.ca_connection.proofs.TakeLemmas.{numbers-move, takes-sound}
 
 -- a request that is delivered stands for the number with which it was sent
-pub request-exact : (d : Direction) (l : Link) (k : ℕ) (packet : Packet)
-    → Numbers (start d) l.requester.una l.requester.cursor l.answered l.responder.expected l.top
-    → RequestFact d l.top k packet → k < kept_requests
+pub request-exact : (d : Direction) (l : Link) (k : ℕ) (packet : RequestPacket)
+    → NumberFact (start d) l.requester.una l.requester.cursor l.response_top l.responder.expected l.request_top
+    → RequestFact d l.request_top k packet → k < kept_requests
     → widened l.responder.expected (packet.number % 2 ^ 24) ≡ packet.number
 request-exact d l k packet n f recent =
     widened-exact l.responder.expected packet.number (omega arith) (omega (arith, f.near)) (omega (arith, f.below, span-some d packet.place packet.number))
 
 -- so does a response
-pub response-exact : (d : Direction) (l : Link) (k : ℕ) (a : Answer)
-    → Numbers (start d) l.requester.una l.requester.cursor l.answered l.responder.expected l.top
-    → ResponseFact d l.marks l.refusals l.answered k a → k < kept_responses
+pub response-exact : (d : Direction) (l : Link) (k : ℕ) (a : Response)
+    → NumberFact (start d) l.requester.una l.requester.cursor l.response_top l.responder.expected l.request_top
+    → ResponseFact d l.acceptances l.rejections l.response_top k a → k < kept_responses
     → widened l.requester.una (number_of a % 2 ^ 24) ≡ number_of a
 response-exact d l k a n f recent =
     widened-exact l.requester.una (number_of a) (omega arith) (omega (arith, f.near)) (omega (arith, f.below))
@@ -36,60 +36,60 @@ response-exact d l k a n f recent =
 pub move-sound : (d : Direction) (l new : Link) → 0 < d.mtu → Sound d l → Move d l new → Sound d new
 move-sound d l _ some s (send place may size) = send-sound d l place may size s
 move-sound d l _ some s (send_nowhere place may none_there) = nowhere-sound d l place may s
-move-sound d l _ some s (respond a rest refusal responds) = respond-sound d l a rest refusal (sendable d l a rest refusal some responds s) s
-move-sound d l _ some s (respond_nowhere a rest refusal responds none_there) = respond_nowhere-sound d l a rest refusal (sendable d l a rest refusal some responds s) s
-move-sound d l _ some s (arrive k packet responder receipt may receives) =
-    let f : RequestFact d l.top k packet = s.requests k packet may.is in
+move-sound d l _ some s (respond a rest rejection responds) = respond-sound d l a rest rejection (sendable d l a rest rejection some responds s) s
+move-sound d l _ some s (respond_nowhere a rest rejection responds none_there) = respond_nowhere-sound d l a rest rejection (sendable d l a rest rejection some responds s) s
+move-sound d l _ some s (arrive k packet responder reception may receives) =
+    let f : RequestFact d l.request_top k packet = s.requests k packet may.is in
     let exact = request-exact d l k packet s.numbers f may.recent in
-    subst (λ w. Receives d packet w l.responder responder receipt → Sound d (after_arrival l packet w responder receipt)) (sym exact)
-    (receives-sound d l k packet responder receipt some f (let n = s.numbers in omega (arith, f.near, may.recent)) s)
+    subst (λ w. Receives d packet w l.responder responder reception → Sound d (after_arrival l packet w responder reception)) (sym exact)
+    (receives-sound d l k packet responder reception some f (let n = s.numbers in omega (arith, f.near, may.recent)) s)
     receives
 move-sound d l _ some s (take_answer k a requester completion may takes) =
-    let f : ResponseFact d l.marks l.refusals l.answered k a = s.responses k a may.is in
+    let f : ResponseFact d l.acceptances l.rejections l.response_top k a = s.responses k a may.is in
     let exact = response-exact d l k a s.numbers f may.recent in
     takes-sound d l k a requester completion f s (subst (λ w. Takes d a w l.requester requester completion) exact takes)
 move-sound d l _ some s (go_back cursor low high) = record {
-  numbers = numbers-move d l l.requester.una cursor (omega arith) s.numbers.una_answered low high s;
+  numbers = numbers-move d l l.requester.una cursor (omega arith) s.numbers.una_response_top low high s;
   requests = s.requests;
   responses = s.responses;
   queue = s.queue;
-  saved = s.saved;
-  marks = s.marks;
-  completed = s.completed;
+  results = s.results;
+  acceptances = s.acceptances;
+  completions = s.completions;
 }
-move-sound d l _ some s (forget answers saved keeps keeps_saved) = record {
+move-sound d l _ some s (forget answers results keeps keeps_results) = record {
   numbers = s.numbers;
   requests = s.requests;
   responses = s.responses;
-  queue = queue-keeps d l.marks l.refusals l.responder.expected l.answered keeps s.queue;
-  saved = λ n found has. s.saved n found (keeps-contains _ keeps_saved has);
-  marks = s.marks;
-  completed = s.completed;
+  queue = queue-keeps d l.acceptances l.rejections l.responder.expected l.response_top keeps s.queue;
+  results = λ n found has. s.results n found (keeps-contains _ keeps_results has);
+  acceptances = s.acceptances;
+  completions = s.completions;
 }
 move-sound d l _ some s other_request = record {
   numbers = s.numbers;
   requests = older;
   responses = s.responses;
   queue = s.queue;
-  saved = s.saved;
-  marks = s.marks;
-  completed = s.completed;
+  results = s.results;
+  acceptances = s.acceptances;
+  completions = s.completions;
 }
   where
-    older : (k : ℕ) (packet : Packet) → slice_get (None ∷ l.requests) k ≡ Some (Some packet) → RequestFact d l.top k packet
+    older : (k : ℕ) (packet : RequestPacket) → slice_get (None ∷ l.requests) k ≡ Some (Some packet) → RequestFact d l.request_top k packet
     older zero packet is = absurd (cc)
-    older (suc k) packet is = let old = s.requests k packet is in record { low = old.low; below = old.below; near = omega (arith, old.near); names = old.names }
+    older (suc k) packet is = let old = s.requests k packet is in record { below = old.below; near = omega (arith, old.near); number = old.number }
 move-sound d l _ some s other_response = record {
   numbers = s.numbers;
   requests = s.requests;
   responses = older;
   queue = s.queue;
-  saved = s.saved;
-  marks = s.marks;
-  completed = s.completed;
+  results = s.results;
+  acceptances = s.acceptances;
+  completions = s.completions;
 }
   where
-    older : (k : ℕ) (a : Answer) → slice_get (None ∷ l.responses) k ≡ Some (Some a) → ResponseFact d l.marks l.refusals l.answered k a
+    older : (k : ℕ) (a : Response) → slice_get (None ∷ l.responses) k ≡ Some (Some a) → ResponseFact d l.acceptances l.rejections l.response_top k a
     older zero a is = absurd (cc)
     older (suc k) a is = let old = s.responses k a is in record { below = old.below; near = omega (arith, old.near); holds = old.holds }
 move-sound d l _ some s clear_requests = record {
@@ -97,18 +97,18 @@ move-sound d l _ some s clear_requests = record {
   requests = λ k packet is. absurd (cc);
   responses = s.responses;
   queue = s.queue;
-  saved = s.saved;
-  marks = s.marks;
-  completed = s.completed;
+  results = s.results;
+  acceptances = s.acceptances;
+  completions = s.completions;
 }
 move-sound d l _ some s clear_responses = record {
   numbers = s.numbers;
   requests = s.requests;
   responses = λ k a is. absurd (cc);
   queue = s.queue;
-  saved = s.saved;
-  marks = s.marks;
-  completed = s.completed;
+  results = s.results;
+  acceptances = s.acceptances;
+  completions = s.completions;
 }
 
 pub mtu-some : (d : Direction) (l : Link) → Reached d l → 0 < d.mtu

@@ -3,22 +3,22 @@ use Rattle.std.proofs.Common.{◌≡◌, ℕ, zero, suc, ◌+◌, ◌-◌, ◌<�
 use Rattle.std.specs.Prelude.{nat_lt, if◌then◌else◌}
 use Rattle.ca_connection.specs.Limits.{request_distance}
 use Rattle.ca_connection.specs.Layout.{Direction, packets, start, bytes_left}
-use Rattle.ca_connection.specs.Link.{Answer, number_of, gain, reach, reach_of_all, Mark, Refusal, Link}
-use Rattle.ca_connection.specs.Link.Answer.{Ack, Nak, Data, Found}
+use Rattle.ca_connection.specs.Link.{Response, number_of, gain, reach, reach_of_all, Acceptance, Rejection, Link}
+use Rattle.ca_connection.specs.Link.Response.{Ack, Nak, Data, Found}
 use Rattle.ca_connection.specs.Moves.{rest_of, Responds, with_one, after_response}
 use Rattle.ca_connection.specs.Moves.Responds.{front, deny}
-use Rattle.ca_connection.specs.Invariant.{Numbers, ReadsFrom, Holds, ResponseFact, Queue, Sound}
+use Rattle.ca_connection.specs.Invariant.{NumberFact, ReadsFrom, Holds, ResponseFact, QueueFact, Sound}
 use Rattle.ca_connection.proofs.LayoutLemmas.{packets-some, packets-step, span-read, span-is_read, bytes_left-step}
 use Rattle.ca_connection.proofs.ListLemmas.{contains-head, one-grows}
 use Rattle.ca_connection.proofs.QueueLemmas.{holds-more, queue-lower, queue-low}
 
-gain-le : (a : Answer) → gain a ≤ 1
+gain-le : (a : Response) → gain a ≤ 1
 gain-le (Ack n) = omega arith
 gain-le (Nak code n) = omega arith
 gain-le (Data n left) = omega arith
 gain-le (Found n found) = omega arith
 
-reach-le : (mtu : ℕ) (a : Answer) → reach a ≤ reach_of_all mtu a
+reach-le : (mtu : ℕ) (a : Response) → reach a ≤ reach_of_all mtu a
 reach-le mtu (Ack n) = omega arith
 reach-le mtu (Nak code n) = omega arith
 reach-le mtu (Data n left) = omega (arith, packets-some mtu left)
@@ -29,108 +29,108 @@ reads-on : (d : Direction) (n left : ℕ) → 0 < d.mtu → d.mtu < left → Rea
 reads-on d n left some more r =
     let two : packets d.mtu left ≡ suc (packets d.mtu (left - d.mtu)) = packets-step d.mtu left some more in
     let all : packets d.mtu left ≡ packets d.mtu (bytes_left d r.place n) = ap (packets d.mtu) r.rest in
-    let end = span-read d r.place n some r.read r.names in
+    let end = span-read d r.place n some r.read r.number in
     let long = span-is_read d r.place n r.read in
     record {
       place = r.place;
-      names = record { from = omega (arith, r.names.from); below = omega (arith, two, all, end, long, packets-some d.mtu (left - d.mtu)) };
+      number = record { from = omega (arith, r.number.from); below = omega (arith, two, all, end, long, packets-some d.mtu (left - d.mtu)) };
       read = r.read;
-      rest = omega (arith, r.rest, bytes_left-step d r.place n r.names.from);
+      rest = omega (arith, r.rest, bytes_left-step d r.place n r.number.from);
     }
 
 -- the queue after its front was sent
-queue-front : (d : Direction) (marks : List Mark) (refusals : List Refusal) (expected low : ℕ) (a : Answer) (rest : List Answer)
+queue-front : (d : Direction) (acceptances : List Acceptance) (rejections : List Rejection) (expected low : ℕ) (a : Response) (rest : List Response)
     → 0 < d.mtu
-    → Queue d marks refusals expected low (a ∷ rest)
-    → Queue d marks refusals expected (max low (reach a)) (rest_of d.mtu a rest)
-queue-front d marks refusals expected low (Ack n) rest some q = q.2
-queue-front d marks refusals expected low (Nak code n) rest some q = queue-lower d marks refusals expected (max low n) (max low (n + 0)) rest (omega arith) q.2
-queue-front d marks refusals expected low (Found n found) rest some q = q.2
-queue-front d marks refusals expected low (Data n left) rest some q = go (nat_lt d.mtu left) refl
+    → QueueFact d acceptances rejections expected low (a ∷ rest)
+    → QueueFact d acceptances rejections expected (max low (reach a)) (rest_of d.mtu a rest)
+queue-front d acceptances rejections expected low (Ack n) rest some q = q.2
+queue-front d acceptances rejections expected low (Nak code n) rest some q = queue-lower d acceptances rejections expected (max low n) (max low (n + 0)) rest (omega arith) q.2
+queue-front d acceptances rejections expected low (Found n found) rest some q = q.2
+queue-front d acceptances rejections expected low (Data n left) rest some q = go (nat_lt d.mtu left) refl
   where
-    go : (b : Bool) → nat_lt d.mtu left ≡ b → Queue d marks refusals expected (max low (n + 1)) (if b then Data (n + 1) (left - d.mtu) ∷ rest else rest)
+    go : (b : Bool) → nat_lt d.mtu left ≡ b → QueueFact d acceptances rejections expected (max low (n + 1)) (if b then Data (n + 1) (left - d.mtu) ∷ rest else rest)
     go true more =
         let lt : d.mtu < left = ltb-true d.mtu left more in
         let two : packets d.mtu left ≡ suc (packets d.mtu (left - d.mtu)) = packets-step d.mtu left some lt in (
           omega (arith, q.0),
           reads-on d n left some lt q.1,
-          queue-lower d marks refusals expected (max low (n + packets d.mtu left)) (max (max low (n + 1)) (n + 1 + packets d.mtu (left - d.mtu))) rest (omega (arith, two)) q.2,
+          queue-lower d acceptances rejections expected (max low (n + packets d.mtu left)) (max (max low (n + 1)) (n + 1 + packets d.mtu (left - d.mtu))) rest (omega (arith, two)) q.2,
         )
-    go false last = queue-lower d marks refusals expected (max low (n + packets d.mtu left)) (max low (n + 1)) rest (omega (arith, packets-some d.mtu left)) q.2
+    go false last = queue-lower d acceptances rejections expected (max low (n + packets d.mtu left)) (max low (n + 1)) rest (omega (arith, packets-some d.mtu left)) q.2
 
 -- what a response that is sent has to be, so that the facts stay
-pub record Sendable (d : Direction) (l : Link) (a : Answer) (rest : List Answer) (refusal : Option Refusal) : Type 0 where
+pub record Sendable (d : Direction) (l : Link) (a : Response) (rest : List Response) (rejection : Option Rejection) : Type 0 where
   reaches : reach a ≤ l.responder.expected
-  near : l.answered ≤ number_of a + request_distance
-  holds : Holds d l.marks (with_one refusal l.refusals) a
-  queue : Queue d l.marks (with_one refusal l.refusals) l.responder.expected (max l.answered (reach a)) rest
+  near : l.response_top ≤ number_of a + request_distance
+  holds : Holds d l.acceptances (with_one rejection l.rejections) a
+  queue : QueueFact d l.acceptances (with_one rejection l.rejections) l.responder.expected (max l.response_top (reach a)) rest
 
-pub sendable : (d : Direction) (l : Link) (a : Answer) (rest : List Answer) (refusal : Option Refusal)
-    → 0 < d.mtu → Responds d l.responder a rest refusal → Sound d l → Sendable d l a rest refusal
+pub sendable : (d : Direction) (l : Link) (a : Response) (rest : List Response) (rejection : Option Rejection)
+    → 0 < d.mtu → Responds d l.responder a rest rejection → Sound d l → Sendable d l a rest rejection
 sendable d l a _ _ some (front _ rest is) s =
-    let q : Queue d l.marks l.refusals l.responder.expected l.answered (a ∷ rest) = subst (Queue d l.marks l.refusals l.responder.expected l.answered) is s.queue in
-    let low = queue-low d l.marks l.refusals l.responder.expected (max l.answered (reach_of_all d.mtu a)) rest q.2 in
+    let q : QueueFact d l.acceptances l.rejections l.responder.expected l.response_top (a ∷ rest) = subst (QueueFact d l.acceptances l.rejections l.responder.expected l.response_top) is s.queue in
+    let low = queue-low d l.acceptances l.rejections l.responder.expected (max l.response_top (reach_of_all d.mtu a)) rest q.2 in
     record {
       reaches = omega (arith, low, reach-le d.mtu a);
       near = q.0;
       holds = q.1;
-      queue = queue-front d l.marks l.refusals l.responder.expected l.answered a rest some q;
+      queue = queue-front d l.acceptances l.rejections l.responder.expected l.response_top a rest some q;
     }
 sendable d l _ _ _ some (deny n left place rest is names) s =
-    let q : Queue d l.marks l.refusals l.responder.expected l.answered (Data n left ∷ rest) = subst (Queue d l.marks l.refusals l.responder.expected l.answered) is s.queue in
-    let low = queue-low d l.marks l.refusals l.responder.expected (max l.answered (n + packets d.mtu left)) rest q.2 in
+    let q : QueueFact d l.acceptances l.rejections l.responder.expected l.response_top (Data n left ∷ rest) = subst (QueueFact d l.acceptances l.rejections l.responder.expected l.response_top) is s.queue in
+    let low = queue-low d l.acceptances l.rejections l.responder.expected (max l.response_top (n + packets d.mtu left)) rest q.2 in
     record {
       reaches = omega (arith, low);
       near = q.0;
-      holds = record { place = place; names = names; refusal = contains-head _ l.refusals };
+      holds = record { place = place; number = names; rejection = contains-head _ l.rejections };
       queue = omega (arith, low);
     }
 
-respond-numbers : (d : Direction) (l : Link) (a : Answer) → reach a ≤ l.responder.expected → Sound d l
-    → Numbers (start d) l.requester.una l.requester.cursor (max l.answered (reach a)) l.responder.expected l.top
+respond-numbers : (d : Direction) (l : Link) (a : Response) → reach a ≤ l.responder.expected → Sound d l
+    → NumberFact (start d) l.requester.una l.requester.cursor (max l.response_top (reach a)) l.responder.expected l.request_top
 respond-numbers d l a reaches s = let n = s.numbers in record {
   low = n.low;
   una_cursor = n.una_cursor;
-  cursor_top = n.cursor_top;
-  una_answered = omega arith;
-  answered_expected = omega arith;
-  expected_top = n.expected_top;
-  top_una = n.top_una;
+  cursor_request_top = n.cursor_request_top;
+  una_response_top = omega arith;
+  response_top_expected = omega arith;
+  expected_request_top = n.expected_request_top;
+  request_top_una = n.request_top_una;
 }
 
-pub respond-sound : (d : Direction) (l : Link) (a : Answer) (rest : List Answer) (refusal : Option Refusal)
-    → Sendable d l a rest refusal → Sound d l → Sound d (after_response l a rest refusal (Some a ∷ l.responses))
-respond-sound d l a rest refusal can s = record {
+pub respond-sound : (d : Direction) (l : Link) (a : Response) (rest : List Response) (rejection : Option Rejection)
+    → Sendable d l a rest rejection → Sound d l → Sound d (after_response l a rest rejection (Some a ∷ l.responses))
+respond-sound d l a rest rejection can s = record {
   numbers = respond-numbers d l a can.reaches s;
   requests = s.requests;
   responses = responses;
   queue = can.queue;
-  saved = s.saved;
-  marks = s.marks;
-  completed = s.completed;
+  results = s.results;
+  acceptances = s.acceptances;
+  completions = s.completions;
 }
   where
-    new_fact : ResponseFact d l.marks (with_one refusal l.refusals) (max l.answered (reach a)) 0 a
+    new_fact : ResponseFact d l.acceptances (with_one rejection l.rejections) (max l.response_top (reach a)) 0 a
     new_fact = record { below = omega arith; near = omega (arith, can.near, gain-le a); holds = can.holds }
 
-    responses : (k : ℕ) (b : Answer) → slice_get (Some a ∷ l.responses) k ≡ Some (Some b) → ResponseFact d l.marks (with_one refusal l.refusals) (max l.answered (reach a)) k b
+    responses : (k : ℕ) (b : Response) → slice_get (Some a ∷ l.responses) k ≡ Some (Some b) → ResponseFact d l.acceptances (with_one rejection l.rejections) (max l.response_top (reach a)) k b
     responses zero b is =
         let same : a ≡ b = cc in
-        subst (ResponseFact d l.marks (with_one refusal l.refusals) (max l.answered (reach a)) 0) same new_fact
+        subst (ResponseFact d l.acceptances (with_one rejection l.rejections) (max l.response_top (reach a)) 0) same new_fact
     responses (suc k) b is = let old = s.responses k b is in let n = s.numbers in record {
       below = omega arith;
       near = omega (arith, can.reaches);
-      holds = holds-more d l.marks l.marks l.refusals (with_one refusal l.refusals) (λ m has. has) (one-grows refusal l.refusals) b old.holds;
+      holds = holds-more d l.acceptances l.acceptances l.rejections (with_one rejection l.rejections) (λ m has. has) (one-grows rejection l.rejections) b old.holds;
     }
 
-pub respond_nowhere-sound : (d : Direction) (l : Link) (a : Answer) (rest : List Answer) (refusal : Option Refusal)
-    → Sendable d l a rest refusal → Sound d l → Sound d (after_response l a rest refusal [])
-respond_nowhere-sound d l a rest refusal can s = record {
+pub respond_nowhere-sound : (d : Direction) (l : Link) (a : Response) (rest : List Response) (rejection : Option Rejection)
+    → Sendable d l a rest rejection → Sound d l → Sound d (after_response l a rest rejection [])
+respond_nowhere-sound d l a rest rejection can s = record {
   numbers = respond-numbers d l a can.reaches s;
   requests = s.requests;
   responses = λ k b is. absurd (cc);
   queue = can.queue;
-  saved = s.saved;
-  marks = s.marks;
-  completed = s.completed;
+  results = s.results;
+  acceptances = s.acceptances;
+  completions = s.completions;
 }

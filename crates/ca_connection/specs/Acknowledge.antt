@@ -1,10 +1,10 @@
 -- How far an acknowledgement moves the requester's first unacknowledged number. Contracts cite it.
 use Rattle.std.specs.Prelude.{◌≡◌, ℕ, zero, suc, ◌+◌, ◌<◌, ◌≤◌, max, true, false, ◌&&◌, nat_lt, if◌then◌else◌, Option, None, Some}
-use Rattle.ca_connection.specs.Layout.{Direction, psns, Names, is_answered}
+use Rattle.ca_connection.specs.Layout.{Direction, psns, HasNumber, is_answered}
 
 -- No number from `una` on and below `next` is a READ's or an atomic's.
 abbrev pub PassesNone : Direction → ℕ → ℕ → Type 0
-PassesNone d una next = (place n : ℕ) → una ≤ n → n < next → Names d place n → is_answered (d.work place) ≡ false
+PassesNone d una next = (place n : ℕ) → una ≤ n → n < next → HasNumber d place n → is_answered (d.work place) ≡ false
 
 -- The first number of a READ or an atomic from `una` on and up to `upto`, found request by request: of so many requests
 -- from `place` on, of which the first has the numbers from `at` on.
@@ -21,7 +21,7 @@ pub record IsFirstUnanswered (d : Direction) (una upto m : ℕ) : Type 0 where
   pub within : m ≤ upto
   pub before : PassesNone d una m
   pub place : ℕ
-  pub names : Names d place m
+  pub names : HasNumber d place m
   pub answered : is_answered (d.work place) ≡ true
 
 -- What an acknowledgement up to `upto` meets: nothing that is answered, or a first such number.

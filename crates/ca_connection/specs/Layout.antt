@@ -74,7 +74,7 @@ first d zero = start d
 first d (suc place) = first d place + psns d.mtu (d.work place)
 
 -- the request at this place has the number n
-pub record Names (d : Direction) (place n : ℕ) : Type 0 where
+pub record HasNumber (d : Direction) (place n : ℕ) : Type 0 where
   pub from : first d place ≤ n
   pub below : n < first d (suc place)
 

@@ -3,8 +3,8 @@ use Rattle.std.specs.Prelude.{ℕ, ◌+◌, ◌-◌, ◌*◌}
 use Rattle.ca_base.specs.declared.limits.TheConstants.{MAX_MESSAGE_PACKETS, MAX_OUTSTANDING_PSNS, MAX_KEPT_ENVELOPES}
 
 -- how many numbers a requester has outstanding at most
-abbrev pub window : ℕ
-window = MAX_OUTSTANDING_PSNS
+abbrev pub most_outstanding : ℕ
+most_outstanding = MAX_OUTSTANDING_PSNS
 
 -- how many numbers a packet takes at most: those of a READ of the longest message
 abbrev pub greatest_span : ℕ
@@ -20,8 +20,8 @@ kept_responses = MAX_KEPT_ENVELOPES
 
 -- how far below the expected number a request can be that is delivered: 1,052,672
 abbrev pub request_distance : ℕ
-request_distance = window + greatest_span * (kept_requests - 1)
+request_distance = most_outstanding + greatest_span * (kept_requests - 1)
 
 -- how far below `una` a response can be that is delivered: 3,141,632
 abbrev pub response_distance : ℕ
-response_distance = request_distance + window * (kept_responses - 1)
+response_distance = request_distance + most_outstanding * (kept_responses - 1)

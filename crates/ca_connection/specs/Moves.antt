@@ -4,12 +4,12 @@ use Rattle.std.specs.Prelude.{◌≡◌, ℕ, suc, ◌+◌, ◌-◌, ◌%◌, �
 use Rattle.std.specs.List.{Contains}
 use Rattle.ca_base.specs.declared.limits.TheConstants.{MIN_PATH_MTU}
 use Rattle.ca_psn.specs.Psn.{widened}
-use Rattle.ca_connection.specs.Limits.{window, greatest_span, kept_requests, kept_responses}
-use Rattle.ca_connection.specs.Layout.{Direction, is_data, is_read, is_atomic, Names, bytes_left, span}
+use Rattle.ca_connection.specs.Limits.{most_outstanding, greatest_span, kept_requests, kept_responses}
+use Rattle.ca_connection.specs.Layout.{Direction, is_data, is_read, is_atomic, HasNumber, bytes_left, span}
 use Rattle.ca_connection.specs.Acknowledge.{PassesNone}
-use Rattle.ca_connection.specs.Link.{Packet, Code, Answer, number_of, gain, reach, Saved, Mark, Refusal, Completion, Requester, Responder, Link, opening}
-use Rattle.ca_connection.specs.Link.Code.{SequenceError, RemoteAccess}
-use Rattle.ca_connection.specs.Link.Answer.{Ack, Nak, Data, Found}
+use Rattle.ca_connection.specs.Link.{RequestPacket, NakCode, Response, number_of, gain, reach, SavedResult, Acceptance, Rejection, AtomicCompletion, Requester, Responder, Link, opening}
+use Rattle.ca_connection.specs.Link.NakCode.{SequenceError, RemoteAccess}
+use Rattle.ca_connection.specs.Link.Response.{Ack, Nak, Data, Found}
 
 -- what is kept of a list: some of its items, in their order
 pub data Keeps {A : Type 0} : List A → List A → Type 0 where
@@ -17,89 +17,89 @@ pub data Keeps {A : Type 0} : List A → List A → Type 0 where
   keep : {x : A} {xs ys : List A} → Keeps xs ys → Keeps (x ∷ xs) (x ∷ ys)
   leave : {x : A} {xs ys : List A} → Keeps xs ys → Keeps (x ∷ xs) ys
 
--- what came of a packet that arrived: nothing that is marked, a refusal, or that it was accepted, with what it found
-pub data Receipt : Type 0 where
-  Unmarked : Receipt
-  Refused : Code → Receipt
-  Accepted : ℕ → Receipt
+-- what came of a packet that arrived: nothing that is marked, a rejection, or that it was accepted, with what it found
+pub data Reception : Type 0 where
+  Neither : Reception
+  Rejected : NakCode → Reception
+  Accepted : ℕ → Reception
 
 -- a responder with one more item at the end of what it keeps of its response queue
-abbrev pub with_answer : Responder → List Answer → Answer → Responder
-with_answer r kept a = record { expected = r.expected; answers = kept ++ (a ∷ []); saved = r.saved }
+abbrev pub with_response : Responder → List Response → Response → Responder
+with_response r kept a = record { expected = r.expected; queue = kept ++ (a ∷ []); results = r.results }
 
 -- a responder that has accepted all numbers below `next`, likewise
-abbrev pub past : ℕ → List Saved → List Answer → Answer → Responder
-past next saved kept a = record { expected = next; answers = kept ++ (a ∷ []); saved = saved }
+abbrev pub responder_at : ℕ → List SavedResult → List Response → Response → Responder
+responder_at next results kept a = record { expected = next; queue = kept ++ (a ∷ []); results = results }
 
 -- What the responder makes of a packet, where w is the number that it takes the packet's PSN for. Only a packet that is
 -- expected is accepted. One from before is answered again: a SEND or WRITE by an acknowledgement of all that was accepted,
 -- a READ by reading again, an atomic by its saved result alone.
-pub data Receives (d : Direction) (packet : Packet) (w : ℕ) (r : Responder) : Responder → Receipt → Type 0 where
-  drop : Receives d packet w r r Unmarked
-  sequence_error : {kept : List Answer}
+pub data Receives (d : Direction) (packet : RequestPacket) (w : ℕ) (r : Responder) : Responder → Reception → Type 0 where
+  drop : Receives d packet w r r Neither
+  sequence_error : {kept : List Response}
       → r.expected < w
-      → Keeps r.answers kept
-      → Receives d packet w r (with_answer r kept (Nak SequenceError r.expected)) Unmarked
-  write_again : {kept : List Answer} (last : ℕ)
+      → Keeps r.queue kept
+      → Receives d packet w r (with_response r kept (Nak SequenceError r.expected)) Neither
+  write_again : {kept : List Response} (last : ℕ)
       → w < r.expected
       → suc last ≡ r.expected
-      → Keeps r.answers kept
-      → Receives d packet w r (with_answer r kept (Ack last)) Unmarked
-  read_again : {kept : List Answer}
+      → Keeps r.queue kept
+      → Receives d packet w r (with_response r kept (Ack last)) Neither
+  read_again : {kept : List Response}
       → is_read (d.work packet.place) ≡ true
       → w + span d packet.place packet.number ≤ r.expected
-      → Keeps r.answers kept
-      → Receives d packet w r (with_answer r kept (Data w (bytes_left d packet.place packet.number))) Unmarked
-  atomic_again : {kept : List Answer} (found : ℕ)
-      → Contains r.saved (record { number = w; found = found })
-      → Keeps r.answers kept
-      → Receives d packet w r (with_answer r kept (Found w found)) Unmarked
-  refuse : {kept : List Answer} (code : Code)
+      → Keeps r.queue kept
+      → Receives d packet w r (with_response r kept (Data w (bytes_left d packet.place packet.number))) Neither
+  atomic_again : {kept : List Response} (found : ℕ)
+      → Contains r.results (record { number = w; found = found })
+      → Keeps r.queue kept
+      → Receives d packet w r (with_response r kept (Found w found)) Neither
+  refuse : {kept : List Response} (code : NakCode)
       → w ≡ r.expected
-      → Keeps r.answers kept
-      → Receives d packet w r (with_answer r kept (Nak code w)) (Refused code)
-  write : {kept : List Answer}
-      → w ≡ r.expected
-      → is_data (d.work packet.place) ≡ true
-      → Keeps r.answers kept
-      → Receives d packet w r (record { expected = w + 1; answers = kept; saved = r.saved }) (Accepted 0)
-  write_and_acknowledge : {kept : List Answer}
+      → Keeps r.queue kept
+      → Receives d packet w r (with_response r kept (Nak code w)) (Rejected code)
+  write : {kept : List Response}
       → w ≡ r.expected
       → is_data (d.work packet.place) ≡ true
-      → Keeps r.answers kept
-      → Receives d packet w r (past (w + 1) r.saved kept (Ack w)) (Accepted 0)
-  read : {kept : List Answer}
+      → Keeps r.queue kept
+      → Receives d packet w r (record { expected = w + 1; queue = kept; results = r.results }) (Accepted 0)
+  write_and_acknowledge : {kept : List Response}
+      → w ≡ r.expected
+      → is_data (d.work packet.place) ≡ true
+      → Keeps r.queue kept
+      → Receives d packet w r (responder_at (w + 1) r.results kept (Ack w)) (Accepted 0)
+  read : {kept : List Response}
       → w ≡ r.expected
       → is_read (d.work packet.place) ≡ true
-      → Keeps r.answers kept
-      → Receives d packet w r (past (w + span d packet.place packet.number) r.saved kept (Data w (bytes_left d packet.place packet.number))) (Accepted 0)
-  atomic : {kept : List Answer} {saved : List Saved} (found : ℕ) → w ≡ r.expected
+      → Keeps r.queue kept
+      → Receives d packet w r (responder_at (w + span d packet.place packet.number) r.results kept (Data w (bytes_left d packet.place packet.number))) (Accepted 0)
+  atomic : {kept : List Response} {results : List SavedResult} (found : ℕ) → w ≡ r.expected
       → is_atomic (d.work packet.place) ≡ true
-      → Keeps r.answers kept
-      → Keeps r.saved saved
-      → Receives d packet w r (past (w + 1) (record { number = w; found = found } ∷ saved) kept (Found w found)) (Accepted found)
+      → Keeps r.queue kept
+      → Keeps r.results results
+      → Receives d packet w r (responder_at (w + 1) (record { number = w; found = found } ∷ results) kept (Found w found)) (Accepted found)
 
--- What a turn of the responder sends: the item at the front of its queue, of a READ the next packet; or the refusal of a READ
+-- What a turn of the responder sends: the item at the front of its queue, of a READ the next packet; or the rejection of a READ
 -- whose bytes may not be read any more, which empties the queue.
-abbrev pub rest_of : ℕ → Answer → List Answer → List Answer
+abbrev pub rest_of : ℕ → Response → List Response → List Response
 rest_of mtu (Ack n) rest = rest
 rest_of mtu (Nak code n) rest = rest
 rest_of mtu (Data n left) rest = if nat_lt mtu left then Data (n + 1) (left - mtu) ∷ rest else rest
 rest_of mtu (Found n value) rest = rest
 
-pub data Responds (d : Direction) (r : Responder) : Answer → List Answer → Option Refusal → Type 0 where
-  front : (a : Answer) (rest : List Answer)
-      → r.answers ≡ a ∷ rest
+pub data Responds (d : Direction) (r : Responder) : Response → List Response → Option Rejection → Type 0 where
+  front : (a : Response) (rest : List Response)
+      → r.queue ≡ a ∷ rest
       → Responds d r a (rest_of d.mtu a rest) None
-  deny : (n left place : ℕ) (rest : List Answer)
-      → r.answers ≡ Data n left ∷ rest
-      → Names d place n
+  deny : (n left place : ℕ) (rest : List Response)
+      → r.queue ≡ Data n left ∷ rest
+      → HasNumber d place n
       → Responds d r (Nak RemoteAccess n) [] (Some (record { number = n; place = place; code = RemoteAccess }))
 
--- What the requester makes of a response, where w is the number that it takes the response's PSN for. It moves `una` on past
--- requests that an acknowledgement ends, and past a READ's number or an atomic by an answer of that one alone. Its cursor
+-- What the requester makes of a response, where w is the number that it takes the response's PSN for. It moves `una` on responder_at
+-- requests that an acknowledgement ends, and responder_at a READ's number or an atomic by an answer of that one alone. Its cursor
 -- may go back at the same time, and never below `una`.
-pub data Takes (d : Direction) (a : Answer) (w : ℕ) (r : Requester) : Requester → Option Completion → Type 0 where
+pub data Takes (d : Direction) (a : Response) (w : ℕ) (r : Requester) : Requester → Option AtomicCompletion → Type 0 where
   drop : Takes d a w r r None
   acknowledge : (next cursor : ℕ)
       → r.una ≤ next
@@ -110,7 +110,7 @@ pub data Takes (d : Direction) (a : Answer) (w : ℕ) (r : Requester) : Requeste
       → Takes d a w r (record { una = next; cursor = cursor }) None
   read : (n left place : ℕ)
       → a ≡ Data n left
-      → Names d place w
+      → HasNumber d place w
       → is_read (d.work place) ≡ true
       → r.una ≤ w
       → w < r.cursor
@@ -118,7 +118,7 @@ pub data Takes (d : Direction) (a : Answer) (w : ℕ) (r : Requester) : Requeste
       → Takes d a w r (record { una = w + 1; cursor = r.cursor }) None
   atomic : (n found place : ℕ)
       → a ≡ Found n found
-      → Names d place w
+      → HasNumber d place w
       → is_atomic (d.work place) ≡ true
       → r.una ≤ w
       → w < r.cursor
@@ -126,59 +126,59 @@ pub data Takes (d : Direction) (a : Answer) (w : ℕ) (r : Requester) : Requeste
       → Takes d a w r (record { una = w + 1; cursor = r.cursor }) (Some (record { place = place; found = found }))
 
 -- the histories after an event
-abbrev pub marks_after : ℕ → ℕ → Receipt → List Mark → List Mark
-marks_after w place Unmarked marks = marks
-marks_after w place (Refused code) marks = marks
-marks_after w place (Accepted found) marks = record { number = w; place = place; found = found } ∷ marks
+abbrev pub acceptances_after : ℕ → ℕ → Reception → List Acceptance → List Acceptance
+acceptances_after w place Neither acceptances = acceptances
+acceptances_after w place (Rejected code) acceptances = acceptances
+acceptances_after w place (Accepted found) acceptances = record { number = w; place = place; found = found } ∷ acceptances
 
-abbrev pub refusals_after : ℕ → ℕ → Receipt → List Refusal → List Refusal
-refusals_after w place Unmarked refusals = refusals
-refusals_after w place (Refused code) refusals = record { number = w; place = place; code = code } ∷ refusals
-refusals_after w place (Accepted found) refusals = refusals
+abbrev pub rejections_after : ℕ → ℕ → Reception → List Rejection → List Rejection
+rejections_after w place Neither rejections = rejections
+rejections_after w place (Rejected code) rejections = record { number = w; place = place; code = code } ∷ rejections
+rejections_after w place (Accepted found) rejections = rejections
 
 abbrev pub with_one : {A : Type 0} → Option A → List A → List A
 with_one None xs = xs
 with_one (Some x) xs = x ∷ xs
 
 -- the link after the requester sent the packet of this request at its cursor, with this mailbox at the responder
-abbrev pub after_request : Direction → ℕ → Link → List (Option Packet) → Link
+abbrev pub after_request : Direction → ℕ → Link → List (Option RequestPacket) → Link
 after_request d place l requests = record l {
   requester = record { una = l.requester.una; cursor = l.requester.cursor + span d place l.requester.cursor };
   requests = requests;
-  top = max l.top (l.requester.cursor + span d place l.requester.cursor);
+  request_top = max l.request_top (l.requester.cursor + span d place l.requester.cursor);
 }
 
 -- the link after the responder sent a response, with this mailbox at the requester
-abbrev pub after_response : Link → Answer → List Answer → Option Refusal → List (Option Answer) → Link
-after_response l a answers refusal responses = record l {
-  responder = record { expected = l.responder.expected; answers = answers; saved = l.responder.saved };
+abbrev pub after_response : Link → Response → List Response → Option Rejection → List (Option Response) → Link
+after_response l a queue rejection responses = record l {
+  responder = record { expected = l.responder.expected; queue = queue; results = l.responder.results };
   responses = responses;
-  answered = max l.answered (reach a);
-  refusals = with_one refusal l.refusals;
+  response_top = max l.response_top (reach a);
+  rejections = with_one rejection l.rejections;
 }
 
 -- the link after a packet arrived that the responder takes for number w
-abbrev pub after_arrival : Link → Packet → ℕ → Responder → Receipt → Link
-after_arrival l packet w responder receipt = record l {
+abbrev pub after_arrival : Link → RequestPacket → ℕ → Responder → Reception → Link
+after_arrival l packet w responder reception = record l {
   responder = responder;
-  marks = marks_after w packet.place receipt l.marks;
-  refusals = refusals_after w packet.place receipt l.refusals;
+  acceptances = acceptances_after w packet.place reception l.acceptances;
+  rejections = rejections_after w packet.place reception l.rejections;
 }
 
 -- The request's envelope is in the responder's mailbox with k later ones, and may be delivered.
-pub record MayArrive (l : Link) (k : ℕ) (packet : Packet) : Type 0 where
+pub record MayArrive (l : Link) (k : ℕ) (packet : RequestPacket) : Type 0 where
   pub is : slice_get l.requests k ≡ Some (Some packet)
   pub recent : k < kept_requests
 
 -- The response's envelope is in the requester's mailbox with k later ones, and may be delivered.
-pub record MayBeTaken (l : Link) (k : ℕ) (a : Answer) : Type 0 where
+pub record MayBeTaken (l : Link) (k : ℕ) (a : Response) : Type 0 where
   pub is : slice_get l.responses k ≡ Some (Some a)
   pub recent : k < kept_responses
 
--- The request at this place has the number at the cursor, and its packet leaves no more numbers outstanding than the window has.
+-- The request at this place has the number at the cursor, and its packet leaves no more numbers outstanding than the most_outstanding has.
 pub record MaySend (d : Direction) (l : Link) (place : ℕ) : Type 0 where
-  pub names : Names d place l.requester.cursor
-  pub room : l.requester.cursor + span d place l.requester.cursor ≤ l.requester.una + window
+  pub names : HasNumber d place l.requester.cursor
+  pub room : l.requester.cursor + span d place l.requester.cursor ≤ l.requester.una + most_outstanding
 
 -- The moves of a link. `send_nowhere` and `respond_nowhere` are those where no path leads to the other side: nothing of this
 -- side is in the mailbox there, and no envelope is made. A kept envelope may be delivered in any order and any number of
@@ -194,18 +194,18 @@ pub data Move (d : Direction) (l : Link) : Link → Type 0 where
       → MaySend d l place
       → l.requests ≡ []
       → Move d l (after_request d place l [])
-  respond : (a : Answer) (rest : List Answer) (refusal : Option Refusal)
-      → Responds d l.responder a rest refusal
-      → Move d l (after_response l a rest refusal (Some a ∷ l.responses))
-  respond_nowhere : (a : Answer) (rest : List Answer) (refusal : Option Refusal)
-      → Responds d l.responder a rest refusal
+  respond : (a : Response) (rest : List Response) (rejection : Option Rejection)
+      → Responds d l.responder a rest rejection
+      → Move d l (after_response l a rest rejection (Some a ∷ l.responses))
+  respond_nowhere : (a : Response) (rest : List Response) (rejection : Option Rejection)
+      → Responds d l.responder a rest rejection
       → l.responses ≡ []
-      → Move d l (after_response l a rest refusal [])
-  arrive : (k : ℕ) (packet : Packet) (responder : Responder) (receipt : Receipt)
+      → Move d l (after_response l a rest rejection [])
+  arrive : (k : ℕ) (packet : RequestPacket) (responder : Responder) (reception : Reception)
       → MayArrive l k packet
-      → Receives d packet (widened l.responder.expected (packet.number % 2 ^ 24)) l.responder responder receipt
-      → Move d l (after_arrival l packet (widened l.responder.expected (packet.number % 2 ^ 24)) responder receipt)
-  take : (k : ℕ) (a : Answer) (requester : Requester) (completion : Option Completion)
+      → Receives d packet (widened l.responder.expected (packet.number % 2 ^ 24)) l.responder responder reception
+      → Move d l (after_arrival l packet (widened l.responder.expected (packet.number % 2 ^ 24)) responder reception)
+  take : (k : ℕ) (a : Response) (requester : Requester) (completion : Option AtomicCompletion)
       → MayBeTaken l k a
       → Takes d a (widened l.requester.una (number_of a % 2 ^ 24)) l.requester requester completion
       → Move d l (record l { requester = requester; completions = with_one completion l.completions })
@@ -213,10 +213,10 @@ pub data Move (d : Direction) (l : Link) : Link → Type 0 where
       → l.requester.una ≤ cursor
       → cursor ≤ l.requester.cursor
       → Move d l (record l { requester = record { una = l.requester.una; cursor = cursor } })
-  forget : (answers : List Answer) (saved : List Saved)
-      → Keeps l.responder.answers answers
-      → Keeps l.responder.saved saved
-      → Move d l (record l { responder = record { expected = l.responder.expected; answers = answers; saved = saved } })
+  forget : (queue : List Response) (results : List SavedResult)
+      → Keeps l.responder.queue queue
+      → Keeps l.responder.results results
+      → Move d l (record l { responder = record { expected = l.responder.expected; queue = queue; results = results } })
   other_request : Move d l (record l { requests = None ∷ l.requests })
   other_response : Move d l (record l { responses = None ∷ l.responses })
   clear_requests : Move d l (record l { requests = [] })

@@ -3,43 +3,43 @@ use Rattle.std.specs.Prelude.{◌≡◌, ℕ, suc, ◌+◌, ◌%◌, ◌^◌, �
 use Rattle.std.specs.List.{count_by}
 use Rattle.ca_psn.specs.Psn.{widened}
 use Rattle.ca_connection.specs.Layout.{Direction, is_read, is_atomic, first, bytes_left, span}
-use Rattle.ca_connection.specs.Link.{Packet, Answer, number_of, Mark, Link}
-use Rattle.ca_connection.specs.Link.Answer.{Ack, Nak, Data, Found}
-use Rattle.ca_connection.specs.Limits.{window, request_distance, response_distance}
+use Rattle.ca_connection.specs.Link.{RequestPacket, Response, number_of, Acceptance, Link}
+use Rattle.ca_connection.specs.Link.Response.{Ack, Nak, Data, Found}
+use Rattle.ca_connection.specs.Limits.{most_outstanding, request_distance, response_distance}
 
--- how many marks stem from the packets with this number
-abbrev pub marks_of_packet : ℕ → List Mark → ℕ
-marks_of_packet n marks = count_by (λ m. m.number == n) marks
+-- how many acceptances stem from the packets with this number
+abbrev pub acceptances_of_packet : ℕ → List Acceptance → ℕ
+acceptances_of_packet n acceptances = count_by (λ m. m.number == n) acceptances
 
--- how many marks stem from the packets of the request at this place
-abbrev pub marks_of_request : ℕ → List Mark → ℕ
-marks_of_request place marks = count_by (λ m. m.place == place) marks
+-- how many acceptances stem from the packets of the request at this place
+abbrev pub acceptances_of_request : ℕ → List Acceptance → ℕ
+acceptances_of_request place acceptances = count_by (λ m. m.place == place) acceptances
 
--- the packet of the mark took the number n
-abbrev pub covers : Direction → ℕ → Mark → Bool
+-- the packet of the acceptance took the number n
+abbrev pub covers : Direction → ℕ → Acceptance → Bool
 covers d n m = nat_le m.number n && nat_lt n (m.number + span d m.place m.number)
 
 -- all numbers of the request are acknowledged or answered
 abbrev pub HasSucceeded : Direction → Link → ℕ → Type 0
 HasSucceeded d l place = first d (suc place) ≤ l.requester.una
 
--- The number of a request that is delivered lies at most so far below the expected one, less than the window above it; and its
+-- The number of a request that is delivered lies at most so far below the expected one, less than the most_outstanding above it; and its
 -- PSN alone tells it.
-pub record RequestIsNear (l : Link) (packet : Packet) : Type 0 where
+pub record RequestIsNear (l : Link) (packet : RequestPacket) : Type 0 where
   pub low : l.responder.expected ≤ packet.number + request_distance
-  pub high : packet.number < l.responder.expected + window
+  pub high : packet.number < l.responder.expected + most_outstanding
   pub exact : widened l.responder.expected (packet.number % 2 ^ 24) ≡ packet.number
 
--- The number of a response that is delivered lies at most so far below `una`, at most the window above it; and its PSN alone
+-- The number of a response that is delivered lies at most so far below `una`, at most the most_outstanding above it; and its PSN alone
 -- tells it.
-pub record ResponseIsNear (l : Link) (a : Answer) : Type 0 where
+pub record ResponseIsNear (l : Link) (a : Response) : Type 0 where
   pub low : l.requester.una ≤ number_of a + response_distance
-  pub high : number_of a ≤ l.requester.una + window
+  pub high : number_of a ≤ l.requester.una + most_outstanding
   pub exact : widened l.requester.una (number_of a % 2 ^ 24) ≡ number_of a
 
 -- A response fits the request that has its number: a READ response is of a READ, its payload is as long as the segment there,
 -- and it is a last one exactly at the READ's last number; an ATOMIC Acknowledge is of an atomic.
-abbrev pub Fits : Direction → ℕ → Answer → Type 0
+abbrev pub Fits : Direction → ℕ → Response → Type 0
 Fits d place (Ack n) = Unit {0}
 Fits d place (Nak code n) = Unit {0}
 Fits d place (Data n left) =

@@ -17,13 +17,14 @@ mod numbers;
 mod once;
 
 pub use bounds::{numbers_form_a_chain, request_is_near, response_is_near};
-pub use causes::{nak_has_its_refusal, response_fits_its_request};
+pub use causes::{nak_has_its_rejection, response_fits_its_request};
 pub use invariant::{link_is_sound, move_keeps_sound, opening_is_sound};
 pub use numbers::{
     acknowledgement_stops_at_first_unanswered, longest_message, number_has_a_request,
     number_has_one_request, number_of_psn, packet_ends_within_its_request, read_asks_for_the_rest,
 };
 pub use once::{
-    atomic_acts_once, atomic_that_succeeded_completed, completed_atomic_acted_once,
-    number_is_accepted_once, packet_acts_once, packet_of_success_acted_once,
+    acceptance_is_of_its_request, atomic_acts_once, atomic_that_succeeded_completed,
+    completed_atomic_acted_once, number_is_accepted_once, packet_acts_once,
+    packet_of_success_acted_once,
 };
