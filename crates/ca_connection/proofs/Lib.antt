@@ -1,6 +1,7 @@
 pub mod AcceptanceLemmas
 pub mod AcknowledgeLemmas
 pub mod CountLemmas
+pub mod FarLink
 pub mod LayoutLemmas
 pub mod ListLemmas
 pub mod MoveLemmas

@@ -15,7 +15,7 @@ use Rattle.ca_connection.specs.Moves.Reached.{begin, move}
 use Rattle.ca_connection.specs.Limits.{request_distance, response_distance}
 
 -- the two sides, their mailboxes, and what has happened, where nothing was refused
-abbrev link : ℕ → ℕ → ℕ → List Response → List SavedResult → List (Option RequestPacket) → List (Option Response) → ℕ → ℕ → List Acceptance → List AtomicCompletion → Link
+abbrev pub link : ℕ → ℕ → ℕ → List Response → List SavedResult → List (Option RequestPacket) → List (Option Response) → ℕ → ℕ → List Acceptance → List AtomicCompletion → Link
 link una cursor expected queue results requests responses request_top response_top acceptances completions = record {
   requester = record { una = una; cursor = cursor };
   responder = record { expected = expected; queue = queue; results = results };
@@ -28,7 +28,7 @@ link una cursor expected queue results requests responses request_top response_t
   completions = completions;
 }
 
-abbrev packet : ℕ → ℕ → Option RequestPacket
+abbrev pub packet : ℕ → ℕ → Option RequestPacket
 packet number place = Some (record { number = number; place = place })
 
 abbrev acceptance : ℕ → ℕ → ℕ → Acceptance
