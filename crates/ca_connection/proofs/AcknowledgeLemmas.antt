@@ -69,7 +69,7 @@ walk-finds d (suc count) place una upto end before =
           within = le;
           before = λ q n low high names. before q n low (omega arith) names;
           place = place;
-          names = record { from = omega arith; below = omega (arith, answered-some d.mtu (d.work place) answer) };
+          number = record { from = omega arith; below = omega (arith, answered-some d.mtu (d.work place) answer) };
           answered = answer;
         }
 

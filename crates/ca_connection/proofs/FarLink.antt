@@ -152,7 +152,7 @@ one_read p a = let r = all_responses p (requests (suc p)) a.responses new accept
     sent =
         subst (λ c. Reached reads (link (at p) c (at p) [] [] (requests (suc p)) a.responses (at (suc p)) (at p) a.acceptances [])) end
         (subst (λ t. Reached reads (link (at p) (at p + span reads p (at p)) (at p) [] [] (requests (suc p)) a.responses t (at p) a.acceptances [])) top
-        (move a.reached (send p (record { names = number; room = omega (arith, long) }) (omega (arith, long)))))
+        (move a.reached (send p (record { number = number; room = omega (arith, long) }) (omega (arith, long)))))
 
     accepted : Reached reads (link (at p) (at (suc p)) (at (suc p)) (Data (at p) 1048576 ∷ []) [] (requests (suc p)) a.responses (at (suc p)) (at p) (record { number = at p; place = p; found = 0 } ∷ a.acceptances) [])
     accepted =

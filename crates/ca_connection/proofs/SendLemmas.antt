@@ -52,7 +52,7 @@ send-sound d l place may size s = record {
 }
   where
     new_fact : RequestFact d (max l.request_top (l.requester.cursor + span d place l.requester.cursor)) 0 (record { number = l.requester.cursor; place = place })
-    new_fact = let n = s.numbers in record { number = may.names; below = omega arith; near = omega arith }
+    new_fact = let n = s.numbers in record { number = may.number; below = omega arith; near = omega arith }
 
     requests : (k : ℕ) (packet : RequestPacket)
         → slice_get (Some (record { number = l.requester.cursor; place = place }) ∷ l.requests) k ≡ Some (Some packet)

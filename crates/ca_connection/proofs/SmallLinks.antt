@@ -12,7 +12,7 @@ use Rattle.ca_connection.specs.Moves.Responds.{front}
 use Rattle.ca_connection.specs.Moves.Takes.{acknowledge, read as take_bytes, atomic as complete}
 use Rattle.ca_connection.specs.Moves.Move.{send, respond, arrive, take, go_back}
 use Rattle.ca_connection.specs.Moves.Reached.{begin, move}
-use Rattle.ca_connection.specs.Limits.{request_distance, response_distance}
+use Rattle.ca_connection.specs.Limits.{most_outstanding, greatest_span, request_distance, response_distance}
 
 -- the two sides, their mailboxes, and what has happened, where nothing was refused
 abbrev pub link : ℕ → ℕ → ℕ → List Response → List SavedResult → List (Option RequestPacket) → List (Option Response) → ℕ → ℕ → List Acceptance → List AtomicCompletion → Link
@@ -57,7 +57,7 @@ lost_answer =
     let named : HasNumber one_atomic 0 s = record { from = omega arith; below = omega arith } in
     let opened : Reached one_atomic (link s s s [] [] [] [] s s [] []) = begin (omega arith) in
     let sent : Reached one_atomic (link s (s + 1) s [] [] (packet s 0 ∷ []) [] (s + 1) s [] []) =
-    move opened (send 0 (record { names = named; room = omega arith }) (omega arith)) in
+    move opened (send 0 (record { number = named; room = omega arith }) (omega arith)) in
     let acted : Reached one_atomic (link s (s + 1) (s + 1) (Found s 7 ∷ []) (result ∷ []) (packet s 0 ∷ []) [] (s + 1) s (acceptance s 0 7 ∷ []) []) =
     move sent (arrive 0 _ _ _ (record { is = refl; recent = omega arith }) (swap 7 refl refl none none)) in
     let answered : Reached one_atomic (link s (s + 1) (s + 1) [] (result ∷ []) (packet s 0 ∷ []) (found ∷ []) (s + 1) (s + 1) (acceptance s 0 7 ∷ []) []) =
@@ -65,7 +65,7 @@ lost_answer =
     let back : Reached one_atomic (link s s (s + 1) [] (result ∷ []) (packet s 0 ∷ []) (found ∷ []) (s + 1) (s + 1) (acceptance s 0 7 ∷ []) []) =
     move answered (go_back s (omega arith) (omega arith)) in
     let again : Reached one_atomic (link s (s + 1) (s + 1) [] (result ∷ []) (packet s 0 ∷ packet s 0 ∷ []) (found ∷ []) (s + 1) (s + 1) (acceptance s 0 7 ∷ []) []) =
-    move back (send 0 (record { names = named; room = omega arith }) (omega arith)) in
+    move back (send 0 (record { number = named; room = omega arith }) (omega arith)) in
     let second : Reached one_atomic (link s (s + 1) (s + 1) (Found s 7 ∷ []) (result ∷ []) (packet s 0 ∷ packet s 0 ∷ []) (found ∷ []) (s + 1) (s + 1) (acceptance s 0 7 ∷ []) []) =
     move again (arrive 0 _ _ _ (record { is = refl; recent = omega arith }) (atomic_again 7 (0, omega arith, refl) none)) in
     let first_again : Reached one_atomic (link s (s + 1) (s + 1) (Found s 7 ∷ []) (result ∷ []) (packet s 0 ∷ packet s 0 ∷ []) (found ∷ []) (s + 1) (s + 1) (acceptance s 0 7 ∷ []) []) =
@@ -99,7 +99,7 @@ read_from_the_middle : Reached one_read (link (r + 3) (r + 3) (r + 3) [] [] (pac
 read_from_the_middle =
     let opened : Reached one_read (link r r r [] [] [] [] r r [] []) = begin (omega arith) in
     let sent : Reached one_read (link r (r + 3) r [] [] (packet r 0 ∷ []) [] (r + 3) r [] []) =
-    move opened (send 0 (record { names = record { from = omega arith; below = omega arith }; room = omega arith }) (omega arith)) in
+    move opened (send 0 (record { number = record { from = omega arith; below = omega arith }; room = omega arith }) (omega arith)) in
     let accepted : Reached one_read (link r (r + 3) (r + 3) (Data r 600 ∷ []) [] (packet r 0 ∷ []) [] (r + 3) r (acceptance r 0 0 ∷ []) []) =
     move sent (arrive 0 _ _ _ (record { is = refl; recent = omega arith }) (accept_read refl refl none)) in
     let one_sent : Reached one_read (link r (r + 3) (r + 3) (Data (r + 1) 344 ∷ []) [] (packet r 0 ∷ []) (bytes r 600 ∷ []) (r + 3) (r + 1) (acceptance r 0 0 ∷ []) []) =
@@ -111,7 +111,7 @@ read_from_the_middle =
     let back : Reached one_read (link (r + 1) (r + 1) (r + 3) (Data (r + 2) 88 ∷ []) [] (packet r 0 ∷ []) after_lost (r + 3) (r + 2) (acceptance r 0 0 ∷ []) []) =
     move lost (go_back (r + 1) (omega arith) (omega arith)) in
     let asked : Reached one_read (link (r + 1) (r + 3) (r + 3) (Data (r + 2) 88 ∷ []) [] (packet (r + 1) 0 ∷ packet r 0 ∷ []) after_lost (r + 3) (r + 2) (acceptance r 0 0 ∷ []) []) =
-    move back (send 0 (record { names = record { from = omega arith; below = omega arith }; room = omega arith }) (omega arith)) in
+    move back (send 0 (record { number = record { from = omega arith; below = omega arith }; room = omega arith }) (omega arith)) in
     let again : Reached one_read (link (r + 1) (r + 3) (r + 3) (Data (r + 1) 344 ∷ []) [] (packet (r + 1) 0 ∷ packet r 0 ∷ []) after_lost (r + 3) (r + 2) (acceptance r 0 0 ∷ []) []) =
     move asked (arrive 0 _ _ _ (record { is = refl; recent = omega arith }) (read_again refl (omega arith) (leave none))) in
     let second : Reached one_read (link (r + 1) (r + 3) (r + 3) (Data (r + 2) 88 ∷ []) [] (packet (r + 1) 0 ∷ packet r 0 ∷ []) (bytes (r + 1) 344 ∷ after_lost) (r + 3) (r + 2) (acceptance r 0 0 ∷ []) []) =
@@ -147,9 +147,9 @@ wrap : Reached one_write (link (u + 2) (u + 2) (u + 2) [] [] (packet (u + 1) 0 �
 wrap =
     let opened : Reached one_write (link u u u [] [] [] [] u u [] []) = begin (omega arith) in
     let one_sent : Reached one_write (link u (u + 1) u [] [] (packet u 0 ∷ []) [] (u + 1) u [] []) =
-    move opened (send 0 (record { names = record { from = omega arith; below = omega arith }; room = omega arith }) (omega arith)) in
+    move opened (send 0 (record { number = record { from = omega arith; below = omega arith }; room = omega arith }) (omega arith)) in
     let two_sent : Reached one_write (link u (u + 2) u [] [] (packet (u + 1) 0 ∷ packet u 0 ∷ []) [] (u + 2) u [] []) =
-    move one_sent (send 0 (record { names = record { from = omega arith; below = omega arith }; room = omega arith }) (omega arith)) in
+    move one_sent (send 0 (record { number = record { from = omega arith; below = omega arith }; room = omega arith }) (omega arith)) in
     let one_placed : Reached one_write (link u (u + 2) (u + 1) [] [] (packet (u + 1) 0 ∷ packet u 0 ∷ []) [] (u + 2) u (acceptance u 0 0 ∷ []) []) =
     move two_sent (arrive 1 _ _ _ (record { is = refl; recent = omega arith }) (accept_write refl refl none)) in
     let two_placed : Reached one_write (link u (u + 2) (u + 2) (Ack (u + 1) ∷ []) [] (packet (u + 1) 0 ∷ packet u 0 ∷ []) [] (u + 2) u (acceptance (u + 1) 0 0 ∷ acceptance u 0 0 ∷ []) []) =
@@ -166,8 +166,8 @@ furthest_response : widened (s + response_distance) (s % 2 ^ 24) ≡ s
 furthest_response = refl
 
 -- With 4096 kept envelopes in place of 256, or 1024 of responses, it could stand for another.
-too_many_requests : widened (s + (8192 + 4096 * 4095)) (s % 2 ^ 24) ≢ s
+too_many_requests : widened (s + (most_outstanding + greatest_span * 4095)) (s % 2 ^ 24) ≢ s
 too_many_requests e = absurd (omega (arith, e))
 
-too_many_responses : widened (s + (request_distance + 8192 * 1023)) (s % 2 ^ 24) ≢ s
+too_many_responses : widened (s + (request_distance + most_outstanding * 1023)) (s % 2 ^ 24) ≢ s
 too_many_responses e = absurd (omega (arith, e))

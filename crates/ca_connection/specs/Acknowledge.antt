@@ -1,4 +1,4 @@
--- How far an acknowledgement moves the requester's first unacknowledged number. Contracts cite it.
+-- Where an acknowledgement stops: at the first number that only a response of its own can pass. Contracts cite it.
 use Rattle.std.specs.Prelude.{◌≡◌, ℕ, zero, suc, ◌+◌, ◌<◌, ◌≤◌, max, true, false, ◌&&◌, nat_lt, if◌then◌else◌, Option, None, Some}
 use Rattle.ca_connection.specs.Layout.{Direction, psns, HasNumber, is_answered}
 
@@ -21,10 +21,11 @@ pub record IsFirstUnanswered (d : Direction) (una upto m : ℕ) : Type 0 where
   pub within : m ≤ upto
   pub before : PassesNone d una m
   pub place : ℕ
-  pub names : HasNumber d place m
+  pub number : HasNumber d place m
   pub answered : is_answered (d.work place) ≡ true
 
--- What an acknowledgement up to `upto` meets: nothing that is answered, or a first such number.
+-- What an acknowledgement of all numbers up to `upto` meets: no number of a READ or an atomic, and `una` goes past `upto`; or a
+-- first one, where `una` stops and the requester goes back.
 abbrev pub Acknowledges : Direction → ℕ → ℕ → Option ℕ → Type 0
 Acknowledges d una upto None = PassesNone d una (suc upto)
 Acknowledges d una upto (Some m) = IsFirstUnanswered d una upto m

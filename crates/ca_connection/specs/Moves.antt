@@ -17,7 +17,7 @@ pub data Keeps {A : Type 0} : List A → List A → Type 0 where
   keep : {x : A} {xs ys : List A} → Keeps xs ys → Keeps (x ∷ xs) (x ∷ ys)
   leave : {x : A} {xs ys : List A} → Keeps xs ys → Keeps (x ∷ xs) ys
 
--- what came of a packet that arrived: nothing that is marked, a rejection, or that it was accepted, with what it found
+-- what came of a packet that arrived: it was neither accepted nor rejected, rejected, or accepted, with what it found
 pub data Reception : Type 0 where
   Neither : Reception
   Rejected : NakCode → Reception
@@ -27,7 +27,7 @@ pub data Reception : Type 0 where
 abbrev pub with_response : Responder → List Response → Response → Responder
 with_response r kept a = record { expected = r.expected; queue = kept ++ (a ∷ []); results = r.results }
 
--- a responder that has accepted all numbers below `next`, likewise
+-- a responder that expects `next` now and has these saved results, likewise
 abbrev pub responder_at : ℕ → List SavedResult → List Response → Response → Responder
 responder_at next results kept a = record { expected = next; queue = kept ++ (a ∷ []); results = results }
 
@@ -79,14 +79,15 @@ pub data Receives (d : Direction) (packet : RequestPacket) (w : ℕ) (r : Respon
       → Keeps r.results results
       → Receives d packet w r (responder_at (w + 1) (record { number = w; found = found } ∷ results) kept (Found w found)) (Accepted found)
 
--- What a turn of the responder sends: the item at the front of its queue, of a READ the next packet; or the rejection of a READ
--- whose bytes may not be read any more, which empties the queue.
+-- The response queue once the front is sent: of a READ only its next packet was sent, and the rest of it stays at the front.
 abbrev pub rest_of : ℕ → Response → List Response → List Response
 rest_of mtu (Ack n) rest = rest
 rest_of mtu (Nak code n) rest = rest
 rest_of mtu (Data n left) rest = if nat_lt mtu left then Data (n + 1) (left - mtu) ∷ rest else rest
 rest_of mtu (Found n value) rest = rest
 
+-- What a turn of the responder sends, with the queue that is left: the front of its queue; or a NAK where the front is a READ
+-- whose bytes may not be read any more, which is a rejection and empties the queue.
 pub data Responds (d : Direction) (r : Responder) : Response → List Response → Option Rejection → Type 0 where
   front : (a : Response) (rest : List Response)
       → r.queue ≡ a ∷ rest
@@ -96,9 +97,9 @@ pub data Responds (d : Direction) (r : Responder) : Response → List Response �
       → HasNumber d place n
       → Responds d r (Nak RemoteAccess n) [] (Some (record { number = n; place = place; code = RemoteAccess }))
 
--- What the requester makes of a response, where w is the number that it takes the response's PSN for. It moves `una` on responder_at
--- requests that an acknowledgement ends, and responder_at a READ's number or an atomic by an answer of that one alone. Its cursor
--- may go back at the same time, and never below `una`.
+-- What the requester makes of a response, where w is the number that it takes the response's PSN for. An acknowledgement
+-- moves `una` on past what it covers, but past no number of a READ or an atomic. Past such a number it goes by the response to
+-- that one alone. The cursor may go back at the same time, and never below `una`.
 pub data Takes (d : Direction) (a : Response) (w : ℕ) (r : Requester) : Requester → Option AtomicCompletion → Type 0 where
   drop : Takes d a w r r None
   acknowledge : (next cursor : ℕ)
@@ -175,9 +176,9 @@ pub record MayBeTaken (l : Link) (k : ℕ) (a : Response) : Type 0 where
   pub is : slice_get l.responses k ≡ Some (Some a)
   pub recent : k < kept_responses
 
--- The request at this place has the number at the cursor, and its packet leaves no more numbers outstanding than the most_outstanding has.
+-- The request at this place has the number at the cursor, and its packet leaves no more numbers outstanding than may be.
 pub record MaySend (d : Direction) (l : Link) (place : ℕ) : Type 0 where
-  pub names : HasNumber d place l.requester.cursor
+  pub number : HasNumber d place l.requester.cursor
   pub room : l.requester.cursor + span d place l.requester.cursor ≤ l.requester.una + most_outstanding
 
 -- The moves of a link. `send_nowhere` and `respond_nowhere` are those where no path leads to the other side: nothing of this

@@ -15,7 +15,7 @@ acceptances_of_packet n acceptances = count_by (λ m. m.number == n) acceptances
 abbrev pub acceptances_of_request : ℕ → List Acceptance → ℕ
 acceptances_of_request place acceptances = count_by (λ m. m.place == place) acceptances
 
--- the packet of the acceptance took the number n
+-- the accepted packet took the number n
 abbrev pub covers : Direction → ℕ → Acceptance → Bool
 covers d n m = nat_le m.number n && nat_lt n (m.number + span d m.place m.number)
 
@@ -23,22 +23,22 @@ covers d n m = nat_le m.number n && nat_lt n (m.number + span d m.place m.number
 abbrev pub HasSucceeded : Direction → Link → ℕ → Type 0
 HasSucceeded d l place = first d (suc place) ≤ l.requester.una
 
--- The number of a request that is delivered lies at most so far below the expected one, less than the most_outstanding above it; and its
--- PSN alone tells it.
+-- The number of a request that may be delivered lies at most so far below the expected one, and less than what may be
+-- outstanding above it; and its PSN alone tells it.
 pub record RequestIsNear (l : Link) (packet : RequestPacket) : Type 0 where
   pub low : l.responder.expected ≤ packet.number + request_distance
   pub high : packet.number < l.responder.expected + most_outstanding
   pub exact : widened l.responder.expected (packet.number % 2 ^ 24) ≡ packet.number
 
--- The number of a response that is delivered lies at most so far below `una`, at most the most_outstanding above it; and its PSN alone
--- tells it.
+-- The number of a response that may be delivered lies at most so far below `una`, and at most what may be outstanding above
+-- it; and its PSN alone tells it.
 pub record ResponseIsNear (l : Link) (a : Response) : Type 0 where
   pub low : l.requester.una ≤ number_of a + response_distance
   pub high : number_of a ≤ l.requester.una + most_outstanding
   pub exact : widened l.requester.una (number_of a % 2 ^ 24) ≡ number_of a
 
 -- A response fits the request that has its number: a READ response is of a READ, its payload is as long as the segment there,
--- and it is a last one exactly at the READ's last number; an ATOMIC Acknowledge is of an atomic.
+-- and it is the last one exactly at the READ's last number; an ATOMIC Acknowledge is of an atomic.
 abbrev pub Fits : Direction → ℕ → Response → Type 0
 Fits d place (Ack n) = Unit {0}
 Fits d place (Nak code n) = Unit {0}

@@ -5,8 +5,8 @@ ghost use Rattle.ca_connection.specs.Link.{Response, Link, RequestPacket};
 ghost use Rattle.ca_connection.specs.Moves.{MayArrive, MayBeTaken, Reached};
 ghost use Rattle.ca_connection.specs.Once.{RequestIsNear, ResponseIsNear};
 
-/// `una`, the greatest `una` that a response can bring, the expected number and the greatest number that was sent stand in
-/// this order, and all lie within one most_outstanding from `una` on.
+/// `una`, the greatest `una` that a sent response can bring, the expected number and the end of all that was sent stand in
+/// this order, and the last lies no further above the first than numbers may be outstanding.
 pub fn numbers_form_a_chain()
     ensures { (d : Direction) (l : Link) → Reached d l
         → NumberFact (start d) l.requester.una l.requester.cursor l.response_top l.responder.expected l.request_top }
