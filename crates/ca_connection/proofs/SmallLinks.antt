@@ -4,10 +4,11 @@ use Rattle.ca_psn.specs.Psn.{widened}
 use Rattle.ca_connection.specs.Layout.{Work, Direction, HasNumber, is_answered}
 use Rattle.ca_connection.specs.Layout.Work.{Local, Write, Read, Atomic}
 use Rattle.ca_connection.specs.Link.{RequestPacket, Response, SavedResult, Acceptance, AtomicCompletion, Link}
-use Rattle.ca_connection.specs.Link.Response.{Ack, Data, Found}
+use Rattle.ca_connection.specs.Link.NakCode.{SequenceError}
+use Rattle.ca_connection.specs.Link.Response.{Ack, Nak, Data, Found}
 use Rattle.ca_connection.specs.Moves.{Reached}
 use Rattle.ca_connection.specs.Moves.Keeps.{none, leave}
-use Rattle.ca_connection.specs.Moves.Receives.{atomic_again, read_again, write_and_acknowledge, write as accept_write, read as accept_read, atomic as swap}
+use Rattle.ca_connection.specs.Moves.Receives.{sequence_error, write_again, atomic_again, read_again, write_and_acknowledge, write as accept_write, read as accept_read, atomic as swap}
 use Rattle.ca_connection.specs.Moves.Responds.{front}
 use Rattle.ca_connection.specs.Moves.Takes.{acknowledge, read as take_bytes, atomic as complete}
 use Rattle.ca_connection.specs.Moves.Move.{send, respond, arrive, take, go_back}
@@ -157,6 +158,58 @@ wrap =
     let answered : Reached one_write (link u (u + 2) (u + 2) [] [] (packet (u + 1) 0 ∷ packet u 0 ∷ []) (Some (Ack (u + 1)) ∷ []) (u + 2) (u + 2) (acceptance (u + 1) 0 0 ∷ acceptance u 0 0 ∷ []) []) =
     move two_placed (respond (Ack (u + 1)) _ None (front (Ack (u + 1)) [] refl)) in
     move answered (take 0 _ _ _ (record { is = refl; recent = omega arith }) (acknowledge (u + 2) (u + 2) (omega arith) (omega arith) (λ p n low high names. not_answered p) (omega arith) (omega arith)))
+
+-- A WRITE of two packets from PSN 0 on, of which the first is lost. The second comes ahead and meets a NAK. The requester goes
+-- back and sends both again. The first copy of the first packet comes late, and is only acknowledged again: each was accepted
+-- once.
+abbrev two_packets : Direction
+two_packets = record { psn = 0; mtu = 256; work = write_first }
+  where
+    write_first : ℕ → Work
+    write_first zero = Write 300
+    write_first (suc place) = Local
+
+abbrev all_packets : List (Option RequestPacket)
+all_packets = packet (s + 1) 0 ∷ packet s 0 ∷ packet (s + 1) 0 ∷ packet s 0 ∷ []
+
+abbrev both : List Acceptance
+both = acceptance (s + 1) 0 0 ∷ acceptance s 0 0 ∷ []
+
+abbrev nak : Option Response
+nak = Some (Nak SequenceError s)
+
+only_acknowledged : (p : ℕ) → is_answered (two_packets.work p) ≡ false
+only_acknowledged zero = refl
+only_acknowledged (suc p) = refl
+
+lost_request : Reached two_packets (link (s + 2) (s + 2) (s + 2) [] [] all_packets (Some (Ack (s + 1)) ∷ nak ∷ []) (s + 2) (s + 2) both [])
+lost_request =
+    let number_one : HasNumber two_packets 0 s = record { from = omega arith; below = omega arith } in
+    let number_two : HasNumber two_packets 0 (s + 1) = record { from = omega arith; below = omega arith } in
+    let opened : Reached two_packets (link s s s [] [] [] [] s s [] []) = begin (omega arith) in
+    let one_sent : Reached two_packets (link s (s + 1) s [] [] (packet s 0 ∷ []) [] (s + 1) s [] []) =
+    move opened (send 0 (record { number = number_one; room = omega arith }) (omega arith)) in
+    let two_sent : Reached two_packets (link s (s + 2) s [] [] (packet (s + 1) 0 ∷ packet s 0 ∷ []) [] (s + 2) s [] []) =
+    move one_sent (send 0 (record { number = number_two; room = omega arith }) (omega arith)) in
+    let ahead : Reached two_packets (link s (s + 2) s (Nak SequenceError s ∷ []) [] (packet (s + 1) 0 ∷ packet s 0 ∷ []) [] (s + 2) s [] []) =
+    move two_sent (arrive 0 _ _ _ (record { is = refl; recent = omega arith }) (sequence_error (omega arith) none)) in
+    let refused : Reached two_packets (link s (s + 2) s [] [] (packet (s + 1) 0 ∷ packet s 0 ∷ []) (nak ∷ []) (s + 2) s [] []) =
+    move ahead (respond (Nak SequenceError s) _ None (front (Nak SequenceError s) [] refl)) in
+    let back : Reached two_packets (link s s s [] [] (packet (s + 1) 0 ∷ packet s 0 ∷ []) (nak ∷ []) (s + 2) s [] []) =
+    move refused (take 0 _ _ _ (record { is = refl; recent = omega arith }) (acknowledge s s (omega arith) (omega arith) (λ p n low high names. only_acknowledged p) (omega arith) (omega arith))) in
+    let one_again : Reached two_packets (link s (s + 1) s [] [] (packet s 0 ∷ packet (s + 1) 0 ∷ packet s 0 ∷ []) (nak ∷ []) (s + 2) s [] []) =
+    move back (send 0 (record { number = number_one; room = omega arith }) (omega arith)) in
+    let two_again : Reached two_packets (link s (s + 2) s [] [] all_packets (nak ∷ []) (s + 2) s [] []) =
+    move one_again (send 0 (record { number = number_two; room = omega arith }) (omega arith)) in
+    let one_placed : Reached two_packets (link s (s + 2) (s + 1) [] [] all_packets (nak ∷ []) (s + 2) s (acceptance s 0 0 ∷ []) []) =
+    move two_again (arrive 1 _ _ _ (record { is = refl; recent = omega arith }) (accept_write refl refl none)) in
+    let two_placed : Reached two_packets (link s (s + 2) (s + 2) (Ack (s + 1) ∷ []) [] all_packets (nak ∷ []) (s + 2) s both []) =
+    move one_placed (arrive 0 _ _ _ (record { is = refl; recent = omega arith }) (write_and_acknowledge refl refl none)) in
+    let late : Reached two_packets (link s (s + 2) (s + 2) (Ack (s + 1) ∷ []) [] all_packets (nak ∷ []) (s + 2) s both []) =
+    move two_placed (arrive 3 _ _ _ (record { is = refl; recent = omega arith }) (write_again (s + 1) (omega arith) (omega arith) (leave none))) in
+    let answered : Reached two_packets (link s (s + 2) (s + 2) [] [] all_packets (Some (Ack (s + 1)) ∷ nak ∷ []) (s + 2) (s + 2) both []) =
+    move late (respond (Ack (s + 1)) _ None (front (Ack (s + 1)) [] refl)) in
+    move answered (take 0 _ _ _ (record { is = refl; recent = omega arith }) (acknowledge (s + 2) (s + 2) (omega arith) (omega arith) (λ p n low high names. only_acknowledged p) (omega arith) (omega arith)))
 
 -- At the greatest distances that the laws allow a PSN still stands for its number.
 furthest_request : widened (s + request_distance) (s % 2 ^ 24) ≡ s
