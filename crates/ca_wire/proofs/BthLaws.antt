@@ -1,6 +1,6 @@
 -- A base transport header that was read is the one that was written, and the other way round.
-use Rattle.ca_wire.specs.Packet.{be_bytes, bit, number, word, first_word, second_word, third_word, Ignored, bth_bytes, FitsBth}
-use Rattle.ca_wire.specs.Reading.{number_at, bth_at, bth_from, version_of}
+use Rattle.ca_wire.specs.Packet.{be_bytes, bit, number_of_fields, bytes_of_fields, first_word, second_word, third_word, Ignored, bth_bytes, FitsBth}
+use Rattle.ca_wire.specs.Decoding.{number_at, bth_at, bth_from, version_of}
 use Rattle.ca_wire.specs.declared.bth.Bth.{Bth}
 use Rattle.ca_wire.specs.declared.wire_error.WireError.TheVariants.{TooShort, Version}
 use Rattle.std.proofs.Common.{◌≡◌, ℕ, ◌+◌, ◌/◌, ◌%◌, ◌^◌, ◌<◌, ◌≤◌, true, false, cond, eqb, ltb, List, [], ◌∷◌, ◌++◌, length, Ok, Err, refl, ap, subst, ◌∙◌, append_assoc, arith}
@@ -19,14 +19,14 @@ pub record IsHeader (bytes : List ℕ) (b : Bth) (rest : List ℕ) : Type 0 wher
   pub bth : FitsBth b
   pub len : length rest + 12 ≡ length bytes
 
-first_back : (a b c : ℕ) → a < 2 ^ 32 → version_of a ≡ 0 → number (first_word (bth_from a b c)) ≡ a
+first_back : (a b c : ℕ) → a < 2 ^ 32 → version_of a ≡ 0 → number_of_fields (first_word (bth_from a b c)) ≡ a
 first_back a b c lt version =
     rw (bit_is (a / 2 ^ 23 % 2) (omega arith), bit_is (a / 2 ^ 22 % 2) (omega arith)) (omega arith)
 
-second_back : (a b c : ℕ) → b < 2 ^ 32 → number (second_word (b / 2 ^ 24) (bth_from a b c)) ≡ b
+second_back : (a b c : ℕ) → b < 2 ^ 32 → number_of_fields (second_word (b / 2 ^ 24) (bth_from a b c)) ≡ b
 second_back a b c lt = omega arith
 
-third_back : (a b c : ℕ) → c < 2 ^ 32 → number (third_word (c / 2 ^ 24 % 2 ^ 7) (bth_from a b c)) ≡ c
+third_back : (a b c : ℕ) → c < 2 ^ 32 → number_of_fields (third_word (c / 2 ^ 24 % 2 ^ 7) (bth_from a b c)) ≡ c
 third_back a b c lt = rw (bit_is (c / 2 ^ 31) (omega arith)) (omega arith)
 
 pub bth_takes : (bytes : List ℕ) (x : Bth × List ℕ) → IsBytes bytes → bth_at bytes ≡ Ok x → IsHeader bytes x.0 x.1
@@ -41,9 +41,9 @@ bth_takes bytes x fits e =
     let ta = number_takes w32 (2 ^ 32) wide32 bytes fits (omega arith) in
     let tb = number_takes w32 (2 ^ 32) wide32 a.1 ta.fits (omega arith) in
     let tc = number_takes w32 (2 ^ 32) wide32 b.1 tb.fits (omega arith) in
-    let wa : bytes ≡ word (first_word (bth_from a.0 b.0 c.0)) ++ a.1 = rw (first_back a.0 b.0 c.0 ta.below (eqb-true _ _ v.0)) ta.parts in
-    let wb : a.1 ≡ word (second_word (b.0 / 2 ^ 24) (bth_from a.0 b.0 c.0)) ++ b.1 = rw (second_back a.0 b.0 c.0 tb.below) tb.parts in
-    let wc : b.1 ≡ word (third_word (c.0 / 2 ^ 24 % 2 ^ 7) (bth_from a.0 b.0 c.0)) ++ c.1 = rw (third_back a.0 b.0 c.0 tc.below) tc.parts in
+    let wa : bytes ≡ bytes_of_fields (first_word (bth_from a.0 b.0 c.0)) ++ a.1 = rw (first_back a.0 b.0 c.0 ta.below (eqb-true _ _ v.0)) ta.parts in
+    let wb : a.1 ≡ bytes_of_fields (second_word (b.0 / 2 ^ 24) (bth_from a.0 b.0 c.0)) ++ b.1 = rw (second_back a.0 b.0 c.0 tb.below) tb.parts in
+    let wc : b.1 ≡ bytes_of_fields (third_word (c.0 / 2 ^ 24 % 2 ^ 7) (bth_from a.0 b.0 c.0)) ++ c.1 = rw (third_back a.0 b.0 c.0 tc.below) tc.parts in
     let i : Ignored = record { before_queue = b.0 / 2 ^ 24; before_psn = c.0 / 2 ^ 24 % 2 ^ 7; pad = [] } in
     let whole : IsHeader bytes (bth_from a.0 b.0 c.0) c.1 = record {
       ignored = i;
@@ -58,19 +58,19 @@ bth_takes bytes x fits e =
 
 pub bth_length : (i : Ignored) (b : Bth) → length (bth_bytes i b) ≡ 12
 bth_length i b =
-    let x = be_bytes w32 (number (first_word b)) in
-    let y = be_bytes w32 (number (second_word i.before_queue b)) in
-    let z = be_bytes w32 (number (third_word i.before_psn b)) in
-    omega (arith, length-append x (y ++ z), length-append y z, wide32.len (number (first_word b)), wide32.len (number (second_word i.before_queue b)), wide32.len (number (third_word i.before_psn b)))
+    let x = be_bytes w32 (number_of_fields (first_word b)) in
+    let y = be_bytes w32 (number_of_fields (second_word i.before_queue b)) in
+    let z = be_bytes w32 (number_of_fields (third_word i.before_psn b)) in
+    omega (arith, length-append x (y ++ z), length-append y z, wide32.len (number_of_fields (first_word b)), wide32.len (number_of_fields (second_word i.before_queue b)), wide32.len (number_of_fields (third_word i.before_psn b)))
 
-first_fields : (op s m pad pkey a : ℕ) → op < 2 ^ 8 → s < 2 → m < 2 → pad < 4 → pkey < 2 ^ 16 → a ≡ number ((8, op) ∷ (1, s) ∷ (1, m) ∷ (2, pad) ∷ (4, 0) ∷ (16, pkey) ∷ [])
+first_fields : (op s m pad pkey a : ℕ) → op < 2 ^ 8 → s < 2 → m < 2 → pad < 4 → pkey < 2 ^ 16 → a ≡ number_of_fields ((8, op) ∷ (1, s) ∷ (1, m) ∷ (2, pad) ∷ (4, 0) ∷ (16, pkey) ∷ [])
     → (a / 2 ^ 24 ≡ op) × (a / 2 ^ 23 % 2 ≡ s) × (a / 2 ^ 22 % 2 ≡ m) × (a / 2 ^ 20 % 4 ≡ pad) × (a / 2 ^ 16 % 16 ≡ 0) × (a % 2 ^ 16 ≡ pkey) × (a < 2 ^ 32)
 first_fields op s m pad pkey a h0 h1 h2 h3 h4 e = (omega arith, omega arith, omega arith, omega arith, omega arith, omega arith, omega arith)
 
-pub second_fields : (r q b : ℕ) → r < 2 ^ 8 → q < 2 ^ 24 → b ≡ number ((8, r) ∷ (24, q) ∷ []) → (b / 2 ^ 24 ≡ r) × (b % 2 ^ 24 ≡ q) × (b < 2 ^ 32)
+pub second_fields : (r q b : ℕ) → r < 2 ^ 8 → q < 2 ^ 24 → b ≡ number_of_fields ((8, r) ∷ (24, q) ∷ []) → (b / 2 ^ 24 ≡ r) × (b % 2 ^ 24 ≡ q) × (b < 2 ^ 32)
 second_fields r q b h0 h1 e = (omega arith, omega arith, omega arith)
 
-third_fields : (k r p c : ℕ) → k < 2 → r < 2 ^ 7 → p < 2 ^ 24 → c ≡ number ((1, k) ∷ (7, r) ∷ (24, p) ∷ []) → (c / 2 ^ 31 ≡ k) × (c % 2 ^ 24 ≡ p) × (c < 2 ^ 32)
+third_fields : (k r p c : ℕ) → k < 2 → r < 2 ^ 7 → p < 2 ^ 24 → c ≡ number_of_fields ((1, k) ∷ (7, r) ∷ (24, p) ∷ []) → (c / 2 ^ 31 ≡ k) × (c % 2 ^ 24 ≡ p) × (c < 2 ^ 32)
 third_fields k r p c h0 h1 h2 e = (omega arith, omega arith, omega arith)
 
 -- a header of three words says what its fields say
@@ -80,9 +80,9 @@ same_bth b x y z e0 e1 e2 e3 e4 e5 e6 e7 = rw (e0, e1, e2, e3, e4, e5, e6, e7) r
 pub bth_again : (i : Ignored) (b : Bth) (rest : List ℕ) → FitsBth b → i.before_queue < 2 ^ 8 → i.before_psn < 2 ^ 7 → bth_at (bth_bytes i b ++ rest) ≡ Ok (b, rest)
 unfolding bth_at
 bth_again i b rest fits hq hp =
-    let x = number (first_word b) in
-    let y = number (second_word i.before_queue b) in
-    let z = number (third_word i.before_psn b) in
+    let x = number_of_fields (first_word b) in
+    let y = number_of_fields (second_word i.before_queue b) in
+    let z = number_of_fields (third_word i.before_psn b) in
     let fx = first_fields b.opcode (bit b.solicited) (bit b.migrated) b.pad b.pkey x fits.opcode (bit_below b.solicited) (bit_below b.migrated) fits.pad fits.pkey refl in
     let fy = second_fields i.before_queue b.queue y hq fits.queue refl in
     let fz = third_fields (bit b.ack) i.before_psn b.psn z (bit_below b.ack) hp fits.psn refl in

@@ -1,6 +1,6 @@
 -- What reading gives, as the clauses of the decoder say it.
 use Rattle.ca_wire.specs.Packet.{bth_bytes, Fields, Spells, headers_size, refusal_of, fields_of, SpellsBth, bth_refusal_of}
-use Rattle.ca_wire.specs.Reading.{bth_at, packet_at, front_at, Gives}
+use Rattle.ca_wire.specs.Decoding.{bth_at, packet_in, front_at, Returns}
 use Rattle.ca_wire.specs.declared.bth.Bth.{Bth}
 use Rattle.ca_wire.specs.declared.packet.Packet.{Packet}
 use Rattle.ca_wire.specs.declared.wire_error.WireError.{WireError}
@@ -13,27 +13,27 @@ use Rattle.ca_wire.proofs.BthLaws.{bth_takes, bth_length, bth_again}
 use Rattle.ca_wire.proofs.PacketLaws.{packet_takes, packet_again, payload_lies}
 use Rattle.ca_wire.proofs.RefusalLaws.{fault, refusal_is, front_refused}
 
-pub is_found : (r : Result Packet WireError) (bytes : List ℕ) → IsBytes bytes → Gives fields_of r (packet_at bytes) → IfOk r (λ p. Spells bytes (fields_of p))
+pub is_found : (r : Result Packet WireError) (bytes : List ℕ) → IsBytes bytes → Returns fields_of r (packet_in bytes) → IfOk r (λ p. Spells bytes (fields_of p))
 is_found (Ok p) bytes fits h = packet_takes bytes (fields_of p) fits h
 is_found (Err e) bytes fits h = tt
 
-pub is_placed : (r : Result Packet WireError) (bytes : List ℕ) → IsBytes bytes → Gives fields_of r (packet_at bytes) → IfOk r (λ p. p.payload.now ≡ take (length p.payload.now) (drop (12 + headers_size p.opcode) bytes))
+pub is_placed : (r : Result Packet WireError) (bytes : List ℕ) → IsBytes bytes → Returns fields_of r (packet_in bytes) → IfOk r (λ p. p.payload.now ≡ take (length p.payload.now) (drop (12 + headers_size p.opcode) bytes))
 is_placed (Ok p) bytes fits h = payload_lies bytes (fields_of p) (packet_takes bytes (fields_of p) fits h)
 is_placed (Err e) bytes fits h = tt
 
-pub is_only : (r : Result Packet WireError) (bytes : List ℕ) (f : Fields) → Gives fields_of r (packet_at bytes) → Spells bytes f → IsOkAnd r (λ p. fields_of p ≡ f)
+pub is_only : (r : Result Packet WireError) (bytes : List ℕ) (f : Fields) → Returns fields_of r (packet_in bytes) → Spells bytes f → IsOkAnd r (λ p. fields_of p ≡ f)
 is_only (Ok p) bytes f h s = ok_is (fields_of p) f (sym h ∙ packet_again bytes f s)
 is_only (Err e) bytes f h s = absurd (let k : done f ≡ Err e = sym (packet_again bytes f s) ∙ h in cc)
 
-pub is_refused : (r : Result Packet WireError) (bytes : List ℕ) → IsBytes bytes → Gives fields_of r (packet_at bytes) → IfErr r (λ e. refusal_of bytes ≡ Some e)
+pub is_refused : (r : Result Packet WireError) (bytes : List ℕ) → IsBytes bytes → Returns fields_of r (packet_in bytes) → IfErr r (λ e. refusal_of bytes ≡ Some e)
 is_refused (Ok p) bytes fits h = tt
 is_refused (Err e) bytes fits h = refusal_is bytes fits ∙ ap (λ (x : Result Fields WireError). fault x) h
 
-pub is_taken : (r : Result Packet WireError) (bytes : List ℕ) → IsBytes bytes → Gives fields_of r (packet_at bytes) → OnOk r (refusal_of bytes ≡ None)
+pub is_taken : (r : Result Packet WireError) (bytes : List ℕ) → IsBytes bytes → Returns fields_of r (packet_in bytes) → OnOk r (refusal_of bytes ≡ None)
 is_taken (Ok p) bytes fits h = refusal_is bytes fits ∙ ap (λ (x : Result Fields WireError). fault x) h
 is_taken (Err e) bytes fits h = tt
 
-pub is_front : (r : Result Bth WireError) (bytes : List ℕ) → IsBytes bytes → Gives (λ b. b) r (front_at bytes) → IfOk r (λ b. SpellsBth (take 12 bytes) b)
+pub is_front : (r : Result Bth WireError) (bytes : List ℕ) → IsBytes bytes → Returns (λ b. b) r (front_at bytes) → IfOk r (λ b. SpellsBth (take 12 bytes) b)
 unfolding front_at
 is_front (Ok b) bytes fits h =
     let x = bind_ok (bth_at bytes) (λ x. Ok x.0) b h in
@@ -42,21 +42,21 @@ is_front (Ok b) bytes fits h =
     subst (λ (y : Bth). SpellsBth (take 12 bytes) y) (ok_is x.0.0 b x.2) (record { fits = t.bth; ignored = t.ignored; before_queue = t.before_queue; before_psn = t.before_psn; whole = whole })
 is_front (Err e) bytes fits h = tt
 
-only_given : (r read : Result Bth WireError) (b : Bth) → Gives (λ x. x) r read → read ≡ Ok b → IsOkAnd r (λ x. x ≡ b)
+only_given : (r read : Result Bth WireError) (b : Bth) → Returns (λ x. x) r read → read ≡ Ok b → IsOkAnd r (λ x. x ≡ b)
 only_given (Ok x) read b h e = ok_is x b (sym h ∙ e)
 only_given (Err x) read b h e = absurd (let k : done b ≡ Err x = sym e ∙ h in cc)
 
-pub is_only_front : (r : Result Bth WireError) (bytes : List ℕ) (b : Bth) → Gives (λ b. b) r (front_at bytes) → SpellsBth (take 12 bytes) b → IsOkAnd r (λ x. x ≡ b)
+pub is_only_front : (r : Result Bth WireError) (bytes : List ℕ) (b : Bth) → Returns (λ b. b) r (front_at bytes) → SpellsBth (take 12 bytes) b → IsOkAnd r (λ x. x ≡ b)
 unfolding front_at
 is_only_front r bytes b h s =
     let whole : bytes ≡ bth_bytes s.ignored b ++ drop 12 bytes = sym (take-append-drop 12 bytes) ∙ ap (λ (t : List ℕ). t ++ drop 12 bytes) s.whole in
     let read : front_at bytes ≡ Ok b = ap front_at whole ∙ rw (bth_again s.ignored b (drop 12 bytes) s.fits s.before_queue s.before_psn) refl in
     only_given r (front_at bytes) b h read
 
-pub is_refused_front : (r : Result Bth WireError) (bytes : List ℕ) → IsBytes bytes → Gives (λ b. b) r (front_at bytes) → IfErr r (λ e. bth_refusal_of bytes ≡ Some e)
+pub is_refused_front : (r : Result Bth WireError) (bytes : List ℕ) → IsBytes bytes → Returns (λ b. b) r (front_at bytes) → IfErr r (λ e. bth_refusal_of bytes ≡ Some e)
 is_refused_front (Ok b) bytes fits h = tt
 is_refused_front (Err e) bytes fits h = front_refused bytes fits ∙ ap (λ (x : Result Bth WireError). fault x) h
 
-pub is_taken_front : (r : Result Bth WireError) (bytes : List ℕ) → IsBytes bytes → Gives (λ b. b) r (front_at bytes) → OnOk r (bth_refusal_of bytes ≡ None)
+pub is_taken_front : (r : Result Bth WireError) (bytes : List ℕ) → IsBytes bytes → Returns (λ b. b) r (front_at bytes) → OnOk r (bth_refusal_of bytes ≡ None)
 is_taken_front (Ok b) bytes fits h = front_refused bytes fits ∙ ap (λ (x : Result Bth WireError). fault x) h
 is_taken_front (Err e) bytes fits h = tt

@@ -9,3 +9,5 @@ pub mod PacketLaws
 pub mod RefusalLaws
 pub mod DecoderLaws
 pub mod WritingLaws
+pub mod SyndromeLaws
+pub mod BuilderLaws

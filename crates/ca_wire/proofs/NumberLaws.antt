@@ -5,7 +5,7 @@ use Rattle.std.proofs.lemmas.Bool.{cases_lt}
 use Rattle.std.proofs.lemmas.List.{take_at, drop_at, take-append-drop, length-take, length-drop, get_or-drop, get_or-take, get_or_past}
 use Rattle.std.proofs.lemmas.Nat.{be_bytes_4, be_bytes_8, from_be_bytes-to_be_bytes_4, from_be_bytes-to_be_bytes_8}
 use Rattle.ca_wire.specs.Packet.{be_bytes, bit}
-use Rattle.ca_wire.specs.Reading.{number_at}
+use Rattle.ca_wire.specs.Decoding.{number_at}
 
 -- a list of bytes
 abbrev pub IsBytes : List ℕ → Type 0

@@ -1,34 +1,32 @@
 -- The two laws of reading: what is read is spelt so, and what is spelt so is read.
-use Rattle.ca_wire.specs.Packet.{Ignored, bth_bytes, FitsBth, pad_count, Fields, Spells, bth_of, header_bytes, written, headers_size}
-use Rattle.ca_wire.specs.Reading.{bth_at, payload_at, ◌>>=◌, flags_size, headers_at, whole_headers_at, fields_from, packet_at}
-use Rattle.ca_wire.specs.Table.{Row, row_of, headers_of, layout}
+use Rattle.ca_wire.specs.Packet.{Ignored, bth_bytes, FitsBth, pad_count, Fields, Spells, bth_of, header_bytes, packet_bytes, headers_size}
+use Rattle.ca_wire.specs.Decoding.{bth_at, payload_at, payload_behind, ◌>>=◌, Headers, flags_size, headers_at, fields_from, packet_of_row, packet_in}
+use Rattle.ca_wire.specs.Table.{Header, Row, size_of, row_of, headers_of}
 use Rattle.ca_wire.specs.declared.bth.Bth.{Bth}
-use Rattle.ca_wire.specs.declared.headers.Headers.{Headers}
-use Rattle.ca_wire.specs.declared.layout.Layout.{Layout}
 use Rattle.ca_wire.specs.declared.wire_error.WireError.{WireError}
 use Rattle.ca_wire.specs.declared.wire_error.WireError.TheVariants.{TooShort, Opcode}
 use Rattle.std.proofs.Common.{◌≡◌, ℕ, ◌+◌, ◌^◌, ◌<◌, ◌≤◌, false, ltb, List, [], ◌++◌, length, take, drop, Option, Some, None, Result, Ok, refl, sym, ap, subst, ◌∙◌, arith}
 use Rattle.std.proofs.lemmas.Bool.{ltb-false, le-ltb}
 use Rattle.std.proofs.lemmas.List.{length-append, take_at, drop_at, drop-drop}
 use Rattle.std.specs.List.{flat_map}
-use Rattle.std.specs.Option.{option_map, ok_or}
-use Rattle.std.specs.Prelude.{IfSome}
+use Rattle.std.specs.Option.{ok_or}
+use Rattle.std.specs.Prelude.{IfSome, sum_by}
 use Rattle.ca_wire.proofs.NumberLaws.{IsBytes}
-use Rattle.ca_wire.proofs.Steps.{guard_next, ok_is, bind_ok}
+use Rattle.ca_wire.proofs.Steps.{guard_next, done, ok_is, bind_ok}
 use Rattle.ca_wire.proofs.BthLaws.{IsHeader, bth_takes, bth_length, bth_again}
 use Rattle.ca_wire.proofs.HeaderLaws.{FitsAeth}
 use Rattle.ca_wire.proofs.PayloadLaws.{IsPayload, payload_takes, payload_again}
-use Rattle.ca_wire.proofs.AllHeaders.{shown, FitsHeaders, AreThose, AreHeaders, headers_take, headers_in, headers_again, in_table_order, known_row, some_row, shown_length, with_row, those_of}
+use Rattle.ca_wire.proofs.AllHeaders.{shown, FitsHeaders, AreThose, AreHeaders, headers_take, headers_rest, headers_in, headers_again, in_table_order, known_row, some_row, shown_length, with_row, those_of}
 use Rattle.ca_wire.proofs.TableRows.{IsOrderly, row_orderly}
 
-abbrev pub after_headers : Bth → Layout → Headers × List ℕ → Result Fields WireError
-after_headers b l h = payload_at l.payload b.pad h.1 >>= λ p. Ok (fields_from b h.0 p)
+abbrev pub after_payload : Row → Bth → List ℕ → List ℕ → Result Fields WireError
+after_payload r b bytes p = Ok (fields_from b (headers_at r.headers bytes).0 p)
 
-abbrev pub after_layout : Bth × List ℕ → Layout → Result Fields WireError
-after_layout b l = whole_headers_at l b.1 >>= after_headers b.0 l
+abbrev pub after_row : Bth × List ℕ → Row → Result Fields WireError
+after_row b r = packet_of_row r b.0 b.1
 
 abbrev pub after_bth : Bth × List ℕ → Result Fields WireError
-after_bth b = ok_or (option_map layout (row_of b.0.opcode)) Opcode >>= after_layout b
+after_bth b = ok_or (row_of b.0.opcode) Opcode >>= after_row b
 
 map_if : {X : Type 0} (o : Option X) (P Q : X → Type 0) → ((x : X) → P x → Q x) → IfSome o P → IfSome o Q
 map_if None P Q f h = tt
@@ -38,12 +36,12 @@ both_if : {X : Type 0} (o : Option X) (P Q R : X → Type 0) → ((x : X) → P 
 both_if None P Q R f h k = tt
 both_if (Some x) P Q R f h k = f x h k
 
-spelt : (bytes : List ℕ) (b : Bth × List ℕ) (l : Layout) (r : Row) (h : Headers × List ℕ) (p : List ℕ) → IsHeader bytes b.0 b.1 → row_of b.0.opcode ≡ Some r → layout r ≡ l → IsOrderly r → AreHeaders l b.1 h.0 h.1 → IsPayload l.payload b.0.pad h.1 p → Spells bytes (fields_from b.0 h.0 p)
-unfolding written
-spelt bytes b l r h p tb row is orderly th tp =
+spelt : (bytes : List ℕ) (b : Bth × List ℕ) (r : Row) (h : Headers × List ℕ) (p : List ℕ) → IsHeader bytes b.0 b.1 → row_of b.0.opcode ≡ Some r → IsOrderly r → AreHeaders r.headers b.1 h.0 h.1 → IsPayload r.payload b.0.pad h.1 p → Spells bytes (fields_from b.0 h.0 p)
+unfolding packet_bytes
+spelt bytes b r h p tb row orderly th tp =
     let w = with_row b.0.opcode r row in
     let f = fields_from b.0 h.0 p in
-    let those : AreThose h.0 (layout r) = subst (λ (x : Layout). AreThose h.0 x) (sym is) th.those in
+    let those = th.those in
     let i : Ignored = record { before_queue = tb.ignored.before_queue; before_psn = tb.ignored.before_psn; pad = tp.after } in
     let same_bth : bth_of f ≡ b.0 = rw (← tp.counted) refl in
     let same_headers : flat_map (header_bytes f) (headers_of b.0.opcode) ≡ shown h.0 = rw w.0 (in_table_order f r orderly those) in
@@ -60,7 +58,7 @@ spelt bytes b l r h p tb row is orderly th tp =
         psn = tb.bth.psn;
         msn = map_if h.0.aeth FitsAeth (λ a. a.msn < 2 ^ 24) (λ a k. k.1) th.fits.aeth;
         most = tp.most;
-        empty = λ none. tp.empty (ap (λ (x : Layout). x.payload) (sym is) ∙ sym w.1 ∙ none);
+        empty = λ none. tp.empty (sym w.1 ∙ none);
       };
       fits = record {
         pkey = tb.bth.pkey;
@@ -78,33 +76,35 @@ spelt bytes b l r h p tb row is orderly th tp =
       whole = tb.parts ∙ ap (λ (x : Bth). bth_bytes i x ++ b.1) (sym same_bth) ∙ ap (λ (t : List ℕ). bth_bytes i (bth_of f) ++ t) (th.parts ∙ ap (λ (t : List ℕ). shown h.0 ++ t) tp.parts ∙ ap (λ (t : List ℕ). t ++ (p ++ tp.after)) (sym same_headers));
     }
 
+-- what is read behind a base transport header is spelt so
+row_takes : (bytes : List ℕ) (b : Bth × List ℕ) (r : Row) (f : Fields) → IsHeader bytes b.0 b.1 → row_of b.0.opcode ≡ Some r → packet_of_row r b.0 b.1 ≡ Ok f → Spells bytes f
+unfolding packet_of_row payload_behind
+row_takes bytes b r f tb row e =
+    let size = sum_by size_of r.headers in
+    let p = bind_ok (payload_behind size r.payload b.0.pad b.1) (after_payload r b.0 b.1) f e in
+    let g = guard_next (ltb (length b.1) size) TooShort (payload_at r.payload b.0.pad (drop size b.1)) p.0 p.1 in
+    let orderly = row_orderly b.0.opcode r row in
+    let long : size ≤ length b.1 = ltb-false _ _ g.0 in
+    let th = headers_take r.headers b.1 tb.fits (omega (arith, orderly.0.size)) in
+    let rest : (headers_at r.headers b.1).1 ≡ drop size b.1 = rw orderly.0.size (headers_rest r.headers b.1) in
+    let tp = payload_takes r.payload b.0.pad (headers_at r.headers b.1).1 p.0 tb.bth.pad (rw rest g.1) in
+    let made = fields_from b.0 (headers_at r.headers b.1).0 p.0 in
+    subst (λ (x : Fields). Spells bytes x) {x = made} (ok_is made f p.2) (spelt bytes b r (headers_at r.headers b.1) p.0 tb row orderly.0 th tp)
+
 -- what is read is spelt so
-pub packet_takes : (bytes : List ℕ) (f : Fields) → IsBytes bytes → packet_at bytes ≡ Ok f → Spells bytes f
-unfolding packet_at whole_headers_at written
+pub packet_takes : (bytes : List ℕ) (f : Fields) → IsBytes bytes → packet_in bytes ≡ Ok f → Spells bytes f
+unfolding packet_in
 packet_takes bytes f fits e =
     let b = bind_ok (bth_at bytes) after_bth f e in
-    let l = bind_ok (ok_or (option_map layout (row_of b.0.0.opcode)) Opcode) (after_layout b.0) f b.2 in
-    let h = bind_ok (whole_headers_at l.0 b.0.1) (after_headers b.0.0 l.0) f l.2 in
-    let p = bind_ok (payload_at l.0.payload b.0.0.pad h.0.1) (λ p. Ok (fields_from b.0.0 h.0.0 p)) f h.2 in
-    let tb = bth_takes bytes b.0 fits b.1 in
-    let r = known_row (row_of b.0.0.opcode) l.0 l.1 in
-    let row = row_orderly b.0.0.opcode r.0 r.1 in
-    let g = guard_next (ltb (length b.0.1) l.0.size) TooShort (Ok (headers_at l.0 b.0.1)) h.0 h.1 in
-    let long : l.0.size ≤ length b.0.1 = ltb-false _ _ g.0 in
-    let sized : l.0.size ≡ flags_size l.0 = subst (λ (x : Layout). x.size ≡ flags_size x) r.2 row.0.size in
-    let th = headers_take l.0 b.0.1 tb.fits (omega arith) in
-    let is : headers_at l.0 b.0.1 ≡ h.0 = ok_is _ _ g.1 in
-    let th' : AreHeaders l.0 b.0.1 h.0.0 h.0.1 = subst (λ (x : Headers × List ℕ). AreHeaders l.0 b.0.1 x.0 x.1) is th in
-    let tp = payload_takes l.0.payload b.0.0.pad h.0.1 p.0 tb.bth.pad p.1 in
-    let made = fields_from b.0.0 h.0.0 p.0 in
-    subst (λ (x : Fields). Spells bytes x) {x = made} (ok_is made f p.2) (spelt bytes b.0 l.0 r.0 h.0 p.0 tb r.1 r.2 row.0 th' tp)
+    let r = bind_ok (ok_or (row_of b.0.0.opcode) Opcode) (after_row b.0) f b.2 in
+    row_takes bytes b.0 r.0 f (bth_takes bytes b.0 fits b.1) (known_row (row_of b.0.0.opcode) r.0 r.1) r.2
 
 small_pad : (n : ℕ) → pad_count n < 4
 small_pad n = omega arith
 
 -- what is spelt so is read
-pub packet_again : (bytes : List ℕ) (f : Fields) → Spells bytes f → packet_at bytes ≡ Ok f
-unfolding packet_at whole_headers_at written
+pub packet_again : (bytes : List ℕ) (f : Fields) → Spells bytes f → packet_in bytes ≡ Ok f
+unfolding packet_in packet_of_row payload_behind packet_bytes
 packet_again bytes f s =
     let good = s.well_formed in
     let r = some_row (row_of f.opcode) good.known in
@@ -117,17 +117,20 @@ packet_again bytes f s =
     let bth_fits : FitsBth (bth_of f) = record { opcode = subst (λ n. n < 256) row.1 row.0.opcode; pad = small_pad (length f.payload); pkey = s.fits.pkey; queue = good.queue; psn = good.psn } in
     let same_headers : flat_map (header_bytes f) (headers_of f.opcode) ≡ shown h = rw w.0 (in_table_order f r.0 row.0 those) in
     let whole : bytes ≡ bth_bytes s.ignored (bth_of f) ++ (shown h ++ after) = s.whole ∙ ap (λ (t : List ℕ). bth_bytes s.ignored (bth_of f) ++ (t ++ after)) same_headers in
-    let long : ltb (length (shown h ++ after)) (layout r.0).size ≡ false = le-ltb _ _ (omega (arith, shown_length (layout r.0) h after those, row.0.size)) in
+    let size = sum_by size_of r.0.headers in
+    let long : ltb (length (shown h ++ after)) size ≡ false = le-ltb _ _ (omega (arith, shown_length r.0.headers h after those, row.0.size)) in
+    let again : headers_at r.0.headers (shown h ++ after) ≡ (h, after) = headers_again r.0.headers h after those fits in
+    let rest : drop size (shown h ++ after) ≡ after = rw row.0.size (sym (headers_rest r.0.headers (shown h ++ after)) ∙ ap (λ (x : Headers × List ℕ). x.1) again) in
     let payload : payload_at r.0.payload (pad_count (length f.payload)) after ≡ Ok f.payload = payload_again r.0.payload f.payload s.ignored.pad good.most (λ none. good.empty (w.1 ∙ none)) s.pad in
     let first : bth_at bytes ≡ Ok (bth_of f, shown h ++ after) = ap bth_at whole ∙ bth_again s.ignored (bth_of f) (shown h ++ after) bth_fits s.before_queue s.before_psn in
-    rw (first, r.1, long, headers_again (layout r.0) h after those fits, payload) refl
+    rw (first, r.1, long, rest, payload) (ap (λ (x : Headers × List ℕ). done (fields_from (bth_of f) x.0 f.payload)) again)
 
 pub one_packet_at_most : (bytes : List ℕ) (f g : Fields) → Spells bytes f → Spells bytes g → f ≡ g
 one_packet_at_most bytes f g s t = ok_is f g (sym (packet_again bytes f s) ∙ packet_again bytes g t)
 
 -- the payload stands after the headers
 pub payload_lies : (bytes : List ℕ) (f : Fields) → Spells bytes f → f.payload ≡ take (length f.payload) (drop (12 + headers_size f.opcode) bytes)
-unfolding written
+unfolding packet_bytes
 payload_lies bytes f s =
     let good = s.well_formed in
     let r = some_row (row_of f.opcode) good.known in
@@ -139,7 +142,7 @@ payload_lies bytes f s =
     let after = f.payload ++ s.ignored.pad in
     let same_headers : flat_map (header_bytes f) (headers_of f.opcode) ≡ shown h = rw w.0 (in_table_order f r.0 row.0 those) in
     let whole : bytes ≡ head ++ (shown h ++ after) = s.whole ∙ ap (λ (t : List ℕ). head ++ (t ++ after)) same_headers in
-    let size : headers_size f.opcode ≡ flags_size (layout r.0) = rw w.0 row.0.size in
-    let long : length (shown h) ≡ headers_size f.opcode = omega (arith, shown_length (layout r.0) h [] those, length-append (shown h) [], size) in
+    let size : headers_size f.opcode ≡ flags_size r.0.headers = rw w.0 row.0.size in
+    let long : length (shown h) ≡ headers_size f.opcode = omega (arith, shown_length r.0.headers h [] those, length-append (shown h) [], size) in
     let dropped : drop (12 + headers_size f.opcode) (head ++ (shown h ++ after)) ≡ after = sym (drop-drop (headers_size f.opcode) 12 (head ++ (shown h ++ after))) ∙ rw (drop_at head (shown h ++ after) 12 (bth_length s.ignored (bth_of f))) (drop_at (shown h) after (headers_size f.opcode) long) in
     rw (whole, dropped) (sym (take_at f.payload s.ignored.pad (length f.payload) refl))

@@ -1,6 +1,7 @@
 -- The payload that was read is the one that was written, and the other way round.
+use Rattle.ca_base.specs.declared.limits.TheConstants.{MAX_PAYLOAD_BYTES}
 use Rattle.ca_wire.specs.Packet.{pad_count}
-use Rattle.ca_wire.specs.Reading.{payload_at}
+use Rattle.ca_wire.specs.Decoding.{payload_at}
 use Rattle.ca_wire.specs.declared.wire_error.WireError.{WireError}
 use Rattle.ca_wire.specs.declared.wire_error.WireError.TheVariants.{Length, Pad}
 use Rattle.std.proofs.Common.{◌≡◌, ℕ, ◌+◌, ◌-◌, ◌%◌, ◌<◌, ◌≤◌, Bool, true, false, not, ◌&&◌, cond, eqb, ltb, List, [], ◌++◌, length, take, drop, Ok, Err, refl, sym, ap, subst, ◌∙◌, arith, inl, inr}
@@ -13,7 +14,7 @@ pub record IsPayload (allowed : Bool) (pad : ℕ) (rest payload : List ℕ) : Ty
   pub parts : rest ≡ payload ++ after
   pub counted : pad ≡ pad_count (length payload)
   pub len : length after ≡ pad
-  pub most : length payload ≤ 4096
+  pub most : length payload ≤ MAX_PAYLOAD_BYTES
   pub empty : allowed ≡ false → payload ≡ []
 
 -- the pad count is 0 where nothing stands
@@ -41,7 +42,7 @@ payload_takes allowed pad rest payload small e =
     let n = length rest in
     let g = guard_next (not (eqb (n % 4) 0)) Length _ payload e in
     let h = guard_next (not (eqb n 0) && not allowed) Length _ payload g.1 in
-    let k = guard_next (ltb 4096 (n - pad)) Length _ payload h.1 in
+    let k = guard_next (ltb MAX_PAYLOAD_BYTES (n - pad)) Length _ payload h.1 in
     let l = guard_next (eqb n 0 && not (eqb pad 0)) Pad _ payload k.1 in
     let is : take (n - pad) rest ≡ payload = ok_is _ _ l.1 in
     let whole : n % 4 ≡ 0 = eqb-true _ _ (not-false (eqb (n % 4) 0) g.0) in
@@ -78,7 +79,7 @@ pad_fills n = (omega arith, λ e. omega arith)
 none_long : (payload : List ℕ) → payload ≡ [] → length payload + pad_count (length payload) ≡ 0
 none_long payload e = rw e refl
 
-pub payload_again : (allowed : Bool) (payload after : List ℕ) → length payload ≤ 4096 → (allowed ≡ false → payload ≡ []) → length after ≡ pad_count (length payload) → payload_at allowed (pad_count (length payload)) (payload ++ after) ≡ Ok payload
+pub payload_again : (allowed : Bool) (payload after : List ℕ) → length payload ≤ MAX_PAYLOAD_BYTES → (allowed ≡ false → payload ≡ []) → length after ≡ pad_count (length payload) → payload_at allowed (pad_count (length payload)) (payload ++ after) ≡ Ok payload
 unfolding payload_at
 payload_again allowed payload after most empty len =
     let pad = pad_count (length payload) in

@@ -1,19 +1,20 @@
 -- Reading fails exactly where a test refuses the bytes, and with the fault of that test.
-use Rattle.ca_wire.specs.Packet.{headers_size, first_of, opcode_in, version_in, pad_in, refusal_of, bth_refusal_of}
-use Rattle.ca_wire.specs.Reading.{number_at, bth_at, bth_from, version_of, payload_at, ◌>>=◌, headers_at, whole_headers_at, fields_from, packet_at, front_at}
-use Rattle.ca_wire.specs.Table.{Row, row_of, allows_payload, layout}
+use Rattle.ca_base.specs.Refusals.{first_of}
+use Rattle.ca_base.specs.declared.limits.TheConstants.{MAX_PAYLOAD_BYTES}
+use Rattle.ca_wire.specs.declared.bth.TheConstants.{BTH_BYTES}
+use Rattle.ca_wire.specs.Packet.{headers_size, opcode_in, version_in, pad_in, refusal_of, bth_refusal_of}
+use Rattle.ca_wire.specs.Decoding.{number_at, bth_at, bth_from, version_of, payload_at, payload_behind, ◌>>=◌, headers_at, fields_from, packet_of_row, packet_in, front_at}
+use Rattle.ca_wire.specs.Table.{Row, size_of, row_of, allows_payload}
 use Rattle.ca_wire.specs.declared.bth.Bth.{Bth}
 use Rattle.ca_wire.specs.declared.wire_error.WireError.{WireError}
 use Rattle.ca_wire.specs.declared.wire_error.WireError.TheVariants.{TooShort, Length, Pad, Opcode}
-use Rattle.std.proofs.Common.{◌≡◌, ℕ, ◌-◌, ◌/◌, ◌%◌, ◌^◌, ◌≤◌, Bool, true, false, not, ◌&&◌, cond, eqb, ltb, List, [], ◌∷◌, length, take, Option, Some, None, Result, Ok, Err, refl, sym, ap, ◌∙◌, arith, inl, inr}
+use Rattle.std.proofs.Common.{◌≡◌, ℕ, ◌-◌, ◌/◌, ◌%◌, ◌^◌, ◌≤◌, Bool, true, false, not, ◌&&◌, cond, eqb, ltb, List, [], ◌∷◌, length, take, drop, Option, Some, None, Result, Ok, Err, refl, sym, ap, ◌∙◌, arith, inl, inr}
 use Rattle.std.proofs.lemmas.Bool.{le-ltb, eq-eqb, ne_eqb, cases_eq, lt-ltb, cases_lt}
-use Rattle.std.proofs.lemmas.List.{get_or-take}
+use Rattle.std.proofs.lemmas.List.{get_or-take, length-drop}
 use Rattle.std.specs.Int.{w32}
-use Rattle.std.specs.Prelude.{is_none}
+use Rattle.std.specs.Prelude.{is_none, sum_by}
 use Rattle.ca_wire.proofs.NumberLaws.{IsBytes, wide32, number_takes}
-use Rattle.ca_wire.proofs.AllHeaders.{headers_take}
 use Rattle.ca_wire.proofs.PacketLaws.{after_bth}
-use Rattle.ca_wire.proofs.TableRows.{row_orderly}
 
 -- the fault of a reading
 abbrev pub fault : {A : Type 0} → Result A WireError → Option WireError
@@ -28,7 +29,7 @@ abbrev payload_tests : ℕ → Bool → ℕ → List (Bool × WireError)
 payload_tests n allowed pad =
     (not (eqb (n % 4) 0), Length)
     ∷ (not (eqb n 0) && not allowed, Length)
-    ∷ (ltb 4096 (n - pad), Length)
+    ∷ (ltb MAX_PAYLOAD_BYTES (n - pad), Length)
     ∷ (eqb n 0 && not (eqb pad 0), Pad)
     ∷ []
 
@@ -46,20 +47,16 @@ payload_fault : (allowed : Bool) (pad : ℕ) (rest : List ℕ) → fault (payloa
 unfolding payload_at
 payload_fault allowed pad rest =
     let n = length rest in
-    four_tests (not (eqb (n % 4) 0)) (not (eqb n 0) && not allowed) (ltb 4096 (n - pad)) (eqb n 0 && not (eqb pad 0)) Length Length Length Pad (take (n - pad) rest)
+    four_tests (not (eqb (n % 4) 0)) (not (eqb n 0) && not allowed) (ltb MAX_PAYLOAD_BYTES (n - pad)) (eqb n 0 && not (eqb pad 0)) Length Length Length Pad (take (n - pad) rest)
 
-row_fault : (b : Bth × List ℕ) (o : Option Row) → IsBytes b.1 → row_of b.0.opcode ≡ o → fault (after_bth b) ≡ first_of (opcode_tests (row_of b.0.opcode) (length b.1) (headers_size b.0.opcode) (allows_payload b.0.opcode) (length b.1 - headers_size b.0.opcode) b.0.pad)
-unfolding whole_headers_at
-row_fault b None fits e = rw e refl
-row_fault b (Some r) fits e =
-    let l = layout r in
-    let row = row_orderly b.0.opcode r e in
-    rw e (elim (cases_lt (length b.1) l.size) [
-      | inl lt ↦ rw (lt-ltb (length b.1) l.size lt) refl
-      | inr le ↦
-          let th = headers_take l b.1 fits (omega (arith, row.0.size)) in
-          let rest : length (headers_at l b.1).1 ≡ length b.1 - l.size = omega (arith, th.len, row.0.size) in
-          rw (le-ltb (length b.1) l.size le) (fault_then (payload_at l.payload b.0.pad (headers_at l b.1).1) (λ p. fields_from b.0 (headers_at l b.1).0 p) ∙ payload_fault l.payload b.0.pad (headers_at l b.1).1 ∙ ap (λ n. first_of (payload_tests n r.payload b.0.pad)) rest)
+row_fault : (b : Bth × List ℕ) (o : Option Row) → row_of b.0.opcode ≡ o → fault (after_bth b) ≡ first_of (opcode_tests (row_of b.0.opcode) (length b.1) (headers_size b.0.opcode) (allows_payload b.0.opcode) (length b.1 - headers_size b.0.opcode) b.0.pad)
+unfolding packet_of_row payload_behind
+row_fault b None e = rw e refl
+row_fault b (Some r) e =
+    let size = sum_by size_of r.headers in
+    rw e (elim (cases_lt (length b.1) size) [
+      | inl lt ↦ rw (lt-ltb (length b.1) size lt) refl
+      | inr le ↦ rw (le-ltb (length b.1) size le) (fault_then (payload_at r.payload b.0.pad (drop size b.1)) (λ p. fields_from b.0 (headers_at r.headers b.1).0 p) ∙ payload_fault r.payload b.0.pad (drop size b.1) ∙ ap (λ n. first_of (payload_tests n r.payload b.0.pad)) (length-drop size b.1))
     ])
 
 -- the first word holds the opcode, the pad count and the version where the bytes do
@@ -72,8 +69,8 @@ in_first_word bytes fits =
     let g3 = get_or-take 4 bytes 3 0 (omega arith) in
     (omega (arith, g0, g1, g2, g3, fits 0, fits 1, fits 2, fits 3), omega (arith, g0, g1, g2, g3, fits 0, fits 1, fits 2, fits 3), omega (arith, g0, g1, g2, g3, fits 0, fits 1, fits 2, fits 3))
 
-refused_long : (bytes : List ℕ) → IsBytes bytes → 12 ≤ length bytes → refusal_of bytes ≡ fault (packet_at bytes)
-unfolding refusal_of packet_at bth_at
+refused_long : (bytes : List ℕ) → IsBytes bytes → BTH_BYTES ≤ length bytes → refusal_of bytes ≡ fault (packet_in bytes)
+unfolding refusal_of packet_in bth_at
 refused_long bytes fits long =
     let a = number_at w32 bytes in
     let b = number_at w32 a.1 in
@@ -84,30 +81,30 @@ refused_long bytes fits long =
     let lb = tb.len in
     let tc = number_takes w32 (2 ^ 32) wide32 b.1 tb.fits (omega arith) in
     let lc = tc.len in
-    let len : length bytes - 12 ≡ length c.1 = omega arith in
+    let len : length bytes - BTH_BYTES ≡ length c.1 = omega arith in
     let w = in_first_word bytes fits in
-    rw (le-ltb (length bytes) 12 long, ← w.2) (elim (cases_eq (version_of a.0) 0) [
-      | inl is ↦ rw (eq-eqb _ _ is, len, ← w.0, ← w.1) (sym (row_fault (bth_from a.0 b.0 c.0, c.1) _ tc.fits refl))
+    rw (le-ltb (length bytes) BTH_BYTES long, ← w.2) (elim (cases_eq (version_of a.0) 0) [
+      | inl is ↦ rw (eq-eqb _ _ is, len, ← w.0, ← w.1) (sym (row_fault (bth_from a.0 b.0 c.0, c.1) _ refl))
       | inr ne ↦ rw (ne_eqb _ _ ne) refl
     ])
 
 -- reading fails exactly where a test refuses
-pub refusal_is : (bytes : List ℕ) → IsBytes bytes → refusal_of bytes ≡ fault (packet_at bytes)
-unfolding refusal_of packet_at bth_at
+pub refusal_is : (bytes : List ℕ) → IsBytes bytes → refusal_of bytes ≡ fault (packet_in bytes)
+unfolding refusal_of packet_in bth_at
 refusal_is bytes fits =
-    elim (cases_lt (length bytes) 12) [
-      | inl lt ↦ rw (lt-ltb (length bytes) 12 lt) refl
+    elim (cases_lt (length bytes) BTH_BYTES) [
+      | inl lt ↦ rw (lt-ltb (length bytes) BTH_BYTES lt) refl
       | inr le ↦ refused_long bytes fits le
     ]
 
 pub front_refused : (bytes : List ℕ) → IsBytes bytes → bth_refusal_of bytes ≡ fault (front_at bytes)
 unfolding bth_at front_at
 front_refused bytes fits =
-    elim (cases_lt (length bytes) 12) [
-      | inl lt ↦ rw (lt-ltb (length bytes) 12 lt) refl
+    elim (cases_lt (length bytes) BTH_BYTES) [
+      | inl lt ↦ rw (lt-ltb (length bytes) BTH_BYTES lt) refl
       | inr le ↦
           let w = in_first_word bytes fits in
-          rw (le-ltb (length bytes) 12 le, ← w.2) (elim (cases_eq (version_of (number_at w32 bytes).0) 0) [
+          rw (le-ltb (length bytes) BTH_BYTES le, ← w.2) (elim (cases_eq (version_of (number_at w32 bytes).0) 0) [
             | inl is ↦ rw (eq-eqb _ _ is) refl
             | inr ne ↦ rw (ne_eqb _ _ ne) refl
           ])

@@ -1,5 +1,5 @@
 -- Steps that may fail, and what follows where they did not.
-use Rattle.ca_wire.specs.Reading.{◌>>=◌}
+use Rattle.ca_wire.specs.Decoding.{◌>>=◌}
 use Rattle.ca_wire.specs.declared.wire_error.WireError.{WireError}
 use Rattle.std.proofs.Common.{◌≡◌, ℕ, Bool, true, false, cond, List, ◌++◌, Result, Ok, Err, refl, sym, ap, ◌∙◌, append_assoc}
 

@@ -1,14 +1,18 @@
 -- What is written in parts is the canonical spelling.
-use Rattle.ca_wire.specs.Packet.{be_bytes, bth_bytes, reth_bytes, atomic_bytes, aeth_bytes, pad_count, Fields, IsWellFormed, Spells, bth_of, header_bytes, written, headers_size, FitsBits, canonical, spelling}
-use Rattle.ca_wire.specs.Reading.{if_there}
-use Rattle.ca_wire.specs.Table.{row_of, headers_of}
-use Rattle.std.proofs.Common.{◌≡◌, ℕ, ◌+◌, ◌<◌, List, [], ◌∷◌, ◌++◌, length, take, refl, ap, ◌∙◌, append_assoc, arith, zero, suc}
-use Rattle.std.proofs.lemmas.List.{length-replicate}
+use Rattle.ca_base.specs.declared.limits.TheConstants.{MAX_PAYLOAD_BYTES}
+use Rattle.ca_wire.specs.declared.bth.TheConstants.{BTH_BYTES}
+use Rattle.ca_wire.specs.declared.packet.TheConstants.{MAX_PACKET_BYTES}
+use Rattle.ca_wire.specs.Packet.{spelling_size, be_bytes, bth_bytes, reth_bytes, atomic_bytes, aeth_bytes, pad_count, Fields, IsWellFormed, Spells, bth_of, header_bytes, packet_bytes, headers_size, FitsBits, canonical, spelling}
+use Rattle.ca_wire.specs.Decoding.{if_there, flags_size}
+use Rattle.ca_wire.specs.Table.{row_of, headers_of, allows_payload}
+use Rattle.std.proofs.Common.{◌≡◌, ℕ, ◌+◌, ◌<◌, ◌≤◌, Bool, true, false, cond, List, [], ◌∷◌, ◌++◌, length, take, refl, ap, ◌∙◌, append_assoc, arith, zero, suc}
+use Rattle.std.proofs.lemmas.List.{length-replicate, length-append}
 use Rattle.std.specs.Int.{w32, w64}
 use Rattle.std.specs.List.{flat_map}
 use Rattle.std.specs.Option.{option_map_or}
 use Rattle.std.specs.Prelude.{is_some, replicate}
-use Rattle.ca_wire.proofs.AllHeaders.{shown, headers_in, in_table_order, some_row, with_row, those_of}
+use Rattle.ca_wire.proofs.AllHeaders.{shown, headers_in, in_table_order, some_row, with_row, those_of, shown_length}
+use Rattle.ca_wire.proofs.BthLaws.{bth_length}
 use Rattle.ca_wire.proofs.PacketLaws.{one_packet_at_most}
 use Rattle.ca_wire.proofs.TableRows.{row_orderly}
 
@@ -25,7 +29,7 @@ in_parts : (old h a b c d e f payload pad : List ℕ) → old ++ (h ++ ((a ++ (b
 in_parts old h a b c d e f payload pad = simp append_assoc
 
 pub spelling_is : (f : Fields) (old : List ℕ) → IsWellFormed f → old ++ spelling f ≡ (((((((((old ++ bth_bytes (canonical 0) (bth_of f)) ++ option_map_or reth_bytes f.reth []) ++ option_map_or atomic_bytes f.atomic []) ++ option_map_or aeth_bytes f.aeth []) ++ option_map_or (be_bytes w64) f.«result» []) ++ option_map_or (be_bytes w32) f.imm []) ++ option_map_or (be_bytes w32) f.ieth []) ++ f.payload) ++ replicate (pad_count (length f.payload)) 0)
-unfolding written
+unfolding packet_bytes
 spelling_is f old good =
     let r = some_row (row_of f.opcode) good.known in
     let w = with_row f.opcode r.0 r.1 in
@@ -49,3 +53,34 @@ spelling_spells f good fits =
 
 pub spelling_only : (f g : Fields) → IsWellFormed f → FitsBits f → Spells (spelling f) g → g ≡ f
 spelling_only f g good fits s = one_packet_at_most (spelling f) g f s (spelling_spells f good fits)
+
+-- a canonical spelling is as long as its parts
+pub spelling_length : (f : Fields) → IsWellFormed f → length (spelling f) ≡ spelling_size f
+unfolding packet_bytes
+spelling_length f good =
+    let r = some_row (row_of f.opcode) good.known in
+    let w = with_row f.opcode r.0 r.1 in
+    let row = row_orderly f.opcode r.0 r.1 in
+    let those = those_of f r.0 r.1 good in
+    let pad : List ℕ = replicate (pad_count (length f.payload)) 0 in
+    let headers : List ℕ = flat_map (header_bytes f) (headers_of f.opcode) in
+    let same_headers : headers ≡ shown (headers_in f) = rw w.0 (in_table_order f r.0 row.0 those) in
+    let size : headers_size f.opcode ≡ flags_size r.0.headers = rw w.0 row.0.size in
+    let long : length headers ≡ headers_size f.opcode = ap length same_headers ∙ omega (arith, shown_length r.0.headers (headers_in f) [] those, length-append (shown (headers_in f)) [], size) in
+    omega (arith, long, length-append (bth_bytes (canonical 0) (bth_of f)) (headers ++ (f.payload ++ pad)), bth_length (canonical 0) (bth_of f), length-append headers (f.payload ++ pad), length-append f.payload pad, length-replicate {A = ℕ} (pad_count (length f.payload)) 0)
+
+no_payload : (f : Fields) → IsWellFormed f → (b : Bool) → allows_payload f.opcode ≡ b → length f.payload ≤ cond b MAX_PAYLOAD_BYTES 0
+no_payload f good true e = good.most
+no_payload f good false e = let none : f.payload ≡ [] = good.empty e in rw none (omega arith)
+
+at_most : (b : Bool) (headers payload : ℕ) → headers ≤ cond b 20 28 → payload ≤ cond b MAX_PAYLOAD_BYTES 0 → BTH_BYTES + headers + payload + pad_count payload ≤ MAX_PACKET_BYTES
+at_most true headers payload few most = omega arith
+at_most false headers payload few most = omega arith
+
+pub spelling_most : (f : Fields) → IsWellFormed f → length (spelling f) ≤ MAX_PACKET_BYTES
+spelling_most f good =
+    let r = some_row (row_of f.opcode) good.known in
+    let w = with_row f.opcode r.0 r.1 in
+    let row = row_orderly f.opcode r.0 r.1 in
+    let few : headers_size f.opcode ≤ cond r.0.payload 20 28 = rw w.0 row.0.most in
+    rw (spelling_length f good) (at_most r.0.payload (headers_size f.opcode) (length f.payload) few (no_payload f good r.0.payload w.1))

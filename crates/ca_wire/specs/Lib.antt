@@ -1,4 +1,7 @@
 pub mod Table
+pub mod Syndrome
+pub mod Segment
 pub mod Packet
-pub mod Reading
+pub mod Decoding
 pub mod Writing
+pub mod Builders

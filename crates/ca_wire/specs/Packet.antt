@@ -1,12 +1,15 @@
--- The grammar of packets: which bytes spell which packet, field by field, and what refuses the others.
+-- The grammar of packets: which bytes spell which packet, field by field, and what refuses the others. Contracts cite it.
 use Rattle.std.specs.Prelude.{◌≡◌, ℕ, ◌+◌, ◌-◌, ◌*◌, ◌/◌, ◌%◌, ◌^◌, ◌<◌, ◌≤◌, ◌==◌, nat_lt, Bool, false, not, ◌&&◌, if◌then◌else◌, List, [], ◌∷◌, ◌++◌, length, fold, slice_index, replicate, sum_by, Option, Some, None, is_some, is_none, IsSome, IfSome}
 use Rattle.std.specs.Int.{Width, w32, w64, to_be_bytes}
 use Rattle.std.specs.List.{flat_map}
 use Rattle.std.specs.Option.{option_map_or}
+use Rattle.ca_base.specs.Refusals.{first_of}
+use Rattle.ca_base.specs.declared.limits.TheConstants.{MAX_PAYLOAD_BYTES}
 use Rattle.ca_wire.specs.declared.bth.Bth.{Bth}
-use Rattle.ca_wire.specs.declared.header.Reth.{Reth}
-use Rattle.ca_wire.specs.declared.header.AtomicEth.{AtomicEth}
-use Rattle.ca_wire.specs.declared.header.Aeth.{Aeth}
+use Rattle.ca_wire.specs.declared.bth.TheConstants.{BTH_BYTES}
+use Rattle.ca_wire.specs.declared.reth.Reth.{Reth}
+use Rattle.ca_wire.specs.declared.atomic_eth.AtomicEth.{AtomicEth}
+use Rattle.ca_wire.specs.declared.aeth.Aeth.{Aeth}
 use Rattle.ca_wire.specs.declared.packet.Packet.{Packet}
 use Rattle.ca_wire.specs.declared.wire_error.WireError.{WireError}
 use Rattle.ca_wire.specs.declared.wire_error.WireError.TheVariants.{TooShort, Version, Opcode, Length, Pad}
@@ -53,7 +56,7 @@ abbrev pub follows : Header → ℕ → Bool
 follows header opcode = has header (headers_of opcode)
 
 -- The opcode is known, the headers are those of the opcode, the numbers of 24 bits are below 2^24, and the payload
--- has at most 4096 bytes and stands only where the table allows one.
+-- has at most MAX_PAYLOAD_BYTES bytes and stands only where the table allows one.
 pub record IsWellFormed (f : Fields) : Type 0 where
   pub known : IsSome (row_of f.opcode)
   pub reth : is_some f.reth ≡ follows RETH f.opcode
@@ -65,7 +68,7 @@ pub record IsWellFormed (f : Fields) : Type 0 where
   pub queue : f.queue < 2 ^ 24
   pub psn : f.psn < 2 ^ 24
   pub msn : IfSome f.aeth (λ a. a.msn < 2 ^ 24)
-  pub most : length f.payload ≤ 4096
+  pub most : length f.payload ≤ MAX_PAYLOAD_BYTES
   pub empty : allows_payload f.opcode ≡ false → f.payload ≡ []
 
 -- the numbers of a RETH fit their bits
@@ -95,12 +98,12 @@ abbrev pub bit : Bool → ℕ
 bit b = if b then 1 else 0
 
 -- a number by its fields, from the highest bit down: how many bits each has, and what it says
-abbrev pub number : List (ℕ × ℕ) → ℕ
-number fields = fold (λ n field. n * 2 ^ field.0 + field.1) 0 fields
+abbrev pub number_of_fields : List (ℕ × ℕ) → ℕ
+number_of_fields fields = fold (λ n field. n * 2 ^ field.0 + field.1) 0 fields
 
--- a word of four bytes, by its fields
-abbrev pub word : List (ℕ × ℕ) → List ℕ
-word fields = be_bytes w32 (number fields)
+-- four bytes, by their fields
+abbrev pub bytes_of_fields : List (ℕ × ℕ) → List ℕ
+bytes_of_fields fields = be_bytes w32 (number_of_fields fields)
 
 -- how many pad bytes lead from this many bytes to a multiple of four
 abbrev pub pad_count : ℕ → ℕ
@@ -147,7 +150,7 @@ third_word reserved b = (1, bit b.ack) ∷ (7, reserved) ∷ (24, b.psn) ∷ []
 
 -- the three words of the base transport header
 abbrev pub bth_bytes : Ignored → Bth → List ℕ
-bth_bytes i b = word (first_word b) ++ (word (second_word i.before_queue b) ++ word (third_word i.before_psn b))
+bth_bytes i b = bytes_of_fields (first_word b) ++ (bytes_of_fields (second_word i.before_queue b) ++ bytes_of_fields (third_word i.before_psn b))
 
 -- virtual address 64, R_Key 32, DMA length 32
 abbrev pub reth_bytes : Reth → List ℕ
@@ -159,7 +162,7 @@ atomic_bytes h = be_bytes w64 h.address ++ (be_bytes w32 h.key.0 ++ (be_bytes w6
 
 -- syndrome 8, MSN 24
 abbrev pub aeth_bytes : Aeth → List ℕ
-aeth_bytes h = word ((8, h.syndrome) ∷ (24, h.msn) ∷ [])
+aeth_bytes h = bytes_of_fields ((8, h.syndrome) ∷ (24, h.msn) ∷ [])
 
 -- a header as the packet has it
 abbrev pub header_bytes : Fields → Header → List ℕ
@@ -171,8 +174,8 @@ header_bytes f ImmDt = option_map_or (be_bytes w32) f.imm []
 header_bytes f IETH = option_map_or (be_bytes w32) f.ieth []
 
 -- the base transport header, the headers of the opcode in the table's order, the payload and the pad bytes
-unfoldable pub written : Ignored → Fields → List ℕ
-written i f = bth_bytes i (bth_of f) ++ (flat_map (header_bytes f) (headers_of f.opcode) ++ (f.payload ++ i.pad))
+unfoldable pub packet_bytes : Ignored → Fields → List ℕ
+packet_bytes i f = bth_bytes i (bth_of f) ++ (flat_map (header_bytes f) (headers_of f.opcode) ++ (f.payload ++ i.pad))
 
 -- These bytes spell this packet: what is ignored may be anything that has its place.
 pub record Spells (bytes : List ℕ) (f : Fields) : Type 0 where
@@ -182,7 +185,7 @@ pub record Spells (bytes : List ℕ) (f : Fields) : Type 0 where
   pub before_queue : ignored.before_queue < 2 ^ 8
   pub before_psn : ignored.before_psn < 2 ^ 7
   pub pad : length ignored.pad ≡ pad_count (length f.payload)
-  pub whole : bytes ≡ written ignored f
+  pub whole : bytes ≡ packet_bytes ignored f
 
 -- what a sender puts in place of what is ignored: zeros, with this many pad bytes
 abbrev pub canonical : ℕ → Ignored
@@ -190,20 +193,23 @@ canonical pad = record { before_queue = 0; before_psn = 0; pad = replicate pad 0
 
 -- the canonical spelling
 abbrev pub spelling : Fields → List ℕ
-spelling f = written (canonical (pad_count (length f.payload))) f
+spelling f = packet_bytes (canonical (pad_count (length f.payload))) f
 
--- These twelve bytes spell this base transport header.
+-- how many bytes the headers of the opcode have
+abbrev pub headers_size : ℕ → ℕ
+headers_size opcode = sum_by size_of (headers_of opcode)
+
+-- how many bytes spell a packet: those of the base transport header, of the opcode's headers, of the payload and its pad
+abbrev pub spelling_size : Fields → ℕ
+spelling_size f = BTH_BYTES + headers_size f.opcode + length f.payload + pad_count (length f.payload)
+
+-- These bytes spell this base transport header.
 pub record SpellsBth (bytes : List ℕ) (b : Bth) : Type 0 where
   pub fits : FitsBth b
   pub ignored : Ignored
   pub before_queue : ignored.before_queue < 2 ^ 8
   pub before_psn : ignored.before_psn < 2 ^ 7
   pub whole : bytes ≡ bth_bytes ignored b
-
--- the first of these whose test holds
-abbrev pub first_of : List (Bool × WireError) → Option WireError
-first_of [] = None
-first_of (t ∷ ts) = if t.0 then Some t.1 else first_of ts
 
 -- the first byte
 abbrev pub opcode_in : List ℕ → ℕ
@@ -217,27 +223,23 @@ version_in bytes = slice_index bytes 1 % 16
 abbrev pub pad_in : List ℕ → ℕ
 pad_in bytes = slice_index bytes 1 / 16 % 4
 
--- how many bytes the headers of the opcode have
-abbrev pub headers_size : ℕ → ℕ
-headers_size opcode = sum_by size_of (headers_of opcode)
-
 -- how many bytes stand after the headers
 abbrev pub rest_in : List ℕ → ℕ
-rest_in bytes = length bytes - 12 - headers_size (opcode_in bytes)
+rest_in bytes = length bytes - BTH_BYTES - headers_size (opcode_in bytes)
 
 -- why these bytes are no packet: the first of the ordered tests that holds
 unfoldable pub refusal_of : List ℕ → Option WireError
 refusal_of bytes = first_of (
-    (nat_lt (length bytes) 12, TooShort)
+    (nat_lt (length bytes) BTH_BYTES, TooShort)
     ∷ (not (version_in bytes == 0), Version)
     ∷ (is_none (row_of (opcode_in bytes)), Opcode)
-    ∷ (nat_lt (length bytes - 12) (headers_size (opcode_in bytes)), TooShort)
+    ∷ (nat_lt (length bytes - BTH_BYTES) (headers_size (opcode_in bytes)), TooShort)
     ∷ (not (rest_in bytes % 4 == 0), Length)
     ∷ (not (rest_in bytes == 0) && not (allows_payload (opcode_in bytes)), Length)
-    ∷ (nat_lt 4096 (rest_in bytes - pad_in bytes), Length)
+    ∷ (nat_lt MAX_PAYLOAD_BYTES (rest_in bytes - pad_in bytes), Length)
     ∷ ((rest_in bytes == 0) && not (pad_in bytes == 0), Pad)
     ∷ [])
 
 -- why these bytes do not begin with a base transport header
 abbrev pub bth_refusal_of : List ℕ → Option WireError
-bth_refusal_of bytes = first_of ((nat_lt (length bytes) 12, TooShort) ∷ (not (version_in bytes == 0), Version) ∷ [])
+bth_refusal_of bytes = first_of ((nat_lt (length bytes) BTH_BYTES, TooShort) ∷ (not (version_in bytes == 0), Version) ∷ [])

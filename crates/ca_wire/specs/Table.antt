@@ -1,8 +1,9 @@
 -- The table of opcodes: which headers follow the base transport header, in order, and whether a payload may stand.
+-- Contracts cite it.
 use Rattle.std.specs.Prelude.{ℕ, ◌==◌, Bool, true, false, List, [], ◌∷◌, sum_by, Option, find}
 use Rattle.std.specs.List.{list_any}
 use Rattle.std.specs.Option.{option_map_or}
-use Rattle.ca_wire.specs.declared.layout.Layout.{Layout}
+use Rattle.ca_wire.specs.declared.opcode.TheConstants.{SEND_FIRST, SEND_MIDDLE, SEND_LAST, SEND_LAST_WITH_IMMEDIATE, SEND_ONLY, SEND_ONLY_WITH_IMMEDIATE, RDMA_WRITE_FIRST, RDMA_WRITE_MIDDLE, RDMA_WRITE_LAST, RDMA_WRITE_LAST_WITH_IMMEDIATE, RDMA_WRITE_ONLY, RDMA_WRITE_ONLY_WITH_IMMEDIATE, RDMA_READ_REQUEST, RDMA_READ_RESPONSE_FIRST, RDMA_READ_RESPONSE_MIDDLE, RDMA_READ_RESPONSE_LAST, RDMA_READ_RESPONSE_ONLY, ACKNOWLEDGE, ATOMIC_ACKNOWLEDGE, CMP_SWAP, FETCH_ADD, SEND_LAST_WITH_INVALIDATE, SEND_ONLY_WITH_INVALIDATE}
 
 -- a header that may follow the base transport header
 pub data Header : Type 0 where
@@ -35,29 +36,29 @@ row opcode headers payload = record { opcode = opcode; headers = headers; payloa
 -- the opcodes of the reliable connection
 abbrev pub table : List Row
 table =
-    row 0 [] true  -- SEND First
-    ∷ row 1 [] true  -- SEND Middle
-    ∷ row 2 [] true  -- SEND Last
-    ∷ row 3 (ImmDt ∷ []) true  -- SEND Last with Immediate
-    ∷ row 4 [] true  -- SEND Only
-    ∷ row 5 (ImmDt ∷ []) true  -- SEND Only with Immediate
-    ∷ row 6 (RETH ∷ []) true  -- RDMA WRITE First
-    ∷ row 7 [] true  -- RDMA WRITE Middle
-    ∷ row 8 [] true  -- RDMA WRITE Last
-    ∷ row 9 (ImmDt ∷ []) true  -- RDMA WRITE Last with Immediate
-    ∷ row 10 (RETH ∷ []) true  -- RDMA WRITE Only
-    ∷ row 11 (RETH ∷ ImmDt ∷ []) true  -- RDMA WRITE Only with Immediate
-    ∷ row 12 (RETH ∷ []) false  -- RDMA READ Request
-    ∷ row 13 (AETH ∷ []) true  -- RDMA READ Response First
-    ∷ row 14 [] true  -- RDMA READ Response Middle
-    ∷ row 15 (AETH ∷ []) true  -- RDMA READ Response Last
-    ∷ row 16 (AETH ∷ []) true  -- RDMA READ Response Only
-    ∷ row 17 (AETH ∷ []) false  -- Acknowledge
-    ∷ row 18 (AETH ∷ AtomicAckETH ∷ []) false  -- ATOMIC Acknowledge
-    ∷ row 19 (AtomicETH ∷ []) false  -- CmpSwap
-    ∷ row 20 (AtomicETH ∷ []) false  -- FetchAdd
-    ∷ row 22 (IETH ∷ []) true  -- SEND Last with Invalidate
-    ∷ row 23 (IETH ∷ []) true  -- SEND Only with Invalidate
+    row SEND_FIRST [] true
+    ∷ row SEND_MIDDLE [] true
+    ∷ row SEND_LAST [] true
+    ∷ row SEND_LAST_WITH_IMMEDIATE (ImmDt ∷ []) true
+    ∷ row SEND_ONLY [] true
+    ∷ row SEND_ONLY_WITH_IMMEDIATE (ImmDt ∷ []) true
+    ∷ row RDMA_WRITE_FIRST (RETH ∷ []) true
+    ∷ row RDMA_WRITE_MIDDLE [] true
+    ∷ row RDMA_WRITE_LAST [] true
+    ∷ row RDMA_WRITE_LAST_WITH_IMMEDIATE (ImmDt ∷ []) true
+    ∷ row RDMA_WRITE_ONLY (RETH ∷ []) true
+    ∷ row RDMA_WRITE_ONLY_WITH_IMMEDIATE (RETH ∷ ImmDt ∷ []) true
+    ∷ row RDMA_READ_REQUEST (RETH ∷ []) false
+    ∷ row RDMA_READ_RESPONSE_FIRST (AETH ∷ []) true
+    ∷ row RDMA_READ_RESPONSE_MIDDLE [] true
+    ∷ row RDMA_READ_RESPONSE_LAST (AETH ∷ []) true
+    ∷ row RDMA_READ_RESPONSE_ONLY (AETH ∷ []) true
+    ∷ row ACKNOWLEDGE (AETH ∷ []) false
+    ∷ row ATOMIC_ACKNOWLEDGE (AETH ∷ AtomicAckETH ∷ []) false
+    ∷ row CMP_SWAP (AtomicETH ∷ []) false
+    ∷ row FETCH_ADD (AtomicETH ∷ []) false
+    ∷ row SEND_LAST_WITH_INVALIDATE (IETH ∷ []) true
+    ∷ row SEND_ONLY_WITH_INVALIDATE (IETH ∷ []) true
     ∷ []
 
 -- the row of an opcode, if the table has it
@@ -72,28 +73,16 @@ headers_of opcode = option_map_or (λ r. r.headers) (row_of opcode) []
 abbrev pub allows_payload : ℕ → Bool
 allows_payload opcode = option_map_or (λ r. r.payload) (row_of opcode) false
 
--- each header by a number of its own
-abbrev pub place_of : Header → ℕ
-place_of RETH = 0
-place_of AtomicETH = 1
-place_of AETH = 2
-place_of AtomicAckETH = 3
-place_of ImmDt = 4
-place_of IETH = 5
+-- these are one header
+abbrev pub is_header : Header → Header → Bool
+is_header RETH RETH = true
+is_header AtomicETH AtomicETH = true
+is_header AETH AETH = true
+is_header AtomicAckETH AtomicAckETH = true
+is_header ImmDt ImmDt = true
+is_header IETH IETH = true
+is_header _ _ = false
 
 -- whether a header is among these
 abbrev pub has : Header → List Header → Bool
-has header headers = list_any (λ h. place_of h == place_of header) headers
-
--- the row as flags
-abbrev pub layout : Row → Layout
-layout r = record {
-  reth = has RETH r.headers;
-  atomic = has AtomicETH r.headers;
-  aeth = has AETH r.headers;
-  «result» = has AtomicAckETH r.headers;
-  imm = has ImmDt r.headers;
-  ieth = has IETH r.headers;
-  size = sum_by size_of r.headers;
-  payload = r.payload;
-}
+has header headers = list_any (is_header header) headers

@@ -1,4 +1,4 @@
--- Writing into a list that has room.
+-- Adding bytes to a list that has room for them. For proofs only.
 use Rattle.std.specs.Prelude.{◌≡◌, ℕ, ◌+◌, ◌≤◌, vec_len, vec_capacity}
 use Rattle.std.specs.Global.{Vec}
 

@@ -1,52 +1,49 @@
 ghost use Rattle.std.specs.Prelude.{◌≡◌, ◌+◌, ◌++◌, ◌^◌, ◌<◌, ◌≤◌, OnOk, OnErr, IfSome, is_some, length, [], replicate};
 ghost use Rattle.std.specs.Int.{w32, w64};
 ghost use Rattle.std.specs.Option.{option_map_or};
-ghost use Rattle.ca_wire.specs.Packet.{FitsBth, FitsReth, FitsAtomic, IsWellFormed, Spells, be_bytes, bit, pad_count, canonical, bth_bytes, reth_bytes, atomic_bytes, aeth_bytes, headers_size, fields_of, spelling};
-ghost use Rattle.ca_wire.specs.Reading.{if_there};
+ghost use Rattle.ca_wire.specs.Packet.{FitsReth, FitsAtomic, IsWellFormed, Spells, be_bytes, pad_count, reth_bytes, atomic_bytes, aeth_bytes, fields_of, spelling};
+ghost use Rattle.ca_wire.specs.Decoding.{if_there};
 ghost use Rattle.ca_wire.specs.Writing.{HasRoom, Grows};
 
-use crate::bth::Bth;
-use crate::header::{Aeth, AtomicEth, Reth};
-use crate::layout::layout_of;
+use crate::aeth::{AETH_BYTES, Aeth};
+use crate::atomic_eth::{ATOMIC_ETH_BYTES, AtomicEth};
+use crate::bth::{BTH_BYTES, Bth};
+use crate::numbers::{ATOMIC_ACK_ETH_BYTES, IETH_BYTES, IMM_DT_BYTES, put_u32, put_u64};
 use crate::packet::Packet;
-use crate::writing::{put, put_u32, put_u64};
+use crate::reth::{RETH_BYTES, Reth};
+use crate::writing::put;
 use ca_base::Memory;
 
+#[inline(always)]
 fn pad_of(len: usize) -> usize
     ensures { result ≡ pad_count len }
 {
     (4 - len % 4) % 4
 }
 
-fn size_of_headers(opcode: u8) -> usize
-    ensures value { result ≡ headers_size opcode }
-    ensures most { result ≤ 28 }
+#[inline(always)]
+fn size_if(present: bool, size: usize) -> usize
+    ensures { result ≡ if_there present size }
 {
-    match layout_of(opcode) {
-        Some(layout) => layout.size,
-        None => 0,
-    }
+    if present { size } else { 0 }
 }
 
-fn bit_of(flag: bool) -> u32
-    ensures { result ≡ bit flag }
+// How many bytes the headers that are there have.
+#[inline(always)]
+fn size_of_headers(p: &Packet<'_>) -> usize
+    ensures { result ≡ if_there (is_some p.now.reth) 16 + if_there (is_some p.now.atomic) 28
+        + if_there (is_some p.now.aeth) 4 + if_there (is_some p.now.result) 8
+        + if_there (is_some p.now.imm) 4 + if_there (is_some p.now.ieth) 4 }
 {
-    if flag { 1 } else { 0 }
+    size_if(p.reth.is_some(), RETH_BYTES)
+        + size_if(p.atomic.is_some(), ATOMIC_ETH_BYTES)
+        + size_if(p.aeth.is_some(), AETH_BYTES)
+        + size_if(p.result.is_some(), ATOMIC_ACK_ETH_BYTES)
+        + size_if(p.imm.is_some(), IMM_DT_BYTES)
+        + size_if(p.ieth.is_some(), IETH_BYTES)
 }
 
-fn put_bth(bth: Bth, out: &mut Vec<u8>)
-    requires fits { FitsBth bth }
-    requires room { HasRoom out.old 12 }
-    ensures items { out.new.items ≡ out.old.items ++ bth_bytes (canonical 0) bth }
-    ensures room { Grows out.old out.new 12 }
-{
-    let flags = bit_of(bth.solicited) * 8 + bit_of(bth.migrated) * 4 + u32::from(bth.pad);
-    let first = u32::from(bth.opcode) * 0x100_0000 + flags * 0x10_0000 + u32::from(bth.pkey);
-    put_u32(first, out);
-    put_u32(bth.queue, out);
-    put_u32(bit_of(bth.ack) * 0x8000_0000 + bth.psn, out);
-}
-
+#[inline(always)]
 fn put_reth(reth: Option<Reth>, out: &mut Vec<u8>)
     requires { HasRoom out.old (if_there (is_some reth) 16) }
     ensures items { out.new.items ≡ out.old.items ++ option_map_or reth_bytes reth [] }
@@ -54,12 +51,11 @@ fn put_reth(reth: Option<Reth>, out: &mut Vec<u8>)
     ensures fits { IfSome reth FitsReth }
 {
     if let Some(reth) = reth {
-        put_u64(reth.address, out);
-        put_u32(reth.key.0, out);
-        put_u32(reth.length, out);
+        reth.put(out);
     }
 }
 
+#[inline(always)]
 fn put_atomic(atomic: Option<AtomicEth>, out: &mut Vec<u8>)
     requires { HasRoom out.old (if_there (is_some atomic) 28) }
     ensures items { out.new.items ≡ out.old.items ++ option_map_or atomic_bytes atomic [] }
@@ -67,13 +63,11 @@ fn put_atomic(atomic: Option<AtomicEth>, out: &mut Vec<u8>)
     ensures fits { IfSome atomic FitsAtomic }
 {
     if let Some(atomic) = atomic {
-        put_u64(atomic.address, out);
-        put_u32(atomic.key.0, out);
-        put_u64(atomic.swap, out);
-        put_u64(atomic.compare, out);
+        atomic.put(out);
     }
 }
 
+#[inline(always)]
 fn put_aeth(aeth: Option<Aeth>, out: &mut Vec<u8>)
     requires msn { IfSome aeth (λ a. a.msn < 2 ^ 24) }
     requires room { HasRoom out.old (if_there (is_some aeth) 4) }
@@ -82,10 +76,11 @@ fn put_aeth(aeth: Option<Aeth>, out: &mut Vec<u8>)
     ensures fits { IfSome aeth (λ a. a.syndrome < 2 ^ 8) }
 {
     if let Some(aeth) = aeth {
-        put_u32(u32::from(aeth.syndrome) * 0x100_0000 + aeth.msn, out);
+        aeth.put(out);
     }
 }
 
+#[inline(always)]
 fn put_u64_if(number: Option<u64>, out: &mut Vec<u8>)
     requires { HasRoom out.old (if_there (is_some number) 8) }
     ensures items { out.new.items ≡ out.old.items ++ option_map_or (be_bytes w64) number [] }
@@ -97,6 +92,7 @@ fn put_u64_if(number: Option<u64>, out: &mut Vec<u8>)
     }
 }
 
+#[inline(always)]
 fn put_u32_if(number: Option<u32>, out: &mut Vec<u8>)
     requires { HasRoom out.old (if_there (is_some number) 4) }
     ensures items { out.new.items ≡ out.old.items ++ option_map_or (be_bytes w32) number [] }
@@ -108,6 +104,7 @@ fn put_u32_if(number: Option<u32>, out: &mut Vec<u8>)
     }
 }
 
+#[inline(always)]
 #[tactic(auto, using(crate::proofs::WritingLaws::zeros))]
 fn put_pad(count: usize, out: &mut Vec<u8>)
     requires count { count < 4 }
@@ -115,7 +112,9 @@ fn put_pad(count: usize, out: &mut Vec<u8>)
     ensures items { out.new.items ≡ out.old.items ++ replicate count 0 }
     ensures room { Grows out.old out.new count }
 {
-    put(&[0; 3][..count], out);
+    if count != 0 {
+        put(&[0; 3][..count], out);
+    }
 }
 
 /// Appends the one canonical spelling of a packet: reserved bits and pad bytes are 0. It makes room once, and `Memory`
@@ -131,7 +130,7 @@ pub fn encode(p: &Packet<'_>, out: &mut Vec<u8>) -> Result<(), Memory>
     ensures again { Spells (spelling (fields_of p.now)) (fields_of p.now) }
 {
     let pad = pad_of(p.payload.len());
-    out.reserve(12 + size_of_headers(p.opcode) + p.payload.len() + pad)?;
+    out.reserve(BTH_BYTES + size_of_headers(p) + p.payload.len() + pad)?;
     let bth = Bth {
         opcode: p.opcode,
         solicited: p.solicited,
@@ -142,7 +141,7 @@ pub fn encode(p: &Packet<'_>, out: &mut Vec<u8>) -> Result<(), Memory>
         ack: p.ack,
         psn: p.psn,
     };
-    put_bth(bth, out);
+    bth.put(out);
     put_reth(p.reth, out);
     put_atomic(p.atomic, out);
     put_aeth(p.aeth, out);

@@ -8,27 +8,34 @@
 //! transport services.
 #![tactic(auto)]
 
+mod aeth;
+mod atomic_eth;
 mod bth;
 mod decoding;
 mod encoding;
-mod header;
-mod headers;
 mod laws;
-mod layout;
 mod numbers;
 pub mod opcode;
 mod packet;
 mod payload;
+mod requests;
+mod responses;
+mod reth;
+mod segment;
+mod syndrome;
 mod wire_error;
 mod writing;
 
+pub use aeth::Aeth;
+pub use atomic_eth::AtomicEth;
 pub use bth::{Bth, read_bth};
 pub use decoding::decode;
 pub use encoding::encode;
-pub use header::{Aeth, AtomicEth, Reth};
-pub use laws::{one_packet, round_trip};
-pub use packet::Packet;
+pub use laws::{one_packet, round_trip, spelling_length, syndromes};
+pub use packet::{DEFAULT_PKEY, MAX_PACKET_BYTES, Packet};
+pub use requests::{SendKind, cmp_swap, fetch_add, read_request, send_packet, write_packet};
+pub use responses::{acknowledge, acknowledgement, atomic_acknowledge, nak, read_response, rnr_nak};
+pub use reth::Reth;
+pub use segment::{Position, Segment};
+pub use syndrome::{NakCode, Syndrome, UNLIMITED_CREDITS};
 pub use wire_error::WireError;
-
-#[cfg(test)]
-mod tests;

@@ -1,9 +1,23 @@
-ghost use Rattle.std.specs.Prelude.{◌≡◌, ◌+◌, ◌≤◌, length};
+ghost use Rattle.std.specs.Prelude.{◌≡◌, ◌+◌, ◌++◌, ◌≤◌, length, drop};
 ghost use Rattle.std.specs.Int.{w32, w64};
-ghost use Rattle.ca_wire.specs.Reading.{number_at};
+ghost use Rattle.ca_wire.specs.Packet.{be_bytes};
+ghost use Rattle.ca_wire.specs.Decoding.{number_at, number_from};
+ghost use Rattle.ca_wire.specs.Writing.{HasRoom, Grows};
+
+use crate::writing::put;
+
+/// How many bytes an AtomicAckETH has.
+pub const ATOMIC_ACK_ETH_BYTES: usize = 8;
+
+/// How many bytes an ImmDt has.
+pub const IMM_DT_BYTES: usize = 4;
+
+/// How many bytes an IETH has.
+pub const IETH_BYTES: usize = 4;
 
 /// The big-endian number of four bytes at the front, and the bytes after it.
-#[tactic(auto, unfolding(crate::specs::Reading::number_at))]
+#[inline(always)]
+#[tactic(auto, unfolding(crate::specs::Decoding::number_at))]
 pub fn u32_at(bytes: &[u8]) -> (u32, &[u8])
     requires { 4 ≤ length bytes.now }
     ensures value { (result.0, result.1.now) ≡ number_at w32 bytes.now }
@@ -15,7 +29,8 @@ pub fn u32_at(bytes: &[u8]) -> (u32, &[u8])
 }
 
 /// The big-endian number of eight bytes at the front, and the bytes after it.
-#[tactic(auto, unfolding(crate::specs::Reading::number_at))]
+#[inline(always)]
+#[tactic(auto, unfolding(crate::specs::Decoding::number_at))]
 pub fn u64_at(bytes: &[u8]) -> (u64, &[u8])
     requires { 8 ≤ length bytes.now }
     ensures value { (result.0, result.1.now) ≡ number_at w64 bytes.now }
@@ -26,4 +41,66 @@ pub fn u64_at(bytes: &[u8]) -> (u64, &[u8])
         front[0], front[1], front[2], front[3], front[4], front[5], front[6], front[7],
     ]);
     (number, rest)
+}
+
+/// The big-endian number of four bytes at the front.
+#[inline(always)]
+#[tactic(auto, unfolding(crate::specs::Decoding::number_from))]
+pub fn u32_from(bytes: &[u8]) -> u32
+    requires { 4 ≤ length bytes.now }
+    ensures { result ≡ number_from w32 bytes.now }
+{
+    u32_at(bytes).0
+}
+
+/// The big-endian number of four bytes behind this many.
+#[inline(always)]
+pub fn u32_behind(size: usize, bytes: &[u8]) -> u32
+    requires { size + 4 ≤ length bytes.now }
+    ensures { result ≡ number_from w32 (drop size bytes.now) }
+{
+    let (_, rest) = bytes.split_at(size);
+    u32_from(rest)
+}
+
+/// The big-endian number of eight bytes behind this many.
+#[inline(always)]
+pub fn u64_behind(size: usize, bytes: &[u8]) -> u64
+    requires { size + 8 ≤ length bytes.now }
+    ensures { result ≡ number_from w64 (drop size bytes.now) }
+{
+    let (_, rest) = bytes.split_at(size);
+    u64_from(rest)
+}
+
+/// The big-endian number of eight bytes at the front.
+#[inline(always)]
+#[tactic(auto, unfolding(crate::specs::Decoding::number_from))]
+fn u64_from(bytes: &[u8]) -> u64
+    requires { 8 ≤ length bytes.now }
+    ensures { result ≡ number_from w64 bytes.now }
+{
+    u64_at(bytes).0
+}
+
+/// Adds a number of four bytes, the highest first.
+#[inline(always)]
+#[tactic(auto, unfolding(crate::specs::Packet::be_bytes))]
+pub fn put_u32(number: u32, out: &mut Vec<u8>)
+    requires { HasRoom out.old 4 }
+    ensures items { out.new.items ≡ out.old.items ++ be_bytes w32 number }
+    ensures room { Grows out.old out.new 4 }
+{
+    put(&number.to_be_bytes(), out);
+}
+
+/// Adds a number of eight bytes, the highest first.
+#[inline(always)]
+#[tactic(auto, unfolding(crate::specs::Packet::be_bytes))]
+pub fn put_u64(number: u64, out: &mut Vec<u8>)
+    requires { HasRoom out.old 8 }
+    ensures items { out.new.items ≡ out.old.items ++ be_bytes w64 number }
+    ensures room { Grows out.old out.new 8 }
+{
+    put(&number.to_be_bytes(), out);
 }

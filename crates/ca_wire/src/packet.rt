@@ -1,8 +1,23 @@
-use crate::header::{Aeth, AtomicEth, Reth};
+ghost use Rattle.std.specs.Prelude.{◌≡◌};
+ghost use Rattle.ca_wire.specs.Packet.{fields_of};
+ghost use Rattle.ca_wire.specs.Builders.{plain};
+ghost use Rattle.ca_wire.specs.Decoding.{bare};
+
+use crate::aeth::Aeth;
+use crate::atomic_eth::AtomicEth;
+use crate::bth::Bth;
+use crate::reth::Reth;
+use ca_base::limits::MAX_PAYLOAD_BYTES;
+
+/// The default partition key, which this profile sends and takes alone.
+pub const DEFAULT_PKEY: u16 = 0xFFFF;
+
+/// The most bytes that spell a packet: 12 of the base transport header, 20 of RETH and ImmDt, and the largest payload.
+pub const MAX_PACKET_BYTES: usize = MAX_PAYLOAD_BYTES + 32;
 
 /// A packet of the reliable connection. The payload is a slice of the bytes that it was read from, without its pad
 /// bytes.
-#[derive(Debug, Drop)]
+#[derive(Drop)]
 pub struct Packet<'a> {
     /// What the packet is, by the table of opcodes.
     pub opcode: u8,
@@ -32,4 +47,53 @@ pub struct Packet<'a> {
     pub ieth: Option<u32>,
     /// The payload.
     pub payload: &'a [u8],
+}
+
+impl<'a> Packet<'a> {
+    /// The packet of a base transport header and a payload, with no header between them.
+    #[inline(always)]
+    pub(crate) fn bare(bth: Bth, payload: &'a [u8]) -> Packet<'a>
+        ensures { fields_of result ≡ bare bth payload.now }
+    {
+        Packet {
+            opcode: bth.opcode,
+            solicited: bth.solicited,
+            migrated: bth.migrated,
+            pkey: bth.pkey,
+            queue: bth.queue,
+            ack: bth.ack,
+            psn: bth.psn,
+            reth: None,
+            atomic: None,
+            aeth: None,
+            result: None,
+            imm: None,
+            ieth: None,
+            payload,
+        }
+    }
+
+    /// The packet with this opcode, for this queue pair, at this PSN, in the default partition, with this payload: no
+    /// flag is set, and it has no header.
+    #[inline(always)]
+    pub(crate) fn plain(opcode: u8, queue: u32, psn: u32, payload: &'a [u8]) -> Packet<'a>
+        ensures { fields_of result ≡ record (plain opcode queue psn) { payload = payload.now } }
+    {
+        Packet {
+            opcode,
+            solicited: false,
+            migrated: false,
+            pkey: DEFAULT_PKEY,
+            queue,
+            ack: false,
+            psn,
+            reth: None,
+            atomic: None,
+            aeth: None,
+            result: None,
+            imm: None,
+            ieth: None,
+            payload,
+        }
+    }
 }

@@ -1,13 +1,14 @@
-ghost use Rattle.std.specs.Prelude.{◌≡◌};
-ghost use Rattle.ca_wire.specs.Reading.{Gives, payload_at};
+ghost use Rattle.std.specs.Prelude.{◌≡◌, ◌≤◌, OnOk, length};
+ghost use Rattle.ca_wire.specs.Decoding.{Returns, payload_at, payload_behind};
 
 use crate::wire_error::WireError;
 use ca_base::limits::MAX_PAYLOAD_BYTES;
 
 /// The payload in what follows the headers, without its pad bytes.
-#[tactic(auto, unfolding(crate::specs::Reading::payload_at))]
-pub fn payload_of(allowed: bool, pad: u8, rest: &[u8]) -> Result<&[u8], WireError>
-    ensures { Gives (λ p. p.now) result (payload_at allowed pad rest.now) }
+#[inline(always)]
+#[tactic(auto, unfolding(crate::specs::Decoding::payload_at))]
+fn payload_of(allowed: bool, pad: u8, rest: &[u8]) -> Result<&[u8], WireError>
+    ensures { Returns (λ p. p.now) result (payload_at allowed pad rest.now) }
 {
     let len = rest.len().saturating_sub(usize::from(pad));
     if rest.len() % 4 != 0 {
@@ -23,4 +24,17 @@ pub fn payload_of(allowed: bool, pad: u8, rest: &[u8]) -> Result<&[u8], WireErro
         return Err(WireError::Pad);
     }
     Ok(&rest[..len])
+}
+
+/// The payload behind headers of this many bytes, which have to be there.
+#[inline(always)]
+#[tactic(auto, unfolding(crate::specs::Decoding::payload_behind))]
+pub fn payload_after(size: usize, allowed: bool, pad: u8, bytes: &[u8]) -> Result<&[u8], WireError>
+    ensures payload { Returns (λ p. p.now) result (payload_behind size allowed pad bytes.now) }
+    ensures whole { OnOk result (size ≤ length bytes.now) }
+{
+    if bytes.len() < size {
+        return Err(WireError::TooShort);
+    }
+    payload_of(allowed, pad, &bytes[size..])
 }
