@@ -58,9 +58,6 @@ pub const MAX_OUTSTANDING_PSNS: u32 = 8192;
 /// The most request packets that a queue pair has outstanding.
 pub const MAX_OUTSTANDING_PACKETS: u32 = 64;
 
-/// The envelopes that a mailbox keeps: one is kept while fewer than this many later ones have come.
-pub const MAX_KEPT_ENVELOPES: u32 = 256;
-
 /// The most bytes of one host store or load.
 pub const MAX_STORE_BYTES: u32 = 4096;
 

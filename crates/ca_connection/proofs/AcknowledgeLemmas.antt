@@ -4,7 +4,7 @@ use Rattle.std.specs.Prelude.{nat_lt, if◌then◌else◌}
 use Rattle.ca_connection.specs.Layout.{Work, Direction, psns, first, is_answered}
 use Rattle.ca_connection.specs.Layout.Work.{Local, Send, Write, Read, Atomic}
 use Rattle.ca_connection.specs.Acknowledge.{PassesNone, first_unanswered, IsFirstUnanswered, Acknowledges}
-use Rattle.ca_connection.proofs.LayoutLemmas.{packets-some, names-one}
+use Rattle.ca_connection.proofs.LayoutLemmas.{segments-some, names-one}
 use Rattle.ca_connection.proofs.NumberLemmas.{cases-lt}
 
 left_false : (a b : Bool) → (a && b) ≡ false → b ≡ true → a ≡ false
@@ -24,7 +24,7 @@ answered-some : (mtu : ℕ) (w : Work) → is_answered w ≡ true → 1 ≤ psns
 answered-some mtu Local e = absurd (cc)
 answered-some mtu (Send bytes) e = absurd (cc)
 answered-some mtu (Write bytes) e = absurd (cc)
-answered-some mtu (Read bytes) e = packets-some mtu bytes
+answered-some mtu (Read bytes) e = segments-some mtu bytes
 answered-some mtu Atomic e = omega arith
 
 -- a request that is not answered, or that lies below una, is passed

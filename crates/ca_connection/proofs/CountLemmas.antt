@@ -6,7 +6,7 @@ use Rattle.std.specs.Prelude.{nat_lt, nat_le, ◌==◌}
 use Rattle.ca_connection.specs.Layout.{Direction, is_read, is_atomic, start, first, HasNumber, span}
 use Rattle.ca_connection.specs.Link.{Acceptance}
 use Rattle.ca_connection.specs.Invariant.{AcceptanceFact}
-use Rattle.ca_connection.specs.Once.{acceptances_of_packet, acceptances_of_request, covers}
+use Rattle.ca_connection.specs.Once.{acceptances_of_packet, acceptances_of_request, takes_number}
 use Rattle.ca_connection.proofs.LayoutLemmas.{names-one, span-some, span-within, first-is_atomic, names-is_atomic, span-not_read}
 use Rattle.ca_connection.proofs.ListLemmas.{contains-head, contains-more}
 use Rattle.ca_connection.proofs.NumberLemmas.{cases-lt}
@@ -70,28 +70,28 @@ atomic-acceptances d bound place (m ∷ rest) is fact = go (atomic-acceptances d
         omega (arith, before, count-not (λ (x : Acceptance). x.place == place) m rest other, count-not (λ (x : Acceptance). x.number == first d place) m rest apart)
 
 -- each number below the bound is covered by one acceptance
-covers-none : (d : Direction) (bound n : ℕ) (acceptances : List Acceptance) → AcceptanceFact d bound acceptances → bound ≤ n → count_by (covers d n) acceptances ≡ 0
-covers-none d bound n [] fact above = refl
-covers-none d bound n (m ∷ rest) fact above =
+number-none : (d : Direction) (bound n : ℕ) (acceptances : List Acceptance) → AcceptanceFact d bound acceptances → bound ≤ n → count_by (takes_number d n) acceptances ≡ 0
+number-none d bound n [] fact above = refl
+number-none d bound n (m ∷ rest) fact above =
     let long = span-some d m.place m.number in
-    let other : covers d n m ≡ false = and_false (nat_le m.number n) (nat_lt n (m.number + span d m.place m.number)) (ge-ltb n (m.number + span d m.place m.number) (omega (arith, fact.0))) in
-    omega (arith, count-not (covers d n) m rest other, covers-none d m.number n rest fact.2 (omega (arith, fact.0)))
+    let other : takes_number d n m ≡ false = and_false (nat_le m.number n) (nat_lt n (m.number + span d m.place m.number)) (ge-ltb n (m.number + span d m.place m.number) (omega (arith, fact.0))) in
+    omega (arith, count-not (takes_number d n) m rest other, number-none d m.number n rest fact.2 (omega (arith, fact.0)))
   where
     and_false : (a b : Bool) → b ≡ false → (a && b) ≡ false
     and_false true b e = e
     and_false false b e = refl
 
-pub covers-one : (d : Direction) (bound n : ℕ) (acceptances : List Acceptance) → AcceptanceFact d bound acceptances → start d ≤ n → n < bound → count_by (covers d n) acceptances ≡ 1
-covers-one d bound n [] fact low high = absurd (omega (arith, fact))
-covers-one d bound n (m ∷ rest) fact low high = go (covers-one d m.number n rest fact.2 low) (cases-lt n m.number)
+pub number-one : (d : Direction) (bound n : ℕ) (acceptances : List Acceptance) → AcceptanceFact d bound acceptances → start d ≤ n → n < bound → count_by (takes_number d n) acceptances ≡ 1
+number-one d bound n [] fact low high = absurd (omega (arith, fact))
+number-one d bound n (m ∷ rest) fact low high = go (number-one d m.number n rest fact.2 low) (cases-lt n m.number)
   where
-    go : (n < m.number → count_by (covers d n) rest ≡ 1) → (n < m.number) ⊎ (m.number ≤ n) → count_by (covers d n) (m ∷ rest) ≡ 1
+    go : (n < m.number → count_by (takes_number d n) rest ≡ 1) → (n < m.number) ⊎ (m.number ≤ n) → count_by (takes_number d n) (m ∷ rest) ≡ 1
     go before (inl lt) =
-        let other : covers d n m ≡ false = ap (λ b. b && nat_lt n (m.number + span d m.place m.number)) (gt-leb m.number n lt) in
-        omega (arith, count-not (covers d n) m rest other, before lt)
+        let other : takes_number d n m ≡ false = ap (λ b. b && nat_lt n (m.number + span d m.place m.number)) (gt-leb m.number n lt) in
+        omega (arith, count-not (takes_number d n) m rest other, before lt)
     go before (inr le) =
-        let here : covers d n m ≡ true = ap (λ b. b && nat_lt n (m.number + span d m.place m.number)) (le-leb m.number n le) ∙ lt-ltb n (m.number + span d m.place m.number) (omega (arith, fact.0)) in
-        omega (arith, count-yes (covers d n) m rest here, covers-none d m.number n rest fact.2 le)
+        let here : takes_number d n m ≡ true = ap (λ b. b && nat_lt n (m.number + span d m.place m.number)) (le-leb m.number n le) ∙ lt-ltb n (m.number + span d m.place m.number) (omega (arith, fact.0)) in
+        omega (arith, count-yes (takes_number d n) m rest here, number-none d m.number n rest fact.2 le)
 
 -- a packet of one number below the bound has its acceptance, and the acceptance is of its request
 pub packet-accepted : (d : Direction) (bound place n : ℕ) (acceptances : List Acceptance) → 0 < d.mtu → is_read (d.work place) ≡ false

@@ -2,7 +2,7 @@
 -- requester sent 256 READs of the longest message at the smallest path MTU, one after the other, and each was answered whole.
 use Rattle.std.proofs.Common.{◌≡◌, ℕ, zero, suc, ◌+◌, ◌-◌, ◌*◌, ◌%◌, ◌^◌, ◌<◌, ◌≤◌, max, List, [], ◌∷◌, slice_get, Option, None, Some, refl, sym, ap, subst, arith, lt-ltb, cond}
 use Rattle.ca_psn.specs.Psn.{widened}
-use Rattle.ca_connection.specs.Layout.{Direction, first, HasNumber, bytes_left, span, packets}
+use Rattle.ca_connection.specs.Layout.{Direction, first, HasNumber, bytes_left, span, segments}
 use Rattle.ca_connection.specs.Layout.Work.{Read}
 use Rattle.ca_connection.specs.Link.{RequestPacket, Response, Acceptance, Responder, Link}
 use Rattle.ca_connection.specs.Link.Response.{Data}
@@ -137,7 +137,7 @@ one_read p a = let r = all_responses p (requests (suc p)) a.responses new accept
     all_left = omega (arith, first-at p)
 
     long : span reads p (at p) ≡ 4096
-    long = ap (packets 256) all_left
+    long = ap (segments 256) all_left
 
     end : at p + span reads p (at p) ≡ at (suc p)
     end = omega (arith, long)

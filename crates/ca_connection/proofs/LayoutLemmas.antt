@@ -2,24 +2,24 @@
 use Rattle.std.proofs.Common.{◌≡◌, ℕ, zero, suc, ◌+◌, ◌-◌, ◌*◌, ◌/◌, ◌<◌, ◌≤◌, ◌⊎◌, inl, inr, true, false, refl, ◌∙◌, ap, arith}
 use Rattle.std.proofs.Math.Nat.{add-div_right, div-lt_iff_lt-mul, mul-le-mul_left}
 use Rattle.std.proofs.lemmas.Nat.{le-div}
-use Rattle.ca_connection.specs.Layout.{Work, Direction, is_data, is_read, is_atomic, is_answered, bytes_of, packets, psns, start, first, HasNumber, bytes_left, span_of, span}
+use Rattle.ca_connection.specs.Layout.{Work, Direction, is_data, is_read, is_atomic, is_answered, bytes_of, segments, psns, start, first, HasNumber, bytes_left, span_of, span}
 use Rattle.ca_connection.specs.Layout.Work.{Local, Send, Write, Read, Atomic}
 use Rattle.ca_connection.proofs.NumberLemmas.{cases-lt}
 
-pub packets-some : (mtu bytes : ℕ) → 1 ≤ packets mtu bytes
-packets-some mtu bytes = omega arith
+pub segments-some : (mtu bytes : ℕ) → 1 ≤ segments mtu bytes
+segments-some mtu bytes = omega arith
 
 -- each whole payload more is a packet more
-pub packets-step : (mtu bytes : ℕ) → 0 < mtu → mtu < bytes → packets mtu bytes ≡ suc (packets mtu (bytes - mtu))
-packets-step mtu bytes some more =
+pub segments-step : (mtu bytes : ℕ) → 0 < mtu → mtu < bytes → segments mtu bytes ≡ suc (segments mtu (bytes - mtu))
+segments-step mtu bytes some more =
     let regroup : bytes + mtu - 1 ≡ (bytes - mtu + mtu - 1) + mtu = omega arith in
     let more_one : (bytes + mtu - 1) / mtu ≡ (bytes - mtu + mtu - 1) / mtu + 1 = ap (λ n. n / mtu) regroup ∙ add-div_right (bytes - mtu + mtu - 1) some in
     let some_left : 1 ≤ (bytes - mtu + mtu - 1) / mtu = le-div 1 (bytes - mtu + mtu - 1) mtu some (omega arith) in
     omega arith
 
 -- what fits one payload is one packet
-pub packets-one : (mtu bytes : ℕ) → 0 < mtu → bytes ≤ mtu → packets mtu bytes ≡ 1
-packets-one mtu bytes some few =
+pub segments-one : (mtu bytes : ℕ) → 0 < mtu → bytes ≤ mtu → segments mtu bytes ≡ 1
+segments-one mtu bytes some few =
     let below : (bytes + mtu - 1) / mtu < 2 = (div-lt_iff_lt-mul {x = bytes + mtu - 1} {y = 2} some).1 (omega arith) in
     omega arith
 
@@ -60,27 +60,27 @@ names-some d (suc k) n low high = go (names-some d k n low) (cases-lt n (first d
     go before (inl lt) = let r = before lt in (r.0, omega (arith, r.1), r.2)
     go before (inr ge) = (k, omega arith, record { from = ge; below = high })
 
-two_packets : (mtu bytes : ℕ) → 0 < mtu → 2 ≤ packets mtu bytes → mtu < bytes
+two_packets : (mtu bytes : ℕ) → 0 < mtu → 2 ≤ segments mtu bytes → mtu < bytes
 two_packets mtu bytes some two = go (cases-lt mtu bytes)
   where
     go : (mtu < bytes) ⊎ (bytes ≤ mtu) → mtu < bytes
     go (inl lt) = lt
-    go (inr le) = absurd (omega (arith, packets-one mtu bytes some le))
+    go (inr le) = absurd (omega (arith, segments-one mtu bytes some le))
 
 -- what is left behind the first packets has the packets that are left
-pub packets-left : (mtu bytes i : ℕ) → 0 < mtu → i < packets mtu bytes → packets mtu (bytes - i * mtu) + i ≡ packets mtu bytes
-packets-left mtu bytes zero some below = omega (arith, ap (packets mtu) (let e : bytes - 0 * mtu ≡ bytes = omega arith in e))
-packets-left mtu bytes (suc i) some below =
-    let before = packets-left mtu bytes i some (omega arith) in
+pub segments-left : (mtu bytes i : ℕ) → 0 < mtu → i < segments mtu bytes → segments mtu (bytes - i * mtu) + i ≡ segments mtu bytes
+segments-left mtu bytes zero some below = omega (arith, ap (segments mtu) (let e : bytes - 0 * mtu ≡ bytes = omega arith in e))
+segments-left mtu bytes (suc i) some below =
+    let before = segments-left mtu bytes i some (omega arith) in
     let more : mtu < bytes - i * mtu = two_packets mtu (bytes - i * mtu) some (omega (arith, before)) in
     let same : bytes - i * mtu - mtu ≡ bytes - suc i * mtu = omega arith in
-    omega (arith, before, packets-step mtu (bytes - i * mtu) some more, ap (packets mtu) same)
+    omega (arith, before, segments-step mtu (bytes - i * mtu) some more, ap (segments mtu) same)
 
 span_of-some : (mtu : ℕ) (w : Work) (left : ℕ) → 1 ≤ span_of mtu w left
 span_of-some mtu Local left = omega arith
 span_of-some mtu (Send bytes) left = omega arith
 span_of-some mtu (Write bytes) left = omega arith
-span_of-some mtu (Read bytes) left = packets-some mtu left
+span_of-some mtu (Read bytes) left = segments-some mtu left
 span_of-some mtu Atomic left = omega arith
 
 pub span-some : (d : Direction) (p n : ℕ) → 1 ≤ span d p n
@@ -90,7 +90,7 @@ span_of-within : (mtu : ℕ) (w : Work) (f n : ℕ) → 0 < mtu → f ≤ n → 
 span_of-within mtu Local f n some from below = omega arith
 span_of-within mtu (Send bytes) f n some from below = omega arith
 span_of-within mtu (Write bytes) f n some from below = omega arith
-span_of-within mtu (Read bytes) f n some from below = omega (arith, packets-left mtu bytes (n - f) some (omega arith))
+span_of-within mtu (Read bytes) f n some from below = omega (arith, segments-left mtu bytes (n - f) some (omega arith))
 span_of-within mtu Atomic f n some from below = omega arith
 
 -- a packet's numbers lie in its request's
@@ -101,21 +101,21 @@ span_of-read : (mtu : ℕ) (w : Work) (f n : ℕ) → 0 < mtu → is_read w ≡ 
 span_of-read mtu Local f n some read from below = absurd (cc)
 span_of-read mtu (Send bytes) f n some read from below = absurd (cc)
 span_of-read mtu (Write bytes) f n some read from below = absurd (cc)
-span_of-read mtu (Read bytes) f n some read from below = omega (arith, packets-left mtu bytes (n - f) some (omega arith))
+span_of-read mtu (Read bytes) f n some read from below = omega (arith, segments-left mtu bytes (n - f) some (omega arith))
 span_of-read mtu Atomic f n some read from below = absurd (cc)
 
 -- a READ's request asks for all that is left
 pub span-read : (d : Direction) (p n : ℕ) → 0 < d.mtu → is_read (d.work p) ≡ true → HasNumber d p n → n + span d p n ≡ first d (suc p)
 span-read d p n some read names = span_of-read d.mtu (d.work p) (first d p) n some read names.from names.below
 
-span_of-is_read : (mtu : ℕ) (w : Work) (left : ℕ) → is_read w ≡ true → span_of mtu w left ≡ packets mtu left
+span_of-is_read : (mtu : ℕ) (w : Work) (left : ℕ) → is_read w ≡ true → span_of mtu w left ≡ segments mtu left
 span_of-is_read mtu Local left read = absurd (cc)
 span_of-is_read mtu (Send bytes) left read = absurd (cc)
 span_of-is_read mtu (Write bytes) left read = absurd (cc)
 span_of-is_read mtu (Read bytes) left read = refl
 span_of-is_read mtu Atomic left read = absurd (cc)
 
-pub span-is_read : (d : Direction) (p n : ℕ) → is_read (d.work p) ≡ true → span d p n ≡ packets d.mtu (bytes_left d p n)
+pub span-is_read : (d : Direction) (p n : ℕ) → is_read (d.work p) ≡ true → span d p n ≡ segments d.mtu (bytes_left d p n)
 span-is_read d p n read = span_of-is_read d.mtu (d.work p) (bytes_left d p n) read
 
 span_of-is_data : (mtu : ℕ) (w : Work) (left : ℕ) → is_data w ≡ true → span_of mtu w left ≡ 1
@@ -193,8 +193,8 @@ atomic-not_read (Read bytes) a = absurd (cc)
 atomic-not_read Atomic a = refl
 
 -- the longest message at the smallest path MTU has the most packets
-pub packets-most : (mtu bytes most least : ℕ) → 0 < least → least ≤ mtu → bytes ≤ most * least → 1 ≤ most → packets mtu bytes ≤ most
-packets-most mtu bytes most least some wide short one =
+pub segments-most : (mtu bytes most least : ℕ) → 0 < least → least ≤ mtu → bytes ≤ most * least → 1 ≤ most → segments mtu bytes ≤ most
+segments-most mtu bytes most least some wide short one =
     let wider : most * least ≤ most * mtu = mul-le-mul_left most wide in
     let below : (bytes + mtu - 1) / mtu < suc most = (div-lt_iff_lt-mul {x = bytes + mtu - 1} {y = suc most} (let h : 0 < mtu = omega arith in h)).1 (omega (arith, wider)) in
     omega arith

@@ -2,16 +2,16 @@
 use Rattle.std.proofs.Common.{◌≡◌, ◌≢◌, ℕ, suc, ◌+◌, ◌-◌, ◌<◌, ◌≤◌, ◌↔◌, ◌⊎◌, inl, inr, min, true, false, List, slice_get, Some, refl, ◌∙◌, ap, subst, arith}
 use Rattle.std.specs.List.{Contains, count_by}
 use Rattle.ca_connection.specs.Layout.{Direction, is_read, is_atomic, start, first, HasNumber, bytes_left}
-use Rattle.ca_connection.specs.Link.{RequestPacket, NakCode, Response, number_of, Acceptance, Rejection, Link}
-use Rattle.ca_connection.specs.Link.NakCode.{SequenceError, InvalidRequest, RemoteAccess, RemoteOperation, ReceiverNotReady}
+use Rattle.ca_connection.specs.Link.{RequestPacket, NakReason, Response, number_of, Acceptance, Rejection, Link}
+use Rattle.ca_connection.specs.Link.NakReason.{PsnSequenceError, InvalidRequest, RemoteAccessError, RemoteOperationalError, ReceiverNotReady}
 use Rattle.ca_connection.specs.Link.Response.{Ack, Nak, Data, Found}
 use Rattle.ca_connection.specs.Moves.{MayArrive, MayBeTaken, Reached}
 use Rattle.ca_connection.specs.Invariant.{NumberFact, RequestFact, RejectedFor, HasRejection, Holds, ResponseFact, AcceptanceFact}
-use Rattle.ca_connection.specs.Once.{acceptances_of_packet, acceptances_of_request, covers, HasSucceeded, RequestIsNear, ResponseIsNear, Fits}
-use Rattle.ca_connection.proofs.LayoutLemmas.{packets-some, packets-step, packets-one, start-le, names-one, span-some, span-read, span-is_read, first-is_atomic, atomic-not_read}
+use Rattle.ca_connection.specs.Once.{acceptances_of_packet, acceptances_of_request, takes_number, HasSucceeded, RequestIsNear, ResponseIsNear, Fits}
+use Rattle.ca_connection.proofs.LayoutLemmas.{segments-some, segments-step, segments-one, start-le, names-one, span-some, span-read, span-is_read, first-is_atomic, atomic-not_read}
 use Rattle.ca_connection.proofs.AcceptanceLemmas.{acceptances-names}
 use Rattle.ca_connection.proofs.MoveLemmas.{request-exact, response-exact, mtu-some, reached-sound}
-use Rattle.ca_connection.proofs.CountLemmas.{packet-once, atomic-acceptances, covers-one, packet-accepted}
+use Rattle.ca_connection.proofs.CountLemmas.{packet-once, atomic-acceptances, number-one, packet-accepted}
 use Rattle.ca_connection.proofs.NumberLemmas.{cases-lt}
 
 pub law-numbers : (d : Direction) (l : Link) → Reached d l → NumberFact (start d) l.requester.una l.requester.cursor l.response_top l.responder.expected l.request_top
@@ -45,8 +45,8 @@ law-of-its-request d l a reached has = acceptances-names d l.responder.expected 
 pub law-packet-once : (d : Direction) (l : Link) (n : ℕ) → Reached d l → acceptances_of_packet n l.acceptances ≤ 1
 law-packet-once d l n reached = packet-once d l.responder.expected n l.acceptances (let s = reached-sound d l reached in s.acceptances)
 
-pub law-covered-once : (d : Direction) (l : Link) (n : ℕ) → Reached d l → start d ≤ n → n < l.responder.expected → count_by (covers d n) l.acceptances ≡ 1
-law-covered-once d l n reached low high = covers-one d l.responder.expected n l.acceptances (let s = reached-sound d l reached in s.acceptances) low high
+pub law-covered-once : (d : Direction) (l : Link) (n : ℕ) → Reached d l → start d ≤ n → n < l.responder.expected → count_by (takes_number d n) l.acceptances ≡ 1
+law-covered-once d l n reached low high = number-one d l.responder.expected n l.acceptances (let s = reached-sound d l reached in s.acceptances) low high
 
 pub law-atomic-once : (d : Direction) (l : Link) (place : ℕ) → Reached d l → is_atomic (d.work place) ≡ true → acceptances_of_request place l.acceptances ≤ 1
 law-atomic-once d l place reached is =
@@ -80,13 +80,13 @@ is_last : (d : Direction) (place n : ℕ) → 0 < d.mtu → is_read (d.work plac
 is_last d place n some kind names = (λ few. short few, λ end. ended end)
   where
     short : bytes_left d place n ≤ d.mtu → n + 1 ≡ first d (suc place)
-    short few = omega (arith, packets-one d.mtu (bytes_left d place n) some few, span-is_read d place n kind, span-read d place n some kind names)
+    short few = omega (arith, segments-one d.mtu (bytes_left d place n) some few, span-is_read d place n kind, span-read d place n some kind names)
 
     ended : n + 1 ≡ first d (suc place) → bytes_left d place n ≤ d.mtu
     ended end = go (cases-lt d.mtu (bytes_left d place n))
       where
         go : (d.mtu < bytes_left d place n) ⊎ (bytes_left d place n ≤ d.mtu) → bytes_left d place n ≤ d.mtu
-        go (inl more) = absurd (omega (arith, packets-step d.mtu (bytes_left d place n) some more, packets-some d.mtu (bytes_left d place n - d.mtu), span-is_read d place n kind, span-read d place n some kind names))
+        go (inl more) = absurd (omega (arith, segments-step d.mtu (bytes_left d place n) some more, segments-some d.mtu (bytes_left d place n - d.mtu), span-is_read d place n kind, span-read d place n some kind names))
         go (inr few) = few
 
 holds-fits : (d : Direction) (l : Link) (place : ℕ) (a : Response) → 0 < d.mtu → AcceptanceFact d l.responder.expected l.acceptances → HasNumber d place (number_of a) → Holds d l.acceptances l.rejections a → Fits d place a
@@ -109,19 +109,19 @@ law-fits d l k place a reached is names =
     let f : ResponseFact d l.acceptances l.rejections l.response_top k a = s.responses k a is in
     holds-fits d l place a (mtu-some d l reached) s.acceptances names f.holds
 
-rejected-for : (d : Direction) (rejections : List Rejection) (n place : ℕ) (code : NakCode) → HasNumber d place n → RejectedFor d rejections n code → Contains rejections (record { number = n; place = place; code = code })
+rejected-for : (d : Direction) (rejections : List Rejection) (n place : ℕ) (code : NakReason) → HasNumber d place n → RejectedFor d rejections n code → Contains rejections (record { number = n; place = place; code = code })
 rejected-for d rejections n place code names r =
     let same : r.place ≡ place = names-one d r.place place n r.number names in
     subst (λ p. Contains rejections (record { number = n; place = p; code = code })) same r.rejection
 
-has-rejection : (d : Direction) (rejections : List Rejection) (n place : ℕ) (code : NakCode) → code ≢ SequenceError → HasNumber d place n → HasRejection d rejections n code → Contains rejections (record { number = n; place = place; code = code })
-has-rejection d rejections n place SequenceError other names r = absurd (other refl)
+has-rejection : (d : Direction) (rejections : List Rejection) (n place : ℕ) (code : NakReason) → code ≢ PsnSequenceError → HasNumber d place n → HasRejection d rejections n code → Contains rejections (record { number = n; place = place; code = code })
+has-rejection d rejections n place PsnSequenceError other names r = absurd (other refl)
 has-rejection d rejections n place InvalidRequest other names r = rejected-for d rejections n place InvalidRequest names r
-has-rejection d rejections n place RemoteAccess other names r = rejected-for d rejections n place RemoteAccess names r
-has-rejection d rejections n place RemoteOperation other names r = rejected-for d rejections n place RemoteOperation names r
+has-rejection d rejections n place RemoteAccessError other names r = rejected-for d rejections n place RemoteAccessError names r
+has-rejection d rejections n place RemoteOperationalError other names r = rejected-for d rejections n place RemoteOperationalError names r
 has-rejection d rejections n place ReceiverNotReady other names r = rejected-for d rejections n place ReceiverNotReady names r
 
-pub law-rejection : (d : Direction) (l : Link) (k place n : ℕ) (code : NakCode) → Reached d l → slice_get l.responses k ≡ Some (Some (Nak code n)) → code ≢ SequenceError → HasNumber d place n
+pub law-rejection : (d : Direction) (l : Link) (k place n : ℕ) (code : NakReason) → Reached d l → slice_get l.responses k ≡ Some (Some (Nak code n)) → code ≢ PsnSequenceError → HasNumber d place n
     → Contains l.rejections (record { number = n; place = place; code = code })
 law-rejection d l k place n code reached is other names =
     let s = reached-sound d l reached in

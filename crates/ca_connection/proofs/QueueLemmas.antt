@@ -4,7 +4,7 @@ use Rattle.std.specs.List.{Contains}
 use Rattle.ca_connection.specs.Limits.{request_distance}
 use Rattle.ca_connection.specs.Layout.{Direction}
 use Rattle.ca_connection.specs.Link.{Response, number_of, reach_of_all, Acceptance, Rejection}
-use Rattle.ca_connection.specs.Link.NakCode.{SequenceError, InvalidRequest, RemoteAccess, RemoteOperation, ReceiverNotReady}
+use Rattle.ca_connection.specs.Link.NakReason.{PsnSequenceError, InvalidRequest, RemoteAccessError, RemoteOperationalError, ReceiverNotReady}
 use Rattle.ca_connection.specs.Link.Response.{Ack, Nak, Data, Found}
 use Rattle.ca_connection.specs.Moves.{Keeps}
 use Rattle.ca_connection.specs.Moves.Keeps.{none as keeps_none, keep as keeps_one, leave as leaves_one}
@@ -16,10 +16,10 @@ pub holds-more : (d : Direction) (acceptances more : List Acceptance) (rejection
     → ((r : Rejection) → Contains rejections r → Contains rest r)
     → (a : Response) → Holds d acceptances rejections a → Holds d more rest a
 holds-more d acceptances more rejections rest grow grows (Ack n) h = h
-holds-more d acceptances more rejections rest grow grows (Nak SequenceError n) h = h
+holds-more d acceptances more rejections rest grow grows (Nak PsnSequenceError n) h = h
 holds-more d acceptances more rejections rest grow grows (Nak InvalidRequest n) h = record { place = h.place; number = h.number; rejection = grows _ h.rejection }
-holds-more d acceptances more rejections rest grow grows (Nak RemoteAccess n) h = record { place = h.place; number = h.number; rejection = grows _ h.rejection }
-holds-more d acceptances more rejections rest grow grows (Nak RemoteOperation n) h = record { place = h.place; number = h.number; rejection = grows _ h.rejection }
+holds-more d acceptances more rejections rest grow grows (Nak RemoteAccessError n) h = record { place = h.place; number = h.number; rejection = grows _ h.rejection }
+holds-more d acceptances more rejections rest grow grows (Nak RemoteOperationalError n) h = record { place = h.place; number = h.number; rejection = grows _ h.rejection }
 holds-more d acceptances more rejections rest grow grows (Nak ReceiverNotReady n) h = record { place = h.place; number = h.number; rejection = grows _ h.rejection }
 holds-more d acceptances more rejections rest grow grows (Data n left) h = h
 holds-more d acceptances more rejections rest grow grows (Found n found) h = record { place = h.place; atomic = h.atomic; acceptance = grow _ h.acceptance }

@@ -3,8 +3,8 @@ use Rattle.std.proofs.Common.{◌≡◌, ℕ, ◌+◌, ◌<◌, ◌≤◌, ◌�
 use Rattle.std.specs.List.{Contains}
 use Rattle.ca_connection.specs.Limits.{request_distance}
 use Rattle.ca_connection.specs.Layout.{Direction, is_atomic, HasNumber, bytes_left, span}
-use Rattle.ca_connection.specs.Link.{RequestPacket, NakCode, Response, number_of, reach_of_all, SavedResult, Rejection, Responder, Link}
-use Rattle.ca_connection.specs.Link.NakCode.{SequenceError, InvalidRequest, RemoteAccess, RemoteOperation, ReceiverNotReady}
+use Rattle.ca_connection.specs.Link.{RequestPacket, NakReason, Response, number_of, reach_of_all, SavedResult, Rejection, Responder, Link}
+use Rattle.ca_connection.specs.Link.NakReason.{PsnSequenceError, InvalidRequest, RemoteAccessError, RemoteOperationalError, ReceiverNotReady}
 use Rattle.ca_connection.specs.Link.Response.{Ack, Nak, Data, Found}
 use Rattle.ca_connection.specs.Moves.{Keeps, Reception, with_response, responder_at, Receives, acceptances_after, rejections_after, after_arrival}
 use Rattle.ca_connection.specs.Moves.Reception.{Neither, Rejected, Accepted}
@@ -43,12 +43,12 @@ arrival-sound d l packet w responder reception on top queue saved acceptances s 
   completions = completions-more d l.requester.una l.acceptances (acceptances_after w packet.place reception l.acceptances) l.completions (acceptances-grow w packet.place reception l.acceptances) s.completions;
 }
 
-rejection-holds : (d : Direction) (rejections : List Rejection) (n place : ℕ) (code : NakCode)
+rejection-holds : (d : Direction) (rejections : List Rejection) (n place : ℕ) (code : NakReason)
     → HasNumber d place n → HasRejection d (record { number = n; place = place; code = code } ∷ rejections) n code
-rejection-holds d rejections n place SequenceError names = tt
+rejection-holds d rejections n place PsnSequenceError names = tt
 rejection-holds d rejections n place InvalidRequest names = record { place = place; number = names; rejection = contains-head _ rejections }
-rejection-holds d rejections n place RemoteAccess names = record { place = place; number = names; rejection = contains-head _ rejections }
-rejection-holds d rejections n place RemoteOperation names = record { place = place; number = names; rejection = contains-head _ rejections }
+rejection-holds d rejections n place RemoteAccessError names = record { place = place; number = names; rejection = contains-head _ rejections }
+rejection-holds d rejections n place RemoteOperationalError names = record { place = place; number = names; rejection = contains-head _ rejections }
 rejection-holds d rejections n place ReceiverNotReady names = record { place = place; number = names; rejection = contains-head _ rejections }
 
 -- a packet from before is answered again
@@ -110,7 +110,7 @@ pub receives-sound : (d : Direction) (l : Link) (k : ℕ) (packet : RequestPacke
 receives-sound d l k packet _ _ some f near s packet_drop =
     arrival-sound d l packet packet.number l.responder Neither (omega arith) s.numbers.expected_request_top s.queue s.results s.acceptances s
 receives-sound d l k packet _ _ some f near s (sequence_error {kept = kept} lt keeps) =
-    again-sound d l packet packet.number kept (Nak SequenceError l.responder.expected) keeps (omega arith) (omega arith) tt s
+    again-sound d l packet packet.number kept (Nak PsnSequenceError l.responder.expected) keeps (omega arith) (omega arith) tt s
 receives-sound d l k packet _ _ some f near s (write_again {kept = kept} final lt is keeps) =
     again-sound d l packet packet.number kept (Ack final) keeps (omega arith) (omega arith) tt s
 receives-sound d l k packet _ _ some f near s (read_again {kept = kept} is below keeps) =

@@ -2,13 +2,13 @@
 use Rattle.std.proofs.Common.{◌≡◌, ℕ, zero, suc, ◌+◌, ◌-◌, ◌<◌, ◌≤◌, max, true, false, Bool, List, [], ◌∷◌, slice_get, Option, Some, refl, ap, subst, arith, ltb-true}
 use Rattle.std.specs.Prelude.{nat_lt, if◌then◌else◌}
 use Rattle.ca_connection.specs.Limits.{request_distance}
-use Rattle.ca_connection.specs.Layout.{Direction, packets, start, bytes_left}
+use Rattle.ca_connection.specs.Layout.{Direction, segments, start, bytes_left}
 use Rattle.ca_connection.specs.Link.{Response, number_of, gain, reach, reach_of_all, Acceptance, Rejection, Link}
 use Rattle.ca_connection.specs.Link.Response.{Ack, Nak, Data, Found}
 use Rattle.ca_connection.specs.Moves.{rest_of, Responds, with_one, after_response}
 use Rattle.ca_connection.specs.Moves.Responds.{front, deny}
 use Rattle.ca_connection.specs.Invariant.{NumberFact, ReadsFrom, Holds, ResponseFact, QueueFact, Sound}
-use Rattle.ca_connection.proofs.LayoutLemmas.{packets-some, packets-step, span-read, span-is_read, bytes_left-step}
+use Rattle.ca_connection.proofs.LayoutLemmas.{segments-some, segments-step, span-read, span-is_read, bytes_left-step}
 use Rattle.ca_connection.proofs.ListLemmas.{contains-head, one-grows}
 use Rattle.ca_connection.proofs.QueueLemmas.{holds-more, queue-lower, queue-low}
 
@@ -21,19 +21,19 @@ gain-le (Found n found) = omega arith
 reach-le : (mtu : ℕ) (a : Response) → reach a ≤ reach_of_all mtu a
 reach-le mtu (Ack n) = omega arith
 reach-le mtu (Nak code n) = omega arith
-reach-le mtu (Data n left) = omega (arith, packets-some mtu left)
+reach-le mtu (Data n left) = omega (arith, segments-some mtu left)
 reach-le mtu (Found n found) = omega arith
 
 -- the next packet of a READ
 reads-on : (d : Direction) (n left : ℕ) → 0 < d.mtu → d.mtu < left → ReadsFrom d n left → ReadsFrom d (n + 1) (left - d.mtu)
 reads-on d n left some more r =
-    let two : packets d.mtu left ≡ suc (packets d.mtu (left - d.mtu)) = packets-step d.mtu left some more in
-    let all : packets d.mtu left ≡ packets d.mtu (bytes_left d r.place n) = ap (packets d.mtu) r.rest in
+    let two : segments d.mtu left ≡ suc (segments d.mtu (left - d.mtu)) = segments-step d.mtu left some more in
+    let all : segments d.mtu left ≡ segments d.mtu (bytes_left d r.place n) = ap (segments d.mtu) r.rest in
     let end = span-read d r.place n some r.read r.number in
     let long = span-is_read d r.place n r.read in
     record {
       place = r.place;
-      number = record { from = omega (arith, r.number.from); below = omega (arith, two, all, end, long, packets-some d.mtu (left - d.mtu)) };
+      number = record { from = omega (arith, r.number.from); below = omega (arith, two, all, end, long, segments-some d.mtu (left - d.mtu)) };
       read = r.read;
       rest = omega (arith, r.rest, bytes_left-step d r.place n r.number.from);
     }
@@ -51,12 +51,12 @@ queue-front d acceptances rejections expected low (Data n left) rest some q = go
     go : (b : Bool) → nat_lt d.mtu left ≡ b → QueueFact d acceptances rejections expected (max low (n + 1)) (if b then Data (n + 1) (left - d.mtu) ∷ rest else rest)
     go true more =
         let lt : d.mtu < left = ltb-true d.mtu left more in
-        let two : packets d.mtu left ≡ suc (packets d.mtu (left - d.mtu)) = packets-step d.mtu left some lt in (
+        let two : segments d.mtu left ≡ suc (segments d.mtu (left - d.mtu)) = segments-step d.mtu left some lt in (
           omega (arith, q.0),
           reads-on d n left some lt q.1,
-          queue-lower d acceptances rejections expected (max low (n + packets d.mtu left)) (max (max low (n + 1)) (n + 1 + packets d.mtu (left - d.mtu))) rest (omega (arith, two)) q.2,
+          queue-lower d acceptances rejections expected (max low (n + segments d.mtu left)) (max (max low (n + 1)) (n + 1 + segments d.mtu (left - d.mtu))) rest (omega (arith, two)) q.2,
         )
-    go false last = queue-lower d acceptances rejections expected (max low (n + packets d.mtu left)) (max low (n + 1)) rest (omega (arith, packets-some d.mtu left)) q.2
+    go false last = queue-lower d acceptances rejections expected (max low (n + segments d.mtu left)) (max low (n + 1)) rest (omega (arith, segments-some d.mtu left)) q.2
 
 -- what a response that is sent has to be, so that the facts stay
 pub record Sendable (d : Direction) (l : Link) (a : Response) (rest : List Response) (rejection : Option Rejection) : Type 0 where
@@ -78,7 +78,7 @@ sendable d l a _ _ some (front _ rest is) s =
     }
 sendable d l _ _ _ some (deny n left place rest is names) s =
     let q : QueueFact d l.acceptances l.rejections l.responder.expected l.response_top (Data n left ∷ rest) = subst (QueueFact d l.acceptances l.rejections l.responder.expected l.response_top) is s.queue in
-    let low = queue-low d l.acceptances l.rejections l.responder.expected (max l.response_top (n + packets d.mtu left)) rest q.2 in
+    let low = queue-low d l.acceptances l.rejections l.responder.expected (max l.response_top (n + segments d.mtu left)) rest q.2 in
     record {
       reaches = omega (arith, low);
       near = q.0;

@@ -4,7 +4,7 @@ use Rattle.ca_psn.specs.Psn.{widened}
 use Rattle.ca_connection.specs.Layout.{Work, Direction, HasNumber, is_answered}
 use Rattle.ca_connection.specs.Layout.Work.{Local, Write, Read, Atomic}
 use Rattle.ca_connection.specs.Link.{RequestPacket, Response, SavedResult, Acceptance, AtomicCompletion, Link}
-use Rattle.ca_connection.specs.Link.NakCode.{SequenceError}
+use Rattle.ca_connection.specs.Link.NakReason.{PsnSequenceError}
 use Rattle.ca_connection.specs.Link.Response.{Ack, Nak, Data, Found}
 use Rattle.ca_connection.specs.Moves.{Reached}
 use Rattle.ca_connection.specs.Moves.Keeps.{none, leave}
@@ -176,7 +176,7 @@ abbrev both : List Acceptance
 both = acceptance (s + 1) 0 0 ∷ acceptance s 0 0 ∷ []
 
 abbrev nak : Option Response
-nak = Some (Nak SequenceError s)
+nak = Some (Nak PsnSequenceError s)
 
 only_acknowledged : (p : ℕ) → is_answered (two_packets.work p) ≡ false
 only_acknowledged zero = refl
@@ -191,10 +191,10 @@ lost_request =
     move opened (send 0 (record { number = number_one; room = omega arith }) (omega arith)) in
     let two_sent : Reached two_packets (link s (s + 2) s [] [] (packet (s + 1) 0 ∷ packet s 0 ∷ []) [] (s + 2) s [] []) =
     move one_sent (send 0 (record { number = number_two; room = omega arith }) (omega arith)) in
-    let ahead : Reached two_packets (link s (s + 2) s (Nak SequenceError s ∷ []) [] (packet (s + 1) 0 ∷ packet s 0 ∷ []) [] (s + 2) s [] []) =
+    let ahead : Reached two_packets (link s (s + 2) s (Nak PsnSequenceError s ∷ []) [] (packet (s + 1) 0 ∷ packet s 0 ∷ []) [] (s + 2) s [] []) =
     move two_sent (arrive 0 _ _ _ (record { is = refl; recent = omega arith }) (sequence_error (omega arith) none)) in
     let refused : Reached two_packets (link s (s + 2) s [] [] (packet (s + 1) 0 ∷ packet s 0 ∷ []) (nak ∷ []) (s + 2) s [] []) =
-    move ahead (respond (Nak SequenceError s) _ None (front (Nak SequenceError s) [] refl)) in
+    move ahead (respond (Nak PsnSequenceError s) _ None (front (Nak PsnSequenceError s) [] refl)) in
     let back : Reached two_packets (link s s s [] [] (packet (s + 1) 0 ∷ packet s 0 ∷ []) (nak ∷ []) (s + 2) s [] []) =
     move refused (take 0 _ _ _ (record { is = refl; recent = omega arith }) (acknowledge s s (omega arith) (omega arith) (λ p n low high names. only_acknowledged p) (omega arith) (omega arith))) in
     let one_again : Reached two_packets (link s (s + 1) s [] [] (packet s 0 ∷ packet (s + 1) 0 ∷ packet s 0 ∷ []) (nak ∷ []) (s + 2) s [] []) =

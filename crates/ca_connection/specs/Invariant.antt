@@ -3,8 +3,8 @@ use Rattle.std.specs.Prelude.{◌≡◌, ℕ, suc, ◌+◌, ◌*◌, ◌<◌, �
 use Rattle.std.specs.List.{Contains}
 use Rattle.ca_connection.specs.Limits.{most_outstanding, greatest_span, request_distance}
 use Rattle.ca_connection.specs.Layout.{Direction, is_read, is_atomic, start, first, HasNumber, bytes_left, span}
-use Rattle.ca_connection.specs.Link.{RequestPacket, NakCode, Response, number_of, reach, reach_of_all, SavedResult, Acceptance, Rejection, AtomicCompletion, Link}
-use Rattle.ca_connection.specs.Link.NakCode.{SequenceError, InvalidRequest, RemoteAccess, RemoteOperation, ReceiverNotReady}
+use Rattle.ca_connection.specs.Link.{RequestPacket, NakReason, Response, number_of, reach, reach_of_all, SavedResult, Acceptance, Rejection, AtomicCompletion, Link}
+use Rattle.ca_connection.specs.Link.NakReason.{PsnSequenceError, InvalidRequest, RemoteAccessError, RemoteOperationalError, ReceiverNotReady}
 use Rattle.ca_connection.specs.Link.Response.{Ack, Nak, Data, Found}
 
 -- 1. The numbers of the two sides form one chain, at most as long as what may be outstanding.
@@ -38,17 +38,17 @@ pub record ReadsFrom (d : Direction) (n left : ℕ) : Type 0 where
   pub rest : left ≡ bytes_left d place n
 
 -- the packet with this number was not accepted, for this reason
-pub record RejectedFor (d : Direction) (rejections : List Rejection) (n : ℕ) (code : NakCode) : Type 0 where
+pub record RejectedFor (d : Direction) (rejections : List Rejection) (n : ℕ) (code : NakReason) : Type 0 where
   pub place : ℕ
   pub number : HasNumber d place n
   pub rejection : Contains rejections (record { number = n; place = place; code = code })
 
 -- A NAK has its rejection, but for a sequence error, which says of its number only that it has not come yet.
-abbrev pub HasRejection : Direction → List Rejection → ℕ → NakCode → Type 0
-HasRejection d rejections n SequenceError = Unit {0}
+abbrev pub HasRejection : Direction → List Rejection → ℕ → NakReason → Type 0
+HasRejection d rejections n PsnSequenceError = Unit {0}
 HasRejection d rejections n InvalidRequest = RejectedFor d rejections n InvalidRequest
-HasRejection d rejections n RemoteAccess = RejectedFor d rejections n RemoteAccess
-HasRejection d rejections n RemoteOperation = RejectedFor d rejections n RemoteOperation
+HasRejection d rejections n RemoteAccessError = RejectedFor d rejections n RemoteAccessError
+HasRejection d rejections n RemoteOperationalError = RejectedFor d rejections n RemoteOperationalError
 HasRejection d rejections n ReceiverNotReady = RejectedFor d rejections n ReceiverNotReady
 
 -- what stands behind a response, in the queue or sent

@@ -53,15 +53,15 @@ bytes_of (Read bytes) = bytes
 bytes_of Atomic = 8
 
 -- how many packets a message of so many bytes has: one at least
-abbrev pub packets : ℕ → ℕ → ℕ
-packets mtu bytes = max 1 ((bytes + mtu - 1) / mtu)
+abbrev pub segments : ℕ → ℕ → ℕ
+segments mtu bytes = max 1 ((bytes + mtu - 1) / mtu)
 
 -- how many PSNs a request takes: one for each packet, of a READ one for each packet of its response
 abbrev pub psns : ℕ → Work → ℕ
 psns mtu Local = 0
-psns mtu (Send bytes) = packets mtu bytes
-psns mtu (Write bytes) = packets mtu bytes
-psns mtu (Read bytes) = packets mtu bytes
+psns mtu (Send bytes) = segments mtu bytes
+psns mtu (Write bytes) = segments mtu bytes
+psns mtu (Read bytes) = segments mtu bytes
 psns mtu Atomic = 1
 
 -- The whole number of the first packet. It lies 2^24 above the PSN, so that half of all PSNs lie below it.
@@ -87,7 +87,7 @@ abbrev pub span_of : ℕ → Work → ℕ → ℕ
 span_of mtu Local left = 1
 span_of mtu (Send bytes) left = 1
 span_of mtu (Write bytes) left = 1
-span_of mtu (Read bytes) left = packets mtu left
+span_of mtu (Read bytes) left = segments mtu left
 span_of mtu Atomic left = 1
 
 -- how many PSNs the packet with number n of the request at this place takes

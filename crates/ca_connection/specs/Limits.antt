@@ -1,6 +1,6 @@
 -- The limits on which the laws of a connection rest, and how far behind a packet can be because of them. Contracts cite it.
 use Rattle.std.specs.Prelude.{ℕ, ◌+◌, ◌-◌, ◌*◌}
-use Rattle.ca_base.specs.declared.limits.TheConstants.{MAX_MESSAGE_PACKETS, MAX_OUTSTANDING_PSNS, MAX_KEPT_ENVELOPES}
+use Rattle.ca_base.specs.declared.limits.TheConstants.{MAX_MESSAGE_PACKETS, MAX_OUTSTANDING_PSNS, KEPT_ENVELOPES}
 
 -- how many numbers a requester has outstanding at most
 abbrev pub most_outstanding : ℕ
@@ -12,11 +12,11 @@ greatest_span = MAX_MESSAGE_PACKETS
 
 -- a request can be delivered while fewer than so many later envelopes came to the responder's mailbox
 abbrev pub kept_requests : ℕ
-kept_requests = MAX_KEPT_ENVELOPES
+kept_requests = KEPT_ENVELOPES
 
 -- a response can be delivered while fewer than so many later envelopes came to the requester's mailbox
 abbrev pub kept_responses : ℕ
-kept_responses = MAX_KEPT_ENVELOPES
+kept_responses = KEPT_ENVELOPES
 
 -- how far below the expected number a request can be that is delivered: 1,052,672
 abbrev pub request_distance : ℕ

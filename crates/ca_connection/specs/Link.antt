@@ -1,7 +1,7 @@
 -- One direction of a connection, over whole numbers: what its two sides hold, what is under way between them, and what has
 -- happened. Contracts cite it.
 use Rattle.std.specs.Prelude.{ℕ, ◌+◌, List, [], Option}
-use Rattle.ca_connection.specs.Layout.{Direction, packets, start}
+use Rattle.ca_connection.specs.Layout.{Direction, segments, start}
 
 -- a packet of a request: its number, and the place of the request
 pub record RequestPacket : Type 0 where
@@ -9,19 +9,19 @@ pub record RequestPacket : Type 0 where
   pub place : ℕ
 
 -- why a packet is not accepted: the four NAK codes, and RNR NAK
-pub data NakCode : Type 0 where
-  SequenceError : NakCode
-  InvalidRequest : NakCode
-  RemoteAccess : NakCode
-  RemoteOperation : NakCode
-  ReceiverNotReady : NakCode
+pub data NakReason : Type 0 where
+  PsnSequenceError : NakReason
+  InvalidRequest : NakReason
+  RemoteAccessError : NakReason
+  RemoteOperationalError : NakReason
+  ReceiverNotReady : NakReason
 
 -- A response with its number, and what it says: an acknowledgement; a NAK or RNR NAK; a READ response, with the bytes of the
 -- READ that are left from its number on; an ATOMIC Acknowledge, with the value found. An item of the response queue is the
 -- next response that it stands for.
 pub data Response : Type 0 where
   Ack : ℕ → Response
-  Nak : NakCode → ℕ → Response
+  Nak : NakReason → ℕ → Response
   Data : ℕ → ℕ → Response
   Found : ℕ → ℕ → Response
 
@@ -46,7 +46,7 @@ reach a = number_of a + gain a
 abbrev pub reach_of_all : ℕ → Response → ℕ
 reach_of_all mtu (Ack n) = n + 1
 reach_of_all mtu (Nak code n) = n
-reach_of_all mtu (Data n left) = n + packets mtu left
+reach_of_all mtu (Data n left) = n + segments mtu left
 reach_of_all mtu (Found n value) = n + 1
 
 -- a saved result: what the atomic with this number found
@@ -64,7 +64,7 @@ pub record Acceptance : Type 0 where
 pub record Rejection : Type 0 where
   pub number : ℕ
   pub place : ℕ
-  pub code : NakCode
+  pub code : NakReason
 
 -- the completion of an atomic: its request, and the value that it gave
 pub record AtomicCompletion : Type 0 where

@@ -7,8 +7,8 @@ use Rattle.ca_psn.specs.Psn.{widened}
 use Rattle.ca_connection.specs.Limits.{most_outstanding, greatest_span, kept_requests, kept_responses}
 use Rattle.ca_connection.specs.Layout.{Direction, is_data, is_read, is_atomic, HasNumber, bytes_left, span}
 use Rattle.ca_connection.specs.Acknowledge.{PassesNone}
-use Rattle.ca_connection.specs.Link.{RequestPacket, NakCode, Response, number_of, gain, reach, SavedResult, Acceptance, Rejection, AtomicCompletion, Requester, Responder, Link, opening}
-use Rattle.ca_connection.specs.Link.NakCode.{SequenceError, RemoteAccess}
+use Rattle.ca_connection.specs.Link.{RequestPacket, NakReason, Response, number_of, gain, reach, SavedResult, Acceptance, Rejection, AtomicCompletion, Requester, Responder, Link, opening}
+use Rattle.ca_connection.specs.Link.NakReason.{PsnSequenceError, RemoteAccessError}
 use Rattle.ca_connection.specs.Link.Response.{Ack, Nak, Data, Found}
 
 -- what is kept of a list: some of its items, in their order
@@ -20,7 +20,7 @@ pub data Keeps {A : Type 0} : List A → List A → Type 0 where
 -- what came of a packet that arrived: it was neither accepted nor rejected, rejected, or accepted, with what it found
 pub data Reception : Type 0 where
   Neither : Reception
-  Rejected : NakCode → Reception
+  Rejected : NakReason → Reception
   Accepted : ℕ → Reception
 
 -- a responder with one more item at the end of what it keeps of its response queue
@@ -39,7 +39,7 @@ pub data Receives (d : Direction) (packet : RequestPacket) (w : ℕ) (r : Respon
   sequence_error : {kept : List Response}
       → r.expected < w
       → Keeps r.queue kept
-      → Receives d packet w r (with_response r kept (Nak SequenceError r.expected)) Neither
+      → Receives d packet w r (with_response r kept (Nak PsnSequenceError r.expected)) Neither
   write_again : {kept : List Response} (last : ℕ)
       → w < r.expected
       → suc last ≡ r.expected
@@ -54,7 +54,7 @@ pub data Receives (d : Direction) (packet : RequestPacket) (w : ℕ) (r : Respon
       → Contains r.results (record { number = w; found = found })
       → Keeps r.queue kept
       → Receives d packet w r (with_response r kept (Found w found)) Neither
-  refuse : {kept : List Response} (code : NakCode)
+  refuse : {kept : List Response} (code : NakReason)
       → w ≡ r.expected
       → Keeps r.queue kept
       → Receives d packet w r (with_response r kept (Nak code w)) (Rejected code)
@@ -95,10 +95,10 @@ pub data Responds (d : Direction) (r : Responder) : Response → List Response �
   deny : (n left place : ℕ) (rest : List Response)
       → r.queue ≡ Data n left ∷ rest
       → HasNumber d place n
-      → Responds d r (Nak RemoteAccess n) [] (Some (record { number = n; place = place; code = RemoteAccess }))
+      → Responds d r (Nak RemoteAccessError n) [] (Some (record { number = n; place = place; code = RemoteAccessError }))
 
 -- What the requester makes of a response, where w is the number that it takes the response's PSN for. An acknowledgement
--- moves `una` on past what it covers, but past no number of a READ or an atomic. Past such a number it goes by the response to
+-- moves `una` on past what it takes_number, but past no number of a READ or an atomic. Past such a number it goes by the response to
 -- that one alone. The cursor may go back at the same time, and never below `una`.
 pub data Takes (d : Direction) (a : Response) (w : ℕ) (r : Requester) : Requester → Option AtomicCompletion → Type 0 where
   drop : Takes d a w r r None

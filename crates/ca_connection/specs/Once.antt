@@ -16,8 +16,8 @@ abbrev pub acceptances_of_request : ℕ → List Acceptance → ℕ
 acceptances_of_request place acceptances = count_by (λ m. m.place == place) acceptances
 
 -- the accepted packet took the number n
-abbrev pub covers : Direction → ℕ → Acceptance → Bool
-covers d n m = nat_le m.number n && nat_lt n (m.number + span d m.place m.number)
+abbrev pub takes_number : Direction → ℕ → Acceptance → Bool
+takes_number d n m = nat_le m.number n && nat_lt n (m.number + span d m.place m.number)
 
 -- all numbers of the request are acknowledged or answered
 abbrev pub HasSucceeded : Direction → Link → ℕ → Type 0

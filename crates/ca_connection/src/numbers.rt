@@ -2,7 +2,7 @@ ghost use Rattle.std.specs.Prelude.{◌≡◌, ℕ, suc, ◌+◌, ◌%◌, ◌^�
 ghost use Rattle.ca_base.specs.declared.limits.TheConstants.{MIN_PATH_MTU, MAX_MESSAGE_BYTES, MAX_MESSAGE_PACKETS};
 ghost use Rattle.ca_psn.specs.Psn.{widened};
 ghost use Rattle.ca_connection.specs.Acknowledge.{Acknowledges, first_unanswered};
-ghost use Rattle.ca_connection.specs.Layout.{Direction, HasNumber, first, is_read, packets, span, start};
+ghost use Rattle.ca_connection.specs.Layout.{Direction, HasNumber, first, is_read, segments, span, start};
 
 /// A PSN stands for the number that was sent, where that lies at most half of all PSNs below the number beside which the
 /// PSN is read, or less than half above it.
@@ -32,7 +32,7 @@ pub fn read_asks_for_the_rest()
 
 /// No message has more packets than the limit says.
 pub fn longest_message()
-    ensures { (mtu bytes : ℕ) → MIN_PATH_MTU ≤ mtu → bytes ≤ MAX_MESSAGE_BYTES → packets mtu bytes ≤ MAX_MESSAGE_PACKETS }
+    ensures { (mtu bytes : ℕ) → MIN_PATH_MTU ≤ mtu → bytes ≤ MAX_MESSAGE_BYTES → segments mtu bytes ≤ MAX_MESSAGE_PACKETS }
 {}
 
 /// The walk over the requests that are not finished, from the oldest on, so many of them that they have all numbers up to

@@ -3,7 +3,7 @@ ghost use Rattle.std.specs.List.{Contains, count_by};
 ghost use Rattle.ca_connection.specs.Layout.{Direction, HasNumber, first, is_atomic, is_read, start};
 ghost use Rattle.ca_connection.specs.Link.{Acceptance, Link};
 ghost use Rattle.ca_connection.specs.Moves.{Reached};
-ghost use Rattle.ca_connection.specs.Once.{HasSucceeded, covers, acceptances_of_packet, acceptances_of_request};
+ghost use Rattle.ca_connection.specs.Once.{HasSucceeded, takes_number, acceptances_of_packet, acceptances_of_request};
 
 /// An accepted packet is of the request that has its number.
 pub fn acceptance_is_of_its_request()
@@ -19,7 +19,7 @@ pub fn packet_acts_once()
 /// Each number below the expected one was taken by one accepted packet.
 pub fn number_is_accepted_once()
     ensures { (d : Direction) (l : Link) (n : ℕ) → Reached d l → start d ≤ n → n < l.responder.expected
-        → count_by (covers d n) l.acceptances ≡ 1 }
+        → count_by (takes_number d n) l.acceptances ≡ 1 }
 {}
 
 /// At most one acceptance stems from a posted atomic.
