@@ -37,6 +37,12 @@ pub const MAX_PIECES: usize = 4;
 /// The most bytes of a message.
 pub const MAX_MESSAGE_BYTES: u32 = 1_048_576;
 
+/// The smallest path MTU: the bytes of a full packet's payload.
+pub const MIN_PATH_MTU: u32 = 256;
+
+/// The most packets of a message: the longest one at the smallest path MTU.
+pub const MAX_MESSAGE_PACKETS: u32 = 4096;
+
 /// The most requests of a send, a receive or a shared receive queue.
 pub const MAX_DEPTH: u16 = 256;
 
