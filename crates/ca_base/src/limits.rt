@@ -69,3 +69,9 @@ pub const MAX_WORKERS: u32 = 16;
 
 /// The most bytes of a packet's payload: the largest path MTU.
 pub const MAX_PAYLOAD_BYTES: usize = 4096;
+
+/// The most passes over one row of parts: how many numbers the first pass has, and its share.
+pub const MAX_PASSES: u64 = 4_294_967_296;
+
+/// The stamp from which on each pass number has at most one stamp more.
+pub const LATE_STAMP: u64 = 9_223_372_036_854_775_808;
