@@ -1,5 +1,5 @@
 -- The stamp of a move may be asked for, and no number passes the sum of all.
-use Rattle.std.proofs.Common.{◌≡◌, ◌≢◌, ℕ, ◌+◌, ◌-◌, ◌*◌, ◌<◌, ◌≤◌, ◌⊎◌, inl, inr, ⊎_elim, Bool, true, false, List, [], ◌∷◌, ◌++◌, length, set, Option, Some, None, slice_get, slice_index, if◌then◌else◌, sym, refl, ap, ◌∙◌, subst, length-set, arith}
+use Rattle.std.proofs.Common.{◌≡◌, ◌≢◌, ℕ, ◌+◌, ◌-◌, ◌*◌, ◌<◌, ◌≤◌, ◌⊎◌, inl, inr, ⊎_elim, Bool, true, false, List, [], ◌∷◌, ◌++◌, length, set, Some, None, slice_get, slice_index, if◌then◌else◌, sym, refl, ap, ◌∙◌, subst, length-set, arith}
 use Rattle.std.specs.Prelude.{◌==◌}
 use Rattle.std.proofs.lemmas.Option.{slice_get_within, get_or_from_slice_get}
 use Rattle.ca_base.specs.declared.limits.TheConstants.{LATE_STAMP}
@@ -7,15 +7,15 @@ use Rattle.ca_parts.specs.declared.pass.Turn1.{Turn1}
 use Rattle.ca_parts.specs.Lists.{Has, EachFollows, bit, times, numbers_of}
 use Rattle.ca_parts.specs.Hands.{AllStand}
 use Rattle.ca_parts.specs.Calls.{MayStamp}
-use Rattle.ca_parts.proofs.Lists.{bit_same, bit_other}
+use Rattle.ca_parts.proofs.Lists.{bit_same}
 use Rattle.ca_parts_moves.specs.declared.amount.Amount.{Amount}
 use Rattle.ca_parts_moves.specs.declared.amount.Move.{Move}
 use Rattle.ca_parts_moves.specs.declared.amount.Opening.{Opening}
-use Rattle.ca_parts_moves.specs.Numbers.{numbers_after_move, numbers_after, opening_numbers, IsMove, CanFollow, StandsFor, is_held, next_of}
+use Rattle.ca_parts_moves.specs.Numbers.{numbers_after, opening_numbers, IsMove, CanFollow, StandsFor, is_held, next_of}
 use Rattle.ca_parts_moves.specs.Held.{Known}
 use Rattle.ca_parts_moves.specs.Laws.{numbers_after-append, slice_get-set_other}
 use Rattle.ca_parts_moves.proofs.Hands.{held_is}
-use Rattle.ca_parts_moves.proofs.Sums.{all, all_two, all_of_history}
+use Rattle.ca_parts_moves.proofs.Sums.{all_two, all_of_history}
 
 -- two of the numbers are no more than all of them
 pub two_fit : (key : Opening) (log : List Move) (i j : ℕ) (x y : Amount) → EachFollows (CanFollow key) [] log → i ≢ j → StandsFor key log i x → StandsFor key log j y → x.0 + y.0 ≤ 8 * key.each

@@ -2,9 +2,10 @@
 use Rattle.std.proofs.Common.{◌≡◌, ◌≢◌, ℕ, zero, suc, ◌+◌, ◌-◌, ◌*◌, ◌<◌, ◌≤◌, List, [], ◌∷◌, ◌++◌, length, set, replicate, get_or, sum, Option, Some, None, slice_get, slice_index, sym, refl, ap, ◌∙◌, subst, length-set, arith}
 use Rattle.std.proofs.lemmas.List.{get_or-set_other}
 use Rattle.ca_parts.specs.Lists.{EachFollows, total}
+use Rattle.ca_parts_moves.specs.declared.amount.Amount.{Amount}
 use Rattle.ca_parts_moves.specs.declared.amount.Move.{Move}
 use Rattle.ca_parts_moves.specs.declared.amount.Opening.{Opening}
-use Rattle.ca_parts_moves.specs.Numbers.{numbers_after_move, numbers_after, opening_numbers, CanFollow}
+use Rattle.ca_parts_moves.specs.Numbers.{numbers_after_move, numbers_after, opening_numbers, CanFollow, StandsFor}
 use Rattle.ca_parts_moves.specs.Laws.{numbers_after-append}
 
 abbrev pub all : List ℕ → ℕ
@@ -48,3 +49,14 @@ all_after key before (m ∷ ms) follows so_far =
 
 pub all_of_history : (key : Opening) (log : List Move) → EachFollows (CanFollow key) [] log → (all (numbers_after log (opening_numbers key)) ≡ 8 * key.each) × (length (numbers_after log (opening_numbers key)) ≡ 8)
 all_of_history key log follows = all_after key [] log follows (omega arith, refl)
+
+same_sum : (values : List Amount) (numbers : List ℕ) → length values ≡ length numbers → ((k : ℕ) (x : Amount) → slice_get values k ≡ Some x → slice_get numbers k ≡ Some x.0) → total (λ (x : Amount). x.0) values ≡ all numbers
+same_sum [] [] long each = refl
+same_sum [] (n ∷ ns) long each = absurd (omega arith)
+same_sum (x ∷ xs) [] long each = absurd (omega arith)
+same_sum (x ∷ xs) (n ∷ ns) long each = let e : Some n ≡ Some x.0 = each 0 x refl in let here : n ≡ x.0 = cc in let rest : total (λ (y : Amount). y.0) xs ≡ all ns = same_sum xs ns (omega arith) (λ k y d. each (suc k) y d) in
+    let out : x.0 + total (λ (y : Amount). y.0) xs ≡ n + all ns = omega arith in out
+
+-- what stands for the numbers after a history adds up to what they did before
+pub all_values : (key : Opening) (log : List Move) (values : List Amount) → EachFollows (CanFollow key) [] log → length values ≡ 8 → ((k : ℕ) (x : Amount) → slice_get values k ≡ Some x → StandsFor key log k x) → total (λ (x : Amount). x.0) values ≡ 8 * key.each
+all_values key log values follows long each = let whole = all_of_history key log follows in same_sum values (numbers_after log (opening_numbers key)) (long ∙ sym whole.1) each ∙ whole.0

@@ -1,5 +1,5 @@
 -- The parts that a move holds, and what a call leaves of a pass. Contracts cite it.
-use Rattle.std.specs.Prelude.{◌≡◌, ◌≤◌, ℕ, ◌+◌, ◌-◌, List, [], ◌∷◌, ◌++◌, map, take, length}
+use Rattle.std.specs.Prelude.{◌≡◌, ◌≤◌, ℕ, List, [], ◌∷◌, map, take}
 use Rattle.ca_parts.specs.declared.view.View.{View}
 use Rattle.ca_parts.specs.declared.pass.Turn1.{Turn1}
 use Rattle.ca_parts.specs.Lists.{times, numbers_of}

@@ -1,8 +1,8 @@
 -- The laws of the machine: a move changes only the two numbers that it needs, and it needs next what is not in hand. For proofs only.
-use Rattle.std.proofs.Common.{◌≡◌, ◌≢◌, ℕ, zero, suc, ◌+◌, ◌-◌, ◌<◌, ◌≤◌, Bool, true, false, true≢false, nat_lt, List, [], ◌∷◌, ◌++◌, set, Option, Some, None, slice_get, slice_index, if◌then◌else◌, sym, refl, ap, ◌∙◌, subst, arith}
+use Rattle.std.proofs.Common.{◌≡◌, ◌≢◌, ℕ, zero, suc, ◌+◌, ◌-◌, Bool, true, false, List, [], ◌∷◌, ◌++◌, set, Some, None, slice_get, slice_index, if◌then◌else◌, sym, refl, ap, ◌∙◌, subst, arith}
 use Rattle.std.proofs.lemmas.Bool.Decides.{nat_tests}
-use Rattle.ca_parts.specs.Lists.{Has, times, numbers_of}
-use Rattle.ca_parts.specs.Hands.{Suffices, IsTakenFor, AllStand}
+use Rattle.ca_parts.specs.Lists.{Has}
+use Rattle.ca_parts.specs.Hands.{Suffices, AllStand}
 use Rattle.ca_parts.proofs.Lists.{has_times, times_has}
 use Rattle.ca_parts_moves.specs.declared.amount.Amount.{Amount}
 use Rattle.ca_parts_moves.specs.declared.amount.Move.{Move}

@@ -1,5 +1,5 @@
 -- The eight numbers after a list of moves, and what a move needs. Contracts cite it.
-use Rattle.std.specs.Prelude.{◌≡◌, ◌≢◌, ℕ, ◌+◌, ◌-◌, ◌<◌, ◌≤◌, Bool, nat_lt, List, [], ◌∷◌, map, set, replicate, Option, Some, None, slice_get, slice_index, if◌then◌else◌}
+use Rattle.std.specs.Prelude.{◌≡◌, ◌≢◌, ℕ, ◌+◌, ◌-◌, ◌<◌, ◌≤◌, Bool, nat_lt, List, [], ◌∷◌, set, replicate, Option, Some, None, slice_get, slice_index, if◌then◌else◌}
 use Rattle.ca_parts.specs.Lists.{times, numbers_of}
 use Rattle.ca_parts_moves.specs.declared.amount.TheConstants.{NUMBERS}
 use Rattle.ca_parts_moves.specs.declared.amount.Amount.{Amount}

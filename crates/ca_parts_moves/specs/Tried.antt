@@ -1,5 +1,5 @@
 -- What a tried move leaves of a pass. Contracts cite it.
-use Rattle.std.specs.Prelude.{◌≡◌, ◌<◌, ◌≤◌, ◌⊎◌, ℕ, List, [], ◌∷◌, ◌++◌}
+use Rattle.std.specs.Prelude.{◌≡◌, ◌<◌, ◌≤◌, ◌⊎◌, ℕ, [], ◌∷◌, ◌++◌}
 use Rattle.ca_parts_moves.specs.declared.amount.Amount.{Amount}
 use Rattle.ca_parts_moves.specs.declared.amount.Move.{Move}
 use Rattle.ca_base.specs.declared.limits.TheConstants.{LATE_STAMP}

@@ -11,8 +11,10 @@
 mod amount;
 mod holding;
 mod moving;
-mod race;
 #[cfg(test)]
 mod tests;
+mod threads;
 
 pub use amount::{Amount, Move, NUMBERS, Opening};
+pub use moving::{MoveError, try_move};
+pub use threads::{race, run, start};

@@ -1,4 +1,4 @@
-use Rattle.std.proofs.Common.{◌≡◌, ◌≤◌, ◌⊎◌, ◌-◌, [], false, vec_len, vec_capacity, Some}
+use Rattle.std.proofs.Common.{◌≡◌, ◌≤◌, ◌⊎◌, ◌-◌, false, vec_len, vec_capacity, Some}
 use Rattle.ca_parts.specs.Lists.{numbers_of}
 use Rattle.ca_parts.specs.Rows.{view_of, IsPassOf}
 use Rattle.ca_parts_moves.specs.Held.{hand_of, first_parts, SameRecord}

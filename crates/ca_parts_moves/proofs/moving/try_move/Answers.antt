@@ -1,4 +1,4 @@
-use Rattle.std.proofs.Common.{◌≡◌, ◌<◌, ◌≤◌, ◌*◌, ◌∷◌, ◌++◌, [], List, ℕ, ap, sym, ◌∙◌, arith}
+use Rattle.std.proofs.Common.{◌∷◌, ◌++◌, [], List, ℕ, ap, ◌∙◌, arith}
 use Rattle.ca_parts_moves.specs.declared.amount.Amount.{Amount}
 use Rattle.ca_parts_moves.proofs.Marks.{two_of, may_mark}
 use Rattle.ca_parts_moves.proofs.moving.try_move.Goals as goal
