@@ -61,19 +61,23 @@ module _ {S E N T : Type 0} (needs : S → E → List (ℕ × T) → Option ℕ)
       (with_slots (λ m. Allows (FactsOfParts needs steps stands key) slots id m 0 (λ n. (n + 1) % 2 ^ 64) (stamped_as needs steps stands (Some (entry, news)) (step slots 0 1 0 none) m)) [] bare
       (stamps needs steps stands key records frame slots id me.0 entry news settings out some_number may))
 
-  pub takes_at : ((event : E) (hand : List (ℕ × T)) (k : ℕ) → IsTakenFor needs key event hand → needs key event hand ≡ Some k → (y : T) → ¬ Has (k, y) hand)
-      → (k name : ℕ) (asked : Option E) (event : E) → asked ≡ Some event → k < slots → name ≡ me.0.first + 1 → me.1 ≡ [] → me.0.settings ≡ Some key → me.0.out ≡ None → 0 < me.0.count → MayTake needs key event k me.0
-      → Allows (FactsOfParts needs steps stands key) slots id me (word_of k) (λ n. either (n == 0) name n) (took needs steps stands asked (step slots (word_of k) 0 name none) me)
-  takes_at apart k name asked event asked_is inside name_is bare settings out some_number may =
-      subst (λ (o : Option E). Allows (FactsOfParts needs steps stands key) slots id me (word_of k) (λ n. either (n == 0) name n) (took needs steps stands o (step slots (word_of k) 0 name none) me)) (sym asked_is)
+  pub takes_at : (word k : ℕ) → word ≡ word_of k → ((event : E) (hand : List (ℕ × T)) (k : ℕ) → IsTakenFor needs key event hand → needs key event hand ≡ Some k → (y : T) → ¬ Has (k, y) hand)
+      → (name : ℕ) (asked : Option E) (event : E) → asked ≡ Some event → k < slots → name ≡ me.0.first + 1 → me.1 ≡ [] → me.0.settings ≡ Some key → me.0.out ≡ None → 0 < me.0.count → MayTake needs key event k me.0
+      → Allows (FactsOfParts needs steps stands key) slots id me word (λ n. either (n == 0) name n) (took needs steps stands asked (step slots word 0 name none) me)
+  takes_at word k word_is apart name asked event asked_is inside name_is bare settings out some_number may =
+      subst (λ (i : ℕ). Allows (FactsOfParts needs steps stands key) slots id me i (λ n. either (n == 0) name n) (took needs steps stands asked (step slots i 0 name none) me)) (sym word_is)
+      (subst (λ (o : Option E). Allows (FactsOfParts needs steps stands key) slots id me (word_of k) (λ n. either (n == 0) name n) (took needs steps stands o (step slots (word_of k) 0 name none) me)) (sym asked_is)
       (with_slots (λ m. Allows (FactsOfParts needs steps stands key) slots id m (word_of k) (λ n. either (n == 0) name n) (took needs steps stands (Some event) (step slots (word_of k) 0 name none) m)) [] bare
-      (takes_or_not needs steps stands key apart slots id k name me.0 event inside name_is settings out some_number may))
+      (takes_or_not needs steps stands key apart slots id k name me.0 event inside name_is settings out some_number may)))
 
-  pub shelves_at : (k : ℕ) → me.1 ≡ (k, None) ∷ [] → me.0.out ≡ Some k → Allows (FactsOfParts needs steps stands key) slots id me (word_of k) (λ n. n) (shelved (step slots (word_of k) 0 0 none) me)
-  shelves_at k slot out = with_slots (λ m. Allows (FactsOfParts needs steps stands key) slots id m (word_of k) (λ n. n) (shelved (step slots (word_of k) 0 0 none) m)) ((k, None) ∷ []) slot (shelves needs steps stands key slots id k me.0 out)
+  pub shelves_at : (word k : ℕ) → word ≡ word_of k → me.1 ≡ (k, None) ∷ [] → me.0.out ≡ Some k → Allows (FactsOfParts needs steps stands key) slots id me word (λ n. n) (shelved (step slots word 0 0 none) me)
+  shelves_at word k word_is slot out = subst (λ (i : ℕ). Allows (FactsOfParts needs steps stands key) slots id me i (λ n. n) (shelved (step slots i 0 0 none) me)) (sym word_is)
+      (with_slots (λ m. Allows (FactsOfParts needs steps stands key) slots id m (word_of k) (λ n. n) (shelved (step slots (word_of k) 0 0 none) m)) ((k, None) ∷ []) slot (shelves needs steps stands key slots id k me.0 out))
 
-  pub fetches_at : (k : ℕ) (x : T) → me.1 ≡ [] → Has (k, x) me.0.hand → me.0.out ≡ None → Allows (FactsOfParts needs steps stands key) slots id me (word_of k) (λ n. n) (fetched (step slots (word_of k) 0 0 none) me)
-  fetches_at k x bare has out = with_slots (λ m. Allows (FactsOfParts needs steps stands key) slots id m (word_of k) (λ n. n) (fetched (step slots (word_of k) 0 0 none) m)) [] bare (fetches needs steps stands key slots id k me.0 x has out)
+  pub fetches_at : (word k : ℕ) → word ≡ word_of k → (x : T) → me.1 ≡ [] → Has (k, x) me.0.hand → me.0.out ≡ None → Allows (FactsOfParts needs steps stands key) slots id me word (λ n. n) (fetched (step slots word 0 0 none) me)
+  fetches_at word k word_is x bare has out = subst (λ (i : ℕ). Allows (FactsOfParts needs steps stands key) slots id me i (λ n. n) (fetched (step slots i 0 0 none) me)) (sym word_is)
+      (with_slots (λ m. Allows (FactsOfParts needs steps stands key) slots id m (word_of k) (λ n. n) (fetched (step slots (word_of k) 0 0 none) m)) [] bare (fetches needs steps stands key slots id k me.0 x has out))
 
-  pub gives_at : (k : ℕ) (x : T) → me.1 ≡ (k, Some x) ∷ [] → Has (k, x) me.0.hand → me.0.out ≡ Some k → Allows (FactsOfParts needs steps stands key) slots id me (word_of k) (λ _. 0) (λ _. gave (step slots (word_of k) 0 0 none) me 0)
-  gives_at k x slot has out = with_slots (λ m. Allows (FactsOfParts needs steps stands key) slots id m (word_of k) (λ _. 0) (λ _. gave (step slots (word_of k) 0 0 none) m 0)) ((k, Some x) ∷ []) slot (gives_back needs steps stands key slots id k me.0 x has out)
+  pub gives_at : (word k : ℕ) → word ≡ word_of k → (x : T) → me.1 ≡ (k, Some x) ∷ [] → Has (k, x) me.0.hand → me.0.out ≡ Some k → Allows (FactsOfParts needs steps stands key) slots id me word (λ _. 0) (λ _. gave (step slots word 0 0 none) me 0)
+  gives_at word k word_is x slot has out = subst (λ (i : ℕ). Allows (FactsOfParts needs steps stands key) slots id me i (λ _. 0) (λ _. gave (step slots i 0 0 none) me 0)) (sym word_is)
+      (with_slots (λ m. Allows (FactsOfParts needs steps stands key) slots id m (word_of k) (λ _. 0) (λ _. gave (step slots (word_of k) 0 0 none) m 0)) ((k, Some x) ∷ []) slot (gives_back needs steps stands key slots id k me.0 x has out))

@@ -90,7 +90,7 @@ impl<T: Machine> Parts<T> {
         ensures whole { IfOk result (λ r. IsWhole T.needs T.steps T.stands (settings_of self) r.1 r.0.items (view_of pass)) }
         ensures same { IfErr result (λ r. (r.0 ≡ self) × (r.1 ≡ pass)) }
     {
-        if pass.share < MAX_PASSES {
+        if !pass.is_alone() {
             return Err((self, pass));
         }
         let PartPass {

@@ -1,10 +1,11 @@
 //! A caller's token for a row of parts, and what it has taken.
-ghost use Rattle.std.specs.Prelude.{◌≡◌, ◌+◌, ◌<◌, ◌≤◌};
+ghost use Rattle.std.specs.Prelude.{◌≡◌, ◌+◌, ◌<◌, ◌≤◌, ◌↔◌, IsTrue};
 ghost use Rattle.ca_base.specs.declared.limits.TheConstants.{MAX_PASSES};
 
 use crate::machine::Machine;
 use crate::view::View;
 use atomic_table::Seat;
+use ca_base::limits::MAX_PASSES;
 
 /// The right to make calls on one row of parts. It has a range of pass numbers, of which the lowest is its own, and a
 /// share of the row.
@@ -49,5 +50,12 @@ impl<T: Machine> PartPass<T> {
         ensures { result ≡ (view_of self.now).share }
     {
         self.share
+    }
+
+    // Whether this is the only pass.
+    pub(crate) fn is_alone(&self) -> bool
+        ensures { IsTrue result ↔ ((view_of self.now).share ≡ MAX_PASSES) }
+    {
+        self.share == MAX_PASSES
     }
 }

@@ -10,7 +10,7 @@ use crate::machine::Machine;
 use crate::parts::Parts;
 use crate::pass::{Busy, PartPass, Turn1};
 use crate::plays::{Asked, Fetch, Give, Shelve, Take};
-use crate::words::WORDS_APART;
+use crate::words::place_of_word;
 use std::marker::Brand;
 
 // Takes the part for the event that the call picks.
@@ -29,7 +29,7 @@ fn take<T: Machine, K: Asked<T::Event>>(
     ensures not_alone { OnErr result ((view_of pass.old).share ≢ MAX_PASSES) }
 {
     let table = &row.table.shared;
-    let word = WORDS_APART * (part as usize + 1);
+    let word = place_of_word(part);
     let name = pass.number as u64 + 1;
     let found = table.compare_exchange::<Take<K>>(&mut pass.seat, word, 0, name);
     if found != 0 {
@@ -70,7 +70,7 @@ impl<T: Machine> Parts<T> {
     {
         let Turn1 { part, value } = t;
         let table = &self.table.shared;
-        let word = WORDS_APART * (part as usize + 1);
+        let word = place_of_word(part);
         table.load::<Fetch>(&mut pass.seat, word);
         let nothing = table.exchange(&mut pass.seat, part as usize, Some(value));
         let None = nothing else { unreachable!() };

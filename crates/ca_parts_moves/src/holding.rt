@@ -34,8 +34,8 @@ fn holds(held: &[Turn1<Amount>], part: u32) -> bool
     false
 }
 
-// Takes one part for the move, which is the event that its caller picks.
-fn take_one(
+/// Takes one part for the move, which is the event that its caller picks.
+pub(crate) fn take_one(
     parts: &Parts<Amount>,
     pass: &mut PartPass<Amount>,
     _for_move: Move,
