@@ -35,7 +35,7 @@ fn holds(held: &[Turn1<Amount>], part: u32) -> bool
 }
 
 /// Takes one part for the move, which is the event that its caller picks.
-pub(crate) fn take_one(
+pub fn take_one(
     parts: &Parts<Amount>,
     pass: &mut PartPass<Amount>,
     _for_move: Move,

@@ -16,5 +16,6 @@ mod tests;
 mod threads;
 
 pub use amount::{Amount, Move, NUMBERS, Opening};
+pub use holding::take_one;
 pub use moving::{MoveError, try_move};
 pub use threads::{race, run, start};
