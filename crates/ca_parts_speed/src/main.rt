@@ -5,12 +5,10 @@
 
 mod rounds;
 
-use ca_parts::PartPass;
-use ca_parts_moves::{Amount, Opening, start};
+use ca_parts_moves::{Opening, start};
 use rounds::{four_pairs, looks, moves, takes, two_pairs};
-use std::env;
-use std::io;
-use std::time::Instant;
+use std::time::{Clock, Instant};
+use std::{env, io};
 
 // The word as a number, or 0.
 fn count_of(word: Option<String>) -> u32 {
@@ -21,9 +19,9 @@ fn count_of(word: Option<String>) -> u32 {
 }
 
 // Writes the nanoseconds of each of so many.
-fn report<R: Print + std::time::Clock>(rt: &R, name: &str, since: Instant, count: u32) -> io::Result<()> {
+fn report<R: Eprint + Clock>(rt: &R, name: &str, since: Instant, count: u32) -> io::Result<()> {
     let all = since.elapsed(rt)?.as_nanos();
-    let each = all / u128::from(count.max(1));
+    let each = u64::try_from(all).unwrap_or(u64::MAX) / u64::from(count.max(1));
     eprintln!(rt; "{name}: {each} ns")
 }
 
