@@ -82,10 +82,6 @@ pub const PAGE_BYTES: u32 = 4096;
 /// The most pages of a region that is allocated for fast registration.
 pub const MAX_PAGES: u16 = 256;
 
-/// The most bytes of a packet that an adapter sends: 12 of the base transport header, 20 of a WRITE Only with Immediate's
-/// other headers, and the payload.
-pub const MAX_PACKET_BYTES: usize = 4128;
-
 /// The most undelivered envelopes of a mailbox.
 pub const MAX_UNDELIVERED: u32 = 128;
 
@@ -113,8 +109,11 @@ pub const ATOMIC_BYTES: u32 = 8;
 /// PSNs count modulo this number.
 pub const PSN_COUNT: u32 = 16_777_216;
 
-/// The partition key of the default partition, the only one here.
-pub const DEFAULT_PKEY: u16 = 0xFFFF;
-
 /// The most parts that an event holds.
 pub const MAX_HELD_PARTS: usize = 32;
+
+/// The most passes over one row of parts: how many numbers the first pass has, and its share.
+pub const MAX_PASSES: u64 = 4_294_967_296;
+
+/// The stamp from which on each pass number has at most one stamp more.
+pub const LATE_STAMP: u64 = 9_223_372_036_854_775_808;
