@@ -3,7 +3,7 @@ use Rattle.ca_base.specs.Refusals.{first_of}
 use Rattle.ca_base.specs.declared.limits.TheConstants.{MAX_PAYLOAD_BYTES}
 use Rattle.ca_wire.specs.declared.bth.TheConstants.{BTH_BYTES}
 use Rattle.ca_wire.specs.Packet.{headers_size, opcode_in, version_in, pad_in, refusal_of, bth_refusal_of}
-use Rattle.ca_wire.specs.Decoding.{number_at, bth_at, bth_from, version_of, payload_at, payload_behind, ◌>>=◌, headers_at, fields_from, packet_of_row, packet_in, front_at}
+use Rattle.ca_wire.specs.Decoding.{number_at, bth_at, bth_from, version_of, payload_at, bytes_behind, ◌>>=◌, headers_at, headers_in, fields_from, packet_in, front_at}
 use Rattle.ca_wire.specs.Table.{Row, size_of, row_of, allows_payload}
 use Rattle.ca_wire.specs.declared.bth.Bth.{Bth}
 use Rattle.ca_wire.specs.declared.wire_error.WireError.{WireError}
@@ -50,7 +50,7 @@ payload_fault allowed pad rest =
     four_tests (not (eqb (n % 4) 0)) (not (eqb n 0) && not allowed) (ltb MAX_PAYLOAD_BYTES (n - pad)) (eqb n 0 && not (eqb pad 0)) Length Length Length Pad (take (n - pad) rest)
 
 row_fault : (b : Bth × List ℕ) (o : Option Row) → row_of b.0.opcode ≡ o → fault (after_bth b) ≡ first_of (opcode_tests (row_of b.0.opcode) (length b.1) (headers_size b.0.opcode) (allows_payload b.0.opcode) (length b.1 - headers_size b.0.opcode) b.0.pad)
-unfolding packet_of_row payload_behind
+unfolding headers_in bytes_behind
 row_fault b None e = rw e refl
 row_fault b (Some r) e =
     let size = sum_by size_of r.headers in

@@ -8,6 +8,7 @@ use Rattle.ca_wire.specs.declared.bth.TheConstants.{BTH_BYTES}
 use Rattle.ca_wire.specs.declared.reth.Reth.{Reth}
 use Rattle.ca_wire.specs.declared.atomic_eth.AtomicEth.{AtomicEth}
 use Rattle.ca_wire.specs.declared.aeth.Aeth.{Aeth}
+use Rattle.ca_wire.specs.declared.headers.Headers.{Headers}
 use Rattle.ca_wire.specs.declared.wire_error.WireError.{WireError}
 use Rattle.ca_wire.specs.declared.wire_error.WireError.TheVariants.{TooShort, Version, Opcode, Length, Pad}
 use Rattle.ca_wire.specs.Table.{Header, RETH, AtomicETH, AETH, AtomicAckETH, ImmDt, IETH, Row, row_of, has, size_of}
@@ -63,15 +64,6 @@ front_at bytes = do
 -- as many bytes as a header has, where it is there
 abbrev pub if_there : Bool → ℕ → ℕ
 if_there present size = if present then size else 0
-
--- what follows the base transport header
-pub record Headers : Type 0 where
-  pub reth : Option Reth
-  pub atomic : Option AtomicEth
-  pub aeth : Option Aeth
-  pub «result» : Option ℕ
-  pub imm : Option ℕ
-  pub ieth : Option ℕ
 
 -- how many bytes these headers have, each counted once
 abbrev pub flags_size : List Header → ℕ
@@ -133,25 +125,6 @@ payload_at allowed pad rest =
     else if (length rest == 0) && not (pad == 0) then Err Pad
     else Ok (take (length rest - pad) rest)
 
--- the packet of a base transport header and a payload, with no header between them
-abbrev pub bare : Bth → List ℕ → Fields
-bare b payload = record {
-  opcode = b.opcode;
-  solicited = b.solicited;
-  migrated = b.migrated;
-  pkey = b.pkey;
-  queue = b.queue;
-  ack = b.ack;
-  psn = b.psn;
-  reth = None;
-  atomic = None;
-  aeth = None;
-  «result» = None;
-  imm = None;
-  ieth = None;
-  payload = payload;
-}
-
 -- the packet of its parts
 abbrev pub fields_from : Bth → Headers → List ℕ → Fields
 fields_from b h payload = record {
@@ -171,20 +144,21 @@ fields_from b h payload = record {
   payload = payload;
 }
 
--- the payload behind headers of this many bytes, where they are whole
-unfoldable pub payload_behind : ℕ → Bool → ℕ → List ℕ → Result (List ℕ) WireError
-payload_behind size allowed pad bytes =
-    if nat_lt (length bytes) size then Err TooShort else payload_at allowed pad (drop size bytes)
+-- the bytes behind headers of this many bytes, where they are whole
+unfoldable pub bytes_behind : ℕ → List ℕ → Result (List ℕ) WireError
+bytes_behind size bytes = if nat_lt (length bytes) size then Err TooShort else Ok (drop size bytes)
 
--- the packet with this row and this base transport header, before these bytes
-unfoldable pub packet_of_row : Row → Bth → List ℕ → Result Fields WireError
-packet_of_row r b bytes = do
-  p ← payload_behind (sum_by size_of r.headers) r.payload b.pad bytes
-  Ok (fields_from b (headers_at r.headers bytes).0 p)
+-- the headers of this opcode at the front, the bytes after them, and whether these may hold a payload
+unfoldable pub headers_in : ℕ → List ℕ → Result (Headers × List ℕ × Bool) WireError
+headers_in opcode bytes = do
+  r ← ok_or (row_of opcode) Opcode
+  rest ← bytes_behind (sum_by size_of r.headers) bytes
+  Ok ((headers_at r.headers bytes).0, rest, r.payload)
 
 -- the packet that all of the bytes spell
 unfoldable pub packet_in : List ℕ → Result Fields WireError
 packet_in bytes = do
   b ← bth_at bytes
-  r ← ok_or (row_of b.0.opcode) Opcode
-  packet_of_row r b.0 b.1
+  h ← headers_in b.0.opcode b.1
+  p ← payload_at h.2 b.0.pad h.1
+  Ok (fields_from b.0 h.0 p)

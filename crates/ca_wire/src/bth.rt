@@ -1,4 +1,4 @@
-ghost use Rattle.std.specs.Prelude.{◌≡◌, ◌++◌, List, take, None, Some, IfOk, IfErr, OnOk, IsOkAnd};
+ghost use Rattle.std.specs.Prelude.{◌≡◌, ◌++◌, ◌<◌, List, take, None, Some, IfOk, IfErr, OnOk, IsOkAnd};
 ghost use Rattle.std.specs.Int.{w32};
 ghost use Rattle.ca_wire.specs.declared.bth.Bth.{Bth};
 ghost use Rattle.ca_wire.specs.Packet.{SpellsBth, FitsBth, be_bytes, bit, bth_bytes, bth_refusal_of, canonical};
@@ -60,7 +60,8 @@ impl Bth {
     #[inline(always)]
     #[tactic(auto, unfolding(crate::specs::Decoding::bth_at))]
     pub(crate) fn read(bytes: &[u8]) -> Result<(Bth, &[u8]), WireError>
-        ensures { Returns (λ x. (x.0, x.1.now)) result (bth_at bytes.now) }
+        ensures value { Returns (λ x. (x.0, x.1.now)) result (bth_at bytes.now) }
+        ensures pad { IfOk result (λ x. x.0.pad < 4) }
     {
         if bytes.len() < BTH_BYTES {
             return Err(WireError::TooShort);

@@ -13,6 +13,7 @@ mod atomic_eth;
 mod bth;
 mod decoding;
 mod encoding;
+mod headers;
 mod laws;
 mod numbers;
 pub mod opcode;
