@@ -1,6 +1,6 @@
 -- The two laws of reading: what is read is spelt so, and what is spelt so is read.
 use Rattle.ca_wire.specs.Packet.{Ignored, bth_bytes, FitsBth, pad_count, Fields, Spells, bth_of, header_bytes, packet_bytes, headers_size}
-use Rattle.ca_wire.specs.Decoding.{bth_at, payload_at, bytes_behind, ◌>>=◌, flags_size, headers_at, headers_in, fields_from, packet_in}
+use Rattle.ca_wire.specs.Decoding.{bth_at, payload_at, payload_behind, ◌>>=◌, flags_size, headers_at, body_in, fields_from, packet_in}
 use Rattle.ca_wire.specs.Table.{Header, Row, size_of, row_of, headers_of}
 use Rattle.ca_wire.specs.declared.bth.Bth.{Bth}
 use Rattle.ca_wire.specs.declared.headers.Headers.{Headers}
@@ -20,14 +20,17 @@ use Rattle.ca_wire.proofs.PayloadLaws.{IsPayload, payload_takes, payload_again}
 use Rattle.ca_wire.proofs.AllHeaders.{shown, FitsHeaders, AreThose, AreHeaders, headers_take, headers_rest, all_headers, headers_again, in_table_order, known_row, some_row, shown_length, with_row, those_of}
 use Rattle.ca_wire.proofs.TableRows.{IsOrderly, row_orderly}
 
-abbrev pub after_row : List ℕ → Row → Result (Headers × List ℕ × Bool) WireError
-after_row bytes r = bytes_behind (sum_by size_of r.headers) bytes >>= λ rest. Ok ((headers_at r.headers bytes).0, rest, r.payload)
+abbrev pub with_headers : Row → List ℕ → List ℕ → Result (Headers × List ℕ) WireError
+with_headers r bytes p = Ok ((headers_at r.headers bytes).0, p)
 
-abbrev pub after_headers : Bth → Headers × List ℕ × Bool → Result Fields WireError
-after_headers b h = payload_at h.2 b.pad h.1 >>= λ p. Ok (fields_from b h.0 p)
+abbrev pub after_row : ℕ → List ℕ → Row → Result (Headers × List ℕ) WireError
+after_row pad bytes r = payload_behind (sum_by size_of r.headers) r.payload pad bytes >>= with_headers r bytes
+
+abbrev pub after_body : Bth → Headers × List ℕ → Result Fields WireError
+after_body b x = Ok (fields_from b x.0 x.1)
 
 abbrev pub after_bth : Bth × List ℕ → Result Fields WireError
-after_bth b = headers_in b.0.opcode b.1 >>= after_headers b.0
+after_bth b = body_in b.0.opcode b.0.pad b.1 >>= after_body b.0
 
 map_if : {X : Type 0} (o : Option X) (P Q : X → Type 0) → ((x : X) → P x → Q x) → IfSome o P → IfSome o Q
 map_if None P Q f h = tt
@@ -78,25 +81,27 @@ spelt bytes b r h p tb row orderly th tp =
     }
 
 -- the headers that were read are those of the row, and are whole
-pub record IsRow (opcode : ℕ) (bytes : List ℕ) (h : Headers × List ℕ × Bool) : Type 0 where
-  pub row : Row
-  pub known : row_of opcode ≡ Some row
-  pub whole : sum_by size_of row.headers ≤ length bytes
-  pub read : ((headers_at row.headers bytes).0, drop (sum_by size_of row.headers) bytes, row.payload) ≡ h
+record IsRow (opcode pad : ℕ) (bytes : List ℕ) (x : Headers × List ℕ) : Type 0 where
+  row : Row
+  known : row_of opcode ≡ Some row
+  whole : sum_by size_of row.headers ≤ length bytes
+  payload : payload_at row.payload pad (drop (sum_by size_of row.headers) bytes) ≡ Ok x.1
+  headers : (headers_at row.headers bytes).0 ≡ x.0
 
-row_taken : (opcode : ℕ) (bytes : List ℕ) (h : Headers × List ℕ × Bool) → headers_in opcode bytes ≡ Ok h → IsRow opcode bytes h
-unfolding headers_in bytes_behind
-row_taken opcode bytes h e =
-    let r = bind_ok (ok_or (row_of opcode) Opcode) (after_row bytes) h e in
+row_taken : (opcode pad : ℕ) (bytes : List ℕ) (x : Headers × List ℕ) → body_in opcode pad bytes ≡ Ok x → IsRow opcode pad bytes x
+unfolding body_in payload_behind
+row_taken opcode pad bytes x e =
+    let r = bind_ok (ok_or (row_of opcode) Opcode) (after_row pad bytes) x e in
     let size = sum_by size_of r.0.headers in
-    let rest = bind_ok (bytes_behind size bytes) (λ rest. Ok ((headers_at r.0.headers bytes).0, rest, r.0.payload)) h r.2 in
-    let g = guard_next (ltb (length bytes) size) TooShort (Ok (drop size bytes)) rest.0 rest.1 in
-    let same : drop size bytes ≡ rest.0 = ok_is _ _ g.1 in
+    let p = bind_ok (payload_behind size r.0.payload pad bytes) (with_headers r.0 bytes) x r.2 in
+    let g = guard_next (ltb (length bytes) size) TooShort (payload_at r.0.payload pad (drop size bytes)) p.0 p.1 in
+    let same : ((headers_at r.0.headers bytes).0, p.0) ≡ x = ok_is _ _ p.2 in
     record {
       row = r.0;
       known = known_row (row_of opcode) r.0 r.1;
       whole = ltb-false _ _ g.0;
-      read = rw same (ok_is _ _ rest.2);
+      payload = g.1 ∙ ap (λ (y : Headers × List ℕ). done y.1) same;
+      headers = ap (λ (y : Headers × List ℕ). y.0) same;
     }
 
 -- what is read behind a base transport header is spelt so
@@ -114,19 +119,18 @@ pub packet_takes : (bytes : List ℕ) (f : Fields) → IsBytes bytes → packet_
 unfolding packet_in
 packet_takes bytes f fits e =
     let b = bind_ok (bth_at bytes) after_bth f e in
-    let h = bind_ok (headers_in b.0.0.opcode b.0.1) (after_headers b.0.0) f b.2 in
-    let p = bind_ok (payload_at h.0.2 b.0.0.pad h.0.1) (λ p. Ok (fields_from b.0.0 h.0.0 p)) f h.2 in
-    let r = row_taken b.0.0.opcode b.0.1 h.0 h.1 in
-    let made = fields_from b.0.0 h.0.0 p.0 in
-    let spelt_so : Spells bytes made = subst (λ (x : Headers × List ℕ × Bool). payload_at x.2 b.0.0.pad x.1 ≡ Ok p.0 → Spells bytes (fields_from b.0.0 x.0 p.0)) r.read (row_takes bytes b.0 r.row p.0 (bth_takes bytes b.0 fits b.1) r.known r.whole) p.1 in
-    subst (λ (x : Fields). Spells bytes x) {x = made} (ok_is made f p.2) spelt_so
+    let x = bind_ok (body_in b.0.0.opcode b.0.0.pad b.0.1) (after_body b.0.0) f b.2 in
+    let r = row_taken b.0.0.opcode b.0.0.pad b.0.1 x.0 x.1 in
+    let spelt_so = row_takes bytes b.0 r.row x.0.1 (bth_takes bytes b.0 fits b.1) r.known r.whole r.payload in
+    let is : fields_from b.0.0 (headers_at r.row.headers b.0.1).0 x.0.1 ≡ f = ap (λ (h : Headers). fields_from b.0.0 h x.0.1) r.headers ∙ ok_is _ _ x.2 in
+    subst (λ (y : Fields). Spells bytes y) is spelt_so
 
 small_pad : (n : ℕ) → pad_count n < 4
 small_pad n = omega arith
 
 -- what is spelt so is read
 pub packet_again : (bytes : List ℕ) (f : Fields) → Spells bytes f → packet_in bytes ≡ Ok f
-unfolding packet_in headers_in bytes_behind packet_bytes
+unfolding packet_in body_in payload_behind packet_bytes
 packet_again bytes f s =
     let good = s.well_formed in
     let r = some_row (row_of f.opcode) good.known in

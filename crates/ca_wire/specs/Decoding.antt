@@ -144,21 +144,21 @@ fields_from b h payload = record {
   payload = payload;
 }
 
--- the bytes behind headers of this many bytes, where they are whole
-unfoldable pub bytes_behind : ℕ → List ℕ → Result (List ℕ) WireError
-bytes_behind size bytes = if nat_lt (length bytes) size then Err TooShort else Ok (drop size bytes)
+-- the payload behind headers of this many bytes, where they are whole
+unfoldable pub payload_behind : ℕ → Bool → ℕ → List ℕ → Result (List ℕ) WireError
+payload_behind size allowed pad bytes =
+    if nat_lt (length bytes) size then Err TooShort else payload_at allowed pad (drop size bytes)
 
--- the headers of this opcode at the front, the bytes after them, and whether these may hold a payload
-unfoldable pub headers_in : ℕ → List ℕ → Result (Headers × List ℕ × Bool) WireError
-headers_in opcode bytes = do
+-- the headers of this opcode at the front, and the payload behind them
+unfoldable pub body_in : ℕ → ℕ → List ℕ → Result (Headers × List ℕ) WireError
+body_in opcode pad bytes = do
   r ← ok_or (row_of opcode) Opcode
-  rest ← bytes_behind (sum_by size_of r.headers) bytes
-  Ok ((headers_at r.headers bytes).0, rest, r.payload)
+  p ← payload_behind (sum_by size_of r.headers) r.payload pad bytes
+  Ok ((headers_at r.headers bytes).0, p)
 
 -- the packet that all of the bytes spell
 unfoldable pub packet_in : List ℕ → Result Fields WireError
 packet_in bytes = do
   b ← bth_at bytes
-  h ← headers_in b.0.opcode b.1
-  p ← payload_at h.2 b.0.pad h.1
-  Ok (fields_from b.0 h.0 p)
+  x ← body_in b.0.opcode b.0.pad b.1
+  Ok (fields_from b.0 x.0 x.1)

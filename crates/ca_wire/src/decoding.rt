@@ -3,9 +3,8 @@ ghost use Rattle.ca_wire.specs.Packet.{Fields, Spells, fields_of, headers_size, 
 ghost use Rattle.ca_wire.specs.Decoding.{Returns, packet_in};
 
 use crate::bth::{BTH_BYTES, Bth};
-use crate::headers::headers_of;
+use crate::headers::body_of;
 use crate::packet::Packet;
-use crate::payload::payload_of;
 use crate::wire_error::WireError;
 
 #[inline(always)]
@@ -14,8 +13,7 @@ fn packet_of(bytes: &[u8]) -> Result<Packet<'_>, WireError>
     ensures { Returns fields_of result (packet_in bytes.now) }
 {
     let (bth, rest) = Bth::read(bytes)?;
-    let (headers, rest, allowed) = headers_of(bth.opcode, rest)?;
-    let payload = payload_of(allowed, bth.pad, rest)?;
+    let (headers, payload) = body_of(bth.opcode, bth.pad, rest)?;
     Ok(Packet {
         opcode: bth.opcode,
         solicited: bth.solicited,

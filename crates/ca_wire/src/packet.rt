@@ -23,14 +23,14 @@ pub struct Packet<'a> {
     pub solicited: bool,
     /// MigReq: the migration state.
     pub migrated: bool,
-    /// The partition key.
-    pub pkey: u16,
-    /// The number of the destination queue pair, below 2^24.
-    pub queue: u32,
     /// AckReq: an acknowledgement is asked for.
     pub ack: bool,
+    /// The number of the destination queue pair, below 2^24.
+    pub queue: u32,
     /// The packet sequence number, below 2^24.
     pub psn: u32,
+    /// The partition key.
+    pub pkey: u16,
     /// What a WRITE or a READ reaches.
     pub reth: Option<Reth>,
     /// What an atomic does.
