@@ -1,16 +1,26 @@
 ghost use Rattle.std.specs.Prelude.{◌≡◌, List, ℕ, None, Some, IfOk, IfErr, OnOk, IsOkAnd, drop, take, length, ◌+◌};
 ghost use Rattle.ca_wire.specs.Packet.{Fields, Spells, fields_of, headers_size, refusal_of};
-ghost use Rattle.ca_wire.specs.Decoding.{Returns, packet_in};
 
 use crate::bth::{BTH_BYTES, Bth};
 use crate::headers::body_of;
 use crate::packet::Packet;
 use crate::wire_error::WireError;
 
+/// The packet that these bytes spell, all of them. The payload is a slice of `bytes`; no memory is taken. A refusal is
+/// the first test that holds, in the order of the variants of [`WireError`], but that `TooShort` is tested again after
+/// `Opcode`, for the headers that the opcode has.
 #[inline(always)]
-#[tactic(auto, unfolding(crate::specs::Decoding::packet_in))]
-fn packet_of(bytes: &[u8]) -> Result<Packet<'_>, WireError>
-    ensures { Returns fields_of result (packet_in bytes.now) }
+pub fn decode(bytes: &[u8]) -> Result<Packet<'_>, WireError>
+    // What is read is spelt so.
+    ensures found { IfOk result (λ p. Spells bytes.now (fields_of p)) }
+    // What is spelt so is read.
+    ensures only { (f : Fields) → Spells bytes.now f → IsOkAnd result (λ p. fields_of p ≡ f) }
+    // Which test refuses.
+    ensures refused { IfErr result (λ e. refusal_of bytes.now ≡ Some e) }
+    ensures taken { OnOk result (refusal_of bytes.now ≡ None) }
+    // Which part of the bytes the payload is.
+    ensures payload { IfOk result (λ p. p.payload.now
+        ≡ take (length p.payload.now) (drop (BTH_BYTES + headers_size p.opcode) bytes.now)) }
 {
     let (bth, rest) = Bth::read(bytes)?;
     let (headers, payload) = body_of(bth.opcode, bth.pad, rest)?;
@@ -30,23 +40,4 @@ fn packet_of(bytes: &[u8]) -> Result<Packet<'_>, WireError>
         ieth: headers.ieth,
         payload,
     })
-}
-
-/// The packet that these bytes spell, all of them. The payload is a slice of `bytes`; no memory is taken. A refusal is
-/// the first test that holds, in the order of the variants of [`WireError`], but that `TooShort` is tested again after
-/// `Opcode`, for the headers that the opcode has.
-#[inline(always)]
-pub fn decode(bytes: &[u8]) -> Result<Packet<'_>, WireError>
-    // What is read is spelt so.
-    ensures found { IfOk result (λ p. Spells bytes.now (fields_of p)) }
-    // What is spelt so is read.
-    ensures only { (f : Fields) → Spells bytes.now f → IsOkAnd result (λ p. fields_of p ≡ f) }
-    // Which test refuses.
-    ensures refused { IfErr result (λ e. refusal_of bytes.now ≡ Some e) }
-    ensures taken { OnOk result (refusal_of bytes.now ≡ None) }
-    // Which part of the bytes the payload is.
-    ensures payload { IfOk result (λ p. p.payload.now
-        ≡ take (length p.payload.now) (drop (BTH_BYTES + headers_size p.opcode) bytes.now)) }
-{
-    packet_of(bytes)
 }
