@@ -24,14 +24,14 @@ fn text_is(rt: &impl Abort, text: &str, want: &str) {
 }
 
 // These bytes are a packet that says this, and are its canonical spelling.
-fn is_packet(rt: &HostRuntime, text: &str, fields: &str) -> Result<(), Fail> {
+fn is_packet<R: Abort + AllocGlobal>(rt: &R, text: &str, fields: &str) -> Result<(), Fail> {
     let bytes = bytes_of(rt.alloc(), text)?;
     let p = decode(&bytes)?;
     text_is(rt, format!(in rt.alloc(); "{}", PacketText(&p))?.as_str(), fields);
     spelling_is(rt, &p, &bytes)
 }
 
-fn spelling_is(rt: &HostRuntime, p: &Packet<'_>, want: &[u8]) -> Result<(), Fail>
+fn spelling_is<R: Abort + AllocGlobal>(rt: &R, p: &Packet<'_>, want: &[u8]) -> Result<(), Fail>
     requires { IsWellFormed (fields_of p.now) }
 {
     let mut out = Vec::new(rt.alloc());
@@ -248,7 +248,7 @@ fn the_base_transport_header_alone(rt: HostRuntime) -> Result<(), Fail> {
 }
 
 // The packet is spelt so.
-fn is_spelt(rt: &HostRuntime, p: &Packet<'_>, text: &str) -> Result<(), Fail>
+fn is_spelt<R: Abort + AllocGlobal>(rt: &R, p: &Packet<'_>, text: &str) -> Result<(), Fail>
     requires { IsWellFormed (fields_of p.now) }
 {
     let want = bytes_of(rt.alloc(), text)?;

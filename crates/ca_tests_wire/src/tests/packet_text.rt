@@ -2,13 +2,14 @@ use ca_wire::Packet;
 use std::fmt;
 
 /// The fields of a packet in the words of the rows of other programs.
+#[derive(Drop)]
 pub struct PacketText<'a>(pub &'a Packet<'a>);
 
 fn bit(flag: bool) -> u8 {
     if flag { 1 } else { 0 }
 }
 
-fn write_addresses(p: &Packet<'_>, f: &mut fmt::Formatter) -> fmt::Result {
+fn write_addresses<W: fmt::Write>(p: &Packet<'_>, f: &mut fmt::Formatter<W>) -> fmt::Result {
     if let Some(h) = p.reth {
         write!(f, " va={} rkey={} length={}", h.address, h.key.0, h.length)?;
     }
@@ -18,7 +19,7 @@ fn write_addresses(p: &Packet<'_>, f: &mut fmt::Formatter) -> fmt::Result {
     Ok(())
 }
 
-fn write_answers(p: &Packet<'_>, f: &mut fmt::Formatter) -> fmt::Result {
+fn write_answers<W: fmt::Write>(p: &Packet<'_>, f: &mut fmt::Formatter<W>) -> fmt::Result {
     if let Some(h) = p.aeth {
         write!(f, " syndrome={} msn={}", h.syndrome, h.msn)?;
     }
@@ -35,7 +36,7 @@ fn write_answers(p: &Packet<'_>, f: &mut fmt::Formatter) -> fmt::Result {
 }
 
 impl fmt::Display for PacketText<'_> {
-    fn fmt(&self, f: &mut fmt::Formatter) -> fmt::Result {
+    fn fmt<W: fmt::Write>(&self, f: &mut fmt::Formatter<W>) -> fmt::Result {
         let p = self.0;
         write!(f, "opcode={} se={} mig={}", p.opcode, bit(p.solicited), bit(p.migrated))?;
         write!(f, " pkey={} qp={} ackreq={} psn={}", p.pkey, p.queue, bit(p.ack), p.psn)?;
