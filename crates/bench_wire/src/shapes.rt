@@ -2,7 +2,10 @@ ghost use Rattle.std.specs.Prelude.{◌^◌, ◌<◌};
 ghost use Rattle.ca_wire.specs.Packet.{IsWellFormed, fields_of};
 
 use ca_base::Key;
-use ca_wire::{AtomicEth, Packet, Reth, Segment, SendKind, acknowledgement, cmp_swap, read_request, send_packet, write_packet};
+use ca_wire::{
+    AtomicEth, Packet, Reth, Segment, SendKind, acknowledgement, cmp_swap, read_request,
+    send_packet, write_packet,
+};
 
 /// The packets that are measured.
 #[derive(Clone, Copy)]

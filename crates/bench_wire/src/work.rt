@@ -4,9 +4,9 @@ ghost use Rattle.ca_wire.specs.Packet.{IsWellFormed, fields_of};
 use crate::shapes::{Shape, packet_of};
 use ca_base::Memory;
 use ca_wire::{Packet, WireError, decode, encode};
+use std::env;
 use std::process::ExitCode;
 use std::rt::Env;
-use std::env;
 
 /// The packet of these bytes, in a function of its own.
 #[inline(never)]
@@ -38,8 +38,12 @@ fn sum_of(p: &Packet<'_>) -> u64 {
 #[inline(always)]
 fn sum_of_headers(p: &Packet<'_>) -> u64 {
     let reth = p.reth.map_or(0, |h| h.address ^ u64::from(h.key.0) ^ u64::from(h.length));
-    let atomic = p.atomic.map_or(0, |h| h.address ^ u64::from(h.key.0) ^ h.swap ^ h.compare);
-    let aeth = p.aeth.map_or(0, |h| u64::from(h.syndrome) ^ u64::from(h.msn));
+    let atomic = p
+        .atomic
+        .map_or(0, |h| h.address ^ u64::from(h.key.0) ^ h.swap ^ h.compare);
+    let aeth = p
+        .aeth
+        .map_or(0, |h| u64::from(h.syndrome) ^ u64::from(h.msn));
     let result = p.result.unwrap_or(0);
     let imm = u64::from(p.imm.unwrap_or(0));
     let ieth = u64::from(p.ieth.unwrap_or(0));

@@ -1,12 +1,12 @@
 -- The two laws of reading: what is read is spelt so, and what is spelt so is read.
 use Rattle.ca_wire.specs.Packet.{Ignored, bth_bytes, FitsBth, pad_count, Fields, Spells, bth_of, header_bytes, packet_bytes, headers_size}
 use Rattle.ca_wire.specs.Decoding.{bth_at, payload_at, payload_behind, ◌>>=◌, flags_size, headers_at, body_in, fields_from, packet_in}
-use Rattle.ca_wire.specs.Table.{Header, Row, size_of, row_of, headers_of}
+use Rattle.ca_wire.specs.Table.{Row, size_of, row_of, headers_of}
 use Rattle.ca_wire.specs.declared.bth.Bth.{Bth}
 use Rattle.ca_wire.specs.declared.headers.Headers.{Headers}
 use Rattle.ca_wire.specs.declared.wire_error.WireError.{WireError}
 use Rattle.ca_wire.specs.declared.wire_error.WireError.TheVariants.{TooShort, Opcode}
-use Rattle.std.proofs.Common.{◌≡◌, ℕ, ◌+◌, ◌^◌, ◌<◌, ◌≤◌, Bool, false, ltb, List, [], ◌++◌, length, take, drop, Option, Some, None, Result, Ok, refl, sym, ap, subst, ◌∙◌, arith}
+use Rattle.std.proofs.Common.{◌≡◌, ℕ, ◌+◌, ◌^◌, ◌<◌, ◌≤◌, false, ltb, List, [], ◌++◌, length, take, drop, Option, Some, None, Result, Ok, refl, sym, ap, subst, ◌∙◌, arith}
 use Rattle.std.proofs.lemmas.Bool.{ltb-false, le-ltb}
 use Rattle.std.proofs.lemmas.List.{length-append, take_at, drop_at, drop-drop}
 use Rattle.std.specs.List.{flat_map}
@@ -17,7 +17,7 @@ use Rattle.ca_wire.proofs.Steps.{guard_next, done, ok_is, bind_ok}
 use Rattle.ca_wire.proofs.BthLaws.{IsHeader, bth_takes, bth_length, bth_again}
 use Rattle.ca_wire.proofs.HeaderLaws.{FitsAeth}
 use Rattle.ca_wire.proofs.PayloadLaws.{IsPayload, payload_takes, payload_again}
-use Rattle.ca_wire.proofs.AllHeaders.{shown, FitsHeaders, AreThose, AreHeaders, headers_take, headers_rest, all_headers, headers_again, in_table_order, known_row, some_row, shown_length, with_row, those_of}
+use Rattle.ca_wire.proofs.AllHeaders.{shown, FitsHeaders, AreHeaders, headers_take, headers_rest, all_headers, headers_again, in_table_order, known_row, some_row, shown_length, with_row, those_of}
 use Rattle.ca_wire.proofs.TableRows.{IsOrderly, row_orderly}
 
 abbrev pub with_headers : Row → List ℕ → List ℕ → Result (Headers × List ℕ) WireError

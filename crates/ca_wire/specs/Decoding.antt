@@ -1,7 +1,7 @@
 -- Reading a packet from left to right, with the first fault that is met. For proofs only: the grammar is in Packet.antt.
-use Rattle.std.specs.Prelude.{◌≡◌, ℕ, ◌+◌, ◌-◌, ◌/◌, ◌%◌, ◌^◌, ◌==◌, nat_lt, Bool, true, false, not, ◌&&◌, if◌then◌else◌, List, [], length, take, drop, sum_by, Option, Some, None, Result, Ok, Err}
+use Rattle.std.specs.Prelude.{◌≡◌, ℕ, ◌+◌, ◌-◌, ◌/◌, ◌%◌, ◌^◌, ◌==◌, nat_lt, Bool, true, false, not, ◌&&◌, if◌then◌else◌, List, length, take, drop, sum_by, Option, Some, None, Result, Ok, Err}
 use Rattle.std.specs.Int.{Width, w32, w64, byte_len, from_be_bytes}
-use Rattle.std.specs.Option.{option_map, ok_or}
+use Rattle.std.specs.Option.{ok_or}
 use Rattle.ca_base.specs.declared.limits.TheConstants.{MAX_PAYLOAD_BYTES}
 use Rattle.ca_wire.specs.declared.bth.Bth.{Bth}
 use Rattle.ca_wire.specs.declared.bth.TheConstants.{BTH_BYTES}
@@ -11,7 +11,7 @@ use Rattle.ca_wire.specs.declared.aeth.Aeth.{Aeth}
 use Rattle.ca_wire.specs.declared.headers.Headers.{Headers}
 use Rattle.ca_wire.specs.declared.wire_error.WireError.{WireError}
 use Rattle.ca_wire.specs.declared.wire_error.WireError.TheVariants.{TooShort, Version, Opcode, Length, Pad}
-use Rattle.ca_wire.specs.Table.{Header, RETH, AtomicETH, AETH, AtomicAckETH, ImmDt, IETH, Row, row_of, has, size_of}
+use Rattle.ca_wire.specs.Table.{Header, RETH, AtomicETH, AETH, AtomicAckETH, ImmDt, IETH, row_of, has, size_of}
 use Rattle.ca_wire.specs.Packet.{Fields}
 
 -- what a function returned, seen by view, is what reading gives
@@ -69,7 +69,7 @@ if_there present size = if present then size else 0
 abbrev pub flags_size : List Header → ℕ
 flags_size hs =
     if_there (has RETH hs) 16 + if_there (has AtomicETH hs) 28 + if_there (has AETH hs) 4
-      + if_there (has AtomicAckETH hs) 8 + if_there (has ImmDt hs) 4 + if_there (has IETH hs) 4
+    + if_there (has AtomicAckETH hs) 8 + if_there (has ImmDt hs) 4 + if_there (has IETH hs) 4
 
 -- the RETH at the front
 unfoldable pub reth_from : List ℕ → Reth

@@ -54,6 +54,17 @@ impl AtomicEth {
         let (swap_high, swap_low) = halves(self.swap);
         let (compare_high, compare_low) = halves(self.compare);
         let key = group(self.key.0);
-        put_groups(&[high, low, key, swap_high, swap_low, compare_high, compare_low], out);
+        put_groups(
+            &[
+                high,
+                low,
+                key,
+                swap_high,
+                swap_low,
+                compare_high,
+                compare_low,
+            ],
+            out,
+        );
     }
 }

@@ -3,7 +3,9 @@ ghost use Rattle.ca_wire.specs.Decoding.{Returns, body_in};
 
 use crate::aeth::{AETH_BYTES, Aeth};
 use crate::atomic_eth::{ATOMIC_ETH_BYTES, AtomicEth};
-use crate::numbers::{ATOMIC_ACK_ETH_BYTES, IETH_BYTES, IMM_DT_BYTES, u32_behind, u32_from, u64_behind};
+use crate::numbers::{
+    ATOMIC_ACK_ETH_BYTES, IETH_BYTES, IMM_DT_BYTES, u32_behind, u32_from, u64_behind,
+};
 use crate::opcode::*;
 use crate::payload::{nothing_behind, payload_behind};
 use crate::reth::{RETH_BYTES, Reth};
@@ -38,7 +40,12 @@ pub fn body_of(opcode: u8, pad: u8, bytes: &[u8]) -> Result<(Headers, &[u8]), Wi
     ensures { Returns (λ x. (x.0, x.1.now)) result (body_in opcode pad bytes.now) }
 {
     match opcode {
-        SEND_FIRST | SEND_MIDDLE | SEND_LAST | SEND_ONLY | RDMA_WRITE_MIDDLE | RDMA_WRITE_LAST
+        SEND_FIRST
+        | SEND_MIDDLE
+        | SEND_LAST
+        | SEND_ONLY
+        | RDMA_WRITE_MIDDLE
+        | RDMA_WRITE_LAST
         | RDMA_READ_RESPONSE_MIDDLE => {
             let payload = payload_behind(0, pad, bytes)?;
             Ok((NO_HEADERS, payload))
@@ -62,7 +69,14 @@ pub fn body_of(opcode: u8, pad: u8, bytes: &[u8]) -> Result<(Headers, &[u8]), Wi
             let payload = payload_behind(RETH_BYTES + IMM_DT_BYTES, pad, bytes)?;
             let reth = Some(Reth::read(bytes));
             let imm = Some(u32_behind(RETH_BYTES, bytes));
-            Ok((Headers { reth, imm, ..NO_HEADERS }, payload))
+            Ok((
+                Headers {
+                    reth,
+                    imm,
+                    ..NO_HEADERS
+                },
+                payload,
+            ))
         }
         RDMA_READ_REQUEST => {
             let payload = nothing_behind(RETH_BYTES, pad, bytes)?;
@@ -83,12 +97,25 @@ pub fn body_of(opcode: u8, pad: u8, bytes: &[u8]) -> Result<(Headers, &[u8]), Wi
             let payload = nothing_behind(AETH_BYTES + ATOMIC_ACK_ETH_BYTES, pad, bytes)?;
             let aeth = Some(Aeth::read(bytes));
             let result = Some(u64_behind(AETH_BYTES, bytes));
-            Ok((Headers { aeth, result, ..NO_HEADERS }, payload))
+            Ok((
+                Headers {
+                    aeth,
+                    result,
+                    ..NO_HEADERS
+                },
+                payload,
+            ))
         }
         CMP_SWAP | FETCH_ADD => {
             let payload = nothing_behind(ATOMIC_ETH_BYTES, pad, bytes)?;
             let atomic = Some(AtomicEth::read(bytes));
-            Ok((Headers { atomic, ..NO_HEADERS }, payload))
+            Ok((
+                Headers {
+                    atomic,
+                    ..NO_HEADERS
+                },
+                payload,
+            ))
         }
         _ => Err(WireError::Opcode),
     }

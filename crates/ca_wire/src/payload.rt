@@ -20,7 +20,11 @@ pub fn payload_behind(size: usize, pad: u8, bytes: &[u8]) -> Result<&[u8], WireE
         return Err(WireError::Length);
     }
     if rest.is_empty() {
-        return if pad == 0 { Ok(rest) } else { Err(WireError::Pad) };
+        return if pad == 0 {
+            Ok(rest)
+        } else {
+            Err(WireError::Pad)
+        };
     }
     let len = rest.len() - usize::from(pad);
     if len > MAX_PAYLOAD_BYTES {

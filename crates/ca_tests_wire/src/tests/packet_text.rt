@@ -14,7 +14,11 @@ fn write_addresses<W: fmt::Write>(p: &Packet<'_>, f: &mut fmt::Formatter<W>) -> 
         write!(f, " va={} rkey={} length={}", h.address, h.key.0, h.length)?;
     }
     if let Some(h) = p.atomic {
-        write!(f, " va={} rkey={} swap={} compare={}", h.address, h.key.0, h.swap, h.compare)?;
+        write!(
+            f,
+            " va={} rkey={} swap={} compare={}",
+            h.address, h.key.0, h.swap, h.compare
+        )?;
     }
     Ok(())
 }
@@ -38,8 +42,21 @@ fn write_answers<W: fmt::Write>(p: &Packet<'_>, f: &mut fmt::Formatter<W>) -> fm
 impl fmt::Display for PacketText<'_> {
     fn fmt<W: fmt::Write>(&self, f: &mut fmt::Formatter<W>) -> fmt::Result {
         let p = self.0;
-        write!(f, "opcode={} se={} mig={}", p.opcode, bit(p.solicited), bit(p.migrated))?;
-        write!(f, " pkey={} qp={} ackreq={} psn={}", p.pkey, p.queue, bit(p.ack), p.psn)?;
+        write!(
+            f,
+            "opcode={} se={} mig={}",
+            p.opcode,
+            bit(p.solicited),
+            bit(p.migrated)
+        )?;
+        write!(
+            f,
+            " pkey={} qp={} ackreq={} psn={}",
+            p.pkey,
+            p.queue,
+            bit(p.ack),
+            p.psn
+        )?;
         write_addresses(p, f)?;
         write_answers(p, f)?;
         write!(f, " payload={}", p.payload.len())

@@ -1,6 +1,7 @@
 /// Packets of every opcode, with the fields that the dissectors of Wireshark 4.0.17 and Scapy 2.5.0 read out of them. The
 /// spelling is canonical.
-pub const DISSECTED: &str = "02b0ffff000001018080000001000000 opcode=2 se=1 mig=0 pkey=65535 qp=257 ackreq=1 psn=8388608 payload=1
+pub const DISSECTED: &str =
+    "02b0ffff000001018080000001000000 opcode=2 se=1 mig=0 pkey=65535 qp=257 ackreq=1 psn=8388608 payload=1
 0290ffff000001018080000201264b00 opcode=2 se=1 mig=0 pkey=65535 qp=257 ackreq=1 psn=8388610 payload=3
 03b0ffff00ffffff80fffffedeadbeef01264b7095000000 opcode=3 se=1 mig=0 pkey=65535 qp=16777215 ackreq=1 psn=16777214 imm=3735928559 payload=5
 04b0ffff000001018080000001000000 opcode=4 se=1 mig=0 pkey=65535 qp=257 ackreq=1 psn=8388608 payload=1
@@ -47,7 +48,8 @@ pub const DISSECTED: &str = "02b0ffff000001018080000001000000 opcode=2 se=1 mig=
 
 /// Packets that the software RDMA driver of Linux 6.1 sent, with the fields that the dissector of Wireshark 4.0.17 read
 /// out of them.
-pub const SENT: &str = "0210ffff0000001180ffff8b060708090a0b0c00 opcode=2 se=0 mig=0 pkey=65535 qp=17 ackreq=1 psn=16777099 payload=7
+pub const SENT: &str =
+    "0210ffff0000001180ffff8b060708090a0b0c00 opcode=2 se=0 mig=0 pkey=65535 qp=17 ackreq=1 psn=16777099 payload=7
 0330ffff00000011800000a22000020174000000 opcode=3 se=0 mig=0 pkey=65535 qp=17 ackreq=1 psn=162 imm=536871425 payload=1
 03b0ffff00000011800000722000010163000000 opcode=3 se=1 mig=0 pkey=65535 qp=17 ackreq=1 psn=114 imm=536871169 payload=1
 0400ffff000000118000002365666768 opcode=4 se=0 mig=0 pkey=65535 qp=17 ackreq=1 psn=35 payload=4

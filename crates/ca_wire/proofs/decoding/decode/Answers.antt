@@ -1,5 +1,4 @@
-use Rattle.std.proofs.Common.{arith, Ok, Err, ◌≡◌, rules}
-use Rattle.ca_wire.specs.Packet.{fields_of}
+use Rattle.std.proofs.Common.{arith, rules}
 use Rattle.ca_wire.proofs.DecoderLaws.{is_only, is_refused, found_so, only_so, taken_so, placed_so, no_header, no_body, whole_packet}
 use Rattle.ca_wire.proofs.decoding.decode.Goals as goal
 
