@@ -10,7 +10,7 @@ use ca_base::Key;
 pub const ATOMIC_ETH_BYTES: usize = 28;
 
 /// Atomic extended transport header: what a CmpSwap or a FetchAdd does.
-#[derive(Clone, Copy, Debug, PartialEq, Eq)]
+#[derive(Clone, Copy)]
 pub struct AtomicEth {
     /// The virtual address of the eight bytes.
     pub address: u64,

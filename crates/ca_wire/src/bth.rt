@@ -12,7 +12,7 @@ use crate::wire_error::WireError;
 pub const BTH_BYTES: usize = 12;
 
 /// The base transport header.
-#[derive(Clone, Copy, Debug, PartialEq, Eq)]
+#[derive(Clone, Copy, Debug, PartialEq)]
 pub struct Bth {
     /// What the packet is, by the table of opcodes.
     pub opcode: u8,

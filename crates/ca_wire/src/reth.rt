@@ -10,7 +10,7 @@ use ca_base::Key;
 pub const RETH_BYTES: usize = 16;
 
 /// RDMA extended transport header: what a WRITE or a READ reaches.
-#[derive(Clone, Copy, Debug, PartialEq, Eq)]
+#[derive(Clone, Copy)]
 pub struct Reth {
     /// The virtual address of the first byte.
     pub address: u64,
