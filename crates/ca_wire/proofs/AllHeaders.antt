@@ -1,7 +1,8 @@
 -- All headers of a packet, in the order of the table of opcodes.
 use Rattle.ca_wire.specs.Packet.{be_bytes, reth_bytes, atomic_bytes, aeth_bytes, FitsReth, FitsAtomic, Fields, IsWellFormed, header_bytes}
-use Rattle.ca_wire.specs.Decoding.{if_there, reth_from, atomic_from, aeth_from, number_from, part_at, Headers, flags_size, headers_at}
+use Rattle.ca_wire.specs.Decoding.{if_there, reth_from, atomic_from, aeth_from, number_from, part_at, flags_size, headers_at}
 use Rattle.ca_wire.specs.Table.{Header, RETH, AtomicETH, AETH, AtomicAckETH, ImmDt, IETH, Row, row_of, has, headers_of, allows_payload}
+use Rattle.ca_wire.specs.declared.headers.Headers.{Headers}
 use Rattle.ca_wire.specs.declared.wire_error.WireError.TheVariants.{Opcode}
 use Rattle.std.proofs.Common.{◌≡◌, ℕ, ◌+◌, ◌^◌, ◌<◌, ◌≤◌, Bool, cond, List, [], ◌++◌, length, drop, Option, Some, None, Ok, refl, sym, ap, ◌∙◌, append_assoc, arith, add-zero}
 use Rattle.std.proofs.lemmas.List.{length-append, drop-drop}
@@ -97,8 +98,8 @@ headers_rest hs bytes =
     let re : e.1 ≡ drop ne bytes = part_rest 4 (number_from w32) (has ImmDt hs) d.1 ∙ ap (drop (if_there (has ImmDt hs) 4)) rd ∙ drop-drop (if_there (has ImmDt hs) 4) nd bytes in
     part_rest 4 (number_from w32) (has IETH hs) e.1 ∙ ap (drop (if_there (has IETH hs) 4)) re ∙ drop-drop (if_there (has IETH hs) 4) ne bytes
 
-abbrev pub headers_in : Fields → Headers
-headers_in f = record { reth = f.reth; atomic = f.atomic; aeth = f.aeth; «result» = f.«result»; imm = f.imm; ieth = f.ieth }
+abbrev pub all_headers : Fields → Headers
+all_headers f = record { reth = f.reth; atomic = f.atomic; aeth = f.aeth; «result» = f.«result»; imm = f.imm; ieth = f.ieth }
 
 pub headers_again : (hs : List Header) (h : Headers) (rest : List ℕ) → AreThose h hs → FitsHeaders h → headers_at hs (shown h ++ rest) ≡ (h, rest)
 headers_again hs h rest those fits =
@@ -128,7 +129,7 @@ only_there g None b e = rw (← e) refl
 only_there g (Some x) b e = rw (← e) refl
 
 -- the headers in the table's order are the headers that are there
-pub in_table_order : (f : Fields) (r : Row) → IsOrderly r → AreThose (headers_in f) r.headers → flat_map (header_bytes f) r.headers ≡ shown (headers_in f)
+pub in_table_order : (f : Fields) (r : Row) → IsOrderly r → AreThose (all_headers f) r.headers → flat_map (header_bytes f) r.headers ≡ shown (all_headers f)
 in_table_order f r orderly those =
     orderly.ordered (header_bytes f) ∙ rw (
       only_there reth_bytes f.reth (has RETH r.headers) those.reth,
@@ -169,7 +170,7 @@ shown_length hs h rest those =
 pub with_row : (opcode : ℕ) (r : Row) → row_of opcode ≡ Some r → (headers_of opcode ≡ r.headers) × (allows_payload opcode ≡ r.payload) × IsSome (row_of opcode)
 with_row opcode r e = (rw e refl, rw e refl, rw e refl)
 
-pub those_of : (f : Fields) (r : Row) → row_of f.opcode ≡ Some r → IsWellFormed f → AreThose (headers_in f) r.headers
+pub those_of : (f : Fields) (r : Row) → row_of f.opcode ≡ Some r → IsWellFormed f → AreThose (all_headers f) r.headers
 those_of f r row good =
     let w = with_row f.opcode r row in
     record {

@@ -1,6 +1,8 @@
 -- What reading gives, as the clauses of the decoder say it.
 use Rattle.ca_wire.specs.Packet.{bth_bytes, Fields, Spells, headers_size, refusal_of, fields_of, SpellsBth, bth_refusal_of}
-use Rattle.ca_wire.specs.Decoding.{bth_at, packet_in, front_at, Returns}
+use Rattle.ca_wire.specs.Decoding.{bth_at, body_in, fields_from, packet_in, front_at, Returns}
+use Rattle.ca_wire.specs.declared.bth.TheConstants.{BTH_BYTES}
+use Rattle.ca_wire.specs.declared.headers.Headers.{Headers}
 use Rattle.ca_wire.specs.declared.bth.Bth.{Bth}
 use Rattle.ca_wire.specs.declared.packet.Packet.{Packet}
 use Rattle.ca_wire.specs.declared.wire_error.WireError.{WireError}
@@ -13,14 +15,6 @@ use Rattle.ca_wire.proofs.BthLaws.{bth_takes, bth_length, bth_again}
 use Rattle.ca_wire.proofs.PacketLaws.{packet_takes, packet_again, payload_lies}
 use Rattle.ca_wire.proofs.RefusalLaws.{fault, refusal_is, front_refused}
 
-pub is_found : (r : Result Packet WireError) (bytes : List ℕ) → IsBytes bytes → Returns fields_of r (packet_in bytes) → IfOk r (λ p. Spells bytes (fields_of p))
-is_found (Ok p) bytes fits h = packet_takes bytes (fields_of p) fits h
-is_found (Err e) bytes fits h = tt
-
-pub is_placed : (r : Result Packet WireError) (bytes : List ℕ) → IsBytes bytes → Returns fields_of r (packet_in bytes) → IfOk r (λ p. p.payload.now ≡ take (length p.payload.now) (drop (12 + headers_size p.opcode) bytes))
-is_placed (Ok p) bytes fits h = payload_lies bytes (fields_of p) (packet_takes bytes (fields_of p) fits h)
-is_placed (Err e) bytes fits h = tt
-
 pub is_only : (r : Result Packet WireError) (bytes : List ℕ) (f : Fields) → Returns fields_of r (packet_in bytes) → Spells bytes f → IsOkAnd r (λ p. fields_of p ≡ f)
 is_only (Ok p) bytes f h s = ok_is (fields_of p) f (sym h ∙ packet_again bytes f s)
 is_only (Err e) bytes f h s = absurd (let k : done f ≡ Err e = sym (packet_again bytes f s) ∙ h in cc)
@@ -28,10 +22,6 @@ is_only (Err e) bytes f h s = absurd (let k : done f ≡ Err e = sym (packet_aga
 pub is_refused : (r : Result Packet WireError) (bytes : List ℕ) → IsBytes bytes → Returns fields_of r (packet_in bytes) → IfErr r (λ e. refusal_of bytes ≡ Some e)
 is_refused (Ok p) bytes fits h = tt
 is_refused (Err e) bytes fits h = refusal_is bytes fits ∙ ap (λ (x : Result Fields WireError). fault x) h
-
-pub is_taken : (r : Result Packet WireError) (bytes : List ℕ) → IsBytes bytes → Returns fields_of r (packet_in bytes) → OnOk r (refusal_of bytes ≡ None)
-is_taken (Ok p) bytes fits h = refusal_is bytes fits ∙ ap (λ (x : Result Fields WireError). fault x) h
-is_taken (Err e) bytes fits h = tt
 
 pub is_front : (r : Result Bth WireError) (bytes : List ℕ) → IsBytes bytes → Returns (λ b. b) r (front_at bytes) → IfOk r (λ b. SpellsBth (take 12 bytes) b)
 unfolding front_at
@@ -60,3 +50,29 @@ is_refused_front (Err e) bytes fits h = front_refused bytes fits ∙ ap (λ (x :
 pub is_taken_front : (r : Result Bth WireError) (bytes : List ℕ) → IsBytes bytes → Returns (λ b. b) r (front_at bytes) → OnOk r (bth_refusal_of bytes ≡ None)
 is_taken_front (Ok b) bytes fits h = front_refused bytes fits ∙ ap (λ (x : Result Bth WireError). fault x) h
 is_taken_front (Err e) bytes fits h = tt
+
+-- what a decoder returned, by the steps of reading
+pub no_header : (r : Result Packet WireError) (bytes : List ℕ) (e : WireError) → r ≡ Err e → bth_at bytes ≡ Err e → Returns fields_of r (packet_in bytes)
+unfolding packet_in
+no_header r bytes e is h = rw is (rw h refl)
+
+pub no_body : (r : Result Packet WireError) (bytes rest : List ℕ) (b : Bth) (e : WireError) → r ≡ Err e → bth_at bytes ≡ Ok (b, rest) → body_in b.opcode b.pad rest ≡ Err e → Returns fields_of r (packet_in bytes)
+unfolding packet_in
+no_body r bytes rest b e is h k = rw is (rw (h, k) refl)
+
+pub whole_packet : (bytes rest : List ℕ) (b : Bth) (x : Headers × List ℕ) → bth_at bytes ≡ Ok (b, rest) → body_in b.opcode b.pad rest ≡ Ok x → packet_in bytes ≡ Ok (fields_from b x.0 x.1)
+unfolding packet_in
+whole_packet bytes rest b x h k = rw (h, k) refl
+
+-- a packet that all of the bytes spell, found by reading
+pub found_so : (bytes : List ℕ) (f : Fields) → IsBytes bytes → packet_in bytes ≡ Ok f → Spells bytes f
+found_so bytes f fits h = packet_takes bytes f fits h
+
+pub only_so : (bytes : List ℕ) (f g : Fields) → packet_in bytes ≡ Ok f → Spells bytes g → f ≡ g
+only_so bytes f g h s = ok_is f g (sym h ∙ packet_again bytes g s)
+
+pub taken_so : (bytes : List ℕ) (f : Fields) → IsBytes bytes → packet_in bytes ≡ Ok f → refusal_of bytes ≡ None
+taken_so bytes f fits h = refusal_is bytes fits ∙ ap (λ (x : Result Fields WireError). fault x) h
+
+pub placed_so : (bytes : List ℕ) (f : Fields) → IsBytes bytes → packet_in bytes ≡ Ok f → f.payload ≡ take (length f.payload) (drop (BTH_BYTES + headers_size f.opcode) bytes)
+placed_so bytes f fits h = payload_lies bytes f (packet_takes bytes f fits h)

@@ -11,3 +11,4 @@ pub mod DecoderLaws
 pub mod WritingLaws
 pub mod SyndromeLaws
 pub mod BuilderLaws
+pub mod WorkedPackets

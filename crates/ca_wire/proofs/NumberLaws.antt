@@ -1,5 +1,5 @@
 -- A number that is read from bytes is the number that was written there, and the other way round.
-use Rattle.std.proofs.Common.{◌≡◌, ℕ, zero, suc, ◌+◌, ◌^◌, ◌<◌, ◌≤◌, Bool, true, false, eqb, List, ◌++◌, length, get_or, take, drop, refl, sym, arith, inl, inr}
+use Rattle.std.proofs.Common.{◌≡◌, ℕ, zero, suc, ◌+◌, ◌/◌, ◌%◌, ◌^◌, ◌<◌, ◌≤◌, Bool, true, false, eqb, List, [], ◌++◌, length, get_or, take, drop, refl, sym, append_assoc, append-nil, arith, inl, inr}
 use Rattle.std.specs.Int.{Width, w32, w64, byte_len, from_be_bytes}
 use Rattle.std.proofs.lemmas.Bool.{cases_lt}
 use Rattle.std.proofs.lemmas.List.{take_at, drop_at, take-append-drop, length-take, length-drop, get_or-drop, get_or-take, get_or_past}
@@ -82,3 +82,24 @@ bit_below false = omega arith
 pub is_bit : (b : Bool) (n : ℕ) → n ≡ bit b → eqb n 1 ≡ b
 is_bit true n e = rw e refl
 is_bit false n e = rw e refl
+
+-- a number of eight bytes, by its halves
+be_bytes_halves : (n : ℕ) → be_bytes w64 n ≡ be_bytes w32 (n / 2 ^ 32) ++ be_bytes w32 (n % 2 ^ 32)
+unfolding be_bytes
+be_bytes_halves n =
+    let e0 : n / 72057594037927936 % 256 ≡ n / 4294967296 / 16777216 % 256 = omega arith in
+    let e1 : n / 281474976710656 % 256 ≡ n / 4294967296 / 65536 % 256 = omega arith in
+    let e2 : n / 1099511627776 % 256 ≡ n / 4294967296 / 256 % 256 = omega arith in
+    let e3 : n / 16777216 % 256 ≡ n % 4294967296 / 16777216 % 256 = omega arith in
+    let e4 : n / 65536 % 256 ≡ n % 4294967296 / 65536 % 256 = omega arith in
+    let e5 : n / 256 % 256 ≡ n % 4294967296 / 256 % 256 = omega arith in
+    let e6 : n % 256 ≡ n % 4294967296 % 256 = omega arith in
+    rw (e0, e1, e2, e3, e4, e5, e6) refl
+
+-- an address, a key and a length, in groups of four bytes
+pub reth_groups : (a k l : ℕ) → be_bytes w32 (a / 2 ^ 32) ++ (be_bytes w32 (a % 2 ^ 32) ++ (be_bytes w32 k ++ (be_bytes w32 l ++ []))) ≡ be_bytes w64 a ++ (be_bytes w32 k ++ be_bytes w32 l)
+reth_groups a k l = rw (be_bytes_halves a) (simp (append_assoc, append-nil))
+
+-- an address, a key and two numbers, in groups of four bytes
+pub atomic_groups : (a k s c : ℕ) → be_bytes w32 (a / 2 ^ 32) ++ (be_bytes w32 (a % 2 ^ 32) ++ (be_bytes w32 k ++ (be_bytes w32 (s / 2 ^ 32) ++ (be_bytes w32 (s % 2 ^ 32) ++ (be_bytes w32 (c / 2 ^ 32) ++ (be_bytes w32 (c % 2 ^ 32) ++ [])))))) ≡ be_bytes w64 a ++ (be_bytes w32 k ++ (be_bytes w64 s ++ be_bytes w64 c))
+atomic_groups a k s c = rw (be_bytes_halves a, be_bytes_halves s, be_bytes_halves c) (simp (append_assoc, append-nil))

@@ -3,9 +3,10 @@ use Rattle.ca_base.specs.Refusals.{first_of}
 use Rattle.ca_base.specs.declared.limits.TheConstants.{MAX_PAYLOAD_BYTES}
 use Rattle.ca_wire.specs.declared.bth.TheConstants.{BTH_BYTES}
 use Rattle.ca_wire.specs.Packet.{headers_size, opcode_in, version_in, pad_in, refusal_of, bth_refusal_of}
-use Rattle.ca_wire.specs.Decoding.{number_at, bth_at, bth_from, version_of, payload_at, payload_behind, ◌>>=◌, headers_at, fields_from, packet_of_row, packet_in, front_at}
+use Rattle.ca_wire.specs.Decoding.{number_at, bth_at, bth_from, version_of, payload_at, payload_behind, ◌>>=◌, headers_at, body_in, fields_from, packet_in, front_at}
 use Rattle.ca_wire.specs.Table.{Row, size_of, row_of, allows_payload}
 use Rattle.ca_wire.specs.declared.bth.Bth.{Bth}
+use Rattle.ca_wire.specs.declared.headers.Headers.{Headers}
 use Rattle.ca_wire.specs.declared.wire_error.WireError.{WireError}
 use Rattle.ca_wire.specs.declared.wire_error.WireError.TheVariants.{TooShort, Length, Pad, Opcode}
 use Rattle.std.proofs.Common.{◌≡◌, ℕ, ◌-◌, ◌/◌, ◌%◌, ◌^◌, ◌≤◌, Bool, true, false, not, ◌&&◌, cond, eqb, ltb, List, [], ◌∷◌, length, take, drop, Option, Some, None, Result, Ok, Err, refl, sym, ap, ◌∙◌, arith, inl, inr}
@@ -21,9 +22,9 @@ abbrev pub fault : {A : Type 0} → Result A WireError → Option WireError
 fault (Ok x) = None
 fault (Err e) = Some e
 
-fault_then : {A B : Type 0} (r : Result A WireError) (f : A → B) → fault (r >>= λ x. Ok (f x)) ≡ fault r
-fault_then (Ok x) f = refl
-fault_then (Err e) f = refl
+fault_after : {A B C : Type 0} (r : Result A WireError) (f : A → B) (g : B → C) → fault ((r >>= λ x. Ok (f x)) >>= λ y. Ok (g y)) ≡ fault r
+fault_after (Ok x) f g = refl
+fault_after (Err e) f g = refl
 
 abbrev payload_tests : ℕ → Bool → ℕ → List (Bool × WireError)
 payload_tests n allowed pad =
@@ -50,13 +51,13 @@ payload_fault allowed pad rest =
     four_tests (not (eqb (n % 4) 0)) (not (eqb n 0) && not allowed) (ltb MAX_PAYLOAD_BYTES (n - pad)) (eqb n 0 && not (eqb pad 0)) Length Length Length Pad (take (n - pad) rest)
 
 row_fault : (b : Bth × List ℕ) (o : Option Row) → row_of b.0.opcode ≡ o → fault (after_bth b) ≡ first_of (opcode_tests (row_of b.0.opcode) (length b.1) (headers_size b.0.opcode) (allows_payload b.0.opcode) (length b.1 - headers_size b.0.opcode) b.0.pad)
-unfolding packet_of_row payload_behind
+unfolding body_in payload_behind
 row_fault b None e = rw e refl
 row_fault b (Some r) e =
     let size = sum_by size_of r.headers in
     rw e (elim (cases_lt (length b.1) size) [
       | inl lt ↦ rw (lt-ltb (length b.1) size lt) refl
-      | inr le ↦ rw (le-ltb (length b.1) size le) (fault_then (payload_at r.payload b.0.pad (drop size b.1)) (λ p. fields_from b.0 (headers_at r.headers b.1).0 p) ∙ payload_fault r.payload b.0.pad (drop size b.1) ∙ ap (λ n. first_of (payload_tests n r.payload b.0.pad)) (length-drop size b.1))
+      | inr le ↦ rw (le-ltb (length b.1) size le) (fault_after (payload_at r.payload b.0.pad (drop size b.1)) (λ (p : List ℕ). ((headers_at r.headers b.1).0, p)) (λ (x : Headers × List ℕ). fields_from b.0 x.0 x.1) ∙ payload_fault r.payload b.0.pad (drop size b.1) ∙ ap (λ n. first_of (payload_tests n r.payload b.0.pad)) (length-drop size b.1))
     ])
 
 -- the first word holds the opcode, the pad count and the version where the bytes do

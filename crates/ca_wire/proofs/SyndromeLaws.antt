@@ -1,13 +1,12 @@
 -- A syndrome that is sent is received as what it says, and the other way round.
-use Rattle.std.proofs.Common.{◌≡◌, ℕ, ◌+◌, ◌-◌, ◌<◌, ◌≤◌, Option, Some, None, refl, sym, subst, ◌∙◌, arith, inl, inr, lit<}
+use Rattle.std.proofs.Common.{◌≡◌, ℕ, ◌+◌, ◌-◌, Some, refl, subst, arith, inl, inr}
 use Rattle.std.proofs.lemmas.Bool.{cases_lt, cases_eq, lt-ltb, le-ltb, eq-eqb, ne_eqb}
 use Rattle.std.specs.Option.{option_map}
-use Rattle.ca_wire.specs.declared.syndrome.NakCode.{NakCode}
 use Rattle.ca_wire.specs.declared.syndrome.NakCode.TheVariants.{PsnSequenceError, InvalidRequest, RemoteAccessError, RemoteOperationalError}
 use Rattle.ca_wire.specs.declared.syndrome.Syndrome.{Syndrome}
 use Rattle.ca_wire.specs.declared.syndrome.Syndrome.TheVariants.{Ack, RnrNak, Nak}
 use Rattle.ca_wire.specs.declared.syndrome.TheConstants.{RNR_NAK, NAK, SYNDROME_CODES}
-use Rattle.ca_wire.specs.Syndrome.{FitsSyndrome, nak_code, nak_code_in, syndrome_byte, syndrome_in}
+use Rattle.ca_wire.specs.Syndrome.{FitsSyndrome, nak_code_in, syndrome_byte, syndrome_in}
 
 pub received : (s : Syndrome) → FitsSyndrome s → syndrome_in (syndrome_byte s) ≡ Some s
 received (Ack credits) fits = rw (lt-ltb credits RNR_NAK fits) refl

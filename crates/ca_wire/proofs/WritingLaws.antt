@@ -11,7 +11,7 @@ use Rattle.std.specs.Int.{w32, w64}
 use Rattle.std.specs.List.{flat_map}
 use Rattle.std.specs.Option.{option_map_or}
 use Rattle.std.specs.Prelude.{is_some, replicate}
-use Rattle.ca_wire.proofs.AllHeaders.{shown, headers_in, in_table_order, some_row, with_row, those_of, shown_length}
+use Rattle.ca_wire.proofs.AllHeaders.{shown, all_headers, in_table_order, some_row, with_row, those_of, shown_length}
 use Rattle.ca_wire.proofs.BthLaws.{bth_length}
 use Rattle.ca_wire.proofs.PacketLaws.{one_packet_at_most}
 use Rattle.ca_wire.proofs.TableRows.{row_orderly}
@@ -35,7 +35,7 @@ spelling_is f old good =
     let w = with_row f.opcode r.0 r.1 in
     let row = row_orderly f.opcode r.0 r.1 in
     let those = those_of f r.0 r.1 good in
-    let same_headers : flat_map (header_bytes f) (headers_of f.opcode) ≡ shown (headers_in f) = rw w.0 (in_table_order f r.0 row.0 those) in
+    let same_headers : flat_map (header_bytes f) (headers_of f.opcode) ≡ shown (all_headers f) = rw w.0 (in_table_order f r.0 row.0 those) in
     ap (λ (t : List ℕ). old ++ (bth_bytes (canonical 0) (bth_of f) ++ (t ++ (f.payload ++ replicate (pad_count (length f.payload)) 0)))) same_headers
     ∙ in_parts old _ _ _ _ _ _ _ _ _
 
@@ -64,9 +64,9 @@ spelling_length f good =
     let those = those_of f r.0 r.1 good in
     let pad : List ℕ = replicate (pad_count (length f.payload)) 0 in
     let headers : List ℕ = flat_map (header_bytes f) (headers_of f.opcode) in
-    let same_headers : headers ≡ shown (headers_in f) = rw w.0 (in_table_order f r.0 row.0 those) in
+    let same_headers : headers ≡ shown (all_headers f) = rw w.0 (in_table_order f r.0 row.0 those) in
     let size : headers_size f.opcode ≡ flags_size r.0.headers = rw w.0 row.0.size in
-    let long : length headers ≡ headers_size f.opcode = ap length same_headers ∙ omega (arith, shown_length r.0.headers (headers_in f) [] those, length-append (shown (headers_in f)) [], size) in
+    let long : length headers ≡ headers_size f.opcode = ap length same_headers ∙ omega (arith, shown_length r.0.headers (all_headers f) [] those, length-append (shown (all_headers f)) [], size) in
     omega (arith, long, length-append (bth_bytes (canonical 0) (bth_of f)) (headers ++ (f.payload ++ pad)), bth_length (canonical 0) (bth_of f), length-append headers (f.payload ++ pad), length-append f.payload pad, length-replicate {A = ℕ} (pad_count (length f.payload)) 0)
 
 no_payload : (f : Fields) → IsWellFormed f → (b : Bool) → allows_payload f.opcode ≡ b → length f.payload ≤ cond b MAX_PAYLOAD_BYTES 0

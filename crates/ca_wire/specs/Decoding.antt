@@ -1,16 +1,17 @@
 -- Reading a packet from left to right, with the first fault that is met. Contracts cite it; the grammar is in Packet.antt.
-use Rattle.std.specs.Prelude.{◌≡◌, ℕ, ◌+◌, ◌-◌, ◌/◌, ◌%◌, ◌^◌, ◌==◌, nat_lt, Bool, true, false, not, ◌&&◌, if◌then◌else◌, List, [], length, take, drop, sum_by, Option, Some, None, Result, Ok, Err}
+use Rattle.std.specs.Prelude.{◌≡◌, ℕ, ◌+◌, ◌-◌, ◌/◌, ◌%◌, ◌^◌, ◌==◌, nat_lt, Bool, true, false, not, ◌&&◌, if◌then◌else◌, List, length, take, drop, sum_by, Option, Some, None, Result, Ok, Err}
 use Rattle.std.specs.Int.{Width, w32, w64, byte_len, from_be_bytes}
-use Rattle.std.specs.Option.{option_map, ok_or}
+use Rattle.std.specs.Option.{ok_or}
 use Rattle.ca_base.specs.declared.limits.TheConstants.{MAX_PAYLOAD_BYTES}
 use Rattle.ca_wire.specs.declared.bth.Bth.{Bth}
 use Rattle.ca_wire.specs.declared.bth.TheConstants.{BTH_BYTES}
 use Rattle.ca_wire.specs.declared.reth.Reth.{Reth}
 use Rattle.ca_wire.specs.declared.atomic_eth.AtomicEth.{AtomicEth}
 use Rattle.ca_wire.specs.declared.aeth.Aeth.{Aeth}
+use Rattle.ca_wire.specs.declared.headers.Headers.{Headers}
 use Rattle.ca_wire.specs.declared.wire_error.WireError.{WireError}
 use Rattle.ca_wire.specs.declared.wire_error.WireError.TheVariants.{TooShort, Version, Opcode, Length, Pad}
-use Rattle.ca_wire.specs.Table.{Header, RETH, AtomicETH, AETH, AtomicAckETH, ImmDt, IETH, Row, row_of, has, size_of}
+use Rattle.ca_wire.specs.Table.{Header, RETH, AtomicETH, AETH, AtomicAckETH, ImmDt, IETH, row_of, has, size_of}
 use Rattle.ca_wire.specs.Packet.{Fields}
 
 -- what a function returned, seen by view, is what reading gives
@@ -64,20 +65,11 @@ front_at bytes = do
 abbrev pub if_there : Bool → ℕ → ℕ
 if_there present size = if present then size else 0
 
--- what follows the base transport header
-pub record Headers : Type 0 where
-  pub reth : Option Reth
-  pub atomic : Option AtomicEth
-  pub aeth : Option Aeth
-  pub «result» : Option ℕ
-  pub imm : Option ℕ
-  pub ieth : Option ℕ
-
 -- how many bytes these headers have, each counted once
 abbrev pub flags_size : List Header → ℕ
 flags_size hs =
     if_there (has RETH hs) 16 + if_there (has AtomicETH hs) 28 + if_there (has AETH hs) 4
-      + if_there (has AtomicAckETH hs) 8 + if_there (has ImmDt hs) 4 + if_there (has IETH hs) 4
+    + if_there (has AtomicAckETH hs) 8 + if_there (has ImmDt hs) 4 + if_there (has IETH hs) 4
 
 -- the RETH at the front
 unfoldable pub reth_from : List ℕ → Reth
@@ -133,25 +125,6 @@ payload_at allowed pad rest =
     else if (length rest == 0) && not (pad == 0) then Err Pad
     else Ok (take (length rest - pad) rest)
 
--- the packet of a base transport header and a payload, with no header between them
-abbrev pub bare : Bth → List ℕ → Fields
-bare b payload = record {
-  opcode = b.opcode;
-  solicited = b.solicited;
-  migrated = b.migrated;
-  pkey = b.pkey;
-  queue = b.queue;
-  ack = b.ack;
-  psn = b.psn;
-  reth = None;
-  atomic = None;
-  aeth = None;
-  «result» = None;
-  imm = None;
-  ieth = None;
-  payload = payload;
-}
-
 -- the packet of its parts
 abbrev pub fields_from : Bth → Headers → List ℕ → Fields
 fields_from b h payload = record {
@@ -176,15 +149,16 @@ unfoldable pub payload_behind : ℕ → Bool → ℕ → List ℕ → Result (Li
 payload_behind size allowed pad bytes =
     if nat_lt (length bytes) size then Err TooShort else payload_at allowed pad (drop size bytes)
 
--- the packet with this row and this base transport header, before these bytes
-unfoldable pub packet_of_row : Row → Bth → List ℕ → Result Fields WireError
-packet_of_row r b bytes = do
-  p ← payload_behind (sum_by size_of r.headers) r.payload b.pad bytes
-  Ok (fields_from b (headers_at r.headers bytes).0 p)
+-- the headers of this opcode at the front, and the payload behind them
+unfoldable pub body_in : ℕ → ℕ → List ℕ → Result (Headers × List ℕ) WireError
+body_in opcode pad bytes = do
+  r ← ok_or (row_of opcode) Opcode
+  p ← payload_behind (sum_by size_of r.headers) r.payload pad bytes
+  Ok ((headers_at r.headers bytes).0, p)
 
 -- the packet that all of the bytes spell
 unfoldable pub packet_in : List ℕ → Result Fields WireError
 packet_in bytes = do
   b ← bth_at bytes
-  r ← ok_or (row_of b.0.opcode) Opcode
-  packet_of_row r b.0 b.1
+  x ← body_in b.0.opcode b.0.pad b.1
+  Ok (fields_from b.0 x.0 x.1)

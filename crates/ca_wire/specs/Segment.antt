@@ -1,5 +1,5 @@
 -- The segments of a message: where each stands, and which ask for an acknowledgement. Contracts cite it.
-use Rattle.std.specs.Prelude.{ℕ, ◌+◌, ◌%◌, ◌==◌, Bool, true, false, ◌||◌, if◌then◌else◌}
+use Rattle.std.specs.Prelude.{◌+◌, ◌%◌, ◌==◌, Bool, true, false, ◌||◌, if◌then◌else◌}
 use Rattle.ca_wire.specs.declared.segment.Segment.{Segment}
 use Rattle.ca_wire.specs.declared.segment.Position.{Position}
 use Rattle.ca_wire.specs.declared.segment.Position.TheVariants.{First, Middle, Last, Only}

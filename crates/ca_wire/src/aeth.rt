@@ -10,7 +10,7 @@ use crate::writing::put;
 pub const AETH_BYTES: usize = 4;
 
 /// ACK extended transport header.
-#[derive(Clone, Copy, Debug, PartialEq, Eq)]
+#[derive(Clone, Copy)]
 pub struct Aeth {
     /// What it says, as [`crate::Syndrome`] spells it.
     pub syndrome: u8,

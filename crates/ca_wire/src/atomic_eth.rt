@@ -3,15 +3,14 @@ ghost use Rattle.ca_wire.specs.Packet.{atomic_bytes, FitsAtomic};
 ghost use Rattle.ca_wire.specs.Decoding.{atomic_from};
 ghost use Rattle.ca_wire.specs.Writing.{HasRoom, Grows};
 
-use crate::numbers::{u32_at, u64_at};
-use crate::writing::put;
+use crate::numbers::{group, halves, put_groups, u32_at, u64_at};
 use ca_base::Key;
 
 /// How many bytes an AtomicETH has.
 pub const ATOMIC_ETH_BYTES: usize = 28;
 
 /// Atomic extended transport header: what a CmpSwap or a FetchAdd does.
-#[derive(Clone, Copy, Debug, PartialEq, Eq)]
+#[derive(Clone, Copy)]
 pub struct AtomicEth {
     /// The virtual address of the eight bytes.
     pub address: u64,
@@ -45,21 +44,27 @@ impl AtomicEth {
 
     /// Adds an AtomicETH at the end of a list that has room for it.
     #[inline(always)]
-    #[tactic(auto, unfolding(crate::specs::Packet::be_bytes))]
     pub(crate) fn put(self, out: &mut Vec<u8>)
         requires { HasRoom out.old ATOMIC_ETH_BYTES }
         ensures items { out.new.items ≡ out.old.items ++ atomic_bytes self }
         ensures room { Grows out.old out.new ATOMIC_ETH_BYTES }
         ensures fits { FitsAtomic self }
     {
-        let [a0, a1, a2, a3, a4, a5, a6, a7] = self.address.to_be_bytes();
-        let [k0, k1, k2, k3] = self.key.0.to_be_bytes();
-        let [s0, s1, s2, s3, s4, s5, s6, s7] = self.swap.to_be_bytes();
-        let [c0, c1, c2, c3, c4, c5, c6, c7] = self.compare.to_be_bytes();
-        let bytes = [
-            a0, a1, a2, a3, a4, a5, a6, a7, k0, k1, k2, k3, s0, s1, s2, s3, s4, s5, s6, s7, c0, c1, c2, c3, c4, c5,
-            c6, c7,
-        ];
-        put(&bytes, out);
+        let (high, low) = halves(self.address);
+        let (swap_high, swap_low) = halves(self.swap);
+        let (compare_high, compare_low) = halves(self.compare);
+        let key = group(self.key.0);
+        put_groups(
+            &[
+                high,
+                low,
+                key,
+                swap_high,
+                swap_low,
+                compare_high,
+                compare_low,
+            ],
+            out,
+        );
     }
 }

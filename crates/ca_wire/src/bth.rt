@@ -1,19 +1,18 @@
-ghost use Rattle.std.specs.Prelude.{◌≡◌, ◌++◌, List, take, None, Some, IfOk, IfErr, OnOk, IsOkAnd};
+ghost use Rattle.std.specs.Prelude.{◌≡◌, ◌++◌, ◌<◌, List, take, None, Some, IfOk, IfErr, OnOk, IsOkAnd};
 ghost use Rattle.std.specs.Int.{w32};
 ghost use Rattle.ca_wire.specs.declared.bth.Bth.{Bth};
 ghost use Rattle.ca_wire.specs.Packet.{SpellsBth, FitsBth, be_bytes, bit, bth_bytes, bth_refusal_of, canonical};
 ghost use Rattle.ca_wire.specs.Decoding.{Returns, bth_at, front_at};
 ghost use Rattle.ca_wire.specs.Writing.{HasRoom, Grows};
 
-use crate::numbers::u32_at;
+use crate::numbers::{group, put_groups, u32_at};
 use crate::wire_error::WireError;
-use crate::writing::put;
 
 /// How many bytes the base transport header has.
 pub const BTH_BYTES: usize = 12;
 
 /// The base transport header.
-#[derive(Clone, Copy, Debug, PartialEq, Eq)]
+#[derive(Clone, Copy, Debug, PartialEq)]
 pub struct Bth {
     /// What the packet is, by the table of opcodes.
     pub opcode: u8,
@@ -41,18 +40,13 @@ fn bit_of(flag: bool) -> u32
 }
 
 #[inline(always)]
-#[tactic(auto, unfolding(crate::specs::Packet::be_bytes))]
 fn put_words(first: u32, second: u32, third: u32, out: &mut Vec<u8>)
     requires { HasRoom out.old BTH_BYTES }
     ensures items { out.new.items ≡ out.old.items
         ++ (be_bytes w32 first ++ (be_bytes w32 second ++ be_bytes w32 third)) }
     ensures room { Grows out.old out.new BTH_BYTES }
 {
-    let [a0, a1, a2, a3] = first.to_be_bytes();
-    let [b0, b1, b2, b3] = second.to_be_bytes();
-    let [c0, c1, c2, c3] = third.to_be_bytes();
-    let bytes = [a0, a1, a2, a3, b0, b1, b2, b3, c0, c1, c2, c3];
-    put(&bytes, out);
+    put_groups(&[group(first), group(second), group(third)], out);
 }
 
 impl Bth {
@@ -60,7 +54,8 @@ impl Bth {
     #[inline(always)]
     #[tactic(auto, unfolding(crate::specs::Decoding::bth_at))]
     pub(crate) fn read(bytes: &[u8]) -> Result<(Bth, &[u8]), WireError>
-        ensures { Returns (λ x. (x.0, x.1.now)) result (bth_at bytes.now) }
+        ensures value { Returns (λ x. (x.0, x.1.now)) result (bth_at bytes.now) }
+        ensures pad { IfOk result (λ x. x.0.pad < 4) }
     {
         if bytes.len() < BTH_BYTES {
             return Err(WireError::TooShort);

@@ -13,6 +13,7 @@ mod atomic_eth;
 mod bth;
 mod decoding;
 mod encoding;
+mod headers;
 mod laws;
 mod numbers;
 pub mod opcode;
@@ -34,7 +35,9 @@ pub use encoding::encode;
 pub use laws::{one_packet, round_trip, spelling_length, syndromes};
 pub use packet::{DEFAULT_PKEY, MAX_PACKET_BYTES, Packet};
 pub use requests::{SendKind, cmp_swap, fetch_add, read_request, send_packet, write_packet};
-pub use responses::{acknowledge, acknowledgement, atomic_acknowledge, nak, read_response, rnr_nak};
+pub use responses::{
+    acknowledge, acknowledgement, atomic_acknowledge, nak, read_response, rnr_nak,
+};
 pub use reth::Reth;
 pub use segment::{Position, Segment};
 pub use syndrome::{NakCode, Syndrome, UNLIMITED_CREDITS};

@@ -1,5 +1,6 @@
-ghost use Rattle.std.specs.Prelude.{◌≡◌, ◌+◌, ◌++◌, ◌≤◌, length, drop};
+ghost use Rattle.std.specs.Prelude.{◌≡◌, ◌+◌, ◌*◌, ◌/◌, ◌%◌, ◌^◌, ◌++◌, ◌≤◌, length, drop};
 ghost use Rattle.std.specs.Int.{w32, w64};
+ghost use Rattle.std.specs.List.{flat_map};
 ghost use Rattle.ca_wire.specs.Packet.{be_bytes};
 ghost use Rattle.ca_wire.specs.Decoding.{number_at, number_from};
 ghost use Rattle.ca_wire.specs.Writing.{HasRoom, Grows};
@@ -81,6 +82,36 @@ fn u64_from(bytes: &[u8]) -> u64
     ensures { result ≡ number_from w64 bytes.now }
 {
     u64_at(bytes).0
+}
+
+/// A number as four bytes, the highest first.
+#[inline(always)]
+#[tactic(auto, unfolding(crate::specs::Packet::be_bytes))]
+pub fn group(number: u32) -> [u8; 4]
+    ensures { result ≡ be_bytes w32 number }
+{
+    number.to_be_bytes()
+}
+
+/// The high and the low half of a number of eight bytes, each as bytes, the highest first.
+#[inline(always)]
+pub fn halves(number: u64) -> ([u8; 4], [u8; 4])
+    ensures high { result.0 ≡ be_bytes w32 (number / 2 ^ 32) }
+    ensures low { result.1 ≡ be_bytes w32 (number % 2 ^ 32) }
+{
+    let high = (number >> 32) as u32;
+    let low = (number % 0x1_0000_0000) as u32;
+    (group(high), group(low))
+}
+
+/// Adds groups of four bytes at once.
+#[inline(always)]
+pub fn put_groups(groups: &[[u8; 4]], out: &mut Vec<u8>)
+    requires { HasRoom out.old (length groups.now * 4) }
+    ensures items { out.new.items ≡ out.old.items ++ flat_map (λ x. x) groups.now }
+    ensures room { Grows out.old out.new (length groups.now * 4) }
+{
+    put(groups.as_flattened(), out);
 }
 
 /// Adds a number of four bytes, the highest first.

@@ -1,11 +1,9 @@
 ghost use Rattle.std.specs.Prelude.{◌≡◌};
 ghost use Rattle.ca_wire.specs.Packet.{fields_of};
 ghost use Rattle.ca_wire.specs.Builders.{plain};
-ghost use Rattle.ca_wire.specs.Decoding.{bare};
 
 use crate::aeth::Aeth;
 use crate::atomic_eth::AtomicEth;
-use crate::bth::Bth;
 use crate::reth::Reth;
 use ca_base::limits::MAX_PAYLOAD_BYTES;
 
@@ -25,14 +23,14 @@ pub struct Packet<'a> {
     pub solicited: bool,
     /// MigReq: the migration state.
     pub migrated: bool,
-    /// The partition key.
-    pub pkey: u16,
-    /// The number of the destination queue pair, below 2^24.
-    pub queue: u32,
     /// AckReq: an acknowledgement is asked for.
     pub ack: bool,
+    /// The number of the destination queue pair, below 2^24.
+    pub queue: u32,
     /// The packet sequence number, below 2^24.
     pub psn: u32,
+    /// The partition key.
+    pub pkey: u16,
     /// What a WRITE or a READ reaches.
     pub reth: Option<Reth>,
     /// What an atomic does.
@@ -50,29 +48,6 @@ pub struct Packet<'a> {
 }
 
 impl<'a> Packet<'a> {
-    /// The packet of a base transport header and a payload, with no header between them.
-    #[inline(always)]
-    pub(crate) fn bare(bth: Bth, payload: &'a [u8]) -> Packet<'a>
-        ensures { fields_of result ≡ bare bth payload.now }
-    {
-        Packet {
-            opcode: bth.opcode,
-            solicited: bth.solicited,
-            migrated: bth.migrated,
-            pkey: bth.pkey,
-            queue: bth.queue,
-            ack: bth.ack,
-            psn: bth.psn,
-            reth: None,
-            atomic: None,
-            aeth: None,
-            result: None,
-            imm: None,
-            ieth: None,
-            payload,
-        }
-    }
-
     /// The packet with this opcode, for this queue pair, at this PSN, in the default partition, with this payload: no
     /// flag is set, and it has no header.
     #[inline(always)]

@@ -3,15 +3,14 @@ ghost use Rattle.ca_wire.specs.Packet.{reth_bytes, FitsReth};
 ghost use Rattle.ca_wire.specs.Decoding.{reth_from};
 ghost use Rattle.ca_wire.specs.Writing.{HasRoom, Grows};
 
-use crate::numbers::{u32_at, u64_at};
-use crate::writing::put;
+use crate::numbers::{group, halves, put_groups, u32_at, u64_at};
 use ca_base::Key;
 
 /// How many bytes a RETH has.
 pub const RETH_BYTES: usize = 16;
 
 /// RDMA extended transport header: what a WRITE or a READ reaches.
-#[derive(Clone, Copy, Debug, PartialEq, Eq)]
+#[derive(Clone, Copy)]
 pub struct Reth {
     /// The virtual address of the first byte.
     pub address: u64,
@@ -41,19 +40,13 @@ impl Reth {
 
     /// Adds a RETH at the end of a list that has room for it.
     #[inline(always)]
-    #[tactic(auto, unfolding(crate::specs::Packet::be_bytes))]
     pub(crate) fn put(self, out: &mut Vec<u8>)
         requires { HasRoom out.old RETH_BYTES }
         ensures items { out.new.items ≡ out.old.items ++ reth_bytes self }
         ensures room { Grows out.old out.new RETH_BYTES }
         ensures fits { FitsReth self }
     {
-        let [a0, a1, a2, a3, a4, a5, a6, a7] = self.address.to_be_bytes();
-        let [k0, k1, k2, k3] = self.key.0.to_be_bytes();
-        let [l0, l1, l2, l3] = self.length.to_be_bytes();
-        let bytes = [
-            a0, a1, a2, a3, a4, a5, a6, a7, k0, k1, k2, k3, l0, l1, l2, l3,
-        ];
-        put(&bytes, out);
+        let (high, low) = halves(self.address);
+        put_groups(&[high, low, group(self.key.0), group(self.length)], out);
     }
 }

@@ -15,7 +15,7 @@ pub const SYNDROME_CODES: u8 = 32;
 pub const UNLIMITED_CREDITS: u8 = 31;
 
 /// Why a request is refused by a NAK.
-#[derive(Clone, Copy, Debug, PartialEq, Eq)]
+#[derive(Clone, Copy)]
 pub enum NakCode {
     /// A packet is missing: the one that came is ahead of the expected PSN.
     PsnSequenceError,
@@ -55,7 +55,7 @@ impl NakCode {
 }
 
 /// What the syndrome of an AETH says.
-#[derive(Clone, Copy, Debug, PartialEq, Eq)]
+#[derive(Clone, Copy)]
 pub enum Syndrome {
     /// An acknowledgement, with its credit code, below 32. A requester of this profile ignores the code.
     Ack(u8),
