@@ -4,9 +4,7 @@ pub mod Lawful
 mod LineLaws
 pub mod Limit
 pub mod OneWord
-mod OutsideExamples
 mod PacketLaws
-pub mod Passed
 pub mod Performing
 mod RightsLaws
 mod ScriptLaws

@@ -2,7 +2,8 @@
 use Rattle.std.proofs.Common.{◌≡◌, ℕ, ◌+◌, ◌-◌, ◌<◌, ◌≤◌, List, [], ◌∷◌, ◌++◌, length, length-append, take, Option, None, Some, IfSome, refl, sym, ap, subst, arith, append_assoc, inl, inr, ◌∙◌}
 use Rattle.std.specs.Io.KnownBytes.{Consumes}
 use Rattle.std.proofs.lemmas.Bool.{cases_lt}
-use Rattle.ca_program.specs.Form.{Begins, FirstDiffers, ended_all, lines}
+use Rattle.ca_program.specs.Form.{Begins, FirstDiffers, IsScript, ended_all, lines}
+use Rattle.ca_program.specs.Run.{IsOutput, Ran}
 
 -- a front that is shorter than the first of two parts is a front of that part
 front-first : (front rest v more : List ℕ) → front ++ rest ≡ v ++ more → length front ≤ length v → (rest' : List ℕ) × (v ≡ front ++ rest')
@@ -58,3 +59,24 @@ differs-left (Some bytes) (Some rest) v line consumes all first =
       | inr within ↦ (let P : List ℕ → Type 0 = λ x. FirstDiffers x line in subst P (all within) first)
       | inl beyond ↦ (let P : List ℕ → Type 0 = λ x. FirstDiffers x line in subst P (sym consumes) (differs-longer line v rest beyond first))
     ]
+
+-- bytes that were read and are a script are all that the source had
+read-whole : (left left' : Option (List ℕ)) (bytes : List ℕ) (IsIt : List ℕ → Type 0) → IsIt bytes → length bytes ≤ 1048576
+    → IfSome left (λ all. length bytes ≤ 1048576 → bytes ≡ all) → IfSome left (λ _. length bytes ≤ 1048576 → left' ≡ Some [])
+    → IfSome left (λ all. IsIt all × (left' ≡ Some []))
+read-whole None left' bytes IsIt is few all end = tt
+read-whole (Some left) left' bytes IsIt is few all end = (subst IsIt (all few) is, end few)
+
+-- what was read and performed, and what the sink took of its output
+pub ran : (left left' : Option (List ℕ)) (bytes output : List ℕ) (Took : List ℕ → Type 0) → IsOutput bytes output → Took output
+    → IfSome left (λ all. length bytes ≤ 1048576 → bytes ≡ all) → IfSome left (λ _. length bytes ≤ 1048576 → left' ≡ Some [])
+    → Ran left left' Took
+ran left left' bytes output Took is took all end = record {
+  script = is.script;
+  form = is.read.form;
+  entries = is.entries;
+  read = read-whole left left' bytes (λ b. IsScript b is.script) is.read is.read.most all end;
+  history = is.history;
+  lawful = is.lawful;
+  written = subst Took is.whole took;
+}

@@ -1,6 +1,5 @@
 pub mod FirstPath
 pub mod Form
-pub mod Outside
 pub mod Reading
 pub mod Run
 pub mod Status

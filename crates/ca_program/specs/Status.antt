@@ -4,8 +4,8 @@ use Rattle.ca_program.specs.declared.script.ScriptCause.{ScriptCause}
 use Rattle.ca_program.specs.declared.script.ScriptCause.TheVariants.{NotBuilt}
 use Rattle.ca_program.specs.declared.script.ScriptError.{ScriptError}
 use Rattle.ca_program.specs.declared.script.ScriptError.TheVariants as errors
-use Rattle.ca_program.specs.declared.outside.transfer.ReadStop.{ReadStop}
-use Rattle.ca_program.specs.declared.outside.transfer.ReadStop.TheVariants as stops
+use Rattle.ca_outside.specs.declared.transfer.ReadStop.{ReadStop}
+use Rattle.ca_outside.specs.declared.transfer.ReadStop.TheVariants as stops
 use Rattle.ca_program.specs.declared.status.Status.{Status}
 use Rattle.ca_program.specs.declared.status.Status.TheVariants as statuses
 

@@ -1,6 +1,6 @@
-use crate::outside::{StdSink, StdSource};
 use crate::run::run;
 use crate::status::{Status, exit_code, status_line};
+use ca_outside::{StdSink, StdSource};
 use std::io::ErrorKind;
 use std::process::ExitCode;
 use std::rt::Env;

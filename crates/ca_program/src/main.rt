@@ -9,7 +9,6 @@
 
 mod command;
 mod first_path;
-mod outside;
 mod run;
 mod script;
 mod status;

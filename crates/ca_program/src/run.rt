@@ -1,17 +1,17 @@
-ghost use Rattle.std.specs.Prelude.{◌≡◌, ◌≢◌, ◌↔◌, ◌++◌, ℕ, List, map, codes, false, IsTrue, IfSome, IfOk, IfErr};
+ghost use Rattle.std.specs.Prelude.{◌≡◌, ◌≢◌, ◌↔◌, ◌+◌, ◌++◌, ℕ, List, map, codes, false, IsTrue, IfSome, IfOk, IfErr};
 ghost use Rattle.std.specs.String.{string_bytes};
 ghost use Rattle.std.specs.Io.KnownBytes.{Appends};
 ghost use Rattle.ca_program.specs.declared.script.ScriptCause.{ScriptCause};
 ghost use Rattle.ca_program.specs.Form.{FirstDiffers, IsRefusal};
-ghost use Rattle.ca_program.specs.Outside.{Rose, AppendsPart};
+ghost use Rattle.ca_outside.specs.Outside.{Rose, LosesAtMost, AppendsPart};
 ghost use Rattle.ca_program.specs.Run.{IsCommand, IsOutput, Ran};
 ghost use Rattle.ca_program.specs.Status.{writes, refused_by, stopped_by};
 
 use crate::first_path::perform;
-use crate::outside::{ReadStop, Sink, Source, read_up_to, write_all};
 use crate::script::{ScriptError, read_script};
 use crate::status::Status;
 use ca_base::limits::MAX_SCRIPT_BYTES;
+use ca_outside::{ReadStop, Sink, Source, read_up_to, write_all};
 use ca_trace::print_history;
 use std::alloc::Global;
 
@@ -29,6 +29,9 @@ pub fn run<S: Source, K: Sink>(
     // Other words than the one command come to this, and to nothing else.
     ensures usage { (result ≡ Status.Usage) ↔ (¬ IsCommand (map string_bytes words.now)) }
     ensures unread { result ≡ Status.Usage → source.new ≡ source.old }
+
+    // Whatever the answer, no more of the source is lost than a script may have, and one byte.
+    ensures loses { LosesAtMost (MAX_SCRIPT_BYTES + 1) (S.left source.old) (S.left source.new) }
 
     // The refused line is the first that differs from the form.
     ensures script { (line : ℕ) (cause : ScriptCause) → result ≡ Status.Script line cause →

@@ -1,10 +1,10 @@
 mod rows;
 
-use super::outside::{MemorySink, MemorySource, SureSink, SureSource};
 use super::run::run;
 use super::script::ScriptCause;
 use super::status::{Status, exit_code, status_line};
 use ca_base::Memory;
+use ca_outside::{MemorySink, MemorySource, SureSink, SureSource};
 use rows::ROWS;
 use std::alloc::{AllocError, Global};
 use std::test::Fail;
@@ -65,7 +65,7 @@ fn ran(alloc: Global, script: &str) -> Result<(Status, String), Memory> {
     let mut source = SureSource::new(Vec::from_slice(alloc, script.as_bytes())?);
     let mut sink = SureSink::new(alloc, 8192)?;
     let status = run(alloc, &words, &mut source, &mut sink);
-    let text = str::from_utf8(sink.taken()).unwrap_or("no text");
+    let text = str::from_utf8(sink.bytes()).unwrap_or("no text");
     Ok((status, String::from_str(alloc, text)?))
 }
 
@@ -175,7 +175,7 @@ fn failing_read_writes_nothing(rt: HostRuntime) -> Result<(), Fail> {
     let mut sink = SureSink::new(rt.alloc(), 8192)?;
     let status = run(rt.alloc(), &words, &mut source, &mut sink);
     assert_eq!(rt; status, Status::ReadFault);
-    assert_eq!(rt; sink.taken().len(), 0);
+    assert_eq!(rt; sink.bytes().len(), 0);
     Ok(())
 }
 
@@ -187,7 +187,7 @@ fn failing_write_leaves_the_front_of_the_trace(rt: HostRuntime) -> Result<(), Fa
     let mut sink = MemorySink::new(rt.alloc(), 8192, fail, 7)?;
     let status = run(rt.alloc(), &words, &mut source, &mut sink);
     assert_eq!(rt; status, Status::WriteFault);
-    assert_eq!(rt; sink.taken(), b"@0 p0 c0 pd 0/".as_slice());
+    assert_eq!(rt; sink.bytes(), b"@0 p0 c0 pd 0/".as_slice());
     Ok(())
 }
 
