@@ -9,3 +9,4 @@ pub mod Licensed
 pub mod Packets
 pub mod Judged
 pub mod Carried
+pub mod Refusals

@@ -1,4 +1,8 @@
-use ca_base::Key;
+ghost use Rattle.std.specs.Prelude.{◌≡◌};
+ghost use Rattle.std.specs.Result.{result_ok};
+ghost use Rattle.ca_model.specs.Refusals.{region_refusal};
+
+use ca_base::{Key, Memory, RegionError};
 
 /// What a verb answers.
 #[derive(Clone, Copy, Debug, PartialEq, Eq)]
@@ -22,4 +26,20 @@ pub enum Refusal {
     OutsideBuffer,
     /// Remote write or remote atomic is asked without local write.
     RightsNeedLocalWrite,
+}
+
+/// Every error of a registration but `Memory` is the refusal of its name.
+impl TryFrom<RegionError> for Refusal {
+    type Error = Memory;
+
+    ghost try_from_gives = { λ error refusal. result_ok refusal ≡ region_refusal error };
+
+    fn try_from(error: RegionError) -> Result<Refusal, Memory> {
+        match error {
+            RegionError::Empty => Ok(Refusal::Empty),
+            RegionError::OutsideBuffer => Ok(Refusal::OutsideBuffer),
+            RegionError::RightsNeedLocalWrite => Ok(Refusal::RightsNeedLocalWrite),
+            RegionError::Memory => Err(Memory),
+        }
+    }
 }
