@@ -6,13 +6,11 @@ use std::process::ExitCode;
 use std::rt::Env;
 use std::{env, io};
 
-/// Runs the program on the standard streams, with the words behind the program's name. What its status says goes to
-/// standard error, unless it is `Fine`.
+/// Runs the program on the standard streams, with the words behind the program's name. The line of its status goes to
+/// standard error; a fault there is told to nobody.
 pub fn start<R: Env + Input + Print + Eprint + AllocGlobal>(rt: &R) -> ExitCode {
     let status = status_of(rt);
-    if status != Status::Fine {
-        tell(rt, &status);
-    }
+    tell(rt, &status);
     ExitCode::from(exit_code(&status))
 }
 

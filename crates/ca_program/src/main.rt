@@ -10,10 +10,8 @@
 mod command;
 mod first_path;
 mod run;
-mod script;
+mod script_error;
 mod status;
-#[cfg(test)]
-mod tests;
 
 use std::process::ExitCode;
 
