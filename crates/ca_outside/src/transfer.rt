@@ -16,7 +16,7 @@ const CHUNK: usize = 4096;
 pub enum ReadStop {
     /// The source failed.
     Failed,
-    /// Want of memory.
+    /// Out of memory.
     Memory,
 }
 

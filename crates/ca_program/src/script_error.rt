@@ -6,7 +6,7 @@ use ca_base::Memory;
 use std::fmt;
 
 /// Why a script is not run.
-#[derive(Clone, Copy, Debug, PartialEq, Eq)]
+#[derive(Clone, Copy)]
 pub enum ScriptCause {
     /// The program does not run such a line yet.
     NotBuilt,
@@ -23,7 +23,7 @@ impl fmt::Display for ScriptCause {
 }
 
 /// Why a script is not read and performed.
-#[derive(Clone, Copy, Debug, PartialEq, Eq)]
+#[derive(Clone, Copy)]
 pub enum ScriptError {
     /// The first line that is refused, counted from 1, and why.
     Refused { line: u32, cause: ScriptCause },

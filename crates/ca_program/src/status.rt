@@ -7,7 +7,7 @@ use ca_outside::ReadStop;
 use std::fmt;
 
 /// How a run of the program ended.
-#[derive(Clone, Copy, Debug, PartialEq, Eq)]
+#[derive(Clone, Copy)]
 pub enum Status {
     /// The script was read to its end and performed, and the whole output is written.
     Fine,

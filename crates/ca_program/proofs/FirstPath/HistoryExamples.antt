@@ -14,7 +14,7 @@ use Rattle.ca_model.specs.InForce.{in_force, contents}
 use Rattle.ca_model.specs.Judged.{Judged}
 use Rattle.ca_model.specs.Licensed.{Licensed}
 use Rattle.ca_program.specs.declared.first_path.script.Script.{Script}
-use Rattle.ca_program.specs.FirstPath.ScriptHistory.{history, history_by, refusal, denial, grant, called, set_up, Asks}
+use Rattle.ca_program.specs.FirstPath.ScriptHistory.{history, history_by, refusal, denial, grant, call_entry, set_up, Asks}
 use Rattle.ca_program.specs.Lawful.{IsLawful}
 use Rattle.ca_program.specs.FirstPath.Form.{queue, reg_mr, alloc_pd}
 use Rattle.ca_program.proofs.FirstPath.FormLaws.{one_packet, one_write, one_spelt, one_is_write}
@@ -106,7 +106,7 @@ other-byte-not-carried carried =
 
 -- the history with other marks of the registration
 abbrev registering : List Mark → List EntryValue
-registering granted = set_up ++ called 3 (reg_mr first) (answers.Key (grant first).key) granted ∷ []
+registering grants_after = set_up ++ call_entry 3 (reg_mr first) (answers.Key (grant first).key) grants_after ∷ []
 
 -- a second grant, of another domain
 abbrev foreign : Grant
@@ -118,11 +118,11 @@ foreign-not-licensed licensed =
 
 -- a registration that was answered with a key has its grant
 nothing-not-licensed : Licensed zeros (registering []) → ⊥
-nothing-not-licensed licensed = let granted = licensed.2.2.2.1 in cc
+nothing-not-licensed licensed = let grants_after = licensed.2.2.2.1 in cc
 
 -- a packet that nothing injected, and one that no packet sent
 abbrev arriving : ℕ → List Mark → List EntryValue
-arriving stamp effects = called stamp alloc_pd answers.Fine effects ∷ []
+arriving stamp effects = call_entry stamp alloc_pd answers.Fine effects ∷ []
 
 not-injected-not-carried : Carried zeros (arriving 0 (marks.Arrived queue None ∷ [])) → ⊥
 not-injected-not-carried carried = carried.0.1.0

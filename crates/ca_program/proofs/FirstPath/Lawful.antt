@@ -16,7 +16,7 @@ use Rattle.ca_model.specs.declared.answer.Refusal.{Refusal}
 use Rattle.ca_model.specs.History.{IsHistory}
 use Rattle.ca_model.specs.Licensed.{Licensed}
 use Rattle.ca_program.specs.declared.first_path.script.Script.{Script}
-use Rattle.ca_program.specs.FirstPath.ScriptHistory.{history_by, history, refusal, denial, ask, granted, region, verdict, Asks, IsHistoryOf}
+use Rattle.ca_program.specs.FirstPath.ScriptHistory.{history_by, history, refusal, denial, ask, grants_after, region, verdict, Asks, IsHistoryOf}
 use Rattle.ca_program.specs.Lawful.{IsLawful}
 use Rattle.ca_model.specs.Entries.{EntryValue}
 use Rattle.ca_program.specs.FirstPath.Form.{slot}
@@ -42,7 +42,7 @@ registered-places of at rights low =
     length-append (run_places at) [] ∙ add-zero (length (run_places at))
     ∙ length-map-range_with_len (λ o. record { adapter = at.adapter; buffer = at.buffer; offset = o }) at.offset at.length
 
-judged : (s : Script) (h : Reth) (b : List ℕ) (r : Option Refusal) (d : Option Denial) → refusal s ≡ r → denial_of (ask h) (granted s r) ≡ d
+judged : (s : Script) (h : Reth) (b : List ℕ) (r : Option Refusal) (d : Option Denial) → refusal s ≡ r → denial_of (ask h) (grants_after s r) ≡ d
     → length b ≡ h.length → 0 < length b → Judged zeros (history_by s h b r d)
 judged s h b None None e f whole some = let places = registered-places slot (region s) s.rights 1 in search rules
 judged s h b None (Some d) e f whole some = let places = registered-places slot (region s) s.rights 1 in search rules

@@ -3,7 +3,7 @@ use Rattle.std.proofs.Common.{◌≡◌, ℕ, ◌+◌, ◌-◌, ◌<◌, ◌≤�
 use Rattle.std.specs.Io.KnownBytes.{Consumes}
 use Rattle.std.proofs.lemmas.Bool.{cases_lt}
 use Rattle.ca_base.specs.declared.limits.TheConstants.{MAX_SCRIPT_BYTES}
-use Rattle.ca_program.specs.FirstPath.Form.{Begins, FirstDiffers, ended_all, lines}
+use Rattle.ca_program.specs.FirstPath.Form.{Begins, FirstDiffers, lines_text, lines}
 
 -- a front that is shorter than the first of two parts is a front of that part
 front-first : (front rest v more : List ℕ) → front ++ rest ≡ v ++ more → length front ≤ length v → (rest' : List ℕ) × (v ≡ front ++ rest')
@@ -29,17 +29,17 @@ begins-longer n v more long (s, form, rest, e, le, over) = (
   s,
   form,
   rest ++ more,
-  ap (λ (x : List ℕ). x ++ more) e ∙ append_assoc (ended_all (take n (lines s))) rest more,
+  ap (λ (x : List ℕ). x ++ more) e ∙ append_assoc (lines_text (take n (lines s))) rest more,
   le,
-  λ beyond. absurd (too-long (ended_all (take n (lines s))) rest v e (over beyond) le long),
+  λ beyond. absurd (too-long (lines_text (take n (lines s))) rest v e (over beyond) le long),
 )
 
 -- and what begins so with others behind it begins so without them
 begins-shorter : (n : ℕ) (v more : List ℕ) → MAX_SCRIPT_BYTES < length v → Begins n (v ++ more) → Begins n v
 begins-shorter n v more long (s, form, rest, e, le, over) =
-    let found = front-first (ended_all (take n (lines s))) rest v more (sym e) (omega arith) in
+    let found = front-first (lines_text (take n (lines s))) rest v more (sym e) (omega arith) in
     let longer : MAX_SCRIPT_BYTES < length (v ++ more) = omega (arith, length-append v more) in
-    (s, form, found.0, found.1, le, λ beyond. absurd (too-long (ended_all (take n (lines s))) rest (v ++ more) e (over beyond) le longer))
+    (s, form, found.0, found.1, le, λ beyond. absurd (too-long (lines_text (take n (lines s))) rest (v ++ more) e (over beyond) le longer))
 
 -- the first line that differs is the same with others behind more bytes than a script may have
 differs-longer : (line : ℕ) (v more : List ℕ) → MAX_SCRIPT_BYTES < length v → FirstDiffers v line → FirstDiffers (v ++ more) line

@@ -7,7 +7,7 @@ use Rattle.hex.specs.Hex.{encode_lower}
 use Rattle.ca_base.specs.declared.limits.TheConstants.{MAX_BUFFER_BYTES}
 use Rattle.ca_trace.specs.Words.{rights}
 use Rattle.ca_program.specs.declared.first_path.lines.Registration.{Registration}
-use Rattle.ca_program.specs.FirstPath.Form.{ended}
+use Rattle.ca_program.specs.FirstPath.Form.{line_text}
 use Rattle.ca_program.specs.FirstPath.WordReaders.{strip, word_at, decimal_in, rights_in, buffer_at, region_at, inject_at, no_rights}
 use Rattle.ca_program.proofs.FirstPath.WordLaws.{bind_some, some_same, strip_found, strip_only, word_found, word_only, decimal_word, bytes_word, AreBytes}
 use Rattle.ca_program.proofs.FirstPath.RightsLaws.{rights_word}
@@ -22,8 +22,8 @@ pub record Line : Type 1 where
 
 -- what a reader finds is the line, and it finds each
 pub record IsReader (L : Line) (reader : List ℕ → Option (L.Held × List ℕ)) : Type 0 where
-  pub found : (bytes : List ℕ) (y : L.Held × List ℕ) → reader bytes ≡ Some y → L.Fits y.0 × (bytes ≡ ended (L.text y.0) ++ y.1)
-  pub only : (a : L.Held) (rest : List ℕ) → L.Fits a → reader (ended (L.text a) ++ rest) ≡ Some (a, rest)
+  pub found : (bytes : List ℕ) (y : L.Held × List ℕ) → reader bytes ≡ Some y → L.Fits y.0 × (bytes ≡ line_text (L.text y.0) ++ y.1)
+  pub only : (a : L.Held) (rest : List ℕ) → L.Fits a → reader (line_text (L.text a) ++ rest) ≡ Some (a, rest)
 
 -- ---- a line that holds nothing
 
@@ -37,16 +37,16 @@ beside_some : (o : Option (List ℕ)) (y : Unit {0} × List ℕ) → beside o �
 beside_some (Some rest) y e = ap (λ (o : Option (Unit {0} × List ℕ)). option_map (λ x. x.1) o) e
 beside_some None y e = absurd cc
 
-pub fixed_reader : (text : List ℕ) → IsReader (fixed_line text) (λ bytes. beside (strip (ended text) bytes))
+pub fixed_reader : (text : List ℕ) → IsReader (fixed_line text) (λ bytes. beside (strip (line_text text) bytes))
 fixed_reader text = record {
-  found = λ bytes y e. (tt, strip_found (ended text) bytes y.1 (beside_some (strip (ended text) bytes) y e));
-  only = λ a rest fits. ap beside (strip_only (ended text) rest);
+  found = λ bytes y e. (tt, strip_found (line_text text) bytes y.1 (beside_some (strip (line_text text) bytes) y e));
+  only = λ a rest fits. ap beside (strip_only (line_text text) rest);
 }
 
 -- ---- lines of words
 
 -- the last word of a line, its line feed and what stands after it
-last_word : (front word rest : List ℕ) → front ++ (word ++ 10 ∷ rest) ≡ ended (front ++ word) ++ rest
+last_word : (front word rest : List ℕ) → front ++ (word ++ 10 ∷ rest) ≡ line_text (front ++ word) ++ rest
 last_word front word rest = simp append_assoc
 
 -- a word that a space follows
@@ -70,7 +70,7 @@ buffer_reader = record {
       let g = cond_some (ltb 0 n.0.0 && leb n.0.0 MAX_BUFFER_BYTES) n.0 y n.2 in
       let parts = and_parts (ltb 0 n.0.0) (leb n.0.0 MAX_BUFFER_BYTES) g.0 in
       let word = word_found decimal_word 10 text.0 n.0 n.1 in
-      let Read : ℕ × List ℕ → Type 0 = λ p. ((0 < p.0) × (p.0 ≤ MAX_BUFFER_BYTES)) × (bytes ≡ ended (buffer_text p.0) ++ p.1) in
+      let Read : ℕ × List ℕ → Type 0 = λ p. ((0 < p.0) × (p.0 ≤ MAX_BUFFER_BYTES)) × (bytes ≡ line_text (buffer_text p.0) ++ p.1) in
       subst Read g.1 (
         (ltb-true 0 n.0.0 parts.0, leb-true n.0.0 MAX_BUFFER_BYTES parts.1),
         strip_found (codes "buffer 0 ") bytes text.0 text.1
@@ -104,7 +104,7 @@ region_parts : (o l r rest : List ℕ) → o ++ 32 ∷ (l ++ 32 ∷ (r ++ 10 ∷
 region_parts o l r rest = ap (λ (t : List ℕ). o ++ 32 ∷ t) (middle_word l r rest) ∙ middle_word o (l ++ 32 ∷ r) rest
 
 region_whole : (r : Registration) (rest : List ℕ)
-    → codes "c0 reg 0/0/0 0 " ++ (decimal r.offset ++ 32 ∷ (decimal r.length ++ 32 ∷ (rights r.rights ++ 10 ∷ rest))) ≡ ended (region_text r) ++ rest
+    → codes "c0 reg 0/0/0 0 " ++ (decimal r.offset ++ 32 ∷ (decimal r.length ++ 32 ∷ (rights r.rights ++ 10 ∷ rest))) ≡ line_text (region_text r) ++ rest
 region_whole r rest =
     ap (λ (t : List ℕ). codes "c0 reg 0/0/0 0 " ++ t) (region_parts (decimal r.offset) (decimal r.length) (rights r.rights) rest)
     ∙ last_word (codes "c0 reg 0/0/0 0 ") (decimal r.offset ++ 32 ∷ (decimal r.length ++ 32 ∷ rights r.rights)) rest
@@ -122,7 +122,7 @@ region_reader = record {
       let rw' = word_found rights_word 10 l.0.1 r.0 r.1 in
       let held : Registration = record { offset = o.0.0; length = l.0.0; rights = r.0.0 } in
       let Read : Registration × List ℕ → Type 0 =
-      λ p. ((p.0.offset < 2 ^ 32) × (p.0.length < 2 ^ 32)) × (bytes ≡ ended (region_text p.0) ++ p.1) in
+      λ p. ((p.0.offset < 2 ^ 32) × (p.0.length < 2 ^ 32)) × (bytes ≡ line_text (region_text p.0) ++ p.1) in
       subst Read (some_same (held, r.0.1) y r.2) (
         (ow.0, lw.0),
         strip_found (codes "c0 reg 0/0/0 0 ") bytes text.0 text.1
@@ -146,7 +146,7 @@ region_reader = record {
 abbrev pub inject_text : List ℕ → List ℕ
 inject_text packet = codes "c0 inject 0/256 " ++ encode_lower packet
 
-pub inject_found : (bytes : List ℕ) (y : List ℕ × List ℕ) → inject_at bytes ≡ Some y → AreBytes y.0 × (bytes ≡ ended (inject_text y.0) ++ y.1)
+pub inject_found : (bytes : List ℕ) (y : List ℕ × List ℕ) → inject_at bytes ≡ Some y → AreBytes y.0 × (bytes ≡ line_text (inject_text y.0) ++ y.1)
 unfolding inject_at
 inject_found bytes y e =
     let text = bind_some (strip (codes "c0 inject 0/256 ") bytes) _ y e in
@@ -157,7 +157,7 @@ inject_found bytes y e =
           ∙ last_word (codes "c0 inject 0/256 ") (encode_lower y.0) y.1,
     )
 
-pub inject_only : (packet rest : List ℕ) → AreBytes packet → inject_at (ended (inject_text packet) ++ rest) ≡ Some (packet, rest)
+pub inject_only : (packet rest : List ℕ) → AreBytes packet → inject_at (line_text (inject_text packet) ++ rest) ≡ Some (packet, rest)
 unfolding inject_at
 inject_only packet rest fits =
     ap inject_at (sym (last_word (codes "c0 inject 0/256 ") (encode_lower packet) rest))

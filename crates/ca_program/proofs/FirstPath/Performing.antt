@@ -6,7 +6,7 @@ use Rattle.ca_base.specs.Allowed.{denial_of}
 use Rattle.ca_model.specs.declared.answer.Answer.TheVariants as answers
 use Rattle.ca_model.specs.Entries.{EntryValue}
 use Rattle.ca_program.specs.declared.first_path.script.Script.{Script}
-use Rattle.ca_program.specs.FirstPath.ScriptHistory.{history, set_up, registration, connection, called, arrival, response, refusal, granted, ask}
+use Rattle.ca_program.specs.FirstPath.ScriptHistory.{history, set_up, registration, connection, call_entry, arrival, response, refusal, grants_after, ask}
 use Rattle.ca_program.specs.FirstPath.Form.{inject, IsFirstWrite}
 use Rattle.ca_wire.specs.declared.header.Reth.{Reth}
 use Rattle.ca_wire.specs.declared.packet.Packet.{Packet}
@@ -17,10 +17,10 @@ use Rattle.ca_wire.specs.Packet.{Fields, Spells, fields_of}
 pub steps-history : (s : Script) (h : Reth) (b : List ℕ) (h1 h2 h3 h4 h5 : List EntryValue) (g : List Grant) (d : Option Denial)
     → h1 ≡ set_up
     → h2 ≡ h1 ++ registration (length h1) s (refusal s) ∷ []
-    → g ≡ granted s (refusal s)
+    → g ≡ grants_after s (refusal s)
     → h3 ≡ h2 ++ connection (length h2)
     → d ≡ denial_of (ask h) g
-    → h4 ≡ h3 ++ called (length h3) (inject s) answers.Fine (arrival h b d) ∷ []
+    → h4 ≡ h3 ++ call_entry (length h3) (inject s) answers.Fine (arrival h b d) ∷ []
     → h5 ≡ h4 ++ response (length h4) d
     → h5 ≡ history s h b
 steps-history s h b h1 h2 h3 h4 h5 g d e1 e2 eg e3 ed e4 e5 = rw (e5, e4, e3, e2, e1, ed, eg)

@@ -6,7 +6,7 @@ use Rattle.std.proofs.Math.Seq.{take-append-add}
 use Rattle.ca_base.specs.declared.limits.TheConstants.{MAX_SCRIPT_BYTES}
 use Rattle.ca_program.specs.declared.first_path.script.Script.{Script}
 use Rattle.ca_program.specs.declared.first_path.lines.Setup.{Setup}
-use Rattle.ca_program.specs.FirstPath.Form.{IsOfForm, IsScript, Begins, FirstDiffers, lines, ended, ended_all}
+use Rattle.ca_program.specs.FirstPath.Form.{IsOfForm, IsScript, Begins, FirstDiffers, lines, line_text, lines_text}
 use Rattle.ca_program.specs.FirstPath.WordReaders.{inject_at}
 use Rattle.ca_program.specs.FirstPath.LineReaders.{IsInjected, inject_line}
 use Rattle.ca_program.proofs.FirstPath.WordLaws.{some_same}
@@ -38,29 +38,29 @@ lines_front n s few =
 begins_from : (bytes : List ℕ) (n : ℕ) → n ≤ 8 → BeginsAs setup_lines n (take MAX_SCRIPT_BYTES bytes) → Begins n bytes
 begins_from bytes n few b =
     let s = script_of b.values some_packet.0 in
-    let front : List ℕ = ended_all (take n (texts setup_lines b.values)) in
+    let front : List ℕ = lines_text (take n (texts setup_lines b.values)) in
     let same : take n (lines s) ≡ take n (texts setup_lines b.values) = lines_front n s few in
-    let Short : List (List ℕ) → Type 0 = λ t. length (ended_all t) ≤ MAX_SCRIPT_BYTES in (
+    let Short : List (List ℕ) → Type 0 = λ t. length (lines_text t) ≤ MAX_SCRIPT_BYTES in (
       s,
       form_of b.values some_packet.0 b.fit some_packet.1,
       b.rest ++ drop MAX_SCRIPT_BYTES bytes,
       front_whole MAX_SCRIPT_BYTES bytes front b.rest b.whole
-          ∙ ap (λ (t : List (List ℕ)). ended_all t ++ (b.rest ++ drop MAX_SCRIPT_BYTES bytes)) (sym same),
+          ∙ ap (λ (t : List (List ℕ)). lines_text t ++ (b.rest ++ drop MAX_SCRIPT_BYTES bytes)) (sym same),
       subst Short (sym same) (front_short MAX_SCRIPT_BYTES bytes front b.rest b.whole),
       λ past. absurd (omega arith),
     )
 
 begins_to : (bytes : List ℕ) (n : ℕ) → n ≤ 8 → Begins n bytes → BeginsAs setup_lines n (take MAX_SCRIPT_BYTES bytes)
 begins_to bytes n few b =
-    let rest : List ℕ = take (MAX_SCRIPT_BYTES - length (ended_all (take n (lines b.0)))) b.2 in
+    let rest : List ℕ = take (MAX_SCRIPT_BYTES - length (lines_text (take n (lines b.0)))) b.2 in
     record {
       values = values_of b.0;
       fit = values_fit b.0 b.1;
       rest = rest;
       whole =
           ap (λ (t : List ℕ). take MAX_SCRIPT_BYTES t) b.3
-          ∙ front_taken MAX_SCRIPT_BYTES (ended_all (take n (lines b.0))) b.2 b.4
-          ∙ ap (λ (t : List (List ℕ)). ended_all t ++ rest) (lines_front n b.0 few);
+          ∙ front_taken MAX_SCRIPT_BYTES (lines_text (take n (lines b.0))) b.2 b.4
+          ∙ ap (λ (t : List (List ℕ)). lines_text t ++ rest) (lines_front n b.0 few);
     }
 
 -- one of the first eight lines differs
@@ -78,25 +78,25 @@ setup_differs bytes j h =
 
 -- ---- the ninth line
 
-ended_last : (ls : List (List ℕ)) (l : List ℕ) → ended_all (ls ++ l ∷ []) ≡ ended_all ls ++ ended l
-ended_last ls l = flat_map-append ended ls (l ∷ []) ∙ ap (λ (t : List ℕ). ended_all ls ++ t) (append-nil (ended l))
+ended_last : (ls : List (List ℕ)) (l : List ℕ) → lines_text (ls ++ l ∷ []) ≡ lines_text ls ++ line_text l
+ended_last ls l = flat_map-append line_text ls (l ∷ []) ∙ ap (λ (t : List ℕ). lines_text ls ++ t) (append-nil (line_text l))
 
 -- nine lines, as eight and the last one
 nine_lines : (s : Script) (rest : List ℕ)
-    → ended_all (lines s) ++ rest ≡ ended_all (texts setup_lines (values_of s)) ++ (ended (inject_line s.packet) ++ rest)
+    → lines_text (lines s) ++ rest ≡ lines_text (texts setup_lines (values_of s)) ++ (line_text (inject_line s.packet) ++ rest)
 nine_lines s rest =
-    ap (λ (t : List (List ℕ)). ended_all t ++ rest) (lines_are s)
+    ap (λ (t : List (List ℕ)). lines_text t ++ rest) (lines_are s)
     ∙ ap (λ (t : List ℕ). t ++ rest) (ended_last (texts setup_lines (values_of s)) (inject_line s.packet))
-    ∙ append_assoc (ended_all (texts setup_lines (values_of s))) (ended (inject_line s.packet)) rest
+    ∙ append_assoc (lines_text (texts setup_lines (values_of s))) (line_text (inject_line s.packet)) rest
 
 -- what is left for the ninth line is that line of each script that the bytes begin with
 packet_left : (bytes : List ℕ) (y : Setup × List ℕ) → IsRead Setup setup_lines setup_of bytes y
-    → (s : Script) → IsOfForm s → (rest : List ℕ) → bytes ≡ ended_all (lines s) ++ rest → ended (inject_line s.packet) ++ rest ≡ y.1
+    → (s : Script) → IsOfForm s → (rest : List ℕ) → bytes ≡ lines_text (lines s) ++ rest → line_text (inject_line s.packet) ++ rest ≡ y.1
 packet_left bytes y r s form rest e =
-    r.only (values_of s) (ended (inject_line s.packet) ++ rest) (values_fit s form) (e ∙ nine_lines s rest)
+    r.only (values_of s) (line_text (inject_line s.packet) ++ rest) (values_fit s form) (e ∙ nine_lines s rest)
 
 pub packet_differs : (bytes : List ℕ) (y : Setup × List ℕ) (n : ℕ) → IsRead Setup setup_lines setup_of (take MAX_SCRIPT_BYTES bytes) y → n ≡ 9
-    → ((packet rest : List ℕ) → IsInjected packet → y.1 ≡ ended (inject_line packet) ++ rest → ⊥) → FirstDiffers bytes n
+    → ((packet rest : List ℕ) → IsInjected packet → y.1 ≡ line_text (inject_line packet) ++ rest → ⊥) → FirstDiffers bytes n
 packet_differs bytes y n r nine none =
     let FirstAt : ℕ → Type 0 = λ k. FirstDiffers bytes k in
     subst FirstAt (sym nine)
@@ -104,10 +104,10 @@ packet_differs bytes y n r nine none =
       counted = lit< tt;
       before = begins_from bytes 8 (lit≤ tt) (record { values = r.values; fit = r.fit; rest = y.1; whole = r.whole });
       differs = λ b.
-          let rest : List ℕ = take (MAX_SCRIPT_BYTES - length (ended_all (lines b.0))) b.2 in
+          let rest : List ℕ = take (MAX_SCRIPT_BYTES - length (lines_text (lines b.0))) b.2 in
           none b.0.packet rest (is_injected b.0 b.1)
           (sym (packet_left (take MAX_SCRIPT_BYTES bytes) y r b.0 b.1 rest
-          (ap (λ (t : List ℕ). take MAX_SCRIPT_BYTES t) b.3 ∙ front_taken MAX_SCRIPT_BYTES (ended_all (lines b.0)) b.2 b.4)));
+          (ap (λ (t : List ℕ). take MAX_SCRIPT_BYTES t) b.3 ∙ front_taken MAX_SCRIPT_BYTES (lines_text (lines b.0)) b.2 b.4)));
     })
 
 -- ---- the end
@@ -123,12 +123,12 @@ read_of setup packet = record {
 }
 
 read_lines : (bytes : List ℕ) (y : Setup × List ℕ) (packet rest : List ℕ) (r : IsRead Setup setup_lines setup_of bytes y)
-    → y.1 ≡ ended (inject_line packet) ++ rest → bytes ≡ ended_all (lines (script_of r.values packet)) ++ rest
+    → y.1 ≡ line_text (inject_line packet) ++ rest → bytes ≡ lines_text (lines (script_of r.values packet)) ++ rest
 read_lines bytes y packet rest r e =
-    r.whole ∙ ap (λ (t : List ℕ). ended_all (texts setup_lines r.values) ++ t) e ∙ sym (nine_lines (script_of r.values packet) rest)
+    r.whole ∙ ap (λ (t : List ℕ). lines_text (texts setup_lines r.values) ++ t) e ∙ sym (nine_lines (script_of r.values packet) rest)
 
 pub is_script : (bytes : List ℕ) (y : Setup × List ℕ) (packet rest : List ℕ) → IsRead Setup setup_lines setup_of (take MAX_SCRIPT_BYTES bytes) y
-    → IsInjected packet → y.1 ≡ ended (inject_line packet) ++ rest → rest ≡ [] → length bytes ≤ MAX_SCRIPT_BYTES
+    → IsInjected packet → y.1 ≡ line_text (inject_line packet) ++ rest → rest ≡ [] → length bytes ≤ MAX_SCRIPT_BYTES
     → IsScript bytes (read_of y.0 packet)
 is_script bytes y packet rest r injected e nothing most =
     let IsIt : Setup → Type 0 = λ setup. IsScript bytes (read_of setup packet) in
@@ -139,22 +139,22 @@ is_script bytes y packet rest r injected e nothing most =
       whole =
           sym (take_all MAX_SCRIPT_BYTES bytes most)
           ∙ read_lines (take MAX_SCRIPT_BYTES bytes) y packet rest r e
-          ∙ ap (λ (t : List ℕ). ended_all (lines s) ++ t) nothing
-          ∙ append-nil (ended_all (lines s));
+          ∙ ap (λ (t : List ℕ). lines_text (lines s) ++ t) nothing
+          ∙ append-nil (lines_text (lines s));
       most = most;
     })
 
 -- what stands after a packet's line is one list
-inject_left : (p q a b : List ℕ) → IsInjected p → IsInjected q → ended (inject_line p) ++ a ≡ ended (inject_line q) ++ b → a ≡ b
+inject_left : (p q a b : List ℕ) → IsInjected p → IsInjected q → line_text (inject_line p) ++ a ≡ line_text (inject_line q) ++ b → a ≡ b
 inject_left p q a b hp hq e =
     let bp = injected_bytes p hp in
     let bq = injected_bytes q hq in
-    let same : ended (inject_text p) ++ a ≡ ended (inject_text q) ++ b =
-    ap (λ (t : List ℕ). ended t ++ a) (sym (inject_is p bp.1)) ∙ e ∙ ap (λ (t : List ℕ). ended t ++ b) (inject_is q bq.1) in
+    let same : line_text (inject_text p) ++ a ≡ line_text (inject_text q) ++ b =
+    ap (λ (t : List ℕ). line_text t ++ a) (sym (inject_is p bp.1)) ∙ e ∙ ap (λ (t : List ℕ). line_text t ++ b) (inject_is q bq.1) in
     ap (λ (x : List ℕ × List ℕ). x.1) (some_same (p, a) (q, b) (sym (inject_only p a bp) ∙ ap inject_at same ∙ inject_only q b bq))
 
 pub end_differs : (bytes : List ℕ) (y : Setup × List ℕ) (packet rest : List ℕ) → IsRead Setup setup_lines setup_of (take MAX_SCRIPT_BYTES bytes) y
-    → IsInjected packet → y.1 ≡ ended (inject_line packet) ++ rest → (rest ≡ [] → length bytes ≤ MAX_SCRIPT_BYTES → ⊥)
+    → IsInjected packet → y.1 ≡ line_text (inject_line packet) ++ rest → (rest ≡ [] → length bytes ≤ MAX_SCRIPT_BYTES → ⊥)
     → FirstDiffers bytes 10
 end_differs bytes y packet rest r injected e more =
     let s = script_of r.values packet in
@@ -165,13 +165,13 @@ end_differs bytes y packet rest r injected e more =
         s,
         form_of r.values packet r.fit injected,
         rest ++ drop MAX_SCRIPT_BYTES bytes,
-        front_whole MAX_SCRIPT_BYTES bytes (ended_all (lines s)) rest whole,
-        front_short MAX_SCRIPT_BYTES bytes (ended_all (lines s)) rest whole,
+        front_whole MAX_SCRIPT_BYTES bytes (lines_text (lines s)) rest whole,
+        front_short MAX_SCRIPT_BYTES bytes (lines_text (lines s)) rest whole,
         λ past. absurd (omega arith),
       );
       differs = λ b.
           let nothing : b.2 ≡ [] = b.5 (lit< tt) in
-          let all : bytes ≡ ended_all (lines b.0) = b.3 ∙ ap (λ (t : List ℕ). ended_all (lines b.0) ++ t) nothing ∙ append-nil (ended_all (lines b.0)) in
+          let all : bytes ≡ lines_text (lines b.0) = b.3 ∙ ap (λ (t : List ℕ). lines_text (lines b.0) ++ t) nothing ∙ append-nil (lines_text (lines b.0)) in
           let most : length bytes ≤ MAX_SCRIPT_BYTES = omega (arith, ap length all, b.4) in
           let left = packet_left (take MAX_SCRIPT_BYTES bytes) y r b.0 b.1 b.2 (take_all MAX_SCRIPT_BYTES bytes most ∙ b.3) in
           let same = inject_left b.0.packet packet b.2 rest (is_injected b.0 b.1) injected (left ∙ e) in

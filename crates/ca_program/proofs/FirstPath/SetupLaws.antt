@@ -2,7 +2,7 @@
 use Rattle.std.proofs.Common.{◌≡◌, ℕ, suc, ◌+◌, ◌<◌, List, [], ◌∷◌, ◌++◌, length, take, Option, Some, None, Result, Ok, Err, ◌⊎◌, inl, inr, refl, sym, ap, subst, ◌∙◌, append_assoc, append-nil, arith, codes}
 use Rattle.std.proofs.lemmas.Option.{none-some}
 use Rattle.ca_program.specs.declared.first_path.lines.Setup.{Setup}
-use Rattle.ca_program.specs.FirstPath.Form.{ended, ended_all}
+use Rattle.ca_program.specs.FirstPath.Form.{line_text, lines_text}
 use Rattle.ca_program.specs.FirstPath.WordReaders.{strip, buffer_at, region_at}
 use Rattle.ca_program.specs.FirstPath.LineReaders.{◌>>=◌, line, opening_at, setup_at}
 use Rattle.ca_program.proofs.FirstPath.WordLaws.{some_same}
@@ -30,15 +30,15 @@ pub record BeginsAs (Ls : List Line) (n : ℕ) (bytes : List ℕ) : Type 0 where
   pub values : Values Ls
   pub fit : AllFit Ls values
   pub rest : List ℕ
-  pub whole : bytes ≡ ended_all (take n (texts Ls values)) ++ rest
+  pub whole : bytes ≡ lines_text (take n (texts Ls values)) ++ rest
 
 -- the bytes are these lines, with this value, and what was left of them
 pub record IsRead (V : Type 0) (Ls : List Line) (pack : Values Ls → V) (bytes : List ℕ) (y : V × List ℕ) : Type 0 where
   pub values : Values Ls
   pub fit : AllFit Ls values
   pub value : y.0 ≡ pack values
-  pub whole : bytes ≡ ended_all (texts Ls values) ++ y.1
-  pub only : (x : Values Ls) (rest : List ℕ) → AllFit Ls x → bytes ≡ ended_all (texts Ls x) ++ rest → rest ≡ y.1
+  pub whole : bytes ≡ lines_text (texts Ls values) ++ y.1
+  pub only : (x : Values Ls) (rest : List ℕ) → AllFit Ls x → bytes ≡ lines_text (texts Ls x) ++ rest → rest ≡ y.1
 
 -- the line that is refused, where the first of these is line k, is the first that differs
 pub record IsStopped (Ls : List Line) (k : ℕ) (bytes : List ℕ) (j : ℕ) : Type 0 where
@@ -65,7 +65,7 @@ line_err k None f j e = inl (refl, cc)
 
 -- what is left after a line, where the bytes begin with it
 left_is : (L : Line) (reader : List ℕ → Option (L.Held × List ℕ)) → IsReader L reader → (bytes : List ℕ) (y : L.Held × List ℕ) → reader bytes ≡ Some y
-    → (a : L.Held) (rest : List ℕ) → L.Fits a → bytes ≡ ended (L.text a) ++ rest → y.1 ≡ rest
+    → (a : L.Held) (rest : List ℕ) → L.Fits a → bytes ≡ line_text (L.text a) ++ rest → y.1 ≡ rest
 left_is L reader is bytes y e a rest fits whole =
     ap (λ (p : L.Held × List ℕ). p.1) (some_same y (a, rest) (sym e ∙ ap reader whole ∙ is.only a rest fits))
 
@@ -86,11 +86,11 @@ line_step V L Ls reader is pack k bytes rest next = record {
         values = (first.0.0, others.values);
         fit = (found.0, others.fit);
         value = others.value;
-        whole = joined_is (ended (L.text first.0.0)) (ended_all (texts Ls others.values)) y.1 bytes first.0.1 found.1 others.whole;
+        whole = joined_is (line_text (L.text first.0.0)) (lines_text (texts Ls others.values)) y.1 bytes first.0.1 found.1 others.whole;
         only = λ x left fit whole.
             others.only x.1 left fit.1
-            (left_is L reader is bytes first.0 first.1 x.0 (ended_all (texts Ls x.1) ++ left) fit.0
-            (whole ∙ append_assoc (ended (L.text x.0)) (ended_all (texts Ls x.1)) left));
+            (left_is L reader is bytes first.0 first.1 x.0 (lines_text (texts Ls x.1) ++ left) fit.0
+            (whole ∙ append_assoc (line_text (L.text x.0)) (lines_text (texts Ls x.1)) left));
       };
   stopped = λ j e.
       elim (line_err k (reader bytes) rest j e) [
@@ -103,7 +103,7 @@ line_step V L Ls reader is pack k bytes rest next = record {
               differs = λ b.
                   none-some (b.values.0, b.rest)
                   (sym none.0
-                  ∙ ap reader (b.whole ∙ ap (λ (t : List ℕ). t ++ b.rest) (append-nil (ended (L.text b.values.0))))
+                  ∙ ap reader (b.whole ∙ ap (λ (t : List ℕ). t ++ b.rest) (append-nil (line_text (L.text b.values.0))))
                   ∙ is.only b.values.0 b.rest b.fit.0);
             }
         | inr some ↦
@@ -117,7 +117,7 @@ line_step V L Ls reader is pack k bytes rest next = record {
                 values = (some.0.0, others.begins.values);
                 fit = (found.0, others.begins.fit);
                 rest = others.begins.rest;
-                whole = joined_is (ended (L.text some.0.0)) (ended_all (take others.before (texts Ls others.begins.values))) others.begins.rest bytes some.0.1 found.1 others.begins.whole;
+                whole = joined_is (line_text (L.text some.0.0)) (lines_text (take others.before (texts Ls others.begins.values))) others.begins.rest bytes some.0.1 found.1 others.begins.whole;
               };
               differs = λ b.
                   others.differs
@@ -126,8 +126,8 @@ line_step V L Ls reader is pack k bytes rest next = record {
                     fit = b.fit.1;
                     rest = b.rest;
                     whole =
-                        left_is L reader is bytes some.0 some.1 b.values.0 (ended_all (take (suc others.before) (texts Ls b.values.1)) ++ b.rest) b.fit.0
-                        (b.whole ∙ append_assoc (ended (L.text b.values.0)) (ended_all (take (suc others.before) (texts Ls b.values.1))) b.rest);
+                        left_is L reader is bytes some.0 some.1 b.values.0 (lines_text (take (suc others.before) (texts Ls b.values.1)) ++ b.rest) b.fit.0
+                        (b.whole ∙ append_assoc (line_text (L.text b.values.0)) (lines_text (take (suc others.before) (texts Ls b.values.1))) b.rest);
                   });
             }
       ];
@@ -156,10 +156,10 @@ as_line k None rest = refl
 
 pub fixed_step : (V : Type 0) (text : List ℕ) (Ls : List Line) (pack : Unit {0} × Values Ls → V) (k : ℕ) (bytes : List ℕ) (rest : List ℕ → Result (V × List ℕ) ℕ)
     → ((left : List ℕ) → Outcome V Ls (λ x. pack (tt, x)) (suc k) left (rest left))
-    → Outcome V (fixed_line text ∷ Ls) pack k bytes (line k (strip (ended text) bytes) >>= rest)
+    → Outcome V (fixed_line text ∷ Ls) pack k bytes (line k (strip (line_text text) bytes) >>= rest)
 fixed_step V text Ls pack k bytes rest next =
-    subst (Outcome V (fixed_line text ∷ Ls) pack k bytes) (as_line k (strip (ended text) bytes) rest)
-    (line_step V (fixed_line text) Ls (λ bytes. beside (strip (ended text) bytes)) (fixed_reader text) pack k bytes (λ y. rest y.1) (λ y. next y.1))
+    subst (Outcome V (fixed_line text ∷ Ls) pack k bytes) (as_line k (strip (line_text text) bytes) rest)
+    (line_step V (fixed_line text) Ls (λ bytes. beside (strip (line_text text) bytes)) (fixed_reader text) pack k bytes (λ y. rest y.1) (λ y. next y.1))
 
 regrouped : {A B C : Type 0} (r : Result A ℕ) (f : A → Result B ℕ) (g : B → Result C ℕ) → (r >>= (λ x. f x >>= g)) ≡ ((r >>= f) >>= g)
 regrouped (Ok x) f g = refl
@@ -168,9 +168,9 @@ regrouped (Err e) f g = refl
 -- the same, where what reading gives is read on from
 fixed_in : (V B : Type 0) (text : List ℕ) (Ls : List Line) (pack : Unit {0} × Values Ls → V) (k : ℕ) (bytes : List ℕ) (rest : List ℕ → Result B ℕ) (on : B → Result (V × List ℕ) ℕ)
     → ((left : List ℕ) → Outcome V Ls (λ x. pack (tt, x)) (suc k) left (rest left >>= on))
-    → Outcome V (fixed_line text ∷ Ls) pack k bytes ((line k (strip (ended text) bytes) >>= rest) >>= on)
+    → Outcome V (fixed_line text ∷ Ls) pack k bytes ((line k (strip (line_text text) bytes) >>= rest) >>= on)
 fixed_in V B text Ls pack k bytes rest on next =
-    subst (Outcome V (fixed_line text ∷ Ls) pack k bytes) (regrouped (line k (strip (ended text) bytes)) rest on)
+    subst (Outcome V (fixed_line text ∷ Ls) pack k bytes) (regrouped (line k (strip (line_text text) bytes)) rest on)
     (fixed_step V text Ls pack k bytes (λ left. rest left >>= on) next)
 
 line_in : (V B : Type 0) (L : Line) (Ls : List Line) (reader : List ℕ → Option (L.Held × List ℕ)) (is : IsReader L reader)

@@ -15,7 +15,7 @@ use Rattle.std.proofs.lemmas.Fmt.{decimal-digits_value, digits_decimal, digits_v
 use Rattle.hex.specs.Hex.{decode_of, encode_lower, IsBytes, is_hex_digit}
 use Rattle.hex.specs.declared.error.FromHexError.{FromHexError}
 use Rattle.hex.proofs.HexLemmas.{decode_of-ok, decode_of-encode_lower}
-use Rattle.ca_program.specs.FirstPath.WordReaders.{◌>>=◌, strip, until, digits_after, decimal_in, spelt_by, bytes_in, word_at}
+use Rattle.ca_program.specs.FirstPath.WordReaders.{◌>>=◌, strip, until, digits_after, decimal_in, bytes_in_lower_case, bytes_in, word_at}
 
 -- the value of a step that found something
 pub bind_some : {A B : Type 0} (o : Option A) (f : A → Option B) (y : B) → (o >>= f) ≡ Some y → (x : A) × (o ≡ Some x) × (f x ≡ Some y)
@@ -200,7 +200,7 @@ decimal_word = record {
   plain = λ n low. digits_plain (decimal n) (digits_decimal numerals n (omega arith));
 }
 
-bytes_spelt : (word : List ℕ) (r : Result (List ℕ) FromHexError) (p : List ℕ) → spelt_by word r ≡ Some p → (r ≡ Ok p) × (word ≡ encode_lower p)
+bytes_spelt : (word : List ℕ) (r : Result (List ℕ) FromHexError) (p : List ℕ) → bytes_in_lower_case word r ≡ Some p → (r ≡ Ok p) × (word ≡ encode_lower p)
 bytes_spelt word (Ok bytes) p e =
     let g = cond_some (bytes_eq (encode_lower bytes) word) bytes p e in
     let same = (bytes_eq-Decides (encode_lower bytes) word).0 g.0 in
@@ -214,7 +214,7 @@ AreBytes p = IsBytes p × (0 < length p)
 bytes_found : (word p : List ℕ) → bytes_in word ≡ Some p → AreBytes p × (word ≡ encode_lower p)
 unfolding bytes_in
 bytes_found word p e =
-    let g = cond_not (eqb (length word) 0) (spelt_by word (decode_of word)) p e in
+    let g = cond_not (eqb (length word) 0) (bytes_in_lower_case word (decode_of word)) p e in
     let s = bytes_spelt word (decode_of word) p g.1 in
     let d = decode_of-ok word p s.0 in
     let some = eqb-false _ _ g.0 in

@@ -61,14 +61,14 @@ abbrev pub lines : Script → List (List ℕ)
 lines s = codes "adapters 1" ∷ (codes "buffer 0 " ++ decimal s.buffer_length) ∷ map (call 0) (verbs_of s)
 
 -- each line ends with a line feed
-abbrev pub ended : List ℕ → List ℕ
-ended line = line ++ 10 ∷ []
+abbrev pub line_text : List ℕ → List ℕ
+line_text line = line ++ 10 ∷ []
 
-abbrev pub ended_all : List (List ℕ) → List ℕ
-ended_all ls = flat_map ended ls
+abbrev pub lines_text : List (List ℕ) → List ℕ
+lines_text ls = flat_map line_text ls
 
 abbrev pub script_text : Script → List ℕ
-script_text s = ended_all (lines s)
+script_text s = lines_text (lines s)
 
 -- An RDMA WRITE Only for the queue pair, of the default partition, with PSN 0 and without AckReq, whose payload has at
 -- least one byte, at most the path MTU, and all that its RETH asks for.
@@ -102,8 +102,8 @@ pub record IsOfForm (s : Script) : Type 0 where
 -- Beyond the nine lines stands the end: there n asks that nothing follows.
 abbrev pub Begins : ℕ → List ℕ → Type 0
 Begins n bytes =
-    (s : Script) × IsOfForm s × (rest : List ℕ) × (bytes ≡ ended_all (take n (lines s)) ++ rest)
-    × (length (ended_all (take n (lines s))) ≤ MAX_SCRIPT_BYTES) × (9 < n → rest ≡ [])
+    (s : Script) × IsOfForm s × (rest : List ℕ) × (bytes ≡ lines_text (take n (lines s)) ++ rest)
+    × (length (lines_text (take n (lines s))) ≤ MAX_SCRIPT_BYTES) × (9 < n → rest ≡ [])
 
 -- the lines before this one are those of a script of the form, and with this one they are not
 pub record FirstDiffers (bytes : List ℕ) (line : ℕ) : Type 0 where
@@ -117,7 +117,7 @@ pub record IsScript (bytes : List ℕ) (s : Script) : Type 0 where
   pub whole : bytes ≡ script_text s
   pub most : length bytes ≤ MAX_SCRIPT_BYTES
 
--- a refused line is the first that differs from the form; of want of memory nothing is said
+-- a refused line is the first that differs from the form; of running out of memory nothing is said
 abbrev pub IsRefusal : List ℕ → ScriptError → Type 0
 IsRefusal bytes errors.Memory = Unit {0}
 IsRefusal bytes (errors.Refused line cause) = FirstDiffers bytes line

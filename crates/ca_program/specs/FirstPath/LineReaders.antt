@@ -8,7 +8,7 @@ use Rattle.ca_program.specs.declared.script_error.ScriptError.{ScriptError}
 use Rattle.ca_program.specs.declared.script_error.ScriptError.TheVariants as errors
 use Rattle.ca_program.specs.declared.first_path.lines.Setup.{Setup}
 use Rattle.ca_program.specs.FirstPath.WordReaders.{strip, buffer_at, region_at}
-use Rattle.ca_program.specs.FirstPath.Form.{queue, ended, IsFirstWrite}
+use Rattle.ca_program.specs.FirstPath.Form.{queue, line_text, IsFirstWrite}
 
 infixl 10 ◌>>=◌
 abbrev pub ◌>>=◌ : {A B : Type 0} → Result A ℕ → (A → Result B ℕ) → Result B ℕ
@@ -74,4 +74,4 @@ IsInjected packet = IsBytes packet × ((p : Fields) × IsFirstWrite packet p)
 abbrev pub LacksPacket : List ℕ → ScriptError → Type 0
 LacksPacket bytes errors.Memory = Unit {0}
 LacksPacket bytes (errors.Refused number cause) =
-    (number ≡ 9) × ((packet rest : List ℕ) → IsInjected packet → bytes ≡ ended (inject_line packet) ++ rest → ⊥)
+    (number ≡ 9) × ((packet rest : List ℕ) → IsInjected packet → bytes ≡ line_text (inject_line packet) ++ rest → ⊥)

@@ -43,9 +43,9 @@ abbrev pub grant : Script → Grant
 grant s = registered slot (region s) s.rights 1
 
 -- the grants that are in force after a registration that was so refused or not
-abbrev pub granted : Script → Option Refusal → List Grant
-granted s None = grant s ∷ []
-granted s (Some reason) = []
+abbrev pub grants_after : Script → Option Refusal → List Grant
+grants_after s None = grant s ∷ []
+grants_after s (Some reason) = []
 
 abbrev pub registration_answer : Script → Option Refusal → Answer
 registration_answer s None = answers.Key (grant s).key
@@ -61,15 +61,15 @@ ask h = remote_ask queue domain h.key kinds.Write h.address h.length
 
 -- the first part of the key check that fails
 abbrev pub denial : Script → Reth → Option Denial
-denial s h = denial_of (ask h) (granted s (refusal s))
+denial s h = denial_of (ask h) (grants_after s (refusal s))
 
 abbrev pub verdict : List ℕ → Option Denial → Verdict
 verdict payload None = verdicts.Wrote payload
 verdict payload (Some part) = verdicts.Denied part
 
 -- consumer 0 calls a verb, on the one pass
-abbrev pub called : ℕ → Verb → Answer → List Mark → EntryValue
-called stamp verb answer effects = record {
+abbrev pub call_entry : ℕ → Verb → Answer → List Mark → EntryValue
+call_entry stamp verb answer effects = record {
   stamp = stamp;
   pass = 0;
   event = events.Verb 0 verb;
@@ -114,20 +114,20 @@ response stamp (Some part) = record {
 
 -- the domain, the completion queue and the queue pair
 abbrev pub set_up : List EntryValue
-set_up = called 0 alloc_pd answers.Fine [] ∷ called 1 create_cq answers.Fine [] ∷ called 2 create_qp (answers.Queue queue.number 1) [] ∷ []
+set_up = call_entry 0 alloc_pd answers.Fine [] ∷ call_entry 1 create_cq answers.Fine [] ∷ call_entry 2 create_qp (answers.Queue queue.number 1) [] ∷ []
 
 -- the region, refused or not
 abbrev pub registration : ℕ → Script → Option Refusal → EntryValue
-registration stamp s refused = called stamp (reg_mr s) (registration_answer s refused) (registration_marks s refused)
+registration stamp s refused = call_entry stamp (reg_mr s) (registration_answer s refused) (registration_marks s refused)
 
 -- the queue pair is made ready to receive
 abbrev pub connection : ℕ → List EntryValue
-connection stamp = called stamp init answers.Fine [] ∷ called (stamp + 1) rtr answers.Fine [] ∷ []
+connection stamp = call_entry stamp init answers.Fine [] ∷ call_entry (stamp + 1) rtr answers.Fine [] ∷ []
 
 -- the history by how the registration was refused and the access denied
 abbrev pub history_by : Script → Reth → List ℕ → Option Refusal → Option Denial → List EntryValue
 history_by s h payload refused denied =
-    set_up ++ registration 3 s refused ∷ connection 4 ++ called 6 (inject s) answers.Fine (arrival h payload denied) ∷ response 7 denied
+    set_up ++ registration 3 s refused ∷ connection 4 ++ call_entry 6 (inject s) answers.Fine (arrival h payload denied) ∷ response 7 denied
 
 -- the history of a script whose packet asks by this RETH and carries this payload
 abbrev pub history : Script → Reth → List ℕ → List EntryValue
@@ -150,4 +150,4 @@ pub record IsHistoryOf (s : Script) (es : List EntryValue) : Type 0 where
 -- what a refused call adds
 abbrev pub IsRefusedBy : List EntryValue → List EntryValue → Verb → Option Refusal → Type 0
 IsRefusedBy old new verb None = ⊥
-IsRefusedBy old new verb (Some reason) = new ≡ old ++ called (length old) verb (answers.Refused reason) [] ∷ []
+IsRefusedBy old new verb (Some reason) = new ≡ old ++ call_entry (length old) verb (answers.Refused reason) [] ∷ []

@@ -60,13 +60,13 @@ rights_in word =
     else None
 
 -- the bytes, where this word spells them in lower case
-abbrev pub spelt_by : List ℕ → Result (List ℕ) FromHexError → Option (List ℕ)
-spelt_by word (Ok bytes) = if bytes_eq (encode_lower bytes) word then Some bytes else None
-spelt_by word (Err e) = None
+abbrev pub bytes_in_lower_case : List ℕ → Result (List ℕ) FromHexError → Option (List ℕ)
+bytes_in_lower_case word (Ok bytes) = if bytes_eq (encode_lower bytes) word then Some bytes else None
+bytes_in_lower_case word (Err e) = None
 
 -- the bytes that a word spells in hexadecimal of lower case
 unfoldable pub bytes_in : List ℕ → Option (List ℕ)
-bytes_in word = if length word == 0 then None else spelt_by word (decode_of word)
+bytes_in word = if length word == 0 then None else bytes_in_lower_case word (decode_of word)
 
 -- a word that this reader takes, its separator, and what stands after them
 abbrev pub word_at : {A : Type 0} → ℕ → (List ℕ → Option A) → List ℕ → Option (A × List ℕ)

@@ -1,6 +1,6 @@
 ghost use Rattle.std.specs.Prelude.{◌≡◌, ◌++◌, ◌↔◌, IsTrue, IfOk, IfErr};
 ghost use Rattle.ca_wire.specs.Packet.{Fields, fields_of};
-ghost use Rattle.ca_program.specs.FirstPath.Form.{IsFirstWrite, IsWrite, ended};
+ghost use Rattle.ca_program.specs.FirstPath.Form.{IsFirstWrite, IsWrite, line_text};
 ghost use Rattle.ca_program.specs.FirstPath.WordReaders as words;
 ghost use Rattle.ca_program.specs.FirstPath.LineReaders.{Finds, Gives, GivesOrLacks, IsInjected, LacksPacket, inject_line, line, opening_at, setup_at};
 
@@ -14,7 +14,7 @@ use ca_wire::{Packet, decode};
 use std::alloc::Global;
 
 /// What the line of the region asks for.
-#[derive(Clone, Copy, Debug)]
+#[derive(Clone, Copy)]
 pub struct Registration {
     pub offset: u32,
     pub length: u32,
@@ -22,14 +22,14 @@ pub struct Registration {
 }
 
 /// What the first eight lines say.
-#[derive(Clone, Copy, Debug)]
+#[derive(Clone, Copy)]
 pub struct Setup {
     pub buffer_length: u32,
     pub region: Registration,
 }
 
 /// The refusal of a line, counted from 1.
-pub fn differs(line: u32) -> ScriptError
+pub fn refusal_at(line: u32) -> ScriptError
     ensures { result ≡ ScriptError.Refused line ScriptCause.NotBuilt }
 {
     ScriptError::Refused {
@@ -46,10 +46,10 @@ fn strip<'a>(front: &[u8], bytes: &'a [u8]) -> Option<&'a [u8]>
 }
 
 /// The bytes after the line of this number, which is `text` with its line feed.
-fn after<'a>(number: u32, text: &[u8], bytes: &'a [u8]) -> Result<&'a [u8], ScriptError>
+fn rest_after<'a>(number: u32, text: &[u8], bytes: &'a [u8]) -> Result<&'a [u8], ScriptError>
     ensures { Gives (λ x. x.now) result (line number (words.strip text.now bytes.now)) }
 {
-    strip(text, bytes).ok_or(differs(number))
+    strip(text, bytes).ok_or(refusal_at(number))
 }
 
 #[tactic(auto, unfolding(crate::specs::FirstPath::WordReaders::buffer_at))]
@@ -69,7 +69,7 @@ fn buffer(bytes: &[u8]) -> Option<(u32, &[u8])>
 fn buffer_line(bytes: &[u8]) -> Result<(u32, &[u8]), ScriptError>
     ensures { Gives (λ x. (x.0, x.1.now)) result (line 2 (words.buffer_at bytes.now)) }
 {
-    buffer(bytes).ok_or(differs(2))
+    buffer(bytes).ok_or(refusal_at(2))
 }
 
 #[tactic(auto, unfolding(crate::specs::FirstPath::WordReaders::region_at))]
@@ -94,7 +94,7 @@ fn region(bytes: &[u8]) -> Option<(Registration, &[u8])>
 fn region_line(bytes: &[u8]) -> Result<(Registration, &[u8]), ScriptError>
     ensures { Gives (λ x. (x.0, x.1.now)) result (line 6 (words.region_at bytes.now)) }
 {
-    region(bytes).ok_or(differs(6))
+    region(bytes).ok_or(refusal_at(6))
 }
 
 /// The length of the buffer by the first five lines, and the bytes after them.
@@ -102,11 +102,11 @@ fn region_line(bytes: &[u8]) -> Result<(Registration, &[u8]), ScriptError>
 fn opening_of(bytes: &[u8]) -> Result<(u32, &[u8]), ScriptError>
     ensures { Gives (λ x. (x.0, x.1.now)) result (opening_at bytes.now) }
 {
-    let rest = after(1, b"adapters 1\n", bytes)?;
+    let rest = rest_after(1, b"adapters 1\n", bytes)?;
     let (buffer_length, rest) = buffer_line(rest)?;
-    let rest = after(3, b"c0 pd 0/0\n", rest)?;
-    let rest = after(4, b"c0 cq 0/0/0 2\n", rest)?;
-    let rest = after(5, b"c0 qp 0/0/0 0 0 1 1 -\n", rest)?;
+    let rest = rest_after(3, b"c0 pd 0/0\n", rest)?;
+    let rest = rest_after(4, b"c0 cq 0/0/0 2\n", rest)?;
+    let rest = rest_after(5, b"c0 qp 0/0/0 0 0 1 1 -\n", rest)?;
     Ok((buffer_length, rest))
 }
 
@@ -117,8 +117,8 @@ pub fn setup_of(bytes: &[u8]) -> Result<(Setup, &[u8]), ScriptError>
 {
     let (buffer_length, rest) = opening_of(bytes)?;
     let (region, rest) = region_line(rest)?;
-    let rest = after(7, b"c0 init 0/0/0\n", rest)?;
-    let rest = after(8, b"c0 rtr 0/0/0 0/257 1 0 256 12\n", rest)?;
+    let rest = rest_after(7, b"c0 init 0/0/0\n", rest)?;
+    let rest = rest_after(8, b"c0 rtr 0/0/0 0/257 1 0 256 12\n", rest)?;
     let setup = Setup {
         buffer_length,
         region,
@@ -127,12 +127,12 @@ pub fn setup_of(bytes: &[u8]) -> Result<(Setup, &[u8]), ScriptError>
 }
 
 #[tactic(auto, unfolding(crate::specs::FirstPath::WordReaders::inject_at))]
-fn injected(alloc: Global, bytes: &[u8]) -> Result<(Vec<u8>, &[u8]), ScriptError>
+fn injection(alloc: Global, bytes: &[u8]) -> Result<(Vec<u8>, &[u8]), ScriptError>
     ensures { GivesOrLacks (λ x. (x.0.items, x.1.now)) result (line 9 (words.inject_at bytes.now)) }
 {
-    let text = strip(b"c0 inject 0/256 ", bytes).ok_or(differs(9))?;
-    let (word, rest) = until(b'\n', text).ok_or(differs(9))?;
-    let packet = hexadecimal(alloc, word)?.ok_or(differs(9))?;
+    let text = strip(b"c0 inject 0/256 ", bytes).ok_or(refusal_at(9))?;
+    let (word, rest) = until(b'\n', text).ok_or(refusal_at(9))?;
+    let packet = hexadecimal(alloc, word)?.ok_or(refusal_at(9))?;
     Ok((packet, rest))
 }
 
@@ -181,12 +181,12 @@ fn is_first_write(bytes: &[u8]) -> bool
 
 /// The packet that the ninth line injects, and the bytes after the line.
 pub fn packet_of(alloc: Global, bytes: &[u8]) -> Result<(Bytes, &[u8]), ScriptError>
-    ensures found { IfOk result (λ x. IsInjected x.0 × (bytes.now ≡ ended (inject_line x.0) ++ x.1.now)) }
+    ensures found { IfOk result (λ x. IsInjected x.0 × (bytes.now ≡ line_text (inject_line x.0) ++ x.1.now)) }
     ensures refused { IfErr result (LacksPacket bytes.now) }
 {
-    let (packet, rest) = injected(alloc, bytes)?;
+    let (packet, rest) = injection(alloc, bytes)?;
     if !is_first_write(packet.as_slice()) {
-        return Err(differs(9));
+        return Err(refusal_at(9));
     }
     Ok((Bytes::from(packet), rest))
 }

@@ -45,13 +45,13 @@ fn request_of(script: &Script) -> (Reth, &[u8])
     ensures { path.Asks script.now result.0 result.1.now }
 {
     match decode(script.packet.as_slice()) {
-        Ok(packet) => asked(packet),
+        Ok(packet) => request_in(packet),
         Err(_) => unreachable!(),
     }
 }
 
 // The mark of a verb that was answered, with room for two more.
-fn answered(alloc: Global, verb: &Verb, answer: Answer) -> Result<Marks, Memory>
+fn answer_marks(alloc: Global, verb: &Verb, answer: Answer) -> Result<Marks, Memory>
     ensures marks { IfOk result (λ m. m.marks ≡ Mark.Verb 0 verb.now answer ∷ []) }
     ensures room { IfOk result (λ m. 2 ≤ m.room) }
 {
@@ -82,9 +82,9 @@ fn record_event(history: &mut History, event: Event, marks: Marks) -> Result<(),
 
 // Consumer 0 calls a verb that does nothing else than answer.
 fn call(alloc: Global, history: &mut History, verb: Verb, answer: Answer) -> Result<(), Memory>
-    ensures { OnOk result (history.new ≡ history.old ++ path.called (length history.old) verb answer [] ∷ []) }
+    ensures { OnOk result (history.new ≡ history.old ++ path.call_entry (length history.old) verb answer [] ∷ []) }
 {
-    let marks = answered(alloc, &verb, answer)?;
+    let marks = answer_marks(alloc, &verb, answer)?;
     record_event(history, Event::Verb { by: 0, verb }, marks)
 }
 
@@ -129,7 +129,7 @@ fn set_up(alloc: Global, history: &mut History) -> Result<(), Memory>
 // Registers the region, and gives the grants that are then in force.
 fn register(alloc: Global, history: &mut History, script: &Script) -> Result<Vec<Grant>, Memory>
     ensures history { OnOk result (history.new ≡ history.old ++ path.registration (length history.old) script.now (path.refusal script.now) ∷ []) }
-    ensures in_force { IfOk result (λ grants. grants.items ≡ path.granted script.now (path.refusal script.now)) }
+    ensures in_force { IfOk result (λ grants. grants.items ≡ path.grants_after script.now (path.refusal script.now)) }
 {
     let verb = Verb::RegMr {
         slot: SLOT,
@@ -167,12 +167,12 @@ fn grant_key(
     grant: Grant,
 ) -> Result<Vec<Grant>, Memory>
     ensures history { OnOk result (history.new ≡ history.old
-        ++ path.called (length history.old) verb (Answer.Key grant.key) (Mark.Granted grant ∷ []) ∷ []) }
+        ++ path.call_entry (length history.old) verb (Answer.Key grant.key) (Mark.Granted grant ∷ []) ∷ []) }
     ensures in_force { IfOk result (λ grants. grants.items ≡ grant ∷ []) }
 {
     let mut in_force = Vec::new(alloc);
     in_force.push(grant.copy(alloc)?)?;
-    let mut marks = answered(alloc, &verb, Answer::Key(grant.key))?;
+    let mut marks = answer_marks(alloc, &verb, Answer::Key(grant.key))?;
     marks.push(Mark::Granted(grant));
     record_event(history, Event::Verb { by: 0, verb }, marks)?;
     Ok(in_force)
@@ -233,7 +233,7 @@ fn arrive(
     in_force: &[Grant],
 ) -> Result<Option<Denial>, Memory>
     ensures history { IfOk result (λ denied. history.new ≡ history.old
-        ++ path.called (length history.old) (inject script.now) Answer.Fine (path.arrival reth payload.now denied) ∷ []) }
+        ++ path.call_entry (length history.old) (inject script.now) Answer.Fine (path.arrival reth payload.now denied) ∷ []) }
     ensures denied { IfOk result (λ denied. denied ≡ denial_of (path.ask reth) in_force.now) }
 {
     let denied = judge(reth, in_force);
@@ -241,7 +241,7 @@ fn arrive(
         queue: QUEUE,
         bytes: Bytes::copy_of(alloc, script.packet.as_slice())?,
     };
-    let mut marks = answered(alloc, &verb, Answer::Fine)?;
+    let mut marks = answer_marks(alloc, &verb, Answer::Fine)?;
     marks.push(Mark::Arrived {
         target: QUEUE,
         index: None,
@@ -288,7 +288,7 @@ fn verdict_of(alloc: Global, payload: &[u8], denied: Option<Denial>) -> Result<V
 }
 
 // What a packet of the form asks for, and its payload.
-fn asked<'a>(packet: Packet<'a>) -> (Reth, &'a [u8])
+fn request_in<'a>(packet: Packet<'a>) -> (Reth, &'a [u8])
     requires { IsSome packet.reth }
     ensures reth { packet.entry.reth ≡ Some result.0 }
     ensures payload { result.1.now ≡ packet.entry.payload.now }

@@ -1,14 +1,14 @@
 ghost use Rattle.std.specs.Prelude.{IfOk, IfErr};
 ghost use Rattle.ca_program.specs.FirstPath.Form.{IsScript, IsRefusal};
 
-use crate::first_path::lines::{differs, packet_of, setup_of};
+use crate::first_path::lines::{packet_of, refusal_at, setup_of};
 use crate::script_error::ScriptError;
 use ca_base::limits::MAX_SCRIPT_BYTES;
 use ca_base::{Bytes, Rights};
 use std::alloc::Global;
 
 /// The script that this program runs: one buffer, one region of it, and one packet that arrives.
-#[derive(Debug, Drop)]
+#[derive(Drop)]
 pub struct Script {
     /// Bytes of the buffer, at least one.
     pub buffer_length: u32,
@@ -32,7 +32,7 @@ pub fn read_script(alloc: Global, bytes: &[u8]) -> Result<Script, ScriptError>
     let (setup, rest) = setup_of(within)?;
     let (packet, rest) = packet_of(alloc, rest)?;
     if !rest.is_empty() || MAX_SCRIPT_BYTES < bytes.len() {
-        return Err(differs(10));
+        return Err(refusal_at(10));
     }
     Ok(Script {
         buffer_length: setup.buffer_length,

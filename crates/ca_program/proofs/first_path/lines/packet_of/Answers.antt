@@ -2,7 +2,7 @@ use Rattle.std.proofs.Common.{◌≡◌, ◌++◌, refl, sym, subst, ◌∙◌, 
 use Rattle.std.proofs.lemmas.Result.{err_from_is_err_and}
 use Rattle.std.proofs.lemmas.Bool.{false≢true}
 use Rattle.ca_wire.specs.Packet.{Fields}
-use Rattle.ca_program.specs.FirstPath.Form.{IsFirstWrite, ended}
+use Rattle.ca_program.specs.FirstPath.Form.{IsFirstWrite, line_text}
 use Rattle.ca_program.specs.FirstPath.LineReaders.{IsInjected, inject_line}
 use Rattle.ca_program.proofs.FirstPath.PacketLaws.{packet_refused, packet_other, packet_found}
 use Rattle.ca_program.proofs.first_path.lines.packet_of.Goals as goal
@@ -17,13 +17,13 @@ returns-then-not-is_first_write-clause-refused c =
     let IsWritten : List ℕ → Type 0 = λ q. (p : Fields) × IsFirstWrite q p in
     let other = λ (h : IsWritten c.in_ok-packet.packet.items).
     false≢true (sym c.if-not-is_first_write.true ∙ c.is_first_write.ensures.1 (subst IsWritten (sym c.as_slice.ensures.value) h)) in
-    rw c.differs.ensures
+    rw c.refusal_at.ensures
     (refl, packet_other c.args.bytes.now (c.in_ok-packet.packet.items, c.in_ok-packet.rest.now) c.in_ok-packet.ensures other)
 
 pub returns-clause-found : goal.returns-clause-found
 returns-clause-found c =
     let IsWritten : List ℕ → Type 0 = λ q. (p : Fields) × IsFirstWrite q p in
-    let IsRead : List ℕ → Type 0 = λ q. IsInjected q × (c.args.bytes.now ≡ ended (inject_line q) ++ c.in_ok-packet.rest.now) in
+    let IsRead : List ℕ → Type 0 = λ q. IsInjected q × (c.args.bytes.now ≡ line_text (inject_line q) ++ c.in_ok-packet.rest.now) in
     let first = subst IsWritten c.as_slice.ensures.value (c.is_first_write.ensures.0 c.if-not-is_first_write.false) in
     subst IsRead (sym c.from.ensures)
     (packet_found c.args.bytes.now (c.in_ok-packet.packet.items, c.in_ok-packet.rest.now) c.in_ok-packet.ensures first)

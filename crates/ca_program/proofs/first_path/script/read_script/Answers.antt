@@ -27,7 +27,7 @@ returns-then-not-is_empty-clause-refused c =
           false≢true (sym w.if-not-is_empty.true ∙ c.is_empty.ensures ∙ eq-eqb _ 0 (ap length none))
       | then-not-is_empty-via-else-not-is_empty+then-bytes-gt-MAX_SCRIPT_BYTES w ↦ absurd (omega (arith, most))
     ] in
-    rw c.differs.ensures
+    rw c.refusal_at.ensures
     (end_stops c.min.result c.args.bytes.now (c.in_ok-setup.setup, c.in_ok-setup.rest.now) c.in_ok-packet.packet c.in_ok-packet.rest.now c.min.ensures c.in_ok-setup.ensures c.in_ok-packet.ensures.found more)
 
 pub returns-clause-found : goal.returns-clause-found
