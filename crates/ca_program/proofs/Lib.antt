@@ -1,3 +1,3 @@
 pub mod FirstPath
 pub mod OneWord
-pub mod Reading
+pub mod RunLaws
