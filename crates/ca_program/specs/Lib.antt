@@ -1,7 +1,4 @@
 pub mod FirstPath
-pub mod Form
-pub mod Outside
-pub mod Reading
+pub mod Lawful
 pub mod Run
 pub mod Status
-pub mod Words

@@ -1,11 +1,11 @@
--- The exit code and the line of each status.
+-- The exit code and the line of each status. Contracts cite it.
 use Rattle.std.specs.Prelude.{ℕ, Bool, true, false, List, [], ◌++◌, codes, decimal}
-use Rattle.ca_program.specs.declared.script.ScriptCause.{ScriptCause}
-use Rattle.ca_program.specs.declared.script.ScriptCause.TheVariants.{NotBuilt}
-use Rattle.ca_program.specs.declared.script.ScriptError.{ScriptError}
-use Rattle.ca_program.specs.declared.script.ScriptError.TheVariants as errors
-use Rattle.ca_program.specs.declared.outside.transfer.ReadStop.{ReadStop}
-use Rattle.ca_program.specs.declared.outside.transfer.ReadStop.TheVariants as stops
+use Rattle.ca_program.specs.declared.script_error.ScriptCause.{ScriptCause}
+use Rattle.ca_program.specs.declared.script_error.ScriptCause.TheVariants.{NotBuilt}
+use Rattle.ca_program.specs.declared.script_error.ScriptError.{ScriptError}
+use Rattle.ca_program.specs.declared.script_error.ScriptError.TheVariants as errors
+use Rattle.ca_outside.specs.declared.transfer.ReadStop.{ReadStop}
+use Rattle.ca_outside.specs.declared.transfer.ReadStop.TheVariants as stops
 use Rattle.ca_program.specs.declared.status.Status.{Status}
 use Rattle.ca_program.specs.declared.status.Status.TheVariants as statuses
 
@@ -21,14 +21,10 @@ exit_code statuses.Memory = 7
 abbrev pub cause_text : ScriptCause → List ℕ
 cause_text NotBuilt = codes "not built"
 
--- the end of a line that tells of it
-abbrev pub cause_end : ScriptCause → List ℕ
-cause_end cause = codes ": " ++ cause_text cause ++ codes "\n"
-
 -- the line that tells of a status; there is none of Fine
 abbrev pub status_line : Status → List ℕ
 status_line statuses.Fine = []
-status_line (statuses.Script line cause) = codes "script: line " ++ (decimal line ++ cause_end cause)
+status_line (statuses.Script line cause) = codes "script: line " ++ (decimal line ++ (codes ": " ++ (cause_text cause ++ codes "\n")))
 status_line statuses.Usage = codes "usage\n"
 status_line statuses.ReadFault = codes "read fault\n"
 status_line statuses.WriteFault = codes "write fault\n"
@@ -43,12 +39,12 @@ writes statuses.ReadFault = false
 writes statuses.WriteFault = true
 writes statuses.Memory = false
 
--- the status of a script that is not read
-abbrev pub refused_by : ScriptError → Status
-refused_by (errors.Refused line cause) = statuses.Script line cause
-refused_by errors.Memory = statuses.Memory
+-- the status of a script that is not read and performed
+abbrev pub status_of_error : ScriptError → Status
+status_of_error (errors.Refused line cause) = statuses.Script line cause
+status_of_error errors.Memory = statuses.Memory
 
 -- the status of bytes that did not all come
-abbrev pub stopped_by : ReadStop → Status
-stopped_by stops.Failed = statuses.ReadFault
-stopped_by stops.Memory = statuses.Memory
+abbrev pub status_of_stop : ReadStop → Status
+status_of_stop stops.Failed = statuses.ReadFault
+status_of_stop stops.Memory = statuses.Memory

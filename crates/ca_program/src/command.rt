@@ -1,18 +1,16 @@
-use crate::outside::{StdSink, StdSource};
 use crate::run::run;
 use crate::status::{Status, exit_code, status_line};
+use ca_outside::{StdSink, StdSource};
 use std::io::ErrorKind;
 use std::process::ExitCode;
 use std::rt::Env;
 use std::{env, io};
 
-/// Runs the program on the standard streams, with the words behind the program's name. What its status says goes to
-/// standard error, unless it is `Fine`.
+/// Runs the program on the standard streams, with the words behind the program's name. The line of its status goes to
+/// standard error; a fault there is told to nobody.
 pub fn start<R: Env + Input + Print + Eprint + AllocGlobal>(rt: &R) -> ExitCode {
     let status = status_of(rt);
-    if status != Status::Fine {
-        tell(rt, &status);
-    }
+    tell(rt, &status);
     ExitCode::from(exit_code(&status))
 }
 

@@ -9,12 +9,9 @@
 
 mod command;
 mod first_path;
-mod outside;
 mod run;
-mod script;
+mod script_error;
 mod status;
-#[cfg(test)]
-mod tests;
 
 use std::process::ExitCode;
 

@@ -1,17 +1,17 @@
-ghost use Rattle.std.specs.Prelude.{◌≡◌, ◌≢◌, ◌↔◌, ◌++◌, ℕ, List, map, codes, false, IsTrue, IfSome, IfOk, IfErr};
+ghost use Rattle.std.specs.Prelude.{◌≡◌, ◌≢◌, ◌↔◌, ◌+◌, ◌++◌, ℕ, List, map, codes, false, IsTrue, IfSome, IfOk, IfErr};
 ghost use Rattle.std.specs.String.{string_bytes};
 ghost use Rattle.std.specs.Io.KnownBytes.{Appends};
-ghost use Rattle.ca_program.specs.declared.script.ScriptCause.{ScriptCause};
-ghost use Rattle.ca_program.specs.Form.{FirstDiffers, IsRefusal};
-ghost use Rattle.ca_program.specs.Outside.{Rose, AppendsPart};
-ghost use Rattle.ca_program.specs.Run.{IsCommand, IsOutput, Ran};
-ghost use Rattle.ca_program.specs.Status.{writes, refused_by, stopped_by};
+ghost use Rattle.ca_program.specs.declared.script_error.ScriptCause.{ScriptCause};
+ghost use Rattle.ca_program.specs.FirstPath.Form.{FirstDiffers, IsRefusal};
+ghost use Rattle.ca_outside.specs.Outside.{Rose, LosesAtMost, AppendsPart};
+ghost use Rattle.ca_program.specs.Run.{IsCommand, HasOutput, Ran};
+ghost use Rattle.ca_program.specs.Status.{writes};
 
-use crate::first_path::perform;
-use crate::outside::{ReadStop, Sink, Source, read_up_to, write_all};
-use crate::script::{ScriptError, read_script};
+use crate::first_path::history_of;
+use crate::script_error::ScriptError;
 use crate::status::Status;
 use ca_base::limits::MAX_SCRIPT_BYTES;
+use ca_outside::{Sink, Source, read_up_to, write_all};
 use ca_trace::print_history;
 use std::alloc::Global;
 
@@ -29,6 +29,9 @@ pub fn run<S: Source, K: Sink>(
     // Other words than the one command come to this, and to nothing else.
     ensures usage { (result ≡ Status.Usage) ↔ (¬ IsCommand (map string_bytes words.now)) }
     ensures unread { result ≡ Status.Usage → source.new ≡ source.old }
+
+    // Whatever the answer, no more of the source is lost than a script may have, and one byte.
+    ensures loses { LosesAtMost (MAX_SCRIPT_BYTES + 1) (S.left source.old) (S.left source.new) }
 
     // The refused line is the first that differs from the form.
     ensures script { (line : ℕ) (cause : ScriptCause) → result ≡ Status.Script line cause →
@@ -49,7 +52,7 @@ pub fn run<S: Source, K: Sink>(
     }
     let bytes = match read_up_to(alloc, source, MAX_SCRIPT_BYTES) {
         Ok(bytes) => bytes,
-        Err(stop) => return stopped(stop),
+        Err(stop) => return Status::from(stop),
     };
     answer(alloc, &bytes, sink)
 }
@@ -70,19 +73,10 @@ fn names_script(word: &str) -> bool
     word == "script"
 }
 
-fn stopped(stop: ReadStop) -> Status
-    ensures { result ≡ stopped_by stop }
-{
-    match stop {
-        ReadStop::Failed => Status::ReadFault,
-        ReadStop::Memory => Status::Memory,
-    }
-}
-
 // Performs the script that the bytes are, and writes the text of its history.
 fn answer<K: Sink>(alloc: Global, bytes: &[u8], sink: &mut K) -> Status
-    ensures fine { result ≡ Status.Fine → (output : List ℕ) × IsOutput bytes.now output × Appends (K.held sink.old) (K.held sink.new) output }
-    ensures part { result ≡ Status.WriteFault → (output : List ℕ) × IsOutput bytes.now output × AppendsPart (K.held sink.old) (K.held sink.new) output }
+    ensures fine { result ≡ Status.Fine → (output : List ℕ) × HasOutput bytes.now output × Appends (K.held sink.old) (K.held sink.new) output }
+    ensures part { result ≡ Status.WriteFault → (output : List ℕ) × HasOutput bytes.now output × AppendsPart (K.held sink.old) (K.held sink.new) output }
     ensures script { (line : ℕ) (cause : ScriptCause) → result ≡ Status.Script line cause → FirstDiffers bytes.now line }
     ensures write_fault { result ≡ Status.WriteFault → Rose (K.faults sink.old) (K.faults sink.new) }
     ensures unwritten { writes result ≡ false → sink.new ≡ sink.old }
@@ -91,7 +85,7 @@ fn answer<K: Sink>(alloc: Global, bytes: &[u8], sink: &mut K) -> Status
 {
     let output = match output_of(alloc, bytes) {
         Ok(output) => output,
-        Err(error) => return refused(error),
+        Err(error) => return Status::from(error),
     };
     match write_all(sink, &output) {
         Ok(()) => Status::Fine,
@@ -99,27 +93,13 @@ fn answer<K: Sink>(alloc: Global, bytes: &[u8], sink: &mut K) -> Status
     }
 }
 
-fn refused(error: ScriptError) -> Status
-    ensures { result ≡ refused_by error }
-{
-    match error {
-        ScriptError::Refused { line, cause } => Status::Script { line, cause },
-        ScriptError::Memory => Status::Memory,
-    }
-}
-
 // The text of the history of the script that the bytes are.
 fn output_of(alloc: Global, bytes: &[u8]) -> Result<Vec<u8>, ScriptError>
-    ensures output { IfOk result (λ output. IsOutput bytes.now output.items) }
+    ensures output { IfOk result (λ output. HasOutput bytes.now output.items) }
     ensures refused { IfErr result (IsRefusal bytes.now) }
 {
-    let script = read_script(alloc, bytes)?;
-    let Ok(history) = perform(alloc, &script) else {
-        return Err(ScriptError::Memory);
-    };
+    let history = history_of(alloc, bytes)?;
     let mut output = Vec::new(alloc);
-    let Ok(()) = print_history(alloc, &history, &mut output) else {
-        return Err(ScriptError::Memory);
-    };
+    print_history(alloc, &history, &mut output)?;
     Ok(output)
 }

@@ -1,12 +1,9 @@
-use Rattle.ca_program.proofs.Lawful.{lawful-history}
 use Rattle.ca_program.proofs.run.output_of.Goals as goal
 
 pub returns-clause-output : goal.returns-clause-output
 returns-clause-output c = record {
-  script = c.in_ok-script.script;
-  read = c.in_ok-script.ensures.found;
-  entries = c.in-Ok.history;
-  history = c.in-Ok.ensures;
-  lawful = lawful-history c.in_ok-script.script c.in-Ok.history c.in-Ok.ensures;
-  whole = rw c.new-output.ensures.items at c.in-Ok-print_history.ensures.ok;
+  entries = c.in_ok-history.history;
+  history = c.in_ok-history.ensures.history;
+  lawful = c.in_ok-history.ensures.lawful;
+  whole = rw c.new-output.ensures.items at c.in_ok-print_history.ensures.ok;
 }

@@ -1,0 +1,2 @@
+mod OutsideExamples
+pub mod Passed

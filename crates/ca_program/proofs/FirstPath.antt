@@ -1,0 +1,13 @@
+-- Scaffold, which goes with the tree first_path: its lemmas.
+pub mod FormLaws
+mod HistoryExamples
+pub mod Lawful
+pub mod LineLaws
+pub mod Limit
+pub mod PacketLaws
+pub mod Performing
+pub mod RightsLaws
+pub mod ScriptLaws
+pub mod SetupLaws
+pub mod WordLaws
+pub mod WordSteps
