@@ -75,8 +75,9 @@ abbrev pub piece_text : Piece → List ℕ
 piece_text p = key_text p.key ++ codes ":" ++ address_text p.address ++ codes ":" ++ decimal p.length
 
 -- the letter, where it holds
-abbrev pub letter : Bool → List ℕ → List ℕ
-letter holds text = if holds then text else []
+abbrev pub letter : Bool → ℕ → List ℕ
+letter true c = c ∷ []
+letter false c = []
 
 -- at least one right holds
 abbrev pub has_right : Rights → Bool
@@ -86,8 +87,7 @@ has_right r = r.local_write || r.remote_read || r.remote_write || r.remote_atomi
 abbrev pub rights_text : Rights → List ℕ
 rights_text r =
     if has_right r
-    then letter r.local_write (codes "l") ++ letter r.remote_read (codes "r") ++ letter r.remote_write (codes "w")
-    ++ letter r.remote_atomic (codes "a") ++ letter r.window_bind (codes "b")
+    then letter r.local_write 108 ++ letter r.remote_read 114 ++ letter r.remote_write 119 ++ letter r.remote_atomic 97 ++ letter r.window_bind 98
     else dash
 
 -- what an access does to memory

@@ -106,9 +106,6 @@ pub const MAX_RNR_CODE: u8 = 31;
 /// The bytes that an atomic reaches.
 pub const ATOMIC_BYTES: u32 = 8;
 
-/// PSNs count modulo this number.
-pub const PSN_COUNT: u32 = 16_777_216;
-
 /// The most parts that an event holds.
 pub const MAX_HELD_PARTS: usize = 32;
 

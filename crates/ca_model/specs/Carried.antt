@@ -7,7 +7,7 @@ use Rattle.ca_base.specs.declared.access.Ask.{Ask}
 use Rattle.ca_base.specs.declared.access.Kind.{Kind}
 use Rattle.ca_base.specs.declared.access.Kind.TheVariants as kinds
 use Rattle.ca_base.specs.declared.completion.Completion.{Completion}
-use Rattle.ca_base.specs.declared.limits.TheConstants.{KEPT_ENVELOPES, PSN_COUNT}
+use Rattle.ca_base.specs.declared.limits.TheConstants.{KEPT_ENVELOPES}
 use Rattle.ca_base.specs.declared.names.QueueId.{QueueId}
 use Rattle.ca_base.specs.declared.verdict.Verdict.{Verdict}
 use Rattle.ca_base.specs.declared.verdict.Verdict.TheVariants as verdicts
@@ -56,7 +56,7 @@ has_arrived past target None = injects_at target past.at_hand.event
 
 -- which packet of its request one at this PSN is: the first that was sent for the request is its first
 abbrev pub packet_index : ℕ → Posted → ℕ
-packet_index psn p = option_map_or (λ first. (psn + PSN_COUNT - first) % PSN_COUNT) p.first_psn 0
+packet_index psn p = option_map_or (λ first. (psn + 2 ^ 24 - first) % 2 ^ 24) p.first_psn 0
 
 -- the bytes spell the packet of the posted request that stands at its PSN, and its payload is what was read from the list
 abbrev pub is_packet_of : Past → QueueId → QueueId → List ℕ → Posted → Fields → Bool

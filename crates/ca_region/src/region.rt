@@ -1,5 +1,5 @@
 ghost use Rattle.std.specs.Prelude.{◌≡◌, [], ◌∷◌, IfOk};
-ghost use Rattle.ca_base.specs.Registered.{registration_refusal};
+ghost use Rattle.ca_base.specs.Grants.{registration_refusal};
 
 use ca_base::{Grant, Key, Memory, RegionError, Rights, Run, Runs, Slot, first_address};
 use std::alloc::Global;
@@ -7,13 +7,13 @@ use std::marker::Model;
 
 /// The key slot of a memory region. Its low byte opens at 0 and rises with each registration, so that the key that was
 /// granted last is not the one that is granted next (this profile's choice).
-#[derive(Debug, Drop)]
+#[derive(Drop)]
 pub struct Region {
     low: u8,
     state: State,
 }
 
-#[derive(Clone, Copy, Debug, PartialEq, Eq)]
+#[derive(Clone, Copy)]
 enum State {
     Vacant,
     Valid { slot: Slot, at: Run, rights: Rights },
@@ -31,7 +31,7 @@ impl Model for Region {
 
 impl Region {
     ghost use Rattle.std.specs.Prelude.{◌≡◌, IfOk, IfErr, OnOk, OnErr, is_none, None, Some};
-    ghost use Rattle.ca_base.specs.Registered.{registered, next_low, registration_refusal};
+    ghost use Rattle.ca_base.specs.Grants.{grant_of_registration, next_low, registration_refusal};
     ghost use Rattle.ca_region.specs.Region.{RefusesBy};
 
     /// The slot before its first registration.
@@ -63,7 +63,7 @@ impl Region {
         rights: Rights,
     ) -> Result<Grant, RegionError>
         requires { self.old.grant ≡ None }
-        ensures granted { IfOk result (λ g. g ≡ registered slot at rights (next_low self.old.low)) }
+        ensures granted { IfOk result (λ g. g ≡ grant_of_registration slot at rights (next_low self.old.low)) }
         ensures valid { IfOk result (λ g. self.new ≡ record { low = next_low self.old.low; grant = Some g }) }
         ensures accepted { OnOk result (registration_refusal at buffer_length rights ≡ None) }
         ensures refused { IfErr result (RefusesBy (registration_refusal at buffer_length rights)) }
@@ -72,9 +72,7 @@ impl Region {
         if let Some(refusal) = refusal_of(at, buffer_length, rights) {
             return Err(refusal);
         }
-        let Ok(runs) = one_run(alloc, at) else {
-            return Err(RegionError::Memory);
-        };
+        let runs = one_run(alloc, at)?;
         self.low = if self.low == 255 { 0 } else { self.low + 1 };
         self.state = State::Valid { slot, at, rights };
         Ok(Grant {

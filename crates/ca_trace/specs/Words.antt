@@ -65,7 +65,7 @@ alarm_text false = codes "hasten"
 abbrev pub flags_text : Bool → Bool → Bool → List ℕ
 flags_text signalled fence solicited =
     if signalled || fence || solicited
-    then letter signalled (codes "s") ++ letter fence (codes "f") ++ letter solicited (codes "e")
+    then letter signalled 115 ++ letter fence 102 ++ letter solicited 101
     else dash
 
 -- what a word of a line stands for

@@ -6,7 +6,7 @@ use Rattle.ca_base.specs.declared.place.Run.{Run}
 use Rattle.ca_base.specs.declared.rights.Rights.{Rights}
 use Rattle.ca_base.specs.declared.names.Slot.{Slot}
 use Rattle.ca_base.specs.Memory.{places_of, run_places}
-use Rattle.ca_base.specs.Registered.{registered}
+use Rattle.ca_base.specs.Grants.{grant_of_registration}
 use Rattle.ca_model.specs.Judged.{Judged}
 use Rattle.ca_model.specs.Carried.{Carried, NamesWrite, Carries}
 use Rattle.ca_model.specs.Past.{Past}
@@ -37,7 +37,7 @@ licensed s h b (Some r) None = search
 licensed s h b (Some r) (Some d) = search
 
 -- a registration has as many places as bytes
-registered-places : (of : Slot) (at : Run) (rights : Rights) (low : ℕ) → length (places_of (registered of at rights low)) ≡ at.length
+registered-places : (of : Slot) (at : Run) (rights : Rights) (low : ℕ) → length (places_of (grant_of_registration of at rights low)) ≡ at.length
 registered-places of at rights low =
     length-append (run_places at) [] ∙ add-zero (length (run_places at))
     ∙ length-map-range_with_len (λ o. record { adapter = at.adapter; buffer = at.buffer; offset = o }) at.offset at.length

@@ -6,13 +6,13 @@ use Rattle.std.specs.Option.{option_and_then}
 use Rattle.ca_base.specs.declared.access.Ask.{Ask}
 use Rattle.ca_base.specs.declared.access.Denial.{Denial}
 use Rattle.ca_base.specs.declared.access.Kind.TheVariants as kinds
-use Rattle.ca_base.specs.declared.access.Verdict.{Verdict}
-use Rattle.ca_base.specs.declared.access.Verdict.TheVariants as verdicts
+use Rattle.ca_base.specs.declared.verdict.Verdict.{Verdict}
+use Rattle.ca_base.specs.declared.verdict.Verdict.TheVariants as verdicts
 use Rattle.ca_base.specs.declared.grant.Grant.{Grant}
 use Rattle.ca_base.specs.declared.lot.Lot.TheVariants as lots
 use Rattle.ca_base.specs.declared.place.Run.{Run}
 use Rattle.ca_base.specs.Allowed.{denial_of}
-use Rattle.ca_base.specs.Registered.{registered, registration_refusal}
+use Rattle.ca_base.specs.Grants.{grant_of_registration, registration_refusal}
 use Rattle.ca_model.specs.declared.answer.Answer.{Answer}
 use Rattle.ca_model.specs.declared.answer.Answer.TheVariants as answers
 use Rattle.ca_model.specs.declared.answer.Refusal.{Refusal}
@@ -40,7 +40,7 @@ refusal s = option_and_then region_refusal (registration_refusal (region s) s.bu
 
 -- what the registration grants, as the first of its slot
 abbrev pub grant : Script → Grant
-grant s = registered slot (region s) s.rights 1
+grant s = grant_of_registration slot (region s) s.rights 1
 
 -- the grants that are in force after a registration that was so refused or not
 abbrev pub grants_after : Script → Option Refusal → List Grant

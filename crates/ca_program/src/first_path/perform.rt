@@ -1,6 +1,6 @@
 ghost use Rattle.std.specs.Prelude.{◌≡◌, ◌≤◌, [], ◌∷◌, ◌++◌, length, OnOk, IfOk, IfErr, IsSome, None, Some};
 ghost use Rattle.ca_base.specs.Allowed.{denial_of};
-ghost use Rattle.ca_base.specs.Registered.{registration_refusal};
+ghost use Rattle.ca_base.specs.Grants.{registration_refusal};
 ghost use Rattle.ca_base.specs.declared.access.Denial.{Denial};
 ghost use Rattle.ca_model.specs.History.{FitTheEvent};
 ghost use Rattle.ca_model.specs.Refusals.{region_refusal};
