@@ -1,4 +1,4 @@
--- What the definitions say of small values.
+-- What the definitions say of small values. For proofs only.
 use Rattle.std.proofs.Common.{◌≡◌, ℕ, [], ◌∷◌, true, false, None, Some, refl}
 use Rattle.ca_base.specs.declared.access.Ask.{Ask}
 use Rattle.ca_base.specs.declared.access.Denial.TheVariants.{NoGrant, WrongQueue, NoRight, OutOfRange}
@@ -10,12 +10,13 @@ use Rattle.ca_base.specs.declared.names.DomainId.{DomainId}
 use Rattle.ca_base.specs.declared.names.QueueId.{QueueId}
 use Rattle.ca_base.specs.declared.names.Slot.{Slot}
 use Rattle.ca_base.specs.declared.place.Run.{Run}
-use Rattle.ca_base.specs.declared.region_error.RegionError.TheVariants.{Empty, OutsideBuffer, RightsNeedLocalWrite}
+use Rattle.ca_base.specs.declared.refusals.RegionError.TheVariants.{Empty, OutsideBuffer, RightsNeedLocalWrite}
 use Rattle.ca_base.specs.declared.rights.Rights.{Rights}
 use Rattle.ca_base.specs.Allowed.{denial_of}
-use Rattle.ca_base.specs.Memory.{zeros, places_at, written}
+use Rattle.ca_base.specs.Configuration.{part_count}
+use Rattle.ca_base.specs.Memory.{zeros, places_of, runs_at, memory_after}
 use Rattle.ca_base.specs.Numbers.{key_at, region_index, window_index, queue_of, domain_of, first_address}
-use Rattle.ca_base.specs.Registered.{registered, registration_refusal, next_low}
+use Rattle.ca_base.specs.Grants.{grant_of_registration, grant_of_bind, page_runs, registration_refusal, next_low}
 
 abbrev domain : ℕ → DomainId
 domain d = record { adapter = 0; domain = d }
@@ -38,6 +39,9 @@ l = record { local_write = true; remote_read = false; remote_write = false; remo
 abbrev w : Rights
 w = record { local_write = false; remote_read = false; remote_write = true; remote_atomic = false; window_bind = false }
 
+abbrev lwb : Rights
+lwb = record { local_write = true; remote_read = false; remote_write = true; remote_atomic = false; window_bind = true }
+
 abbrev none : Rights
 none = record { local_write = false; remote_read = false; remote_write = false; remote_atomic = false; window_bind = false }
 
@@ -45,7 +49,7 @@ abbrev run : ℕ → ℕ → Run
 run offset count = record { adapter = 0; buffer = 0; offset = offset; length = count }
 
 abbrev region : Rights → Grant
-region rights = registered (slot 0 0) (run 0 64) rights 1
+region rights = grant_of_registration (slot 0 0) (run 0 64) rights 1
 
 -- a remote access by queue pair 256 of domain 0
 abbrev asks : Kind → ℕ → ℕ → ℕ → Ask
@@ -144,11 +148,30 @@ not_refused = refl
 after_255 : next_low 255 ≡ 0
 after_255 = refl
 
-two_places : places_at (region lw) 0x10000003e 4 ≡ record { adapter = 0; buffer = 0; offset = 62 } ∷ record { adapter = 0; buffer = 0; offset = 63 } ∷ []
+two_places : places_of (runs_at (region lw) 0x10000003e 4) ≡ record { adapter = 0; buffer = 0; offset = 62 } ∷ record { adapter = 0; buffer = 0; offset = 63 } ∷ []
 two_places = refl
 
-later_byte : written zeros (record { adapter = 0; buffer = 0; offset = 5 } ∷ record { adapter = 0; buffer = 0; offset = 5 } ∷ []) (7 ∷ 8 ∷ 9 ∷ []) (record { adapter = 0; buffer = 0; offset = 5 }) ≡ 8
+a_byte : memory_after zeros (run 5 2 ∷ run 9 1 ∷ []) (7 ∷ 8 ∷ 9 ∷ []) (record { adapter = 0; buffer = 0; offset = 9 }) ≡ 9
+a_byte = refl
+
+later_byte : memory_after zeros (run 5 2 ∷ run 5 1 ∷ []) (7 ∷ 8 ∷ 9 ∷ []) (record { adapter = 0; buffer = 0; offset = 5 }) ≡ 9
 later_byte = refl
 
-other_byte : written zeros (record { adapter = 0; buffer = 0; offset = 5 } ∷ []) (7 ∷ []) (record { adapter = 0; buffer = 0; offset = 6 }) ≡ 0
+other_byte : memory_after zeros (run 5 1 ∷ []) (7 ∷ []) (record { adapter = 0; buffer = 0; offset = 6 }) ≡ 0
 other_byte = refl
+
+-- pages 3 and 1 of a buffer, 12 bytes from address 4090 on
+two_pages : page_runs 0 0 4090 12 (3 ∷ 1 ∷ []) ≡ run 16378 6 ∷ run 4096 6 ∷ []
+two_pages = refl
+
+window_lies_inside : (grant_of_bind (slot 0 0) 7 None (region lw) 0x100000010 16 lwb).runs ≡ run 16 16 ∷ []
+window_lies_inside = refl
+
+window_keeps_remote_rights : (grant_of_bind (slot 0 0) 7 None (region lw) 0x100000010 16 lwb).rights ≡ w
+window_keeps_remote_rights = refl
+
+one_adapter : part_count (record {
+  adapters = record { buffers = 4096 ∷ []; domains = 4; regions = 8; windows = 8; cqs = 4; srqs = 2; qps = 4 } ∷ [];
+  events = 100;
+}) ≡ 125
+one_adapter = refl

@@ -1,5 +1,5 @@
--- Allowed: which access a list of grants in force allows, and which part fails first where it allows none.
--- Sums are whole numbers that never wrap.
+-- Allowed: which access a list of grants in force allows, and which part fails first where it allows none. Contracts
+-- cite it. Sums are whole numbers that never wrap.
 use Rattle.std.specs.Prelude.{◌≡◌, Bool, true, false, ◌&&◌, ◌||◌, not, nat_le, ◌==◌, ◌+◌, if◌then◌else◌, List, [], ◌∷◌, Option, None, Some}
 use Rattle.ca_base.specs.declared.access.Ask.{Ask}
 use Rattle.ca_base.specs.declared.access.Denial.{Denial}
@@ -10,6 +10,7 @@ use Rattle.ca_base.specs.declared.grant.Grant.{Grant}
 use Rattle.ca_base.specs.declared.names.QueueId.{QueueId}
 use Rattle.ca_base.specs.declared.rights.Rights.{Rights}
 use Rattle.ca_base.specs.Equal.{key_eq, domain_eq, queue_eq}
+use Rattle.ca_base.specs.Refusals.{first_of}
 
 -- part 1: the grant has this key and this domain, and may be used as an L_Key where one is asked
 abbrev pub fits : Ask → Grant → Bool
@@ -35,13 +36,17 @@ suffice rights true kinds.FetchAdd = false
 abbrev pub covers : Grant → Ask → Bool
 covers g ask = nat_le g.address ask.address && nat_le (ask.address + ask.length) (g.address + g.length)
 
+-- parts 2 to 4, in order
+abbrev pub denials : Ask → Grant → List (Bool × Denial)
+denials ask g =
+    (not (serves g.queue ask.queue), WrongQueue)
+    ∷ (not (suffice g.rights ask.local ask.kind), NoRight)
+    ∷ (not (covers g ask), OutOfRange)
+    ∷ []
+
 -- the first of parts 2 to 4 that fails
 abbrev pub denial_by : Ask → Grant → Option Denial
-denial_by ask g =
-    if not (serves g.queue ask.queue) then Some WrongQueue
-    else if not (suffice g.rights ask.local ask.kind) then Some NoRight
-    else if not (covers g ask) then Some OutOfRange
-    else None
+denial_by ask g = first_of (denials ask g)
 
 -- the grant that an ask goes by: of the grants in force, the latest first, the first that passes part 1
 abbrev pub grant_for : Ask → List Grant → Option Grant

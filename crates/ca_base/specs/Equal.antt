@@ -1,5 +1,19 @@
--- Tests of names, by their numbers.
-use Rattle.std.specs.Prelude.{Bool, ◌==◌, ◌&&◌}
+-- Tests of names and values, part by part. Contracts cite it.
+use Rattle.std.specs.Prelude.{ℕ, Bool, true, false, not, ◌==◌, ◌&&◌}
+use Rattle.std.specs.Cmp.Lexicographic.{pointwise}
+use Rattle.std.specs.Option.{option_eq}
+use Rattle.ca_base.specs.declared.access.Kind.{Kind}
+use Rattle.ca_base.specs.declared.access.Kind.TheVariants as kinds
+use Rattle.ca_base.specs.declared.access.Denial.{Denial}
+use Rattle.ca_base.specs.declared.access.Denial.TheVariants as denials
+use Rattle.ca_base.specs.declared.completion.Completion.{Completion}
+use Rattle.ca_base.specs.declared.completion.WcOp.{WcOp}
+use Rattle.ca_base.specs.declared.completion.WcOp.TheVariants as operations
+use Rattle.ca_base.specs.declared.completion.WcStatus.{WcStatus}
+use Rattle.ca_base.specs.declared.completion.WcStatus.TheVariants as statuses
+use Rattle.ca_base.specs.declared.grant.Grant.{Grant}
+use Rattle.ca_base.specs.declared.place.Run.{Run}
+use Rattle.ca_base.specs.declared.rights.Rights.{Rights}
 use Rattle.ca_base.specs.declared.key.Key.{Key}
 use Rattle.ca_base.specs.declared.names.DomainId.{DomainId}
 use Rattle.ca_base.specs.declared.names.Slot.{Slot}
@@ -20,3 +34,79 @@ queue_eq a b = (a.adapter == b.adapter) && (a.number == b.number)
 
 abbrev pub place_eq : Place → Place → Bool
 place_eq a b = (a.adapter == b.adapter) && (a.buffer == b.buffer) && (a.offset == b.offset)
+
+abbrev pub run_eq : Run → Run → Bool
+run_eq a b = (a.adapter == b.adapter) && (a.buffer == b.buffer) && (a.offset == b.offset) && (a.length == b.length)
+
+abbrev pub bool_eq : Bool → Bool → Bool
+bool_eq true b = b
+bool_eq false b = not b
+
+abbrev pub rights_eq : Rights → Rights → Bool
+rights_eq a b =
+    bool_eq a.local_write b.local_write && bool_eq a.remote_read b.remote_read && bool_eq a.remote_write b.remote_write
+    && bool_eq a.remote_atomic b.remote_atomic && bool_eq a.window_bind b.window_bind
+
+abbrev pub grant_eq : Grant → Grant → Bool
+grant_eq a b =
+    key_eq a.key b.key && domain_eq a.domain b.domain && option_eq queue_eq a.queue b.queue && bool_eq a.local b.local
+    && (a.address == b.address) && (a.length == b.length) && rights_eq a.rights b.rights && pointwise run_eq a.runs b.runs
+
+-- each kind of access by a number of its own
+abbrev pub kind_number : Kind → ℕ
+kind_number kinds.Read = 0
+kind_number kinds.Write = 1
+kind_number kinds.CmpSwap = 2
+kind_number kinds.FetchAdd = 3
+
+abbrev pub kind_eq : Kind → Kind → Bool
+kind_eq a b = kind_number a == kind_number b
+
+-- each denial by a number of its own
+abbrev pub denial_number : Denial → ℕ
+denial_number denials.NoGrant = 0
+denial_number denials.WrongQueue = 1
+denial_number denials.NoRight = 2
+denial_number denials.OutOfRange = 3
+
+abbrev pub denial_eq : Denial → Denial → Bool
+denial_eq a b = denial_number a == denial_number b
+
+-- each operation by a number of its own
+abbrev pub operation_number : WcOp → ℕ
+operation_number operations.Send = 0
+operation_number operations.Write = 1
+operation_number operations.Read = 2
+operation_number operations.CmpSwap = 3
+operation_number operations.FetchAdd = 4
+operation_number operations.Bind = 5
+operation_number operations.FastReg = 6
+operation_number operations.LocalInv = 7
+operation_number operations.Recv = 8
+operation_number operations.RecvImm = 9
+
+abbrev pub operation_eq : WcOp → WcOp → Bool
+operation_eq a b = operation_number a == operation_number b
+
+-- each status by a number of its own
+abbrev pub status_number : WcStatus → ℕ
+status_number statuses.Success = 0
+status_number statuses.LocalLength = 1
+status_number statuses.LocalProtection = 2
+status_number statuses.Flushed = 3
+status_number statuses.MemoryManagement = 4
+status_number statuses.BadResponse = 5
+status_number statuses.RemoteInvalidRequest = 6
+status_number statuses.RemoteAccess = 7
+status_number statuses.RemoteOperation = 8
+status_number statuses.RetryExceeded = 9
+status_number statuses.RnrRetryExceeded = 10
+
+abbrev pub status_eq : WcStatus → WcStatus → Bool
+status_eq a b = status_number a == status_number b
+
+abbrev pub completion_eq : Completion → Completion → Bool
+completion_eq a b =
+    (a.id == b.id) && queue_eq a.queue b.queue && bool_eq a.receive b.receive && (a.place == b.place)
+    && status_eq a.status b.status && operation_eq a.op b.op && (a.bytes == b.bytes)
+    && option_eq (λ m n. m == n) a.imm b.imm && option_eq key_eq a.invalidated b.invalidated

@@ -1,6 +1,8 @@
 pub mod Numbers
-pub mod Memory
 pub mod Equal
-pub mod Allowed
-pub mod Registered
 pub mod Refusals
+pub mod Allowed
+pub mod Memory
+pub mod Grants
+pub mod Configuration
+pub mod Spelling

@@ -1,4 +1,4 @@
--- How keys, queue pairs and addresses are numbered. All of it is this profile's choice.
+-- How keys, queue pairs and addresses are numbered. All of it is this profile's choice. Contracts cite it.
 use Rattle.std.specs.Prelude.{◌≡◌, ℕ, ◌+◌, ◌-◌, ◌*◌, ◌/◌, ◌%◌}
 use Rattle.ca_base.specs.declared.key.Key.{Key}
 use Rattle.ca_base.specs.declared.names.DomainId.{DomainId}

@@ -1,14 +1,32 @@
+ghost use Rattle.std.specs.Prelude.{◌≡◌, Some};
+ghost use Rattle.ca_base.specs.Spelling.{kind_text, denial_text};
+
+use crate::grant::Grant;
 use crate::key::Key;
-use crate::lists::Bytes;
 use crate::names::{DomainId, QueueId};
+use std::fmt;
 
 /// What an access does to memory.
-#[derive(Clone, Copy, Debug, PartialEq, Eq)]
+#[derive(Clone, Copy, Debug, Default, PartialEq, Eq)]
 pub enum Kind {
+    #[default]
     Read,
     Write,
     CmpSwap,
     FetchAdd,
+}
+
+impl fmt::Display for Kind {
+    ghost output = { λ kind. Some (kind_text kind) };
+
+    fn fmt<W: fmt::Write>(&self, f: &mut fmt::Formatter<W>) -> fmt::Result {
+        f.write_str(match self {
+            Kind::Read => "read",
+            Kind::Write => "write",
+            Kind::CmpSwap => "cas",
+            Kind::FetchAdd => "add",
+        })
+    }
 }
 
 /// The first part of the key check that fails, in the order in which the parts are tried.
@@ -24,9 +42,30 @@ pub enum Denial {
     OutOfRange,
 }
 
+impl fmt::Display for Denial {
+    ghost output = { λ denial. Some (denial_text denial) };
+
+    fn fmt<W: fmt::Write>(&self, f: &mut fmt::Formatter<W>) -> fmt::Result {
+        f.write_str(match self {
+            Denial::NoGrant => "no-grant",
+            Denial::WrongQueue => "wrong-queue",
+            Denial::NoRight => "no-right",
+            Denial::OutOfRange => "out-of-range",
+        })
+    }
+}
+
+/// What an atomic does to the eight bytes that it reaches, as a little-endian number: the new number is `swap` where
+/// the number found equals `compare` and else the same, or the sum of the number found and `add` modulo 2^64.
+#[derive(Clone, Copy, PartialEq, Eq)]
+pub enum AtomicOp {
+    CmpSwap { compare: u64, swap: u64 },
+    FetchAdd { add: u64 },
+}
+
 /// A question to the key check: may this queue pair, of this domain, use this key for `length` bytes from `address`
 /// on? `local` says that the key is used as an L_Key; `touch` is how many of the bytes this packet touches.
-#[derive(Clone, Copy, Debug, PartialEq, Eq)]
+#[derive(Clone, Copy, Default, PartialEq, Eq)]
 pub struct Ask {
     pub queue: QueueId,
     pub domain: DomainId,
@@ -38,12 +77,38 @@ pub struct Ask {
     pub touch: u32,
 }
 
-/// What came of an access: the bytes that were read or written, the number that an atomic found and the one that it
-/// put, or the part of the key check that failed.
-#[derive(Debug, Drop)]
-pub enum Verdict {
-    Read(Bytes),
-    Wrote(Bytes),
-    Swapped { found: u64, put: u64 },
-    Denied(Denial),
+impl Ask {
+    ghost use Rattle.std.specs.Prelude.{◌≡◌};
+    ghost use Rattle.ca_base.specs.Allowed as allowed;
+
+    /// The first part of the key check that fails, over the grants in force, the latest first. None comes exactly
+    /// where the access is allowed; an access of no bytes is.
+    pub fn denial(&self, in_force: &[Grant]) -> Option<Denial>
+        ensures { result ≡ allowed.denial_of self.now in_force.now }
+    {
+        if self.length == 0 {
+            return None;
+        }
+        for grant in in_force {
+            if grant.fits(self) {
+                return self.denial_by(grant);
+            }
+        }
+        Some(Denial::NoGrant)
+    }
+
+    fn denial_by(&self, grant: &Grant) -> Option<Denial>
+        ensures { result ≡ allowed.denial_by self.now grant.now }
+    {
+        if !grant.serves(self.queue) {
+            return Some(Denial::WrongQueue);
+        }
+        if !grant.rights.suffice(self.local, self.kind) {
+            return Some(Denial::NoRight);
+        }
+        if !grant.covers(self) {
+            return Some(Denial::OutOfRange);
+        }
+        None
+    }
 }

@@ -1,10 +1,12 @@
-ghost use Rattle.std.specs.Prelude.{◌≡◌, ◌<◌};
+ghost use Rattle.std.specs.Prelude.{◌≡◌, ◌<◌, Some};
+ghost use Rattle.ca_base.specs.Spelling.{key_text};
 
 use crate::names::Slot;
+use std::fmt;
 
 /// A memory key. The L_Key and the R_Key of a region are one number (this profile's choice): the key index of its
 /// slot in the high 24 bits, and the low byte, which changes from grant to grant.
-#[derive(Clone, Copy, Debug, PartialEq, Eq)]
+#[derive(Clone, Copy, Debug, Default, PartialEq, Eq)]
 pub struct Key(pub u32);
 
 impl Key {
@@ -39,5 +41,18 @@ impl Key {
         ensures { result ≡ low_of self }
     {
         (self.0 % 256) as u8
+    }
+}
+
+impl fmt::Display for Key {
+    ghost output = { λ key. Some (key_text key) };
+
+    fn fmt<W: fmt::Write>(&self, f: &mut fmt::Formatter<W>) -> fmt::Result {
+        let mut digits = [0u8; 8];
+        let _ = hex::encode_to_slice(self.0.to_be_bytes(), &mut digits);
+        match str::from_utf8(&digits) {
+            Ok(digits) => write!(f, "0x{digits}"),
+            Err(_) => Err(fmt::Error),
+        }
     }
 }

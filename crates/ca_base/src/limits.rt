@@ -37,6 +37,12 @@ pub const MAX_PIECES: usize = 4;
 /// The most bytes of a message.
 pub const MAX_MESSAGE_BYTES: u32 = 1_048_576;
 
+/// The smallest path MTU: the bytes of a full packet's payload.
+pub const MIN_PATH_MTU: u32 = 256;
+
+/// The most packets of a message: the longest one at the smallest path MTU.
+pub const MAX_MESSAGE_PACKETS: u32 = 4096;
+
 /// The most requests of a send, a receive or a shared receive queue.
 pub const MAX_DEPTH: u16 = 256;
 
@@ -69,3 +75,46 @@ pub const MAX_WORKERS: u32 = 16;
 
 /// The most bytes of a packet's payload: the largest path MTU.
 pub const MAX_PAYLOAD_BYTES: usize = 4096;
+
+/// The bytes of a page of a fast registration.
+pub const PAGE_BYTES: u32 = 4096;
+
+/// The most pages of a region that is allocated for fast registration.
+pub const MAX_PAGES: u16 = 256;
+
+/// The most bytes of a packet that an adapter sends: 12 of the base transport header, 20 of a WRITE Only with Immediate's
+/// other headers, and the payload.
+pub const MAX_PACKET_BYTES: usize = 4128;
+
+/// The most undelivered envelopes of a mailbox.
+pub const MAX_UNDELIVERED: u32 = 128;
+
+/// The latest envelopes of a mailbox that can be delivered.
+pub const KEPT_ENVELOPES: u32 = 256;
+
+/// The results of atomics that a queue pair keeps for duplicates.
+pub const SAVED_RESULTS: usize = 16;
+
+/// The most READs and atomics that a queue pair has outstanding, and that a responder queues, duplicates apart.
+pub const MAX_READS: u8 = 16;
+
+/// The most duplicates that a responder queues.
+pub const MAX_DUPLICATES: usize = 16;
+
+/// The greatest retry count and RNR retry count. As an RNR retry count it is without end.
+pub const MAX_RETRY: u8 = 7;
+
+/// The greatest timer code of an RNR NAK.
+pub const MAX_RNR_CODE: u8 = 31;
+
+/// The bytes that an atomic reaches.
+pub const ATOMIC_BYTES: u32 = 8;
+
+/// PSNs count modulo this number.
+pub const PSN_COUNT: u32 = 16_777_216;
+
+/// The partition key of the default partition, the only one here.
+pub const DEFAULT_PKEY: u16 = 0xFFFF;
+
+/// The most parts that an event holds.
+pub const MAX_HELD_PARTS: usize = 32;

@@ -1,17 +1,17 @@
 use std::alloc::{AllocError, AllocFailed};
 
-/// Want of memory: the one answer that no clause ties to a cause.
+/// Out of memory: the one answer that no clause ties to a cause.
 #[derive(Clone, Copy, Debug, PartialEq, Eq)]
 pub struct Memory;
 
 impl From<AllocError> for Memory {
-    fn from(_e: AllocError) -> Memory {
+    fn from(_error: AllocError) -> Memory {
         Memory
     }
 }
 
 impl<T: Drop> From<AllocFailed<T>> for Memory {
-    fn from(_e: AllocFailed<T>) -> Memory {
+    fn from(_error: AllocFailed<T>) -> Memory {
         Memory
     }
 }

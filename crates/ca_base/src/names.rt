@@ -1,10 +1,23 @@
-ghost use Rattle.std.specs.Prelude.{◌≡◌, ◌+◌, ◌*◌, ◌<◌, ◌≤◌};
+ghost use Rattle.std.specs.Prelude.{◌≡◌, ◌+◌, ◌*◌, ◌<◌, ◌≤◌, Some};
+ghost use Rattle.ca_base.specs.Spelling.{domain_text, slot_text, queue_text};
+
+use std::fmt;
 
 /// A protection domain: the adapter that it is of, and its number there.
-#[derive(Clone, Copy, Debug, PartialEq, Eq)]
+#[derive(Clone, Copy, Debug, Default, PartialEq, Eq)]
 pub struct DomainId {
     pub adapter: u8,
     pub domain: u8,
+}
+
+impl fmt::Display for DomainId {
+    ghost output = { λ domain. Some (domain_text domain) };
+
+    fn fmt<W: fmt::Write>(&self, f: &mut fmt::Formatter<W>) -> fmt::Result {
+        let adapter = self.adapter;
+        let domain = self.domain;
+        write!(f, "{adapter}/{domain}")
+    }
 }
 
 /// An object of a domain: a region, a window, a completion queue, a shared receive queue or a queue pair.
@@ -14,9 +27,19 @@ pub struct Slot {
     pub slot: u16,
 }
 
+impl fmt::Display for Slot {
+    ghost output = { λ slot. Some (slot_text slot) };
+
+    fn fmt<W: fmt::Write>(&self, f: &mut fmt::Formatter<W>) -> fmt::Result {
+        let domain = self.domain;
+        let slot = self.slot;
+        write!(f, "{domain}/{slot}")
+    }
+}
+
 /// A queue pair: the adapter that it is of, and its queue pair number there. The number carries the domain, as
 /// `(domain + 1) * 256 + slot`, so that the reserved numbers 0 and 1 never occur (this profile's choice).
-#[derive(Clone, Copy, Debug, PartialEq, Eq)]
+#[derive(Clone, Copy, Debug, Default, PartialEq, Eq)]
 pub struct QueueId {
     pub adapter: u8,
     pub number: u32,
@@ -46,5 +69,15 @@ impl QueueId {
             adapter: self.adapter,
             domain: (self.number / 256 - 1) as u8,
         }
+    }
+}
+
+impl fmt::Display for QueueId {
+    ghost output = { λ queue. Some (queue_text queue) };
+
+    fn fmt<W: fmt::Write>(&self, f: &mut fmt::Formatter<W>) -> fmt::Result {
+        let adapter = self.adapter;
+        let number = self.number;
+        write!(f, "{adapter}/{number}")
     }
 }

@@ -1,91 +1,200 @@
--- Carried: what stands behind each packet that arrives and each remote write.
-use Rattle.std.specs.Prelude.{◌≡◌, ℕ, ◌+◌, ◌==◌, Bool, false, ◌&&◌, if◌then◌else◌, List, [], ◌∷◌, length, take, Option, None, Some, IsSomeAnd, MatchBool}
+-- Carried: what stands behind each packet that is sent or arrives, and behind each remote access. Contracts cite it.
+use Rattle.std.specs.Prelude.{ℕ, ◌+◌, ◌-◌, ◌*◌, ◌%◌, ◌^◌, Bool, true, false, not, ◌&&◌, ◌||◌, ◌==◌, nat_le, nat_lt, if◌then◌else◌, List, [], ◌∷◌, length, take, find, slice_get, Option, None, Some, IsTrue}
+use Rattle.std.specs.List.{list_any, list_all}
+use Rattle.std.specs.Option.{option_map_or, option_eq}
+use Rattle.std.specs.Str.{bytes_eq}
 use Rattle.ca_base.specs.declared.access.Ask.{Ask}
 use Rattle.ca_base.specs.declared.access.Kind.{Kind}
 use Rattle.ca_base.specs.declared.access.Kind.TheVariants as kinds
-use Rattle.ca_base.specs.declared.access.Verdict.{Verdict}
-use Rattle.ca_base.specs.declared.access.Verdict.TheVariants as verdicts
+use Rattle.ca_base.specs.declared.completion.Completion.{Completion}
+use Rattle.ca_base.specs.declared.limits.TheConstants.{KEPT_ENVELOPES, PSN_COUNT}
 use Rattle.ca_base.specs.declared.names.QueueId.{QueueId}
-use Rattle.ca_base.specs.Equal.{queue_eq}
+use Rattle.ca_base.specs.declared.verdict.Verdict.{Verdict}
+use Rattle.ca_base.specs.declared.verdict.Verdict.TheVariants as verdicts
+use Rattle.ca_base.specs.Equal.{key_eq, queue_eq}
 use Rattle.ca_base.specs.Memory.{ByteMap}
-use Rattle.ca_wire.specs.Packet.{Fields, Spells}
+use Rattle.ca_wire.specs.declared.atomic_eth.AtomicEth.{AtomicEth}
+use Rattle.ca_wire.specs.declared.reth.Reth.{Reth}
+use Rattle.ca_wire.specs.Packet.{Fields, spelling}
+use Rattle.ca_model.specs.declared.event.Event.{Event}
+use Rattle.ca_model.specs.declared.event.Event.TheVariants as events
 use Rattle.ca_model.specs.declared.mark.Mark.{Mark}
 use Rattle.ca_model.specs.declared.mark.Mark.TheVariants as marks
+use Rattle.ca_model.specs.declared.verb.Verb.TheVariants as verbs
 use Rattle.ca_model.specs.Entries.{EntryValue}
-use Rattle.ca_model.specs.Packets.{packet_at, begins_write, continues_write, atomic_opcode}
-use Rattle.ca_model.specs.Past.{Past, Envelope, LatestWrite, opened, remote_ask, EachEntry}
+use Rattle.ca_model.specs.Packets.{packet_of, begins_write, continues_write, atomic_opcode, is_response}
+use Rattle.ca_model.specs.Past.{Past, Life, Envelope, Naming, LatestWrite, ReadRequest, Posted, Arrival, opening_past, life_of, life_eq, mtu_of, packet_at, injected_bytes, remote_ask, is_send_success, each_entry}
+use Rattle.ca_model.specs.Requests.{is_local, psns_of, carried_bytes, request_packet}
 
 -- the source named the target with the target's present incarnation
 abbrev pub has_named : Past → QueueId → QueueId → Bool
-has_named past source target = is_present (past.named source)
-  where
-    is_present : Option (QueueId × ℕ) → Bool
-    is_present None = false
-    is_present (Some peer) = queue_eq peer.0 target && (peer.1 == past.incarnation target)
+has_named past source target = option_map_or (λ n. life_eq n.peer (life_of past target)) (past.naming source) false
 
 -- each of the two named the other with the other's present incarnation
 abbrev pub has_path : Past → QueueId → QueueId → Bool
 has_path past source target = has_named past source target && has_named past target source
 
--- the latest of these envelopes with this index is not lost
-abbrev pub IsUnderWay : ℕ → List Envelope → Type 0
-IsUnderWay index [] = ⊥
-IsUnderWay index (e ∷ es) = MatchBool (e.index == index) (e.lost ≡ false) (IsUnderWay index es)
+-- the index of a packet that is sent: the next of its target where a path leads there, and else none
+abbrev pub index_to : Past → QueueId → QueueId → Option ℕ
+index_to past source target = if has_path past source target then Some (length (past.envelopes target)) else None
 
--- A packet that arrives by an index is among the last 256 that were sent to the queue pair, and is not lost. One without
--- an index is injected by its event.
-abbrev pub HasArrived : Past → QueueId → Option ℕ → Type 0
-HasArrived past target (Some index) = IsUnderWay index (take 256 (past.sent target))
-HasArrived past target None = IsSomeAnd past.at_hand.injected (λ i. i.target ≡ target)
+-- an envelope that can be delivered: it is not lost, and its target was not reset or destroyed since
+abbrev pub is_under_way : Envelope → Bool
+is_under_way e = not e.lost && not e.cut
+
+-- the event injects at this queue pair
+abbrev pub injects_at : QueueId → Event → Bool
+injects_at target (events.Verb by (verbs.Inject queue bytes)) = queue_eq queue target
+injects_at target event = false
+
+-- A packet that arrives by an index is among the latest 256 that were sent to the queue pair, is not lost, and the queue
+-- pair was neither reset nor destroyed since. One without an index is injected by its event.
+abbrev pub has_arrived : Past → QueueId → Option ℕ → Bool
+has_arrived past target (Some index) =
+    option_map_or is_under_way (find (λ e. e.index == index) (take KEPT_ENVELOPES (past.envelopes target))) false
+has_arrived past target None = injects_at target past.at_hand.event
+
+-- which packet of its request one at this PSN is: the first that was sent for the request is its first
+abbrev pub packet_index : ℕ → Posted → ℕ
+packet_index psn p = option_map_or (λ first. (psn + PSN_COUNT - first) % PSN_COUNT) p.first_psn 0
+
+-- the bytes spell the packet of the posted request that stands at its PSN, and its payload is what was read from the list
+abbrev pub is_packet_of : Past → QueueId → QueueId → List ℕ → Posted → Fields → Bool
+is_packet_of past source target bytes posted p =
+    nat_lt (packet_index p.psn posted) (psns_of mtu posted.request.op)
+    && (length payload == carried_bytes mtu posted.request.op (packet_index p.psn posted))
+    && option_map_or (λ f. bytes_eq bytes (spelling f))
+      (request_packet mtu posted.request (packet_index p.psn posted) target.number p.psn payload) false
+  where
+    mtu : ℕ
+    mtu = mtu_of past source
+
+    payload : List ℕ
+    payload = past.at_hand.read_locally
+
+-- a packet that names a request is one of the posted request's
+abbrev pub is_of_request : Past → QueueId → QueueId → Option ℕ → List ℕ → Bool
+is_of_request past source target None bytes = true
+is_of_request past source target (Some place) bytes =
+    option_map_or (λ posted. option_map_or (is_packet_of past source target bytes posted) (packet_of bytes) false)
+      (slice_get (past.posted (life_of past source)) place) false
 
 -- the write goes on where the latest one of its queue pair ended
-abbrev pub GoesOn : Ask → LatestWrite → Type 0
-GoesOn ask w = (w.key ≡ ask.key) × (w.address + w.wrote ≡ ask.address) × (w.asked ≡ ask.length + w.wrote)
+abbrev pub goes_on : Ask → LatestWrite → Bool
+goes_on ask w = key_eq w.key ask.key && (w.address + w.wrote == ask.address) && (w.asked == ask.length + w.wrote)
+
+-- the RETH names the key, the address and the length of the mark
+abbrev pub names_all : Ask → Reth → Bool
+names_all ask r = key_eq r.key ask.key && (r.address == ask.address) && (r.length == ask.length)
 
 -- A WRITE First or Only names the key, the address and the length of the mark; a Middle or Last goes on.
-abbrev pub NamesWrite : Past → Ask → Fields → Type 0
-NamesWrite past ask p =
-    MatchBool (begins_write p.opcode)
-    (p.reth ≡ Some (record { address = ask.address; key = ask.key; length = ask.length }))
-    (MatchBool (continues_write p.opcode) (IsSomeAnd (past.latest_write ask.queue) (GoesOn ask)) ⊥)
+abbrev pub names_write : Past → Ask → Fields → Bool
+names_write past ask p =
+    if begins_write p.opcode then option_map_or (names_all ask) p.reth false
+    else continues_write p.opcode && option_map_or (goes_on ask) (past.latest_write ask.queue) false
 
 -- an atomic's packet is of the kind of the mark and names its key and address
-abbrev pub NamesAtomic : Ask → Fields → Type 0
-NamesAtomic ask p =
-    (atomic_opcode ask.kind ≡ Some p.opcode) × IsSomeAnd p.atomic (λ a. (a.key ≡ ask.key) × (a.address ≡ ask.address))
+abbrev pub names_atomic : Ask → Fields → Bool
+names_atomic ask p =
+    option_eq (λ m n. m == n) (atomic_opcode ask.kind) (Some p.opcode)
+    && option_map_or (λ a. key_eq a.key ask.key && (a.address == ask.address)) p.atomic false
 
 -- what is written is the payload
-abbrev pub IsPayload : Verdict → List ℕ → Type 0
-IsPayload (verdicts.Wrote bytes) payload = bytes ≡ payload
-IsPayload verdict payload = Unit {0}
+abbrev pub writes_payload : Verdict → List ℕ → Bool
+writes_payload (verdicts.Wrote bytes) payload = bytes_eq bytes payload
+writes_payload verdict payload = true
 
--- the packet is of the mark's kind, names what the mark names, and carries what is written
-abbrev pub IsPacketOf : Past → Ask → Verdict → Fields → Kind → Type 0
-IsPacketOf past ask verdict p kinds.Write = NamesWrite past ask p × IsPayload verdict p.payload
-IsPacketOf past ask verdict p kinds.CmpSwap = NamesAtomic ask p
-IsPacketOf past ask verdict p kinds.FetchAdd = NamesAtomic ask p
--- no READ is answered yet
-IsPacketOf past ask verdict p kinds.Read = ⊥
+-- the packet asks for the access: a WRITE for a write, an atomic for an atomic of its kind
+abbrev pub asks_for : Past → Ask → Verdict → Kind → Fields → Bool
+asks_for past ask verdict kinds.Read p = false
+asks_for past ask verdict kinds.Write p = names_write past ask p && writes_payload verdict p.payload
+asks_for past ask verdict kinds.CmpSwap p = names_atomic ask p
+asks_for past ask verdict kinds.FetchAdd p = names_atomic ask p
 
--- bytes that spell the packet of the mark
-abbrev pub Carries : Past → Ask → Verdict → List ℕ → Type 0
-Carries past ask verdict bytes = (p : Fields) × Spells bytes p × IsPacketOf past ask verdict p ask.kind
+-- the packet that arrived in the event at hand arrived at this queue pair, by this index
+abbrev pub arrived_so : Past → QueueId → Option ℕ → Bool
+arrived_so past q envelope =
+    option_map_or (λ a. queue_eq a.target q && option_eq (λ m n. m == n) a.index envelope) past.at_hand.arrival false
 
--- An access stands in an event in which the packet that it names arrived at its queue pair, and that packet asks for it.
-abbrev pub IsCarriedAccess : Past → Ask → Option ℕ → Verdict → Type 0
-IsCarriedAccess past ask envelope verdict =
-    IsSomeAnd past.at_hand.arrival (λ a. (a.target ≡ ask.queue) × (a.index ≡ envelope))
-    × IsSomeAnd (packet_at past ask.queue envelope) (Carries past ask verdict)
+-- a write or an atomic stands in an event in which the packet that it names arrived, and that packet asks for it
+abbrev pub is_carried_by_arrival : Past → Ask → Option ℕ → Verdict → Bool
+is_carried_by_arrival past ask envelope verdict =
+    arrived_so past ask.queue envelope
+    && option_map_or (asks_for past ask verdict ask.kind) (packet_at past ask.queue envelope) false
 
--- A packet is sent with the next index of its target exactly where a path leads there.
-abbrev pub IsCarried : Past → Mark → Type 0
-IsCarried past (marks.Arrived target index) = HasArrived past target index
-IsCarried past (marks.Sent source target index request bytes) =
-    index ≡ (if has_path past source target then Some (past.count target) else None)
-IsCarried past (marks.Remote queue domain envelope key kind address length verdict) =
-    IsCarriedAccess past (remote_ask queue domain key kind address length) envelope verdict
-IsCarried past mark = Unit {0}
+-- the ask is for the rest of this READ from a multiple of the path MTU on; addresses count modulo 2^64
+abbrev pub is_rest_of : ℕ → Ask → Option ℕ → ReadRequest → Bool
+is_rest_of mtu ask envelope r =
+    option_eq (λ m n. m == n) r.envelope envelope && key_eq r.key ask.key
+    && nat_le ask.length r.length
+    && ((r.length - ask.length) % mtu == 0)
+    && (ask.address == (r.address + (r.length - ask.length)) % 2 ^ 64)
+    && (nat_lt 0 ask.length || (r.length == 0))
 
--- each mark is carried, and a packet that was sent without a path is lost in its own event
+-- a READ gives at most one path MTU
+abbrev pub reads_at_most : ℕ → Verdict → Bool
+reads_at_most mtu (verdicts.Read bytes) = nat_le (length bytes) mtu
+reads_at_most mtu verdict = true
+
+-- the event is a turn of this queue pair's responder
+abbrev pub is_respond_of : QueueId → Event → Bool
+is_respond_of q (events.Respond queue lot) = queue_eq queue q
+is_respond_of q event = false
+
+-- a read stands in a Respond of its queue pair, and asks for the rest of a READ request that arrived there in its present
+-- incarnation
+abbrev pub is_carried_by_request : Past → Ask → Option ℕ → Verdict → Bool
+is_carried_by_request past ask envelope verdict =
+    is_respond_of ask.queue past.at_hand.event
+    && list_any (is_rest_of (mtu_of past ask.queue) ask envelope) (past.read_requests (life_of past ask.queue))
+    && reads_at_most (mtu_of past ask.queue) verdict
+
+-- a remote access has its packet
+abbrev pub is_carried_access : Past → Ask → Option ℕ → Verdict → Kind → Bool
+is_carried_access past ask envelope verdict kinds.Read = is_carried_by_request past ask envelope verdict
+is_carried_access past ask envelope verdict kind = is_carried_by_arrival past ask envelope verdict
+
+-- a response arrived at this queue pair in the event at hand
+abbrev pub response_arrived : Past → QueueId → Bool
+response_arrived past q =
+    option_map_or (λ a. queue_eq a.target q && option_map_or (λ p. is_response p.opcode) (packet_at past a.target a.index) false)
+      past.at_hand.arrival false
+
+-- the request of a completion has packets
+abbrev pub has_packets : Past → Completion → Bool
+has_packets past c =
+    option_map_or (λ posted. not (is_local posted.request.op)) (slice_get (past.posted (life_of past c.queue)) c.place) true
+
+-- A packet arrives as it was sent. It is sent with the next index of its target exactly where a path leads there, and
+-- is one of the request that it names. A remote access has its packet. A send that has packets completes with success
+-- only as a response arrives.
+abbrev pub is_carried : Past → Mark → Bool
+is_carried past (marks.Arrived target index) = has_arrived past target index
+is_carried past (marks.Sent source target index request bytes) =
+    option_eq (λ m n. m == n) index (index_to past source target) && is_of_request past source target request bytes
+is_carried past (marks.Remote queue domain envelope key kind address count verdict) =
+    is_carried_access past (remote_ask queue domain key kind address count) envelope verdict kind
+is_carried past (marks.Done queue completion cause) =
+    not (is_send_success completion && has_packets past completion) || response_arrived past queue
+is_carried past mark = true
+
+-- the payload of these bytes
+abbrev pub carries : List ℕ → List ℕ → Bool
+carries payload bytes = option_map_or (λ p. bytes_eq p.payload payload) (packet_of bytes) false
+
+-- a packet that was sent without a path is lost in its own event, and what a READ gave is sent in its own event
+abbrev pub is_carried_at_end : Past → Bool
+is_carried_at_end past =
+    is_empty past.at_hand.pathless
+    && option_map_or (λ payload. list_any (carries payload) past.at_hand.sent) past.at_hand.read_remotely true
+  where
+    is_empty : List QueueId → Bool
+    is_empty [] = true
+    is_empty (q ∷ qs) = false
+
+-- each mark is carried
+abbrev pub is_carried_history : ByteMap → List EntryValue → Bool
+is_carried_history bytes es = each_entry is_carried is_carried_at_end (opening_past bytes) es
+
 abbrev pub Carried : ByteMap → List EntryValue → Type 0
-Carried bytes es = EachEntry IsCarried (λ past. past.at_hand.pathless ≡ []) (opened bytes) es
+Carried bytes es = IsTrue (is_carried_history bytes es)

@@ -1,4 +1,4 @@
--- What contracts see of an entry: its marks as a list.
+-- What contracts see of an entry: its marks as a list. Contracts cite it.
 use Rattle.std.specs.Prelude.{ℕ, List}
 use Rattle.ca_model.specs.declared.entry.Entry.{Entry}
 use Rattle.ca_model.specs.declared.event.Event.{Event}

@@ -1,20 +1,46 @@
--- Licensed: which grants a history may hold.
-use Rattle.std.specs.Prelude.{◌≡◌, ℕ, false, List, Option, None, Some, IsSome}
-use Rattle.std.specs.List.{list_any}
+-- Licensed: which grants a history may hold, and when a key comes into force and ends. Contracts cite it.
+use Rattle.std.specs.Prelude.{ℕ, Bool, true, false, not, ◌&&◌, ◌||◌, ◌==◌, nat_le, ◌+◌, find, List, Option, None, Some, is_none, IsTrue}
+use Rattle.std.specs.List.{list_any, list_all}
+use Rattle.std.specs.Cmp.Lexicographic.{pointwise}
+use Rattle.std.specs.Option.{option_map_or, option_eq}
+use Rattle.ca_base.specs.declared.completion.Completion.{Completion}
+use Rattle.ca_base.specs.declared.completion.WcOp.TheVariants as operations
 use Rattle.ca_base.specs.declared.grant.Grant.{Grant}
+use Rattle.ca_base.specs.declared.key.Key.{Key}
+use Rattle.ca_base.specs.declared.names.DomainId.{DomainId}
+use Rattle.ca_base.specs.declared.names.QueueId.{QueueId}
 use Rattle.ca_base.specs.declared.names.Slot.{Slot}
 use Rattle.ca_base.specs.declared.place.Run.{Run}
-use Rattle.ca_base.specs.Memory.{ByteMap}
-use Rattle.ca_base.specs.Numbers.{region_index}
-use Rattle.ca_base.specs.Registered.{registered, next_low}
+use Rattle.ca_base.specs.declared.request.SendOp.{SendOp}
+use Rattle.ca_base.specs.declared.request.SendOp.TheVariants as ops
+use Rattle.ca_base.specs.declared.rights.Rights.{Rights}
+use Rattle.ca_base.specs.Equal.{key_eq, domain_eq, queue_eq, grant_eq, run_eq, operation_eq}
+use Rattle.ca_base.specs.Grants.{grant_of_registration, grant_of_fast_registration, grant_of_bind, next_low, needs_local_write}
+use Rattle.ca_base.specs.Memory.{ByteMap, runs_at}
+use Rattle.ca_base.specs.Numbers.{region_index, window_index, index_of, domain_of}
+use Rattle.ca_wire.specs.Packet.{Fields}
 use Rattle.ca_model.specs.declared.answer.Answer.{Answer}
 use Rattle.ca_model.specs.declared.answer.Answer.TheVariants as answers
+use Rattle.ca_model.specs.declared.event.Event.{Event}
+use Rattle.ca_model.specs.declared.event.Event.TheVariants as events
 use Rattle.ca_model.specs.declared.mark.Mark.{Mark}
 use Rattle.ca_model.specs.declared.mark.Mark.TheVariants as marks
 use Rattle.ca_model.specs.declared.verb.Verb.{Verb}
 use Rattle.ca_model.specs.declared.verb.Verb.TheVariants as verbs
 use Rattle.ca_model.specs.Entries.{EntryValue}
-use Rattle.ca_model.specs.Past.{Past, Answered, opened, key_slot_of, key_slot_eq, EachEntry}
+use Rattle.ca_model.specs.Packets.{asks_invalidate}
+use Rattle.ca_model.specs.Past.{Past, Way, BindTo, FastRegistration, Registration, Answered, Arrival, Posted, RevokedKey, opening_past, key_slot, key_slot_of, key_slot_eq, slot_beside, operation_at_hand, operation_performed, packet_at, after_mark, is_send_success, each_entry}
+
+-- the region's grant in force with this key, in this domain
+abbrev pub region_with : Past → DomainId → Key → Option Grant
+region_with past domain key = find (λ g. g.local && key_eq g.key key && domain_eq g.domain domain) past.grants
+
+-- a window with these rights over this range may lie in this region
+abbrev pub may_hold : Grant → ℕ → ℕ → Rights → Bool
+may_hold region address count rights =
+    region.rights.window_bind
+    && nat_le region.address address && nat_le (address + count) (region.address + region.length)
+    && (not (needs_local_write (record rights { local_write = false })) || region.rights.local_write)
 
 -- the low byte that the next registration in a slot takes
 abbrev pub fresh_low : Past → Slot → ℕ
@@ -22,39 +48,176 @@ fresh_low past slot = next_low (past.low (record { adapter = slot.domain.adapter
 
 -- the bytes of a slot's adapter that a registration names
 abbrev pub named_run : Slot → ℕ → ℕ → ℕ → Run
-named_run slot buffer offset length = record { adapter = slot.domain.adapter; buffer = buffer; offset = offset; length = length }
+named_run slot buffer offset count = record { adapter = slot.domain.adapter; buffer = buffer; offset = offset; length = count }
 
 -- the grant is what this verb asked for, under the key that it was answered: a registration makes grants, and no other
 -- verb does
-abbrev pub IsGrantOf : Past → Verb → Answer → Grant → Type 0
-IsGrantOf past (verbs.RegMr slot buffer offset length rights) (answers.Key key) g =
-    (g ≡ registered slot (named_run slot buffer offset length) rights (fresh_low past slot)) × (key ≡ g.key)
-IsGrantOf past verb answer g = ⊥
+abbrev pub is_grant_of_verb : Past → Grant → Answered → Bool
+is_grant_of_verb past g a = by a.verb a.answer
+  where
+    by : Verb → Answer → Bool
+    by (verbs.RegMr slot buffer offset count rights) (answers.Key key) =
+      grant_eq g (grant_of_registration slot (named_run slot buffer offset count) rights (fresh_low past slot)) && key_eq key g.key
+    by verb answer = false
 
--- the grant is that of the verb of its event
-abbrev pub HasLicense : Past → Option Answered → Grant → Type 0
-HasLicense past None g = ⊥
-HasLicense past (Some a) g = IsGrantOf past a.verb a.answer g
+-- the grant is that of a bind of this window, under this low byte, to a part of the region with this key
+abbrev pub is_grant_of_bind : Past → Grant → Slot → ℕ → Option QueueId → Key → ℕ → ℕ → Rights → Bool
+is_grant_of_bind past g slot low queue region address count rights =
+    not (count == 0)
+    && option_map_or (λ r. may_hold r address count rights && grant_eq g (grant_of_bind slot low queue r address count rights))
+      (region_with past slot.domain region) false
 
--- no grant in force has the key slot of this one
-abbrev pub IsAlone : List Grant → Grant → Type 0
-IsAlone grants g = list_any (λ h. key_slot_eq (key_slot_of h) (key_slot_of g)) grants ≡ false
+-- the grant is what this local operation of a queue pair asked for
+abbrev pub is_grant_of_operation : Past → Grant → QueueId → Posted → Bool
+is_grant_of_operation past g q p = by p.request.op
+  where
+    by : SendOp → Bool
+    by (ops.FastReg region low buffer address count rights pages) =
+      grant_eq g (grant_of_fast_registration (slot_beside q region) low buffer address count rights pages)
+    by (ops.Bind1 window region address count rights) =
+      option_map_or (λ low. is_grant_of_bind past g (slot_beside q window) low None region address count rights) p.drawn false
+    by (ops.Bind2 window region low address count rights) =
+      is_grant_of_bind past g (slot_beside q window) low (Some q) region address count rights
+    by op = false
 
--- a grant stands in the event of the verb that asked for it, and is then the only one of its key slot
-abbrev pub IsLicensed : Past → Mark → Type 0
-IsLicensed past (marks.Granted g) = HasLicense past past.at_hand.answered g × IsAlone past.grants g
-IsLicensed past mark = Unit {0}
+-- the grant is what the event at hand asked for
+abbrev pub is_grant_at_hand : Past → Grant → Bool
+is_grant_at_hand past g = by past.at_hand.event
+  where
+    by : Event → Bool
+    by (events.Verb by' verb) = option_map_or (is_grant_of_verb past g) past.at_hand.answered false
+    by (events.Request queue lot) = option_map_or (is_grant_of_operation past g queue) (operation_at_hand past) false
+    by event = false
 
--- a registration that was answered with a key has granted one
-abbrev pub HasGranted : Verb → Answer → Option Grant → Type 0
-HasGranted (verbs.RegMr slot buffer offset length rights) (answers.Key key) granted = IsSome granted
-HasGranted verb answer granted = Unit {0}
+-- a grant in force has this key, at this adapter
+abbrev pub grant_with : Past → ℕ → Key → Option Grant
+grant_with past adapter key = find (λ g. (g.domain.adapter == adapter) && key_eq g.key key) past.grants
 
--- the same of the verb of an event, if it has one
-abbrev pub HasGrant : Option Answered → Option Grant → Type 0
-HasGrant None granted = Unit {0}
-HasGrant (Some a) granted = HasGranted a.verb a.answer granted
+-- no other grant in force has the key slot of this one
+abbrev pub is_alone : Past → Grant → Bool
+is_alone past g = not (list_any (λ h. key_slot_eq (key_slot_of h) (key_slot_of g)) past.grants)
 
--- each grant is licensed, and each registration that was answered with a key has its grant
+-- the window's grant lies in this region's grant
+abbrev pub lies_in : Grant → Grant → Bool
+lies_in window region =
+    region.local && domain_eq region.domain window.domain && may_hold region window.address window.length window.rights
+    && pointwise run_eq window.runs (runs_at region window.address window.length)
+
+-- each window's grant in force lies in a region's grant in force
+abbrev pub windows_lie_in_regions : Past → Bool
+windows_lie_in_regions past = list_all (λ w. w.local || list_any (lies_in w) past.grants) past.grants
+
+-- a bound window lies in this region
+abbrev pub has_bound_window : Past → Grant → Bool
+has_bound_window past region =
+    list_any (λ w. not w.local && (w.domain.adapter == region.domain.adapter) && is_bound_to (past.way (key_slot_of w))) past.grants
+  where
+    is_bound_to : Way → Bool
+    is_bound_to (BindTo key) = key_eq key region.key
+    is_bound_to way = false
+
+-- the way is a fast registration
+abbrev pub is_fast : Way → Bool
+is_fast FastRegistration = true
+is_fast way = false
+
+-- a queue pair may invalidate this grant: of a region that was fast-registered and has no bound window (that others
+-- are left out is this profile's choice), or of a type 2 window that is bound through it
+abbrev pub may_invalidate : Past → QueueId → Grant → Bool
+may_invalidate past q g =
+    (g.local && is_fast (past.way (key_slot_of g)) && not (has_bound_window past g))
+    || (not g.local && option_eq queue_eq g.queue (Some q))
+
+-- the grant's key is that of this slot, by this index
+abbrev pub is_of_slot : Slot → ℕ → Grant → Bool
+is_of_slot slot index g = domain_eq g.domain slot.domain && (index_of g.key == index)
+
+-- this verb ends the grant: a deregistration or a deallocation of its slot
+abbrev pub ends_by_verb : Verb → Grant → Bool
+ends_by_verb (verbs.DeregMr slot) g = is_of_slot slot (region_index slot) g
+ends_by_verb (verbs.DeallocMw slot) g = is_of_slot slot (window_index slot) g
+ends_by_verb verb g = false
+
+-- this local operation of a queue pair ends the grant: a Local Invalidate of its key, or a bind of its type 1 window
+abbrev pub ends_by_operation : Past → Grant → QueueId → Posted → Bool
+ends_by_operation past g q p = by p.request.op
+  where
+    by : SendOp → Bool
+    by (ops.LocalInv key) = key_eq key g.key && domain_eq g.domain (domain_of q) && may_invalidate past q g
+    by (ops.Bind1 window region address count rights) =
+      is_of_slot (slot_beside q window) (window_index (slot_beside q window)) g && is_none g.queue
+    by op = false
+
+-- this packet ends the grant: it is the last of a SEND with Invalidate that names its key
+abbrev pub ends_by_packet : Past → Grant → QueueId → Fields → Bool
+ends_by_packet past g q p =
+    asks_invalidate p.opcode && option_eq (λ m n. m == n) p.ieth (Some g.key.0) && domain_eq g.domain (domain_of q) && may_invalidate past q g
+
+-- the packet that arrived in the event at hand ends the grant
+abbrev pub ends_by_arrival : Past → Grant → Bool
+ends_by_arrival past g =
+    option_map_or (λ a. option_map_or (ends_by_packet past g a.target) (packet_at past a.target a.index) false) past.at_hand.arrival false
+
+-- the event at hand ends the grant
+abbrev pub ends_at_hand : Past → Grant → Bool
+ends_at_hand past g = by past.at_hand.event || ends_by_arrival past g
+  where
+    by : Event → Bool
+    by (events.Verb by' verb) = ends_by_verb verb g
+    by (events.Request queue lot) = option_map_or (ends_by_operation past g queue) (operation_at_hand past) false
+    by event = false
+
+-- A Granted is what its event asked for, and then the only one of its key slot; a Revoked ends a grant in force, as its
+-- event may. At each point each window lies in a region.
+abbrev pub is_licensed : Past → Mark → Bool
+is_licensed past (marks.Granted g) =
+    is_grant_at_hand past g && is_alone past g && windows_lie_in_regions (after_mark (marks.Granted g) past)
+is_licensed past (marks.Revoked adapter key) =
+    option_map_or (ends_at_hand past) (grant_with past adapter key) false
+    && windows_lie_in_regions (after_mark (marks.Revoked adapter key) past)
+is_licensed past mark = true
+
+-- a key was revoked in the event at hand, at this adapter
+abbrev pub was_revoked : Past → ℕ → Key → Bool
+was_revoked past adapter key = list_any (λ r. (r.adapter == adapter) && key_eq r.key key) past.at_hand.revoked
+
+-- a grant of this slot that was in force as the event began was revoked in it
+abbrev pub slot_is_revoked : Past → Slot → ℕ → Bool
+slot_is_revoked past slot index =
+    list_all (λ g. not (is_of_slot slot index g) || was_revoked past g.domain.adapter g.key) past.at_hand.grants_before
+
+-- what was answered has its effect: a registration its grant, a deregistration and a deallocation the end of the grant
+abbrev pub is_effective : Past → Answered → Bool
+is_effective past a = by a.verb a.answer
+  where
+    by : Verb → Answer → Bool
+    by (verbs.RegMr slot buffer offset count rights) (answers.Key key) = list_any (λ g. key_eq g.key key) past.at_hand.granted
+    by (verbs.DeregMr slot) answers.Fine = slot_is_revoked past slot (region_index slot)
+    by (verbs.DeallocMw slot) answers.Fine = slot_is_revoked past slot (window_index slot)
+    by verb answer = true
+
+-- a Local Invalidate that was performed has ended its key
+abbrev pub operation_is_effective : Past → Posted → Bool
+operation_is_effective past p = by past.at_hand.event p.request.op
+  where
+    by : Event → SendOp → Bool
+    by (events.Request queue lot) (ops.LocalInv key) = was_revoked past queue.adapter key
+    by event op = true
+
+-- a receive that completed with an invalidated key has ended it
+abbrev pub completion_is_effective : Past → Completion → Bool
+completion_is_effective past c = option_map_or (was_revoked past c.queue.adapter) c.invalidated true
+
+-- the success of an invalidation stands in one event with its Revoked, and that of a registration with its Granted
+abbrev pub is_effective_at_end : Past → Bool
+is_effective_at_end past =
+    option_map_or (is_effective past) past.at_hand.answered true
+    && option_map_or (operation_is_effective past) (operation_performed past) true
+    && list_all (completion_is_effective past) past.at_hand.completed
+
+-- each grant and each end of one is licensed, and each success has its effect
+abbrev pub is_licensed_history : ByteMap → List EntryValue → Bool
+is_licensed_history bytes es = each_entry is_licensed is_effective_at_end (opening_past bytes) es
+
 abbrev pub Licensed : ByteMap → List EntryValue → Type 0
-Licensed bytes es = EachEntry IsLicensed (λ past. HasGrant past.at_hand.answered past.at_hand.granted) (opened bytes) es
+Licensed bytes es = IsTrue (is_licensed_history bytes es)

@@ -1,19 +1,35 @@
 -- What the entries and marks so far have left, for the relations that look back. Each relation on a history says of
--- each mark what it must be, given this record.
-use Rattle.std.specs.Prelude.{ℕ, suc, Bool, true, false, ◌&&◌, ◌==◌, if◌then◌else◌, List, [], ◌∷◌, length, Option, None, Some}
-use Rattle.std.specs.Int.{w64, to_le_bytes}
+-- each mark, or of each entry, what it must be, given this record. It knows no adapter. Contracts cite it.
+use Rattle.std.specs.Prelude.{ℕ, suc, ◌+◌, ◌-◌, ◌%◌, ◌^◌, Bool, true, false, not, ◌&&◌, ◌||◌, ◌==◌, if◌then◌else◌, List, [], ◌∷◌, ◌++◌, length, drop, filter, find, slice_get, Option, None, Some, is_some}
+use Rattle.std.specs.List.{list_any}
+use Rattle.std.specs.Option.{option_map, option_map_or, option_and_then}
 use Rattle.ca_base.specs.declared.access.Ask.{Ask}
 use Rattle.ca_base.specs.declared.access.Kind.{Kind}
-use Rattle.ca_base.specs.declared.access.Verdict.{Verdict}
-use Rattle.ca_base.specs.declared.access.Verdict.TheVariants as verdicts
+use Rattle.ca_base.specs.declared.access.Kind.TheVariants as kinds
+use Rattle.ca_base.specs.declared.access.Kind.TheVariants.{Write}
+use Rattle.ca_base.specs.declared.change.Change.{Change}
 use Rattle.ca_base.specs.declared.change.Change.TheVariants as changes
+use Rattle.ca_base.specs.declared.completion.Completion.{Completion}
+use Rattle.ca_base.specs.declared.completion.WcOp.{WcOp}
+use Rattle.ca_base.specs.declared.completion.WcOp.TheVariants as operations
+use Rattle.ca_base.specs.declared.completion.WcStatus.TheVariants.{Success}
 use Rattle.ca_base.specs.declared.grant.Grant.{Grant}
 use Rattle.ca_base.specs.declared.key.Key.{Key}
+use Rattle.ca_base.specs.declared.limits.TheConstants.{ATOMIC_BYTES}
 use Rattle.ca_base.specs.declared.names.DomainId.{DomainId}
 use Rattle.ca_base.specs.declared.names.QueueId.{QueueId}
-use Rattle.ca_base.specs.Equal.{queue_eq}
-use Rattle.ca_base.specs.Memory.{ByteMap, places_for, written}
-use Rattle.ca_base.specs.Numbers.{index_of, low_of, queue_of}
+use Rattle.ca_base.specs.declared.names.Slot.{Slot}
+use Rattle.ca_base.specs.declared.request.RecvRequest.{RecvRequest}
+use Rattle.ca_base.specs.declared.request.SendOp.{SendOp}
+use Rattle.ca_base.specs.declared.request.SendOp.TheVariants as ops
+use Rattle.ca_base.specs.declared.request.SendRequest.{SendRequest}
+use Rattle.ca_base.specs.declared.verdict.Verdict.{Verdict}
+use Rattle.ca_base.specs.declared.verdict.Verdict.TheVariants as verdicts
+use Rattle.ca_base.specs.Equal.{key_eq, queue_eq, slot_eq, operation_eq, status_eq}
+use Rattle.ca_base.specs.Grants.{next_low}
+use Rattle.ca_base.specs.Memory.{ByteMap, runs_for, memory_after, little_endian_bytes}
+use Rattle.ca_base.specs.Numbers.{index_of, low_of, queue_of, domain_of, window_index}
+use Rattle.ca_wire.specs.Packet.{Fields}
 use Rattle.ca_model.specs.declared.answer.Answer.{Answer}
 use Rattle.ca_model.specs.declared.answer.Answer.TheVariants as answers
 use Rattle.ca_model.specs.declared.event.Event.{Event}
@@ -23,17 +39,24 @@ use Rattle.ca_model.specs.declared.mark.Mark.TheVariants as marks
 use Rattle.ca_model.specs.declared.verb.Verb.{Verb}
 use Rattle.ca_model.specs.declared.verb.Verb.TheVariants as verbs
 use Rattle.ca_model.specs.Entries.{EntryValue}
-
--- a packet that was sent with an index, and whether it is lost
-pub record Envelope : Type 0 where
-  pub index : ℕ
-  pub bytes : List ℕ
-  pub lost : Bool
+use Rattle.ca_model.specs.Packets.{packet_of, asks_read}
+use Rattle.ca_model.specs.Requests.{is_local}
 
 -- a key slot: the adapter, and the key index there
 pub record KeySlot : Type 0 where
   pub adapter : ℕ
   pub index : ℕ
+
+-- a queue pair in one of its incarnations
+pub record Life : Type 0 where
+  pub queue : QueueId
+  pub incarnation : ℕ
+
+-- how a key came into force: by a registration, by a fast registration, or by a bind to the region with this key
+pub data Way : Type 0 where
+  Registration : Way
+  FastRegistration : Way
+  BindTo : Key → Way
 
 -- the WRITE that a queue pair performed last: its key, from where, for how many bytes it asked and how many it wrote
 pub record LatestWrite : Type 0 where
@@ -42,49 +65,130 @@ pub record LatestWrite : Type 0 where
   pub asked : ℕ
   pub wrote : ℕ
 
--- a verb that was answered
-pub record Answered : Type 0 where
-  pub verb : Verb
-  pub answer : Answer
-
--- bytes that are injected at a queue pair
-pub record Injected : Type 0 where
-  pub target : QueueId
+-- a packet that was sent with an index: by whom in which incarnation, of which request, its bytes, whether it is lost,
+-- and whether its target was reset or destroyed since
+pub record Envelope : Type 0 where
+  pub index : ℕ
+  pub source : Life
+  pub request : Option ℕ
   pub bytes : List ℕ
+  pub lost : Bool
+  pub cut : Bool
+
+-- a posted send request, the byte that it drew, and the PSN of its first packet, once that is sent
+pub record Posted : Type 0 where
+  pub request : SendRequest
+  pub drawn : Option ℕ
+  pub first_psn : Option ℕ
+
+-- a READ request that arrived: by which envelope, and what it asks for
+pub record ReadRequest : Type 0 where
+  pub envelope : Option ℕ
+  pub key : Key
+  pub address : ℕ
+  pub length : ℕ
+
+-- an Rtr that succeeded: whose, the peer that it named, the PSN that it expects and the path MTU
+pub record Naming : Type 0 where
+  pub own : Life
+  pub peer : Life
+  pub psn : ℕ
+  pub mtu : ℕ
+
+-- an Rts that succeeded: whose, and the PSN that it begins with
+pub record Start : Type 0 where
+  pub own : Life
+  pub psn : ℕ
+
+-- an atomic that acted: of which posted request, and the number that it found
+pub record Acted : Type 0 where
+  pub own : Life
+  pub place : ℕ
+  pub found : ℕ
+
+-- an atomic that completed with success: of which posted request, the bytes that its event put into its list, and the
+-- numbers that the atomics of this request found before
+pub record Succeeded : Type 0 where
+  pub own : Life
+  pub place : ℕ
+  pub put : List ℕ
+  pub found : List ℕ
 
 -- a packet that arrived: where, and by which index
 pub record Arrival : Type 0 where
   pub target : QueueId
   pub index : Option ℕ
 
+-- a verb that was answered
+pub record Answered : Type 0 where
+  pub verb : Verb
+  pub answer : Answer
+
+-- a key that was revoked, and at which adapter
+pub record RevokedKey : Type 0 where
+  pub adapter : ℕ
+  pub key : Key
+
 -- what the marks so far of one event have left
 pub record AtHand : Type 0 where
-  -- what the event injects
-  pub injected : Option Injected
-  -- the verb that was answered
+  pub event : Event
+  -- the grants in force as the event began
+  pub grants_before : List Grant
   pub answered : Option Answered
-  -- the packet that arrived
   pub arrival : Option Arrival
-  -- the key that came into force
-  pub granted : Option Grant
+  -- the keys that came into force and those that were revoked
+  pub granted : List Grant
+  pub revoked : List RevokedKey
+  -- whether a list was used, the bytes that were read from it and those that were put into it
+  pub used_list : Bool
+  pub read_locally : List ℕ
+  pub put_locally : List ℕ
+  -- the bytes that a READ gave
+  pub read_remotely : Option (List ℕ)
+  -- the packets that were sent
+  pub sent : List (List ℕ)
   -- targets of packets that were sent without an index, and are not yet lost
   pub pathless : List QueueId
+  pub completed : List Completion
 
 pub record Past : Type 0 where
+  -- how many entries there were
+  pub entries : ℕ
   -- the grants in force, the latest first
   pub grants : List Grant
   pub memory : ByteMap
-  -- the low byte of each key slot, as it was granted last
+  -- the low byte of each key slot, as it was granted last, and the byte of each window's key slot that was drawn last
   pub low : KeySlot → ℕ
+  pub drawn : KeySlot → ℕ
+  -- how the latest grant of a key slot came into force
+  pub way : KeySlot → Way
   -- how often a queue pair was created or reset
   pub incarnation : QueueId → ℕ
-  -- the peer that a queue pair named, and the incarnation of the peer, since it was created or reset
-  pub named : QueueId → Option (QueueId × ℕ)
-  -- the envelopes that were sent to a queue pair since it was created or reset, the latest first
-  pub sent : QueueId → List Envelope
-  -- how many envelopes a queue pair ever got
-  pub count : QueueId → ℕ
+  -- the Rtr of a queue pair, since it was created, reset or destroyed
+  pub naming : QueueId → Option Naming
+  -- the envelopes that were ever sent to a queue pair, the latest first
+  pub envelopes : QueueId → List Envelope
+  -- the latest remote write of a queue pair, where it was allowed
   pub latest_write : QueueId → Option LatestWrite
+  -- by queue pair and incarnation: the posted send requests and receives by place, how many local operations were
+  -- performed, the READ requests that arrived, the places of the latest send and receive that completed
+  pub posted : Life → List Posted
+  pub receives : Life → List RecvRequest
+  pub performed : Life → ℕ
+  pub read_requests : Life → List ReadRequest
+  pub last_send : Life → Option ℕ
+  pub last_receive : Life → Option ℕ
+  -- the receives of a shared receive queue by place, since it was created
+  pub shared : Slot → List RecvRequest
+  -- the completion queues of a queue pair, for sends and for receives, and the completions that wait in each
+  pub cqs : QueueId → Slot × Slot
+  pub waiting : Slot → List Completion
+  -- every Rtr, Rts and Inject that succeeded, every atomic that acted and every one that completed with success
+  pub namings : List Naming
+  pub starts : List Start
+  pub injected : List Life
+  pub acted : List Acted
+  pub succeeded : List Succeeded
   pub at_hand : AtHand
 
 -- f with another value at one place
@@ -94,9 +198,24 @@ with_at eq f a v x = if eq a x then v else f x
 abbrev pub key_slot_eq : KeySlot → KeySlot → Bool
 key_slot_eq a b = (a.adapter == b.adapter) && (a.index == b.index)
 
+abbrev pub life_eq : Life → Life → Bool
+life_eq a b = queue_eq a.queue b.queue && (a.incarnation == b.incarnation)
+
+-- the key slot of an adapter's key
+abbrev pub key_slot : ℕ → Key → KeySlot
+key_slot adapter key = record { adapter = adapter; index = index_of key }
+
 -- the key slot of a grant's key
 abbrev pub key_slot_of : Grant → KeySlot
-key_slot_of g = record { adapter = g.domain.adapter; index = index_of g.key }
+key_slot_of g = key_slot g.domain.adapter g.key
+
+-- the key slot of the window in a slot
+abbrev pub window_slot : Slot → KeySlot
+window_slot s = record { adapter = s.domain.adapter; index = window_index s }
+
+-- a slot of a queue pair's domain
+abbrev pub slot_beside : QueueId → ℕ → Slot
+slot_beside q slot = record { domain = domain_of q; slot = slot }
 
 -- the ask of a remote access
 abbrev pub remote_ask : QueueId → DomainId → Key → Kind → ℕ → ℕ → Ask
@@ -111,71 +230,333 @@ remote_ask queue domain key kind address length = record {
   touch = length;
 }
 
--- nothing yet of an event
-abbrev pub nothing_at_hand : AtHand
-nothing_at_hand = record { injected = None; answered = None; arrival = None; granted = None; pathless = [] }
+-- the ask of a local access, by an L_Key
+abbrev pub local_ask : QueueId → DomainId → Key → Kind → ℕ → ℕ → Ask
+local_ask queue domain key kind address length = record (remote_ask queue domain key kind address length) { local = true }
 
--- what an event injects
-abbrev pub injected_by : Event → Option Injected
-injected_by (events.Verb by (verbs.Inject queue bytes)) = Some (record { target = queue; bytes = bytes })
-injected_by event = None
+-- a queue pair in its present incarnation
+abbrev pub life_of : Past → QueueId → Life
+life_of past q = record { queue = q; incarnation = past.incarnation q }
+
+-- the path MTU of a queue pair, 0 before its Rtr
+abbrev pub mtu_of : Past → QueueId → ℕ
+mtu_of past q = option_map_or (λ n. n.mtu) (past.naming q) 0
+
+-- nothing yet of an event
+abbrev pub nothing_at_hand : Event → List Grant → AtHand
+nothing_at_hand event grants = record {
+  event = event;
+  grants_before = grants;
+  answered = None;
+  arrival = None;
+  granted = [];
+  revoked = [];
+  used_list = false;
+  read_locally = [];
+  put_locally = [];
+  read_remotely = None;
+  sent = [];
+  pathless = [];
+  completed = [];
+}
+
+-- an event that does nothing, for the record before the first
+abbrev pub no_event : Event
+no_event = events.RnrWake (record { adapter = 0; number = 0 })
 
 -- before any event, over these bytes
-abbrev pub opened : ByteMap → Past
-opened bytes = record {
+abbrev pub opening_past : ByteMap → Past
+opening_past bytes = record {
+  entries = 0;
   grants = [];
   memory = bytes;
   low = λ k. 0;
+  drawn = λ k. 0;
+  way = λ k. Registration;
   incarnation = λ q. 0;
-  named = λ q. None;
-  sent = λ q. [];
-  count = λ q. 0;
+  naming = λ q. None;
+  envelopes = λ q. [];
   latest_write = λ q. None;
-  at_hand = nothing_at_hand;
+  posted = λ l. [];
+  receives = λ l. [];
+  performed = λ l. 0;
+  read_requests = λ l. [];
+  last_send = λ l. None;
+  last_receive = λ l. None;
+  shared = λ s. [];
+  cqs = λ q. (slot_beside q 0, slot_beside q 0);
+  waiting = λ s. [];
+  namings = [];
+  starts = [];
+  injected = [];
+  acted = [];
+  succeeded = [];
+  at_hand = nothing_at_hand no_event [];
 }
 
 -- as an event begins
-abbrev pub begun : Event → Past → Past
-begun event past = record past { at_hand = record nothing_at_hand { injected = injected_by event } }
+abbrev pub at_begin : Event → Past → Past
+at_begin event past = record past { at_hand = nothing_at_hand event past.grants }
 
--- what an answered verb leaves: a queue pair that is created begins anew, and one that is made ready to receive has
--- named its peer
-abbrev pub after_verb : Verb → Answer → Past → Past
-after_verb (verbs.CreateQp slot send_cq recv_cq send_depth recv_depth srq) (answers.Queue number incarnation) past =
-    record past {
-      incarnation = with_at queue_eq past.incarnation (queue_of slot) (suc (past.incarnation (queue_of slot)));
-      named = with_at queue_eq past.named (queue_of slot) None;
-      sent = with_at queue_eq past.sent (queue_of slot) [];
-    }
-after_verb (verbs.ModifyQp slot (changes.Rtr peer incarnation psn mtu rnr_code)) answers.Fine past =
-    record past { named = with_at queue_eq past.named (queue_of slot) (Some (peer, incarnation)) }
-after_verb verb answer past = past
+-- the bytes that an event injects
+abbrev pub injected_bytes : Event → Option (List ℕ)
+injected_bytes (events.Verb by (verbs.Inject queue bytes)) = Some bytes
+injected_bytes event = None
 
--- what an access leaves: bytes that were written stand at the places of the grant that the ask went by
-abbrev pub after_access : Ask → Verdict → Past → Past
-after_access ask (verdicts.Read bytes) past = past
-after_access ask (verdicts.Wrote bytes) past = record past {
-  memory = written past.memory (places_for ask past.grants (length bytes)) bytes;
-  latest_write = with_at queue_eq past.latest_write ask.queue
-      (Some (record { key = ask.key; address = ask.address; asked = ask.length; wrote = length bytes }));
+-- the latest envelope of a queue pair with this index
+abbrev pub envelope_at : Past → QueueId → ℕ → Option Envelope
+envelope_at past q index = find (λ e. e.index == index) (past.envelopes q)
+
+-- the bytes of the packet that a mark names: of the latest envelope with its index, or without an index of the
+-- injection of its event
+abbrev pub packet_bytes_at : Past → QueueId → Option ℕ → Option (List ℕ)
+packet_bytes_at past q None = injected_bytes past.at_hand.event
+packet_bytes_at past q (Some index) = option_map (λ e. e.bytes) (envelope_at past q index)
+
+-- the packet that a mark names
+abbrev pub packet_at : Past → QueueId → Option ℕ → Option Fields
+packet_at past q index = option_and_then packet_of (packet_bytes_at past q index)
+
+-- the local operations among posted requests, in order
+abbrev pub local_operations : List Posted → List Posted
+local_operations posted = filter (λ p. is_local p.request.op) posted
+
+-- the local operation of a queue pair that is performed next: they are performed in posting order
+abbrev pub next_operation : Past → QueueId → Option Posted
+next_operation past q = slice_get (local_operations (past.posted (life_of past q))) (past.performed (life_of past q))
+
+-- the local operation that the event at hand may perform: that of the queue pair whose request it is
+abbrev pub operation_at_hand : Past → Option Posted
+operation_at_hand past = by past.at_hand.event
+  where
+    by : Event → Option Posted
+    by (events.Request queue lot) = next_operation past queue
+    by event = None
+
+-- a queue pair that begins a new incarnation, named by nobody
+abbrev pub with_new_life : QueueId → Past → Past
+with_new_life q past = record past {
+  incarnation = with_at queue_eq past.incarnation q (suc (past.incarnation q));
+  naming = with_at queue_eq past.naming q None;
 }
-after_access ask (verdicts.Swapped found put) past =
-    record past { memory = written past.memory (places_for ask past.grants 8) (to_le_bytes w64 put) }
-after_access ask (verdicts.Denied denial) past = past
 
--- the envelopes with the one of this index lost
-abbrev pub losing : ℕ → List Envelope → List Envelope
-losing index [] = []
-losing index (e ∷ es) = (if e.index == index then record e { lost = true } else e) ∷ losing index es
+-- a queue pair that was reset or destroyed: its envelopes are cut, and its completions that wait are removed
+abbrev pub with_queue_emptied : QueueId → Past → Past
+with_queue_emptied q past = record past {
+  naming = with_at queue_eq past.naming q None;
+  envelopes = with_at queue_eq past.envelopes q (map_cut (past.envelopes q));
+  waiting = λ s. filter (λ c. not (queue_eq c.queue q)) (past.waiting s);
+}
+  where
+    map_cut : List Envelope → List Envelope
+    map_cut [] = []
+    map_cut (e ∷ es) = record e { cut = true } ∷ map_cut es
+
+-- what a change of a queue pair's state leaves
+abbrev pub after_change : QueueId → Change → Past → Past
+after_change q changes.Reset past = with_new_life q (with_queue_emptied q past)
+after_change q changes.Init past = past
+after_change q (changes.Rtr peer incarnation psn mtu rnr_code) past = record past {
+  naming = with_at queue_eq past.naming q (Some (named past));
+  namings = named past ∷ past.namings;
+}
+  where
+    named : Past → Naming
+    named p = record { own = life_of p q; peer = record { queue = peer; incarnation = incarnation }; psn = psn; mtu = mtu }
+after_change q (changes.Rts psn retry rnr_retry reads) past =
+    record past { starts = record { own = life_of past q; psn = psn } ∷ past.starts }
+after_change q changes.Sqd past = past
+after_change q changes.Resume past = past
+after_change q changes.Error past = past
+
+-- what a request that was posted leaves: the byte that a bind of a type 1 window drew is the one after the last drawn
+abbrev pub after_post : QueueId → SendRequest → Option Key → Past → Past
+after_post q request None past = record past {
+  posted = with_at life_eq past.posted (life_of past q)
+      (past.posted (life_of past q) ++ record { request = request; drawn = None; first_psn = None } ∷ []);
+}
+after_post q request (Some key) past = record past {
+  posted = with_at life_eq past.posted (life_of past q)
+      (past.posted (life_of past q) ++ record { request = request; drawn = Some (byte past request.op); first_psn = None } ∷ []);
+  drawn = drawn_by request.op;
+}
+  where
+    byte : Past → SendOp → ℕ
+    byte p (ops.Bind1 window region address length rights) = next_low (p.drawn (window_slot (slot_beside q window)))
+    byte p op = 0
+
+    drawn_by : SendOp → KeySlot → ℕ
+    drawn_by (ops.Bind1 window region address length rights) =
+      with_at key_slot_eq past.drawn (window_slot (slot_beside q window)) (byte past (ops.Bind1 window region address length rights))
+    drawn_by op = past.drawn
+
+-- what an answered verb leaves; a verb that was refused leaves nothing
+abbrev pub after_verb : Verb → Answer → Past → Past
+after_verb (verbs.AllocPd domain) answer past = past
+after_verb (verbs.DeallocPd domain) answer past = past
+after_verb (verbs.RegMr slot buffer offset length rights) answer past = past
+after_verb (verbs.AllocMr slot pages) answer past = past
+after_verb (verbs.DeregMr slot) answer past = past
+after_verb (verbs.AllocMw slot kind) answer past = past
+after_verb (verbs.DeallocMw slot) answer past = past
+after_verb (verbs.CreateCq slot capacity) answers.Fine past = record past { waiting = with_at slot_eq past.waiting slot [] }
+after_verb (verbs.CreateCq slot capacity) answer past = past
+after_verb (verbs.DestroyCq slot) answer past = past
+after_verb (verbs.CreateSrq slot depth) answers.Fine past = record past { shared = with_at slot_eq past.shared slot [] }
+after_verb (verbs.CreateSrq slot depth) answer past = past
+after_verb (verbs.DestroySrq slot) answer past = past
+after_verb (verbs.CreateQp slot send_cq recv_cq send_depth recv_depth srq) (answers.Queue number incarnation) past =
+    with_new_life (queue_of slot) (record past {
+      cqs = with_at queue_eq past.cqs (queue_of slot)
+          (record { domain = slot.domain; slot = send_cq }, record { domain = slot.domain; slot = recv_cq });
+    })
+after_verb (verbs.CreateQp slot send_cq recv_cq send_depth recv_depth srq) answer past = past
+after_verb (verbs.ModifyQp slot change) answers.Fine past = after_change (queue_of slot) change past
+after_verb (verbs.ModifyQp slot change) answer past = past
+after_verb (verbs.QueryQp slot) answer past = past
+after_verb (verbs.DestroyQp slot) answers.Fine past = with_queue_emptied (queue_of slot) past
+after_verb (verbs.DestroyQp slot) answer past = past
+after_verb (verbs.PostSend slot request) (answers.Posted key) past = after_post (queue_of slot) request key past
+after_verb (verbs.PostSend slot request) answer past = past
+after_verb (verbs.PostRecv slot request) (answers.Posted key) past = record past {
+  receives = with_at life_eq past.receives (life_of past (queue_of slot)) (past.receives (life_of past (queue_of slot)) ++ request ∷ []);
+}
+after_verb (verbs.PostRecv slot request) answer past = past
+after_verb (verbs.PostSrq slot request) (answers.Posted key) past =
+    record past { shared = with_at slot_eq past.shared slot (past.shared slot ++ request ∷ []) }
+after_verb (verbs.PostSrq slot request) answer past = past
+after_verb (verbs.Poll slot n least) (answers.Polled completions) past =
+    record past { waiting = with_at slot_eq past.waiting slot (drop (length completions.items) (past.waiting slot)) }
+after_verb (verbs.Poll slot n least) answer past = past
+after_verb (verbs.Store adapter buffer offset bytes) answer past = past
+after_verb (verbs.Load adapter buffer offset length) answer past = past
+after_verb (verbs.Inject queue bytes) answers.Fine past = record past { injected = life_of past queue ∷ past.injected }
+after_verb (verbs.Inject queue bytes) answer past = past
+
+-- how a key comes into force in the event at hand: by the local operation that its request performs, or by a verb
+abbrev pub way_at_hand : Past → Way
+way_at_hand past = by (operation_at_hand past)
+  where
+    of : SendOp → Way
+    of (ops.Bind1 window region address length rights) = BindTo region
+    of (ops.Bind2 window region low address length rights) = BindTo region
+    of op = FastRegistration
+
+    by : Option Posted → Way
+    by None = Registration
+    by (Some p) = of p.request.op
+
+-- memory after the bytes of an access were written at the places of the grant that the ask went by
+abbrev pub memory_after_access : Past → Ask → Verdict → ByteMap
+memory_after_access past ask (verdicts.Wrote bytes) = memory_after past.memory (runs_for ask past.grants (length bytes)) bytes
+memory_after_access past ask (verdicts.Swapped found put) =
+    memory_after past.memory (runs_for ask past.grants ATOMIC_BYTES) (little_endian_bytes put)
+memory_after_access past ask verdict = past.memory
+
+-- the write that a later packet of its message goes on with; one that was denied leaves none
+abbrev pub latest_write_after : Ask → Verdict → Option LatestWrite → Option LatestWrite
+latest_write_after ask (verdicts.Wrote bytes) latest =
+    Some (record { key = ask.key; address = ask.address; asked = ask.length; wrote = length bytes })
+latest_write_after ask (verdicts.Denied denial) latest = by ask.kind
+  where
+    by : Kind → Option LatestWrite
+    by Write = None
+    by kind = latest
+latest_write_after ask verdict latest = latest
+
+-- the atomic that a Swapped mark tells of: it stems from the request that the Sent of its packet names
+abbrev pub acted_by : Past → QueueId → Option ℕ → ℕ → List Acted
+acted_by past q None found = []
+acted_by past q (Some index) found = option_map_or (λ e. by e.source e.request) (envelope_at past q index) []
+  where
+    by : Life → Option ℕ → List Acted
+    by source None = []
+    by source (Some place) = record { own = source; place = place; found = found } ∷ []
+
+-- the atomics that acted, after an access
+abbrev pub acted_after : Past → QueueId → Option ℕ → Verdict → List Acted
+acted_after past q envelope (verdicts.Swapped found put) = acted_by past q envelope found ++ past.acted
+acted_after past q envelope verdict = past.acted
+
+-- the bytes that a verdict tells of as read
+abbrev pub bytes_read : Verdict → Option (List ℕ)
+bytes_read (verdicts.Read bytes) = Some bytes
+bytes_read verdict = None
+
+-- the bytes that a verdict tells of as written
+abbrev pub bytes_written : Verdict → Option (List ℕ)
+bytes_written (verdicts.Wrote bytes) = Some bytes
+bytes_written verdict = None
+
+-- the bytes, or none
+abbrev pub or_none : Option (List ℕ) → List ℕ
+or_none bytes = option_map_or (λ b. b) bytes []
+
+-- what a remote access leaves
+abbrev pub after_remote : Ask → Option ℕ → Verdict → Past → Past
+after_remote ask envelope verdict past = record past {
+  memory = memory_after_access past ask verdict;
+  latest_write = with_at queue_eq past.latest_write ask.queue (latest_write_after ask verdict (past.latest_write ask.queue));
+  acted = acted_after past ask.queue envelope verdict;
+  at_hand = record past.at_hand { read_remotely = bytes_read verdict };
+}
+
+-- what a local access leaves
+abbrev pub after_local : Ask → Verdict → Past → Past
+after_local ask verdict past = record past {
+  memory = memory_after_access past ask verdict;
+  at_hand = record past.at_hand {
+    used_list = true;
+    read_locally = past.at_hand.read_locally ++ or_none (bytes_read verdict);
+    put_locally = past.at_hand.put_locally ++ or_none (bytes_written verdict);
+  };
+}
+
+-- posted requests, of which the one at this place was first sent at this PSN
+abbrev pub with_first_psn : ℕ → ℕ → List Posted → List Posted
+with_first_psn place psn [] = []
+with_first_psn place psn (p ∷ ps) =
+    if place == 0 then record p { first_psn = first p.first_psn } ∷ ps else p ∷ with_first_psn (place - 1) psn ps
+  where
+    first : Option ℕ → Option ℕ
+    first None = Some psn
+    first (Some n) = Some n
+
+-- posted requests after a packet of one of them was sent
+abbrev pub posted_after : Past → QueueId → Option ℕ → List ℕ → Life → List Posted
+posted_after past source None bytes = past.posted
+posted_after past source (Some place) bytes = option_map_or (λ p. at p.psn) (packet_of bytes) past.posted
+  where
+    at : ℕ → Life → List Posted
+    at psn = with_at life_eq past.posted (life_of past source) (with_first_psn place psn (past.posted (life_of past source)))
 
 -- what a packet that was sent leaves: an envelope where it has an index, and else the duty to be lost
-abbrev pub after_sent : QueueId → Option ℕ → List ℕ → Past → Past
-after_sent target (Some index) bytes past = record past {
-  sent = with_at queue_eq past.sent target (record { index = index; bytes = bytes; lost = false } ∷ past.sent target);
-  count = with_at queue_eq past.count target (suc (past.count target));
+abbrev pub after_sent : QueueId → QueueId → Option ℕ → Option ℕ → List ℕ → Past → Past
+after_sent source target index request bytes past = record past {
+  posted = posted_after past source request bytes;
+  envelopes = envelopes_after index;
+  at_hand = record past.at_hand { sent = past.at_hand.sent ++ bytes ∷ []; pathless = pathless_after index };
 }
-after_sent target None bytes past =
-    record past { at_hand = record past.at_hand { pathless = target ∷ past.at_hand.pathless } }
+  where
+    envelopes_after : Option ℕ → QueueId → List Envelope
+    envelopes_after None = past.envelopes
+    envelopes_after (Some i) = with_at queue_eq past.envelopes target (record {
+      index = i;
+      source = life_of past source;
+      request = request;
+      bytes = bytes;
+      lost = false;
+      cut = false;
+    } ∷ past.envelopes target)
+
+    pathless_after : Option ℕ → List QueueId
+    pathless_after None = target ∷ past.at_hand.pathless
+    pathless_after (Some i) = past.at_hand.pathless
+
+-- the envelopes with the one of this index lost
+abbrev pub with_lost : ℕ → List Envelope → List Envelope
+with_lost index [] = []
+with_lost index (e ∷ es) = (if e.index == index then record e { lost = true } else e) ∷ with_lost index es
 
 -- the targets without the first that is this one
 abbrev pub without : QueueId → List QueueId → List QueueId
@@ -185,9 +566,62 @@ without target (q ∷ qs) = if queue_eq target q then qs else q ∷ without targ
 -- what a loss leaves
 abbrev pub after_lost : QueueId → Option ℕ → Past → Past
 after_lost target (Some index) past =
-    record past { sent = with_at queue_eq past.sent target (losing index (past.sent target)) }
+    record past { envelopes = with_at queue_eq past.envelopes target (with_lost index (past.envelopes target)) }
 after_lost target None past =
     record past { at_hand = record past.at_hand { pathless = without target past.at_hand.pathless } }
+
+-- the READ request that a packet is, if it is one
+abbrev pub read_request_of : Option ℕ → Fields → List ReadRequest
+read_request_of envelope p = if asks_read p.opcode then option_map_or (λ r. request r.key r.address r.length) p.reth [] else []
+  where
+    request : Key → ℕ → ℕ → List ReadRequest
+    request key address length = record { envelope = envelope; key = key; address = address; length = length } ∷ []
+
+-- what a packet that arrived leaves
+abbrev pub after_arrival : QueueId → Option ℕ → Past → Past
+after_arrival target index past = record past {
+  read_requests = with_at life_eq past.read_requests (life_of past target)
+      (option_map_or (read_request_of index) (packet_at past target index) [] ++ past.read_requests (life_of past target));
+  at_hand = record past.at_hand { arrival = Some (record { target = target; index = index }) };
+}
+
+-- an atomic's operation
+abbrev pub is_atomic : WcOp → Bool
+is_atomic op = operation_eq op operations.CmpSwap || operation_eq op operations.FetchAdd
+
+-- the completion is of a send and a success
+abbrev pub is_send_success : Completion → Bool
+is_send_success c = not c.receive && status_eq c.status Success
+
+-- the numbers that the atomics of a posted request found so far
+abbrev pub found_of : Past → Life → ℕ → List ℕ
+found_of past own place = by past.acted
+  where
+    by : List Acted → List ℕ
+    by [] = []
+    by (a ∷ rest) = if life_eq a.own own && (a.place == place) then a.found ∷ by rest else by rest
+
+-- what a completion leaves: it waits in the completion queue of its side
+abbrev pub after_done : Completion → Past → Past
+after_done c past = record past {
+  last_send = if c.receive then past.last_send else with_at life_eq past.last_send (life_of past c.queue) (Some c.place);
+  last_receive = if c.receive then with_at life_eq past.last_receive (life_of past c.queue) (Some c.place) else past.last_receive;
+  waiting = with_at slot_eq past.waiting (cq c.receive) (past.waiting (cq c.receive) ++ c ∷ []);
+  succeeded = if is_send_success c && is_atomic c.op then success ∷ past.succeeded else past.succeeded;
+  at_hand = record past.at_hand { completed = past.at_hand.completed ++ c ∷ [] };
+}
+  where
+    cq : Bool → Slot
+    cq true = (past.cqs c.queue).1
+    cq false = (past.cqs c.queue).0
+
+    success : Succeeded
+    success = record {
+      own = life_of past c.queue;
+      place = c.place;
+      put = past.at_hand.put_locally;
+      found = found_of past (life_of past c.queue) c.place;
+    }
 
 -- what a mark leaves
 abbrev pub after_mark : Mark → Past → Past
@@ -198,35 +632,71 @@ after_mark (marks.Verb by verb answer) past =
 after_mark (marks.Granted g) past = record past {
   grants = g ∷ past.grants;
   low = with_at key_slot_eq past.low (key_slot_of g) (low_of g.key);
-  at_hand = record past.at_hand { granted = Some g };
+  way = with_at key_slot_eq past.way (key_slot_of g) (way_at_hand past);
+  at_hand = record past.at_hand { granted = g ∷ past.at_hand.granted };
+}
+after_mark (marks.Revoked adapter key) past = record past {
+  grants = filter (λ g. not ((g.domain.adapter == adapter) && key_eq g.key key)) past.grants;
+  at_hand = record past.at_hand { revoked = record { adapter = adapter; key = key } ∷ past.at_hand.revoked };
 }
 after_mark (marks.Remote queue domain envelope key kind address length verdict) past =
-    after_access (remote_ask queue domain key kind address length) verdict past
-after_mark (marks.Sent source target index request bytes) past = after_sent target index bytes past
+    after_remote (remote_ask queue domain key kind address length) envelope verdict past
+after_mark (marks.Local queue domain key kind address length verdict) past =
+    after_local (local_ask queue domain key kind address length) verdict past
+after_mark (marks.Stored place bytes) past = record past {
+  memory = memory_after past.memory
+      (record { adapter = place.adapter; buffer = place.buffer; offset = place.offset; length = length bytes } ∷ []) bytes;
+}
+after_mark (marks.Sent source target index request bytes) past = after_sent source target index request bytes past
 after_mark (marks.Lost target index) past = after_lost target index past
-after_mark (marks.Arrived target index) past =
-    record past { at_hand = record past.at_hand { arrival = Some (record { target = target; index = index }) } }
+after_mark (marks.Arrived target index) past = after_arrival target index past
+after_mark (marks.Dropped target cause) past = past
+after_mark (marks.Timer queue silent) past = past
+after_mark (marks.Done queue completion cause) past = after_done completion past
 
 abbrev pub after_marks : List Mark → Past → Past
 after_marks [] past = past
 after_marks (m ∷ ms) past = after_marks ms (after_mark m past)
 
+-- a completion that tells that the local operation at hand failed
+abbrev pub is_failure : Completion → Bool
+is_failure c = not c.receive && not (status_eq c.status Success)
+
+-- a local operation was performed in the event at hand: in a request's event in which nothing was sent and no list was
+-- used, unless a completion says that it failed
+abbrev pub operation_performed : Past → Option Posted
+operation_performed past =
+    if past.at_hand.used_list || is_some (slice_get past.at_hand.sent 0) || list_any is_failure past.at_hand.completed
+    then None else operation_at_hand past
+
+-- as an event ends: a local operation that it performed is done
+abbrev pub at_end : Past → Past
+at_end past = record past { entries = suc past.entries; performed = by past.at_hand.event }
+  where
+    by : Event → Life → ℕ
+    by (events.Request queue lot) =
+      if is_some (operation_performed past)
+      then with_at life_eq past.performed (life_of past queue) (suc (past.performed (life_of past queue)))
+      else past.performed
+    by event = past.performed
+
 -- what an entry leaves
 abbrev pub after_entry : EntryValue → Past → Past
-after_entry e past = after_marks e.marks (begun e.event past)
+after_entry e past = at_end (after_marks e.marks (at_begin e.event past))
 
 -- what a history leaves
 abbrev pub after_entries : List EntryValue → Past → Past
 after_entries [] past = past
 after_entries (e ∷ es) past = after_entries es (after_entry e past)
 
--- each mark has P, given what the marks before it have left
-abbrev pub EachMark : (Past → Mark → Type 0) → Past → List Mark → Type 0
-EachMark P past [] = Unit {0}
-EachMark P past (m ∷ ms) = P past m × EachMark P (after_mark m past) ms
+-- each mark passes the test, given what the marks before it have left
+abbrev pub each_mark : (Past → Mark → Bool) → Past → List Mark → Bool
+each_mark test past [] = true
+each_mark test past (m ∷ ms) = test past m && each_mark test (after_mark m past) ms
 
--- each mark of each entry has P, and what each entry leaves has Q
-abbrev pub EachEntry : (Past → Mark → Type 0) → (Past → Type 0) → Past → List EntryValue → Type 0
-EachEntry P Q past [] = Unit {0}
-EachEntry P Q past (e ∷ es) =
-    EachMark P (begun e.event past) e.marks × Q (after_entry e past) × EachEntry P Q (after_entry e past) es
+-- each mark of each entry passes the one test, and what all marks of each entry leave passes the other
+abbrev pub each_entry : (Past → Mark → Bool) → (Past → Bool) → Past → List EntryValue → Bool
+each_entry test ending past [] = true
+each_entry test ending past (e ∷ es) =
+    each_mark test (at_begin e.event past) e.marks && ending (after_marks e.marks (at_begin e.event past))
+    && each_entry test ending (after_entry e past) es

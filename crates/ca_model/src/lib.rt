@@ -1,7 +1,8 @@
 //! What happened at the adapters: verbs and turns, their answers and marks, and the history that lists them.
 //!
 //! To the layers above it promises types in which each event says what it did, and definitions that say of a finished
-//! history what each access, each grant and each packet in it must be. No definition looks at an adapter.
+//! history what each access, each grant, each packet, each atomic and each completion in it must be. No definition
+//! looks at an adapter.
 //!
 //! Source: InfiniBand Architecture Specification Volume 1, the chapters on the software transport interface and on
 //! the transport layer.
@@ -13,12 +14,14 @@ mod event;
 mod history;
 mod mark;
 mod marks;
+mod opening;
 mod verb;
 
 pub use answer::{Answer, Refusal};
 pub use entry::Entry;
 pub use event::Event;
 pub use history::History;
-pub use mark::Mark;
+pub use mark::{Drop1, Mark};
 pub use marks::Marks;
+pub use opening::{Contents, Opening};
 pub use verb::Verb;

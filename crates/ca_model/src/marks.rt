@@ -4,7 +4,7 @@ use std::alloc::Global;
 use std::marker::Model;
 
 /// The marks of an event, in order. Contracts see them as a list, beside the spare room for more.
-#[derive(Debug, Drop)]
+#[derive(Drop)]
 pub struct Marks {
     items: Vec<Mark>,
 }
@@ -20,7 +20,7 @@ impl Model for Marks {
 }
 
 impl Marks {
-    ghost use Rattle.std.specs.Prelude.{◌≡◌, ◌≤◌, ◌<◌, ◌+◌, [], ◌∷◌, ◌++◌, OnOk, OnErr};
+    ghost use Rattle.std.specs.Prelude.{◌≡◌, ◌≤◌, ◌<◌, ◌+◌, [], ◌∷◌, ◌++◌, length, OnOk, OnErr};
 
     /// No marks. It takes no memory; what is reserved later comes from `alloc`.
     pub fn empty(alloc: Global) -> Marks
@@ -47,6 +47,15 @@ impl Marks {
         ensures room { self.old.room ≤ self.new.room + 1 }
     {
         self.items.push(mark).unwrap()
+    }
+
+    /// Adds marks at the end, in the spare room. It takes no memory.
+    pub fn append(&mut self, mut more: Vec<Mark>)
+        requires { length more.items ≤ self.old.room }
+        ensures marks { self.new.marks ≡ self.old.marks ++ more.items }
+        ensures room { self.old.room ≤ self.new.room + length more.items }
+    {
+        self.items.append(&mut more).unwrap()
     }
 
     /// The marks in order.

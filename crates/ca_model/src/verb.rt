@@ -1,11 +1,13 @@
-use ca_base::{Bytes, Change, DomainId, Memory, QueueId, Rights, Slot};
-use std::alloc::Global;
+use ca_base::{Bytes, Change, DomainId, QueueId, RecvRequest, Rights, SendRequest, Slot};
 
-/// What a consumer asks of its adapter: a transport verb of the standard, or an injection.
-#[derive(Debug, Drop)]
+/// What a consumer asks of its adapter: a transport verb of the standard, an access of its host, or an injection.
+#[derive(Clone, Drop)]
 pub enum Verb {
     /// Allocates a protection domain.
     AllocPd {
+        domain: DomainId,
+    },
+    DeallocPd {
         domain: DomainId,
     },
     /// Registers `length` bytes of a buffer from `offset` on as a memory region.
@@ -16,10 +18,37 @@ pub enum Verb {
         length: u32,
         rights: Rights,
     },
+    /// Allocates a memory region of this many pages, free for fast registration.
+    AllocMr {
+        slot: Slot,
+        pages: u16,
+    },
+    DeregMr {
+        slot: Slot,
+    },
+    /// Allocates a memory window of type 1 or 2.
+    AllocMw {
+        slot: Slot,
+        kind: u8,
+    },
+    DeallocMw {
+        slot: Slot,
+    },
     /// Creates a completion queue for this many completions.
     CreateCq {
         slot: Slot,
         capacity: u16,
+    },
+    DestroyCq {
+        slot: Slot,
+    },
+    /// Creates a shared receive queue for this many receives.
+    CreateSrq {
+        slot: Slot,
+        depth: u16,
+    },
+    DestroySrq {
+        slot: Slot,
     },
     /// Creates a queue pair over completion queues and perhaps a shared receive queue of its own domain, by slot.
     CreateQp {
@@ -35,63 +64,53 @@ pub enum Verb {
         slot: Slot,
         change: Change,
     },
+    /// Asks for the state of a queue pair and how many places its queues occupy.
+    QueryQp {
+        slot: Slot,
+    },
+    DestroyQp {
+        slot: Slot,
+    },
+    /// Posts a request to a send queue.
+    PostSend {
+        slot: Slot,
+        request: SendRequest,
+    },
+    /// Posts a receive to a queue pair.
+    PostRecv {
+        slot: Slot,
+        request: RecvRequest,
+    },
+    /// Posts a receive to a shared receive queue.
+    PostSrq {
+        slot: Slot,
+        request: RecvRequest,
+    },
+    /// Takes at most `n` completions of a completion queue, once there are at least `least`.
+    Poll {
+        slot: Slot,
+        n: u8,
+        least: u8,
+    },
+    /// The host writes bytes of a buffer. Store and Load are no verbs of the standard: a consumer owns its host's
+    /// memory.
+    Store {
+        adapter: u8,
+        buffer: u16,
+        offset: u32,
+        bytes: Bytes,
+    },
+    /// The host reads bytes of a buffer.
+    Load {
+        adapter: u8,
+        buffer: u16,
+        offset: u32,
+        length: u32,
+    },
     /// Lets bytes arrive at a queue pair at once, as a packet that no envelope carried. It is no verb of the standard,
     /// but a way to try hostile packets (this profile's choice).
     Inject {
         queue: QueueId,
         bytes: Bytes,
     },
-}
-
-impl Verb {
-    ghost use Rattle.std.specs.Prelude.{◌≡◌, IfOk};
-
-    /// A copy of the verb.
-    pub fn copy(&self, alloc: Global) -> Result<Verb, Memory>
-        ensures { IfOk result (λ verb. verb ≡ self.now) }
-    {
-        Ok(match self {
-            Verb::AllocPd { domain } => Verb::AllocPd { domain: *domain },
-            Verb::RegMr {
-                slot,
-                buffer,
-                offset,
-                length,
-                rights,
-            } => Verb::RegMr {
-                slot: *slot,
-                buffer: *buffer,
-                offset: *offset,
-                length: *length,
-                rights: *rights,
-            },
-            Verb::CreateCq { slot, capacity } => Verb::CreateCq {
-                slot: *slot,
-                capacity: *capacity,
-            },
-            Verb::CreateQp {
-                slot,
-                send_cq,
-                recv_cq,
-                send_depth,
-                recv_depth,
-                srq,
-            } => Verb::CreateQp {
-                slot: *slot,
-                send_cq: *send_cq,
-                recv_cq: *recv_cq,
-                send_depth: *send_depth,
-                recv_depth: *recv_depth,
-                srq: *srq,
-            },
-            Verb::ModifyQp { slot, change } => Verb::ModifyQp {
-                slot: *slot,
-                change: *change,
-            },
-            Verb::Inject { queue, bytes } => Verb::Inject {
-                queue: *queue,
-                bytes: Bytes::copy_of(alloc, bytes.as_slice())?,
-            },
-        })
-    }
 }

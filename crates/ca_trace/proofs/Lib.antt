@@ -1,2 +1,1 @@
-pub mod ExampleTexts
-pub mod DigitLemmas
+pub mod TextLemmas

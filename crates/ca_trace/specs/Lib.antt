@@ -1,3 +1,5 @@
 pub mod Words
+pub mod Table
 pub mod Trace
-pub mod Printed
+pub mod TextView
+pub mod Text

@@ -1,23 +1,26 @@
--- Words: the kinds of word that a line is made of, and the one spelling of each.
+-- Words: the kinds of word that a line is made of, and the one spelling of each. Contracts cite it.
 use Rattle.std.specs.Prelude.{ℕ, List, [], ◌∷◌, ◌++◌, ◌||◌, map, Bool, true, false, if◌then◌else◌, Option, None, Some, codes, decimal}
-use Rattle.std.specs.Fmt.{digits}
-use Rattle.std.specs.Int.{Width, w32, to_be_bytes}
+use Rattle.std.specs.Int.{Width}
 use Rattle.std.specs.List.{flat_map}
 use Rattle.hex.specs.Hex.{encode_lower}
 use Rattle.ca_base.specs.declared.access.Denial.{Denial}
-use Rattle.ca_base.specs.declared.access.Denial.TheVariants as denials
 use Rattle.ca_base.specs.declared.access.Kind.{Kind}
-use Rattle.ca_base.specs.declared.access.Kind.TheVariants as kinds
+use Rattle.ca_base.specs.declared.change.State.{State}
+use Rattle.ca_base.specs.declared.completion.WcOp.{WcOp}
+use Rattle.ca_base.specs.declared.completion.WcStatus.{WcStatus}
 use Rattle.ca_base.specs.declared.key.Key.{Key}
 use Rattle.ca_base.specs.declared.lot.Lot.{Lot}
-use Rattle.ca_base.specs.declared.lot.Lot.TheVariants as lots
 use Rattle.ca_base.specs.declared.names.DomainId.{DomainId}
 use Rattle.ca_base.specs.declared.names.QueueId.{QueueId}
 use Rattle.ca_base.specs.declared.names.Slot.{Slot}
 use Rattle.ca_base.specs.declared.place.Run.{Run}
+use Rattle.ca_base.specs.declared.refusals.OpRefusal.{OpRefusal}
+use Rattle.ca_base.specs.declared.request.Piece.{Piece}
 use Rattle.ca_base.specs.declared.rights.Rights.{Rights}
+use Rattle.ca_base.specs.Spelling.{dash, perhaps, domain_text, slot_text, queue_text, key_text, address_text, run_text, piece_text, letter, rights_text, kind_text, denial_text, lot_text, state_text, operation_text, status_text, op_refusal_text}
 use Rattle.ca_model.specs.declared.answer.Refusal.{Refusal}
-use Rattle.ca_model.specs.declared.answer.Refusal.TheVariants as refusals
+use Rattle.ca_model.specs.declared.mark.Drop1.{Drop1}
+use Rattle.ca_model.specs.Answers.{refusal_text, drop_text}
 
 -- each word with its separator before it
 abbrev pub led : ℕ → List (List ℕ) → List ℕ
@@ -27,6 +30,43 @@ led separator ws = flat_map (λ w. separator ∷ w) ws
 abbrev pub joined : ℕ → List (List ℕ) → List ℕ
 joined separator [] = []
 joined separator (w ∷ ws) = w ++ led separator ws
+
+-- the words with commas between, or nothing
+abbrev pub commas : List (List ℕ) → List ℕ
+commas [] = dash
+commas (w ∷ ws) = joined 44 (w ∷ ws)
+
+-- two hexadecimal digits for each byte, or nothing
+abbrev pub hexadecimal : List ℕ → List ℕ
+hexadecimal [] = dash
+hexadecimal (b ∷ bs) = encode_lower (b ∷ bs)
+
+-- the queue pair, or any of the domain
+abbrev pub queues_text : Option QueueId → List ℕ
+queues_text None = codes "any"
+queues_text (Some q) = queue_text q
+
+-- a key that may be used as an L_Key is a region's, and another one is a window's
+abbrev pub object_text : Bool → List ℕ
+object_text true = codes "region"
+object_text false = codes "window"
+
+-- the side of a queue pair that a completion is of
+abbrev pub side_text : Bool → List ℕ
+side_text true = codes "recv"
+side_text false = codes "send"
+
+-- whether a timer was silent, or only hastened
+abbrev pub alarm_text : Bool → List ℕ
+alarm_text true = codes "silent"
+alarm_text false = codes "hasten"
+
+-- the letters of the flags of a request: s signalled, f fence, e solicited event
+abbrev pub flags_text : Bool → Bool → Bool → List ℕ
+flags_text signalled fence solicited =
+    if signalled || fence || solicited
+    then letter signalled (codes "s") ++ letter fence (codes "f") ++ letter solicited (codes "e")
+    else dash
 
 -- what a word of a line stands for
 pub data Field : Type 0 where
@@ -38,140 +78,70 @@ pub data Field : Type 0 where
   Lettered : ℕ → Width → ℕ → Field
   -- a number of this width, or none
   Perhaps : Width → Option ℕ → Field
-  -- a domain, A/D
+  -- an adapter and a number there of this width, as a buffer
+  InAdapter : ℕ → Width → ℕ → Field
   OfDomain : DomainId → Field
-  -- an object of a domain, A/D/S
   OfSlot : Slot → Field
-  -- a queue pair, A/N
   OfQueue : QueueId → Field
   -- any queue pair of the domain, or one
   OfQueues : Option QueueId → Field
   OfKey : Key → Field
+  PerhapsKey : Option Key → Field
   Address : ℕ → Field
   -- bytes in order
   Hex : List ℕ → Field
   OfRights : Rights → Field
+  -- signalled, fence, solicited
+  OfFlags : Bool → Bool → Bool → Field
+  OfPieces : List Piece → Field
+  OfPages : List ℕ → Field
   OfRuns : List Run → Field
   -- a region, or a window
   OfObject : Bool → Field
+  OfSide : Bool → Field
+  OfAlarm : Bool → Field
   OfKind : Kind → Field
   OfDenial : Denial → Field
   OfRefusal : Refusal → Field
   OfLot : Lot → Field
-
--- nothing is spelled `-`
-abbrev pub dash : List ℕ
-dash = codes "-"
-
--- an adapter and a number there, A/N
-abbrev pub in_adapter : ℕ → ℕ → List ℕ
-in_adapter adapter number = joined 47 (decimal adapter ∷ decimal number ∷ [])
-
--- A/D/S
-abbrev pub slot : Slot → List ℕ
-slot s = joined 47 (decimal s.domain.adapter ∷ decimal s.domain.domain ∷ decimal s.slot ∷ [])
-
--- A/N
-abbrev pub queue : QueueId → List ℕ
-queue q = in_adapter q.adapter q.number
-
--- eight hexadecimal digits
-abbrev pub key : Key → List ℕ
-key k = codes "0x" ++ encode_lower (to_be_bytes w32 k.0)
-
--- hexadecimal digits without leading zeros
-abbrev pub address : ℕ → List ℕ
-address at = codes "0x" ++ digits 16 false at
-
--- two hexadecimal digits for each byte, or nothing
-abbrev pub hexadecimal : List ℕ → List ℕ
-hexadecimal [] = dash
-hexadecimal (b ∷ bs) = encode_lower (b ∷ bs)
-
--- the number, or nothing
-abbrev pub perhaps : Option ℕ → List ℕ
-perhaps None = dash
-perhaps (Some n) = decimal n
-
--- the queue pair, or any of the domain
-abbrev pub queues : Option QueueId → List ℕ
-queues None = codes "any"
-queues (Some q) = queue q
-
--- the letter, where it holds
-abbrev pub letter : Bool → ℕ → List ℕ
-letter true c = c ∷ []
-letter false c = []
-
--- at least one right holds
-abbrev pub has_right : Rights → Bool
-has_right r = r.local_write || r.remote_read || r.remote_write || r.remote_atomic || r.window_bind
-
--- the letters of the rights, or nothing: l local write, r remote read, w remote write, a remote atomic, b window bind
-abbrev pub rights : Rights → List ℕ
-rights r =
-    if has_right r
-    then letter r.local_write 108 ++ letter r.remote_read 114 ++ letter r.remote_write 119 ++ letter r.remote_atomic 97 ++ letter r.window_bind 98
-    else dash
-
--- A/B:OFFSET+LENGTH
-abbrev pub run : Run → List ℕ
-run r = in_adapter r.adapter r.buffer ++ 58 ∷ decimal r.offset ++ 43 ∷ decimal r.length
-
--- runs with commas between, or nothing
-abbrev pub runs : List Run → List ℕ
-runs [] = dash
-runs (r ∷ rs) = joined 44 (map run (r ∷ rs))
-
--- a key that may be used as an L_Key is a region's, and another one is a window's
-abbrev pub object : Bool → List ℕ
-object true = codes "region"
-object false = codes "window"
-
--- what an access does to memory
-abbrev pub kind : Kind → List ℕ
-kind kinds.Read = codes "read"
-kind kinds.Write = codes "write"
-kind kinds.CmpSwap = codes "cas"
-kind kinds.FetchAdd = codes "add"
-
--- the part of the key check that failed
-abbrev pub denial : Denial → List ℕ
-denial denials.NoGrant = codes "no-grant"
-denial denials.WrongQueue = codes "wrong-queue"
-denial denials.NoRight = codes "no-right"
-denial denials.OutOfRange = codes "out-of-range"
-
--- why a verb is refused
-abbrev pub refusal : Refusal → List ℕ
-refusal refusals.Empty = codes "empty"
-refusal refusals.OutsideBuffer = codes "outside-buffer"
-refusal refusals.RightsNeedLocalWrite = codes "rights-need-local-write"
-
--- what the weather does to a packet
-abbrev pub lot : Lot → List ℕ
-lot lots.Pass = codes "pass"
+  OfState : State → Field
+  OfOperation : WcOp → Field
+  OfStatus : WcStatus → Field
+  OfCause : Option OpRefusal → Field
+  OfDrop : Drop1 → Field
 
 -- the one spelling of a word
 abbrev pub word : Field → List ℕ
 word (Fixed text) = text
 word (Number width n) = decimal n
 word (Lettered c width n) = c ∷ decimal n
-word (Perhaps width n) = perhaps n
-word (OfDomain d) = in_adapter d.adapter d.domain
-word (OfSlot s) = slot s
-word (OfQueue q) = queue q
-word (OfQueues q) = queues q
-word (OfKey k) = key k
-word (Address at) = address at
+word (Perhaps width n) = perhaps decimal n
+word (InAdapter adapter width n) = decimal adapter ++ codes "/" ++ decimal n
+word (OfDomain d) = domain_text d
+word (OfSlot s) = slot_text s
+word (OfQueue q) = queue_text q
+word (OfQueues q) = queues_text q
+word (OfKey k) = key_text k
+word (PerhapsKey k) = perhaps key_text k
+word (Address at) = address_text at
 word (Hex bytes) = hexadecimal bytes
-word (OfRights r) = rights r
-word (OfRuns rs) = runs rs
-word (OfObject local) = object local
-word (OfKind k) = kind k
-word (OfDenial d) = denial d
-word (OfRefusal r) = refusal r
-word (OfLot l) = lot l
+word (OfRights r) = rights_text r
+word (OfFlags signalled fence solicited) = flags_text signalled fence solicited
+word (OfPieces list) = commas (map piece_text list)
+word (OfPages pages) = commas (map decimal pages)
+word (OfRuns runs) = commas (map run_text runs)
+word (OfObject local) = object_text local
+word (OfSide receive) = side_text receive
+word (OfAlarm silent) = alarm_text silent
+word (OfKind kind) = kind_text kind
+word (OfDenial denial) = denial_text denial
+word (OfRefusal refusal) = refusal_text refusal
+word (OfLot lot) = lot_text lot
+word (OfState state) = state_text state
+word (OfOperation operation) = operation_text operation
+word (OfStatus status) = status_text status
+word (OfCause cause) = perhaps op_refusal_text cause
+word (OfDrop cause) = drop_text cause
 
 -- the words of a line
 abbrev pub words : List Field → List (List ℕ)

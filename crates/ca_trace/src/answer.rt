@@ -1,39 +1,85 @@
-ghost use Rattle.std.specs.Prelude.{◌≡◌, ◌++◌, OnOk};
+ghost use Rattle.std.specs.Prelude.{◌≡◌, ◌++◌, ◌∷◌, OnOk};
+ghost use Rattle.std.specs.List.{flat_map};
 ghost use Rattle.ca_trace.specs.Words.{led, words};
-ghost use Rattle.ca_trace.specs.Trace.{told_words};
+ghost use Rattle.ca_trace.specs.Table.{completion_words, told_words};
+ghost use Rattle.ca_trace.specs.Trace.{got_line, got_lines};
 
-use crate::names::refusal_name;
-use crate::word::{Word, put_words};
-use ca_base::Memory;
+use crate::text::Text;
+use crate::words::side;
+use ca_base::{Completion, Memory, Perhaps};
 use ca_model::Answer;
 
-/// Writes what a verb answered, as it stands behind the call.
-pub fn put_answer(out: &mut Vec<u8>, answer: Answer) -> Result<(), Memory>
-    ensures { OnOk result (out.new.items ≡ out.old.items ++ led 32 (words (told_words answer))) }
+/// Adds what a verb answered, as it stands behind the call, each word after a space.
+pub fn put_answer(text: &mut Text, answer: &Answer) -> Result<(), Memory>
+    ensures ok { OnOk result (text.new.added ≡ text.old.added ++ led 32 (words (told_words answer.now))) }
+    ensures same { text.new.before ≡ text.old.before }
 {
-    let arrow = Word::Fixed("->");
     match answer {
-        Answer::Fine => put_words(out, &[arrow, Word::Fixed("ok")]),
-        Answer::Key(key) => put_words(out, &[arrow, Word::Fixed("key"), Word::Key(key)]),
+        Answer::Fine => text.put(" -> ok"),
+        Answer::Key(key) => text.put(format_args!(" -> key {key}")),
         Answer::Queue {
             number,
             incarnation,
-        } => put_words(
-            out,
-            &[
-                arrow,
-                Word::Fixed("qp"),
-                Word::Number(u64::from(number)),
-                Word::Number(u64::from(incarnation)),
-            ],
-        ),
-        Answer::Refused(refusal) => put_words(
-            out,
-            &[
-                arrow,
-                Word::Fixed("refused"),
-                Word::Fixed(refusal_name(refusal)),
-            ],
-        ),
+        } => text.put(format_args!(" -> qp {number} {incarnation}")),
+        Answer::Posted(key) => {
+            let key = Perhaps(*key);
+            text.put(format_args!(" -> posted {key}"))
+        }
+        Answer::Polled(completions) => {
+            let count = completions.len();
+            text.put(format_args!(" -> polled {count}"))
+        }
+        Answer::Query {
+            state,
+            incarnation,
+            sends,
+            receives,
+        } => text.put(format_args!(" -> state {state} {incarnation} {sends} {receives}")),
+        Answer::Loaded(bytes) => {
+            text.put(" -> bytes ")?;
+            text.put_hex(bytes.as_slice())
+        }
+        Answer::Refused(refusal) => text.put(format_args!(" -> refused {refusal}")),
     }
+}
+
+/// Adds the lines of the completions that an answer gave.
+pub fn put_got_lines(text: &mut Text, answer: &Answer) -> Result<(), Memory>
+    ensures ok { OnOk result (text.new.added ≡ text.old.added ++ got_lines answer.now) }
+    ensures same { text.new.before ≡ text.old.before }
+{
+    match answer {
+        Answer::Polled(completions) => put_got(text, completions.as_slice()),
+        _ => Ok(()),
+    }
+}
+
+fn put_got(text: &mut Text, completions: &[Completion]) -> Result<(), Memory>
+    ensures ok { OnOk result (text.new.added ≡ text.old.added ++ flat_map got_line completions.now) }
+    ensures same { text.new.before ≡ text.old.before }
+{
+    for completion in completions {
+        text.put(" got")?;
+        put_completion(text, completion)?;
+        text.put("\n")?;
+    }
+    Ok(())
+}
+
+/// Adds the words of a completion, each after a space.
+pub fn put_completion(text: &mut Text, completion: &Completion) -> Result<(), Memory>
+    ensures ok { OnOk result (text.new.added ≡ text.old.added ++ led 32 (words (completion_words completion.now))) }
+    ensures same { text.new.before ≡ text.old.before }
+{
+    let queue = completion.queue;
+    let side = side(completion.receive);
+    let place = completion.place;
+    let id = completion.id;
+    let op = completion.op;
+    text.put(format_args!(" {queue} {side} {place} {id} {op}"))?;
+    let status = completion.status;
+    let bytes = completion.bytes;
+    let imm = Perhaps(completion.imm);
+    let key = Perhaps(completion.invalidated);
+    text.put(format_args!(" {status} {bytes} {imm} {key}"))
 }

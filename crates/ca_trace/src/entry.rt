@@ -2,75 +2,133 @@ ghost use Rattle.std.specs.Prelude.{◌≡◌, ◌∷◌, [], ◌++◌, OnOk, On
 ghost use Rattle.std.specs.List.{flat_map};
 ghost use Rattle.ca_model.specs.Entries.{entry_of};
 ghost use Rattle.ca_trace.specs.Words.{joined, words};
-ghost use Rattle.ca_trace.specs.Printed.{marks_text};
-ghost use Rattle.ca_trace.specs.Trace.{entry_text, event_words, mark_text};
+ghost use Rattle.ca_trace.specs.Table.{event_words};
+ghost use Rattle.ca_trace.specs.Trace.{entry_text, marks_text, mark_text, reply_text};
 
-use crate::answer::put_answer;
-use crate::call::put_call;
+use crate::answer::{put_answer, put_got_lines};
 use crate::mark::put_mark;
-use crate::names::lot_name;
-use crate::word::{Word, put_word, put_words};
+use crate::text::Text;
+use crate::verb::put_call;
+use crate::words::alarm;
 use ca_base::Memory;
 use ca_model::{Entry, Event, Mark};
-use std::alloc::Global;
+use std::mem;
 
 /// Appends the lines of an entry, each with its line feed. `Memory` leaves the output as it was.
-pub fn print(alloc: Global, e: &Entry, out: &mut Vec<u8>) -> Result<(), Memory>
+pub fn print(e: &Entry, out: &mut Vec<u8>) -> Result<(), Memory>
     ensures ok { OnOk result (out.new.items ≡ out.old.items ++ entry_text (entry_of e.now)) }
     ensures err { OnErr result (out.new.items ≡ out.old.items) }
 {
-    let mut text = Vec::new(alloc);
-    put_entry(&mut text, e)?;
-    out.extend_from_slice(&text)?;
-    Ok(())
-}
-
-fn put_entry(out: &mut Vec<u8>, e: &Entry) -> Result<(), Memory>
-    ensures { OnOk result (out.new.items ≡ out.old.items ++ entry_text (entry_of e.now)) }
-{
-    put_word(out, Word::Lettered(b'@', e.stamp))?;
-    put_words(out, &[Word::Lettered(b'p', u64::from(e.pass))])?;
-    out.push(b' ')?;
-    put_event(out, &e.event)?;
-    put_marks(out, e.marks.as_slice())
-}
-
-fn put_event(out: &mut Vec<u8>, event: &Event) -> Result<(), Memory>
-    ensures { OnOk result (out.new.items ≡ out.old.items ++ joined 32 (words (event_words event.now))) }
-{
-    match event {
-        Event::Verb { by, verb } => put_call(out, *by, verb),
-        Event::Respond { queue, lot } => {
-            put_word(out, Word::Fixed("respond"))?;
-            put_words(out, &[Word::Queue(*queue), Word::Fixed(lot_name(*lot))])
+    let alloc = *out.allocator();
+    let mut text = Text::behind(mem::replace(out, Vec::new(alloc)));
+    match put_entry(&mut text, e) {
+        Ok(()) => {
+            *out = text.into_vec();
+            Ok(())
+        }
+        Err(memory) => {
+            *out = text.undo();
+            Err(memory)
         }
     }
 }
 
-/// Writes what stands behind the words of the event: the answer, where one is in front, and the other marks.
-fn put_marks(out: &mut Vec<u8>, marks: &[Mark]) -> Result<(), Memory>
-    ensures { OnOk result (out.new.items ≡ out.old.items ++ marks_text marks.now) }
+/// Appends a reply: a verb's answer with its call and the completions that it gave, and any other mark as its line, each
+/// line with its line feed. `Memory` leaves the output as it was.
+pub fn print_reply(m: &Mark, out: &mut Vec<u8>) -> Result<(), Memory>
+    ensures ok { OnOk result (out.new.items ≡ out.old.items ++ reply_text m.now) }
+    ensures err { OnErr result (out.new.items ≡ out.old.items) }
 {
-    match marks {
-        [] => put_lines(out, marks),
-        [first, others @ ..] => match first {
-            Mark::Verb { answer, .. } => {
-                put_answer(out, *answer)?;
-                put_lines(out, others)
-            }
-            _ => put_lines(out, marks),
-        },
+    let alloc = *out.allocator();
+    let mut text = Text::behind(mem::replace(out, Vec::new(alloc)));
+    match put_reply(&mut text, m) {
+        Ok(()) => {
+            *out = text.into_vec();
+            Ok(())
+        }
+        Err(memory) => {
+            *out = text.undo();
+            Err(memory)
+        }
     }
 }
 
-/// Ends the line, and writes a line for each of the marks.
-fn put_lines(out: &mut Vec<u8>, marks: &[Mark]) -> Result<(), Memory>
-    ensures { OnOk result (out.new.items ≡ out.old.items ++ 10 ∷ flat_map mark_text marks.now) }
+fn put_reply(text: &mut Text, m: &Mark) -> Result<(), Memory>
+    ensures ok { OnOk result (text.new.added ≡ text.old.added ++ reply_text m.now) }
+    ensures same { text.new.before ≡ text.old.before }
 {
-    out.push(b'\n')?;
+    match m {
+        Mark::Verb { by, verb, answer } => {
+            put_call(text, *by, verb)?;
+            put_answer(text, answer)?;
+            text.put("\n")?;
+            put_got_lines(text, answer)
+        }
+        _ => put_mark_line(text, m),
+    }
+}
+
+fn put_entry(text: &mut Text, e: &Entry) -> Result<(), Memory>
+    ensures ok { OnOk result (text.new.added ≡ text.old.added ++ entry_text (entry_of e.now)) }
+    ensures same { text.new.before ≡ text.old.before }
+{
+    let stamp = e.stamp;
+    let pass = e.pass;
+    text.put(format_args!("@{stamp} p{pass} "))?;
+    put_event(text, &e.event)?;
+    put_marks(text, e.marks.as_slice())
+}
+
+fn put_event(text: &mut Text, event: &Event) -> Result<(), Memory>
+    ensures ok { OnOk result (text.new.added ≡ text.old.added ++ joined 32 (words (event_words event.now))) }
+    ensures same { text.new.before ≡ text.old.before }
+{
+    match event {
+        Event::Verb { by, verb } => put_call(text, *by, verb),
+        Event::Request { queue, lot } => text.put(format_args!("request {queue} {lot}")),
+        Event::Deliver { queue, index } => text.put(format_args!("deliver {queue} {index}")),
+        Event::Respond { queue, lot } => text.put(format_args!("respond {queue} {lot}")),
+        Event::Timeout { queue, hasten } => {
+            let alarm = alarm(!*hasten);
+            text.put(format_args!("timeout {queue} {alarm}"))
+        }
+        Event::RnrWake { queue } => text.put(format_args!("wake {queue}")),
+    }
+}
+
+/// Adds what stands behind the words of the event: the answer, where one is in front, and the other marks.
+fn put_marks(text: &mut Text, marks: &[Mark]) -> Result<(), Memory>
+    ensures ok { OnOk result (text.new.added ≡ text.old.added ++ marks_text marks.now) }
+    ensures same { text.new.before ≡ text.old.before }
+{
+    match marks {
+        [Mark::Verb { answer, .. }, others @ ..] => {
+            put_answer(text, answer)?;
+            text.put("\n")?;
+            put_got_lines(text, answer)?;
+            put_mark_lines(text, others)
+        }
+        _ => {
+            text.put("\n")?;
+            put_mark_lines(text, marks)
+        }
+    }
+}
+
+fn put_mark_lines(text: &mut Text, marks: &[Mark]) -> Result<(), Memory>
+    ensures ok { OnOk result (text.new.added ≡ text.old.added ++ flat_map mark_text marks.now) }
+    ensures same { text.new.before ≡ text.old.before }
+{
     for mark in marks {
-        put_mark(out, mark)?;
-        out.push(b'\n')?;
+        put_mark_line(text, mark)?;
     }
     Ok(())
+}
+
+fn put_mark_line(text: &mut Text, mark: &Mark) -> Result<(), Memory>
+    ensures ok { OnOk result (text.new.added ≡ text.old.added ++ mark_text mark.now) }
+    ensures same { text.new.before ≡ text.old.before }
+{
+    put_mark(text, mark)?;
+    text.put("\n")
 }

@@ -2,19 +2,19 @@ ghost use Rattle.std.specs.Prelude.{◌≡◌, ◌++◌, length, take, OnOk, OnE
 ghost use Rattle.ca_trace.specs.Trace.{end_text, text};
 
 use crate::entry::print;
-use crate::word::{Word, put_word, put_words};
+use crate::text::Text;
 use ca_base::Memory;
 use ca_model::History;
-use std::alloc::Global;
+use std::mem;
 
 /// Appends the text of a history: the lines of all entries in order, and the line that tells how many there are.
 /// `Memory` leaves the output as it was.
-pub fn print_history(alloc: Global, h: &History, out: &mut Vec<u8>) -> Result<(), Memory>
+pub fn print_history(h: &History, out: &mut Vec<u8>) -> Result<(), Memory>
     ensures ok { OnOk result (out.new.items ≡ out.old.items ++ text h.now) }
     ensures err { OnErr result (out.new.items ≡ out.old.items) }
 {
     let before = out.len();
-    match put_history(alloc, h, out) {
+    match put_history(h, out) {
         Ok(()) => Ok(()),
         Err(memory) => {
             out.truncate(before);
@@ -23,25 +23,31 @@ pub fn print_history(alloc: Global, h: &History, out: &mut Vec<u8>) -> Result<()
     }
 }
 
-fn put_history(alloc: Global, h: &History, out: &mut Vec<u8>) -> Result<(), Memory>
+fn put_history(h: &History, out: &mut Vec<u8>) -> Result<(), Memory>
     ensures ok { OnOk result (out.new.items ≡ out.old.items ++ text h.now) }
     ensures front { OnErr result (take (length out.old.items) out.new.items ≡ out.old.items) }
 {
     let entries = h.as_slice();
     for entry in entries {
-        print(alloc, entry, out)?;
+        print(entry, out)?;
     }
-    print_end(alloc, entries.len(), out)
+    print_end(entries.len(), out)
 }
 
-fn print_end(alloc: Global, count: usize, out: &mut Vec<u8>) -> Result<(), Memory>
+fn print_end(count: usize, out: &mut Vec<u8>) -> Result<(), Memory>
     ensures ok { OnOk result (out.new.items ≡ out.old.items ++ end_text count) }
     ensures err { OnErr result (out.new.items ≡ out.old.items) }
 {
-    let mut text = Vec::new(alloc);
-    put_word(&mut text, Word::Fixed("end"))?;
-    put_words(&mut text, &[Word::Number(count as u64)])?;
-    text.push(b'\n')?;
-    out.extend_from_slice(&text)?;
-    Ok(())
+    let alloc = *out.allocator();
+    let mut text = Text::behind(mem::replace(out, Vec::new(alloc)));
+    match text.put(format_args!("end {count}\n")) {
+        Ok(()) => {
+            *out = text.into_vec();
+            Ok(())
+        }
+        Err(memory) => {
+            *out = text.undo();
+            Err(memory)
+        }
+    }
 }

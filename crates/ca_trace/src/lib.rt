@@ -8,17 +8,14 @@
 #![tactic(auto)]
 
 mod answer;
-mod call;
 mod entry;
 mod history;
 mod mark;
-mod names;
-mod spelling;
-mod word;
+mod post;
+mod text;
+mod verb;
+mod words;
 
-pub use call::print_call;
-pub use entry::print;
+pub use entry::{print, print_reply};
 pub use history::print_history;
-
-#[cfg(test)]
-mod tests;
+pub use verb::print_call;

@@ -1,20 +1,24 @@
-ghost use Rattle.std.specs.Prelude.{◌≡◌, ◌++◌, OnOk};
-ghost use Rattle.ca_trace.specs.Words.{led, words};
-ghost use Rattle.ca_trace.specs.Trace.{mark_words, verdict_words, granted_words};
+ghost use Rattle.std.specs.Prelude.{◌≡◌, [], ◌∷◌, ◌++◌, codes, OnOk};
+ghost use Rattle.std.specs.Int.{w32};
+ghost use Rattle.ca_trace.specs.Words as fields;
+ghost use Rattle.ca_trace.specs.Words.{Fixed, OfDomain, OfKey, OfKind, OfQueue, Number, led, words};
+ghost use Rattle.ca_trace.specs.Table.{mark_words, verdict_words, granted_words};
 
-use crate::answer::put_answer;
-use crate::names::{denial_name, kind_name, object_name};
-use crate::word::{Word, put_words};
-use ca_base::{Grant, Memory, Verdict};
+use crate::answer::{put_answer, put_completion};
+use crate::text::Text;
+use crate::words::{Queues, alarm, object};
+use ca_base::{Address, DomainId, Grant, Key, Kind, Memory, Perhaps, QueueId, Verdict};
 use ca_model::Mark;
 
-/// Writes the words of a mark, each after a space.
-pub fn put_mark(out: &mut Vec<u8>, mark: &Mark) -> Result<(), Memory>
-    ensures { OnOk result (out.new.items ≡ out.old.items ++ led 32 (words (mark_words mark.now))) }
+/// Adds the words of a mark, each after a space.
+pub fn put_mark(text: &mut Text, mark: &Mark) -> Result<(), Memory>
+    ensures ok { OnOk result (text.new.added ≡ text.old.added ++ led 32 (words (mark_words mark.now))) }
+    ensures same { text.new.before ≡ text.old.before }
 {
     match mark {
-        Mark::Verb { answer, .. } => put_answer(out, *answer),
-        Mark::Granted(grant) => put_grant(out, grant),
+        Mark::Verb { answer, .. } => put_answer(text, answer),
+        Mark::Granted(grant) => put_grant(text, grant),
+        Mark::Revoked { adapter, key } => text.put(format_args!(" revoked {adapter} {key}")),
         Mark::Remote {
             queue,
             domain,
@@ -25,20 +29,28 @@ pub fn put_mark(out: &mut Vec<u8>, mark: &Mark) -> Result<(), Memory>
             length,
             verdict,
         } => {
-            put_words(
-                out,
-                &[
-                    Word::Fixed("remote"),
-                    Word::Queue(*queue),
-                    Word::Domain(*domain),
-                    Word::Perhaps(*envelope),
-                    Word::Key(*key),
-                    Word::Fixed(kind_name(*kind)),
-                    Word::Address(*address),
-                    Word::Number(u64::from(*length)),
-                ],
-            )?;
-            put_verdict(out, verdict)
+            let envelope = Perhaps(*envelope);
+            text.put(format_args!(" remote {queue} {domain} {envelope} {key}"))?;
+            put_access(text, *kind, *address, *length, verdict)
+        }
+        Mark::Local {
+            queue,
+            domain,
+            key,
+            kind,
+            address,
+            length,
+            verdict,
+        } => {
+            put_local(text, *queue, *domain, *key)?;
+            put_access(text, *kind, *address, *length, verdict)
+        }
+        Mark::Stored { place, bytes } => {
+            let adapter = place.adapter;
+            let buffer = place.buffer;
+            let offset = place.offset;
+            text.put(format_args!(" stored {adapter}/{buffer} {offset} "))?;
+            text.put_hex(bytes.as_slice())
         }
         Mark::Sent {
             source,
@@ -46,77 +58,94 @@ pub fn put_mark(out: &mut Vec<u8>, mark: &Mark) -> Result<(), Memory>
             index,
             request,
             bytes,
-        } => put_words(
-            out,
-            &[
-                Word::Fixed("sent"),
-                Word::Queue(*source),
-                Word::Queue(*target),
-                Word::Perhaps(*index),
-                Word::Perhaps(*request),
-                Word::Hex(bytes.as_slice()),
-            ],
-        ),
-        Mark::Lost { target, index } => put_words(
-            out,
-            &[
-                Word::Fixed("lost"),
-                Word::Queue(*target),
-                Word::Perhaps(*index),
-            ],
-        ),
-        Mark::Arrived { target, index } => put_words(
-            out,
-            &[
-                Word::Fixed("arrived"),
-                Word::Queue(*target),
-                Word::Perhaps(*index),
-            ],
-        ),
+        } => {
+            let index = Perhaps(*index);
+            let request = Perhaps(*request);
+            text.put(format_args!(" sent {source} {target} {index} {request} "))?;
+            text.put_hex(bytes.as_slice())
+        }
+        Mark::Lost { target, index } => {
+            let index = Perhaps(*index);
+            text.put(format_args!(" lost {target} {index}"))
+        }
+        Mark::Arrived { target, index } => {
+            let index = Perhaps(*index);
+            text.put(format_args!(" arrived {target} {index}"))
+        }
+        Mark::Dropped { target, cause } => text.put(format_args!(" dropped {target} {cause}")),
+        Mark::Timer { queue, silent } => {
+            let alarm = alarm(*silent);
+            text.put(format_args!(" timer {queue} {alarm}"))
+        }
+        Mark::Done {
+            completion,
+            cause,
+            ..
+        } => {
+            let cause = Perhaps(*cause);
+            text.put(" done")?;
+            put_completion(text, completion)?;
+            text.put(format_args!(" {cause}"))
+        }
     }
 }
 
-fn put_grant(out: &mut Vec<u8>, grant: &Grant) -> Result<(), Memory>
-    ensures { OnOk result (out.new.items ≡ out.old.items ++ led 32 (words (granted_words grant.now))) }
+/// Adds whose list was used by which key.
+fn put_local(text: &mut Text, queue: QueueId, domain: DomainId, key: Key) -> Result<(), Memory>
+    ensures ok { OnOk result (text.new.added ≡ text.old.added
+        ++ led 32 (words (Fixed (codes "local") ∷ OfQueue queue ∷ OfDomain domain ∷ OfKey key ∷ []))) }
+    ensures same { text.new.before ≡ text.old.before }
 {
-    put_words(
-        out,
-        &[
-            Word::Fixed("granted"),
-            Word::Domain(grant.domain),
-            Word::Key(grant.key),
-            Word::Fixed(object_name(grant.local)),
-            Word::Queues(grant.queue),
-            Word::Address(grant.address),
-            Word::Number(u64::from(grant.length)),
-            Word::Rights(grant.rights),
-            Word::Runs(grant.runs.as_slice()),
-        ],
-    )
+    text.put(format_args!(" local {queue} {domain} {key}"))
 }
 
-fn put_verdict(out: &mut Vec<u8>, verdict: &Verdict) -> Result<(), Memory>
-    ensures { OnOk result (out.new.items ≡ out.old.items ++ led 32 (words (verdict_words verdict.now))) }
+/// Adds what an access asked for, and what came of it.
+fn put_access(
+    text: &mut Text,
+    kind: Kind,
+    address: u64,
+    length: u32,
+    verdict: &Verdict,
+) -> Result<(), Memory>
+    ensures ok { OnOk result (text.new.added ≡ text.old.added
+        ++ led 32 (words (OfKind kind ∷ fields.Address address ∷ Number w32 length ∷ verdict_words verdict.now))) }
+    ensures same { text.new.before ≡ text.old.before }
+{
+    let address = Address(address);
+    text.put(format_args!(" {kind} {address} {length}"))?;
+    put_verdict(text, verdict)
+}
+
+fn put_grant(text: &mut Text, grant: &Grant) -> Result<(), Memory>
+    ensures ok { OnOk result (text.new.added ≡ text.old.added ++ led 32 (words (granted_words grant.now))) }
+    ensures same { text.new.before ≡ text.old.before }
+{
+    let domain = grant.domain;
+    let key = grant.key;
+    let object = object(grant.local);
+    let queues = Queues(grant.queue);
+    text.put(format_args!(" granted {domain} {key} {object} {queues}"))?;
+    let address = Address(grant.address);
+    let length = grant.length;
+    let rights = grant.rights;
+    text.put(format_args!(" {address} {length} {rights} "))?;
+    text.put_runs(grant.runs.as_slice())
+}
+
+fn put_verdict(text: &mut Text, verdict: &Verdict) -> Result<(), Memory>
+    ensures ok { OnOk result (text.new.added ≡ text.old.added ++ led 32 (words (verdict_words verdict.now))) }
+    ensures same { text.new.before ≡ text.old.before }
 {
     match verdict {
         Verdict::Read(bytes) => {
-            put_words(out, &[Word::Fixed("read"), Word::Hex(bytes.as_slice())])
+            text.put(" read ")?;
+            text.put_hex(bytes.as_slice())
         }
         Verdict::Wrote(bytes) => {
-            put_words(out, &[Word::Fixed("wrote"), Word::Hex(bytes.as_slice())])
+            text.put(" wrote ")?;
+            text.put_hex(bytes.as_slice())
         }
-        Verdict::Swapped { found, put } => put_words(
-            out,
-            &[
-                Word::Fixed("found"),
-                Word::Number(*found),
-                Word::Fixed("put"),
-                Word::Number(*put),
-            ],
-        ),
-        Verdict::Denied(denial) => put_words(
-            out,
-            &[Word::Fixed("denied"), Word::Fixed(denial_name(*denial))],
-        ),
+        Verdict::Swapped { found, put } => text.put(format_args!(" found {found} put {put}")),
+        Verdict::Denied(denial) => text.put(format_args!(" denied {denial}")),
     }
 }

@@ -1,4 +1,4 @@
--- Reading a packet from left to right, with the first fault that is met. For proofs only: the grammar is in Packet.antt.
+-- Reading a packet from left to right, with the first fault that is met. Contracts cite it; the grammar is in Packet.antt.
 use Rattle.std.specs.Prelude.{◌≡◌, ℕ, ◌+◌, ◌-◌, ◌/◌, ◌%◌, ◌^◌, ◌==◌, nat_lt, Bool, true, false, not, ◌&&◌, if◌then◌else◌, List, length, take, drop, sum_by, Option, Some, None, Result, Ok, Err}
 use Rattle.std.specs.Int.{Width, w32, w64, byte_len, from_be_bytes}
 use Rattle.std.specs.Option.{ok_or}

@@ -1,0 +1,126 @@
+ghost use Rattle.std.specs.Prelude.{Some};
+ghost use Rattle.ca_base.specs.Spelling.{piece_text};
+
+use crate::key::Key;
+use crate::lists::Pages;
+use crate::rights::Rights;
+use crate::spelling::Address;
+use arrayvec::ArrayVec;
+use std::fmt;
+
+/// One part of a request's scatter or gather list: `length` bytes from `address` on, by an L_Key.
+#[derive(Clone, Copy, Default, PartialEq, Eq)]
+pub struct Piece {
+    pub address: u64,
+    pub key: Key,
+    pub length: u32,
+}
+
+impl fmt::Display for Piece {
+    ghost output = { λ piece. Some (piece_text piece) };
+
+    fn fmt<W: fmt::Write>(&self, f: &mut fmt::Formatter<W>) -> fmt::Result {
+        let key = self.key;
+        let address = Address(self.address);
+        let length = self.length;
+        write!(f, "{key}:{address}:{length}")
+    }
+}
+
+/// What a request of a send queue asks for: a message, an access to the peer's memory, or a local operation.
+#[derive(Clone, Drop)]
+pub enum SendOp {
+    Send {
+        list: ArrayVec<Piece, 4>,
+    },
+    /// SEND with Immediate.
+    SendImm {
+        imm: u32,
+        list: ArrayVec<Piece, 4>,
+    },
+    /// SEND with Invalidate: the peer ends this R_Key.
+    SendInv {
+        key: Key,
+        list: ArrayVec<Piece, 4>,
+    },
+    Write {
+        address: u64,
+        key: Key,
+        list: ArrayVec<Piece, 4>,
+    },
+    /// RDMA WRITE with Immediate.
+    WriteImm {
+        address: u64,
+        key: Key,
+        imm: u32,
+        list: ArrayVec<Piece, 4>,
+    },
+    Read {
+        address: u64,
+        key: Key,
+        list: ArrayVec<Piece, 4>,
+    },
+    CmpSwap {
+        address: u64,
+        key: Key,
+        compare: u64,
+        swap: u64,
+        list: ArrayVec<Piece, 4>,
+    },
+    FetchAdd {
+        address: u64,
+        key: Key,
+        add: u64,
+        list: ArrayVec<Piece, 4>,
+    },
+    /// Binds a type 1 window, by slot, to a part of the region that has this key; no bytes unbind it.
+    Bind1 {
+        window: u16,
+        region: Key,
+        address: u64,
+        length: u32,
+        rights: Rights,
+    },
+    /// Binds a type 2 window, by slot, under this low byte, for the queue pair that it is posted at.
+    Bind2 {
+        window: u16,
+        region: Key,
+        low: u8,
+        address: u64,
+        length: u32,
+        rights: Rights,
+    },
+    /// Fast registration: registers `length` bytes from `address` on in a region, by slot, under this low byte, over
+    /// pages of a buffer in this order.
+    FastReg {
+        region: u16,
+        low: u8,
+        buffer: u16,
+        address: u64,
+        length: u32,
+        rights: Rights,
+        pages: Pages,
+    },
+    /// Local Invalidate: ends this R_Key.
+    LocalInv {
+        key: Key,
+    },
+}
+
+/// A request of a send queue. A `fence` waits for the READs and atomics before it; `solicited` asks the peer for a
+/// solicited event.
+#[derive(Clone, Drop)]
+pub struct SendRequest {
+    pub id: u64,
+    pub signalled: bool,
+    pub fence: bool,
+    pub solicited: bool,
+    pub op: SendOp,
+}
+
+/// A request of a receive queue: where the bytes of a SEND go, in order.
+#[derive(Clone, Drop)]
+pub struct RecvRequest {
+    pub id: u64,
+    pub list: ArrayVec<Piece, 4>,
+}

@@ -1,0 +1,10 @@
+use crate::names::QueueId;
+
+/// Who reserves room in a completion queue: a queue pair for its sends, or for its receives, or a queue pair that uses a
+/// shared receive queue, by slot.
+#[derive(Clone, Copy, PartialEq, Eq)]
+pub enum Reserve {
+    Sends(QueueId),
+    Receives(QueueId),
+    Shared { srq: u16, user: QueueId },
+}

@@ -1,0 +1,15 @@
+pub mod AcceptanceLemmas
+pub mod AcknowledgeLemmas
+pub mod CountLemmas
+pub mod FarLink
+pub mod LayoutLemmas
+pub mod ListLemmas
+pub mod MoveLemmas
+pub mod NumberLemmas
+pub mod OnceLemmas
+pub mod QueueLemmas
+pub mod ReceiveLemmas
+pub mod RespondLemmas
+pub mod SendLemmas
+pub mod SmallLinks
+pub mod TakeLemmas
