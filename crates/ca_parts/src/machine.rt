@@ -27,8 +27,14 @@ pub trait Machine: Drop {
     ghost stands: { Self.Settings → List Self.Entry → ℕ → Self → Type 0 };
 
     // Law: a step changes only the parts that its event needs.
-    ghost frame: { (key : Self.Settings) (log : List Self.Entry) (entry : Self.Entry) (event : Self.Event) (hand : List (ℕ × Self)) (k : ℕ) (x : Self) → records entry event → Suffices needs key event hand → AllStand (stands key log) hand → steps key log entry → ((y : Self) → ¬ Has (k, y) hand) → stands key log k x → stands key (log ++ entry ∷ []) k x };
+    ghost frame: { (key : Self.Settings) (log : List Self.Entry) (entry : Self.Entry)
+        (event : Self.Event) (hand : List (ℕ × Self)) (k : ℕ) (x : Self)
+        → records entry event → Suffices needs key event hand → AllStand (stands key log) hand
+        → steps key log entry → ((y : Self) → ¬ Has (k, y) hand)
+        → stands key log k x → stands key (log ++ entry ∷ []) k x };
 
     // Law: what an event needs next is not in hand.
-    ghost apart: { (key : Self.Settings) (event : Self.Event) (hand : List (ℕ × Self)) (k : ℕ) → IsTakenFor needs key event hand → needs key event hand ≡ Some k → (y : Self) → ¬ Has (k, y) hand };
+    ghost apart: { (key : Self.Settings) (event : Self.Event) (hand : List (ℕ × Self)) (k : ℕ)
+        → IsTakenFor needs key event hand → needs key event hand ≡ Some k → (y : Self)
+        → ¬ Has (k, y) hand };
 }

@@ -54,7 +54,8 @@ impl<T: Machine> Parts<T> {
     ) -> Result<(Parts<T>, PartPass<T>), Memory>
         requires few { length values.items + 1 < 2 ^ 32 }
         requires open { (k : ℕ) (x : T) → slice_get values.items k ≡ Some x → T.stands settings [] k x }
-        ensures row { IfOk result (λ r. (settings_of r.0 ≡ settings) × (part_count r.0 ≡ length values.items)) }
+        ensures row { IfOk result (λ r. (settings_of r.0 ≡ settings)
+            × (part_count r.0 ≡ length values.items)) }
         ensures pass { IfOk result (λ r. IsPassOf r.0 r.1 × (view_of r.1 ≡ first_view settings)) }
     {
         let count = values.len();
@@ -115,11 +116,14 @@ impl<T: Machine> Parts<T> {
 // Takes the value of each slot, in order. Each slot has one.
 fn take_values<T>(closed: &mut Closed<Option<T>, Global>, values: &mut Vec<T>)
     requires full { IsFull closed.old.slots }
-    requires home { (k : ℕ) → k < length (slots_items closed.old.slots) → (x : T) × (get_elem? (slots_items closed.old.slots) k ≡ some (Some x)) }
-    requires room { (length values.old.items ≡ 0) × (length (slots_items closed.old.slots) ≤ vec_capacity values.old) }
+    requires home { (k : ℕ) → k < length (slots_items closed.old.slots) → (x : T)
+        × (get_elem? (slots_items closed.old.slots) k ≡ some (Some x)) }
+    requires room { (length values.old.items ≡ 0)
+        × (length (slots_items closed.old.slots) ≤ vec_capacity values.old) }
     ensures values { map Some values.new.items ≡ slots_items closed.old.slots }
     ensures words { closed.new.words ≡ closed.old.words }
-    ensures empty { (k : ℕ) → k < slots_len closed.new.slots → slice_index_or (slots_filled closed.new.slots) k false ≡ false }
+    ensures empty { (k : ℕ) → k < slots_len closed.new.slots
+        → slice_index_or (slots_filled closed.new.slots) k false ≡ false }
 {
     for k in 0..closed.slot_count() {
         values.push_reserved(closed.take(k).unwrap());

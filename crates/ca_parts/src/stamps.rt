@@ -13,9 +13,11 @@ use std::marker::Brand;
 // Adds the entry that the call picks.
 fn add<T: Machine, K: Plan<T::Entry, T>>(row: &Parts<T>, pass: &mut PartPass<T>) -> u64
     requires of { IsPassOf row.now pass.old }
-    requires may { (entry : T.Entry) × (news : List (ℕ × T)) × (K.plan ≡ Some (entry, news)) × MayStamp T.records T.needs T.steps T.stands (settings_of row.now) entry news (view_of pass.old) }
+    requires may { (entry : T.Entry) × (news : List (ℕ × T)) × (K.plan ≡ Some (entry, news))
+        × MayStamp T.records T.needs T.steps T.stands (settings_of row.now) entry news (view_of pass.old) }
     ensures of { IsPassOf row.now pass.new }
-    ensures added { (entry : T.Entry) (news : List (ℕ × T)) → K.plan ≡ Some (entry, news) → view_of pass.new ≡ with_entry entry news result (view_of pass.old) }
+    ensures added { (entry : T.Entry) (news : List (ℕ × T)) → K.plan ≡ Some (entry, news)
+        → view_of pass.new ≡ with_entry entry news result (view_of pass.old) }
     ensures moment { IsMoment T.needs T.steps T.stands (settings_of row.now) result (view_of pass.old) }
 {
     row.table.shared.fetch_add::<Stamp<K>>(&mut pass.seat, 0, 1)

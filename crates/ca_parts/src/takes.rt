@@ -21,9 +21,11 @@ fn take<T: Machine, K: Asked<T::Event>>(
 ) -> Result<Turn1<T>, Busy>
     requires of { IsPassOf row.now pass.old }
     requires part { part < part_count row.now }
-    requires may { (event : T.Event) × (K.event ≡ Some event) × MayTake T.needs (settings_of row.now) event part (view_of pass.old) }
+    requires may { (event : T.Event) × (K.event ≡ Some event)
+        × MayTake T.needs (settings_of row.now) event part (view_of pass.old) }
     ensures of { IsPassOf row.now pass.new }
-    ensures took { IfOk result (λ t. (t.part ≡ part) × ((event : T.Event) → K.event ≡ Some event → view_of pass.new ≡ with_part event part t.value (view_of pass.old))) }
+    ensures took { IfOk result (λ t. (t.part ≡ part) × ((event : T.Event) → K.event ≡ Some event
+        → view_of pass.new ≡ with_part event part t.value (view_of pass.old))) }
     ensures refusal { OnErr result (view_of pass.new ≡ with_refusal part (view_of pass.old)) }
     ensures busy { OnErr result (WasTaken T.needs T.steps T.stands (settings_of row.now) part (view_of pass.old)) }
     ensures not_alone { OnErr result ((view_of pass.old).share ≢ MAX_PASSES) }
@@ -53,7 +55,8 @@ impl<T: Machine> Parts<T> {
         requires part { part < part_count self.now }
         requires may { MayTake T.needs (settings_of self.now) event part (view_of pass.old) }
         ensures of { IsPassOf self.now pass.new }
-        ensures took { IfOk result (λ t. (t.part ≡ part) × (view_of pass.new ≡ with_part event part t.value (view_of pass.old))) }
+        ensures took { IfOk result (λ t. (t.part ≡ part)
+            × (view_of pass.new ≡ with_part event part t.value (view_of pass.old))) }
         ensures refusal { OnErr result (view_of pass.new ≡ with_refusal part (view_of pass.old)) }
         ensures busy { OnErr result (WasTaken T.needs T.steps T.stands (settings_of self.now) part (view_of pass.old)) }
         ensures not_alone { OnErr result ((view_of pass.old).share ≢ MAX_PASSES) }

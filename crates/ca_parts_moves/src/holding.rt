@@ -46,7 +46,8 @@ pub fn take_one(
     requires part { part < part_count parts.now }
     requires may { MayTake (λ _ m hand. next_of m hand) (settings_of parts.now) event part (view_of pass.old) }
     ensures of { IsPassOf parts.now pass.new }
-    ensures took { IfOk result (λ t. (t.part ≡ part) × (view_of pass.new ≡ with_part event part t.value (view_of pass.old))) }
+    ensures took { IfOk result (λ t. (t.part ≡ part)
+        × (view_of pass.new ≡ with_part event part t.value (view_of pass.old))) }
     ensures refusal { OnErr result (view_of pass.new ≡ with_refusal part (view_of pass.old)) }
 {
     parts.try_take(pass, part)
@@ -61,8 +62,10 @@ pub(crate) fn give_all(
     requires of { IsPassOf parts.now pass.old }
     requires hand { ((view_of pass.old).hand ≡ hand_of held.old.items) × AreApart (hand_of held.old.items) }
     ensures of { IsPassOf parts.now pass.new }
-    ensures given { ((view_of pass.new).hand ≡ []) × (length held.new.items ≡ 0) × (vec_capacity held.new ≡ vec_capacity held.old) }
-    ensures same { SameRecord (view_of pass.old) (view_of pass.new) × ((view_of pass.new).refused ≡ (view_of pass.old).refused) }
+    ensures given { ((view_of pass.new).hand ≡ []) × (length held.new.items ≡ 0)
+        × (vec_capacity held.new ≡ vec_capacity held.old) }
+    ensures same { SameRecord (view_of pass.old) (view_of pass.new)
+        × ((view_of pass.new).refused ≡ (view_of pass.old).refused) }
 {
     while let Some(t) = held.pop() {
         parts.give(pass, t);
@@ -83,10 +86,14 @@ pub(crate) fn take_parts(
     requires room { (length held.old.items ≡ 0) × (2 ≤ vec_capacity held.old) }
     ensures of { IsPassOf parts.now pass.new }
     ensures room { vec_capacity held.new ≡ vec_capacity held.old }
-    ensures took { OnOk result (((view_of pass.new).hand ≡ hand_of held.new.items) × (numbers_of (hand_of held.new.items) ≡ m.from ∷ m.to ∷ [])) }
-    ensures taking { OnOk result (((view_of pass.new).giving ≡ false) × ((view_of pass.new).event ≡ Some m) × ((view_of pass.new).refused ≡ (view_of pass.old).refused)) }
+    ensures took { OnOk result (((view_of pass.new).hand ≡ hand_of held.new.items)
+        × (numbers_of (hand_of held.new.items) ≡ m.from ∷ m.to ∷ [])) }
+    ensures taking { OnOk result (((view_of pass.new).giving ≡ false)
+        × ((view_of pass.new).event ≡ Some m)
+        × ((view_of pass.new).refused ≡ (view_of pass.old).refused)) }
     ensures none { OnErr result (((view_of pass.new).hand ≡ []) × (length held.new.items ≡ 0)) }
-    ensures refusal { OnErr result ((k : ℕ) × ((k ≡ m.from) ⊎ (k ≡ m.to)) × ((view_of pass.new).refused ≡ (view_of pass.old).refused ++ k ∷ [])) }
+    ensures refusal { OnErr result ((k : ℕ) × ((k ≡ m.from) ⊎ (k ≡ m.to))
+        × ((view_of pass.new).refused ≡ (view_of pass.old).refused ++ k ∷ [])) }
     ensures same { SameRecord (view_of pass.old) (view_of pass.new) }
 {
     while let Some(part) = next_part(m, held.as_slice()) {

@@ -55,7 +55,8 @@ fn give_both(
     requires apart { from.part ≢ to.part }
     ensures of { IsPassOf parts.now pass.new }
     ensures given { (view_of pass.new).hand ≡ [] }
-    ensures same { SameRecord (view_of pass.old) (view_of pass.new) × ((view_of pass.new).refused ≡ (view_of pass.old).refused) }
+    ensures same { SameRecord (view_of pass.old) (view_of pass.new)
+        × ((view_of pass.new).refused ≡ (view_of pass.old).refused) }
 {
     parts.give(pass, to);
     parts.give(pass, from);

@@ -106,12 +106,16 @@ pub fn race<R: Threads + Sync>(
     let (mut first, second) = join(
         rt,
         move || -> PartPass<Amount>
-            requires { IsPassOf row.now first × (part_count row.now ≡ NUMBERS) × (NUMBERS * (settings_of row.now).each < 2 ^ 64) × ((view_of first).hand ≡ []) }
-            ensures { IsPassOf row.entry.now result × ((view_of result).hand ≡ []) × ((view_of result).share ≡ (view_of first).share) }
+            requires { IsPassOf row.now first × (part_count row.now ≡ NUMBERS)
+                × (NUMBERS * (settings_of row.now).each < 2 ^ 64) × ((view_of first).hand ≡ []) }
+            ensures { IsPassOf row.entry.now result × ((view_of result).hand ≡ [])
+                × ((view_of result).share ≡ (view_of first).share) }
         { run(alloc, row, first, moves) },
         move || -> PartPass<Amount>
-            requires { IsPassOf row.now second × (part_count row.now ≡ NUMBERS) × (NUMBERS * (settings_of row.now).each < 2 ^ 64) × ((view_of second).hand ≡ []) }
-            ensures { IsPassOf row.entry.now result × ((view_of result).hand ≡ []) × ((view_of result).share ≡ (view_of second).share) }
+            requires { IsPassOf row.now second × (part_count row.now ≡ NUMBERS)
+                × (NUMBERS * (settings_of row.now).each < 2 ^ 64) × ((view_of second).hand ≡ []) }
+            ensures { IsPassOf row.entry.now result × ((view_of result).hand ≡ [])
+                × ((view_of result).share ≡ (view_of second).share) }
         { run(alloc, row, second, moves) },
     );
     parts.join(&mut first, second);

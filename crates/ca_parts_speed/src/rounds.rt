@@ -91,11 +91,15 @@ pub fn two_pairs<R: Threads + Sync>(
     let (mut pass, other) = join(
         rt,
         move || -> PartPass<Amount>
-            requires { IsPassOf parts.now pass × ((view_of pass).hand ≡ []) × (part_count parts.now ≡ 8) × (8 * (settings_of parts.now).each < 2 ^ 64) × (pair < 4) }
+            requires { IsPassOf parts.now pass × ((view_of pass).hand ≡ [])
+                × (part_count parts.now ≡ 8) × (8 * (settings_of parts.now).each < 2 ^ 64)
+                × (pair < 4) }
             ensures { IsPassOf parts.entry.now result × ((view_of result).hand ≡ []) }
         { moves(alloc, parts, pass, pair, count) },
         move || -> PartPass<Amount>
-            requires { IsPassOf parts.now other × ((view_of other).hand ≡ []) × (part_count parts.now ≡ 8) × (8 * (settings_of parts.now).each < 2 ^ 64) × (pair < 3) }
+            requires { IsPassOf parts.now other × ((view_of other).hand ≡ [])
+                × (part_count parts.now ≡ 8) × (8 * (settings_of parts.now).each < 2 ^ 64)
+                × (pair < 3) }
             ensures { IsPassOf parts.entry.now result × ((view_of result).hand ≡ []) }
         { moves(alloc, parts, other, pair + 1, count) },
     );
@@ -121,11 +125,13 @@ pub fn four_pairs<R: Threads + Sync>(
     let (mut pass, other) = join(
         rt,
         move || -> PartPass<Amount>
-            requires { IsPassOf parts.now pass × ((view_of pass).hand ≡ []) × (part_count parts.now ≡ 8) × (8 * (settings_of parts.now).each < 2 ^ 64) }
+            requires { IsPassOf parts.now pass × ((view_of pass).hand ≡ [])
+                × (part_count parts.now ≡ 8) × (8 * (settings_of parts.now).each < 2 ^ 64) }
             ensures { IsPassOf parts.entry.now result × ((view_of result).hand ≡ []) }
         { two_pairs(rt, alloc, parts, pass, 0, count) },
         move || -> PartPass<Amount>
-            requires { IsPassOf parts.now other × ((view_of other).hand ≡ []) × (part_count parts.now ≡ 8) × (8 * (settings_of parts.now).each < 2 ^ 64) }
+            requires { IsPassOf parts.now other × ((view_of other).hand ≡ [])
+                × (part_count parts.now ≡ 8) × (8 * (settings_of parts.now).each < 2 ^ 64) }
             ensures { IsPassOf parts.entry.now result × ((view_of result).hand ≡ []) }
         { two_pairs(rt, alloc, parts, other, 2, count) },
     );
