@@ -1,4 +1,3 @@
 pub mod FirstPath
-pub mod Lawful
 pub mod Run
 pub mod Status

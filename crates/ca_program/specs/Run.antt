@@ -1,19 +1,20 @@
 -- What a run of the program did, by its status. Contracts cite it.
 use Rattle.std.specs.Prelude.{◌≡◌, ℕ, List, [], ◌∷◌, codes, Option, Some, IfSome}
+use Rattle.ca_base.specs.Memory.{zeros}
 use Rattle.ca_model.specs.Entries.{EntryValue}
 use Rattle.ca_program.specs.FirstPath.{HasHistory}
-use Rattle.ca_program.specs.Lawful.{IsLawful}
+use Rattle.ca_model.specs.Lawful.{IsLawful}
 use Rattle.ca_trace.specs.Trace.{text}
 
 -- the words are the one command
 abbrev pub IsCommand : List (List ℕ) → Type 0
 IsCommand words = words ≡ codes "script" ∷ []
 
--- these bytes are a script, which has one history, and this history is lawful; the output is its text
+-- these bytes are a script, which has one history, and this history is lawful over an opening of zeros; the output is its text
 pub record HasOutput (bytes output : List ℕ) : Type 0 where
   pub entries : List EntryValue
   pub history : HasHistory bytes entries
-  pub lawful : IsLawful entries
+  pub lawful : IsLawful zeros entries
   pub whole : output ≡ text entries
 
 -- There are bytes that are a script. Where the source told what was left, it was these bytes, and they were read to their

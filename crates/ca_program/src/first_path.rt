@@ -5,7 +5,8 @@
 ghost use Rattle.std.specs.Prelude.{IfOk, IfErr};
 ghost use Rattle.ca_program.specs.FirstPath.{HasHistory};
 ghost use Rattle.ca_program.specs.FirstPath.Form.{IsRefusal};
-ghost use Rattle.ca_program.specs.Lawful.{IsLawful};
+ghost use Rattle.ca_base.specs.Memory.{zeros};
+ghost use Rattle.ca_model.specs.Lawful.{IsLawful};
 
 mod form;
 mod lines;
@@ -15,15 +16,17 @@ mod words;
 
 use crate::script_error::ScriptError;
 use ca_model::History;
+use ca_wire::reading;
 use std::alloc::Global;
 
 /// What happens at the adapter when the script that the bytes are is performed. `Refused` names the first line that
 /// differs from the form.
 pub fn history_of(alloc: Global, bytes: &[u8]) -> Result<History, ScriptError>
     ensures history { IfOk result (HasHistory bytes.now) }
-    ensures lawful { IfOk result IsLawful }
+    ensures lawful { IfOk result (IsLawful zeros) }
     ensures refused { IfErr result (IsRefusal bytes.now) }
 {
+    reading();
     let script = script::read_script(alloc, bytes)?;
     let history = perform::perform(alloc, &script)?;
     Ok(history)

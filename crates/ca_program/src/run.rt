@@ -100,6 +100,6 @@ fn output_of(alloc: Global, bytes: &[u8]) -> Result<Vec<u8>, ScriptError>
 {
     let history = history_of(alloc, bytes)?;
     let mut output = Vec::new(alloc);
-    print_history(alloc, &history, &mut output)?;
+    print_history(&history, &mut output)?;
     Ok(output)
 }

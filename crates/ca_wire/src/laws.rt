@@ -1,6 +1,7 @@
-ghost use Rattle.std.specs.Prelude.{◌≡◌, ◌≤◌, List, ℕ, Some, length};
+ghost use Rattle.std.specs.Prelude.{◌≡◌, ◌≤◌, List, ℕ, Some, Ok, length};
 ghost use Rattle.ca_wire.specs.declared.syndrome.Syndrome.{Syndrome};
 ghost use Rattle.ca_wire.specs.declared.packet.TheConstants.{MAX_PACKET_BYTES};
+ghost use Rattle.ca_wire.specs.Decoding.{packet_in};
 ghost use Rattle.ca_wire.specs.Packet.{Fields, FitsBits, IsWellFormed, Spells, spelling, spelling_size};
 ghost use Rattle.ca_wire.specs.Syndrome.{FitsSyndrome, syndrome_byte, syndrome_in};
 
@@ -25,4 +26,9 @@ pub fn spelling_length()
 pub fn syndromes()
     ensures received { (s : Syndrome) → FitsSyndrome s → syndrome_in (syndrome_byte s) ≡ Some s }
     ensures only { (byte : ℕ) (s : Syndrome) → syndrome_in byte ≡ Some s → (syndrome_byte s ≡ byte) × FitsSyndrome s }
+{}
+
+/// The reading from left to right gives the packet that the bytes spell.
+pub fn reading()
+    ensures { (bytes : List ℕ) (f : Fields) → Spells bytes f → packet_in bytes ≡ Ok f }
 {}

@@ -32,7 +32,7 @@ pub use atomic_eth::AtomicEth;
 pub use bth::{Bth, read_bth};
 pub use decoding::decode;
 pub use encoding::encode;
-pub use laws::{one_packet, round_trip, spelling_length, syndromes};
+pub use laws::{one_packet, reading, round_trip, spelling_length, syndromes};
 pub use packet::{DEFAULT_PKEY, MAX_PACKET_BYTES, Packet};
 pub use requests::{SendKind, cmp_swap, fetch_add, read_request, send_packet, write_packet};
 pub use responses::{

@@ -5,12 +5,12 @@ use Rattle.std.specs.List.{flat_map}
 use Rattle.std.proofs.lemmas.Bool.{and_parts, ltb-true}
 use Rattle.std.proofs.lemmas.List.{length-append}
 use Rattle.hex.specs.Hex.{IsBytes, encode_lower}
-use Rattle.ca_wire.specs.Packet.{Fields, Spells, IsWellFormed, FitsBits, written, be_bytes, bth_bytes, bth_of, header_bytes}
+use Rattle.ca_wire.specs.declared.packet.TheConstants.{DEFAULT_PKEY}
+use Rattle.ca_wire.specs.Packet.{Fields, Spells, IsWellFormed, FitsBits, packet_bytes, be_bytes, bth_bytes, bth_of, header_bytes}
 use Rattle.ca_wire.specs.declared.opcode.TheConstants.{RDMA_WRITE_ONLY}
-use Rattle.ca_program.specs.declared.first_path.form.TheConstants.{DEFAULT_PKEY}
 use Rattle.ca_wire.specs.Table.{row_of, headers_of}
 use Rattle.ca_trace.specs.Trace.{call}
-use Rattle.ca_trace.specs.Words.{rights}
+use Rattle.ca_base.specs.Spelling.{rights_text as rights}
 use Rattle.ca_program.specs.declared.first_path.script.Script.{Script}
 use Rattle.ca_program.specs.declared.first_path.lines.Registration.{Registration}
 use Rattle.ca_program.specs.FirstPath.Form.{IsOfForm, IsWrite, queue, alloc_pd, create_cq, create_qp, reg_mr, init, rtr, lines}
@@ -101,7 +101,7 @@ later_some : (a b c d : List ℕ) → 0 < length c → 0 < length (a ++ (b ++ (c
 later_some a b c d some = omega (arith, length-append a (b ++ (c ++ d)), length-append b (c ++ d), length-append c d)
 
 spells_some : (bytes : List ℕ) (p : Fields) → Spells bytes p → 0 < length p.payload → 0 < length bytes
-unfolding written
+unfolding packet_bytes
 spells_some bytes p spelt some =
     let Some : List ℕ → Type 0 = λ t. 0 < length t in
     subst Some (sym spelt.whole)
@@ -175,7 +175,7 @@ fits_bits = record {
 }
 
 pub one_spelt : Spells one_packet one_write
-unfolding written be_bytes row_of
+unfolding packet_bytes be_bytes row_of
 one_spelt = record {
   well_formed = well_formed;
   fits = fits_bits;

@@ -10,12 +10,13 @@ use Rattle.ca_base.specs.declared.names.QueueId.{QueueId}
 use Rattle.ca_base.specs.declared.names.Slot.{Slot}
 use Rattle.ca_model.specs.declared.verb.Verb.{Verb}
 use Rattle.ca_model.specs.declared.verb.Verb.TheVariants as verbs
-use Rattle.ca_program.specs.declared.first_path.form.TheConstants.{DEFAULT_PKEY, MTU, RNR_CODE}
+use Rattle.ca_program.specs.declared.first_path.form.TheConstants.{MTU, RNR_CODE}
 use Rattle.ca_program.specs.declared.first_path.script.Script.{Script}
 use Rattle.ca_program.specs.declared.script_error.ScriptError.{ScriptError}
 use Rattle.ca_program.specs.declared.script_error.ScriptError.TheVariants as errors
 use Rattle.ca_trace.specs.Trace.{call}
 use Rattle.ca_wire.specs.declared.opcode.TheConstants.{RDMA_WRITE_ONLY}
+use Rattle.ca_wire.specs.declared.packet.TheConstants.{DEFAULT_PKEY}
 use Rattle.ca_wire.specs.Packet.{Fields, Spells}
 
 -- domain 0 of adapter 0, slot 0 of the domain, the queue pair there, and the peer that it names

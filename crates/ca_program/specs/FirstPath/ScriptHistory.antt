@@ -22,12 +22,13 @@ use Rattle.ca_model.specs.declared.mark.Mark.TheVariants as marks
 use Rattle.ca_model.specs.declared.verb.Verb.{Verb}
 use Rattle.ca_model.specs.Entries.{EntryValue}
 use Rattle.ca_model.specs.Past.{remote_ask}
-use Rattle.ca_model.specs.Refusals.{region_refusal}
-use Rattle.ca_program.specs.declared.first_path.form.TheConstants.{DEFAULT_PKEY, NAK_REMOTE_ACCESS}
+use Rattle.std.specs.Result.{result_ok}
+use Rattle.ca_model.specs.Answers.{refusal_of_region}
 use Rattle.ca_program.specs.declared.first_path.script.Script.{Script}
 use Rattle.ca_program.specs.FirstPath.Form.{domain, slot, queue, peer, alloc_pd, create_cq, create_qp, reg_mr, init, rtr, inject, IsFirstWrite}
-use Rattle.ca_wire.specs.declared.header.Reth.{Reth}
-use Rattle.ca_wire.specs.declared.opcode.TheConstants.{ACKNOWLEDGE}
+use Rattle.ca_wire.specs.declared.reth.Reth.{Reth}
+use Rattle.ca_wire.specs.declared.syndrome.NakCode.TheVariants.{RemoteAccessError}
+use Rattle.ca_wire.specs.Builders.{nak}
 use Rattle.ca_wire.specs.Packet.{Fields, spelling}
 
 -- the bytes that the script registers
@@ -36,7 +37,7 @@ region s = record { adapter = 0; buffer = 0; offset = s.offset; length = s.lengt
 
 -- why the registration is refused: the first reason that applies
 abbrev pub refusal : Script → Option Refusal
-refusal s = option_and_then region_refusal (registration_refusal (region s) s.buffer_length s.rights)
+refusal s = option_and_then (λ error. result_ok (refusal_of_region error)) (registration_refusal (region s) s.buffer_length s.rights)
 
 -- what the registration grants, as the first of its slot
 abbrev pub grant : Script → Grant
@@ -84,23 +85,8 @@ arrival h payload denied =
     ∷ []
 
 -- an acknowledgement to the peer at PSN 0: NAK, remote access error, and no message accepted
-abbrev pub nak : Fields
-nak = record {
-  opcode = ACKNOWLEDGE;
-  solicited = false;
-  migrated = false;
-  pkey = DEFAULT_PKEY;
-  queue = peer.number;
-  ack = false;
-  psn = 0;
-  reth = None;
-  atomic = None;
-  aeth = Some (record { syndrome = NAK_REMOTE_ACCESS; msn = 0 });
-  «result» = None;
-  imm = None;
-  ieth = None;
-  payload = [];
-}
+abbrev pub denial_nak : Fields
+denial_nak = nak RemoteAccessError peer.number 0 0
 
 -- the responder's turn after a denial: the peer never named the queue pair back, so the NAK has no index and is lost
 abbrev pub response : ℕ → Option Denial → List EntryValue
@@ -109,7 +95,7 @@ response stamp (Some part) = record {
   stamp = stamp;
   pass = 0;
   event = events.Respond queue lots.Pass;
-  marks = marks.Sent queue peer None None (spelling nak) ∷ marks.Lost peer None ∷ [];
+  marks = marks.Sent queue peer None None (spelling denial_nak) ∷ marks.Lost peer None ∷ [];
 } ∷ []
 
 -- the domain, the completion queue and the queue pair

@@ -22,14 +22,8 @@ pub const PEER: QueueId = QueueId {
     number: 257,
 };
 
-/// The P_Key of the default partition.
-pub const DEFAULT_PKEY: u16 = 0xFFFF;
-
 /// The path MTU of the queue pair, in bytes.
 pub const MTU: u16 = 256;
 
 /// The code of the RNR timer that the queue pair names.
 pub const RNR_CODE: u8 = 12;
-
-/// The AETH syndrome of a NAK for a remote access error.
-pub const NAK_REMOTE_ACCESS: u8 = 0x62;

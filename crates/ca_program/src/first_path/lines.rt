@@ -4,13 +4,13 @@ ghost use Rattle.ca_program.specs.FirstPath.Form.{IsFirstWrite, IsWrite, line_te
 ghost use Rattle.ca_program.specs.FirstPath.WordReaders as words;
 ghost use Rattle.ca_program.specs.FirstPath.LineReaders.{Finds, Gives, GivesOrLacks, IsInjected, LacksPacket, inject_line, line, opening_at, setup_at};
 
-use crate::first_path::form::{DEFAULT_PKEY, MTU, QUEUE};
+use crate::first_path::form::{MTU, QUEUE};
 use crate::first_path::words::{decimal, hexadecimal, rights, until};
 use crate::script_error::{ScriptCause, ScriptError};
 use ca_base::limits::MAX_BUFFER_BYTES;
 use ca_base::{Bytes, Rights};
 use ca_wire::opcode::RDMA_WRITE_ONLY;
-use ca_wire::{Packet, decode};
+use ca_wire::{DEFAULT_PKEY, Packet, decode};
 use std::alloc::Global;
 
 /// What the line of the region asks for.

@@ -1,18 +1,18 @@
 ghost use Rattle.std.specs.Prelude.{◌≡◌, ◌≤◌, [], ◌∷◌, ◌++◌, length, OnOk, IfOk, IfErr, IsSome, None, Some};
+ghost use Rattle.std.specs.Result.{result_ok};
 ghost use Rattle.ca_base.specs.Allowed.{denial_of};
 ghost use Rattle.ca_base.specs.Grants.{registration_refusal};
 ghost use Rattle.ca_base.specs.declared.access.Denial.{Denial};
 ghost use Rattle.ca_model.specs.History.{FitTheEvent};
-ghost use Rattle.ca_model.specs.Refusals.{region_refusal};
-ghost use Rattle.ca_program.specs.FirstPath.Form.{domain, slot, queue, peer, alloc_pd, create_cq, create_qp, reg_mr, init, rtr, inject, IsOfForm};
+ghost use Rattle.ca_model.specs.Answers.{refusal_of_region};
+ghost use Rattle.ca_program.specs.FirstPath.Form as form;
+ghost use Rattle.ca_program.specs.FirstPath.Form.{slot, IsOfForm};
 ghost use Rattle.ca_program.specs.FirstPath.ScriptHistory as path;
 ghost use Rattle.ca_region.specs.Region.{RefusesBy};
-ghost use Rattle.ca_wire.specs.declared.header.Reth.{Reth};
+ghost use Rattle.ca_wire.specs.declared.reth.Reth.{Reth};
 ghost use Rattle.ca_wire.specs.Packet.{spelling};
 
-use crate::first_path::form::{
-    DEFAULT_PKEY, DOMAIN, MTU, NAK_REMOTE_ACCESS, PEER, QUEUE, RNR_CODE, SLOT,
-};
+use crate::first_path::form::{DOMAIN, MTU, PEER, QUEUE, RNR_CODE, SLOT};
 use crate::first_path::script::Script;
 use ca_base::{
     Ask, Bytes, Change, Denial, DomainId, Grant, Kind, Lot, Memory, QueueId, RegionError, Run,
@@ -20,7 +20,7 @@ use ca_base::{
 };
 use ca_model::{Answer, Entry, Event, History, Mark, Marks, Refusal, Verb};
 use ca_region::Region;
-use ca_wire::{Aeth, Packet, Reth, decode, encode, opcode};
+use ca_wire::{NakCode, Packet, Reth, decode, encode, nak};
 use std::alloc::Global;
 
 /// What happens at the adapter: the seven verbs of the script in order, and the responder's turn where the packet is
@@ -50,16 +50,73 @@ fn request_of(script: &Script) -> (Reth, &[u8])
     }
 }
 
+// The verbs of the script that name no number of it, each made anew for its event and for its mark.
+
+fn alloc_pd() -> Verb
+    ensures { result ≡ form.alloc_pd }
+{
+    Verb::AllocPd { domain: DOMAIN }
+}
+
+fn create_cq() -> Verb
+    ensures { result ≡ form.create_cq }
+{
+    Verb::CreateCq {
+        slot: SLOT,
+        capacity: 2,
+    }
+}
+
+fn create_qp() -> Verb
+    ensures { result ≡ form.create_qp }
+{
+    Verb::CreateQp {
+        slot: SLOT,
+        send_cq: 0,
+        recv_cq: 0,
+        send_depth: 1,
+        recv_depth: 1,
+        srq: None,
+    }
+}
+
+fn modify(change: Change) -> Verb
+    ensures { result ≡ Verb.ModifyQp slot change }
+{
+    Verb::ModifyQp { slot: SLOT, change }
+}
+
+fn reg_mr(script: &Script) -> Verb
+    ensures { result ≡ form.reg_mr script.now }
+{
+    Verb::RegMr {
+        slot: SLOT,
+        buffer: 0,
+        offset: script.offset,
+        length: script.length,
+        rights: script.rights,
+    }
+}
+
+fn inject(alloc: Global, script: &Script) -> Result<Verb, Memory>
+    ensures { IfOk result (λ verb. verb ≡ form.inject script.now) }
+{
+    Ok(Verb::Inject {
+        queue: QUEUE,
+        bytes: Bytes::copy_of(alloc, script.packet.as_slice())?,
+    })
+}
+
 // The mark of a verb that was answered, with room for two more.
-fn answer_marks(alloc: Global, verb: &Verb, answer: Answer) -> Result<Marks, Memory>
-    ensures marks { IfOk result (λ m. m.marks ≡ Mark.Verb 0 verb.now answer ∷ []) }
+fn answer_marks(alloc: Global, verb: Verb, answer: Answer) -> Result<Marks, Memory>
+    ensures marks { IfOk result (λ m. m.marks ≡ Mark.Verb 0 verb answer ∷ []) }
     ensures room { IfOk result (λ m. 2 ≤ m.room) }
 {
     let mut marks = Marks::empty(alloc);
     marks.reserve(3)?;
     marks.push(Mark::Verb {
         by: 0,
-        verb: verb.copy(alloc)?,
+        verb,
         answer,
     });
     Ok(marks)
@@ -80,11 +137,18 @@ fn record_event(history: &mut History, event: Event, marks: Marks) -> Result<(),
     })
 }
 
-// Consumer 0 calls a verb that does nothing else than answer.
-fn call(alloc: Global, history: &mut History, verb: Verb, answer: Answer) -> Result<(), Memory>
+// Consumer 0 calls a verb that does nothing else than answer. It is given twice, for its event and for its mark.
+fn call(
+    alloc: Global,
+    history: &mut History,
+    verb: Verb,
+    again: Verb,
+    answer: Answer,
+) -> Result<(), Memory>
+    requires { again ≡ verb }
     ensures { OnOk result (history.new ≡ history.old ++ path.call_entry (length history.old) verb answer [] ∷ []) }
 {
-    let marks = answer_marks(alloc, &verb, answer)?;
+    let marks = answer_marks(alloc, again, answer)?;
     record_event(history, Event::Verb { by: 0, verb }, marks)
 }
 
@@ -93,37 +157,13 @@ fn set_up(alloc: Global, history: &mut History) -> Result<(), Memory>
     requires { history.old ≡ [] }
     ensures { OnOk result (history.new ≡ path.set_up) }
 {
-    call(
-        alloc,
-        history,
-        Verb::AllocPd { domain: DOMAIN },
-        Answer::Fine,
-    )?;
-    call(
-        alloc,
-        history,
-        Verb::CreateCq {
-            slot: SLOT,
-            capacity: 2,
-        },
-        Answer::Fine,
-    )?;
-    call(
-        alloc,
-        history,
-        Verb::CreateQp {
-            slot: SLOT,
-            send_cq: 0,
-            recv_cq: 0,
-            send_depth: 1,
-            recv_depth: 1,
-            srq: None,
-        },
-        Answer::Queue {
-            number: QUEUE.number,
-            incarnation: 1,
-        },
-    )
+    call(alloc, history, alloc_pd(), alloc_pd(), Answer::Fine)?;
+    call(alloc, history, create_cq(), create_cq(), Answer::Fine)?;
+    let queue = Answer::Queue {
+        number: QUEUE.number,
+        incarnation: 1,
+    };
+    call(alloc, history, create_qp(), create_qp(), queue)
 }
 
 // Registers the region, and gives the grants that are then in force.
@@ -131,16 +171,9 @@ fn register(alloc: Global, history: &mut History, script: &Script) -> Result<Vec
     ensures history { OnOk result (history.new ≡ history.old ++ path.registration (length history.old) script.now (path.refusal script.now) ∷ []) }
     ensures in_force { IfOk result (λ grants. grants.items ≡ path.grants_after script.now (path.refusal script.now)) }
 {
-    let verb = Verb::RegMr {
-        slot: SLOT,
-        buffer: 0,
-        offset: script.offset,
-        length: script.length,
-        rights: script.rights,
-    };
     match first_grant(alloc, script) {
-        Ok(grant) => grant_key(alloc, history, verb, grant),
-        Err(error) => refuse(alloc, history, verb, error),
+        Ok(grant) => grant_key(alloc, history, script, grant),
+        Err(error) => refuse(alloc, history, script, error),
     }
 }
 
@@ -163,17 +196,18 @@ fn first_grant(alloc: Global, script: &Script) -> Result<Grant, RegionError>
 fn grant_key(
     alloc: Global,
     history: &mut History,
-    verb: Verb,
+    script: &Script,
     grant: Grant,
 ) -> Result<Vec<Grant>, Memory>
     ensures history { OnOk result (history.new ≡ history.old
-        ++ path.call_entry (length history.old) verb (Answer.Key grant.key) (Mark.Granted grant ∷ []) ∷ []) }
+        ++ path.call_entry (length history.old) (form.reg_mr script.now) (Answer.Key grant.key) (Mark.Granted grant ∷ []) ∷ []) }
     ensures in_force { IfOk result (λ grants. grants.items ≡ grant ∷ []) }
 {
     let mut in_force = Vec::new(alloc);
-    in_force.push(grant.copy(alloc)?)?;
-    let mut marks = answer_marks(alloc, &verb, Answer::Key(grant.key))?;
+    in_force.push(grant.clone()?)?;
+    let mut marks = answer_marks(alloc, reg_mr(script), Answer::Key(grant.key))?;
     marks.push(Mark::Granted(grant));
+    let verb = reg_mr(script);
     record_event(history, Event::Verb { by: 0, verb }, marks)?;
     Ok(in_force)
 }
@@ -182,14 +216,15 @@ fn grant_key(
 fn refuse(
     alloc: Global,
     history: &mut History,
-    verb: Verb,
+    script: &Script,
     error: RegionError,
 ) -> Result<Vec<Grant>, Memory>
-    ensures history { OnOk result (path.IsRefusedBy history.old history.new verb (region_refusal error)) }
+    ensures history { OnOk result (path.IsRefusedBy history.old history.new (form.reg_mr script.now) (result_ok (refusal_of_region error))) }
     ensures in_force { IfOk result (λ grants. grants.items ≡ []) }
 {
     let refusal = Refusal::try_from(error)?;
-    call(alloc, history, verb, Answer::Refused(refusal))?;
+    let answer = Answer::Refused(refusal);
+    call(alloc, history, reg_mr(script), reg_mr(script), answer)?;
     Ok(Vec::new(alloc))
 }
 
@@ -197,30 +232,16 @@ fn refuse(
 fn connect(alloc: Global, history: &mut History) -> Result<(), Memory>
     ensures { OnOk result (history.new ≡ history.old ++ path.connection (length history.old)) }
 {
-    call(
-        alloc,
-        history,
-        Verb::ModifyQp {
-            slot: SLOT,
-            change: Change::Init,
-        },
-        Answer::Fine,
-    )?;
-    call(
-        alloc,
-        history,
-        Verb::ModifyQp {
-            slot: SLOT,
-            change: Change::Rtr {
-                peer: PEER,
-                incarnation: 1,
-                psn: 0,
-                mtu: MTU,
-                rnr_code: RNR_CODE,
-            },
-        },
-        Answer::Fine,
-    )
+    let init = Change::Init;
+    call(alloc, history, modify(init), modify(init), Answer::Fine)?;
+    let rtr = Change::Rtr {
+        peer: PEER,
+        incarnation: 1,
+        psn: 0,
+        mtu: MTU,
+        rnr_code: RNR_CODE,
+    };
+    call(alloc, history, modify(rtr), modify(rtr), Answer::Fine)
 }
 
 // The packet arrives and its access is judged, by the grants in force. Gives the part of the key check that failed.
@@ -233,15 +254,11 @@ fn arrive(
     in_force: &[Grant],
 ) -> Result<Option<Denial>, Memory>
     ensures history { IfOk result (λ denied. history.new ≡ history.old
-        ++ path.call_entry (length history.old) (inject script.now) Answer.Fine (path.arrival reth payload.now denied) ∷ []) }
+        ++ path.call_entry (length history.old) (form.inject script.now) Answer.Fine (path.arrival reth payload.now denied) ∷ []) }
     ensures denied { IfOk result (λ denied. denied ≡ denial_of (path.ask reth) in_force.now) }
 {
     let denied = judge(reth, in_force);
-    let verb = Verb::Inject {
-        queue: QUEUE,
-        bytes: Bytes::copy_of(alloc, script.packet.as_slice())?,
-    };
-    let mut marks = answer_marks(alloc, &verb, Answer::Fine)?;
+    let mut marks = answer_marks(alloc, inject(alloc, script)?, Answer::Fine)?;
     marks.push(Mark::Arrived {
         target: QUEUE,
         index: None,
@@ -256,6 +273,7 @@ fn arrive(
         length: reth.length,
         verdict: verdict_of(alloc, payload, denied)?,
     });
+    let verb = inject(alloc, script)?;
     record_event(history, Event::Verb { by: 0, verb }, marks)?;
     Ok(denied)
 }
@@ -313,7 +331,7 @@ fn respond(alloc: Global, history: &mut History, denied: Option<Denial>) -> Resu
         target: PEER,
         index: None,
         request: None,
-        bytes: nak(alloc)?,
+        bytes: nak_bytes(alloc)?,
     });
     marks.push(Mark::Lost {
         target: PEER,
@@ -327,29 +345,10 @@ fn respond(alloc: Global, history: &mut History, denied: Option<Denial>) -> Resu
 }
 
 // The NAK for a remote access error at PSN 0, with no message accepted.
-#[tactic(auto, unfolding(ca_wire::specs::Table::row_of))]
-fn nak(alloc: Global) -> Result<Bytes, Memory>
-    ensures { IfOk result (λ bytes. bytes ≡ spelling path.nak) }
+fn nak_bytes(alloc: Global) -> Result<Bytes, Memory>
+    ensures { IfOk result (λ bytes. bytes ≡ spelling path.denial_nak) }
 {
-    let packet = Packet {
-        opcode: opcode::ACKNOWLEDGE,
-        solicited: false,
-        migrated: false,
-        pkey: DEFAULT_PKEY,
-        queue: PEER.number,
-        ack: false,
-        psn: 0,
-        reth: None,
-        atomic: None,
-        aeth: Some(Aeth {
-            syndrome: NAK_REMOTE_ACCESS,
-            msn: 0,
-        }),
-        result: None,
-        imm: None,
-        ieth: None,
-        payload: &[],
-    };
+    let packet = nak(NakCode::RemoteAccessError, PEER.number, 0, 0);
     let mut bytes = Vec::new(alloc);
     encode(&packet, &mut bytes)?;
     Ok(Bytes::from(bytes))
