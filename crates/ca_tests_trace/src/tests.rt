@@ -58,6 +58,15 @@ fn is_line(rt: &impl Abort, text: &[u8], want: &str) {
     assert_eq!(rt; line_of(text), want);
 }
 
+fn is_text(rt: &impl Abort, text: &[u8], want: &str) {
+    assert_eq!(rt; str::from_utf8(text).unwrap_or("no text"), want);
+}
+
+// A table has a line for each row.
+fn are_as_many(rt: &impl Abort, rows: usize, lines: &str) {
+    assert_eq!(rt; lines.lines().count(), rows);
+}
+
 fn list_of(pieces: &[Piece]) -> Result<ArrayVec<Piece, 4>, Fail> {
     let mut list = ArrayVec::new();
     for piece in pieces {

@@ -1,4 +1,4 @@
-use super::{HERE, OTHER_QUEUE, OTHER_SLOT, SLOT, call_is};
+use super::{HERE, OTHER_QUEUE, OTHER_SLOT, SLOT, are_as_many, call_is};
 use ca_base::{Change, DomainId, Field, Key, Rights, SendOp, SendRequest, Slot, State};
 use ca_model::{Answer, Refusal, Verb};
 use std::test::Fail;
@@ -481,6 +481,7 @@ const CALLS: [(u64, u32, Verb, Answer); 36] = [
 
 #[test]
 fn calls_print_with_their_answers(rt: HostRuntime) -> Result<(), Fail> {
+    are_as_many(&rt, CALLS.len(), LINES);
     for (row, line) in CALLS.as_slice().iter().zip(LINES.lines()) {
         let (stamp, by, verb, answer) = row;
         call_is(&rt, *stamp, *by, verb, answer, line)?;
@@ -557,6 +558,7 @@ const REFUSALS: [Refusal; 31] = [
 
 #[test]
 fn refusals_print_their_names(rt: HostRuntime) -> Result<(), Fail> {
+    are_as_many(&rt, REFUSALS.len(), REFUSED);
     for (refusal, line) in REFUSALS.as_slice().iter().zip(REFUSED.lines()) {
         let answer = Answer::Refused(*refusal);
         call_is(&rt, 52, 0, &Verb::DestroyCq { slot: SLOT }, &answer, line)?;

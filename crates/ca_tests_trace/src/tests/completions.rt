@@ -1,8 +1,7 @@
-use super::{OTHER_QUEUE, QUEUE, SLOT, call_text, mark_is};
+use super::{OTHER_QUEUE, QUEUE, SLOT, are_as_many, call_text, is_text, mark_is};
 use arrayvec::ArrayVec;
 use ca_base::{Completion, Key, OpRefusal, QueueId, RegionError, WcOp, WcStatus, WindowError};
 use ca_model::{Answer, Mark, Verb};
-use std::process::Abort;
 use std::test::Fail;
 
 /// The lines of completions of no bytes, with each status and each cause. The last twelve have the causes that the
@@ -402,6 +401,7 @@ fn mark_of(row: &Row) -> Mark {
 
 #[test]
 fn completions_print_their_status_and_cause(rt: HostRuntime) -> Result<(), Fail> {
+    are_as_many(&rt, DONE.len(), LINES);
     for (row, line) in DONE.as_slice().iter().zip(LINES.lines()) {
         mark_is(&rt, &mark_of(row), line)?;
     }
@@ -496,10 +496,6 @@ const TAKEN: [Completion; 4] = [
         invalidated: None,
     },
 ];
-
-fn is_text(rt: &impl Abort, text: &[u8], want: &str) {
-    assert_eq!(rt; str::from_utf8(text).unwrap_or("no text"), want);
-}
 
 #[test]
 fn a_poll_prints_what_it_took(rt: HostRuntime) -> Result<(), Fail> {

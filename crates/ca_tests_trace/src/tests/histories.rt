@@ -1,8 +1,7 @@
-use super::{HERE, OTHER_SLOT, SLOT, THERE};
+use super::{HERE, OTHER_SLOT, SLOT, THERE, is_text};
 use ca_model::{Answer, Entry, Event, History, Mark, Marks, Verb};
 use ca_trace::print_history;
 use std::alloc::Global;
-use std::process::Abort;
 use std::test::Fail;
 
 /// A whole history.
@@ -52,10 +51,6 @@ fn push(alloc: Global, history: &mut History, by: u32, verb: &Verb) -> Result<()
         marks,
     })?;
     Ok(())
-}
-
-fn is_text(rt: &impl Abort, text: &[u8], want: &str) {
-    assert_eq!(rt; str::from_utf8(text).unwrap_or("no text"), want);
 }
 
 #[test]

@@ -1,10 +1,11 @@
-use super::{call_is, entry, is_line, list_of, mark_is};
+use super::{are_as_many, call_is, entry, is_line, list_of, mark_is};
 use ca_base::{
-    Bytes, Change, Completion, DomainId, Field, Grant, Key, Kind, Lot, OpRefusal, Piece, QueueId,
+    Bytes, Change, Completion, DomainId, Field, Grant, Key, Kind, OpRefusal, Pages, Piece, QueueId,
     Rights, Run, Runs, SendOp, SendRequest, Slot, State, Verdict, WcOp, WcStatus, WindowError,
 };
 use ca_model::{Answer, Event, Mark, Refusal, Verb};
 use ca_trace::print;
+use std::process::Abort;
 use std::test::Fail;
 
 // The greatest number of each field, whether it may occur or not, and the longest name of each choice.
@@ -132,6 +133,7 @@ const CALLS: [(Verb, Answer); 6] = [
 
 #[test]
 fn the_longest_calls_print(rt: HostRuntime) -> Result<(), Fail> {
+    are_as_many(&rt, CALLS.len(), CALLED);
     for (row, line) in CALLS.as_slice().iter().zip(CALLED.lines()) {
         let (verb, answer) = row;
         call_is(&rt, LONG, WORD, verb, answer, line)?;
@@ -139,11 +141,8 @@ fn the_longest_calls_print(rt: HostRuntime) -> Result<(), Fail> {
     Ok(())
 }
 
-const POSTED: &str =
-    "@18446744073709551615 p0 c4294967295 post 255/255/65535 18446744073709551615 sfe cas 0xffffffffffffffff 0xffffffff 18446744073709551615 18446744073709551615 0xffffffff:0xffffffffffffffff:4294967295,0xffffffff:0xffffffffffffffff:4294967295,0xffffffff:0xffffffffffffffff:4294967295,0xffffffff:0xffffffffffffffff:4294967295 -> posted 0xffffffff";
-
-#[test]
-fn the_longest_request_prints(rt: HostRuntime) -> Result<(), Fail> {
+// The entry of a request that was posted is this line.
+fn post_is<R: Abort + AllocGlobal>(rt: &R, op: SendOp, want: &str) -> Result<(), Fail> {
     let verb = Verb::PostSend {
         slot: SLOT,
         request: SendRequest {
@@ -151,16 +150,36 @@ fn the_longest_request_prints(rt: HostRuntime) -> Result<(), Fail> {
             signalled: true,
             fence: true,
             solicited: true,
-            op: SendOp::CmpSwap {
-                address: LONG,
-                key: KEY,
-                compare: LONG,
-                swap: LONG,
-                list: list_of(&[PIECE, PIECE, PIECE, PIECE])?,
-            },
+            op,
         },
     };
-    call_is(&rt, LONG, WORD, &verb, &Answer::Posted(Some(KEY)), POSTED)
+    call_is(rt, LONG, WORD, &verb, &Answer::Posted(Some(KEY)), want)
+}
+
+#[test]
+fn the_longest_requests_print(rt: HostRuntime) -> Result<(), Fail> {
+    let op = SendOp::CmpSwap {
+        address: LONG,
+        key: KEY,
+        compare: LONG,
+        swap: LONG,
+        list: list_of(&[PIECE, PIECE, PIECE, PIECE])?,
+    };
+    let line =
+        "@18446744073709551615 p0 c4294967295 post 255/255/65535 18446744073709551615 sfe cas 0xffffffffffffffff 0xffffffff 18446744073709551615 18446744073709551615 0xffffffff:0xffffffffffffffff:4294967295,0xffffffff:0xffffffffffffffff:4294967295,0xffffffff:0xffffffffffffffff:4294967295,0xffffffff:0xffffffffffffffff:4294967295 -> posted 0xffffffff";
+    post_is(&rt, op, line)?;
+    let op = SendOp::FastReg {
+        region: 65_535,
+        low: 255,
+        buffer: 65_535,
+        address: LONG,
+        length: WORD,
+        rights: RIGHTS,
+        pages: Pages::copy_of(rt.alloc(), [65_535u16, 65_535].as_slice())?,
+    };
+    let line =
+        "@18446744073709551615 p0 c4294967295 post 255/255/65535 18446744073709551615 sfe fastreg 65535 255 65535 0xffffffffffffffff 4294967295 lrwab 65535,65535 -> posted 0xffffffff";
+    post_is(&rt, op, line)
 }
 
 /// The lines of the longest marks.
@@ -219,6 +238,7 @@ const MARKS: [Mark; 4] = [
 
 #[test]
 fn the_longest_marks_print(rt: HostRuntime) -> Result<(), Fail> {
+    are_as_many(&rt, MARKS.len(), LINES);
     for (mark, line) in MARKS.as_slice().iter().zip(LINES.lines()) {
         mark_is(&rt, mark, line)?;
     }
@@ -259,14 +279,15 @@ fn the_longest_packet_and_turn_print(rt: HostRuntime) -> Result<(), Fail> {
     };
     let line = " sent 255/4294967295 255/4294967295 18446744073709551615 18446744073709551615 ff";
     mark_is(&rt, &sent, line)?;
-    let turn = Event::Request {
+    let turn = Event::Deliver {
         queue: QUEUE,
-        lot: Lot::Repeat(255),
+        index: LONG,
     };
-    let entry = entry(rt.alloc(), LONG, turn, None)?;
+    let mut entry = entry(rt.alloc(), LONG, turn, None)?;
+    entry.pass = WORD;
     let mut out = Vec::new(rt.alloc());
     print(&entry, &mut out)?;
-    let line = "@18446744073709551615 p0 request 255/4294967295 repeat:255";
+    let line = "@18446744073709551615 p4294967295 deliver 255/4294967295 18446744073709551615";
     is_line(&rt, out.as_slice(), line);
     Ok(())
 }

@@ -1,4 +1,4 @@
-use super::{HERE, OTHER_QUEUE, QUEUE, THERE, mark_is};
+use super::{HERE, OTHER_QUEUE, QUEUE, THERE, are_as_many, mark_is};
 use ca_base::{
     Bytes, Denial, DomainId, Grant, Key, Kind, Place, QueueId, Rights, Run, Runs, Verdict,
 };
@@ -217,6 +217,7 @@ const MARKS: [Mark; 25] = [
 
 #[test]
 fn marks_without_lists_print(rt: HostRuntime) -> Result<(), Fail> {
+    are_as_many(&rt, MARKS.len(), LINES);
     for (mark, line) in MARKS.as_slice().iter().zip(LINES.lines()) {
         mark_is(&rt, mark, line)?;
     }
@@ -323,6 +324,7 @@ const GRANTS: [(Key, bool, Option<QueueId>, u64, u32, Rights, &[Run]); 4] = [
 
 #[test]
 fn grants_print_their_runs(rt: HostRuntime) -> Result<(), Fail> {
+    are_as_many(&rt, GRANTS.len(), GRANTED);
     for (row, line) in GRANTS.as_slice().iter().zip(GRANTED.lines()) {
         let (key, local, queue, address, length, rights, runs) = *row;
         let grant = Grant {
@@ -392,6 +394,7 @@ const PACKETS: [(QueueId, QueueId, Option<u64>, Option<u64>, &[u8]); 4] = [
 
 #[test]
 fn packets_print_their_bytes(rt: HostRuntime) -> Result<(), Fail> {
+    are_as_many(&rt, PACKETS.len(), SENT);
     for (row, line) in PACKETS.as_slice().iter().zip(SENT.lines()) {
         let (source, target, index, request, bytes) = *row;
         let mark = Mark::Sent {
@@ -468,6 +471,7 @@ fn verdict_of(kind: Kind, bytes: Bytes) -> Verdict {
 
 #[test]
 fn accesses_by_packets_print_their_bytes(rt: HostRuntime) -> Result<(), Fail> {
+    are_as_many(&rt, ACCESSES.len(), REACHED);
     for (row, line) in ACCESSES.as_slice().iter().zip(REACHED.lines()) {
         let (queue, domain, envelope, key, kind, address, length, bytes) = *row;
         let verdict = verdict_of(kind, Bytes::copy_of(rt.alloc(), bytes)?);

@@ -1,4 +1,4 @@
-use super::{OTHER_QUEUE, QUEUE, entry, is_line};
+use super::{OTHER_QUEUE, QUEUE, are_as_many, entry, is_line};
 use ca_base::{Lot, QueueId};
 use ca_model::Event;
 use ca_trace::print;
@@ -125,6 +125,7 @@ fn turn_is<R: Abort + AllocGlobal>(
 
 #[test]
 fn turns_print_with_their_lots(rt: HostRuntime) -> Result<(), Fail> {
+    are_as_many(&rt, TURNS.len(), LINES);
     for (row, line) in TURNS.as_slice().iter().zip(LINES.lines()) {
         let (stamp, event) = row;
         turn_is(&rt, *stamp, event, line)?;
