@@ -11,6 +11,3 @@ mod region;
 
 pub use ca_base::RegionError;
 pub use region::Region;
-
-#[cfg(test)]
-mod tests;

@@ -1,0 +1,90 @@
+use super::{SLOT, holds};
+use ca_base::{Key, RegionError, Rights, Run};
+use ca_region::Region;
+use std::process::Abort;
+use std::test::Fail;
+
+const WRITE: Rights = Rights {
+    local_write: true,
+    remote_read: false,
+    remote_write: true,
+    remote_atomic: false,
+    window_bind: false,
+};
+
+const WRITE_ALONE: Rights = Rights {
+    local_write: false,
+    remote_read: false,
+    remote_write: true,
+    remote_atomic: false,
+    window_bind: false,
+};
+
+fn run(offset: u32, length: u32) -> Run {
+    Run {
+        adapter: 0,
+        buffer: 0,
+        offset,
+        length,
+    }
+}
+
+/// The offset, the length and the rights that are asked for over a buffer of 64 bytes, and why they are refused.
+const ASKED: [((u32, u32), Rights, Option<RegionError>); 8] = [
+    ((0, 0), WRITE, Some(RegionError::Empty)),
+    ((64, 0), WRITE_ALONE, Some(RegionError::Empty)),
+    ((64, 1), WRITE, Some(RegionError::OutsideBuffer)),
+    ((0, 65), WRITE_ALONE, Some(RegionError::OutsideBuffer)),
+    (
+        (4_294_967_295, 4_294_967_295),
+        WRITE,
+        Some(RegionError::OutsideBuffer),
+    ),
+    (
+        (0, 64),
+        WRITE_ALONE,
+        Some(RegionError::RightsNeedLocalWrite),
+    ),
+    ((63, 1), WRITE, None),
+    ((0, 64), WRITE, None),
+];
+
+fn error_is(rt: &impl Abort, error: Option<RegionError>, want: Option<RegionError>) {
+    assert_eq!(rt; error, want);
+}
+
+#[test]
+fn refuses_for_the_first_reason(rt: HostRuntime) {
+    for row in ASKED.as_slice() {
+        let ((offset, length), rights, want) = *row;
+        let mut region = Region::vacant();
+        let given = region.register(rt.alloc(), SLOT, run(offset, length), 64, rights);
+        error_is(&rt, given.err(), want);
+        holds(
+            &rt,
+            region.is_vacant() == want.is_some(),
+            "it is vacant still",
+        );
+    }
+}
+
+#[test]
+fn grants_the_last_byte_of_a_buffer(rt: HostRuntime) -> Result<(), Fail> {
+    let mut region = Region::vacant();
+    let grant = region
+        .register(rt.alloc(), SLOT, run(63, 1), 64, WRITE)
+        .ok()
+        .ok_or("the region is registered")?;
+    holds(&rt, grant.key == Key(1), "the key");
+    holds(
+        &rt,
+        grant.address == 0x1_0000_003f && grant.length == 1,
+        "the range",
+    );
+    holds(
+        &rt,
+        grant.runs.as_slice() == [run(63, 1)].as_slice(),
+        "the runs",
+    );
+    Ok(())
+}

@@ -1,0 +1,7 @@
+//! Tests of the text of a history: lines that another program wrote, and what prints of the same values.
+//!
+//! It has nothing but tests, so that the crate of the text is proved once.
+#![tactic(auto)]
+
+#[cfg(test)]
+mod tests;
