@@ -3,6 +3,7 @@ mod CarriedAnotherIndex
 mod CarriedAnotherOpcode
 mod CarriedAnotherPayload
 mod CarriedAnotherRemoteAddress
+mod CarriedArrived256Later
 mod CarriedArrivedAfterCreateQp
 mod CarriedArrivedAfterDestroyed
 mod CarriedArrivedAfterLost
@@ -14,6 +15,8 @@ mod CarriedIndexWithoutAPath
 mod CarriedInjectedElsewhere
 mod CarriedNoSuchRequest
 mod CarriedPathWithoutAnIndex
+mod CarriedReadFromNoMultipleOfThePathMtu
+mod CarriedReadOfAnEarlierIncarnation
 mod CarriedReadOfAnotherAddress
 mod CarriedReadOfMoreThanThePathMtu
 mod CarriedReadOfNoRequest
@@ -54,7 +57,9 @@ mod JudgedWrittenNothing
 mod JudgedWrittenThoughDenied
 mod LicensedAnotherDomain
 mod LicensedAnotherRange
+mod LicensedBindUnderAnotherLowByte
 mod LicensedDeregisteredWithoutRevoked
+mod LicensedFastRegistrationUnderAnotherLowByte
 mod LicensedGrantWithoutARequest
 mod LicensedInvalidatedWithoutRevoked
 mod LicensedKeyWithoutAGrant
@@ -68,7 +73,9 @@ mod LicensedRegionForAQueuePair
 mod LicensedRegionInvalidatedUnderItsWindow
 mod LicensedRegionWithoutBindRight
 mod LicensedRegionWithoutLocalWrite
+mod LicensedRevokedByABindOfAnotherWindow
 mod LicensedRevokedByAPacketOfAnotherKey
+mod LicensedRevokedByAPacketToAnotherDomain
 mod LicensedRevokedByAnotherDeregistration
 mod LicensedRevokedByAnotherEvent
 mod LicensedRevokedTwice
