@@ -1,1 +1,3 @@
 pub mod HistoryLemmas
+pub mod Literals
+mod Traces
