@@ -1,5 +1,5 @@
 -- The grants that a registration, a fast registration and a bind make. Contracts cite it.
-use Rattle.std.specs.Prelude.{ℕ, ◌+◌, ◌*◌, ◌%◌, Bool, true, false, not, ◌&&◌, ◌||◌, ◌==◌, nat_lt, List, [], ◌∷◌, map, Option, None, Some}
+use Rattle.std.specs.Prelude.{ℕ, ◌+◌, ◌*◌, ◌%◌, Bool, true, false, not, ◌&&◌, ◌||◌, ◌==◌, nat_lt, List, [], ◌∷◌, map, Option, None}
 use Rattle.ca_base.specs.declared.grant.Grant.{Grant}
 use Rattle.ca_base.specs.declared.limits.TheConstants.{PAGE_BYTES}
 use Rattle.ca_base.specs.declared.names.QueueId.{QueueId}

@@ -1,6 +1,6 @@
 -- Carried: what stands behind each packet that is sent or arrives, and behind each remote access. Contracts cite it.
-use Rattle.std.specs.Prelude.{ℕ, ◌+◌, ◌-◌, ◌*◌, ◌%◌, ◌^◌, Bool, true, false, not, ◌&&◌, ◌||◌, ◌==◌, nat_le, nat_lt, if◌then◌else◌, List, [], ◌∷◌, length, take, find, slice_get, Option, None, Some, IsTrue}
-use Rattle.std.specs.List.{list_any, list_all}
+use Rattle.std.specs.Prelude.{ℕ, ◌+◌, ◌-◌, ◌%◌, ◌^◌, Bool, true, false, not, ◌&&◌, ◌||◌, ◌==◌, nat_le, nat_lt, if◌then◌else◌, List, [], ◌∷◌, length, take, find, slice_get, Option, None, Some, IsTrue}
+use Rattle.std.specs.List.{list_any}
 use Rattle.std.specs.Option.{option_map_or, option_eq}
 use Rattle.std.specs.Str.{bytes_eq}
 use Rattle.ca_base.specs.declared.access.Ask.{Ask}
@@ -13,7 +13,6 @@ use Rattle.ca_base.specs.declared.verdict.Verdict.{Verdict}
 use Rattle.ca_base.specs.declared.verdict.Verdict.TheVariants as verdicts
 use Rattle.ca_base.specs.Equal.{key_eq, queue_eq}
 use Rattle.ca_base.specs.Memory.{ByteMap}
-use Rattle.ca_wire.specs.declared.atomic_eth.AtomicEth.{AtomicEth}
 use Rattle.ca_wire.specs.declared.reth.Reth.{Reth}
 use Rattle.ca_wire.specs.Packet.{Fields, spelling}
 use Rattle.ca_model.specs.declared.event.Event.{Event}
@@ -23,7 +22,7 @@ use Rattle.ca_model.specs.declared.mark.Mark.TheVariants as marks
 use Rattle.ca_model.specs.declared.verb.Verb.TheVariants as verbs
 use Rattle.ca_model.specs.Entries.{EntryValue}
 use Rattle.ca_model.specs.Packets.{packet_of, begins_write, continues_write, atomic_opcode, is_response}
-use Rattle.ca_model.specs.Past.{Past, Life, Envelope, Naming, LatestWrite, ReadRequest, Posted, Arrival, opening_past, life_of, life_eq, mtu_of, packet_at, injected_bytes, remote_ask, is_send_success, each_entry}
+use Rattle.ca_model.specs.Past.{Past, Envelope, LatestWrite, ReadRequest, Posted, opening_past, life_of, life_eq, mtu_of, packet_at, remote_ask, is_send_success, each_entry}
 use Rattle.ca_model.specs.Requests.{is_local, psns_of, carried_bytes, request_packet}
 
 -- the source named the target with the target's present incarnation
@@ -64,7 +63,7 @@ is_packet_of past source target bytes posted p =
     nat_lt (packet_index p.psn posted) (psns_of mtu posted.request.op)
     && (length payload == carried_bytes mtu posted.request.op (packet_index p.psn posted))
     && option_map_or (λ f. bytes_eq bytes (spelling f))
-      (request_packet mtu posted.request (packet_index p.psn posted) target.number p.psn payload) false
+    (request_packet mtu posted.request (packet_index p.psn posted) target.number p.psn payload) false
   where
     mtu : ℕ
     mtu = mtu_of past source
@@ -77,7 +76,7 @@ abbrev pub is_of_request : Past → QueueId → QueueId → Option ℕ → List 
 is_of_request past source target None bytes = true
 is_of_request past source target (Some place) bytes =
     option_map_or (λ posted. option_map_or (is_packet_of past source target bytes posted) (packet_of bytes) false)
-      (slice_get (past.posted (life_of past source)) place) false
+    (slice_get (past.posted (life_of past source)) place) false
 
 -- the write goes on where the latest one of its queue pair ended
 abbrev pub goes_on : Ask → LatestWrite → Bool
@@ -158,7 +157,7 @@ is_carried_access past ask envelope verdict kind = is_carried_by_arrival past as
 abbrev pub response_arrived : Past → QueueId → Bool
 response_arrived past q =
     option_map_or (λ a. queue_eq a.target q && option_map_or (λ p. is_response p.opcode) (packet_at past a.target a.index) false)
-      past.at_hand.arrival false
+    past.at_hand.arrival false
 
 -- the request of a completion has packets
 abbrev pub has_packets : Past → Completion → Bool

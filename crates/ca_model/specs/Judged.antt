@@ -1,5 +1,5 @@
 -- Judged: what each access of a history must be, by the grants and the bytes before it. Contracts cite it.
-use Rattle.std.specs.Prelude.{ℕ, ◌+◌, ◌/◌, ◌%◌, nat_le, nat_lt, Bool, true, false, not, ◌&&◌, ◌||◌, ◌==◌, List, [], ◌∷◌, length, Option, None, Some, is_none, IsTrue}
+use Rattle.std.specs.Prelude.{ℕ, ◌+◌, ◌/◌, ◌%◌, nat_le, nat_lt, Bool, true, false, ◌&&◌, ◌||◌, ◌==◌, List, [], ◌∷◌, length, Option, None, Some, is_none, IsTrue}
 use Rattle.std.specs.Option.{option_eq, option_map_or}
 use Rattle.std.specs.Str.{bytes_eq}
 use Rattle.ca_base.specs.declared.access.Ask.{Ask}
@@ -13,7 +13,6 @@ use Rattle.ca_base.specs.declared.verdict.Verdict.TheVariants as verdicts
 use Rattle.ca_base.specs.Allowed.{denial_of}
 use Rattle.ca_base.specs.Equal.{kind_eq, denial_eq}
 use Rattle.ca_base.specs.Memory.{ByteMap, places_count, runs_for, bytes_at, little_endian}
-use Rattle.ca_wire.specs.declared.atomic_eth.AtomicEth.{AtomicEth}
 use Rattle.ca_wire.specs.Packet.{Fields}
 use Rattle.ca_model.specs.declared.answer.Answer.{Answer}
 use Rattle.ca_model.specs.declared.answer.Answer.TheVariants as answers
@@ -68,7 +67,7 @@ is_read_or_write kind = kind_eq kind kinds.Read || kind_eq kind kinds.Write
 abbrev pub is_loaded : Past → Verb → Answer → Bool
 is_loaded past (verbs.Load adapter buffer offset count) (answers.Loaded bytes) =
     bytes_eq bytes (bytes_at past.memory
-      (record { adapter = adapter; buffer = buffer; offset = offset; length = count } ∷ []))
+    (record { adapter = adapter; buffer = buffer; offset = offset; length = count } ∷ []))
 is_loaded past verb (answers.Loaded bytes) = false
 is_loaded past verb answer = true
 

@@ -4,7 +4,6 @@ use Rattle.std.specs.List.{list_any, list_all}
 use Rattle.std.specs.Cmp.Lexicographic.{pointwise}
 use Rattle.std.specs.Option.{option_map_or, option_eq}
 use Rattle.ca_base.specs.declared.completion.Completion.{Completion}
-use Rattle.ca_base.specs.declared.completion.WcOp.TheVariants as operations
 use Rattle.ca_base.specs.declared.grant.Grant.{Grant}
 use Rattle.ca_base.specs.declared.key.Key.{Key}
 use Rattle.ca_base.specs.declared.names.DomainId.{DomainId}
@@ -14,7 +13,7 @@ use Rattle.ca_base.specs.declared.place.Run.{Run}
 use Rattle.ca_base.specs.declared.request.SendOp.{SendOp}
 use Rattle.ca_base.specs.declared.request.SendOp.TheVariants as ops
 use Rattle.ca_base.specs.declared.rights.Rights.{Rights}
-use Rattle.ca_base.specs.Equal.{key_eq, domain_eq, queue_eq, grant_eq, run_eq, operation_eq}
+use Rattle.ca_base.specs.Equal.{key_eq, domain_eq, queue_eq, grant_eq, run_eq}
 use Rattle.ca_base.specs.Grants.{grant_of_registration, grant_of_fast_registration, grant_of_bind, next_low, needs_local_write}
 use Rattle.ca_base.specs.Memory.{ByteMap, runs_at}
 use Rattle.ca_base.specs.Numbers.{region_index, window_index, index_of, domain_of}
@@ -29,7 +28,7 @@ use Rattle.ca_model.specs.declared.verb.Verb.{Verb}
 use Rattle.ca_model.specs.declared.verb.Verb.TheVariants as verbs
 use Rattle.ca_model.specs.Entries.{EntryValue}
 use Rattle.ca_model.specs.Packets.{asks_invalidate}
-use Rattle.ca_model.specs.Past.{Past, Way, BindTo, FastRegistration, Registration, Answered, Arrival, Posted, RevokedKey, opening_past, key_slot, key_slot_of, key_slot_eq, slot_beside, operation_at_hand, operation_performed, packet_at, after_mark, is_send_success, each_entry}
+use Rattle.ca_model.specs.Past.{Past, Way, BindTo, FastRegistration, Answered, Posted, opening_past, key_slot_of, key_slot_eq, slot_beside, operation_at_hand, operation_performed, packet_at, after_mark, each_entry}
 
 -- the region's grant in force with this key, in this domain
 abbrev pub region_with : Past → DomainId → Key → Option Grant
@@ -57,7 +56,7 @@ is_grant_of_verb past g a = by a.verb a.answer
   where
     by : Verb → Answer → Bool
     by (verbs.RegMr slot buffer offset count rights) (answers.Key key) =
-      grant_eq g (grant_of_registration slot (named_run slot buffer offset count) rights (fresh_low past slot)) && key_eq key g.key
+        grant_eq g (grant_of_registration slot (named_run slot buffer offset count) rights (fresh_low past slot)) && key_eq key g.key
     by verb answer = false
 
 -- the grant is that of a bind of this window, under this low byte, to a part of the region with this key
@@ -65,7 +64,7 @@ abbrev pub is_grant_of_bind : Past → Grant → Slot → ℕ → Option QueueId
 is_grant_of_bind past g slot low queue region address count rights =
     not (count == 0)
     && option_map_or (λ r. may_hold r address count rights && grant_eq g (grant_of_bind slot low queue r address count rights))
-      (region_with past slot.domain region) false
+    (region_with past slot.domain region) false
 
 -- the grant is what this local operation of a queue pair asked for
 abbrev pub is_grant_of_operation : Past → Grant → QueueId → Posted → Bool
@@ -73,11 +72,11 @@ is_grant_of_operation past g q p = by p.request.op
   where
     by : SendOp → Bool
     by (ops.FastReg region low buffer address count rights pages) =
-      grant_eq g (grant_of_fast_registration (slot_beside q region) low buffer address count rights pages)
+        grant_eq g (grant_of_fast_registration (slot_beside q region) low buffer address count rights pages)
     by (ops.Bind1 window region address count rights) =
-      option_map_or (λ low. is_grant_of_bind past g (slot_beside q window) low None region address count rights) p.drawn false
+        option_map_or (λ low. is_grant_of_bind past g (slot_beside q window) low None region address count rights) p.drawn false
     by (ops.Bind2 window region low address count rights) =
-      is_grant_of_bind past g (slot_beside q window) low (Some q) region address count rights
+        is_grant_of_bind past g (slot_beside q window) low (Some q) region address count rights
     by op = false
 
 -- the grant is what the event at hand asked for
@@ -145,7 +144,7 @@ ends_by_operation past g q p = by p.request.op
     by : SendOp → Bool
     by (ops.LocalInv key) = key_eq key g.key && domain_eq g.domain (domain_of q) && may_invalidate past q g
     by (ops.Bind1 window region address count rights) =
-      is_of_slot (slot_beside q window) (window_index (slot_beside q window)) g && is_none g.queue
+        is_of_slot (slot_beside q window) (window_index (slot_beside q window)) g && is_none g.queue
     by op = false
 
 -- this packet ends the grant: it is the last of a SEND with Invalidate that names its key

@@ -1,12 +1,11 @@
 -- Once: each atomic of a clean connection acts at most once, and exactly once where it completed with success. Contracts
 -- cite it.
-use Rattle.std.specs.Prelude.{ℕ, Bool, true, false, not, ◌&&◌, ◌||◌, ◌==◌, nat_le, List, [], ◌∷◌, length, Option, None, Some, IsTrue}
+use Rattle.std.specs.Prelude.{ℕ, Bool, false, not, ◌&&◌, ◌||◌, ◌==◌, nat_le, List, [], ◌∷◌, IsTrue}
 use Rattle.std.specs.List.{list_any, list_all, count_by}
-use Rattle.std.specs.Option.{option_map_or}
 use Rattle.std.specs.Str.{bytes_eq}
 use Rattle.ca_base.specs.Memory.{ByteMap, little_endian_bytes}
 use Rattle.ca_model.specs.Entries.{EntryValue}
-use Rattle.ca_model.specs.Past.{Past, Life, Naming, Start, Acted, Succeeded, life_eq, opening_past, after_entries}
+use Rattle.ca_model.specs.Past.{Past, Life, Naming, Acted, Succeeded, life_eq, opening_past, after_entries}
 
 -- no Rts that succeeded began this queue pair at another PSN than the other one expects
 abbrev pub begins_as_expected : Past → Life → Naming → Bool

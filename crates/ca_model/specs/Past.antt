@@ -1,11 +1,10 @@
 -- What the entries and marks so far have left, for the relations that look back. Each relation on a history says of
 -- each mark, or of each entry, what it must be, given this record. It knows no adapter. Contracts cite it.
-use Rattle.std.specs.Prelude.{ℕ, suc, ◌+◌, ◌-◌, ◌%◌, ◌^◌, Bool, true, false, not, ◌&&◌, ◌||◌, ◌==◌, if◌then◌else◌, List, [], ◌∷◌, ◌++◌, length, drop, filter, find, slice_get, Option, None, Some, is_some}
+use Rattle.std.specs.Prelude.{ℕ, suc, ◌-◌, Bool, true, false, not, ◌&&◌, ◌||◌, ◌==◌, if◌then◌else◌, List, [], ◌∷◌, ◌++◌, length, drop, filter, find, slice_get, Option, None, Some, is_some}
 use Rattle.std.specs.List.{list_any}
 use Rattle.std.specs.Option.{option_map, option_map_or, option_and_then}
 use Rattle.ca_base.specs.declared.access.Ask.{Ask}
 use Rattle.ca_base.specs.declared.access.Kind.{Kind}
-use Rattle.ca_base.specs.declared.access.Kind.TheVariants as kinds
 use Rattle.ca_base.specs.declared.access.Kind.TheVariants.{Write}
 use Rattle.ca_base.specs.declared.change.Change.{Change}
 use Rattle.ca_base.specs.declared.change.Change.TheVariants as changes
@@ -387,7 +386,7 @@ after_post q request (Some key) past = record past {
 
     drawn_by : SendOp → KeySlot → ℕ
     drawn_by (ops.Bind1 window region address length rights) =
-      with_at key_slot_eq past.drawn (window_slot (slot_beside q window)) (byte past (ops.Bind1 window region address length rights))
+        with_at key_slot_eq past.drawn (window_slot (slot_beside q window)) (byte past (ops.Bind1 window region address length rights))
     drawn_by op = past.drawn
 
 -- what an answered verb leaves; a verb that was refused leaves nothing
@@ -675,9 +674,9 @@ at_end past = record past { entries = suc past.entries; performed = by past.at_h
   where
     by : Event → Life → ℕ
     by (events.Request queue lot) =
-      if is_some (operation_performed past)
-      then with_at life_eq past.performed (life_of past queue) (suc (past.performed (life_of past queue)))
-      else past.performed
+        if is_some (operation_performed past)
+        then with_at life_eq past.performed (life_of past queue) (suc (past.performed (life_of past queue)))
+        else past.performed
     by event = past.performed
 
 -- what an entry leaves

@@ -1,9 +1,8 @@
 -- What a posted request asks for, and the packets that it is sent as. Contracts cite it.
-use Rattle.std.specs.Prelude.{ℕ, ◌+◌, ◌-◌, ◌*◌, ◌/◌, ◌%◌, ◌^◌, ◌<◌, min, max, Bool, true, false, List, [], sum_by, Option, None, Some}
+use Rattle.std.specs.Prelude.{ℕ, ◌+◌, ◌-◌, ◌*◌, ◌/◌, ◌%◌, ◌^◌, min, max, Bool, true, false, List, [], sum_by, Option, None, Some}
 use Rattle.ca_base.specs.declared.completion.WcOp.{WcOp}
 use Rattle.ca_base.specs.declared.completion.WcOp.TheVariants as operations
 use Rattle.ca_base.specs.declared.key.Key.{Key}
-use Rattle.ca_base.specs.declared.names.QueueId.{QueueId}
 use Rattle.ca_base.specs.declared.request.Piece.{Piece}
 use Rattle.ca_base.specs.declared.request.SendOp.{SendOp}
 use Rattle.ca_base.specs.declared.request.SendOp.TheVariants as ops
@@ -100,7 +99,7 @@ request_packet mtu request index queue psn payload = by request.op
 
     write : ℕ → Key → Option ℕ → ℕ → Option Fields
     write address key imm count =
-      Some (write_packet (segment mtu count index) (record { address = address; key = key; length = count }) imm request.solicited queue psn payload)
+        Some (write_packet (segment mtu count index) (record { address = address; key = key; length = count }) imm request.solicited queue psn payload)
 
     by : SendOp → Option Fields
     by (ops.Send list) = send Plain (list_length list.items)
@@ -109,8 +108,8 @@ request_packet mtu request index queue psn payload = by request.op
     by (ops.Write address key list) = write address key None (list_length list.items)
     by (ops.WriteImm address key imm list) = write address key (Some imm) (list_length list.items)
     by (ops.Read address key list) =
-      Some (read_request (reth_behind (index * mtu) address key (list_length list.items)) queue psn)
+        Some (read_request (reth_behind (index * mtu) address key (list_length list.items)) queue psn)
     by (ops.CmpSwap address key compare swap list) =
-      Some (cmp_swap (record { address = address; key = key; swap = swap; compare = compare }) queue psn)
+        Some (cmp_swap (record { address = address; key = key; swap = swap; compare = compare }) queue psn)
     by (ops.FetchAdd address key add list) = Some (fetch_add address key add queue psn)
     by op = None

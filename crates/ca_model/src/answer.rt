@@ -14,7 +14,10 @@ pub enum Answer {
     /// The key under which a region was registered.
     Key(Key),
     /// The number and the incarnation of a queue pair that was created.
-    Queue { number: u32, incarnation: u32 },
+    Queue {
+        number: u32,
+        incarnation: u32,
+    },
     /// The request was posted; the key that a bind of a type 1 window will install.
     Posted(Option<Key>),
     /// The completions that were taken, in order.
