@@ -1,5 +1,5 @@
 -- What a line has after a value was written into it, and what stands before text that is added.
-use Rattle.std.proofs.Common.{◌≡◌, ℕ, ◌≤◌, List, [], ◌++◌, length, take, drop, None, Some, Option, IfSome}
+use Rattle.std.proofs.Common.{◌≡◌, ℕ, List, [], ◌++◌, None, Some, Option, IfSome}
 use Rattle.std.proofs.lemmas.Fmt.{contents_after_writes}
 use Rattle.std.specs.Fmt.{WritesText}
 use Rattle.arrayvec.specs.ArrayString.{ArrayString}

@@ -1,5 +1,5 @@
 -- The history of a script is lawful.
-use Rattle.std.proofs.Common.{◌≡◌, ℕ, ◌<◌, ◌==◌, nat_le, nat_lt, Bool, true, false, ◌&&◌, ◌||◌, List, [], ◌∷◌, length, Option, None, Some, is_none, Ok, refl, sym, ap, subst, rules, arith, ◌∙◌}
+use Rattle.std.proofs.Common.{◌≡◌, ℕ, ◌<◌, ◌==◌, nat_le, nat_lt, Bool, true, false, ◌&&◌, ◌||◌, List, [], ◌∷◌, length, Option, None, Some, is_none, Ok, refl, sym, ap, subst, arith, ◌∙◌}
 use Rattle.std.proofs.lemmas.Bool.Decides.{nat_tests}
 use Rattle.ca_base.specs.declared.access.Denial.{Denial}
 use Rattle.ca_base.specs.declared.access.Denial.TheVariants.{NoGrant, WrongQueue, NoRight, OutOfRange}
@@ -21,7 +21,7 @@ use Rattle.ca_model.specs.Licensed.{is_licensed_history}
 use Rattle.ca_model.specs.Once.{is_once_history}
 use Rattle.ca_model.specs.Ordered.{is_ordered_history}
 use Rattle.ca_program.specs.declared.first_path.script.Script.{Script}
-use Rattle.ca_program.specs.FirstPath.ScriptHistory.{history_by, history, refusal, denial, ask, grants_after, region, grant, verdict, Asks, IsHistoryOf}
+use Rattle.ca_program.specs.FirstPath.ScriptHistory.{history_by, history, refusal, denial, ask, grants_after, grant, verdict, Asks, IsHistoryOf}
 use Rattle.ca_wire.specs.declared.reth.Reth.{Reth}
 use Rattle.ca_wire.specs.Decoding.{packet_in}
 use Rattle.ca_wire.specs.Packet.{Fields, Spells}

@@ -1,7 +1,7 @@
 -- The one history of a script: each of its seven verbs once, in order, with its answer; at the last one the packet
 -- arrives and its access is judged; where it is denied, one turn of the responder sends a NAK, which is lost. Contracts
 -- cite it.
-use Rattle.std.specs.Prelude.{◌≡◌, ℕ, ◌+◌, List, [], ◌∷◌, ◌++◌, length, false, Option, None, Some}
+use Rattle.std.specs.Prelude.{◌≡◌, ℕ, ◌+◌, List, [], ◌∷◌, ◌++◌, length, Option, None, Some}
 use Rattle.std.specs.Option.{option_and_then}
 use Rattle.ca_base.specs.declared.access.Ask.{Ask}
 use Rattle.ca_base.specs.declared.access.Denial.{Denial}
