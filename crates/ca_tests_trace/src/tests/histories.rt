@@ -1,4 +1,5 @@
 use super::{HERE, OTHER_SLOT, SLOT, THERE, is_text};
+use ca_base::{DomainId, Slot};
 use ca_model::{Answer, Entry, Event, History, Mark, Marks, Verb};
 use ca_trace::print_history;
 use std::alloc::Global;
@@ -12,32 +13,18 @@ const TEXT: &str = "@0 p0 c0 pd 0/0 -> ok
 end 4
 ";
 
-/// Its verbs, each answered that it was done.
-const VERBS: [(u32, Verb); 4] = [
-    (0, Verb::AllocPd { domain: HERE }),
-    (1, Verb::AllocPd { domain: THERE }),
-    (
-        0,
-        Verb::CreateCq {
-            slot: SLOT,
-            capacity: 8,
-        },
-    ),
-    (
-        1,
-        Verb::CreateCq {
-            slot: OTHER_SLOT,
-            capacity: 8,
-        },
-    ),
-];
-
-fn push(alloc: Global, history: &mut History, by: u32, verb: &Verb) -> Result<(), Fail> {
+// A consumer allocates a protection domain, and it is done.
+fn push_domain(
+    alloc: Global,
+    history: &mut History,
+    by: u32,
+    domain: DomainId,
+) -> Result<(), Fail> {
     let mut marks = Marks::empty(alloc);
     marks.reserve(1)?;
     marks.push(Mark::Verb {
         by,
-        verb: verb.clone()?,
+        verb: Verb::AllocPd { domain },
         answer: Answer::Fine,
     });
     let stamp = history.len() as u64;
@@ -46,7 +33,29 @@ fn push(alloc: Global, history: &mut History, by: u32, verb: &Verb) -> Result<()
         pass: 0,
         event: Event::Verb {
             by,
-            verb: verb.clone()?,
+            verb: Verb::AllocPd { domain },
+        },
+        marks,
+    })?;
+    Ok(())
+}
+
+// A consumer creates a completion queue for eight completions, and it is done.
+fn push_queue(alloc: Global, history: &mut History, by: u32, slot: Slot) -> Result<(), Fail> {
+    let mut marks = Marks::empty(alloc);
+    marks.reserve(1)?;
+    marks.push(Mark::Verb {
+        by,
+        verb: Verb::CreateCq { slot, capacity: 8 },
+        answer: Answer::Fine,
+    });
+    let stamp = history.len() as u64;
+    history.push(Entry {
+        stamp,
+        pass: 0,
+        event: Event::Verb {
+            by,
+            verb: Verb::CreateCq { slot, capacity: 8 },
         },
         marks,
     })?;
@@ -56,10 +65,10 @@ fn push(alloc: Global, history: &mut History, by: u32, verb: &Verb) -> Result<()
 #[test]
 fn a_history_prints_whole(rt: HostRuntime) -> Result<(), Fail> {
     let mut history = History::empty(rt.alloc());
-    for row in VERBS.as_slice() {
-        let (by, verb) = row;
-        push(rt.alloc(), &mut history, *by, verb)?;
-    }
+    push_domain(rt.alloc(), &mut history, 0, HERE)?;
+    push_domain(rt.alloc(), &mut history, 1, THERE)?;
+    push_queue(rt.alloc(), &mut history, 0, SLOT)?;
+    push_queue(rt.alloc(), &mut history, 1, OTHER_SLOT)?;
     let mut out = Vec::new(rt.alloc());
     print_history(&history, &mut out)?;
     is_text(&rt, out.as_slice(), TEXT);
