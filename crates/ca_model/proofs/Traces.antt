@@ -61,6 +61,7 @@ mod LicensedBindUnderAnotherLowByte
 mod LicensedDeregisteredWithoutRevoked
 mod LicensedFastRegistrationUnderAnotherLowByte
 mod LicensedGrantWithoutARequest
+mod LicensedGrantedByABindThatFailed
 mod LicensedInvalidatedWithoutRevoked
 mod LicensedKeyWithoutAGrant
 mod LicensedOldLowByte

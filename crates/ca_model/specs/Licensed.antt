@@ -1,5 +1,5 @@
 -- Licensed: which grants a history may hold, and when a key comes into force and ends. Contracts cite it.
-use Rattle.std.specs.Prelude.{ℕ, Bool, true, false, not, ◌&&◌, ◌||◌, ◌==◌, nat_le, ◌+◌, find, List, Option, None, Some, is_none, IsTrue}
+use Rattle.std.specs.Prelude.{ℕ, Bool, true, false, not, ◌&&◌, ◌||◌, ◌==◌, nat_le, ◌+◌, find, List, Option, None, Some, is_none, IsTrue, is_some, [], ◌∷◌}
 use Rattle.std.specs.List.{list_any, list_all}
 use Rattle.std.specs.Cmp.Lexicographic.{pointwise}
 use Rattle.std.specs.Option.{option_map_or, option_eq}
@@ -131,11 +131,11 @@ may_invalidate past q g =
 abbrev pub is_of_slot : Slot → ℕ → Grant → Bool
 is_of_slot slot index g = domain_eq g.domain slot.domain && (index_of g.key == index)
 
--- this verb ends the grant: a deregistration or a deallocation of its slot
-abbrev pub ends_by_verb : Verb → Grant → Bool
-ends_by_verb (verbs.DeregMr slot) g = is_of_slot slot (region_index slot) g
-ends_by_verb (verbs.DeallocMw slot) g = is_of_slot slot (window_index slot) g
-ends_by_verb verb g = false
+-- this verb ends the grant: a deregistration or a deallocation of its slot that succeeded
+abbrev pub ends_by_verb : Verb → Answer → Grant → Bool
+ends_by_verb (verbs.DeregMr slot) answers.Fine g = is_of_slot slot (region_index slot) g
+ends_by_verb (verbs.DeallocMw slot) answers.Fine g = is_of_slot slot (window_index slot) g
+ends_by_verb verb answer g = false
 
 -- this local operation of a queue pair ends the grant: a Local Invalidate of its key, or a bind of its type 1 window
 abbrev pub ends_by_operation : Past → Grant → QueueId → Posted → Bool
@@ -162,7 +162,7 @@ abbrev pub ends_at_hand : Past → Grant → Bool
 ends_at_hand past g = by past.at_hand.event || ends_by_arrival past g
   where
     by : Event → Bool
-    by (events.Verb by' verb) = ends_by_verb verb g
+    by (events.Verb by' verb) = option_map_or (λ a. ends_by_verb a.verb a.answer g) past.at_hand.answered false
     by (events.Request queue lot) = option_map_or (ends_by_operation past g queue) (operation_at_hand past) false
     by event = false
 
@@ -207,12 +207,28 @@ operation_is_effective past p = by past.at_hand.event p.request.op
 abbrev pub completion_is_effective : Past → Completion → Bool
 completion_is_effective past c = option_map_or (was_revoked past c.queue.adapter) c.invalidated true
 
--- the success of an invalidation stands in one event with its Revoked, and that of a registration with its Granted
+-- nothing is in a list
+abbrev pub is_empty : {A : Type 0} → List A → Bool
+is_empty [] = true
+is_empty (x ∷ xs) = false
+
+-- in a request's event that performed no local operation no key came into force and none ended
+abbrev pub grants_by_performing : Past → Bool
+grants_by_performing past = by past.at_hand.event
+  where
+    by : Event → Bool
+    by (events.Request queue lot) =
+        is_some (operation_performed past) || (is_empty past.at_hand.granted && is_empty past.at_hand.revoked)
+    by event = true
+
+-- the success of an invalidation stands in one event with its Revoked, and that of a registration with its Granted; a
+-- local operation that was not performed grants and ends nothing
 abbrev pub is_effective_at_end : Past → Bool
 is_effective_at_end past =
     option_map_or (is_effective past) past.at_hand.answered true
     && option_map_or (operation_is_effective past) (operation_performed past) true
     && list_all (completion_is_effective past) past.at_hand.completed
+    && grants_by_performing past
 
 -- each grant and each end of one is licensed, and each success has its effect
 abbrev pub is_licensed_history : ByteMap → List EntryValue → Bool
