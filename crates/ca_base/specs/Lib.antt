@@ -6,3 +6,5 @@ pub mod Memory
 pub mod Grants
 pub mod Configuration
 pub mod Spelling
+pub mod Sight
+pub mod objects
