@@ -13,3 +13,4 @@ pub mod Carried
 pub mod Once
 pub mod Ordered
 pub mod Lawful
+pub mod machine

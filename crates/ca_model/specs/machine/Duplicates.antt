@@ -1,0 +1,84 @@
+-- The responder's packets ahead of the expected one and before it, and the row of a request that arrived. Contracts cite
+-- it.
+use Rattle.std.specs.Prelude.{ℕ, ◌+◌, ◌-◌, ◌==◌, ◌&&◌, nat_le, nat_lt, true, false, if◌then◌else◌, List, [], filter, length, Option, None, Some}
+use Rattle.std.specs.List.{list_any}
+use Rattle.std.specs.Option.{option_map_or}
+use Rattle.ca_base.specs.declared.limits.TheConstants.{MAX_DUPLICATES}
+use Rattle.ca_base.specs.declared.queue_numbers.Queued.{Queued}
+use Rattle.ca_base.specs.declared.queue_numbers.Queued.TheVariants as queued
+use Rattle.ca_base.specs.objects.QueuePair.{QueuePair}
+use Rattle.ca_base.specs.objects.Saved.{saved_at}
+use Rattle.ca_base.specs.objects.SharedReceives.{SharedReceives}
+use Rattle.ca_psn.specs.Psn.{widened}
+use Rattle.ca_wire.specs.declared.reth.Reth.{Reth}
+use Rattle.ca_wire.specs.declared.syndrome.NakCode.TheVariants.{PsnSequenceError}
+use Rattle.ca_wire.specs.Packet.{Fields}
+use Rattle.ca_wire.specs.Syndrome.{nak_code}
+use Rattle.ca_model.specs.declared.mark.Drop1.TheVariants as drops
+use Rattle.ca_model.specs.Requests.{segments}
+use Rattle.ca_model.specs.machine.Arrivals.{count_of, is_duplicate, is_nak, psn_of_answer, with_answer, with_flag, with_responder}
+use Rattle.ca_model.specs.machine.Expected.{expected_row}
+use Rattle.ca_model.specs.machine.Responses.{dropped}
+use Rattle.ca_model.specs.machine.Row.{Effects, quiet, Row, ends, Does}
+use Rattle.ca_model.specs.machine.Shapes.{Shape, SendAt, WriteAt, ReadRequest, Atomic}
+
+-- a packet ahead: the first asks for what is missing, the others are dropped
+abbrev pub ahead : QueuePair → Effects
+ahead q =
+    if q.responder.nak_sent then dropped q drops.Stale
+    else quiet (with_flag true (with_answer (queued.Nak q.responder.expected (nak_code PsnSequenceError)) q)) []
+
+-- the answers before a PSN
+abbrev pub answers_before : ℕ → List Queued → List Queued
+answers_before psn answers = filter (λ a. nat_lt (psn_of_answer a) psn) answers
+
+-- the queued answers at a PSN or later are removed; with a NAK or an RNR NAK the flag goes
+abbrev pub with_answers_before : ℕ → QueuePair → QueuePair
+with_answers_before psn q = with_responder (record q.responder {
+  answers = answers_before psn q.responder.answers;
+  nak_sent =
+      if list_any (λ a. is_nak a && nat_le psn (psn_of_answer a)) q.responder.answers then false else q.responder.nak_sent;
+}) q
+
+-- an answer that is given once more
+abbrev pub answered_again : ℕ → Queued → QueuePair → Effects
+answered_again psn answer q = quiet (with_answer answer (with_answers_before psn q)) []
+
+-- a SEND or a WRITE once more: an ACK of all that came, where nothing waits to be answered
+abbrev pub acked_again : QueuePair → Effects
+acked_again q =
+    if length q.responder.answers == 0 then quiet (with_answer (queued.Ack (q.responder.expected - 1)) q) []
+    else dropped q drops.Unsaved
+
+-- a READ once more, where all its PSNs lie before the expected one
+abbrev pub read_again : ℕ → Option ℕ → Reth → QueuePair → Effects
+read_again psn envelope h q =
+    if nat_le (psn + segments q.responder.mtu h.length) q.responder.expected
+    then answered_again psn (queued.Read psn h.key h.address h.length true envelope true) q
+    else dropped q drops.Unsaved
+
+-- an atomic once more: what it found is saved, or not any more
+abbrev pub atomic_again : ℕ → Option ℕ → QueuePair → Effects
+atomic_again psn (Some found) q = answered_again psn (queued.Atomic psn found true) q
+atomic_again psn None q = dropped q drops.Unsaved
+
+-- a duplicate, by its whole PSN
+abbrev pub duplicate : ℕ → Fields → Option ℕ → Shape → QueuePair → Effects
+duplicate psn p envelope shape q =
+    if nat_le MAX_DUPLICATES (count_of is_duplicate q) then dropped q drops.Unsaved else by shape
+  where
+    by : Shape → Effects
+    by (SendAt place) = acked_again q
+    by (WriteAt place) = acked_again q
+    by ReadRequest = option_map_or (λ h. read_again psn envelope h q) p.reth (dropped q drops.Unsaved)
+    by (Atomic kind) = atomic_again psn (saved_at psn q.saved) q
+
+-- a request that arrived: ahead, a duplicate, or the expected one
+abbrev pub request_row : Fields → Option ℕ → Option SharedReceives → Shape → QueuePair → Row
+request_row p envelope shared shape q = by (widened q.responder.expected p.psn)
+  where
+    by : ℕ → Row
+    by psn =
+        if nat_lt q.responder.expected psn then ends (Does (ahead q))
+        else if nat_lt psn q.responder.expected then ends (Does (duplicate psn p envelope shape q))
+        else expected_row q shared p envelope shape

@@ -1,0 +1,185 @@
+-- The local operations of a send queue: a bind, a fast registration and a Local Invalidate, as the requester's turn
+-- performs them. Contracts cite it.
+use Rattle.std.specs.Prelude.{ℕ, suc, ◌==◌, false, if◌then◌else◌, List, [], ◌∷◌, ◌++◌, Option, None, Some}
+use Rattle.std.specs.Option.{option_map, option_map_or, option_and_then}
+use Rattle.ca_base.specs.declared.completion.WcStatus.TheVariants.{MemoryManagement}
+use Rattle.ca_base.specs.declared.grant.Grant.{Grant}
+use Rattle.ca_base.specs.declared.key.Key.{Key}
+use Rattle.ca_base.specs.declared.names.DomainId.{DomainId}
+use Rattle.ca_base.specs.declared.names.QueueId.{QueueId}
+use Rattle.ca_base.specs.declared.names.Slot.{Slot}
+use Rattle.ca_base.specs.declared.refusals.OpRefusal.{OpRefusal}
+use Rattle.ca_base.specs.declared.region_view.RegionView.{RegionView}
+use Rattle.ca_base.specs.declared.request.SendOp.{SendOp}
+use Rattle.ca_base.specs.declared.request.SendOp.TheVariants as ops
+use Rattle.ca_base.specs.declared.rights.Rights.{Rights}
+use Rattle.ca_base.specs.Configuration.{Configuration}
+use Rattle.ca_base.specs.Equal.{slot_eq}
+use Rattle.ca_base.specs.Grants.{grant_of_bind, grant_of_fast_registration}
+use Rattle.ca_base.specs.Refusals.{first_of}
+use Rattle.ca_base.specs.Sight.{Invalidation}
+use Rattle.ca_base.specs.objects.LocalRequest.{LocalMarks, bind1_request_refusals, bind2_request_refusals, fast_request_refusals, view_by_key}
+use Rattle.ca_base.specs.objects.QueuePair.{QueuePair}
+use Rattle.ca_base.specs.objects.Region.{Region, grant_of_region, after_fast_registration, with_window_bound, with_window_unbound}
+use Rattle.ca_base.specs.objects.Slices.{buffer_length, names_region, slot_of_key}
+use Rattle.ca_base.specs.objects.Window.{Window, Binding, after_bind1, after_binding, bound_key}
+use Rattle.ca_model.specs.declared.mark.Mark.{Mark}
+use Rattle.ca_model.specs.declared.mark.Mark.TheVariants as marks
+use Rattle.ca_model.specs.machine.Acknowledged.{failed, with_requester}
+use Rattle.ca_model.specs.machine.Completions.{success_marks}
+use Rattle.ca_model.specs.machine.Expected.{with_window_gone}
+use Rattle.ca_model.specs.machine.Numbering.{Numbered}
+use Rattle.ca_model.specs.machine.Plan.{Plan, Look, If, Change, ◌:=◌, Write}
+use Rattle.ca_model.specs.machine.Row.{Effects, quiet, Row, Row_plan, Does, region_under, unless_none}
+use Rattle.ca_model.specs.machine.World.{Region_of, Window_of}
+
+-- a region with its slot
+pub record PlacedRegion : Type 0 where
+  pub slot : Slot
+  pub region : Region
+
+-- looks at the region that a key of the domain names
+abbrev pub With_named : Configuration → DomainId → Key → (Option PlacedRegion → Plan) → Plan
+With_named c d key k =
+    If (names_region c d key) (Look (Region_of slot) (λ region. k (Some (record { slot = slot; region = region })))) (k None)
+  where
+    slot : Slot
+    slot = slot_of_key d key
+
+-- looks at the region in which a window is bound
+abbrev pub With_former : Window → (Option PlacedRegion → Plan) → Plan
+With_former w k = by w.binding
+  where
+    by : Option Binding → Plan
+    by None = k None
+    by (Some b) = Look (Region_of (region_under w b)) (λ region. k (Some (record { slot = region_under w b; region = region })))
+
+-- the operation is finished: the next one is the oldest unfinished, and none of the requests that began is left
+abbrev pub performed : Numbered → QueuePair → QueuePair
+performed n q = with_requester (record q.requester { oldest = suc n.place; next = suc n.place }) q
+
+-- what the operation revoked and granted, as marks
+abbrev pub local_marks : QueuePair → LocalMarks → List Mark
+local_marks q m =
+    option_map_or (λ key. marks.Revoked q.queue.adapter key ∷ []) m.revoked []
+    ++ option_map_or (λ g. marks.Granted g ∷ []) m.granted []
+
+-- the operation's end: a success, or a failure with its cause; `after` is the queue pair with its windows counted
+abbrev pub operation_ended : QueuePair → Numbered → QueuePair → LocalMarks → Option OpRefusal → Effects
+operation_ended q n after m (Some cause) = failed MemoryManagement (Some cause) q
+operation_ended q n after m None =
+    quiet (performed n after) (local_marks q m ++ success_marks q n.place n.request)
+
+-- the region in which a window was bound has one window fewer
+abbrev pub former_changes : Option PlacedRegion → List Change
+former_changes former = option_map_or (λ f. (Region_of f.slot := with_window_unbound f.region) ∷ []) former []
+
+-- the named region, after the window left the former one
+abbrev pub region_left : Option PlacedRegion → PlacedRegion → Region
+region_left former n =
+    if option_map_or (λ f. slot_eq f.slot n.slot) former false then with_window_unbound n.region else n.region
+
+-- the named region has one window more
+abbrev pub named_changes : Option PlacedRegion → Option PlacedRegion → List Change
+named_changes former named =
+    option_map_or (λ n. (Region_of n.slot := with_window_bound (region_left former n)) ∷ []) named []
+
+-- the grant of a bind over the named region
+abbrev pub bind_grant : Slot → ℕ → Option QueueId → Option PlacedRegion → ℕ → ℕ → Rights → Option Grant
+bind_grant slot low queue named address count rights =
+    option_map (λ g. grant_of_bind slot low queue g address count rights) (option_and_then (λ n. grant_of_region n.region) named)
+
+-- what is seen of the named region
+abbrev pub view_named : Key → Option PlacedRegion → Option RegionView
+view_named key named = option_and_then (λ n. view_by_key key n.region) named
+
+-- the slot of the region that is named
+abbrev pub named_slot : Option PlacedRegion → ℕ
+named_slot named = option_map_or (λ n. n.slot.slot) named 0
+
+-- how an operation's plan goes on with what it changes
+abbrev pub Finishing : Type 0
+Finishing = Effects → List Change → List Write → Plan
+
+-- a bind of a type 1 window
+abbrev pub Bind1_plan : Configuration → QueuePair → Numbered → ℕ → Key → ℕ → ℕ → Rights → Finishing → Plan
+Bind1_plan c q n window key address count rights finish =
+    Look (Window_of slot) (λ w. With_named c q.domain key (λ named. With_former w (λ former.
+    by w former named (first_of (bind1_request_refusals n.drawn (view_named key named) address count rights w)))))
+  where
+    slot : Slot
+    slot = record { domain = q.domain; slot = window }
+
+    drawn : ℕ
+    drawn = option_map_or (λ b. b) n.drawn 0
+
+    by : Window → Option PlacedRegion → Option PlacedRegion → Option OpRefusal → Plan
+    by w former named refusal = finish
+        (operation_ended q n q (record {
+          revoked = bound_key w;
+          granted = if count == 0 then None else bind_grant slot drawn None named address count rights;
+        }) refusal)
+        (unless_none refusal ((Window_of slot := after_bind1 drawn (named_slot named) address count rights w)
+        ∷ former_changes former ++ (if count == 0 then [] else named_changes former named)))
+        []
+
+-- a bind of a type 2 window, for this queue pair
+abbrev pub Bind2_plan : Configuration → QueuePair → Numbered → ℕ → Key → ℕ → ℕ → ℕ → Rights → Finishing → Plan
+Bind2_plan c q n window key low address count rights finish =
+    Look (Window_of slot) (λ w. With_named c q.domain key (λ named. With_former w (λ former.
+    by w named (first_of (bind2_request_refusals (view_named key named) address count rights w)))))
+  where
+    slot : Slot
+    slot = record { domain = q.domain; slot = window }
+
+    by : Window → Option PlacedRegion → Option OpRefusal → Plan
+    by w named refusal = finish
+        (operation_ended q n (record q { windows = suc q.windows }) (record {
+          revoked = None;
+          granted = bind_grant slot low (Some q.queue) named address count rights;
+        }) refusal)
+        (unless_none refusal ((Window_of slot := after_binding low (Some q.queue) (named_slot named) address count rights w)
+        ∷ named_changes None named))
+        []
+
+-- a fast registration
+abbrev pub Fast_plan : Configuration → QueuePair → Numbered → ℕ → ℕ → ℕ → ℕ → ℕ → Rights → List ℕ → Finishing → Plan
+Fast_plan c q n region low buffer address count rights pages finish =
+    Look (Region_of slot) (λ r. by r (first_of
+    (fast_request_refusals slot buffer (buffer_length c q.domain.adapter buffer) address count rights pages r)))
+  where
+    slot : Slot
+    slot = record { domain = q.domain; slot = region }
+
+    by : Region → Option OpRefusal → Plan
+    by r refusal = finish
+        (operation_ended q n q (record {
+          revoked = None;
+          granted = Some (grant_of_fast_registration slot low buffer address count rights pages);
+        }) refusal)
+        (unless_none refusal ((Region_of slot := after_fast_registration slot low buffer address count rights pages r) ∷ []))
+        []
+
+-- a Local Invalidate
+abbrev pub invalidate_row : QueuePair → Numbered → Key → Row
+invalidate_row q n key = record {
+  asks = [];
+  invalidation = Some i;
+  denied = λ d. Does (quiet q []);
+  allowed = λ bytes refusal. Does (operation_ended q n (with_window_gone (Some i) q) (record { revoked = Some key; granted = None }) refusal);
+}
+  where
+    i : Invalidation
+    i = record { queue = q.queue; domain = q.domain; key = key }
+
+-- a local operation is performed
+abbrev pub Perform_plan : Configuration → QueuePair → Numbered → Finishing → Plan
+Perform_plan c q n finish = by n.request.op
+  where
+    by : SendOp → Plan
+    by (ops.Bind1 window key address count rights) = Bind1_plan c q n window key address count rights finish
+    by (ops.Bind2 window key low address count rights) = Bind2_plan c q n window key low address count rights finish
+    by (ops.FastReg region low buffer address count rights pages) =
+        Fast_plan c q n region low buffer address count rights pages finish
+    by (ops.LocalInv key) = Row_plan c (invalidate_row q n key) finish
+    by op = finish (quiet q []) [] []

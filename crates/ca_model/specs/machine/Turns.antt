@@ -1,0 +1,126 @@
+-- The turns of a queue pair's engine: request, respond, timeout and wake. Contracts cite it.
+use Rattle.std.specs.Prelude.{ℕ, ◌==◌, ◌&&◌, ◌||◌, Bool, true, false, not, if◌then◌else◌, List, [], ◌∷◌, ◌++◌, length, Option, None, Some, is_none}
+use Rattle.std.specs.Option.{option_map_or}
+use Rattle.ca_base.specs.declared.lot.Lot.{Lot}
+use Rattle.ca_base.specs.declared.names.QueueId.{QueueId}
+use Rattle.ca_base.specs.declared.step.Reason.TheVariants as reasons
+use Rattle.ca_base.specs.declared.step.Sent.{Sent}
+use Rattle.ca_base.specs.declared.step.Sent.TheVariants.{Silent, Spelt}
+use Rattle.ca_base.specs.Configuration.{Configuration}
+use Rattle.ca_base.specs.objects.Mailbox.{Correspondent, Mailbox, after_send, has_room, is_lost, passes, undelivered}
+use Rattle.ca_base.specs.objects.QueuePair.{QueuePair, QueueSlot, Present, correspondent_of, queue_in, srq_of}
+use Rattle.ca_model.specs.declared.mark.Mark.{Mark}
+use Rattle.ca_model.specs.declared.mark.Mark.TheVariants as marks
+use Rattle.ca_model.specs.machine.Arrivals.{next_receive}
+use Rattle.ca_model.specs.machine.Around.{Around, With_around, With_queue, changes_of}
+use Rattle.ca_model.specs.machine.LocalOperations.{Perform_plan}
+use Rattle.ca_model.specs.machine.Plan.{Plan, Stuck, Look, Finish, Change, ◌:=◌, Write, unless_refused}
+use Rattle.ca_model.specs.machine.Requester.{RequestTurn, Waits, Performs, Sends, turn_of, packet_row}
+use Rattle.ca_model.specs.machine.Respond.{respond_refusals, respond_row}
+use Rattle.ca_model.specs.machine.Row.{Effects, Row_plan}
+use Rattle.ca_model.specs.machine.Timers.{after_timeout, after_wake, timeout_refusals, wake_refusals}
+use Rattle.ca_model.specs.machine.World.{Mailbox_of, Queue_of, Srq_of}
+
+-- the path exists: the peer's mailbox accepts the queue pair
+abbrev pub has_path : QueuePair → Correspondent → Mailbox → Bool
+has_path q peer m = passes (correspondent_of q) peer.incarnation m
+
+-- there is room for a packet, or it is lost anyway
+abbrev pub has_room_for : QueuePair → Correspondent → Mailbox → Bool
+has_room_for q peer m = not (has_path q peer m) || has_room m
+
+-- what is sent: a packet of a request, or a response
+pub record Packet : Type 0 where
+  pub request : Option ℕ
+  pub bytes : List ℕ
+
+abbrev pub packet_sent : Effects → Option Packet
+packet_sent e = by e.sent
+  where
+    by : Sent → Option Packet
+    by Silent = None
+    by (Spelt request) = Some (record { request = request; bytes = e.spelt })
+
+-- the marks of a packet: it is under way, or lost by the weather, or lost since no path leads to the peer
+abbrev pub sent_marks : QueuePair → Correspondent → Mailbox → Lot → Packet → List Mark
+sent_marks q peer m lot p =
+    if has_path q peer m
+    then marks.Sent q.queue peer.queue (Some m.next) p.request p.bytes
+    ∷ (if is_lost lot then marks.Lost peer.queue (Some m.next) ∷ [] else [])
+    else marks.Sent q.queue peer.queue None p.request p.bytes ∷ marks.Lost peer.queue None ∷ []
+
+-- the peer's mailbox has the packet, where a path leads there
+abbrev pub sent_changes : QueuePair → Correspondent → Mailbox → Lot → Packet → List Change
+sent_changes q peer m lot p = if has_path q peer m then (Mailbox_of peer.queue := after_send lot p.bytes m) ∷ [] else []
+
+-- a turn is done: what its effects change, and the packet that it sends
+abbrev pub Left : QueuePair → Around → Correspondent → Mailbox → Lot → Effects → List Change → List Write → Plan
+Left q a peer m lot e changes writes = Finish
+    (changes_of q a e ++ (changes ++ option_map_or (sent_changes q peer m lot) (packet_sent e) []))
+    writes
+    (e.marks ++ option_map_or (sent_marks q peer m lot) (packet_sent e) [])
+
+-- the requester's turn
+abbrev pub request_plan : Configuration → QueueId → Lot → Plan
+request_plan c q lot = With_queue c q reasons.State (λ queue. With_around queue (λ a. by queue a queue.peer (turn_of queue)))
+  where
+    by : QueuePair → Around → Option Correspondent → RequestTurn → Plan
+    by queue a peer (Waits reason) = Stuck reason
+    by queue a peer (Performs n) = Perform_plan c queue n (λ e changes writes. Finish (changes_of queue a e ++ changes) writes e.marks)
+    by queue a None (Sends n) = Stuck reasons.State
+    by queue a (Some peer) (Sends n) = Look (Mailbox_of peer.queue) (λ m.
+        Row_plan c (packet_row queue (has_room_for queue peer m) n) (Left queue a peer m lot))
+
+-- the responder's turn
+abbrev pub respond_plan : Configuration → QueueId → Lot → Plan
+respond_plan c q lot = With_queue c q reasons.State (λ queue. With_around queue (λ a. by queue a queue.peer))
+  where
+    by : QueuePair → Around → Option Correspondent → Plan
+    by queue a None = unless_refused (respond_refusals true queue) Stuck (Stuck reasons.Empty)
+    by queue a (Some peer) = Look (Mailbox_of peer.queue) (λ m.
+        Row_plan c (respond_row (has_room_for queue peer m) queue) (Left queue a peer m lot))
+
+-- nothing is under way to the queue pair, and, where a path leads to the peer, nothing to it, and it owes no answer
+abbrev pub is_silent : QueuePair → Mailbox → Correspondent → QueueSlot → Mailbox → Bool
+is_silent q own peer slot m =
+    (undelivered own.envelopes == 0)
+    && (not (has_path q peer m)
+    || ((undelivered m.envelopes == 0) && option_map_or (λ p. length p.responder.answers == 0) (queue_in slot) true))
+
+-- a timer's turn
+abbrev pub timeout_plan : Configuration → QueueId → Bool → Plan
+timeout_plan c q hasten = With_queue c q reasons.State (λ queue. Look (Mailbox_of q) (λ own. With_around queue (λ a. by queue own a queue.peer)))
+  where
+    fires : QueuePair → Around → Bool → Plan
+    fires queue a silent = unless_refused (timeout_refusals silent hasten queue) Stuck
+        (Finish (changes_of queue a (after_timeout silent queue)) [] (after_timeout silent queue).marks)
+
+    by : QueuePair → Mailbox → Around → Option Correspondent → Plan
+    by queue own a None = unless_refused (timeout_refusals false hasten queue) Stuck (Stuck reasons.Empty)
+    by queue own a (Some peer) = Look (Queue_of peer.queue) (λ slot. Look (Mailbox_of peer.queue) (λ m.
+        fires queue a (is_silent queue own peer slot m)))
+
+-- looks at whether a queue pair has no receive to take
+abbrev pub With_receives : QueueSlot → (Bool → Plan) → Plan
+With_receives slot k = by (queue_in slot)
+  where
+    source : QueuePair → Option ℕ → Plan
+    source p None = k (is_none (next_receive p None))
+    source p (Some srq) = Look (Srq_of (srq_of p srq)) (λ s. k (is_none (next_receive p s.srq)))
+
+    by : Option QueuePair → Plan
+    by None = k true
+    by (Some p) = source p p.srq
+
+-- the wake after an RNR NAK
+abbrev pub wake_plan : Configuration → QueueId → Plan
+wake_plan c q = With_queue c q reasons.State (λ queue. by queue queue.peer)
+  where
+    wakes : QueuePair → Bool → Plan
+    wakes queue peer_empty = unless_refused (wake_refusals peer_empty queue) Stuck
+        (Finish ((Queue_of queue.queue := Present (after_wake queue).queue) ∷ []) [] (after_wake queue).marks)
+
+    by : QueuePair → Option Correspondent → Plan
+    by queue None = unless_refused (wake_refusals false queue) Stuck (Stuck reasons.Empty)
+    by queue (Some peer) = Look (Queue_of peer.queue) (λ slot. Look (Mailbox_of peer.queue) (λ m.
+        With_receives slot (λ empty. wakes queue (has_path queue peer m && empty))))
