@@ -1,6 +1,7 @@
 -- Short constructors, in which the histories of traces are written. For proofs only.
 use Rattle.std.proofs.Common.{ℕ, Bool, List, Option}
 use Rattle.arrayvec.specs.ArrayVec.{ArrayVec}
+use Rattle.ca_base.specs.Configuration.{Adapter}
 use Rattle.ca_base.specs.declared.completion.Completion.{Completion}
 use Rattle.ca_base.specs.declared.completion.WcOp.{WcOp}
 use Rattle.ca_base.specs.declared.completion.WcStatus.{WcStatus}
@@ -84,3 +85,14 @@ grant key domain queue local address count rights runs = record {
 
 abbrev pub entry : ℕ → ℕ → Event → List Mark → EntryValue
 entry stamp pass event marks = record { stamp = stamp; pass = pass; event = event; marks = marks }
+
+abbrev pub adapter : List ℕ → ℕ → ℕ → ℕ → ℕ → ℕ → ℕ → Adapter
+adapter buffers domains regions windows cqs srqs qps = record {
+  buffers = buffers;
+  domains = domains;
+  regions = regions;
+  windows = windows;
+  cqs = cqs;
+  srqs = srqs;
+  qps = qps;
+}
