@@ -223,13 +223,14 @@ after_write_packet q p place r next =
         (receive_mark q receive.place receive.receive Success operations.RecvImm r.whole (Some imm) None ∷ []))
     by imm next = quiet (done q) []
 
--- a WRITE packet: judged for all bytes that are left, of which it touches its payload; one of no bytes meets no key
+-- a WRITE packet: judged for all bytes that are left, of which it touches its payload; one of no bytes meets no key, and
+-- has its mark too
 abbrev pub write_row : QueuePair → Fields → Option ℕ → Position → Option PlacedReceive → Reach → Row
 write_row q p envelope place next r = record {
   asks = if r.left == 0 then [] else ask ∷ [];
   invalidation = None;
   denied = λ d. Does (after_marks (remote_mark d.ask envelope (verdicts.Denied d.denial) ∷ []) (refused RemoteAccessError q));
-  allowed = λ bytes refusal. Does (if r.left == 0 then after_write_packet q p place r next else wrote);
+  allowed = λ bytes refusal. Does wrote;
 }
   where
     ask : Ask
@@ -237,7 +238,7 @@ write_row q p envelope place next r = record {
 
     wrote : Effects
     wrote = record (after_marks (remote_mark ask envelope (verdicts.Wrote p.payload) ∷ []) (after_write_packet q p place r next)) {
-      writes = (ask, p.payload) ∷ [];
+      writes = if r.left == 0 then [] else (ask, p.payload) ∷ [];
     }
 
 -- a READ Request is queued
