@@ -1,3 +1,4 @@
+pub mod FrameLemmas
 pub mod HistoryLemmas
 pub mod Literals
 mod Traces
