@@ -1,4 +1,5 @@
 pub mod FrameLemmas
 pub mod HistoryLemmas
 pub mod Literals
+pub mod RestLemmas
 mod Traces

@@ -1,4 +1,4 @@
-use Rattle.ca_model.proofs.FrameLemmas.{event-leaves}
+use Rattle.ca_model.proofs.RestLemmas.{event-leaves}
 use Rattle.ca_model.proofs.frame.event_leaves_the_rest.Goals as goal
 
 pub returns : goal.returns
