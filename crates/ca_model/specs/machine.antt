@@ -28,3 +28,4 @@ pub mod HostVerbs
 pub mod Step
 pub mod Run
 pub mod Frame
+pub mod Sound

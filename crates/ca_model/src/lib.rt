@@ -11,8 +11,8 @@
 mod answer;
 mod entry;
 mod event;
-mod frame;
 mod history;
+mod laws;
 mod mark;
 mod marks;
 mod opening;
@@ -21,10 +21,11 @@ mod verb;
 pub use answer::{Answer, Refusal};
 pub use entry::Entry;
 pub use event::Event;
-pub use frame::{
-    event_depends_on_what_it_touches, event_leaves_the_rest, events_depend_on_what_they_touch,
-};
 pub use history::History;
+pub use laws::{
+    event_depends_on_what_it_touches, event_keeps_worlds_sound, event_leaves_the_rest,
+    events_depend_on_what_they_touch, opening_is_sound,
+};
 pub use mark::{Drop1, Mark};
 pub use marks::Marks;
 pub use opening::{Contents, Opening};

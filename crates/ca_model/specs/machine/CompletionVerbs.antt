@@ -95,17 +95,18 @@ With_places s cq polled [] k = k []
 With_places s cq polled (c ∷ cs) k =
     With_place s cq polled c (λ change. With_places s cq polled cs (λ changes. k (change ∷ changes)))
 
+-- these completions are taken
+abbrev pub Take_plan : Call → Slot → CompletionQueue → List Completion → Plan
+Take_plan call s cq polled = With_places s cq polled polled (λ changes.
+    Answered call (answers.Polled (record { items = polled })) ((Cq_of s := Some (after_polls (length polled) cq)) ∷ changes) [])
+
+-- a poll of what stands in the slot
+abbrev pub Poll_of : Call → Slot → ℕ → ℕ → Option CompletionQueue → Plan
+Poll_of call s n least None = Refuse call NoSuch
+Poll_of call s n least (Some cq) =
+    Unless call (((n == 0) || nat_lt MAX_POLLED n || nat_lt n least, OutOfRange fields.Length) ∷ [])
+    (If (nat_lt (length cq.waiting) least) (Stuck reasons.Empty) (Take_plan call s cq (take n cq.waiting)))
+
 -- Poll: it is possible once as many completions wait as are asked for at least
 abbrev pub poll_plan : Call → Slot → ℕ → ℕ → Plan
-poll_plan call s n least = Look (Cq_of s) by
-  where
-    taken : CompletionQueue → List Completion → Plan
-    taken cq polled = With_places s cq polled polled (λ changes.
-        Answered call (answers.Polled (record { items = polled }))
-        ((Cq_of s := Some (after_polls (length polled) cq)) ∷ changes) [])
-
-    by : Option CompletionQueue → Plan
-    by None = Refuse call NoSuch
-    by (Some cq) =
-        Unless call (((n == 0) || nat_lt MAX_POLLED n || nat_lt n least, OutOfRange fields.Length) ∷ [])
-        (If (nat_lt (length cq.waiting) least) (Stuck reasons.Empty) (taken cq (take n cq.waiting)))
+poll_plan call s n least = Look (Cq_of s) (Poll_of call s n least)

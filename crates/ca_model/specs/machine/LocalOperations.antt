@@ -101,64 +101,100 @@ named_slot named = option_map_or (λ n. n.slot.slot) named 0
 abbrev pub Finishing : Type 0
 Finishing = Effects → List Change → List Write → Plan
 
+-- what a bind of a type 1 window changes: the window, the region that it leaves, and the one that is named
+abbrev pub bind1_changes : Slot → ℕ → Window → Option PlacedRegion → Option PlacedRegion → ℕ → ℕ → Rights → List Change
+bind1_changes slot drawn w former named address count rights =
+    (Window_of slot := after_bind1 drawn (named_slot named) address count rights w)
+    ∷ former_changes former ++ (if count == 0 then [] else named_changes former named)
+
+-- what a bind of a type 2 window changes: the window, and the region that is named
+abbrev pub bind2_changes : Slot → ℕ → QueueId → Window → Option PlacedRegion → ℕ → ℕ → Rights → List Change
+bind2_changes slot low queue w named address count rights =
+    (Window_of slot := after_binding low (Some queue) (named_slot named) address count rights w) ∷ named_changes None named
+
+-- the slot of the window that a bind names
+abbrev pub window_slot : QueuePair → ℕ → Slot
+window_slot q window = record { domain = q.domain; slot = window }
+
+-- the byte that a bind drew
+abbrev pub drawn_by : Numbered → ℕ
+drawn_by n = option_map_or (λ b. b) n.drawn 0
+
+-- why a bind of a type 1 window is refused
+abbrev pub bind1_refusal : Numbered → Key → Option PlacedRegion → ℕ → ℕ → Rights → Window → Option OpRefusal
+bind1_refusal n key named address count rights w =
+    first_of (bind1_request_refusals n.drawn (view_named key named) address count rights w)
+
+-- what a bind of a type 1 window revokes and grants; one of no bytes grants nothing
+abbrev pub bind1_marks : QueuePair → Numbered → ℕ → Option PlacedRegion → ℕ → ℕ → Rights → Window → LocalMarks
+bind1_marks q n window named address count rights w = record {
+  revoked = bound_key w;
+  granted = if count == 0 then None else bind_grant (window_slot q window) (drawn_by n) None named address count rights;
+}
+
 -- a bind of a type 1 window
 abbrev pub Bind1_plan : Configuration → QueuePair → Numbered → ℕ → Key → ℕ → ℕ → Rights → Finishing → Plan
 Bind1_plan c q n window key address count rights finish =
-    Look (Window_of slot) (λ w. With_named c q.domain key (λ named. With_former w (λ former.
-    by w former named (first_of (bind1_request_refusals n.drawn (view_named key named) address count rights w)))))
-  where
-    slot : Slot
-    slot = record { domain = q.domain; slot = window }
+    Look (Window_of (window_slot q window)) (λ w. With_named c q.domain key (λ named. With_former w (λ former.
+    finish
+    (operation_ended q n q (bind1_marks q n window named address count rights w) (bind1_refusal n key named address count rights w))
+    (unless_none (bind1_refusal n key named address count rights w)
+    (bind1_changes (window_slot q window) (drawn_by n) w former named address count rights))
+    [])))
 
-    drawn : ℕ
-    drawn = option_map_or (λ b. b) n.drawn 0
+-- why a bind of a type 2 window is refused
+abbrev pub bind2_refusal : Key → Option PlacedRegion → ℕ → ℕ → Rights → Window → Option OpRefusal
+bind2_refusal key named address count rights w =
+    first_of (bind2_request_refusals (view_named key named) address count rights w)
 
-    by : Window → Option PlacedRegion → Option PlacedRegion → Option OpRefusal → Plan
-    by w former named refusal = finish
-        (operation_ended q n q (record {
-          revoked = bound_key w;
-          granted = if count == 0 then None else bind_grant slot drawn None named address count rights;
-        }) refusal)
-        (unless_none refusal ((Window_of slot := after_bind1 drawn (named_slot named) address count rights w)
-        ∷ former_changes former ++ (if count == 0 then [] else named_changes former named)))
-        []
+-- what a bind of a type 2 window grants, to this queue pair
+abbrev pub bind2_marks : QueuePair → ℕ → ℕ → Option PlacedRegion → ℕ → ℕ → Rights → LocalMarks
+bind2_marks q window low named address count rights = record {
+  revoked = None;
+  granted = bind_grant (window_slot q window) low (Some q.queue) named address count rights;
+}
 
 -- a bind of a type 2 window, for this queue pair
 abbrev pub Bind2_plan : Configuration → QueuePair → Numbered → ℕ → Key → ℕ → ℕ → ℕ → Rights → Finishing → Plan
 Bind2_plan c q n window key low address count rights finish =
-    Look (Window_of slot) (λ w. With_named c q.domain key (λ named. With_former w (λ former.
-    by w named (first_of (bind2_request_refusals (view_named key named) address count rights w)))))
-  where
-    slot : Slot
-    slot = record { domain = q.domain; slot = window }
+    Look (Window_of (window_slot q window)) (λ w. With_named c q.domain key (λ named. With_former w (λ former.
+    finish
+    (operation_ended q n (record q { windows = suc q.windows }) (bind2_marks q window low named address count rights)
+    (bind2_refusal key named address count rights w))
+    (unless_none (bind2_refusal key named address count rights w)
+    (bind2_changes (window_slot q window) low q.queue w named address count rights))
+    [])))
 
-    by : Window → Option PlacedRegion → Option OpRefusal → Plan
-    by w named refusal = finish
-        (operation_ended q n (record q { windows = suc q.windows }) (record {
-          revoked = None;
-          granted = bind_grant slot low (Some q.queue) named address count rights;
-        }) refusal)
-        (unless_none refusal ((Window_of slot := after_binding low (Some q.queue) (named_slot named) address count rights w)
-        ∷ named_changes None named))
-        []
+-- the slot of the region that a fast registration names
+abbrev pub region_slot : QueuePair → ℕ → Slot
+region_slot q region = record { domain = q.domain; slot = region }
+
+-- why a fast registration is refused
+abbrev pub fast_refusal : Configuration → QueuePair → ℕ → ℕ → ℕ → ℕ → Rights → List ℕ → Region → Option OpRefusal
+fast_refusal c q region buffer address count rights pages r = first_of
+    (fast_request_refusals (region_slot q region) buffer (buffer_length c q.domain.adapter buffer) address count rights pages r)
+
+-- what a fast registration grants
+abbrev pub fast_marks : QueuePair → ℕ → ℕ → ℕ → ℕ → ℕ → Rights → List ℕ → LocalMarks
+fast_marks q region low buffer address count rights pages = record {
+  revoked = None;
+  granted = Some (grant_of_fast_registration (region_slot q region) low buffer address count rights pages);
+}
+
+-- what it changes
+abbrev pub fast_changes : QueuePair → ℕ → ℕ → ℕ → ℕ → ℕ → Rights → List ℕ → Region → List Change
+fast_changes q region low buffer address count rights pages r =
+    (Region_of (region_slot q region)
+    := after_fast_registration (region_slot q region) low buffer address count rights pages r) ∷ []
 
 -- a fast registration
 abbrev pub Fast_plan : Configuration → QueuePair → Numbered → ℕ → ℕ → ℕ → ℕ → ℕ → Rights → List ℕ → Finishing → Plan
-Fast_plan c q n region low buffer address count rights pages finish =
-    Look (Region_of slot) (λ r. by r (first_of
-    (fast_request_refusals slot buffer (buffer_length c q.domain.adapter buffer) address count rights pages r)))
-  where
-    slot : Slot
-    slot = record { domain = q.domain; slot = region }
-
-    by : Region → Option OpRefusal → Plan
-    by r refusal = finish
-        (operation_ended q n q (record {
-          revoked = None;
-          granted = Some (grant_of_fast_registration slot low buffer address count rights pages);
-        }) refusal)
-        (unless_none refusal ((Region_of slot := after_fast_registration slot low buffer address count rights pages r) ∷ []))
-        []
+Fast_plan c q n region low buffer address count rights pages finish = Look (Region_of (region_slot q region)) (λ r. finish
+    (operation_ended q n q (fast_marks q region low buffer address count rights pages)
+    (fast_refusal c q region buffer address count rights pages r))
+    (unless_none (fast_refusal c q region buffer address count rights pages r)
+    (fast_changes q region low buffer address count rights pages r))
+    [])
 
 -- a Local Invalidate
 abbrev pub invalidate_row : QueuePair → Numbered → Key → Row
@@ -172,14 +208,16 @@ invalidate_row q n key = record {
     i : Invalidation
     i = record { queue = q.queue; domain = q.domain; key = key }
 
+-- a local operation of this kind is performed
+abbrev pub Perform_op : Configuration → QueuePair → Numbered → Finishing → SendOp → Plan
+Perform_op c q n finish (ops.Bind1 window key address count rights) = Bind1_plan c q n window key address count rights finish
+Perform_op c q n finish (ops.Bind2 window key low address count rights) =
+    Bind2_plan c q n window key low address count rights finish
+Perform_op c q n finish (ops.FastReg region low buffer address count rights pages) =
+    Fast_plan c q n region low buffer address count rights pages finish
+Perform_op c q n finish (ops.LocalInv key) = Row_plan c (invalidate_row q n key) finish
+Perform_op c q n finish op = finish (quiet q []) [] []
+
 -- a local operation is performed
 abbrev pub Perform_plan : Configuration → QueuePair → Numbered → Finishing → Plan
-Perform_plan c q n finish = by n.request.op
-  where
-    by : SendOp → Plan
-    by (ops.Bind1 window key address count rights) = Bind1_plan c q n window key address count rights finish
-    by (ops.Bind2 window key low address count rights) = Bind2_plan c q n window key low address count rights finish
-    by (ops.FastReg region low buffer address count rights pages) =
-        Fast_plan c q n region low buffer address count rights pages finish
-    by (ops.LocalInv key) = Row_plan c (invalidate_row q n key) finish
-    by op = finish (quiet q []) [] []
+Perform_plan c q n finish = Perform_op c q n finish n.request.op

@@ -60,25 +60,30 @@ Left q a peer m lot e changes writes = Finish
     writes
     (e.marks ++ option_map_or (sent_marks q peer m lot) (packet_sent e) [])
 
+-- what a requester's turn does, with what stands around the queue pair
+abbrev pub Request_around : Configuration → Lot → QueuePair → Around → Option Correspondent → RequestTurn → Plan
+Request_around c lot q a peer (Waits reason) = Stuck reason
+Request_around c lot q a peer (Performs n) =
+    Perform_plan c q n (λ e changes writes. Finish (changes_of q a e ++ changes) writes e.marks)
+Request_around c lot q a None (Sends n) = Stuck reasons.State
+Request_around c lot q a (Some peer) (Sends n) = Look (Mailbox_of peer.queue) (λ m.
+    Row_plan c (packet_row q (has_room_for q peer m) n) (Left q a peer m lot))
+
 -- the requester's turn
 abbrev pub request_plan : Configuration → QueueId → Lot → Plan
-request_plan c q lot = With_queue c q reasons.State (λ queue. With_around queue (λ a. by queue a queue.peer (turn_of queue)))
-  where
-    by : QueuePair → Around → Option Correspondent → RequestTurn → Plan
-    by queue a peer (Waits reason) = Stuck reason
-    by queue a peer (Performs n) = Perform_plan c queue n (λ e changes writes. Finish (changes_of queue a e ++ changes) writes e.marks)
-    by queue a None (Sends n) = Stuck reasons.State
-    by queue a (Some peer) (Sends n) = Look (Mailbox_of peer.queue) (λ m.
-        Row_plan c (packet_row queue (has_room_for queue peer m) n) (Left queue a peer m lot))
+request_plan c q lot = With_queue c q reasons.State (λ queue. With_around queue (λ a.
+    Request_around c lot queue a queue.peer (turn_of queue)))
+
+-- what a responder's turn does
+abbrev pub Respond_around : Configuration → Lot → QueuePair → Around → Option Correspondent → Plan
+Respond_around c lot q a None = unless_refused (respond_refusals true q) Stuck (Stuck reasons.Empty)
+Respond_around c lot q a (Some peer) = Look (Mailbox_of peer.queue) (λ m.
+    Row_plan c (respond_row (has_room_for q peer m) q) (Left q a peer m lot))
 
 -- the responder's turn
 abbrev pub respond_plan : Configuration → QueueId → Lot → Plan
-respond_plan c q lot = With_queue c q reasons.State (λ queue. With_around queue (λ a. by queue a queue.peer))
-  where
-    by : QueuePair → Around → Option Correspondent → Plan
-    by queue a None = unless_refused (respond_refusals true queue) Stuck (Stuck reasons.Empty)
-    by queue a (Some peer) = Look (Mailbox_of peer.queue) (λ m.
-        Row_plan c (respond_row (has_room_for queue peer m) queue) (Left queue a peer m lot))
+respond_plan c q lot = With_queue c q reasons.State (λ queue. With_around queue (λ a.
+    Respond_around c lot queue a queue.peer))
 
 -- nothing is under way to the queue pair, and, where a path leads to the peer, nothing to it, and it owes no answer
 abbrev pub is_silent : QueuePair → Mailbox → Correspondent → QueueSlot → Mailbox → Bool
@@ -87,18 +92,21 @@ is_silent q own peer slot m =
     && (not (has_path q peer m)
     || ((undelivered m.envelopes == 0) && option_map_or (λ p. length p.responder.answers == 0) (queue_in slot) true))
 
+-- a timer fires, or not
+abbrev pub Fire : Bool → QueuePair → Around → Bool → Plan
+Fire hasten q a silent = unless_refused (timeout_refusals silent hasten q) Stuck
+    (Finish (changes_of q a (after_timeout silent q)) [] (after_timeout silent q).marks)
+
+-- what a timer's turn does
+abbrev pub Timeout_around : Bool → QueuePair → Mailbox → Around → Option Correspondent → Plan
+Timeout_around hasten q own a None = unless_refused (timeout_refusals false hasten q) Stuck (Stuck reasons.Empty)
+Timeout_around hasten q own a (Some peer) = Look (Queue_of peer.queue) (λ slot. Look (Mailbox_of peer.queue) (λ m.
+    Fire hasten q a (is_silent q own peer slot m)))
+
 -- a timer's turn
 abbrev pub timeout_plan : Configuration → QueueId → Bool → Plan
-timeout_plan c q hasten = With_queue c q reasons.State (λ queue. Look (Mailbox_of q) (λ own. With_around queue (λ a. by queue own a queue.peer)))
-  where
-    fires : QueuePair → Around → Bool → Plan
-    fires queue a silent = unless_refused (timeout_refusals silent hasten queue) Stuck
-        (Finish (changes_of queue a (after_timeout silent queue)) [] (after_timeout silent queue).marks)
-
-    by : QueuePair → Mailbox → Around → Option Correspondent → Plan
-    by queue own a None = unless_refused (timeout_refusals false hasten queue) Stuck (Stuck reasons.Empty)
-    by queue own a (Some peer) = Look (Queue_of peer.queue) (λ slot. Look (Mailbox_of peer.queue) (λ m.
-        fires queue a (is_silent queue own peer slot m)))
+timeout_plan c q hasten = With_queue c q reasons.State (λ queue. Look (Mailbox_of q) (λ own. With_around queue (λ a.
+    Timeout_around hasten queue own a queue.peer)))
 
 -- looks at whether a queue pair has no receive to take
 abbrev pub With_receives : QueueSlot → (Bool → Plan) → Plan
