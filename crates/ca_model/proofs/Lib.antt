@@ -1,3 +1,4 @@
 pub mod HistoryLemmas
 pub mod Literals
+mod Machine
 mod Traces

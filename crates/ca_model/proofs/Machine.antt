@@ -1,0 +1,3 @@
+-- Examples of the machine's rows, as tables. For proofs only.
+pub mod Furnished
+mod VerbCases
