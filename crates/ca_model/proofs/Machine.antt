@@ -3,3 +3,4 @@ pub mod Furnished
 mod VerbCases
 mod ChangeCases
 mod TurnCases
+mod LocalCases
