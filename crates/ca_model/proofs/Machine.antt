@@ -1,6 +1,9 @@
 -- Examples of the machine's rows, as tables. For proofs only.
 pub mod Furnished
+pub mod MarksSeen
 mod VerbCases
 mod ChangeCases
 mod TurnCases
 mod LocalCases
+mod ArrivalCases
+mod ResponseCases

@@ -103,11 +103,19 @@ abbrev pub mailbox_for : ℕ → ℕ → List MailEnvelope → Mailbox
 mailbox_for peer next envelopes =
     record (accepting 1 (Some (record { queue = q peer 256; incarnation = 1 })) empty_mailbox) { next = next; envelopes = envelopes }
 
+-- the whole number of a PSN
+abbrev pub at : ℕ → ℕ
+at psn = psn_base + psn
+
 -- a run of the buffer of adapter 0
 abbrev pub first_bytes : ℕ → Run
 first_bytes count = run 0 0 0 count
 
--- a region over the whole page, valid under the key 1 in slot 0
+-- the region 0 over the whole page, with these rights
+abbrev pub region_with : Rights → List Change
+region_with rights = (Region_of (s 0 0 0) := after_registration (s 0 0 0) (first_bytes 4096) rights vacant_region) ∷ []
+
+-- a region over the whole page with all rights, valid under the key 1 in slot 0
 abbrev pub registered : ℕ → Region
 registered slot = after_registration (s 0 0 slot) (first_bytes 4096) all_rights vacant_region
 

@@ -27,7 +27,7 @@ use Rattle.ca_model.specs.machine.Plan.{Change, ◌:=◌, Outcome, NotReady, Did
 use Rattle.ca_model.specs.machine.Step.{step}
 use Rattle.ca_model.specs.machine.World.{World, Queue_of, Region_of, Window_of}
 use Rattle.ca_model.proofs.Literals.{s, q, k, r}
-use Rattle.ca_model.proofs.Machine.Furnished.{pair, furnished, ready, all_rights, first_bytes, registered, receive_of, signalled, with_received}
+use Rattle.ca_model.proofs.Machine.Furnished.{pair, region_with, furnished, ready, all_rights, first_bytes, registered, receive_of, signalled, with_received}
 
 -- what the first completion among marks says: success, or the cause; no completion is no answer
 abbrev cause_in : List Mark → Option (Option OpRefusal)
@@ -61,10 +61,6 @@ PerformedWith drawn cases = map (λ c. performed c.changes drawn c.op) cases ≡
 
 abbrev done : Option OpRefusal
 done = None
-
--- the region 0 with these rights
-abbrev region_with : Rights → List Change
-region_with rights = (Region_of (s 0 0 0) := after_registration (s 0 0 0) (first_bytes 4096) rights vacant_region) ∷ []
 
 abbrev without_bind : Rights
 without_bind = r true true true true false
