@@ -1,4 +1,5 @@
 -- Examples of the machine's rows, as tables. For proofs only.
+pub mod AnsweredVerbs
 pub mod Furnished
 pub mod MarksSeen
 mod VerbCases
@@ -7,3 +8,6 @@ mod TurnCases
 mod LocalCases
 mod ArrivalCases
 mod ResponseCases
+mod SentCases
+mod RunCases
+mod CompletionCases

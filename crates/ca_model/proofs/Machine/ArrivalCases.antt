@@ -1,6 +1,6 @@
 -- Packets that arrive at a responder, and its answers: each drop, packets ahead and duplicates, each way to be invalid,
 -- receives, denials, and what is accepted. For proofs only.
-use Rattle.std.proofs.Common.{◌≡◌, ℕ, ◌^◌, ◌-◌, ◌+◌, Bool, List, [], ◌∷◌, ◌++◌, map, replicate, true, false, Option, None, Some, refl}
+use Rattle.std.proofs.Common.{◌≡◌, ℕ, ◌^◌, ◌-◌, Bool, List, [], ◌∷◌, ◌++◌, map, replicate, true, false, Option, None, Some, refl}
 use Rattle.ca_base.specs.declared.access.Denial.{Denial}
 use Rattle.ca_base.specs.declared.access.Denial.TheVariants as denials
 use Rattle.ca_base.specs.declared.change.State.TheVariants as states
@@ -11,9 +11,7 @@ use Rattle.ca_base.specs.declared.queue_numbers.Message.TheVariants as messages
 use Rattle.ca_base.specs.declared.queue_numbers.Queued.{Queued}
 use Rattle.ca_base.specs.declared.queue_numbers.Queued.TheVariants as queued
 use Rattle.ca_base.specs.declared.rights.Rights.{Rights}
-use Rattle.ca_base.specs.declared.verdict.Verdict.TheVariants as verdicts
-use Rattle.ca_base.specs.objects.QueuePair.{QueuePair, QueueSlot, NoQueue, Present, psn_base}
-use Rattle.ca_base.specs.objects.Region.{vacant_region, after_registration}
+use Rattle.ca_base.specs.objects.QueuePair.{QueuePair, QueueSlot, NoQueue, Present}
 use Rattle.ca_base.specs.objects.Window.{vacant_window, after_binding, after_window_allocation}
 use Rattle.ca_wire.specs.declared.requests.SendKind.TheVariants.{Plain}
 use Rattle.ca_wire.specs.declared.wire_error.WireError.TheVariants as wire
@@ -21,19 +19,16 @@ use Rattle.ca_wire.specs.Builders.{send_packet, write_packet, read_request, cmp_
 use Rattle.ca_wire.specs.Decoding.{packet_in, front_at, bth_at, number_at, reth_from, atomic_from, aeth_from, number_from, payload_at, payload_behind, body_in}
 use Rattle.ca_wire.specs.Packet.{Fields, be_bytes, packet_bytes, spelling}
 use Rattle.ca_wire.specs.Table.{row_of}
-use Rattle.ca_model.specs.declared.event.Event.{Event}
 use Rattle.ca_model.specs.declared.event.Event.TheVariants as events
 use Rattle.ca_model.specs.declared.mark.Drop1.{Drop1}
 use Rattle.ca_model.specs.declared.mark.Drop1.TheVariants as drops
-use Rattle.ca_model.specs.declared.mark.Mark.{Mark}
-use Rattle.ca_model.specs.declared.mark.Mark.TheVariants as marks
 use Rattle.ca_model.specs.declared.verb.Verb.TheVariants as verbs
 use Rattle.ca_model.specs.machine.Plan.{Change, ◌:=◌, Outcome, NotReady, Did, put_all}
 use Rattle.ca_model.specs.machine.Step.{step}
-use Rattle.ca_model.specs.machine.World.{World, Queue_of, Region_of, Window_of}
+use Rattle.ca_model.specs.machine.World.{Queue_of, Window_of}
 use Rattle.ca_model.proofs.Literals.{s, q, k, r, list, piece, receive}
 use Rattle.ca_model.proofs.Machine.MarksSeen.{drop_in, denial_in, statuses_in}
-use Rattle.ca_model.proofs.Machine.Furnished.{at, region_with, pair, furnished, with_queue, in_state, ready, all_rights, first_bytes, receive_of, with_received, with_answers}
+use Rattle.ca_model.proofs.Machine.Furnished.{at, region_with, pair, furnished, in_state, ready, all_rights, receive_of, with_received, with_answers}
 
 -- what is seen of an event: a drop, the first denial, the statuses of completions, and the response queue after it
 record Seen : Type 0 where

@@ -1,6 +1,6 @@
 -- The state table of a queue pair: each change from each state, each field at both edges of its range, and what each
 -- change makes. For proofs only.
-use Rattle.std.proofs.Common.{◌≡◌, ℕ, ◌^◌, ◌-◌, ◌+◌, Bool, List, [], ◌∷◌, map, true, false, Option, None, Some, refl}
+use Rattle.std.proofs.Common.{◌≡◌, ◌^◌, ◌-◌, ◌+◌, List, [], ◌∷◌, map, Option, None, Some, refl}
 use Rattle.ca_base.specs.declared.change.Change.{Change}
 use Rattle.ca_base.specs.declared.change.Change.TheVariants as changes
 use Rattle.ca_base.specs.declared.change.Field.{Field}
@@ -9,7 +9,6 @@ use Rattle.ca_base.specs.declared.change.ModifyRefusal.{ModifyRefusal}
 use Rattle.ca_base.specs.declared.change.ModifyRefusal.TheVariants.{OutOfRange, Transition, WindowsBound}
 use Rattle.ca_base.specs.declared.change.State.{State}
 use Rattle.ca_base.specs.declared.change.State.TheVariants as states
-use Rattle.ca_base.specs.declared.names.QueueId.{QueueId}
 use Rattle.ca_base.specs.declared.queue_numbers.Queued.TheVariants as queued
 use Rattle.ca_base.specs.Refusals.{first_of}
 use Rattle.ca_base.specs.objects.QueuePair.{QueuePair, psn_base}

@@ -1,10 +1,9 @@
 -- A literal configuration, queue pairs and a world with some of each object, on which examples of the machine's rows are
 -- computed. For proofs only.
-use Rattle.std.proofs.Common.{ℕ, suc, ◌+◌, Bool, List, [], ◌∷◌, ◌++◌, true, false, Option, None, Some}
+use Rattle.std.proofs.Common.{ℕ, ◌+◌, List, [], ◌∷◌, true, false, None, Some}
 use Rattle.ca_base.specs.declared.change.State.{State}
 use Rattle.ca_base.specs.declared.change.State.TheVariants as states
 use Rattle.ca_base.specs.declared.lot.Lot.{Lot}
-use Rattle.ca_base.specs.declared.names.QueueId.{QueueId}
 use Rattle.ca_base.specs.declared.place.Run.{Run}
 use Rattle.ca_base.specs.declared.queue_numbers.Queued.{Queued}
 use Rattle.ca_base.specs.declared.request.RecvRequest.{RecvRequest}
@@ -15,15 +14,15 @@ use Rattle.ca_base.specs.declared.reserve.Reserve.TheVariants as reserves
 use Rattle.ca_base.specs.declared.rights.Rights.{Rights}
 use Rattle.ca_base.specs.Configuration.{Configuration}
 use Rattle.ca_base.specs.Memory.{zeros}
-use Rattle.ca_base.specs.objects.CompletionQueue.{CompletionQueue, empty_cq, after_reserve}
+use Rattle.ca_base.specs.objects.CompletionQueue.{empty_cq, after_reserve}
 use Rattle.ca_base.specs.objects.Mailbox.{Mailbox, MailEnvelope, empty_mailbox, accepting}
-use Rattle.ca_base.specs.objects.QueuePair.{QueuePair, NoQueue, Present, PostedSend, queue_at_start, psn_base}
+use Rattle.ca_base.specs.objects.QueuePair.{QueuePair, Present, queue_at_start, psn_base}
 use Rattle.ca_base.specs.objects.Region.{Region, after_allocation, after_registration, vacant_region, with_window_bound}
 use Rattle.ca_base.specs.objects.SharedReceives.{after_receive_post, empty_receives}
-use Rattle.ca_base.specs.objects.Window.{Window, after_window_allocation, vacant_window}
-use Rattle.ca_base.specs.objects.WorkQueue.{WorkQueue, after_post, empty_queue}
+use Rattle.ca_base.specs.objects.Window.{after_window_allocation, vacant_window}
+use Rattle.ca_base.specs.objects.WorkQueue.{after_post, empty_queue}
 use Rattle.ca_model.specs.machine.Plan.{Change, ◌:=◌, put_all}
-use Rattle.ca_model.specs.machine.World.{World, opening_world, Cq_of, Domain_of, Mailbox_of, Queue_of, Region_of, Srq_of, Window_of}
+use Rattle.ca_model.specs.machine.World.{World, opening_world, Cq_of, Domain_of, Queue_of, Region_of, Srq_of, Window_of}
 use Rattle.ca_model.proofs.Literals.{d, s, q, k, r, run, list, piece, request, receive, adapter}
 
 -- two adapters with a buffer of a page each, and two domains of four slots of each kind

@@ -1,7 +1,6 @@
 -- The local operations of a send queue, and the invalidation that a packet asks for: where each is done, and each refusal
 -- in its order. For proofs only.
-use Rattle.std.proofs.Common.{◌≡◌, ℕ, ◌^◌, ◌-◌, Bool, List, [], ◌∷◌, ◌++◌, map, true, false, Option, None, Some, refl}
-use Rattle.ca_base.specs.declared.key.Key.{Key}
+use Rattle.std.proofs.Common.{◌≡◌, ℕ, ◌^◌, ◌-◌, List, [], ◌∷◌, ◌++◌, map, true, false, Option, None, Some, refl}
 use Rattle.ca_base.specs.declared.lot.Lot.TheVariants as lots
 use Rattle.ca_base.specs.declared.refusals.OpRefusal.{OpRefusal}
 use Rattle.ca_base.specs.declared.refusals.OpRefusal.TheVariants.{Region, Window}
@@ -11,7 +10,7 @@ use Rattle.ca_base.specs.declared.request.SendOp.{SendOp}
 use Rattle.ca_base.specs.declared.request.SendOp.TheVariants as ops
 use Rattle.ca_base.specs.declared.rights.Rights.{Rights}
 use Rattle.ca_base.specs.objects.QueuePair.{Present, QueuePair}
-use Rattle.ca_base.specs.objects.Region.{vacant_region, after_allocation, after_registration, after_fast_registration, with_window_bound}
+use Rattle.ca_base.specs.objects.Region.{vacant_region, after_allocation, after_fast_registration, with_window_bound}
 use Rattle.ca_base.specs.objects.Window.{vacant_window, after_binding, after_window_allocation}
 use Rattle.ca_base.specs.objects.WorkQueue.{after_post}
 use Rattle.ca_wire.specs.declared.requests.SendKind.TheVariants.{WithInvalidate}
@@ -25,9 +24,9 @@ use Rattle.ca_model.specs.declared.mark.Mark.TheVariants as marks
 use Rattle.ca_model.specs.declared.verb.Verb.TheVariants as verbs
 use Rattle.ca_model.specs.machine.Plan.{Change, ◌:=◌, Outcome, NotReady, Did, put_all}
 use Rattle.ca_model.specs.machine.Step.{step}
-use Rattle.ca_model.specs.machine.World.{World, Queue_of, Region_of, Window_of}
+use Rattle.ca_model.specs.machine.World.{Queue_of, Region_of, Window_of}
 use Rattle.ca_model.proofs.Literals.{s, q, k, r}
-use Rattle.ca_model.proofs.Machine.Furnished.{pair, region_with, furnished, ready, all_rights, first_bytes, registered, receive_of, signalled, with_received}
+use Rattle.ca_model.proofs.Machine.Furnished.{pair, region_with, furnished, ready, all_rights, registered, receive_of, signalled, with_received}
 
 -- what the first completion among marks says: success, or the cause; no completion is no answer
 abbrev cause_in : List Mark → Option (Option OpRefusal)

@@ -1,6 +1,6 @@
 -- Responses that arrive at a requester, timers and wakes: what each makes of the numbers and which completions it brings,
 -- with implied NAKs and with retries that are used up. For proofs only.
-use Rattle.std.proofs.Common.{◌≡◌, ℕ, ◌+◌, Bool, List, [], ◌∷◌, ◌++◌, map, replicate, true, false, Option, None, Some, refl}
+use Rattle.std.proofs.Common.{◌≡◌, ℕ, Bool, List, [], ◌∷◌, ◌++◌, map, replicate, true, false, Option, None, Some, refl}
 use Rattle.ca_base.specs.declared.access.Denial.{Denial}
 use Rattle.ca_base.specs.declared.access.Denial.TheVariants as denials
 use Rattle.ca_base.specs.declared.change.State.TheVariants as states
@@ -8,28 +8,23 @@ use Rattle.ca_base.specs.declared.completion.WcStatus.{WcStatus}
 use Rattle.ca_base.specs.declared.completion.WcStatus.TheVariants as statuses
 use Rattle.ca_base.specs.declared.request.SendOp.{SendOp}
 use Rattle.ca_base.specs.declared.request.SendOp.TheVariants as ops
-use Rattle.ca_base.specs.declared.rights.Rights.{Rights}
-use Rattle.ca_base.specs.declared.verdict.Verdict.TheVariants as verdicts
-use Rattle.ca_base.specs.objects.QueuePair.{QueuePair, QueueSlot, NoQueue, Present, psn_base}
-use Rattle.ca_base.specs.objects.Region.{vacant_region, after_registration}
+use Rattle.ca_base.specs.objects.QueuePair.{QueuePair, QueueSlot, NoQueue, Present}
 use Rattle.ca_wire.specs.declared.syndrome.NakCode.TheVariants.{PsnSequenceError, InvalidRequest, RemoteAccessError, RemoteOperationalError}
 use Rattle.ca_wire.specs.Builders.{acknowledgement, atomic_acknowledge, nak, read_response, rnr_nak}
 use Rattle.ca_wire.specs.Decoding.{packet_in, front_at, bth_at, number_at, reth_from, atomic_from, aeth_from, number_from, payload_at, payload_behind, body_in}
 use Rattle.ca_wire.specs.Packet.{Fields, be_bytes, packet_bytes, spelling}
 use Rattle.ca_wire.specs.Table.{row_of}
-use Rattle.ca_model.specs.declared.event.Event.{Event}
 use Rattle.ca_model.specs.declared.event.Event.TheVariants as events
 use Rattle.ca_model.specs.declared.mark.Drop1.{Drop1}
 use Rattle.ca_model.specs.declared.mark.Drop1.TheVariants as drops
 use Rattle.ca_model.specs.declared.mark.Mark.{Mark}
-use Rattle.ca_model.specs.declared.mark.Mark.TheVariants as marks
 use Rattle.ca_model.specs.declared.verb.Verb.TheVariants as verbs
 use Rattle.ca_model.specs.machine.Plan.{Change, ◌:=◌, Outcome, NotReady, Did, put_all}
 use Rattle.ca_model.specs.machine.Step.{step}
-use Rattle.ca_model.specs.machine.World.{Queue_of, Region_of}
-use Rattle.ca_model.proofs.Literals.{s, q, k, r, list, piece}
+use Rattle.ca_model.specs.machine.World.{Queue_of}
+use Rattle.ca_model.proofs.Literals.{q, k, r, list, piece}
 use Rattle.ca_model.proofs.Machine.MarksSeen.{drop_in, denial_in, statuses_in}
-use Rattle.ca_model.proofs.Machine.Furnished.{at, region_with, pair, furnished, in_state, ready, first_bytes, send_of, read_of, add_of, signalled, with_posted, with_begun}
+use Rattle.ca_model.proofs.Machine.Furnished.{at, region_with, pair, furnished, in_state, send_of, read_of, add_of, signalled, with_posted, with_begun}
 
 -- what is seen of an event: the first PSN that is not acknowledged and the next to send, from the first on; retries and
 -- RNR NAKs since the last progress; whether it waits for a wake; a drop; a denial; the statuses of completions

@@ -10,7 +10,7 @@ use Rattle.ca_base.specs.declared.request.SendOp.TheVariants as ops
 use Rattle.ca_base.specs.declared.step.Reason.{Reason}
 use Rattle.ca_base.specs.declared.step.Reason.TheVariants as reasons
 use Rattle.ca_base.specs.objects.Mailbox.{Mailbox, MailEnvelope, due, empty_mailbox}
-use Rattle.ca_base.specs.objects.QueuePair.{QueuePair, QueueSlot, NoQueue, Present, psn_base, vacant_queue}
+use Rattle.ca_base.specs.objects.QueuePair.{QueuePair, QueueSlot, Present, psn_base, vacant_queue}
 use Rattle.ca_wire.specs.Decoding.{packet_in, front_at, bth_at, number_at}
 use Rattle.ca_wire.specs.Packet.{be_bytes, packet_bytes}
 use Rattle.ca_wire.specs.Table.{row_of}

@@ -1,49 +1,34 @@
 -- Each verb with its answers: where it is done, and each refusal in its order, at both edges of each range. For proofs
 -- only.
-use Rattle.std.proofs.Common.{◌≡◌, ℕ, Bool, List, [], ◌∷◌, map, replicate, true, false, Option, None, Some, refl}
+use Rattle.std.proofs.Common.{◌≡◌, List, [], ◌∷◌, map, replicate, true, false, Option, None, Some, refl}
 use Rattle.ca_base.specs.declared.change.Change.TheVariants as changes
 use Rattle.ca_base.specs.declared.change.Field.TheVariants as fields
 use Rattle.ca_base.specs.declared.change.State.TheVariants as states
 use Rattle.ca_base.specs.declared.request.SendOp.TheVariants as ops
 use Rattle.ca_base.specs.declared.step.Reason.TheVariants as reasons
+use Rattle.ca_base.specs.objects.WorkQueue.{after_post, empty_queue}
 use Rattle.ca_model.specs.declared.answer.Answer.{Answer}
 use Rattle.ca_model.specs.declared.answer.Answer.TheVariants as answers
-use Rattle.ca_model.specs.declared.answer.Refusal.{Refusal}
 use Rattle.ca_model.specs.declared.answer.Refusal.TheVariants as refusals
 use Rattle.ca_model.specs.declared.event.Event.TheVariants as events
-use Rattle.ca_model.specs.declared.mark.Mark.{Mark}
-use Rattle.ca_model.specs.declared.mark.Mark.TheVariants as marks
-use Rattle.ca_model.specs.declared.verb.Verb.{Verb}
 use Rattle.ca_model.specs.declared.verb.Verb.TheVariants as verbs
 use Rattle.ca_model.specs.machine.Plan.{Outcome, NotReady, Did}
 use Rattle.ca_model.specs.machine.Step.{step}
 use Rattle.ca_model.specs.machine.World.{World}
 use Rattle.ca_wire.specs.Decoding.{packet_in, front_at, bth_at, number_at}
-use Rattle.ca_model.proofs.Literals.{d, s, q, k, r, list, piece, polled}
-use Rattle.ca_model.proofs.Machine.Furnished.{pair, furnished, with_queue, all_rights, send_of, add_of, write_of, signalled, receive_of, ready, in_state, with_posted, with_received}
+use Rattle.ca_model.proofs.Literals.{d, s, q, k, r, polled}
+use Rattle.ca_model.proofs.Machine.AnsweredVerbs.{AnsweredVerb, ◌⟶◌, answer_in, refused}
+use Rattle.ca_model.proofs.Machine.Furnished.{pair, furnished, with_queue, all_rights, send_of, add_of, signalled, receive_of, ready, in_state, with_posted, with_received}
 
--- the answer of a verb is its first mark
+-- what an event answers
 abbrev answer_of : Outcome → Option Answer
 answer_of (NotReady reason) = None
-answer_of (Did w (marks.Verb by verb answer ∷ ms)) = Some answer
-answer_of (Did w ms) = None
-
--- a verb with its answer
-record Case : Type 0 where
-  verb : Verb
-  answer : Answer
-
-infix 10 ◌⟶◌
-abbrev ◌⟶◌ : Verb → Answer → Case
-verb ⟶ answer = record { verb = verb; answer = answer }
+answer_of (Did w ms) = answer_in ms
 
 -- in this world, each verb has its answer
-abbrev AnsweredIn : World → List Case → Type 0
+abbrev AnsweredIn : World → List AnsweredVerb → Type 0
 AnsweredIn w cases =
     map (λ c. answer_of (step pair w (events.Verb 0 c.verb))) cases ≡ map (λ c. Some c.answer) cases
-
-abbrev refused : Refusal → Answer
-refused refusal = answers.Refused refusal
 
 alloc_pd : AnsweredIn furnished (
     (verbs.AllocPd (d 0 1) ⟶ answers.Fine)
@@ -177,6 +162,8 @@ create_qp = refl
 
 modify_qp : AnsweredIn furnished (
     (verbs.ModifyQp (s 0 0 0) changes.Sqd ⟶ answers.Fine)
+    ∷ (verbs.ModifyQp (s 0 0 0) changes.Error ⟶ answers.Fine)
+    ∷ (verbs.ModifyQp (s 0 0 0) changes.Reset ⟶ answers.Fine)
     ∷ (verbs.ModifyQp (s 0 0 4) changes.Sqd ⟶ refused refusals.NoSuch)
     ∷ (verbs.ModifyQp (s 0 0 3) changes.Sqd ⟶ refused refusals.NoSuch)
     ∷ (verbs.ModifyQp (s 0 0 3) changes.Error ⟶ refused refusals.NoSuch)
@@ -206,6 +193,7 @@ destroy_qp = refl
 -- the queue pair 257 is in Reset
 post_send : AnsweredIn furnished (
     (verbs.PostSend (s 0 0 0) (signalled (send_of 1048576)) ⟶ answers.Posted None)
+    ∷ (verbs.PostSend (s 0 0 0) (signalled (add_of 8)) ⟶ answers.Posted None)
     ∷ (verbs.PostSend (s 0 0 0) (signalled (ops.Bind1 0 (k 1) 0x100000000 8 all_rights)) ⟶ answers.Posted (Some (k 8388609)))
     ∷ (verbs.PostSend (s 0 0 0) (signalled (ops.Bind1 1 (k 1) 0x100000000 8 all_rights)) ⟶ answers.Posted None)
     ∷ (verbs.PostSend (s 0 0 0) (signalled (ops.Bind2 2 (k 1) 5 0x100000000 8 all_rights)) ⟶ answers.Posted None)
@@ -217,6 +205,7 @@ post_send : AnsweredIn furnished (
     ∷ (verbs.PostSend (s 0 0 0) (signalled (ops.Bind2 4 (k 1) 5 0x100000000 8 all_rights)) ⟶ refused refusals.NoSuch)
     ∷ (verbs.PostSend (s 0 0 0) (signalled (ops.FastReg 4 5 0 0 8 all_rights (0 ∷ []))) ⟶ refused refusals.NoSuch)
     ∷ (verbs.PostSend (s 0 0 1) (signalled (add_of 7)) ⟶ refused (refusals.OutOfRange fields.List))
+    ∷ (verbs.PostSend (s 0 0 1) (signalled (add_of 9)) ⟶ refused (refusals.OutOfRange fields.List))
     ∷ (verbs.PostSend (s 0 0 1) (signalled (add_of 1048577)) ⟶ refused (refusals.OutOfRange fields.List))
     ∷ (verbs.PostSend (s 0 0 1) (signalled (send_of 1048577)) ⟶ refused refusals.TooLong)
     ∷ (verbs.PostSend (s 0 0 1) (signalled (send_of 8)) ⟶ refused refusals.QueueState)
@@ -251,6 +240,11 @@ post_recv = refl
 
 post_recv_in_init : AnsweredIn (with_queue (in_state states.Init)) ((verbs.PostRecv (s 0 0 0) (receive_of 8) ⟶ answers.Posted None) ∷ [])
 post_recv_in_init = refl
+
+-- both places are occupied
+post_recv_to_full : AnsweredIn (with_queue (record ready { receives = Some (after_post (receive_of 8) (after_post (receive_of 8) (empty_queue 2))) }))
+    ((verbs.PostRecv (s 0 0 0) (receive_of 8) ⟶ refused refusals.QueueFull) ∷ [])
+post_recv_to_full = refl
 
 post_srq : AnsweredIn furnished (
     (verbs.PostSrq (s 0 0 1) (receive_of 1048576) ⟶ answers.Posted None)
@@ -289,6 +283,7 @@ store = refl
 
 load : AnsweredIn furnished (
     (verbs.Load 0 0 4094 2 ⟶ answers.Loaded (0 ∷ 0 ∷ []))
+    ∷ (verbs.Load 0 0 0 4096 ⟶ answers.Loaded (replicate 4096 0))
     ∷ (verbs.Load 0 1 0 1 ⟶ refused refusals.NoSuch)
     ∷ (verbs.Load 2 0 0 1 ⟶ refused refusals.NoSuch)
     ∷ (verbs.Load 0 0 5000 0 ⟶ refused (refusals.OutOfRange fields.Length))
