@@ -27,3 +27,4 @@ pub mod PostingVerbs
 pub mod HostVerbs
 pub mod Step
 pub mod Run
+pub mod Frame

@@ -11,6 +11,7 @@
 mod answer;
 mod entry;
 mod event;
+mod frame;
 mod history;
 mod mark;
 mod marks;
@@ -20,6 +21,9 @@ mod verb;
 pub use answer::{Answer, Refusal};
 pub use entry::Entry;
 pub use event::Event;
+pub use frame::{
+    event_depends_on_what_it_touches, event_leaves_the_rest, events_depend_on_what_they_touch,
+};
 pub use history::History;
 pub use mark::{Drop1, Mark};
 pub use marks::Marks;
