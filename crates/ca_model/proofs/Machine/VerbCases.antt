@@ -222,6 +222,11 @@ post_send_in_rtr = refl
 post_send_in_sqd : AnsweredIn (with_queue (in_state states.Sqd)) ((verbs.PostSend (s 0 0 0) (signalled (send_of 8)) ⟶ answers.Posted None) ∷ [])
 post_send_in_sqd = refl
 
+-- a bind of a type 1 window draws its byte in Error too
+post_send_in_error : AnsweredIn (with_queue (in_state states.Error))
+    ((verbs.PostSend (s 0 0 0) (signalled (ops.Bind1 0 (k 1) 0x100000000 8 all_rights)) ⟶ answers.Posted (Some (k 8388609))) ∷ [])
+post_send_in_error = refl
+
 -- both places are occupied
 post_send_to_full : AnsweredIn (with_queue (with_posted (signalled (send_of 8)) (with_posted (signalled (send_of 8)) ready)))
     ((verbs.PostSend (s 0 0 0) (signalled (send_of 8)) ⟶ refused refusals.QueueFull) ∷ [])
