@@ -1,6 +1,7 @@
 pub mod FrameLemmas
 pub mod HistoryLemmas
 pub mod Literals
+mod Machine
 pub mod RestLemmas
 pub mod SoundLemmas
 mod Traces

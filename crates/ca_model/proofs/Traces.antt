@@ -1,4 +1,4 @@
--- The histories of examples/traces, and which relations each has. For proofs only.
+-- The histories of examples/traces: which relations each has, or that the machine runs it. For proofs only.
 mod CarriedAnotherIndex
 mod CarriedAnotherOpcode
 mod CarriedAnotherPayload
@@ -105,3 +105,13 @@ mod OrderedReceivesOutOfOrder
 mod OrderedSendsOutOfOrder
 mod OrderedSignalledOneLeftOut
 mod OrderedSuccessNotSignalled
+mod RunDeniedRead
+mod RunDrainedAndResumed
+mod RunEarlyTimers
+mod RunFastRegistrationOutsideItsBuffer
+mod RunFaultyPackets
+mod RunImpliedNak
+mod RunInvalidateAndImmediate
+mod RunMessagesOfSeveralPackets
+mod RunRefusedByTheResponder
+mod RunType1Window
