@@ -88,7 +88,7 @@ pub enum Mark {
 }
 
 /// Why a packet that arrived was dropped.
-#[derive(Clone, Copy, Debug, PartialEq, Eq)]
+#[derive(Clone, Copy)]
 pub enum Drop1 {
     /// The bytes are no packet.
     Wire(WireError),

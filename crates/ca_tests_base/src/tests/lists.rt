@@ -1,6 +1,5 @@
 use super::holds;
 use ca_base::{Answers, Items, Key, Queued, Run};
-use std::fmt::Debug;
 use std::process::Abort;
 use std::test::Fail;
 
@@ -39,12 +38,12 @@ const ANSWERS: [Queued; 5] = [
     },
 ];
 
-fn are<T: PartialEq + Debug>(rt: &impl Abort, items: &[T], want: &[T]) {
-    assert_eq!(rt; items, want);
+fn are<T: PartialEq>(rt: &impl Abort, items: &[T], want: &[T]) {
+    holds(rt, items == want, "the same items");
 }
 
 // A list takes these items one by one, and each copy has them.
-fn is_copied<T: Copy + Drop + PartialEq + Debug, R: Abort + AllocGlobal>(
+fn is_copied<T: Copy + Drop + PartialEq, R: Abort + AllocGlobal>(
     rt: &R,
     items: &[T],
 ) -> Result<(), Fail> {
