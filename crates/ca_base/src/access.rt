@@ -30,7 +30,7 @@ impl fmt::Display for Kind {
 }
 
 /// The first part of the key check that fails, in the order in which the parts are tried.
-#[derive(Clone, Copy, PartialEq, Eq)]
+#[derive(Clone, Copy)]
 pub enum Denial {
     /// No grant in force has this key in the queue pair's domain, or it may not be used as an L_Key.
     NoGrant,

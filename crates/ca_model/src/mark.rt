@@ -8,7 +8,7 @@ use ca_wire::WireError;
 use std::fmt;
 
 /// One thing that an event did.
-#[derive(Clone, Drop)]
+#[derive(Drop)]
 pub enum Mark {
     /// The verb was answered.
     Verb {
