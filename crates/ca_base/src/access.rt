@@ -7,7 +7,7 @@ use crate::names::{DomainId, QueueId};
 use std::fmt;
 
 /// What an access does to memory.
-#[derive(Clone, Copy, Debug, Default, PartialEq, Eq)]
+#[derive(Clone, Copy, Default)]
 pub enum Kind {
     #[default]
     Read,
@@ -30,7 +30,7 @@ impl fmt::Display for Kind {
 }
 
 /// The first part of the key check that fails, in the order in which the parts are tried.
-#[derive(Clone, Copy, Debug, PartialEq, Eq)]
+#[derive(Clone, Copy)]
 pub enum Denial {
     /// No grant in force has this key in the queue pair's domain, or it may not be used as an L_Key.
     NoGrant,
@@ -57,7 +57,7 @@ impl fmt::Display for Denial {
 
 /// What an atomic does to the eight bytes that it reaches, as a little-endian number: the new number is `swap` where
 /// the number found equals `compare` and else the same, or the sum of the number found and `add` modulo 2^64.
-#[derive(Clone, Copy, PartialEq, Eq)]
+#[derive(Clone, Copy)]
 pub enum AtomicOp {
     CmpSwap { compare: u64, swap: u64 },
     FetchAdd { add: u64 },
@@ -65,7 +65,7 @@ pub enum AtomicOp {
 
 /// A question to the key check: may this queue pair, of this domain, use this key for `length` bytes from `address`
 /// on? `local` says that the key is used as an L_Key; `touch` is how many of the bytes this packet touches.
-#[derive(Clone, Copy, Default, PartialEq, Eq)]
+#[derive(Clone, Copy, Default)]
 pub struct Ask {
     pub queue: QueueId,
     pub domain: DomainId,

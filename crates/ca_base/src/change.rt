@@ -5,7 +5,7 @@ use crate::names::QueueId;
 use std::fmt;
 
 /// The state of a queue pair (the standard's queue pair states, without the SQ Error state).
-#[derive(Clone, Copy, Debug, PartialEq, Eq)]
+#[derive(Clone, Copy)]
 pub enum State {
     Reset,
     Init,
@@ -34,7 +34,7 @@ impl fmt::Display for State {
 }
 
 /// A change of a queue pair's state (the standard's Modify Queue Pair).
-#[derive(Clone, Copy, PartialEq, Eq)]
+#[derive(Clone, Copy)]
 pub enum Change {
     /// To Reset: queues and numbers are emptied, and the incarnation rises.
     Reset,
@@ -66,7 +66,7 @@ pub enum Change {
 }
 
 /// A field of a verb whose value is out of its range.
-#[derive(Clone, Copy, Debug, PartialEq, Eq)]
+#[derive(Clone, Copy)]
 pub enum Field {
     Peer,
     Incarnation,
@@ -108,7 +108,7 @@ impl fmt::Display for Field {
 }
 
 /// Why a change of a queue pair's state is refused, in the order in which the refusals are tried.
-#[derive(Clone, Copy, PartialEq, Eq)]
+#[derive(Clone, Copy)]
 pub enum ModifyRefusal {
     /// The change is not one that leads from the present state.
     Transition,

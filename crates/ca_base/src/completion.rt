@@ -6,7 +6,7 @@ use crate::names::QueueId;
 use std::fmt;
 
 /// The status of a work completion.
-#[derive(Clone, Copy, Debug, Default, PartialEq, Eq)]
+#[derive(Clone, Copy, Default, PartialEq, Eq)]
 pub enum WcStatus {
     #[default]
     Success,
@@ -50,7 +50,7 @@ impl fmt::Display for WcStatus {
 }
 
 /// What the request of a completion asked for.
-#[derive(Clone, Copy, Debug, Default, PartialEq, Eq)]
+#[derive(Clone, Copy, Default, PartialEq, Eq)]
 pub enum WcOp {
     #[default]
     Send,

@@ -6,7 +6,7 @@ use std::fmt;
 
 /// A memory key. The L_Key and the R_Key of a region are one number (this profile's choice): the key index of its
 /// slot in the high 24 bits, and the low byte, which changes from grant to grant.
-#[derive(Clone, Copy, Debug, Default, PartialEq, Eq)]
+#[derive(Clone, Copy, Default, PartialEq, Eq)]
 pub struct Key(pub u32);
 
 impl Key {

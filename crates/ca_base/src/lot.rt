@@ -4,7 +4,7 @@ ghost use Rattle.ca_base.specs.Spelling.{lot_text};
 use std::fmt;
 
 /// What the weather of the fabric does to a packet that is sent.
-#[derive(Clone, Copy, Debug, PartialEq, Eq)]
+#[derive(Clone, Copy)]
 pub enum Lot {
     /// It is to be delivered once.
     Pass,

@@ -4,7 +4,7 @@ ghost use Rattle.ca_base.specs.Spelling.{domain_text, slot_text, queue_text};
 use std::fmt;
 
 /// A protection domain: the adapter that it is of, and its number there.
-#[derive(Clone, Copy, Debug, Default, PartialEq, Eq)]
+#[derive(Clone, Copy, Default, PartialEq, Eq)]
 pub struct DomainId {
     pub adapter: u8,
     pub domain: u8,
@@ -21,7 +21,7 @@ impl fmt::Display for DomainId {
 }
 
 /// An object of a domain: a region, a window, a completion queue, a shared receive queue or a queue pair.
-#[derive(Clone, Copy, Debug, PartialEq, Eq)]
+#[derive(Clone, Copy, PartialEq, Eq)]
 pub struct Slot {
     pub domain: DomainId,
     pub slot: u16,
@@ -39,7 +39,7 @@ impl fmt::Display for Slot {
 
 /// A queue pair: the adapter that it is of, and its queue pair number there. The number carries the domain, as
 /// `(domain + 1) * 256 + slot`, so that the reserved numbers 0 and 1 never occur (this profile's choice).
-#[derive(Clone, Copy, Debug, Default, PartialEq, Eq)]
+#[derive(Clone, Copy, Default, PartialEq, Eq)]
 pub struct QueueId {
     pub adapter: u8,
     pub number: u32,

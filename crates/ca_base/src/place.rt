@@ -5,7 +5,7 @@ ghost use Rattle.ca_base.specs.Spelling.{run_text};
 use std::fmt;
 
 /// One byte of an adapter's memory.
-#[derive(Clone, Copy, PartialEq, Eq)]
+#[derive(Clone, Copy)]
 pub struct Place {
     pub adapter: u8,
     pub buffer: u16,
@@ -13,7 +13,7 @@ pub struct Place {
 }
 
 /// Bytes of one buffer, from an offset on.
-#[derive(Clone, Copy, Debug, PartialEq, Eq)]
+#[derive(Clone, Copy, PartialEq, Eq)]
 pub struct Run {
     pub adapter: u8,
     pub buffer: u16,
@@ -34,7 +34,7 @@ impl fmt::Display for Run {
 }
 
 /// The places of the bytes that a packet touches: at most two runs, in the order of their addresses.
-#[derive(Clone, Copy, PartialEq, Eq)]
+#[derive(Clone, Copy)]
 pub struct Span {
     pub first: Run,
     pub second: Option<Run>,

@@ -3,7 +3,7 @@ use crate::key::Key;
 use crate::request::RecvRequest;
 
 /// What the requester of a queue pair counts. PSNs are whole numbers here: 2^24 and the first PSN, and onwards.
-#[derive(Clone, Copy, PartialEq, Eq)]
+#[derive(Clone, Copy)]
 pub struct RequesterNumbers {
     /// The first PSN that is not acknowledged or answered.
     pub una: u64,
@@ -99,7 +99,7 @@ pub enum Queued {
 }
 
 /// How many type 2 windows are bound to a queue pair.
-#[derive(Clone, Copy, PartialEq, Eq)]
+#[derive(Clone, Copy)]
 pub struct WindowCount {
     pub count: u32,
 }

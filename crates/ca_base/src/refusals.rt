@@ -6,7 +6,7 @@ use crate::memory::Memory;
 use std::fmt;
 
 /// Why a call on a memory region is refused.
-#[derive(Clone, Copy, Debug, PartialEq, Eq)]
+#[derive(Clone, Copy, PartialEq, Eq)]
 pub enum RegionError {
     /// A registration of no bytes.
     Empty,
@@ -61,7 +61,7 @@ impl fmt::Display for RegionError {
 }
 
 /// Why a call on a memory window is refused.
-#[derive(Clone, Copy, Debug, PartialEq, Eq)]
+#[derive(Clone, Copy)]
 pub enum WindowError {
     /// There is no window in the slot.
     NoWindow,
@@ -111,7 +111,7 @@ impl fmt::Display for WindowError {
 }
 
 /// Why a bind, a fast registration or an invalidation is refused. A refusal is never for want of memory.
-#[derive(Clone, Copy, Debug, PartialEq, Eq)]
+#[derive(Clone, Copy)]
 pub enum OpRefusal {
     Region(RegionError),
     Window(WindowError),

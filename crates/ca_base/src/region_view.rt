@@ -2,7 +2,7 @@ use crate::key::Key;
 use crate::rights::Rights;
 
 /// What others see of a memory region: whether it is valid, its key, its rights and its range.
-#[derive(Clone, Copy, PartialEq, Eq)]
+#[derive(Clone, Copy)]
 pub struct RegionView {
     pub valid: bool,
     pub key: Key,

@@ -2,7 +2,7 @@ use crate::names::QueueId;
 
 /// Who reserves room in a completion queue: a queue pair for its sends, or for its receives, or a queue pair that uses a
 /// shared receive queue, by slot.
-#[derive(Clone, Copy, PartialEq, Eq)]
+#[derive(Clone, Copy)]
 pub enum Reserve {
     Sends(QueueId),
     Receives(QueueId),

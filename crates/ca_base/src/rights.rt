@@ -6,7 +6,7 @@ use crate::access::Kind;
 use std::fmt;
 
 /// What a key allows. A local read needs no right. A remote write or a remote atomic needs local write beside it.
-#[derive(Clone, Copy, Debug, Default, PartialEq, Eq)]
+#[derive(Clone, Copy, Default, PartialEq, Eq)]
 pub struct Rights {
     pub local_write: bool,
     pub remote_read: bool,

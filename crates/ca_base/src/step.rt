@@ -5,7 +5,7 @@ use crate::memory::Memory;
 use crate::names::QueueId;
 
 /// Why an event is not possible now.
-#[derive(Clone, Copy, Debug, PartialEq, Eq)]
+#[derive(Clone, Copy)]
 pub enum Reason {
     /// There is nothing to do: nothing to send, to answer, to deliver, to wake or to poll.
     Empty,
@@ -26,7 +26,7 @@ pub enum Reason {
 }
 
 /// Why a turn of an engine did nothing.
-#[derive(Clone, Copy, Debug, PartialEq, Eq)]
+#[derive(Clone, Copy)]
 pub enum StepError {
     /// It is not possible now.
     NotReady(Reason),
@@ -43,7 +43,7 @@ impl From<Memory> for StepError {
 }
 
 /// Whether a packet was spelt, and of which posting place its request is; a response has none.
-#[derive(Clone, Copy, PartialEq, Eq)]
+#[derive(Clone, Copy)]
 pub enum Sent {
     Silent,
     Spelt { request: Option<u64> },
@@ -51,7 +51,7 @@ pub enum Sent {
 
 /// One turn of an adapter's engine at a queue pair. `Due` delivers the envelope that is due, `Deliver` the one with
 /// this index.
-#[derive(Clone, Copy, PartialEq, Eq)]
+#[derive(Clone, Copy)]
 pub enum Turn {
     Request(QueueId),
     Due(QueueId),

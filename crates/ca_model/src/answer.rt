@@ -36,7 +36,7 @@ pub enum Answer {
 }
 
 /// Why a verb is refused.
-#[derive(Clone, Copy, Debug, PartialEq, Eq)]
+#[derive(Clone, Copy)]
 pub enum Refusal {
     /// A name is outside the configured slices, or the object that it names is not there.
     NoSuch,

@@ -8,7 +8,7 @@ use ca_wire::WireError;
 use std::fmt;
 
 /// One thing that an event did.
-#[derive(Clone, Drop)]
+#[derive(Drop)]
 pub enum Mark {
     /// The verb was answered.
     Verb {
@@ -88,7 +88,7 @@ pub enum Mark {
 }
 
 /// Why a packet that arrived was dropped.
-#[derive(Clone, Copy, Debug, PartialEq, Eq)]
+#[derive(Clone, Copy)]
 pub enum Drop1 {
     /// The bytes are no packet.
     Wire(WireError),

@@ -7,7 +7,6 @@ mod requests;
 use arrayvec::ArrayVec;
 use ca_base::{DomainId, Key, Piece, QueueId, Slot};
 use std::process::Abort;
-use std::test::Fail;
 
 const DOMAIN: DomainId = DomainId {
     adapter: 0,
@@ -41,10 +40,11 @@ fn holds(rt: &impl Abort, is: bool, what: &str) {
     assert!(rt; is, "{what}");
 }
 
-fn list_of_two() -> Result<ArrayVec<Piece, 4>, Fail> {
-    let mut list = ArrayVec::new();
-    for piece in PIECES.as_slice() {
-        list.try_push(*piece)?;
-    }
-    Ok(list)
+// A copy of a value, which is given up: so one value lives at a time.
+fn copy_of<T: Clone + Drop>(value: T) -> Option<T> {
+    value.clone().ok()
+}
+
+fn list_of_two() -> Option<ArrayVec<Piece, 4>> {
+    ArrayVec::try_from(PIECES.as_slice()).ok()
 }

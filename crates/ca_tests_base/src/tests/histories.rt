@@ -1,10 +1,8 @@
-use super::{DOMAIN, PIECES, QUEUE, SLOT, holds, list_of_two};
+use super::{PIECES, QUEUE, SLOT, copy_of, holds, list_of_two};
 use arrayvec::ArrayVec;
 use ca_base::{Bytes, Completion, RecvRequest, WcOp, WcStatus};
 use ca_model::{Answer, Entry, Event, History, Mark, Marks, Verb};
 use std::alloc::Global;
-use std::process::Abort;
-use std::test::Fail;
 
 const COMPLETION: Completion = Completion {
     id: 9,
@@ -39,17 +37,17 @@ fn is_receive(verb: &Verb) -> bool {
     }
 }
 
-fn store(alloc: Global) -> Result<Verb, Fail> {
-    Ok(Verb::Store {
+fn store(alloc: Global) -> Option<Verb> {
+    Some(Verb::Store {
         adapter: 1,
         buffer: 2,
         offset: 3,
-        bytes: Bytes::copy_of(alloc, b"abc")?,
+        bytes: Bytes::copy_of(alloc, b"abc").ok()?,
     })
 }
 
-fn receive() -> Result<Verb, Fail> {
-    Ok(Verb::PostRecv {
+fn receive() -> Option<Verb> {
+    Some(Verb::PostRecv {
         slot: SLOT,
         request: RecvRequest {
             id: 8,
@@ -58,25 +56,37 @@ fn receive() -> Result<Verb, Fail> {
     })
 }
 
-#[test]
-fn verbs_and_their_events_are_copied(rt: HostRuntime) -> Result<(), Fail> {
-    holds(
-        &rt,
-        is_store(&store(rt.alloc())?.clone()?),
-        "the same store",
-    );
-    holds(&rt, is_receive(&receive()?.clone()?), "the same receive");
-    let event = Event::Verb {
+fn is_event(event: &Event) -> bool {
+    match event {
+        Event::Verb { by, verb } => *by == 5 && is_store(verb),
+        _ => false,
+    }
+}
+
+fn event(alloc: Global) -> Option<Event> {
+    Some(Event::Verb {
         by: 5,
-        verb: store(rt.alloc())?,
-    };
-    let copy = event.clone()?;
+        verb: store(alloc)?,
+    })
+}
+
+#[test]
+fn verbs_and_their_events_are_copied(rt: HostRuntime) {
+    let alloc = rt.alloc();
+    let verb = store(alloc).and_then(copy_of);
+    holds(&rt, matches!(&verb, Some(verb) if is_store(verb)), "store");
+    let verb = receive().and_then(copy_of);
     holds(
         &rt,
-        matches!(&copy, Event::Verb { by: 5, verb } if is_store(verb)),
-        "the same event",
+        matches!(&verb, Some(verb) if is_receive(verb)),
+        "receive",
     );
-    Ok(())
+    let event = event(alloc).and_then(copy_of);
+    holds(
+        &rt,
+        matches!(&event, Some(event) if is_event(event)),
+        "event",
+    );
 }
 
 fn is_polled(answer: &Answer) -> bool {
@@ -93,18 +103,29 @@ fn is_loaded(answer: &Answer) -> bool {
     }
 }
 
-fn polled() -> Result<Answer, Fail> {
-    let mut completions = ArrayVec::new();
-    completions.try_push(COMPLETION)?;
-    Ok(Answer::Polled(completions))
+fn polled() -> Option<Answer> {
+    let completions = ArrayVec::try_from([COMPLETION].as_slice()).ok()?;
+    Some(Answer::Polled(completions))
+}
+
+fn loaded(alloc: Global) -> Option<Answer> {
+    Some(Answer::Loaded(Bytes::copy_of(alloc, b"abc").ok()?))
 }
 
 #[test]
-fn answers_are_copied(rt: HostRuntime) -> Result<(), Fail> {
-    holds(&rt, is_polled(&polled()?.clone()?), "the same completions");
-    let loaded = Answer::Loaded(Bytes::copy_of(rt.alloc(), b"abc")?);
-    holds(&rt, is_loaded(&loaded.clone()?), "the same bytes");
-    Ok(())
+fn answers_are_copied(rt: HostRuntime) {
+    let answer = polled().and_then(copy_of);
+    holds(
+        &rt,
+        matches!(&answer, Some(answer) if is_polled(answer)),
+        "completions",
+    );
+    let answer = loaded(rt.alloc()).and_then(copy_of);
+    holds(
+        &rt,
+        matches!(&answer, Some(answer) if is_loaded(answer)),
+        "bytes",
+    );
 }
 
 fn is_answered(mark: &Mark) -> bool {
@@ -128,67 +149,79 @@ const TIMER: Mark = Mark::Timer {
     silent: true,
 };
 
-fn answered(alloc: Global) -> Result<Mark, Fail> {
-    Ok(Mark::Verb {
+fn answered(alloc: Global) -> Option<Mark> {
+    Some(Mark::Verb {
         by: 5,
         verb: store(alloc)?,
         answer: Answer::Fine,
     })
 }
 
+// A mark, and two more behind it.
+fn three_marks(alloc: Global) -> Option<Marks> {
+    let more = vec![in alloc; answered(alloc)?, TIMER].ok()?;
+    let mut marks = Marks::empty(alloc);
+    marks.reserve(3).ok()?;
+    marks.push(TIMER);
+    marks.append(more);
+    Some(marks)
+}
+
+fn are_the_three(marks: &Marks) -> bool {
+    match marks.as_slice() {
+        [first, second, third] => is_timer(first) && is_answered(second) && is_timer(third),
+        _ => false,
+    }
+}
+
 #[test]
-fn marks_are_copied(rt: HostRuntime) -> Result<(), Fail> {
+fn marks_stand_in_order(rt: HostRuntime) {
+    let marks = three_marks(rt.alloc());
     holds(
         &rt,
-        is_answered(&answered(rt.alloc())?.clone()?),
-        "the same answer",
+        matches!(&marks, Some(marks) if are_the_three(marks)),
+        "the marks in order",
     );
-    Ok(())
 }
 
-#[test]
-fn marks_stand_in_order(rt: HostRuntime) -> Result<(), Fail> {
-    let mut marks = Marks::empty(rt.alloc());
-    marks.reserve(3)?;
+// The timer of a queue pair fires, and nothing else happened.
+fn timeout(alloc: Global) -> Option<History> {
+    let mut marks = Marks::empty(alloc);
+    marks.reserve(1).ok()?;
     marks.push(TIMER);
-    let mut more = Vec::new(rt.alloc());
-    more.push(answered(rt.alloc())?)?;
-    more.push(TIMER)?;
-    marks.append(more);
-    match marks.as_slice() {
-        [first, second, third] => holds(
-            &rt,
-            is_timer(first) && is_answered(second) && is_timer(third),
-            "the marks in order",
-        ),
-        _ => holds(&rt, false, "three marks"),
-    }
-    Ok(())
+    let mut history = History::empty(alloc);
+    history
+        .push(Entry {
+            stamp: 0,
+            pass: 1,
+            event: Event::Timeout {
+                queue: QUEUE,
+                hasten: false,
+            },
+            marks,
+        })
+        .ok()?;
+    Some(history)
 }
 
-#[test]
-fn a_history_takes_entries_at_its_end(rt: HostRuntime) -> Result<(), Fail> {
-    let mut history = History::empty(rt.alloc());
-    let mut marks = Marks::empty(rt.alloc());
-    marks.reserve(1)?;
-    marks.push(TIMER);
-    history.push(Entry {
-        stamp: 0,
-        pass: 1,
-        event: Event::Timeout {
-            queue: QUEUE,
-            hasten: false,
-        },
-        marks,
-    })?;
-    holds(&rt, history.len() == 1 && !history.is_empty(), "one entry");
+fn is_the_timeout(history: &History) -> bool {
     match history.as_slice() {
-        [entry] => holds(
-            &rt,
-            entry.stamp == 0 && matches!(entry.marks.as_slice(), [mark] if is_timer(mark)),
-            "the entry",
-        ),
-        _ => holds(&rt, false, "one entry"),
+        [entry] => {
+            history.len() == 1
+                && !history.is_empty()
+                && entry.stamp == 0
+                && matches!(entry.marks.as_slice(), [mark] if is_timer(mark))
+        }
+        _ => false,
     }
-    Ok(())
+}
+
+#[test]
+fn a_history_takes_entries_at_its_end(rt: HostRuntime) {
+    let history = timeout(rt.alloc());
+    holds(
+        &rt,
+        matches!(&history, Some(history) if is_the_timeout(history)),
+        "the entry",
+    );
 }

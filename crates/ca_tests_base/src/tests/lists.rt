@@ -1,8 +1,6 @@
-use super::holds;
+use super::{copy_of, holds};
 use ca_base::{Answers, Items, Key, Queued, Run};
-use std::fmt::Debug;
-use std::process::Abort;
-use std::test::Fail;
+use std::alloc::Global;
 
 const RUNS: [Run; 2] = [
     Run {
@@ -39,43 +37,53 @@ const ANSWERS: [Queued; 5] = [
     },
 ];
 
-fn are<T: PartialEq + Debug>(rt: &impl Abort, items: &[T], want: &[T]) {
-    assert_eq!(rt; items, want);
+// The list that takes these items one by one.
+fn pushed<T: Copy + Drop>(alloc: Global, items: &[T]) -> Option<Items<T>> {
+    let mut list: Items<T> = Items::empty(alloc);
+    for item in items {
+        list.push(*item).ok()?;
+    }
+    Some(list)
 }
 
 // A list takes these items one by one, and each copy has them.
-fn is_copied<T: Copy + Drop + PartialEq + Debug, R: Abort + AllocGlobal>(
-    rt: &R,
-    items: &[T],
-) -> Result<(), Fail> {
-    let mut list: Items<T> = Items::empty(rt.alloc());
-    for item in items {
-        list.push(*item)?;
-    }
-    are(rt, list.as_slice(), items);
-    are(rt, list.clone()?.as_slice(), items);
-    are(rt, Items::copy_of(rt.alloc(), items)?.as_slice(), items);
-    are(rt, list.into_vec().as_slice(), items);
-    Ok(())
+fn is_copied<T: Copy + Drop + PartialEq>(alloc: Global, items: &[T]) -> bool {
+    let list = pushed(alloc, items).and_then(copy_of);
+    let copy = Items::copy_of(alloc, items).ok().map(Items::into_vec);
+    matches!(&list, Some(list) if list.as_slice() == items)
+        && matches!(&copy, Some(copy) if copy.as_slice() == items)
 }
 
 #[test]
-fn lists_take_items_and_are_copied(rt: HostRuntime) -> Result<(), Fail> {
-    is_copied(&rt, b"\x00\x01\xff".as_slice())?;
-    is_copied(&rt, RUNS.as_slice())?;
-    is_copied(&rt, [3u16, 0, 255].as_slice())
+fn lists_take_items_and_are_copied(rt: HostRuntime) {
+    let alloc = rt.alloc();
+    holds(&rt, is_copied(alloc, b"\x00\x01\xff".as_slice()), "bytes");
+    holds(&rt, is_copied(alloc, RUNS.as_slice()), "runs");
+    holds(&rt, is_copied(alloc, [3u16, 0, 255].as_slice()), "pages");
 }
 
-#[test]
-fn a_response_queue_takes_answers_at_its_end(rt: HostRuntime) -> Result<(), Fail> {
-    let mut queue = Answers::empty(rt.alloc());
+fn queue(alloc: Global) -> Option<Answers> {
+    let mut queue = Answers::empty(alloc);
     for answer in ANSWERS.as_slice() {
-        queue.push(*answer)?;
+        queue.push(*answer).ok()?;
     }
-    holds(&rt, queue.len() == ANSWERS.len(), "five answers wait");
+    Some(queue)
+}
+
+fn has_each_in_its_place(queue: &Answers) -> bool {
+    let mut all = queue.len() == ANSWERS.len();
     for place in 0..6 {
-        let want = ANSWERS.as_slice().get(place).copied();
-        holds(&rt, queue.get(place) == want, "each has its place");
+        all = all && queue.get(place) == ANSWERS.as_slice().get(place).copied();
     }
-    Ok(())
+    all
+}
+
+#[test]
+fn a_response_queue_takes_answers_at_its_end(rt: HostRuntime) {
+    let queue = queue(rt.alloc());
+    holds(
+        &rt,
+        matches!(&queue, Some(queue) if has_each_in_its_place(queue)),
+        "five answers",
+    );
 }

@@ -1,8 +1,6 @@
 use super::{SLOT, holds};
-use ca_base::{Key, RegionError, Rights, Run};
+use ca_base::{Grant, Key, RegionError, Rights, Run};
 use ca_region::Region;
-use std::process::Abort;
-use std::test::Fail;
 
 const WRITE: Rights = Rights {
     local_write: true,
@@ -49,17 +47,13 @@ const ASKED: [((u32, u32), Rights, Option<RegionError>); 8] = [
     ((0, 64), WRITE, None),
 ];
 
-fn error_is(rt: &impl Abort, error: Option<RegionError>, want: Option<RegionError>) {
-    assert_eq!(rt; error, want);
-}
-
 #[test]
 fn refuses_for_the_first_reason(rt: HostRuntime) {
     for row in ASKED.as_slice() {
         let ((offset, length), rights, want) = *row;
         let mut region = Region::vacant();
         let given = region.register(rt.alloc(), SLOT, run(offset, length), 64, rights);
-        error_is(&rt, given.err(), want);
+        holds(&rt, given.err() == want, "the reason");
         holds(
             &rt,
             region.is_vacant() == want.is_some(),
@@ -68,23 +62,20 @@ fn refuses_for_the_first_reason(rt: HostRuntime) {
     }
 }
 
+fn is_of_the_last_byte(grant: &Grant) -> bool {
+    grant.key == Key(1)
+        && grant.address == 0x1_0000_003f
+        && grant.length == 1
+        && grant.runs.as_slice() == [run(63, 1)].as_slice()
+}
+
 #[test]
-fn grants_the_last_byte_of_a_buffer(rt: HostRuntime) -> Result<(), Fail> {
+fn grants_the_last_byte_of_a_buffer(rt: HostRuntime) {
     let mut region = Region::vacant();
-    let grant = region
-        .register(rt.alloc(), SLOT, run(63, 1), 64, WRITE)
-        .ok()
-        .ok_or("the region is registered")?;
-    holds(&rt, grant.key == Key(1), "the key");
+    let given = region.register(rt.alloc(), SLOT, run(63, 1), 64, WRITE);
     holds(
         &rt,
-        grant.address == 0x1_0000_003f && grant.length == 1,
-        "the range",
+        matches!(&given, Ok(grant) if is_of_the_last_byte(grant)),
+        "the grant of the last byte",
     );
-    holds(
-        &rt,
-        grant.runs.as_slice() == [run(63, 1)].as_slice(),
-        "the runs",
-    );
-    Ok(())
 }

@@ -1,10 +1,9 @@
-use super::{DOMAIN, PIECES, QUEUE, holds, list_of_two};
+use super::{DOMAIN, PIECES, QUEUE, copy_of, holds, list_of_two};
 use ca_base::{
     Bytes, Denial, Grant, Key, Message, Pages, RecvRequest, Rights, Run, Runs, SendOp, SendRequest,
     Verdict,
 };
-use std::process::Abort;
-use std::test::Fail;
+use std::alloc::Global;
 
 const RIGHTS: Rights = Rights {
     local_write: true,
@@ -21,39 +20,54 @@ const RUN: Run = Run {
     length: 64,
 };
 
-fn is_verdict(a: &Verdict, b: &Verdict) -> bool {
-    match (a, b) {
-        (Verdict::Read(a), Verdict::Read(b)) | (Verdict::Wrote(a), Verdict::Wrote(b)) => {
-            a.as_slice() == b.as_slice()
-        }
-        (Verdict::Swapped { found, put }, Verdict::Swapped { found: f, put: p }) => {
-            found == f && put == p
-        }
-        (Verdict::Denied(a), Verdict::Denied(b)) => a == b,
+fn is_read(verdict: &Verdict) -> bool {
+    match verdict {
+        Verdict::Read(bytes) => bytes.as_slice() == b"abc".as_slice(),
         _ => false,
     }
 }
 
-fn verdict_is_copied(rt: &impl Abort, verdict: &Verdict) -> Result<(), Fail> {
+fn is_wrote(verdict: &Verdict) -> bool {
+    match verdict {
+        Verdict::Wrote(bytes) => bytes.as_slice().is_empty(),
+        _ => false,
+    }
+}
+
+fn read(alloc: Global) -> Option<Verdict> {
+    Some(Verdict::Read(Bytes::copy_of(alloc, b"abc").ok()?))
+}
+
+#[test]
+fn verdicts_are_copied(rt: HostRuntime) {
+    let verdict = read(rt.alloc()).and_then(copy_of);
     holds(
-        rt,
-        is_verdict(verdict, &verdict.clone()?),
-        "the same verdict",
+        &rt,
+        matches!(&verdict, Some(verdict) if is_read(verdict)),
+        "bytes",
     );
-    Ok(())
+    let verdict = copy_of(Verdict::Wrote(Bytes::empty(rt.alloc())));
+    holds(
+        &rt,
+        matches!(&verdict, Some(verdict) if is_wrote(verdict)),
+        "no bytes",
+    );
+    let verdict = copy_of(Verdict::Swapped { found: 1, put: 2 });
+    holds(
+        &rt,
+        matches!(&verdict, Some(Verdict::Swapped { found: 1, put: 2 })),
+        "numbers",
+    );
+    let verdict = copy_of(Verdict::Denied(Denial::OutOfRange));
+    holds(
+        &rt,
+        matches!(&verdict, Some(Verdict::Denied(Denial::OutOfRange))),
+        "the part that failed",
+    );
 }
 
-#[test]
-fn verdicts_are_copied(rt: HostRuntime) -> Result<(), Fail> {
-    verdict_is_copied(&rt, &Verdict::Read(Bytes::copy_of(rt.alloc(), b"abc")?))?;
-    verdict_is_copied(&rt, &Verdict::Wrote(Bytes::copy_of(rt.alloc(), b"")?))?;
-    verdict_is_copied(&rt, &Verdict::Swapped { found: 1, put: 2 })?;
-    verdict_is_copied(&rt, &Verdict::Denied(Denial::OutOfRange))
-}
-
-#[test]
-fn a_grant_is_copied(rt: HostRuntime) -> Result<(), Fail> {
-    let grant = Grant {
+fn grant(alloc: Global) -> Option<Grant> {
+    Some(Grant {
         key: Key(1),
         domain: DOMAIN,
         queue: Some(QUEUE),
@@ -61,19 +75,29 @@ fn a_grant_is_copied(rt: HostRuntime) -> Result<(), Fail> {
         address: 4_294_967_312,
         length: 64,
         rights: RIGHTS,
-        runs: Runs::copy_of(rt.alloc(), [RUN].as_slice())?,
-    };
-    let copy = grant.clone()?;
-    holds(&rt, copy.key == Key(1) && copy.domain == DOMAIN, "key");
-    holds(&rt, copy.queue == Some(QUEUE) && copy.local, "for whom");
+        runs: Runs::copy_of(alloc, [RUN].as_slice()).ok()?,
+    })
+}
+
+fn is_the_grant(grant: &Grant) -> bool {
+    grant.key == Key(1)
+        && grant.domain == DOMAIN
+        && grant.queue == Some(QUEUE)
+        && grant.local
+        && grant.address == 4_294_967_312
+        && grant.length == 64
+        && grant.rights == RIGHTS
+        && grant.runs.as_slice() == [RUN].as_slice()
+}
+
+#[test]
+fn a_grant_is_copied(rt: HostRuntime) {
+    let grant = grant(rt.alloc()).and_then(copy_of);
     holds(
         &rt,
-        copy.address == 4_294_967_312 && copy.length == 64,
-        "range",
+        matches!(&grant, Some(grant) if is_the_grant(grant)),
+        "the grant",
     );
-    holds(&rt, copy.rights == RIGHTS, "rights");
-    holds(&rt, copy.runs.as_slice() == [RUN].as_slice(), "runs");
-    Ok(())
 }
 
 fn is_fast_registration(op: &SendOp) -> bool {
@@ -106,59 +130,79 @@ fn is_send(op: &SendOp) -> bool {
     }
 }
 
-#[test]
-fn operations_are_copied(rt: HostRuntime) -> Result<(), Fail> {
-    let op = SendOp::FastReg {
+fn fast_registration(alloc: Global) -> Option<SendOp> {
+    Some(SendOp::FastReg {
         region: 2,
         low: 7,
         buffer: 1,
         address: 8_589_934_592,
         length: 8192,
         rights: RIGHTS,
-        pages: Pages::copy_of(rt.alloc(), [5u16, 3].as_slice())?,
-    };
-    holds(
-        &rt,
-        is_fast_registration(&op.clone()?),
-        "the same registration",
-    );
-    let send = SendOp::Send {
+        pages: Pages::copy_of(alloc, [5u16, 3].as_slice()).ok()?,
+    })
+}
+
+fn send() -> Option<SendOp> {
+    Some(SendOp::Send {
         list: list_of_two()?,
-    };
-    holds(&rt, is_send(&send.clone()?), "the same list");
-    Ok(())
+    })
 }
 
 #[test]
-fn requests_are_copied(rt: HostRuntime) -> Result<(), Fail> {
-    let send = SendRequest {
+fn operations_are_copied(rt: HostRuntime) {
+    let op = fast_registration(rt.alloc()).and_then(copy_of);
+    holds(
+        &rt,
+        matches!(&op, Some(op) if is_fast_registration(op)),
+        "the registration",
+    );
+    let op = send().and_then(copy_of);
+    holds(&rt, matches!(&op, Some(op) if is_send(op)), "the list");
+}
+
+fn send_request() -> Option<SendRequest> {
+    Some(SendRequest {
         id: 9,
         signalled: true,
         fence: false,
         solicited: true,
-        op: SendOp::Send {
-            list: list_of_two()?,
-        },
-    };
-    let send = send.clone()?;
-    holds(&rt, send.id == 9 && is_send(&send.op), "the same request");
-    holds(
-        &rt,
-        send.signalled && !send.fence && send.solicited,
-        "the same flags",
-    );
-    let receive = RecvRequest {
+        op: send()?,
+    })
+}
+
+fn is_send_request(request: &SendRequest) -> bool {
+    request.id == 9
+        && request.signalled
+        && !request.fence
+        && request.solicited
+        && is_send(&request.op)
+}
+
+fn receive() -> Option<RecvRequest> {
+    Some(RecvRequest {
         id: 8,
         list: list_of_two()?,
-    };
-    let receive = receive.clone()?;
-    holds(&rt, receive.id == 8, "the same id");
+    })
+}
+
+fn is_receive(receive: &RecvRequest) -> bool {
+    receive.id == 8 && receive.list.as_slice() == PIECES.as_slice()
+}
+
+#[test]
+fn requests_are_copied(rt: HostRuntime) {
+    let request = send_request().and_then(copy_of);
     holds(
         &rt,
-        receive.list.as_slice() == PIECES.as_slice(),
-        "the same list",
+        matches!(&request, Some(request) if is_send_request(request)),
+        "the request",
     );
-    Ok(())
+    let request = receive().and_then(copy_of);
+    holds(
+        &rt,
+        matches!(&request, Some(request) if is_receive(request)),
+        "the receive",
+    );
 }
 
 fn is_the_send(message: &Message) -> bool {
@@ -167,12 +211,7 @@ fn is_the_send(message: &Message) -> bool {
             place,
             receive,
             bytes,
-        } => {
-            *place == 3
-                && *bytes == 256
-                && receive.id == 8
-                && receive.list.as_slice() == PIECES.as_slice()
-        }
+        } => { *place == 3 && *bytes == 256 && is_receive(receive) }
         Message::Write { .. } => false,
     }
 }
@@ -189,23 +228,33 @@ fn is_the_write(message: &Message) -> bool {
     }
 }
 
-#[test]
-fn messages_are_copied(rt: HostRuntime) -> Result<(), Fail> {
-    let send = Message::Send {
+fn send_in_progress() -> Option<Message> {
+    Some(Message::Send {
         place: 3,
-        receive: RecvRequest {
-            id: 8,
-            list: list_of_two()?,
-        },
+        receive: receive()?,
         bytes: 256,
-    };
-    holds(&rt, is_the_send(&send.clone()?), "the same message");
-    let write = Message::Write {
-        key: Key(1),
-        address: 4_294_967_296,
-        left: 256,
-        length: 512,
-    };
-    holds(&rt, is_the_write(&write.clone()?), "the same message");
-    Ok(())
+    })
+}
+
+const WRITE_IN_PROGRESS: Message = Message::Write {
+    key: Key(1),
+    address: 4_294_967_296,
+    left: 256,
+    length: 512,
+};
+
+#[test]
+fn messages_are_copied(rt: HostRuntime) {
+    let message = send_in_progress().and_then(copy_of);
+    holds(
+        &rt,
+        matches!(&message, Some(message) if is_the_send(message)),
+        "the SEND",
+    );
+    let message = copy_of(WRITE_IN_PROGRESS);
+    holds(
+        &rt,
+        matches!(&message, Some(message) if is_the_write(message)),
+        "the WRITE",
+    );
 }

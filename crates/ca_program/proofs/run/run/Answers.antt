@@ -21,3 +21,9 @@ returns-clause-part g c = λ e.
     let o = rw c.deref.ensures.value at (c.answer.ensures.part e) in
     ran (g.S.Source.left c.args.source.now) (g.S.Source.left c.read_up_to.new.source) c.in-Ok.bytes.items o.0
     (AppendsPart (g.K.Sink.held c.args.sink.now) (g.K.Sink.held c.answer.new.sink)) _ (omega arith) o.1 o.2 c.in-Ok.ensures.all c.in-Ok.ensures.end
+
+pub returns-in-Err-clause-loses : goal.returns-in-Err-clause-loses
+returns-in-Err-clause-loses g c = c.read_up_to.ensures.loses
+
+pub returns-clause-loses : goal.returns-clause-loses
+returns-clause-loses g c = c.read_up_to.ensures.loses
