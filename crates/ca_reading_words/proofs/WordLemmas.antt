@@ -1,5 +1,5 @@
 -- A word that is spelled is read as what it stands for, and has no space.
-use Rattle.std.proofs.Common.{◌≡◌, ℕ, zero, suc, ◌+◌, ◌*◌, ◌/◌, ◌%◌, ◌<◌, ◌≤◌, Bool, true, false, cond, eqb, List, [], ◌∷◌, ◌++◌, Option, Some, None, Result, Ok, Err, decimal, map, refl, sym, ap, ◌∙◌, arith, append_assoc}
+use Rattle.std.proofs.Common.{◌≡◌, ℕ, zero, suc, ◌+◌, ◌*◌, ◌/◌, ◌%◌, ◌<◌, ◌≤◌, Bool, true, false, cond, eqb, List, [], ◌∷◌, ◌++◌, length, Option, Some, None, Result, Ok, Err, decimal, map, refl, sym, ap, ◌∙◌, arith, append_assoc}
 use Rattle.std.specs.Prelude.{codes, slice_index, IfSome}
 use Rattle.std.specs.Char.{digit_value}
 use Rattle.std.specs.Fmt.{digits}
@@ -7,7 +7,7 @@ use Rattle.std.specs.Int.{Width, w8, w16, w32, w64, to_be_bytes, from_be_bytes}
 use Rattle.std.specs.List.{AllByRecursion}
 use Rattle.std.specs.Str.{bytes_eq}
 use Rattle.std.specs.Str.Parse.{AllDigits, IsNumeral, digits_value_after}
-use Rattle.std.proofs.lemmas.Bool.{ne_eqb}
+use Rattle.std.proofs.lemmas.Bool.{ne_eqb, le-leb}
 use Rattle.std.proofs.lemmas.Fmt.{digits_is_IsNumeral}
 use Rattle.std.proofs.lemmas.Nat.{from_be_bytes-to_be_bytes_4}
 use Rattle.hex.specs.Hex.{encode_lower, encode_with, lower_digits, decode_of, IsBytes}
@@ -49,7 +49,7 @@ use Rattle.ca_model.specs.declared.mark.Drop1.TheVariants as drops
 use Rattle.ca_model.specs.Answers.{refusal_text, drop_text}
 use Rattle.ca_trace.specs.Words.{Field, Fixed, Number, Lettered, Perhaps, InAdapter, OfDomain, OfSlot, OfQueue, OfQueues, OfKey, PerhapsKey, Address, Hex, OfRights, OfFlags, OfPieces, OfPages, OfRuns, OfObject, OfSide, OfAlarm, OfKind, OfDenial, OfRefusal, OfLot, OfState, OfOperation, OfStatus, OfCause, OfDrop, word, words, led, joined, commas, hexadecimal, queues_text, object_text, side_text, alarm_text, flags_text}
 use Rattle.ca_reading_words.specs.Fits.{most, plain, DomainFits, SlotFits, QueueFits, KeyFits, PieceFits, RunFits, LotFits, Fits, AllFit}
-use Rattle.ca_reading_words.specs.Words.{◌>>=◌, pieces, next_of, field, value_in, number_in, lettered_in, perhaps_in, in_adapter_in, domain_in, queue_in, slot_in, queues_in, key_in, address_in, ok_of, hex_in, has, rights_in, all_in, list_in, piece_in, run_in, object_in, side_in, alarm_in, kind_in, denial_in, lot_in, state_in, field_in, operation_in, status_in, region_error_in, window_error_in, cause_in, refusal_in, drop_in}
+use Rattle.ca_reading_words.specs.Words.{◌>>=◌, pieces, next_of, field, value_in, number_in, lettered_in, perhaps_in, in_adapter_in, domain_in, queue_in, slot_in, queues_in, key_in, address_in, ok_of, hex_in, has, rights_in, all_in, list_in, piece_in, pieces_in, run_in, object_in, side_in, alarm_in, kind_in, denial_in, lot_in, state_in, field_in, operation_in, status_in, region_error_in, window_error_in, cause_in, refusal_in, drop_in}
 use Rattle.ca_reading_words.proofs.PieceLemmas.{lacks, all_lack, one_piece, first_piece, pieces_joined, lacks_append, plain_append, plain_cons, digits_plain, digits_lack}
 use Rattle.ca_reading_words.proofs.NumberLemmas.{value_read, digits_again, decimal_digits, number_again, number_plain, number_lacks, number_is_some}
 
@@ -281,6 +281,16 @@ numeral_begins (c ∷ cs) t h =
     let differs : eqb c 45 ≡ false = ne_eqb c 45 (λ same. let e : digit_value c ≡ digit_value 45 = ap digit_value same in omega (arith, e, below)) in
     rw differs refl
 
+numeral_is_no_arrow : (w : List ℕ) → IsNumeral 10 w → bytes_eq w (codes "->") ≡ false
+numeral_is_no_arrow [] h = absurd (omega (arith, h.0))
+numeral_is_no_arrow (c ∷ cs) h =
+    let below : digit_value c < 10 = h.1.0 in
+    let differs : eqb c 45 ≡ false = ne_eqb c 45 (λ same. let e : digit_value c ≡ digit_value 45 = ap digit_value same in omega (arith, e, below)) in
+    rw differs refl
+
+pub number_is_no_arrow : (n : ℕ) → n ≤ 18446744073709551615 → bytes_eq (decimal n) (codes "->") ≡ false
+number_is_no_arrow n h = numeral_is_no_arrow (decimal n) (decimal_digits n h)
+
 page_listed : (page : ℕ) → page ≤ 65535 → IsListed (number_in 65535) decimal page
 page_listed page h = record {
   again = number_again 65535 page h (omega arith);
@@ -319,8 +329,9 @@ piece_listed p h =
       clear = ap plain (piece_words p) ∙ plain_append (key_text p.key) (58 ∷ (address_text p.address ++ 58 ∷ decimal p.length)) (key_plain p.key) (plain_append (address_text p.address) (58 ∷ decimal p.length) (address_plain p.address h.1) (number_plain p.length (omega arith)));
     }
 
-pub pieces_again : (list : List Piece) → AllByRecursion PieceFits list → list_in piece_in (commas (map piece_text list)) ≡ Some list
-pieces_again list h = list_again piece_in piece_text list (all_then piece_listed list h)
+pub pieces_again : (list : List Piece) → length list ≤ 4 → AllByRecursion PieceFits list → pieces_in (commas (map piece_text list)) ≡ Some list
+unfolding pieces_in
+pieces_again list few h = rw (list_again piece_in piece_text list (all_then piece_listed list h), le-leb (length list) 4 few) refl
 
 run_words : (r : Run) → run_text r ≡ (decimal r.adapter ++ 47 ∷ decimal r.buffer) ++ 58 ∷ (decimal r.offset ++ 43 ∷ decimal r.length)
 run_words r =
@@ -624,7 +635,7 @@ field_plain (Address at) h = address_plain at h
 field_plain (Hex bytes) h = hex_plain bytes h
 field_plain (OfRights r) h = rights_plain r
 field_plain (OfFlags a b c) h = (flags_again a b c).3
-field_plain (OfPieces list) h = list_plain piece_in piece_text list (all_then piece_listed list h)
+field_plain (OfPieces list) h = list_plain piece_in piece_text list (all_then piece_listed list h.1)
 field_plain (OfPages pages) h = list_plain (number_in 65535) decimal pages (all_then page_listed pages h)
 field_plain (OfRuns runs) h = list_plain run_in run_text runs (all_then run_listed runs h)
 field_plain (OfObject x) h = (object_are x).1

@@ -1,5 +1,5 @@
 -- Fits: which values a word may stand for, as the types of the program allow. Contracts cite it.
-use Rattle.std.specs.Prelude.{◌≡◌, ℕ, ◌<◌, ◌≤◌, ◌&&◌, nat_lt, Bool, true, List, [], ◌∷◌, IfSome}
+use Rattle.std.specs.Prelude.{◌≡◌, ℕ, ◌<◌, ◌≤◌, ◌&&◌, nat_lt, Bool, true, List, [], ◌∷◌, length, IfSome}
 use Rattle.std.specs.Int.{Width, w8, w16, w32, w64}
 use Rattle.std.specs.List.{AllByRecursion}
 use Rattle.hex.specs.Hex.{IsBytes}
@@ -63,7 +63,7 @@ Fits (OfKey k) = KeyFits k
 Fits (PerhapsKey k) = IfSome k KeyFits
 Fits (Address at) = at ≤ 18446744073709551615
 Fits (Hex bytes) = IsBytes bytes
-Fits (OfPieces list) = AllByRecursion PieceFits list
+Fits (OfPieces list) = (length list ≤ 4) × AllByRecursion PieceFits list
 Fits (OfPages pages) = AllByRecursion (λ page. page ≤ 65535) pages
 Fits (OfRuns runs) = AllByRecursion RunFits runs
 Fits (OfLot lot) = LotFits lot

@@ -1,6 +1,6 @@
 -- Words: the number or the name that a word is read as. It is lenient: what is read need not be spelled so. Contracts
 -- cite it.
-use Rattle.std.specs.Prelude.{◌≡◌, ℕ, ◌+◌, ◌*◌, ◌==◌, nat_le, Bool, true, false, ◌||◌, if◌then◌else◌, List, [], ◌∷◌, drop, Option, Some, None, Result, Ok, Err, codes}
+use Rattle.std.specs.Prelude.{◌≡◌, ℕ, ◌+◌, ◌*◌, ◌==◌, nat_le, Bool, true, false, ◌||◌, if◌then◌else◌, List, [], ◌∷◌, length, drop, Option, Some, None, Result, Ok, Err, codes}
 use Rattle.std.specs.List.{slice_split}
 use Rattle.std.specs.Str.{bytes_eq}
 use Rattle.std.specs.Char.{digit_value}
@@ -168,6 +168,12 @@ piece_in w = do
   address ← field address_in key.1
   count ← field (number_in 4294967295) address.1
   Some (record { address = address.0; key = key.0; length = count.0 })
+
+-- the pieces of a list, of which a request has at most four
+unfoldable pub pieces_in : List ℕ → Option (List Piece)
+pieces_in w = do
+  list ← list_in piece_in w
+  if nat_le (length list) 4 then Some list else None
 
 -- A/B:OFFSET+LENGTH
 unfoldable pub run_in : List ℕ → Option Run
