@@ -4,7 +4,7 @@ use Rattle.std.specs.Prelude.{codes, not}
 use Rattle.std.specs.Int.{w8, w16, w32, w64}
 use Rattle.std.specs.List.{AllByRecursion, flat_map}
 use Rattle.std.specs.Str.{bytes_eq}
-use Rattle.std.proofs.lemmas.Bool.{cases_Bool, eqb-true, and_parts}
+use Rattle.std.proofs.lemmas.Bool.{cases_Bool, le-leb, eqb-true, and_parts}
 use Rattle.ca_base.specs.declared.change.Change.{Change}
 use Rattle.ca_base.specs.declared.change.Change.TheVariants as changes
 use Rattle.ca_base.specs.declared.completion.Completion.{Completion}
@@ -40,7 +40,7 @@ use Rattle.ca_reading_words.specs.Fits.{plain, SlotFits, Fits, AllFit}
 use Rattle.ca_reading_words.proofs.PieceLemmas.{lacks, all_lack, pieces_joined, lacks_append, plain_lacks}
 use Rattle.ca_reading_words.proofs.NumberLemmas.{number_again}
 use Rattle.ca_reading_words.proofs.WordLemmas.{place_again, domain_again, queue_again, slot_again, queues_again, key_again, address_again, hex_again, perhaps_number_again, perhaps_key_again, pages_again, pieces_again, runs_again, rights_again, flags_again, object_again, side_again, alarm_again, kind_again, denial_again, state_again, operation_again as wc_op_again, status_again, lot_again, refusal_again, drop_again, perhaps_cause_again, number_is_no_arrow, field_plain}
-use Rattle.ca_reading_lines.specs.Fits.{IsWhole, IsTurn, IsShaped, LineFits}
+use Rattle.ca_reading_lines.specs.Fits.{IsTold, IsTurn, IsShaped, LineFits}
 use Rattle.ca_reading_lines.specs.Reading.{Words, rights_at, rtr_at, rts_at, plain_change_at, change_at, send_at, send_imm_at, send_inv_at, write_at, write_imm_at, read_at, cmp_swap_at, fetch_add_at, bind1_at, bind2_at, fast_reg_at, local_inv_at, local_at, operation_at, reg_at, qp_at, post_at, receive_at, least_at, poll_at, wait_at, store_at, load_at, inject_at, work_at, object_at, verb_at, state_at, answer_at, completion_at, verdict_at, granted_at, remote_at, local_mark_at, stored_at, sent_at, done_at, passing_at, mark_at, turn_at, is_consumer, head_at, inner_at, line_at, line_in}
 
 u8 : (n : ℕ) → n ≤ 255 → number_in 255 (decimal n) ≡ Some n
@@ -146,7 +146,7 @@ arrow_first : (t : Told) → answer_line_words t ≡ Fixed (codes "->") ∷ tail
 arrow_first (told.Whole answer) = refl
 arrow_first (told.Polled n) = refl
 
-answer_again : (t : Told) → IsWhole t → AllFit (tail_words t) → answer_at (words (tail_words t)) ≡ Some (t, [])
+answer_again : (t : Told) → IsTold t → AllFit (tail_words t) → answer_at (words (tail_words t)) ≡ Some (t, [])
 unfolding answer_at state_at
 answer_again (told.Whole answers.Fine) g h = refl
 answer_again (told.Whole (answers.Key k)) g h = rw (key_again k h.1.0) refl
@@ -156,7 +156,7 @@ answer_again (told.Whole (answers.Query s i a b)) g h = rw (state_again s, u32 i
 answer_again (told.Whole (answers.Loaded bs)) g h = rw (hex_again bs h.1.0) refl
 answer_again (told.Whole (answers.Refused r)) g h = rw (refusal_again r) refl
 answer_again (told.Whole (answers.Polled completions)) g h = absurd g
-answer_again (told.Polled n) g h = rw (u8 n h.1.0) refl
+answer_again (told.Polled n) g h = rw (u8 n h.1.0, le-leb n 16 g) refl
 
 completion_again : (c : Completion) (rest : Words) → AllFit (completion_words c) → completion_at (words (completion_words c) ++ rest) ≡ Some (c, rest)
 unfolding completion_at
@@ -177,7 +177,7 @@ all_back : (fs gs : List Field) → AllFit (fs ++ gs) → AllFit gs
 all_back [] gs h = h
 all_back (f ∷ fs) gs h = all_back fs gs h.1
 
-words_append : (fs gs : List Field) → words (fs ++ gs) ≡ words fs ++ words gs
+pub words_append : (fs gs : List Field) → words (fs ++ gs) ≡ words fs ++ words gs
 words_append [] gs = refl
 words_append (f ∷ fs) gs = ap (λ (ws : Words). word f ∷ ws) (words_append fs gs)
 
@@ -213,7 +213,7 @@ turn_line stamp pass (events.RnrWake q) g a b h = rw (lettered_again 18446744073
 turn_line stamp pass (events.Timeout q true) g a b h = rw (lettered_again 18446744073709551615 64 stamp a (omega arith), lettered_again 4294967295 112 pass b (omega arith), queue_again q h.1.0, alarm_again false) refl
 turn_line stamp pass (events.Timeout q false) g a b h = rw (lettered_again 18446744073709551615 64 stamp a (omega arith), lettered_again 4294967295 112 pass b (omega arith), queue_again q h.1.0, alarm_again true) refl
 
-call_line : (stamp pass by : ℕ) (v : Verb) (t : Told) → IsWhole t → AllFit (line_words (lines.Call stamp pass by v t)) → head_at (words (line_words (lines.Call stamp pass by v t))) ≡ Some (lines.Call stamp pass by v t)
+call_line : (stamp pass by : ℕ) (v : Verb) (t : Told) → IsTold t → AllFit (line_words (lines.Call stamp pass by v t)) → head_at (words (line_words (lines.Call stamp pass by v t))) ≡ Some (lines.Call stamp pass by v t)
 unfolding head_at
 call_line stamp pass by v t g h =
     let verb_fits = all_front (verb_words v) (answer_line_words t) h.1.1.1 in

@@ -1,5 +1,5 @@
 -- Fits: which lines may stand in a trace, as the types of the program allow. Contracts cite it.
-use Rattle.std.specs.Prelude.{◌≡◌}
+use Rattle.std.specs.Prelude.{◌≡◌, ◌≤◌}
 use Rattle.ca_model.specs.declared.answer.Answer.{Answer}
 use Rattle.ca_model.specs.declared.answer.Answer.TheVariants as answers
 use Rattle.ca_model.specs.declared.mark.Mark.{Mark}
@@ -13,10 +13,11 @@ use Rattle.ca_reading_words.specs.Fits.{AllFit}
 use Rattle.ca_model.specs.declared.event.Event.{Event}
 use Rattle.ca_model.specs.declared.event.Event.TheVariants as events
 
--- an answer that stands whole on its line
-abbrev pub IsWhole : Told → Type 0
-IsWhole (told.Whole (answers.Polled completions)) = ⊥
-IsWhole answer = Unit {0}
+-- an answer that stands whole on its line, or completions of which there are no more than a poll gives
+abbrev pub IsTold : Told → Type 0
+IsTold (told.Whole (answers.Polled completions)) = ⊥
+IsTold (told.Whole answer) = Unit {0}
+IsTold (told.Polled n) = n ≤ 16
 
 -- an event that is no verb's
 abbrev pub IsTurn : Event → Type 0
@@ -26,7 +27,7 @@ IsTurn event = Unit {0}
 -- the shape of a line: a poll's completions have lines of their own, and an answer is no mark's line
 abbrev pub IsShaped : Line → Type 0
 IsShaped (lines.Turn stamp pass event) = IsTurn event
-IsShaped (lines.Call stamp pass by verb answer) = IsWhole answer
+IsShaped (lines.Call stamp pass by verb answer) = IsTold answer
 IsShaped (lines.Mark m) = IsPlain m
 IsShaped line = Unit {0}
 

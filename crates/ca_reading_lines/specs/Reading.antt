@@ -371,7 +371,7 @@ answer_at ws = do
       Some (told.Whole (answers.Posted key.0), key.1))
     else if bytes_eq name.0 (codes "polled") then (do
       n ← field u8_in name.1
-      Some (told.Polled n.0, n.1))
+      if nat_le n.0 16 then Some (told.Polled n.0, n.1) else None)
     else if bytes_eq name.0 (codes "state") then state_at name.1
     else if bytes_eq name.0 (codes "bytes") then (do
       bytes ← field hex_in name.1
