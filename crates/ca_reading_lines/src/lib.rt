@@ -4,3 +4,12 @@
 //!
 //! Source: this profile's choice, as the text of a history is.
 #![tactic(auto)]
+
+mod answer;
+mod change;
+mod operation;
+mod verb;
+
+pub use answer::{answer_at, completion_at, verdict_at};
+pub use operation::operation_at;
+pub use verb::verb_at;

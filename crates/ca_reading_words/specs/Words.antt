@@ -54,6 +54,18 @@ Gives (Ok x) read = read ≡ Some x
 Gives (Err stops.Outside) read = read ≡ None
 Gives (Err stops.Memory) read = Unit {0}
 
+-- the same of a value that contracts see by a part of it
+abbrev pub GivesAs : {X Y : Type 0} → (X → Y) → Result X Stop → Option Y → Type 0
+GivesAs view (Ok x) read = read ≡ Some (view x)
+GivesAs view (Err stops.Outside) read = read ≡ None
+GivesAs view (Err stops.Memory) read = Unit {0}
+
+-- what a reader of the words at the front gave is what reading gives, with the words that it left, unless memory ran out
+abbrev pub Reads : {X Y : Type 0} → (X → Y) → Result X Stop → List (List ℕ) → Option (Y × List (List ℕ)) → Type 0
+Reads view (Ok x) left read = read ≡ Some (view x, left)
+Reads view (Err stops.Outside) left read = read ≡ None
+Reads view (Err stops.Memory) left read = Unit {0}
+
 -- the words that stand between separators
 abbrev pub pieces : ℕ → List ℕ → List (List ℕ)
 pieces separator text = slice_split (λ b. b == separator) text
@@ -330,6 +342,13 @@ cause_in w = do
       Some (causes.Window error.0))
     else None
 
+-- a field that is out of its range, behind a colon
+abbrev pub out_of_range_in : List ℕ → Option Refusal
+out_of_range_in w = do
+  name ← next_of (pieces 58 w)
+  error ← field field_in name.1
+  Some (refusals.OutOfRange error.0)
+
 unfoldable pub refusal_in : List ℕ → Option Refusal
 refusal_in w =
     if bytes_eq w (codes "no-such") then Some refusals.NoSuch
@@ -349,10 +368,7 @@ refusal_in w =
     else if bytes_eq w (codes "queue-state") then Some refusals.QueueState
     else if bytes_eq w (codes "queue-full") then Some refusals.QueueFull
     else if bytes_eq w (codes "transition") then Some refusals.Transition
-    else (do
-      name ← next_of (pieces 58 w)
-      error ← field field_in name.1
-      Some (refusals.OutOfRange error.0))
+    else out_of_range_in w
 
 unfoldable pub drop_in : List ℕ → Option Drop1
 drop_in w =
