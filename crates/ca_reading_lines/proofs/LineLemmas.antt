@@ -101,13 +101,13 @@ poll_again s n least rest h =
     elim (cases_Bool (eqb least 0)) [
       | inl e ↦ subst (λ (l : ℕ). AllFit (poll_words s n l) → verb_at (words (poll_words s n l) ++ (codes "->" ∷ rest)) ≡ Some (verbs.Poll s n l, codes "->" ∷ rest)) (sym (eqb-true least 0 e)) (poll_zero s n rest) h
       | inr e ↦ elim (cases_Bool (eqb least n)) [
-          | inl d ↦
+        | inl d ↦
             let g = rw (e, d) at h in
             rw (e, d) (poll_wait s n rest g.1.0 g.1.1.0 ∙ ap (λ (l : ℕ). Some (verbs.Poll s n l, codes "->" ∷ rest)) (sym (eqb-true least n d)))
-          | inr d ↦
+        | inr d ↦
             let g = rw (e, d) at h in
             rw (e, d) (poll_least s n least rest g.1.0 g.1.1.0 g.1.1.1.0)
-        ]
+      ]
     ]
 
 verb_again : (v : Verb) (rest : Words) → AllFit (verb_words v) → verb_at (words (verb_words v) ++ (codes "->" ∷ rest)) ≡ Some (v, codes "->" ∷ rest)

@@ -190,14 +190,14 @@ unfoldable pub operation_at : Words → Option (SendOp × Words)
 operation_at ws = do
   name ← next_of ws
   if bytes_eq name.0 (codes "send") then send_at name.1
-    else if bytes_eq name.0 (codes "sendimm") then send_imm_at name.1
-    else if bytes_eq name.0 (codes "sendinv") then send_inv_at name.1
-    else if bytes_eq name.0 (codes "write") then write_at name.1
-    else if bytes_eq name.0 (codes "writeimm") then write_imm_at name.1
-    else if bytes_eq name.0 (codes "read") then read_at name.1
-    else if bytes_eq name.0 (codes "cas") then cmp_swap_at name.1
-    else if bytes_eq name.0 (codes "add") then fetch_add_at name.1
-    else local_at name.0 name.1
+      else if bytes_eq name.0 (codes "sendimm") then send_imm_at name.1
+      else if bytes_eq name.0 (codes "sendinv") then send_inv_at name.1
+      else if bytes_eq name.0 (codes "write") then write_at name.1
+      else if bytes_eq name.0 (codes "writeimm") then write_imm_at name.1
+      else if bytes_eq name.0 (codes "read") then read_at name.1
+      else if bytes_eq name.0 (codes "cas") then cmp_swap_at name.1
+      else if bytes_eq name.0 (codes "add") then fetch_add_at name.1
+      else local_at name.0 name.1
 
 -- ---- verbs
 
@@ -325,24 +325,24 @@ unfoldable pub verb_at : Words → Option (Verb × Words)
 verb_at ws = do
   name ← next_of ws
   if bytes_eq name.0 (codes "reg") then reg_at name.1
-    else if bytes_eq name.0 (codes "qp") then qp_at name.1
-    else if bytes_eq name.0 (codes "mr") then (do
-      slot ← field slot_in name.1
-      pages ← field u16_in slot.1
-      Some (verbs.AllocMr slot.0 pages.0, pages.1))
-    else if bytes_eq name.0 (codes "mw") then (do
-      slot ← field slot_in name.1
-      kind ← field u8_in slot.1
-      Some (verbs.AllocMw slot.0 kind.0, kind.1))
-    else if bytes_eq name.0 (codes "cq") then (do
-      slot ← field slot_in name.1
-      capacity ← field u16_in slot.1
-      Some (verbs.CreateCq slot.0 capacity.0, capacity.1))
-    else if bytes_eq name.0 (codes "srq") then (do
-      slot ← field slot_in name.1
-      depth ← field u16_in slot.1
-      Some (verbs.CreateSrq slot.0 depth.0, depth.1))
-    else object_at name.0 name.1
+      else if bytes_eq name.0 (codes "qp") then qp_at name.1
+      else if bytes_eq name.0 (codes "mr") then (do
+        slot ← field slot_in name.1
+        pages ← field u16_in slot.1
+        Some (verbs.AllocMr slot.0 pages.0, pages.1))
+      else if bytes_eq name.0 (codes "mw") then (do
+        slot ← field slot_in name.1
+        kind ← field u8_in slot.1
+        Some (verbs.AllocMw slot.0 kind.0, kind.1))
+      else if bytes_eq name.0 (codes "cq") then (do
+        slot ← field slot_in name.1
+        capacity ← field u16_in slot.1
+        Some (verbs.CreateCq slot.0 capacity.0, capacity.1))
+      else if bytes_eq name.0 (codes "srq") then (do
+        slot ← field slot_in name.1
+        depth ← field u16_in slot.1
+        Some (verbs.CreateSrq slot.0 depth.0, depth.1))
+      else object_at name.0 name.1
 
 -- ---- answers, completions and verdicts
 
@@ -359,27 +359,27 @@ unfoldable pub answer_at : Words → Option (Told × Words)
 answer_at ws = do
   name ← next_of ws
   if bytes_eq name.0 (codes "ok") then Some (told.Whole answers.Fine, name.1)
-    else if bytes_eq name.0 (codes "key") then (do
-      key ← field key_in name.1
-      Some (told.Whole (answers.Key key.0), key.1))
-    else if bytes_eq name.0 (codes "qp") then (do
-      number ← field u32_in name.1
-      incarnation ← field u32_in number.1
-      Some (told.Whole (answers.Queue number.0 incarnation.0), incarnation.1))
-    else if bytes_eq name.0 (codes "posted") then (do
-      key ← field (perhaps_in key_in) name.1
-      Some (told.Whole (answers.Posted key.0), key.1))
-    else if bytes_eq name.0 (codes "polled") then (do
-      n ← field u8_in name.1
-      if nat_le n.0 16 then Some (told.Polled n.0, n.1) else None)
-    else if bytes_eq name.0 (codes "state") then state_at name.1
-    else if bytes_eq name.0 (codes "bytes") then (do
-      bytes ← field hex_in name.1
-      Some (told.Whole (answers.Loaded bytes.0), bytes.1))
-    else if bytes_eq name.0 (codes "refused") then (do
-      refusal ← field refusal_in name.1
-      Some (told.Whole (answers.Refused refusal.0), refusal.1))
-    else None
+      else if bytes_eq name.0 (codes "key") then (do
+        key ← field key_in name.1
+        Some (told.Whole (answers.Key key.0), key.1))
+      else if bytes_eq name.0 (codes "qp") then (do
+        number ← field u32_in name.1
+        incarnation ← field u32_in number.1
+        Some (told.Whole (answers.Queue number.0 incarnation.0), incarnation.1))
+      else if bytes_eq name.0 (codes "posted") then (do
+        key ← field (perhaps_in key_in) name.1
+        Some (told.Whole (answers.Posted key.0), key.1))
+      else if bytes_eq name.0 (codes "polled") then (do
+        n ← field u8_in name.1
+        if nat_le n.0 16 then Some (told.Polled n.0, n.1) else None)
+      else if bytes_eq name.0 (codes "state") then state_at name.1
+      else if bytes_eq name.0 (codes "bytes") then (do
+        bytes ← field hex_in name.1
+        Some (told.Whole (answers.Loaded bytes.0), bytes.1))
+      else if bytes_eq name.0 (codes "refused") then (do
+        refusal ← field refusal_in name.1
+        Some (told.Whole (answers.Refused refusal.0), refusal.1))
+      else None
 
 unfoldable pub completion_at : Words → Option (Completion × Words)
 completion_at ws = do
@@ -398,20 +398,20 @@ unfoldable pub verdict_at : Words → Option (Verdict × Words)
 verdict_at ws = do
   name ← next_of ws
   if bytes_eq name.0 (codes "read") then (do
-      bytes ← field hex_in name.1
-      Some (verdicts.Read bytes.0, bytes.1))
-    else if bytes_eq name.0 (codes "wrote") then (do
-      bytes ← field hex_in name.1
-      Some (verdicts.Wrote bytes.0, bytes.1))
-    else if bytes_eq name.0 (codes "found") then (do
-      found ← field u64_in name.1
-      word ← next_of found.1
-      put ← field u64_in word.1
-      Some (verdicts.Swapped found.0 put.0, put.1))
-    else if bytes_eq name.0 (codes "denied") then (do
-      denial ← field denial_in name.1
-      Some (verdicts.Denied denial.0, denial.1))
-    else None
+    bytes ← field hex_in name.1
+    Some (verdicts.Read bytes.0, bytes.1))
+      else if bytes_eq name.0 (codes "wrote") then (do
+        bytes ← field hex_in name.1
+        Some (verdicts.Wrote bytes.0, bytes.1))
+      else if bytes_eq name.0 (codes "found") then (do
+        found ← field u64_in name.1
+        word ← next_of found.1
+        put ← field u64_in word.1
+        Some (verdicts.Swapped found.0 put.0, put.1))
+      else if bytes_eq name.0 (codes "denied") then (do
+        denial ← field denial_in name.1
+        Some (verdicts.Denied denial.0, denial.1))
+      else None
 
 -- ---- marks
 
@@ -544,34 +544,34 @@ head_at ws = do
   pass ← field (lettered_in 4294967295) stamp.1
   name ← next_of pass.1
   if is_consumer name.0 then (do
-      by ← lettered_in 4294967295 name.0
-      verb ← verb_at name.1
-      arrow ← next_of verb.1
-      answer ← answer_at arrow.1
-      Some (lines.Call stamp.0 pass.0 by verb.0 answer.0))
-    else (do
-      event ← turn_at name.0 name.1
-      Some (lines.Turn stamp.0 pass.0 event))
+    by ← lettered_in 4294967295 name.0
+    verb ← verb_at name.1
+    arrow ← next_of verb.1
+    answer ← answer_at arrow.1
+    Some (lines.Call stamp.0 pass.0 by verb.0 answer.0))
+      else (do
+        event ← turn_at name.0 name.1
+        Some (lines.Turn stamp.0 pass.0 event))
 
 -- a line behind an empty first word
 unfoldable pub inner_at : Words → Option Line
 inner_at ws = do
   name ← next_of ws
   if bytes_eq name.0 (codes "got") then (do
-      completion ← completion_at name.1
-      Some (lines.Got completion.0))
-    else (do
-      m ← mark_at name.0 name.1
-      Some (lines.Mark m))
+    completion ← completion_at name.1
+    Some (lines.Got completion.0))
+      else (do
+        m ← mark_at name.0 name.1
+        Some (lines.Mark m))
 
 unfoldable pub line_at : Words → Option Line
 line_at ws = do
   first ← next_of ws
   if bytes_eq first.0 [] then inner_at first.1
-    else if bytes_eq first.0 (codes "end") then (do
-      n ← field u64_in first.1
-      Some (lines.End n.0))
-    else head_at ws
+      else if bytes_eq first.0 (codes "end") then (do
+        n ← field u64_in first.1
+        Some (lines.End n.0))
+      else head_at ws
 
 -- what a line is read as
 abbrev pub line_in : List ℕ → Option Line

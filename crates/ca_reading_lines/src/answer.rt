@@ -4,10 +4,8 @@ ghost use Rattle.ca_reading_lines.specs.Reading as reading;
 
 use ca_base::{Completion, Verdict};
 use ca_model::Answer;
-use ca_reading_words::{
-    Pieces, Stop, denial_in, hex_in, key_in, operation_in, perhaps_key_in, perhaps_u32_in, queue_in,
-    refusal_in, side_in, state_in, status_in, u8_in, u16_in, u32_in, u64_in,
-};
+use ca_reading_fields::{take_denial, take_hex, take_key, take_operation, take_perhaps_key, take_perhaps_u32, take_queue, take_refusal, take_side, take_state, take_status, take_u16, take_u32, take_u64, take_u8};
+use ca_reading_words::{Pieces, Stop};
 use ca_trace::Told;
 use std::alloc::Global;
 
@@ -16,10 +14,10 @@ use std::alloc::Global;
 fn state_at(words: &mut Pieces) -> Result<Told, Stop>
     ensures { Reads (λ x. x) result words.new (reading.state_at words.old) }
 {
-    let state = state_in(words.take_word()?)?;
-    let incarnation = u32_in(words.take_word()?)?;
-    let sends = u16_in(words.take_word()?)?;
-    let receives = u16_in(words.take_word()?)?;
+    let state = take_state(words)?;
+    let incarnation = take_u32(words)?;
+    let sends = take_u16(words)?;
+    let receives = take_u16(words)?;
     Ok(Told::Whole(Answer::Query { state, incarnation, sends, receives }))
 }
 
@@ -32,25 +30,25 @@ pub fn answer_at(alloc: Global, words: &mut Pieces) -> Result<Told, Stop>
     if name == b"ok".as_slice() {
         Ok(Told::Whole(Answer::Fine))
     } else if name == b"key".as_slice() {
-        let key = key_in(words.take_word()?)?;
+        let key = take_key(words)?;
         Ok(Told::Whole(Answer::Key(key)))
     } else if name == b"qp".as_slice() {
-        let number = u32_in(words.take_word()?)?;
-        let incarnation = u32_in(words.take_word()?)?;
+        let number = take_u32(words)?;
+        let incarnation = take_u32(words)?;
         Ok(Told::Whole(Answer::Queue { number, incarnation }))
     } else if name == b"posted".as_slice() {
-        let key = perhaps_key_in(words.take_word()?)?;
+        let key = take_perhaps_key(words)?;
         Ok(Told::Whole(Answer::Posted(key)))
     } else if name == b"polled".as_slice() {
-        let n = u8_in(words.take_word()?)?;
+        let n = take_u8(words)?;
         if n <= 16 { Ok(Told::Polled(n)) } else { Err(Stop::Outside) }
     } else if name == b"state".as_slice() {
         state_at(words)
     } else if name == b"bytes".as_slice() {
-        let bytes = hex_in(alloc, words.take_word()?)?;
+        let bytes = take_hex(alloc, words)?;
         Ok(Told::Whole(Answer::Loaded(bytes)))
     } else if name == b"refused".as_slice() {
-        let refusal = refusal_in(words.take_word()?)?;
+        let refusal = take_refusal(words)?;
         Ok(Told::Whole(Answer::Refused(refusal)))
     } else {
         Err(Stop::Outside)
@@ -62,15 +60,15 @@ pub fn answer_at(alloc: Global, words: &mut Pieces) -> Result<Told, Stop>
 pub fn completion_at(words: &mut Pieces) -> Result<Completion, Stop>
     ensures { Reads (λ x. x) result words.new (reading.completion_at words.old) }
 {
-    let queue = queue_in(words.take_word()?)?;
-    let receive = side_in(words.take_word()?)?;
-    let place = u64_in(words.take_word()?)?;
-    let id = u64_in(words.take_word()?)?;
-    let op = operation_in(words.take_word()?)?;
-    let status = status_in(words.take_word()?)?;
-    let bytes = u32_in(words.take_word()?)?;
-    let imm = perhaps_u32_in(words.take_word()?)?;
-    let invalidated = perhaps_key_in(words.take_word()?)?;
+    let queue = take_queue(words)?;
+    let receive = take_side(words)?;
+    let place = take_u64(words)?;
+    let id = take_u64(words)?;
+    let op = take_operation(words)?;
+    let status = take_status(words)?;
+    let bytes = take_u32(words)?;
+    let imm = take_perhaps_u32(words)?;
+    let invalidated = take_perhaps_key(words)?;
     Ok(Completion { id, queue, receive, place, status, op, bytes, imm, invalidated })
 }
 
@@ -81,18 +79,18 @@ pub fn verdict_at(alloc: Global, words: &mut Pieces) -> Result<Verdict, Stop>
 {
     let name = words.take_word()?;
     if name == b"read".as_slice() {
-        let bytes = hex_in(alloc, words.take_word()?)?;
+        let bytes = take_hex(alloc, words)?;
         Ok(Verdict::Read(bytes))
     } else if name == b"wrote".as_slice() {
-        let bytes = hex_in(alloc, words.take_word()?)?;
+        let bytes = take_hex(alloc, words)?;
         Ok(Verdict::Wrote(bytes))
     } else if name == b"found".as_slice() {
-        let found = u64_in(words.take_word()?)?;
+        let found = take_u64(words)?;
         let _ = words.take_word()?;
-        let put = u64_in(words.take_word()?)?;
+        let put = take_u64(words)?;
         Ok(Verdict::Swapped { found, put })
     } else if name == b"denied".as_slice() {
-        let denial = denial_in(words.take_word()?)?;
+        let denial = take_denial(words)?;
         Ok(Verdict::Denied(denial))
     } else {
         Err(Stop::Outside)

@@ -4,19 +4,20 @@ ghost use Rattle.ca_reading_lines.specs.Reading as reading;
 
 use ca_base::Change;
 use ca_model::Verb;
-use ca_reading_words::{Pieces, Stop, queue_in, slot_in, u8_in, u16_in, u32_in};
+use ca_reading_fields::{take_queue, take_slot, take_u16, take_u32, take_u8};
+use ca_reading_words::{Pieces, Stop};
 
 /// A change to Ready to Receive.
 #[tactic(auto, unfolding(crate::specs::Reading::rtr_at))]
 fn rtr_at(words: &mut Pieces) -> Result<Verb, Stop>
     ensures { Reads (λ x. x) result words.new (reading.rtr_at words.old) }
 {
-    let slot = slot_in(words.take_word()?)?;
-    let peer = queue_in(words.take_word()?)?;
-    let incarnation = u32_in(words.take_word()?)?;
-    let psn = u32_in(words.take_word()?)?;
-    let mtu = u16_in(words.take_word()?)?;
-    let rnr_code = u8_in(words.take_word()?)?;
+    let slot = take_slot(words)?;
+    let peer = take_queue(words)?;
+    let incarnation = take_u32(words)?;
+    let psn = take_u32(words)?;
+    let mtu = take_u16(words)?;
+    let rnr_code = take_u8(words)?;
     let change = Change::Rtr { peer, incarnation, psn, mtu, rnr_code };
     Ok(Verb::ModifyQp { slot, change })
 }
@@ -26,11 +27,11 @@ fn rtr_at(words: &mut Pieces) -> Result<Verb, Stop>
 fn rts_at(words: &mut Pieces) -> Result<Verb, Stop>
     ensures { Reads (λ x. x) result words.new (reading.rts_at words.old) }
 {
-    let slot = slot_in(words.take_word()?)?;
-    let psn = u32_in(words.take_word()?)?;
-    let retry = u8_in(words.take_word()?)?;
-    let rnr_retry = u8_in(words.take_word()?)?;
-    let reads = u8_in(words.take_word()?)?;
+    let slot = take_slot(words)?;
+    let psn = take_u32(words)?;
+    let retry = take_u8(words)?;
+    let rnr_retry = take_u8(words)?;
+    let reads = take_u8(words)?;
     let change = Change::Rts { psn, retry, rnr_retry, reads };
     Ok(Verb::ModifyQp { slot, change })
 }
@@ -40,7 +41,7 @@ fn rts_at(words: &mut Pieces) -> Result<Verb, Stop>
 fn plain_change_at(change: Change, words: &mut Pieces) -> Result<Verb, Stop>
     ensures { Reads (λ x. x) result words.new (reading.plain_change_at change words.old) }
 {
-    let slot = slot_in(words.take_word()?)?;
+    let slot = take_slot(words)?;
     Ok(Verb::ModifyQp { slot, change })
 }
 

@@ -3,9 +3,8 @@ ghost use Rattle.ca_reading_words.specs.Words.{Reads, GivesAs};
 ghost use Rattle.ca_reading_lines.specs.Reading as reading;
 
 use ca_base::SendOp;
-use ca_reading_words::{
-    Pieces, Stop, address_in, key_in, pages_in, pieces_in, rights_in, u8_in, u16_in, u32_in, u64_in,
-};
+use ca_reading_fields::{take_address, take_key, take_pages, take_pieces, take_rights, take_u16, take_u32, take_u64, take_u8};
+use ca_reading_words::{Pieces, Stop};
 use std::alloc::Global;
 
 /// A SEND.
@@ -13,7 +12,7 @@ use std::alloc::Global;
 fn send_at(alloc: Global, words: &mut Pieces) -> Result<SendOp, Stop>
     ensures { Reads (λ x. x) result words.new (reading.send_at words.old) }
 {
-    let list = pieces_in(alloc, words.take_word()?)?;
+    let list = take_pieces(alloc, words)?;
     Ok(SendOp::Send { list })
 }
 
@@ -22,8 +21,8 @@ fn send_at(alloc: Global, words: &mut Pieces) -> Result<SendOp, Stop>
 fn send_imm_at(alloc: Global, words: &mut Pieces) -> Result<SendOp, Stop>
     ensures { Reads (λ x. x) result words.new (reading.send_imm_at words.old) }
 {
-    let imm = u32_in(words.take_word()?)?;
-    let list = pieces_in(alloc, words.take_word()?)?;
+    let imm = take_u32(words)?;
+    let list = take_pieces(alloc, words)?;
     Ok(SendOp::SendImm { imm, list })
 }
 
@@ -32,8 +31,8 @@ fn send_imm_at(alloc: Global, words: &mut Pieces) -> Result<SendOp, Stop>
 fn send_inv_at(alloc: Global, words: &mut Pieces) -> Result<SendOp, Stop>
     ensures { Reads (λ x. x) result words.new (reading.send_inv_at words.old) }
 {
-    let key = key_in(words.take_word()?)?;
-    let list = pieces_in(alloc, words.take_word()?)?;
+    let key = take_key(words)?;
+    let list = take_pieces(alloc, words)?;
     Ok(SendOp::SendInv { key, list })
 }
 
@@ -42,9 +41,9 @@ fn send_inv_at(alloc: Global, words: &mut Pieces) -> Result<SendOp, Stop>
 fn write_at(alloc: Global, words: &mut Pieces) -> Result<SendOp, Stop>
     ensures { Reads (λ x. x) result words.new (reading.write_at words.old) }
 {
-    let address = address_in(words.take_word()?)?;
-    let key = key_in(words.take_word()?)?;
-    let list = pieces_in(alloc, words.take_word()?)?;
+    let address = take_address(words)?;
+    let key = take_key(words)?;
+    let list = take_pieces(alloc, words)?;
     Ok(SendOp::Write { address, key, list })
 }
 
@@ -53,10 +52,10 @@ fn write_at(alloc: Global, words: &mut Pieces) -> Result<SendOp, Stop>
 fn write_imm_at(alloc: Global, words: &mut Pieces) -> Result<SendOp, Stop>
     ensures { Reads (λ x. x) result words.new (reading.write_imm_at words.old) }
 {
-    let address = address_in(words.take_word()?)?;
-    let key = key_in(words.take_word()?)?;
-    let imm = u32_in(words.take_word()?)?;
-    let list = pieces_in(alloc, words.take_word()?)?;
+    let address = take_address(words)?;
+    let key = take_key(words)?;
+    let imm = take_u32(words)?;
+    let list = take_pieces(alloc, words)?;
     Ok(SendOp::WriteImm { address, key, imm, list })
 }
 
@@ -65,9 +64,9 @@ fn write_imm_at(alloc: Global, words: &mut Pieces) -> Result<SendOp, Stop>
 fn read_at(alloc: Global, words: &mut Pieces) -> Result<SendOp, Stop>
     ensures { Reads (λ x. x) result words.new (reading.read_at words.old) }
 {
-    let address = address_in(words.take_word()?)?;
-    let key = key_in(words.take_word()?)?;
-    let list = pieces_in(alloc, words.take_word()?)?;
+    let address = take_address(words)?;
+    let key = take_key(words)?;
+    let list = take_pieces(alloc, words)?;
     Ok(SendOp::Read { address, key, list })
 }
 
@@ -76,11 +75,11 @@ fn read_at(alloc: Global, words: &mut Pieces) -> Result<SendOp, Stop>
 fn cmp_swap_at(alloc: Global, words: &mut Pieces) -> Result<SendOp, Stop>
     ensures { Reads (λ x. x) result words.new (reading.cmp_swap_at words.old) }
 {
-    let address = address_in(words.take_word()?)?;
-    let key = key_in(words.take_word()?)?;
-    let compare = u64_in(words.take_word()?)?;
-    let swap = u64_in(words.take_word()?)?;
-    let list = pieces_in(alloc, words.take_word()?)?;
+    let address = take_address(words)?;
+    let key = take_key(words)?;
+    let compare = take_u64(words)?;
+    let swap = take_u64(words)?;
+    let list = take_pieces(alloc, words)?;
     Ok(SendOp::CmpSwap { address, key, compare, swap, list })
 }
 
@@ -89,10 +88,10 @@ fn cmp_swap_at(alloc: Global, words: &mut Pieces) -> Result<SendOp, Stop>
 fn fetch_add_at(alloc: Global, words: &mut Pieces) -> Result<SendOp, Stop>
     ensures { Reads (λ x. x) result words.new (reading.fetch_add_at words.old) }
 {
-    let address = address_in(words.take_word()?)?;
-    let key = key_in(words.take_word()?)?;
-    let add = u64_in(words.take_word()?)?;
-    let list = pieces_in(alloc, words.take_word()?)?;
+    let address = take_address(words)?;
+    let key = take_key(words)?;
+    let add = take_u64(words)?;
+    let list = take_pieces(alloc, words)?;
     Ok(SendOp::FetchAdd { address, key, add, list })
 }
 
@@ -101,11 +100,11 @@ fn fetch_add_at(alloc: Global, words: &mut Pieces) -> Result<SendOp, Stop>
 fn bind1_at(words: &mut Pieces) -> Result<SendOp, Stop>
     ensures { Reads (λ x. x) result words.new (reading.bind1_at words.old) }
 {
-    let window = u16_in(words.take_word()?)?;
-    let region = key_in(words.take_word()?)?;
-    let address = address_in(words.take_word()?)?;
-    let length = u32_in(words.take_word()?)?;
-    let rights = rights_in(words.take_word()?);
+    let window = take_u16(words)?;
+    let region = take_key(words)?;
+    let address = take_address(words)?;
+    let length = take_u32(words)?;
+    let rights = take_rights(words)?;
     Ok(SendOp::Bind1 { window, region, address, length, rights })
 }
 
@@ -114,12 +113,12 @@ fn bind1_at(words: &mut Pieces) -> Result<SendOp, Stop>
 fn bind2_at(words: &mut Pieces) -> Result<SendOp, Stop>
     ensures { Reads (λ x. x) result words.new (reading.bind2_at words.old) }
 {
-    let window = u16_in(words.take_word()?)?;
-    let region = key_in(words.take_word()?)?;
-    let low = u8_in(words.take_word()?)?;
-    let address = address_in(words.take_word()?)?;
-    let length = u32_in(words.take_word()?)?;
-    let rights = rights_in(words.take_word()?);
+    let window = take_u16(words)?;
+    let region = take_key(words)?;
+    let low = take_u8(words)?;
+    let address = take_address(words)?;
+    let length = take_u32(words)?;
+    let rights = take_rights(words)?;
     Ok(SendOp::Bind2 { window, region, low, address, length, rights })
 }
 
@@ -128,13 +127,13 @@ fn bind2_at(words: &mut Pieces) -> Result<SendOp, Stop>
 fn fast_reg_at(alloc: Global, words: &mut Pieces) -> Result<SendOp, Stop>
     ensures { Reads (λ x. x) result words.new (reading.fast_reg_at words.old) }
 {
-    let region = u16_in(words.take_word()?)?;
-    let low = u8_in(words.take_word()?)?;
-    let buffer = u16_in(words.take_word()?)?;
-    let address = address_in(words.take_word()?)?;
-    let length = u32_in(words.take_word()?)?;
-    let rights = rights_in(words.take_word()?);
-    let pages = pages_in(alloc, words.take_word()?)?;
+    let region = take_u16(words)?;
+    let low = take_u8(words)?;
+    let buffer = take_u16(words)?;
+    let address = take_address(words)?;
+    let length = take_u32(words)?;
+    let rights = take_rights(words)?;
+    let pages = take_pages(alloc, words)?;
     Ok(SendOp::FastReg { region, low, buffer, address, length, rights, pages })
 }
 
@@ -143,7 +142,7 @@ fn fast_reg_at(alloc: Global, words: &mut Pieces) -> Result<SendOp, Stop>
 fn local_inv_at(words: &mut Pieces) -> Result<SendOp, Stop>
     ensures { Reads (λ x. x) result words.new (reading.local_inv_at words.old) }
 {
-    let key = key_in(words.take_word()?)?;
+    let key = take_key(words)?;
     Ok(SendOp::LocalInv { key })
 }
 

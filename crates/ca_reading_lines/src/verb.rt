@@ -6,10 +6,8 @@ use crate::change::change_at;
 use crate::operation::operation_at;
 use ca_base::{RecvRequest, SendRequest, Slot};
 use ca_model::Verb;
-use ca_reading_words::{
-    Pieces, Stop, buffer_in, domain_in, has, hex_in, perhaps_u16_in, pieces_in, queue_in, rights_in,
-    slot_in, u8_in, u16_in, u32_in, u64_in,
-};
+use ca_reading_fields::{take_buffer, take_domain, take_hex, take_perhaps_u16, take_pieces, take_queue, take_rights, take_slot, take_u16, take_u32, take_u64, take_u8};
+use ca_reading_words::{Pieces, Stop, has};
 use std::alloc::Global;
 
 /// A registration of a memory region.
@@ -17,11 +15,11 @@ use std::alloc::Global;
 fn reg_at(words: &mut Pieces) -> Result<Verb, Stop>
     ensures { Reads (λ x. x) result words.new (reading.reg_at words.old) }
 {
-    let slot = slot_in(words.take_word()?)?;
-    let buffer = u16_in(words.take_word()?)?;
-    let offset = u32_in(words.take_word()?)?;
-    let length = u32_in(words.take_word()?)?;
-    let rights = rights_in(words.take_word()?);
+    let slot = take_slot(words)?;
+    let buffer = take_u16(words)?;
+    let offset = take_u32(words)?;
+    let length = take_u32(words)?;
+    let rights = take_rights(words)?;
     Ok(Verb::RegMr { slot, buffer, offset, length, rights })
 }
 
@@ -30,12 +28,12 @@ fn reg_at(words: &mut Pieces) -> Result<Verb, Stop>
 fn qp_at(words: &mut Pieces) -> Result<Verb, Stop>
     ensures { Reads (λ x. x) result words.new (reading.qp_at words.old) }
 {
-    let slot = slot_in(words.take_word()?)?;
-    let send_cq = u16_in(words.take_word()?)?;
-    let recv_cq = u16_in(words.take_word()?)?;
-    let send_depth = u16_in(words.take_word()?)?;
-    let recv_depth = u16_in(words.take_word()?)?;
-    let srq = perhaps_u16_in(words.take_word()?)?;
+    let slot = take_slot(words)?;
+    let send_cq = take_u16(words)?;
+    let recv_cq = take_u16(words)?;
+    let send_depth = take_u16(words)?;
+    let recv_depth = take_u16(words)?;
+    let srq = take_perhaps_u16(words)?;
     Ok(Verb::CreateQp { slot, send_cq, recv_cq, send_depth, recv_depth, srq })
 }
 
@@ -44,8 +42,8 @@ fn qp_at(words: &mut Pieces) -> Result<Verb, Stop>
 fn post_at(alloc: Global, words: &mut Pieces) -> Result<Verb, Stop>
     ensures { Reads (λ x. x) result words.new (reading.post_at words.old) }
 {
-    let slot = slot_in(words.take_word()?)?;
-    let id = u64_in(words.take_word()?)?;
+    let slot = take_slot(words)?;
+    let id = take_u64(words)?;
     let flags = words.take_word()?;
     let signalled = has(b's', flags);
     let fence = has(b'f', flags);
@@ -60,9 +58,9 @@ fn post_at(alloc: Global, words: &mut Pieces) -> Result<Verb, Stop>
 fn receive_at(alloc: Global, words: &mut Pieces) -> Result<(Slot, RecvRequest), Stop>
     ensures { Reads (λ x. x) result words.new (reading.receive_at words.old) }
 {
-    let slot = slot_in(words.take_word()?)?;
-    let id = u64_in(words.take_word()?)?;
-    let list = pieces_in(alloc, words.take_word()?)?;
+    let slot = take_slot(words)?;
+    let id = take_u64(words)?;
+    let list = take_pieces(alloc, words)?;
     Ok((slot, RecvRequest { id, list }))
 }
 
@@ -74,7 +72,7 @@ fn least_at(words: &mut Pieces) -> Result<u8, Stop>
     if words.first_word()? == b"->".as_slice() {
         return Ok(0);
     }
-    u8_in(words.take_word()?)
+    take_u8(words)
 }
 
 /// A poll.
@@ -82,8 +80,8 @@ fn least_at(words: &mut Pieces) -> Result<u8, Stop>
 fn poll_at(words: &mut Pieces) -> Result<Verb, Stop>
     ensures { Reads (λ x. x) result words.new (reading.poll_at words.old) }
 {
-    let slot = slot_in(words.take_word()?)?;
-    let n = u8_in(words.take_word()?)?;
+    let slot = take_slot(words)?;
+    let n = take_u8(words)?;
     let least = least_at(words)?;
     Ok(Verb::Poll { slot, n, least })
 }
@@ -93,8 +91,8 @@ fn poll_at(words: &mut Pieces) -> Result<Verb, Stop>
 fn wait_at(words: &mut Pieces) -> Result<Verb, Stop>
     ensures { Reads (λ x. x) result words.new (reading.wait_at words.old) }
 {
-    let slot = slot_in(words.take_word()?)?;
-    let n = u8_in(words.take_word()?)?;
+    let slot = take_slot(words)?;
+    let n = take_u8(words)?;
     Ok(Verb::Poll { slot, n, least: n })
 }
 
@@ -103,9 +101,9 @@ fn wait_at(words: &mut Pieces) -> Result<Verb, Stop>
 fn store_at(alloc: Global, words: &mut Pieces) -> Result<Verb, Stop>
     ensures { Reads (λ x. x) result words.new (reading.store_at words.old) }
 {
-    let (adapter, buffer) = buffer_in(words.take_word()?)?;
-    let offset = u32_in(words.take_word()?)?;
-    let bytes = hex_in(alloc, words.take_word()?)?;
+    let (adapter, buffer) = take_buffer(words)?;
+    let offset = take_u32(words)?;
+    let bytes = take_hex(alloc, words)?;
     Ok(Verb::Store { adapter, buffer, offset, bytes })
 }
 
@@ -114,9 +112,9 @@ fn store_at(alloc: Global, words: &mut Pieces) -> Result<Verb, Stop>
 fn load_at(words: &mut Pieces) -> Result<Verb, Stop>
     ensures { Reads (λ x. x) result words.new (reading.load_at words.old) }
 {
-    let (adapter, buffer) = buffer_in(words.take_word()?)?;
-    let offset = u32_in(words.take_word()?)?;
-    let length = u32_in(words.take_word()?)?;
+    let (adapter, buffer) = take_buffer(words)?;
+    let offset = take_u32(words)?;
+    let length = take_u32(words)?;
     Ok(Verb::Load { adapter, buffer, offset, length })
 }
 
@@ -125,8 +123,8 @@ fn load_at(words: &mut Pieces) -> Result<Verb, Stop>
 fn inject_at(alloc: Global, words: &mut Pieces) -> Result<Verb, Stop>
     ensures { Reads (λ x. x) result words.new (reading.inject_at words.old) }
 {
-    let queue = queue_in(words.take_word()?)?;
-    let bytes = hex_in(alloc, words.take_word()?)?;
+    let queue = take_queue(words)?;
+    let bytes = take_hex(alloc, words)?;
     Ok(Verb::Inject { queue, bytes })
 }
 
@@ -164,28 +162,28 @@ fn object_at(alloc: Global, name: &[u8], words: &mut Pieces) -> Result<Verb, Sto
     ensures { Reads (λ x. x) result words.new (reading.object_at name.now words.old) }
 {
     if name == b"pd".as_slice() {
-        let domain = domain_in(words.take_word()?)?;
+        let domain = take_domain(words)?;
         Ok(Verb::AllocPd { domain })
     } else if name == b"unpd".as_slice() {
-        let domain = domain_in(words.take_word()?)?;
+        let domain = take_domain(words)?;
         Ok(Verb::DeallocPd { domain })
     } else if name == b"dereg".as_slice() {
-        let slot = slot_in(words.take_word()?)?;
+        let slot = take_slot(words)?;
         Ok(Verb::DeregMr { slot })
     } else if name == b"unmw".as_slice() {
-        let slot = slot_in(words.take_word()?)?;
+        let slot = take_slot(words)?;
         Ok(Verb::DeallocMw { slot })
     } else if name == b"uncq".as_slice() {
-        let slot = slot_in(words.take_word()?)?;
+        let slot = take_slot(words)?;
         Ok(Verb::DestroyCq { slot })
     } else if name == b"unsrq".as_slice() {
-        let slot = slot_in(words.take_word()?)?;
+        let slot = take_slot(words)?;
         Ok(Verb::DestroySrq { slot })
     } else if name == b"query".as_slice() {
-        let slot = slot_in(words.take_word()?)?;
+        let slot = take_slot(words)?;
         Ok(Verb::QueryQp { slot })
     } else if name == b"unqp".as_slice() {
-        let slot = slot_in(words.take_word()?)?;
+        let slot = take_slot(words)?;
         Ok(Verb::DestroyQp { slot })
     } else {
         work_at(alloc, name, words)
@@ -203,20 +201,20 @@ pub fn verb_at(alloc: Global, words: &mut Pieces) -> Result<Verb, Stop>
     } else if name == b"qp".as_slice() {
         qp_at(words)
     } else if name == b"mr".as_slice() {
-        let slot = slot_in(words.take_word()?)?;
-        let pages = u16_in(words.take_word()?)?;
+        let slot = take_slot(words)?;
+        let pages = take_u16(words)?;
         Ok(Verb::AllocMr { slot, pages })
     } else if name == b"mw".as_slice() {
-        let slot = slot_in(words.take_word()?)?;
-        let kind = u8_in(words.take_word()?)?;
+        let slot = take_slot(words)?;
+        let kind = take_u8(words)?;
         Ok(Verb::AllocMw { slot, kind })
     } else if name == b"cq".as_slice() {
-        let slot = slot_in(words.take_word()?)?;
-        let capacity = u16_in(words.take_word()?)?;
+        let slot = take_slot(words)?;
+        let capacity = take_u16(words)?;
         Ok(Verb::CreateCq { slot, capacity })
     } else if name == b"srq".as_slice() {
-        let slot = slot_in(words.take_word()?)?;
-        let depth = u16_in(words.take_word()?)?;
+        let slot = take_slot(words)?;
+        let depth = take_u16(words)?;
         Ok(Verb::CreateSrq { slot, depth })
     } else {
         object_at(alloc, name, words)
