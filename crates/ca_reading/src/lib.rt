@@ -7,4 +7,4 @@
 
 mod laws;
 
-pub use laws::one_text;
+pub use laws::{one_text, text_is_read};

@@ -4,7 +4,11 @@ ghost use Rattle.ca_reading_lines.specs.Reading as reading;
 
 use ca_base::{Completion, Verdict};
 use ca_model::Answer;
-use ca_reading_fields::{take_denial, take_hex, take_key, take_operation, take_perhaps_key, take_perhaps_u32, take_queue, take_refusal, take_side, take_state, take_status, take_u16, take_u32, take_u64, take_u8};
+use ca_reading_fields::{
+    take_denial, take_hex, take_key, take_operation, take_perhaps_key, take_perhaps_u32,
+    take_queue, take_refusal, take_side, take_state, take_status, take_u8, take_u16, take_u32,
+    take_u64,
+};
 use ca_reading_words::{Pieces, Stop};
 use ca_trace::Told;
 use std::alloc::Global;
@@ -18,7 +22,12 @@ fn state_at(words: &mut Pieces) -> Result<Told, Stop>
     let incarnation = take_u32(words)?;
     let sends = take_u16(words)?;
     let receives = take_u16(words)?;
-    Ok(Told::Whole(Answer::Query { state, incarnation, sends, receives }))
+    Ok(Told::Whole(Answer::Query {
+        state,
+        incarnation,
+        sends,
+        receives,
+    }))
 }
 
 /// What the line of a call tells of its answer, behind the arrow.
@@ -35,13 +44,20 @@ pub fn answer_at(alloc: Global, words: &mut Pieces) -> Result<Told, Stop>
     } else if name == b"qp".as_slice() {
         let number = take_u32(words)?;
         let incarnation = take_u32(words)?;
-        Ok(Told::Whole(Answer::Queue { number, incarnation }))
+        Ok(Told::Whole(Answer::Queue {
+            number,
+            incarnation,
+        }))
     } else if name == b"posted".as_slice() {
         let key = take_perhaps_key(words)?;
         Ok(Told::Whole(Answer::Posted(key)))
     } else if name == b"polled".as_slice() {
         let n = take_u8(words)?;
-        if n <= 16 { Ok(Told::Polled(n)) } else { Err(Stop::Outside) }
+        if n <= 16 {
+            Ok(Told::Polled(n))
+        } else {
+            Err(Stop::Outside)
+        }
     } else if name == b"state".as_slice() {
         state_at(words)
     } else if name == b"bytes".as_slice() {
@@ -69,7 +85,17 @@ pub fn completion_at(words: &mut Pieces) -> Result<Completion, Stop>
     let bytes = take_u32(words)?;
     let imm = take_perhaps_u32(words)?;
     let invalidated = take_perhaps_key(words)?;
-    Ok(Completion { id, queue, receive, place, status, op, bytes, imm, invalidated })
+    Ok(Completion {
+        id,
+        queue,
+        receive,
+        place,
+        status,
+        op,
+        bytes,
+        imm,
+        invalidated,
+    })
 }
 
 /// What came of an access.

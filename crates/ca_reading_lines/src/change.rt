@@ -4,7 +4,7 @@ ghost use Rattle.ca_reading_lines.specs.Reading as reading;
 
 use ca_base::Change;
 use ca_model::Verb;
-use ca_reading_fields::{take_queue, take_slot, take_u16, take_u32, take_u8};
+use ca_reading_fields::{take_queue, take_slot, take_u8, take_u16, take_u32};
 use ca_reading_words::{Pieces, Stop};
 
 /// A change to Ready to Receive.
@@ -18,7 +18,13 @@ fn rtr_at(words: &mut Pieces) -> Result<Verb, Stop>
     let psn = take_u32(words)?;
     let mtu = take_u16(words)?;
     let rnr_code = take_u8(words)?;
-    let change = Change::Rtr { peer, incarnation, psn, mtu, rnr_code };
+    let change = Change::Rtr {
+        peer,
+        incarnation,
+        psn,
+        mtu,
+        rnr_code,
+    };
     Ok(Verb::ModifyQp { slot, change })
 }
 
@@ -32,7 +38,12 @@ fn rts_at(words: &mut Pieces) -> Result<Verb, Stop>
     let retry = take_u8(words)?;
     let rnr_retry = take_u8(words)?;
     let reads = take_u8(words)?;
-    let change = Change::Rts { psn, retry, rnr_retry, reads };
+    let change = Change::Rts {
+        psn,
+        retry,
+        rnr_retry,
+        reads,
+    };
     Ok(Verb::ModifyQp { slot, change })
 }
 

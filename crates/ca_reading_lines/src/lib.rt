@@ -7,9 +7,9 @@
 
 mod answer;
 mod change;
+mod line;
+mod mark;
 mod operation;
 mod verb;
 
-pub use answer::{answer_at, completion_at, verdict_at};
-pub use operation::operation_at;
-pub use verb::verb_at;
+pub use line::read_line;

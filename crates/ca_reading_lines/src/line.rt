@@ -12,7 +12,9 @@ use crate::answer::{answer_at, completion_at};
 use crate::mark::mark_at;
 use crate::verb::verb_at;
 use ca_model::Event;
-use ca_reading_fields::{take_alarm, take_lettered_u32, take_lettered_u64, take_lot, take_queue, take_u64};
+use ca_reading_fields::{
+    take_alarm, take_lettered_u32, take_lettered_u64, take_lot, take_queue, take_u64,
+};
 use ca_reading_words::{Pieces, Stop, lettered_u32_in};
 use ca_trace::{Line, print_line};
 use std::alloc::Global;
@@ -37,7 +39,10 @@ fn turn_at(name: &[u8], words: &mut Pieces) -> Result<Event, Stop>
     } else if name == b"timeout".as_slice() {
         let queue = take_queue(words)?;
         let silent = take_alarm(words)?;
-        Ok(Event::Timeout { queue, hasten: !silent })
+        Ok(Event::Timeout {
+            queue,
+            hasten: !silent,
+        })
     } else if name == b"wake".as_slice() {
         let queue = take_queue(words)?;
         Ok(Event::RnrWake { queue })
@@ -134,12 +139,11 @@ fn prints_as(alloc: Global, line: &Line, text: &[u8]) -> Result<bool, Stop>
     Ok(printed.as_slice() == text)
 }
 
-/// The line that prints as this text. `Outside` comes exactly where no line that may stand in a trace does.
-#[tactic(auto, using(crate::proofs::LineLemmas::line_read, crate::proofs::LineLemmas::no_line))]
-pub fn read_line(alloc: Global, text: &[u8]) -> Result<Line, Stop>
+/// The line that prints as this text.
+#[tactic(auto, unfolding(crate::specs::Calls::exact_in))]
+fn exact_line(alloc: Global, text: &[u8]) -> Result<Line, Stop>
     ensures exact { Gives result (calls.exact_in text.now) }
     ensures found { IfOk result (λ line. text.now ≡ line_text line) }
-    ensures outside { IfErr result (λ stop. stop ≡ stops.Outside → (line : kinds.Line) → LineFits line → text.now ≢ line_text line) }
 {
     let mut words = Pieces::of(b' ', text);
     let line = line_at(alloc, &mut words)?;
@@ -148,4 +152,13 @@ pub fn read_line(alloc: Global, text: &[u8]) -> Result<Line, Stop>
         Ok(false) => Err(Stop::Outside),
         Err(stop) => Err(stop),
     }
+}
+
+/// The line that prints as this text. `Outside` comes exactly where no line that may stand in a trace does.
+pub fn read_line(alloc: Global, text: &[u8]) -> Result<Line, Stop>
+    ensures exact { Gives result (calls.exact_in text.now) }
+    ensures found { IfOk result (λ line. text.now ≡ line_text line) }
+    ensures outside { IfErr result (λ stop. stop ≡ stops.Outside → (line : kinds.Line) → LineFits line → text.now ≢ line_text line) }
+{
+    exact_line(alloc, text)
 }

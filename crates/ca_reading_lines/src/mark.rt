@@ -5,7 +5,11 @@ ghost use Rattle.ca_reading_lines.specs.Reading as reading;
 use crate::answer::{completion_at, verdict_at};
 use ca_base::{Grant, Place};
 use ca_model::Mark;
-use ca_reading_fields::{take_address, take_alarm, take_buffer, take_domain, take_drop, take_hex, take_key, take_kind, take_object, take_perhaps_cause, take_perhaps_u64, take_queue, take_queues, take_rights, take_runs, take_u32, take_u8};
+use ca_reading_fields::{
+    take_address, take_alarm, take_buffer, take_domain, take_drop, take_hex, take_key, take_kind,
+    take_object, take_perhaps_cause, take_perhaps_u64, take_queue, take_queues, take_rights,
+    take_runs, take_u8, take_u32,
+};
 use ca_reading_words::{Pieces, Stop};
 use std::alloc::Global;
 
@@ -22,7 +26,16 @@ fn granted_at(alloc: Global, words: &mut Pieces) -> Result<Mark, Stop>
     let length = take_u32(words)?;
     let rights = take_rights(words)?;
     let runs = take_runs(alloc, words)?;
-    Ok(Mark::Granted(Grant { key, domain, queue, local, address, length, rights, runs }))
+    Ok(Mark::Granted(Grant {
+        key,
+        domain,
+        queue,
+        local,
+        address,
+        length,
+        rights,
+        runs,
+    }))
 }
 
 /// A packet's access.
@@ -38,7 +51,16 @@ fn remote_at(alloc: Global, words: &mut Pieces) -> Result<Mark, Stop>
     let address = take_address(words)?;
     let length = take_u32(words)?;
     let verdict = verdict_at(alloc, words)?;
-    Ok(Mark::Remote { queue, domain, envelope, key, kind, address, length, verdict })
+    Ok(Mark::Remote {
+        queue,
+        domain,
+        envelope,
+        key,
+        kind,
+        address,
+        length,
+        verdict,
+    })
 }
 
 /// A request's access to its own list.
@@ -53,7 +75,15 @@ fn local_mark_at(alloc: Global, words: &mut Pieces) -> Result<Mark, Stop>
     let address = take_address(words)?;
     let length = take_u32(words)?;
     let verdict = verdict_at(alloc, words)?;
-    Ok(Mark::Local { queue, domain, key, kind, address, length, verdict })
+    Ok(Mark::Local {
+        queue,
+        domain,
+        key,
+        kind,
+        address,
+        length,
+        verdict,
+    })
 }
 
 /// A write of the host.
@@ -64,7 +94,11 @@ fn stored_at(alloc: Global, words: &mut Pieces) -> Result<Mark, Stop>
     let (adapter, buffer) = take_buffer(words)?;
     let offset = take_u32(words)?;
     let bytes = take_hex(alloc, words)?;
-    let place = Place { adapter, buffer, offset };
+    let place = Place {
+        adapter,
+        buffer,
+        offset,
+    };
     Ok(Mark::Stored { place, bytes })
 }
 
@@ -78,7 +112,13 @@ fn sent_at(alloc: Global, words: &mut Pieces) -> Result<Mark, Stop>
     let index = take_perhaps_u64(words)?;
     let request = take_perhaps_u64(words)?;
     let bytes = take_hex(alloc, words)?;
-    Ok(Mark::Sent { source, target, index, request, bytes })
+    Ok(Mark::Sent {
+        source,
+        target,
+        index,
+        request,
+        bytes,
+    })
 }
 
 /// A completion that was put, with why its operation was refused.
@@ -89,7 +129,11 @@ fn done_at(words: &mut Pieces) -> Result<Mark, Stop>
     let completion = completion_at(words)?;
     let cause = take_perhaps_cause(words)?;
     let queue = completion.queue;
-    Ok(Mark::Done { queue, completion, cause })
+    Ok(Mark::Done {
+        queue,
+        completion,
+        cause,
+    })
 }
 
 /// A mark of a packet or of a timer, by its name.

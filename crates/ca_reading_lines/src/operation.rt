@@ -3,7 +3,10 @@ ghost use Rattle.ca_reading_words.specs.Words.{Reads, GivesAs};
 ghost use Rattle.ca_reading_lines.specs.Reading as reading;
 
 use ca_base::SendOp;
-use ca_reading_fields::{take_address, take_key, take_pages, take_pieces, take_rights, take_u16, take_u32, take_u64, take_u8};
+use ca_reading_fields::{
+    take_address, take_key, take_pages, take_pieces, take_rights, take_u8, take_u16, take_u32,
+    take_u64,
+};
 use ca_reading_words::{Pieces, Stop};
 use std::alloc::Global;
 
@@ -56,7 +59,12 @@ fn write_imm_at(alloc: Global, words: &mut Pieces) -> Result<SendOp, Stop>
     let key = take_key(words)?;
     let imm = take_u32(words)?;
     let list = take_pieces(alloc, words)?;
-    Ok(SendOp::WriteImm { address, key, imm, list })
+    Ok(SendOp::WriteImm {
+        address,
+        key,
+        imm,
+        list,
+    })
 }
 
 /// An RDMA READ.
@@ -80,7 +88,13 @@ fn cmp_swap_at(alloc: Global, words: &mut Pieces) -> Result<SendOp, Stop>
     let compare = take_u64(words)?;
     let swap = take_u64(words)?;
     let list = take_pieces(alloc, words)?;
-    Ok(SendOp::CmpSwap { address, key, compare, swap, list })
+    Ok(SendOp::CmpSwap {
+        address,
+        key,
+        compare,
+        swap,
+        list,
+    })
 }
 
 /// A fetch and add.
@@ -92,7 +106,12 @@ fn fetch_add_at(alloc: Global, words: &mut Pieces) -> Result<SendOp, Stop>
     let key = take_key(words)?;
     let add = take_u64(words)?;
     let list = take_pieces(alloc, words)?;
-    Ok(SendOp::FetchAdd { address, key, add, list })
+    Ok(SendOp::FetchAdd {
+        address,
+        key,
+        add,
+        list,
+    })
 }
 
 /// A bind of a type 1 window.
@@ -105,7 +124,13 @@ fn bind1_at(words: &mut Pieces) -> Result<SendOp, Stop>
     let address = take_address(words)?;
     let length = take_u32(words)?;
     let rights = take_rights(words)?;
-    Ok(SendOp::Bind1 { window, region, address, length, rights })
+    Ok(SendOp::Bind1 {
+        window,
+        region,
+        address,
+        length,
+        rights,
+    })
 }
 
 /// A bind of a type 2 window.
@@ -119,7 +144,14 @@ fn bind2_at(words: &mut Pieces) -> Result<SendOp, Stop>
     let address = take_address(words)?;
     let length = take_u32(words)?;
     let rights = take_rights(words)?;
-    Ok(SendOp::Bind2 { window, region, low, address, length, rights })
+    Ok(SendOp::Bind2 {
+        window,
+        region,
+        low,
+        address,
+        length,
+        rights,
+    })
 }
 
 /// A fast registration.
@@ -134,7 +166,15 @@ fn fast_reg_at(alloc: Global, words: &mut Pieces) -> Result<SendOp, Stop>
     let length = take_u32(words)?;
     let rights = take_rights(words)?;
     let pages = take_pages(alloc, words)?;
-    Ok(SendOp::FastReg { region, low, buffer, address, length, rights, pages })
+    Ok(SendOp::FastReg {
+        region,
+        low,
+        buffer,
+        address,
+        length,
+        rights,
+        pages,
+    })
 }
 
 /// A local invalidation.

@@ -6,7 +6,10 @@ use crate::change::change_at;
 use crate::operation::operation_at;
 use ca_base::{RecvRequest, SendRequest, Slot};
 use ca_model::Verb;
-use ca_reading_fields::{take_buffer, take_domain, take_hex, take_perhaps_u16, take_pieces, take_queue, take_rights, take_slot, take_u16, take_u32, take_u64, take_u8};
+use ca_reading_fields::{
+    take_buffer, take_domain, take_hex, take_perhaps_u16, take_pieces, take_queue, take_rights,
+    take_slot, take_u8, take_u16, take_u32, take_u64,
+};
 use ca_reading_words::{Pieces, Stop, has};
 use std::alloc::Global;
 
@@ -20,7 +23,13 @@ fn reg_at(words: &mut Pieces) -> Result<Verb, Stop>
     let offset = take_u32(words)?;
     let length = take_u32(words)?;
     let rights = take_rights(words)?;
-    Ok(Verb::RegMr { slot, buffer, offset, length, rights })
+    Ok(Verb::RegMr {
+        slot,
+        buffer,
+        offset,
+        length,
+        rights,
+    })
 }
 
 /// The creation of a queue pair.
@@ -34,7 +43,14 @@ fn qp_at(words: &mut Pieces) -> Result<Verb, Stop>
     let send_depth = take_u16(words)?;
     let recv_depth = take_u16(words)?;
     let srq = take_perhaps_u16(words)?;
-    Ok(Verb::CreateQp { slot, send_cq, recv_cq, send_depth, recv_depth, srq })
+    Ok(Verb::CreateQp {
+        slot,
+        send_cq,
+        recv_cq,
+        send_depth,
+        recv_depth,
+        srq,
+    })
 }
 
 /// A request of a send queue.
@@ -49,7 +65,13 @@ fn post_at(alloc: Global, words: &mut Pieces) -> Result<Verb, Stop>
     let fence = has(b'f', flags);
     let solicited = has(b'e', flags);
     let op = operation_at(alloc, words)?;
-    let request = SendRequest { id, signalled, fence, solicited, op };
+    let request = SendRequest {
+        id,
+        signalled,
+        fence,
+        solicited,
+        op,
+    };
     Ok(Verb::PostSend { slot, request })
 }
 
@@ -104,7 +126,12 @@ fn store_at(alloc: Global, words: &mut Pieces) -> Result<Verb, Stop>
     let (adapter, buffer) = take_buffer(words)?;
     let offset = take_u32(words)?;
     let bytes = take_hex(alloc, words)?;
-    Ok(Verb::Store { adapter, buffer, offset, bytes })
+    Ok(Verb::Store {
+        adapter,
+        buffer,
+        offset,
+        bytes,
+    })
 }
 
 /// A read of the host.
@@ -115,7 +142,12 @@ fn load_at(words: &mut Pieces) -> Result<Verb, Stop>
     let (adapter, buffer) = take_buffer(words)?;
     let offset = take_u32(words)?;
     let length = take_u32(words)?;
-    Ok(Verb::Load { adapter, buffer, offset, length })
+    Ok(Verb::Load {
+        adapter,
+        buffer,
+        offset,
+        length,
+    })
 }
 
 /// An injection.

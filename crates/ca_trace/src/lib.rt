@@ -19,5 +19,5 @@ mod words;
 
 pub use entry::{print, print_reply};
 pub use history::print_history;
-pub use line::{Line, Told};
+pub use line::{Line, Told, print_line};
 pub use verb::print_call;
