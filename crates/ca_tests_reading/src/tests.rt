@@ -284,7 +284,10 @@ fn is_read<R: Abort + AllocGlobal>(rt: &R, line: &str) -> Result<(), Fail> {
     if let Ok(read) = read_line(rt.alloc(), line.as_bytes()) {
         print_line(&read, &mut printed)?;
     }
-    assert_eq!(rt; str::from_utf8(printed.as_slice()).unwrap_or("no text"), line);
+    assert_eq!(rt;
+        str::from_utf8(printed.as_slice()).unwrap_or("no text"),
+        line
+    );
     Ok(())
 }
 
