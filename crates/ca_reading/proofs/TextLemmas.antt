@@ -78,9 +78,9 @@ verb_text stamp pass by verb answer ms =
     let t = joined 32 (words (front stamp pass (call_words by verb))) in
     let l = led 32 (words (told_words answer)) in
     let parts : lines_text (map lines.Got (completions_of answer) ++ map lines.Mark ms) ≡ got_lines answer ++ flat_map mark_text ms =
-        flat_map-append (λ l. line_text l ++ 10 ∷ []) (map lines.Got (completions_of answer)) (map lines.Mark ms)
-        ∙ ap (λ (x : List ℕ). x ++ lines_text (map lines.Mark ms)) (gots_lines (completions_of answer))
-        ∙ ap (λ (x : List ℕ). got_lines answer ++ x) (marks_lines ms) in
+    flat_map-append (λ l. line_text l ++ 10 ∷ []) (map lines.Got (completions_of answer)) (map lines.Mark ms)
+    ∙ ap (λ (x : List ℕ). x ++ lines_text (map lines.Mark ms)) (gots_lines (completions_of answer))
+    ∙ ap (λ (x : List ℕ). got_lines answer ++ x) (marks_lines ms) in
     regroup t l (got_lines answer) (flat_map mark_text ms)
     ∙ ap (λ (x : List ℕ). (x ++ 10 ∷ []) ++ (got_lines answer ++ flat_map mark_text ms)) (sym (call_text stamp pass by verb answer))
     ∙ ap (λ (x : List ℕ). (line_text (lines.Call stamp pass by verb (told_of answer)) ++ 10 ∷ []) ++ x) (sym parts)

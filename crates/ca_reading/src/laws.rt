@@ -7,11 +7,9 @@ ghost use Rattle.ca_reading.specs.Texts.{history_in};
 /// One text, one history: two histories with the same text are equal.
 pub fn one_text()
     ensures { (es fs : List EntryValue) → HistoryFits es → HistoryFits fs → text es ≡ text fs → es ≡ fs }
-{
-}
+{}
 
 /// The text of a history is read as this history.
 pub fn text_is_read()
     ensures { (es : List EntryValue) → HistoryFits es → history_in (text es) ≡ Some es }
-{
-}
+{}

@@ -1,6 +1,6 @@
 -- The first word of a text, where the first separator stands, and where there is none.
-use Rattle.std.proofs.Common.{◌≡◌, ℕ, ◌+◌, ◌<◌, ◌≤◌, Bool, true, false, cond, eqb, ltb, List, [], ◌∷◌, length, take, drop, Option, Some, None, refl, sym, ap, ◌∙◌, arith, inl, inr}
-use Rattle.std.specs.List.{position, position_or_len, slice_split}
+use Rattle.std.proofs.Common.{◌≡◌, ℕ, ◌+◌, ◌≤◌, Bool, true, false, cond, eqb, ltb, List, [], ◌∷◌, length, take, drop, Some, None, refl, sym, ap, ◌∙◌, arith, inl, inr}
+use Rattle.std.specs.List.{position, position_or_len}
 use Rattle.std.proofs.lemmas.Bool.{cases_Bool, ltb-true, ltb-false}
 use Rattle.std.proofs.lemmas.Option.{cond_some}
 use Rattle.std.proofs.lemmas.List.Splits.{slice_split_first}
@@ -18,8 +18,8 @@ not_below separator (c ∷ cs) h =
     elim (cases_Bool (eqb c separator)) [
       | inl e ↦ absurd (omega (arith, rw e at h))
       | inr e ↦
-        let g = rw e at h in
-        rw (e, not_below separator cs (omega (arith, g))) refl
+          let g = rw e at h in
+          rw (e, not_below separator cs (omega (arith, g))) refl
     ]
 
 none_past : {A : Type 0} (b : Bool) (x : A) → cond b (Some x) None ≡ None → b ≡ false

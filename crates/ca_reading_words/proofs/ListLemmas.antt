@@ -1,5 +1,5 @@
 -- A list that is read word by word.
-use Rattle.std.proofs.Common.{◌≡◌, ℕ, suc, inl, inr, ◌+◌, ◌<◌, Bool, true, false, cond, eqb, List, [], ◌∷◌, ◌++◌, length, Option, Some, None, refl, sym, ap, ◌∙◌, arith, append_assoc}
+use Rattle.std.proofs.Common.{◌≡◌, ℕ, suc, inl, inr, ◌<◌, Bool, true, false, cond, eqb, List, [], ◌∷◌, ◌++◌, length, Option, Some, None, refl, sym, ap, ◌∙◌, arith, append_assoc}
 use Rattle.std.specs.List.{onto_first}
 use Rattle.std.proofs.lemmas.Bool.{ne_eqb, eqb-true, cases_Bool}
 use Rattle.std.proofs.lemmas.List.{append-nil}
@@ -13,9 +13,9 @@ behind front read = read >>= λ xs. Some (front ++ xs)
 pub next_is : (ws : List (List ℕ)) (w : List ℕ) (rest : List (List ℕ)) → next_of ws ≡ Some (w, rest) → ws ≡ w ∷ rest
 next_is [] w rest h = absurd cc
 next_is (v ∷ vs) w rest h = ap (λ (x : Option (List ℕ × List (List ℕ))). put_back x) h where
-    put_back : Option (List ℕ × List (List ℕ)) → List (List ℕ)
-    put_back None = v ∷ vs
-    put_back (Some p) = p.0 ∷ p.1
+  put_back : Option (List ℕ × List (List ℕ)) → List (List ℕ)
+  put_back None = v ∷ vs
+  put_back (Some p) = p.0 ∷ p.1
 
 pub next_none : (ws : List (List ℕ)) → next_of ws ≡ None → ws ≡ []
 next_none [] h = refl
@@ -24,9 +24,9 @@ next_none (v ∷ vs) h = absurd cc
 -- one word more
 pub behind_more : {Y : Type 0} (reader : List ℕ → Option Y) (front : List Y) (ws rest : List (List ℕ)) (w : List ℕ) (x : Y) → next_of ws ≡ Some (w, rest) → reader w ≡ Some x → behind (front ++ x ∷ []) (all_in reader rest) ≡ behind front (all_in reader ws)
 behind_more {Y} reader front ws rest w x h e = rw (next_is ws w rest h, e) (move (all_in reader rest)) where
-    move : (o : Option (List Y)) → behind (front ++ x ∷ []) o ≡ behind front (o >>= λ xs. Some (x ∷ xs))
-    move None = refl
-    move (Some xs) = ap (λ (ys : List Y). Some ys) (append_assoc front (x ∷ []) xs)
+  move : (o : Option (List Y)) → behind (front ++ x ∷ []) o ≡ behind front (o >>= λ xs. Some (x ∷ xs))
+  move None = refl
+  move (Some xs) = ap (λ (ys : List Y). Some ys) (append_assoc front (x ∷ []) xs)
 
 -- a word that is not read
 pub behind_none : {Y : Type 0} (reader : List ℕ → Option Y) (front : List Y) (ws rest : List (List ℕ)) (w : List ℕ) → next_of ws ≡ Some (w, rest) → reader w ≡ None → behind front (all_in reader ws) ≡ None

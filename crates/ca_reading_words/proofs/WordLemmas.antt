@@ -1,16 +1,16 @@
 -- A word that is spelled is read as what it stands for, and has no space.
-use Rattle.std.proofs.Common.{◌≡◌, ℕ, zero, suc, ◌+◌, ◌*◌, ◌/◌, ◌%◌, ◌<◌, ◌≤◌, Bool, true, false, cond, eqb, List, [], ◌∷◌, ◌++◌, length, Option, Some, None, Result, Ok, Err, decimal, map, refl, sym, ap, ◌∙◌, arith, append_assoc}
+use Rattle.std.proofs.Common.{◌≡◌, ℕ, zero, suc, ◌+◌, ◌*◌, ◌/◌, ◌%◌, ◌<◌, ◌≤◌, Bool, true, false, cond, eqb, List, [], ◌∷◌, ◌++◌, length, Option, Some, None, decimal, map, refl, ap, ◌∙◌, arith, append_assoc}
 use Rattle.std.specs.Prelude.{codes, slice_index, IfSome}
 use Rattle.std.specs.Char.{digit_value}
 use Rattle.std.specs.Fmt.{digits}
-use Rattle.std.specs.Int.{Width, w8, w16, w32, w64, to_be_bytes, from_be_bytes}
+use Rattle.std.specs.Int.{Width, w8, w16, w32, to_be_bytes, from_be_bytes}
 use Rattle.std.specs.List.{AllByRecursion}
 use Rattle.std.specs.Str.{bytes_eq}
 use Rattle.std.specs.Str.Parse.{AllDigits, IsNumeral, digits_value_after}
 use Rattle.std.proofs.lemmas.Bool.{ne_eqb, le-leb}
 use Rattle.std.proofs.lemmas.Fmt.{digits_is_IsNumeral}
 use Rattle.std.proofs.lemmas.Nat.{from_be_bytes-to_be_bytes_4}
-use Rattle.hex.specs.Hex.{encode_lower, encode_with, lower_digits, decode_of, IsBytes}
+use Rattle.hex.specs.Hex.{encode_lower, encode_with, lower_digits, IsBytes}
 use Rattle.hex.proofs.HexLemmas.{decode_of-encode_lower}
 use Rattle.ca_base.specs.declared.access.Denial.{Denial}
 use Rattle.ca_base.specs.declared.access.Denial.TheVariants as denials
@@ -39,18 +39,17 @@ use Rattle.ca_base.specs.declared.refusals.WindowError.{WindowError}
 use Rattle.ca_base.specs.declared.refusals.WindowError.TheVariants as windows
 use Rattle.ca_base.specs.declared.request.Piece.{Piece}
 use Rattle.ca_base.specs.declared.rights.Rights.{Rights}
-use Rattle.ca_base.specs.Spelling.{dash, perhaps, domain_text, slot_text, queue_text, key_text, address_text, run_text, piece_text, letter, rights_text, kind_text, denial_text, lot_text, state_text, field_text, operation_text, status_text, region_error_text, window_error_text, op_refusal_text}
-use Rattle.ca_wire.specs.declared.wire_error.WireError.{WireError}
+use Rattle.ca_base.specs.Spelling.{dash, perhaps, domain_text, slot_text, queue_text, key_text, address_text, run_text, piece_text, rights_text, kind_text, denial_text, lot_text, state_text, field_text, operation_text, status_text, op_refusal_text}
 use Rattle.ca_wire.specs.declared.wire_error.WireError.TheVariants as wire
 use Rattle.ca_model.specs.declared.answer.Refusal.{Refusal}
 use Rattle.ca_model.specs.declared.answer.Refusal.TheVariants as refusals
 use Rattle.ca_model.specs.declared.mark.Drop1.{Drop1}
 use Rattle.ca_model.specs.declared.mark.Drop1.TheVariants as drops
 use Rattle.ca_model.specs.Answers.{refusal_text, drop_text}
-use Rattle.ca_trace.specs.Words.{Field, Fixed, Number, Lettered, Perhaps, InAdapter, OfDomain, OfSlot, OfQueue, OfQueues, OfKey, PerhapsKey, Address, Hex, OfRights, OfFlags, OfPieces, OfPages, OfRuns, OfObject, OfSide, OfAlarm, OfKind, OfDenial, OfRefusal, OfLot, OfState, OfOperation, OfStatus, OfCause, OfDrop, word, words, led, joined, commas, hexadecimal, queues_text, object_text, side_text, alarm_text, flags_text}
-use Rattle.ca_reading_words.specs.Fits.{most, plain, DomainFits, SlotFits, QueueFits, KeyFits, PieceFits, RunFits, LotFits, Fits, AllFit}
-use Rattle.ca_reading_words.specs.Words.{◌>>=◌, pieces, next_of, field, value_in, number_in, lettered_in, perhaps_in, in_adapter_in, domain_in, queue_in, slot_in, queues_in, key_in, address_in, ok_of, hex_in, has, rights_in, all_in, list_in, piece_in, pieces_in, run_in, object_in, side_in, alarm_in, kind_in, denial_in, lot_in, state_in, field_in, operation_in, status_in, region_error_in, window_error_in, cause_in, refusal_in, drop_in}
-use Rattle.ca_reading_words.proofs.PieceLemmas.{lacks, all_lack, one_piece, first_piece, pieces_joined, lacks_append, plain_append, plain_cons, digits_plain, digits_lack}
+use Rattle.ca_trace.specs.Words.{Field, Fixed, Number, Lettered, Perhaps, InAdapter, OfDomain, OfSlot, OfQueue, OfQueues, OfKey, PerhapsKey, Address, Hex, OfRights, OfFlags, OfPieces, OfPages, OfRuns, OfObject, OfSide, OfAlarm, OfKind, OfDenial, OfRefusal, OfLot, OfState, OfOperation, OfStatus, OfCause, OfDrop, word, led, commas, hexadecimal, queues_text, object_text, side_text, alarm_text, flags_text}
+use Rattle.ca_reading_words.specs.Fits.{most, plain, DomainFits, SlotFits, QueueFits, KeyFits, PieceFits, RunFits, LotFits, Fits}
+use Rattle.ca_reading_words.specs.Words.{◌>>=◌, pieces, field, value_in, number_in, perhaps_in, in_adapter_in, domain_in, queue_in, slot_in, queues_in, key_in, address_in, hex_in, has, rights_in, all_in, list_in, piece_in, pieces_in, run_in, object_in, side_in, alarm_in, kind_in, denial_in, lot_in, state_in, field_in, operation_in, status_in, region_error_in, window_error_in, cause_in, refusal_in, drop_in}
+use Rattle.ca_reading_words.proofs.PieceLemmas.{lacks, all_lack, one_piece, first_piece, pieces_joined, lacks_append, plain_append, digits_plain, digits_lack}
 use Rattle.ca_reading_words.proofs.NumberLemmas.{value_read, digits_again, decimal_digits, number_again, number_plain, number_lacks, number_is_some}
 
 pub most_small : (w : Width) → most w ≤ 18446744073709551615

@@ -33,7 +33,6 @@ use Rattle.ca_base.specs.declared.refusals.WindowError.TheVariants as windows
 use Rattle.ca_base.specs.declared.request.Piece.{Piece}
 use Rattle.ca_base.specs.declared.rights.Rights.{Rights}
 use Rattle.ca_base.specs.Spelling.{dash}
-use Rattle.ca_wire.specs.declared.wire_error.WireError.{WireError}
 use Rattle.ca_wire.specs.declared.wire_error.WireError.TheVariants as wire
 use Rattle.ca_model.specs.declared.answer.Refusal.{Refusal}
 use Rattle.ca_model.specs.declared.answer.Refusal.TheVariants as refusals
@@ -239,8 +238,8 @@ lot_in w =
       name ← next_of (pieces 58 w)
       count ← field (number_in 255) name.1
       if bytes_eq name.0 (codes "repeat") then Some (lots.Repeat count.0)
-        else if bytes_eq name.0 (codes "hold") then Some (lots.Hold count.0)
-        else None)
+          else if bytes_eq name.0 (codes "hold") then Some (lots.Hold count.0)
+          else None)
 
 unfoldable pub state_in : List ℕ → Option State
 state_in w =
@@ -335,12 +334,12 @@ unfoldable pub cause_in : List ℕ → Option OpRefusal
 cause_in w = do
   name ← next_of (pieces 58 w)
   if bytes_eq name.0 (codes "region") then (do
-      error ← field region_error_in name.1
-      Some (causes.Region error.0))
-    else if bytes_eq name.0 (codes "window") then (do
-      error ← field window_error_in name.1
-      Some (causes.Window error.0))
-    else None
+    error ← field region_error_in name.1
+    Some (causes.Region error.0))
+      else if bytes_eq name.0 (codes "window") then (do
+        error ← field window_error_in name.1
+        Some (causes.Window error.0))
+      else None
 
 -- a field that is out of its range, behind a colon
 abbrev pub out_of_range_in : List ℕ → Option Refusal

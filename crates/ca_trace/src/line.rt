@@ -23,7 +23,11 @@ pub enum Told {
 #[derive(Drop)]
 pub enum Line {
     /// The line of an entry of a turn.
-    Turn { stamp: u64, pass: u32, event: Event },
+    Turn {
+        stamp: u64,
+        pass: u32,
+        event: Event,
+    },
     /// The line of an entry of a verb, with its answer.
     Call {
         stamp: u64,
