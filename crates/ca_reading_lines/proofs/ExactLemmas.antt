@@ -1,5 +1,5 @@
 -- The line that a text is: each line that may stand in a trace is read, and what is read prints as the text.
-use Rattle.std.proofs.Common.{◌≡◌, ℕ, Bool, true, false, cond, eqb, List, [], ◌∷◌, Option, Some, None, refl, sym, ap, ◌∙◌}
+use Rattle.std.proofs.Common.{◌≡◌, ℕ, true, List, [], ◌∷◌, Some, None, refl, sym, ap, ◌∙◌}
 use Rattle.std.specs.Str.{bytes_eq}
 use Rattle.std.proofs.lemmas.Bool.{eq-eqb}
 use Rattle.ca_trace.specs.declared.line.Line.{Line}
@@ -7,9 +7,8 @@ use Rattle.ca_trace.specs.Lines.{line_text}
 use Rattle.std.specs.Prelude.{Result, Ok, Err, IfErr}
 use Rattle.ca_reading_words.specs.declared.stop.Stop.{Stop}
 use Rattle.ca_reading_words.specs.declared.stop.Stop.TheVariants as stops
-use Rattle.ca_reading_words.specs.Words.{◌>>=◌, Gives}
+use Rattle.ca_reading_words.specs.Words.{Gives}
 use Rattle.ca_reading_lines.specs.Fits.{LineFits}
-use Rattle.ca_reading_lines.specs.Reading.{line_in}
 use Rattle.ca_reading_lines.specs.Calls.{exact_in}
 use Rattle.ca_reading_lines.proofs.LineLemmas.{line_read}
 

@@ -1,23 +1,16 @@
 -- A line that is spelled is read as what it says.
-use Rattle.std.proofs.Common.{◌≡◌, ℕ, ◌<◌, ◌≤◌, Bool, true, false, cond, eqb, List, [], ◌∷◌, ◌++◌, Option, Some, None, decimal, map, length, refl, sym, ap, subst, ◌∙◌, arith, inl, inr}
-use Rattle.std.specs.Prelude.{codes, not}
-use Rattle.std.specs.Int.{w8, w16, w32, w64}
-use Rattle.std.specs.List.{AllByRecursion, flat_map}
-use Rattle.std.specs.Str.{bytes_eq}
+use Rattle.std.proofs.Common.{◌≡◌, ℕ, ◌≤◌, true, false, eqb, List, [], ◌∷◌, ◌++◌, Some, decimal, refl, sym, ap, subst, ◌∙◌, arith, inl, inr}
+use Rattle.std.specs.Prelude.{codes}
+use Rattle.std.specs.Int.{w8, w32, w64}
 use Rattle.std.proofs.lemmas.Bool.{cases_Bool, le-leb, eqb-true, and_parts}
 use Rattle.ca_base.specs.declared.change.Change.{Change}
 use Rattle.ca_base.specs.declared.change.Change.TheVariants as changes
 use Rattle.ca_base.specs.declared.completion.Completion.{Completion}
-use Rattle.ca_base.specs.declared.grant.Grant.{Grant}
 use Rattle.ca_base.specs.declared.names.Slot.{Slot}
-use Rattle.ca_base.specs.declared.place.Place.{Place}
-use Rattle.ca_base.specs.declared.request.RecvRequest.{RecvRequest}
 use Rattle.ca_base.specs.declared.request.SendOp.{SendOp}
 use Rattle.ca_base.specs.declared.request.SendOp.TheVariants as ops
-use Rattle.ca_base.specs.declared.rights.Rights.{Rights}
 use Rattle.ca_base.specs.declared.verdict.Verdict.{Verdict}
 use Rattle.ca_base.specs.declared.verdict.Verdict.TheVariants as verdicts
-use Rattle.ca_model.specs.declared.answer.Answer.{Answer}
 use Rattle.ca_model.specs.declared.answer.Answer.TheVariants as answers
 use Rattle.ca_model.specs.declared.event.Event.{Event}
 use Rattle.ca_model.specs.declared.event.Event.TheVariants as events
@@ -29,19 +22,19 @@ use Rattle.ca_trace.specs.declared.line.Line.{Line}
 use Rattle.ca_trace.specs.declared.line.Line.TheVariants as lines
 use Rattle.ca_trace.specs.declared.line.Told.{Told}
 use Rattle.ca_trace.specs.declared.line.Told.TheVariants as told
-use Rattle.ca_reading_words.specs.Words.{◌>>=◌, pieces, next_of, field, number_in, lettered_in, perhaps_in, in_adapter_in, domain_in, queue_in, slot_in, queues_in, key_in, address_in, hex_in, has, rights_in, list_in, pieces_in, run_in, object_in, side_in, alarm_in, kind_in, denial_in, lot_in, state_in, operation_in, status_in, cause_in, refusal_in, drop_in}
+use Rattle.ca_reading_words.specs.Words.{pieces, number_in, lettered_in}
 use Rattle.ca_base.specs.Spelling.{perhaps, slot_text, op_refusal_text}
 use Rattle.ca_base.specs.declared.names.QueueId.{QueueId}
-use Rattle.ca_trace.specs.Table.{change_words, operation_words, poll_words, verb_words, call_words, event_words, answer_words, told_words, completion_words, got_words, verdict_words, granted_words, mark_words}
+use Rattle.ca_trace.specs.Table.{change_words, operation_words, poll_words, verb_words, call_words, event_words, answer_words, completion_words, got_words, verdict_words, mark_words}
 use Rattle.ca_trace.specs.Words.{Field, Fixed, Number, Lettered, OfCause, word, words, led, joined}
 use Rattle.ca_trace.specs.Lines.{answer_line_words, line_words, line_text}
 use Rattle.ca_model.specs.History.{IsPlain}
-use Rattle.ca_reading_words.specs.Fits.{plain, SlotFits, Fits, AllFit}
+use Rattle.ca_reading_words.specs.Fits.{SlotFits, AllFit}
 use Rattle.ca_reading_words.proofs.PieceLemmas.{lacks, all_lack, pieces_joined, lacks_append, plain_lacks}
 use Rattle.ca_reading_words.proofs.NumberLemmas.{number_again}
 use Rattle.ca_reading_words.proofs.WordLemmas.{place_again, domain_again, queue_again, slot_again, queues_again, key_again, address_again, hex_again, perhaps_number_again, perhaps_key_again, pages_again, pieces_again, runs_again, rights_again, flags_again, object_again, side_again, alarm_again, kind_again, denial_again, state_again, operation_again as wc_op_again, status_again, lot_again, refusal_again, drop_again, perhaps_cause_again, number_is_no_arrow, field_plain}
-use Rattle.ca_reading_lines.specs.Fits.{IsTold, IsTurn, IsShaped, LineFits}
-use Rattle.ca_reading_lines.specs.Reading.{Words, rights_at, rtr_at, rts_at, plain_change_at, change_at, send_at, send_imm_at, send_inv_at, write_at, write_imm_at, read_at, cmp_swap_at, fetch_add_at, bind1_at, bind2_at, fast_reg_at, local_inv_at, local_at, operation_at, reg_at, qp_at, post_at, receive_at, least_at, poll_at, wait_at, store_at, load_at, inject_at, work_at, object_at, verb_at, state_at, answer_at, completion_at, verdict_at, granted_at, remote_at, local_mark_at, stored_at, sent_at, done_at, passing_at, mark_at, turn_at, is_consumer, head_at, inner_at, line_at, line_in}
+use Rattle.ca_reading_lines.specs.Fits.{IsTold, IsTurn, LineFits}
+use Rattle.ca_reading_lines.specs.Reading.{Words, rtr_at, rts_at, plain_change_at, change_at, send_at, send_imm_at, send_inv_at, write_at, write_imm_at, read_at, cmp_swap_at, fetch_add_at, bind1_at, bind2_at, fast_reg_at, local_inv_at, local_at, operation_at, reg_at, qp_at, post_at, receive_at, least_at, poll_at, wait_at, store_at, load_at, inject_at, work_at, object_at, verb_at, state_at, answer_at, completion_at, verdict_at, granted_at, remote_at, local_mark_at, stored_at, sent_at, done_at, passing_at, mark_at, turn_at, head_at, inner_at, line_at, line_in}
 
 u8 : (n : ℕ) → n ≤ 255 → number_in 255 (decimal n) ≡ Some n
 u8 n h = number_again 255 n h (omega arith)

@@ -1,8 +1,6 @@
 -- Fits: which lines may stand in a trace, as the types of the program allow. Contracts cite it.
-use Rattle.std.specs.Prelude.{◌≡◌, ◌≤◌}
-use Rattle.ca_model.specs.declared.answer.Answer.{Answer}
+use Rattle.std.specs.Prelude.{◌≤◌}
 use Rattle.ca_model.specs.declared.answer.Answer.TheVariants as answers
-use Rattle.ca_model.specs.declared.mark.Mark.{Mark}
 use Rattle.ca_model.specs.History.{IsPlain}
 use Rattle.ca_trace.specs.declared.line.Line.{Line}
 use Rattle.ca_trace.specs.declared.line.Line.TheVariants as lines
