@@ -3,3 +3,4 @@ pub mod Table
 pub mod Trace
 pub mod TextView
 pub mod Text
+pub mod Lines

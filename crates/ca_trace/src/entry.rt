@@ -79,7 +79,8 @@ fn put_entry(text: &mut Text, e: &Entry) -> Result<(), Memory>
     put_marks(text, e.marks.as_slice())
 }
 
-fn put_event(text: &mut Text, event: &Event) -> Result<(), Memory>
+/// Adds the words of an event.
+pub fn put_event(text: &mut Text, event: &Event) -> Result<(), Memory>
     ensures ok { OnOk result (text.new.added ≡ text.old.added ++ joined 32 (words (event_words event.now))) }
     ensures same { text.new.before ≡ text.old.before }
 {

@@ -10,6 +10,7 @@
 mod answer;
 mod entry;
 mod history;
+mod line;
 mod mark;
 mod post;
 mod text;
@@ -18,4 +19,5 @@ mod words;
 
 pub use entry::{print, print_reply};
 pub use history::print_history;
+pub use line::{Line, Told, print_line};
 pub use verb::print_call;

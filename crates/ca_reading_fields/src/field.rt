@@ -1,0 +1,219 @@
+ghost use Rattle.std.specs.Prelude.{Some};
+ghost use Rattle.ca_reading_words.specs.Words as words;
+ghost use Rattle.ca_reading_words.specs.Words.{Reads};
+
+use ca_base::{
+    Denial, DomainId, Key, Kind, Lot, OpRefusal, QueueId, Rights, Slot, State, WcOp, WcStatus,
+};
+use ca_model::{Drop1, Refusal};
+use ca_reading_words::{Pieces, Stop};
+
+/// A number of 8 bits, by the first word.
+pub fn take_u8(line: &mut Pieces) -> Result<u8, Stop>
+    ensures { Reads (λ x. x) result line.new (words.field (words.number_in 255) line.old) }
+{
+    ca_reading_words::u8_in(line.take_word()?)
+}
+
+/// A number of 16 bits, by the first word.
+pub fn take_u16(line: &mut Pieces) -> Result<u16, Stop>
+    ensures { Reads (λ x. x) result line.new (words.field (words.number_in 65535) line.old) }
+{
+    ca_reading_words::u16_in(line.take_word()?)
+}
+
+/// A number of 32 bits, by the first word.
+pub fn take_u32(line: &mut Pieces) -> Result<u32, Stop>
+    ensures { Reads (λ x. x) result line.new (words.field (words.number_in 4294967295) line.old) }
+{
+    ca_reading_words::u32_in(line.take_word()?)
+}
+
+/// A number of 64 bits, by the first word.
+pub fn take_u64(line: &mut Pieces) -> Result<u64, Stop>
+    ensures { Reads (λ x. x) result line.new (words.field (words.number_in 18446744073709551615) line.old) }
+{
+    ca_reading_words::u64_in(line.take_word()?)
+}
+
+/// A number of 64 bits behind a letter, by the first word.
+pub fn take_lettered_u64(line: &mut Pieces) -> Result<u64, Stop>
+    ensures { Reads (λ x. x) result line.new (words.field (words.lettered_in 18446744073709551615) line.old) }
+{
+    ca_reading_words::lettered_u64_in(line.take_word()?)
+}
+
+/// A number of 32 bits behind a letter, by the first word.
+pub fn take_lettered_u32(line: &mut Pieces) -> Result<u32, Stop>
+    ensures { Reads (λ x. x) result line.new (words.field (words.lettered_in 4294967295) line.old) }
+{
+    ca_reading_words::lettered_u32_in(line.take_word()?)
+}
+
+/// A number of 16 bits, or none, by the first word.
+pub fn take_perhaps_u16(line: &mut Pieces) -> Result<Option<u16>, Stop>
+    ensures { Reads (λ x. x) result line.new (words.field (words.perhaps_in (words.number_in 65535)) line.old) }
+{
+    ca_reading_words::perhaps_u16_in(line.take_word()?)
+}
+
+/// A number of 32 bits, or none, by the first word.
+pub fn take_perhaps_u32(line: &mut Pieces) -> Result<Option<u32>, Stop>
+    ensures { Reads (λ x. x) result line.new (words.field (words.perhaps_in (words.number_in 4294967295)) line.old) }
+{
+    ca_reading_words::perhaps_u32_in(line.take_word()?)
+}
+
+/// A number of 64 bits, or none, by the first word.
+pub fn take_perhaps_u64(line: &mut Pieces) -> Result<Option<u64>, Stop>
+    ensures { Reads (λ x. x) result line.new (words.field (words.perhaps_in (words.number_in 18446744073709551615)) line.old) }
+{
+    ca_reading_words::perhaps_u64_in(line.take_word()?)
+}
+
+/// A memory key, or none, by the first word.
+pub fn take_perhaps_key(line: &mut Pieces) -> Result<Option<Key>, Stop>
+    ensures { Reads (λ x. x) result line.new (words.field (words.perhaps_in words.key_in) line.old) }
+{
+    ca_reading_words::perhaps_key_in(line.take_word()?)
+}
+
+/// Why a local operation was refused, or nothing, by the first word.
+pub fn take_perhaps_cause(line: &mut Pieces) -> Result<Option<OpRefusal>, Stop>
+    ensures { Reads (λ x. x) result line.new (words.field (words.perhaps_in words.cause_in) line.old) }
+{
+    ca_reading_words::perhaps_cause_in(line.take_word()?)
+}
+
+/// An adapter, and a buffer there, by the first word.
+pub fn take_buffer(line: &mut Pieces) -> Result<(u8, u16), Stop>
+    ensures { Reads (λ x. x) result line.new (words.field (words.in_adapter_in 65535) line.old) }
+{
+    ca_reading_words::buffer_in(line.take_word()?)
+}
+
+/// A protection domain, by the first word.
+pub fn take_domain(line: &mut Pieces) -> Result<DomainId, Stop>
+    ensures { Reads (λ x. x) result line.new (words.field (words.domain_in) line.old) }
+{
+    ca_reading_words::domain_in(line.take_word()?)
+}
+
+/// An object of a domain, by the first word.
+pub fn take_slot(line: &mut Pieces) -> Result<Slot, Stop>
+    ensures { Reads (λ x. x) result line.new (words.field (words.slot_in) line.old) }
+{
+    ca_reading_words::slot_in(line.take_word()?)
+}
+
+/// A queue pair, by the first word.
+pub fn take_queue(line: &mut Pieces) -> Result<QueueId, Stop>
+    ensures { Reads (λ x. x) result line.new (words.field (words.queue_in) line.old) }
+{
+    ca_reading_words::queue_in(line.take_word()?)
+}
+
+/// Any queue pair of a domain, or one, by the first word.
+pub fn take_queues(line: &mut Pieces) -> Result<Option<QueueId>, Stop>
+    ensures { Reads (λ x. x) result line.new (words.field (words.queues_in) line.old) }
+{
+    ca_reading_words::queues_in(line.take_word()?)
+}
+
+/// A memory key, by the first word.
+pub fn take_key(line: &mut Pieces) -> Result<Key, Stop>
+    ensures { Reads (λ x. x) result line.new (words.field (words.key_in) line.old) }
+{
+    ca_reading_words::key_in(line.take_word()?)
+}
+
+/// An address, by the first word.
+pub fn take_address(line: &mut Pieces) -> Result<u64, Stop>
+    ensures { Reads (λ x. x) result line.new (words.field (words.address_in) line.old) }
+{
+    ca_reading_words::address_in(line.take_word()?)
+}
+
+/// Whether a region stands there, or a window, by the first word.
+pub fn take_object(line: &mut Pieces) -> Result<bool, Stop>
+    ensures { Reads (λ x. x) result line.new (words.field (words.object_in) line.old) }
+{
+    ca_reading_words::object_in(line.take_word()?)
+}
+
+/// Whether the receive side stands there, or the send side, by the first word.
+pub fn take_side(line: &mut Pieces) -> Result<bool, Stop>
+    ensures { Reads (λ x. x) result line.new (words.field (words.side_in) line.old) }
+{
+    ca_reading_words::side_in(line.take_word()?)
+}
+
+/// Whether a timer was silent, or only hastened, by the first word.
+pub fn take_alarm(line: &mut Pieces) -> Result<bool, Stop>
+    ensures { Reads (λ x. x) result line.new (words.field (words.alarm_in) line.old) }
+{
+    ca_reading_words::alarm_in(line.take_word()?)
+}
+
+/// What an access does, by the first word.
+pub fn take_kind(line: &mut Pieces) -> Result<Kind, Stop>
+    ensures { Reads (λ x. x) result line.new (words.field (words.kind_in) line.old) }
+{
+    ca_reading_words::kind_in(line.take_word()?)
+}
+
+/// The part of the key check that failed, by the first word.
+pub fn take_denial(line: &mut Pieces) -> Result<Denial, Stop>
+    ensures { Reads (λ x. x) result line.new (words.field (words.denial_in) line.old) }
+{
+    ca_reading_words::denial_in(line.take_word()?)
+}
+
+/// What the weather does to a packet, by the first word.
+pub fn take_lot(line: &mut Pieces) -> Result<Lot, Stop>
+    ensures { Reads (λ x. x) result line.new (words.field (words.lot_in) line.old) }
+{
+    ca_reading_words::lot_in(line.take_word()?)
+}
+
+/// The state of a queue pair, by the first word.
+pub fn take_state(line: &mut Pieces) -> Result<State, Stop>
+    ensures { Reads (λ x. x) result line.new (words.field (words.state_in) line.old) }
+{
+    ca_reading_words::state_in(line.take_word()?)
+}
+
+/// What the request of a completion asked for, by the first word.
+pub fn take_operation(line: &mut Pieces) -> Result<WcOp, Stop>
+    ensures { Reads (λ x. x) result line.new (words.field (words.operation_in) line.old) }
+{
+    ca_reading_words::operation_in(line.take_word()?)
+}
+
+/// How a request ended, by the first word.
+pub fn take_status(line: &mut Pieces) -> Result<WcStatus, Stop>
+    ensures { Reads (λ x. x) result line.new (words.field (words.status_in) line.old) }
+{
+    ca_reading_words::status_in(line.take_word()?)
+}
+
+/// Why a verb is refused, by the first word.
+pub fn take_refusal(line: &mut Pieces) -> Result<Refusal, Stop>
+    ensures { Reads (λ x. x) result line.new (words.field (words.refusal_in) line.old) }
+{
+    ca_reading_words::refusal_in(line.take_word()?)
+}
+
+/// Why a packet was dropped, by the first word.
+pub fn take_drop(line: &mut Pieces) -> Result<Drop1, Stop>
+    ensures { Reads (λ x. x) result line.new (words.field (words.drop_in) line.old) }
+{
+    ca_reading_words::drop_in(line.take_word()?)
+}
+
+/// The rights whose letters stand in the first word.
+pub fn take_rights(line: &mut Pieces) -> Result<Rights, Stop>
+    ensures { Reads (λ x. x) result line.new (words.field (λ w. Some (words.rights_in w)) line.old) }
+{
+    Ok(ca_reading_words::rights_in(line.take_word()?))
+}

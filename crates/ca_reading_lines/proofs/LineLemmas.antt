@@ -1,0 +1,254 @@
+-- A line that is spelled is read as what it says.
+use Rattle.std.proofs.Common.{◌≡◌, ℕ, ◌≤◌, true, false, eqb, List, [], ◌∷◌, ◌++◌, Some, decimal, refl, sym, ap, subst, ◌∙◌, arith, inl, inr}
+use Rattle.std.specs.Prelude.{codes}
+use Rattle.std.specs.Int.{w8, w32, w64}
+use Rattle.std.proofs.lemmas.Bool.{cases_Bool, le-leb, eqb-true, and_parts}
+use Rattle.ca_base.specs.declared.change.Change.{Change}
+use Rattle.ca_base.specs.declared.change.Change.TheVariants as changes
+use Rattle.ca_base.specs.declared.completion.Completion.{Completion}
+use Rattle.ca_base.specs.declared.names.Slot.{Slot}
+use Rattle.ca_base.specs.declared.request.SendOp.{SendOp}
+use Rattle.ca_base.specs.declared.request.SendOp.TheVariants as ops
+use Rattle.ca_base.specs.declared.verdict.Verdict.{Verdict}
+use Rattle.ca_base.specs.declared.verdict.Verdict.TheVariants as verdicts
+use Rattle.ca_model.specs.declared.answer.Answer.TheVariants as answers
+use Rattle.ca_model.specs.declared.event.Event.{Event}
+use Rattle.ca_model.specs.declared.event.Event.TheVariants as events
+use Rattle.ca_model.specs.declared.mark.Mark.{Mark}
+use Rattle.ca_model.specs.declared.mark.Mark.TheVariants as marks
+use Rattle.ca_model.specs.declared.verb.Verb.{Verb}
+use Rattle.ca_model.specs.declared.verb.Verb.TheVariants as verbs
+use Rattle.ca_trace.specs.declared.line.Line.{Line}
+use Rattle.ca_trace.specs.declared.line.Line.TheVariants as lines
+use Rattle.ca_trace.specs.declared.line.Told.{Told}
+use Rattle.ca_trace.specs.declared.line.Told.TheVariants as told
+use Rattle.ca_reading_words.specs.Words.{pieces, number_in, lettered_in}
+use Rattle.ca_base.specs.Spelling.{perhaps, slot_text, op_refusal_text}
+use Rattle.ca_base.specs.declared.names.QueueId.{QueueId}
+use Rattle.ca_trace.specs.Table.{change_words, operation_words, poll_words, verb_words, call_words, event_words, answer_words, completion_words, got_words, verdict_words, mark_words}
+use Rattle.ca_trace.specs.Words.{Field, Fixed, Number, Lettered, OfCause, word, words, led, joined}
+use Rattle.ca_trace.specs.Lines.{answer_line_words, line_words, line_text}
+use Rattle.ca_model.specs.History.{IsPlain}
+use Rattle.ca_reading_words.specs.Fits.{SlotFits, AllFit}
+use Rattle.ca_reading_words.proofs.PieceLemmas.{lacks, all_lack, pieces_joined, lacks_append, plain_lacks}
+use Rattle.ca_reading_words.proofs.NumberLemmas.{number_again}
+use Rattle.ca_reading_words.proofs.WordLemmas.{place_again, domain_again, queue_again, slot_again, queues_again, key_again, address_again, hex_again, perhaps_number_again, perhaps_key_again, pages_again, pieces_again, runs_again, rights_again, flags_again, object_again, side_again, alarm_again, kind_again, denial_again, state_again, operation_again as wc_op_again, status_again, lot_again, refusal_again, drop_again, perhaps_cause_again, number_is_no_arrow, field_plain}
+use Rattle.ca_reading_lines.specs.Fits.{IsTold, IsTurn, LineFits}
+use Rattle.ca_reading_lines.specs.Reading.{Words, rtr_at, rts_at, plain_change_at, change_at, send_at, send_imm_at, send_inv_at, write_at, write_imm_at, read_at, cmp_swap_at, fetch_add_at, bind1_at, bind2_at, fast_reg_at, local_inv_at, local_at, operation_at, reg_at, qp_at, post_at, receive_at, least_at, poll_at, wait_at, store_at, load_at, inject_at, work_at, object_at, verb_at, state_at, answer_at, completion_at, verdict_at, granted_at, remote_at, local_mark_at, stored_at, sent_at, done_at, passing_at, mark_at, turn_at, head_at, inner_at, line_at, line_in}
+
+u8 : (n : ℕ) → n ≤ 255 → number_in 255 (decimal n) ≡ Some n
+u8 n h = number_again 255 n h (omega arith)
+
+u16 : (n : ℕ) → n ≤ 65535 → number_in 65535 (decimal n) ≡ Some n
+u16 n h = number_again 65535 n h (omega arith)
+
+u32 : (n : ℕ) → n ≤ 4294967295 → number_in 4294967295 (decimal n) ≡ Some n
+u32 n h = number_again 4294967295 n h (omega arith)
+
+u64 : (n : ℕ) → n ≤ 18446744073709551615 → number_in 18446744073709551615 (decimal n) ≡ Some n
+u64 n h = number_again 18446744073709551615 n h (omega arith)
+
+lettered_again : (bound c n : ℕ) → n ≤ bound → bound ≤ 18446744073709551615 → lettered_in bound (c ∷ decimal n) ≡ Some n
+unfolding lettered_in
+lettered_again bound c n h small = number_again bound n h small
+
+operation_again : (op : SendOp) (rest : Words) → AllFit (operation_words op) → operation_at (words (operation_words op) ++ rest) ≡ Some (op, rest)
+unfolding operation_at local_at send_at send_imm_at send_inv_at write_at write_imm_at read_at cmp_swap_at fetch_add_at bind1_at bind2_at fast_reg_at local_inv_at
+operation_again (ops.Send list) rest h = rw (pieces_again list.items h.1.0.0 h.1.0.1) refl
+operation_again (ops.SendImm imm list) rest h = rw (u32 imm h.1.0, pieces_again list.items h.1.1.0.0 h.1.1.0.1) refl
+operation_again (ops.SendInv key list) rest h = rw (key_again key h.1.0, pieces_again list.items h.1.1.0.0 h.1.1.0.1) refl
+operation_again (ops.Write at key list) rest h = rw (address_again at h.1.0, key_again key h.1.1.0, pieces_again list.items h.1.1.1.0.0 h.1.1.1.0.1) refl
+operation_again (ops.WriteImm at key imm list) rest h = rw (address_again at h.1.0, key_again key h.1.1.0, u32 imm h.1.1.1.0, pieces_again list.items h.1.1.1.1.0.0 h.1.1.1.1.0.1) refl
+operation_again (ops.Read at key list) rest h = rw (address_again at h.1.0, key_again key h.1.1.0, pieces_again list.items h.1.1.1.0.0 h.1.1.1.0.1) refl
+operation_again (ops.CmpSwap at key a b list) rest h = rw (address_again at h.1.0, key_again key h.1.1.0, u64 a h.1.1.1.0, u64 b h.1.1.1.1.0, pieces_again list.items h.1.1.1.1.1.0.0 h.1.1.1.1.1.0.1) refl
+operation_again (ops.FetchAdd at key a list) rest h = rw (address_again at h.1.0, key_again key h.1.1.0, u64 a h.1.1.1.0, pieces_again list.items h.1.1.1.1.0.0 h.1.1.1.1.0.1) refl
+operation_again (ops.Bind1 w region at n r) rest h = rw (u16 w h.1.0, key_again region h.1.1.0, address_again at h.1.1.1.0, u32 n h.1.1.1.1.0, rights_again r) refl
+operation_again (ops.Bind2 w region low at n r) rest h = rw (u16 w h.1.0, key_again region h.1.1.0, u8 low h.1.1.1.0, address_again at h.1.1.1.1.0, u32 n h.1.1.1.1.1.0, rights_again r) refl
+operation_again (ops.FastReg w low b at n r pages) rest h = rw (u16 w h.1.0, u8 low h.1.1.0, u16 b h.1.1.1.0, address_again at h.1.1.1.1.0, u32 n h.1.1.1.1.1.0, rights_again r, pages_again pages h.1.1.1.1.1.1.1.0) refl
+operation_again (ops.LocalInv key) rest h = rw (key_again key h.1.0) refl
+
+change_again : (s : Slot) (change : Change) (rest : Words) → AllFit (change_words s change) → verb_at (words (change_words s change) ++ rest) ≡ Some (verbs.ModifyQp s change, rest)
+unfolding verb_at object_at work_at change_at plain_change_at rtr_at rts_at
+change_again s changes.Reset rest h = rw (slot_again s h.1.0) refl
+change_again s changes.Init rest h = rw (slot_again s h.1.0) refl
+change_again s changes.Sqd rest h = rw (slot_again s h.1.0) refl
+change_again s changes.Resume rest h = rw (slot_again s h.1.0) refl
+change_again s changes.Error rest h = rw (slot_again s h.1.0) refl
+change_again s (changes.Rtr peer i psn mtu code) rest h = rw (slot_again s h.1.0, queue_again peer h.1.1.0, u32 i h.1.1.1.0, u32 psn h.1.1.1.1.0, u16 mtu h.1.1.1.1.1.0, u8 code h.1.1.1.1.1.1.0) refl
+change_again s (changes.Rts psn a b c) rest h = rw (slot_again s h.1.0, u32 psn h.1.1.0, u8 a h.1.1.1.0, u8 b h.1.1.1.1.0, u8 c h.1.1.1.1.1.0) refl
+
+poll_zero : (s : Slot) (n : ℕ) (rest : Words) → AllFit (poll_words s n 0) → verb_at (words (poll_words s n 0) ++ (codes "->" ∷ rest)) ≡ Some (verbs.Poll s n 0, codes "->" ∷ rest)
+unfolding verb_at object_at work_at poll_at least_at
+poll_zero s n rest h = rw (slot_again s h.1.0, u8 n h.1.1.0) refl
+
+poll_wait : (s : Slot) (n : ℕ) (rest : Words) → SlotFits s → n ≤ 255 → verb_at (codes "wait" ∷ slot_text s ∷ decimal n ∷ codes "->" ∷ rest) ≡ Some (verbs.Poll s n n, codes "->" ∷ rest)
+unfolding verb_at object_at work_at wait_at
+poll_wait s n rest h g = rw (slot_again s h, u8 n g) refl
+
+poll_least : (s : Slot) (n least : ℕ) (rest : Words) → SlotFits s → n ≤ 255 → least ≤ 255 → verb_at (codes "poll" ∷ slot_text s ∷ decimal n ∷ decimal least ∷ codes "->" ∷ rest) ≡ Some (verbs.Poll s n least, codes "->" ∷ rest)
+unfolding verb_at object_at work_at poll_at least_at
+poll_least s n least rest h g k = rw (slot_again s h, u8 n g, number_is_no_arrow least (omega arith), u8 least k) refl
+
+poll_again : (s : Slot) (n least : ℕ) (rest : Words) → AllFit (poll_words s n least) → verb_at (words (poll_words s n least) ++ (codes "->" ∷ rest)) ≡ Some (verbs.Poll s n least, codes "->" ∷ rest)
+poll_again s n least rest h =
+    elim (cases_Bool (eqb least 0)) [
+      | inl e ↦ subst (λ (l : ℕ). AllFit (poll_words s n l) → verb_at (words (poll_words s n l) ++ (codes "->" ∷ rest)) ≡ Some (verbs.Poll s n l, codes "->" ∷ rest)) (sym (eqb-true least 0 e)) (poll_zero s n rest) h
+      | inr e ↦ elim (cases_Bool (eqb least n)) [
+        | inl d ↦
+            let g = rw (e, d) at h in
+            rw (e, d) (poll_wait s n rest g.1.0 g.1.1.0 ∙ ap (λ (l : ℕ). Some (verbs.Poll s n l, codes "->" ∷ rest)) (sym (eqb-true least n d)))
+        | inr d ↦
+            let g = rw (e, d) at h in
+            rw (e, d) (poll_least s n least rest g.1.0 g.1.1.0 g.1.1.1.0)
+      ]
+    ]
+
+verb_again : (v : Verb) (rest : Words) → AllFit (verb_words v) → verb_at (words (verb_words v) ++ (codes "->" ∷ rest)) ≡ Some (v, codes "->" ∷ rest)
+unfolding verb_at object_at work_at reg_at qp_at post_at receive_at store_at load_at inject_at
+verb_again (verbs.AllocPd d) rest h = rw (domain_again d h.1.0) refl
+verb_again (verbs.DeallocPd d) rest h = rw (domain_again d h.1.0) refl
+verb_again (verbs.RegMr s b o n r) rest h = rw (slot_again s h.1.0, u16 b h.1.1.0, u32 o h.1.1.1.0, u32 n h.1.1.1.1.0, rights_again r) refl
+verb_again (verbs.AllocMr s n) rest h = rw (slot_again s h.1.0, u16 n h.1.1.0) refl
+verb_again (verbs.DeregMr s) rest h = rw (slot_again s h.1.0) refl
+verb_again (verbs.AllocMw s n) rest h = rw (slot_again s h.1.0, u8 n h.1.1.0) refl
+verb_again (verbs.DeallocMw s) rest h = rw (slot_again s h.1.0) refl
+verb_again (verbs.CreateCq s n) rest h = rw (slot_again s h.1.0, u16 n h.1.1.0) refl
+verb_again (verbs.DestroyCq s) rest h = rw (slot_again s h.1.0) refl
+verb_again (verbs.CreateSrq s n) rest h = rw (slot_again s h.1.0, u16 n h.1.1.0) refl
+verb_again (verbs.DestroySrq s) rest h = rw (slot_again s h.1.0) refl
+verb_again (verbs.CreateQp s a b c d srq) rest h = rw (slot_again s h.1.0, u16 a h.1.1.0, u16 b h.1.1.1.0, u16 c h.1.1.1.1.0, u16 d h.1.1.1.1.1.0, perhaps_number_again 65535 srq (omega arith) h.1.1.1.1.1.1.0) refl
+verb_again (verbs.QueryQp s) rest h = rw (slot_again s h.1.0) refl
+verb_again (verbs.DestroyQp s) rest h = rw (slot_again s h.1.0) refl
+verb_again (verbs.PostRecv s r) rest h = rw (slot_again s h.1.0, u64 r.id h.1.1.0, pieces_again r.list.items h.1.1.1.0.0 h.1.1.1.0.1) refl
+verb_again (verbs.PostSrq s r) rest h = rw (slot_again s h.1.0, u64 r.id h.1.1.0, pieces_again r.list.items h.1.1.1.0.0 h.1.1.1.0.1) refl
+verb_again (verbs.Store a b o bs) rest h = rw (place_again 65535 a b h.1.0.0 h.1.0.1 (omega arith), u32 o h.1.1.0, hex_again bs h.1.1.1.0) refl
+verb_again (verbs.Load a b o n) rest h = rw (place_again 65535 a b h.1.0.0 h.1.0.1 (omega arith), u32 o h.1.1.0, u32 n h.1.1.1.0) refl
+verb_again (verbs.Inject q bs) rest h = rw (queue_again q h.1.0, hex_again bs h.1.1.0) refl
+verb_again (verbs.ModifyQp s change) rest h = change_again s change (codes "->" ∷ rest) h
+verb_again (verbs.Poll s n least) rest h = poll_again s n least rest h
+verb_again (verbs.PostSend s r) rest h =
+    let flags = flags_again r.signalled r.fence r.solicited in
+    rw (slot_again s h.1.0, u64 r.id h.1.1.0, operation_again r.op (codes "->" ∷ rest) h.1.1.1.1, flags.0, flags.1, flags.2) refl
+
+-- the words of what the line of a call tells of its answer, behind the arrow
+abbrev tail_words : Told → List Field
+tail_words (told.Whole answer) = answer_words answer
+tail_words (told.Polled n) = Fixed (codes "polled") ∷ Number w8 n ∷ []
+
+arrow_first : (t : Told) → answer_line_words t ≡ Fixed (codes "->") ∷ tail_words t
+arrow_first (told.Whole answer) = refl
+arrow_first (told.Polled n) = refl
+
+answer_again : (t : Told) → IsTold t → AllFit (tail_words t) → answer_at (words (tail_words t)) ≡ Some (t, [])
+unfolding answer_at state_at
+answer_again (told.Whole answers.Fine) g h = refl
+answer_again (told.Whole (answers.Key k)) g h = rw (key_again k h.1.0) refl
+answer_again (told.Whole (answers.Queue n i)) g h = rw (u32 n h.1.0, u32 i h.1.1.0) refl
+answer_again (told.Whole (answers.Posted k)) g h = rw (perhaps_key_again k h.1.0) refl
+answer_again (told.Whole (answers.Query s i a b)) g h = rw (state_again s, u32 i h.1.1.0, u16 a h.1.1.1.0, u16 b h.1.1.1.1.0) refl
+answer_again (told.Whole (answers.Loaded bs)) g h = rw (hex_again bs h.1.0) refl
+answer_again (told.Whole (answers.Refused r)) g h = rw (refusal_again r) refl
+answer_again (told.Whole (answers.Polled completions)) g h = absurd g
+answer_again (told.Polled n) g h = rw (u8 n h.1.0, le-leb n 16 g) refl
+
+completion_again : (c : Completion) (rest : Words) → AllFit (completion_words c) → completion_at (words (completion_words c) ++ rest) ≡ Some (c, rest)
+unfolding completion_at
+completion_again c rest h = rw (queue_again c.queue h.0, side_again c.receive, u64 c.place h.1.1.0, u64 c.id h.1.1.1.0, wc_op_again c.op, status_again c.status, u32 c.bytes h.1.1.1.1.1.1.0, perhaps_number_again 4294967295 c.imm (omega arith) h.1.1.1.1.1.1.1.0, perhaps_key_again c.invalidated h.1.1.1.1.1.1.1.1.0) refl
+
+verdict_again : (v : Verdict) → AllFit (verdict_words v) → verdict_at (words (verdict_words v)) ≡ Some (v, [])
+unfolding verdict_at
+verdict_again (verdicts.Read bs) h = rw (hex_again bs h.1.0) refl
+verdict_again (verdicts.Wrote bs) h = rw (hex_again bs h.1.0) refl
+verdict_again (verdicts.Swapped a b) h = rw (u64 a h.1.0, u64 b h.1.1.1.0) refl
+verdict_again (verdicts.Denied d) h = rw (denial_again d) refl
+
+all_front : (fs gs : List Field) → AllFit (fs ++ gs) → AllFit fs
+all_front [] gs h = tt
+all_front (f ∷ fs) gs h = (h.0, all_front fs gs h.1)
+
+all_back : (fs gs : List Field) → AllFit (fs ++ gs) → AllFit gs
+all_back [] gs h = h
+all_back (f ∷ fs) gs h = all_back fs gs h.1
+
+pub words_append : (fs gs : List Field) → words (fs ++ gs) ≡ words fs ++ words gs
+words_append [] gs = refl
+words_append (f ∷ fs) gs = ap (λ (ws : Words). word f ∷ ws) (words_append fs gs)
+
+-- the line of a mark, behind its empty first word
+mark_again : (m : Mark) → IsPlain m → AllFit (mark_words m) → inner_at (words (mark_words m)) ≡ Some (lines.Mark m)
+unfolding inner_at mark_at granted_at remote_at local_mark_at stored_at sent_at done_at passing_at
+mark_again (marks.Verb by verb answer) g h = absurd g
+mark_again (marks.Granted x) g h = rw (domain_again x.domain h.1.0, key_again x.key h.1.1.0, object_again x.local, queues_again x.queue h.1.1.1.1.0, address_again x.address h.1.1.1.1.1.0, u32 x.length h.1.1.1.1.1.1.0, rights_again x.rights, runs_again x.runs h.1.1.1.1.1.1.1.1.0) refl
+mark_again (marks.Revoked a k) g h = rw (u8 a h.1.0, key_again k h.1.1.0) refl
+mark_again (marks.Remote q d i k kind at n v) g h = rw (queue_again q h.1.0, domain_again d h.1.1.0, perhaps_number_again 18446744073709551615 i (omega arith) h.1.1.1.0, key_again k h.1.1.1.1.0, kind_again kind, address_again at h.1.1.1.1.1.1.0, u32 n h.1.1.1.1.1.1.1.0, verdict_again v h.1.1.1.1.1.1.1.1) refl
+mark_again (marks.Local q d k kind at n v) g h = rw (queue_again q h.1.0, domain_again d h.1.1.0, key_again k h.1.1.1.0, kind_again kind, address_again at h.1.1.1.1.1.0, u32 n h.1.1.1.1.1.1.0, verdict_again v h.1.1.1.1.1.1.1) refl
+mark_again (marks.Stored p bs) g h = rw (place_again 65535 p.adapter p.buffer h.1.0.0 h.1.0.1 (omega arith), u32 p.offset h.1.1.0, hex_again bs h.1.1.1.0) refl
+mark_again (marks.Sent a b i r bs) g h = rw (queue_again a h.1.0, queue_again b h.1.1.0, perhaps_number_again 18446744073709551615 i (omega arith) h.1.1.1.0, perhaps_number_again 18446744073709551615 r (omega arith) h.1.1.1.1.0, hex_again bs h.1.1.1.1.1.0) refl
+mark_again (marks.Lost q i) g h = rw (queue_again q h.1.0, perhaps_number_again 18446744073709551615 i (omega arith) h.1.1.0) refl
+mark_again (marks.Arrived q i) g h = rw (queue_again q h.1.0, perhaps_number_again 18446744073709551615 i (omega arith) h.1.1.0) refl
+mark_again (marks.Dropped q c) g h = rw (queue_again q h.1.0, drop_again c) refl
+mark_again (marks.Timer q s) g h = rw (queue_again q h.1.0, alarm_again s) refl
+mark_again (marks.Done q c cause) g h =
+    let fits = all_front (completion_words c) (OfCause cause ∷ []) h.1 in
+    rw (completion_again c (perhaps op_refusal_text cause ∷ []) fits, perhaps_cause_again cause) (ap (λ (p : QueueId). Some (lines.Mark (marks.Done p c cause))) g)
+
+got_again : (c : Completion) → AllFit (got_words c) → inner_at (words (got_words c)) ≡ Some (lines.Got c)
+unfolding inner_at
+got_again c h = rw (completion_again c [] h.1) refl
+
+turn_line : (stamp pass : ℕ) (event : Event) → IsTurn event → stamp ≤ 18446744073709551615 → pass ≤ 4294967295 → AllFit (event_words event) → head_at (words (Lettered 64 w64 stamp ∷ Lettered 112 w32 pass ∷ event_words event)) ≡ Some (lines.Turn stamp pass event)
+unfolding head_at turn_at
+turn_line stamp pass (events.Verb by verb) g a b h = absurd g
+turn_line stamp pass (events.Request q l) g a b h = rw (lettered_again 18446744073709551615 64 stamp a (omega arith), lettered_again 4294967295 112 pass b (omega arith), queue_again q h.1.0, lot_again l h.1.1.0) refl
+turn_line stamp pass (events.Deliver q i) g a b h = rw (lettered_again 18446744073709551615 64 stamp a (omega arith), lettered_again 4294967295 112 pass b (omega arith), queue_again q h.1.0, u64 i h.1.1.0) refl
+turn_line stamp pass (events.Respond q l) g a b h = rw (lettered_again 18446744073709551615 64 stamp a (omega arith), lettered_again 4294967295 112 pass b (omega arith), queue_again q h.1.0, lot_again l h.1.1.0) refl
+turn_line stamp pass (events.RnrWake q) g a b h = rw (lettered_again 18446744073709551615 64 stamp a (omega arith), lettered_again 4294967295 112 pass b (omega arith), queue_again q h.1.0) refl
+turn_line stamp pass (events.Timeout q true) g a b h = rw (lettered_again 18446744073709551615 64 stamp a (omega arith), lettered_again 4294967295 112 pass b (omega arith), queue_again q h.1.0, alarm_again false) refl
+turn_line stamp pass (events.Timeout q false) g a b h = rw (lettered_again 18446744073709551615 64 stamp a (omega arith), lettered_again 4294967295 112 pass b (omega arith), queue_again q h.1.0, alarm_again true) refl
+
+call_line : (stamp pass by : ℕ) (v : Verb) (t : Told) → IsTold t → AllFit (line_words (lines.Call stamp pass by v t)) → head_at (words (line_words (lines.Call stamp pass by v t))) ≡ Some (lines.Call stamp pass by v t)
+unfolding head_at
+call_line stamp pass by v t g h =
+    let verb_fits = all_front (verb_words v) (answer_line_words t) h.1.1.1 in
+    let tail_fits = rw (arrow_first t) at (all_back (verb_words v) (answer_line_words t) h.1.1.1) in
+    let apart : words (verb_words v ++ answer_line_words t) ≡ words (verb_words v) ++ (codes "->" ∷ words (tail_words t)) = words_append (verb_words v) (answer_line_words t) ∙ ap (λ (fs : List Field). words (verb_words v) ++ words fs) (arrow_first t) in
+    rw (lettered_again 18446744073709551615 64 stamp h.0.1 (omega arith), lettered_again 4294967295 112 pass h.1.0.1 (omega arith), lettered_again 4294967295 99 by h.1.1.0.1 (omega arith), apart, verb_again v (words (tail_words t)) verb_fits, answer_again t g tail_fits.1) refl
+
+-- the words of a line are read as what it says
+line_again : (l : Line) → LineFits l → line_at (words (line_words l)) ≡ Some l
+unfolding line_at
+line_again (lines.Turn stamp pass event) h = turn_line stamp pass event h.0 h.1.0.1 h.1.1.0.1 h.1.1.1
+line_again (lines.Call stamp pass by v t) h = call_line stamp pass by v t h.0 h.1
+line_again (lines.Got c) h = got_again c h.1.1
+line_again (lines.Mark m) h = mark_again m h.0 h.1.1
+line_again (lines.End n) h = rw (u64 n h.1.1.0) refl
+
+fields_lack : (separator : ℕ) (fs : List Field) → separator ≤ 32 → AllFit fs → all_lack separator (words fs) ≡ true
+fields_lack separator [] low h = refl
+fields_lack separator (f ∷ fs) low h = rw (plain_lacks separator (word f) low (field_plain f h.0)) (fields_lack separator fs low h.1)
+
+cut_again : (f : Field) (fs : List Field) → AllFit (f ∷ fs) → pieces 32 (joined 32 (words (f ∷ fs))) ≡ words (f ∷ fs)
+cut_again f fs h = pieces_joined 32 (word f) (words fs) (plain_lacks 32 (word f) (omega arith) (field_plain f h.0)) (fields_lack 32 fs (omega arith) h.1)
+
+line_cut : (l : Line) → AllFit (line_words l) → pieces 32 (line_text l) ≡ words (line_words l)
+line_cut (lines.Turn stamp pass event) h = cut_again (Lettered 64 w64 stamp) (Lettered 112 w32 pass ∷ event_words event) h
+line_cut (lines.Call stamp pass by v t) h = cut_again (Lettered 64 w64 stamp) (Lettered 112 w32 pass ∷ (call_words by v ++ answer_line_words t)) h
+line_cut (lines.Got c) h = cut_again (Fixed []) (got_words c) h
+line_cut (lines.Mark m) h = cut_again (Fixed []) (mark_words m) h
+line_cut (lines.End n) h = cut_again (Fixed (codes "end")) (Number w64 n ∷ []) h
+
+-- a line is read as what it says
+pub line_read : (l : Line) → LineFits l → line_in (line_text l) ≡ Some l
+line_read l h = ap line_at (line_cut l h.1) ∙ line_again l h
+
+led_lacks : (ws : Words) → all_lack 10 ws ≡ true → lacks 10 (led 32 ws) ≡ true
+led_lacks [] h = refl
+led_lacks (w ∷ ws) h = let both = and_parts (lacks 10 w) (all_lack 10 ws) h in lacks_append 10 (32 ∷ w) (led 32 ws) both.0 (led_lacks ws both.1)
+
+joined_lacks : (ws : Words) → all_lack 10 ws ≡ true → lacks 10 (joined 32 ws) ≡ true
+joined_lacks [] h = refl
+joined_lacks (w ∷ ws) h = let both = and_parts (lacks 10 w) (all_lack 10 ws) h in lacks_append 10 w (led 32 ws) both.0 (led_lacks ws both.1)
+
+-- a line has no line feed
+pub line_lacks : (l : Line) → LineFits l → lacks 10 (line_text l) ≡ true
+line_lacks l h = joined_lacks (words (line_words l)) (fields_lack 10 (line_words l) (omega arith) h.1)

@@ -1,0 +1,34 @@
+-- Fits: which lines may stand in a trace, as the types of the program allow. Contracts cite it.
+use Rattle.std.specs.Prelude.{◌≤◌}
+use Rattle.ca_model.specs.declared.answer.Answer.TheVariants as answers
+use Rattle.ca_model.specs.History.{IsPlain}
+use Rattle.ca_trace.specs.declared.line.Line.{Line}
+use Rattle.ca_trace.specs.declared.line.Line.TheVariants as lines
+use Rattle.ca_trace.specs.declared.line.Told.{Told}
+use Rattle.ca_trace.specs.declared.line.Told.TheVariants as told
+use Rattle.ca_trace.specs.Lines.{line_words}
+use Rattle.ca_reading_words.specs.Fits.{AllFit}
+use Rattle.ca_model.specs.declared.event.Event.{Event}
+use Rattle.ca_model.specs.declared.event.Event.TheVariants as events
+
+-- an answer that stands whole on its line, or completions of which there are no more than a poll gives
+abbrev pub IsTold : Told → Type 0
+IsTold (told.Whole (answers.Polled completions)) = ⊥
+IsTold (told.Whole answer) = Unit {0}
+IsTold (told.Polled n) = n ≤ 16
+
+-- an event that is no verb's
+abbrev pub IsTurn : Event → Type 0
+IsTurn (events.Verb by verb) = ⊥
+IsTurn event = Unit {0}
+
+-- the shape of a line: a poll's completions have lines of their own, and an answer is no mark's line
+abbrev pub IsShaped : Line → Type 0
+IsShaped (lines.Turn stamp pass event) = IsTurn event
+IsShaped (lines.Call stamp pass by verb answer) = IsTold answer
+IsShaped (lines.Mark m) = IsPlain m
+IsShaped line = Unit {0}
+
+-- a line that may stand in a trace
+abbrev pub LineFits : Line → Type 0
+LineFits l = IsShaped l × AllFit (line_words l)

@@ -1,0 +1,81 @@
+ghost use Rattle.std.specs.Prelude.{◌≡◌};
+ghost use Rattle.ca_reading_words.specs.Words.{Reads, GivesAs};
+ghost use Rattle.ca_reading_lines.specs.Reading as reading;
+
+use ca_base::Change;
+use ca_model::Verb;
+use ca_reading_fields::{take_queue, take_slot, take_u8, take_u16, take_u32};
+use ca_reading_words::{Pieces, Stop};
+
+/// A change to Ready to Receive.
+#[tactic(auto, unfolding(crate::specs::Reading::rtr_at))]
+fn rtr_at(words: &mut Pieces) -> Result<Verb, Stop>
+    ensures { Reads (λ x. x) result words.new (reading.rtr_at words.old) }
+{
+    let slot = take_slot(words)?;
+    let peer = take_queue(words)?;
+    let incarnation = take_u32(words)?;
+    let psn = take_u32(words)?;
+    let mtu = take_u16(words)?;
+    let rnr_code = take_u8(words)?;
+    let change = Change::Rtr {
+        peer,
+        incarnation,
+        psn,
+        mtu,
+        rnr_code,
+    };
+    Ok(Verb::ModifyQp { slot, change })
+}
+
+/// A change to Ready to Send.
+#[tactic(auto, unfolding(crate::specs::Reading::rts_at))]
+fn rts_at(words: &mut Pieces) -> Result<Verb, Stop>
+    ensures { Reads (λ x. x) result words.new (reading.rts_at words.old) }
+{
+    let slot = take_slot(words)?;
+    let psn = take_u32(words)?;
+    let retry = take_u8(words)?;
+    let rnr_retry = take_u8(words)?;
+    let reads = take_u8(words)?;
+    let change = Change::Rts {
+        psn,
+        retry,
+        rnr_retry,
+        reads,
+    };
+    Ok(Verb::ModifyQp { slot, change })
+}
+
+/// A change that names nothing else.
+#[tactic(auto, unfolding(crate::specs::Reading::plain_change_at))]
+fn plain_change_at(change: Change, words: &mut Pieces) -> Result<Verb, Stop>
+    ensures { Reads (λ x. x) result words.new (reading.plain_change_at change words.old) }
+{
+    let slot = take_slot(words)?;
+    Ok(Verb::ModifyQp { slot, change })
+}
+
+/// A change of a queue pair's state, by its name.
+#[tactic(auto, unfolding(crate::specs::Reading::change_at))]
+pub fn change_at(name: &[u8], words: &mut Pieces) -> Result<Verb, Stop>
+    ensures { Reads (λ x. x) result words.new (reading.change_at name.now words.old) }
+{
+    if name == b"rtr".as_slice() {
+        rtr_at(words)
+    } else if name == b"rts".as_slice() {
+        rts_at(words)
+    } else if name == b"reset".as_slice() {
+        plain_change_at(Change::Reset, words)
+    } else if name == b"init".as_slice() {
+        plain_change_at(Change::Init, words)
+    } else if name == b"sqd".as_slice() {
+        plain_change_at(Change::Sqd, words)
+    } else if name == b"resume".as_slice() {
+        plain_change_at(Change::Resume, words)
+    } else if name == b"error".as_slice() {
+        plain_change_at(Change::Error, words)
+    } else {
+        Err(Stop::Outside)
+    }
+}

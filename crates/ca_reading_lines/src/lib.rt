@@ -1,0 +1,15 @@
+//! The lines of a trace, read: each kind of line by the table that it prints by.
+//!
+//! To the layer above it promises that a line is read exactly where it is one that prints so, unless memory runs out.
+//!
+//! Source: this profile's choice, as the text of a history is.
+#![tactic(auto)]
+
+mod answer;
+mod change;
+mod line;
+mod mark;
+mod operation;
+mod verb;
+
+pub use line::read_line;

@@ -1,0 +1,164 @@
+ghost use Rattle.std.specs.Prelude.{◌≡◌, ◌≢◌, IfOk, IfErr};
+ghost use Rattle.std.specs.Str.{bytes_eq};
+ghost use Rattle.ca_reading_words.specs.Words.{Gives};
+ghost use Rattle.ca_reading_words.specs.declared.stop.Stop.TheVariants as stops;
+ghost use Rattle.ca_trace.specs.Lines.{line_text};
+ghost use Rattle.ca_reading_lines.specs.Fits.{LineFits};
+ghost use Rattle.ca_reading_lines.specs.Reading as reading;
+ghost use Rattle.ca_trace.specs.declared.line.Line as kinds;
+ghost use Rattle.ca_reading_lines.specs.Calls as calls;
+
+use crate::answer::{answer_at, completion_at};
+use crate::mark::mark_at;
+use crate::verb::verb_at;
+use ca_model::Event;
+use ca_reading_fields::{
+    take_alarm, take_lettered_u32, take_lettered_u64, take_lot, take_queue, take_u64,
+};
+use ca_reading_words::{Pieces, Stop, lettered_u32_in};
+use ca_trace::{Line, print_line};
+use std::alloc::Global;
+
+/// A turn, by its name.
+#[tactic(auto, unfolding(crate::specs::Reading::turn_at))]
+fn turn_at(name: &[u8], words: &mut Pieces) -> Result<Event, Stop>
+    ensures { Gives result (reading.turn_at name.now words.old) }
+{
+    if name == b"request".as_slice() {
+        let queue = take_queue(words)?;
+        let lot = take_lot(words)?;
+        Ok(Event::Request { queue, lot })
+    } else if name == b"respond".as_slice() {
+        let queue = take_queue(words)?;
+        let lot = take_lot(words)?;
+        Ok(Event::Respond { queue, lot })
+    } else if name == b"deliver".as_slice() {
+        let queue = take_queue(words)?;
+        let index = take_u64(words)?;
+        Ok(Event::Deliver { queue, index })
+    } else if name == b"timeout".as_slice() {
+        let queue = take_queue(words)?;
+        let silent = take_alarm(words)?;
+        Ok(Event::Timeout {
+            queue,
+            hasten: !silent,
+        })
+    } else if name == b"wake".as_slice() {
+        let queue = take_queue(words)?;
+        Ok(Event::RnrWake { queue })
+    } else {
+        Err(Stop::Outside)
+    }
+}
+
+/// Whether a word names a consumer.
+fn is_consumer(word: &[u8]) -> bool
+    ensures { result ≡ reading.is_consumer word.now }
+{
+    match word {
+        [] => false,
+        [first, ..] => *first == b'c',
+    }
+}
+
+/// The line of a call, behind its stamp and its pass.
+#[tactic(auto, unfolding(crate::specs::Calls::call_at))]
+fn call_at(
+    alloc: Global,
+    stamp: u64,
+    pass: u32,
+    name: &[u8],
+    words: &mut Pieces,
+) -> Result<Line, Stop>
+    ensures { Gives result (calls.call_at stamp pass name.now words.old) }
+{
+    let by = lettered_u32_in(name)?;
+    let verb = verb_at(alloc, words)?;
+    let _ = words.take_word()?;
+    let told = answer_at(alloc, words)?;
+    Ok(Line::Call {
+        stamp,
+        pass,
+        by,
+        verb,
+        told,
+    })
+}
+
+/// The first line of an entry.
+#[tactic(auto, unfolding(crate::specs::Reading::head_at, crate::specs::Calls::call_at))]
+fn head_at(alloc: Global, words: &mut Pieces) -> Result<Line, Stop>
+    ensures { Gives result (reading.head_at words.old) }
+{
+    let stamp = take_lettered_u64(words)?;
+    let pass = take_lettered_u32(words)?;
+    let name = words.take_word()?;
+    if is_consumer(name) {
+        return call_at(alloc, stamp, pass, name, words);
+    }
+    let event = turn_at(name, words)?;
+    Ok(Line::Turn { stamp, pass, event })
+}
+
+/// A line behind an empty first word.
+#[tactic(auto, unfolding(crate::specs::Reading::inner_at))]
+fn inner_at(alloc: Global, words: &mut Pieces) -> Result<Line, Stop>
+    ensures { Gives result (reading.inner_at words.old) }
+{
+    let name = words.take_word()?;
+    if name == b"got".as_slice() {
+        return Ok(Line::Got(completion_at(words)?));
+    }
+    Ok(Line::Mark(mark_at(alloc, name, words)?))
+}
+
+/// A line.
+#[tactic(auto, unfolding(crate::specs::Reading::line_at))]
+fn line_at(alloc: Global, words: &mut Pieces) -> Result<Line, Stop>
+    ensures { Gives result (reading.line_at words.old) }
+{
+    let first = words.first_word()?;
+    if first == b"".as_slice() {
+        let _ = words.take_word()?;
+        return inner_at(alloc, words);
+    }
+    if first == b"end".as_slice() {
+        let _ = words.take_word()?;
+        return Ok(Line::End(take_u64(words)?));
+    }
+    head_at(alloc, words)
+}
+
+/// Whether a line prints as this text.
+fn prints_as(alloc: Global, line: &Line, text: &[u8]) -> Result<bool, Stop>
+    ensures same { IfOk result (λ same. same ≡ bytes_eq (line_text line.now) text.now) }
+    ensures memory { IfErr result (λ stop. stop ≡ stops.Memory) }
+{
+    let mut printed = Vec::new(alloc);
+    print_line(line, &mut printed)?;
+    Ok(printed.as_slice() == text)
+}
+
+/// The line that prints as this text.
+#[tactic(auto, unfolding(crate::specs::Calls::exact_in))]
+fn exact_line(alloc: Global, text: &[u8]) -> Result<Line, Stop>
+    ensures exact { Gives result (calls.exact_in text.now) }
+    ensures found { IfOk result (λ line. text.now ≡ line_text line) }
+{
+    let mut words = Pieces::of(b' ', text);
+    let line = line_at(alloc, &mut words)?;
+    match prints_as(alloc, &line, text) {
+        Ok(true) => Ok(line),
+        Ok(false) => Err(Stop::Outside),
+        Err(stop) => Err(stop),
+    }
+}
+
+/// The line that prints as this text. `Outside` comes exactly where no line that may stand in a trace does.
+pub fn read_line(alloc: Global, text: &[u8]) -> Result<Line, Stop>
+    ensures exact { Gives result (calls.exact_in text.now) }
+    ensures found { IfOk result (λ line. text.now ≡ line_text line) }
+    ensures outside { IfErr result (λ stop. stop ≡ stops.Outside → (line : kinds.Line) → LineFits line → text.now ≢ line_text line) }
+{
+    exact_line(alloc, text)
+}

@@ -1,0 +1,189 @@
+ghost use Rattle.std.specs.Prelude.{◌≡◌};
+ghost use Rattle.ca_reading_words.specs.Words.{Gives};
+ghost use Rattle.ca_reading_lines.specs.Reading as reading;
+
+use crate::answer::{completion_at, verdict_at};
+use ca_base::{Grant, Place};
+use ca_model::Mark;
+use ca_reading_fields::{
+    take_address, take_alarm, take_buffer, take_domain, take_drop, take_hex, take_key, take_kind,
+    take_object, take_perhaps_cause, take_perhaps_u64, take_queue, take_queues, take_rights,
+    take_runs, take_u8, take_u32,
+};
+use ca_reading_words::{Pieces, Stop};
+use std::alloc::Global;
+
+/// A key that came into force.
+#[tactic(auto, unfolding(crate::specs::Reading::granted_at))]
+fn granted_at(alloc: Global, words: &mut Pieces) -> Result<Mark, Stop>
+    ensures { Gives result (reading.granted_at words.old) }
+{
+    let domain = take_domain(words)?;
+    let key = take_key(words)?;
+    let local = take_object(words)?;
+    let queue = take_queues(words)?;
+    let address = take_address(words)?;
+    let length = take_u32(words)?;
+    let rights = take_rights(words)?;
+    let runs = take_runs(alloc, words)?;
+    Ok(Mark::Granted(Grant {
+        key,
+        domain,
+        queue,
+        local,
+        address,
+        length,
+        rights,
+        runs,
+    }))
+}
+
+/// A packet's access.
+#[tactic(auto, unfolding(crate::specs::Reading::remote_at))]
+fn remote_at(alloc: Global, words: &mut Pieces) -> Result<Mark, Stop>
+    ensures { Gives result (reading.remote_at words.old) }
+{
+    let queue = take_queue(words)?;
+    let domain = take_domain(words)?;
+    let envelope = take_perhaps_u64(words)?;
+    let key = take_key(words)?;
+    let kind = take_kind(words)?;
+    let address = take_address(words)?;
+    let length = take_u32(words)?;
+    let verdict = verdict_at(alloc, words)?;
+    Ok(Mark::Remote {
+        queue,
+        domain,
+        envelope,
+        key,
+        kind,
+        address,
+        length,
+        verdict,
+    })
+}
+
+/// A request's access to its own list.
+#[tactic(auto, unfolding(crate::specs::Reading::local_mark_at))]
+fn local_mark_at(alloc: Global, words: &mut Pieces) -> Result<Mark, Stop>
+    ensures { Gives result (reading.local_mark_at words.old) }
+{
+    let queue = take_queue(words)?;
+    let domain = take_domain(words)?;
+    let key = take_key(words)?;
+    let kind = take_kind(words)?;
+    let address = take_address(words)?;
+    let length = take_u32(words)?;
+    let verdict = verdict_at(alloc, words)?;
+    Ok(Mark::Local {
+        queue,
+        domain,
+        key,
+        kind,
+        address,
+        length,
+        verdict,
+    })
+}
+
+/// A write of the host.
+#[tactic(auto, unfolding(crate::specs::Reading::stored_at))]
+fn stored_at(alloc: Global, words: &mut Pieces) -> Result<Mark, Stop>
+    ensures { Gives result (reading.stored_at words.old) }
+{
+    let (adapter, buffer) = take_buffer(words)?;
+    let offset = take_u32(words)?;
+    let bytes = take_hex(alloc, words)?;
+    let place = Place {
+        adapter,
+        buffer,
+        offset,
+    };
+    Ok(Mark::Stored { place, bytes })
+}
+
+/// A packet that was sent.
+#[tactic(auto, unfolding(crate::specs::Reading::sent_at))]
+fn sent_at(alloc: Global, words: &mut Pieces) -> Result<Mark, Stop>
+    ensures { Gives result (reading.sent_at words.old) }
+{
+    let source = take_queue(words)?;
+    let target = take_queue(words)?;
+    let index = take_perhaps_u64(words)?;
+    let request = take_perhaps_u64(words)?;
+    let bytes = take_hex(alloc, words)?;
+    Ok(Mark::Sent {
+        source,
+        target,
+        index,
+        request,
+        bytes,
+    })
+}
+
+/// A completion that was put, with why its operation was refused.
+#[tactic(auto, unfolding(crate::specs::Reading::done_at))]
+fn done_at(words: &mut Pieces) -> Result<Mark, Stop>
+    ensures { Gives result (reading.done_at words.old) }
+{
+    let completion = completion_at(words)?;
+    let cause = take_perhaps_cause(words)?;
+    let queue = completion.queue;
+    Ok(Mark::Done {
+        queue,
+        completion,
+        cause,
+    })
+}
+
+/// A mark of a packet or of a timer, by its name.
+#[tactic(auto, unfolding(crate::specs::Reading::passing_at))]
+fn passing_at(name: &[u8], words: &mut Pieces) -> Result<Mark, Stop>
+    ensures { Gives result (reading.passing_at name.now words.old) }
+{
+    if name == b"lost".as_slice() {
+        let target = take_queue(words)?;
+        let index = take_perhaps_u64(words)?;
+        Ok(Mark::Lost { target, index })
+    } else if name == b"arrived".as_slice() {
+        let target = take_queue(words)?;
+        let index = take_perhaps_u64(words)?;
+        Ok(Mark::Arrived { target, index })
+    } else if name == b"dropped".as_slice() {
+        let target = take_queue(words)?;
+        let cause = take_drop(words)?;
+        Ok(Mark::Dropped { target, cause })
+    } else if name == b"timer".as_slice() {
+        let queue = take_queue(words)?;
+        let silent = take_alarm(words)?;
+        Ok(Mark::Timer { queue, silent })
+    } else {
+        Err(Stop::Outside)
+    }
+}
+
+/// A mark that is no answer, by its name.
+#[tactic(auto, unfolding(crate::specs::Reading::mark_at))]
+pub fn mark_at(alloc: Global, name: &[u8], words: &mut Pieces) -> Result<Mark, Stop>
+    ensures { Gives result (reading.mark_at name.now words.old) }
+{
+    if name == b"granted".as_slice() {
+        granted_at(alloc, words)
+    } else if name == b"revoked".as_slice() {
+        let adapter = take_u8(words)?;
+        let key = take_key(words)?;
+        Ok(Mark::Revoked { adapter, key })
+    } else if name == b"remote".as_slice() {
+        remote_at(alloc, words)
+    } else if name == b"local".as_slice() {
+        local_mark_at(alloc, words)
+    } else if name == b"stored".as_slice() {
+        stored_at(alloc, words)
+    } else if name == b"sent".as_slice() {
+        sent_at(alloc, words)
+    } else if name == b"done".as_slice() {
+        done_at(words)
+    } else {
+        passing_at(name, words)
+    }
+}

@@ -1,0 +1,254 @@
+ghost use Rattle.std.specs.Prelude.{◌≡◌};
+ghost use Rattle.ca_reading_words.specs.Words.{Reads, GivesAs};
+ghost use Rattle.ca_reading_lines.specs.Reading as reading;
+
+use crate::change::change_at;
+use crate::operation::operation_at;
+use ca_base::{RecvRequest, SendRequest, Slot};
+use ca_model::Verb;
+use ca_reading_fields::{
+    take_buffer, take_domain, take_hex, take_perhaps_u16, take_pieces, take_queue, take_rights,
+    take_slot, take_u8, take_u16, take_u32, take_u64,
+};
+use ca_reading_words::{Pieces, Stop, has};
+use std::alloc::Global;
+
+/// A registration of a memory region.
+#[tactic(auto, unfolding(crate::specs::Reading::reg_at))]
+fn reg_at(words: &mut Pieces) -> Result<Verb, Stop>
+    ensures { Reads (λ x. x) result words.new (reading.reg_at words.old) }
+{
+    let slot = take_slot(words)?;
+    let buffer = take_u16(words)?;
+    let offset = take_u32(words)?;
+    let length = take_u32(words)?;
+    let rights = take_rights(words)?;
+    Ok(Verb::RegMr {
+        slot,
+        buffer,
+        offset,
+        length,
+        rights,
+    })
+}
+
+/// The creation of a queue pair.
+#[tactic(auto, unfolding(crate::specs::Reading::qp_at))]
+fn qp_at(words: &mut Pieces) -> Result<Verb, Stop>
+    ensures { Reads (λ x. x) result words.new (reading.qp_at words.old) }
+{
+    let slot = take_slot(words)?;
+    let send_cq = take_u16(words)?;
+    let recv_cq = take_u16(words)?;
+    let send_depth = take_u16(words)?;
+    let recv_depth = take_u16(words)?;
+    let srq = take_perhaps_u16(words)?;
+    Ok(Verb::CreateQp {
+        slot,
+        send_cq,
+        recv_cq,
+        send_depth,
+        recv_depth,
+        srq,
+    })
+}
+
+/// A request of a send queue.
+#[tactic(auto, unfolding(crate::specs::Reading::post_at))]
+fn post_at(alloc: Global, words: &mut Pieces) -> Result<Verb, Stop>
+    ensures { Reads (λ x. x) result words.new (reading.post_at words.old) }
+{
+    let slot = take_slot(words)?;
+    let id = take_u64(words)?;
+    let flags = words.take_word()?;
+    let signalled = has(b's', flags);
+    let fence = has(b'f', flags);
+    let solicited = has(b'e', flags);
+    let op = operation_at(alloc, words)?;
+    let request = SendRequest {
+        id,
+        signalled,
+        fence,
+        solicited,
+        op,
+    };
+    Ok(Verb::PostSend { slot, request })
+}
+
+/// A request of a receive queue.
+#[tactic(auto, unfolding(crate::specs::Reading::receive_at))]
+fn receive_at(alloc: Global, words: &mut Pieces) -> Result<(Slot, RecvRequest), Stop>
+    ensures { Reads (λ x. x) result words.new (reading.receive_at words.old) }
+{
+    let slot = take_slot(words)?;
+    let id = take_u64(words)?;
+    let list = take_pieces(alloc, words)?;
+    Ok((slot, RecvRequest { id, list }))
+}
+
+/// The least number of completions that a poll waits for, where one stands before the answer.
+#[tactic(auto, unfolding(crate::specs::Reading::least_at))]
+fn least_at(words: &mut Pieces) -> Result<u8, Stop>
+    ensures { Reads (λ x. x) result words.new (reading.least_at words.old) }
+{
+    if words.first_word()? == b"->".as_slice() {
+        return Ok(0);
+    }
+    take_u8(words)
+}
+
+/// A poll.
+#[tactic(auto, unfolding(crate::specs::Reading::poll_at))]
+fn poll_at(words: &mut Pieces) -> Result<Verb, Stop>
+    ensures { Reads (λ x. x) result words.new (reading.poll_at words.old) }
+{
+    let slot = take_slot(words)?;
+    let n = take_u8(words)?;
+    let least = least_at(words)?;
+    Ok(Verb::Poll { slot, n, least })
+}
+
+/// A poll that waits for all that it takes.
+#[tactic(auto, unfolding(crate::specs::Reading::wait_at))]
+fn wait_at(words: &mut Pieces) -> Result<Verb, Stop>
+    ensures { Reads (λ x. x) result words.new (reading.wait_at words.old) }
+{
+    let slot = take_slot(words)?;
+    let n = take_u8(words)?;
+    Ok(Verb::Poll { slot, n, least: n })
+}
+
+/// A write of the host.
+#[tactic(auto, unfolding(crate::specs::Reading::store_at))]
+fn store_at(alloc: Global, words: &mut Pieces) -> Result<Verb, Stop>
+    ensures { Reads (λ x. x) result words.new (reading.store_at words.old) }
+{
+    let (adapter, buffer) = take_buffer(words)?;
+    let offset = take_u32(words)?;
+    let bytes = take_hex(alloc, words)?;
+    Ok(Verb::Store {
+        adapter,
+        buffer,
+        offset,
+        bytes,
+    })
+}
+
+/// A read of the host.
+#[tactic(auto, unfolding(crate::specs::Reading::load_at))]
+fn load_at(words: &mut Pieces) -> Result<Verb, Stop>
+    ensures { Reads (λ x. x) result words.new (reading.load_at words.old) }
+{
+    let (adapter, buffer) = take_buffer(words)?;
+    let offset = take_u32(words)?;
+    let length = take_u32(words)?;
+    Ok(Verb::Load {
+        adapter,
+        buffer,
+        offset,
+        length,
+    })
+}
+
+/// An injection.
+#[tactic(auto, unfolding(crate::specs::Reading::inject_at))]
+fn inject_at(alloc: Global, words: &mut Pieces) -> Result<Verb, Stop>
+    ensures { Reads (λ x. x) result words.new (reading.inject_at words.old) }
+{
+    let queue = take_queue(words)?;
+    let bytes = take_hex(alloc, words)?;
+    Ok(Verb::Inject { queue, bytes })
+}
+
+/// A request or an access of the host, by its name.
+#[tactic(auto, unfolding(crate::specs::Reading::work_at))]
+fn work_at(alloc: Global, name: &[u8], words: &mut Pieces) -> Result<Verb, Stop>
+    ensures { Reads (λ x. x) result words.new (reading.work_at name.now words.old) }
+{
+    if name == b"post".as_slice() {
+        post_at(alloc, words)
+    } else if name == b"recv".as_slice() {
+        let (slot, request) = receive_at(alloc, words)?;
+        Ok(Verb::PostRecv { slot, request })
+    } else if name == b"srecv".as_slice() {
+        let (slot, request) = receive_at(alloc, words)?;
+        Ok(Verb::PostSrq { slot, request })
+    } else if name == b"poll".as_slice() {
+        poll_at(words)
+    } else if name == b"wait".as_slice() {
+        wait_at(words)
+    } else if name == b"store".as_slice() {
+        store_at(alloc, words)
+    } else if name == b"load".as_slice() {
+        load_at(words)
+    } else if name == b"inject".as_slice() {
+        inject_at(alloc, words)
+    } else {
+        change_at(name, words)
+    }
+}
+
+/// A verb that names a domain alone or an object alone, by its name.
+#[tactic(auto, unfolding(crate::specs::Reading::object_at))]
+fn object_at(alloc: Global, name: &[u8], words: &mut Pieces) -> Result<Verb, Stop>
+    ensures { Reads (λ x. x) result words.new (reading.object_at name.now words.old) }
+{
+    if name == b"pd".as_slice() {
+        let domain = take_domain(words)?;
+        Ok(Verb::AllocPd { domain })
+    } else if name == b"unpd".as_slice() {
+        let domain = take_domain(words)?;
+        Ok(Verb::DeallocPd { domain })
+    } else if name == b"dereg".as_slice() {
+        let slot = take_slot(words)?;
+        Ok(Verb::DeregMr { slot })
+    } else if name == b"unmw".as_slice() {
+        let slot = take_slot(words)?;
+        Ok(Verb::DeallocMw { slot })
+    } else if name == b"uncq".as_slice() {
+        let slot = take_slot(words)?;
+        Ok(Verb::DestroyCq { slot })
+    } else if name == b"unsrq".as_slice() {
+        let slot = take_slot(words)?;
+        Ok(Verb::DestroySrq { slot })
+    } else if name == b"query".as_slice() {
+        let slot = take_slot(words)?;
+        Ok(Verb::QueryQp { slot })
+    } else if name == b"unqp".as_slice() {
+        let slot = take_slot(words)?;
+        Ok(Verb::DestroyQp { slot })
+    } else {
+        work_at(alloc, name, words)
+    }
+}
+
+/// A verb.
+#[tactic(auto, unfolding(crate::specs::Reading::verb_at))]
+pub fn verb_at(alloc: Global, words: &mut Pieces) -> Result<Verb, Stop>
+    ensures { Reads (λ x. x) result words.new (reading.verb_at words.old) }
+{
+    let name = words.take_word()?;
+    if name == b"reg".as_slice() {
+        reg_at(words)
+    } else if name == b"qp".as_slice() {
+        qp_at(words)
+    } else if name == b"mr".as_slice() {
+        let slot = take_slot(words)?;
+        let pages = take_u16(words)?;
+        Ok(Verb::AllocMr { slot, pages })
+    } else if name == b"mw".as_slice() {
+        let slot = take_slot(words)?;
+        let kind = take_u8(words)?;
+        Ok(Verb::AllocMw { slot, kind })
+    } else if name == b"cq".as_slice() {
+        let slot = take_slot(words)?;
+        let capacity = take_u16(words)?;
+        Ok(Verb::CreateCq { slot, capacity })
+    } else if name == b"srq".as_slice() {
+        let slot = take_slot(words)?;
+        let depth = take_u16(words)?;
+        Ok(Verb::CreateSrq { slot, depth })
+    } else {
+        object_at(alloc, name, words)
+    }
+}

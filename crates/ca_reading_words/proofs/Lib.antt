@@ -1,0 +1,5 @@
+pub mod PieceLemmas
+pub mod NumberLemmas
+pub mod WordLemmas
+pub mod CutLemmas
+pub mod ListLemmas

@@ -1,0 +1,155 @@
+ghost use Rattle.std.specs.Prelude.{◌≡◌, ◌≤◌, length};
+ghost use Rattle.ca_reading_words.specs.Words as words;
+ghost use Rattle.ca_reading_words.specs.Words.{Gives, GivesAs};
+
+use crate::id::{address_in, buffer_in, key_in};
+use crate::number::{u16_in, u32_in};
+use crate::pieces::Pieces;
+use crate::stop::Stop;
+use arrayvec::ArrayVec;
+use ca_base::{Bytes, Pages, Piece, Run, Runs};
+use hex::FromHexError;
+use std::alloc::Global;
+
+/// Bytes, of two hexadecimal digits each.
+#[tactic(auto, unfolding(crate::specs::Words::hex_in))]
+pub fn hex_in(alloc: Global, word: &[u8]) -> Result<Bytes, Stop>
+    ensures { Gives result (words.hex_in word.now) }
+{
+    if word == b"-".as_slice() {
+        return Ok(Bytes::empty(alloc));
+    }
+    match hex::decode(alloc, word) {
+        Ok(bytes) => Ok(Bytes::from(bytes)),
+        Err(FromHexError::OutOfMemory) => Err(Stop::Memory),
+        Err(_) => Err(Stop::Outside),
+    }
+}
+
+/// A piece of a request's list.
+#[tactic(auto, unfolding(crate::specs::Words::piece_in))]
+fn piece_in(word: &[u8]) -> Result<Piece, Stop>
+    ensures { Gives result (words.piece_in word.now) }
+{
+    let mut parts = Pieces::of(b':', word);
+    let key = key_in(parts.take_word()?)?;
+    let address = address_in(parts.take_word()?)?;
+    let length = u32_in(parts.take_word()?)?;
+    Ok(Piece {
+        address,
+        key,
+        length,
+    })
+}
+
+/// A run of a buffer.
+#[tactic(auto, unfolding(crate::specs::Words::run_in))]
+fn run_in(word: &[u8]) -> Result<Run, Stop>
+    ensures { Gives result (words.run_in word.now) }
+{
+    let mut parts = Pieces::of(b':', word);
+    let (adapter, buffer) = buffer_in(parts.take_word()?)?;
+    let mut numbers = Pieces::of(b'+', parts.take_word()?);
+    let offset = u32_in(numbers.take_word()?)?;
+    let length = u32_in(numbers.take_word()?)?;
+    Ok(Run {
+        adapter,
+        buffer,
+        offset,
+        length,
+    })
+}
+
+/// What each word of a list is read as.
+#[tactic(auto, using(crate::proofs::ListLemmas::reading))]
+fn all_pages(alloc: Global, mut parts: Pieces) -> Result<Vec<u16>, Stop>
+    ensures { GivesAs (λ list. list.items) result (words.all_in (words.number_in 65535) parts.entry) }
+{
+    let mut list = Vec::new(alloc);
+    while !parts.is_empty() {
+        let page = u16_in(parts.take_word()?)?;
+        list.push(page)?;
+    }
+    Ok(list)
+}
+
+/// What each word of a list is read as.
+#[tactic(auto, using(crate::proofs::ListLemmas::reading))]
+fn all_runs(alloc: Global, mut parts: Pieces) -> Result<Vec<Run>, Stop>
+    ensures { GivesAs (λ list. list.items) result (words.all_in words.run_in parts.entry) }
+{
+    let mut list = Vec::new(alloc);
+    while !parts.is_empty() {
+        let run = run_in(parts.take_word()?)?;
+        list.push(run)?;
+    }
+    Ok(list)
+}
+
+/// What each word of a list is read as.
+#[tactic(auto, using(crate::proofs::ListLemmas::reading))]
+fn all_pieces(alloc: Global, mut parts: Pieces) -> Result<Vec<Piece>, Stop>
+    ensures { GivesAs (λ list. list.items) result (words.all_in words.piece_in parts.entry) }
+{
+    let mut list = Vec::new(alloc);
+    while !parts.is_empty() {
+        let piece = piece_in(parts.take_word()?)?;
+        list.push(piece)?;
+    }
+    Ok(list)
+}
+
+/// Page numbers with commas between, or none.
+pub fn pages_in(alloc: Global, word: &[u8]) -> Result<Pages, Stop>
+    ensures { Gives result (words.list_in (words.number_in 65535) word.now) }
+{
+    if word == b"-".as_slice() {
+        return Ok(Pages::empty(alloc));
+    }
+    Ok(Pages::from(all_pages(alloc, Pieces::of(b',', word))?))
+}
+
+/// Runs with commas between, or none.
+pub fn runs_in(alloc: Global, word: &[u8]) -> Result<Runs, Stop>
+    ensures { Gives result (words.list_in words.run_in word.now) }
+{
+    if word == b"-".as_slice() {
+        return Ok(Runs::empty(alloc));
+    }
+    Ok(Runs::from(all_runs(alloc, Pieces::of(b',', word))?))
+}
+
+/// Pieces with commas between, or none.
+fn piece_list_in(alloc: Global, word: &[u8]) -> Result<Vec<Piece>, Stop>
+    ensures { GivesAs (λ list. list.items) result (words.list_in words.piece_in word.now) }
+{
+    if word == b"-".as_slice() {
+        return Ok(Vec::new(alloc));
+    }
+    all_pieces(alloc, Pieces::of(b',', word))
+}
+
+/// At most four pieces, as a list of a request holds them.
+fn four_of(list: &[Piece]) -> ArrayVec<Piece, 4>
+    requires { length list.now ≤ 4 }
+    ensures { result.items ≡ list.now }
+{
+    let mut pieces = ArrayVec::new();
+    for piece in list {
+        pieces.push(*piece);
+    }
+    pieces
+}
+
+/// The pieces of a request's list, of which there are at most four.
+#[tactic(auto, unfolding(crate::specs::Words::pieces_in))]
+pub fn pieces_in(alloc: Global, word: &[u8]) -> Result<ArrayVec<Piece, 4>, Stop>
+    ensures { GivesAs (λ list. list.items) result (words.pieces_in word.now) }
+{
+    let list = piece_list_in(alloc, word)?;
+    if list.len() <= 4 {
+        Ok(four_of(list.as_slice()))
+    } else {
+        Err(Stop::Outside)
+    }
+}

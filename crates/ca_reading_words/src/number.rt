@@ -1,0 +1,79 @@
+ghost use Rattle.std.specs.Prelude.{◌≡◌, ◌≤◌, ◌+◌, ◌*◌, nat_le, if◌then◌else◌, IfOk, Some, None};
+ghost use Rattle.std.specs.Char.{digit_value};
+ghost use Rattle.ca_reading_words.specs.Words as words;
+ghost use Rattle.ca_reading_words.specs.Words.{Gives};
+
+use crate::stop::Stop;
+
+/// The value of a digit, from 0 for `0` to 35 for `z`, and 36 for any other byte.
+fn digit(c: u8) -> u8
+    ensures { result ≡ digit_value c }
+{
+    if c < 48 {
+        36
+    } else if c < 58 {
+        c - 48
+    } else if c < 65 {
+        36
+    } else if c < 91 {
+        c - 55
+    } else if c < 97 {
+        36
+    } else if c < 123 {
+        c - 87
+    } else {
+        36
+    }
+}
+
+/// The number with one digit more, where it is at most `most`.
+fn appended(base: u64, most: u64, n: u64, digit: u8) -> Option<u64>
+    ensures { result ≡ (if nat_le (n * base + digit) most then Some (n * base + digit) else None) }
+{
+    let next = n.checked_mul(base)?.checked_add(u64::from(digit))?;
+    if next <= most { Some(next) } else { None }
+}
+
+/// The number that digits of a base write, where it is at most `most`. A byte that is no digit counts too.
+#[tactic(auto, unfolding(crate::specs::Words::value_in))]
+pub fn value_in(base: u64, most: u64, word: &[u8]) -> Result<u64, Stop>
+    ensures value { Gives result (words.value_in base most word.now) }
+    ensures most { IfOk result (λ n. n ≤ most) }
+{
+    let mut n: u64 = 0;
+    for c in word {
+        match appended(base, most, n, digit(*c)) {
+            Some(next) => n = next,
+            None => return Err(Stop::Outside),
+        }
+    }
+    Ok(n)
+}
+
+/// A number of 64 bits.
+pub fn u64_in(word: &[u8]) -> Result<u64, Stop>
+    ensures { Gives result (words.number_in 18446744073709551615 word.now) }
+{
+    value_in(10, u64::MAX, word)
+}
+
+/// A number of 32 bits.
+pub fn u32_in(word: &[u8]) -> Result<u32, Stop>
+    ensures { Gives result (words.number_in 4294967295 word.now) }
+{
+    Ok(value_in(10, 0xFFFF_FFFF, word)? as u32)
+}
+
+/// A number of 16 bits.
+pub fn u16_in(word: &[u8]) -> Result<u16, Stop>
+    ensures { Gives result (words.number_in 65535 word.now) }
+{
+    Ok(value_in(10, 0xFFFF, word)? as u16)
+}
+
+/// A number of 8 bits.
+pub fn u8_in(word: &[u8]) -> Result<u8, Stop>
+    ensures { Gives result (words.number_in 255 word.now) }
+{
+    Ok(value_in(10, 0xFF, word)? as u8)
+}

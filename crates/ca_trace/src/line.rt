@@ -1,0 +1,105 @@
+ghost use Rattle.std.specs.Prelude.{◌≡◌, ◌++◌, OnOk, OnErr};
+ghost use Rattle.ca_trace.specs.Words.{led, words};
+ghost use Rattle.ca_trace.specs.Lines.{answer_line_words, line_text};
+
+use crate::answer::{put_answer, put_completion};
+use crate::entry::put_event;
+use crate::mark::put_mark;
+use crate::text::Text;
+use crate::verb::put_call;
+use ca_base::{Completion, Memory};
+use ca_model::{Answer, Event, Mark, Verb};
+use std::mem;
+
+/// What the line of a call tells of its answer: all of it, or how many completions a poll gave, which have lines of
+/// their own.
+#[derive(Drop)]
+pub enum Told {
+    Whole(Answer),
+    Polled(u8),
+}
+
+/// One line of the text of a history.
+#[derive(Drop)]
+pub enum Line {
+    /// The line of an entry of a turn.
+    Turn {
+        stamp: u64,
+        pass: u32,
+        event: Event,
+    },
+    /// The line of an entry of a verb, with its answer.
+    Call {
+        stamp: u64,
+        pass: u32,
+        by: u32,
+        verb: Verb,
+        told: Told,
+    },
+    /// A completion that a poll gave.
+    Got(Completion),
+    /// A mark that is no answer.
+    Mark(Mark),
+    /// The last line, which tells how many entries there are.
+    End(u64),
+}
+
+/// Appends a line, without its line feed. `Memory` leaves the output as it was.
+pub fn print_line(line: &Line, out: &mut Vec<u8>) -> Result<(), Memory>
+    ensures ok { OnOk result (out.new.items ≡ out.old.items ++ line_text line.now) }
+    ensures err { OnErr result (out.new.items ≡ out.old.items) }
+{
+    let alloc = *out.allocator();
+    let mut text = Text::behind(mem::replace(out, Vec::new(alloc)));
+    match put_line(&mut text, line) {
+        Ok(()) => {
+            *out = text.into_vec();
+            Ok(())
+        }
+        Err(memory) => {
+            *out = text.undo();
+            Err(memory)
+        }
+    }
+}
+
+/// Adds a line, without its line feed.
+fn put_line(text: &mut Text, line: &Line) -> Result<(), Memory>
+    ensures ok { OnOk result (text.new.added ≡ text.old.added ++ line_text line.now) }
+    ensures same { text.new.before ≡ text.old.before }
+{
+    match line {
+        Line::Turn { stamp, pass, event } => {
+            text.put(format_args!("@{stamp} p{pass} "))?;
+            put_event(text, event)
+        }
+        Line::Call {
+            stamp,
+            pass,
+            by,
+            verb,
+            told,
+        } => {
+            text.put(format_args!("@{stamp} p{pass} "))?;
+            put_call(text, *by, verb)?;
+            put_told(text, told)
+        }
+        Line::Got(completion) => {
+            text.put(" got")?;
+            put_completion(text, completion)
+        }
+        Line::Mark(mark) => put_mark(text, mark),
+        Line::End(count) => text.put(format_args!("end {count}")),
+    }
+}
+
+/// Adds what the line of a call tells of its answer, each word after a space.
+fn put_told(text: &mut Text, told: &Told) -> Result<(), Memory>
+    ensures ok { OnOk result (text.new.added ≡ text.old.added ++ led 32 (words (answer_line_words told.now))) }
+    ensures same { text.new.before ≡ text.old.before }
+{
+    match told {
+        Told::Whole(answer) => put_answer(text, answer),
+        Told::Polled(count) => text.put(format_args!(" -> polled {count}")),
+    }
+}
