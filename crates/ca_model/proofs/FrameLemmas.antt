@@ -7,7 +7,7 @@ use Rattle.ca_base.specs.Equal.{domain_eq, place_eq, queue_eq, slot_eq}
 use Rattle.ca_base.specs.Memory.{ByteMap, bytes_at, is_in, memory_after, places_of}
 use Rattle.ca_model.specs.declared.event.Event.{Event}
 use Rattle.ca_model.specs.machine.Frame.{AllPass, Afterwards, SameAt, SameOutcome, SameWhere, TouchesPass}
-use Rattle.ca_model.specs.machine.Plan.{Change, Did, Finish, If, Look, NotReady, Outcome, Plan, Read, Stuck, Write, byte_names, perform, put_all, touches, write_all}
+use Rattle.ca_model.specs.machine.Plan.{Update, Did, Finish, If, Look, NotReady, Outcome, Plan, Read, Stuck, Write, byte_names, perform, put_all, touches, write_all}
 use Rattle.ca_model.specs.machine.Run.{Ran, go_on, run_from, with_marks}
 use Rattle.ca_model.specs.machine.Step.{plan, step}
 use Rattle.ca_model.specs.machine.World.{Byte_at, Cq_of, Domain_of, Mailbox_of, Name, Queue_of, Region_of, Srq_of, Thing, Window_of, World, get, put}
@@ -52,7 +52,7 @@ put-agree P v w agree (Mailbox_of d) x (Mailbox_of a) p = same-choice (queue_eq 
 put-agree P v w agree (Byte_at d) x (Byte_at a) p = same-choice (place_eq d a) x (agree (Byte_at a) p)
 put-agree P v w agree n x m p = agree m p
 
-puts-agree : (P : Name → Type 0) (cs : List Change) (v w : World) → Agree P v w → Agree P (put_all cs v) (put_all cs w)
+puts-agree : (P : Name → Type 0) (cs : List Update) (v w : World) → Agree P v w → Agree P (put_all cs v) (put_all cs w)
 puts-agree P [] v w agree = agree
 puts-agree P (c ∷ cs) v w agree =
     puts-agree P cs (put v c.name c.thing) (put w c.name c.thing) (put-agree P v w agree c.name c.thing)

@@ -8,8 +8,8 @@ use Rattle.ca_base.specs.Configuration.{Configuration}
 use Rattle.ca_base.specs.Equal.{domain_eq, place_eq, queue_eq, slot_eq}
 use Rattle.ca_base.specs.Memory.{ByteMap, bytes_at, is_in, memory_after, places_of, run_places}
 use Rattle.ca_model.specs.declared.event.Event.{Event}
-use Rattle.ca_model.specs.machine.Frame.{IsNone, LeavesRest, name_eq}
-use Rattle.ca_model.specs.machine.Plan.{Change, Did, Finish, If, Look, NotReady, Outcome, Plan, Read, Stuck, Write, byte_names, names_changed, names_written, perform, put_all, touches, write_all}
+use Rattle.ca_model.specs.machine.Frame.{IsNoneOf, LeavesRest, name_eq}
+use Rattle.ca_model.specs.machine.Plan.{Update, Did, Finish, If, Look, NotReady, Outcome, Plan, Read, Stuck, Write, byte_names, names_updated, names_written, perform, put_all, touches, write_all}
 use Rattle.ca_model.specs.machine.Step.{plan, step}
 use Rattle.ca_model.specs.machine.World.{Byte_at, Cq_of, Domain_of, Mailbox_of, Name, Queue_of, Region_of, Srq_of, Thing, Window_of, World, get, put}
 use Rattle.ca_model.proofs.FrameLemmas.{after_write}
@@ -30,15 +30,15 @@ put-leaves w (Mailbox_of d) x (Mailbox_of a) e = other-choice x (get w (Mailbox_
 put-leaves w (Byte_at d) x (Byte_at a) e = other-choice x (get w (Byte_at a)) (place_eq d a) e
 put-leaves w m x n e = refl
 
-is-none-left : (n : Name) (xs ys : List Name) → IsNone n (xs ++ ys) → IsNone n xs
+is-none-left : (n : Name) (xs ys : List Name) → IsNoneOf n (xs ++ ys) → IsNoneOf n xs
 is-none-left n [] ys none = record {}
 is-none-left n (x ∷ xs) ys none = (none.0, is-none-left n xs ys none.1)
 
-is-none-right : (n : Name) (xs ys : List Name) → IsNone n (xs ++ ys) → IsNone n ys
+is-none-right : (n : Name) (xs ys : List Name) → IsNoneOf n (xs ++ ys) → IsNoneOf n ys
 is-none-right n [] ys none = none
 is-none-right n (x ∷ xs) ys none = is-none-right n xs ys none.1
 
-puts-leave : (cs : List Change) (w : World) (n : Name) → IsNone n (names_changed cs) → get (put_all cs w) n ≡ get w n
+puts-leave : (cs : List Update) (w : World) (n : Name) → IsNoneOf n (names_updated cs) → get (put_all cs w) n ≡ get w n
 puts-leave [] w n none = refl
 puts-leave (c ∷ cs) w n none = puts-leave cs (put w c.name c.thing) n none.1 ∙ put-leaves w c.name c.thing n none.0
 
@@ -53,7 +53,7 @@ place-is p adapter buffer at a b o =
     (eq-eqb at p.offset (sym o))
 
 none-outside : (p : Place) (adapter buffer count from : ℕ) → p.adapter ≡ adapter → p.buffer ≡ buffer → from ≤ p.offset → p.offset < from + count
-    → IsNone (Byte_at p) (map Byte_at (map (place_in adapter buffer) (range_with_len from count))) → ⊥
+    → IsNoneOf (Byte_at p) (map Byte_at (map (place_in adapter buffer) (range_with_len from count))) → ⊥
 none-outside p adapter buffer zero from a b le lt none = not-le_of_lt lt (omega (arith, le))
 none-outside p adapter buffer (suc count) from a b le lt none =
     by (eq-or-lt_of_le le) (λ more. none-outside p adapter buffer count (from + 1) a b more (omega (arith, lt)) none.1)
@@ -62,7 +62,7 @@ none-outside p adapter buffer (suc count) from a b le lt none =
     by (inl e) tail = true≢false (sym (place-is p adapter buffer from a b (sym e)) ∙ none.0)
     by (inr more) tail = tail (omega (arith, more))
 
-outside-run : (r : Run) (p : Place) → IsNone (Byte_at p) (map Byte_at (run_places r)) → is_in r p ≡ false
+outside-run : (r : Run) (p : Place) → IsNoneOf (Byte_at p) (map Byte_at (run_places r)) → is_in r p ≡ false
 outside-run r p none = false_from_ne_true (is_in r p) inside
   where
     same : Bool
@@ -82,15 +82,15 @@ outside-run r p none = false_from_ne_true (is_in r p) inside
         by : ((same && nat_le r.offset p.offset) ≡ true) × (nat_lt p.offset (r.offset + r.length) ≡ true) → ⊥
         by both = parts (and_parts same (nat_le r.offset p.offset) both.0) (ltb-true p.offset (r.offset + r.length) both.1)
 
-is-none-here : (n : Name) (xs ys : List Place) → IsNone n (map Byte_at (xs ++ ys)) → IsNone n (map Byte_at xs)
+is-none-here : (n : Name) (xs ys : List Place) → IsNoneOf n (map Byte_at (xs ++ ys)) → IsNoneOf n (map Byte_at xs)
 is-none-here n [] ys none = record {}
 is-none-here n (x ∷ xs) ys none = (none.0, is-none-here n xs ys none.1)
 
-is-none-there : (n : Name) (xs ys : List Place) → IsNone n (map Byte_at (xs ++ ys)) → IsNone n (map Byte_at ys)
+is-none-there : (n : Name) (xs ys : List Place) → IsNoneOf n (map Byte_at (xs ++ ys)) → IsNoneOf n (map Byte_at ys)
 is-none-there n [] ys none = none
 is-none-there n (x ∷ xs) ys none = is-none-there n xs ys none.1
 
-memory-leaves : (rs : List Run) (m : ByteMap) (bytes : List ℕ) (p : Place) → IsNone (Byte_at p) (byte_names rs) → memory_after m rs bytes p ≡ m p
+memory-leaves : (rs : List Run) (m : ByteMap) (bytes : List ℕ) (p : Place) → IsNoneOf (Byte_at p) (byte_names rs) → memory_after m rs bytes p ≡ m p
 memory-leaves [] m bytes p none = refl
 memory-leaves (r ∷ rs) m bytes p none =
     memory-leaves rs (λ q. if is_in r q then slice_index_or bytes (q.offset - r.offset) 0 else m q) (drop r.length bytes) p
@@ -98,11 +98,11 @@ memory-leaves (r ∷ rs) m bytes p none =
     ∙ other-choice (slice_index_or bytes (p.offset - r.offset) 0) (m p) (is_in r p)
     (outside-run r p (is-none-here (Byte_at p) (run_places r) (places_of rs) none))
 
-write-leaves : (x : Write) (w : World) (n : Name) → IsNone n (byte_names x.runs) → get (after_write x w) n ≡ get w n
+write-leaves : (x : Write) (w : World) (n : Name) → IsNoneOf n (byte_names x.runs) → get (after_write x w) n ≡ get w n
 write-leaves x w (Byte_at a) none = memory-leaves x.runs w.byte x.bytes a none
 write-leaves x w n none = refl
 
-writes-leave : (xs : List Write) (w : World) (n : Name) → IsNone n (names_written xs) → get (write_all xs w) n ≡ get w n
+writes-leave : (xs : List Write) (w : World) (n : Name) → IsNoneOf n (names_written xs) → get (write_all xs w) n ≡ get w n
 writes-leave [] w n none = refl
 writes-leave (x ∷ xs) w n none =
     writes-leave xs (after_write x w) n (is-none-right n (byte_names x.runs) (names_written xs) none)
@@ -113,7 +113,7 @@ abbrev LeavesAt : Name → World → Outcome → Type 0
 LeavesAt n w (NotReady reason) = Unit {0}
 LeavesAt n w (Did v ms) = get v n ≡ get w n
 
-perform-leaves : (p : Plan) (w : World) (n : Name) → IsNone n (touches w p) → LeavesAt n w (perform w p)
+perform-leaves : (p : Plan) (w : World) (n : Name) → IsNoneOf n (touches w p) → LeavesAt n w (perform w p)
 perform-leaves (Stuck reason) w n none = record {}
 perform-leaves (Look m k) w n none = perform-leaves (k (get w m)) w n none.1
 perform-leaves (Read runs k) w n none =
@@ -121,10 +121,10 @@ perform-leaves (Read runs k) w n none =
 perform-leaves (If true p q) w n none = perform-leaves p w n none
 perform-leaves (If false p q) w n none = perform-leaves q w n none
 perform-leaves (Finish changes writes marks) w n none =
-    writes-leave writes (put_all changes w) n (is-none-right n (names_changed changes) (names_written writes) none)
-    ∙ puts-leave changes w n (is-none-left n (names_changed changes) (names_written writes) none)
+    writes-leave writes (put_all changes w) n (is-none-right n (names_updated changes) (names_written writes) none)
+    ∙ puts-leave changes w n (is-none-left n (names_updated changes) (names_written writes) none)
 
-leaves-all : (names : List Name) (w : World) (o : Outcome) → ((n : Name) → IsNone n names → LeavesAt n w o) → LeavesRest names w o
+leaves-all : (names : List Name) (w : World) (o : Outcome) → ((n : Name) → IsNoneOf n names → LeavesAt n w o) → LeavesRest names w o
 leaves-all names w (NotReady reason) leaves = record {}
 leaves-all names w (Did v ms) leaves = leaves
 

@@ -23,7 +23,7 @@ use Rattle.ca_base.specs.Equal.{domain_eq, slot_eq}
 use Rattle.ca_model.proofs.FrameLemmas.{after_write}
 use Rattle.ca_model.specs.machine.Frame.{Afterwards}
 use Rattle.ca_base.specs.Memory.{ByteMap, bytes_at, cut, places_count, run_part}
-use Rattle.ca_base.specs.objects.Region.{Region, free_pages, has_repeat, pages_needed, passes}
+use Rattle.ca_base.specs.objects.Region.{Region, free_pages, has_repeat, pages_needed, passes_end}
 use Rattle.ca_base.specs.declared.request.SendOp.{SendOp}
 use Rattle.ca_base.specs.declared.request.SendOp.TheVariants as ops
 use Rattle.ca_model.specs.machine.Step.{bytes_of_buffer, is_named, plan, run_of, step, verb_plan}
@@ -33,23 +33,23 @@ use Rattle.ca_base.specs.Sight.{DeniedAsk, Invalidation, runs_by_grant}
 use Rattle.ca_base.specs.objects.Mailbox.{Correspondent, Mailbox}
 use Rattle.ca_base.specs.objects.SharedReceives.{SharedReceives}
 use Rattle.ca_base.specs.objects.QueuePair.{QueuePair}
-use Rattle.ca_model.specs.machine.Around.{Around, With_around, With_queue, shared_in, changes_of, srq_changes}
+use Rattle.ca_model.specs.machine.Around.{Around, With_around, With_queue, shared_in, updates_of, srq_updates}
 use Rattle.ca_base.specs.declared.step.Reason.{Reason}
 use Rattle.ca_base.specs.declared.step.Reason.TheVariants as reasons
 use Rattle.ca_model.specs.declared.mark.Mark.TheVariants as marks
 use Rattle.ca_model.specs.declared.mark.Mark.{Mark}
 use Rattle.ca_model.specs.machine.Delivery.{Arrive, arrival_row, deliver_plan}
-use Rattle.ca_model.specs.machine.LocalOperations.{PlacedRegion, Perform_op, region_slot, fast_refusal, fast_changes, window_slot, drawn_by, bind1_refusal, bind1_marks, bind2_refusal, bind2_marks, operation_ended, named_slot, bind1_changes, bind2_changes, With_former, With_named, former_changes, named_changes, Bind1_plan, Bind2_plan, Fast_plan, Finishing}
+use Rattle.ca_model.specs.machine.LocalOperations.{PlacedRegion, Perform_op, region_slot, fast_refusal, fast_changes, window_slot, drawn_by, bind1_refusal, bind1_marks, bind2_refusal, bind2_marks, operation_effects, named_slot, bind1_changes, bind2_changes, With_former, With_named, former_updates, named_updates, Bind1_plan, Bind2_plan, Fast_plan, Finishing}
 use Rattle.ca_model.specs.machine.Numbering.{Numbered}
 use Rattle.ca_base.specs.declared.key.Key.{Key}
-use Rattle.ca_model.specs.machine.Turns.{Left, has_room_for, Request_around, Respond_around, Timeout_around, request_plan, respond_plan, timeout_plan, wake_plan, sent_changes, Packet}
+use Rattle.ca_model.specs.machine.Turns.{Leave_plan, has_room_for, Request_around, Respond_around, Timeout_around, request_plan, respond_plan, timeout_plan, wake_plan, sent_updates, Packet}
 use Rattle.ca_model.specs.machine.CompletionVerbs.{Take_plan, Poll_of, With_place, With_places, create_srq_plan, destroy_cq_plan, destroy_srq_plan, poll_plan}
 use Rattle.ca_model.specs.machine.HostVerbs.{inject_plan, load_plan, store_plan}
 use Rattle.ca_model.specs.machine.PostingVerbs.{post_recv_plan, post_send_plan, post_srq_plan}
-use Rattle.ca_model.specs.machine.Plan.{Plan, Stuck, Read, If, perform, put_all, write_all, Look, Finish, Change, Write}
+use Rattle.ca_model.specs.machine.Plan.{Plan, Stuck, Read, If, perform, put_all, write_all, Look, Finish, Update, Write}
 use Rattle.ca_model.specs.machine.QueuePairVerbs.{Creation, create_qp_plan, destroy_qp_plan, modify_qp_plan, query_qp_plan}
 use Rattle.ca_model.specs.machine.RegionVerbs.{reg_mr_plan}
-use Rattle.ca_model.specs.machine.Row.{Effects, quiet, Ending, Does, NotPossible, Row, Row_plan, Ended, With_grant, With_grants, With_bytes, With_writes, With_invalidation, unless_none}
+use Rattle.ca_model.specs.machine.Row.{Effects, queue_and_marks, Ending, Does, NotPossible, Row, Row_plan, End_plan, With_grant, With_grants, With_bytes, With_writes, With_invalidation, unless_none}
 use Rattle.ca_model.specs.machine.WindowVerbs.{dealloc_mw_plan}
 use Rattle.ca_base.specs.declared.completion.Completion.{Completion}
 use Rattle.ca_base.specs.objects.CompletionQueue.{CompletionQueue}
@@ -84,12 +84,12 @@ keeps-post_recv c call s r = search rules
 keeps-post_srq : (c : Configuration) (call : Call) (s : Slot) (r : RecvRequest) → Keeps c (post_srq_plan call s r)
 keeps-post_srq c call s r = search rules
 
-keeps-with_place : (c : Configuration) (s : Slot) (cq : CompletionQueue) (polled : List Completion) (x : Completion) (k : Change → Plan)
-    → ((change : Change) → AreSound c (change ∷ []) → Keeps c (k change)) → Keeps c (With_place s cq polled x k)
+keeps-with_place : (c : Configuration) (s : Slot) (cq : CompletionQueue) (polled : List Completion) (x : Completion) (k : Update → Plan)
+    → ((change : Update) → AreSound c (change ∷ []) → Keeps c (k change)) → Keeps c (With_place s cq polled x k)
 keeps-with_place c s cq polled x k more = search rules
 
-keeps-with_places : (c : Configuration) (s : Slot) (cq : CompletionQueue) (polled xs : List Completion) (k : List Change → Plan)
-    → ((changes : List Change) → AreSound c changes → Keeps c (k changes)) → Keeps c (With_places s cq polled xs k)
+keeps-with_places : (c : Configuration) (s : Slot) (cq : CompletionQueue) (polled xs : List Completion) (k : List Update → Plan)
+    → ((changes : List Update) → AreSound c changes → Keeps c (k changes)) → Keeps c (With_places s cq polled xs k)
 keeps-with_places c s cq polled [] k more = more [] (record {})
 keeps-with_places c s cq polled (x ∷ xs) k more =
     keeps-with_place c s cq polled x (λ change. With_places s cq polled xs (λ changes. k (change ∷ changes)))
@@ -101,7 +101,7 @@ keeps-take c call s cq polled = keeps-with_places c s cq polled polled _ (λ cha
 keeps-poll-of : (c : Configuration) (call : Call) (s : Slot) (n least : ℕ) (v : Option CompletionQueue) → Keeps c (Poll_of call s n least v)
 keeps-poll-of c call s n least None = record {}
 keeps-poll-of c call s n least (Some cq) =
-    (λ refused. record {}, λ fine. (λ few. record {}, λ enough. keeps-take c call s cq (take n cq.waiting)))
+    (λ refusal_effects. record {}, λ fine. (λ few. record {}, λ enough. keeps-take c call s cq (take n cq.waiting)))
 
 keeps-poll : (c : Configuration) (call : Call) (s : Slot) (n least : ℕ) → Keeps c (poll_plan call s n least)
 keeps-poll c call s n least = λ v sound. keeps-poll-of c call s n least v
@@ -133,65 +133,65 @@ keeps-with_writes c [] k more = more []
 keeps-with_writes c (x ∷ xs) k more =
     keeps-with_grant c x.0 _ (λ g. keeps-with_writes c xs _ (λ ws. more (record { runs = runs_by_grant x.0 g; bytes = x.1 } ∷ ws)))
 
-keeps-with_invalidation : (c : Configuration) (i : Option Invalidation) (k : Option OpRefusal → List Change → Plan)
-    → ((r : Option OpRefusal) (cs : List Change) → AreSound c cs → Keeps c (k r cs)) → Keeps c (With_invalidation c i k)
+keeps-with_invalidation : (c : Configuration) (i : Option Invalidation) (k : Option OpRefusal → List Update → Plan)
+    → ((r : Option OpRefusal) (cs : List Update) → AreSound c cs → Keeps c (k r cs)) → Keeps c (With_invalidation c i k)
 keeps-with_invalidation c None k more = more None [] (record {})
 keeps-with_invalidation c (Some i) k more = search rules
 
 keeps-with_around : (c : Configuration) (q : QueuePair) (k : Around → Plan) → ((a : Around) → Keeps c (k a)) → Keeps c (With_around q k)
 keeps-with_around c q k more = search rules
 
-sound-append : (c : Configuration) (xs ys : List Change) → AreSound c xs → AreSound c ys → AreSound c (xs ++ ys)
+sound-append : (c : Configuration) (xs ys : List Update) → AreSound c xs → AreSound c ys → AreSound c (xs ++ ys)
 sound-append c [] ys xs-sound ys-sound = ys-sound
 sound-append c (x ∷ xs) ys xs-sound ys-sound = (xs-sound.0, sound-append c xs ys xs-sound.1 ys-sound)
 
-sound-unless : (c : Configuration) (r : Option OpRefusal) (cs : List Change) → AreSound c cs → AreSound c (unless_none r cs)
+sound-unless : (c : Configuration) (r : Option OpRefusal) (cs : List Update) → AreSound c cs → AreSound c (unless_none r cs)
 sound-unless c None cs sound = sound
 sound-unless c (Some r) cs sound = record {}
 
-keeps-ended : (c : Configuration) (finish : Effects → List Change → List Write → Plan) (cs : List Change) (e : Ending)
-    → ((e : Effects) (ws : List Write) → Keeps c (finish e cs ws)) → Keeps c (Ended c finish cs e)
+keeps-ended : (c : Configuration) (finish : Effects → List Update → List Write → Plan) (cs : List Update) (e : Ending)
+    → ((e : Effects) (ws : List Write) → Keeps c (finish e cs ws)) → Keeps c (End_plan c finish cs e)
 keeps-ended c finish cs (NotPossible reason) more = record {}
 keeps-ended c finish cs (Does e) more = keeps-with_writes c e.writes (λ ws. finish e cs ws) (λ ws. more e ws)
 
 -- a row's effects are followed by a plan that keeps the world sound
-abbrev GoesOn : Configuration → (Effects → List Change → List Write → Plan) → Type 0
-GoesOn c finish = (e : Effects) (cs : List Change) (ws : List Write) → AreSound c cs → Keeps c (finish e cs ws)
+abbrev GoesOn : Configuration → (Effects → List Update → List Write → Plan) → Type 0
+GoesOn c finish = (e : Effects) (cs : List Update) (ws : List Write) → AreSound c cs → Keeps c (finish e cs ws)
 
-keeps-allowed : (c : Configuration) (row : Row) (finish : Effects → List Change → List Write → Plan) (gs : List (Option Grant)) → GoesOn c finish
-    → Keeps c (With_bytes row.asks gs (λ bytes. With_invalidation c row.invalidation (λ refusal changes. Ended c finish (unless_none refusal changes) (row.allowed bytes refusal))))
+keeps-allowed : (c : Configuration) (row : Row) (finish : Effects → List Update → List Write → Plan) (gs : List (Option Grant)) → GoesOn c finish
+    → Keeps c (With_bytes row.asks gs (λ bytes. With_invalidation c row.invalidation (λ refusal changes. End_plan c finish (unless_none refusal changes) (row.allowed bytes refusal))))
 keeps-allowed c row finish gs more =
-    keeps-with_bytes c row.asks gs (λ bytes. With_invalidation c row.invalidation (λ refusal changes. Ended c finish (unless_none refusal changes) (row.allowed bytes refusal)))
-    (λ bytes. keeps-with_invalidation c row.invalidation (λ refusal changes. Ended c finish (unless_none refusal changes) (row.allowed bytes refusal))
+    keeps-with_bytes c row.asks gs (λ bytes. With_invalidation c row.invalidation (λ refusal changes. End_plan c finish (unless_none refusal changes) (row.allowed bytes refusal)))
+    (λ bytes. keeps-with_invalidation c row.invalidation (λ refusal changes. End_plan c finish (unless_none refusal changes) (row.allowed bytes refusal))
     (λ r cs sound. keeps-ended c finish (unless_none r cs) (row.allowed bytes r)
     (λ e ws. more e (unless_none r cs) ws (sound-unless c r cs sound))))
 
-keeps-denied : (c : Configuration) (row : Row) (finish : Effects → List Change → List Write → Plan) (d : DeniedAsk) → GoesOn c finish
-    → Keeps c (Ended c finish [] (row.denied d))
+keeps-denied : (c : Configuration) (row : Row) (finish : Effects → List Update → List Write → Plan) (d : DeniedAsk) → GoesOn c finish
+    → Keeps c (End_plan c finish [] (row.denied d))
 keeps-denied c row finish d more = keeps-ended c finish [] (row.denied d) (λ e ws. more e [] ws (record {}))
 
-keeps-row : (c : Configuration) (row : Row) (finish : Effects → List Change → List Write → Plan) → GoesOn c finish → Keeps c (Row_plan c row finish)
+keeps-row : (c : Configuration) (row : Row) (finish : Effects → List Update → List Write → Plan) → GoesOn c finish → Keeps c (Row_plan c row finish)
 keeps-row c row finish more = keeps-with_grants c row.asks _ (λ gs. search (rules, keeps-allowed, keeps-denied))
 
-sound-srq : (c : Configuration) (q : QueuePair) (a : Around) (f : SharedReceives → SharedReceives) → AreSound c (srq_changes q a f)
+sound-srq : (c : Configuration) (q : QueuePair) (a : Around) (f : SharedReceives → SharedReceives) → AreSound c (srq_updates q a f)
 sound-srq c q a f = search rules
 
-sound-changes_of : (c : Configuration) (q : QueuePair) (a : Around) (e : Effects) → AreSound c (changes_of q a e)
-sound-changes_of c q a e = search (rules, sound-srq, sound-append)
+sound-updates_of : (c : Configuration) (q : QueuePair) (a : Around) (e : Effects) → AreSound c (updates_of q a e)
+sound-updates_of c q a e = search (rules, sound-srq, sound-append)
 
 keeps-with_queue : (c : Configuration) (q : QueueId) (r : Reason) (k : QueuePair → Plan) → ((p : QueuePair) → Keeps c (k p)) → Keeps c (With_queue c q r k)
 keeps-with_queue c q r k more = search rules
 
-sound-sent : (c : Configuration) (q : QueuePair) (peer : Correspondent) (m : Mailbox) (lot : Lot) (p : Packet) → AreSound c (sent_changes q peer m lot p)
+sound-sent : (c : Configuration) (q : QueuePair) (peer : Correspondent) (m : Mailbox) (lot : Lot) (p : Packet) → AreSound c (sent_updates q peer m lot p)
 sound-sent c q peer m lot p = search rules
 
-keeps-left : (c : Configuration) (q : QueuePair) (a : Around) (peer : Correspondent) (m : Mailbox) (lot : Lot) → GoesOn c (Left q a peer m lot)
-keeps-left c q a peer m lot = λ e cs ws sound. search (rules, sound-append, sound-changes_of, sound-sent)
+keeps-left : (c : Configuration) (q : QueuePair) (a : Around) (peer : Correspondent) (m : Mailbox) (lot : Lot) → GoesOn c (Leave_plan q a peer m lot)
+keeps-left c q a peer m lot = λ e cs ws sound. search (rules, sound-append, sound-updates_of, sound-sent)
 
 keeps-respond-around : (c : Configuration) (lot : Lot) (q : QueuePair) (a : Around) (peer : Option Correspondent) → Keeps c (Respond_around c lot q a peer)
 keeps-respond-around c lot q a None = search rules
 keeps-respond-around c lot q a (Some peer) =
-    λ m sound. keeps-row c (respond_row (has_room_for q peer m) q) (Left q a peer m lot) (keeps-left c q a peer m lot)
+    λ m sound. keeps-row c (respond_row (has_room_for q peer m) q) (Leave_plan q a peer m lot) (keeps-left c q a peer m lot)
 
 keeps-respond : (c : Configuration) (q : QueueId) (lot : Lot) → Keeps c (respond_plan c q lot)
 keeps-respond c q lot = keeps-with_queue c q reasons.State (λ queue. With_around queue (λ a. Respond_around c lot queue a queue.peer))
@@ -200,12 +200,12 @@ keeps-respond c q lot = keeps-with_queue c q reasons.State (λ queue. With_aroun
 keeps-timeout : (c : Configuration) (q : QueueId) (hasten : Bool) → Keeps c (timeout_plan c q hasten)
 keeps-timeout c q hasten = keeps-with_queue c q reasons.State
     (λ queue. Look (Mailbox_of q) (λ own. With_around queue (λ a. Timeout_around hasten queue own a queue.peer)))
-    (λ queue. λ own sound. keeps-with_around c queue (λ a. Timeout_around hasten queue own a queue.peer) (λ a. search (rules, sound-changes_of)))
+    (λ queue. λ own sound. keeps-with_around c queue (λ a. Timeout_around hasten queue own a queue.peer) (λ a. search (rules, sound-updates_of)))
 
-sound-former : (c : Configuration) (former : Option PlacedRegion) → IfSome former (λ f. IsSoundThing c (Region_of f.slot) f.region) → AreSound c (former_changes former)
+sound-former : (c : Configuration) (former : Option PlacedRegion) → IfSome former (λ f. IsSoundThing c (Region_of f.slot) f.region) → AreSound c (former_updates former)
 sound-former c former sound = search rules
 
-sound-named : (c : Configuration) (former named : Option PlacedRegion) → IfSome named (λ f. IsSoundThing c (Region_of f.slot) f.region) → AreSound c (named_changes former named)
+sound-named : (c : Configuration) (former named : Option PlacedRegion) → IfSome named (λ f. IsSoundThing c (Region_of f.slot) f.region) → AreSound c (named_updates former named)
 sound-named c former named sound = search rules
 
 keeps-with_named : (c : Configuration) (d : DomainId) (key : Key) (k : Option PlacedRegion → Plan)
@@ -219,12 +219,12 @@ keeps-with_former c w k more = search rules
 keeps-wake : (c : Configuration) (q : QueueId) → Keeps c (wake_plan c q)
 keeps-wake c q = search (rules, keeps-with_queue)
 
-keeps-arrive : (c : Configuration) (q : QueuePair) (bytes : List ℕ) (envelope : Option ℕ) (cs : List Change) (ms : List Mark) → AreSound c cs → Keeps c (Arrive c q bytes envelope cs ms)
+keeps-arrive : (c : Configuration) (q : QueuePair) (bytes : List ℕ) (envelope : Option ℕ) (cs : List Update) (ms : List Mark) → AreSound c cs → Keeps c (Arrive c q bytes envelope cs ms)
 keeps-arrive c q bytes envelope cs ms sound = keeps-with_around c q _ (λ a.
     keeps-row c (arrival_row bytes envelope (shared_in a) q)
-    (λ e more ws. Finish (cs ++ (changes_of q a e ++ more)) ws (ms ++ marks.Arrived q.queue envelope ∷ e.marks))
-    (λ e more ws all. sound-append c cs (changes_of q a e ++ more) sound
-    (sound-append c (changes_of q a e) more (sound-changes_of c q a e) all)))
+    (λ e more ws. Finish (cs ++ (updates_of q a e ++ more)) ws (ms ++ marks.Arrived q.queue envelope ∷ e.marks))
+    (λ e more ws all. sound-append c cs (updates_of q a e ++ more) sound
+    (sound-append c (updates_of q a e) more (sound-updates_of c q a e) all)))
 
 keeps-deliver : (c : Configuration) (q : QueueId) (index : ℕ) → Keeps c (deliver_plan c q index)
 keeps-deliver c q index = search (rules, keeps-arrive)
@@ -247,7 +247,7 @@ keeps-post_send c call s r = search rules
 sound-bind1 : (c : Configuration) (s : Slot) (w : Window) (drawn region address count : ℕ) (rights : Rights) → w.slot ≡ s → IsSoundThing c (Window_of s) (after_bind1 drawn region address count rights w)
 sound-bind1 c s w drawn region address count rights e = search rules
 
-sound-unless-empty : (c : Configuration) (b : Bool) (cs : List Change) → AreSound c cs → AreSound c (if b then [] else cs)
+sound-unless-empty : (c : Configuration) (b : Bool) (cs : List Update) → AreSound c cs → AreSound c (if b then [] else cs)
 sound-unless-empty c true cs sound = record {}
 sound-unless-empty c false cs sound = sound
 
@@ -258,9 +258,9 @@ sound-bind1_changes : (c : Configuration) (s : Slot) (drawn : ℕ) (w : Window) 
     → w.slot ≡ s → IsPlaced c former → IsPlaced c named → AreSound c (bind1_changes s drawn w former named address count rights)
 sound-bind1_changes c s drawn w former named address count rights slot former-sound named-sound = (
   sound-bind1 c s w drawn (named_slot named) address count rights slot,
-  sound-append c (former_changes former) (if count == 0 then [] else named_changes former named)
+  sound-append c (former_updates former) (if count == 0 then [] else named_updates former named)
       (sound-former c former former-sound)
-      (sound-unless-empty c (count == 0) (named_changes former named) (sound-named c former named named-sound)),
+      (sound-unless-empty c (count == 0) (named_updates former named) (sound-named c former named named-sound)),
 )
 
 sound-bind2_changes : (c : Configuration) (s : Slot) (low : ℕ) (q : QueueId) (w : Window) (named : Option PlacedRegion) (address count : ℕ) (rights : Rights)
@@ -278,12 +278,12 @@ keeps-bind1 c q n window key address count rights finish more =
     refusal : Window → Option PlacedRegion → Option OpRefusal
     refusal w named = bind1_refusal n key named address count rights w
 
-    changed : Window → Option PlacedRegion → Option PlacedRegion → List Change
+    changed : Window → Option PlacedRegion → Option PlacedRegion → List Update
     changed w named former = bind1_changes (window_slot q window) (drawn_by n) w former named address count rights
 
     ending : Window → Option PlacedRegion → Option PlacedRegion → Plan
     ending w named former =
-        finish (operation_ended q n q (bind1_marks q n window named address count rights w) (refusal w named))
+        finish (operation_effects q n q (bind1_marks q n window named address count rights w) (refusal w named))
         (unless_none (refusal w named) (changed w named former)) []
 
 keeps-bind2 : (c : Configuration) (q : QueuePair) (n : Numbered) (window : ℕ) (key : Key) (low address count : ℕ) (rights : Rights) (finish : Finishing)
@@ -297,12 +297,12 @@ keeps-bind2 c q n window key low address count rights finish more =
     refusal : Window → Option PlacedRegion → Option OpRefusal
     refusal w named = bind2_refusal key named address count rights w
 
-    changed : Window → Option PlacedRegion → List Change
+    changed : Window → Option PlacedRegion → List Update
     changed w named = bind2_changes (window_slot q window) low q.queue w named address count rights
 
     ending : Window → Option PlacedRegion → Plan
     ending w named =
-        finish (operation_ended q n (record q { windows = suc q.windows }) (bind2_marks q window low named address count rights) (refusal w named))
+        finish (operation_effects q n (record q { windows = suc q.windows }) (bind2_marks q window low named address count rights) (refusal w named))
         (unless_none (refusal w named) (changed w named)) []
 
 -- runs that are cut have as many places as are left of them
@@ -333,7 +333,7 @@ pages-places adapter buffer [] = refl
 pages-places adapter buffer (p ∷ ps) =
     omega (arith, sum_by-cons (λ (r : Run). r.length) (page_run adapter buffer p) (map (page_run adapter buffer) ps), pages-places adapter buffer ps)
 
-lie-cut : (adapter buffer bytes : ℕ) (pages : List ℕ) (skip count : ℕ) → list_any (passes bytes) (cut skip count (map (page_run adapter buffer) pages)) ≡ false
+lie-cut : (adapter buffer bytes : ℕ) (pages : List ℕ) (skip count : ℕ) → list_any (passes_end bytes) (cut skip count (map (page_run adapter buffer) pages)) ≡ false
     → LieIn adapter buffer bytes (cut skip count (map (page_run adapter buffer) pages))
 lie-cut adapter buffer bytes [] skip count none = record {}
 lie-cut adapter buffer bytes (p ∷ ps) skip count none =
@@ -346,15 +346,15 @@ lie-cut adapter buffer bytes (p ∷ ps) skip count none =
     here : Run
     here = run_part (page_run adapter buffer p) skip (min count (4096 - skip))
 
-    by : (b z : Bool) → list_any (passes bytes) (if b then cut (skip - 4096) count runs else if z then [] else here ∷ cut 0 (count - (4096 - skip)) runs) ≡ false
-        → (list_any (passes bytes) (cut (skip - 4096) count runs) ≡ false → LieIn adapter buffer bytes (cut (skip - 4096) count runs))
-        → (list_any (passes bytes) (cut 0 (count - (4096 - skip)) runs) ≡ false → LieIn adapter buffer bytes (cut 0 (count - (4096 - skip)) runs))
+    by : (b z : Bool) → list_any (passes_end bytes) (if b then cut (skip - 4096) count runs else if z then [] else here ∷ cut 0 (count - (4096 - skip)) runs) ≡ false
+        → (list_any (passes_end bytes) (cut (skip - 4096) count runs) ≡ false → LieIn adapter buffer bytes (cut (skip - 4096) count runs))
+        → (list_any (passes_end bytes) (cut 0 (count - (4096 - skip)) runs) ≡ false → LieIn adapter buffer bytes (cut 0 (count - (4096 - skip)) runs))
         → LieIn adapter buffer bytes (if b then cut (skip - 4096) count runs else if z then [] else here ∷ cut 0 (count - (4096 - skip)) runs)
     by true z none later rest = later none
     by false true none later rest = record {}
     by false false none later rest = (
-      (refl, refl, ltb-false bytes (here.offset + here.length) (or_parts (passes bytes here) (list_any (passes bytes) (cut 0 (count - (4096 - skip)) runs)) none).0),
-      rest (or_parts (passes bytes here) (list_any (passes bytes) (cut 0 (count - (4096 - skip)) runs)) none).1,
+      (refl, refl, ltb-false bytes (here.offset + here.length) (or_parts (passes_end bytes here) (list_any (passes_end bytes) (cut 0 (count - (4096 - skip)) runs)) none).0),
+      rest (or_parts (passes_end bytes here) (list_any (passes_end bytes) (cut 0 (count - (4096 - skip)) runs)) none).1,
     )
 
 pages-enough : (address count : ℕ) (pages : List ℕ) → length pages ≡ pages_needed address count
@@ -363,7 +363,7 @@ pages-enough address count pages e = omega (arith, e)
 
 sound-fast : (c : Configuration) (s : Slot) (low buffer address count : ℕ) (rights : Rights) (pages : List ℕ)
     → length pages ≡ pages_needed address count
-    → list_any (passes (bytes_of_buffer c s.domain.adapter buffer)) (page_runs s.domain.adapter buffer address count pages) ≡ false
+    → list_any (passes_end (bytes_of_buffer c s.domain.adapter buffer)) (page_runs s.domain.adapter buffer address count pages) ≡ false
     → IsRegionGrant c s low (grant_of_fast_registration s low buffer address count rights pages)
 sound-fast c s low buffer address count rights pages enough none = record {
   key = refl;
@@ -437,16 +437,16 @@ keeps-perform c q n finish (ops.Bind2 window key low address count rights) more 
 keeps-perform c q n finish (ops.FastReg region low buffer address count rights pages) more =
     keeps-fast c q n region low buffer address count rights pages finish more
 keeps-perform c q n finish (ops.LocalInv key) more = keeps-row c (invalidate_row q n key) finish more
-keeps-perform c q n finish op more = more (quiet q []) [] [] (record {})
+keeps-perform c q n finish op more = more (queue_and_marks q []) [] [] (record {})
 
 keeps-request-around : (c : Configuration) (lot : Lot) (q : QueuePair) (a : Around) (peer : Option Correspondent) (turn : RequestTurn) → Keeps c (Request_around c lot q a peer turn)
 keeps-request-around c lot q a peer (Waits reason) = record {}
 keeps-request-around c lot q a peer (Performs n) =
-    keeps-perform c q n (λ e changes writes. Finish (changes_of q a e ++ changes) writes e.marks) n.request.op
-    (λ e cs ws sound. sound-append c (changes_of q a e) cs (sound-changes_of c q a e) sound)
+    keeps-perform c q n (λ e changes writes. Finish (updates_of q a e ++ changes) writes e.marks) n.request.op
+    (λ e cs ws sound. sound-append c (updates_of q a e) cs (sound-updates_of c q a e) sound)
 keeps-request-around c lot q a None (Sends n) = record {}
 keeps-request-around c lot q a (Some peer) (Sends n) =
-    λ m sound. keeps-row c (packet_row q (has_room_for q peer m) n) (Left q a peer m lot) (keeps-left c q a peer m lot)
+    λ m sound. keeps-row c (packet_row q (has_room_for q peer m) n) (Leave_plan q a peer m lot) (keeps-left c q a peer m lot)
 
 keeps-request : (c : Configuration) (q : QueueId) (lot : Lot) → Keeps c (request_plan c q lot)
 keeps-request c q lot = keeps-with_queue c q reasons.State (λ queue. With_around queue (λ a. Request_around c lot queue a queue.peer (turn_of queue)))
@@ -532,7 +532,7 @@ put-sound c w n x sound one (Byte_at m) = record {}
 put-sound c w n x sound one (Region_of m) = sound (Region_of m)
 put-sound c w n x sound one (Window_of m) = sound (Window_of m)
 
-puts-sound : (c : Configuration) (cs : List Change) (w : World) → IsSound c w → AreSound c cs → IsSound c (put_all cs w)
+puts-sound : (c : Configuration) (cs : List Update) (w : World) → IsSound c w → AreSound c cs → IsSound c (put_all cs w)
 puts-sound c [] w sound all = sound
 puts-sound c (x ∷ xs) w sound all = puts-sound c xs (put w x.name x.thing) (put-sound c w x.name x.thing sound all.0) all.1
 

@@ -5,7 +5,7 @@ pub mod Row
 pub mod Shapes
 pub mod Completions
 pub mod Numbering
-pub mod Acknowledged
+pub mod Acknowledgements
 pub mod Requester
 pub mod Responses
 pub mod Timers

@@ -32,12 +32,12 @@ abbrev pub empty_mailbox : Mailbox
 empty_mailbox = record { incarnation = 0; peer = None; next = 0; envelopes = [] }
 
 -- the owner has this incarnation now, and has named this peer, or none
-abbrev pub accepting : ℕ → Option Correspondent → Mailbox → Mailbox
-accepting incarnation peer m = record m { incarnation = incarnation; peer = peer }
+abbrev pub with_peer : ℕ → Option Correspondent → Mailbox → Mailbox
+with_peer incarnation peer m = record m { incarnation = incarnation; peer = peer }
 
 -- no envelope is under way; indices go on
-abbrev pub cleared : Mailbox → Mailbox
-cleared m = record m { envelopes = [] }
+abbrev pub without_envelopes : Mailbox → Mailbox
+without_envelopes m = record m { envelopes = [] }
 
 -- a packet of this sender for this incarnation of the owner passes: each named the other
 abbrev pub passes : Correspondent → ℕ → Mailbox → Bool
@@ -66,13 +66,13 @@ abbrev pub is_undelivered : MailEnvelope → Bool
 is_undelivered e = nat_lt e.delivered (deliveries e.lot)
 
 -- how many envelopes are undelivered
-abbrev pub undelivered : List MailEnvelope → ℕ
-undelivered es = length (filter is_undelivered es)
+abbrev pub undelivered_count : List MailEnvelope → ℕ
+undelivered_count es = length (filter is_undelivered es)
 
 -- there is room for one more: few enough are undelivered, and the one that would no longer be kept is not
 abbrev pub has_room : Mailbox → Bool
 has_room m =
-    nat_lt (undelivered m.envelopes) MAX_UNDELIVERED
+    nat_lt (undelivered_count m.envelopes) MAX_UNDELIVERED
     && not (option_map_or is_undelivered (slice_get m.envelopes (KEPT_ENVELOPES - 1)) false)
 
 -- one more envelope was sent

@@ -15,7 +15,7 @@ use Rattle.ca_base.specs.declared.request.RecvRequest.{RecvRequest}
 use Rattle.ca_base.specs.declared.request.SendRequest.{SendRequest}
 use Rattle.ca_base.specs.objects.Mailbox.{Correspondent}
 use Rattle.ca_base.specs.objects.Saved.{SavedResult}
-use Rattle.ca_base.specs.objects.WorkQueue.{WorkQueue, empty_queue, next_place, all_taken}
+use Rattle.ca_base.specs.objects.WorkQueue.{WorkQueue, empty_queue, next_place, with_all_taken}
 
 -- a posted send request, and the byte that a bind of a type 1 window drew
 pub record PostedSend : Type 0 where
@@ -138,7 +138,7 @@ after_reset q = record q {
 -- nothing that is posted is unfinished, and no message is in progress
 abbrev pub with_all_flushed : QueuePair → QueuePair
 with_all_flushed q = record q {
-  receives = option_map all_taken q.receives;
+  receives = option_map with_all_taken q.receives;
   requester = record q.requester { oldest = next_place q.sends; next = next_place q.sends; waiting = false };
   responder = record q.responder { message = None };
 }

@@ -112,9 +112,9 @@ has_bad_pages allocated address count pages =
     (count == 0) || nat_lt (2 ^ 64) (address + count) || nat_lt (option_map_or (λ n. n) allocated 0) (length pages)
     || has_repeat pages || not (length pages == pages_needed address count)
 
--- a run passes the end of its buffer
-abbrev pub passes : ℕ → Run → Bool
-passes count at = nat_lt count (at.offset + at.length)
+-- a run passes_end the end of its buffer
+abbrev pub passes_end : ℕ → Run → Bool
+passes_end count at = nat_lt count (at.offset + at.length)
 
 -- why a fast registration is refused, in order
 abbrev pub fast_registration_refusals : Slot → ℕ → ℕ → ℕ → ℕ → Rights → List ℕ → Region → List (Bool × RegionError)
@@ -122,7 +122,7 @@ fast_registration_refusals slot buffer bytes address count rights pages r =
     (is_none (free_pages r.state), NotFree)
     ∷ (needs_local_write rights, RightsNeedLocalWrite)
     ∷ (has_bad_pages (free_pages r.state) address count pages, BadPages)
-    ∷ (list_any (passes bytes) (page_runs slot.domain.adapter buffer address count pages), OutsideBuffer)
+    ∷ (list_any (passes_end bytes) (page_runs slot.domain.adapter buffer address count pages), OutsideBuffer)
     ∷ []
 
 -- a fast registration: it takes the low byte that it names
@@ -148,13 +148,13 @@ region_invalidation_refusals key r =
     ∷ []
 
 -- what stands in the slot when the key is gone
-abbrev pub freed : RegionState → RegionState
-freed (FastRegistered pages g) = Free pages
-freed state = state
+abbrev pub state_after_invalidation : RegionState → RegionState
+state_after_invalidation (FastRegistered pages g) = Free pages
+state_after_invalidation state = state
 
 -- an invalidation: the region is free again
 abbrev pub after_region_invalidation : Region → Region
-after_region_invalidation r = record r { state = freed r.state }
+after_region_invalidation r = record r { state = state_after_invalidation r.state }
 
 -- why a deregistration is refused, in order
 abbrev pub deregistration_refusals : Region → List (Bool × RegionError)

@@ -75,14 +75,14 @@ modify_refusals c q change =
     ∷ (field_refusals c q.queue change ++ ((is_reset change && nat_lt 0 q.windows, WindowsBound) ∷ []))
 
 -- what a change makes of a queue pair
-abbrev pub after_change : Change → QueuePair → QueuePair
-after_change changes.Init q = record q { state = states.Init }
-after_change (changes.Rtr peer incarnation psn mtu rnr_code) q = record q {
+abbrev pub queue_after_change : Change → QueuePair → QueuePair
+queue_after_change changes.Init q = record q { state = states.Init }
+queue_after_change (changes.Rtr peer incarnation psn mtu rnr_code) q = record q {
   state = states.Rtr;
   peer = Some (record { queue = peer; incarnation = incarnation });
   responder = record q.responder { expected = psn_base + psn; mtu = mtu; rnr_code = rnr_code };
 }
-after_change (changes.Rts psn retry rnr_retry reads) q = record q {
+queue_after_change (changes.Rts psn retry rnr_retry reads) q = record q {
   state = states.Rts;
   requester = record q.requester {
     una = psn_base + psn;
@@ -93,7 +93,7 @@ after_change (changes.Rts psn retry rnr_retry reads) q = record q {
     reads = reads;
   };
 }
-after_change changes.Sqd q = record q { state = states.Sqd }
-after_change changes.Resume q = record q { state = states.Rts }
-after_change changes.Error q = without_answers (in_error q)
-after_change changes.Reset q = after_reset q
+queue_after_change changes.Sqd q = record q { state = states.Sqd }
+queue_after_change changes.Resume q = record q { state = states.Rts }
+queue_after_change changes.Error q = without_answers (in_error q)
+queue_after_change changes.Reset q = after_reset q

@@ -64,8 +64,8 @@ abbrev pub is_valid_view : Option RegionView → Bool
 is_valid_view view = option_map_or (λ v. v.valid) view false
 
 -- remote write or remote atomic, over a region without local write
-abbrev pub exceeds : Rights → RegionView → Bool
-exceeds rights view = (rights.remote_write || rights.remote_atomic) && not view.rights.local_write
+abbrev pub exceeds_region : Rights → RegionView → Bool
+exceeds_region rights view = (rights.remote_write || rights.remote_atomic) && not view.rights.local_write
 
 -- the range is within the region
 abbrev pub is_within : ℕ → ℕ → RegionView → Bool
@@ -76,7 +76,7 @@ abbrev pub binding_refusals : Option RegionView → ℕ → ℕ → Rights → L
 binding_refusals view address count rights =
     (not (is_valid_view view), RegionNotValid)
     ∷ (not (option_map_or (λ v. v.rights.window_bind) view false), NoBindRight)
-    ∷ (option_map_or (exceeds rights) view true, RightsNeedLocalWrite)
+    ∷ (option_map_or (exceeds_region rights) view true, RightsNeedLocalWrite)
     ∷ (not (option_map_or (is_within address count) view false), OutsideRegion)
     ∷ []
 
@@ -97,8 +97,8 @@ bind2_refusals view address count rights w =
     ∷ binding_refusals view address count rights
 
 -- a window without a binding; it keeps its low byte
-abbrev pub unbound : Window → Window
-unbound w = record w { binding = None }
+abbrev pub without_binding : Window → Window
+without_binding w = record w { binding = None }
 
 -- a binding under a low byte
 abbrev pub after_binding : ℕ → Option QueueId → ℕ → ℕ → ℕ → Rights → Window → Window
@@ -116,7 +116,7 @@ after_binding low queue region address count rights w = record w {
 -- a bind of a type 1 window: an earlier binding ends; one of no bytes leaves the window unbound
 abbrev pub after_bind1 : ℕ → ℕ → ℕ → ℕ → Rights → Window → Window
 after_bind1 drawn region address count rights w =
-    if count == 0 then unbound w else after_binding drawn None region address count rights w
+    if count == 0 then without_binding w else after_binding drawn None region address count rights w
 
 -- a binding is of another queue pair
 abbrev pub is_of_other_queue : QueueId → Option Binding → Bool

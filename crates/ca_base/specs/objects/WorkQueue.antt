@@ -22,12 +22,12 @@ abbrev pub is_full : {T : Type 0} → WorkQueue T → Bool
 is_full q = nat_le q.depth (length q.items)
 
 -- how many places are occupied
-abbrev pub occupied : {T : Type 0} → WorkQueue T → ℕ
-occupied q = length q.items
+abbrev pub occupied_count : {T : Type 0} → WorkQueue T → ℕ
+occupied_count q = length q.items
 
 -- the queue after a request was posted
-abbrev pub after_post : {T : Type 0} → T → WorkQueue T → WorkQueue T
-after_post x q = record q { items = q.items ++ x ∷ [] }
+abbrev pub with_item : {T : Type 0} → T → WorkQueue T → WorkQueue T
+with_item x q = record q { items = q.items ++ x ∷ [] }
 
 -- the requests from a place on
 abbrev pub items_from : {T : Type 0} → ℕ → WorkQueue T → List T
@@ -38,16 +38,16 @@ abbrev pub item_at : {T : Type 0} → ℕ → WorkQueue T → Option T
 item_at place q = if nat_lt place q.first then None else slice_get q.items (place - q.first)
 
 -- how many requests wait to be taken
-abbrev pub waiting : {T : Type 0} → WorkQueue T → ℕ
-waiting q = next_place q - q.next_taken
+abbrev pub waiting_count : {T : Type 0} → WorkQueue T → ℕ
+waiting_count q = next_place q - q.next_taken
 
 -- the next request is taken; it stays readable
 abbrev pub after_take : {T : Type 0} → WorkQueue T → WorkQueue T
 after_take q = record q { next_taken = suc q.next_taken }
 
 -- all requests are taken
-abbrev pub all_taken : {T : Type 0} → WorkQueue T → WorkQueue T
-all_taken q = record q { next_taken = next_place q }
+abbrev pub with_all_taken : {T : Type 0} → WorkQueue T → WorkQueue T
+with_all_taken q = record q { next_taken = next_place q }
 
 -- all places up to this one are free again
 abbrev pub after_retire : {T : Type 0} → ℕ → WorkQueue T → WorkQueue T

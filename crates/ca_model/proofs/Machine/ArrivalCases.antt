@@ -23,7 +23,7 @@ use Rattle.ca_model.specs.declared.event.Event.TheVariants as events
 use Rattle.ca_model.specs.declared.mark.Drop1.{Drop1}
 use Rattle.ca_model.specs.declared.mark.Drop1.TheVariants as drops
 use Rattle.ca_model.specs.declared.verb.Verb.TheVariants as verbs
-use Rattle.ca_model.specs.machine.Plan.{Change, ◌:=◌, Outcome, NotReady, Did, put_all}
+use Rattle.ca_model.specs.machine.Plan.{Update, ◌:=◌, Outcome, NotReady, Did, put_all}
 use Rattle.ca_model.specs.machine.Step.{step}
 use Rattle.ca_model.specs.machine.World.{Queue_of, Window_of}
 use Rattle.ca_model.proofs.Literals.{s, q, k, r, list, piece, receive}
@@ -59,7 +59,7 @@ abbrev denies : Denial → List WcStatus → List Queued → Seen
 denies denial statuses answers = record { drop = None; denial = Some denial; statuses = statuses; answers = answers }
 
 -- bytes arrive at the queue pair 256, in the furnished world with these changes
-abbrev arrived : List Change → QueuePair → List ℕ → Seen
+abbrev arrived : List Update → QueuePair → List ℕ → Seen
 arrived changes p bytes =
     seen (step pair (put_all (changes ++ (Queue_of (q 0 256) := Present p) ∷ []) furnished) (events.Verb 0 (verbs.Inject (q 0 256) bytes)))
 
@@ -104,7 +104,7 @@ dropped = refl
 
 -- a packet that arrives, and what is seen
 record Case : Type 0 where
-  changes : List Change
+  changes : List Update
   queue : QueuePair
   packet : Fields
   seen : Seen
@@ -112,7 +112,7 @@ record Case : Type 0 where
 abbrev case : QueuePair → Fields → Seen → Case
 case queue packet seen = record { changes = []; queue = queue; packet = packet; seen = seen }
 
-abbrev case_with : List Change → QueuePair → Fields → Seen → Case
+abbrev case_with : List Update → QueuePair → Fields → Seen → Case
 case_with changes queue packet seen = record { changes = changes; queue = queue; packet = packet; seen = seen }
 
 abbrev Arrives : List Case → Type 0
@@ -252,7 +252,7 @@ unfolding row_of be_bytes packet_bytes number_at bth_at front_at reth_from atomi
 receives = refl
 
 -- the window 1 of type 2, bound through another queue pair over the region 0, with the key 0x800105
-abbrev window_of_another : List Change
+abbrev window_of_another : List Update
 window_of_another =
     (Window_of (s 0 0 1) := after_binding 5 (Some (q 0 258)) 0 0x100000000 8 all_rights (after_window_allocation 2 (vacant_window (s 0 0 1)))) ∷ []
 
@@ -295,15 +295,15 @@ acks = refl
 
 -- a READ at the front of the response queue, and what is seen of the responder's turn
 record Answered : Type 0 where
-  changes : List Change
+  changes : List Update
   answer : Queued
   seen : Seen
 
-abbrev answered : List Change → ℕ → ℕ → ℕ → Seen → Answered
+abbrev answered : List Update → ℕ → ℕ → ℕ → Seen → Answered
 answered changes key address left seen =
     record { changes = changes; answer = queued.Read (at 0) (k key) address left true None false; seen = seen }
 
-abbrev responded : List Change → Queued → Seen
+abbrev responded : List Update → Queued → Seen
 responded changes answer =
     seen (step pair (put_all (changes ++ (Queue_of (q 0 256) := Present (with_answers (answer ∷ []) receiver)) ∷ []) furnished) (events.Respond (q 0 256) lots.Pass))
 

@@ -12,8 +12,8 @@ use Rattle.ca_base.specs.declared.change.State.TheVariants as states
 use Rattle.ca_base.specs.declared.queue_numbers.Queued.TheVariants as queued
 use Rattle.ca_base.specs.Refusals.{first_of}
 use Rattle.ca_base.specs.objects.QueuePair.{QueuePair, psn_base}
-use Rattle.ca_base.specs.objects.StateTable.{after_change, modify_refusals}
-use Rattle.ca_base.specs.objects.WorkQueue.{occupied}
+use Rattle.ca_base.specs.objects.StateTable.{queue_after_change, modify_refusals}
+use Rattle.ca_base.specs.objects.WorkQueue.{occupied_count}
 use Rattle.ca_model.proofs.Literals.{q}
 use Rattle.ca_model.proofs.Machine.Furnished.{pair, in_state, ready, send_of, signalled, with_posted, with_begun, with_answers}
 
@@ -125,16 +125,16 @@ abbrev busy : QueuePair
 busy = with_answers (queued.Ack psn_base ∷ []) (with_begun 1 1 (with_posted (signalled (send_of 8)) ready))
 
 -- the expected PSN, the path MTU and the RNR code are those that Rtr names
-after_rtr : (after_change (changes.Rtr (q 1 256) 3 5 1024 7) (in_state states.Init)).responder
+after_rtr : (queue_after_change (changes.Rtr (q 1 256) 3 5 1024 7) (in_state states.Init)).responder
     ≡ record (in_state states.Init).responder { expected = psn_base + 5; mtu = 1024; rnr_code = 7 }
 after_rtr = refl
 
-peer_after_rtr : (after_change (changes.Rtr (q 1 256) 3 5 1024 7) (in_state states.Init)).peer
+peer_after_rtr : (queue_after_change (changes.Rtr (q 1 256) 3 5 1024 7) (in_state states.Init)).peer
     ≡ Some (record { queue = q 1 256; incarnation = 3 })
 peer_after_rtr = refl
 
 -- the next PSN, the retry counts and the bound of READs and atomics are those that Rts names
-after_rts : (after_change (changes.Rts 5 1 2 3) (in_state states.Rtr)).requester ≡ record (in_state states.Rtr).requester {
+after_rts : (queue_after_change (changes.Rts 5 1 2 3) (in_state states.Rtr)).requester ≡ record (in_state states.Rtr).requester {
   una = psn_base + 5;
   cursor = psn_base + 5;
   oldest_psn = psn_base + 5;
@@ -145,31 +145,31 @@ after_rts : (after_change (changes.Rts 5 1 2 3) (in_state states.Rtr)).requester
 after_rts = refl
 
 -- Sqd and Resume change the state alone
-after_sqd : after_change changes.Sqd busy ≡ record busy { state = states.Sqd }
+after_sqd : queue_after_change changes.Sqd busy ≡ record busy { state = states.Sqd }
 after_sqd = refl
 
-after_resume : after_change changes.Resume (record busy { state = states.Sqd }) ≡ busy
+after_resume : queue_after_change changes.Resume (record busy { state = states.Sqd }) ≡ busy
 after_resume = refl
 
 -- Error empties the response queue, and no request is unfinished
-state_after_error : (after_change changes.Error busy).state ≡ states.Error
+state_after_error : (queue_after_change changes.Error busy).state ≡ states.Error
 state_after_error = refl
 
-answers_after_error : (after_change changes.Error busy).responder.answers ≡ []
+answers_after_error : (queue_after_change changes.Error busy).responder.answers ≡ []
 answers_after_error = refl
 
-oldest_after_error : (after_change changes.Error busy).requester.oldest ≡ 1
+oldest_after_error : (queue_after_change changes.Error busy).requester.oldest ≡ 1
 oldest_after_error = refl
 
 -- Reset empties queues and numbers; the incarnation rises by 1, and the count of timers stays
-after_reset : (after_change changes.Reset busy).incarnation ≡ 2
+after_reset : (queue_after_change changes.Reset busy).incarnation ≡ 2
 after_reset = refl
 
-occupied_after_reset : occupied (after_change changes.Reset busy).sends ≡ 0
+occupied_after_reset : occupied_count (queue_after_change changes.Reset busy).sends ≡ 0
 occupied_after_reset = refl
 
-peer_after_reset : (after_change changes.Reset busy).peer ≡ None
+peer_after_reset : (queue_after_change changes.Reset busy).peer ≡ None
 peer_after_reset = refl
 
-timers_after_reset : (after_change changes.Reset (record busy { requester = record busy.requester { timers = 4 } })).requester.timers ≡ 4
+timers_after_reset : (queue_after_change changes.Reset (record busy { requester = record busy.requester { timers = 4 } })).requester.timers ≡ 4
 timers_after_reset = refl

@@ -11,7 +11,7 @@ use Rattle.ca_base.specs.declared.queue_numbers.Message.TheVariants as messages
 use Rattle.ca_base.specs.objects.QueuePair.{QueuePair, Present}
 use Rattle.ca_base.specs.objects.SharedReceives.{SharedReceives, after_receive_post, empty_receives}
 use Rattle.ca_base.specs.objects.Window.{after_binding, after_window_allocation, vacant_window}
-use Rattle.ca_base.specs.objects.WorkQueue.{after_post, after_take, empty_queue}
+use Rattle.ca_base.specs.objects.WorkQueue.{with_item, after_take, empty_queue}
 use Rattle.ca_wire.specs.declared.requests.SendKind.{SendKind}
 use Rattle.ca_wire.specs.declared.requests.SendKind.TheVariants.{Plain, WithImmediate, WithInvalidate}
 use Rattle.ca_wire.specs.Builders.{acknowledgement, send_packet, write_packet}
@@ -23,7 +23,7 @@ use Rattle.ca_model.specs.declared.mark.Mark.{Mark}
 use Rattle.ca_model.specs.declared.mark.Mark.TheVariants as marks
 use Rattle.ca_model.specs.declared.verb.Verb.{Verb}
 use Rattle.ca_model.specs.declared.verb.Verb.TheVariants as verbs
-use Rattle.ca_model.specs.machine.Plan.{Change, ◌:=◌, Outcome, NotReady, Did, put_all}
+use Rattle.ca_model.specs.machine.Plan.{Update, ◌:=◌, Outcome, NotReady, Did, put_all}
 use Rattle.ca_model.specs.machine.Step.{step}
 use Rattle.ca_model.specs.machine.World.{World, Queue_of, Srq_of, Window_of}
 use Rattle.ca_model.proofs.Literals.{s, q, k, request, completion}
@@ -53,7 +53,7 @@ flushed_receive at = completion (q 0 256) true at 9 operations.Recv statuses.Flu
 -- two SENDs are posted, of which the first was sent; the first receive is in use, and a second is posted
 abbrev busy : QueuePair
 busy = record (with_begun 1 1 (with_posted (signalled (send_of 8)) (with_posted (signalled (send_of 8)) ready))) {
-  receives = Some (after_take (after_post (receive_of 8) (after_post (receive_of 600) (empty_queue 2))));
+  receives = Some (after_take (with_item (receive_of 8) (with_item (receive_of 600) (empty_queue 2))));
   responder = record ready.responder { message = Some (messages.Send 0 (receive_of 600) 256) };
 }
 
@@ -78,7 +78,7 @@ flushed_though_not_signalled : completions (with_queue (in_state states.Error)) 
 flushed_though_not_signalled = refl
 
 -- a packet that arrives
-abbrev arrives : List Change → QueuePair → Fields → List Completion
+abbrev arrives : List Update → QueuePair → Fields → List Completion
 arrives changes p f =
     completions (put_all (changes ++ (Queue_of (q 0 256) := Present p) ∷ []) furnished) (verbs.Inject (q 0 256) (spelling f))
 
@@ -121,7 +121,7 @@ unfolding row_of be_bytes packet_bytes number_at bth_at front_at reth_from atomi
 at_the_end_with_immediate = refl
 
 -- the window 1 of type 2 is bound through this queue pair
-abbrev bound : List Change
+abbrev bound : List Update
 bound =
     (Window_of (s 0 0 1) := after_binding 5 (Some (q 0 256)) 0 0x100000000 8 all_rights (after_window_allocation 2 (vacant_window (s 0 0 1)))) ∷ []
 
@@ -142,7 +142,7 @@ write_with_immediate = refl
 abbrev sharing : QueuePair
 sharing = record ready { srq = Some 0; receives = None }
 
-abbrev two_shared : List Change
+abbrev two_shared : List Update
 two_shared = (Srq_of (s 0 0 0) := record { srq = Some (after_receive_post (receive_of 8) (after_receive_post (receive_of 8) (empty_receives 2))); users = 1 }) ∷ []
 
 by_a_shared_receive : arrives two_shared sharing (send Plain 0 1 8) ≡ received 8 None None ∷ []

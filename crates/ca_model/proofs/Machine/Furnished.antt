@@ -15,13 +15,13 @@ use Rattle.ca_base.specs.declared.rights.Rights.{Rights}
 use Rattle.ca_base.specs.Configuration.{Configuration}
 use Rattle.ca_base.specs.Memory.{zeros}
 use Rattle.ca_base.specs.objects.CompletionQueue.{empty_cq, after_reserve}
-use Rattle.ca_base.specs.objects.Mailbox.{Mailbox, MailEnvelope, empty_mailbox, accepting}
+use Rattle.ca_base.specs.objects.Mailbox.{Mailbox, MailEnvelope, empty_mailbox, with_peer}
 use Rattle.ca_base.specs.objects.QueuePair.{QueuePair, Present, queue_at_start, psn_base}
 use Rattle.ca_base.specs.objects.Region.{Region, after_allocation, after_registration, vacant_region, with_window_bound}
 use Rattle.ca_base.specs.objects.SharedReceives.{after_receive_post, empty_receives}
 use Rattle.ca_base.specs.objects.Window.{after_window_allocation, vacant_window}
-use Rattle.ca_base.specs.objects.WorkQueue.{after_post, empty_queue}
-use Rattle.ca_model.specs.machine.Plan.{Change, ◌:=◌, put_all}
+use Rattle.ca_base.specs.objects.WorkQueue.{with_item, empty_queue}
+use Rattle.ca_model.specs.machine.Plan.{Update, ◌:=◌, put_all}
 use Rattle.ca_model.specs.machine.World.{World, opening_world, Cq_of, Domain_of, Queue_of, Region_of, Srq_of, Window_of}
 use Rattle.ca_model.proofs.Literals.{d, s, q, k, r, run, list, piece, request, receive, adapter}
 
@@ -76,7 +76,7 @@ ready = in_state states.Rts
 
 -- a request is posted
 abbrev pub with_posted : SendRequest → QueuePair → QueuePair
-with_posted x p = record p { sends = after_post (record { request = x; drawn = None }) p.sends }
+with_posted x p = record p { sends = with_item (record { request = x; drawn = None }) p.sends }
 
 -- so many requests have begun, with so many PSNs from the first on
 abbrev pub with_begun : ℕ → ℕ → QueuePair → QueuePair
@@ -87,7 +87,7 @@ abbrev pub gone_back : QueuePair → QueuePair
 gone_back p = record p { requester = record p.requester { cursor = psn_base } }
 
 abbrev pub with_received : RecvRequest → QueuePair → QueuePair
-with_received x p = record p { receives = Some (after_post x (empty_queue 2)) }
+with_received x p = record p { receives = Some (with_item x (empty_queue 2)) }
 
 abbrev pub with_answers : List Queued → QueuePair → QueuePair
 with_answers answers p = record p { responder = record p.responder { answers = answers } }
@@ -100,7 +100,7 @@ envelope lot = record { lot = lot; bytes = 1 ∷ []; delivered = 0 }
 -- the newest first
 abbrev pub mailbox_for : ℕ → ℕ → List MailEnvelope → Mailbox
 mailbox_for peer next envelopes =
-    record (accepting 1 (Some (record { queue = q peer 256; incarnation = 1 })) empty_mailbox) { next = next; envelopes = envelopes }
+    record (with_peer 1 (Some (record { queue = q peer 256; incarnation = 1 })) empty_mailbox) { next = next; envelopes = envelopes }
 
 -- the whole number of a PSN
 abbrev pub at : ℕ → ℕ
@@ -111,7 +111,7 @@ abbrev pub first_bytes : ℕ → Run
 first_bytes count = run 0 0 0 count
 
 -- the region 0 over the whole page, with these rights
-abbrev pub region_with : Rights → List Change
+abbrev pub region_with : Rights → List Update
 region_with rights = (Region_of (s 0 0 0) := after_registration (s 0 0 0) (first_bytes 4096) rights vacant_region) ∷ []
 
 -- a region over the whole page with all rights, valid under the key 1 in slot 0
@@ -121,7 +121,7 @@ registered slot = after_registration (s 0 0 slot) (first_bytes 4096) all_rights 
 -- the first domain is allocated and has: regions that are valid, valid with a window bound, free for two pages, vacant;
 -- windows that are of type 1, of type 2, vacant; completion queues that are in use, free, missing; shared receive queues
 -- that are in use, free, full, missing; and queue pairs. The first domain of the other adapter is allocated and empty.
-abbrev pub furniture : List Change
+abbrev pub furniture : List Update
 furniture =
     (Domain_of (d 0 0) := record { allocated = true; objects = 11 })
     ∷ (Domain_of (d 1 0) := record { allocated = true; objects = 0 })

@@ -12,7 +12,7 @@ use Rattle.ca_base.specs.declared.rights.Rights.{Rights}
 use Rattle.ca_base.specs.objects.QueuePair.{Present, QueuePair}
 use Rattle.ca_base.specs.objects.Region.{vacant_region, after_allocation, after_fast_registration, with_window_bound}
 use Rattle.ca_base.specs.objects.Window.{vacant_window, after_binding, after_window_allocation}
-use Rattle.ca_base.specs.objects.WorkQueue.{after_post}
+use Rattle.ca_base.specs.objects.WorkQueue.{with_item}
 use Rattle.ca_wire.specs.declared.requests.SendKind.TheVariants.{WithInvalidate}
 use Rattle.ca_wire.specs.Builders.{send_packet}
 use Rattle.ca_wire.specs.Decoding.{packet_in, front_at, bth_at, number_at, reth_from, atomic_from, aeth_from, number_from, payload_at, payload_behind, body_in}
@@ -22,7 +22,7 @@ use Rattle.ca_model.specs.declared.event.Event.TheVariants as events
 use Rattle.ca_model.specs.declared.mark.Mark.{Mark}
 use Rattle.ca_model.specs.declared.mark.Mark.TheVariants as marks
 use Rattle.ca_model.specs.declared.verb.Verb.TheVariants as verbs
-use Rattle.ca_model.specs.machine.Plan.{Change, ◌:=◌, Outcome, NotReady, Did, put_all}
+use Rattle.ca_model.specs.machine.Plan.{Update, ◌:=◌, Outcome, NotReady, Did, put_all}
 use Rattle.ca_model.specs.machine.Step.{step}
 use Rattle.ca_model.specs.machine.World.{Queue_of, Region_of, Window_of}
 use Rattle.ca_model.proofs.Literals.{s, q, k, r}
@@ -39,20 +39,20 @@ cause_of (NotReady reason) = None
 cause_of (Did w ms) = cause_in ms
 
 -- in the furnished world with these changes, the operation, posted with this byte, is performed
-abbrev performed : List Change → Option ℕ → SendOp → Option (Option OpRefusal)
+abbrev performed : List Update → Option ℕ → SendOp → Option (Option OpRefusal)
 performed changes drawn op =
     cause_of (step pair (put_all (changes ++ (Queue_of (q 0 256) := Present posted) ∷ []) furnished) (events.Request (q 0 256) lots.Pass))
   where
     posted : QueuePair
-    posted = record ready { sends = after_post (record { request = signalled op; drawn = drawn }) ready.sends }
+    posted = record ready { sends = with_item (record { request = signalled op; drawn = drawn }) ready.sends }
 
 -- an operation over changes of the furnished world, and why it is refused
 record Case : Type 0 where
-  changes : List Change
+  changes : List Update
   op : SendOp
   cause : Option OpRefusal
 
-abbrev case : List Change → SendOp → Option OpRefusal → Case
+abbrev case : List Update → SendOp → Option OpRefusal → Case
 case changes op cause = record { changes = changes; op = op; cause = cause }
 
 abbrev PerformedWith : Option ℕ → List Case → Type 0
@@ -108,7 +108,7 @@ bind_type_1_without_a_byte : PerformedWith None (
 bind_type_1_without_a_byte = refl
 
 -- the window 1 of type 2, bound through a queue pair, under the low byte 5; the region 0 has it
-abbrev bound_window : ℕ → List Change
+abbrev bound_window : ℕ → List Update
 bound_window number =
     (Window_of (s 0 0 1) := after_binding 5 (Some (q 0 number)) 0 0x100000000 8 all_rights (after_window_allocation 2 (vacant_window (s 0 0 1))))
     ∷ (Region_of (s 0 0 0) := with_window_bound (registered 0))
@@ -159,15 +159,15 @@ fast_registration = refl
 
 -- a key, and why it is not invalidated
 record Invalidated : Type 0 where
-  changes : List Change
+  changes : List Update
   key : ℕ
   cause : Option OpRefusal
 
-abbrev invalidated : List Change → ℕ → Option OpRefusal → Invalidated
+abbrev invalidated : List Update → ℕ → Option OpRefusal → Invalidated
 invalidated changes key cause = record { changes = changes; key = key; cause = cause }
 
 -- the region 2 is fast-registered, with so many windows bound
-abbrev fast_region : ℕ → List Change
+abbrev fast_region : ℕ → List Update
 fast_region bound =
     (Region_of (s 0 0 2) := record (after_fast_registration (s 0 0 2) 5 0 0 8 all_rights (0 ∷ []) (after_allocation 2 vacant_region)) { bound = bound })
     ∷ []
@@ -201,7 +201,7 @@ local_invalidate : map (λ i. performed i.changes None (ops.LocalInv (k i.key)))
 local_invalidate = refl
 
 -- by a SEND with Invalidate that arrives, of which the receive completes
-abbrev received : List Change → ℕ → Option (Option OpRefusal)
+abbrev received : List Update → ℕ → Option (Option OpRefusal)
 received changes key =
     cause_of (step pair (put_all (changes ++ (Queue_of (q 0 256) := Present (with_received (receive_of 8) ready)) ∷ []) furnished)
     (events.Verb 0 (verbs.Inject (q 0 256) (spelling (send_packet (WithInvalidate (k key)) (record { index = 0; count = 1 }) false 256 0 [])))))

@@ -19,7 +19,7 @@ use Rattle.ca_model.specs.declared.mark.Drop1.{Drop1}
 use Rattle.ca_model.specs.declared.mark.Drop1.TheVariants as drops
 use Rattle.ca_model.specs.declared.mark.Mark.{Mark}
 use Rattle.ca_model.specs.declared.verb.Verb.TheVariants as verbs
-use Rattle.ca_model.specs.machine.Plan.{Change, ◌:=◌, Outcome, NotReady, Did, put_all}
+use Rattle.ca_model.specs.machine.Plan.{Update, ◌:=◌, Outcome, NotReady, Did, put_all}
 use Rattle.ca_model.specs.machine.Step.{step}
 use Rattle.ca_model.specs.machine.World.{Queue_of}
 use Rattle.ca_model.proofs.Literals.{q, k, r, list, piece}
@@ -103,7 +103,7 @@ atomic_then_send = sender 1 1 2 2 (add_of 8 ∷ send_of 8 ∷ [])
 
 -- a packet that arrives, in the furnished world with these changes
 record Case : Type 0 where
-  changes : List Change
+  changes : List Update
   queue : QueuePair
   packet : Fields
   seen : Seen
@@ -111,7 +111,7 @@ record Case : Type 0 where
 abbrev case : QueuePair → Fields → Seen → Case
 case queue packet seen = record { changes = []; queue = queue; packet = packet; seen = seen }
 
-abbrev case_with : List Change → QueuePair → Fields → Seen → Case
+abbrev case_with : List Update → QueuePair → Fields → Seen → Case
 case_with changes queue packet seen = record { changes = changes; queue = queue; packet = packet; seen = seen }
 
 abbrev arrived : Case → Option Seen

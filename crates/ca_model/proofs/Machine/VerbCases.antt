@@ -6,7 +6,7 @@ use Rattle.ca_base.specs.declared.change.Field.TheVariants as fields
 use Rattle.ca_base.specs.declared.change.State.TheVariants as states
 use Rattle.ca_base.specs.declared.request.SendOp.TheVariants as ops
 use Rattle.ca_base.specs.declared.step.Reason.TheVariants as reasons
-use Rattle.ca_base.specs.objects.WorkQueue.{after_post, empty_queue}
+use Rattle.ca_base.specs.objects.WorkQueue.{with_item, empty_queue}
 use Rattle.ca_model.specs.declared.answer.Answer.{Answer}
 use Rattle.ca_model.specs.declared.answer.Answer.TheVariants as answers
 use Rattle.ca_model.specs.declared.answer.Refusal.TheVariants as refusals
@@ -247,7 +247,7 @@ post_recv_in_init : AnsweredIn (with_queue (in_state states.Init)) ((verbs.PostR
 post_recv_in_init = refl
 
 -- both places are occupied
-post_recv_to_full : AnsweredIn (with_queue (record ready { receives = Some (after_post (receive_of 8) (after_post (receive_of 8) (empty_queue 2))) }))
+post_recv_to_full : AnsweredIn (with_queue (record ready { receives = Some (with_item (receive_of 8) (with_item (receive_of 8) (empty_queue 2))) }))
     ((verbs.PostRecv (s 0 0 0) (receive_of 8) ⟶ refused refusals.QueueFull) ∷ [])
 post_recv_to_full = refl
 

@@ -12,7 +12,7 @@ use Rattle.ca_base.specs.objects.SharedReceives.{SharedReceives, SrqSlot, after_
 use Rattle.ca_base.specs.objects.Slices.{has_queue}
 use Rattle.ca_model.specs.declared.mark.Mark.{Mark}
 use Rattle.ca_model.specs.declared.mark.Mark.TheVariants as marks
-use Rattle.ca_model.specs.machine.Plan.{Plan, Stuck, Look, If, Change, ◌:=◌}
+use Rattle.ca_model.specs.machine.Plan.{Plan, Stuck, Look, If, Update, ◌:=◌}
 use Rattle.ca_model.specs.machine.Row.{Effects}
 use Rattle.ca_model.specs.machine.World.{Cq_of, Queue_of, Srq_of}
 
@@ -55,22 +55,22 @@ completions_to q cq (m ∷ ms) = by m ++ completions_to q cq ms
     by m = []
 
 -- the completion queues with the completions among marks
-abbrev pub cq_changes : QueuePair → Around → List Mark → List Change
-cq_changes q a ms =
+abbrev pub cq_updates : QueuePair → Around → List Mark → List Update
+cq_updates q a ms =
     (Cq_of (send_cq_of q) := option_map (after_puts (completions_to q q.send_cq ms)) a.send)
     ∷ (Cq_of (recv_cq_of q) := option_map (after_puts (completions_to q q.recv_cq ms)) a.recv)
     ∷ []
 
 -- the shared receive queue with another value
-abbrev pub srq_changes : QueuePair → Around → (SharedReceives → SharedReceives) → List Change
-srq_changes q a f = by q.srq a.shared
+abbrev pub srq_updates : QueuePair → Around → (SharedReceives → SharedReceives) → List Update
+srq_updates q a f = by q.srq a.shared
   where
-    by : Option ℕ → Option SrqSlot → List Change
+    by : Option ℕ → Option SrqSlot → List Update
     by (Some srq) (Some slot) = (Srq_of (srq_of q srq) := record slot { srq = option_map f slot.srq }) ∷ []
     by srq slot = []
 
 -- what effects change: the queue pair, the completion queues, and the shared receive queue where they took a receive
-abbrev pub changes_of : QueuePair → Around → Effects → List Change
-changes_of q a e =
-    (Queue_of q.queue := Present e.queue) ∷ cq_changes q a e.marks
-    ++ (if e.takes_shared then srq_changes q a after_receive_take else [])
+abbrev pub updates_of : QueuePair → Around → Effects → List Update
+updates_of q a e =
+    (Queue_of q.queue := Present e.queue) ∷ cq_updates q a e.marks
+    ++ (if e.takes_shared then srq_updates q a after_receive_take else [])

@@ -20,7 +20,7 @@ use Rattle.ca_model.specs.declared.mark.Mark.{Mark}
 use Rattle.ca_model.specs.declared.mark.Mark.TheVariants as marks
 use Rattle.ca_model.specs.Past.{remote_ask}
 use Rattle.ca_model.specs.machine.Completions.{flush_marks}
-use Rattle.ca_model.specs.machine.Row.{Effects, quiet}
+use Rattle.ca_model.specs.machine.Row.{Effects, queue_and_marks}
 
 abbrev pub with_responder : ResponderNumbers → QueuePair → QueuePair
 with_responder numbers q = record q { responder = numbers }
@@ -57,9 +57,9 @@ with_message message q = with_responder (record q.responder { message = message 
 
 -- A NAK at the expected PSN. The queue pair moves to Error, where all that is posted is flushed, and keeps its response
 -- queue.
-abbrev pub refused : NakCode → QueuePair → Effects
-refused code q =
-    quiet (in_error (with_answer (queued.Nak q.responder.expected (nak_code code)) q)) (flush_marks q)
+abbrev pub refusal_effects : NakCode → QueuePair → Effects
+refusal_effects code q =
+    queue_and_marks (in_error (with_answer (queued.Nak q.responder.expected (nak_code code)) q)) (flush_marks q)
 
 -- the PSN of a queued answer: of a READ that of its next response
 abbrev pub psn_of_answer : Queued → ℕ

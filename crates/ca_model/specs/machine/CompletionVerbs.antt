@@ -15,24 +15,24 @@ use Rattle.ca_base.specs.objects.SharedReceives.{SharedReceives, after_receive_r
 use Rattle.ca_base.specs.objects.WorkQueue.{after_retire}
 use Rattle.ca_model.specs.declared.answer.Answer.TheVariants as answers
 use Rattle.ca_model.specs.declared.answer.Refusal.TheVariants.{CqInUse, NoDomain, NoSuch, OutOfRange, SlotTaken, SrqInUse}
-use Rattle.ca_model.specs.machine.Plan.{Plan, Stuck, Look, If, Change, ◌:=◌}
-use Rattle.ca_model.specs.machine.VerbAnswers.{Call, Answered, Refuse, Unless}
+use Rattle.ca_model.specs.machine.Plan.{Plan, Stuck, Look, If, Update, ◌:=◌}
+use Rattle.ca_model.specs.machine.VerbAnswers.{Call, Answer_plan, Refuse_plan, Unless_plan}
 use Rattle.ca_model.specs.machine.World.{Cq_of, Domain_of, Queue_of, Srq_of}
 
 -- CreateCq
 abbrev pub create_cq_plan : Call → Slot → ℕ → Plan
 create_cq_plan call s capacity = Look (Domain_of s.domain) (λ domain. Look (Cq_of s) (λ cq.
-    Unless call
+    Unless_plan call
     ((not domain.allocated, NoDomain) ∷ (is_some cq, SlotTaken)
     ∷ ((capacity == 0) || nat_lt MAX_CAPACITY capacity, OutOfRange fields.Capacity) ∷ [])
-    (Answered call answers.Fine
+    (Answer_plan call answers.Fine
     ((Domain_of s.domain := with_object domain) ∷ (Cq_of s := Some (empty_cq capacity)) ∷ []) [])))
 
 -- DestroyCq
 abbrev pub destroy_cq_plan : Call → Slot → Plan
 destroy_cq_plan call s = Look (Domain_of s.domain) (λ domain. Look (Cq_of s) (λ cq.
-    Unless call ((is_none cq, NoSuch) ∷ (option_map_or is_in_use cq false, CqInUse) ∷ [])
-    (Answered call answers.Fine ((Domain_of s.domain := without_object domain) ∷ (Cq_of s := None) ∷ []) [])))
+    Unless_plan call ((is_none cq, NoSuch) ∷ (option_map_or is_in_use cq false, CqInUse) ∷ [])
+    (Answer_plan call answers.Fine ((Domain_of s.domain := without_object domain) ∷ (Cq_of s := None) ∷ []) [])))
 
 -- a depth is out of its range
 abbrev pub is_no_depth : ℕ → Bool
@@ -41,16 +41,16 @@ is_no_depth depth = (depth == 0) || nat_lt MAX_DEPTH depth
 -- CreateSrq
 abbrev pub create_srq_plan : Call → Slot → ℕ → Plan
 create_srq_plan call s depth = Look (Domain_of s.domain) (λ domain. Look (Srq_of s) (λ slot.
-    Unless call
+    Unless_plan call
     ((not domain.allocated, NoDomain) ∷ (is_some slot.srq, SlotTaken) ∷ (is_no_depth depth, OutOfRange fields.Depth) ∷ [])
-    (Answered call answers.Fine
+    (Answer_plan call answers.Fine
     ((Domain_of s.domain := with_object domain) ∷ (Srq_of s := record slot { srq = Some (empty_receives depth) }) ∷ []) [])))
 
 -- DestroySrq
 abbrev pub destroy_srq_plan : Call → Slot → Plan
 destroy_srq_plan call s = Look (Domain_of s.domain) (λ domain. Look (Srq_of s) (λ slot.
-    Unless call ((is_none slot.srq, NoSuch) ∷ (nat_lt 0 slot.users, SrqInUse) ∷ [])
-    (Answered call answers.Fine
+    Unless_plan call ((is_none slot.srq, NoSuch) ∷ (nat_lt 0 slot.users, SrqInUse) ∷ [])
+    (Answer_plan call answers.Fine
     ((Domain_of s.domain := without_object domain) ∷ (Srq_of s := record slot { srq = None }) ∷ []) [])))
 
 -- a queue pair after its completions among these were polled: each frees the places up to its own
@@ -78,7 +78,7 @@ receives_after_poll cq srq (c ∷ cs) s =
     (if option_eq (λ a b. a == b) (source_of_completion cq c) (Some srq) then after_receive_retire c.place s else s)
 
 -- looks at what a completion that is taken frees: its shared receive queue, or else its queue pair
-abbrev pub With_place : Slot → CompletionQueue → List Completion → Completion → (Change → Plan) → Plan
+abbrev pub With_place : Slot → CompletionQueue → List Completion → Completion → (Update → Plan) → Plan
 With_place s cq polled c k = by (source_of_completion cq c)
   where
     shared : ℕ → Slot
@@ -90,7 +90,7 @@ With_place s cq polled c k = by (source_of_completion cq c)
         k (Srq_of (shared srq) := record slot { srq = option_map (receives_after_poll cq srq polled) slot.srq }))
 
 -- the same for all that are taken
-abbrev pub With_places : Slot → CompletionQueue → List Completion → List Completion → (List Change → Plan) → Plan
+abbrev pub With_places : Slot → CompletionQueue → List Completion → List Completion → (List Update → Plan) → Plan
 With_places s cq polled [] k = k []
 With_places s cq polled (c ∷ cs) k =
     With_place s cq polled c (λ change. With_places s cq polled cs (λ changes. k (change ∷ changes)))
@@ -98,13 +98,13 @@ With_places s cq polled (c ∷ cs) k =
 -- these completions are taken
 abbrev pub Take_plan : Call → Slot → CompletionQueue → List Completion → Plan
 Take_plan call s cq polled = With_places s cq polled polled (λ changes.
-    Answered call (answers.Polled (record { items = polled })) ((Cq_of s := Some (after_polls (length polled) cq)) ∷ changes) [])
+    Answer_plan call (answers.Polled (record { items = polled })) ((Cq_of s := Some (after_polls (length polled) cq)) ∷ changes) [])
 
 -- a poll of what stands in the slot
 abbrev pub Poll_of : Call → Slot → ℕ → ℕ → Option CompletionQueue → Plan
-Poll_of call s n least None = Refuse call NoSuch
+Poll_of call s n least None = Refuse_plan call NoSuch
 Poll_of call s n least (Some cq) =
-    Unless call (((n == 0) || nat_lt MAX_POLLED n || nat_lt n least, OutOfRange fields.Length) ∷ [])
+    Unless_plan call (((n == 0) || nat_lt MAX_POLLED n || nat_lt n least, OutOfRange fields.Length) ∷ [])
     (If (nat_lt (length cq.waiting) least) (Stuck reasons.Empty) (Take_plan call s cq (take n cq.waiting)))
 
 -- Poll: it is possible once as many completions wait as are asked for at least

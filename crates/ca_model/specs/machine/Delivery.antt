@@ -20,11 +20,11 @@ use Rattle.ca_model.specs.declared.mark.Drop1.TheVariants as drops
 use Rattle.ca_model.specs.declared.mark.Mark.{Mark}
 use Rattle.ca_model.specs.declared.mark.Mark.TheVariants as marks
 use Rattle.ca_model.specs.Packets.{is_response}
-use Rattle.ca_model.specs.machine.Around.{With_around, changes_of, shared_in}
+use Rattle.ca_model.specs.machine.Around.{With_around, updates_of, shared_in}
 use Rattle.ca_model.specs.machine.Duplicates.{request_row}
-use Rattle.ca_model.specs.machine.Plan.{Plan, Stuck, Look, If, Finish, Change, ◌:=◌}
-use Rattle.ca_model.specs.machine.Responses.{dropped, response_row}
-use Rattle.ca_model.specs.machine.Row.{Row, Row_plan, ends, Does}
+use Rattle.ca_model.specs.machine.Plan.{Plan, Stuck, Look, If, Finish, Update, ◌:=◌}
+use Rattle.ca_model.specs.machine.Responses.{drop_effects, response_row}
+use Rattle.ca_model.specs.machine.Row.{Row, Row_plan, plain_row, Does}
 use Rattle.ca_model.specs.machine.Shapes.{Shape, shape_of}
 use Rattle.ca_model.specs.machine.World.{Mailbox_of, Queue_of}
 
@@ -42,25 +42,25 @@ packet_arrived p envelope shared q = if is_response p.opcode then response_row p
   where
     by : Option Shape → Row
     by (Some shape) = request_row p envelope shared shape q
-    by None = ends (Does (dropped q drops.State))
+    by None = plain_row (Does (drop_effects q drops.State))
 
 -- the row of bytes that arrive
 abbrev pub arrival_row : List ℕ → Option ℕ → Option SharedReceives → QueuePair → Row
 arrival_row bytes envelope shared q = by (packet_in bytes)
   where
     unless : Fields → Option Drop1 → Row
-    unless p (Some cause) = ends (Does (dropped q cause))
+    unless p (Some cause) = plain_row (Does (drop_effects q cause))
     unless p None = packet_arrived p envelope shared q
 
     by : Result Fields WireError → Row
-    by (Err error) = ends (Does (dropped q (drops.Wire error)))
+    by (Err error) = plain_row (Does (drop_effects q (drops.Wire error)))
     by (Ok p) = unless p (first_of (arrival_drops q p))
 
 -- Bytes arrive at a queue pair, after changes and marks that come first.
-abbrev pub Arrive : Configuration → QueuePair → List ℕ → Option ℕ → List Change → List Mark → Plan
+abbrev pub Arrive : Configuration → QueuePair → List ℕ → Option ℕ → List Update → List Mark → Plan
 Arrive c q bytes envelope changes ms = With_around q (λ a.
     Row_plan c (arrival_row bytes envelope (shared_in a) q) (λ e more writes.
-    Finish (changes ++ (changes_of q a e ++ more)) writes (ms ++ marks.Arrived q.queue envelope ∷ e.marks)))
+    Finish (changes ++ (updates_of q a e ++ more)) writes (ms ++ marks.Arrived q.queue envelope ∷ e.marks)))
 
 -- the envelope of an index is delivered: one of the latest that are kept, which was not lost
 abbrev pub deliver_plan : Configuration → QueueId → ℕ → Plan

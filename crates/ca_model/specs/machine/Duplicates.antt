@@ -18,15 +18,15 @@ use Rattle.ca_model.specs.declared.mark.Drop1.TheVariants as drops
 use Rattle.ca_model.specs.Requests.{segments}
 use Rattle.ca_model.specs.machine.Arrivals.{count_of, is_duplicate, is_nak, psn_of_answer, with_answer, with_flag, with_responder}
 use Rattle.ca_model.specs.machine.Expected.{expected_row}
-use Rattle.ca_model.specs.machine.Responses.{dropped}
-use Rattle.ca_model.specs.machine.Row.{Effects, quiet, Row, ends, Does}
+use Rattle.ca_model.specs.machine.Responses.{drop_effects}
+use Rattle.ca_model.specs.machine.Row.{Effects, queue_and_marks, Row, plain_row, Does}
 use Rattle.ca_model.specs.machine.Shapes.{Shape, SendAt, WriteAt, ReadRequest, Atomic}
 
 -- a packet ahead: the first asks for what is missing, the others are dropped
-abbrev pub ahead : QueuePair → Effects
-ahead q =
-    if q.responder.nak_sent then dropped q drops.Stale
-    else quiet (with_flag true (with_answer (queued.Nak q.responder.expected (nak_code PsnSequenceError)) q)) []
+abbrev pub ahead_effects : QueuePair → Effects
+ahead_effects q =
+    if q.responder.nak_sent then drop_effects q drops.Stale
+    else queue_and_marks (with_flag true (with_answer (queued.Nak q.responder.expected (nak_code PsnSequenceError)) q)) []
 
 -- the answers before a PSN
 abbrev pub answers_before : ℕ → List Queued → List Queued
@@ -41,36 +41,36 @@ with_answers_before psn q = with_responder (record q.responder {
 }) q
 
 -- an answer that is given once more
-abbrev pub answered_again : ℕ → Queued → QueuePair → Effects
-answered_again psn answer q = quiet (with_answer answer (with_answers_before psn q)) []
+abbrev pub answer_again : ℕ → Queued → QueuePair → Effects
+answer_again psn answer q = queue_and_marks (with_answer answer (with_answers_before psn q)) []
 
 -- a SEND or a WRITE once more: an ACK of all that came, where nothing waits to be answered
-abbrev pub acked_again : QueuePair → Effects
-acked_again q =
-    if length q.responder.answers == 0 then quiet (with_answer (queued.Ack (q.responder.expected - 1)) q) []
-    else dropped q drops.Unsaved
+abbrev pub ack_again : QueuePair → Effects
+ack_again q =
+    if length q.responder.answers == 0 then queue_and_marks (with_answer (queued.Ack (q.responder.expected - 1)) q) []
+    else drop_effects q drops.Unsaved
 
 -- a READ once more, where all its PSNs lie before the expected one
 abbrev pub read_again : ℕ → Option ℕ → Reth → QueuePair → Effects
 read_again psn envelope h q =
     if nat_le (psn + segments q.responder.mtu h.length) q.responder.expected
-    then answered_again psn (queued.Read psn h.key h.address h.length true envelope true) q
-    else dropped q drops.Unsaved
+    then answer_again psn (queued.Read psn h.key h.address h.length true envelope true) q
+    else drop_effects q drops.Unsaved
 
 -- an atomic once more: what it found is saved, or not any more
 abbrev pub atomic_again : ℕ → Option ℕ → QueuePair → Effects
-atomic_again psn (Some found) q = answered_again psn (queued.Atomic psn found true) q
-atomic_again psn None q = dropped q drops.Unsaved
+atomic_again psn (Some found) q = answer_again psn (queued.Atomic psn found true) q
+atomic_again psn None q = drop_effects q drops.Unsaved
 
 -- a duplicate, by its whole PSN
-abbrev pub duplicate : ℕ → Fields → Option ℕ → Shape → QueuePair → Effects
-duplicate psn p envelope shape q =
-    if nat_le MAX_DUPLICATES (count_of is_duplicate q) then dropped q drops.Unsaved else by shape
+abbrev pub duplicate_effects : ℕ → Fields → Option ℕ → Shape → QueuePair → Effects
+duplicate_effects psn p envelope shape q =
+    if nat_le MAX_DUPLICATES (count_of is_duplicate q) then drop_effects q drops.Unsaved else by shape
   where
     by : Shape → Effects
-    by (SendAt place) = acked_again q
-    by (WriteAt place) = acked_again q
-    by ReadRequest = option_map_or (λ h. read_again psn envelope h q) p.reth (dropped q drops.Unsaved)
+    by (SendAt place) = ack_again q
+    by (WriteAt place) = ack_again q
+    by ReadRequest = option_map_or (λ h. read_again psn envelope h q) p.reth (drop_effects q drops.Unsaved)
     by (Atomic kind) = atomic_again psn (saved_at psn q.saved) q
 
 -- a request that arrived: ahead, a duplicate, or the expected one
@@ -79,6 +79,6 @@ request_row p envelope shared shape q = by (widened q.responder.expected p.psn)
   where
     by : ℕ → Row
     by psn =
-        if nat_lt q.responder.expected psn then ends (Does (ahead q))
-        else if nat_lt psn q.responder.expected then ends (Does (duplicate psn p envelope shape q))
+        if nat_lt q.responder.expected psn then plain_row (Does (ahead_effects q))
+        else if nat_lt psn q.responder.expected then plain_row (Does (duplicate_effects psn p envelope shape q))
         else expected_row q shared p envelope shape

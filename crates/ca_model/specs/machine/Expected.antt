@@ -33,30 +33,30 @@ use Rattle.ca_model.specs.declared.mark.Mark.{Mark}
 use Rattle.ca_model.specs.declared.mark.Mark.TheVariants as marks
 use Rattle.ca_model.specs.Packets.{number_put}
 use Rattle.ca_model.specs.Requests.{list_length, segments}
-use Rattle.ca_model.specs.machine.Arrivals.{count_of, has_shared, is_fresh, next_receive, packet_ask, refused, remote_mark, with_ack_at_end, with_answer, with_flag, with_message, with_receive_taken, with_responder}
+use Rattle.ca_model.specs.machine.Arrivals.{count_of, has_shared, is_fresh, next_receive, packet_ask, refusal_effects, remote_mark, with_ack_at_end, with_answer, with_flag, with_message, with_receive_taken, with_responder}
 use Rattle.ca_model.specs.machine.Completions.{receive_failure, receive_mark}
 use Rattle.ca_model.specs.machine.Numbering.{list_asks}
 use Rattle.ca_model.specs.machine.Requester.{local_denial}
 use Rattle.ca_model.specs.machine.Responses.{local_writes, writes_by}
 use Rattle.ca_model.specs.machine.Row as rows
-use Rattle.ca_model.specs.machine.Row.{Effects, quiet, Row, Does}
+use Rattle.ca_model.specs.machine.Row.{Effects, queue_and_marks, Row, Does}
 use Rattle.ca_model.specs.machine.Shapes.{Shape, SendAt, WriteAt, ReadRequest, Atomic, fits_place}
 
 -- what a WRITE packet reaches: the key, where it goes on, what is left, and the message's whole length
-pub record Reach : Type 0 where
+pub record WriteReach : Type 0 where
   pub key : Key
   pub address : ℕ
   pub left : ℕ
   pub whole : ℕ
 
-abbrev pub reach_of_reth : Reth → Reach
+abbrev pub reach_of_reth : Reth → WriteReach
 reach_of_reth h = record { key = h.key; address = h.address; left = h.length; whole = h.length }
 
 -- a packet that begins a WRITE has it in its RETH, one that goes on in the message in progress
-abbrev pub write_reach : QueuePair → Fields → Option Reach
+abbrev pub write_reach : QueuePair → Fields → Option WriteReach
 write_reach q p = by p.reth q.responder.message
   where
-    by : Option Reth → Option Message → Option Reach
+    by : Option Reth → Option Message → Option WriteReach
     by (Some h) message = Some (reach_of_reth h)
     by None (Some (messages.Write key address left count)) =
         Some (record { key = key; address = address; left = left; whole = count })
@@ -78,7 +78,7 @@ fits_payload q p (WriteAt place) = fits_place q.responder.mtu place (length p.pa
 fits_payload q p shape = true
 
 -- a WRITE leaves bytes before its last packet, and ends exactly with it
-abbrev pub fits_left : ℕ → Position → Reach → Bool
+abbrev pub fits_left : ℕ → Position → WriteReach → Bool
 fits_left count place r = if ends place then count == r.left else nat_lt count r.left
 
 abbrev pub fits_write : QueuePair → Fields → Shape → Bool
@@ -112,30 +112,30 @@ takes_receive p (WriteAt place) = is_some p.imm
 takes_receive p shape = false
 
 -- an RNR NAK is queued, and nothing else changes
-abbrev pub not_received : QueuePair → Effects
-not_received q = quiet (with_flag true (with_answer (queued.Rnr q.responder.expected) q)) []
+abbrev pub rnr_effects : QueuePair → Effects
+rnr_effects q = queue_and_marks (with_flag true (with_answer (queued.Rnr q.responder.expected) q)) []
 
 -- the packet is accepted: the expected PSN goes past it, the MSN rises at a message's end, and an ACK is queued where it
 -- is asked for
-abbrev pub accepted : Fields → ℕ → Bool → Bool → QueuePair → QueuePair
-accepted p count at_end asks_ack q = with_responder (record q.responder {
+abbrev pub queue_after_packet : Fields → ℕ → Bool → Bool → QueuePair → QueuePair
+queue_after_packet p count at_end asks_ack q = with_responder (record q.responder {
   expected = q.responder.expected + count;
   msn = if at_end then suc q.responder.msn % 2 ^ 24 else q.responder.msn;
   answers = if asks_ack && p.ack then with_ack_at_end q.responder.expected q.responder.answers else q.responder.answers;
 }) q
 
 -- effects that take a receive of a shared receive queue, where the queue pair has one
-abbrev pub taking : QueuePair → Effects → Effects
-taking q e = record e { takes_shared = has_shared q }
+abbrev pub with_shared_receive : QueuePair → Effects → Effects
+with_shared_receive q e = record e { takes_shared = has_shared q }
 
 -- marks before those of effects
-abbrev pub after_marks : List Mark → Effects → Effects
-after_marks ms e = record e { marks = ms ++ e.marks }
+abbrev pub behind_marks : List Mark → Effects → Effects
+behind_marks ms e = record e { marks = ms ++ e.marks }
 
 -- the receive fails, and the packet is refused
-abbrev pub receive_failed : QueuePair → PlacedReceive → WcStatus → Option OpRefusal → NakCode → Effects
-receive_failed q r status cause code =
-    after_marks (receive_failure q r.place r.receive status cause ∷ []) (refused code (with_message None q))
+abbrev pub receive_failure_effects : QueuePair → PlacedReceive → WcStatus → Option OpRefusal → NakCode → Effects
+receive_failure_effects q r status cause code =
+    behind_marks (receive_failure q r.place r.receive status cause ∷ []) (refusal_effects code (with_message None q))
 
 -- a SEND's bytes with its receive, and how many came before
 pub record Receiving : Type 0 where
@@ -144,10 +144,10 @@ pub record Receiving : Type 0 where
   pub taken : Bool
 
 -- the receive of a SEND packet: the next one where the message begins, and else that of the message in progress
-abbrev pub receiving : QueuePair → Option PlacedReceive → Option Message → Option Receiving
-receiving q next (Some (messages.Send place receive count)) =
+abbrev pub receiving_of : QueuePair → Option PlacedReceive → Option Message → Option Receiving
+receiving_of q next (Some (messages.Send place receive count)) =
     Some (record { receive = record { place = place; receive = receive }; before = count; taken = false })
-receiving q next message = option_map (λ r. record { receive = r; before = 0; taken = true }) next
+receiving_of q next message = option_map (λ r. record { receive = r; before = 0; taken = true }) next
 
 -- the key that the packet ends
 abbrev pub invalidation_of : QueuePair → Fields → Option Invalidation
@@ -167,11 +167,11 @@ with_window_gone i q =
 abbrev pub after_send_packet : QueuePair → Fields → Position → Receiving → Effects
 after_send_packet q p place r =
     if ends place
-    then quiet (with_message None (accepted p 1 true true q))
+    then queue_and_marks (with_message None (queue_after_packet p 1 true true q))
     (receive_mark q r.receive.place r.receive.receive Success operations.Recv (r.before + length p.payload) p.imm
     (option_map (λ key. record { 0 = key }) p.ieth) ∷ [])
-    else quiet (with_message (Some (messages.Send r.receive.place r.receive.receive (r.before + length p.payload)))
-    (accepted p 1 false true q)) []
+    else queue_and_marks (with_message (Some (messages.Send r.receive.place r.receive.receive (r.before + length p.payload)))
+    (queue_after_packet p 1 false true q)) []
 
 -- where the bytes of a SEND packet go
 abbrev pub receive_asks : QueuePair → Fields → Receiving → List Ask
@@ -181,12 +181,12 @@ receive_asks q p r = list_asks q kinds.Write r.before (length p.payload) r.recei
 abbrev pub send_row : QueuePair → Fields → Position → Receiving → Row
 send_row before p place r =
     if nat_lt (list_length r.receive.receive.list.items) (r.before + length p.payload)
-    then rows.ends (Does (took (receive_failed q r.receive LocalLength None InvalidRequest)))
+    then rows.plain_row (Does (took (receive_failure_effects q r.receive LocalLength None InvalidRequest)))
     else record {
       asks = asks;
       invalidation = invalidation_of q p;
-      denied = λ d. Does (took (after_marks (local_denial d ∷ []) (receive_failed q r.receive LocalProtection None RemoteOperationalError)));
-      allowed = λ bytes refusal. Does (took (record (after_marks (local_writes writes) (by refusal)) { writes = writes }));
+      denied = λ d. Does (took (behind_marks (local_denial d ∷ []) (receive_failure_effects q r.receive LocalProtection None RemoteOperationalError)));
+      allowed = λ bytes refusal. Does (took (record (behind_marks (local_writes writes) (by refusal)) { writes = writes }));
     }
   where
     q : QueuePair
@@ -199,37 +199,37 @@ send_row before p place r =
     writes = writes_by asks p.payload
 
     took : Effects → Effects
-    took e = if r.taken then taking q e else e
+    took e = if r.taken then with_shared_receive q e else e
 
     by : Option OpRefusal → Effects
-    by (Some cause) = receive_failed q r.receive MemoryManagement (Some cause) RemoteOperationalError
-    by None = after_marks (revoked_marks q (invalidation_of q p))
+    by (Some cause) = receive_failure_effects q r.receive MemoryManagement (Some cause) RemoteOperationalError
+    by None = behind_marks (revoked_marks q (invalidation_of q p))
         (after_send_packet (with_window_gone (invalidation_of q p) q) p place r)
 
 -- what is left of a WRITE after a packet of so many bytes; addresses count modulo 2^64
-abbrev pub message_left : Reach → ℕ → Message
+abbrev pub message_left : WriteReach → ℕ → Message
 message_left r count = messages.Write r.key ((r.address + count) % 2 ^ 64) (r.left - count) r.whole
 
 -- a WRITE packet took effect: at its end immediate data complete a receive
-abbrev pub after_write_packet : QueuePair → Fields → Position → Reach → Option PlacedReceive → Effects
+abbrev pub after_write_packet : QueuePair → Fields → Position → WriteReach → Option PlacedReceive → Effects
 after_write_packet q p place r next =
-    if ends place then by p.imm next else quiet (with_message (Some (message_left r (length p.payload))) (accepted p 1 false true q)) []
+    if ends place then by p.imm next else queue_and_marks (with_message (Some (message_left r (length p.payload))) (queue_after_packet p 1 false true q)) []
   where
     done : QueuePair → QueuePair
-    done q = with_message None (accepted p 1 true true q)
+    done q = with_message None (queue_after_packet p 1 true true q)
 
     by : Option ℕ → Option PlacedReceive → Effects
-    by (Some imm) (Some receive) = taking q (quiet (done (with_receive_taken q))
+    by (Some imm) (Some receive) = with_shared_receive q (queue_and_marks (done (with_receive_taken q))
         (receive_mark q receive.place receive.receive Success operations.RecvImm r.whole (Some imm) None ∷ []))
-    by imm next = quiet (done q) []
+    by imm next = queue_and_marks (done q) []
 
 -- a WRITE packet: judged for all bytes that are left, of which it touches its payload; one of no bytes meets no key, and
 -- has its mark too
-abbrev pub write_row : QueuePair → Fields → Option ℕ → Position → Option PlacedReceive → Reach → Row
+abbrev pub write_row : QueuePair → Fields → Option ℕ → Position → Option PlacedReceive → WriteReach → Row
 write_row q p envelope place next r = record {
   asks = if r.left == 0 then [] else ask ∷ [];
   invalidation = None;
-  denied = λ d. Does (after_marks (remote_mark d.ask envelope (verdicts.Denied d.denial) ∷ []) (refused RemoteAccessError q));
+  denied = λ d. Does (behind_marks (remote_mark d.ask envelope (verdicts.Denied d.denial) ∷ []) (refusal_effects RemoteAccessError q));
   allowed = λ bytes refusal. Does wrote;
 }
   where
@@ -237,14 +237,14 @@ write_row q p envelope place next r = record {
     ask = packet_ask q r.key kinds.Write r.address r.left (length p.payload)
 
     wrote : Effects
-    wrote = record (after_marks (remote_mark ask envelope (verdicts.Wrote p.payload) ∷ []) (after_write_packet q p place r next)) {
+    wrote = record (behind_marks (remote_mark ask envelope (verdicts.Wrote p.payload) ∷ []) (after_write_packet q p place r next)) {
       writes = if r.left == 0 then [] else (ask, p.payload) ∷ [];
     }
 
 -- a READ Request is queued
 abbrev pub read_queued : QueuePair → Fields → Option ℕ → Reth → Effects
 read_queued q p envelope h =
-    quiet (accepted p (segments q.responder.mtu h.length) true false
+    queue_and_marks (queue_after_packet p (segments q.responder.mtu h.length) true false
     (with_answer (queued.Read q.responder.expected h.key h.address h.length true envelope false) q)) []
 
 -- an atomic: judged for its eight bytes; what it found is saved and queued
@@ -252,7 +252,7 @@ abbrev pub atomic_row : QueuePair → Fields → Option ℕ → Kind → AtomicE
 atomic_row q p envelope kind a = record {
   asks = ask ∷ [];
   invalidation = None;
-  denied = λ d. Does (after_marks (remote_mark d.ask envelope (verdicts.Denied d.denial) ∷ []) (refused RemoteAccessError q));
+  denied = λ d. Does (behind_marks (remote_mark d.ask envelope (verdicts.Denied d.denial) ∷ []) (refusal_effects RemoteAccessError q));
   allowed = λ bytes refusal. Does (acted (little_endian (flat_map (λ b. b) bytes)));
 }
   where
@@ -267,39 +267,39 @@ atomic_row q p envelope kind a = record {
     put found = option_map_or (λ n. n) (number_put kind a found) 0
 
     acted : ℕ → Effects
-    acted found = record (quiet (accepted p 1 true false (saved found))
+    acted found = record (queue_and_marks (queue_after_packet p 1 true false (saved found))
         (remote_mark ask envelope (verdicts.Swapped found (put found)) ∷ [])) {
           writes = (ask, little_endian_bytes (put found)) ∷ [];
         }
 
 -- what the packet asks for, once it is valid and has its receive
 abbrev pub valid_row : QueuePair → Fields → Option ℕ → Option PlacedReceive → Shape → Row
-valid_row q p envelope next (SendAt place) = by (receiving q next q.responder.message)
+valid_row q p envelope next (SendAt place) = by (receiving_of q next q.responder.message)
   where
     by : Option Receiving → Row
     by (Some r) = send_row q p place r
-    by None = rows.ends (Does (refused InvalidRequest q))
+    by None = rows.plain_row (Does (refusal_effects InvalidRequest q))
 valid_row q p envelope next (WriteAt place) = by (write_reach q p)
   where
-    by : Option Reach → Row
+    by : Option WriteReach → Row
     by (Some r) = write_row q p envelope place next r
-    by None = rows.ends (Does (refused InvalidRequest q))
+    by None = rows.plain_row (Does (refusal_effects InvalidRequest q))
 valid_row q p envelope next ReadRequest = by p.reth
   where
     by : Option Reth → Row
-    by (Some h) = rows.ends (Does (read_queued q p envelope h))
-    by None = rows.ends (Does (refused InvalidRequest q))
+    by (Some h) = rows.plain_row (Does (read_queued q p envelope h))
+    by None = rows.plain_row (Does (refusal_effects InvalidRequest q))
 valid_row q p envelope next (Atomic kind) = by p.atomic
   where
     by : Option AtomicEth → Row
     by (Some a) = atomic_row q p envelope kind a
-    by None = rows.ends (Does (refused InvalidRequest q))
+    by None = rows.plain_row (Does (refusal_effects InvalidRequest q))
 
 -- the packet with the expected PSN: the flag is cleared; it is invalid; it has no receive to take; or what it asks for
 abbrev pub expected_row : QueuePair → Option SharedReceives → Fields → Option ℕ → Shape → Row
 expected_row before shared p envelope shape =
-    if is_invalid q p shape then rows.ends (Does (refused InvalidRequest q))
-    else if takes_receive p shape && is_none (next_receive q shared) then rows.ends (Does (not_received q))
+    if is_invalid q p shape then rows.plain_row (Does (refusal_effects InvalidRequest q))
+    else if takes_receive p shape && is_none (next_receive q shared) then rows.plain_row (Does (rnr_effects q))
     else valid_row q p envelope (next_receive q shared) shape
   where
     q : QueuePair

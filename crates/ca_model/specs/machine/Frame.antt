@@ -36,14 +36,14 @@ SameOutcome names (NotReady a) (Did w ns) = ⊥
 SameOutcome names (Did v ms) (NotReady b) = ⊥
 
 -- a name is none of these
-abbrev pub IsNone : Name → List Name → Type 0
-IsNone n [] = Unit {0}
-IsNone n (m ∷ ms) = (name_eq m n ≡ false) × IsNone n ms
+abbrev pub IsNoneOf : Name → List Name → Type 0
+IsNoneOf n [] = Unit {0}
+IsNoneOf n (m ∷ ms) = (name_eq m n ≡ false) × IsNoneOf n ms
 
 -- an outcome leaves all things as they were that have none of these names
 abbrev pub LeavesRest : List Name → World → Outcome → Type 0
 LeavesRest names w (NotReady reason) = Unit {0}
-LeavesRest names w (Did v ms) = (n : Name) → IsNone n names → get v n ≡ get w n
+LeavesRest names w (Did v ms) = (n : Name) → IsNoneOf n names → get v n ≡ get w n
 
 -- all of these names pass a test
 abbrev pub AllPass : (Name → Bool) → List Name → Type 0

@@ -13,7 +13,7 @@ use Rattle.ca_model.specs.declared.answer.Refusal.TheVariants.{NoSuch, OutOfRang
 use Rattle.ca_model.specs.declared.mark.Mark.TheVariants as marks
 use Rattle.ca_model.specs.machine.Delivery.{Arrive}
 use Rattle.ca_model.specs.machine.Plan.{Plan, Look, Read, Finish}
-use Rattle.ca_model.specs.machine.VerbAnswers.{Call, Answered, Refuse, Unless, answer_mark}
+use Rattle.ca_model.specs.machine.VerbAnswers.{Call, Answer_plan, Refuse_plan, Unless_plan, answer_mark}
 use Rattle.ca_model.specs.machine.World.{Queue_of}
 
 -- why an access of the host to a buffer of this length is refused, in order
@@ -26,7 +26,7 @@ host_refusals at bytes =
 -- Store
 abbrev pub store_plan : Call → Run → ℕ → List ℕ → Plan
 store_plan call at buffer bytes =
-    Unless call (host_refusals at buffer)
+    Unless_plan call (host_refusals at buffer)
     (Finish [] (record { runs = at ∷ []; bytes = bytes } ∷ [])
     (answer_mark call answers.Fine
     ∷ marks.Stored (record { adapter = at.adapter; buffer = at.buffer; offset = at.offset }) bytes ∷ []))
@@ -34,12 +34,12 @@ store_plan call at buffer bytes =
 -- Load
 abbrev pub load_plan : Call → Run → ℕ → Plan
 load_plan call at buffer =
-    Unless call (host_refusals at buffer) (Read (at ∷ []) (λ bytes. Answered call (answers.Loaded bytes) [] []))
+    Unless_plan call (host_refusals at buffer) (Read (at ∷ []) (λ bytes. Answer_plan call (answers.Loaded bytes) [] []))
 
 -- Inject
 abbrev pub inject_plan : Configuration → Call → QueueId → List ℕ → Plan
 inject_plan c call q bytes = Look (Queue_of q) by
   where
     by : QueueSlot → Plan
-    by (NoQueue incarnation timers) = Refuse call NoSuch
+    by (NoQueue incarnation timers) = Refuse_plan call NoSuch
     by (Present queue) = Arrive c queue bytes None [] (answer_mark call answers.Fine ∷ [])

@@ -25,12 +25,12 @@ use Rattle.ca_base.specs.objects.Slices.{buffer_length, names_region, slot_of_ke
 use Rattle.ca_base.specs.objects.Window.{Window, Binding, after_bind1, after_binding, bound_key}
 use Rattle.ca_model.specs.declared.mark.Mark.{Mark}
 use Rattle.ca_model.specs.declared.mark.Mark.TheVariants as marks
-use Rattle.ca_model.specs.machine.Acknowledged.{failed, with_requester}
+use Rattle.ca_model.specs.machine.Acknowledgements.{failure_effects, with_requester}
 use Rattle.ca_model.specs.machine.Completions.{success_marks}
 use Rattle.ca_model.specs.machine.Expected.{with_window_gone}
 use Rattle.ca_model.specs.machine.Numbering.{Numbered}
-use Rattle.ca_model.specs.machine.Plan.{Plan, Look, If, Change, ◌:=◌, Write}
-use Rattle.ca_model.specs.machine.Row.{Effects, quiet, Row, Row_plan, Does, region_under, unless_none}
+use Rattle.ca_model.specs.machine.Plan.{Plan, Look, If, Update, ◌:=◌, Write}
+use Rattle.ca_model.specs.machine.Row.{Effects, queue_and_marks, Row, Row_plan, Does, region_under, unless_none}
 use Rattle.ca_model.specs.machine.World.{Region_of, Window_of}
 
 -- a region with its slot
@@ -55,8 +55,8 @@ With_former w k = by w.binding
     by (Some b) = Look (Region_of (region_under w b)) (λ region. k (Some (record { slot = region_under w b; region = region })))
 
 -- the operation is finished: the next one is the oldest unfinished, and none of the requests that began is left
-abbrev pub performed : Numbered → QueuePair → QueuePair
-performed n q = with_requester (record q.requester { oldest = suc n.place; next = suc n.place }) q
+abbrev pub after_operation : Numbered → QueuePair → QueuePair
+after_operation n q = with_requester (record q.requester { oldest = suc n.place; next = suc n.place }) q
 
 -- what the operation revoked and granted, as marks
 abbrev pub local_marks : QueuePair → LocalMarks → List Mark
@@ -65,14 +65,14 @@ local_marks q m =
     ++ option_map_or (λ g. marks.Granted g ∷ []) m.granted []
 
 -- the operation's end: a success, or a failure with its cause; `after` is the queue pair with its windows counted
-abbrev pub operation_ended : QueuePair → Numbered → QueuePair → LocalMarks → Option OpRefusal → Effects
-operation_ended q n after m (Some cause) = failed MemoryManagement (Some cause) q
-operation_ended q n after m None =
-    quiet (performed n after) (local_marks q m ++ success_marks q n.place n.request)
+abbrev pub operation_effects : QueuePair → Numbered → QueuePair → LocalMarks → Option OpRefusal → Effects
+operation_effects q n after m (Some cause) = failure_effects MemoryManagement (Some cause) q
+operation_effects q n after m None =
+    queue_and_marks (after_operation n after) (local_marks q m ++ success_marks q n.place n.request)
 
 -- the region in which a window was bound has one window fewer
-abbrev pub former_changes : Option PlacedRegion → List Change
-former_changes former = option_map_or (λ f. (Region_of f.slot := with_window_unbound f.region) ∷ []) former []
+abbrev pub former_updates : Option PlacedRegion → List Update
+former_updates former = option_map_or (λ f. (Region_of f.slot := with_window_unbound f.region) ∷ []) former []
 
 -- the named region, after the window left the former one
 abbrev pub region_left : Option PlacedRegion → PlacedRegion → Region
@@ -80,8 +80,8 @@ region_left former n =
     if option_map_or (λ f. slot_eq f.slot n.slot) former false then with_window_unbound n.region else n.region
 
 -- the named region has one window more
-abbrev pub named_changes : Option PlacedRegion → Option PlacedRegion → List Change
-named_changes former named =
+abbrev pub named_updates : Option PlacedRegion → Option PlacedRegion → List Update
+named_updates former named =
     option_map_or (λ n. (Region_of n.slot := with_window_bound (region_left former n)) ∷ []) named []
 
 -- the grant of a bind over the named region
@@ -99,18 +99,18 @@ named_slot named = option_map_or (λ n. n.slot.slot) named 0
 
 -- how an operation's plan goes on with what it changes
 abbrev pub Finishing : Type 0
-Finishing = Effects → List Change → List Write → Plan
+Finishing = Effects → List Update → List Write → Plan
 
 -- what a bind of a type 1 window changes: the window, the region that it leaves, and the one that is named
-abbrev pub bind1_changes : Slot → ℕ → Window → Option PlacedRegion → Option PlacedRegion → ℕ → ℕ → Rights → List Change
+abbrev pub bind1_changes : Slot → ℕ → Window → Option PlacedRegion → Option PlacedRegion → ℕ → ℕ → Rights → List Update
 bind1_changes slot drawn w former named address count rights =
     (Window_of slot := after_bind1 drawn (named_slot named) address count rights w)
-    ∷ former_changes former ++ (if count == 0 then [] else named_changes former named)
+    ∷ former_updates former ++ (if count == 0 then [] else named_updates former named)
 
 -- what a bind of a type 2 window changes: the window, and the region that is named
-abbrev pub bind2_changes : Slot → ℕ → QueueId → Window → Option PlacedRegion → ℕ → ℕ → Rights → List Change
+abbrev pub bind2_changes : Slot → ℕ → QueueId → Window → Option PlacedRegion → ℕ → ℕ → Rights → List Update
 bind2_changes slot low queue w named address count rights =
-    (Window_of slot := after_binding low (Some queue) (named_slot named) address count rights w) ∷ named_changes None named
+    (Window_of slot := after_binding low (Some queue) (named_slot named) address count rights w) ∷ named_updates None named
 
 -- the slot of the window that a bind names
 abbrev pub window_slot : QueuePair → ℕ → Slot
@@ -137,7 +137,7 @@ abbrev pub Bind1_plan : Configuration → QueuePair → Numbered → ℕ → Key
 Bind1_plan c q n window key address count rights finish =
     Look (Window_of (window_slot q window)) (λ w. With_named c q.domain key (λ named. With_former w (λ former.
     finish
-    (operation_ended q n q (bind1_marks q n window named address count rights w) (bind1_refusal n key named address count rights w))
+    (operation_effects q n q (bind1_marks q n window named address count rights w) (bind1_refusal n key named address count rights w))
     (unless_none (bind1_refusal n key named address count rights w)
     (bind1_changes (window_slot q window) (drawn_by n) w former named address count rights))
     [])))
@@ -159,7 +159,7 @@ abbrev pub Bind2_plan : Configuration → QueuePair → Numbered → ℕ → Key
 Bind2_plan c q n window key low address count rights finish =
     Look (Window_of (window_slot q window)) (λ w. With_named c q.domain key (λ named. With_former w (λ former.
     finish
-    (operation_ended q n (record q { windows = suc q.windows }) (bind2_marks q window low named address count rights)
+    (operation_effects q n (record q { windows = suc q.windows }) (bind2_marks q window low named address count rights)
     (bind2_refusal key named address count rights w))
     (unless_none (bind2_refusal key named address count rights w)
     (bind2_changes (window_slot q window) low q.queue w named address count rights))
@@ -182,7 +182,7 @@ fast_marks q region low buffer address count rights pages = record {
 }
 
 -- what it changes
-abbrev pub fast_changes : QueuePair → ℕ → ℕ → ℕ → ℕ → ℕ → Rights → List ℕ → Region → List Change
+abbrev pub fast_changes : QueuePair → ℕ → ℕ → ℕ → ℕ → ℕ → Rights → List ℕ → Region → List Update
 fast_changes q region low buffer address count rights pages r =
     (Region_of (region_slot q region)
     := after_fast_registration (region_slot q region) low buffer address count rights pages r) ∷ []
@@ -190,7 +190,7 @@ fast_changes q region low buffer address count rights pages r =
 -- a fast registration
 abbrev pub Fast_plan : Configuration → QueuePair → Numbered → ℕ → ℕ → ℕ → ℕ → ℕ → Rights → List ℕ → Finishing → Plan
 Fast_plan c q n region low buffer address count rights pages finish = Look (Region_of (region_slot q region)) (λ r. finish
-    (operation_ended q n q (fast_marks q region low buffer address count rights pages)
+    (operation_effects q n q (fast_marks q region low buffer address count rights pages)
     (fast_refusal c q region buffer address count rights pages r))
     (unless_none (fast_refusal c q region buffer address count rights pages r)
     (fast_changes q region low buffer address count rights pages r))
@@ -201,8 +201,8 @@ abbrev pub invalidate_row : QueuePair → Numbered → Key → Row
 invalidate_row q n key = record {
   asks = [];
   invalidation = Some i;
-  denied = λ d. Does (quiet q []);
-  allowed = λ bytes refusal. Does (operation_ended q n (with_window_gone (Some i) q) (record { revoked = Some key; granted = None }) refusal);
+  denied = λ d. Does (queue_and_marks q []);
+  allowed = λ bytes refusal. Does (operation_effects q n (with_window_gone (Some i) q) (record { revoked = Some key; granted = None }) refusal);
 }
   where
     i : Invalidation
@@ -216,7 +216,7 @@ Perform_op c q n finish (ops.Bind2 window key low address count rights) =
 Perform_op c q n finish (ops.FastReg region low buffer address count rights pages) =
     Fast_plan c q n region low buffer address count rights pages finish
 Perform_op c q n finish (ops.LocalInv key) = Row_plan c (invalidate_row q n key) finish
-Perform_op c q n finish op = finish (quiet q []) [] []
+Perform_op c q n finish op = finish (queue_and_marks q []) [] []
 
 -- a local operation is performed
 abbrev pub Perform_plan : Configuration → QueuePair → Numbered → Finishing → Plan

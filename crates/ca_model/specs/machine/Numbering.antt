@@ -20,24 +20,24 @@ pub record Numbered : Type 0 where
   pub count : ℕ
 
 -- requests from a place on, of which the first has or would get the PSNs from one on
-abbrev pub numbered : ℕ → ℕ → ℕ → List PostedSend → List Numbered
-numbered mtu place psn [] = []
-numbered mtu place psn (p ∷ ps) =
+abbrev pub numbers_of : ℕ → ℕ → ℕ → List PostedSend → List Numbered
+numbers_of mtu place psn [] = []
+numbers_of mtu place psn (p ∷ ps) =
     record { place = place; request = p.request; drawn = p.drawn; first = psn; count = psns_of mtu p.request.op }
-    ∷ numbered mtu (suc place) (psn + psns_of mtu p.request.op) ps
+    ∷ numbers_of mtu (suc place) (psn + psns_of mtu p.request.op) ps
 
 -- the unfinished requests: those that have begun, and those that have not
-abbrev pub unfinished : QueuePair → List Numbered
-unfinished q =
-    numbered q.responder.mtu q.requester.oldest q.requester.oldest_psn (items_from q.requester.oldest q.sends)
+abbrev pub unfinished_requests : QueuePair → List Numbered
+unfinished_requests q =
+    numbers_of q.responder.mtu q.requester.oldest q.requester.oldest_psn (items_from q.requester.oldest q.sends)
 
 -- those that have begun
-abbrev pub begun : QueuePair → List Numbered
-begun q = take (q.requester.next - q.requester.oldest) (unfinished q)
+abbrev pub begun_requests : QueuePair → List Numbered
+begun_requests q = take (q.requester.next - q.requester.oldest) (unfinished_requests q)
 
 -- the one that begins next
 abbrev pub next_to_begin : QueuePair → Option Numbered
-next_to_begin q = slice_get (unfinished q) (q.requester.next - q.requester.oldest)
+next_to_begin q = slice_get (unfinished_requests q) (q.requester.next - q.requester.oldest)
 
 -- the PSN behind a request's last
 abbrev pub psn_end : Numbered → ℕ
@@ -49,7 +49,7 @@ has_psn psn n = nat_le n.first psn && nat_lt psn (psn_end n)
 
 -- the request that has begun and has this PSN
 abbrev pub request_at : ℕ → QueuePair → Option Numbered
-request_at psn q = find (has_psn psn) (begun q)
+request_at psn q = find (has_psn psn) (begun_requests q)
 
 abbrev pub is_read : SendOp → Bool
 is_read (ops.Read address key list) = true

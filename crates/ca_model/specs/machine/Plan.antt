@@ -8,12 +8,12 @@ use Rattle.ca_model.specs.declared.mark.Mark.{Mark}
 use Rattle.ca_model.specs.machine.World.{World, Name, Byte_at, Thing, get, put}
 
 -- another thing under a name
-pub record Change : Type 0 where
+pub record Update : Type 0 where
   pub name : Name
   pub thing : Thing name
 
 infix 10 ◌:=◌
-abbrev pub ◌:=◌ : (n : Name) → Thing n → Change
+abbrev pub ◌:=◌ : (n : Name) → Thing n → Update
 n := v = record { name = n; thing = v }
 
 -- bytes for the places of runs
@@ -28,7 +28,7 @@ pub data Plan : Type 0 where
   Look : (n : Name) → (Thing n → Plan) → Plan
   Read : List Run → (List ℕ → Plan) → Plan
   If : Bool → Plan → Plan → Plan
-  Finish : List Change → List Write → List Mark → Plan
+  Finish : List Update → List Write → List Mark → Plan
 
 -- what comes of an event: it is not possible, or there is another world, and there are marks
 pub data Outcome : Type 0 where
@@ -36,7 +36,7 @@ pub data Outcome : Type 0 where
   Did : World → List Mark → Outcome
 
 -- all changes, in order
-abbrev pub put_all : List Change → World → World
+abbrev pub put_all : List Update → World → World
 put_all [] w = w
 put_all (c ∷ cs) w = put_all cs (put w c.name c.thing)
 
@@ -58,9 +58,9 @@ abbrev pub byte_names : List Run → List Name
 byte_names runs = map Byte_at (places_of runs)
 
 -- the names that changes and writes touch
-abbrev pub names_changed : List Change → List Name
-names_changed [] = []
-names_changed (c ∷ cs) = c.name ∷ names_changed cs
+abbrev pub names_updated : List Update → List Name
+names_updated [] = []
+names_updated (c ∷ cs) = c.name ∷ names_updated cs
 
 abbrev pub names_written : List Write → List Name
 names_written [] = []
@@ -72,7 +72,7 @@ touches w (Stuck reason) = []
 touches w (Look n k) = n ∷ touches w (k (get w n))
 touches w (Read runs k) = byte_names runs ++ touches w (k (bytes_at w.byte runs))
 touches w (If test p q) = if test then touches w p else touches w q
-touches w (Finish changes writes marks) = names_changed changes ++ names_written writes
+touches w (Finish changes writes marks) = names_updated changes ++ names_written writes
 
 -- the first refusal that holds decides, and else the plan goes on
 abbrev pub unless_refused : {R : Type 0} → List (Bool × R) → (R → Plan) → Plan → Plan

@@ -15,7 +15,7 @@ use Rattle.ca_base.specs.objects.SharedReceives.{SharedReceives, SrqSlot, after_
 use Rattle.ca_base.specs.objects.StateTable.{is_among, state_eq}
 use Rattle.ca_base.specs.objects.CompletionQueue.{CompletionQueue, after_puts}
 use Rattle.ca_base.specs.objects.Window.{Window, after_draw, byte_drawn}
-use Rattle.ca_base.specs.objects.WorkQueue.{after_post, is_full}
+use Rattle.ca_base.specs.objects.WorkQueue.{with_item, is_full}
 use Rattle.ca_model.specs.declared.answer.Answer.TheVariants as answers
 use Rattle.ca_model.specs.declared.answer.Refusal.{Refusal}
 use Rattle.ca_model.specs.declared.answer.Refusal.TheVariants.{HasSrq, NoSuch, OutOfRange, QueueFull, QueueState, TooLong}
@@ -24,9 +24,9 @@ use Rattle.ca_model.specs.Requests.{list_length, list_of}
 use Rattle.ca_model.specs.machine.Around.{completions_to}
 use Rattle.ca_model.specs.machine.Completions.{flush_marks}
 use Rattle.ca_model.specs.machine.Numbering.{is_atomic_op}
-use Rattle.ca_model.specs.machine.Plan.{Plan, Look, Change, ◌:=◌}
+use Rattle.ca_model.specs.machine.Plan.{Plan, Look, Update, ◌:=◌}
 use Rattle.ca_model.specs.machine.QueuePairVerbs.{With_present, beside}
-use Rattle.ca_model.specs.machine.VerbAnswers.{Call, Answered, Refuse, Unless}
+use Rattle.ca_model.specs.machine.VerbAnswers.{Call, Answer_plan, Refuse_plan, Unless_plan}
 use Rattle.ca_model.specs.machine.World.{Cq_of, Queue_of, Srq_of, Window_of}
 
 -- why a send request is refused, in order
@@ -39,25 +39,25 @@ post_send_refusals request q =
     ∷ []
 
 -- a queue pair in Error flushes what is posted at once
-abbrev pub settled : QueuePair → QueuePair
-settled q = if state_eq q.state states.Error then with_all_flushed q else q
+abbrev pub after_flush : QueuePair → QueuePair
+after_flush q = if state_eq q.state states.Error then with_all_flushed q else q
 
-abbrev pub settled_marks : QueuePair → List Mark
-settled_marks q = if state_eq q.state states.Error then flush_marks q else []
+abbrev pub marks_of_flush : QueuePair → List Mark
+marks_of_flush q = if state_eq q.state states.Error then flush_marks q else []
 
 -- a request is posted, with the byte that it drew
 abbrev pub with_send : SendRequest → Option ℕ → QueuePair → QueuePair
-with_send request drawn q = record q { sends = after_post (record { request = request; drawn = drawn }) q.sends }
+with_send request drawn q = record q { sends = with_item (record { request = request; drawn = drawn }) q.sends }
 
 -- a request is posted: the queue pair and its completion queue after it
-abbrev pub Posted_send : Call → QueuePair → SendRequest → Option ℕ → Slot → List Change → Plan
+abbrev pub Posted_send : Call → QueuePair → SendRequest → Option ℕ → Slot → List Update → Plan
 Posted_send call q request drawn window changes = Look (Cq_of (send_cq_of q)) (λ cq.
-    Unless call (post_send_refusals request q)
-    (Answered call (answers.Posted (option_map (key_at (window_index window)) drawn))
-    ((Queue_of q.queue := Present (settled posted))
-    ∷ (Cq_of (send_cq_of q) := option_map (after_puts (completions_to q q.send_cq (settled_marks posted))) cq)
+    Unless_plan call (post_send_refusals request q)
+    (Answer_plan call (answers.Posted (option_map (key_at (window_index window)) drawn))
+    ((Queue_of q.queue := Present (after_flush posted))
+    ∷ (Cq_of (send_cq_of q) := option_map (after_puts (completions_to q q.send_cq (marks_of_flush posted))) cq)
     ∷ changes)
-    (settled_marks posted)))
+    (marks_of_flush posted)))
   where
     posted : QueuePair
     posted = with_send request drawn q
@@ -68,7 +68,7 @@ post_send_plan call s request = With_present call s (λ q. by q request.op)
   where
     draws : QueuePair → Slot → Window → Plan
     draws q window w =
-        Unless call ((w.kind == 0, NoSuch) ∷ [])
+        Unless_plan call ((w.kind == 0, NoSuch) ∷ [])
         (Posted_send call q request (byte_drawn w) window ((Window_of window := after_draw w) ∷ []))
 
     by : QueuePair → SendOp → Plan
@@ -87,23 +87,23 @@ post_recv_refusals request q =
 -- PostRecv
 abbrev pub post_recv_plan : Call → Slot → RecvRequest → Plan
 post_recv_plan call s request = With_present call s (λ q. Look (Cq_of (recv_cq_of q)) (λ cq.
-    Unless call (post_recv_refusals request q) (posted cq q (record q { receives = option_map (after_post request) q.receives }))))
+    Unless_plan call (post_recv_refusals request q) (posted cq q (record q { receives = option_map (with_item request) q.receives }))))
   where
     posted : Option CompletionQueue → QueuePair → QueuePair → Plan
-    posted cq q after = Answered call (answers.Posted None)
-        ((Queue_of q.queue := Present (settled after))
-        ∷ (Cq_of (recv_cq_of q) := option_map (after_puts (completions_to q q.recv_cq (settled_marks after))) cq)
+    posted cq q after = Answer_plan call (answers.Posted None)
+        ((Queue_of q.queue := Present (after_flush after))
+        ∷ (Cq_of (recv_cq_of q) := option_map (after_puts (completions_to q q.recv_cq (marks_of_flush after))) cq)
         ∷ [])
-        (settled_marks after)
+        (marks_of_flush after)
 
 -- PostSrq
 abbrev pub post_srq_plan : Call → Slot → RecvRequest → Plan
 post_srq_plan call s request = Look (Srq_of s) (λ slot. by slot slot.srq)
   where
     by : SrqSlot → Option SharedReceives → Plan
-    by slot None = Refuse call NoSuch
+    by slot None = Refuse_plan call NoSuch
     by slot (Some srq) =
-        Unless call
+        Unless_plan call
         ((nat_lt MAX_MESSAGE_BYTES (list_length request.list.items), TooLong) ∷ (is_full_of_receives srq, QueueFull) ∷ [])
-        (Answered call (answers.Posted None)
+        (Answer_plan call (answers.Posted None)
         ((Srq_of s := record slot { srq = Some (after_receive_post request srq) }) ∷ []) [])

@@ -19,9 +19,9 @@ use Rattle.ca_wire.specs.Packet.{spelling}
 use Rattle.ca_model.specs.declared.mark.Mark.{Mark}
 use Rattle.ca_model.specs.declared.mark.Mark.TheVariants as marks
 use Rattle.ca_model.specs.Requests.{carried_bytes, is_local, list_of, request_packet}
-use Rattle.ca_model.specs.machine.Acknowledged.{failed, with_requester}
-use Rattle.ca_model.specs.machine.Numbering.{Numbered, unfinished, begun, next_to_begin, psn_end, request_at, is_read, is_answered_op, list_asks}
-use Rattle.ca_model.specs.machine.Row.{Effects, Row, ends, NotPossible, Does}
+use Rattle.ca_model.specs.machine.Acknowledgements.{failure_effects, with_requester}
+use Rattle.ca_model.specs.machine.Numbering.{Numbered, unfinished_requests, begun_requests, next_to_begin, psn_end, request_at, is_read, is_answered_op, list_asks}
+use Rattle.ca_model.specs.machine.Row.{Effects, Row, plain_row, NotPossible, Does}
 
 -- the next thing begins a request: nothing that has begun is left to send
 abbrev pub begins : QueuePair → Bool
@@ -38,7 +38,7 @@ is_fenced q = begins q && option_map_or waits (next_to_begin q) false
     waits : Numbered → Bool
     waits n =
         (is_local n.request.op && nat_lt q.requester.oldest q.requester.next)
-        || (n.request.fence && list_any (λ m. is_answered_op m.request.op) (begun q))
+        || (n.request.fence && list_any (λ m. is_answered_op m.request.op) (begun_requests q))
 
 -- why a requester's turn is not possible, in order, before it is known whether a packet would be too much
 abbrev pub turn_refusals : QueuePair → List (Bool × Reason)
@@ -88,8 +88,8 @@ answers_between from upto n = if is_answered_op n.request.op then min 1 (psns_be
 abbrev pub is_too_much : QueuePair → Numbered → Bool
 is_too_much q n =
     nat_lt MAX_OUTSTANDING_PSNS (upto - una)
-    || nat_lt MAX_OUTSTANDING_PACKETS (sum_by (packets_between una upto) (unfinished q))
-    || nat_lt q.requester.reads (sum_by (answers_between una upto) (unfinished q))
+    || nat_lt MAX_OUTSTANDING_PACKETS (sum_by (packets_between una upto) (unfinished_requests q))
+    || nat_lt q.requester.reads (sum_by (answers_between una upto) (unfinished_requests q))
   where
     una : ℕ
     una = q.requester.una
@@ -147,17 +147,17 @@ sent_packet q n bytes = record {
 }
 
 -- a denied list with nothing outstanding: the request fails
-abbrev pub list_denied : QueuePair → DeniedAsk → Effects
-list_denied q d = record (failed LocalProtection None q) { marks = local_denial d ∷ (failed LocalProtection None q).marks }
+abbrev pub denied_list_effects : QueuePair → DeniedAsk → Effects
+denied_list_effects q d = record (failure_effects LocalProtection None q) { marks = local_denial d ∷ (failure_effects LocalProtection None q).marks }
 
 -- a packet: too much outstanding, no room at the peer, a denied list, or it is sent
 abbrev pub packet_row : QueuePair → Bool → Numbered → Row
-packet_row q room n = if is_too_much q n then ends (NotPossible reasons.Outstanding) else record {
+packet_row q room n = if is_too_much q n then plain_row (NotPossible reasons.Outstanding) else record {
   asks = packet_asks q n;
   invalidation = None;
   denied = λ d.
       if is_outstanding q then NotPossible reasons.Outstanding
       else if not room then NotPossible reasons.NoRoom
-      else Does (list_denied q d);
+      else Does (denied_list_effects q d);
   allowed = λ bytes refusal. if not room then NotPossible reasons.NoRoom else Does (sent_packet q n bytes);
 }

@@ -24,7 +24,7 @@ use Rattle.ca_wire.specs.Syndrome.{nak_code_in}
 use Rattle.ca_model.specs.machine.Arrivals.{packet_ask, remote_mark, with_responder}
 use Rattle.ca_model.specs.machine.Completions.{flush_marks}
 use Rattle.ca_model.specs.machine.Requester.{peer_number, psn_bits}
-use Rattle.ca_model.specs.machine.Row.{Effects, quiet, Row, ends, NotPossible, Does}
+use Rattle.ca_model.specs.machine.Row.{Effects, queue_and_marks, Row, plain_row, NotPossible, Does}
 
 -- why a responder's turn is not possible, in order
 abbrev pub respond_refusals : Bool → QueuePair → List (Bool × Reason)
@@ -43,8 +43,8 @@ abbrev pub with_front : Queued → QueuePair → QueuePair
 with_front answer q = with_responder (record q.responder { answers = answer ∷ drop 1 q.responder.answers }) q
 
 -- a packet is sent
-abbrev pub sending : Fields → Effects → Effects
-sending f e = record e { sent = Spelt None; spelt = spelling f }
+abbrev pub with_packet : Fields → Effects → Effects
+with_packet f e = record e { sent = Spelt None; spelt = spelling f }
 
 -- a NAK by its code
 abbrev pub nak_of : ℕ → NakCode
@@ -86,10 +86,10 @@ abbrev pub response_ask : QueuePair → ReadLeft → Ask
 response_ask q r = packet_ask q r.key kinds.Read r.address r.left (response_length q r)
 
 -- a response with these bytes is sent
-abbrev pub read_answered : QueuePair → ReadLeft → List ℕ → Effects
-read_answered q r bytes = sending
+abbrev pub read_answer : QueuePair → ReadLeft → List ℕ → Effects
+read_answer q r bytes = with_packet
     (read_response (response_segment r.first (is_last_response q r)) (peer_number q) (psn_bits r.psn) q.responder.msn bytes)
-    (quiet (if is_last_response q r then without_front q else with_front (rest_of q r) q)
+    (queue_and_marks (if is_last_response q r then without_front q else with_front (rest_of q r) q)
     (remote_mark (response_ask q r) r.envelope (verdicts.Read bytes) ∷ []))
 
 -- a READ: its next response, or, where it is denied, a NAK; then the response queue is emptied and the queue pair moves
@@ -98,19 +98,19 @@ abbrev pub read_row : QueuePair → ReadLeft → Row
 read_row q r = record {
   asks = if r.left == 0 then [] else response_ask q r ∷ [];
   invalidation = None;
-  denied = λ d. Does (sending (nak RemoteAccessError (peer_number q) (psn_bits r.psn) q.responder.msn)
-      (quiet (without_answers (in_error q)) (remote_mark d.ask r.envelope (verdicts.Denied d.denial) ∷ flush_marks q)));
-  allowed = λ bytes refusal. Does (read_answered q r (flat_map (λ b. b) bytes));
+  denied = λ d. Does (with_packet (nak RemoteAccessError (peer_number q) (psn_bits r.psn) q.responder.msn)
+      (queue_and_marks (without_answers (in_error q)) (remote_mark d.ask r.envelope (verdicts.Denied d.denial) ∷ flush_marks q)));
+  allowed = λ bytes refusal. Does (read_answer q r (flat_map (λ b. b) bytes));
 }
 
 -- the answer at the front
 abbrev pub answer_turn : QueuePair → Queued → Row
 answer_turn q (queued.Ack psn) =
-    ends (Does (sending (acknowledgement (peer_number q) (psn_bits psn) q.responder.msn) (quiet (without_front q) [])))
+    plain_row (Does (with_packet (acknowledgement (peer_number q) (psn_bits psn) q.responder.msn) (queue_and_marks (without_front q) [])))
 answer_turn q (queued.Rnr psn) =
-    ends (Does (sending (rnr_nak q.responder.rnr_code (peer_number q) (psn_bits psn) q.responder.msn) (quiet (without_front q) [])))
+    plain_row (Does (with_packet (rnr_nak q.responder.rnr_code (peer_number q) (psn_bits psn) q.responder.msn) (queue_and_marks (without_front q) [])))
 answer_turn q (queued.Nak psn code) =
-    ends (Does (sending (nak (nak_of code) (peer_number q) (psn_bits psn) q.responder.msn) (quiet (without_front q) [])))
+    plain_row (Does (with_packet (nak (nak_of code) (peer_number q) (psn_bits psn) q.responder.msn) (queue_and_marks (without_front q) [])))
 answer_turn q (queued.Read psn key address left first envelope duplicate) = read_row q (record {
   psn = psn;
   key = key;
@@ -121,13 +121,13 @@ answer_turn q (queued.Read psn key address left first envelope duplicate) = read
   duplicate = duplicate;
 })
 answer_turn q (queued.Atomic psn found duplicate) =
-    ends (Does (sending (atomic_acknowledge found (peer_number q) (psn_bits psn) q.responder.msn) (quiet (without_front q) [])))
+    plain_row (Does (with_packet (atomic_acknowledge found (peer_number q) (psn_bits psn) q.responder.msn) (queue_and_marks (without_front q) [])))
 
 -- a responder's turn
 abbrev pub respond_row : Bool → QueuePair → Row
 respond_row room q = by (first_of (respond_refusals room q)) (slice_get q.responder.answers 0)
   where
     by : Option Reason → Option Queued → Row
-    by (Some reason) answer = ends (NotPossible reason)
-    by None None = ends (NotPossible reasons.Empty)
+    by (Some reason) answer = plain_row (NotPossible reason)
+    by None None = plain_row (NotPossible reasons.Empty)
     by None (Some answer) = answer_turn q answer

@@ -23,14 +23,14 @@ use Rattle.ca_model.specs.declared.mark.Drop1.TheVariants as drops
 use Rattle.ca_model.specs.declared.mark.Mark.{Mark}
 use Rattle.ca_model.specs.declared.mark.Mark.TheVariants as marks
 use Rattle.ca_model.specs.Requests.{list_length, list_of, segment_bytes}
-use Rattle.ca_model.specs.machine.Acknowledged.{Acknowledgement, acked, acknowledged_to, and_then, failed, one_retry, with_requester}
+use Rattle.ca_model.specs.machine.Acknowledgements.{Acknowledgement, acknowledgement_below, progress_to, and_then, failure_effects, one_retry, with_requester}
 use Rattle.ca_model.specs.machine.Numbering.{Numbered, is_atomic_op, is_read, list_asks, psn_end, request_at}
 use Rattle.ca_model.specs.machine.Requester.{local_denial}
-use Rattle.ca_model.specs.machine.Row.{Effects, quiet, Row, ends, Does}
+use Rattle.ca_model.specs.machine.Row.{Effects, queue_and_marks, Row, plain_row, Does}
 
 -- the packet is dropped
-abbrev pub dropped : QueuePair → Drop1 → Effects
-dropped q cause = quiet q (marks.Dropped q.queue cause ∷ [])
+abbrev pub drop_effects : QueuePair → Drop1 → Effects
+drop_effects q cause = queue_and_marks q (marks.Dropped q.queue cause ∷ [])
 
 -- the whole number of a response's PSN
 abbrev pub response_psn : QueuePair → Fields → ℕ
@@ -45,28 +45,28 @@ abbrev pub unless_back : Acknowledgement → (QueuePair → Effects) → Effects
 unless_back a f = if a.went_back then a.effects else and_then a.effects f
 
 -- an RNR NAK: where the count is used up the request fails, and else it is sent again after a wake
-abbrev pub rnr_naked : ℕ → QueuePair → Effects
-rnr_naked psn q =
+abbrev pub rnr_nak_effects : ℕ → QueuePair → Effects
+rnr_nak_effects psn q =
     if nat_lt q.requester.rnr_retry MAX_RETRY && nat_le q.requester.rnr_retry q.requester.rnrs
-    then failed RnrRetryExceeded None (counted q)
-    else quiet (with_requester (record (counted q).requester { cursor = psn; waiting = true }) q) []
+    then failure_effects RnrRetryExceeded None (counted q)
+    else queue_and_marks (with_requester (record (counted q).requester { cursor = psn; waiting = true }) q) []
   where
     counted : QueuePair → QueuePair
     counted q = with_requester (record q.requester { rnrs = suc q.requester.rnrs }) q
 
 -- a NAK: 0 asks for the packets again, the others fail the request
-abbrev pub naked : ℕ → NakCode → QueuePair → Effects
-naked psn PsnSequenceError q = one_retry psn q
-naked psn InvalidRequest q = failed RemoteInvalidRequest None q
-naked psn RemoteAccessError q = failed RemoteAccess None q
-naked psn RemoteOperationalError q = failed RemoteOperation None q
+abbrev pub nak_effects : ℕ → NakCode → QueuePair → Effects
+nak_effects psn PsnSequenceError q = one_retry psn q
+nak_effects psn InvalidRequest q = failure_effects RemoteInvalidRequest None q
+nak_effects psn RemoteAccessError q = failure_effects RemoteAccess None q
+nak_effects psn RemoteOperationalError q = failure_effects RemoteOperation None q
 
 -- an Acknowledge packet, by its syndrome
 abbrev pub acknowledge_row : ℕ → Option Syndrome → QueuePair → Effects
-acknowledge_row psn (Some (Ack credits)) q = (acked (suc psn) q).effects
-acknowledge_row psn (Some (RnrNak timer)) q = unless_back (acked psn q) (rnr_naked psn)
-acknowledge_row psn (Some (Nak code)) q = unless_back (acked psn q) (naked psn code)
-acknowledge_row psn None q = dropped q drops.Stale
+acknowledge_row psn (Some (Ack credits)) q = (acknowledgement_below (suc psn) q).effects
+acknowledge_row psn (Some (RnrNak timer)) q = unless_back (acknowledgement_below psn q) (rnr_nak_effects psn)
+acknowledge_row psn (Some (Nak code)) q = unless_back (acknowledgement_below psn q) (nak_effects psn code)
+acknowledge_row psn None q = drop_effects q drops.Stale
 
 -- First and Middle do not end a READ, Last and Only do
 abbrev pub ends_read : ℕ → Bool
@@ -115,9 +115,9 @@ answer_row psn p before n = record {
   asks = asks;
   invalidation = None;
   denied = λ d. Does (and_then before (λ q.
-      record (failed LocalProtection None q) { marks = local_denial d ∷ (failed LocalProtection None q).marks }));
+      record (failure_effects LocalProtection None q) { marks = local_denial d ∷ (failure_effects LocalProtection None q).marks }));
   allowed = λ bytes refusal. Does (record (and_then before (λ q.
-      record (acknowledged_to (suc psn) q) { marks = local_writes writes ++ (acknowledged_to (suc psn) q).marks })) { writes = writes });
+      record (progress_to (suc psn) q) { marks = local_writes writes ++ (progress_to (suc psn) q).marks })) { writes = writes });
 }
   where
     asks : List Ask
@@ -128,24 +128,24 @@ answer_row psn p before n = record {
 
 -- an answer: an implied NAK, one that does not fit its request, or one whose bytes go to its list
 abbrev pub fitting_row : ℕ → Fields → Acknowledgement → Row
-fitting_row psn p a = if a.went_back then ends (Does a.effects) else by (request_at psn a.effects.queue)
+fitting_row psn p a = if a.went_back then plain_row (Does a.effects) else by (request_at psn a.effects.queue)
   where
     by : Option Numbered → Row
-    by None = ends (Does (and_then a.effects (failed BadResponse None)))
+    by None = plain_row (Does (and_then a.effects (failure_effects BadResponse None)))
     by (Some n) =
         if fits_request psn p a.effects.queue n then answer_row psn p a.effects n
-        else ends (Does (and_then a.effects (failed BadResponse None)))
+        else plain_row (Does (and_then a.effects (failure_effects BadResponse None)))
 
 -- a response for a PSN that is outstanding
 abbrev pub outstanding_row : ℕ → Fields → QueuePair → Row
 outstanding_row psn p q =
     if p.opcode == ACKNOWLEDGE
-    then ends (Does (acknowledge_row psn (option_and_then (λ a. syndrome_in a.syndrome) p.aeth) q))
-    else fitting_row psn p (acked psn q)
+    then plain_row (Does (acknowledge_row psn (option_and_then (λ a. syndrome_in a.syndrome) p.aeth) q))
+    else fitting_row psn p (acknowledgement_below psn q)
 
 -- a response that arrived: dropped in the wrong state, or where its PSN is not outstanding
 abbrev pub response_row : Fields → QueuePair → Row
 response_row p q =
-    if not (is_among (states.Rts ∷ states.Sqd ∷ []) q.state) then ends (Does (dropped q drops.State))
-    else if not (is_outstanding_at (response_psn q p) q) then ends (Does (dropped q drops.Stale))
+    if not (is_among (states.Rts ∷ states.Sqd ∷ []) q.state) then plain_row (Does (drop_effects q drops.State))
+    else if not (is_outstanding_at (response_psn q p) q) then plain_row (Does (drop_effects q drops.Stale))
     else outstanding_row (response_psn q p) p q

@@ -15,9 +15,9 @@ use Rattle.ca_base.specs.objects.LocalRequest.{region_refusal, window_refusal, u
 use Rattle.ca_base.specs.objects.QueuePair.{QueuePair}
 use Rattle.ca_base.specs.objects.Region.{Region, grant_of_region, after_region_invalidation, with_window_unbound}
 use Rattle.ca_base.specs.objects.Slices.{names_region, names_window, slot_of_key}
-use Rattle.ca_base.specs.objects.Window.{Window, Binding, grant_of_binding, unbound}
+use Rattle.ca_base.specs.objects.Window.{Window, Binding, grant_of_binding, without_binding}
 use Rattle.ca_model.specs.declared.mark.Mark.{Mark}
-use Rattle.ca_model.specs.machine.Plan.{Plan, Stuck, Look, Read, If, Change, ◌:=◌, Write}
+use Rattle.ca_model.specs.machine.Plan.{Plan, Stuck, Look, Read, If, Update, ◌:=◌, Write}
 use Rattle.ca_model.specs.machine.World.{Region_of, Window_of}
 
 -- what an engine makes: the new queue pair, whether it takes the next receive of its shared receive queue, the marks,
@@ -31,8 +31,8 @@ pub record Effects : Type 0 where
   pub writes : List (Ask × List ℕ)
 
 -- a queue pair and marks, and nothing else
-abbrev pub quiet : QueuePair → List Mark → Effects
-quiet queue marks = record {
+abbrev pub queue_and_marks : QueuePair → List Mark → Effects
+queue_and_marks queue marks = record {
   queue = queue;
   takes_shared = false;
   marks = marks;
@@ -41,12 +41,12 @@ quiet queue marks = record {
   writes = [];
 }
 
--- how a row ends
+-- how a row plain_row
 pub data Ending : Type 0 where
   NotPossible : Reason → Ending
   Does : Effects → Ending
 
--- A row: the asks that it makes, the key that it ends, if any; what it does where one of the asks is denied; and what it
+-- A row: the asks that it makes, the key that it plain_row, if any; what it does where one of the asks is denied; and what it
 -- does where all are allowed, with the bytes that each touches, and with the refusal of the invalidation, if it is
 -- refused.
 pub record Row : Type 0 where
@@ -56,15 +56,15 @@ pub record Row : Type 0 where
   pub allowed : List (List ℕ) → Option OpRefusal → Ending
 
 -- a row that meets no key and no memory
-abbrev pub ends : Ending → Row
-ends ending = record {
+abbrev pub plain_row : Ending → Row
+plain_row ending = record {
   asks = [];
   invalidation = None;
   denied = λ denied. ending;
   allowed = λ bytes refusal. ending;
 }
 
--- how a row ends, by what is seen of keys and memory
+-- how a row plain_row, by what is seen of keys and memory
 abbrev pub ending_of : Sight → Row → Ending
 ending_of s row = by (first_denied s row.asks)
   where
@@ -73,9 +73,9 @@ ending_of s row = by (first_denied s row.asks)
     by None = row.allowed (map (bytes_in s) row.asks) (option_and_then s.refusal row.invalidation)
 
 -- the grant that an ask goes by, if this is the one of its key's slot
-abbrev pub fitting : Ask → Option Grant → Option Grant
-fitting ask None = None
-fitting ask (Some g) = grant_for ask (g ∷ [])
+abbrev pub grant_if_fitting : Ask → Option Grant → Option Grant
+grant_if_fitting ask None = None
+grant_if_fitting ask (Some g) = grant_for ask (g ∷ [])
 
 -- the grant of a window that is bound, over its region
 abbrev pub grant_over : Window → Binding → Region → Option Grant
@@ -93,7 +93,7 @@ region_under w b = record { domain = w.slot.domain; slot = b.region }
 -- binding. A key of another domain or outside the slices names nothing, and no window is named by an L_Key.
 abbrev pub With_grant : Configuration → Ask → (Option Grant → Plan) → Plan
 With_grant c ask k =
-    If (names_region c ask.domain ask.key) (Look (Region_of slot) (λ region. k (fitting ask (grant_of_region region))))
+    If (names_region c ask.domain ask.key) (Look (Region_of slot) (λ region. k (grant_if_fitting ask (grant_of_region region))))
     (If (if ask.local then false else names_window c ask.domain ask.key) (Look (Window_of slot) (λ window. by window window.binding))
     (k None))
   where
@@ -102,7 +102,7 @@ With_grant c ask k =
 
     by : Window → Option Binding → Plan
     by window None = k None
-    by window (Some b) = Look (Region_of (region_under window b)) (λ region. k (fitting ask (grant_over window b region)))
+    by window (Some b) = Look (Region_of (region_under window b)) (λ region. k (grant_if_fitting ask (grant_over window b region)))
 
 -- the same for all asks, in order
 abbrev pub With_grants : Configuration → List Ask → (List (Option Grant) → Plan) → Plan
@@ -122,7 +122,7 @@ With_bytes (ask ∷ asks) (grant ∷ grants) k =
 With_bytes asks grants k = k []
 
 -- looks for why an invalidation is refused, and what it changes
-abbrev pub With_invalidation : Configuration → Option Invalidation → (Option OpRefusal → List Change → Plan) → Plan
+abbrev pub With_invalidation : Configuration → Option Invalidation → (Option OpRefusal → List Update → Plan) → Plan
 With_invalidation c None k = k None []
 With_invalidation c (Some i) k =
     If (names_region c i.domain i.key) (Look (Region_of slot) (λ region.
@@ -137,7 +137,7 @@ With_invalidation c (Some i) k =
     by window None = k (window_refusal i.key i.queue window) []
     by window (Some b) = Look (Region_of (region_under window b)) (λ region.
         k (window_refusal i.key i.queue window)
-        ((Window_of slot := unbound window) ∷ (Region_of (region_under window b) := with_window_unbound region) ∷ []))
+        ((Window_of slot := without_binding window) ∷ (Region_of (region_under window b) := with_window_unbound region) ∷ []))
 
 -- looks for where the bytes of writes go
 abbrev pub With_writes : Configuration → List (Ask × List ℕ) → (List Write → Plan) → Plan
@@ -146,19 +146,19 @@ With_writes c (x ∷ xs) k =
     With_grant c x.0 (λ grant. With_writes c xs (λ rest. k (record { runs = runs_by_grant x.0 grant; bytes = x.1 } ∷ rest)))
 
 -- how a plan goes on with the ending of a row, with what its invalidation changed and where its bytes go
-abbrev pub Ended : Configuration → (Effects → List Change → List Write → Plan) → List Change → Ending → Plan
-Ended c finish changes (NotPossible reason) = Stuck reason
-Ended c finish changes (Does e) = With_writes c e.writes (λ writes. finish e changes writes)
+abbrev pub End_plan : Configuration → (Effects → List Update → List Write → Plan) → List Update → Ending → Plan
+End_plan c finish changes (NotPossible reason) = Stuck reason
+End_plan c finish changes (Does e) = With_writes c e.writes (λ writes. finish e changes writes)
 
 -- what an invalidation changed, where it was not refused
-abbrev pub unless_none : Option OpRefusal → List Change → List Change
+abbrev pub unless_none : Option OpRefusal → List Update → List Update
 unless_none refusal changes = if is_none refusal then changes else []
 
 -- the plan of a row
-abbrev pub Row_plan : Configuration → Row → (Effects → List Change → List Write → Plan) → Plan
+abbrev pub Row_plan : Configuration → Row → (Effects → List Update → List Write → Plan) → Plan
 Row_plan c row finish = With_grants c row.asks (λ grants. by grants (first_denied_by row.asks grants))
   where
     by : List (Option Grant) → Option DeniedAsk → Plan
-    by grants (Some denied) = Ended c finish [] (row.denied denied)
+    by grants (Some denied) = End_plan c finish [] (row.denied denied)
     by grants None = With_bytes row.asks grants (λ bytes. With_invalidation c row.invalidation (λ refusal changes.
-        Ended c finish (unless_none refusal changes) (row.allowed bytes refusal)))
+        End_plan c finish (unless_none refusal changes) (row.allowed bytes refusal)))

@@ -8,7 +8,7 @@ use Rattle.ca_base.specs.Memory.{places_count}
 use Rattle.ca_base.specs.Numbers.{key_at, region_index}
 use Rattle.ca_base.specs.objects.Region.{RegionState, NoRegion, Free, Registered, FastRegistered}
 use Rattle.ca_model.specs.machine.Step.{bytes_of_buffer}
-use Rattle.ca_model.specs.machine.Plan.{Plan, Stuck, Look, Read, If, Finish, Change}
+use Rattle.ca_model.specs.machine.Plan.{Plan, Stuck, Look, Read, If, Finish, Update}
 use Rattle.ca_model.specs.machine.World.{World, Name, Domain_of, Region_of, Window_of, Cq_of, Srq_of, Queue_of, Mailbox_of, Byte_at, Thing, get}
 
 -- runs lie in this buffer, which has so many bytes
@@ -49,7 +49,7 @@ abbrev pub IsSound : Configuration → World → Type 0
 IsSound c w = (n : Name) → IsSoundThing c n (get w n)
 
 -- changes that put sound things
-abbrev pub AreSound : Configuration → List Change → Type 0
+abbrev pub AreSound : Configuration → List Update → Type 0
 AreSound c [] = Unit {0}
 AreSound c (x ∷ xs) = IsSoundThing c x.name x.thing × AreSound c xs
 

@@ -21,7 +21,7 @@ use Rattle.ca_model.specs.machine.PostingVerbs.{post_recv_plan, post_send_plan, 
 use Rattle.ca_model.specs.machine.QueuePairVerbs.{create_qp_plan, destroy_qp_plan, modify_qp_plan, query_qp_plan}
 use Rattle.ca_model.specs.machine.RegionVerbs.{alloc_mr_plan, dereg_mr_plan, reg_mr_plan}
 use Rattle.ca_model.specs.machine.Turns.{request_plan, respond_plan, timeout_plan, wake_plan}
-use Rattle.ca_model.specs.machine.VerbAnswers.{Call, Refuse}
+use Rattle.ca_model.specs.machine.VerbAnswers.{Call, Refuse_plan}
 use Rattle.ca_model.specs.machine.WindowVerbs.{alloc_mw_plan, dealloc_mw_plan}
 use Rattle.ca_model.specs.machine.World.{World}
 
@@ -30,11 +30,11 @@ abbrev pub has_buffer : Configuration → ℕ → ℕ → Bool
 has_buffer c adapter buffer = is_some (buffer_length c adapter buffer)
 
 -- the window or the region that a request names by slot is configured
-abbrev pub has_named : Configuration → DomainId → SendOp → Bool
-has_named c d (ops.Bind1 window region address count rights) = has_slot c (λ a. a.windows) (record { domain = d; slot = window })
-has_named c d (ops.Bind2 window region low address count rights) = has_slot c (λ a. a.windows) (record { domain = d; slot = window })
-has_named c d (ops.FastReg region low buffer address count rights pages) = has_slot c (λ a. a.regions) (record { domain = d; slot = region })
-has_named c d op = true
+abbrev pub has_named_slot : Configuration → DomainId → SendOp → Bool
+has_named_slot c d (ops.Bind1 window region address count rights) = has_slot c (λ a. a.windows) (record { domain = d; slot = window })
+has_named_slot c d (ops.Bind2 window region low address count rights) = has_slot c (λ a. a.windows) (record { domain = d; slot = window })
+has_named_slot c d (ops.FastReg region low buffer address count rights pages) = has_slot c (λ a. a.regions) (record { domain = d; slot = region })
+has_named_slot c d op = true
 
 -- each name of a verb lies in the configured slices, but for the queues of a queue pair that is made
 abbrev pub is_named : Configuration → Verb → Bool
@@ -54,7 +54,7 @@ is_named c (verbs.CreateQp slot send_cq recv_cq send_depth recv_depth srq) = has
 is_named c (verbs.ModifyQp slot change) = has_slot c (λ a. a.qps) slot
 is_named c (verbs.QueryQp slot) = has_slot c (λ a. a.qps) slot
 is_named c (verbs.DestroyQp slot) = has_slot c (λ a. a.qps) slot
-is_named c (verbs.PostSend slot request) = has_slot c (λ a. a.qps) slot && has_named c slot.domain request.op
+is_named c (verbs.PostSend slot request) = has_slot c (λ a. a.qps) slot && has_named_slot c slot.domain request.op
 is_named c (verbs.PostRecv slot request) = has_slot c (λ a. a.qps) slot
 is_named c (verbs.PostSrq slot request) = has_slot c (λ a. a.srqs) slot
 is_named c (verbs.Poll slot n least) = has_slot c (λ a. a.cqs) slot
@@ -108,7 +108,7 @@ verb_plan c call (verbs.Inject queue bytes) = inject_plan c call queue bytes
 -- the plan of an event
 abbrev pub plan : Configuration → Event → Plan
 plan c (events.Verb by verb) =
-    If (is_named c verb) (verb_plan c (record { by = by; verb = verb }) verb) (Refuse (record { by = by; verb = verb }) NoSuch)
+    If (is_named c verb) (verb_plan c (record { by = by; verb = verb }) verb) (Refuse_plan (record { by = by; verb = verb }) NoSuch)
 plan c (events.Request queue lot) = request_plan c queue lot
 plan c (events.Deliver queue index) = deliver_plan c queue index
 plan c (events.Respond queue lot) = respond_plan c queue lot

@@ -7,9 +7,9 @@ use Rattle.ca_base.specs.declared.step.Reason.TheVariants as reasons
 use Rattle.ca_base.specs.objects.QueuePair.{QueuePair}
 use Rattle.ca_base.specs.objects.StateTable.{is_among}
 use Rattle.ca_model.specs.declared.mark.Mark.TheVariants as marks
-use Rattle.ca_model.specs.machine.Acknowledged.{one_retry, with_requester}
+use Rattle.ca_model.specs.machine.Acknowledgements.{one_retry, with_requester}
 use Rattle.ca_model.specs.machine.Requester.{is_outstanding}
-use Rattle.ca_model.specs.machine.Row.{Effects, quiet}
+use Rattle.ca_model.specs.machine.Row.{Effects, queue_and_marks}
 
 -- why a timer does not fire, in order
 abbrev pub timeout_refusals : Bool → Bool → QueuePair → List (Bool × Reason)
@@ -39,4 +39,4 @@ wake_refusals peer_empty q =
 
 -- the waiting ends
 abbrev pub after_wake : QueuePair → Effects
-after_wake q = quiet (with_requester (record q.requester { waiting = false }) q) []
+after_wake q = queue_and_marks (with_requester (record q.requester { waiting = false }) q) []

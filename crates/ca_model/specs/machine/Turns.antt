@@ -7,14 +7,14 @@ use Rattle.ca_base.specs.declared.step.Reason.TheVariants as reasons
 use Rattle.ca_base.specs.declared.step.Sent.{Sent}
 use Rattle.ca_base.specs.declared.step.Sent.TheVariants.{Silent, Spelt}
 use Rattle.ca_base.specs.Configuration.{Configuration}
-use Rattle.ca_base.specs.objects.Mailbox.{Correspondent, Mailbox, after_send, has_room, is_lost, passes, undelivered}
+use Rattle.ca_base.specs.objects.Mailbox.{Correspondent, Mailbox, after_send, has_room, is_lost, passes, undelivered_count}
 use Rattle.ca_base.specs.objects.QueuePair.{QueuePair, QueueSlot, Present, correspondent_of, queue_in, srq_of}
 use Rattle.ca_model.specs.declared.mark.Mark.{Mark}
 use Rattle.ca_model.specs.declared.mark.Mark.TheVariants as marks
 use Rattle.ca_model.specs.machine.Arrivals.{next_receive}
-use Rattle.ca_model.specs.machine.Around.{Around, With_around, With_queue, changes_of}
+use Rattle.ca_model.specs.machine.Around.{Around, With_around, With_queue, updates_of}
 use Rattle.ca_model.specs.machine.LocalOperations.{Perform_plan}
-use Rattle.ca_model.specs.machine.Plan.{Plan, Stuck, Look, Finish, Change, ◌:=◌, Write, unless_refused}
+use Rattle.ca_model.specs.machine.Plan.{Plan, Stuck, Look, Finish, Update, ◌:=◌, Write, unless_refused}
 use Rattle.ca_model.specs.machine.Requester.{RequestTurn, Waits, Performs, Sends, turn_of, packet_row}
 use Rattle.ca_model.specs.machine.Respond.{respond_refusals, respond_row}
 use Rattle.ca_model.specs.machine.Row.{Effects, Row_plan}
@@ -22,12 +22,12 @@ use Rattle.ca_model.specs.machine.Timers.{after_timeout, after_wake, timeout_ref
 use Rattle.ca_model.specs.machine.World.{Mailbox_of, Queue_of, Srq_of}
 
 -- the path exists: the peer's mailbox accepts the queue pair
-abbrev pub has_path : QueuePair → Correspondent → Mailbox → Bool
-has_path q peer m = passes (correspondent_of q) peer.incarnation m
+abbrev pub reaches_peer : QueuePair → Correspondent → Mailbox → Bool
+reaches_peer q peer m = passes (correspondent_of q) peer.incarnation m
 
 -- there is room for a packet, or it is lost anyway
 abbrev pub has_room_for : QueuePair → Correspondent → Mailbox → Bool
-has_room_for q peer m = not (has_path q peer m) || has_room m
+has_room_for q peer m = not (reaches_peer q peer m) || has_room m
 
 -- what is sent: a packet of a request, or a response
 pub record Packet : Type 0 where
@@ -44,19 +44,19 @@ packet_sent e = by e.sent
 -- the marks of a packet: it is under way, or lost by the weather, or lost since no path leads to the peer
 abbrev pub sent_marks : QueuePair → Correspondent → Mailbox → Lot → Packet → List Mark
 sent_marks q peer m lot p =
-    if has_path q peer m
+    if reaches_peer q peer m
     then marks.Sent q.queue peer.queue (Some m.next) p.request p.bytes
     ∷ (if is_lost lot then marks.Lost peer.queue (Some m.next) ∷ [] else [])
     else marks.Sent q.queue peer.queue None p.request p.bytes ∷ marks.Lost peer.queue None ∷ []
 
 -- the peer's mailbox has the packet, where a path leads there
-abbrev pub sent_changes : QueuePair → Correspondent → Mailbox → Lot → Packet → List Change
-sent_changes q peer m lot p = if has_path q peer m then (Mailbox_of peer.queue := after_send lot p.bytes m) ∷ [] else []
+abbrev pub sent_updates : QueuePair → Correspondent → Mailbox → Lot → Packet → List Update
+sent_updates q peer m lot p = if reaches_peer q peer m then (Mailbox_of peer.queue := after_send lot p.bytes m) ∷ [] else []
 
 -- a turn is done: what its effects change, and the packet that it sends
-abbrev pub Left : QueuePair → Around → Correspondent → Mailbox → Lot → Effects → List Change → List Write → Plan
-Left q a peer m lot e changes writes = Finish
-    (changes_of q a e ++ (changes ++ option_map_or (sent_changes q peer m lot) (packet_sent e) []))
+abbrev pub Leave_plan : QueuePair → Around → Correspondent → Mailbox → Lot → Effects → List Update → List Write → Plan
+Leave_plan q a peer m lot e changes writes = Finish
+    (updates_of q a e ++ (changes ++ option_map_or (sent_updates q peer m lot) (packet_sent e) []))
     writes
     (e.marks ++ option_map_or (sent_marks q peer m lot) (packet_sent e) [])
 
@@ -64,10 +64,10 @@ Left q a peer m lot e changes writes = Finish
 abbrev pub Request_around : Configuration → Lot → QueuePair → Around → Option Correspondent → RequestTurn → Plan
 Request_around c lot q a peer (Waits reason) = Stuck reason
 Request_around c lot q a peer (Performs n) =
-    Perform_plan c q n (λ e changes writes. Finish (changes_of q a e ++ changes) writes e.marks)
+    Perform_plan c q n (λ e changes writes. Finish (updates_of q a e ++ changes) writes e.marks)
 Request_around c lot q a None (Sends n) = Stuck reasons.State
 Request_around c lot q a (Some peer) (Sends n) = Look (Mailbox_of peer.queue) (λ m.
-    Row_plan c (packet_row q (has_room_for q peer m) n) (Left q a peer m lot))
+    Row_plan c (packet_row q (has_room_for q peer m) n) (Leave_plan q a peer m lot))
 
 -- the requester's turn
 abbrev pub request_plan : Configuration → QueueId → Lot → Plan
@@ -78,7 +78,7 @@ request_plan c q lot = With_queue c q reasons.State (λ queue. With_around queue
 abbrev pub Respond_around : Configuration → Lot → QueuePair → Around → Option Correspondent → Plan
 Respond_around c lot q a None = unless_refused (respond_refusals true q) Stuck (Stuck reasons.Empty)
 Respond_around c lot q a (Some peer) = Look (Mailbox_of peer.queue) (λ m.
-    Row_plan c (respond_row (has_room_for q peer m) q) (Left q a peer m lot))
+    Row_plan c (respond_row (has_room_for q peer m) q) (Leave_plan q a peer m lot))
 
 -- the responder's turn
 abbrev pub respond_plan : Configuration → QueueId → Lot → Plan
@@ -88,14 +88,14 @@ respond_plan c q lot = With_queue c q reasons.State (λ queue. With_around queue
 -- nothing is under way to the queue pair, and, where a path leads to the peer, nothing to it, and it owes no answer
 abbrev pub is_silent : QueuePair → Mailbox → Correspondent → QueueSlot → Mailbox → Bool
 is_silent q own peer slot m =
-    (undelivered own.envelopes == 0)
-    && (not (has_path q peer m)
-    || ((undelivered m.envelopes == 0) && option_map_or (λ p. length p.responder.answers == 0) (queue_in slot) true))
+    (undelivered_count own.envelopes == 0)
+    && (not (reaches_peer q peer m)
+    || ((undelivered_count m.envelopes == 0) && option_map_or (λ p. length p.responder.answers == 0) (queue_in slot) true))
 
 -- a timer fires, or not
 abbrev pub Fire : Bool → QueuePair → Around → Bool → Plan
 Fire hasten q a silent = unless_refused (timeout_refusals silent hasten q) Stuck
-    (Finish (changes_of q a (after_timeout silent q)) [] (after_timeout silent q).marks)
+    (Finish (updates_of q a (after_timeout silent q)) [] (after_timeout silent q).marks)
 
 -- what a timer's turn does
 abbrev pub Timeout_around : Bool → QueuePair → Mailbox → Around → Option Correspondent → Plan
@@ -131,4 +131,4 @@ wake_plan c q = With_queue c q reasons.State (λ queue. by queue queue.peer)
     by : QueuePair → Option Correspondent → Plan
     by queue None = unless_refused (wake_refusals false queue) Stuck (Stuck reasons.Empty)
     by queue (Some peer) = Look (Queue_of peer.queue) (λ slot. Look (Mailbox_of peer.queue) (λ m.
-        With_receives slot (λ empty. wakes queue (has_path queue peer m && empty))))
+        With_receives slot (λ empty. wakes queue (reaches_peer queue peer m && empty))))

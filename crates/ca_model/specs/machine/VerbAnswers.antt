@@ -12,7 +12,7 @@ use Rattle.ca_model.specs.declared.mark.Mark.{Mark}
 use Rattle.ca_model.specs.declared.mark.Mark.TheVariants as marks
 use Rattle.ca_model.specs.declared.verb.Verb.{Verb}
 use Rattle.ca_model.specs.Answers.{refusal_of_change, refusal_of_region}
-use Rattle.ca_model.specs.machine.Plan.{Plan, Finish, Change, unless_refused}
+use Rattle.ca_model.specs.machine.Plan.{Plan, Finish, Update, unless_refused}
 
 -- who calls which verb
 pub record Call : Type 0 where
@@ -24,16 +24,16 @@ abbrev pub answer_mark : Call → Answer → Mark
 answer_mark call answer = marks.Verb call.by call.verb answer
 
 -- the verb is done, with these changes and marks
-abbrev pub Answered : Call → Answer → List Change → List Mark → Plan
-Answered call answer changes ms = Finish changes [] (answer_mark call answer ∷ ms)
+abbrev pub Answer_plan : Call → Answer → List Update → List Mark → Plan
+Answer_plan call answer changes ms = Finish changes [] (answer_mark call answer ∷ ms)
 
 -- the verb is refused, and changes nothing
-abbrev pub Refuse : Call → Refusal → Plan
-Refuse call refusal = Answered call (answers.Refused refusal) [] []
+abbrev pub Refuse_plan : Call → Refusal → Plan
+Refuse_plan call refusal = Answer_plan call (answers.Refused refusal) [] []
 
 -- the first refusal that holds answers the verb
-abbrev pub Unless : Call → List (Bool × Refusal) → Plan → Plan
-Unless call tests p = unless_refused tests (Refuse call) p
+abbrev pub Unless_plan : Call → List (Bool × Refusal) → Plan → Plan
+Unless_plan call tests p = unless_refused tests (Refuse_plan call) p
 
 -- the refusals of a region, and of a queue pair's change, as those of a verb
 abbrev pub of_region_refusals : List (Bool × RegionError) → List (Bool × Refusal)

@@ -9,8 +9,8 @@ use Rattle.ca_base.specs.objects.QueuePair.{QueuePair, PostedSend, in_error, wit
 use Rattle.ca_base.specs.objects.WorkQueue.{items_from}
 use Rattle.ca_model.specs.declared.mark.Mark.{Mark}
 use Rattle.ca_model.specs.machine.Completions.{failure_mark, flush_marks, success_marks}
-use Rattle.ca_model.specs.machine.Numbering.{Numbered, begun, psn_end, is_answered_op}
-use Rattle.ca_model.specs.machine.Row.{Effects, quiet}
+use Rattle.ca_model.specs.machine.Numbering.{Numbered, begun_requests, psn_end, is_answered_op}
+use Rattle.ca_model.specs.machine.Row.{Effects, queue_and_marks}
 
 abbrev pub with_requester : RequesterNumbers → QueuePair → QueuePair
 with_requester numbers q = record q { requester = numbers }
@@ -21,27 +21,27 @@ without_oldest q = with_requester (record q.requester { oldest = suc q.requester
 
 -- the oldest unfinished request fails: it completes, all that is posted behind it is flushed, the queue pair moves to
 -- Error and its response queue is emptied
-abbrev pub failed : WcStatus → Option OpRefusal → QueuePair → Effects
-failed status cause q =
-    quiet (without_answers (in_error q)) (by (items_from q.requester.oldest q.sends))
+abbrev pub failure_effects : WcStatus → Option OpRefusal → QueuePair → Effects
+failure_effects status cause q =
+    queue_and_marks (without_answers (in_error q)) (by (items_from q.requester.oldest q.sends))
   where
     by : List PostedSend → List Mark
     by [] = flush_marks q
     by (p ∷ ps) = failure_mark q q.requester.oldest p.request status cause ∷ flush_marks (without_oldest q)
 
 -- the requests that have begun and whose PSNs all lie below `una`
-abbrev pub finished : QueuePair → List Numbered
-finished q = take_while (λ n. nat_le (psn_end n) q.requester.una) (begun q)
+abbrev pub finished_requests : QueuePair → List Numbered
+finished_requests q = take_while (λ n. nat_le (psn_end n) q.requester.una) (begun_requests q)
 
 -- those requests are finished
 abbrev pub after_finished : QueuePair → QueuePair
 after_finished q = with_requester (record q.requester {
-  oldest = q.requester.oldest + length (finished q);
-  oldest_psn = q.requester.oldest_psn + sum_by (λ n. n.count) (finished q);
+  oldest = q.requester.oldest + length (finished_requests q);
+  oldest_psn = q.requester.oldest_psn + sum_by (λ n. n.count) (finished_requests q);
 }) q
 
 abbrev pub finished_marks : QueuePair → List Mark
-finished_marks q = flat_map (λ n. success_marks q n.place n.request) (finished q)
+finished_marks q = flat_map (λ n. success_marks q n.place n.request) (finished_requests q)
 
 -- `una` grows to a PSN, if it is above it; where it grew, retries are counted anew
 abbrev pub with_una : ℕ → QueuePair → QueuePair
@@ -51,8 +51,8 @@ with_una psn q =
     else q
 
 -- all below a PSN is acknowledged, and what is finished completes
-abbrev pub acknowledged_to : ℕ → QueuePair → Effects
-acknowledged_to psn q = quiet (after_finished (with_una psn q)) (finished_marks (with_una psn q))
+abbrev pub progress_to : ℕ → QueuePair → Effects
+progress_to psn q = queue_and_marks (after_finished (with_una psn q)) (finished_marks (with_una psn q))
 
 -- what comes after an effect that only changed the queue pair and made marks
 abbrev pub and_then : Effects → (QueuePair → Effects) → Effects
@@ -66,8 +66,8 @@ with_cursor psn q = with_requester (record q.requester { cursor = psn }) q
 abbrev pub one_retry : ℕ → QueuePair → Effects
 one_retry psn q =
     if nat_le q.requester.retry q.requester.retries
-    then failed RetryExceeded None (counted q)
-    else quiet (with_cursor psn (counted q)) []
+    then failure_effects RetryExceeded None (counted q)
+    else queue_and_marks (with_cursor psn (counted q)) []
   where
     counted : QueuePair → QueuePair
     counted q = with_requester (record q.requester { retries = suc q.requester.retries }) q
@@ -87,9 +87,9 @@ pub record Acknowledgement : Type 0 where
 
 -- All below a PSN is acknowledged. A READ or an atomic there that was not answered is an implied NAK: the requester goes
 -- back to it.
-abbrev pub acked : ℕ → QueuePair → Acknowledgement
-acked psn q = by (first_unanswered q.requester.una psn (begun q))
+abbrev pub acknowledgement_below : ℕ → QueuePair → Acknowledgement
+acknowledgement_below psn q = by (first_unanswered q.requester.una psn (begun_requests q))
   where
     by : Option ℕ → Acknowledgement
-    by None = record { effects = acknowledged_to psn q; went_back = false }
-    by (Some back) = record { effects = and_then (acknowledged_to back q) (one_retry back); went_back = true }
+    by None = record { effects = progress_to psn q; went_back = false }
+    by (Some back) = record { effects = and_then (progress_to back q) (one_retry back); went_back = true }
