@@ -1,0 +1,8 @@
+//! Tests above the queues: worked calls of saved results, work queues and shared receive queues, and runs of drawn calls
+//! beside a plain list.
+//!
+//! It has nothing but tests, so that the crates below are proved once.
+#![tactic(auto)]
+
+#[cfg(test)]
+mod tests;
