@@ -1,4 +1,4 @@
-//! Tests above the queues: worked calls of saved results, work queues and shared receive queues, and runs of drawn calls
+//! Tests above the queues: worked calls of saved results, work queues, shared receive queues and mailboxes, and drawn calls
 //! beside a plain list.
 //!
 //! It has nothing but tests, so that the crates below are proved once.

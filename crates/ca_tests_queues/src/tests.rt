@@ -1,3 +1,4 @@
+mod mailboxes;
 mod saved;
 mod shared;
 mod work;
