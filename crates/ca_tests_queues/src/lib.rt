@@ -1,5 +1,5 @@
-//! Tests above the queues: worked calls of saved results, work queues, shared receive queues and mailboxes, and drawn calls
-//! beside a plain list.
+//! Tests above the queues: worked calls of saved results, work queues, shared receive queues, mailboxes and
+//! weather, and drawn calls beside plain lists.
 //!
 //! It has nothing but tests, so that the crates below are proved once.
 #![tactic(auto)]

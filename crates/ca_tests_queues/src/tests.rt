@@ -1,6 +1,7 @@
 mod mailboxes;
 mod saved;
 mod shared;
+mod weathers;
 mod work;
 
 use rand_core::utils::NextWord;
