@@ -2,12 +2,12 @@
 use Rattle.std.proofs.Common.{◌≡◌, ℕ, suc, zero, ◌-◌, ◌<◌, ◌&&◌, Bool, true, false, if◌then◌else◌, List, [], ◌∷◌, drop, slice_get, nat_lt, Option, Some, None, refl, arith}
 use Rattle.std.specs.Option.{option_map_or, option_or}
 use Rattle.std.proofs.lemmas.Grind.{common_steps}
-use Rattle.ca_base.specs.objects.Mailbox.{MailEnvelope, due_from, is_hold, is_ready, is_undelivered, undelivered}
+use Rattle.ca_base.specs.objects.Mailbox.{MailEnvelope, due_from, is_hold, is_ready, is_undelivered, undelivered_count}
 use Rattle.ca_base.specs.declared.lot.Lot.{Lot}
 use Rattle.ca_base.specs.declared.lot.Lot.TheVariants.{Pass, Lose, Repeat, Hold}
 
 -- where none is undelivered none is due
-pub due_from-none : (all_held : Bool) (next later : ℕ) (es : List MailEnvelope) → undelivered es ≡ 0 → due_from all_held next later es ≡ None
+pub due_from-none : (all_held : Bool) (next later : ℕ) (es : List MailEnvelope) → undelivered_count es ≡ 0 → due_from all_held next later es ≡ None
 due_from-none all_held next later [] h = refl
 due_from-none all_held next later (e ∷ es) h =
     grind (arith, common_steps, h, due_from-none all_held (next - 1) (if nat_lt 0 e.delivered then suc later else later) es (grind (arith, common_steps, h)))
@@ -20,7 +20,7 @@ is_ready-not_hold all_held later (Repeat k) h = refl
 is_ready-not_hold all_held later (Hold k) h = grind (arith, h)
 
 -- the oldest that is undelivered is due, if it is not held
-pub due_from-oldest : (all_held : Bool) (next later k : ℕ) (es : List MailEnvelope) → undelivered (drop (suc k) es) ≡ 0 →
+pub due_from-oldest : (all_held : Bool) (next later k : ℕ) (es : List MailEnvelope) → undelivered_count (drop (suc k) es) ≡ 0 →
     option_map_or is_undelivered (slice_get es k) false ≡ true → option_map_or (λ e. is_hold e.lot) (slice_get es k) false ≡ false →
     due_from all_held next later es ≡ Some (next - suc k)
 due_from-oldest all_held next later k [] h u n = grind (arith, common_steps, u)
@@ -47,7 +47,7 @@ option_or-assoc None b c = refl
 option_or-assoc (Some x) b c = refl
 
 -- the same by how many envelopes reach to it
-pub due_from-left : (all_held : Bool) (next later left : ℕ) (es : List MailEnvelope) → 0 < left → undelivered (drop left es) ≡ 0 →
+pub due_from-left : (all_held : Bool) (next later left : ℕ) (es : List MailEnvelope) → 0 < left → undelivered_count (drop left es) ≡ 0 →
     option_map_or is_undelivered (slice_get es (left - 1)) false ≡ true →
     option_map_or (λ e. is_hold e.lot) (slice_get es (left - 1)) false ≡ false →
     due_from all_held next later es ≡ Some (next - left)

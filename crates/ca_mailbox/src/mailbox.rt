@@ -54,7 +54,7 @@ pub struct Mailbox {
 impl Model for Mailbox {
     ghost use Rattle.std.specs.Prelude.{◌≡◌, ◌<◌, ◌≤◌, ◌^◌, drop, length};
     ghost use Rattle.ca_base.specs.declared.limits.TheConstants.{KEPT_ENVELOPES, MAX_UNDELIVERED};
-    ghost use Rattle.ca_base.specs.objects.Mailbox.{Mailbox, undelivered};
+    ghost use Rattle.ca_base.specs.objects.Mailbox.{Mailbox, undelivered_count};
 
     ghost Value = { Mailbox };
 
@@ -65,13 +65,13 @@ impl Model for Mailbox {
       envelopes = m.envelopes.items;
     } };
 
-    ghost invariant = { λ m. (length m.envelopes.items ≤ m.next) × (m.next < 2 ^ 64) × (m.envelopes.capacity ≡ KEPT_ENVELOPES) × (length m.envelopes.items ≤ KEPT_ENVELOPES) × (m.waits ≡ undelivered m.envelopes.items) × (m.span ≤ KEPT_ENVELOPES) × (undelivered (drop m.span m.envelopes.items) ≡ 0) };
+    ghost invariant = { λ m. (length m.envelopes.items ≤ m.next) × (m.next < 2 ^ 64) × (m.envelopes.capacity ≡ KEPT_ENVELOPES) × (length m.envelopes.items ≤ KEPT_ENVELOPES) × (m.waits ≡ undelivered_count m.envelopes.items) × (m.span ≤ KEPT_ENVELOPES) × (undelivered_count (drop m.span m.envelopes.items) ≡ 0) };
 }
 
 impl Mailbox {
     ghost use Rattle.std.specs.Prelude.{◌≡◌, ◌<◌, ◌^◌, ◌↔◌, ◌&&◌, suc, nat_lt, true, not, if◌then◌else◌, Option, None, Some, IfOk, IfErr, OnOk, OnErr, IsOk, IsErr, IsTrue};
     ghost use Rattle.std.specs.Option.{option_map};
-    ghost use Rattle.ca_base.specs.objects.Mailbox.{empty_mailbox, accepting, cleared, passes, undelivered, has_room, after_send, envelope_at, bytes_lent, after_delivery, due};
+    ghost use Rattle.ca_base.specs.objects.Mailbox.{empty_mailbox, with_peer, without_envelopes, passes, undelivered_count, has_room, after_send, envelope_at, bytes_lent, after_delivery, due};
     ghost use Rattle.ca_mailbox.specs.Sender.{sender_of, peer_of};
     ghost use Rattle.ca_mailbox.specs.Counting.{is_countable};
     ghost use Rattle.ca_mailbox.specs.declared.mailbox.SendError.TheVariants.{NoPath, NoRoom};
@@ -93,7 +93,7 @@ impl Mailbox {
     /// Sets whose packets pass: those of this peer in its incarnation, for this incarnation of the owner. It takes no
     /// memory, as none of the calls below does.
     pub fn accept(&mut self, incarnation: u32, peer: Option<(QueueId, u32)>)
-        ensures { self.new ≡ accepting incarnation (peer_of peer) self.old }
+        ensures { self.new ≡ with_peer incarnation (peer_of peer) self.old }
     {
         self.incarnation = incarnation;
         self.peer = match peer {
@@ -228,14 +228,14 @@ impl Mailbox {
 
     /// How many packets are undelivered.
     pub fn undelivered(&self) -> u32
-        ensures { result ≡ undelivered self.now.envelopes }
+        ensures { result ≡ undelivered_count self.now.envelopes }
     {
         self.waits
     }
 
     /// No packet is under way any more. Indices go on.
     pub fn clear(&mut self)
-        ensures { self.new ≡ cleared self.old }
+        ensures { self.new ≡ without_envelopes self.old }
     {
         self.envelopes.clear();
         self.waits = 0;

@@ -1,7 +1,7 @@
 ghost use Rattle.std.specs.Prelude.{◌≡◌, ◌+◌, ◌-◌, ◌<◌, ◌≤◌, ◌^◌, ◌&&◌, suc, not, if◌then◌else◌, true, false, Some, None, IsTrue, slice_get, drop, length};
 ghost use Rattle.std.specs.Option.{option_map_or, option_or};
 ghost use Rattle.circular_buffer.specs.Buffer.{buffer};
-ghost use Rattle.ca_base.specs.objects.Mailbox.{due_from, is_hold, is_undelivered, only_holds, undelivered, with_delivery};
+ghost use Rattle.ca_base.specs.objects.Mailbox.{due_from, is_hold, is_undelivered, only_holds, undelivered_count, with_delivery};
 ghost use Rattle.ca_mailbox.specs.Counting.{has_count_left};
 
 use crate::envelope::{Envelope, is_hold};
@@ -21,7 +21,7 @@ pub(crate) fn slot_is_undelivered(envelopes: &HeapCircularBuffer<Envelope>, late
 pub(crate) fn deliver(envelopes: &mut HeapCircularBuffer<Envelope>, later: usize) -> bool
     requires { IsTrue (option_map_or has_count_left (slice_get envelopes.old.items later) false) }
     ensures envelopes { envelopes.new ≡ buffer (with_delivery later envelopes.old.items) envelopes.old.capacity }
-    ensures done { undelivered (with_delivery later envelopes.old.items) + (if result then 1 else 0) ≡ undelivered envelopes.old.items }
+    ensures done { undelivered_count (with_delivery later envelopes.old.items) + (if result then 1 else 0) ≡ undelivered_count envelopes.old.items }
 {
     match envelopes.get_mut(later) {
         Some(envelope) => deliver_once(envelope),
@@ -52,9 +52,9 @@ pub(crate) fn slot_is_held(envelopes: &HeapCircularBuffer<Envelope>, later: usiz
 
 /// The least number of envelopes in front behind which none is undelivered, where so many are enough.
 pub(crate) fn trimmed(envelopes: &HeapCircularBuffer<Envelope>, enough: usize) -> usize
-    requires { undelivered (drop enough envelopes.now.items) ≡ 0 }
+    requires { undelivered_count (drop enough envelopes.now.items) ≡ 0 }
     ensures within { result ≤ enough }
-    ensures none_behind { undelivered (drop result envelopes.now.items) ≡ 0 }
+    ensures none_behind { undelivered_count (drop result envelopes.now.items) ≡ 0 }
     ensures least { 0 < result → option_map_or is_undelivered (slice_get envelopes.now.items (result - 1)) false ≡ true }
 {
     let mut left = enough;

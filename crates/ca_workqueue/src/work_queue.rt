@@ -30,7 +30,7 @@ impl<T> Model for WorkQueue<T> {
 
 impl<T> WorkQueue<T> {
     ghost use Rattle.std.specs.Prelude.{◌≡◌, ◌<◌, ◌≤◌, ◌^◌, ◌↔◌, suc, if◌then◌else◌, nat_lt, None, Some, IfOk, IfErr, OnErr, IsOk, IsTrue, not, option_copied};
-    ghost use Rattle.ca_base.specs.objects.WorkQueue.{empty_queue, next_place, is_full, occupied, after_post, item_at, waiting, after_take, after_retire};
+    ghost use Rattle.ca_base.specs.objects.WorkQueue.{empty_queue, next_place, is_full, occupied_count, with_item, item_at, waiting_count, after_take, after_retire};
 
     /// The empty queue of a depth, which is 1 to 256. `Memory` is its only refusal.
     pub fn create(alloc: Global, depth: u16) -> Result<WorkQueue<T>, Memory>
@@ -48,7 +48,7 @@ impl<T> WorkQueue<T> {
     pub fn post(&mut self, request: T) -> Result<u64, T>
         requires { suc (next_place self.old) < 2 ^ 64 }
         ensures variant { IsOk result ↔ IsTrue (not (is_full self.old)) }
-        ensures ok { IfOk result (λ place. (place ≡ next_place self.old) × (self.new ≡ after_post request self.old)) }
+        ensures ok { IfOk result (λ place. (place ≡ next_place self.old) × (self.new ≡ with_item request self.old)) }
         ensures full { IfErr result (λ refused. (refused ≡ request) × (self.new ≡ self.old)) }
     {
         let place = self.first + self.requests.len() as u64;
@@ -59,8 +59,8 @@ impl<T> WorkQueue<T> {
     /// Takes the next request, which stays readable and still occupies its place, and gives that place. None comes
     /// exactly where no request waits. It takes no memory.
     pub fn take_next(&mut self) -> Option<u64>
-        ensures place { result ≡ (if nat_lt 0 (waiting self.old) then Some self.old.next_taken else None) }
-        ensures queue { self.new ≡ (if nat_lt 0 (waiting self.old) then after_take self.old else self.old) }
+        ensures place { result ≡ (if nat_lt 0 (waiting_count self.old) then Some self.old.next_taken else None) }
+        ensures queue { self.new ≡ (if nat_lt 0 (waiting_count self.old) then after_take self.old else self.old) }
     {
         let place = self.next_taken;
         if place >= self.first + self.requests.len() as u64 {
@@ -83,7 +83,7 @@ impl<T> WorkQueue<T> {
     /// How many requests wait to be taken, of a queue in which none was freed before it was taken. It takes no memory.
     pub fn waiting(&self) -> u16
         requires { self.now.first ≤ self.now.next_taken }
-        ensures { result ≡ waiting self.now }
+        ensures { result ≡ waiting_count self.now }
     {
         let next = self.first + self.requests.len() as u64;
         next.saturating_sub(self.next_taken) as u16
@@ -91,7 +91,7 @@ impl<T> WorkQueue<T> {
 
     /// How many places are occupied. It takes no memory.
     pub fn occupied(&self) -> u16
-        ensures { result ≡ occupied self.now }
+        ensures { result ≡ occupied_count self.now }
     {
         self.requests.len() as u16
     }

@@ -6,7 +6,7 @@ use Rattle.ca_base.specs.declared.completion.Completion.{Completion}
 use Rattle.ca_base.specs.declared.names.QueueId.{QueueId}
 use Rattle.ca_base.specs.declared.reserve.Reserve.{Reserve}
 use Rattle.ca_base.specs.declared.reserve.Reserve.TheVariants.{Sends, Receives, Shared}
-use Rattle.ca_base.specs.Equal.{queue_eq}
+use Rattle.ca_base.specs.Equal.{bool_eq, queue_eq}
 
 -- who reserved, and for how many completions
 pub record Reservation : Type 0 where
@@ -86,6 +86,20 @@ without_completions queue q = record q { waiting = filter (λ c. not (queue_eq c
 -- the places of the receives of a queue pair that completed here
 abbrev pub receives_of : QueueId → CompletionQueue → List ℕ
 receives_of queue q = map (λ c. c.place) (filter (λ c. c.receive && queue_eq c.queue queue) q.waiting)
+
+-- a reservation for sends
+abbrev pub is_for_sends : Reserve → Bool
+is_for_sends (Sends queue) = true
+is_for_sends (Receives queue) = false
+is_for_sends (Shared srq user) = false
+
+-- two reservations are of one side of one queue pair
+abbrev pub is_same_side : Reserve → Reserve → Bool
+is_same_side a b = queue_eq (user_of a) (user_of b) && bool_eq (is_for_sends a) (is_for_sends b)
+
+-- what one side of a queue pair reserved is free again
+abbrev pub after_release : Reserve → CompletionQueue → CompletionQueue
+after_release who q = record q { reservations = filter (λ r. not (is_same_side r.who who)) q.reservations }
 
 -- what a queue pair reserved is free again
 abbrev pub without_reservations : QueueId → CompletionQueue → CompletionQueue

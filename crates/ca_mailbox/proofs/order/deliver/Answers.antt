@@ -1,6 +1,6 @@
 use Rattle.std.proofs.Common.{arith, sym}
 use Rattle.std.proofs.lemmas.Grind.{common_steps}
-use Rattle.ca_mailbox.proofs.Envelopes.{with_delivery-set, undelivered-with_delivery}
+use Rattle.ca_mailbox.proofs.Envelopes.{with_delivery-set, undelivered_count-with_delivery}
 use Rattle.ca_mailbox.proofs.order.deliver.Goals as goal
 
 pub returns-in-Some-clause-envelopes : goal.returns-in-Some-clause-envelopes
@@ -9,4 +9,4 @@ returns-in-Some-clause-envelopes c =
 
 pub returns-in-Some-clause-done : goal.returns-in-Some-clause-done
 returns-in-Some-clause-done c =
-    grind (arith, common_steps, undelivered-with_delivery c.args.later c.args.envelopes.now.items c.in-Some.envelope.now (sym c.in-Some.ensures.value))
+    grind (arith, common_steps, undelivered_count-with_delivery c.args.later c.args.envelopes.now.items c.in-Some.envelope.now (sym c.in-Some.ensures.value))
