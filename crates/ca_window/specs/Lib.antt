@@ -1,0 +1,3 @@
+pub mod Bind
+pub mod Seen
+pub mod View
