@@ -34,7 +34,7 @@ pub fn binding_refusal(
 }
 
 fn exceeds(rights: Rights, view: &RegionView) -> bool
-    ensures { result ≡ windows.exceeds rights view.now }
+    ensures { result ≡ windows.exceeds_region rights view.now }
 {
     (rights.remote_write || rights.remote_atomic) && !view.rights.local_write
 }

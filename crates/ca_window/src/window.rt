@@ -183,7 +183,7 @@ impl Window {
     pub fn invalidate(&mut self, key: Key, queue: QueueId) -> Result<(), WindowError>
         ensures accepted { OnOk result (first_of (windows.window_invalidation_refusals key queue self.old) ≡ None) }
         ensures refused { IfErr result (λ e. first_of (windows.window_invalidation_refusals key queue self.old) ≡ Some e) }
-        ensures unbound { OnOk result (self.new ≡ windows.unbound self.old) }
+        ensures unbound { OnOk result (self.new ≡ windows.without_binding self.old) }
         ensures err { OnErr result (self.new ≡ self.old) }
     {
         if let Some(refusal) = self.invalidation_refusal(key, queue) {
