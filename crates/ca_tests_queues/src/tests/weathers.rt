@@ -37,6 +37,20 @@ const FIRST_TIMERS: [u64; 3] = [7, 29, 35];
 
 const SECOND_TIMERS: [u64; 5] = [4, 5, 26, 42, 58];
 
+/// A lot as a number of its own, by which lots are compared.
+fn number_of(lot: Lot) -> u16 {
+    match lot {
+        Lot::Pass => 0,
+        Lot::Lose => 1,
+        Lot::Repeat(k) => 256 + u16::from(k),
+        Lot::Hold(k) => 512 + u16::from(k),
+    }
+}
+
+fn lot_is(rt: &impl Abort, lot: Lot, want: Lot, what: &str) {
+    same(rt, number_of(lot), number_of(want), what);
+}
+
 fn lot_in(lots: &[(u64, Lot)], index: u64) -> Lot {
     for (at, lot) in lots {
         if *at == index {
@@ -49,7 +63,7 @@ fn lot_in(lots: &[(u64, Lot)], index: u64) -> Lot {
 fn draws(rt: &impl Abort, queue: QueueId, lots: &[(u64, Lot)], timers: &[u64]) {
     let weather = Weather::Seeded(7);
     for number in 0..64 {
-        same(
+        lot_is(
             rt,
             weather.lot(queue, number),
             lot_in(lots, number),
@@ -99,11 +113,11 @@ fn listed_weather_follows_its_lines(rt: HostRuntime) -> Result<(), Fail> {
         list.push(*line)?;
     }
     let weather = Weather::Listed(list);
-    same(&rt, weather.lot(FIRST, 1), Lot::Hold(2), "the first line");
-    same(&rt, weather.lot(FIRST, 2), Lot::Pass, "another packet");
-    same(&rt, weather.lot(SECOND, 1), Lot::Pass, "another mailbox");
+    lot_is(&rt, weather.lot(FIRST, 1), Lot::Hold(2), "the first line");
+    lot_is(&rt, weather.lot(FIRST, 2), Lot::Pass, "another packet");
+    lot_is(&rt, weather.lot(SECOND, 1), Lot::Pass, "another mailbox");
     same(&rt, weather.hasten(FIRST, 2), true, "a hastened timer");
     same(&rt, weather.hasten(FIRST, 1), false, "another timer");
-    same(&rt, Weather::Calm.lot(FIRST, 1), Lot::Pass, "calm");
+    lot_is(&rt, Weather::Calm.lot(FIRST, 1), Lot::Pass, "calm");
     Ok(())
 }
