@@ -1,6 +1,9 @@
+ghost use Rattle.std.specs.Prelude.{◌≡◌, ◌≤◌, length};
+
 mod drawn;
 mod worked;
 
+use arrayvec::ArrayVec;
 use ca_base::{Completion, QueueId, WcOp, WcStatus};
 use ca_cq::Cq;
 use std::fmt::Debug;
@@ -53,4 +56,13 @@ fn seen_at(queue: &Cq, i: u16) -> Option<Seen> {
         Some(found) => Some(seen(&found)),
         None => None,
     }
+}
+
+/// The places that a queue gives which drops a queue pair, where at most 256 completions wait.
+fn dropped(queue: &mut Cq, of: QueueId) -> ArrayVec<u64, 256>
+    requires { length queue.old.waiting ≤ 256 }
+    ensures capacity { queue.new.capacity ≡ queue.old.capacity }
+    ensures fewer { length queue.new.waiting ≤ length queue.old.waiting }
+{
+    queue.drop_queue(of)
 }

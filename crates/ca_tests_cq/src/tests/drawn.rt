@@ -1,6 +1,6 @@
-ghost use Rattle.std.specs.Prelude.{◌≡◌, ◌<◌, ◌≤◌, length, IfOk, nat_lt};
+ghost use Rattle.std.specs.Prelude.{◌≡◌, ◌≤◌, length, nat_lt};
 
-use super::{FIRST, SECOND, Seen, completion, same, seen, seen_at};
+use super::{FIRST, SECOND, Seen, completion, dropped, same, seen, seen_at};
 use ca_base::QueueId;
 use ca_cq::Cq;
 use rand_core::utils::NextWord;
@@ -22,8 +22,8 @@ fn has_room(queue: &Cq) -> bool
 
 // Puts a completion at both, where there is room.
 fn put(queue: &mut Cq, plain: &mut Vec<Seen>, of: QueueId, number: u64) -> Result<(), Fail>
-    requires { queue.old.capacity ≡ 7 }
-    ensures { queue.new.capacity ≡ 7 }
+    requires { (queue.old.capacity ≡ 7) × (length queue.old.waiting ≤ 7) }
+    ensures { (queue.new.capacity ≡ 7) × (length queue.new.waiting ≤ 7) }
 {
     if has_room(queue) {
         let put = completion(of, number % 2 == 0, number);
@@ -35,8 +35,9 @@ fn put(queue: &mut Cq, plain: &mut Vec<Seen>, of: QueueId, number: u64) -> Resul
 
 // Polls both.
 fn poll(rt: &impl Abort, queue: &mut Cq, plain: &mut Vec<Seen>, n: u8)
-    requires { n ≤ 16 }
-    ensures { queue.new.capacity ≡ queue.old.capacity }
+    requires few { n ≤ 16 }
+    requires queue { (queue.old.capacity ≡ 7) × (length queue.old.waiting ≤ 7) }
+    ensures { (queue.new.capacity ≡ 7) × (length queue.new.waiting ≤ 7) }
 {
     let polled = queue.poll(n);
     same(
@@ -54,10 +55,10 @@ fn poll(rt: &impl Abort, queue: &mut Cq, plain: &mut Vec<Seen>, n: u8)
 
 // Drops a queue pair at both.
 fn drop_queue(rt: &impl Abort, queue: &mut Cq, plain: &mut Vec<Seen>, of: QueueId)
-    requires { queue.old.capacity ≡ 7 }
-    ensures { queue.new.capacity ≡ 7 }
+    requires { (queue.old.capacity ≡ 7) × (length queue.old.waiting ≤ 7) }
+    ensures { (queue.new.capacity ≡ 7) × (length queue.new.waiting ≤ 7) }
 {
-    let places = queue.drop_queue(of);
+    let places = dropped(queue, of);
     let mut given = 0;
     for (number, receive, place) in plain.as_slice() {
         if *number == of.number && *receive {
@@ -67,7 +68,7 @@ fn drop_queue(rt: &impl Abort, queue: &mut Cq, plain: &mut Vec<Seen>, of: QueueI
                 Some(*place),
                 "a drawn place",
             );
-            given += 1;
+            given = given.wrapping_add(1);
         }
     }
     same(rt, places.len(), given, "how many places");
@@ -76,8 +77,8 @@ fn drop_queue(rt: &impl Abort, queue: &mut Cq, plain: &mut Vec<Seen>, of: QueueI
 
 // One drawn call, and what both have then.
 fn step(rt: &impl Abort, queue: &mut Cq, plain: &mut Vec<Seen>, word: u32) -> Result<(), Fail>
-    requires { queue.old.capacity ≡ 7 }
-    ensures { queue.new.capacity ≡ 7 }
+    requires { (queue.old.capacity ≡ 7) × (length queue.old.waiting ≤ 7) }
+    ensures { (queue.new.capacity ≡ 7) × (length queue.new.waiting ≤ 7) }
 {
     let of = if word / 8 % 2 == 0 { FIRST } else { SECOND };
     match word % 8 {
