@@ -77,8 +77,8 @@ impl Cq {
             .retain(|reservation| !is_same_side(reservation.who, who));
     }
 
-    /// Puts a completion behind the others. While each reservation has no more completions here than its room, fewer
-    /// wait than the capacity wherever one of them has room left.
+    /// Puts a completion behind the others. Its condition is that fewer wait than the capacity. A caller that counts the
+    /// completions of each reservation has it where the completion's own reservation has room left.
     pub fn put(&mut self, completion: Completion)
         requires { length self.old.waiting < self.old.capacity }
         ensures { self.new ≡ after_puts (completion ∷ []) self.old }
