@@ -1,6 +1,8 @@
-//! The text of a history, read back: line by line, or whole.
+//! The text of a history, read back: what its lines say together.
 //!
-//! To the layers above it promises that the text of a history gives this history and no other.
+//! To the layers above it promises that the text of a history that fits gives this history, and that no other history
+//! that fits has this text. A history fits where its numbers and lists are within what their types hold. No call reads
+//! a whole text yet.
 //!
 //! Source: this profile's choice, as the text of a history is.
 #![tactic(auto)]
