@@ -3,5 +3,4 @@ pub mod HistoryLemmas
 pub mod Literals
 mod Machine
 pub mod RestLemmas
-pub mod SoundLemmas
 mod Traces

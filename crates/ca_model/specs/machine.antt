@@ -28,4 +28,6 @@ pub mod HostVerbs
 pub mod Step
 pub mod Run
 pub mod Frame
+pub mod Invariants
 pub mod Sound
+pub mod Parts

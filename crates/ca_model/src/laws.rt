@@ -1,13 +1,11 @@
 ghost use Rattle.std.specs.Prelude.{ℕ, ◌≡◌, Bool, List};
-ghost use Rattle.ca_base.specs.Memory.{ByteMap};
-ghost use Rattle.ca_model.specs.machine.Sound.{IsSound};
 ghost use Rattle.ca_base.specs.Configuration.{Configuration};
 ghost use Rattle.ca_model.specs.declared.event.Event.{Event};
 ghost use Rattle.ca_model.specs.machine.Frame.{Afterwards, SameAt, SameWhere, SameOutcome, LeavesRest, TouchesPass};
 ghost use Rattle.ca_model.specs.machine.Plan.{touches};
 ghost use Rattle.ca_model.specs.machine.Run.{run_from};
 ghost use Rattle.ca_model.specs.machine.Step.{plan, step};
-ghost use Rattle.ca_model.specs.machine.World.{World, Name, opening_world};
+ghost use Rattle.ca_model.specs.machine.World.{World, Name};
 
 /// Whether an event is possible, its reason or its marks, and what it makes of the things that it touches depend on
 /// these things and on the configuration alone.
@@ -24,14 +22,4 @@ pub fn event_leaves_the_rest()
 /// in which these things are the same.
 pub fn events_depend_on_what_they_touch()
     ensures { (test : Name → Bool) (c : Configuration) (n : ℕ) (events : List Event) (v w : World) → SameWhere test v w → TouchesPass test c v events → run_from c n v events ≡ run_from c n w events }
-{}
-
-/// Before the first event each thing of a world is sound.
-pub fn opening_is_sound()
-    ensures { (c : Configuration) (byte : ByteMap) → IsSound c (opening_world byte) }
-{}
-
-/// Every event leaves a sound world, where it finds one.
-pub fn event_keeps_worlds_sound()
-    ensures { (c : Configuration) (event : Event) (w : World) → IsSound c w → Afterwards (IsSound c) (step c w event) }
 {}

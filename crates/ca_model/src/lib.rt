@@ -16,6 +16,7 @@ mod laws;
 mod mark;
 mod marks;
 mod opening;
+mod part_name;
 mod verb;
 
 pub use answer::{Answer, Refusal};
@@ -23,10 +24,10 @@ pub use entry::Entry;
 pub use event::Event;
 pub use history::History;
 pub use laws::{
-    event_depends_on_what_it_touches, event_keeps_worlds_sound, event_leaves_the_rest,
-    events_depend_on_what_they_touch, opening_is_sound,
+    event_depends_on_what_it_touches, event_leaves_the_rest, events_depend_on_what_they_touch,
 };
 pub use mark::{Drop1, Mark};
 pub use marks::Marks;
 pub use opening::{Contents, Opening};
+pub use part_name::PartName;
 pub use verb::Verb;

@@ -1,15 +1,32 @@
--- Sound worlds: what holds of each thing of a world that comes up. Laws cite it.
-use Rattle.std.specs.Prelude.{◌≡◌, ℕ, ◌+◌, ◌≤◌, true, false, List, [], ◌∷◌, None}
+-- Sound worlds: what holds of each thing of a world that comes up, and of its completions. Laws cite it.
+use Rattle.std.specs.Prelude.{◌≡◌, ℕ, ◌+◌, ◌≤◌, ◌<◌, Bool, true, false, List, [], ◌∷◌, length, Option, None, IfSome}
+use Rattle.std.specs.List.{AllByRecursion}
+use Rattle.ca_base.specs.declared.completion.Completion.{Completion}
 use Rattle.ca_base.specs.declared.grant.Grant.{Grant}
+use Rattle.ca_base.specs.declared.limits.TheConstants.{MAX_DOMAINS, MAX_PIECES, MAX_QPS}
+use Rattle.ca_base.specs.declared.names.QueueId.{QueueId}
 use Rattle.ca_base.specs.declared.names.Slot.{Slot}
 use Rattle.ca_base.specs.declared.place.Run.{Run}
 use Rattle.ca_base.specs.Configuration.{Configuration}
+use Rattle.ca_base.specs.Equal.{slot_eq}
 use Rattle.ca_base.specs.Memory.{places_count}
 use Rattle.ca_base.specs.Numbers.{key_at, region_index}
+use Rattle.ca_base.specs.objects.CompletionQueue.{CompletionQueue}
+use Rattle.ca_base.specs.objects.QueuePair.{QueuePair, QueueSlot, NoQueue, Present, recv_cq_of, send_cq_of}
 use Rattle.ca_base.specs.objects.Region.{RegionState, NoRegion, Free, Registered, FastRegistered}
+use Rattle.ca_base.specs.objects.Slices.{slot_of_queue}
+use Rattle.ca_model.specs.declared.event.Event.{Event}
+use Rattle.ca_model.specs.declared.event.Event.TheVariants as events
+use Rattle.ca_model.specs.declared.verb.Verb.{Verb}
+use Rattle.ca_model.specs.declared.verb.Verb.TheVariants as verbs
+use Rattle.ca_model.specs.Requests.{list_of}
 use Rattle.ca_model.specs.machine.Step.{bytes_of_buffer}
-use Rattle.ca_model.specs.machine.Plan.{Plan, Stuck, Look, Read, If, Finish, Update}
 use Rattle.ca_model.specs.machine.World.{World, Name, Domain_of, Region_of, Window_of, Cq_of, Srq_of, Queue_of, Mailbox_of, Byte_at, Thing, get}
+use Rattle.ca_model.specs.machine.Invariants.{IsCompletionQueue, IsDomain, IsMailbox, IsQueue, IsSharedReceives, IsWindow}
+
+-- as many domains, and as many queue pairs in a domain, as the limits allow
+abbrev pub AreLimited : Configuration → Type 0
+AreLimited c = AllByRecursion (λ a. (a.domains ≤ MAX_DOMAINS) × (a.qps ≤ MAX_QPS)) c.adapters
 
 -- runs lie in this buffer, which has so many bytes
 abbrev pub LieIn : ℕ → ℕ → ℕ → List Run → Type 0
@@ -33,30 +50,54 @@ IsSoundState c s low (Free pages) = Unit {0}
 IsSoundState c s low (Registered g) = IsRegionGrant c s low g
 IsSoundState c s low (FastRegistered pages g) = IsRegionGrant c s low g
 
+-- a queue pair under a name: it can come up, and has this number, and the domain of its slot
+abbrev pub IsQueueOf : QueueId → QueueSlot → Type 0
+IsQueueOf name (NoQueue incarnation timers) = Unit {0}
+IsQueueOf name (Present q) = (q.queue ≡ name) × (q.domain ≡ (slot_of_queue name).domain) × IsQueue q
+
 -- what holds of a thing under its name
 abbrev pub IsSoundThing : Configuration → (n : Name) → Thing n → Type 0
+IsSoundThing c (Domain_of d) v = IsDomain v
 IsSoundThing c (Region_of s) r = IsSoundState c s r.low r.state
-IsSoundThing c (Window_of s) w = w.slot ≡ s
-IsSoundThing c (Domain_of d) v = Unit {0}
-IsSoundThing c (Cq_of s) v = Unit {0}
-IsSoundThing c (Srq_of s) v = Unit {0}
-IsSoundThing c (Queue_of q) v = Unit {0}
-IsSoundThing c (Mailbox_of q) v = Unit {0}
+IsSoundThing c (Window_of s) w = (w.slot ≡ s) × IsWindow w
+IsSoundThing c (Cq_of s) v = IfSome v IsCompletionQueue
+IsSoundThing c (Srq_of s) v = IfSome v.srq IsSharedReceives
+IsSoundThing c (Queue_of q) v = IsQueueOf q v
+IsSoundThing c (Mailbox_of q) m = IsMailbox m
 IsSoundThing c (Byte_at p) v = Unit {0}
 
--- each thing of a world is sound
-abbrev pub IsSound : Configuration → World → Type 0
-IsSound c w = (n : Name) → IsSoundThing c n (get w n)
+-- the request of a queue pair at this place is finished, or its receive taken
+abbrev pub IsFinished : QueuePair → Bool → ℕ → Type 0
+IsFinished q true place = IfSome q.receives (λ r. place < r.next_taken)
+IsFinished q false place = place < q.requester.oldest
 
--- changes that put sound things
-abbrev pub AreSound : Configuration → List Update → Type 0
-AreSound c [] = Unit {0}
-AreSound c (x ∷ xs) = IsSoundThing c x.name x.thing × AreSound c xs
+-- the completion queue of a queue pair for its receives, or for its sends
+abbrev pub side_of : QueuePair → Bool → Slot
+side_of q true = recv_cq_of q
+side_of q false = send_cq_of q
 
--- a plan that puts sound things where it sees sound things
-abbrev pub Keeps : Configuration → Plan → Type 0
-Keeps c (Stuck reason) = Unit {0}
-Keeps c (Look n k) = (v : Thing n) → IsSoundThing c n v → Keeps c (k v)
-Keeps c (Read runs k) = (bytes : List ℕ) → Keeps c (k bytes)
-Keeps c (If test p q) = (test ≡ true → Keeps c p) × (test ≡ false → Keeps c q)
-Keeps c (Finish changes writes marks) = AreSound c changes
+-- a completion that waits in this completion queue is of a queue pair that is there, and completes there what it is of
+abbrev pub IsSettled : Slot → QueueSlot → Completion → Type 0
+IsSettled s (NoQueue incarnation timers) x = ⊥
+IsSettled s (Present q) x = (slot_eq (side_of q x.receive) s ≡ true) × IsFinished q x.receive x.place
+
+-- all completions that wait are so
+abbrev pub AreSettled : (QueueId → QueueSlot) → (Slot → Option CompletionQueue) → Type 0
+AreSettled queue cq = (s : Slot) → IfSome (cq s) (λ v. AllByRecursion (λ x. IsSettled s (queue x.queue) x) v.waiting)
+
+-- a world that can come up
+pub record IsSoundWorld (c : Configuration) (w : World) : Type 0 where
+  pub things : (n : Name) → IsSoundThing c n (get w n)
+  pub settled : AreSettled w.queue w.cq
+
+-- the list of a request that a verb posts has as few pieces as its type allows
+abbrev pub HasFewPieces : Verb → Type 0
+HasFewPieces (verbs.PostSend slot request) = length (list_of request.op) ≤ MAX_PIECES
+HasFewPieces (verbs.PostRecv slot request) = length request.list.items ≤ MAX_PIECES
+HasFewPieces (verbs.PostSrq slot request) = length request.list.items ≤ MAX_PIECES
+HasFewPieces verb = Unit {0}
+
+-- an event that can be made: its verb keeps to the types of its fields
+abbrev pub CanBeMade : Event → Type 0
+CanBeMade (events.Verb by verb) = HasFewPieces verb
+CanBeMade event = Unit {0}
