@@ -11,3 +11,4 @@ mod ResponseCases
 mod SentCases
 mod RunCases
 mod CompletionCases
+mod PartCases
