@@ -112,27 +112,24 @@ module _ (adapter buffer : ℕ) where
       ap (λ (xs : List ℕ). cut s n (map (page_run adapter buffer) xs)) (drop_more pages i 0 h)
       ∙ cut-first (page_run adapter buffer (get_or pages i 0)) (map (page_run adapter buffer) (drop (i + 1) pages)) s n f g
 
-  -- bytes of a range of pages begin in a page by their distance from the first page's begin
-  pub cut-range : (pages : List ℕ) (a m k n : ℕ) → k + n ≤ m →
-      cut k n (cut a m (map (page_run adapter buffer) pages))
-      ≡ cut ((a + k) % 4096) n (map (page_run adapter buffer) (drop ((a + k) / 4096) pages))
-  cut-range pages a m k n h =
-      cut-cut (map (page_run adapter buffer) pages) a m k n h
-      ∙ ap (λ (j : ℕ). cut j n (map (page_run adapter buffer) pages)) (omega arith)
-      ∙ cut-drop pages ((a + k) / 4096) ((a + k) % 4096) n
+  -- bytes of pages begin in the page that their begin tells
+  pub cut-pages : (pages : List ℕ) (k n : ℕ) →
+      cut k n (map (page_run adapter buffer) pages) ≡ cut (k % 4096) n (map (page_run adapter buffer) (drop (k / 4096) pages))
+  cut-pages pages k n =
+      ap (λ (j : ℕ). cut j n (map (page_run adapter buffer) pages)) (omega arith) ∙ cut-drop pages (k / 4096) (k % 4096) n
 
   -- bytes that end in the page in which they begin
-  pub span-in-one : (pages : List ℕ) (a m k n i s : ℕ) (x : Run) → 0 < n → k + n ≤ m → a + m ≤ length pages * 4096
-      → i ≡ (a + k) / 4096 → s ≡ (a + k) % 4096 → x ≡ run_part (page_run adapter buffer (get_or pages i 0)) s (min n (4096 - s))
+  pub span-in-one : (pages : List ℕ) (k n i s : ℕ) (x : Run) → 0 < n → k + n ≤ length pages * 4096
+      → i ≡ k / 4096 → s ≡ k % 4096 → x ≡ run_part (page_run adapter buffer (get_or pages i 0)) s (min n (4096 - s))
       → n - x.length ≡ 0
-      → x ∷ [] ≡ cut k n (cut a m (map (page_run adapter buffer) pages))
-  span-in-one pages a m k n i s x some within held at skip part rest =
+      → x ∷ [] ≡ cut k n (map (page_run adapter buffer) pages)
+  span-in-one pages k n i s x some held at skip part rest =
       let whole : x.length ≡ min n (4096 - s) = ap (λ (r : Run). r.length) part in
       let none : n - (4096 - s) ≡ 0 = omega arith in
       let others : List Run = map (page_run adapter buffer) (drop (i + 1) pages) in
       sym (
-      cut-range pages a m k n within
-      ∙ ap (λ (j : ℕ). cut j n (map (page_run adapter buffer) (drop ((a + k) / 4096) pages))) (sym skip)
+      cut-pages pages k n
+      ∙ ap (λ (j : ℕ). cut j n (map (page_run adapter buffer) (drop (k / 4096) pages))) (sym skip)
       ∙ ap (λ (j : ℕ). cut s n (map (page_run adapter buffer) (drop j pages))) (sym at)
       ∙ cut-page pages i s n (omega arith) (omega arith) some
       ∙ ap (λ (r : Run). r ∷ cut 0 (n - (4096 - s)) others) (sym part)
@@ -140,18 +137,18 @@ module _ (adapter buffer : ℕ) where
       ∙ ap (λ (rs : List Run). x ∷ rs) (cut-none others 0))
 
   -- bytes that end in the page behind
-  pub span-in-two : (pages : List ℕ) (a m k n i s : ℕ) (x y : Run) → n ≤ 4096 → k + n ≤ m → a + m ≤ length pages * 4096
-      → i ≡ (a + k) / 4096 → s ≡ (a + k) % 4096 → x ≡ run_part (page_run adapter buffer (get_or pages i 0)) s (min n (4096 - s))
+  pub span-in-two : (pages : List ℕ) (k n i s : ℕ) (x y : Run) → n ≤ 4096 → k + n ≤ length pages * 4096
+      → i ≡ k / 4096 → s ≡ k % 4096 → x ≡ run_part (page_run adapter buffer (get_or pages i 0)) s (min n (4096 - s))
       → 0 < n - x.length → y ≡ run_part (page_run adapter buffer (get_or pages (i + 1) 0)) 0 (min (n - x.length) 4096)
-      → x ∷ y ∷ [] ≡ cut k n (cut a m (map (page_run adapter buffer) pages))
-  span-in-two pages a m k n i s x y few within held at skip part rest next =
+      → x ∷ y ∷ [] ≡ cut k n (map (page_run adapter buffer) pages)
+  span-in-two pages k n i s x y few held at skip part rest next =
       let whole : x.length ≡ min n (4096 - s) = ap (λ (r : Run). r.length) part in
       let left : n - x.length ≡ n - (4096 - s) = omega arith in
       let none : n - (4096 - s) - 4096 ≡ 0 = omega arith in
       let others : List Run = map (page_run adapter buffer) (drop (i + 1 + 1) pages) in
       sym (
-      cut-range pages a m k n within
-      ∙ ap (λ (j : ℕ). cut j n (map (page_run adapter buffer) (drop ((a + k) / 4096) pages))) (sym skip)
+      cut-pages pages k n
+      ∙ ap (λ (j : ℕ). cut j n (map (page_run adapter buffer) (drop (k / 4096) pages))) (sym skip)
       ∙ ap (λ (j : ℕ). cut s n (map (page_run adapter buffer) (drop j pages))) (sym at)
       ∙ cut-page pages i s n (omega arith) (omega arith) (omega arith)
       ∙ ap (λ (r : Run). r ∷ cut 0 (n - (4096 - s)) (map (page_run adapter buffer) (drop (i + 1) pages))) (sym part)
@@ -174,17 +171,11 @@ module _ (adapter buffer : ℕ) where
       ∙ ap (λ (j : ℕ). x ∷ cut 0 j (map (page_run adapter buffer) (drop (i + 1) pages))) left
 
   -- pages have 4096 places each
-  pages-count : (pages : List ℕ) → places_count (map (page_run adapter buffer) pages) ≡ length pages * 4096
+  pub pages-count : (pages : List ℕ) → places_count (map (page_run adapter buffer) pages) ≡ length pages * 4096
   pages-count [] = refl
   pages-count (p ∷ ps) =
       omega (arith, sum_by-cons (λ (r : Run). r.length) (page_run adapter buffer p) (map (page_run adapter buffer) ps), pages-count ps)
 
-  -- a range of pages has a place for each of its bytes
+  -- bytes of pages have a place each
   pub range-count : (pages : List ℕ) (a m : ℕ) → a + m ≤ length pages * 4096 → places_count (cut a m (map (page_run adapter buffer) pages)) ≡ m
   range-count pages a m h = cut-count (map (page_run adapter buffer) pages) a m (omega (arith, pages-count pages))
-
-  -- and so have the bytes from one on
-  pub part-count : (pages : List ℕ) (a m k n : ℕ) → a + m ≤ length pages * 4096 → k + n ≤ m →
-      places_count (cut k n (cut a m (map (page_run adapter buffer) pages))) ≡ n
-  part-count pages a m k n h within =
-      cut-count (cut a m (map (page_run adapter buffer) pages)) k n (omega (arith, range-count pages a m h))
