@@ -1,9 +1,9 @@
-ghost use Rattle.std.specs.Prelude.{◌≡◌, ◌<◌, ◌≤◌};
-ghost use Rattle.ca_base.specs.objects.Region.{grant_of_region, view_of_region};
+ghost use Rattle.std.specs.Prelude.{◌<◌, ◌≤◌};
+ghost use Rattle.ca_base.specs.objects.Region.{grant_of_region};
 ghost use Rattle.ca_region.specs.Region.{HasBytes};
 
 use ca_base::limits::PAGE_BYTES;
-use ca_base::{DomainId, Memory, Pages, RegionView, Rights, Run, Slot, Span};
+use ca_base::{DomainId, Memory, Pages, Rights, Run, Slot, Span};
 use ca_region::Region;
 use std::alloc::Global;
 use std::env;
@@ -24,12 +24,20 @@ const BYTES: u32 = 1_048_576;
 /// How many bytes a span has.
 const TOUCH: u32 = 256;
 
-/// What is seen of the region, in a function of its own.
+/// Where the bytes lie that stand so far behind the region's first one, if it has them, in a function of its own.
 #[inline(never)]
-fn view_alone(region: &Region) -> RegionView
-    ensures { result ≡ view_of_region region.now }
-{
-    region.view()
+fn look_alone(region: &Region, behind: u32, touch: u32) -> Option<Span> {
+    let view = region.view();
+    if !view.valid || touch == 0 || touch > PAGE_BYTES {
+        return None;
+    }
+    if behind > view.length || touch > view.length - behind {
+        return None;
+    }
+    if view.address > u64::MAX - u64::from(behind) {
+        return None;
+    }
+    Some(region.span(view.address + u64::from(behind), touch))
 }
 
 /// Where the bytes lie, in a function of its own.
@@ -66,12 +74,15 @@ fn paged(alloc: Global) -> Result<Region, Memory> {
     Ok(region)
 }
 
-/// The sum of the offsets of spans that begin everywhere in the region, some of them in one page and some in two.
+/// The sum of the first lengths and of the offsets of spans that begin everywhere in the region, some of them in one page and some in two.
 fn turns(region: &Region, count: u32) -> u64 {
     let mut sum: u64 = 0;
     for turn in 0..count {
-        let view = view_alone(region);
         let behind = (turn % 4096) * 251;
+        if let Some(span) = look_alone(region, behind, TOUCH) {
+            sum = sum.wrapping_add(u64::from(span.first.length));
+        }
+        let view = region.view();
         if !view.valid || behind > view.length || TOUCH > view.length - behind {
             return sum;
         }

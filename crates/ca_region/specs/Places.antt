@@ -14,9 +14,12 @@ HoldBytes address bytes (OneRun at) =
     (first_address at.buffer + at.offset ≡ address) × ((at.length ≡ bytes) × (at.offset + at.length < 2 ^ 32))
 HoldBytes address bytes (PageList allocated buffer pages) = address % PAGE_BYTES + bytes ≤ length pages * PAGE_BYTES
 
+-- the proof that a struct wants of a fact that it keeps
 pub HoldBytes-prop : (address bytes : ℕ) (places : Places) → IsProp (HoldBytes address bytes places)
 HoldBytes-prop address bytes (OneRun at) =
-    ×_prop (Coded-set coded_ℕ (first_address at.buffer + at.offset) address) (×_prop (Coded-set coded_ℕ at.length bytes) le_prop)
+    ×_prop
+    (Coded-set coded_ℕ (first_address at.buffer + at.offset) address)
+    (×_prop (Coded-set coded_ℕ at.length bytes) le_prop)
 HoldBytes-prop address bytes (PageList allocated buffer pages) = le_prop
 
 -- the runs of so many bytes from an address on

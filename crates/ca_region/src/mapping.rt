@@ -39,9 +39,11 @@ impl Mapping {
     }
 
     /// What others see, under a low byte.
+    #[inline(always)]
     pub fn view(&self, low: u8) -> RegionView
         ensures domain { is_key_of self.now.slot.domain result.key ≡ true }
-        ensures view { result ≡ view_of_grant (region_grant self.now.slot low self.now.address self.now.bytes self.now.rights []) }
+        ensures view { result
+            ≡ view_of_grant (region_grant self.now.slot low self.now.address self.now.bytes self.now.rights []) }
     {
         RegionView {
             valid: true,
@@ -69,6 +71,7 @@ impl Mapping {
     }
 
     /// Where `touch` bytes from `address` on lie.
+    #[inline(always)]
     pub fn span(&self, address: u64, touch: u32) -> Span
         requires some { 0 < touch }
         requires few { touch ≤ PAGE_BYTES }

@@ -53,6 +53,7 @@ pub fn page_parts(
 
 /// Where `touch` bytes of pages lie, behind `begin` bytes. They are at most those of a page, so they lie in two pages
 /// at most.
+#[inline(always)]
 pub fn page_span(adapter: u8, buffer: u16, pages: &[u16], begin: u64, touch: u32) -> Span
     requires some { 0 < touch }
     requires few { touch ≤ PAGE_BYTES }

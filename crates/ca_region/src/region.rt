@@ -66,6 +66,7 @@ impl Region {
 
     /// What others see: the range, the rights and the key of a valid region. What is not valid has no byte and no
     /// right.
+    #[inline(always)]
     pub fn view(&self) -> RegionView
         ensures view { result ≡ regions.view_of_region self.now }
         ensures grant { IfSome (regions.grant_of_region self.now) IsOfRegion }
@@ -117,7 +118,8 @@ impl Region {
         rights: Rights,
     ) -> Result<Grant, RegionError>
         requires { self.old.state ≡ regions.NoRegion }
-        ensures granted { IfOk result (λ g. g ≡ grants.grant_of_registration slot at rights (grants.next_low self.old.low)) }
+        ensures granted { IfOk result (λ g. g
+            ≡ grants.grant_of_registration slot at rights (grants.next_low self.old.low)) }
         ensures valid { OnOk result (self.new ≡ regions.after_registration slot at rights self.old) }
         ensures accepted { OnOk result (grants.registration_refusal at buffer_length rights ≡ None) }
         ensures refused { IfErr result (RefusesBy (grants.registration_refusal at buffer_length rights)) }
@@ -166,11 +168,15 @@ impl Region {
         rights: Rights,
         pages: &Pages,
     ) -> Result<Grant, RegionError>
-        ensures granted { IfOk result (λ g. g ≡ grants.grant_of_fast_registration slot low buffer address length rights pages.now) }
+        ensures granted { IfOk result (λ g. g
+            ≡ grants.grant_of_fast_registration slot low buffer address length rights pages.now) }
         ensures places { IfOk result (λ g. places_count g.runs ≡ length) }
-        ensures valid { OnOk result (self.new ≡ regions.after_fast_registration slot low buffer address length rights pages.now self.old) }
-        ensures accepted { OnOk result (first_of (regions.fast_registration_refusals slot buffer buffer_length address length rights pages.now self.old) ≡ None) }
-        ensures refused { IfErr result (RefusesBy (first_of (regions.fast_registration_refusals slot buffer buffer_length address length rights pages.now self.old))) }
+        ensures valid { OnOk result (self.new
+            ≡ regions.after_fast_registration slot low buffer address length rights pages.now self.old) }
+        ensures accepted { OnOk result (first_of
+            (regions.fast_registration_refusals slot buffer buffer_length address length rights pages.now self.old) ≡ None) }
+        ensures refused { IfErr result (RefusesBy (first_of
+            (regions.fast_registration_refusals slot buffer buffer_length address length rights pages.now self.old))) }
         ensures err { OnErr result (self.new ≡ self.old) }
     {
         let Some(allocated) = self.allocated() else {
@@ -251,6 +257,7 @@ impl Region {
 
     /// Where `touch` bytes from `address` on lie, which the region has: in at most two runs. It takes no memory, and
     /// time that does not grow with the count of pages.
+    #[inline(always)]
     pub fn span(&self, address: u64, touch: u32) -> Span
         requires some { 0 < touch }
         requires few { touch ≤ PAGE_BYTES }

@@ -10,7 +10,7 @@ pub returns-clause-places : goal.returns-clause-places
 returns-clause-places c =
     let none = cut-none (map (page_run c.args.adapter c.args.buffer) (drop c.loop-page.page-index c.args.pages.now)) c.loop-page.skipped in
     elim c.loop-page-test.branch [
-      else-loop-page-test w ↦ grind (arith, common_steps, none)
+      | else-loop-page-test w ↦ grind (arith, common_steps, none)
       | then-loop-page-test+then-left-eq0 w ↦ grind (arith, common_steps, none)
     ]
 

@@ -1,4 +1,4 @@
-use Rattle.std.proofs.Common.{◌≡◌, ◌/◌, ◌%◌, ◌∙◌, List, IfOk, subst, ap, sym, drop, map, ℕ}
+use Rattle.std.proofs.Common.{◌≡◌, ◌/◌, ◌∙◌, List, IfOk, subst, ap, sym, drop, map, ℕ}
 use Rattle.std.proofs.lemmas.List.{take_rest}
 use Rattle.ca_base.specs.declared.place.Run.{Run}
 use Rattle.ca_base.specs.Grants.{page_run}

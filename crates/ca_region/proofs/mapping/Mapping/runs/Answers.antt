@@ -8,4 +8,4 @@ returns-in-PageList-clause-places c =
     let m = c.args.self.now in
     let list = c.in-PageList in
     subst (λ (xs : List Run). IfOk c.page_runs.result (λ runs. runs ≡ xs)) (
-      cut-of-pages m.places list.allocated list.buffer list.pages c.as_slice.result.now m.slot.domain.adapter m.address m.bytes (c.args.address - m.address) c.args.count c.in_pages.result list.is c.as_slice.ensures c.in_pages.ensures (omega arith)) c.page_runs.ensures.places
+    cut-of-pages m.places list.allocated list.buffer list.pages c.as_slice.result.now m.slot.domain.adapter m.address m.bytes (c.args.address - m.address) c.args.count c.in_pages.result list.is c.as_slice.ensures c.in_pages.ensures (omega arith)) c.page_runs.ensures.places
