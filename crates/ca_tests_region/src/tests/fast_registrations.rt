@@ -1,7 +1,7 @@
 ghost use Rattle.std.specs.Prelude.{◌≤◌};
 
 use super::{ATOMIC_ALONE, KEY, SLOT, WRITE, WRITE_ALONE, holds, key_of, run};
-use ca_base::{Grant, Pages, RegionError, Rights};
+use ca_base::{DomainId, Grant, Key, Pages, RegionError, Rights, Run, Slot};
 use ca_region::Region;
 use std::alloc::Global;
 
@@ -140,4 +140,99 @@ fn grants_the_pages_in_their_order(rt: HostRuntime) {
         matches!(&given, Ok(grant) if is_of_three_pages(grant)),
         "the grant of three pages",
     );
+}
+
+/// A fast registration: adapter, domain, slot and low byte, the buffer, the address and the length, and the pages. Then
+/// the key, and the offsets and lengths of the runs, that a program which was written apart from this one grants.
+type Vector = (
+    (u8, u8, u16, u8),
+    u16,
+    (u64, u32),
+    &'static [u16],
+    u32,
+    &'static [(u32, u32)],
+);
+
+const VECTORS: [Vector; 8] = [
+    (
+        (0, 0, 4, 7),
+        0,
+        (0x100_0000_0000, 8191),
+        &[7, 3],
+        0x0000_0407,
+        &[(28_672, 4096), (12_288, 4095)],
+    ),
+    (
+        (0, 0, 3, 7),
+        0,
+        (0, 16_384),
+        &[2, 6, 5, 1],
+        0x0000_0307,
+        &[(8192, 4096), (24_576, 4096), (20_480, 4096), (4096, 4096)],
+    ),
+    ((0, 2, 7, 3), 0, (0, 64), &[0], 0x0200_0703, &[(0, 64)]),
+    (
+        (2, 0, 3, 255),
+        1,
+        (0xffff_ffff_ffff_e000, 8192),
+        &[7, 5],
+        0x0000_03ff,
+        &[(28_672, 4096), (20_480, 4096)],
+    ),
+    (
+        (0, 0, 4, 0),
+        0,
+        (0x100_0000_0000, 8187),
+        &[2, 1],
+        0x0000_0400,
+        &[(8192, 4096), (4096, 4091)],
+    ),
+    (
+        (0, 0, 3, 0),
+        1,
+        (0xffff_ffff_ffff_f000, 256),
+        &[0],
+        0x0000_0300,
+        &[(0, 256)],
+    ),
+    ((1, 0, 1, 7), 0, (0, 4096), &[0], 0x0000_0107, &[(0, 4096)]),
+    (
+        (0, 0, 1, 7),
+        0,
+        (0xffa, 12),
+        &[3, 1],
+        0x0000_0107,
+        &[(16_378, 6), (4096, 6)],
+    ),
+];
+
+fn are_runs(runs: &[Run], adapter: u8, buffer: u16, want: &[(u32, u32)]) -> bool {
+    for (run, (offset, length)) in runs.iter().zip(want) {
+        let same = run.adapter == adapter && run.buffer == buffer;
+        if !same || run.offset != *offset || run.length != *length {
+            return false;
+        }
+    }
+    runs.len() == want.len()
+}
+
+fn agrees(alloc: Global, vector: &Vector) -> Result<bool, RegionError> {
+    let ((adapter, domain, slot, low), buffer, (address, length), pages, key, runs) = *vector;
+    let domain = DomainId { adapter, domain };
+    let slot = Slot { domain, slot };
+    let pages = Pages::copy_of(alloc, pages)?;
+    let mut region = free(256);
+    let grant = region.fast_register(
+        alloc, slot, low, buffer, 1_048_576, address, length, WRITE, &pages,
+    )?;
+    let names = grant.key == Key(key) && grant.domain == domain;
+    let range = grant.address == address && grant.length == length;
+    Ok(names && range && are_runs(grant.runs.as_slice(), adapter, buffer, runs))
+}
+
+#[test]
+fn grants_what_another_program_grants(rt: HostRuntime) {
+    for vector in VECTORS.as_slice() {
+        holds(&rt, agrees(rt.alloc(), vector) == Ok(true), "the grant");
+    }
 }
