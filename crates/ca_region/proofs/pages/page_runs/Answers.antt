@@ -3,7 +3,7 @@ use Rattle.std.proofs.lemmas.List.{take_rest}
 use Rattle.ca_base.specs.declared.place.Run.{Run}
 use Rattle.ca_base.specs.Grants.{page_run}
 use Rattle.ca_base.specs.Memory.{cut}
-use Rattle.ca_region.proofs.Cut.{cut-pages}
+use Rattle.ca_region.proofs.PageRuns.{cut-pages}
 use Rattle.ca_region.proofs.pages.page_runs.Goals as goal
 
 pub returns-clause-places : goal.returns-clause-places

@@ -1,6 +1,6 @@
 use Rattle.std.proofs.Common.{◌∙◌, ap, arith}
 use Rattle.ca_base.specs.Memory.{places_count}
-use Rattle.ca_region.proofs.Cut.{range-count, span-in-one, span-in-two}
+use Rattle.ca_region.proofs.PageRuns.{range-count, span-in-one, span-in-two}
 use Rattle.ca_region.proofs.pages.page_span.Goals as goal
 
 pub returns-then-rest-eq0-clause-places : goal.returns-then-rest-eq0-clause-places
