@@ -14,7 +14,7 @@ ghost use Rattle.ca_model.specs.machine.World.{World, opening_world};
 pub const MAX_EVENT_PARTS: usize = 32;
 
 /// The world before the first event is sound, whatever its memory holds.
-pub fn opening_is_sound()
+pub fn opening_world_is_sound()
     ensures { (c : Configuration) (byte : ByteMap) → IsSoundWorld c (opening_world byte) }
 {}
 

@@ -11,5 +11,5 @@ mod laws;
 
 pub use laws::{
     MAX_EVENT_PARTS, event_keeps_worlds_sound, event_needs_few_parts, event_touches_its_parts,
-    opening_is_sound,
+    opening_world_is_sound,
 };
