@@ -1,0 +1,23 @@
+-- The queue pair that a part is, field for field. Contracts cite it.
+use Rattle.std.specs.Option.{option_map}
+use Rattle.ca_base.specs.objects.QueuePair.{QueuePair}
+use Rattle.ca_qpstate.specs.declared.queue_part.QueuePart.{QueuePart}
+
+-- the part as the object of the standard
+abbrev pub queue_of : QueuePart → QueuePair
+queue_of q = record {
+  queue = q.queue;
+  domain = q.domain;
+  state = q.state;
+  incarnation = q.incarnation;
+  peer = option_map (λ p. record { queue = p.0; incarnation = p.1 }) q.peer;
+  send_cq = q.send_cq;
+  recv_cq = q.recv_cq;
+  srq = q.srq;
+  sends = q.sends;
+  receives = q.receives;
+  requester = q.requester;
+  responder = q.responder;
+  saved = q.saved;
+  windows = q.windows.count;
+}

@@ -1,0 +1,106 @@
+ghost use Rattle.std.specs.Prelude.{◌≡◌, ◌<◌, ◌^◌, IsTrue, IfNone, OnOk};
+ghost use Rattle.ca_base.specs.Configuration.{Configuration, configuration_of};
+ghost use Rattle.ca_base.specs.Refusals.{first_of};
+ghost use Rattle.ca_base.specs.objects.Slices as slices;
+ghost use Rattle.ca_base.specs.objects.StateTable as table;
+ghost use Rattle.ca_base.specs.declared.names.QueueId.{QueueId};
+ghost use Rattle.ca_base.specs.declared.change.Change.TheVariants as changes;
+ghost use Rattle.ca_qpstate.specs.ComesUp.{NamesPeer};
+
+use ca_base::limits::{MAX_READS, MAX_RETRY, MAX_RNR_CODE};
+use ca_base::{Change, Config, Field, ModifyRefusal, QueueId};
+
+/// The first number that no PSN has: PSNs have 24 bits.
+const PSN_END: u32 = 0x100_0000;
+
+/// Whether a queue pair's number is that of a configured slot. Such a number has 24 bits.
+fn has_queue(config: &Config, queue: QueueId) -> bool
+    ensures value { result ≡ slices.has_queue (configuration_of config.now) queue }
+    ensures narrow { IsTrue result → queue.number < 2 ^ 24 }
+{
+    if queue.number < 256 {
+        return false;
+    }
+    match config.adapters.get(usize::from(queue.adapter)) {
+        None => false,
+        Some(adapter) => {
+            queue.number / 256 - 1 < u32::from(adapter.domains)
+                && queue.number % 256 < u32::from(adapter.qps)
+        }
+    }
+}
+
+/// Whether so many bytes are a path MTU.
+fn is_path_mtu(mtu: u16) -> bool
+    ensures { result ≡ table.is_path_mtu mtu }
+{
+    matches!(mtu, 256 | 512 | 1024 | 2048 | 4096)
+}
+
+/// The first field of a change to Ready to Receive that is out of its range.
+fn rtr_refusal(
+    config: &Config,
+    queue: QueueId,
+    peer: QueueId,
+    incarnation: u32,
+    psn: u32,
+    mtu: u16,
+    rnr_code: u8,
+) -> Option<ModifyRefusal>
+    ensures first { result ≡ first_of (table.field_refusals (configuration_of config.now) queue (changes.Rtr peer incarnation psn mtu rnr_code)) }
+    ensures narrow { IfNone result (peer.number < 2 ^ 24) }
+{
+    if !has_queue(config, peer) || peer == queue {
+        Some(ModifyRefusal::OutOfRange(Field::Peer))
+    } else if incarnation == 0 {
+        Some(ModifyRefusal::OutOfRange(Field::Incarnation))
+    } else if psn >= PSN_END {
+        Some(ModifyRefusal::OutOfRange(Field::Psn))
+    } else if !is_path_mtu(mtu) {
+        Some(ModifyRefusal::OutOfRange(Field::Mtu))
+    } else if rnr_code > MAX_RNR_CODE {
+        Some(ModifyRefusal::OutOfRange(Field::RnrCode))
+    } else {
+        None
+    }
+}
+
+/// The first field of a change to Ready to Send that is out of its range.
+fn rts_refusal(psn: u32, retry: u8, rnr_retry: u8, reads: u8) -> Option<ModifyRefusal>
+    ensures { (c : Configuration) → (queue : QueueId) → result ≡ first_of (table.field_refusals c queue (changes.Rts psn retry rnr_retry reads)) }
+{
+    if psn >= PSN_END {
+        Some(ModifyRefusal::OutOfRange(Field::Psn))
+    } else if retry > MAX_RETRY {
+        Some(ModifyRefusal::OutOfRange(Field::Retry))
+    } else if rnr_retry > MAX_RETRY {
+        Some(ModifyRefusal::OutOfRange(Field::RnrRetry))
+    } else if reads == 0 || reads > MAX_READS {
+        Some(ModifyRefusal::OutOfRange(Field::Reads))
+    } else {
+        None
+    }
+}
+
+/// The first field of a change that is out of its range.
+pub fn field_refusal(config: &Config, queue: QueueId, change: &Change) -> Option<ModifyRefusal>
+    ensures first { result ≡ first_of (table.field_refusals (configuration_of config.now) queue change.now) }
+    ensures peer { IfNone result (NamesPeer change.now) }
+{
+    match *change {
+        Change::Rtr {
+            peer,
+            incarnation,
+            psn,
+            mtu,
+            rnr_code,
+        } => rtr_refusal(config, queue, peer, incarnation, psn, mtu, rnr_code),
+        Change::Rts {
+            psn,
+            retry,
+            rnr_retry,
+            reads,
+        } => rts_refusal(psn, retry, rnr_retry, reads),
+        Change::Init | Change::Sqd | Change::Resume | Change::Error | Change::Reset => None,
+    }
+}
