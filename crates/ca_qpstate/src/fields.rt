@@ -1,4 +1,4 @@
-ghost use Rattle.std.specs.Prelude.{◌≡◌, ◌<◌, ◌^◌, IsTrue, IfNone, OnOk};
+ghost use Rattle.std.specs.Prelude.{◌≡◌, ◌<◌, ◌≤◌, ◌^◌, ◌/◌, ◌%◌, ◌-◌, ◌&&◌, nat_lt, IsTrue, IfNone};
 ghost use Rattle.ca_base.specs.Configuration.{Configuration, configuration_of};
 ghost use Rattle.ca_base.specs.Refusals.{first_of};
 ghost use Rattle.ca_base.specs.objects.Slices as slices;
@@ -13,6 +13,16 @@ use ca_base::{Change, Config, Field, ModifyRefusal, QueueId};
 /// The first number that no PSN has: PSNs have 24 bits.
 const PSN_END: u32 = 0x100_0000;
 
+/// Whether a queue pair's number, which is at least 256, is that of a slot of an adapter of so many domains, each with
+/// so many queue pairs. Such a number has 24 bits.
+fn names_slot(domains: u8, qps: u16, number: u32) -> bool
+    requires { 256 ≤ number }
+    ensures value { result ≡ (nat_lt (number / 256 - 1) domains && nat_lt (number % 256) qps) }
+    ensures narrow { IsTrue result → number < 2 ^ 24 }
+{
+    number / 256 - 1 < u32::from(domains) && number % 256 < u32::from(qps)
+}
+
 /// Whether a queue pair's number is that of a configured slot. Such a number has 24 bits.
 fn has_queue(config: &Config, queue: QueueId) -> bool
     ensures value { result ≡ slices.has_queue (configuration_of config.now) queue }
@@ -23,10 +33,7 @@ fn has_queue(config: &Config, queue: QueueId) -> bool
     }
     match config.adapters.get(usize::from(queue.adapter)) {
         None => false,
-        Some(adapter) => {
-            queue.number / 256 - 1 < u32::from(adapter.domains)
-                && queue.number % 256 < u32::from(adapter.qps)
-        }
+        Some(adapter) => names_slot(adapter.domains, adapter.qps, queue.number),
     }
 }
 

@@ -1,0 +1,240 @@
+-- A change that is not refused makes of a queue pair that can come up another that can. For proofs only.
+use Rattle.std.proofs.Common.{◌≡◌, ℕ, ◌+◌, ◌-◌, ◌<◌, ◌≤◌, ◌==◌, ◌&&◌, ◌||◌, suc, Bool, true, false, not, if◌then◌else◌, List, [], ◌∷◌, ◌++◌, length, Option, None, Some, IsTrue, IsSome, IfSome, nat_le, nat_lt, refl, ap, arith, rules}
+use Rattle.std.proofs.lemmas.Grind.{common_steps}
+use Rattle.std.specs.Option.{option_map}
+use Rattle.ca_base.specs.declared.change.Change.{Change}
+use Rattle.ca_base.specs.declared.change.Change.TheVariants as changes
+use Rattle.ca_base.specs.declared.change.State.{State}
+use Rattle.ca_base.specs.declared.change.State.TheVariants as states
+use Rattle.ca_base.specs.declared.names.QueueId.{QueueId}
+use Rattle.ca_base.specs.declared.queue_numbers.RequesterNumbers.{RequesterNumbers}
+use Rattle.ca_base.specs.declared.queue_numbers.ResponderNumbers.{ResponderNumbers}
+use Rattle.ca_base.specs.declared.request.RecvRequest.{RecvRequest}
+use Rattle.ca_base.specs.Configuration.{Configuration}
+use Rattle.ca_base.specs.Refusals.{first_of, AllFail}
+use Rattle.ca_base.specs.objects.QueuePair.{PostedSend, QueuePair, psn_base, requester_at_start, responder_at_start}
+use Rattle.ca_base.specs.objects.StateTable.{allowed_from, is_among, is_path_mtu, modify_refusals, queue_after_change}
+use Rattle.ca_base.specs.objects.WorkQueue.{WorkQueue, empty_queue, next_place, with_all_taken}
+use Rattle.ca_qpstate.specs.ComesUp.{HasNoneWaiting, HasReceives, IsFlushed, IsOfState, IsQueue, IsReadyToReceive, IsReadyToSend, IsReceiveQueue, IsRequester, IsResponder, IsUnnamed, NamesPeer, SentNothing, TookNothing}
+
+-- where nothing refuses, each test fails
+all-fail : {R : Type 0} (ts : List (Bool × R)) → first_of ts ≡ None → AllFail ts
+all-fail [] e = tt
+all-fail (t ∷ ts) e = by t.0 refl e (all-fail ts)
+  where
+    by : (b : Bool) → t.0 ≡ b → (if b then Some t.1 else first_of ts) ≡ None → (first_of ts ≡ None → AllFail ts) → (t.0 ≡ false) × AllFail ts
+    by true is none rest = absurd (cc)
+    by false is none rest = (is, rest none)
+
+-- a test that does not fail to hold, holds
+holds : (b : Bool) → not b ≡ false → b ≡ true
+holds true is = refl
+holds false is = cc
+
+-- from one state alone
+of-reset : (s : State) (q : QueuePair) → is_among (states.Reset ∷ []) s ≡ true → IsOfState s q → IsUnnamed q
+of-reset states.Reset q is h = h
+of-reset states.Init q is h = absurd (cc)
+of-reset states.Rtr q is h = absurd (cc)
+of-reset states.Rts q is h = absurd (cc)
+of-reset states.Sqd q is h = absurd (cc)
+of-reset states.Error q is h = absurd (cc)
+
+of-init : (s : State) (q : QueuePair) → is_among (states.Init ∷ []) s ≡ true → IsOfState s q → IsUnnamed q
+of-init states.Reset q is h = absurd (cc)
+of-init states.Init q is h = h
+of-init states.Rtr q is h = absurd (cc)
+of-init states.Rts q is h = absurd (cc)
+of-init states.Sqd q is h = absurd (cc)
+of-init states.Error q is h = absurd (cc)
+
+of-rtr : (s : State) (q : QueuePair) → is_among (states.Rtr ∷ []) s ≡ true → IsOfState s q → IsReadyToReceive q
+of-rtr states.Reset q is h = absurd (cc)
+of-rtr states.Init q is h = absurd (cc)
+of-rtr states.Rtr q is h = h
+of-rtr states.Rts q is h = absurd (cc)
+of-rtr states.Sqd q is h = absurd (cc)
+of-rtr states.Error q is h = absurd (cc)
+
+of-rts : (s : State) (q : QueuePair) → is_among (states.Rts ∷ []) s ≡ true → IsOfState s q → IsReadyToSend q
+of-rts states.Reset q is h = absurd (cc)
+of-rts states.Init q is h = absurd (cc)
+of-rts states.Rtr q is h = absurd (cc)
+of-rts states.Rts q is h = h
+of-rts states.Sqd q is h = absurd (cc)
+of-rts states.Error q is h = absurd (cc)
+
+of-sqd : (s : State) (q : QueuePair) → is_among (states.Sqd ∷ []) s ≡ true → IsOfState s q → IsReadyToSend q
+of-sqd states.Reset q is h = absurd (cc)
+of-sqd states.Init q is h = absurd (cc)
+of-sqd states.Rtr q is h = absurd (cc)
+of-sqd states.Rts q is h = absurd (cc)
+of-sqd states.Sqd q is h = h
+of-sqd states.Error q is h = absurd (cc)
+
+-- the receives of its own, where all are taken, and where they are emptied
+receives-taken : (srq : Option ℕ) (receives : Option (WorkQueue RecvRequest)) → HasReceives srq receives → HasReceives srq (option_map with_all_taken receives)
+receives-taken None None h = absurd h
+receives-taken None (Some r) h = record {
+  queue = record { depth = h.queue.depth; fits = h.queue.fits };
+  freed = omega arith;
+  taken = omega arith;
+}
+receives-taken (Some srq) None h = tt
+receives-taken (Some srq) (Some r) h = absurd h
+
+none-waiting : (receives : Option (WorkQueue RecvRequest)) → HasNoneWaiting (option_map with_all_taken receives)
+none-waiting None = tt
+none-waiting (Some r) = refl
+
+receives-emptied : (srq : Option ℕ) (receives : Option (WorkQueue RecvRequest)) → HasReceives srq receives → HasReceives srq (option_map (λ r. empty_queue r.depth) receives)
+receives-emptied None None h = absurd h
+receives-emptied None (Some r) h = record {
+  queue = record { depth = h.queue.depth; fits = omega arith };
+  freed = omega arith;
+  taken = omega arith;
+}
+receives-emptied (Some srq) None h = tt
+receives-emptied (Some srq) (Some r) h = absurd h
+
+-- a change that is not refused
+pub comes-up-after : (c : Configuration) (change : Change) (q : QueuePair) → first_of (modify_refusals c q change) ≡ None
+    → NamesPeer change → IsQueue q → IsQueue (queue_after_change change q)
+comes-up-after c changes.Init q none peer is =
+    let fails = all-fail (modify_refusals c q changes.Init) none in
+    record {
+      incarnation = is.incarnation;
+      sends = is.sends;
+      receives = is.receives;
+      peer = is.peer;
+      requester = is.requester;
+      responder = is.responder;
+      state =
+          let before = of-reset q.state q (holds _ fails.0) is.state in
+          record { peer = before.peer; sent = before.sent; took = before.took };
+    }
+comes-up-after c changes.Sqd q none peer is =
+    let fails = all-fail (modify_refusals c q changes.Sqd) none in
+    record {
+      incarnation = is.incarnation;
+      sends = is.sends;
+      receives = is.receives;
+      peer = is.peer;
+      requester = is.requester;
+      responder = is.responder;
+      state =
+          let before = of-rts q.state q (holds _ fails.0) is.state in
+          record { peer = before.peer; retries = before.retries };
+    }
+comes-up-after c changes.Resume q none peer is =
+    let fails = all-fail (modify_refusals c q changes.Resume) none in
+    record {
+      incarnation = is.incarnation;
+      sends = is.sends;
+      receives = is.receives;
+      peer = is.peer;
+      requester = is.requester;
+      responder = is.responder;
+      state =
+          let before = of-sqd q.state q (holds _ fails.0) is.state in
+          record { peer = before.peer; retries = before.retries };
+    }
+comes-up-after c (changes.Rtr peer incarnation psn mtu rnr_code) q none named is =
+    let fails = all-fail (modify_refusals c q (changes.Rtr peer incarnation psn mtu rnr_code)) none in
+    record {
+      incarnation = is.incarnation;
+      sends = is.sends;
+      receives = is.receives;
+      peer = record { number = named; begun = grind (arith, fails.1.1.0) };
+      requester = is.requester;
+      responder = record {
+        base = omega arith;
+        msn = is.responder.msn;
+        message = is.responder.message;
+        mtu = search (rules, holds _ fails.1.1.1.1.0);
+        rnr_code = grind (arith, fails.1.1.1.1.1.0);
+      };
+      state =
+          let before = of-init q.state q (holds _ fails.0) is.state in
+          record { peer = search rules; sent = before.sent };
+    }
+comes-up-after c (changes.Rts psn retry rnr_retry reads) q none named is =
+    let fails = all-fail (modify_refusals c q (changes.Rts psn retry rnr_retry reads)) none in
+    let before = of-rtr q.state q (holds _ fails.0) is.state in
+    let unused : q.requester.retries ≡ 0 = ap (λ (r : RequesterNumbers). r.retries) before.sent.requester in
+    record {
+      incarnation = is.incarnation;
+      sends = is.sends;
+      receives = is.receives;
+      peer = is.peer;
+      requester = record {
+        base = omega arith;
+        oldest_psn = omega arith;
+        outstanding = omega arith;
+        occupied = is.requester.occupied;
+        begun = is.requester.begun;
+        posted = is.requester.posted;
+        retries = omega arith;
+        retry = grind (arith, fails.1.1.0);
+        rnr_retry = grind (arith, fails.1.1.1.0);
+        reads = grind (arith, fails.1.1.1.1.0);
+      };
+      responder = is.responder;
+      state = record { peer = before.peer; retries = omega arith };
+    }
+comes-up-after c changes.Error q none named is = record {
+  incarnation = is.incarnation;
+  sends = is.sends;
+  receives = receives-taken q.srq q.receives is.receives;
+  peer = is.peer;
+  requester = record {
+    base = is.requester.base;
+    oldest_psn = is.requester.oldest_psn;
+    outstanding = is.requester.outstanding;
+    occupied = omega arith;
+    begun = omega arith;
+    posted = omega arith;
+    retries = is.requester.retries;
+    retry = is.requester.retry;
+    rnr_retry = is.requester.rnr_retry;
+    reads = is.requester.reads;
+  };
+  responder = record {
+    base = is.responder.base;
+    msn = is.responder.msn;
+    message = tt;
+    mtu = is.responder.mtu;
+    rnr_code = is.responder.rnr_code;
+  };
+  state = record {
+    oldest = refl;
+    next = refl;
+    waiting = refl;
+    message = refl;
+    receives = none-waiting q.receives;
+  };
+}
+comes-up-after c changes.Reset q none named is = record {
+  incarnation = omega arith;
+  sends = record { depth = is.sends.depth; fits = omega arith };
+  receives = receives-emptied q.srq q.receives is.receives;
+  peer = tt;
+  requester = record {
+    base = omega arith;
+    oldest_psn = omega arith;
+    outstanding = omega arith;
+    occupied = omega arith;
+    begun = omega arith;
+    posted = omega arith;
+    retries = omega arith;
+    retry = omega arith;
+    rnr_retry = omega arith;
+    reads = omega arith;
+  };
+  responder = record { base = omega arith; msn = omega arith; message = tt; mtu = search rules; rnr_code = omega arith };
+  state = record {
+    peer = refl;
+    sent = record { requester = refl; sends = refl };
+    took = record { responder = refl; saved = refl };
+  };
+}
