@@ -15,7 +15,7 @@ use Rattle.ca_base.specs.Refusals.{first_of, AllFail}
 use Rattle.ca_base.specs.objects.QueuePair.{PostedSend, QueuePair, psn_base, requester_at_start, responder_at_start}
 use Rattle.ca_base.specs.objects.StateTable.{allowed_from, is_among, is_path_mtu, modify_refusals, queue_after_change}
 use Rattle.ca_base.specs.objects.WorkQueue.{WorkQueue, empty_queue, next_place, with_all_taken}
-use Rattle.ca_qpstate.specs.ComesUp.{HasNoneWaiting, HasReceives, IsFlushed, IsOfState, IsQueue, IsReadyToReceive, IsReadyToSend, IsReceiveQueue, IsRequester, IsResponder, IsUnnamed, NamesPeer, SentNothing, TookNothing}
+use Rattle.ca_qpstate.specs.ComesUp.{HasEmptyReceives, HasNoneWaiting, HasReceives, IsFlushed, IsOfState, IsQueue, IsReadyToReceive, IsReadyToSend, IsReceiveQueue, IsRequester, IsResponder, IsUnnamed, NamesPeer, SentNothing, TookNothing}
 
 -- where nothing refuses, each test fails
 all-fail : {R : Type 0} (ts : List (Bool × R)) → first_of ts ≡ None → AllFail ts
@@ -33,7 +33,7 @@ holds false is = cc
 
 -- from one state alone
 of-reset : (s : State) (q : QueuePair) → is_among (states.Reset ∷ []) s ≡ true → IsOfState s q → IsUnnamed q
-of-reset states.Reset q is h = h
+of-reset states.Reset q is h = h.0
 of-reset states.Init q is h = absurd (cc)
 of-reset states.Rtr q is h = absurd (cc)
 of-reset states.Rts q is h = absurd (cc)
@@ -97,6 +97,10 @@ receives-emptied None (Some r) h = record {
 receives-emptied (Some srq) None h = tt
 receives-emptied (Some srq) (Some r) h = absurd h
 
+empty-receives : (receives : Option (WorkQueue RecvRequest)) → HasEmptyReceives (option_map (λ r. empty_queue r.depth) receives)
+empty-receives None = tt
+empty-receives (Some r) = refl
+
 -- a change that is not refused
 pub comes-up-after : (c : Configuration) (change : Change) (q : QueuePair) → first_of (modify_refusals c q change) ≡ None
     → NamesPeer change → IsQueue q → IsQueue (queue_after_change change q)
@@ -109,6 +113,7 @@ comes-up-after c changes.Init q none peer is =
       peer = is.peer;
       requester = is.requester;
       responder = is.responder;
+      windows = is.windows;
       state =
           let before = of-reset q.state q (holds _ fails.0) is.state in
           record { peer = before.peer; sent = before.sent; took = before.took };
@@ -122,6 +127,7 @@ comes-up-after c changes.Sqd q none peer is =
       peer = is.peer;
       requester = is.requester;
       responder = is.responder;
+      windows = is.windows;
       state =
           let before = of-rts q.state q (holds _ fails.0) is.state in
           record { peer = before.peer; retries = before.retries };
@@ -135,6 +141,7 @@ comes-up-after c changes.Resume q none peer is =
       peer = is.peer;
       requester = is.requester;
       responder = is.responder;
+      windows = is.windows;
       state =
           let before = of-sqd q.state q (holds _ fails.0) is.state in
           record { peer = before.peer; retries = before.retries };
@@ -154,6 +161,7 @@ comes-up-after c (changes.Rtr peer incarnation psn mtu rnr_code) q none named is
         mtu = search (rules, holds _ fails.1.1.1.1.0);
         rnr_code = grind (arith, fails.1.1.1.1.1.0);
       };
+      windows = is.windows;
       state =
           let before = of-init q.state q (holds _ fails.0) is.state in
           record { peer = search rules; sent = before.sent };
@@ -180,6 +188,7 @@ comes-up-after c (changes.Rts psn retry rnr_retry reads) q none named is =
         reads = grind (arith, fails.1.1.1.1.0);
       };
       responder = is.responder;
+      windows = is.windows;
       state = record { peer = before.peer; retries = omega arith };
     }
 comes-up-after c changes.Error q none named is = record {
@@ -206,6 +215,7 @@ comes-up-after c changes.Error q none named is = record {
     mtu = is.responder.mtu;
     rnr_code = is.responder.rnr_code;
   };
+  windows = is.windows;
   state = record {
     oldest = refl;
     next = refl;
@@ -232,9 +242,13 @@ comes-up-after c changes.Reset q none named is = record {
     reads = omega arith;
   };
   responder = record { base = omega arith; msn = omega arith; message = tt; mtu = search rules; rnr_code = omega arith };
-  state = record {
-    peer = refl;
-    sent = record { requester = refl; sends = refl };
-    took = record { responder = refl; saved = refl };
-  };
+  windows = is.windows;
+  state = (
+    record {
+      peer = refl;
+      sent = record { requester = refl; sends = refl };
+      took = record { responder = refl; saved = refl };
+    },
+    empty-receives q.receives,
+  );
 }

@@ -5,7 +5,7 @@ use Rattle.ca_base.specs.declared.change.Change.{Change}
 use Rattle.ca_base.specs.declared.change.Change.TheVariants as changes
 use Rattle.ca_base.specs.declared.change.State.{State}
 use Rattle.ca_base.specs.declared.change.State.TheVariants as states
-use Rattle.ca_base.specs.declared.limits.TheConstants.{MAX_DEPTH, MAX_MESSAGE_BYTES, MAX_READS, MAX_RETRY, MAX_RNR_CODE}
+use Rattle.ca_base.specs.declared.limits.TheConstants.{MAX_DEPTH, MAX_MESSAGE_BYTES, MAX_READS, MAX_RETRY, MAX_RNR_CODE, MAX_WINDOWS}
 use Rattle.ca_base.specs.declared.queue_numbers.Message.{Message}
 use Rattle.ca_base.specs.declared.queue_numbers.Message.TheVariants as messages
 use Rattle.ca_base.specs.declared.queue_numbers.RequesterNumbers.{RequesterNumbers}
@@ -81,6 +81,11 @@ pub record TookNothing (r : ResponderNumbers) (results : List SavedResult) : Typ
   pub responder : r ≡ responder_at_start
   pub saved : results ≡ []
 
+-- its own receive queue, if it has one, is as it was made
+abbrev pub HasEmptyReceives : Option (WorkQueue RecvRequest) → Type 0
+HasEmptyReceives None = Unit {0}
+HasEmptyReceives (Some r) = r ≡ empty_queue r.depth
+
 -- no receive of its own waits
 abbrev pub HasNoneWaiting : Option (WorkQueue RecvRequest) → Type 0
 HasNoneWaiting None = Unit {0}
@@ -112,7 +117,7 @@ pub record IsReadyToSend (q : QueuePair) : Type 0 where
 
 -- what the state says of the rest
 abbrev pub IsOfState : State → QueuePair → Type 0
-IsOfState states.Reset q = IsUnnamed q
+IsOfState states.Reset q = IsUnnamed q × HasEmptyReceives q.receives
 IsOfState states.Init q = IsUnnamed q
 IsOfState states.Rtr q = IsReadyToReceive q
 IsOfState states.Rts q = IsReadyToSend q
@@ -127,6 +132,7 @@ pub record IsQueue (q : QueuePair) : Type 0 where
   pub peer : IfSome q.peer IsPeer
   pub requester : IsRequester q.sends q.requester
   pub responder : IsResponder q.responder
+  pub windows : q.windows ≤ MAX_WINDOWS
   pub state : IsOfState q.state q
 
 -- the depths with which a queue pair is made: with a shared receive queue there is none for receives

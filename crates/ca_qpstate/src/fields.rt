@@ -7,11 +7,9 @@ ghost use Rattle.ca_base.specs.declared.names.QueueId.{QueueId};
 ghost use Rattle.ca_base.specs.declared.change.Change.TheVariants as changes;
 ghost use Rattle.ca_qpstate.specs.ComesUp.{NamesPeer};
 
+use crate::at_start::PSN_COUNT;
 use ca_base::limits::{MAX_READS, MAX_RETRY, MAX_RNR_CODE};
 use ca_base::{Change, Config, Field, ModifyRefusal, QueueId};
-
-/// The first number that no PSN has: PSNs have 24 bits.
-const PSN_END: u32 = 0x100_0000;
 
 /// Whether a queue pair's number, which is at least 256, is that of a slot of an adapter of so many domains, each with
 /// so many queue pairs. Such a number has 24 bits.
@@ -61,7 +59,7 @@ fn rtr_refusal(
         Some(ModifyRefusal::OutOfRange(Field::Peer))
     } else if incarnation == 0 {
         Some(ModifyRefusal::OutOfRange(Field::Incarnation))
-    } else if psn >= PSN_END {
+    } else if psn >= PSN_COUNT {
         Some(ModifyRefusal::OutOfRange(Field::Psn))
     } else if !is_path_mtu(mtu) {
         Some(ModifyRefusal::OutOfRange(Field::Mtu))
@@ -76,7 +74,7 @@ fn rtr_refusal(
 fn rts_refusal(psn: u32, retry: u8, rnr_retry: u8, reads: u8) -> Option<ModifyRefusal>
     ensures { (c : Configuration) → (queue : QueueId) → result ≡ first_of (table.field_refusals c queue (changes.Rts psn retry rnr_retry reads)) }
 {
-    if psn >= PSN_END {
+    if psn >= PSN_COUNT {
         Some(ModifyRefusal::OutOfRange(Field::Psn))
     } else if retry > MAX_RETRY {
         Some(ModifyRefusal::OutOfRange(Field::Retry))

@@ -4,7 +4,7 @@ ghost use Rattle.ca_qpstate.specs.Start.{receives_at_start};
 use crate::at_start::{PSN_BASE, requester_at_start, responder_at_start};
 use crate::fields::field_refusal;
 use crate::posted_send::PostedSend;
-use crate::state_table::leads_from;
+use crate::state_table::is_allowed_from;
 use ca_base::{
     Answers, Change, Config, DomainId, Memory, ModifyRefusal, QueueId, RecvRequest,
     RequesterNumbers, ResponderNumbers, State, WindowCount,
@@ -41,12 +41,10 @@ pub struct QueuePart {
 
 impl QueuePart {
     ghost use Rattle.std.specs.Prelude.{◌≡◌, ◌-◌, ◌^◌, ◌<◌, None, Some, IfOk, IfErr, IfNone, OnOk, OnErr};
-    ghost use Rattle.ca_base.specs.Configuration.{configuration_of};
-    ghost use Rattle.ca_base.specs.Refusals.{first_of};
     ghost use Rattle.ca_base.specs.objects.QueuePair as objects;
-    ghost use Rattle.ca_base.specs.objects.StateTable.{modify_refusals, queue_after_change};
+    ghost use Rattle.ca_base.specs.objects.StateTable.{queue_after_change};
     ghost use Rattle.ca_qpstate.specs.ComesUp.{AreDepths, IsQueue, NamesPeer};
-    ghost use Rattle.ca_qpstate.specs.Seen.{queue_of};
+    ghost use Rattle.ca_qpstate.specs.Seen.{queue_of, refusal_of_change};
 
     /// A queue pair in Reset, over these completion queues, with queues of these depths, each 1 to 256. With a shared
     /// receive queue it has no receives of its own, and their depth says nothing. `Memory` is its only refusal. The
@@ -88,8 +86,8 @@ impl QueuePart {
     /// that is out of its range, and `WindowsBound`. It takes no memory.
     pub fn modify(&mut self, config: &Config, change: &Change) -> Result<(), ModifyRefusal>
         requires { self.old.incarnation < 2 ^ 32 - 1 }
-        ensures accepted { OnOk result (first_of (modify_refusals (configuration_of config.now) (queue_of self.old) change.now) ≡ None) }
-        ensures refused { IfErr result (λ e. first_of (modify_refusals (configuration_of config.now) (queue_of self.old) change.now) ≡ Some e) }
+        ensures accepted { OnOk result (refusal_of_change config.now change.now self.old ≡ None) }
+        ensures refused { IfErr result (λ e. refusal_of_change config.now change.now self.old ≡ Some e) }
         ensures changed { OnOk result (queue_of self.new ≡ queue_after_change change.now (queue_of self.old)) }
         ensures err { OnErr result (self.new ≡ self.old) }
         ensures comes_up { IsQueue (queue_of self.old) → IsQueue (queue_of self.new) }
@@ -103,10 +101,10 @@ impl QueuePart {
 
     /// Why a change is refused: the first of the state table's reasons.
     fn modify_refusal(&self, config: &Config, change: &Change) -> Option<ModifyRefusal>
-        ensures first { result ≡ first_of (modify_refusals (configuration_of config.now) (queue_of self.now) change.now) }
+        ensures first { result ≡ refusal_of_change config.now change.now self.now }
         ensures peer { IfNone result (NamesPeer change.now) }
     {
-        if !leads_from(change, self.state) {
+        if !is_allowed_from(change, self.state) {
             return Some(ModifyRefusal::Transition);
         }
         if let Some(refusal) = field_refusal(config, self.queue, change) {

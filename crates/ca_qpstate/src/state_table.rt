@@ -4,7 +4,7 @@ ghost use Rattle.ca_base.specs.objects.StateTable.{allowed_from, is_among};
 use ca_base::{Change, State};
 
 /// Whether a change leads from a state: the state table's column of states, a row for each change.
-pub fn leads_from(change: &Change, state: State) -> bool
+pub fn is_allowed_from(change: &Change, state: State) -> bool
     ensures { result ≡ is_among (allowed_from change.now) state }
 {
     match change {
