@@ -167,12 +167,12 @@ fn busy(rt: &impl Abort, q: &mut QueuePart) -> Result<(), Memory> {
     holds(rt, post_send(rt, q, 2) == Some(1), "another send");
     holds(rt, take_receive(q) == Some(0), "a receive is taken");
     q.requester.next = 1;
-    q.requester.cursor += 3;
-    q.requester.una += 1;
+    q.requester.cursor = 0x1AB_CDF2;
+    q.requester.una = 0x1AB_CDF0;
     q.requester.retries = 2;
     q.requester.rnrs = 4;
     q.requester.waiting = true;
-    q.responder.expected += 9;
+    q.responder.expected = 0x112_345F;
     q.responder.msn = 8;
     q.responder.message = Some(Message::Write {
         key: Key(1),
