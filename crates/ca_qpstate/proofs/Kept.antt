@@ -1,21 +1,18 @@
 -- A change that is not refused makes of a queue pair that can come up another that can. For proofs only.
-use Rattle.std.proofs.Common.{◌≡◌, ℕ, ◌+◌, ◌-◌, ◌<◌, ◌≤◌, ◌==◌, ◌&&◌, ◌||◌, suc, Bool, true, false, not, if◌then◌else◌, List, [], ◌∷◌, ◌++◌, length, Option, None, Some, IsTrue, IsSome, IfSome, nat_le, nat_lt, refl, ap, arith, rules}
-use Rattle.std.proofs.lemmas.Grind.{common_steps}
+use Rattle.std.proofs.Common.{◌≡◌, ℕ, Bool, true, false, not, if◌then◌else◌, List, [], ◌∷◌, Option, None, Some, refl, ap, arith, rules}
 use Rattle.std.specs.Option.{option_map}
 use Rattle.ca_base.specs.declared.change.Change.{Change}
 use Rattle.ca_base.specs.declared.change.Change.TheVariants as changes
 use Rattle.ca_base.specs.declared.change.State.{State}
 use Rattle.ca_base.specs.declared.change.State.TheVariants as states
-use Rattle.ca_base.specs.declared.names.QueueId.{QueueId}
 use Rattle.ca_base.specs.declared.queue_numbers.RequesterNumbers.{RequesterNumbers}
-use Rattle.ca_base.specs.declared.queue_numbers.ResponderNumbers.{ResponderNumbers}
 use Rattle.ca_base.specs.declared.request.RecvRequest.{RecvRequest}
 use Rattle.ca_base.specs.Configuration.{Configuration}
 use Rattle.ca_base.specs.Refusals.{first_of, AllFail}
-use Rattle.ca_base.specs.objects.QueuePair.{PostedSend, QueuePair, psn_base, requester_at_start, responder_at_start}
-use Rattle.ca_base.specs.objects.StateTable.{allowed_from, is_among, is_path_mtu, modify_refusals, queue_after_change}
-use Rattle.ca_base.specs.objects.WorkQueue.{WorkQueue, empty_queue, next_place, with_all_taken}
-use Rattle.ca_qpstate.specs.ComesUp.{HasEmptyReceives, HasNoneWaiting, HasReceives, IsFlushed, IsOfState, IsQueue, IsReadyToReceive, IsReadyToSend, IsReceiveQueue, IsRequester, IsResponder, IsUnnamed, NamesPeer, SentNothing, TookNothing}
+use Rattle.ca_base.specs.objects.QueuePair.{QueuePair}
+use Rattle.ca_base.specs.objects.StateTable.{is_among, modify_refusals, queue_after_change}
+use Rattle.ca_base.specs.objects.WorkQueue.{WorkQueue, empty_queue, with_all_taken}
+use Rattle.ca_qpstate.specs.ComesUp.{HasEmptyReceives, HasNoneWaiting, HasReceives, IsOfState, IsQueue, IsReadyToReceive, IsReadyToSend, IsUnnamed, NamesPeer}
 
 -- where nothing refuses, each test fails
 all-fail : {R : Type 0} (ts : List (Bool × R)) → first_of ts ≡ None → AllFail ts
@@ -107,6 +104,7 @@ pub comes-up-after : (c : Configuration) (change : Change) (q : QueuePair) → f
 comes-up-after c changes.Init q none peer is =
     let fails = all-fail (modify_refusals c q changes.Init) none in
     record {
+      own = is.own;
       incarnation = is.incarnation;
       sends = is.sends;
       receives = is.receives;
@@ -121,6 +119,7 @@ comes-up-after c changes.Init q none peer is =
 comes-up-after c changes.Sqd q none peer is =
     let fails = all-fail (modify_refusals c q changes.Sqd) none in
     record {
+      own = is.own;
       incarnation = is.incarnation;
       sends = is.sends;
       receives = is.receives;
@@ -135,6 +134,7 @@ comes-up-after c changes.Sqd q none peer is =
 comes-up-after c changes.Resume q none peer is =
     let fails = all-fail (modify_refusals c q changes.Resume) none in
     record {
+      own = is.own;
       incarnation = is.incarnation;
       sends = is.sends;
       receives = is.receives;
@@ -149,6 +149,7 @@ comes-up-after c changes.Resume q none peer is =
 comes-up-after c (changes.Rtr peer incarnation psn mtu rnr_code) q none named is =
     let fails = all-fail (modify_refusals c q (changes.Rtr peer incarnation psn mtu rnr_code)) none in
     record {
+      own = is.own;
       incarnation = is.incarnation;
       sends = is.sends;
       receives = is.receives;
@@ -171,6 +172,7 @@ comes-up-after c (changes.Rts psn retry rnr_retry reads) q none named is =
     let before = of-rtr q.state q (holds _ fails.0) is.state in
     let unused : q.requester.retries ≡ 0 = ap (λ (r : RequesterNumbers). r.retries) before.sent.requester in
     record {
+      own = is.own;
       incarnation = is.incarnation;
       sends = is.sends;
       receives = is.receives;
@@ -192,6 +194,7 @@ comes-up-after c (changes.Rts psn retry rnr_retry reads) q none named is =
       state = record { peer = before.peer; retries = omega arith };
     }
 comes-up-after c changes.Error q none named is = record {
+  own = is.own;
   incarnation = is.incarnation;
   sends = is.sends;
   receives = receives-taken q.srq q.receives is.receives;
@@ -225,6 +228,7 @@ comes-up-after c changes.Error q none named is = record {
   };
 }
 comes-up-after c changes.Reset q none named is = record {
+  own = is.own;
   incarnation = omega arith;
   sends = record { depth = is.sends.depth; fits = omega arith };
   receives = receives-emptied q.srq q.receives is.receives;

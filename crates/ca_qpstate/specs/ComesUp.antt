@@ -11,6 +11,7 @@ use Rattle.ca_base.specs.declared.queue_numbers.Message.TheVariants as messages
 use Rattle.ca_base.specs.declared.queue_numbers.RequesterNumbers.{RequesterNumbers}
 use Rattle.ca_base.specs.declared.queue_numbers.ResponderNumbers.{ResponderNumbers}
 use Rattle.ca_base.specs.declared.request.RecvRequest.{RecvRequest}
+use Rattle.ca_base.specs.Numbers.{IsOfDomain}
 use Rattle.ca_base.specs.objects.Mailbox.{Correspondent}
 use Rattle.ca_base.specs.objects.QueuePair.{PostedSend, QueuePair, psn_base, requester_at_start, responder_at_start}
 use Rattle.ca_base.specs.objects.Saved.{SavedResult}
@@ -126,6 +127,7 @@ IsOfState states.Error q = IsFlushed q
 
 -- a queue pair that can come up
 pub record IsQueue (q : QueuePair) : Type 0 where
+  pub own : IsOfDomain q.queue q.domain
   pub incarnation : 0 < q.incarnation
   pub sends : IsWorkQueue PostedSend q.sends
   pub receives : HasReceives q.srq q.receives

@@ -25,7 +25,7 @@ queue_of q = record {
   receives = q.receives;
   requester = q.requester;
   responder = q.responder;
-  saved = q.saved;
+  saved = q.saved.value;
   windows = q.windows.count;
 }
 

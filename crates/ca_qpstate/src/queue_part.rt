@@ -13,7 +13,8 @@ use ca_saved::Saved;
 use ca_workqueue::WorkQueue;
 use std::alloc::Global;
 
-/// A queue pair. Its queues and its response queue keep their items on the heap, so that a part moves as few bytes.
+/// A queue pair. What grows and what is long lies on the heap, so that a part moves as few bytes: the requests of its
+/// queues, its response queue, and its saved results.
 #[derive(Drop)]
 pub struct QueuePart {
     pub queue: QueueId,
@@ -33,7 +34,8 @@ pub struct QueuePart {
     pub receives: Option<WorkQueue<RecvRequest>>,
     pub requester: RequesterNumbers,
     pub responder: ResponderNumbers,
-    pub saved: Saved,
+    /// What its latest atomics found.
+    pub saved: Box<Saved>,
     /// How many type 2 windows are bound to it.
     pub windows: WindowCount,
     alloc: Global,
@@ -41,6 +43,7 @@ pub struct QueuePart {
 
 impl QueuePart {
     ghost use Rattle.std.specs.Prelude.{◌≡◌, ◌-◌, ◌^◌, ◌<◌, None, Some, IfOk, IfErr, IfNone, OnOk, OnErr};
+    ghost use Rattle.ca_base.specs.Numbers.{IsOfDomain};
     ghost use Rattle.ca_base.specs.objects.QueuePair as objects;
     ghost use Rattle.ca_base.specs.objects.StateTable.{queue_after_change};
     ghost use Rattle.ca_qpstate.specs.ComesUp.{AreDepths, IsQueue, NamesPeer};
@@ -61,7 +64,7 @@ impl QueuePart {
         srq: Option<u16>,
     ) -> Result<QueuePart, Memory>
         ensures value { IfOk result (λ q. queue_of q ≡ objects.queue_at_start queue domain incarnation 0 send_cq recv_cq send_depth recv_depth srq) }
-        ensures comes_up { IfOk result (λ q. 0 < incarnation → AreDepths send_depth recv_depth srq → IsQueue (queue_of q)) }
+        ensures comes_up { IsOfDomain queue domain → 0 < incarnation → AreDepths send_depth recv_depth srq → IfOk result (λ q. IsQueue (queue_of q)) }
     {
         Ok(QueuePart {
             queue,
@@ -76,7 +79,7 @@ impl QueuePart {
             receives: own_receives(alloc, recv_depth, srq)?,
             requester: requester_at_start(0),
             responder: responder_at_start(alloc),
-            saved: Saved::empty(),
+            saved: Box::new(alloc, Saved::empty())?,
             windows: WindowCount { count: 0 },
             alloc,
         })
@@ -205,7 +208,7 @@ impl QueuePart {
         }
         self.requester = requester_at_start(self.requester.timers);
         self.responder = responder_at_start(self.alloc);
-        self.saved = Saved::empty();
+        *self.saved = Saved::empty();
     }
 }
 

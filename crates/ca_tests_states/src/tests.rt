@@ -3,7 +3,7 @@ mod ranges;
 mod table;
 
 use arrayvec::ArrayVec;
-use ca_base::{AdapterConfig, Config, DomainId, Memory, QueueId};
+use ca_base::{AdapterConfig, Config, DomainId, QueueId};
 use ca_qpstate::{Change, Field, ModifyRefusal, QueuePart};
 use std::alloc::Global;
 use std::process::Abort;
@@ -101,25 +101,38 @@ fn adapter(domains: u8, qps: u16) -> AdapterConfig {
 }
 
 // Adapter 0 has two domains of three queue pairs, and adapter 1 has one of two.
-fn config() -> Option<Config> {
+fn config(rt: &impl Abort) -> Config {
     let mut adapters = ArrayVec::new();
-    adapters.try_push(adapter(2, 3)).ok()?;
-    adapters.try_push(adapter(1, 2)).ok()?;
-    Some(Config {
+    let first = adapters.try_push(adapter(2, 3)).is_ok();
+    let second = adapters.try_push(adapter(1, 2)).is_ok();
+    assert!(rt; first && second);
+    Config {
         adapters,
         events: 100,
-    })
+    }
 }
 
 // A queue pair in Reset, in its first incarnation, with queues of two requests.
-fn created(alloc: Global) -> Result<QueuePart, Memory> {
-    QueuePart::create(alloc, QUEUE, DOMAIN, 1, 3, 4, 2, 2, None)
+fn created(rt: &impl Abort, alloc: Global) -> QueuePart {
+    QueuePart::create(alloc, QUEUE, DOMAIN, 1, 3, 4, 2, 2, None).expect(rt, "memory is ample")
 }
 
 // The answer of a change, by its number.
 fn modify(rt: &impl Abort, q: &mut QueuePart, config: &Config, change: &Change) -> u8 {
     assert!(rt; q.incarnation < 1000);
     number_of_answer(q.modify(config, change))
+}
+
+// Tries a change, which has to give this answer and then to stand in this state.
+fn tries(
+    rt: &impl Abort,
+    q: &mut QueuePart,
+    config: &Config,
+    change: &Change,
+    (want, state): (u8, u8),
+) {
+    same(rt, modify(rt, q, config, change), want, "the answer");
+    same(rt, q.state as u8, state, "the state after it");
 }
 
 // A change that has to be done.

@@ -1,11 +1,8 @@
 use super::{DOMAIN, PEER, QUEUE, TO_RTR, TO_RTS, change, config, created};
 use arrayvec::ArrayVec;
-use ca_base::{
-    Config, Key, Memory, Message, Queued, RecvRequest, RequesterNumbers, SendOp, SendRequest,
-};
+use ca_base::{Config, Key, Message, Queued, RecvRequest, RequesterNumbers, SendOp, SendRequest};
 use ca_qpstate::{Change, PostedSend, QueuePart};
 use std::process::Abort;
-use std::test::Fail;
 
 /// The first PSN 0.
 const BASE: u64 = 0x100_0000;
@@ -106,8 +103,8 @@ fn take_receive(q: &mut QueuePart) -> Option<u64> {
 }
 
 #[test]
-fn a_new_queue_pair(rt: HostRuntime) -> Result<(), Fail> {
-    let mut q = created(rt.alloc())?;
+fn a_new_queue_pair(rt: HostRuntime) {
+    let mut q = created(&rt, rt.alloc());
     holds(&rt, q.queue == QUEUE && q.domain == DOMAIN, "its names");
     holds(
         &rt,
@@ -146,23 +143,24 @@ fn a_new_queue_pair(rt: HostRuntime) -> Result<(), Fail> {
     holds(&rt, post_send(&rt, &mut q, 1) == Some(0), "the first send");
     holds(&rt, post_send(&rt, &mut q, 2) == Some(1), "the second send");
     holds(&rt, post_send(&rt, &mut q, 3).is_none(), "a third send");
-    Ok(())
 }
 
 #[test]
-fn a_new_queue_pair_over_a_shared_receive_queue(rt: HostRuntime) -> Result<(), Fail> {
-    let q = QueuePart::create(rt.alloc(), QUEUE, DOMAIN, 6, 3, 4, 2, 0, Some(8))?;
+fn a_new_queue_pair_over_a_shared_receive_queue(rt: HostRuntime) {
+    let q = QueuePart::create(rt.alloc(), QUEUE, DOMAIN, 6, 3, 4, 2, 0, Some(8)).expect(
+        &rt,
+        "memory is ample",
+    );
     holds(
         &rt,
         q.srq == Some(8) && q.receives.is_none(),
         "no receives of its own",
     );
     holds(&rt, q.incarnation == 6, "its incarnation");
-    Ok(())
 }
 
 // Sends are posted and begun, and all else that a queue pair counts has changed.
-fn busy(rt: &impl Abort, q: &mut QueuePart) -> Result<(), Memory> {
+fn busy(rt: &impl Abort, q: &mut QueuePart) {
     holds(rt, post_send(rt, q, 1) == Some(0), "a send");
     holds(rt, post_send(rt, q, 2) == Some(1), "another send");
     holds(rt, take_receive(q) == Some(0), "a receive is taken");
@@ -182,11 +180,14 @@ fn busy(rt: &impl Abort, q: &mut QueuePart) -> Result<(), Memory> {
     });
     q.responder.nak_sent = true;
     q.saved.keep(BASE + 5, 6);
-    q.responder.answers.push(Queued::Ack { psn: BASE })
+    q.responder
+        .answers
+        .push(Queued::Ack { psn: BASE })
+        .expect(rt, "memory is ample");
 }
 
 // A queue pair in Ready to Send that is busy.
-fn busy_queue(rt: &impl Abort, q: &mut QueuePart, config: &Config) -> Result<(), Memory> {
+fn busy_queue(rt: &impl Abort, q: &mut QueuePart, config: &Config) {
     q.requester.timers = 5;
     change(rt, q, config, &Change::Init);
     requester_is(
@@ -209,14 +210,14 @@ fn busy_queue(rt: &impl Abort, q: &mut QueuePart, config: &Config) -> Result<(),
         ],
         "in Rts",
     );
-    busy(rt, q)
+    busy(rt, q);
 }
 
 #[test]
-fn error_flushes_what_is_posted(rt: HostRuntime) -> Result<(), Fail> {
-    let config = config().ok_or("a configuration of two adapters")?;
-    let mut q = created(rt.alloc())?;
-    busy_queue(&rt, &mut q, &config)?;
+fn error_flushes_what_is_posted(rt: HostRuntime) {
+    let config = config(&rt);
+    let mut q = created(&rt, rt.alloc());
+    busy_queue(&rt, &mut q, &config);
     change(&rt, &mut q, &config, &Change::Error);
     requester_is(
         &rt,
@@ -240,14 +241,13 @@ fn error_flushes_what_is_posted(rt: HostRuntime) -> Result<(), Fail> {
     );
     holds(&rt, take_receive(&mut q).is_none(), "no receive waits");
     holds(&rt, q.saved.find(BASE + 5) == Some(6), "saved results stay");
-    Ok(())
 }
 
 #[test]
-fn reset_empties_queues_and_numbers(rt: HostRuntime) -> Result<(), Fail> {
-    let config = config().ok_or("a configuration of two adapters")?;
-    let mut q = created(rt.alloc())?;
-    busy_queue(&rt, &mut q, &config)?;
+fn reset_empties_queues_and_numbers(rt: HostRuntime) {
+    let config = config(&rt);
+    let mut q = created(&rt, rt.alloc());
+    busy_queue(&rt, &mut q, &config);
     change(&rt, &mut q, &config, &Change::Reset);
     holds(&rt, q.incarnation == 2, "the next incarnation");
     peer_is(&rt, &q, false, "no peer after Reset");
@@ -289,14 +289,13 @@ fn reset_empties_queues_and_numbers(rt: HostRuntime) -> Result<(), Fail> {
         post_receive(&rt, &mut q, 1) == Some(0),
         "places of receives begin anew",
     );
-    Ok(())
 }
 
 #[test]
-fn drain_and_resume_change_the_state_alone(rt: HostRuntime) -> Result<(), Fail> {
-    let config = config().ok_or("a configuration of two adapters")?;
-    let mut q = created(rt.alloc())?;
-    busy_queue(&rt, &mut q, &config)?;
+fn drain_and_resume_change_the_state_alone(rt: HostRuntime) {
+    let config = config(&rt);
+    let mut q = created(&rt, rt.alloc());
+    busy_queue(&rt, &mut q, &config);
     change(&rt, &mut q, &config, &Change::Sqd);
     change(&rt, &mut q, &config, &Change::Resume);
     requester_is(
@@ -313,5 +312,4 @@ fn drain_and_resume_change_the_state_alone(rt: HostRuntime) -> Result<(), Fail> 
         &[0x112_345F, 8, 1, 1, 1, 1024, 12],
         "the responder after a drain",
     );
-    Ok(())
 }

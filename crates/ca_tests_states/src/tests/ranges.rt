@@ -1,10 +1,9 @@
 use super::{
-    DONE, INCARNATION_OUT, MTU_OUT, PEER_OUT, PSN_OUT, READS_OUT, RETRY_OUT, RNR_CODE_OUT,
-    RNR_RETRY_OUT, TO_RTR, TRANSITION, change, config, created, modify, same,
+    DONE, INCARNATION_OUT, MTU_OUT, PEER_OUT, PSN_OUT, QUEUE, READS_OUT, RETRY_OUT, RNR_CODE_OUT,
+    RNR_RETRY_OUT, TO_RTR, TRANSITION, change, config, created, tries,
 };
 use ca_base::QueueId;
 use ca_qpstate::{Change, State};
-use std::test::Fail;
 
 /// The peer's adapter and number, its incarnation, the PSN, the path MTU, the RNR code, and the answer in Init.
 const RTR: [((u8, u32), u32, u32, u16, u8, u8); 54] = [
@@ -98,11 +97,20 @@ const RTS: [(u32, u8, u8, u8, u8); 19] = [
     (0xFF_FFFF, 7, 7, 16, DONE),
 ];
 
+// The number of the first state where the answer is Ok, and else of the second.
+fn state_after(answer: u8, done: State, refused: State) -> u8 {
+    if answer == DONE {
+        done as u8
+    } else {
+        refused as u8
+    }
+}
+
 #[test]
-fn each_field_of_ready_to_receive_at_its_edges(rt: HostRuntime) -> Result<(), Fail> {
-    let config = config().ok_or("a configuration of two adapters")?;
+fn each_field_of_ready_to_receive_at_its_edges(rt: HostRuntime) {
+    let config = config(&rt);
     for ((adapter, number), incarnation, psn, mtu, rnr_code, want) in RTR.as_slice() {
-        let mut q = created(rt.alloc())?;
+        let mut q = created(&rt, rt.alloc());
         change(&rt, &mut q, &config, &Change::Init);
         let peer = QueueId {
             adapter: *adapter,
@@ -115,32 +123,16 @@ fn each_field_of_ready_to_receive_at_its_edges(rt: HostRuntime) -> Result<(), Fa
             mtu: *mtu,
             rnr_code: *rnr_code,
         };
-        same(
-            &rt,
-            modify(&rt, &mut q, &config, &to_rtr),
-            *want,
-            "a row of Rtr",
-        );
-        let after = if *want == DONE {
-            State::Rtr
-        } else {
-            State::Init
-        };
-        same(
-            &rt,
-            q.state as u8,
-            after as u8,
-            "the state after a row of Rtr",
-        );
+        let after = state_after(*want, State::Rtr, State::Init);
+        tries(&rt, &mut q, &config, &to_rtr, (*want, after));
     }
-    Ok(())
 }
 
 #[test]
-fn each_field_of_ready_to_send_at_its_edges(rt: HostRuntime) -> Result<(), Fail> {
-    let config = config().ok_or("a configuration of two adapters")?;
+fn each_field_of_ready_to_send_at_its_edges(rt: HostRuntime) {
+    let config = config(&rt);
     for (psn, retry, rnr_retry, reads, want) in RTS.as_slice() {
-        let mut q = created(rt.alloc())?;
+        let mut q = created(&rt, rt.alloc());
         change(&rt, &mut q, &config, &Change::Init);
         change(&rt, &mut q, &config, &TO_RTR);
         let to_rts = Change::Rts {
@@ -149,55 +141,31 @@ fn each_field_of_ready_to_send_at_its_edges(rt: HostRuntime) -> Result<(), Fail>
             rnr_retry: *rnr_retry,
             reads: *reads,
         };
-        same(
-            &rt,
-            modify(&rt, &mut q, &config, &to_rts),
-            *want,
-            "a row of Rts",
-        );
-        let after = if *want == DONE {
-            State::Rts
-        } else {
-            State::Rtr
-        };
-        same(
-            &rt,
-            q.state as u8,
-            after as u8,
-            "the state after a row of Rts",
-        );
+        let after = state_after(*want, State::Rts, State::Rtr);
+        tries(&rt, &mut q, &config, &to_rts, (*want, after));
     }
-    Ok(())
 }
 
+const BAD_RTR: Change = Change::Rtr {
+    peer: QUEUE,
+    incarnation: 0,
+    psn: u32::MAX,
+    mtu: 0,
+    rnr_code: 255,
+};
+
+const BAD_RTS: Change = Change::Rts {
+    psn: u32::MAX,
+    retry: 8,
+    rnr_retry: 8,
+    reads: 0,
+};
+
 #[test]
-fn a_wrong_state_comes_before_a_wrong_field(rt: HostRuntime) -> Result<(), Fail> {
-    let config = config().ok_or("a configuration of two adapters")?;
-    let mut q = created(rt.alloc())?;
-    let to_rts = Change::Rts {
-        psn: u32::MAX,
-        retry: 8,
-        rnr_retry: 8,
-        reads: 0,
-    };
-    same(
-        &rt,
-        modify(&rt, &mut q, &config, &to_rts),
-        TRANSITION,
-        "Rts in Reset",
-    );
-    let to_rtr = Change::Rtr {
-        peer: super::QUEUE,
-        incarnation: 0,
-        psn: u32::MAX,
-        mtu: 0,
-        rnr_code: 255,
-    };
-    same(
-        &rt,
-        modify(&rt, &mut q, &config, &to_rtr),
-        TRANSITION,
-        "Rtr in Reset",
-    );
-    Ok(())
+fn a_wrong_state_comes_before_a_wrong_field(rt: HostRuntime) {
+    let config = config(&rt);
+    let mut q = created(&rt, rt.alloc());
+    let in_reset = (TRANSITION, State::Reset as u8);
+    tries(&rt, &mut q, &config, &BAD_RTR, in_reset);
+    tries(&rt, &mut q, &config, &BAD_RTS, in_reset);
 }

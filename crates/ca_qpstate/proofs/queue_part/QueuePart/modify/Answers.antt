@@ -1,7 +1,6 @@
 use Rattle.std.proofs.Common.{rules}
 use Rattle.ca_base.specs.Configuration.{configuration_of}
 use Rattle.ca_qpstate.proofs.Kept.{comes-up-after}
-use Rattle.ca_qpstate.specs.ComesUp.{IsQueue}
 use Rattle.ca_qpstate.specs.Seen.{queue_of}
 use Rattle.ca_qpstate.proofs.queue_part.QueuePart.modify.Goals as goal
 
