@@ -102,47 +102,57 @@ fn take_receive(q: &mut QueuePart) -> Option<u64> {
     }
 }
 
-#[test]
-fn a_new_queue_pair(rt: HostRuntime) {
-    let mut q = created(&rt, rt.alloc());
-    holds(&rt, q.queue == QUEUE && q.domain == DOMAIN, "its names");
+// Names no peer, and counts nothing but timers.
+fn is_at_start(rt: &impl Abort, q: &QueuePart, timers: u64) {
+    peer_is(rt, q, false, "no peer");
+    requester_is(
+        rt,
+        &q.requester,
+        &[BASE, BASE, 0, BASE, 0, 0, 0, 0, timers, 0, 0, 0],
+        "the requester at its start",
+    );
+    responder_is(
+        rt,
+        q,
+        &[BASE, 0, 0, 0, 0, 256, 0],
+        "the responder at its start",
+    );
+    holds(rt, q.saved.find(BASE + 5).is_none(), "no saved results");
+}
+
+// Two requests can be posted to each queue, from place 0 on.
+fn has_empty_queues(rt: &impl Abort, q: &mut QueuePart) {
+    holds(rt, take_receive(q).is_none(), "no receive waits");
+    holds(rt, post_receive(rt, q, 1) == Some(0), "the first receive");
+    holds(rt, post_receive(rt, q, 2) == Some(1), "the second receive");
+    holds(rt, post_receive(rt, q, 3).is_none(), "a third receive");
+    holds(rt, post_send(rt, q, 1) == Some(0), "the first send");
+    holds(rt, post_send(rt, q, 2) == Some(1), "the second send");
+    holds(rt, post_send(rt, q, 3).is_none(), "a third send");
+}
+
+// Has the names and numbers with which `created` makes it.
+fn is_of_the_tests(rt: &impl Abort, q: &QueuePart, incarnation: u32) {
+    holds(rt, q.queue == QUEUE && q.domain == DOMAIN, "its names");
+    holds(rt, q.incarnation == incarnation, "its incarnation");
     holds(
-        &rt,
-        q.incarnation == 1 && q.send_cq == 3 && q.recv_cq == 4,
-        "its numbers",
+        rt,
+        q.send_cq == 3 && q.recv_cq == 4,
+        "its completion queues",
     );
     holds(
-        &rt,
+        rt,
         q.srq.is_none() && q.windows.count == 0,
         "no shared queue, no windows",
     );
-    peer_is(&rt, &q, false, "no peer");
-    requester_is(
-        &rt,
-        &q.requester,
-        &[BASE, BASE, 0, BASE, 0, 0, 0, 0, 0, 0, 0, 0],
-        "its requester",
-    );
-    responder_is(&rt, &q, &[BASE, 0, 0, 0, 0, 256, 0], "its responder");
-    holds(&rt, q.saved.find(BASE).is_none(), "no saved results");
-    holds(
-        &rt,
-        post_receive(&rt, &mut q, 1) == Some(0),
-        "the first receive",
-    );
-    holds(
-        &rt,
-        post_receive(&rt, &mut q, 2) == Some(1),
-        "the second receive",
-    );
-    holds(
-        &rt,
-        post_receive(&rt, &mut q, 3).is_none(),
-        "a third receive",
-    );
-    holds(&rt, post_send(&rt, &mut q, 1) == Some(0), "the first send");
-    holds(&rt, post_send(&rt, &mut q, 2) == Some(1), "the second send");
-    holds(&rt, post_send(&rt, &mut q, 3).is_none(), "a third send");
+}
+
+#[test]
+fn a_new_queue_pair(rt: HostRuntime) {
+    let mut q = created(&rt, rt.alloc());
+    is_of_the_tests(&rt, &q, 1);
+    is_at_start(&rt, &q, 0);
+    has_empty_queues(&rt, &mut q);
 }
 
 #[test]
@@ -190,12 +200,7 @@ fn busy(rt: &impl Abort, q: &mut QueuePart) {
 fn busy_queue(rt: &impl Abort, q: &mut QueuePart, config: &Config) {
     q.requester.timers = 5;
     change(rt, q, config, &Change::Init);
-    requester_is(
-        rt,
-        &q.requester,
-        &[BASE, BASE, 0, BASE, 0, 0, 0, 0, 5, 0, 0, 0],
-        "in Init",
-    );
+    is_at_start(rt, q, 5);
     holds(rt, post_receive(rt, q, 1) == Some(0), "a receive");
     holds(rt, post_receive(rt, q, 2) == Some(1), "another receive");
     change(rt, q, config, &TO_RTR);
@@ -249,46 +254,9 @@ fn reset_empties_queues_and_numbers(rt: HostRuntime) {
     let mut q = created(&rt, rt.alloc());
     busy_queue(&rt, &mut q, &config);
     change(&rt, &mut q, &config, &Change::Reset);
-    holds(&rt, q.incarnation == 2, "the next incarnation");
-    peer_is(&rt, &q, false, "no peer after Reset");
-    requester_is(
-        &rt,
-        &q.requester,
-        &[BASE, BASE, 0, BASE, 0, 0, 0, 0, 5, 0, 0, 0],
-        "the requester after Reset",
-    );
-    responder_is(
-        &rt,
-        &q,
-        &[BASE, 0, 0, 0, 0, 256, 0],
-        "the responder after Reset",
-    );
-    holds(
-        &rt,
-        q.saved.find(BASE + 5).is_none(),
-        "no saved results after Reset",
-    );
-    holds(
-        &rt,
-        q.sends.occupied() == 0 && take_receive(&mut q).is_none(),
-        "empty queues",
-    );
-    holds(
-        &rt,
-        post_send(&rt, &mut q, 1) == Some(0),
-        "places begin anew",
-    );
-    holds(&rt, post_send(&rt, &mut q, 2) == Some(1), "the depth stays");
-    holds(
-        &rt,
-        post_send(&rt, &mut q, 3).is_none(),
-        "no more than before",
-    );
-    holds(
-        &rt,
-        post_receive(&rt, &mut q, 1) == Some(0),
-        "places of receives begin anew",
-    );
+    is_of_the_tests(&rt, &q, 2);
+    is_at_start(&rt, &q, 5);
+    has_empty_queues(&rt, &mut q);
 }
 
 #[test]
