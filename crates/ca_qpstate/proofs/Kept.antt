@@ -19,7 +19,8 @@ all-fail : {R : Type 0} (ts : List (Bool × R)) → first_of ts ≡ None → All
 all-fail [] e = tt
 all-fail (t ∷ ts) e = by t.0 refl e (all-fail ts)
   where
-    by : (b : Bool) → t.0 ≡ b → (if b then Some t.1 else first_of ts) ≡ None → (first_of ts ≡ None → AllFail ts) → (t.0 ≡ false) × AllFail ts
+    by : (b : Bool) → t.0 ≡ b → (if b then Some t.1 else first_of ts) ≡ None → (first_of ts ≡ None → AllFail ts)
+        → (t.0 ≡ false) × AllFail ts
     by true is none rest = absurd (cc)
     by false is none rest = (is, rest none)
 
@@ -70,7 +71,8 @@ of-sqd states.Sqd q is h = h
 of-sqd states.Error q is h = absurd (cc)
 
 -- the receives of its own, where all are taken, and where they are emptied
-receives-taken : (srq : Option ℕ) (receives : Option (WorkQueue RecvRequest)) → HasReceives srq receives → HasReceives srq (option_map with_all_taken receives)
+receives-taken : (srq : Option ℕ) (receives : Option (WorkQueue RecvRequest)) → HasReceives srq receives
+    → HasReceives srq (option_map with_all_taken receives)
 receives-taken None None h = absurd h
 receives-taken None (Some r) h = record {
   queue = record { depth = h.queue.depth; fits = h.queue.fits };
@@ -84,7 +86,8 @@ none-waiting : (receives : Option (WorkQueue RecvRequest)) → HasNoneWaiting (o
 none-waiting None = tt
 none-waiting (Some r) = refl
 
-receives-emptied : (srq : Option ℕ) (receives : Option (WorkQueue RecvRequest)) → HasReceives srq receives → HasReceives srq (option_map (λ r. empty_queue r.depth) receives)
+receives-emptied : (srq : Option ℕ) (receives : Option (WorkQueue RecvRequest)) → HasReceives srq receives
+    → HasReceives srq (option_map (λ r. empty_queue r.depth) receives)
 receives-emptied None None h = absurd h
 receives-emptied None (Some r) h = record {
   queue = record { depth = h.queue.depth; fits = omega arith };
@@ -94,7 +97,8 @@ receives-emptied None (Some r) h = record {
 receives-emptied (Some srq) None h = tt
 receives-emptied (Some srq) (Some r) h = absurd h
 
-empty-receives : (receives : Option (WorkQueue RecvRequest)) → HasEmptyReceives (option_map (λ r. empty_queue r.depth) receives)
+empty-receives : (receives : Option (WorkQueue RecvRequest))
+    → HasEmptyReceives (option_map (λ r. empty_queue r.depth) receives)
 empty-receives None = tt
 empty-receives (Some r) = refl
 

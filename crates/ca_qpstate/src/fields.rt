@@ -1,11 +1,12 @@
 ghost use Rattle.std.specs.Prelude.{◌≡◌, ◌<◌, ◌≤◌, ◌^◌, ◌/◌, ◌%◌, ◌-◌, ◌&&◌, nat_lt, IsTrue, IfNone};
-ghost use Rattle.ca_base.specs.Configuration.{Configuration, configuration_of};
-ghost use Rattle.ca_base.specs.Refusals.{first_of};
+ghost use Rattle.ca_base.specs.Configuration.{configuration_of};
 ghost use Rattle.ca_base.specs.objects.Slices as slices;
 ghost use Rattle.ca_base.specs.objects.StateTable as table;
+ghost use Rattle.ca_base.specs.declared.config.Config.{Config};
 ghost use Rattle.ca_base.specs.declared.names.QueueId.{QueueId};
 ghost use Rattle.ca_base.specs.declared.change.Change.TheVariants as changes;
 ghost use Rattle.ca_qpstate.specs.ComesUp.{NamesPeer};
+ghost use Rattle.ca_qpstate.specs.Fields.{refusal_of_fields};
 
 use crate::at_start::PSN_COUNT;
 use ca_base::limits::{MAX_READS, MAX_RETRY, MAX_RNR_CODE};
@@ -52,7 +53,7 @@ fn rtr_refusal(
     mtu: u16,
     rnr_code: u8,
 ) -> Option<ModifyRefusal>
-    ensures first { result ≡ first_of (table.field_refusals (configuration_of config.now) queue (changes.Rtr peer incarnation psn mtu rnr_code)) }
+    ensures first { result ≡ refusal_of_fields config.now queue (changes.Rtr peer incarnation psn mtu rnr_code) }
     ensures narrow { IfNone result (peer.number < 2 ^ 24) }
 {
     if !has_queue(config, peer) || peer == queue {
@@ -72,7 +73,7 @@ fn rtr_refusal(
 
 /// The first field of a change to Ready to Send that is out of its range.
 fn rts_refusal(psn: u32, retry: u8, rnr_retry: u8, reads: u8) -> Option<ModifyRefusal>
-    ensures { (c : Configuration) → (queue : QueueId) → result ≡ first_of (table.field_refusals c queue (changes.Rts psn retry rnr_retry reads)) }
+    ensures { (c : Config) → (q : QueueId) → result ≡ refusal_of_fields c q (changes.Rts psn retry rnr_retry reads) }
 {
     if psn >= PSN_COUNT {
         Some(ModifyRefusal::OutOfRange(Field::Psn))
@@ -89,7 +90,7 @@ fn rts_refusal(psn: u32, retry: u8, rnr_retry: u8, reads: u8) -> Option<ModifyRe
 
 /// The first field of a change that is out of its range.
 pub fn field_refusal(config: &Config, queue: QueueId, change: &Change) -> Option<ModifyRefusal>
-    ensures first { result ≡ first_of (table.field_refusals (configuration_of config.now) queue change.now) }
+    ensures first { result ≡ refusal_of_fields config.now queue change.now }
     ensures peer { IfNone result (NamesPeer change.now) }
 {
     match *change {

@@ -63,8 +63,10 @@ impl QueuePart {
         recv_depth: u16,
         srq: Option<u16>,
     ) -> Result<QueuePart, Memory>
-        ensures value { IfOk result (λ q. queue_of q ≡ objects.queue_at_start queue domain incarnation 0 send_cq recv_cq send_depth recv_depth srq) }
-        ensures comes_up { IsOfDomain queue domain → 0 < incarnation → AreDepths send_depth recv_depth srq → IfOk result (λ q. IsQueue (queue_of q)) }
+        ensures value { IfOk result (λ q. queue_of q
+            ≡ objects.queue_at_start queue domain incarnation 0 send_cq recv_cq send_depth recv_depth srq) }
+        ensures comes_up { IsOfDomain queue domain → 0 < incarnation → AreDepths send_depth recv_depth srq
+            → IfOk result (λ q. IsQueue (queue_of q)) }
     {
         Ok(QueuePart {
             queue,
