@@ -38,6 +38,7 @@ pub struct QueuePart {
     pub saved: Box<Saved>,
     /// How many type 2 windows are bound to it.
     pub windows: WindowCount,
+    /// Where its response queue takes its memory.
     alloc: Global,
 }
 

@@ -1,7 +1,7 @@
 use super::{DOMAIN, PEER, QUEUE, TO_RTR, TO_RTS, change, config, created};
 use arrayvec::ArrayVec;
 use ca_base::{Config, Key, Message, Queued, RecvRequest, RequesterNumbers, SendOp, SendRequest};
-use ca_qpstate::{Change, PostedSend, QueuePart};
+use ca_qpstate::{Change, PostedSend, QueuePart, State};
 use std::process::Abort;
 
 /// The first PSN 0.
@@ -246,6 +246,44 @@ fn error_flushes_what_is_posted(rt: HostRuntime) {
     );
     holds(&rt, take_receive(&mut q).is_none(), "no receive waits");
     holds(&rt, q.saved.find(BASE + 5) == Some(6), "saved results stay");
+}
+
+#[test]
+fn a_move_to_error_keeps_the_response_queue(rt: HostRuntime) {
+    let config = config(&rt);
+    let mut q = created(&rt, rt.alloc());
+    busy_queue(&rt, &mut q, &config);
+    q.flush();
+    responder_is(
+        &rt,
+        &q,
+        &[0x112_345F, 8, 0, 1, 1, 1024, 12],
+        "the responder after a flush",
+    );
+    holds(
+        &rt,
+        matches!(q.state, State::Rts),
+        "a flush keeps the state",
+    );
+    q.move_to_error();
+    holds(
+        &rt,
+        matches!(q.state, State::Error),
+        "the state after the move",
+    );
+    responder_is(
+        &rt,
+        &q,
+        &[0x112_345F, 8, 0, 1, 1, 1024, 12],
+        "the responder after the move",
+    );
+    q.empty_answers();
+    responder_is(
+        &rt,
+        &q,
+        &[0x112_345F, 8, 0, 0, 1, 1024, 12],
+        "the responder without answers",
+    );
 }
 
 #[test]
