@@ -1,5 +1,5 @@
 -- A change that is not refused makes of a queue pair that can come up another that can. For proofs only.
-use Rattle.std.proofs.Common.{◌≡◌, ℕ, Bool, true, false, not, if◌then◌else◌, List, [], ◌∷◌, Option, None, Some, refl, ap, arith, rules}
+use Rattle.std.proofs.Common.{◌≡◌, ℕ, suc, zero, Bool, true, false, not, if◌then◌else◌, List, [], ◌∷◌, Option, None, Some, refl, sym, ◌∙◌, ap, subst, arith, rules}
 use Rattle.std.specs.Option.{option_map}
 use Rattle.ca_base.specs.declared.change.Change.{Change}
 use Rattle.ca_base.specs.declared.change.Change.TheVariants as changes
@@ -10,9 +10,9 @@ use Rattle.ca_base.specs.declared.request.RecvRequest.{RecvRequest}
 use Rattle.ca_base.specs.Configuration.{Configuration}
 use Rattle.ca_base.specs.Refusals.{first_of, AllFail}
 use Rattle.ca_base.specs.objects.QueuePair.{QueuePair}
-use Rattle.ca_base.specs.objects.StateTable.{is_among, modify_refusals, queue_after_change}
+use Rattle.ca_base.specs.objects.StateTable.{is_among, state_number, modify_refusals, queue_after_change}
 use Rattle.ca_base.specs.objects.WorkQueue.{WorkQueue, empty_queue, with_all_taken}
-use Rattle.ca_qpstate.specs.ComesUp.{HasEmptyReceives, HasNoneWaiting, HasReceives, IsOfState, IsQueue, IsReadyToReceive, IsReadyToSend, IsUnnamed, NamesPeer}
+use Rattle.ca_qpstate.specs.ComesUp.{HasEmptyReceives, HasNoneWaiting, HasReceives, IsOfState, IsQueue, NamesPeer}
 
 -- where nothing refuses, each test fails
 all-fail : {R : Type 0} (ts : List (Bool × R)) → first_of ts ≡ None → AllFail ts
@@ -29,46 +29,29 @@ holds : (b : Bool) → not b ≡ false → b ≡ true
 holds true is = refl
 holds false is = cc
 
--- from one state alone
-of-reset : (s : State) (q : QueuePair) → is_among (states.Reset ∷ []) s ≡ true → IsOfState s q → IsUnnamed q
-of-reset states.Reset q is h = h.0
-of-reset states.Init q is h = absurd (cc)
-of-reset states.Rtr q is h = absurd (cc)
-of-reset states.Rts q is h = absurd (cc)
-of-reset states.Sqd q is h = absurd (cc)
-of-reset states.Error q is h = absurd (cc)
+-- the state of a number
+abbrev state_of : ℕ → State
+state_of zero = states.Reset
+state_of (suc zero) = states.Init
+state_of (suc (suc zero)) = states.Rtr
+state_of (suc (suc (suc zero))) = states.Rts
+state_of (suc (suc (suc (suc zero)))) = states.Sqd
+state_of (suc (suc (suc (suc (suc n))))) = states.Error
 
-of-init : (s : State) (q : QueuePair) → is_among (states.Init ∷ []) s ≡ true → IsOfState s q → IsUnnamed q
-of-init states.Reset q is h = absurd (cc)
-of-init states.Init q is h = h
-of-init states.Rtr q is h = absurd (cc)
-of-init states.Rts q is h = absurd (cc)
-of-init states.Sqd q is h = absurd (cc)
-of-init states.Error q is h = absurd (cc)
+state_of-state_number : (s : State) → state_of (state_number s) ≡ s
+state_of-state_number states.Reset = refl
+state_of-state_number states.Init = refl
+state_of-state_number states.Rtr = refl
+state_of-state_number states.Rts = refl
+state_of-state_number states.Sqd = refl
+state_of-state_number states.Error = refl
 
-of-rtr : (s : State) (q : QueuePair) → is_among (states.Rtr ∷ []) s ≡ true → IsOfState s q → IsReadyToReceive q
-of-rtr states.Reset q is h = absurd (cc)
-of-rtr states.Init q is h = absurd (cc)
-of-rtr states.Rtr q is h = h
-of-rtr states.Rts q is h = absurd (cc)
-of-rtr states.Sqd q is h = absurd (cc)
-of-rtr states.Error q is h = absurd (cc)
-
-of-rts : (s : State) (q : QueuePair) → is_among (states.Rts ∷ []) s ≡ true → IsOfState s q → IsReadyToSend q
-of-rts states.Reset q is h = absurd (cc)
-of-rts states.Init q is h = absurd (cc)
-of-rts states.Rtr q is h = absurd (cc)
-of-rts states.Rts q is h = h
-of-rts states.Sqd q is h = absurd (cc)
-of-rts states.Error q is h = absurd (cc)
-
-of-sqd : (s : State) (q : QueuePair) → is_among (states.Sqd ∷ []) s ≡ true → IsOfState s q → IsReadyToSend q
-of-sqd states.Reset q is h = absurd (cc)
-of-sqd states.Init q is h = absurd (cc)
-of-sqd states.Rtr q is h = absurd (cc)
-of-sqd states.Rts q is h = absurd (cc)
-of-sqd states.Sqd q is h = h
-of-sqd states.Error q is h = absurd (cc)
+-- a change that is allowed from one state alone is made from there
+from-one : (t : State) (q : QueuePair) → not (is_among (t ∷ []) q.state) ≡ false → IsQueue q → IsOfState t q
+from-one t q allowed is =
+    let numbers : state_number q.state ≡ state_number t = grind (arith, holds _ allowed) in
+    let same : q.state ≡ t = sym (state_of-state_number q.state) ∙ ap state_of numbers ∙ state_of-state_number t in
+    subst (λ s. IsOfState s q) same is.state
 
 -- the receives of its own, where all are taken, and where they are emptied
 receives-taken : (srq : Option ℕ) (receives : Option (WorkQueue RecvRequest)) → HasReceives srq receives
@@ -102,54 +85,35 @@ empty-receives : (receives : Option (WorkQueue RecvRequest))
 empty-receives None = tt
 empty-receives (Some r) = refl
 
+-- a change of the state alone
+comes-up-in : (s : State) (q : QueuePair) → IsOfState s (record q { state = s }) → IsQueue q → IsQueue (record q { state = s })
+comes-up-in s q of is = record {
+  own = is.own;
+  incarnation = is.incarnation;
+  sends = is.sends;
+  receives = is.receives;
+  peer = is.peer;
+  requester = is.requester;
+  responder = is.responder;
+  windows = is.windows;
+  state = of;
+}
+
 -- a change that is not refused
 pub comes-up-after : (c : Configuration) (change : Change) (q : QueuePair) → first_of (modify_refusals c q change) ≡ None
     → NamesPeer change → IsQueue q → IsQueue (queue_after_change change q)
 comes-up-after c changes.Init q none peer is =
     let fails = all-fail (modify_refusals c q changes.Init) none in
-    record {
-      own = is.own;
-      incarnation = is.incarnation;
-      sends = is.sends;
-      receives = is.receives;
-      peer = is.peer;
-      requester = is.requester;
-      responder = is.responder;
-      windows = is.windows;
-      state =
-          let before = of-reset q.state q (holds _ fails.0) is.state in
-          record { peer = before.peer; sent = before.sent; took = before.took };
-    }
+    let before = from-one states.Reset q fails.0 is in
+    comes-up-in states.Init q (record { peer = before.0.peer; sent = before.0.sent; took = before.0.took }) is
 comes-up-after c changes.Sqd q none peer is =
     let fails = all-fail (modify_refusals c q changes.Sqd) none in
-    record {
-      own = is.own;
-      incarnation = is.incarnation;
-      sends = is.sends;
-      receives = is.receives;
-      peer = is.peer;
-      requester = is.requester;
-      responder = is.responder;
-      windows = is.windows;
-      state =
-          let before = of-rts q.state q (holds _ fails.0) is.state in
-          record { peer = before.peer; retries = before.retries };
-    }
+    let before = from-one states.Rts q fails.0 is in
+    comes-up-in states.Sqd q (record { peer = before.peer; retries = before.retries }) is
 comes-up-after c changes.Resume q none peer is =
     let fails = all-fail (modify_refusals c q changes.Resume) none in
-    record {
-      own = is.own;
-      incarnation = is.incarnation;
-      sends = is.sends;
-      receives = is.receives;
-      peer = is.peer;
-      requester = is.requester;
-      responder = is.responder;
-      windows = is.windows;
-      state =
-          let before = of-sqd q.state q (holds _ fails.0) is.state in
-          record { peer = before.peer; retries = before.retries };
-    }
+    let before = from-one states.Sqd q fails.0 is in
+    comes-up-in states.Rts q (record { peer = before.peer; retries = before.retries }) is
 comes-up-after c (changes.Rtr peer incarnation psn mtu rnr_code) q none named is =
     let fails = all-fail (modify_refusals c q (changes.Rtr peer incarnation psn mtu rnr_code)) none in
     record {
@@ -168,12 +132,12 @@ comes-up-after c (changes.Rtr peer incarnation psn mtu rnr_code) q none named is
       };
       windows = is.windows;
       state =
-          let before = of-init q.state q (holds _ fails.0) is.state in
+          let before = from-one states.Init q fails.0 is in
           record { peer = search rules; sent = before.sent };
     }
 comes-up-after c (changes.Rts psn retry rnr_retry reads) q none named is =
     let fails = all-fail (modify_refusals c q (changes.Rts psn retry rnr_retry reads)) none in
-    let before = of-rtr q.state q (holds _ fails.0) is.state in
+    let before = from-one states.Rtr q fails.0 is in
     let unused : q.requester.retries ≡ 0 = ap (λ (r : RequesterNumbers). r.retries) before.sent.requester in
     record {
       own = is.own;
