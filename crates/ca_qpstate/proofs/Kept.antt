@@ -1,89 +1,17 @@
 -- A change that is not refused makes of a queue pair that can come up another that can. For proofs only.
-use Rattle.std.proofs.Common.{◌≡◌, ℕ, suc, zero, Bool, true, false, not, if◌then◌else◌, List, [], ◌∷◌, Option, None, Some, refl, sym, ◌∙◌, ap, subst, arith, rules}
-use Rattle.std.specs.Option.{option_map}
+use Rattle.std.proofs.Common.{◌≡◌, None, refl, ap, arith, rules}
 use Rattle.ca_base.specs.declared.change.Change.{Change}
 use Rattle.ca_base.specs.declared.change.Change.TheVariants as changes
 use Rattle.ca_base.specs.declared.change.State.{State}
 use Rattle.ca_base.specs.declared.change.State.TheVariants as states
 use Rattle.ca_base.specs.declared.queue_numbers.RequesterNumbers.{RequesterNumbers}
-use Rattle.ca_base.specs.declared.request.RecvRequest.{RecvRequest}
 use Rattle.ca_base.specs.Configuration.{Configuration}
-use Rattle.ca_base.specs.Refusals.{first_of, AllFail}
+use Rattle.ca_base.specs.Refusals.{first_of}
 use Rattle.ca_base.specs.objects.QueuePair.{QueuePair}
-use Rattle.ca_base.specs.objects.StateTable.{is_among, state_number, modify_refusals, queue_after_change}
-use Rattle.ca_base.specs.objects.WorkQueue.{WorkQueue, empty_queue, with_all_taken}
-use Rattle.ca_qpstate.specs.ComesUp.{HasEmptyReceives, HasNoneWaiting, HasReceives, IsOfState, IsQueue, NamesPeer}
-
--- where nothing refuses, each test fails
-all-fail : {R : Type 0} (ts : List (Bool × R)) → first_of ts ≡ None → AllFail ts
-all-fail [] e = tt
-all-fail (t ∷ ts) e = by t.0 refl e (all-fail ts)
-  where
-    by : (b : Bool) → t.0 ≡ b → (if b then Some t.1 else first_of ts) ≡ None → (first_of ts ≡ None → AllFail ts)
-        → (t.0 ≡ false) × AllFail ts
-    by true is none rest = absurd (cc)
-    by false is none rest = (is, rest none)
-
--- a test that does not fail to hold, holds
-holds : (b : Bool) → not b ≡ false → b ≡ true
-holds true is = refl
-holds false is = cc
-
--- the state of a number
-abbrev state_of : ℕ → State
-state_of zero = states.Reset
-state_of (suc zero) = states.Init
-state_of (suc (suc zero)) = states.Rtr
-state_of (suc (suc (suc zero))) = states.Rts
-state_of (suc (suc (suc (suc zero)))) = states.Sqd
-state_of (suc (suc (suc (suc (suc n))))) = states.Error
-
-state_of-state_number : (s : State) → state_of (state_number s) ≡ s
-state_of-state_number states.Reset = refl
-state_of-state_number states.Init = refl
-state_of-state_number states.Rtr = refl
-state_of-state_number states.Rts = refl
-state_of-state_number states.Sqd = refl
-state_of-state_number states.Error = refl
-
--- a change that is allowed from one state alone is made from there
-from-one : (t : State) (q : QueuePair) → not (is_among (t ∷ []) q.state) ≡ false → IsQueue q → IsOfState t q
-from-one t q allowed is =
-    let numbers : state_number q.state ≡ state_number t = grind (arith, holds _ allowed) in
-    let same : q.state ≡ t = sym (state_of-state_number q.state) ∙ ap state_of numbers ∙ state_of-state_number t in
-    subst (λ s. IsOfState s q) same is.state
-
--- the receives of its own, where all are taken, and where they are emptied
-receives-taken : (srq : Option ℕ) (receives : Option (WorkQueue RecvRequest)) → HasReceives srq receives
-    → HasReceives srq (option_map with_all_taken receives)
-receives-taken None None h = absurd h
-receives-taken None (Some r) h = record {
-  queue = record { depth = h.queue.depth; fits = h.queue.fits };
-  freed = omega arith;
-  taken = omega arith;
-}
-receives-taken (Some srq) None h = tt
-receives-taken (Some srq) (Some r) h = absurd h
-
-none-waiting : (receives : Option (WorkQueue RecvRequest)) → HasNoneWaiting (option_map with_all_taken receives)
-none-waiting None = tt
-none-waiting (Some r) = refl
-
-receives-emptied : (srq : Option ℕ) (receives : Option (WorkQueue RecvRequest)) → HasReceives srq receives
-    → HasReceives srq (option_map (λ r. empty_queue r.depth) receives)
-receives-emptied None None h = absurd h
-receives-emptied None (Some r) h = record {
-  queue = record { depth = h.queue.depth; fits = omega arith };
-  freed = omega arith;
-  taken = omega arith;
-}
-receives-emptied (Some srq) None h = tt
-receives-emptied (Some srq) (Some r) h = absurd h
-
-empty-receives : (receives : Option (WorkQueue RecvRequest))
-    → HasEmptyReceives (option_map (λ r. empty_queue r.depth) receives)
-empty-receives None = tt
-empty-receives (Some r) = refl
+use Rattle.ca_base.specs.objects.StateTable.{modify_refusals, queue_after_change}
+use Rattle.ca_qpstate.proofs.Allowed.{all-fail, from-one, holds}
+use Rattle.ca_qpstate.proofs.Received.{empty-receives, none-waiting, receives-emptied, receives-taken}
+use Rattle.ca_qpstate.specs.ComesUp.{IsOfState, IsQueue, NamesPeer}
 
 -- a change of the state alone
 comes-up-in : (s : State) (q : QueuePair) → IsOfState s (record q { state = s }) → IsQueue q → IsQueue (record q { state = s })

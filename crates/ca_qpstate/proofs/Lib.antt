@@ -1,1 +1,3 @@
+mod Allowed
+mod Received
 mod Kept
