@@ -50,9 +50,9 @@ use Rattle.ca_model.specs.machine.Sound.{AreLimited, AreSettled, IsQueueOf, IsSe
 use Rattle.ca_laws.proofs.EventLemmas.{unchanged}
 use Rattle.ca_laws.proofs.EngineLemmas.{ends-unless, queue-change, turn-change}
 use Rattle.ca_laws.proofs.GoodLemmas.{AreSettledMarks, IsLater, error-later, error-queue, flush-settled, later-on, later-same, settled-later, silent-later, silent-queue, taken-same}
-use Rattle.ca_laws.proofs.ObjectLemmas.{drawn-window, emptied-mailbox, named-mailbox, object-added, object-removed, post-receive, retire-receives}
+use Rattle.ca_laws.proofs.ObjectLemmas.{depth-parts, drawn-window, emptied-mailbox, named-mailbox, object-added, object-removed, post-receive, retire-receives}
 use Rattle.ca_laws.proofs.SettledLemmas.{AllWait, cq-settled, emptied-settled, emptied-waits, made-settled, puts-settled, queue-settled}
-use Rattle.ca_laws.proofs.VerbLemmas.{IsFlushed, changed-queue, flushed, made-queue, posted-receive, posted-send, receive-later, send-later}
+use Rattle.ca_laws.proofs.VerbLemmas.{IsFlushed, changed-queue, flushed, made-queue, named-peer, posted-receive, posted-send, receive-later, send-later}
 use Rattle.ca_laws.proofs.WorldLemmas.{AreQuiet, EndsIn, IsGoodChange, IsSoundShared, IsThere, around_in, cq-sound, ends-around, is-there, quiet-good, quiet-settled, quiet-sound, shared_of, sound-shared, srq-quiet}
 
 -- looking for the queue pair that a verb names
@@ -283,7 +283,7 @@ pub ends-modify_qp : (c : Configuration) (w : World) (call : Call) (s : Slot) (c
 ends-modify_qp c w call s change sound few = ends-present c w call s _ sound (λ q there.
     ends-around w (IsGoodChange c w) q (λ a. Unless_plan call (of_change_refusals (modify_refusals c q change)) (plan q a change))
     (ends-unless w (IsGoodChange c w) (of_change_refusals (modify_refusals c q change)) (Refuse_plan call) (plan q (around_in w q (shared_of w q)) change) (λ r. unchanged c w sound)
-    (λ fails. by q there change (changed-queue c change q few there.sound (change-fails c q change fails)))))
+    (λ fails. by q there change (changed-queue c change q (named-peer c change q few (change-fails c q change fails)) there.sound (change-fails c q change fails)))))
   where
     updates : QueuePair → Around → state_change.Change → List Update
     updates q a changes.Error = cq_updates q a (flush_marks q)
@@ -534,7 +534,7 @@ ends-create_qp c w call x sound few = (
         by (Some srq) = more (Some (w.srq (beside x.slot srq))) (sound.things (Srq_of (beside x.slot srq)))
 
     new-sound : (s : QueueSlot) → (is_no_depth x.send_depth ≡ false) × (x.srq ≡ None → is_no_depth x.recv_depth ≡ false) → IsQueueOf queue (Present (new_queue x s))
-    new-sound s depths = (refl, slot-domain x.slot few, made-queue queue x.slot.domain (suc (incarnation_of s)) (timers_of s) x.send_cq x.recv_cq x.send_depth x.recv_depth x.srq depths.0 depths.1)
+    new-sound s depths = (refl, slot-domain x.slot few, made-queue queue x.slot.domain (suc (incarnation_of s)) (timers_of s) x.send_cq x.recv_cq x.send_depth x.recv_depth x.srq (depth-parts x.send_depth depths.0) (λ none. depth-parts x.recv_depth (depths.1 none)))
 
     cqs : not (w.domain x.slot.domain).allocated ≡ false → IsVacant → (shared : Option SrqSlot) → IsSoundShared shared
         → (send : Option CompletionQueue) → w.cq (beside x.slot x.send_cq) ≡ send → (recv : Option CompletionQueue) → w.cq (beside x.slot x.recv_cq) ≡ recv

@@ -25,15 +25,14 @@ use Rattle.ca_base.specs.objects.Slices.{adapter_at, has_domain, has_queue, has_
 use Rattle.ca_base.specs.objects.StateTable.{is_among, is_path_mtu, modify_refusals, queue_after_change, state_eq}
 use Rattle.ca_base.specs.objects.WorkQueue.{WorkQueue, after_retire, empty_queue, is_full, items_from, next_place, with_item}
 use Rattle.ca_model.specs.Requests.{psns_of}
-use Rattle.ca_model.specs.machine.CompletionVerbs.{after_poll, is_no_depth}
+use Rattle.ca_model.specs.machine.CompletionVerbs.{after_poll}
 use Rattle.ca_model.specs.machine.Completions.{flush_marks}
 use Rattle.ca_model.specs.machine.Numbering.{numbers_of}
 use Rattle.ca_model.specs.machine.PostingVerbs.{after_flush, marks_of_flush, with_send}
-use Rattle.ca_model.specs.machine.Invariants.{IsAnswer, IsQueue, IsReceive, IsReceives, IsRequester, IsResponder, IsSend, IsTaken, IsWorkQueue, begun_end, is_connected, is_fresh, is_idle, is_sending}
+use Rattle.ca_model.specs.machine.Invariants.{IsAnswer, IsQueue, IsReceive, IsReceives, IsRequester, IsResponder, IsSend, IsTaken, IsWorkQueue, NamesPeer, begun_end, is_connected, is_fresh, is_idle, is_sending}
 use Rattle.ca_model.specs.machine.Sound.{AreLimited, IsFinished}
 use Rattle.ca_laws.proofs.GoodLemmas.{AreSettledMarks, IsLater, IsTakenOn, error-later, error-queue, finished-later, flush-settled, items-end, later-on, later-same, none-taken, settled-later, silent-queue, taken-same}
 use Rattle.ca_laws.proofs.NumberingLemmas.{count_sum}
-use Rattle.ca_laws.proofs.ObjectLemmas.{depth-parts}
 use Rattle.ca_laws.proofs.SettledLemmas.{all-map}
 
 -- numbers of more requests begin with those of the first
@@ -434,15 +433,15 @@ reset-queue q s = started-queue (after_reset q) (depth-queue IsSend q.sends.dept
 
 -- a new queue pair
 pub made-queue : (queue : QueueId) (domain : DomainId) (incarnation timers send_cq recv_cq send_depth recv_depth : ℕ) (srq : Option ℕ)
-    → is_no_depth send_depth ≡ false → (srq ≡ None → is_no_depth recv_depth ≡ false)
+    → (0 < send_depth) × (send_depth ≤ MAX_DEPTH) → (srq ≡ None → (0 < recv_depth) × (recv_depth ≤ MAX_DEPTH))
     → IsQueue (queue_at_start queue domain incarnation timers send_cq recv_cq send_depth recv_depth srq)
 made-queue queue domain incarnation timers send_cq recv_cq send_depth recv_depth (Some srq) sends receives =
     started-queue (queue_at_start queue domain incarnation timers send_cq recv_cq send_depth recv_depth (Some srq))
-    (depth-queue IsSend send_depth (depth-parts send_depth sends).0 (depth-parts send_depth sends).1) refl (record {}) refl timers refl refl refl refl refl
+    (depth-queue IsSend send_depth sends.0 sends.1) refl (record {}) refl timers refl refl refl refl refl
 made-queue queue domain incarnation timers send_cq recv_cq send_depth recv_depth None sends receives =
     started-queue (queue_at_start queue domain incarnation timers send_cq recv_cq send_depth recv_depth None)
-    (depth-queue IsSend send_depth (depth-parts send_depth sends).0 (depth-parts send_depth sends).1) refl
-    (record { queue = depth-queue IsReceive recv_depth (depth-parts recv_depth (receives refl)).0 (depth-parts recv_depth (receives refl)).1; taken = omega arith; waiting = omega arith })
+    (depth-queue IsSend send_depth sends.0 sends.1) refl
+    (record { queue = depth-queue IsReceive recv_depth (receives refl).0 (receives refl).1; taken = omega arith; waiting = omega arith })
     refl timers refl refl refl refl refl
 
 -- another state in which the same numbers are sound
@@ -555,14 +554,14 @@ rts-queue q psn retry rnr_retry reads s is few few_rnrs few_reads = record {
 }
 
 -- a change that nothing refuses leaves a queue pair that can come up
-pub changed-queue : (c : Configuration) (change : Change) (q : QueuePair) → AreLimited c → IsQueue q → AllFail (modify_refusals c q change) → IsQueue (queue_after_change change q)
+pub changed-queue : (c : Configuration) (change : Change) (q : QueuePair) → NamesPeer change → IsQueue q → AllFail (modify_refusals c q change)
+    → IsQueue (queue_after_change change q)
 changed-queue c changes.Init q few s fails = state-queue q states.Init s (λ e. absurd (true≢false (sym e))) (λ e. ap is_fresh is) (λ e. ap is_idle is) (λ e. absurd (true≢false (sym e)))
   where
     is : q.state ≡ states.Reset
     is = among-reset q.state (not-false (is_among (states.Reset ∷ []) q.state) fails.0)
-changed-queue c (changes.Rtr peer incarnation psn mtu rnr_code) q few s fails =
-    rtr-queue q peer incarnation psn mtu rnr_code s (among-init q.state (not-false (is_among (states.Init ∷ []) q.state) fails.0))
-    (queue-number c peer few (not-false (has_queue c peer) (or_parts (not (has_queue c peer)) (queue_eq peer q.queue) fails.1.0).0))
+changed-queue c (changes.Rtr peer incarnation psn mtu rnr_code) q number s fails =
+    rtr-queue q peer incarnation psn mtu rnr_code s (among-init q.state (not-false (is_among (states.Init ∷ []) q.state) fails.0)) number
     (not-false (is_path_mtu mtu) fails.1.1.1.1.0) (ltb-false MAX_RNR_CODE rnr_code fails.1.1.1.1.1.0)
 changed-queue c (changes.Rts psn retry rnr_retry reads) q few s fails =
     rts-queue q psn retry rnr_retry reads s (among-rtr q.state (not-false (is_among (states.Rtr ∷ []) q.state) fails.0))
@@ -578,3 +577,14 @@ changed-queue c changes.Resume q few s fails = state-queue q states.Rts s (λ e.
     is = among-sqd q.state (not-false (is_among (states.Sqd ∷ []) q.state) fails.0)
 changed-queue c changes.Error q few s fails = silent-queue (in_error q) (error-queue q s)
 changed-queue c changes.Reset q few s fails = reset-queue q s
+
+-- in a configuration within its limits a change that nothing refuses names such a peer
+pub named-peer : (c : Configuration) (change : Change) (q : QueuePair) → AreLimited c → AllFail (modify_refusals c q change) → NamesPeer change
+named-peer c (changes.Rtr peer incarnation psn mtu rnr_code) q limited fails =
+    queue-number c peer limited (not-false (has_queue c peer) (or_parts (not (has_queue c peer)) (queue_eq peer q.queue) fails.1.0).0)
+named-peer c changes.Init q limited fails = record {}
+named-peer c (changes.Rts psn retry rnr_retry reads) q limited fails = record {}
+named-peer c changes.Sqd q limited fails = record {}
+named-peer c changes.Resume q limited fails = record {}
+named-peer c changes.Error q limited fails = record {}
+named-peer c changes.Reset q limited fails = record {}

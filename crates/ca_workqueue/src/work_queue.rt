@@ -30,7 +30,7 @@ impl<T> Model for WorkQueue<T> {
 
 impl<T> WorkQueue<T> {
     ghost use Rattle.std.specs.Prelude.{◌≡◌, ◌<◌, ◌≤◌, ◌^◌, ◌↔◌, suc, if◌then◌else◌, nat_lt, None, Some, IfOk, IfErr, OnErr, IsOk, IsTrue, not, option_copied};
-    ghost use Rattle.ca_base.specs.objects.WorkQueue.{empty_queue, next_place, is_full, occupied_count, with_item, item_at, waiting_count, after_take, after_retire};
+    ghost use Rattle.ca_base.specs.objects.WorkQueue.{empty_queue, next_place, is_full, occupied_count, with_item, item_at, waiting_count, after_take, with_all_taken};
 
     /// The empty queue of a depth, which is 1 to 256. `Memory` is its only refusal.
     pub fn create(alloc: Global, depth: u16) -> Result<WorkQueue<T>, Memory>
@@ -80,6 +80,20 @@ impl<T> WorkQueue<T> {
         self.requests.get((place - self.first) as usize)
     }
 
+    /// Takes all requests that wait. It takes no memory.
+    pub fn take_all(&mut self)
+        ensures { self.new ≡ with_all_taken self.old }
+    {
+        self.next_taken = self.first + self.requests.len() as u64;
+    }
+
+    /// The place of the next request to be posted. It takes no memory.
+    pub fn next_place(&self) -> u64
+        ensures { result ≡ next_place self.now }
+    {
+        self.first + self.requests.len() as u64
+    }
+
     /// How many requests wait to be taken, of a queue in which none was freed before it was taken. It takes no memory.
     pub fn waiting(&self) -> u16
         requires { self.now.first ≤ self.now.next_taken }
@@ -99,7 +113,7 @@ impl<T> WorkQueue<T> {
 
 impl<T: Drop> WorkQueue<T> {
     ghost use Rattle.std.specs.Prelude.{◌≡◌, ◌<◌};
-    ghost use Rattle.ca_base.specs.objects.WorkQueue.{next_place, after_retire};
+    ghost use Rattle.ca_base.specs.objects.WorkQueue.{empty_queue, next_place, after_retire};
 
     /// Frees all places up to this one, which is one that was posted. It takes no memory, and time by how many
     /// requests it frees.
@@ -113,5 +127,13 @@ impl<T: Drop> WorkQueue<T> {
         let left = self.first + self.requests.len() as u64 - (place + 1);
         self.requests.truncate_front(left as usize);
         self.first = place + 1;
+    }
+    /// The queue is as `create` made it: nothing was posted. It takes no memory.
+    pub fn reset(&mut self)
+        ensures { self.new ≡ empty_queue self.old.depth }
+    {
+        self.requests.clear();
+        self.first = 0;
+        self.next_taken = 0;
     }
 }

@@ -1,6 +1,8 @@
 -- What holds of each object that comes up under events: its numbers, its counts and its shapes. Contracts cite it.
 use Rattle.std.specs.Prelude.{◌≡◌, ℕ, suc, ◌+◌, ◌-◌, ◌*◌, ◌^◌, ◌≤◌, ◌<◌, Bool, true, false, List, [], ◌∷◌, length, Option, None, Some, IfSome, is_none, is_some}
 use Rattle.std.specs.List.{AllByRecursion, sum_by}
+use Rattle.ca_base.specs.declared.change.Change.{Change}
+use Rattle.ca_base.specs.declared.change.Change.TheVariants as changes
 use Rattle.ca_base.specs.declared.change.State.{State}
 use Rattle.ca_base.specs.declared.change.State.TheVariants as states
 use Rattle.ca_base.specs.declared.limits.TheConstants.{KEPT_ENVELOPES, MAX_CAPACITY, MAX_DEPTH, MAX_MESSAGE_BYTES, MAX_PIECES, MAX_READS, MAX_RETRY, MAX_RNR_CODE, MAX_UNDELIVERED, SAVED_RESULTS}
@@ -162,3 +164,8 @@ pub record IsWindow (w : Window) : Type 0 where
 -- a domain that is not allocated has no objects
 abbrev pub IsDomain : Domain → Type 0
 IsDomain d = d.allocated ≡ false → d.objects ≡ 0
+
+-- a peer that a change names has a number of 24 bits
+abbrev pub NamesPeer : Change → Type 0
+NamesPeer (changes.Rtr peer incarnation psn mtu rnr_code) = peer.number < 2 ^ 24
+NamesPeer change = Unit {0}

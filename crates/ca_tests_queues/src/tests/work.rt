@@ -36,6 +36,26 @@ fn a_full_queue_is_freed_up_to_a_later_place(rt: HostRuntime) -> Result<(), Fail
     Ok(())
 }
 
+#[test]
+fn all_that_wait_are_taken_and_a_reset_begins_anew(rt: HostRuntime) -> Result<(), Fail> {
+    let mut queue = WorkQueue::create(rt.alloc(), 2)?;
+    same(&rt, queue.next_place(), 0, "the place of the first post");
+    same(&rt, queue.post(10), Ok(0), "the first place");
+    same(&rt, queue.post(11), Ok(1), "the second place");
+    same(&rt, queue.next_place(), 2, "the place of the third post");
+    queue.take_all();
+    same(&rt, queue.take_next(), None, "none waits");
+    same(&rt, queue.occupied(), 2, "what was taken still occupies");
+    queue.retire(0);
+    queue.reset();
+    same(&rt, queue.occupied(), 0, "an empty queue");
+    same(&rt, queue.post(12), Ok(0), "places begin anew");
+    same(&rt, queue.post(13), Ok(1), "the depth stays");
+    same(&rt, queue.post(14), Err(14), "a full queue once more");
+    same(&rt, queue.take_next(), Some(0), "takes begin anew");
+    Ok(())
+}
+
 // A queue beside which a plain list of all that was ever posted stands.
 #[derive(Drop)]
 struct Plain {

@@ -1,0 +1,4 @@
+pub mod Seen
+pub mod ComesUp
+pub mod Start
+pub mod Fields

@@ -1,0 +1,112 @@
+ghost use Rattle.std.specs.Prelude.{◌≡◌, ◌<◌, ◌≤◌, ◌^◌, ◌/◌, ◌%◌, ◌-◌, ◌&&◌, nat_lt, IsTrue, IfNone};
+ghost use Rattle.ca_base.specs.Configuration.{configuration_of};
+ghost use Rattle.ca_base.specs.objects.Slices as slices;
+ghost use Rattle.ca_base.specs.objects.StateTable as table;
+ghost use Rattle.ca_base.specs.declared.config.Config.{Config};
+ghost use Rattle.ca_base.specs.declared.names.QueueId.{QueueId};
+ghost use Rattle.ca_base.specs.declared.change.Change.TheVariants as changes;
+ghost use Rattle.ca_model.specs.machine.Invariants.{NamesPeer};
+ghost use Rattle.ca_qpstate.specs.Fields.{refusal_of_fields};
+
+use crate::at_start::PSN_COUNT;
+use ca_base::limits::{MAX_READS, MAX_RETRY, MAX_RNR_CODE};
+use ca_base::{Change, Config, Field, ModifyRefusal, QueueId};
+
+/// Whether a queue pair's number, which is at least 256, is that of a slot of an adapter of so many domains, each with
+/// so many queue pairs. Such a number has 24 bits.
+fn names_slot(domains: u8, qps: u16, number: u32) -> bool
+    requires { 256 ≤ number }
+    ensures value { result ≡ (nat_lt (number / 256 - 1) domains && nat_lt (number % 256) qps) }
+    ensures narrow { IsTrue result → number < 2 ^ 24 }
+{
+    number / 256 - 1 < u32::from(domains) && number % 256 < u32::from(qps)
+}
+
+/// Whether a queue pair's number is that of a configured slot. Such a number has 24 bits.
+fn has_queue(config: &Config, queue: QueueId) -> bool
+    ensures value { result ≡ slices.has_queue (configuration_of config.now) queue }
+    ensures narrow { IsTrue result → queue.number < 2 ^ 24 }
+{
+    if queue.number < 256 {
+        return false;
+    }
+    match config.adapters.get(usize::from(queue.adapter)) {
+        None => false,
+        Some(adapter) => names_slot(adapter.domains, adapter.qps, queue.number),
+    }
+}
+
+/// Whether so many bytes are a path MTU.
+fn is_path_mtu(mtu: u16) -> bool
+    ensures { result ≡ table.is_path_mtu mtu }
+{
+    matches!(mtu, 256 | 512 | 1024 | 2048 | 4096)
+}
+
+/// The first field of a change to Ready to Receive that is out of its range.
+fn rtr_refusal(
+    config: &Config,
+    queue: QueueId,
+    peer: QueueId,
+    incarnation: u32,
+    psn: u32,
+    mtu: u16,
+    rnr_code: u8,
+) -> Option<ModifyRefusal>
+    ensures first { result ≡ refusal_of_fields config.now queue (changes.Rtr peer incarnation psn mtu rnr_code) }
+    ensures narrow { IfNone result (peer.number < 2 ^ 24) }
+{
+    if !has_queue(config, peer) || peer == queue {
+        Some(ModifyRefusal::OutOfRange(Field::Peer))
+    } else if incarnation == 0 {
+        Some(ModifyRefusal::OutOfRange(Field::Incarnation))
+    } else if psn >= PSN_COUNT {
+        Some(ModifyRefusal::OutOfRange(Field::Psn))
+    } else if !is_path_mtu(mtu) {
+        Some(ModifyRefusal::OutOfRange(Field::Mtu))
+    } else if rnr_code > MAX_RNR_CODE {
+        Some(ModifyRefusal::OutOfRange(Field::RnrCode))
+    } else {
+        None
+    }
+}
+
+/// The first field of a change to Ready to Send that is out of its range.
+fn rts_refusal(psn: u32, retry: u8, rnr_retry: u8, reads: u8) -> Option<ModifyRefusal>
+    ensures { (c : Config) → (q : QueueId) → result ≡ refusal_of_fields c q (changes.Rts psn retry rnr_retry reads) }
+{
+    if psn >= PSN_COUNT {
+        Some(ModifyRefusal::OutOfRange(Field::Psn))
+    } else if retry > MAX_RETRY {
+        Some(ModifyRefusal::OutOfRange(Field::Retry))
+    } else if rnr_retry > MAX_RETRY {
+        Some(ModifyRefusal::OutOfRange(Field::RnrRetry))
+    } else if reads == 0 || reads > MAX_READS {
+        Some(ModifyRefusal::OutOfRange(Field::Reads))
+    } else {
+        None
+    }
+}
+
+/// The first field of a change that is out of its range.
+pub fn field_refusal(config: &Config, queue: QueueId, change: &Change) -> Option<ModifyRefusal>
+    ensures first { result ≡ refusal_of_fields config.now queue change.now }
+    ensures peer { IfNone result (NamesPeer change.now) }
+{
+    match *change {
+        Change::Rtr {
+            peer,
+            incarnation,
+            psn,
+            mtu,
+            rnr_code,
+        } => rtr_refusal(config, queue, peer, incarnation, psn, mtu, rnr_code),
+        Change::Rts {
+            psn,
+            retry,
+            rnr_retry,
+            reads,
+        } => rts_refusal(psn, retry, rnr_retry, reads),
+        Change::Init | Change::Sqd | Change::Resume | Change::Error | Change::Reset => None,
+    }
+}
