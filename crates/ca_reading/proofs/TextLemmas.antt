@@ -176,4 +176,4 @@ pub text_is_one : (es fs : List EntryValue) → HistoryFits es → HistoryFits f
 text_is_one es fs h g e =
     let same : lines_text (history_lines es) ≡ lines_text (history_lines fs) = sym (history_text es h.history) ∙ e ∙ history_text fs g.history in
     let lines_same = lines_equal (history_lines es) (history_lines fs) (history_fits es h) (history_fits fs g) same in
-    sym (ap given (lines_run es h.history)) ∙ ap (λ (ls : List Line). given (run start ls)) lines_same ∙ ap given (lines_run fs g.history)
+    sym (ap given (lines_run es h.few h.history)) ∙ ap (λ (ls : List Line). given (run start ls)) lines_same ∙ ap given (lines_run fs g.few g.history)

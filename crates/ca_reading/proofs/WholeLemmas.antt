@@ -23,4 +23,4 @@ lines_again (l ∷ m ∷ ls) h = rw (exact_again l h.0, lines_again (m ∷ ls) h
 pub history_again : (es : List EntryValue) → HistoryFits es → history_in (text es) ≡ Some es
 history_again es h =
     let cut : pieces 10 (text es) ≡ map line_text (history_lines es) ++ [] ∷ [] = ap (pieces 10) (history_text es h.history) ∙ lines_cut (history_lines es) (history_fits es h) in
-    rw (cut, lines_again (history_lines es) (history_fits es h), lines_run es h.history) refl
+    rw (cut, lines_again (history_lines es) (history_fits es h), lines_run es h.few h.history) refl
