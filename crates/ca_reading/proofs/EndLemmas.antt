@@ -44,20 +44,19 @@ record LeadsToEntry (ls : List Line) (n : ℕ) (es : List EntryValue) : Type 0 w
   pub entry : EntryValue
   pub behind : IsBehind (ls ++ more) n (Open entry) es
 
-poll_ends : (w : ℕ) (ls : List Line) (n : ℕ) (p : Poll) (es : List EntryValue) → p.wanted ≡ w → IsBehind ls n (Polling p) es → LeadsToEntry ls n es
-poll_more : (w : ℕ) (ls : List Line) (n : ℕ) (p : Poll) (es : List EntryValue) (b : Bool) → eqb p.wanted 0 ≡ b → p.wanted ≡ w
-    → IsBehind ls n (cond b (Open (polled p p.given)) (Polling p)) es → LeadsToEntry ls n es
+poll_more : (w n : ℕ) → ((ls : List Line) (p : Poll) (es : List EntryValue) → p.wanted ≡ w → IsBehind ls n (Polling p) es → LeadsToEntry ls n es)
+    → (ls : List Line) (p : Poll) (es : List EntryValue) (b : Bool) → p.wanted ≡ w → IsBehind ls n (cond b (Open (polled p p.given)) (Polling p)) es → LeadsToEntry ls n es
+poll_more w n ends ls p es true e g = record { more = []; fit = tt; entry = polled p p.given; behind = rw (append-nil ls) g }
+poll_more w n ends ls p es false e g = ends ls p es e g
 
-poll_more w ls n p es true h e g = record { more = []; fit = tt; entry = polled p p.given; behind = rw (append-nil ls) g }
-poll_more w ls n p es false h e g = poll_ends w ls n p es e g
-
-poll_ends zero ls n p es e h = absurd (omega (arith, h.place.2))
-poll_ends (suc w) ls n p es e h =
+poll_ends : (w n : ℕ) (ls : List Line) (p : Poll) (es : List EntryValue) → p.wanted ≡ w → IsBehind ls n (Polling p) es → LeadsToEntry ls n es
+poll_ends zero n ls p es e h = absurd (omega (arith, h.place.2))
+poll_ends (suc w) n ls p es e h =
     let l : Line = lines.Got a_completion in
     let next : Poll = next_poll p a_completion in
     let less : next.wanted ≡ w = omega arith in
     let there : IsBehind (ls ++ l ∷ []) n (polling next) es = subst (λ (x : List EntryValue). IsBehind (ls ++ l ∷ []) n (polling next) x) (append-nil es) (got_place ls n p a_completion es h) in
-    let rest = poll_more w (ls ++ l ∷ []) n next es (eqb next.wanted 0) refl less there in
+    let rest = poll_more w n (λ ls p es. poll_ends w n ls p es) (ls ++ l ∷ []) next es (eqb next.wanted 0) less there in
     record {
       more = l ∷ rest.more;
       fit = (got_fits, rest.fit);
@@ -84,7 +83,7 @@ can_end ls n (Open e) es h = entry_ends ls n e es h
 can_end ls n Over es h = record { more = []; fit = tt; entries = es; behind = rw (append-nil ls) h }
 can_end ls n Stopped es h = absurd h.place
 can_end ls n (Polling p) es h =
-    let first = poll_ends p.wanted ls n p es refl h in
+    let first = poll_ends p.wanted n ls p es refl h in
     let rest = entry_ends (ls ++ first.more) n first.entry es first.behind in
     record {
       more = first.more ++ rest.more;

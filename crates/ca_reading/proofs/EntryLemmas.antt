@@ -1,7 +1,7 @@
 -- One more line of an entry, and one more entry of a history.
 use Rattle.std.proofs.Common.{◌≡◌, ℕ, zero, suc, ◌+◌, ◌-◌, ◌<◌, ◌≤◌, Bool, true, false, cond, eqb, List, [], ◌∷◌, ◌++◌, map, length, refl, sym, ap, subst, ◌∙◌, arith, append_assoc}
 use Rattle.std.specs.List.{flat_map}
-use Rattle.std.proofs.lemmas.Bool.{eqb-eq}
+use Rattle.std.proofs.lemmas.Bool.{eqb-true}
 use Rattle.std.proofs.lemmas.List.{append-nil, map-append}
 use Rattle.ca_base.specs.declared.completion.Completion.{Completion}
 use Rattle.ca_model.specs.declared.answer.Answer.{Answer}
@@ -60,7 +60,7 @@ call_lines stamp pass by verb (answers.Refused r) h = refl
 
 poll_all : (n : ℕ) (p : Poll) (b : Bool) → eqb p.wanted 0 ≡ b → stage_lines n (cond b (Open (polled p p.given)) (Polling p)) ≡ stage_lines n (Polling p)
 poll_all n p true h =
-    let none : p.wanted ≡ 0 = eqb-eq p.wanted 0 h in
+    let none : p.wanted ≡ 0 = eqb-true p.wanted 0 h in
     let all : length p.given ≡ length p.given + p.wanted = omega arith in
     append-nil (lines.Call p.stamp p.pass p.by p.verb (told.Polled (length p.given)) ∷ map lines.Got p.given)
     ∙ ap (λ (k : ℕ). lines.Call p.stamp p.pass p.by p.verb (told.Polled k) ∷ map lines.Got p.given) all

@@ -7,3 +7,6 @@ pub mod EntryLemmas
 pub mod ReachLemmas
 pub mod EndLemmas
 pub mod OutsideLemmas
+pub mod TakeLemmas
+pub mod FeedLemmas
+pub mod ReadLemmas

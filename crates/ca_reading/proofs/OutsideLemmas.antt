@@ -3,6 +3,7 @@ use Rattle.std.proofs.Common.{◌≡◌, ℕ, ◌+◌, ◌<◌, ◌≤◌, true,
 use Rattle.std.specs.Prelude.{min}
 use Rattle.std.specs.List.{flat_map, AllByRecursion}
 use Rattle.std.proofs.lemmas.List.{append-nil}
+use Rattle.std.proofs.lemmas.Option.{same_Some}
 use Rattle.ca_model.specs.Entries.{EntryValue}
 use Rattle.ca_trace.specs.declared.line.Line.{Line}
 use Rattle.ca_trace.specs.Lines.{line_text, lines_text, history_lines}
@@ -27,6 +28,9 @@ behind_lines ws s es fs rest t h e =
     let same : lines_text (history_lines fs) ≡ lines_text t.lines ++ rest = sym (history_text fs h.history) ∙ e ∙ ap (λ (x : List ℕ). x ++ rest) front in
     (t, split t.lines (history_lines fs) rest t.fit (history_fits fs h) same)
 
+not_none : {A : Type 0} (x : A) → Some x ≡ None → ⊥
+not_none x h = absurd cc
+
 -- the first line behind them, where there is one
 next_line : (ls : List Line) (fs : List EntryValue) (s : Reading) (es : List EntryValue) (more : List Line) (w rest : List ℕ) → run start ls ≡ Some (s, es) → HistoryFits fs
     → history_lines fs ≡ ls ++ more → AllByRecursion LineFits more → is_one_line w ≡ true → IsRefused s w → lines_text more ≡ w ++ 10 ∷ rest → ⊥
@@ -34,8 +38,8 @@ next_line ls fs s es [] w rest leads h all fit one refused e = no_feed [] w rest
 next_line ls fs s es (l ∷ more) w rest leads h all fit one refused e =
     let cut = cut_same (line_text l) w (lines_text more) rest (line_lacks l fit.0) (lacks_feed w ∙ one) (sym (append_assoc (line_text l) (10 ∷ []) (lines_text more)) ∙ e) in
     let stops = run_stops ls more l start s es leads (refused l fit.0 (sym cut.0)) in
-    let both : Some (record { count = length fs; stage = Over }, fs) ≡ None = sym (lines_run fs h.few h.history) ∙ ap (run start) all ∙ stops in
-    absurd cc
+    let end : Reading × List EntryValue = (record { count = length fs; stage = Over }, fs) in
+    not_none end (sym (lines_run fs h.few h.history) ∙ ap (run start) all ∙ stops)
 
 -- no text of a history has a refused line there
 pub not_there : (ws : List (List ℕ)) (s : Reading) (es fs : List EntryValue) (w rest : List ℕ) → AreTaken start ws s es → is_one_line w ≡ true → IsRefused s w → HistoryFits fs
@@ -70,29 +74,31 @@ line_outside bytes ws s es n w rest whole t number one refused = record {
 -- nothing more stands behind the lines of a history but a line feed that ends a line
 last_line : (ls : List Line) (fs : List EntryValue) (s : Reading) (es : List EntryValue) (more : List Line) (rest : List ℕ) → run start ls ≡ Some (s, es) → HistoryFits fs
     → history_lines fs ≡ ls ++ more → is_one_line rest ≡ true → (rest ≡ [] → is_over s.stage ≡ false) → lines_text more ≡ rest → ⊥
-last_line ls fs s es (l ∷ more) rest leads h all one open e =
+last_line ls fs s es (l ∷ more) rest leads h all one going e =
     no_feed rest (line_text l) (lines_text more) (lacks_feed rest ∙ one) (sym e ∙ append_assoc (line_text l) (10 ∷ []) (lines_text more))
-last_line ls fs s es [] rest leads h all one open e =
-    let same : (record { count = length fs; stage = Over }, fs) ≡ (s, es) = let both : Some (record { count = length fs; stage = Over }, fs) ≡ Some (s, es) = sym (lines_run fs h.few h.history) ∙ ap (run start) (all ∙ append-nil ls) ∙ leads in cc in
+last_line ls fs s es [] rest leads h all one going e =
+    let end : Reading × List EntryValue = (record { count = length fs; stage = Over }, fs) in
+    let there : Reading × List EntryValue = (s, es) in
+    let same : end ≡ there = same_Some end there (sym (lines_run fs h.few h.history) ∙ ap (run start) (all ∙ append-nil ls) ∙ leads) in
     let over : is_over s.stage ≡ true = ap (λ (x : Reading × List EntryValue). is_over x.0.stage) (sym same) in
-    let not_over : is_over s.stage ≡ false = open (sym e) in
+    let not_over : is_over s.stage ≡ false = going (sym e) in
     absurd cc
 
 pub not_whole : (ws : List (List ℕ)) (s : Reading) (es fs : List EntryValue) (rest : List ℕ) → AreTaken start ws s es → is_one_line rest ≡ true → (rest ≡ [] → is_over s.stage ≡ false) → HistoryFits fs
     → text fs ≡ lined ws ++ rest → ⊥
-not_whole ws s es fs rest t one open h e =
+not_whole ws s es fs rest t one going h e =
     let found = behind_lines ws s es fs rest t h e in
-    last_line found.0.lines fs s es found.1.more rest found.0.leads h found.1.lines one open found.1.text
+    last_line found.0.lines fs s es found.1.more rest found.0.leads h found.1.lines one going found.1.text
 
 -- no line feed is left, and the text is not over
 pub end_outside : (bytes : List ℕ) (ws : List (List ℕ)) (s : Reading) (es : List EntryValue) (n : ℕ) (rest : List ℕ) → bytes ≡ lined ws ++ rest → AreTaken start ws s es
     → n ≡ line_number (length ws) → is_one_line rest ≡ true → (rest ≡ [] → is_over s.stage ≡ false) → IsFirstOutside bytes n
-end_outside bytes ws s es n rest whole t number one open = record {
+end_outside bytes ws s es n rest whole t number one going = record {
   before = ws;
   rest = rest;
   whole = whole;
   number = number;
   begins = begins ws s es t;
   outside = λ line more single e there. no_feed rest line more (lacks_feed rest ∙ one) e;
-  no_text = λ fs h e. not_whole ws s es fs rest t one open h (sym e ∙ whole);
+  no_text = λ fs h e. not_whole ws s es fs rest t one going h (sym e ∙ whole);
 }

@@ -1,7 +1,7 @@
 -- Where a reader may stand: behind the lines of whole entries, and a front of those of one more.
 use Rattle.std.proofs.Common.{◌≡◌, ℕ, zero, suc, ◌+◌, ◌-◌, ◌^◌, ◌<◌, ◌≤◌, Bool, true, false, cond, eqb, ltb, ◌&&◌, List, [], ◌∷◌, ◌++◌, Option, Some, None, map, length, refl, sym, ap, subst, ◌∙◌, arith, append_assoc, zero-add}
 use Rattle.std.specs.List.{flat_map, AllByRecursion}
-use Rattle.std.proofs.lemmas.Bool.{and_parts, eqb-eq, eq-eqb, ltb-true}
+use Rattle.std.proofs.lemmas.Bool.{and_parts, eqb-true, eq-eqb, ltb-true}
 use Rattle.std.proofs.lemmas.List.{append-nil, map-append, length-append}
 use Rattle.std.proofs.lemmas.List.Concat.{flat_map-append}
 use Rattle.std.proofs.lemmas.Option.{cond_some}
@@ -67,7 +67,7 @@ pub stamp_is : (n stamp : ℕ) (stage : Stage) → may_begin (record { count = n
 stamp_is n stamp stage h =
     let outer = and_parts (may_end stage && eqb stamp n) (ltb stamp 18446744073709551615) h in
     let inner = and_parts (may_end stage) (eqb stamp n) outer.0 in
-    let same : stamp ≡ n = eqb-eq stamp n inner.1 in
+    let same : stamp ≡ n = eqb-true stamp n inner.1 in
     let low : stamp < 18446744073709551615 = ltb-true stamp 18446744073709551615 outer.1 in
     (inner.0, same, omega arith)
 
@@ -106,7 +106,7 @@ call_step ls n stamp pass by verb t stage es s h g e =
     subst (Then ls (lines.Call stamp pass by verb t) es) both.1 (begin ls (lines.Call stamp pass by verb t) n stage new es h is.0 is.2 (called_lines (n + 1) stamp pass by verb t g) (called_stands n stamp pass by verb t is.1))
 
 -- the poll behind the line of a completion
-abbrev next_poll : Poll → Completion → Poll
+abbrev pub next_poll : Poll → Completion → Poll
 next_poll p c = record { stamp = p.stamp; pass = p.pass; by = p.by; verb = p.verb; given = p.given ++ c ∷ []; wanted = p.wanted - 1 }
 
 got_lines_more : (n : ℕ) (p : Poll) (c : Completion) → 0 < p.wanted → stage_lines n (polling (next_poll p c)) ≡ stage_lines n (Polling p) ++ lines.Got c ∷ []
@@ -154,7 +154,7 @@ mark_step ls n m (Open x) es s h g e =
     let place : StandsAt (length es) n new = (h.place.0, record { stamp = h.place.1.stamp; marks = fit_more x.event x.marks m h.place.1.marks g }) in
     subst (Then ls (lines.Mark m) es) same (go_on ls (lines.Mark m) n (Open x) new es h (mark_lines x.stamp x.pass x.event x.marks m g) place)
 
-end_place : (ls : List Line) (n : ℕ) (stage : Stage) (es : List EntryValue) → IsBehind ls n stage es → may_end stage ≡ true → IsBehind (ls ++ lines.End n ∷ []) n Over (es ++ before (shown stage) [])
+pub end_place : (ls : List Line) (n : ℕ) (stage : Stage) (es : List EntryValue) → IsBehind ls n stage es → may_end stage ≡ true → IsBehind (ls ++ lines.End n ∷ []) n Over (es ++ before (shown stage) [])
 end_place ls n stage es h g =
     let all = complete ls n stage es h g in
     record { lines = ap (λ (x : List Line). x ++ lines.End n ∷ []) all.lines; history = all.history; place = sym all.count; few = h.few }
@@ -164,7 +164,7 @@ end_step : (ls : List Line) (n k : ℕ) (stage : Stage) (es : List EntryValue) (
 end_step ls n k stage es s h e =
     let both = cond_some (may_end stage && eqb k n) (at_place n Over, shown stage) s e in
     let parts = and_parts (may_end stage) (eqb k n) both.0 in
-    let same : n ≡ k = sym (eqb-eq k n parts.1) in
+    let same : n ≡ k = sym (eqb-true k n parts.1) in
     subst (Then ls (lines.End k) es) both.1 (subst (λ (i : ℕ). IsBehind (ls ++ lines.End i ∷ []) n Over (es ++ before (shown stage) [])) same (end_place ls n stage es h parts.0))
 
 -- a reader stands so behind each line that it takes

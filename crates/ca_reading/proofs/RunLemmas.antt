@@ -8,35 +8,44 @@ use Rattle.ca_reading.specs.Steps.{Reading, step, before, run}
 abbrev Read : Type 0
 Read = Option (Reading × List EntryValue)
 
+-- what was read behind these entries
+abbrev behind : List EntryValue → Reading × List EntryValue → Read
+behind es u = Some (u.0, es ++ u.1)
+
+-- what was read behind an entry, where there is one
+abbrev behind_shown : Option EntryValue → Reading × List EntryValue → Read
+behind_shown shown u = Some (u.0, before shown u.1)
+
 -- what was read, and then these lines
-abbrev then_lines : Read → List Line → Read
-then_lines r ms = r >>= λ t. run t.0 ms >>= λ u. Some (u.0, t.1 ++ u.1)
+abbrev lines_behind : List Line → Reading × List EntryValue → Read
+lines_behind ms t = run t.0 ms >>= behind t.1
 
 put_before : (shown : Option EntryValue) (es fs : List EntryValue) → before shown (es ++ fs) ≡ before shown es ++ fs
 put_before None es fs = refl
 put_before (Some e) es fs = refl
 
-nothing_before : (r : Read) → r ≡ (r >>= λ u. Some (u.0, [] ++ u.1))
+nothing_before : (r : Read) → r ≡ (r >>= behind [])
 nothing_before None = refl
 nothing_before (Some u) = refl
 
-shown_first : (shown : Option EntryValue) (es : List EntryValue) (r : Read)
-    → ((r >>= λ u. Some (u.0, es ++ u.1)) >>= λ x. Some (x.0, before shown x.1)) ≡ (r >>= λ u. Some (u.0, before shown es ++ u.1))
+shown_first : (shown : Option EntryValue) (es : List EntryValue) (r : Read) → ((r >>= behind es) >>= behind_shown shown) ≡ (r >>= behind (before shown es))
 shown_first shown es None = refl
 shown_first shown es (Some u) = ap (λ (fs : List EntryValue). Some (u.0, fs)) (put_before shown es u.1)
 
-shown_then : (shown : Option EntryValue) (ms : List Line) (r : Read)
-    → (then_lines r ms >>= λ x. Some (x.0, before shown x.1)) ≡ then_lines (r >>= λ t. Some (t.0, before shown t.1)) ms
+shown_then : (shown : Option EntryValue) (ms : List Line) (r : Read) → ((r >>= lines_behind ms) >>= behind_shown shown) ≡ ((r >>= behind_shown shown) >>= lines_behind ms)
 shown_then shown ms None = refl
 shown_then shown ms (Some t) = shown_first shown t.1 (run t.0 ms)
 
-step_then : (ls ms : List Line) → ((q : Reading) → run q (ls ++ ms) ≡ then_lines (run q ls) ms) → (s : Option (Reading × Option EntryValue))
-    → (s >>= λ s. run s.0 (ls ++ ms) >>= λ t. Some (t.0, before s.1 t.1)) ≡ then_lines (s >>= λ s. run s.0 ls >>= λ t. Some (t.0, before s.1 t.1)) ms
+abbrev step_behind : List Line → Reading × Option EntryValue → Read
+step_behind ls s = run s.0 ls >>= behind_shown s.1
+
+step_then : (ls ms : List Line) → ((q : Reading) → run q (ls ++ ms) ≡ (run q ls >>= lines_behind ms)) → (s : Option (Reading × Option EntryValue))
+    → (s >>= step_behind (ls ++ ms)) ≡ ((s >>= step_behind ls) >>= lines_behind ms)
 step_then ls ms others None = refl
-step_then ls ms others (Some s) = ap (λ (r : Read). r >>= λ t. Some (t.0, before s.1 t.1)) (others s.0) ∙ shown_then s.1 ms (run s.0 ls)
+step_then ls ms others (Some s) = ap (λ (r : Read). r >>= behind_shown s.1) (others s.0) ∙ shown_then s.1 ms (run s.0 ls)
 
 -- lines behind others
-pub run_append : (ls ms : List Line) (r : Reading) → run r (ls ++ ms) ≡ (run r ls >>= λ t. run t.0 ms >>= λ u. Some (u.0, t.1 ++ u.1))
+run_append : (ls ms : List Line) (r : Reading) → run r (ls ++ ms) ≡ (run r ls >>= lines_behind ms)
 run_append [] ms r = nothing_before (run r ms)
 run_append (l ∷ ls) ms r = step_then ls ms (λ q. run_append ls ms q) (step r l)
 

@@ -111,7 +111,7 @@ entry_parts n pass (events.Verb by verb) ms stage rest b h g = verb_parts n pass
 entry_parts n pass (events.Request q l) ms stage rest b h g = turn_parts n pass (events.Request q l) ms stage rest b h g
 entry_parts n pass (events.Deliver q i) ms stage rest b h g = turn_parts n pass (events.Deliver q i) ms stage rest b h g
 entry_parts n pass (events.Respond q l) ms stage rest b h g = turn_parts n pass (events.Respond q l) ms stage rest b h g
-entry_parts n pass (events.Timeout q b) ms stage rest b h g = turn_parts n pass (events.Timeout q b) ms stage rest b h g
+entry_parts n pass (events.Timeout q t) ms stage rest b h g = turn_parts n pass (events.Timeout q t) ms stage rest b h g
 entry_parts n pass (events.RnrWake q) ms stage rest b h g = turn_parts n pass (events.RnrWake q) ms stage rest b h g
 
 -- the lines of an entry show what stood before it, and lead to it

@@ -1,13 +1,13 @@
-ghost use Rattle.std.specs.Prelude.{◌≡◌, ◌<◌, ◌∷◌, [], ◌++◌, true, false, length, IsTrue, MatchOption, IfOk, IfErr, OnErr, OnOk};
+ghost use Rattle.std.specs.Prelude.{◌≡◌, ◌==◌, ◌<◌, ◌+◌, length, drop, ◌∷◌, [], ◌++◌, List, true, false, MatchOption, IfOk, IfErr, OnErr, OnOk};
+ghost use Rattle.std.specs.List.{position};
 ghost use Rattle.ca_model.specs.Entries.{EntryValue};
 ghost use Rattle.ca_reading.specs.Fits.{HistoryFits};
 ghost use Rattle.ca_reading.specs.Steps as steps;
 ghost use Rattle.ca_reading.specs.Steps.{is_over};
 ghost use Rattle.ca_reading.specs.Outside.{is_one_line};
-ghost use Rattle.ca_reading.specs.Reader.{HasRead, IsReached, TakesInto, IsCause, IsRefusedRight, IsReadAs};
+ghost use Rattle.ca_reading.specs.Reader.{IsReached, TakesInto, IsCause, IsRefusedRight, IsReadAs};
 ghost use Rattle.ca_reading.specs.declared.error.TraceError.TheVariants as errors;
 ghost use Rattle.ca_trace.specs.Trace.{text};
-ghost use Rattle.std.specs.Prelude.{List};
 
 use crate::error::TraceError;
 use crate::reader::TraceReader;
@@ -17,13 +17,31 @@ use std::alloc::Global;
 /// The line feed.
 const LINE_FEED: u8 = b'\n';
 
+/// Where the first line feed stands.
+fn place_of_feed(text: &[u8]) -> Option<usize>
+    ensures { result ≡ position (λ b. b == 10) text.now }
+{
+    text.iter().position(|b| *b == LINE_FEED)
+}
+
+/// What stands behind a place.
+fn behind(place: usize, text: &[u8]) -> &[u8]
+    requires { place < length text.now }
+    ensures { result.now ≡ drop (place + 1) text.now }
+{
+    &text[place + 1..]
+}
+
 /// The first line, and what stands behind its line feed; none where no line feed is left.
+#[tactic(auto, using(crate::proofs::FeedLemmas::cut_line, crate::proofs::FeedLemmas::no_cut))]
 fn first_line(text: &[u8]) -> Option<(&[u8], &[u8])>
     ensures { MatchOption result (is_one_line text.now ≡ true)
         (λ cut. (text.now ≡ cut.0.now ++ 10 ∷ cut.1.now) × (is_one_line cut.0.now ≡ true)) }
 {
-    let place = text.iter().position(|b| *b == LINE_FEED)?;
-    Some((&text[..place], &text[place + 1..]))
+    match place_of_feed(text) {
+        Some(place) => Some((&text[..place], behind(place, text))),
+        None => None,
+    }
 }
 
 /// Takes a line, and adds the entry that it shows to be complete to those that came before.
@@ -69,10 +87,20 @@ pub fn read(alloc: Global, bytes: &[u8]) -> Result<History, TraceError>
     let mut reader = TraceReader::start();
     let mut history = History::empty(alloc);
     let mut rest = bytes;
-    while let Some((line, more)) = first_line(rest) {
-        take_line(alloc, &mut reader, &mut history, line)?;
-        rest = more;
+    'lines: loop {
+        match first_line(rest) {
+            Some((line, more)) => {
+                if let Err(error) = take_line(alloc, &mut reader, &mut history, line) {
+                    return Err(error);
+                }
+                rest = more;
+            }
+            None => {
+                return match end_of_text(&reader, rest) {
+                    Ok(()) => Ok(history),
+                    Err(error) => Err(error),
+                };
+            }
+        }
     }
-    end_of_text(&reader, rest)?;
-    Ok(history)
 }
