@@ -10,3 +10,4 @@ pub mod OutsideLemmas
 pub mod TakeLemmas
 pub mod FeedLemmas
 pub mod ReadLemmas
+pub mod FitLemmas

@@ -9,12 +9,14 @@
 
 mod copy;
 mod error;
+mod fits;
 mod laws;
 mod progress;
 mod reader;
 mod whole;
 
 pub use error::TraceError;
+pub use fits::history_fits;
 pub use laws::{one_text, text_is_read};
 pub use reader::TraceReader;
 pub use whole::read;

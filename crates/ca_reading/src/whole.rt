@@ -33,7 +33,6 @@ fn behind(place: usize, text: &[u8]) -> &[u8]
 }
 
 /// The first line, and what stands behind its line feed; none where no line feed is left.
-#[tactic(auto, using(crate::proofs::FeedLemmas::cut_line, crate::proofs::FeedLemmas::no_cut))]
 fn first_line(text: &[u8]) -> Option<(&[u8], &[u8])>
     ensures { MatchOption result (is_one_line text.now ≡ true)
         (λ cut. (text.now ≡ cut.0.now ++ 10 ∷ cut.1.now) × (is_one_line cut.0.now ≡ true)) }
@@ -67,7 +66,7 @@ fn end_of_text(reader: &TraceReader, rest: &[u8]) -> Result<(), TraceError>
     ensures whole { OnOk result (rest.now ≡ []) }
     ensures over { OnOk result (reader.now.reading.stage ≡ steps.Over) }
     ensures refused { IfErr result (λ e. e ≡ errors.Refused reader.now.next) }
-    ensures open { OnErr result (rest.now ≡ [] → is_over reader.now.reading.stage ≡ false) }
+    ensures going { OnErr result (rest.now ≡ [] → is_over reader.now.reading.stage ≡ false) }
 {
     if rest.is_empty() {
         reader.finish()
@@ -96,10 +95,10 @@ pub fn read(alloc: Global, bytes: &[u8]) -> Result<History, TraceError>
                 rest = more;
             }
             None => {
-                return match end_of_text(&reader, rest) {
-                    Ok(()) => Ok(history),
-                    Err(error) => Err(error),
-                };
+                if let Err(error) = end_of_text(&reader, rest) {
+                    return Err(error);
+                }
+                return Ok(history);
             }
         }
     }

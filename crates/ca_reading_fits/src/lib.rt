@@ -15,7 +15,7 @@ mod operation;
 mod verb;
 mod word;
 
-pub use answer::{answer_fits, completion_fits};
+pub use answer::{answer_fits, completion_fits, completions_fit};
 pub use event::event_fits;
 pub use line::{is_shaped, line_fits};
 pub use mark::mark_fits;
