@@ -1,5 +1,6 @@
 -- The lines of entries whose numbers and lists are within what their types hold may stand in a trace.
-use Rattle.std.proofs.Common.{◌≡◌, ℕ, suc, ◌≤◌, List, [], ◌∷◌, ◌++◌, map, refl, sym, subst}
+use Rattle.std.proofs.Common.{◌≡◌, ℕ, suc, ◌<◌, ◌≤◌, ◌^◌, List, [], ◌∷◌, ◌++◌, map, length, refl, sym, ap, subst, ◌∙◌, arith}
+use Rattle.std.proofs.lemmas.List.{length-map}
 use Rattle.std.specs.Int.{w32, w64}
 use Rattle.std.specs.List.{AllByRecursion}
 use Rattle.ca_base.specs.declared.completion.Completion.{Completion}
@@ -109,3 +110,7 @@ values_hold (e ∷ es) h = (h.0, values_hold es h.1)
 -- the entries of a history that exists as a value
 pub entries_fit : (h : List EntryValue) (es : List Entry) → map entry_of es ≡ h → IsHistoryFrom 0 h → AllByRecursion (λ e. EntryHolds (entry_of e)) es → AllByRecursion EntryFits h
 entries_fit h es same g held = entries_fit_from 0 h g (subst (λ (x : List EntryValue). AllByRecursion EntryHolds x) same (values_hold es held))
+
+-- a list that exists as a value has no more items than its type can count
+pub few_entries : (h : List EntryValue) (es : List Entry) → map entry_of es ≡ h → length es ≤ 18446744073709551615 → length h < 2 ^ 64
+few_entries h es same few = let count : length h ≡ length es = ap length (sym same) ∙ length-map es entry_of in omega arith

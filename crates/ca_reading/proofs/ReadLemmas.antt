@@ -7,22 +7,24 @@ use Rattle.std.proofs.lemmas.List.Concat.{flat_map-append}
 use Rattle.ca_model.specs.Entries.{EntryValue}
 use Rattle.ca_model.specs.History.{IsEntry}
 use Rattle.ca_trace.specs.declared.line.Line.{Line}
-use Rattle.ca_trace.specs.Lines.{line_text}
+use Rattle.ca_trace.specs.Lines.{line_text, history_lines}
 use Rattle.ca_trace.specs.Trace.{text}
 use Rattle.ca_reading.specs.declared.error.TraceError.{TraceError}
 use Rattle.ca_reading.specs.declared.error.TraceError.TheVariants as errors
 use Rattle.ca_reading.specs.Fits.{HistoryFits}
 use Rattle.ca_reading.specs.Steps.{Stage, Over, Reading, before, start, is_over}
 use Rattle.ca_reading.specs.Taken.{IsTaken, IsRefused, AreTaken, lined}
-use Rattle.ca_reading.specs.Outside.{IsFirstOutside, is_one_line, line_number}
+use Rattle.ca_reading.specs.Outside.{BeginsText, IsFirstOutside, is_one_line, line_number}
 use Rattle.ca_reading.specs.ReaderValue.{ReaderValue}
 use Rattle.ca_reading.specs.Reader.{HasRead, IsReached, TakesInto, IsCause, IsRefusedRight, IsReadAs}
 use Rattle.ca_reading.proofs.RunLemmas.{run_more}
-use Rattle.ca_reading.proofs.SplitLemmas.{lined_lines, fit_both}
+use Rattle.ca_reading.proofs.SplitLemmas.{lined_lines, fit_both, same_lines}
 use Rattle.ca_reading.proofs.EntryLemmas.{last_entry}
 use Rattle.ca_reading.proofs.ReachLemmas.{IsBehind, run_stands, step_behind}
 use Rattle.ca_reading.proofs.EndLemmas.{IsWhole, whole_text}
-use Rattle.ca_reading.proofs.OutsideLemmas.{line_outside, end_outside}
+use Rattle.ca_reading.proofs.OutsideLemmas.{line_outside, end_outside, not_there}
+use Rattle.ca_reading.proofs.StepLemmas.{lines_run}
+use Rattle.ca_reading.proofs.TextLemmas.{history_text, history_fits}
 
 -- the entry that a line shows may stand behind those before it
 pub shown_entry : (v : ReaderValue) (es : List EntryValue) (w : List ℕ) (s : Reading) (e : EntryValue) → IsReached v es → IsTaken v.reading w s (Some e) → IsEntry (length es) e
@@ -32,7 +34,7 @@ shown_entry v es w s e h t =
     last_entry 0 (length es) es e next.history (sym (zero-add (length es)))
 
 -- the lines that were taken, with one more
-taken_more : (ws : List (List ℕ)) (w : List ℕ) (r s : Reading) (es : List EntryValue) (shown : Option EntryValue) → AreTaken start ws r es → IsTaken r w s shown → AreTaken start (ws ++ w ∷ []) s (es ++ before shown [])
+pub taken_more : (ws : List (List ℕ)) (w : List ℕ) (r s : Reading) (es : List EntryValue) (shown : Option EntryValue) → AreTaken start ws r es → IsTaken r w s shown → AreTaken start (ws ++ w ∷ []) s (es ++ before shown [])
 taken_more ws w r s es shown h t = record {
   lines = h.lines ++ t.line ∷ [];
   fit = fit_both h.lines (t.line ∷ []) h.fit (t.fits, tt);
@@ -76,3 +78,25 @@ read_whole bytes rest v es h none over =
     let there = run_stands h.taken.lines v.reading es h.taken.fit h.taken.leads in
     let whole = whole_text h.taken.lines v.reading.count es (subst (λ (x : Stage). IsBehind h.taken.lines v.reading.count x es) over there) h.taken.fit in
     (whole.fits, h.whole ∙ ap (λ (x : List ℕ). lined h.lines ++ x) none ∙ append-nil (lined h.lines) ∙ ap lined h.taken.spelled ∙ lined_lines h.taken.lines ∙ sym whole.whole)
+
+-- the lines of the text of a history
+pub all_taken : (es : List EntryValue) (ws : List (List ℕ)) → HistoryFits es → AllByRecursion (λ w. is_one_line w ≡ true) ws → lined ws ≡ text es → AreTaken start ws (record { count = length es; stage = Over }) es
+all_taken es ws h one same = record {
+  lines = history_lines es;
+  fit = history_fits es h;
+  spelled = same_lines ws (history_lines es) one (history_fits es h) (same ∙ history_text es h.history);
+  leads = lines_run es h.few h.history;
+}
+
+-- lines that are taken to the end are the text of what they showed
+pub taken_text : (ws : List (List ℕ)) (s : Reading) (es : List EntryValue) → AreTaken start ws s es → s.stage ≡ Over → HistoryFits es × (lined ws ≡ text es)
+taken_text ws s es t over =
+    let there = run_stands t.lines s es t.fit t.leads in
+    let whole = whole_text t.lines s.count es (subst (λ (x : Stage). IsBehind t.lines s.count x es) over there) t.fit in
+    (whole.fits, ap lined t.spelled ∙ lined_lines t.lines ∙ sym whole.whole)
+
+-- no text of a history begins with lines and one that is refused behind them
+pub refused_begins_none : (ws : List (List ℕ)) (s : Reading) (es : List EntryValue) (w : List ℕ) → AreTaken start ws s es → is_one_line w ≡ true → IsRefused s w → BeginsText (lined ws ++ (w ++ 10 ∷ [])) → ⊥
+refused_begins_none ws s es w t one refused b =
+    not_there ws s es b.entries w b.rest t one refused b.fits
+    (b.whole ∙ append_assoc (lined ws) (w ++ 10 ∷ []) b.rest ∙ ap (λ (x : List ℕ). lined ws ++ x) (append_assoc w (10 ∷ []) b.rest))

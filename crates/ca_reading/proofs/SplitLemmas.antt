@@ -82,3 +82,13 @@ fit_back (l ∷ ls) ms h = fit_back ls ms h.1
 pub fit_both : (ls ms : List Line) → AllByRecursion LineFits ls → AllByRecursion LineFits ms → AllByRecursion LineFits (ls ++ ms)
 fit_both [] ms h g = g
 fit_both (l ∷ ls) ms h g = (h.0, fit_both ls ms h.1 g)
+
+-- a text is cut into its lines in one way
+pub same_lines : (ws : List (List ℕ)) (hs : List Line) → AllByRecursion (λ w. is_one_line w ≡ true) ws → AllByRecursion LineFits hs → lined ws ≡ lines_text hs → ws ≡ map line_text hs
+same_lines [] [] h g e = refl
+same_lines [] (l ∷ ls) h g e = absurd (no_feed [] (line_text l) (lines_text ls) refl (e ∙ append_assoc (line_text l) (10 ∷ []) (lines_text ls)))
+same_lines (w ∷ ws) [] h g e = absurd (no_feed [] w (lined ws) refl (sym e ∙ append_assoc w (10 ∷ []) (lined ws)))
+same_lines (w ∷ ws) (l ∷ ls) h g e =
+    let both = cut_same w (line_text l) (lined ws) (lines_text ls) (lacks_feed w ∙ h.0) (line_lacks l g.0)
+    (sym (append_assoc w (10 ∷ []) (lined ws)) ∙ e ∙ append_assoc (line_text l) (10 ∷ []) (lines_text ls)) in
+    ap (λ (x : List ℕ). x ∷ ws) both.0 ∙ ap (λ (x : List (List ℕ)). line_text l ∷ x) (same_lines ws ls h.1 g.1 both.1)

@@ -10,8 +10,11 @@ ghost use Rattle.ca_reading.specs.declared.error.TraceError.TheVariants as error
 ghost use Rattle.ca_trace.specs.Trace.{text};
 
 use crate::error::TraceError;
+use crate::fits::history_fits;
 use crate::reader::TraceReader;
+use ca_base::Memory;
 use ca_model::History;
+use ca_trace::print_history;
 use std::alloc::Global;
 
 /// The line feed.
@@ -101,5 +104,19 @@ pub fn read(alloc: Global, bytes: &[u8]) -> Result<History, TraceError>
                 return Ok(history);
             }
         }
+    }
+}
+
+/// A history is printed, and read again from its text: what is read is this history.
+pub fn read_back(alloc: Global, history: &History) -> Result<History, Memory>
+    ensures { IfOk result (λ h. h ≡ history.now) }
+{
+    history_fits(history);
+    let mut text = Vec::new(alloc);
+    print_history(history, &mut text)?;
+    match read(alloc, text.as_slice()) {
+        Ok(read) => Ok(read),
+        Err(TraceError::Memory) => Err(Memory),
+        Err(TraceError::Refused(_)) => unreachable!(),
     }
 }
