@@ -1,5 +1,5 @@
 -- Lines that a reader took begin the text of a history, and where it stands behind the last line they are one.
-use Rattle.std.proofs.Common.{◌≡◌, ℕ, zero, suc, ◌+◌, ◌-◌, ◌^◌, ◌<◌, ◌≤◌, Bool, true, false, cond, eqb, List, [], ◌∷◌, ◌++◌, Option, Some, None, map, length, refl, sym, ap, subst, ◌∙◌, arith, append_assoc}
+use Rattle.std.proofs.Common.{◌≡◌, ℕ, zero, suc, ◌^◌, ◌<◌, Bool, true, false, cond, eqb, List, [], ◌∷◌, ◌++◌, None, length, refl, sym, ap, subst, ◌∙◌, arith, append_assoc}
 use Rattle.std.specs.List.{flat_map, AllByRecursion}
 use Rattle.std.proofs.lemmas.List.{append-nil}
 use Rattle.std.proofs.lemmas.List.Concat.{flat_map-append}
@@ -7,14 +7,13 @@ use Rattle.ca_base.specs.declared.completion.Completion.{Completion}
 use Rattle.ca_base.specs.declared.completion.WcOp.TheVariants as operations
 use Rattle.ca_base.specs.declared.completion.WcStatus.TheVariants as statuses
 use Rattle.ca_model.specs.Entries.{EntryValue}
-use Rattle.ca_model.specs.History.{IsEntry, IsHistory}
 use Rattle.ca_trace.specs.declared.line.Line.{Line}
 use Rattle.ca_trace.specs.declared.line.Line.TheVariants as lines
 use Rattle.ca_trace.specs.Lines.{line_text, lines_text, entry_lines, history_lines}
 use Rattle.ca_trace.specs.Trace.{text}
 use Rattle.ca_reading_lines.specs.Fits.{LineFits}
 use Rattle.ca_reading.specs.Fits.{EntryFits, HistoryFits}
-use Rattle.ca_reading.specs.Steps.{Poll, Stage, Start, Polling, Open, Over, Stopped, Reading, polled, polling, before, run, start}
+use Rattle.ca_reading.specs.Steps.{Poll, Stage, Start, Polling, Open, Over, Stopped, Reading, polled, polling, start}
 use Rattle.ca_reading.specs.Taken.{AreTaken, lined}
 use Rattle.ca_reading.specs.Outside.{BeginsText}
 use Rattle.ca_reading.proofs.TextLemmas.{history_text}

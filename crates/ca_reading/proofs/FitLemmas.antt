@@ -1,7 +1,6 @@
 -- The lines of entries whose numbers and lists are within what their types hold may stand in a trace.
 use Rattle.std.proofs.Common.{◌≡◌, ℕ, suc, ◌<◌, ◌≤◌, ◌^◌, List, [], ◌∷◌, ◌++◌, map, length, refl, sym, ap, subst, ◌∙◌, arith}
 use Rattle.std.proofs.lemmas.List.{length-map}
-use Rattle.std.specs.Int.{w32, w64}
 use Rattle.std.specs.List.{AllByRecursion}
 use Rattle.ca_base.specs.declared.completion.Completion.{Completion}
 use Rattle.ca_model.specs.declared.answer.Answer.{Answer}
@@ -14,10 +13,9 @@ use Rattle.ca_model.specs.declared.mark.Mark.TheVariants as marks
 use Rattle.ca_model.specs.declared.verb.Verb.{Verb}
 use Rattle.ca_model.specs.Entries.{EntryValue, entry_of}
 use Rattle.ca_model.specs.History.{IsPlain, ArePlain, FitTheEvent, IsHistoryFrom}
-use Rattle.ca_trace.specs.declared.line.Line.{Line}
 use Rattle.ca_trace.specs.declared.line.Line.TheVariants as lines
-use Rattle.ca_trace.specs.Lines.{told_of, answer_line_words, event_lines, entry_lines}
-use Rattle.ca_trace.specs.Table.{answer_words, completion_words, call_words, event_words, mark_words, verb_words}
+use Rattle.ca_trace.specs.Lines.{told_of, answer_line_words, event_lines}
+use Rattle.ca_trace.specs.Table.{answer_words, completion_words, call_words, event_words, verb_words}
 use Rattle.ca_trace.specs.Trace.{completions_of}
 use Rattle.ca_trace.specs.Words.{Field}
 use Rattle.ca_reading_words.specs.Fits.{AllFit}

@@ -1,7 +1,6 @@
 -- A line that may not stand where it does is the first outside the grammar.
-use Rattle.std.proofs.Common.{◌≡◌, ℕ, ◌+◌, ◌<◌, ◌≤◌, true, false, List, [], ◌∷◌, ◌++◌, Option, Some, None, map, length, refl, sym, ap, subst, ◌∙◌, arith, append_assoc}
-use Rattle.std.specs.Prelude.{min}
-use Rattle.std.specs.List.{flat_map, AllByRecursion}
+use Rattle.std.proofs.Common.{◌≡◌, ℕ, true, false, List, [], ◌∷◌, ◌++◌, Some, None, length, refl, sym, ap, subst, ◌∙◌, append_assoc}
+use Rattle.std.specs.List.{AllByRecursion}
 use Rattle.std.proofs.lemmas.List.{append-nil}
 use Rattle.std.proofs.lemmas.Option.{same_Some}
 use Rattle.ca_model.specs.Entries.{EntryValue}
@@ -11,9 +10,9 @@ use Rattle.ca_trace.specs.Trace.{text}
 use Rattle.ca_reading_lines.specs.Fits.{LineFits}
 use Rattle.ca_reading_lines.proofs.LineLemmas.{line_lacks}
 use Rattle.ca_reading.specs.Fits.{HistoryFits}
-use Rattle.ca_reading.specs.Steps.{Stage, Over, Reading, step, run, start, is_over}
+use Rattle.ca_reading.specs.Steps.{Over, Reading, run, start, is_over}
 use Rattle.ca_reading.specs.Taken.{IsRefused, AreTaken, lined}
-use Rattle.ca_reading.specs.Outside.{BeginsText, IsFirstOutside, is_one_line, line_number}
+use Rattle.ca_reading.specs.Outside.{IsFirstOutside, is_one_line, line_number}
 use Rattle.ca_reading.proofs.StepLemmas.{lines_run}
 use Rattle.ca_reading.proofs.TextLemmas.{history_text, history_fits}
 use Rattle.ca_reading.proofs.RunLemmas.{run_stops}

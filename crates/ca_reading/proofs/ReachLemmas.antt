@@ -1,7 +1,7 @@
 -- Where a reader may stand: behind the lines of whole entries, and a front of those of one more.
-use Rattle.std.proofs.Common.{◌≡◌, ℕ, zero, suc, ◌+◌, ◌-◌, ◌^◌, ◌<◌, ◌≤◌, Bool, true, false, cond, eqb, ltb, ◌&&◌, List, [], ◌∷◌, ◌++◌, Option, Some, None, map, length, refl, sym, ap, subst, ◌∙◌, arith, append_assoc, zero-add}
+use Rattle.std.proofs.Common.{◌≡◌, ℕ, ◌+◌, ◌-◌, ◌^◌, ◌<◌, true, eqb, ltb, ◌&&◌, List, [], ◌∷◌, ◌++◌, Option, Some, None, map, length, refl, sym, ap, subst, ◌∙◌, arith, append_assoc, zero-add}
 use Rattle.std.specs.List.{flat_map, AllByRecursion}
-use Rattle.std.proofs.lemmas.Bool.{and_parts, eqb-true, eq-eqb, ltb-true}
+use Rattle.std.proofs.lemmas.Bool.{and_parts, eqb-true, ltb-true}
 use Rattle.std.proofs.lemmas.List.{append-nil, map-append, length-append}
 use Rattle.std.proofs.lemmas.List.Concat.{flat_map-append}
 use Rattle.std.proofs.lemmas.Option.{cond_some}
@@ -10,7 +10,7 @@ use Rattle.ca_model.specs.declared.event.Event.{Event}
 use Rattle.ca_model.specs.declared.mark.Mark.{Mark}
 use Rattle.ca_model.specs.declared.verb.Verb.{Verb}
 use Rattle.ca_model.specs.Entries.{EntryValue}
-use Rattle.ca_model.specs.History.{IsEntry, IsHistory}
+use Rattle.ca_model.specs.History.{IsHistory}
 use Rattle.ca_trace.specs.declared.line.Line.{Line}
 use Rattle.ca_trace.specs.declared.line.Line.TheVariants as lines
 use Rattle.ca_trace.specs.declared.line.Told.{Told}
@@ -18,7 +18,7 @@ use Rattle.ca_trace.specs.declared.line.Told.TheVariants as told
 use Rattle.ca_trace.specs.Lines.{entry_lines}
 use Rattle.ca_reading_words.specs.Words.{◌>>=◌}
 use Rattle.ca_reading_lines.specs.Fits.{IsShaped, IsTold, IsTurn, LineFits}
-use Rattle.ca_reading.specs.Steps.{Poll, Stage, Start, Polling, Open, Over, Stopped, Reading, shown, may_end, may_begin, answered, polled, polling, called, with_got, with_mark, step, before, run, start}
+use Rattle.ca_reading.specs.Steps.{Poll, Stage, Start, Polling, Open, Over, Stopped, Reading, shown, may_end, may_begin, polling, called, step, before, run, start}
 use Rattle.ca_reading.proofs.RunLemmas.{bind_some}
 use Rattle.ca_reading.proofs.EntryLemmas.{stage_lines, StandsAt, turn_fits, call_lines, poll_lines, poll_stands, mark_lines, fit_more, history_more}
 

@@ -1,12 +1,11 @@
 -- One more line of a text that is read, and where reading ends.
-use Rattle.std.proofs.Common.{◌≡◌, ℕ, ◌+◌, ◌<◌, ◌≤◌, Bool, true, false, List, [], ◌∷◌, ◌++◌, Option, Some, None, map, length, refl, sym, ap, subst, ◌∙◌, arith, append_assoc, zero-add}
-use Rattle.std.specs.Prelude.{min, Err}
-use Rattle.std.specs.List.{flat_map, AllByRecursion}
+use Rattle.std.proofs.Common.{◌≡◌, ℕ, ◌+◌, true, false, List, [], ◌∷◌, ◌++◌, Option, Some, map, length, sym, ap, subst, ◌∙◌, arith, append_assoc, zero-add}
+use Rattle.std.specs.Prelude.{Err}
+use Rattle.std.specs.List.{AllByRecursion}
 use Rattle.std.proofs.lemmas.List.{append-nil, map-append, length-append}
 use Rattle.std.proofs.lemmas.List.Concat.{flat_map-append}
 use Rattle.ca_model.specs.Entries.{EntryValue}
 use Rattle.ca_model.specs.History.{IsEntry}
-use Rattle.ca_trace.specs.declared.line.Line.{Line}
 use Rattle.ca_trace.specs.Lines.{line_text, history_lines}
 use Rattle.ca_trace.specs.Trace.{text}
 use Rattle.ca_reading.specs.declared.error.TraceError.{TraceError}
@@ -14,14 +13,14 @@ use Rattle.ca_reading.specs.declared.error.TraceError.TheVariants as errors
 use Rattle.ca_reading.specs.Fits.{HistoryFits}
 use Rattle.ca_reading.specs.Steps.{Stage, Over, Reading, before, start, is_over}
 use Rattle.ca_reading.specs.Taken.{IsTaken, IsRefused, AreTaken, lined}
-use Rattle.ca_reading.specs.Outside.{BeginsText, IsFirstOutside, is_one_line, line_number}
+use Rattle.ca_reading.specs.Outside.{BeginsText, is_one_line}
 use Rattle.ca_reading.specs.ReaderValue.{ReaderValue}
 use Rattle.ca_reading.specs.Reader.{HasRead, IsReached, TakesInto, IsCause, IsRefusedRight, IsReadAs}
 use Rattle.ca_reading.proofs.RunLemmas.{run_more}
 use Rattle.ca_reading.proofs.SplitLemmas.{lined_lines, fit_both, same_lines}
 use Rattle.ca_reading.proofs.EntryLemmas.{last_entry}
 use Rattle.ca_reading.proofs.ReachLemmas.{IsBehind, run_stands, step_behind}
-use Rattle.ca_reading.proofs.EndLemmas.{IsWhole, whole_text}
+use Rattle.ca_reading.proofs.EndLemmas.{whole_text}
 use Rattle.ca_reading.proofs.OutsideLemmas.{line_outside, end_outside, not_there}
 use Rattle.ca_reading.proofs.StepLemmas.{lines_run}
 use Rattle.ca_reading.proofs.TextLemmas.{history_text, history_fits}
@@ -50,7 +49,7 @@ read_more bytes rest w more v u es fs h cut t =
     record {
       lines = h.lines ++ w ∷ [];
       whole = h.whole ∙ ap (λ (x : List ℕ). lined h.lines ++ x) (cut ∙ sym (append_assoc w (10 ∷ []) more) ∙ ap (λ (x : List ℕ). x ++ more) (sym (append-nil (w ++ 10 ∷ []))))
-      ∙ sym (append_assoc (lined h.lines) (lined (w ∷ [])) more) ∙ ap (λ (x : List ℕ). x ++ more) (sym (flat_map-append (λ w. w ++ 10 ∷ []) h.lines (w ∷ [])));
+          ∙ sym (append_assoc (lined h.lines) (lined (w ∷ [])) more) ∙ ap (λ (x : List ℕ). x ++ more) (sym (flat_map-append (λ w. w ++ 10 ∷ []) h.lines (w ∷ [])));
       taken = subst (λ (x : List EntryValue). AreTaken start (h.lines ++ w ∷ []) u.reading x) (sym t.added) (taken_more h.lines w v.reading u.reading es t.shown h.taken t.taken.taken);
       number = omega arith;
     }

@@ -1,5 +1,5 @@
 -- The lines of a history show its entries, in order.
-use Rattle.std.proofs.Common.{◌≡◌, ℕ, zero, suc, ◌+◌, ◌-◌, ◌^◌, ◌<◌, ◌≤◌, ltb, Bool, true, false, cond, eqb, List, [], ◌∷◌, ◌++◌, Option, Some, None, map, length, refl, sym, ap, subst, ◌∙◌, arith, append_assoc}
+use Rattle.std.proofs.Common.{◌≡◌, ℕ, suc, ◌+◌, ◌-◌, ◌^◌, ◌<◌, Bool, true, false, cond, eqb, List, [], ◌∷◌, ◌++◌, Option, Some, None, map, length, refl, sym, ap, ◌∙◌, arith, append_assoc}
 use Rattle.std.specs.List.{flat_map}
 use Rattle.std.proofs.lemmas.Bool.{eq-eqb, ne_eqb, lt-ltb}
 use Rattle.std.proofs.lemmas.List.{append-nil}
@@ -12,15 +12,13 @@ use Rattle.ca_model.specs.declared.mark.Mark.{Mark}
 use Rattle.ca_model.specs.declared.mark.Mark.TheVariants as marks
 use Rattle.ca_model.specs.declared.verb.Verb.{Verb}
 use Rattle.ca_model.specs.Entries.{EntryValue}
-use Rattle.ca_model.specs.History.{IsPlain, ArePlain, FitTheEvent, IsEntry, IsHistoryFrom, IsHistory}
+use Rattle.ca_model.specs.History.{ArePlain, FitTheEvent, IsEntry, IsHistoryFrom, IsHistory}
 use Rattle.ca_trace.specs.declared.line.Line.{Line}
 use Rattle.ca_trace.specs.declared.line.Line.TheVariants as lines
-use Rattle.ca_trace.specs.declared.line.Told.{Told}
-use Rattle.ca_trace.specs.declared.line.Told.TheVariants as told
 use Rattle.ca_trace.specs.Lines.{told_of, event_lines, entry_lines, history_lines}
 use Rattle.ca_trace.specs.Trace.{completions_of}
 use Rattle.ca_reading_words.specs.Words.{◌>>=◌}
-use Rattle.ca_reading.specs.Steps.{Poll, Stage, Start, Polling, Open, Over, Reading, shown, may_end, answered, polled, polling, called, with_got, with_mark, step, before, run, start}
+use Rattle.ca_reading.specs.Steps.{Poll, Stage, Start, Polling, Open, Over, Reading, shown, may_end, answered, polling, called, before, run, start}
 
 abbrev at_stage : ℕ → Stage → Reading
 at_stage n stage = record { count = n; stage = stage }

@@ -1,5 +1,5 @@
 -- What a reader of lines knows of a text that it does not take.
-use Rattle.std.proofs.Common.{◌≡◌, List, ℕ, Option, Some, None, refl, sym, ap, subst, ◌∙◌}
+use Rattle.std.proofs.Common.{◌≡◌, List, ℕ, Some, None, sym, ap, subst, ◌∙◌}
 use Rattle.std.specs.Prelude.{Result, Ok, Err, IfErr}
 use Rattle.std.proofs.lemmas.Option.{same_Some}
 use Rattle.ca_trace.specs.declared.line.Line.{Line}

@@ -1,16 +1,14 @@
 -- The text of a history is read as this history.
-use Rattle.std.proofs.Common.{◌≡◌, ℕ, List, [], ◌∷◌, ◌++◌, Option, Some, None, map, length, refl, sym, ap, ◌∙◌}
+use Rattle.std.proofs.Common.{◌≡◌, List, [], ◌∷◌, ◌++◌, Some, map, refl, ap, ◌∙◌}
 use Rattle.std.specs.List.{AllByRecursion}
 use Rattle.ca_model.specs.Entries.{EntryValue}
 use Rattle.ca_trace.specs.declared.line.Line.{Line}
-use Rattle.ca_trace.specs.Lines.{line_text, lines_text, history_lines}
+use Rattle.ca_trace.specs.Lines.{line_text, history_lines}
 use Rattle.ca_trace.specs.Trace.{text}
-use Rattle.ca_reading_words.specs.Words.{◌>>=◌, pieces}
+use Rattle.ca_reading_words.specs.Words.{pieces}
 use Rattle.ca_reading_lines.specs.Fits.{LineFits}
-use Rattle.ca_reading_lines.specs.Calls.{exact_in}
 use Rattle.ca_reading_lines.proofs.ExactLemmas.{exact_again}
 use Rattle.ca_reading.specs.Fits.{HistoryFits}
-use Rattle.ca_reading.specs.Steps.{run, start}
 use Rattle.ca_reading.specs.Texts.{lines_in, history_in}
 use Rattle.ca_reading.proofs.StepLemmas.{lines_run}
 use Rattle.ca_reading.proofs.TextLemmas.{history_text, lines_cut, history_fits}

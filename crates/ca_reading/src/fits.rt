@@ -3,9 +3,7 @@ ghost use Rattle.ca_model.specs.Entries.{entry_of};
 ghost use Rattle.ca_reading.specs.Fits.{AnswerHolds, EntryHolds, HistoryFits, MarkHolds};
 
 use ca_model::{Answer, Entry, History, Mark};
-use ca_reading_fits::{
-    answer_fits, completions_fit, event_fits, mark_fits, u32_fits, u64_fits,
-};
+use ca_reading_fits::{answer_fits, completions_fit, event_fits, mark_fits, u32_fits, u64_fits};
 
 fn completions_hold(answer: &Answer)
     ensures { AnswerHolds answer.now }

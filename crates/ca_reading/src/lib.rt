@@ -18,8 +18,8 @@ mod whole;
 pub use error::TraceError;
 pub use fits::history_fits;
 pub use laws::{
-    lines_are_text, lines_give, one_more_line, one_text, refused_line_begins_none, taken_lines_begin,
-    text_is_read,
+    lines_are_text, lines_give, one_more_line, one_text, refused_line_begins_none,
+    taken_lines_begin, text_is_read,
 };
 pub use reader::TraceReader;
 pub use whole::{read, read_back};

@@ -124,15 +124,18 @@ fn polled(alloc: Global, poll: &OpenPoll, last: Completion) -> Result<Entry, Mem
     let mut given = poll.given.clone()?;
     given.push(last);
     let verb = copy_of_verb(&poll.verb)?;
-    answered(alloc, poll.stamp, poll.pass, poll.by, verb, Answer::Polled(given))
+    answered(
+        alloc,
+        poll.stamp,
+        poll.pass,
+        poll.by,
+        verb,
+        Answer::Polled(given),
+    )
 }
 
 /// Takes the line of a completion. `Outside` comes exactly where none may stand; an error changes nothing.
-pub fn take_got(
-    alloc: Global,
-    progress: &mut Progress,
-    completion: Completion,
-) -> Result<(), Stop>
+pub fn take_got(alloc: Global, progress: &mut Progress, completion: Completion) -> Result<(), Stop>
     requires { HasRoom progress.old }
     ensures ok { OnOk result (steps.with_got completion (stage_of progress.old) ≡ Some (stage_of progress.new)) }
     ensures room { OnOk result (HasRoom progress.new) }

@@ -1,4 +1,3 @@
-
 use crate::error::TraceError;
 use crate::progress::{Progress, called, go_on, may_end, take_got, take_mark};
 use ca_model::{Entry, Event, Marks, Verb};

@@ -69,7 +69,9 @@ fn is_plain(mark: &Mark) -> bool
     match mark {
         Mark::Verb { .. } => false,
         Mark::Done {
-            queue, completion, ..
+            queue,
+            completion,
+            ..
         } => completion.queue == *queue,
         _ => true,
     }

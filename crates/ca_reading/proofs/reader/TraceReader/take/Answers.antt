@@ -1,4 +1,4 @@
-use Rattle.std.proofs.Common.{◌≡◌, Bool, true, false, sym, ◌∙◌}
+use Rattle.std.proofs.Common.{◌≡◌, Bool, true, false}
 use Rattle.ca_reading.proofs.TakeLemmas.{shape_refused, stop_refused}
 use Rattle.ca_reading.proofs.reader.TraceReader.take.Goals as goal
 
