@@ -65,11 +65,23 @@ const REFUSED: [(&str, u32); 27] = [
     (" arrived 0/256 -\nend 0\n", 1),
     ("@0 p0 wake 0/256\r\nend 1\n", 1),
     ("@0 p0 wake 0/256\n -> ok\nend 1\n", 2),
-    ("@0 p0 wake 0/256\n got 0/256 send 0 1 send success 0 - -\nend 1\n", 2),
+    (
+        "@0 p0 wake 0/256\n got 0/256 send 0 1 send success 0 - -\nend 1\n",
+        2,
+    ),
     ("@0 p0 c0 poll 0/0/0 1 -> polled 1\nend 1\n", 2),
-    ("@0 p0 c0 poll 0/0/0 1 -> polled 1\n arrived 0/256 -\nend 1\n", 2),
-    ("@0 p0 c0 poll 0/0/0 1 -> polled 1\n@1 p0 wake 0/256\nend 2\n", 2),
-    ("@0 p0 c0 poll 0/0/0 1 -> polled 0\n got 0/256 send 0 1 send success 0 - -\nend 1\n", 2),
+    (
+        "@0 p0 c0 poll 0/0/0 1 -> polled 1\n arrived 0/256 -\nend 1\n",
+        2,
+    ),
+    (
+        "@0 p0 c0 poll 0/0/0 1 -> polled 1\n@1 p0 wake 0/256\nend 2\n",
+        2,
+    ),
+    (
+        "@0 p0 c0 poll 0/0/0 1 -> polled 0\n got 0/256 send 0 1 send success 0 - -\nend 1\n",
+        2,
+    ),
     ("@0 p0 c0 poll 0/0/0 1 -> polled 17\n", 1),
 ];
 
@@ -161,7 +173,10 @@ fn is_refused_or_another<R: Abort + AllocGlobal>(
 fn each_text_is_read_and_printed_again(rt: HostRuntime) -> Result<(), Fail> {
     for text in TEXTS.as_slice() {
         let again = printed_again(rt.alloc(), text.as_bytes())?;
-        assert_eq!(rt; str::from_utf8(again.as_slice()).unwrap_or("no text"), *text);
+        assert_eq!(rt;
+            str::from_utf8(again.as_slice()).unwrap_or("no text"),
+            *text
+        );
     }
     Ok(())
 }
@@ -208,7 +223,10 @@ fn a_line_shows_the_entry_before_it(rt: HostRuntime) -> Result<(), Fail> {
     }
     assert!(rt; reader.finish().is_ok(), "the end");
     assert_eq!(rt; stamp_shown(rt.alloc(), &mut reader, "end 7"), Err(12));
-    assert_eq!(rt; stamp_shown(rt.alloc(), &mut reader, "@7 p0 wake 0/256"), Err(12));
+    assert_eq!(rt;
+        stamp_shown(rt.alloc(), &mut reader, "@7 p0 wake 0/256"),
+        Err(12)
+    );
     assert!(rt; reader.finish().is_err(), "a line behind the end");
     Ok(())
 }
