@@ -1,3 +1,13 @@
 pub mod StepLemmas
 pub mod TextLemmas
 pub mod WholeLemmas
+pub mod RunLemmas
+pub mod SplitLemmas
+pub mod EntryLemmas
+pub mod ReachLemmas
+pub mod EndLemmas
+pub mod OutsideLemmas
+pub mod TakeLemmas
+pub mod FeedLemmas
+pub mod ReadLemmas
+pub mod FitLemmas

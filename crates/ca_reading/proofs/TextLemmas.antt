@@ -1,6 +1,5 @@
 -- The text of a history is that of its lines, and equal texts come from equal histories.
-use Rattle.std.proofs.Common.{◌≡◌, ℕ, suc, ◌<◌, ◌≤◌, ◌^◌, true, List, [], ◌∷◌, ◌++◌, Option, Some, None, map, length, refl, sym, ap, ◌∙◌, arith, append_assoc}
-use Rattle.std.specs.Prelude.{codes}
+use Rattle.std.proofs.Common.{◌≡◌, ℕ, suc, ◌<◌, ◌^◌, List, [], ◌∷◌, ◌++◌, Option, Some, None, map, length, refl, sym, ap, ◌∙◌, arith, append_assoc}
 use Rattle.std.specs.Int.{w32, w64}
 use Rattle.std.specs.List.{flat_map, AllByRecursion}
 use Rattle.std.proofs.lemmas.List.{append-nil}
@@ -15,20 +14,20 @@ use Rattle.ca_model.specs.declared.mark.Mark.{Mark}
 use Rattle.ca_model.specs.declared.mark.Mark.TheVariants as marks
 use Rattle.ca_model.specs.declared.verb.Verb.{Verb}
 use Rattle.ca_model.specs.Entries.{EntryValue}
-use Rattle.ca_model.specs.History.{ArePlain, FitTheEvent, IsEntry, IsHistoryFrom, IsHistory}
+use Rattle.ca_model.specs.History.{ArePlain, FitTheEvent, IsHistoryFrom, IsHistory}
 use Rattle.ca_trace.specs.declared.line.Line.{Line}
 use Rattle.ca_trace.specs.declared.line.Line.TheVariants as lines
-use Rattle.ca_trace.specs.Lines.{told_of, answer_line_words, line_words, line_text, lines_text, event_lines, entry_lines, history_lines}
-use Rattle.ca_trace.specs.Table.{call_words, event_words, told_words, got_words, mark_words}
-use Rattle.ca_trace.specs.Trace.{completions_of, got_line, got_lines, mark_text, marks_text, head_words, entry_text, end_text, text}
-use Rattle.ca_trace.specs.Words.{Field, Fixed, Number, Lettered, word, words, led, joined}
+use Rattle.ca_trace.specs.Lines.{told_of, answer_line_words, line_text, lines_text, event_lines, entry_lines, history_lines}
+use Rattle.ca_trace.specs.Table.{call_words, event_words, told_words}
+use Rattle.ca_trace.specs.Trace.{completions_of, got_line, got_lines, mark_text, marks_text, entry_text, end_text, text}
+use Rattle.ca_trace.specs.Words.{Field, Lettered, word, words, led, joined}
 use Rattle.ca_reading_words.specs.Words.{◌>>=◌, pieces}
 use Rattle.ca_reading_words.proofs.PieceLemmas.{first_piece}
 use Rattle.ca_reading_lines.specs.Fits.{LineFits}
 use Rattle.ca_reading_lines.specs.Reading.{line_in}
 use Rattle.ca_reading_lines.proofs.LineLemmas.{words_append, line_read, line_lacks}
 use Rattle.ca_reading.specs.Fits.{EntryFits, HistoryFits}
-use Rattle.ca_reading.specs.Steps.{Reading, run, start, Over}
+use Rattle.ca_reading.specs.Steps.{Reading, run, start}
 use Rattle.ca_reading.proofs.StepLemmas.{lines_run}
 
 marks_lines : (ms : List Mark) → lines_text (map lines.Mark ms) ≡ flat_map mark_text ms
@@ -176,4 +175,4 @@ pub text_is_one : (es fs : List EntryValue) → HistoryFits es → HistoryFits f
 text_is_one es fs h g e =
     let same : lines_text (history_lines es) ≡ lines_text (history_lines fs) = sym (history_text es h.history) ∙ e ∙ history_text fs g.history in
     let lines_same = lines_equal (history_lines es) (history_lines fs) (history_fits es h) (history_fits fs g) same in
-    sym (ap given (lines_run es h.history)) ∙ ap (λ (ls : List Line). given (run start ls)) lines_same ∙ ap given (lines_run fs g.history)
+    sym (ap given (lines_run es h.few h.history)) ∙ ap (λ (ls : List Line). given (run start ls)) lines_same ∙ ap given (lines_run fs g.few g.history)

@@ -1,16 +1,14 @@
 -- The text of a history is read as this history.
-use Rattle.std.proofs.Common.{◌≡◌, ℕ, List, [], ◌∷◌, ◌++◌, Option, Some, None, map, length, refl, sym, ap, ◌∙◌}
+use Rattle.std.proofs.Common.{◌≡◌, List, [], ◌∷◌, ◌++◌, Some, map, refl, ap, ◌∙◌}
 use Rattle.std.specs.List.{AllByRecursion}
 use Rattle.ca_model.specs.Entries.{EntryValue}
 use Rattle.ca_trace.specs.declared.line.Line.{Line}
-use Rattle.ca_trace.specs.Lines.{line_text, lines_text, history_lines}
+use Rattle.ca_trace.specs.Lines.{line_text, history_lines}
 use Rattle.ca_trace.specs.Trace.{text}
-use Rattle.ca_reading_words.specs.Words.{◌>>=◌, pieces}
+use Rattle.ca_reading_words.specs.Words.{pieces}
 use Rattle.ca_reading_lines.specs.Fits.{LineFits}
-use Rattle.ca_reading_lines.specs.Calls.{exact_in}
 use Rattle.ca_reading_lines.proofs.ExactLemmas.{exact_again}
 use Rattle.ca_reading.specs.Fits.{HistoryFits}
-use Rattle.ca_reading.specs.Steps.{run, start}
 use Rattle.ca_reading.specs.Texts.{lines_in, history_in}
 use Rattle.ca_reading.proofs.StepLemmas.{lines_run}
 use Rattle.ca_reading.proofs.TextLemmas.{history_text, lines_cut, history_fits}
@@ -23,4 +21,4 @@ lines_again (l ∷ m ∷ ls) h = rw (exact_again l h.0, lines_again (m ∷ ls) h
 pub history_again : (es : List EntryValue) → HistoryFits es → history_in (text es) ≡ Some es
 history_again es h =
     let cut : pieces 10 (text es) ≡ map line_text (history_lines es) ++ [] ∷ [] = ap (pieces 10) (history_text es h.history) ∙ lines_cut (history_lines es) (history_fits es h) in
-    rw (cut, lines_again (history_lines es) (history_fits es h), lines_run es h.history) refl
+    rw (cut, lines_again (history_lines es) (history_fits es h), lines_run es h.few h.history) refl

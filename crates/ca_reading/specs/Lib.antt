@@ -1,3 +1,8 @@
 pub mod Fits
 pub mod Steps
 pub mod Texts
+pub mod Taken
+pub mod Outside
+pub mod ReaderValue
+pub mod ReaderView
+pub mod Reader

@@ -1,9 +1,8 @@
 -- Steps: what a reader of lines knows, and what the next line makes of it. Contracts cite it.
-use Rattle.std.specs.Prelude.{ℕ, ◌+◌, ◌-◌, ◌==◌, ◌&&◌, Bool, true, false, if◌then◌else◌, List, [], ◌∷◌, ◌++◌, Option, Some, None}
+use Rattle.std.specs.Prelude.{ℕ, ◌+◌, ◌-◌, ◌==◌, ◌&&◌, nat_lt, Bool, true, false, if◌then◌else◌, List, [], ◌∷◌, ◌++◌, Option, Some, None}
 use Rattle.ca_base.specs.declared.completion.Completion.{Completion}
 use Rattle.ca_model.specs.declared.answer.Answer.{Answer}
 use Rattle.ca_model.specs.declared.answer.Answer.TheVariants as answers
-use Rattle.ca_model.specs.declared.event.Event.{Event}
 use Rattle.ca_model.specs.declared.event.Event.TheVariants as events
 use Rattle.ca_model.specs.declared.mark.Mark.{Mark}
 use Rattle.ca_model.specs.declared.mark.Mark.TheVariants as marks
@@ -36,6 +35,8 @@ pub data Stage : Type 0 where
   Open : EntryValue → Stage
   -- behind the last line
   Over : Stage
+  -- behind a line that was refused
+  Stopped : Stage
 
 -- how many entries have begun, and where the reader stands
 pub record Reading : Type 0 where
@@ -52,6 +53,11 @@ abbrev pub may_end : Stage → Bool
 may_end Start = true
 may_end (Open e) = true
 may_end stage = false
+
+-- an entry with this stamp may follow: it is the number of the entries before it, and is small enough that the last line
+-- can tell how many there are
+abbrev pub may_begin : Reading → ℕ → Bool
+may_begin r stamp = may_end r.stage && stamp == r.count && nat_lt stamp 18446744073709551615
 
 -- the entry of a call with its answer
 abbrev pub answered : ℕ → ℕ → ℕ → Verb → Answer → EntryValue
@@ -92,11 +98,11 @@ with_mark m stage = None
 -- what is known behind the next line, and the entry that it shows to be complete
 abbrev pub step : Reading → Line → Option (Reading × Option EntryValue)
 step r (lines.Turn stamp pass event) =
-    if may_end r.stage && stamp == r.count
+    if may_begin r stamp
     then Some (record { count = r.count + 1; stage = Open (record { stamp = stamp; pass = pass; event = event; marks = [] }) }, shown r.stage)
     else None
 step r (lines.Call stamp pass by verb answer) =
-    if may_end r.stage && stamp == r.count
+    if may_begin r stamp
     then Some (record { count = r.count + 1; stage = called stamp pass by verb answer }, shown r.stage)
     else None
 step r (lines.Got c) = do
@@ -126,3 +132,12 @@ run r (l ∷ ls) = do
 -- before the first line
 abbrev pub start : Reading
 start = record { count = 0; stage = Start }
+
+-- nothing is to come
+abbrev pub is_over : Stage → Bool
+is_over Over = true
+is_over stage = false
+
+-- behind a line that was refused
+abbrev pub stopped : Reading → Reading
+stopped r = record { count = r.count; stage = Stopped }

@@ -1,11 +1,11 @@
 -- Texts: the history that a whole text is. Contracts cite it.
-use Rattle.std.specs.Prelude.{ℕ, Bool, true, false, if◌then◌else◌, List, [], ◌∷◌, Option, Some, None}
+use Rattle.std.specs.Prelude.{ℕ, if◌then◌else◌, List, [], ◌∷◌, Option, Some, None}
 use Rattle.std.specs.Str.{bytes_eq}
 use Rattle.ca_model.specs.Entries.{EntryValue}
 use Rattle.ca_trace.specs.declared.line.Line.{Line}
 use Rattle.ca_reading_words.specs.Words.{◌>>=◌, pieces}
 use Rattle.ca_reading_lines.specs.Calls.{exact_in}
-use Rattle.ca_reading.specs.Steps.{Stage, Over, Reading, run, start}
+use Rattle.ca_reading.specs.Steps.{is_over, run, start}
 
 -- the lines of a text that was cut at its line feeds; nothing stands behind the last one
 abbrev pub lines_in : List (List ℕ) → Option (List Line)
@@ -15,11 +15,6 @@ lines_in (w ∷ v ∷ ws) = do
   line ← exact_in w
   lines ← lines_in (v ∷ ws)
   Some (line ∷ lines)
-
--- nothing is to come
-abbrev pub is_over : Stage → Bool
-is_over Over = true
-is_over stage = false
 
 -- the history that a text is
 abbrev pub history_in : List ℕ → Option (List EntryValue)

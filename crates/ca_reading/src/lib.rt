@@ -1,12 +1,25 @@
-//! The text of a history, read back: what its lines say together.
+//! The text of a history, read back: line by line as it comes, or whole.
 //!
 //! To the layers above it promises that the text of a history that fits gives this history, and that no other history
-//! that fits has this text. A history fits where its numbers and lists are within what their types hold. No call reads
-//! a whole text yet.
+//! that fits has this text; that a text is refused at its first line outside the grammar; and that every history that
+//! exists as a value fits.
 //!
 //! Source: this profile's choice, as the text of a history is.
 #![tactic(auto)]
 
+mod copy;
+mod error;
+mod fits;
 mod laws;
+mod progress;
+mod reader;
+mod whole;
 
-pub use laws::{one_text, text_is_read};
+pub use error::TraceError;
+pub use fits::history_fits;
+pub use laws::{
+    lines_are_text, lines_give, one_more_line, one_text, refused_line_begins_none,
+    taken_lines_begin, text_is_read,
+};
+pub use reader::TraceReader;
+pub use whole::{read, read_back};
