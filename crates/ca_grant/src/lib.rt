@@ -1,0 +1,12 @@
+//! The key check over parts, and what an engine may reach: memory and keys, by asks alone.
+//!
+//! To the layers above it promises that an ask is judged by the grants for which its key's window and region stand, with
+//! the places of the bytes that it touches; and that an engine over `Reach` meets memory only where an ask is allowed.
+//!
+//! Source: InfiniBand Architecture Specification Volume 1, the chapter on the software transport interface, sections on
+//! memory regions and windows, and the chapter on the transport layer, sections on remote access.
+#![tactic(auto)]
+
+mod reach;
+
+pub use reach::Reach;

@@ -1,0 +1,6 @@
+//! Tests of the key check and of local operations.
+#![tactic(auto)]
+
+mod engine;
+
+pub use engine::Outcome;
