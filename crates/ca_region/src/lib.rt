@@ -1,13 +1,19 @@
-//! A memory region: its key slot, vacant or valid. While it is valid it stands for one grant.
+//! A memory region: its key slot, vacant, free for a fast registration, or valid. While it is valid it stands for one
+//! grant.
 //!
-//! To the layers above it promises that a registration is refused for the first reason that applies and changes
-//! nothing then, and else grants exactly what was asked for, under another key than the slot had last.
+//! To the layers above it promises that each call is refused for the first reason that applies and changes nothing
+//! then, and else leaves exactly the region that its table says; and that the places of a region's bytes are those of
+//! its grant.
 //!
 //! Source: InfiniBand Architecture Specification Volume 1, the chapter on the software transport interface, section
-//! on memory regions.
+//! on memory regions, with the base memory management extensions.
 #![tactic(auto)]
 
+mod page_mapping;
+mod pages;
+mod refusals;
 mod region;
+mod run_mapping;
 
 pub use ca_base::RegionError;
 pub use region::Region;

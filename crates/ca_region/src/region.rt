@@ -1,28 +1,42 @@
-ghost use Rattle.std.specs.Prelude.{◌≡◌, [], ◌∷◌, IfOk};
-ghost use Rattle.ca_base.specs.Grants.{registration_refusal};
+ghost use Rattle.std.specs.Prelude.{◌≡◌, ◌∷◌, [], IfOk};
+ghost use Rattle.ca_base.specs.Grants as grants;
 
-use ca_base::{Grant, Key, Memory, RegionError, Rights, Run, Runs, Slot, first_address};
+use crate::page_mapping::PageMapping;
+use crate::pages::{page_parts, pages_pass_end};
+use crate::refusals::{has_bad_pages, needs_local_write, registration_refusal};
+use crate::run_mapping::RunMapping;
+use ca_base::limits::{MAX_PAGES, PAGE_BYTES};
+use ca_base::{Grant, Key, Memory, Pages, RegionError, RegionView, Rights, Run, Runs, Slot, Span};
 use std::alloc::Global;
 use std::marker::Model;
 
-/// The key slot of a memory region. Its low byte opens at 0 and rises with each registration, so that the key that was
-/// granted last is not the one that is granted next (this profile's choice).
+/// The slot of a memory region. Its low byte opens at 0 and stays while the slot is vacant. It rises with each
+/// registration, so that the key that was granted last is not the one that is granted next, and a fast registration
+/// names it (this profile's choice).
 #[derive(Drop)]
 pub struct Region {
     low: u8,
+    bound: u32,
     state: State,
 }
 
-#[derive(Clone, Copy)]
+#[derive(Drop)]
 enum State {
     Vacant,
-    Valid { slot: Slot, at: Run, rights: Rights },
+    Free {
+        pages: u16,
+    },
+    Registered(RunMapping),
+    FastRegistered {
+        allocated: u16,
+        mapping: PageMapping,
+    },
 }
 
 impl Model for Region {
-    ghost use Rattle.ca_region.specs.Region.{RegionValue};
+    ghost use Rattle.ca_base.specs.objects.Region.{Region};
 
-    ghost Value = { RegionValue };
+    ghost Value = { Region };
 
     ghost use Rattle.ca_region.specs.View.{view_of};
 
@@ -30,25 +44,75 @@ impl Model for Region {
 }
 
 impl Region {
-    ghost use Rattle.std.specs.Prelude.{◌≡◌, IfOk, IfErr, OnOk, OnErr, is_none, None, Some};
-    ghost use Rattle.ca_base.specs.Grants.{grant_of_registration, next_low, registration_refusal};
-    ghost use Rattle.ca_region.specs.Region.{RefusesBy};
+    ghost use Rattle.std.specs.Prelude.{◌≡◌, ◌<◌, ◌≤◌, IfOk, IfErr, IfSome, OnOk, OnErr, None, Some, true};
+    ghost use Rattle.ca_base.specs.Grants as grants;
+    ghost use Rattle.ca_base.specs.Memory.{places_count};
+    ghost use Rattle.ca_base.specs.Numbers as numbers;
+    ghost use Rattle.ca_base.specs.Refusals.{first_of};
+    ghost use Rattle.ca_base.specs.objects.Region as regions;
+    ghost use Rattle.ca_region.specs.Region.{RefusesBy, HasBytes, IsOfRegion, region_runs_at, valid_key};
+    ghost use Rattle.ca_region.specs.Span.{runs_of_span};
 
-    /// The slot before its first registration.
+    /// The slot before its first region.
     pub fn vacant() -> Region
-        ensures { result ≡ record { low = 0; grant = None } }
+        ensures { result ≡ regions.vacant_region }
     {
         Region {
             low: 0,
+            bound: 0,
             state: State::Vacant,
         }
     }
 
     /// Whether the slot is vacant.
     pub fn is_vacant(&self) -> bool
-        ensures { result ≡ is_none self.now.grant }
+        ensures { result ≡ regions.is_vacant_region self.now }
     {
-        matches!(self.state, State::Vacant)
+        matches!(&self.state, State::Vacant)
+    }
+
+    /// What others see: the range, the rights and the key of a valid region. What is not valid has no byte and no
+    /// right.
+    pub fn view(&self) -> RegionView
+        ensures view { result ≡ regions.view_of_region self.now }
+        ensures grant { IfSome (regions.grant_of_region self.now) IsOfRegion }
+    {
+        match &self.state {
+            State::Registered(m) => self.valid_view(m.slot, m.rights, m.address(), m.at.length),
+            State::FastRegistered { mapping: m, .. } => {
+                self.valid_view(m.slot, m.rights, m.address, m.bytes)
+            }
+            State::Vacant | State::Free { .. } => RegionView {
+                valid: false,
+                key: Key(0),
+                rights: Rights::default(),
+                address: 0,
+                length: 0,
+            },
+        }
+    }
+
+    /// How many windows are bound to the region.
+    pub fn bound(&self) -> u32
+        ensures { result ≡ self.now.bound }
+    {
+        self.bound
+    }
+
+    /// Counts one more window that is bound to the region.
+    pub fn note_bind(&mut self)
+        requires { self.old.bound < u32.MAX }
+        ensures { self.new ≡ regions.with_window_bound self.old }
+    {
+        self.bound += 1;
+    }
+
+    /// Counts one window fewer that is bound to the region.
+    pub fn note_unbind(&mut self)
+        requires { 0 < self.old.bound }
+        ensures { self.new ≡ regions.with_window_unbound self.old }
+    {
+        self.bound -= 1;
     }
 
     /// Registers a run of a buffer of `buffer_length` bytes in this vacant slot, and gives what is granted. The
@@ -62,51 +126,213 @@ impl Region {
         buffer_length: u32,
         rights: Rights,
     ) -> Result<Grant, RegionError>
-        requires { self.old.grant ≡ None }
-        ensures granted { IfOk result (λ g. g ≡ grant_of_registration slot at rights (next_low self.old.low)) }
-        ensures valid { IfOk result (λ g. self.new ≡ record { low = next_low self.old.low; grant = Some g }) }
-        ensures accepted { OnOk result (registration_refusal at buffer_length rights ≡ None) }
-        ensures refused { IfErr result (RefusesBy (registration_refusal at buffer_length rights)) }
+        requires { self.old.state ≡ regions.NoRegion }
+        ensures granted { IfOk result (λ g. g ≡ grants.grant_of_registration slot at rights (grants.next_low self.old.low)) }
+        ensures valid { OnOk result (self.new ≡ regions.after_registration slot at rights self.old) }
+        ensures accepted { OnOk result (grants.registration_refusal at buffer_length rights ≡ None) }
+        ensures refused { IfErr result (RefusesBy (grants.registration_refusal at buffer_length rights)) }
         ensures err { OnErr result (self.new ≡ self.old) }
     {
-        if let Some(refusal) = refusal_of(at, buffer_length, rights) {
+        if let Some(refusal) = registration_refusal(at, buffer_length, rights) {
             return Err(refusal);
         }
         let runs = one_run(alloc, at)?;
+        let mapping = RunMapping { slot, at, rights };
         self.low = if self.low == 255 { 0 } else { self.low + 1 };
-        self.state = State::Valid { slot, at, rights };
-        Ok(Grant {
-            key: Key::of_region(slot, self.low),
-            domain: slot.domain,
-            queue: None,
-            local: true,
-            address: first_address(at.buffer) + u64::from(at.offset),
-            length: at.length,
+        self.state = State::Registered(mapping);
+        Ok(grant(slot, self.low, mapping.address(), at.length, rights, runs))
+    }
+
+    /// Allocates a region for fast registrations of at most so many pages in this vacant slot.
+    pub fn allocate(&mut self, pages: u16)
+        requires vacant { self.old.state ≡ regions.NoRegion }
+        requires some { 1 ≤ pages }
+        requires few { pages ≤ MAX_PAGES }
+        ensures { self.new ≡ regions.after_allocation pages self.old }
+    {
+        self.state = State::Free { pages };
+    }
+
+    /// Registers pages of a buffer of `buffer_length` bytes in this free region, under the low byte that is named, for
+    /// `length` addresses from `address` on, and gives what is granted. The first byte lies as far behind the begin of
+    /// the first page as its address behind a multiple of a page's bytes. The refusals in order are `NotFree`,
+    /// `RightsNeedLocalWrite`, `BadPages`, `OutsideBuffer` and `Memory`; each leaves the region as it was.
+    pub fn fast_register(
+        &mut self,
+        alloc: Global,
+        slot: Slot,
+        low: u8,
+        buffer: u16,
+        buffer_length: u32,
+        address: u64,
+        length: u32,
+        rights: Rights,
+        pages: &Pages,
+    ) -> Result<Grant, RegionError>
+        ensures granted { IfOk result (λ g. g ≡ grants.grant_of_fast_registration slot low buffer address length rights pages.now) }
+        ensures places { IfOk result (λ g. places_count g.runs ≡ length) }
+        ensures valid { OnOk result (self.new ≡ regions.after_fast_registration slot low buffer address length rights pages.now self.old) }
+        ensures accepted { OnOk result (first_of (regions.fast_registration_refusals slot buffer buffer_length address length rights pages.now self.old) ≡ None) }
+        ensures refused { IfErr result (RefusesBy (first_of (regions.fast_registration_refusals slot buffer buffer_length address length rights pages.now self.old))) }
+        ensures err { OnErr result (self.new ≡ self.old) }
+    {
+        let Some(allocated) = self.allocated() else {
+            return Err(RegionError::NotFree);
+        };
+        let list = pages.as_slice();
+        let skip = (address % u64::from(PAGE_BYTES)) as u32;
+        let adapter = slot.domain.adapter;
+        if needs_local_write(rights) {
+            return Err(RegionError::RightsNeedLocalWrite);
+        }
+        if has_bad_pages(allocated, address, length, list) {
+            return Err(RegionError::BadPages);
+        }
+        if pages_pass_end(adapter, buffer, buffer_length, list, skip, length) {
+            return Err(RegionError::OutsideBuffer);
+        }
+        let runs = page_parts(alloc, adapter, buffer, list, skip, length)?;
+        let mapping = PageMapping {
+            slot,
+            buffer,
+            address,
+            bytes: length,
             rights,
-            runs,
-        })
+            pages: Pages::copy_of(alloc, list)?,
+        };
+        self.low = low;
+        self.state = State::FastRegistered { allocated, mapping };
+        Ok(grant(slot, low, address, length, rights, runs))
+    }
+
+    /// Ends a fast registration by its key: the region is free again. The refusals in order are `NotValid`,
+    /// `KeyDiffers`, `NotFastRegistered` (this profile's choice) and `WindowsBound`.
+    pub fn invalidate(&mut self, key: Key) -> Result<(), RegionError>
+        ensures accepted { OnOk result (first_of (regions.region_invalidation_refusals key self.old) ≡ None) }
+        ensures refused { IfErr result (λ e. first_of (regions.region_invalidation_refusals key self.old) ≡ Some e) }
+        ensures free { OnOk result (self.new ≡ regions.after_region_invalidation self.old) }
+        ensures err { OnErr result (self.new ≡ self.old) }
+    {
+        let Some(valid) = self.key() else {
+            return Err(RegionError::NotValid);
+        };
+        if valid != key {
+            return Err(RegionError::KeyDiffers);
+        }
+        let State::FastRegistered { allocated, .. } = &self.state else {
+            return Err(RegionError::NotFastRegistered);
+        };
+        if self.bound > 0 {
+            return Err(RegionError::WindowsBound);
+        }
+        self.state = State::Free { pages: *allocated };
+        Ok(())
+    }
+
+    /// Makes the slot vacant, and gives the key that was valid. The refusals in order are `Vacant` and `WindowsBound`.
+    pub fn deregister(&mut self) -> Result<Option<Key>, RegionError>
+        ensures accepted { OnOk result (first_of (regions.deregistration_refusals self.old) ≡ None) }
+        ensures refused { IfErr result (λ e. first_of (regions.deregistration_refusals self.old) ≡ Some e) }
+        ensures key { IfOk result (λ key. key ≡ valid_key self.old) }
+        ensures vacant { OnOk result (self.new ≡ regions.after_deregistration self.old) }
+        ensures err { OnErr result (self.new ≡ self.old) }
+    {
+        if self.is_vacant() {
+            return Err(RegionError::Vacant);
+        }
+        if self.bound > 0 {
+            return Err(RegionError::WindowsBound);
+        }
+        let key = self.key();
+        self.state = State::Vacant;
+        Ok(key)
+    }
+
+    /// Where `touch` bytes from `address` on lie, which the region has: in at most two runs. It takes no memory, and
+    /// time that does not grow with the count of pages.
+    pub fn span(&self, address: u64, touch: u32) -> Span
+        requires some { 0 < touch }
+        requires few { touch ≤ PAGE_BYTES }
+        requires has { HasBytes address touch (regions.grant_of_region self.now) }
+        ensures places { runs_of_span result ≡ region_runs_at self.now address touch }
+        ensures count { places_count (runs_of_span result) ≡ touch }
+    {
+        match &self.state {
+            State::Registered(mapping) => Span {
+                first: mapping.part(address, touch),
+                second: None,
+            },
+            State::FastRegistered { mapping, .. } => mapping.span(address, touch),
+            State::Vacant | State::Free { .. } => unreachable!(),
+        }
+    }
+
+    /// Where `length` bytes from `address` on lie, which the region has: its runs, cut to these bytes.
+    pub fn runs(&self, alloc: Global, address: u64, length: u32) -> Result<Runs, Memory>
+        requires some { 0 < length }
+        requires has { HasBytes address length (regions.grant_of_region self.now) }
+        ensures places { IfOk result (λ runs. runs ≡ region_runs_at self.now address length) }
+        ensures count { IfOk result (λ runs. places_count runs ≡ length) }
+    {
+        match &self.state {
+            State::Registered(mapping) => one_run(alloc, mapping.part(address, length)),
+            State::FastRegistered { mapping, .. } => mapping.runs(alloc, address, length),
+            State::Vacant | State::Free { .. } => unreachable!(),
+        }
+    }
+
+    fn valid_view(&self, slot: Slot, rights: Rights, address: u64, length: u32) -> RegionView
+        ensures { result ≡ record { valid = true; key = numbers.key_at (numbers.region_index slot) self.now.low; rights = rights; address = address; length = length } }
+    {
+        RegionView {
+            valid: true,
+            key: Key::of_region(slot, self.low),
+            rights,
+            address,
+            length,
+        }
+    }
+
+    fn key(&self) -> Option<Key>
+        ensures { result ≡ valid_key self.now }
+    {
+        match &self.state {
+            State::Registered(m) => Some(Key::of_region(m.slot, self.low)),
+            State::FastRegistered { mapping: m, .. } => Some(Key::of_region(m.slot, self.low)),
+            State::Vacant | State::Free { .. } => None,
+        }
+    }
+
+    // How many pages a free region was allocated for.
+    fn allocated(&self) -> Option<u16>
+        ensures { result ≡ regions.free_pages self.now.state }
+    {
+        match &self.state {
+            State::Free { pages } => Some(*pages),
+            State::Vacant | State::Registered(_) | State::FastRegistered { .. } => None,
+        }
     }
 }
 
-fn refusal_of(at: Run, buffer_length: u32, rights: Rights) -> Option<RegionError>
-    ensures { result ≡ registration_refusal at buffer_length rights }
+fn grant(slot: Slot, low: u8, address: u64, length: u32, rights: Rights, runs: Runs) -> Grant
+    ensures { result ≡ grants.region_grant slot low address length rights runs }
 {
-    if at.length == 0 {
-        return Some(RegionError::Empty);
+    Grant {
+        key: Key::of_region(slot, low),
+        domain: slot.domain,
+        queue: None,
+        local: true,
+        address,
+        length,
+        rights,
+        runs,
     }
-    if at.offset > buffer_length || at.length > buffer_length - at.offset {
-        return Some(RegionError::OutsideBuffer);
-    }
-    if (rights.remote_write || rights.remote_atomic) && !rights.local_write {
-        return Some(RegionError::RightsNeedLocalWrite);
-    }
-    None
 }
 
 fn one_run(alloc: Global, at: Run) -> Result<Runs, Memory>
     ensures { IfOk result (λ runs. runs ≡ at ∷ []) }
 {
-    let mut runs = Runs::empty(alloc);
+    let mut runs = Vec::with_capacity(alloc, 1)?;
     runs.push(at)?;
-    Ok(runs)
+    Ok(Runs::from(runs))
 }

@@ -1,0 +1,90 @@
+ghost use Rattle.std.specs.Prelude.{◌≡◌, ◌+◌, ◌-◌, ◌<◌, map, min, IfOk};
+ghost use Rattle.std.specs.List.{list_any};
+ghost use Rattle.ca_base.specs.Grants.{page_run};
+ghost use Rattle.ca_base.specs.Memory.{cut, run_part};
+ghost use Rattle.ca_base.specs.objects.Region.{has_repeat, passes_end};
+
+use ca_base::limits::PAGE_BYTES;
+use ca_base::{Memory, Run, Runs};
+use std::alloc::Global;
+
+/// The part of a page with at most `count` bytes, without `skip` at its front.
+pub fn page_part(adapter: u8, buffer: u16, page: u16, skip: u32, count: u32) -> Run
+    requires { skip < PAGE_BYTES }
+    ensures { result ≡ run_part (page_run adapter buffer page) skip (min count (PAGE_BYTES - skip)) }
+{
+    Run {
+        adapter,
+        buffer,
+        offset: u32::from(page) * PAGE_BYTES + skip,
+        length: count.min(PAGE_BYTES - skip),
+    }
+}
+
+/// The runs of pages, cut to `count` bytes without `skip` at their front.
+pub fn page_parts(
+    alloc: Global,
+    adapter: u8,
+    buffer: u16,
+    pages: &[u16],
+    skip: u32,
+    count: u32,
+) -> Result<Runs, Memory>
+    requires { skip < PAGE_BYTES }
+    ensures { IfOk result (λ runs. runs ≡ cut skip count (map (page_run adapter buffer) pages.now)) }
+{
+    let needed = (u64::from(skip) + u64::from(count)).div_ceil(u64::from(PAGE_BYTES));
+    let mut runs = Vec::with_capacity(alloc, needed as usize)?;
+    let mut skipped = skip;
+    let mut left = count;
+    for page in pages {
+        if left == 0 {
+            break;
+        }
+        let part = page_part(adapter, buffer, *page, skipped, left);
+        runs.push(part)?;
+        left -= part.length;
+        skipped = 0;
+    }
+    Ok(Runs::from(runs))
+}
+
+/// Whether a byte of these parts of pages lies behind the end of a buffer.
+pub fn pages_pass_end(
+    adapter: u8,
+    buffer: u16,
+    buffer_length: u32,
+    pages: &[u16],
+    skip: u32,
+    count: u32,
+) -> bool
+    requires { skip < PAGE_BYTES }
+    ensures { result ≡ list_any (passes_end buffer_length) (cut skip count (map (page_run adapter buffer) pages.now)) }
+{
+    let mut skipped = skip;
+    let mut left = count;
+    for page in pages {
+        if left == 0 {
+            return false;
+        }
+        let part = page_part(adapter, buffer, *page, skipped, left);
+        if buffer_length < part.offset + part.length {
+            return true;
+        }
+        left -= part.length;
+        skipped = 0;
+    }
+    false
+}
+
+/// Whether a page stands twice in the list.
+pub fn repeats(pages: &[u16]) -> bool
+    ensures { result ≡ has_repeat pages.now }
+{
+    for i in 0..pages.len() {
+        if pages[i + 1..].contains(&pages[i]) {
+            return true;
+        }
+    }
+    false
+}
