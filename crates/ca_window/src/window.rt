@@ -40,11 +40,12 @@ impl Model for Window {
 }
 
 impl Window {
-    ghost use Rattle.std.specs.Prelude.{◌<◌, ◌≤◌, ℕ, Some, None, OnOk, OnErr, IfOk, IfErr};
+    ghost use Rattle.std.specs.Prelude.{◌<◌, ◌≤◌, ℕ, Some, None, true, OnOk, OnErr, IfOk, IfErr, IfSome};
     ghost use Rattle.std.specs.Option.{option_copied, option_map};
     ghost use Rattle.ca_base.specs.Grants.{grant_of_bind};
     ghost use Rattle.ca_base.specs.Refusals.{first_of};
     ghost use Rattle.ca_base.specs.declared.grant.Grant.{Grant};
+    ghost use Rattle.ca_base.specs.objects.Slices.{is_key_of};
     ghost use Rattle.ca_base.specs.objects.Window as windows;
     ghost use Rattle.ca_window.specs.Bind.{region_of_view};
     ghost use Rattle.ca_window.specs.Seen.{view_of_window, grant_of_window};
@@ -75,14 +76,15 @@ impl Window {
         }
     }
 
-    /// What is bound. None comes exactly where nothing is.
+    /// What is bound, under a key of the window's domain. None comes exactly where nothing is.
     pub fn view(&self) -> Option<WindowView>
-        ensures { result ≡ view_of_window self.now }
+        ensures view { result ≡ view_of_window self.now }
+        ensures domain { IfSome result (λ v. is_key_of self.now.slot.domain v.key ≡ true) }
     {
         match self.binding {
             None => None,
             Some(b) => Some(WindowView {
-                key: self.key(),
+                key: Key::of_window(self.slot, self.low),
                 queue: b.queue,
                 address: b.address,
                 length: b.length,
