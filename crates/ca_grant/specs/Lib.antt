@@ -1,2 +1,3 @@
+pub mod KeySlot
 pub mod Parts
 pub mod Reaching

@@ -5,6 +5,7 @@ use Rattle.ca_base.specs.declared.access.Ask.{Ask}
 use Rattle.ca_base.specs.declared.grant.Grant.{Grant}
 use Rattle.ca_base.specs.objects.Region.{Region, grant_of_region}
 use Rattle.ca_base.specs.objects.Window.{Window, Binding, grant_of_binding}
+use Rattle.ca_grant.specs.KeySlot.{list_of_grant}
 
 -- the grant for which a window stands, while it is bound, over what its region grants
 abbrev pub grant_of_bound : Window → Option Grant → Option Grant
@@ -17,7 +18,7 @@ grant_of_parts (Some w) r = grant_of_bound w (option_and_then grant_of_region r)
 
 -- the grants for which parts stand, of which there is one at most
 abbrev pub grants_of_parts : Option Window → Option Region → List Grant
-grants_of_parts w r = option_map_or (λ g. g ∷ []) (grant_of_parts w r) []
+grants_of_parts w r = list_of_grant (grant_of_parts w r)
 
 -- the grant is of the ask's adapter, if there is one
 abbrev pub IsOfAdapter : Ask → Option Grant → Type 0

@@ -7,6 +7,8 @@
 //! memory regions and windows, and the chapter on the transport layer, sections on remote access.
 #![tactic(auto)]
 
+mod law;
 mod reach;
 
+pub use law::judged_by_slot;
 pub use reach::Reach;
