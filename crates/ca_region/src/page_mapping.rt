@@ -22,7 +22,7 @@ pub struct PageMapping {
 impl PageMapping {
     ghost use Rattle.std.specs.Prelude.{◌≡◌, ◌-◌, ◌/◌, ◌<◌, min, slice_index, IfOk};
     ghost use Rattle.ca_base.specs.Grants.{page_run, page_runs};
-    ghost use Rattle.ca_base.specs.Memory.{cut, run_part};
+    ghost use Rattle.ca_base.specs.Memory.{cut, places_count, run_part};
     ghost use Rattle.ca_region.specs.Span.{runs_of_span};
 
     /// Where `touch` bytes from `address` on lie. They are at most those of a page, so they lie in two pages at most.
@@ -31,7 +31,8 @@ impl PageMapping {
         requires few { touch ≤ PAGE_BYTES }
         requires begin { self.now.address ≤ address }
         requires end { address + touch ≤ self.now.address + self.now.bytes }
-        ensures { runs_of_span result ≡ cut (address - self.now.address) touch
+        ensures count { places_count (runs_of_span result) ≡ touch }
+        ensures places { runs_of_span result ≡ cut (address - self.now.address) touch
             (page_runs self.now.slot.domain.adapter self.now.buffer self.now.address self.now.bytes self.now.pages) }
     {
         let (index, skip) = self.place_of(address);
@@ -50,7 +51,8 @@ impl PageMapping {
         requires some { 0 < count }
         requires begin { self.now.address ≤ address }
         requires end { address + count ≤ self.now.address + self.now.bytes }
-        ensures { IfOk result (λ runs. runs ≡ cut (address - self.now.address) count
+        ensures count { IfOk result (λ runs. places_count runs ≡ count) }
+        ensures places { IfOk result (λ runs. runs ≡ cut (address - self.now.address) count
             (page_runs self.now.slot.domain.adapter self.now.buffer self.now.address self.now.bytes self.now.pages)) }
     {
         let (index, skip) = self.place_of(address);

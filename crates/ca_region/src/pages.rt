@@ -1,7 +1,7 @@
-ghost use Rattle.std.specs.Prelude.{◌≡◌, ◌+◌, ◌-◌, ◌<◌, map, min, IfOk};
+ghost use Rattle.std.specs.Prelude.{◌≡◌, ◌+◌, ◌-◌, ◌*◌, ◌<◌, ◌≤◌, length, map, min, IfOk};
 ghost use Rattle.std.specs.List.{list_any};
 ghost use Rattle.ca_base.specs.Grants.{page_run};
-ghost use Rattle.ca_base.specs.Memory.{cut, run_part};
+ghost use Rattle.ca_base.specs.Memory.{cut, places_count, run_part};
 ghost use Rattle.ca_base.specs.objects.Region.{has_repeat, passes_end};
 
 use ca_base::limits::PAGE_BYTES;
@@ -31,7 +31,8 @@ pub fn page_parts(
     count: u32,
 ) -> Result<Runs, Memory>
     requires { skip < PAGE_BYTES }
-    ensures { IfOk result (λ runs. runs ≡ cut skip count (map (page_run adapter buffer) pages.now)) }
+    ensures count { IfOk result (λ runs. skip + count ≤ length pages.now * PAGE_BYTES → places_count runs ≡ count) }
+    ensures places { IfOk result (λ runs. runs ≡ cut skip count (map (page_run adapter buffer) pages.now)) }
 {
     let needed = (u64::from(skip) + u64::from(count)).div_ceil(u64::from(PAGE_BYTES));
     let mut runs = Vec::with_capacity(alloc, needed as usize)?;

@@ -50,6 +50,7 @@ impl Region {
     ghost use Rattle.ca_base.specs.Numbers as numbers;
     ghost use Rattle.ca_base.specs.Refusals.{first_of};
     ghost use Rattle.ca_base.specs.objects.Region as regions;
+    ghost use Rattle.ca_base.specs.objects.Slices.{is_key_of};
     ghost use Rattle.ca_region.specs.Region.{RefusesBy, HasBytes, IsOfRegion, region_runs_at, valid_key};
     ghost use Rattle.ca_region.specs.Span.{runs_of_span};
 
@@ -282,7 +283,8 @@ impl Region {
     }
 
     fn valid_view(&self, slot: Slot, rights: Rights, address: u64, length: u32) -> RegionView
-        ensures { result ≡ record { valid = true; key = numbers.key_at (numbers.region_index slot) self.now.low; rights = rights; address = address; length = length } }
+        ensures key { is_key_of slot.domain result.key ≡ true }
+        ensures view { result ≡ record { valid = true; key = numbers.key_at (numbers.region_index slot) self.now.low; rights = rights; address = address; length = length } }
     {
         RegionView {
             valid: true,
