@@ -7,8 +7,10 @@
 //! memory regions and windows, and the chapter on the transport layer, sections on remote access.
 #![tactic(auto)]
 
+mod key_check;
 mod law;
 mod reach;
 
+pub use key_check::judge;
 pub use law::judged_by_slot;
 pub use reach::Reach;
