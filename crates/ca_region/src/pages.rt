@@ -4,7 +4,7 @@ ghost use Rattle.ca_base.specs.Grants.{page_run};
 ghost use Rattle.ca_base.specs.Memory.{cut, places_count, run_part};
 ghost use Rattle.ca_base.specs.objects.Region.{has_repeat, passes_end};
 
-use ca_base::limits::PAGE_BYTES;
+use ca_base::limits::{MAX_PAGES, PAGE_BYTES};
 use ca_base::{Memory, Run, Runs};
 use std::alloc::Global;
 
@@ -78,13 +78,24 @@ pub fn pages_pass_end(
     false
 }
 
-/// Whether a page stands twice in the list.
+/// Whether a page stands twice in the list. A buffer has at most `MAX_PAGES` pages, so a mark for each of these is all
+/// that a list of pages of a buffer needs; a page behind them is looked for.
 pub fn repeats(pages: &[u16]) -> bool
     ensures { result ≡ has_repeat pages.now }
 {
-    for i in 0..pages.len() {
-        if pages[i + 1..].contains(&pages[i]) {
+    let mut seen = [false; MAX_PAGES as usize];
+    for i in (0..pages.len()).rev() {
+        let page = pages[i];
+        let again = if page < MAX_PAGES {
+            seen[usize::from(page)]
+        } else {
+            pages[i + 1..].contains(&page)
+        };
+        if again {
             return true;
+        }
+        if page < MAX_PAGES {
+            seen[usize::from(page)] = true;
         }
     }
     false

@@ -2,7 +2,7 @@ use Rattle.std.proofs.Common.{◌∙◌, ap, arith, map, drop}
 use Rattle.std.proofs.lemmas.Grind.{common_steps}
 use Rattle.ca_base.specs.Grants.{page_run}
 use Rattle.ca_base.specs.Memory.{places_count}
-use Rattle.ca_region.proofs.Cut.{cut-none, cut-part, range-count}
+use Rattle.ca_region.proofs.Cut.{cut-none, range-count}
 use Rattle.ca_region.proofs.pages.page_parts.Goals as goal
 use Rattle.ca_region.proofs.pages.page_parts.Goals.{else-loop-page-test, then-loop-page-test+then-left-eq0}
 
@@ -10,7 +10,7 @@ pub returns-clause-places : goal.returns-clause-places
 returns-clause-places c =
     let none = cut-none (map (page_run c.args.adapter c.args.buffer) (drop c.loop-page.page-index c.args.pages.now)) c.loop-page.skipped in
     elim c.loop-page-test.branch [
-      else-loop-page-test w ↦ grind (arith, common_steps, none)
+      | else-loop-page-test w ↦ grind (arith, common_steps, none)
       | then-loop-page-test+then-left-eq0 w ↦ grind (arith, common_steps, none)
     ]
 
