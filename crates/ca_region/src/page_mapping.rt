@@ -1,5 +1,5 @@
 ghost use Rattle.std.specs.Prelude.{◌+◌, ◌*◌, ◌%◌, ◌≤◌, length};
-ghost use Rattle.ca_base.specs.declared.limits.TheConstants.{PAGE_BYTES};
+ghost use Rattle.ca_base.specs.declared.limits.TheConstants.{ATOMIC_BYTES, PAGE_BYTES};
 
 use crate::pages::{page_part, page_parts};
 use ca_base::limits::PAGE_BYTES;
@@ -20,7 +20,7 @@ pub struct PageMapping {
 }
 
 impl PageMapping {
-    ghost use Rattle.std.specs.Prelude.{◌≡◌, ◌-◌, ◌/◌, ◌<◌, min, slice_index, IfOk};
+    ghost use Rattle.std.specs.Prelude.{◌≡◌, ◌-◌, ◌/◌, ◌<◌, min, slice_index, IfOk, None};
     ghost use Rattle.ca_base.specs.Grants.{page_run, page_runs};
     ghost use Rattle.ca_base.specs.Memory.{cut, places_count, run_part};
     ghost use Rattle.ca_region.specs.Span.{runs_of_span};
@@ -34,6 +34,7 @@ impl PageMapping {
         ensures count { places_count (runs_of_span result) ≡ touch }
         ensures places { runs_of_span result ≡ cut (address - self.now.address) touch
             (page_runs self.now.slot.domain.adapter self.now.buffer self.now.address self.now.bytes self.now.pages) }
+        ensures whole { address % ATOMIC_BYTES ≡ 0 → touch ≤ ATOMIC_BYTES → result.second ≡ None }
     {
         let (index, skip) = self.place_of(address);
         let first = self.part(index, skip, touch);
