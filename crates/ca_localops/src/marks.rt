@@ -1,7 +1,8 @@
 ghost use Rattle.std.specs.Prelude.{◌≡◌};
+ghost use Rattle.ca_localops.specs.Errors.{error_of_region};
 ghost use Rattle.ca_localops.specs.declared.marks.OpError.TheVariants as errors;
 
-use ca_base::{Grant, Key, Memory, OpRefusal};
+use ca_base::{Grant, Key, Memory, OpRefusal, RegionError};
 
 /// What a local operation revoked and granted: at most one key, and at most one grant.
 #[derive(Drop)]
@@ -23,5 +24,16 @@ impl From<Memory> for OpError {
 
     fn from(_memory: Memory) -> OpError {
         OpError::Memory
+    }
+}
+
+impl From<RegionError> for OpError {
+    ghost from_gives = { λ error given. given ≡ error_of_region error };
+
+    fn from(error: RegionError) -> OpError {
+        match error {
+            RegionError::Memory => OpError::Memory,
+            error => OpError::Refused(OpRefusal::Region(error)),
+        }
     }
 }
