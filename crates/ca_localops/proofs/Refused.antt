@@ -5,8 +5,9 @@ use Rattle.ca_base.specs.declared.refusals.OpRefusal.{OpRefusal}
 use Rattle.ca_base.specs.declared.refusals.OpRefusal.TheVariants as refusals
 use Rattle.ca_base.specs.declared.refusals.RegionError.{RegionError}
 use Rattle.ca_base.specs.declared.refusals.RegionError.TheVariants as regions
+use Rattle.ca_base.specs.declared.refusals.WindowError.{WindowError}
 use Rattle.ca_base.specs.Refusals.{first_of}
-use Rattle.ca_base.specs.objects.LocalRequest.{of_region}
+use Rattle.ca_base.specs.objects.LocalRequest.{of_region, of_window}
 use Rattle.ca_localops.specs.Errors.{FailsBy, error_of_region}
 use Rattle.ca_region.specs.Region.{RefusesBy}
 
@@ -17,6 +18,16 @@ first-of-region (t ∷ ts) = by t.0 (first-of-region ts)
   where
     by : (b : Bool) → first_of (of_region ts) ≡ option_map refusals.Region (first_of ts)
         → (if b then Some (refusals.Region t.1) else first_of (of_region ts)) ≡ option_map refusals.Region (if b then Some t.1 else first_of ts)
+    by true rest = refl
+    by false rest = rest
+
+-- the same of a window's refusals
+pub first-of-window : (tests : List (Bool × WindowError)) → first_of (of_window tests) ≡ option_map refusals.Window (first_of tests)
+first-of-window [] = refl
+first-of-window (t ∷ ts) = by t.0 (first-of-window ts)
+  where
+    by : (b : Bool) → first_of (of_window ts) ≡ option_map refusals.Window (first_of ts)
+        → (if b then Some (refusals.Window t.1) else first_of (of_window ts)) ≡ option_map refusals.Window (if b then Some t.1 else first_of ts)
     by true rest = refl
     by false rest = rest
 

@@ -8,12 +8,15 @@
 //! memory windows and on the base memory management extensions.
 #![tactic(auto)]
 
+mod binding;
 mod fast_registration;
 mod invalidation;
 mod marks;
+mod request;
 
 pub use ca_base::OpRefusal;
 pub use fast_registration::fast;
 pub use invalidation::invalidate;
 
 pub use marks::{Marks2, OpError};
+pub use request::{BindKind, BindRequest};

@@ -64,6 +64,14 @@ impl Window {
         }
     }
 
+    /// The slot, from which the window's keys have their index.
+    pub fn slot(&self) -> Slot
+        ensures slot { result ≡ self.now.slot }
+        ensures small { result.slot < 32768 }
+    {
+        self.slot
+    }
+
     /// 0 where the slot is vacant, and else the window's type, 1 or 2.
     pub fn kind(&self) -> u8
         ensures kind { result ≡ self.now.kind }
@@ -236,7 +244,8 @@ impl Window {
         });
     }
 
-    fn bind1_refusal(
+    /// Why a bind of a type 1 window would be refused. None comes exactly where it would not.
+    pub fn bind1_refusal(
         &self,
         r: Option<&RegionView>,
         address: u64,
@@ -253,7 +262,8 @@ impl Window {
         }
     }
 
-    fn bind2_refusal(
+    /// Why a bind of a type 2 window would be refused. None comes exactly where it would not.
+    pub fn bind2_refusal(
         &self,
         r: Option<&RegionView>,
         address: u64,
