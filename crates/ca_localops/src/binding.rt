@@ -8,7 +8,7 @@ ghost use Rattle.ca_region.specs.Region.{HasBytes};
 
 use crate::marks::{Marks2, OpError};
 use crate::request::{BindKind, BindRequest};
-use ca_base::{Grant, Key, Memory, OpRefusal, QueueId, RegionView, Rights, WindowError};
+use ca_base::{Grant, Key, Memory, OpRefusal, QueueId, RegionView, Rights, WindowCount, WindowError};
 use ca_region::Region;
 use ca_window::Window;
 use std::alloc::Global;
@@ -130,15 +130,16 @@ fn marks_of_bind(
     alloc: Global,
     w: &Window,
     named: Option<&Region>,
+    view: Option<&RegionView>,
     b: &BindRequest,
 ) -> Result<Marks2, OpError>
-    ensures accepted { OnOk result (first_of (binds.bind_refusals b.now (binds.view_for_bind b.now.key (option_copied named.entry)) w.now) ≡ None) }
-    ensures refused { IfErr result (FailsBy (first_of (binds.bind_refusals b.now (binds.view_for_bind b.now.key (option_copied named.entry)) w.now))) }
+    requires { option_copied view ≡ binds.view_for_bind b.now.key (option_copied named) }
+    ensures accepted { OnOk result (first_of (binds.bind_refusals b.now (option_copied view.entry) w.now) ≡ None) }
+    ensures refused { IfErr result (FailsBy (first_of (binds.bind_refusals b.now (option_copied view.entry) w.now))) }
     ensures revoked { IfOk result (λ m. m.revoked ≡ binds.key_ended_by_bind b.now w.now) }
     ensures granted { IfOk result (λ m. m.granted ≡ binds.granted_by_bind b.now w.now (option_and_then grant_of_region (option_copied named.entry))) }
 {
-    let view = named_view(named, b.key);
-    if let Some(refusal) = bind_refusal(w, view.as_ref(), b) {
+    if let Some(refusal) = bind_refusal(w, view, b) {
         return Err(OpError::Refused(refusal));
     }
     Ok(Marks2 {
@@ -163,8 +164,9 @@ fn change_window(w: &mut Window, view: Option<&RegionView>, b: &BindRequest)
     };
 }
 
-// The region that a bind of so many bytes names, after a window left it, if it was bound there.
-fn count_window(region: &mut Region, was_bound: bool, length: u32)
+/// Counts the windows of the region that a bind of so many bytes names; the window leaves it first, if it was bound
+/// there.
+pub fn count_window(region: &mut Region, was_bound: bool, length: u32)
     requires counted { was_bound ≡ true → 0 < region.old.bound }
     requires room { region.old.bound < u32.MAX }
     ensures { region.new ≡ binds.named_after_bind length was_bound region.old }
@@ -175,4 +177,32 @@ fn count_window(region: &mut Region, was_bound: bool, length: u32)
     if length > 0 {
         region.note_bind();
     }
+}
+
+/// Binds a window, and counts it where it is of type 2, to a part of the region that the bind names. It changes no
+/// region.
+pub fn rebind(
+    alloc: Global,
+    w: &mut Window,
+    named: Option<&Region>,
+    b: &BindRequest,
+    q: &mut WindowCount,
+) -> Result<Marks2, OpError>
+    requires { q.old.count < u32.MAX }
+    ensures accepted { OnOk result (first_of (binds.bind_refusals b.now (binds.view_for_bind b.now.key (option_copied named.entry)) w.old) ≡ None) }
+    ensures refused { IfErr result (FailsBy (first_of (binds.bind_refusals b.now (binds.view_for_bind b.now.key (option_copied named.entry)) w.old))) }
+    ensures revoked { IfOk result (λ m. m.revoked ≡ binds.key_ended_by_bind b.now w.old) }
+    ensures granted { IfOk result (λ m. m.granted ≡ binds.granted_by_bind b.now w.old (option_and_then grant_of_region (option_copied named.entry))) }
+    ensures window { OnOk result (w.new ≡ binds.window_after_bind b.now w.old) }
+    ensures count { OnOk result (q.new ≡ binds.count_after_bind b.now q.old) }
+    ensures err_window { OnErr result (w.new ≡ w.old) }
+    ensures err_count { OnErr result (q.new ≡ q.old) }
+{
+    let view = named_view(named, b.key);
+    let marks = marks_of_bind(alloc, w, named, view.as_ref(), b)?;
+    change_window(w, view.as_ref(), b);
+    if let BindKind::Type2 { .. } = b.kind {
+        q.count += 1;
+    }
+    Ok(marks)
 }

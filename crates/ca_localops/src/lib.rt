@@ -8,12 +8,14 @@
 //! memory windows and on the base memory management extensions.
 #![tactic(auto)]
 
+mod bind_over_parts;
 mod binding;
 mod fast_registration;
 mod invalidation;
 mod marks;
 mod request;
 
+pub use bind_over_parts::bind;
 pub use ca_base::OpRefusal;
 pub use fast_registration::fast;
 pub use invalidation::invalidate;
