@@ -1,3 +1,4 @@
+pub mod Access
 pub mod KeySlot
 pub mod Parts
 pub mod Reaching

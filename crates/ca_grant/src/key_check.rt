@@ -1,8 +1,9 @@
-ghost use Rattle.std.specs.Prelude.{◌≡◌, ◌<◌, None, Some, IfErr, IfOk, IfNone, OnOk};
+ghost use Rattle.std.specs.Prelude.{◌≡◌, ◌%◌, ◌<◌, ◌≤◌, None, Some, IfErr, IfOk, IfNone, OnOk};
 ghost use Rattle.std.specs.Option.{option_copied};
 ghost use Rattle.ca_base.specs.Allowed as allowed;
 ghost use Rattle.ca_base.specs.Allowed.{denial_of};
 ghost use Rattle.ca_base.specs.Memory.{runs_for, places_count};
+ghost use Rattle.ca_base.specs.declared.limits.TheConstants.{ATOMIC_BYTES};
 ghost use Rattle.ca_base.specs.objects.Region.{grant_of_region};
 ghost use Rattle.ca_base.specs.objects.Slices.{is_key_of};
 ghost use Rattle.ca_grant.specs.KeySlot.{list_of_grant};
@@ -27,6 +28,7 @@ pub fn judge(w: Option<&Window>, r: Option<&Region>, ask: &Ask) -> Result<Span, 
     ensures allowed { OnOk result (denial_of ask.now (grants_of_parts (option_copied w.entry) (option_copied r.entry)) ≡ None) }
     ensures places { IfOk result (λ span. runs_of_span span ≡ runs_for ask.now (grants_of_parts (option_copied w.entry) (option_copied r.entry)) ask.now.touch) }
     ensures count { IfOk result (λ span. places_count (runs_of_span span) ≡ ask.now.touch) }
+    ensures whole { IfOk result (λ span. ask.now.address % ATOMIC_BYTES ≡ 0 → ask.now.touch ≤ ATOMIC_BYTES → span.second ≡ None) }
 {
     let Some(region) = r else {
         return Err(Denial::NoGrant);
@@ -44,6 +46,7 @@ fn judge_by_region(region: &Region, ask: &Ask) -> Result<Span, Denial>
     ensures allowed { OnOk result (denial_of ask.now (list_of_grant (grant_of_region region.now)) ≡ None) }
     ensures places { IfOk result (λ span. runs_of_span span ≡ runs_for ask.now (list_of_grant (grant_of_region region.now)) ask.now.touch) }
     ensures count { IfOk result (λ span. places_count (runs_of_span span) ≡ ask.now.touch) }
+    ensures whole { IfOk result (λ span. ask.now.address % ATOMIC_BYTES ≡ 0 → ask.now.touch ≤ ATOMIC_BYTES → span.second ≡ None) }
 {
     match region_denial(region, ask) {
         Some(denial) => Err(denial),
@@ -59,6 +62,7 @@ fn judge_by_window(window: &Window, region: &Region, ask: &Ask) -> Result<Span, 
     ensures allowed { OnOk result (denial_of ask.now (list_of_grant (grant_of_bound window.now (grant_of_region region.now))) ≡ None) }
     ensures places { IfOk result (λ span. runs_of_span span ≡ runs_for ask.now (list_of_grant (grant_of_bound window.now (grant_of_region region.now))) ask.now.touch) }
     ensures count { IfOk result (λ span. places_count (runs_of_span span) ≡ ask.now.touch) }
+    ensures whole { IfOk result (λ span. ask.now.address % ATOMIC_BYTES ≡ 0 → ask.now.touch ≤ ATOMIC_BYTES → span.second ≡ None) }
 {
     match window_denial(window, region, ask) {
         Some(denial) => Err(denial),

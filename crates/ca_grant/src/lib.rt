@@ -7,10 +7,12 @@
 //! memory regions and windows, and the chapter on the transport layer, sections on remote access.
 #![tactic(auto)]
 
+mod access;
 mod key_check;
 mod law;
 mod reach;
 
+pub use access::{bytes_of_span, write_span};
 pub use key_check::judge;
 pub use law::judged_by_slot;
 pub use reach::Reach;
