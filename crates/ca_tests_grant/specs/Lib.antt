@@ -1,1 +1,2 @@
+pub mod SmallReach
 pub mod Turn

@@ -1,6 +1,9 @@
-//! Tests of the key check and of local operations.
+//! Tests of the key check and of local operations, with a small engine over `Reach`, and a window, a region and a buffer
+//! as what it reaches.
 #![tactic(auto)]
 
 mod engine;
+mod small_reach;
 
-pub use engine::Outcome;
+pub use engine::{Outcome, turn};
+pub use small_reach::SmallReach;
