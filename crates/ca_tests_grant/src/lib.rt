@@ -4,6 +4,8 @@
 
 mod engine;
 mod small_reach;
+#[cfg(test)]
+mod tests;
 
 pub use engine::{Outcome, turn};
 pub use small_reach::SmallReach;

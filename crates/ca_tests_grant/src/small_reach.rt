@@ -7,7 +7,7 @@ ghost use Rattle.ca_memory.specs.Buffer.{memory_of};
 ghost use Rattle.ca_memory.specs.Number.{number_after};
 
 use ca_base::{
-    Ask, AtomicOp, Bytes, Denial, Key, Memory, OpRefusal, QueueId, Run, Slot, Span, Verdict,
+    Ask, AtomicOp, Bytes, Denial, Key, Memory, OpRefusal, QueueId, RegionError, Rights, Run, Slot, Span, Verdict,
     WindowCount,
 };
 use ca_grant::{Reach, bytes_of_span, judge, write_span};
@@ -33,6 +33,31 @@ impl SmallReach {
     ghost use Rattle.ca_grant.specs.Reaching.{IsPacketAsk, invalidation_by, count_without};
     ghost use Rattle.ca_region.specs.Span.{runs_of_span};
     ghost use Rattle.ca_tests_grant.specs.SmallReach as small;
+
+    /// A region that is registered over a run of a buffer of so many bytes, beside a vacant window.
+    pub fn registered(
+        alloc: Global,
+        slot: Slot,
+        at: Run,
+        bytes: u32,
+        rights: Rights,
+    ) -> Result<SmallReach, RegionError>
+        requires small { slot.slot < 32768 }
+        requires adapter { at.adapter ≡ slot.domain.adapter }
+        ensures parts { IfOk result small.FitTogether }
+        ensures slot { IfOk result (λ s. s.slot ≡ slot) }
+    {
+        let buffer = Buffer::zeroed(alloc, bytes)?;
+        let mut region = Region::vacant();
+        region.register(alloc, slot, at, bytes, rights)?;
+        Ok(SmallReach {
+            slot,
+            number: at.buffer,
+            window: Window::vacant(slot),
+            region,
+            buffer,
+        })
+    }
 
     // The ask judged by the parts that its key names.
     fn judge_by_key(&self, ask: &Ask) -> Result<Span, Denial>
