@@ -93,7 +93,7 @@ runs-written a b (r ∷ rs) written bytes fit are enough =
     let fits : FitInBytes (length (bytes_after r.offset (take r.length written) bytes)) rs = rw count fit.1 in
     ap (λ (m : ByteMap). memory_after m rs (drop r.length written)) (run-written a b r written bytes are.0.0 are.0.1 fit.0 here)
     ∙ runs-written a b rs (drop r.length written) (bytes_after r.offset (take r.length written) bytes) fits are.1
-      (omega (arith, length-drop r.length written))
+    (omega (arith, length-drop r.length written))
 
 -- a place of the buffer has the same byte in its memory
 same-byte : (a b : ℕ) (bytes : List ℕ) (p : Place) → p.adapter ≡ a → p.buffer ≡ b → memory_of bytes p ≡ memory_of_buffer a b bytes p

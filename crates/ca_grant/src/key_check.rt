@@ -78,7 +78,14 @@ fn region_denial(region: &Region, ask: &Ask) -> Option<Denial>
     ensures has { IfNone result (HasBytes ask.now.address ask.now.length (grant_of_region region.now)) }
 {
     let v = region.view();
-    denial_by_parts(fits_region(&v, ask), None, v.rights, v.address, v.length, ask)
+    denial_by_parts(
+        fits_region(&v, ask),
+        None,
+        v.rights,
+        v.address,
+        v.length,
+        ask,
+    )
 }
 
 // The first part that fails by what is seen of the window and its region.
@@ -96,7 +103,14 @@ fn window_denial(window: &Window, region: &Region, ask: &Ask) -> Option<Denial>
     if !region.view().valid {
         return Some(Denial::NoGrant);
     }
-    denial_by_parts(fits_window(&v, ask), v.queue, v.rights, v.address, v.length, ask)
+    denial_by_parts(
+        fits_window(&v, ask),
+        v.queue,
+        v.rights,
+        v.address,
+        v.length,
+        ask,
+    )
 }
 
 fn fits_region(v: &RegionView, ask: &Ask) -> bool

@@ -13,5 +13,4 @@ pub fn judged_by_slot()
         denial_of ask grants ≡ denial_of ask (list_of_grant (grant_in_slot ask grants)) }
     ensures places { (ask : Ask) (grants : List Grant) (count : ℕ) → HaveSlotsApart grants →
         runs_for ask grants count ≡ runs_for ask (list_of_grant (grant_in_slot ask grants)) count }
-{
-}
+{}

@@ -7,7 +7,9 @@ ghost use Rattle.ca_base.specs.objects.Slices.{is_window_key};
 ghost use Rattle.ca_grant.specs.Reaching.{IsPacketAsk, IsAtomicAsk, invalidation_by, sight_after_write, grants_without, count_without};
 ghost use Rattle.ca_memory.specs.Number.{number_after};
 
-use ca_base::{Ask, AtomicOp, Bytes, Denial, Key, Kind, Memory, OpRefusal, QueueId, Verdict, WindowCount};
+use ca_base::{
+    Ask, AtomicOp, Bytes, Denial, Key, Kind, Memory, OpRefusal, QueueId, Verdict, WindowCount,
+};
 use std::alloc::Global;
 
 /// What an engine may reach of keys and memory. It hands on asks, and the keys that end; it sees no part.
@@ -73,22 +75,23 @@ pub trait Reach {
         requires eight { IsAtomicAsk ask.now op }
         ensures denied { (d : Denial) → denial_in (sight self.old) ask.now ≡ Some d → result ≡ Verdict.Denied d }
         ensures same { (d : Denial) → denial_in (sight self.old) ask.now ≡ Some d → self.new ≡ self.old }
-        ensures verdict {
-            denial_in (sight self.old) ask.now ≡ None →
+        ensures verdict { denial_in (sight self.old) ask.now ≡ None →
             let found = little_endian (bytes_in (sight self.old) ask.now) in
-            result ≡ Verdict.Swapped found (number_after op found)
-        }
-        ensures wrote {
-            denial_in (sight self.old) ask.now ≡ None →
+            result ≡ Verdict.Swapped found (number_after op found) }
+        ensures wrote { denial_in (sight self.old) ask.now ≡ None →
             let found = little_endian (bytes_in (sight self.old) ask.now) in
-            self.new ≡ written self.old ask.now (little_endian_bytes (number_after op found))
-        }
+            self.new ≡ written self.old ask.now (little_endian_bytes (number_after op found)) }
         ensures hand { (x : Ask) → judges self.old x → judges self.new x }
         ensures bytes_hand { (x : Ask) → touches self.old x → touches self.new x }
         ensures ends_hand { (i : Invalidation) → ends self.old i → ends self.new i };
 
     /// Ends a key, as a Local Invalidate of this queue pair does, and counts a type 2 window that it unbinds.
-    fn invalidate(&mut self, key: Key, queue: QueueId, windows: &mut WindowCount) -> Result<(), OpRefusal>
+    fn invalidate(
+        &mut self,
+        key: Key,
+        queue: QueueId,
+        windows: &mut WindowCount,
+    ) -> Result<(), OpRefusal>
         requires at_hand { ends self.old (invalidation_by key queue) }
         requires counted { IsTrue (is_window_key key) → (sight self.old).refusal (invalidation_by key queue) ≡ None → 0 < windows.old.count }
         ensures accepted { OnOk result ((sight self.old).refusal (invalidation_by key queue) ≡ None) }
@@ -101,8 +104,6 @@ pub trait Reach {
         ensures err_count { OnErr result (windows.new ≡ windows.old) };
 
     // what is seen after a write is what memory is after a write to the places of the ask, and else what was seen
-    ghost writes_memory: {
-        (s : Self) (ask : Ask) (bytes : List ℕ) → judges s ask → touches s ask → denial_in (sight s) ask ≡ None →
-        length bytes ≡ ask.touch → sight (written s ask bytes) ≡ sight_after_write (sight s) ask bytes
-    };
+    ghost writes_memory: { (s : Self) (ask : Ask) (bytes : List ℕ) → judges s ask → touches s ask → denial_in (sight s) ask ≡ None →
+        length bytes ≡ ask.touch → sight (written s ask bytes) ≡ sight_after_write (sight s) ask bytes };
 }

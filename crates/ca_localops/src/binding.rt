@@ -8,7 +8,9 @@ ghost use Rattle.ca_region.specs.Region.{HasBytes};
 
 use crate::marks::{Marks2, OpError};
 use crate::request::{BindKind, BindRequest};
-use ca_base::{Grant, Key, Memory, OpRefusal, QueueId, RegionView, Rights, WindowCount, WindowError};
+use ca_base::{
+    Grant, Key, Memory, OpRefusal, QueueId, RegionView, Rights, WindowCount, WindowError,
+};
 use ca_region::Region;
 use ca_window::Window;
 use std::alloc::Global;
@@ -25,7 +27,6 @@ fn named_view(named: Option<&Region>, key: Key) -> Option<RegionView>
         None
     }
 }
-
 
 fn bind_refusal(w: &Window, view: Option<&RegionView>, b: &BindRequest) -> Option<OpRefusal>
     ensures { result ≡ first_of (binds.bind_refusals b.now (option_copied view.entry) w.now) }
@@ -119,9 +120,7 @@ fn grant_of_request(
     if b.length == 0 {
         return Ok(None);
     }
-    let Some(region) = named else {
-        unreachable!()
-    };
+    let Some(region) = named else { unreachable!() };
     Ok(Some(grant_over_region(alloc, w, region, b)?))
 }
 

@@ -64,7 +64,11 @@ fn end_key_without_window(region: &mut Region, key: Key) -> Result<Marks2, OpRef
     Ok(revocation_of(key))
 }
 
-fn end_key_without_region(window: &mut Window, key: Key, queue: QueueId) -> Result<Marks2, OpRefusal>
+fn end_key_without_region(
+    window: &mut Window,
+    key: Key,
+    queue: QueueId,
+) -> Result<Marks2, OpRefusal>
     requires { CountsWindow key queue (Some window.old) None }
     ensures refused { IfErr result (λ e. key_refusal key queue (Some window.old) None ≡ Some e) }
     ensures err { IsErr result }

@@ -19,6 +19,5 @@ pub use bind_over_parts::bind;
 pub use ca_base::OpRefusal;
 pub use fast_registration::fast;
 pub use invalidation::invalidate;
-
 pub use marks::{Marks2, OpError};
 pub use request::{BindKind, BindRequest};

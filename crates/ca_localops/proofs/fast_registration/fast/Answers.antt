@@ -8,6 +8,6 @@ returns-in_err-grant-clause-refused c =
     let p = err_from_is_err_and c.from_residual.result c.from_residual.ensures.1 in
     let f = c.in-FastReg in
     rw (p.1, p.2, f.is) (
-      fails-by-region
-        (fast_registration_refusals c.args.slot f.buffer c.args.buffer_length f.address f.length f.rights f.pages c.args.r.now)
-        c.in_err-grant.field-0.0 c.in_err-grant.ensures.refused)
+    fails-by-region
+    (fast_registration_refusals c.args.slot f.buffer c.args.buffer_length f.address f.length f.rights f.pages c.args.r.now)
+    c.in_err-grant.field-0.0 c.in_err-grant.ensures.refused)
