@@ -1,3 +1,4 @@
+pub mod Places
 pub mod Region
 pub mod Span
 pub mod View

@@ -9,11 +9,11 @@
 //! on memory regions, with the base memory management extensions.
 #![tactic(auto)]
 
-mod page_mapping;
+mod mapping;
 mod pages;
+mod places;
 mod refusals;
 mod region;
-mod run_mapping;
 
 pub use ca_base::RegionError;
 pub use region::Region;

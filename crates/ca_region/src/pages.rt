@@ -1,11 +1,13 @@
-ghost use Rattle.std.specs.Prelude.{◌≡◌, ◌+◌, ◌-◌, ◌*◌, ◌<◌, ◌≤◌, length, map, min, IfOk};
+ghost use Rattle.std.specs.Prelude.{◌≡◌, ◌+◌, ◌-◌, ◌*◌, ◌/◌, ◌%◌, ◌<◌, ◌≤◌, length, map, min, None, IfOk};
 ghost use Rattle.std.specs.List.{list_any};
+ghost use Rattle.ca_base.specs.declared.limits.TheConstants.{ATOMIC_BYTES};
 ghost use Rattle.ca_base.specs.Grants.{page_run};
 ghost use Rattle.ca_base.specs.Memory.{cut, places_count, run_part};
 ghost use Rattle.ca_base.specs.objects.Region.{has_repeat, passes_end};
+ghost use Rattle.ca_region.specs.Span.{runs_of_span};
 
 use ca_base::limits::{MAX_PAGES, PAGE_BYTES};
-use ca_base::{Memory, Run, Runs};
+use ca_base::{Memory, Run, Runs, Span};
 use std::alloc::Global;
 
 /// The part of a page with at most `count` bytes, without `skip` at its front.
@@ -48,6 +50,54 @@ pub fn page_parts(
         skipped = 0;
     }
     Ok(Runs::from(runs))
+}
+
+/// Where `touch` bytes of pages lie, behind `begin` bytes. They are at most those of a page, so they lie in two pages
+/// at most.
+#[inline(always)]
+pub fn page_span(adapter: u8, buffer: u16, pages: &[u16], begin: u64, touch: u32) -> Span
+    requires some { 0 < touch }
+    requires few { touch ≤ PAGE_BYTES }
+    requires held { begin + touch ≤ length pages.now * PAGE_BYTES }
+    ensures count { places_count (runs_of_span result) ≡ touch }
+    ensures places { runs_of_span result ≡ cut begin touch (map (page_run adapter buffer) pages.now) }
+    ensures whole { begin % ATOMIC_BYTES ≡ 0 → touch ≤ ATOMIC_BYTES → result.second ≡ None }
+{
+    let (index, skip) = page_of(begin);
+    let first = page_part(adapter, buffer, pages[index], skip, touch);
+    let rest = touch - first.length;
+    let second = if rest == 0 {
+        None
+    } else {
+        Some(page_part(adapter, buffer, pages[index + 1], 0, rest))
+    };
+    Span { first, second }
+}
+
+/// Where `count` bytes of pages lie, behind `begin` bytes.
+pub fn page_runs(
+    alloc: Global,
+    adapter: u8,
+    buffer: u16,
+    pages: &[u16],
+    begin: u64,
+    count: u32,
+) -> Result<Runs, Memory>
+    requires { begin + count ≤ length pages.now * PAGE_BYTES }
+    ensures count { IfOk result (λ runs. places_count runs ≡ count) }
+    ensures places { IfOk result (λ runs. runs ≡ cut begin count (map (page_run adapter buffer) pages.now)) }
+{
+    let (index, skip) = page_of(begin);
+    page_parts(alloc, adapter, buffer, &pages[index..], skip, count)
+}
+
+// The index of the page in which a byte lies, and the bytes before it there.
+fn page_of(begin: u64) -> (usize, u32)
+    ensures index { result.0 ≡ begin / PAGE_BYTES }
+    ensures skip { result.1 ≡ begin % PAGE_BYTES }
+{
+    let page = u64::from(PAGE_BYTES);
+    ((begin / page) as usize, (begin % page) as u32)
 }
 
 /// Whether a byte of these parts of pages lies behind the end of a buffer.

@@ -1,12 +1,12 @@
-ghost use Rattle.std.specs.Prelude.{◌≡◌, ◌∷◌, [], IfOk};
-ghost use Rattle.ca_base.specs.Grants as grants;
-
-use crate::page_mapping::PageMapping;
+use crate::mapping::{Mapping, one_run};
 use crate::pages::{page_parts, pages_pass_end};
+use crate::places::Places;
 use crate::refusals::{has_bad_pages, needs_local_write, registration_refusal};
-use crate::run_mapping::RunMapping;
 use ca_base::limits::{MAX_PAGES, PAGE_BYTES};
-use ca_base::{Grant, Key, Memory, Pages, RegionError, RegionView, Rights, Run, Runs, Slot, Span};
+use ca_base::{
+    Grant, Key, Memory, Pages, RegionError, RegionView, Rights, Run, Runs, Slot, Span,
+    first_address,
+};
 use std::alloc::Global;
 use std::marker::Model;
 
@@ -23,14 +23,8 @@ pub struct Region {
 #[derive(Drop)]
 enum State {
     Vacant,
-    Free {
-        pages: u16,
-    },
-    Registered(RunMapping),
-    FastRegistered {
-        allocated: u16,
-        mapping: PageMapping,
-    },
+    Free { pages: u16 },
+    Valid(Mapping),
 }
 
 impl Model for Region {
@@ -44,14 +38,12 @@ impl Model for Region {
 }
 
 impl Region {
-    ghost use Rattle.std.specs.Prelude.{◌≡◌, ◌%◌, ◌<◌, ◌≤◌, IfOk, IfErr, IfSome, OnOk, OnErr, None, Some, true};
+    ghost use Rattle.std.specs.Prelude.{◌≡◌, ◌%◌, ◌<◌, ◌≤◌, IfOk, IfErr, IfSome, OnOk, OnErr, None, Some};
     ghost use Rattle.ca_base.specs.Grants as grants;
     ghost use Rattle.ca_base.specs.declared.limits.TheConstants.{ATOMIC_BYTES};
     ghost use Rattle.ca_base.specs.Memory.{places_count};
-    ghost use Rattle.ca_base.specs.Numbers as numbers;
     ghost use Rattle.ca_base.specs.Refusals.{first_of};
     ghost use Rattle.ca_base.specs.objects.Region as regions;
-    ghost use Rattle.ca_base.specs.objects.Slices.{is_key_of};
     ghost use Rattle.ca_region.specs.Region.{RefusesBy, HasBytes, IsOfRegion, region_runs_at, valid_key};
     ghost use Rattle.ca_region.specs.Span.{runs_of_span};
 
@@ -75,15 +67,13 @@ impl Region {
 
     /// What others see: the range, the rights and the key of a valid region. What is not valid has no byte and no
     /// right.
+    #[inline(always)]
     pub fn view(&self) -> RegionView
         ensures view { result ≡ regions.view_of_region self.now }
         ensures grant { IfSome (regions.grant_of_region self.now) IsOfRegion }
     {
         match &self.state {
-            State::Registered(m) => self.valid_view(m.slot, m.rights, m.address(), m.at.length),
-            State::FastRegistered { mapping: m, .. } => {
-                self.valid_view(m.slot, m.rights, m.address, m.bytes)
-            }
+            State::Valid(mapping) => mapping.view(self.low),
             State::Vacant | State::Free { .. } => RegionView {
                 valid: false,
                 key: Key(0),
@@ -129,7 +119,8 @@ impl Region {
         rights: Rights,
     ) -> Result<Grant, RegionError>
         requires { self.old.state ≡ regions.NoRegion }
-        ensures granted { IfOk result (λ g. g ≡ grants.grant_of_registration slot at rights (grants.next_low self.old.low)) }
+        ensures granted { IfOk result (λ g. g
+            ≡ grants.grant_of_registration slot at rights (grants.next_low self.old.low)) }
         ensures valid { OnOk result (self.new ≡ regions.after_registration slot at rights self.old) }
         ensures accepted { OnOk result (grants.registration_refusal at buffer_length rights ≡ None) }
         ensures refused { IfErr result (RefusesBy (grants.registration_refusal at buffer_length rights)) }
@@ -139,10 +130,17 @@ impl Region {
             return Err(refusal);
         }
         let runs = one_run(alloc, at)?;
-        let mapping = RunMapping { slot, at, rights };
+        let mapping = Mapping {
+            slot,
+            rights,
+            address: first_address(at.buffer) + u64::from(at.offset),
+            bytes: at.length,
+            places: Places::OneRun(at),
+        };
         self.low = if self.low == 255 { 0 } else { self.low + 1 };
-        self.state = State::Registered(mapping);
-        Ok(grant(slot, self.low, mapping.address(), at.length, rights, runs))
+        let grant = mapping.grant(self.low, runs);
+        self.state = State::Valid(mapping);
+        Ok(grant)
     }
 
     /// Allocates a region for fast registrations of at most so many pages in this vacant slot.
@@ -171,11 +169,15 @@ impl Region {
         rights: Rights,
         pages: &Pages,
     ) -> Result<Grant, RegionError>
-        ensures granted { IfOk result (λ g. g ≡ grants.grant_of_fast_registration slot low buffer address length rights pages.now) }
+        ensures granted { IfOk result (λ g. g
+            ≡ grants.grant_of_fast_registration slot low buffer address length rights pages.now) }
         ensures places { IfOk result (λ g. places_count g.runs ≡ length) }
-        ensures valid { OnOk result (self.new ≡ regions.after_fast_registration slot low buffer address length rights pages.now self.old) }
-        ensures accepted { OnOk result (first_of (regions.fast_registration_refusals slot buffer buffer_length address length rights pages.now self.old) ≡ None) }
-        ensures refused { IfErr result (RefusesBy (first_of (regions.fast_registration_refusals slot buffer buffer_length address length rights pages.now self.old))) }
+        ensures valid { OnOk result (self.new
+            ≡ regions.after_fast_registration slot low buffer address length rights pages.now self.old) }
+        ensures accepted { OnOk result (first_of
+            (regions.fast_registration_refusals slot buffer buffer_length address length rights pages.now self.old) ≡ None) }
+        ensures refused { IfErr result (RefusesBy (first_of
+            (regions.fast_registration_refusals slot buffer buffer_length address length rights pages.now self.old))) }
         ensures err { OnErr result (self.new ≡ self.old) }
     {
         let Some(allocated) = self.allocated() else {
@@ -194,17 +196,21 @@ impl Region {
             return Err(RegionError::OutsideBuffer);
         }
         let runs = page_parts(alloc, adapter, buffer, list, skip, length)?;
-        let mapping = PageMapping {
+        let mapping = Mapping {
             slot,
-            buffer,
+            rights,
             address,
             bytes: length,
-            rights,
-            pages: Pages::copy_of(alloc, list)?,
+            places: Places::PageList {
+                allocated,
+                buffer,
+                pages: Pages::copy_of(alloc, list)?,
+            },
         };
+        let grant = mapping.grant(low, runs);
         self.low = low;
-        self.state = State::FastRegistered { allocated, mapping };
-        Ok(grant(slot, low, address, length, rights, runs))
+        self.state = State::Valid(mapping);
+        Ok(grant)
     }
 
     /// Ends a fast registration by its key: the region is free again. The refusals in order are `NotValid`,
@@ -215,13 +221,13 @@ impl Region {
         ensures free { OnOk result (self.new ≡ regions.after_region_invalidation self.old) }
         ensures err { OnErr result (self.new ≡ self.old) }
     {
-        let Some(valid) = self.key() else {
+        let State::Valid(mapping) = &self.state else {
             return Err(RegionError::NotValid);
         };
-        if valid != key {
+        if mapping.key(self.low) != key {
             return Err(RegionError::KeyDiffers);
         }
-        let State::FastRegistered { allocated, .. } = &self.state else {
+        let Places::PageList { allocated, .. } = &mapping.places else {
             return Err(RegionError::NotFastRegistered);
         };
         if self.bound > 0 {
@@ -252,6 +258,7 @@ impl Region {
 
     /// Where `touch` bytes from `address` on lie, which the region has: in at most two runs. It takes no memory, and
     /// time that does not grow with the count of pages.
+    #[inline(always)]
     pub fn span(&self, address: u64, touch: u32) -> Span
         requires some { 0 < touch }
         requires few { touch ≤ PAGE_BYTES }
@@ -261,11 +268,7 @@ impl Region {
         ensures whole { address % ATOMIC_BYTES ≡ 0 → touch ≤ ATOMIC_BYTES → result.second ≡ None }
     {
         match &self.state {
-            State::Registered(mapping) => Span {
-                first: mapping.part(address, touch),
-                second: None,
-            },
-            State::FastRegistered { mapping, .. } => mapping.span(address, touch),
+            State::Valid(mapping) => mapping.span(address, touch),
             State::Vacant | State::Free { .. } => unreachable!(),
         }
     }
@@ -278,31 +281,17 @@ impl Region {
         ensures count { IfOk result (λ runs. places_count runs ≡ length) }
     {
         match &self.state {
-            State::Registered(mapping) => one_run(alloc, mapping.part(address, length)),
-            State::FastRegistered { mapping, .. } => mapping.runs(alloc, address, length),
+            State::Valid(mapping) => mapping.runs(alloc, address, length),
             State::Vacant | State::Free { .. } => unreachable!(),
         }
     }
 
-    fn valid_view(&self, slot: Slot, rights: Rights, address: u64, length: u32) -> RegionView
-        ensures key { is_key_of slot.domain result.key ≡ true }
-        ensures view { result ≡ record { valid = true; key = numbers.key_at (numbers.region_index slot) self.now.low; rights = rights; address = address; length = length } }
-    {
-        RegionView {
-            valid: true,
-            key: Key::of_region(slot, self.low),
-            rights,
-            address,
-            length,
-        }
-    }
-
+    // The key that is valid, if one is.
     fn key(&self) -> Option<Key>
         ensures { result ≡ valid_key self.now }
     {
         match &self.state {
-            State::Registered(m) => Some(Key::of_region(m.slot, self.low)),
-            State::FastRegistered { mapping: m, .. } => Some(Key::of_region(m.slot, self.low)),
+            State::Valid(mapping) => Some(mapping.key(self.low)),
             State::Vacant | State::Free { .. } => None,
         }
     }
@@ -313,30 +302,7 @@ impl Region {
     {
         match &self.state {
             State::Free { pages } => Some(*pages),
-            State::Vacant | State::Registered(_) | State::FastRegistered { .. } => None,
+            State::Vacant | State::Valid(_) => None,
         }
     }
-}
-
-fn grant(slot: Slot, low: u8, address: u64, length: u32, rights: Rights, runs: Runs) -> Grant
-    ensures { result ≡ grants.region_grant slot low address length rights runs }
-{
-    Grant {
-        key: Key::of_region(slot, low),
-        domain: slot.domain,
-        queue: None,
-        local: true,
-        address,
-        length,
-        rights,
-        runs,
-    }
-}
-
-fn one_run(alloc: Global, at: Run) -> Result<Runs, Memory>
-    ensures { IfOk result (λ runs. runs ≡ at ∷ []) }
-{
-    let mut runs = Vec::with_capacity(alloc, 1)?;
-    runs.push(at)?;
-    Ok(Runs::from(runs))
 }

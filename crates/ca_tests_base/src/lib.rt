@@ -1,5 +1,5 @@
 //! Tests above the low layers: that each public call which can answer out of memory gives its value where memory is
-//! ample, what a region grants and refuses, and how many parts a configuration has.
+//! ample, and how many parts a configuration has.
 //!
 //! It has nothing but tests, so that the crates below are proved once.
 #![tactic(auto)]

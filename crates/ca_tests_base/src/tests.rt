@@ -1,7 +1,6 @@
 mod configurations;
 mod histories;
 mod lists;
-mod regions;
 mod requests;
 
 use arrayvec::ArrayVec;

@@ -1,34 +1,9 @@
-use super::{SLOT, holds};
-use ca_base::{Grant, Key, RegionError, Rights, Run};
+use super::{ATOMIC_ALONE, SLOT, WRITE, WRITE_ALONE, holds, key_of, run};
+use ca_base::{Grant, Key, RegionError, Rights};
 use ca_region::Region;
 
-const WRITE: Rights = Rights {
-    local_write: true,
-    remote_read: false,
-    remote_write: true,
-    remote_atomic: false,
-    window_bind: false,
-};
-
-const WRITE_ALONE: Rights = Rights {
-    local_write: false,
-    remote_read: false,
-    remote_write: true,
-    remote_atomic: false,
-    window_bind: false,
-};
-
-fn run(offset: u32, length: u32) -> Run {
-    Run {
-        adapter: 0,
-        buffer: 0,
-        offset,
-        length,
-    }
-}
-
 /// The offset, the length and the rights that are asked for over a buffer of 64 bytes, and why they are refused.
-const ASKED: [((u32, u32), Rights, Option<RegionError>); 8] = [
+const ASKED: [((u32, u32), Rights, Option<RegionError>); 9] = [
     ((0, 0), WRITE, Some(RegionError::Empty)),
     ((64, 0), WRITE_ALONE, Some(RegionError::Empty)),
     ((64, 1), WRITE, Some(RegionError::OutsideBuffer)),
@@ -41,6 +16,11 @@ const ASKED: [((u32, u32), Rights, Option<RegionError>); 8] = [
     (
         (0, 64),
         WRITE_ALONE,
+        Some(RegionError::RightsNeedLocalWrite),
+    ),
+    (
+        (0, 64),
+        ATOMIC_ALONE,
         Some(RegionError::RightsNeedLocalWrite),
     ),
     ((63, 1), WRITE, None),
@@ -63,9 +43,13 @@ fn refuses_for_the_first_reason(rt: HostRuntime) {
 }
 
 fn is_of_the_last_byte(grant: &Grant) -> bool {
-    grant.key == Key(1)
-        && grant.address == 0x1_0000_003f
+    grant.key == Key(0x0200_0501)
+        && grant.domain == SLOT.domain
+        && grant.queue.is_none()
+        && grant.local
+        && grant.address == 0x4_0000_003f
         && grant.length == 1
+        && grant.rights == WRITE
         && grant.runs.as_slice() == [run(63, 1)].as_slice()
 }
 
@@ -77,5 +61,10 @@ fn grants_the_last_byte_of_a_buffer(rt: HostRuntime) {
         &rt,
         matches!(&given, Ok(grant) if is_of_the_last_byte(grant)),
         "the grant of the last byte",
+    );
+    holds(
+        &rt,
+        key_of(&region) == Some(Key(0x0200_0501)),
+        "the valid key",
     );
 }
