@@ -94,7 +94,7 @@ small_write s ask bytes here count =
     let places = places-here s ask here in
     let few : places_count (runs_in (sight_of s) ask) ≤ length bytes = omega (arith, places-at-most ask ((sight_of s).grant ask)) in
     ap (λ (byte : ByteMap). record { grant = (sight_of s).grant; byte = byte; refusal = (sight_of s).refusal })
-      (sym (runs-written s.slot.domain.adapter s.number (runs_in (sight_of s) ask) bytes s.buffer places.0 places.1 few))
+    (sym (runs-written s.slot.domain.adapter s.number (runs_in (sight_of s) ask) bytes s.buffer places.0 places.1 few))
 
 -- the bytes that the buffer has at an ask's places are those that are seen there
 pub small-bytes : (s : SmallReach) (ask : Ask) (rs : List Run) → IsAskHere s ask → rs ≡ runs_in (sight_of s) ask

@@ -76,15 +76,13 @@ pub fn turn<R: Reach>(
     requires kind { write.now.kind ≡ Kind.Write }
     requires count { turns.touched_by reads.now ≡ write.now.touch }
     requires counted { IsTrue (is_window_key key) → 0 < windows.old.count }
-    ensures turn {
-        IfOk result (λ outcome. turns.IsTurn R.revoked (invalidation_by key queue)
+    ensures turn { IfOk result (λ outcome. turns.IsTurn R.revoked (invalidation_by key queue)
         (turns.first_some (turns.first_denial_in (R.sight reach.old) reads.now) (denial_in (R.sight reach.old) write.now))
         ((R.sight reach.old).refusal (invalidation_by key queue))
         (record { reach = reach.old; windows = windows.old })
         (R.written reach.old write.now (turns.all_bytes_in (R.sight reach.old) reads.now))
         outcome
-        (record { reach = reach.new; windows = windows.new }))
-    }
+        (record { reach = reach.new; windows = windows.new })) }
     ensures err { OnErr result (reach.new ≡ reach.old) }
     ensures err_windows { OnErr result (windows.new ≡ windows.old) }
 {

@@ -7,8 +7,8 @@ ghost use Rattle.ca_memory.specs.Buffer.{memory_of};
 ghost use Rattle.ca_memory.specs.Number.{number_after};
 
 use ca_base::{
-    Ask, AtomicOp, Bytes, Denial, Key, Memory, OpRefusal, QueueId, RegionError, Rights, Run, Slot, Span, Verdict,
-    WindowCount,
+    Ask, AtomicOp, Bytes, Denial, Key, Memory, OpRefusal, QueueId, RegionError, Rights, Run, Slot,
+    Span, Verdict, WindowCount,
 };
 use ca_grant::{Reach, bytes_of_span, judge, write_span};
 use ca_memory::Buffer;
@@ -93,7 +93,12 @@ impl SmallReach {
         }
     }
 
-    fn end_key(&mut self, key: Key, queue: QueueId, windows: &mut WindowCount) -> Result<(), OpRefusal>
+    fn end_key(
+        &mut self,
+        key: Key,
+        queue: QueueId,
+        windows: &mut WindowCount,
+    ) -> Result<(), OpRefusal>
         requires here { small.IsEndHere self.old (invalidation_by key queue) }
         requires counted { IsTrue (is_window_key key) → (small.sight_of self.old).refusal (invalidation_by key queue) ≡ None → 0 < windows.old.count }
         ensures accepted { OnOk result ((small.sight_of self.old).refusal (invalidation_by key queue) ≡ None) }

@@ -1,8 +1,6 @@
 mod binds;
 mod checks;
 
-
-
 use std::process::Abort;
 
 fn texts_are(rt: &impl Abort, text: &str, want: &str) {

@@ -4,9 +4,7 @@ ghost use Rattle.ca_localops.specs.Binds.{CountsBinding};
 ghost use Rattle.ca_localops.specs.Requests.{IsBind};
 
 use super::{counts_are, texts_are};
-use ca_base::{
-    DomainId, Key, OpRefusal, Pages, QueueId, Rights, Run, SendOp, Slot, WindowCount,
-};
+use ca_base::{DomainId, Key, OpRefusal, Pages, QueueId, Rights, Run, SendOp, Slot, WindowCount};
 use ca_localops::{Marks2, OpError, bind, fast, invalidate};
 use ca_region::Region;
 use ca_window::Window;
@@ -64,6 +62,7 @@ const FIRST: u64 = 0x1_0000_0000;
 
 /// The key of a region's first registration in slot 0, and in slot 1.
 const KEY: Key = Key(0x1);
+
 const NEXT_KEY: Key = Key(0x101);
 
 fn slot(slot: u16) -> Slot
@@ -108,7 +107,11 @@ fn text(alloc: Global, given: Result<Marks2, OpError>) -> Result<String, AllocEr
 
 fn marks_text(alloc: Global, marks: &Marks2) -> Result<String, AllocError> {
     let revoked = marks.revoked.unwrap_or_default();
-    let granted = marks.granted.as_ref().map(|grant| grant.key).unwrap_or_default();
+    let granted = marks
+        .granted
+        .as_ref()
+        .map(|grant| grant.key)
+        .unwrap_or_default();
     format!(in alloc; "revoked {revoked} granted {granted}")
 }
 
@@ -123,7 +126,9 @@ fn refusal_text(alloc: Global, given: Result<Marks2, OpRefusal>) -> Result<Strin
 #[derive(Clone, Copy)]
 struct Asked(Key, u64, u32, Rights);
 
-fn bind1(asked: Asked) -> SendOp {
+fn bind1(asked: Asked) -> SendOp
+    ensures { IsBind result }
+{
     SendOp::Bind1 {
         window: 0,
         region: asked.0,
@@ -133,7 +138,9 @@ fn bind1(asked: Asked) -> SendOp {
     }
 }
 
-fn bind2(asked: Asked, low: u8) -> SendOp {
+fn bind2(asked: Asked, low: u8) -> SendOp
+    ensures { IsBind result }
+{
     SendOp::Bind2 {
         window: 0,
         region: asked.0,
@@ -164,7 +171,10 @@ fn bind_in(
     if !is_counted(w, region) || region.bound() == u32::MAX || q.count == u32::MAX {
         return format!(in alloc; "not counted");
     }
-    text(alloc, bind(alloc, w, None, Some(region), q, op, drawn, QUEUE))
+    text(
+        alloc,
+        bind(alloc, w, None, Some(region), q, op, drawn, QUEUE),
+    )
 }
 
 // A bind of a window that leaves a region.
@@ -182,7 +192,19 @@ fn bind_from(
         return format!(in alloc; "not counted");
     }
     let mut q = WindowCount { count: 0 };
-    text(alloc, bind(alloc, w, Some(former), Some(region), &mut q, op, drawn, QUEUE))
+    text(
+        alloc,
+        bind(
+            alloc,
+            w,
+            Some(former),
+            Some(region),
+            &mut q,
+            op,
+            drawn,
+            QUEUE,
+        ),
+    )
 }
 
 // The end of a window's key, with its region.
@@ -312,16 +334,44 @@ fn a_type_1_window_moves_from_region_to_region(rt: HostRuntime) -> Result<(), Fa
     let asked = Asked(KEY, FIRST, 64, READ);
     let next = Asked(NEXT_KEY, FIRST, 64, READ);
     let none = Asked(NEXT_KEY, FIRST, 0, READ);
-    let given = bind_in(alloc, &mut window, &mut here, &mut q, &bind1(asked), Some(1))?;
+    let given = bind_in(
+        alloc,
+        &mut window,
+        &mut here,
+        &mut q,
+        &bind1(asked),
+        Some(1),
+    )?;
     texts_are(&rt, given.as_str(), "revoked 0x00000000 granted 0x00800001");
     counts_are(&rt, (here.bound(), there.bound(), q.count), (1, 0, 0));
-    let given = bind_in(alloc, &mut window, &mut here, &mut q, &bind1(asked), Some(2))?;
+    let given = bind_in(
+        alloc,
+        &mut window,
+        &mut here,
+        &mut q,
+        &bind1(asked),
+        Some(2),
+    )?;
     texts_are(&rt, given.as_str(), "revoked 0x00800001 granted 0x00800002");
     counts_are(&rt, (here.bound(), there.bound(), q.count), (1, 0, 0));
-    let given = bind_from(alloc, &mut window, &mut here, &mut there, &bind1(next), Some(3))?;
+    let given = bind_from(
+        alloc,
+        &mut window,
+        &mut here,
+        &mut there,
+        &bind1(next),
+        Some(3),
+    )?;
     texts_are(&rt, given.as_str(), "revoked 0x00800002 granted 0x00800003");
     counts_are(&rt, (here.bound(), there.bound(), q.count), (0, 1, 0));
-    let given = bind_in(alloc, &mut window, &mut there, &mut q, &bind1(none), Some(4))?;
+    let given = bind_in(
+        alloc,
+        &mut window,
+        &mut there,
+        &mut q,
+        &bind1(none),
+        Some(4),
+    )?;
     texts_are(&rt, given.as_str(), "revoked 0x00800003 granted 0x00000000");
     counts_are(&rt, (here.bound(), there.bound(), q.count), (0, 0, 0));
     Ok(())
@@ -335,27 +385,71 @@ fn a_type_2_window_is_bound_until_its_key_ends(rt: HostRuntime) -> Result<(), Fa
     let mut window = window(2);
     let asked = Asked(KEY, FIRST, 64, WRITE);
     let key = Key(0x0080_0009);
-    let given = bind_in(alloc, &mut window, &mut region, &mut q, &bind2(asked, 9), None)?;
+    let given = bind_in(
+        alloc,
+        &mut window,
+        &mut region,
+        &mut q,
+        &bind2(asked, 9),
+        None,
+    )?;
     texts_are(&rt, given.as_str(), "revoked 0x00000000 granted 0x00800009");
     counts_are(&rt, (region.bound(), q.count, 0), (1, 1, 0));
-    let given = bind_in(alloc, &mut window, &mut region, &mut q, &bind2(asked, 10), None)?;
+    let given = bind_in(
+        alloc,
+        &mut window,
+        &mut region,
+        &mut q,
+        &bind2(asked, 10),
+        None,
+    )?;
     texts_are(&rt, given.as_str(), "window:still-bound");
-    let given = end_in(alloc, &mut window, &mut region, &mut q, Key(0x0080_000a), QUEUE)?;
+    let given = end_in(
+        alloc,
+        &mut window,
+        &mut region,
+        &mut q,
+        Key(0x0080_000a),
+        QUEUE,
+    )?;
     texts_are(&rt, given.as_str(), "window:key-differs");
     let given = end_in(alloc, &mut window, &mut region, &mut q, key, OTHER_QUEUE)?;
     texts_are(&rt, given.as_str(), "window:wrong-queue");
     counts_are(&rt, (region.bound(), q.count, 0), (1, 1, 0));
-    texts_are(&rt, if region.deregister().is_ok() { "ok" } else { "refused" }, "refused");
+    texts_are(
+        &rt,
+        if region.deregister().is_ok() {
+            "ok"
+        } else {
+            "refused"
+        },
+        "refused",
+    );
     let given = end_in(alloc, &mut window, &mut region, &mut q, key, QUEUE)?;
     texts_are(&rt, given.as_str(), "revoked 0x00800009 granted 0x00000000");
     counts_are(&rt, (region.bound(), q.count, 0), (0, 0, 0));
-    texts_are(&rt, if region.deregister().is_ok() { "ok" } else { "refused" }, "ok");
+    texts_are(
+        &rt,
+        if region.deregister().is_ok() {
+            "ok"
+        } else {
+            "refused"
+        },
+        "ok",
+    );
     Ok(())
 }
 
 /// The pages, the address, the length, the rights, the bytes of the buffer, and what comes of the fast registration.
 const PAGES_OF: [(&'static [u16], u64, u32, Rights, u32, &'static str); 5] = [
-    (&[3, 1], 0xffa, 12, WRITE, 16384, "region:rights-need-local-write"),
+    (
+        &[3, 1],
+        0xffa,
+        12,
+        WRITE,
+        16384,
+        "region:rights-need-local-write",
+    ),
     (&[3, 1, 2], 0xffa, 12, ALL, 16384, "region:bad-pages"),
     (&[3, 1], 0xffa, 12, ALL, 16383, "region:outside-buffer"),
     (&[3, 1], 0xffa, 12, ALL, 0, "region:outside-buffer"),
@@ -436,12 +530,20 @@ fn a_window_key_without_its_window_names_nothing(rt: HostRuntime) -> Result<(), 
     let alloc = rt.alloc();
     let mut q = WindowCount { count: 0 };
     let given = invalidate(None, None, &mut q, Key(0x0080_0009), QUEUE);
-    texts_are(&rt, refusal_text(alloc, given)?.as_str(), "window:no-window");
+    texts_are(
+        &rt,
+        refusal_text(alloc, given)?.as_str(),
+        "window:no-window",
+    );
     let mut one = window(1);
     let given = invalidate(Some(&mut one), None, &mut q, Key(0x0080_0009), QUEUE);
     texts_are(&rt, refusal_text(alloc, given)?.as_str(), "window:type1");
     let mut two = window(2);
     let given = invalidate(Some(&mut two), None, &mut q, Key(0x0080_0009), QUEUE);
-    texts_are(&rt, refusal_text(alloc, given)?.as_str(), "window:not-bound");
+    texts_are(
+        &rt,
+        refusal_text(alloc, given)?.as_str(),
+        "window:not-bound",
+    );
     Ok(())
 }

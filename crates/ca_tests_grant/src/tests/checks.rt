@@ -6,7 +6,9 @@ ghost use Rattle.ca_grant.specs.Reaching.{IsPacketAsk};
 
 use super::texts_are;
 use ca_base::limits::MAX_PAYLOAD_BYTES;
-use ca_base::{Ask, Denial, DomainId, Key, Kind, Pages, QueueId, RegionView, Rights, Run, Slot, Span};
+use ca_base::{
+    Ask, Denial, DomainId, Key, Kind, Pages, QueueId, RegionView, Rights, Run, Slot, Span,
+};
 use ca_grant::judge;
 use ca_region::Region;
 use ca_window::Window;
@@ -59,6 +61,7 @@ const FIRST: u64 = 0x1_0000_0000;
 
 /// The key of a region's first registration in slot 0, and that of a window in slot 0 that is bound under the byte 9.
 const KEY: Key = Key(0x1);
+
 const WINDOW_KEY: Key = Key(0x0080_0009);
 
 fn no_region() -> Region
@@ -163,14 +166,18 @@ fn is_packet(ask: &Ask) -> bool
 
 fn text(alloc: Global, given: Result<Span, Denial>) -> Result<String, AllocError> {
     match given {
-        Ok(Span {
-            first,
-            second: Some(second),
-        }) => format!(in alloc; "{first},{second}"),
-        Ok(Span {
-            first,
-            second: None,
-        }) => format!(in alloc; "{first}"),
+        Ok(
+            Span {
+                first,
+                second: Some(second),
+            },
+        ) => format!(in alloc; "{first},{second}"),
+        Ok(
+            Span {
+                first,
+                second: None,
+            },
+        ) => format!(in alloc; "{first}"),
         Err(denial) => format!(in alloc; "{denial}"),
     }
 }
@@ -244,7 +251,14 @@ const ASKS: [(Rights, Asked, &'static str); 15] = [
     ),
     (
         LOCAL_AND_WRITE,
-        Asked(Key(0x0500_0001), false, 0, QUEUE, Kind::Write, (FIRST, 1, 1)),
+        Asked(
+            Key(0x0500_0001),
+            false,
+            0,
+            QUEUE,
+            Kind::Write,
+            (FIRST, 1, 1),
+        ),
         "no-grant",
     ),
     (
@@ -322,17 +336,38 @@ const WINDOW_ASKS: [(u8, Asked, &'static str); 8] = [
     ),
     (
         2,
-        Asked(WINDOW_KEY, false, 0, QUEUE, Kind::FetchAdd, (FIRST + 56, 8, 8)),
+        Asked(
+            WINDOW_KEY,
+            false,
+            0,
+            QUEUE,
+            Kind::FetchAdd,
+            (FIRST + 56, 8, 8),
+        ),
         "0/0:56+8",
     ),
     (
         2,
-        Asked(WINDOW_KEY, false, 0, OTHER_QUEUE, Kind::Write, (FIRST + 64, 1, 1)),
+        Asked(
+            WINDOW_KEY,
+            false,
+            0,
+            OTHER_QUEUE,
+            Kind::Write,
+            (FIRST + 64, 1, 1),
+        ),
         "wrong-queue",
     ),
     (
         1,
-        Asked(WINDOW_KEY, false, 0, OTHER_QUEUE, Kind::Write, (FIRST + 48, 16, 16)),
+        Asked(
+            WINDOW_KEY,
+            false,
+            0,
+            OTHER_QUEUE,
+            Kind::Write,
+            (FIRST + 48, 16, 16),
+        ),
         "0/0:48+16",
     ),
     (
@@ -352,7 +387,14 @@ const WINDOW_ASKS: [(u8, Asked, &'static str); 8] = [
     ),
     (
         2,
-        Asked(Key(0x0080_000a), false, 0, QUEUE, Kind::Read, (FIRST + 48, 1, 1)),
+        Asked(
+            Key(0x0080_000a),
+            false,
+            0,
+            QUEUE,
+            Kind::Read,
+            (FIRST + 48, 1, 1),
+        ),
         "no-grant",
     ),
 ];
@@ -365,8 +407,16 @@ fn asks_are_judged_by_a_window_in_its_region(rt: HostRuntime) -> Result<(), Fail
     for row in WINDOW_ASKS.as_slice() {
         let (kind, asked, want) = *row;
         let window = bound(kind, &region.view(), FIRST + 48, 16);
-        texts_are(&rt, judged_over(alloc, &window, &region, asked)?.as_str(), want);
-        texts_are(&rt, judged_over(alloc, &window, &vacant, asked)?.as_str(), "no-grant");
+        texts_are(
+            &rt,
+            judged_over(alloc, &window, &region, asked)?.as_str(),
+            want,
+        );
+        texts_are(
+            &rt,
+            judged_over(alloc, &window, &vacant, asked)?.as_str(),
+            "no-grant",
+        );
     }
     Ok(())
 }

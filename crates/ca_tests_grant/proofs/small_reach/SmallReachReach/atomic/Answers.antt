@@ -15,7 +15,7 @@ use Rattle.ca_tests_grant.proofs.small_reach.SmallReachReach.atomic.Goals as goa
 one-run : (c : goal.After-number_put) → c.in-Ok.span.first ∷ [] ≡ runs_in (sight_of c.args.self.now) c.args.ask.now
 one-run c =
     sym (ap (λ (second : Option Run). c.in-Ok.span.first ∷ option_map_or (λ r. r ∷ []) second [])
-        (c.in-Ok.ensures.whole c.requires.eight.aligned (omega (arith, c.requires.eight.touch))))
+    (c.in-Ok.ensures.whole c.requires.eight.aligned (omega (arith, c.requires.eight.touch))))
     ∙ c.in-Ok.ensures.places
 
 number-seen : (c : goal.After-number_put) → c.swap_at-found.result ≡ little_endian (bytes_in (sight_of c.args.self.now) c.args.ask.now)
@@ -33,6 +33,6 @@ returns-clause-wrote c = λ allowed.
     let s = c.args.self.now in
     let runs : List Run = runs_in (sight_of s) c.args.ask.now in
     ap (λ (buffer : List ℕ). record s { buffer = buffer }) (
-      c.swap_at-found.ensures.put
-      ∙ ap (λ (rs : List Run). buffer_after rs (little_endian_bytes (number_after c.args.op c.swap_at-found.result)) s.buffer) (one-run c)
-      ∙ ap (λ (found : ℕ). buffer_after runs (little_endian_bytes (number_after c.args.op found)) s.buffer) (number-seen c))
+    c.swap_at-found.ensures.put
+    ∙ ap (λ (rs : List Run). buffer_after rs (little_endian_bytes (number_after c.args.op c.swap_at-found.result)) s.buffer) (one-run c)
+    ∙ ap (λ (found : ℕ). buffer_after runs (little_endian_bytes (number_after c.args.op found)) s.buffer) (number-seen c))
