@@ -46,6 +46,7 @@ impl SmallReach {
         requires adapter { at.adapter ≡ slot.domain.adapter }
         ensures parts { IfOk result small.FitTogether }
         ensures slot { IfOk result (λ s. s.slot ≡ slot) }
+        ensures window { IfOk result (λ s. s.window.slot ≡ slot) }
     {
         let buffer = Buffer::zeroed(alloc, bytes)?;
         let mut region = Region::vacant();

@@ -1,5 +1,6 @@
 mod binds;
 mod checks;
+mod turns;
 
 use std::process::Abort;
 
