@@ -35,6 +35,7 @@ const ALL: Rights = Rights {
 
 /// The bytes of the region, and the address of the first.
 const BYTES: u32 = 1_048_576;
+
 const FIRST: u64 = 0x1_0000_0000;
 
 /// An ask judged by a region, in a function of its own.

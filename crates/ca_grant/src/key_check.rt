@@ -20,6 +20,7 @@ use ca_window::{Window, WindowView};
 /// Judges an ask by the window and the region that its key names, of the ask's adapter; under a bound window the region
 /// is that window's. The first part of the key check that fails, in the order `NoGrant`, `WrongQueue`, `NoRight` and
 /// `OutOfRange`, or else the places of the bytes that the ask touches. It takes no memory.
+#[inline(always)]
 pub fn judge(w: Option<&Window>, r: Option<&Region>, ask: &Ask) -> Result<Span, Denial>
     requires packet { IsPacketAsk ask.now }
     requires adapter { IsOfAdapter ask.now (grant_of_parts (option_copied w) (option_copied r)) }
@@ -39,6 +40,7 @@ pub fn judge(w: Option<&Window>, r: Option<&Region>, ask: &Ask) -> Result<Span, 
     }
 }
 
+#[inline(always)]
 fn judge_by_region(region: &Region, ask: &Ask) -> Result<Span, Denial>
     requires packet { IsPacketAsk ask.now }
     requires adapter { IsOfAdapter ask.now (grant_of_region region.now) }
@@ -54,6 +56,7 @@ fn judge_by_region(region: &Region, ask: &Ask) -> Result<Span, Denial>
     }
 }
 
+#[inline(always)]
 fn judge_by_window(window: &Window, region: &Region, ask: &Ask) -> Result<Span, Denial>
     requires packet { IsPacketAsk ask.now }
     requires adapter { IsOfAdapter ask.now (grant_of_bound window.now (grant_of_region region.now)) }
@@ -71,6 +74,7 @@ fn judge_by_window(window: &Window, region: &Region, ask: &Ask) -> Result<Span, 
 }
 
 // The first part that fails by what is seen of the region.
+#[inline(always)]
 fn region_denial(region: &Region, ask: &Ask) -> Option<Denial>
     requires some { 0 < ask.now.length }
     requires adapter { IsOfAdapter ask.now (grant_of_region region.now) }
@@ -90,6 +94,7 @@ fn region_denial(region: &Region, ask: &Ask) -> Option<Denial>
 
 // The first part that fails by what is seen of the window and its region.
 #[tactic(auto, using(crate::proofs::Windows::windows))]
+#[inline(always)]
 fn window_denial(window: &Window, region: &Region, ask: &Ask) -> Option<Denial>
     requires some { 0 < ask.now.length }
     requires adapter { IsOfAdapter ask.now (grant_of_bound window.now (grant_of_region region.now)) }
@@ -113,18 +118,21 @@ fn window_denial(window: &Window, region: &Region, ask: &Ask) -> Option<Denial>
     )
 }
 
+#[inline(always)]
 fn fits_region(v: &RegionView, ask: &Ask) -> bool
     ensures { result ≡ views.fits_region v.now ask.now }
 {
     v.valid && v.key == ask.key && is_of_domain(ask)
 }
 
+#[inline(always)]
 fn fits_window(v: &WindowView, ask: &Ask) -> bool
     ensures { result ≡ views.fits_window v.now ask.now }
 {
     !ask.local && v.key == ask.key && is_of_domain(ask)
 }
 
+#[inline(always)]
 fn denial_by_parts(
     is_fitting: bool,
     queue: Option<QueueId>,
@@ -150,6 +158,7 @@ fn denial_by_parts(
     None
 }
 
+#[inline(always)]
 fn serves(named: Option<QueueId>, queue: QueueId) -> bool
     ensures { result ≡ allowed.serves named queue }
 {
@@ -159,6 +168,7 @@ fn serves(named: Option<QueueId>, queue: QueueId) -> bool
     }
 }
 
+#[inline(always)]
 fn covers(address: u64, length: u32, ask: &Ask) -> bool
     ensures { result ≡ views.range_covers address length ask.now }
 {
@@ -170,6 +180,7 @@ fn covers(address: u64, length: u32, ask: &Ask) -> bool
 }
 
 // Whether the key is one of the ask's domain, by its index.
+#[inline(always)]
 fn is_of_domain(ask: &Ask) -> bool
     ensures { result ≡ is_key_of ask.now.domain ask.now.key }
 {
