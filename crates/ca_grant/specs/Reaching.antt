@@ -1,6 +1,6 @@
 -- What an engine reaches: which asks may be handed on, and what an access, a write and the end of a key make of what is
 -- seen. Contracts cite it.
-use Rattle.std.specs.Prelude.{◌≡◌, ℕ, ◌-◌, ◌%◌, ◌≤◌, ◌==◌, ◌&&◌, Bool, if◌then◌else◌, List, [], ◌∷◌, Option, None, Some}
+use Rattle.std.specs.Prelude.{◌≡◌, ℕ, ◌-◌, ◌%◌, ◌≤◌, ◌==◌, ◌&&◌, Bool, if◌then◌else◌, List, Option, None}
 use Rattle.std.specs.List.{AllByRecursion}
 use Rattle.ca_base.specs.declared.access.Ask.{Ask}
 use Rattle.ca_base.specs.declared.access.AtomicOp.{AtomicOp}

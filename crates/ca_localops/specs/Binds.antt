@@ -1,5 +1,5 @@
 -- A bind over parts: what refuses it, what it revokes and grants, and what it leaves. Contracts cite it.
-use Rattle.std.specs.Prelude.{◌≡◌, ℕ, suc, ◌<◌, ◌==◌, ◌&&◌, not, Bool, true, if◌then◌else◌, List, ◌∷◌, Option, None, Some, is_none, IfSome, IsSomeAnd}
+use Rattle.std.specs.Prelude.{◌≡◌, ℕ, suc, ◌<◌, ◌==◌, ◌&&◌, not, Bool, true, if◌then◌else◌, List, Option, None, Some, is_none, IsSomeAnd}
 use Rattle.std.specs.Option.{option_map, option_map_or, option_and_then}
 use Rattle.ca_base.specs.declared.grant.Grant.{Grant}
 use Rattle.ca_base.specs.declared.key.Key.{Key}
@@ -9,7 +9,7 @@ use Rattle.ca_base.specs.declared.refusals.OpRefusal.{OpRefusal}
 use Rattle.ca_base.specs.declared.region_view.RegionView.{RegionView}
 use Rattle.ca_base.specs.Grants.{grant_of_bind}
 use Rattle.ca_base.specs.objects.LocalRequest.{bind1_request_refusals, bind2_request_refusals, view_by_key}
-use Rattle.ca_base.specs.objects.Region.{Region, grant_of_region, with_window_bound, with_window_unbound}
+use Rattle.ca_base.specs.objects.Region.{Region, with_window_bound, with_window_unbound}
 use Rattle.ca_base.specs.objects.Slices.{slot_of_key}
 use Rattle.ca_base.specs.objects.Window.{Window, after_bind1, after_binding, bound_key}
 use Rattle.ca_localops.specs.declared.request.BindKind.{BindKind}

@@ -1,11 +1,9 @@
 -- What a bind asks for. Contracts cite it.
 use Rattle.std.specs.Prelude.{ℕ, Option, None}
-use Rattle.ca_base.specs.declared.key.Key.{Key}
 use Rattle.ca_base.specs.declared.names.QueueId.{QueueId}
 use Rattle.ca_base.specs.declared.request.SendOp.{SendOp}
 use Rattle.ca_base.specs.declared.request.SendOp.TheVariants as ops
 use Rattle.ca_base.specs.objects.Region.{no_rights}
-use Rattle.ca_localops.specs.declared.request.BindKind.{BindKind}
 use Rattle.ca_localops.specs.declared.request.BindKind.TheVariants.{Type1, Type2}
 use Rattle.ca_localops.specs.declared.request.BindRequest.{BindRequest}
 

@@ -1,6 +1,5 @@
-use Rattle.std.proofs.Common.{◌≡◌, ℕ, List, [], Option, None, ◌==◌, if◌then◌else◌, refl, ap}
+use Rattle.std.proofs.Common.{[], Option, None, ◌==◌, if◌then◌else◌, ap}
 use Rattle.std.specs.Option.{option_map_or}
-use Rattle.ca_base.specs.declared.access.Denial.{Denial}
 use Rattle.ca_base.specs.declared.grant.Grant.{Grant}
 use Rattle.ca_base.specs.Allowed.{denial_under}
 use Rattle.ca_base.specs.Memory.{runs_at}
