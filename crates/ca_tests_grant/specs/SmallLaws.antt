@@ -1,5 +1,5 @@
 -- That what a small reach holds is as its asks need it. For proofs only: it may be skipped.
-use Rattle.std.proofs.Common.{◌≡◌, ℕ, ◌+◌, ◌-◌, ◌<◌, ◌≤◌, ◌==◌, ◌&&◌, nat_le, min, Bool, true, false, if◌then◌else◌, List, [], ◌∷◌, length, Option, None, Some, refl, sym, ap, ◌∙◌, subst, arith, map, length-append}
+use Rattle.std.proofs.Common.{◌≡◌, ℕ, ◌+◌, ◌-◌, ◌≤◌, ◌==◌, nat_le, min, Bool, true, false, if◌then◌else◌, List, [], ◌∷◌, length, Option, None, Some, refl, sym, ap, ◌∙◌, subst, arith, length-append}
 use Rattle.std.proofs.lemmas.Bool.Decides.{nat_tests}
 use Rattle.std.proofs.lemmas.List.{length-map}
 use Rattle.std.proofs.lemmas.List.FromFn.{length-range_with_len}
@@ -24,7 +24,7 @@ use Rattle.ca_grant.specs.KeySlot.{list_of_grant}
 use Rattle.ca_grant.specs.Parts.{grant_of_bound}
 use Rattle.ca_grant.specs.Reaching.{grants_without, is_by_key, sight_after_write}
 use Rattle.ca_memory.specs.Buffer.{memory_of}
-use Rattle.ca_tests_grant.specs.SmallReach.{after_end_of, after_write_by, sight_of, IsInBuffer, IsAskHere, IsCounted, IsEndHere, FitTogether}
+use Rattle.ca_tests_grant.specs.SmallReach.{after_end_of, after_write_by, sight_of, IsInBuffer, IsAskHere, IsCounted, IsEndHere}
 use Rattle.ca_tests_grant.specs.declared.small_reach.SmallReach.{SmallReach}
 
 -- runs of a buffer that has so many bytes

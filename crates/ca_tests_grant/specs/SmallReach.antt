@@ -1,10 +1,9 @@
 -- A window, a region and a buffer as all that an engine reaches: what is seen of them, what is at hand, and what a write
 -- and the end of a key leave. Contracts cite it.
-use Rattle.std.specs.Prelude.{◌≡◌, ℕ, ◌<◌, Bool, true, false, if◌then◌else◌, List, Option, None, Some, length}
+use Rattle.std.specs.Prelude.{◌≡◌, ℕ, ◌<◌, if◌then◌else◌, List, Option, None, Some, length}
 use Rattle.ca_base.specs.declared.access.Ask.{Ask}
 use Rattle.ca_base.specs.declared.grant.Grant.{Grant}
 use Rattle.ca_base.specs.declared.key.Key.{Key}
-use Rattle.ca_base.specs.declared.names.Slot.{Slot}
 use Rattle.ca_base.specs.Allowed.{grant_for}
 use Rattle.ca_base.specs.Sight.{Sight, Invalidation, runs_in}
 use Rattle.ca_base.specs.objects.Region.{Region, grant_of_region}

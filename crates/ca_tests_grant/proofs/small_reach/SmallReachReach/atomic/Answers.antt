@@ -6,7 +6,6 @@ use Rattle.ca_base.specs.Memory.{little_endian, little_endian_bytes}
 use Rattle.ca_base.specs.Sight.{bytes_in, runs_in}
 use Rattle.ca_grant.specs.Access.{buffer_after}
 use Rattle.ca_memory.specs.Number.{number_after}
-use Rattle.ca_region.specs.Span.{runs_of_span}
 use Rattle.ca_tests_grant.specs.SmallLaws.{small-bytes}
 use Rattle.ca_tests_grant.specs.SmallReach.{sight_of}
 use Rattle.ca_tests_grant.proofs.small_reach.SmallReachReach.atomic.Goals as goal
