@@ -23,7 +23,8 @@ pub struct Mapping {
 }
 
 impl Mapping {
-    ghost use Rattle.std.specs.Prelude.{◌-◌, ◌%◌};
+    ghost use Rattle.std.specs.Prelude.{◌-◌, ◌%◌, None};
+    ghost use Rattle.ca_base.specs.declared.limits.TheConstants.{ATOMIC_BYTES};
     ghost use Rattle.ca_base.specs.Grants.{region_grant};
     ghost use Rattle.ca_base.specs.Memory.{places_count};
     ghost use Rattle.ca_base.specs.objects.Region.{view_of_grant};
@@ -80,6 +81,7 @@ impl Mapping {
         ensures count { places_count (runs_of_span result) ≡ touch }
         ensures places { runs_of_span result ≡ cut (address - self.now.address) touch
             (runs_of_places self.now.slot.domain.adapter self.now.address self.now.bytes self.now.places) }
+        ensures whole { address % ATOMIC_BYTES ≡ 0 → touch ≤ ATOMIC_BYTES → result.second ≡ None }
     {
         let before = address - self.address;
         match &self.places {

@@ -1,5 +1,6 @@
-ghost use Rattle.std.specs.Prelude.{◌≡◌, ◌+◌, ◌-◌, ◌*◌, ◌/◌, ◌%◌, ◌<◌, ◌≤◌, length, map, min, IfOk};
+ghost use Rattle.std.specs.Prelude.{◌≡◌, ◌+◌, ◌-◌, ◌*◌, ◌/◌, ◌%◌, ◌<◌, ◌≤◌, length, map, min, None, IfOk};
 ghost use Rattle.std.specs.List.{list_any};
+ghost use Rattle.ca_base.specs.declared.limits.TheConstants.{ATOMIC_BYTES};
 ghost use Rattle.ca_base.specs.Grants.{page_run};
 ghost use Rattle.ca_base.specs.Memory.{cut, places_count, run_part};
 ghost use Rattle.ca_base.specs.objects.Region.{has_repeat, passes_end};
@@ -60,6 +61,7 @@ pub fn page_span(adapter: u8, buffer: u16, pages: &[u16], begin: u64, touch: u32
     requires held { begin + touch ≤ length pages.now * PAGE_BYTES }
     ensures count { places_count (runs_of_span result) ≡ touch }
     ensures places { runs_of_span result ≡ cut begin touch (map (page_run adapter buffer) pages.now) }
+    ensures whole { begin % ATOMIC_BYTES ≡ 0 → touch ≤ ATOMIC_BYTES → result.second ≡ None }
 {
     let (index, skip) = page_of(begin);
     let first = page_part(adapter, buffer, pages[index], skip, touch);

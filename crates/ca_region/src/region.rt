@@ -38,8 +38,9 @@ impl Model for Region {
 }
 
 impl Region {
-    ghost use Rattle.std.specs.Prelude.{◌≡◌, ◌<◌, ◌≤◌, IfOk, IfErr, IfSome, OnOk, OnErr, None, Some};
+    ghost use Rattle.std.specs.Prelude.{◌≡◌, ◌%◌, ◌<◌, ◌≤◌, IfOk, IfErr, IfSome, OnOk, OnErr, None, Some};
     ghost use Rattle.ca_base.specs.Grants as grants;
+    ghost use Rattle.ca_base.specs.declared.limits.TheConstants.{ATOMIC_BYTES};
     ghost use Rattle.ca_base.specs.Memory.{places_count};
     ghost use Rattle.ca_base.specs.Refusals.{first_of};
     ghost use Rattle.ca_base.specs.objects.Region as regions;
@@ -264,6 +265,7 @@ impl Region {
         requires has { HasBytes address touch (regions.grant_of_region self.now) }
         ensures places { runs_of_span result ≡ region_runs_at self.now address touch }
         ensures count { places_count (runs_of_span result) ≡ touch }
+        ensures whole { address % ATOMIC_BYTES ≡ 0 → touch ≤ ATOMIC_BYTES → result.second ≡ None }
     {
         match &self.state {
             State::Valid(mapping) => mapping.span(address, touch),

@@ -40,11 +40,12 @@ impl Model for Window {
 }
 
 impl Window {
-    ghost use Rattle.std.specs.Prelude.{◌<◌, ◌≤◌, ℕ, Some, None, OnOk, OnErr, IfOk, IfErr};
+    ghost use Rattle.std.specs.Prelude.{◌<◌, ◌≤◌, ℕ, Some, None, true, OnOk, OnErr, IfOk, IfErr, IfSome};
     ghost use Rattle.std.specs.Option.{option_copied, option_map};
     ghost use Rattle.ca_base.specs.Grants.{grant_of_bind};
     ghost use Rattle.ca_base.specs.Refusals.{first_of};
     ghost use Rattle.ca_base.specs.declared.grant.Grant.{Grant};
+    ghost use Rattle.ca_base.specs.objects.Slices.{is_key_of};
     ghost use Rattle.ca_base.specs.objects.Window as windows;
     ghost use Rattle.ca_window.specs.Bind.{region_of_view};
     ghost use Rattle.ca_window.specs.Seen.{view_of_window, grant_of_window};
@@ -63,6 +64,14 @@ impl Window {
         }
     }
 
+    /// The slot, from which the window's keys have their index.
+    pub fn slot(&self) -> Slot
+        ensures slot { result ≡ self.now.slot }
+        ensures small { result.slot < 32768 }
+    {
+        self.slot
+    }
+
     /// 0 where the slot is vacant, and else the window's type, 1 or 2.
     pub fn kind(&self) -> u8
         ensures kind { result ≡ self.now.kind }
@@ -75,14 +84,15 @@ impl Window {
         }
     }
 
-    /// What is bound. None comes exactly where nothing is.
+    /// What is bound, under a key of the window's domain. None comes exactly where nothing is.
     pub fn view(&self) -> Option<WindowView>
-        ensures { result ≡ view_of_window self.now }
+        ensures view { result ≡ view_of_window self.now }
+        ensures domain { IfSome result (λ v. is_key_of self.now.slot.domain v.key ≡ true) }
     {
         match self.binding {
             None => None,
             Some(b) => Some(WindowView {
-                key: self.key(),
+                key: Key::of_window(self.slot, self.low),
                 queue: b.queue,
                 address: b.address,
                 length: b.length,
@@ -234,7 +244,8 @@ impl Window {
         });
     }
 
-    fn bind1_refusal(
+    /// Why a bind of a type 1 window would be refused. None comes exactly where it would not.
+    pub fn bind1_refusal(
         &self,
         r: Option<&RegionView>,
         address: u64,
@@ -251,7 +262,8 @@ impl Window {
         }
     }
 
-    fn bind2_refusal(
+    /// Why a bind of a type 2 window would be refused. None comes exactly where it would not.
+    pub fn bind2_refusal(
         &self,
         r: Option<&RegionView>,
         address: u64,

@@ -1,0 +1,5 @@
+pub mod Access
+pub mod KeySlot
+pub mod Parts
+pub mod Reaching
+pub mod Views

@@ -1,0 +1,39 @@
+ghost use Rattle.std.specs.Prelude.{◌≡◌};
+ghost use Rattle.ca_localops.specs.Errors.{error_of_region};
+ghost use Rattle.ca_localops.specs.declared.marks.OpError.TheVariants as errors;
+
+use ca_base::{Grant, Key, Memory, OpRefusal, RegionError};
+
+/// What a local operation revoked and granted: at most one key, and at most one grant.
+#[derive(Drop)]
+pub struct Marks2 {
+    pub revoked: Option<Key>,
+    pub granted: Option<Grant>,
+}
+
+/// Why a local operation did nothing.
+#[derive(Clone, Copy)]
+pub enum OpError {
+    Refused(OpRefusal),
+    /// Out of memory.
+    Memory,
+}
+
+impl From<Memory> for OpError {
+    ghost from_gives = { λ _ error. error ≡ errors.Memory };
+
+    fn from(_memory: Memory) -> OpError {
+        OpError::Memory
+    }
+}
+
+impl From<RegionError> for OpError {
+    ghost from_gives = { λ error given. given ≡ error_of_region error };
+
+    fn from(error: RegionError) -> OpError {
+        match error {
+            RegionError::Memory => OpError::Memory,
+            error => OpError::Refused(OpRefusal::Region(error)),
+        }
+    }
+}

@@ -1,0 +1,3 @@
+pub mod SmallLaws
+pub mod SmallReach
+pub mod Turn
