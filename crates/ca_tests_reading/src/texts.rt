@@ -228,7 +228,8 @@ fn is_refused_or_another<R: Abort + AllocGlobal>(
     Ok(())
 }
 
-/// Each byte of a text edited in each way. A line feed that is added may leave a whole line before it.
+/// A text with the byte at this place edited is refused at its line, or is that of another history, whichever edit it is. A
+/// line feed that is added may leave a whole line before it, and then it is the next line.
 fn is_edited_at<R: Abort + AllocGlobal>(
     rt: &R,
     text: &[u8],
