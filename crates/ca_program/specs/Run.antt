@@ -4,18 +4,22 @@ use Rattle.ca_base.specs.Memory.{zeros}
 use Rattle.ca_model.specs.Entries.{EntryValue}
 use Rattle.ca_program.specs.FirstPath.{HasHistory}
 use Rattle.ca_model.specs.Lawful.{IsLawful}
+use Rattle.ca_reading.specs.Fits.{HistoryFits}
 use Rattle.ca_trace.specs.Trace.{text}
 
 -- the words are the one command
 abbrev pub IsCommand : List (List ℕ) → Type 0
 IsCommand words = words ≡ codes "script" ∷ []
 
--- these bytes are a script, which has one history, and this history is lawful over an opening of zeros; the output is its text
+-- These bytes are a script, which has one history, and this history is lawful over an opening of zeros. The output is its
+-- text, and the text of no other history that fits.
 pub record HasOutput (bytes output : List ℕ) : Type 0 where
   pub entries : List EntryValue
   pub history : HasHistory bytes entries
   pub lawful : IsLawful zeros entries
+  pub fits : HistoryFits entries
   pub whole : output ≡ text entries
+  pub only : (others : List EntryValue) → HistoryFits others → output ≡ text others → others ≡ entries
 
 -- There are bytes that are a script. Where the source told what was left, it was these bytes, and they were read to their
 -- end. Of their output so much was written.

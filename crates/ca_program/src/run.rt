@@ -12,6 +12,7 @@ use crate::script_error::ScriptError;
 use crate::status::Status;
 use ca_base::limits::MAX_SCRIPT_BYTES;
 use ca_outside::{Sink, Source, read_up_to, write_all};
+use ca_reading::{history_fits, one_text};
 use ca_trace::print_history;
 use std::alloc::Global;
 
@@ -99,6 +100,8 @@ fn output_of(alloc: Global, bytes: &[u8]) -> Result<Vec<u8>, ScriptError>
     ensures refused { IfErr result (IsRefusal bytes.now) }
 {
     let history = history_of(alloc, bytes)?;
+    history_fits(&history);
+    one_text();
     let mut output = Vec::new(alloc);
     print_history(&history, &mut output)?;
     Ok(output)
