@@ -19,8 +19,15 @@ pub mod PollLemmas
 pub mod SoundLemmas
 pub mod TouchLemmas
 pub mod WriteLemmas
+pub mod WindowRowLemmas
+pub mod WindowWorldLemmas
+pub mod WindowBindLemmas
+pub mod WindowOperationLemmas
+pub mod WindowTurnLemmas
+pub mod WindowEventLemmas
 pub mod PartLemmas
 pub mod TableLemmas
 pub mod VerbPartLemmas
+pub mod BindingLemmas
 pub mod CountLemmas
 pub mod EventPartLemmas
