@@ -77,8 +77,8 @@ impl Cq {
             .retain(|reservation| !is_same_side(reservation.who, who));
     }
 
-    /// Puts a completion behind the others. Its condition is that fewer wait than the capacity. A caller that counts the
-    /// completions of each reservation has it where the completion's own reservation has room left.
+    /// Puts a completion behind the others. Its condition is that fewer wait than the capacity. That is so where the
+    /// completion's reservation has room left, in a queue that only such puts came to: `reservation_makes_room` says it.
     pub fn put(&mut self, completion: Completion)
         requires { length self.old.waiting < self.old.capacity }
         ensures { self.new ≡ after_puts (completion ∷ []) self.old }

@@ -1,3 +1,4 @@
+mod mail_runs;
 mod mailboxes;
 mod saved;
 mod shared;
