@@ -1,2 +1,3 @@
 mod Examples
 pub mod SettingsLemmas
+pub mod ResponseQueueLemmas

@@ -8,6 +8,7 @@ pub mod WorkQueue
 pub mod SharedReceives
 pub mod CompletionQueue
 pub mod Saved
+pub mod Answers
 pub mod Mailbox
 pub mod Domain
 pub mod QueuePair

@@ -11,6 +11,7 @@ pub struct Key(pub u32);
 
 impl Key {
     ghost use Rattle.ca_base.specs.Numbers.{region_index, window_index, index_of, low_of, key_at};
+    ghost use Rattle.ca_base.specs.objects.Slices.{is_window_key};
 
     /// The key of the region in a slot, with this low byte.
     pub fn of_region(slot: Slot, low: u8) -> Key
@@ -34,6 +35,13 @@ impl Key {
         ensures { result ≡ index_of self }
     {
         self.0 / 256
+    }
+
+    /// Whether it is the key of a window, and not of a region.
+    pub fn names_window(self) -> bool
+        ensures { result ≡ is_window_key self }
+    {
+        self.index() % 0x10000 >= 0x8000
     }
 
     /// The low byte.

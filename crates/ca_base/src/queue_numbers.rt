@@ -98,6 +98,58 @@ pub enum Queued {
     },
 }
 
+impl Queued {
+    ghost use Rattle.std.specs.Prelude.{◌≡◌};
+    ghost use Rattle.ca_base.specs.objects.Answers as answers;
+
+    /// The PSN that it stands at: of a READ that of its next response.
+    pub fn psn(&self) -> u64
+        ensures { result ≡ answers.psn_of_answer self.now }
+    {
+        match *self {
+            Queued::Ack { psn }
+            | Queued::Rnr { psn }
+            | Queued::Nak { psn, .. }
+            | Queued::Read { psn, .. }
+            | Queued::Atomic { psn, .. } => psn,
+        }
+    }
+
+    /// Whether it is an acknowledgement.
+    pub fn is_ack(&self) -> bool
+        ensures { result ≡ answers.is_ack self.now }
+    {
+        matches!(self, Queued::Ack { .. })
+    }
+
+    /// Whether it is a NAK or an RNR NAK.
+    pub fn is_nak(&self) -> bool
+        ensures { result ≡ answers.is_nak self.now }
+    {
+        matches!(self, Queued::Rnr { .. } | Queued::Nak { .. })
+    }
+
+    /// Whether it answers a READ or an atomic that came for the first time.
+    pub fn is_fresh(&self) -> bool
+        ensures { result ≡ answers.is_fresh_answer self.now }
+    {
+        match self {
+            Queued::Read { duplicate, .. } | Queued::Atomic { duplicate, .. } => !duplicate,
+            _ => false,
+        }
+    }
+
+    /// Whether it answers a READ or an atomic that came once more.
+    pub fn is_duplicate(&self) -> bool
+        ensures { result ≡ answers.is_duplicate_answer self.now }
+    {
+        match self {
+            Queued::Read { duplicate, .. } | Queued::Atomic { duplicate, .. } => *duplicate,
+            _ => false,
+        }
+    }
+}
+
 /// How many type 2 windows are bound to a queue pair.
 #[derive(Clone, Copy)]
 pub struct WindowCount {

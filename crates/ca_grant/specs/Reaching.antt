@@ -54,7 +54,3 @@ is_by_key i ask = (ask.domain.adapter == i.domain.adapter) && key_eq ask.key i.k
 -- the grants that asks go by, after the key ended
 abbrev pub grants_without : Invalidation → (Ask → Option Grant) → Ask → Option Grant
 grants_without i grant ask = if is_by_key i ask then None else grant ask
-
--- the count of the type 2 windows that are bound to a queue pair, after one of its keys ended
-abbrev pub count_without : Key → WindowCount → WindowCount
-count_without key windows = if is_window_key key then record { count = windows.count - 1 } else windows

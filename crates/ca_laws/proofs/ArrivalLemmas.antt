@@ -13,6 +13,7 @@ use Rattle.ca_base.specs.declared.queue_numbers.Queued.TheVariants as queued
 use Rattle.ca_base.specs.declared.queue_numbers.ResponderNumbers.{ResponderNumbers}
 use Rattle.ca_base.specs.declared.refusals.OpRefusal.{OpRefusal}
 use Rattle.ca_base.specs.declared.request.RecvRequest.{RecvRequest}
+use Rattle.ca_base.specs.objects.Answers.{is_ack, with_ack_at_end}
 use Rattle.ca_base.specs.objects.QueuePair.{QueuePair, in_error}
 use Rattle.ca_base.specs.objects.SharedReceives.{PlacedReceive, SharedReceives, first_receive}
 use Rattle.ca_base.specs.objects.StateTable.{is_path_mtu}
@@ -21,7 +22,7 @@ use Rattle.ca_wire.specs.declared.syndrome.NakCode.{NakCode}
 use Rattle.ca_wire.specs.Packet.{Fields}
 use Rattle.ca_wire.specs.Syndrome.{nak_code}
 use Rattle.ca_model.specs.Requests.{segments}
-use Rattle.ca_model.specs.machine.Arrivals.{is_ack, next_receive, refusal_effects, with_ack_at_end, with_answer, with_flag, with_message, with_receive_taken, with_responder}
+use Rattle.ca_model.specs.machine.Arrivals.{next_receive, refusal_effects, with_answer, with_flag, with_message, with_receive_taken, with_responder}
 use Rattle.ca_model.specs.machine.Completions.{flush_marks, receive_failure}
 use Rattle.ca_model.specs.machine.Expected.{queue_after_packet, receive_failure_effects}
 use Rattle.ca_model.specs.machine.Invariants.{IsAnswer, IsMessage, IsQueue, IsReceive, IsReceives, IsResponder, IsSharedReceives, IsTaken, begun_end, is_idle}

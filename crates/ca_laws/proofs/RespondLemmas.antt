@@ -13,6 +13,7 @@ use Rattle.ca_base.specs.declared.step.Reason.{Reason}
 use Rattle.ca_base.specs.declared.step.Reason.TheVariants as reasons
 use Rattle.ca_base.specs.declared.verdict.Verdict.TheVariants as verdicts
 use Rattle.ca_base.specs.Refusals.{first_of}
+use Rattle.ca_base.specs.objects.Answers.{answers_before, duplicate_count, psn_of_answer}
 use Rattle.ca_base.specs.objects.QueuePair.{QueuePair, in_error, without_answers}
 use Rattle.ca_base.specs.objects.Saved.{saved_at}
 use Rattle.ca_base.specs.objects.SharedReceives.{SharedReceives}
@@ -28,10 +29,10 @@ use Rattle.ca_model.specs.declared.mark.Drop1.{Drop1}
 use Rattle.ca_model.specs.declared.mark.Drop1.TheVariants as drops
 use Rattle.ca_model.specs.Packets.{is_response}
 use Rattle.ca_model.specs.Requests.{segments}
-use Rattle.ca_model.specs.machine.Arrivals.{count_of, is_duplicate, psn_of_answer, remote_mark, with_answer, with_flag, with_responder}
+use Rattle.ca_model.specs.machine.Arrivals.{remote_mark, with_answer, with_flag, with_responder}
 use Rattle.ca_model.specs.machine.Completions.{flush_marks}
 use Rattle.ca_model.specs.machine.Delivery.{arrival_drops, arrival_row, packet_arrived}
-use Rattle.ca_model.specs.machine.Duplicates.{ack_again, ahead_effects, answer_again, answers_before, atomic_again, duplicate_effects, read_again, request_row, with_answers_before}
+use Rattle.ca_model.specs.machine.Duplicates.{ack_again, ahead_effects, answer_again, atomic_again, duplicate_effects, read_again, request_row, with_answers_before}
 use Rattle.ca_model.specs.machine.Expected.{expected_row}
 use Rattle.ca_model.specs.machine.Respond.{ReadLeft, answer_turn, is_last_response, nak_of, response_segment, read_row, respond_refusals, respond_row, response_ask, response_length, rest_of, with_front, with_packet, without_front}
 use Rattle.ca_model.specs.machine.Requester.{peer_number, psn_bits}
@@ -106,7 +107,7 @@ read-again-good psn envelope h q s busy = by (nat_le (psn + segments q.responder
 
 duplicate-good : (psn : ℕ) (p : Fields) (envelope : Option ℕ) (shape : Shape) (q : QueuePair) → IsQueue q → is_idle q.state ≡ false → psn < q.responder.expected
     → IsGood q (duplicate_effects psn p envelope shape q)
-duplicate-good psn p envelope shape q s busy low = at (nat_le MAX_DUPLICATES (count_of is_duplicate q))
+duplicate-good psn p envelope shape q s busy low = at (nat_le MAX_DUPLICATES (duplicate_count q.responder.answers))
   where
     acks : (b : Bool) → IsGood q (if b then queue_and_marks (with_answer (queued.Ack (q.responder.expected - 1)) q) [] else drop_effects q drops.Unsaved)
     acks true = responder-good q (with_answer (queued.Ack (q.responder.expected - 1)) q) (answer-queue (queued.Ack (q.responder.expected - 1)) q s busy (omega arith))

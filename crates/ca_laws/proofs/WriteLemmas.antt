@@ -7,6 +7,7 @@ use Rattle.ca_base.specs.declared.completion.WcStatus.TheVariants.{BadResponse, 
 use Rattle.ca_base.specs.declared.limits.TheConstants.{MAX_RETRY, MAX_DUPLICATES}
 use Rattle.ca_base.specs.declared.refusals.OpRefusal.{OpRefusal}
 use Rattle.ca_base.specs.Sight.{DeniedAsk}
+use Rattle.ca_base.specs.objects.Answers.{duplicate_count}
 use Rattle.ca_base.specs.objects.QueuePair.{QueuePair}
 use Rattle.ca_base.specs.objects.StateTable.{is_among}
 use Rattle.ca_wire.specs.declared.syndrome.NakCode.{NakCode}
@@ -37,7 +38,7 @@ use Rattle.ca_wire.specs.declared.reth.Reth.{Reth}
 use Rattle.ca_wire.specs.declared.segment.Position.{Position}
 use Rattle.ca_model.specs.Packets.{is_response}
 use Rattle.ca_model.specs.Requests.{list_length, segments}
-use Rattle.ca_model.specs.machine.Arrivals.{count_of, is_duplicate, next_receive, packet_ask, refusal_effects, with_answer, with_flag, with_receive_taken}
+use Rattle.ca_model.specs.machine.Arrivals.{next_receive, packet_ask, refusal_effects, with_answer, with_flag, with_receive_taken}
 use Rattle.ca_model.specs.machine.Duplicates.{ack_again, ahead_effects, answer_again, atomic_again, duplicate_effects, read_again, request_row}
 use Rattle.ca_model.specs.machine.Expected.{Receiving, WriteReach, after_send_packet, atomic_row, behind_marks, expected_row, invalidation_of, is_invalid, read_queued, receive_asks, receive_failure_effects, receiving_of, revoked_marks, rnr_effects, send_row, takes_receive, valid_row, with_shared_receive, with_window_gone, write_reach, write_row}
 use Rattle.ca_model.specs.machine.Shapes.{Shape, SendAt, WriteAt, ReadRequest, Atomic, shape_of}
@@ -285,7 +286,7 @@ ahead-none q = by q.responder.nak_sent
     by false = refl
 
 duplicate-none : (psn : ℕ) (p : Fields) (envelope : Option ℕ) (shape : Shape) (q : QueuePair) → (duplicate_effects psn p envelope shape q).writes ≡ []
-duplicate-none psn p envelope shape q = at (nat_le MAX_DUPLICATES (count_of is_duplicate q))
+duplicate-none psn p envelope shape q = at (nat_le MAX_DUPLICATES (duplicate_count q.responder.answers))
   where
     acks : (b : Bool) → (if b then queue_and_marks (with_answer (queued.Ack (q.responder.expected - 1)) q) [] else drop_effects q drops.Unsaved).writes ≡ []
     acks true = refl

@@ -39,10 +39,6 @@ abbrev pub CountsWindow : Key → QueueId → Option Window → Option Region �
 CountsWindow key queue w r =
     IsTrue (is_window_key key) → key_refusal key queue w r ≡ None → IsSomeAnd r (λ region. 0 < region.bound)
 
--- the count of the type 2 windows that are bound to a queue pair, after one of its keys ended
-abbrev pub count_without_key : Key → WindowCount → WindowCount
-count_without_key key q = if is_window_key key then record { count = q.count - 1 } else q
-
 -- the operation is a fast registration
 abbrev pub IsFastRegistration : SendOp → Type 0
 IsFastRegistration (ops.FastReg region low buffer address count rights pages) = Unit {0}

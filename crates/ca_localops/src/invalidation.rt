@@ -5,7 +5,8 @@ ghost use Rattle.ca_base.specs.objects.Region.{after_region_invalidation, with_w
 ghost use Rattle.ca_base.specs.objects.Slices.{is_window_key};
 ghost use Rattle.ca_base.specs.objects.Window.{without_binding};
 ghost use Rattle.ca_localops.specs.Handed.{left_behind};
-ghost use Rattle.ca_localops.specs.Operations.{CountsWindow, key_refusal, key_refusal_by_region, region_without_key, window_without_key, count_without_key};
+ghost use Rattle.ca_base.specs.objects.Window.{count_without};
+ghost use Rattle.ca_localops.specs.Operations.{CountsWindow, key_refusal, key_refusal_by_region, region_without_key, window_without_key};
 
 use crate::marks::Marks2;
 use ca_base::{Key, OpRefusal, QueueId, RegionError, WindowCount, WindowError};
@@ -31,7 +32,7 @@ pub fn invalidate(
     ensures granted { IfOk result (λ m. m.granted ≡ None) }
     ensures window { OnOk result (left_behind w.exit ≡ option_map (window_without_key key) (option_copied_mut w.entry)) }
     ensures region { OnOk result (left_behind r.exit ≡ option_map (region_without_key key) (option_copied_mut r.entry)) }
-    ensures count { OnOk result (q.new ≡ count_without_key key q.old) }
+    ensures count { OnOk result (q.new ≡ count_without key q.old) }
     ensures err_window { OnErr result (left_behind w.exit ≡ option_copied_mut w.entry) }
     ensures err_region { OnErr result (left_behind r.exit ≡ option_copied_mut r.entry) }
     ensures err_count { OnErr result (q.new ≡ q.old) }
@@ -57,7 +58,7 @@ fn end_key_without_window(region: &mut Region, key: Key) -> Result<Marks2, OpRef
     ensures ok { OnOk result (region.new ≡ region_without_key key region.old) }
     ensures err { OnErr result (region.new ≡ region.old) }
 {
-    if names_window(key) {
+    if key.names_window() {
         return Err(refusal_of_unnamed(key));
     }
     end_region_key(region, key)?;
@@ -74,7 +75,7 @@ fn end_key_without_region(
     ensures err { IsErr result }
     ensures same { window.new ≡ window.old }
 {
-    if !names_window(key) {
+    if !key.names_window() {
         return Err(refusal_of_unnamed(key));
     }
     end_window_key(window, key, queue)?;
@@ -96,12 +97,12 @@ fn end_key(
     ensures granted { IfOk result (λ m. m.granted ≡ None) }
     ensures window { OnOk result (window.new ≡ window_without_key key window.old) }
     ensures region { OnOk result (region.new ≡ region_without_key key region.old) }
-    ensures count { OnOk result (q.new ≡ count_without_key key q.old) }
+    ensures count { OnOk result (q.new ≡ count_without key q.old) }
     ensures err_window { OnErr result (window.new ≡ window.old) }
     ensures err_region { OnErr result (region.new ≡ region.old) }
     ensures err_count { OnErr result (q.new ≡ q.old) }
 {
-    if names_window(key) {
+    if key.names_window() {
         end_window_key(window, key, queue)?;
         region.note_unbind();
         q.count -= 1;
@@ -121,17 +122,11 @@ fn revocation_of(key: Key) -> Marks2
     }
 }
 
-fn names_window(key: Key) -> bool
-    ensures { result ≡ is_window_key key }
-{
-    key.index() % 0x10000 >= 0x8000
-}
-
 // Why the invalidation of a key is refused that names nothing.
 fn refusal_of_unnamed(key: Key) -> OpRefusal
     ensures { result ≡ unnamed_refusal key }
 {
-    if names_window(key) {
+    if key.names_window() {
         OpRefusal::Window(WindowError::NoWindow)
     } else {
         OpRefusal::Region(RegionError::NotValid)

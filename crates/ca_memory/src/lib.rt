@@ -11,3 +11,4 @@ mod buffer;
 mod number;
 
 pub use buffer::Buffer;
+pub use number::number_put;

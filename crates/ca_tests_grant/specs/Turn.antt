@@ -7,7 +7,8 @@ use Rattle.ca_base.specs.declared.access.Kind.TheVariants as kinds
 use Rattle.ca_base.specs.declared.queue_numbers.WindowCount.{WindowCount}
 use Rattle.ca_base.specs.declared.refusals.OpRefusal.{OpRefusal}
 use Rattle.ca_base.specs.Sight.{Sight, Invalidation, denial_in, bytes_in, first_denied}
-use Rattle.ca_grant.specs.Reaching.{IsPacketAsk, count_without}
+use Rattle.ca_base.specs.objects.Window.{count_without}
+use Rattle.ca_grant.specs.Reaching.{IsPacketAsk}
 use Rattle.ca_tests_grant.specs.declared.engine.Outcome.{Outcome}
 use Rattle.ca_tests_grant.specs.declared.engine.Outcome.TheVariants.{Denied, Refused, Done}
 

@@ -11,7 +11,7 @@ use ca_base::{
     Span, Verdict, WindowCount,
 };
 use ca_grant::{Reach, bytes_of_span, judge, write_span};
-use ca_memory::Buffer;
+use ca_memory::{Buffer, number_put};
 use ca_region::Region;
 use ca_window::Window;
 use std::alloc::Global;
@@ -29,8 +29,9 @@ pub struct SmallReach {
 impl SmallReach {
     ghost use Rattle.ca_base.specs.Memory.{places_count};
     ghost use Rattle.ca_base.specs.Sight.{denial_in, runs_in};
+    ghost use Rattle.ca_base.specs.objects.Window.{count_without};
     ghost use Rattle.ca_grant.specs.Access.{FitInBytes};
-    ghost use Rattle.ca_grant.specs.Reaching.{IsPacketAsk, invalidation_by, count_without};
+    ghost use Rattle.ca_grant.specs.Reaching.{IsPacketAsk, invalidation_by};
     ghost use Rattle.ca_region.specs.Span.{runs_of_span};
     ghost use Rattle.ca_tests_grant.specs.SmallReach as small;
 
@@ -70,7 +71,7 @@ impl SmallReach {
         ensures count { IfOk result (λ span. places_count (runs_of_span span) ≡ ask.now.touch) }
         ensures whole { IfOk result (λ span. ask.now.address % ATOMIC_BYTES ≡ 0 → ask.now.touch ≤ ATOMIC_BYTES → span.second ≡ None) }
     {
-        if names_window(ask.key) {
+        if ask.key.names_window() {
             judge(Some(&self.window), Some(&self.region), ask)
         } else {
             judge(None, Some(&self.region), ask)
@@ -192,19 +193,4 @@ fn swap_at(buffer: &mut Buffer, at: &Run, op: AtomicOp) -> u64
     ensures count { length buffer.new ≡ length buffer.old }
 {
     buffer.swap(at.offset, op)
-}
-
-fn number_put(op: AtomicOp, found: u64) -> u64
-    ensures { result ≡ number_after op found }
-{
-    match op {
-        AtomicOp::CmpSwap { compare, swap } => { if found == compare { swap } else { found } }
-        AtomicOp::FetchAdd { add } => found.wrapping_add(add),
-    }
-}
-
-fn names_window(key: Key) -> bool
-    ensures { result ≡ is_window_key key }
-{
-    key.index() % 0x10000 >= 0x8000
 }

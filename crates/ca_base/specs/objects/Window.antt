@@ -1,11 +1,12 @@
 -- A memory window: what stands in its slot, why a change of it is refused, and what the change makes of it. Contracts
 -- cite it.
-use Rattle.std.specs.Prelude.{ℕ, ◌+◌, ◌==◌, ◌&&◌, ◌||◌, nat_le, Bool, true, false, not, if◌then◌else◌, List, [], ◌∷◌, Option, None, Some, is_none}
+use Rattle.std.specs.Prelude.{ℕ, ◌+◌, ◌-◌, ◌==◌, ◌&&◌, ◌||◌, nat_le, Bool, true, false, not, if◌then◌else◌, List, [], ◌∷◌, Option, None, Some, is_none}
 use Rattle.std.specs.Option.{option_map, option_map_or}
 use Rattle.ca_base.specs.declared.grant.Grant.{Grant}
 use Rattle.ca_base.specs.declared.key.Key.{Key}
 use Rattle.ca_base.specs.declared.names.QueueId.{QueueId}
 use Rattle.ca_base.specs.declared.names.Slot.{Slot}
+use Rattle.ca_base.specs.declared.queue_numbers.WindowCount.{WindowCount}
 use Rattle.ca_base.specs.declared.refusals.WindowError.{WindowError}
 use Rattle.ca_base.specs.declared.refusals.WindowError.TheVariants.{NoWindow, WrongType, RegionNotValid, NoBindRight, RightsNeedLocalWrite, OutsideRegion, StillBound, Empty, Type1, NotBound, KeyDiffers, WrongQueue}
 use Rattle.ca_base.specs.declared.region_view.RegionView.{RegionView}
@@ -13,6 +14,7 @@ use Rattle.ca_base.specs.declared.rights.Rights.{Rights}
 use Rattle.ca_base.specs.Equal.{key_eq, queue_eq}
 use Rattle.ca_base.specs.Grants.{next_low, remote_rights, grant_of_bind}
 use Rattle.ca_base.specs.Numbers.{key_at, window_index}
+use Rattle.ca_base.specs.objects.Slices.{is_window_key}
 
 -- a window's binding: the region, by slot, the range, the rights, and of a type 2 window the queue pair
 pub record Binding : Type 0 where
@@ -136,3 +138,7 @@ window_invalidation_refusals key queue w =
 -- a deallocation: the slot is vacant
 abbrev pub after_deallocation : Window → Window
 after_deallocation w = record w { kind = 0; binding = None }
+
+-- the count of the type 2 windows that are bound to a queue pair, after one of its keys ended
+abbrev pub count_without : Key → WindowCount → WindowCount
+count_without key windows = if is_window_key key then record { count = windows.count - 1 } else windows

@@ -61,44 +61,6 @@ abbrev pub refusal_effects : NakCode → QueuePair → Effects
 refusal_effects code q =
     queue_and_marks (in_error (with_answer (queued.Nak q.responder.expected (nak_code code)) q)) (flush_marks q)
 
--- the PSN of a queued answer: of a READ that of its next response
-abbrev pub psn_of_answer : Queued → ℕ
-psn_of_answer (queued.Ack psn) = psn
-psn_of_answer (queued.Rnr psn) = psn
-psn_of_answer (queued.Nak psn code) = psn
-psn_of_answer (queued.Read psn key address left first envelope duplicate) = psn
-psn_of_answer (queued.Atomic psn found duplicate) = psn
-
-abbrev pub is_ack : Queued → Bool
-is_ack (queued.Ack psn) = true
-is_ack answer = false
-
-abbrev pub is_nak : Queued → Bool
-is_nak (queued.Rnr psn) = true
-is_nak (queued.Nak psn code) = true
-is_nak answer = false
-
--- a READ or an atomic for the first time
-abbrev pub is_fresh : Queued → Bool
-is_fresh (queued.Read psn key address left first envelope duplicate) = not duplicate
-is_fresh (queued.Atomic psn found duplicate) = not duplicate
-is_fresh answer = false
-
--- a READ or an atomic once more
-abbrev pub is_duplicate : Queued → Bool
-is_duplicate (queued.Read psn key address left first envelope duplicate) = duplicate
-is_duplicate (queued.Atomic psn found duplicate) = duplicate
-is_duplicate answer = false
-
-abbrev pub count_of : (Queued → Bool) → QueuePair → ℕ
-count_of test q = length (filter test q.responder.answers)
-
--- an ACK takes the place of an ACK at the queue's end
-abbrev pub with_ack_at_end : ℕ → List Queued → List Queued
-with_ack_at_end psn [] = queued.Ack psn ∷ []
-with_ack_at_end psn (a ∷ []) = if is_ack a then queued.Ack psn ∷ [] else a ∷ queued.Ack psn ∷ []
-with_ack_at_end psn (a ∷ b ∷ rest) = a ∷ with_ack_at_end psn (b ∷ rest)
-
 -- the ask of a packet for so many bytes from an address on, of which it touches some
 abbrev pub packet_ask : QueuePair → Key → Kind → ℕ → ℕ → ℕ → Ask
 packet_ask q key kind address count touch =

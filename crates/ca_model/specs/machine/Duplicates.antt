@@ -1,11 +1,11 @@
 -- The responder's packets ahead of the expected one and before it, and the row of a request that arrived. Contracts cite
 -- it.
-use Rattle.std.specs.Prelude.{ℕ, ◌+◌, ◌-◌, ◌==◌, ◌&&◌, nat_le, nat_lt, true, false, if◌then◌else◌, List, [], filter, length, Option, None, Some}
-use Rattle.std.specs.List.{list_any}
+use Rattle.std.specs.Prelude.{ℕ, ◌+◌, ◌-◌, ◌==◌, nat_le, nat_lt, true, false, if◌then◌else◌, [], length, Option, None, Some}
 use Rattle.std.specs.Option.{option_map_or}
 use Rattle.ca_base.specs.declared.limits.TheConstants.{MAX_DUPLICATES}
 use Rattle.ca_base.specs.declared.queue_numbers.Queued.{Queued}
 use Rattle.ca_base.specs.declared.queue_numbers.Queued.TheVariants as queued
+use Rattle.ca_base.specs.objects.Answers.{answers_before, duplicate_count, has_nak_from}
 use Rattle.ca_base.specs.objects.QueuePair.{QueuePair}
 use Rattle.ca_base.specs.objects.Saved.{saved_at}
 use Rattle.ca_base.specs.objects.SharedReceives.{SharedReceives}
@@ -16,7 +16,7 @@ use Rattle.ca_wire.specs.Packet.{Fields}
 use Rattle.ca_wire.specs.Syndrome.{nak_code}
 use Rattle.ca_model.specs.declared.mark.Drop1.TheVariants as drops
 use Rattle.ca_model.specs.Requests.{segments}
-use Rattle.ca_model.specs.machine.Arrivals.{count_of, is_duplicate, is_nak, psn_of_answer, with_answer, with_flag, with_responder}
+use Rattle.ca_model.specs.machine.Arrivals.{with_answer, with_flag, with_responder}
 use Rattle.ca_model.specs.machine.Expected.{expected_row}
 use Rattle.ca_model.specs.machine.Responses.{drop_effects}
 use Rattle.ca_model.specs.machine.Row.{Effects, queue_and_marks, Row, plain_row, Does}
@@ -28,16 +28,12 @@ ahead_effects q =
     if q.responder.nak_sent then drop_effects q drops.Stale
     else queue_and_marks (with_flag true (with_answer (queued.Nak q.responder.expected (nak_code PsnSequenceError)) q)) []
 
--- the answers before a PSN
-abbrev pub answers_before : ℕ → List Queued → List Queued
-answers_before psn answers = filter (λ a. nat_lt (psn_of_answer a) psn) answers
-
 -- the queued answers at a PSN or later are removed; with a NAK or an RNR NAK the flag goes
 abbrev pub with_answers_before : ℕ → QueuePair → QueuePair
 with_answers_before psn q = with_responder (record q.responder {
   answers = answers_before psn q.responder.answers;
   nak_sent =
-      if list_any (λ a. is_nak a && nat_le psn (psn_of_answer a)) q.responder.answers then false else q.responder.nak_sent;
+      if has_nak_from psn q.responder.answers then false else q.responder.nak_sent;
 }) q
 
 -- an answer that is given once more
@@ -65,7 +61,7 @@ atomic_again psn None q = drop_effects q drops.Unsaved
 -- a duplicate, by its whole PSN
 abbrev pub duplicate_effects : ℕ → Fields → Option ℕ → Shape → QueuePair → Effects
 duplicate_effects psn p envelope shape q =
-    if nat_le MAX_DUPLICATES (count_of is_duplicate q) then drop_effects q drops.Unsaved else by shape
+    if nat_le MAX_DUPLICATES (duplicate_count q.responder.answers) then drop_effects q drops.Unsaved else by shape
   where
     by : Shape → Effects
     by (SendAt place) = ack_again q

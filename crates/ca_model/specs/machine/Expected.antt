@@ -18,6 +18,7 @@ use Rattle.ca_base.specs.declared.refusals.OpRefusal.{OpRefusal}
 use Rattle.ca_base.specs.declared.verdict.Verdict.TheVariants as verdicts
 use Rattle.ca_base.specs.Memory.{little_endian, little_endian_bytes}
 use Rattle.ca_base.specs.Sight.{Invalidation}
+use Rattle.ca_base.specs.objects.Answers.{fresh_count, with_ack_at_end}
 use Rattle.ca_base.specs.objects.QueuePair.{QueuePair}
 use Rattle.ca_base.specs.objects.Saved.{after_save}
 use Rattle.ca_base.specs.objects.SharedReceives.{PlacedReceive, SharedReceives}
@@ -33,7 +34,7 @@ use Rattle.ca_model.specs.declared.mark.Mark.{Mark}
 use Rattle.ca_model.specs.declared.mark.Mark.TheVariants as marks
 use Rattle.ca_model.specs.Packets.{number_put}
 use Rattle.ca_model.specs.Requests.{list_length, segments}
-use Rattle.ca_model.specs.machine.Arrivals.{count_of, has_shared, is_fresh, next_receive, packet_ask, refusal_effects, remote_mark, with_ack_at_end, with_answer, with_flag, with_message, with_receive_taken, with_responder}
+use Rattle.ca_model.specs.machine.Arrivals.{has_shared, next_receive, packet_ask, refusal_effects, remote_mark, with_answer, with_flag, with_message, with_receive_taken, with_responder}
 use Rattle.ca_model.specs.machine.Completions.{receive_failure, receive_mark}
 use Rattle.ca_model.specs.machine.Numbering.{list_asks}
 use Rattle.ca_model.specs.machine.Requester.{local_denial}
@@ -91,8 +92,8 @@ is_misaligned p = option_map_or (λ a. not (a.address % ATOMIC_BYTES == 0)) p.at
 
 -- a READ or an atomic where as many are queued as may be
 abbrev pub has_no_place : QueuePair → Shape → Bool
-has_no_place q ReadRequest = nat_le MAX_READS (count_of is_fresh q)
-has_no_place q (Atomic kind) = nat_le MAX_READS (count_of is_fresh q)
+has_no_place q ReadRequest = nat_le MAX_READS (fresh_count q.responder.answers)
+has_no_place q (Atomic kind) = nat_le MAX_READS (fresh_count q.responder.answers)
 has_no_place q shape = false
 
 -- the packet is an invalid request
