@@ -534,7 +534,7 @@ poll-in c w call s n least = (inl refl, by (w.cq s) (λ p among. inr among))
       λ range. (
         λ is. record {},
         λ is. places-in w ps s cq (take n cq.waiting) (take n cq.waiting)
-            (λ changes. Answer_plan call (answers.Polled (record { items = take n cq.waiting })) ((Cq_of s := Some (after_polls (length (take n cq.waiting)) cq)) ∷ changes) [])
+            (λ changes. Answer_plan call (answers.Polled (take n cq.waiting)) ((Cq_of s := Some (after_polls (length (take n cq.waiting)) cq)) ∷ changes) [])
             (λ p among. inc p (subst (λ k. IsAmong (map (place_part s cq) (take k cq.waiting)) p) (sym (in_range range)) among))
             (λ us rest. ((inl refl, rest), record {})),
       ),

@@ -48,9 +48,6 @@ piece name address count = record { address = address; key = k name; length = co
 abbrev pub list : List Piece → ArrayVec Piece
 list items = record { items = items }
 
-abbrev pub polled : List Completion → ArrayVec Completion
-polled items = record { items = items }
-
 abbrev pub request : ℕ → Bool → Bool → Bool → SendOp → SendRequest
 request id signalled fence solicited op =
     record { id = id; signalled = signalled; fence = fence; solicited = solicited; op = op }

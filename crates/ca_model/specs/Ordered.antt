@@ -45,7 +45,7 @@ is_receive_in_order past c = nat_le (place_behind (past.last_receive (life_of pa
 -- what a poll gives is the front of what waits
 abbrev pub is_polled : Past → Verb → Answer → Bool
 is_polled past (verbs.Poll slot n least) (answers.Polled completions) =
-    pointwise completion_eq completions.items (take (length completions.items) (past.waiting slot))
+    pointwise completion_eq completions (take (length completions) (past.waiting slot))
 is_polled past verb answer = true
 
 -- each completion is in order, and each poll gives what waits

@@ -2,8 +2,8 @@ ghost use Rattle.std.specs.Prelude.{◌≡◌, Some, MatchResult};
 ghost use Rattle.ca_base.specs.declared.refusals.RegionError.TheVariants as regions;
 ghost use Rattle.ca_model.specs.Answers.{refusal_text, refusal_of_change, refusal_of_region};
 
-use arrayvec::ArrayVec;
-use ca_base::{Bytes, Completion, Field, Key, Memory, ModifyRefusal, RegionError, State};
+use crate::completions::Completions;
+use ca_base::{Bytes, Field, Key, Memory, ModifyRefusal, RegionError, State};
 use std::fmt;
 
 /// What a verb answers.
@@ -21,7 +21,7 @@ pub enum Answer {
     /// The request was posted; the key that a bind of a type 1 window will install.
     Posted(Option<Key>),
     /// The completions that were taken, in order.
-    Polled(ArrayVec<Completion, 16>),
+    Polled(Completions),
     /// A queue pair's state and incarnation, and how many places its send queue and its receives occupy.
     Query {
         state: State,

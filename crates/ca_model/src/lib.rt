@@ -9,6 +9,7 @@
 #![tactic(auto)]
 
 mod answer;
+mod completions;
 mod entry;
 mod event;
 mod history;
@@ -20,6 +21,7 @@ mod part_name;
 mod verb;
 
 pub use answer::{Answer, Refusal};
+pub use completions::Completions;
 pub use entry::Entry;
 pub use event::Event;
 pub use history::History;

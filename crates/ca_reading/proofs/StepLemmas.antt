@@ -44,16 +44,16 @@ a_poll stamp pass by verb given wanted = record { stamp = stamp; pass = pass; by
 
 gots_run : (n stamp pass by : ℕ) (verb : Verb) (given cs : List Completion) (rest : List Line)
     → run (at_stage n (polling (a_poll stamp pass by verb given (length cs)))) (map lines.Got cs ++ rest)
-    ≡ run (at_stage n (Open (answered stamp pass by verb (answers.Polled (record { items = given ++ cs }))))) rest
+    ≡ run (at_stage n (Open (answered stamp pass by verb (answers.Polled (given ++ cs))))) rest
 gots_run n stamp pass by verb given [] rest = rw append-nil refl
 gots_run n stamp pass by verb given (c ∷ cs) rest =
     let more : eqb (suc (length cs)) 0 ≡ false = ne_eqb (suc (length cs)) 0 (λ same. omega arith) in
     let less : suc (length cs) - 1 ≡ length cs = omega arith in
-    ap (λ (b : Bool). run (at_stage n (cond b (Open (answered stamp pass by verb (answers.Polled (record { items = given })))) (Polling (a_poll stamp pass by verb given (suc (length cs)))))) (lines.Got c ∷ (map lines.Got cs ++ rest))) more
+    ap (λ (b : Bool). run (at_stage n (cond b (Open (answered stamp pass by verb (answers.Polled given))) (Polling (a_poll stamp pass by verb given (suc (length cs)))))) (lines.Got c ∷ (map lines.Got cs ++ rest))) more
     ∙ quiet (run (at_stage n (polling (a_poll stamp pass by verb (given ++ c ∷ []) (suc (length cs) - 1)))) (map lines.Got cs ++ rest))
     ∙ ap (λ (k : ℕ). run (at_stage n (polling (a_poll stamp pass by verb (given ++ c ∷ []) k))) (map lines.Got cs ++ rest)) less
     ∙ gots_run n stamp pass by verb (given ++ c ∷ []) cs rest
-    ∙ ap (λ (xs : List Completion). run (at_stage n (Open (answered stamp pass by verb (answers.Polled (record { items = xs }))))) rest) (append_assoc given (c ∷ []) cs)
+    ∙ ap (λ (xs : List Completion). run (at_stage n (Open (answered stamp pass by verb (answers.Polled xs)))) rest) (append_assoc given (c ∷ []) cs)
 
 -- behind the line of a call and those of its completions
 call_run : (n stamp pass by : ℕ) (verb : Verb) (answer : Answer) (rest : List Line)
@@ -63,7 +63,7 @@ call_run n stamp pass by verb answers.Fine rest = refl
 call_run n stamp pass by verb (answers.Key k) rest = refl
 call_run n stamp pass by verb (answers.Queue a b) rest = refl
 call_run n stamp pass by verb (answers.Posted k) rest = refl
-call_run n stamp pass by verb (answers.Polled list) rest = gots_run n stamp pass by verb [] list.items rest
+call_run n stamp pass by verb (answers.Polled list) rest = gots_run n stamp pass by verb [] list rest
 call_run n stamp pass by verb (answers.Query s a b c) rest = refl
 call_run n stamp pass by verb (answers.Loaded bs) rest = refl
 call_run n stamp pass by verb (answers.Refused r) rest = refl

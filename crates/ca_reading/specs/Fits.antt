@@ -24,7 +24,7 @@ pub record HistoryFits (es : List EntryValue) : Type 0 where
 
 -- the completions that an answer gave may have lines of a trace
 abbrev pub AnswerHolds : Answer → Type 0
-AnswerHolds (answers.Polled completions) = (length completions.items ≤ 16) × AllByRecursion (λ c. AllFit (completion_words c)) completions.items
+AnswerHolds (answers.Polled completions) = (length completions ≤ 16) × AllByRecursion (λ c. AllFit (completion_words c)) completions
 AnswerHolds answer = Unit {0}
 
 -- what a mark tells may stand in a trace

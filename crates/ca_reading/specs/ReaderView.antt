@@ -9,7 +9,7 @@ use Rattle.ca_reading.specs.ReaderValue.{ReaderValue}
 use Rattle.ca_reading.specs.Steps.{Poll, Stage, Start, Polling, Open, Over, Stopped}
 
 abbrev pub poll_of : OpenPoll → Poll
-poll_of p = record { stamp = p.stamp; pass = p.pass; by = p.by; verb = p.verb; given = p.given.items; wanted = p.wanted }
+poll_of p = record { stamp = p.stamp; pass = p.pass; by = p.by; verb = p.verb; given = p.given; wanted = p.wanted }
 
 abbrev pub stage_of : Progress → Stage
 stage_of places.Start = Start
@@ -20,7 +20,7 @@ stage_of places.Stopped = Stopped
 
 -- some completions of a poll are still to come, and with them it gives at most sixteen
 abbrev pub HasRoom : Progress → Type 0
-HasRoom (places.Polling poll) = (0 < poll.wanted) × (length poll.given.items + poll.wanted ≤ 16)
+HasRoom (places.Polling poll) = (0 < poll.wanted) × (length poll.given + poll.wanted ≤ 16)
 HasRoom place = Unit {0}
 
 abbrev pub view_of : Inside → ReaderValue

@@ -66,7 +66,7 @@ answered stamp pass by verb answer =
 
 -- the entry of a poll that gave these
 abbrev pub polled : Poll → List Completion → EntryValue
-polled p given = answered p.stamp p.pass p.by p.verb (answers.Polled (record { items = given }))
+polled p given = answered p.stamp p.pass p.by p.verb (answers.Polled given)
 
 -- behind the line of a poll, or of one of its completions
 abbrev pub polling : Poll → Stage

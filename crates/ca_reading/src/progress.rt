@@ -6,9 +6,8 @@ ghost use Rattle.ca_reading_words.specs.declared.stop.Stop.TheVariants as stops;
 ghost use Rattle.ca_reading_lines.specs.Fits.{IsTold};
 
 use crate::copy::copy_of_verb;
-use arrayvec::ArrayVec;
 use ca_base::{Completion, Memory};
-use ca_model::{Answer, Entry, Event, Mark, Marks, Verb};
+use ca_model::{Answer, Completions, Entry, Event, Mark, Marks, Verb};
 use ca_reading_words::Stop;
 use ca_trace::Told;
 use std::alloc::Global;
@@ -22,7 +21,7 @@ pub struct OpenPoll {
     pub by: u32,
     pub verb: Verb,
     /// Those that came.
-    pub given: ArrayVec<Completion, 16>,
+    pub given: Completions,
     /// How many are still to come.
     pub wanted: u8,
 }
@@ -102,7 +101,7 @@ pub fn called(
     match told {
         Told::Whole(answer) => Ok(Progress::Open(answered(alloc, stamp, pass, by, verb, answer)?)),
         Told::Polled(0) => {
-            let answer = Answer::Polled(ArrayVec::new());
+            let answer = Answer::Polled(Completions::empty(alloc));
             Ok(Progress::Open(answered(alloc, stamp, pass, by, verb, answer)?))
         }
         Told::Polled(wanted) => Ok(Progress::Polling(OpenPoll {
@@ -110,7 +109,7 @@ pub fn called(
             pass,
             by,
             verb,
-            given: ArrayVec::new(),
+            given: Completions::empty(alloc),
             wanted,
         })),
     }
@@ -118,11 +117,10 @@ pub fn called(
 
 /// The entry of a poll to which this completion is the last.
 fn polled(alloc: Global, poll: &OpenPoll, last: Completion) -> Result<Entry, Memory>
-    requires { length poll.now.given.items < 16 }
-    ensures { IfOk result (λ e. entry_of e ≡ steps.polled (poll_of poll.now) (poll.now.given.items ++ last ∷ [])) }
+    requires { length poll.now.given < 16 }
+    ensures { IfOk result (λ e. entry_of e ≡ steps.polled (poll_of poll.now) (poll.now.given ++ last ∷ [])) }
 {
-    let mut given = poll.given.clone()?;
-    given.push(last);
+    let given = poll.given.copy_with(last)?;
     let verb = copy_of_verb(&poll.verb)?;
     answered(
         alloc,
@@ -148,7 +146,7 @@ pub fn take_got(alloc: Global, progress: &mut Progress, completion: Completion) 
     if poll.wanted <= 1 {
         *progress = Progress::Open(polled(alloc, poll, completion)?);
     } else {
-        poll.given.push(completion);
+        poll.given = poll.given.copy_with(completion)?;
         poll.wanted -= 1;
     }
     Ok(())

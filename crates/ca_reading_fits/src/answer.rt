@@ -7,9 +7,8 @@ use crate::list::bytes_fit;
 use crate::word::{
     key_fits, perhaps_key_fits, perhaps_u32_fits, queue_fits, u16_fits, u32_fits, u64_fits,
 };
-use arrayvec::ArrayVec;
 use ca_base::Completion;
-use ca_model::Answer;
+use ca_model::{Answer, Completions};
 
 /// The words of a completion.
 pub fn completion_fits(completion: Completion)
@@ -32,15 +31,15 @@ fn each_completion_fits(completions: &[Completion])
 }
 
 /// A poll gives at most sixteen completions.
-pub fn completions_fit(completions: &ArrayVec<Completion, 16>)
-    ensures few { length completions.now.items ≤ 16 }
-    ensures each { AllByRecursion (λ c. AllFit (completion_words c)) completions.now.items }
+pub fn completions_fit(completions: &Completions)
+    ensures few { length completions.now ≤ 16 }
+    ensures each { AllByRecursion (λ c. AllFit (completion_words c)) completions.now }
 {
     each_completion_fits(completions.as_slice());
 }
 
-fn polled_fits(completions: &ArrayVec<Completion, 16>)
-    ensures { length completions.now.items ≤ 255 }
+fn polled_fits(completions: &Completions)
+    ensures { length completions.now ≤ 255 }
 {
     completions_fit(completions);
 }

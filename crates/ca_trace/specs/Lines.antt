@@ -18,7 +18,7 @@ use Rattle.ca_trace.specs.Words.{Field, Fixed, Number, Lettered, words, joined}
 
 -- what the line of a call tells of its answer
 abbrev pub told_of : Answer → Told
-told_of (answers.Polled completions) = told.Polled (length completions.items)
+told_of (answers.Polled completions) = told.Polled (length completions)
 told_of answer = told.Whole answer
 
 -- its words

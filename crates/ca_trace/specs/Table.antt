@@ -109,7 +109,7 @@ answer_words answers.Fine = Fixed (codes "ok") ∷ []
 answer_words (answers.Key k) = Fixed (codes "key") ∷ OfKey k ∷ []
 answer_words (answers.Queue number incarnation) = Fixed (codes "qp") ∷ Number w32 number ∷ Number w32 incarnation ∷ []
 answer_words (answers.Posted key) = Fixed (codes "posted") ∷ PerhapsKey key ∷ []
-answer_words (answers.Polled completions) = Fixed (codes "polled") ∷ Number w8 (length completions.items) ∷ []
+answer_words (answers.Polled completions) = Fixed (codes "polled") ∷ Number w8 (length completions) ∷ []
 answer_words (answers.Query state incarnation sends receives) =
     Fixed (codes "state") ∷ OfState state ∷ Number w32 incarnation ∷ Number w16 sends ∷ Number w16 receives ∷ []
 answer_words (answers.Loaded bytes) = Fixed (codes "bytes") ∷ Hex bytes ∷ []

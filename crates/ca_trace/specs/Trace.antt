@@ -26,7 +26,7 @@ inner_line fields = led 32 (words fields) ++ 10 ∷ []
 
 -- the completions that an answer gave
 abbrev pub completions_of : Answer → List Completion
-completions_of (answers.Polled completions) = completions.items
+completions_of (answers.Polled completions) = completions
 completions_of answer = []
 
 -- the line of a completion that an answer gave

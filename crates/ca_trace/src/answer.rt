@@ -26,7 +26,7 @@ pub fn put_answer(text: &mut Text, answer: &Answer) -> Result<(), Memory>
             text.put(format_args!(" -> posted {key}"))
         }
         Answer::Polled(completions) => {
-            let count = completions.len();
+            let count = completions.as_slice().len();
             text.put(format_args!(" -> polled {count}"))
         }
         Answer::Query {

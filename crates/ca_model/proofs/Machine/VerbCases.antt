@@ -16,7 +16,7 @@ use Rattle.ca_model.specs.machine.Plan.{Outcome, NotReady, Did}
 use Rattle.ca_model.specs.machine.Step.{step}
 use Rattle.ca_model.specs.machine.World.{World}
 use Rattle.ca_wire.specs.Decoding.{packet_in, front_at, bth_at, number_at}
-use Rattle.ca_model.proofs.Literals.{d, s, q, k, r, polled}
+use Rattle.ca_model.proofs.Literals.{d, s, q, k, r}
 use Rattle.ca_model.proofs.Machine.AnsweredVerbs.{AnsweredVerb, ◌⟶◌, answer_in, refused}
 use Rattle.ca_model.proofs.Machine.Furnished.{pair, furnished, with_queue, all_rights, send_of, add_of, signalled, receive_of, ready, in_state, with_posted, with_received}
 
@@ -261,7 +261,7 @@ post_srq : AnsweredIn furnished (
 post_srq = refl
 
 poll : AnsweredIn furnished (
-    (verbs.Poll (s 0 0 0) 16 0 ⟶ answers.Polled (polled []))
+    (verbs.Poll (s 0 0 0) 16 0 ⟶ answers.Polled [])
     ∷ (verbs.Poll (s 0 0 4) 1 0 ⟶ refused refusals.NoSuch)
     ∷ (verbs.Poll (s 0 0 2) 1 0 ⟶ refused refusals.NoSuch)
     ∷ (verbs.Poll (s 0 0 0) 0 0 ⟶ refused (refusals.OutOfRange fields.Length))

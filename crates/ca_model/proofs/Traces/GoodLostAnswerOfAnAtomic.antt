@@ -21,7 +21,7 @@ use Rattle.ca_model.specs.Licensed.{is_licensed_history}
 use Rattle.ca_model.specs.Carried.{is_carried_history}
 use Rattle.ca_model.specs.Once.{is_once_history}
 use Rattle.ca_model.specs.Ordered.{is_ordered_history}
-use Rattle.ca_model.proofs.Literals.{d, s, q, k, r, run, place, piece, list, polled, request, completion, grant, entry}
+use Rattle.ca_model.proofs.Literals.{d, s, q, k, r, run, place, piece, list, request, completion, grant, entry}
 
 abbrev history : List EntryValue
 history =
@@ -73,7 +73,7 @@ history =
     ∷
     entry 23 0 (events.Deliver (q 0 256) 1) (marks.Arrived (q 0 256) (Some 1) ∷ marks.Local (q 0 256) (d 0 0) (k 1) kinds.Write 4294969856 8 (verdicts.Wrote (255 ∷ 255 ∷ 255 ∷ 255 ∷ 255 ∷ 255 ∷ 255 ∷ 255 ∷ [])) ∷ marks.Done (q 0 256) (completion (q 0 256) false 0 1 operations.FetchAdd statuses.Success 8 None None) None ∷ [])
     ∷
-    entry 24 0 (events.Verb 0 (verbs.Poll (s 0 0 0) 1 1)) (marks.Verb 0 (verbs.Poll (s 0 0 0) 1 1) (answers.Polled (polled ((completion (q 0 256) false 0 1 operations.FetchAdd statuses.Success 8 None None) ∷ []))) ∷ [])
+    entry 24 0 (events.Verb 0 (verbs.Poll (s 0 0 0) 1 1)) (marks.Verb 0 (verbs.Poll (s 0 0 0) 1 1) (answers.Polled ((completion (q 0 256) false 0 1 operations.FetchAdd statuses.Success 8 None None) ∷ [])) ∷ [])
     ∷
     []
 

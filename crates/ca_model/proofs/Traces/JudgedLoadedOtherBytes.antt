@@ -16,7 +16,7 @@ use Rattle.ca_model.specs.Carried.{is_carried_history}
 use Rattle.ca_model.specs.Once.{is_once_history}
 use Rattle.ca_model.specs.Ordered.{is_ordered_history}
 use Rattle.ca_model.specs.Judged.{is_judged_history}
-use Rattle.ca_model.proofs.Literals.{d, s, k, r, run, piece, list, polled, request, receive, grant, entry}
+use Rattle.ca_model.proofs.Literals.{d, s, k, r, run, piece, list, request, receive, grant, entry}
 
 abbrev history : List EntryValue
 history =
@@ -40,11 +40,11 @@ history =
     ∷
     entry 9 0 (events.Verb 0 (verbs.PostSrq (s 0 0 0) (receive 1001 (list ((piece 257 4294967296 8000) ∷ []))))) (marks.Verb 0 (verbs.PostSrq (s 0 0 0) (receive 1001 (list ((piece 257 4294967296 8000) ∷ [])))) (answers.Posted None) ∷ [])
     ∷
-    entry 10 0 (events.Verb 0 (verbs.Poll (s 0 0 1) 16 0)) (marks.Verb 0 (verbs.Poll (s 0 0 1) 16 0) (answers.Polled (polled ([]))) ∷ [])
+    entry 10 0 (events.Verb 0 (verbs.Poll (s 0 0 1) 16 0)) (marks.Verb 0 (verbs.Poll (s 0 0 1) 16 0) (answers.Polled ([])) ∷ [])
     ∷
     entry 11 0 (events.Verb 0 (verbs.PostSend (s 0 0 0) (request 2 true false true (ops.SendImm 1658109992 (list ((piece 1 4294969663 512) ∷ [])))))) (marks.Verb 0 (verbs.PostSend (s 0 0 0) (request 2 true false true (ops.SendImm 1658109992 (list ((piece 1 4294969663 512) ∷ []))))) (answers.Refused refusals.QueueState) ∷ [])
     ∷
-    entry 12 0 (events.Verb 0 (verbs.Poll (s 0 0 0) 1 0)) (marks.Verb 0 (verbs.Poll (s 0 0 0) 1 0) (answers.Polled (polled ([]))) ∷ [])
+    entry 12 0 (events.Verb 0 (verbs.Poll (s 0 0 0) 1 0)) (marks.Verb 0 (verbs.Poll (s 0 0 0) 1 0) (answers.Polled ([])) ∷ [])
     ∷
     entry 13 0 (events.Verb 0 (verbs.Load 0 0 3619 1)) (marks.Verb 0 (verbs.Load 0 0 3619 1) (answers.Loaded (1 ∷ [])) ∷ [])
     ∷

@@ -19,7 +19,7 @@ use Rattle.ca_model.specs.Carried.{is_carried_history}
 use Rattle.ca_model.specs.Once.{is_once_history}
 use Rattle.ca_model.specs.Ordered.{is_ordered_history}
 use Rattle.ca_model.specs.Licensed.{is_licensed_history}
-use Rattle.ca_model.proofs.Literals.{d, s, q, k, r, run, polled, request, completion, grant, entry}
+use Rattle.ca_model.proofs.Literals.{d, s, q, k, r, run, request, completion, grant, entry}
 
 abbrev history : List EntryValue
 history =
@@ -57,7 +57,7 @@ history =
     ∷
     entry 16 0 (events.Request (q 0 256) lots.Pass) (marks.Granted (grant (k 8388609) (d 0 0) None false 4294967296 64 (r false false true false false) ((run 0 0 0 64) ∷ [])) ∷ marks.Done (q 0 256) (completion (q 0 256) false 0 1 operations.Bind statuses.Success 0 None None) None ∷ [])
     ∷
-    entry 17 0 (events.Verb 0 (verbs.Poll (s 0 0 0) 1 1)) (marks.Verb 0 (verbs.Poll (s 0 0 0) 1 1) (answers.Polled (polled ((completion (q 0 256) false 0 1 operations.Bind statuses.Success 0 None None) ∷ []))) ∷ [])
+    entry 17 0 (events.Verb 0 (verbs.Poll (s 0 0 0) 1 1)) (marks.Verb 0 (verbs.Poll (s 0 0 0) 1 1) (answers.Polled ((completion (q 0 256) false 0 1 operations.Bind statuses.Success 0 None None) ∷ [])) ∷ [])
     ∷
     entry 18 0 (events.Verb 0 (verbs.DeregMr (s 0 0 0))) (marks.Verb 0 (verbs.DeregMr (s 0 0 0)) answers.Fine ∷ marks.Revoked 0 (k 1) ∷ [])
     ∷

@@ -21,7 +21,7 @@ use Rattle.ca_model.specs.Licensed.{is_licensed_history}
 use Rattle.ca_model.specs.Carried.{is_carried_history}
 use Rattle.ca_model.specs.Once.{is_once_history}
 use Rattle.ca_model.specs.Ordered.{is_ordered_history}
-use Rattle.ca_model.proofs.Literals.{d, s, q, k, r, run, polled, request, completion, grant, entry}
+use Rattle.ca_model.proofs.Literals.{d, s, q, k, r, run, request, completion, grant, entry}
 
 abbrev history : List EntryValue
 history =
@@ -63,7 +63,7 @@ history =
     ∷
     entry 18 0 (events.Request (q 0 256) lots.Pass) (marks.Done (q 0 256) (completion (q 0 256) false 1 2 operations.Bind statuses.MemoryManagement 0 None None) (Some (causes.Window windows.StillBound)) ∷ [])
     ∷
-    entry 19 0 (events.Verb 0 (verbs.Poll (s 0 0 0) 2 2)) (marks.Verb 0 (verbs.Poll (s 0 0 0) 2 2) (answers.Polled (polled ((completion (q 0 256) false 1 2 operations.Bind statuses.MemoryManagement 0 None None) ∷ (completion (q 0 256) false 0 1 operations.Bind statuses.Success 0 None None) ∷ []))) ∷ [])
+    entry 19 0 (events.Verb 0 (verbs.Poll (s 0 0 0) 2 2)) (marks.Verb 0 (verbs.Poll (s 0 0 0) 2 2) (answers.Polled ((completion (q 0 256) false 1 2 operations.Bind statuses.MemoryManagement 0 None None) ∷ (completion (q 0 256) false 0 1 operations.Bind statuses.Success 0 None None) ∷ [])) ∷ [])
     ∷
     []
 

@@ -21,7 +21,7 @@ use Rattle.ca_model.specs.Licensed.{is_licensed_history}
 use Rattle.ca_model.specs.Carried.{is_carried_history}
 use Rattle.ca_model.specs.Once.{is_once_history}
 use Rattle.ca_model.specs.Ordered.{is_ordered_history}
-use Rattle.ca_model.proofs.Literals.{d, s, q, k, r, run, list, polled, request, completion, grant, entry}
+use Rattle.ca_model.proofs.Literals.{d, s, q, k, r, run, list, request, completion, grant, entry}
 
 abbrev history : List EntryValue
 history =
@@ -63,9 +63,9 @@ history =
     ∷
     entry 18 0 (events.Deliver (q 0 256) 0) (marks.Arrived (q 0 256) (Some 0) ∷ marks.Done (q 0 256) (completion (q 0 256) false 0 1 operations.Write statuses.Success 0 None None) None ∷ [])
     ∷
-    entry 19 0 (events.Verb 0 (verbs.Poll (s 0 0 0) 1 1)) (marks.Verb 0 (verbs.Poll (s 0 0 0) 1 1) (answers.Polled (polled ((completion (q 0 256) false 0 1 operations.Write statuses.Success 0 None None) ∷ []))) ∷ [])
+    entry 19 0 (events.Verb 0 (verbs.Poll (s 0 0 0) 1 1)) (marks.Verb 0 (verbs.Poll (s 0 0 0) 1 1) (answers.Polled ((completion (q 0 256) false 0 1 operations.Write statuses.Success 0 None None) ∷ [])) ∷ [])
     ∷
-    entry 20 0 (events.Verb 0 (verbs.Poll (s 0 0 0) 1 1)) (marks.Verb 0 (verbs.Poll (s 0 0 0) 1 1) (answers.Polled (polled ((completion (q 0 256) false 0 1 operations.Write statuses.Success 0 None None) ∷ []))) ∷ [])
+    entry 20 0 (events.Verb 0 (verbs.Poll (s 0 0 0) 1 1)) (marks.Verb 0 (verbs.Poll (s 0 0 0) 1 1) (answers.Polled ((completion (q 0 256) false 0 1 operations.Write statuses.Success 0 None None) ∷ [])) ∷ [])
     ∷
     []
 

@@ -22,7 +22,7 @@ use Rattle.ca_wire.specs.Packet.{be_bytes, packet_bytes}
 use Rattle.ca_wire.specs.Table.{row_of}
 use Rattle.ca_model.specs.Entries.{EntryValue}
 use Rattle.ca_model.specs.machine.Run.{run as outcome_of}
-use Rattle.ca_model.proofs.Literals.{d, s, q, k, r, place, piece, list, polled, request, receive, completion, entry, adapter}
+use Rattle.ca_model.proofs.Literals.{d, s, q, k, r, place, piece, list, request, receive, completion, entry, adapter}
 
 abbrev history : List EntryValue
 history =
@@ -64,17 +64,17 @@ history =
     ∷
     entry 18 0 (events.Verb 0 (verbs.PostSrq (s 0 0 0) (receive 1001 (list ((piece 1 4294967296 8000) ∷ []))))) (marks.Verb 0 (verbs.PostSrq (s 0 0 0) (receive 1001 (list ((piece 1 4294967296 8000) ∷ [])))) (answers.Posted None) ∷ [])
     ∷
-    entry 19 0 (events.Verb 0 (verbs.Poll (s 0 0 1) 16 0)) (marks.Verb 0 (verbs.Poll (s 0 0 1) 16 0) (answers.Polled (polled ([]))) ∷ [])
+    entry 19 0 (events.Verb 0 (verbs.Poll (s 0 0 1) 16 0)) (marks.Verb 0 (verbs.Poll (s 0 0 1) 16 0) (answers.Polled ([])) ∷ [])
     ∷
     entry 20 0 (events.Verb 0 (verbs.PostSrq (s 0 0 0) (receive 1002 (list ((piece 1 18446744073709551615 2167) ∷ (piece 1 4294967405 775) ∷ (piece 1 4294967296 3590) ∷ (piece 1 4294967296 1468) ∷ []))))) (marks.Verb 0 (verbs.PostSrq (s 0 0 0) (receive 1002 (list ((piece 1 18446744073709551615 2167) ∷ (piece 1 4294967405 775) ∷ (piece 1 4294967296 3590) ∷ (piece 1 4294967296 1468) ∷ [])))) (answers.Posted None) ∷ [])
     ∷
     entry 21 0 (events.Verb 0 (verbs.PostSend (s 0 0 0) (request 3 true false false (ops.Read 4294967817 (k 1) (list ((piece 1 4294967623 300) ∷ [])))))) (marks.Verb 0 (verbs.PostSend (s 0 0 0) (request 3 true false false (ops.Read 4294967817 (k 1) (list ((piece 1 4294967623 300) ∷ []))))) (answers.Posted None) ∷ [])
     ∷
-    entry 22 0 (events.Verb 0 (verbs.Poll (s 0 0 0) 16 0)) (marks.Verb 0 (verbs.Poll (s 0 0 0) 16 0) (answers.Polled (polled ([]))) ∷ [])
+    entry 22 0 (events.Verb 0 (verbs.Poll (s 0 0 0) 16 0)) (marks.Verb 0 (verbs.Poll (s 0 0 0) 16 0) (answers.Polled ([])) ∷ [])
     ∷
     entry 23 0 (events.Verb 0 (verbs.PostSend (s 0 0 0) (request 4 true true false (ops.CmpSwap 4294967928 (k 1) 0 3 (list ((piece 1 4294967761 8) ∷ [])))))) (marks.Verb 0 (verbs.PostSend (s 0 0 0) (request 4 true true false (ops.CmpSwap 4294967928 (k 1) 0 3 (list ((piece 1 4294967761 8) ∷ []))))) (answers.Refused refusals.QueueFull) ∷ [])
     ∷
-    entry 24 0 (events.Verb 0 (verbs.Poll (s 0 0 0) 16 0)) (marks.Verb 0 (verbs.Poll (s 0 0 0) 16 0) (answers.Polled (polled ([]))) ∷ [])
+    entry 24 0 (events.Verb 0 (verbs.Poll (s 0 0 0) 16 0)) (marks.Verb 0 (verbs.Poll (s 0 0 0) 16 0) (answers.Polled ([])) ∷ [])
     ∷
     entry 25 0 (events.Verb 0 (verbs.PostSrq (s 0 0 0) (receive 1005 (list ((piece 1 4294967600 64) ∷ []))))) (marks.Verb 0 (verbs.PostSrq (s 0 0 0) (receive 1005 (list ((piece 1 4294967600 64) ∷ [])))) (answers.Refused refusals.QueueFull) ∷ [])
     ∷
@@ -88,7 +88,7 @@ history =
     ∷
     entry 30 0 (events.Deliver (q 0 258) 0) (marks.Arrived (q 0 258) (Some 0) ∷ [])
     ∷
-    entry 31 0 (events.Verb 0 (verbs.Poll (s 0 0 0) 16 0)) (marks.Verb 0 (verbs.Poll (s 0 0 0) 16 0) (answers.Polled (polled ([]))) ∷ [])
+    entry 31 0 (events.Verb 0 (verbs.Poll (s 0 0 0) 16 0)) (marks.Verb 0 (verbs.Poll (s 0 0 0) 16 0) (answers.Polled ([])) ∷ [])
     ∷
     entry 32 0 (events.Verb 0 (verbs.Store 0 2 21346 (39 ∷ 166 ∷ 83 ∷ 54 ∷ 160 ∷ 104 ∷ 217 ∷ 105 ∷ []))) (marks.Verb 0 (verbs.Store 0 2 21346 (39 ∷ 166 ∷ 83 ∷ 54 ∷ 160 ∷ 104 ∷ 217 ∷ 105 ∷ [])) answers.Fine ∷ marks.Stored (place 0 2 21346) (39 ∷ 166 ∷ 83 ∷ 54 ∷ 160 ∷ 104 ∷ 217 ∷ 105 ∷ []) ∷ [])
     ∷
@@ -108,7 +108,7 @@ history =
     ∷
     entry 40 0 (events.Deliver (q 0 256) 0) (marks.Arrived (q 0 256) (Some 0) ∷ marks.Dropped (q 0 256) drops.State ∷ [])
     ∷
-    entry 41 0 (events.Verb 0 (verbs.Poll (s 0 0 1) 16 0)) (marks.Verb 0 (verbs.Poll (s 0 0 1) 16 0) (answers.Polled (polled ([]))) ∷ [])
+    entry 41 0 (events.Verb 0 (verbs.Poll (s 0 0 1) 16 0)) (marks.Verb 0 (verbs.Poll (s 0 0 1) 16 0) (answers.Polled ([])) ∷ [])
     ∷
     entry 42 0 (events.Verb 0 (verbs.PostSrq (s 0 0 0) (receive 1007 (list ((piece 1 4294967296 6000) ∷ []))))) (marks.Verb 0 (verbs.PostSrq (s 0 0 0) (receive 1007 (list ((piece 1 4294967296 6000) ∷ [])))) (answers.Refused refusals.QueueFull) ∷ [])
     ∷
@@ -122,7 +122,7 @@ history =
     ∷
     entry 47 0 (events.Deliver (q 0 258) 0) (marks.Arrived (q 0 258) (Some 0) ∷ marks.Dropped (q 0 258) drops.State ∷ [])
     ∷
-    entry 48 0 (events.Verb 0 (verbs.Poll (s 0 0 1) 16 0)) (marks.Verb 0 (verbs.Poll (s 0 0 1) 16 0) (answers.Polled (polled ([]))) ∷ [])
+    entry 48 0 (events.Verb 0 (verbs.Poll (s 0 0 1) 16 0)) (marks.Verb 0 (verbs.Poll (s 0 0 1) 16 0) (answers.Polled ([])) ∷ [])
     ∷
     entry 49 0 (events.Deliver (q 0 258) 0) (marks.Arrived (q 0 258) (Some 0) ∷ marks.Dropped (q 0 258) drops.State ∷ [])
     ∷
@@ -140,7 +140,7 @@ history =
     ∷
     entry 56 0 (events.Deliver (q 0 256) 1) (marks.Arrived (q 0 256) (Some 1) ∷ marks.Dropped (q 0 256) drops.State ∷ [])
     ∷
-    entry 57 0 (events.Verb 0 (verbs.Poll (s 0 0 0) 16 0)) (marks.Verb 0 (verbs.Poll (s 0 0 0) 16 0) (answers.Polled (polled ((completion (q 0 258) false 0 2 operations.CmpSwap statuses.Flushed 0 None None) ∷ (completion (q 0 258) true 0 1001 operations.Recv statuses.Flushed 0 None None) ∷ (completion (q 0 256) false 0 3 operations.Read statuses.RemoteAccess 0 None None) ∷ (completion (q 0 258) true 1 1003 operations.Recv statuses.Flushed 0 None None) ∷ []))) ∷ [])
+    entry 57 0 (events.Verb 0 (verbs.Poll (s 0 0 0) 16 0)) (marks.Verb 0 (verbs.Poll (s 0 0 0) 16 0) (answers.Polled ((completion (q 0 258) false 0 2 operations.CmpSwap statuses.Flushed 0 None None) ∷ (completion (q 0 258) true 0 1001 operations.Recv statuses.Flushed 0 None None) ∷ (completion (q 0 256) false 0 3 operations.Read statuses.RemoteAccess 0 None None) ∷ (completion (q 0 258) true 1 1003 operations.Recv statuses.Flushed 0 None None) ∷ [])) ∷ [])
     ∷
     entry 58 0 (events.Deliver (q 0 258) 0) (marks.Arrived (q 0 258) (Some 0) ∷ marks.Dropped (q 0 258) drops.State ∷ [])
     ∷
@@ -168,13 +168,13 @@ history =
     ∷
     entry 70 0 (events.Verb 0 (verbs.PostSend (s 0 0 0) (request 12 true false false (ops.Send (list ((piece 1 4294967296 4096) ∷ [])))))) (marks.Verb 0 (verbs.PostSend (s 0 0 0) (request 12 true false false (ops.Send (list ((piece 1 4294967296 4096) ∷ []))))) (answers.Refused refusals.QueueFull) ∷ [])
     ∷
-    entry 71 0 (events.Verb 0 (verbs.Poll (s 0 0 0) 16 0)) (marks.Verb 0 (verbs.Poll (s 0 0 0) 16 0) (answers.Polled (polled ((completion (q 0 256) false 1 10 operations.Send statuses.Flushed 0 None None) ∷ (completion (q 0 258) false 1 4 operations.Write statuses.Flushed 0 None None) ∷ []))) ∷ [])
+    entry 71 0 (events.Verb 0 (verbs.Poll (s 0 0 0) 16 0)) (marks.Verb 0 (verbs.Poll (s 0 0 0) 16 0) (answers.Polled ((completion (q 0 256) false 1 10 operations.Send statuses.Flushed 0 None None) ∷ (completion (q 0 258) false 1 4 operations.Write statuses.Flushed 0 None None) ∷ [])) ∷ [])
     ∷
     entry 72 0 (events.Verb 0 (verbs.PostSend (s 0 0 0) (request 13 false false false (ops.CmpSwap 4294967648 (k 1) 1 8 (list ((piece 1 4294967592 6) ∷ (piece 1 4294967617 2) ∷ [])))))) (marks.Verb 0 (verbs.PostSend (s 0 0 0) (request 13 false false false (ops.CmpSwap 4294967648 (k 1) 1 8 (list ((piece 1 4294967592 6) ∷ (piece 1 4294967617 2) ∷ []))))) (answers.Posted None) ∷ marks.Done (q 0 256) (completion (q 0 256) false 2 13 operations.CmpSwap statuses.Flushed 0 None None) None ∷ [])
     ∷
-    entry 73 0 (events.Verb 0 (verbs.Poll (s 0 0 0) 4 0)) (marks.Verb 0 (verbs.Poll (s 0 0 0) 4 0) (answers.Polled (polled ((completion (q 0 256) false 2 13 operations.CmpSwap statuses.Flushed 0 None None) ∷ []))) ∷ [])
+    entry 73 0 (events.Verb 0 (verbs.Poll (s 0 0 0) 4 0)) (marks.Verb 0 (verbs.Poll (s 0 0 0) 4 0) (answers.Polled ((completion (q 0 256) false 2 13 operations.CmpSwap statuses.Flushed 0 None None) ∷ [])) ∷ [])
     ∷
-    entry 74 0 (events.Verb 0 (verbs.Poll (s 0 0 0) 1 0)) (marks.Verb 0 (verbs.Poll (s 0 0 0) 1 0) (answers.Polled (polled ([]))) ∷ [])
+    entry 74 0 (events.Verb 0 (verbs.Poll (s 0 0 0) 1 0)) (marks.Verb 0 (verbs.Poll (s 0 0 0) 1 0) (answers.Polled ([])) ∷ [])
     ∷
     entry 75 0 (events.Verb 0 (verbs.Load 0 1 18 8)) (marks.Verb 0 (verbs.Load 0 1 18 8) (answers.Loaded (0 ∷ 0 ∷ 0 ∷ 0 ∷ 0 ∷ 0 ∷ 0 ∷ 0 ∷ [])) ∷ [])
     ∷
@@ -194,7 +194,7 @@ history =
     ∷
     entry 83 0 (events.Verb 0 (verbs.PostSend (s 0 0 2) (request 5 true true false (ops.Read 4294967296 (k 1) (list ((piece 1 4294967436 437) ∷ (piece 1 4294967758 381) ∷ (piece 1 4294967590 182) ∷ [])))))) (marks.Verb 0 (verbs.PostSend (s 0 0 2) (request 5 true true false (ops.Read 4294967296 (k 1) (list ((piece 1 4294967436 437) ∷ (piece 1 4294967758 381) ∷ (piece 1 4294967590 182) ∷ []))))) (answers.Posted None) ∷ marks.Done (q 0 258) (completion (q 0 258) false 2 5 operations.Read statuses.Flushed 0 None None) None ∷ [])
     ∷
-    entry 84 0 (events.Verb 0 (verbs.Poll (s 0 0 0) 16 0)) (marks.Verb 0 (verbs.Poll (s 0 0 0) 16 0) (answers.Polled (polled ((completion (q 0 256) false 3 14 operations.FetchAdd statuses.Flushed 0 None None) ∷ (completion (q 0 258) false 2 5 operations.Read statuses.Flushed 0 None None) ∷ []))) ∷ [])
+    entry 84 0 (events.Verb 0 (verbs.Poll (s 0 0 0) 16 0)) (marks.Verb 0 (verbs.Poll (s 0 0 0) 16 0) (answers.Polled ((completion (q 0 256) false 3 14 operations.FetchAdd statuses.Flushed 0 None None) ∷ (completion (q 0 258) false 2 5 operations.Read statuses.Flushed 0 None None) ∷ [])) ∷ [])
     ∷
     entry 85 0 (events.Deliver (q 0 256) 0) (marks.Arrived (q 0 256) (Some 0) ∷ marks.Dropped (q 0 256) drops.State ∷ [])
     ∷
@@ -244,11 +244,11 @@ history =
     ∷
     entry 108 0 (events.Verb 0 (verbs.PostSrq (s 0 0 0) (receive 1017 (list ((piece 1 4294968107 4) ∷ (piece 1 4294967438 23) ∷ (piece 1 4294968209 37) ∷ []))))) (marks.Verb 0 (verbs.PostSrq (s 0 0 0) (receive 1017 (list ((piece 1 4294968107 4) ∷ (piece 1 4294967438 23) ∷ (piece 1 4294968209 37) ∷ [])))) (answers.Refused refusals.QueueFull) ∷ [])
     ∷
-    entry 109 0 (events.Verb 0 (verbs.Poll (s 0 0 1) 16 0)) (marks.Verb 0 (verbs.Poll (s 0 0 1) 16 0) (answers.Polled (polled ([]))) ∷ [])
+    entry 109 0 (events.Verb 0 (verbs.Poll (s 0 0 1) 16 0)) (marks.Verb 0 (verbs.Poll (s 0 0 1) 16 0) (answers.Polled ([])) ∷ [])
     ∷
     entry 110 0 (events.Verb 0 (verbs.PostSrq (s 0 0 0) (receive 1018 (list ((piece 1 4294968014 4) ∷ []))))) (marks.Verb 0 (verbs.PostSrq (s 0 0 0) (receive 1018 (list ((piece 1 4294968014 4) ∷ [])))) (answers.Refused refusals.QueueFull) ∷ [])
     ∷
-    entry 111 0 (events.Verb 0 (verbs.Poll (s 0 0 1) 16 0)) (marks.Verb 0 (verbs.Poll (s 0 0 1) 16 0) (answers.Polled (polled ([]))) ∷ [])
+    entry 111 0 (events.Verb 0 (verbs.Poll (s 0 0 1) 16 0)) (marks.Verb 0 (verbs.Poll (s 0 0 1) 16 0) (answers.Polled ([])) ∷ [])
     ∷
     entry 112 0 (events.Verb 0 (verbs.PostRecv (s 0 0 0) (receive 1019 (list ((piece 1 4294967296 8000) ∷ []))))) (marks.Verb 0 (verbs.PostRecv (s 0 0 0) (receive 1019 (list ((piece 1 4294967296 8000) ∷ [])))) (answers.Refused refusals.HasSrq) ∷ [])
     ∷
@@ -256,11 +256,11 @@ history =
     ∷
     entry 114 0 (events.Verb 0 (verbs.PostSend (s 0 0 0) (request 21 true false true (ops.SendInv (k 0) (list ((piece 1 4294967406 5) ∷ (piece 1 4294967548 95) ∷ [])))))) (marks.Verb 0 (verbs.PostSend (s 0 0 0) (request 21 true false true (ops.SendInv (k 0) (list ((piece 1 4294967406 5) ∷ (piece 1 4294967548 95) ∷ []))))) (answers.Posted None) ∷ [])
     ∷
-    entry 115 0 (events.Verb 0 (verbs.Poll (s 0 0 0) 16 0)) (marks.Verb 0 (verbs.Poll (s 0 0 0) 16 0) (answers.Polled (polled ([]))) ∷ [])
+    entry 115 0 (events.Verb 0 (verbs.Poll (s 0 0 0) 16 0)) (marks.Verb 0 (verbs.Poll (s 0 0 0) 16 0) (answers.Polled ([])) ∷ [])
     ∷
     entry 116 0 (events.Verb 0 (verbs.PostSend (s 0 0 2) (request 7 true true false (ops.Read 4294967296 (k 1) (list ((piece 1 4294967296 1623) ∷ (piece 1 4294967296 2365) ∷ (piece 1 4294967296 1012) ∷ [])))))) (marks.Verb 0 (verbs.PostSend (s 0 0 2) (request 7 true true false (ops.Read 4294967296 (k 1) (list ((piece 1 4294967296 1623) ∷ (piece 1 4294967296 2365) ∷ (piece 1 4294967296 1012) ∷ []))))) (answers.Posted None) ∷ [])
     ∷
-    entry 117 0 (events.Verb 0 (verbs.Poll (s 0 0 0) 1 0)) (marks.Verb 0 (verbs.Poll (s 0 0 0) 1 0) (answers.Polled (polled ([]))) ∷ [])
+    entry 117 0 (events.Verb 0 (verbs.Poll (s 0 0 0) 1 0)) (marks.Verb 0 (verbs.Poll (s 0 0 0) 1 0) (answers.Polled ([])) ∷ [])
     ∷
     entry 118 0 (events.Request (q 0 256) lots.Pass) (marks.Local (q 0 256) (d 0 0) (k 1) kinds.Read 4294967406 5 (verdicts.Denied denials.NoGrant) ∷ marks.Done (q 0 256) (completion (q 0 256) false 0 21 operations.Send statuses.LocalProtection 0 None None) None ∷ [])
     ∷
@@ -268,21 +268,21 @@ history =
     ∷
     entry 120 0 (events.Deliver (q 0 256) 2) (marks.Arrived (q 0 256) (Some 2) ∷ marks.Dropped (q 0 256) drops.State ∷ [])
     ∷
-    entry 121 0 (events.Verb 0 (verbs.Poll (s 0 0 0) 16 0)) (marks.Verb 0 (verbs.Poll (s 0 0 0) 16 0) (answers.Polled (polled ((completion (q 0 256) false 0 21 operations.Send statuses.LocalProtection 0 None None) ∷ []))) ∷ [])
+    entry 121 0 (events.Verb 0 (verbs.Poll (s 0 0 0) 16 0)) (marks.Verb 0 (verbs.Poll (s 0 0 0) 16 0) (answers.Polled ((completion (q 0 256) false 0 21 operations.Send statuses.LocalProtection 0 None None) ∷ [])) ∷ [])
     ∷
     entry 122 0 (events.Deliver (q 0 256) 2) (marks.Arrived (q 0 256) (Some 2) ∷ marks.Dropped (q 0 256) drops.State ∷ [])
     ∷
     entry 123 0 (events.Verb 0 (verbs.PostSend (s 0 0 0) (request 22 true false false (ops.Read 4294967354 (k 1) (list ((piece 1 4294967473 512) ∷ [])))))) (marks.Verb 0 (verbs.PostSend (s 0 0 0) (request 22 true false false (ops.Read 4294967354 (k 1) (list ((piece 1 4294967473 512) ∷ []))))) (answers.Posted None) ∷ marks.Done (q 0 256) (completion (q 0 256) false 1 22 operations.Read statuses.Flushed 0 None None) None ∷ [])
     ∷
-    entry 124 0 (events.Verb 0 (verbs.Poll (s 0 0 0) 16 0)) (marks.Verb 0 (verbs.Poll (s 0 0 0) 16 0) (answers.Polled (polled ((completion (q 0 256) false 1 22 operations.Read statuses.Flushed 0 None None) ∷ []))) ∷ [])
+    entry 124 0 (events.Verb 0 (verbs.Poll (s 0 0 0) 16 0)) (marks.Verb 0 (verbs.Poll (s 0 0 0) 16 0) (answers.Polled ((completion (q 0 256) false 1 22 operations.Read statuses.Flushed 0 None None) ∷ [])) ∷ [])
     ∷
     entry 125 0 (events.Verb 0 (verbs.PostSend (s 0 0 2) (request 8 true true false (ops.Send (list ((piece 1 4294967545 256) ∷ [])))))) (marks.Verb 0 (verbs.PostSend (s 0 0 2) (request 8 true true false (ops.Send (list ((piece 1 4294967545 256) ∷ []))))) (answers.Posted None) ∷ [])
     ∷
-    entry 126 0 (events.Verb 0 (verbs.Poll (s 0 0 0) 16 0)) (marks.Verb 0 (verbs.Poll (s 0 0 0) 16 0) (answers.Polled (polled ([]))) ∷ [])
+    entry 126 0 (events.Verb 0 (verbs.Poll (s 0 0 0) 16 0)) (marks.Verb 0 (verbs.Poll (s 0 0 0) 16 0) (answers.Polled ([])) ∷ [])
     ∷
     entry 127 0 (events.Verb 0 (verbs.Inject (q 0 258) (16 ∷ 48 ∷ 255 ∷ 255 ∷ 0 ∷ 0 ∷ 1 ∷ 2 ∷ 0 ∷ 0 ∷ 0 ∷ 1 ∷ 96 ∷ 0 ∷ 0 ∷ 1 ∷ 0 ∷ 0 ∷ 0 ∷ 0 ∷ []))) (marks.Verb 0 (verbs.Inject (q 0 258) (16 ∷ 48 ∷ 255 ∷ 255 ∷ 0 ∷ 0 ∷ 1 ∷ 2 ∷ 0 ∷ 0 ∷ 0 ∷ 1 ∷ 96 ∷ 0 ∷ 0 ∷ 1 ∷ 0 ∷ 0 ∷ 0 ∷ 0 ∷ [])) answers.Fine ∷ marks.Arrived (q 0 258) None ∷ marks.Done (q 0 258) (completion (q 0 258) false 0 7 operations.Read statuses.RetryExceeded 0 None None) None ∷ marks.Done (q 0 258) (completion (q 0 258) false 1 8 operations.Send statuses.Flushed 0 None None) None ∷ [])
     ∷
-    entry 128 0 (events.Verb 0 (verbs.Poll (s 0 0 0) 2 0)) (marks.Verb 0 (verbs.Poll (s 0 0 0) 2 0) (answers.Polled (polled ((completion (q 0 258) false 0 7 operations.Read statuses.RetryExceeded 0 None None) ∷ (completion (q 0 258) false 1 8 operations.Send statuses.Flushed 0 None None) ∷ []))) ∷ [])
+    entry 128 0 (events.Verb 0 (verbs.Poll (s 0 0 0) 2 0)) (marks.Verb 0 (verbs.Poll (s 0 0 0) 2 0) (answers.Polled ((completion (q 0 258) false 0 7 operations.Read statuses.RetryExceeded 0 None None) ∷ (completion (q 0 258) false 1 8 operations.Send statuses.Flushed 0 None None) ∷ [])) ∷ [])
     ∷
     entry 129 0 (events.Deliver (q 0 256) 2) (marks.Arrived (q 0 256) (Some 2) ∷ marks.Dropped (q 0 256) drops.State ∷ [])
     ∷
@@ -326,7 +326,7 @@ history =
     ∷
     entry 149 0 (events.Verb 0 (verbs.PostSend (s 0 0 2) (request 10 true false false (ops.FastReg 4 255 1 1099511627776 64 (r true true true true true) (0 ∷ []))))) (marks.Verb 0 (verbs.PostSend (s 0 0 2) (request 10 true false false (ops.FastReg 4 255 1 1099511627776 64 (r true true true true true) (0 ∷ [])))) (answers.Refused refusals.QueueFull) ∷ [])
     ∷
-    entry 150 0 (events.Verb 0 (verbs.Poll (s 0 0 0) 16 0)) (marks.Verb 0 (verbs.Poll (s 0 0 0) 16 0) (answers.Polled (polled ((completion (q 0 258) false 2 9 operations.Read statuses.Flushed 0 None None) ∷ (completion (q 0 258) false 3 940 operations.Read statuses.Flushed 0 None None) ∷ (completion (q 0 258) false 4 940 operations.Read statuses.Flushed 0 None None) ∷ (completion (q 0 258) false 5 940 operations.Read statuses.Flushed 0 None None) ∷ []))) ∷ [])
+    entry 150 0 (events.Verb 0 (verbs.Poll (s 0 0 0) 16 0)) (marks.Verb 0 (verbs.Poll (s 0 0 0) 16 0) (answers.Polled ((completion (q 0 258) false 2 9 operations.Read statuses.Flushed 0 None None) ∷ (completion (q 0 258) false 3 940 operations.Read statuses.Flushed 0 None None) ∷ (completion (q 0 258) false 4 940 operations.Read statuses.Flushed 0 None None) ∷ (completion (q 0 258) false 5 940 operations.Read statuses.Flushed 0 None None) ∷ [])) ∷ [])
     ∷
     entry 151 0 (events.Verb 0 (verbs.Inject (q 0 256) (1 ∷ 48 ∷ 255 ∷ 255 ∷ 0 ∷ 0 ∷ 1 ∷ 0 ∷ 128 ∷ 0 ∷ 0 ∷ 5 ∷ 181 ∷ 0 ∷ 0 ∷ 0 ∷ []))) (marks.Verb 0 (verbs.Inject (q 0 256) (1 ∷ 48 ∷ 255 ∷ 255 ∷ 0 ∷ 0 ∷ 1 ∷ 0 ∷ 128 ∷ 0 ∷ 0 ∷ 5 ∷ 181 ∷ 0 ∷ 0 ∷ 0 ∷ [])) answers.Fine ∷ marks.Arrived (q 0 256) None ∷ marks.Dropped (q 0 256) drops.State ∷ [])
     ∷
@@ -340,7 +340,7 @@ history =
     ∷
     entry 156 0 (events.Verb 0 (verbs.PostSend (s 0 0 2) (request 12 true true false (ops.FetchAdd 4294968040 (k 8388609) 1 (list ((piece 1 4294967669 2) ∷ (piece 1 4294967428 6) ∷ [])))))) (marks.Verb 0 (verbs.PostSend (s 0 0 2) (request 12 true true false (ops.FetchAdd 4294968040 (k 8388609) 1 (list ((piece 1 4294967669 2) ∷ (piece 1 4294967428 6) ∷ []))))) (answers.Posted None) ∷ marks.Done (q 0 258) (completion (q 0 258) false 7 12 operations.FetchAdd statuses.Flushed 0 None None) None ∷ [])
     ∷
-    entry 157 0 (events.Verb 0 (verbs.Poll (s 0 0 0) 16 0)) (marks.Verb 0 (verbs.Poll (s 0 0 0) 16 0) (answers.Polled (polled ((completion (q 0 258) false 6 11 operations.LocalInv statuses.Flushed 0 None None) ∷ (completion (q 0 258) false 7 12 operations.FetchAdd statuses.Flushed 0 None None) ∷ []))) ∷ [])
+    entry 157 0 (events.Verb 0 (verbs.Poll (s 0 0 0) 16 0)) (marks.Verb 0 (verbs.Poll (s 0 0 0) 16 0) (answers.Polled ((completion (q 0 258) false 6 11 operations.LocalInv statuses.Flushed 0 None None) ∷ (completion (q 0 258) false 7 12 operations.FetchAdd statuses.Flushed 0 None None) ∷ [])) ∷ [])
     ∷
     entry 158 0 (events.Deliver (q 0 256) 2) (marks.Arrived (q 0 256) (Some 2) ∷ marks.Dropped (q 0 256) drops.State ∷ [])
     ∷
@@ -372,9 +372,9 @@ history =
     ∷
     entry 172 0 (events.Verb 0 (verbs.PostSend (s 0 0 2) (request 14 true true false (ops.FastReg 4 7 0 4090 6 (r true true true true true) (0 ∷ []))))) (marks.Verb 0 (verbs.PostSend (s 0 0 2) (request 14 true true false (ops.FastReg 4 7 0 4090 6 (r true true true true true) (0 ∷ [])))) (answers.Posted None) ∷ marks.Done (q 0 258) (completion (q 0 258) false 10 14 operations.FastReg statuses.Flushed 0 None None) None ∷ [])
     ∷
-    entry 173 0 (events.Verb 0 (verbs.Poll (s 0 0 0) 16 0)) (marks.Verb 0 (verbs.Poll (s 0 0 0) 16 0) (answers.Polled (polled ((completion (q 0 258) false 8 900 operations.Send statuses.Flushed 0 None None) ∷ (completion (q 0 258) false 9 13 operations.Send statuses.Flushed 0 None None) ∷ (completion (q 0 258) false 10 14 operations.FastReg statuses.Flushed 0 None None) ∷ []))) ∷ [])
+    entry 173 0 (events.Verb 0 (verbs.Poll (s 0 0 0) 16 0)) (marks.Verb 0 (verbs.Poll (s 0 0 0) 16 0) (answers.Polled ((completion (q 0 258) false 8 900 operations.Send statuses.Flushed 0 None None) ∷ (completion (q 0 258) false 9 13 operations.Send statuses.Flushed 0 None None) ∷ (completion (q 0 258) false 10 14 operations.FastReg statuses.Flushed 0 None None) ∷ [])) ∷ [])
     ∷
-    entry 174 0 (events.Verb 0 (verbs.Poll (s 0 0 0) 2 0)) (marks.Verb 0 (verbs.Poll (s 0 0 0) 2 0) (answers.Polled (polled ([]))) ∷ [])
+    entry 174 0 (events.Verb 0 (verbs.Poll (s 0 0 0) 2 0)) (marks.Verb 0 (verbs.Poll (s 0 0 0) 2 0) (answers.Polled ([])) ∷ [])
     ∷
     entry 175 0 (events.Deliver (q 0 256) 2) (marks.Arrived (q 0 256) (Some 2) ∷ marks.Dropped (q 0 256) drops.State ∷ [])
     ∷
@@ -386,7 +386,7 @@ history =
     ∷
     entry 179 0 (events.Deliver (q 0 256) 2) (marks.Arrived (q 0 256) (Some 2) ∷ marks.Dropped (q 0 256) drops.State ∷ [])
     ∷
-    entry 180 0 (events.Verb 0 (verbs.Poll (s 0 0 0) 16 0)) (marks.Verb 0 (verbs.Poll (s 0 0 0) 16 0) (answers.Polled (polled ((completion (q 0 256) false 2 24 operations.Send statuses.Flushed 0 None None) ∷ (completion (q 0 258) false 11 15 operations.Send statuses.Flushed 0 None None) ∷ []))) ∷ [])
+    entry 180 0 (events.Verb 0 (verbs.Poll (s 0 0 0) 16 0)) (marks.Verb 0 (verbs.Poll (s 0 0 0) 16 0) (answers.Polled ((completion (q 0 256) false 2 24 operations.Send statuses.Flushed 0 None None) ∷ (completion (q 0 258) false 11 15 operations.Send statuses.Flushed 0 None None) ∷ [])) ∷ [])
     ∷
     entry 181 0 (events.Verb 0 (verbs.Inject (q 0 256) (1 ∷ 0 ∷ 255 ∷ 255 ∷ 0 ∷ 0 ∷ 1 ∷ 0 ∷ 0 ∷ 0 ∷ 0 ∷ 100 ∷ 37 ∷ 180 ∷ 91 ∷ 188 ∷ 190 ∷ 135 ∷ 122 ∷ 220 ∷ 58 ∷ 164 ∷ 77 ∷ 132 ∷ 147 ∷ 83 ∷ 39 ∷ 74 ∷ 121 ∷ 199 ∷ 47 ∷ 100 ∷ 6 ∷ 3 ∷ 108 ∷ 130 ∷ 162 ∷ 201 ∷ 19 ∷ 113 ∷ 245 ∷ 164 ∷ 7 ∷ 250 ∷ 152 ∷ 75 ∷ 133 ∷ 62 ∷ 50 ∷ 221 ∷ 128 ∷ 35 ∷ 209 ∷ 146 ∷ 78 ∷ 180 ∷ 190 ∷ 137 ∷ 196 ∷ 35 ∷ 206 ∷ 109 ∷ 13 ∷ 103 ∷ 176 ∷ 43 ∷ 6 ∷ 101 ∷ 101 ∷ 166 ∷ 193 ∷ 10 ∷ 73 ∷ 21 ∷ 139 ∷ 249 ∷ 247 ∷ 254 ∷ 2 ∷ 116 ∷ 126 ∷ 170 ∷ 204 ∷ 120 ∷ 46 ∷ 231 ∷ 97 ∷ 82 ∷ 172 ∷ 100 ∷ 63 ∷ 167 ∷ 10 ∷ 90 ∷ 3 ∷ 235 ∷ 239 ∷ 139 ∷ 42 ∷ 171 ∷ 19 ∷ 33 ∷ 24 ∷ 74 ∷ 35 ∷ 94 ∷ 147 ∷ 13 ∷ 71 ∷ 229 ∷ 103 ∷ 41 ∷ 62 ∷ 239 ∷ 154 ∷ 65 ∷ 244 ∷ 202 ∷ 137 ∷ 195 ∷ 21 ∷ 230 ∷ 66 ∷ 26 ∷ 216 ∷ 145 ∷ 120 ∷ 13 ∷ 113 ∷ 249 ∷ 10 ∷ 35 ∷ 66 ∷ 192 ∷ 117 ∷ 229 ∷ 218 ∷ 231 ∷ 116 ∷ 199 ∷ 149 ∷ 79 ∷ 62 ∷ 40 ∷ 141 ∷ 11 ∷ 97 ∷ 99 ∷ 220 ∷ 114 ∷ 113 ∷ 160 ∷ 45 ∷ 170 ∷ 243 ∷ 154 ∷ 156 ∷ 206 ∷ 10 ∷ 146 ∷ 65 ∷ 227 ∷ 82 ∷ 226 ∷ 3 ∷ 202 ∷ 37 ∷ 206 ∷ 82 ∷ 79 ∷ 243 ∷ 233 ∷ 105 ∷ 137 ∷ 192 ∷ 117 ∷ 245 ∷ 245 ∷ 75 ∷ 111 ∷ 242 ∷ 120 ∷ 119 ∷ 79 ∷ 118 ∷ 165 ∷ 95 ∷ 252 ∷ 217 ∷ 170 ∷ 47 ∷ 135 ∷ 73 ∷ 85 ∷ 165 ∷ 206 ∷ 42 ∷ 83 ∷ 36 ∷ 158 ∷ 184 ∷ 71 ∷ 135 ∷ 159 ∷ 16 ∷ 170 ∷ 31 ∷ 193 ∷ 174 ∷ 85 ∷ 120 ∷ 17 ∷ 19 ∷ 139 ∷ 102 ∷ 132 ∷ 10 ∷ 195 ∷ 74 ∷ 124 ∷ 156 ∷ 249 ∷ 93 ∷ 126 ∷ 104 ∷ 78 ∷ 97 ∷ 103 ∷ 148 ∷ 152 ∷ 136 ∷ 220 ∷ 94 ∷ 47 ∷ 255 ∷ 153 ∷ 252 ∷ 142 ∷ 179 ∷ 81 ∷ 167 ∷ 225 ∷ 28 ∷ 178 ∷ 135 ∷ 52 ∷ 11 ∷ 32 ∷ 143 ∷ 39 ∷ 147 ∷ 11 ∷ 12 ∷ 86 ∷ 175 ∷ 50 ∷ 9 ∷ 240 ∷ 59 ∷ 134 ∷ 93 ∷ 17 ∷ 146 ∷ 252 ∷ 142 ∷ 145 ∷ 117 ∷ 141 ∷ 253 ∷ 188 ∷ 14 ∷ 8 ∷ 248 ∷ 58 ∷ 101 ∷ 86 ∷ 248 ∷ 2 ∷ 219 ∷ 36 ∷ 246 ∷ 95 ∷ 84 ∷ 52 ∷ 72 ∷ 51 ∷ 124 ∷ 191 ∷ 117 ∷ 190 ∷ 115 ∷ 70 ∷ 10 ∷ 65 ∷ 122 ∷ 118 ∷ 134 ∷ 250 ∷ 245 ∷ 133 ∷ 126 ∷ 144 ∷ 64 ∷ 132 ∷ 136 ∷ 107 ∷ 120 ∷ 188 ∷ 196 ∷ 254 ∷ 197 ∷ 131 ∷ 37 ∷ 28 ∷ 36 ∷ 251 ∷ 39 ∷ 34 ∷ 9 ∷ 71 ∷ 149 ∷ 225 ∷ 16 ∷ 224 ∷ 167 ∷ 150 ∷ 215 ∷ 80 ∷ 174 ∷ 245 ∷ 138 ∷ 140 ∷ 183 ∷ 93 ∷ 242 ∷ 205 ∷ 178 ∷ 163 ∷ 133 ∷ 44 ∷ 205 ∷ 22 ∷ 231 ∷ 21 ∷ 125 ∷ 139 ∷ 107 ∷ 45 ∷ 142 ∷ 47 ∷ 95 ∷ 166 ∷ 190 ∷ 47 ∷ 81 ∷ 55 ∷ 15 ∷ 82 ∷ 235 ∷ 246 ∷ 56 ∷ 189 ∷ 199 ∷ 169 ∷ 154 ∷ 64 ∷ 58 ∷ 103 ∷ 67 ∷ 128 ∷ 18 ∷ 178 ∷ 47 ∷ 68 ∷ 40 ∷ 78 ∷ 27 ∷ 165 ∷ 203 ∷ 13 ∷ 192 ∷ 158 ∷ 237 ∷ 229 ∷ 58 ∷ 129 ∷ 168 ∷ 224 ∷ 220 ∷ 144 ∷ 115 ∷ 192 ∷ 87 ∷ 41 ∷ 26 ∷ 212 ∷ 198 ∷ 204 ∷ 185 ∷ 130 ∷ 12 ∷ 165 ∷ 7 ∷ 34 ∷ 200 ∷ 48 ∷ 150 ∷ 70 ∷ 81 ∷ 57 ∷ 20 ∷ 142 ∷ 231 ∷ 112 ∷ 129 ∷ 171 ∷ 73 ∷ 242 ∷ 58 ∷ 204 ∷ 2 ∷ 172 ∷ 63 ∷ 239 ∷ 158 ∷ 23 ∷ 123 ∷ 225 ∷ 248 ∷ 170 ∷ 161 ∷ 242 ∷ 216 ∷ 233 ∷ 8 ∷ 134 ∷ 253 ∷ 117 ∷ 8 ∷ 94 ∷ 93 ∷ 7 ∷ 121 ∷ 254 ∷ 110 ∷ 227 ∷ 35 ∷ 91 ∷ 238 ∷ 164 ∷ 9 ∷ 3 ∷ 138 ∷ 166 ∷ 234 ∷ 237 ∷ 42 ∷ 200 ∷ 124 ∷ 241 ∷ 110 ∷ 196 ∷ 85 ∷ 87 ∷ 35 ∷ 72 ∷ 33 ∷ 199 ∷ 103 ∷ 67 ∷ 191 ∷ 9 ∷ 172 ∷ 68 ∷ 149 ∷ 24 ∷ 23 ∷ 78 ∷ 105 ∷ 31 ∷ 57 ∷ 192 ∷ 226 ∷ 190 ∷ 104 ∷ 61 ∷ 170 ∷ 1 ∷ 225 ∷ 237 ∷ 68 ∷ 86 ∷ 197 ∷ 138 ∷ 234 ∷ 47 ∷ 234 ∷ 168 ∷ 219 ∷ 44 ∷ 63 ∷ 143 ∷ 113 ∷ 182 ∷ 135 ∷ 32 ∷ 34 ∷ 123 ∷ 187 ∷ 250 ∷ 160 ∷ 166 ∷ 56 ∷ 78 ∷ 157 ∷ 253 ∷ 224 ∷ 87 ∷ 164 ∷ 132 ∷ 60 ∷ 186 ∷ 18 ∷ 168 ∷ 78 ∷ 133 ∷ 203 ∷ 254 ∷ 171 ∷ 153 ∷ 144 ∷ 123 ∷ 156 ∷ 110 ∷ 74 ∷ 250 ∷ 160 ∷ 212 ∷ 156 ∷ 21 ∷ 243 ∷ 18 ∷ 232 ∷ 21 ∷ 103 ∷ 184 ∷ 248 ∷ 5 ∷ 104 ∷ 121 ∷ 26 ∷ 45 ∷ 39 ∷ 218 ∷ 140 ∷ 229 ∷ 118 ∷ 40 ∷ 138 ∷ 167 ∷ 22 ∷ 61 ∷ 64 ∷ 37 ∷ 5 ∷ 175 ∷ 128 ∷ 18 ∷ 165 ∷ 213 ∷ 60 ∷ 224 ∷ 91 ∷ 3 ∷ 31 ∷ 216 ∷ 62 ∷ 165 ∷ 61 ∷ 228 ∷ 71 ∷ 162 ∷ 71 ∷ 177 ∷ 50 ∷ 184 ∷ 95 ∷ 138 ∷ 164 ∷ 130 ∷ 115 ∷ 146 ∷ 154 ∷ 225 ∷ 101 ∷ 184 ∷ 167 ∷ 0 ∷ 52 ∷ 98 ∷ 209 ∷ 170 ∷ 12 ∷ 55 ∷ 135 ∷ 56 ∷ 145 ∷ 35 ∷ 36 ∷ 220 ∷ 143 ∷ 65 ∷ 136 ∷ 87 ∷ 4 ∷ 244 ∷ 171 ∷ 27 ∷ 52 ∷ 63 ∷ 78 ∷ 204 ∷ 244 ∷ 107 ∷ 76 ∷ 26 ∷ 246 ∷ 27 ∷ 215 ∷ 215 ∷ 76 ∷ 150 ∷ 104 ∷ 148 ∷ 220 ∷ 171 ∷ 17 ∷ 197 ∷ 26 ∷ 126 ∷ 53 ∷ 171 ∷ 138 ∷ 174 ∷ 112 ∷ 135 ∷ 75 ∷ 143 ∷ 113 ∷ 40 ∷ 41 ∷ 114 ∷ 141 ∷ 159 ∷ 26 ∷ 138 ∷ 76 ∷ 225 ∷ 175 ∷ 52 ∷ 202 ∷ 113 ∷ 77 ∷ 77 ∷ 84 ∷ 229 ∷ 199 ∷ 76 ∷ 35 ∷ 125 ∷ 146 ∷ 14 ∷ 174 ∷ 57 ∷ 212 ∷ 103 ∷ 130 ∷ 203 ∷ 126 ∷ 120 ∷ 63 ∷ 237 ∷ 123 ∷ 187 ∷ 152 ∷ 113 ∷ 80 ∷ 28 ∷ 209 ∷ 213 ∷ 79 ∷ 50 ∷ 166 ∷ 221 ∷ 109 ∷ 9 ∷ 13 ∷ 126 ∷ 151 ∷ 42 ∷ 45 ∷ 36 ∷ 77 ∷ 58 ∷ 11 ∷ 208 ∷ 144 ∷ 0 ∷ 177 ∷ 84 ∷ 129 ∷ 112 ∷ 197 ∷ 111 ∷ 242 ∷ 91 ∷ 73 ∷ 79 ∷ 211 ∷ 104 ∷ 10 ∷ 169 ∷ 35 ∷ 228 ∷ 23 ∷ 45 ∷ 231 ∷ 178 ∷ 176 ∷ 109 ∷ 131 ∷ 177 ∷ 162 ∷ 15 ∷ 99 ∷ 79 ∷ 210 ∷ 253 ∷ 140 ∷ 10 ∷ 170 ∷ 34 ∷ 119 ∷ 71 ∷ 39 ∷ 232 ∷ 177 ∷ 2 ∷ 190 ∷ 162 ∷ 114 ∷ 173 ∷ 192 ∷ 28 ∷ 46 ∷ 180 ∷ 92 ∷ 30 ∷ 36 ∷ 73 ∷ 108 ∷ 249 ∷ 121 ∷ 196 ∷ 123 ∷ 128 ∷ 22 ∷ 53 ∷ 207 ∷ 247 ∷ 94 ∷ 202 ∷ 126 ∷ 169 ∷ 196 ∷ 150 ∷ 126 ∷ 205 ∷ 146 ∷ 56 ∷ 46 ∷ 206 ∷ 79 ∷ 216 ∷ 138 ∷ 36 ∷ 55 ∷ 105 ∷ 34 ∷ 135 ∷ 75 ∷ 166 ∷ 121 ∷ 7 ∷ 194 ∷ 70 ∷ 63 ∷ 250 ∷ 46 ∷ 4 ∷ 210 ∷ 98 ∷ 192 ∷ 70 ∷ 11 ∷ 41 ∷ 191 ∷ 215 ∷ 86 ∷ 93 ∷ 114 ∷ 98 ∷ 153 ∷ 231 ∷ 184 ∷ 54 ∷ 123 ∷ 6 ∷ 109 ∷ 83 ∷ 31 ∷ 94 ∷ 85 ∷ 247 ∷ 151 ∷ 207 ∷ 41 ∷ 185 ∷ 221 ∷ 54 ∷ 87 ∷ 111 ∷ 4 ∷ 9 ∷ 227 ∷ 165 ∷ 191 ∷ 34 ∷ 175 ∷ 99 ∷ 24 ∷ 216 ∷ 214 ∷ 236 ∷ 50 ∷ 138 ∷ 233 ∷ 27 ∷ 100 ∷ 15 ∷ 163 ∷ 86 ∷ 55 ∷ 135 ∷ 114 ∷ 180 ∷ 136 ∷ 146 ∷ 43 ∷ 20 ∷ 92 ∷ 128 ∷ 108 ∷ 210 ∷ 178 ∷ 170 ∷ 155 ∷ 12 ∷ 205 ∷ 182 ∷ 57 ∷ 46 ∷ 229 ∷ 93 ∷ 229 ∷ 179 ∷ 187 ∷ 240 ∷ 125 ∷ 135 ∷ 76 ∷ 217 ∷ 204 ∷ 55 ∷ 251 ∷ 219 ∷ 231 ∷ 172 ∷ 194 ∷ 72 ∷ 163 ∷ 21 ∷ 27 ∷ 34 ∷ 99 ∷ 216 ∷ 189 ∷ 159 ∷ 89 ∷ 79 ∷ 26 ∷ 174 ∷ 212 ∷ 19 ∷ 182 ∷ 53 ∷ 210 ∷ 107 ∷ 173 ∷ 21 ∷ 38 ∷ 147 ∷ 30 ∷ 239 ∷ 116 ∷ 42 ∷ 34 ∷ 66 ∷ 61 ∷ 102 ∷ 138 ∷ 2 ∷ 121 ∷ 21 ∷ 115 ∷ 89 ∷ 109 ∷ 150 ∷ 204 ∷ 113 ∷ 201 ∷ 124 ∷ 60 ∷ 68 ∷ 215 ∷ 8 ∷ 179 ∷ 175 ∷ 247 ∷ 158 ∷ 65 ∷ 144 ∷ 11 ∷ 110 ∷ 161 ∷ 200 ∷ 116 ∷ 90 ∷ 234 ∷ 116 ∷ 27 ∷ 126 ∷ 195 ∷ 43 ∷ 134 ∷ 5 ∷ 66 ∷ 108 ∷ 136 ∷ 163 ∷ 59 ∷ 5 ∷ 225 ∷ 88 ∷ 143 ∷ 78 ∷ 147 ∷ 230 ∷ 63 ∷ 151 ∷ 134 ∷ 35 ∷ 234 ∷ 248 ∷ 115 ∷ 115 ∷ 112 ∷ 240 ∷ 135 ∷ 4 ∷ 40 ∷ 184 ∷ 210 ∷ 143 ∷ 89 ∷ 69 ∷ 186 ∷ 214 ∷ 212 ∷ 90 ∷ 85 ∷ 233 ∷ 209 ∷ 87 ∷ 16 ∷ 165 ∷ 145 ∷ 94 ∷ 190 ∷ 85 ∷ 30 ∷ 210 ∷ 222 ∷ 131 ∷ 54 ∷ 217 ∷ 103 ∷ 32 ∷ 215 ∷ 122 ∷ 183 ∷ 172 ∷ 231 ∷ 171 ∷ 208 ∷ 165 ∷ 94 ∷ 227 ∷ 179 ∷ 201 ∷ 166 ∷ 100 ∷ 121 ∷ 156 ∷ 43 ∷ 92 ∷ 11 ∷ 38 ∷ 136 ∷ 156 ∷ 7 ∷ 209 ∷ 152 ∷ 128 ∷ 130 ∷ 241 ∷ []))) (marks.Verb 0 (verbs.Inject (q 0 256) (1 ∷ 0 ∷ 255 ∷ 255 ∷ 0 ∷ 0 ∷ 1 ∷ 0 ∷ 0 ∷ 0 ∷ 0 ∷ 100 ∷ 37 ∷ 180 ∷ 91 ∷ 188 ∷ 190 ∷ 135 ∷ 122 ∷ 220 ∷ 58 ∷ 164 ∷ 77 ∷ 132 ∷ 147 ∷ 83 ∷ 39 ∷ 74 ∷ 121 ∷ 199 ∷ 47 ∷ 100 ∷ 6 ∷ 3 ∷ 108 ∷ 130 ∷ 162 ∷ 201 ∷ 19 ∷ 113 ∷ 245 ∷ 164 ∷ 7 ∷ 250 ∷ 152 ∷ 75 ∷ 133 ∷ 62 ∷ 50 ∷ 221 ∷ 128 ∷ 35 ∷ 209 ∷ 146 ∷ 78 ∷ 180 ∷ 190 ∷ 137 ∷ 196 ∷ 35 ∷ 206 ∷ 109 ∷ 13 ∷ 103 ∷ 176 ∷ 43 ∷ 6 ∷ 101 ∷ 101 ∷ 166 ∷ 193 ∷ 10 ∷ 73 ∷ 21 ∷ 139 ∷ 249 ∷ 247 ∷ 254 ∷ 2 ∷ 116 ∷ 126 ∷ 170 ∷ 204 ∷ 120 ∷ 46 ∷ 231 ∷ 97 ∷ 82 ∷ 172 ∷ 100 ∷ 63 ∷ 167 ∷ 10 ∷ 90 ∷ 3 ∷ 235 ∷ 239 ∷ 139 ∷ 42 ∷ 171 ∷ 19 ∷ 33 ∷ 24 ∷ 74 ∷ 35 ∷ 94 ∷ 147 ∷ 13 ∷ 71 ∷ 229 ∷ 103 ∷ 41 ∷ 62 ∷ 239 ∷ 154 ∷ 65 ∷ 244 ∷ 202 ∷ 137 ∷ 195 ∷ 21 ∷ 230 ∷ 66 ∷ 26 ∷ 216 ∷ 145 ∷ 120 ∷ 13 ∷ 113 ∷ 249 ∷ 10 ∷ 35 ∷ 66 ∷ 192 ∷ 117 ∷ 229 ∷ 218 ∷ 231 ∷ 116 ∷ 199 ∷ 149 ∷ 79 ∷ 62 ∷ 40 ∷ 141 ∷ 11 ∷ 97 ∷ 99 ∷ 220 ∷ 114 ∷ 113 ∷ 160 ∷ 45 ∷ 170 ∷ 243 ∷ 154 ∷ 156 ∷ 206 ∷ 10 ∷ 146 ∷ 65 ∷ 227 ∷ 82 ∷ 226 ∷ 3 ∷ 202 ∷ 37 ∷ 206 ∷ 82 ∷ 79 ∷ 243 ∷ 233 ∷ 105 ∷ 137 ∷ 192 ∷ 117 ∷ 245 ∷ 245 ∷ 75 ∷ 111 ∷ 242 ∷ 120 ∷ 119 ∷ 79 ∷ 118 ∷ 165 ∷ 95 ∷ 252 ∷ 217 ∷ 170 ∷ 47 ∷ 135 ∷ 73 ∷ 85 ∷ 165 ∷ 206 ∷ 42 ∷ 83 ∷ 36 ∷ 158 ∷ 184 ∷ 71 ∷ 135 ∷ 159 ∷ 16 ∷ 170 ∷ 31 ∷ 193 ∷ 174 ∷ 85 ∷ 120 ∷ 17 ∷ 19 ∷ 139 ∷ 102 ∷ 132 ∷ 10 ∷ 195 ∷ 74 ∷ 124 ∷ 156 ∷ 249 ∷ 93 ∷ 126 ∷ 104 ∷ 78 ∷ 97 ∷ 103 ∷ 148 ∷ 152 ∷ 136 ∷ 220 ∷ 94 ∷ 47 ∷ 255 ∷ 153 ∷ 252 ∷ 142 ∷ 179 ∷ 81 ∷ 167 ∷ 225 ∷ 28 ∷ 178 ∷ 135 ∷ 52 ∷ 11 ∷ 32 ∷ 143 ∷ 39 ∷ 147 ∷ 11 ∷ 12 ∷ 86 ∷ 175 ∷ 50 ∷ 9 ∷ 240 ∷ 59 ∷ 134 ∷ 93 ∷ 17 ∷ 146 ∷ 252 ∷ 142 ∷ 145 ∷ 117 ∷ 141 ∷ 253 ∷ 188 ∷ 14 ∷ 8 ∷ 248 ∷ 58 ∷ 101 ∷ 86 ∷ 248 ∷ 2 ∷ 219 ∷ 36 ∷ 246 ∷ 95 ∷ 84 ∷ 52 ∷ 72 ∷ 51 ∷ 124 ∷ 191 ∷ 117 ∷ 190 ∷ 115 ∷ 70 ∷ 10 ∷ 65 ∷ 122 ∷ 118 ∷ 134 ∷ 250 ∷ 245 ∷ 133 ∷ 126 ∷ 144 ∷ 64 ∷ 132 ∷ 136 ∷ 107 ∷ 120 ∷ 188 ∷ 196 ∷ 254 ∷ 197 ∷ 131 ∷ 37 ∷ 28 ∷ 36 ∷ 251 ∷ 39 ∷ 34 ∷ 9 ∷ 71 ∷ 149 ∷ 225 ∷ 16 ∷ 224 ∷ 167 ∷ 150 ∷ 215 ∷ 80 ∷ 174 ∷ 245 ∷ 138 ∷ 140 ∷ 183 ∷ 93 ∷ 242 ∷ 205 ∷ 178 ∷ 163 ∷ 133 ∷ 44 ∷ 205 ∷ 22 ∷ 231 ∷ 21 ∷ 125 ∷ 139 ∷ 107 ∷ 45 ∷ 142 ∷ 47 ∷ 95 ∷ 166 ∷ 190 ∷ 47 ∷ 81 ∷ 55 ∷ 15 ∷ 82 ∷ 235 ∷ 246 ∷ 56 ∷ 189 ∷ 199 ∷ 169 ∷ 154 ∷ 64 ∷ 58 ∷ 103 ∷ 67 ∷ 128 ∷ 18 ∷ 178 ∷ 47 ∷ 68 ∷ 40 ∷ 78 ∷ 27 ∷ 165 ∷ 203 ∷ 13 ∷ 192 ∷ 158 ∷ 237 ∷ 229 ∷ 58 ∷ 129 ∷ 168 ∷ 224 ∷ 220 ∷ 144 ∷ 115 ∷ 192 ∷ 87 ∷ 41 ∷ 26 ∷ 212 ∷ 198 ∷ 204 ∷ 185 ∷ 130 ∷ 12 ∷ 165 ∷ 7 ∷ 34 ∷ 200 ∷ 48 ∷ 150 ∷ 70 ∷ 81 ∷ 57 ∷ 20 ∷ 142 ∷ 231 ∷ 112 ∷ 129 ∷ 171 ∷ 73 ∷ 242 ∷ 58 ∷ 204 ∷ 2 ∷ 172 ∷ 63 ∷ 239 ∷ 158 ∷ 23 ∷ 123 ∷ 225 ∷ 248 ∷ 170 ∷ 161 ∷ 242 ∷ 216 ∷ 233 ∷ 8 ∷ 134 ∷ 253 ∷ 117 ∷ 8 ∷ 94 ∷ 93 ∷ 7 ∷ 121 ∷ 254 ∷ 110 ∷ 227 ∷ 35 ∷ 91 ∷ 238 ∷ 164 ∷ 9 ∷ 3 ∷ 138 ∷ 166 ∷ 234 ∷ 237 ∷ 42 ∷ 200 ∷ 124 ∷ 241 ∷ 110 ∷ 196 ∷ 85 ∷ 87 ∷ 35 ∷ 72 ∷ 33 ∷ 199 ∷ 103 ∷ 67 ∷ 191 ∷ 9 ∷ 172 ∷ 68 ∷ 149 ∷ 24 ∷ 23 ∷ 78 ∷ 105 ∷ 31 ∷ 57 ∷ 192 ∷ 226 ∷ 190 ∷ 104 ∷ 61 ∷ 170 ∷ 1 ∷ 225 ∷ 237 ∷ 68 ∷ 86 ∷ 197 ∷ 138 ∷ 234 ∷ 47 ∷ 234 ∷ 168 ∷ 219 ∷ 44 ∷ 63 ∷ 143 ∷ 113 ∷ 182 ∷ 135 ∷ 32 ∷ 34 ∷ 123 ∷ 187 ∷ 250 ∷ 160 ∷ 166 ∷ 56 ∷ 78 ∷ 157 ∷ 253 ∷ 224 ∷ 87 ∷ 164 ∷ 132 ∷ 60 ∷ 186 ∷ 18 ∷ 168 ∷ 78 ∷ 133 ∷ 203 ∷ 254 ∷ 171 ∷ 153 ∷ 144 ∷ 123 ∷ 156 ∷ 110 ∷ 74 ∷ 250 ∷ 160 ∷ 212 ∷ 156 ∷ 21 ∷ 243 ∷ 18 ∷ 232 ∷ 21 ∷ 103 ∷ 184 ∷ 248 ∷ 5 ∷ 104 ∷ 121 ∷ 26 ∷ 45 ∷ 39 ∷ 218 ∷ 140 ∷ 229 ∷ 118 ∷ 40 ∷ 138 ∷ 167 ∷ 22 ∷ 61 ∷ 64 ∷ 37 ∷ 5 ∷ 175 ∷ 128 ∷ 18 ∷ 165 ∷ 213 ∷ 60 ∷ 224 ∷ 91 ∷ 3 ∷ 31 ∷ 216 ∷ 62 ∷ 165 ∷ 61 ∷ 228 ∷ 71 ∷ 162 ∷ 71 ∷ 177 ∷ 50 ∷ 184 ∷ 95 ∷ 138 ∷ 164 ∷ 130 ∷ 115 ∷ 146 ∷ 154 ∷ 225 ∷ 101 ∷ 184 ∷ 167 ∷ 0 ∷ 52 ∷ 98 ∷ 209 ∷ 170 ∷ 12 ∷ 55 ∷ 135 ∷ 56 ∷ 145 ∷ 35 ∷ 36 ∷ 220 ∷ 143 ∷ 65 ∷ 136 ∷ 87 ∷ 4 ∷ 244 ∷ 171 ∷ 27 ∷ 52 ∷ 63 ∷ 78 ∷ 204 ∷ 244 ∷ 107 ∷ 76 ∷ 26 ∷ 246 ∷ 27 ∷ 215 ∷ 215 ∷ 76 ∷ 150 ∷ 104 ∷ 148 ∷ 220 ∷ 171 ∷ 17 ∷ 197 ∷ 26 ∷ 126 ∷ 53 ∷ 171 ∷ 138 ∷ 174 ∷ 112 ∷ 135 ∷ 75 ∷ 143 ∷ 113 ∷ 40 ∷ 41 ∷ 114 ∷ 141 ∷ 159 ∷ 26 ∷ 138 ∷ 76 ∷ 225 ∷ 175 ∷ 52 ∷ 202 ∷ 113 ∷ 77 ∷ 77 ∷ 84 ∷ 229 ∷ 199 ∷ 76 ∷ 35 ∷ 125 ∷ 146 ∷ 14 ∷ 174 ∷ 57 ∷ 212 ∷ 103 ∷ 130 ∷ 203 ∷ 126 ∷ 120 ∷ 63 ∷ 237 ∷ 123 ∷ 187 ∷ 152 ∷ 113 ∷ 80 ∷ 28 ∷ 209 ∷ 213 ∷ 79 ∷ 50 ∷ 166 ∷ 221 ∷ 109 ∷ 9 ∷ 13 ∷ 126 ∷ 151 ∷ 42 ∷ 45 ∷ 36 ∷ 77 ∷ 58 ∷ 11 ∷ 208 ∷ 144 ∷ 0 ∷ 177 ∷ 84 ∷ 129 ∷ 112 ∷ 197 ∷ 111 ∷ 242 ∷ 91 ∷ 73 ∷ 79 ∷ 211 ∷ 104 ∷ 10 ∷ 169 ∷ 35 ∷ 228 ∷ 23 ∷ 45 ∷ 231 ∷ 178 ∷ 176 ∷ 109 ∷ 131 ∷ 177 ∷ 162 ∷ 15 ∷ 99 ∷ 79 ∷ 210 ∷ 253 ∷ 140 ∷ 10 ∷ 170 ∷ 34 ∷ 119 ∷ 71 ∷ 39 ∷ 232 ∷ 177 ∷ 2 ∷ 190 ∷ 162 ∷ 114 ∷ 173 ∷ 192 ∷ 28 ∷ 46 ∷ 180 ∷ 92 ∷ 30 ∷ 36 ∷ 73 ∷ 108 ∷ 249 ∷ 121 ∷ 196 ∷ 123 ∷ 128 ∷ 22 ∷ 53 ∷ 207 ∷ 247 ∷ 94 ∷ 202 ∷ 126 ∷ 169 ∷ 196 ∷ 150 ∷ 126 ∷ 205 ∷ 146 ∷ 56 ∷ 46 ∷ 206 ∷ 79 ∷ 216 ∷ 138 ∷ 36 ∷ 55 ∷ 105 ∷ 34 ∷ 135 ∷ 75 ∷ 166 ∷ 121 ∷ 7 ∷ 194 ∷ 70 ∷ 63 ∷ 250 ∷ 46 ∷ 4 ∷ 210 ∷ 98 ∷ 192 ∷ 70 ∷ 11 ∷ 41 ∷ 191 ∷ 215 ∷ 86 ∷ 93 ∷ 114 ∷ 98 ∷ 153 ∷ 231 ∷ 184 ∷ 54 ∷ 123 ∷ 6 ∷ 109 ∷ 83 ∷ 31 ∷ 94 ∷ 85 ∷ 247 ∷ 151 ∷ 207 ∷ 41 ∷ 185 ∷ 221 ∷ 54 ∷ 87 ∷ 111 ∷ 4 ∷ 9 ∷ 227 ∷ 165 ∷ 191 ∷ 34 ∷ 175 ∷ 99 ∷ 24 ∷ 216 ∷ 214 ∷ 236 ∷ 50 ∷ 138 ∷ 233 ∷ 27 ∷ 100 ∷ 15 ∷ 163 ∷ 86 ∷ 55 ∷ 135 ∷ 114 ∷ 180 ∷ 136 ∷ 146 ∷ 43 ∷ 20 ∷ 92 ∷ 128 ∷ 108 ∷ 210 ∷ 178 ∷ 170 ∷ 155 ∷ 12 ∷ 205 ∷ 182 ∷ 57 ∷ 46 ∷ 229 ∷ 93 ∷ 229 ∷ 179 ∷ 187 ∷ 240 ∷ 125 ∷ 135 ∷ 76 ∷ 217 ∷ 204 ∷ 55 ∷ 251 ∷ 219 ∷ 231 ∷ 172 ∷ 194 ∷ 72 ∷ 163 ∷ 21 ∷ 27 ∷ 34 ∷ 99 ∷ 216 ∷ 189 ∷ 159 ∷ 89 ∷ 79 ∷ 26 ∷ 174 ∷ 212 ∷ 19 ∷ 182 ∷ 53 ∷ 210 ∷ 107 ∷ 173 ∷ 21 ∷ 38 ∷ 147 ∷ 30 ∷ 239 ∷ 116 ∷ 42 ∷ 34 ∷ 66 ∷ 61 ∷ 102 ∷ 138 ∷ 2 ∷ 121 ∷ 21 ∷ 115 ∷ 89 ∷ 109 ∷ 150 ∷ 204 ∷ 113 ∷ 201 ∷ 124 ∷ 60 ∷ 68 ∷ 215 ∷ 8 ∷ 179 ∷ 175 ∷ 247 ∷ 158 ∷ 65 ∷ 144 ∷ 11 ∷ 110 ∷ 161 ∷ 200 ∷ 116 ∷ 90 ∷ 234 ∷ 116 ∷ 27 ∷ 126 ∷ 195 ∷ 43 ∷ 134 ∷ 5 ∷ 66 ∷ 108 ∷ 136 ∷ 163 ∷ 59 ∷ 5 ∷ 225 ∷ 88 ∷ 143 ∷ 78 ∷ 147 ∷ 230 ∷ 63 ∷ 151 ∷ 134 ∷ 35 ∷ 234 ∷ 248 ∷ 115 ∷ 115 ∷ 112 ∷ 240 ∷ 135 ∷ 4 ∷ 40 ∷ 184 ∷ 210 ∷ 143 ∷ 89 ∷ 69 ∷ 186 ∷ 214 ∷ 212 ∷ 90 ∷ 85 ∷ 233 ∷ 209 ∷ 87 ∷ 16 ∷ 165 ∷ 145 ∷ 94 ∷ 190 ∷ 85 ∷ 30 ∷ 210 ∷ 222 ∷ 131 ∷ 54 ∷ 217 ∷ 103 ∷ 32 ∷ 215 ∷ 122 ∷ 183 ∷ 172 ∷ 231 ∷ 171 ∷ 208 ∷ 165 ∷ 94 ∷ 227 ∷ 179 ∷ 201 ∷ 166 ∷ 100 ∷ 121 ∷ 156 ∷ 43 ∷ 92 ∷ 11 ∷ 38 ∷ 136 ∷ 156 ∷ 7 ∷ 209 ∷ 152 ∷ 128 ∷ 130 ∷ 241 ∷ [])) answers.Fine ∷ marks.Arrived (q 0 256) None ∷ marks.Dropped (q 0 256) drops.State ∷ [])
     ∷
@@ -398,7 +398,7 @@ history =
     ∷
     entry 185 0 (events.Verb 0 (verbs.PostSend (s 0 0 2) (request 16 true false false (ops.LocalInv (k 1031))))) (marks.Verb 0 (verbs.PostSend (s 0 0 2) (request 16 true false false (ops.LocalInv (k 1031)))) (answers.Posted None) ∷ marks.Done (q 0 258) (completion (q 0 258) false 12 16 operations.LocalInv statuses.Flushed 0 None None) None ∷ [])
     ∷
-    entry 186 0 (events.Verb 0 (verbs.Poll (s 0 0 0) 16 0)) (marks.Verb 0 (verbs.Poll (s 0 0 0) 16 0) (answers.Polled (polled ((completion (q 0 258) false 12 16 operations.LocalInv statuses.Flushed 0 None None) ∷ []))) ∷ [])
+    entry 186 0 (events.Verb 0 (verbs.Poll (s 0 0 0) 16 0)) (marks.Verb 0 (verbs.Poll (s 0 0 0) 16 0) (answers.Polled ((completion (q 0 258) false 12 16 operations.LocalInv statuses.Flushed 0 None None) ∷ [])) ∷ [])
     ∷
     entry 187 0 (events.Deliver (q 0 256) 2) (marks.Arrived (q 0 256) (Some 2) ∷ marks.Dropped (q 0 256) drops.State ∷ [])
     ∷

@@ -22,7 +22,7 @@ use Rattle.ca_wire.specs.Packet.{be_bytes, packet_bytes}
 use Rattle.ca_wire.specs.Table.{row_of}
 use Rattle.ca_model.specs.Entries.{EntryValue}
 use Rattle.ca_model.specs.machine.Run.{run as outcome_of}
-use Rattle.ca_model.proofs.Literals.{d, s, q, k, r, run, place, piece, list, polled, request, receive, completion, grant, entry, adapter}
+use Rattle.ca_model.proofs.Literals.{d, s, q, k, r, run, place, piece, list, request, receive, completion, grant, entry, adapter}
 
 abbrev history : List EntryValue
 history =
@@ -58,7 +58,7 @@ history =
     ∷
     entry 15 0 (events.Verb 0 (verbs.PostSrq (s 0 0 0) (receive 1002 (list ((piece 513 4294967641 615) ∷ (piece 1 4294967602 385) ∷ []))))) (marks.Verb 0 (verbs.PostSrq (s 0 0 0) (receive 1002 (list ((piece 513 4294967641 615) ∷ (piece 1 4294967602 385) ∷ [])))) (answers.Posted None) ∷ [])
     ∷
-    entry 16 0 (events.Verb 0 (verbs.Poll (s 0 0 0) 16 0)) (marks.Verb 0 (verbs.Poll (s 0 0 0) 16 0) (answers.Polled (polled ([]))) ∷ [])
+    entry 16 0 (events.Verb 0 (verbs.Poll (s 0 0 0) 16 0)) (marks.Verb 0 (verbs.Poll (s 0 0 0) 16 0) (answers.Polled ([])) ∷ [])
     ∷
     entry 17 0 (events.Verb 0 (verbs.ModifyQp (s 0 0 1) changes.Init)) (marks.Verb 0 (verbs.ModifyQp (s 0 0 1) changes.Init) answers.Fine ∷ [])
     ∷
@@ -68,13 +68,13 @@ history =
     ∷
     entry 20 0 (events.Verb 0 (verbs.PostRecv (s 0 0 1) (receive 1001 (list ((piece 1 4294968842 391) ∷ (piece 257 8589934592 7609) ∷ []))))) (marks.Verb 0 (verbs.PostRecv (s 0 0 1) (receive 1001 (list ((piece 1 4294968842 391) ∷ (piece 257 8589934592 7609) ∷ [])))) (answers.Posted None) ∷ [])
     ∷
-    entry 21 0 (events.Verb 0 (verbs.Poll (s 0 0 1) 16 0)) (marks.Verb 0 (verbs.Poll (s 0 0 1) 16 0) (answers.Polled (polled ([]))) ∷ [])
+    entry 21 0 (events.Verb 0 (verbs.Poll (s 0 0 1) 16 0)) (marks.Verb 0 (verbs.Poll (s 0 0 1) 16 0) (answers.Polled ([])) ∷ [])
     ∷
     entry 22 0 (events.Verb 0 (verbs.PostRecv (s 0 0 1) (receive 1002 (list ((piece 513 4294967620 938) ∷ (piece 257 0 5062) ∷ []))))) (marks.Verb 0 (verbs.PostRecv (s 0 0 1) (receive 1002 (list ((piece 513 4294967620 938) ∷ (piece 257 0 5062) ∷ [])))) (answers.Refused refusals.QueueFull) ∷ [])
     ∷
     entry 23 0 (events.Verb 0 (verbs.PostRecv (s 0 0 1) (receive 1003 (list ((piece 513 0 32) ∷ (piece 1 4294967396 31) ∷ (piece 513 4294969214 310) ∷ (piece 513 4294967303 139) ∷ []))))) (marks.Verb 0 (verbs.PostRecv (s 0 0 1) (receive 1003 (list ((piece 513 0 32) ∷ (piece 1 4294967396 31) ∷ (piece 513 4294969214 310) ∷ (piece 513 4294967303 139) ∷ [])))) (answers.Refused refusals.QueueFull) ∷ [])
     ∷
-    entry 24 0 (events.Verb 0 (verbs.Poll (s 0 0 1) 16 0)) (marks.Verb 0 (verbs.Poll (s 0 0 1) 16 0) (answers.Polled (polled ([]))) ∷ [])
+    entry 24 0 (events.Verb 0 (verbs.Poll (s 0 0 1) 16 0)) (marks.Verb 0 (verbs.Poll (s 0 0 1) 16 0) (answers.Polled ([])) ∷ [])
     ∷
     entry 25 0 (events.Verb 0 (verbs.PostRecv (s 0 0 1) (receive 1004 (list ((piece 513 4294967304 5769) ∷ (piece 513 4294968882 1546) ∷ (piece 1 4294968447 685) ∷ []))))) (marks.Verb 0 (verbs.PostRecv (s 0 0 1) (receive 1004 (list ((piece 513 4294967304 5769) ∷ (piece 513 4294968882 1546) ∷ (piece 1 4294968447 685) ∷ [])))) (answers.Refused refusals.QueueFull) ∷ [])
     ∷
@@ -82,7 +82,7 @@ history =
     ∷
     entry 27 0 (events.Verb 0 (verbs.PostSend (s 0 0 2) (request 940 true false true (ops.Read 4294968646 (k 3735928559) (list ((piece 1 4294968943 104) ∷ (piece 1 4294969043 92) ∷ (piece 513 4294970519 360) ∷ (piece 513 4294969108 44) ∷ [])))))) (marks.Verb 0 (verbs.PostSend (s 0 0 2) (request 940 true false true (ops.Read 4294968646 (k 3735928559) (list ((piece 1 4294968943 104) ∷ (piece 1 4294969043 92) ∷ (piece 513 4294970519 360) ∷ (piece 513 4294969108 44) ∷ []))))) (answers.Refused refusals.QueueState) ∷ [])
     ∷
-    entry 28 0 (events.Verb 0 (verbs.Poll (s 0 0 1) 16 0)) (marks.Verb 0 (verbs.Poll (s 0 0 1) 16 0) (answers.Polled (polled ([]))) ∷ [])
+    entry 28 0 (events.Verb 0 (verbs.Poll (s 0 0 1) 16 0)) (marks.Verb 0 (verbs.Poll (s 0 0 1) 16 0) (answers.Polled ([])) ∷ [])
     ∷
     entry 29 0 (events.Verb 0 (verbs.Poll (s 0 0 0) 0 0)) (marks.Verb 0 (verbs.Poll (s 0 0 0) 0 0) (answers.Refused (refusals.OutOfRange fields.Length)) ∷ [])
     ∷
@@ -94,7 +94,7 @@ history =
     ∷
     entry 33 0 (events.Verb 0 (verbs.PostSend (s 0 0 2) (request 4 true false false (ops.SendImm 1481697675 (list ((piece 513 4294967303 257) ∷ [])))))) (marks.Verb 0 (verbs.PostSend (s 0 0 2) (request 4 true false false (ops.SendImm 1481697675 (list ((piece 513 4294967303 257) ∷ []))))) (answers.Refused refusals.QueueState) ∷ [])
     ∷
-    entry 34 0 (events.Verb 0 (verbs.Poll (s 0 0 0) 16 0)) (marks.Verb 0 (verbs.Poll (s 0 0 0) 16 0) (answers.Polled (polled ([]))) ∷ [])
+    entry 34 0 (events.Verb 0 (verbs.Poll (s 0 0 0) 16 0)) (marks.Verb 0 (verbs.Poll (s 0 0 0) 16 0) (answers.Polled ([])) ∷ [])
     ∷
     entry 35 0 (events.Verb 0 (verbs.Inject (q 0 257) (16 ∷ 0 ∷ 255 ∷ 255 ∷ 0 ∷ 0 ∷ 1 ∷ 1 ∷ 128 ∷ 0 ∷ 0 ∷ 0 ∷ 99 ∷ 0 ∷ 0 ∷ 1 ∷ 84 ∷ 48 ∷ 200 ∷ 98 ∷ 239 ∷ 165 ∷ 219 ∷ 197 ∷ 31 ∷ 70 ∷ 197 ∷ 216 ∷ 133 ∷ 237 ∷ 247 ∷ 209 ∷ 8 ∷ 39 ∷ 127 ∷ 159 ∷ 117 ∷ 204 ∷ 119 ∷ 254 ∷ 170 ∷ 69 ∷ 131 ∷ 81 ∷ 115 ∷ 74 ∷ 243 ∷ 111 ∷ 134 ∷ 173 ∷ 59 ∷ 56 ∷ 58 ∷ 25 ∷ 41 ∷ 125 ∷ 65 ∷ 164 ∷ 128 ∷ 253 ∷ 133 ∷ 144 ∷ 7 ∷ 201 ∷ 208 ∷ 66 ∷ 8 ∷ 93 ∷ 182 ∷ 196 ∷ 71 ∷ 207 ∷ 29 ∷ 221 ∷ 158 ∷ 41 ∷ 42 ∷ 12 ∷ 210 ∷ 2 ∷ 59 ∷ 2 ∷ 35 ∷ 2 ∷ 138 ∷ []))) (marks.Verb 0 (verbs.Inject (q 0 257) (16 ∷ 0 ∷ 255 ∷ 255 ∷ 0 ∷ 0 ∷ 1 ∷ 1 ∷ 128 ∷ 0 ∷ 0 ∷ 0 ∷ 99 ∷ 0 ∷ 0 ∷ 1 ∷ 84 ∷ 48 ∷ 200 ∷ 98 ∷ 239 ∷ 165 ∷ 219 ∷ 197 ∷ 31 ∷ 70 ∷ 197 ∷ 216 ∷ 133 ∷ 237 ∷ 247 ∷ 209 ∷ 8 ∷ 39 ∷ 127 ∷ 159 ∷ 117 ∷ 204 ∷ 119 ∷ 254 ∷ 170 ∷ 69 ∷ 131 ∷ 81 ∷ 115 ∷ 74 ∷ 243 ∷ 111 ∷ 134 ∷ 173 ∷ 59 ∷ 56 ∷ 58 ∷ 25 ∷ 41 ∷ 125 ∷ 65 ∷ 164 ∷ 128 ∷ 253 ∷ 133 ∷ 144 ∷ 7 ∷ 201 ∷ 208 ∷ 66 ∷ 8 ∷ 93 ∷ 182 ∷ 196 ∷ 71 ∷ 207 ∷ 29 ∷ 221 ∷ 158 ∷ 41 ∷ 42 ∷ 12 ∷ 210 ∷ 2 ∷ 59 ∷ 2 ∷ 35 ∷ 2 ∷ 138 ∷ [])) answers.Fine ∷ marks.Arrived (q 0 257) None ∷ marks.Dropped (q 0 257) (drops.Wire wire.Length) ∷ [])
     ∷
@@ -106,17 +106,17 @@ history =
     ∷
     entry 39 0 (events.Verb 0 (verbs.PostSrq (s 0 0 0) (receive 1006 (list ([]))))) (marks.Verb 0 (verbs.PostSrq (s 0 0 0) (receive 1006 (list ([])))) (answers.Posted None) ∷ [])
     ∷
-    entry 40 0 (events.Verb 0 (verbs.Poll (s 0 0 0) 16 0)) (marks.Verb 0 (verbs.Poll (s 0 0 0) 16 0) (answers.Polled (polled ([]))) ∷ [])
+    entry 40 0 (events.Verb 0 (verbs.Poll (s 0 0 0) 16 0)) (marks.Verb 0 (verbs.Poll (s 0 0 0) 16 0) (answers.Polled ([])) ∷ [])
     ∷
-    entry 41 0 (events.Verb 0 (verbs.Poll (s 0 0 0) 16 0)) (marks.Verb 0 (verbs.Poll (s 0 0 0) 16 0) (answers.Polled (polled ([]))) ∷ [])
+    entry 41 0 (events.Verb 0 (verbs.Poll (s 0 0 0) 16 0)) (marks.Verb 0 (verbs.Poll (s 0 0 0) 16 0) (answers.Polled ([])) ∷ [])
     ∷
     entry 42 0 (events.Verb 0 (verbs.PostSend (s 0 0 2) (request 900 true false false (ops.Send (list ((piece 513 4294967646 4) ∷ (piece 1 4294968115 6) ∷ (piece 513 4294969664 4) ∷ (piece 513 4294970040 6) ∷ [])))))) (marks.Verb 0 (verbs.PostSend (s 0 0 2) (request 900 true false false (ops.Send (list ((piece 513 4294967646 4) ∷ (piece 1 4294968115 6) ∷ (piece 513 4294969664 4) ∷ (piece 513 4294970040 6) ∷ []))))) (answers.Refused refusals.QueueState) ∷ [])
     ∷
     entry 43 0 (events.Verb 0 (verbs.PostRecv (s 0 0 1) (receive 1006 (list ((piece 513 4294967303 8000) ∷ []))))) (marks.Verb 0 (verbs.PostRecv (s 0 0 1) (receive 1006 (list ((piece 513 4294967303 8000) ∷ [])))) (answers.Refused refusals.QueueFull) ∷ [])
     ∷
-    entry 44 0 (events.Verb 0 (verbs.Poll (s 0 0 1) 16 0)) (marks.Verb 0 (verbs.Poll (s 0 0 1) 16 0) (answers.Polled (polled ([]))) ∷ [])
+    entry 44 0 (events.Verb 0 (verbs.Poll (s 0 0 1) 16 0)) (marks.Verb 0 (verbs.Poll (s 0 0 1) 16 0) (answers.Polled ([])) ∷ [])
     ∷
-    entry 45 0 (events.Verb 0 (verbs.Poll (s 0 0 1) 16 0)) (marks.Verb 0 (verbs.Poll (s 0 0 1) 16 0) (answers.Polled (polled ([]))) ∷ [])
+    entry 45 0 (events.Verb 0 (verbs.Poll (s 0 0 1) 16 0)) (marks.Verb 0 (verbs.Poll (s 0 0 1) 16 0) (answers.Polled ([])) ∷ [])
     ∷
     entry 46 0 (events.Verb 0 (verbs.Store 0 0 222 (60 ∷ []))) (marks.Verb 0 (verbs.Store 0 0 222 (60 ∷ [])) answers.Fine ∷ marks.Stored (place 0 0 222) (60 ∷ []) ∷ [])
     ∷
@@ -126,11 +126,11 @@ history =
     ∷
     entry 49 0 (events.Verb 0 (verbs.PostSend (s 0 0 1) (request 920 true false false (ops.FetchAdd 4294969824 (k 513) 5 (list ((piece 513 4294971180 8) ∷ [])))))) (marks.Verb 0 (verbs.PostSend (s 0 0 1) (request 920 true false false (ops.FetchAdd 4294969824 (k 513) 5 (list ((piece 513 4294971180 8) ∷ []))))) (answers.Refused refusals.QueueState) ∷ [])
     ∷
-    entry 50 0 (events.Verb 0 (verbs.Poll (s 0 0 1) 4 0)) (marks.Verb 0 (verbs.Poll (s 0 0 1) 4 0) (answers.Polled (polled ([]))) ∷ [])
+    entry 50 0 (events.Verb 0 (verbs.Poll (s 0 0 1) 4 0)) (marks.Verb 0 (verbs.Poll (s 0 0 1) 4 0) (answers.Polled ([])) ∷ [])
     ∷
     entry 51 0 (events.Verb 0 (verbs.PostSend (s 0 0 1) (request 920 true false false (ops.FetchAdd 4294969343 (k 1) 1 (list ((piece 513 4294968647 4) ∷ [])))))) (marks.Verb 0 (verbs.PostSend (s 0 0 1) (request 920 true false false (ops.FetchAdd 4294969343 (k 1) 1 (list ((piece 513 4294968647 4) ∷ []))))) (answers.Refused (refusals.OutOfRange fields.List)) ∷ [])
     ∷
-    entry 52 0 (events.Verb 0 (verbs.Poll (s 0 0 0) 2 0)) (marks.Verb 0 (verbs.Poll (s 0 0 0) 2 0) (answers.Polled (polled ([]))) ∷ [])
+    entry 52 0 (events.Verb 0 (verbs.Poll (s 0 0 0) 2 0)) (marks.Verb 0 (verbs.Poll (s 0 0 0) 2 0) (answers.Polled ([])) ∷ [])
     ∷
     entry 53 0 (events.Verb 0 (verbs.PostSend (s 0 0 2) (request 7 true false false (ops.Bind2 0 (k 513) 255 4294970056 64 (r false true true true false))))) (marks.Verb 0 (verbs.PostSend (s 0 0 2) (request 7 true false false (ops.Bind2 0 (k 513) 255 4294970056 64 (r false true true true false)))) (answers.Refused refusals.QueueState) ∷ [])
     ∷
@@ -160,7 +160,7 @@ history =
     ∷
     entry 66 0 (events.Verb 0 (verbs.PostSend (s 0 0 1) (request 7 true false false (ops.SendInv (k 16777217) (list ((piece 513 4294970714 1) ∷ (piece 1 4294968982 2) ∷ (piece 1 4294968256 1) ∷ (piece 1 4294969300 0) ∷ [])))))) (marks.Verb 0 (verbs.PostSend (s 0 0 1) (request 7 true false false (ops.SendInv (k 16777217) (list ((piece 513 4294970714 1) ∷ (piece 1 4294968982 2) ∷ (piece 1 4294968256 1) ∷ (piece 1 4294969300 0) ∷ []))))) (answers.Refused refusals.QueueState) ∷ [])
     ∷
-    entry 67 0 (events.Verb 0 (verbs.Poll (s 0 0 1) 16 0)) (marks.Verb 0 (verbs.Poll (s 0 0 1) 16 0) (answers.Polled (polled ([]))) ∷ [])
+    entry 67 0 (events.Verb 0 (verbs.Poll (s 0 0 1) 16 0)) (marks.Verb 0 (verbs.Poll (s 0 0 1) 16 0) (answers.Polled ([])) ∷ [])
     ∷
     entry 68 0 (events.Verb 0 (verbs.Load 0 1 4176 8)) (marks.Verb 0 (verbs.Load 0 1 4176 8) (answers.Loaded (0 ∷ 0 ∷ 0 ∷ 0 ∷ 0 ∷ 0 ∷ 0 ∷ 0 ∷ [])) ∷ [])
     ∷
@@ -168,7 +168,7 @@ history =
     ∷
     entry 70 0 (events.Verb 0 (verbs.PostSend (s 0 0 2) (request 12 true false false (ops.FetchAdd 4294970624 (k 513) 18446744073709551615 (list ((piece 1 4294967551 8) ∷ [])))))) (marks.Verb 0 (verbs.PostSend (s 0 0 2) (request 12 true false false (ops.FetchAdd 4294970624 (k 513) 18446744073709551615 (list ((piece 1 4294967551 8) ∷ []))))) (answers.Refused refusals.QueueState) ∷ [])
     ∷
-    entry 71 0 (events.Verb 0 (verbs.Poll (s 0 0 0) 16 0)) (marks.Verb 0 (verbs.Poll (s 0 0 0) 16 0) (answers.Polled (polled ([]))) ∷ [])
+    entry 71 0 (events.Verb 0 (verbs.Poll (s 0 0 0) 16 0)) (marks.Verb 0 (verbs.Poll (s 0 0 0) 16 0) (answers.Polled ([])) ∷ [])
     ∷
     entry 72 0 (events.Verb 0 (verbs.AllocPd (d 0 0))) (marks.Verb 0 (verbs.AllocPd (d 0 0)) (answers.Refused refusals.DomainTaken) ∷ [])
     ∷
@@ -184,13 +184,13 @@ history =
     ∷
     entry 78 0 (events.Verb 0 (verbs.PostSrq (s 0 0 0) (receive 1014 (list ((piece 16777217 4294967296 4489) ∷ (piece 513 4294969149 1511) ∷ []))))) (marks.Verb 0 (verbs.PostSrq (s 0 0 0) (receive 1014 (list ((piece 16777217 4294967296 4489) ∷ (piece 513 4294969149 1511) ∷ [])))) (answers.Posted None) ∷ [])
     ∷
-    entry 79 0 (events.Verb 0 (verbs.Poll (s 0 0 0) 16 0)) (marks.Verb 0 (verbs.Poll (s 0 0 0) 16 0) (answers.Polled (polled ([]))) ∷ [])
+    entry 79 0 (events.Verb 0 (verbs.Poll (s 0 0 0) 16 0)) (marks.Verb 0 (verbs.Poll (s 0 0 0) 16 0) (answers.Polled ([])) ∷ [])
     ∷
     entry 80 0 (events.Verb 0 (verbs.PostSend (s 0 0 2) (request 15 true false true (ops.Bind2 0 (k 1) 0 4294967296 2048 (r false false false true false))))) (marks.Verb 0 (verbs.PostSend (s 0 0 2) (request 15 true false true (ops.Bind2 0 (k 1) 0 4294967296 2048 (r false false false true false)))) (answers.Posted None) ∷ [])
     ∷
     entry 81 0 (events.Request (q 0 258) lots.Pass) (marks.Granted (grant (k 8388608) (d 0 0) (Some (q 0 258)) false 4294967296 2048 (r false false false true false) ((run 0 0 0 2048) ∷ [])) ∷ marks.Done (q 0 258) (completion (q 0 258) false 0 15 operations.Bind statuses.Success 0 None None) None ∷ [])
     ∷
-    entry 82 0 (events.Verb 0 (verbs.Poll (s 0 0 0) 16 0)) (marks.Verb 0 (verbs.Poll (s 0 0 0) 16 0) (answers.Polled (polled ((completion (q 0 258) false 0 15 operations.Bind statuses.Success 0 None None) ∷ []))) ∷ [])
+    entry 82 0 (events.Verb 0 (verbs.Poll (s 0 0 0) 16 0)) (marks.Verb 0 (verbs.Poll (s 0 0 0) 16 0) (answers.Polled ((completion (q 0 258) false 0 15 operations.Bind statuses.Success 0 None None) ∷ [])) ∷ [])
     ∷
     entry 83 0 (events.Verb 0 (verbs.PostSend (s 0 0 2) (request 16 true false false (ops.FetchAdd 4294968872 (k 8388608) 1 (list ((piece 513 4294970098 8) ∷ [])))))) (marks.Verb 0 (verbs.PostSend (s 0 0 2) (request 16 true false false (ops.FetchAdd 4294968872 (k 8388608) 1 (list ((piece 513 4294970098 8) ∷ []))))) (answers.Posted None) ∷ [])
     ∷
@@ -206,15 +206,15 @@ history =
     ∷
     entry 89 0 (events.Verb 0 (verbs.PostRecv (s 0 0 1) (receive 1008 (list ((piece 513 4294967305 3293) ∷ (piece 513 4294967937 3021) ∷ (piece 513 4294970119 399) ∷ (piece 1 4294967779 1287) ∷ []))))) (marks.Verb 0 (verbs.PostRecv (s 0 0 1) (receive 1008 (list ((piece 513 4294967305 3293) ∷ (piece 513 4294967937 3021) ∷ (piece 513 4294970119 399) ∷ (piece 1 4294967779 1287) ∷ [])))) (answers.Refused refusals.QueueFull) ∷ [])
     ∷
-    entry 90 0 (events.Verb 0 (verbs.Poll (s 0 0 1) 16 0)) (marks.Verb 0 (verbs.Poll (s 0 0 1) 16 0) (answers.Polled (polled ([]))) ∷ [])
+    entry 90 0 (events.Verb 0 (verbs.Poll (s 0 0 1) 16 0)) (marks.Verb 0 (verbs.Poll (s 0 0 1) 16 0) (answers.Polled ([])) ∷ [])
     ∷
     entry 91 0 (events.Verb 0 (verbs.PostSend (s 0 0 2) (request 20 true false false (ops.Send (list ((piece 16777217 4294967623 1) ∷ [])))))) (marks.Verb 0 (verbs.PostSend (s 0 0 2) (request 20 true false false (ops.Send (list ((piece 16777217 4294967623 1) ∷ []))))) (answers.Posted None) ∷ [])
     ∷
-    entry 92 0 (events.Verb 0 (verbs.Poll (s 0 0 0) 16 0)) (marks.Verb 0 (verbs.Poll (s 0 0 0) 16 0) (answers.Polled (polled ([]))) ∷ [])
+    entry 92 0 (events.Verb 0 (verbs.Poll (s 0 0 0) 16 0)) (marks.Verb 0 (verbs.Poll (s 0 0 0) 16 0) (answers.Polled ([])) ∷ [])
     ∷
     entry 93 0 (events.Verb 0 (verbs.PostSend (s 0 0 1) (request 9 true true true (ops.Write 4294968225 (k 8388608) (list ((piece 1 4294967295 213) ∷ (piece 513 4294967978 44) ∷ [])))))) (marks.Verb 0 (verbs.PostSend (s 0 0 1) (request 9 true true true (ops.Write 4294968225 (k 8388608) (list ((piece 1 4294967295 213) ∷ (piece 513 4294967978 44) ∷ []))))) (answers.Refused refusals.QueueState) ∷ [])
     ∷
-    entry 94 0 (events.Verb 0 (verbs.Poll (s 0 0 0) 1 0)) (marks.Verb 0 (verbs.Poll (s 0 0 0) 1 0) (answers.Polled (polled ([]))) ∷ [])
+    entry 94 0 (events.Verb 0 (verbs.Poll (s 0 0 0) 1 0)) (marks.Verb 0 (verbs.Poll (s 0 0 0) 1 0) (answers.Polled ([])) ∷ [])
     ∷
     entry 95 0 (events.Verb 0 (verbs.Store 0 0 3892 (188 ∷ 227 ∷ 157 ∷ 179 ∷ 76 ∷ 80 ∷ 69 ∷ 19 ∷ []))) (marks.Verb 0 (verbs.Store 0 0 3892 (188 ∷ 227 ∷ 157 ∷ 179 ∷ 76 ∷ 80 ∷ 69 ∷ 19 ∷ [])) answers.Fine ∷ marks.Stored (place 0 0 3892) (188 ∷ 227 ∷ 157 ∷ 179 ∷ 76 ∷ 80 ∷ 69 ∷ 19 ∷ []) ∷ [])
     ∷
@@ -234,11 +234,11 @@ history =
     ∷
     entry 103 0 (events.Verb 0 (verbs.PostSend (s 0 0 2) (request 25 true false true (ops.Bind2 6 (k 16777729) 9 4294969504 64 (r false true false false false))))) (marks.Verb 0 (verbs.PostSend (s 0 0 2) (request 25 true false true (ops.Bind2 6 (k 16777729) 9 4294969504 64 (r false true false false false)))) (answers.Refused refusals.NoSuch) ∷ [])
     ∷
-    entry 104 0 (events.Verb 0 (verbs.Poll (s 0 0 0) 16 0)) (marks.Verb 0 (verbs.Poll (s 0 0 0) 16 0) (answers.Polled (polled ([]))) ∷ [])
+    entry 104 0 (events.Verb 0 (verbs.Poll (s 0 0 0) 16 0)) (marks.Verb 0 (verbs.Poll (s 0 0 0) 16 0) (answers.Polled ([])) ∷ [])
     ∷
     entry 105 0 (events.Verb 0 (verbs.PostSend (s 0 0 1) (request 12 true true false (ops.Write 4294968155 (k 8388608) (list ((piece 513 4294968184 300) ∷ [])))))) (marks.Verb 0 (verbs.PostSend (s 0 0 1) (request 12 true true false (ops.Write 4294968155 (k 8388608) (list ((piece 513 4294968184 300) ∷ []))))) (answers.Refused refusals.QueueState) ∷ [])
     ∷
-    entry 106 0 (events.Verb 0 (verbs.Poll (s 0 0 1) 16 0)) (marks.Verb 0 (verbs.Poll (s 0 0 1) 16 0) (answers.Polled (polled ([]))) ∷ [])
+    entry 106 0 (events.Verb 0 (verbs.Poll (s 0 0 1) 16 0)) (marks.Verb 0 (verbs.Poll (s 0 0 1) 16 0) (answers.Polled ([])) ∷ [])
     ∷
     entry 107 0 (events.Verb 0 (verbs.PostSend (s 0 0 1) (request 940 true false false (ops.Read 4294969390 (k 513) (list ((piece 1 4294967750 1500) ∷ [])))))) (marks.Verb 0 (verbs.PostSend (s 0 0 1) (request 940 true false false (ops.Read 4294969390 (k 513) (list ((piece 1 4294967750 1500) ∷ []))))) (answers.Refused refusals.QueueState) ∷ [])
     ∷
@@ -250,7 +250,7 @@ history =
     ∷
     entry 111 0 (events.Verb 0 (verbs.PostSend (s 0 0 2) (request 26 true false false (ops.Write 4294967409 (k 16777729) (list ((piece 1 4294967736 2) ∷ (piece 513 4294970082 2) ∷ (piece 1 4294967441 0) ∷ [])))))) (marks.Verb 0 (verbs.PostSend (s 0 0 2) (request 26 true false false (ops.Write 4294967409 (k 16777729) (list ((piece 1 4294967736 2) ∷ (piece 513 4294970082 2) ∷ (piece 1 4294967441 0) ∷ []))))) (answers.Refused refusals.QueueFull) ∷ [])
     ∷
-    entry 112 0 (events.Verb 0 (verbs.Poll (s 0 0 0) 16 0)) (marks.Verb 0 (verbs.Poll (s 0 0 0) 16 0) (answers.Polled (polled ([]))) ∷ [])
+    entry 112 0 (events.Verb 0 (verbs.Poll (s 0 0 0) 16 0)) (marks.Verb 0 (verbs.Poll (s 0 0 0) 16 0) (answers.Polled ([])) ∷ [])
     ∷
     entry 113 0 (events.Verb 0 (verbs.PostSend (s 0 0 2) (request 27 true true true (ops.Send (list ((piece 1 4294968143 26) ∷ (piece 16777217 4294967367 80) ∷ (piece 1 4294968917 150) ∷ [])))))) (marks.Verb 0 (verbs.PostSend (s 0 0 2) (request 27 true true true (ops.Send (list ((piece 1 4294968143 26) ∷ (piece 16777217 4294967367 80) ∷ (piece 1 4294968917 150) ∷ []))))) (answers.Refused refusals.QueueFull) ∷ [])
     ∷
@@ -294,7 +294,7 @@ history =
     ∷
     entry 133 0 (events.Verb 0 (verbs.PostSend (s 0 0 2) (request 30 false false false (ops.Bind2 0 (k 513) 9 4294968992 2044 (r false true false false false))))) (marks.Verb 0 (verbs.PostSend (s 0 0 2) (request 30 false false false (ops.Bind2 0 (k 513) 9 4294968992 2044 (r false true false false false)))) (answers.Refused refusals.QueueFull) ∷ [])
     ∷
-    entry 134 0 (events.Verb 0 (verbs.Poll (s 0 0 0) 16 0)) (marks.Verb 0 (verbs.Poll (s 0 0 0) 16 0) (answers.Polled (polled ([]))) ∷ [])
+    entry 134 0 (events.Verb 0 (verbs.Poll (s 0 0 0) 16 0)) (marks.Verb 0 (verbs.Poll (s 0 0 0) 16 0) (answers.Polled ([])) ∷ [])
     ∷
     entry 135 0 (events.Verb 0 (verbs.PostSend (s 0 0 1) (request 15 true true false (ops.FetchAdd 4294967632 (k 512) 1 (list ((piece 1 4294967558 7) ∷ (piece 1 4294968465 1) ∷ [])))))) (marks.Verb 0 (verbs.PostSend (s 0 0 1) (request 15 true true false (ops.FetchAdd 4294967632 (k 512) 1 (list ((piece 1 4294967558 7) ∷ (piece 1 4294968465 1) ∷ []))))) (answers.Refused refusals.QueueState) ∷ [])
     ∷
@@ -304,15 +304,15 @@ history =
     ∷
     entry 138 0 (events.Request (q 0 258) lots.Pass) (marks.Sent (q 0 258) (q 0 257) None (Some 1) (20 ∷ 0 ∷ 255 ∷ 255 ∷ 0 ∷ 0 ∷ 1 ∷ 1 ∷ 128 ∷ 254 ∷ 154 ∷ 151 ∷ 0 ∷ 0 ∷ 0 ∷ 1 ∷ 0 ∷ 0 ∷ 6 ∷ 40 ∷ 0 ∷ 128 ∷ 0 ∷ 0 ∷ 0 ∷ 0 ∷ 0 ∷ 0 ∷ 0 ∷ 0 ∷ 0 ∷ 1 ∷ 0 ∷ 0 ∷ 0 ∷ 0 ∷ 0 ∷ 0 ∷ 0 ∷ 0 ∷ []) ∷ marks.Lost (q 0 257) None ∷ [])
     ∷
-    entry 139 0 (events.Verb 0 (verbs.Poll (s 0 0 0) 16 0)) (marks.Verb 0 (verbs.Poll (s 0 0 0) 16 0) (answers.Polled (polled ([]))) ∷ [])
+    entry 139 0 (events.Verb 0 (verbs.Poll (s 0 0 0) 16 0)) (marks.Verb 0 (verbs.Poll (s 0 0 0) 16 0) (answers.Polled ([])) ∷ [])
     ∷
     entry 140 0 (events.Verb 0 (verbs.PostSend (s 0 0 2) (request 32 true false false (ops.FetchAdd 4294968936 (k 8388608) 1 (list ((piece 513 4294970056 4) ∷ [])))))) (marks.Verb 0 (verbs.PostSend (s 0 0 2) (request 32 true false false (ops.FetchAdd 4294968936 (k 8388608) 1 (list ((piece 513 4294970056 4) ∷ []))))) (answers.Refused (refusals.OutOfRange fields.List)) ∷ [])
     ∷
-    entry 141 0 (events.Verb 0 (verbs.Poll (s 0 0 0) 16 0)) (marks.Verb 0 (verbs.Poll (s 0 0 0) 16 0) (answers.Polled (polled ([]))) ∷ [])
+    entry 141 0 (events.Verb 0 (verbs.Poll (s 0 0 0) 16 0)) (marks.Verb 0 (verbs.Poll (s 0 0 0) 16 0) (answers.Polled ([])) ∷ [])
     ∷
     entry 142 0 (events.Verb 0 (verbs.PostSend (s 0 0 2) (request 33 true false false (ops.SendInv (k 257) (list ([])))))) (marks.Verb 0 (verbs.PostSend (s 0 0 2) (request 33 true false false (ops.SendInv (k 257) (list ([]))))) (answers.Refused refusals.QueueFull) ∷ [])
     ∷
-    entry 143 0 (events.Verb 0 (verbs.Poll (s 0 0 0) 16 0)) (marks.Verb 0 (verbs.Poll (s 0 0 0) 16 0) (answers.Polled (polled ([]))) ∷ [])
+    entry 143 0 (events.Verb 0 (verbs.Poll (s 0 0 0) 16 0)) (marks.Verb 0 (verbs.Poll (s 0 0 0) 16 0) (answers.Polled ([])) ∷ [])
     ∷
     entry 144 0 (events.Verb 0 (verbs.PostRecv (s 0 0 1) (receive 1016 (list ([]))))) (marks.Verb 0 (verbs.PostRecv (s 0 0 1) (receive 1016 (list ([])))) (answers.Refused refusals.QueueFull) ∷ [])
     ∷
@@ -334,7 +334,7 @@ history =
     ∷
     entry 153 0 (events.Verb 0 (verbs.PostRecv (s 0 0 1) (receive 1018 (list ((piece 1 4294967379 1407) ∷ (piece 513 4294967327 3807) ∷ (piece 513 4294969087 786) ∷ []))))) (marks.Verb 0 (verbs.PostRecv (s 0 0 1) (receive 1018 (list ((piece 1 4294967379 1407) ∷ (piece 513 4294967327 3807) ∷ (piece 513 4294969087 786) ∷ [])))) (answers.Refused refusals.QueueFull) ∷ [])
     ∷
-    entry 154 0 (events.Verb 0 (verbs.Poll (s 0 0 1) 16 0)) (marks.Verb 0 (verbs.Poll (s 0 0 1) 16 0) (answers.Polled (polled ([]))) ∷ [])
+    entry 154 0 (events.Verb 0 (verbs.Poll (s 0 0 1) 16 0)) (marks.Verb 0 (verbs.Poll (s 0 0 1) 16 0) (answers.Polled ([])) ∷ [])
     ∷
     entry 155 0 (events.Verb 0 (verbs.ModifyQp (s 0 0 2) changes.Init)) (marks.Verb 0 (verbs.ModifyQp (s 0 0 2) changes.Init) answers.Fine ∷ [])
     ∷
@@ -348,7 +348,7 @@ history =
     ∷
     entry 160 0 (events.Verb 0 (verbs.PostSrq (s 0 0 0) (receive 1037 (list ((piece 513 4294967877 31) ∷ (piece 513 4294969328 33) ∷ []))))) (marks.Verb 0 (verbs.PostSrq (s 0 0 0) (receive 1037 (list ((piece 513 4294967877 31) ∷ (piece 513 4294969328 33) ∷ [])))) (answers.Refused refusals.QueueFull) ∷ [])
     ∷
-    entry 161 0 (events.Verb 0 (verbs.Poll (s 0 0 0) 16 0)) (marks.Verb 0 (verbs.Poll (s 0 0 0) 16 0) (answers.Polled (polled ([]))) ∷ [])
+    entry 161 0 (events.Verb 0 (verbs.Poll (s 0 0 0) 16 0)) (marks.Verb 0 (verbs.Poll (s 0 0 0) 16 0) (answers.Polled ([])) ∷ [])
     ∷
     entry 162 0 (events.Verb 0 (verbs.Load 0 0 3844 0)) (marks.Verb 0 (verbs.Load 0 0 3844 0) (answers.Refused (refusals.OutOfRange fields.Length)) ∷ [])
     ∷

@@ -25,7 +25,7 @@ use Rattle.ca_wire.specs.Packet.{be_bytes, packet_bytes}
 use Rattle.ca_wire.specs.Table.{row_of}
 use Rattle.ca_model.specs.Entries.{EntryValue}
 use Rattle.ca_model.specs.machine.Run.{run as outcome_of}
-use Rattle.ca_model.proofs.Literals.{d, s, q, k, r, run, place, piece, list, polled, request, receive, completion, grant, entry, adapter}
+use Rattle.ca_model.proofs.Literals.{d, s, q, k, r, run, place, piece, list, request, receive, completion, grant, entry, adapter}
 
 abbrev history : List EntryValue
 history =
@@ -195,11 +195,11 @@ history =
     ∷
     entry 82 0 (events.Verb 2 (verbs.ModifyQp (s 1 0 0) changes.Init)) (marks.Verb 2 (verbs.ModifyQp (s 1 0 0) changes.Init) answers.Fine ∷ [])
     ∷
-    entry 83 0 (events.Verb 4 (verbs.Poll (s 1 2 0) 16 0)) (marks.Verb 4 (verbs.Poll (s 1 2 0) 16 0) (answers.Polled (polled ([]))) ∷ [])
+    entry 83 0 (events.Verb 4 (verbs.Poll (s 1 2 0) 16 0)) (marks.Verb 4 (verbs.Poll (s 1 2 0) 16 0) (answers.Polled ([])) ∷ [])
     ∷
     entry 84 0 (events.Verb 3 (verbs.PostSrq (s 1 1 0) (receive 1001 (list ((piece 16777217 4294967404 8000) ∷ []))))) (marks.Verb 3 (verbs.PostSrq (s 1 1 0) (receive 1001 (list ((piece 16777217 4294967404 8000) ∷ [])))) (answers.Posted None) ∷ [])
     ∷
-    entry 85 0 (events.Verb 7 (verbs.Poll (s 2 2 0) 16 0)) (marks.Verb 7 (verbs.Poll (s 2 2 0) 16 0) (answers.Polled (polled ([]))) ∷ [])
+    entry 85 0 (events.Verb 7 (verbs.Poll (s 2 2 0) 16 0)) (marks.Verb 7 (verbs.Poll (s 2 2 0) 16 0) (answers.Polled ([])) ∷ [])
     ∷
     entry 86 0 (events.Verb 7 (verbs.DeregMr (s 2 2 5))) (marks.Verb 7 (verbs.DeregMr (s 2 2 5)) (answers.Refused refusals.NoSuch) ∷ [])
     ∷
@@ -215,7 +215,7 @@ history =
     ∷
     entry 92 0 (events.Verb 6 (verbs.ModifyQp (s 2 1 0) (changes.Rts 16777215 2 0 16))) (marks.Verb 6 (verbs.ModifyQp (s 2 1 0) (changes.Rts 16777215 2 0 16)) answers.Fine ∷ [])
     ∷
-    entry 93 0 (events.Verb 4 (verbs.Poll (s 1 2 0) 16 0)) (marks.Verb 4 (verbs.Poll (s 1 2 0) 16 0) (answers.Polled (polled ([]))) ∷ [])
+    entry 93 0 (events.Verb 4 (verbs.Poll (s 1 2 0) 16 0)) (marks.Verb 4 (verbs.Poll (s 1 2 0) 16 0) (answers.Polled ([])) ∷ [])
     ∷
     entry 94 0 (events.Verb 0 (verbs.PostRecv (s 2 0 0) (receive 1002 (list ((piece 1 4294967304 7814) ∷ (piece 513 4294969711 186) ∷ []))))) (marks.Verb 0 (verbs.PostRecv (s 2 0 0) (receive 1002 (list ((piece 1 4294967304 7814) ∷ (piece 513 4294969711 186) ∷ [])))) (answers.Posted None) ∷ [])
     ∷
@@ -225,9 +225,9 @@ history =
     ∷
     entry 97 0 (events.Verb 2 (verbs.ModifyQp (s 1 0 0) (changes.Rtr (q 1 768) 1 1 1024 9))) (marks.Verb 2 (verbs.ModifyQp (s 1 0 0) (changes.Rtr (q 1 768) 1 1 1024 9)) answers.Fine ∷ [])
     ∷
-    entry 98 0 (events.Verb 1 (verbs.Poll (s 0 1 0) 16 0)) (marks.Verb 1 (verbs.Poll (s 0 1 0) 16 0) (answers.Polled (polled ([]))) ∷ [])
+    entry 98 0 (events.Verb 1 (verbs.Poll (s 0 1 0) 16 0)) (marks.Verb 1 (verbs.Poll (s 0 1 0) 16 0) (answers.Polled ([])) ∷ [])
     ∷
-    entry 99 0 (events.Verb 0 (verbs.Poll (s 2 0 1) 16 0)) (marks.Verb 0 (verbs.Poll (s 2 0 1) 16 0) (answers.Polled (polled ([]))) ∷ [])
+    entry 99 0 (events.Verb 0 (verbs.Poll (s 2 0 1) 16 0)) (marks.Verb 0 (verbs.Poll (s 2 0 1) 16 0) (answers.Polled ([])) ∷ [])
     ∷
     entry 100 0 (events.Verb 7 (verbs.AllocMr (s 2 2 5) 1)) (marks.Verb 7 (verbs.AllocMr (s 2 2 5) 1) answers.Fine ∷ [])
     ∷
@@ -235,7 +235,7 @@ history =
     ∷
     entry 102 0 (events.Verb 1 (verbs.QueryQp (s 0 1 0))) (marks.Verb 1 (verbs.QueryQp (s 0 1 0)) (answers.Query states.Rts 1 0 0) ∷ [])
     ∷
-    entry 103 0 (events.Verb 5 (verbs.Poll (s 2 0 1) 16 0)) (marks.Verb 5 (verbs.Poll (s 2 0 1) 16 0) (answers.Polled (polled ([]))) ∷ [])
+    entry 103 0 (events.Verb 5 (verbs.Poll (s 2 0 1) 16 0)) (marks.Verb 5 (verbs.Poll (s 2 0 1) 16 0) (answers.Polled ([])) ∷ [])
     ∷
     entry 104 0 (events.Verb 2 (verbs.PostRecv (s 1 0 0) (receive 1001 (list ((piece 1 4294967303 2666) ∷ (piece 1 4294968453 1277) ∷ (piece 257 4294977085 4057) ∷ []))))) (marks.Verb 2 (verbs.PostRecv (s 1 0 0) (receive 1001 (list ((piece 1 4294967303 2666) ∷ (piece 1 4294968453 1277) ∷ (piece 257 4294977085 4057) ∷ [])))) (answers.Posted None) ∷ [])
     ∷
@@ -259,7 +259,7 @@ history =
     ∷
     entry 114 0 (events.Verb 3 (verbs.PostSend (s 1 1 0) (request 911 true false false (ops.Write 4295030575 (k 1) (list ((piece 16777217 4294969756 600) ∷ [])))))) (marks.Verb 3 (verbs.PostSend (s 1 1 0) (request 911 true false false (ops.Write 4295030575 (k 1) (list ((piece 16777217 4294969756 600) ∷ []))))) (answers.Refused refusals.NoSuch) ∷ [])
     ∷
-    entry 115 0 (events.Verb 4 (verbs.Poll (s 1 2 1) 16 0)) (marks.Verb 4 (verbs.Poll (s 1 2 1) 16 0) (answers.Polled (polled ([]))) ∷ [])
+    entry 115 0 (events.Verb 4 (verbs.Poll (s 1 2 1) 16 0)) (marks.Verb 4 (verbs.Poll (s 1 2 1) 16 0) (answers.Polled ([])) ∷ [])
     ∷
     entry 116 0 (events.Verb 6 (verbs.PostRecv (s 2 1 0) (receive 1002 (list ((piece 16777473 4294967296 4385) ∷ (piece 16777729 4294968339 997) ∷ (piece 16777473 4294967414 2618) ∷ []))))) (marks.Verb 6 (verbs.PostRecv (s 2 1 0) (receive 1002 (list ((piece 16777473 4294967296 4385) ∷ (piece 16777729 4294968339 997) ∷ (piece 16777473 4294967414 2618) ∷ [])))) (answers.Posted None) ∷ [])
     ∷
@@ -267,7 +267,7 @@ history =
     ∷
     entry 118 0 (events.Verb 0 (verbs.ModifyQp (s 0 0 0) (changes.Rtr (q 1 512) 1 0 4096 4))) (marks.Verb 0 (verbs.ModifyQp (s 0 0 0) (changes.Rtr (q 1 512) 1 0 4096 4)) answers.Fine ∷ [])
     ∷
-    entry 119 0 (events.Verb 2 (verbs.Poll (s 1 0 0) 16 0)) (marks.Verb 2 (verbs.Poll (s 1 0 0) 16 0) (answers.Polled (polled ([]))) ∷ [])
+    entry 119 0 (events.Verb 2 (verbs.Poll (s 1 0 0) 16 0)) (marks.Verb 2 (verbs.Poll (s 1 0 0) 16 0) (answers.Polled ([])) ∷ [])
     ∷
     entry 120 0 (events.Verb 5 (verbs.PostRecv (s 2 0 0) (receive 1004 (list ((piece 257 4294967304 6000) ∷ []))))) (marks.Verb 5 (verbs.PostRecv (s 2 0 0) (receive 1004 (list ((piece 257 4294967304 6000) ∷ [])))) (answers.Posted None) ∷ [])
     ∷
@@ -285,9 +285,9 @@ history =
     ∷
     entry 127 0 (events.Verb 7 (verbs.ModifyQp (s 2 2 0) (changes.Rtr (q 2 256) 2 16777215 512 19))) (marks.Verb 7 (verbs.ModifyQp (s 2 2 0) (changes.Rtr (q 2 256) 2 16777215 512 19)) answers.Fine ∷ [])
     ∷
-    entry 128 0 (events.Verb 1 (verbs.Poll (s 0 1 0) 16 0)) (marks.Verb 1 (verbs.Poll (s 0 1 0) 16 0) (answers.Polled (polled ([]))) ∷ [])
+    entry 128 0 (events.Verb 1 (verbs.Poll (s 0 1 0) 16 0)) (marks.Verb 1 (verbs.Poll (s 0 1 0) 16 0) (answers.Polled ([])) ∷ [])
     ∷
-    entry 129 0 (events.Verb 5 (verbs.Poll (s 2 0 1) 16 0)) (marks.Verb 5 (verbs.Poll (s 2 0 1) 16 0) (answers.Polled (polled ([]))) ∷ [])
+    entry 129 0 (events.Verb 5 (verbs.Poll (s 2 0 1) 16 0)) (marks.Verb 5 (verbs.Poll (s 2 0 1) 16 0) (answers.Polled ([])) ∷ [])
     ∷
     entry 130 0 (events.Verb 4 (verbs.PostRecv (s 1 2 0) (receive 1005 (list ((piece 33554689 4294972962 8000) ∷ []))))) (marks.Verb 4 (verbs.PostRecv (s 1 2 0) (receive 1005 (list ((piece 33554689 4294972962 8000) ∷ [])))) (answers.Refused refusals.QueueFull) ∷ [])
     ∷
@@ -299,9 +299,9 @@ history =
     ∷
     entry 134 0 (events.Verb 3 (verbs.DeallocMw (s 1 1 0))) (marks.Verb 3 (verbs.DeallocMw (s 1 1 0)) (answers.Refused refusals.NoSuch) ∷ [])
     ∷
-    entry 135 0 (events.Verb 6 (verbs.Poll (s 2 1 1) 16 0)) (marks.Verb 6 (verbs.Poll (s 2 1 1) 16 0) (answers.Polled (polled ((completion (q 2 512) false 0 3 operations.Send statuses.LocalProtection 0 None None) ∷ []))) ∷ [])
+    entry 135 0 (events.Verb 6 (verbs.Poll (s 2 1 1) 16 0)) (marks.Verb 6 (verbs.Poll (s 2 1 1) 16 0) (answers.Polled ((completion (q 2 512) false 0 3 operations.Send statuses.LocalProtection 0 None None) ∷ [])) ∷ [])
     ∷
-    entry 136 0 (events.Verb 4 (verbs.Poll (s 1 2 0) 16 0)) (marks.Verb 4 (verbs.Poll (s 1 2 0) 16 0) (answers.Polled (polled ([]))) ∷ [])
+    entry 136 0 (events.Verb 4 (verbs.Poll (s 1 2 0) 16 0)) (marks.Verb 4 (verbs.Poll (s 1 2 0) 16 0) (answers.Polled ([])) ∷ [])
     ∷
     entry 137 0 (events.Verb 2 (verbs.PostRecv (s 1 0 0) (receive 1003 (list ((piece 1 4294975847 0) ∷ (piece 257 4294978259 1) ∷ (piece 1 4294967885 1) ∷ (piece 257 4294978917 2) ∷ []))))) (marks.Verb 2 (verbs.PostRecv (s 1 0 0) (receive 1003 (list ((piece 1 4294975847 0) ∷ (piece 257 4294978259 1) ∷ (piece 1 4294967885 1) ∷ (piece 257 4294978917 2) ∷ [])))) (answers.Refused refusals.QueueFull) ∷ [])
     ∷
@@ -311,7 +311,7 @@ history =
     ∷
     entry 140 0 (events.Verb 6 (verbs.DeallocPd (d 2 1))) (marks.Verb 6 (verbs.DeallocPd (d 2 1)) (answers.Refused refusals.DomainInUse) ∷ [])
     ∷
-    entry 141 0 (events.Verb 1 (verbs.Poll (s 0 1 0) 16 0)) (marks.Verb 1 (verbs.Poll (s 0 1 0) 16 0) (answers.Polled (polled ([]))) ∷ [])
+    entry 141 0 (events.Verb 1 (verbs.Poll (s 0 1 0) 16 0)) (marks.Verb 1 (verbs.Poll (s 0 1 0) 16 0) (answers.Polled ([])) ∷ [])
     ∷
     entry 142 0 (events.Verb 5 (verbs.ModifyQp (s 2 0 0) changes.Init)) (marks.Verb 5 (verbs.ModifyQp (s 2 0 0) changes.Init) answers.Fine ∷ [])
     ∷
@@ -337,7 +337,7 @@ history =
     ∷
     entry 153 0 (events.Verb 6 (verbs.PostSend (s 2 1 0) (request 4 true true false (ops.Read 4295011064 (k 16777217) (list ((piece 16777729 4294968581 512) ∷ [])))))) (marks.Verb 6 (verbs.PostSend (s 2 1 0) (request 4 true true false (ops.Read 4295011064 (k 16777217) (list ((piece 16777729 4294968581 512) ∷ []))))) (answers.Posted None) ∷ marks.Done (q 2 512) (completion (q 2 512) false 1 4 operations.Read statuses.Flushed 0 None None) None ∷ [])
     ∷
-    entry 154 0 (events.Verb 6 (verbs.Poll (s 2 1 1) 16 0)) (marks.Verb 6 (verbs.Poll (s 2 1 1) 16 0) (answers.Polled (polled ((completion (q 2 512) false 1 4 operations.Read statuses.Flushed 0 None None) ∷ []))) ∷ [])
+    entry 154 0 (events.Verb 6 (verbs.Poll (s 2 1 1) 16 0)) (marks.Verb 6 (verbs.Poll (s 2 1 1) 16 0) (answers.Polled ((completion (q 2 512) false 1 4 operations.Read statuses.Flushed 0 None None) ∷ [])) ∷ [])
     ∷
     entry 155 0 (events.Deliver (q 2 512) 0) (marks.Arrived (q 2 512) (Some 0) ∷ marks.Dropped (q 2 512) drops.State ∷ [])
     ∷
@@ -369,7 +369,7 @@ history =
     ∷
     entry 169 0 (events.Request (q 0 512) lots.Pass) (marks.Local (q 0 512) (d 0 1) (k 16777473) kinds.Read 4295030026 256 (verdicts.Read (0 ∷ 0 ∷ 0 ∷ 0 ∷ 0 ∷ 0 ∷ 0 ∷ 0 ∷ 0 ∷ 0 ∷ 0 ∷ 0 ∷ 0 ∷ 0 ∷ 0 ∷ 0 ∷ 0 ∷ 0 ∷ 0 ∷ 0 ∷ 0 ∷ 0 ∷ 0 ∷ 0 ∷ 0 ∷ 0 ∷ 0 ∷ 0 ∷ 0 ∷ 0 ∷ 0 ∷ 0 ∷ 0 ∷ 0 ∷ 0 ∷ 0 ∷ 0 ∷ 0 ∷ 0 ∷ 0 ∷ 0 ∷ 0 ∷ 0 ∷ 0 ∷ 0 ∷ 0 ∷ 0 ∷ 0 ∷ 0 ∷ 0 ∷ 0 ∷ 0 ∷ 0 ∷ 0 ∷ 0 ∷ 0 ∷ 0 ∷ 0 ∷ 0 ∷ 0 ∷ 0 ∷ 0 ∷ 0 ∷ 0 ∷ 0 ∷ 0 ∷ 0 ∷ 0 ∷ 0 ∷ 0 ∷ 0 ∷ 0 ∷ 0 ∷ 0 ∷ 0 ∷ 0 ∷ 0 ∷ 0 ∷ 0 ∷ 0 ∷ 0 ∷ 0 ∷ 0 ∷ 0 ∷ 0 ∷ 0 ∷ 0 ∷ 0 ∷ 0 ∷ 0 ∷ 0 ∷ 0 ∷ 0 ∷ 0 ∷ 0 ∷ 0 ∷ 0 ∷ 0 ∷ 0 ∷ 0 ∷ 0 ∷ 0 ∷ 0 ∷ 0 ∷ 0 ∷ 0 ∷ 0 ∷ 0 ∷ 0 ∷ 0 ∷ 0 ∷ 0 ∷ 0 ∷ 0 ∷ 0 ∷ 0 ∷ 0 ∷ 0 ∷ 0 ∷ 0 ∷ 0 ∷ 0 ∷ 0 ∷ 0 ∷ 0 ∷ 0 ∷ 0 ∷ 0 ∷ 0 ∷ 0 ∷ 0 ∷ 0 ∷ 0 ∷ 0 ∷ 0 ∷ 0 ∷ 0 ∷ 0 ∷ 0 ∷ 0 ∷ 0 ∷ 0 ∷ 0 ∷ 0 ∷ 0 ∷ 0 ∷ 0 ∷ 0 ∷ 0 ∷ 0 ∷ 0 ∷ 0 ∷ 0 ∷ 0 ∷ 0 ∷ 0 ∷ 0 ∷ 0 ∷ 0 ∷ 0 ∷ 0 ∷ 0 ∷ 0 ∷ 0 ∷ 0 ∷ 0 ∷ 0 ∷ 0 ∷ 0 ∷ 0 ∷ 0 ∷ 0 ∷ 0 ∷ 0 ∷ 0 ∷ 0 ∷ 0 ∷ 0 ∷ 0 ∷ 0 ∷ 0 ∷ 0 ∷ 0 ∷ 0 ∷ 0 ∷ 0 ∷ 0 ∷ 0 ∷ 0 ∷ 0 ∷ 0 ∷ 0 ∷ 0 ∷ 0 ∷ 0 ∷ 0 ∷ 0 ∷ 0 ∷ 0 ∷ 0 ∷ 0 ∷ 0 ∷ 0 ∷ 0 ∷ 0 ∷ 0 ∷ 0 ∷ 0 ∷ 0 ∷ 0 ∷ 0 ∷ 0 ∷ 0 ∷ 0 ∷ 0 ∷ 0 ∷ 0 ∷ 0 ∷ 0 ∷ 0 ∷ 0 ∷ 0 ∷ 0 ∷ 0 ∷ 0 ∷ 0 ∷ 0 ∷ 0 ∷ 0 ∷ 0 ∷ 0 ∷ 0 ∷ 0 ∷ 0 ∷ 0 ∷ 0 ∷ 0 ∷ 0 ∷ 0 ∷ 0 ∷ 0 ∷ 0 ∷ 0 ∷ 0 ∷ 0 ∷ 0 ∷ 0 ∷ 0 ∷ 0 ∷ 0 ∷ 0 ∷ 0 ∷ 0 ∷ 0 ∷ 0 ∷ 0 ∷ [])) ∷ marks.Sent (q 0 512) (q 2 512) (Some 1) (Some 1) (0 ∷ 0 ∷ 255 ∷ 255 ∷ 0 ∷ 0 ∷ 2 ∷ 0 ∷ 0 ∷ 0 ∷ 0 ∷ 0 ∷ 0 ∷ 0 ∷ 0 ∷ 0 ∷ 0 ∷ 0 ∷ 0 ∷ 0 ∷ 0 ∷ 0 ∷ 0 ∷ 0 ∷ 0 ∷ 0 ∷ 0 ∷ 0 ∷ 0 ∷ 0 ∷ 0 ∷ 0 ∷ 0 ∷ 0 ∷ 0 ∷ 0 ∷ 0 ∷ 0 ∷ 0 ∷ 0 ∷ 0 ∷ 0 ∷ 0 ∷ 0 ∷ 0 ∷ 0 ∷ 0 ∷ 0 ∷ 0 ∷ 0 ∷ 0 ∷ 0 ∷ 0 ∷ 0 ∷ 0 ∷ 0 ∷ 0 ∷ 0 ∷ 0 ∷ 0 ∷ 0 ∷ 0 ∷ 0 ∷ 0 ∷ 0 ∷ 0 ∷ 0 ∷ 0 ∷ 0 ∷ 0 ∷ 0 ∷ 0 ∷ 0 ∷ 0 ∷ 0 ∷ 0 ∷ 0 ∷ 0 ∷ 0 ∷ 0 ∷ 0 ∷ 0 ∷ 0 ∷ 0 ∷ 0 ∷ 0 ∷ 0 ∷ 0 ∷ 0 ∷ 0 ∷ 0 ∷ 0 ∷ 0 ∷ 0 ∷ 0 ∷ 0 ∷ 0 ∷ 0 ∷ 0 ∷ 0 ∷ 0 ∷ 0 ∷ 0 ∷ 0 ∷ 0 ∷ 0 ∷ 0 ∷ 0 ∷ 0 ∷ 0 ∷ 0 ∷ 0 ∷ 0 ∷ 0 ∷ 0 ∷ 0 ∷ 0 ∷ 0 ∷ 0 ∷ 0 ∷ 0 ∷ 0 ∷ 0 ∷ 0 ∷ 0 ∷ 0 ∷ 0 ∷ 0 ∷ 0 ∷ 0 ∷ 0 ∷ 0 ∷ 0 ∷ 0 ∷ 0 ∷ 0 ∷ 0 ∷ 0 ∷ 0 ∷ 0 ∷ 0 ∷ 0 ∷ 0 ∷ 0 ∷ 0 ∷ 0 ∷ 0 ∷ 0 ∷ 0 ∷ 0 ∷ 0 ∷ 0 ∷ 0 ∷ 0 ∷ 0 ∷ 0 ∷ 0 ∷ 0 ∷ 0 ∷ 0 ∷ 0 ∷ 0 ∷ 0 ∷ 0 ∷ 0 ∷ 0 ∷ 0 ∷ 0 ∷ 0 ∷ 0 ∷ 0 ∷ 0 ∷ 0 ∷ 0 ∷ 0 ∷ 0 ∷ 0 ∷ 0 ∷ 0 ∷ 0 ∷ 0 ∷ 0 ∷ 0 ∷ 0 ∷ 0 ∷ 0 ∷ 0 ∷ 0 ∷ 0 ∷ 0 ∷ 0 ∷ 0 ∷ 0 ∷ 0 ∷ 0 ∷ 0 ∷ 0 ∷ 0 ∷ 0 ∷ 0 ∷ 0 ∷ 0 ∷ 0 ∷ 0 ∷ 0 ∷ 0 ∷ 0 ∷ 0 ∷ 0 ∷ 0 ∷ 0 ∷ 0 ∷ 0 ∷ 0 ∷ 0 ∷ 0 ∷ 0 ∷ 0 ∷ 0 ∷ 0 ∷ 0 ∷ 0 ∷ 0 ∷ 0 ∷ 0 ∷ 0 ∷ 0 ∷ 0 ∷ 0 ∷ 0 ∷ 0 ∷ 0 ∷ 0 ∷ 0 ∷ 0 ∷ 0 ∷ 0 ∷ 0 ∷ 0 ∷ 0 ∷ 0 ∷ 0 ∷ 0 ∷ 0 ∷ 0 ∷ 0 ∷ 0 ∷ 0 ∷ 0 ∷ 0 ∷ 0 ∷ 0 ∷ 0 ∷ 0 ∷ 0 ∷ 0 ∷ 0 ∷ 0 ∷ 0 ∷ 0 ∷ 0 ∷ 0 ∷ 0 ∷ 0 ∷ 0 ∷ 0 ∷ 0 ∷ 0 ∷ []) ∷ [])
     ∷
-    entry 170 0 (events.Verb 4 (verbs.Poll (s 1 2 1) 16 0)) (marks.Verb 4 (verbs.Poll (s 1 2 1) 16 0) (answers.Polled (polled ([]))) ∷ [])
+    entry 170 0 (events.Verb 4 (verbs.Poll (s 1 2 1) 16 0)) (marks.Verb 4 (verbs.Poll (s 1 2 1) 16 0) (answers.Polled ([])) ∷ [])
     ∷
     entry 171 0 (events.Verb 5 (verbs.PostRecv (s 2 0 0) (receive 1005 (list ((piece 1 4294967304 4) ∷ (piece 257 4294969861 0) ∷ (piece 513 4294970798 0) ∷ (piece 257 4294971301 0) ∷ []))))) (marks.Verb 5 (verbs.PostRecv (s 2 0 0) (receive 1005 (list ((piece 1 4294967304 4) ∷ (piece 257 4294969861 0) ∷ (piece 513 4294970798 0) ∷ (piece 257 4294971301 0) ∷ [])))) (answers.Posted None) ∷ [])
     ∷
@@ -387,13 +387,13 @@ history =
     ∷
     entry 178 0 (events.Deliver (q 2 512) 1) (marks.Arrived (q 2 512) (Some 1) ∷ marks.Dropped (q 2 512) drops.State ∷ [])
     ∷
-    entry 179 0 (events.Verb 5 (verbs.Poll (s 2 0 2) 16 0)) (marks.Verb 5 (verbs.Poll (s 2 0 2) 16 0) (answers.Polled (polled ([]))) ∷ [])
+    entry 179 0 (events.Verb 5 (verbs.Poll (s 2 0 2) 16 0)) (marks.Verb 5 (verbs.Poll (s 2 0 2) 16 0) (answers.Polled ([])) ∷ [])
     ∷
     entry 180 0 (events.Verb 2 (verbs.ModifyQp (s 1 0 1) changes.Init)) (marks.Verb 2 (verbs.ModifyQp (s 1 0 1) changes.Init) answers.Fine ∷ [])
     ∷
     entry 181 0 (events.Verb 2 (verbs.ModifyQp (s 1 0 1) (changes.Rtr (q 1 258) 1 8388608 255 27))) (marks.Verb 2 (verbs.ModifyQp (s 1 0 1) (changes.Rtr (q 1 258) 1 8388608 255 27)) (answers.Refused (refusals.OutOfRange fields.Mtu)) ∷ [])
     ∷
-    entry 182 0 (events.Verb 6 (verbs.Poll (s 2 1 0) 16 0)) (marks.Verb 6 (verbs.Poll (s 2 1 0) 16 0) (answers.Polled (polled ((completion (q 2 512) true 0 1001 operations.Recv statuses.Flushed 0 None None) ∷ (completion (q 2 512) true 1 1002 operations.Recv statuses.Flushed 0 None None) ∷ (completion (q 2 512) true 2 1005 operations.Recv statuses.Flushed 0 None None) ∷ (completion (q 2 512) true 3 1006 operations.Recv statuses.Flushed 0 None None) ∷ []))) ∷ [])
+    entry 182 0 (events.Verb 6 (verbs.Poll (s 2 1 0) 16 0)) (marks.Verb 6 (verbs.Poll (s 2 1 0) 16 0) (answers.Polled ((completion (q 2 512) true 0 1001 operations.Recv statuses.Flushed 0 None None) ∷ (completion (q 2 512) true 1 1002 operations.Recv statuses.Flushed 0 None None) ∷ (completion (q 2 512) true 2 1005 operations.Recv statuses.Flushed 0 None None) ∷ (completion (q 2 512) true 3 1006 operations.Recv statuses.Flushed 0 None None) ∷ [])) ∷ [])
     ∷
     entry 183 0 (events.Verb 4 (verbs.ModifyQp (s 1 2 0) changes.Resume)) (marks.Verb 4 (verbs.ModifyQp (s 1 2 0) changes.Resume) (answers.Refused refusals.Transition) ∷ [])
     ∷
@@ -401,7 +401,7 @@ history =
     ∷
     entry 185 0 (events.Verb 2 (verbs.ModifyQp (s 1 0 1) (changes.Rts 0 7 7 16))) (marks.Verb 2 (verbs.ModifyQp (s 1 0 1) (changes.Rts 0 7 7 16)) (answers.Refused refusals.Transition) ∷ [])
     ∷
-    entry 186 0 (events.Verb 6 (verbs.Poll (s 2 1 1) 16 0)) (marks.Verb 6 (verbs.Poll (s 2 1 1) 16 0) (answers.Polled (polled ((completion (q 2 512) false 2 8 operations.Read statuses.Flushed 0 None None) ∷ []))) ∷ [])
+    entry 186 0 (events.Verb 6 (verbs.Poll (s 2 1 1) 16 0)) (marks.Verb 6 (verbs.Poll (s 2 1 1) 16 0) (answers.Polled ((completion (q 2 512) false 2 8 operations.Read statuses.Flushed 0 None None) ∷ [])) ∷ [])
     ∷
     entry 187 0 (events.Deliver (q 2 512) 2) (marks.Arrived (q 2 512) (Some 2) ∷ marks.Dropped (q 2 512) drops.State ∷ [])
     ∷

@@ -21,7 +21,7 @@ use Rattle.ca_wire.specs.Packet.{be_bytes, packet_bytes}
 use Rattle.ca_wire.specs.Table.{row_of}
 use Rattle.ca_model.specs.Entries.{EntryValue}
 use Rattle.ca_model.specs.machine.Run.{run as outcome_of}
-use Rattle.ca_model.proofs.Literals.{d, s, q, k, r, run, piece, list, polled, request, receive, completion, grant, entry, adapter}
+use Rattle.ca_model.proofs.Literals.{d, s, q, k, r, run, piece, list, request, receive, completion, grant, entry, adapter}
 
 abbrev history : List EntryValue
 history =
@@ -71,7 +71,7 @@ history =
     ∷
     entry 22 0 (events.Verb 0 (verbs.PostRecv (s 0 0 0) (receive 1001 (list ((piece 1 4294967304 3575) ∷ (piece 1 4294967304 4425) ∷ []))))) (marks.Verb 0 (verbs.PostRecv (s 0 0 0) (receive 1001 (list ((piece 1 4294967304 3575) ∷ (piece 1 4294967304 4425) ∷ [])))) (answers.Refused refusals.HasSrq) ∷ [])
     ∷
-    entry 23 0 (events.Verb 0 (verbs.Poll (s 0 0 0) 16 0)) (marks.Verb 0 (verbs.Poll (s 0 0 0) 16 0) (answers.Polled (polled ([]))) ∷ [])
+    entry 23 0 (events.Verb 0 (verbs.Poll (s 0 0 0) 16 0)) (marks.Verb 0 (verbs.Poll (s 0 0 0) 16 0) (answers.Polled ([])) ∷ [])
     ∷
     entry 24 0 (events.Verb 0 (verbs.PostSrq (s 0 0 0) (receive 1002 (list ((piece 1 4294967304 368) ∷ (piece 1 4294967359 173) ∷ (piece 1 0 452) ∷ (piece 1 4294967437 7) ∷ []))))) (marks.Verb 0 (verbs.PostSrq (s 0 0 0) (receive 1002 (list ((piece 1 4294967304 368) ∷ (piece 1 4294967359 173) ∷ (piece 1 0 452) ∷ (piece 1 4294967437 7) ∷ [])))) (answers.Posted None) ∷ [])
     ∷
@@ -93,7 +93,7 @@ history =
     ∷
     entry 33 0 (events.Verb 0 (verbs.Inject (q 0 256) (14 ∷ 109 ∷ 255 ∷ 255 ∷ 0 ∷ 0 ∷ 1 ∷ 47 ∷ 128 ∷ 255 ∷ 255 ∷ 254 ∷ []))) (marks.Verb 0 (verbs.Inject (q 0 256) (14 ∷ 109 ∷ 255 ∷ 255 ∷ 0 ∷ 0 ∷ 1 ∷ 47 ∷ 128 ∷ 255 ∷ 255 ∷ 254 ∷ [])) answers.Fine ∷ marks.Arrived (q 0 256) None ∷ marks.Dropped (q 0 256) (drops.Wire wire.Version) ∷ [])
     ∷
-    entry 34 0 (events.Verb 1 (verbs.Poll (s 0 1 1) 16 0)) (marks.Verb 1 (verbs.Poll (s 0 1 1) 16 0) (answers.Polled (polled ([]))) ∷ [])
+    entry 34 0 (events.Verb 1 (verbs.Poll (s 0 1 1) 16 0)) (marks.Verb 1 (verbs.Poll (s 0 1 1) 16 0) (answers.Polled ([])) ∷ [])
     ∷
     entry 35 0 (events.Verb 0 (verbs.Inject (q 0 256) (19 ∷ 80 ∷ 127 ∷ 255 ∷ 0 ∷ 0 ∷ 1 ∷ 0 ∷ 0 ∷ 0 ∷ 0 ∷ 99 ∷ 0 ∷ 0 ∷ 0 ∷ 1 ∷ 0 ∷ 0 ∷ 0 ∷ 8 ∷ 0 ∷ 0 ∷ 0 ∷ 1 ∷ 0 ∷ 0 ∷ 0 ∷ 0 ∷ 0 ∷ 0 ∷ 0 ∷ 37 ∷ 0 ∷ 0 ∷ 0 ∷ 0 ∷ 0 ∷ 0 ∷ 0 ∷ 5 ∷ []))) (marks.Verb 0 (verbs.Inject (q 0 256) (19 ∷ 80 ∷ 127 ∷ 255 ∷ 0 ∷ 0 ∷ 1 ∷ 0 ∷ 0 ∷ 0 ∷ 0 ∷ 99 ∷ 0 ∷ 0 ∷ 0 ∷ 1 ∷ 0 ∷ 0 ∷ 0 ∷ 8 ∷ 0 ∷ 0 ∷ 0 ∷ 1 ∷ 0 ∷ 0 ∷ 0 ∷ 0 ∷ 0 ∷ 0 ∷ 0 ∷ 37 ∷ 0 ∷ 0 ∷ 0 ∷ 0 ∷ 0 ∷ 0 ∷ 0 ∷ 5 ∷ [])) answers.Fine ∷ marks.Arrived (q 0 256) None ∷ marks.Dropped (q 0 256) (drops.Wire wire.Pad) ∷ [])
     ∷
@@ -127,7 +127,7 @@ history =
     ∷
     entry 50 0 (events.Verb 1 (verbs.PostRecv (s 0 1 1) (receive 1002 (list ((piece 16777217 4294967296 8000) ∷ []))))) (marks.Verb 1 (verbs.PostRecv (s 0 1 1) (receive 1002 (list ((piece 16777217 4294967296 8000) ∷ [])))) (answers.Posted None) ∷ [])
     ∷
-    entry 51 0 (events.Verb 1 (verbs.Poll (s 0 1 0) 16 0)) (marks.Verb 1 (verbs.Poll (s 0 1 0) 16 0) (answers.Polled (polled ([]))) ∷ [])
+    entry 51 0 (events.Verb 1 (verbs.Poll (s 0 1 0) 16 0)) (marks.Verb 1 (verbs.Poll (s 0 1 0) 16 0) (answers.Polled ([])) ∷ [])
     ∷
     entry 52 0 (events.Deliver (q 0 513) 0) (marks.Arrived (q 0 513) (Some 0) ∷ [])
     ∷
@@ -167,7 +167,7 @@ history =
     ∷
     entry 70 0 (events.Verb 1 (verbs.PostSend (s 0 1 1) (request 10 true true false (ops.WriteImm 4294967512 (k 1) 2628910071 (list ((piece 16777473 4294967401 4) ∷ (piece 16777217 4294967342 3) ∷ (piece 16777473 4294967327 0) ∷ (piece 16777473 4294967542 1) ∷ [])))))) (marks.Verb 1 (verbs.PostSend (s 0 1 1) (request 10 true true false (ops.WriteImm 4294967512 (k 1) 2628910071 (list ((piece 16777473 4294967401 4) ∷ (piece 16777217 4294967342 3) ∷ (piece 16777473 4294967327 0) ∷ (piece 16777473 4294967542 1) ∷ []))))) (answers.Posted None) ∷ [])
     ∷
-    entry 71 0 (events.Verb 1 (verbs.Poll (s 0 1 0) 16 0)) (marks.Verb 1 (verbs.Poll (s 0 1 0) 16 0) (answers.Polled (polled ([]))) ∷ [])
+    entry 71 0 (events.Verb 1 (verbs.Poll (s 0 1 0) 16 0)) (marks.Verb 1 (verbs.Poll (s 0 1 0) 16 0) (answers.Polled ([])) ∷ [])
     ∷
     entry 72 0 (events.Deliver (q 0 513) 0) (marks.Arrived (q 0 513) (Some 0) ∷ [])
     ∷
@@ -175,7 +175,7 @@ history =
     ∷
     entry 74 0 (events.Deliver (q 0 513) 0) (marks.Arrived (q 0 513) (Some 0) ∷ [])
     ∷
-    entry 75 0 (events.Verb 1 (verbs.Poll (s 0 1 0) 2 0)) (marks.Verb 1 (verbs.Poll (s 0 1 0) 2 0) (answers.Polled (polled ([]))) ∷ [])
+    entry 75 0 (events.Verb 1 (verbs.Poll (s 0 1 0) 2 0)) (marks.Verb 1 (verbs.Poll (s 0 1 0) 2 0) (answers.Polled ([])) ∷ [])
     ∷
     entry 76 0 (events.Deliver (q 0 256) 0) (marks.Arrived (q 0 256) (Some 0) ∷ marks.Dropped (q 0 256) drops.State ∷ [])
     ∷

@@ -23,7 +23,7 @@ use Rattle.ca_wire.specs.Packet.{be_bytes, packet_bytes}
 use Rattle.ca_wire.specs.Table.{row_of}
 use Rattle.ca_model.specs.Entries.{EntryValue}
 use Rattle.ca_model.specs.machine.Run.{run as outcome_of}
-use Rattle.ca_model.proofs.Literals.{d, s, q, k, r, run, place, piece, list, polled, request, receive, completion, grant, entry, adapter}
+use Rattle.ca_model.proofs.Literals.{d, s, q, k, r, run, place, piece, list, request, receive, completion, grant, entry, adapter}
 
 abbrev history : List EntryValue
 history =
@@ -159,7 +159,7 @@ history =
     ∷
     entry 65 0 (events.Verb 5 (verbs.ModifyQp (s 3 1 0) changes.Init)) (marks.Verb 5 (verbs.ModifyQp (s 3 1 0) changes.Init) answers.Fine ∷ [])
     ∷
-    entry 66 0 (events.Verb 0 (verbs.Poll (s 0 0 1) 16 0)) (marks.Verb 0 (verbs.Poll (s 0 0 1) 16 0) (answers.Polled (polled ([]))) ∷ [])
+    entry 66 0 (events.Verb 0 (verbs.Poll (s 0 0 1) 16 0)) (marks.Verb 0 (verbs.Poll (s 0 0 1) 16 0) (answers.Polled ([])) ∷ [])
     ∷
     entry 67 0 (events.Verb 1 (verbs.PostRecv (s 1 0 0) (receive 1001 (list ((piece 1 8589938640 35) ∷ (piece 1 8589937347 6) ∷ (piece 1 8589937507 22) ∷ (piece 1 8589937273 1) ∷ []))))) (marks.Verb 1 (verbs.PostRecv (s 1 0 0) (receive 1001 (list ((piece 1 8589938640 35) ∷ (piece 1 8589937347 6) ∷ (piece 1 8589937507 22) ∷ (piece 1 8589937273 1) ∷ [])))) (answers.Posted None) ∷ [])
     ∷
@@ -173,7 +173,7 @@ history =
     ∷
     entry 72 0 (events.Verb 0 (verbs.PostRecv (s 0 0 0) (receive 1002 (list ((piece 257 4294967636 182) ∷ (piece 1 4294967360 7818) ∷ []))))) (marks.Verb 0 (verbs.PostRecv (s 0 0 0) (receive 1002 (list ((piece 257 4294967636 182) ∷ (piece 1 4294967360 7818) ∷ [])))) (answers.Refused refusals.QueueFull) ∷ [])
     ∷
-    entry 73 0 (events.Verb 1 (verbs.Poll (s 1 0 1) 16 0)) (marks.Verb 1 (verbs.Poll (s 1 0 1) 16 0) (answers.Polled (polled ([]))) ∷ [])
+    entry 73 0 (events.Verb 1 (verbs.Poll (s 1 0 1) 16 0)) (marks.Verb 1 (verbs.Poll (s 1 0 1) 16 0) (answers.Polled ([])) ∷ [])
     ∷
     entry 74 0 (events.Verb 2 (verbs.ModifyQp (s 1 1 0) changes.Init)) (marks.Verb 2 (verbs.ModifyQp (s 1 1 0) changes.Init) answers.Fine ∷ [])
     ∷
@@ -193,9 +193,9 @@ history =
     ∷
     entry 82 0 (events.Verb 4 (verbs.PostRecv (s 3 0 0) (receive 1001 (list ((piece 257 4294974098 8000) ∷ []))))) (marks.Verb 4 (verbs.PostRecv (s 3 0 0) (receive 1001 (list ((piece 257 4294974098 8000) ∷ [])))) (answers.Posted None) ∷ [])
     ∷
-    entry 83 0 (events.Verb 5 (verbs.Poll (s 3 1 0) 16 0)) (marks.Verb 5 (verbs.Poll (s 3 1 0) 16 0) (answers.Polled (polled ([]))) ∷ [])
+    entry 83 0 (events.Verb 5 (verbs.Poll (s 3 1 0) 16 0)) (marks.Verb 5 (verbs.Poll (s 3 1 0) 16 0) (answers.Polled ([])) ∷ [])
     ∷
-    entry 84 0 (events.Verb 0 (verbs.Poll (s 0 0 1) 16 0)) (marks.Verb 0 (verbs.Poll (s 0 0 1) 16 0) (answers.Polled (polled ([]))) ∷ [])
+    entry 84 0 (events.Verb 0 (verbs.Poll (s 0 0 1) 16 0)) (marks.Verb 0 (verbs.Poll (s 0 0 1) 16 0) (answers.Polled ([])) ∷ [])
     ∷
     entry 85 0 (events.Verb 2 (verbs.ModifyQp (s 1 1 0) (changes.Rts 1 7 7 1))) (marks.Verb 2 (verbs.ModifyQp (s 1 1 0) (changes.Rts 1 7 7 1)) answers.Fine ∷ [])
     ∷
@@ -211,17 +211,17 @@ history =
     ∷
     entry 91 0 (events.Verb 3 (verbs.ModifyQp (s 2 0 0) changes.Init)) (marks.Verb 3 (verbs.ModifyQp (s 2 0 0) changes.Init) (answers.Refused refusals.NoSuch) ∷ [])
     ∷
-    entry 92 0 (events.Verb 4 (verbs.Poll (s 3 0 1) 16 0)) (marks.Verb 4 (verbs.Poll (s 3 0 1) 16 0) (answers.Polled (polled ([]))) ∷ [])
+    entry 92 0 (events.Verb 4 (verbs.Poll (s 3 0 1) 16 0)) (marks.Verb 4 (verbs.Poll (s 3 0 1) 16 0) (answers.Polled ([])) ∷ [])
     ∷
     entry 93 0 (events.Verb 5 (verbs.PostRecv (s 3 1 0) (receive 1003 (list ((piece 16777473 4294969978 8000) ∷ []))))) (marks.Verb 5 (verbs.PostRecv (s 3 1 0) (receive 1003 (list ((piece 16777473 4294969978 8000) ∷ [])))) (answers.Posted None) ∷ [])
     ∷
-    entry 94 0 (events.Verb 0 (verbs.Poll (s 0 0 1) 16 0)) (marks.Verb 0 (verbs.Poll (s 0 0 1) 16 0) (answers.Polled (polled ([]))) ∷ [])
+    entry 94 0 (events.Verb 0 (verbs.Poll (s 0 0 1) 16 0)) (marks.Verb 0 (verbs.Poll (s 0 0 1) 16 0) (answers.Polled ([])) ∷ [])
     ∷
-    entry 95 0 (events.Verb 2 (verbs.Poll (s 1 1 0) 16 0)) (marks.Verb 2 (verbs.Poll (s 1 1 0) 16 0) (answers.Polled (polled ([]))) ∷ [])
+    entry 95 0 (events.Verb 2 (verbs.Poll (s 1 1 0) 16 0)) (marks.Verb 2 (verbs.Poll (s 1 1 0) 16 0) (answers.Polled ([])) ∷ [])
     ∷
     entry 96 0 (events.Verb 3 (verbs.ModifyQp (s 2 0 0) (changes.Rtr (q 1 256) 1 1 256 30))) (marks.Verb 3 (verbs.ModifyQp (s 2 0 0) (changes.Rtr (q 1 256) 1 1 256 30)) (answers.Refused refusals.NoSuch) ∷ [])
     ∷
-    entry 97 0 (events.Verb 5 (verbs.Poll (s 3 1 0) 16 0)) (marks.Verb 5 (verbs.Poll (s 3 1 0) 16 0) (answers.Polled (polled ([]))) ∷ [])
+    entry 97 0 (events.Verb 5 (verbs.Poll (s 3 1 0) 16 0)) (marks.Verb 5 (verbs.Poll (s 3 1 0) 16 0) (answers.Polled ([])) ∷ [])
     ∷
     entry 98 0 (events.Verb 3 (verbs.ModifyQp (s 2 0 0) (changes.Rts 16777214 7 7 16))) (marks.Verb 3 (verbs.ModifyQp (s 2 0 0) (changes.Rts 16777214 7 7 16)) (answers.Refused refusals.NoSuch) ∷ [])
     ∷
@@ -243,9 +243,9 @@ history =
     ∷
     entry 107 0 (events.Verb 3 (verbs.Store 2 0 11158 (48 ∷ []))) (marks.Verb 3 (verbs.Store 2 0 11158 (48 ∷ [])) answers.Fine ∷ marks.Stored (place 2 0 11158) (48 ∷ []) ∷ [])
     ∷
-    entry 108 0 (events.Verb 4 (verbs.Poll (s 3 0 1) 16 0)) (marks.Verb 4 (verbs.Poll (s 3 0 1) 16 0) (answers.Polled (polled ([]))) ∷ [])
+    entry 108 0 (events.Verb 4 (verbs.Poll (s 3 0 1) 16 0)) (marks.Verb 4 (verbs.Poll (s 3 0 1) 16 0) (answers.Polled ([])) ∷ [])
     ∷
-    entry 109 0 (events.Verb 5 (verbs.Poll (s 3 1 1) 1 0)) (marks.Verb 5 (verbs.Poll (s 3 1 1) 1 0) (answers.Polled (polled ([]))) ∷ [])
+    entry 109 0 (events.Verb 5 (verbs.Poll (s 3 1 1) 1 0)) (marks.Verb 5 (verbs.Poll (s 3 1 1) 1 0) (answers.Polled ([])) ∷ [])
     ∷
     entry 110 0 (events.Request (q 1 513) lots.Pass) (marks.Local (q 1 513) (d 1 1) (k 16777473) kinds.Read 8589934645 256 (verdicts.Read (0 ∷ 0 ∷ 0 ∷ 0 ∷ 0 ∷ 0 ∷ 0 ∷ 0 ∷ 0 ∷ 0 ∷ 0 ∷ 0 ∷ 0 ∷ 0 ∷ 0 ∷ 0 ∷ 0 ∷ 0 ∷ 0 ∷ 0 ∷ 0 ∷ 0 ∷ 0 ∷ 0 ∷ 0 ∷ 0 ∷ 0 ∷ 0 ∷ 0 ∷ 0 ∷ 0 ∷ 0 ∷ 0 ∷ 0 ∷ 0 ∷ 0 ∷ 0 ∷ 0 ∷ 0 ∷ 0 ∷ 0 ∷ 0 ∷ 0 ∷ 0 ∷ 0 ∷ 0 ∷ 0 ∷ 0 ∷ 0 ∷ 0 ∷ 0 ∷ 0 ∷ 0 ∷ 0 ∷ 0 ∷ 0 ∷ 0 ∷ 0 ∷ 0 ∷ 0 ∷ 0 ∷ 0 ∷ 0 ∷ 0 ∷ 0 ∷ 0 ∷ 0 ∷ 0 ∷ 0 ∷ 0 ∷ 0 ∷ 0 ∷ 0 ∷ 0 ∷ 0 ∷ 0 ∷ 0 ∷ 0 ∷ 0 ∷ 0 ∷ 0 ∷ 0 ∷ 0 ∷ 0 ∷ 0 ∷ 0 ∷ 0 ∷ 0 ∷ 0 ∷ 0 ∷ 0 ∷ 0 ∷ 0 ∷ 0 ∷ 0 ∷ 0 ∷ 0 ∷ 0 ∷ 0 ∷ 0 ∷ 0 ∷ 0 ∷ 0 ∷ 0 ∷ 0 ∷ 0 ∷ 0 ∷ 0 ∷ 0 ∷ 0 ∷ 0 ∷ 0 ∷ 0 ∷ 0 ∷ 0 ∷ 0 ∷ 0 ∷ 0 ∷ 0 ∷ 0 ∷ 0 ∷ 0 ∷ 0 ∷ 0 ∷ 0 ∷ 0 ∷ 0 ∷ 0 ∷ 0 ∷ 0 ∷ 0 ∷ 0 ∷ 0 ∷ 0 ∷ 0 ∷ 0 ∷ 0 ∷ 0 ∷ 0 ∷ 0 ∷ 0 ∷ 0 ∷ 0 ∷ 0 ∷ 0 ∷ 0 ∷ 0 ∷ 0 ∷ 0 ∷ 0 ∷ 0 ∷ 0 ∷ 0 ∷ 0 ∷ 0 ∷ 0 ∷ 0 ∷ 0 ∷ 0 ∷ 0 ∷ 0 ∷ 0 ∷ 0 ∷ 0 ∷ 0 ∷ 0 ∷ 0 ∷ 0 ∷ 0 ∷ 0 ∷ 0 ∷ 0 ∷ 0 ∷ 0 ∷ 0 ∷ 0 ∷ 0 ∷ 0 ∷ 0 ∷ 0 ∷ 0 ∷ 0 ∷ 0 ∷ 0 ∷ 0 ∷ 0 ∷ 0 ∷ 0 ∷ 0 ∷ 0 ∷ 0 ∷ 0 ∷ 0 ∷ 0 ∷ 0 ∷ 0 ∷ 0 ∷ 0 ∷ 0 ∷ 0 ∷ 0 ∷ 0 ∷ 0 ∷ 0 ∷ 0 ∷ 0 ∷ 0 ∷ 0 ∷ 0 ∷ 0 ∷ 0 ∷ 0 ∷ 0 ∷ 0 ∷ 0 ∷ 0 ∷ 0 ∷ 0 ∷ 0 ∷ 0 ∷ 0 ∷ 0 ∷ 0 ∷ 0 ∷ 0 ∷ 0 ∷ 0 ∷ 0 ∷ 0 ∷ 0 ∷ 0 ∷ 0 ∷ 0 ∷ 0 ∷ 0 ∷ 0 ∷ 0 ∷ 0 ∷ 0 ∷ 0 ∷ 0 ∷ 0 ∷ 0 ∷ 0 ∷ 0 ∷ 0 ∷ 0 ∷ 0 ∷ 0 ∷ 0 ∷ 0 ∷ 0 ∷ 0 ∷ 0 ∷ 0 ∷ 0 ∷ [])) ∷ marks.Sent (q 1 513) (q 2 258) None (Some 0) (6 ∷ 0 ∷ 255 ∷ 255 ∷ 0 ∷ 0 ∷ 1 ∷ 2 ∷ 0 ∷ 0 ∷ 0 ∷ 0 ∷ 0 ∷ 0 ∷ 0 ∷ 1 ∷ 0 ∷ 0 ∷ 9 ∷ 172 ∷ 0 ∷ 0 ∷ 0 ∷ 1 ∷ 0 ∷ 0 ∷ 1 ∷ 44 ∷ 0 ∷ 0 ∷ 0 ∷ 0 ∷ 0 ∷ 0 ∷ 0 ∷ 0 ∷ 0 ∷ 0 ∷ 0 ∷ 0 ∷ 0 ∷ 0 ∷ 0 ∷ 0 ∷ 0 ∷ 0 ∷ 0 ∷ 0 ∷ 0 ∷ 0 ∷ 0 ∷ 0 ∷ 0 ∷ 0 ∷ 0 ∷ 0 ∷ 0 ∷ 0 ∷ 0 ∷ 0 ∷ 0 ∷ 0 ∷ 0 ∷ 0 ∷ 0 ∷ 0 ∷ 0 ∷ 0 ∷ 0 ∷ 0 ∷ 0 ∷ 0 ∷ 0 ∷ 0 ∷ 0 ∷ 0 ∷ 0 ∷ 0 ∷ 0 ∷ 0 ∷ 0 ∷ 0 ∷ 0 ∷ 0 ∷ 0 ∷ 0 ∷ 0 ∷ 0 ∷ 0 ∷ 0 ∷ 0 ∷ 0 ∷ 0 ∷ 0 ∷ 0 ∷ 0 ∷ 0 ∷ 0 ∷ 0 ∷ 0 ∷ 0 ∷ 0 ∷ 0 ∷ 0 ∷ 0 ∷ 0 ∷ 0 ∷ 0 ∷ 0 ∷ 0 ∷ 0 ∷ 0 ∷ 0 ∷ 0 ∷ 0 ∷ 0 ∷ 0 ∷ 0 ∷ 0 ∷ 0 ∷ 0 ∷ 0 ∷ 0 ∷ 0 ∷ 0 ∷ 0 ∷ 0 ∷ 0 ∷ 0 ∷ 0 ∷ 0 ∷ 0 ∷ 0 ∷ 0 ∷ 0 ∷ 0 ∷ 0 ∷ 0 ∷ 0 ∷ 0 ∷ 0 ∷ 0 ∷ 0 ∷ 0 ∷ 0 ∷ 0 ∷ 0 ∷ 0 ∷ 0 ∷ 0 ∷ 0 ∷ 0 ∷ 0 ∷ 0 ∷ 0 ∷ 0 ∷ 0 ∷ 0 ∷ 0 ∷ 0 ∷ 0 ∷ 0 ∷ 0 ∷ 0 ∷ 0 ∷ 0 ∷ 0 ∷ 0 ∷ 0 ∷ 0 ∷ 0 ∷ 0 ∷ 0 ∷ 0 ∷ 0 ∷ 0 ∷ 0 ∷ 0 ∷ 0 ∷ 0 ∷ 0 ∷ 0 ∷ 0 ∷ 0 ∷ 0 ∷ 0 ∷ 0 ∷ 0 ∷ 0 ∷ 0 ∷ 0 ∷ 0 ∷ 0 ∷ 0 ∷ 0 ∷ 0 ∷ 0 ∷ 0 ∷ 0 ∷ 0 ∷ 0 ∷ 0 ∷ 0 ∷ 0 ∷ 0 ∷ 0 ∷ 0 ∷ 0 ∷ 0 ∷ 0 ∷ 0 ∷ 0 ∷ 0 ∷ 0 ∷ 0 ∷ 0 ∷ 0 ∷ 0 ∷ 0 ∷ 0 ∷ 0 ∷ 0 ∷ 0 ∷ 0 ∷ 0 ∷ 0 ∷ 0 ∷ 0 ∷ 0 ∷ 0 ∷ 0 ∷ 0 ∷ 0 ∷ 0 ∷ 0 ∷ 0 ∷ 0 ∷ 0 ∷ 0 ∷ 0 ∷ 0 ∷ 0 ∷ 0 ∷ 0 ∷ 0 ∷ 0 ∷ 0 ∷ 0 ∷ 0 ∷ 0 ∷ 0 ∷ 0 ∷ 0 ∷ 0 ∷ 0 ∷ 0 ∷ 0 ∷ 0 ∷ 0 ∷ 0 ∷ 0 ∷ 0 ∷ 0 ∷ 0 ∷ 0 ∷ 0 ∷ 0 ∷ 0 ∷ 0 ∷ 0 ∷ 0 ∷ 0 ∷ 0 ∷ 0 ∷ 0 ∷ 0 ∷ 0 ∷ 0 ∷ 0 ∷ 0 ∷ 0 ∷ 0 ∷ 0 ∷ 0 ∷ []) ∷ marks.Lost (q 2 258) None ∷ [])
     ∷
@@ -269,11 +269,11 @@ history =
     ∷
     entry 120 0 (events.Respond (q 3 513) lots.Pass) (marks.Sent (q 3 513) (q 0 256) (Some 0) None (17 ∷ 0 ∷ 255 ∷ 255 ∷ 0 ∷ 0 ∷ 1 ∷ 0 ∷ 0 ∷ 0 ∷ 0 ∷ 0 ∷ 96 ∷ 0 ∷ 0 ∷ 0 ∷ []) ∷ [])
     ∷
-    entry 121 0 (events.Verb 0 (verbs.Poll (s 0 0 1) 1 0)) (marks.Verb 0 (verbs.Poll (s 0 0 1) 1 0) (answers.Polled (polled ([]))) ∷ [])
+    entry 121 0 (events.Verb 0 (verbs.Poll (s 0 0 1) 1 0)) (marks.Verb 0 (verbs.Poll (s 0 0 1) 1 0) (answers.Polled ([])) ∷ [])
     ∷
     entry 122 0 (events.Verb 1 (verbs.PostRecv (s 1 0 0) (receive 1005 (list ((piece 1 8589936751 1288) ∷ (piece 1 8589936640 3121) ∷ (piece 1 8589936640 3591) ∷ []))))) (marks.Verb 1 (verbs.PostRecv (s 1 0 0) (receive 1005 (list ((piece 1 8589936751 1288) ∷ (piece 1 8589936640 3121) ∷ (piece 1 8589936640 3591) ∷ [])))) (answers.Refused refusals.QueueFull) ∷ [])
     ∷
-    entry 123 0 (events.Verb 2 (verbs.Poll (s 1 1 2) 16 0)) (marks.Verb 2 (verbs.Poll (s 1 1 2) 16 0) (answers.Polled (polled ([]))) ∷ [])
+    entry 123 0 (events.Verb 2 (verbs.Poll (s 1 1 2) 16 0)) (marks.Verb 2 (verbs.Poll (s 1 1 2) 16 0) (answers.Polled ([])) ∷ [])
     ∷
     entry 124 0 (events.Verb 3 (verbs.PostSend (s 2 0 2) (request 1 true false false (ops.Write 8589934887 (k 16777473) (list ((piece 257 4294970908 392) ∷ (piece 257 4294971579 23) ∷ (piece 1 4294972995 111) ∷ (piece 257 4294972965 474) ∷ [])))))) (marks.Verb 3 (verbs.PostSend (s 2 0 2) (request 1 true false false (ops.Write 8589934887 (k 16777473) (list ((piece 257 4294970908 392) ∷ (piece 257 4294971579 23) ∷ (piece 1 4294972995 111) ∷ (piece 257 4294972965 474) ∷ []))))) (answers.Refused refusals.NoSuch) ∷ [])
     ∷
@@ -289,13 +289,13 @@ history =
     ∷
     entry 130 0 (events.Respond (q 3 256) lots.Pass) (marks.Sent (q 3 256) (q 1 512) (Some 0) None (17 ∷ 0 ∷ 255 ∷ 255 ∷ 0 ∷ 0 ∷ 2 ∷ 0 ∷ 0 ∷ 0 ∷ 0 ∷ 2 ∷ 31 ∷ 0 ∷ 0 ∷ 1 ∷ []) ∷ [])
     ∷
-    entry 131 0 (events.Verb 0 (verbs.Poll (s 0 0 1) 2 0)) (marks.Verb 0 (verbs.Poll (s 0 0 1) 2 0) (answers.Polled (polled ([]))) ∷ [])
+    entry 131 0 (events.Verb 0 (verbs.Poll (s 0 0 1) 2 0)) (marks.Verb 0 (verbs.Poll (s 0 0 1) 2 0) (answers.Polled ([])) ∷ [])
     ∷
     entry 132 0 (events.Verb 1 (verbs.Inject (q 1 256) (1 ∷ 0 ∷ 255 ∷ 255 ∷ 0 ∷ 0 ∷ 1 ∷ 0 ∷ 128 ∷ 0 ∷ 0 ∷ 2 ∷ 185 ∷ 143 ∷ 15 ∷ 195 ∷ 74 ∷ 177 ∷ 67 ∷ 141 ∷ 153 ∷ 56 ∷ 131 ∷ 149 ∷ 199 ∷ 42 ∷ 96 ∷ 79 ∷ 162 ∷ 175 ∷ 17 ∷ 9 ∷ 72 ∷ 126 ∷ 187 ∷ 79 ∷ 13 ∷ 244 ∷ 45 ∷ 31 ∷ 218 ∷ 211 ∷ 233 ∷ 229 ∷ 148 ∷ 78 ∷ 125 ∷ 179 ∷ 157 ∷ 110 ∷ 238 ∷ 139 ∷ 80 ∷ 55 ∷ 168 ∷ 178 ∷ 125 ∷ 179 ∷ 51 ∷ 40 ∷ 196 ∷ 126 ∷ 195 ∷ 68 ∷ 32 ∷ 228 ∷ 238 ∷ 6 ∷ 244 ∷ 3 ∷ 224 ∷ 48 ∷ 40 ∷ 201 ∷ 19 ∷ 117 ∷ 200 ∷ 240 ∷ 142 ∷ 155 ∷ 28 ∷ 226 ∷ 166 ∷ 117 ∷ 54 ∷ 179 ∷ 12 ∷ 176 ∷ 179 ∷ 35 ∷ 125 ∷ 57 ∷ 81 ∷ 83 ∷ 212 ∷ 56 ∷ 46 ∷ 250 ∷ 104 ∷ 89 ∷ 241 ∷ 233 ∷ 181 ∷ 240 ∷ 93 ∷ 47 ∷ 50 ∷ 129 ∷ 27 ∷ 211 ∷ 138 ∷ 6 ∷ 28 ∷ 16 ∷ 63 ∷ 110 ∷ 190 ∷ 51 ∷ 236 ∷ 46 ∷ 32 ∷ 195 ∷ 232 ∷ 76 ∷ 15 ∷ 176 ∷ 30 ∷ 32 ∷ 168 ∷ 188 ∷ 50 ∷ 206 ∷ 54 ∷ 225 ∷ 86 ∷ 131 ∷ 0 ∷ 246 ∷ 53 ∷ 233 ∷ 4 ∷ 66 ∷ 160 ∷ 175 ∷ 102 ∷ 70 ∷ 163 ∷ 152 ∷ 139 ∷ 246 ∷ 232 ∷ 239 ∷ 180 ∷ 129 ∷ 103 ∷ 236 ∷ 183 ∷ 173 ∷ 108 ∷ 92 ∷ 200 ∷ 177 ∷ 236 ∷ 239 ∷ 182 ∷ 80 ∷ 226 ∷ 84 ∷ 38 ∷ 253 ∷ 0 ∷ 1 ∷ 206 ∷ 90 ∷ 253 ∷ 67 ∷ 112 ∷ 4 ∷ 255 ∷ 145 ∷ 183 ∷ 51 ∷ 219 ∷ 238 ∷ 149 ∷ 222 ∷ 206 ∷ 127 ∷ 93 ∷ 42 ∷ 242 ∷ 200 ∷ 251 ∷ 190 ∷ 199 ∷ 45 ∷ 179 ∷ 86 ∷ 95 ∷ 52 ∷ 84 ∷ 80 ∷ 109 ∷ 73 ∷ 114 ∷ 56 ∷ 187 ∷ 174 ∷ 158 ∷ 58 ∷ 14 ∷ 120 ∷ 223 ∷ 192 ∷ 201 ∷ 78 ∷ 56 ∷ 181 ∷ 52 ∷ 114 ∷ 22 ∷ 225 ∷ 139 ∷ 136 ∷ 136 ∷ 146 ∷ 233 ∷ 45 ∷ 62 ∷ 211 ∷ 44 ∷ 21 ∷ 166 ∷ 252 ∷ 48 ∷ 8 ∷ 110 ∷ 250 ∷ 53 ∷ 55 ∷ 234 ∷ 172 ∷ 140 ∷ 225 ∷ 32 ∷ 67 ∷ 8 ∷ 203 ∷ 193 ∷ 191 ∷ 3 ∷ 49 ∷ 19 ∷ 200 ∷ 255 ∷ 178 ∷ 237 ∷ 205 ∷ 244 ∷ 30 ∷ 131 ∷ 237 ∷ 176 ∷ 77 ∷ 190 ∷ 168 ∷ 101 ∷ 230 ∷ []))) (marks.Verb 1 (verbs.Inject (q 1 256) (1 ∷ 0 ∷ 255 ∷ 255 ∷ 0 ∷ 0 ∷ 1 ∷ 0 ∷ 128 ∷ 0 ∷ 0 ∷ 2 ∷ 185 ∷ 143 ∷ 15 ∷ 195 ∷ 74 ∷ 177 ∷ 67 ∷ 141 ∷ 153 ∷ 56 ∷ 131 ∷ 149 ∷ 199 ∷ 42 ∷ 96 ∷ 79 ∷ 162 ∷ 175 ∷ 17 ∷ 9 ∷ 72 ∷ 126 ∷ 187 ∷ 79 ∷ 13 ∷ 244 ∷ 45 ∷ 31 ∷ 218 ∷ 211 ∷ 233 ∷ 229 ∷ 148 ∷ 78 ∷ 125 ∷ 179 ∷ 157 ∷ 110 ∷ 238 ∷ 139 ∷ 80 ∷ 55 ∷ 168 ∷ 178 ∷ 125 ∷ 179 ∷ 51 ∷ 40 ∷ 196 ∷ 126 ∷ 195 ∷ 68 ∷ 32 ∷ 228 ∷ 238 ∷ 6 ∷ 244 ∷ 3 ∷ 224 ∷ 48 ∷ 40 ∷ 201 ∷ 19 ∷ 117 ∷ 200 ∷ 240 ∷ 142 ∷ 155 ∷ 28 ∷ 226 ∷ 166 ∷ 117 ∷ 54 ∷ 179 ∷ 12 ∷ 176 ∷ 179 ∷ 35 ∷ 125 ∷ 57 ∷ 81 ∷ 83 ∷ 212 ∷ 56 ∷ 46 ∷ 250 ∷ 104 ∷ 89 ∷ 241 ∷ 233 ∷ 181 ∷ 240 ∷ 93 ∷ 47 ∷ 50 ∷ 129 ∷ 27 ∷ 211 ∷ 138 ∷ 6 ∷ 28 ∷ 16 ∷ 63 ∷ 110 ∷ 190 ∷ 51 ∷ 236 ∷ 46 ∷ 32 ∷ 195 ∷ 232 ∷ 76 ∷ 15 ∷ 176 ∷ 30 ∷ 32 ∷ 168 ∷ 188 ∷ 50 ∷ 206 ∷ 54 ∷ 225 ∷ 86 ∷ 131 ∷ 0 ∷ 246 ∷ 53 ∷ 233 ∷ 4 ∷ 66 ∷ 160 ∷ 175 ∷ 102 ∷ 70 ∷ 163 ∷ 152 ∷ 139 ∷ 246 ∷ 232 ∷ 239 ∷ 180 ∷ 129 ∷ 103 ∷ 236 ∷ 183 ∷ 173 ∷ 108 ∷ 92 ∷ 200 ∷ 177 ∷ 236 ∷ 239 ∷ 182 ∷ 80 ∷ 226 ∷ 84 ∷ 38 ∷ 253 ∷ 0 ∷ 1 ∷ 206 ∷ 90 ∷ 253 ∷ 67 ∷ 112 ∷ 4 ∷ 255 ∷ 145 ∷ 183 ∷ 51 ∷ 219 ∷ 238 ∷ 149 ∷ 222 ∷ 206 ∷ 127 ∷ 93 ∷ 42 ∷ 242 ∷ 200 ∷ 251 ∷ 190 ∷ 199 ∷ 45 ∷ 179 ∷ 86 ∷ 95 ∷ 52 ∷ 84 ∷ 80 ∷ 109 ∷ 73 ∷ 114 ∷ 56 ∷ 187 ∷ 174 ∷ 158 ∷ 58 ∷ 14 ∷ 120 ∷ 223 ∷ 192 ∷ 201 ∷ 78 ∷ 56 ∷ 181 ∷ 52 ∷ 114 ∷ 22 ∷ 225 ∷ 139 ∷ 136 ∷ 136 ∷ 146 ∷ 233 ∷ 45 ∷ 62 ∷ 211 ∷ 44 ∷ 21 ∷ 166 ∷ 252 ∷ 48 ∷ 8 ∷ 110 ∷ 250 ∷ 53 ∷ 55 ∷ 234 ∷ 172 ∷ 140 ∷ 225 ∷ 32 ∷ 67 ∷ 8 ∷ 203 ∷ 193 ∷ 191 ∷ 3 ∷ 49 ∷ 19 ∷ 200 ∷ 255 ∷ 178 ∷ 237 ∷ 205 ∷ 244 ∷ 30 ∷ 131 ∷ 237 ∷ 176 ∷ 77 ∷ 190 ∷ 168 ∷ 101 ∷ 230 ∷ [])) answers.Fine ∷ marks.Arrived (q 1 256) None ∷ [])
     ∷
     entry 133 0 (events.Verb 3 (verbs.Poll (s 2 0 0) 16 0)) (marks.Verb 3 (verbs.Poll (s 2 0 0) 16 0) (answers.Refused refusals.NoSuch) ∷ [])
     ∷
-    entry 134 0 (events.Verb 4 (verbs.Poll (s 3 0 1) 16 0)) (marks.Verb 4 (verbs.Poll (s 3 0 1) 16 0) (answers.Polled (polled ((completion (q 3 256) true 0 1001 operations.Recv statuses.Success 257 None None) ∷ []))) ∷ [])
+    entry 134 0 (events.Verb 4 (verbs.Poll (s 3 0 1) 16 0)) (marks.Verb 4 (verbs.Poll (s 3 0 1) 16 0) (answers.Polled ((completion (q 3 256) true 0 1001 operations.Recv statuses.Success 257 None None) ∷ [])) ∷ [])
     ∷
     entry 135 0 (events.Verb 5 (verbs.PostSend (s 3 1 1) (request 1 true false false (ops.Write 4294967652 (k 257) (list ((piece 16777473 4294983125 8) ∷ [])))))) (marks.Verb 5 (verbs.PostSend (s 3 1 1) (request 1 true false false (ops.Write 4294967652 (k 257) (list ((piece 16777473 4294983125 8) ∷ []))))) (answers.Posted None) ∷ [])
     ∷
@@ -315,7 +315,7 @@ history =
     ∷
     entry 143 0 (events.Verb 4 (verbs.PostSend (s 3 0 0) (request 940 true true false (ops.Read 8589935366 (k 16777473) (list ((piece 513 4294973650 205) ∷ (piece 513 4294976853 95) ∷ [])))))) (marks.Verb 4 (verbs.PostSend (s 3 0 0) (request 940 true true false (ops.Read 8589935366 (k 16777473) (list ((piece 513 4294973650 205) ∷ (piece 513 4294976853 95) ∷ []))))) (answers.Posted None) ∷ [])
     ∷
-    entry 144 0 (events.Verb 5 (verbs.Poll (s 3 1 0) 16 0)) (marks.Verb 5 (verbs.Poll (s 3 1 0) 16 0) (answers.Polled (polled ([]))) ∷ [])
+    entry 144 0 (events.Verb 5 (verbs.Poll (s 3 1 0) 16 0)) (marks.Verb 5 (verbs.Poll (s 3 1 0) 16 0) (answers.Polled ([])) ∷ [])
     ∷
     entry 145 0 (events.Deliver (q 0 256) 1) (marks.Arrived (q 0 256) (Some 1) ∷ marks.Remote (q 0 256) (d 0 0) (Some 1) (k 257) kinds.Write 4294967652 8 (verdicts.Denied denials.NoGrant) ∷ marks.Done (q 0 256) (completion (q 0 256) true 0 1001 operations.Recv statuses.Flushed 0 None None) None ∷ [])
     ∷
@@ -377,7 +377,7 @@ history =
     ∷
     entry 174 0 (events.Verb 4 (verbs.PostSend (s 3 0 0) (request 4 true false false (ops.Send (list ([])))))) (marks.Verb 4 (verbs.PostSend (s 3 0 0) (request 4 true false false (ops.Send (list ([]))))) (answers.Posted None) ∷ [])
     ∷
-    entry 175 0 (events.Verb 5 (verbs.Poll (s 3 1 1) 16 0)) (marks.Verb 5 (verbs.Poll (s 3 1 1) 16 0) (answers.Polled (polled ([]))) ∷ [])
+    entry 175 0 (events.Verb 5 (verbs.Poll (s 3 1 1) 16 0)) (marks.Verb 5 (verbs.Poll (s 3 1 1) 16 0) (answers.Polled ([])) ∷ [])
     ∷
     entry 176 0 (events.Deliver (q 1 512) 4) (marks.Arrived (q 1 512) (Some 4) ∷ [])
     ∷
@@ -389,7 +389,7 @@ history =
     ∷
     entry 180 0 (events.Verb 3 (verbs.Store 2 0 4119 (64 ∷ 14 ∷ 249 ∷ 55 ∷ 42 ∷ 90 ∷ 223 ∷ 57 ∷ 210 ∷ 89 ∷ 5 ∷ 66 ∷ 229 ∷ 221 ∷ 244 ∷ 43 ∷ 37 ∷ 135 ∷ 193 ∷ 144 ∷ 195 ∷ 95 ∷ 69 ∷ 8 ∷ 59 ∷ 153 ∷ 3 ∷ 27 ∷ 200 ∷ 36 ∷ 234 ∷ 61 ∷ []))) (marks.Verb 3 (verbs.Store 2 0 4119 (64 ∷ 14 ∷ 249 ∷ 55 ∷ 42 ∷ 90 ∷ 223 ∷ 57 ∷ 210 ∷ 89 ∷ 5 ∷ 66 ∷ 229 ∷ 221 ∷ 244 ∷ 43 ∷ 37 ∷ 135 ∷ 193 ∷ 144 ∷ 195 ∷ 95 ∷ 69 ∷ 8 ∷ 59 ∷ 153 ∷ 3 ∷ 27 ∷ 200 ∷ 36 ∷ 234 ∷ 61 ∷ [])) answers.Fine ∷ marks.Stored (place 2 0 4119) (64 ∷ 14 ∷ 249 ∷ 55 ∷ 42 ∷ 90 ∷ 223 ∷ 57 ∷ 210 ∷ 89 ∷ 5 ∷ 66 ∷ 229 ∷ 221 ∷ 244 ∷ 43 ∷ 37 ∷ 135 ∷ 193 ∷ 144 ∷ 195 ∷ 95 ∷ 69 ∷ 8 ∷ 59 ∷ 153 ∷ 3 ∷ 27 ∷ 200 ∷ 36 ∷ 234 ∷ 61 ∷ []) ∷ [])
     ∷
-    entry 181 0 (events.Verb 4 (verbs.Poll (s 3 0 1) 16 0)) (marks.Verb 4 (verbs.Poll (s 3 0 1) 16 0) (answers.Polled (polled ([]))) ∷ [])
+    entry 181 0 (events.Verb 4 (verbs.Poll (s 3 0 1) 16 0)) (marks.Verb 4 (verbs.Poll (s 3 0 1) 16 0) (answers.Polled ([])) ∷ [])
     ∷
     entry 182 0 (events.Verb 5 (verbs.PostSend (s 3 1 0) (request 911 true false false (ops.Write 4294971342 (k 8388608) (list ((piece 16777217 4294979428 31) ∷ (piece 16777217 4294976195 480) ∷ (piece 16777473 4294969699 11) ∷ (piece 16777473 4294980062 78) ∷ [])))))) (marks.Verb 5 (verbs.PostSend (s 3 1 0) (request 911 true false false (ops.Write 4294971342 (k 8388608) (list ((piece 16777217 4294979428 31) ∷ (piece 16777217 4294976195 480) ∷ (piece 16777473 4294969699 11) ∷ (piece 16777473 4294980062 78) ∷ []))))) (answers.Refused refusals.QueueState) ∷ [])
     ∷
@@ -431,9 +431,9 @@ history =
     ∷
     entry 201 0 (events.Verb 3 (verbs.Poll (s 2 0 0) 16 0)) (marks.Verb 3 (verbs.Poll (s 2 0 0) 16 0) (answers.Refused refusals.NoSuch) ∷ [])
     ∷
-    entry 202 0 (events.Verb 4 (verbs.Poll (s 3 0 1) 1 1)) (marks.Verb 4 (verbs.Poll (s 3 0 1) 1 1) (answers.Polled (polled ((completion (q 3 256) false 0 940 operations.Read statuses.Success 300 None None) ∷ []))) ∷ [])
+    entry 202 0 (events.Verb 4 (verbs.Poll (s 3 0 1) 1 1)) (marks.Verb 4 (verbs.Poll (s 3 0 1) 1 1) (answers.Polled ((completion (q 3 256) false 0 940 operations.Read statuses.Success 300 None None) ∷ [])) ∷ [])
     ∷
-    entry 203 0 (events.Verb 5 (verbs.Poll (s 3 1 0) 16 0)) (marks.Verb 5 (verbs.Poll (s 3 1 0) 16 0) (answers.Polled (polled ([]))) ∷ [])
+    entry 203 0 (events.Verb 5 (verbs.Poll (s 3 1 0) 16 0)) (marks.Verb 5 (verbs.Poll (s 3 1 0) 16 0) (answers.Polled ([])) ∷ [])
     ∷
     entry 204 0 (events.Deliver (q 0 256) 3) (marks.Arrived (q 0 256) (Some 3) ∷ marks.Dropped (q 0 256) drops.State ∷ [])
     ∷
@@ -483,7 +483,7 @@ history =
     ∷
     entry 227 0 (events.Verb 3 (verbs.PostRecv (s 2 0 0) (receive 1006 (list ((piece 257 4294969180 679) ∷ (piece 1 4294968530 4125) ∷ (piece 257 4294973736 235) ∷ (piece 257 4294970545 961) ∷ []))))) (marks.Verb 3 (verbs.PostRecv (s 2 0 0) (receive 1006 (list ((piece 257 4294969180 679) ∷ (piece 1 4294968530 4125) ∷ (piece 257 4294973736 235) ∷ (piece 257 4294970545 961) ∷ [])))) (answers.Refused refusals.NoSuch) ∷ [])
     ∷
-    entry 228 0 (events.Verb 5 (verbs.Poll (s 3 1 0) 16 0)) (marks.Verb 5 (verbs.Poll (s 3 1 0) 16 0) (answers.Polled (polled ([]))) ∷ [])
+    entry 228 0 (events.Verb 5 (verbs.Poll (s 3 1 0) 16 0)) (marks.Verb 5 (verbs.Poll (s 3 1 0) 16 0) (answers.Polled ([])) ∷ [])
     ∷
     entry 229 0 (events.Deliver (q 0 256) 5) (marks.Arrived (q 0 256) (Some 5) ∷ marks.Dropped (q 0 256) drops.State ∷ [])
     ∷
@@ -491,7 +491,7 @@ history =
     ∷
     entry 231 0 (events.Request (q 3 513) lots.Pass) (marks.Local (q 3 513) (d 3 1) (k 16777217) kinds.Read 4294968130 64 (verdicts.Read (0 ∷ 0 ∷ 0 ∷ 0 ∷ 0 ∷ 0 ∷ 0 ∷ 0 ∷ 0 ∷ 0 ∷ 0 ∷ 0 ∷ 0 ∷ 0 ∷ 0 ∷ 0 ∷ 0 ∷ 0 ∷ 0 ∷ 0 ∷ 0 ∷ 0 ∷ 0 ∷ 0 ∷ 0 ∷ 0 ∷ 0 ∷ 0 ∷ 0 ∷ 0 ∷ 0 ∷ 0 ∷ 0 ∷ 0 ∷ 0 ∷ 0 ∷ 0 ∷ 0 ∷ 0 ∷ 0 ∷ 0 ∷ 0 ∷ 0 ∷ 0 ∷ 0 ∷ 0 ∷ 0 ∷ 0 ∷ 0 ∷ 0 ∷ 0 ∷ 0 ∷ 0 ∷ 0 ∷ 0 ∷ 0 ∷ 0 ∷ 0 ∷ 0 ∷ 0 ∷ 0 ∷ 0 ∷ 0 ∷ 0 ∷ [])) ∷ marks.Sent (q 3 513) (q 0 256) (Some 7) (Some 3) (10 ∷ 0 ∷ 255 ∷ 255 ∷ 0 ∷ 0 ∷ 1 ∷ 0 ∷ 128 ∷ 0 ∷ 0 ∷ 6 ∷ 0 ∷ 0 ∷ 0 ∷ 1 ∷ 0 ∷ 0 ∷ 3 ∷ 10 ∷ 0 ∷ 0 ∷ 0 ∷ 1 ∷ 0 ∷ 0 ∷ 0 ∷ 64 ∷ 0 ∷ 0 ∷ 0 ∷ 0 ∷ 0 ∷ 0 ∷ 0 ∷ 0 ∷ 0 ∷ 0 ∷ 0 ∷ 0 ∷ 0 ∷ 0 ∷ 0 ∷ 0 ∷ 0 ∷ 0 ∷ 0 ∷ 0 ∷ 0 ∷ 0 ∷ 0 ∷ 0 ∷ 0 ∷ 0 ∷ 0 ∷ 0 ∷ 0 ∷ 0 ∷ 0 ∷ 0 ∷ 0 ∷ 0 ∷ 0 ∷ 0 ∷ 0 ∷ 0 ∷ 0 ∷ 0 ∷ 0 ∷ 0 ∷ 0 ∷ 0 ∷ 0 ∷ 0 ∷ 0 ∷ 0 ∷ 0 ∷ 0 ∷ 0 ∷ 0 ∷ 0 ∷ 0 ∷ 0 ∷ 0 ∷ 0 ∷ 0 ∷ 0 ∷ 0 ∷ 0 ∷ 0 ∷ 0 ∷ 0 ∷ []) ∷ [])
     ∷
-    entry 232 0 (events.Verb 2 (verbs.Poll (s 1 1 1) 16 0)) (marks.Verb 2 (verbs.Poll (s 1 1 1) 16 0) (answers.Polled (polled ([]))) ∷ [])
+    entry 232 0 (events.Verb 2 (verbs.Poll (s 1 1 1) 16 0)) (marks.Verb 2 (verbs.Poll (s 1 1 1) 16 0) (answers.Polled ([])) ∷ [])
     ∷
     entry 233 0 (events.Verb 3 (verbs.PostRecv (s 2 0 0) (receive 1007 (list ((piece 257 4294969358 6000) ∷ []))))) (marks.Verb 3 (verbs.PostRecv (s 2 0 0) (receive 1007 (list ((piece 257 4294969358 6000) ∷ [])))) (answers.Refused refusals.NoSuch) ∷ [])
     ∷
@@ -505,7 +505,7 @@ history =
     ∷
     entry 238 0 (events.Deliver (q 0 256) 7) (marks.Arrived (q 0 256) (Some 7) ∷ marks.Dropped (q 0 256) drops.State ∷ [])
     ∷
-    entry 239 0 (events.Verb 2 (verbs.Poll (s 1 1 2) 1 1)) (marks.Verb 2 (verbs.Poll (s 1 1 2) 1 1) (answers.Polled (polled ((completion (q 1 512) false 0 2 operations.Send statuses.Success 0 None None) ∷ []))) ∷ [])
+    entry 239 0 (events.Verb 2 (verbs.Poll (s 1 1 2) 1 1)) (marks.Verb 2 (verbs.Poll (s 1 1 2) 1 1) (answers.Polled ((completion (q 1 512) false 0 2 operations.Send statuses.Success 0 None None) ∷ [])) ∷ [])
     ∷
     entry 240 0 (events.Verb 3 (verbs.Poll (s 2 0 0) 16 0)) (marks.Verb 3 (verbs.Poll (s 2 0 0) 16 0) (answers.Refused refusals.NoSuch) ∷ [])
     ∷

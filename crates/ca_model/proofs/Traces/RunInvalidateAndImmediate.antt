@@ -19,7 +19,7 @@ use Rattle.ca_wire.specs.Packet.{be_bytes, packet_bytes}
 use Rattle.ca_wire.specs.Table.{row_of}
 use Rattle.ca_model.specs.Entries.{EntryValue}
 use Rattle.ca_model.specs.machine.Run.{run as outcome_of}
-use Rattle.ca_model.proofs.Literals.{d, s, q, k, r, run, place, piece, list, polled, request, receive, completion, grant, entry, adapter}
+use Rattle.ca_model.proofs.Literals.{d, s, q, k, r, run, place, piece, list, request, receive, completion, grant, entry, adapter}
 
 abbrev history : List EntryValue
 history =
@@ -125,7 +125,7 @@ history =
     ∷
     entry 50 0 (events.Verb 1 (verbs.ModifyQp (s 0 1 2) (changes.Rtr (q 1 257) 1 16777214 256 6))) (marks.Verb 1 (verbs.ModifyQp (s 0 1 2) (changes.Rtr (q 1 257) 1 16777214 256 6)) answers.Fine ∷ [])
     ∷
-    entry 51 0 (events.Verb 2 (verbs.Poll (s 1 0 1) 16 0)) (marks.Verb 2 (verbs.Poll (s 1 0 1) 16 0) (answers.Polled (polled ([]))) ∷ [])
+    entry 51 0 (events.Verb 2 (verbs.Poll (s 1 0 1) 16 0)) (marks.Verb 2 (verbs.Poll (s 1 0 1) 16 0) (answers.Polled ([])) ∷ [])
     ∷
     entry 52 0 (events.Verb 3 (verbs.PostRecv (s 1 1 0) (receive 1003 (list ((piece 16777473 4294971165 6000) ∷ []))))) (marks.Verb 3 (verbs.PostRecv (s 1 1 0) (receive 1003 (list ((piece 16777473 4294971165 6000) ∷ [])))) (answers.Posted None) ∷ [])
     ∷
@@ -137,13 +137,13 @@ history =
     ∷
     entry 56 0 (events.Verb 3 (verbs.PostRecv (s 1 1 0) (receive 1004 (list ((piece 16777217 4294967915 6000) ∷ []))))) (marks.Verb 3 (verbs.PostRecv (s 1 1 0) (receive 1004 (list ((piece 16777217 4294967915 6000) ∷ [])))) (answers.Posted None) ∷ [])
     ∷
-    entry 57 0 (events.Verb 0 (verbs.Poll (s 0 0 1) 16 0)) (marks.Verb 0 (verbs.Poll (s 0 0 1) 16 0) (answers.Polled (polled ([]))) ∷ [])
+    entry 57 0 (events.Verb 0 (verbs.Poll (s 0 0 1) 16 0)) (marks.Verb 0 (verbs.Poll (s 0 0 1) 16 0) (answers.Polled ([])) ∷ [])
     ∷
     entry 58 0 (events.Verb 1 (verbs.PostRecv (s 0 1 2) (receive 1002 (list ((piece 16777473 4294991303 4231) ∷ (piece 16777473 4295017895 3) ∷ (piece 16777473 4294993008 1766) ∷ []))))) (marks.Verb 1 (verbs.PostRecv (s 0 1 2) (receive 1002 (list ((piece 16777473 4294991303 4231) ∷ (piece 16777473 4295017895 3) ∷ (piece 16777473 4294993008 1766) ∷ [])))) (answers.Posted None) ∷ [])
     ∷
     entry 59 0 (events.Verb 2 (verbs.ModifyQp (s 1 0 0) (changes.Rtr (q 0 256) 1 0 256 11))) (marks.Verb 2 (verbs.ModifyQp (s 1 0 0) (changes.Rtr (q 0 256) 1 0 256 11)) answers.Fine ∷ [])
     ∷
-    entry 60 0 (events.Verb 3 (verbs.Poll (s 1 1 0) 16 0)) (marks.Verb 3 (verbs.Poll (s 1 1 0) 16 0) (answers.Polled (polled ([]))) ∷ [])
+    entry 60 0 (events.Verb 3 (verbs.Poll (s 1 1 0) 16 0)) (marks.Verb 3 (verbs.Poll (s 1 1 0) 16 0) (answers.Polled ([])) ∷ [])
     ∷
     entry 61 0 (events.Verb 1 (verbs.ModifyQp (s 0 1 0) changes.Init)) (marks.Verb 1 (verbs.ModifyQp (s 0 1 0) changes.Init) answers.Fine ∷ [])
     ∷
@@ -165,9 +165,9 @@ history =
     ∷
     entry 70 0 (events.Verb 1 (verbs.PostRecv (s 0 1 0) (receive 1001 (list ((piece 16777217 4294970911 6000) ∷ []))))) (marks.Verb 1 (verbs.PostRecv (s 0 1 0) (receive 1001 (list ((piece 16777217 4294970911 6000) ∷ [])))) (answers.Posted None) ∷ [])
     ∷
-    entry 71 0 (events.Verb 2 (verbs.Poll (s 1 0 1) 16 0)) (marks.Verb 2 (verbs.Poll (s 1 0 1) 16 0) (answers.Polled (polled ([]))) ∷ [])
+    entry 71 0 (events.Verb 2 (verbs.Poll (s 1 0 1) 16 0)) (marks.Verb 2 (verbs.Poll (s 1 0 1) 16 0) (answers.Polled ([])) ∷ [])
     ∷
-    entry 72 0 (events.Verb 3 (verbs.Poll (s 1 1 1) 16 0)) (marks.Verb 3 (verbs.Poll (s 1 1 1) 16 0) (answers.Polled (polled ([]))) ∷ [])
+    entry 72 0 (events.Verb 3 (verbs.Poll (s 1 1 1) 16 0)) (marks.Verb 3 (verbs.Poll (s 1 1 1) 16 0) (answers.Polled ([])) ∷ [])
     ∷
     entry 73 0 (events.Deliver (q 0 256) 0) (marks.Arrived (q 0 256) (Some 0) ∷ [])
     ∷
@@ -201,11 +201,11 @@ history =
     ∷
     entry 88 0 (events.Request (q 1 512) lots.Pass) (marks.Local (q 1 512) (d 1 1) (k 16777473) kinds.Read 4294967651 256 (verdicts.Read (0 ∷ 0 ∷ 0 ∷ 0 ∷ 0 ∷ 0 ∷ 0 ∷ 0 ∷ 0 ∷ 0 ∷ 0 ∷ 0 ∷ 0 ∷ 0 ∷ 0 ∷ 0 ∷ 0 ∷ 0 ∷ 0 ∷ 0 ∷ 0 ∷ 0 ∷ 0 ∷ 0 ∷ 0 ∷ 0 ∷ 0 ∷ 0 ∷ 0 ∷ 0 ∷ 0 ∷ 0 ∷ 0 ∷ 0 ∷ 0 ∷ 0 ∷ 0 ∷ 0 ∷ 0 ∷ 0 ∷ 0 ∷ 0 ∷ 0 ∷ 0 ∷ 0 ∷ 0 ∷ 0 ∷ 0 ∷ 0 ∷ 0 ∷ 0 ∷ 0 ∷ 0 ∷ 0 ∷ 0 ∷ 0 ∷ 0 ∷ 0 ∷ 0 ∷ 0 ∷ 0 ∷ 0 ∷ 0 ∷ 0 ∷ 0 ∷ 0 ∷ 0 ∷ 0 ∷ 0 ∷ 0 ∷ 0 ∷ 0 ∷ 0 ∷ 0 ∷ 0 ∷ 0 ∷ 0 ∷ 0 ∷ 0 ∷ 0 ∷ 0 ∷ 0 ∷ 0 ∷ 0 ∷ 0 ∷ 0 ∷ 0 ∷ 0 ∷ 0 ∷ 0 ∷ 0 ∷ 0 ∷ 0 ∷ 0 ∷ 0 ∷ 0 ∷ 0 ∷ 0 ∷ 0 ∷ 0 ∷ 0 ∷ 0 ∷ 0 ∷ 0 ∷ 0 ∷ 0 ∷ 0 ∷ 0 ∷ 0 ∷ 0 ∷ 0 ∷ 0 ∷ 0 ∷ 0 ∷ 0 ∷ 0 ∷ 0 ∷ 0 ∷ 0 ∷ 0 ∷ 0 ∷ 0 ∷ 0 ∷ 0 ∷ 0 ∷ 0 ∷ 0 ∷ 0 ∷ 0 ∷ 0 ∷ 0 ∷ 0 ∷ 0 ∷ 0 ∷ 0 ∷ 0 ∷ 0 ∷ 0 ∷ 0 ∷ 0 ∷ 0 ∷ 0 ∷ 0 ∷ 0 ∷ 0 ∷ 0 ∷ 0 ∷ 0 ∷ 0 ∷ 0 ∷ 0 ∷ 0 ∷ 0 ∷ 0 ∷ 0 ∷ 0 ∷ 0 ∷ 0 ∷ 0 ∷ 0 ∷ 0 ∷ 0 ∷ 0 ∷ 0 ∷ 0 ∷ 0 ∷ 0 ∷ 0 ∷ 0 ∷ 0 ∷ 0 ∷ 0 ∷ 0 ∷ 0 ∷ 0 ∷ 0 ∷ 0 ∷ 0 ∷ 0 ∷ 0 ∷ 0 ∷ 0 ∷ 0 ∷ 0 ∷ 0 ∷ 0 ∷ 0 ∷ 0 ∷ 0 ∷ 0 ∷ 0 ∷ 0 ∷ 0 ∷ 0 ∷ 0 ∷ 0 ∷ 0 ∷ 0 ∷ 0 ∷ 0 ∷ 0 ∷ 0 ∷ 0 ∷ 0 ∷ 0 ∷ 0 ∷ 0 ∷ 0 ∷ 0 ∷ 0 ∷ 0 ∷ 0 ∷ 0 ∷ 0 ∷ 0 ∷ 0 ∷ 0 ∷ 0 ∷ 0 ∷ 0 ∷ 0 ∷ 0 ∷ 0 ∷ 0 ∷ 0 ∷ 0 ∷ 0 ∷ 0 ∷ 0 ∷ 0 ∷ 0 ∷ 0 ∷ 0 ∷ 0 ∷ 0 ∷ 0 ∷ 0 ∷ 0 ∷ 0 ∷ 0 ∷ 0 ∷ 0 ∷ 0 ∷ 0 ∷ 0 ∷ 0 ∷ 0 ∷ 0 ∷ 0 ∷ 0 ∷ 0 ∷ 0 ∷ 0 ∷ 0 ∷ 0 ∷ 0 ∷ [])) ∷ marks.Sent (q 1 512) (q 0 512) (Some 1) (Some 1) (5 ∷ 0 ∷ 255 ∷ 255 ∷ 0 ∷ 0 ∷ 2 ∷ 0 ∷ 128 ∷ 0 ∷ 0 ∷ 1 ∷ 193 ∷ 134 ∷ 67 ∷ 183 ∷ 0 ∷ 0 ∷ 0 ∷ 0 ∷ 0 ∷ 0 ∷ 0 ∷ 0 ∷ 0 ∷ 0 ∷ 0 ∷ 0 ∷ 0 ∷ 0 ∷ 0 ∷ 0 ∷ 0 ∷ 0 ∷ 0 ∷ 0 ∷ 0 ∷ 0 ∷ 0 ∷ 0 ∷ 0 ∷ 0 ∷ 0 ∷ 0 ∷ 0 ∷ 0 ∷ 0 ∷ 0 ∷ 0 ∷ 0 ∷ 0 ∷ 0 ∷ 0 ∷ 0 ∷ 0 ∷ 0 ∷ 0 ∷ 0 ∷ 0 ∷ 0 ∷ 0 ∷ 0 ∷ 0 ∷ 0 ∷ 0 ∷ 0 ∷ 0 ∷ 0 ∷ 0 ∷ 0 ∷ 0 ∷ 0 ∷ 0 ∷ 0 ∷ 0 ∷ 0 ∷ 0 ∷ 0 ∷ 0 ∷ 0 ∷ 0 ∷ 0 ∷ 0 ∷ 0 ∷ 0 ∷ 0 ∷ 0 ∷ 0 ∷ 0 ∷ 0 ∷ 0 ∷ 0 ∷ 0 ∷ 0 ∷ 0 ∷ 0 ∷ 0 ∷ 0 ∷ 0 ∷ 0 ∷ 0 ∷ 0 ∷ 0 ∷ 0 ∷ 0 ∷ 0 ∷ 0 ∷ 0 ∷ 0 ∷ 0 ∷ 0 ∷ 0 ∷ 0 ∷ 0 ∷ 0 ∷ 0 ∷ 0 ∷ 0 ∷ 0 ∷ 0 ∷ 0 ∷ 0 ∷ 0 ∷ 0 ∷ 0 ∷ 0 ∷ 0 ∷ 0 ∷ 0 ∷ 0 ∷ 0 ∷ 0 ∷ 0 ∷ 0 ∷ 0 ∷ 0 ∷ 0 ∷ 0 ∷ 0 ∷ 0 ∷ 0 ∷ 0 ∷ 0 ∷ 0 ∷ 0 ∷ 0 ∷ 0 ∷ 0 ∷ 0 ∷ 0 ∷ 0 ∷ 0 ∷ 0 ∷ 0 ∷ 0 ∷ 0 ∷ 0 ∷ 0 ∷ 0 ∷ 0 ∷ 0 ∷ 0 ∷ 0 ∷ 0 ∷ 0 ∷ 0 ∷ 0 ∷ 0 ∷ 0 ∷ 0 ∷ 0 ∷ 0 ∷ 0 ∷ 0 ∷ 0 ∷ 0 ∷ 0 ∷ 0 ∷ 0 ∷ 0 ∷ 0 ∷ 0 ∷ 0 ∷ 0 ∷ 0 ∷ 0 ∷ 0 ∷ 0 ∷ 0 ∷ 0 ∷ 0 ∷ 0 ∷ 0 ∷ 0 ∷ 0 ∷ 0 ∷ 0 ∷ 0 ∷ 0 ∷ 0 ∷ 0 ∷ 0 ∷ 0 ∷ 0 ∷ 0 ∷ 0 ∷ 0 ∷ 0 ∷ 0 ∷ 0 ∷ 0 ∷ 0 ∷ 0 ∷ 0 ∷ 0 ∷ 0 ∷ 0 ∷ 0 ∷ 0 ∷ 0 ∷ 0 ∷ 0 ∷ 0 ∷ 0 ∷ 0 ∷ 0 ∷ 0 ∷ 0 ∷ 0 ∷ 0 ∷ 0 ∷ 0 ∷ 0 ∷ 0 ∷ 0 ∷ 0 ∷ 0 ∷ 0 ∷ 0 ∷ 0 ∷ 0 ∷ 0 ∷ 0 ∷ 0 ∷ 0 ∷ 0 ∷ 0 ∷ 0 ∷ 0 ∷ 0 ∷ 0 ∷ 0 ∷ 0 ∷ 0 ∷ 0 ∷ 0 ∷ 0 ∷ 0 ∷ 0 ∷ 0 ∷ 0 ∷ 0 ∷ 0 ∷ 0 ∷ 0 ∷ 0 ∷ 0 ∷ 0 ∷ 0 ∷ 0 ∷ 0 ∷ 0 ∷ []) ∷ [])
     ∷
-    entry 89 0 (events.Verb 0 (verbs.Poll (s 0 0 0) 2 0)) (marks.Verb 0 (verbs.Poll (s 0 0 0) 2 0) (answers.Polled (polled ([]))) ∷ [])
+    entry 89 0 (events.Verb 0 (verbs.Poll (s 0 0 0) 2 0)) (marks.Verb 0 (verbs.Poll (s 0 0 0) 2 0) (answers.Polled ([])) ∷ [])
     ∷
-    entry 90 0 (events.Verb 1 (verbs.Poll (s 0 1 0) 16 0)) (marks.Verb 1 (verbs.Poll (s 0 1 0) 16 0) (answers.Polled (polled ([]))) ∷ [])
+    entry 90 0 (events.Verb 1 (verbs.Poll (s 0 1 0) 16 0)) (marks.Verb 1 (verbs.Poll (s 0 1 0) 16 0) (answers.Polled ([])) ∷ [])
     ∷
-    entry 91 0 (events.Verb 2 (verbs.Poll (s 1 0 1) 16 0)) (marks.Verb 2 (verbs.Poll (s 1 0 1) 16 0) (answers.Polled (polled ([]))) ∷ [])
+    entry 91 0 (events.Verb 2 (verbs.Poll (s 1 0 1) 16 0)) (marks.Verb 2 (verbs.Poll (s 1 0 1) 16 0) (answers.Polled ([])) ∷ [])
     ∷
     entry 92 0 (events.Verb 3 (verbs.PostSend (s 1 1 0) (request 7 true false false (ops.Read 4295005598 (k 16777473) (list ((piece 16777473 4294982943 136) ∷ (piece 16777217 4294980434 23) ∷ (piece 16777473 4294997155 97) ∷ [])))))) (marks.Verb 3 (verbs.PostSend (s 1 1 0) (request 7 true false false (ops.Read 4295005598 (k 16777473) (list ((piece 16777473 4294982943 136) ∷ (piece 16777217 4294980434 23) ∷ (piece 16777473 4294997155 97) ∷ []))))) (answers.Posted None) ∷ [])
     ∷
@@ -225,9 +225,9 @@ history =
     ∷
     entry 100 0 (events.Verb 1 (verbs.PostSend (s 0 1 0) (request 3 true false false (ops.Write 4294971475 (k 16777473) (list ((piece 16777473 4294990320 8) ∷ [])))))) (marks.Verb 1 (verbs.PostSend (s 0 1 0) (request 3 true false false (ops.Write 4294971475 (k 16777473) (list ((piece 16777473 4294990320 8) ∷ []))))) (answers.Posted None) ∷ [])
     ∷
-    entry 101 0 (events.Verb 2 (verbs.Poll (s 1 0 1) 1 1)) (marks.Verb 2 (verbs.Poll (s 1 0 1) 1 1) (answers.Polled (polled ((completion (q 1 256) true 0 1002 operations.Recv statuses.Success 255 None None) ∷ []))) ∷ [])
+    entry 101 0 (events.Verb 2 (verbs.Poll (s 1 0 1) 1 1)) (marks.Verb 2 (verbs.Poll (s 1 0 1) 1 1) (answers.Polled ((completion (q 1 256) true 0 1002 operations.Recv statuses.Success 255 None None) ∷ [])) ∷ [])
     ∷
-    entry 102 0 (events.Verb 3 (verbs.Poll (s 1 1 1) 16 0)) (marks.Verb 3 (verbs.Poll (s 1 1 1) 16 0) (answers.Polled (polled ((completion (q 1 512) false 0 5 operations.Send statuses.Success 0 None None) ∷ []))) ∷ [])
+    entry 102 0 (events.Verb 3 (verbs.Poll (s 1 1 1) 16 0)) (marks.Verb 3 (verbs.Poll (s 1 1 1) 16 0) (answers.Polled ((completion (q 1 512) false 0 5 operations.Send statuses.Success 0 None None) ∷ [])) ∷ [])
     ∷
     entry 103 0 (events.Deliver (q 0 256) 1) (marks.Arrived (q 0 256) (Some 1) ∷ marks.Done (q 0 256) (completion (q 0 256) false 0 3 operations.Send statuses.Success 0 None None) None ∷ [])
     ∷
@@ -243,7 +243,7 @@ history =
     ∷
     entry 109 0 (events.Respond (q 1 512) lots.Pass) (marks.Sent (q 1 512) (q 0 512) (Some 3) None (17 ∷ 0 ∷ 255 ∷ 255 ∷ 0 ∷ 0 ∷ 2 ∷ 0 ∷ 0 ∷ 128 ∷ 0 ∷ 0 ∷ 96 ∷ 0 ∷ 0 ∷ 0 ∷ []) ∷ [])
     ∷
-    entry 110 0 (events.Verb 0 (verbs.Poll (s 0 0 0) 16 0)) (marks.Verb 0 (verbs.Poll (s 0 0 0) 16 0) (answers.Polled (polled ((completion (q 0 256) false 0 3 operations.Send statuses.Success 0 None None) ∷ []))) ∷ [])
+    entry 110 0 (events.Verb 0 (verbs.Poll (s 0 0 0) 16 0)) (marks.Verb 0 (verbs.Poll (s 0 0 0) 16 0) (answers.Polled ((completion (q 0 256) false 0 3 operations.Send statuses.Success 0 None None) ∷ [])) ∷ [])
     ∷
     entry 111 0 (events.Verb 1 (verbs.PostRecv (s 0 1 0) (receive 1004 (list ((piece 16777473 4295017069 6000) ∷ []))))) (marks.Verb 1 (verbs.PostRecv (s 0 1 0) (receive 1004 (list ((piece 16777473 4295017069 6000) ∷ [])))) (answers.Posted None) ∷ [])
     ∷
@@ -291,9 +291,9 @@ history =
     ∷
     entry 133 0 (events.Verb 0 (verbs.PostRecv (s 0 0 0) (receive 1006 (list ((piece 257 4294968775 6000) ∷ []))))) (marks.Verb 0 (verbs.PostRecv (s 0 0 0) (receive 1006 (list ((piece 257 4294968775 6000) ∷ [])))) (answers.Posted None) ∷ [])
     ∷
-    entry 134 0 (events.Verb 1 (verbs.Poll (s 0 1 1) 16 0)) (marks.Verb 1 (verbs.Poll (s 0 1 1) 16 0) (answers.Polled (polled ((completion (q 0 512) true 0 1001 operations.Recv statuses.Success 1000 None None) ∷ []))) ∷ [])
+    entry 134 0 (events.Verb 1 (verbs.Poll (s 0 1 1) 16 0)) (marks.Verb 1 (verbs.Poll (s 0 1 1) 16 0) (answers.Polled ((completion (q 0 512) true 0 1001 operations.Recv statuses.Success 1000 None None) ∷ [])) ∷ [])
     ∷
-    entry 135 0 (events.Verb 2 (verbs.Poll (s 1 0 1) 16 0)) (marks.Verb 2 (verbs.Poll (s 1 0 1) 16 0) (answers.Polled (polled ((completion (q 1 256) false 0 1 operations.Read statuses.Success 1000 None None) ∷ []))) ∷ [])
+    entry 135 0 (events.Verb 2 (verbs.Poll (s 1 0 1) 16 0)) (marks.Verb 2 (verbs.Poll (s 1 0 1) 16 0) (answers.Polled ((completion (q 1 256) false 0 1 operations.Read statuses.Success 1000 None None) ∷ [])) ∷ [])
     ∷
     entry 136 0 (events.Verb 3 (verbs.PostSend (s 1 1 0) (request 10 true false false (ops.Send (list ((piece 16777217 4294989792 5) ∷ (piece 16777473 4294994123 330) ∷ (piece 16777217 4294974969 8) ∷ (piece 16777217 4294981536 169) ∷ [])))))) (marks.Verb 3 (verbs.PostSend (s 1 1 0) (request 10 true false false (ops.Send (list ((piece 16777217 4294989792 5) ∷ (piece 16777473 4294994123 330) ∷ (piece 16777217 4294974969 8) ∷ (piece 16777217 4294981536 169) ∷ []))))) (answers.Posted None) ∷ [])
     ∷
@@ -331,7 +331,7 @@ history =
     ∷
     entry 153 0 (events.Request (q 1 512) (lots.Repeat 3)) (marks.Sent (q 1 512) (q 0 512) (Some 9) (Some 5) (23 ∷ 0 ∷ 255 ∷ 255 ∷ 0 ∷ 0 ∷ 2 ∷ 0 ∷ 128 ∷ 0 ∷ 0 ∷ 5 ∷ 1 ∷ 0 ∷ 4 ∷ 1 ∷ []) ∷ [])
     ∷
-    entry 154 0 (events.Verb 1 (verbs.Poll (s 0 1 0) 16 0)) (marks.Verb 1 (verbs.Poll (s 0 1 0) 16 0) (answers.Polled (polled ((completion (q 0 512) false 0 2 operations.FetchAdd statuses.Success 8 None None) ∷ (completion (q 0 512) false 1 3 operations.Write statuses.Success 0 None None) ∷ []))) ∷ [])
+    entry 154 0 (events.Verb 1 (verbs.Poll (s 0 1 0) 16 0)) (marks.Verb 1 (verbs.Poll (s 0 1 0) 16 0) (answers.Polled ((completion (q 0 512) false 0 2 operations.FetchAdd statuses.Success 8 None None) ∷ (completion (q 0 512) false 1 3 operations.Write statuses.Success 0 None None) ∷ [])) ∷ [])
     ∷
     entry 155 0 (events.Verb 2 (verbs.PostSend (s 1 0 1) (request 5 true false false (ops.Write 4091 (k 16778241) (list ([])))))) (marks.Verb 2 (verbs.PostSend (s 1 0 1) (request 5 true false false (ops.Write 4091 (k 16778241) (list ([]))))) (answers.Posted None) ∷ [])
     ∷

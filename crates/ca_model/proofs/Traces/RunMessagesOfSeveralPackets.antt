@@ -21,7 +21,7 @@ use Rattle.ca_wire.specs.Packet.{be_bytes, packet_bytes}
 use Rattle.ca_wire.specs.Table.{row_of}
 use Rattle.ca_model.specs.Entries.{EntryValue}
 use Rattle.ca_model.specs.machine.Run.{run as outcome_of}
-use Rattle.ca_model.proofs.Literals.{d, s, q, k, r, run, piece, list, polled, request, receive, completion, grant, entry, adapter}
+use Rattle.ca_model.proofs.Literals.{d, s, q, k, r, run, piece, list, request, receive, completion, grant, entry, adapter}
 
 abbrev history : List EntryValue
 history =
@@ -161,7 +161,7 @@ history =
     ∷
     entry 67 0 (events.Verb 1 (verbs.PostRecv (s 1 0 0) (receive 1001 (list ((piece 1 4294971551 8) ∷ (piece 257 8589935050 0) ∷ (piece 257 8589934966 45) ∷ (piece 1 4294975423 11) ∷ []))))) (marks.Verb 1 (verbs.PostRecv (s 1 0 0) (receive 1001 (list ((piece 1 4294971551 8) ∷ (piece 257 8589935050 0) ∷ (piece 257 8589934966 45) ∷ (piece 1 4294975423 11) ∷ [])))) (answers.Posted None) ∷ [])
     ∷
-    entry 68 0 (events.Verb 1 (verbs.Poll (s 1 0 0) 16 0)) (marks.Verb 1 (verbs.Poll (s 1 0 0) 16 0) (answers.Polled (polled ([]))) ∷ [])
+    entry 68 0 (events.Verb 1 (verbs.Poll (s 1 0 0) 16 0)) (marks.Verb 1 (verbs.Poll (s 1 0 0) 16 0) (answers.Polled ([])) ∷ [])
     ∷
     entry 69 0 (events.Verb 1 (verbs.PostRecv (s 1 0 0) (receive 1002 (list ((piece 1 4294968561 5940) ∷ (piece 1 4294967489 375) ∷ (piece 1 4294973994 1447) ∷ (piece 257 8589934803 238) ∷ []))))) (marks.Verb 1 (verbs.PostRecv (s 1 0 0) (receive 1002 (list ((piece 1 4294968561 5940) ∷ (piece 1 4294967489 375) ∷ (piece 1 4294973994 1447) ∷ (piece 257 8589934803 238) ∷ [])))) (answers.Posted None) ∷ [])
     ∷
@@ -173,7 +173,7 @@ history =
     ∷
     entry 73 0 (events.Verb 0 (verbs.PostSend (s 0 0 1) (request 1 false false false (ops.Send (list ((piece 1 4295033124 8) ∷ [])))))) (marks.Verb 0 (verbs.PostSend (s 0 0 1) (request 1 false false false (ops.Send (list ((piece 1 4295033124 8) ∷ []))))) (answers.Posted None) ∷ [])
     ∷
-    entry 74 0 (events.Verb 1 (verbs.Poll (s 1 0 0) 4 0)) (marks.Verb 1 (verbs.Poll (s 1 0 0) 4 0) (answers.Polled (polled ([]))) ∷ [])
+    entry 74 0 (events.Verb 1 (verbs.Poll (s 1 0 0) 4 0)) (marks.Verb 1 (verbs.Poll (s 1 0 0) 4 0) (answers.Polled ([])) ∷ [])
     ∷
     entry 75 0 (events.Verb 3 (verbs.PostSend (s 1 2 0) (request 911 true false false (ops.Write 4294970294 (k 1) (list ((piece 33554689 4294972914 2000) ∷ [])))))) (marks.Verb 3 (verbs.PostSend (s 1 2 0) (request 911 true false false (ops.Write 4294970294 (k 1) (list ((piece 33554689 4294972914 2000) ∷ []))))) (answers.Posted None) ∷ [])
     ∷
@@ -185,7 +185,7 @@ history =
     ∷
     entry 79 0 (events.Request (q 1 768) lots.Pass) (marks.Local (q 1 768) (d 1 2) (k 33554689) kinds.Read 4294972914 256 (verdicts.Read (0 ∷ 0 ∷ 0 ∷ 0 ∷ 0 ∷ 0 ∷ 0 ∷ 0 ∷ 0 ∷ 0 ∷ 0 ∷ 0 ∷ 0 ∷ 0 ∷ 0 ∷ 0 ∷ 0 ∷ 0 ∷ 0 ∷ 0 ∷ 0 ∷ 0 ∷ 0 ∷ 0 ∷ 0 ∷ 0 ∷ 0 ∷ 0 ∷ 0 ∷ 0 ∷ 0 ∷ 0 ∷ 0 ∷ 0 ∷ 0 ∷ 0 ∷ 0 ∷ 0 ∷ 0 ∷ 0 ∷ 0 ∷ 0 ∷ 0 ∷ 0 ∷ 0 ∷ 0 ∷ 0 ∷ 0 ∷ 0 ∷ 0 ∷ 0 ∷ 0 ∷ 0 ∷ 0 ∷ 0 ∷ 0 ∷ 0 ∷ 0 ∷ 0 ∷ 0 ∷ 0 ∷ 0 ∷ 0 ∷ 0 ∷ 0 ∷ 0 ∷ 0 ∷ 0 ∷ 0 ∷ 0 ∷ 0 ∷ 0 ∷ 0 ∷ 0 ∷ 0 ∷ 0 ∷ 0 ∷ 0 ∷ 0 ∷ 0 ∷ 0 ∷ 0 ∷ 0 ∷ 0 ∷ 0 ∷ 0 ∷ 0 ∷ 0 ∷ 0 ∷ 0 ∷ 0 ∷ 0 ∷ 0 ∷ 0 ∷ 0 ∷ 0 ∷ 0 ∷ 0 ∷ 0 ∷ 0 ∷ 0 ∷ 0 ∷ 0 ∷ 0 ∷ 0 ∷ 0 ∷ 0 ∷ 0 ∷ 0 ∷ 0 ∷ 0 ∷ 0 ∷ 0 ∷ 0 ∷ 0 ∷ 0 ∷ 0 ∷ 0 ∷ 0 ∷ 0 ∷ 0 ∷ 0 ∷ 0 ∷ 0 ∷ 0 ∷ 0 ∷ 0 ∷ 0 ∷ 0 ∷ 0 ∷ 0 ∷ 0 ∷ 0 ∷ 0 ∷ 0 ∷ 0 ∷ 0 ∷ 0 ∷ 0 ∷ 0 ∷ 0 ∷ 0 ∷ 0 ∷ 0 ∷ 0 ∷ 0 ∷ 0 ∷ 0 ∷ 0 ∷ 0 ∷ 0 ∷ 0 ∷ 0 ∷ 0 ∷ 0 ∷ 0 ∷ 0 ∷ 0 ∷ 0 ∷ 0 ∷ 0 ∷ 0 ∷ 0 ∷ 0 ∷ 0 ∷ 0 ∷ 0 ∷ 0 ∷ 0 ∷ 0 ∷ 0 ∷ 0 ∷ 0 ∷ 0 ∷ 0 ∷ 0 ∷ 0 ∷ 0 ∷ 0 ∷ 0 ∷ 0 ∷ 0 ∷ 0 ∷ 0 ∷ 0 ∷ 0 ∷ 0 ∷ 0 ∷ 0 ∷ 0 ∷ 0 ∷ 0 ∷ 0 ∷ 0 ∷ 0 ∷ 0 ∷ 0 ∷ 0 ∷ 0 ∷ 0 ∷ 0 ∷ 0 ∷ 0 ∷ 0 ∷ 0 ∷ 0 ∷ 0 ∷ 0 ∷ 0 ∷ 0 ∷ 0 ∷ 0 ∷ 0 ∷ 0 ∷ 0 ∷ 0 ∷ 0 ∷ 0 ∷ 0 ∷ 0 ∷ 0 ∷ 0 ∷ 0 ∷ 0 ∷ 0 ∷ 0 ∷ 0 ∷ 0 ∷ 0 ∷ 0 ∷ 0 ∷ 0 ∷ 0 ∷ 0 ∷ 0 ∷ 0 ∷ 0 ∷ 0 ∷ 0 ∷ 0 ∷ 0 ∷ 0 ∷ 0 ∷ 0 ∷ 0 ∷ 0 ∷ 0 ∷ 0 ∷ 0 ∷ 0 ∷ 0 ∷ 0 ∷ 0 ∷ 0 ∷ 0 ∷ 0 ∷ [])) ∷ marks.Sent (q 1 768) (q 1 257) (Some 0) (Some 0) (6 ∷ 0 ∷ 255 ∷ 255 ∷ 0 ∷ 0 ∷ 1 ∷ 1 ∷ 0 ∷ 36 ∷ 176 ∷ 49 ∷ 0 ∷ 0 ∷ 0 ∷ 1 ∷ 0 ∷ 0 ∷ 11 ∷ 182 ∷ 0 ∷ 0 ∷ 0 ∷ 1 ∷ 0 ∷ 0 ∷ 7 ∷ 208 ∷ 0 ∷ 0 ∷ 0 ∷ 0 ∷ 0 ∷ 0 ∷ 0 ∷ 0 ∷ 0 ∷ 0 ∷ 0 ∷ 0 ∷ 0 ∷ 0 ∷ 0 ∷ 0 ∷ 0 ∷ 0 ∷ 0 ∷ 0 ∷ 0 ∷ 0 ∷ 0 ∷ 0 ∷ 0 ∷ 0 ∷ 0 ∷ 0 ∷ 0 ∷ 0 ∷ 0 ∷ 0 ∷ 0 ∷ 0 ∷ 0 ∷ 0 ∷ 0 ∷ 0 ∷ 0 ∷ 0 ∷ 0 ∷ 0 ∷ 0 ∷ 0 ∷ 0 ∷ 0 ∷ 0 ∷ 0 ∷ 0 ∷ 0 ∷ 0 ∷ 0 ∷ 0 ∷ 0 ∷ 0 ∷ 0 ∷ 0 ∷ 0 ∷ 0 ∷ 0 ∷ 0 ∷ 0 ∷ 0 ∷ 0 ∷ 0 ∷ 0 ∷ 0 ∷ 0 ∷ 0 ∷ 0 ∷ 0 ∷ 0 ∷ 0 ∷ 0 ∷ 0 ∷ 0 ∷ 0 ∷ 0 ∷ 0 ∷ 0 ∷ 0 ∷ 0 ∷ 0 ∷ 0 ∷ 0 ∷ 0 ∷ 0 ∷ 0 ∷ 0 ∷ 0 ∷ 0 ∷ 0 ∷ 0 ∷ 0 ∷ 0 ∷ 0 ∷ 0 ∷ 0 ∷ 0 ∷ 0 ∷ 0 ∷ 0 ∷ 0 ∷ 0 ∷ 0 ∷ 0 ∷ 0 ∷ 0 ∷ 0 ∷ 0 ∷ 0 ∷ 0 ∷ 0 ∷ 0 ∷ 0 ∷ 0 ∷ 0 ∷ 0 ∷ 0 ∷ 0 ∷ 0 ∷ 0 ∷ 0 ∷ 0 ∷ 0 ∷ 0 ∷ 0 ∷ 0 ∷ 0 ∷ 0 ∷ 0 ∷ 0 ∷ 0 ∷ 0 ∷ 0 ∷ 0 ∷ 0 ∷ 0 ∷ 0 ∷ 0 ∷ 0 ∷ 0 ∷ 0 ∷ 0 ∷ 0 ∷ 0 ∷ 0 ∷ 0 ∷ 0 ∷ 0 ∷ 0 ∷ 0 ∷ 0 ∷ 0 ∷ 0 ∷ 0 ∷ 0 ∷ 0 ∷ 0 ∷ 0 ∷ 0 ∷ 0 ∷ 0 ∷ 0 ∷ 0 ∷ 0 ∷ 0 ∷ 0 ∷ 0 ∷ 0 ∷ 0 ∷ 0 ∷ 0 ∷ 0 ∷ 0 ∷ 0 ∷ 0 ∷ 0 ∷ 0 ∷ 0 ∷ 0 ∷ 0 ∷ 0 ∷ 0 ∷ 0 ∷ 0 ∷ 0 ∷ 0 ∷ 0 ∷ 0 ∷ 0 ∷ 0 ∷ 0 ∷ 0 ∷ 0 ∷ 0 ∷ 0 ∷ 0 ∷ 0 ∷ 0 ∷ 0 ∷ 0 ∷ 0 ∷ 0 ∷ 0 ∷ 0 ∷ 0 ∷ 0 ∷ 0 ∷ 0 ∷ 0 ∷ 0 ∷ 0 ∷ 0 ∷ 0 ∷ 0 ∷ 0 ∷ 0 ∷ 0 ∷ 0 ∷ 0 ∷ 0 ∷ 0 ∷ 0 ∷ 0 ∷ 0 ∷ 0 ∷ 0 ∷ 0 ∷ 0 ∷ 0 ∷ 0 ∷ 0 ∷ 0 ∷ 0 ∷ 0 ∷ 0 ∷ 0 ∷ 0 ∷ 0 ∷ 0 ∷ 0 ∷ 0 ∷ 0 ∷ 0 ∷ 0 ∷ 0 ∷ 0 ∷ 0 ∷ 0 ∷ 0 ∷ 0 ∷ 0 ∷ 0 ∷ 0 ∷ 0 ∷ []) ∷ [])
     ∷
-    entry 80 0 (events.Verb 0 (verbs.Poll (s 0 0 0) 4 0)) (marks.Verb 0 (verbs.Poll (s 0 0 0) 4 0) (answers.Polled (polled ([]))) ∷ [])
+    entry 80 0 (events.Verb 0 (verbs.Poll (s 0 0 0) 4 0)) (marks.Verb 0 (verbs.Poll (s 0 0 0) 4 0) (answers.Polled ([])) ∷ [])
     ∷
     entry 81 0 (events.Verb 1 (verbs.PostSend (s 1 0 2) (request 2 true false false (ops.WriteImm 4294969211 (k 257) 1992928674 (list ((piece 1 4294975354 1) ∷ [])))))) (marks.Verb 1 (verbs.PostSend (s 1 0 2) (request 2 true false false (ops.WriteImm 4294969211 (k 257) 1992928674 (list ((piece 1 4294975354 1) ∷ []))))) (answers.Posted None) ∷ [])
     ∷
@@ -223,13 +223,13 @@ history =
     ∷
     entry 98 0 (events.Verb 1 (verbs.PostSend (s 1 0 1) (request 920 true false false (ops.FetchAdd 8589934728 (k 33554433) 18446744073709551615 (list ((piece 1 4294968802 8) ∷ [])))))) (marks.Verb 1 (verbs.PostSend (s 1 0 1) (request 920 true false false (ops.FetchAdd 8589934728 (k 33554433) 18446744073709551615 (list ((piece 1 4294968802 8) ∷ []))))) (answers.Posted None) ∷ [])
     ∷
-    entry 99 0 (events.Verb 3 (verbs.Poll (s 1 2 1) 16 0)) (marks.Verb 3 (verbs.Poll (s 1 2 1) 16 0) (answers.Polled (polled ((completion (q 1 768) false 0 911 operations.Write statuses.Flushed 0 None None) ∷ (completion (q 1 768) true 0 1001 operations.Recv statuses.Flushed 0 None None) ∷ (completion (q 1 768) true 1 1002 operations.Recv statuses.Flushed 0 None None) ∷ (completion (q 1 768) true 2 1003 operations.Recv statuses.Flushed 0 None None) ∷ (completion (q 1 768) true 3 1004 operations.Recv statuses.Flushed 0 None None) ∷ []))) ∷ [])
+    entry 99 0 (events.Verb 3 (verbs.Poll (s 1 2 1) 16 0)) (marks.Verb 3 (verbs.Poll (s 1 2 1) 16 0) (answers.Polled ((completion (q 1 768) false 0 911 operations.Write statuses.Flushed 0 None None) ∷ (completion (q 1 768) true 0 1001 operations.Recv statuses.Flushed 0 None None) ∷ (completion (q 1 768) true 1 1002 operations.Recv statuses.Flushed 0 None None) ∷ (completion (q 1 768) true 2 1003 operations.Recv statuses.Flushed 0 None None) ∷ (completion (q 1 768) true 3 1004 operations.Recv statuses.Flushed 0 None None) ∷ [])) ∷ [])
     ∷
     entry 100 0 (events.Deliver (q 1 257) 2) (marks.Arrived (q 1 257) (Some 2) ∷ marks.Done (q 1 257) (completion (q 1 257) false 0 920 operations.CmpSwap statuses.RemoteAccess 0 None None) None ∷ marks.Done (q 1 257) (completion (q 1 257) false 1 920 operations.FetchAdd statuses.Flushed 0 None None) None ∷ [])
     ∷
     entry 101 0 (events.Verb 0 (verbs.PostSend (s 0 0 1) (request 940 true false false (ops.Read 4294968483 (k 1) (list ((piece 1 4295008834 30) ∷ (piece 1 4295008579 354) ∷ (piece 257 4294977638 635) ∷ (piece 257 4294976012 481) ∷ [])))))) (marks.Verb 0 (verbs.PostSend (s 0 0 1) (request 940 true false false (ops.Read 4294968483 (k 1) (list ((piece 1 4295008834 30) ∷ (piece 1 4295008579 354) ∷ (piece 257 4294977638 635) ∷ (piece 257 4294976012 481) ∷ []))))) (answers.Refused refusals.QueueState) ∷ [])
     ∷
-    entry 102 0 (events.Verb 1 (verbs.Poll (s 1 0 1) 4 0)) (marks.Verb 1 (verbs.Poll (s 1 0 1) 4 0) (answers.Polled (polled ((completion (q 1 257) false 0 920 operations.CmpSwap statuses.RemoteAccess 0 None None) ∷ (completion (q 1 257) false 1 920 operations.FetchAdd statuses.Flushed 0 None None) ∷ []))) ∷ [])
+    entry 102 0 (events.Verb 1 (verbs.Poll (s 1 0 1) 4 0)) (marks.Verb 1 (verbs.Poll (s 1 0 1) 4 0) (answers.Polled ((completion (q 1 257) false 0 920 operations.CmpSwap statuses.RemoteAccess 0 None None) ∷ (completion (q 1 257) false 1 920 operations.FetchAdd statuses.Flushed 0 None None) ∷ [])) ∷ [])
     ∷
     entry 103 0 (events.Verb 3 (verbs.ModifyQp (s 1 2 0) changes.Reset)) (marks.Verb 3 (verbs.ModifyQp (s 1 2 0) changes.Reset) answers.Fine ∷ [])
     ∷
@@ -239,7 +239,7 @@ history =
     ∷
     entry 106 0 (events.Verb 0 (verbs.PostSend (s 0 0 1) (request 940 false false false (ops.Read 4294973288 (k 1) (list ((piece 257 4294969515 600) ∷ [])))))) (marks.Verb 0 (verbs.PostSend (s 0 0 1) (request 940 false false false (ops.Read 4294973288 (k 1) (list ((piece 257 4294969515 600) ∷ []))))) (answers.Refused refusals.QueueState) ∷ [])
     ∷
-    entry 107 0 (events.Verb 1 (verbs.Poll (s 1 0 1) 4 0)) (marks.Verb 1 (verbs.Poll (s 1 0 1) 4 0) (answers.Polled (polled ((completion (q 1 257) false 2 920 operations.CmpSwap statuses.Flushed 0 None None) ∷ []))) ∷ [])
+    entry 107 0 (events.Verb 1 (verbs.Poll (s 1 0 1) 4 0)) (marks.Verb 1 (verbs.Poll (s 1 0 1) 4 0) (answers.Polled ((completion (q 1 257) false 2 920 operations.CmpSwap statuses.Flushed 0 None None) ∷ [])) ∷ [])
     ∷
     entry 108 0 (events.Verb 0 (verbs.PostSend (s 0 0 1) (request 940 true false true (ops.Read 4294969427 (k 1) (list ((piece 257 4294975121 1121) ∷ (piece 1 4295032101 1879) ∷ [])))))) (marks.Verb 0 (verbs.PostSend (s 0 0 1) (request 940 true false true (ops.Read 4294969427 (k 1) (list ((piece 257 4294975121 1121) ∷ (piece 1 4295032101 1879) ∷ []))))) (answers.Refused refusals.QueueState) ∷ [])
     ∷
@@ -247,7 +247,7 @@ history =
     ∷
     entry 110 0 (events.Verb 0 (verbs.PostSend (s 0 0 1) (request 940 false false false (ops.Read 4294974191 (k 1) (list ((piece 257 4294977268 487) ∷ (piece 257 4294972801 113) ∷ [])))))) (marks.Verb 0 (verbs.PostSend (s 0 0 1) (request 940 false false false (ops.Read 4294974191 (k 1) (list ((piece 257 4294977268 487) ∷ (piece 257 4294972801 113) ∷ []))))) (answers.Refused refusals.QueueState) ∷ [])
     ∷
-    entry 111 0 (events.Verb 1 (verbs.Poll (s 1 0 1) 4 0)) (marks.Verb 1 (verbs.Poll (s 1 0 1) 4 0) (answers.Polled (polled ((completion (q 1 257) false 3 920 operations.FetchAdd statuses.Flushed 0 None None) ∷ []))) ∷ [])
+    entry 111 0 (events.Verb 1 (verbs.Poll (s 1 0 1) 4 0)) (marks.Verb 1 (verbs.Poll (s 1 0 1) 4 0) (answers.Polled ((completion (q 1 257) false 3 920 operations.FetchAdd statuses.Flushed 0 None None) ∷ [])) ∷ [])
     ∷
     entry 112 0 (events.Verb 0 (verbs.PostSend (s 0 0 1) (request 940 false false false (ops.Read 8589934618 (k 257) (list ((piece 257 4294984309 8) ∷ [])))))) (marks.Verb 0 (verbs.PostSend (s 0 0 1) (request 940 false false false (ops.Read 8589934618 (k 257) (list ((piece 257 4294984309 8) ∷ []))))) (answers.Refused refusals.QueueState) ∷ [])
     ∷
@@ -255,7 +255,7 @@ history =
     ∷
     entry 114 0 (events.Verb 0 (verbs.PostSend (s 0 0 1) (request 940 true false false (ops.Read 8589934682 (k 257) (list ((piece 257 4294971074 0) ∷ (piece 257 4294992859 1) ∷ (piece 257 4294980764 2) ∷ (piece 257 4294973113 5) ∷ [])))))) (marks.Verb 0 (verbs.PostSend (s 0 0 1) (request 940 true false false (ops.Read 8589934682 (k 257) (list ((piece 257 4294971074 0) ∷ (piece 257 4294992859 1) ∷ (piece 257 4294980764 2) ∷ (piece 257 4294973113 5) ∷ []))))) (answers.Refused refusals.QueueState) ∷ [])
     ∷
-    entry 115 0 (events.Verb 1 (verbs.Poll (s 1 0 1) 4 0)) (marks.Verb 1 (verbs.Poll (s 1 0 1) 4 0) (answers.Polled (polled ((completion (q 1 257) false 4 920 operations.FetchAdd statuses.Flushed 0 None None) ∷ []))) ∷ [])
+    entry 115 0 (events.Verb 1 (verbs.Poll (s 1 0 1) 4 0)) (marks.Verb 1 (verbs.Poll (s 1 0 1) 4 0) (answers.Polled ((completion (q 1 257) false 4 920 operations.FetchAdd statuses.Flushed 0 None None) ∷ [])) ∷ [])
     ∷
     entry 116 0 (events.Verb 0 (verbs.PostSend (s 0 0 1) (request 940 true false false (ops.Read 8589934666 (k 257) (list ((piece 1 4295019415 48) ∷ (piece 257 4294971361 44) ∷ (piece 257 4294981922 208) ∷ [])))))) (marks.Verb 0 (verbs.PostSend (s 0 0 1) (request 940 true false false (ops.Read 8589934666 (k 257) (list ((piece 1 4295019415 48) ∷ (piece 257 4294971361 44) ∷ (piece 257 4294981922 208) ∷ []))))) (answers.Refused refusals.QueueState) ∷ [])
     ∷
@@ -271,9 +271,9 @@ history =
     ∷
     entry 122 0 (events.Respond (q 1 256) lots.Pass) (marks.Sent (q 1 256) (q 0 256) (Some 0) None (17 ∷ 0 ∷ 255 ∷ 255 ∷ 0 ∷ 0 ∷ 1 ∷ 0 ∷ 0 ∷ 255 ∷ 255 ∷ 255 ∷ 31 ∷ 0 ∷ 0 ∷ 1 ∷ []) ∷ [])
     ∷
-    entry 123 0 (events.Verb 0 (verbs.Poll (s 0 0 0) 1 0)) (marks.Verb 0 (verbs.Poll (s 0 0 0) 1 0) (answers.Polled (polled ([]))) ∷ [])
+    entry 123 0 (events.Verb 0 (verbs.Poll (s 0 0 0) 1 0)) (marks.Verb 0 (verbs.Poll (s 0 0 0) 1 0) (answers.Polled ([])) ∷ [])
     ∷
-    entry 124 0 (events.Verb 1 (verbs.Poll (s 1 0 1) 4 0)) (marks.Verb 1 (verbs.Poll (s 1 0 1) 4 0) (answers.Polled (polled ((completion (q 1 257) false 5 920 operations.FetchAdd statuses.Flushed 0 None None) ∷ (completion (q 1 257) false 6 920 operations.CmpSwap statuses.Flushed 0 None None) ∷ []))) ∷ [])
+    entry 124 0 (events.Verb 1 (verbs.Poll (s 1 0 1) 4 0)) (marks.Verb 1 (verbs.Poll (s 1 0 1) 4 0) (answers.Polled ((completion (q 1 257) false 5 920 operations.FetchAdd statuses.Flushed 0 None None) ∷ (completion (q 1 257) false 6 920 operations.CmpSwap statuses.Flushed 0 None None) ∷ [])) ∷ [])
     ∷
     entry 125 0 (events.Deliver (q 0 256) 0) (marks.Arrived (q 0 256) (Some 0) ∷ marks.Done (q 0 256) (completion (q 0 256) false 0 4 operations.Send statuses.Success 0 None None) None ∷ [])
     ∷
@@ -281,21 +281,21 @@ history =
     ∷
     entry 127 0 (events.Verb 1 (verbs.PostSend (s 1 0 1) (request 920 true false false (ops.CmpSwap 4294974768 (k 33554689) 0 0 (list ((piece 1 4294967915 8) ∷ [])))))) (marks.Verb 1 (verbs.PostSend (s 1 0 1) (request 920 true false false (ops.CmpSwap 4294974768 (k 33554689) 0 0 (list ((piece 1 4294967915 8) ∷ []))))) (answers.Posted None) ∷ marks.Done (q 1 257) (completion (q 1 257) false 7 920 operations.CmpSwap statuses.Flushed 0 None None) None ∷ [])
     ∷
-    entry 128 0 (events.Verb 1 (verbs.Poll (s 1 0 1) 4 0)) (marks.Verb 1 (verbs.Poll (s 1 0 1) 4 0) (answers.Polled (polled ((completion (q 1 257) false 7 920 operations.CmpSwap statuses.Flushed 0 None None) ∷ []))) ∷ [])
+    entry 128 0 (events.Verb 1 (verbs.Poll (s 1 0 1) 4 0)) (marks.Verb 1 (verbs.Poll (s 1 0 1) 4 0) (answers.Polled ((completion (q 1 257) false 7 920 operations.CmpSwap statuses.Flushed 0 None None) ∷ [])) ∷ [])
     ∷
     entry 129 0 (events.Verb 1 (verbs.PostSend (s 1 0 1) (request 920 true false false (ops.CmpSwap 8589935112 (k 33554945) 0 3 (list ((piece 1 4294968405 8) ∷ [])))))) (marks.Verb 1 (verbs.PostSend (s 1 0 1) (request 920 true false false (ops.CmpSwap 8589935112 (k 33554945) 0 3 (list ((piece 1 4294968405 8) ∷ []))))) (answers.Posted None) ∷ marks.Done (q 1 257) (completion (q 1 257) false 8 920 operations.CmpSwap statuses.Flushed 0 None None) None ∷ [])
     ∷
     entry 130 0 (events.Verb 1 (verbs.PostSend (s 1 0 1) (request 920 true false false (ops.CmpSwap 8589934920 (k 33554433) 7 1 (list ((piece 1 4294975161 8) ∷ [])))))) (marks.Verb 1 (verbs.PostSend (s 1 0 1) (request 920 true false false (ops.CmpSwap 8589934920 (k 33554433) 7 1 (list ((piece 1 4294975161 8) ∷ []))))) (answers.Posted None) ∷ marks.Done (q 1 257) (completion (q 1 257) false 9 920 operations.CmpSwap statuses.Flushed 0 None None) None ∷ [])
     ∷
-    entry 131 0 (events.Verb 1 (verbs.Poll (s 1 0 1) 4 0)) (marks.Verb 1 (verbs.Poll (s 1 0 1) 4 0) (answers.Polled (polled ((completion (q 1 257) false 8 920 operations.CmpSwap statuses.Flushed 0 None None) ∷ (completion (q 1 257) false 9 920 operations.CmpSwap statuses.Flushed 0 None None) ∷ []))) ∷ [])
+    entry 131 0 (events.Verb 1 (verbs.Poll (s 1 0 1) 4 0)) (marks.Verb 1 (verbs.Poll (s 1 0 1) 4 0) (answers.Polled ((completion (q 1 257) false 8 920 operations.CmpSwap statuses.Flushed 0 None None) ∷ (completion (q 1 257) false 9 920 operations.CmpSwap statuses.Flushed 0 None None) ∷ [])) ∷ [])
     ∷
     entry 132 0 (events.Verb 1 (verbs.PostSend (s 1 0 1) (request 1 true false false (ops.FetchAdd 8589934824 (k 33554945) 18446744073709551615 (list ((piece 257 8589934594 8) ∷ [])))))) (marks.Verb 1 (verbs.PostSend (s 1 0 1) (request 1 true false false (ops.FetchAdd 8589934824 (k 33554945) 18446744073709551615 (list ((piece 257 8589934594 8) ∷ []))))) (answers.Posted None) ∷ marks.Done (q 1 257) (completion (q 1 257) false 10 1 operations.FetchAdd statuses.Flushed 0 None None) None ∷ [])
     ∷
-    entry 133 0 (events.Verb 1 (verbs.Poll (s 1 0 1) 16 0)) (marks.Verb 1 (verbs.Poll (s 1 0 1) 16 0) (answers.Polled (polled ((completion (q 1 257) false 10 1 operations.FetchAdd statuses.Flushed 0 None None) ∷ []))) ∷ [])
+    entry 133 0 (events.Verb 1 (verbs.Poll (s 1 0 1) 16 0)) (marks.Verb 1 (verbs.Poll (s 1 0 1) 16 0) (answers.Polled ((completion (q 1 257) false 10 1 operations.FetchAdd statuses.Flushed 0 None None) ∷ [])) ∷ [])
     ∷
     entry 134 0 (events.Verb 1 (verbs.PostRecv (s 1 0 0) (receive 1005 (list ((piece 1 4294967367 8000) ∷ []))))) (marks.Verb 1 (verbs.PostRecv (s 1 0 0) (receive 1005 (list ((piece 1 4294967367 8000) ∷ [])))) (answers.Refused refusals.QueueFull) ∷ [])
     ∷
-    entry 135 0 (events.Verb 1 (verbs.Poll (s 1 0 0) 16 0)) (marks.Verb 1 (verbs.Poll (s 1 0 0) 16 0) (answers.Polled (polled ((completion (q 1 256) true 0 1001 operations.Recv statuses.Success 8 None None) ∷ []))) ∷ [])
+    entry 135 0 (events.Verb 1 (verbs.Poll (s 1 0 0) 16 0)) (marks.Verb 1 (verbs.Poll (s 1 0 0) 16 0) (answers.Polled ((completion (q 1 256) true 0 1001 operations.Recv statuses.Success 8 None None) ∷ [])) ∷ [])
     ∷
     entry 136 0 (events.Verb 1 (verbs.PostRecv (s 1 0 0) (receive 1006 (list ((piece 1 4294973519 692) ∷ (piece 1 4294968421 2616) ∷ (piece 1 4294970634 4692) ∷ []))))) (marks.Verb 1 (verbs.PostRecv (s 1 0 0) (receive 1006 (list ((piece 1 4294973519 692) ∷ (piece 1 4294968421 2616) ∷ (piece 1 4294970634 4692) ∷ [])))) (answers.Posted None) ∷ [])
     ∷
@@ -305,7 +305,7 @@ history =
     ∷
     entry 139 0 (events.Request (q 1 256) lots.Pass) (marks.Local (q 1 256) (d 1 0) (k 1) kinds.Read 4294967534 256 (verdicts.Read (0 ∷ 0 ∷ 0 ∷ 0 ∷ 0 ∷ 0 ∷ 0 ∷ 0 ∷ 0 ∷ 0 ∷ 0 ∷ 0 ∷ 0 ∷ 0 ∷ 0 ∷ 0 ∷ 0 ∷ 0 ∷ 0 ∷ 0 ∷ 0 ∷ 0 ∷ 0 ∷ 0 ∷ 0 ∷ 0 ∷ 0 ∷ 0 ∷ 0 ∷ 0 ∷ 0 ∷ 0 ∷ 0 ∷ 0 ∷ 0 ∷ 0 ∷ 0 ∷ 0 ∷ 0 ∷ 0 ∷ 0 ∷ 0 ∷ 0 ∷ 0 ∷ 0 ∷ 0 ∷ 0 ∷ 0 ∷ 0 ∷ 0 ∷ 0 ∷ 0 ∷ 0 ∷ 0 ∷ 0 ∷ 0 ∷ 0 ∷ 0 ∷ 0 ∷ 0 ∷ 0 ∷ 0 ∷ 0 ∷ 0 ∷ 0 ∷ 0 ∷ 0 ∷ 0 ∷ 0 ∷ 0 ∷ 0 ∷ 0 ∷ 0 ∷ 0 ∷ 0 ∷ 0 ∷ 0 ∷ 0 ∷ 0 ∷ 0 ∷ 0 ∷ 0 ∷ 0 ∷ 0 ∷ 0 ∷ 0 ∷ 0 ∷ 0 ∷ 0 ∷ 0 ∷ 0 ∷ 0 ∷ 0 ∷ 0 ∷ 0 ∷ 0 ∷ 0 ∷ 0 ∷ 0 ∷ 0 ∷ 0 ∷ 0 ∷ 0 ∷ 0 ∷ 0 ∷ 0 ∷ 0 ∷ 0 ∷ 0 ∷ 0 ∷ 0 ∷ 0 ∷ 0 ∷ 0 ∷ 0 ∷ 0 ∷ 0 ∷ 0 ∷ 0 ∷ 0 ∷ 0 ∷ 0 ∷ 0 ∷ 0 ∷ 0 ∷ 0 ∷ 0 ∷ 0 ∷ 0 ∷ 0 ∷ 0 ∷ 0 ∷ 0 ∷ 0 ∷ 0 ∷ 0 ∷ 0 ∷ 0 ∷ 0 ∷ 0 ∷ 0 ∷ 0 ∷ 0 ∷ 0 ∷ 0 ∷ 0 ∷ 0 ∷ 0 ∷ 0 ∷ 0 ∷ 0 ∷ 0 ∷ 0 ∷ 0 ∷ 0 ∷ 0 ∷ 0 ∷ 0 ∷ 0 ∷ 0 ∷ 0 ∷ 0 ∷ 0 ∷ 0 ∷ 0 ∷ 0 ∷ 0 ∷ 0 ∷ 0 ∷ 0 ∷ 0 ∷ 0 ∷ 0 ∷ 0 ∷ 0 ∷ 0 ∷ 0 ∷ 0 ∷ 0 ∷ 0 ∷ 0 ∷ 0 ∷ 0 ∷ 0 ∷ 0 ∷ 0 ∷ 0 ∷ 0 ∷ 0 ∷ 0 ∷ 0 ∷ 0 ∷ 0 ∷ 0 ∷ 0 ∷ 0 ∷ 0 ∷ 0 ∷ 0 ∷ 0 ∷ 0 ∷ 0 ∷ 0 ∷ 0 ∷ 0 ∷ 0 ∷ 0 ∷ 0 ∷ 0 ∷ 0 ∷ 0 ∷ 0 ∷ 0 ∷ 0 ∷ 0 ∷ 0 ∷ 0 ∷ 0 ∷ 0 ∷ 0 ∷ 0 ∷ 0 ∷ 0 ∷ 0 ∷ 0 ∷ 0 ∷ 0 ∷ 0 ∷ 0 ∷ 0 ∷ 0 ∷ 0 ∷ 0 ∷ 0 ∷ 0 ∷ 0 ∷ 0 ∷ 0 ∷ 0 ∷ 0 ∷ 0 ∷ 0 ∷ 0 ∷ 0 ∷ 0 ∷ 0 ∷ 0 ∷ 0 ∷ 0 ∷ 0 ∷ 0 ∷ 0 ∷ 0 ∷ 0 ∷ 0 ∷ 0 ∷ [])) ∷ marks.Sent (q 1 256) (q 0 256) (Some 1) (Some 0) (0 ∷ 0 ∷ 255 ∷ 255 ∷ 0 ∷ 0 ∷ 1 ∷ 0 ∷ 0 ∷ 255 ∷ 255 ∷ 254 ∷ 0 ∷ 0 ∷ 0 ∷ 0 ∷ 0 ∷ 0 ∷ 0 ∷ 0 ∷ 0 ∷ 0 ∷ 0 ∷ 0 ∷ 0 ∷ 0 ∷ 0 ∷ 0 ∷ 0 ∷ 0 ∷ 0 ∷ 0 ∷ 0 ∷ 0 ∷ 0 ∷ 0 ∷ 0 ∷ 0 ∷ 0 ∷ 0 ∷ 0 ∷ 0 ∷ 0 ∷ 0 ∷ 0 ∷ 0 ∷ 0 ∷ 0 ∷ 0 ∷ 0 ∷ 0 ∷ 0 ∷ 0 ∷ 0 ∷ 0 ∷ 0 ∷ 0 ∷ 0 ∷ 0 ∷ 0 ∷ 0 ∷ 0 ∷ 0 ∷ 0 ∷ 0 ∷ 0 ∷ 0 ∷ 0 ∷ 0 ∷ 0 ∷ 0 ∷ 0 ∷ 0 ∷ 0 ∷ 0 ∷ 0 ∷ 0 ∷ 0 ∷ 0 ∷ 0 ∷ 0 ∷ 0 ∷ 0 ∷ 0 ∷ 0 ∷ 0 ∷ 0 ∷ 0 ∷ 0 ∷ 0 ∷ 0 ∷ 0 ∷ 0 ∷ 0 ∷ 0 ∷ 0 ∷ 0 ∷ 0 ∷ 0 ∷ 0 ∷ 0 ∷ 0 ∷ 0 ∷ 0 ∷ 0 ∷ 0 ∷ 0 ∷ 0 ∷ 0 ∷ 0 ∷ 0 ∷ 0 ∷ 0 ∷ 0 ∷ 0 ∷ 0 ∷ 0 ∷ 0 ∷ 0 ∷ 0 ∷ 0 ∷ 0 ∷ 0 ∷ 0 ∷ 0 ∷ 0 ∷ 0 ∷ 0 ∷ 0 ∷ 0 ∷ 0 ∷ 0 ∷ 0 ∷ 0 ∷ 0 ∷ 0 ∷ 0 ∷ 0 ∷ 0 ∷ 0 ∷ 0 ∷ 0 ∷ 0 ∷ 0 ∷ 0 ∷ 0 ∷ 0 ∷ 0 ∷ 0 ∷ 0 ∷ 0 ∷ 0 ∷ 0 ∷ 0 ∷ 0 ∷ 0 ∷ 0 ∷ 0 ∷ 0 ∷ 0 ∷ 0 ∷ 0 ∷ 0 ∷ 0 ∷ 0 ∷ 0 ∷ 0 ∷ 0 ∷ 0 ∷ 0 ∷ 0 ∷ 0 ∷ 0 ∷ 0 ∷ 0 ∷ 0 ∷ 0 ∷ 0 ∷ 0 ∷ 0 ∷ 0 ∷ 0 ∷ 0 ∷ 0 ∷ 0 ∷ 0 ∷ 0 ∷ 0 ∷ 0 ∷ 0 ∷ 0 ∷ 0 ∷ 0 ∷ 0 ∷ 0 ∷ 0 ∷ 0 ∷ 0 ∷ 0 ∷ 0 ∷ 0 ∷ 0 ∷ 0 ∷ 0 ∷ 0 ∷ 0 ∷ 0 ∷ 0 ∷ 0 ∷ 0 ∷ 0 ∷ 0 ∷ 0 ∷ 0 ∷ 0 ∷ 0 ∷ 0 ∷ 0 ∷ 0 ∷ 0 ∷ 0 ∷ 0 ∷ 0 ∷ 0 ∷ 0 ∷ 0 ∷ 0 ∷ 0 ∷ 0 ∷ 0 ∷ 0 ∷ 0 ∷ 0 ∷ 0 ∷ 0 ∷ 0 ∷ 0 ∷ 0 ∷ 0 ∷ 0 ∷ 0 ∷ 0 ∷ 0 ∷ 0 ∷ 0 ∷ 0 ∷ 0 ∷ 0 ∷ 0 ∷ 0 ∷ 0 ∷ 0 ∷ 0 ∷ 0 ∷ 0 ∷ 0 ∷ 0 ∷ 0 ∷ 0 ∷ 0 ∷ 0 ∷ 0 ∷ 0 ∷ 0 ∷ 0 ∷ 0 ∷ 0 ∷ 0 ∷ []) ∷ [])
     ∷
-    entry 140 0 (events.Verb 1 (verbs.Poll (s 1 0 0) 16 0)) (marks.Verb 1 (verbs.Poll (s 1 0 0) 16 0) (answers.Polled (polled ([]))) ∷ [])
+    entry 140 0 (events.Verb 1 (verbs.Poll (s 1 0 0) 16 0)) (marks.Verb 1 (verbs.Poll (s 1 0 0) 16 0) (answers.Polled ([])) ∷ [])
     ∷
     entry 141 0 (events.Deliver (q 0 256) 1) (marks.Arrived (q 0 256) (Some 1) ∷ marks.Local (q 0 256) (d 0 0) (k 1) kinds.Write 4295003372 256 (verdicts.Wrote (0 ∷ 0 ∷ 0 ∷ 0 ∷ 0 ∷ 0 ∷ 0 ∷ 0 ∷ 0 ∷ 0 ∷ 0 ∷ 0 ∷ 0 ∷ 0 ∷ 0 ∷ 0 ∷ 0 ∷ 0 ∷ 0 ∷ 0 ∷ 0 ∷ 0 ∷ 0 ∷ 0 ∷ 0 ∷ 0 ∷ 0 ∷ 0 ∷ 0 ∷ 0 ∷ 0 ∷ 0 ∷ 0 ∷ 0 ∷ 0 ∷ 0 ∷ 0 ∷ 0 ∷ 0 ∷ 0 ∷ 0 ∷ 0 ∷ 0 ∷ 0 ∷ 0 ∷ 0 ∷ 0 ∷ 0 ∷ 0 ∷ 0 ∷ 0 ∷ 0 ∷ 0 ∷ 0 ∷ 0 ∷ 0 ∷ 0 ∷ 0 ∷ 0 ∷ 0 ∷ 0 ∷ 0 ∷ 0 ∷ 0 ∷ 0 ∷ 0 ∷ 0 ∷ 0 ∷ 0 ∷ 0 ∷ 0 ∷ 0 ∷ 0 ∷ 0 ∷ 0 ∷ 0 ∷ 0 ∷ 0 ∷ 0 ∷ 0 ∷ 0 ∷ 0 ∷ 0 ∷ 0 ∷ 0 ∷ 0 ∷ 0 ∷ 0 ∷ 0 ∷ 0 ∷ 0 ∷ 0 ∷ 0 ∷ 0 ∷ 0 ∷ 0 ∷ 0 ∷ 0 ∷ 0 ∷ 0 ∷ 0 ∷ 0 ∷ 0 ∷ 0 ∷ 0 ∷ 0 ∷ 0 ∷ 0 ∷ 0 ∷ 0 ∷ 0 ∷ 0 ∷ 0 ∷ 0 ∷ 0 ∷ 0 ∷ 0 ∷ 0 ∷ 0 ∷ 0 ∷ 0 ∷ 0 ∷ 0 ∷ 0 ∷ 0 ∷ 0 ∷ 0 ∷ 0 ∷ 0 ∷ 0 ∷ 0 ∷ 0 ∷ 0 ∷ 0 ∷ 0 ∷ 0 ∷ 0 ∷ 0 ∷ 0 ∷ 0 ∷ 0 ∷ 0 ∷ 0 ∷ 0 ∷ 0 ∷ 0 ∷ 0 ∷ 0 ∷ 0 ∷ 0 ∷ 0 ∷ 0 ∷ 0 ∷ 0 ∷ 0 ∷ 0 ∷ 0 ∷ 0 ∷ 0 ∷ 0 ∷ 0 ∷ 0 ∷ 0 ∷ 0 ∷ 0 ∷ 0 ∷ 0 ∷ 0 ∷ 0 ∷ 0 ∷ 0 ∷ 0 ∷ 0 ∷ 0 ∷ 0 ∷ 0 ∷ 0 ∷ 0 ∷ 0 ∷ 0 ∷ 0 ∷ 0 ∷ 0 ∷ 0 ∷ 0 ∷ 0 ∷ 0 ∷ 0 ∷ 0 ∷ 0 ∷ 0 ∷ 0 ∷ 0 ∷ 0 ∷ 0 ∷ 0 ∷ 0 ∷ 0 ∷ 0 ∷ 0 ∷ 0 ∷ 0 ∷ 0 ∷ 0 ∷ 0 ∷ 0 ∷ 0 ∷ 0 ∷ 0 ∷ 0 ∷ 0 ∷ 0 ∷ 0 ∷ 0 ∷ 0 ∷ 0 ∷ 0 ∷ 0 ∷ 0 ∷ 0 ∷ 0 ∷ 0 ∷ 0 ∷ 0 ∷ 0 ∷ 0 ∷ 0 ∷ 0 ∷ 0 ∷ 0 ∷ 0 ∷ 0 ∷ 0 ∷ 0 ∷ 0 ∷ 0 ∷ 0 ∷ 0 ∷ 0 ∷ 0 ∷ 0 ∷ 0 ∷ 0 ∷ 0 ∷ 0 ∷ 0 ∷ 0 ∷ 0 ∷ 0 ∷ 0 ∷ 0 ∷ 0 ∷ 0 ∷ 0 ∷ 0 ∷ 0 ∷ [])) ∷ [])
     ∷
@@ -337,7 +337,7 @@ history =
     ∷
     entry 155 0 (events.Request (q 1 256) lots.Pass) (marks.Granted (grant (k 8388608) (d 1 0) (Some (q 1 256)) false 4294969176 4096 (r false true true true false) ((run 1 0 1880 4096) ∷ [])) ∷ marks.Done (q 1 256) (completion (q 1 256) false 2 10 operations.Bind statuses.Success 0 None None) None ∷ [])
     ∷
-    entry 156 0 (events.Verb 1 (verbs.Poll (s 1 0 0) 16 0)) (marks.Verb 1 (verbs.Poll (s 1 0 0) 16 0) (answers.Polled (polled ((completion (q 1 256) false 0 8 operations.Send statuses.Success 0 None None) ∷ (completion (q 1 256) false 1 9 operations.FetchAdd statuses.Success 8 None None) ∷ (completion (q 1 256) false 2 10 operations.Bind statuses.Success 0 None None) ∷ []))) ∷ [])
+    entry 156 0 (events.Verb 1 (verbs.Poll (s 1 0 0) 16 0)) (marks.Verb 1 (verbs.Poll (s 1 0 0) 16 0) (answers.Polled ((completion (q 1 256) false 0 8 operations.Send statuses.Success 0 None None) ∷ (completion (q 1 256) false 1 9 operations.FetchAdd statuses.Success 8 None None) ∷ (completion (q 1 256) false 2 10 operations.Bind statuses.Success 0 None None) ∷ [])) ∷ [])
     ∷
     entry 157 0 (events.Verb 1 (verbs.DeallocMw (s 1 0 5))) (marks.Verb 1 (verbs.DeallocMw (s 1 0 5)) (answers.Refused refusals.NoSuch) ∷ [])
     ∷
@@ -359,7 +359,7 @@ history =
     ∷
     entry 166 0 (events.Deliver (q 0 256) 4) (marks.Arrived (q 0 256) (Some 4) ∷ marks.Dropped (q 0 256) drops.Stale ∷ [])
     ∷
-    entry 167 0 (events.Verb 1 (verbs.Poll (s 1 0 1) 16 0)) (marks.Verb 1 (verbs.Poll (s 1 0 1) 16 0) (answers.Polled (polled ([]))) ∷ [])
+    entry 167 0 (events.Verb 1 (verbs.Poll (s 1 0 1) 16 0)) (marks.Verb 1 (verbs.Poll (s 1 0 1) 16 0) (answers.Polled ([])) ∷ [])
     ∷
     entry 168 0 (events.Verb 1 (verbs.PostSend (s 1 0 2) (request 930 true false false (ops.Write 4294967296 (k 257) (list ((piece 1 4294967304 142960) ∷ (piece 257 8589934592 419413) ∷ (piece 257 8589934592 486204) ∷ [])))))) (marks.Verb 1 (verbs.PostSend (s 1 0 2) (request 930 true false false (ops.Write 4294967296 (k 257) (list ((piece 1 4294967304 142960) ∷ (piece 257 8589934592 419413) ∷ (piece 257 8589934592 486204) ∷ []))))) (answers.Refused refusals.TooLong) ∷ [])
     ∷
@@ -367,11 +367,11 @@ history =
     ∷
     entry 170 0 (events.Verb 1 (verbs.PostRecv (s 1 0 2) (receive 1003 (list ((piece 1 4294967359 1) ∷ (piece 257 8589935048 11) ∷ (piece 1 4294973097 20) ∷ (piece 1 4294972015 32) ∷ []))))) (marks.Verb 1 (verbs.PostRecv (s 1 0 2) (receive 1003 (list ((piece 1 4294967359 1) ∷ (piece 257 8589935048 11) ∷ (piece 1 4294973097 20) ∷ (piece 1 4294972015 32) ∷ [])))) (answers.Refused refusals.QueueState) ∷ [])
     ∷
-    entry 171 0 (events.Verb 1 (verbs.Poll (s 1 0 2) 16 0)) (marks.Verb 1 (verbs.Poll (s 1 0 2) 16 0) (answers.Polled (polled ([]))) ∷ [])
+    entry 171 0 (events.Verb 1 (verbs.Poll (s 1 0 2) 16 0)) (marks.Verb 1 (verbs.Poll (s 1 0 2) 16 0) (answers.Polled ([])) ∷ [])
     ∷
     entry 172 0 (events.Verb 1 (verbs.PostSend (s 1 0 2) (request 4 true false false (ops.Bind2 1 (k 1) 0 4294970528 4094 (r false true true true false))))) (marks.Verb 1 (verbs.PostSend (s 1 0 2) (request 4 true false false (ops.Bind2 1 (k 1) 0 4294970528 4094 (r false true true true false)))) (answers.Refused refusals.QueueState) ∷ [])
     ∷
-    entry 173 0 (events.Verb 1 (verbs.Poll (s 1 0 0) 16 0)) (marks.Verb 1 (verbs.Poll (s 1 0 0) 16 0) (answers.Polled (polled ([]))) ∷ [])
+    entry 173 0 (events.Verb 1 (verbs.Poll (s 1 0 0) 16 0)) (marks.Verb 1 (verbs.Poll (s 1 0 0) 16 0) (answers.Polled ([])) ∷ [])
     ∷
     entry 174 0 (events.Verb 1 (verbs.PostSend (s 1 0 2) (request 940 true true false (ops.Read 4295025513 (k 8388609) (list ((piece 1 4294971077 600) ∷ [])))))) (marks.Verb 1 (verbs.PostSend (s 1 0 2) (request 940 true true false (ops.Read 4295025513 (k 8388609) (list ((piece 1 4294971077 600) ∷ []))))) (answers.Refused refusals.QueueState) ∷ [])
     ∷
@@ -393,7 +393,7 @@ history =
     ∷
     entry 183 0 (events.Deliver (q 1 256) 3) (marks.Arrived (q 1 256) (Some 3) ∷ marks.Remote (q 1 256) (d 1 0) (Some 3) (k 8388608) kinds.Write 4294972970 300 (verdicts.Wrote (0 ∷ 0 ∷ 0 ∷ 0 ∷ 0 ∷ 0 ∷ 0 ∷ 0 ∷ 0 ∷ 0 ∷ 0 ∷ 0 ∷ 0 ∷ 0 ∷ 0 ∷ 0 ∷ 0 ∷ 0 ∷ 0 ∷ 0 ∷ 0 ∷ 0 ∷ 0 ∷ 0 ∷ 0 ∷ 0 ∷ 0 ∷ 0 ∷ 0 ∷ 0 ∷ 0 ∷ 0 ∷ 0 ∷ 0 ∷ 0 ∷ 0 ∷ 0 ∷ 0 ∷ 0 ∷ 0 ∷ 0 ∷ 0 ∷ 0 ∷ 0 ∷ 0 ∷ 0 ∷ 0 ∷ 0 ∷ 0 ∷ 0 ∷ 0 ∷ 0 ∷ 0 ∷ 0 ∷ 0 ∷ 0 ∷ 0 ∷ 0 ∷ 0 ∷ 0 ∷ 0 ∷ 0 ∷ 0 ∷ 0 ∷ 0 ∷ 0 ∷ 0 ∷ 0 ∷ 0 ∷ 0 ∷ 0 ∷ 0 ∷ 0 ∷ 0 ∷ 0 ∷ 0 ∷ 0 ∷ 0 ∷ 0 ∷ 0 ∷ 0 ∷ 0 ∷ 0 ∷ 0 ∷ 0 ∷ 0 ∷ 0 ∷ 0 ∷ 0 ∷ 0 ∷ 0 ∷ 0 ∷ 0 ∷ 0 ∷ 0 ∷ 0 ∷ 0 ∷ 0 ∷ 0 ∷ 0 ∷ 0 ∷ 0 ∷ 0 ∷ 0 ∷ 0 ∷ 0 ∷ 0 ∷ 0 ∷ 0 ∷ 0 ∷ 0 ∷ 0 ∷ 0 ∷ 0 ∷ 0 ∷ 0 ∷ 0 ∷ 0 ∷ 0 ∷ 0 ∷ 0 ∷ 0 ∷ 0 ∷ 0 ∷ 0 ∷ 0 ∷ 0 ∷ 0 ∷ 0 ∷ 0 ∷ 0 ∷ 0 ∷ 0 ∷ 0 ∷ 0 ∷ 0 ∷ 0 ∷ 0 ∷ 0 ∷ 0 ∷ 0 ∷ 0 ∷ 0 ∷ 0 ∷ 0 ∷ 0 ∷ 0 ∷ 0 ∷ 0 ∷ 0 ∷ 0 ∷ 0 ∷ 0 ∷ 0 ∷ 0 ∷ 0 ∷ 0 ∷ 0 ∷ 0 ∷ 0 ∷ 0 ∷ 0 ∷ 0 ∷ 0 ∷ 0 ∷ 0 ∷ 0 ∷ 0 ∷ 0 ∷ 0 ∷ 0 ∷ 0 ∷ 0 ∷ 0 ∷ 0 ∷ 0 ∷ 0 ∷ 0 ∷ 0 ∷ 0 ∷ 0 ∷ 0 ∷ 0 ∷ 0 ∷ 0 ∷ 0 ∷ 0 ∷ 0 ∷ 0 ∷ 0 ∷ 0 ∷ 0 ∷ 0 ∷ 0 ∷ 0 ∷ 0 ∷ 0 ∷ 0 ∷ 0 ∷ 0 ∷ 0 ∷ 0 ∷ 0 ∷ 0 ∷ 0 ∷ 0 ∷ 0 ∷ 0 ∷ 0 ∷ 0 ∷ 0 ∷ 0 ∷ 0 ∷ 0 ∷ 0 ∷ 0 ∷ 0 ∷ 0 ∷ 0 ∷ 0 ∷ 0 ∷ 0 ∷ 0 ∷ 0 ∷ 0 ∷ 0 ∷ 0 ∷ 0 ∷ 0 ∷ 0 ∷ 0 ∷ 0 ∷ 0 ∷ 0 ∷ 0 ∷ 0 ∷ 0 ∷ 0 ∷ 0 ∷ 0 ∷ 0 ∷ 0 ∷ 0 ∷ 0 ∷ 0 ∷ 0 ∷ 0 ∷ 0 ∷ 0 ∷ 0 ∷ 0 ∷ 0 ∷ 0 ∷ 0 ∷ 0 ∷ 0 ∷ [])) ∷ [])
     ∷
-    entry 184 0 (events.Verb 0 (verbs.Poll (s 0 0 0) 16 0)) (marks.Verb 0 (verbs.Poll (s 0 0 0) 16 0) (answers.Polled (polled ((completion (q 0 256) false 0 4 operations.Send statuses.Success 0 None None) ∷ (completion (q 0 256) true 0 1001 operations.Recv statuses.Success 300 (Some 3870635878) None) ∷ []))) ∷ [])
+    entry 184 0 (events.Verb 0 (verbs.Poll (s 0 0 0) 16 0)) (marks.Verb 0 (verbs.Poll (s 0 0 0) 16 0) (answers.Polled ((completion (q 0 256) false 0 4 operations.Send statuses.Success 0 None None) ∷ (completion (q 0 256) true 0 1001 operations.Recv statuses.Success 300 (Some 3870635878) None) ∷ [])) ∷ [])
     ∷
     entry 185 0 (events.Verb 1 (verbs.PostSend (s 1 0 2) (request 940 true false false (ops.Read 4295019370 (k 8388609) (list ((piece 1 4294968377 600) ∷ [])))))) (marks.Verb 1 (verbs.PostSend (s 1 0 2) (request 940 true false false (ops.Read 4295019370 (k 8388609) (list ((piece 1 4294968377 600) ∷ []))))) (answers.Refused refusals.QueueState) ∷ [])
     ∷
@@ -411,7 +411,7 @@ history =
     ∷
     entry 192 0 (events.Verb 0 (verbs.PostSend (s 0 0 0) (request 7 true false false (ops.Bind1 0 (k 1) 4295015232 17500 (r false true false false false))))) (marks.Verb 0 (verbs.PostSend (s 0 0 0) (request 7 true false false (ops.Bind1 0 (k 1) 4295015232 17500 (r false true false false false)))) (answers.Refused refusals.QueueFull) ∷ [])
     ∷
-    entry 193 0 (events.Verb 1 (verbs.Poll (s 1 0 2) 16 0)) (marks.Verb 1 (verbs.Poll (s 1 0 2) 16 0) (answers.Polled (polled ([]))) ∷ [])
+    entry 193 0 (events.Verb 1 (verbs.Poll (s 1 0 2) 16 0)) (marks.Verb 1 (verbs.Poll (s 1 0 2) 16 0) (answers.Polled ([])) ∷ [])
     ∷
     entry 194 0 (events.Deliver (q 0 256) 5) (marks.Arrived (q 0 256) (Some 5) ∷ [])
     ∷
@@ -421,7 +421,7 @@ history =
     ∷
     entry 197 0 (events.Respond (q 1 256) lots.Pass) (marks.Sent (q 1 256) (q 0 256) (Some 6) None (17 ∷ 0 ∷ 255 ∷ 255 ∷ 0 ∷ 0 ∷ 1 ∷ 0 ∷ 0 ∷ 0 ∷ 0 ∷ 1 ∷ 31 ∷ 0 ∷ 0 ∷ 2 ∷ []) ∷ [])
     ∷
-    entry 198 0 (events.Verb 0 (verbs.Poll (s 0 0 0) 16 0)) (marks.Verb 0 (verbs.Poll (s 0 0 0) 16 0) (answers.Polled (polled ([]))) ∷ [])
+    entry 198 0 (events.Verb 0 (verbs.Poll (s 0 0 0) 16 0)) (marks.Verb 0 (verbs.Poll (s 0 0 0) 16 0) (answers.Polled ([])) ∷ [])
     ∷
     entry 199 0 (events.Deliver (q 0 256) 6) (marks.Arrived (q 0 256) (Some 6) ∷ [])
     ∷
@@ -445,7 +445,7 @@ history =
     ∷
     entry 209 0 (events.Verb 0 (verbs.PostRecv (s 0 0 1) (receive 1003 (list ([]))))) (marks.Verb 0 (verbs.PostRecv (s 0 0 1) (receive 1003 (list ([])))) (answers.Refused refusals.QueueState) ∷ [])
     ∷
-    entry 210 0 (events.Verb 0 (verbs.Poll (s 0 0 2) 16 0)) (marks.Verb 0 (verbs.Poll (s 0 0 2) 16 0) (answers.Polled (polled ([]))) ∷ [])
+    entry 210 0 (events.Verb 0 (verbs.Poll (s 0 0 2) 16 0)) (marks.Verb 0 (verbs.Poll (s 0 0 2) 16 0) (answers.Polled ([])) ∷ [])
     ∷
     []
 

@@ -21,7 +21,7 @@ use Rattle.ca_wire.specs.Packet.{be_bytes, packet_bytes}
 use Rattle.ca_wire.specs.Table.{row_of}
 use Rattle.ca_model.specs.Entries.{EntryValue}
 use Rattle.ca_model.specs.machine.Run.{run as outcome_of}
-use Rattle.ca_model.proofs.Literals.{d, s, q, k, r, run, piece, list, polled, request, receive, completion, grant, entry, adapter}
+use Rattle.ca_model.proofs.Literals.{d, s, q, k, r, run, piece, list, request, receive, completion, grant, entry, adapter}
 
 abbrev history : List EntryValue
 history =
@@ -81,7 +81,7 @@ history =
     ∷
     entry 27 0 (events.Verb 1 (verbs.ModifyQp (s 0 1 1) (changes.Rtr (q 0 256) 1 0 256 26))) (marks.Verb 1 (verbs.ModifyQp (s 0 1 1) (changes.Rtr (q 0 256) 1 0 256 26)) answers.Fine ∷ [])
     ∷
-    entry 28 0 (events.Verb 0 (verbs.Poll (s 0 0 0) 16 0)) (marks.Verb 0 (verbs.Poll (s 0 0 0) 16 0) (answers.Polled (polled ([]))) ∷ [])
+    entry 28 0 (events.Verb 0 (verbs.Poll (s 0 0 0) 16 0)) (marks.Verb 0 (verbs.Poll (s 0 0 0) 16 0) (answers.Polled ([])) ∷ [])
     ∷
     entry 29 0 (events.Verb 1 (verbs.ModifyQp (s 0 1 1) (changes.Rts 0 1 7 1))) (marks.Verb 1 (verbs.ModifyQp (s 0 1 1) (changes.Rts 0 1 7 1)) answers.Fine ∷ [])
     ∷
@@ -89,9 +89,9 @@ history =
     ∷
     entry 31 0 (events.Verb 1 (verbs.PostRecv (s 0 1 1) (receive 1001 (list ((piece 16777217 8589979781 2053) ∷ (piece 16777473 8589978309 2624) ∷ (piece 16777473 8589988769 1323) ∷ []))))) (marks.Verb 1 (verbs.PostRecv (s 0 1 1) (receive 1001 (list ((piece 16777217 8589979781 2053) ∷ (piece 16777473 8589978309 2624) ∷ (piece 16777473 8589988769 1323) ∷ [])))) (answers.Posted None) ∷ [])
     ∷
-    entry 32 0 (events.Verb 0 (verbs.Poll (s 0 0 0) 16 0)) (marks.Verb 0 (verbs.Poll (s 0 0 0) 16 0) (answers.Polled (polled ([]))) ∷ [])
+    entry 32 0 (events.Verb 0 (verbs.Poll (s 0 0 0) 16 0)) (marks.Verb 0 (verbs.Poll (s 0 0 0) 16 0) (answers.Polled ([])) ∷ [])
     ∷
-    entry 33 0 (events.Verb 1 (verbs.Poll (s 0 1 2) 16 0)) (marks.Verb 1 (verbs.Poll (s 0 1 2) 16 0) (answers.Polled (polled ([]))) ∷ [])
+    entry 33 0 (events.Verb 1 (verbs.Poll (s 0 1 2) 16 0)) (marks.Verb 1 (verbs.Poll (s 0 1 2) 16 0) (answers.Polled ([])) ∷ [])
     ∷
     entry 34 0 (events.Verb 1 (verbs.PostRecv (s 0 1 1) (receive 1002 (list ((piece 16777217 8589992589 14) ∷ (piece 16777217 8589992978 23) ∷ (piece 16777217 8589985623 26) ∷ (piece 16777217 8589998459 1) ∷ []))))) (marks.Verb 1 (verbs.PostRecv (s 0 1 1) (receive 1002 (list ((piece 16777217 8589992589 14) ∷ (piece 16777217 8589992978 23) ∷ (piece 16777217 8589985623 26) ∷ (piece 16777217 8589998459 1) ∷ [])))) (answers.Posted None) ∷ [])
     ∷
@@ -121,7 +121,7 @@ history =
     ∷
     entry 47 0 (events.Request (q 0 256) lots.Pass) (marks.Local (q 0 256) (d 0 0) (k 257) kinds.Read 12884901888 256 (verdicts.Denied denials.OutOfRange) ∷ marks.Done (q 0 256) (completion (q 0 256) false 1 2 operations.Send statuses.LocalProtection 0 None None) None ∷ marks.Done (q 0 256) (completion (q 0 256) true 0 1001 operations.Recv statuses.Flushed 0 None None) None ∷ [])
     ∷
-    entry 48 0 (events.Verb 0 (verbs.Poll (s 0 0 0) 16 0)) (marks.Verb 0 (verbs.Poll (s 0 0 0) 16 0) (answers.Polled (polled ((completion (q 0 256) false 0 4 operations.Read statuses.Success 8 None None) ∷ (completion (q 0 256) false 1 2 operations.Send statuses.LocalProtection 0 None None) ∷ (completion (q 0 256) true 0 1001 operations.Recv statuses.Flushed 0 None None) ∷ []))) ∷ [])
+    entry 48 0 (events.Verb 0 (verbs.Poll (s 0 0 0) 16 0)) (marks.Verb 0 (verbs.Poll (s 0 0 0) 16 0) (answers.Polled ((completion (q 0 256) false 0 4 operations.Read statuses.Success 8 None None) ∷ (completion (q 0 256) false 1 2 operations.Send statuses.LocalProtection 0 None None) ∷ (completion (q 0 256) true 0 1001 operations.Recv statuses.Flushed 0 None None) ∷ [])) ∷ [])
     ∷
     entry 49 0 (events.Verb 1 (verbs.PostSend (s 0 1 0) (request 1 true false false (ops.Bind2 0 (k 16777217) 9 8589956424 4096 (r false true true true false))))) (marks.Verb 1 (verbs.PostSend (s 0 1 0) (request 1 true false false (ops.Bind2 0 (k 16777217) 9 8589956424 4096 (r false true true true false)))) (answers.Posted None) ∷ [])
     ∷
@@ -129,9 +129,9 @@ history =
     ∷
     entry 51 0 (events.Verb 0 (verbs.PostRecv (s 0 0 0) (receive 1003 (list ((piece 1 12884901934 178) ∷ (piece 257 12884901888 334) ∷ []))))) (marks.Verb 0 (verbs.PostRecv (s 0 0 0) (receive 1003 (list ((piece 1 12884901934 178) ∷ (piece 257 12884901888 334) ∷ [])))) (answers.Posted None) ∷ marks.Done (q 0 256) (completion (q 0 256) true 1 1003 operations.Recv statuses.Flushed 0 None None) None ∷ [])
     ∷
-    entry 52 0 (events.Verb 1 (verbs.Poll (s 0 1 0) 16 0)) (marks.Verb 1 (verbs.Poll (s 0 1 0) 16 0) (answers.Polled (polled ((completion (q 0 512) false 0 1 operations.Bind statuses.Success 0 None None) ∷ []))) ∷ [])
+    entry 52 0 (events.Verb 1 (verbs.Poll (s 0 1 0) 16 0)) (marks.Verb 1 (verbs.Poll (s 0 1 0) 16 0) (answers.Polled ((completion (q 0 512) false 0 1 operations.Bind statuses.Success 0 None None) ∷ [])) ∷ [])
     ∷
-    entry 53 0 (events.Verb 0 (verbs.Poll (s 0 0 0) 4 0)) (marks.Verb 0 (verbs.Poll (s 0 0 0) 4 0) (answers.Polled (polled ((completion (q 0 256) true 1 1003 operations.Recv statuses.Flushed 0 None None) ∷ []))) ∷ [])
+    entry 53 0 (events.Verb 0 (verbs.Poll (s 0 0 0) 4 0)) (marks.Verb 0 (verbs.Poll (s 0 0 0) 4 0) (answers.Polled ((completion (q 0 256) true 1 1003 operations.Recv statuses.Flushed 0 None None) ∷ [])) ∷ [])
     ∷
     entry 54 0 (events.Verb 1 (verbs.PostRecv (s 0 1 1) (receive 1003 (list ((piece 16777217 8589989833 8000) ∷ []))))) (marks.Verb 1 (verbs.PostRecv (s 0 1 1) (receive 1003 (list ((piece 16777217 8589989833 8000) ∷ [])))) (answers.Refused refusals.QueueFull) ∷ [])
     ∷
@@ -153,7 +153,7 @@ history =
     ∷
     entry 63 0 (events.Verb 0 (verbs.PostSend (s 0 0 1) (request 3 true false false (ops.Send (list ((piece 1 12884901888 257) ∷ [])))))) (marks.Verb 0 (verbs.PostSend (s 0 0 1) (request 3 true false false (ops.Send (list ((piece 1 12884901888 257) ∷ []))))) (answers.Posted None) ∷ [])
     ∷
-    entry 64 0 (events.Verb 1 (verbs.Poll (s 0 1 2) 16 0)) (marks.Verb 1 (verbs.Poll (s 0 1 2) 16 0) (answers.Polled (polled ([]))) ∷ [])
+    entry 64 0 (events.Verb 1 (verbs.Poll (s 0 1 2) 16 0)) (marks.Verb 1 (verbs.Poll (s 0 1 2) 16 0) (answers.Polled ([])) ∷ [])
     ∷
     entry 65 0 (events.Request (q 0 257) lots.Pass) (marks.Local (q 0 257) (d 0 0) (k 1) kinds.Read 12884901888 256 (verdicts.Read (0 ∷ 0 ∷ 0 ∷ 0 ∷ 0 ∷ 0 ∷ 0 ∷ 0 ∷ 0 ∷ 0 ∷ 0 ∷ 0 ∷ 0 ∷ 0 ∷ 0 ∷ 0 ∷ 0 ∷ 0 ∷ 0 ∷ 0 ∷ 0 ∷ 0 ∷ 0 ∷ 0 ∷ 0 ∷ 0 ∷ 0 ∷ 0 ∷ 0 ∷ 0 ∷ 0 ∷ 0 ∷ 0 ∷ 0 ∷ 0 ∷ 0 ∷ 0 ∷ 0 ∷ 0 ∷ 0 ∷ 0 ∷ 0 ∷ 0 ∷ 0 ∷ 0 ∷ 0 ∷ 0 ∷ 0 ∷ 0 ∷ 0 ∷ 0 ∷ 0 ∷ 0 ∷ 0 ∷ 0 ∷ 0 ∷ 0 ∷ 0 ∷ 0 ∷ 0 ∷ 0 ∷ 0 ∷ 0 ∷ 0 ∷ 0 ∷ 0 ∷ 0 ∷ 0 ∷ 0 ∷ 0 ∷ 0 ∷ 0 ∷ 0 ∷ 0 ∷ 0 ∷ 0 ∷ 0 ∷ 0 ∷ 0 ∷ 0 ∷ 0 ∷ 0 ∷ 0 ∷ 0 ∷ 0 ∷ 0 ∷ 0 ∷ 0 ∷ 0 ∷ 0 ∷ 0 ∷ 0 ∷ 0 ∷ 0 ∷ 0 ∷ 0 ∷ 0 ∷ 0 ∷ 0 ∷ 0 ∷ 0 ∷ 0 ∷ 0 ∷ 0 ∷ 0 ∷ 0 ∷ 0 ∷ 0 ∷ 0 ∷ 0 ∷ 0 ∷ 0 ∷ 0 ∷ 0 ∷ 0 ∷ 0 ∷ 0 ∷ 0 ∷ 0 ∷ 0 ∷ 0 ∷ 0 ∷ 0 ∷ 0 ∷ 0 ∷ 0 ∷ 0 ∷ 0 ∷ 0 ∷ 0 ∷ 0 ∷ 0 ∷ 0 ∷ 0 ∷ 0 ∷ 0 ∷ 0 ∷ 0 ∷ 0 ∷ 0 ∷ 0 ∷ 0 ∷ 0 ∷ 0 ∷ 0 ∷ 0 ∷ 0 ∷ 0 ∷ 0 ∷ 0 ∷ 0 ∷ 0 ∷ 0 ∷ 0 ∷ 0 ∷ 0 ∷ 0 ∷ 0 ∷ 0 ∷ 0 ∷ 0 ∷ 0 ∷ 0 ∷ 0 ∷ 0 ∷ 0 ∷ 0 ∷ 0 ∷ 0 ∷ 0 ∷ 0 ∷ 0 ∷ 0 ∷ 0 ∷ 0 ∷ 0 ∷ 0 ∷ 0 ∷ 0 ∷ 0 ∷ 0 ∷ 0 ∷ 0 ∷ 0 ∷ 0 ∷ 0 ∷ 0 ∷ 0 ∷ 0 ∷ 0 ∷ 0 ∷ 0 ∷ 0 ∷ 0 ∷ 0 ∷ 0 ∷ 0 ∷ 0 ∷ 0 ∷ 0 ∷ 0 ∷ 0 ∷ 0 ∷ 0 ∷ 0 ∷ 0 ∷ 0 ∷ 0 ∷ 0 ∷ 0 ∷ 0 ∷ 0 ∷ 0 ∷ 0 ∷ 0 ∷ 0 ∷ 0 ∷ 0 ∷ 0 ∷ 0 ∷ 0 ∷ 0 ∷ 0 ∷ 0 ∷ 0 ∷ 0 ∷ 0 ∷ 0 ∷ 0 ∷ 0 ∷ 0 ∷ 0 ∷ 0 ∷ 0 ∷ 0 ∷ 0 ∷ 0 ∷ 0 ∷ 0 ∷ 0 ∷ 0 ∷ 0 ∷ 0 ∷ 0 ∷ 0 ∷ 0 ∷ 0 ∷ 0 ∷ 0 ∷ 0 ∷ 0 ∷ 0 ∷ 0 ∷ 0 ∷ 0 ∷ 0 ∷ [])) ∷ marks.Sent (q 0 257) (q 0 512) (Some 0) (Some 0) (0 ∷ 0 ∷ 255 ∷ 255 ∷ 0 ∷ 0 ∷ 2 ∷ 0 ∷ 0 ∷ 0 ∷ 0 ∷ 0 ∷ 0 ∷ 0 ∷ 0 ∷ 0 ∷ 0 ∷ 0 ∷ 0 ∷ 0 ∷ 0 ∷ 0 ∷ 0 ∷ 0 ∷ 0 ∷ 0 ∷ 0 ∷ 0 ∷ 0 ∷ 0 ∷ 0 ∷ 0 ∷ 0 ∷ 0 ∷ 0 ∷ 0 ∷ 0 ∷ 0 ∷ 0 ∷ 0 ∷ 0 ∷ 0 ∷ 0 ∷ 0 ∷ 0 ∷ 0 ∷ 0 ∷ 0 ∷ 0 ∷ 0 ∷ 0 ∷ 0 ∷ 0 ∷ 0 ∷ 0 ∷ 0 ∷ 0 ∷ 0 ∷ 0 ∷ 0 ∷ 0 ∷ 0 ∷ 0 ∷ 0 ∷ 0 ∷ 0 ∷ 0 ∷ 0 ∷ 0 ∷ 0 ∷ 0 ∷ 0 ∷ 0 ∷ 0 ∷ 0 ∷ 0 ∷ 0 ∷ 0 ∷ 0 ∷ 0 ∷ 0 ∷ 0 ∷ 0 ∷ 0 ∷ 0 ∷ 0 ∷ 0 ∷ 0 ∷ 0 ∷ 0 ∷ 0 ∷ 0 ∷ 0 ∷ 0 ∷ 0 ∷ 0 ∷ 0 ∷ 0 ∷ 0 ∷ 0 ∷ 0 ∷ 0 ∷ 0 ∷ 0 ∷ 0 ∷ 0 ∷ 0 ∷ 0 ∷ 0 ∷ 0 ∷ 0 ∷ 0 ∷ 0 ∷ 0 ∷ 0 ∷ 0 ∷ 0 ∷ 0 ∷ 0 ∷ 0 ∷ 0 ∷ 0 ∷ 0 ∷ 0 ∷ 0 ∷ 0 ∷ 0 ∷ 0 ∷ 0 ∷ 0 ∷ 0 ∷ 0 ∷ 0 ∷ 0 ∷ 0 ∷ 0 ∷ 0 ∷ 0 ∷ 0 ∷ 0 ∷ 0 ∷ 0 ∷ 0 ∷ 0 ∷ 0 ∷ 0 ∷ 0 ∷ 0 ∷ 0 ∷ 0 ∷ 0 ∷ 0 ∷ 0 ∷ 0 ∷ 0 ∷ 0 ∷ 0 ∷ 0 ∷ 0 ∷ 0 ∷ 0 ∷ 0 ∷ 0 ∷ 0 ∷ 0 ∷ 0 ∷ 0 ∷ 0 ∷ 0 ∷ 0 ∷ 0 ∷ 0 ∷ 0 ∷ 0 ∷ 0 ∷ 0 ∷ 0 ∷ 0 ∷ 0 ∷ 0 ∷ 0 ∷ 0 ∷ 0 ∷ 0 ∷ 0 ∷ 0 ∷ 0 ∷ 0 ∷ 0 ∷ 0 ∷ 0 ∷ 0 ∷ 0 ∷ 0 ∷ 0 ∷ 0 ∷ 0 ∷ 0 ∷ 0 ∷ 0 ∷ 0 ∷ 0 ∷ 0 ∷ 0 ∷ 0 ∷ 0 ∷ 0 ∷ 0 ∷ 0 ∷ 0 ∷ 0 ∷ 0 ∷ 0 ∷ 0 ∷ 0 ∷ 0 ∷ 0 ∷ 0 ∷ 0 ∷ 0 ∷ 0 ∷ 0 ∷ 0 ∷ 0 ∷ 0 ∷ 0 ∷ 0 ∷ 0 ∷ 0 ∷ 0 ∷ 0 ∷ 0 ∷ 0 ∷ 0 ∷ 0 ∷ 0 ∷ 0 ∷ 0 ∷ 0 ∷ 0 ∷ 0 ∷ 0 ∷ 0 ∷ 0 ∷ 0 ∷ 0 ∷ 0 ∷ 0 ∷ 0 ∷ 0 ∷ 0 ∷ 0 ∷ 0 ∷ 0 ∷ 0 ∷ 0 ∷ 0 ∷ 0 ∷ 0 ∷ 0 ∷ 0 ∷ 0 ∷ 0 ∷ 0 ∷ 0 ∷ 0 ∷ 0 ∷ 0 ∷ []) ∷ [])
     ∷
@@ -161,7 +161,7 @@ history =
     ∷
     entry 67 0 (events.Respond (q 0 512) lots.Pass) (marks.Sent (q 0 512) (q 0 257) (Some 0) None (17 ∷ 0 ∷ 255 ∷ 255 ∷ 0 ∷ 0 ∷ 1 ∷ 1 ∷ 0 ∷ 0 ∷ 0 ∷ 0 ∷ 99 ∷ 0 ∷ 0 ∷ 0 ∷ []) ∷ [])
     ∷
-    entry 68 0 (events.Verb 0 (verbs.Poll (s 0 0 0) 16 0)) (marks.Verb 0 (verbs.Poll (s 0 0 0) 16 0) (answers.Polled (polled ([]))) ∷ [])
+    entry 68 0 (events.Verb 0 (verbs.Poll (s 0 0 0) 16 0)) (marks.Verb 0 (verbs.Poll (s 0 0 0) 16 0) (answers.Polled ([])) ∷ [])
     ∷
     entry 69 0 (events.Verb 1 (verbs.DestroySrq (s 0 1 0))) (marks.Verb 1 (verbs.DestroySrq (s 0 1 0)) answers.Fine ∷ [])
     ∷
@@ -191,7 +191,7 @@ history =
     ∷
     entry 82 0 (events.Verb 1 (verbs.AllocMw (s 0 1 6) 2)) (marks.Verb 1 (verbs.AllocMw (s 0 1 6) 2) answers.Fine ∷ [])
     ∷
-    entry 83 0 (events.Verb 0 (verbs.Poll (s 0 0 0) 16 0)) (marks.Verb 0 (verbs.Poll (s 0 0 0) 16 0) (answers.Polled (polled ([]))) ∷ [])
+    entry 83 0 (events.Verb 0 (verbs.Poll (s 0 0 0) 16 0)) (marks.Verb 0 (verbs.Poll (s 0 0 0) 16 0) (answers.Polled ([])) ∷ [])
     ∷
     entry 84 0 (events.Verb 1 (verbs.DeregMr (s 0 1 6))) (marks.Verb 1 (verbs.DeregMr (s 0 1 6)) (answers.Refused refusals.NoSuch) ∷ [])
     ∷
@@ -213,7 +213,7 @@ history =
     ∷
     entry 93 0 (events.Request (q 0 257) lots.Pass) (marks.Local (q 0 257) (d 0 0) (k 1) kinds.Read 12884901936 64 (verdicts.Read (0 ∷ 0 ∷ 0 ∷ 0 ∷ 0 ∷ 0 ∷ 0 ∷ 0 ∷ 0 ∷ 0 ∷ 0 ∷ 0 ∷ 0 ∷ 0 ∷ 0 ∷ 0 ∷ 0 ∷ 0 ∷ 0 ∷ 0 ∷ 0 ∷ 0 ∷ 0 ∷ 0 ∷ 0 ∷ 0 ∷ 0 ∷ 0 ∷ 0 ∷ 0 ∷ 0 ∷ 0 ∷ 0 ∷ 0 ∷ 0 ∷ 0 ∷ 0 ∷ 0 ∷ 0 ∷ 0 ∷ 0 ∷ 0 ∷ 0 ∷ 0 ∷ 0 ∷ 0 ∷ 0 ∷ 0 ∷ 0 ∷ 0 ∷ 0 ∷ 0 ∷ 0 ∷ 0 ∷ 0 ∷ 0 ∷ 0 ∷ 0 ∷ 0 ∷ 0 ∷ 0 ∷ 0 ∷ 0 ∷ 0 ∷ [])) ∷ marks.Sent (q 0 257) (q 0 512) None (Some 2) (10 ∷ 0 ∷ 255 ∷ 255 ∷ 0 ∷ 0 ∷ 2 ∷ 0 ∷ 128 ∷ 8 ∷ 236 ∷ 196 ∷ 0 ∷ 0 ∷ 0 ∷ 2 ∷ 0 ∷ 0 ∷ 61 ∷ 236 ∷ 1 ∷ 0 ∷ 0 ∷ 1 ∷ 0 ∷ 0 ∷ 0 ∷ 64 ∷ 0 ∷ 0 ∷ 0 ∷ 0 ∷ 0 ∷ 0 ∷ 0 ∷ 0 ∷ 0 ∷ 0 ∷ 0 ∷ 0 ∷ 0 ∷ 0 ∷ 0 ∷ 0 ∷ 0 ∷ 0 ∷ 0 ∷ 0 ∷ 0 ∷ 0 ∷ 0 ∷ 0 ∷ 0 ∷ 0 ∷ 0 ∷ 0 ∷ 0 ∷ 0 ∷ 0 ∷ 0 ∷ 0 ∷ 0 ∷ 0 ∷ 0 ∷ 0 ∷ 0 ∷ 0 ∷ 0 ∷ 0 ∷ 0 ∷ 0 ∷ 0 ∷ 0 ∷ 0 ∷ 0 ∷ 0 ∷ 0 ∷ 0 ∷ 0 ∷ 0 ∷ 0 ∷ 0 ∷ 0 ∷ 0 ∷ 0 ∷ 0 ∷ 0 ∷ 0 ∷ 0 ∷ 0 ∷ 0 ∷ 0 ∷ []) ∷ marks.Lost (q 0 512) None ∷ [])
     ∷
-    entry 94 0 (events.Verb 0 (verbs.Poll (s 0 0 0) 16 0)) (marks.Verb 0 (verbs.Poll (s 0 0 0) 16 0) (answers.Polled (polled ([]))) ∷ [])
+    entry 94 0 (events.Verb 0 (verbs.Poll (s 0 0 0) 16 0)) (marks.Verb 0 (verbs.Poll (s 0 0 0) 16 0) (answers.Polled ([])) ∷ [])
     ∷
     entry 95 0 (events.Verb 1 (verbs.AllocMw (s 0 1 0) 2)) (marks.Verb 1 (verbs.AllocMw (s 0 1 0) 2) answers.Fine ∷ [])
     ∷
@@ -223,7 +223,7 @@ history =
     ∷
     entry 98 0 (events.Request (q 0 257) lots.Pass) (marks.Local (q 0 257) (d 0 0) (k 257) kinds.Read 12884901907 100 (verdicts.Read (0 ∷ 0 ∷ 0 ∷ 0 ∷ 0 ∷ 0 ∷ 0 ∷ 0 ∷ 0 ∷ 0 ∷ 0 ∷ 0 ∷ 0 ∷ 0 ∷ 0 ∷ 0 ∷ 0 ∷ 0 ∷ 0 ∷ 0 ∷ 0 ∷ 0 ∷ 0 ∷ 0 ∷ 0 ∷ 0 ∷ 0 ∷ 0 ∷ 0 ∷ 0 ∷ 0 ∷ 0 ∷ 0 ∷ 0 ∷ 0 ∷ 0 ∷ 0 ∷ 0 ∷ 0 ∷ 0 ∷ 0 ∷ 0 ∷ 0 ∷ 0 ∷ 0 ∷ 0 ∷ 0 ∷ 0 ∷ 0 ∷ 0 ∷ 0 ∷ 0 ∷ 0 ∷ 0 ∷ 0 ∷ 0 ∷ 0 ∷ 0 ∷ 0 ∷ 0 ∷ 0 ∷ 0 ∷ 0 ∷ 0 ∷ 0 ∷ 0 ∷ 0 ∷ 0 ∷ 0 ∷ 0 ∷ 0 ∷ 0 ∷ 0 ∷ 0 ∷ 0 ∷ 0 ∷ 0 ∷ 0 ∷ 0 ∷ 0 ∷ 0 ∷ 0 ∷ 0 ∷ 0 ∷ 0 ∷ 0 ∷ 0 ∷ 0 ∷ 0 ∷ 0 ∷ 0 ∷ 0 ∷ 0 ∷ 0 ∷ 0 ∷ 0 ∷ 0 ∷ 0 ∷ 0 ∷ 0 ∷ [])) ∷ marks.Sent (q 0 257) (q 0 512) None (Some 3) (23 ∷ 0 ∷ 255 ∷ 255 ∷ 0 ∷ 0 ∷ 2 ∷ 0 ∷ 128 ∷ 8 ∷ 236 ∷ 197 ∷ 0 ∷ 0 ∷ 0 ∷ 0 ∷ 0 ∷ 0 ∷ 0 ∷ 0 ∷ 0 ∷ 0 ∷ 0 ∷ 0 ∷ 0 ∷ 0 ∷ 0 ∷ 0 ∷ 0 ∷ 0 ∷ 0 ∷ 0 ∷ 0 ∷ 0 ∷ 0 ∷ 0 ∷ 0 ∷ 0 ∷ 0 ∷ 0 ∷ 0 ∷ 0 ∷ 0 ∷ 0 ∷ 0 ∷ 0 ∷ 0 ∷ 0 ∷ 0 ∷ 0 ∷ 0 ∷ 0 ∷ 0 ∷ 0 ∷ 0 ∷ 0 ∷ 0 ∷ 0 ∷ 0 ∷ 0 ∷ 0 ∷ 0 ∷ 0 ∷ 0 ∷ 0 ∷ 0 ∷ 0 ∷ 0 ∷ 0 ∷ 0 ∷ 0 ∷ 0 ∷ 0 ∷ 0 ∷ 0 ∷ 0 ∷ 0 ∷ 0 ∷ 0 ∷ 0 ∷ 0 ∷ 0 ∷ 0 ∷ 0 ∷ 0 ∷ 0 ∷ 0 ∷ 0 ∷ 0 ∷ 0 ∷ 0 ∷ 0 ∷ 0 ∷ 0 ∷ 0 ∷ 0 ∷ 0 ∷ 0 ∷ 0 ∷ 0 ∷ 0 ∷ 0 ∷ 0 ∷ 0 ∷ 0 ∷ 0 ∷ 0 ∷ 0 ∷ 0 ∷ 0 ∷ 0 ∷ 0 ∷ 0 ∷ 0 ∷ 0 ∷ 0 ∷ []) ∷ marks.Lost (q 0 512) None ∷ [])
     ∷
-    entry 99 0 (events.Verb 0 (verbs.Poll (s 0 0 0) 16 0)) (marks.Verb 0 (verbs.Poll (s 0 0 0) 16 0) (answers.Polled (polled ([]))) ∷ [])
+    entry 99 0 (events.Verb 0 (verbs.Poll (s 0 0 0) 16 0)) (marks.Verb 0 (verbs.Poll (s 0 0 0) 16 0) (answers.Polled ([])) ∷ [])
     ∷
     entry 100 0 (events.Verb 1 (verbs.ModifyQp (s 0 1 0) changes.Init)) (marks.Verb 1 (verbs.ModifyQp (s 0 1 0) changes.Init) answers.Fine ∷ [])
     ∷
@@ -231,7 +231,7 @@ history =
     ∷
     entry 102 0 (events.Verb 1 (verbs.ModifyQp (s 0 1 0) (changes.Rtr (q 0 257) 2 584898 256 16))) (marks.Verb 1 (verbs.ModifyQp (s 0 1 0) (changes.Rtr (q 0 257) 2 584898 256 16)) answers.Fine ∷ [])
     ∷
-    entry 103 0 (events.Verb 0 (verbs.Poll (s 0 0 0) 16 0)) (marks.Verb 0 (verbs.Poll (s 0 0 0) 16 0) (answers.Polled (polled ([]))) ∷ [])
+    entry 103 0 (events.Verb 0 (verbs.Poll (s 0 0 0) 16 0)) (marks.Verb 0 (verbs.Poll (s 0 0 0) 16 0) (answers.Polled ([])) ∷ [])
     ∷
     entry 104 0 (events.Verb 1 (verbs.ModifyQp (s 0 1 0) (changes.Rts 3356257 1 3 1))) (marks.Verb 1 (verbs.ModifyQp (s 0 1 0) (changes.Rts 3356257 1 3 1)) answers.Fine ∷ [])
     ∷
@@ -241,7 +241,7 @@ history =
     ∷
     entry 107 0 (events.Verb 0 (verbs.ModifyQp (s 0 0 0) changes.Init)) (marks.Verb 0 (verbs.ModifyQp (s 0 0 0) changes.Init) answers.Fine ∷ [])
     ∷
-    entry 108 0 (events.Verb 1 (verbs.Poll (s 0 1 0) 16 0)) (marks.Verb 1 (verbs.Poll (s 0 1 0) 16 0) (answers.Polled (polled ([]))) ∷ [])
+    entry 108 0 (events.Verb 1 (verbs.Poll (s 0 1 0) 16 0)) (marks.Verb 1 (verbs.Poll (s 0 1 0) 16 0) (answers.Polled ([])) ∷ [])
     ∷
     entry 109 0 (events.Verb 0 (verbs.ModifyQp (s 0 0 0) (changes.Rtr (q 0 513) 2 10023899 256 11))) (marks.Verb 0 (verbs.ModifyQp (s 0 0 0) (changes.Rtr (q 0 513) 2 10023899 256 11)) answers.Fine ∷ [])
     ∷
@@ -253,27 +253,27 @@ history =
     ∷
     entry 113 0 (events.Verb 0 (verbs.PostRecv (s 0 0 0) (receive 1005 (list ((piece 1 12884901888 1972) ∷ (piece 257 12884901888 6028) ∷ []))))) (marks.Verb 0 (verbs.PostRecv (s 0 0 0) (receive 1005 (list ((piece 1 12884901888 1972) ∷ (piece 257 12884901888 6028) ∷ [])))) (answers.Posted None) ∷ [])
     ∷
-    entry 114 0 (events.Verb 1 (verbs.Poll (s 0 1 0) 16 0)) (marks.Verb 1 (verbs.Poll (s 0 1 0) 16 0) (answers.Polled (polled ([]))) ∷ [])
+    entry 114 0 (events.Verb 1 (verbs.Poll (s 0 1 0) 16 0)) (marks.Verb 1 (verbs.Poll (s 0 1 0) 16 0) (answers.Polled ([])) ∷ [])
     ∷
-    entry 115 0 (events.Verb 0 (verbs.Poll (s 0 0 0) 16 0)) (marks.Verb 0 (verbs.Poll (s 0 0 0) 16 0) (answers.Polled (polled ([]))) ∷ [])
+    entry 115 0 (events.Verb 0 (verbs.Poll (s 0 0 0) 16 0)) (marks.Verb 0 (verbs.Poll (s 0 0 0) 16 0) (answers.Polled ([])) ∷ [])
     ∷
     entry 116 0 (events.Verb 0 (verbs.PostRecv (s 0 0 0) (receive 1006 (list ((piece 1 12884901888 1000) ∷ []))))) (marks.Verb 0 (verbs.PostRecv (s 0 0 0) (receive 1006 (list ((piece 1 12884901888 1000) ∷ [])))) (answers.Posted None) ∷ [])
     ∷
-    entry 117 0 (events.Verb 0 (verbs.Poll (s 0 0 0) 16 0)) (marks.Verb 0 (verbs.Poll (s 0 0 0) 16 0) (answers.Polled (polled ([]))) ∷ [])
+    entry 117 0 (events.Verb 0 (verbs.Poll (s 0 0 0) 16 0)) (marks.Verb 0 (verbs.Poll (s 0 0 0) 16 0) (answers.Polled ([])) ∷ [])
     ∷
     entry 118 0 (events.Verb 0 (verbs.PostRecv (s 0 0 0) (receive 1007 (list ((piece 257 12884901888 2971) ∷ (piece 257 12884901888 1436) ∷ (piece 257 12884901888 1593) ∷ []))))) (marks.Verb 0 (verbs.PostRecv (s 0 0 0) (receive 1007 (list ((piece 257 12884901888 2971) ∷ (piece 257 12884901888 1436) ∷ (piece 257 12884901888 1593) ∷ [])))) (answers.Posted None) ∷ [])
     ∷
-    entry 119 0 (events.Verb 0 (verbs.Poll (s 0 0 0) 16 0)) (marks.Verb 0 (verbs.Poll (s 0 0 0) 16 0) (answers.Polled (polled ([]))) ∷ [])
+    entry 119 0 (events.Verb 0 (verbs.Poll (s 0 0 0) 16 0)) (marks.Verb 0 (verbs.Poll (s 0 0 0) 16 0) (answers.Polled ([])) ∷ [])
     ∷
     entry 120 0 (events.Verb 0 (verbs.PostRecv (s 0 0 0) (receive 1008 (list ((piece 1 12884902105 4) ∷ (piece 257 12884901987 12) ∷ (piece 257 12884901916 45) ∷ (piece 1 12884902109 3) ∷ []))))) (marks.Verb 0 (verbs.PostRecv (s 0 0 0) (receive 1008 (list ((piece 1 12884902105 4) ∷ (piece 257 12884901987 12) ∷ (piece 257 12884901916 45) ∷ (piece 1 12884902109 3) ∷ [])))) (answers.Posted None) ∷ [])
     ∷
-    entry 121 0 (events.Verb 0 (verbs.Poll (s 0 0 0) 16 0)) (marks.Verb 0 (verbs.Poll (s 0 0 0) 16 0) (answers.Polled (polled ([]))) ∷ [])
+    entry 121 0 (events.Verb 0 (verbs.Poll (s 0 0 0) 16 0)) (marks.Verb 0 (verbs.Poll (s 0 0 0) 16 0) (answers.Polled ([])) ∷ [])
     ∷
     entry 122 0 (events.Verb 0 (verbs.PostSend (s 0 0 0) (request 9 true false false (ops.FetchAdd 8589962320 (k 16777217) 18446744073709551615 (list ((piece 1 12884901962 3) ∷ (piece 257 12884901946 5) ∷ (piece 1 12884902008 0) ∷ [])))))) (marks.Verb 0 (verbs.PostSend (s 0 0 0) (request 9 true false false (ops.FetchAdd 8589962320 (k 16777217) 18446744073709551615 (list ((piece 1 12884901962 3) ∷ (piece 257 12884901946 5) ∷ (piece 1 12884902008 0) ∷ []))))) (answers.Posted None) ∷ [])
     ∷
     entry 123 0 (events.Request (q 0 256) lots.Pass) (marks.Sent (q 0 256) (q 0 513) None (Some 0) (20 ∷ 0 ∷ 255 ∷ 255 ∷ 0 ∷ 0 ∷ 2 ∷ 1 ∷ 128 ∷ 0 ∷ 0 ∷ 0 ∷ 0 ∷ 0 ∷ 0 ∷ 2 ∷ 0 ∷ 0 ∷ 108 ∷ 80 ∷ 1 ∷ 0 ∷ 0 ∷ 1 ∷ 255 ∷ 255 ∷ 255 ∷ 255 ∷ 255 ∷ 255 ∷ 255 ∷ 255 ∷ 0 ∷ 0 ∷ 0 ∷ 0 ∷ 0 ∷ 0 ∷ 0 ∷ 0 ∷ []) ∷ marks.Lost (q 0 513) None ∷ [])
     ∷
-    entry 124 0 (events.Verb 0 (verbs.Poll (s 0 0 0) 16 0)) (marks.Verb 0 (verbs.Poll (s 0 0 0) 16 0) (answers.Polled (polled ([]))) ∷ [])
+    entry 124 0 (events.Verb 0 (verbs.Poll (s 0 0 0) 16 0)) (marks.Verb 0 (verbs.Poll (s 0 0 0) 16 0) (answers.Polled ([])) ∷ [])
     ∷
     entry 125 0 (events.Verb 0 (verbs.PostRecv (s 0 0 0) (receive 1010 (list ((piece 257 12884901888 512) ∷ []))))) (marks.Verb 0 (verbs.PostRecv (s 0 0 0) (receive 1010 (list ((piece 257 12884901888 512) ∷ [])))) (answers.Posted None) ∷ [])
     ∷

@@ -21,7 +21,7 @@ use Rattle.ca_wire.specs.Packet.{be_bytes, packet_bytes}
 use Rattle.ca_wire.specs.Table.{row_of}
 use Rattle.ca_model.specs.Entries.{EntryValue}
 use Rattle.ca_model.specs.machine.Run.{run as outcome_of}
-use Rattle.ca_model.proofs.Literals.{d, s, q, k, r, run, piece, list, polled, request, receive, completion, grant, entry, adapter}
+use Rattle.ca_model.proofs.Literals.{d, s, q, k, r, run, piece, list, request, receive, completion, grant, entry, adapter}
 
 abbrev history : List EntryValue
 history =
@@ -135,7 +135,7 @@ history =
     ∷
     entry 54 0 (events.Verb 1 (verbs.ModifyQp (s 0 1 1) changes.Init)) (marks.Verb 1 (verbs.ModifyQp (s 0 1 1) changes.Init) answers.Fine ∷ [])
     ∷
-    entry 55 0 (events.Verb 2 (verbs.Poll (s 0 2 1) 16 0)) (marks.Verb 2 (verbs.Poll (s 0 2 1) 16 0) (answers.Polled (polled ([]))) ∷ [])
+    entry 55 0 (events.Verb 2 (verbs.Poll (s 0 2 1) 16 0)) (marks.Verb 2 (verbs.Poll (s 0 2 1) 16 0) (answers.Polled ([])) ∷ [])
     ∷
     entry 56 0 (events.Verb 0 (verbs.ModifyQp (s 0 0 2) (changes.Rtr (q 0 513) 1 1 256 27))) (marks.Verb 0 (verbs.ModifyQp (s 0 0 2) (changes.Rtr (q 0 513) 1 1 256 27)) answers.Fine ∷ [])
     ∷
@@ -175,7 +175,7 @@ history =
     ∷
     entry 74 0 (events.Verb 1 (verbs.ModifyQp (s 0 1 0) (changes.Rtr (q 0 257) 1 1 4096 15))) (marks.Verb 1 (verbs.ModifyQp (s 0 1 0) (changes.Rtr (q 0 257) 1 1 4096 15)) answers.Fine ∷ [])
     ∷
-    entry 75 0 (events.Verb 3 (verbs.Poll (s 1 0 1) 16 0)) (marks.Verb 3 (verbs.Poll (s 1 0 1) 16 0) (answers.Polled (polled ([]))) ∷ [])
+    entry 75 0 (events.Verb 3 (verbs.Poll (s 1 0 1) 16 0)) (marks.Verb 3 (verbs.Poll (s 1 0 1) 16 0) (answers.Polled ([])) ∷ [])
     ∷
     entry 76 0 (events.Verb 3 (verbs.PostRecv (s 1 0 2) (receive 1002 (list ((piece 257 4294970620 7658) ∷ (piece 513 8589934607 342) ∷ []))))) (marks.Verb 3 (verbs.PostRecv (s 1 0 2) (receive 1002 (list ((piece 257 4294970620 7658) ∷ (piece 513 8589934607 342) ∷ [])))) (answers.Posted None) ∷ [])
     ∷
@@ -197,7 +197,7 @@ history =
     ∷
     entry 85 0 (events.Verb 4 (verbs.PostRecv (s 1 1 0) (receive 1003 (list ((piece 16777217 4294967362 8000) ∷ []))))) (marks.Verb 4 (verbs.PostRecv (s 1 1 0) (receive 1003 (list ((piece 16777217 4294967362 8000) ∷ [])))) (answers.Posted None) ∷ [])
     ∷
-    entry 86 0 (events.Verb 0 (verbs.Poll (s 0 0 0) 16 0)) (marks.Verb 0 (verbs.Poll (s 0 0 0) 16 0) (answers.Polled (polled ([]))) ∷ [])
+    entry 86 0 (events.Verb 0 (verbs.Poll (s 0 0 0) 16 0)) (marks.Verb 0 (verbs.Poll (s 0 0 0) 16 0) (answers.Polled ([])) ∷ [])
     ∷
     entry 87 0 (events.Verb 1 (verbs.ModifyQp (s 0 1 2) (changes.Rtr (q 1 256) 1 8388608 256 11))) (marks.Verb 1 (verbs.ModifyQp (s 0 1 2) (changes.Rtr (q 1 256) 1 8388608 256 11)) answers.Fine ∷ [])
     ∷
@@ -237,7 +237,7 @@ history =
     ∷
     entry 105 0 (events.Verb 4 (verbs.PostRecv (s 1 1 0) (receive 1004 (list ((piece 16777217 4294968464 131) ∷ (piece 16777217 4294974114 44) ∷ (piece 16777217 4294971704 264) ∷ (piece 16777217 4294969640 73) ∷ []))))) (marks.Verb 4 (verbs.PostRecv (s 1 1 0) (receive 1004 (list ((piece 16777217 4294968464 131) ∷ (piece 16777217 4294974114 44) ∷ (piece 16777217 4294971704 264) ∷ (piece 16777217 4294969640 73) ∷ [])))) (answers.Posted None) ∷ [])
     ∷
-    entry 106 0 (events.Verb 4 (verbs.Poll (s 1 1 1) 16 0)) (marks.Verb 4 (verbs.Poll (s 1 1 1) 16 0) (answers.Polled (polled ([]))) ∷ [])
+    entry 106 0 (events.Verb 4 (verbs.Poll (s 1 1 1) 16 0)) (marks.Verb 4 (verbs.Poll (s 1 1 1) 16 0) (answers.Polled ([])) ∷ [])
     ∷
     entry 107 0 (events.Request (q 0 769) lots.Pass) (marks.Granted (grant (k 41944833) (d 0 2) None false 4294967296 64 (r false true true false false) ((run 0 0 0 64) ∷ [])) ∷ marks.Done (q 0 769) (completion (q 0 769) false 0 990 operations.Bind statuses.Success 0 None None) None ∷ [])
     ∷
@@ -249,27 +249,27 @@ history =
     ∷
     entry 111 0 (events.Verb 3 (verbs.PostRecv (s 1 0 0) (receive 1001 (list ([]))))) (marks.Verb 3 (verbs.PostRecv (s 1 0 0) (receive 1001 (list ([])))) (answers.Posted None) ∷ [])
     ∷
-    entry 112 0 (events.Verb 3 (verbs.Poll (s 1 0 1) 16 0)) (marks.Verb 3 (verbs.Poll (s 1 0 1) 16 0) (answers.Polled (polled ([]))) ∷ [])
+    entry 112 0 (events.Verb 3 (verbs.Poll (s 1 0 1) 16 0)) (marks.Verb 3 (verbs.Poll (s 1 0 1) 16 0) (answers.Polled ([])) ∷ [])
     ∷
-    entry 113 0 (events.Verb 1 (verbs.Poll (s 0 1 0) 16 0)) (marks.Verb 1 (verbs.Poll (s 0 1 0) 16 0) (answers.Polled (polled ([]))) ∷ [])
+    entry 113 0 (events.Verb 1 (verbs.Poll (s 0 1 0) 16 0)) (marks.Verb 1 (verbs.Poll (s 0 1 0) 16 0) (answers.Polled ([])) ∷ [])
     ∷
     entry 114 0 (events.Verb 2 (verbs.ModifyQp (s 0 2 1) changes.Init)) (marks.Verb 2 (verbs.ModifyQp (s 0 2 1) changes.Init) answers.Fine ∷ [])
     ∷
     entry 115 0 (events.Verb 2 (verbs.ModifyQp (s 0 2 1) (changes.Rtr (q 1 512) 2 9507228 256 8))) (marks.Verb 2 (verbs.ModifyQp (s 0 2 1) (changes.Rtr (q 1 512) 2 9507228 256 8)) answers.Fine ∷ [])
     ∷
-    entry 116 0 (events.Verb 0 (verbs.Poll (s 0 0 1) 16 0)) (marks.Verb 0 (verbs.Poll (s 0 0 1) 16 0) (answers.Polled (polled ([]))) ∷ [])
+    entry 116 0 (events.Verb 0 (verbs.Poll (s 0 0 1) 16 0)) (marks.Verb 0 (verbs.Poll (s 0 0 1) 16 0) (answers.Polled ([])) ∷ [])
     ∷
     entry 117 0 (events.Verb 4 (verbs.PostSend (s 1 1 0) (request 5 true false false (ops.Read 4294967296 (k 33554689) (list ((piece 16777217 4294973614 248) ∷ (piece 16777217 4294973114 7) ∷ [])))))) (marks.Verb 4 (verbs.PostSend (s 1 1 0) (request 5 true false false (ops.Read 4294967296 (k 33554689) (list ((piece 16777217 4294973614 248) ∷ (piece 16777217 4294973114 7) ∷ []))))) (answers.Posted None) ∷ [])
     ∷
     entry 118 0 (events.Verb 2 (verbs.ModifyQp (s 0 2 1) (changes.Rts 9568943 7 0 16))) (marks.Verb 2 (verbs.ModifyQp (s 0 2 1) (changes.Rts 9568943 7 0 16)) answers.Fine ∷ [])
     ∷
-    entry 119 0 (events.Verb 1 (verbs.Poll (s 0 1 1) 1 0)) (marks.Verb 1 (verbs.Poll (s 0 1 1) 1 0) (answers.Polled (polled ([]))) ∷ [])
+    entry 119 0 (events.Verb 1 (verbs.Poll (s 0 1 1) 1 0)) (marks.Verb 1 (verbs.Poll (s 0 1 1) 1 0) (answers.Polled ([])) ∷ [])
     ∷
     entry 120 0 (events.Verb 0 (verbs.ModifyQp (s 0 0 0) changes.Init)) (marks.Verb 0 (verbs.ModifyQp (s 0 0 0) changes.Init) answers.Fine ∷ [])
     ∷
     entry 121 0 (events.Verb 3 (verbs.PostSend (s 1 0 2) (request 3 true false false (ops.Bind1 0 (k 257) 4294967563 8190 (r false false true false false))))) (marks.Verb 3 (verbs.PostSend (s 1 0 2) (request 3 true false false (ops.Bind1 0 (k 257) 4294967563 8190 (r false false true false false)))) (answers.Refused refusals.NoSuch) ∷ [])
     ∷
-    entry 122 0 (events.Verb 4 (verbs.Poll (s 1 1 1) 16 0)) (marks.Verb 4 (verbs.Poll (s 1 1 1) 16 0) (answers.Polled (polled ([]))) ∷ [])
+    entry 122 0 (events.Verb 4 (verbs.Poll (s 1 1 1) 16 0)) (marks.Verb 4 (verbs.Poll (s 1 1 1) 16 0) (answers.Polled ([])) ∷ [])
     ∷
     entry 123 0 (events.Verb 0 (verbs.ModifyQp (s 0 0 0) (changes.Rtr (q 1 258) 1 16777214 256 24))) (marks.Verb 0 (verbs.ModifyQp (s 0 0 0) (changes.Rtr (q 1 258) 1 16777214 256 24)) answers.Fine ∷ [])
     ∷
@@ -293,13 +293,13 @@ history =
     ∷
     entry 133 0 (events.Verb 1 (verbs.PostSrq (s 0 1 0) (receive 1002 (list ((piece 16777729 4294967314 3) ∷ (piece 16777217 4294967314 1) ∷ []))))) (marks.Verb 1 (verbs.PostSrq (s 0 1 0) (receive 1002 (list ((piece 16777729 4294967314 3) ∷ (piece 16777217 4294967314 1) ∷ [])))) (answers.Refused refusals.QueueFull) ∷ [])
     ∷
-    entry 134 0 (events.Verb 3 (verbs.Poll (s 1 0 0) 16 0)) (marks.Verb 3 (verbs.Poll (s 1 0 0) 16 0) (answers.Polled (polled ([]))) ∷ [])
+    entry 134 0 (events.Verb 3 (verbs.Poll (s 1 0 0) 16 0)) (marks.Verb 3 (verbs.Poll (s 1 0 0) 16 0) (answers.Polled ([])) ∷ [])
     ∷
-    entry 135 0 (events.Verb 0 (verbs.Poll (s 0 0 1) 16 0)) (marks.Verb 0 (verbs.Poll (s 0 0 1) 16 0) (answers.Polled (polled ([]))) ∷ [])
+    entry 135 0 (events.Verb 0 (verbs.Poll (s 0 0 1) 16 0)) (marks.Verb 0 (verbs.Poll (s 0 0 1) 16 0) (answers.Polled ([])) ∷ [])
     ∷
     entry 136 0 (events.Verb 2 (verbs.Inject (q 0 769) (6 ∷ 192 ∷ 255 ∷ 255 ∷ 0 ∷ 0 ∷ 3 ∷ 1 ∷ 128 ∷ 145 ∷ 17 ∷ 161 ∷ 0 ∷ 0 ∷ 0 ∷ 1 ∷ 0 ∷ 0 ∷ 0 ∷ 0 ∷ 2 ∷ 0 ∷ 1 ∷ 1 ∷ 0 ∷ 0 ∷ 0 ∷ 144 ∷ 30 ∷ 4 ∷ 144 ∷ 94 ∷ 33 ∷ 142 ∷ 25 ∷ 54 ∷ 4 ∷ 36 ∷ 167 ∷ 189 ∷ 36 ∷ 216 ∷ 236 ∷ 47 ∷ 160 ∷ 11 ∷ 70 ∷ 52 ∷ 36 ∷ 112 ∷ 146 ∷ 89 ∷ 49 ∷ 99 ∷ 170 ∷ 37 ∷ 60 ∷ 33 ∷ 252 ∷ 159 ∷ 124 ∷ 18 ∷ 224 ∷ 70 ∷ 182 ∷ 132 ∷ 134 ∷ 229 ∷ 23 ∷ 188 ∷ 162 ∷ 51 ∷ []))) (marks.Verb 2 (verbs.Inject (q 0 769) (6 ∷ 192 ∷ 255 ∷ 255 ∷ 0 ∷ 0 ∷ 3 ∷ 1 ∷ 128 ∷ 145 ∷ 17 ∷ 161 ∷ 0 ∷ 0 ∷ 0 ∷ 1 ∷ 0 ∷ 0 ∷ 0 ∷ 0 ∷ 2 ∷ 0 ∷ 1 ∷ 1 ∷ 0 ∷ 0 ∷ 0 ∷ 144 ∷ 30 ∷ 4 ∷ 144 ∷ 94 ∷ 33 ∷ 142 ∷ 25 ∷ 54 ∷ 4 ∷ 36 ∷ 167 ∷ 189 ∷ 36 ∷ 216 ∷ 236 ∷ 47 ∷ 160 ∷ 11 ∷ 70 ∷ 52 ∷ 36 ∷ 112 ∷ 146 ∷ 89 ∷ 49 ∷ 99 ∷ 170 ∷ 37 ∷ 60 ∷ 33 ∷ 252 ∷ 159 ∷ 124 ∷ 18 ∷ 224 ∷ 70 ∷ 182 ∷ 132 ∷ 134 ∷ 229 ∷ 23 ∷ 188 ∷ 162 ∷ 51 ∷ [])) answers.Fine ∷ marks.Arrived (q 0 769) None ∷ [])
     ∷
-    entry 137 0 (events.Verb 0 (verbs.Poll (s 0 0 1) 1 0)) (marks.Verb 0 (verbs.Poll (s 0 0 1) 1 0) (answers.Polled (polled ([]))) ∷ [])
+    entry 137 0 (events.Verb 0 (verbs.Poll (s 0 0 1) 1 0)) (marks.Verb 0 (verbs.Poll (s 0 0 1) 1 0) (answers.Polled ([])) ∷ [])
     ∷
     entry 138 0 (events.Deliver (q 0 769) 0) (marks.Arrived (q 0 769) (Some 0) ∷ [])
     ∷
@@ -311,9 +311,9 @@ history =
     ∷
     entry 142 0 (events.Verb 0 (verbs.PostRecv (s 0 0 2) (receive 1005 (list ([]))))) (marks.Verb 0 (verbs.PostRecv (s 0 0 2) (receive 1005 (list ([])))) (answers.Refused refusals.QueueFull) ∷ [])
     ∷
-    entry 143 0 (events.Verb 3 (verbs.Poll (s 1 0 0) 4 0)) (marks.Verb 3 (verbs.Poll (s 1 0 0) 4 0) (answers.Polled (polled ([]))) ∷ [])
+    entry 143 0 (events.Verb 3 (verbs.Poll (s 1 0 0) 4 0)) (marks.Verb 3 (verbs.Poll (s 1 0 0) 4 0) (answers.Polled ([])) ∷ [])
     ∷
-    entry 144 0 (events.Verb 1 (verbs.Poll (s 0 1 0) 16 0)) (marks.Verb 1 (verbs.Poll (s 0 1 0) 16 0) (answers.Polled (polled ([]))) ∷ [])
+    entry 144 0 (events.Verb 1 (verbs.Poll (s 0 1 0) 16 0)) (marks.Verb 1 (verbs.Poll (s 0 1 0) 16 0) (answers.Polled ([])) ∷ [])
     ∷
     entry 145 0 (events.Verb 1 (verbs.PostSrq (s 0 1 0) (receive 1003 (list ((piece 16777729 4294967296 8000) ∷ []))))) (marks.Verb 1 (verbs.PostSrq (s 0 1 0) (receive 1003 (list ((piece 16777729 4294967296 8000) ∷ [])))) (answers.Refused refusals.QueueFull) ∷ [])
     ∷
@@ -329,7 +329,7 @@ history =
     ∷
     entry 151 0 (events.Verb 2 (verbs.ModifyQp (s 0 2 0) changes.Init)) (marks.Verb 2 (verbs.ModifyQp (s 0 2 0) changes.Init) answers.Fine ∷ [])
     ∷
-    entry 152 0 (events.Verb 1 (verbs.Poll (s 0 1 0) 16 0)) (marks.Verb 1 (verbs.Poll (s 0 1 0) 16 0) (answers.Polled (polled ([]))) ∷ [])
+    entry 152 0 (events.Verb 1 (verbs.Poll (s 0 1 0) 16 0)) (marks.Verb 1 (verbs.Poll (s 0 1 0) 16 0) (answers.Polled ([])) ∷ [])
     ∷
     entry 153 0 (events.Respond (q 0 512) lots.Pass) (marks.Sent (q 0 512) (q 0 257) (Some 0) None (17 ∷ 0 ∷ 255 ∷ 255 ∷ 0 ∷ 0 ∷ 1 ∷ 1 ∷ 0 ∷ 0 ∷ 0 ∷ 1 ∷ 97 ∷ 0 ∷ 0 ∷ 0 ∷ []) ∷ [])
     ∷
@@ -341,7 +341,7 @@ history =
     ∷
     entry 157 0 (events.Verb 2 (verbs.ModifyQp (s 0 2 0) (changes.Rtr (q 1 257) 2 0 256 14))) (marks.Verb 2 (verbs.ModifyQp (s 0 2 0) (changes.Rtr (q 1 257) 2 0 256 14)) answers.Fine ∷ [])
     ∷
-    entry 158 0 (events.Verb 3 (verbs.Poll (s 1 0 0) 4 0)) (marks.Verb 3 (verbs.Poll (s 1 0 0) 4 0) (answers.Polled (polled ([]))) ∷ [])
+    entry 158 0 (events.Verb 3 (verbs.Poll (s 1 0 0) 4 0)) (marks.Verb 3 (verbs.Poll (s 1 0 0) 4 0) (answers.Polled ([])) ∷ [])
     ∷
     entry 159 0 (events.Deliver (q 0 769) 1) (marks.Arrived (q 0 769) (Some 1) ∷ marks.Done (q 0 769) (completion (q 0 769) true 0 1002 operations.Recv statuses.LocalLength 0 None None) None ∷ [])
     ∷
@@ -357,11 +357,11 @@ history =
     ∷
     entry 165 0 (events.Deliver (q 0 769) 1) (marks.Arrived (q 0 769) (Some 1) ∷ marks.Dropped (q 0 769) drops.State ∷ [])
     ∷
-    entry 166 0 (events.Verb 0 (verbs.Poll (s 0 0 1) 16 0)) (marks.Verb 0 (verbs.Poll (s 0 0 1) 16 0) (answers.Polled (polled ([]))) ∷ [])
+    entry 166 0 (events.Verb 0 (verbs.Poll (s 0 0 1) 16 0)) (marks.Verb 0 (verbs.Poll (s 0 0 1) 16 0) (answers.Polled ([])) ∷ [])
     ∷
     entry 167 0 (events.Respond (q 0 769) lots.Pass) (marks.Remote (q 0 769) (d 0 2) (Some 0) (k 33554689) kinds.Read 4294967296 255 (verdicts.Denied denials.OutOfRange) ∷ marks.Sent (q 0 769) (q 1 512) (Some 0) None (17 ∷ 0 ∷ 255 ∷ 255 ∷ 0 ∷ 0 ∷ 2 ∷ 0 ∷ 0 ∷ 145 ∷ 17 ∷ 156 ∷ 98 ∷ 0 ∷ 0 ∷ 1 ∷ []) ∷ [])
     ∷
-    entry 168 0 (events.Verb 1 (verbs.Poll (s 0 1 0) 16 0)) (marks.Verb 1 (verbs.Poll (s 0 1 0) 16 0) (answers.Polled (polled ([]))) ∷ [])
+    entry 168 0 (events.Verb 1 (verbs.Poll (s 0 1 0) 16 0)) (marks.Verb 1 (verbs.Poll (s 0 1 0) 16 0) (answers.Polled ([])) ∷ [])
     ∷
     entry 169 0 (events.Verb 2 (verbs.ModifyQp (s 0 2 0) (changes.Rts 9814790 7 0 16))) (marks.Verb 2 (verbs.ModifyQp (s 0 2 0) (changes.Rts 9814790 7 0 16)) answers.Fine ∷ [])
     ∷
@@ -377,7 +377,7 @@ history =
     ∷
     entry 175 0 (events.Request (q 0 513) lots.Pass) (marks.Local (q 0 513) (d 0 1) (k 16777729) kinds.Read 4294967296 139 (verdicts.Denied denials.OutOfRange) ∷ marks.Done (q 0 513) (completion (q 0 513) false 0 4 operations.Send statuses.LocalProtection 0 None None) None ∷ [])
     ∷
-    entry 176 0 (events.Verb 4 (verbs.Poll (s 0 0 1) 1 0)) (marks.Verb 4 (verbs.Poll (s 0 0 1) 1 0) (answers.Polled (polled ([]))) ∷ [])
+    entry 176 0 (events.Verb 4 (verbs.Poll (s 0 0 1) 1 0)) (marks.Verb 4 (verbs.Poll (s 0 0 1) 1 0) (answers.Polled ([])) ∷ [])
     ∷
     entry 177 0 (events.Verb 3 (verbs.PostSend (s 1 0 2) (request 920 true false false (ops.FetchAdd 4294967312 (k 1) 5 (list ((piece 513 8589934849 8) ∷ [])))))) (marks.Verb 3 (verbs.PostSend (s 1 0 2) (request 920 true false false (ops.FetchAdd 4294967312 (k 1) 5 (list ((piece 513 8589934849 8) ∷ []))))) (answers.Refused refusals.QueueState) ∷ [])
     ∷
@@ -387,7 +387,7 @@ history =
     ∷
     entry 180 0 (events.Verb 1 (verbs.PostSend (s 0 1 0) (request 1 true false true (ops.Read 4294967328 (k 257) (list ((piece 16777729 4294967296 2000) ∷ [])))))) (marks.Verb 1 (verbs.PostSend (s 0 1 0) (request 1 true false true (ops.Read 4294967328 (k 257) (list ((piece 16777729 4294967296 2000) ∷ []))))) (answers.Posted None) ∷ marks.Done (q 0 512) (completion (q 0 512) false 0 1 operations.Read statuses.Flushed 0 None None) None ∷ [])
     ∷
-    entry 181 0 (events.Verb 0 (verbs.Poll (s 0 0 1) 16 0)) (marks.Verb 0 (verbs.Poll (s 0 0 1) 16 0) (answers.Polled (polled ([]))) ∷ [])
+    entry 181 0 (events.Verb 0 (verbs.Poll (s 0 0 1) 16 0)) (marks.Verb 0 (verbs.Poll (s 0 0 1) 16 0) (answers.Polled ([])) ∷ [])
     ∷
     entry 182 0 (events.Request (q 0 258) lots.Pass) (marks.Local (q 0 258) (d 0 0) (k 257) kinds.Read 4294967328 256 (verdicts.Denied denials.OutOfRange) ∷ marks.Done (q 0 258) (completion (q 0 258) false 0 6 operations.Write statuses.LocalProtection 0 None None) None ∷ marks.Done (q 0 258) (completion (q 0 258) false 1 7 operations.CmpSwap statuses.Flushed 0 None None) None ∷ marks.Done (q 0 258) (completion (q 0 258) true 0 1001 operations.Recv statuses.Flushed 0 None None) None ∷ marks.Done (q 0 258) (completion (q 0 258) true 1 1002 operations.Recv statuses.Flushed 0 None None) None ∷ marks.Done (q 0 258) (completion (q 0 258) true 2 1003 operations.Recv statuses.Flushed 0 None None) None ∷ marks.Done (q 0 258) (completion (q 0 258) true 3 1004 operations.Recv statuses.Flushed 0 None None) None ∷ [])
     ∷
@@ -395,9 +395,9 @@ history =
     ∷
     entry 184 0 (events.Verb 4 (verbs.PostSend (s 1 1 0) (request 7 true false false (ops.Send (list ((piece 16777217 4294968000 64) ∷ [])))))) (marks.Verb 4 (verbs.PostSend (s 1 1 0) (request 7 true false false (ops.Send (list ((piece 16777217 4294968000 64) ∷ []))))) (answers.Posted None) ∷ marks.Done (q 1 512) (completion (q 1 512) false 2 7 operations.Send statuses.Flushed 0 None None) None ∷ [])
     ∷
-    entry 185 0 (events.Verb 1 (verbs.Poll (s 0 1 1) 16 0)) (marks.Verb 1 (verbs.Poll (s 0 1 1) 16 0) (answers.Polled (polled ((completion (q 0 512) false 0 1 operations.Read statuses.Flushed 0 None None) ∷ []))) ∷ [])
+    entry 185 0 (events.Verb 1 (verbs.Poll (s 0 1 1) 16 0)) (marks.Verb 1 (verbs.Poll (s 0 1 1) 16 0) (answers.Polled ((completion (q 0 512) false 0 1 operations.Read statuses.Flushed 0 None None) ∷ [])) ∷ [])
     ∷
-    entry 186 0 (events.Verb 3 (verbs.Poll (s 1 0 0) 4 0)) (marks.Verb 3 (verbs.Poll (s 1 0 0) 4 0) (answers.Polled (polled ([]))) ∷ [])
+    entry 186 0 (events.Verb 3 (verbs.Poll (s 1 0 0) 4 0)) (marks.Verb 3 (verbs.Poll (s 1 0 0) 4 0) (answers.Polled ([])) ∷ [])
     ∷
     entry 187 0 (events.Verb 4 (verbs.PostSend (s 0 0 1) (request 12 true false false (ops.FetchAdd 4294967320 (k 16777473) 18446744073709551615 (list ((piece 1 4294967305 8) ∷ [])))))) (marks.Verb 4 (verbs.PostSend (s 0 0 1) (request 12 true false false (ops.FetchAdd 4294967320 (k 16777473) 18446744073709551615 (list ((piece 1 4294967305 8) ∷ []))))) (answers.Posted None) ∷ [])
     ∷
@@ -419,9 +419,9 @@ history =
     ∷
     entry 196 0 (events.Deliver (q 1 512) 0) (marks.Arrived (q 1 512) (Some 0) ∷ marks.Dropped (q 1 512) drops.State ∷ [])
     ∷
-    entry 197 0 (events.Verb 2 (verbs.Poll (s 0 2 0) 16 0)) (marks.Verb 2 (verbs.Poll (s 0 2 0) 16 0) (answers.Polled (polled ([]))) ∷ [])
+    entry 197 0 (events.Verb 2 (verbs.Poll (s 0 2 0) 16 0)) (marks.Verb 2 (verbs.Poll (s 0 2 0) 16 0) (answers.Polled ([])) ∷ [])
     ∷
-    entry 198 0 (events.Verb 3 (verbs.Poll (s 1 0 0) 4 0)) (marks.Verb 3 (verbs.Poll (s 1 0 0) 4 0) (answers.Polled (polled ([]))) ∷ [])
+    entry 198 0 (events.Verb 3 (verbs.Poll (s 1 0 0) 4 0)) (marks.Verb 3 (verbs.Poll (s 1 0 0) 4 0) (answers.Polled ([])) ∷ [])
     ∷
     entry 199 0 (events.Request (q 0 257) lots.Lose) (marks.Sent (q 0 257) (q 0 512) (Some 0) (Some 0) (20 ∷ 0 ∷ 255 ∷ 255 ∷ 0 ∷ 0 ∷ 2 ∷ 0 ∷ 128 ∷ 0 ∷ 0 ∷ 1 ∷ 0 ∷ 0 ∷ 0 ∷ 1 ∷ 0 ∷ 0 ∷ 0 ∷ 24 ∷ 1 ∷ 0 ∷ 1 ∷ 1 ∷ 255 ∷ 255 ∷ 255 ∷ 255 ∷ 255 ∷ 255 ∷ 255 ∷ 255 ∷ 0 ∷ 0 ∷ 0 ∷ 0 ∷ 0 ∷ 0 ∷ 0 ∷ 0 ∷ []) ∷ marks.Lost (q 0 512) (Some 0) ∷ [])
     ∷

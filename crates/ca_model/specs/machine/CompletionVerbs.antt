@@ -98,7 +98,7 @@ With_places s cq polled (c ∷ cs) k =
 -- these completions are taken
 abbrev pub Take_plan : Call → Slot → CompletionQueue → List Completion → Plan
 Take_plan call s cq polled = With_places s cq polled polled (λ changes.
-    Answer_plan call (answers.Polled (record { items = polled })) ((Cq_of s := Some (after_polls (length polled) cq)) ∷ changes) [])
+    Answer_plan call (answers.Polled polled) ((Cq_of s := Some (after_polls (length polled) cq)) ∷ changes) [])
 
 -- a poll of what stands in the slot
 abbrev pub Poll_of : Call → Slot → ℕ → ℕ → Option CompletionQueue → Plan

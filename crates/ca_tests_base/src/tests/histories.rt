@@ -1,7 +1,6 @@
 use super::{PIECES, QUEUE, SLOT, copy_of, holds, list_of_two};
-use arrayvec::ArrayVec;
 use ca_base::{Bytes, Completion, RecvRequest, WcOp, WcStatus};
-use ca_model::{Answer, Entry, Event, History, Mark, Marks, Verb};
+use ca_model::{Answer, Completions, Entry, Event, History, Mark, Marks, Verb};
 use std::alloc::Global;
 
 const COMPLETION: Completion = Completion {
@@ -103,8 +102,8 @@ fn is_loaded(answer: &Answer) -> bool {
     }
 }
 
-fn polled() -> Option<Answer> {
-    let completions = ArrayVec::try_from([COMPLETION].as_slice()).ok()?;
+fn polled(alloc: Global) -> Option<Answer> {
+    let completions = Completions::empty(alloc).copy_with(COMPLETION).ok()?;
     Some(Answer::Polled(completions))
 }
 
@@ -114,7 +113,7 @@ fn loaded(alloc: Global) -> Option<Answer> {
 
 #[test]
 fn answers_are_copied(rt: HostRuntime) {
-    let answer = polled().and_then(copy_of);
+    let answer = polled(rt.alloc()).and_then(copy_of);
     holds(
         &rt,
         matches!(&answer, Some(answer) if is_polled(answer)),

@@ -1,7 +1,7 @@
 use super::{OTHER_QUEUE, QUEUE, SLOT, are_as_many, call_text, is_text, mark_is};
 use arrayvec::ArrayVec;
 use ca_base::{Completion, Key, OpRefusal, QueueId, RegionError, WcOp, WcStatus, WindowError};
-use ca_model::{Answer, Mark, Verb};
+use ca_model::{Answer, Completions, Mark, Verb};
 use std::test::Fail;
 
 /// The lines of completions of no bytes, with each status and each cause. The last twelve have the causes that the
@@ -503,6 +503,7 @@ fn a_poll_prints_what_it_took(rt: HostRuntime) -> Result<(), Fail> {
     for completion in TAKEN.as_slice() {
         taken.try_push(*completion)?;
     }
+    let taken = Completions::copy_of(rt.alloc(), &taken)?;
     let verb = Verb::Poll {
         slot: SLOT,
         n: 4,
