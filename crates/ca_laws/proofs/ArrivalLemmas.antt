@@ -192,7 +192,7 @@ pub record IsHeld (q : QueuePair) (r : PlacedReceive) : Type 0 where
 pub receive-failure-good : (q : QueuePair) (r : PlacedReceive) (status : WcStatus) (cause : Option OpRefusal) (code : NakCode) → IsQueue q → is_idle q.state ≡ false
     → IsHeld q r → IsGood q (receive_failure_effects q r status cause code)
 receive-failure-good q r status cause code s busy held =
-    more-marks q (refusal_effects code without) (receive_failure q r.place r.receive status cause ∷ [])
+    more-marks q (refusal_effects code without) (receive_failure q.queue r.place r.receive status cause ∷ [])
     ((refl, held-on q.receives s.receives held.taken), record {})
     (good-from q without (refusal_effects code without) (responder-later q without.responder) (refusal-good code without (no-message-queue q s busy) busy))
   where

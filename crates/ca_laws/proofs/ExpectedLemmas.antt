@@ -82,7 +82,7 @@ send-packet-good q p place r s busy held room = by (ends place)
     by : (b : Bool) → IsGood q (
         if b
         then queue_and_marks (with_message None (after true))
-        (receive_mark q r.receive.place r.receive.receive Success operations.Recv (r.before + length p.payload) p.imm (option_map (λ key. record { 0 = key }) p.ieth) ∷ [])
+        (receive_mark q.queue r.receive.place r.receive.receive Success operations.Recv (r.before + length p.payload) p.imm (option_map (λ key. record { 0 = key }) p.ieth) ∷ [])
         else queue_and_marks (with_message (Some message) (after false)) [])
     by true = record {
       sound = no-message-queue (after true) (sound true) busy;
@@ -170,7 +170,7 @@ write-packet-good q p place r next s busy reach taken = at (ends place)
 
     by : Option ℕ → Option PlacedReceive → Effects
     by (Some imm) (Some receive) = with_shared_receive q (queue_and_marks (done (with_receive_taken q))
-        (receive_mark q receive.place receive.receive Success operations.RecvImm r.whole (Some imm) None ∷ []))
+        (receive_mark q.queue receive.place receive.receive Success operations.RecvImm r.whole (Some imm) None ∷ []))
     by imm next = queue_and_marks (done q) []
 
     plain : IsGood q (queue_and_marks (done q) [])

@@ -117,13 +117,13 @@ good-then q e f one other = record {
 
 -- the sends from a place on are finished once the next one to be posted is the oldest
 flushed-sends : (q p : QueuePair) (place : ℕ) (ps : List PostedSend) → p.queue ≡ q.queue → place + length ps ≤ p.requester.oldest
-    → AreSettledMarks p (flushed_sends q place ps)
+    → AreSettledMarks p (flushed_sends q.queue place ps)
 flushed-sends q p place [] same enough = record {}
 flushed-sends q p place (x ∷ xs) same enough =
     ((sym same, omega (arith, enough)), flushed-sends q p (suc place) xs same (omega (arith, enough)))
 
 flushed-receives : (q p : QueuePair) (place : ℕ) (rs : List RecvRequest) → p.queue ≡ q.queue → IfSome p.receives (λ r. place + length rs ≤ r.next_taken)
-    → AreSettledMarks p (flushed_receives q place rs)
+    → AreSettledMarks p (flushed_receives q.queue place rs)
 flushed-receives q p place [] same enough = record {}
 flushed-receives q p place (x ∷ xs) same enough =
     ((sym same, by p.receives enough), flushed-receives q p (suc place) xs same (next p.receives enough))
@@ -142,14 +142,14 @@ items-end q place low high = omega (arith, low, high, length-drop (place - q.fir
 -- all that is posted and unfinished is finished by a flush
 pub flush-settled : (q : QueuePair) → q.sends.first ≤ q.requester.oldest → q.requester.oldest ≤ next_place q.sends → IfSome q.receives IsReceives
     → IsTaken q.receives q.responder.message → AreSettledMarks (in_error q) (flush_marks q)
-flush-settled q low high all-receives taken-receive = settled-append (in_error q) (flushed_sends q q.requester.oldest (items_from q.requester.oldest q.sends) ++ flushed_message q q.responder.message) _
-    (settled-append (in_error q) (flushed_sends q q.requester.oldest (items_from q.requester.oldest q.sends)) _
+flush-settled q low high all-receives taken-receive = settled-append (in_error q) (flushed_sends q.queue q.requester.oldest (items_from q.requester.oldest q.sends) ++ flushed_message q.queue q.responder.message) _
+    (settled-append (in_error q) (flushed_sends q.queue q.requester.oldest (items_from q.requester.oldest q.sends)) _
     (flushed-sends q (in_error q) q.requester.oldest (items_from q.requester.oldest q.sends) refl
     (omega (arith, items-end q.sends q.requester.oldest low high)))
     (message q.responder.message q.receives all-receives taken-receive refl)) (receives q.receives all-receives refl)
   where
     message : (m : Option Message) (r : Option (WorkQueue RecvRequest)) → IfSome r IsReceives → IsTaken r m → q.receives ≡ r
-        → AreSettledMarks (in_error q) (flushed_message q m)
+        → AreSettledMarks (in_error q) (flushed_message q.queue m)
     message None r sound taken e = record {}
     message (Some (messages.Write key address left count)) r sound taken e = record {}
     message (Some (messages.Send place receive bytes)) None sound taken e =
@@ -158,7 +158,7 @@ flush-settled q low high all-receives taken-receive = settled-append (in_error q
         ((refl, subst (λ x. IfSome (option_map with_all_taken x) (λ r. place < r.next_taken)) (sym e) (omega (arith, taken, sound.waiting))), record {})
 
     receives : (r : Option (WorkQueue RecvRequest)) → IfSome r IsReceives → q.receives ≡ r
-        → AreSettledMarks (in_error q) (option_map_or (λ r. flushed_receives q r.next_taken (items_from r.next_taken r)) r [])
+        → AreSettledMarks (in_error q) (option_map_or (λ r. flushed_receives q.queue r.next_taken (items_from r.next_taken r)) r [])
     receives None sound e = record {}
     receives (Some r) sound e = flushed-receives q (in_error q) r.next_taken (items_from r.next_taken r) refl
         (subst (λ x. IfSome (option_map with_all_taken x) (λ y. r.next_taken + length (items_from r.next_taken r) ≤ y.next_taken)) (sym e)
@@ -247,7 +247,7 @@ failure-good status cause q s = record {
   where
     failure_marks : List PostedSend → List Mark
     failure_marks [] = flush_marks q
-    failure_marks (p ∷ ps) = failure_mark q q.requester.oldest p.request status cause ∷ flush_marks (without_oldest q)
+    failure_marks (p ∷ ps) = failure_mark q.queue q.requester.oldest p.request status cause ∷ flush_marks (without_oldest q)
 
     high : q.requester.oldest ≤ next_place q.sends
     high = omega (arith, s.requester.begun, s.requester.waiting)

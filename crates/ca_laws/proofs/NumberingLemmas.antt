@@ -108,8 +108,8 @@ cut-length skip count (p ∷ ps) = by (nat_le p.length skip) (count == 0) (cut-l
     by false true later rest = omega arith
     by false false later rest = omega (arith, rest)
 
-pub list-asks : (q : QueuePair) (kind : Kind) (skip count : ℕ) (ps : List Piece) → IsList ps → length (list_asks q kind skip count ps) ≤ MAX_PIECES
-list-asks q kind skip count ps short = omega (arith, short.few, cut-length skip count ps, length-map (cut_list skip count ps) (piece_ask q kind))
+pub list-asks : (q : QueuePair) (kind : Kind) (skip count : ℕ) (ps : List Piece) → IsList ps → length (list_asks q.queue q.domain kind skip count ps) ≤ MAX_PIECES
+list-asks q kind skip count ps short = omega (arith, short.few, cut-length skip count ps, length-map (cut_list skip count ps) (piece_ask q.queue q.domain kind))
 
 -- each unfinished request has a short list
 numbers-short : (mtu place psn : ℕ) (ps : List PostedSend) → AllByRecursion IsSend ps → AllByRecursion (λ n. IsList (list_of n.request.op)) (numbers_of mtu place psn ps)

@@ -47,13 +47,13 @@ finished-count q = omega (
 
 -- what completes with success is finished
 success-settled : (q p : QueuePair) (place : ℕ) (ns : List Numbered) → p.queue ≡ q.queue → Places place ns → place + length ns ≤ p.requester.oldest
-    → AreSettledMarks p (flat_map (λ n. success_marks q n.place n.request) ns)
+    → AreSettledMarks p (flat_map (λ n. success_marks q.queue n.place n.request) ns)
 success-settled q p place [] same places enough = record {}
 success-settled q p place (n ∷ ns) same places enough =
-    settled-append p (success_marks q n.place n.request) _ (by n.request.signalled)
+    settled-append p (success_marks q.queue n.place n.request) _ (by n.request.signalled)
     (success-settled q p (suc place) ns same places.1 (omega (arith, enough)))
   where
-    by : (b : Bool) → AreSettledMarks p (if b then marks.Done q.queue (send_completion q n.place n.request Success (bytes_of_success n.request.op)) None ∷ [] else [])
+    by : (b : Bool) → AreSettledMarks p (if b then marks.Done q.queue (send_completion q.queue n.place n.request Success (bytes_of_success n.request.op)) None ∷ [] else [])
     by true = ((sym same, omega (arith, enough, places.0)), record {})
     by false = record {}
 

@@ -456,11 +456,11 @@ operation-good q n windows m None s turn = by (is-lone q n s turn)
     after = after_operation n (record q { windows = windows })
 
     success : (b : Bool) → suc n.place ≤ after.requester.oldest
-        → AreSettledMarks after (if b then marks.Done q.queue (send_completion q n.place n.request Success (bytes_of_success n.request.op)) None ∷ [] else [])
+        → AreSettledMarks after (if b then marks.Done q.queue (send_completion q.queue n.place n.request Success (bytes_of_success n.request.op)) None ∷ [] else [])
     success true place = ((refl, place), record {})
     success false place = record {}
 
-    by : IsLone q n → IsGood q (queue_and_marks after (local_marks q m ++ success_marks q n.place n.request))
+    by : IsLone q n → IsGood q (queue_and_marks after (local_marks q m ++ success_marks q.queue n.place n.request))
     by lone = record {
       sound = requester-queue (record q { windows = windows }) after.requester (windows-queue q windows s) (record {
         finished = omega (arith, s.requester.finished, lone.place);
@@ -481,7 +481,7 @@ operation-good q n windows m None s turn = by (is-lone q n s turn)
         none-begun (suc n.place - suc n.place) (unfinished_requests after) (omega arith),
       ));
       later = later-sent q after refl refl refl refl refl (omega (arith, lone.place)) refl;
-      settled = settled-append after (local_marks q m) (success_marks q n.place n.request) (local-settled q after m) (success n.request.signalled (omega arith));
+      settled = settled-append after (local_marks q m) (success_marks q.queue n.place n.request) (local-settled q after m) (success n.request.signalled (omega arith));
     }
 
 -- where a turn performs nothing that this profile has, nothing changes

@@ -224,7 +224,7 @@ send-counts before p place r q is same named = subst (λ x. RowCounts before (ro
       where
         at : (b : Bool) → (if b
             then queue_and_marks (with_message None (queue_after_packet p 1 true true q))
-            (receive_mark q r.receive.place r.receive.receive Success operations.Recv (r.before + length p.payload) p.imm (option_map (λ key. record { 0 = key }) p.ieth) ∷ [])
+            (receive_mark q.queue r.receive.place r.receive.receive Success operations.Recv (r.before + length p.payload) p.imm (option_map (λ key. record { 0 = key }) p.ieth) ∷ [])
             else queue_and_marks (with_message (Some (messages.Send r.receive.place r.receive.receive (r.before + length p.payload))) (queue_after_packet p 1 false true q)) []).queue.windows ≡ q.windows
         at true = refl
         at false = refl
@@ -265,7 +265,7 @@ write-counts q p envelope place next r = record { of_queue = record {}; denied =
 
     by : Option ℕ → Option PlacedReceive → Effects
     by (Some imm) (Some receive) = with_shared_receive q (queue_and_marks (done (with_receive_taken q))
-        (receive_mark q receive.place receive.receive Success operations.RecvImm r.whole (Some imm) None ∷ []))
+        (receive_mark q.queue receive.place receive.receive Success operations.RecvImm r.whole (Some imm) None ∷ []))
     by imm next = queue_and_marks (done q) []
 
     immediate : (imm : Option ℕ) (next : Option PlacedReceive) → (by imm next).queue.windows ≡ q.windows

@@ -27,7 +27,7 @@ failure_effects status cause q =
   where
     by : List PostedSend → List Mark
     by [] = flush_marks q
-    by (p ∷ ps) = failure_mark q q.requester.oldest p.request status cause ∷ flush_marks (without_oldest q)
+    by (p ∷ ps) = failure_mark q.queue q.requester.oldest p.request status cause ∷ flush_marks (without_oldest q)
 
 -- the requests that have begun and whose PSNs all lie below `una`
 abbrev pub finished_requests : QueuePair → List Numbered
@@ -41,7 +41,7 @@ after_finished q = with_requester (record q.requester {
 }) q
 
 abbrev pub finished_marks : QueuePair → List Mark
-finished_marks q = flat_map (λ n. success_marks q n.place n.request) (finished_requests q)
+finished_marks q = flat_map (λ n. success_marks q.queue n.place n.request) (finished_requests q)
 
 -- `una` grows to a PSN, if it is above it; where it grew, retries are counted anew
 abbrev pub with_una : ℕ → QueuePair → QueuePair

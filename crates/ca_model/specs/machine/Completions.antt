@@ -8,6 +8,7 @@ use Rattle.ca_base.specs.declared.completion.WcStatus.{WcStatus}
 use Rattle.ca_base.specs.declared.completion.WcStatus.TheVariants.{Success, Flushed}
 use Rattle.ca_base.specs.declared.key.Key.{Key}
 use Rattle.ca_base.specs.declared.limits.TheConstants.{ATOMIC_BYTES}
+use Rattle.ca_base.specs.declared.names.QueueId.{QueueId}
 use Rattle.ca_base.specs.declared.queue_numbers.Message.{Message}
 use Rattle.ca_base.specs.declared.queue_numbers.Message.TheVariants as messages
 use Rattle.ca_base.specs.declared.refusals.OpRefusal.{OpRefusal}
@@ -22,10 +23,10 @@ use Rattle.ca_model.specs.declared.mark.Mark.TheVariants as marks
 use Rattle.ca_model.specs.Requests.{list_length, operation_of}
 
 -- the completion of the send request at a place
-abbrev pub send_completion : QueuePair → ℕ → SendRequest → WcStatus → ℕ → Completion
-send_completion q place request status count = record {
+abbrev pub send_completion : QueueId → ℕ → SendRequest → WcStatus → ℕ → Completion
+send_completion queue place request status count = record {
   id = request.id;
-  queue = q.queue;
+  queue = queue;
   receive = false;
   place = place;
   status = status;
@@ -43,21 +44,21 @@ bytes_of_success (ops.FetchAdd address key add list) = ATOMIC_BYTES
 bytes_of_success op = 0
 
 -- a success completes where the request is signalled
-abbrev pub success_marks : QueuePair → ℕ → SendRequest → List Mark
-success_marks q place request =
+abbrev pub success_marks : QueueId → ℕ → SendRequest → List Mark
+success_marks queue place request =
     if request.signalled
-    then marks.Done q.queue (send_completion q place request Success (bytes_of_success request.op)) None ∷ []
+    then marks.Done queue (send_completion queue place request Success (bytes_of_success request.op)) None ∷ []
     else []
 
 -- a failure always completes
-abbrev pub failure_mark : QueuePair → ℕ → SendRequest → WcStatus → Option OpRefusal → Mark
-failure_mark q place request status cause = marks.Done q.queue (send_completion q place request status 0) cause
+abbrev pub failure_mark : QueueId → ℕ → SendRequest → WcStatus → Option OpRefusal → Mark
+failure_mark queue place request status cause = marks.Done queue (send_completion queue place request status 0) cause
 
 -- the completion of the receive at a place
-abbrev pub receive_completion : QueuePair → ℕ → ℕ → WcStatus → WcOp → ℕ → Option ℕ → Option Key → Completion
-receive_completion q place id status op count imm invalidated = record {
+abbrev pub receive_completion : QueueId → ℕ → ℕ → WcStatus → WcOp → ℕ → Option ℕ → Option Key → Completion
+receive_completion queue place id status op count imm invalidated = record {
   id = id;
-  queue = q.queue;
+  queue = queue;
   receive = true;
   place = place;
   status = status;
@@ -67,32 +68,32 @@ receive_completion q place id status op count imm invalidated = record {
   invalidated = invalidated;
 }
 
-abbrev pub receive_mark : QueuePair → ℕ → RecvRequest → WcStatus → WcOp → ℕ → Option ℕ → Option Key → Mark
-receive_mark q place receive status op count imm invalidated =
-    marks.Done q.queue (receive_completion q place receive.id status op count imm invalidated) None
+abbrev pub receive_mark : QueueId → ℕ → RecvRequest → WcStatus → WcOp → ℕ → Option ℕ → Option Key → Mark
+receive_mark queue place receive status op count imm invalidated =
+    marks.Done queue (receive_completion queue place receive.id status op count imm invalidated) None
 
 -- a receive that failed
-abbrev pub receive_failure : QueuePair → ℕ → RecvRequest → WcStatus → Option OpRefusal → Mark
-receive_failure q place receive status cause =
-    marks.Done q.queue (receive_completion q place receive.id status operations.Recv 0 None None) cause
+abbrev pub receive_failure : QueueId → ℕ → RecvRequest → WcStatus → Option OpRefusal → Mark
+receive_failure queue place receive status cause =
+    marks.Done queue (receive_completion queue place receive.id status operations.Recv 0 None None) cause
 
 -- the sends from a place on, flushed in order
-abbrev pub flushed_sends : QueuePair → ℕ → List PostedSend → List Mark
-flushed_sends q place [] = []
-flushed_sends q place (p ∷ ps) = failure_mark q place p.request Flushed None ∷ flushed_sends q (suc place) ps
+abbrev pub flushed_sends : QueueId → ℕ → List PostedSend → List Mark
+flushed_sends queue place [] = []
+flushed_sends queue place (p ∷ ps) = failure_mark queue place p.request Flushed None ∷ flushed_sends queue (suc place) ps
 
 -- the receives from a place on, flushed in order
-abbrev pub flushed_receives : QueuePair → ℕ → List RecvRequest → List Mark
-flushed_receives q place [] = []
-flushed_receives q place (r ∷ rs) = receive_failure q place r Flushed None ∷ flushed_receives q (suc place) rs
+abbrev pub flushed_receives : QueueId → ℕ → List RecvRequest → List Mark
+flushed_receives queue place [] = []
+flushed_receives queue place (r ∷ rs) = receive_failure queue place r Flushed None ∷ flushed_receives queue (suc place) rs
 
 -- the receive of the message in progress, flushed
-abbrev pub flushed_message : QueuePair → Option Message → List Mark
-flushed_message q (Some (messages.Send place receive bytes)) = receive_failure q place receive Flushed None ∷ []
-flushed_message q message = []
+abbrev pub flushed_message : QueueId → Option Message → List Mark
+flushed_message queue (Some (messages.Send place receive bytes)) = receive_failure queue place receive Flushed None ∷ []
+flushed_message queue message = []
 
 -- all that is posted and unfinished, flushed: the sends, the receive in use, the posted receives
 abbrev pub flush_marks : QueuePair → List Mark
 flush_marks q =
-    flushed_sends q q.requester.oldest (items_from q.requester.oldest q.sends) ++ flushed_message q q.responder.message
-    ++ option_map_or (λ r. flushed_receives q r.next_taken (items_from r.next_taken r)) q.receives []
+    flushed_sends q.queue q.requester.oldest (items_from q.requester.oldest q.sends) ++ flushed_message q.queue q.responder.message
+    ++ option_map_or (λ r. flushed_receives q.queue r.next_taken (items_from r.next_taken r)) q.receives []

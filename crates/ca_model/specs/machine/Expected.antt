@@ -136,7 +136,7 @@ behind_marks ms e = record e { marks = ms ++ e.marks }
 -- the receive fails, and the packet is refused
 abbrev pub receive_failure_effects : QueuePair → PlacedReceive → WcStatus → Option OpRefusal → NakCode → Effects
 receive_failure_effects q r status cause code =
-    behind_marks (receive_failure q r.place r.receive status cause ∷ []) (refusal_effects code (with_message None q))
+    behind_marks (receive_failure q.queue r.place r.receive status cause ∷ []) (refusal_effects code (with_message None q))
 
 -- a SEND's bytes with its receive, and how many came before
 pub record Receiving : Type 0 where
@@ -169,14 +169,14 @@ abbrev pub after_send_packet : QueuePair → Fields → Position → Receiving �
 after_send_packet q p place r =
     if ends place
     then queue_and_marks (with_message None (queue_after_packet p 1 true true q))
-    (receive_mark q r.receive.place r.receive.receive Success operations.Recv (r.before + length p.payload) p.imm
+    (receive_mark q.queue r.receive.place r.receive.receive Success operations.Recv (r.before + length p.payload) p.imm
     (option_map (λ key. record { 0 = key }) p.ieth) ∷ [])
     else queue_and_marks (with_message (Some (messages.Send r.receive.place r.receive.receive (r.before + length p.payload)))
     (queue_after_packet p 1 false true q)) []
 
 -- where the bytes of a SEND packet go
 abbrev pub receive_asks : QueuePair → Fields → Receiving → List Ask
-receive_asks q p r = list_asks q kinds.Write r.before (length p.payload) r.receive.receive.list.items
+receive_asks q p r = list_asks q.queue q.domain kinds.Write r.before (length p.payload) r.receive.receive.list.items
 
 -- a SEND packet, with its receive: it is too long for it, its list is denied, its invalidation is refused, or it is placed
 abbrev pub send_row : QueuePair → Fields → Position → Receiving → Row
@@ -221,7 +221,7 @@ after_write_packet q p place r next =
 
     by : Option ℕ → Option PlacedReceive → Effects
     by (Some imm) (Some receive) = with_shared_receive q (queue_and_marks (done (with_receive_taken q))
-        (receive_mark q receive.place receive.receive Success operations.RecvImm r.whole (Some imm) None ∷ []))
+        (receive_mark q.queue receive.place receive.receive Success operations.RecvImm r.whole (Some imm) None ∷ []))
     by imm next = queue_and_marks (done q) []
 
 -- a WRITE packet: judged for all bytes that are left, of which it touches its payload; one of no bytes meets no key, and

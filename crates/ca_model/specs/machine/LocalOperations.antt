@@ -68,7 +68,7 @@ local_marks q m =
 abbrev pub operation_effects : QueuePair → Numbered → QueuePair → LocalMarks → Option OpRefusal → Effects
 operation_effects q n after m (Some cause) = failure_effects MemoryManagement (Some cause) q
 operation_effects q n after m None =
-    queue_and_marks (after_operation n after) (local_marks q m ++ success_marks q n.place n.request)
+    queue_and_marks (after_operation n after) (local_marks q m ++ success_marks q.queue n.place n.request)
 
 -- the region in which a window was bound has one window fewer
 abbrev pub former_updates : Option PlacedRegion → List Update

@@ -2,6 +2,8 @@
 use Rattle.std.specs.Prelude.{ℕ, suc, ◌+◌, ◌-◌, ◌%◌, ◌^◌, ◌==◌, ◌&&◌, nat_le, nat_lt, min, Bool, true, false, if◌then◌else◌, List, [], ◌∷◌, find, take, map, slice_get, Option}
 use Rattle.ca_base.specs.declared.access.Ask.{Ask}
 use Rattle.ca_base.specs.declared.access.Kind.{Kind}
+use Rattle.ca_base.specs.declared.names.DomainId.{DomainId}
+use Rattle.ca_base.specs.declared.names.QueueId.{QueueId}
 use Rattle.ca_base.specs.declared.request.Piece.{Piece}
 use Rattle.ca_base.specs.declared.request.SendOp.{SendOp}
 use Rattle.ca_base.specs.declared.request.SendOp.TheVariants as ops
@@ -77,9 +79,9 @@ cut_list skip count (p ∷ ps) =
     else piece_part p skip (min count (p.length - skip)) ∷ cut_list 0 (count - (p.length - skip)) ps
 
 -- the ask for a piece, by its L_Key
-abbrev pub piece_ask : QueuePair → Kind → Piece → Ask
-piece_ask q kind p = local_ask q.queue q.domain p.key kind p.address p.length
+abbrev pub piece_ask : QueueId → DomainId → Kind → Piece → Ask
+piece_ask queue domain kind p = local_ask queue domain p.key kind p.address p.length
 
 -- the asks for so many bytes of a list, without so many at its front
-abbrev pub list_asks : QueuePair → Kind → ℕ → ℕ → List Piece → List Ask
-list_asks q kind skip count pieces = map (piece_ask q kind) (cut_list skip count pieces)
+abbrev pub list_asks : QueueId → DomainId → Kind → ℕ → ℕ → List Piece → List Ask
+list_asks queue domain kind skip count pieces = map (piece_ask queue domain kind) (cut_list skip count pieces)

@@ -104,7 +104,7 @@ is_outstanding q = nat_lt q.requester.una q.requester.cursor
 -- the asks of a packet: the bytes that it carries of the request's list
 abbrev pub packet_asks : QueuePair → Numbered → List Ask
 packet_asks q n =
-    list_asks q kinds.Read (index_of_packet q n * q.responder.mtu) (carried_bytes q.responder.mtu n.request.op (index_of_packet q n))
+    list_asks q.queue q.domain kinds.Read (index_of_packet q n * q.responder.mtu) (carried_bytes q.responder.mtu n.request.op (index_of_packet q n))
     (list_of n.request.op)
 
 -- a mark for each piece that was read

@@ -96,7 +96,7 @@ answer_bytes p = if p.opcode == ATOMIC_ACKNOWLEDGE then little_endian_bytes (opt
 
 -- where they go in the request's list
 abbrev pub answer_asks : ℕ → Fields → QueuePair → Numbered → List Ask
-answer_asks psn p q n = list_asks q kinds.Write (segment_at psn q n) (length (answer_bytes p)) (list_of n.request.op)
+answer_asks psn p q n = list_asks q.queue q.domain kinds.Write (segment_at psn q n) (length (answer_bytes p)) (list_of n.request.op)
 
 -- the bytes, cut for these asks in order
 abbrev pub writes_by : List Ask → List ℕ → List (Ask × List ℕ)
