@@ -1,0 +1,53 @@
+-- Asks of a row: which may be handed on, what they touch, and the marks of what was read and written by them. Contracts
+-- cite it.
+use Rattle.std.specs.Prelude.{◌≡◌, ℕ, ◌+◌, List, [], ◌∷◌, ◌++◌, Option, None, length}
+use Rattle.std.specs.List.{AllByRecursion}
+use Rattle.ca_base.specs.declared.access.Ask.{Ask}
+use Rattle.ca_base.specs.declared.access.Kind.{Kind}
+use Rattle.ca_base.specs.declared.access.Kind.TheVariants as kinds
+use Rattle.ca_base.specs.declared.verdict.Verdict.TheVariants as verdicts
+use Rattle.ca_base.specs.Sight.{Sight, bytes_in, denial_in}
+use Rattle.ca_grant.specs.Reaching.{IsPacketAsk}
+use Rattle.ca_model.specs.declared.mark.Mark.{Mark}
+use Rattle.ca_model.specs.declared.mark.Mark.TheVariants as marks
+
+-- an ask of this kind that may be handed on
+abbrev pub IsAskOf : Kind → Ask → Type 0
+IsAskOf kind ask = IsPacketAsk ask × (ask.kind ≡ kind)
+
+-- the ask is allowed
+abbrev pub IsGranted : Sight → Ask → Type 0
+IsGranted s ask = denial_in s ask ≡ None
+
+-- how many bytes asks touch
+abbrev pub touched_by : List Ask → ℕ
+touched_by [] = 0
+touched_by (ask ∷ asks) = ask.touch + touched_by asks
+
+-- each ask with the bytes that it touches
+abbrev pub reads_by : Sight → List Ask → List (Ask × List ℕ)
+reads_by s [] = []
+reads_by s (ask ∷ asks) = (ask, bytes_in s ask) ∷ reads_by s asks
+
+-- the bytes of accesses, one after another
+abbrev pub payload_of : List (Ask × List ℕ) → List ℕ
+payload_of [] = []
+payload_of (x ∷ xs) = x.1 ++ payload_of xs
+
+-- the mark of a piece that was read
+abbrev pub read_mark : Ask × List ℕ → Mark
+read_mark x = marks.Local x.0.queue x.0.domain x.0.key x.0.kind x.0.address x.0.length (verdicts.Read x.1)
+
+abbrev pub read_marks : List (Ask × List ℕ) → List Mark
+read_marks [] = []
+read_marks (x ∷ xs) = read_mark x ∷ read_marks xs
+
+-- an access by an ask that may be handed on for writing, with as many bytes as it touches
+pub record IsWrite (x : Ask × List ℕ) : Type 0 where
+  pub ask : IsAskOf kinds.Write x.0
+  pub count : length x.1 ≡ x.0.touch
+
+-- the asks of accesses
+abbrev pub asks_of : List (Ask × List ℕ) → List Ask
+asks_of [] = []
+asks_of (x ∷ xs) = x.0 ∷ asks_of xs

@@ -1,0 +1,4 @@
+pub mod Asks
+pub mod Done
+pub mod Flush
+pub mod Narrow

@@ -1,0 +1,12 @@
+-- Numbers of a queue pair that only events raise, which lie far below the ends of their types. Contracts cite it.
+use Rattle.std.specs.Prelude.{◌^◌, ◌<◌}
+use Rattle.ca_base.specs.objects.QueuePair.{QueuePair}
+
+-- the whole PSNs, and the counts of RNR NAKs and of timers
+pub record AreNarrow (q : QueuePair) : Type 0 where
+  pub una : q.requester.una < 2 ^ 62
+  pub cursor : q.requester.cursor < 2 ^ 62
+  pub oldest_psn : q.requester.oldest_psn < 2 ^ 62
+  pub rnrs : q.requester.rnrs < 2 ^ 62
+  pub timers : q.requester.timers < 2 ^ 62
+  pub expected : q.responder.expected < 2 ^ 62

@@ -1,0 +1,155 @@
+ghost use Rattle.std.specs.Prelude.{◌≡◌, ◌++◌, OnOk};
+ghost use Rattle.ca_base.specs.declared.completion.WcStatus.{WcStatus};
+ghost use Rattle.ca_model.specs.Requests.{list_of};
+ghost use Rattle.ca_model.specs.machine.Completions as completions;
+ghost use Rattle.ca_model.specs.machine.Invariants.{IsList};
+ghost use Rattle.ca_model.specs.machine.Requester as requester;
+
+use crate::asks::DeniedAsk;
+use crate::list::list_length;
+use crate::operations::operation_of;
+use crate::reads::local_mark;
+use ca_base::{
+    Completion, Key, Memory, OpRefusal, QueueId, RecvRequest, SendOp, SendRequest, Verdict, WcOp,
+    WcStatus,
+};
+use ca_model::Mark;
+
+/// How many bytes an atomic reaches, and its answer brings.
+const ATOMIC_BYTES: u32 = 8;
+
+/// The completion of the send request at a place. With an error it tells of no bytes.
+pub fn send_completion(
+    queue: QueueId,
+    place: u64,
+    request: &SendRequest,
+    status: WcStatus,
+    bytes: u32,
+) -> Completion
+    ensures { result ≡ completions.send_completion queue place request.now status bytes }
+{
+    Completion {
+        id: request.id,
+        queue,
+        receive: false,
+        place,
+        status,
+        op: operation_of(&request.op),
+        bytes,
+        imm: None,
+        invalidated: None,
+    }
+}
+
+/// The bytes that a success tells of: those of a READ's message, and the eight of an atomic.
+fn bytes_of_success(op: &SendOp) -> u32
+    requires { IsList (list_of op.now) }
+    ensures { result ≡ completions.bytes_of_success op.now }
+{
+    match op {
+        SendOp::Read { list, .. } => list_length(list.as_slice()),
+        SendOp::CmpSwap { .. } | SendOp::FetchAdd { .. } => ATOMIC_BYTES,
+        _ => 0,
+    }
+}
+
+/// Adds the completion of a request that succeeded, where it is signalled.
+pub fn push_success(
+    queue: QueueId,
+    place: u64,
+    request: &SendRequest,
+    made: &mut Vec<Mark>,
+) -> Result<(), Memory>
+    requires { IsList (list_of request.now.op) }
+    ensures { OnOk result (made.new.items ≡ made.old.items ++ completions.success_marks queue place request.now) }
+{
+    if request.signalled {
+        let bytes = bytes_of_success(&request.op);
+        made.push(Mark::Done {
+            queue,
+            completion: send_completion(queue, place, request, WcStatus::Success, bytes),
+            cause: None,
+        })?;
+    }
+    Ok(())
+}
+
+/// The completion of a request that failed, with its cause where a local operation was refused.
+pub fn failure_mark(
+    queue: QueueId,
+    place: u64,
+    request: &SendRequest,
+    status: WcStatus,
+    cause: Option<OpRefusal>,
+) -> Mark
+    ensures { result ≡ completions.failure_mark queue place request.now status cause }
+{
+    Mark::Done {
+        queue,
+        completion: send_completion(queue, place, request, status, 0),
+        cause,
+    }
+}
+
+/// The completion of the receive at a place.
+pub fn receive_mark(
+    queue: QueueId,
+    place: u64,
+    receive: &RecvRequest,
+    op: WcOp,
+    bytes: u32,
+    imm: Option<u32>,
+    invalidated: Option<Key>,
+) -> Mark
+    ensures { result ≡ completions.receive_mark queue place receive.now WcStatus.Success op bytes imm invalidated }
+{
+    Mark::Done {
+        queue,
+        completion: Completion {
+            id: receive.id,
+            queue,
+            receive: true,
+            place,
+            status: WcStatus::Success,
+            op,
+            bytes,
+            imm,
+            invalidated,
+        },
+        cause: None,
+    }
+}
+
+/// The completion of a receive that failed.
+pub fn receive_failure(
+    queue: QueueId,
+    place: u64,
+    receive: &RecvRequest,
+    status: WcStatus,
+    cause: Option<OpRefusal>,
+) -> Mark
+    ensures { result ≡ completions.receive_failure queue place receive.now status cause }
+{
+    Mark::Done {
+        queue,
+        completion: Completion {
+            id: receive.id,
+            queue,
+            receive: true,
+            place,
+            status,
+            op: WcOp::Recv,
+            bytes: 0,
+            imm: None,
+            invalidated: None,
+        },
+        cause,
+    }
+}
+
+/// The one mark of a piece of a list that was denied.
+pub fn local_denial(denied: &DeniedAsk) -> Mark
+    ensures { result ≡ requester.local_denial denied.now }
+{
+    local_mark(&denied.ask, Verdict::Denied(denied.denial))
+}

@@ -1,0 +1,31 @@
+//! What the rows of the requester's and of the responder's engine share: the asks of a list, what is read and written by
+//! them, and the completions that a queue pair makes.
+//!
+//! To the layers above it promises that a list is cut to the asks that the machine's rows name, that all asks are judged
+//! before any byte is touched, that what was read and written is exactly what the marks say, and that each completion is
+//! the machine's, in its order.
+//!
+//! Source: InfiniBand Architecture Specification Volume 1, the chapter on the software transport interface, sections on
+//! work requests and completions, and the chapter on the transport layer.
+#![tactic(auto)]
+
+mod asks;
+mod completions;
+mod flush;
+mod list;
+mod operations;
+mod reads;
+mod writes;
+
+pub use asks::{DeniedAsk, first_denied};
+pub use completions::{
+    failure_mark, local_denial, push_success, receive_failure, receive_mark, send_completion,
+};
+pub use flush::push_flushed;
+pub use list::{list_asks, list_length};
+pub use operations::{
+    carried_bytes, is_answered, is_atomic, is_local, is_read, list_of, operation_of, psns_of,
+    segments,
+};
+pub use reads::{join, push_reads, read_all};
+pub use writes::{cut_writes, write_all};

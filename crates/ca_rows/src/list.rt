@@ -1,0 +1,94 @@
+ghost use Rattle.std.specs.Prelude.{◌≡◌, ◌+◌, ◌≤◌, ◌++◌, length};
+ghost use Rattle.std.specs.List.{AllByRecursion};
+ghost use Rattle.ca_base.specs.declared.limits.TheConstants.{MAX_MESSAGE_BYTES, MAX_PAYLOAD_BYTES, MAX_PIECES};
+ghost use Rattle.ca_model.specs.Requests as requests;
+ghost use Rattle.ca_model.specs.machine.Numbering as numbering;
+ghost use Rattle.ca_rows.specs.Asks.{IsAskOf, touched_by};
+
+use arrayvec::ArrayVec;
+use ca_base::limits::MAX_PIECES;
+use ca_base::{Ask, DomainId, Kind, Piece, QueueId};
+
+/// The bytes of a list, which are no more than a message may have.
+pub fn list_length(list: &[Piece]) -> u32
+    requires { requests.list_length list.now ≤ MAX_MESSAGE_BYTES }
+    ensures { result ≡ requests.list_length list.now }
+{
+    let mut bytes = 0;
+    for piece in list {
+        bytes += piece.length;
+    }
+    bytes
+}
+
+/// The asks of a queue pair for so many bytes of a list, without so many at its front, one a piece. An ask is for at most
+/// a packet's bytes.
+pub fn list_asks(
+    queue: QueueId,
+    domain: DomainId,
+    kind: Kind,
+    skip: u64,
+    count: u32,
+    list: &[Piece],
+) -> ArrayVec<Ask, MAX_PIECES>
+    requires few { length list.now ≤ MAX_PIECES }
+    requires packet { count ≤ MAX_PAYLOAD_BYTES }
+    ensures value { result.items ≡ numbering.list_asks queue domain kind skip count list.now }
+    ensures touched { touched_by result.items ≤ count }
+    ensures asks { AllByRecursion (IsAskOf kind) result.items }
+{
+    let mut asks = ArrayVec::new();
+    push_asks(queue, domain, kind, skip, count, list, &mut asks);
+    asks
+}
+
+/// Adds these asks to a list that has room for them.
+fn push_asks(
+    queue: QueueId,
+    domain: DomainId,
+    kind: Kind,
+    skip: u64,
+    count: u32,
+    list: &[Piece],
+    asks: &mut ArrayVec<Ask, MAX_PIECES>,
+)
+    requires few { length asks.old.items + length list.now ≤ MAX_PIECES }
+    ensures { asks.new.items ≡ asks.old.items ++ numbering.list_asks queue domain kind skip count list.now }
+{
+    let [piece, rest @ ..] = list else {
+        return;
+    };
+    let length = u64::from(piece.length);
+    if length <= skip {
+        return push_asks(queue, domain, kind, skip - length, count, rest, asks);
+    }
+    if count == 0 {
+        return;
+    }
+    let part = count.min((length - skip) as u32);
+    asks.push(piece_ask(queue, domain, kind, piece, skip as u32, part));
+    push_asks(queue, domain, kind, 0, count - part, rest, asks)
+}
+
+/// The ask for a part of a piece, by its L_Key: so many bytes, without so many at its front. Addresses count modulo 2^64.
+fn piece_ask(
+    queue: QueueId,
+    domain: DomainId,
+    kind: Kind,
+    piece: &Piece,
+    skip: u32,
+    count: u32,
+) -> Ask
+    ensures { result ≡ numbering.piece_ask queue domain kind (numbering.piece_part piece.now skip count) }
+{
+    Ask {
+        queue,
+        domain,
+        key: piece.key,
+        local: true,
+        kind,
+        address: piece.address.wrapping_add(u64::from(skip)),
+        length: count,
+        touch: count,
+    }
+}

@@ -1,0 +1,60 @@
+ghost use Rattle.std.specs.Prelude.{◌≡◌, ◌+◌, ◌≤◌, ◌++◌, IfOk, OnOk, length};
+ghost use Rattle.std.specs.List.{AllByRecursion};
+ghost use Rattle.ca_base.specs.declared.access.Kind.{Kind};
+ghost use Rattle.ca_model.specs.machine.Responses as responses;
+ghost use Rattle.ca_rows.specs.Asks.{IsAskOf, IsGranted, IsWrite, asks_of, touched_by};
+ghost use Rattle.ca_rows.specs.Done.{written_all};
+
+use crate::reads::local_mark;
+use ca_base::{Ask, Bytes, Memory};
+use ca_grant::Reach;
+use ca_model::Marks;
+use std::alloc::Global;
+
+/// Cuts bytes for these asks in order, each as many as the ask touches. The asks touch no more bytes than there are.
+pub fn cut_writes(alloc: Global, asks: &[Ask], bytes: &[u8]) -> Result<Vec<(Ask, Bytes)>, Memory>
+    requires asks { AllByRecursion (IsAskOf Kind.Write) asks.now }
+    requires enough { touched_by asks.now ≤ length bytes.now }
+    ensures value { IfOk result (λ writes. writes.items ≡ responses.writes_by asks.now bytes.now) }
+    ensures writes { IfOk result (λ writes. AllByRecursion IsWrite writes.items) }
+    ensures asks { IfOk result (λ writes. asks_of writes.items ≡ asks.now) }
+{
+    let mut writes = Vec::new(alloc);
+    push_writes(alloc, asks, bytes, &mut writes)?;
+    Ok(writes)
+}
+
+fn push_writes(
+    alloc: Global,
+    asks: &[Ask],
+    bytes: &[u8],
+    writes: &mut Vec<(Ask, Bytes)>,
+) -> Result<(), Memory>
+    requires enough { touched_by asks.now ≤ length bytes.now }
+    ensures { OnOk result (writes.new.items ≡ writes.old.items ++ responses.writes_by asks.now bytes.now) }
+{
+    let [ask, rest @ ..] = asks else {
+        return Ok(());
+    };
+    let (front, behind) = bytes.split_at(ask.touch as usize);
+    writes.push((*ask, Bytes::copy_of(alloc, front)?))?;
+    push_writes(alloc, rest, behind, writes)
+}
+
+/// Writes the bytes of each access to its places, and adds a mark for each, in the spare room. None of them is denied. It
+/// takes no memory.
+pub fn write_all<R: Reach>(reach: &mut R, writes: Vec<(Ask, Bytes)>, marks: &mut Marks)
+    requires keys { AllByRecursion (R.judges reach.old) (asks_of writes.items) }
+    requires bytes { AllByRecursion (R.touches reach.old) (asks_of writes.items) }
+    requires allowed { AllByRecursion (IsGranted (R.sight reach.old)) (asks_of writes.items) }
+    requires writes { AllByRecursion IsWrite writes.items }
+    requires room { length writes.items ≤ marks.old.room }
+    ensures wrote { reach.new ≡ written_all R.written reach.old writes.items }
+    ensures marks { marks.new.marks ≡ marks.old.marks ++ responses.local_writes writes.items }
+    ensures room { marks.old.room ≤ marks.new.room + length writes.items }
+{
+    for (ask, bytes) in writes {
+        let verdict = reach.write(&ask, bytes);
+        marks.push(local_mark(&ask, verdict));
+    }
+}
