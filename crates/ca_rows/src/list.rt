@@ -23,6 +23,7 @@ pub fn list_length(list: &[Piece]) -> u32
 
 /// The asks of a queue pair for so many bytes of a list, without so many at its front, one a piece. An ask is for at most
 /// a packet's bytes.
+#[tactic(auto, using(crate::proofs::ListLemmas::cut_touches, crate::proofs::ListLemmas::cut_are_asks))]
 pub fn list_asks(
     queue: QueueId,
     domain: DomainId,
