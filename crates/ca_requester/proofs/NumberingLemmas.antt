@@ -1,6 +1,7 @@
 -- The posted requests from a place on, one after another.
-use Rattle.std.proofs.Common.{zero, ◌≡◌, ℕ, suc, ◌+◌, ◌-◌, ◌*◌, ◌^◌, ◌≤◌, ◌<◌, nat_lt, arith, rules, refl, sym, ap, ◌∙◌, subst, Bool, true, false, if◌then◌else◌, List, [], ◌∷◌, drop, length, take, Option, None, Some, slice_get}
+use Rattle.std.proofs.Common.{zero, ◌≡◌, ℕ, suc, ◌+◌, ◌-◌, ◌≤◌, nat_lt, arith, refl, sym, ap, ◌∙◌, subst, false, List, [], ◌∷◌, drop, length, None, Some, slice_get}
 use Rattle.std.proofs.lemmas.Bool.{le-ltb}
+use Rattle.std.proofs.lemmas.List.{length-drop}
 use Rattle.std.proofs.lemmas.Option.{same_Some}
 use Rattle.std.specs.List.{AllByRecursion}
 use Rattle.ca_base.specs.declared.limits.TheConstants.{MAX_MESSAGE_BYTES}
@@ -9,7 +10,8 @@ use Rattle.ca_base.specs.objects.WorkQueue.{WorkQueue, item_at, items_from}
 use Rattle.ca_model.specs.Requests.{list_of, psns_of}
 use Rattle.ca_model.specs.machine.Numbering.{Numbered, numbers_of}
 use Rattle.ca_model.specs.machine.Invariants.{IsList, IsQueue, IsSend}
-use Rattle.ca_requester.specs.Numbering.{IsWithin, numbers_from}
+use Rattle.ca_rows.specs.Narrow.{AreNarrow}
+use Rattle.ca_requester.specs.Numbering.{IsSound, IsWithin, numbers_from}
 
 -- the element at a place stands before those behind it
 drop-step : {T : Type 0} (xs : List T) (i : ℕ) (x : T) → slice_get xs i ≡ Some x → drop i xs ≡ x ∷ drop (suc i) xs
@@ -72,3 +74,19 @@ step-within q place psn count p within e few = record {
 -- the list of a posted request is short
 pub step-list : (q : QueuePair) (place : ℕ) (p : PostedSend) → IsQueue q → q.sends.first ≤ place → Some p ≡ item_at place q.sends → IsList (list_of p.request.op)
 step-list q place p is le e = item-all IsSend q.sends place p is.sends.items le (sym e)
+
+-- a posted request is sound
+pub step-sound : (q : QueuePair) (place psn count : ℕ) (p : PostedSend) → IsQueue q → IsWithin place psn q → Some p ≡ item_at place q.sends
+    → count ≡ psns_of q.responder.mtu p.request.op → count ≤ MAX_MESSAGE_BYTES → IsSound q (number_at place psn count p)
+step-sound q place psn count p is within e counted few = record {
+  list = step-list q place p is within.posted e;
+  counted = counted;
+  narrow = omega (arith, within.narrow, ap length (item-step q.sends place p within.posted (sym e)));
+}
+
+-- the PSNs of the unfinished requests of a queue pair are narrow
+pub start_within : (q : QueuePair) → IsQueue q → AreNarrow q → IsWithin q.requester.oldest q.requester.oldest_psn q
+start_within q is narrow = record {
+  posted = is.requester.finished;
+  narrow = omega (arith, narrow.oldest_psn, is.sends.depth, is.sends.room, length-drop (q.requester.oldest - q.sends.first) q.sends.items);
+}

@@ -9,4 +9,4 @@
 
 mod numbering;
 
-pub use numbering::Numbered;
+pub use numbering::{Next, Numbered, next_request, next_to_begin, request_at};
