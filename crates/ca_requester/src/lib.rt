@@ -8,5 +8,6 @@
 #![tactic(auto)]
 
 mod numbering;
+mod turn;
 
 pub use numbering::{Next, Numbered, next_request, next_to_begin, request_at};

@@ -7,6 +7,7 @@ ghost use Rattle.ca_qpstate.specs.Seen.{queue_of};
 ghost use Rattle.ca_rows.specs.Narrow.{AreNarrow};
 ghost use Rattle.ca_requester.specs.Numbering.{numbered_of, numbers_from, begun_from, IsWithin, IsSound, IsNext};
 
+use ca_base::{SendOp, SendRequest};
 use ca_qpstate::{PostedSend, QueuePart};
 use ca_rows::psns_of;
 
@@ -19,7 +20,38 @@ pub struct Numbered<'a> {
     pub count: u32,
 }
 
+impl Numbered<'_> {
+    ghost use Rattle.std.specs.Prelude.{◌≡◌, ◌+◌, ◌<◌, ◌^◌};
+    ghost use Rattle.ca_model.specs.machine.Numbering as numbering;
+    ghost use Rattle.ca_requester.specs.Numbering.{numbered_of};
+
+    /// The request itself.
+    pub(crate) fn request(&self) -> &SendRequest
+        ensures { result.now ≡ (numbered_of self.now).request }
+    {
+        let posted = self.posted;
+        &posted.request
+    }
+
+    /// What it asks for.
+    pub(crate) fn op(&self) -> &SendOp
+        ensures { result.now ≡ (numbered_of self.now).request.op }
+    {
+        let posted = self.posted;
+        &posted.request.op
+    }
+
+    /// The PSN behind its last.
+    pub(crate) fn end(&self) -> u64
+        requires { self.now.first + self.now.count < 2 ^ 63 }
+        ensures { result ≡ numbering.psn_end (numbered_of self.now) }
+    {
+        self.first + u64::from(self.count)
+    }
+}
+
 /// The request of which the next thing is, and whether it begins with it.
+#[derive(Clone, Copy)]
 pub struct Next<'a> {
     pub request: Numbered<'a>,
     pub begins: bool,
