@@ -1,0 +1,101 @@
+ghost use Rattle.std.specs.Prelude.{◌≡◌, ◌+◌, ◌<◌, ◌^◌, true, IfOk, IfErr, sum_by, nat_lt};
+ghost use Rattle.std.specs.List.{list_any};
+ghost use Rattle.ca_base.specs.Refusals.{first_of};
+ghost use Rattle.ca_model.specs.machine.Invariants as invariants;
+ghost use Rattle.ca_model.specs.machine.Invariants.{IsQueue};
+ghost use Rattle.ca_model.specs.machine.Numbering as numbering;
+ghost use Rattle.ca_model.specs.machine.Requester as requester;
+ghost use Rattle.ca_qpstate.specs.Seen.{queue_of};
+ghost use Rattle.ca_rows.specs.Narrow.{AreNarrow};
+ghost use Rattle.ca_requester.specs.Numbering.{numbered_of, numbers_from, begun_from, IsWithin, IsNext};
+ghost use Rattle.ca_requester.specs.Turn.{turn_on};
+
+use crate::numbering::{Next, Numbered, next_request, numbered_at};
+use ca_base::limits::{MAX_OUTSTANDING_PACKETS, MAX_OUTSTANDING_PSNS};
+use ca_base::{Reason, State};
+use ca_qpstate::QueuePart;
+use ca_rows::{is_answered, is_local, is_read};
+
+/// Whether requests are sent in a state.
+pub(crate) fn is_sending(state: State) -> bool
+    ensures { result ≡ invariants.is_sending state }
+{
+    matches!(state, State::Rts | State::Sqd)
+}
+
+/// The request on which a requester's turn does something, or the first reason for which it is not possible: `State`,
+/// `RnrWait`, `Empty`, `Fence`.
+pub(crate) fn turn_of(q: &QueuePart) -> Result<Next<'_>, Reason>
+    requires queue { IsQueue (queue_of q.now) }
+    requires narrow { AreNarrow (queue_of q.now) }
+    ensures waits { IfErr result (λ reason. requester.turn_of (queue_of q.now) ≡ requester.Waits reason) }
+    ensures acts { IfOk result (λ next. requester.turn_of (queue_of q.now) ≡ turn_on (numbered_of next.request)) }
+    ensures next { IfOk result (λ next. IsNext (queue_of q.now) next) }
+    ensures sending { IfOk result (λ next. invariants.is_sending q.now.state ≡ true) }
+{
+    if !is_sending(q.state) {
+        return Err(Reason::State);
+    }
+    match next_request(q) {
+        None if q.requester.waiting => Err(Reason::RnrWait),
+        None => Err(Reason::Empty),
+        Some(next) => match refusal(q, &next) {
+            Some(reason) => Err(reason),
+            None => Ok(next),
+        },
+    }
+}
+
+/// The first reason that stands against the next thing, which is one of this request.
+fn refusal(q: &QueuePart, next: &Next<'_>) -> Option<Reason>
+    requires queue { IsQueue (queue_of q.now) }
+    requires narrow { AreNarrow (queue_of q.now) }
+    requires next { IsNext (queue_of q.now) next.now }
+    requires sending { invariants.is_sending q.now.state ≡ true }
+    ensures { result ≡ first_of (requester.turn_refusals (queue_of q.now)) }
+{
+    if next.begins && matches!(q.state, State::Sqd) {
+        return Some(Reason::State);
+    }
+    if q.requester.waiting {
+        return Some(Reason::RnrWait);
+    }
+    if is_fenced(q, next) {
+        return Some(Reason::Fence);
+    }
+    None
+}
+
+/// Whether a request that begins has to wait for earlier ones: a local operation for all, one with the fence for READs
+/// and atomics.
+#[tactic(auto, using(crate::proofs::NumberingLemmas::start_within))]
+fn is_fenced(q: &QueuePart, next: &Next<'_>) -> bool
+    requires queue { IsQueue (queue_of q.now) }
+    requires narrow { AreNarrow (queue_of q.now) }
+    requires next { IsNext (queue_of q.now) next.now }
+    ensures { result ≡ requester.is_fenced (queue_of q.now) }
+{
+    if !next.begins {
+        return false;
+    }
+    if is_local(next.request.op()) && q.requester.oldest < q.requester.next {
+        return true;
+    }
+    next.request.request().fence && awaits_answer(q, q.requester.oldest, q.requester.oldest_psn)
+}
+
+/// Whether one of the requests from a place on that have begun is a READ or an atomic.
+fn awaits_answer(q: &QueuePart, place: u64, first: u64) -> bool
+    requires queue { IsQueue (queue_of q.now) }
+    requires within { IsWithin place first (queue_of q.now) }
+    ensures { result ≡ list_any (λ m. numbering.is_answered_op m.request.op) (begun_from place first (queue_of q.now)) }
+{
+    if place >= q.requester.next {
+        return false;
+    }
+    match numbered_at(q, place, first) {
+        None => false,
+        Some(n) if is_answered(n.op()) => true,
+        Some(n) => awaits_answer(q, place + 1, first + u64::from(n.count)),
+    }
+}
