@@ -8,6 +8,7 @@
 #![tactic(auto)]
 
 mod numbering;
+mod outcome;
 mod turn;
 
 pub use numbering::{Next, Numbered, next_request, next_to_begin, request_at};
