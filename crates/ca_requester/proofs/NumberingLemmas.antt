@@ -1,12 +1,12 @@
 -- The posted requests from a place on, one after another.
 use Rattle.std.proofs.Common.{zero, ◌≡◌, ℕ, suc, ◌+◌, ◌-◌, ◌≤◌, nat_lt, arith, refl, sym, ap, ◌∙◌, subst, false, List, [], ◌∷◌, drop, length, None, Some, slice_get}
 use Rattle.std.proofs.lemmas.Bool.{le-ltb}
-use Rattle.std.proofs.lemmas.List.{length-drop}
+use Rattle.std.proofs.lemmas.List.{drop_all, length-drop}
 use Rattle.std.proofs.lemmas.Option.{same_Some}
 use Rattle.std.specs.List.{AllByRecursion}
 use Rattle.ca_base.specs.declared.limits.TheConstants.{MAX_MESSAGE_BYTES}
 use Rattle.ca_base.specs.objects.QueuePair.{PostedSend, QueuePair}
-use Rattle.ca_base.specs.objects.WorkQueue.{WorkQueue, item_at, items_from}
+use Rattle.ca_base.specs.objects.WorkQueue.{WorkQueue, item_at, items_from, next_place}
 use Rattle.ca_model.specs.Requests.{list_of, psns_of}
 use Rattle.ca_model.specs.machine.Numbering.{Numbered, numbers_of}
 use Rattle.ca_model.specs.machine.Invariants.{IsList, IsQueue, IsSend}
@@ -90,3 +90,7 @@ start_within q is narrow = record {
   posted = is.requester.finished;
   narrow = omega (arith, narrow.oldest_psn, is.sends.depth, is.sends.room, length-drop (q.requester.oldest - q.sends.first) q.sends.items);
 }
+
+-- none is numbered from a place on that is not posted yet
+pub past-numbers : (q : QueuePair) (place psn : ℕ) → next_place q.sends ≤ place → numbers_from place psn q ≡ []
+past-numbers q place psn le = ap (numbers_of q.responder.mtu place psn) (drop_all (place - q.sends.first) q.sends.items (omega (arith, le)))

@@ -1,4 +1,4 @@
-ghost use Rattle.std.specs.Prelude.{◌≡◌, ◌+◌, ◌∷◌, [], suc, ◌-◌, false, None, find, slice_get, IfSome, IfNone};
+ghost use Rattle.std.specs.Prelude.{◌≡◌, ◌+◌, ◌^◌, ◌<◌, ◌∷◌, [], suc, ◌-◌, false, None, find, slice_get, IfSome, IfNone};
 ghost use Rattle.std.specs.Option.{option_map};
 ghost use Rattle.ca_model.specs.machine.Invariants.{IsQueue};
 ghost use Rattle.ca_model.specs.machine.Numbering as numbering;
@@ -65,8 +65,12 @@ pub(crate) fn numbered_at(q: &QueuePart, place: u64, first: u64) -> Option<Numbe
     ensures some { IfSome result (λ n. numbers_from place first (queue_of q.now)
         ≡ numbered_of n ∷ numbers_from (suc place) (first + n.count) (queue_of q.now)) }
     ensures sound { IfSome result (λ n. IsSound (queue_of q.now) (numbered_of n)) }
+    ensures place { IfSome result (λ n. place + 1 < 2 ^ 64) }
     ensures within { IfSome result (λ n. IsWithin (suc place) (first + n.count) (queue_of q.now)) }
 {
+    if place >= q.sends.next_place() {
+        return None;
+    }
     match q.sends.get(place) {
         None => None,
         Some(posted) => Some(Numbered {
