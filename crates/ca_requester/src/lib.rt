@@ -9,6 +9,7 @@
 
 mod numbering;
 mod outcome;
+mod progress;
 mod turn;
 
 pub use numbering::{Next, Numbered, next_request, next_to_begin, request_at};
