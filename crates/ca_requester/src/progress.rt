@@ -8,7 +8,7 @@ ghost use Rattle.ca_qpstate.specs.Seen.{queue_of};
 ghost use Rattle.ca_rows.specs.Narrow.{AreNarrow};
 ghost use Rattle.ca_requester.specs.Numbering.{begun_from, numbered_of, IsWithin};
 ghost use Rattle.ca_requester.specs.Outcome.{AreAhead, effects_of, numbers_of, outcome_effects};
-ghost use Rattle.ca_requester.specs.Progress.{finished_from, finished_marks_from};
+ghost use Rattle.ca_requester.specs.Progress.{AreNumbers, acknowledgement_of, finished_from, finished_marks_from, numbers_with_una};
 
 use crate::numbering::{Numbered, numbered_at};
 use crate::outcome::{Made, Outcome, one_retry};
@@ -83,6 +83,86 @@ fn first_unanswered(q: &QueuePart, place: u64, first: u64, una: u64, psn: u64) -
         None => None,
         Some(n) if is_unanswered(&n, una, psn) => Some(una.max(n.first)),
         Some(n) => first_unanswered(q, place + 1, first + u64::from(n.count), una, psn),
+    }
+}
+
+/// `una` grows to a PSN, if it is above it; where it grew, retries are counted anew.
+fn with_una(numbers: RequesterNumbers, psn: u64) -> RequesterNumbers
+    ensures { result ≡ numbers_with_una psn numbers }
+{
+    if numbers.una >= psn {
+        return numbers;
+    }
+    RequesterNumbers {
+        una: psn,
+        retries: 0,
+        rnrs: 0,
+        ..numbers
+    }
+}
+
+/// The numbers after all below a PSN is acknowledged. It takes no memory.
+#[tactic(auto, using(crate::proofs::ProgressLemmas::progress_queue))]
+pub(crate) fn progressed(q: &QueuePart, numbers: RequesterNumbers, psn: u64) -> RequesterNumbers
+    requires queue { IsQueue (queue_of q.now) }
+    requires numbers { AreNumbers (queue_of q.now) numbers }
+    ensures value { with_requester result (queue_of q.now) ≡ (acknowledgements.progress_to psn (with_requester numbers (queue_of q.now))).queue }
+    ensures numbers { AreNumbers (queue_of q.now) result }
+{
+    let grown = with_una(numbers, psn);
+    let oldest = oldest_behind(q, numbers.oldest, numbers.oldest_psn, grown.una);
+    RequesterNumbers {
+        oldest: oldest.place,
+        oldest_psn: oldest.first,
+        ..grown
+    }
+}
+
+/// Adds the completions of what is finished after all below a PSN is acknowledged.
+#[tactic(auto, using(crate::proofs::ProgressLemmas::progress_marks))]
+pub(crate) fn push_progress(
+    q: &QueuePart,
+    numbers: RequesterNumbers,
+    psn: u64,
+    made: &mut Vec<Mark>,
+) -> Result<(), Memory>
+    requires queue { IsQueue (queue_of q.now) }
+    requires numbers { AreNumbers (queue_of q.now) numbers }
+    ensures { OnOk result (made.new.items ≡ made.old.items ++ (acknowledgements.progress_to psn (with_requester numbers (queue_of q.now))).marks) }
+{
+    push_finished(q, numbers.oldest, numbers.oldest_psn, with_una(numbers, psn).una, made)
+}
+
+/// How far an acknowledgement goes, whether it went back, and the numbers before it did.
+#[derive(Clone, Copy)]
+pub(crate) struct Acknowledged {
+    pub until: u64,
+    pub went_back: bool,
+    pub numbers: RequesterNumbers,
+}
+
+/// All below a PSN is acknowledged. A READ or an atomic there that was not answered is an implied NAK: the requester goes
+/// back to it. It takes no memory.
+#[tactic(auto, using(crate::proofs::ProgressLemmas::own_numbers, crate::proofs::ProgressLemmas::goes_back, crate::proofs::ProgressLemmas::goes_on))]
+pub(crate) fn acknowledged_below(q: &QueuePart, psn: u64) -> Acknowledged
+    requires queue { IsQueue (queue_of q.now) }
+    requires narrow { AreNarrow (queue_of q.now) }
+    ensures value { acknowledgements.acknowledgement_below psn (queue_of q.now) ≡ acknowledgement_of result.went_back result.until (queue_of q.now) }
+    ensures queue { with_requester result.numbers (queue_of q.now) ≡ (acknowledgements.progress_to result.until (queue_of q.now)).queue }
+    ensures numbers { AreNumbers (queue_of q.now) result.numbers }
+{
+    let numbers = q.requester;
+    match first_unanswered(q, numbers.oldest, numbers.oldest_psn, numbers.una, psn) {
+        None => Acknowledged {
+            until: psn,
+            went_back: false,
+            numbers: progressed(q, numbers, psn),
+        },
+        Some(back) => Acknowledged {
+            until: back,
+            went_back: true,
+            numbers: progressed(q, numbers, back),
+        },
     }
 }
 
