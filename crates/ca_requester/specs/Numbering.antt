@@ -33,11 +33,13 @@ pub record IsWithin (place psn : ℕ) (q : QueuePair) : Type 0 where
   pub posted : q.sends.first ≤ place
   pub narrow : psn + MAX_MESSAGE_BYTES * length (items_from place q.sends) < 2 ^ 63
 
--- a posted request with its numbers: its list is short, and its PSNs lie far below the end of their type
+-- a posted request with its numbers: its list is short, its PSNs lie far below the end of their type,
+-- and there is a place behind it
 pub record IsSound (q : QueuePair) (n : numbering.Numbered) : Type 0 where
   pub list : IsList (list_of n.request.op)
   pub counted : n.count ≡ psns_of q.responder.mtu n.request.op
   pub narrow : n.first + n.count < 2 ^ 63
+  pub room : n.place + 1 < 2 ^ 64
 
 -- the next thing is of this request, and begins it or not
 pub record IsNext (q : QueuePair) (next : Next) : Type 0 where

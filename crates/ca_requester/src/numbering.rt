@@ -20,13 +20,13 @@ pub struct Numbered<'a> {
     pub count: u32,
 }
 
-impl Numbered<'_> {
+impl<'a> Numbered<'a> {
     ghost use Rattle.std.specs.Prelude.{◌≡◌, ◌+◌, ◌<◌, ◌^◌};
     ghost use Rattle.ca_model.specs.machine.Numbering as numbering;
     ghost use Rattle.ca_requester.specs.Numbering.{numbered_of};
 
     /// The request itself.
-    pub(crate) fn request(&self) -> &SendRequest
+    pub(crate) fn request(&self) -> &'a SendRequest
         ensures { result.now ≡ (numbered_of self.now).request }
     {
         let posted = self.posted;
@@ -39,6 +39,14 @@ impl Numbered<'_> {
     {
         let posted = self.posted;
         &posted.request.op
+    }
+
+    /// The byte that it drew, where it is a bind of a type 1 window.
+    pub(crate) fn drawn(&self) -> Option<u8>
+        ensures { result ≡ (numbered_of self.now).drawn }
+    {
+        let posted = self.posted;
+        posted.drawn
     }
 
     /// The PSN behind its last.
