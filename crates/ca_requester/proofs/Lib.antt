@@ -1,2 +1,3 @@
 pub mod NumberingLemmas
+pub mod OutcomeLemmas
 pub mod TurnLemmas

@@ -9,6 +9,7 @@
 
 mod local;
 mod numbering;
+mod outcome;
 mod turn;
 
 pub use local::{local_done, next_local};
