@@ -1,5 +1,5 @@
 -- The posted requests from a place on, one after another.
-use Rattle.std.proofs.Common.{zero, ◌≡◌, ℕ, suc, ◌+◌, ◌-◌, ◌≤◌, ◌<◌, ◌^◌, nat_lt, arith, refl, sym, add-one, ap, ◌∙◌, subst, false, List, [], ◌∷◌, drop, length, None, Option, Some, slice_get}
+use Rattle.std.proofs.Common.{zero, ◌≡◌, ℕ, suc, ◌+◌, ◌-◌, ◌≤◌, ◌<◌, ◌^◌, nat_lt, arith, refl, sym, ap, ◌∙◌, subst, false, List, [], ◌∷◌, drop, length, None, Some, slice_get}
 use Rattle.std.proofs.lemmas.Bool.{le-ltb}
 use Rattle.std.proofs.lemmas.List.{drop_all, length-drop}
 use Rattle.std.proofs.lemmas.Option.{same_Some}

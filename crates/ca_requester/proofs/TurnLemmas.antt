@@ -1,11 +1,11 @@
 -- What a requester's turn does, by its kind.
-use Rattle.std.proofs.Common.{◌≡◌, ℕ, Bool, true, false, true≢false, refl, sym, if◌then◌else◌}
+use Rattle.std.proofs.Common.{◌≡◌, Bool, true, false, true≢false, refl, sym, if◌then◌else◌}
 use Rattle.ca_base.specs.declared.request.SendOp.{SendOp}
 use Rattle.ca_base.specs.declared.request.SendOp.TheVariants as ops
 use Rattle.ca_model.specs.Requests.{is_local}
 use Rattle.ca_model.specs.machine.Completions.{bytes_of_success}
 use Rattle.ca_model.specs.machine.Numbering.{Numbered}
-use Rattle.ca_model.specs.machine.Requester.{RequestTurn, Performs, Sends}
+use Rattle.ca_model.specs.machine.Requester.{Performs, Sends}
 use Rattle.ca_requester.specs.Turn.{is_performing, turn_on}
 
 -- a turn that performs is one on a local operation
