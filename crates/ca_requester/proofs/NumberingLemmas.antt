@@ -1,9 +1,10 @@
 -- The posted requests from a place on, one after another.
-use Rattle.std.proofs.Common.{zero, ◌≡◌, ℕ, suc, ◌+◌, ◌-◌, ◌≤◌, ◌<◌, ◌^◌, nat_lt, arith, refl, sym, ap, ◌∙◌, subst, false, List, [], ◌∷◌, drop, length, None, Some, slice_get}
+use Rattle.std.proofs.Common.{zero, ◌≡◌, ℕ, suc, ◌+◌, ◌-◌, ◌≤◌, ◌<◌, ◌^◌, nat_lt, arith, refl, sym, ap, ◌∙◌, subst, false, List, [], ◌∷◌, drop, length, take, None, Some, slice_get}
 use Rattle.std.proofs.lemmas.Bool.{le-ltb}
 use Rattle.std.proofs.lemmas.List.{drop_all, length-drop}
+use Rattle.std.proofs.lemmas.List.Sums.{sum_by-cons}
 use Rattle.std.proofs.lemmas.Option.{same_Some}
-use Rattle.std.specs.List.{AllByRecursion}
+use Rattle.std.specs.List.{AllByRecursion, sum_by}
 use Rattle.ca_base.specs.declared.limits.TheConstants.{MAX_MESSAGE_BYTES}
 use Rattle.ca_base.specs.objects.QueuePair.{PostedSend, QueuePair}
 use Rattle.ca_base.specs.objects.WorkQueue.{WorkQueue, item_at, items_from, next_place}
@@ -99,3 +100,15 @@ past_items q place le = drop_all (place - q.first) q.items (omega (arith, le))
 -- none is numbered from a place on that is not posted yet
 pub past-numbers : (q : QueuePair) (place psn : ℕ) → next_place q.sends ≤ place → numbers_from place psn q ≡ []
 past-numbers q place psn le = ap (numbers_of q.responder.mtu place psn) (past_items q.sends place le)
+
+-- where none of the requests from a place on has begun, they have no PSNs
+pub none-begun : (next place psn : ℕ) (xs : List Numbered) → next ≤ place → psn ≡ psn + sum_by (λ m. m.count) (take (next - place) xs)
+none-begun next place psn xs le = let e : next - place ≡ 0 = omega arith in rw e (omega arith)
+
+-- the PSNs of those that have begun are those of the first, and of the others
+pub one-begun : (next place place2 psn psn2 : ℕ) (f : ℕ → ℕ → List Numbered) (xs : List Numbered) (x : Numbered) → place2 ≡ suc place → psn2 ≡ psn + x.count
+    → xs ≡ x ∷ f (suc place) (psn + x.count) → place < next
+    → psn2 + sum_by (λ m. m.count) (take (next - place2) (f place2 psn2)) ≡ psn + sum_by (λ m. m.count) (take (next - place) xs)
+one-begun next place place2 psn psn2 f xs x a b e less =
+    let far : next - place ≡ suc (next - suc place) = omega arith in
+    rw (a, b, e, far) (omega (arith, sum_by-cons (λ (m : Numbered). m.count) x (take (next - suc place) (f (suc place) (psn + x.count)))))

@@ -4,7 +4,7 @@ use Rattle.ca_base.specs.declared.limits.TheConstants.{MAX_MESSAGE_BYTES}
 use Rattle.ca_base.specs.objects.QueuePair.{QueuePair}
 use Rattle.ca_base.specs.objects.WorkQueue.{items_from}
 use Rattle.ca_model.specs.Requests.{list_of, psns_of}
-use Rattle.ca_model.specs.machine.Invariants.{IsList}
+use Rattle.ca_model.specs.machine.Invariants.{IsList, begun_end}
 use Rattle.ca_model.specs.machine.Numbering as numbering
 use Rattle.ca_model.specs.machine.Requester.{begins, next_request}
 use Rattle.ca_requester.specs.declared.numbering.Next.{Next}
@@ -48,3 +48,5 @@ pub record IsNext (q : QueuePair) (next : Next) : Type 0 where
   pub goes_on : next.begins ≡ false → numbering.request_at q.requester.cursor q ≡ Some (numbered_of next.request)
   pub begun : next.begins ≡ true → numbering.next_to_begin q ≡ Some (numbered_of next.request)
   pub sound : IsSound q (numbered_of next.request)
+  pub within : next.begins ≡ false → (next.request.first ≤ q.requester.cursor) × (q.requester.cursor < next.request.first + next.request.count)
+  pub at_end : next.begins ≡ true → next.request.first ≡ begun_end q
