@@ -1,3 +1,4 @@
 pub mod NumberingLemmas
 pub mod OutcomeLemmas
+pub mod PacketLemmas
 pub mod TurnLemmas

@@ -1,3 +1,4 @@
 pub mod Numbering
 pub mod Turn
 pub mod Outcome
+pub mod Packets

@@ -10,6 +10,7 @@
 mod local;
 mod numbering;
 mod outcome;
+mod packet;
 mod turn;
 
 pub use local::{local_done, next_local};
