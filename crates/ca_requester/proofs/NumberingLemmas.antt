@@ -1,9 +1,10 @@
 -- The posted requests from a place on, one after another.
-use Rattle.std.proofs.Common.{zero, ◌≡◌, ℕ, suc, ◌+◌, ◌-◌, ◌≤◌, nat_lt, arith, refl, sym, ap, ◌∙◌, subst, false, List, [], ◌∷◌, drop, length, None, Some, slice_get}
+use Rattle.std.proofs.Common.{zero, ◌≡◌, ℕ, suc, ◌+◌, ◌-◌, ◌≤◌, ◌<◌, ◌^◌, nat_lt, arith, refl, sym, ap, ◌∙◌, subst, false, List, [], ◌∷◌, drop, length, take, None, Some, slice_get}
 use Rattle.std.proofs.lemmas.Bool.{le-ltb}
 use Rattle.std.proofs.lemmas.List.{drop_all, length-drop}
+use Rattle.std.proofs.lemmas.List.Sums.{sum_by-cons}
 use Rattle.std.proofs.lemmas.Option.{same_Some}
-use Rattle.std.specs.List.{AllByRecursion}
+use Rattle.std.specs.List.{AllByRecursion, sum_by}
 use Rattle.ca_base.specs.declared.limits.TheConstants.{MAX_MESSAGE_BYTES}
 use Rattle.ca_base.specs.objects.QueuePair.{PostedSend, QueuePair}
 use Rattle.ca_base.specs.objects.WorkQueue.{WorkQueue, item_at, items_from, next_place}
@@ -30,14 +31,14 @@ at-place : {T : Type 0} (q : WorkQueue T) (place : ℕ) → q.first ≤ place �
 at-place q place le = let e : nat_lt place q.first ≡ false = le-ltb place q.first le in rw e
 
 -- the request at a place stands before those behind it
-pub item-step : {T : Type 0} (q : WorkQueue T) (place : ℕ) (x : T) → q.first ≤ place → item_at place q ≡ Some x → items_from place q ≡ x ∷ items_from (suc place) q
-item-step q place x le e =
+pub item_step : {T : Type 0} (q : WorkQueue T) (place : ℕ) (x : T) → q.first ≤ place → item_at place q ≡ Some x → items_from place q ≡ x ∷ items_from (suc place) q
+item_step q place x le e =
     let far : suc place - q.first ≡ suc (place - q.first) = omega arith in
     rw far (drop-step q.items (place - q.first) x (sym (at-place q place le) ∙ e))
 
 -- where no request is at a place, none is behind it
-pub item-none : {T : Type 0} (q : WorkQueue T) (place : ℕ) → q.first ≤ place → item_at place q ≡ None → items_from place q ≡ []
-item-none q place le e = drop-none q.items (place - q.first) (sym (at-place q place le) ∙ e)
+pub item_none : {T : Type 0} (q : WorkQueue T) (place : ℕ) → q.first ≤ place → item_at place q ≡ None → items_from place q ≡ []
+item_none q place le e = drop-none q.items (place - q.first) (sym (at-place q place le) ∙ e)
 
 -- what holds of all elements holds of the one at a place
 pub all-at : {T : Type 0} (P : T → Type 0) (xs : List T) (i : ℕ) (x : T) → AllByRecursion P xs → slice_get xs i ≡ Some x → P x
@@ -57,18 +58,18 @@ number_at place psn count p = record { place = place; request = p.request; drawn
 pub step-numbers : (q : QueuePair) (place psn count : ℕ) (p : PostedSend) → q.sends.first ≤ place → Some p ≡ item_at place q.sends
     → count ≡ psns_of q.responder.mtu p.request.op
     → numbers_from place psn q ≡ number_at place psn count p ∷ numbers_from (suc place) (psn + count) q
-step-numbers q place psn count p le e is = rw is (ap (numbers_of q.responder.mtu place psn) (item-step q.sends place p le (sym e)))
+step-numbers q place psn count p le e is = rw is (ap (numbers_of q.responder.mtu place psn) (item_step q.sends place p le (sym e)))
 
 -- where no request is at a place, none is numbered from there on
 pub no-numbers : (q : QueuePair) (place psn : ℕ) → q.sends.first ≤ place → None ≡ item_at place q.sends → numbers_from place psn q ≡ []
-no-numbers q place psn le e = ap (numbers_of q.responder.mtu place psn) (item-none q.sends place le (sym e))
+no-numbers q place psn le e = ap (numbers_of q.responder.mtu place psn) (item_none q.sends place le (sym e))
 
 -- the PSNs behind a request are as narrow
 pub step-within : (q : QueuePair) (place psn count : ℕ) (p : PostedSend) → IsWithin place psn q → Some p ≡ item_at place q.sends → count ≤ MAX_MESSAGE_BYTES
     → IsWithin (suc place) (psn + count) q
 step-within q place psn count p within e few = record {
   posted = omega (arith, within.posted);
-  narrow = omega (arith, within.narrow, ap length (item-step q.sends place p within.posted (sym e)));
+  narrow = omega (arith, within.narrow, ap length (item_step q.sends place p within.posted (sym e)));
 }
 
 -- the list of a posted request is short
@@ -77,11 +78,12 @@ step-list q place p is le e = item-all IsSend q.sends place p is.sends.items le 
 
 -- a posted request is sound
 pub step-sound : (q : QueuePair) (place psn count : ℕ) (p : PostedSend) → IsQueue q → IsWithin place psn q → Some p ≡ item_at place q.sends
-    → count ≡ psns_of q.responder.mtu p.request.op → count ≤ MAX_MESSAGE_BYTES → IsSound q (number_at place psn count p)
-step-sound q place psn count p is within e counted few = record {
+    → count ≡ psns_of q.responder.mtu p.request.op → count ≤ MAX_MESSAGE_BYTES → place + 1 < 2 ^ 64 → IsSound q (number_at place psn count p)
+step-sound q place psn count p is within e counted few room = record {
   list = step-list q place p is within.posted e;
   counted = counted;
-  narrow = omega (arith, within.narrow, ap length (item-step q.sends place p within.posted (sym e)));
+  narrow = omega (arith, within.narrow, ap length (item_step q.sends place p within.posted (sym e)));
+  room = room;
 }
 
 -- the PSNs of the unfinished requests of a queue pair are narrow
@@ -91,6 +93,22 @@ start_within q is narrow = record {
   narrow = omega (arith, narrow.oldest_psn, is.sends.depth, is.sends.room, length-drop (q.requester.oldest - q.sends.first) q.sends.items);
 }
 
+-- no request is from a place on that is not posted yet
+pub past_items : {T : Type 0} (q : WorkQueue T) (place : ℕ) → next_place q ≤ place → items_from place q ≡ []
+past_items q place le = drop_all (place - q.first) q.items (omega (arith, le))
+
 -- none is numbered from a place on that is not posted yet
 pub past-numbers : (q : QueuePair) (place psn : ℕ) → next_place q.sends ≤ place → numbers_from place psn q ≡ []
-past-numbers q place psn le = ap (numbers_of q.responder.mtu place psn) (drop_all (place - q.sends.first) q.sends.items (omega (arith, le)))
+past-numbers q place psn le = ap (numbers_of q.responder.mtu place psn) (past_items q.sends place le)
+
+-- where none of the requests from a place on has begun, they have no PSNs
+pub none-begun : (next place psn : ℕ) (xs : List Numbered) → next ≤ place → psn ≡ psn + sum_by (λ m. m.count) (take (next - place) xs)
+none-begun next place psn xs le = let e : next - place ≡ 0 = omega arith in rw e (omega arith)
+
+-- the PSNs of those that have begun are those of the first, and of the others
+pub one-begun : (next place place2 psn psn2 : ℕ) (f : ℕ → ℕ → List Numbered) (xs : List Numbered) (x : Numbered) → place2 ≡ suc place → psn2 ≡ psn + x.count
+    → xs ≡ x ∷ f (suc place) (psn + x.count) → place < next
+    → psn2 + sum_by (λ m. m.count) (take (next - place2) (f place2 psn2)) ≡ psn + sum_by (λ m. m.count) (take (next - place) xs)
+one-begun next place place2 psn psn2 f xs x a b e less =
+    let far : next - place ≡ suc (next - suc place) = omega arith in
+    rw (a, b, e, far) (omega (arith, sum_by-cons (λ (m : Numbered). m.count) x (take (next - suc place) (f (suc place) (psn + x.count)))))

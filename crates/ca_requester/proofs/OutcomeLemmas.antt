@@ -1,9 +1,9 @@
 -- The request that fails, before all that is flushed behind it.
-use Rattle.std.proofs.Common.{◌≡◌, ℕ, suc, ◌≤◌, refl, sym, ap, ◌∙◌, List, [], ◌∷◌, ◌++◌, Option, Some, append_assoc}
+use Rattle.std.proofs.Common.{◌≡◌, ℕ, suc, ◌≤◌, sym, ap, ◌∙◌, List, [], ◌∷◌, ◌++◌, Option, Some, append_assoc}
 use Rattle.ca_base.specs.declared.completion.WcStatus.{WcStatus}
 use Rattle.ca_base.specs.declared.refusals.OpRefusal.{OpRefusal}
 use Rattle.ca_base.specs.objects.QueuePair.{PostedSend, QueuePair}
-use Rattle.ca_base.specs.objects.WorkQueue.{item_at, items_from}
+use Rattle.ca_base.specs.objects.WorkQueue.{item_at}
 use Rattle.ca_model.specs.declared.mark.Mark.{Mark}
 use Rattle.ca_model.specs.machine.Acknowledgements.{failure_effects, without_oldest}
 use Rattle.ca_model.specs.machine.Completions.{failure_mark, flush_marks}

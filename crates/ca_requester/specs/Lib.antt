@@ -2,3 +2,4 @@ pub mod Numbering
 pub mod Turn
 pub mod Outcome
 pub mod Progress
+pub mod Packets

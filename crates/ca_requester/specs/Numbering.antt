@@ -4,7 +4,7 @@ use Rattle.ca_base.specs.declared.limits.TheConstants.{MAX_MESSAGE_BYTES}
 use Rattle.ca_base.specs.objects.QueuePair.{QueuePair}
 use Rattle.ca_base.specs.objects.WorkQueue.{items_from}
 use Rattle.ca_model.specs.Requests.{list_of, psns_of}
-use Rattle.ca_model.specs.machine.Invariants.{IsList}
+use Rattle.ca_model.specs.machine.Invariants.{IsList, begun_end}
 use Rattle.ca_model.specs.machine.Numbering as numbering
 use Rattle.ca_model.specs.machine.Requester.{begins, next_request}
 use Rattle.ca_requester.specs.declared.numbering.Next.{Next}
@@ -33,11 +33,13 @@ pub record IsWithin (place psn : ℕ) (q : QueuePair) : Type 0 where
   pub posted : q.sends.first ≤ place
   pub narrow : psn + MAX_MESSAGE_BYTES * length (items_from place q.sends) < 2 ^ 63
 
--- a posted request with its numbers: its list is short, and its PSNs lie far below the end of their type
+-- a posted request with its numbers: its list is short, its PSNs lie far below the end of their type,
+-- and there is a place behind it
 pub record IsSound (q : QueuePair) (n : numbering.Numbered) : Type 0 where
   pub list : IsList (list_of n.request.op)
   pub counted : n.count ≡ psns_of q.responder.mtu n.request.op
   pub narrow : n.first + n.count < 2 ^ 63
+  pub room : n.place + 1 < 2 ^ 64
 
 -- the next thing is of this request, and begins it or not
 pub record IsNext (q : QueuePair) (next : Next) : Type 0 where
@@ -46,3 +48,5 @@ pub record IsNext (q : QueuePair) (next : Next) : Type 0 where
   pub goes_on : next.begins ≡ false → numbering.request_at q.requester.cursor q ≡ Some (numbered_of next.request)
   pub begun : next.begins ≡ true → numbering.next_to_begin q ≡ Some (numbered_of next.request)
   pub sound : IsSound q (numbered_of next.request)
+  pub within : next.begins ≡ false → (next.request.first ≤ q.requester.cursor) × (q.requester.cursor < next.request.first + next.request.count)
+  pub at_end : next.begins ≡ true → next.request.first ≡ begun_end q

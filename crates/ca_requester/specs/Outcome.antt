@@ -1,5 +1,5 @@
 -- What an event makes of a requester, before it is made: marks, and either new numbers or a failure. Contracts cite it.
-use Rattle.std.specs.Prelude.{ℕ, ◌^◌, ◌≤◌, ◌<◌, [], ◌++◌}
+use Rattle.std.specs.Prelude.{◌≤◌, []}
 use Rattle.ca_base.specs.declared.queue_numbers.RequesterNumbers.{RequesterNumbers}
 use Rattle.ca_base.specs.objects.QueuePair.{QueuePair}
 use Rattle.ca_base.specs.objects.WorkQueue.{next_place}

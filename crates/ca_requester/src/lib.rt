@@ -7,9 +7,12 @@
 //! of the reliable connection.
 #![tactic(auto)]
 
+mod local;
 mod numbering;
 mod outcome;
+mod packet;
 mod progress;
 mod turn;
 
+pub use local::{local_done, next_local};
 pub use numbering::{Next, Numbered, next_request, next_to_begin, request_at};

@@ -1,6 +1,6 @@
-ghost use Rattle.std.specs.Prelude.{◌≡◌, ◌+◌, ◌^◌, ◌<◌, ◌∷◌, [], suc, ◌-◌, false, None, find, slice_get, IfSome, IfNone};
+ghost use Rattle.std.specs.Prelude.{◌≡◌, ◌+◌, ◌^◌, ◌<◌, ◌≤◌, ◌∷◌, [], suc, ◌-◌, false, None, find, slice_get, sum_by, IfSome, IfNone, IsTrue};
 ghost use Rattle.std.specs.Option.{option_map};
-ghost use Rattle.ca_model.specs.machine.Invariants.{IsQueue};
+ghost use Rattle.ca_model.specs.machine.Invariants.{IsQueue, begun_end};
 ghost use Rattle.ca_model.specs.machine.Numbering as numbering;
 ghost use Rattle.ca_model.specs.machine.Requester as requester;
 ghost use Rattle.ca_qpstate.specs.Seen.{queue_of};
@@ -20,13 +20,13 @@ pub struct Numbered<'a> {
     pub count: u32,
 }
 
-impl Numbered<'_> {
+impl<'a> Numbered<'a> {
     ghost use Rattle.std.specs.Prelude.{◌≡◌, ◌+◌, ◌<◌, ◌^◌};
     ghost use Rattle.ca_model.specs.machine.Numbering as numbering;
     ghost use Rattle.ca_requester.specs.Numbering.{numbered_of};
 
     /// The request itself.
-    pub(crate) fn request(&self) -> &SendRequest
+    pub(crate) fn request(&self) -> &'a SendRequest
         ensures { result.now ≡ (numbered_of self.now).request }
     {
         let posted = self.posted;
@@ -39,6 +39,14 @@ impl Numbered<'_> {
     {
         let posted = self.posted;
         &posted.request.op
+    }
+
+    /// The byte that it drew, where it is a bind of a type 1 window.
+    pub(crate) fn drawn(&self) -> Option<u8>
+        ensures { result ≡ (numbered_of self.now).drawn }
+    {
+        let posted = self.posted;
+        posted.drawn
     }
 
     /// The PSN behind its last.
@@ -64,6 +72,7 @@ pub(crate) fn numbered_at(q: &QueuePart, place: u64, first: u64) -> Option<Numbe
     ensures none { IfNone result (numbers_from place first (queue_of q.now) ≡ []) }
     ensures some { IfSome result (λ n. numbers_from place first (queue_of q.now)
         ≡ numbered_of n ∷ numbers_from (suc place) (first + n.count) (queue_of q.now)) }
+    ensures first { IfSome result (λ n. n.first ≡ first) }
     ensures sound { IfSome result (λ n. IsSound (queue_of q.now) (numbered_of n)) }
     ensures place { IfSome result (λ n. place + 1 < 2 ^ 64) }
     ensures within { IfSome result (λ n. IsWithin (suc place) (first + n.count) (queue_of q.now)) }
@@ -88,6 +97,7 @@ pub fn request_at(q: &QueuePart, psn: u64) -> Option<Numbered<'_>>
     requires queue { IsQueue (queue_of q.now) }
     requires narrow { AreNarrow (queue_of q.now) }
     ensures request { option_map numbered_of result ≡ numbering.request_at psn (queue_of q.now) }
+    ensures psn { IfSome result (λ n. (n.first ≤ psn) × (psn < n.first + n.count)) }
     ensures sound { IfSome result (λ n. IsSound (queue_of q.now) (numbered_of n)) }
 {
     find_psn(q, q.requester.oldest, q.requester.oldest_psn, psn)
@@ -98,6 +108,7 @@ fn find_psn(q: &QueuePart, place: u64, first: u64, psn: u64) -> Option<Numbered<
     requires queue { IsQueue (queue_of q.now) }
     requires within { IsWithin place first (queue_of q.now) }
     ensures request { option_map numbered_of result ≡ find (numbering.has_psn psn) (begun_from place first (queue_of q.now)) }
+    ensures psn { IfSome result (λ n. (n.first ≤ psn) × (psn < n.first + n.count)) }
     ensures sound { IfSome result (λ n. IsSound (queue_of q.now) (numbered_of n)) }
 {
     if place >= q.requester.next {
@@ -112,7 +123,8 @@ fn find_psn(q: &QueuePart, place: u64, first: u64, psn: u64) -> Option<Numbered<
 
 /// Whether a PSN is one of a request's.
 fn has_psn(n: &Numbered<'_>, psn: u64) -> bool
-    ensures { result ≡ numbering.has_psn psn (numbered_of n.now) }
+    ensures value { result ≡ numbering.has_psn psn (numbered_of n.now) }
+    ensures psn { IsTrue result → (n.now.first ≤ psn) × (psn < n.now.first + n.now.count) }
 {
     n.first <= psn && psn - n.first < u64::from(n.count)
 }
@@ -123,6 +135,7 @@ pub fn next_to_begin(q: &QueuePart) -> Option<Numbered<'_>>
     requires queue { IsQueue (queue_of q.now) }
     requires narrow { AreNarrow (queue_of q.now) }
     ensures request { option_map numbered_of result ≡ numbering.next_to_begin (queue_of q.now) }
+    ensures first { IfSome result (λ n. n.first ≡ begun_end (queue_of q.now)) }
     ensures sound { IfSome result (λ n. IsSound (queue_of q.now) (numbered_of n)) }
 {
     first_not_begun(q, q.requester.oldest, q.requester.oldest_psn)
@@ -134,6 +147,7 @@ fn first_not_begun(q: &QueuePart, place: u64, first: u64) -> Option<Numbered<'_>
     requires within { IsWithin place first (queue_of q.now) }
     ensures request { option_map numbered_of result
         ≡ slice_get (numbers_from place first (queue_of q.now)) (q.now.requester.next - place) }
+    ensures first { IfSome result (λ n. n.first ≡ first + sum_by (λ m. m.count) (begun_from place first (queue_of q.now))) }
     ensures sound { IfSome result (λ n. IsSound (queue_of q.now) (numbered_of n)) }
 {
     match numbered_at(q, place, first) {

@@ -100,13 +100,6 @@ fn awaits_answer(q: &QueuePart, place: u64, first: u64) -> bool
     }
 }
 
-/// Which packet of its request the next one is.
-pub(crate) fn index_of_packet(q: &QueuePart, n: &Numbered<'_>) -> u64
-    ensures { result ≡ requester.index_of_packet (queue_of q.now) (numbered_of n.now) }
-{
-    q.requester.cursor.saturating_sub(n.first)
-}
-
 /// The PSN behind the next packet: a READ Request takes those of all its responses.
 pub(crate) fn end_of_packet(q: &QueuePart, n: &Numbered<'_>) -> u64
     requires narrow { AreNarrow (queue_of q.now) }

@@ -24,9 +24,9 @@ cut_touches queue domain kind skip count (p ∷ ps) =
     by : (b z : Bool) → touched_by (list_asks queue domain kind (skip - p.length) count ps) ≤ count
         → touched_by (list_asks queue domain kind 0 (count - (p.length - skip)) ps) ≤ count - (p.length - skip)
         → touched_by (map (piece_ask queue domain kind) (
-            if b then cut_list (skip - p.length) count ps
-            else if z then []
-            else piece_part p skip (min count (p.length - skip)) ∷ cut_list 0 (count - (p.length - skip)) ps)) ≤ count
+        if b then cut_list (skip - p.length) count ps
+        else if z then []
+        else piece_part p skip (min count (p.length - skip)) ∷ cut_list 0 (count - (p.length - skip)) ps)) ≤ count
     by true z over within = over
     by false true over within = omega arith
     by false false over within = omega (arith, within)
@@ -41,9 +41,9 @@ cut_are_asks queue domain kind skip count (p ∷ ps) few =
     by : (b z : Bool) → nat_le p.length skip ≡ b → (count == 0) ≡ z → AllByRecursion (IsAskOf kind) (list_asks queue domain kind (skip - p.length) count ps)
         → AllByRecursion (IsAskOf kind) (list_asks queue domain kind 0 (count - (p.length - skip)) ps)
         → AllByRecursion (IsAskOf kind) (map (piece_ask queue domain kind) (
-            if b then cut_list (skip - p.length) count ps
-            else if z then []
-            else piece_part p skip (min count (p.length - skip)) ∷ cut_list 0 (count - (p.length - skip)) ps))
+        if b then cut_list (skip - p.length) count ps
+        else if z then []
+        else piece_part p skip (min count (p.length - skip)) ∷ cut_list 0 (count - (p.length - skip)) ps))
     by true z le some over within = over
     by false true le some over within = record {}
     by false false le some over within = ((((touches, omega arith), omega (arith, few)), refl), within)

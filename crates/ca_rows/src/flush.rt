@@ -70,7 +70,13 @@ fn push_waiting_receives(
     ensures { OnOk result (made.new.items ≡ made.old.items ++ completions.flushed_receives queue receives.now.next_taken (items_from receives.now.next_taken receives.now)) }
 {
     let end = receives.next_place();
-    push_flushed_receives(queue, receives, end - u64::from(receives.waiting()), end, made)
+    push_flushed_receives(
+        queue,
+        receives,
+        end - u64::from(receives.waiting()),
+        end,
+        made,
+    )
 }
 
 #[tactic(auto, using(crate::proofs::QueueLemmas::items_step, crate::proofs::QueueLemmas::items_past, crate::proofs::QueueLemmas::items_none))]

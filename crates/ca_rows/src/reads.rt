@@ -1,11 +1,11 @@
-ghost use Rattle.std.specs.Prelude.{◌≡◌, ◌+◌, [], ◌++◌, IfOk, OnOk, length};
+ghost use Rattle.std.specs.Prelude.{◌≡◌, ◌+◌, ◌≤◌, [], ◌++◌, IfOk, OnOk, length};
 ghost use Rattle.std.specs.List.{AllByRecursion};
 ghost use Rattle.ca_base.specs.declared.access.Kind.{Kind};
 ghost use Rattle.ca_rows.specs.Asks.{IsAskOf, IsGranted, mark_of, payload_of, read_marks, reads_by, touched_by};
 
 use ca_base::{Ask, Bytes, Memory, Verdict};
 use ca_grant::Reach;
-use ca_model::Mark;
+use ca_model::{Mark, Marks};
 use std::alloc::Global;
 
 /// Reads what each of these asks touches, and adds each with its bytes. None of them is denied.
@@ -35,10 +35,7 @@ pub fn read_all<R: Reach>(
 
 /// The bytes that were read, one after another: those of one access lie together already, and those of several are
 /// joined in a list that is empty.
-pub fn join<'a>(
-    reads: &'a [(Ask, Bytes)],
-    joined: &'a mut Vec<u8>,
-) -> Result<&'a [u8], Memory>
+pub fn join<'a>(reads: &'a [(Ask, Bytes)], joined: &'a mut Vec<u8>) -> Result<&'a [u8], Memory>
     requires { joined.old.items ≡ [] }
     ensures { IfOk result (λ payload. payload.now ≡ payload_of reads.now) }
 {
@@ -69,6 +66,17 @@ pub fn push_reads(reads: Vec<(Ask, Bytes)>, made: &mut Vec<Mark>) -> Result<(), 
         made.push(local_mark(&ask, Verdict::Read(bytes)))?;
     }
     Ok(())
+}
+
+/// Adds a mark for each piece that was read, in the spare room. It takes no memory.
+pub fn mark_reads(reads: Vec<(Ask, Bytes)>, marks: &mut Marks)
+    requires room { length reads.items ≤ marks.old.room }
+    ensures marks { marks.new.marks ≡ marks.old.marks ++ read_marks reads.items }
+    ensures room { marks.old.room ≤ marks.new.room + length reads.items }
+{
+    for (ask, bytes) in reads {
+        marks.push(local_mark(&ask, Verdict::Read(bytes)));
+    }
 }
 
 /// The mark of a use of an L_Key.

@@ -1,4 +1,4 @@
-use Rattle.std.proofs.Common.{◌∙◌, ap}
+use Rattle.std.proofs.Common.{arith, ◌∙◌, ap}
 use Rattle.ca_base.specs.objects.QueuePair.{PostedSend}
 use Rattle.ca_model.specs.Requests.{psns_of}
 use Rattle.ca_qpstate.specs.Seen.{queue_of}
@@ -19,4 +19,4 @@ returns-in-Some-clause-within c = step-within (queue_of c.args.q.now) c.args.pla
 pub returns-in-Some-clause-sound : goal.returns-in-Some-clause-sound
 returns-in-Some-clause-sound c = step-sound (queue_of c.args.q.now) c.args.place c.args.first c.psns_of.result c.in-Some.posted.now
     c.requires.queue c.requires.within c.in-Some.ensures
-    (c.psns_of.ensures.value ∙ ap (λ (p : PostedSend). psns_of c.args.q.now.responder.mtu p.request.op) c.posted.view_is) c.psns_of.ensures.few
+    (c.psns_of.ensures.value ∙ ap (λ (p : PostedSend). psns_of c.args.q.now.responder.mtu p.request.op) c.posted.view_is) c.psns_of.ensures.few (omega arith)

@@ -1,0 +1,251 @@
+ghost use Rattle.std.specs.Prelude.{◌≡◌, ◌+◌, ◌*◌, ◌++◌, ◌<◌, ◌≤◌, ◌^◌, false, true, Some, OnOk, OnErr, length};
+ghost use Rattle.std.specs.List.{AllByRecursion};
+ghost use Rattle.ca_base.specs.declared.access.Kind.{Kind};
+ghost use Rattle.ca_base.specs.declared.limits.TheConstants.{MAX_PAYLOAD_BYTES};
+ghost use Rattle.ca_model.specs.Requests as requests;
+ghost use Rattle.ca_model.specs.machine.Invariants.{IsQueue, IsList};
+ghost use Rattle.ca_model.specs.machine.Requester as requester;
+ghost use Rattle.ca_qpstate.specs.Seen.{queue_of};
+ghost use Rattle.ca_requester.specs.Numbering.{numbered_of, IsSound};
+ghost use Rattle.ca_requester.specs.Packets.{IsPacket, packet_fields, reth_of};
+ghost use Rattle.ca_rows.specs.Asks.{IsAskOf, touched_by};
+ghost use Rattle.ca_wire.specs.Builders as packets;
+ghost use Rattle.ca_wire.specs.Packet.{IsWellFormed, fields_of};
+
+use crate::numbering::Numbered;
+use arrayvec::ArrayVec;
+use ca_base::limits::MAX_PIECES;
+use ca_base::{Ask, Key, Kind, Memory, Piece, SendOp};
+use ca_qpstate::QueuePart;
+use ca_rows::{carried_bytes, list_asks, list_length, list_of, segments};
+use ca_wire::{
+    AtomicEth, Packet, Reth, Segment, SendKind, cmp_swap, encode, fetch_add, read_request,
+    send_packet, write_packet,
+};
+
+/// Which packet of its request the next one is.
+fn index_of_packet(q: &QueuePart, n: &Numbered<'_>) -> u32
+    requires { IsPacket (queue_of q.now) (numbered_of n.now) }
+    ensures value { result ≡ requester.index_of_packet (queue_of q.now) (numbered_of n.now) }
+    ensures within { result < n.now.count }
+{
+    q.requester.cursor.saturating_sub(n.first) as u32
+}
+
+/// How many bytes of its request's list lie before those of the next packet.
+#[tactic(auto, using(crate::proofs::PacketLemmas::few_before))]
+fn bytes_before(q: &QueuePart, n: &Numbered<'_>) -> u32
+    requires queue { IsQueue (queue_of q.now) }
+    requires packet { IsPacket (queue_of q.now) (numbered_of n.now) }
+    ensures { result ≡ requester.index_of_packet (queue_of q.now) (numbered_of n.now) * q.now.responder.mtu }
+{
+    index_of_packet(q, n) * u32::from(q.responder.mtu)
+}
+
+/// The asks of the next packet, for the bytes that it carries of its request's list.
+pub(crate) fn packet_asks(q: &QueuePart, n: &Numbered<'_>) -> ArrayVec<Ask, MAX_PIECES>
+    requires queue { IsQueue (queue_of q.now) }
+    requires packet { IsPacket (queue_of q.now) (numbered_of n.now) }
+    ensures value { result.items ≡ requester.packet_asks (queue_of q.now) (numbered_of n.now) }
+    ensures touched { touched_by result.items ≤ MAX_PAYLOAD_BYTES }
+    ensures asks { AllByRecursion (IsAskOf Kind.Read) result.items }
+{
+    let count = carried_bytes(q.responder.mtu, n.op(), index_of_packet(q, n));
+    list_asks(
+        q.queue,
+        q.domain,
+        Kind::Read,
+        bytes_before(q, n),
+        count,
+        list_of(n.op()),
+    )
+}
+
+/// The number of the peer.
+fn peer_number(q: &QueuePart) -> u32
+    requires { IsQueue (queue_of q.now) }
+    ensures value { result ≡ requester.peer_number (queue_of q.now) }
+    ensures narrow { result < 2 ^ 24 }
+{
+    match q.peer {
+        Some((peer, _)) => peer.number,
+        None => 0,
+    }
+}
+
+/// The 24 bits of a whole number of a packet.
+fn psn_bits(psn: u64) -> u32
+    ensures value { result ≡ requester.psn_bits psn }
+    ensures narrow { result < 2 ^ 24 }
+{
+    (psn % 0x100_0000) as u32
+}
+
+/// Adds the bytes that spell the next packet, with this payload.
+pub(crate) fn spell(
+    q: &QueuePart,
+    n: &Numbered<'_>,
+    payload: &[u8],
+    out: &mut Vec<u8>,
+) -> Result<(), Memory>
+    requires queue { IsQueue (queue_of q.now) }
+    requires packet { IsPacket (queue_of q.now) (numbered_of n.now) }
+    requires payload { length payload.now ≤ MAX_PAYLOAD_BYTES }
+    ensures ok { OnOk result (out.new.items ≡ out.old.items ++ requester.spelt_packet (queue_of q.now) (numbered_of n.now) payload.now) }
+    ensures err { OnErr result (out.new.items ≡ out.old.items) }
+{
+    encode(&packet_of(q, n, payload), out)
+}
+
+/// The next packet, with this payload.
+fn packet_of<'a>(q: &QueuePart, n: &Numbered<'_>, payload: &'a [u8]) -> Packet<'a>
+    requires queue { IsQueue (queue_of q.now) }
+    requires packet { IsPacket (queue_of q.now) (numbered_of n.now) }
+    requires payload { length payload.now ≤ MAX_PAYLOAD_BYTES }
+    ensures fields { packet_fields (queue_of q.now) (numbered_of n.now) payload.now ≡ Some (fields_of result) }
+    ensures well_formed { IsWellFormed (fields_of result) }
+{
+    let request = n.request();
+    let head = Head {
+        index: index_of_packet(q, n),
+        solicited: request.solicited,
+        mtu: q.responder.mtu,
+        queue: peer_number(q),
+        psn: psn_bits(q.requester.cursor),
+    };
+    match &request.op {
+        SendOp::Send { list } => send_of(&head, SendKind::Plain, list.as_slice(), payload),
+        SendOp::SendImm { imm, list } => {
+            send_of(&head, SendKind::WithImmediate(*imm), list.as_slice(), payload)
+        }
+        SendOp::SendInv { key, list } => {
+            send_of(&head, SendKind::WithInvalidate(*key), list.as_slice(), payload)
+        }
+        SendOp::Write { address, key, list } => {
+            write_of(&head, *address, *key, None, list.as_slice(), payload)
+        }
+        SendOp::WriteImm {
+            address,
+            key,
+            imm,
+            list,
+        } => write_of(&head, *address, *key, Some(*imm), list.as_slice(), payload),
+        SendOp::Read { address, key, list } => {
+            let reth = reth_behind(bytes_before(q, n), *address, *key, list.as_slice());
+            read_request(reth, head.queue, head.psn)
+        }
+        SendOp::CmpSwap {
+            address,
+            key,
+            compare,
+            swap,
+            ..
+        } => {
+            let atomic = AtomicEth {
+                address: *address,
+                key: *key,
+                swap: *swap,
+                compare: *compare,
+            };
+            cmp_swap(atomic, head.queue, head.psn)
+        }
+        SendOp::FetchAdd {
+            address, key, add, ..
+        } => fetch_add(*address, *key, *add, head.queue, head.psn),
+        SendOp::Bind1 { .. }
+        | SendOp::Bind2 { .. }
+        | SendOp::FastReg { .. }
+        | SendOp::LocalInv { .. } => unreachable!(),
+    }
+}
+
+/// What a packet has of its queue pair and of its request.
+#[derive(Clone, Copy)]
+struct Head {
+    index: u32,
+    solicited: bool,
+    mtu: u16,
+    queue: u32,
+    psn: u32,
+}
+
+/// The segment at the index of a message with the bytes of a list.
+fn segment_of(head: &Head, list: &[Piece]) -> Segment
+    requires mtu { 0 < head.now.mtu }
+    requires list { IsList list.now }
+    ensures { result ≡ requests.segment head.now.mtu (requests.list_length list.now) head.now.index }
+{
+    Segment {
+        index: head.index,
+        count: segments(head.mtu, list_length(list)),
+    }
+}
+
+/// A packet of a SEND.
+fn send_of<'a>(head: &Head, kind: SendKind, list: &[Piece], payload: &'a [u8]) -> Packet<'a>
+    requires mtu { 0 < head.now.mtu }
+    requires list { IsList list.now }
+    requires index { head.now.index < requests.segments head.now.mtu (requests.list_length list.now) }
+    requires queue { head.now.queue < 2 ^ 24 }
+    requires psn { head.now.psn < 2 ^ 24 }
+    requires payload { length payload.now ≤ MAX_PAYLOAD_BYTES }
+    ensures fields { fields_of result ≡ packets.send_packet kind (requests.segment head.now.mtu (requests.list_length list.now) head.now.index)
+        head.now.solicited head.now.queue head.now.psn payload.now }
+    ensures well_formed { IsWellFormed (fields_of result) }
+{
+    send_packet(
+        kind,
+        segment_of(head, list),
+        head.solicited,
+        head.queue,
+        head.psn,
+        payload,
+    )
+}
+
+/// A packet of a WRITE.
+fn write_of<'a>(
+    head: &Head,
+    address: u64,
+    key: Key,
+    imm: Option<u32>,
+    list: &[Piece],
+    payload: &'a [u8],
+) -> Packet<'a>
+    requires mtu { 0 < head.now.mtu }
+    requires list { IsList list.now }
+    requires index { head.now.index < requests.segments head.now.mtu (requests.list_length list.now) }
+    requires queue { head.now.queue < 2 ^ 24 }
+    requires psn { head.now.psn < 2 ^ 24 }
+    requires payload { length payload.now ≤ MAX_PAYLOAD_BYTES }
+    ensures fields { fields_of result ≡ packets.write_packet (requests.segment head.now.mtu (requests.list_length list.now) head.now.index)
+        (reth_of address key (requests.list_length list.now)) imm head.now.solicited head.now.queue head.now.psn payload.now }
+    ensures well_formed { IsWellFormed (fields_of result) }
+{
+    let reth = Reth {
+        address,
+        key,
+        length: list_length(list),
+    };
+    write_packet(
+        segment_of(head, list),
+        reth,
+        imm,
+        head.solicited,
+        head.queue,
+        head.psn,
+        payload,
+    )
+}
+
+/// What a READ reaches, without so many bytes at its front. Addresses count modulo 2^64.
+fn reth_behind(skip: u32, address: u64, key: Key, list: &[Piece]) -> Reth
+    requires { IsList list.now }
+    ensures { result ≡ requests.reth_behind skip address key (requests.list_length list.now) }
+{
+    Reth {
+        address: address.wrapping_add(u64::from(skip)),
+        key,
+        length: list_length(list).saturating_sub(skip),
+    }
+}
