@@ -3,3 +3,4 @@ pub mod OutcomeLemmas
 pub mod ProgressLemmas
 pub mod PacketLemmas
 pub mod TurnLemmas
+pub mod ResponseLemmas

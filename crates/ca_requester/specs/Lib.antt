@@ -3,3 +3,4 @@ pub mod Turn
 pub mod Outcome
 pub mod Progress
 pub mod Packets
+pub mod Responses

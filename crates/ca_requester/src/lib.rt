@@ -12,7 +12,10 @@ mod numbering;
 mod outcome;
 mod packet;
 mod progress;
+mod responses;
+mod taking;
 mod turn;
 
 pub use local::{local_done, next_local};
+pub use taking::{on_response, response_asks};
 pub use numbering::{Next, Numbered, next_request, next_to_begin, request_at};

@@ -1,13 +1,15 @@
-ghost use Rattle.std.specs.Prelude.{◌≡◌, ◌+◌, ◌^◌, ◌<◌, ◌≤◌, ◌∷◌, [], suc, ◌-◌, false, None, find, slice_get, sum_by, IfSome, IfNone, IsTrue};
+ghost use Rattle.std.specs.Prelude.{◌≡◌, ◌+◌, ◌^◌, ◌<◌, ◌≤◌, ◌∷◌, [], suc, ◌-◌, false, true, None, find, slice_get, sum_by, IfSome, IfNone, IsTrue};
 ghost use Rattle.std.specs.Option.{option_map};
+ghost use Rattle.ca_model.specs.machine.Acknowledgements.{with_requester};
 ghost use Rattle.ca_model.specs.machine.Invariants.{IsQueue, begun_end};
 ghost use Rattle.ca_model.specs.machine.Numbering as numbering;
 ghost use Rattle.ca_model.specs.machine.Requester as requester;
 ghost use Rattle.ca_qpstate.specs.Seen.{queue_of};
 ghost use Rattle.ca_rows.specs.Narrow.{AreNarrow};
+ghost use Rattle.ca_requester.specs.Progress.{AreNumbers};
 ghost use Rattle.ca_requester.specs.Numbering.{numbered_of, numbers_from, begun_from, IsWithin, IsSound, IsNext};
 
-use ca_base::{SendOp, SendRequest};
+use ca_base::{RequesterNumbers, SendOp, SendRequest};
 use ca_qpstate::{PostedSend, QueuePart};
 use ca_rows::psns_of;
 
@@ -101,6 +103,22 @@ pub fn request_at(q: &QueuePart, psn: u64) -> Option<Numbered<'_>>
     ensures sound { IfSome result (λ n. IsSound (queue_of q.now) (numbered_of n)) }
 {
     find_psn(q, q.requester.oldest, q.requester.oldest_psn, psn)
+}
+
+/// The request that has begun and has this PSN, under numbers that the queue pair may go on with. It takes no memory.
+#[tactic(auto, using(crate::proofs::ResponseLemmas::at_under))]
+pub(crate) fn request_under<'a>(
+    q: &'a QueuePart,
+    numbers: &RequesterNumbers,
+    psn: u64,
+) -> Option<Numbered<'a>>
+    requires queue { IsQueue (queue_of q.now) }
+    requires numbers { AreNumbers (queue_of q.now) numbers.now }
+    ensures request { option_map numbered_of result ≡ numbering.request_at psn (with_requester numbers.now (queue_of q.now)) }
+    ensures sound { IfSome result (λ n. IsSound (queue_of q.now) (numbered_of n)) }
+    ensures psn { IfSome result (λ n. numbering.has_psn psn (numbered_of n) ≡ true) }
+{
+    find_psn(q, numbers.oldest, numbers.oldest_psn, psn)
 }
 
 /// The request that has this PSN, among those from a place on that have begun.

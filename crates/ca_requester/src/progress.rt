@@ -1,4 +1,4 @@
-ghost use Rattle.std.specs.Prelude.{◌≡◌, ◌+◌, ◌≤◌, ◌<◌, ◌^◌, ◌++◌, ◌&&◌, length, max, nat_lt, sum_by, IfOk, IfSome, OnOk};
+ghost use Rattle.std.specs.Prelude.{false, ◌≡◌, ◌+◌, ◌≤◌, ◌<◌, ◌^◌, ◌++◌, ◌&&◌, length, max, nat_lt, sum_by, IfOk, IfSome, OnOk};
 ghost use Rattle.ca_base.specs.objects.QueuePair.{QueuePair};
 ghost use Rattle.ca_model.specs.machine.Acknowledgements as acknowledgements;
 ghost use Rattle.ca_model.specs.machine.Acknowledgements.{with_requester};
@@ -150,6 +150,7 @@ pub(crate) fn acknowledged_below(q: &QueuePart, psn: u64) -> Acknowledged
     ensures value { acknowledgements.acknowledgement_below psn (queue_of q.now) ≡ acknowledgement_of result.went_back result.until (queue_of q.now) }
     ensures queue { with_requester result.numbers (queue_of q.now) ≡ (acknowledgements.progress_to result.until (queue_of q.now)).queue }
     ensures numbers { AreNumbers (queue_of q.now) result.numbers }
+    ensures on { result.went_back ≡ false → result.until ≡ psn }
 {
     let numbers = q.requester;
     match first_unanswered(q, numbers.oldest, numbers.oldest_psn, numbers.una, psn) {

@@ -1,5 +1,5 @@
 -- Accesses that write: what stands after one of them, and bytes cut for asks.
-use Rattle.std.proofs.Common.{◌≡◌, ◌≤◌, ◌+◌, ◌-◌, ℕ, List, [], ◌∷◌, length, length-drop, length-take-le, take, drop, min, arith, refl, sym, ap, ◌∙◌, None}
+use Rattle.std.proofs.Common.{◌≡◌, ◌≤◌, ◌+◌, ◌-◌, ℕ, List, [], ◌∷◌, length, length-drop, length-take-le, take, drop, min, arith, refl, sym, ap, subst}
 use Rattle.std.specs.List.{AllByRecursion}
 use Rattle.ca_base.specs.declared.access.Ask.{Ask}
 use Rattle.ca_base.specs.declared.access.Kind.TheVariants as kinds
@@ -29,3 +29,15 @@ cut_are_writes (ask ∷ asks) bytes all enough = (
   record { ask = all.0; count = length-take-le ask.touch bytes (omega (arith, enough)) },
   cut_are_writes asks (drop ask.touch bytes) all.1 (omega (arith, enough, length-drop ask.touch bytes)),
 )
+
+pub can_write : {S : Type 0} (sight : S → Sight) (judges touches : S → Ask → Type 0) (s : S) (asks : List Ask) (xs : List (Ask × List ℕ))
+    → AllByRecursion (judges s) asks → AllByRecursion (touches s) asks → AllByRecursion (IsGranted (sight s)) asks
+    → asks_of xs ≡ asks → AllByRecursion IsWrite xs → CanWrite sight judges touches s xs
+can_write sight judges touches s asks xs keys bytes allowed same writes =
+    by xs (subst (AllByRecursion (judges s)) (sym same) keys) (subst (AllByRecursion (touches s)) (sym same) bytes)
+    (subst (AllByRecursion (IsGranted (sight s))) (sym same) allowed) writes
+  where
+    by : (xs : List (Ask × List ℕ)) → AllByRecursion (judges s) (asks_of xs) → AllByRecursion (touches s) (asks_of xs)
+        → AllByRecursion (IsGranted (sight s)) (asks_of xs) → AllByRecursion IsWrite xs → CanWrite sight judges touches s xs
+    by [] keys bytes allowed writes = record {}
+    by (x ∷ xs) keys bytes allowed writes = ((keys.0, bytes.0, allowed.0, writes.0), by xs keys.1 bytes.1 allowed.1 writes.1)

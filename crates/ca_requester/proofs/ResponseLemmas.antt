@@ -1,0 +1,137 @@
+-- What a response makes: the row of an acknowledgement that went back or on, and the request that an answer fits.
+use Rattle.std.proofs.Common.{◌≡◌, ℕ, suc, ◌-◌, ◌≤◌, arith, refl, sym, ap, ◌∙◌, Bool, true, false, if◌then◌else◌, List, [], ◌++◌, find, take, Option, None, Some, append-nil}
+use Rattle.ca_base.specs.declared.queue_numbers.RequesterNumbers.{RequesterNumbers}
+use Rattle.ca_base.specs.declared.completion.WcStatus.TheVariants.{BadResponse}
+use Rattle.ca_base.specs.objects.QueuePair.{QueuePair}
+use Rattle.ca_wire.specs.Packet.{Fields}
+use Rattle.std.specs.Option.{option_and_then}
+use Rattle.ca_model.specs.machine.Acknowledgements.{acknowledgement_below, and_then, failure_effects, one_retry, progress_to, with_requester}
+use Rattle.ca_model.specs.machine.Expected.{behind_marks}
+use Rattle.ca_model.specs.machine.Invariants.{IsQueue}
+use Rattle.ca_model.specs.machine.Numbering.{Numbered, begun_requests, has_psn, request_at}
+use Rattle.ca_model.specs.machine.Responses.{answer_row, fits_request, fitting_row, unless_back}
+use Rattle.ca_model.specs.machine.Row.{Effects, Row, queue_and_marks, plain_row, Does}
+use Rattle.ca_requester.specs.declared.outcome.Outcome.{Outcome}
+use Rattle.ca_requester.specs.declared.outcome.Outcome.TheVariants.{Goes}
+use Rattle.ca_requester.specs.Numbering.{begun_from, numbers_from}
+use Rattle.ca_requester.specs.Outcome.{AreAhead, outcome_effects}
+use Rattle.ca_requester.specs.Progress.{AreNumbers, acknowledgement_of}
+use Rattle.ca_requester.specs.Responses.{fitting}
+
+pub are_ahead : (q : QueuePair) (numbers others : RequesterNumbers) → IsQueue q → AreNumbers q numbers → others.oldest ≡ numbers.oldest → AreAhead q others
+are_ahead q numbers others is are e = record {
+  oldest = omega (arith, are.oldest, e);
+  posted = omega (arith, are.begun, are.next, is.requester.waiting, e);
+}
+
+pub at_under : (q : QueuePair) (numbers : RequesterNumbers) (psn : ℕ) → numbers.next ≡ q.requester.next
+    → find (has_psn psn) (begun_from numbers.oldest numbers.oldest_psn q) ≡ request_at psn (with_requester numbers q)
+at_under q numbers psn next = ap (λ k. find (has_psn psn) (take (k - numbers.oldest) (numbers_from numbers.oldest numbers.oldest_psn q))) (sym next)
+
+-- where it went back, the outcome is one retry
+pub then_back : (q : QueuePair) (psn until : ℕ) (numbers : RequesterNumbers) (o : Outcome) (f : QueuePair → Effects)
+    → acknowledgement_below psn q ≡ acknowledgement_of true until q
+    → with_requester numbers q ≡ (progress_to until q).queue
+    → outcome_effects o q ≡ one_retry until (with_requester numbers q)
+    → behind_marks (progress_to until q).marks (outcome_effects o q) ≡ unless_back (acknowledgement_below psn q) f
+then_back q psn until numbers o f a at e =
+    ap (λ x. behind_marks (progress_to until q).marks x) e
+    ∙ ap (λ x. behind_marks (progress_to until q).marks (one_retry until x)) at
+    ∙ sym (ap (λ x. unless_back x f) a)
+
+pub then_on : (q : QueuePair) (psn until : ℕ) (numbers : RequesterNumbers) (o : Outcome) (f : QueuePair → Effects)
+    → acknowledgement_below psn q ≡ acknowledgement_of false until q
+    → with_requester numbers q ≡ (progress_to until q).queue
+    → outcome_effects o q ≡ f (with_requester numbers q)
+    → behind_marks (progress_to until q).marks (outcome_effects o q) ≡ unless_back (acknowledgement_below psn q) f
+then_on q psn until numbers o f a at e =
+    ap (λ x. behind_marks (progress_to until q).marks x) e
+    ∙ ap (λ x. behind_marks (progress_to until q).marks (f x)) at
+    ∙ sym (ap (λ x. unless_back x f) a)
+
+pub ack_back : (q : QueuePair) (psn until : ℕ) (numbers : RequesterNumbers) (o : Outcome)
+    → acknowledgement_below psn q ≡ acknowledgement_of true until q
+    → with_requester numbers q ≡ (progress_to until q).queue
+    → outcome_effects o q ≡ one_retry until (with_requester numbers q)
+    → behind_marks (progress_to until q).marks (outcome_effects o q) ≡ (acknowledgement_below psn q).effects
+ack_back q psn until numbers o a at e =
+    ap (λ x. behind_marks (progress_to until q).marks x) e
+    ∙ ap (λ x. behind_marks (progress_to until q).marks (one_retry until x)) at
+    ∙ sym (ap (λ x. x.effects) a)
+
+pub ack_on : (q : QueuePair) (psn until : ℕ) (numbers : RequesterNumbers)
+    → acknowledgement_below psn q ≡ acknowledgement_of false until q
+    → with_requester numbers q ≡ (progress_to until q).queue
+    → behind_marks (progress_to until q).marks (outcome_effects (Goes numbers) q) ≡ (acknowledgement_below psn q).effects
+ack_on q psn until numbers a at =
+    ap (λ x. queue_and_marks x ((progress_to until q).marks ++ [])) at
+    ∙ ap (λ ms. queue_and_marks (progress_to until q).queue ms) (append-nil (progress_to until q).marks)
+    ∙ sym (ap (λ x. x.effects) a)
+
+-- an answer where it went back, and one that does not fit: the row does not look at its bytes
+pub answer_back : (q : QueuePair) (psn until : ℕ) (p : Fields) (numbers : RequesterNumbers) (o : Outcome)
+    → acknowledgement_below psn q ≡ acknowledgement_of true until q
+    → with_requester numbers q ≡ (progress_to until q).queue
+    → outcome_effects o q ≡ one_retry until (with_requester numbers q)
+    → plain_row (Does (behind_marks (progress_to until q).marks (outcome_effects o q))) ≡ fitting_row psn p (acknowledgement_below psn q)
+answer_back q psn until p numbers o a at e =
+    ap (λ x. plain_row (Does x)) (ap (λ x. behind_marks (progress_to until q).marks x) e
+    ∙ ap (λ x. behind_marks (progress_to until q).marks (one_retry until x)) at)
+    ∙ sym (ap (λ x. fitting_row psn p x) a)
+
+-- the row of an answer, by the request that it fits
+abbrev fitted : ℕ → Fields → Effects → Option Numbered → Row
+fitted psn p e (Some n) = answer_row psn p e n
+fitted psn p e None = plain_row (Does (and_then e (failure_effects BadResponse None)))
+
+by-fitting : (psn : ℕ) (p : Fields) (e : Effects) → fitting_row psn p (record { effects = e; went_back = false }) ≡ fitted psn p e (fitting psn p e.queue)
+by-fitting psn p e = by (request_at psn e.queue)
+  where
+    row : Option Numbered → Row
+    row None = plain_row (Does (and_then e (failure_effects BadResponse None)))
+    row (Some n) =
+        if fits_request psn p e.queue n then answer_row psn p e n
+        else plain_row (Does (and_then e (failure_effects BadResponse None)))
+
+    one : (n : Numbered) (b : Bool) → (if b then answer_row psn p e n else plain_row (Does (and_then e (failure_effects BadResponse None))))
+        ≡ fitted psn p e (if b then Some n else None)
+    one n true = refl
+    one n false = refl
+
+    by : (n : Option Numbered) → row n ≡ fitted psn p e (option_and_then (λ n. if fits_request psn p e.queue n then Some n else None) n)
+    by None = refl
+    by (Some n) = one n (fits_request psn p e.queue n)
+
+pub answer_fails : (q : QueuePair) (psn until : ℕ) (p : Fields) (numbers : RequesterNumbers) (o : Outcome)
+    → acknowledgement_below psn q ≡ acknowledgement_of false until q
+    → with_requester numbers q ≡ (progress_to until q).queue
+    → fitting psn p (with_requester numbers q) ≡ None
+    → outcome_effects o q ≡ failure_effects BadResponse None (with_requester numbers q)
+    → plain_row (Does (behind_marks (progress_to until q).marks (outcome_effects o q))) ≡ fitting_row psn p (acknowledgement_below psn q)
+answer_fails q psn until p numbers o a at none e =
+    ap (λ x. plain_row (Does x)) (ap (λ x. behind_marks (progress_to until q).marks x) e
+    ∙ ap (λ x. behind_marks (progress_to until q).marks (failure_effects BadResponse None x)) at)
+    ∙ ap (λ x. fitted psn p (progress_to until q) x) (sym none ∙ ap (λ x. fitting psn p x) at)
+    ∙ sym (by-fitting psn p (progress_to until q))
+    ∙ sym (ap (λ x. fitting_row psn p x) a)
+
+pub answer_fits : (q : QueuePair) (psn until : ℕ) (p : Fields) (numbers : RequesterNumbers) (n : Numbered)
+    → acknowledgement_below psn q ≡ acknowledgement_of false until q → until ≡ psn
+    → with_requester numbers q ≡ (progress_to until q).queue
+    → fitting psn p (with_requester numbers q) ≡ Some n
+    → answer_row psn p (progress_to psn q) n ≡ fitting_row psn p (acknowledgement_below psn q)
+answer_fits q psn until p numbers n a on at some =
+    ap (λ u. answer_row psn p (progress_to u q) n) (sym on)
+    ∙ ap (λ x. fitted psn p (progress_to until q) x) (sym some ∙ ap (λ x. fitting psn p x) at)
+    ∙ sym (by-fitting psn p (progress_to until q))
+    ∙ sym (ap (λ x. fitting_row psn p x) a)
+
+-- the request that an answer fits, by what is found
+pub fits_none : (q : QueuePair) (psn : ℕ) (p : Fields) → request_at psn q ≡ None → None ≡ fitting psn p q
+fits_none q psn p e = rw e refl
+
+pub fits_not : (q : QueuePair) (psn : ℕ) (p : Fields) (n : Numbered) → request_at psn q ≡ Some n → fits_request psn p q n ≡ false → None ≡ fitting psn p q
+fits_not q psn p n e f = rw (e, f) refl
+
+pub fits_all : (q : QueuePair) (psn : ℕ) (p : Fields) (n : Numbered) → request_at psn q ≡ Some n → fits_request psn p q n ≡ true → Some n ≡ fitting psn p q
+fits_all q psn p n e f = rw (e, f) refl

@@ -1,0 +1,69 @@
+-- What a response makes of a requester, before it is made, and the row that it is. Contracts cite it.
+use Rattle.std.specs.Prelude.{◌≡◌, ℕ, suc, true, if◌then◌else◌, List, [], ◌∷◌, ◌++◌, Option, None, Some}
+use Rattle.std.specs.Option.{option_and_then}
+use Rattle.ca_base.specs.declared.access.Ask.{Ask}
+use Rattle.ca_base.specs.declared.completion.WcStatus.TheVariants.{LocalProtection}
+use Rattle.ca_base.specs.Sight.{DeniedAsk}
+use Rattle.ca_base.specs.objects.QueuePair.{QueuePair}
+use Rattle.ca_model.specs.declared.mark.Mark.{Mark}
+use Rattle.ca_model.specs.machine.Acknowledgements.{and_then, failure_effects, progress_to, with_requester}
+use Rattle.ca_model.specs.machine.Expected.{behind_marks}
+use Rattle.ca_model.specs.machine.Numbering.{Numbered, has_psn, request_at}
+use Rattle.ca_model.specs.machine.Requester.{local_denial}
+use Rattle.ca_model.specs.machine.Responses.{answer_bytes, answer_row, drop_effects, fits_request, local_writes, writes_by}
+use Rattle.ca_model.specs.machine.Row.{Effects, Row, plain_row, Does}
+use Rattle.ca_wire.specs.Packet.{Fields}
+use Rattle.ca_rows.specs.Done.{Handed}
+use Rattle.ca_requester.specs.declared.taking.Taken.{Taken}
+use Rattle.ca_requester.specs.declared.responses.Answer.{Answer}
+use Rattle.ca_requester.specs.declared.responses.Ended.{Ended}
+use Rattle.ca_requester.specs.declared.responses.Response.{Response}
+use Rattle.ca_requester.specs.declared.responses.Response.TheVariants.{Drops, Ends, Answers}
+use Rattle.ca_requester.specs.Numbering.{IsSound, numbered_of}
+use Rattle.ca_requester.specs.Outcome.{AreAhead, numbers_of, outcome_effects}
+use Rattle.ca_requester.specs.Progress.{AreNumbers}
+
+-- what is acknowledged completes, and then comes the outcome
+abbrev pub ended_effects : Ended → QueuePair → Effects
+ended_effects e q = behind_marks (progress_to e.until q).marks (outcome_effects e.outcome q)
+
+-- the row of a response
+abbrev pub row_of : Response → Fields → QueuePair → Row
+row_of (Drops cause) p q = plain_row (Does (drop_effects q cause))
+row_of (Ends e) p q = plain_row (Does (ended_effects e q))
+row_of (Answers a) p q = answer_row a.psn p (progress_to a.psn q) (numbered_of a.request)
+
+-- an answer that fits its request, under the numbers behind what it acknowledges
+pub record IsAnswer (p : Fields) (q : QueuePair) (a : Answer) : Type 0 where
+  pub numbers : AreNumbers q a.numbers
+  pub queue : with_requester a.numbers q ≡ (progress_to a.psn q).queue
+  pub sound : IsSound q (numbered_of a.request)
+  pub psn : has_psn a.psn (numbered_of a.request) ≡ true
+  pub fits : fits_request a.psn p q (numbered_of a.request) ≡ true
+
+-- what holds of a response that was found
+abbrev pub IsResponse : Response → Fields → QueuePair → Type 0
+IsResponse (Drops cause) p q = Unit {0}
+IsResponse (Ends e) p q = AreAhead q (numbers_of e.outcome)
+IsResponse (Answers a) p q = IsAnswer p q a
+
+-- the request of a PSN, where the response fits it
+abbrev pub fitting : ℕ → Fields → QueuePair → Option Numbered
+fitting psn p q = option_and_then (λ n. if fits_request psn p q n then Some n else None) (request_at psn q)
+
+-- the list is denied: the request fails
+abbrev pub denied_effects : Taken → DeniedAsk → QueuePair → Effects
+denied_effects t d q = and_then (progress_to t.psn q) (λ q.
+    record (failure_effects LocalProtection None q) { marks = local_denial d ∷ (failure_effects LocalProtection None q).marks })
+
+-- the bytes go to the list by these asks, and all up to the answer's PSN is acknowledged
+abbrev pub answer_effects : Taken → Fields → List Ask → QueuePair → Effects
+answer_effects t p asks q = record (and_then (progress_to t.psn q) (λ q.
+    record (progress_to (suc t.psn) q) { marks = local_writes writes ++ (progress_to (suc t.psn) q).marks })) { writes = writes }
+  where
+    writes : List (Ask × List ℕ)
+    writes = writes_by asks (answer_bytes p)
+
+-- the queue pair, the marks and what is reached; no packet is spelt
+abbrev pub handed : {S : Type 0} → QueuePair → List Mark → S → Handed S
+handed queue marks reach = record { queue = queue; marks = marks; out = []; reach = reach }

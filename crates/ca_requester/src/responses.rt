@@ -1,0 +1,302 @@
+ghost use Rattle.std.specs.Prelude.{◌≡◌, ◌≤◌, ◌<◌, ◌^◌, ◌&&◌, ◌==◌, ◌-◌, suc, true, None, Some, IfSome, length};
+ghost use Rattle.std.specs.Option.{option_and_then, option_map};
+ghost use Rattle.ca_base.specs.objects.QueuePair.{QueuePair};
+ghost use Rattle.ca_model.specs.Requests.{list_of};
+ghost use Rattle.ca_model.specs.machine.Acknowledgements.{acknowledgement_below, with_requester};
+ghost use Rattle.ca_model.specs.machine.Invariants.{IsList, IsQueue};
+ghost use Rattle.ca_model.specs.machine.Numbering as numbering;
+ghost use Rattle.ca_model.specs.machine.Responses as rows;
+ghost use Rattle.ca_qpstate.specs.Seen.{queue_of};
+ghost use Rattle.ca_wire.specs.Packet.{fields_of};
+ghost use Rattle.ca_wire.specs.Syndrome.{syndrome_in};
+ghost use Rattle.ca_rows.specs.Narrow.{AreNarrow};
+ghost use Rattle.ca_requester.specs.Numbering.{IsSound, numbered_of};
+ghost use Rattle.ca_requester.specs.declared.outcome.Outcome.TheVariants.{Fails};
+ghost use Rattle.ca_requester.specs.Outcome.{AreAhead, numbers_of, outcome_effects};
+ghost use Rattle.ca_requester.specs.Progress.{AreNumbers};
+ghost use Rattle.ca_requester.specs.Responses.{IsResponse, ended_effects, fitting, row_of};
+
+use crate::numbering::{Numbered, request_under};
+use crate::outcome::{Outcome, one_retry};
+use crate::progress::acknowledged_below;
+use crate::turn::is_sending;
+use ca_base::limits::MAX_RETRY;
+use ca_base::{RequesterNumbers, WcStatus};
+use ca_model::Drop1;
+use ca_psn::widen;
+use ca_qpstate::QueuePart;
+use ca_rows::{is_atomic, is_read, list_length, list_of};
+use ca_wire::opcode::{
+    ACKNOWLEDGE, ATOMIC_ACKNOWLEDGE, RDMA_READ_RESPONSE_LAST, RDMA_READ_RESPONSE_ONLY,
+};
+use ca_wire::{NakCode, Packet, Syndrome};
+
+/// What a response makes of a requester, before it is made.
+#[derive(Clone, Copy)]
+pub(crate) enum Response<'a> {
+    /// The packet is dropped.
+    Drops(Drop1),
+    /// It acknowledges, and then comes an outcome.
+    Ends(Ended),
+    /// It acknowledges, and its bytes go to the list of its request.
+    Answers(Answer<'a>),
+}
+
+/// All below a PSN is acknowledged, and then comes an outcome.
+#[derive(Clone, Copy)]
+pub(crate) struct Ended {
+    pub until: u64,
+    pub outcome: Outcome,
+}
+
+/// An answer to a request, with its PSN, under the numbers behind what it acknowledges.
+#[derive(Clone, Copy)]
+pub(crate) struct Answer<'a> {
+    pub psn: u64,
+    pub numbers: RequesterNumbers,
+    pub request: Numbered<'a>,
+}
+
+/// What a response makes: it is dropped in the wrong state, or where its PSN is not outstanding. It takes no memory.
+pub(crate) fn response_of<'a>(q: &'a QueuePart, p: &Packet<'_>) -> Response<'a>
+    requires queue { IsQueue (queue_of q.now) }
+    requires narrow { AreNarrow (queue_of q.now) }
+    requires psn { p.now.psn < 2 ^ 24 }
+    ensures row { row_of result (fields_of p.now) (queue_of q.now) ≡ rows.response_row (fields_of p.now) (queue_of q.now) }
+    ensures sound { IsResponse result (fields_of p.now) (queue_of q.now) }
+{
+    if !is_sending(q.state) {
+        return Response::Drops(Drop1::State);
+    }
+    let psn = widen(q.requester.una, p.psn);
+    if psn < q.requester.una || q.requester.cursor <= psn {
+        return Response::Drops(Drop1::Stale);
+    }
+    if p.opcode != ACKNOWLEDGE {
+        return answer_of(q, p, psn);
+    }
+    match syndrome_of(p) {
+        None => Response::Drops(Drop1::Stale),
+        Some(syndrome) => Response::Ends(acknowledge(q, psn, syndrome)),
+    }
+}
+
+/// What the packet's AETH says.
+fn syndrome_of(p: &Packet<'_>) -> Option<Syndrome>
+    ensures { result ≡ option_and_then (λ a. syndrome_in a.syndrome) (fields_of p.now).aeth }
+{
+    match p.aeth {
+        None => None,
+        Some(aeth) => Syndrome::of(aeth.syndrome),
+    }
+}
+
+/// An Acknowledge packet, by its syndrome.
+fn acknowledge(q: &QueuePart, psn: u64, syndrome: Syndrome) -> Ended
+    requires queue { IsQueue (queue_of q.now) }
+    requires narrow { AreNarrow (queue_of q.now) }
+    requires psn { psn < 2 ^ 62 }
+    ensures effects { ended_effects result (queue_of q.now) ≡ rows.acknowledge_row psn (Some syndrome) (queue_of q.now) }
+    ensures ahead { AreAhead (queue_of q.now) (numbers_of result.outcome) }
+{
+    match syndrome {
+        Syndrome::Ack(_) => on_ack(q, psn),
+        Syndrome::RnrNak(_) => on_rnr_nak(q, psn),
+        Syndrome::Nak(code) => on_nak(q, psn, code),
+    }
+}
+
+/// An acknowledgement of all up to a PSN.
+#[tactic(auto, using(crate::proofs::ResponseLemmas::ack_back, crate::proofs::ResponseLemmas::ack_on, crate::proofs::ResponseLemmas::are_ahead))]
+fn on_ack(q: &QueuePart, psn: u64) -> Ended
+    requires queue { IsQueue (queue_of q.now) }
+    requires narrow { AreNarrow (queue_of q.now) }
+    requires psn { psn < 2 ^ 62 }
+    ensures effects { ended_effects result (queue_of q.now) ≡ (acknowledgement_below (suc psn) (queue_of q.now)).effects }
+    ensures ahead { AreAhead (queue_of q.now) (numbers_of result.outcome) }
+{
+    let acknowledged = acknowledged_below(q, psn + 1);
+    if acknowledged.went_back {
+        return Ended {
+            until: acknowledged.until,
+            outcome: one_retry(acknowledged.numbers, acknowledged.until),
+        };
+    }
+    Ended {
+        until: acknowledged.until,
+        outcome: Outcome::Goes(acknowledged.numbers),
+    }
+}
+
+/// An RNR NAK of the request at a PSN.
+#[tactic(auto, using(crate::proofs::ResponseLemmas::then_back, crate::proofs::ResponseLemmas::then_on, crate::proofs::ResponseLemmas::are_ahead))]
+fn on_rnr_nak(q: &QueuePart, psn: u64) -> Ended
+    requires queue { IsQueue (queue_of q.now) }
+    requires narrow { AreNarrow (queue_of q.now) }
+    ensures effects { ended_effects result (queue_of q.now) ≡ rows.unless_back (acknowledgement_below psn (queue_of q.now)) (rows.rnr_nak_effects psn) }
+    ensures ahead { AreAhead (queue_of q.now) (numbers_of result.outcome) }
+{
+    let acknowledged = acknowledged_below(q, psn);
+    if acknowledged.went_back {
+        return Ended {
+            until: acknowledged.until,
+            outcome: one_retry(acknowledged.numbers, acknowledged.until),
+        };
+    }
+    Ended {
+        until: acknowledged.until,
+        outcome: rnr_nak(acknowledged.numbers, psn),
+    }
+}
+
+/// A NAK of the request at a PSN.
+#[tactic(auto, using(crate::proofs::ResponseLemmas::then_back, crate::proofs::ResponseLemmas::then_on, crate::proofs::ResponseLemmas::are_ahead))]
+fn on_nak(q: &QueuePart, psn: u64, code: NakCode) -> Ended
+    requires queue { IsQueue (queue_of q.now) }
+    requires narrow { AreNarrow (queue_of q.now) }
+    ensures effects { ended_effects result (queue_of q.now) ≡ rows.unless_back (acknowledgement_below psn (queue_of q.now)) (rows.nak_effects psn code) }
+    ensures ahead { AreAhead (queue_of q.now) (numbers_of result.outcome) }
+{
+    let acknowledged = acknowledged_below(q, psn);
+    if acknowledged.went_back {
+        return Ended {
+            until: acknowledged.until,
+            outcome: one_retry(acknowledged.numbers, acknowledged.until),
+        };
+    }
+    Ended {
+        until: acknowledged.until,
+        outcome: nak(acknowledged.numbers, psn, code),
+    }
+}
+
+/// An RNR NAK: where the count is used up the request fails, and else it is sent again after a wake. A limit of 7 has no
+/// end.
+fn rnr_nak(numbers: RequesterNumbers, psn: u64) -> Outcome
+    requires { numbers.rnrs < 2 ^ 62 }
+    ensures effects { (q : QueuePair) → outcome_effects result q ≡ rows.rnr_nak_effects psn (with_requester numbers q) }
+    ensures oldest { (numbers_of result).oldest ≡ numbers.oldest }
+{
+    let counted = RequesterNumbers {
+        rnrs: numbers.rnrs + 1,
+        ..numbers
+    };
+    if numbers.rnr_retry < MAX_RETRY && u64::from(numbers.rnr_retry) <= numbers.rnrs {
+        return failure(counted, WcStatus::RnrRetryExceeded);
+    }
+    Outcome::Goes(RequesterNumbers {
+        cursor: psn,
+        waiting: true,
+        ..counted
+    })
+}
+
+/// A NAK: 0 asks for the packets again, the others fail the request.
+fn nak(numbers: RequesterNumbers, psn: u64, code: NakCode) -> Outcome
+    requires { numbers.retries < 255 }
+    ensures effects { (q : QueuePair) → outcome_effects result q ≡ rows.nak_effects psn code (with_requester numbers q) }
+    ensures oldest { (numbers_of result).oldest ≡ numbers.oldest }
+{
+    match code {
+        NakCode::PsnSequenceError => one_retry(numbers, psn),
+        NakCode::InvalidRequest => failure(numbers, WcStatus::RemoteInvalidRequest),
+        NakCode::RemoteAccessError => failure(numbers, WcStatus::RemoteAccess),
+        NakCode::RemoteOperationalError => failure(numbers, WcStatus::RemoteOperation),
+    }
+}
+
+/// The oldest unfinished request fails, and no local operation is its cause.
+fn failure(numbers: RequesterNumbers, status: WcStatus) -> Outcome
+    ensures { result ≡ Fails numbers status None }
+{
+    Outcome::Fails {
+        numbers,
+        status,
+        cause: None,
+    }
+}
+
+/// An answer: an implied NAK, one that does not fit its request, or one whose bytes go to its list.
+#[tactic(auto, using(crate::proofs::ResponseLemmas::answer_back, crate::proofs::ResponseLemmas::answer_fails, crate::proofs::ResponseLemmas::answer_fits, crate::proofs::ResponseLemmas::are_ahead))]
+fn answer_of<'a>(q: &'a QueuePart, p: &Packet<'_>, psn: u64) -> Response<'a>
+    requires queue { IsQueue (queue_of q.now) }
+    requires narrow { AreNarrow (queue_of q.now) }
+    ensures row { row_of result (fields_of p.now) (queue_of q.now) ≡ rows.fitting_row psn (fields_of p.now) (acknowledgement_below psn (queue_of q.now)) }
+    ensures sound { IsResponse result (fields_of p.now) (queue_of q.now) }
+{
+    let acknowledged = acknowledged_below(q, psn);
+    if acknowledged.went_back {
+        return Response::Ends(Ended {
+            until: acknowledged.until,
+            outcome: one_retry(acknowledged.numbers, acknowledged.until),
+        });
+    }
+    match fitting_request(q, p, &acknowledged.numbers, psn) {
+        None => Response::Ends(Ended {
+            until: acknowledged.until,
+            outcome: failure(acknowledged.numbers, WcStatus::BadResponse),
+        }),
+        Some(request) => Response::Answers(Answer {
+            psn,
+            numbers: acknowledged.numbers,
+            request,
+        }),
+    }
+}
+
+/// The request of a PSN that has begun under these numbers, where the response fits it.
+#[tactic(auto, using(crate::proofs::ResponseLemmas::fits_none, crate::proofs::ResponseLemmas::fits_not, crate::proofs::ResponseLemmas::fits_all))]
+fn fitting_request<'a>(
+    q: &'a QueuePart,
+    p: &Packet<'_>,
+    numbers: &RequesterNumbers,
+    psn: u64,
+) -> Option<Numbered<'a>>
+    requires queue { IsQueue (queue_of q.now) }
+    requires numbers { AreNumbers (queue_of q.now) numbers.now }
+    ensures request { option_map numbered_of result ≡ fitting psn (fields_of p.now) (with_requester numbers.now (queue_of q.now)) }
+    ensures sound { IfSome result (λ n. IsSound (queue_of q.now) (numbered_of n)) }
+    ensures psn { IfSome result (λ n. numbering.has_psn psn (numbered_of n) ≡ true) }
+    ensures fits { IfSome result (λ n. rows.fits_request psn (fields_of p.now) (queue_of q.now) (numbered_of n) ≡ true) }
+{
+    match request_under(q, numbers, psn) {
+        Some(request) if fits(q, p, psn, &request) => Some(request),
+        _ => None,
+    }
+}
+
+/// Whether a response fits its request: a READ's segment by its length and by whether it is the last, an atomic's answer
+/// an atomic.
+fn fits(q: &QueuePart, p: &Packet<'_>, psn: u64, n: &Numbered<'_>) -> bool
+    requires queue { IsQueue (queue_of q.now) }
+    requires sound { IsSound (queue_of q.now) (numbered_of n.now) }
+    requires psn { numbering.has_psn psn (numbered_of n.now) ≡ true }
+    ensures { result ≡ rows.fits_request psn (fields_of p.now) (queue_of q.now) (numbered_of n.now) }
+{
+    if p.opcode == ATOMIC_ACKNOWLEDGE {
+        return is_atomic(n.op());
+    }
+    if !is_read(n.op()) || p.payload.len() as u64 != segment_length(q, psn, n) {
+        return false;
+    }
+    ends_read(p.opcode) == (psn + 1 == n.end())
+}
+
+/// First and Middle do not end a READ, Last and Only do.
+fn ends_read(opcode: u8) -> bool
+    ensures { result ≡ rows.ends_read opcode }
+{
+    opcode == RDMA_READ_RESPONSE_LAST || opcode == RDMA_READ_RESPONSE_ONLY
+}
+
+/// How many bytes the segment of a request's message at a PSN has.
+fn segment_length(q: &QueuePart, psn: u64, n: &Numbered<'_>) -> u64
+    requires queue { IsQueue (queue_of q.now) }
+    requires sound { IsSound (queue_of q.now) (numbered_of n.now) }
+    requires psn { numbering.has_psn psn (numbered_of n.now) ≡ true }
+    ensures { result ≡ rows.segment_length psn (queue_of q.now) (numbered_of n.now) }
+{
+    let mtu = u64::from(q.responder.mtu);
+    let before = u64::from((psn - n.first) as u32) * mtu;
+    mtu.min(u64::from(list_length(list_of(n.op()))).saturating_sub(before))
+}

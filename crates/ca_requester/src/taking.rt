@@ -1,0 +1,286 @@
+ghost use Rattle.std.specs.Prelude.{◌≡◌, ◌≤◌, ◌<◌, ◌^◌, ◌+◌, ◌++◌, ◌∷◌, [], true, OnOk, OnErr, length};
+ghost use Rattle.std.specs.Option.{option_map_or};
+ghost use Rattle.std.specs.List.{AllByRecursion};
+ghost use Rattle.ca_base.specs.declared.access.Kind.{Kind};
+ghost use Rattle.ca_base.specs.declared.limits.TheConstants.{MAX_PAYLOAD_BYTES};
+ghost use Rattle.ca_base.specs.Memory.{little_endian_bytes};
+ghost use Rattle.ca_grant.specs.Reaching.{AreAtHand};
+ghost use Rattle.ca_model.specs.declared.mark.Mark.{Mark};
+ghost use Rattle.ca_model.specs.machine.Numbering.{has_psn};
+ghost use Rattle.ca_model.specs.machine.Invariants.{IsQueue};
+ghost use Rattle.ca_model.specs.machine.Responses as rows;
+ghost use Rattle.ca_model.specs.machine.Row.{ending_of};
+ghost use Rattle.ca_qpstate.specs.Seen.{queue_of};
+ghost use Rattle.ca_wire.specs.Packet.{IsWellFormed, fields_of};
+ghost use Rattle.ca_model.specs.Packets.{is_response};
+ghost use Rattle.ca_rows.specs.Asks.{IsAskOf, IsGranted, touched_by};
+ghost use Rattle.ca_rows.specs.Done.{IsTaking, written_all};
+ghost use Rattle.ca_rows.specs.Narrow.{AreNarrow};
+ghost use Rattle.ca_requester.specs.Numbering.{IsSound, numbered_of};
+ghost use Rattle.ca_requester.specs.Outcome.{AreAhead, numbers_of};
+ghost use Rattle.ca_requester.specs.Progress.{AreNumbers};
+ghost use Rattle.ca_requester.specs.Responses.{IsAnswer, answer_effects, denied_effects, ended_effects, handed};
+
+use crate::outcome::{Made, Outcome, make};
+use crate::progress::{progressed, push_progress};
+use crate::responses::{Answer, Ended, Response, response_of};
+use arrayvec::ArrayVec;
+use ca_base::limits::MAX_PIECES;
+use ca_base::{Ask, Kind, Memory, QueueId, RequesterNumbers, WcStatus};
+use ca_grant::Reach;
+use ca_model::{Drop1, Mark, Marks};
+use ca_qpstate::QueuePart;
+use ca_rows::{DeniedAsk, cut_writes, first_denied, list_asks, list_of, local_denial, write_all};
+use ca_wire::Packet;
+use ca_wire::opcode::ATOMIC_ACKNOWLEDGE;
+use std::alloc::Global;
+
+/// How many bytes an atomic reaches, and its answer brings.
+const ATOMIC_BYTES: u32 = 8;
+
+/// The asks that `on_response` may make, in order; it makes no other. It takes no memory.
+pub fn response_asks(q: &QueuePart, p: &Packet<'_>) -> ArrayVec<Ask, MAX_PIECES>
+    requires queue { IsQueue (queue_of q.now) }
+    requires narrow { AreNarrow (queue_of q.now) }
+    requires packet { IsWellFormed (fields_of p.now) }
+    ensures { result.items ≡ (rows.response_row (fields_of p.now) (queue_of q.now)).asks }
+{
+    match response_of(q, p) {
+        Response::Answers(answer) => asks_of(q, p, &answer),
+        Response::Drops(_) | Response::Ends(_) => ArrayVec::new(),
+    }
+}
+
+/// The asks for the places in its request's list to which an answer's bytes go.
+fn asks_of(q: &QueuePart, p: &Packet<'_>, answer: &Answer<'_>) -> ArrayVec<Ask, MAX_PIECES>
+    requires queue { IsQueue (queue_of q.now) }
+    requires packet { IsWellFormed (fields_of p.now) }
+    requires answer { IsAnswer (fields_of p.now) (queue_of q.now) answer.now }
+    ensures value { result.items ≡ rows.answer_asks answer.now.psn (fields_of p.now) (queue_of q.now) (numbered_of answer.now.request) }
+    ensures asks { AllByRecursion (IsAskOf Kind.Write) result.items }
+    ensures enough { touched_by result.items ≤ length (rows.answer_bytes (fields_of p.now)) }
+{
+    let request = &answer.request;
+    list_asks(
+        q.queue,
+        q.domain,
+        Kind::Write,
+        bytes_before(q, answer),
+        answer_length(p),
+        list_of(request.op()),
+    )
+}
+
+/// Where an answer's bytes begin in its request's message.
+#[tactic(auto, using(crate::proofs::PacketLemmas::few_before))]
+fn bytes_before(q: &QueuePart, answer: &Answer<'_>) -> u32
+    requires queue { IsQueue (queue_of q.now) }
+    requires sound { IsSound (queue_of q.now) (numbered_of answer.now.request) }
+    requires psn { has_psn answer.now.psn (numbered_of answer.now.request) ≡ true }
+    ensures { result ≡ rows.segment_at answer.now.psn (queue_of q.now) (numbered_of answer.now.request) }
+{
+    let request = &answer.request;
+    (answer.psn - request.first) as u32 * u32::from(q.responder.mtu)
+}
+
+/// How many bytes an answer brings: its payload, or the eight of what an atomic found.
+fn answer_length(p: &Packet<'_>) -> u32
+    requires { IsWellFormed (fields_of p.now) }
+    ensures value { result ≡ length (rows.answer_bytes (fields_of p.now)) }
+    ensures few { result ≤ MAX_PAYLOAD_BYTES }
+{
+    if p.opcode == ATOMIC_ACKNOWLEDGE {
+        ATOMIC_BYTES
+    } else {
+        p.payload.len() as u32
+    }
+}
+
+/// The bytes that an answer brings; `found` are those of what an atomic found.
+fn answer_bytes<'a>(p: &Packet<'a>, found: &'a [u8]) -> &'a [u8]
+    requires { found.now ≡ little_endian_bytes (option_map_or (λ n. n) (fields_of p.now).«result» 0) }
+    ensures { result.now ≡ rows.answer_bytes (fields_of p.now) }
+{
+    if p.opcode == ATOMIC_ACKNOWLEDGE {
+        found
+    } else {
+        p.payload
+    }
+}
+
+/// Takes a response that arrived: what it acknowledges completes, an answer's bytes go to the list of their request, and
+/// what was refused is sent again or fails. After Ok there is room for two more marks, and `Memory` changes nothing.
+///
+/// The packet is well formed, with a response's opcode. The parts of the keys of `response_asks` are at hand, and where
+/// none of them is denied, the bytes too.
+pub fn on_response<R: Reach>(
+    alloc: Global,
+    q: &mut QueuePart,
+    reach: &mut R,
+    p: &Packet<'_>,
+    marks: &mut Marks,
+) -> Result<(), Memory>
+    requires queue { IsQueue (queue_of q.old) }
+    requires narrow { AreNarrow (queue_of q.old) }
+    requires packet { IsWellFormed (fields_of p.now) }
+    requires response { is_response (fields_of p.now).opcode ≡ true }
+    requires at_hand { AreAtHand R.sight R.judges R.touches reach.old (rows.response_row (fields_of p.now) (queue_of q.old)).asks }
+    ensures done { IsTaking R.written result (ending_of (R.sight reach.old) (rows.response_row (fields_of p.now) (queue_of q.old)))
+        (handed (queue_of q.old) marks.old.marks reach.old) (handed (queue_of q.new) marks.new.marks reach.new) }
+    ensures room { OnOk result (2 ≤ marks.new.room) }
+    ensures err { OnErr result (q.new ≡ q.old) }
+{
+    match response_of(q, p) {
+        Response::Drops(cause) => drop_packet(q.queue, cause, marks),
+        Response::Ends(ended) => end(alloc, q, ended, marks),
+        Response::Answers(answer) => {
+            let asks = asks_of(q, p, &answer);
+            let taken = Taken {
+                psn: answer.psn,
+                numbers: answer.numbers,
+            };
+            match first_denied(reach, asks.as_slice()) {
+                Some(denied) => deny(alloc, q, taken, &denied, marks),
+                None => place(alloc, q, reach, p, taken, asks.as_slice(), marks),
+            }
+        }
+    }
+}
+
+/// The PSN of an answer, and the numbers behind what it acknowledges.
+#[derive(Clone, Copy)]
+pub(crate) struct Taken {
+    pub psn: u64,
+    pub numbers: RequesterNumbers,
+}
+
+/// The packet is dropped.
+fn drop_packet(queue: QueueId, cause: Drop1, marks: &mut Marks) -> Result<(), Memory>
+    ensures marks { OnOk result (marks.new.marks ≡ marks.old.marks ++ Mark.Dropped queue cause ∷ []) }
+    ensures room { OnOk result (2 ≤ marks.new.room) }
+    ensures err { OnErr result (marks.new.marks ≡ marks.old.marks) }
+{
+    marks.reserve(3)?;
+    marks.push(Mark::Dropped {
+        target: queue,
+        cause,
+    });
+    Ok(())
+}
+
+/// What is acknowledged completes, and then comes the outcome.
+#[tactic(auto, using(crate::proofs::ProgressLemmas::own_numbers))]
+fn end(
+    alloc: Global,
+    q: &mut QueuePart,
+    ended: Ended,
+    marks: &mut Marks,
+) -> Result<(), Memory>
+    requires queue { IsQueue (queue_of q.old) }
+    requires narrow { AreNarrow (queue_of q.old) }
+    requires ahead { AreAhead (queue_of q.old) (numbers_of ended.outcome) }
+    ensures queue { OnOk result (queue_of q.new ≡ (ended_effects ended (queue_of q.old)).queue) }
+    ensures marks { OnOk result (marks.new.marks ≡ marks.old.marks ++ (ended_effects ended (queue_of q.old)).marks) }
+    ensures room { OnOk result (2 ≤ marks.new.room) }
+    ensures err { OnErr result (q.new ≡ q.old) }
+    ensures err_marks { OnErr result (marks.new.marks ≡ marks.old.marks) }
+{
+    let mut made = Vec::new(alloc);
+    push_progress(q, q.requester, ended.until, &mut made)?;
+    make(
+        q,
+        Made {
+            marks: made,
+            outcome: ended.outcome,
+        },
+        marks,
+    )
+}
+
+/// The list is denied: the request fails.
+#[tactic(auto, using(crate::proofs::ProgressLemmas::own_numbers, crate::proofs::ResponseLemmas::are_ahead))]
+fn deny(
+    alloc: Global,
+    q: &mut QueuePart,
+    taken: Taken,
+    denied: &DeniedAsk,
+    marks: &mut Marks,
+) -> Result<(), Memory>
+    requires queue { IsQueue (queue_of q.old) }
+    requires narrow { AreNarrow (queue_of q.old) }
+    requires numbers { AreNumbers (queue_of q.old) taken.numbers }
+    ensures queue { OnOk result (queue_of q.new ≡ (denied_effects taken denied.now (queue_of q.old)).queue) }
+    ensures marks { OnOk result (marks.new.marks ≡ marks.old.marks ++ (denied_effects taken denied.now (queue_of q.old)).marks) }
+    ensures room { OnOk result (2 ≤ marks.new.room) }
+    ensures err { OnErr result (q.new ≡ q.old) }
+    ensures err_marks { OnErr result (marks.new.marks ≡ marks.old.marks) }
+{
+    let mut made = Vec::new(alloc);
+    push_progress(q, q.requester, taken.psn, &mut made)?;
+    made.push(local_denial(denied))?;
+    make(
+        q,
+        Made {
+            marks: made,
+            outcome: Outcome::Fails {
+                numbers: taken.numbers,
+                status: WcStatus::LocalProtection,
+                cause: None,
+            },
+        },
+        marks,
+    )
+}
+
+/// The bytes go to the list, and all up to the answer's PSN is acknowledged.
+#[tactic(auto, using(crate::proofs::ProgressLemmas::own_numbers, ca_rows::proofs::WriteLemmas::can_write))]
+fn place<R: Reach>(
+    alloc: Global,
+    q: &mut QueuePart,
+    reach: &mut R,
+    p: &Packet<'_>,
+    taken: Taken,
+    asks: &[Ask],
+    marks: &mut Marks,
+) -> Result<(), Memory>
+    requires queue { IsQueue (queue_of q.old) }
+    requires narrow { AreNarrow (queue_of q.old) }
+    requires packet { IsWellFormed (fields_of p.now) }
+    requires numbers { AreNumbers (queue_of q.old) taken.numbers }
+    requires keys { AllByRecursion (R.judges reach.old) asks.now }
+    requires bytes { AllByRecursion (R.touches reach.old) asks.now }
+    requires allowed { AllByRecursion (IsGranted (R.sight reach.old)) asks.now }
+    requires asks { AllByRecursion (IsAskOf Kind.Write) asks.now }
+    requires enough { touched_by asks.now ≤ length (rows.answer_bytes (fields_of p.now)) }
+    ensures queue { OnOk result (queue_of q.new ≡ (answer_effects taken (fields_of p.now) asks.now (queue_of q.old)).queue) }
+    ensures marks { OnOk result (marks.new.marks ≡ marks.old.marks ++ (answer_effects taken (fields_of p.now) asks.now (queue_of q.old)).marks) }
+    ensures reach { OnOk result (reach.new ≡ written_all R.written reach.old (answer_effects taken (fields_of p.now) asks.now (queue_of q.old)).writes) }
+    ensures room { OnOk result (2 ≤ marks.new.room) }
+    ensures err { OnErr result (q.new ≡ q.old) }
+    ensures err_marks { OnErr result (marks.new.marks ≡ marks.old.marks) }
+    ensures err_reach { OnErr result (reach.new ≡ reach.old) }
+{
+    let found = p.result.unwrap_or(0).to_le_bytes();
+    let writes = cut_writes(alloc, asks, answer_bytes(p, &found))?;
+    let mut before = Vec::new(alloc);
+    push_progress(q, q.requester, taken.psn, &mut before)?;
+    let mut behind = Vec::new(alloc);
+    push_progress(q, taken.numbers, taken.psn + 1, &mut behind)?;
+    reserve_for(before.len() + writes.len() + behind.len(), marks)?;
+    marks.append(before);
+    write_all(reach, writes, marks);
+    marks.append(behind);
+    q.requester = progressed(q, taken.numbers, taken.psn + 1);
+    Ok(())
+}
+
+/// Makes room for so many marks, and two more.
+fn reserve_for(count: usize, marks: &mut Marks) -> Result<(), Memory>
+    ensures room { OnOk result (count + 2 ≤ marks.new.room) }
+    ensures same { marks.new.marks ≡ marks.old.marks }
+{
+    match u32::try_from(count) {
+        Ok(count) if count < u32::MAX - 1 => marks.reserve(count + 2),
+        _ => Err(Memory),
+    }
+}
