@@ -134,7 +134,7 @@ fn prints_as(alloc: Global, line: &Line, text: &[u8]) -> Result<bool, Stop>
     ensures same { IfOk result (λ same. same ≡ bytes_eq (line_text line.now) text.now) }
     ensures memory { IfErr result (λ stop. stop ≡ stops.Memory) }
 {
-    let mut printed = Vec::new(alloc);
+    let mut printed = Vec::with_capacity(alloc, text.len())?;
     print_line(line, &mut printed)?;
     Ok(printed.as_slice() == text)
 }

@@ -24,5 +24,5 @@ pub use name::{
     state_in, status_in,
 };
 pub use number::{u8_in, u16_in, u32_in, u64_in};
-pub use pieces::Pieces;
+pub use pieces::{Pieces, place_of};
 pub use stop::Stop;
