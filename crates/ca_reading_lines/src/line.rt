@@ -1,4 +1,4 @@
-ghost use Rattle.std.specs.Prelude.{◌≡◌, ◌≢◌, IfOk, IfErr};
+ghost use Rattle.std.specs.Prelude.{◌≡◌, ◌≢◌, ◌∷◌, IfOk, IfErr};
 ghost use Rattle.std.specs.Str.{bytes_eq};
 ghost use Rattle.ca_reading_words.specs.Words.{Gives};
 ghost use Rattle.ca_reading_words.specs.declared.stop.Stop.TheVariants as stops;
@@ -12,10 +12,8 @@ use crate::answer::{answer_at, completion_at};
 use crate::mark::mark_at;
 use crate::verb::verb_at;
 use ca_model::Event;
-use ca_reading_fields::{
-    take_alarm, take_lettered_u32, take_lettered_u64, take_lot, take_queue, take_u64,
-};
-use ca_reading_words::{Pieces, Stop, lettered_u32_in};
+use ca_reading_fields::{take_alarm, take_lettered_u32, take_lot, take_queue, take_u64};
+use ca_reading_words::{Pieces, Stop, lettered_u32_in, lettered_u64_in};
 use ca_trace::{Line, print_line};
 use std::alloc::Global;
 
@@ -85,12 +83,12 @@ fn call_at(
     })
 }
 
-/// The first line of an entry.
+/// The first line of an entry, behind its first word.
 #[tactic(auto, unfolding(crate::specs::Reading::head_at, crate::specs::Calls::call_at))]
-fn head_at(alloc: Global, words: &mut Pieces) -> Result<Line, Stop>
-    ensures { Gives result (reading.head_at words.old) }
+fn head_at(alloc: Global, first: &[u8], words: &mut Pieces) -> Result<Line, Stop>
+    ensures { Gives result (reading.head_at (first.now ∷ words.old)) }
 {
-    let stamp = take_lettered_u64(words)?;
+    let stamp = lettered_u64_in(first)?;
     let pass = take_lettered_u32(words)?;
     let name = words.take_word()?;
     if is_consumer(name) {
@@ -113,20 +111,18 @@ fn inner_at(alloc: Global, words: &mut Pieces) -> Result<Line, Stop>
 }
 
 /// A line.
-#[tactic(auto, unfolding(crate::specs::Reading::line_at))]
+#[tactic(auto, unfolding(crate::specs::Reading::line_at), using(ca_reading_words::proofs::ListLemmas::next_is))]
 fn line_at(alloc: Global, words: &mut Pieces) -> Result<Line, Stop>
     ensures { Gives result (reading.line_at words.old) }
 {
-    let first = words.first_word()?;
+    let first = words.take_word()?;
     if first == b"".as_slice() {
-        let _ = words.take_word()?;
         return inner_at(alloc, words);
     }
     if first == b"end".as_slice() {
-        let _ = words.take_word()?;
         return Ok(Line::End(take_u64(words)?));
     }
-    head_at(alloc, words)
+    head_at(alloc, first, words)
 }
 
 /// Whether a line prints as this text.

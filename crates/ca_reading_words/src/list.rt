@@ -7,24 +7,8 @@ use crate::number::{u16_in, u32_in};
 use crate::pieces::Pieces;
 use crate::stop::Stop;
 use arrayvec::ArrayVec;
-use ca_base::{Bytes, Pages, Piece, Run, Runs};
-use hex::FromHexError;
+use ca_base::{Pages, Piece, Run, Runs};
 use std::alloc::Global;
-
-/// Bytes, of two hexadecimal digits each.
-#[tactic(auto, unfolding(crate::specs::Words::hex_in))]
-pub fn hex_in(alloc: Global, word: &[u8]) -> Result<Bytes, Stop>
-    ensures { Gives result (words.hex_in word.now) }
-{
-    if word == b"-".as_slice() {
-        return Ok(Bytes::empty(alloc));
-    }
-    match hex::decode(alloc, word) {
-        Ok(bytes) => Ok(Bytes::from(bytes)),
-        Err(FromHexError::OutOfMemory) => Err(Stop::Memory),
-        Err(_) => Err(Stop::Outside),
-    }
-}
 
 /// A piece of a request's list.
 #[tactic(auto, unfolding(crate::specs::Words::piece_in))]
