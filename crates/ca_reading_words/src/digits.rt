@@ -2,6 +2,7 @@ ghost use Rattle.std.specs.Prelude.{◌≡◌, ◌/◌, length, IfOk};
 ghost use Rattle.ca_reading_words.specs.Words as words;
 ghost use Rattle.ca_reading_words.specs.Words.{Gives};
 
+use crate::name::is_name;
 use crate::stop::Stop;
 use ca_base::{Bytes, Memory};
 use std::alloc::Global;
@@ -38,7 +39,7 @@ fn bytes_of(alloc: Global, word: &[u8]) -> Result<Bytes, Memory>
 pub fn hex_in(alloc: Global, word: &[u8]) -> Result<Bytes, Stop>
     ensures { Gives result (words.hex_in word.now) }
 {
-    if word == b"-".as_slice() {
+    if is_name(word, "-") {
         return Ok(Bytes::empty(alloc));
     }
     Ok(bytes_of(alloc, word)?)

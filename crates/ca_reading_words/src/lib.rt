@@ -22,8 +22,8 @@ pub use id::{
 };
 pub use list::{pages_in, pieces_in, runs_in};
 pub use name::{
-    alarm_in, denial_in, drop_in, kind_in, lot_in, object_in, operation_in, refusal_in, side_in,
-    state_in, status_in,
+    alarm_in, denial_in, drop_in, is_name, kind_in, lot_in, object_in, operation_in, refusal_in,
+    side_in, state_in, status_in,
 };
 pub use number::{u8_in, u16_in, u32_in, u64_in};
 pub use pieces::{Pieces, place_of};
