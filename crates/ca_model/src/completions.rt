@@ -1,4 +1,4 @@
-ghost use Rattle.std.specs.Prelude.{◌≡◌, ◌≤◌, ◌<◌, [], ◌∷◌, ◌++◌, length, IfOk};
+ghost use Rattle.std.specs.Prelude.{◌≡◌, ◌≤◌, ◌<◌, [], ◌∷◌, ◌++◌, length, IfOk, OnOk, OnErr};
 ghost use Rattle.ca_base.specs.declared.limits.TheConstants.{MAX_POLLED};
 
 use arrayvec::ArrayVec;
@@ -47,16 +47,14 @@ impl Completions {
         })
     }
 
-    /// A copy with one more at its end.
-    pub fn copy_with(&self, last: Completion) -> Result<Completions, Memory>
-        requires { length self.now < MAX_POLLED }
-        ensures { IfOk result (λ list. list ≡ self.now ++ last ∷ []) }
+    /// Adds one at the end; `Memory` leaves the list as it was.
+    pub fn push(&mut self, completion: Completion) -> Result<(), Memory>
+        requires { length self.old < MAX_POLLED }
+        ensures ok { OnOk result (self.new ≡ self.old ++ completion ∷ []) }
+        ensures err { OnErr result (self.new ≡ self.old) }
     {
-        let given = self.items.as_slice();
-        let mut items = Vec::with_capacity(*self.items.allocator(), given.len() + 1)?;
-        items.extend_from_slice(given)?;
-        items.push(last)?;
-        Ok(Completions { items })
+        self.items.push(completion)?;
+        Ok(())
     }
 
     /// The completions in order.

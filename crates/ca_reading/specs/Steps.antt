@@ -59,6 +59,10 @@ may_end stage = false
 abbrev pub may_begin : Reading → ℕ → Bool
 may_begin r stamp = may_end r.stage && stamp == r.count && nat_lt stamp 18446744073709551615
 
+-- the entry of a call without its answer
+abbrev pub unanswered : ℕ → ℕ → ℕ → Verb → EntryValue
+unanswered stamp pass by verb = record { stamp = stamp; pass = pass; event = events.Verb by verb; marks = [] }
+
 -- the entry of a call with its answer
 abbrev pub answered : ℕ → ℕ → ℕ → Verb → Answer → EntryValue
 answered stamp pass by verb answer =

@@ -59,6 +59,25 @@ pub fn go_on(progress: &mut Progress, next: Progress) -> Option<Entry>
     }
 }
 
+/// The entry of a call, with room for its answer.
+fn unanswered(alloc: Global, stamp: u64, pass: u32, by: u32, verb: &Verb) -> Result<Entry, Memory>
+    ensures value { IfOk result (λ e. entry_of e ≡ steps.unanswered stamp pass by verb.now) }
+    ensures room { IfOk result (λ e. 0 < e.marks.room) }
+{
+    let mut marks = Marks::empty(alloc);
+    marks.reserve(1)?;
+    let event = Event::Verb {
+        by,
+        verb: copy_of_verb(verb)?,
+    };
+    Ok(Entry {
+        stamp,
+        pass,
+        event,
+        marks,
+    })
+}
+
 /// The entry of a call with its answer.
 fn answered(
     alloc: Global,
@@ -70,19 +89,9 @@ fn answered(
 ) -> Result<Entry, Memory>
     ensures { IfOk result (λ e. entry_of e ≡ steps.answered stamp pass by verb answer) }
 {
-    let mut marks = Marks::empty(alloc);
-    marks.reserve(1)?;
-    let event = Event::Verb {
-        by,
-        verb: copy_of_verb(&verb)?,
-    };
-    marks.push(Mark::Verb { by, verb, answer });
-    Ok(Entry {
-        stamp,
-        pass,
-        event,
-        marks,
-    })
+    let mut entry = unanswered(alloc, stamp, pass, by, &verb)?;
+    entry.marks.push(Mark::Verb { by, verb, answer });
+    Ok(entry)
 }
 
 /// Behind the line of a call.
@@ -115,21 +124,22 @@ pub fn called(
     }
 }
 
-/// The entry of a poll to which this completion is the last.
-fn polled(alloc: Global, poll: &OpenPoll, last: Completion) -> Result<Entry, Memory>
-    requires { length poll.now.given < 16 }
-    ensures { IfOk result (λ e. entry_of e ≡ steps.polled (poll_of poll.now) (poll.now.given ++ last ∷ [])) }
+/// The entry of a poll to which this completion is the last; an error changes nothing.
+fn polled(alloc: Global, poll: &mut OpenPoll, last: Completion) -> Result<Entry, Memory>
+    requires { length poll.old.given < 16 }
+    ensures ok { IfOk result (λ e. entry_of e ≡ steps.polled (poll_of poll.old) (poll.old.given ++ last ∷ [])) }
+    ensures err { OnErr result (poll.new ≡ poll.old) }
 {
-    let given = poll.given.copy_with(last)?;
+    let mut entry = unanswered(alloc, poll.stamp, poll.pass, poll.by, &poll.verb)?;
     let verb = copy_of_verb(&poll.verb)?;
-    answered(
-        alloc,
-        poll.stamp,
-        poll.pass,
-        poll.by,
+    poll.given.push(last)?;
+    let given = mem::replace(&mut poll.given, Completions::empty(alloc));
+    entry.marks.push(Mark::Verb {
+        by: poll.by,
         verb,
-        Answer::Polled(given),
-    )
+        answer: Answer::Polled(given),
+    });
+    Ok(entry)
 }
 
 /// Takes the line of a completion. `Outside` comes exactly where none may stand; an error changes nothing.
@@ -146,7 +156,7 @@ pub fn take_got(alloc: Global, progress: &mut Progress, completion: Completion) 
     if poll.wanted <= 1 {
         *progress = Progress::Open(polled(alloc, poll, completion)?);
     } else {
-        poll.given = poll.given.copy_with(completion)?;
+        poll.given.push(completion)?;
         poll.wanted -= 1;
     }
     Ok(())

@@ -1,5 +1,4 @@
 ghost use Rattle.std.specs.Prelude.{◌≡◌, ◌==◌, ◌<◌, ◌+◌, length, drop, ◌∷◌, [], ◌++◌, List, true, false, MatchOption, IfOk, IfErr, OnErr, OnOk};
-ghost use Rattle.std.specs.List.{position};
 ghost use Rattle.ca_model.specs.Entries.{EntryValue};
 ghost use Rattle.ca_reading.specs.Fits.{HistoryFits};
 ghost use Rattle.ca_reading.specs.Steps as steps;
@@ -14,18 +13,12 @@ use crate::fits::history_fits;
 use crate::reader::TraceReader;
 use ca_base::Memory;
 use ca_model::History;
+use ca_reading_words::place_of;
 use ca_trace::print_history;
 use std::alloc::Global;
 
 /// The line feed.
 const LINE_FEED: u8 = b'\n';
-
-/// Where the first line feed stands.
-fn place_of_feed(text: &[u8]) -> Option<usize>
-    ensures { result ≡ position (λ b. b == 10) text.now }
-{
-    text.iter().position(|b| *b == LINE_FEED)
-}
 
 /// What stands behind a place.
 fn behind(place: usize, text: &[u8]) -> &[u8]
@@ -40,7 +33,7 @@ fn first_line(text: &[u8]) -> Option<(&[u8], &[u8])>
     ensures { MatchOption result (is_one_line text.now ≡ true)
         (λ cut. (text.now ≡ cut.0.now ++ 10 ∷ cut.1.now) × (is_one_line cut.0.now ≡ true)) }
 {
-    match place_of_feed(text) {
+    match place_of(LINE_FEED, text) {
         Some(place) => Some((&text[..place], behind(place, text))),
         None => None,
     }

@@ -9,7 +9,7 @@ use ca_reading_fields::{
     take_queue, take_refusal, take_side, take_state, take_status, take_u8, take_u16, take_u32,
     take_u64,
 };
-use ca_reading_words::{Pieces, Stop};
+use ca_reading_words::{Pieces, Stop, is_name};
 use ca_trace::Told;
 use std::alloc::Global;
 
@@ -36,34 +36,34 @@ pub fn answer_at(alloc: Global, words: &mut Pieces) -> Result<Told, Stop>
     ensures { Reads (λ x. x) result words.new (reading.answer_at words.old) }
 {
     let name = words.take_word()?;
-    if name == b"ok".as_slice() {
+    if is_name(name, "ok") {
         Ok(Told::Whole(Answer::Fine))
-    } else if name == b"key".as_slice() {
+    } else if is_name(name, "key") {
         let key = take_key(words)?;
         Ok(Told::Whole(Answer::Key(key)))
-    } else if name == b"qp".as_slice() {
+    } else if is_name(name, "qp") {
         let number = take_u32(words)?;
         let incarnation = take_u32(words)?;
         Ok(Told::Whole(Answer::Queue {
             number,
             incarnation,
         }))
-    } else if name == b"posted".as_slice() {
+    } else if is_name(name, "posted") {
         let key = take_perhaps_key(words)?;
         Ok(Told::Whole(Answer::Posted(key)))
-    } else if name == b"polled".as_slice() {
+    } else if is_name(name, "polled") {
         let n = take_u8(words)?;
         if n <= 16 {
             Ok(Told::Polled(n))
         } else {
             Err(Stop::Outside)
         }
-    } else if name == b"state".as_slice() {
+    } else if is_name(name, "state") {
         state_at(words)
-    } else if name == b"bytes".as_slice() {
+    } else if is_name(name, "bytes") {
         let bytes = take_hex(alloc, words)?;
         Ok(Told::Whole(Answer::Loaded(bytes)))
-    } else if name == b"refused".as_slice() {
+    } else if is_name(name, "refused") {
         let refusal = take_refusal(words)?;
         Ok(Told::Whole(Answer::Refused(refusal)))
     } else {
@@ -104,18 +104,18 @@ pub fn verdict_at(alloc: Global, words: &mut Pieces) -> Result<Verdict, Stop>
     ensures { Reads (λ x. x) result words.new (reading.verdict_at words.old) }
 {
     let name = words.take_word()?;
-    if name == b"read".as_slice() {
+    if is_name(name, "read") {
         let bytes = take_hex(alloc, words)?;
         Ok(Verdict::Read(bytes))
-    } else if name == b"wrote".as_slice() {
+    } else if is_name(name, "wrote") {
         let bytes = take_hex(alloc, words)?;
         Ok(Verdict::Wrote(bytes))
-    } else if name == b"found".as_slice() {
+    } else if is_name(name, "found") {
         let found = take_u64(words)?;
         let _ = words.take_word()?;
         let put = take_u64(words)?;
         Ok(Verdict::Swapped { found, put })
-    } else if name == b"denied".as_slice() {
+    } else if is_name(name, "denied") {
         let denial = take_denial(words)?;
         Ok(Verdict::Denied(denial))
     } else {

@@ -5,7 +5,7 @@ ghost use Rattle.ca_reading_lines.specs.Reading as reading;
 use ca_base::Change;
 use ca_model::Verb;
 use ca_reading_fields::{take_queue, take_slot, take_u8, take_u16, take_u32};
-use ca_reading_words::{Pieces, Stop};
+use ca_reading_words::{Pieces, Stop, is_name};
 
 /// A change to Ready to Receive.
 #[tactic(auto, unfolding(crate::specs::Reading::rtr_at))]
@@ -61,19 +61,19 @@ fn plain_change_at(change: Change, words: &mut Pieces) -> Result<Verb, Stop>
 pub fn change_at(name: &[u8], words: &mut Pieces) -> Result<Verb, Stop>
     ensures { Reads (λ x. x) result words.new (reading.change_at name.now words.old) }
 {
-    if name == b"rtr".as_slice() {
+    if is_name(name, "rtr") {
         rtr_at(words)
-    } else if name == b"rts".as_slice() {
+    } else if is_name(name, "rts") {
         rts_at(words)
-    } else if name == b"reset".as_slice() {
+    } else if is_name(name, "reset") {
         plain_change_at(Change::Reset, words)
-    } else if name == b"init".as_slice() {
+    } else if is_name(name, "init") {
         plain_change_at(Change::Init, words)
-    } else if name == b"sqd".as_slice() {
+    } else if is_name(name, "sqd") {
         plain_change_at(Change::Sqd, words)
-    } else if name == b"resume".as_slice() {
+    } else if is_name(name, "resume") {
         plain_change_at(Change::Resume, words)
-    } else if name == b"error".as_slice() {
+    } else if is_name(name, "error") {
         plain_change_at(Change::Error, words)
     } else {
         Err(Stop::Outside)

@@ -1,4 +1,4 @@
-ghost use Rattle.std.specs.Prelude.{◌≡◌, ◌≢◌, IfOk, IfErr};
+ghost use Rattle.std.specs.Prelude.{◌≡◌, ◌≢◌, ◌∷◌, true, false, IfOk, IfErr, IfNone, IfSome};
 ghost use Rattle.std.specs.Str.{bytes_eq};
 ghost use Rattle.ca_reading_words.specs.Words.{Gives};
 ghost use Rattle.ca_reading_words.specs.declared.stop.Stop.TheVariants as stops;
@@ -12,10 +12,8 @@ use crate::answer::{answer_at, completion_at};
 use crate::mark::mark_at;
 use crate::verb::verb_at;
 use ca_model::Event;
-use ca_reading_fields::{
-    take_alarm, take_lettered_u32, take_lettered_u64, take_lot, take_queue, take_u64,
-};
-use ca_reading_words::{Pieces, Stop, lettered_u32_in};
+use ca_reading_fields::{take_alarm, take_lettered_u32, take_lot, take_queue, take_u64};
+use ca_reading_words::{Pieces, Stop, is_name, lettered_u32_in, lettered_u64_in};
 use ca_trace::{Line, print_line};
 use std::alloc::Global;
 
@@ -24,26 +22,26 @@ use std::alloc::Global;
 fn turn_at(name: &[u8], words: &mut Pieces) -> Result<Event, Stop>
     ensures { Gives result (reading.turn_at name.now words.old) }
 {
-    if name == b"request".as_slice() {
+    if is_name(name, "request") {
         let queue = take_queue(words)?;
         let lot = take_lot(words)?;
         Ok(Event::Request { queue, lot })
-    } else if name == b"respond".as_slice() {
+    } else if is_name(name, "respond") {
         let queue = take_queue(words)?;
         let lot = take_lot(words)?;
         Ok(Event::Respond { queue, lot })
-    } else if name == b"deliver".as_slice() {
+    } else if is_name(name, "deliver") {
         let queue = take_queue(words)?;
         let index = take_u64(words)?;
         Ok(Event::Deliver { queue, index })
-    } else if name == b"timeout".as_slice() {
+    } else if is_name(name, "timeout") {
         let queue = take_queue(words)?;
         let silent = take_alarm(words)?;
         Ok(Event::Timeout {
             queue,
             hasten: !silent,
         })
-    } else if name == b"wake".as_slice() {
+    } else if is_name(name, "wake") {
         let queue = take_queue(words)?;
         Ok(Event::RnrWake { queue })
     } else {
@@ -85,12 +83,12 @@ fn call_at(
     })
 }
 
-/// The first line of an entry.
+/// The first line of an entry, behind its first word.
 #[tactic(auto, unfolding(crate::specs::Reading::head_at, crate::specs::Calls::call_at))]
-fn head_at(alloc: Global, words: &mut Pieces) -> Result<Line, Stop>
-    ensures { Gives result (reading.head_at words.old) }
+fn head_at(alloc: Global, first: &[u8], words: &mut Pieces) -> Result<Line, Stop>
+    ensures { Gives result (reading.head_at (first.now ∷ words.old)) }
 {
-    let stamp = take_lettered_u64(words)?;
+    let stamp = lettered_u64_in(first)?;
     let pass = take_lettered_u32(words)?;
     let name = words.take_word()?;
     if is_consumer(name) {
@@ -106,27 +104,37 @@ fn inner_at(alloc: Global, words: &mut Pieces) -> Result<Line, Stop>
     ensures { Gives result (reading.inner_at words.old) }
 {
     let name = words.take_word()?;
-    if name == b"got".as_slice() {
+    if is_name(name, "got") {
         return Ok(Line::Got(completion_at(words)?));
     }
     Ok(Line::Mark(mark_at(alloc, name, words)?))
 }
 
 /// A line.
-#[tactic(auto, unfolding(crate::specs::Reading::line_at))]
+#[tactic(auto, unfolding(crate::specs::Reading::line_at), using(ca_reading_words::proofs::ListLemmas::next_is))]
 fn line_at(alloc: Global, words: &mut Pieces) -> Result<Line, Stop>
     ensures { Gives result (reading.line_at words.old) }
 {
-    let first = words.first_word()?;
-    if first == b"".as_slice() {
-        let _ = words.take_word()?;
+    let first = words.take_word()?;
+    if is_name(first, "") {
         return inner_at(alloc, words);
     }
-    if first == b"end".as_slice() {
-        let _ = words.take_word()?;
+    if is_name(first, "end") {
         return Ok(Line::End(take_u64(words)?));
     }
-    head_at(alloc, words)
+    head_at(alloc, first, words)
+}
+
+/// Why what was read is not the line of this text, if it is not: it prints as another one, or memory ran out.
+fn stop_of(alloc: Global, line: &Line, text: &[u8]) -> Option<Stop>
+    ensures same { IfNone result (bytes_eq (line_text line.now) text.now ≡ true) }
+    ensures differs { IfSome result (λ stop. stop ≡ stops.Outside → bytes_eq (line_text line.now) text.now ≡ false) }
+{
+    match prints_as(alloc, line, text) {
+        Ok(true) => None,
+        Ok(false) => Some(Stop::Outside),
+        Err(stop) => Some(stop),
+    }
 }
 
 /// Whether a line prints as this text.
@@ -134,7 +142,7 @@ fn prints_as(alloc: Global, line: &Line, text: &[u8]) -> Result<bool, Stop>
     ensures same { IfOk result (λ same. same ≡ bytes_eq (line_text line.now) text.now) }
     ensures memory { IfErr result (λ stop. stop ≡ stops.Memory) }
 {
-    let mut printed = Vec::new(alloc);
+    let mut printed = Vec::with_capacity(alloc, text.len())?;
     print_line(line, &mut printed)?;
     Ok(printed.as_slice() == text)
 }
@@ -147,10 +155,9 @@ fn exact_line(alloc: Global, text: &[u8]) -> Result<Line, Stop>
 {
     let mut words = Pieces::of(b' ', text);
     let line = line_at(alloc, &mut words)?;
-    match prints_as(alloc, &line, text) {
-        Ok(true) => Ok(line),
-        Ok(false) => Err(Stop::Outside),
-        Err(stop) => Err(stop),
+    match stop_of(alloc, &line, text) {
+        None => Ok(line),
+        Some(stop) => Err(stop),
     }
 }
 

@@ -10,7 +10,7 @@ use ca_reading_fields::{
     take_object, take_perhaps_cause, take_perhaps_u64, take_queue, take_queues, take_rights,
     take_runs, take_u8, take_u32,
 };
-use ca_reading_words::{Pieces, Stop};
+use ca_reading_words::{Pieces, Stop, is_name};
 use std::alloc::Global;
 
 /// A key that came into force.
@@ -141,19 +141,19 @@ fn done_at(words: &mut Pieces) -> Result<Mark, Stop>
 fn passing_at(name: &[u8], words: &mut Pieces) -> Result<Mark, Stop>
     ensures { Gives result (reading.passing_at name.now words.old) }
 {
-    if name == b"lost".as_slice() {
+    if is_name(name, "lost") {
         let target = take_queue(words)?;
         let index = take_perhaps_u64(words)?;
         Ok(Mark::Lost { target, index })
-    } else if name == b"arrived".as_slice() {
+    } else if is_name(name, "arrived") {
         let target = take_queue(words)?;
         let index = take_perhaps_u64(words)?;
         Ok(Mark::Arrived { target, index })
-    } else if name == b"dropped".as_slice() {
+    } else if is_name(name, "dropped") {
         let target = take_queue(words)?;
         let cause = take_drop(words)?;
         Ok(Mark::Dropped { target, cause })
-    } else if name == b"timer".as_slice() {
+    } else if is_name(name, "timer") {
         let queue = take_queue(words)?;
         let silent = take_alarm(words)?;
         Ok(Mark::Timer { queue, silent })
@@ -167,21 +167,21 @@ fn passing_at(name: &[u8], words: &mut Pieces) -> Result<Mark, Stop>
 pub fn mark_at(alloc: Global, name: &[u8], words: &mut Pieces) -> Result<Mark, Stop>
     ensures { Gives result (reading.mark_at name.now words.old) }
 {
-    if name == b"granted".as_slice() {
+    if is_name(name, "granted") {
         granted_at(alloc, words)
-    } else if name == b"revoked".as_slice() {
+    } else if is_name(name, "revoked") {
         let adapter = take_u8(words)?;
         let key = take_key(words)?;
         Ok(Mark::Revoked { adapter, key })
-    } else if name == b"remote".as_slice() {
+    } else if is_name(name, "remote") {
         remote_at(alloc, words)
-    } else if name == b"local".as_slice() {
+    } else if is_name(name, "local") {
         local_mark_at(alloc, words)
-    } else if name == b"stored".as_slice() {
+    } else if is_name(name, "stored") {
         stored_at(alloc, words)
-    } else if name == b"sent".as_slice() {
+    } else if is_name(name, "sent") {
         sent_at(alloc, words)
-    } else if name == b"done".as_slice() {
+    } else if is_name(name, "done") {
         done_at(words)
     } else {
         passing_at(name, words)

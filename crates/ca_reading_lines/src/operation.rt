@@ -7,7 +7,7 @@ use ca_reading_fields::{
     take_address, take_key, take_pages, take_pieces, take_rights, take_u8, take_u16, take_u32,
     take_u64,
 };
-use ca_reading_words::{Pieces, Stop};
+use ca_reading_words::{Pieces, Stop, is_name};
 use std::alloc::Global;
 
 /// A SEND.
@@ -191,13 +191,13 @@ fn local_inv_at(words: &mut Pieces) -> Result<SendOp, Stop>
 fn local_at(alloc: Global, name: &[u8], words: &mut Pieces) -> Result<SendOp, Stop>
     ensures { Reads (λ x. x) result words.new (reading.local_at name.now words.old) }
 {
-    if name == b"bind1".as_slice() {
+    if is_name(name, "bind1") {
         bind1_at(words)
-    } else if name == b"bind2".as_slice() {
+    } else if is_name(name, "bind2") {
         bind2_at(words)
-    } else if name == b"fastreg".as_slice() {
+    } else if is_name(name, "fastreg") {
         fast_reg_at(alloc, words)
-    } else if name == b"inv".as_slice() {
+    } else if is_name(name, "inv") {
         local_inv_at(words)
     } else {
         Err(Stop::Outside)
@@ -210,21 +210,21 @@ pub fn operation_at(alloc: Global, words: &mut Pieces) -> Result<SendOp, Stop>
     ensures { Reads (λ x. x) result words.new (reading.operation_at words.old) }
 {
     let name = words.take_word()?;
-    if name == b"send".as_slice() {
+    if is_name(name, "send") {
         send_at(alloc, words)
-    } else if name == b"sendimm".as_slice() {
+    } else if is_name(name, "sendimm") {
         send_imm_at(alloc, words)
-    } else if name == b"sendinv".as_slice() {
+    } else if is_name(name, "sendinv") {
         send_inv_at(alloc, words)
-    } else if name == b"write".as_slice() {
+    } else if is_name(name, "write") {
         write_at(alloc, words)
-    } else if name == b"writeimm".as_slice() {
+    } else if is_name(name, "writeimm") {
         write_imm_at(alloc, words)
-    } else if name == b"read".as_slice() {
+    } else if is_name(name, "read") {
         read_at(alloc, words)
-    } else if name == b"cas".as_slice() {
+    } else if is_name(name, "cas") {
         cmp_swap_at(alloc, words)
-    } else if name == b"add".as_slice() {
+    } else if is_name(name, "add") {
         fetch_add_at(alloc, words)
     } else {
         local_at(alloc, name, words)

@@ -10,7 +10,7 @@ use ca_reading_fields::{
     take_buffer, take_domain, take_hex, take_perhaps_u16, take_pieces, take_queue, take_rights,
     take_slot, take_u8, take_u16, take_u32, take_u64,
 };
-use ca_reading_words::{Pieces, Stop, has};
+use ca_reading_words::{Pieces, Stop, has, is_name};
 use std::alloc::Global;
 
 /// A registration of a memory region.
@@ -91,7 +91,7 @@ fn receive_at(alloc: Global, words: &mut Pieces) -> Result<(Slot, RecvRequest), 
 fn least_at(words: &mut Pieces) -> Result<u8, Stop>
     ensures { Reads (λ x. x) result words.new (reading.least_at words.old) }
 {
-    if words.first_word()? == b"->".as_slice() {
+    if is_name(words.first_word()?, "->") {
         return Ok(0);
     }
     take_u8(words)
@@ -165,23 +165,23 @@ fn inject_at(alloc: Global, words: &mut Pieces) -> Result<Verb, Stop>
 fn work_at(alloc: Global, name: &[u8], words: &mut Pieces) -> Result<Verb, Stop>
     ensures { Reads (λ x. x) result words.new (reading.work_at name.now words.old) }
 {
-    if name == b"post".as_slice() {
+    if is_name(name, "post") {
         post_at(alloc, words)
-    } else if name == b"recv".as_slice() {
+    } else if is_name(name, "recv") {
         let (slot, request) = receive_at(alloc, words)?;
         Ok(Verb::PostRecv { slot, request })
-    } else if name == b"srecv".as_slice() {
+    } else if is_name(name, "srecv") {
         let (slot, request) = receive_at(alloc, words)?;
         Ok(Verb::PostSrq { slot, request })
-    } else if name == b"poll".as_slice() {
+    } else if is_name(name, "poll") {
         poll_at(words)
-    } else if name == b"wait".as_slice() {
+    } else if is_name(name, "wait") {
         wait_at(words)
-    } else if name == b"store".as_slice() {
+    } else if is_name(name, "store") {
         store_at(alloc, words)
-    } else if name == b"load".as_slice() {
+    } else if is_name(name, "load") {
         load_at(words)
-    } else if name == b"inject".as_slice() {
+    } else if is_name(name, "inject") {
         inject_at(alloc, words)
     } else {
         change_at(name, words)
@@ -193,28 +193,28 @@ fn work_at(alloc: Global, name: &[u8], words: &mut Pieces) -> Result<Verb, Stop>
 fn object_at(alloc: Global, name: &[u8], words: &mut Pieces) -> Result<Verb, Stop>
     ensures { Reads (λ x. x) result words.new (reading.object_at name.now words.old) }
 {
-    if name == b"pd".as_slice() {
+    if is_name(name, "pd") {
         let domain = take_domain(words)?;
         Ok(Verb::AllocPd { domain })
-    } else if name == b"unpd".as_slice() {
+    } else if is_name(name, "unpd") {
         let domain = take_domain(words)?;
         Ok(Verb::DeallocPd { domain })
-    } else if name == b"dereg".as_slice() {
+    } else if is_name(name, "dereg") {
         let slot = take_slot(words)?;
         Ok(Verb::DeregMr { slot })
-    } else if name == b"unmw".as_slice() {
+    } else if is_name(name, "unmw") {
         let slot = take_slot(words)?;
         Ok(Verb::DeallocMw { slot })
-    } else if name == b"uncq".as_slice() {
+    } else if is_name(name, "uncq") {
         let slot = take_slot(words)?;
         Ok(Verb::DestroyCq { slot })
-    } else if name == b"unsrq".as_slice() {
+    } else if is_name(name, "unsrq") {
         let slot = take_slot(words)?;
         Ok(Verb::DestroySrq { slot })
-    } else if name == b"query".as_slice() {
+    } else if is_name(name, "query") {
         let slot = take_slot(words)?;
         Ok(Verb::QueryQp { slot })
-    } else if name == b"unqp".as_slice() {
+    } else if is_name(name, "unqp") {
         let slot = take_slot(words)?;
         Ok(Verb::DestroyQp { slot })
     } else {
@@ -228,23 +228,23 @@ pub fn verb_at(alloc: Global, words: &mut Pieces) -> Result<Verb, Stop>
     ensures { Reads (λ x. x) result words.new (reading.verb_at words.old) }
 {
     let name = words.take_word()?;
-    if name == b"reg".as_slice() {
+    if is_name(name, "reg") {
         reg_at(words)
-    } else if name == b"qp".as_slice() {
+    } else if is_name(name, "qp") {
         qp_at(words)
-    } else if name == b"mr".as_slice() {
+    } else if is_name(name, "mr") {
         let slot = take_slot(words)?;
         let pages = take_u16(words)?;
         Ok(Verb::AllocMr { slot, pages })
-    } else if name == b"mw".as_slice() {
+    } else if is_name(name, "mw") {
         let slot = take_slot(words)?;
         let kind = take_u8(words)?;
         Ok(Verb::AllocMw { slot, kind })
-    } else if name == b"cq".as_slice() {
+    } else if is_name(name, "cq") {
         let slot = take_slot(words)?;
         let capacity = take_u16(words)?;
         Ok(Verb::CreateCq { slot, capacity })
-    } else if name == b"srq".as_slice() {
+    } else if is_name(name, "srq") {
         let slot = take_slot(words)?;
         let depth = take_u16(words)?;
         Ok(Verb::CreateSrq { slot, depth })

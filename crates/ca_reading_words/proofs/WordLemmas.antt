@@ -11,7 +11,6 @@ use Rattle.std.proofs.lemmas.Bool.{ne_eqb, le-leb}
 use Rattle.std.proofs.lemmas.Fmt.{digits_is_IsNumeral}
 use Rattle.std.proofs.lemmas.Nat.{from_be_bytes-to_be_bytes_4}
 use Rattle.hex.specs.Hex.{encode_lower, encode_with, lower_digits, IsBytes}
-use Rattle.hex.proofs.HexLemmas.{decode_of-encode_lower}
 use Rattle.ca_base.specs.declared.access.Denial.{Denial}
 use Rattle.ca_base.specs.declared.access.Denial.TheVariants as denials
 use Rattle.ca_base.specs.declared.access.Kind.{Kind}
@@ -49,6 +48,7 @@ use Rattle.ca_model.specs.Answers.{refusal_text, drop_text}
 use Rattle.ca_trace.specs.Words.{Field, Fixed, Number, Lettered, Perhaps, InAdapter, OfDomain, OfSlot, OfQueue, OfQueues, OfKey, PerhapsKey, Address, Hex, OfRights, OfFlags, OfPieces, OfPages, OfRuns, OfObject, OfSide, OfAlarm, OfKind, OfDenial, OfRefusal, OfLot, OfState, OfOperation, OfStatus, OfCause, OfDrop, word, led, commas, hexadecimal, queues_text, object_text, side_text, alarm_text, flags_text}
 use Rattle.ca_reading_words.specs.Fits.{most, plain, DomainFits, SlotFits, QueueFits, KeyFits, PieceFits, RunFits, LotFits, Fits}
 use Rattle.ca_reading_words.specs.Words.{◌>>=◌, pieces, field, value_in, number_in, perhaps_in, in_adapter_in, domain_in, queue_in, slot_in, queues_in, key_in, address_in, hex_in, has, rights_in, all_in, list_in, piece_in, pieces_in, run_in, object_in, side_in, alarm_in, kind_in, denial_in, lot_in, state_in, field_in, operation_in, status_in, region_error_in, window_error_in, cause_in, refusal_in, drop_in}
+use Rattle.ca_reading_words.proofs.DigitLemmas.{bytes_again}
 use Rattle.ca_reading_words.proofs.PieceLemmas.{lacks, all_lack, one_piece, first_piece, pieces_joined, lacks_append, plain_append, digits_plain, digits_lack}
 use Rattle.ca_reading_words.proofs.NumberLemmas.{value_read, digits_again, decimal_digits, number_again, number_plain, number_lacks, number_is_some}
 
@@ -211,7 +211,7 @@ hex_is_some b bs h =
 pub hex_again : (bytes : List ℕ) → IsBytes bytes → hex_in (hexadecimal bytes) ≡ Some bytes
 unfolding hex_in
 hex_again [] h = refl
-hex_again (b ∷ bs) h = rw (hex_is_some b bs h, decode_of-encode_lower (b ∷ bs) h) refl
+hex_again (b ∷ bs) h = rw (hex_is_some b bs h, bytes_again (b ∷ bs) h) refl
 
 hex_plain : (bytes : List ℕ) → IsBytes bytes → plain (hexadecimal bytes) ≡ true
 hex_plain [] h = refl

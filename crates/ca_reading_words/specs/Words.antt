@@ -1,10 +1,9 @@
 -- Words: the number or the name that a word is read as. It is lenient: what is read need not be spelled so. Contracts
 -- cite it.
-use Rattle.std.specs.Prelude.{◌≡◌, ℕ, ◌+◌, ◌*◌, ◌==◌, nat_le, Bool, true, false, ◌||◌, if◌then◌else◌, List, [], ◌∷◌, length, drop, Option, Some, None, Result, Ok, Err, codes}
+use Rattle.std.specs.Prelude.{◌≡◌, ℕ, ◌+◌, ◌*◌, ◌/◌, ◌%◌, ◌==◌, nat_le, Bool, true, false, ◌||◌, if◌then◌else◌, List, [], ◌∷◌, length, drop, Option, Some, None, Result, Ok, Err, codes}
 use Rattle.std.specs.List.{slice_split}
 use Rattle.std.specs.Str.{bytes_eq}
 use Rattle.std.specs.Char.{digit_value}
-use Rattle.hex.specs.Hex.{decode_of}
 use Rattle.ca_base.specs.declared.access.Denial.{Denial}
 use Rattle.ca_base.specs.declared.access.Denial.TheVariants as denials
 use Rattle.ca_base.specs.declared.access.Kind.{Kind}
@@ -139,13 +138,18 @@ key_in w = do
 unfoldable pub address_in : List ℕ → Option ℕ
 address_in w = value_in 16 18446744073709551615 (drop 2 w)
 
--- bytes, of two hexadecimal digits each
-abbrev pub ok_of : {A E : Type 0} → Result A E → Option A
-ok_of (Ok x) = Some x
-ok_of (Err e) = None
+-- the value of a hexadecimal digit in lower case; any other byte has a value below 16 too
+abbrev pub hex_digit : ℕ → ℕ
+hex_digit c = (c % 16 + c / 64 * 9) % 16
 
+-- the bytes whose two digits stand in a word
+unfoldable pub bytes_of : List ℕ → List ℕ
+bytes_of (high ∷ low ∷ rest) = (hex_digit high * 16 + hex_digit low) ∷ bytes_of rest
+bytes_of rest = []
+
+-- bytes, of two hexadecimal digits each
 unfoldable pub hex_in : List ℕ → Option (List ℕ)
-hex_in w = if bytes_eq w dash then Some [] else ok_of (decode_of w)
+hex_in w = if bytes_eq w dash then Some [] else Some (bytes_of w)
 
 -- whether a byte stands in a word
 abbrev pub has : ℕ → List ℕ → Bool

@@ -2,7 +2,7 @@ ghost use Rattle.std.specs.Prelude.{◌≡◌, drop};
 ghost use Rattle.ca_reading_words.specs.Words as words;
 ghost use Rattle.ca_reading_words.specs.Words.{Gives};
 
-use crate::name::cause_in;
+use crate::name::{cause_in, is_name};
 use crate::number::{u8_in, u16_in, u32_in, u64_in, value_in};
 use crate::pieces::Pieces;
 use crate::stop::Stop;
@@ -87,7 +87,7 @@ pub fn slot_in(word: &[u8]) -> Result<Slot, Stop>
 pub fn queues_in(word: &[u8]) -> Result<Option<QueueId>, Stop>
     ensures { Gives result (words.queues_in word.now) }
 {
-    if word == b"any".as_slice() {
+    if is_name(word, "any") {
         return Ok(None);
     }
     Ok(Some(queue_in(word)?))
@@ -120,7 +120,7 @@ pub fn address_in(word: &[u8]) -> Result<u64, Stop>
 pub fn perhaps_u16_in(word: &[u8]) -> Result<Option<u16>, Stop>
     ensures { Gives result (words.perhaps_in (words.number_in 65535) word.now) }
 {
-    if word == b"-".as_slice() {
+    if is_name(word, "-") {
         return Ok(None);
     }
     Ok(Some(u16_in(word)?))
@@ -130,7 +130,7 @@ pub fn perhaps_u16_in(word: &[u8]) -> Result<Option<u16>, Stop>
 pub fn perhaps_u32_in(word: &[u8]) -> Result<Option<u32>, Stop>
     ensures { Gives result (words.perhaps_in (words.number_in 4294967295) word.now) }
 {
-    if word == b"-".as_slice() {
+    if is_name(word, "-") {
         return Ok(None);
     }
     Ok(Some(u32_in(word)?))
@@ -140,7 +140,7 @@ pub fn perhaps_u32_in(word: &[u8]) -> Result<Option<u32>, Stop>
 pub fn perhaps_u64_in(word: &[u8]) -> Result<Option<u64>, Stop>
     ensures { Gives result (words.perhaps_in (words.number_in 18446744073709551615) word.now) }
 {
-    if word == b"-".as_slice() {
+    if is_name(word, "-") {
         return Ok(None);
     }
     Ok(Some(u64_in(word)?))
@@ -150,7 +150,7 @@ pub fn perhaps_u64_in(word: &[u8]) -> Result<Option<u64>, Stop>
 pub fn perhaps_key_in(word: &[u8]) -> Result<Option<Key>, Stop>
     ensures { Gives result (words.perhaps_in words.key_in word.now) }
 {
-    if word == b"-".as_slice() {
+    if is_name(word, "-") {
         return Ok(None);
     }
     Ok(Some(key_in(word)?))
@@ -160,7 +160,7 @@ pub fn perhaps_key_in(word: &[u8]) -> Result<Option<Key>, Stop>
 pub fn perhaps_cause_in(word: &[u8]) -> Result<Option<OpRefusal>, Stop>
     ensures { Gives result (words.perhaps_in words.cause_in word.now) }
 {
-    if word == b"-".as_slice() {
+    if is_name(word, "-") {
         return Ok(None);
     }
     Ok(Some(cause_in(word)?))

@@ -6,6 +6,7 @@
 //! Source: this profile's choice, as the text of a history is.
 #![tactic(auto)]
 
+mod digits;
 mod id;
 mod list;
 mod name;
@@ -13,16 +14,17 @@ mod number;
 mod pieces;
 mod stop;
 
+pub use digits::hex_in;
 pub use id::{
     address_in, buffer_in, domain_in, has, key_in, lettered_u32_in, lettered_u64_in,
     perhaps_cause_in, perhaps_key_in, perhaps_u16_in, perhaps_u32_in, perhaps_u64_in, queue_in,
     queues_in, rights_in, slot_in,
 };
-pub use list::{hex_in, pages_in, pieces_in, runs_in};
+pub use list::{pages_in, pieces_in, runs_in};
 pub use name::{
-    alarm_in, denial_in, drop_in, kind_in, lot_in, object_in, operation_in, refusal_in, side_in,
-    state_in, status_in,
+    alarm_in, denial_in, drop_in, is_name, kind_in, lot_in, object_in, operation_in, refusal_in,
+    side_in, state_in, status_in,
 };
 pub use number::{u8_in, u16_in, u32_in, u64_in};
-pub use pieces::Pieces;
+pub use pieces::{Pieces, place_of};
 pub use stop::Stop;

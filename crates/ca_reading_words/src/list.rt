@@ -3,28 +3,13 @@ ghost use Rattle.ca_reading_words.specs.Words as words;
 ghost use Rattle.ca_reading_words.specs.Words.{Gives, GivesAs};
 
 use crate::id::{address_in, buffer_in, key_in};
+use crate::name::is_name;
 use crate::number::{u16_in, u32_in};
 use crate::pieces::Pieces;
 use crate::stop::Stop;
 use arrayvec::ArrayVec;
-use ca_base::{Bytes, Pages, Piece, Run, Runs};
-use hex::FromHexError;
+use ca_base::{Pages, Piece, Run, Runs};
 use std::alloc::Global;
-
-/// Bytes, of two hexadecimal digits each.
-#[tactic(auto, unfolding(crate::specs::Words::hex_in))]
-pub fn hex_in(alloc: Global, word: &[u8]) -> Result<Bytes, Stop>
-    ensures { Gives result (words.hex_in word.now) }
-{
-    if word == b"-".as_slice() {
-        return Ok(Bytes::empty(alloc));
-    }
-    match hex::decode(alloc, word) {
-        Ok(bytes) => Ok(Bytes::from(bytes)),
-        Err(FromHexError::OutOfMemory) => Err(Stop::Memory),
-        Err(_) => Err(Stop::Outside),
-    }
-}
 
 /// A piece of a request's list.
 #[tactic(auto, unfolding(crate::specs::Words::piece_in))]
@@ -103,7 +88,7 @@ fn all_pieces(alloc: Global, mut parts: Pieces) -> Result<Vec<Piece>, Stop>
 pub fn pages_in(alloc: Global, word: &[u8]) -> Result<Pages, Stop>
     ensures { Gives result (words.list_in (words.number_in 65535) word.now) }
 {
-    if word == b"-".as_slice() {
+    if is_name(word, "-") {
         return Ok(Pages::empty(alloc));
     }
     Ok(Pages::from(all_pages(alloc, Pieces::of(b',', word))?))
@@ -113,7 +98,7 @@ pub fn pages_in(alloc: Global, word: &[u8]) -> Result<Pages, Stop>
 pub fn runs_in(alloc: Global, word: &[u8]) -> Result<Runs, Stop>
     ensures { Gives result (words.list_in words.run_in word.now) }
 {
-    if word == b"-".as_slice() {
+    if is_name(word, "-") {
         return Ok(Runs::empty(alloc));
     }
     Ok(Runs::from(all_runs(alloc, Pieces::of(b',', word))?))
@@ -123,7 +108,7 @@ pub fn runs_in(alloc: Global, word: &[u8]) -> Result<Runs, Stop>
 fn piece_list_in(alloc: Global, word: &[u8]) -> Result<Vec<Piece>, Stop>
     ensures { GivesAs (λ list. list.items) result (words.list_in words.piece_in word.now) }
 {
-    if word == b"-".as_slice() {
+    if is_name(word, "-") {
         return Ok(Vec::new(alloc));
     }
     all_pieces(alloc, Pieces::of(b',', word))

@@ -1,4 +1,5 @@
 ghost use Rattle.std.specs.Prelude.{◌≡◌};
+ghost use Rattle.std.specs.Str.{bytes_eq};
 ghost use Rattle.ca_reading_words.specs.Words as words;
 ghost use Rattle.ca_reading_words.specs.Words.{Gives};
 
@@ -11,14 +12,22 @@ use ca_base::{
 use ca_model::{Drop1, Refusal};
 use ca_wire::WireError;
 
+/// Whether a word is this name.
+#[inline(always)]
+pub fn is_name(word: &[u8], name: &str) -> bool
+    ensures { result ≡ bytes_eq word.now name.now }
+{
+    word == name.as_bytes()
+}
+
 /// Whether a region stands there, or a window.
 #[tactic(auto, unfolding(crate::specs::Words::object_in))]
 pub fn object_in(word: &[u8]) -> Result<bool, Stop>
     ensures { Gives result (words.object_in word.now) }
 {
-    if word == b"region".as_slice() {
+    if is_name(word, "region") {
         Ok(true)
-    } else if word == b"window".as_slice() {
+    } else if is_name(word, "window") {
         Ok(false)
     } else {
         Err(Stop::Outside)
@@ -30,9 +39,9 @@ pub fn object_in(word: &[u8]) -> Result<bool, Stop>
 pub fn side_in(word: &[u8]) -> Result<bool, Stop>
     ensures { Gives result (words.side_in word.now) }
 {
-    if word == b"recv".as_slice() {
+    if is_name(word, "recv") {
         Ok(true)
-    } else if word == b"send".as_slice() {
+    } else if is_name(word, "send") {
         Ok(false)
     } else {
         Err(Stop::Outside)
@@ -44,9 +53,9 @@ pub fn side_in(word: &[u8]) -> Result<bool, Stop>
 pub fn alarm_in(word: &[u8]) -> Result<bool, Stop>
     ensures { Gives result (words.alarm_in word.now) }
 {
-    if word == b"silent".as_slice() {
+    if is_name(word, "silent") {
         Ok(true)
-    } else if word == b"hasten".as_slice() {
+    } else if is_name(word, "hasten") {
         Ok(false)
     } else {
         Err(Stop::Outside)
@@ -58,13 +67,13 @@ pub fn alarm_in(word: &[u8]) -> Result<bool, Stop>
 pub fn kind_in(word: &[u8]) -> Result<Kind, Stop>
     ensures { Gives result (words.kind_in word.now) }
 {
-    if word == b"read".as_slice() {
+    if is_name(word, "read") {
         Ok(Kind::Read)
-    } else if word == b"write".as_slice() {
+    } else if is_name(word, "write") {
         Ok(Kind::Write)
-    } else if word == b"cas".as_slice() {
+    } else if is_name(word, "cas") {
         Ok(Kind::CmpSwap)
-    } else if word == b"add".as_slice() {
+    } else if is_name(word, "add") {
         Ok(Kind::FetchAdd)
     } else {
         Err(Stop::Outside)
@@ -76,13 +85,13 @@ pub fn kind_in(word: &[u8]) -> Result<Kind, Stop>
 pub fn denial_in(word: &[u8]) -> Result<Denial, Stop>
     ensures { Gives result (words.denial_in word.now) }
 {
-    if word == b"no-grant".as_slice() {
+    if is_name(word, "no-grant") {
         Ok(Denial::NoGrant)
-    } else if word == b"wrong-queue".as_slice() {
+    } else if is_name(word, "wrong-queue") {
         Ok(Denial::WrongQueue)
-    } else if word == b"no-right".as_slice() {
+    } else if is_name(word, "no-right") {
         Ok(Denial::NoRight)
-    } else if word == b"out-of-range".as_slice() {
+    } else if is_name(word, "out-of-range") {
         Ok(Denial::OutOfRange)
     } else {
         Err(Stop::Outside)
@@ -94,17 +103,17 @@ pub fn denial_in(word: &[u8]) -> Result<Denial, Stop>
 pub fn state_in(word: &[u8]) -> Result<State, Stop>
     ensures { Gives result (words.state_in word.now) }
 {
-    if word == b"reset".as_slice() {
+    if is_name(word, "reset") {
         Ok(State::Reset)
-    } else if word == b"init".as_slice() {
+    } else if is_name(word, "init") {
         Ok(State::Init)
-    } else if word == b"rtr".as_slice() {
+    } else if is_name(word, "rtr") {
         Ok(State::Rtr)
-    } else if word == b"rts".as_slice() {
+    } else if is_name(word, "rts") {
         Ok(State::Rts)
-    } else if word == b"sqd".as_slice() {
+    } else if is_name(word, "sqd") {
         Ok(State::Sqd)
-    } else if word == b"error".as_slice() {
+    } else if is_name(word, "error") {
         Ok(State::Error)
     } else {
         Err(Stop::Outside)
@@ -116,25 +125,25 @@ pub fn state_in(word: &[u8]) -> Result<State, Stop>
 pub fn operation_in(word: &[u8]) -> Result<WcOp, Stop>
     ensures { Gives result (words.operation_in word.now) }
 {
-    if word == b"send".as_slice() {
+    if is_name(word, "send") {
         Ok(WcOp::Send)
-    } else if word == b"write".as_slice() {
+    } else if is_name(word, "write") {
         Ok(WcOp::Write)
-    } else if word == b"read".as_slice() {
+    } else if is_name(word, "read") {
         Ok(WcOp::Read)
-    } else if word == b"cmp-swap".as_slice() {
+    } else if is_name(word, "cmp-swap") {
         Ok(WcOp::CmpSwap)
-    } else if word == b"fetch-add".as_slice() {
+    } else if is_name(word, "fetch-add") {
         Ok(WcOp::FetchAdd)
-    } else if word == b"bind".as_slice() {
+    } else if is_name(word, "bind") {
         Ok(WcOp::Bind)
-    } else if word == b"fast-reg".as_slice() {
+    } else if is_name(word, "fast-reg") {
         Ok(WcOp::FastReg)
-    } else if word == b"local-inv".as_slice() {
+    } else if is_name(word, "local-inv") {
         Ok(WcOp::LocalInv)
-    } else if word == b"recv".as_slice() {
+    } else if is_name(word, "recv") {
         Ok(WcOp::Recv)
-    } else if word == b"recv-imm".as_slice() {
+    } else if is_name(word, "recv-imm") {
         Ok(WcOp::RecvImm)
     } else {
         Err(Stop::Outside)
@@ -146,27 +155,27 @@ pub fn operation_in(word: &[u8]) -> Result<WcOp, Stop>
 pub fn status_in(word: &[u8]) -> Result<WcStatus, Stop>
     ensures { Gives result (words.status_in word.now) }
 {
-    if word == b"success".as_slice() {
+    if is_name(word, "success") {
         Ok(WcStatus::Success)
-    } else if word == b"local-length".as_slice() {
+    } else if is_name(word, "local-length") {
         Ok(WcStatus::LocalLength)
-    } else if word == b"local-protection".as_slice() {
+    } else if is_name(word, "local-protection") {
         Ok(WcStatus::LocalProtection)
-    } else if word == b"flushed".as_slice() {
+    } else if is_name(word, "flushed") {
         Ok(WcStatus::Flushed)
-    } else if word == b"memory-management".as_slice() {
+    } else if is_name(word, "memory-management") {
         Ok(WcStatus::MemoryManagement)
-    } else if word == b"bad-response".as_slice() {
+    } else if is_name(word, "bad-response") {
         Ok(WcStatus::BadResponse)
-    } else if word == b"remote-invalid-request".as_slice() {
+    } else if is_name(word, "remote-invalid-request") {
         Ok(WcStatus::RemoteInvalidRequest)
-    } else if word == b"remote-access".as_slice() {
+    } else if is_name(word, "remote-access") {
         Ok(WcStatus::RemoteAccess)
-    } else if word == b"remote-operation".as_slice() {
+    } else if is_name(word, "remote-operation") {
         Ok(WcStatus::RemoteOperation)
-    } else if word == b"retry-exceeded".as_slice() {
+    } else if is_name(word, "retry-exceeded") {
         Ok(WcStatus::RetryExceeded)
-    } else if word == b"rnr-retry-exceeded".as_slice() {
+    } else if is_name(word, "rnr-retry-exceeded") {
         Ok(WcStatus::RnrRetryExceeded)
     } else {
         Err(Stop::Outside)
@@ -178,25 +187,25 @@ pub fn status_in(word: &[u8]) -> Result<WcStatus, Stop>
 pub fn drop_in(word: &[u8]) -> Result<Drop1, Stop>
     ensures { Gives result (words.drop_in word.now) }
 {
-    if word == b"wire:too-short".as_slice() {
+    if is_name(word, "wire:too-short") {
         Ok(Drop1::Wire(WireError::TooShort))
-    } else if word == b"wire:version".as_slice() {
+    } else if is_name(word, "wire:version") {
         Ok(Drop1::Wire(WireError::Version))
-    } else if word == b"wire:opcode".as_slice() {
+    } else if is_name(word, "wire:opcode") {
         Ok(Drop1::Wire(WireError::Opcode))
-    } else if word == b"wire:length".as_slice() {
+    } else if is_name(word, "wire:length") {
         Ok(Drop1::Wire(WireError::Length))
-    } else if word == b"wire:pad".as_slice() {
+    } else if is_name(word, "wire:pad") {
         Ok(Drop1::Wire(WireError::Pad))
-    } else if word == b"partition".as_slice() {
+    } else if is_name(word, "partition") {
         Ok(Drop1::Partition)
-    } else if word == b"queue".as_slice() {
+    } else if is_name(word, "queue") {
         Ok(Drop1::Queue)
-    } else if word == b"state".as_slice() {
+    } else if is_name(word, "state") {
         Ok(Drop1::State)
-    } else if word == b"stale".as_slice() {
+    } else if is_name(word, "stale") {
         Ok(Drop1::Stale)
-    } else if word == b"unsaved".as_slice() {
+    } else if is_name(word, "unsaved") {
         Ok(Drop1::Unsaved)
     } else {
         Err(Stop::Outside)
@@ -208,33 +217,33 @@ pub fn drop_in(word: &[u8]) -> Result<Drop1, Stop>
 fn field_in(word: &[u8]) -> Result<Field, Stop>
     ensures { Gives result (words.field_in word.now) }
 {
-    if word == b"peer".as_slice() {
+    if is_name(word, "peer") {
         Ok(Field::Peer)
-    } else if word == b"incarnation".as_slice() {
+    } else if is_name(word, "incarnation") {
         Ok(Field::Incarnation)
-    } else if word == b"psn".as_slice() {
+    } else if is_name(word, "psn") {
         Ok(Field::Psn)
-    } else if word == b"mtu".as_slice() {
+    } else if is_name(word, "mtu") {
         Ok(Field::Mtu)
-    } else if word == b"rnr-code".as_slice() {
+    } else if is_name(word, "rnr-code") {
         Ok(Field::RnrCode)
-    } else if word == b"retry".as_slice() {
+    } else if is_name(word, "retry") {
         Ok(Field::Retry)
-    } else if word == b"rnr-retry".as_slice() {
+    } else if is_name(word, "rnr-retry") {
         Ok(Field::RnrRetry)
-    } else if word == b"reads".as_slice() {
+    } else if is_name(word, "reads") {
         Ok(Field::Reads)
-    } else if word == b"depth".as_slice() {
+    } else if is_name(word, "depth") {
         Ok(Field::Depth)
-    } else if word == b"capacity".as_slice() {
+    } else if is_name(word, "capacity") {
         Ok(Field::Capacity)
-    } else if word == b"pages".as_slice() {
+    } else if is_name(word, "pages") {
         Ok(Field::Pages)
-    } else if word == b"length".as_slice() {
+    } else if is_name(word, "length") {
         Ok(Field::Length)
-    } else if word == b"list".as_slice() {
+    } else if is_name(word, "list") {
         Ok(Field::List)
-    } else if word == b"kind".as_slice() {
+    } else if is_name(word, "kind") {
         Ok(Field::Kind)
     } else {
         Err(Stop::Outside)
@@ -246,27 +255,27 @@ fn field_in(word: &[u8]) -> Result<Field, Stop>
 fn region_error_in(word: &[u8]) -> Result<RegionError, Stop>
     ensures { Gives result (words.region_error_in word.now) }
 {
-    if word == b"empty".as_slice() {
+    if is_name(word, "empty") {
         Ok(RegionError::Empty)
-    } else if word == b"outside-buffer".as_slice() {
+    } else if is_name(word, "outside-buffer") {
         Ok(RegionError::OutsideBuffer)
-    } else if word == b"rights-need-local-write".as_slice() {
+    } else if is_name(word, "rights-need-local-write") {
         Ok(RegionError::RightsNeedLocalWrite)
-    } else if word == b"not-free".as_slice() {
+    } else if is_name(word, "not-free") {
         Ok(RegionError::NotFree)
-    } else if word == b"bad-pages".as_slice() {
+    } else if is_name(word, "bad-pages") {
         Ok(RegionError::BadPages)
-    } else if word == b"not-valid".as_slice() {
+    } else if is_name(word, "not-valid") {
         Ok(RegionError::NotValid)
-    } else if word == b"key-differs".as_slice() {
+    } else if is_name(word, "key-differs") {
         Ok(RegionError::KeyDiffers)
-    } else if word == b"not-fast-registered".as_slice() {
+    } else if is_name(word, "not-fast-registered") {
         Ok(RegionError::NotFastRegistered)
-    } else if word == b"windows-bound".as_slice() {
+    } else if is_name(word, "windows-bound") {
         Ok(RegionError::WindowsBound)
-    } else if word == b"vacant".as_slice() {
+    } else if is_name(word, "vacant") {
         Ok(RegionError::Vacant)
-    } else if word == b"memory".as_slice() {
+    } else if is_name(word, "memory") {
         Ok(RegionError::Memory)
     } else {
         Err(Stop::Outside)
@@ -278,29 +287,29 @@ fn region_error_in(word: &[u8]) -> Result<RegionError, Stop>
 fn window_error_in(word: &[u8]) -> Result<WindowError, Stop>
     ensures { Gives result (words.window_error_in word.now) }
 {
-    if word == b"no-window".as_slice() {
+    if is_name(word, "no-window") {
         Ok(WindowError::NoWindow)
-    } else if word == b"wrong-type".as_slice() {
+    } else if is_name(word, "wrong-type") {
         Ok(WindowError::WrongType)
-    } else if word == b"region-not-valid".as_slice() {
+    } else if is_name(word, "region-not-valid") {
         Ok(WindowError::RegionNotValid)
-    } else if word == b"no-bind-right".as_slice() {
+    } else if is_name(word, "no-bind-right") {
         Ok(WindowError::NoBindRight)
-    } else if word == b"rights-need-local-write".as_slice() {
+    } else if is_name(word, "rights-need-local-write") {
         Ok(WindowError::RightsNeedLocalWrite)
-    } else if word == b"outside-region".as_slice() {
+    } else if is_name(word, "outside-region") {
         Ok(WindowError::OutsideRegion)
-    } else if word == b"still-bound".as_slice() {
+    } else if is_name(word, "still-bound") {
         Ok(WindowError::StillBound)
-    } else if word == b"empty".as_slice() {
+    } else if is_name(word, "empty") {
         Ok(WindowError::Empty)
-    } else if word == b"type1".as_slice() {
+    } else if is_name(word, "type1") {
         Ok(WindowError::Type1)
-    } else if word == b"not-bound".as_slice() {
+    } else if is_name(word, "not-bound") {
         Ok(WindowError::NotBound)
-    } else if word == b"key-differs".as_slice() {
+    } else if is_name(word, "key-differs") {
         Ok(WindowError::KeyDiffers)
-    } else if word == b"wrong-queue".as_slice() {
+    } else if is_name(word, "wrong-queue") {
         Ok(WindowError::WrongQueue)
     } else {
         Err(Stop::Outside)
@@ -312,18 +321,18 @@ fn window_error_in(word: &[u8]) -> Result<WindowError, Stop>
 pub fn lot_in(word: &[u8]) -> Result<Lot, Stop>
     ensures { Gives result (words.lot_in word.now) }
 {
-    if word == b"pass".as_slice() {
+    if is_name(word, "pass") {
         return Ok(Lot::Pass);
     }
-    if word == b"lose".as_slice() {
+    if is_name(word, "lose") {
         return Ok(Lot::Lose);
     }
     let mut parts = Pieces::of(b':', word);
     let name = parts.take_word()?;
     let count = u8_in(parts.take_word()?)?;
-    if name == b"repeat".as_slice() {
+    if is_name(name, "repeat") {
         Ok(Lot::Repeat(count))
-    } else if name == b"hold".as_slice() {
+    } else if is_name(name, "hold") {
         Ok(Lot::Hold(count))
     } else {
         Err(Stop::Outside)
@@ -337,9 +346,9 @@ pub fn cause_in(word: &[u8]) -> Result<OpRefusal, Stop>
 {
     let mut parts = Pieces::of(b':', word);
     let name = parts.take_word()?;
-    if name == b"region".as_slice() {
+    if is_name(name, "region") {
         Ok(OpRefusal::Region(region_error_in(parts.take_word()?)?))
-    } else if name == b"window".as_slice() {
+    } else if is_name(name, "window") {
         Ok(OpRefusal::Window(window_error_in(parts.take_word()?)?))
     } else {
         Err(Stop::Outside)
@@ -351,39 +360,39 @@ pub fn cause_in(word: &[u8]) -> Result<OpRefusal, Stop>
 pub fn refusal_in(word: &[u8]) -> Result<Refusal, Stop>
     ensures { Gives result (words.refusal_in word.now) }
 {
-    if word == b"no-such".as_slice() {
+    if is_name(word, "no-such") {
         Ok(Refusal::NoSuch)
-    } else if word == b"no-domain".as_slice() {
+    } else if is_name(word, "no-domain") {
         Ok(Refusal::NoDomain)
-    } else if word == b"domain-taken".as_slice() {
+    } else if is_name(word, "domain-taken") {
         Ok(Refusal::DomainTaken)
-    } else if word == b"domain-in-use".as_slice() {
+    } else if is_name(word, "domain-in-use") {
         Ok(Refusal::DomainInUse)
-    } else if word == b"slot-taken".as_slice() {
+    } else if is_name(word, "slot-taken") {
         Ok(Refusal::SlotTaken)
-    } else if word == b"empty".as_slice() {
+    } else if is_name(word, "empty") {
         Ok(Refusal::Empty)
-    } else if word == b"outside-buffer".as_slice() {
+    } else if is_name(word, "outside-buffer") {
         Ok(Refusal::OutsideBuffer)
-    } else if word == b"rights-need-local-write".as_slice() {
+    } else if is_name(word, "rights-need-local-write") {
         Ok(Refusal::RightsNeedLocalWrite)
-    } else if word == b"windows-bound".as_slice() {
+    } else if is_name(word, "windows-bound") {
         Ok(Refusal::WindowsBound)
-    } else if word == b"cq-too-small".as_slice() {
+    } else if is_name(word, "cq-too-small") {
         Ok(Refusal::CqTooSmall)
-    } else if word == b"cq-in-use".as_slice() {
+    } else if is_name(word, "cq-in-use") {
         Ok(Refusal::CqInUse)
-    } else if word == b"srq-in-use".as_slice() {
+    } else if is_name(word, "srq-in-use") {
         Ok(Refusal::SrqInUse)
-    } else if word == b"has-srq".as_slice() {
+    } else if is_name(word, "has-srq") {
         Ok(Refusal::HasSrq)
-    } else if word == b"too-long".as_slice() {
+    } else if is_name(word, "too-long") {
         Ok(Refusal::TooLong)
-    } else if word == b"queue-state".as_slice() {
+    } else if is_name(word, "queue-state") {
         Ok(Refusal::QueueState)
-    } else if word == b"queue-full".as_slice() {
+    } else if is_name(word, "queue-full") {
         Ok(Refusal::QueueFull)
-    } else if word == b"transition".as_slice() {
+    } else if is_name(word, "transition") {
         Ok(Refusal::Transition)
     } else {
         out_of_range_in(word)

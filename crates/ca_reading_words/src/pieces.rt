@@ -4,6 +4,7 @@ ghost use Rattle.ca_reading_words.specs.Words.{pieces, next_of};
 ghost use Rattle.ca_reading_words.specs.declared.stop.Stop.TheVariants as stops;
 
 use crate::stop::Stop;
+use memchr::memchr;
 use std::marker::Model;
 
 /// The words of a text that stand between separators, from the front. Contracts see them as a list.
@@ -24,10 +25,11 @@ impl<'a> Model for Pieces<'a> {
 }
 
 /// Where the first separator stands.
-fn place_of(separator: u8, text: &[u8]) -> Option<usize>
+#[tactic(auto, using(crate::proofs::PlaceLemmas::first_place))]
+pub fn place_of(separator: u8, text: &[u8]) -> Option<usize>
     ensures { result ≡ position (λ b. b == separator) text.now }
 {
-    text.iter().position(|b| *b == separator)
+    memchr(separator, text)
 }
 
 /// What stands behind a place.

@@ -103,7 +103,8 @@ fn is_loaded(answer: &Answer) -> bool {
 }
 
 fn polled(alloc: Global) -> Option<Answer> {
-    let completions = Completions::empty(alloc).copy_with(COMPLETION).ok()?;
+    let mut completions = Completions::empty(alloc);
+    completions.push(COMPLETION).ok()?;
     Some(Answer::Polled(completions))
 }
 
