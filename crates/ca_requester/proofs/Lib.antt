@@ -4,3 +4,4 @@ pub mod ProgressLemmas
 pub mod PacketLemmas
 pub mod TurnLemmas
 pub mod ResponseLemmas
+pub mod TakingLemmas

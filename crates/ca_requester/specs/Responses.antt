@@ -1,5 +1,5 @@
 -- What a response makes of a requester, before it is made, and the row that it is. Contracts cite it.
-use Rattle.std.specs.Prelude.{◌≡◌, ℕ, suc, true, if◌then◌else◌, List, [], ◌∷◌, ◌++◌, Option, None, Some}
+use Rattle.std.specs.Prelude.{◌≡◌, ℕ, ◌^◌, ◌<◌, suc, true, if◌then◌else◌, List, [], ◌∷◌, ◌++◌, Option, None, Some}
 use Rattle.std.specs.Option.{option_and_then}
 use Rattle.ca_base.specs.declared.access.Ask.{Ask}
 use Rattle.ca_base.specs.declared.completion.WcStatus.TheVariants.{LocalProtection}
@@ -39,6 +39,7 @@ pub record IsAnswer (p : Fields) (q : QueuePair) (a : Answer) : Type 0 where
   pub queue : with_requester a.numbers q ≡ (progress_to a.psn q).queue
   pub sound : IsSound q (numbered_of a.request)
   pub psn : has_psn a.psn (numbered_of a.request) ≡ true
+  pub narrow : a.psn < 2 ^ 62
   pub fits : fits_request a.psn p q (numbered_of a.request) ≡ true
 
 -- what holds of a response that was found

@@ -221,6 +221,7 @@ fn failure(numbers: RequesterNumbers, status: WcStatus) -> Outcome
 fn answer_of<'a>(q: &'a QueuePart, p: &Packet<'_>, psn: u64) -> Response<'a>
     requires queue { IsQueue (queue_of q.now) }
     requires narrow { AreNarrow (queue_of q.now) }
+    requires psn { psn < 2 ^ 62 }
     ensures row { row_of result (fields_of p.now) (queue_of q.now) ≡ rows.fitting_row psn (fields_of p.now) (acknowledgement_below psn (queue_of q.now)) }
     ensures sound { IsResponse result (fields_of p.now) (queue_of q.now) }
 {

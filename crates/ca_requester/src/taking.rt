@@ -1,4 +1,4 @@
-ghost use Rattle.std.specs.Prelude.{◌≡◌, ◌≤◌, ◌<◌, ◌^◌, ◌+◌, ◌++◌, ◌∷◌, [], true, OnOk, OnErr, length};
+ghost use Rattle.std.specs.Prelude.{◌≡◌, ◌≤◌, ◌<◌, ◌^◌, ◌+◌, ◌++◌, ◌∷◌, [], suc, true, IfOk, OnOk, OnErr, length};
 ghost use Rattle.std.specs.Option.{option_map_or};
 ghost use Rattle.std.specs.List.{AllByRecursion};
 ghost use Rattle.ca_base.specs.declared.access.Kind.{Kind};
@@ -7,13 +7,14 @@ ghost use Rattle.ca_base.specs.Memory.{little_endian_bytes};
 ghost use Rattle.ca_grant.specs.Reaching.{AreAtHand};
 ghost use Rattle.ca_model.specs.declared.mark.Mark.{Mark};
 ghost use Rattle.ca_model.specs.machine.Numbering.{has_psn};
+ghost use Rattle.ca_model.specs.machine.Acknowledgements.{progress_to, with_requester};
 ghost use Rattle.ca_model.specs.machine.Invariants.{IsQueue};
 ghost use Rattle.ca_model.specs.machine.Responses as rows;
 ghost use Rattle.ca_model.specs.machine.Row.{ending_of};
 ghost use Rattle.ca_qpstate.specs.Seen.{queue_of};
 ghost use Rattle.ca_wire.specs.Packet.{IsWellFormed, fields_of};
 ghost use Rattle.ca_model.specs.Packets.{is_response};
-ghost use Rattle.ca_rows.specs.Asks.{IsAskOf, IsGranted, touched_by};
+ghost use Rattle.ca_rows.specs.Asks.{CanWrite, IsAskOf, IsGranted, IsWrite, asks_of, touched_by};
 ghost use Rattle.ca_rows.specs.Done.{IsTaking, written_all};
 ghost use Rattle.ca_rows.specs.Narrow.{AreNarrow};
 ghost use Rattle.ca_requester.specs.Numbering.{IsSound, numbered_of};
@@ -26,7 +27,7 @@ use crate::progress::{progressed, push_progress};
 use crate::responses::{Answer, Ended, Response, response_of};
 use arrayvec::ArrayVec;
 use ca_base::limits::MAX_PIECES;
-use ca_base::{Ask, Kind, Memory, QueueId, RequesterNumbers, WcStatus};
+use ca_base::{Ask, Bytes, Kind, Memory, QueueId, RequesterNumbers, WcStatus};
 use ca_grant::Reach;
 use ca_model::{Drop1, Mark, Marks};
 use ca_qpstate::QueuePart;
@@ -46,13 +47,13 @@ pub fn response_asks(q: &QueuePart, p: &Packet<'_>) -> ArrayVec<Ask, MAX_PIECES>
     ensures { result.items ≡ (rows.response_row (fields_of p.now) (queue_of q.now)).asks }
 {
     match response_of(q, p) {
-        Response::Answers(answer) => asks_of(q, p, &answer),
+        Response::Answers(answer) => asks_for(q, p, &answer),
         Response::Drops(_) | Response::Ends(_) => ArrayVec::new(),
     }
 }
 
 /// The asks for the places in its request's list to which an answer's bytes go.
-fn asks_of(q: &QueuePart, p: &Packet<'_>, answer: &Answer<'_>) -> ArrayVec<Ask, MAX_PIECES>
+fn asks_for(q: &QueuePart, p: &Packet<'_>, answer: &Answer<'_>) -> ArrayVec<Ask, MAX_PIECES>
     requires queue { IsQueue (queue_of q.now) }
     requires packet { IsWellFormed (fields_of p.now) }
     requires answer { IsAnswer (fields_of p.now) (queue_of q.now) answer.now }
@@ -96,16 +97,23 @@ fn answer_length(p: &Packet<'_>) -> u32
     }
 }
 
-/// The bytes that an answer brings; `found` are those of what an atomic found.
-fn answer_bytes<'a>(p: &Packet<'a>, found: &'a [u8]) -> &'a [u8]
-    requires { found.now ≡ little_endian_bytes (option_map_or (λ n. n) (fields_of p.now).«result» 0) }
-    ensures { result.now ≡ rows.answer_bytes (fields_of p.now) }
+/// The bytes that an answer brings, cut for the asks to which they go.
+fn cut_answer(
+    alloc: Global,
+    p: &Packet<'_>,
+    asks: &[Ask],
+) -> Result<Vec<(Ask, Bytes)>, Memory>
+    requires asks { AllByRecursion (IsAskOf Kind.Write) asks.now }
+    requires enough { touched_by asks.now ≤ length (rows.answer_bytes (fields_of p.now)) }
+    ensures value { IfOk result (λ writes. writes.items ≡ rows.writes_by asks.now (rows.answer_bytes (fields_of p.now))) }
+    ensures writes { IfOk result (λ writes. AllByRecursion IsWrite writes.items) }
+    ensures asks { IfOk result (λ writes. asks_of writes.items ≡ asks.now) }
 {
     if p.opcode == ATOMIC_ACKNOWLEDGE {
-        found
-    } else {
-        p.payload
+        let found = p.result.unwrap_or(0).to_le_bytes();
+        return cut_writes(alloc, asks, &found);
     }
+    cut_writes(alloc, asks, p.payload)
 }
 
 /// Takes a response that arrived: what it acknowledges completes, an answer's bytes go to the list of their request, and
@@ -134,7 +142,7 @@ pub fn on_response<R: Reach>(
         Response::Drops(cause) => drop_packet(q.queue, cause, marks),
         Response::Ends(ended) => end(alloc, q, ended, marks),
         Response::Answers(answer) => {
-            let asks = asks_of(q, p, &answer);
+            let asks = asks_for(q, p, &answer);
             let taken = Taken {
                 psn: answer.psn,
                 numbers: answer.numbers,
@@ -209,6 +217,7 @@ fn deny(
     requires queue { IsQueue (queue_of q.old) }
     requires narrow { AreNarrow (queue_of q.old) }
     requires numbers { AreNumbers (queue_of q.old) taken.numbers }
+    requires under { with_requester taken.numbers (queue_of q.old) ≡ (progress_to taken.psn (queue_of q.old)).queue }
     ensures queue { OnOk result (queue_of q.new ≡ (denied_effects taken denied.now (queue_of q.old)).queue) }
     ensures marks { OnOk result (marks.new.marks ≡ marks.old.marks ++ (denied_effects taken denied.now (queue_of q.old)).marks) }
     ensures room { OnOk result (2 ≤ marks.new.room) }
@@ -233,7 +242,7 @@ fn deny(
 }
 
 /// The bytes go to the list, and all up to the answer's PSN is acknowledged.
-#[tactic(auto, using(crate::proofs::ProgressLemmas::own_numbers, ca_rows::proofs::WriteLemmas::can_write))]
+#[tactic(auto, using(ca_rows::proofs::WriteLemmas::can_write))]
 fn place<R: Reach>(
     alloc: Global,
     q: &mut QueuePart,
@@ -246,7 +255,9 @@ fn place<R: Reach>(
     requires queue { IsQueue (queue_of q.old) }
     requires narrow { AreNarrow (queue_of q.old) }
     requires packet { IsWellFormed (fields_of p.now) }
+    requires psn { taken.psn < 2 ^ 62 }
     requires numbers { AreNumbers (queue_of q.old) taken.numbers }
+    requires under { with_requester taken.numbers (queue_of q.old) ≡ (progress_to taken.psn (queue_of q.old)).queue }
     requires keys { AllByRecursion (R.judges reach.old) asks.now }
     requires bytes { AllByRecursion (R.touches reach.old) asks.now }
     requires allowed { AllByRecursion (IsGranted (R.sight reach.old)) asks.now }
@@ -260,13 +271,39 @@ fn place<R: Reach>(
     ensures err_marks { OnErr result (marks.new.marks ≡ marks.old.marks) }
     ensures err_reach { OnErr result (reach.new ≡ reach.old) }
 {
-    let found = p.result.unwrap_or(0).to_le_bytes();
-    let writes = cut_writes(alloc, asks, answer_bytes(p, &found))?;
+    let writes = cut_answer(alloc, p, asks)?;
+    finish(alloc, q, reach, taken, writes, marks)
+}
+
+/// The answer's bytes are written, and all up to its PSN is acknowledged.
+#[tactic(auto, using(crate::proofs::ProgressLemmas::own_numbers))]
+fn finish<R: Reach>(
+    alloc: Global,
+    q: &mut QueuePart,
+    reach: &mut R,
+    taken: Taken,
+    writes: Vec<(Ask, Bytes)>,
+    marks: &mut Marks,
+) -> Result<(), Memory>
+    requires queue { IsQueue (queue_of q.old) }
+    requires narrow { AreNarrow (queue_of q.old) }
+    requires numbers { AreNumbers (queue_of q.old) taken.numbers }
+    requires psn { taken.psn < 2 ^ 62 }
+    requires can { CanWrite R.sight R.judges R.touches reach.old writes.items }
+    ensures queue { OnOk result (queue_of q.new ≡ (progress_to (suc taken.psn) (with_requester taken.numbers (queue_of q.old))).queue) }
+    ensures marks { OnOk result (marks.new.marks ≡ marks.old.marks ++ ((progress_to taken.psn (queue_of q.old)).marks
+        ++ (rows.local_writes writes.items ++ (progress_to (suc taken.psn) (with_requester taken.numbers (queue_of q.old))).marks))) }
+    ensures reach { OnOk result (reach.new ≡ written_all R.written reach.old writes.items) }
+    ensures room { OnOk result (2 ≤ marks.new.room) }
+    ensures err { OnErr result (q.new ≡ q.old) }
+    ensures err_marks { OnErr result (marks.new.marks ≡ marks.old.marks) }
+    ensures err_reach { OnErr result (reach.new ≡ reach.old) }
+{
     let mut before = Vec::new(alloc);
     push_progress(q, q.requester, taken.psn, &mut before)?;
     let mut behind = Vec::new(alloc);
     push_progress(q, taken.numbers, taken.psn + 1, &mut behind)?;
-    reserve_for(before.len() + writes.len() + behind.len(), marks)?;
+    reserve_for(before.len(), writes.len(), behind.len(), marks)?;
     marks.append(before);
     write_all(reach, writes, marks);
     marks.append(behind);
@@ -275,12 +312,15 @@ fn place<R: Reach>(
 }
 
 /// Makes room for so many marks, and two more.
-fn reserve_for(count: usize, marks: &mut Marks) -> Result<(), Memory>
-    ensures room { OnOk result (count + 2 ≤ marks.new.room) }
+fn reserve_for(before: usize, writes: usize, behind: usize, marks: &mut Marks) -> Result<(), Memory>
+    ensures room { OnOk result (before + writes + behind + 2 ≤ marks.new.room) }
     ensures same { marks.new.marks ≡ marks.old.marks }
 {
-    match u32::try_from(count) {
-        Ok(count) if count < u32::MAX - 1 => marks.reserve(count + 2),
-        _ => Err(Memory),
+    match before.checked_add(writes) {
+        None => Err(Memory),
+        Some(count) => match count.checked_add(behind) {
+            Some(count) if count < 0x1_0000_0000 - 2 => marks.reserve(count as u32 + 2),
+            _ => Err(Memory),
+        },
     }
 }

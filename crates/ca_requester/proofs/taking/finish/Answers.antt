@@ -1,0 +1,12 @@
+use Rattle.std.proofs.Common.{rules, suc}
+use Rattle.ca_model.specs.machine.Acknowledgements.{progress_to, with_requester}
+use Rattle.ca_model.specs.machine.Responses.{local_writes}
+use Rattle.ca_qpstate.specs.Seen.{queue_of}
+use Rattle.ca_requester.proofs.TakingLemmas.{three-appended}
+use Rattle.ca_requester.proofs.taking.finish.Goals as goal
+
+pub returns-clause-marks : goal.returns-clause-marks
+returns-clause-marks g c = three-appended c.args.marks.now.marks c.append.new.self.marks c.write_all.new.marks.marks c.append-2.new.self.marks
+    (progress_to c.args.taken.psn (queue_of c.args.q.now)).marks (local_writes c.args.writes.items)
+    (progress_to (suc c.args.taken.psn) (with_requester c.args.taken.numbers (queue_of c.args.q.now))).marks
+    (search rules) (search rules) (search rules)
