@@ -11,7 +11,9 @@ mod local;
 mod numbering;
 mod outcome;
 mod packet;
+mod sending;
 mod turn;
 
 pub use local::{local_done, next_local};
 pub use numbering::{Next, Numbered, next_request, next_to_begin, request_at};
+pub use sending::{next_asks, next_packet};
