@@ -1,4 +1,5 @@
 pub mod NumberingLemmas
 pub mod OutcomeLemmas
+pub mod ProgressLemmas
 pub mod PacketLemmas
 pub mod TurnLemmas

@@ -1,4 +1,6 @@
 pub mod Numbering
 pub mod Turn
 pub mod Outcome
+pub mod Progress
 pub mod Packets
+pub mod Timers

@@ -11,9 +11,12 @@ mod local;
 mod numbering;
 mod outcome;
 mod packet;
+mod progress;
 mod sending;
+mod timers;
 mod turn;
 
 pub use local::{local_done, next_local};
 pub use numbering::{Next, Numbered, next_request, next_to_begin, request_at};
 pub use sending::{next_asks, next_packet};
+pub use timers::{on_rnr_wake, on_timeout};
