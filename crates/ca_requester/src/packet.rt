@@ -116,10 +116,20 @@ fn packet_of<'a>(q: &QueuePart, n: &Numbered<'_>, payload: &'a [u8]) -> Packet<'
     match &request.op {
         SendOp::Send { list } => send_of(&head, SendKind::Plain, list.as_slice(), payload),
         SendOp::SendImm { imm, list } => {
-            send_of(&head, SendKind::WithImmediate(*imm), list.as_slice(), payload)
+            send_of(
+                &head,
+                SendKind::WithImmediate(*imm),
+                list.as_slice(),
+                payload,
+            )
         }
         SendOp::SendInv { key, list } => {
-            send_of(&head, SendKind::WithInvalidate(*key), list.as_slice(), payload)
+            send_of(
+                &head,
+                SendKind::WithInvalidate(*key),
+                list.as_slice(),
+                payload,
+            )
         }
         SendOp::Write { address, key, list } => {
             write_of(&head, *address, *key, None, list.as_slice(), payload)
@@ -150,7 +160,10 @@ fn packet_of<'a>(q: &QueuePart, n: &Numbered<'_>, payload: &'a [u8]) -> Packet<'
             cmp_swap(atomic, head.queue, head.psn)
         }
         SendOp::FetchAdd {
-            address, key, add, ..
+            address,
+            key,
+            add,
+            ..
         } => fetch_add(*address, *key, *add, head.queue, head.psn),
         SendOp::Bind1 { .. }
         | SendOp::Bind2 { .. }

@@ -1,5 +1,6 @@
-ghost use Rattle.std.specs.Prelude.{◌≡◌, ◌≤◌, ◌++◌, None, Some, IfErr, OnOk, OnErr};
+ghost use Rattle.std.specs.Prelude.{◌≡◌, ◌≤◌, ◌++◌, ◌∷◌, [], None, Some, IfOk, IfErr, OnOk, OnErr};
 ghost use Rattle.ca_base.specs.Refusals.{first_of};
+ghost use Rattle.ca_model.specs.declared.mark.Mark.{Mark};
 ghost use Rattle.ca_model.specs.machine.Invariants.{IsQueue};
 ghost use Rattle.ca_model.specs.machine.Timers as timers;
 ghost use Rattle.ca_qpstate.specs.Seen.{queue_of};
@@ -9,7 +10,7 @@ ghost use Rattle.ca_requester.specs.Timers.{reason_of};
 use crate::outcome::{Made, make, one_retry};
 use crate::turn::is_sending;
 use ca_base::limits::MAX_RETRY;
-use ca_base::{Reason, RequesterNumbers, StepError};
+use ca_base::{Memory, QueueId, Reason, RequesterNumbers, StepError};
 use ca_model::{Mark, Marks};
 use ca_qpstate::QueuePart;
 use std::alloc::Global;
@@ -37,21 +38,25 @@ pub fn on_timeout(
     if let Some(reason) = timeout_refusal(q, silent, hasten) {
         return Err(StepError::NotReady(reason));
     }
-    let mut first = Vec::new(alloc);
-    first.push(Mark::Timer {
-        queue: q.queue,
-        silent,
-    })?;
     let counted = RequesterNumbers {
         timers: q.requester.timers + 1,
         ..q.requester
     };
     let made = Made {
-        marks: first,
+        marks: timer_marks(alloc, q.queue, silent)?,
         outcome: one_retry(counted, q.requester.una),
     };
     make(q, made, marks)?;
     Ok(())
+}
+
+/// The mark of a timer, alone.
+fn timer_marks(alloc: Global, queue: QueueId, silent: bool) -> Result<Vec<Mark>, Memory>
+    ensures { IfOk result (λ ms. ms.items ≡ Mark.Timer queue silent ∷ []) }
+{
+    let mut marks = Vec::new(alloc);
+    marks.push(Mark::Timer { queue, silent })?;
+    Ok(marks)
 }
 
 /// Why a timer does not fire.
