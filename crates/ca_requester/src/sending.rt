@@ -1,4 +1,4 @@
-ghost use Rattle.std.specs.Prelude.{◌≡◌, ◌≤◌, ◌++◌, Bool, false, not, if◌then◌else◌, None, Some, length, map, IfOk, IfErr, OnOk, OnErr};
+ghost use Rattle.std.specs.Prelude.{◌≡◌, ◌+◌, ◌≤◌, ◌++◌, Bool, false, not, if◌then◌else◌, None, Some, length, map, IfOk, IfErr, OnOk, OnErr};
 ghost use Rattle.std.specs.List.{AllByRecursion, flat_map};
 ghost use Rattle.ca_base.specs.declared.access.Kind.{Kind};
 ghost use Rattle.ca_base.specs.declared.limits.TheConstants.{MAX_PAYLOAD_BYTES, MAX_PIECES};
@@ -13,6 +13,7 @@ ghost use Rattle.ca_qpstate.specs.Seen.{queue_of};
 ghost use Rattle.ca_rows.specs.Asks.{IsAskOf, IsGranted, touched_by};
 ghost use Rattle.ca_rows.specs.Done.{IsTurn};
 ghost use Rattle.ca_rows.specs.Narrow.{AreNarrow};
+ghost use Rattle.ca_wire.specs.declared.packet.TheConstants.{MAX_PACKET_BYTES};
 ghost use Rattle.ca_requester.specs.Numbering.{numbered_of, IsNext};
 ghost use Rattle.ca_requester.specs.Packets.{IsPacket};
 ghost use Rattle.ca_requester.specs.Turn as turns;
@@ -62,9 +63,9 @@ fn next_to_send(q: &QueuePart) -> Result<Next<'_>, Reason>
     }
 }
 
-/// Sends the next packet: spells it into `out`, where the peer has `room` for it. After Ok there is room for two more marks.
-/// Where it is not possible now, and where memory ends, nothing changes. Where the turn performs a local operation there is
-/// nothing to send.
+/// Sends the next packet: spells it into `out`, in at most 4128 bytes, where the peer has `room` for it. After Ok there is
+/// room for two more marks. Where it is not possible now, and where memory ends, nothing changes. A turn that performs a
+/// local operation has nothing to send, and is `Empty` here.
 #[tactic(auto, using(crate::proofs::TurnLemmas::handed_on))]
 pub fn next_packet<R: Reach>(
     alloc: Global,
@@ -81,6 +82,7 @@ pub fn next_packet<R: Reach>(
         (handed (queue_of q.old) marks.old.marks out.old.items reach.old)
         (handed (queue_of q.new) marks.new.marks out.new.items reach.new) }
     ensures room { OnOk result (2 ≤ marks.new.room) }
+    ensures size { OnOk result (length out.new.items ≤ length out.old.items + MAX_PACKET_BYTES) }
 {
     let next = match next_to_send(q) {
         Err(reason) => return Err(StepError::NotReady(reason)),
@@ -186,6 +188,7 @@ fn read_and_spell<R: Reach>(
     ensures marks { OnOk result (marks.new.marks ≡ marks.old.marks ++ requester.local_reads asks.now (map (bytes_in (R.sight reach.old)) asks.now)) }
     ensures out { OnOk result (out.new.items ≡ out.old.items
         ++ requester.spelt_packet (queue_of q.now) (numbered_of n.now) (flat_map (λ b. b) (map (bytes_in (R.sight reach.old)) asks.now))) }
+    ensures size { OnOk result (length out.new.items ≤ length out.old.items + MAX_PACKET_BYTES) }
     ensures room { OnOk result (2 ≤ marks.new.room) }
     ensures same { reach.new ≡ reach.old }
     ensures err_marks { OnErr result (marks.new.marks ≡ marks.old.marks) }
