@@ -4,3 +4,4 @@ pub mod Outcome
 pub mod Progress
 pub mod Packets
 pub mod Responses
+pub mod Timers

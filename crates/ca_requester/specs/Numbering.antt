@@ -49,4 +49,5 @@ pub record IsNext (q : QueuePair) (next : Next) : Type 0 where
   pub begun : next.begins ≡ true → numbering.next_to_begin q ≡ Some (numbered_of next.request)
   pub sound : IsSound q (numbered_of next.request)
   pub within : next.begins ≡ false → (next.request.first ≤ q.requester.cursor) × (q.requester.cursor < next.request.first + next.request.count)
+  pub room : next.begins ≡ true → q.requester.next + 1 < 2 ^ 64
   pub at_end : next.begins ≡ true → next.request.first ≡ begun_end q

@@ -1,22 +1,25 @@
 -- The row of a requester's turn that sends a packet, or waits. Contracts cite it.
-use Rattle.std.specs.Prelude.{ℕ, Bool, true, false, if◌then◌else◌, [], Option, None, Some, Result, Ok, Err}
+use Rattle.std.specs.Prelude.{ℕ, suc, List, Bool, true, false, if◌then◌else◌, [], Option, None, Some, Result, Ok, Err}
 use Rattle.ca_base.specs.declared.refusals.OpRefusal.{OpRefusal}
 use Rattle.ca_base.specs.declared.request.SendRequest.{SendRequest}
 use Rattle.ca_base.specs.declared.step.Reason.{Reason}
 use Rattle.ca_base.specs.declared.step.Reason.TheVariants as reasons
+use Rattle.ca_base.specs.declared.queue_numbers.RequesterNumbers.{RequesterNumbers}
 use Rattle.ca_base.specs.objects.LocalRequest.{LocalMarks}
 use Rattle.ca_base.specs.objects.QueuePair.{QueuePair}
+use Rattle.ca_model.specs.declared.mark.Mark.{Mark}
+use Rattle.ca_rows.specs.Done.{Handed}
 use Rattle.ca_model.specs.Requests.{is_local}
 use Rattle.ca_model.specs.machine.LocalOperations.{operation_effects}
 use Rattle.ca_model.specs.machine.Numbering.{Numbered}
-use Rattle.ca_model.specs.machine.Requester.{RequestTurn, Waits, Performs, Sends, packet_row, turn_of}
+use Rattle.ca_model.specs.machine.Requester.{RequestTurn, Waits, Performs, Sends, begins, end_of_packet, packet_row, turn_of}
 use Rattle.ca_model.specs.machine.Row.{Effects, Row, plain_row, NotPossible, queue_and_marks}
 
 -- what a turn does on a request, where nothing stands against it
 abbrev pub turn_on : Numbered → RequestTurn
 turn_on n = if is_local n.request.op then Performs n else Sends n
 
--- the row of a turn: it waits, or it sends a packet; a turn that performs a local operation has no row here
+-- the row of a turn: it waits, or it sends a packet; one that performs a local operation has nothing to send
 abbrev pub turn_row : QueuePair → Bool → Row
 turn_row q room = by (turn_of q)
   where
@@ -47,3 +50,14 @@ operation_end q cause = by (turn_of q)
     by : RequestTurn → Effects
     by (Performs n) = operation_effects q n q no_marks cause
     by turn = queue_and_marks q []
+
+-- the requester's numbers after the next packet of a request is sent
+abbrev pub numbers_sent : QueuePair → Numbered → RequesterNumbers
+numbers_sent q n = record q.requester {
+  cursor = end_of_packet q n;
+  next = if begins q then suc q.requester.next else q.requester.next;
+}
+
+-- what an engine is handed
+abbrev pub handed : {S : Type 0} → QueuePair → List Mark → List ℕ → S → Handed S
+handed queue marks out reach = record { queue = queue; marks = marks; out = out; reach = reach }

@@ -154,6 +154,7 @@ pub fn next_to_begin(q: &QueuePart) -> Option<Numbered<'_>>
     requires narrow { AreNarrow (queue_of q.now) }
     ensures request { option_map numbered_of result ≡ numbering.next_to_begin (queue_of q.now) }
     ensures first { IfSome result (λ n. n.first ≡ begun_end (queue_of q.now)) }
+    ensures room { IfSome result (λ n. q.now.requester.next + 1 < 2 ^ 64) }
     ensures sound { IfSome result (λ n. IsSound (queue_of q.now) (numbered_of n)) }
 {
     first_not_begun(q, q.requester.oldest, q.requester.oldest_psn)
@@ -165,6 +166,7 @@ fn first_not_begun(q: &QueuePart, place: u64, first: u64) -> Option<Numbered<'_>
     requires within { IsWithin place first (queue_of q.now) }
     ensures request { option_map numbered_of result
         ≡ slice_get (numbers_from place first (queue_of q.now)) (q.now.requester.next - place) }
+    ensures room { IfSome result (λ n. q.now.requester.next + 1 < 2 ^ 64) }
     ensures first { IfSome result (λ n. n.first ≡ first + sum_by (λ m. m.count) (begun_from place first (queue_of q.now))) }
     ensures sound { IfSome result (λ n. IsSound (queue_of q.now) (numbered_of n)) }
 {

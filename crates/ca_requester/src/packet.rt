@@ -9,6 +9,7 @@ ghost use Rattle.ca_qpstate.specs.Seen.{queue_of};
 ghost use Rattle.ca_requester.specs.Numbering.{numbered_of, IsSound};
 ghost use Rattle.ca_requester.specs.Packets.{IsPacket, packet_fields, reth_of};
 ghost use Rattle.ca_rows.specs.Asks.{IsAskOf, touched_by};
+ghost use Rattle.ca_wire.specs.declared.packet.TheConstants.{MAX_PACKET_BYTES};
 ghost use Rattle.ca_wire.specs.Builders as packets;
 ghost use Rattle.ca_wire.specs.Packet.{IsWellFormed, fields_of};
 
@@ -20,7 +21,7 @@ use ca_qpstate::QueuePart;
 use ca_rows::{carried_bytes, list_asks, list_length, list_of, segments};
 use ca_wire::{
     AtomicEth, Packet, Reth, Segment, SendKind, cmp_swap, encode, fetch_add, read_request,
-    send_packet, write_packet,
+    send_packet, spelling_length, write_packet,
 };
 
 /// Which packet of its request the next one is.
@@ -92,9 +93,12 @@ pub(crate) fn spell(
     requires packet { IsPacket (queue_of q.now) (numbered_of n.now) }
     requires payload { length payload.now ≤ MAX_PAYLOAD_BYTES }
     ensures ok { OnOk result (out.new.items ≡ out.old.items ++ requester.spelt_packet (queue_of q.now) (numbered_of n.now) payload.now) }
+    ensures size { OnOk result (length out.new.items ≤ length out.old.items + MAX_PACKET_BYTES) }
     ensures err { OnErr result (out.new.items ≡ out.old.items) }
 {
-    encode(&packet_of(q, n, payload), out)
+    let packet = packet_of(q, n, payload);
+    spelling_length();
+    encode(&packet, out)
 }
 
 /// The next packet, with this payload.
@@ -116,10 +120,20 @@ fn packet_of<'a>(q: &QueuePart, n: &Numbered<'_>, payload: &'a [u8]) -> Packet<'
     match &request.op {
         SendOp::Send { list } => send_of(&head, SendKind::Plain, list.as_slice(), payload),
         SendOp::SendImm { imm, list } => {
-            send_of(&head, SendKind::WithImmediate(*imm), list.as_slice(), payload)
+            send_of(
+                &head,
+                SendKind::WithImmediate(*imm),
+                list.as_slice(),
+                payload,
+            )
         }
         SendOp::SendInv { key, list } => {
-            send_of(&head, SendKind::WithInvalidate(*key), list.as_slice(), payload)
+            send_of(
+                &head,
+                SendKind::WithInvalidate(*key),
+                list.as_slice(),
+                payload,
+            )
         }
         SendOp::Write { address, key, list } => {
             write_of(&head, *address, *key, None, list.as_slice(), payload)
@@ -150,7 +164,10 @@ fn packet_of<'a>(q: &QueuePart, n: &Numbered<'_>, payload: &'a [u8]) -> Packet<'
             cmp_swap(atomic, head.queue, head.psn)
         }
         SendOp::FetchAdd {
-            address, key, add, ..
+            address,
+            key,
+            add,
+            ..
         } => fetch_add(*address, *key, *add, head.queue, head.psn),
         SendOp::Bind1 { .. }
         | SendOp::Bind2 { .. }

@@ -130,7 +130,13 @@ pub(crate) fn push_progress(
     requires numbers { AreNumbers (queue_of q.now) numbers }
     ensures { OnOk result (made.new.items ≡ made.old.items ++ (acknowledgements.progress_to psn (with_requester numbers (queue_of q.now))).marks) }
 {
-    push_finished(q, numbers.oldest, numbers.oldest_psn, with_una(numbers, psn).una, made)
+    push_finished(
+        q,
+        numbers.oldest,
+        numbers.oldest_psn,
+        with_una(numbers, psn).una,
+        made,
+    )
 }
 
 /// How far an acknowledgement goes, whether it went back, and the numbers before it did.

@@ -139,7 +139,14 @@ fn has_more_packets(q: &QueuePart, place: u64, first: u64, upto: u64, most: u64)
         return false;
     };
     let packets = packets_between(q.requester.una, upto, &n);
-    packets > most || has_more_packets(q, place + 1, first + u64::from(n.count), upto, most - packets)
+    packets > most
+        || has_more_packets(
+            q,
+            place + 1,
+            first + u64::from(n.count),
+            upto,
+            most - packets,
+        )
 }
 
 /// Whether more READs and atomics than so many lie there.
@@ -152,7 +159,14 @@ fn has_more_answers(q: &QueuePart, place: u64, first: u64, upto: u64, most: u64)
         return false;
     };
     let answers = answers_between(q.requester.una, upto, &n);
-    answers > most || has_more_answers(q, place + 1, first + u64::from(n.count), upto, most - answers)
+    answers > most
+        || has_more_answers(
+            q,
+            place + 1,
+            first + u64::from(n.count),
+            upto,
+            most - answers,
+        )
 }
 
 /// How many request packets of a request lie from one PSN on and below another; a READ counts once.

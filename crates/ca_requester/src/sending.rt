@@ -1,0 +1,205 @@
+ghost use Rattle.std.specs.Prelude.{◌≡◌, ◌+◌, ◌≤◌, ◌++◌, Bool, false, not, if◌then◌else◌, None, Some, length, map, IfOk, IfErr, OnOk, OnErr};
+ghost use Rattle.std.specs.List.{AllByRecursion, flat_map};
+ghost use Rattle.ca_base.specs.declared.access.Kind.{Kind};
+ghost use Rattle.ca_base.specs.declared.limits.TheConstants.{MAX_PAYLOAD_BYTES, MAX_PIECES};
+ghost use Rattle.ca_base.specs.declared.step.Reason.{Reason};
+ghost use Rattle.ca_base.specs.Sight.{bytes_in};
+ghost use Rattle.ca_grant.specs.Reaching.{AreAtHand};
+ghost use Rattle.ca_model.specs.machine.Acknowledgements.{with_requester};
+ghost use Rattle.ca_model.specs.machine.Invariants.{IsQueue};
+ghost use Rattle.ca_model.specs.machine.Requester as requester;
+ghost use Rattle.ca_model.specs.machine.Row.{ending_of, plain_row, NotPossible};
+ghost use Rattle.ca_qpstate.specs.Seen.{queue_of};
+ghost use Rattle.ca_rows.specs.Asks.{IsAskOf, IsGranted, touched_by};
+ghost use Rattle.ca_rows.specs.Done.{IsTurn};
+ghost use Rattle.ca_rows.specs.Narrow.{AreNarrow};
+ghost use Rattle.ca_wire.specs.declared.packet.TheConstants.{MAX_PACKET_BYTES};
+ghost use Rattle.ca_requester.specs.Numbering.{numbered_of, IsNext};
+ghost use Rattle.ca_requester.specs.Packets.{IsPacket};
+ghost use Rattle.ca_requester.specs.Turn as turns;
+ghost use Rattle.ca_requester.specs.Turn.{handed, turn_row};
+
+use crate::numbering::{Next, Numbered};
+use crate::outcome::{Made, Outcome, make};
+use crate::packet::{packet_asks, spell};
+use crate::turn::{end_of_packet, is_too_much, turn_of};
+use arrayvec::ArrayVec;
+use ca_base::limits::MAX_PIECES;
+use ca_base::{Ask, Memory, Reason, RequesterNumbers, Sent, StepError, WcStatus};
+use ca_grant::Reach;
+use ca_model::Marks;
+use ca_qpstate::QueuePart;
+use ca_rows::{DeniedAsk, first_denied, is_local, join, local_denial, mark_reads, read_all};
+use std::alloc::Global;
+
+/// The asks that `next_packet` may make, in order; it makes no other. It takes no memory.
+pub fn next_asks(q: &QueuePart) -> ArrayVec<Ask, MAX_PIECES>
+    requires queue { IsQueue (queue_of q.now) }
+    requires narrow { AreNarrow (queue_of q.now) }
+    ensures { (room : Bool) → result.items ≡ (turn_row (queue_of q.now) room).asks }
+{
+    match next_to_send(q) {
+        Ok(next) => packet_asks(q, &next.request),
+        Err(_) => ArrayVec::new(),
+    }
+}
+
+/// The request of which the turn sends a packet, if nothing denies it, or the first reason for which it sends none.
+#[tactic(auto, using(crate::proofs::TurnLemmas::is_packet))]
+fn next_to_send(q: &QueuePart) -> Result<Next<'_>, Reason>
+    requires queue { IsQueue (queue_of q.now) }
+    requires narrow { AreNarrow (queue_of q.now) }
+    ensures waits { IfErr result (λ reason. (room : Bool) → turn_row (queue_of q.now) room ≡ plain_row (NotPossible reason)) }
+    ensures sends { IfOk result (λ next. (room : Bool) → turn_row (queue_of q.now) room ≡ requester.packet_row (queue_of q.now) room (numbered_of next.request)) }
+    ensures fits { IfOk result (λ next. requester.is_too_much (queue_of q.now) (numbered_of next.request) ≡ false) }
+    ensures packet { IfOk result (λ next. IsPacket (queue_of q.now) (numbered_of next.request)) }
+    ensures next { IfOk result (λ next. IsNext (queue_of q.now) next) }
+{
+    match turn_of(q) {
+        Err(reason) => Err(reason),
+        Ok(next) if is_local(next.request.op()) => Err(Reason::Empty),
+        Ok(next) if is_too_much(q, &next.request) => Err(Reason::Outstanding),
+        Ok(next) => Ok(next),
+    }
+}
+
+/// Sends the next packet: spells it into `out`, in at most 4128 bytes, where the peer has `room` for it. After Ok there is
+/// room for two more marks. Where it is not possible now, and where memory ends, nothing changes. A turn that performs a
+/// local operation has nothing to send, and is `Empty` here.
+#[tactic(auto, using(crate::proofs::TurnLemmas::handed_on))]
+pub fn next_packet<R: Reach>(
+    alloc: Global,
+    q: &mut QueuePart,
+    reach: &mut R,
+    room: bool,
+    marks: &mut Marks,
+    out: &mut Vec<u8>,
+) -> Result<Sent, StepError>
+    requires queue { IsQueue (queue_of q.old) }
+    requires narrow { AreNarrow (queue_of q.old) }
+    requires at_hand { AreAtHand R.sight R.judges R.touches reach.old (turn_row (queue_of q.old) room).asks }
+    ensures turn { IsTurn R.written result (ending_of (R.sight reach.old) (turn_row (queue_of q.old) room))
+        (handed (queue_of q.old) marks.old.marks out.old.items reach.old)
+        (handed (queue_of q.new) marks.new.marks out.new.items reach.new) }
+    ensures room { OnOk result (2 ≤ marks.new.room) }
+    ensures size { OnOk result (length out.new.items ≤ length out.old.items + MAX_PACKET_BYTES) }
+{
+    let next = match next_to_send(q) {
+        Err(reason) => return Err(StepError::NotReady(reason)),
+        Ok(next) => next,
+    };
+    let asks = packet_asks(q, &next.request);
+    match first_denied(reach, asks.as_slice()) {
+        Some(denied) => match denied_refusal(q, room) {
+            Some(reason) => Err(StepError::NotReady(reason)),
+            None => {
+                fail_list(alloc, q, &denied, marks)?;
+                Ok(Sent::Silent)
+            }
+        },
+        None if !room => Err(StepError::NotReady(Reason::NoRoom)),
+        None => {
+            let numbers = numbers_sent(q, &next);
+            let place = next.request.place;
+            read_and_spell(alloc, q, &next.request, reach, asks.as_slice(), marks, out)?;
+            q.requester = numbers;
+            Ok(Sent::Spelt {
+                request: Some(place),
+            })
+        }
+    }
+}
+
+/// Why a denied list does not fail its request now: something is outstanding, or the peer has no room.
+fn denied_refusal(q: &QueuePart, room: bool) -> Option<Reason>
+    ensures { result ≡ (if requester.is_outstanding (queue_of q.now) then Some Reason.Outstanding else if not room then Some Reason.NoRoom else None) }
+{
+    if q.requester.una < q.requester.cursor {
+        return Some(Reason::Outstanding);
+    }
+    if room { None } else { Some(Reason::NoRoom) }
+}
+
+/// The request whose list is denied fails.
+fn fail_list(
+    alloc: Global,
+    q: &mut QueuePart,
+    denied: &DeniedAsk,
+    marks: &mut Marks,
+) -> Result<(), Memory>
+    requires queue { IsQueue (queue_of q.old) }
+    ensures queue { OnOk result (queue_of q.new ≡ (requester.denied_list_effects (queue_of q.old) denied.now).queue) }
+    ensures marks { OnOk result (marks.new.marks ≡ marks.old.marks ++ (requester.denied_list_effects (queue_of q.old) denied.now).marks) }
+    ensures room { OnOk result (2 ≤ marks.new.room) }
+    ensures err { OnErr result (q.new ≡ q.old) }
+    ensures err_marks { OnErr result (marks.new.marks ≡ marks.old.marks) }
+{
+    let mut first = Vec::new(alloc);
+    first.push(local_denial(denied))?;
+    let made = Made {
+        marks: first,
+        outcome: Outcome::Fails {
+            numbers: q.requester,
+            status: WcStatus::LocalProtection,
+            cause: None,
+        },
+    };
+    make(q, made, marks)
+}
+
+/// The requester's numbers after the packet.
+fn numbers_sent(q: &QueuePart, next: &Next<'_>) -> RequesterNumbers
+    requires narrow { AreNarrow (queue_of q.now) }
+    requires next { IsNext (queue_of q.now) next.now }
+    ensures { result ≡ turns.numbers_sent (queue_of q.now) (numbered_of next.now.request) }
+{
+    let numbers = RequesterNumbers {
+        cursor: end_of_packet(q, &next.request),
+        ..q.requester
+    };
+    if next.begins {
+        return RequesterNumbers {
+            next: q.requester.next + 1,
+            ..numbers
+        };
+    }
+    numbers
+}
+
+/// Reads the bytes of a packet, spells it, and adds a mark for each piece that was read.
+#[tactic(auto, using(crate::proofs::TurnLemmas::marks_read, crate::proofs::TurnLemmas::bytes_read, crate::proofs::TurnLemmas::reads_count))]
+fn read_and_spell<R: Reach>(
+    alloc: Global,
+    q: &QueuePart,
+    n: &Numbered<'_>,
+    reach: &mut R,
+    asks: &[Ask],
+    marks: &mut Marks,
+    out: &mut Vec<u8>,
+) -> Result<(), Memory>
+    requires queue { IsQueue (queue_of q.now) }
+    requires packet { IsPacket (queue_of q.now) (numbered_of n.now) }
+    requires keys { AllByRecursion (R.judges reach.old) asks.now }
+    requires bytes { AllByRecursion (R.touches reach.old) asks.now }
+    requires reads { AllByRecursion (IsAskOf Kind.Read) asks.now }
+    requires allowed { AllByRecursion (IsGranted (R.sight reach.old)) asks.now }
+    requires touched { touched_by asks.now ≤ MAX_PAYLOAD_BYTES }
+    requires few { length asks.now ≤ MAX_PIECES }
+    ensures marks { OnOk result (marks.new.marks ≡ marks.old.marks ++ requester.local_reads asks.now (map (bytes_in (R.sight reach.old)) asks.now)) }
+    ensures out { OnOk result (out.new.items ≡ out.old.items
+        ++ requester.spelt_packet (queue_of q.now) (numbered_of n.now) (flat_map (λ b. b) (map (bytes_in (R.sight reach.old)) asks.now))) }
+    ensures size { OnOk result (length out.new.items ≤ length out.old.items + MAX_PACKET_BYTES) }
+    ensures room { OnOk result (2 ≤ marks.new.room) }
+    ensures same { reach.new ≡ reach.old }
+    ensures err_marks { OnErr result (marks.new.marks ≡ marks.old.marks) }
+    ensures err_out { OnErr result (out.new.items ≡ out.old.items) }
+{
+    let mut reads = Vec::new(alloc);
+    read_all(alloc, reach, asks, &mut reads)?;
+    marks.reserve(asks.len() as u32 + 2)?;
+    let mut joined = Vec::new(alloc);
+    let payload = join(reads.as_slice(), &mut joined)?;
+    spell(q, n, payload, out)?;
+    mark_reads(reads, marks);
+    Ok(())
+}
