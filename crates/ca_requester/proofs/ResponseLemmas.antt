@@ -1,5 +1,5 @@
 -- What a response makes: the row of an acknowledgement that went back or on, and the request that an answer fits.
-use Rattle.std.proofs.Common.{◌≡◌, ℕ, suc, ◌-◌, ◌≤◌, arith, refl, sym, ap, ◌∙◌, Bool, true, false, if◌then◌else◌, List, [], ◌++◌, find, take, Option, None, Some, append-nil}
+use Rattle.std.proofs.Common.{◌≡◌, ℕ, ◌-◌, arith, refl, sym, ap, ◌∙◌, Bool, true, false, if◌then◌else◌, [], ◌++◌, find, take, Option, None, Some, append-nil}
 use Rattle.ca_base.specs.declared.queue_numbers.RequesterNumbers.{RequesterNumbers}
 use Rattle.ca_base.specs.declared.completion.WcStatus.TheVariants.{BadResponse}
 use Rattle.ca_base.specs.objects.QueuePair.{QueuePair}
@@ -8,7 +8,7 @@ use Rattle.std.specs.Option.{option_and_then}
 use Rattle.ca_model.specs.machine.Acknowledgements.{acknowledgement_below, and_then, failure_effects, one_retry, progress_to, with_requester}
 use Rattle.ca_model.specs.machine.Expected.{behind_marks}
 use Rattle.ca_model.specs.machine.Invariants.{IsQueue}
-use Rattle.ca_model.specs.machine.Numbering.{Numbered, begun_requests, has_psn, request_at}
+use Rattle.ca_model.specs.machine.Numbering.{Numbered, has_psn, request_at}
 use Rattle.ca_model.specs.machine.Responses.{answer_row, fits_request, fitting_row, unless_back}
 use Rattle.ca_model.specs.machine.Row.{Effects, Row, queue_and_marks, plain_row, Does}
 use Rattle.ca_requester.specs.declared.outcome.Outcome.{Outcome}

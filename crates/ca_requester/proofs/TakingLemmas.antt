@@ -1,5 +1,5 @@
 -- What comes of an answer: its list is denied, or its bytes are placed.
-use Rattle.std.proofs.Common.{◌≡◌, suc, ap, ◌∙◌, sym, List, [], ◌∷◌, ◌++◌, None, append_assoc}
+use Rattle.std.proofs.Common.{◌≡◌, ap, ◌∙◌, List, [], ◌∷◌, ◌++◌, None, append_assoc}
 use Rattle.ca_base.specs.declared.completion.WcStatus.TheVariants.{LocalProtection}
 use Rattle.ca_base.specs.Sight.{DeniedAsk}
 use Rattle.ca_base.specs.objects.QueuePair.{QueuePair}

@@ -98,11 +98,7 @@ fn answer_length(p: &Packet<'_>) -> u32
 }
 
 /// The bytes that an answer brings, cut for the asks to which they go.
-fn cut_answer(
-    alloc: Global,
-    p: &Packet<'_>,
-    asks: &[Ask],
-) -> Result<Vec<(Ask, Bytes)>, Memory>
+fn cut_answer(alloc: Global, p: &Packet<'_>, asks: &[Ask]) -> Result<Vec<(Ask, Bytes)>, Memory>
     requires asks { AllByRecursion (IsAskOf Kind.Write) asks.now }
     requires enough { touched_by asks.now ≤ length (rows.answer_bytes (fields_of p.now)) }
     ensures value { IfOk result (λ writes. writes.items ≡ rows.writes_by asks.now (rows.answer_bytes (fields_of p.now))) }
@@ -178,12 +174,7 @@ fn drop_packet(queue: QueueId, cause: Drop1, marks: &mut Marks) -> Result<(), Me
 
 /// What is acknowledged completes, and then comes the outcome.
 #[tactic(auto, using(crate::proofs::ProgressLemmas::own_numbers))]
-fn end(
-    alloc: Global,
-    q: &mut QueuePart,
-    ended: Ended,
-    marks: &mut Marks,
-) -> Result<(), Memory>
+fn end(alloc: Global, q: &mut QueuePart, ended: Ended, marks: &mut Marks) -> Result<(), Memory>
     requires queue { IsQueue (queue_of q.old) }
     requires narrow { AreNarrow (queue_of q.old) }
     requires ahead { AreAhead (queue_of q.old) (numbers_of ended.outcome) }

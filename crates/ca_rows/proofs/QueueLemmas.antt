@@ -1,5 +1,5 @@
 -- The requests of a work queue from a place on.
-use Rattle.std.proofs.Common.{◌≡◌, ℕ, zero, suc, ◌+◌, ◌-◌, ◌≤◌, ◌<◌, nat_lt, arith, refl, sym, ap, ◌∙◌, true≢false, is_some, Bool, true, false, List, [], ◌∷◌, drop, length, Option, None, Some, slice_get}
+use Rattle.std.proofs.Common.{◌≡◌, ℕ, zero, suc, ◌-◌, ◌≤◌, nat_lt, arith, refl, sym, ap, ◌∙◌, true≢false, is_some, false, List, [], ◌∷◌, drop, length, None, Some, slice_get}
 use Rattle.std.proofs.Math.Seq.{drop-cons}
 use Rattle.std.proofs.lemmas.Bool.{le-ltb}
 use Rattle.std.proofs.lemmas.List.{drop_all}
