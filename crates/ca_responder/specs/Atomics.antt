@@ -1,0 +1,37 @@
+-- What an atomic leaves at its responder. Contracts cite it.
+use Rattle.std.specs.Prelude.{ℕ, Bool, false, true, Result, Ok, Err}
+use Rattle.ca_base.specs.declared.access.Kind.{Kind}
+use Rattle.ca_base.specs.declared.access.Kind.TheVariants as kinds
+use Rattle.ca_base.specs.declared.memory.Memory.{Memory}
+use Rattle.ca_base.specs.declared.queue_numbers.Queued.TheVariants as queued
+use Rattle.ca_base.specs.declared.verdict.Verdict.{Verdict}
+use Rattle.ca_base.specs.declared.verdict.Verdict.TheVariants as verdicts
+use Rattle.ca_base.specs.objects.QueuePair.{QueuePair}
+use Rattle.ca_base.specs.objects.Saved.{after_save}
+use Rattle.ca_model.specs.machine.Arrivals.{with_answer}
+use Rattle.ca_responder.specs.Numbers.{passed}
+
+-- the kinds of atomics
+abbrev pub IsAtomicKind : Kind → Type 0
+IsAtomicKind kinds.Read = ⊥
+IsAtomicKind kinds.Write = ⊥
+IsAtomicKind kinds.CmpSwap = Unit {0}
+IsAtomicKind kinds.FetchAdd = Unit {0}
+
+-- the number that an atomic found
+abbrev pub found_in : Verdict → ℕ
+found_in (verdicts.Read bytes) = 0
+found_in (verdicts.Wrote bytes) = 0
+found_in (verdicts.Swapped found put) = found
+found_in (verdicts.Denied denial) = 0
+
+-- what an atomic found is saved and queued, and the packet is accepted
+abbrev pub after_atomic : ℕ → QueuePair → QueuePair
+after_atomic found q = passed 1 true (record (with_answer (queued.Atomic q.responder.expected found false) q) {
+  saved = after_save q.responder.expected found q.saved;
+})
+
+-- the answer of a call that takes no receive of the shared receive queue
+abbrev pub with_shared : Bool → Result (Unit {0}) Memory → Result Bool Memory
+with_shared shared (Ok done) = Ok shared
+with_shared shared (Err memory) = Err memory
