@@ -5,6 +5,7 @@ use Rattle.std.specs.List.{AllByRecursion}
 use Rattle.ca_base.specs.declared.access.Ask.{Ask}
 use Rattle.ca_base.specs.declared.access.Kind.{Kind}
 use Rattle.ca_base.specs.declared.access.Kind.TheVariants as kinds
+use Rattle.ca_base.specs.declared.verdict.Verdict.{Verdict}
 use Rattle.ca_base.specs.declared.verdict.Verdict.TheVariants as verdicts
 use Rattle.ca_base.specs.Sight.{Sight, bytes_in, denial_in}
 use Rattle.ca_grant.specs.Reaching.{IsPacketAsk}
@@ -34,13 +35,14 @@ abbrev pub payload_of : List (Ask × List ℕ) → List ℕ
 payload_of [] = []
 payload_of (x ∷ xs) = x.1 ++ payload_of xs
 
--- the mark of a piece that was read
-abbrev pub read_mark : Ask × List ℕ → Mark
-read_mark x = marks.Local x.0.queue x.0.domain x.0.key x.0.kind x.0.address x.0.length (verdicts.Read x.1)
+-- the mark of a use of an L_Key
+abbrev pub mark_of : Ask → Verdict → Mark
+mark_of ask verdict = marks.Local ask.queue ask.domain ask.key ask.kind ask.address ask.length verdict
 
+-- the marks of pieces that were read
 abbrev pub read_marks : List (Ask × List ℕ) → List Mark
 read_marks [] = []
-read_marks (x ∷ xs) = read_mark x ∷ read_marks xs
+read_marks (x ∷ xs) = mark_of x.0 (verdicts.Read x.1) ∷ read_marks xs
 
 -- an access by an ask that may be handed on for writing, with as many bytes as it touches
 pub record IsWrite (x : Ask × List ℕ) : Type 0 where
@@ -51,3 +53,9 @@ pub record IsWrite (x : Ask × List ℕ) : Type 0 where
 abbrev pub asks_of : List (Ask × List ℕ) → List Ask
 asks_of [] = []
 asks_of (x ∷ xs) = x.0 ∷ asks_of xs
+
+-- accesses that write: the parts of their keys and their bytes are at hand, and none is denied
+abbrev pub CanWrite : {S : Type 0} (sight : S → Sight) (judges touches : S → Ask → Type 0) (s : S) → List (Ask × List ℕ) → Type 0
+CanWrite sight judges touches s [] = Unit {0}
+CanWrite sight judges touches s (x ∷ xs) =
+    (judges s x.0 × touches s x.0 × IsGranted (sight s) x.0 × IsWrite x) × CanWrite sight judges touches s xs

@@ -1,7 +1,7 @@
 ghost use Rattle.std.specs.Prelude.{◌≡◌, ◌≤◌, ◌++◌, OnOk};
-ghost use Rattle.ca_base.specs.objects.WorkQueue.{items_from};
+ghost use Rattle.ca_base.specs.objects.WorkQueue.{items_from, next_place};
 ghost use Rattle.ca_model.specs.machine.Completions as completions;
-ghost use Rattle.ca_model.specs.machine.Invariants.{IsQueue};
+ghost use Rattle.ca_model.specs.machine.Invariants.{IsQueue, IsReceives};
 ghost use Rattle.ca_qpstate.specs.Seen.{queue_of};
 ghost use Rattle.ca_rows.specs.Flush.{with_oldest};
 
@@ -18,7 +18,7 @@ pub fn push_flushed(q: &QueuePart, oldest: u64, made: &mut Vec<Mark>) -> Result<
     requires oldest { q.now.requester.oldest ≤ oldest }
     ensures { OnOk result (made.new.items ≡ made.old.items ++ completions.flush_marks (with_oldest oldest (queue_of q.now))) }
 {
-    push_flushed_sends(q.queue, &q.sends, oldest, made)?;
+    push_flushed_sends(q.queue, &q.sends, oldest, q.sends.next_place(), made)?;
     push_flushed_message(q.queue, &q.responder.message, made)?;
     if let Some(receives) = &q.receives {
         push_waiting_receives(q.queue, receives, made)?;
@@ -26,22 +26,26 @@ pub fn push_flushed(q: &QueuePart, oldest: u64, made: &mut Vec<Mark>) -> Result<
     Ok(())
 }
 
+#[tactic(auto, using(crate::proofs::QueueLemmas::items_step, crate::proofs::QueueLemmas::items_past, crate::proofs::QueueLemmas::items_none))]
 fn push_flushed_sends(
     queue: QueueId,
     sends: &WorkQueue<PostedSend>,
     place: u64,
+    end: u64,
     made: &mut Vec<Mark>,
 ) -> Result<(), Memory>
-    requires { sends.now.first ≤ place }
+    requires posted { sends.now.first ≤ place }
+    requires end { end ≡ next_place sends.now }
     ensures { OnOk result (made.new.items ≡ made.old.items ++ completions.flushed_sends queue place (items_from place sends.now)) }
 {
-    match sends.get(place) {
-        None => Ok(()),
-        Some(posted) => {
-            made.push(failure_mark(queue, place, &posted.request, WcStatus::Flushed, None))?;
-            push_flushed_sends(queue, sends, place + 1, made)
-        }
+    if place >= end {
+        return Ok(());
     }
+    let Some(posted) = sends.get(place) else {
+        return Ok(());
+    };
+    made.push(failure_mark(queue, place, &posted.request, WcStatus::Flushed, None))?;
+    push_flushed_sends(queue, sends, place + 1, end, made)
 }
 
 fn push_flushed_message(
@@ -62,27 +66,31 @@ fn push_waiting_receives(
     receives: &WorkQueue<RecvRequest>,
     made: &mut Vec<Mark>,
 ) -> Result<(), Memory>
-    requires { receives.now.first ≤ receives.now.next_taken }
+    requires { IsReceives receives.now }
     ensures { OnOk result (made.new.items ≡ made.old.items ++ completions.flushed_receives queue receives.now.next_taken (items_from receives.now.next_taken receives.now)) }
 {
-    let next = receives.next_place() - u64::from(receives.waiting());
-    push_flushed_receives(queue, receives, next, made)
+    let end = receives.next_place();
+    push_flushed_receives(queue, receives, end - u64::from(receives.waiting()), end, made)
 }
 
+#[tactic(auto, using(crate::proofs::QueueLemmas::items_step, crate::proofs::QueueLemmas::items_past, crate::proofs::QueueLemmas::items_none))]
 fn push_flushed_receives(
     queue: QueueId,
     receives: &WorkQueue<RecvRequest>,
     place: u64,
+    end: u64,
     made: &mut Vec<Mark>,
 ) -> Result<(), Memory>
-    requires { receives.now.first ≤ place }
+    requires posted { receives.now.first ≤ place }
+    requires end { end ≡ next_place receives.now }
     ensures { OnOk result (made.new.items ≡ made.old.items ++ completions.flushed_receives queue place (items_from place receives.now)) }
 {
-    match receives.get(place) {
-        None => Ok(()),
-        Some(receive) => {
-            made.push(receive_failure(queue, place, receive, WcStatus::Flushed, None))?;
-            push_flushed_receives(queue, receives, place + 1, made)
-        }
+    if place >= end {
+        return Ok(());
     }
+    let Some(receive) = receives.get(place) else {
+        return Ok(());
+    };
+    made.push(receive_failure(queue, place, receive, WcStatus::Flushed, None))?;
+    push_flushed_receives(queue, receives, place + 1, end, made)
 }

@@ -10,24 +10,25 @@ use ca_base::limits::MAX_PIECES;
 use ca_base::{Ask, DomainId, Kind, Piece, QueueId};
 
 /// The bytes of a list, which are no more than a message may have.
+#[tactic(auto, using(crate::proofs::ListLemmas::longer_list))]
 pub fn list_length(list: &[Piece]) -> u32
     requires { requests.list_length list.now ≤ MAX_MESSAGE_BYTES }
     ensures { result ≡ requests.list_length list.now }
 {
-    let mut bytes = 0;
-    for piece in list {
-        bytes += piece.length;
+    match list {
+        [] => 0,
+        [piece, rest @ ..] => piece.length + list_length(rest),
     }
-    bytes
 }
 
 /// The asks of a queue pair for so many bytes of a list, without so many at its front, one a piece. An ask is for at most
 /// a packet's bytes.
+#[tactic(auto, using(crate::proofs::ListLemmas::cut_touches, crate::proofs::ListLemmas::cut_are_asks))]
 pub fn list_asks(
     queue: QueueId,
     domain: DomainId,
     kind: Kind,
-    skip: u64,
+    skip: u32,
     count: u32,
     list: &[Piece],
 ) -> ArrayVec<Ask, MAX_PIECES>
@@ -47,7 +48,7 @@ fn push_asks(
     queue: QueueId,
     domain: DomainId,
     kind: Kind,
-    skip: u64,
+    skip: u32,
     count: u32,
     list: &[Piece],
     asks: &mut ArrayVec<Ask, MAX_PIECES>,
@@ -58,15 +59,15 @@ fn push_asks(
     let [piece, rest @ ..] = list else {
         return;
     };
-    let length = u64::from(piece.length);
-    if length <= skip {
-        return push_asks(queue, domain, kind, skip - length, count, rest, asks);
+    if piece.length <= skip {
+        let skip = skip - piece.length;
+        return push_asks(queue, domain, kind, skip, count, rest, asks);
     }
     if count == 0 {
         return;
     }
-    let part = count.min((length - skip) as u32);
-    asks.push(piece_ask(queue, domain, kind, piece, skip as u32, part));
+    let part = count.min(piece.length - skip);
+    asks.push(piece_ask(queue, domain, kind, piece, skip, part));
     push_asks(queue, domain, kind, 0, count - part, rest, asks)
 }
 

@@ -1,7 +1,7 @@
 ghost use Rattle.std.specs.Prelude.{◌≡◌, ◌+◌, [], ◌++◌, IfOk, OnOk, length};
 ghost use Rattle.std.specs.List.{AllByRecursion};
 ghost use Rattle.ca_base.specs.declared.access.Kind.{Kind};
-ghost use Rattle.ca_rows.specs.Asks.{IsAskOf, IsGranted, payload_of, read_mark, read_marks, reads_by, touched_by};
+ghost use Rattle.ca_rows.specs.Asks.{IsAskOf, IsGranted, mark_of, payload_of, read_marks, reads_by, touched_by};
 
 use ca_base::{Ask, Bytes, Memory, Verdict};
 use ca_grant::Reach;
@@ -72,7 +72,9 @@ pub fn push_reads(reads: Vec<(Ask, Bytes)>, made: &mut Vec<Mark>) -> Result<(), 
 }
 
 /// The mark of a use of an L_Key.
-pub fn local_mark(ask: &Ask, verdict: Verdict) -> Mark {
+pub fn local_mark(ask: &Ask, verdict: Verdict) -> Mark
+    ensures { result ≡ mark_of ask.now verdict }
+{
     Mark::Local {
         queue: ask.queue,
         domain: ask.domain,

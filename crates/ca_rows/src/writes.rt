@@ -2,7 +2,9 @@ ghost use Rattle.std.specs.Prelude.{◌≡◌, ◌+◌, ◌≤◌, ◌++◌, IfO
 ghost use Rattle.std.specs.List.{AllByRecursion};
 ghost use Rattle.ca_base.specs.declared.access.Kind.{Kind};
 ghost use Rattle.ca_model.specs.machine.Responses as responses;
-ghost use Rattle.ca_rows.specs.Asks.{IsAskOf, IsGranted, IsWrite, asks_of, touched_by};
+ghost use Rattle.std.specs.Vec.Iter.{into_iter_items};
+ghost use Rattle.ca_base.specs.Sight.{Invalidation};
+ghost use Rattle.ca_rows.specs.Asks.{CanWrite, IsAskOf, IsWrite, asks_of, touched_by};
 ghost use Rattle.ca_rows.specs.Done.{written_all};
 
 use crate::reads::local_mark;
@@ -10,8 +12,10 @@ use ca_base::{Ask, Bytes, Memory};
 use ca_grant::Reach;
 use ca_model::Marks;
 use std::alloc::Global;
+use std::vec::IntoIter;
 
 /// Cuts bytes for these asks in order, each as many as the ask touches. The asks touch no more bytes than there are.
+#[tactic(auto, using(crate::proofs::WriteLemmas::cut_asks, crate::proofs::WriteLemmas::cut_are_writes))]
 pub fn cut_writes(alloc: Global, asks: &[Ask], bytes: &[u8]) -> Result<Vec<(Ask, Bytes)>, Memory>
     requires asks { AllByRecursion (IsAskOf Kind.Write) asks.now }
     requires enough { touched_by asks.now ≤ length bytes.now }
@@ -44,17 +48,31 @@ fn push_writes(
 /// Writes the bytes of each access to its places, and adds a mark for each, in the spare room. None of them is denied. It
 /// takes no memory.
 pub fn write_all<R: Reach>(reach: &mut R, writes: Vec<(Ask, Bytes)>, marks: &mut Marks)
-    requires keys { AllByRecursion (R.judges reach.old) (asks_of writes.items) }
-    requires bytes { AllByRecursion (R.touches reach.old) (asks_of writes.items) }
-    requires allowed { AllByRecursion (IsGranted (R.sight reach.old)) (asks_of writes.items) }
-    requires writes { AllByRecursion IsWrite writes.items }
+    requires can { CanWrite R.sight R.judges R.touches reach.old writes.items }
     requires room { length writes.items ≤ marks.old.room }
     ensures wrote { reach.new ≡ written_all R.written reach.old writes.items }
     ensures marks { marks.new.marks ≡ marks.old.marks ++ responses.local_writes writes.items }
     ensures room { marks.old.room ≤ marks.new.room + length writes.items }
+    ensures ends { (i : Invalidation) → R.ends reach.old i → R.ends reach.new i }
+    ensures refusal { (i : Invalidation) → (R.sight reach.new).refusal i ≡ (R.sight reach.old).refusal i }
 {
-    for (ask, bytes) in writes {
-        let verdict = reach.write(&ask, bytes);
-        marks.push(local_mark(&ask, verdict));
-    }
+    write_rest(reach, writes.into_iter(), marks)
+}
+
+#[tactic(auto, using(crate::proofs::WriteLemmas::can_still))]
+fn write_rest<R: Reach>(reach: &mut R, mut writes: IntoIter<(Ask, Bytes)>, marks: &mut Marks)
+    requires can { CanWrite R.sight R.judges R.touches reach.old (into_iter_items writes) }
+    requires room { length (into_iter_items writes) ≤ marks.old.room }
+    ensures wrote { reach.new ≡ written_all R.written reach.old (into_iter_items writes) }
+    ensures marks { marks.new.marks ≡ marks.old.marks ++ responses.local_writes (into_iter_items writes) }
+    ensures room { marks.old.room ≤ marks.new.room + length (into_iter_items writes) }
+    ensures ends { (i : Invalidation) → R.ends reach.old i → R.ends reach.new i }
+    ensures refusal { (i : Invalidation) → (R.sight reach.new).refusal i ≡ (R.sight reach.old).refusal i }
+{
+    let Some((ask, bytes)) = writes.next() else {
+        return;
+    };
+    let verdict = reach.write(&ask, bytes);
+    marks.push(local_mark(&ask, verdict));
+    write_rest(reach, writes, marks)
 }

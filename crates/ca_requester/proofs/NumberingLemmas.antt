@@ -1,0 +1,96 @@
+-- The posted requests from a place on, one after another.
+use Rattle.std.proofs.Common.{zero, ◌≡◌, ℕ, suc, ◌+◌, ◌-◌, ◌≤◌, nat_lt, arith, refl, sym, ap, ◌∙◌, subst, false, List, [], ◌∷◌, drop, length, None, Some, slice_get}
+use Rattle.std.proofs.lemmas.Bool.{le-ltb}
+use Rattle.std.proofs.lemmas.List.{drop_all, length-drop}
+use Rattle.std.proofs.lemmas.Option.{same_Some}
+use Rattle.std.specs.List.{AllByRecursion}
+use Rattle.ca_base.specs.declared.limits.TheConstants.{MAX_MESSAGE_BYTES}
+use Rattle.ca_base.specs.objects.QueuePair.{PostedSend, QueuePair}
+use Rattle.ca_base.specs.objects.WorkQueue.{WorkQueue, item_at, items_from, next_place}
+use Rattle.ca_model.specs.Requests.{list_of, psns_of}
+use Rattle.ca_model.specs.machine.Numbering.{Numbered, numbers_of}
+use Rattle.ca_model.specs.machine.Invariants.{IsList, IsQueue, IsSend}
+use Rattle.ca_rows.specs.Narrow.{AreNarrow}
+use Rattle.ca_requester.specs.Numbering.{IsSound, IsWithin, numbers_from}
+
+-- the element at a place stands before those behind it
+drop-step : {T : Type 0} (xs : List T) (i : ℕ) (x : T) → slice_get xs i ≡ Some x → drop i xs ≡ x ∷ drop (suc i) xs
+drop-step [] i x e = cc
+drop-step (y ∷ ys) zero x e = cc
+drop-step (y ∷ ys) (suc i) x e = drop-step ys i x e
+
+drop-none : {T : Type 0} (xs : List T) (i : ℕ) → slice_get xs i ≡ None → drop i xs ≡ []
+drop-none [] zero e = refl
+drop-none [] (suc i) e = refl
+drop-none (y ∷ ys) zero e = cc
+drop-none (y ∷ ys) (suc i) e = drop-none ys i e
+
+-- a request that is not freed is looked for behind the first
+at-place : {T : Type 0} (q : WorkQueue T) (place : ℕ) → q.first ≤ place → item_at place q ≡ slice_get q.items (place - q.first)
+at-place q place le = let e : nat_lt place q.first ≡ false = le-ltb place q.first le in rw e
+
+-- the request at a place stands before those behind it
+pub item-step : {T : Type 0} (q : WorkQueue T) (place : ℕ) (x : T) → q.first ≤ place → item_at place q ≡ Some x → items_from place q ≡ x ∷ items_from (suc place) q
+item-step q place x le e =
+    let far : suc place - q.first ≡ suc (place - q.first) = omega arith in
+    rw far (drop-step q.items (place - q.first) x (sym (at-place q place le) ∙ e))
+
+-- where no request is at a place, none is behind it
+pub item-none : {T : Type 0} (q : WorkQueue T) (place : ℕ) → q.first ≤ place → item_at place q ≡ None → items_from place q ≡ []
+item-none q place le e = drop-none q.items (place - q.first) (sym (at-place q place le) ∙ e)
+
+-- what holds of all elements holds of the one at a place
+pub all-at : {T : Type 0} (P : T → Type 0) (xs : List T) (i : ℕ) (x : T) → AllByRecursion P xs → slice_get xs i ≡ Some x → P x
+all-at P [] i x all e = cc
+all-at P (y ∷ ys) zero x all e = subst P (same_Some y x e) all.0
+all-at P (y ∷ ys) (suc i) x all e = all-at P ys i x all.1 e
+
+-- what holds of all requests of a queue holds of the one at a place
+pub item-all : {T : Type 0} (P : T → Type 0) (q : WorkQueue T) (place : ℕ) (x : T) → AllByRecursion P q.items → q.first ≤ place → item_at place q ≡ Some x → P x
+item-all P q place x all le e = all-at P q.items (place - q.first) x all (sym (at-place q place le) ∙ e)
+
+-- a posted request with its place and its PSNs
+abbrev pub number_at : ℕ → ℕ → ℕ → PostedSend → Numbered
+number_at place psn count p = record { place = place; request = p.request; drawn = p.drawn; first = psn; count = count }
+
+-- the request at a place, numbered, stands before those behind it
+pub step-numbers : (q : QueuePair) (place psn count : ℕ) (p : PostedSend) → q.sends.first ≤ place → Some p ≡ item_at place q.sends
+    → count ≡ psns_of q.responder.mtu p.request.op
+    → numbers_from place psn q ≡ number_at place psn count p ∷ numbers_from (suc place) (psn + count) q
+step-numbers q place psn count p le e is = rw is (ap (numbers_of q.responder.mtu place psn) (item-step q.sends place p le (sym e)))
+
+-- where no request is at a place, none is numbered from there on
+pub no-numbers : (q : QueuePair) (place psn : ℕ) → q.sends.first ≤ place → None ≡ item_at place q.sends → numbers_from place psn q ≡ []
+no-numbers q place psn le e = ap (numbers_of q.responder.mtu place psn) (item-none q.sends place le (sym e))
+
+-- the PSNs behind a request are as narrow
+pub step-within : (q : QueuePair) (place psn count : ℕ) (p : PostedSend) → IsWithin place psn q → Some p ≡ item_at place q.sends → count ≤ MAX_MESSAGE_BYTES
+    → IsWithin (suc place) (psn + count) q
+step-within q place psn count p within e few = record {
+  posted = omega (arith, within.posted);
+  narrow = omega (arith, within.narrow, ap length (item-step q.sends place p within.posted (sym e)));
+}
+
+-- the list of a posted request is short
+pub step-list : (q : QueuePair) (place : ℕ) (p : PostedSend) → IsQueue q → q.sends.first ≤ place → Some p ≡ item_at place q.sends → IsList (list_of p.request.op)
+step-list q place p is le e = item-all IsSend q.sends place p is.sends.items le (sym e)
+
+-- a posted request is sound
+pub step-sound : (q : QueuePair) (place psn count : ℕ) (p : PostedSend) → IsQueue q → IsWithin place psn q → Some p ≡ item_at place q.sends
+    → count ≡ psns_of q.responder.mtu p.request.op → count ≤ MAX_MESSAGE_BYTES → IsSound q (number_at place psn count p)
+step-sound q place psn count p is within e counted few = record {
+  list = step-list q place p is within.posted e;
+  counted = counted;
+  narrow = omega (arith, within.narrow, ap length (item-step q.sends place p within.posted (sym e)));
+}
+
+-- the PSNs of the unfinished requests of a queue pair are narrow
+pub start_within : (q : QueuePair) → IsQueue q → AreNarrow q → IsWithin q.requester.oldest q.requester.oldest_psn q
+start_within q is narrow = record {
+  posted = is.requester.finished;
+  narrow = omega (arith, narrow.oldest_psn, is.sends.depth, is.sends.room, length-drop (q.requester.oldest - q.sends.first) q.sends.items);
+}
+
+-- none is numbered from a place on that is not posted yet
+pub past-numbers : (q : QueuePair) (place psn : ℕ) → next_place q.sends ≤ place → numbers_from place psn q ≡ []
+past-numbers q place psn le = ap (numbers_of q.responder.mtu place psn) (drop_all (place - q.sends.first) q.sends.items (omega (arith, le)))

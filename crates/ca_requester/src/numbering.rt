@@ -1,0 +1,167 @@
+ghost use Rattle.std.specs.Prelude.{◌≡◌, ◌+◌, ◌^◌, ◌<◌, ◌∷◌, [], suc, ◌-◌, false, None, find, slice_get, IfSome, IfNone};
+ghost use Rattle.std.specs.Option.{option_map};
+ghost use Rattle.ca_model.specs.machine.Invariants.{IsQueue};
+ghost use Rattle.ca_model.specs.machine.Numbering as numbering;
+ghost use Rattle.ca_model.specs.machine.Requester as requester;
+ghost use Rattle.ca_qpstate.specs.Seen.{queue_of};
+ghost use Rattle.ca_rows.specs.Narrow.{AreNarrow};
+ghost use Rattle.ca_requester.specs.Numbering.{numbered_of, numbers_from, begun_from, IsWithin, IsSound, IsNext};
+
+use ca_base::{SendOp, SendRequest};
+use ca_qpstate::{PostedSend, QueuePart};
+use ca_rows::psns_of;
+
+/// A posted request with its place and its PSNs: the first, and how many it has or would get.
+#[derive(Clone, Copy)]
+pub struct Numbered<'a> {
+    pub place: u64,
+    pub posted: &'a PostedSend,
+    pub first: u64,
+    pub count: u32,
+}
+
+impl Numbered<'_> {
+    ghost use Rattle.std.specs.Prelude.{◌≡◌, ◌+◌, ◌<◌, ◌^◌};
+    ghost use Rattle.ca_model.specs.machine.Numbering as numbering;
+    ghost use Rattle.ca_requester.specs.Numbering.{numbered_of};
+
+    /// The request itself.
+    pub(crate) fn request(&self) -> &SendRequest
+        ensures { result.now ≡ (numbered_of self.now).request }
+    {
+        let posted = self.posted;
+        &posted.request
+    }
+
+    /// What it asks for.
+    pub(crate) fn op(&self) -> &SendOp
+        ensures { result.now ≡ (numbered_of self.now).request.op }
+    {
+        let posted = self.posted;
+        &posted.request.op
+    }
+
+    /// The PSN behind its last.
+    pub(crate) fn end(&self) -> u64
+        requires { self.now.first + self.now.count < 2 ^ 63 }
+        ensures { result ≡ numbering.psn_end (numbered_of self.now) }
+    {
+        self.first + u64::from(self.count)
+    }
+}
+
+/// The request of which the next thing is, and whether it begins with it.
+#[derive(Clone, Copy)]
+pub struct Next<'a> {
+    pub request: Numbered<'a>,
+    pub begins: bool,
+}
+
+/// The request at a place, which has or would get the PSNs from `first` on. None comes exactly where none is posted there.
+pub(crate) fn numbered_at(q: &QueuePart, place: u64, first: u64) -> Option<Numbered<'_>>
+    requires queue { IsQueue (queue_of q.now) }
+    requires within { IsWithin place first (queue_of q.now) }
+    ensures none { IfNone result (numbers_from place first (queue_of q.now) ≡ []) }
+    ensures some { IfSome result (λ n. numbers_from place first (queue_of q.now)
+        ≡ numbered_of n ∷ numbers_from (suc place) (first + n.count) (queue_of q.now)) }
+    ensures sound { IfSome result (λ n. IsSound (queue_of q.now) (numbered_of n)) }
+    ensures place { IfSome result (λ n. place + 1 < 2 ^ 64) }
+    ensures within { IfSome result (λ n. IsWithin (suc place) (first + n.count) (queue_of q.now)) }
+{
+    if place >= q.sends.next_place() {
+        return None;
+    }
+    match q.sends.get(place) {
+        None => None,
+        Some(posted) => Some(Numbered {
+            place,
+            posted,
+            first,
+            count: psns_of(q.responder.mtu, &posted.request.op),
+        }),
+    }
+}
+
+/// The request that has begun and has this PSN. It takes no memory.
+#[tactic(auto, using(crate::proofs::NumberingLemmas::start_within))]
+pub fn request_at(q: &QueuePart, psn: u64) -> Option<Numbered<'_>>
+    requires queue { IsQueue (queue_of q.now) }
+    requires narrow { AreNarrow (queue_of q.now) }
+    ensures request { option_map numbered_of result ≡ numbering.request_at psn (queue_of q.now) }
+    ensures sound { IfSome result (λ n. IsSound (queue_of q.now) (numbered_of n)) }
+{
+    find_psn(q, q.requester.oldest, q.requester.oldest_psn, psn)
+}
+
+/// The request that has this PSN, among those from a place on that have begun.
+fn find_psn(q: &QueuePart, place: u64, first: u64, psn: u64) -> Option<Numbered<'_>>
+    requires queue { IsQueue (queue_of q.now) }
+    requires within { IsWithin place first (queue_of q.now) }
+    ensures request { option_map numbered_of result ≡ find (numbering.has_psn psn) (begun_from place first (queue_of q.now)) }
+    ensures sound { IfSome result (λ n. IsSound (queue_of q.now) (numbered_of n)) }
+{
+    if place >= q.requester.next {
+        return None;
+    }
+    match numbered_at(q, place, first) {
+        None => None,
+        Some(n) if has_psn(&n, psn) => Some(n),
+        Some(n) => find_psn(q, place + 1, first + u64::from(n.count), psn),
+    }
+}
+
+/// Whether a PSN is one of a request's.
+fn has_psn(n: &Numbered<'_>, psn: u64) -> bool
+    ensures { result ≡ numbering.has_psn psn (numbered_of n.now) }
+{
+    n.first <= psn && psn - n.first < u64::from(n.count)
+}
+
+/// The request that begins next. It takes no memory.
+#[tactic(auto, using(crate::proofs::NumberingLemmas::start_within))]
+pub fn next_to_begin(q: &QueuePart) -> Option<Numbered<'_>>
+    requires queue { IsQueue (queue_of q.now) }
+    requires narrow { AreNarrow (queue_of q.now) }
+    ensures request { option_map numbered_of result ≡ numbering.next_to_begin (queue_of q.now) }
+    ensures sound { IfSome result (λ n. IsSound (queue_of q.now) (numbered_of n)) }
+{
+    first_not_begun(q, q.requester.oldest, q.requester.oldest_psn)
+}
+
+/// The first request that has not begun, from a place on before which all have.
+fn first_not_begun(q: &QueuePart, place: u64, first: u64) -> Option<Numbered<'_>>
+    requires queue { IsQueue (queue_of q.now) }
+    requires within { IsWithin place first (queue_of q.now) }
+    ensures request { option_map numbered_of result
+        ≡ slice_get (numbers_from place first (queue_of q.now)) (q.now.requester.next - place) }
+    ensures sound { IfSome result (λ n. IsSound (queue_of q.now) (numbered_of n)) }
+{
+    match numbered_at(q, place, first) {
+        None => None,
+        Some(n) if place >= q.requester.next => Some(n),
+        Some(n) => first_not_begun(q, place + 1, first + u64::from(n.count)),
+    }
+}
+
+/// The request of which the next thing is: one that goes on, or the one that begins with it. It takes no memory.
+pub fn next_request(q: &QueuePart) -> Option<Next<'_>>
+    requires queue { IsQueue (queue_of q.now) }
+    requires narrow { AreNarrow (queue_of q.now) }
+    ensures none { IfNone result (requester.next_request (queue_of q.now) ≡ None) }
+    ensures begins_none { IfNone result (requester.begins (queue_of q.now) ≡ false) }
+    ensures some { IfSome result (λ next. IsNext (queue_of q.now) next) }
+{
+    match request_at(q, q.requester.cursor) {
+        Some(request) => Some(Next {
+            request,
+            begins: false,
+        }),
+        None => match next_to_begin(q) {
+            Some(request) => Some(Next {
+                request,
+                begins: true,
+            }),
+            None => None,
+        },
+    }
+}
