@@ -1,9 +1,14 @@
 -- What stands at the end of a response queue, and what is removed from it.
-use Rattle.std.proofs.Common.{◌≡◌, ℕ, zero, suc, ◌+◌, ◌-◌, ◌<◌, nat_lt, arith, refl, sym, ap, ◌∙◌, true, List, [], ◌∷◌, ◌++◌, filter, length, length-append, slice_set}
+use Rattle.std.proofs.Common.{◌≡◌, ℕ, false, zero, suc, ◌+◌, ◌-◌, ◌<◌, nat_lt, arith, refl, sym, ap, ◌∙◌, true, List, [], ◌∷◌, ◌++◌, filter, length, length-append, slice_set}
 use Rattle.std.proofs.lemmas.Bool.{lt-ltb}
 use Rattle.std.proofs.lemmas.List.Elements.{filter-append}
 use Rattle.ca_base.specs.declared.queue_numbers.Queued.{Queued}
-use Rattle.ca_base.specs.declared.queue_numbers.Queued.TheVariants.{Ack}
+use Rattle.ca_base.specs.declared.queue_numbers.Queued.TheVariants.{Ack, Atomic}
+use Rattle.ca_base.specs.objects.QueuePair.{QueuePair}
+use Rattle.ca_base.specs.objects.Saved.{after_save}
+use Rattle.ca_model.specs.machine.Arrivals.{with_responder}
+use Rattle.ca_responder.specs.Atomics.{after_atomic, settled}
+use Rattle.ca_responder.specs.Numbers.{passed}
 use Rattle.ca_base.specs.objects.Answers.{answers_before, psn_of_answer}
 
 end-at : (n : ℕ) (ys : List Queued) (a b : Queued) → n ≡ length ys → slice_set (ys ++ a ∷ []) n b ≡ ys ++ b ∷ []
@@ -30,3 +35,16 @@ pub replaced : (psn n : ℕ) (answer : Queued) (old pushed left new : List Queue
 replaced psn n answer old pushed left new lt e f g =
     g ∙ ap (λ xs. slice_set xs (length xs - 1) answer) (f ∙ ap (λ xs. answers_before psn xs) e ∙ before-end psn n old lt)
     ∙ end-set (answers_before psn old) (Ack n) answer
+
+-- an atomic's answer, whose place was held by another
+pub settled-atomic : (number : ℕ) (q : QueuePair) (pushed : List Queued) → pushed ≡ q.responder.answers ++ Atomic q.responder.expected 0 false ∷ []
+    → settled number (with_responder (record q.responder { answers = pushed }) q) ≡ after_atomic number q
+settled-atomic number q pushed e =
+    ap (λ xs. settled_by xs) (ap (λ xs. slice_set xs (length xs - 1) (Atomic q.responder.expected number false)) e
+    ∙ end-set q.responder.answers (Atomic q.responder.expected 0 false) (Atomic q.responder.expected number false))
+  where
+    settled_by : List Queued → QueuePair
+    settled_by xs = passed 1 true (record q {
+      responder = record q.responder { answers = xs };
+      saved = after_save q.responder.expected number q.saved;
+    })

@@ -1,8 +1,7 @@
 -- What an atomic leaves at its responder. Contracts cite it.
-use Rattle.std.specs.Prelude.{ℕ, Bool, false, true, Result, Ok, Err}
+use Rattle.std.specs.Prelude.{ℕ, ◌-◌, false, true, length, slice_set}
 use Rattle.ca_base.specs.declared.access.Kind.{Kind}
 use Rattle.ca_base.specs.declared.access.Kind.TheVariants as kinds
-use Rattle.ca_base.specs.declared.memory.Memory.{Memory}
 use Rattle.ca_base.specs.declared.queue_numbers.Queued.TheVariants as queued
 use Rattle.ca_base.specs.declared.verdict.Verdict.{Verdict}
 use Rattle.ca_base.specs.declared.verdict.Verdict.TheVariants as verdicts
@@ -10,6 +9,8 @@ use Rattle.ca_base.specs.objects.QueuePair.{QueuePair}
 use Rattle.ca_base.specs.objects.Saved.{after_save}
 use Rattle.ca_model.specs.machine.Arrivals.{with_answer}
 use Rattle.ca_responder.specs.Numbers.{passed}
+use Rattle.ca_responder.specs.declared.shape.Shape.{Shape}
+use Rattle.ca_responder.specs.declared.shape.Shape.TheVariants as shapes
 
 -- the kinds of atomics
 abbrev pub IsAtomicKind : Kind → Type 0
@@ -31,7 +32,18 @@ after_atomic found q = passed 1 true (record (with_answer (queued.Atomic q.respo
   saved = after_save q.responder.expected found q.saved;
 })
 
--- the answer of a call that takes no receive of the shared receive queue
-abbrev pub with_shared : Bool → Result (Unit {0}) Memory → Result Bool Memory
-with_shared shared (Ok done) = Ok shared
-with_shared shared (Err memory) = Err memory
+-- the same, where an answer stands in the place of the atomic's
+abbrev pub settled : ℕ → QueuePair → QueuePair
+settled found q = passed 1 true (record q {
+  responder = record q.responder {
+    answers = slice_set q.responder.answers (length q.responder.answers - 1) (queued.Atomic q.responder.expected found false);
+  };
+  saved = after_save q.responder.expected found q.saved;
+})
+
+-- an atomic's shape has the kind of one
+abbrev pub IsRequestShape : Shape → Type 0
+IsRequestShape (shapes.Send place) = Unit {0}
+IsRequestShape (shapes.Write place) = Unit {0}
+IsRequestShape shapes.Read = Unit {0}
+IsRequestShape (shapes.Atomic kind) = IsAtomicKind kind

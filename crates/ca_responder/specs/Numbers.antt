@@ -2,7 +2,7 @@
 use Rattle.std.specs.Prelude.{ℕ, suc, ◌+◌, ◌%◌, ◌^◌, Bool, false, if◌then◌else◌}
 use Rattle.ca_base.specs.objects.Answers.{with_ack_at_end}
 use Rattle.ca_base.specs.objects.QueuePair.{QueuePair}
-use Rattle.ca_model.specs.machine.Arrivals.{with_responder}
+use Rattle.ca_model.specs.machine.Arrivals.{with_receive_taken, with_responder}
 use Rattle.ca_wire.specs.Packet.{Fields}
 
 -- an ACK at the expected PSN, where the packet asks for one
@@ -22,3 +22,7 @@ passed count at_end q = with_responder (record q.responder {
 -- the packet as if it asked for no acknowledgement
 abbrev pub unasked : Fields → Fields
 unasked p = record p { ack = false }
+
+-- the queue pair without the next receive of its own, where a SEND takes it
+abbrev pub receive_taken : Bool → QueuePair → QueuePair
+receive_taken taken q = if taken then with_receive_taken q else q

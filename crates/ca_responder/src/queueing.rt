@@ -3,12 +3,11 @@ ghost use Rattle.ca_base.specs.declared.queue_numbers.Queued.{Queued};
 ghost use Rattle.ca_model.specs.declared.mark.Mark.TheVariants as marked;
 ghost use Rattle.ca_model.specs.machine.Arrivals as arrivals;
 ghost use Rattle.ca_model.specs.machine.Completions.{flush_marks};
-ghost use Rattle.ca_model.specs.machine.Duplicates as duplicates;
-ghost use Rattle.ca_model.specs.machine.Expected as expected;
 ghost use Rattle.ca_model.specs.machine.Invariants.{IsQueue};
 ghost use Rattle.ca_qpstate.specs.Seen.{queue_of};
 ghost use Rattle.ca_responder.specs.Numbers.{acknowledged, passed};
-ghost use Rattle.ca_wire.specs.Packet.{fields_of};
+ghost use Rattle.ca_base.specs.objects.QueuePair.{in_error};
+ghost use Rattle.ca_wire.specs.Syndrome.{nak_code};
 
 use crate::flush::{push_flush, reserve_for};
 use ca_base::{Memory, Queued};
@@ -95,12 +94,21 @@ pub fn refuse(
 {
     push_flush(q, &mut made)?;
     reserve_for(marks, &made)?;
+    queue_refusal(q, code)?;
+    marks.append(made);
+    Ok(())
+}
+
+/// Queues a NAK at the expected PSN, and moves the queue pair to Error.
+pub fn queue_refusal(q: &mut QueuePart, code: NakCode) -> Result<(), Memory>
+    ensures queue { OnOk result (queue_of q.new ≡ in_error (arrivals.with_answer (Queued.Nak q.old.responder.expected (nak_code code)) (arrivals.with_flag false (queue_of q.old)))) }
+    ensures err { OnErr result (q.new ≡ q.old) }
+{
     q.responder.answers.push(Queued::Nak {
         psn: q.responder.expected,
         code: code.code(),
     })?;
     q.responder.nak_sent = false;
     q.move_to_error();
-    marks.append(made);
     Ok(())
 }

@@ -46,7 +46,7 @@ impl Model for Receiving {
 }
 
 /// The place of the next receive of a queue pair's own: those that wait stand at the end.
-fn next_place(receives: &WorkQueue<RecvRequest>) -> u64
+pub fn next_place(receives: &WorkQueue<RecvRequest>) -> u64
     requires { IsReceives receives.now }
     ensures { result ≡ receives.now.next_taken }
 {
@@ -57,7 +57,7 @@ fn next_place(receives: &WorkQueue<RecvRequest>) -> u64
 /// where none waits. It takes no memory.
 pub fn next_receive<'a>(q: &'a QueuePart, srq: Option<&'a Srq>) -> Option<&'a RecvRequest>
     requires { IsQueue (queue_of q.now) }
-    ensures { option_copied result ≡ option_map (λ r. r.receive) (arrivals.next_receive (queue_of q.now) (option_copied srq)) }
+    ensures { option_copied result ≡ option_map (λ r. r.receive) (arrivals.next_receive (queue_of q.now) (option_copied srq.entry)) }
 {
     if q.srq.is_some() {
         return match srq {
@@ -74,7 +74,7 @@ pub fn next_receive<'a>(q: &'a QueuePart, srq: Option<&'a Srq>) -> Option<&'a Re
 /// The place of the receive that a message would take.
 fn next_receive_place(q: &QueuePart, srq: Option<&Srq>) -> Option<u64>
     requires { IsQueue (queue_of q.now) }
-    ensures { IfSome (arrivals.next_receive (queue_of q.now) (option_copied srq)) (λ r. result ≡ Some r.place) }
+    ensures { IfSome (arrivals.next_receive (queue_of q.now) (option_copied srq.entry)) (λ r. result ≡ Some r.place) }
 {
     if q.srq.is_some() {
         return match srq {
@@ -92,7 +92,7 @@ fn next_receive_place(q: &QueuePart, srq: Option<&Srq>) -> Option<u64>
 pub fn find_receive(q: &QueuePart, srq: Option<&Srq>) -> Result<Option<Placed>, Memory>
     requires queue { IsQueue (queue_of q.now) }
     requires shared { IfSome (option_copied srq) IsSharedReceives }
-    ensures value { IfOk result (λ next. next ≡ arrivals.next_receive (queue_of q.now) (option_copied srq)) }
+    ensures value { IfOk result (λ next. next ≡ arrivals.next_receive (queue_of q.now) (option_copied srq.entry)) }
     ensures sound { IfOk result (λ next. IfSome next (λ r. IsReceive r.receive)) }
     ensures takes { IfOk result (λ next. CanTake (queue_of q.now) next) }
 {

@@ -10,7 +10,7 @@ ghost use Rattle.ca_model.specs.machine.Expected as rows;
 ghost use Rattle.ca_model.specs.machine.Invariants.{IsQueue};
 ghost use Rattle.ca_model.specs.machine.Row.{ending_of};
 ghost use Rattle.ca_qpstate.specs.Seen.{queue_of};
-ghost use Rattle.ca_responder.specs.Atomics.{IsAtomicKind, after_atomic, found_in, with_shared};
+ghost use Rattle.ca_responder.specs.Atomics.{IsAtomicKind, after_atomic, found_in, settled};
 ghost use Rattle.ca_responder.specs.Taking.{IsPacketTaken, ended_by, found};
 ghost use Rattle.ca_rows.specs.Narrow.{AreNarrow};
 ghost use Rattle.ca_wire.specs.Packet.{fields_of};
@@ -72,7 +72,8 @@ fn atomic_op(kind: Kind, a: &AtomicEth) -> AtomicOp
     }
 }
 
-/// An atomic, which is judged for its eight bytes. It acts once, and what it found is saved and queued.
+/// An atomic, which is judged for its eight bytes. It acts once, and what it found is saved and queued. It takes no
+/// receive of the shared receive queue.
 pub fn take_atomic<R: Reach>(
     alloc: Global,
     q: &mut QueuePart,
@@ -82,22 +83,24 @@ pub fn take_atomic<R: Reach>(
     kind: Kind,
     a: &AtomicEth,
     marks: &mut Marks,
-) -> Result<(), Memory>
+) -> Result<bool, Memory>
     requires queue { IsQueue (queue_of q.old) }
     requires narrow { AreNarrow (queue_of q.old) }
     requires kind { IsAtomicKind kind }
     requires aligned { a.now.address % ATOMIC_BYTES ≡ 0 }
     requires at_hand { AreAtHand R.sight R.judges R.touches reach.old (rows.atomic_row (arrivals.with_flag false (queue_of q.old)) (fields_of p.now) envelope kind a.now).asks }
     ensures taken { let row = rows.atomic_row (arrivals.with_flag false (queue_of q.old)) (fields_of p.now) envelope kind a.now in
-        IsPacketTaken R.written R.revoked (with_shared false result) (ending_of (R.sight reach.old) row) (ended_by (R.sight reach.old) row)
+        IsPacketTaken R.written R.revoked result (ending_of (R.sight reach.old) row) (ended_by (R.sight reach.old) row)
         (found (queue_of q.old) marks.old.marks reach.old) (found (queue_of q.new) marks.new.marks reach.new) }
     ensures room { OnOk result (2 ≤ marks.new.room) }
 {
     let ask = packet_ask(q, a.key, kind, a.address, ATOMIC_BYTES, ATOMIC_BYTES);
     if let Some(denial) = reach.check(&ask) {
-        return deny(alloc, q, &ask, envelope, denial, marks);
+        deny(alloc, q, &ask, envelope, denial, marks)?;
+        return Ok(false);
     }
-    act(q, reach, &ask, envelope, atomic_op(kind, a), marks)
+    act(q, reach, &ask, envelope, atomic_op(kind, a), marks)?;
+    Ok(false)
 }
 
 /// An atomic that is not denied acts. Its answer is queued before, and gets the number that was found.
@@ -131,11 +134,21 @@ fn act<R: Reach>(
     q.responder.answers.push(atomic_answer(psn, 0))?;
     let verdict = reach.atomic(ask, op);
     let found = found_by(&verdict);
+    settle(q, found);
+    marks.push(remote_mark(ask, envelope, verdict));
+    Ok(())
+}
+
+/// The answer at the end gets the number that the atomic found, which is saved too, and the packet is accepted.
+fn settle(q: &mut QueuePart, found: u64)
+    requires expected { q.old.responder.expected < 2 ^ 62 }
+    requires msn { q.old.responder.msn < 2 ^ 24 }
+    ensures { queue_of q.new ≡ settled found (queue_of q.old) }
+{
+    let psn = q.responder.expected;
     q.responder.answers.set_last(atomic_answer(psn, found));
     q.saved.keep(psn, found);
     pass(q, 1, true);
-    marks.push(remote_mark(ask, envelope, verdict));
-    Ok(())
 }
 
 /// The answer to an atomic that came for the first time.

@@ -1,6 +1,7 @@
-ghost use Rattle.std.specs.Prelude.{◌≡◌};
+ghost use Rattle.std.specs.Prelude.{◌≡◌, IfSome};
 ghost use Rattle.std.specs.Option.{option_map};
 ghost use Rattle.ca_model.specs.machine.Shapes as shapes;
+ghost use Rattle.ca_responder.specs.Atomics.{IsRequestShape};
 ghost use Rattle.ca_responder.specs.Shapes.{shape_seen};
 
 use ca_base::Kind;
@@ -18,7 +19,8 @@ pub enum Shape {
 
 /// The shape of a request packet. None comes for the opcodes of responses, and for those that are none.
 pub fn shape_of(opcode: u8) -> Option<Shape>
-    ensures { option_map shape_seen result ≡ shapes.shape_of opcode }
+    ensures value { option_map shape_seen result ≡ shapes.shape_of opcode }
+    ensures request { IfSome result IsRequestShape }
 {
     match opcode {
         SEND_FIRST => Some(Shape::Send(Position::First)),
