@@ -1,2 +1,3 @@
 pub mod FlushLemmas
 pub mod AnswerLemmas
+pub mod SendLemmas

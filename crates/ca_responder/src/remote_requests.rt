@@ -1,16 +1,15 @@
-ghost use Rattle.std.specs.Prelude.{◌≡◌, ℕ, ◌+◌, ◌%◌, ◌<◌, ◌≤◌, ◌^◌, ◌++◌, ◌∷◌, [], OnOk, OnErr, IfOk, None, Some, false, true, length};
-ghost use Rattle.ca_base.specs.Memory.{little_endian, little_endian_bytes};
-ghost use Rattle.ca_base.specs.Sight.{bytes_in, denial_in};
+ghost use Rattle.std.specs.Prelude.{◌≡◌, ℕ, ◌%◌, ◌<◌, ◌≤◌, ◌^◌, ◌++◌, ◌∷◌, [], OnOk, OnErr, IfOk, None, Some, false, true, length};
+ghost use Rattle.ca_base.specs.Memory.{little_endian_bytes};
+ghost use Rattle.ca_base.specs.Sight.{denial_in};
 ghost use Rattle.ca_base.specs.declared.limits.TheConstants.{ATOMIC_BYTES};
-ghost use Rattle.ca_grant.specs.Reaching.{AreAtHand, IsAtomicAsk, kind_of};
+ghost use Rattle.ca_grant.specs.Reaching.{AreAtHand, kind_of};
 ghost use Rattle.ca_memory.specs.Number.{number_after};
-ghost use Rattle.ca_model.specs.Packets.{number_put};
 ghost use Rattle.ca_model.specs.machine.Arrivals as arrivals;
 ghost use Rattle.ca_model.specs.machine.Expected as rows;
 ghost use Rattle.ca_model.specs.machine.Invariants.{IsQueue};
 ghost use Rattle.ca_model.specs.machine.Row.{ending_of};
 ghost use Rattle.ca_qpstate.specs.Seen.{queue_of};
-ghost use Rattle.ca_responder.specs.Atomics.{IsAtomicKind, after_atomic, found_in, settled};
+ghost use Rattle.ca_responder.specs.Atomics.{IsAtomicKind, IsAtomicRequest, after_atomic, found_in, number_left, number_seen, settled};
 ghost use Rattle.ca_responder.specs.Taking.{IsPacketTaken, ended_by, found};
 ghost use Rattle.ca_rows.specs.Narrow.{AreNarrow};
 ghost use Rattle.ca_wire.specs.Packet.{fields_of};
@@ -61,7 +60,7 @@ pub fn take_read(
 fn atomic_op(kind: Kind, a: &AtomicEth) -> AtomicOp
     requires { IsAtomicKind kind }
     ensures kind { kind_of result ≡ kind }
-    ensures puts { (found : ℕ) → Some (number_after result found) ≡ number_put kind a.now found }
+    ensures puts { (number : ℕ) → number_after result number ≡ number_left kind a.now number }
 {
     match kind {
         Kind::CmpSwap => AtomicOp::CmpSwap {
@@ -99,7 +98,7 @@ pub fn take_atomic<R: Reach>(
         deny(alloc, q, &ask, envelope, denial, marks)?;
         return Ok(false);
     }
-    act(q, reach, &ask, envelope, atomic_op(kind, a), marks)?;
+    act(q, reach, &ask, envelope, kind, a, marks)?;
     Ok(false)
 }
 
@@ -109,21 +108,20 @@ fn act<R: Reach>(
     reach: &mut R,
     ask: &Ask,
     envelope: Option<u64>,
-    op: AtomicOp,
+    kind: Kind,
+    a: &AtomicEth,
     marks: &mut Marks,
 ) -> Result<(), Memory>
     requires queue { IsQueue (queue_of q.old) }
     requires narrow { AreNarrow (queue_of q.old) }
     requires judges { R.judges reach.old ask.now }
     requires touches { R.touches reach.old ask.now }
-    requires eight { IsAtomicAsk ask.now op }
+    requires eight { IsAtomicRequest kind ask.now }
     requires allowed { denial_in (R.sight reach.old) ask.now ≡ None }
-    ensures queue { let number = little_endian (bytes_in (R.sight reach.old) ask.now) in
-        OnOk result (queue_of q.new ≡ after_atomic number (queue_of q.old)) }
-    ensures marks { let number = little_endian (bytes_in (R.sight reach.old) ask.now) in
-        OnOk result (marks.new.marks ≡ marks.old.marks ++ arrivals.remote_mark ask.now envelope (Verdict.Swapped number (number_after op number)) ∷ []) }
-    ensures wrote { let number = little_endian (bytes_in (R.sight reach.old) ask.now) in
-        OnOk result (reach.new ≡ R.written reach.old ask.now (little_endian_bytes (number_after op number))) }
+    ensures queue { OnOk result (queue_of q.new ≡ after_atomic (number_seen (R.sight reach.old) ask.now) (queue_of q.old)) }
+    ensures marks { OnOk result (marks.new.marks ≡ marks.old.marks ++ arrivals.remote_mark ask.now envelope (Verdict.Swapped (number_seen (R.sight reach.old) ask.now)
+        (number_left kind a.now (number_seen (R.sight reach.old) ask.now))) ∷ []) }
+    ensures wrote { OnOk result (reach.new ≡ R.written reach.old ask.now (little_endian_bytes (number_left kind a.now (number_seen (R.sight reach.old) ask.now)))) }
     ensures room { OnOk result (2 ≤ marks.new.room) }
     ensures err { OnErr result (q.new ≡ q.old) }
     ensures err_marks { OnErr result (marks.new.marks ≡ marks.old.marks) }
@@ -132,11 +130,23 @@ fn act<R: Reach>(
     marks.reserve(3)?;
     let psn = q.responder.expected;
     q.responder.answers.push(atomic_answer(psn, 0))?;
-    let verdict = reach.atomic(ask, op);
+    let verdict = act_once(reach, ask, kind, a);
     let found = found_by(&verdict);
     settle(q, found);
     marks.push(remote_mark(ask, envelope, verdict));
     Ok(())
+}
+
+/// The atomic acts: the eight bytes are found, and what it makes of them is put.
+fn act_once<R: Reach>(reach: &mut R, ask: &Ask, kind: Kind, a: &AtomicEth) -> Verdict
+    requires judges { R.judges reach.old ask.now }
+    requires touches { R.touches reach.old ask.now }
+    requires eight { IsAtomicRequest kind ask.now }
+    requires allowed { denial_in (R.sight reach.old) ask.now ≡ None }
+    ensures verdict { result ≡ Verdict.Swapped (number_seen (R.sight reach.old) ask.now) (number_left kind a.now (number_seen (R.sight reach.old) ask.now)) }
+    ensures wrote { reach.new ≡ R.written reach.old ask.now (little_endian_bytes (number_left kind a.now (number_seen (R.sight reach.old) ask.now))) }
+{
+    reach.atomic(ask, atomic_op(kind, a))
 }
 
 /// The answer at the end gets the number that the atomic found, which is saved too, and the packet is accepted.

@@ -2,6 +2,7 @@ ghost use Rattle.std.specs.Prelude.{◌≡◌, ◌+◌, ◌<◌, ◌≤◌, ◌^
 ghost use Rattle.std.specs.List.{AllByRecursion};
 ghost use Rattle.std.specs.Option.{option_map};
 ghost use Rattle.ca_base.specs.declared.access.Kind.{Kind};
+ghost use Rattle.ca_base.specs.Sight as sights;
 ghost use Rattle.ca_base.specs.declared.queue_numbers.Queued.{Queued};
 ghost use Rattle.ca_base.specs.declared.refusals.OpRefusal.{OpRefusal};
 ghost use Rattle.ca_model.specs.Requests.{list_length};
@@ -21,7 +22,7 @@ ghost use Rattle.ca_qpstate.specs.Seen.{queue_of};
 ghost use Rattle.ca_responder.specs.Ending.{key_end, refused_end, sent_and_ended};
 ghost use Rattle.ca_responder.specs.Numbers.{receive_taken, unasked};
 ghost use Rattle.ca_responder.specs.Taking.{IsPacketTaken, MayEnd, MayTake, ended_by, found};
-ghost use Rattle.ca_rows.specs.Asks.{CanWrite, IsAskOf, touched_by};
+ghost use Rattle.ca_rows.specs.Asks.{CanWrite, IsAskOf, IsGranted, touched_by};
 ghost use Rattle.ca_rows.specs.Done.{written_all};
 ghost use Rattle.ca_rows.specs.Narrow.{AreNarrow};
 ghost use Rattle.ca_wire.specs.Packet.{fields_of};
@@ -119,7 +120,40 @@ pub fn take_send<R: Reach>(
         fail_receive(q, &r, status, code, made, marks)?;
         return Ok(shared);
     }
-    let writes = cut_writes(alloc, asks.as_slice(), p.payload)?;
+    place_fitting(alloc, q, reach, p, place, r, asks.as_slice(), marks)
+}
+
+/// A SEND packet that fits its receive, whose list is allowed: it is placed, and where it ends a key that ends then.
+fn place_fitting<R: Reach>(
+    alloc: Global,
+    q: &mut QueuePart,
+    reach: &mut R,
+    p: &Packet<'_>,
+    place: Position,
+    r: Receiving,
+    asks: &[Ask],
+    marks: &mut Marks,
+) -> Result<bool, Memory>
+    requires queue { IsQueue (queue_of q.old) }
+    requires narrow { AreNarrow (queue_of q.old) }
+    requires list { IsReceive r.receive.receive }
+    requires fits { nat_lt (list_length r.receive.receive.list.items) (r.before + length p.now.payload.now) ≡ false }
+    requires takes { MayTake r (queue_of q.old) }
+    requires asks { asks.now ≡ rows.receive_asks (queue_of q.old) (fields_of p.now) r }
+    requires kind { AllByRecursion (IsAskOf Kind.Write) asks.now }
+    requires touched { touched_by asks.now ≤ length p.now.payload.now }
+    requires few { length asks.now ≤ MAX_PIECES }
+    requires keys { AllByRecursion (R.judges reach.old) asks.now }
+    requires bytes { AllByRecursion (R.touches reach.old) asks.now }
+    requires allowed { AllByRecursion (IsGranted (R.sight reach.old)) asks.now }
+    requires none { sights.first_denied (R.sight reach.old) asks.now ≡ None }
+    requires ends { IfSome p.now.ieth (λ key. MayEnd R.sight R.ends reach.old (queue_of q.old) (key_end (queue_of q.old) (record { 0 = key }))) }
+    ensures taken { let row = rows.send_row (arrivals.with_flag false (queue_of q.old)) (fields_of p.now) place r in
+        IsPacketTaken R.written R.revoked result (ending_of (R.sight reach.old) row) (ended_by (R.sight reach.old) row)
+        (found (queue_of q.old) marks.old.marks reach.old) (found (queue_of q.new) marks.new.marks reach.new) }
+    ensures room { OnOk result (2 ≤ marks.new.room) }
+{
+    let writes = cut_writes(alloc, asks, p.payload)?;
     match p.ieth {
         None => place_send(q, reach, p, place, r, writes, marks),
         Some(key) => place_and_end(alloc, q, reach, p, place, r, writes, Key(key), marks),
@@ -306,7 +340,8 @@ fn copy_answers(from: &Answers, place: usize, to: &mut Answers) -> Result<(), Me
         return Ok(());
     };
     to.push(answer)?;
-    copy_answers(from, place + 1, to)
+    copy_answers(from, place + 1, to)?;
+    Ok(())
 }
 
 /// A SEND packet took effect: its receive is taken where the message begins with it, and the message goes on or ends.
