@@ -1,3 +1,3 @@
 pub mod FlushLemmas
 pub mod AnswerLemmas
-pub mod SendLemmas
+pub mod RowLemmas

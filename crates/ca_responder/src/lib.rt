@@ -17,13 +17,10 @@ mod read_left;
 mod receive;
 mod remote;
 mod remote_requests;
-mod request;
 mod respond;
 mod segments;
-mod send;
 mod shape;
 mod write;
 mod write_reach;
 
-pub use request::on_request;
 pub use respond::{next_response, respond_ask};
