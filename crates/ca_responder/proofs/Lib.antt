@@ -1,3 +1,4 @@
 pub mod FlushLemmas
 pub mod AnswerLemmas
 pub mod RowLemmas
+pub mod SendLemmas

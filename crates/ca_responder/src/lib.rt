@@ -19,6 +19,7 @@ mod remote;
 mod remote_requests;
 mod respond;
 mod segments;
+mod send;
 mod shape;
 mod write;
 mod write_reach;
