@@ -2,3 +2,4 @@ pub mod FlushLemmas
 pub mod AnswerLemmas
 pub mod RowLemmas
 pub mod SendLemmas
+pub mod ValidLemmas

@@ -17,6 +17,7 @@ mod read_left;
 mod receive;
 mod remote;
 mod remote_requests;
+mod request;
 mod respond;
 mod segments;
 mod send;
@@ -24,4 +25,5 @@ mod shape;
 mod write;
 mod write_reach;
 
+pub use request::take_request;
 pub use respond::{next_response, respond_ask};
