@@ -1,0 +1,5 @@
+pub mod FlushLemmas
+pub mod AnswerLemmas
+pub mod RowLemmas
+pub mod SendLemmas
+pub mod ValidLemmas
