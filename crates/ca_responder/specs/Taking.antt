@@ -1,9 +1,7 @@
 -- How a request is taken: as its row ends, also for the key that it ends and for the receive that it takes of a shared
 -- receive queue. Contracts cite it.
 use Rattle.std.specs.Prelude.{◌≡◌, ℕ, ◌<◌, Bool, true, if◌then◌else◌, List, ◌++◌, Option, None, Some, Result, Ok, Err, IfSome, is_none}
-use Rattle.std.specs.Borrow.{MutBor}
 use Rattle.std.specs.Option.{option_map}
-use Rattle.std.proofs.Common.{◌⊎◌, inl, inr}
 use Rattle.ca_base.specs.declared.access.Ask.{Ask}
 use Rattle.ca_base.specs.declared.memory.Memory.{Memory}
 use Rattle.ca_base.specs.Sight.{DeniedAsk, Invalidation, Sight, first_denied}
@@ -74,11 +72,9 @@ HasArrived written revoked (Does e) ended before new = new ≡ after_taking writ
 HasArrived written revoked (NotPossible reason) ended before new = ⊥
 
 -- a request is taken as its row ends
-abbrev pub IsArrival : {S : Type 0} → (S → Ask → List ℕ → S) → (S → Invalidation → S) → Result (Unit {0}) Memory → Ending → Option Invalidation → Found S → Found S → Option SharedReceives → Option SharedReceives → Type 0
-IsArrival written revoked (Ok done) ending ended before new shared shared_new =
-    HasArrived written revoked ending ended before new × (shared_new ≡ after_shared ending shared)
-IsArrival written revoked (Err memory) ending ended before new shared shared_new =
-    (new ≡ before) × (shared_new ≡ shared)
+abbrev pub IsArrival : {S : Type 0} → (S → Ask → List ℕ → S) → (S → Invalidation → S) → Result (Unit {0}) Memory → Ending → Option Invalidation → Found S → Found S → Type 0
+IsArrival written revoked (Ok done) ending ended before new = HasArrived written revoked ending ended before new
+IsArrival written revoked (Err memory) ending ended before new = new ≡ before
 
 -- the end of a key may be handed on: it is one of the queue pair's own domain, its parts are at hand, and where it ends a
 -- window's key, that window is counted
@@ -95,9 +91,3 @@ CanTake q (Some receive) = IfSome q.receives (λ r. 0 < waiting_count r)
 -- where a SEND packet takes its receive, that waits in its queue
 abbrev pub MayTake : Receiving → QueuePair → Type 0
 MayTake r q = r.taken ≡ true → IfSome q.receives (λ r. 0 < waiting_count r)
-
--- what a call leaves behind a reference that it is handed, if it is handed one
-abbrev pub left_behind : {T : Type 0} → (Unit {0}) ⊎ ((MutBor T × Unit {0}) ⊎ ⊥) → Option T
-left_behind (inl none) = None
-left_behind (inr (inl some)) = Some some.0.now
-left_behind (inr (inr never)) = None

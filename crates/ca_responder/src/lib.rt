@@ -9,6 +9,7 @@
 #![tactic(auto)]
 
 mod answer;
+mod asks;
 mod checks;
 mod duplicates;
 mod flush;
@@ -25,5 +26,6 @@ mod shape;
 mod write;
 mod write_reach;
 
-pub use request::take_request;
+pub use asks::request_asks;
+pub use request::on_request;
 pub use respond::{next_response, respond_ask};

@@ -1,4 +1,7 @@
-ghost use Rattle.std.specs.Prelude.{◌≡◌, ◌≤◌, ◌++◌, ◌&&◌, OnOk, OnErr, IfOk, IfSome, is_none, false, option_copied};
+ghost use Rattle.std.specs.Prelude.{◌≡◌, ◌≤◌, ◌++◌, ◌&&◌, if◌then◌else◌, None, Some, OnOk, OnErr, IfOk, IfSome, is_none, false, option_copied};
+ghost use Rattle.std.specs.Option.{option_copied_mut};
+ghost use Rattle.ca_base.specs.Handed.{left_behind};
+ghost use Rattle.ca_base.specs.objects.SharedReceives.{after_receive_take};
 ghost use Rattle.ca_grant.specs.Reaching.{AreAtHand};
 ghost use Rattle.ca_model.specs.Packets.{is_response};
 ghost use Rattle.ca_model.specs.machine.Arrivals as arrivals;
@@ -11,7 +14,7 @@ ghost use Rattle.ca_model.specs.machine.Row.{ending_of};
 ghost use Rattle.ca_qpstate.specs.Seen.{queue_of};
 ghost use Rattle.ca_responder.specs.Atomics.{IsRequestShape};
 ghost use Rattle.ca_responder.specs.Shapes.{shape_seen};
-ghost use Rattle.ca_responder.specs.Taking.{CanTake, IsPacketTaken, MayEnd, ended_by, found};
+ghost use Rattle.ca_responder.specs.Taking.{CanTake, IsArrival, IsPacketTaken, MayEnd, after_shared, ended_by, found};
 ghost use Rattle.ca_rows.specs.Narrow.{AreNarrow};
 ghost use Rattle.ca_wire.specs.Packet.{IsWellFormed, fields_of};
 
@@ -33,14 +36,115 @@ use ca_srq::Srq;
 use ca_wire::{NakCode, Packet};
 use std::alloc::Global;
 
-/// Takes a request that arrived, and reserves room for two more marks. A packet ahead of the expected one asks once for
-/// what is missing; a duplicate is answered once more, and does nothing again; the expected one is checked, judged, and
-/// takes effect. A request that is refused moves the queue pair to Error. The answer says whether the caller is to take
-/// the next receive of the shared receive queue.
+/// Takes a request that arrived. A packet ahead of the expected one asks once for what is missing; a duplicate is
+/// answered once more, and does nothing again; the expected one is checked, judged, and takes effect. A request that is
+/// refused moves the queue pair to Error. After Ok there is room for two more marks, and `Memory` changes nothing.
 ///
 /// `srq` is the shared receive queue of the queue pair, where it has one, and `envelope` the index of the packet, for the
 /// marks of its remote accesses. The packet is well formed, a request, and one that the adapter does not drop before.
-pub fn take_request<R: Reach>(
+pub fn on_request<R: Reach>(
+    alloc: Global,
+    q: &mut QueuePart,
+    srq: Option<&mut Srq>,
+    reach: &mut R,
+    p: &Packet<'_>,
+    envelope: Option<u64>,
+    marks: &mut Marks,
+) -> Result<(), Memory>
+    requires queue { IsQueue (queue_of q.old) }
+    requires narrow { AreNarrow (queue_of q.old) }
+    requires shared { IfSome (option_copied_mut srq) IsSharedReceives }
+    requires packet { IsWellFormed (fields_of p.now) }
+    requires request { is_response p.now.opcode ≡ false }
+    requires at_hand { AreAtHand R.sight R.judges R.touches reach.old (packet_arrived (fields_of p.now) envelope (option_copied_mut srq) (queue_of q.old)).asks }
+    requires ends { IfSome (packet_arrived (fields_of p.now) envelope (option_copied_mut srq) (queue_of q.old)).invalidation (MayEnd R.sight R.ends reach.old (queue_of q.old)) }
+    ensures taken { let row = packet_arrived (fields_of p.now) envelope (option_copied_mut srq.entry) (queue_of q.old) in
+        IsArrival R.written R.revoked result (ending_of (R.sight reach.old) row) (ended_by (R.sight reach.old) row)
+        (found (queue_of q.old) marks.old.marks reach.old) (found (queue_of q.new) marks.new.marks reach.new) }
+    ensures receives { OnOk result (left_behind srq.exit ≡ after_shared (ending_of (R.sight reach.old)
+        (packet_arrived (fields_of p.now) envelope (option_copied_mut srq.entry) (queue_of q.old))) (option_copied_mut srq.entry)) }
+    ensures err_receives { OnErr result (left_behind srq.exit ≡ option_copied_mut srq.entry) }
+    ensures room { OnOk result (2 ≤ marks.new.room) }
+{
+    let Some(srq) = srq else {
+        return take_without(alloc, q, reach, p, envelope, marks);
+    };
+    take_with(alloc, q, srq, reach, p, envelope, marks)
+}
+
+/// A request at a queue pair that is handed no shared receive queue.
+#[tactic(auto, using(crate::proofs::ArrivalLemmas::arrives, crate::proofs::ArrivalLemmas::takes_none))]
+fn take_without<R: Reach>(
+    alloc: Global,
+    q: &mut QueuePart,
+    reach: &mut R,
+    p: &Packet<'_>,
+    envelope: Option<u64>,
+    marks: &mut Marks,
+) -> Result<(), Memory>
+    requires queue { IsQueue (queue_of q.old) }
+    requires narrow { AreNarrow (queue_of q.old) }
+    requires packet { IsWellFormed (fields_of p.now) }
+    requires request { is_response p.now.opcode ≡ false }
+    requires at_hand { AreAtHand R.sight R.judges R.touches reach.old (packet_arrived (fields_of p.now) envelope None (queue_of q.old)).asks }
+    requires ends { IfSome (packet_arrived (fields_of p.now) envelope None (queue_of q.old)).invalidation (MayEnd R.sight R.ends reach.old (queue_of q.old)) }
+    ensures taken { let row = packet_arrived (fields_of p.now) envelope None (queue_of q.old) in
+        IsArrival R.written R.revoked result (ending_of (R.sight reach.old) row) (ended_by (R.sight reach.old) row)
+        (found (queue_of q.old) marks.old.marks reach.old) (found (queue_of q.new) marks.new.marks reach.new) }
+    ensures receives { None ≡ after_shared (ending_of (R.sight reach.old) (packet_arrived (fields_of p.now) envelope None (queue_of q.old))) None }
+    ensures room { OnOk result (2 ≤ marks.new.room) }
+{
+    match take_request(alloc, q, None, reach, p, envelope, marks) {
+        Ok(_) => Ok(()),
+        Err(error) => Err(error),
+    }
+}
+
+/// A request at a queue pair with its shared receive queue, of which it takes the next receive where its row does.
+#[tactic(auto, using(crate::proofs::ArrivalLemmas::arrives, crate::proofs::ArrivalLemmas::takes_next))]
+fn take_with<R: Reach>(
+    alloc: Global,
+    q: &mut QueuePart,
+    srq: &mut Srq,
+    reach: &mut R,
+    p: &Packet<'_>,
+    envelope: Option<u64>,
+    marks: &mut Marks,
+) -> Result<(), Memory>
+    requires queue { IsQueue (queue_of q.old) }
+    requires narrow { AreNarrow (queue_of q.old) }
+    requires shared { IsSharedReceives srq.old }
+    requires packet { IsWellFormed (fields_of p.now) }
+    requires request { is_response p.now.opcode ≡ false }
+    requires at_hand { AreAtHand R.sight R.judges R.touches reach.old (packet_arrived (fields_of p.now) envelope (Some srq.old) (queue_of q.old)).asks }
+    requires ends { IfSome (packet_arrived (fields_of p.now) envelope (Some srq.old) (queue_of q.old)).invalidation (MayEnd R.sight R.ends reach.old (queue_of q.old)) }
+    ensures taken { let row = packet_arrived (fields_of p.now) envelope (Some srq.old) (queue_of q.old) in
+        IsArrival R.written R.revoked result (ending_of (R.sight reach.old) row) (ended_by (R.sight reach.old) row)
+        (found (queue_of q.old) marks.old.marks reach.old) (found (queue_of q.new) marks.new.marks reach.new) }
+    ensures receives { OnOk result (Some srq.new ≡ after_shared (ending_of (R.sight reach.old) (packet_arrived (fields_of p.now) envelope (Some srq.old) (queue_of q.old))) (Some srq.old)) }
+    ensures err_receives { OnErr result (srq.new ≡ srq.old) }
+    ensures room { OnOk result (2 ≤ marks.new.room) }
+{
+    match take_request(alloc, q, Some(srq), reach, p, envelope, marks) {
+        Ok(takes) => {
+            take_shared(srq, takes);
+            Ok(())
+        }
+        Err(error) => Err(error),
+    }
+}
+
+/// Takes the next receive of a shared receive queue, where the packet takes one.
+fn take_shared(srq: &mut Srq, takes: bool)
+    ensures { srq.new ≡ (if takes then after_receive_take srq.old else srq.old) }
+{
+    if takes {
+        srq.take_next();
+    }
+}
+
+/// Takes a request, but for the receive of the shared receive queue: whether that is to be taken.
+fn take_request<R: Reach>(
     alloc: Global,
     q: &mut QueuePart,
     srq: Option<&Srq>,

@@ -63,7 +63,7 @@ pub fn take_write<R: Reach>(
 }
 
 /// The ask of a WRITE packet: all bytes that are left, of which it touches its payload.
-fn write_ask(q: &QueuePart, p: &Packet<'_>, r: &WriteReach) -> Ask
+pub fn write_ask(q: &QueuePart, p: &Packet<'_>, r: &WriteReach) -> Ask
     requires { length p.now.payload.now ≤ MAX_PAYLOAD_BYTES }
     ensures { result ≡ arrivals.packet_ask (queue_of q.now) r.now.key Kind.Write r.now.address r.now.left (length p.now.payload.now) }
 {
