@@ -2,6 +2,8 @@
 use Rattle.std.specs.Prelude.{ℕ, ◌+◌, nat_lt, if◌then◌else◌, length, List, [], ◌∷◌, Option, None, Some}
 use Rattle.ca_base.specs.declared.access.Ask.{Ask}
 use Rattle.ca_base.specs.declared.access.Kind.TheVariants as kinds
+use Rattle.ca_base.specs.declared.queue_numbers.Message.{Message}
+use Rattle.ca_base.specs.declared.queue_numbers.Message.TheVariants as messages
 use Rattle.ca_base.specs.declared.request.Piece.{Piece}
 use Rattle.ca_base.specs.objects.QueuePair.{QueuePair}
 use Rattle.ca_base.specs.objects.SharedReceives.{PlacedReceive}
@@ -28,3 +30,8 @@ send_asks q p next = by (receiving_of q next q.responder.message)
     by : Option Receiving → List Ask
     by (Some r) = asks_fitting q p r.before r.receive.receive.list.items
     by None = []
+
+-- no message in progress holds a receive
+abbrev pub IsFree : Option Message → Type 0
+IsFree (Some (messages.Send place receive count)) = ⊥
+IsFree message = Unit {0}

@@ -1,4 +1,4 @@
-ghost use Rattle.std.specs.Prelude.{◌≡◌, ◌≤◌, ◌∷◌, [], ℕ, Option, IfSome, false, length, option_copied};
+ghost use Rattle.std.specs.Prelude.{◌≡◌, ◌≤◌, ◌∷◌, [], ℕ, Option, ◌&&◌, IfSome, false, is_none, length, option_copied};
 ghost use Rattle.ca_base.specs.declared.limits.TheConstants.{MAX_MESSAGE_BYTES, MAX_PAYLOAD_BYTES};
 ghost use Rattle.ca_model.specs.Packets.{is_response};
 ghost use Rattle.ca_model.specs.machine.Arrivals as arrivals;
@@ -6,7 +6,7 @@ ghost use Rattle.ca_model.specs.machine.Delivery.{packet_arrived};
 ghost use Rattle.ca_model.specs.machine.Expected as rows;
 ghost use Rattle.ca_model.specs.machine.Invariants.{IsList, IsQueue, IsSharedReceives};
 ghost use Rattle.ca_qpstate.specs.Seen.{queue_of};
-ghost use Rattle.ca_responder.specs.Asking.{asks_fitting, send_asks};
+ghost use Rattle.ca_responder.specs.Asking.{IsFree, asks_fitting, send_asks};
 ghost use Rattle.ca_responder.specs.Shapes.{shape_seen};
 ghost use Rattle.ca_rows.specs.Narrow.{AreNarrow};
 ghost use Rattle.ca_wire.specs.Packet.{IsWellFormed, fields_of};
@@ -45,17 +45,45 @@ pub fn request_asks(
     let Some(shape) = shape_of(p.opcode) else {
         return ArrayVec::new();
     };
-    let psn = widen(q.responder.expected, p.psn);
-    if psn != q.responder.expected || is_invalid(q, p, shape) {
+    if widen(q.responder.expected, p.psn) != q.responder.expected {
         return ArrayVec::new();
     }
-    if takes_receive(p, shape) && next_receive(q, srq).is_none() {
+    expected_asks(q, srq, p, shape)
+}
+
+/// The asks of the packet with the expected PSN.
+fn expected_asks(
+    q: &QueuePart,
+    srq: Option<&Srq>,
+    p: &Packet<'_>,
+    shape: Shape,
+) -> ArrayVec<Ask, MAX_PIECES>
+    requires queue { IsQueue (queue_of q.now) }
+    requires shared { IfSome (option_copied srq) IsSharedReceives }
+    requires packet { IsWellFormed (fields_of p.now) }
+    ensures { (envelope : Option ℕ) → result.items ≡ (rows.expected_row (queue_of q.now) (option_copied srq.entry) (fields_of p.now) envelope (shape_seen shape)).asks }
+{
+    if is_invalid(q, p, shape) {
+        return ArrayVec::new();
+    }
+    if lacks_receive(q, srq, p, shape) {
         return ArrayVec::new();
     }
     valid_asks(q, srq, p, shape)
 }
 
+/// Whether the packet takes a receive where there is none.
+#[tactic(auto, using(crate::proofs::AskingLemmas::none_waits))]
+fn lacks_receive(q: &QueuePart, srq: Option<&Srq>, p: &Packet<'_>, shape: Shape) -> bool
+    requires { IsQueue (queue_of q.now) }
+    ensures { result ≡ (rows.takes_receive (fields_of p.now) (shape_seen shape)
+        && is_none (arrivals.next_receive (queue_of q.now) (option_copied srq.entry))) }
+{
+    takes_receive(p, shape) && next_receive(q, srq).is_none()
+}
+
 /// The asks of a packet that is valid and has its receive.
+#[tactic(auto, using(crate::proofs::AskingLemmas::asks_of_send))]
 fn valid_asks(
     q: &QueuePart,
     srq: Option<&Srq>,
@@ -83,16 +111,30 @@ fn valid_asks(
 }
 
 /// The asks of a SEND packet, by the receive of the message in progress, or by the next one.
-#[tactic(auto, using(crate::proofs::AskingLemmas::asks_of_next, crate::proofs::AskingLemmas::asks_of_none))]
 fn message_asks(q: &QueuePart, srq: Option<&Srq>, p: &Packet<'_>) -> ArrayVec<Ask, MAX_PIECES>
     requires queue { IsQueue (queue_of q.now) }
     requires shared { IfSome (option_copied srq) IsSharedReceives }
     requires packet { IsWellFormed (fields_of p.now) }
     ensures { result.items ≡ send_asks (queue_of q.now) (fields_of p.now) (arrivals.next_receive (queue_of q.now) (option_copied srq.entry)) }
 {
-    if let Some(Message::Send { receive, bytes, .. }) = &q.responder.message {
-        return fitting_asks(q, p, *bytes, receive.list.as_slice());
+    match &q.responder.message {
+        Some(Message::Send { receive, bytes, .. }) => {
+            fitting_asks(q, p, *bytes, receive.list.as_slice())
+        }
+        Some(Message::Write { .. }) => next_asks(q, srq, p),
+        None => next_asks(q, srq, p),
     }
+}
+
+/// The asks of a SEND packet that begins its message.
+#[tactic(auto, using(crate::proofs::AskingLemmas::asks_of_next, crate::proofs::AskingLemmas::asks_of_none))]
+fn next_asks(q: &QueuePart, srq: Option<&Srq>, p: &Packet<'_>) -> ArrayVec<Ask, MAX_PIECES>
+    requires queue { IsQueue (queue_of q.now) }
+    requires shared { IfSome (option_copied srq) IsSharedReceives }
+    requires packet { IsWellFormed (fields_of p.now) }
+    requires free { IsFree q.now.responder.message }
+    ensures { result.items ≡ send_asks (queue_of q.now) (fields_of p.now) (arrivals.next_receive (queue_of q.now) (option_copied srq.entry)) }
+{
     match next_receive(q, srq) {
         Some(receive) => fitting_asks(q, p, 0, receive.list.as_slice()),
         None => ArrayVec::new(),
