@@ -1,8 +1,9 @@
 ghost use Rattle.std.specs.Prelude.{IfSome};
 ghost use Rattle.ca_tests_requester.specs.Bed as beds;
 
+mod drawn_rows;
 mod rows;
-mod table;
+mod worked_rows;
 
 use crate::Bed;
 use arrayvec::ArrayVec;
