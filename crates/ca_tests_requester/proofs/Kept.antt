@@ -1,5 +1,5 @@
 -- Each call of the requester leaves a queue pair that comes up, over parts that fit each other.
-use Rattle.std.proofs.Common.{◌≡◌, ℕ, IsTrue, not, Bool, true, false, List, [], ◌∷◌, map, Option, None, Some, Result, Ok, Err, refl, sym, subst, ap}
+use Rattle.std.proofs.Common.{◌≡◌, ℕ, IsTrue, not, Bool, true, false, true≢false, List, [], ◌∷◌, map, Option, None, Some, Result, Ok, Err, refl, sym, subst, ap}
 use Rattle.std.proofs.lemmas.Bool.{not-false}
 use Rattle.std.specs.List.{AllByRecursion}
 use Rattle.std.specs.Option.{option_and_then}
@@ -121,5 +121,5 @@ pub posted_kept : (q p : QueuePair) (request : SendRequest) → IsQueue q → Is
 posted_kept q p request is list free same = rw same (posted-send q request None is list (by (is_full q.sends) free))
   where
     by : (b : Bool) → IsTrue (not b) → b ≡ false
-    by true h = absurd h
+    by true h = absurd (true≢false (sym h))
     by false h = refl

@@ -1,5 +1,6 @@
-ghost use Rattle.std.specs.Prelude.{◌≡◌, ◌≤◌, IsTrue, true};
+ghost use Rattle.std.specs.Prelude.{◌≡◌, ◌≤◌, ◌<◌, ◌^◌, suc, IsTrue, true};
 ghost use Rattle.std.specs.List.{AllByRecursion};
+ghost use Rattle.ca_base.specs.objects.WorkQueue.{next_place};
 ghost use Rattle.ca_model.specs.Packets as packets;
 ghost use Rattle.ca_model.specs.Requests as requests;
 ghost use Rattle.ca_model.specs.machine.Invariants.{IsList, IsQueue};
@@ -21,8 +22,8 @@ use ca_requester::{
     local_done, next_asks, next_local, next_packet, on_response, on_rnr_wake, on_timeout,
     response_asks,
 };
-use ca_tests_grant::SmallReach;
 use ca_rows::list_of;
+use ca_tests_grant::SmallReach;
 use ca_wire::Packet;
 use ca_wire::opcode::{ATOMIC_ACKNOWLEDGE, RDMA_READ_RESPONSE_FIRST};
 use std::alloc::Global;
@@ -105,7 +106,7 @@ fn is_local_next(q: &QueuePart) -> bool
 }
 
 // A timer fires.
-#[tactic(auto, using(crate::proofs::Kept::timeout_kept))]
+
 fn fire(
     alloc: Global,
     q: &mut QueuePart,
@@ -124,7 +125,7 @@ fn fire(
 }
 
 // The local operation that the turn performs is done.
-#[tactic(auto, using(crate::proofs::Kept::operation_kept))]
+
 fn finish(
     alloc: Global,
     q: &mut QueuePart,
@@ -143,8 +144,24 @@ fn finish(
     }
 }
 
+// Posts a request that can be posted, unless the queue is full.
+fn push(q: &mut QueuePart, request: SendRequest) -> Result<u64, PostedSend>
+    requires queue { IsQueue (queue_of q.old) }
+    requires list { IsList (requests.list_of request.op) }
+    requires far { suc (next_place q.old.sends) < 2 ^ 64 }
+    ensures { IsQueue (queue_of q.new) }
+{
+    let posted = PostedSend {
+        request,
+        drawn: None,
+    };
+    match q.sends.post(posted) {
+        Ok(place) => Ok(place),
+        Err(refused) => Err(refused),
+    }
+}
+
 // Posts a request.
-#[tactic(auto, using(crate::proofs::Kept::posted_kept))]
 fn post(q: &mut QueuePart, request: SendRequest) -> bool
     requires { IsQueue (queue_of q.old) }
     ensures { IsQueue (queue_of q.new) }
@@ -152,14 +169,7 @@ fn post(q: &mut QueuePart, request: SendRequest) -> bool
     if !is_short(list_of(&request.op)) || q.sends.next_place() >= FAR {
         return false;
     }
-    let posted = PostedSend {
-        request,
-        drawn: None,
-    };
-    match q.sends.post(posted) {
-        Ok(_) => true,
-        Err(_) => false,
-    }
+    push(q, request).is_ok()
 }
 
 impl Bed {
@@ -181,14 +191,7 @@ impl Bed {
         if !are_here(&self.reach, asks.as_slice()) {
             return None;
         }
-        Some(next_packet(
-            alloc,
-            &mut self.queue,
-            &mut self.reach,
-            room,
-            marks,
-            out,
-        ))
+        Some(next_packet(alloc, &mut self.queue, &mut self.reach, room, marks, out))
     }
 
     /// Takes a packet, if it is a response; None where that cannot be tried here.

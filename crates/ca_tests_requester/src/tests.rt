@@ -84,8 +84,7 @@ fn bed_of(alloc: Global, case: &Case) -> Option<Bed>
     if case.slot.slot >= 32768 || case.at.adapter != case.slot.domain.adapter {
         return None;
     }
-    let reach =
-        SmallReach::registered(alloc, case.slot, case.at, case.bytes, case.rights).ok()?;
+    let reach = SmallReach::registered(alloc, case.slot, case.at, case.bytes, case.rights).ok()?;
     let domain = case.slot.domain;
     let queue = QueuePart::create(alloc, case.queue, domain, 1, 0, 0, 256, 0, Some(0)).ok()?;
     Some(Bed { queue, reach })

@@ -11,7 +11,7 @@ on_response-requires-clause-at_hand c = at_hand c.args.self.now.reach (c.as_slic
     (search rules) (search rules)
 
 pub returns : goal.returns
-returns c = stands_by record {queue = c.on_response.new.q; reach = c.on_response.new.reach} (taking_kept c.on_response.result (sight_of c.args.self.now.reach) (fields_of c.args.p.now)
+returns c = stands_by record { queue = c.on_response.new.q; reach = c.on_response.new.reach } (taking_kept c.on_response.result (sight_of c.args.self.now.reach) (fields_of c.args.p.now)
     (handed (queue_of c.args.self.now.queue) c.args.marks.now.marks c.args.self.now.reach)
     (handed (queue_of c.on_response.new.q) c.on_response.new.marks.marks c.on_response.new.reach)
     (record { queue = c.requires.stands.queue; reach = c.requires.stands.reach }) c.on_response.ensures.done)
