@@ -1,14 +1,18 @@
 ghost use Rattle.std.specs.Prelude.{IfSome};
 ghost use Rattle.ca_tests_requester.specs.Bed as beds;
 
+mod answers;
 mod drawn_rows;
+mod limits;
+mod order;
 mod rows;
+mod wakes;
 mod worked_rows;
 
 use crate::Bed;
 use arrayvec::ArrayVec;
 use ca_base::{
-    AdapterConfig, Bytes, Config, DomainId, Lot, Memory, QueueId, Reason, Rights, Run, Sent, Slot,
+    AdapterConfig, Bytes, Config, DomainId, Lot, QueueId, Reason, Rights, Run, Sent, Slot,
     StepError,
 };
 use ca_model::{Event, Mark, Marks, Verb};
@@ -23,6 +27,7 @@ use std::process::Abort;
 /// A run of one queue pair, as text: lines of its adapter's trace, each of them a step, and behind it what it does. A
 /// packet that arrives stands as an injection. Of a request the lot says whether the peer has room: `lose` where it has
 /// none.
+#[derive(Drop)]
 pub struct Case {
     pub queue: QueueId,
     pub slot: Slot,
@@ -201,7 +206,25 @@ fn request(rt: &impl Abort, alloc: Global, bed: &mut Bed, room: bool, text: &mut
 {
     match bed.performs() {
         Some(Ok(true)) => perform(rt, alloc, bed, text),
-        _ => send(rt, alloc, bed, room, text),
+        Some(Ok(false)) => send(rt, alloc, bed, room, text),
+        Some(Err(reason)) => {
+            send(rt, alloc, bed, room, text);
+            let want = reason_text(reason).as_bytes();
+            texts_are(rt, text.as_slice(), want, "the same reason as for a local operation");
+        }
+        None => holds(rt, false, "a turn"),
+    }
+}
+
+// Why a timer does not fire that is neither silent nor hastened.
+fn undue(alloc: Global, bed: &mut Bed) -> &'static str
+    requires { beds.Stands bed.old }
+    ensures { beds.Stands bed.new }
+{
+    let mut marks = Marks::empty(alloc);
+    match bed.time_out(alloc, false, false, &mut marks) {
+        Some(Err(StepError::NotReady(reason))) => reason_text(reason),
+        _ => "a timer that fired",
     }
 }
 
@@ -210,13 +233,15 @@ fn time_out(rt: &impl Abort, alloc: Global, bed: &mut Bed, hasten: bool, text: &
     ensures { beds.Stands bed.new }
 {
     let before = numbers(&bed.queue);
+    let undue = undue(alloc, bed).as_bytes();
     let mut marks = Marks::empty(alloc);
     let done = bed.time_out(alloc, !hasten, hasten, &mut marks);
     put(rt, marks.as_slice(), text);
     match done {
-        Some(Ok(())) => {}
+        Some(Ok(())) => texts_are(rt, undue, b" reason not-due\n", "a timer that is not due"),
         Some(Err(StepError::NotReady(reason))) => {
             put_text(rt, reason_text(reason).as_bytes(), text);
+            texts_are(rt, undue, text.as_slice(), "the same reason");
             numbers_are(
                 rt,
                 numbers(&bed.queue).as_slice(),
@@ -336,11 +361,43 @@ fn go_on(rt: &impl Abort, alloc: Global, bed: &mut Bed, case: &Case)
     texts_are(rt, got.as_slice(), want.as_slice(), "the end");
 }
 
+fn run(rt: &impl Abort, alloc: Global, case: &Case) {
+    match bed_of(alloc, case) {
+        None => holds(rt, false, "a queue pair"),
+        Some(mut bed) => go_on(rt, alloc, &mut bed, case),
+    }
+}
+
 fn runs(rt: &impl Abort, alloc: Global, cases: &[Case]) {
     for case in cases {
-        match bed_of(alloc, case) {
-            None => holds(rt, false, "a queue pair"),
-            Some(mut bed) => go_on(rt, alloc, &mut bed, case),
-        }
+        run(rt, alloc, case);
     }
+}
+
+// A run by hand, of the first queue pair over a region of 4096 bytes.
+fn is_run(rt: &impl Abort, alloc: Global, text: &'static str, peer_empty: bool) {
+    let case = Case {
+        queue: QueueId {
+            adapter: 0,
+            number: 256,
+        },
+        slot: Slot {
+            domain: DomainId {
+                adapter: 0,
+                domain: 0,
+            },
+            slot: 0,
+        },
+        at: Run {
+            adapter: 0,
+            buffer: 0,
+            offset: 0,
+            length: 4096,
+        },
+        bytes: 4096,
+        rights: ALL,
+        peer_empty,
+        text,
+    };
+    run(rt, alloc, &case);
 }
