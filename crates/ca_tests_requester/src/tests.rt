@@ -15,32 +15,26 @@ use ca_base::{
     AdapterConfig, Bytes, Config, DomainId, Lot, QueueId, Reason, Rights, Run, Sent, Slot,
     StepError,
 };
-use ca_model::{Event, Mark, Marks, Verb};
+use ca_model::{Answer, Event, Mark, Marks, Verb};
 use ca_qpstate::QueuePart;
 use ca_reading_lines::read_line;
 use ca_tests_grant::SmallReach;
-use ca_trace::{Line, print_reply};
+use ca_trace::{Line, Told, print_reply};
 use ca_wire::decode;
 use std::alloc::Global;
 use std::process::Abort;
 
-/// A run of one queue pair, as text: lines of its adapter's trace, each of them a step, and behind it what it does. A
-/// packet that arrives stands as an injection. Of a request the lot says whether the peer has room: `lose` where it has
-/// none.
-#[derive(Drop)]
-pub struct Case {
-    pub queue: QueueId,
-    pub slot: Slot,
-    pub at: Run,
-    pub bytes: u32,
-    pub rights: Rights,
-    /// Whether the peer has no receive, where a wake asks.
-    pub peer_empty: bool,
-    pub text: &'static str,
+/// A queue pair, the run of its region, and the region's slot and rights.
+#[derive(Clone, Copy)]
+struct Setup {
+    queue: QueueId,
+    slot: Slot,
+    at: Run,
+    rights: Rights,
 }
 
 /// All rights.
-pub const ALL: Rights = Rights {
+const ALL: Rights = Rights {
     local_write: true,
     remote_read: true,
     remote_write: true,
@@ -82,17 +76,78 @@ fn config(rt: &impl Abort) -> Config {
     }
 }
 
-// The queue pair in Reset, over its region.
-fn bed_of(alloc: Global, case: &Case) -> Option<Bed>
+// The queue pair in Reset, over its region, behind which the buffer ends.
+fn bed_of(alloc: Global, setup: &Setup) -> Option<Bed>
     ensures { IfSome result beds.Stands }
 {
-    if case.slot.slot >= 32768 || case.at.adapter != case.slot.domain.adapter {
+    let slot = setup.slot;
+    if slot.slot >= 32768 || setup.at.adapter != slot.domain.adapter {
         return None;
     }
-    let reach = SmallReach::registered(alloc, case.slot, case.at, case.bytes, case.rights).ok()?;
-    let domain = case.slot.domain;
-    let queue = QueuePart::create(alloc, case.queue, domain, 1, 0, 0, 256, 0, Some(0)).ok()?;
+    let bytes = setup.at.offset.checked_add(setup.at.length)?;
+    let reach = SmallReach::registered(alloc, slot, setup.at, bytes, setup.rights).ok()?;
+    let name = setup.queue;
+    let queue = QueuePart::create(alloc, name, slot.domain, 1, 0, 0, 256, 0, Some(0)).ok()?;
     Some(Bed { queue, reach })
+}
+
+// The region that a line registers: its slot, its run, and its rights.
+fn region_in(alloc: Global, line: &str) -> Option<(Slot, Run, Rights)> {
+    match read_line(alloc, line.as_bytes()) {
+        Ok(
+            Line::Call {
+                verb: Verb::RegMr {
+                    slot,
+                    buffer,
+                    offset,
+                    length,
+                    rights,
+                },
+                ..
+            },
+        ) => {
+            let at = Run {
+                adapter: slot.domain.adapter,
+                buffer,
+                offset,
+                length,
+            };
+            Some((slot, at, rights))
+        }
+        _ => None,
+    }
+}
+
+// The queue pair that a line creates.
+fn queue_in(alloc: Global, line: &str) -> Option<QueueId> {
+    match read_line(alloc, line.as_bytes()) {
+        Ok(
+            Line::Call {
+                verb: Verb::CreateQp { slot, .. },
+                told: Told::Whole(Answer::Queue { number, .. }),
+                ..
+            },
+        ) => Some(QueueId {
+            adapter: slot.domain.adapter,
+            number,
+        }),
+        _ => None,
+    }
+}
+
+// What the first two lines of a run register and create, and the lines behind them.
+fn setup_in(alloc: Global, text: &str) -> Option<(Setup, &str)> {
+    let (first, rest) = text.split_once('\n')?;
+    let (second, rest) = rest.split_once('\n')?;
+    let (slot, at, rights) = region_in(alloc, first)?;
+    let queue = queue_in(alloc, second)?;
+    let setup = Setup {
+        queue,
+        slot,
+        at,
+        rights,
+    };
+    Some((setup, rest))
 }
 
 fn reason_text(reason: Reason) -> &'static str {
@@ -210,7 +265,12 @@ fn request(rt: &impl Abort, alloc: Global, bed: &mut Bed, room: bool, text: &mut
         Some(Err(reason)) => {
             send(rt, alloc, bed, room, text);
             let want = reason_text(reason).as_bytes();
-            texts_are(rt, text.as_slice(), want, "the same reason as for a local operation");
+            texts_are(
+                rt,
+                text.as_slice(),
+                want,
+                "the same reason as for a local operation",
+            );
         }
         None => holds(rt, false, "a turn"),
     }
@@ -341,13 +401,13 @@ fn step(
 }
 
 // Goes on with the lines of a run: `got` is what the steps so far did, and `want` what their lines said.
-fn go_on(rt: &impl Abort, alloc: Global, bed: &mut Bed, case: &Case)
+fn go_on(rt: &impl Abort, alloc: Global, bed: &mut Bed, text: &str, peer_empty: bool)
     requires { beds.Stands bed.old }
     ensures { beds.Stands bed.new }
 {
     let mut got = Vec::new(alloc);
     let mut want = Vec::new(alloc);
-    for line in case.text.lines() {
+    for line in text.lines() {
         if line.starts_with(' ') {
             put_text(rt, line.as_bytes(), &mut want);
             put_text(rt, b"\n", &mut want);
@@ -355,49 +415,57 @@ fn go_on(rt: &impl Abort, alloc: Global, bed: &mut Bed, case: &Case)
             texts_are(rt, got.as_slice(), want.as_slice(), line);
             got.clear();
             want.clear();
-            step(rt, alloc, bed, line, case.peer_empty, &mut got);
+            step(rt, alloc, bed, line, peer_empty, &mut got);
         }
     }
     texts_are(rt, got.as_slice(), want.as_slice(), "the end");
 }
 
-fn run(rt: &impl Abort, alloc: Global, case: &Case) {
-    match bed_of(alloc, case) {
+fn run(rt: &impl Abort, alloc: Global, setup: &Setup, text: &str, peer_empty: bool) {
+    match bed_of(alloc, setup) {
         None => holds(rt, false, "a queue pair"),
-        Some(mut bed) => go_on(rt, alloc, &mut bed, case),
+        Some(mut bed) => go_on(rt, alloc, &mut bed, text, peer_empty),
     }
 }
 
-fn runs(rt: &impl Abort, alloc: Global, cases: &[Case]) {
-    for case in cases {
-        run(rt, alloc, case);
+fn run_text(rt: &impl Abort, alloc: Global, text: &str) {
+    match setup_in(alloc, text) {
+        None => texts_are(rt, text.as_bytes(), b"", "the region and the queue pair"),
+        Some((setup, rest)) => run(rt, alloc, &setup, rest, false),
     }
 }
 
-// A run by hand, of the first queue pair over a region of 4096 bytes.
-fn is_run(rt: &impl Abort, alloc: Global, text: &'static str, peer_empty: bool) {
-    let case = Case {
-        queue: QueueId {
+// Runs that stand in a text, with a blank line between them. Each line is a step, as it stands in a trace, and behind it
+// stands what it does. A packet that arrives stands as an injection.
+fn runs(rt: &impl Abort, alloc: Global, texts: &str) {
+    for text in texts.split("\n\n") {
+        run_text(rt, alloc, text);
+    }
+}
+
+/// The first queue pair, over a region of 4096 bytes.
+const PLAIN: Setup = Setup {
+    queue: QueueId {
+        adapter: 0,
+        number: 256,
+    },
+    slot: Slot {
+        domain: DomainId {
             adapter: 0,
-            number: 256,
+            domain: 0,
         },
-        slot: Slot {
-            domain: DomainId {
-                adapter: 0,
-                domain: 0,
-            },
-            slot: 0,
-        },
-        at: Run {
-            adapter: 0,
-            buffer: 0,
-            offset: 0,
-            length: 4096,
-        },
-        bytes: 4096,
-        rights: ALL,
-        peer_empty,
-        text,
-    };
-    run(rt, alloc, &case);
+        slot: 0,
+    },
+    at: Run {
+        adapter: 0,
+        buffer: 0,
+        offset: 0,
+        length: 4096,
+    },
+    rights: ALL,
+};
+
+// A run by hand. Of a request the lot says whether the peer has room: `lose` where it has none.
+fn is_run(rt: &impl Abort, alloc: Global, text: &str, peer_empty: bool) {
+    run(rt, alloc, &PLAIN, text, peer_empty);
 }

@@ -1,31 +1,8 @@
-use super::{ALL, Case};
-use ca_base::{DomainId, QueueId, Run, Slot};
+//! Runs that another program reckoned from the rules; `tools/rows_of_requester` wrote them.
 
-/// Runs that another program reckoned from the rules; `tools/rows_of_requester` wrote the table.
-pub const ROWS: [Case; 21] = [
-    // wrap
-    Case {
-        queue: QueueId {
-            adapter: 0,
-            number: 256,
-        },
-        slot: Slot {
-            domain: DomainId {
-                adapter: 0,
-                domain: 0,
-            },
-            slot: 0,
-        },
-        at: Run {
-            adapter: 0,
-            buffer: 0,
-            offset: 0,
-            length: 4096,
-        },
-        bytes: 4096,
-        rights: ALL,
-        peer_empty: false,
-        text: "@0 p0 c0 init 0/0/0 -> ok
+pub const ROWS_1: &str = "@0 p0 c0 reg 0/0/0 0 0 4096 lrwab -> key 0x00000001
+@0 p0 c0 qp 0/0/0 0 0 4 4 - -> qp 256 1
+@0 p0 c0 init 0/0/0 -> ok
 @1 p0 c0 rtr 0/0/0 1/256 1 0 256 12 -> ok
 @2 p0 c0 rts 0/0/0 16777214 7 7 16 -> ok
 @3 p0 c0 post 0/0/0 1 s send 0x00000001:0x100000000:1000 -> posted -
@@ -43,31 +20,10 @@ pub const ROWS: [Case; 21] = [
  sent 0/256 1/256 - 0 0200ffff000001008000000100000000000000000000000000000000000000000000000000000000000000000000000000000000000000000000000000000000000000000000000000000000000000000000000000000000000000000000000000000000000000000000000000000000000000000000000000000000000000000000000000000000000000000000000000000000000000000000000000000000000000000000000000000000000000000000000000000000000000000000000000000000000000000000000000000000000000000000000000000000000000000000000000000000000000000000000000000000
 @8 p0 c0 inject 0/256 1100ffff00000100000000011f000001 -> ok
  done 0/256 send 0 1 send success 0 - - -
-",
-    },
-    // ordinary-use
-    Case {
-        queue: QueueId {
-            adapter: 0,
-            number: 256,
-        },
-        slot: Slot {
-            domain: DomainId {
-                adapter: 0,
-                domain: 0,
-            },
-            slot: 0,
-        },
-        at: Run {
-            adapter: 0,
-            buffer: 0,
-            offset: 0,
-            length: 4096,
-        },
-        bytes: 4096,
-        rights: ALL,
-        peer_empty: false,
-        text: "@0 p0 c0 init 0/0/0 -> ok
+
+@0 p0 c0 reg 0/0/0 0 0 4096 lrwab -> key 0x00000001
+@0 p0 c0 qp 0/0/0 0 0 4 4 - -> qp 256 1
+@0 p0 c0 init 0/0/0 -> ok
 @1 p0 c0 rtr 0/0/0 1/256 1 0 256 12 -> ok
 @2 p0 c0 rts 0/0/0 0 7 7 16 -> ok
 @3 p0 c0 post 0/0/0 1 s send 0x00000001:0x100000000:300 -> posted -
@@ -97,31 +53,10 @@ pub const ROWS: [Case; 21] = [
 @15 p0 c0 inject 0/256 1200ffff00000100000000041f0000040000000000000000 -> ok
  local 0/256 0/0 0x00000001 write 0x100000a00 8 wrote 0000000000000000
  done 0/256 send 3 4 fetch-add success 8 - - -
-",
-    },
-    // read-responses
-    Case {
-        queue: QueueId {
-            adapter: 0,
-            number: 256,
-        },
-        slot: Slot {
-            domain: DomainId {
-                adapter: 0,
-                domain: 0,
-            },
-            slot: 0,
-        },
-        at: Run {
-            adapter: 0,
-            buffer: 0,
-            offset: 0,
-            length: 4096,
-        },
-        bytes: 4096,
-        rights: ALL,
-        peer_empty: false,
-        text: "@0 p0 c0 init 0/0/0 -> ok
+
+@0 p0 c0 reg 0/0/0 0 0 4096 lrwab -> key 0x00000001
+@0 p0 c0 qp 0/0/0 0 0 4 4 - -> qp 256 1
+@0 p0 c0 init 0/0/0 -> ok
 @1 p0 c0 rtr 0/0/0 1/256 1 0 256 12 -> ok
 @2 p0 c0 rts 0/0/0 0 7 7 16 -> ok
 @3 p0 c0 post 0/0/0 1 s read 0x100000000 0x00000001 0x00000001:0x100000100:256 -> posted -
@@ -135,31 +70,10 @@ pub const ROWS: [Case; 21] = [
  sent 0/256 1/256 - 1 0a00ffff000001008000000100000001000000000000000100000000
 @8 p0 c0 inject 0/256 1100ffff00000100000000011f000002 -> ok
  done 0/256 send 1 2 write success 0 - - -
-",
-    },
-    // read-responses-2
-    Case {
-        queue: QueueId {
-            adapter: 0,
-            number: 256,
-        },
-        slot: Slot {
-            domain: DomainId {
-                adapter: 0,
-                domain: 0,
-            },
-            slot: 0,
-        },
-        at: Run {
-            adapter: 0,
-            buffer: 0,
-            offset: 0,
-            length: 4096,
-        },
-        bytes: 4096,
-        rights: ALL,
-        peer_empty: false,
-        text: "@0 p0 c0 init 0/0/0 -> ok
+
+@0 p0 c0 reg 0/0/0 0 0 4096 lrwab -> key 0x00000001
+@0 p0 c0 qp 0/0/0 0 0 4 4 - -> qp 256 1
+@0 p0 c0 init 0/0/0 -> ok
 @1 p0 c0 rtr 0/0/0 1/256 1 0 256 12 -> ok
 @2 p0 c0 rts 0/0/0 0 7 7 16 -> ok
 @3 p0 c0 post 0/0/0 1 s read 0x100000000 0x00000001 0x00000001:0x100000100:257 -> posted -
@@ -175,31 +89,11 @@ pub const ROWS: [Case; 21] = [
  done 0/256 send 0 1 read success 257 - - -
 @9 p0 c0 inject 0/256 1100ffff00000100000000021f000002 -> ok
  done 0/256 send 1 2 write success 0 - - -
-",
-    },
-    // write-of-no-bytes
-    Case {
-        queue: QueueId {
-            adapter: 0,
-            number: 256,
-        },
-        slot: Slot {
-            domain: DomainId {
-                adapter: 0,
-                domain: 0,
-            },
-            slot: 0,
-        },
-        at: Run {
-            adapter: 0,
-            buffer: 0,
-            offset: 0,
-            length: 4096,
-        },
-        bytes: 4096,
-        rights: ALL,
-        peer_empty: false,
-        text: "@0 p0 c0 init 0/0/0 -> ok
+";
+
+pub const ROWS_2: &str = "@0 p0 c0 reg 0/0/0 0 0 4096 lrwab -> key 0x00000001
+@0 p0 c0 qp 0/0/0 0 0 4 4 - -> qp 256 1
+@0 p0 c0 init 0/0/0 -> ok
 @1 p0 c0 rtr 0/0/0 1/256 1 0 256 12 -> ok
 @2 p0 c0 rts 0/0/0 0 7 7 16 -> ok
 @3 p0 c0 post 0/0/0 1 s write 0x0 0xdeadbeef - -> posted -
@@ -207,31 +101,10 @@ pub const ROWS: [Case; 21] = [
  sent 0/256 1/256 - 0 0a00ffff00000100800000000000000000000000deadbeef00000000
 @5 p0 c0 inject 0/256 1100ffff00000100000000001f000001 -> ok
  done 0/256 send 0 1 write success 0 - - -
-",
-    },
-    // lost-answer-of-an-atomic
-    Case {
-        queue: QueueId {
-            adapter: 0,
-            number: 256,
-        },
-        slot: Slot {
-            domain: DomainId {
-                adapter: 0,
-                domain: 0,
-            },
-            slot: 0,
-        },
-        at: Run {
-            adapter: 0,
-            buffer: 0,
-            offset: 0,
-            length: 4096,
-        },
-        bytes: 4096,
-        rights: ALL,
-        peer_empty: false,
-        text: "@0 p0 c0 init 0/0/0 -> ok
+
+@0 p0 c0 reg 0/0/0 0 0 4096 lrwab -> key 0x00000001
+@0 p0 c0 qp 0/0/0 0 0 4 4 - -> qp 256 1
+@0 p0 c0 init 0/0/0 -> ok
 @1 p0 c0 rtr 0/0/0 1/256 1 0 256 12 -> ok
 @2 p0 c0 rts 0/0/0 0 7 7 16 -> ok
 @3 p0 c0 post 0/0/0 1 s add 0x100000400 0x00000001 1 0x00000001:0x100000a00:8 -> posted -
@@ -244,31 +117,10 @@ pub const ROWS: [Case; 21] = [
 @7 p0 c0 inject 0/256 1200ffff00000100000000001f000001ffffffffffffffff -> ok
  local 0/256 0/0 0x00000001 write 0x100000a00 8 wrote ffffffffffffffff
  done 0/256 send 0 1 fetch-add success 8 - - -
-",
-    },
-    // injected-atomic
-    Case {
-        queue: QueueId {
-            adapter: 0,
-            number: 256,
-        },
-        slot: Slot {
-            domain: DomainId {
-                adapter: 0,
-                domain: 0,
-            },
-            slot: 0,
-        },
-        at: Run {
-            adapter: 0,
-            buffer: 0,
-            offset: 0,
-            length: 4096,
-        },
-        bytes: 4096,
-        rights: ALL,
-        peer_empty: false,
-        text: "@0 p0 c0 init 0/0/0 -> ok
+
+@0 p0 c0 reg 0/0/0 0 0 4096 lrwab -> key 0x00000001
+@0 p0 c0 qp 0/0/0 0 0 4 4 - -> qp 256 1
+@0 p0 c0 init 0/0/0 -> ok
 @1 p0 c0 rtr 0/0/0 1/256 1 0 256 12 -> ok
 @2 p0 c0 rts 0/0/0 0 7 7 16 -> ok
 @3 p0 c0 post 0/0/0 1 s add 0x100000400 0x00000001 1 0x00000001:0x100000a00:8 -> posted -
@@ -277,31 +129,10 @@ pub const ROWS: [Case; 21] = [
 @5 p0 c0 inject 0/256 1200ffff00000100000000001f0000010000000000000000 -> ok
  local 0/256 0/0 0x00000001 write 0x100000a00 8 wrote 0000000000000000
  done 0/256 send 0 1 fetch-add success 8 - - -
-",
-    },
-    // no-receive-2
-    Case {
-        queue: QueueId {
-            adapter: 0,
-            number: 256,
-        },
-        slot: Slot {
-            domain: DomainId {
-                adapter: 0,
-                domain: 0,
-            },
-            slot: 0,
-        },
-        at: Run {
-            adapter: 0,
-            buffer: 0,
-            offset: 0,
-            length: 4096,
-        },
-        bytes: 4096,
-        rights: ALL,
-        peer_empty: false,
-        text: "@0 p0 c0 init 0/0/0 -> ok
+
+@0 p0 c0 reg 0/0/0 0 0 4096 lrwab -> key 0x00000001
+@0 p0 c0 qp 0/0/0 0 0 4 4 - -> qp 256 1
+@0 p0 c0 init 0/0/0 -> ok
 @1 p0 c0 rtr 0/0/0 1/256 1 0 256 12 -> ok
 @2 p0 c0 rts 0/0/0 0 7 1 16 -> ok
 @3 p0 c0 post 0/0/0 1 s send 0x00000001:0x100000000:4 -> posted -
@@ -315,31 +146,10 @@ pub const ROWS: [Case; 21] = [
  sent 0/256 1/256 - 0 0400ffff000001008000000000000000
 @8 p0 c0 inject 0/256 1100ffff00000100000000002c000000 -> ok
  done 0/256 send 0 1 send rnr-retry-exceeded 0 - - -
-",
-    },
-    // no-receive-3
-    Case {
-        queue: QueueId {
-            adapter: 0,
-            number: 256,
-        },
-        slot: Slot {
-            domain: DomainId {
-                adapter: 0,
-                domain: 0,
-            },
-            slot: 0,
-        },
-        at: Run {
-            adapter: 0,
-            buffer: 0,
-            offset: 0,
-            length: 4096,
-        },
-        bytes: 4096,
-        rights: ALL,
-        peer_empty: false,
-        text: "@0 p0 c0 init 0/0/0 -> ok
+
+@0 p0 c0 reg 0/0/0 0 0 4096 lrwab -> key 0x00000001
+@0 p0 c0 qp 0/0/0 0 0 4 4 - -> qp 256 1
+@0 p0 c0 init 0/0/0 -> ok
 @1 p0 c0 rtr 0/0/0 1/256 1 0 256 12 -> ok
 @2 p0 c0 rts 0/0/0 0 7 7 16 -> ok
 @3 p0 c0 post 0/0/0 1 s send 0x00000001:0x100000000:4 -> posted -
@@ -353,69 +163,10 @@ pub const ROWS: [Case; 21] = [
  sent 0/256 1/256 - 0 0400ffff000001008000000000000000
 @8 p0 c0 inject 0/256 1100ffff00000100000000001f000001 -> ok
  done 0/256 send 0 1 send success 0 - - -
-",
-    },
-    // no-receive-4
-    Case {
-        queue: QueueId {
-            adapter: 0,
-            number: 256,
-        },
-        slot: Slot {
-            domain: DomainId {
-                adapter: 0,
-                domain: 0,
-            },
-            slot: 0,
-        },
-        at: Run {
-            adapter: 0,
-            buffer: 0,
-            offset: 0,
-            length: 4096,
-        },
-        bytes: 4096,
-        rights: ALL,
-        peer_empty: false,
-        text: "@0 p0 c0 init 0/0/0 -> ok
-@1 p0 c0 rtr 0/0/0 1/256 1 0 256 12 -> ok
-@2 p0 c0 rts 0/0/0 0 7 7 16 -> ok
-@3 p0 c0 post 0/0/0 1 s send 0x00000001:0x100000000:4 -> posted -
-@4 p0 request 0/256 pass
- local 0/256 0/0 0x00000001 read 0x100000000 4 read 00000000
- sent 0/256 1/256 - 0 0400ffff000001008000000000000000
-@5 p0 c0 inject 0/256 1100ffff00000100000000002c000000 -> ok
-@6 p0 wake 0/256
-@7 p0 request 0/256 pass
- local 0/256 0/0 0x00000001 read 0x100000000 4 read 00000000
- sent 0/256 1/256 - 0 0400ffff000001008000000000000000
-@8 p0 c0 inject 0/256 1100ffff00000100000000001f000001 -> ok
- done 0/256 send 0 1 send success 0 - - -
-",
-    },
-    // retry-exceeded
-    Case {
-        queue: QueueId {
-            adapter: 0,
-            number: 256,
-        },
-        slot: Slot {
-            domain: DomainId {
-                adapter: 0,
-                domain: 0,
-            },
-            slot: 0,
-        },
-        at: Run {
-            adapter: 0,
-            buffer: 0,
-            offset: 0,
-            length: 4096,
-        },
-        bytes: 4096,
-        rights: ALL,
-        peer_empty: false,
-        text: "@0 p0 c0 init 0/0/0 -> ok
+
+@0 p0 c0 reg 0/0/0 0 0 4096 lrwab -> key 0x00000001
+@0 p0 c0 qp 0/0/0 0 0 4 4 - -> qp 256 1
+@0 p0 c0 init 0/0/0 -> ok
 @1 p0 c0 rtr 0/0/0 1/256 1 0 256 12 -> ok
 @2 p0 c0 rts 0/0/0 0 0 7 16 -> ok
 @3 p0 c0 post 0/0/0 1 s write 0x100000000 0x00000001 0x00000001:0x100000000:1 -> posted -
@@ -435,31 +186,10 @@ pub const ROWS: [Case; 21] = [
  done 0/256 send 0 1 write retry-exceeded 0 - - -
  done 0/256 send 1 2 write flushed 0 - - -
  done 0/256 send 2 3 write flushed 0 - - -
-",
-    },
-    // foreign-and-missing-keys
-    Case {
-        queue: QueueId {
-            adapter: 0,
-            number: 256,
-        },
-        slot: Slot {
-            domain: DomainId {
-                adapter: 0,
-                domain: 0,
-            },
-            slot: 0,
-        },
-        at: Run {
-            adapter: 0,
-            buffer: 0,
-            offset: 0,
-            length: 4096,
-        },
-        bytes: 4096,
-        rights: ALL,
-        peer_empty: false,
-        text: "@0 p0 c0 init 0/0/0 -> ok
+
+@0 p0 c0 reg 0/0/0 0 0 4096 lrwab -> key 0x00000001
+@0 p0 c0 qp 0/0/0 0 0 4 4 - -> qp 256 1
+@0 p0 c0 init 0/0/0 -> ok
 @1 p0 c0 rtr 0/0/0 1/256 1 0 256 12 -> ok
 @2 p0 c0 rts 0/0/0 0 7 7 16 -> ok
 @3 p0 c0 post 0/0/0 1 s write 0x100000000 0x01000001 0x00000001:0x100000000:1 -> posted -
@@ -468,31 +198,10 @@ pub const ROWS: [Case; 21] = [
  sent 0/256 1/256 - 0 0a30ffff00000100800000000000000100000000010000010000000100000000
 @5 p0 c0 inject 0/256 1100ffff000001000000000062000000 -> ok
  done 0/256 send 0 1 write remote-access 0 - - -
-",
-    },
-    // out-of-range
-    Case {
-        queue: QueueId {
-            adapter: 0,
-            number: 256,
-        },
-        slot: Slot {
-            domain: DomainId {
-                adapter: 0,
-                domain: 0,
-            },
-            slot: 0,
-        },
-        at: Run {
-            adapter: 0,
-            buffer: 0,
-            offset: 0,
-            length: 4096,
-        },
-        bytes: 4096,
-        rights: ALL,
-        peer_empty: false,
-        text: "@0 p0 c0 init 0/0/0 -> ok
+
+@0 p0 c0 reg 0/0/0 0 0 4096 lrwab -> key 0x00000001
+@0 p0 c0 qp 0/0/0 0 0 4 4 - -> qp 256 1
+@0 p0 c0 init 0/0/0 -> ok
 @1 p0 c0 rtr 0/0/0 1/256 1 0 256 12 -> ok
 @2 p0 c0 rts 0/0/0 0 7 7 16 -> ok
 @3 p0 c0 post 0/0/0 1 s write 0x100000fff 0x00000001 0x00000001:0x100000000:1 -> posted -
@@ -507,31 +216,10 @@ pub const ROWS: [Case; 21] = [
  sent 0/256 1/256 - 1 0a30ffff00000100800000010000000100001000000000010000000100000000
 @8 p0 c0 inject 0/256 1100ffff000001000000000162000001 -> ok
  done 0/256 send 1 2 write remote-access 0 - - -
-",
-    },
-    // queue-full
-    Case {
-        queue: QueueId {
-            adapter: 0,
-            number: 256,
-        },
-        slot: Slot {
-            domain: DomainId {
-                adapter: 0,
-                domain: 0,
-            },
-            slot: 0,
-        },
-        at: Run {
-            adapter: 0,
-            buffer: 0,
-            offset: 0,
-            length: 4096,
-        },
-        bytes: 4096,
-        rights: ALL,
-        peer_empty: false,
-        text: "@0 p0 c0 init 0/0/0 -> ok
+
+@0 p0 c0 reg 0/0/0 0 0 4096 lrwab -> key 0x00000001
+@0 p0 c0 qp 0/0/0 0 0 4 4 - -> qp 256 1
+@0 p0 c0 init 0/0/0 -> ok
 @1 p0 c0 rtr 0/0/0 1/256 1 0 256 12 -> ok
 @2 p0 c0 rts 0/0/0 0 7 7 16 -> ok
 @3 p0 c0 post 0/0/0 1 - write 0x100000000 0x00000001 0x00000001:0x100000000:1 -> posted -
@@ -551,31 +239,10 @@ pub const ROWS: [Case; 21] = [
  sent 0/256 1/256 - 2 0a30ffff00000100800000020000000100000000000000010000000100000000
 @11 p0 c0 inject 0/256 1100ffff00000100000000021f000003 -> ok
  done 0/256 send 2 4 write success 0 - - -
-",
-    },
-    // deregistration-during-a-read
-    Case {
-        queue: QueueId {
-            adapter: 0,
-            number: 256,
-        },
-        slot: Slot {
-            domain: DomainId {
-                adapter: 0,
-                domain: 0,
-            },
-            slot: 0,
-        },
-        at: Run {
-            adapter: 0,
-            buffer: 0,
-            offset: 0,
-            length: 4096,
-        },
-        bytes: 4096,
-        rights: ALL,
-        peer_empty: false,
-        text: "@0 p0 c0 init 0/0/0 -> ok
+
+@0 p0 c0 reg 0/0/0 0 0 4096 lrwab -> key 0x00000001
+@0 p0 c0 qp 0/0/0 0 0 4 4 - -> qp 256 1
+@0 p0 c0 init 0/0/0 -> ok
 @1 p0 c0 rtr 0/0/0 1/256 1 0 256 12 -> ok
 @2 p0 c0 rts 0/0/0 0 7 7 16 -> ok
 @3 p0 c0 post 0/0/0 1 s read 0x100000000 0x00000001 0x00000001:0x100000400:600 -> posted -
@@ -585,31 +252,10 @@ pub const ROWS: [Case; 21] = [
  local 0/256 0/0 0x00000001 write 0x100000400 256 wrote 77777777777777777777777777777777777777777777777777777777777777777777777777777777777777777777777777777777777777777777777777777777777777777777777777777777777777777777777777777777777777777777777777777777777777777777777777777777777777777777777777777777777777777777777777777777777777777777777777777777777777777777777777777777777777777777777777777777777777777777777777777777777777777777777777777777777777777777777777777777777777777777777777777777777777777777777777777777777777777777777777777777777777777777777777777777
 @6 p0 c0 inject 0/256 1100ffff000001000000000162000001 -> ok
  done 0/256 send 0 1 read remote-access 0 - - -
-",
-    },
-    // window-of-another-queue-pair
-    Case {
-        queue: QueueId {
-            adapter: 0,
-            number: 257,
-        },
-        slot: Slot {
-            domain: DomainId {
-                adapter: 0,
-                domain: 0,
-            },
-            slot: 0,
-        },
-        at: Run {
-            adapter: 0,
-            buffer: 0,
-            offset: 0,
-            length: 4096,
-        },
-        bytes: 4096,
-        rights: ALL,
-        peer_empty: false,
-        text: "@0 p0 c0 init 0/0/1 -> ok
+
+@0 p0 c0 reg 0/0/0 0 0 4096 lrwab -> key 0x00000001
+@0 p0 c0 qp 0/0/1 0 0 4 4 - -> qp 257 1
+@0 p0 c0 init 0/0/1 -> ok
 @1 p0 c0 rtr 0/0/1 1/257 1 0 256 12 -> ok
 @2 p0 c0 rts 0/0/1 0 7 7 16 -> ok
 @3 p0 c0 post 0/0/1 5 s write 0x100000000 0x00800009 0x00000001:0x100000000:1 -> posted -
@@ -618,31 +264,10 @@ pub const ROWS: [Case; 21] = [
  sent 0/257 1/257 - 0 0a30ffff00000101800000000000000100000000008000090000000100000000
 @5 p0 c0 inject 0/257 1100ffff000001010000000062000000 -> ok
  done 0/257 send 0 5 write remote-access 0 - - -
-",
-    },
-    // window-of-another-queue-pair-2
-    Case {
-        queue: QueueId {
-            adapter: 0,
-            number: 257,
-        },
-        slot: Slot {
-            domain: DomainId {
-                adapter: 0,
-                domain: 0,
-            },
-            slot: 0,
-        },
-        at: Run {
-            adapter: 0,
-            buffer: 0,
-            offset: 0,
-            length: 4096,
-        },
-        bytes: 4096,
-        rights: ALL,
-        peer_empty: false,
-        text: "@0 p0 c0 init 0/0/1 -> ok
+
+@0 p0 c0 reg 0/0/0 0 0 4096 lrwab -> key 0x00000001
+@0 p0 c0 qp 0/0/1 0 0 4 4 - -> qp 257 1
+@0 p0 c0 init 0/0/1 -> ok
 @1 p0 c0 rtr 0/0/1 1/257 1 0 256 12 -> ok
 @2 p0 c0 rts 0/0/1 0 7 7 16 -> ok
 @3 p0 c0 post 0/0/1 5 s write 0x100000000 0x00800001 0x00000001:0x100000000:1 -> posted -
@@ -651,62 +276,20 @@ pub const ROWS: [Case; 21] = [
  sent 0/257 1/257 - 0 0a30ffff00000101800000000000000100000000008000010000000100000000
 @5 p0 c0 inject 0/257 1100ffff00000101000000001f000001 -> ok
  done 0/257 send 0 5 write success 0 - - -
-",
-    },
-    // bound-again
-    Case {
-        queue: QueueId {
-            adapter: 0,
-            number: 256,
-        },
-        slot: Slot {
-            domain: DomainId {
-                adapter: 0,
-                domain: 0,
-            },
-            slot: 0,
-        },
-        at: Run {
-            adapter: 0,
-            buffer: 0,
-            offset: 0,
-            length: 4096,
-        },
-        bytes: 4096,
-        rights: ALL,
-        peer_empty: false,
-        text: "@0 p0 c0 init 0/0/0 -> ok
+
+@0 p0 c0 reg 0/0/0 0 0 4096 lrwab -> key 0x00000001
+@0 p0 c0 qp 0/0/0 0 0 4 4 - -> qp 256 1
+@0 p0 c0 init 0/0/0 -> ok
 @1 p0 c0 rtr 0/0/0 1/256 1 0 256 12 -> ok
 @2 p0 c0 rts 0/0/0 0 7 7 16 -> ok
 @3 p0 c0 post 0/0/0 1 s bind2 0 0x00000001 9 0x100000000 64 w -> posted -
 @4 p0 request 0/256 pass
  done 0/256 send 0 1 bind success 0 - - -
 @5 p0 c0 post 0/0/0 2 s bind2 0 0x00000001 10 0x100000000 64 w -> posted -
-",
-    },
-    // type-1-window-moves
-    Case {
-        queue: QueueId {
-            adapter: 0,
-            number: 256,
-        },
-        slot: Slot {
-            domain: DomainId {
-                adapter: 0,
-                domain: 0,
-            },
-            slot: 0,
-        },
-        at: Run {
-            adapter: 0,
-            buffer: 0,
-            offset: 0,
-            length: 4096,
-        },
-        bytes: 4096,
-        rights: ALL,
-        peer_empty: false,
-        text: "@0 p0 c0 init 0/0/0 -> ok
+
+@0 p0 c0 reg 0/0/0 0 0 4096 lrwab -> key 0x00000001
+@0 p0 c0 qp 0/0/0 0 0 4 4 - -> qp 256 1
+@0 p0 c0 init 0/0/0 -> ok
 @1 p0 c0 rtr 0/0/0 1/256 1 0 256 12 -> ok
 @2 p0 c0 rts 0/0/0 0 7 7 16 -> ok
 @3 p0 c0 post 0/0/0 1 s bind1 0 0x00000001 0x100000000 64 r -> posted 0x00800001
@@ -715,165 +298,13 @@ pub const ROWS: [Case; 21] = [
 @5 p0 c0 post 0/0/0 2 s bind1 0 0x00000101 0x100000000 64 r -> posted 0x00800002
 @6 p0 request 0/256 pass
  done 0/256 send 1 2 bind success 0 - - -
-",
-    },
-    // four-consumers-one-invalidates
-    Case {
-        queue: QueueId {
-            adapter: 1,
-            number: 256,
-        },
-        slot: Slot {
-            domain: DomainId {
-                adapter: 1,
-                domain: 0,
-            },
-            slot: 0,
-        },
-        at: Run {
-            adapter: 1,
-            buffer: 0,
-            offset: 0,
-            length: 4096,
-        },
-        bytes: 4096,
-        rights: ALL,
-        peer_empty: false,
-        text: "@0 p0 c1 init 1/0/0 -> ok
+
+@0 p0 c0 reg 1/0/0 0 0 4096 lrwab -> key 0x00000001
+@0 p0 c0 qp 1/0/0 0 0 4 4 - -> qp 256 1
+@0 p0 c1 init 1/0/0 -> ok
 @1 p0 c1 rtr 1/0/0 0/256 1 0 256 12 -> ok
 @2 p0 c1 rts 1/0/0 0 7 7 16 -> ok
 @3 p0 c1 post 1/0/0 70 s bind2 0 0x00000001 9 0x100000400 64 a -> posted -
 @4 p0 request 1/256 pass
  done 1/256 send 0 70 bind success 0 - - -
-",
-    },
-    // seventeenth-atomic-drops-the-oldest-result
-    Case {
-        queue: QueueId {
-            adapter: 0,
-            number: 256,
-        },
-        slot: Slot {
-            domain: DomainId {
-                adapter: 0,
-                domain: 0,
-            },
-            slot: 0,
-        },
-        at: Run {
-            adapter: 0,
-            buffer: 0,
-            offset: 0,
-            length: 4096,
-        },
-        bytes: 4096,
-        rights: ALL,
-        peer_empty: false,
-        text: "@0 p0 c0 init 0/0/0 -> ok
-@1 p0 c0 rtr 0/0/0 1/256 1 0 256 12 -> ok
-@2 p0 c0 rts 0/0/0 0 7 7 16 -> ok
-@3 p0 c0 post 0/0/0 0 s add 0x100000400 0x00000001 1 0x00000001:0x100000a00:8 -> posted -
-@4 p0 request 0/256 pass
- sent 0/256 1/256 - 0 1400ffff000001008000000000000001000004000000000100000000000000010000000000000000
-@5 p0 c0 inject 0/256 1200ffff00000100000000001f0000010000000000000000 -> ok
- local 0/256 0/0 0x00000001 write 0x100000a00 8 wrote 0000000000000000
- done 0/256 send 0 0 fetch-add success 8 - - -
-@6 p0 c0 post 0/0/0 1 s add 0x100000400 0x00000001 1 0x00000001:0x100000a00:8 -> posted -
-@7 p0 request 0/256 pass
- sent 0/256 1/256 - 1 1400ffff000001008000000100000001000004000000000100000000000000010000000000000000
-@8 p0 c0 inject 0/256 1200ffff00000100000000011f0000020000000000000001 -> ok
- local 0/256 0/0 0x00000001 write 0x100000a00 8 wrote 0100000000000000
- done 0/256 send 1 1 fetch-add success 8 - - -
-@9 p0 c0 post 0/0/0 2 s add 0x100000400 0x00000001 1 0x00000001:0x100000a00:8 -> posted -
-@10 p0 request 0/256 pass
- sent 0/256 1/256 - 2 1400ffff000001008000000200000001000004000000000100000000000000010000000000000000
-@11 p0 c0 inject 0/256 1200ffff00000100000000021f0000030000000000000002 -> ok
- local 0/256 0/0 0x00000001 write 0x100000a00 8 wrote 0200000000000000
- done 0/256 send 2 2 fetch-add success 8 - - -
-@12 p0 c0 post 0/0/0 3 s add 0x100000400 0x00000001 1 0x00000001:0x100000a00:8 -> posted -
-@13 p0 request 0/256 pass
- sent 0/256 1/256 - 3 1400ffff000001008000000300000001000004000000000100000000000000010000000000000000
-@14 p0 c0 inject 0/256 1200ffff00000100000000031f0000040000000000000003 -> ok
- local 0/256 0/0 0x00000001 write 0x100000a00 8 wrote 0300000000000000
- done 0/256 send 3 3 fetch-add success 8 - - -
-@15 p0 c0 post 0/0/0 4 s add 0x100000400 0x00000001 1 0x00000001:0x100000a00:8 -> posted -
-@16 p0 request 0/256 pass
- sent 0/256 1/256 - 4 1400ffff000001008000000400000001000004000000000100000000000000010000000000000000
-@17 p0 c0 inject 0/256 1200ffff00000100000000041f0000050000000000000004 -> ok
- local 0/256 0/0 0x00000001 write 0x100000a00 8 wrote 0400000000000000
- done 0/256 send 4 4 fetch-add success 8 - - -
-@18 p0 c0 post 0/0/0 5 s add 0x100000400 0x00000001 1 0x00000001:0x100000a00:8 -> posted -
-@19 p0 request 0/256 pass
- sent 0/256 1/256 - 5 1400ffff000001008000000500000001000004000000000100000000000000010000000000000000
-@20 p0 c0 inject 0/256 1200ffff00000100000000051f0000060000000000000005 -> ok
- local 0/256 0/0 0x00000001 write 0x100000a00 8 wrote 0500000000000000
- done 0/256 send 5 5 fetch-add success 8 - - -
-@21 p0 c0 post 0/0/0 6 s add 0x100000400 0x00000001 1 0x00000001:0x100000a00:8 -> posted -
-@22 p0 request 0/256 pass
- sent 0/256 1/256 - 6 1400ffff000001008000000600000001000004000000000100000000000000010000000000000000
-@23 p0 c0 inject 0/256 1200ffff00000100000000061f0000070000000000000006 -> ok
- local 0/256 0/0 0x00000001 write 0x100000a00 8 wrote 0600000000000000
- done 0/256 send 6 6 fetch-add success 8 - - -
-@24 p0 c0 post 0/0/0 7 s add 0x100000400 0x00000001 1 0x00000001:0x100000a00:8 -> posted -
-@25 p0 request 0/256 pass
- sent 0/256 1/256 - 7 1400ffff000001008000000700000001000004000000000100000000000000010000000000000000
-@26 p0 c0 inject 0/256 1200ffff00000100000000071f0000080000000000000007 -> ok
- local 0/256 0/0 0x00000001 write 0x100000a00 8 wrote 0700000000000000
- done 0/256 send 7 7 fetch-add success 8 - - -
-@27 p0 c0 post 0/0/0 8 s add 0x100000400 0x00000001 1 0x00000001:0x100000a00:8 -> posted -
-@28 p0 request 0/256 pass
- sent 0/256 1/256 - 8 1400ffff000001008000000800000001000004000000000100000000000000010000000000000000
-@29 p0 c0 inject 0/256 1200ffff00000100000000081f0000090000000000000008 -> ok
- local 0/256 0/0 0x00000001 write 0x100000a00 8 wrote 0800000000000000
- done 0/256 send 8 8 fetch-add success 8 - - -
-@30 p0 c0 post 0/0/0 9 s add 0x100000400 0x00000001 1 0x00000001:0x100000a00:8 -> posted -
-@31 p0 request 0/256 pass
- sent 0/256 1/256 - 9 1400ffff000001008000000900000001000004000000000100000000000000010000000000000000
-@32 p0 c0 inject 0/256 1200ffff00000100000000091f00000a0000000000000009 -> ok
- local 0/256 0/0 0x00000001 write 0x100000a00 8 wrote 0900000000000000
- done 0/256 send 9 9 fetch-add success 8 - - -
-@33 p0 c0 post 0/0/0 10 s add 0x100000400 0x00000001 1 0x00000001:0x100000a00:8 -> posted -
-@34 p0 request 0/256 pass
- sent 0/256 1/256 - 10 1400ffff000001008000000a00000001000004000000000100000000000000010000000000000000
-@35 p0 c0 inject 0/256 1200ffff000001000000000a1f00000b000000000000000a -> ok
- local 0/256 0/0 0x00000001 write 0x100000a00 8 wrote 0a00000000000000
- done 0/256 send 10 10 fetch-add success 8 - - -
-@36 p0 c0 post 0/0/0 11 s add 0x100000400 0x00000001 1 0x00000001:0x100000a00:8 -> posted -
-@37 p0 request 0/256 pass
- sent 0/256 1/256 - 11 1400ffff000001008000000b00000001000004000000000100000000000000010000000000000000
-@38 p0 c0 inject 0/256 1200ffff000001000000000b1f00000c000000000000000b -> ok
- local 0/256 0/0 0x00000001 write 0x100000a00 8 wrote 0b00000000000000
- done 0/256 send 11 11 fetch-add success 8 - - -
-@39 p0 c0 post 0/0/0 12 s add 0x100000400 0x00000001 1 0x00000001:0x100000a00:8 -> posted -
-@40 p0 request 0/256 pass
- sent 0/256 1/256 - 12 1400ffff000001008000000c00000001000004000000000100000000000000010000000000000000
-@41 p0 c0 inject 0/256 1200ffff000001000000000c1f00000d000000000000000c -> ok
- local 0/256 0/0 0x00000001 write 0x100000a00 8 wrote 0c00000000000000
- done 0/256 send 12 12 fetch-add success 8 - - -
-@42 p0 c0 post 0/0/0 13 s add 0x100000400 0x00000001 1 0x00000001:0x100000a00:8 -> posted -
-@43 p0 request 0/256 pass
- sent 0/256 1/256 - 13 1400ffff000001008000000d00000001000004000000000100000000000000010000000000000000
-@44 p0 c0 inject 0/256 1200ffff000001000000000d1f00000e000000000000000d -> ok
- local 0/256 0/0 0x00000001 write 0x100000a00 8 wrote 0d00000000000000
- done 0/256 send 13 13 fetch-add success 8 - - -
-@45 p0 c0 post 0/0/0 14 s add 0x100000400 0x00000001 1 0x00000001:0x100000a00:8 -> posted -
-@46 p0 request 0/256 pass
- sent 0/256 1/256 - 14 1400ffff000001008000000e00000001000004000000000100000000000000010000000000000000
-@47 p0 c0 inject 0/256 1200ffff000001000000000e1f00000f000000000000000e -> ok
- local 0/256 0/0 0x00000001 write 0x100000a00 8 wrote 0e00000000000000
- done 0/256 send 14 14 fetch-add success 8 - - -
-@48 p0 c0 post 0/0/0 15 s add 0x100000400 0x00000001 1 0x00000001:0x100000a00:8 -> posted -
-@49 p0 request 0/256 pass
- sent 0/256 1/256 - 15 1400ffff000001008000000f00000001000004000000000100000000000000010000000000000000
-@50 p0 c0 inject 0/256 1200ffff000001000000000f1f000010000000000000000f -> ok
- local 0/256 0/0 0x00000001 write 0x100000a00 8 wrote 0f00000000000000
- done 0/256 send 15 15 fetch-add success 8 - - -
-@51 p0 c0 post 0/0/0 16 s add 0x100000400 0x00000001 1 0x00000001:0x100000a00:8 -> posted -
-@52 p0 request 0/256 pass
- sent 0/256 1/256 - 16 1400ffff000001008000001000000001000004000000000100000000000000010000000000000000
-@53 p0 c0 inject 0/256 1200ffff00000100000000101f0000110000000000000010 -> ok
- local 0/256 0/0 0x00000001 write 0x100000a00 8 wrote 1000000000000000
- done 0/256 send 16 16 fetch-add success 8 - - -
-",
-    },
-];
+";
