@@ -174,6 +174,7 @@ fn post(q: &mut QueuePart, request: SendRequest) -> bool
 
 impl Bed {
     /// The turn of the requester; None where it cannot be tried here.
+    #[inline(never)]
     pub fn send(
         &mut self,
         alloc: Global,
@@ -195,6 +196,7 @@ impl Bed {
     }
 
     /// Takes a packet, if it is a response; None where that cannot be tried here.
+    #[inline(never)]
     pub fn take(
         &mut self,
         alloc: Global,
