@@ -3,8 +3,8 @@ ghost use Rattle.ca_tests_requester.specs.Bed as beds;
 
 use arrayvec::ArrayVec;
 use ca_base::{
-    AdapterConfig, Change, Config, DomainId, Key, Piece, QueueId, Rights, Run, SendOp,
-    SendRequest, Slot,
+    AdapterConfig, Change, Config, DomainId, Key, Piece, QueueId, Rights, Run, SendOp, SendRequest,
+    Slot,
 };
 use ca_model::Marks;
 use ca_qpstate::QueuePart;
@@ -119,9 +119,7 @@ fn write() -> Option<SendRequest> {
 
 /// The acknowledgement of a PSN.
 fn acknowledgement(psn: u8) -> [u8; 16] {
-    [
-        0x11, 0, 0xff, 0xff, 0, 0, 1, 0, 0, 0, 0, psn, 0x1f, 0, 0, 1,
-    ]
+    [0x11, 0, 0xff, 0xff, 0, 0, 1, 0, 0, 0, 0, psn, 0x1f, 0, 0, 1]
 }
 
 // Takes the acknowledgement of a PSN.
@@ -136,8 +134,14 @@ fn answer(alloc: Global, bed: &mut Bed, psn: u8, marks: &mut Marks) -> bool
 }
 
 // Posts requests, sends each and takes its acknowledgement, from a PSN on; how many bytes were sent.
-fn turns(alloc: Global, bed: &mut Bed, psn: u8, count: u8, marks: &mut Marks, out: &mut Vec<u8>)
-    -> bool
+fn turns(
+    alloc: Global,
+    bed: &mut Bed,
+    psn: u8,
+    count: u8,
+    marks: &mut Marks,
+    out: &mut Vec<u8>,
+) -> bool
     requires { beds.Stands bed.old }
     ensures { beds.Stands bed.new }
 {
