@@ -194,7 +194,7 @@ fn read_and_spell<R: Reach>(
     ensures err_marks { OnErr result (marks.new.marks ≡ marks.old.marks) }
     ensures err_out { OnErr result (out.new.items ≡ out.old.items) }
 {
-    let mut reads = Vec::new(alloc);
+    let mut reads = Vec::with_capacity(alloc, asks.len())?;
     read_all(alloc, reach, asks, &mut reads)?;
     marks.reserve(asks.len() as u32 + 2)?;
     let mut joined = Vec::new(alloc);

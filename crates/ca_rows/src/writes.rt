@@ -23,7 +23,7 @@ pub fn cut_writes(alloc: Global, asks: &[Ask], bytes: &[u8]) -> Result<Vec<(Ask,
     ensures writes { IfOk result (λ writes. AllByRecursion IsWrite writes.items) }
     ensures asks { IfOk result (λ writes. asks_of writes.items ≡ asks.now) }
 {
-    let mut writes = Vec::new(alloc);
+    let mut writes = Vec::with_capacity(alloc, asks.len())?;
     push_writes(alloc, asks, bytes, &mut writes)?;
     Ok(writes)
 }

@@ -1,7 +1,7 @@
 -- That what a small reach holds is as its asks need it. For proofs only: it may be skipped.
-use Rattle.std.proofs.Common.{◌≡◌, ℕ, ◌+◌, ◌-◌, ◌≤◌, ◌==◌, nat_le, min, Bool, true, false, if◌then◌else◌, List, [], ◌∷◌, length, Option, None, Some, refl, sym, ap, ◌∙◌, subst, arith, length-append}
+use Rattle.std.proofs.Common.{◌≡◌, ℕ, ◌+◌, ◌-◌, ◌≤◌, ◌==◌, nat_le, min, Bool, true, false, if◌then◌else◌, List, [], ◌∷◌, length, take, drop, Option, None, Some, refl, sym, ap, ◌∙◌, subst, arith, length-append}
 use Rattle.std.proofs.lemmas.Bool.Decides.{nat_tests}
-use Rattle.std.proofs.lemmas.List.{length-map}
+use Rattle.std.proofs.lemmas.List.{length-map, length-take, length-take-le, length-drop}
 use Rattle.std.proofs.lemmas.List.FromFn.{length-range_with_len}
 use Rattle.std.proofs.lemmas.List.Sums.{sum_by-cons}
 use Rattle.std.specs.Option.{option_map, option_map_or, option_and_then}
@@ -19,12 +19,12 @@ use Rattle.ca_base.specs.objects.Region.{Region, RegionState, NoRegion, Free, Re
 use Rattle.ca_base.specs.objects.Slices.{is_window_key}
 use Rattle.ca_base.specs.objects.Window.{Window, Binding, grant_of_binding, key_of_window}
 use Rattle.ca_grant.proofs.Places.{cut-fits, cut-of-buffer, runs-written, same-bytes}
-use Rattle.ca_grant.specs.Access.{FitInBytes, AreOfBuffer}
+use Rattle.ca_grant.specs.Access.{FitInBytes, AreOfBuffer, buffer_after}
 use Rattle.ca_grant.specs.KeySlot.{list_of_grant}
 use Rattle.ca_grant.specs.Parts.{grant_of_bound}
 use Rattle.ca_grant.specs.Reaching.{grants_without, is_by_key, sight_after_write}
-use Rattle.ca_memory.specs.Buffer.{memory_of}
-use Rattle.ca_tests_grant.specs.SmallReach.{after_end_of, after_write_by, sight_of, IsInBuffer, IsAskHere, IsCounted, IsEndHere}
+use Rattle.ca_memory.specs.Buffer.{memory_of, bytes_after}
+use Rattle.ca_tests_grant.specs.SmallReach.{after_end_of, after_write_by, sight_of, FitTogether, IsInBuffer, IsAskHere, IsCounted, IsEndHere}
 use Rattle.ca_tests_grant.specs.declared.small_reach.SmallReach.{SmallReach}
 
 -- runs of a buffer that has so many bytes
@@ -59,14 +59,42 @@ window-here s w (Some b) (Some x) h g e =
     subst P same (cut-here s x.runs (b.address - x.address) b.length (h.1, h.2))
 
 -- the places of an ask lie in the buffer
-pub places-here : (s : SmallReach) (ask : Ask) → IsAskHere s ask
-    → FitInBytes (length s.buffer) (runs_in (sight_of s) ask) × AreOfBuffer s.slot.domain.adapter s.number (runs_in (sight_of s) ask)
-places-here s ask h = by (is_window_key ask.key) refl
+places-within : (s : SmallReach) (ask : Ask) → IsInBuffer s (grant_of_region s.region) → LieHere s (runs_in (sight_of s) ask)
+places-within s ask h = by (is_window_key ask.key) refl
   where
     by : (b : Bool) → is_window_key ask.key ≡ b → LieHere s (runs_in (sight_of s) ask)
     by true e = rw e (one-here s ask (grant_of_bound s.window (grant_of_region s.region))
-        (window-here s s.window s.window.binding (grant_of_region s.region) h.parts.region))
-    by false e = rw e (one-here s ask (grant_of_region s.region) (region-here s (grant_of_region s.region) h.parts.region))
+        (window-here s s.window s.window.binding (grant_of_region s.region) h))
+    by false e = rw e (one-here s ask (grant_of_region s.region) (region-here s (grant_of_region s.region) h))
+
+pub places-here : (s : SmallReach) (ask : Ask) → IsAskHere s ask
+    → FitInBytes (length s.buffer) (runs_in (sight_of s) ask) × AreOfBuffer s.slot.domain.adapter s.number (runs_in (sight_of s) ask)
+places-here s ask h = places-within s ask h.parts.region
+
+-- bytes that are written to runs of a buffer leave it as long as it was
+written-length : (rs : List Run) (written bytes : List ℕ) → FitInBytes (length bytes) rs → length (buffer_after rs written bytes) ≡ length bytes
+written-length [] written bytes fit = refl
+written-length (r ∷ rs) written bytes fit =
+    let few : length (take r.length written) ≤ r.length = omega (arith, length-take r.length written) in
+    let before : length (take r.offset bytes) ≡ r.offset = length-take-le r.offset bytes (omega (arith, fit.0)) in
+    let same : length (bytes_after r.offset (take r.length written) bytes) ≡ length bytes = simp (length-append, length-drop) (omega (arith, fit.0)) in
+    let fits : FitInBytes (length (bytes_after r.offset (take r.length written) bytes)) rs = rw same fit.1 in
+    written-length rs (drop r.length written) (bytes_after r.offset (take r.length written) bytes) fits ∙ same
+
+-- a region's grant lies in a buffer of the same length
+in-longer : (s : SmallReach) (bytes : List ℕ) (o : Option Grant) → length bytes ≡ length s.buffer → IsInBuffer s o → IsInBuffer (record s { buffer = bytes }) o
+in-longer s bytes None same h = h
+in-longer s bytes (Some g) same h = (h.0, rw same h.1, h.2)
+
+-- a write leaves the parts fitting each other
+pub small-keeps : (s : SmallReach) (ask : Ask) (bytes : List ℕ) → FitTogether s → FitTogether (after_write_by s ask bytes)
+small-keeps s ask bytes fit = record {
+  window = fit.window;
+  region = in-longer s (buffer_after (runs_in (sight_of s) ask) bytes s.buffer) (grant_of_region s.region)
+      (written-length (runs_in (sight_of s) ask) bytes s.buffer (places-within s ask fit.region).0) fit.region;
+  lies = fit.lies;
+  counted = fit.counted;
+}
 
 -- what is cut has at most so many places
 cut-at-most : (rs : List Run) (from count : ℕ) → places_count (cut from count rs) ≤ count

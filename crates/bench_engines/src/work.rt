@@ -1,0 +1,217 @@
+ghost use Rattle.std.specs.Prelude.{IfSome};
+ghost use Rattle.ca_tests_requester.specs.Bed as beds;
+
+use arrayvec::ArrayVec;
+use ca_base::{
+    AdapterConfig, Change, Config, DomainId, Key, Piece, QueueId, Rights, Run, SendOp, SendRequest,
+    Slot,
+};
+use ca_model::Marks;
+use ca_qpstate::QueuePart;
+use ca_tests_grant::SmallReach;
+use ca_tests_requester::Bed;
+use ca_wire::decode;
+use std::alloc::Global;
+use std::env;
+use std::process::ExitCode;
+use std::rt::Env;
+
+const DOMAIN: DomainId = DomainId {
+    adapter: 0,
+    domain: 0,
+};
+
+const SLOT: Slot = Slot {
+    domain: DOMAIN,
+    slot: 0,
+};
+
+const QUEUE: QueueId = QueueId {
+    adapter: 0,
+    number: 256,
+};
+
+const PEER: QueueId = QueueId {
+    adapter: 0,
+    number: 257,
+};
+
+const AT: Run = Run {
+    adapter: 0,
+    buffer: 0,
+    offset: 0,
+    length: 4096,
+};
+
+const ALL: Rights = Rights {
+    local_write: true,
+    remote_read: true,
+    remote_write: true,
+    remote_atomic: true,
+    window_bind: true,
+};
+
+/// The eight bytes that each request sends.
+const PIECE: Piece = Piece {
+    address: 0x1_0000_0008,
+    key: Key(1),
+    length: 8,
+};
+
+const CHANGES: [Change; 3] = [
+    Change::Init,
+    Change::Rtr {
+        peer: PEER,
+        incarnation: 1,
+        psn: 0,
+        mtu: 4096,
+        rnr_code: 12,
+    },
+    Change::Rts {
+        psn: 0,
+        retry: 7,
+        rnr_retry: 7,
+        reads: 16,
+    },
+];
+
+fn config() -> Option<Config> {
+    let mut adapters = ArrayVec::new();
+    let adapter = AdapterConfig {
+        buffers: ArrayVec::new(),
+        domains: 1,
+        regions: 1,
+        windows: 1,
+        cqs: 1,
+        srqs: 1,
+        qps: 2,
+    };
+    adapters.try_push(adapter).ok()?;
+    Some(Config {
+        adapters,
+        events: 1,
+    })
+}
+
+fn new_bed(alloc: Global) -> Option<Bed>
+    ensures { IfSome result beds.Stands }
+{
+    let reach = SmallReach::registered(alloc, SLOT, AT, 4096, ALL).ok()?;
+    let queue = QueuePart::create(alloc, QUEUE, DOMAIN, 1, 0, 0, 256, 0, Some(0)).ok()?;
+    Some(Bed { queue, reach })
+}
+
+fn write() -> Option<SendRequest> {
+    let mut list = ArrayVec::new();
+    list.try_push(PIECE).ok()?;
+    Some(SendRequest {
+        id: 1,
+        signalled: true,
+        fence: false,
+        solicited: false,
+        op: SendOp::Write {
+            address: 0x1_0000_0000,
+            key: Key(1),
+            list,
+        },
+    })
+}
+
+/// The acknowledgement of a PSN.
+fn acknowledgement(psn: u8) -> [u8; 16] {
+    [0x11, 0, 0xff, 0xff, 0, 0, 1, 0, 0, 0, 0, psn, 0x1f, 0, 0, 1]
+}
+
+// Takes the acknowledgement of a PSN.
+fn answer(alloc: Global, bed: &mut Bed, psn: u8, marks: &mut Marks) -> bool
+    requires { beds.Stands bed.old }
+    ensures { beds.Stands bed.new }
+{
+    match decode(acknowledgement(psn).as_slice()) {
+        Err(_) => false,
+        Ok(p) => matches!(bed.take(alloc, &p, marks), Some(Ok(()))),
+    }
+}
+
+// Posts requests, sends each and takes its acknowledgement, from a PSN on; how many bytes were sent.
+fn turns(
+    alloc: Global,
+    bed: &mut Bed,
+    psn: u8,
+    count: u8,
+    marks: &mut Marks,
+    out: &mut Vec<u8>,
+) -> bool
+    requires { beds.Stands bed.old }
+    ensures { beds.Stands bed.new }
+{
+    if psn >= count {
+        return true;
+    }
+    let Some(request) = write() else {
+        return false;
+    };
+    out.clear();
+    if !bed.post(request) {
+        return false;
+    }
+    if !matches!(bed.send(alloc, true, marks, out), Some(Ok(_))) {
+        return false;
+    }
+    if !answer(alloc, bed, psn, marks) {
+        return false;
+    }
+    turns(alloc, bed, psn + 1, count, marks, out)
+}
+
+fn bring_up(bed: &mut Bed) -> bool
+    requires { beds.Stands bed.old }
+    ensures { beds.Stands bed.new }
+{
+    let Some(config) = config() else {
+        return false;
+    };
+    let [first, second, third] = CHANGES;
+    bed.change(&config, &first) && bed.change(&config, &second) && bed.change(&config, &third)
+}
+
+fn run(alloc: Global, bed: &mut Bed, count: u8) -> Option<usize>
+    requires { beds.Stands bed.old }
+{
+    let mut marks = Marks::empty(alloc);
+    let mut out = Vec::new(alloc);
+    if !bring_up(bed) || marks.reserve(2048).is_err() || out.reserve(4096).is_err() {
+        return None;
+    }
+    if turns(alloc, bed, 0, count, &mut marks, &mut out) {
+        Some(marks.as_slice().len())
+    } else {
+        None
+    }
+}
+
+fn sum_of(alloc: Global, count: u8) -> Option<usize> {
+    match new_bed(alloc) {
+        None => None,
+        Some(mut bed) => run(alloc, &mut bed, count),
+    }
+}
+
+/// Sends as many requests as the first word says, at most 255, and prints how many marks they made.
+pub fn start<R: Env + Print + AllocGlobal>(rt: &R) -> ExitCode {
+    let Ok(mut args) = env::args(rt) else {
+        return ExitCode::from(2);
+    };
+    let _ = args.next();
+    let Some(count) = args.next() else {
+        return ExitCode::from(2);
+    };
+    let Ok(count) = count.as_str().parse::<u8>() else {
+        return ExitCode::from(2);
+    };
+    match sum_of(rt.alloc(), count) {
+        Some(sum) if println!(rt; "{sum}").is_ok() => ExitCode::from(0),
+        Some(_) => ExitCode::from(3),
+        None => ExitCode::from(2),
+    }
+}

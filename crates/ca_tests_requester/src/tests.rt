@@ -1,0 +1,471 @@
+ghost use Rattle.std.specs.Prelude.{IfSome};
+ghost use Rattle.ca_tests_requester.specs.Bed as beds;
+
+mod answers;
+mod drawn_rows;
+mod limits;
+mod order;
+mod rows;
+mod wakes;
+mod worked_rows;
+
+use crate::Bed;
+use arrayvec::ArrayVec;
+use ca_base::{
+    AdapterConfig, Bytes, Config, DomainId, Lot, QueueId, Reason, Rights, Run, Sent, Slot,
+    StepError,
+};
+use ca_model::{Answer, Event, Mark, Marks, Verb};
+use ca_qpstate::QueuePart;
+use ca_reading_lines::read_line;
+use ca_tests_grant::SmallReach;
+use ca_trace::{Line, Told, print_reply};
+use ca_wire::decode;
+use std::alloc::Global;
+use std::process::Abort;
+
+/// A queue pair, the run of its region, and the region's slot and rights.
+#[derive(Clone, Copy)]
+struct Setup {
+    queue: QueueId,
+    slot: Slot,
+    at: Run,
+    rights: Rights,
+}
+
+/// All rights.
+const ALL: Rights = Rights {
+    local_write: true,
+    remote_read: true,
+    remote_write: true,
+    remote_atomic: true,
+    window_bind: true,
+};
+
+fn texts_are(rt: &impl Abort, got: &[u8], want: &[u8], line: &str) {
+    let got = str::from_utf8(got).unwrap_or("no text");
+    let want = str::from_utf8(want).unwrap_or("no text");
+    assert_eq!(rt; got, want, "before {line}");
+}
+
+fn holds(rt: &impl Abort, is: bool, what: &str) {
+    assert!(rt; is, "{what}");
+}
+
+fn adapter() -> AdapterConfig {
+    AdapterConfig {
+        buffers: ArrayVec::new(),
+        domains: 16,
+        regions: 256,
+        windows: 256,
+        cqs: 64,
+        srqs: 64,
+        qps: 64,
+    }
+}
+
+// Four adapters of many domains.
+fn config(rt: &impl Abort) -> Config {
+    let mut adapters = ArrayVec::new();
+    for _ in 0..4 {
+        holds(rt, adapters.try_push(adapter()).is_ok(), "an adapter");
+    }
+    Config {
+        adapters,
+        events: 100,
+    }
+}
+
+// The queue pair in Reset, over its region, behind which the buffer ends.
+fn bed_of(alloc: Global, setup: &Setup) -> Option<Bed>
+    ensures { IfSome result beds.Stands }
+{
+    let slot = setup.slot;
+    if slot.slot >= 32768 || setup.at.adapter != slot.domain.adapter {
+        return None;
+    }
+    let bytes = setup.at.offset.checked_add(setup.at.length)?;
+    let reach = SmallReach::registered(alloc, slot, setup.at, bytes, setup.rights).ok()?;
+    let name = setup.queue;
+    let queue = QueuePart::create(alloc, name, slot.domain, 1, 0, 0, 256, 0, Some(0)).ok()?;
+    Some(Bed { queue, reach })
+}
+
+// The region that a line registers: its slot, its run, and its rights.
+fn region_in(alloc: Global, line: &str) -> Option<(Slot, Run, Rights)> {
+    match read_line(alloc, line.as_bytes()) {
+        Ok(
+            Line::Call {
+                verb: Verb::RegMr {
+                    slot,
+                    buffer,
+                    offset,
+                    length,
+                    rights,
+                },
+                ..
+            },
+        ) => {
+            let at = Run {
+                adapter: slot.domain.adapter,
+                buffer,
+                offset,
+                length,
+            };
+            Some((slot, at, rights))
+        }
+        _ => None,
+    }
+}
+
+// The queue pair that a line creates.
+fn queue_in(alloc: Global, line: &str) -> Option<QueueId> {
+    match read_line(alloc, line.as_bytes()) {
+        Ok(
+            Line::Call {
+                verb: Verb::CreateQp { slot, .. },
+                told: Told::Whole(Answer::Queue { number, .. }),
+                ..
+            },
+        ) => Some(QueueId {
+            adapter: slot.domain.adapter,
+            number,
+        }),
+        _ => None,
+    }
+}
+
+// What the first two lines of a run register and create, and the lines behind them.
+fn setup_in(alloc: Global, text: &str) -> Option<(Setup, &str)> {
+    let (first, rest) = text.split_once('\n')?;
+    let (second, rest) = rest.split_once('\n')?;
+    let (slot, at, rights) = region_in(alloc, first)?;
+    let queue = queue_in(alloc, second)?;
+    let setup = Setup {
+        queue,
+        slot,
+        at,
+        rights,
+    };
+    Some((setup, rest))
+}
+
+fn reason_text(reason: Reason) -> &'static str {
+    match reason {
+        Reason::Empty => " reason empty\n",
+        Reason::State => " reason state\n",
+        Reason::NoRoom => " reason no-room\n",
+        Reason::Fence => " reason fence\n",
+        Reason::Outstanding => " reason outstanding\n",
+        Reason::RnrWait => " reason rnr-wait\n",
+        Reason::NotKept => " reason not-kept\n",
+        Reason::NotDue => " reason not-due\n",
+    }
+}
+
+// What a queue pair counts as a requester, with its state.
+fn numbers(q: &QueuePart) -> [u64; 10] {
+    let r = &q.requester;
+    [
+        r.una,
+        r.cursor,
+        r.oldest,
+        r.oldest_psn,
+        r.next,
+        u64::from(r.retries),
+        r.rnrs,
+        u64::from(r.waiting),
+        r.timers,
+        q.state as u64,
+    ]
+}
+
+fn numbers_are(rt: &impl Abort, got: &[u64], want: &[u64], what: &str) {
+    assert_eq!(rt; got, want, "{what}");
+}
+
+// Adds the lines of marks.
+fn put(rt: &impl Abort, marks: &[Mark], text: &mut Vec<u8>) {
+    for mark in marks {
+        holds(rt, print_reply(mark, text).is_ok(), "the line of a mark");
+    }
+}
+
+fn put_text(rt: &impl Abort, line: &[u8], text: &mut Vec<u8>) {
+    holds(rt, text.extend_from_slice(line).is_ok(), "a line");
+}
+
+// The line of a packet that is sent: of the envelope's index it tells nothing.
+fn put_sent(
+    rt: &impl Abort,
+    q: &QueuePart,
+    request: Option<u64>,
+    bytes: Vec<u8>,
+    text: &mut Vec<u8>,
+) {
+    let target = match q.peer {
+        None => q.queue,
+        Some((peer, _)) => peer,
+    };
+    let sent = Mark::Sent {
+        source: q.queue,
+        target,
+        index: None,
+        request,
+        bytes: Bytes::from(bytes),
+    };
+    holds(rt, print_reply(&sent, text).is_ok(), "the line of a packet");
+}
+
+// The requester's turn sends a packet, or fails a request, or says why not.
+fn send(rt: &impl Abort, alloc: Global, bed: &mut Bed, room: bool, text: &mut Vec<u8>)
+    requires { beds.Stands bed.old }
+    ensures { beds.Stands bed.new }
+{
+    let before = numbers(&bed.queue);
+    let mut marks = Marks::empty(alloc);
+    let mut out = Vec::new(alloc);
+    let done = bed.send(alloc, room, &mut marks, &mut out);
+    put(rt, marks.as_slice(), text);
+    match done {
+        Some(Ok(Sent::Spelt { request })) => put_sent(rt, &bed.queue, request, out, text),
+        Some(Ok(Sent::Silent)) => holds(rt, out.is_empty(), "no packet"),
+        Some(Err(StepError::NotReady(reason))) => {
+            put_text(rt, reason_text(reason).as_bytes(), text);
+            numbers_are(
+                rt,
+                numbers(&bed.queue).as_slice(),
+                before.as_slice(),
+                "unchanged",
+            );
+        }
+        _ => holds(rt, false, "a turn"),
+    }
+}
+
+// The requester's turn performs a local operation.
+fn perform(rt: &impl Abort, alloc: Global, bed: &mut Bed, text: &mut Vec<u8>)
+    requires { beds.Stands bed.old }
+    ensures { beds.Stands bed.new }
+{
+    let mut marks = Marks::empty(alloc);
+    let done = bed.perform(alloc, None, &mut marks);
+    holds(rt, matches!(done, Some(Ok(()))), "a local operation");
+    put(rt, marks.as_slice(), text);
+}
+
+// The requester's turn, whatever it is.
+fn request(rt: &impl Abort, alloc: Global, bed: &mut Bed, room: bool, text: &mut Vec<u8>)
+    requires { beds.Stands bed.old }
+    ensures { beds.Stands bed.new }
+{
+    match bed.performs() {
+        Some(Ok(true)) => perform(rt, alloc, bed, text),
+        Some(Ok(false)) => send(rt, alloc, bed, room, text),
+        Some(Err(reason)) => {
+            send(rt, alloc, bed, room, text);
+            let want = reason_text(reason).as_bytes();
+            texts_are(
+                rt,
+                text.as_slice(),
+                want,
+                "the same reason as for a local operation",
+            );
+        }
+        None => holds(rt, false, "a turn"),
+    }
+}
+
+// Why a timer does not fire that is neither silent nor hastened.
+fn undue(alloc: Global, bed: &mut Bed) -> &'static str
+    requires { beds.Stands bed.old }
+    ensures { beds.Stands bed.new }
+{
+    let mut marks = Marks::empty(alloc);
+    match bed.time_out(alloc, false, false, &mut marks) {
+        Some(Err(StepError::NotReady(reason))) => reason_text(reason),
+        _ => "a timer that fired",
+    }
+}
+
+fn time_out(rt: &impl Abort, alloc: Global, bed: &mut Bed, hasten: bool, text: &mut Vec<u8>)
+    requires { beds.Stands bed.old }
+    ensures { beds.Stands bed.new }
+{
+    let before = numbers(&bed.queue);
+    let undue = undue(alloc, bed).as_bytes();
+    let mut marks = Marks::empty(alloc);
+    let done = bed.time_out(alloc, !hasten, hasten, &mut marks);
+    put(rt, marks.as_slice(), text);
+    match done {
+        Some(Ok(())) => texts_are(rt, undue, b" reason not-due\n", "a timer that is not due"),
+        Some(Err(StepError::NotReady(reason))) => {
+            put_text(rt, reason_text(reason).as_bytes(), text);
+            texts_are(rt, undue, text.as_slice(), "the same reason");
+            numbers_are(
+                rt,
+                numbers(&bed.queue).as_slice(),
+                before.as_slice(),
+                "unchanged",
+            );
+        }
+        _ => holds(rt, false, "a timer"),
+    }
+}
+
+fn wake(rt: &impl Abort, bed: &mut Bed, peer_empty: bool, text: &mut Vec<u8>)
+    requires { beds.Stands bed.old }
+    ensures { beds.Stands bed.new }
+{
+    let before = numbers(&bed.queue);
+    if let Err(reason) = bed.wake(peer_empty) {
+        put_text(rt, reason_text(reason).as_bytes(), text);
+        numbers_are(
+            rt,
+            numbers(&bed.queue).as_slice(),
+            before.as_slice(),
+            "unchanged",
+        );
+    }
+}
+
+// These bytes arrive, which have to be a response.
+fn arrive(rt: &impl Abort, alloc: Global, bed: &mut Bed, bytes: &[u8], text: &mut Vec<u8>)
+    requires { beds.Stands bed.old }
+    ensures { beds.Stands bed.new }
+{
+    let mut marks = Marks::empty(alloc);
+    match decode(bytes) {
+        Err(_) => holds(rt, false, "a packet"),
+        Ok(p) => {
+            let done = bed.take(alloc, &p, &mut marks);
+            holds(rt, matches!(done, Some(Ok(()))), "a response");
+        }
+    }
+    put(rt, marks.as_slice(), text);
+}
+
+// A consumer's call.
+fn call(rt: &impl Abort, alloc: Global, bed: &mut Bed, verb: Verb, text: &mut Vec<u8>)
+    requires { beds.Stands bed.old }
+    ensures { beds.Stands bed.new }
+{
+    match verb {
+        Verb::ModifyQp { change, .. } => {
+            let config = config(rt);
+            holds(rt, bed.change(&config, &change), "a change of state");
+        }
+        Verb::PostSend { request, .. } => holds(rt, bed.post(request), "a request is posted"),
+        Verb::Inject { bytes, .. } => arrive(rt, alloc, bed, bytes.as_slice(), text),
+        _ => holds(rt, false, "a call of the table"),
+    }
+}
+
+fn turn(
+    rt: &impl Abort,
+    alloc: Global,
+    bed: &mut Bed,
+    event: &Event,
+    peer_empty: bool,
+    text: &mut Vec<u8>,
+)
+    requires { beds.Stands bed.old }
+    ensures { beds.Stands bed.new }
+{
+    match event {
+        Event::Request { lot, .. } => {
+            request(rt, alloc, bed, !matches!(lot, Lot::Lose), text);
+        }
+        Event::Timeout { hasten, .. } => time_out(rt, alloc, bed, *hasten, text),
+        Event::RnrWake { .. } => wake(rt, bed, peer_empty, text),
+        _ => holds(rt, false, "a turn of the table"),
+    }
+}
+
+fn step(
+    rt: &impl Abort,
+    alloc: Global,
+    bed: &mut Bed,
+    line: &str,
+    peer_empty: bool,
+    text: &mut Vec<u8>,
+)
+    requires { beds.Stands bed.old }
+    ensures { beds.Stands bed.new }
+{
+    match read_line(alloc, line.as_bytes()) {
+        Ok(Line::Call { verb, .. }) => call(rt, alloc, bed, verb, text),
+        Ok(Line::Turn { event, .. }) => turn(rt, alloc, bed, &event, peer_empty, text),
+        _ => texts_are(rt, b"a line of the trace", b"", line),
+    }
+}
+
+// Goes on with the lines of a run: `got` is what the steps so far did, and `want` what their lines said.
+fn go_on(rt: &impl Abort, alloc: Global, bed: &mut Bed, text: &str, peer_empty: bool)
+    requires { beds.Stands bed.old }
+    ensures { beds.Stands bed.new }
+{
+    let mut got = Vec::new(alloc);
+    let mut want = Vec::new(alloc);
+    for line in text.lines() {
+        if line.starts_with(' ') {
+            put_text(rt, line.as_bytes(), &mut want);
+            put_text(rt, b"\n", &mut want);
+        } else {
+            texts_are(rt, got.as_slice(), want.as_slice(), line);
+            got.clear();
+            want.clear();
+            step(rt, alloc, bed, line, peer_empty, &mut got);
+        }
+    }
+    texts_are(rt, got.as_slice(), want.as_slice(), "the end");
+}
+
+fn run(rt: &impl Abort, alloc: Global, setup: &Setup, text: &str, peer_empty: bool) {
+    match bed_of(alloc, setup) {
+        None => holds(rt, false, "a queue pair"),
+        Some(mut bed) => go_on(rt, alloc, &mut bed, text, peer_empty),
+    }
+}
+
+fn run_text(rt: &impl Abort, alloc: Global, text: &str) {
+    match setup_in(alloc, text) {
+        None => texts_are(rt, text.as_bytes(), b"", "the region and the queue pair"),
+        Some((setup, rest)) => run(rt, alloc, &setup, rest, false),
+    }
+}
+
+// Runs that stand in a text, with a blank line between them. Each line is a step, as it stands in a trace, and behind it
+// stands what it does. A packet that arrives stands as an injection.
+fn runs(rt: &impl Abort, alloc: Global, texts: &str) {
+    for text in texts.split("\n\n") {
+        run_text(rt, alloc, text);
+    }
+}
+
+/// The first queue pair, over a region of 4096 bytes.
+const PLAIN: Setup = Setup {
+    queue: QueueId {
+        adapter: 0,
+        number: 256,
+    },
+    slot: Slot {
+        domain: DomainId {
+            adapter: 0,
+            domain: 0,
+        },
+        slot: 0,
+    },
+    at: Run {
+        adapter: 0,
+        buffer: 0,
+        offset: 0,
+        length: 4096,
+    },
+    rights: ALL,
+};
+
+// A run by hand. Of a request the lot says whether the peer has room: `lose` where it has none.
+fn is_run(rt: &impl Abort, alloc: Global, text: &str, peer_empty: bool) {
+    run(rt, alloc, &PLAIN, text, peer_empty);
+}
