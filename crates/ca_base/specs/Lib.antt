@@ -8,3 +8,4 @@ pub mod Configuration
 pub mod Spelling
 pub mod Sight
 pub mod objects
+pub mod Handed

@@ -80,7 +80,8 @@ impl Answers {
         }
     }
 
-    fn set_last(&mut self, answer: Queued)
+    /// Puts an answer in the place of the one at the end. It takes no memory.
+    pub fn set_last(&mut self, answer: Queued)
         ensures { self.new ≡ slice_set self.old (length self.old - 1) answer }
     {
         if let Some(last) = self.items.back_mut() {

@@ -4,7 +4,7 @@ ghost use Rattle.ca_base.specs.Refusals.{first_of};
 ghost use Rattle.ca_base.specs.objects.Region.{grant_of_region, with_window_unbound};
 ghost use Rattle.ca_localops.specs.Binds as binds;
 ghost use Rattle.ca_localops.specs.Errors.{FailsBy};
-ghost use Rattle.ca_localops.specs.Handed.{left_behind};
+ghost use Rattle.ca_base.specs.Handed.{left_behind};
 ghost use Rattle.ca_localops.specs.Requests.{IsBind, request_of};
 
 use crate::binding::{count_window, rebind};

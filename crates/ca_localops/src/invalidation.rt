@@ -4,7 +4,7 @@ ghost use Rattle.ca_base.specs.objects.LocalRequest.{region_refusal, unnamed_ref
 ghost use Rattle.ca_base.specs.objects.Region.{after_region_invalidation, with_window_unbound};
 ghost use Rattle.ca_base.specs.objects.Slices.{is_window_key};
 ghost use Rattle.ca_base.specs.objects.Window.{without_binding};
-ghost use Rattle.ca_localops.specs.Handed.{left_behind};
+ghost use Rattle.ca_base.specs.Handed.{left_behind};
 ghost use Rattle.ca_base.specs.objects.Window.{count_without};
 ghost use Rattle.ca_localops.specs.Operations.{CountsWindow, key_refusal, key_refusal_by_region, region_without_key, window_without_key};
 

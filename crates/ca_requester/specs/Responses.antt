@@ -13,7 +13,6 @@ use Rattle.ca_model.specs.machine.Requester.{local_denial}
 use Rattle.ca_model.specs.machine.Responses.{answer_bytes, answer_row, drop_effects, fits_request, local_writes, writes_by}
 use Rattle.ca_model.specs.machine.Row.{Effects, Row, plain_row, Does}
 use Rattle.ca_wire.specs.Packet.{Fields}
-use Rattle.ca_rows.specs.Done.{Handed}
 use Rattle.ca_requester.specs.declared.taking.Taken.{Taken}
 use Rattle.ca_requester.specs.declared.responses.Answer.{Answer}
 use Rattle.ca_requester.specs.declared.responses.Ended.{Ended}
@@ -64,7 +63,3 @@ answer_effects t p asks q = record (and_then (progress_to t.psn q) (λ q.
   where
     writes : List (Ask × List ℕ)
     writes = writes_by asks (answer_bytes p)
-
--- the queue pair, the marks and what is reached; no packet is spelt
-abbrev pub handed : {S : Type 0} → QueuePair → List Mark → S → Handed S
-handed queue marks reach = record { queue = queue; marks = marks; out = []; reach = reach }

@@ -8,7 +8,6 @@ use Rattle.ca_base.specs.declared.queue_numbers.RequesterNumbers.{RequesterNumbe
 use Rattle.ca_base.specs.objects.LocalRequest.{LocalMarks}
 use Rattle.ca_base.specs.objects.QueuePair.{QueuePair}
 use Rattle.ca_model.specs.declared.mark.Mark.{Mark}
-use Rattle.ca_rows.specs.Done.{Handed}
 use Rattle.ca_model.specs.Requests.{is_local}
 use Rattle.ca_model.specs.machine.LocalOperations.{operation_effects}
 use Rattle.ca_model.specs.machine.Numbering.{Numbered}
@@ -57,7 +56,3 @@ numbers_sent q n = record q.requester {
   cursor = end_of_packet q n;
   next = if begins q then suc q.requester.next else q.requester.next;
 }
-
--- what an engine is handed
-abbrev pub handed : {S : Type 0} → QueuePair → List Mark → List ℕ → S → Handed S
-handed queue marks out reach = record { queue = queue; marks = marks; out = out; reach = reach }

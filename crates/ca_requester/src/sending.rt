@@ -11,13 +11,13 @@ ghost use Rattle.ca_model.specs.machine.Requester as requester;
 ghost use Rattle.ca_model.specs.machine.Row.{ending_of, plain_row, NotPossible};
 ghost use Rattle.ca_qpstate.specs.Seen.{queue_of};
 ghost use Rattle.ca_rows.specs.Asks.{IsAskOf, IsGranted, touched_by};
-ghost use Rattle.ca_rows.specs.Done.{IsTurn};
+ghost use Rattle.ca_rows.specs.Done.{IsTurn, handed};
 ghost use Rattle.ca_rows.specs.Narrow.{AreNarrow};
 ghost use Rattle.ca_wire.specs.declared.packet.TheConstants.{MAX_PACKET_BYTES};
 ghost use Rattle.ca_requester.specs.Numbering.{numbered_of, IsNext};
 ghost use Rattle.ca_requester.specs.Packets.{IsPacket};
 ghost use Rattle.ca_requester.specs.Turn as turns;
-ghost use Rattle.ca_requester.specs.Turn.{handed, turn_row};
+ghost use Rattle.ca_requester.specs.Turn.{turn_row};
 
 use crate::numbering::{Next, Numbered};
 use crate::outcome::{Made, Outcome, make};

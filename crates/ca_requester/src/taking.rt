@@ -15,12 +15,12 @@ ghost use Rattle.ca_qpstate.specs.Seen.{queue_of};
 ghost use Rattle.ca_wire.specs.Packet.{IsWellFormed, fields_of};
 ghost use Rattle.ca_model.specs.Packets.{is_response};
 ghost use Rattle.ca_rows.specs.Asks.{CanWrite, IsAskOf, IsGranted, IsWrite, asks_of, touched_by};
-ghost use Rattle.ca_rows.specs.Done.{IsTaking, written_all};
+ghost use Rattle.ca_rows.specs.Done.{IsTaking, handed, written_all};
 ghost use Rattle.ca_rows.specs.Narrow.{AreNarrow};
 ghost use Rattle.ca_requester.specs.Numbering.{IsSound, numbered_of};
 ghost use Rattle.ca_requester.specs.Outcome.{AreAhead, numbers_of};
 ghost use Rattle.ca_requester.specs.Progress.{AreNumbers};
-ghost use Rattle.ca_requester.specs.Responses.{IsAnswer, answer_effects, denied_effects, ended_effects, handed};
+ghost use Rattle.ca_requester.specs.Responses.{IsAnswer, answer_effects, denied_effects, ended_effects};
 
 use crate::outcome::{Made, Outcome, make};
 use crate::progress::{progressed, push_progress};
@@ -130,7 +130,7 @@ pub fn on_response<R: Reach>(
     requires response { is_response (fields_of p.now).opcode ≡ true }
     requires at_hand { AreAtHand R.sight R.judges R.touches reach.old (rows.response_row (fields_of p.now) (queue_of q.old)).asks }
     ensures done { IsTaking R.written result (ending_of (R.sight reach.old) (rows.response_row (fields_of p.now) (queue_of q.old)))
-        (handed (queue_of q.old) marks.old.marks reach.old) (handed (queue_of q.new) marks.new.marks reach.new) }
+        (handed (queue_of q.old) marks.old.marks [] reach.old) (handed (queue_of q.new) marks.new.marks [] reach.new) }
     ensures room { OnOk result (2 ≤ marks.new.room) }
     ensures err { OnErr result (q.new ≡ q.old) }
 {

@@ -18,6 +18,9 @@ pub record Handed (S : Type 0) : Type 0 where
   pub out : List ℕ
   pub reach : S
 
+abbrev pub handed : {S : Type 0} → QueuePair → List Mark → List ℕ → S → Handed S
+handed queue marks out reach = record { queue = queue; marks = marks; out = out; reach = reach }
+
 -- what is reached after these writes
 abbrev pub written_all : {S : Type 0} → (S → Ask → List ℕ → S) → S → List (Ask × List ℕ) → S
 written_all f s [] = s

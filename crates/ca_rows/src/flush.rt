@@ -26,8 +26,9 @@ pub fn push_flushed(q: &QueuePart, oldest: u64, made: &mut Vec<Mark>) -> Result<
     Ok(())
 }
 
+/// Adds the completions of the sends from a place on, flushed; `end` is the place of the next send to be posted.
 #[tactic(auto, using(crate::proofs::QueueLemmas::items_step, crate::proofs::QueueLemmas::items_past, crate::proofs::QueueLemmas::items_none))]
-fn push_flushed_sends(
+pub fn push_flushed_sends(
     queue: QueueId,
     sends: &WorkQueue<PostedSend>,
     place: u64,
@@ -79,8 +80,9 @@ fn push_waiting_receives(
     )
 }
 
+/// Adds the completions of the receives from a place on, flushed; `end` is the place of the next receive to be posted.
 #[tactic(auto, using(crate::proofs::QueueLemmas::items_step, crate::proofs::QueueLemmas::items_past, crate::proofs::QueueLemmas::items_none))]
-fn push_flushed_receives(
+pub fn push_flushed_receives(
     queue: QueueId,
     receives: &WorkQueue<RecvRequest>,
     place: u64,

@@ -104,6 +104,17 @@ impl Srq {
         }
     }
 
+    /// The posting place of the receive that `take_next` would take. None comes exactly where none waits. It takes no
+    /// memory.
+    pub fn first_place(&self) -> Option<u64>
+        ensures { result ≡ option_map (λ p. p.place) (first_receive self.now) }
+    {
+        match self.waiting.front() {
+            Some(first) => Some(first.place),
+            None => None,
+        }
+    }
+
     /// How many receives wait to be taken. It takes no memory.
     pub fn waiting(&self) -> u16
         ensures { result ≡ length self.now.waiting }

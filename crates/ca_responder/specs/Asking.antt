@@ -1,0 +1,37 @@
+-- The asks of a row that makes at most one, and those of a SEND packet. Contracts cite it.
+use Rattle.std.specs.Prelude.{ℕ, ◌+◌, nat_lt, if◌then◌else◌, length, List, [], ◌∷◌, Option, None, Some}
+use Rattle.ca_base.specs.declared.access.Ask.{Ask}
+use Rattle.ca_base.specs.declared.access.Kind.TheVariants as kinds
+use Rattle.ca_base.specs.declared.queue_numbers.Message.{Message}
+use Rattle.ca_base.specs.declared.queue_numbers.Message.TheVariants as messages
+use Rattle.ca_base.specs.declared.request.Piece.{Piece}
+use Rattle.ca_base.specs.objects.QueuePair.{QueuePair}
+use Rattle.ca_base.specs.objects.SharedReceives.{PlacedReceive}
+use Rattle.ca_wire.specs.Packet.{Fields}
+use Rattle.ca_model.specs.Requests.{list_length}
+use Rattle.ca_model.specs.machine.Expected.{Receiving, receiving_of}
+use Rattle.ca_model.specs.machine.Numbering.{list_asks}
+
+-- no ask, or this one
+abbrev pub one_ask : Option Ask → List Ask
+one_ask None = []
+one_ask (Some ask) = ask ∷ []
+
+-- the asks for a packet's bytes in a receive's list, behind so many that came before, where they fit into it
+abbrev pub asks_fitting : QueuePair → Fields → ℕ → List Piece → List Ask
+asks_fitting q p before list =
+    if nat_lt (list_length list) (before + length p.payload) then []
+    else list_asks q.queue q.domain kinds.Write before (length p.payload) list
+
+-- the asks of a SEND packet, by the receive of the message in progress, or by the next one
+abbrev pub send_asks : QueuePair → Fields → Option PlacedReceive → List Ask
+send_asks q p next = by (receiving_of q next q.responder.message)
+  where
+    by : Option Receiving → List Ask
+    by (Some r) = asks_fitting q p r.before r.receive.receive.list.items
+    by None = []
+
+-- no message in progress holds a receive
+abbrev pub IsFree : Option Message → Type 0
+IsFree (Some (messages.Send place receive count)) = ⊥
+IsFree message = Unit {0}

@@ -1,0 +1,6 @@
+pub mod Asking
+pub mod Atomics
+pub mod Ending
+pub mod Numbers
+pub mod Shapes
+pub mod Taking

@@ -1,0 +1,93 @@
+-- How a request is taken: as its row ends, also for the key that it ends and for the receive that it takes of a shared
+-- receive queue. Contracts cite it.
+use Rattle.std.specs.Prelude.{◌≡◌, ℕ, ◌<◌, Bool, true, if◌then◌else◌, List, ◌++◌, Option, None, Some, Result, Ok, Err, IfSome, is_none}
+use Rattle.std.specs.Option.{option_map}
+use Rattle.ca_base.specs.declared.access.Ask.{Ask}
+use Rattle.ca_base.specs.declared.memory.Memory.{Memory}
+use Rattle.ca_base.specs.Sight.{DeniedAsk, Invalidation, Sight, first_denied}
+use Rattle.ca_base.specs.objects.QueuePair.{QueuePair}
+use Rattle.ca_base.specs.objects.SharedReceives.{PlacedReceive, SharedReceives, after_receive_take}
+use Rattle.ca_base.specs.objects.Slices.{is_window_key}
+use Rattle.ca_base.specs.objects.WorkQueue.{waiting_count}
+use Rattle.ca_grant.specs.Reaching.{invalidation_by}
+use Rattle.ca_model.specs.declared.mark.Mark.{Mark}
+use Rattle.ca_model.specs.machine.Expected.{Receiving}
+use Rattle.ca_model.specs.machine.Row.{Effects, Ending, NotPossible, Does, Row, ending_of}
+use Rattle.ca_rows.specs.Done.{written_all}
+
+-- what a request finds and leaves
+pub record Found (S : Type 0) : Type 0 where
+  pub queue : QueuePair
+  pub marks : List Mark
+  pub reach : S
+
+abbrev pub found : {S : Type 0} → QueuePair → List Mark → S → Found S
+found queue marks reach = record { queue = queue; marks = marks; reach = reach }
+
+-- the end of a key, where it is not refused
+abbrev pub unless_refused : Sight → Option Invalidation → Option Invalidation
+unless_refused s None = None
+unless_refused s (Some i) = if is_none (s.refusal i) then Some i else None
+
+-- the key that a row ends: none where one of its asks is denied, and none where the end is refused
+abbrev pub ended_by : Sight → Row → Option Invalidation
+ended_by s row = by (first_denied s row.asks)
+  where
+    by : Option DeniedAsk → Option Invalidation
+    by (Some denied) = None
+    by None = unless_refused s row.invalidation
+
+-- what is reached after a key ended, if one did
+abbrev pub without_key : {S : Type 0} → (S → Invalidation → S) → Option Invalidation → S → S
+without_key f None s = s
+without_key f (Some i) s = f s i
+
+-- what effects make of it, and then the end of a key
+abbrev pub after_taking : {S : Type 0} → (S → Ask → List ℕ → S) → (S → Invalidation → S) → Option Invalidation → Found S → Effects → Found S
+after_taking written revoked ended before e = record {
+  queue = e.queue;
+  marks = before.marks ++ e.marks;
+  reach = without_key revoked ended (written_all written before.reach e.writes);
+}
+
+-- the row's effects were made, and this says whether a receive of the shared queue is to be taken
+abbrev pub HasTaken : {S : Type 0} → (S → Ask → List ℕ → S) → (S → Invalidation → S) → Ending → Option Invalidation → Bool → Found S → Found S → Type 0
+HasTaken written revoked (Does e) ended shared before new =
+    (shared ≡ e.takes_shared) × (new ≡ after_taking written revoked ended before e)
+HasTaken written revoked (NotPossible reason) ended shared before new = ⊥
+
+-- a packet is taken as its row ends, but for the receive of the shared queue
+abbrev pub IsPacketTaken : {S : Type 0} → (S → Ask → List ℕ → S) → (S → Invalidation → S) → Result Bool Memory → Ending → Option Invalidation → Found S → Found S → Type 0
+IsPacketTaken written revoked (Ok shared) ending ended before new = HasTaken written revoked ending ended shared before new
+IsPacketTaken written revoked (Err memory) ending ended before new = new ≡ before
+
+-- the receives of the shared queue, after effects
+abbrev pub after_shared : Ending → Option SharedReceives → Option SharedReceives
+after_shared (Does e) shared = if e.takes_shared then option_map after_receive_take shared else shared
+after_shared (NotPossible reason) shared = shared
+
+-- the row's effects were made
+abbrev pub HasArrived : {S : Type 0} → (S → Ask → List ℕ → S) → (S → Invalidation → S) → Ending → Option Invalidation → Found S → Found S → Type 0
+HasArrived written revoked (Does e) ended before new = new ≡ after_taking written revoked ended before e
+HasArrived written revoked (NotPossible reason) ended before new = ⊥
+
+-- a request is taken as its row ends
+abbrev pub IsArrival : {S : Type 0} → (S → Ask → List ℕ → S) → (S → Invalidation → S) → Result (Unit {0}) Memory → Ending → Option Invalidation → Found S → Found S → Type 0
+IsArrival written revoked (Ok done) ending ended before new = HasArrived written revoked ending ended before new
+IsArrival written revoked (Err memory) ending ended before new = new ≡ before
+
+-- the end of a key may be handed on: it is one of the queue pair's own domain, its parts are at hand, and where it ends a
+-- window's key, that window is counted
+pub record MayEnd {S : Type 0} (sight : S → Sight) (ends : S → Invalidation → Type 0) (reach : S) (q : QueuePair) (i : Invalidation) : Type 0 where
+  pub own : i ≡ invalidation_by i.key i.queue
+  pub at_hand : ends reach i
+  pub counted : is_window_key i.key ≡ true → (sight reach).refusal i ≡ None → 0 < q.windows
+
+-- the receive that a message would take waits in its queue
+abbrev pub CanTake : QueuePair → Option PlacedReceive → Type 0
+CanTake q None = Unit {0}
+CanTake q (Some receive) = IfSome q.receives (λ r. 0 < waiting_count r)
+
+-- where a SEND packet takes its receive, that waits in its queue
+abbrev pub MayTake : Receiving → QueuePair → Type 0
+MayTake r q = r.taken ≡ true → IfSome q.receives (λ r. 0 < waiting_count r)

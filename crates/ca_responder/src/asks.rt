@@ -1,0 +1,168 @@
+ghost use Rattle.std.specs.Prelude.{◌≡◌, ◌≤◌, ◌∷◌, [], ℕ, Option, ◌&&◌, IfSome, false, is_none, length, option_copied};
+ghost use Rattle.ca_base.specs.declared.limits.TheConstants.{MAX_MESSAGE_BYTES, MAX_PAYLOAD_BYTES};
+ghost use Rattle.ca_model.specs.Packets.{is_response};
+ghost use Rattle.ca_model.specs.machine.Arrivals as arrivals;
+ghost use Rattle.ca_model.specs.machine.Delivery.{packet_arrived};
+ghost use Rattle.ca_model.specs.machine.Expected as rows;
+ghost use Rattle.ca_model.specs.machine.Invariants.{IsList, IsQueue, IsSharedReceives};
+ghost use Rattle.ca_qpstate.specs.Seen.{queue_of};
+ghost use Rattle.ca_responder.specs.Asking.{IsFree, asks_fitting, send_asks};
+ghost use Rattle.ca_responder.specs.Shapes.{shape_seen};
+ghost use Rattle.ca_rows.specs.Narrow.{AreNarrow};
+ghost use Rattle.ca_wire.specs.Packet.{IsWellFormed, fields_of};
+
+use crate::checks::{is_invalid, takes_receive};
+use crate::receive::next_receive;
+use crate::remote::packet_ask;
+use crate::send::{exceeds_receive, receive_asks};
+use crate::shape::{Shape, shape_of};
+use crate::write::write_ask;
+use crate::write_reach::write_reach;
+use arrayvec::ArrayVec;
+use ca_base::limits::MAX_PIECES;
+use ca_base::{Ask, Message, Piece};
+use ca_psn::widen;
+use ca_qpstate::QueuePart;
+use ca_srq::Srq;
+use ca_wire::Packet;
+
+/// How many bytes an atomic reaches.
+const ATOMIC_BYTES: u32 = 8;
+
+/// The asks that `on_request` may make, in order; it makes no other. It takes no memory.
+pub fn request_asks(
+    q: &QueuePart,
+    srq: Option<&Srq>,
+    p: &Packet<'_>,
+) -> ArrayVec<Ask, MAX_PIECES>
+    requires queue { IsQueue (queue_of q.now) }
+    requires narrow { AreNarrow (queue_of q.now) }
+    requires shared { IfSome (option_copied srq) IsSharedReceives }
+    requires packet { IsWellFormed (fields_of p.now) }
+    requires request { is_response p.now.opcode ≡ false }
+    ensures { (envelope : Option ℕ) → result.items ≡ (packet_arrived (fields_of p.now) envelope (option_copied srq.entry) (queue_of q.now)).asks }
+{
+    let Some(shape) = shape_of(p.opcode) else {
+        return ArrayVec::new();
+    };
+    if widen(q.responder.expected, p.psn) != q.responder.expected {
+        return ArrayVec::new();
+    }
+    expected_asks(q, srq, p, shape)
+}
+
+/// The asks of the packet with the expected PSN.
+fn expected_asks(
+    q: &QueuePart,
+    srq: Option<&Srq>,
+    p: &Packet<'_>,
+    shape: Shape,
+) -> ArrayVec<Ask, MAX_PIECES>
+    requires queue { IsQueue (queue_of q.now) }
+    requires shared { IfSome (option_copied srq) IsSharedReceives }
+    requires packet { IsWellFormed (fields_of p.now) }
+    ensures { (envelope : Option ℕ) → result.items ≡ (rows.expected_row (queue_of q.now) (option_copied srq.entry) (fields_of p.now) envelope (shape_seen shape)).asks }
+{
+    if is_invalid(q, p, shape) {
+        return ArrayVec::new();
+    }
+    if lacks_receive(q, srq, p, shape) {
+        return ArrayVec::new();
+    }
+    valid_asks(q, srq, p, shape)
+}
+
+/// Whether the packet takes a receive where there is none.
+#[tactic(auto, using(crate::proofs::AskingLemmas::none_waits))]
+fn lacks_receive(q: &QueuePart, srq: Option<&Srq>, p: &Packet<'_>, shape: Shape) -> bool
+    requires { IsQueue (queue_of q.now) }
+    ensures { result ≡ (rows.takes_receive (fields_of p.now) (shape_seen shape)
+        && is_none (arrivals.next_receive (queue_of q.now) (option_copied srq.entry))) }
+{
+    takes_receive(p, shape) && next_receive(q, srq).is_none()
+}
+
+/// The asks of a packet that is valid and has its receive.
+#[tactic(auto, using(crate::proofs::AskingLemmas::asks_of_send))]
+fn valid_asks(
+    q: &QueuePart,
+    srq: Option<&Srq>,
+    p: &Packet<'_>,
+    shape: Shape,
+) -> ArrayVec<Ask, MAX_PIECES>
+    requires queue { IsQueue (queue_of q.now) }
+    requires shared { IfSome (option_copied srq) IsSharedReceives }
+    requires packet { IsWellFormed (fields_of p.now) }
+    ensures { (envelope : Option ℕ) → result.items ≡ (rows.valid_row (arrivals.with_flag false (queue_of q.now)) (fields_of p.now) envelope
+        (arrivals.next_receive (queue_of q.now) (option_copied srq.entry)) (shape_seen shape)).asks }
+{
+    match shape {
+        Shape::Send(_) => message_asks(q, srq, p),
+        Shape::Write(_) => match write_reach(q, p) {
+            Some(r) if r.left > 0 => one(write_ask(q, p, &r)),
+            _ => ArrayVec::new(),
+        },
+        Shape::Read => ArrayVec::new(),
+        Shape::Atomic(kind) => match p.atomic {
+            Some(a) => one(packet_ask(q, a.key, kind, a.address, ATOMIC_BYTES, ATOMIC_BYTES)),
+            None => ArrayVec::new(),
+        },
+    }
+}
+
+/// The asks of a SEND packet, by the receive of the message in progress, or by the next one.
+fn message_asks(q: &QueuePart, srq: Option<&Srq>, p: &Packet<'_>) -> ArrayVec<Ask, MAX_PIECES>
+    requires queue { IsQueue (queue_of q.now) }
+    requires shared { IfSome (option_copied srq) IsSharedReceives }
+    requires packet { IsWellFormed (fields_of p.now) }
+    ensures { result.items ≡ send_asks (queue_of q.now) (fields_of p.now) (arrivals.next_receive (queue_of q.now) (option_copied srq.entry)) }
+{
+    match &q.responder.message {
+        Some(Message::Send { receive, bytes, .. }) => {
+            fitting_asks(q, p, *bytes, receive.list.as_slice())
+        }
+        Some(Message::Write { .. }) => next_asks(q, srq, p),
+        None => next_asks(q, srq, p),
+    }
+}
+
+/// The asks of a SEND packet that begins its message.
+#[tactic(auto, using(crate::proofs::AskingLemmas::asks_of_next, crate::proofs::AskingLemmas::asks_of_none))]
+fn next_asks(q: &QueuePart, srq: Option<&Srq>, p: &Packet<'_>) -> ArrayVec<Ask, MAX_PIECES>
+    requires queue { IsQueue (queue_of q.now) }
+    requires shared { IfSome (option_copied srq) IsSharedReceives }
+    requires packet { IsWellFormed (fields_of p.now) }
+    requires free { IsFree q.now.responder.message }
+    ensures { result.items ≡ send_asks (queue_of q.now) (fields_of p.now) (arrivals.next_receive (queue_of q.now) (option_copied srq.entry)) }
+{
+    match next_receive(q, srq) {
+        Some(receive) => fitting_asks(q, p, 0, receive.list.as_slice()),
+        None => ArrayVec::new(),
+    }
+}
+
+/// The asks for a packet's bytes in a receive's list, where they fit into it.
+fn fitting_asks(
+    q: &QueuePart,
+    p: &Packet<'_>,
+    before: u32,
+    list: &[Piece],
+) -> ArrayVec<Ask, MAX_PIECES>
+    requires payload { length p.now.payload.now ≤ MAX_PAYLOAD_BYTES }
+    requires before { before ≤ MAX_MESSAGE_BYTES }
+    requires list { IsList list.now }
+    ensures { result.items ≡ asks_fitting (queue_of q.now) (fields_of p.now) before list.now }
+{
+    if exceeds_receive(p, before, list) {
+        return ArrayVec::new();
+    }
+    receive_asks(q, p, before, list)
+}
+
+fn one(ask: Ask) -> ArrayVec<Ask, MAX_PIECES>
+    ensures { result.items ≡ ask ∷ [] }
+{
+    let mut asks = ArrayVec::new();
+    asks.push(ask);
+    asks
+}

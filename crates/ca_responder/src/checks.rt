@@ -1,0 +1,154 @@
+ghost use Rattle.std.specs.Prelude.{◌≡◌, nat_lt, false};
+ghost use Rattle.std.specs.Option.{option_map_or};
+ghost use Rattle.ca_base.specs.declared.limits.TheConstants.{MAX_MESSAGE_BYTES};
+ghost use Rattle.ca_model.specs.machine.Expected as rows;
+ghost use Rattle.ca_model.specs.machine.Shapes as shapes;
+ghost use Rattle.ca_qpstate.specs.Seen.{queue_of};
+ghost use Rattle.ca_responder.specs.Shapes.{shape_seen};
+ghost use Rattle.ca_wire.specs.Packet.{fields_of};
+
+use crate::shape::Shape;
+use crate::write_reach::{WriteReach, write_reach};
+use ca_base::Message;
+use ca_base::limits::{ATOMIC_BYTES, MAX_MESSAGE_BYTES, MAX_READS};
+use ca_qpstate::QueuePart;
+use ca_wire::{Packet, Position};
+
+/// Whether the packet with the expected PSN is an invalid request: the checks in their order.
+pub fn is_invalid(q: &QueuePart, p: &Packet<'_>, shape: Shape) -> bool
+    ensures { result ≡ rows.is_invalid (queue_of q.now) (fields_of p.now) (shape_seen shape) }
+{
+    if !check_op_seq(&q.responder.message, shape) {
+        return true;
+    }
+    if !check_length(q, p, shape) {
+        return true;
+    }
+    if !check_write_length(q, p, shape) {
+        return true;
+    }
+    if is_too_long(p) {
+        return true;
+    }
+    if is_misaligned(p) {
+        return true;
+    }
+    has_no_place(q, shape)
+}
+
+/// Whether the packet goes on with the message in progress, or begins one where none is.
+fn check_op_seq(message: &Option<Message>, shape: Shape) -> bool
+    ensures { result ≡ rows.continues message.now (shape_seen shape) }
+{
+    match message {
+        None => match shape {
+            Shape::Send(place) => place.begins(),
+            Shape::Write(place) => place.begins(),
+            Shape::Read => true,
+            Shape::Atomic(_) => true,
+        },
+        Some(Message::Send { .. }) => match shape {
+            Shape::Send(place) => !place.begins(),
+            _ => false,
+        },
+        Some(Message::Write { .. }) => match shape {
+            Shape::Write(place) => !place.begins(),
+            _ => false,
+        },
+    }
+}
+
+/// Whether the payload of a SEND or a WRITE fits its place in the message.
+fn check_length(q: &QueuePart, p: &Packet<'_>, shape: Shape) -> bool
+    ensures { result ≡ rows.fits_payload (queue_of q.now) (fields_of p.now) (shape_seen shape) }
+{
+    let mtu = usize::from(q.responder.mtu);
+    match shape {
+        Shape::Send(place) => fits_place(mtu, place, p.payload.len()),
+        Shape::Write(place) => fits_place(mtu, place, p.payload.len()),
+        Shape::Read => true,
+        Shape::Atomic(_) => true,
+    }
+}
+
+/// Exactly the path MTU, 1 to it at the end, 0 to it alone.
+fn fits_place(mtu: usize, place: Position, count: usize) -> bool
+    ensures { result ≡ shapes.fits_place mtu place count }
+{
+    match place {
+        Position::First => count == mtu,
+        Position::Middle => count == mtu,
+        Position::Last => 0 < count && count <= mtu,
+        Position::Only => count <= mtu,
+    }
+}
+
+/// Whether a WRITE leaves bytes before its last packet, and ends exactly with it.
+fn check_write_length(q: &QueuePart, p: &Packet<'_>, shape: Shape) -> bool
+    ensures { result ≡ rows.fits_write (queue_of q.now) (fields_of p.now) (shape_seen shape) }
+{
+    match shape {
+        Shape::Write(place) => match write_reach(q, p) {
+            Some(r) => fits_left(p.payload.len(), place, &r),
+            None => true,
+        },
+        Shape::Send(_) => true,
+        Shape::Read => true,
+        Shape::Atomic(_) => true,
+    }
+}
+
+fn fits_left(count: usize, place: Position, r: &WriteReach) -> bool
+    ensures { result ≡ rows.fits_left count place r.now }
+{
+    let left = r.left as usize;
+    if place.ends() {
+        count == left
+    } else {
+        count < left
+    }
+}
+
+/// Whether the length of the RETH is more than a message may have.
+fn is_too_long(p: &Packet<'_>) -> bool
+    ensures { result ≡ option_map_or (λ h. nat_lt MAX_MESSAGE_BYTES h.length) p.now.reth false }
+{
+    match p.reth {
+        Some(h) => h.length > MAX_MESSAGE_BYTES,
+        None => false,
+    }
+}
+
+/// Whether an atomic's address is no multiple of eight.
+fn is_misaligned(p: &Packet<'_>) -> bool
+    ensures { result ≡ rows.is_misaligned (fields_of p.now) }
+{
+    match p.atomic {
+        Some(a) => a.address % u64::from(ATOMIC_BYTES) != 0,
+        None => false,
+    }
+}
+
+/// Whether a READ or an atomic comes where as many are queued as may be.
+fn has_no_place(q: &QueuePart, shape: Shape) -> bool
+    ensures { result ≡ rows.has_no_place (queue_of q.now) (shape_seen shape) }
+{
+    match shape {
+        Shape::Read => q.responder.answers.fresh_count() >= usize::from(MAX_READS),
+        Shape::Atomic(_) => q.responder.answers.fresh_count() >= usize::from(MAX_READS),
+        Shape::Send(_) => false,
+        Shape::Write(_) => false,
+    }
+}
+
+/// Whether the packet takes a receive: a SEND as it begins, a WRITE with its immediate data.
+pub fn takes_receive(p: &Packet<'_>, shape: Shape) -> bool
+    ensures { result ≡ rows.takes_receive (fields_of p.now) (shape_seen shape) }
+{
+    match shape {
+        Shape::Send(place) => place.begins(),
+        Shape::Write(_) => p.imm.is_some(),
+        Shape::Read => false,
+        Shape::Atomic(_) => false,
+    }
+}

@@ -1,0 +1,170 @@
+ghost use Rattle.std.specs.Prelude.{◌≡◌, ◌<◌, ◌≤◌, ◌^◌, ◌∷◌, [], ◌++◌, if◌then◌else◌, OnOk, OnErr, false};
+ghost use Rattle.ca_base.specs.objects.Answers.{answers_before, has_nak_from};
+ghost use Rattle.ca_model.specs.machine.Duplicates as rows;
+ghost use Rattle.ca_model.specs.machine.Invariants.{IsQueue};
+ghost use Rattle.ca_qpstate.specs.Seen.{queue_of};
+ghost use Rattle.ca_responder.specs.Shapes.{shape_seen};
+ghost use Rattle.ca_rows.specs.Narrow.{AreNarrow};
+ghost use Rattle.ca_wire.specs.Packet.{fields_of};
+
+use crate::queueing::{drop_packet, queue_answer};
+use crate::segments::read_segments;
+use crate::shape::Shape;
+use ca_base::limits::MAX_DUPLICATES;
+use ca_base::{Answers, Memory, Queued};
+use ca_model::{Drop1, Marks};
+use ca_qpstate::QueuePart;
+use ca_wire::{NakCode, Packet, Reth};
+
+/// A packet ahead of the expected one: the first asks for what is missing, the others are dropped.
+pub fn take_ahead(q: &mut QueuePart, marks: &mut Marks) -> Result<(), Memory>
+    ensures queue { OnOk result (queue_of q.new ≡ (rows.ahead_effects (queue_of q.old)).queue) }
+    ensures marks { OnOk result (marks.new.marks ≡ marks.old.marks ++ (rows.ahead_effects (queue_of q.old)).marks) }
+    ensures room { OnOk result (2 ≤ marks.new.room) }
+    ensures err { OnErr result (q.new ≡ q.old) }
+    ensures err_marks { OnErr result (marks.new.marks ≡ marks.old.marks) }
+{
+    if q.responder.nak_sent {
+        return drop_packet(q, Drop1::Stale, marks);
+    }
+    let answer = Queued::Nak {
+        psn: q.responder.expected,
+        code: NakCode::PsnSequenceError.code(),
+    };
+    queue_answer(q, answer, true, marks)
+}
+
+/// A packet that comes once more, by its whole PSN. It is answered once more, and nothing of it is done again.
+pub fn take_duplicate(
+    q: &mut QueuePart,
+    psn: u64,
+    p: &Packet<'_>,
+    envelope: Option<u64>,
+    shape: Shape,
+    marks: &mut Marks,
+) -> Result<(), Memory>
+    requires queue { IsQueue (queue_of q.old) }
+    requires narrow { AreNarrow (queue_of q.old) }
+    requires some { 0 < psn }
+    requires psn { psn < 2 ^ 62 }
+    ensures queue { OnOk result (queue_of q.new ≡ (rows.duplicate_effects psn (fields_of p.now) envelope (shape_seen shape) (queue_of q.old)).queue) }
+    ensures marks { OnOk result (marks.new.marks ≡ marks.old.marks ++ (rows.duplicate_effects psn (fields_of p.now) envelope (shape_seen shape) (queue_of q.old)).marks) }
+    ensures room { OnOk result (2 ≤ marks.new.room) }
+    ensures err { OnErr result (q.new ≡ q.old) }
+    ensures err_marks { OnErr result (marks.new.marks ≡ marks.old.marks) }
+{
+    if q.responder.answers.duplicate_count() >= MAX_DUPLICATES {
+        return drop_packet(q, Drop1::Unsaved, marks);
+    }
+    match shape {
+        Shape::Send(_) => ack_again(q, marks),
+        Shape::Write(_) => ack_again(q, marks),
+        Shape::Read => match p.reth {
+            Some(h) => read_again(q, psn, envelope, &h, marks),
+            None => drop_packet(q, Drop1::Unsaved, marks),
+        },
+        Shape::Atomic(_) => match q.saved.find(psn) {
+            Some(found) => {
+                let answer = Queued::Atomic {
+                    psn,
+                    found,
+                    duplicate: true,
+                };
+                answer_again(q, psn, answer, marks)
+            }
+            None => drop_packet(q, Drop1::Unsaved, marks),
+        },
+    }
+}
+
+/// A SEND or a WRITE once more: an acknowledgement of all that came, where nothing waits to be answered.
+fn ack_again(q: &mut QueuePart, marks: &mut Marks) -> Result<(), Memory>
+    requires { IsQueue (queue_of q.old) }
+    ensures queue { OnOk result (queue_of q.new ≡ (rows.ack_again (queue_of q.old)).queue) }
+    ensures marks { OnOk result (marks.new.marks ≡ marks.old.marks ++ (rows.ack_again (queue_of q.old)).marks) }
+    ensures room { OnOk result (2 ≤ marks.new.room) }
+    ensures err { OnErr result (q.new ≡ q.old) }
+    ensures err_marks { OnErr result (marks.new.marks ≡ marks.old.marks) }
+{
+    if q.responder.answers.len() != 0 {
+        return drop_packet(q, Drop1::Unsaved, marks);
+    }
+    let psn = q.responder.expected - 1;
+    let sent = q.responder.nak_sent;
+    queue_answer(q, Queued::Ack { psn }, sent, marks)
+}
+
+/// A READ once more, where all its PSNs lie before the expected one.
+fn read_again(
+    q: &mut QueuePart,
+    psn: u64,
+    envelope: Option<u64>,
+    h: &Reth,
+    marks: &mut Marks,
+) -> Result<(), Memory>
+    requires queue { IsQueue (queue_of q.old) }
+    requires some { 0 < psn }
+    requires psn { psn < 2 ^ 62 }
+    ensures queue { OnOk result (queue_of q.new ≡ (rows.read_again psn envelope h.now (queue_of q.old)).queue) }
+    ensures marks { OnOk result (marks.new.marks ≡ marks.old.marks ++ (rows.read_again psn envelope h.now (queue_of q.old)).marks) }
+    ensures room { OnOk result (2 ≤ marks.new.room) }
+    ensures err { OnErr result (q.new ≡ q.old) }
+    ensures err_marks { OnErr result (marks.new.marks ≡ marks.old.marks) }
+{
+    if psn + read_segments(q, h.length) > q.responder.expected {
+        return drop_packet(q, Drop1::Unsaved, marks);
+    }
+    let answer = Queued::Read {
+        psn,
+        key: h.key,
+        address: h.address,
+        left: h.length,
+        first: true,
+        envelope,
+        duplicate: true,
+    };
+    answer_again(q, psn, answer, marks)
+}
+
+/// An answer is given once more: those from its PSN on are removed, and where a NAK is among them the flag goes.
+fn answer_again(
+    q: &mut QueuePart,
+    psn: u64,
+    answer: Queued,
+    marks: &mut Marks,
+) -> Result<(), Memory>
+    requires { 0 < psn }
+    ensures queue { OnOk result (queue_of q.new ≡ (rows.answer_again psn answer (queue_of q.old)).queue) }
+    ensures marks { marks.new.marks ≡ marks.old.marks }
+    ensures room { OnOk result (2 ≤ marks.new.room) }
+    ensures err { OnErr result (q.new ≡ q.old) }
+{
+    marks.reserve(2)?;
+    let sent = keeps_flag(q, psn);
+    replace_from(&mut q.responder.answers, psn, answer)?;
+    q.responder.nak_sent = sent;
+    Ok(())
+}
+
+/// The flag, where no NAK and no RNR NAK is removed with the answers from a PSN on.
+fn keeps_flag(q: &QueuePart, psn: u64) -> bool
+    ensures { result ≡ (if has_nak_from psn q.now.responder.answers then false else q.now.responder.nak_sent) }
+{
+    if q.responder.answers.has_nak_from(psn) {
+        return false;
+    }
+    q.responder.nak_sent
+}
+
+/// Puts an answer in the place of those from a PSN on. An acknowledgement that stays holds the place of the answer while
+/// the others are removed, so that `Memory` leaves the queue as it was.
+fn replace_from(answers: &mut Answers, psn: u64, answer: Queued) -> Result<(), Memory>
+    requires { 0 < psn }
+    ensures ok { OnOk result (answers.new ≡ answers_before psn answers.old ++ answer ∷ []) }
+    ensures err { OnErr result (answers.new ≡ answers.old) }
+{
+    answers.push(Queued::Ack { psn: psn - 1 })?;
+    answers.keep_before(psn);
+    answers.set_last(answer);
+    Ok(())
+}

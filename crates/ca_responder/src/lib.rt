@@ -1,0 +1,31 @@
+//! The responder of a queue pair: what it makes of the requests that arrive, and the answers that it sends.
+//!
+//! To the layers above it promises that a request and a turn end as the machine's rows say, for all of the queue pair,
+//! the marks, the packet and what is reached; that each access is judged before any byte is touched; and that an answer
+//! for want of memory leaves all as it was.
+//!
+//! Source: InfiniBand Architecture Specification Volume 1, the chapter on the transport layer, sections on the
+//! responder of the reliable connection.
+#![tactic(auto)]
+
+mod answer;
+mod asks;
+mod checks;
+mod duplicates;
+mod flush;
+mod queueing;
+mod read_left;
+mod receive;
+mod remote;
+mod remote_requests;
+mod request;
+mod respond;
+mod segments;
+mod send;
+mod shape;
+mod write;
+mod write_reach;
+
+pub use asks::request_asks;
+pub use request::on_request;
+pub use respond::{next_response, respond_ask};

@@ -1,0 +1,153 @@
+ghost use Rattle.std.specs.Prelude.{◌≡◌, ◌<◌, ◌≤◌, IfOk, IfSome, Some, option_copied};
+ghost use Rattle.std.specs.Option.{option_map};
+ghost use Rattle.ca_base.specs.declared.limits.TheConstants.{MAX_MESSAGE_BYTES};
+ghost use Rattle.ca_base.specs.objects.WorkQueue.{waiting_count};
+ghost use Rattle.ca_model.specs.machine.Arrivals as arrivals;
+ghost use Rattle.ca_model.specs.machine.Expected as rows;
+ghost use Rattle.ca_model.specs.machine.Invariants.{IsQueue, IsReceive, IsReceives, IsSharedReceives};
+ghost use Rattle.ca_qpstate.specs.Seen.{queue_of};
+ghost use Rattle.ca_responder.specs.Taking.{CanTake, MayTake};
+
+use ca_base::{Memory, Message, RecvRequest};
+use ca_qpstate::QueuePart;
+use ca_srq::Srq;
+use ca_workqueue::WorkQueue;
+use std::marker::Model;
+
+/// A receive with its posting place.
+#[derive(Drop)]
+pub struct Placed {
+    pub place: u64,
+    pub receive: RecvRequest,
+}
+
+impl Model for Placed {
+    ghost use Rattle.ca_base.specs.objects.SharedReceives.{PlacedReceive};
+
+    ghost Value = { PlacedReceive };
+
+    ghost view = { λ p. record { place = p.place; receive = p.receive } };
+}
+
+/// The receive of a SEND packet, how many bytes came into it before, and whether the packet takes it.
+#[derive(Drop)]
+pub struct Receiving {
+    pub receive: Placed,
+    pub before: u32,
+    pub taken: bool,
+}
+
+impl Model for Receiving {
+    ghost use Rattle.ca_model.specs.machine.Expected.{Receiving};
+
+    ghost Value = { Receiving };
+
+    ghost view = { λ r. record { receive = r.receive; before = r.before; taken = r.taken } };
+}
+
+/// The place of the next receive of a queue pair's own: those that wait stand at the end.
+pub fn next_place(receives: &WorkQueue<RecvRequest>) -> u64
+    requires { IsReceives receives.now }
+    ensures { result ≡ receives.now.next_taken }
+{
+    receives.next_place() - u64::from(receives.waiting())
+}
+
+/// The receive that a message would take: of the shared receive queue, or of the queue pair's own. None comes exactly
+/// where none waits. It takes no memory.
+pub fn next_receive<'a>(q: &'a QueuePart, srq: Option<&'a Srq>) -> Option<&'a RecvRequest>
+    requires { IsQueue (queue_of q.now) }
+    ensures { option_copied result ≡ option_map (λ r. r.receive) (arrivals.next_receive (queue_of q.now) (option_copied srq.entry)) }
+{
+    if q.srq.is_some() {
+        return match srq {
+            Some(srq) => srq.first(),
+            None => None,
+        };
+    }
+    match &q.receives {
+        Some(receives) => receives.get(next_place(receives)),
+        None => None,
+    }
+}
+
+/// The place of the receive that a message would take.
+fn next_receive_place(q: &QueuePart, srq: Option<&Srq>) -> Option<u64>
+    requires { IsQueue (queue_of q.now) }
+    ensures { IfSome (arrivals.next_receive (queue_of q.now) (option_copied srq.entry)) (λ r. result ≡ Some r.place) }
+{
+    if q.srq.is_some() {
+        return match srq {
+            Some(srq) => srq.first_place(),
+            None => None,
+        };
+    }
+    match &q.receives {
+        Some(receives) => Some(next_place(receives)),
+        None => None,
+    }
+}
+
+/// A copy of the receive that a message would take, with its place.
+pub fn find_receive(q: &QueuePart, srq: Option<&Srq>) -> Result<Option<Placed>, Memory>
+    requires queue { IsQueue (queue_of q.now) }
+    requires shared { IfSome (option_copied srq) IsSharedReceives }
+    ensures value { IfOk result (λ next. next ≡ arrivals.next_receive (queue_of q.now) (option_copied srq.entry)) }
+    ensures sound { IfOk result (λ next. IfSome next (λ r. IsReceive r.receive)) }
+    ensures takes { IfOk result (λ next. CanTake (queue_of q.now) next) }
+{
+    let Some(receive) = next_receive(q, srq) else {
+        return Ok(None);
+    };
+    let receive = receive.clone()?;
+    match next_receive_place(q, srq) {
+        Some(place) => Ok(Some(Placed { place, receive })),
+        None => unreachable!(),
+    }
+}
+
+/// The receive of a SEND packet: the next one where the message begins, and else that of the message in progress.
+pub fn receiving_of(q: &QueuePart, next: Option<Placed>) -> Result<Option<Receiving>, Memory>
+    requires queue { IsQueue (queue_of q.now) }
+    requires next { IfSome next (λ r. IsReceive r.receive) }
+    requires takes { CanTake (queue_of q.now) next }
+    ensures value { IfOk result (λ r. r ≡ rows.receiving_of (queue_of q.now) next q.now.responder.message) }
+    ensures sound { IfOk result (λ r. IfSome r (λ r. IsReceive r.receive.receive × (r.before ≤ MAX_MESSAGE_BYTES))) }
+    ensures takes { IfOk result (λ r. IfSome r (λ r. MayTake r (queue_of q.now))) }
+{
+    if let Some(
+        Message::Send {
+            place,
+            receive,
+            bytes,
+        },
+    ) = &q.responder.message
+    {
+        return Ok(Some(Receiving {
+            receive: Placed {
+                place: *place,
+                receive: receive.clone()?,
+            },
+            before: *bytes,
+            taken: false,
+        }));
+    }
+    match next {
+        Some(receive) => Ok(Some(Receiving {
+            receive,
+            before: 0,
+            taken: true,
+        })),
+        None => Ok(None),
+    }
+}
+
+/// Takes the next receive of the queue pair's own, where it has one.
+pub fn take_own(q: &mut QueuePart)
+    requires { IfSome q.old.receives (λ r. 0 < waiting_count r) }
+    ensures { queue_of q.new ≡ arrivals.with_receive_taken (queue_of q.old) }
+{
+    if let Some(receives) = &mut q.receives {
+        receives.take_next();
+    }
+}

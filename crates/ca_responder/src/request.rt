@@ -1,0 +1,313 @@
+ghost use Rattle.std.specs.Prelude.{◌≡◌, ◌≤◌, ◌++◌, ◌&&◌, if◌then◌else◌, None, Some, OnOk, OnErr, IfOk, IfSome, is_none, false, option_copied};
+ghost use Rattle.std.specs.Option.{option_copied_mut};
+ghost use Rattle.ca_base.specs.Handed.{left_behind};
+ghost use Rattle.ca_base.specs.objects.SharedReceives.{after_receive_take};
+ghost use Rattle.ca_grant.specs.Reaching.{AreAtHand};
+ghost use Rattle.ca_model.specs.Packets.{is_response};
+ghost use Rattle.ca_model.specs.machine.Arrivals as arrivals;
+ghost use Rattle.ca_model.specs.machine.Completions.{flush_marks};
+ghost use Rattle.ca_model.specs.machine.Delivery.{packet_arrived};
+ghost use Rattle.ca_model.specs.machine.Duplicates.{request_row};
+ghost use Rattle.ca_model.specs.machine.Expected as rows;
+ghost use Rattle.ca_model.specs.machine.Invariants.{IsQueue, IsReceive, IsSharedReceives};
+ghost use Rattle.ca_model.specs.machine.Row.{ending_of};
+ghost use Rattle.ca_qpstate.specs.Seen.{queue_of};
+ghost use Rattle.ca_responder.specs.Atomics.{IsRequestShape};
+ghost use Rattle.ca_responder.specs.Shapes.{shape_seen};
+ghost use Rattle.ca_responder.specs.Taking.{CanTake, IsArrival, IsPacketTaken, MayEnd, after_shared, ended_by, found};
+ghost use Rattle.ca_rows.specs.Narrow.{AreNarrow};
+ghost use Rattle.ca_wire.specs.Packet.{IsWellFormed, fields_of};
+
+use crate::checks::{is_invalid, takes_receive};
+use crate::duplicates::{take_ahead, take_duplicate};
+use crate::queueing::{drop_packet, queue_answer, refuse};
+use crate::receive::{Placed, find_receive, receiving_of};
+use crate::remote_requests::{take_atomic, take_read};
+use crate::send::take_send;
+use crate::shape::{Shape, shape_of};
+use crate::write::take_write;
+use crate::write_reach::write_reach;
+use ca_base::{Memory, Queued};
+use ca_grant::Reach;
+use ca_model::{Drop1, Marks};
+use ca_psn::widen;
+use ca_qpstate::QueuePart;
+use ca_srq::Srq;
+use ca_wire::{NakCode, Packet};
+use std::alloc::Global;
+
+/// Takes a request that arrived. A packet ahead of the expected one asks once for what is missing; a duplicate is
+/// answered once more, and does nothing again; the expected one is checked, judged, and takes effect. A request that is
+/// refused moves the queue pair to Error. After Ok there is room for two more marks, and `Memory` changes nothing.
+///
+/// `srq` is the shared receive queue of the queue pair, where it has one, and `envelope` the index of the packet, for the
+/// marks of its remote accesses. The packet is well formed, a request, and one that the adapter does not drop before.
+pub fn on_request<R: Reach>(
+    alloc: Global,
+    q: &mut QueuePart,
+    srq: Option<&mut Srq>,
+    reach: &mut R,
+    p: &Packet<'_>,
+    envelope: Option<u64>,
+    marks: &mut Marks,
+) -> Result<(), Memory>
+    requires queue { IsQueue (queue_of q.old) }
+    requires narrow { AreNarrow (queue_of q.old) }
+    requires shared { IfSome (option_copied_mut srq) IsSharedReceives }
+    requires packet { IsWellFormed (fields_of p.now) }
+    requires request { is_response p.now.opcode ≡ false }
+    requires at_hand { AreAtHand R.sight R.judges R.touches reach.old (packet_arrived (fields_of p.now) envelope (option_copied_mut srq) (queue_of q.old)).asks }
+    requires ends { IfSome (packet_arrived (fields_of p.now) envelope (option_copied_mut srq) (queue_of q.old)).invalidation (MayEnd R.sight R.ends reach.old (queue_of q.old)) }
+    ensures taken { let row = packet_arrived (fields_of p.now) envelope (option_copied_mut srq.entry) (queue_of q.old) in
+        IsArrival R.written R.revoked result (ending_of (R.sight reach.old) row) (ended_by (R.sight reach.old) row)
+        (found (queue_of q.old) marks.old.marks reach.old) (found (queue_of q.new) marks.new.marks reach.new) }
+    ensures receives { OnOk result (left_behind srq.exit ≡ after_shared (ending_of (R.sight reach.old)
+        (packet_arrived (fields_of p.now) envelope (option_copied_mut srq.entry) (queue_of q.old))) (option_copied_mut srq.entry)) }
+    ensures err_receives { OnErr result (left_behind srq.exit ≡ option_copied_mut srq.entry) }
+    ensures room { OnOk result (2 ≤ marks.new.room) }
+{
+    let Some(srq) = srq else {
+        return take_without(alloc, q, reach, p, envelope, marks);
+    };
+    take_with(alloc, q, srq, reach, p, envelope, marks)
+}
+
+/// A request at a queue pair that is handed no shared receive queue.
+#[tactic(auto, using(crate::proofs::ArrivalLemmas::arrives, crate::proofs::ArrivalLemmas::takes_none))]
+fn take_without<R: Reach>(
+    alloc: Global,
+    q: &mut QueuePart,
+    reach: &mut R,
+    p: &Packet<'_>,
+    envelope: Option<u64>,
+    marks: &mut Marks,
+) -> Result<(), Memory>
+    requires queue { IsQueue (queue_of q.old) }
+    requires narrow { AreNarrow (queue_of q.old) }
+    requires packet { IsWellFormed (fields_of p.now) }
+    requires request { is_response p.now.opcode ≡ false }
+    requires at_hand { AreAtHand R.sight R.judges R.touches reach.old (packet_arrived (fields_of p.now) envelope None (queue_of q.old)).asks }
+    requires ends { IfSome (packet_arrived (fields_of p.now) envelope None (queue_of q.old)).invalidation (MayEnd R.sight R.ends reach.old (queue_of q.old)) }
+    ensures taken { let row = packet_arrived (fields_of p.now) envelope None (queue_of q.old) in
+        IsArrival R.written R.revoked result (ending_of (R.sight reach.old) row) (ended_by (R.sight reach.old) row)
+        (found (queue_of q.old) marks.old.marks reach.old) (found (queue_of q.new) marks.new.marks reach.new) }
+    ensures receives { None ≡ after_shared (ending_of (R.sight reach.old) (packet_arrived (fields_of p.now) envelope None (queue_of q.old))) None }
+    ensures room { OnOk result (2 ≤ marks.new.room) }
+{
+    match take_request(alloc, q, None, reach, p, envelope, marks) {
+        Ok(_) => Ok(()),
+        Err(error) => Err(error),
+    }
+}
+
+/// A request at a queue pair with its shared receive queue, of which it takes the next receive where its row does.
+#[tactic(auto, using(crate::proofs::ArrivalLemmas::arrives, crate::proofs::ArrivalLemmas::takes_next))]
+fn take_with<R: Reach>(
+    alloc: Global,
+    q: &mut QueuePart,
+    srq: &mut Srq,
+    reach: &mut R,
+    p: &Packet<'_>,
+    envelope: Option<u64>,
+    marks: &mut Marks,
+) -> Result<(), Memory>
+    requires queue { IsQueue (queue_of q.old) }
+    requires narrow { AreNarrow (queue_of q.old) }
+    requires shared { IsSharedReceives srq.old }
+    requires packet { IsWellFormed (fields_of p.now) }
+    requires request { is_response p.now.opcode ≡ false }
+    requires at_hand { AreAtHand R.sight R.judges R.touches reach.old (packet_arrived (fields_of p.now) envelope (Some srq.old) (queue_of q.old)).asks }
+    requires ends { IfSome (packet_arrived (fields_of p.now) envelope (Some srq.old) (queue_of q.old)).invalidation (MayEnd R.sight R.ends reach.old (queue_of q.old)) }
+    ensures taken { let row = packet_arrived (fields_of p.now) envelope (Some srq.old) (queue_of q.old) in
+        IsArrival R.written R.revoked result (ending_of (R.sight reach.old) row) (ended_by (R.sight reach.old) row)
+        (found (queue_of q.old) marks.old.marks reach.old) (found (queue_of q.new) marks.new.marks reach.new) }
+    ensures receives { OnOk result (Some srq.new ≡ after_shared (ending_of (R.sight reach.old) (packet_arrived (fields_of p.now) envelope (Some srq.old) (queue_of q.old))) (Some srq.old)) }
+    ensures err_receives { OnErr result (srq.new ≡ srq.old) }
+    ensures room { OnOk result (2 ≤ marks.new.room) }
+{
+    match take_request(alloc, q, Some(srq), reach, p, envelope, marks) {
+        Ok(takes) => {
+            take_shared(srq, takes);
+            Ok(())
+        }
+        Err(error) => Err(error),
+    }
+}
+
+/// Takes the next receive of a shared receive queue, where the packet takes one.
+fn take_shared(srq: &mut Srq, takes: bool)
+    ensures { srq.new ≡ (if takes then after_receive_take srq.old else srq.old) }
+{
+    if takes {
+        srq.take_next();
+    }
+}
+
+/// Takes a request, but for the receive of the shared receive queue: whether that is to be taken.
+fn take_request<R: Reach>(
+    alloc: Global,
+    q: &mut QueuePart,
+    srq: Option<&Srq>,
+    reach: &mut R,
+    p: &Packet<'_>,
+    envelope: Option<u64>,
+    marks: &mut Marks,
+) -> Result<bool, Memory>
+    requires queue { IsQueue (queue_of q.old) }
+    requires narrow { AreNarrow (queue_of q.old) }
+    requires shared { IfSome (option_copied srq) IsSharedReceives }
+    requires packet { IsWellFormed (fields_of p.now) }
+    requires request { is_response p.now.opcode ≡ false }
+    requires at_hand { AreAtHand R.sight R.judges R.touches reach.old (packet_arrived (fields_of p.now) envelope (option_copied srq) (queue_of q.old)).asks }
+    requires ends { IfSome (packet_arrived (fields_of p.now) envelope (option_copied srq) (queue_of q.old)).invalidation (MayEnd R.sight R.ends reach.old (queue_of q.old)) }
+    ensures taken { let row = packet_arrived (fields_of p.now) envelope (option_copied srq.entry) (queue_of q.old) in
+        IsPacketTaken R.written R.revoked result (ending_of (R.sight reach.old) row) (ended_by (R.sight reach.old) row)
+        (found (queue_of q.old) marks.old.marks reach.old) (found (queue_of q.new) marks.new.marks reach.new) }
+    ensures room { OnOk result (2 ≤ marks.new.room) }
+{
+    let Some(shape) = shape_of(p.opcode) else {
+        drop_packet(q, Drop1::State, marks)?;
+        return Ok(false);
+    };
+    take_shaped(alloc, q, srq, reach, p, envelope, shape, marks)
+}
+
+/// A request of this shape: ahead, a duplicate, or the expected one.
+fn take_shaped<R: Reach>(
+    alloc: Global,
+    q: &mut QueuePart,
+    srq: Option<&Srq>,
+    reach: &mut R,
+    p: &Packet<'_>,
+    envelope: Option<u64>,
+    shape: Shape,
+    marks: &mut Marks,
+) -> Result<bool, Memory>
+    requires queue { IsQueue (queue_of q.old) }
+    requires narrow { AreNarrow (queue_of q.old) }
+    requires shared { IfSome (option_copied srq) IsSharedReceives }
+    requires packet { IsWellFormed (fields_of p.now) }
+    requires shape { IsRequestShape shape }
+    requires at_hand { AreAtHand R.sight R.judges R.touches reach.old (request_row (fields_of p.now) envelope (option_copied srq) (shape_seen shape) (queue_of q.old)).asks }
+    requires ends { IfSome (request_row (fields_of p.now) envelope (option_copied srq) (shape_seen shape) (queue_of q.old)).invalidation (MayEnd R.sight R.ends reach.old (queue_of q.old)) }
+    ensures taken { let row = request_row (fields_of p.now) envelope (option_copied srq.entry) (shape_seen shape) (queue_of q.old) in
+        IsPacketTaken R.written R.revoked result (ending_of (R.sight reach.old) row) (ended_by (R.sight reach.old) row)
+        (found (queue_of q.old) marks.old.marks reach.old) (found (queue_of q.new) marks.new.marks reach.new) }
+    ensures room { OnOk result (2 ≤ marks.new.room) }
+{
+    let psn = widen(q.responder.expected, p.psn);
+    if psn > q.responder.expected {
+        take_ahead(q, marks)?;
+        return Ok(false);
+    }
+    if psn < q.responder.expected {
+        take_duplicate(q, psn, p, envelope, shape, marks)?;
+        return Ok(false);
+    }
+    take_expected(alloc, q, srq, reach, p, envelope, shape, marks)
+}
+
+/// The packet with the expected PSN: it is invalid, it has no receive to take, or it is valid.
+fn take_expected<R: Reach>(
+    alloc: Global,
+    q: &mut QueuePart,
+    srq: Option<&Srq>,
+    reach: &mut R,
+    p: &Packet<'_>,
+    envelope: Option<u64>,
+    shape: Shape,
+    marks: &mut Marks,
+) -> Result<bool, Memory>
+    requires queue { IsQueue (queue_of q.old) }
+    requires narrow { AreNarrow (queue_of q.old) }
+    requires shared { IfSome (option_copied srq) IsSharedReceives }
+    requires packet { IsWellFormed (fields_of p.now) }
+    requires shape { IsRequestShape shape }
+    requires at_hand { AreAtHand R.sight R.judges R.touches reach.old (rows.expected_row (queue_of q.old) (option_copied srq) (fields_of p.now) envelope (shape_seen shape)).asks }
+    requires ends { IfSome (rows.expected_row (queue_of q.old) (option_copied srq) (fields_of p.now) envelope (shape_seen shape)).invalidation (MayEnd R.sight R.ends reach.old (queue_of q.old)) }
+    ensures taken { let row = rows.expected_row (queue_of q.old) (option_copied srq.entry) (fields_of p.now) envelope (shape_seen shape) in
+        IsPacketTaken R.written R.revoked result (ending_of (R.sight reach.old) row) (ended_by (R.sight reach.old) row)
+        (found (queue_of q.old) marks.old.marks reach.old) (found (queue_of q.new) marks.new.marks reach.new) }
+    ensures room { OnOk result (2 ≤ marks.new.room) }
+{
+    if is_invalid(q, p, shape) {
+        refuse(q, NakCode::InvalidRequest, Vec::new(alloc), marks)?;
+        return Ok(false);
+    }
+    let next = find_receive(q, srq)?;
+    if lacks_receive(p, shape, &next) {
+        let psn = q.responder.expected;
+        queue_answer(q, Queued::Rnr { psn }, true, marks)?;
+        return Ok(false);
+    }
+    take_valid(alloc, q, reach, p, envelope, shape, next, marks)
+}
+
+/// Whether the packet takes a receive where there is none.
+fn lacks_receive(p: &Packet<'_>, shape: Shape, next: &Option<Placed>) -> bool
+    ensures { result ≡ (rows.takes_receive (fields_of p.now) (shape_seen shape) && is_none next.now) }
+{
+    takes_receive(p, shape) && next.is_none()
+}
+
+/// A packet that is valid and has its receive.
+fn take_valid<R: Reach>(
+    alloc: Global,
+    q: &mut QueuePart,
+    reach: &mut R,
+    p: &Packet<'_>,
+    envelope: Option<u64>,
+    shape: Shape,
+    next: Option<Placed>,
+    marks: &mut Marks,
+) -> Result<bool, Memory>
+    requires queue { IsQueue (queue_of q.old) }
+    requires narrow { AreNarrow (queue_of q.old) }
+    requires packet { IsWellFormed (fields_of p.now) }
+    requires shape { IsRequestShape shape }
+    requires valid { rows.is_invalid (queue_of q.old) (fields_of p.now) (shape_seen shape) ≡ false }
+    requires next { IfSome next (λ r. IsReceive r.receive) }
+    requires takes { CanTake (queue_of q.old) next }
+    requires at_hand { AreAtHand R.sight R.judges R.touches reach.old (rows.valid_row (arrivals.with_flag false (queue_of q.old)) (fields_of p.now) envelope next (shape_seen shape)).asks }
+    requires ends { IfSome (rows.valid_row (arrivals.with_flag false (queue_of q.old)) (fields_of p.now) envelope next (shape_seen shape)).invalidation (MayEnd R.sight R.ends reach.old (queue_of q.old)) }
+    ensures taken { let row = rows.valid_row (arrivals.with_flag false (queue_of q.old)) (fields_of p.now) envelope next (shape_seen shape) in
+        IsPacketTaken R.written R.revoked result (ending_of (R.sight reach.old) row) (ended_by (R.sight reach.old) row)
+        (found (queue_of q.old) marks.old.marks reach.old) (found (queue_of q.new) marks.new.marks reach.new) }
+    ensures room { OnOk result (2 ≤ marks.new.room) }
+{
+    match shape {
+        Shape::Send(place) => match receiving_of(q, next)? {
+            Some(r) => take_send(alloc, q, reach, p, place, r, marks),
+            None => take_invalid(alloc, q, marks),
+        },
+        Shape::Write(place) => match write_reach(q, p) {
+            Some(r) => take_write(alloc, q, reach, p, envelope, place, next, &r, marks),
+            None => take_invalid(alloc, q, marks),
+        },
+        Shape::Read => match p.reth {
+            Some(h) => {
+                take_read(q, p, envelope, &h, marks)?;
+                Ok(false)
+            }
+            None => take_invalid(alloc, q, marks),
+        },
+        Shape::Atomic(kind) => match p.atomic {
+            Some(a) => take_atomic(alloc, q, reach, p, envelope, kind, &a, marks),
+            None => take_invalid(alloc, q, marks),
+        },
+    }
+}
+
+/// Refuses a packet as an invalid request. It takes no receive of the shared receive queue.
+fn take_invalid(alloc: Global, q: &mut QueuePart, marks: &mut Marks) -> Result<bool, Memory>
+    requires { IsQueue (queue_of q.old) }
+    ensures queue { OnOk result (queue_of q.new ≡ (arrivals.refusal_effects NakCode.InvalidRequest (arrivals.with_flag false (queue_of q.old))).queue) }
+    ensures marks { OnOk result (marks.new.marks ≡ marks.old.marks ++ flush_marks (queue_of q.old)) }
+    ensures shared { IfOk result (λ shared. shared ≡ false) }
+    ensures room { OnOk result (2 ≤ marks.new.room) }
+    ensures err { OnErr result (q.new ≡ q.old) }
+    ensures err_marks { OnErr result (marks.new.marks ≡ marks.old.marks) }
+{
+    refuse(q, NakCode::InvalidRequest, Vec::new(alloc), marks)?;
+    Ok(false)
+}
