@@ -18,7 +18,9 @@ use arrayvec::ArrayVec;
 use ca_base::limits::MAX_PIECES;
 use ca_base::{Ask, Key, Kind, Memory, Piece, SendOp};
 use ca_qpstate::QueuePart;
-use ca_rows::{carried_bytes, list_asks, list_length, list_of, segments};
+use ca_rows::{
+    carried_bytes, list_asks, list_length, list_of, peer_number, psn_bits, segments,
+};
 use ca_wire::{
     AtomicEth, Packet, Reth, Segment, SendKind, cmp_swap, encode, fetch_add, read_request,
     send_packet, spelling_length, write_packet,
@@ -60,26 +62,6 @@ pub(crate) fn packet_asks(q: &QueuePart, n: &Numbered<'_>) -> ArrayVec<Ask, MAX_
         count,
         list_of(n.op()),
     )
-}
-
-/// The number of the peer.
-fn peer_number(q: &QueuePart) -> u32
-    requires { IsQueue (queue_of q.now) }
-    ensures value { result ≡ requester.peer_number (queue_of q.now) }
-    ensures narrow { result < 2 ^ 24 }
-{
-    match q.peer {
-        Some((peer, _)) => peer.number,
-        None => 0,
-    }
-}
-
-/// The 24 bits of a whole number of a packet.
-fn psn_bits(psn: u64) -> u32
-    ensures value { result ≡ requester.psn_bits psn }
-    ensures narrow { result < 2 ^ 24 }
-{
-    (psn % 0x100_0000) as u32
 }
 
 /// Adds the bytes that spell the next packet, with this payload.

@@ -20,11 +20,12 @@ ghost use Rattle.ca_wire.specs.Packet.{IsWellFormed, fields_of, spelling};
 use crate::answer::next_answer;
 use crate::flush::{push_flush, reserve_for};
 use crate::read_left::{ReadLeft, is_last_response, response_ask, response_segment, rest_of};
-use crate::remote::{peer_number, psn_bits, remote_mark};
+use crate::remote::remote_mark;
 use ca_base::{Ask, Bytes, Denial, Memory, Queued, Sent, StepError, Verdict};
 use ca_grant::Reach;
 use ca_model::Marks;
 use ca_qpstate::QueuePart;
+use ca_rows::{peer_number, psn_bits};
 use ca_wire::{
     NakCode, Packet, acknowledgement, atomic_acknowledge, encode, nak, read_response, rnr_nak,
 };

@@ -12,6 +12,7 @@
 mod asks;
 mod completions;
 mod flush;
+mod headers;
 mod list;
 mod operations;
 mod reads;
@@ -22,6 +23,7 @@ pub use completions::{
     failure_mark, local_denial, push_success, receive_failure, receive_mark, send_completion,
 };
 pub use flush::{push_flushed, push_flushed_receives, push_flushed_sends};
+pub use headers::{peer_number, psn_bits};
 pub use list::{list_asks, list_length};
 pub use operations::{
     carried_bytes, is_answered, is_atomic, is_local, is_read, list_of, operation_of, psns_of,
