@@ -1,14 +1,9 @@
 -- A line that is spelled is read as what it says.
-use Rattle.std.proofs.Common.{◌≡◌, ℕ, ◌≤◌, true, false, eqb, List, [], ◌∷◌, ◌++◌, Some, decimal, refl, sym, ap, subst, ◌∙◌, arith, inl, inr}
+use Rattle.std.proofs.Common.{◌≡◌, ℕ, ◌≤◌, true, false, List, [], ◌∷◌, ◌++◌, Some, decimal, refl, ap, ◌∙◌, arith}
 use Rattle.std.specs.Prelude.{codes}
 use Rattle.std.specs.Int.{w8, w32, w64}
-use Rattle.std.proofs.lemmas.Bool.{cases_Bool, le-leb, eqb-true, and_parts}
-use Rattle.ca_base.specs.declared.change.Change.{Change}
-use Rattle.ca_base.specs.declared.change.Change.TheVariants as changes
+use Rattle.std.proofs.lemmas.Bool.{le-leb, and_parts}
 use Rattle.ca_base.specs.declared.completion.Completion.{Completion}
-use Rattle.ca_base.specs.declared.names.Slot.{Slot}
-use Rattle.ca_base.specs.declared.request.SendOp.{SendOp}
-use Rattle.ca_base.specs.declared.request.SendOp.TheVariants as ops
 use Rattle.ca_base.specs.declared.verdict.Verdict.{Verdict}
 use Rattle.ca_base.specs.declared.verdict.Verdict.TheVariants as verdicts
 use Rattle.ca_model.specs.declared.answer.Answer.TheVariants as answers
@@ -17,118 +12,29 @@ use Rattle.ca_model.specs.declared.event.Event.TheVariants as events
 use Rattle.ca_model.specs.declared.mark.Mark.{Mark}
 use Rattle.ca_model.specs.declared.mark.Mark.TheVariants as marks
 use Rattle.ca_model.specs.declared.verb.Verb.{Verb}
-use Rattle.ca_model.specs.declared.verb.Verb.TheVariants as verbs
 use Rattle.ca_trace.specs.declared.line.Line.{Line}
 use Rattle.ca_trace.specs.declared.line.Line.TheVariants as lines
 use Rattle.ca_trace.specs.declared.line.Told.{Told}
 use Rattle.ca_trace.specs.declared.line.Told.TheVariants as told
-use Rattle.ca_reading_words.specs.Words.{pieces, number_in, lettered_in}
-use Rattle.ca_base.specs.Spelling.{perhaps, slot_text, op_refusal_text}
+use Rattle.ca_reading_words.specs.Words.{pieces, lettered_in}
+use Rattle.ca_base.specs.Spelling.{perhaps, op_refusal_text}
 use Rattle.ca_base.specs.declared.names.QueueId.{QueueId}
-use Rattle.ca_trace.specs.Table.{change_words, operation_words, poll_words, verb_words, call_words, event_words, answer_words, completion_words, got_words, verdict_words, mark_words}
+use Rattle.ca_trace.specs.Table.{verb_words, call_words, event_words, answer_words, completion_words, got_words, verdict_words, mark_words}
 use Rattle.ca_trace.specs.Words.{Field, Fixed, Number, Lettered, OfCause, word, words, led, joined}
 use Rattle.ca_trace.specs.Lines.{answer_line_words, line_words, line_text}
 use Rattle.ca_model.specs.History.{IsPlain}
-use Rattle.ca_reading_words.specs.Fits.{SlotFits, AllFit}
+use Rattle.ca_reading_words.specs.Fits.{AllFit}
 use Rattle.ca_reading_words.proofs.PieceLemmas.{lacks, all_lack, pieces_joined, lacks_append, plain_lacks}
 use Rattle.ca_reading_words.proofs.NumberLemmas.{number_again}
-use Rattle.ca_reading_words.proofs.WordLemmas.{place_again, domain_again, queue_again, slot_again, queues_again, key_again, address_again, hex_again, perhaps_number_again, perhaps_key_again, pages_again, pieces_again, runs_again, rights_again, flags_again, object_again, side_again, alarm_again, kind_again, denial_again, state_again, operation_again as wc_op_again, status_again, lot_again, refusal_again, drop_again, perhaps_cause_again, number_is_no_arrow, field_plain}
+use Rattle.ca_reading_words.proofs.WordLemmas.{place_again, domain_again, queue_again, queues_again, key_again, address_again, hex_again, perhaps_number_again, perhaps_key_again, runs_again, rights_again, object_again, side_again, alarm_again, kind_again, denial_again, state_again, operation_again as wc_op_again, status_again, lot_again, refusal_again, drop_again, perhaps_cause_again, field_plain}
 use Rattle.ca_reading_lines.specs.Fits.{IsTold, IsTurn, LineFits}
-use Rattle.ca_reading_lines.specs.Reading.{Words, rtr_at, rts_at, plain_change_at, change_at, send_at, send_imm_at, send_inv_at, write_at, write_imm_at, read_at, cmp_swap_at, fetch_add_at, bind1_at, bind2_at, fast_reg_at, local_inv_at, local_at, operation_at, reg_at, qp_at, post_at, receive_at, least_at, poll_at, wait_at, store_at, load_at, inject_at, work_at, object_at, verb_at, state_at, answer_at, completion_at, verdict_at, granted_at, remote_at, local_mark_at, stored_at, sent_at, done_at, passing_at, mark_at, turn_at, head_at, inner_at, line_at, line_in}
-
-u8 : (n : ℕ) → n ≤ 255 → number_in 255 (decimal n) ≡ Some n
-u8 n h = number_again 255 n h (omega arith)
-
-u16 : (n : ℕ) → n ≤ 65535 → number_in 65535 (decimal n) ≡ Some n
-u16 n h = number_again 65535 n h (omega arith)
-
-u32 : (n : ℕ) → n ≤ 4294967295 → number_in 4294967295 (decimal n) ≡ Some n
-u32 n h = number_again 4294967295 n h (omega arith)
-
-u64 : (n : ℕ) → n ≤ 18446744073709551615 → number_in 18446744073709551615 (decimal n) ≡ Some n
-u64 n h = number_again 18446744073709551615 n h (omega arith)
+use Rattle.ca_reading_verbs.specs.Verbs.{Words}
+use Rattle.ca_reading_lines.specs.Reading.{state_at, answer_at, completion_at, verdict_at, granted_at, remote_at, local_mark_at, stored_at, sent_at, done_at, passing_at, mark_at, turn_at, head_at, inner_at, line_at, line_in}
+use Rattle.ca_reading_verbs.proofs.VerbLemmas.{u8, u16, u32, u64, verb_again}
 
 lettered_again : (bound c n : ℕ) → n ≤ bound → bound ≤ 18446744073709551615 → lettered_in bound (c ∷ decimal n) ≡ Some n
 unfolding lettered_in
 lettered_again bound c n h small = number_again bound n h small
-
-operation_again : (op : SendOp) (rest : Words) → AllFit (operation_words op) → operation_at (words (operation_words op) ++ rest) ≡ Some (op, rest)
-unfolding operation_at local_at send_at send_imm_at send_inv_at write_at write_imm_at read_at cmp_swap_at fetch_add_at bind1_at bind2_at fast_reg_at local_inv_at
-operation_again (ops.Send list) rest h = rw (pieces_again list.items h.1.0.0 h.1.0.1) refl
-operation_again (ops.SendImm imm list) rest h = rw (u32 imm h.1.0, pieces_again list.items h.1.1.0.0 h.1.1.0.1) refl
-operation_again (ops.SendInv key list) rest h = rw (key_again key h.1.0, pieces_again list.items h.1.1.0.0 h.1.1.0.1) refl
-operation_again (ops.Write at key list) rest h = rw (address_again at h.1.0, key_again key h.1.1.0, pieces_again list.items h.1.1.1.0.0 h.1.1.1.0.1) refl
-operation_again (ops.WriteImm at key imm list) rest h = rw (address_again at h.1.0, key_again key h.1.1.0, u32 imm h.1.1.1.0, pieces_again list.items h.1.1.1.1.0.0 h.1.1.1.1.0.1) refl
-operation_again (ops.Read at key list) rest h = rw (address_again at h.1.0, key_again key h.1.1.0, pieces_again list.items h.1.1.1.0.0 h.1.1.1.0.1) refl
-operation_again (ops.CmpSwap at key a b list) rest h = rw (address_again at h.1.0, key_again key h.1.1.0, u64 a h.1.1.1.0, u64 b h.1.1.1.1.0, pieces_again list.items h.1.1.1.1.1.0.0 h.1.1.1.1.1.0.1) refl
-operation_again (ops.FetchAdd at key a list) rest h = rw (address_again at h.1.0, key_again key h.1.1.0, u64 a h.1.1.1.0, pieces_again list.items h.1.1.1.1.0.0 h.1.1.1.1.0.1) refl
-operation_again (ops.Bind1 w region at n r) rest h = rw (u16 w h.1.0, key_again region h.1.1.0, address_again at h.1.1.1.0, u32 n h.1.1.1.1.0, rights_again r) refl
-operation_again (ops.Bind2 w region low at n r) rest h = rw (u16 w h.1.0, key_again region h.1.1.0, u8 low h.1.1.1.0, address_again at h.1.1.1.1.0, u32 n h.1.1.1.1.1.0, rights_again r) refl
-operation_again (ops.FastReg w low b at n r pages) rest h = rw (u16 w h.1.0, u8 low h.1.1.0, u16 b h.1.1.1.0, address_again at h.1.1.1.1.0, u32 n h.1.1.1.1.1.0, rights_again r, pages_again pages h.1.1.1.1.1.1.1.0) refl
-operation_again (ops.LocalInv key) rest h = rw (key_again key h.1.0) refl
-
-change_again : (s : Slot) (change : Change) (rest : Words) → AllFit (change_words s change) → verb_at (words (change_words s change) ++ rest) ≡ Some (verbs.ModifyQp s change, rest)
-unfolding verb_at object_at work_at change_at plain_change_at rtr_at rts_at
-change_again s changes.Reset rest h = rw (slot_again s h.1.0) refl
-change_again s changes.Init rest h = rw (slot_again s h.1.0) refl
-change_again s changes.Sqd rest h = rw (slot_again s h.1.0) refl
-change_again s changes.Resume rest h = rw (slot_again s h.1.0) refl
-change_again s changes.Error rest h = rw (slot_again s h.1.0) refl
-change_again s (changes.Rtr peer i psn mtu code) rest h = rw (slot_again s h.1.0, queue_again peer h.1.1.0, u32 i h.1.1.1.0, u32 psn h.1.1.1.1.0, u16 mtu h.1.1.1.1.1.0, u8 code h.1.1.1.1.1.1.0) refl
-change_again s (changes.Rts psn a b c) rest h = rw (slot_again s h.1.0, u32 psn h.1.1.0, u8 a h.1.1.1.0, u8 b h.1.1.1.1.0, u8 c h.1.1.1.1.1.0) refl
-
-poll_zero : (s : Slot) (n : ℕ) (rest : Words) → AllFit (poll_words s n 0) → verb_at (words (poll_words s n 0) ++ (codes "->" ∷ rest)) ≡ Some (verbs.Poll s n 0, codes "->" ∷ rest)
-unfolding verb_at object_at work_at poll_at least_at
-poll_zero s n rest h = rw (slot_again s h.1.0, u8 n h.1.1.0) refl
-
-poll_wait : (s : Slot) (n : ℕ) (rest : Words) → SlotFits s → n ≤ 255 → verb_at (codes "wait" ∷ slot_text s ∷ decimal n ∷ codes "->" ∷ rest) ≡ Some (verbs.Poll s n n, codes "->" ∷ rest)
-unfolding verb_at object_at work_at wait_at
-poll_wait s n rest h g = rw (slot_again s h, u8 n g) refl
-
-poll_least : (s : Slot) (n least : ℕ) (rest : Words) → SlotFits s → n ≤ 255 → least ≤ 255 → verb_at (codes "poll" ∷ slot_text s ∷ decimal n ∷ decimal least ∷ codes "->" ∷ rest) ≡ Some (verbs.Poll s n least, codes "->" ∷ rest)
-unfolding verb_at object_at work_at poll_at least_at
-poll_least s n least rest h g k = rw (slot_again s h, u8 n g, number_is_no_arrow least (omega arith), u8 least k) refl
-
-poll_again : (s : Slot) (n least : ℕ) (rest : Words) → AllFit (poll_words s n least) → verb_at (words (poll_words s n least) ++ (codes "->" ∷ rest)) ≡ Some (verbs.Poll s n least, codes "->" ∷ rest)
-poll_again s n least rest h =
-    elim (cases_Bool (eqb least 0)) [
-      | inl e ↦ subst (λ (l : ℕ). AllFit (poll_words s n l) → verb_at (words (poll_words s n l) ++ (codes "->" ∷ rest)) ≡ Some (verbs.Poll s n l, codes "->" ∷ rest)) (sym (eqb-true least 0 e)) (poll_zero s n rest) h
-      | inr e ↦ elim (cases_Bool (eqb least n)) [
-        | inl d ↦
-            let g = rw (e, d) at h in
-            rw (e, d) (poll_wait s n rest g.1.0 g.1.1.0 ∙ ap (λ (l : ℕ). Some (verbs.Poll s n l, codes "->" ∷ rest)) (sym (eqb-true least n d)))
-        | inr d ↦
-            let g = rw (e, d) at h in
-            rw (e, d) (poll_least s n least rest g.1.0 g.1.1.0 g.1.1.1.0)
-      ]
-    ]
-
-verb_again : (v : Verb) (rest : Words) → AllFit (verb_words v) → verb_at (words (verb_words v) ++ (codes "->" ∷ rest)) ≡ Some (v, codes "->" ∷ rest)
-unfolding verb_at object_at work_at reg_at qp_at post_at receive_at store_at load_at inject_at
-verb_again (verbs.AllocPd d) rest h = rw (domain_again d h.1.0) refl
-verb_again (verbs.DeallocPd d) rest h = rw (domain_again d h.1.0) refl
-verb_again (verbs.RegMr s b o n r) rest h = rw (slot_again s h.1.0, u16 b h.1.1.0, u32 o h.1.1.1.0, u32 n h.1.1.1.1.0, rights_again r) refl
-verb_again (verbs.AllocMr s n) rest h = rw (slot_again s h.1.0, u16 n h.1.1.0) refl
-verb_again (verbs.DeregMr s) rest h = rw (slot_again s h.1.0) refl
-verb_again (verbs.AllocMw s n) rest h = rw (slot_again s h.1.0, u8 n h.1.1.0) refl
-verb_again (verbs.DeallocMw s) rest h = rw (slot_again s h.1.0) refl
-verb_again (verbs.CreateCq s n) rest h = rw (slot_again s h.1.0, u16 n h.1.1.0) refl
-verb_again (verbs.DestroyCq s) rest h = rw (slot_again s h.1.0) refl
-verb_again (verbs.CreateSrq s n) rest h = rw (slot_again s h.1.0, u16 n h.1.1.0) refl
-verb_again (verbs.DestroySrq s) rest h = rw (slot_again s h.1.0) refl
-verb_again (verbs.CreateQp s a b c d srq) rest h = rw (slot_again s h.1.0, u16 a h.1.1.0, u16 b h.1.1.1.0, u16 c h.1.1.1.1.0, u16 d h.1.1.1.1.1.0, perhaps_number_again 65535 srq (omega arith) h.1.1.1.1.1.1.0) refl
-verb_again (verbs.QueryQp s) rest h = rw (slot_again s h.1.0) refl
-verb_again (verbs.DestroyQp s) rest h = rw (slot_again s h.1.0) refl
-verb_again (verbs.PostRecv s r) rest h = rw (slot_again s h.1.0, u64 r.id h.1.1.0, pieces_again r.list.items h.1.1.1.0.0 h.1.1.1.0.1) refl
-verb_again (verbs.PostSrq s r) rest h = rw (slot_again s h.1.0, u64 r.id h.1.1.0, pieces_again r.list.items h.1.1.1.0.0 h.1.1.1.0.1) refl
-verb_again (verbs.Store a b o bs) rest h = rw (place_again 65535 a b h.1.0.0 h.1.0.1 (omega arith), u32 o h.1.1.0, hex_again bs h.1.1.1.0) refl
-verb_again (verbs.Load a b o n) rest h = rw (place_again 65535 a b h.1.0.0 h.1.0.1 (omega arith), u32 o h.1.1.0, u32 n h.1.1.1.0) refl
-verb_again (verbs.Inject q bs) rest h = rw (queue_again q h.1.0, hex_again bs h.1.1.0) refl
-verb_again (verbs.ModifyQp s change) rest h = change_again s change (codes "->" ∷ rest) h
-verb_again (verbs.Poll s n least) rest h = poll_again s n least rest h
-verb_again (verbs.PostSend s r) rest h =
-    let flags = flags_again r.signalled r.fence r.solicited in
-    rw (slot_again s h.1.0, u64 r.id h.1.1.0, operation_again r.op (codes "->" ∷ rest) h.1.1.1.1, flags.0, flags.1, flags.2) refl
 
 -- the words of what the line of a call tells of its answer, behind the arrow
 abbrev tail_words : Told → List Field

@@ -6,10 +6,7 @@
 #![tactic(auto)]
 
 mod answer;
-mod change;
 mod line;
 mod mark;
-mod operation;
-mod verb;
 
 pub use line::read_line;

@@ -1,6 +1,6 @@
 ghost use Rattle.std.specs.Prelude.{◌≡◌};
 ghost use Rattle.ca_reading_words.specs.Words.{Reads, GivesAs};
-ghost use Rattle.ca_reading_lines.specs.Reading as reading;
+ghost use Rattle.ca_reading_verbs.specs.Verbs as reading;
 
 use ca_base::Change;
 use ca_model::Verb;
@@ -8,7 +8,7 @@ use ca_reading_fields::{take_queue, take_slot, take_u8, take_u16, take_u32};
 use ca_reading_words::{Pieces, Stop, is_name};
 
 /// A change to Ready to Receive.
-#[tactic(auto, unfolding(crate::specs::Reading::rtr_at))]
+#[tactic(auto, unfolding(crate::specs::Verbs::rtr_at))]
 fn rtr_at(words: &mut Pieces) -> Result<Verb, Stop>
     ensures { Reads (λ x. x) result words.new (reading.rtr_at words.old) }
 {
@@ -29,7 +29,7 @@ fn rtr_at(words: &mut Pieces) -> Result<Verb, Stop>
 }
 
 /// A change to Ready to Send.
-#[tactic(auto, unfolding(crate::specs::Reading::rts_at))]
+#[tactic(auto, unfolding(crate::specs::Verbs::rts_at))]
 fn rts_at(words: &mut Pieces) -> Result<Verb, Stop>
     ensures { Reads (λ x. x) result words.new (reading.rts_at words.old) }
 {
@@ -48,7 +48,7 @@ fn rts_at(words: &mut Pieces) -> Result<Verb, Stop>
 }
 
 /// A change that names nothing else.
-#[tactic(auto, unfolding(crate::specs::Reading::plain_change_at))]
+#[tactic(auto, unfolding(crate::specs::Verbs::plain_change_at))]
 fn plain_change_at(change: Change, words: &mut Pieces) -> Result<Verb, Stop>
     ensures { Reads (λ x. x) result words.new (reading.plain_change_at change words.old) }
 {
@@ -57,7 +57,7 @@ fn plain_change_at(change: Change, words: &mut Pieces) -> Result<Verb, Stop>
 }
 
 /// A change of a queue pair's state, by its name.
-#[tactic(auto, unfolding(crate::specs::Reading::change_at))]
+#[tactic(auto, unfolding(crate::specs::Verbs::change_at))]
 pub fn change_at(name: &[u8], words: &mut Pieces) -> Result<Verb, Stop>
     ensures { Reads (λ x. x) result words.new (reading.change_at name.now words.old) }
 {

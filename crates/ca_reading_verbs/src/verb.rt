@@ -1,6 +1,6 @@
 ghost use Rattle.std.specs.Prelude.{◌≡◌};
 ghost use Rattle.ca_reading_words.specs.Words.{Reads, GivesAs};
-ghost use Rattle.ca_reading_lines.specs.Reading as reading;
+ghost use Rattle.ca_reading_verbs.specs.Verbs as reading;
 
 use crate::change::change_at;
 use crate::operation::operation_at;
@@ -14,7 +14,7 @@ use ca_reading_words::{Pieces, Stop, has, is_name};
 use std::alloc::Global;
 
 /// A registration of a memory region.
-#[tactic(auto, unfolding(crate::specs::Reading::reg_at))]
+#[tactic(auto, unfolding(crate::specs::Verbs::reg_at))]
 fn reg_at(words: &mut Pieces) -> Result<Verb, Stop>
     ensures { Reads (λ x. x) result words.new (reading.reg_at words.old) }
 {
@@ -33,7 +33,7 @@ fn reg_at(words: &mut Pieces) -> Result<Verb, Stop>
 }
 
 /// The creation of a queue pair.
-#[tactic(auto, unfolding(crate::specs::Reading::qp_at))]
+#[tactic(auto, unfolding(crate::specs::Verbs::qp_at))]
 fn qp_at(words: &mut Pieces) -> Result<Verb, Stop>
     ensures { Reads (λ x. x) result words.new (reading.qp_at words.old) }
 {
@@ -54,7 +54,7 @@ fn qp_at(words: &mut Pieces) -> Result<Verb, Stop>
 }
 
 /// A request of a send queue.
-#[tactic(auto, unfolding(crate::specs::Reading::post_at))]
+#[tactic(auto, unfolding(crate::specs::Verbs::post_at))]
 fn post_at(alloc: Global, words: &mut Pieces) -> Result<Verb, Stop>
     ensures { Reads (λ x. x) result words.new (reading.post_at words.old) }
 {
@@ -76,7 +76,7 @@ fn post_at(alloc: Global, words: &mut Pieces) -> Result<Verb, Stop>
 }
 
 /// A request of a receive queue.
-#[tactic(auto, unfolding(crate::specs::Reading::receive_at))]
+#[tactic(auto, unfolding(crate::specs::Verbs::receive_at))]
 fn receive_at(alloc: Global, words: &mut Pieces) -> Result<(Slot, RecvRequest), Stop>
     ensures { Reads (λ x. x) result words.new (reading.receive_at words.old) }
 {
@@ -87,7 +87,7 @@ fn receive_at(alloc: Global, words: &mut Pieces) -> Result<(Slot, RecvRequest), 
 }
 
 /// The least number of completions that a poll waits for, where one stands before the answer.
-#[tactic(auto, unfolding(crate::specs::Reading::least_at))]
+#[tactic(auto, unfolding(crate::specs::Verbs::least_at))]
 fn least_at(words: &mut Pieces) -> Result<u8, Stop>
     ensures { Reads (λ x. x) result words.new (reading.least_at words.old) }
 {
@@ -98,7 +98,7 @@ fn least_at(words: &mut Pieces) -> Result<u8, Stop>
 }
 
 /// A poll.
-#[tactic(auto, unfolding(crate::specs::Reading::poll_at))]
+#[tactic(auto, unfolding(crate::specs::Verbs::poll_at))]
 fn poll_at(words: &mut Pieces) -> Result<Verb, Stop>
     ensures { Reads (λ x. x) result words.new (reading.poll_at words.old) }
 {
@@ -109,7 +109,7 @@ fn poll_at(words: &mut Pieces) -> Result<Verb, Stop>
 }
 
 /// A poll that waits for all that it takes.
-#[tactic(auto, unfolding(crate::specs::Reading::wait_at))]
+#[tactic(auto, unfolding(crate::specs::Verbs::wait_at))]
 fn wait_at(words: &mut Pieces) -> Result<Verb, Stop>
     ensures { Reads (λ x. x) result words.new (reading.wait_at words.old) }
 {
@@ -119,7 +119,7 @@ fn wait_at(words: &mut Pieces) -> Result<Verb, Stop>
 }
 
 /// A write of the host.
-#[tactic(auto, unfolding(crate::specs::Reading::store_at))]
+#[tactic(auto, unfolding(crate::specs::Verbs::store_at))]
 fn store_at(alloc: Global, words: &mut Pieces) -> Result<Verb, Stop>
     ensures { Reads (λ x. x) result words.new (reading.store_at words.old) }
 {
@@ -135,7 +135,7 @@ fn store_at(alloc: Global, words: &mut Pieces) -> Result<Verb, Stop>
 }
 
 /// A read of the host.
-#[tactic(auto, unfolding(crate::specs::Reading::load_at))]
+#[tactic(auto, unfolding(crate::specs::Verbs::load_at))]
 fn load_at(words: &mut Pieces) -> Result<Verb, Stop>
     ensures { Reads (λ x. x) result words.new (reading.load_at words.old) }
 {
@@ -151,7 +151,7 @@ fn load_at(words: &mut Pieces) -> Result<Verb, Stop>
 }
 
 /// An injection.
-#[tactic(auto, unfolding(crate::specs::Reading::inject_at))]
+#[tactic(auto, unfolding(crate::specs::Verbs::inject_at))]
 fn inject_at(alloc: Global, words: &mut Pieces) -> Result<Verb, Stop>
     ensures { Reads (λ x. x) result words.new (reading.inject_at words.old) }
 {
@@ -161,7 +161,7 @@ fn inject_at(alloc: Global, words: &mut Pieces) -> Result<Verb, Stop>
 }
 
 /// A request or an access of the host, by its name.
-#[tactic(auto, unfolding(crate::specs::Reading::work_at))]
+#[tactic(auto, unfolding(crate::specs::Verbs::work_at))]
 fn work_at(alloc: Global, name: &[u8], words: &mut Pieces) -> Result<Verb, Stop>
     ensures { Reads (λ x. x) result words.new (reading.work_at name.now words.old) }
 {
@@ -189,7 +189,7 @@ fn work_at(alloc: Global, name: &[u8], words: &mut Pieces) -> Result<Verb, Stop>
 }
 
 /// A verb that names a domain alone or an object alone, by its name.
-#[tactic(auto, unfolding(crate::specs::Reading::object_at))]
+#[tactic(auto, unfolding(crate::specs::Verbs::object_at))]
 fn object_at(alloc: Global, name: &[u8], words: &mut Pieces) -> Result<Verb, Stop>
     ensures { Reads (λ x. x) result words.new (reading.object_at name.now words.old) }
 {
@@ -223,7 +223,7 @@ fn object_at(alloc: Global, name: &[u8], words: &mut Pieces) -> Result<Verb, Sto
 }
 
 /// A verb.
-#[tactic(auto, unfolding(crate::specs::Reading::verb_at))]
+#[tactic(auto, unfolding(crate::specs::Verbs::verb_at))]
 pub fn verb_at(alloc: Global, words: &mut Pieces) -> Result<Verb, Stop>
     ensures { Reads (λ x. x) result words.new (reading.verb_at words.old) }
 {

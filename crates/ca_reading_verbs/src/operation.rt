@@ -1,6 +1,6 @@
 ghost use Rattle.std.specs.Prelude.{◌≡◌};
 ghost use Rattle.ca_reading_words.specs.Words.{Reads, GivesAs};
-ghost use Rattle.ca_reading_lines.specs.Reading as reading;
+ghost use Rattle.ca_reading_verbs.specs.Verbs as reading;
 
 use ca_base::SendOp;
 use ca_reading_fields::{
@@ -11,7 +11,7 @@ use ca_reading_words::{Pieces, Stop, is_name};
 use std::alloc::Global;
 
 /// A SEND.
-#[tactic(auto, unfolding(crate::specs::Reading::send_at))]
+#[tactic(auto, unfolding(crate::specs::Verbs::send_at))]
 fn send_at(alloc: Global, words: &mut Pieces) -> Result<SendOp, Stop>
     ensures { Reads (λ x. x) result words.new (reading.send_at words.old) }
 {
@@ -20,7 +20,7 @@ fn send_at(alloc: Global, words: &mut Pieces) -> Result<SendOp, Stop>
 }
 
 /// A SEND with Immediate.
-#[tactic(auto, unfolding(crate::specs::Reading::send_imm_at))]
+#[tactic(auto, unfolding(crate::specs::Verbs::send_imm_at))]
 fn send_imm_at(alloc: Global, words: &mut Pieces) -> Result<SendOp, Stop>
     ensures { Reads (λ x. x) result words.new (reading.send_imm_at words.old) }
 {
@@ -30,7 +30,7 @@ fn send_imm_at(alloc: Global, words: &mut Pieces) -> Result<SendOp, Stop>
 }
 
 /// A SEND with Invalidate.
-#[tactic(auto, unfolding(crate::specs::Reading::send_inv_at))]
+#[tactic(auto, unfolding(crate::specs::Verbs::send_inv_at))]
 fn send_inv_at(alloc: Global, words: &mut Pieces) -> Result<SendOp, Stop>
     ensures { Reads (λ x. x) result words.new (reading.send_inv_at words.old) }
 {
@@ -40,7 +40,7 @@ fn send_inv_at(alloc: Global, words: &mut Pieces) -> Result<SendOp, Stop>
 }
 
 /// An RDMA WRITE.
-#[tactic(auto, unfolding(crate::specs::Reading::write_at))]
+#[tactic(auto, unfolding(crate::specs::Verbs::write_at))]
 fn write_at(alloc: Global, words: &mut Pieces) -> Result<SendOp, Stop>
     ensures { Reads (λ x. x) result words.new (reading.write_at words.old) }
 {
@@ -51,7 +51,7 @@ fn write_at(alloc: Global, words: &mut Pieces) -> Result<SendOp, Stop>
 }
 
 /// An RDMA WRITE with Immediate.
-#[tactic(auto, unfolding(crate::specs::Reading::write_imm_at))]
+#[tactic(auto, unfolding(crate::specs::Verbs::write_imm_at))]
 fn write_imm_at(alloc: Global, words: &mut Pieces) -> Result<SendOp, Stop>
     ensures { Reads (λ x. x) result words.new (reading.write_imm_at words.old) }
 {
@@ -68,7 +68,7 @@ fn write_imm_at(alloc: Global, words: &mut Pieces) -> Result<SendOp, Stop>
 }
 
 /// An RDMA READ.
-#[tactic(auto, unfolding(crate::specs::Reading::read_at))]
+#[tactic(auto, unfolding(crate::specs::Verbs::read_at))]
 fn read_at(alloc: Global, words: &mut Pieces) -> Result<SendOp, Stop>
     ensures { Reads (λ x. x) result words.new (reading.read_at words.old) }
 {
@@ -79,7 +79,7 @@ fn read_at(alloc: Global, words: &mut Pieces) -> Result<SendOp, Stop>
 }
 
 /// A compare and swap.
-#[tactic(auto, unfolding(crate::specs::Reading::cmp_swap_at))]
+#[tactic(auto, unfolding(crate::specs::Verbs::cmp_swap_at))]
 fn cmp_swap_at(alloc: Global, words: &mut Pieces) -> Result<SendOp, Stop>
     ensures { Reads (λ x. x) result words.new (reading.cmp_swap_at words.old) }
 {
@@ -98,7 +98,7 @@ fn cmp_swap_at(alloc: Global, words: &mut Pieces) -> Result<SendOp, Stop>
 }
 
 /// A fetch and add.
-#[tactic(auto, unfolding(crate::specs::Reading::fetch_add_at))]
+#[tactic(auto, unfolding(crate::specs::Verbs::fetch_add_at))]
 fn fetch_add_at(alloc: Global, words: &mut Pieces) -> Result<SendOp, Stop>
     ensures { Reads (λ x. x) result words.new (reading.fetch_add_at words.old) }
 {
@@ -115,7 +115,7 @@ fn fetch_add_at(alloc: Global, words: &mut Pieces) -> Result<SendOp, Stop>
 }
 
 /// A bind of a type 1 window.
-#[tactic(auto, unfolding(crate::specs::Reading::bind1_at))]
+#[tactic(auto, unfolding(crate::specs::Verbs::bind1_at))]
 fn bind1_at(words: &mut Pieces) -> Result<SendOp, Stop>
     ensures { Reads (λ x. x) result words.new (reading.bind1_at words.old) }
 {
@@ -134,7 +134,7 @@ fn bind1_at(words: &mut Pieces) -> Result<SendOp, Stop>
 }
 
 /// A bind of a type 2 window.
-#[tactic(auto, unfolding(crate::specs::Reading::bind2_at))]
+#[tactic(auto, unfolding(crate::specs::Verbs::bind2_at))]
 fn bind2_at(words: &mut Pieces) -> Result<SendOp, Stop>
     ensures { Reads (λ x. x) result words.new (reading.bind2_at words.old) }
 {
@@ -155,7 +155,7 @@ fn bind2_at(words: &mut Pieces) -> Result<SendOp, Stop>
 }
 
 /// A fast registration.
-#[tactic(auto, unfolding(crate::specs::Reading::fast_reg_at))]
+#[tactic(auto, unfolding(crate::specs::Verbs::fast_reg_at))]
 fn fast_reg_at(alloc: Global, words: &mut Pieces) -> Result<SendOp, Stop>
     ensures { Reads (λ x. x) result words.new (reading.fast_reg_at words.old) }
 {
@@ -178,7 +178,7 @@ fn fast_reg_at(alloc: Global, words: &mut Pieces) -> Result<SendOp, Stop>
 }
 
 /// A local invalidation.
-#[tactic(auto, unfolding(crate::specs::Reading::local_inv_at))]
+#[tactic(auto, unfolding(crate::specs::Verbs::local_inv_at))]
 fn local_inv_at(words: &mut Pieces) -> Result<SendOp, Stop>
     ensures { Reads (λ x. x) result words.new (reading.local_inv_at words.old) }
 {
@@ -187,7 +187,7 @@ fn local_inv_at(words: &mut Pieces) -> Result<SendOp, Stop>
 }
 
 /// A local operation, by its name.
-#[tactic(auto, unfolding(crate::specs::Reading::local_at))]
+#[tactic(auto, unfolding(crate::specs::Verbs::local_at))]
 fn local_at(alloc: Global, name: &[u8], words: &mut Pieces) -> Result<SendOp, Stop>
     ensures { Reads (λ x. x) result words.new (reading.local_at name.now words.old) }
 {
@@ -205,7 +205,7 @@ fn local_at(alloc: Global, name: &[u8], words: &mut Pieces) -> Result<SendOp, St
 }
 
 /// What a send request asks for.
-#[tactic(auto, unfolding(crate::specs::Reading::operation_at))]
+#[tactic(auto, unfolding(crate::specs::Verbs::operation_at))]
 pub fn operation_at(alloc: Global, words: &mut Pieces) -> Result<SendOp, Stop>
     ensures { Reads (λ x. x) result words.new (reading.operation_at words.old) }
 {
