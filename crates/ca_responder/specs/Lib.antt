@@ -4,3 +4,4 @@ pub mod Ending
 pub mod Numbers
 pub mod Shapes
 pub mod Taking
+pub mod Held
