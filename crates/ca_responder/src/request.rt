@@ -207,7 +207,16 @@ fn take_shaped<R: Reach>(
     take_expected(alloc, q, srq, reach, p, envelope, shape, marks)
 }
 
-/// The packet with the expected PSN: it is invalid, it has no receive to take, or it is valid.
+/// The packet with the expected PSN. Its steps, in this order, with the function of each:
+///
+/// 1. it is no invalid request: `is_invalid`;
+/// 2. where it takes a receive, one waits: `take_receiving`;
+/// 3. a SEND fits its receive: `exceeds_receive`;
+/// 4. the receive's list is allowed: `first_denied`;
+/// 5. the key of a WRITE or an atomic allows it: `check` of `Reach`, in `take_write` and `take_atomic`;
+/// 6. its bytes are placed, the atomic acts, or the READ is queued: `write_all`, `place_write`, `act`, `take_read`;
+/// 7. a SEND ends the key that it names: `end_key`;
+/// 8. the expected PSN goes past it, and its message may end: `pass`, in `end_send` and `end_write`.
 fn take_expected<R: Reach>(
     alloc: Global,
     q: &mut QueuePart,
