@@ -56,17 +56,3 @@ pub acted : (number there : ℕ) (q new : QueuePair) (pushed : List Queued) → 
     → pushed ≡ q.responder.answers ++ Atomic q.responder.expected 0 false ∷ [] → new ≡ after_atomic number q
 acted number there q new pushed e f g =
     e ∙ ap (λ n. settled n (with_responder (record q.responder { answers = pushed }) q)) f ∙ settled-atomic number q pushed g
-
--- the answers from a place on
-pub copied-all : (xs : List Queued) (place : ℕ) (before : List Queued) → length xs ≤ place → before ≡ before ++ drop place xs
-copied-all xs place before le = sym (ap (λ ys. before ++ ys) (drop_all place xs le) ∙ append-nil before)
-
-pub copied-more : (xs : List Queued) (place : ℕ) (a : Queued) (before pushed after : List Queued) → slice_get xs place ≡ Some a → pushed ≡ before ++ a ∷ []
-    → after ≡ pushed ++ drop (place + 1) xs → after ≡ before ++ drop place xs
-copied-more xs place a before pushed after there e f =
-    f ∙ ap (λ ys. ys ++ drop (place + 1) xs) e ∙ append_assoc before (a ∷ []) (drop (place + 1) xs) ∙ ap (λ ys. before ++ ys) (sym step)
-  where
-    step : drop place xs ≡ a ∷ drop (place + 1) xs
-    step =
-        drop-cons xs place a (slice_get_within xs place a there) ∙ ap (λ y. y ∷ drop (suc place) xs) (get_or_from_slice_get xs place a a there)
-        ∙ ap (λ n. a ∷ drop n xs) (sym (add-one place))

@@ -5,9 +5,10 @@ use Rattle.ca_base.specs.declared.memory.Memory.{Memory}
 use Rattle.ca_base.specs.Sight.{Invalidation}
 use Rattle.ca_base.specs.objects.SharedReceives.{SharedReceives, after_receive_take}
 use Rattle.ca_model.specs.machine.Row.{Ending, NotPossible, Does}
-use Rattle.ca_responder.specs.Taking.{Found, HasArrived, IsPacketTaken, after_shared}
+use Rattle.ca_rows.specs.Done.{Handed}
+use Rattle.ca_responder.specs.Taking.{HasArrived, IsPacketTaken, after_shared}
 
-pub arrives : {S : Type 0} (written : S → Ask → List ℕ → S) (revoked : S → Invalidation → S) (takes : Bool) (e : Ending) (ended : Option Invalidation) (before new : Found S)
+pub arrives : {S : Type 0} (written : S → Ask → List ℕ → S) (revoked : S → Invalidation → S) (takes : Bool) (e : Ending) (ended : Option Invalidation) (before new : Handed S)
     → IsPacketTaken written revoked (Ok takes) e ended before new → HasArrived written revoked e ended before new
 arrives written revoked takes (NotPossible reason) ended before new h = absurd h
 arrives written revoked takes (Does e) ended before new h = h.1
@@ -23,7 +24,7 @@ takes_none (Does e) = by e.takes_shared
     by true = refl
     by false = refl
 
-pub takes_next : {S : Type 0} (written : S → Ask → List ℕ → S) (revoked : S → Invalidation → S) (takes : Bool) (e : Ending) (ended : Option Invalidation) (before new : Found S)
+pub takes_next : {S : Type 0} (written : S → Ask → List ℕ → S) (revoked : S → Invalidation → S) (takes : Bool) (e : Ending) (ended : Option Invalidation) (before new : Handed S)
     (shared after : SharedReceives) → after ≡ (if takes then after_receive_take shared else shared)
     → IsPacketTaken written revoked (Ok takes) e ended before new → Some after ≡ after_shared e (Some shared)
 takes_next written revoked takes (NotPossible reason) ended before new shared after is h = absurd h

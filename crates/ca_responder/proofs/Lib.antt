@@ -5,3 +5,5 @@ pub mod SendLemmas
 pub mod ValidLemmas
 pub mod ArrivalLemmas
 pub mod AskingLemmas
+pub mod WaitingLemmas
+pub mod HeldLemmas

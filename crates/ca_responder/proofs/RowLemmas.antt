@@ -15,8 +15,9 @@ use Rattle.ca_model.specs.declared.mark.Mark.{Mark}
 use Rattle.ca_model.specs.machine.Arrivals.{packet_ask, remote_mark, with_flag}
 use Rattle.ca_model.specs.machine.Expected.{atomic_row}
 use Rattle.ca_model.specs.machine.Row.{Ending, Row, ending_of}
+use Rattle.ca_rows.specs.Done.{Handed}
 use Rattle.ca_responder.specs.Atomics.{after_atomic, number_left, number_seen}
-use Rattle.ca_responder.specs.Taking.{Found, HasTaken, ended_by, found, unless_refused}
+use Rattle.ca_responder.specs.Taking.{HasTaken, ended_by, found, unless_refused}
 
 pub ending-allowed : (s : Sight) (row : Row) → first_denied s row.asks ≡ None
     → ending_of s row ≡ row.allowed (map (bytes_in s) row.asks) (option_and_then s.refusal row.invalidation)
@@ -29,7 +30,7 @@ none-denied : (s : Sight) (ask : Ask) → denial_in s ask ≡ None → first_den
 none-denied s ask e = rw e refl
 
 -- what is taken as two other endings say
-pub taken-as : {S : Type 0} (written : S → Ask → List ℕ → S) (revoked : S → Invalidation → S) (x y : Ending) (i j : Option Invalidation) (shared : Bool) (before new : Found S)
+pub taken-as : {S : Type 0} (written : S → Ask → List ℕ → S) (revoked : S → Invalidation → S) (x y : Ending) (i j : Option Invalidation) (shared : Bool) (before new : Handed S)
     → x ≡ y → i ≡ j → HasTaken written revoked y j shared before new → HasTaken written revoked x i shared before new
 taken-as written revoked x y i j shared before new e f taken =
     subst (λ (k : Option Invalidation). HasTaken written revoked x k shared before new) (sym f)
@@ -56,7 +57,7 @@ atomic-taken {S} written revoked s q new p envelope kind a marks new_marks reach
     ask : Ask
     ask = packet_ask q a.key kind a.address ATOMIC_BYTES ATOMIC_BYTES
 
-    left_by : ℕ → Found S
+    left_by : ℕ → Handed S
     left_by n = found (after_atomic n q) (marks ++ remote_mark ask envelope (Swapped n (number_left kind a n)) ∷ []) (written reach ask (little_endian_bytes (number_left kind a n)))
 
     reached : found new new_marks new_reach ≡ left_by (number_seen s ask)

@@ -19,14 +19,14 @@ use Rattle.ca_model.specs.machine.Responses.{local_writes, writes_by}
 use Rattle.ca_model.specs.machine.Row.{Does, ending_of}
 use Rattle.ca_responder.specs.Ending.{key_end, refused_end, sent_and_ended}
 use Rattle.ca_responder.specs.Numbers.{receive_taken, unasked}
-use Rattle.ca_responder.specs.Taking.{Found, HasTaken, IsPacketTaken, ended_by, found}
+use Rattle.ca_responder.specs.Taking.{HasTaken, IsPacketTaken, ended_by, found}
 use Rattle.ca_responder.proofs.RowLemmas.{taken-as}
 use Rattle.ca_base.specs.declared.completion.WcStatus.TheVariants.{MemoryManagement}
 use Rattle.ca_base.specs.declared.names.QueueId.{QueueId}
 use Rattle.ca_model.specs.declared.mark.Mark.TheVariants.{Revoked}
 use Rattle.ca_model.specs.machine.Completions.{flush_marks, receive_failure}
 use Rattle.ca_rows.specs.Asks.{CanWrite, IsGranted, IsWrite, asks_of}
-use Rattle.ca_rows.specs.Done.{written_all}
+use Rattle.ca_rows.specs.Done.{Handed, handed, written_all}
 
 can-of : {S : Type 0} (sight : S → Sight) (judges touches : S → Ask → Type 0) (s : S) (ws : List (Ask × List ℕ))
     → AllByRecursion (judges s) (asks_of ws) → AllByRecursion (touches s) (asks_of ws) → AllByRecursion (IsGranted (sight s)) (asks_of ws)
@@ -56,6 +56,18 @@ few-writes ws asks n e le = omega (arith, as-many ws, ap length e, le)
 same-found : {S : Type 0} (q new : QueuePair) (marks new_marks : List Mark) (reach new_reach : S)
     → new ≡ q → new_marks ≡ marks → new_reach ≡ reach → found new new_marks new_reach ≡ found q marks reach
 same-found q new marks new_marks reach new_reach e f g = cc
+
+-- the same, where the packet that is sent is none
+made-found : {S : Type 0} (q new : QueuePair) (marks new_marks : List Mark) (out : List ℕ) (reach new_reach : S)
+    → new ≡ q → new_marks ≡ marks → out ≡ [] → new_reach ≡ reach → found new new_marks new_reach ≡ handed q marks out reach
+made-found q new marks new_marks out reach new_reach e f o g = cc
+
+-- a SEND packet that took effect sends none
+silent : (q : QueuePair) (p : Fields) (place : Position) (r : Receiving) → (after_send_packet q p place r).spelt ≡ []
+silent q p First r = refl
+silent q p Middle r = refl
+silent q p Last r = refl
+silent q p Only r = refl
 
 quiet : (q : QueuePair) (p : Fields) (place : Position) (r : Receiving) → (after_send_packet q p place r).takes_shared ≡ false
 quiet q p First r = refl
@@ -160,11 +172,12 @@ placed written revoked s q new p place receive count taken marks new_marks reach
 placed written revoked s q new p place receive count true marks new_marks reach new_reach (Ok shared) fits none plain eq em es er fq fm fr =
     taken-as written revoked _ _ _ _ shared (found q marks reach) (found new new_marks new_reach)
     (taken-ending s q p place receive count fits none plain) (taken-no-end s q p place receive count fits none plain)
-    (es, same-found _ new _ new_marks _ new_reach eq em er)
+    (es, made-found _ new _ new_marks _ _ new_reach eq em (silent (receive_taken true (with_flag false q)) p place (record { receive = receive; before = count; taken = true })) er)
 placed written revoked s q new p place receive count false marks new_marks reach new_reach (Ok shared) fits none plain eq em es er fq fm fr =
     taken-as written revoked _ _ _ _ shared (found q marks reach) (found new new_marks new_reach)
     (kept-ending s q p place receive count fits none plain) (kept-no-end s q p place receive count fits none plain)
-    (es ∙ sym (quiet (with_flag false q) p place (record { receive = receive; before = count; taken = false })), same-found _ new _ new_marks _ new_reach eq em er)
+    (es ∙ sym (quiet (with_flag false q) p place (record { receive = receive; before = count; taken = false })),
+    made-found _ new _ new_marks _ _ new_reach eq em (silent (with_flag false q) p place (record { receive = receive; before = count; taken = false })) er)
 
 -- one whose key ends
 placed-ended : {S : Type 0} (written : S → Ask → List ℕ → S) (revoked : S → Invalidation → S) (s : Sight) (q new : QueuePair) (p : Fields)
@@ -182,11 +195,14 @@ placed-ended : {S : Type 0} (written : S → Ask → List ℕ → S) (revoked : 
 placed-ended written revoked s q new p place receive count true marks new_marks reach new_reach key shared fits none end gone eq em er es =
     taken-as written revoked _ _ _ _ shared (found q marks reach) (found new new_marks new_reach)
     (taken-ended s q p place receive count key fits none end gone) (taken-end s q p place receive count key fits none end gone)
-    (es, same-found _ new _ new_marks _ new_reach eq em er)
+    (es, made-found _ new _ new_marks _ _ new_reach eq em
+    (silent (with_window_gone (Some (key_end q (record { 0 = key }))) (receive_taken true (with_flag false q))) p place (record { receive = receive; before = count; taken = true })) er)
 placed-ended written revoked s q new p place receive count false marks new_marks reach new_reach key shared fits none end gone eq em er es =
     taken-as written revoked _ _ _ _ shared (found q marks reach) (found new new_marks new_reach)
     (kept-ended s q p place receive count key fits none end gone) (kept-end s q p place receive count key fits none end gone)
-    (es ∙ sym (quiet (with_window_gone (Some (key_end q (record { 0 = key }))) (with_flag false q)) p place (record { receive = receive; before = count; taken = false })), same-found _ new _ new_marks _ new_reach eq em er)
+    (es ∙ sym (quiet (with_window_gone (Some (key_end q (record { 0 = key }))) (with_flag false q)) p place (record { receive = receive; before = count; taken = false })),
+    made-found _ new _ new_marks _ _ new_reach eq em
+    (silent (with_window_gone (Some (key_end q (record { 0 = key }))) (with_flag false q)) p place (record { receive = receive; before = count; taken = false })) er)
 
 -- one whose key does not end
 placed-refused : {S : Type 0} (written : S → Ask → List ℕ → S) (revoked : S → Invalidation → S) (s : Sight) (q new : QueuePair) (p : Fields)

@@ -1,6 +1,6 @@
 -- How a request is taken: as its row ends, also for the key that it ends and for the receive that it takes of a shared
 -- receive queue. Contracts cite it.
-use Rattle.std.specs.Prelude.{◌≡◌, ℕ, ◌<◌, Bool, true, if◌then◌else◌, List, ◌++◌, Option, None, Some, Result, Ok, Err, IfSome, is_none}
+use Rattle.std.specs.Prelude.{◌≡◌, ℕ, ◌<◌, Bool, true, if◌then◌else◌, List, [], Option, None, Some, Result, Ok, Err, IfSome, is_none}
 use Rattle.std.specs.Option.{option_map}
 use Rattle.ca_base.specs.declared.access.Ask.{Ask}
 use Rattle.ca_base.specs.declared.memory.Memory.{Memory}
@@ -13,16 +13,11 @@ use Rattle.ca_grant.specs.Reaching.{invalidation_by}
 use Rattle.ca_model.specs.declared.mark.Mark.{Mark}
 use Rattle.ca_model.specs.machine.Expected.{Receiving}
 use Rattle.ca_model.specs.machine.Row.{Effects, Ending, NotPossible, Does, Row, ending_of}
-use Rattle.ca_rows.specs.Done.{written_all}
+use Rattle.ca_rows.specs.Done.{Handed, after_effects, handed, written_all}
 
--- what a request finds and leaves
-pub record Found (S : Type 0) : Type 0 where
-  pub queue : QueuePair
-  pub marks : List Mark
-  pub reach : S
-
-abbrev pub found : {S : Type 0} → QueuePair → List Mark → S → Found S
-found queue marks reach = record { queue = queue; marks = marks; reach = reach }
+-- what a request finds and leaves: it sends no packet
+abbrev pub found : {S : Type 0} → QueuePair → List Mark → S → Handed S
+found queue marks reach = handed queue marks [] reach
 
 -- the end of a key, where it is not refused
 abbrev pub unless_refused : Sight → Option Invalidation → Option Invalidation
@@ -43,21 +38,19 @@ without_key f None s = s
 without_key f (Some i) s = f s i
 
 -- what effects make of it, and then the end of a key
-abbrev pub after_taking : {S : Type 0} → (S → Ask → List ℕ → S) → (S → Invalidation → S) → Option Invalidation → Found S → Effects → Found S
-after_taking written revoked ended before e = record {
-  queue = e.queue;
-  marks = before.marks ++ e.marks;
+abbrev pub after_taking : {S : Type 0} → (S → Ask → List ℕ → S) → (S → Invalidation → S) → Option Invalidation → Handed S → Effects → Handed S
+after_taking written revoked ended before e = record (after_effects written before e) {
   reach = without_key revoked ended (written_all written before.reach e.writes);
 }
 
 -- the row's effects were made, and this says whether a receive of the shared queue is to be taken
-abbrev pub HasTaken : {S : Type 0} → (S → Ask → List ℕ → S) → (S → Invalidation → S) → Ending → Option Invalidation → Bool → Found S → Found S → Type 0
+abbrev pub HasTaken : {S : Type 0} → (S → Ask → List ℕ → S) → (S → Invalidation → S) → Ending → Option Invalidation → Bool → Handed S → Handed S → Type 0
 HasTaken written revoked (Does e) ended shared before new =
     (shared ≡ e.takes_shared) × (new ≡ after_taking written revoked ended before e)
 HasTaken written revoked (NotPossible reason) ended shared before new = ⊥
 
 -- a packet is taken as its row ends, but for the receive of the shared queue
-abbrev pub IsPacketTaken : {S : Type 0} → (S → Ask → List ℕ → S) → (S → Invalidation → S) → Result Bool Memory → Ending → Option Invalidation → Found S → Found S → Type 0
+abbrev pub IsPacketTaken : {S : Type 0} → (S → Ask → List ℕ → S) → (S → Invalidation → S) → Result Bool Memory → Ending → Option Invalidation → Handed S → Handed S → Type 0
 IsPacketTaken written revoked (Ok shared) ending ended before new = HasTaken written revoked ending ended shared before new
 IsPacketTaken written revoked (Err memory) ending ended before new = new ≡ before
 
@@ -67,12 +60,12 @@ after_shared (Does e) shared = if e.takes_shared then option_map after_receive_t
 after_shared (NotPossible reason) shared = shared
 
 -- the row's effects were made
-abbrev pub HasArrived : {S : Type 0} → (S → Ask → List ℕ → S) → (S → Invalidation → S) → Ending → Option Invalidation → Found S → Found S → Type 0
+abbrev pub HasArrived : {S : Type 0} → (S → Ask → List ℕ → S) → (S → Invalidation → S) → Ending → Option Invalidation → Handed S → Handed S → Type 0
 HasArrived written revoked (Does e) ended before new = new ≡ after_taking written revoked ended before e
 HasArrived written revoked (NotPossible reason) ended before new = ⊥
 
 -- a request is taken as its row ends
-abbrev pub IsArrival : {S : Type 0} → (S → Ask → List ℕ → S) → (S → Invalidation → S) → Result (Unit {0}) Memory → Ending → Option Invalidation → Found S → Found S → Type 0
+abbrev pub IsArrival : {S : Type 0} → (S → Ask → List ℕ → S) → (S → Invalidation → S) → Result (Unit {0}) Memory → Ending → Option Invalidation → Handed S → Handed S → Type 0
 IsArrival written revoked (Ok done) ending ended before new = HasArrived written revoked ending ended before new
 IsArrival written revoked (Err memory) ending ended before new = new ≡ before
 

@@ -13,6 +13,7 @@ mod asks;
 mod checks;
 mod duplicates;
 mod flush;
+mod held;
 mod queueing;
 mod read_left;
 mod receive;

@@ -1,4 +1,4 @@
-ghost use Rattle.std.specs.Prelude.{◌≡◌, ◌≤◌, ◌++◌, ◌&&◌, if◌then◌else◌, None, Some, OnOk, OnErr, IfOk, IfSome, is_none, false, option_copied};
+ghost use Rattle.std.specs.Prelude.{◌≡◌, ◌≤◌, ◌++◌, if◌then◌else◌, None, Some, OnOk, OnErr, IfOk, IfSome, false, true, option_copied};
 ghost use Rattle.std.specs.Option.{option_copied_mut};
 ghost use Rattle.ca_base.specs.Handed.{left_behind};
 ghost use Rattle.ca_base.specs.objects.SharedReceives.{after_receive_take};
@@ -207,7 +207,16 @@ fn take_shaped<R: Reach>(
     take_expected(alloc, q, srq, reach, p, envelope, shape, marks)
 }
 
-/// The packet with the expected PSN: it is invalid, it has no receive to take, or it is valid.
+/// The packet with the expected PSN. Its steps, in this order, with the function of each:
+///
+/// 1. it is no invalid request: `is_invalid`;
+/// 2. where it takes a receive, one waits: `take_receiving`;
+/// 3. a SEND fits its receive: `exceeds_receive`;
+/// 4. the receive's list is allowed: `first_denied`;
+/// 5. the key of a WRITE or an atomic allows it: `check` of `Reach`, in `take_write` and `take_atomic`;
+/// 6. its bytes are placed, the atomic acts, or the READ is queued: `write_all`, `place_write`, `act`, `take_read`;
+/// 7. a SEND ends the key that it names: `end_key`;
+/// 8. the expected PSN goes past it, and its message may end: `pass`, in `end_send` and `end_write`.
 fn take_expected<R: Reach>(
     alloc: Global,
     q: &mut QueuePart,
@@ -234,20 +243,43 @@ fn take_expected<R: Reach>(
         refuse(q, NakCode::InvalidRequest, Vec::new(alloc), marks)?;
         return Ok(false);
     }
-    let next = find_receive(q, srq)?;
-    if lacks_receive(p, shape, &next) {
+    if takes_receive(p, shape) {
+        return take_receiving(alloc, q, srq, reach, p, envelope, shape, marks);
+    }
+    take_valid(alloc, q, reach, p, envelope, shape, None, marks)
+}
+
+/// A valid packet that takes a receive. Where none waits, an RNR NAK is queued, and nothing else changes.
+fn take_receiving<R: Reach>(
+    alloc: Global,
+    q: &mut QueuePart,
+    srq: Option<&Srq>,
+    reach: &mut R,
+    p: &Packet<'_>,
+    envelope: Option<u64>,
+    shape: Shape,
+    marks: &mut Marks,
+) -> Result<bool, Memory>
+    requires queue { IsQueue (queue_of q.old) }
+    requires narrow { AreNarrow (queue_of q.old) }
+    requires shared { IfSome (option_copied srq) IsSharedReceives }
+    requires packet { IsWellFormed (fields_of p.now) }
+    requires shape { IsRequestShape shape }
+    requires valid { rows.is_invalid (queue_of q.old) (fields_of p.now) (shape_seen shape) ≡ false }
+    requires takes { rows.takes_receive (fields_of p.now) (shape_seen shape) ≡ true }
+    requires at_hand { AreAtHand R.sight R.judges R.touches reach.old (rows.expected_row (queue_of q.old) (option_copied srq) (fields_of p.now) envelope (shape_seen shape)).asks }
+    requires ends { IfSome (rows.expected_row (queue_of q.old) (option_copied srq) (fields_of p.now) envelope (shape_seen shape)).invalidation (MayEnd R.sight R.ends reach.old (queue_of q.old)) }
+    ensures taken { let row = rows.expected_row (queue_of q.old) (option_copied srq.entry) (fields_of p.now) envelope (shape_seen shape) in
+        IsPacketTaken R.written R.revoked result (ending_of (R.sight reach.old) row) (ended_by (R.sight reach.old) row)
+        (found (queue_of q.old) marks.old.marks reach.old) (found (queue_of q.new) marks.new.marks reach.new) }
+    ensures room { OnOk result (2 ≤ marks.new.room) }
+{
+    let Some(receive) = find_receive(q, srq)? else {
         let psn = q.responder.expected;
         queue_answer(q, Queued::Rnr { psn }, true, marks)?;
         return Ok(false);
-    }
-    take_valid(alloc, q, reach, p, envelope, shape, next, marks)
-}
-
-/// Whether the packet takes a receive where there is none.
-fn lacks_receive(p: &Packet<'_>, shape: Shape, next: &Option<Placed>) -> bool
-    ensures { result ≡ (rows.takes_receive (fields_of p.now) (shape_seen shape) && is_none next.now) }
-{
-    takes_receive(p, shape) && next.is_none()
+    };
+    take_valid(alloc, q, reach, p, envelope, shape, Some(receive), marks)
 }
 
 /// A packet that is valid and has its receive.

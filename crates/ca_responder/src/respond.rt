@@ -12,6 +12,7 @@ ghost use Rattle.ca_model.specs.machine.Respond as rows;
 ghost use Rattle.ca_model.specs.machine.Row.{ending_of};
 ghost use Rattle.ca_qpstate.specs.Seen.{queue_of};
 ghost use Rattle.ca_responder.specs.Asking.{one_ask};
+ghost use Rattle.ca_responder.specs.Sending.{IsOnePacket, packet_turn};
 ghost use Rattle.ca_rows.specs.Done.{IsTurn, handed};
 ghost use Rattle.ca_rows.specs.Narrow.{AreNarrow};
 ghost use Rattle.ca_wire.specs.Builders as packets;
@@ -130,31 +131,7 @@ fn send_answer<R: Reach>(
         (handed (queue_of q.new) marks.new.marks out.new.items reach.new) }
     ensures room { OnOk result (2 ≤ marks.new.room) }
 {
-    let peer = peer_number(q);
-    let msn = q.responder.msn;
     match answer {
-        Queued::Ack { psn } => {
-            send_front(q, &acknowledgement(peer, psn_bits(psn), msn), marks, out)?;
-            Ok(RESPONSE)
-        }
-        Queued::Rnr { psn } => {
-            let code = q.responder.rnr_code;
-            send_front(q, &rnr_nak(code, peer, psn_bits(psn), msn), marks, out)?;
-            Ok(RESPONSE)
-        }
-        Queued::Nak { psn, code } => {
-            send_front(q, &nak(nak_of(code), peer, psn_bits(psn), msn), marks, out)?;
-            Ok(RESPONSE)
-        }
-        Queued::Atomic { psn, found, .. } => {
-            send_front(
-                q,
-                &atomic_acknowledge(found, peer, psn_bits(psn), msn),
-                marks,
-                out,
-            )?;
-            Ok(RESPONSE)
-        }
         Queued::Read {
             psn,
             key,
@@ -179,6 +156,28 @@ fn send_answer<R: Reach>(
             marks,
             out,
         ),
+        _ => {
+            let packet = packet_of(q, answer);
+            send_front(q, &packet, marks, out)?;
+            Ok(RESPONSE)
+        }
+    }
+}
+
+/// The packet of an answer that is no READ. Each carries the MSN as it is now.
+fn packet_of<'a>(q: &QueuePart, answer: Queued) -> Packet<'a>
+    requires queue { IsQueue (queue_of q.now) }
+    requires one { IsOnePacket answer }
+    ensures turn { rows.answer_turn (queue_of q.now) answer ≡ packet_turn (queue_of q.now) (fields_of result) }
+    ensures formed { IsWellFormed (fields_of result) }
+{
+    let (peer, msn) = (peer_number(q), q.responder.msn);
+    match answer {
+        Queued::Ack { psn } => acknowledgement(peer, psn_bits(psn), msn),
+        Queued::Rnr { psn } => rnr_nak(q.responder.rnr_code, peer, psn_bits(psn), msn),
+        Queued::Nak { psn, code } => nak(nak_of(code), peer, psn_bits(psn), msn),
+        Queued::Atomic { psn, found, .. } => atomic_acknowledge(found, peer, psn_bits(psn), msn),
+        Queued::Read { .. } => unreachable!(),
     }
 }
 

@@ -28,12 +28,13 @@ ghost use Rattle.ca_rows.specs.Narrow.{AreNarrow};
 ghost use Rattle.ca_wire.specs.Packet.{fields_of};
 
 use crate::flush::{push_flush_behind, reserve_for};
+use crate::held::{hold, refuse_held, settle_held};
 use crate::queueing::{pass, queue_ack, queue_refusal};
 use crate::receive::{Placed, Receiving, take_own};
 use arrayvec::ArrayVec;
 use ca_base::limits::MAX_PIECES;
 use ca_base::{
-    Answers, Ask, Bytes, Key, Kind, Memory, Message, OpRefusal, Piece, Queued, WcOp, WcStatus,
+    Ask, Bytes, Key, Kind, Memory, Message, OpRefusal, Piece, WcOp, WcStatus,
 };
 use ca_grant::Reach;
 use ca_model::{Mark, Marks};
@@ -269,18 +270,19 @@ fn place_and_end<R: Reach>(
     let shared = takes_shared(q, &r);
     let mut flushed = Vec::new(alloc);
     push_flush_behind(q, r.taken, &mut flushed)?;
-    let refused = with_refusal(alloc, q)?;
     marks.reserve(flushed.len() as u32 + 12)?;
-    queue_ack(q, p)?;
+    let psn = q.responder.expected;
+    hold(&mut q.responder.answers, psn)?;
     write_all(reach, writes, marks);
     if let Err(cause) = end_key(q, reach, key) {
         marks.push(refused_receive(q, &r, cause));
         marks.append(flushed);
-        q.responder.answers = refused;
+        refuse_held(&mut q.responder.answers, psn);
         q.responder.nak_sent = false;
         q.move_to_error();
         return Ok(shared);
     }
+    settle_held(&mut q.responder.answers, psn, p.ack);
     marks.push(Mark::Revoked {
         adapter: q.queue.adapter,
         key,
@@ -314,35 +316,6 @@ fn end_key<R: Reach>(q: &mut QueuePart, reach: &mut R, key: Key) -> Result<(), O
     ensures err_reach { OnErr result (reach.new ≡ reach.old) }
 {
     reach.invalidate(key, q.queue, &mut q.windows)
-}
-
-/// A copy of the response queue, with a NAK at the expected PSN: what it becomes where the end of a key is refused, which
-/// shows only after the acknowledgement is queued.
-fn with_refusal(alloc: Global, q: &QueuePart) -> Result<Answers, Memory>
-    ensures { IfOk result (λ answers. answers ≡ q.now.responder.answers ++ Queued.Nak q.now.responder.expected (nak_code NakCode.RemoteOperationalError) ∷ []) }
-{
-    let mut answers = Answers::empty(alloc);
-    copy_answers(&q.responder.answers, 0, &mut answers)?;
-    answers.push(Queued::Nak {
-        psn: q.responder.expected,
-        code: NakCode::RemoteOperationalError.code(),
-    })?;
-    Ok(answers)
-}
-
-/// Adds the answers from a place on.
-fn copy_answers(from: &Answers, place: usize, to: &mut Answers) -> Result<(), Memory>
-    ensures { OnOk result (to.new ≡ to.old ++ drop place from.now) }
-{
-    if place >= from.len() {
-        return Ok(());
-    }
-    let Some(answer) = from.get(place) else {
-        return Ok(());
-    };
-    to.push(answer)?;
-    copy_answers(from, place + 1, to)?;
-    Ok(())
 }
 
 /// A SEND packet took effect: its receive is taken where the message begins with it, and the message goes on or ends.

@@ -1,8 +1,7 @@
 use Rattle.std.proofs.Common.{◌≡◌, Bool, ap, sym, ◌∙◌, List, [], ◌∷◌, ◌++◌, None, Some}
 use Rattle.ca_base.specs.Sight.{Invalidation}
-use Rattle.ca_base.specs.objects.QueuePair.{QueuePair}
 use Rattle.ca_model.specs.declared.mark.Mark.{Mark}
-use Rattle.ca_model.specs.machine.Arrivals.{with_message}
+use Rattle.ca_model.specs.machine.Arrivals.{with_message, with_responder}
 use Rattle.ca_model.specs.machine.Completions.{flush_marks}
 use Rattle.ca_model.specs.machine.Expected.{Receiving}
 use Rattle.ca_model.specs.machine.Responses.{local_writes}
@@ -17,12 +16,11 @@ pub returns-in-Err-clause-refused_marks : goal.returns-in-Err-clause-refused_mar
 returns-in-Err-clause-refused_marks g c = λ cause known.
     let alike : Some cause ≡ Some c.in-Err.cause =
     sym known ∙ sym (c.write_all.ensures.refusal (key_end (queue_of c.args.q.now) c.args.key))
-    ∙ ap (λ (x : QueuePair). (g.R.Reach.sight c.write_all.new.reach).refusal (key_end x c.args.key)) (sym c.in_ok-queue_ack.ensures.queue)
     ∙ c.in-Err.ensures.refused in
     let same_taken : c.r.inside.taken ≡ c.args.r.taken = ap (λ (x : Receiving). x.taken) c.r.view_is in
     refused-marks (queue_of c.args.q.now) (queue_of c.end_key.new.q) c.args.r cause c.in-Err.cause c.args.marks.now.marks c.write_all.new.marks.marks c.push.new.self.marks
     c.append.new.self.marks (local_writes c.args.writes.items) c.push_flush_behind.new.made.items
-    (c.end_key.ensures.name ∙ c.queue_ack.ensures.name) (cc)
+    c.end_key.ensures.name (cc)
     (c.write_all.ensures.marks ∙ ap (λ (ms : List Mark). ms ++ local_writes c.args.writes.items) c.reserve.ensures.same)
     (c.push.ensures.marks ∙ ap (λ (m : Mark). c.write_all.new.marks.marks ++ m ∷ []) c.refused_receive.ensures)
     (c.in_ok-push_flush_behind.ensures.marks ∙ ap (λ (ms : List Mark). ms ++ flush_marks (with_message None (receive_taken c.r.inside.taken (queue_of c.args.q.now)))) c.new-flushed.ensures.items
@@ -31,8 +29,8 @@ returns-in-Err-clause-refused_marks g c = λ cause known.
 
 pub returns-clause-ended_marks : goal.returns-clause-ended_marks
 returns-clause-ended_marks g c = λ gone.
-    ended-marks (queue_of c.args.q.now) (queue_of c.end_key.new.q) (fields_of c.args.p.now) c.args.place c.args.r c.args.key c.args.marks.now.marks c.write_all.new.marks.marks
+    ended-marks (queue_of c.args.q.now) (with_responder (record c.end_key.new.q.responder { answers = c.settle_held.new.answers }) (queue_of c.end_key.new.q)) (fields_of c.args.p.now) c.args.place c.args.r c.args.key c.args.marks.now.marks c.write_all.new.marks.marks
     c.push-2.new.self.marks c.end_send.new.marks.marks (local_writes c.args.writes.items)
-    (c.end_key.ensures.name ∙ c.queue_ack.ensures.name)
+    c.end_key.ensures.name
     (c.write_all.ensures.marks ∙ ap (λ (ms : List Mark). ms ++ local_writes c.args.writes.items) c.reserve.ensures.same)
     c.push-2.ensures.marks c.end_send.ensures.marks

@@ -1,0 +1,87 @@
+-- The row of a packet by the receive that it takes, and of one that takes none.
+use Rattle.std.proofs.Common.{◌≡◌, ℕ, ◌==◌, Bool, true, false, true≢false, not, ◌||◌, ◌&&◌, if◌then◌else◌, refl, sym, ap, ◌∙◌, List, [], ◌∷◌, length, Option, None, Some, is_none, is_some}
+use Rattle.ca_base.specs.declared.access.Ask.{Ask}
+use Rattle.ca_base.specs.declared.access.Kind.TheVariants as kinds
+use Rattle.ca_base.specs.declared.queue_numbers.Message.{Message}
+use Rattle.ca_base.specs.declared.queue_numbers.Message.TheVariants as messages
+use Rattle.ca_base.specs.declared.verdict.Verdict.TheVariants as verdicts
+use Rattle.ca_base.specs.objects.QueuePair.{QueuePair}
+use Rattle.ca_base.specs.objects.SharedReceives.{PlacedReceive, SharedReceives}
+use Rattle.ca_wire.specs.Packet.{Fields}
+use Rattle.ca_wire.specs.Segment.{begins, ends}
+use Rattle.ca_wire.specs.declared.segment.Position.{Position}
+use Rattle.ca_wire.specs.declared.syndrome.NakCode.TheVariants.{InvalidRequest, RemoteAccessError}
+use Rattle.ca_model.specs.machine.Arrivals.{next_receive, packet_ask, refusal_effects, remote_mark, with_flag}
+use Rattle.ca_model.specs.machine.Expected.{Receiving, WriteReach, after_write_packet, behind_marks, continues, expected_row, is_invalid, receiving_of, send_row, takes_receive, valid_row, write_reach, write_row}
+use Rattle.ca_model.specs.machine.Row.{Effects, Row, plain_row, Does}
+use Rattle.ca_responder.proofs.ValidLemmas.{valid_order}
+use Rattle.ca_model.specs.machine.Shapes.{Shape, SendAt, WriteAt, ReadRequest, Atomic}
+
+-- a SEND that goes on has the receive of its message
+goes-on : (q : QueuePair) (next : Option PlacedReceive) (place : Position) (m : Option Message) → continues m (SendAt place) ≡ true → begins place ≡ false
+    → receiving_of q next m ≡ receiving_of q None m
+goes-on q next place None on not_first = absurd (true≢false (sym on ∙ not_first))
+goes-on q next place (Some (messages.Write key address left count)) on not_first = absurd (true≢false (sym on))
+goes-on q next place (Some (messages.Send at receive count)) on not_first = refl
+
+send-without : (q : QueuePair) (p : Fields) (envelope : Option ℕ) (next : Option PlacedReceive) (place : Position)
+    → receiving_of q next q.responder.message ≡ receiving_of q None q.responder.message
+    → valid_row q p envelope next (SendAt place) ≡ valid_row q p envelope None (SendAt place)
+send-without q p envelope next place same = ap (λ (r : Option Receiving). row r) same
+  where
+    row : Option Receiving → Row
+    row (Some r) = send_row q p place r
+    row None = plain_row (Does (refusal_effects InvalidRequest q))
+
+-- a WRITE without immediate data completes no receive
+plain-write : (q : QueuePair) (p : Fields) (place : Position) (r : WriteReach) (next : Option PlacedReceive) → p.imm ≡ None
+    → after_write_packet q p place r next ≡ after_write_packet q p place r None
+plain-write q p place r next none = by (ends place) refl
+  where
+    by : (b : Bool) → ends place ≡ b → after_write_packet q p place r next ≡ after_write_packet q p place r None
+    by true e = rw (e, none) refl
+    by false e = rw e refl
+
+write-by : (q : QueuePair) (p : Fields) (envelope : Option ℕ) (place : Position) (next : Option PlacedReceive) (r : WriteReach) → p.imm ≡ None
+    → write_row q p envelope place next r ≡ write_row q p envelope place None r
+write-by q p envelope place next r none = ap (λ (e : Effects). row e) (plain-write q p place r next none)
+  where
+    ask : Ask
+    ask = packet_ask q r.key kinds.Write r.address r.left (length p.payload)
+
+    row : Effects → Row
+    row e = record (write_row q p envelope place None r) {
+      allowed = λ bytes refusal. Does (record (behind_marks (remote_mark ask envelope (verdicts.Wrote p.payload) ∷ []) e) {
+        writes = if r.left == 0 then [] else (ask, p.payload) ∷ [];
+      });
+    }
+
+write-without : (q : QueuePair) (p : Fields) (envelope : Option ℕ) (next : Option PlacedReceive) (place : Position) → p.imm ≡ None
+    → valid_row q p envelope next (WriteAt place) ≡ valid_row q p envelope None (WriteAt place)
+write-without q p envelope next place none = by (write_reach q p)
+  where
+    row : Option PlacedReceive → Option WriteReach → Row
+    row next (Some r) = write_row q p envelope place next r
+    row next None = plain_row (Does (refusal_effects InvalidRequest q))
+
+    by : (o : Option WriteReach) → row next o ≡ row None o
+    by (Some r) = write-by q p envelope place next r none
+    by None = refl
+
+not-some : {A : Type 0} (o : Option A) → is_some o ≡ false → o ≡ None
+not-some None e = refl
+not-some (Some a) e = absurd (true≢false e)
+
+-- a packet that takes no receive does the same whatever receive waits
+valid-without : (q : QueuePair) (p : Fields) (envelope : Option ℕ) (next : Option PlacedReceive) (shape : Shape)
+    → continues q.responder.message shape ≡ true → takes_receive p shape ≡ false → valid_row q p envelope next shape ≡ valid_row q p envelope None shape
+valid-without q p envelope next (SendAt place) on takes = send-without q p envelope next place (goes-on q next place q.responder.message on takes)
+valid-without q p envelope next (WriteAt place) on takes = write-without q p envelope next place (not-some p.imm takes)
+valid-without q p envelope next ReadRequest on takes = refl
+valid-without q p envelope next (Atomic kind) on takes = refl
+
+pub row_without : (q : QueuePair) (shared : Option SharedReceives) (p : Fields) (envelope : Option ℕ) (shape : Shape)
+    → is_invalid q p shape ≡ false → takes_receive p shape ≡ false → valid_row (with_flag false q) p envelope None shape ≡ expected_row q shared p envelope shape
+row_without q shared p envelope shape valid takes =
+    sym (valid-without (with_flag false q) p envelope (next_receive q shared) shape (valid_order q p shape valid) takes)
+    ∙ rw (valid, takes) refl
