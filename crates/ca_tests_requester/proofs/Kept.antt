@@ -38,7 +38,7 @@ use Rattle.ca_tests_requester.specs.declared.bed.Bed.{Bed}
 use Rattle.ca_wire.specs.Packet.{Fields}
 
 -- a good row ends well, whatever is seen
-ends-good : (q : QueuePair) (s : Sight) (row : Row) → IsGoodRow q row → IsGoodEnding q (ending_of s row)
+pub ends-good : (q : QueuePair) (s : Sight) (row : Row) → IsGoodRow q row → IsGoodEnding q (ending_of s row)
 ends-good q s row good = by (first_denied s row.asks) refl
   where
     by : (o : Option DeniedAsk) → first_denied s row.asks ≡ o → IsGoodEnding q (ending_of s row)
@@ -55,7 +55,7 @@ turn-good q room is = by (turn_of q) refl
     by (Sends n) e = rw e (packet-good q room n is e)
 
 -- writes leave parts that fit each other
-writes-keep : (xs : List (Ask × List ℕ)) (s : SmallReach) → FitTogether s → FitTogether (written_all after_write_by s xs)
+pub writes-keep : (xs : List (Ask × List ℕ)) (s : SmallReach) → FitTogether s → FitTogether (written_all after_write_by s xs)
 writes-keep [] s fit = fit
 writes-keep (x ∷ xs) s fit = writes-keep xs (after_write_by s x.0 x.1) (small-keeps s x.0 x.1 fit)
 
@@ -67,7 +67,7 @@ pub record IsKept (new : Handed SmallReach) : Type 0 where
 same-kept : (before new : Handed SmallReach) → IsKept before → new ≡ before → IsKept new
 same-kept before new kept e = rw e kept
 
-turn-ending-kept : (result : Result Sent StepError) (ending : Ending) (before new : Handed SmallReach) → IsKept before → IsGoodEnding before.queue ending
+pub turn-ending-kept : (result : Result Sent StepError) (ending : Ending) (before new : Handed SmallReach) → IsKept before → IsGoodEnding before.queue ending
     → IsTurn after_write_by result ending before new → IsKept new
 turn-ending-kept (Ok sent) (Does e) before new kept good h =
     rw h.1 (record { queue = good.sound; reach = writes-keep e.writes before.reach kept.reach })
