@@ -1,10 +1,12 @@
-ghost use Rattle.std.specs.Prelude.{◌≡◌, ◌<◌, ◌^◌, IfSome, IsTrue, None, Option, false, suc, option_copied};
+ghost use Rattle.std.specs.Prelude.{◌≡◌, IfSome, IsTrue, None, ℕ, Option, false, true, option_copied};
+ghost use Rattle.std.specs.List.{AllByRecursion};
 ghost use Rattle.ca_base.specs.Refusals.{first_of};
-ghost use Rattle.ca_base.specs.objects.WorkQueue.{next_place};
+ghost use Rattle.ca_grant.specs.Reaching.{AreAtHand};
 ghost use Rattle.ca_model.specs.Packets as packets;
-ghost use Rattle.ca_model.specs.machine.Delivery.{arrival_drops};
+ghost use Rattle.ca_model.specs.machine.Delivery.{arrival_drops, packet_arrived};
 ghost use Rattle.ca_model.specs.machine.Expected.{invalidation_of};
 ghost use Rattle.ca_model.specs.machine.Invariants.{IsQueue, IsReceive, IsSharedReceives};
+ghost use Rattle.ca_model.specs.machine.Respond.{respond_row};
 ghost use Rattle.ca_qpstate.specs.Seen.{queue_of};
 ghost use Rattle.ca_responder.specs.Taking.{MayEnd};
 ghost use Rattle.ca_rows.specs.Narrow.{AreNarrow};
@@ -13,7 +15,12 @@ ghost use Rattle.ca_tests_requester.specs.Bed as beds;
 ghost use Rattle.ca_tests_responder.specs.Responder as responders;
 ghost use Rattle.ca_wire.specs.Packet.{IsWellFormed, Spells, fields_of};
 
-use ca_base::{DomainId, Key, Memory, RecvRequest, Run, Sent, Slot, State, StepError};
+use ca_base::limits::{MAX_DEPTH, MAX_PAYLOAD_BYTES};
+use ca_base::{
+    Ask, DomainId, Key, Kind, Memory, QueueId, RecvRequest, Sent, Slot, State, StepError,
+    first_address,
+};
+use ca_grant::{judge, write_span};
 use ca_model::Marks;
 use ca_qpstate::QueuePart;
 use ca_responder::{next_response, on_request, request_asks, respond_ask};
@@ -78,7 +85,20 @@ fn request_in<'a>(
     srq: Option<&Srq>,
     reach: &SmallReach,
     bytes: &'a [u8],
-) -> Option<Packet<'a>> {
+) -> Option<Packet<'a>>
+    requires queue { IsQueue (queue_of q.now) }
+    requires reach { small.FitTogether reach.now }
+    requires shared { IfSome (option_copied srq) IsSharedReceives }
+    ensures narrow { IfSome result (λ p. AreNarrow (queue_of q.now)) }
+    ensures spelt { IfSome result (λ p. Spells bytes.now (fields_of p)) }
+    ensures packet { IfSome result (λ p. IsWellFormed (fields_of p)) }
+    ensures request { IfSome result (λ p. packets.is_response p.opcode ≡ false) }
+    ensures taken { IfSome result (λ p. first_of (arrival_drops (queue_of q.now) (fields_of p)) ≡ None) }
+    ensures at_hand { IfSome result (λ p. (envelope : Option ℕ) → AreAtHand small.sight_of small.IsAskHere (λ s ask. Unit {0}) reach.now
+        (packet_arrived (fields_of p) envelope (option_copied srq.entry) (queue_of q.now)).asks) }
+    ensures ends { IfSome result (λ p. (envelope : Option ℕ) → IfSome (packet_arrived (fields_of p) envelope (option_copied srq.entry) (queue_of q.now)).invalidation
+        (MayEnd small.sight_of small.IsEndHere reach.now (queue_of q.now))) }
+{
     let Ok(p) = decode(bytes) else {
         return None;
     };
@@ -99,7 +119,10 @@ fn take_own(
     bytes: &[u8],
     envelope: Option<u64>,
     marks: &mut Marks,
-) -> Option<Result<(), Memory>> {
+) -> Option<Result<(), Memory>>
+    requires { beds.Stands bed.old }
+    ensures { beds.Stands bed.new }
+{
     let p = request_in(&bed.queue, None, &bed.reach, bytes)?;
     Some(on_request(
         alloc,
@@ -120,7 +143,12 @@ fn take_shared(
     bytes: &[u8],
     envelope: Option<u64>,
     marks: &mut Marks,
-) -> Option<Result<(), Memory>> {
+) -> Option<Result<(), Memory>>
+    requires stands { beds.Stands bed.old }
+    requires shared { IsSharedReceives srq.old }
+    ensures stands { beds.Stands bed.new }
+    ensures shared { IsSharedReceives srq.new }
+{
     let p = request_in(&bed.queue, Some(srq), &bed.reach, bytes)?;
     Some(on_request(
         alloc,
@@ -133,8 +161,42 @@ fn take_shared(
     ))
 }
 
-// Posts a receive to a queue pair of which it is known that it has room.
-fn push_receive(q: &mut QueuePart, request: RecvRequest) -> bool {
+// Whether what the responder's turn asks for is of the adapter of what is reached.
+fn is_answer_here(q: &QueuePart, reach: &SmallReach) -> bool
+    requires { small.FitTogether reach.now }
+    ensures keys { IsTrue result → AllByRecursion (small.IsAskHere reach.now) (respond_row true (queue_of q.now)).asks }
+    ensures bytes { IsTrue result → AllByRecursion (λ ask. Unit {0}) (respond_row true (queue_of q.now)).asks }
+{
+    match respond_ask(q) {
+        Some(ask) => ask.domain.adapter == reach.slot.domain.adapter,
+        None => true,
+    }
+}
+
+// The responder's turn; None where it cannot be tried here.
+fn respond(
+    alloc: Global,
+    bed: &mut Bed,
+    room: bool,
+    marks: &mut Marks,
+    out: &mut Vec<u8>,
+) -> Option<Result<Sent, StepError>>
+    requires { beds.Stands bed.old }
+    ensures { beds.Stands bed.new }
+{
+    if !is_narrow(&bed.queue) || !is_answer_here(&bed.queue, &bed.reach) {
+        return None;
+    }
+    let (q, reach) = (&mut bed.queue, &mut bed.reach);
+    Some(next_response(alloc, q, reach, room, marks, out))
+}
+
+// Posts a receive to the queue pair's own, unless their queue is full.
+fn push_receive(q: &mut QueuePart, request: RecvRequest) -> bool
+    requires queue { IsQueue (queue_of q.old) }
+    requires receive { IsReceive request }
+    ensures { IsQueue (queue_of q.new) }
+{
     match &mut q.receives {
         Some(receives) => {
             if receives.next_place() >= FAR {
@@ -146,11 +208,64 @@ fn push_receive(q: &mut QueuePart, request: RecvRequest) -> bool {
     }
 }
 
+// What asks the region for so many bytes of its buffer, without a right.
+fn store_ask(reach: &SmallReach, offset: u32, count: u32) -> Ask
+    ensures domain { result.domain ≡ reach.now.slot.domain }
+    ensures length { result.length ≡ count }
+    ensures touch { result.touch ≡ count }
+{
+    Ask {
+        queue: QueueId::default(),
+        domain: reach.slot.domain,
+        key: reach.region.view().key,
+        local: true,
+        kind: Kind::Read,
+        address: first_address(reach.number) + u64::from(offset),
+        length: count,
+        touch: count,
+    }
+}
+
+// Stores bytes into the region's buffer; false where they do not lie in the region.
+fn store(reach: &mut SmallReach, offset: u32, bytes: &[u8]) -> bool
+    requires { small.FitTogether reach.old }
+    ensures { small.FitTogether reach.new }
+{
+    if bytes.is_empty() || bytes.len() > MAX_PAYLOAD_BYTES {
+        return false;
+    }
+    let ask = store_ask(reach, offset, bytes.len() as u32);
+    if ask.key.names_window() {
+        return false;
+    }
+    match judge(None, Some(&reach.region), &ask) {
+        Ok(span) => {
+            write_span(&mut reach.buffer, &span, bytes);
+            true
+        }
+        Err(_) => false,
+    }
+}
+
+// Ends the region; false where that is refused.
+fn end_region(reach: &mut SmallReach) -> bool
+    requires { small.FitTogether reach.old }
+    ensures { small.FitTogether reach.new }
+{
+    match reach.region.deregister() {
+        Ok(_) => true,
+        Err(_) => false,
+    }
+}
+
 impl Responder {
     /// A queue pair with an empty shared receive queue, where it names one.
-    pub fn of(alloc: Global, bed: Bed) -> Option<Responder> {
+    pub fn of(alloc: Global, bed: Bed) -> Option<Responder>
+        requires { beds.Stands bed }
+        ensures { IfSome result responders.Stands }
+    {
         let srq = match bed.queue.srq {
-            Some(_) => Some(Srq::create(alloc, 256).ok()?),
+            Some(_) => Some(Srq::create(alloc, MAX_DEPTH).ok()?),
             None => None,
         };
         Some(Responder { bed, srq })
@@ -164,7 +279,10 @@ impl Responder {
         bytes: &[u8],
         envelope: Option<u64>,
         marks: &mut Marks,
-    ) -> Option<Result<(), Memory>> {
+    ) -> Option<Result<(), Memory>>
+        requires { responders.Stands self.old }
+        ensures { responders.Stands self.new }
+    {
         match &mut self.srq {
             Some(srq) => take_shared(alloc, &mut self.bed, srq, bytes, envelope, marks),
             None => take_own(alloc, &mut self.bed, bytes, envelope, marks),
@@ -179,25 +297,26 @@ impl Responder {
         room: bool,
         marks: &mut Marks,
         out: &mut Vec<u8>,
-    ) -> Option<Result<Sent, StepError>> {
-        if !is_narrow(&self.bed.queue) {
-            return None;
-        }
-        if let Some(ask) = respond_ask(&self.bed.queue) {
-            if !are_here(&self.bed.reach, &[ask]) {
-                return None;
-            }
-        }
-        Some(next_response(alloc, &mut self.bed.queue, &mut self.bed.reach, room, marks, out))
+    ) -> Option<Result<Sent, StepError>>
+        requires { responders.Stands self.old }
+        ensures { responders.Stands self.new }
+    {
+        respond(alloc, &mut self.bed, room, marks, out)
     }
 
     /// Posts a receive to the queue pair; false where it is none that can be posted.
-    pub fn receive(&mut self, request: RecvRequest) -> bool {
+    pub fn receive(&mut self, request: RecvRequest) -> bool
+        requires { responders.Stands self.old }
+        ensures { responders.Stands self.new }
+    {
         is_short(request.list.as_slice()) && push_receive(&mut self.bed.queue, request)
     }
 
     /// Posts a receive to the shared receive queue; false where it is none that can be posted.
-    pub fn receive_shared(&mut self, request: RecvRequest) -> bool {
+    pub fn receive_shared(&mut self, request: RecvRequest) -> bool
+        requires { responders.Stands self.old }
+        ensures { responders.Stands self.new }
+    {
         if !is_short(request.list.as_slice()) {
             return false;
         }
@@ -207,21 +326,19 @@ impl Responder {
         }
     }
 
-    /// Stores bytes into the buffer; false where they do not lie in it.
-    pub fn store(&mut self, offset: u32, bytes: &[u8]) -> bool {
-        let reach = &mut self.bed.reach;
-        let at = Run {
-            adapter: reach.slot.domain.adapter,
-            buffer: reach.number,
-            offset,
-            length: bytes.len() as u32,
-        };
-        reach.buffer.write(&at, bytes);
-        true
+    /// Stores bytes into the buffer; false where they do not lie in the region.
+    pub fn store(&mut self, offset: u32, bytes: &[u8]) -> bool
+        requires { responders.Stands self.old }
+        ensures { responders.Stands self.new }
+    {
+        store(&mut self.bed.reach, offset, bytes)
     }
 
     /// Ends the region; false where that is refused.
-    pub fn end_region(&mut self) -> bool {
-        self.bed.reach.region.deregister().is_ok()
+    pub fn end_region(&mut self) -> bool
+        requires { responders.Stands self.old }
+        ensures { responders.Stands self.new }
+    {
+        end_region(&mut self.bed.reach)
     }
 }

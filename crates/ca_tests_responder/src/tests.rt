@@ -1,9 +1,13 @@
 ghost use Rattle.std.specs.Prelude.{IfSome};
 ghost use Rattle.ca_tests_responder.specs.Responder as responders;
 
+mod again;
 mod drawn_rows;
 mod hostile_rows;
+mod reads;
+mod refusals;
 mod rows;
+mod turns;
 mod worked_rows;
 
 use crate::Responder;
