@@ -1,5 +1,5 @@
 -- Each call of the requester leaves a queue pair that comes up, over parts that fit each other.
-use Rattle.std.proofs.Common.{◌≡◌, ℕ, IsTrue, not, Bool, true, false, true≢false, List, [], ◌∷◌, map, Option, None, Some, Result, Ok, Err, refl, sym, subst, ap}
+use Rattle.std.proofs.Common.{arith, ◌≡◌, ℕ, IsTrue, not, Bool, true, false, true≢false, List, [], ◌∷◌, map, Option, None, Some, Result, Ok, Err, refl, sym, subst, ap}
 use Rattle.std.proofs.lemmas.Bool.{not-false}
 use Rattle.std.specs.List.{AllByRecursion}
 use Rattle.std.specs.Option.{option_and_then}
@@ -17,6 +17,7 @@ use Rattle.ca_grant.specs.Reaching.{AreAtHand}
 use Rattle.ca_laws.proofs.ResponseLemmas.{IsGoodEnding, IsGoodRow, plain-good, response-good}
 use Rattle.ca_laws.proofs.TurnLemmas.{all-fail, nothing-good, operation-good, packet-good, timeout-good, wake-good}
 use Rattle.ca_model.specs.declared.mark.Mark.{Mark}
+use Rattle.ca_qpstate.specs.ComesUp.{AreDepths}
 use Rattle.ca_qpstate.specs.Seen.{queue_of}
 use Rattle.ca_model.specs.machine.Invariants.{IsList, IsQueue, is_sending}
 use Rattle.ca_model.specs.machine.Requester.{RequestTurn, Waits, Performs, Sends, turn_of}
@@ -123,3 +124,8 @@ posted_kept q p request is list free same = rw same (posted-send q request None 
     by : (b : Bool) → IsTrue (not b) → b ≡ false
     by true h = absurd (true≢false (sym h))
     by false h = refl
+
+-- queues of the greatest depth are some that come up
+pub full_depths : (srq : Option ℕ) → AreDepths 256 256 srq
+full_depths None = ((omega arith, omega arith), (omega arith, omega arith))
+full_depths (Some srq) = (omega arith, omega arith)

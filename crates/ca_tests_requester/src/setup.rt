@@ -1,4 +1,6 @@
 ghost use Rattle.std.specs.Prelude.{IfSome};
+ghost use Rattle.ca_model.specs.machine.Invariants.{IsQueue};
+ghost use Rattle.ca_qpstate.specs.Seen.{queue_of};
 ghost use Rattle.ca_tests_requester.specs.Bed as beds;
 
 use crate::bed::Bed;
@@ -49,6 +51,18 @@ pub fn config() -> Config {
     }
 }
 
+// The queue pair in Reset.
+#[tactic(auto, using(crate::proofs::Kept::full_depths))]
+fn queue_of_setup(alloc: Global, setup: &Setup) -> Option<QueuePart>
+    ensures { IfSome result (λ q. IsQueue (queue_of q)) }
+{
+    let (name, domain) = (setup.queue, setup.slot.domain);
+    match QueuePart::create(alloc, name, domain, 1, 0, 0, DEPTH, DEPTH, setup.srq) {
+        Ok(queue) => Some(queue),
+        Err(_) => None,
+    }
+}
+
 /// The queue pair in Reset, over its region, behind which the buffer ends.
 pub fn bed_of(alloc: Global, setup: &Setup) -> Option<Bed>
     ensures { IfSome result beds.Stands }
@@ -59,9 +73,7 @@ pub fn bed_of(alloc: Global, setup: &Setup) -> Option<Bed>
     }
     let bytes = setup.at.offset.checked_add(setup.at.length)?;
     let reach = SmallReach::registered(alloc, slot, setup.at, bytes, setup.rights).ok()?;
-    let name = setup.queue;
-    let made = QueuePart::create(alloc, name, slot.domain, 1, 0, 0, DEPTH, DEPTH, setup.srq);
-    let queue = made.ok()?;
+    let queue = queue_of_setup(alloc, setup)?;
     Some(Bed { queue, reach })
 }
 

@@ -1,6 +1,8 @@
-ghost use Rattle.std.specs.Prelude.{◌≡◌, IfSome, IsTrue, None, ℕ, Option, false, true, option_copied};
+ghost use Rattle.std.specs.Prelude.{◌≡◌, ◌≤◌, ◌<◌, ◌^◌, if◌then◌else◌, suc, IfSome, IsTrue, None, ℕ, Option, false, true, option_copied};
 ghost use Rattle.std.specs.List.{AllByRecursion};
+ghost use Rattle.ca_base.specs.Numbers.{domain_of};
 ghost use Rattle.ca_base.specs.Refusals.{first_of};
+ghost use Rattle.ca_base.specs.objects.Slices.{is_window_key, slot_of_key};
 ghost use Rattle.ca_grant.specs.Reaching.{AreAtHand};
 ghost use Rattle.ca_model.specs.Packets as packets;
 ghost use Rattle.ca_model.specs.machine.Delivery.{arrival_drops, packet_arrived};
@@ -8,6 +10,7 @@ ghost use Rattle.ca_model.specs.machine.Expected.{invalidation_of};
 ghost use Rattle.ca_model.specs.machine.Invariants.{IsQueue, IsReceive, IsSharedReceives};
 ghost use Rattle.ca_model.specs.machine.Respond.{respond_row};
 ghost use Rattle.ca_qpstate.specs.Seen.{queue_of};
+ghost use Rattle.ca_responder.specs.Ending.{key_end};
 ghost use Rattle.ca_responder.specs.Taking.{MayEnd};
 ghost use Rattle.ca_rows.specs.Narrow.{AreNarrow};
 ghost use Rattle.ca_tests_grant.specs.SmallReach as small;
@@ -35,6 +38,8 @@ use std::alloc::Global;
 pub struct Responder {
     pub bed: Bed,
     pub srq: Option<Srq>,
+    /// How many receives were posted to the shared receive queue.
+    pub posted: u32,
 }
 
 // Whether the adapter hands a packet on, and does not drop it before.
@@ -45,38 +50,63 @@ fn is_taken(q: &QueuePart, p: &Packet<'_>) -> bool
     p.pkey == DEFAULT_PKEY && p.queue == q.queue.number && connected
 }
 
-// The slot that a key names, at an adapter.
-fn slot_named(adapter: u8, key: Key) -> Slot {
+// The slot that a key names, at a domain's adapter.
+fn slot_named(domain: DomainId, key: Key) -> Slot
+    ensures { result ≡ slot_of_key domain key }
+{
     Slot {
         domain: DomainId {
-            adapter,
+            adapter: domain.adapter,
             domain: (key.index() / 0x10000) as u8,
         },
         slot: (key.index() % 0x8000) as u16,
     }
 }
 
-// Whether the key that a packet ends names the window or the region that is reached, and a window's is counted.
+// Whether a key names the window or the region that is reached.
+fn names_part(reach: &SmallReach, domain: DomainId, key: Key) -> bool
+    ensures { IsTrue result → slot_of_key domain key ≡ (if is_window_key key then reach.now.window.slot else reach.now.slot) }
+{
+    let named = slot_named(domain, key);
+    if key.names_window() {
+        named == reach.window.slot()
+    } else {
+        named == reach.slot
+    }
+}
+
+// Whether a queue pair is of the domain that its number says.
+fn is_of_own_domain(q: &QueuePart) -> bool
+    ensures { IsTrue result → q.now.domain ≡ domain_of q.now.queue }
+{
+    let number = q.queue.number;
+    number >= 256 && number < 65792 && q.queue.domain() == q.domain
+}
+
+// Whether a queue pair can be tried to end a key: of the window or the region that is reached, and a window's only where
+// the queue pair counts one.
+fn may_end_key(q: &QueuePart, reach: &SmallReach, key: Key) -> bool
+    requires { small.FitTogether reach.now }
+    ensures { IsTrue result → MayEnd small.sight_of small.IsEndHere reach.now (queue_of q.now) (key_end (queue_of q.now) key) }
+{
+    if !is_of_own_domain(q) || q.domain.adapter != reach.slot.domain.adapter {
+        return false;
+    }
+    if key.names_window() && q.windows.count == 0 {
+        return false;
+    }
+    names_part(reach, q.domain, key)
+}
+
+// Whether the key that a packet ends, if it ends one, can be tried.
 fn may_end(q: &QueuePart, reach: &SmallReach, p: &Packet<'_>) -> bool
     requires { small.FitTogether reach.now }
     ensures { IsTrue result → IfSome (invalidation_of (queue_of q.now) (fields_of p.now)) (MayEnd small.sight_of small.IsEndHere reach.now (queue_of q.now)) }
 {
-    let Some(key) = p.ieth else {
-        return true;
-    };
-    let key = Key(key);
-    let number = q.queue.number;
-    if number < 256 || number >= 65792 || q.queue.domain() != q.domain {
-        return false;
+    match p.ieth {
+        None => true,
+        Some(key) => may_end_key(q, reach, Key(key)),
     }
-    if q.domain.adapter != reach.slot.domain.adapter {
-        return false;
-    }
-    let named = slot_named(q.domain.adapter, key);
-    if key.names_window() {
-        return named == reach.window.slot() && q.windows.count > 0;
-    }
-    named == reach.slot
 }
 
 // The request that these bytes spell; None where it cannot be tried here.
@@ -148,6 +178,7 @@ fn take_shared(
     requires shared { IsSharedReceives srq.old }
     ensures stands { beds.Stands bed.new }
     ensures shared { IsSharedReceives srq.new }
+    ensures next { srq.new.next ≡ srq.old.next }
 {
     let p = request_in(&bed.queue, Some(srq), &bed.reach, bytes)?;
     Some(on_request(
@@ -208,6 +239,20 @@ fn push_receive(q: &mut QueuePart, request: RecvRequest) -> bool
     }
 }
 
+// Posts a receive to a shared receive queue, unless it is full.
+fn push_shared(srq: &mut Srq, request: RecvRequest) -> bool
+    requires shared { IsSharedReceives srq.old }
+    requires receive { IsReceive request }
+    requires few { srq.old.next < 2 ^ 32 }
+    ensures shared { IsSharedReceives srq.new }
+    ensures next { srq.new.next ≤ suc srq.old.next }
+{
+    match srq.post(request) {
+        Ok(_) => true,
+        Err(_) => false,
+    }
+}
+
 // What asks the region for so many bytes of its buffer, without a right.
 fn store_ask(reach: &SmallReach, offset: u32, count: u32) -> Ask
     ensures domain { result.domain ≡ reach.now.slot.domain }
@@ -264,11 +309,18 @@ impl Responder {
         requires { beds.Stands bed }
         ensures { IfSome result responders.Stands }
     {
-        let srq = match bed.queue.srq {
-            Some(_) => Some(Srq::create(alloc, MAX_DEPTH).ok()?),
-            None => None,
-        };
-        Some(Responder { bed, srq })
+        let posted = 0;
+        if bed.queue.srq.is_none() {
+            let srq = None;
+            return Some(Responder { bed, srq, posted });
+        }
+        match Srq::create(alloc, MAX_DEPTH) {
+            Ok(srq) => {
+                let srq = Some(srq);
+                Some(Responder { bed, srq, posted })
+            }
+            Err(_) => None,
+        }
     }
 
     /// A request arrives; None where that cannot be tried here.
@@ -317,11 +369,12 @@ impl Responder {
         requires { responders.Stands self.old }
         ensures { responders.Stands self.new }
     {
-        if !is_short(request.list.as_slice()) {
+        if !is_short(request.list.as_slice()) || self.posted == u32::MAX {
             return false;
         }
+        self.posted += 1;
         match &mut self.srq {
-            Some(srq) => srq.post(request).is_ok(),
+            Some(srq) => push_shared(srq, request),
             None => false,
         }
     }

@@ -335,4 +335,3 @@ fn sixteen_duplicates_may_wait(rt: HostRuntime) {
 fn an_acknowledgement_replaces_one_at_the_end(rt: HostRuntime) {
     runs(&rt, rt.alloc(), ACKS);
 }
-

@@ -274,4 +274,3 @@ fn a_read_is_judged_at_each_response(rt: HostRuntime) {
 fn sixteen_reads_and_atomics_may_wait(rt: HostRuntime) {
     runs(&rt, rt.alloc(), SIXTEEN);
 }
-

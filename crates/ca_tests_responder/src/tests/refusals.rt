@@ -603,4 +603,3 @@ fn after_a_refusal_the_answers_before_it_go_out(rt: HostRuntime) {
 fn a_key_that_does_not_end_fails_the_receive(rt: HostRuntime) {
     runs(&rt, rt.alloc(), INVALIDATE);
 }
-

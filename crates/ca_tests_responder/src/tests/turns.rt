@@ -120,4 +120,3 @@ fn of_a_shared_receive_queue_only_the_receive_in_use_is_flushed(rt: HostRuntime)
 fn messages_of_several_packets_complete_their_receives(rt: HostRuntime) {
     runs(&rt, rt.alloc(), IMMEDIATE);
 }
-
