@@ -1,5 +1,5 @@
 -- Each call of the requester leaves a queue pair that comes up, over parts that fit each other.
-use Rattle.std.proofs.Common.{◌≡◌, ℕ, IsTrue, not, Bool, true, false, true≢false, List, [], ◌∷◌, map, Option, None, Some, Result, Ok, Err, refl, sym, subst, ap}
+use Rattle.std.proofs.Common.{arith, ◌≡◌, ℕ, IsTrue, not, Bool, true, false, true≢false, List, [], ◌∷◌, map, Option, None, Some, Result, Ok, Err, refl, sym, subst, ap}
 use Rattle.std.proofs.lemmas.Bool.{not-false}
 use Rattle.std.specs.List.{AllByRecursion}
 use Rattle.std.specs.Option.{option_and_then}
@@ -17,6 +17,7 @@ use Rattle.ca_grant.specs.Reaching.{AreAtHand}
 use Rattle.ca_laws.proofs.ResponseLemmas.{IsGoodEnding, IsGoodRow, plain-good, response-good}
 use Rattle.ca_laws.proofs.TurnLemmas.{all-fail, nothing-good, operation-good, packet-good, timeout-good, wake-good}
 use Rattle.ca_model.specs.declared.mark.Mark.{Mark}
+use Rattle.ca_qpstate.specs.ComesUp.{AreDepths}
 use Rattle.ca_qpstate.specs.Seen.{queue_of}
 use Rattle.ca_model.specs.machine.Invariants.{IsList, IsQueue, is_sending}
 use Rattle.ca_model.specs.machine.Requester.{RequestTurn, Waits, Performs, Sends, turn_of}
@@ -38,7 +39,7 @@ use Rattle.ca_tests_requester.specs.declared.bed.Bed.{Bed}
 use Rattle.ca_wire.specs.Packet.{Fields}
 
 -- a good row ends well, whatever is seen
-ends-good : (q : QueuePair) (s : Sight) (row : Row) → IsGoodRow q row → IsGoodEnding q (ending_of s row)
+pub ends-good : (q : QueuePair) (s : Sight) (row : Row) → IsGoodRow q row → IsGoodEnding q (ending_of s row)
 ends-good q s row good = by (first_denied s row.asks) refl
   where
     by : (o : Option DeniedAsk) → first_denied s row.asks ≡ o → IsGoodEnding q (ending_of s row)
@@ -55,7 +56,7 @@ turn-good q room is = by (turn_of q) refl
     by (Sends n) e = rw e (packet-good q room n is e)
 
 -- writes leave parts that fit each other
-writes-keep : (xs : List (Ask × List ℕ)) (s : SmallReach) → FitTogether s → FitTogether (written_all after_write_by s xs)
+pub writes-keep : (xs : List (Ask × List ℕ)) (s : SmallReach) → FitTogether s → FitTogether (written_all after_write_by s xs)
 writes-keep [] s fit = fit
 writes-keep (x ∷ xs) s fit = writes-keep xs (after_write_by s x.0 x.1) (small-keeps s x.0 x.1 fit)
 
@@ -67,7 +68,7 @@ pub record IsKept (new : Handed SmallReach) : Type 0 where
 same-kept : (before new : Handed SmallReach) → IsKept before → new ≡ before → IsKept new
 same-kept before new kept e = rw e kept
 
-turn-ending-kept : (result : Result Sent StepError) (ending : Ending) (before new : Handed SmallReach) → IsKept before → IsGoodEnding before.queue ending
+pub turn-ending-kept : (result : Result Sent StepError) (ending : Ending) (before new : Handed SmallReach) → IsKept before → IsGoodEnding before.queue ending
     → IsTurn after_write_by result ending before new → IsKept new
 turn-ending-kept (Ok sent) (Does e) before new kept good h =
     rw h.1 (record { queue = good.sound; reach = writes-keep e.writes before.reach kept.reach })
@@ -123,3 +124,8 @@ posted_kept q p request is list free same = rw same (posted-send q request None 
     by : (b : Bool) → IsTrue (not b) → b ≡ false
     by true h = absurd (true≢false (sym h))
     by false h = refl
+
+-- queues of the greatest depth are some that come up
+pub full_depths : (srq : Option ℕ) → AreDepths 256 256 srq
+full_depths None = ((omega arith, omega arith), (omega arith, omega arith))
+full_depths (Some srq) = (omega arith, omega arith)

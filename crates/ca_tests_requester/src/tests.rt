@@ -1,4 +1,3 @@
-ghost use Rattle.std.specs.Prelude.{IfSome};
 ghost use Rattle.ca_tests_requester.specs.Bed as beds;
 
 mod answers;
@@ -9,29 +8,15 @@ mod rows;
 mod wakes;
 mod worked_rows;
 
-use crate::Bed;
-use arrayvec::ArrayVec;
-use ca_base::{
-    AdapterConfig, Bytes, Config, DomainId, Lot, QueueId, Reason, Rights, Run, Sent, Slot,
-    StepError,
-};
-use ca_model::{Answer, Event, Mark, Marks, Verb};
+use crate::{Bed, Setup, bed_of, config, reason_text, setup_in};
+use ca_base::{Bytes, DomainId, Lot, QueueId, Rights, Run, Sent, Slot, StepError};
+use ca_model::{Event, Mark, Marks, Verb};
 use ca_qpstate::QueuePart;
 use ca_reading_lines::read_line;
-use ca_tests_grant::SmallReach;
-use ca_trace::{Line, Told, print_reply};
+use ca_trace::{Line, print_reply};
 use ca_wire::decode;
 use std::alloc::Global;
 use std::process::Abort;
-
-/// A queue pair, the run of its region, and the region's slot and rights.
-#[derive(Clone, Copy)]
-struct Setup {
-    queue: QueueId,
-    slot: Slot,
-    at: Run,
-    rights: Rights,
-}
 
 /// All rights.
 const ALL: Rights = Rights {
@@ -50,117 +35,6 @@ fn texts_are(rt: &impl Abort, got: &[u8], want: &[u8], line: &str) {
 
 fn holds(rt: &impl Abort, is: bool, what: &str) {
     assert!(rt; is, "{what}");
-}
-
-fn adapter() -> AdapterConfig {
-    AdapterConfig {
-        buffers: ArrayVec::new(),
-        domains: 16,
-        regions: 256,
-        windows: 256,
-        cqs: 64,
-        srqs: 64,
-        qps: 64,
-    }
-}
-
-// Four adapters of many domains.
-fn config(rt: &impl Abort) -> Config {
-    let mut adapters = ArrayVec::new();
-    for _ in 0..4 {
-        holds(rt, adapters.try_push(adapter()).is_ok(), "an adapter");
-    }
-    Config {
-        adapters,
-        events: 100,
-    }
-}
-
-// The queue pair in Reset, over its region, behind which the buffer ends.
-fn bed_of(alloc: Global, setup: &Setup) -> Option<Bed>
-    ensures { IfSome result beds.Stands }
-{
-    let slot = setup.slot;
-    if slot.slot >= 32768 || setup.at.adapter != slot.domain.adapter {
-        return None;
-    }
-    let bytes = setup.at.offset.checked_add(setup.at.length)?;
-    let reach = SmallReach::registered(alloc, slot, setup.at, bytes, setup.rights).ok()?;
-    let name = setup.queue;
-    let queue = QueuePart::create(alloc, name, slot.domain, 1, 0, 0, 256, 0, Some(0)).ok()?;
-    Some(Bed { queue, reach })
-}
-
-// The region that a line registers: its slot, its run, and its rights.
-fn region_in(alloc: Global, line: &str) -> Option<(Slot, Run, Rights)> {
-    match read_line(alloc, line.as_bytes()) {
-        Ok(
-            Line::Call {
-                verb: Verb::RegMr {
-                    slot,
-                    buffer,
-                    offset,
-                    length,
-                    rights,
-                },
-                ..
-            },
-        ) => {
-            let at = Run {
-                adapter: slot.domain.adapter,
-                buffer,
-                offset,
-                length,
-            };
-            Some((slot, at, rights))
-        }
-        _ => None,
-    }
-}
-
-// The queue pair that a line creates.
-fn queue_in(alloc: Global, line: &str) -> Option<QueueId> {
-    match read_line(alloc, line.as_bytes()) {
-        Ok(
-            Line::Call {
-                verb: Verb::CreateQp { slot, .. },
-                told: Told::Whole(Answer::Queue { number, .. }),
-                ..
-            },
-        ) => Some(QueueId {
-            adapter: slot.domain.adapter,
-            number,
-        }),
-        _ => None,
-    }
-}
-
-// What the first two lines of a run register and create, and the lines behind them.
-fn setup_in(alloc: Global, text: &str) -> Option<(Setup, &str)> {
-    let (first, rest) = text.split_once('\n')?;
-    let (second, rest) = rest.split_once('\n')?;
-    let (slot, at, rights) = region_in(alloc, first)?;
-    let queue = queue_in(alloc, second)?;
-    let setup = Setup {
-        queue,
-        slot,
-        at,
-        rights,
-    };
-    Some((setup, rest))
-}
-
-fn reason_text(reason: Reason) -> &'static str {
-    match reason {
-        Reason::Empty => " reason empty\n",
-        Reason::State => " reason state\n",
-        Reason::NoRoom => " reason no-room\n",
-        Reason::Fence => " reason fence\n",
-        Reason::Outstanding => " reason outstanding\n",
-        Reason::RnrWait => " reason rnr-wait\n",
-        Reason::NotKept => " reason not-kept\n",
-        Reason::NotDue => " reason not-due\n",
-    }
 }
 
 // What a queue pair counts as a requester, with its state.
@@ -352,8 +226,7 @@ fn call(rt: &impl Abort, alloc: Global, bed: &mut Bed, verb: Verb, text: &mut Ve
 {
     match verb {
         Verb::ModifyQp { change, .. } => {
-            let config = config(rt);
-            holds(rt, bed.change(&config, &change), "a change of state");
+            holds(rt, bed.change(&config(), &change), "a change of state");
         }
         Verb::PostSend { request, .. } => holds(rt, bed.post(request), "a request is posted"),
         Verb::Inject { bytes, .. } => arrive(rt, alloc, bed, bytes.as_slice(), text),
@@ -449,6 +322,7 @@ const PLAIN: Setup = Setup {
         adapter: 0,
         number: 256,
     },
+    srq: Some(0),
     slot: Slot {
         domain: DomainId {
             adapter: 0,

@@ -1,0 +1,220 @@
+ghost use Rattle.std.specs.Prelude.{IfSome};
+ghost use Rattle.ca_tests_responder.specs.Responder as responders;
+
+mod again;
+mod drawn_rows;
+mod hostile_rows;
+mod reads;
+mod refusals;
+mod rows;
+mod turns;
+mod worked_rows;
+
+use crate::Responder;
+use ca_base::{Bytes, Lot, QueueId, Sent, StepError};
+use ca_model::{Event, Mark, Marks, Verb};
+use ca_qpstate::QueuePart;
+use ca_reading_lines::read_line;
+use ca_tests_requester::{Setup, bed_of, config, reason_text, setup_in};
+use ca_trace::{Line, print_reply};
+use std::alloc::Global;
+use std::process::Abort;
+
+fn texts_are(rt: &impl Abort, got: &[u8], want: &[u8], line: &str) {
+    let got = str::from_utf8(got).unwrap_or("no text");
+    let want = str::from_utf8(want).unwrap_or("no text");
+    assert_eq!(rt; got, want, "before {line}");
+}
+
+fn holds(rt: &impl Abort, is: bool, what: &str) {
+    assert!(rt; is, "{what}");
+}
+
+// The queue pair in Reset, over its region, with its shared receive queue.
+fn responder_of(alloc: Global, setup: &Setup) -> Option<Responder>
+    ensures { IfSome result responders.Stands }
+{
+    Responder::of(alloc, bed_of(alloc, setup)?)
+}
+
+// What a queue pair counts as a responder, with its state.
+fn numbers(q: &QueuePart) -> [u64; 5] {
+    let r = &q.responder;
+    [
+        r.expected,
+        u64::from(r.msn),
+        u64::from(r.nak_sent),
+        r.answers.len() as u64,
+        q.state as u64,
+    ]
+}
+
+fn numbers_are(rt: &impl Abort, got: &[u64], want: &[u64], what: &str) {
+    assert_eq!(rt; got, want, "{what}");
+}
+
+// Adds the lines of marks.
+fn put(rt: &impl Abort, marks: &[Mark], text: &mut Vec<u8>) {
+    for mark in marks {
+        holds(rt, print_reply(mark, text).is_ok(), "the line of a mark");
+    }
+}
+
+fn put_text(rt: &impl Abort, line: &[u8], text: &mut Vec<u8>) {
+    holds(rt, text.extend_from_slice(line).is_ok(), "a line");
+}
+
+// The line of an answer that is sent: of the envelope's index it tells nothing, and it is of no request.
+fn put_sent(rt: &impl Abort, q: &QueuePart, bytes: Vec<u8>, text: &mut Vec<u8>) {
+    let target = match q.peer {
+        None => q.queue,
+        Some((peer, _)) => peer,
+    };
+    let sent = Mark::Sent {
+        source: q.queue,
+        target,
+        index: None,
+        request: None,
+        bytes: Bytes::from(bytes),
+    };
+    holds(rt, print_reply(&sent, text).is_ok(), "the line of a packet");
+}
+
+// The responder's turn: it sends an answer, or says why not.
+fn respond(rt: &impl Abort, alloc: Global, r: &mut Responder, room: bool, text: &mut Vec<u8>)
+    requires { responders.Stands r.old }
+    ensures { responders.Stands r.new }
+{
+    let before = numbers(&r.bed.queue);
+    let mut marks = Marks::empty(alloc);
+    let mut out = Vec::new(alloc);
+    let done = r.respond(alloc, room, &mut marks, &mut out);
+    put(rt, marks.as_slice(), text);
+    match done {
+        Some(Ok(Sent::Spelt { request: None })) => put_sent(rt, &r.bed.queue, out, text),
+        Some(Err(StepError::NotReady(reason))) => {
+            put_text(rt, reason_text(reason).as_bytes(), text);
+            let after = numbers(&r.bed.queue);
+            numbers_are(rt, after.as_slice(), before.as_slice(), "unchanged");
+        }
+        _ => holds(rt, false, "a turn"),
+    }
+}
+
+// These bytes arrive, which have to be a request.
+fn arrive(
+    rt: &impl Abort,
+    alloc: Global,
+    r: &mut Responder,
+    bytes: &[u8],
+    envelope: Option<u64>,
+    text: &mut Vec<u8>,
+)
+    requires { responders.Stands r.old }
+    ensures { responders.Stands r.new }
+{
+    let mut marks = Marks::empty(alloc);
+    let done = r.take(alloc, bytes, envelope, &mut marks);
+    put(rt, marks.as_slice(), text);
+    if !matches!(done, Some(Ok(()))) {
+        put_text(rt, b" no request\n", text);
+    }
+}
+
+// A consumer's call. Of an injection the envelope is told apart.
+fn call(
+    rt: &impl Abort,
+    alloc: Global,
+    r: &mut Responder,
+    verb: Verb,
+    envelope: Option<u64>,
+    text: &mut Vec<u8>,
+)
+    requires { responders.Stands r.old }
+    ensures { responders.Stands r.new }
+{
+    match verb {
+        Verb::ModifyQp { change, .. } => {
+            holds(rt, r.bed.change(&config(), &change), "a change of state");
+        }
+        Verb::PostSend { request, .. } => holds(rt, r.bed.post(request), "a request is posted"),
+        Verb::PostRecv { request, .. } => holds(rt, r.receive(request), "a receive is posted"),
+        Verb::PostSrq { request, .. } => {
+            holds(rt, r.receive_shared(request), "a shared receive is posted");
+        }
+        Verb::Store { offset, bytes, .. } => {
+            holds(rt, r.store(offset, bytes.as_slice()), "bytes are stored");
+        }
+        Verb::DeregMr { .. } => holds(rt, r.end_region(), "the region ends"),
+        Verb::Inject { bytes, .. } => arrive(rt, alloc, r, bytes.as_slice(), envelope, text),
+        _ => holds(rt, false, "a call of the table"),
+    }
+}
+
+// A step. An injection by pass 1 is of an envelope, whose index is the stamp.
+fn step(rt: &impl Abort, alloc: Global, r: &mut Responder, line: &str, text: &mut Vec<u8>)
+    requires { responders.Stands r.old }
+    ensures { responders.Stands r.new }
+{
+    match read_line(alloc, line.as_bytes()) {
+        Ok(
+            Line::Call {
+                stamp,
+                pass: 1,
+                verb,
+                ..
+            },
+        ) => call(rt, alloc, r, verb, Some(stamp), text),
+        Ok(Line::Call { verb, .. }) => call(rt, alloc, r, verb, None, text),
+        Ok(
+            Line::Turn {
+                event: Event::Respond { lot, .. },
+                ..
+            },
+        ) => {
+            respond(rt, alloc, r, !matches!(lot, Lot::Lose), text);
+        }
+        _ => texts_are(rt, b"a line of the trace", b"", line),
+    }
+}
+
+// Goes on with the lines of a run: `got` is what the steps so far did, and `want` what their lines said.
+fn go_on(rt: &impl Abort, alloc: Global, r: &mut Responder, text: &str)
+    requires { responders.Stands r.old }
+    ensures { responders.Stands r.new }
+{
+    let mut got = Vec::new(alloc);
+    let mut want = Vec::new(alloc);
+    for line in text.lines() {
+        if line.starts_with(' ') {
+            put_text(rt, line.as_bytes(), &mut want);
+            put_text(rt, b"\n", &mut want);
+        } else {
+            texts_are(rt, got.as_slice(), want.as_slice(), line);
+            got.clear();
+            want.clear();
+            step(rt, alloc, r, line, &mut got);
+        }
+    }
+    texts_are(rt, got.as_slice(), want.as_slice(), "the end");
+}
+
+// A run: the lines that register its region and create its queue pair, and then each step, as it stands in a trace, and
+// behind it what it does. A packet that arrives stands as an injection.
+fn run(rt: &impl Abort, alloc: Global, text: &str) {
+    let Some((setup, rest)) = setup_in(alloc, text) else {
+        texts_are(rt, text.as_bytes(), b"", "the region and the queue pair");
+        return;
+    };
+    match responder_of(alloc, &setup) {
+        None => holds(rt, false, "a queue pair"),
+        Some(mut r) => go_on(rt, alloc, &mut r, rest),
+    }
+}
+
+// Runs that stand in a text, with a blank line between them.
+fn runs(rt: &impl Abort, alloc: Global, texts: &str) {
+    for text in texts.split("\n\n") {
+        run(rt, alloc, text);
+    }
+}
