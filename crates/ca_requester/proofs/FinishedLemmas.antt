@@ -1,5 +1,5 @@
 -- One more request that succeeded, between two places.
-use Rattle.std.proofs.Common.{◌≡◌, ℕ, zero, suc, ◌-◌, ◌≤◌, ◌<◌, arith, refl, sym, ap, ◌∙◌, List, [], ◌∷◌, ◌++◌, append-nil, append_assoc, take, None, Some}
+use Rattle.std.proofs.Common.{◌≡◌, ℕ, zero, suc, ◌-◌, ◌≤◌, ◌<◌, arith, refl, sym, ap, ◌∙◌, List, [], ◌++◌, append-nil, append_assoc, take, None, Some}
 use Rattle.ca_base.specs.objects.QueuePair.{PostedSend, QueuePair}
 use Rattle.ca_base.specs.objects.WorkQueue.{item_at, items_from}
 use Rattle.ca_model.specs.declared.mark.Mark.{Mark}

@@ -1,5 +1,5 @@
 -- One more request that has begun: whether it is finished, and whether it waits for an answer.
-use Rattle.std.proofs.Common.{zero, subst, Option, IfSome, ◌≡◌, ℕ, suc, ◌+◌, ◌-◌, ◌≤◌, ◌<◌, nat_le, nat_lt, max, ◌&&◌, arith, refl, sym, ap, ◌∙◌, Bool, true, false, true≢false, if◌then◌else◌, List, [], ◌∷◌, ◌++◌, length, take, sum_by, None, Some, append_assoc}
+use Rattle.std.proofs.Common.{zero, subst, Option, IfSome, ◌≡◌, ℕ, suc, ◌+◌, ◌-◌, ◌≤◌, ◌<◌, nat_le, nat_lt, max, ◌&&◌, arith, refl, sym, ap, ◌∙◌, Bool, true, false, true≢false, if◌then◌else◌, List, [], ◌∷◌, ◌++◌, length, take, sum_by, None, Some}
 use Rattle.std.proofs.lemmas.Bool.{le-leb, le-ltb, lt-leb, ltb-false, ltb-true}
 use Rattle.std.specs.List.{flat_map, prefix_len, take_while}
 use Rattle.std.proofs.lemmas.List.Sums.{sum_by-cons}
@@ -9,7 +9,6 @@ use Rattle.ca_base.specs.declared.request.SendOp.{SendOp}
 use Rattle.ca_base.specs.declared.request.SendOp.TheVariants as ops
 use Rattle.ca_base.specs.objects.QueuePair.{PostedSend, QueuePair}
 use Rattle.ca_base.specs.objects.WorkQueue.{items_from}
-use Rattle.ca_model.specs.declared.mark.Mark.{Mark}
 use Rattle.ca_model.specs.machine.Acknowledgements.{acknowledgement_below, after_finished, finished_marks, first_unanswered, progress_to, with_requester}
 use Rattle.ca_model.specs.Requests.{psns_of}
 use Rattle.ca_model.specs.machine.Completions.{success_marks}

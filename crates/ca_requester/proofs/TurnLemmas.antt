@@ -1,5 +1,5 @@
 -- What a requester's turn does, by its kind.
-use Rattle.std.proofs.Common.{◌≡◌, ℕ, ◌+◌, ◌-◌, ◌<◌, ◌≤◌, nat_lt, min, max, arith, Bool, true, false, true≢false, refl, sym, ap, ◌∙◌, if◌then◌else◌, List, [], ◌∷◌, ◌++◌, drop, map, length, suc, sum_by, take}
+use Rattle.std.proofs.Common.{◌≡◌, ℕ, ◌+◌, ◌-◌, ◌<◌, ◌≤◌, nat_lt, min, max, arith, Bool, true, false, true≢false, refl, ap, ◌∙◌, if◌then◌else◌, List, [], ◌∷◌, ◌++◌, drop, map, length, suc, sum_by, take}
 use Rattle.std.proofs.Math.Seq.{take-append_seam}
 use Rattle.std.proofs.lemmas.Bool.{le-ltb}
 use Rattle.std.proofs.lemmas.List.Sums.{sum_by-cons}

@@ -1,4 +1,4 @@
-use Rattle.std.proofs.Common.{rules, arith, sym}
+use Rattle.std.proofs.Common.{arith, sym}
 use Rattle.ca_qpstate.specs.Seen.{queue_of}
 use Rattle.ca_requester.proofs.TurnLemmas.{few_answers}
 use Rattle.ca_requester.proofs.turn.+has_more_answers.Goals as goal
