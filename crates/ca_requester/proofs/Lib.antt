@@ -5,3 +5,4 @@ pub mod PacketLemmas
 pub mod TurnLemmas
 pub mod ResponseLemmas
 pub mod TakingLemmas
+pub mod FinishedLemmas

@@ -1,5 +1,5 @@
 -- The posted requests from a place on, one after another.
-use Rattle.std.proofs.Common.{zero, ◌≡◌, ℕ, suc, ◌+◌, ◌-◌, ◌≤◌, ◌<◌, ◌^◌, nat_lt, arith, refl, sym, ap, ◌∙◌, subst, false, List, [], ◌∷◌, drop, length, take, None, Some, slice_get}
+use Rattle.std.proofs.Common.{zero, ◌≡◌, ℕ, suc, ◌+◌, ◌-◌, ◌≤◌, ◌<◌, ◌^◌, nat_lt, arith, refl, sym, ap, ◌∙◌, subst, false, List, [], ◌∷◌, drop, find, length, take, None, Some, slice_get}
 use Rattle.std.proofs.lemmas.Bool.{le-ltb}
 use Rattle.std.proofs.lemmas.List.{drop_all, length-drop}
 use Rattle.std.proofs.lemmas.List.Sums.{sum_by-cons}
@@ -9,10 +9,10 @@ use Rattle.ca_base.specs.declared.limits.TheConstants.{MAX_MESSAGE_BYTES}
 use Rattle.ca_base.specs.objects.QueuePair.{PostedSend, QueuePair}
 use Rattle.ca_base.specs.objects.WorkQueue.{WorkQueue, item_at, items_from, next_place}
 use Rattle.ca_model.specs.Requests.{list_of, psns_of}
-use Rattle.ca_model.specs.machine.Numbering.{Numbered, numbers_of}
+use Rattle.ca_model.specs.machine.Numbering.{Numbered, has_psn, numbers_of}
 use Rattle.ca_model.specs.machine.Invariants.{IsList, IsQueue, IsSend}
 use Rattle.ca_rows.specs.Narrow.{AreNarrow}
-use Rattle.ca_requester.specs.Numbering.{IsSound, IsWithin, numbers_from}
+use Rattle.ca_requester.specs.Numbering.{IsSound, IsWithin, begun_from, numbers_from}
 
 -- the element at a place stands before those behind it
 drop-step : {T : Type 0} (xs : List T) (i : ℕ) (x : T) → slice_get xs i ≡ Some x → drop i xs ≡ x ∷ drop (suc i) xs
@@ -73,14 +73,14 @@ step-within q place psn count p within e few = record {
 }
 
 -- the list of a posted request is short
-pub step-list : (q : QueuePair) (place : ℕ) (p : PostedSend) → IsQueue q → q.sends.first ≤ place → Some p ≡ item_at place q.sends → IsList (list_of p.request.op)
-step-list q place p is le e = item-all IsSend q.sends place p is.sends.items le (sym e)
+pub step_list : (q : QueuePair) (place : ℕ) (p : PostedSend) → IsQueue q → q.sends.first ≤ place → Some p ≡ item_at place q.sends → IsList (list_of p.request.op)
+step_list q place p is le e = item-all IsSend q.sends place p is.sends.items le (sym e)
 
 -- a posted request is sound
 pub step-sound : (q : QueuePair) (place psn count : ℕ) (p : PostedSend) → IsQueue q → IsWithin place psn q → Some p ≡ item_at place q.sends
     → count ≡ psns_of q.responder.mtu p.request.op → count ≤ MAX_MESSAGE_BYTES → place + 1 < 2 ^ 64 → IsSound q (number_at place psn count p)
 step-sound q place psn count p is within e counted few room = record {
-  list = step-list q place p is within.posted e;
+  list = step_list q place p is within.posted e;
   counted = counted;
   narrow = omega (arith, within.narrow, ap length (item_step q.sends place p within.posted (sym e)));
   room = room;
@@ -112,3 +112,11 @@ pub one-begun : (next place place2 psn psn2 : ℕ) (f : ℕ → ℕ → List Num
 one-begun next place place2 psn psn2 f xs x a b e less =
     let far : next - place ≡ suc (next - suc place) = omega arith in
     rw (a, b, e, far) (omega (arith, sum_by-cons (λ (m : Numbered). m.count) x (take (next - suc place) (f (suc place) (psn + x.count)))))
+
+-- a PSN that is none of the first of them is looked for among the others
+pub found-behind : (q : QueuePair) (place next psn more cursor : ℕ) (n : Numbered) → next ≡ suc place → more ≡ psn + n.count
+    → place < q.requester.next → numbers_from place psn q ≡ n ∷ numbers_from (suc place) (psn + n.count) q → has_psn cursor n ≡ false
+    → find (has_psn cursor) (begun_from next more q) ≡ find (has_psn cursor) (begun_from place psn q)
+found-behind q place next psn more cursor n one on before step other =
+    let far : q.requester.next - place ≡ suc (q.requester.next - suc place) = omega (arith, before) in
+    rw (one, on, step, far, other) refl

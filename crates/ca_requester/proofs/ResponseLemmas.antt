@@ -12,16 +12,26 @@ use Rattle.ca_model.specs.machine.Numbering.{Numbered, has_psn, request_at}
 use Rattle.ca_model.specs.machine.Responses.{answer_row, fits_request, fitting_row, unless_back}
 use Rattle.ca_model.specs.machine.Row.{Effects, Row, queue_and_marks, plain_row, Does}
 use Rattle.ca_requester.specs.declared.outcome.Outcome.{Outcome}
+use Rattle.ca_requester.specs.declared.responses.Ended.{Ended}
 use Rattle.ca_requester.specs.declared.outcome.Outcome.TheVariants.{Goes}
 use Rattle.ca_requester.specs.Numbering.{begun_from, numbers_from}
-use Rattle.ca_requester.specs.Outcome.{AreAhead, outcome_effects}
-use Rattle.ca_requester.specs.Progress.{AreNumbers, acknowledgement_of}
-use Rattle.ca_requester.specs.Responses.{fitting}
+use Rattle.ca_requester.specs.Outcome.{AreAhead, numbers_of, outcome_effects}
+use Rattle.ca_requester.specs.Progress.{AreNumbers, acknowledgement_of, success_between}
+use Rattle.ca_requester.specs.Responses.{IsEnd, fitting}
 
 pub are_ahead : (q : QueuePair) (numbers others : RequesterNumbers) → IsQueue q → AreNumbers q numbers → others.oldest ≡ numbers.oldest → AreAhead q others
 are_ahead q numbers others is are e = record {
   oldest = omega (arith, are.oldest, e);
   posted = omega (arith, are.begun, are.next, is.requester.waiting, e);
+}
+
+-- where what is acknowledged are the requests before the oldest one of such numbers, others with the same oldest end it
+pub is_end : (q : QueuePair) (numbers : RequesterNumbers) (e : Ended) → IsQueue q → AreNumbers q numbers
+    → (progress_to e.until q).marks ≡ success_between q.requester.oldest numbers.oldest q
+    → (numbers_of e.outcome).oldest ≡ numbers.oldest → IsEnd q e
+is_end q numbers e is are finished same = record {
+  ahead = are_ahead q numbers (numbers_of e.outcome) is are same;
+  finished = finished ∙ ap (λ place. success_between q.requester.oldest place q) (sym same);
 }
 
 pub at_under : (q : QueuePair) (numbers : RequesterNumbers) (psn : ℕ) → numbers.next ≡ q.requester.next

@@ -1,28 +1,25 @@
--- What comes of an answer: its list is denied, or its bytes are placed.
-use Rattle.std.proofs.Common.{◌≡◌, ap, ◌∙◌, List, [], ◌∷◌, ◌++◌, None, append_assoc}
-use Rattle.ca_base.specs.declared.completion.WcStatus.TheVariants.{LocalProtection}
-use Rattle.ca_base.specs.Sight.{DeniedAsk}
-use Rattle.ca_base.specs.objects.QueuePair.{QueuePair}
+-- What comes of an answer: the marks of what is finished before it, of its bytes, and of what is finished behind it.
+use Rattle.std.proofs.Common.{◌≡◌, ℕ, ◌≤◌, suc, refl, sym, ap, ◌∙◌, arith, List, [], ◌∷◌, ◌++◌, length, append_assoc}
+use Rattle.ca_base.specs.declared.access.Ask.{Ask}
+use Rattle.ca_base.specs.declared.limits.TheConstants.{MAX_PIECES}
 use Rattle.ca_model.specs.declared.mark.Mark.{Mark}
-use Rattle.ca_model.specs.machine.Acknowledgements.{failure_effects, progress_to, with_requester}
-use Rattle.ca_model.specs.machine.Expected.{behind_marks}
-use Rattle.ca_model.specs.machine.Requester.{local_denial}
-use Rattle.ca_requester.specs.declared.taking.Taken.{Taken}
-use Rattle.ca_requester.specs.Responses.{denied_effects}
+use Rattle.ca_rows.specs.Asks.{asks_of}
 
-pub denied-is : (q : QueuePair) (t : Taken) (d : DeniedAsk) (made : List Mark) → made ≡ (progress_to t.psn q).marks ++ local_denial d ∷ []
-    → with_requester t.numbers q ≡ (progress_to t.psn q).queue
-    → behind_marks made (failure_effects LocalProtection None (with_requester t.numbers q)) ≡ denied_effects t d q
-denied-is q t d made is at =
-    ap (λ ms. behind_marks ms (failure_effects LocalProtection None (with_requester t.numbers q))) is
-    ∙ ap (λ x. behind_marks ((progress_to t.psn q).marks ++ local_denial d ∷ []) (failure_effects LocalProtection None x)) at
-    ∙ ap (λ ms. record (failure_effects LocalProtection None (progress_to t.psn q).queue) { marks = ms })
-    (append_assoc (progress_to t.psn q).marks (local_denial d ∷ []) (failure_effects LocalProtection None (progress_to t.psn q).queue).marks)
-
-pub three-appended : (old once twice thrice first second third : List Mark) → once ≡ old ++ first → twice ≡ once ++ second → thrice ≡ twice ++ third
+pub three-appended : (old kept once twice thrice first second third before behind : List Mark) → kept ≡ old → first ≡ before → third ≡ behind
+    → once ≡ kept ++ before → twice ≡ once ++ second → thrice ≡ twice ++ behind
     → thrice ≡ old ++ (first ++ (second ++ third))
-three-appended old once twice thrice first second third one two three =
+three-appended old kept once twice thrice first second third before behind same front back one two three =
     three
-    ∙ ap (λ ms. ms ++ third) (two ∙ ap (λ ms. ms ++ second) one)
-    ∙ append_assoc (old ++ first) second third
-    ∙ append_assoc old first (second ++ third)
+    ∙ ap (λ ms. ms ++ behind) (two ∙ ap (λ ms. ms ++ second) (one ∙ ap (λ ms. ms ++ before) same))
+    ∙ append_assoc (old ++ before) second behind
+    ∙ append_assoc old before (second ++ behind)
+    ∙ ap (λ ms. old ++ (before ++ (second ++ ms))) (sym back)
+    ∙ ap (λ ms. old ++ (ms ++ (second ++ third))) (sym front)
+
+asks-count : (xs : List (Ask × List ℕ)) → length (asks_of xs) ≡ length xs
+asks-count [] = refl
+asks-count (x ∷ xs) = ap suc (asks-count xs)
+
+-- the accesses of few asks are few
+pub few_writes : (asks : List Ask) (xs : List (Ask × List ℕ)) → asks_of xs ≡ asks → length asks ≤ MAX_PIECES → length xs ≤ MAX_PIECES
+few_writes asks xs e few = omega (arith, ap length e, asks-count xs, few)

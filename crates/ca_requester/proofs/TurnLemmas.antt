@@ -1,5 +1,8 @@
 -- What a requester's turn does, by its kind.
-use Rattle.std.proofs.Common.{◌≡◌, ℕ, ◌<◌, arith, Bool, true, false, true≢false, refl, sym, ap, if◌then◌else◌, List, [], ◌∷◌, ◌++◌, map, length, suc}
+use Rattle.std.proofs.Common.{◌≡◌, ℕ, ◌+◌, ◌-◌, ◌<◌, ◌≤◌, nat_lt, min, max, arith, Bool, true, false, true≢false, refl, ap, ◌∙◌, if◌then◌else◌, List, [], ◌∷◌, ◌++◌, drop, map, length, suc, sum_by, take}
+use Rattle.std.proofs.Math.Seq.{take-append_seam}
+use Rattle.std.proofs.lemmas.Bool.{le-ltb}
+use Rattle.std.proofs.lemmas.List.Sums.{sum_by-cons}
 use Rattle.std.specs.List.{AllByRecursion, flat_map}
 use Rattle.ca_base.specs.declared.access.Ask.{Ask}
 use Rattle.ca_base.specs.declared.access.Kind.TheVariants as kinds
@@ -7,16 +10,19 @@ use Rattle.ca_base.specs.declared.request.SendOp.{SendOp}
 use Rattle.ca_base.specs.declared.request.SendOp.TheVariants as ops
 use Rattle.ca_base.specs.declared.verdict.Verdict.TheVariants as verdicts
 use Rattle.ca_base.specs.Sight.{Sight, bytes_in}
-use Rattle.ca_base.specs.objects.QueuePair.{QueuePair}
+use Rattle.ca_base.specs.objects.QueuePair.{PostedSend, QueuePair}
+use Rattle.ca_base.specs.objects.WorkQueue.{items_from}
 use Rattle.ca_grant.specs.Reaching.{IsPacketAsk}
 use Rattle.ca_model.specs.Requests.{is_local, psns_of}
-use Rattle.ca_model.specs.machine.Completions.{bytes_of_success}
+use Rattle.ca_model.specs.declared.mark.Mark.{Mark}
 use Rattle.ca_model.specs.machine.Invariants.{IsQueue, is_sending}
-use Rattle.ca_model.specs.machine.Numbering.{Numbered}
-use Rattle.ca_model.specs.machine.Requester.{Performs, Sends, index_of_packet, local_reads}
-use Rattle.ca_rows.specs.Asks.{IsAskOf, mark_of, payload_of, read_marks, reads_by}
+use Rattle.ca_model.specs.machine.Numbering.{Numbered, is_answered_op, is_read, numbers_of}
+use Rattle.ca_model.specs.machine.Requester.{Performs, Sends, answers_between, index_of_packet, local_reads, packets_between, psns_between}
+use Rattle.ca_rows.proofs.ReadLemmas.{behind_old, bytes_of_reads}
+use Rattle.ca_rows.specs.Asks.{IsAskOf, bytes_read, mark_of, payload_of, read_marks, reads_by}
 use Rattle.ca_requester.specs.declared.numbering.Next.{Next}
-use Rattle.ca_requester.specs.Numbering.{IsNext, numbered_of}
+use Rattle.ca_requester.proofs.NumberingLemmas.{number_at}
+use Rattle.ca_requester.specs.Numbering.{IsNext, numbered_of, numbers_from}
 use Rattle.ca_requester.specs.Packets.{IsPacket}
 use Rattle.ca_requester.specs.Turn.{is_performing, turn_on}
 
@@ -27,13 +33,6 @@ performing n e = by (is_local n.request.op) e
     by : (b : Bool) → is_performing (if b then Performs n else Sends n) ≡ true → b ≡ true
     by true e = refl
     by false e = e
-
--- the success of a local operation tells of no bytes
-pub local_bytes : (op : SendOp) → is_local op ≡ true → bytes_of_success op ≡ 0
-local_bytes (ops.Read address key list) e = absurd (true≢false (sym e))
-local_bytes (ops.CmpSwap address key compare swap list) e = absurd (true≢false (sym e))
-local_bytes (ops.FetchAdd address key add list) e = absurd (true≢false (sym e))
-local_bytes op e = refl
 
 -- a request that is no local operation takes a PSN at least
 some-psns : (mtu : ℕ) (op : SendOp) → is_local op ≡ false → 0 < psns_of mtu op
@@ -64,17 +63,59 @@ pub marks_read : (s : Sight) (asks : List Ask) → local_reads asks (map (bytes_
 marks_read s [] = refl
 marks_read s (ask ∷ asks) = ap (λ ms. mark_of ask (verdicts.Read (bytes_in s ask)) ∷ ms) (marks_read s asks)
 
--- their bytes, one after another
-pub bytes_read : (s : Sight) (asks : List Ask) → flat_map (λ b. b) (map (bytes_in s) asks) ≡ payload_of (reads_by s asks)
-bytes_read s [] = refl
-bytes_read s (ask ∷ asks) = ap (λ bs. bytes_in s ask ++ bs) (bytes_read s asks)
+-- the payload, which the marks behind those that there were tell of, is what the asks bring
+pub payload-read : (s : Sight) (asks : List Ask) (old new : List Mark) (count : ℕ) (payload : List ℕ) → count ≡ length old
+    → new ≡ old ++ read_marks (reads_by s asks) → payload ≡ bytes_read (drop count new) → payload ≡ payload_of (reads_by s asks)
+payload-read s asks old new count payload at e p =
+    p
+    ∙ ap (λ n. bytes_read (drop n new)) at
+    ∙ ap bytes_read (behind_old old (read_marks (reads_by s asks)) new e)
+    ∙ bytes_of_reads (reads_by s asks)
 
--- as many pieces are read as there are asks
-pub reads_count : (s : Sight) (asks : List Ask) → length (reads_by s asks) ≡ length asks
-reads_count s [] = refl
-reads_count s (ask ∷ asks) = ap suc (reads_count s asks)
+-- and those bytes are what the requester's row spells
+pub reads-joined : (s : Sight) (asks : List Ask) → payload_of (reads_by s asks) ≡ flat_map (λ b. b) (map (bytes_in s) asks)
+reads-joined s [] = refl
+reads-joined s (ask ∷ asks) = ap (λ bs. bytes_in s ask ++ bs) (reads-joined s asks)
 
 -- asks for reading are asks that may be handed on
 pub handed_on : (asks : List Ask) → AllByRecursion (IsAskOf kinds.Read) asks → AllByRecursion IsPacketAsk asks
 handed_on [] all = tt
 handed_on (ask ∷ asks) all = (all.0.0, handed_on asks all.1)
+
+-- the marks that there were stand in front of those that were added
+pub front_behind : (old more new : List Mark) → new ≡ old ++ more → take (length old) new ≡ old
+front_behind old more new e = ap (take (length old)) e ∙ take-append_seam old more
+
+-- no more PSNs of requests lie between two than there are
+few-psns : (f : Numbered → ℕ) (una upto mtu place psn : ℕ) (ps : List PostedSend) → ((n : Numbered) → f n ≤ psns_between una upto n)
+    → sum_by f (numbers_of mtu place psn ps) ≤ upto - max una psn
+few-psns f una upto mtu place psn [] few = omega arith
+few-psns f una upto mtu place psn (p ∷ ps) few =
+    omega (
+      arith,
+      sum_by-cons f n (numbers_of mtu (suc place) (psn + psns_of mtu p.request.op) ps),
+      few n,
+      few-psns f una upto mtu (suc place) (psn + psns_of mtu p.request.op) ps few,
+    )
+  where
+    n : Numbered
+    n = number_at place psn (psns_of mtu p.request.op) p
+
+at-most : (b : Bool) (n : ℕ) → (if b then min 1 n else n) ≤ n
+at-most true n = omega arith
+at-most false n = omega arith
+
+at-most-one : (b : Bool) (n : ℕ) → (if b then min 1 n else 0) ≤ n
+at-most-one true n = omega arith
+at-most-one false n = omega arith
+
+-- and no more request packets, and no more READs and atomics
+pub few_packets : (q : QueuePair) (place psn una upto most : ℕ) → upto - max una psn ≤ most
+    → nat_lt most (sum_by (packets_between una upto) (numbers_from place psn q)) ≡ false
+few_packets q place psn una upto most le = le-ltb most (sum_by (packets_between una upto) (numbers_from place psn q))
+    (omega (arith, le, few-psns (packets_between una upto) una upto q.responder.mtu place psn (items_from place q.sends) (λ n. at-most (is_read n.request.op) (psns_between una upto n))))
+
+pub few_answers : (q : QueuePair) (place psn una upto most : ℕ) → upto - max una psn ≤ most
+    → nat_lt most (sum_by (answers_between una upto) (numbers_from place psn q)) ≡ false
+few_answers q place psn una upto most le = le-ltb most (sum_by (answers_between una upto) (numbers_from place psn q))
+    (omega (arith, le, few-psns (answers_between una upto) una upto q.responder.mtu place psn (items_from place q.sends) (λ n. at-most-one (is_answered_op n.request.op) (psns_between una upto n))))

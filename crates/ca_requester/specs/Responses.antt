@@ -1,11 +1,10 @@
 -- What a response makes of a requester, before it is made, and the row that it is. Contracts cite it.
-use Rattle.std.specs.Prelude.{◌≡◌, ℕ, ◌^◌, ◌<◌, suc, true, if◌then◌else◌, List, [], ◌∷◌, ◌++◌, Option, None, Some}
+use Rattle.std.specs.Prelude.{◌≡◌, ℕ, ◌^◌, ◌<◌, suc, true, if◌then◌else◌, List, ◌∷◌, ◌++◌, Option, None, Some}
 use Rattle.std.specs.Option.{option_and_then}
 use Rattle.ca_base.specs.declared.access.Ask.{Ask}
 use Rattle.ca_base.specs.declared.completion.WcStatus.TheVariants.{LocalProtection}
 use Rattle.ca_base.specs.Sight.{DeniedAsk}
 use Rattle.ca_base.specs.objects.QueuePair.{QueuePair}
-use Rattle.ca_model.specs.declared.mark.Mark.{Mark}
 use Rattle.ca_model.specs.machine.Acknowledgements.{and_then, failure_effects, progress_to, with_requester}
 use Rattle.ca_model.specs.machine.Expected.{behind_marks}
 use Rattle.ca_model.specs.machine.Numbering.{Numbered, has_psn, request_at}
@@ -20,11 +19,16 @@ use Rattle.ca_requester.specs.declared.responses.Response.{Response}
 use Rattle.ca_requester.specs.declared.responses.Response.TheVariants.{Drops, Ends, Answers}
 use Rattle.ca_requester.specs.Numbering.{IsSound, numbered_of}
 use Rattle.ca_requester.specs.Outcome.{AreAhead, numbers_of, outcome_effects}
-use Rattle.ca_requester.specs.Progress.{AreNumbers}
+use Rattle.ca_requester.specs.Progress.{AreNumbers, success_between}
 
 -- what is acknowledged completes, and then comes the outcome
 abbrev pub ended_effects : Ended → QueuePair → Effects
 ended_effects e q = behind_marks (progress_to e.until q).marks (outcome_effects e.outcome q)
+
+-- its oldest unfinished request is ahead, and what is acknowledged are the requests before it
+pub record IsEnd (q : QueuePair) (e : Ended) : Type 0 where
+  pub ahead : AreAhead q (numbers_of e.outcome)
+  pub finished : (progress_to e.until q).marks ≡ success_between q.requester.oldest (numbers_of e.outcome).oldest q
 
 -- the row of a response
 abbrev pub row_of : Response → Fields → QueuePair → Row
@@ -36,6 +40,7 @@ row_of (Answers a) p q = answer_row a.psn p (progress_to a.psn q) (numbered_of a
 pub record IsAnswer (p : Fields) (q : QueuePair) (a : Answer) : Type 0 where
   pub numbers : AreNumbers q a.numbers
   pub queue : with_requester a.numbers q ≡ (progress_to a.psn q).queue
+  pub finished : (progress_to a.psn q).marks ≡ success_between q.requester.oldest a.numbers.oldest q
   pub sound : IsSound q (numbered_of a.request)
   pub psn : has_psn a.psn (numbered_of a.request) ≡ true
   pub narrow : a.psn < 2 ^ 62
@@ -44,7 +49,7 @@ pub record IsAnswer (p : Fields) (q : QueuePair) (a : Answer) : Type 0 where
 -- what holds of a response that was found
 abbrev pub IsResponse : Response → Fields → QueuePair → Type 0
 IsResponse (Drops cause) p q = Unit {0}
-IsResponse (Ends e) p q = AreAhead q (numbers_of e.outcome)
+IsResponse (Ends e) p q = IsEnd q e
 IsResponse (Answers a) p q = IsAnswer p q a
 
 -- the request of a PSN, where the response fits it

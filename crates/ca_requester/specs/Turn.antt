@@ -1,5 +1,5 @@
 -- The row of a requester's turn that sends a packet, or waits. Contracts cite it.
-use Rattle.std.specs.Prelude.{ℕ, suc, List, Bool, true, false, if◌then◌else◌, [], Option, None, Some, Result, Ok, Err}
+use Rattle.std.specs.Prelude.{ℕ, suc, Bool, true, false, if◌then◌else◌, [], Option, None, Some, Result, Ok, Err}
 use Rattle.ca_base.specs.declared.refusals.OpRefusal.{OpRefusal}
 use Rattle.ca_base.specs.declared.request.SendRequest.{SendRequest}
 use Rattle.ca_base.specs.declared.step.Reason.{Reason}
@@ -7,7 +7,6 @@ use Rattle.ca_base.specs.declared.step.Reason.TheVariants as reasons
 use Rattle.ca_base.specs.declared.queue_numbers.RequesterNumbers.{RequesterNumbers}
 use Rattle.ca_base.specs.objects.LocalRequest.{LocalMarks}
 use Rattle.ca_base.specs.objects.QueuePair.{QueuePair}
-use Rattle.ca_model.specs.declared.mark.Mark.{Mark}
 use Rattle.ca_model.specs.Requests.{is_local}
 use Rattle.ca_model.specs.machine.LocalOperations.{operation_effects}
 use Rattle.ca_model.specs.machine.Numbering.{Numbered}

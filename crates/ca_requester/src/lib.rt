@@ -9,6 +9,7 @@
 //! profile's choice.
 #![tactic(auto)]
 
+mod finished;
 mod local;
 mod numbering;
 mod outcome;

@@ -1,21 +1,19 @@
 ghost use Rattle.std.specs.Prelude.{◌≡◌, ◌+◌, ◌≤◌, ◌++◌, true, None, Some, Ok, Err, IfOk, IfErr, IfSome, OnOk, OnErr, IsOk};
 ghost use Rattle.std.specs.Option.{option_map};
 ghost use Rattle.ca_base.specs.declared.completion.WcStatus.{WcStatus};
-ghost use Rattle.ca_model.specs.Requests as requests;
 ghost use Rattle.ca_model.specs.machine.Acknowledgements.{failure_effects};
-ghost use Rattle.ca_model.specs.machine.Completions as completions;
 ghost use Rattle.ca_model.specs.machine.Invariants.{IsQueue};
 ghost use Rattle.ca_model.specs.machine.Requester as requester;
 ghost use Rattle.ca_qpstate.specs.Seen.{queue_of};
 ghost use Rattle.ca_rows.specs.Narrow.{AreNarrow};
 ghost use Rattle.ca_requester.specs.Turn.{is_performing, operation_end, operation_in};
 
-use crate::outcome::{Made, Outcome, make};
+use crate::outcome::{Failure, fail};
 use crate::turn::turn_of;
-use ca_base::{Memory, OpRefusal, QueueId, Reason, SendRequest, WcStatus};
-use ca_model::{Mark, Marks};
+use ca_base::{Memory, OpRefusal, Reason, SendRequest, WcStatus};
+use ca_model::Marks;
 use ca_qpstate::QueuePart;
-use ca_rows::{is_local, send_completion};
+use ca_rows::{is_local, push_success};
 use std::alloc::Global;
 
 /// The local operation that is now to be performed, with the byte that it drew. None comes exactly where the next thing
@@ -84,23 +82,6 @@ fn finish(q: &mut QueuePart, marks: &mut Marks)
     }
 }
 
-/// Adds the completion of an operation that succeeded, where it is signalled, in the spare room.
-#[tactic(auto, using(crate::proofs::TurnLemmas::local_bytes))]
-fn push_success(queue: QueueId, place: u64, request: &SendRequest, marks: &mut Marks)
-    requires local { requests.is_local request.now.op ≡ true }
-    requires room { 1 ≤ marks.old.room }
-    ensures marks { marks.new.marks ≡ marks.old.marks ++ completions.success_marks queue place request.now }
-    ensures room { marks.old.room ≤ marks.new.room + 1 }
-{
-    if request.signalled {
-        marks.push(Mark::Done {
-            queue,
-            completion: send_completion(queue, place, request, WcStatus::Success, 0),
-            cause: None,
-        });
-    }
-}
-
 /// The operation was refused: its request fails.
 fn refuse(
     alloc: Global,
@@ -115,13 +96,10 @@ fn refuse(
     ensures err { OnErr result (q.new ≡ q.old) }
     ensures err_marks { OnErr result (marks.new.marks ≡ marks.old.marks) }
 {
-    let made = Made {
-        marks: Vec::new(alloc),
-        outcome: Outcome::Fails {
-            numbers: q.requester,
-            status: WcStatus::MemoryManagement,
-            cause: Some(cause),
-        },
+    let failure = Failure {
+        numbers: q.requester,
+        status: WcStatus::MemoryManagement,
+        cause: Some(cause),
     };
-    make(q, made, marks)
+    fail(alloc, q, failure, None, marks)
 }

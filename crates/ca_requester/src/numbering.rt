@@ -93,18 +93,6 @@ pub(crate) fn numbered_at(q: &QueuePart, place: u64, first: u64) -> Option<Numbe
     }
 }
 
-/// The request that has begun and has this PSN. It takes no memory.
-#[tactic(auto, using(crate::proofs::NumberingLemmas::start_within))]
-pub fn request_at(q: &QueuePart, psn: u64) -> Option<Numbered<'_>>
-    requires queue { IsQueue (queue_of q.now) }
-    requires narrow { AreNarrow (queue_of q.now) }
-    ensures request { option_map numbered_of result ≡ numbering.request_at psn (queue_of q.now) }
-    ensures psn { IfSome result (λ n. (n.first ≤ psn) × (psn < n.first + n.count)) }
-    ensures sound { IfSome result (λ n. IsSound (queue_of q.now) (numbered_of n)) }
-{
-    find_psn(q, q.requester.oldest, q.requester.oldest_psn, psn)
-}
-
 /// The request that has begun and has this PSN, under numbers that the queue pair may go on with. It takes no memory.
 #[tactic(auto, using(crate::proofs::ResponseLemmas::at_under))]
 pub(crate) fn request_under<'a>(
@@ -147,37 +135,8 @@ fn has_psn(n: &Numbered<'_>, psn: u64) -> bool
     n.first <= psn && psn - n.first < u64::from(n.count)
 }
 
-/// The request that begins next. It takes no memory.
-#[tactic(auto, using(crate::proofs::NumberingLemmas::start_within))]
-pub fn next_to_begin(q: &QueuePart) -> Option<Numbered<'_>>
-    requires queue { IsQueue (queue_of q.now) }
-    requires narrow { AreNarrow (queue_of q.now) }
-    ensures request { option_map numbered_of result ≡ numbering.next_to_begin (queue_of q.now) }
-    ensures first { IfSome result (λ n. n.first ≡ begun_end (queue_of q.now)) }
-    ensures room { IfSome result (λ n. q.now.requester.next + 1 < 2 ^ 64) }
-    ensures sound { IfSome result (λ n. IsSound (queue_of q.now) (numbered_of n)) }
-{
-    first_not_begun(q, q.requester.oldest, q.requester.oldest_psn)
-}
-
-/// The first request that has not begun, from a place on before which all have.
-fn first_not_begun(q: &QueuePart, place: u64, first: u64) -> Option<Numbered<'_>>
-    requires queue { IsQueue (queue_of q.now) }
-    requires within { IsWithin place first (queue_of q.now) }
-    ensures request { option_map numbered_of result
-        ≡ slice_get (numbers_from place first (queue_of q.now)) (q.now.requester.next - place) }
-    ensures room { IfSome result (λ n. q.now.requester.next + 1 < 2 ^ 64) }
-    ensures first { IfSome result (λ n. n.first ≡ first + sum_by (λ m. m.count) (begun_from place first (queue_of q.now))) }
-    ensures sound { IfSome result (λ n. IsSound (queue_of q.now) (numbered_of n)) }
-{
-    match numbered_at(q, place, first) {
-        None => None,
-        Some(n) if place >= q.requester.next => Some(n),
-        Some(n) => first_not_begun(q, place + 1, first + u64::from(n.count)),
-    }
-}
-
 /// The request of which the next thing is: one that goes on, or the one that begins with it. It takes no memory.
+#[tactic(auto, using(crate::proofs::NumberingLemmas::start_within))]
 pub fn next_request(q: &QueuePart) -> Option<Next<'_>>
     requires queue { IsQueue (queue_of q.now) }
     requires narrow { AreNarrow (queue_of q.now) }
@@ -185,17 +144,38 @@ pub fn next_request(q: &QueuePart) -> Option<Next<'_>>
     ensures begins_none { IfNone result (requester.begins (queue_of q.now) ≡ false) }
     ensures some { IfSome result (λ next. IsNext (queue_of q.now) next) }
 {
-    match request_at(q, q.requester.cursor) {
-        Some(request) => Some(Next {
+    next_from(q, q.requester.oldest, q.requester.oldest_psn)
+}
+
+/// The same among the requests from a place on, where none before it goes on or begins.
+fn next_from(q: &QueuePart, place: u64, first: u64) -> Option<Next<'_>>
+    requires queue { IsQueue (queue_of q.now) }
+    requires within { IsWithin place first (queue_of q.now) }
+    ensures none { IfNone result (find (numbering.has_psn q.now.requester.cursor) (begun_from place first (queue_of q.now)) ≡ None) }
+    ensures none_begins { IfNone result (slice_get (numbers_from place first (queue_of q.now)) (q.now.requester.next - place) ≡ None) }
+    ensures goes_on { IfSome result (λ next. next.begins ≡ false →
+        find (numbering.has_psn q.now.requester.cursor) (begun_from place first (queue_of q.now)) ≡ Some (numbered_of next.request)) }
+    ensures psn { IfSome result (λ next. next.begins ≡ false →
+        (next.request.first ≤ q.now.requester.cursor) × (q.now.requester.cursor < next.request.first + next.request.count)) }
+    ensures begins { IfSome result (λ next. next.begins ≡ true →
+        find (numbering.has_psn q.now.requester.cursor) (begun_from place first (queue_of q.now)) ≡ None) }
+    ensures begun { IfSome result (λ next. next.begins ≡ true →
+        slice_get (numbers_from place first (queue_of q.now)) (q.now.requester.next - place) ≡ Some (numbered_of next.request)) }
+    ensures first { IfSome result (λ next. next.begins ≡ true →
+        next.request.first ≡ first + sum_by (λ m. m.count) (begun_from place first (queue_of q.now))) }
+    ensures room { IfSome result (λ next. next.begins ≡ true → q.now.requester.next + 1 < 2 ^ 64) }
+    ensures sound { IfSome result (λ next. IsSound (queue_of q.now) (numbered_of next.request)) }
+{
+    match numbered_at(q, place, first) {
+        None => None,
+        Some(request) if place >= q.requester.next => Some(Next {
+            request,
+            begins: true,
+        }),
+        Some(request) if has_psn(&request, q.requester.cursor) => Some(Next {
             request,
             begins: false,
         }),
-        None => match next_to_begin(q) {
-            Some(request) => Some(Next {
-                request,
-                begins: true,
-            }),
-            None => None,
-        },
+        Some(n) => next_from(q, place + 1, first + u64::from(n.count)),
     }
 }

@@ -4,6 +4,7 @@ ghost use Rattle.ca_base.specs.declared.access.Kind.{Kind};
 ghost use Rattle.ca_base.specs.declared.limits.TheConstants.{MAX_PAYLOAD_BYTES};
 ghost use Rattle.ca_model.specs.Requests as requests;
 ghost use Rattle.ca_model.specs.machine.Invariants.{IsQueue, IsList};
+ghost use Rattle.ca_model.specs.machine.Numbering.{is_atomic_op};
 ghost use Rattle.ca_model.specs.machine.Requester as requester;
 ghost use Rattle.ca_qpstate.specs.Seen.{queue_of};
 ghost use Rattle.ca_requester.specs.Numbering.{numbered_of, IsSound};
@@ -16,7 +17,7 @@ ghost use Rattle.ca_wire.specs.Packet.{IsWellFormed, fields_of};
 use crate::numbering::Numbered;
 use arrayvec::ArrayVec;
 use ca_base::limits::MAX_PIECES;
-use ca_base::{Ask, Key, Kind, Memory, Piece, SendOp};
+use ca_base::{Ask, Key, Kind, Memory, Piece, SendOp, SendRequest};
 use ca_qpstate::QueuePart;
 use ca_rows::{
     carried_bytes, list_asks, list_length, list_of, peer_number, psn_bits, segments,
@@ -91,45 +92,79 @@ fn packet_of<'a>(q: &QueuePart, n: &Numbered<'_>, payload: &'a [u8]) -> Packet<'
     ensures fields { packet_fields (queue_of q.now) (numbered_of n.now) payload.now ≡ Some (fields_of result) }
     ensures well_formed { IsWellFormed (fields_of result) }
 {
-    let request = n.request();
-    let head = Head {
-        index: index_of_packet(q, n),
-        solicited: request.solicited,
-        mtu: q.responder.mtu,
-        queue: peer_number(q),
-        psn: psn_bits(q.requester.cursor),
-    };
-    match &request.op {
-        SendOp::Send { list } => send_of(&head, SendKind::Plain, list.as_slice(), payload),
+    let head = head_of(q, n, payload);
+    match n.op() {
+        SendOp::Send { list } => send_of(&head, SendKind::Plain, list.as_slice()),
         SendOp::SendImm { imm, list } => {
-            send_of(
-                &head,
-                SendKind::WithImmediate(*imm),
-                list.as_slice(),
-                payload,
-            )
+            send_of(&head, SendKind::WithImmediate(*imm), list.as_slice())
         }
         SendOp::SendInv { key, list } => {
-            send_of(
-                &head,
-                SendKind::WithInvalidate(*key),
-                list.as_slice(),
-                payload,
-            )
+            send_of(&head, SendKind::WithInvalidate(*key), list.as_slice())
         }
         SendOp::Write { address, key, list } => {
-            write_of(&head, *address, *key, None, list.as_slice(), payload)
+            write_of(&head, *address, *key, None, list.as_slice())
         }
         SendOp::WriteImm {
             address,
             key,
             imm,
             list,
-        } => write_of(&head, *address, *key, Some(*imm), list.as_slice(), payload),
+        } => write_of(&head, *address, *key, Some(*imm), list.as_slice()),
         SendOp::Read { address, key, list } => {
             let reth = reth_behind(bytes_before(q, n), *address, *key, list.as_slice());
             read_request(reth, head.queue, head.psn)
         }
+        SendOp::CmpSwap { .. } | SendOp::FetchAdd { .. } => atomic_of(&head, n.request()),
+        SendOp::Bind1 { .. }
+        | SendOp::Bind2 { .. }
+        | SendOp::FastReg { .. }
+        | SendOp::LocalInv { .. } => unreachable!(),
+    }
+}
+
+/// What a packet has of its queue pair and of its request, and its payload.
+#[derive(Clone, Copy)]
+struct Head<'a> {
+    index: u32,
+    solicited: bool,
+    mtu: u16,
+    queue: u32,
+    psn: u32,
+    payload: &'a [u8],
+}
+
+/// What the next packet has.
+fn head_of<'a>(q: &QueuePart, n: &Numbered<'_>, payload: &'a [u8]) -> Head<'a>
+    requires queue { IsQueue (queue_of q.now) }
+    requires packet { IsPacket (queue_of q.now) (numbered_of n.now) }
+    ensures index { result.index ≡ requester.index_of_packet (queue_of q.now) (numbered_of n.now) }
+    ensures solicited { result.solicited ≡ (numbered_of n.now).request.solicited }
+    ensures mtu { result.mtu ≡ q.now.responder.mtu }
+    ensures queue { result.queue ≡ requester.peer_number (queue_of q.now) }
+    ensures number { result.queue < 2 ^ 24 }
+    ensures psn { result.psn ≡ requester.psn_bits q.now.requester.cursor }
+    ensures narrow { result.psn < 2 ^ 24 }
+    ensures payload { result.payload.now ≡ payload.now }
+{
+    Head {
+        index: index_of_packet(q, n),
+        solicited: n.request().solicited,
+        mtu: q.responder.mtu,
+        queue: peer_number(q),
+        psn: psn_bits(q.requester.cursor),
+        payload,
+    }
+}
+
+/// A packet of an atomic.
+fn atomic_of<'a>(head: &Head<'a>, request: &SendRequest) -> Packet<'a>
+    requires atomic { is_atomic_op request.now.op ≡ true }
+    requires queue { head.now.queue < 2 ^ 24 }
+    requires psn { head.now.psn < 2 ^ 24 }
+    ensures fields { requests.request_packet head.now.mtu request.now head.now.index head.now.queue head.now.psn head.now.payload.now ≡ Some (fields_of result) }
+    ensures well_formed { IsWellFormed (fields_of result) }
+{
+    match &request.op {
         SendOp::CmpSwap {
             address,
             key,
@@ -151,25 +186,12 @@ fn packet_of<'a>(q: &QueuePart, n: &Numbered<'_>, payload: &'a [u8]) -> Packet<'
             add,
             ..
         } => fetch_add(*address, *key, *add, head.queue, head.psn),
-        SendOp::Bind1 { .. }
-        | SendOp::Bind2 { .. }
-        | SendOp::FastReg { .. }
-        | SendOp::LocalInv { .. } => unreachable!(),
+        _ => unreachable!(),
     }
 }
 
-/// What a packet has of its queue pair and of its request.
-#[derive(Clone, Copy)]
-struct Head {
-    index: u32,
-    solicited: bool,
-    mtu: u16,
-    queue: u32,
-    psn: u32,
-}
-
 /// The segment at the index of a message with the bytes of a list.
-fn segment_of(head: &Head, list: &[Piece]) -> Segment
+fn segment_of(head: &Head<'_>, list: &[Piece]) -> Segment
     requires mtu { 0 < head.now.mtu }
     requires list { IsList list.now }
     ensures { result ≡ requests.segment head.now.mtu (requests.list_length list.now) head.now.index }
@@ -181,15 +203,15 @@ fn segment_of(head: &Head, list: &[Piece]) -> Segment
 }
 
 /// A packet of a SEND.
-fn send_of<'a>(head: &Head, kind: SendKind, list: &[Piece], payload: &'a [u8]) -> Packet<'a>
+fn send_of<'a>(head: &Head<'a>, kind: SendKind, list: &[Piece]) -> Packet<'a>
     requires mtu { 0 < head.now.mtu }
     requires list { IsList list.now }
     requires index { head.now.index < requests.segments head.now.mtu (requests.list_length list.now) }
     requires queue { head.now.queue < 2 ^ 24 }
     requires psn { head.now.psn < 2 ^ 24 }
-    requires payload { length payload.now ≤ MAX_PAYLOAD_BYTES }
+    requires payload { length head.now.payload.now ≤ MAX_PAYLOAD_BYTES }
     ensures fields { fields_of result ≡ packets.send_packet kind (requests.segment head.now.mtu (requests.list_length list.now) head.now.index)
-        head.now.solicited head.now.queue head.now.psn payload.now }
+        head.now.solicited head.now.queue head.now.psn head.now.payload.now }
     ensures well_formed { IsWellFormed (fields_of result) }
 {
     send_packet(
@@ -198,27 +220,26 @@ fn send_of<'a>(head: &Head, kind: SendKind, list: &[Piece], payload: &'a [u8]) -
         head.solicited,
         head.queue,
         head.psn,
-        payload,
+        head.payload,
     )
 }
 
 /// A packet of a WRITE.
 fn write_of<'a>(
-    head: &Head,
+    head: &Head<'a>,
     address: u64,
     key: Key,
     imm: Option<u32>,
     list: &[Piece],
-    payload: &'a [u8],
 ) -> Packet<'a>
     requires mtu { 0 < head.now.mtu }
     requires list { IsList list.now }
     requires index { head.now.index < requests.segments head.now.mtu (requests.list_length list.now) }
     requires queue { head.now.queue < 2 ^ 24 }
     requires psn { head.now.psn < 2 ^ 24 }
-    requires payload { length payload.now ≤ MAX_PAYLOAD_BYTES }
+    requires payload { length head.now.payload.now ≤ MAX_PAYLOAD_BYTES }
     ensures fields { fields_of result ≡ packets.write_packet (requests.segment head.now.mtu (requests.list_length list.now) head.now.index)
-        (reth_of address key (requests.list_length list.now)) imm head.now.solicited head.now.queue head.now.psn payload.now }
+        (reth_of address key (requests.list_length list.now)) imm head.now.solicited head.now.queue head.now.psn head.now.payload.now }
     ensures well_formed { IsWellFormed (fields_of result) }
 {
     let reth = Reth {
@@ -233,7 +254,7 @@ fn write_of<'a>(
         head.solicited,
         head.queue,
         head.psn,
-        payload,
+        head.payload,
     )
 }
 

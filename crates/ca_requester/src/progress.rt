@@ -1,4 +1,4 @@
-ghost use Rattle.std.specs.Prelude.{false, ◌≡◌, ◌+◌, ◌≤◌, ◌<◌, ◌^◌, ◌++◌, ◌&&◌, length, max, nat_lt, sum_by, IfOk, IfSome, OnOk};
+ghost use Rattle.std.specs.Prelude.{false, ◌≡◌, ◌+◌, ◌≤◌, ◌<◌, ◌^◌, ◌&&◌, length, max, nat_lt, sum_by, IfSome};
 ghost use Rattle.ca_base.specs.objects.QueuePair.{QueuePair};
 ghost use Rattle.ca_model.specs.machine.Acknowledgements as acknowledgements;
 ghost use Rattle.ca_model.specs.machine.Acknowledgements.{with_requester};
@@ -7,82 +7,50 @@ ghost use Rattle.ca_model.specs.machine.Numbering.{is_answered_op, psn_end};
 ghost use Rattle.ca_qpstate.specs.Seen.{queue_of};
 ghost use Rattle.ca_rows.specs.Narrow.{AreNarrow};
 ghost use Rattle.ca_requester.specs.Numbering.{begun_from, numbered_of, IsWithin};
-ghost use Rattle.ca_requester.specs.Outcome.{AreAhead, effects_of, numbers_of, outcome_effects};
-ghost use Rattle.ca_requester.specs.Progress.{AreNumbers, acknowledgement_of, finished_from, finished_marks_from, numbers_with_una};
+ghost use Rattle.ca_requester.specs.Progress.{AreNumbers, acknowledgement_of, finished_from, numbers_with_una, reached_numbers, success_between, una_behind};
 
 use crate::numbering::{Numbered, numbered_at};
-use crate::outcome::{Made, Outcome, one_retry};
-use ca_base::{Memory, RequesterNumbers};
-use ca_model::Mark;
+use ca_base::RequesterNumbers;
 use ca_qpstate::QueuePart;
-use ca_rows::{is_answered, push_success};
-use std::alloc::Global;
+use ca_rows::is_answered;
 
-/// Where the oldest unfinished request stands: its place, and the first PSN that it has or would get.
+/// Where the oldest unfinished request stands after an acknowledgement: its place, and the first PSN that it has or would
+/// get; and the PSN to which the requester goes back, if it does.
 #[derive(Clone, Copy)]
-pub struct Oldest {
+pub(crate) struct Reached {
     pub place: u64,
     pub first: u64,
+    pub back: Option<u64>,
 }
 
-/// The oldest request behind those from a place on that have begun and whose PSNs all lie below `una`.
-fn oldest_behind(q: &QueuePart, place: u64, first: u64, una: u64) -> Oldest
+/// How far an acknowledgement of all below a PSN goes among the requests from a place on that have begun: up to the first
+/// READ or atomic with a PSN from `una` on and below it, or up to the first that does not end below it.
+fn reached_by(q: &QueuePart, place: u64, first: u64, una: u64, psn: u64) -> Reached
     requires queue { IsQueue (queue_of q.now) }
     requires within { IsWithin place first (queue_of q.now) }
-    ensures place { result.place ≡ place + length (finished_from place first una (queue_of q.now)) }
-    ensures first { result.first ≡ first + sum_by (λ n. n.count) (finished_from place first una (queue_of q.now)) }
+    ensures back { result.back ≡ acknowledgements.first_unanswered una psn (begun_from place first (queue_of q.now)) }
+    ensures behind { IfSome result.back (λ back. (una ≤ back) × (first ≤ back)) }
+    ensures place { result.place ≡ place + length (finished_from place first (una_behind una psn result.back) (queue_of q.now)) }
+    ensures first { result.first ≡ first + sum_by (λ n. n.count) (finished_from place first (una_behind una psn result.back) (queue_of q.now)) }
     ensures within { IsWithin result.place result.first (queue_of q.now) }
     ensures begun { place ≤ q.now.requester.next → result.place ≤ q.now.requester.next }
 {
+    let here = Reached {
+        place,
+        first,
+        back: None,
+    };
     if place >= q.requester.next {
-        return Oldest { place, first };
+        return here;
     }
     match numbered_at(q, place, first) {
-        None => Oldest { place, first },
-        Some(n) if n.end() > una => Oldest { place, first },
-        Some(n) => oldest_behind(q, place + 1, first + u64::from(n.count), una),
-    }
-}
-
-/// Adds the completions of the requests from a place on that have begun and whose PSNs all lie below `una`.
-fn push_finished(
-    q: &QueuePart,
-    place: u64,
-    first: u64,
-    una: u64,
-    made: &mut Vec<Mark>,
-) -> Result<(), Memory>
-    requires queue { IsQueue (queue_of q.now) }
-    requires within { IsWithin place first (queue_of q.now) }
-    ensures { OnOk result (made.new.items ≡ made.old.items ++ finished_marks_from place first una (queue_of q.now)) }
-{
-    if place >= q.requester.next {
-        return Ok(());
-    }
-    match numbered_at(q, place, first) {
-        None => Ok(()),
-        Some(n) if n.end() > una => Ok(()),
-        Some(n) => {
-            push_success(q.queue, n.place, n.request(), made)?;
-            push_finished(q, place + 1, first + u64::from(n.count), una, made)
-        }
-    }
-}
-
-/// The first PSN of a READ or an atomic from `una` on and below another, among the requests from a place on that have
-/// begun.
-fn first_unanswered(q: &QueuePart, place: u64, first: u64, una: u64, psn: u64) -> Option<u64>
-    requires queue { IsQueue (queue_of q.now) }
-    requires within { IsWithin place first (queue_of q.now) }
-    ensures value { result ≡ acknowledgements.first_unanswered una psn (begun_from place first (queue_of q.now)) }
-{
-    if place >= q.requester.next {
-        return None;
-    }
-    match numbered_at(q, place, first) {
-        None => None,
-        Some(n) if is_unanswered(&n, una, psn) => Some(una.max(n.first)),
-        Some(n) => first_unanswered(q, place + 1, first + u64::from(n.count), una, psn),
+        None => here,
+        Some(n) if is_unanswered(&n, una, psn) => Reached {
+            back: Some(una.max(n.first)),
+            ..here
+        },
+        Some(n) if n.end() > una.max(psn) => here,
+        Some(n) => reached_by(q, place + 1, first + u64::from(n.count), una, psn),
     }
 }
 
@@ -101,42 +69,30 @@ fn with_una(numbers: RequesterNumbers, psn: u64) -> RequesterNumbers
     }
 }
 
-/// The numbers after all below a PSN is acknowledged. It takes no memory.
-#[tactic(auto, using(crate::proofs::ProgressLemmas::progress_queue))]
+/// The numbers after all below a PSN is acknowledged, with the oldest unfinished request there.
+fn numbers_at(numbers: RequesterNumbers, psn: u64, reached: &Reached) -> RequesterNumbers
+    ensures { result ≡ reached_numbers psn reached.now numbers }
+{
+    RequesterNumbers {
+        oldest: reached.place,
+        oldest_psn: reached.first,
+        ..with_una(numbers, psn)
+    }
+}
+
+/// The numbers after all below a PSN is acknowledged, where nothing is gone back to. It takes no memory.
 pub(crate) fn progressed(q: &QueuePart, numbers: RequesterNumbers, psn: u64) -> RequesterNumbers
     requires queue { IsQueue (queue_of q.now) }
     requires numbers { AreNumbers (queue_of q.now) numbers }
     ensures value { with_requester result (queue_of q.now) ≡ (acknowledgements.progress_to psn (with_requester numbers (queue_of q.now))).queue }
+    ensures marks { (acknowledgements.progress_to psn (with_requester numbers (queue_of q.now))).marks
+        ≡ success_between numbers.oldest result.oldest (queue_of q.now) }
     ensures numbers { AreNumbers (queue_of q.now) result }
+    ensures later { numbers.oldest ≤ result.oldest }
 {
-    let grown = with_una(numbers, psn);
-    let oldest = oldest_behind(q, numbers.oldest, numbers.oldest_psn, grown.una);
-    RequesterNumbers {
-        oldest: oldest.place,
-        oldest_psn: oldest.first,
-        ..grown
-    }
-}
-
-/// Adds the completions of what is finished after all below a PSN is acknowledged.
-#[tactic(auto, using(crate::proofs::ProgressLemmas::progress_marks))]
-pub(crate) fn push_progress(
-    q: &QueuePart,
-    numbers: RequesterNumbers,
-    psn: u64,
-    made: &mut Vec<Mark>,
-) -> Result<(), Memory>
-    requires queue { IsQueue (queue_of q.now) }
-    requires numbers { AreNumbers (queue_of q.now) numbers }
-    ensures { OnOk result (made.new.items ≡ made.old.items ++ (acknowledgements.progress_to psn (with_requester numbers (queue_of q.now))).marks) }
-{
-    push_finished(
-        q,
-        numbers.oldest,
-        numbers.oldest_psn,
-        with_una(numbers, psn).una,
-        made,
-    )
+    let una = with_una(numbers, psn).una;
+    let reached = reached_by(q, numbers.oldest, numbers.oldest_psn, una, una);
+    numbers_at(numbers, psn, &reached)
 }
 
 /// How far an acknowledgement goes, whether it went back, and the numbers before it did.
@@ -155,20 +111,24 @@ pub(crate) fn acknowledged_below(q: &QueuePart, psn: u64) -> Acknowledged
     requires narrow { AreNarrow (queue_of q.now) }
     ensures value { acknowledgements.acknowledgement_below psn (queue_of q.now) ≡ acknowledgement_of result.went_back result.until (queue_of q.now) }
     ensures queue { with_requester result.numbers (queue_of q.now) ≡ (acknowledgements.progress_to result.until (queue_of q.now)).queue }
+    ensures marks { (acknowledgements.progress_to result.until (queue_of q.now)).marks
+        ≡ success_between q.now.requester.oldest result.numbers.oldest (queue_of q.now) }
     ensures numbers { AreNumbers (queue_of q.now) result.numbers }
     ensures on { result.went_back ≡ false → result.until ≡ psn }
 {
     let numbers = q.requester;
-    match first_unanswered(q, numbers.oldest, numbers.oldest_psn, numbers.una, psn) {
+    let una = numbers.una;
+    let reached = reached_by(q, numbers.oldest, numbers.oldest_psn, una, psn);
+    match reached.back {
         None => Acknowledged {
             until: psn,
             went_back: false,
-            numbers: progressed(q, numbers, psn),
+            numbers: numbers_at(numbers, psn, &reached),
         },
         Some(back) => Acknowledged {
             until: back,
             went_back: true,
-            numbers: progressed(q, numbers, back),
+            numbers: numbers_at(numbers, back, &reached),
         },
     }
 }

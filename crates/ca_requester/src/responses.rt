@@ -12,12 +12,12 @@ ghost use Rattle.ca_wire.specs.Syndrome.{syndrome_in};
 ghost use Rattle.ca_rows.specs.Narrow.{AreNarrow};
 ghost use Rattle.ca_requester.specs.Numbering.{IsSound, numbered_of};
 ghost use Rattle.ca_requester.specs.declared.outcome.Outcome.TheVariants.{Fails};
-ghost use Rattle.ca_requester.specs.Outcome.{AreAhead, numbers_of, outcome_effects};
+ghost use Rattle.ca_requester.specs.Outcome.{failure_of, numbers_of, outcome_effects};
 ghost use Rattle.ca_requester.specs.Progress.{AreNumbers};
-ghost use Rattle.ca_requester.specs.Responses.{IsResponse, ended_effects, fitting, row_of};
+ghost use Rattle.ca_requester.specs.Responses.{IsEnd, IsResponse, ended_effects, fitting, row_of};
 
 use crate::numbering::{Numbered, request_under};
-use crate::outcome::{Outcome, one_retry};
+use crate::outcome::{Failure, Outcome, one_retry};
 use crate::progress::acknowledged_below;
 use crate::turn::is_sending;
 use ca_base::limits::MAX_RETRY;
@@ -97,7 +97,7 @@ fn acknowledge(q: &QueuePart, psn: u64, syndrome: Syndrome) -> Ended
     requires narrow { AreNarrow (queue_of q.now) }
     requires psn { psn < 2 ^ 62 }
     ensures effects { ended_effects result (queue_of q.now) ≡ rows.acknowledge_row psn (Some syndrome) (queue_of q.now) }
-    ensures ahead { AreAhead (queue_of q.now) (numbers_of result.outcome) }
+    ensures end { IsEnd (queue_of q.now) result }
 {
     match syndrome {
         Syndrome::Ack(_) => on_ack(q, psn),
@@ -107,13 +107,13 @@ fn acknowledge(q: &QueuePart, psn: u64, syndrome: Syndrome) -> Ended
 }
 
 /// An acknowledgement of all up to a PSN.
-#[tactic(auto, using(crate::proofs::ResponseLemmas::ack_back, crate::proofs::ResponseLemmas::ack_on, crate::proofs::ResponseLemmas::are_ahead))]
+#[tactic(auto, using(crate::proofs::ResponseLemmas::ack_back, crate::proofs::ResponseLemmas::ack_on, crate::proofs::ResponseLemmas::is_end))]
 fn on_ack(q: &QueuePart, psn: u64) -> Ended
     requires queue { IsQueue (queue_of q.now) }
     requires narrow { AreNarrow (queue_of q.now) }
     requires psn { psn < 2 ^ 62 }
     ensures effects { ended_effects result (queue_of q.now) ≡ (acknowledgement_below (suc psn) (queue_of q.now)).effects }
-    ensures ahead { AreAhead (queue_of q.now) (numbers_of result.outcome) }
+    ensures end { IsEnd (queue_of q.now) result }
 {
     let acknowledged = acknowledged_below(q, psn + 1);
     if acknowledged.went_back {
@@ -129,12 +129,12 @@ fn on_ack(q: &QueuePart, psn: u64) -> Ended
 }
 
 /// An RNR NAK of the request at a PSN.
-#[tactic(auto, using(crate::proofs::ResponseLemmas::then_back, crate::proofs::ResponseLemmas::then_on, crate::proofs::ResponseLemmas::are_ahead))]
+#[tactic(auto, using(crate::proofs::ResponseLemmas::then_back, crate::proofs::ResponseLemmas::then_on, crate::proofs::ResponseLemmas::is_end))]
 fn on_rnr_nak(q: &QueuePart, psn: u64) -> Ended
     requires queue { IsQueue (queue_of q.now) }
     requires narrow { AreNarrow (queue_of q.now) }
     ensures effects { ended_effects result (queue_of q.now) ≡ rows.unless_back (acknowledgement_below psn (queue_of q.now)) (rows.rnr_nak_effects psn) }
-    ensures ahead { AreAhead (queue_of q.now) (numbers_of result.outcome) }
+    ensures end { IsEnd (queue_of q.now) result }
 {
     let acknowledged = acknowledged_below(q, psn);
     if acknowledged.went_back {
@@ -150,12 +150,12 @@ fn on_rnr_nak(q: &QueuePart, psn: u64) -> Ended
 }
 
 /// A NAK of the request at a PSN.
-#[tactic(auto, using(crate::proofs::ResponseLemmas::then_back, crate::proofs::ResponseLemmas::then_on, crate::proofs::ResponseLemmas::are_ahead))]
+#[tactic(auto, using(crate::proofs::ResponseLemmas::then_back, crate::proofs::ResponseLemmas::then_on, crate::proofs::ResponseLemmas::is_end))]
 fn on_nak(q: &QueuePart, psn: u64, code: NakCode) -> Ended
     requires queue { IsQueue (queue_of q.now) }
     requires narrow { AreNarrow (queue_of q.now) }
     ensures effects { ended_effects result (queue_of q.now) ≡ rows.unless_back (acknowledgement_below psn (queue_of q.now)) (rows.nak_effects psn code) }
-    ensures ahead { AreAhead (queue_of q.now) (numbers_of result.outcome) }
+    ensures end { IsEnd (queue_of q.now) result }
 {
     let acknowledged = acknowledged_below(q, psn);
     if acknowledged.went_back {
@@ -207,17 +207,17 @@ fn nak(numbers: RequesterNumbers, psn: u64, code: NakCode) -> Outcome
 
 /// The oldest unfinished request fails, and no local operation is its cause.
 fn failure(numbers: RequesterNumbers, status: WcStatus) -> Outcome
-    ensures { result ≡ Fails numbers status None }
+    ensures { result ≡ Fails (failure_of numbers status) }
 {
-    Outcome::Fails {
+    Outcome::Fails(Failure {
         numbers,
         status,
         cause: None,
-    }
+    })
 }
 
 /// An answer: an implied NAK, one that does not fit its request, or one whose bytes go to its list.
-#[tactic(auto, using(crate::proofs::ResponseLemmas::answer_back, crate::proofs::ResponseLemmas::answer_fails, crate::proofs::ResponseLemmas::answer_fits, crate::proofs::ResponseLemmas::are_ahead))]
+#[tactic(auto, using(crate::proofs::ResponseLemmas::answer_back, crate::proofs::ResponseLemmas::answer_fails, crate::proofs::ResponseLemmas::answer_fits, crate::proofs::ResponseLemmas::is_end))]
 fn answer_of<'a>(q: &'a QueuePart, p: &Packet<'_>, psn: u64) -> Response<'a>
     requires queue { IsQueue (queue_of q.now) }
     requires narrow { AreNarrow (queue_of q.now) }

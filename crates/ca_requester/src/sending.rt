@@ -1,4 +1,4 @@
-ghost use Rattle.std.specs.Prelude.{◌≡◌, ◌+◌, ◌≤◌, ◌++◌, Bool, false, not, if◌then◌else◌, None, Some, length, map, IfOk, IfErr, OnOk, OnErr};
+ghost use Rattle.std.specs.Prelude.{◌≡◌, ◌+◌, ◌≤◌, ◌++◌, Bool, false, not, if◌then◌else◌, None, Some, [], drop, length, map, take, IfOk, IfErr, OnOk, OnErr};
 ghost use Rattle.std.specs.List.{AllByRecursion, flat_map};
 ghost use Rattle.ca_base.specs.declared.access.Kind.{Kind};
 ghost use Rattle.ca_base.specs.declared.limits.TheConstants.{MAX_PAYLOAD_BYTES, MAX_PIECES};
@@ -10,7 +10,7 @@ ghost use Rattle.ca_model.specs.machine.Invariants.{IsQueue};
 ghost use Rattle.ca_model.specs.machine.Requester as requester;
 ghost use Rattle.ca_model.specs.machine.Row.{ending_of, plain_row, NotPossible};
 ghost use Rattle.ca_qpstate.specs.Seen.{queue_of};
-ghost use Rattle.ca_rows.specs.Asks.{IsAskOf, IsGranted, touched_by};
+ghost use Rattle.ca_rows.specs.Asks.{IsAskOf, IsGranted, bytes_read, touched_by};
 ghost use Rattle.ca_rows.specs.Done.{IsTurn, handed};
 ghost use Rattle.ca_rows.specs.Narrow.{AreNarrow};
 ghost use Rattle.ca_wire.specs.declared.packet.TheConstants.{MAX_PACKET_BYTES};
@@ -20,7 +20,7 @@ ghost use Rattle.ca_requester.specs.Turn as turns;
 ghost use Rattle.ca_requester.specs.Turn.{turn_row};
 
 use crate::numbering::{Next, Numbered};
-use crate::outcome::{Made, Outcome, make};
+use crate::outcome::{Failure, fail};
 use crate::packet::{packet_asks, spell};
 use crate::turn::{end_of_packet, is_too_much, turn_of};
 use arrayvec::ArrayVec;
@@ -29,7 +29,7 @@ use ca_base::{Ask, Memory, Reason, RequesterNumbers, Sent, StepError, WcStatus};
 use ca_grant::Reach;
 use ca_model::Marks;
 use ca_qpstate::QueuePart;
-use ca_rows::{DeniedAsk, first_denied, is_local, join, local_denial, mark_reads, read_all};
+use ca_rows::{DeniedAsk, first_denied, is_local, join, keep_marks, local_denial, read_all};
 use std::alloc::Global;
 
 /// The asks that `next_packet` may make, in order; it makes no other. It takes no memory.
@@ -134,17 +134,12 @@ fn fail_list(
     ensures err { OnErr result (q.new ≡ q.old) }
     ensures err_marks { OnErr result (marks.new.marks ≡ marks.old.marks) }
 {
-    let mut first = Vec::new(alloc);
-    first.push(local_denial(denied))?;
-    let made = Made {
-        marks: first,
-        outcome: Outcome::Fails {
-            numbers: q.requester,
-            status: WcStatus::LocalProtection,
-            cause: None,
-        },
+    let failure = Failure {
+        numbers: q.requester,
+        status: WcStatus::LocalProtection,
+        cause: None,
     };
-    make(q, made, marks)
+    fail(alloc, q, failure, Some(local_denial(denied)), marks)
 }
 
 /// The requester's numbers after the packet.
@@ -167,7 +162,6 @@ fn numbers_sent(q: &QueuePart, next: &Next<'_>) -> RequesterNumbers
 }
 
 /// Reads the bytes of a packet, spells it, and adds a mark for each piece that was read.
-#[tactic(auto, using(crate::proofs::TurnLemmas::marks_read, crate::proofs::TurnLemmas::bytes_read, crate::proofs::TurnLemmas::reads_count))]
 fn read_and_spell<R: Reach>(
     alloc: Global,
     q: &QueuePart,
@@ -194,12 +188,61 @@ fn read_and_spell<R: Reach>(
     ensures err_marks { OnErr result (marks.new.marks ≡ marks.old.marks) }
     ensures err_out { OnErr result (out.new.items ≡ out.old.items) }
 {
-    let mut reads = Vec::with_capacity(alloc, asks.len())?;
-    read_all(alloc, reach, asks, &mut reads)?;
     marks.reserve(asks.len() as u32 + 2)?;
+    let count = marks.as_slice().len();
+    match read_then_spell(alloc, q, n, reach, asks, marks, out) {
+        Ok(()) => Ok(()),
+        Err(memory) => {
+            keep_marks(alloc, marks, count);
+            Err(memory)
+        }
+    }
+}
+
+/// The same in the spare room. Where memory ends, some of the marks stand behind those that there were.
+#[tactic(auto, using(crate::proofs::TurnLemmas::marks_read, crate::proofs::TurnLemmas::front_behind))]
+fn read_then_spell<R: Reach>(
+    alloc: Global,
+    q: &QueuePart,
+    n: &Numbered<'_>,
+    reach: &mut R,
+    asks: &[Ask],
+    marks: &mut Marks,
+    out: &mut Vec<u8>,
+) -> Result<(), Memory>
+    requires queue { IsQueue (queue_of q.now) }
+    requires packet { IsPacket (queue_of q.now) (numbered_of n.now) }
+    requires keys { AllByRecursion (R.judges reach.old) asks.now }
+    requires bytes { AllByRecursion (R.touches reach.old) asks.now }
+    requires reads { AllByRecursion (IsAskOf Kind.Read) asks.now }
+    requires allowed { AllByRecursion (IsGranted (R.sight reach.old)) asks.now }
+    requires touched { touched_by asks.now ≤ MAX_PAYLOAD_BYTES }
+    requires room { length asks.now + 2 ≤ marks.old.room }
+    ensures marks { OnOk result (marks.new.marks ≡ marks.old.marks ++ requester.local_reads asks.now (map (bytes_in (R.sight reach.old)) asks.now)) }
+    ensures out { OnOk result (out.new.items ≡ out.old.items
+        ++ requester.spelt_packet (queue_of q.now) (numbered_of n.now) (flat_map (λ b. b) (map (bytes_in (R.sight reach.old)) asks.now))) }
+    ensures size { OnOk result (length out.new.items ≤ length out.old.items + MAX_PACKET_BYTES) }
+    ensures room { OnOk result (2 ≤ marks.new.room) }
+    ensures same { reach.new ≡ reach.old }
+    ensures front { OnErr result (take (length marks.old.marks) marks.new.marks ≡ marks.old.marks) }
+    ensures err_out { OnErr result (out.new.items ≡ out.old.items) }
+{
+    let count = marks.as_slice().len();
+    read_all(alloc, reach, asks, marks)?;
     let mut joined = Vec::new(alloc);
-    let payload = join(reads.as_slice(), &mut joined)?;
-    spell(q, n, payload, out)?;
-    mark_reads(reads, marks);
-    Ok(())
+    let payload = payload_behind(marks, count, &mut joined)?;
+    spell(q, n, payload, out)
+}
+
+/// The bytes that the marks behind so many tell of.
+fn payload_behind<'a>(
+    marks: &'a Marks,
+    count: usize,
+    joined: &'a mut Vec<u8>,
+) -> Result<&'a [u8], Memory>
+    requires count { count ≤ length marks.now.marks }
+    requires joined { joined.old.items ≡ [] }
+    ensures { IfOk result (λ payload. payload.now ≡ bytes_read (drop count marks.now.marks)) }
+{
+    join(&marks.as_slice()[count..], joined)
 }

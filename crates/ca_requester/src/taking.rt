@@ -2,7 +2,7 @@ ghost use Rattle.std.specs.Prelude.{◌≡◌, ◌≤◌, ◌<◌, ◌^◌, ◌+
 ghost use Rattle.std.specs.Option.{option_map_or};
 ghost use Rattle.std.specs.List.{AllByRecursion};
 ghost use Rattle.ca_base.specs.declared.access.Kind.{Kind};
-ghost use Rattle.ca_base.specs.declared.limits.TheConstants.{MAX_PAYLOAD_BYTES};
+ghost use Rattle.ca_base.specs.declared.limits.TheConstants.{MAX_PAYLOAD_BYTES, MAX_PIECES};
 ghost use Rattle.ca_base.specs.Memory.{little_endian_bytes};
 ghost use Rattle.ca_grant.specs.Reaching.{AreAtHand};
 ghost use Rattle.ca_model.specs.declared.mark.Mark.{Mark};
@@ -18,12 +18,12 @@ ghost use Rattle.ca_rows.specs.Asks.{CanWrite, IsAskOf, IsGranted, IsWrite, asks
 ghost use Rattle.ca_rows.specs.Done.{IsTaking, handed, written_all};
 ghost use Rattle.ca_rows.specs.Narrow.{AreNarrow};
 ghost use Rattle.ca_requester.specs.Numbering.{IsSound, numbered_of};
-ghost use Rattle.ca_requester.specs.Outcome.{AreAhead, numbers_of};
-ghost use Rattle.ca_requester.specs.Progress.{AreNumbers};
-ghost use Rattle.ca_requester.specs.Responses.{IsAnswer, answer_effects, denied_effects, ended_effects};
+ghost use Rattle.ca_requester.specs.Progress.{AreNumbers, success_between};
+ghost use Rattle.ca_requester.specs.Responses.{IsAnswer, IsEnd, answer_effects, denied_effects, ended_effects};
 
-use crate::outcome::{Made, Outcome, make};
-use crate::progress::{progressed, push_progress};
+use crate::finished::{finished_count, push_finished};
+use crate::outcome::{Failure, Outcome, fail, go};
+use crate::progress::progressed;
 use crate::responses::{Answer, Ended, Response, response_of};
 use arrayvec::ArrayVec;
 use ca_base::limits::MAX_PIECES;
@@ -177,23 +177,17 @@ fn drop_packet(queue: QueueId, cause: Drop1, marks: &mut Marks) -> Result<(), Me
 fn end(alloc: Global, q: &mut QueuePart, ended: Ended, marks: &mut Marks) -> Result<(), Memory>
     requires queue { IsQueue (queue_of q.old) }
     requires narrow { AreNarrow (queue_of q.old) }
-    requires ahead { AreAhead (queue_of q.old) (numbers_of ended.outcome) }
+    requires end { IsEnd (queue_of q.old) ended }
     ensures queue { OnOk result (queue_of q.new ≡ (ended_effects ended (queue_of q.old)).queue) }
     ensures marks { OnOk result (marks.new.marks ≡ marks.old.marks ++ (ended_effects ended (queue_of q.old)).marks) }
     ensures room { OnOk result (2 ≤ marks.new.room) }
     ensures err { OnErr result (q.new ≡ q.old) }
     ensures err_marks { OnErr result (marks.new.marks ≡ marks.old.marks) }
 {
-    let mut made = Vec::new(alloc);
-    push_progress(q, q.requester, ended.until, &mut made)?;
-    make(
-        q,
-        Made {
-            marks: made,
-            outcome: ended.outcome,
-        },
-        marks,
-    )
+    match ended.outcome {
+        Outcome::Goes(numbers) => go(q, numbers, marks),
+        Outcome::Fails(failure) => fail(alloc, q, failure, None, marks),
+    }
 }
 
 /// The list is denied: the request fails.
@@ -209,31 +203,23 @@ fn deny(
     requires narrow { AreNarrow (queue_of q.old) }
     requires numbers { AreNumbers (queue_of q.old) taken.numbers }
     requires under { with_requester taken.numbers (queue_of q.old) ≡ (progress_to taken.psn (queue_of q.old)).queue }
+    requires finished { (progress_to taken.psn (queue_of q.old)).marks ≡ success_between q.old.requester.oldest taken.numbers.oldest (queue_of q.old) }
     ensures queue { OnOk result (queue_of q.new ≡ (denied_effects taken denied.now (queue_of q.old)).queue) }
     ensures marks { OnOk result (marks.new.marks ≡ marks.old.marks ++ (denied_effects taken denied.now (queue_of q.old)).marks) }
     ensures room { OnOk result (2 ≤ marks.new.room) }
     ensures err { OnErr result (q.new ≡ q.old) }
     ensures err_marks { OnErr result (marks.new.marks ≡ marks.old.marks) }
 {
-    let mut made = Vec::new(alloc);
-    push_progress(q, q.requester, taken.psn, &mut made)?;
-    made.push(local_denial(denied))?;
-    make(
-        q,
-        Made {
-            marks: made,
-            outcome: Outcome::Fails {
-                numbers: taken.numbers,
-                status: WcStatus::LocalProtection,
-                cause: None,
-            },
-        },
-        marks,
-    )
+    let failure = Failure {
+        numbers: taken.numbers,
+        status: WcStatus::LocalProtection,
+        cause: None,
+    };
+    fail(alloc, q, failure, Some(local_denial(denied)), marks)
 }
 
 /// The bytes go to the list, and all up to the answer's PSN is acknowledged.
-#[tactic(auto, using(ca_rows::proofs::WriteLemmas::can_write))]
+#[tactic(auto, using(ca_rows::proofs::WriteLemmas::can_write, crate::proofs::TakingLemmas::few_writes))]
 fn place<R: Reach>(
     alloc: Global,
     q: &mut QueuePart,
@@ -249,11 +235,13 @@ fn place<R: Reach>(
     requires psn { taken.psn < 2 ^ 62 }
     requires numbers { AreNumbers (queue_of q.old) taken.numbers }
     requires under { with_requester taken.numbers (queue_of q.old) ≡ (progress_to taken.psn (queue_of q.old)).queue }
+    requires finished { (progress_to taken.psn (queue_of q.old)).marks ≡ success_between q.old.requester.oldest taken.numbers.oldest (queue_of q.old) }
     requires keys { AllByRecursion (R.judges reach.old) asks.now }
     requires bytes { AllByRecursion (R.touches reach.old) asks.now }
     requires allowed { AllByRecursion (IsGranted (R.sight reach.old)) asks.now }
     requires asks { AllByRecursion (IsAskOf Kind.Write) asks.now }
     requires enough { touched_by asks.now ≤ length (rows.answer_bytes (fields_of p.now)) }
+    requires few { length asks.now ≤ MAX_PIECES }
     ensures queue { OnOk result (queue_of q.new ≡ (answer_effects taken (fields_of p.now) asks.now (queue_of q.old)).queue) }
     ensures marks { OnOk result (marks.new.marks ≡ marks.old.marks ++ (answer_effects taken (fields_of p.now) asks.now (queue_of q.old)).marks) }
     ensures reach { OnOk result (reach.new ≡ written_all R.written reach.old (answer_effects taken (fields_of p.now) asks.now (queue_of q.old)).writes) }
@@ -281,6 +269,8 @@ fn finish<R: Reach>(
     requires numbers { AreNumbers (queue_of q.old) taken.numbers }
     requires psn { taken.psn < 2 ^ 62 }
     requires can { CanWrite R.sight R.judges R.touches reach.old writes.items }
+    requires few { length writes.items ≤ MAX_PIECES }
+    requires finished { (progress_to taken.psn (queue_of q.old)).marks ≡ success_between q.old.requester.oldest taken.numbers.oldest (queue_of q.old) }
     ensures queue { OnOk result (queue_of q.new ≡ (progress_to (suc taken.psn) (with_requester taken.numbers (queue_of q.old))).queue) }
     ensures marks { OnOk result (marks.new.marks ≡ marks.old.marks ++ ((progress_to taken.psn (queue_of q.old)).marks
         ++ (rows.local_writes writes.items ++ (progress_to (suc taken.psn) (with_requester taken.numbers (queue_of q.old))).marks))) }
@@ -290,28 +280,12 @@ fn finish<R: Reach>(
     ensures err_marks { OnErr result (marks.new.marks ≡ marks.old.marks) }
     ensures err_reach { OnErr result (reach.new ≡ reach.old) }
 {
-    let mut before = Vec::new(alloc);
-    push_progress(q, q.requester, taken.psn, &mut before)?;
-    let mut behind = Vec::new(alloc);
-    push_progress(q, taken.numbers, taken.psn + 1, &mut behind)?;
-    reserve_for(before.len(), writes.len(), behind.len(), marks)?;
-    marks.append(before);
+    let numbers = progressed(q, taken.numbers, taken.psn + 1);
+    let count = finished_count(q, numbers.oldest) + writes.len() as u32;
+    marks.reserve(count + 2)?;
+    push_finished(q, q.requester.oldest, taken.numbers.oldest, marks);
     write_all(reach, writes, marks);
-    marks.append(behind);
-    q.requester = progressed(q, taken.numbers, taken.psn + 1);
+    push_finished(q, taken.numbers.oldest, numbers.oldest, marks);
+    q.requester = numbers;
     Ok(())
-}
-
-/// Makes room for so many marks, and two more.
-fn reserve_for(before: usize, writes: usize, behind: usize, marks: &mut Marks) -> Result<(), Memory>
-    ensures room { OnOk result (before + writes + behind + 2 ≤ marks.new.room) }
-    ensures same { marks.new.marks ≡ marks.old.marks }
-{
-    match before.checked_add(writes) {
-        None => Err(Memory),
-        Some(count) => match count.checked_add(behind) {
-            Some(count) if count < 0x1_0000_0000 - 2 => marks.reserve(count as u32 + 2),
-            _ => Err(Memory),
-        },
-    }
 }

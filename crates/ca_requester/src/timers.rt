@@ -1,16 +1,16 @@
 ghost use Rattle.std.specs.Prelude.{◌≡◌, ◌≤◌, ◌++◌, ◌∷◌, [], None, Some, IfOk, IfErr, OnOk, OnErr};
 ghost use Rattle.ca_base.specs.Refusals.{first_of};
-ghost use Rattle.ca_model.specs.declared.mark.Mark.{Mark};
+ghost use Rattle.ca_model.specs.machine.Acknowledgements.{with_requester};
 ghost use Rattle.ca_model.specs.machine.Invariants.{IsQueue};
 ghost use Rattle.ca_model.specs.machine.Timers as timers;
 ghost use Rattle.ca_qpstate.specs.Seen.{queue_of};
 ghost use Rattle.ca_rows.specs.Narrow.{AreNarrow};
 ghost use Rattle.ca_requester.specs.Timers.{reason_of};
 
-use crate::outcome::{Made, make, one_retry};
+use crate::outcome::{Outcome, fail, one_retry};
 use crate::turn::is_sending;
 use ca_base::limits::MAX_RETRY;
-use ca_base::{Memory, QueueId, Reason, RequesterNumbers, StepError};
+use ca_base::{Memory, Reason, RequesterNumbers, StepError};
 use ca_model::{Mark, Marks};
 use ca_qpstate::QueuePart;
 use std::alloc::Global;
@@ -42,21 +42,34 @@ pub fn on_timeout(
         timers: q.requester.timers + 1,
         ..q.requester
     };
-    let made = Made {
-        marks: timer_marks(alloc, q.queue, silent)?,
-        outcome: one_retry(counted, q.requester.una),
+    let mark = Mark::Timer {
+        queue: q.queue,
+        silent,
     };
-    make(q, made, marks)?;
+    match one_retry(counted, q.requester.una) {
+        Outcome::Goes(numbers) => go_back(q, numbers, mark, marks)?,
+        Outcome::Fails(failure) => fail(alloc, q, failure, Some(mark), marks)?,
+    }
     Ok(())
 }
 
-/// The mark of a timer, alone.
-fn timer_marks(alloc: Global, queue: QueueId, silent: bool) -> Result<Vec<Mark>, Memory>
-    ensures { IfOk result (λ ms. ms.items ≡ Mark.Timer queue silent ∷ []) }
+/// The requester goes back under these numbers, behind the mark of the timer.
+fn go_back(
+    q: &mut QueuePart,
+    numbers: RequesterNumbers,
+    mark: Mark,
+    marks: &mut Marks,
+) -> Result<(), Memory>
+    ensures queue { OnOk result (queue_of q.new ≡ with_requester numbers (queue_of q.old)) }
+    ensures marks { OnOk result (marks.new.marks ≡ marks.old.marks ++ mark ∷ []) }
+    ensures room { OnOk result (2 ≤ marks.new.room) }
+    ensures err { OnErr result (q.new ≡ q.old) }
+    ensures err_marks { OnErr result (marks.new.marks ≡ marks.old.marks) }
 {
-    let mut marks = Vec::new(alloc);
-    marks.push(Mark::Timer { queue, silent })?;
-    Ok(marks)
+    marks.reserve(3)?;
+    marks.push(mark);
+    q.requester = numbers;
+    Ok(())
 }
 
 /// Why a timer does not fire.

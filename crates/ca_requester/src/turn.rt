@@ -129,12 +129,16 @@ pub(crate) fn is_too_much(q: &QueuePart, n: &Numbered<'_>) -> bool
         || has_more_answers(q, oldest, psn, upto, u64::from(q.requester.reads))
 }
 
-/// Whether more request packets than so many lie from `una` on and below a PSN, among the requests from a place on.
+/// Whether more request packets than so many lie from `una` on and below a PSN, among the requests from a place on. No
+/// more lie there than PSNs.
 fn has_more_packets(q: &QueuePart, place: u64, first: u64, upto: u64, most: u64) -> bool
     requires queue { IsQueue (queue_of q.now) }
     requires within { IsWithin place first (queue_of q.now) }
     ensures { result ≡ nat_lt most (sum_by (requester.packets_between q.now.requester.una upto) (numbers_from place first (queue_of q.now))) }
 {
+    if upto.saturating_sub(q.requester.una.max(first)) <= most {
+        return false;
+    }
     let Some(n) = numbered_at(q, place, first) else {
         return false;
     };
@@ -155,6 +159,9 @@ fn has_more_answers(q: &QueuePart, place: u64, first: u64, upto: u64, most: u64)
     requires within { IsWithin place first (queue_of q.now) }
     ensures { result ≡ nat_lt most (sum_by (requester.answers_between q.now.requester.una upto) (numbers_from place first (queue_of q.now))) }
 {
+    if upto.saturating_sub(q.requester.una.max(first)) <= most {
+        return false;
+    }
     let Some(n) = numbered_at(q, place, first) else {
         return false;
     };

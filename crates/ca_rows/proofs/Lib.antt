@@ -2,3 +2,4 @@ pub mod ListLemmas
 pub mod QueueLemmas
 pub mod FlushLemmas
 pub mod WriteLemmas
+pub mod ReadLemmas

@@ -43,6 +43,16 @@ abbrev pub read_marks : List (Ask × List ℕ) → List Mark
 read_marks [] = []
 read_marks (x ∷ xs) = mark_of x.0 (verdicts.Read x.1) ∷ read_marks xs
 
+-- the bytes of a mark of what was read by an L_Key
+abbrev pub read_in : Mark → List ℕ
+read_in (marks.Local queue domain key kind address count (verdicts.Read bytes)) = bytes
+read_in mark = []
+
+-- the bytes of marks of what was read, one after another
+abbrev pub bytes_read : List Mark → List ℕ
+bytes_read [] = []
+bytes_read (m ∷ ms) = read_in m ++ bytes_read ms
+
 -- an access by an ask that may be handed on for writing, with as many bytes as it touches
 pub record IsWrite (x : Ask × List ℕ) : Type 0 where
   pub ask : IsAskOf kinds.Write x.0

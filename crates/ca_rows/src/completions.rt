@@ -1,4 +1,4 @@
-ghost use Rattle.std.specs.Prelude.{◌≡◌, ◌++◌, OnOk};
+ghost use Rattle.std.specs.Prelude.{◌≡◌, ◌≤◌, ◌+◌, ◌++◌};
 ghost use Rattle.ca_base.specs.declared.completion.WcStatus.{WcStatus};
 ghost use Rattle.ca_model.specs.Requests.{list_of};
 ghost use Rattle.ca_model.specs.machine.Completions as completions;
@@ -10,10 +10,9 @@ use crate::list::list_length;
 use crate::operations::operation_of;
 use crate::reads::local_mark;
 use ca_base::{
-    Completion, Key, Memory, OpRefusal, QueueId, RecvRequest, SendOp, SendRequest, Verdict, WcOp,
-    WcStatus,
+    Completion, Key, OpRefusal, QueueId, RecvRequest, SendOp, SendRequest, Verdict, WcOp, WcStatus,
 };
-use ca_model::Mark;
+use ca_model::{Mark, Marks};
 
 /// How many bytes an atomic reaches, and its answer brings.
 const ATOMIC_BYTES: u32 = 8;
@@ -53,25 +52,21 @@ fn bytes_of_success(op: &SendOp) -> u32
     }
 }
 
-/// Adds the completion of a request that succeeded, where it is signalled.
-pub fn push_success(
-    queue: QueueId,
-    place: u64,
-    request: &SendRequest,
-    made: &mut Vec<Mark>,
-) -> Result<(), Memory>
-    requires { IsList (list_of request.now.op) }
-    ensures { OnOk result (made.new.items ≡ made.old.items ++ completions.success_marks queue place request.now) }
+/// Adds the completion of a request that succeeded, where it is signalled, in the spare room. It takes no memory.
+pub fn push_success(queue: QueueId, place: u64, request: &SendRequest, marks: &mut Marks)
+    requires list { IsList (list_of request.now.op) }
+    requires room { 1 ≤ marks.old.room }
+    ensures marks { marks.new.marks ≡ marks.old.marks ++ completions.success_marks queue place request.now }
+    ensures room { marks.old.room ≤ marks.new.room + 1 }
 {
     if request.signalled {
         let bytes = bytes_of_success(&request.op);
-        made.push(Mark::Done {
+        marks.push(Mark::Done {
             queue,
             completion: send_completion(queue, place, request, WcStatus::Success, bytes),
             cause: None,
-        })?;
+        });
     }
-    Ok(())
 }
 
 /// The completion of a request that failed, with its cause where a local operation was refused.

@@ -29,5 +29,5 @@ pub use operations::{
     carried_bytes, is_answered, is_atomic, is_local, is_read, list_of, operation_of, psns_of,
     segments,
 };
-pub use reads::{join, mark_reads, push_reads, read_all};
+pub use reads::{join, keep_marks, read_all};
 pub use writes::{cut_writes, write_all};

@@ -1,46 +1,59 @@
-ghost use Rattle.std.specs.Prelude.{◌≡◌, ◌+◌, ◌≤◌, [], ◌++◌, IfOk, OnOk, length};
+ghost use Rattle.std.specs.Prelude.{◌≡◌, ◌+◌, ◌≤◌, [], ◌++◌, IfOk, OnOk, OnErr, length, take};
 ghost use Rattle.std.specs.List.{AllByRecursion};
 ghost use Rattle.ca_base.specs.declared.access.Kind.{Kind};
-ghost use Rattle.ca_rows.specs.Asks.{IsAskOf, IsGranted, mark_of, payload_of, read_marks, reads_by, touched_by};
+ghost use Rattle.ca_rows.specs.Asks.{IsAskOf, IsGranted, bytes_read, mark_of, payload_of, read_in, read_marks, reads_by, touched_by};
 
-use ca_base::{Ask, Bytes, Memory, Verdict};
+use ca_base::{Ask, Memory, Verdict};
 use ca_grant::Reach;
 use ca_model::{Mark, Marks};
 use std::alloc::Global;
+use std::mem;
 
-/// Reads what each of these asks touches, and adds each with its bytes. None of them is denied.
+/// Reads what each of these asks touches, and adds a mark for each, in the spare room. None of them is denied. Where
+/// memory ends, some of the marks stand behind those that there were.
+#[tactic(auto, using(crate::proofs::ReadLemmas::front_still, crate::proofs::ReadLemmas::front_whole))]
 pub fn read_all<R: Reach>(
     alloc: Global,
     reach: &mut R,
     asks: &[Ask],
-    reads: &mut Vec<(Ask, Bytes)>,
+    marks: &mut Marks,
 ) -> Result<(), Memory>
     requires keys { AllByRecursion (R.judges reach.old) asks.now }
     requires bytes { AllByRecursion (R.touches reach.old) asks.now }
     requires reads { AllByRecursion (IsAskOf Kind.Read) asks.now }
     requires allowed { AllByRecursion (IsGranted (R.sight reach.old)) asks.now }
-    ensures reads { OnOk result (reads.new.items ≡ reads.old.items ++ reads_by (R.sight reach.old) asks.now) }
+    requires room { length asks.now ≤ marks.old.room }
+    ensures marks { OnOk result (marks.new.marks ≡ marks.old.marks ++ read_marks (reads_by (R.sight reach.old) asks.now)) }
+    ensures room { OnOk result (marks.old.room ≤ marks.new.room + length asks.now) }
+    ensures front { OnErr result (take (length marks.old.marks) marks.new.marks ≡ marks.old.marks) }
     ensures count { OnOk result (length (payload_of (reads_by (R.sight reach.old) asks.now)) ≡ touched_by asks.now) }
     ensures same { reach.new ≡ reach.old }
 {
     let [ask, rest @ ..] = asks else {
         return Ok(());
     };
-    match reach.read(alloc, ask)? {
-        Verdict::Read(bytes) => reads.push((*ask, bytes))?,
-        _ => unreachable!(),
-    }
-    read_all(alloc, reach, rest, reads)
+    let verdict = reach.read(alloc, ask)?;
+    marks.push(local_mark(ask, verdict));
+    read_all(alloc, reach, rest, marks)
 }
 
-/// The bytes that were read, one after another: those of one access lie together already, and those of several are
-/// joined in a list that is empty.
-pub fn join<'a>(reads: &'a [(Ask, Bytes)], joined: &'a mut Vec<u8>) -> Result<&'a [u8], Memory>
+/// Keeps so many of the marks, the first ones. It takes no memory.
+pub fn keep_marks(alloc: Global, marks: &mut Marks, count: usize)
+    ensures { marks.new.marks ≡ take count marks.old.marks }
+{
+    let mut items = mem::replace(marks, Marks::empty(alloc)).into_vec();
+    items.truncate(count);
+    *marks = Marks::from(items);
+}
+
+/// The bytes that were read, as their marks have them, one after another: those of one access lie together already, and
+/// those of several are joined in a list that is empty.
+pub fn join<'a>(reads: &'a [Mark], joined: &'a mut Vec<u8>) -> Result<&'a [u8], Memory>
     requires { joined.old.items ≡ [] }
-    ensures { IfOk result (λ payload. payload.now ≡ payload_of reads.now) }
+    ensures { IfOk result (λ payload. payload.now ≡ bytes_read reads.now) }
 {
     match reads {
-        [(_, bytes)] => Ok(bytes.as_slice()),
+        [mark] => Ok(bytes_in(mark)),
         _ => {
             append_all(reads, joined)?;
             Ok(joined.as_slice())
@@ -48,34 +61,26 @@ pub fn join<'a>(reads: &'a [(Ask, Bytes)], joined: &'a mut Vec<u8>) -> Result<&'
     }
 }
 
-fn append_all(reads: &[(Ask, Bytes)], joined: &mut Vec<u8>) -> Result<(), Memory>
-    ensures { OnOk result (joined.new.items ≡ joined.old.items ++ payload_of reads.now) }
+fn append_all(reads: &[Mark], joined: &mut Vec<u8>) -> Result<(), Memory>
+    ensures { OnOk result (joined.new.items ≡ joined.old.items ++ bytes_read reads.now) }
 {
-    let [(_, bytes), rest @ ..] = reads else {
+    let [mark, rest @ ..] = reads else {
         return Ok(());
     };
-    joined.extend_from_slice(bytes.as_slice())?;
+    joined.extend_from_slice(bytes_in(mark))?;
     append_all(rest, joined)
 }
 
-/// Adds a mark for each piece that was read.
-pub fn push_reads(reads: Vec<(Ask, Bytes)>, made: &mut Vec<Mark>) -> Result<(), Memory>
-    ensures { OnOk result (made.new.items ≡ made.old.items ++ read_marks reads.items) }
+/// The bytes of a mark of what was read; of another there are none.
+fn bytes_in(mark: &Mark) -> &[u8]
+    ensures { result.now ≡ read_in mark.now }
 {
-    for (ask, bytes) in reads {
-        made.push(local_mark(&ask, Verdict::Read(bytes)))?;
-    }
-    Ok(())
-}
-
-/// Adds a mark for each piece that was read, in the spare room. It takes no memory.
-pub fn mark_reads(reads: Vec<(Ask, Bytes)>, marks: &mut Marks)
-    requires room { length reads.items ≤ marks.old.room }
-    ensures marks { marks.new.marks ≡ marks.old.marks ++ read_marks reads.items }
-    ensures room { marks.old.room ≤ marks.new.room + length reads.items }
-{
-    for (ask, bytes) in reads {
-        marks.push(local_mark(&ask, Verdict::Read(bytes)));
+    match mark {
+        Mark::Local {
+            verdict: Verdict::Read(bytes),
+            ..
+        } => bytes.as_slice(),
+        _ => &[],
     }
 }
 

@@ -1,0 +1,31 @@
+-- Marks of what is read behind those that there were, and the bytes that they hold.
+use Rattle.std.proofs.Common.{◌≡◌, ℕ, ◌≤◌, refl, sym, ap, ◌∙◌, List, [], ◌∷◌, ◌++◌, drop, length, length-append, take, arith}
+use Rattle.std.proofs.Math.Seq.{take-append_seam, take-length, drop-append_seam}
+use Rattle.std.proofs.lemmas.List.{take-append-drop, take-append-le}
+use Rattle.ca_base.specs.declared.access.Ask.{Ask}
+use Rattle.ca_model.specs.declared.mark.Mark.{Mark}
+use Rattle.ca_rows.specs.Asks.{bytes_read, payload_of, read_marks}
+
+-- all marks are those that there were
+pub front_whole : (old new : List Mark) → new ≡ old → take (length old) new ≡ old
+front_whole old new e = ap (take (length old)) e ∙ take-length old
+
+-- those that there were stand in front, where one more stood in front
+pub front_still : (old more : List Mark) (m : Mark) (next : List Mark) → next ≡ old ++ m ∷ [] → take (length next) more ≡ next → take (length old) more ≡ old
+front_still old more m next e f =
+    ap (take (length old)) (sym (take-append-drop (length next) more) ∙ ap (λ xs. xs ++ drop (length next) more) f)
+    ∙ take-append-le (length old) next (drop (length next) more) shorter
+    ∙ ap (take (length old)) e
+    ∙ take-append_seam old (m ∷ [])
+  where
+    shorter : length old ≤ length next
+    shorter = omega (arith, ap length e, length-append old (m ∷ []))
+
+-- the bytes that the marks of accesses hold are those of the accesses
+pub bytes_of_reads : (xs : List (Ask × List ℕ)) → bytes_read (read_marks xs) ≡ payload_of xs
+bytes_of_reads [] = refl
+bytes_of_reads (x ∷ xs) = ap (λ bs. x.1 ++ bs) (bytes_of_reads xs)
+
+-- the marks behind those that there were
+pub behind_old : (old more new : List Mark) → new ≡ old ++ more → drop (length old) new ≡ more
+behind_old old more new e = ap (drop (length old)) e ∙ drop-append_seam old more
