@@ -1,5 +1,5 @@
 -- A verb that is spelled is read as what it says.
-use Rattle.std.proofs.Common.{◌≡◌, ℕ, ◌≤◌, true, eqb, ◌∷◌, ◌++◌, Some, decimal, refl, sym, ap, subst, ◌∙◌, arith, inl, inr}
+use Rattle.std.proofs.Common.{◌≡◌, ℕ, ◌≤◌, eqb, ◌∷◌, ◌++◌, Some, decimal, refl, sym, ap, subst, ◌∙◌, arith, inl, inr}
 use Rattle.std.specs.Prelude.{codes}
 use Rattle.std.proofs.lemmas.Bool.{cases_Bool, eqb-true}
 use Rattle.ca_base.specs.declared.change.Change.{Change}
