@@ -1,8 +1,5 @@
 -- What stands at the end of a response queue, and what is removed from it.
-use Rattle.std.proofs.Common.{◌≡◌, ℕ, false, ◌≤◌, Some, drop, slice_get, append_assoc, add-one, zero, suc, ◌+◌, ◌-◌, ◌<◌, nat_lt, arith, refl, sym, ap, ◌∙◌, true, List, [], ◌∷◌, ◌++◌, filter, length, length-append, slice_set}
-use Rattle.std.proofs.Math.Seq.{drop-cons}
-use Rattle.std.proofs.lemmas.List.{append-nil, drop_all}
-use Rattle.std.proofs.lemmas.Option.{get_or_from_slice_get, slice_get_within}
+use Rattle.std.proofs.Common.{◌≡◌, ℕ, false, zero, suc, ◌-◌, ◌<◌, nat_lt, arith, refl, ap, ◌∙◌, true, List, [], ◌∷◌, ◌++◌, length, length-append, slice_set}
 use Rattle.std.proofs.lemmas.Bool.{lt-ltb}
 use Rattle.std.proofs.lemmas.List.Elements.{filter-append}
 use Rattle.ca_base.specs.declared.queue_numbers.Queued.{Queued}

@@ -1,5 +1,5 @@
 -- The asks of a SEND packet, by the receive that was found, and as those of its row.
-use Rattle.std.proofs.Common.{◌≡◌, ℕ, refl, ap, sym, ◌∙◌, true≢false, ◌&&◌, is_none, is_some, Bool, true, false, if◌then◌else◌, List, [], length, nat_lt, ◌+◌, Option, None, Some}
+use Rattle.std.proofs.Common.{◌≡◌, ℕ, refl, ap, sym, true≢false, ◌&&◌, is_none, is_some, Bool, true, false, List, [], length, nat_lt, ◌+◌, Option, None, Some}
 use Rattle.std.specs.Option.{option_map}
 use Rattle.std.proofs.lemmas.Option.{same_Some}
 use Rattle.ca_base.specs.declared.access.Ask.{Ask}

@@ -1,5 +1,5 @@
 -- How many completions a flush makes.
-use Rattle.std.proofs.Common.{◌≡◌, ℕ, suc, ◌+◌, ◌-◌, ◌≤◌, arith, refl, sym, ap, ◌∙◌, List, [], ◌∷◌, ◌++◌, drop, length, length-append, length-drop, Option, None, Some}
+use Rattle.std.proofs.Common.{◌≡◌, ℕ, suc, ◌+◌, ◌-◌, ◌≤◌, arith, refl, ap, List, [], ◌∷◌, ◌++◌, length, length-append, length-drop, Option, None, Some}
 use Rattle.std.specs.Option.{option_map, option_map_or}
 use Rattle.ca_base.specs.declared.names.QueueId.{QueueId}
 use Rattle.ca_base.specs.declared.queue_numbers.Message.{Message}
@@ -10,7 +10,7 @@ use Rattle.ca_base.specs.objects.WorkQueue.{WorkQueue, after_take, items_from}
 use Rattle.ca_model.specs.declared.mark.Mark.{Mark}
 use Rattle.ca_model.specs.machine.Arrivals.{with_message, with_receive_taken}
 use Rattle.ca_model.specs.machine.Completions.{flush_marks, flushed_message, flushed_receives, flushed_sends}
-use Rattle.ca_model.specs.machine.Invariants.{IsQueue, IsReceives, IsWorkQueue}
+use Rattle.ca_model.specs.machine.Invariants.{IsQueue, IsReceives}
 use Rattle.std.specs.Prelude.{IfSome}
 
 sends-count : (queue : QueueId) (place : ℕ) (ps : List PostedSend) → length (flushed_sends queue place ps) ≡ length ps

@@ -26,7 +26,7 @@ use Rattle.ca_base.specs.declared.names.QueueId.{QueueId}
 use Rattle.ca_model.specs.declared.mark.Mark.TheVariants.{Revoked}
 use Rattle.ca_model.specs.machine.Completions.{flush_marks, receive_failure}
 use Rattle.ca_rows.specs.Asks.{CanWrite, IsGranted, IsWrite, asks_of}
-use Rattle.ca_rows.specs.Done.{Handed, handed, written_all}
+use Rattle.ca_rows.specs.Done.{handed, written_all}
 
 can-of : {S : Type 0} (sight : S → Sight) (judges touches : S → Ask → Type 0) (s : S) (ws : List (Ask × List ℕ))
     → AllByRecursion (judges s) (asks_of ws) → AllByRecursion (touches s) (asks_of ws) → AllByRecursion (IsGranted (sight s)) (asks_of ws)
@@ -175,9 +175,10 @@ placed written revoked s q new p place receive count true marks new_marks reach 
     (es, made-found _ new _ new_marks _ _ new_reach eq em (silent (receive_taken true (with_flag false q)) p place (record { receive = receive; before = count; taken = true })) er)
 placed written revoked s q new p place receive count false marks new_marks reach new_reach (Ok shared) fits none plain eq em es er fq fm fr =
     taken-as written revoked _ _ _ _ shared (found q marks reach) (found new new_marks new_reach)
-    (kept-ending s q p place receive count fits none plain) (kept-no-end s q p place receive count fits none plain)
-    (es ∙ sym (quiet (with_flag false q) p place (record { receive = receive; before = count; taken = false })),
-    made-found _ new _ new_marks _ _ new_reach eq em (silent (with_flag false q) p place (record { receive = receive; before = count; taken = false })) er)
+    (kept-ending s q p place receive count fits none plain) (kept-no-end s q p place receive count fits none plain) (
+      es ∙ sym (quiet (with_flag false q) p place (record { receive = receive; before = count; taken = false })),
+      made-found _ new _ new_marks _ _ new_reach eq em (silent (with_flag false q) p place (record { receive = receive; before = count; taken = false })) er,
+    )
 
 -- one whose key ends
 placed-ended : {S : Type 0} (written : S → Ask → List ℕ → S) (revoked : S → Invalidation → S) (s : Sight) (q new : QueuePair) (p : Fields)
@@ -194,15 +195,18 @@ placed-ended : {S : Type 0} (written : S → Ask → List ℕ → S) (revoked : 
     (found q marks reach) (found new new_marks new_reach)
 placed-ended written revoked s q new p place receive count true marks new_marks reach new_reach key shared fits none end gone eq em er es =
     taken-as written revoked _ _ _ _ shared (found q marks reach) (found new new_marks new_reach)
-    (taken-ended s q p place receive count key fits none end gone) (taken-end s q p place receive count key fits none end gone)
-    (es, made-found _ new _ new_marks _ _ new_reach eq em
-    (silent (with_window_gone (Some (key_end q (record { 0 = key }))) (receive_taken true (with_flag false q))) p place (record { receive = receive; before = count; taken = true })) er)
+    (taken-ended s q p place receive count key fits none end gone) (taken-end s q p place receive count key fits none end gone) (
+      es,
+      made-found _ new _ new_marks _ _ new_reach eq em
+          (silent (with_window_gone (Some (key_end q (record { 0 = key }))) (receive_taken true (with_flag false q))) p place (record { receive = receive; before = count; taken = true })) er,
+    )
 placed-ended written revoked s q new p place receive count false marks new_marks reach new_reach key shared fits none end gone eq em er es =
     taken-as written revoked _ _ _ _ shared (found q marks reach) (found new new_marks new_reach)
-    (kept-ended s q p place receive count key fits none end gone) (kept-end s q p place receive count key fits none end gone)
-    (es ∙ sym (quiet (with_window_gone (Some (key_end q (record { 0 = key }))) (with_flag false q)) p place (record { receive = receive; before = count; taken = false })),
-    made-found _ new _ new_marks _ _ new_reach eq em
-    (silent (with_window_gone (Some (key_end q (record { 0 = key }))) (with_flag false q)) p place (record { receive = receive; before = count; taken = false })) er)
+    (kept-ended s q p place receive count key fits none end gone) (kept-end s q p place receive count key fits none end gone) (
+      es ∙ sym (quiet (with_window_gone (Some (key_end q (record { 0 = key }))) (with_flag false q)) p place (record { receive = receive; before = count; taken = false })),
+      made-found _ new _ new_marks _ _ new_reach eq em
+          (silent (with_window_gone (Some (key_end q (record { 0 = key }))) (with_flag false q)) p place (record { receive = receive; before = count; taken = false })) er,
+    )
 
 -- one whose key does not end
 placed-refused : {S : Type 0} (written : S → Ask → List ℕ → S) (revoked : S → Invalidation → S) (s : Sight) (q new : QueuePair) (p : Fields)

@@ -1,5 +1,5 @@
 -- What holds of a packet that is no invalid request.
-use Rattle.std.proofs.Common.{◌≡◌, Bool, true, false, not, ◌||◌, refl, sym, ap, ◌∙◌, length, Option, Some}
+use Rattle.std.proofs.Common.{◌≡◌, Bool, true, false, not, ◌||◌, refl, sym, ◌∙◌, length, Some}
 use Rattle.ca_base.specs.objects.QueuePair.{QueuePair}
 use Rattle.ca_wire.specs.declared.segment.Position.{Position}
 use Rattle.ca_wire.specs.Packet.{Fields}

@@ -1,5 +1,5 @@
 -- The row of a packet by the receive that it takes, and of one that takes none.
-use Rattle.std.proofs.Common.{◌≡◌, ℕ, ◌==◌, Bool, true, false, true≢false, not, ◌||◌, ◌&&◌, if◌then◌else◌, refl, sym, ap, ◌∙◌, List, [], ◌∷◌, length, Option, None, Some, is_none, is_some}
+use Rattle.std.proofs.Common.{◌≡◌, ℕ, ◌==◌, Bool, true, false, true≢false, if◌then◌else◌, refl, sym, ap, ◌∙◌, [], ◌∷◌, length, Option, None, Some, is_some}
 use Rattle.ca_base.specs.declared.access.Ask.{Ask}
 use Rattle.ca_base.specs.declared.access.Kind.TheVariants as kinds
 use Rattle.ca_base.specs.declared.queue_numbers.Message.{Message}
@@ -10,7 +10,7 @@ use Rattle.ca_base.specs.objects.SharedReceives.{PlacedReceive, SharedReceives}
 use Rattle.ca_wire.specs.Packet.{Fields}
 use Rattle.ca_wire.specs.Segment.{begins, ends}
 use Rattle.ca_wire.specs.declared.segment.Position.{Position}
-use Rattle.ca_wire.specs.declared.syndrome.NakCode.TheVariants.{InvalidRequest, RemoteAccessError}
+use Rattle.ca_wire.specs.declared.syndrome.NakCode.TheVariants.{InvalidRequest}
 use Rattle.ca_model.specs.machine.Arrivals.{next_receive, packet_ask, refusal_effects, remote_mark, with_flag}
 use Rattle.ca_model.specs.machine.Expected.{Receiving, WriteReach, after_write_packet, behind_marks, continues, expected_row, is_invalid, receiving_of, send_row, takes_receive, valid_row, write_reach, write_row}
 use Rattle.ca_model.specs.machine.Row.{Effects, Row, plain_row, Does}

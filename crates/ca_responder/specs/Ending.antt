@@ -1,6 +1,6 @@
 -- The end of a key by a SEND: its invalidation, and the row's effects where it ends and where it is refused. Contracts
 -- cite it.
-use Rattle.std.specs.Prelude.{false, None, Some, [], ◌∷◌}
+use Rattle.std.specs.Prelude.{false, Some}
 use Rattle.ca_base.specs.declared.completion.WcStatus.TheVariants.{MemoryManagement}
 use Rattle.ca_base.specs.declared.key.Key.{Key}
 use Rattle.ca_base.specs.declared.refusals.OpRefusal.{OpRefusal}

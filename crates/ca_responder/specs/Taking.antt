@@ -12,7 +12,7 @@ use Rattle.ca_base.specs.objects.WorkQueue.{waiting_count}
 use Rattle.ca_grant.specs.Reaching.{invalidation_by}
 use Rattle.ca_model.specs.declared.mark.Mark.{Mark}
 use Rattle.ca_model.specs.machine.Expected.{Receiving}
-use Rattle.ca_model.specs.machine.Row.{Effects, Ending, NotPossible, Does, Row, ending_of}
+use Rattle.ca_model.specs.machine.Row.{Effects, Ending, NotPossible, Does, Row}
 use Rattle.ca_rows.specs.Done.{Handed, after_effects, handed, written_all}
 
 -- what a request finds and leaves: it sends no packet

@@ -30,11 +30,7 @@ use ca_wire::Packet;
 const ATOMIC_BYTES: u32 = 8;
 
 /// The asks that `on_request` may make, in order; it makes no other. It takes no memory.
-pub fn request_asks(
-    q: &QueuePart,
-    srq: Option<&Srq>,
-    p: &Packet<'_>,
-) -> ArrayVec<Ask, MAX_PIECES>
+pub fn request_asks(q: &QueuePart, srq: Option<&Srq>, p: &Packet<'_>) -> ArrayVec<Ask, MAX_PIECES>
     requires queue { IsQueue (queue_of q.now) }
     requires narrow { AreNarrow (queue_of q.now) }
     requires shared { IfSome (option_copied srq) IsSharedReceives }

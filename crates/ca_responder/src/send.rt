@@ -33,9 +33,7 @@ use crate::queueing::{pass, queue_ack, queue_refusal};
 use crate::receive::{Placed, Receiving, take_own};
 use arrayvec::ArrayVec;
 use ca_base::limits::MAX_PIECES;
-use ca_base::{
-    Ask, Bytes, Key, Kind, Memory, Message, OpRefusal, Piece, WcOp, WcStatus,
-};
+use ca_base::{Ask, Bytes, Key, Kind, Memory, Message, OpRefusal, Piece, WcOp, WcStatus};
 use ca_grant::Reach;
 use ca_model::{Mark, Marks};
 use ca_qpstate::QueuePart;

@@ -1,4 +1,4 @@
-use Rattle.std.proofs.Common.{◌≡◌, arith, ap, sym, ◌∙◌, ◌+◌, length, List, slice_get}
+use Rattle.std.proofs.Common.{arith, ap, sym, ◌∙◌, length, List, slice_get}
 use Rattle.ca_base.specs.declared.queue_numbers.Queued.{Queued}
 use Rattle.ca_responder.proofs.HeldLemmas.{ack-at, before_end}
 use Rattle.ca_responder.proofs.held.is_behind_ack.Goals as goal

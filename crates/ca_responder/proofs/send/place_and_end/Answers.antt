@@ -1,5 +1,4 @@
 use Rattle.std.proofs.Common.{◌≡◌, Bool, ap, sym, ◌∙◌, List, [], ◌∷◌, ◌++◌, None, Some}
-use Rattle.ca_base.specs.Sight.{Invalidation}
 use Rattle.ca_model.specs.declared.mark.Mark.{Mark}
 use Rattle.ca_model.specs.machine.Arrivals.{with_message, with_responder}
 use Rattle.ca_model.specs.machine.Completions.{flush_marks}
