@@ -153,4 +153,3 @@ pub fn reason_text(reason: Reason) -> &'static str {
         Reason::NotDue => " reason not-due\n",
     }
 }
-

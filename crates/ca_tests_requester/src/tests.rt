@@ -3,13 +3,14 @@ ghost use Rattle.ca_tests_requester.specs.Bed as beds;
 mod answers;
 mod drawn_rows;
 mod limits;
+mod messages;
 mod order;
 mod rows;
 mod wakes;
 mod worked_rows;
 
 use crate::{Bed, Setup, bed_of, config, reason_text, setup_in};
-use ca_base::{Bytes, DomainId, Lot, QueueId, Rights, Run, Sent, Slot, StepError};
+use ca_base::{Bytes, DomainId, Lot, OpRefusal, QueueId, Rights, Run, Sent, Slot, StepError};
 use ca_model::{Event, Mark, Marks, Verb};
 use ca_qpstate::QueuePart;
 use ca_reading_lines::read_line;
@@ -117,13 +118,19 @@ fn send(rt: &impl Abort, alloc: Global, bed: &mut Bed, room: bool, text: &mut Ve
     }
 }
 
-// The requester's turn performs a local operation.
-fn perform(rt: &impl Abort, alloc: Global, bed: &mut Bed, text: &mut Vec<u8>)
+// The requester's turn performs a local operation, which is refused for a cause, if there is one.
+fn perform(
+    rt: &impl Abort,
+    alloc: Global,
+    bed: &mut Bed,
+    cause: Option<OpRefusal>,
+    text: &mut Vec<u8>,
+)
     requires { beds.Stands bed.old }
     ensures { beds.Stands bed.new }
 {
     let mut marks = Marks::empty(alloc);
-    let done = bed.perform(alloc, None, &mut marks);
+    let done = bed.perform(alloc, cause, &mut marks);
     holds(rt, matches!(done, Some(Ok(()))), "a local operation");
     put(rt, marks.as_slice(), text);
 }
@@ -134,7 +141,7 @@ fn request(rt: &impl Abort, alloc: Global, bed: &mut Bed, room: bool, text: &mut
     ensures { beds.Stands bed.new }
 {
     match bed.performs() {
-        Some(Ok(true)) => perform(rt, alloc, bed, text),
+        Some(Ok(true)) => perform(rt, alloc, bed, None, text),
         Some(Ok(false)) => send(rt, alloc, bed, room, text),
         Some(Err(reason)) => {
             send(rt, alloc, bed, room, text);
@@ -342,4 +349,17 @@ const PLAIN: Setup = Setup {
 // A run by hand. Of a request the lot says whether the peer has room: `lose` where it has none.
 fn is_run(rt: &impl Abort, alloc: Global, text: &str, peer_empty: bool) {
     run(rt, alloc, &PLAIN, text, peer_empty);
+}
+
+// A run by hand, behind which a local operation is refused for a cause.
+fn fails(rt: &impl Abort, alloc: Global, text: &str, cause: OpRefusal, want: &str) {
+    match bed_of(alloc, &PLAIN) {
+        None => holds(rt, false, "a queue pair"),
+        Some(mut bed) => {
+            go_on(rt, alloc, &mut bed, text, false);
+            let mut got = Vec::new(alloc);
+            perform(rt, alloc, &mut bed, Some(cause), &mut got);
+            texts_are(rt, got.as_slice(), want.as_bytes(), "the end");
+        }
+    }
 }

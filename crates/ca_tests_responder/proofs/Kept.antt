@@ -1,7 +1,8 @@
 -- Each call of the responder leaves a queue pair that comes up, over parts that fit each other.
-use Rattle.std.proofs.Common.{◌≡◌, ℕ, Bool, true, false, List, [], ◌∷◌, Option, None, Some, Result, Ok, Err, refl, sym, subst, ap, ◌∙◌, IfSome, IsTrue, true≢false, OnOk, OnErr, length, slice_get, is_none, not, if◌then◌else◌}
+use Rattle.std.proofs.Common.{◌<◌, ◌^◌, ◌≡◌, ℕ, Bool, true, false, List, [], ◌∷◌, Option, None, Some, Result, Ok, Err, refl, sym, subst, ap, ◌∙◌, IfSome, IsTrue, true≢false, OnOk, OnErr, length, slice_get, is_none, not, if◌then◌else◌}
 use Rattle.std.specs.List.{AllByRecursion}
 use Rattle.std.specs.Option.{option_map}
+use Rattle.ca_model.specs.machine.Arrivals.{with_responder}
 use Rattle.ca_base.specs.declared.access.Ask.{Ask}
 use Rattle.ca_base.specs.declared.change.State.TheVariants as states
 use Rattle.ca_base.specs.declared.memory.Memory.{Memory}
@@ -21,6 +22,7 @@ use Rattle.ca_base.specs.objects.Window.{Binding}
 use Rattle.ca_base.specs.Memory.{runs_for}
 use Rattle.ca_grant.specs.Access.{FitInBytes}
 use Rattle.ca_grant.specs.Parts.{LiesWithin, grants_of_parts}
+use Rattle.ca_laws.proofs.ArrivalLemmas.{responder-queue}
 use Rattle.ca_laws.proofs.ObjectLemmas.{post-receive, take-receive}
 use Rattle.ca_laws.proofs.RespondLemmas.{arrival-good, respond-good}
 use Rattle.ca_laws.proofs.ResponseLemmas.{IsGoodEnding, IsGoodRow}
@@ -174,3 +176,16 @@ posted_kept r s t sound receive free same = rw same (post-receive r s sound rece
 
 pub stands_by : (b : Bed) {ms : List Mark} → IsKept (found (queue_of b.queue) ms b.reach) → Stands b
 stands_by b kept = record { queue = kept.queue; reach = kept.reach }
+
+-- a queue pair may have accepted any number of messages
+pub msn_kept : (q : QueuePair) (msn : ℕ) → IsQueue q → msn < 2 ^ 24 → IsQueue (with_responder (record q.responder { msn = msn }) q)
+msn_kept q msn is bits = responder-queue q (record q.responder { msn = msn }) is refl (record {
+  base = is.responder.base;
+  msn = bits;
+  mtu = is.responder.mtu;
+  rnr_code = is.responder.rnr_code;
+  message = is.responder.message;
+  answers = is.responder.answers;
+  silent = is.responder.silent;
+  empty = is.responder.empty;
+}) is.taken

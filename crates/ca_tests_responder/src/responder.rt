@@ -20,7 +20,7 @@ ghost use Rattle.ca_wire.specs.Packet.{IsWellFormed, Spells, fields_of};
 
 use ca_base::limits::{MAX_DEPTH, MAX_PAYLOAD_BYTES};
 use ca_base::{
-    Ask, DomainId, Key, Kind, Memory, QueueId, RecvRequest, Sent, Slot, State, StepError,
+    Ask, DomainId, Key, Kind, Memory, QueueId, RecvRequest, Rights, Sent, Slot, State, StepError,
     first_address,
 };
 use ca_grant::{judge, write_span};
@@ -303,6 +303,69 @@ fn end_region(reach: &mut SmallReach) -> bool
     }
 }
 
+// Puts the count of messages that were accepted, which no run reaches.
+fn put_msn(q: &mut QueuePart, msn: u32)
+    requires queue { IsQueue (queue_of q.old) }
+    requires bits { msn < 2 ^ 24 }
+    ensures { IsQueue (queue_of q.new) }
+{
+    q.responder.msn = msn;
+}
+
+// Counts one more window that is bound to the queue pair.
+fn count_window(q: &mut QueuePart) -> bool
+    requires { IsQueue (queue_of q.old) }
+    ensures { IsQueue (queue_of q.new) }
+{
+    if q.windows.count >= 1000 {
+        return false;
+    }
+    q.windows.count += 1;
+    true
+}
+
+// Makes the vacant window one of type 2.
+fn allocate_window(reach: &mut SmallReach)
+    requires { small.FitTogether reach.old }
+    ensures { small.FitTogether reach.new }
+{
+    if reach.window.kind() == 0 {
+        reach.window.allocate(2);
+    }
+}
+
+// Binds the window to a part of the region for a queue pair, under a low byte; false where that is refused.
+fn bind_window(
+    reach: &mut SmallReach,
+    low: u8,
+    queue: QueueId,
+    address: u64,
+    length: u32,
+    rights: Rights,
+) -> bool
+    requires { small.FitTogether reach.old }
+    ensures { small.FitTogether reach.new }
+{
+    let view = reach.region.view();
+    if address < view.address || reach.region.bound() >= 1000 {
+        return false;
+    }
+    let (from, all) = (address - view.address, u64::from(view.length));
+    if from > all || u64::from(length) > all - from {
+        return false;
+    }
+    match reach
+        .window
+        .bind2(low, queue, Some(&view), address, length, rights)
+    {
+        Ok(()) => {
+            reach.region.note_bind();
+            true
+        }
+        Err(_) => false,
+    }
+}
+
 impl Responder {
     /// A queue pair with an empty shared receive queue, where it names one.
     pub fn of(alloc: Global, bed: Bed) -> Option<Responder>
@@ -393,5 +456,35 @@ impl Responder {
         ensures { responders.Stands self.new }
     {
         end_region(&mut self.bed.reach)
+    }
+
+    /// Puts the MSN, as if so many messages had been accepted before; false where it has more than 24 bits.
+    pub fn start_at(&mut self, msn: u32) -> bool
+        requires { responders.Stands self.old }
+        ensures { responders.Stands self.new }
+    {
+        if msn >= 1 << 24 {
+            return false;
+        }
+        put_msn(&mut self.bed.queue, msn);
+        true
+    }
+
+    /// Binds a window of type 2 for a queue pair to a part of the region, under a low byte, and counts it at this queue
+    /// pair; false where that is refused.
+    pub fn bind(
+        &mut self,
+        low: u8,
+        queue: QueueId,
+        address: u64,
+        length: u32,
+        rights: Rights,
+    ) -> bool
+        requires { responders.Stands self.old }
+        ensures { responders.Stands self.new }
+    {
+        allocate_window(&mut self.bed.reach);
+        count_window(&mut self.bed.queue)
+            && bind_window(&mut self.bed.reach, low, queue, address, length, rights)
     }
 }

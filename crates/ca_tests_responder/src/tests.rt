@@ -8,10 +8,11 @@ mod reads;
 mod refusals;
 mod rows;
 mod turns;
+mod windows;
 mod worked_rows;
 
 use crate::Responder;
-use ca_base::{Bytes, Lot, QueueId, Sent, StepError};
+use ca_base::{Bytes, Lot, QueueId, SendOp, SendRequest, Sent, Slot, StepError};
 use ca_model::{Event, Mark, Marks, Verb};
 use ca_qpstate::QueuePart;
 use ca_reading_lines::read_line;
@@ -121,6 +122,30 @@ fn arrive(
     }
 }
 
+// Posts a request; a bind of a type 2 window is done at once.
+fn post(rt: &impl Abort, r: &mut Responder, slot: Slot, request: SendRequest)
+    requires { responders.Stands r.old }
+    ensures { responders.Stands r.new }
+{
+    if let SendOp::Bind2 {
+        low,
+        address,
+        length,
+        rights,
+        ..
+    } = request.op
+    {
+        let queue = QueueId {
+            adapter: slot.domain.adapter,
+            number: 256 + u32::from(slot.slot),
+        };
+        let bound = r.bind(low, queue, address, length, rights);
+        holds(rt, bound, "a window is bound");
+        return;
+    }
+    holds(rt, r.bed.post(request), "a request is posted");
+}
+
 // A consumer's call. Of an injection the envelope is told apart.
 fn call(
     rt: &impl Abort,
@@ -137,7 +162,7 @@ fn call(
         Verb::ModifyQp { change, .. } => {
             holds(rt, r.bed.change(&config(), &change), "a change of state");
         }
-        Verb::PostSend { request, .. } => holds(rt, r.bed.post(request), "a request is posted"),
+        Verb::PostSend { slot, request } => post(rt, r, slot, request),
         Verb::PostRecv { request, .. } => holds(rt, r.receive(request), "a receive is posted"),
         Verb::PostSrq { request, .. } => {
             holds(rt, r.receive_shared(request), "a shared receive is posted");
@@ -200,21 +225,24 @@ fn go_on(rt: &impl Abort, alloc: Global, r: &mut Responder, text: &str)
 }
 
 // A run: the lines that register its region and create its queue pair, and then each step, as it stands in a trace, and
-// behind it what it does. A packet that arrives stands as an injection.
-fn run(rt: &impl Abort, alloc: Global, text: &str) {
+// behind it what it does. A packet that arrives stands as an injection. So many messages were accepted before.
+fn run(rt: &impl Abort, alloc: Global, text: &str, msn: u32) {
     let Some((setup, rest)) = setup_in(alloc, text) else {
         texts_are(rt, text.as_bytes(), b"", "the region and the queue pair");
         return;
     };
     match responder_of(alloc, &setup) {
         None => holds(rt, false, "a queue pair"),
-        Some(mut r) => go_on(rt, alloc, &mut r, rest),
+        Some(mut r) => {
+            holds(rt, r.start_at(msn), "an MSN");
+            go_on(rt, alloc, &mut r, rest);
+        }
     }
 }
 
 // Runs that stand in a text, with a blank line between them.
 fn runs(rt: &impl Abort, alloc: Global, texts: &str) {
     for text in texts.split("\n\n") {
-        run(rt, alloc, text);
+        run(rt, alloc, text, 0);
     }
 }

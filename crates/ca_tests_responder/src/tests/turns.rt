@@ -1,4 +1,4 @@
-use super::runs;
+use super::{run, runs};
 
 const REASONS: &str = "@0 p0 c0 reg 0/0/0 0 0 4096 lrwab -> key 0x00000001
 @0 p0 c0 qp 0/0/0 0 0 4 4 - -> qp 256 1
@@ -106,6 +106,23 @@ const IMMEDIATE: &str = "@0 p0 c0 reg 0/0/0 0 0 4096 lrwab -> key 0x00000001
  sent 0/256 1/256 - - 1100ffff00000100000000041f000002
 ";
 
+const MSN: &str = "@0 p0 c0 reg 0/0/0 0 0 4096 lrwab -> key 0x00000001
+@0 p0 c0 qp 0/0/0 0 0 4 4 - -> qp 256 1
+@0 p0 c0 init 0/0/0 -> ok
+@0 p0 c0 rtr 0/0/0 1/256 1 0 256 12 -> ok
+@0 p0 c0 rts 0/0/0 0 7 7 16 -> ok
+@0 p0 c0 inject 0/256 0a30ffff000001000000000000000001000000000000000100000001ab000000 -> ok
+ remote 0/256 0/0 - 0x00000001 write 0x100000000 1 wrote ab
+@0 p0 c0 inject 0/256 0c00ffff000001008000000100000001000000000000000100000001 -> ok
+@0 p0 respond 0/256 pass
+ remote 0/256 0/0 - 0x00000001 read 0x100000000 1 read ab
+ sent 0/256 1/256 - - 1030ffff00000100000000011f000000ab000000
+@0 p0 c0 inject 0/256 0a30ffff000001008000000200000001000000000000000100000001ab000000 -> ok
+ remote 0/256 0/0 - 0x00000001 write 0x100000000 1 wrote ab
+@0 p0 respond 0/256 pass
+ sent 0/256 1/256 - - 1100ffff00000100000000021f000001
+";
+
 #[test]
 fn a_turn_to_respond_has_its_reasons_in_order(rt: HostRuntime) {
     runs(&rt, rt.alloc(), REASONS);
@@ -119,4 +136,9 @@ fn of_a_shared_receive_queue_only_the_receive_in_use_is_flushed(rt: HostRuntime)
 #[test]
 fn messages_of_several_packets_complete_their_receives(rt: HostRuntime) {
     runs(&rt, rt.alloc(), IMMEDIATE);
+}
+
+#[test]
+fn the_msn_has_24_bits(rt: HostRuntime) {
+    run(&rt, rt.alloc(), MSN, 0xff_fffe);
 }
