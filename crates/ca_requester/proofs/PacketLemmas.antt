@@ -1,5 +1,5 @@
 -- Numbers of the packets of a request, and what their asks bring.
-use Rattle.std.proofs.Common.{◌≡◌, ℕ, ◌+◌, ◌*◌, ◌^◌, ◌≤◌, ◌<◌, arith, ap, true, List, ◌++◌, length, length-append}
+use Rattle.std.proofs.Common.{◌≡◌, ℕ, ◌+◌, ◌*◌, ◌^◌, ◌≤◌, ◌<◌, arith, true}
 use Rattle.std.proofs.Math.Nat.{mul-le-mul_left}
 use Rattle.std.proofs.lemmas.Bool.Decides.{nat_tests}
 use Rattle.ca_base.specs.declared.limits.TheConstants.{MAX_MESSAGE_BYTES}
@@ -12,7 +12,3 @@ path-few mtu e = grind (arith, nat_tests)
 -- the bytes before a packet are few
 pub few_before : (index count mtu : ℕ) → index < count → count ≤ MAX_MESSAGE_BYTES → is_path_mtu mtu ≡ true → index * mtu < 2 ^ 32
 few_before index count mtu less few path = omega (arith, mul-le-mul_left index (path-few mtu path), few, less)
-
--- a list that so many bytes are added to is longer by as many
-pub longer : (new old more : List ℕ) (most : ℕ) → new ≡ old ++ more → length more ≤ most → length new ≤ length old + most
-longer new old more most e few = omega (arith, ap length e, length-append old more)

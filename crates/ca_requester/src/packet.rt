@@ -20,11 +20,11 @@ use ca_base::limits::MAX_PIECES;
 use ca_base::{Ask, Key, Kind, Memory, Piece, SendOp, SendRequest};
 use ca_qpstate::QueuePart;
 use ca_rows::{
-    carried_bytes, list_asks, list_length, list_of, peer_number, psn_bits, segments,
+    carried_bytes, list_asks, list_length, list_of, peer_number, psn_bits, segments, spell_packet,
 };
 use ca_wire::{
-    AtomicEth, Packet, Reth, Segment, SendKind, cmp_swap, encode, fetch_add, read_request,
-    send_packet, spelling_length, write_packet,
+    AtomicEth, Packet, Reth, Segment, SendKind, cmp_swap, fetch_add, read_request, send_packet,
+    write_packet,
 };
 
 /// Which packet of its request the next one is.
@@ -80,8 +80,7 @@ pub(crate) fn spell(
     ensures err { OnErr result (out.new.items ≡ out.old.items) }
 {
     let packet = packet_of(q, n, payload);
-    spelling_length();
-    encode(&packet, out)
+    spell_packet(&packet, out)
 }
 
 /// The next packet, with this payload.

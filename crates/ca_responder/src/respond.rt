@@ -1,4 +1,4 @@
-ghost use Rattle.std.specs.Prelude.{◌≡◌, ◌<◌, ◌≤◌, ◌^◌, if◌then◌else◌, [], ◌∷◌, ◌++◌, OnOk, OnErr, IfOk, IfSome, None, Some, length, slice_get, true};
+ghost use Rattle.std.specs.Prelude.{◌≡◌, ◌+◌, ◌<◌, ◌≤◌, ◌^◌, if◌then◌else◌, [], ◌∷◌, ◌++◌, OnOk, OnErr, IfOk, IfSome, None, Some, length, slice_get, true};
 ghost use Rattle.ca_base.specs.Sight.{denial_in, bytes_in};
 ghost use Rattle.ca_base.specs.declared.limits.TheConstants.{MAX_PAYLOAD_BYTES};
 ghost use Rattle.ca_grant.specs.Reaching.{AreAtHand, IsPacketAsk};
@@ -16,6 +16,7 @@ ghost use Rattle.ca_responder.specs.Sending.{IsOnePacket, packet_turn};
 ghost use Rattle.ca_rows.specs.Done.{IsTurn, handed};
 ghost use Rattle.ca_rows.specs.Narrow.{AreNarrow};
 ghost use Rattle.ca_wire.specs.Builders as packets;
+ghost use Rattle.ca_wire.specs.declared.packet.TheConstants.{MAX_PACKET_BYTES};
 ghost use Rattle.ca_wire.specs.Packet.{IsWellFormed, fields_of, spelling};
 
 use crate::answer::next_answer;
@@ -26,10 +27,8 @@ use ca_base::{Ask, Bytes, Denial, Memory, Queued, Sent, StepError, Verdict};
 use ca_grant::Reach;
 use ca_model::Marks;
 use ca_qpstate::QueuePart;
-use ca_rows::{peer_number, psn_bits};
-use ca_wire::{
-    NakCode, Packet, acknowledgement, atomic_acknowledge, encode, nak, read_response, rnr_nak,
-};
+use ca_rows::{peer_number, psn_bits, spell_packet};
+use ca_wire::{NakCode, Packet, acknowledgement, atomic_acknowledge, nak, read_response, rnr_nak};
 use std::alloc::Global;
 
 /// A response is of no request of this queue pair.
@@ -87,7 +86,7 @@ fn read_ask(q: &QueuePart, r: &ReadLeft) -> Option<Ask>
     Some(response_ask(q, r))
 }
 
-/// Sends the answer that waits at the front, in `out`, and reserves room for two more marks. A READ is judged for all
+/// Sends the answer that waits at the front, spelt into `out` in at most 4128 bytes, and reserves room for two more marks. A READ is judged for all
 /// bytes that are left of it, at each of its responses; a denied one sends a NAK, and moves the queue pair to Error.
 /// `room` says that the peer's mailbox has room for a packet. The reasons are `State`, `Empty` and `NoRoom`, in this
 /// order.
@@ -106,6 +105,7 @@ pub fn next_response<R: Reach>(
         (handed (queue_of q.old) marks.old.marks out.old.items reach.old)
         (handed (queue_of q.new) marks.new.marks out.new.items reach.new) }
     ensures room { OnOk result (2 ≤ marks.new.room) }
+    ensures size { OnOk result (length out.new.items ≤ length out.old.items + MAX_PACKET_BYTES) }
 {
     match next_answer(q, room) {
         Ok(answer) => send_answer(alloc, q, reach, answer, marks, out),
@@ -130,6 +130,7 @@ fn send_answer<R: Reach>(
         (handed (queue_of q.old) marks.old.marks out.old.items reach.old)
         (handed (queue_of q.new) marks.new.marks out.new.items reach.new) }
     ensures room { OnOk result (2 ≤ marks.new.room) }
+    ensures size { OnOk result (length out.new.items ≤ length out.old.items + MAX_PACKET_BYTES) }
 {
     match answer {
         Queued::Read {
@@ -202,12 +203,13 @@ fn send_front(
     ensures queue { OnOk result (queue_of q.new ≡ rows.without_front (queue_of q.old)) }
     ensures spelt { OnOk result (out.new.items ≡ out.old.items ++ spelling (fields_of packet.now)) }
     ensures room { OnOk result (2 ≤ marks.new.room) }
+    ensures size { OnOk result (length out.new.items ≤ length out.old.items + MAX_PACKET_BYTES) }
     ensures marks { marks.new.marks ≡ marks.old.marks }
     ensures err_queue { OnErr result (q.new ≡ q.old) }
     ensures err_out { OnErr result (out.new.items ≡ out.old.items) }
 {
     marks.reserve(2)?;
-    encode(packet, out)?;
+    spell_packet(packet, out)?;
     q.responder.answers.pop();
     Ok(())
 }
@@ -229,6 +231,7 @@ fn send_read<R: Reach>(
         (handed (queue_of q.old) marks.old.marks out.old.items reach.old)
         (handed (queue_of q.new) marks.new.marks out.new.items reach.new) }
     ensures room { OnOk result (2 ≤ marks.new.room) }
+    ensures size { OnOk result (length out.new.items ≤ length out.old.items + MAX_PACKET_BYTES) }
 {
     let Some(ask) = read_ask(q, r) else {
         send_bytes(q, r, Bytes::empty(alloc), marks, out)?;
@@ -276,6 +279,7 @@ fn send_bytes(
     ensures marks { OnOk result (marks.new.marks ≡ marks.old.marks ++ (rows.read_answer (queue_of q.old) r.now bytes).marks) }
     ensures spelt { OnOk result (out.new.items ≡ out.old.items ++ (rows.read_answer (queue_of q.old) r.now bytes).spelt) }
     ensures room { OnOk result (2 ≤ marks.new.room) }
+    ensures size { OnOk result (length out.new.items ≤ length out.old.items + MAX_PACKET_BYTES) }
     ensures err_queue { OnErr result (q.new ≡ q.old) }
     ensures err_marks { OnErr result (marks.new.marks ≡ marks.old.marks) }
     ensures err_out { OnErr result (out.new.items ≡ out.old.items) }
@@ -285,7 +289,7 @@ fn send_bytes(
     let segment = response_segment(r.first, last);
     let (peer, msn) = (peer_number(q), q.responder.msn);
     marks.reserve(3)?;
-    encode(
+    spell_packet(
         &read_response(segment, peer, psn_bits(r.psn), msn, bytes.as_slice()),
         out,
     )?;
@@ -322,6 +326,7 @@ fn refuse_read(
     ensures marks { OnOk result (marks.new.marks ≡ marks.old.marks ++ (arrivals.remote_mark (rows.response_ask (queue_of q.old) r.now) r.now.envelope (Verdict.Denied denial) ∷ flush_marks (queue_of q.old))) }
     ensures spelt { OnOk result (out.new.items ≡ out.old.items ++ spelling (packets.nak NakCode.RemoteAccessError (requester.peer_number (queue_of q.old)) (requester.psn_bits r.now.psn) q.old.responder.msn)) }
     ensures room { OnOk result (2 ≤ marks.new.room) }
+    ensures size { OnOk result (length out.new.items ≤ length out.old.items + MAX_PACKET_BYTES) }
     ensures err_queue { OnErr result (q.new ≡ q.old) }
     ensures err_marks { OnErr result (marks.new.marks ≡ marks.old.marks) }
     ensures err_out { OnErr result (out.new.items ≡ out.old.items) }
@@ -332,7 +337,7 @@ fn refuse_read(
     push_flush(q, &mut made)?;
     let (peer, msn) = (peer_number(q), q.responder.msn);
     reserve_for(marks, &made)?;
-    encode(
+    spell_packet(
         &nak(NakCode::RemoteAccessError, peer, psn_bits(r.psn), msn),
         out,
     )?;

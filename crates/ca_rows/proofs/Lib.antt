@@ -3,3 +3,4 @@ pub mod QueueLemmas
 pub mod FlushLemmas
 pub mod WriteLemmas
 pub mod ReadLemmas
+pub mod PacketLemmas

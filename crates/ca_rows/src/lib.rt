@@ -1,5 +1,5 @@
 //! What the rows of the requester's and of the responder's engine share: the asks of a list, what is read and written by
-//! them, and the completions that a queue pair makes.
+//! them, the completions that a queue pair makes, and what its packets carry.
 //!
 //! To the layers above it promises that a list is cut to the asks that the machine's rows name, that all asks are judged
 //! before any byte is touched, that what was read and written is exactly what the marks say, and that each completion is
@@ -12,9 +12,9 @@
 mod asks;
 mod completions;
 mod flush;
-mod headers;
 mod list;
 mod operations;
+mod packets;
 mod reads;
 mod writes;
 
@@ -23,11 +23,11 @@ pub use completions::{
     failure_mark, local_denial, push_success, receive_failure, receive_mark, send_completion,
 };
 pub use flush::{push_flushed, push_flushed_receives, push_flushed_sends};
-pub use headers::{peer_number, psn_bits};
 pub use list::{list_asks, list_length};
 pub use operations::{
     carried_bytes, is_answered, is_atomic, is_local, is_read, list_of, operation_of, psns_of,
     segments,
 };
+pub use packets::{peer_number, psn_bits, spell_packet};
 pub use reads::{join, keep_marks, read_all};
 pub use writes::{cut_writes, write_all};

@@ -1,9 +1,13 @@
-ghost use Rattle.std.specs.Prelude.{◌≡◌, ◌<◌, ◌^◌};
+ghost use Rattle.std.specs.Prelude.{◌≡◌, ◌+◌, ◌<◌, ◌≤◌, ◌^◌, ◌++◌, OnOk, OnErr, length};
 ghost use Rattle.ca_model.specs.machine.Invariants.{IsQueue};
 ghost use Rattle.ca_model.specs.machine.Requester as requester;
 ghost use Rattle.ca_qpstate.specs.Seen.{queue_of};
+ghost use Rattle.ca_wire.specs.Packet.{IsWellFormed, fields_of, spelling};
+ghost use Rattle.ca_wire.specs.declared.packet.TheConstants.{MAX_PACKET_BYTES};
 
+use ca_base::Memory;
 use ca_qpstate::QueuePart;
+use ca_wire::{Packet, encode, spelling_length};
 
 /// How many PSNs there are: a packet carries 24 bits of a whole number.
 const PSNS: u64 = 0x100_0000;
@@ -26,4 +30,15 @@ pub fn psn_bits(psn: u64) -> u32
     ensures narrow { result < 2 ^ 24 }
 {
     (psn % PSNS) as u32
+}
+
+/// Adds the bytes that spell a packet, at most 4128.
+pub fn spell_packet(packet: &Packet<'_>, out: &mut Vec<u8>) -> Result<(), Memory>
+    requires { IsWellFormed (fields_of packet.now) }
+    ensures spelt { OnOk result (out.new.items ≡ out.old.items ++ spelling (fields_of packet.now)) }
+    ensures size { OnOk result (length out.new.items ≤ length out.old.items + MAX_PACKET_BYTES) }
+    ensures err { OnErr result (out.new.items ≡ out.old.items) }
+{
+    spelling_length();
+    encode(packet, out)
 }

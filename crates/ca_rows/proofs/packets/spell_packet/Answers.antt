@@ -1,0 +1,11 @@
+use Rattle.std.proofs.lemmas.Result.{on_ok_weaker}
+use Rattle.ca_wire.specs.declared.packet.TheConstants.{MAX_PACKET_BYTES}
+use Rattle.ca_wire.specs.Packet.{fields_of, spelling}
+use Rattle.ca_rows.proofs.PacketLemmas.{longer}
+use Rattle.ca_rows.proofs.packets.spell_packet.Goals as goal
+
+pub returns-clause-size : goal.returns-clause-size
+returns-clause-size c = on_ok_weaker c.encode.result
+    (λ h. longer c.encode.new.out.items c.args.out.now.items (spelling (fields_of c.args.packet.now)) MAX_PACKET_BYTES h
+    (c.spelling_length.ensures.most (fields_of c.args.packet.now) c.requires))
+    c.encode.ensures.ok
