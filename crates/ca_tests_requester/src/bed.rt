@@ -38,8 +38,8 @@ pub struct Bed {
 /// The bound of the numbers that only events raise.
 const FAR: u64 = 1 << 62;
 
-// Whether the numbers that only events raise lie far below the ends of their types.
-fn is_narrow(q: &QueuePart) -> bool
+/// Whether the numbers that only events raise lie far below the ends of their types.
+pub fn is_narrow(q: &QueuePart) -> bool
     ensures { IsTrue result → AreNarrow (queue_of q.now) }
 {
     let r = &q.requester;
@@ -51,8 +51,8 @@ fn is_narrow(q: &QueuePart) -> bool
         && q.responder.expected < FAR
 }
 
-// Whether all asks are of the adapter of what is reached.
-fn are_here(reach: &SmallReach, asks: &[Ask]) -> bool
+/// Whether all asks are of the adapter of what is reached.
+pub fn are_here(reach: &SmallReach, asks: &[Ask]) -> bool
     requires { small.FitTogether reach.now }
     ensures keys { IsTrue result → AllByRecursion (small.IsAskHere reach.now) asks.now }
     ensures bytes { IsTrue result → AllByRecursion (λ ask. Unit {0}) asks.now }
@@ -66,8 +66,8 @@ fn are_here(reach: &SmallReach, asks: &[Ask]) -> bool
     are_here(reach, rest)
 }
 
-// Whether a packet is a response.
-fn is_response(p: &Packet<'_>) -> bool
+/// Whether a packet is a response.
+pub fn is_response(p: &Packet<'_>) -> bool
     ensures { result ≡ packets.is_response (fields_of p.now).opcode }
 {
     p.opcode >= RDMA_READ_RESPONSE_FIRST && p.opcode <= ATOMIC_ACKNOWLEDGE

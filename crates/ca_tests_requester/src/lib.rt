@@ -8,4 +8,4 @@ mod bed;
 #[cfg(test)]
 mod tests;
 
-pub use bed::Bed;
+pub use bed::{Bed, are_here, is_narrow, is_response};

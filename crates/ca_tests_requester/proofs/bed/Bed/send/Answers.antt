@@ -1,6 +1,6 @@
 use Rattle.std.proofs.Common.{◌≡◌, ◌∙◌, sym, ap, rules}
 use Rattle.ca_qpstate.specs.Seen.{queue_of}
-use Rattle.ca_requester.specs.Turn.{handed}
+use Rattle.ca_rows.specs.Done.{handed}
 use Rattle.ca_tests_grant.specs.SmallReach.{sight_of}
 use Rattle.ca_tests_requester.proofs.Kept.{at_hand, stands_by, turn_kept}
 use Rattle.ca_tests_requester.proofs.bed.Bed.send.Goals as goal
