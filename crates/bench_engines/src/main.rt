@@ -1,8 +1,9 @@
-//! How long the requester takes: sends a WRITE of eight bytes and takes its acknowledgement, as often as its word says.
+//! How long the engines take: WRITEs of eight bytes and their acknowledgements, as often as its words say.
 //!
 //! It promises nothing; `bench/engines` counts the instructions of the functions that it calls.
 #![tactic(auto)]
 
+mod answering;
 mod work;
 
 use std::process::ExitCode;

@@ -1,6 +1,7 @@
 ghost use Rattle.std.specs.Prelude.{IfSome};
 ghost use Rattle.ca_tests_requester.specs.Bed as beds;
 
+use crate::answering::{answers, duplicates};
 use arrayvec::ArrayVec;
 use ca_base::{
     AdapterConfig, Change, Config, DomainId, Key, Piece, QueueId, Rights, Run, SendOp, SendRequest,
@@ -58,22 +59,23 @@ const PIECE: Piece = Piece {
     length: 8,
 };
 
-const CHANGES: [Change; 3] = [
-    Change::Init,
-    Change::Rtr {
+/// The changes that bring a queue pair up, which expects this PSN.
+fn changes(expected: u32) -> [Change; 3] {
+    let ready_to_receive = Change::Rtr {
         peer: PEER,
         incarnation: 1,
-        psn: 0,
+        psn: expected,
         mtu: 4096,
         rnr_code: 12,
-    },
-    Change::Rts {
+    };
+    let ready_to_send = Change::Rts {
         psn: 0,
         retry: 7,
         rnr_retry: 7,
         reads: 16,
-    },
-];
+    };
+    [Change::Init, ready_to_receive, ready_to_send]
+}
 
 fn config() -> Option<Config> {
     let mut adapters = ArrayVec::new();
@@ -93,7 +95,7 @@ fn config() -> Option<Config> {
     })
 }
 
-fn new_bed(alloc: Global) -> Option<Bed>
+pub fn new_bed(alloc: Global) -> Option<Bed>
     ensures { IfSome result beds.Stands }
 {
     let reach = SmallReach::registered(alloc, SLOT, AT, 4096, ALL).ok()?;
@@ -164,14 +166,14 @@ fn turns(
     turns(alloc, bed, psn + 1, count, marks, out)
 }
 
-fn bring_up(bed: &mut Bed) -> bool
+pub fn bring_up(bed: &mut Bed, expected: u32) -> bool
     requires { beds.Stands bed.old }
     ensures { beds.Stands bed.new }
 {
     let Some(config) = config() else {
         return false;
     };
-    let [first, second, third] = CHANGES;
+    let [first, second, third] = changes(expected);
     bed.change(&config, &first) && bed.change(&config, &second) && bed.change(&config, &third)
 }
 
@@ -180,7 +182,7 @@ fn run(alloc: Global, bed: &mut Bed, count: u8) -> Option<usize>
 {
     let mut marks = Marks::empty(alloc);
     let mut out = Vec::new(alloc);
-    if !bring_up(bed) || marks.reserve(2048).is_err() || out.reserve(4096).is_err() {
+    if !bring_up(bed, 0) || marks.reserve(2048).is_err() || out.reserve(4096).is_err() {
         return None;
     }
     if turns(alloc, bed, 0, count, &mut marks, &mut out) {
@@ -197,19 +199,34 @@ fn sum_of(alloc: Global, count: u8) -> Option<usize> {
     }
 }
 
-/// Sends as many requests as the first word says, at most 255, and prints how many marks they made.
+// Does what the word names, so many times; how many marks that made.
+fn sum_named(alloc: Global, word: &str, count: u8) -> Option<usize> {
+    match word {
+        "requests" => sum_of(alloc, count),
+        "answers" => answers(alloc, count),
+        "duplicates" => duplicates(alloc, count),
+        _ => None,
+    }
+}
+
+/// Does what the first word names as often as the second says, at most 255 times, and prints how many marks that made.
+/// `requests` sends WRITEs and takes their acknowledgements, `answers` takes a WRITE and sends an acknowledgement, and
+/// `duplicates` takes a WRITE that came before.
 pub fn start<R: Env + Print + AllocGlobal>(rt: &R) -> ExitCode {
     let Ok(mut args) = env::args(rt) else {
         return ExitCode::from(2);
     };
     let _ = args.next();
+    let Some(word) = args.next() else {
+        return ExitCode::from(2);
+    };
     let Some(count) = args.next() else {
         return ExitCode::from(2);
     };
     let Ok(count) = count.as_str().parse::<u8>() else {
         return ExitCode::from(2);
     };
-    match sum_of(rt.alloc(), count) {
+    match sum_named(rt.alloc(), word.as_str(), count) {
         Some(sum) if println!(rt; "{sum}").is_ok() => ExitCode::from(0),
         Some(_) => ExitCode::from(3),
         None => ExitCode::from(2),

@@ -1,0 +1,107 @@
+-- A request without a key to end ends none, and an acknowledgement can be queued.
+use Rattle.std.proofs.Common.{◌≡◌, ℕ, ◌+◌, Bool, true, false, if◌then◌else◌, ◌&&◌, nat_lt, arith, refl, Option, None, Some, [], is_none, length}
+use Rattle.ca_base.specs.declared.change.State.TheVariants.{Rts}
+use Rattle.ca_base.specs.declared.queue_numbers.Queued.TheVariants.{Ack}
+use Rattle.ca_base.specs.objects.QueuePair.{QueuePair}
+use Rattle.ca_base.specs.objects.SharedReceives.{PlacedReceive, SharedReceives}
+use Rattle.ca_laws.proofs.ArrivalLemmas.{answer-queue}
+use Rattle.ca_psn.specs.Psn.{widened}
+use Rattle.ca_wire.specs.Packet.{Fields}
+use Rattle.ca_wire.specs.declared.atomic_eth.AtomicEth.{AtomicEth}
+use Rattle.ca_wire.specs.declared.reth.Reth.{Reth}
+use Rattle.ca_wire.specs.declared.segment.Position.{Position}
+use Rattle.ca_wire.specs.declared.syndrome.NakCode.TheVariants.{InvalidRequest}
+use Rattle.ca_model.specs.declared.mark.Drop1.TheVariants as drops
+use Rattle.ca_model.specs.Packets.{is_response}
+use Rattle.ca_model.specs.Requests.{list_length}
+use Rattle.ca_model.specs.machine.Arrivals.{next_receive, refusal_effects, with_answer, with_flag}
+use Rattle.ca_model.specs.machine.Delivery.{packet_arrived}
+use Rattle.ca_model.specs.machine.Duplicates.{request_row}
+use Rattle.ca_model.specs.machine.Expected.{Receiving, WriteReach, atomic_row, expected_row, invalidation_of, is_invalid, read_queued, receiving_of, send_row, takes_receive, valid_row, write_reach, write_row}
+use Rattle.ca_model.specs.machine.Invariants.{IsQueue}
+use Rattle.ca_model.specs.machine.Responses.{drop_effects}
+use Rattle.ca_model.specs.machine.Row.{Row, Does, plain_row}
+use Rattle.ca_model.specs.machine.Shapes.{Shape, SendAt, WriteAt, ReadRequest, Atomic, shape_of}
+
+abbrev EndsNone : Row → Type 0
+EndsNone row = row.invalidation ≡ None
+
+either : (b : Bool) (x y : Row) → EndsNone x → EndsNone y → EndsNone (if b then x else y)
+either true x y e f = e
+either false x y e f = f
+
+invalidates-none : (q : QueuePair) (p : Fields) → p.ieth ≡ None → invalidation_of q p ≡ None
+invalidates-none q p plain = rw plain refl
+
+send-none : (q : QueuePair) (p : Fields) (place : Position) (r : Receiving) → p.ieth ≡ None → EndsNone (send_row q p place r)
+send-none q p place r plain = by (nat_lt (list_length r.receive.receive.list.items) (r.before + length p.payload)) refl
+  where
+    by : (b : Bool) → nat_lt (list_length r.receive.receive.list.items) (r.before + length p.payload) ≡ b → EndsNone (send_row q p place r)
+    by true e = rw e refl
+    by false e = rw (e, plain) refl
+
+valid-none : (q : QueuePair) (p : Fields) (envelope : Option ℕ) (next : Option PlacedReceive) (shape : Shape) → p.ieth ≡ None → EndsNone (valid_row q p envelope next shape)
+valid-none q p envelope next (SendAt place) plain = by (receiving_of q next q.responder.message)
+  where
+    row : Option Receiving → Row
+    row (Some r) = send_row q p place r
+    row None = plain_row (Does (refusal_effects InvalidRequest q))
+
+    by : (o : Option Receiving) → EndsNone (row o)
+    by (Some r) = send-none q p place r plain
+    by None = refl
+valid-none q p envelope next (WriteAt place) plain = by (write_reach q p)
+  where
+    row : Option WriteReach → Row
+    row (Some r) = write_row q p envelope place next r
+    row None = plain_row (Does (refusal_effects InvalidRequest q))
+
+    by : (o : Option WriteReach) → EndsNone (row o)
+    by (Some r) = refl
+    by None = refl
+valid-none q p envelope next ReadRequest plain = by p.reth
+  where
+    row : Option Reth → Row
+    row (Some h) = plain_row (Does (read_queued q p envelope h))
+    row None = plain_row (Does (refusal_effects InvalidRequest q))
+
+    by : (o : Option Reth) → EndsNone (row o)
+    by (Some h) = refl
+    by None = refl
+valid-none q p envelope next (Atomic kind) plain = by p.atomic
+  where
+    row : Option AtomicEth → Row
+    row (Some a) = atomic_row q p envelope kind a
+    row None = plain_row (Does (refusal_effects InvalidRequest q))
+
+    by : (o : Option AtomicEth) → EndsNone (row o)
+    by (Some a) = refl
+    by None = refl
+
+expected-none : (q : QueuePair) (shared : Option SharedReceives) (p : Fields) (envelope : Option ℕ) (shape : Shape) → p.ieth ≡ None → EndsNone (expected_row q shared p envelope shape)
+expected-none q shared p envelope shape plain =
+    either (is_invalid (with_flag false q) p shape) _ _ refl
+    (either (takes_receive p shape && is_none (next_receive (with_flag false q) shared)) _ _ refl
+    (valid-none (with_flag false q) p envelope (next_receive (with_flag false q) shared) shape plain))
+
+request-none : (q : QueuePair) (shared : Option SharedReceives) (p : Fields) (envelope : Option ℕ) (shape : Shape) → p.ieth ≡ None → EndsNone (request_row p envelope shared shape q)
+request-none q shared p envelope shape plain =
+    either (nat_lt q.responder.expected (widened q.responder.expected p.psn)) _ _ refl
+    (either (nat_lt (widened q.responder.expected p.psn) q.responder.expected) _ _ refl (expected-none q shared p envelope shape plain))
+
+-- a request without a key to end ends none
+pub ends-none : (q : QueuePair) (shared : Option SharedReceives) (p : Fields) (envelope : Option ℕ) → is_response p.opcode ≡ false → p.ieth ≡ None
+    → EndsNone (packet_arrived p envelope shared q)
+ends-none q shared p envelope request plain = rw request (by (shape_of p.opcode))
+  where
+    row : Option Shape → Row
+    row (Some shape) = request_row p envelope shared shape q
+    row None = plain_row (Does (drop_effects q drops.State))
+
+    by : (o : Option Shape) → EndsNone (row o)
+    by (Some shape) = request-none q shared p envelope shape plain
+    by None = refl
+
+-- a queue pair with one more acknowledgement
+pub acknowledging : (q : QueuePair) → IsQueue q → q.state ≡ Rts → IsQueue (with_answer (Ack q.responder.expected) q)
+acknowledging q is up = answer-queue (Ack q.responder.expected) q is (rw up refl) (omega arith)

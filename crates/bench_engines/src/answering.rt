@@ -1,0 +1,155 @@
+ghost use Rattle.std.specs.Prelude.{◌≡◌, [], None, false, true};
+ghost use Rattle.ca_grant.specs.Reaching.{AreAtHand};
+ghost use Rattle.ca_model.specs.Packets as packets;
+ghost use Rattle.ca_model.specs.machine.Delivery.{packet_arrived};
+ghost use Rattle.ca_model.specs.machine.Invariants.{IsQueue};
+ghost use Rattle.ca_model.specs.machine.Respond.{respond_row};
+ghost use Rattle.ca_qpstate.specs.Seen.{queue_of};
+ghost use Rattle.ca_rows.specs.Narrow.{AreNarrow};
+ghost use Rattle.ca_tests_grant.specs.SmallReach as small;
+ghost use Rattle.ca_tests_requester.specs.Bed as beds;
+ghost use Rattle.ca_wire.specs.Packet.{IsWellFormed, fields_of};
+
+use crate::work::{bring_up, new_bed};
+use ca_base::{Queued, State};
+use ca_model::Marks;
+use ca_qpstate::QueuePart;
+use ca_responder::{next_response, on_request, request_asks, respond_ask};
+use ca_tests_grant::SmallReach;
+use ca_tests_requester::{Bed, are_here, is_narrow, is_response};
+use ca_wire::{Packet, decode};
+use std::alloc::Global;
+
+/// A WRITE of eight bytes that asks for an acknowledgement.
+const WRITE: [u8; 36] = [
+    0x0a, 0, 0xff, 0xff, 0, 0, 1, 0, 0x80, 0, 0, 0, 0, 0, 0, 1, 0, 0, 0, 0, 0, 0, 0, 1, 0, 0, 0, 8,
+    1, 2, 3, 4, 5, 6, 7, 8,
+];
+
+// The responder takes a request that ends no key.
+#[inline(never)]
+fn take(
+    alloc: Global,
+    q: &mut QueuePart,
+    reach: &mut SmallReach,
+    p: &Packet<'_>,
+    marks: &mut Marks,
+) -> bool
+    requires queue { IsQueue (queue_of q.old) }
+    requires narrow { AreNarrow (queue_of q.old) }
+    requires packet { IsWellFormed (fields_of p.now) }
+    requires request { packets.is_response p.now.opcode ≡ false }
+    requires plain { p.now.ieth ≡ None }
+    requires at_hand { AreAtHand small.sight_of small.IsAskHere (λ s ask. Unit {0}) reach.old (packet_arrived (fields_of p.now) None None (queue_of q.old)).asks }
+{
+    on_request(alloc, q, None, reach, p, None, marks).is_ok()
+}
+
+// Delivers a request that ends no key; false where that cannot be tried here.
+fn deliver(alloc: Global, bed: &mut Bed, p: &Packet<'_>, marks: &mut Marks) -> bool
+    requires stands { beds.Stands bed.old }
+    requires packet { IsWellFormed (fields_of p.now) }
+{
+    if is_response(p) || p.ieth.is_some() || !is_narrow(&bed.queue) {
+        return false;
+    }
+    let asks = request_asks(&bed.queue, None, p);
+    if !are_here(&bed.reach, asks.as_slice()) {
+        return false;
+    }
+    take(alloc, &mut bed.queue, &mut bed.reach, p, marks)
+}
+
+// Sends the answer that waits, which reads no memory.
+#[inline(never)]
+fn send(
+    alloc: Global,
+    q: &mut QueuePart,
+    reach: &mut SmallReach,
+    marks: &mut Marks,
+    out: &mut Vec<u8>,
+) -> bool
+    requires queue { IsQueue (queue_of q.old) }
+    requires narrow { AreNarrow (queue_of q.old) }
+    requires plain { (respond_row true (queue_of q.old)).asks ≡ [] }
+{
+    next_response(alloc, q, reach, true, marks, out).is_ok()
+}
+
+// Sends the answer that waits; false where that cannot be tried here.
+fn respond(alloc: Global, bed: &mut Bed, marks: &mut Marks, out: &mut Vec<u8>) -> bool
+    requires { beds.Stands bed.old }
+{
+    if !is_narrow(&bed.queue) || respond_ask(&bed.queue).is_some() {
+        return false;
+    }
+    send(alloc, &mut bed.queue, &mut bed.reach, marks, out)
+}
+
+// Queues an acknowledgement of the expected PSN at a connected queue pair; false where that cannot be done.
+fn queue_ack(bed: &mut Bed) -> bool
+    requires { beds.Stands bed.old }
+    ensures { beds.Stands bed.new }
+{
+    if bed.queue.state != State::Rts {
+        return false;
+    }
+    let psn = bed.queue.responder.expected;
+    bed.queue
+        .responder
+        .answers
+        .push(Queued::Ack { psn })
+        .is_ok()
+}
+
+// A queue pair that expects the packet with this PSN takes the WRITE.
+fn deliver_anew(alloc: Global, expected: u32, marks: &mut Marks) -> bool {
+    let Some(mut bed) = new_bed(alloc) else {
+        return false;
+    };
+    if !bring_up(&mut bed, expected) {
+        return false;
+    }
+    match decode(WRITE.as_slice()) {
+        Ok(p) => deliver(alloc, &mut bed, &p, marks),
+        Err(_) => false,
+    }
+}
+
+// A queue pair sends an acknowledgement.
+fn respond_anew(alloc: Global, marks: &mut Marks, out: &mut Vec<u8>) -> bool {
+    let Some(mut bed) = new_bed(alloc) else {
+        return false;
+    };
+    out.clear();
+    bring_up(&mut bed, 0) && queue_ack(&mut bed) && respond(alloc, &mut bed, marks, out)
+}
+
+/// Takes the WRITE, and sends an acknowledgement, so many times; how many marks that made.
+pub fn answers(alloc: Global, count: u8) -> Option<usize> {
+    let mut marks = Marks::empty(alloc);
+    let mut out = Vec::new(alloc);
+    if marks.reserve(2048).is_err() || out.reserve(4096).is_err() {
+        return None;
+    }
+    for _ in 0..count {
+        if !deliver_anew(alloc, 0, &mut marks) || !respond_anew(alloc, &mut marks, &mut out) {
+            return None;
+        }
+    }
+    Some(marks.as_slice().len())
+}
+
+/// Takes the WRITE once more, so many times; how many marks that made.
+pub fn duplicates(alloc: Global, count: u8) -> Option<usize> {
+    let mut marks = Marks::empty(alloc);
+    if marks.reserve(2048).is_err() {
+        return None;
+    }
+    for _ in 0..count {
+        if !deliver_anew(alloc, 1, &mut marks) {
+            return None;
+        }
+    }
+    Some(marks.as_slice().len())
+}
