@@ -1,6 +1,5 @@
 -- The key that a request ends is the one that its packet names.
-use Rattle.std.proofs.Common.{◌≡◌, ℕ, Bool, true, false, if◌then◌else◌, ◌&&◌, nat_lt, List, [], ◌∷◌, length, Option, None, Some, is_none, refl, subst, IfSome, true≢false, ◌+◌}
-use Rattle.std.specs.Option.{option_map, option_map_or}
+use Rattle.std.proofs.Common.{◌≡◌, ℕ, Bool, true, false, if◌then◌else◌, ◌&&◌, nat_lt, length, Option, None, Some, is_none, refl, subst, IfSome, true≢false, ◌+◌}
 use Rattle.ca_base.specs.Sight.{Invalidation}
 use Rattle.ca_base.specs.objects.QueuePair.{QueuePair}
 use Rattle.ca_base.specs.objects.SharedReceives.{PlacedReceive, SharedReceives}

@@ -30,7 +30,7 @@ use Rattle.ca_base.specs.declared.request.RecvRequest.{RecvRequest}
 use Rattle.ca_model.specs.declared.mark.Mark.{Mark}
 use Rattle.ca_model.specs.declared.mark.Drop1.{Drop1}
 use Rattle.ca_model.specs.declared.mark.Drop1.TheVariants as drops
-use Rattle.ca_model.specs.machine.Delivery.{arrival_drops, arrival_row, packet_arrived}
+use Rattle.ca_model.specs.machine.Delivery.{arrival_drops, packet_arrived}
 use Rattle.ca_model.specs.machine.Invariants.{IsQueue, IsReceive, IsSharedReceives}
 use Rattle.ca_model.specs.machine.Respond.{answer_turn, respond_row}
 use Rattle.ca_model.specs.machine.Responses.{drop_effects}
@@ -47,7 +47,6 @@ use Rattle.ca_tests_requester.specs.Bed.{Stands}
 use Rattle.ca_tests_requester.specs.declared.bed.Bed.{Bed}
 use Rattle.ca_wire.proofs.PacketLaws.{packet_again}
 use Rattle.ca_wire.specs.declared.wire_error.WireError.{WireError}
-use Rattle.ca_wire.specs.Decoding.{packet_in}
 use Rattle.ca_wire.specs.Packet.{Fields, Spells}
 
 -- the row of a request that is spelt so, and that the adapter does not drop, is good
