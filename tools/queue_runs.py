@@ -1,8 +1,8 @@
 """Runs of one queue pair in traces: what `rows_of_requester` and `rows_of_responder` share.
 
 A run is over one region. It has the lines that registered the region and created the queue pair, and its steps: those
-lines of a trace that concern the queue pair on one of its two sides, with their marks. It ends before the first line that
-would need more than the queue pair and its region.
+lines of a trace that concern the queue pair on one of its two sides, with their marks. It ends before the first line
+that would need more than the queue pair and its region.
 """
 import argparse
 import pathlib
@@ -152,7 +152,7 @@ def file_of(names, texts, tool):
 
 
 def print_runs(traces, queues_of, run_of):
-    """Names for each queue pair of traces how many steps its run has, how many characters, its end, and its marks."""
+    """Names each queue pair of traces with the steps and the characters of its run, its end, and its marks."""
     for name in traces:
         path = pathlib.Path(name)
         for queue in queues_of(path):

@@ -35,7 +35,7 @@ use Rattle.ca_model.specs.machine.Invariants.{IsQueue, IsReceive, IsSharedReceiv
 use Rattle.ca_model.specs.machine.Respond.{answer_turn, respond_row}
 use Rattle.ca_model.specs.machine.Responses.{drop_effects}
 use Rattle.ca_model.specs.machine.Row.{Ending, NotPossible, Does, Row, ending_of, plain_row}
-use Rattle.ca_responder.specs.Taking.{Found, found, IsArrival, after_shared, ended_by, without_key}
+use Rattle.ca_responder.specs.Taking.{found, IsArrival, after_shared, ended_by, without_key}
 use Rattle.ca_qpstate.specs.Seen.{queue_of}
 use Rattle.ca_rows.specs.Done.{Handed, IsTurn}
 use Rattle.ca_tests_grant.specs.SmallLaws.{places-here}
@@ -98,18 +98,18 @@ key-keeps None s fit = fit
 key-keeps (Some i) s fit = end-keeps s i fit
 
 -- what is kept from what a request finds to what it leaves
-pub record IsKept (new : Found SmallReach) : Type 0 where
+pub record IsKept (new : Handed SmallReach) : Type 0 where
   pub queue : IsQueue new.queue
   pub reach : FitTogether new.reach
 
-arrival-ending-kept : (result : Result (Unit {0}) Memory) (ending : Ending) (ended : Option Invalidation) (before new : Found SmallReach) → IsKept before
+arrival-ending-kept : (result : Result (Unit {0}) Memory) (ending : Ending) (ended : Option Invalidation) (before new : Handed SmallReach) → IsKept before
     → IsGoodEnding before.queue ending → IsArrival after_write_by after_end_of result ending ended before new → IsKept new
 arrival-ending-kept (Ok done) (Does e) ended before new kept good h =
     rw h (record { queue = good.sound; reach = key-keeps ended _ (writes-keep e.writes before.reach kept.reach) })
 arrival-ending-kept (Ok done) (NotPossible reason) ended before new kept good h = absurd h
 arrival-ending-kept (Err memory) ending ended before new kept good h = rw h kept
 
-pub arrival_kept : (result : Result (Unit {0}) Memory) (s : Sight) (row : Row) (before new : Found SmallReach) → IsKept before → IsGoodRow before.queue row
+pub arrival_kept : (result : Result (Unit {0}) Memory) (s : Sight) (row : Row) (before new : Handed SmallReach) → IsKept before → IsGoodRow before.queue row
     → IsArrival after_write_by after_end_of result (ending_of s row) (ended_by s row) before new → IsKept new
 arrival_kept result s row before new kept good h =
     arrival-ending-kept result (ending_of s row) (ended_by s row) before new kept (ends-good before.queue s row good) h
