@@ -1,10 +1,7 @@
--- A request without a key to end ends none, and an acknowledgement can be queued.
-use Rattle.std.proofs.Common.{◌≡◌, ℕ, ◌+◌, Bool, true, false, if◌then◌else◌, ◌&&◌, nat_lt, arith, refl, Option, None, Some, [], is_none, length}
-use Rattle.ca_base.specs.declared.change.State.TheVariants.{Rts}
-use Rattle.ca_base.specs.declared.queue_numbers.Queued.TheVariants.{Ack}
+-- A request without a key to end ends none.
+use Rattle.std.proofs.Common.{◌≡◌, ℕ, ◌+◌, Bool, true, false, if◌then◌else◌, ◌&&◌, nat_lt, refl, Option, None, Some, [], is_none, length}
 use Rattle.ca_base.specs.objects.QueuePair.{QueuePair}
 use Rattle.ca_base.specs.objects.SharedReceives.{PlacedReceive, SharedReceives}
-use Rattle.ca_laws.proofs.ArrivalLemmas.{answer-queue}
 use Rattle.ca_psn.specs.Psn.{widened}
 use Rattle.ca_wire.specs.Packet.{Fields}
 use Rattle.ca_wire.specs.declared.atomic_eth.AtomicEth.{AtomicEth}
@@ -14,11 +11,10 @@ use Rattle.ca_wire.specs.declared.syndrome.NakCode.TheVariants.{InvalidRequest}
 use Rattle.ca_model.specs.declared.mark.Drop1.TheVariants as drops
 use Rattle.ca_model.specs.Packets.{is_response}
 use Rattle.ca_model.specs.Requests.{list_length}
-use Rattle.ca_model.specs.machine.Arrivals.{next_receive, refusal_effects, with_answer, with_flag}
+use Rattle.ca_model.specs.machine.Arrivals.{next_receive, refusal_effects, with_flag}
 use Rattle.ca_model.specs.machine.Delivery.{packet_arrived}
 use Rattle.ca_model.specs.machine.Duplicates.{request_row}
 use Rattle.ca_model.specs.machine.Expected.{Receiving, WriteReach, atomic_row, expected_row, invalidation_of, is_invalid, read_queued, receiving_of, send_row, takes_receive, valid_row, write_reach, write_row}
-use Rattle.ca_model.specs.machine.Invariants.{IsQueue}
 use Rattle.ca_model.specs.machine.Responses.{drop_effects}
 use Rattle.ca_model.specs.machine.Row.{Row, Does, plain_row}
 use Rattle.ca_model.specs.machine.Shapes.{Shape, SendAt, WriteAt, ReadRequest, Atomic, shape_of}
@@ -101,7 +97,3 @@ ends-none q shared p envelope request plain = rw request (by (shape_of p.opcode)
     by : (o : Option Shape) → EndsNone (row o)
     by (Some shape) = request-none q shared p envelope shape plain
     by None = refl
-
--- a queue pair with one more acknowledgement
-pub acknowledging : (q : QueuePair) → IsQueue q → q.state ≡ Rts → IsQueue (with_answer (Ack q.responder.expected) q)
-acknowledging q is up = answer-queue (Ack q.responder.expected) q is (rw up refl) (omega arith)

@@ -1,4 +1,4 @@
-ghost use Rattle.std.specs.Prelude.{◌≡◌, [], None, false, true};
+ghost use Rattle.std.specs.Prelude.{◌≡◌, [], IfSome, None, false, true};
 ghost use Rattle.ca_grant.specs.Reaching.{AreAtHand};
 ghost use Rattle.ca_model.specs.Packets as packets;
 ghost use Rattle.ca_model.specs.machine.Delivery.{packet_arrived};
@@ -8,23 +8,26 @@ ghost use Rattle.ca_qpstate.specs.Seen.{queue_of};
 ghost use Rattle.ca_rows.specs.Narrow.{AreNarrow};
 ghost use Rattle.ca_tests_grant.specs.SmallReach as small;
 ghost use Rattle.ca_tests_requester.specs.Bed as beds;
+ghost use Rattle.ca_tests_responder.specs.Responder as responders;
 ghost use Rattle.ca_wire.specs.Packet.{IsWellFormed, fields_of};
 
 use crate::work::{bring_up, new_bed};
-use ca_base::{Queued, State};
 use ca_model::Marks;
 use ca_qpstate::QueuePart;
 use ca_responder::{next_response, on_request, request_asks, respond_ask};
 use ca_tests_grant::SmallReach;
 use ca_tests_requester::{Bed, are_here, is_narrow, is_response};
+use ca_tests_responder::Responder;
 use ca_wire::{Packet, decode};
 use std::alloc::Global;
 
-/// A WRITE of eight bytes that asks for an acknowledgement.
-const WRITE: [u8; 36] = [
-    0x0a, 0, 0xff, 0xff, 0, 0, 1, 0, 0x80, 0, 0, 0, 0, 0, 0, 1, 0, 0, 0, 0, 0, 0, 0, 1, 0, 0, 0, 8,
-    1, 2, 3, 4, 5, 6, 7, 8,
-];
+/// A WRITE of eight bytes that asks for an acknowledgement, with this PSN.
+fn write(psn: u8) -> [u8; 36] {
+    [
+        0x0a, 0, 0xff, 0xff, 0, 0, 1, 0, 0x80, 0, 0, psn, 0, 0, 0, 1, 0, 0, 0, 0, 0, 0, 0, 1, 0, 0,
+        0, 8, 1, 2, 3, 4, 5, 6, 7, 8,
+    ]
+}
 
 // The responder takes a request that ends no key.
 #[inline(never)]
@@ -86,46 +89,59 @@ fn respond(alloc: Global, bed: &mut Bed, marks: &mut Marks, out: &mut Vec<u8>) -
     send(alloc, &mut bed.queue, &mut bed.reach, marks, out)
 }
 
-// Queues an acknowledgement of the expected PSN at a connected queue pair; false where that cannot be done.
-fn queue_ack(bed: &mut Bed) -> bool
-    requires { beds.Stands bed.old }
-    ensures { beds.Stands bed.new }
+// A responder takes the WRITE with this PSN; false where it does not.
+fn take_first(alloc: Global, responder: &mut Responder, psn: u8, marks: &mut Marks) -> bool
+    requires { responders.Stands responder.old }
+    ensures { responders.Stands responder.new }
 {
-    if bed.queue.state != State::Rts {
-        return false;
-    }
-    let psn = bed.queue.responder.expected;
-    bed.queue
-        .responder
-        .answers
-        .push(Queued::Ack { psn })
-        .is_ok()
+    let taken = responder.take(alloc, write(psn).as_slice(), None, marks);
+    matches!(taken, Some(Ok(())))
 }
 
-// A queue pair that expects the packet with this PSN takes the WRITE.
-fn deliver_anew(alloc: Global, expected: u32, marks: &mut Marks) -> bool {
-    let Some(mut bed) = new_bed(alloc) else {
+// A responder that took a WRITE and acknowledged it, so that its response queue has its memory.
+fn new_responder(alloc: Global) -> Option<Responder>
+    ensures { IfSome result responders.Stands }
+{
+    let mut marks = Marks::empty(alloc);
+    let mut out = Vec::new(alloc);
+    let mut bed = new_bed(alloc)?;
+    if !bring_up(&mut bed, 0) {
+        return None;
+    }
+    let mut responder = Responder::of(alloc, bed)?;
+    if !take_first(alloc, &mut responder, 0, &mut marks) {
+        return None;
+    }
+    match responder.respond(alloc, true, &mut marks, &mut out) {
+        Some(Ok(_)) => Some(responder),
+        _ => None,
+    }
+}
+
+// Such a responder takes the WRITE with this PSN.
+fn deliver_anew(alloc: Global, psn: u8, marks: &mut Marks) -> bool {
+    let Some(mut responder) = new_responder(alloc) else {
         return false;
     };
-    if !bring_up(&mut bed, expected) {
-        return false;
-    }
-    match decode(WRITE.as_slice()) {
-        Ok(p) => deliver(alloc, &mut bed, &p, marks),
+    match decode(write(psn).as_slice()) {
+        Ok(p) => deliver(alloc, &mut responder.bed, &p, marks),
         Err(_) => false,
     }
 }
 
-// A queue pair sends an acknowledgement.
+// Such a responder takes another WRITE, and sends the acknowledgement.
 fn respond_anew(alloc: Global, marks: &mut Marks, out: &mut Vec<u8>) -> bool {
-    let Some(mut bed) = new_bed(alloc) else {
+    let Some(mut responder) = new_responder(alloc) else {
         return false;
     };
+    let mut taken = Marks::empty(alloc);
     out.clear();
-    bring_up(&mut bed, 0) && queue_ack(&mut bed) && respond(alloc, &mut bed, marks, out)
+    take_first(alloc, &mut responder, 1, &mut taken)
+        && respond(alloc, &mut responder.bed, marks, out)
 }
 
-/// Takes the WRITE, and sends an acknowledgement, so many times; how many marks that made.
+/// Takes the WRITE, and sends an acknowledgement, so many times; how many marks that made. Each queue pair has answered
+/// before.
 pub fn answers(alloc: Global, count: u8) -> Option<usize> {
     let mut marks = Marks::empty(alloc);
     let mut out = Vec::new(alloc);
@@ -133,21 +149,21 @@ pub fn answers(alloc: Global, count: u8) -> Option<usize> {
         return None;
     }
     for _ in 0..count {
-        if !deliver_anew(alloc, 0, &mut marks) || !respond_anew(alloc, &mut marks, &mut out) {
+        if !deliver_anew(alloc, 1, &mut marks) || !respond_anew(alloc, &mut marks, &mut out) {
             return None;
         }
     }
     Some(marks.as_slice().len())
 }
 
-/// Takes the WRITE once more, so many times; how many marks that made.
+/// Takes the WRITE once more, so many times; how many marks that made. Each queue pair has answered before.
 pub fn duplicates(alloc: Global, count: u8) -> Option<usize> {
     let mut marks = Marks::empty(alloc);
     if marks.reserve(2048).is_err() {
         return None;
     }
     for _ in 0..count {
-        if !deliver_anew(alloc, 1, &mut marks) {
+        if !deliver_anew(alloc, 0, &mut marks) {
             return None;
         }
     }

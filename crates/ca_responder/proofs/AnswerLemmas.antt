@@ -8,7 +8,7 @@ use Rattle.ca_base.specs.objects.QueuePair.{QueuePair}
 use Rattle.ca_base.specs.objects.Saved.{after_save}
 use Rattle.ca_model.specs.machine.Arrivals.{with_responder}
 use Rattle.ca_responder.specs.Atomics.{after_atomic, settled}
-use Rattle.ca_responder.specs.Numbers.{passed}
+use Rattle.ca_arrivals.specs.Numbers.{passed}
 use Rattle.ca_base.specs.objects.Answers.{answers_before, psn_of_answer}
 
 end-at : (n : ℕ) (ys : List Queued) (a b : Queued) → n ≡ length ys → slice_set (ys ++ a ∷ []) n b ≡ ys ++ b ∷ []

@@ -18,7 +18,7 @@ use Rattle.ca_model.specs.machine.Expected.{Receiving, after_send_packet, behind
 use Rattle.ca_model.specs.machine.Responses.{local_writes, writes_by}
 use Rattle.ca_model.specs.machine.Row.{Does, ending_of}
 use Rattle.ca_responder.specs.Ending.{key_end, refused_end, sent_and_ended}
-use Rattle.ca_responder.specs.Numbers.{receive_taken, unasked}
+use Rattle.ca_arrivals.specs.Numbers.{receive_taken, unasked}
 use Rattle.ca_responder.specs.Taking.{HasTaken, IsPacketTaken, ended_by, found}
 use Rattle.ca_responder.proofs.RowLemmas.{taken-as}
 use Rattle.ca_base.specs.declared.completion.WcStatus.TheVariants.{MemoryManagement}

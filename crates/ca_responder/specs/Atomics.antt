@@ -3,7 +3,6 @@ use Rattle.std.specs.Prelude.{◌≡◌, ℕ, ◌-◌, ◌%◌, false, true, len
 use Rattle.std.specs.Option.{option_map_or}
 use Rattle.ca_base.specs.declared.access.Ask.{Ask}
 use Rattle.ca_base.specs.declared.access.Kind.{Kind}
-use Rattle.ca_base.specs.declared.access.Kind.TheVariants as kinds
 use Rattle.ca_base.specs.declared.queue_numbers.Queued.TheVariants as queued
 use Rattle.ca_base.specs.declared.verdict.Verdict.{Verdict}
 use Rattle.ca_base.specs.declared.verdict.Verdict.TheVariants as verdicts
@@ -15,16 +14,8 @@ use Rattle.ca_base.specs.objects.Saved.{after_save}
 use Rattle.ca_wire.specs.declared.atomic_eth.AtomicEth.{AtomicEth}
 use Rattle.ca_model.specs.Packets.{number_put}
 use Rattle.ca_model.specs.machine.Arrivals.{with_answer}
-use Rattle.ca_responder.specs.Numbers.{passed}
-use Rattle.ca_responder.specs.declared.shape.Shape.{Shape}
-use Rattle.ca_responder.specs.declared.shape.Shape.TheVariants as shapes
-
--- the kinds of atomics
-abbrev pub IsAtomicKind : Kind → Type 0
-IsAtomicKind kinds.Read = ⊥
-IsAtomicKind kinds.Write = ⊥
-IsAtomicKind kinds.CmpSwap = Unit {0}
-IsAtomicKind kinds.FetchAdd = Unit {0}
+use Rattle.ca_arrivals.specs.Numbers.{passed}
+use Rattle.ca_arrivals.specs.Shapes.{IsAtomicKind}
 
 -- an ask for the eight bytes of an atomic, at an address that is a multiple of eight
 pub record IsAtomicRequest (of_kind : Kind) (ask : Ask) : Type 0 where
@@ -63,10 +54,3 @@ settled found q = passed 1 true (record q {
   };
   saved = after_save q.responder.expected found q.saved;
 })
-
--- an atomic's shape has the kind of one
-abbrev pub IsRequestShape : Shape → Type 0
-IsRequestShape (shapes.Send place) = Unit {0}
-IsRequestShape (shapes.Write place) = Unit {0}
-IsRequestShape shapes.Read = Unit {0}
-IsRequestShape (shapes.Atomic kind) = IsAtomicKind kind

@@ -12,7 +12,7 @@ use Rattle.ca_wire.specs.Packet.{Fields}
 use Rattle.ca_model.specs.machine.Arrivals.{with_flag}
 use Rattle.ca_model.specs.machine.Expected.{Receiving, after_send_packet, behind_marks, receive_failure_effects, revoked_marks, with_window_gone}
 use Rattle.ca_model.specs.machine.Row.{Effects}
-use Rattle.ca_responder.specs.Numbers.{receive_taken}
+use Rattle.ca_arrivals.specs.Numbers.{receive_taken}
 
 -- the queue pair ends this key
 abbrev pub key_end : QueuePair → Key → Invalidation

@@ -6,12 +6,10 @@ use Rattle.ca_base.specs.declared.access.Ask.{Ask}
 use Rattle.ca_base.specs.declared.memory.Memory.{Memory}
 use Rattle.ca_base.specs.Sight.{DeniedAsk, Invalidation, Sight, first_denied}
 use Rattle.ca_base.specs.objects.QueuePair.{QueuePair}
-use Rattle.ca_base.specs.objects.SharedReceives.{PlacedReceive, SharedReceives, after_receive_take}
+use Rattle.ca_base.specs.objects.SharedReceives.{SharedReceives, after_receive_take}
 use Rattle.ca_base.specs.objects.Slices.{is_window_key}
-use Rattle.ca_base.specs.objects.WorkQueue.{waiting_count}
 use Rattle.ca_grant.specs.Reaching.{invalidation_by}
 use Rattle.ca_model.specs.declared.mark.Mark.{Mark}
-use Rattle.ca_model.specs.machine.Expected.{Receiving}
 use Rattle.ca_model.specs.machine.Row.{Effects, Ending, NotPossible, Does, Row}
 use Rattle.ca_rows.specs.Done.{Handed, after_effects, handed, written_all}
 
@@ -75,12 +73,3 @@ pub record MayEnd {S : Type 0} (sight : S → Sight) (ends : S → Invalidation 
   pub own : i ≡ invalidation_by i.key i.queue
   pub at_hand : ends reach i
   pub counted : is_window_key i.key ≡ true → (sight reach).refusal i ≡ None → 0 < q.windows
-
--- the receive that a message would take waits in its queue
-abbrev pub CanTake : QueuePair → Option PlacedReceive → Type 0
-CanTake q None = Unit {0}
-CanTake q (Some receive) = IfSome q.receives (λ r. 0 < waiting_count r)
-
--- where a SEND packet takes its receive, that waits in its queue
-abbrev pub MayTake : Receiving → QueuePair → Type 0
-MayTake r q = r.taken ≡ true → IfSome q.receives (λ r. 0 < waiting_count r)

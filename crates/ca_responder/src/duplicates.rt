@@ -3,13 +3,11 @@ ghost use Rattle.ca_base.specs.objects.Answers.{answers_before, has_nak_from};
 ghost use Rattle.ca_model.specs.machine.Duplicates as rows;
 ghost use Rattle.ca_model.specs.machine.Invariants.{IsQueue};
 ghost use Rattle.ca_qpstate.specs.Seen.{queue_of};
-ghost use Rattle.ca_responder.specs.Shapes.{shape_seen};
+ghost use Rattle.ca_arrivals.specs.Shapes.{shape_seen};
 ghost use Rattle.ca_rows.specs.Narrow.{AreNarrow};
 ghost use Rattle.ca_wire.specs.Packet.{fields_of};
 
-use crate::queueing::{drop_packet, queue_answer};
-use crate::segments::read_segments;
-use crate::shape::Shape;
+use ca_arrivals::{Shape, drop_packet, queue_answer, read_segments};
 use ca_base::limits::MAX_DUPLICATES;
 use ca_base::{Answers, Memory, Queued};
 use ca_model::{Drop1, Marks};

@@ -8,25 +8,13 @@
 //! responder of the reliable connection.
 #![tactic(auto)]
 
-mod answer;
-mod asks;
-mod checks;
 mod duplicates;
-mod flush;
 mod held;
-mod queueing;
-mod read_left;
-mod receive;
-mod remote;
 mod remote_requests;
 mod request;
-mod respond;
-mod segments;
 mod send;
-mod shape;
 mod write;
-mod write_reach;
 
-pub use asks::request_asks;
+pub use ca_answering::{next_response, respond_ask};
+pub use ca_arrivals::request_asks;
 pub use request::on_request;
-pub use respond::{next_response, respond_ask};

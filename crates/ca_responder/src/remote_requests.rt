@@ -9,15 +9,14 @@ ghost use Rattle.ca_model.specs.machine.Expected as rows;
 ghost use Rattle.ca_model.specs.machine.Invariants.{IsQueue};
 ghost use Rattle.ca_model.specs.machine.Row.{ending_of};
 ghost use Rattle.ca_qpstate.specs.Seen.{queue_of};
-ghost use Rattle.ca_responder.specs.Atomics.{IsAtomicKind, IsAtomicRequest, after_atomic, found_in, number_left, number_seen, settled};
+ghost use Rattle.ca_arrivals.specs.Shapes.{IsAtomicKind};
+ghost use Rattle.ca_responder.specs.Atomics.{IsAtomicRequest, after_atomic, found_in, number_left, number_seen, settled};
 ghost use Rattle.ca_responder.specs.Taking.{IsPacketTaken, ended_by, found};
 ghost use Rattle.ca_rows.specs.Narrow.{AreNarrow};
 ghost use Rattle.ca_wire.specs.Packet.{fields_of};
 
-use crate::queueing::pass;
-use crate::remote::{packet_ask, remote_mark};
-use crate::segments::read_segments;
 use crate::write::deny;
+use ca_arrivals::{packet_ask, pass, read_segments, remote_mark};
 use ca_base::limits::ATOMIC_BYTES;
 use ca_base::{Ask, AtomicOp, Kind, Memory, Queued, Verdict};
 use ca_grant::Reach;

@@ -1,4 +1,4 @@
-ghost use Rattle.std.specs.Prelude.{◌≡◌, ◌≤◌, ◌++◌, if◌then◌else◌, None, Some, OnOk, OnErr, IfOk, IfSome, false, true, option_copied};
+ghost use Rattle.std.specs.Prelude.{◌≡◌, ◌≤◌, ◌++◌, if◌then◌else◌, None, Some, OnOk, OnErr, IfOk, IfSome, false, true, nat_lt, option_copied};
 ghost use Rattle.std.specs.Option.{option_copied_mut};
 ghost use Rattle.ca_base.specs.Handed.{left_behind};
 ghost use Rattle.ca_base.specs.objects.SharedReceives.{after_receive_take};
@@ -11,22 +11,22 @@ ghost use Rattle.ca_model.specs.machine.Duplicates.{request_row};
 ghost use Rattle.ca_model.specs.machine.Expected as rows;
 ghost use Rattle.ca_model.specs.machine.Invariants.{IsQueue, IsReceive, IsSharedReceives};
 ghost use Rattle.ca_model.specs.machine.Row.{ending_of};
+ghost use Rattle.ca_psn.specs.Psn.{widened};
 ghost use Rattle.ca_qpstate.specs.Seen.{queue_of};
-ghost use Rattle.ca_responder.specs.Atomics.{IsRequestShape};
-ghost use Rattle.ca_responder.specs.Shapes.{shape_seen};
-ghost use Rattle.ca_responder.specs.Taking.{CanTake, IsArrival, IsPacketTaken, MayEnd, after_shared, ended_by, found};
+ghost use Rattle.ca_arrivals.specs.Receives.{CanTake};
+ghost use Rattle.ca_arrivals.specs.Shapes.{IsRequestShape, shape_seen};
+ghost use Rattle.ca_responder.specs.Taking.{IsArrival, IsPacketTaken, MayEnd, after_shared, ended_by, found};
 ghost use Rattle.ca_rows.specs.Narrow.{AreNarrow};
 ghost use Rattle.ca_wire.specs.Packet.{IsWellFormed, fields_of};
 
-use crate::checks::{is_invalid, takes_receive};
 use crate::duplicates::{take_ahead, take_duplicate};
-use crate::queueing::{drop_packet, queue_answer, refuse};
-use crate::receive::{Placed, find_receive, receiving_of};
 use crate::remote_requests::{take_atomic, take_read};
 use crate::send::take_send;
-use crate::shape::{Shape, shape_of};
 use crate::write::take_write;
-use crate::write_reach::write_reach;
+use ca_arrivals::{
+    Placed, Shape, drop_packet, find_receive, is_invalid, queue_answer, receiving_of, refuse,
+    shape_of, takes_receive, write_reach,
+};
 use ca_base::{Memory, Queued};
 use ca_grant::Reach;
 use ca_model::{Drop1, Marks};
@@ -195,16 +195,34 @@ fn take_shaped<R: Reach>(
         (found (queue_of q.old) marks.old.marks reach.old) (found (queue_of q.new) marks.new.marks reach.new) }
     ensures room { OnOk result (2 ≤ marks.new.room) }
 {
-    let psn = widen(q.responder.expected, p.psn);
-    if psn > q.responder.expected {
+    if is_ahead(q, p) {
         take_ahead(q, marks)?;
         return Ok(false);
     }
-    if psn < q.responder.expected {
+    if is_duplicate(q, p) {
+        let psn = widen(q.responder.expected, p.psn);
         take_duplicate(q, psn, p, envelope, shape, marks)?;
         return Ok(false);
     }
     take_expected(alloc, q, srq, reach, p, envelope, shape, marks)
+}
+
+/// Whether packets before it are missing: its PSN lies behind the expected one.
+fn is_ahead(q: &QueuePart, p: &Packet<'_>) -> bool
+    requires queue { IsQueue (queue_of q.now) }
+    requires narrow { AreNarrow (queue_of q.now) }
+    ensures { result ≡ nat_lt q.now.responder.expected (widened q.now.responder.expected p.now.psn) }
+{
+    widen(q.responder.expected, p.psn) > q.responder.expected
+}
+
+/// Whether it came before: its PSN lies before the expected one.
+fn is_duplicate(q: &QueuePart, p: &Packet<'_>) -> bool
+    requires queue { IsQueue (queue_of q.now) }
+    requires narrow { AreNarrow (queue_of q.now) }
+    ensures { result ≡ nat_lt (widened q.now.responder.expected p.now.psn) q.now.responder.expected }
+{
+    widen(q.responder.expected, p.psn) < q.responder.expected
 }
 
 /// The packet with the expected PSN. Its steps, in this order, with the function of each:

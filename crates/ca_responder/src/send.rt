@@ -20,58 +20,26 @@ ghost use Rattle.ca_model.specs.machine.Responses.{local_writes};
 ghost use Rattle.ca_model.specs.machine.Row.{ending_of};
 ghost use Rattle.ca_qpstate.specs.Seen.{queue_of};
 ghost use Rattle.ca_responder.specs.Ending.{key_end, refused_end, sent_and_ended};
-ghost use Rattle.ca_responder.specs.Numbers.{receive_taken, unasked};
-ghost use Rattle.ca_responder.specs.Taking.{IsPacketTaken, MayEnd, MayTake, ended_by, found};
+ghost use Rattle.ca_arrivals.specs.Numbers.{receive_taken, unasked};
+ghost use Rattle.ca_arrivals.specs.Receives.{MayTake};
+ghost use Rattle.ca_responder.specs.Taking.{IsPacketTaken, MayEnd, ended_by, found};
 ghost use Rattle.ca_rows.specs.Asks.{CanWrite, IsAskOf, IsGranted, touched_by};
 ghost use Rattle.ca_rows.specs.Done.{written_all};
 ghost use Rattle.ca_rows.specs.Narrow.{AreNarrow};
 ghost use Rattle.ca_wire.specs.Packet.{fields_of};
 
-use crate::flush::{push_flush_behind, reserve_for};
 use crate::held::{hold, refuse_held, settle_held};
-use crate::queueing::{pass, queue_ack, queue_refusal};
-use crate::receive::{Placed, Receiving, take_own};
-use arrayvec::ArrayVec;
-use ca_base::limits::MAX_PIECES;
-use ca_base::{Ask, Bytes, Key, Kind, Memory, Message, OpRefusal, Piece, WcOp, WcStatus};
+use ca_arrivals::{
+    Placed, Receiving, exceeds_receive, pass, push_flush_behind, queue_ack, queue_refusal,
+    receive_asks, reserve_for, take_own,
+};
+use ca_base::{Ask, Bytes, Key, Memory, Message, OpRefusal, WcOp, WcStatus};
 use ca_grant::Reach;
 use ca_model::{Mark, Marks};
 use ca_qpstate::QueuePart;
-use ca_rows::{
-    cut_writes, first_denied, list_asks, list_length, local_denial, receive_failure, receive_mark,
-    write_all,
-};
+use ca_rows::{cut_writes, first_denied, local_denial, receive_failure, receive_mark, write_all};
 use ca_wire::{NakCode, Packet, Position};
 use std::alloc::Global;
-
-/// Where the bytes of a SEND packet go in a receive's list, behind so many that came before.
-pub fn receive_asks(
-    q: &QueuePart,
-    p: &Packet<'_>,
-    before: u32,
-    list: &[Piece],
-) -> ArrayVec<Ask, MAX_PIECES>
-    requires few { length list.now ≤ MAX_PIECES }
-    requires payload { length p.now.payload.now ≤ MAX_PAYLOAD_BYTES }
-    ensures value { result.items ≡ list_asks q.now.queue q.now.domain Kind.Write before (length p.now.payload.now) list.now }
-    ensures touched { touched_by result.items ≤ length p.now.payload.now }
-    ensures asks { AllByRecursion (IsAskOf Kind.Write) result.items }
-    ensures packet { AllByRecursion IsPacketAsk result.items }
-    ensures few { length result.items ≤ MAX_PIECES }
-{
-    let count = p.payload.len() as u32;
-    list_asks(q.queue, q.domain, Kind::Write, before, count, list)
-}
-
-/// Whether a SEND packet has more bytes than its receive has room for.
-pub fn exceeds_receive(p: &Packet<'_>, before: u32, list: &[Piece]) -> bool
-    requires payload { length p.now.payload.now ≤ MAX_PAYLOAD_BYTES }
-    requires before { before ≤ MAX_MESSAGE_BYTES }
-    requires list { list_length list.now ≤ MAX_MESSAGE_BYTES }
-    ensures { result ≡ nat_lt (list_length list.now) (before + length p.now.payload.now) }
-{
-    list_length(list) < before + p.payload.len() as u32
-}
 
 /// A SEND packet, with its receive: it is too long for it, its list is denied, the end of its key is refused, or it is
 /// placed. Whether a receive of the shared receive queue is to be taken.

@@ -1,5 +1,6 @@
 ghost use Rattle.std.specs.Prelude.{◌≡◌, ◌+◌, ◌<◌, ◌≤◌, ◌^◌, ◌++◌, ◌∷◌, [], OnOk, OnErr, IfOk, None, false, true, length};
 ghost use Rattle.ca_base.specs.Sight.{denial_in};
+ghost use Rattle.ca_base.specs.declared.access.Kind.{Kind};
 ghost use Rattle.ca_base.specs.declared.limits.TheConstants.{MAX_PAYLOAD_BYTES};
 ghost use Rattle.ca_grant.specs.Reaching.{AreAtHand, IsPacketAsk};
 ghost use Rattle.ca_model.specs.machine.Arrivals as arrivals;
@@ -9,16 +10,14 @@ ghost use Rattle.ca_model.specs.machine.Invariants.{IsQueue};
 ghost use Rattle.ca_model.specs.machine.Row.{ending_of};
 ghost use Rattle.ca_model.specs.machine.Shapes.{fits_place};
 ghost use Rattle.ca_qpstate.specs.Seen.{queue_of};
-ghost use Rattle.ca_responder.specs.Numbers.{unasked};
-ghost use Rattle.ca_responder.specs.Taking.{CanTake, IsPacketTaken, ended_by, found};
+ghost use Rattle.ca_arrivals.specs.Numbers.{unasked};
+ghost use Rattle.ca_arrivals.specs.Receives.{CanTake};
+ghost use Rattle.ca_responder.specs.Taking.{IsPacketTaken, ended_by, found};
 ghost use Rattle.ca_rows.specs.Narrow.{AreNarrow};
 ghost use Rattle.ca_wire.specs.Packet.{fields_of};
 
-use crate::queueing::{pass, queue_ack, refuse};
-use crate::receive::{Placed, take_own};
-use crate::remote::{packet_ask, remote_mark};
-use crate::write_reach::WriteReach;
-use ca_base::{Ask, Bytes, Denial, Kind, Memory, Message, Verdict, WcOp};
+use ca_arrivals::{Placed, WriteReach, pass, queue_ack, refuse, remote_mark, take_own, write_ask};
+use ca_base::{Ask, Bytes, Denial, Memory, Message, Verdict, WcOp};
 use ca_grant::Reach;
 use ca_model::Marks;
 use ca_qpstate::QueuePart;
@@ -60,21 +59,6 @@ pub fn take_write<R: Reach>(
         return Ok(false);
     }
     place_write(alloc, q, reach, p, &ask, envelope, place, next, r, marks)
-}
-
-/// The ask of a WRITE packet: all bytes that are left, of which it touches its payload.
-pub fn write_ask(q: &QueuePart, p: &Packet<'_>, r: &WriteReach) -> Ask
-    requires { length p.now.payload.now ≤ MAX_PAYLOAD_BYTES }
-    ensures { result ≡ arrivals.packet_ask (queue_of q.now) r.now.key Kind.Write r.now.address r.now.left (length p.now.payload.now) }
-{
-    packet_ask(
-        q,
-        r.key,
-        Kind::Write,
-        r.address,
-        r.left,
-        p.payload.len() as u32,
-    )
 }
 
 /// Refuses a packet whose access is denied.

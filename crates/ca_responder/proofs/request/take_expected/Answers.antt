@@ -4,7 +4,7 @@ use Rattle.ca_model.specs.machine.Row.{Row, ending_of}
 use Rattle.ca_qpstate.specs.Seen.{queue_of}
 use Rattle.ca_wire.specs.Packet.{fields_of}
 use Rattle.ca_responder.proofs.WaitingLemmas.{row_without}
-use Rattle.ca_responder.specs.Shapes.{shape_seen}
+use Rattle.ca_arrivals.specs.Shapes.{shape_seen}
 use Rattle.ca_responder.specs.Taking.{IsPacketTaken, MayEnd, ended_by, found}
 use Rattle.ca_responder.proofs.request.take_expected.Goals as goal
 

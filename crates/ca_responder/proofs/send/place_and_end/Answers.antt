@@ -7,7 +7,7 @@ use Rattle.ca_model.specs.machine.Responses.{local_writes}
 use Rattle.ca_qpstate.specs.Seen.{queue_of}
 use Rattle.ca_wire.specs.Packet.{fields_of}
 use Rattle.ca_responder.specs.Ending.{key_end}
-use Rattle.ca_responder.specs.Numbers.{receive_taken}
+use Rattle.ca_arrivals.specs.Numbers.{receive_taken}
 use Rattle.ca_responder.proofs.SendLemmas.{ended-marks, refused-marks}
 use Rattle.ca_responder.proofs.send.place_and_end.Goals as goal
 

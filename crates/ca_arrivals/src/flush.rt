@@ -4,7 +4,7 @@ ghost use Rattle.ca_model.specs.machine.Arrivals.{with_message, with_receive_tak
 ghost use Rattle.ca_model.specs.machine.Completions.{flush_marks};
 ghost use Rattle.ca_model.specs.machine.Invariants.{IsQueue};
 ghost use Rattle.ca_qpstate.specs.Seen.{queue_of};
-ghost use Rattle.ca_responder.specs.Numbers.{receive_taken};
+ghost use Rattle.ca_arrivals.specs.Numbers.{receive_taken};
 
 use crate::receive::next_place;
 use ca_base::Memory;

@@ -1,5 +1,5 @@
--- The asks of a row that makes at most one, and those of a SEND packet. Contracts cite it.
-use Rattle.std.specs.Prelude.{ℕ, ◌+◌, nat_lt, if◌then◌else◌, length, List, [], ◌∷◌, Option, None, Some}
+-- The asks of a SEND packet. Contracts cite it.
+use Rattle.std.specs.Prelude.{ℕ, ◌+◌, nat_lt, if◌then◌else◌, length, List, [], Option, None, Some}
 use Rattle.ca_base.specs.declared.access.Ask.{Ask}
 use Rattle.ca_base.specs.declared.access.Kind.TheVariants as kinds
 use Rattle.ca_base.specs.declared.queue_numbers.Message.{Message}
@@ -11,11 +11,6 @@ use Rattle.ca_wire.specs.Packet.{Fields}
 use Rattle.ca_model.specs.Requests.{list_length}
 use Rattle.ca_model.specs.machine.Expected.{Receiving, receiving_of}
 use Rattle.ca_model.specs.machine.Numbering.{list_asks}
-
--- no ask, or this one
-abbrev pub one_ask : Option Ask → List Ask
-one_ask None = []
-one_ask (Some ask) = ask ∷ []
 
 -- the asks for a packet's bytes in a receive's list, behind so many that came before, where they fit into it
 abbrev pub asks_fitting : QueuePair → Fields → ℕ → List Piece → List Ask

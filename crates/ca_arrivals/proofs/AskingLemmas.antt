@@ -16,7 +16,7 @@ use Rattle.ca_model.specs.machine.Expected.{Receiving, expected_row, is_invalid,
 use Rattle.ca_model.specs.machine.Row.{Row, plain_row, Does}
 use Rattle.ca_model.specs.machine.Shapes.{Shape, SendAt}
 use Rattle.ca_wire.specs.declared.syndrome.NakCode.TheVariants.{InvalidRequest}
-use Rattle.ca_responder.specs.Asking.{IsFree, asks_fitting, send_asks}
+use Rattle.ca_arrivals.specs.Asking.{IsFree, asks_fitting, send_asks}
 
 pub asks_of_next : (q : QueuePair) (p : Fields) (r : RecvRequest) (next : Option PlacedReceive) → IsFree q.responder.message
     → Some r ≡ option_map (λ n. n.receive) next → asks_fitting q p 0 r.list.items ≡ send_asks q p next

@@ -1,4 +1,5 @@
-ghost use Rattle.std.specs.Prelude.{◌≡◌, ◌≤◌, ◌∷◌, [], ℕ, Option, ◌&&◌, IfSome, false, is_none, length, option_copied};
+ghost use Rattle.std.specs.Prelude.{◌≡◌, ◌≤◌, ◌∷◌, [], ℕ, Option, ◌&&◌, ◌==◌, if◌then◌else◌, IfSome, false, is_none, length, option_copied};
+ghost use Rattle.ca_base.specs.declared.access.Kind.{Kind};
 ghost use Rattle.ca_base.specs.declared.limits.TheConstants.{MAX_MESSAGE_BYTES, MAX_PAYLOAD_BYTES};
 ghost use Rattle.ca_model.specs.Packets.{is_response};
 ghost use Rattle.ca_model.specs.machine.Arrivals as arrivals;
@@ -6,28 +7,23 @@ ghost use Rattle.ca_model.specs.machine.Delivery.{packet_arrived};
 ghost use Rattle.ca_model.specs.machine.Expected as rows;
 ghost use Rattle.ca_model.specs.machine.Invariants.{IsList, IsQueue, IsSharedReceives};
 ghost use Rattle.ca_qpstate.specs.Seen.{queue_of};
-ghost use Rattle.ca_responder.specs.Asking.{IsFree, asks_fitting, send_asks};
-ghost use Rattle.ca_responder.specs.Shapes.{shape_seen};
+ghost use Rattle.ca_arrivals.specs.Asking.{IsFree, asks_fitting, send_asks};
+ghost use Rattle.ca_arrivals.specs.Shapes.{shape_seen};
 ghost use Rattle.ca_rows.specs.Narrow.{AreNarrow};
 ghost use Rattle.ca_wire.specs.Packet.{IsWellFormed, fields_of};
 
 use crate::checks::{is_invalid, takes_receive};
-use crate::receive::next_receive;
+use crate::receive::{exceeds_receive, next_receive, receive_asks};
 use crate::remote::packet_ask;
-use crate::send::{exceeds_receive, receive_asks};
 use crate::shape::{Shape, shape_of};
-use crate::write::write_ask;
-use crate::write_reach::write_reach;
+use crate::writes::{WriteReach, write_ask, write_reach};
 use arrayvec::ArrayVec;
-use ca_base::limits::MAX_PIECES;
+use ca_base::limits::{ATOMIC_BYTES, MAX_PIECES};
 use ca_base::{Ask, Message, Piece};
 use ca_psn::widen;
 use ca_qpstate::QueuePart;
 use ca_srq::Srq;
 use ca_wire::Packet;
-
-/// How many bytes an atomic reaches.
-const ATOMIC_BYTES: u32 = 8;
 
 /// The asks that `on_request` may make, in order; it makes no other. It takes no memory.
 pub fn request_asks(q: &QueuePart, srq: Option<&Srq>, p: &Packet<'_>) -> ArrayVec<Ask, MAX_PIECES>
@@ -95,8 +91,8 @@ fn valid_asks(
     match shape {
         Shape::Send(_) => message_asks(q, srq, p),
         Shape::Write(_) => match write_reach(q, p) {
-            Some(r) if r.left > 0 => one(write_ask(q, p, &r)),
-            _ => ArrayVec::new(),
+            Some(r) => left_asks(q, p, &r),
+            None => ArrayVec::new(),
         },
         Shape::Read => ArrayVec::new(),
         Shape::Atomic(kind) => match p.atomic {
@@ -153,6 +149,18 @@ fn fitting_asks(
         return ArrayVec::new();
     }
     receive_asks(q, p, before, list)
+}
+
+/// The ask of a WRITE packet. One of no bytes makes none.
+fn left_asks(q: &QueuePart, p: &Packet<'_>, r: &WriteReach) -> ArrayVec<Ask, MAX_PIECES>
+    requires { length p.now.payload.now ≤ MAX_PAYLOAD_BYTES }
+    ensures { result.items ≡ (if r.now.left == 0 then []
+        else arrivals.packet_ask (queue_of q.now) r.now.key Kind.Write r.now.address r.now.left (length p.now.payload.now) ∷ []) }
+{
+    if r.left == 0 {
+        return ArrayVec::new();
+    }
+    one(write_ask(q, p, r))
 }
 
 fn one(ask: Ask) -> ArrayVec<Ask, MAX_PIECES>

@@ -1,16 +1,26 @@
-ghost use Rattle.std.specs.Prelude.{◌≡◌, ◌<◌, ◌≤◌, IfOk, IfSome, Some, option_copied};
+ghost use Rattle.std.specs.Prelude.{◌≡◌, ◌+◌, ◌<◌, ◌≤◌, IfOk, IfSome, Some, length, nat_lt, option_copied};
+ghost use Rattle.std.specs.List.{AllByRecursion};
 ghost use Rattle.std.specs.Option.{option_map};
-ghost use Rattle.ca_base.specs.declared.limits.TheConstants.{MAX_MESSAGE_BYTES};
+ghost use Rattle.ca_base.specs.declared.access.Kind.{Kind};
+ghost use Rattle.ca_base.specs.declared.limits.TheConstants.{MAX_MESSAGE_BYTES, MAX_PAYLOAD_BYTES, MAX_PIECES};
 ghost use Rattle.ca_base.specs.objects.WorkQueue.{waiting_count};
+ghost use Rattle.ca_grant.specs.Reaching.{IsPacketAsk};
+ghost use Rattle.ca_model.specs.Requests.{list_length};
 ghost use Rattle.ca_model.specs.machine.Arrivals as arrivals;
 ghost use Rattle.ca_model.specs.machine.Expected as rows;
 ghost use Rattle.ca_model.specs.machine.Invariants.{IsQueue, IsReceive, IsReceives, IsSharedReceives};
+ghost use Rattle.ca_model.specs.machine.Numbering.{list_asks};
 ghost use Rattle.ca_qpstate.specs.Seen.{queue_of};
-ghost use Rattle.ca_responder.specs.Taking.{CanTake, MayTake};
+ghost use Rattle.ca_rows.specs.Asks.{IsAskOf, touched_by};
+ghost use Rattle.ca_arrivals.specs.Receives.{CanTake, MayTake};
 
-use ca_base::{Memory, Message, RecvRequest};
+use arrayvec::ArrayVec;
+use ca_base::limits::MAX_PIECES;
+use ca_base::{Ask, Kind, Memory, Message, Piece, RecvRequest};
 use ca_qpstate::QueuePart;
+use ca_rows::{list_asks, list_length};
 use ca_srq::Srq;
+use ca_wire::Packet;
 use ca_workqueue::WorkQueue;
 use std::marker::Model;
 
@@ -150,4 +160,33 @@ pub fn take_own(q: &mut QueuePart)
     if let Some(receives) = &mut q.receives {
         receives.take_next();
     }
+}
+
+/// Where the bytes of a SEND packet go in a receive's list, behind so many that came before.
+pub fn receive_asks(
+    q: &QueuePart,
+    p: &Packet<'_>,
+    before: u32,
+    list: &[Piece],
+) -> ArrayVec<Ask, MAX_PIECES>
+    requires few { length list.now ≤ MAX_PIECES }
+    requires payload { length p.now.payload.now ≤ MAX_PAYLOAD_BYTES }
+    ensures value { result.items ≡ list_asks q.now.queue q.now.domain Kind.Write before (length p.now.payload.now) list.now }
+    ensures touched { touched_by result.items ≤ length p.now.payload.now }
+    ensures asks { AllByRecursion (IsAskOf Kind.Write) result.items }
+    ensures packet { AllByRecursion IsPacketAsk result.items }
+    ensures few { length result.items ≤ MAX_PIECES }
+{
+    let count = p.payload.len() as u32;
+    list_asks(q.queue, q.domain, Kind::Write, before, count, list)
+}
+
+/// Whether a SEND packet has more bytes than its receive has room for.
+pub fn exceeds_receive(p: &Packet<'_>, before: u32, list: &[Piece]) -> bool
+    requires payload { length p.now.payload.now ≤ MAX_PAYLOAD_BYTES }
+    requires before { before ≤ MAX_MESSAGE_BYTES }
+    requires list { list_length list.now ≤ MAX_MESSAGE_BYTES }
+    ensures { result ≡ nat_lt (list_length list.now) (before + length p.now.payload.now) }
+{
+    list_length(list) < before + p.payload.len() as u32
 }

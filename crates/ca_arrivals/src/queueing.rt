@@ -5,7 +5,7 @@ ghost use Rattle.ca_model.specs.machine.Arrivals as arrivals;
 ghost use Rattle.ca_model.specs.machine.Completions.{flush_marks};
 ghost use Rattle.ca_model.specs.machine.Invariants.{IsQueue};
 ghost use Rattle.ca_qpstate.specs.Seen.{queue_of};
-ghost use Rattle.ca_responder.specs.Numbers.{acknowledged, passed};
+ghost use Rattle.ca_arrivals.specs.Numbers.{acknowledged, passed};
 ghost use Rattle.ca_base.specs.objects.QueuePair.{in_error};
 ghost use Rattle.ca_wire.specs.Syndrome.{nak_code};
 

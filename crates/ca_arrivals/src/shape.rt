@@ -1,8 +1,7 @@
 ghost use Rattle.std.specs.Prelude.{◌≡◌, IfSome};
 ghost use Rattle.std.specs.Option.{option_map};
 ghost use Rattle.ca_model.specs.machine.Shapes as shapes;
-ghost use Rattle.ca_responder.specs.Atomics.{IsRequestShape};
-ghost use Rattle.ca_responder.specs.Shapes.{shape_seen};
+ghost use Rattle.ca_arrivals.specs.Shapes.{IsRequestShape, shape_seen};
 
 use ca_base::Kind;
 use ca_wire::Position;

@@ -1,10 +1,13 @@
-ghost use Rattle.std.specs.Prelude.{◌≡◌};
+ghost use Rattle.std.specs.Prelude.{◌≡◌, ◌≤◌, length};
 ghost use Rattle.std.specs.Option.{option_map};
+ghost use Rattle.ca_base.specs.declared.limits.TheConstants.{MAX_PAYLOAD_BYTES};
+ghost use Rattle.ca_model.specs.machine.Arrivals as arrivals;
 ghost use Rattle.ca_model.specs.machine.Expected as rows;
 ghost use Rattle.ca_qpstate.specs.Seen.{queue_of};
 ghost use Rattle.ca_wire.specs.Packet.{fields_of};
 
-use ca_base::{Key, Message};
+use crate::remote::packet_ask;
+use ca_base::{Ask, Key, Kind, Message};
 use ca_qpstate::QueuePart;
 use ca_wire::Packet;
 use std::marker::Model;
@@ -60,4 +63,19 @@ pub fn write_reach(q: &QueuePart, p: &Packet<'_>) -> Option<WriteReach>
         }),
         _ => None,
     }
+}
+
+/// The ask of a WRITE packet: all bytes that are left, of which it touches its payload.
+pub fn write_ask(q: &QueuePart, p: &Packet<'_>, r: &WriteReach) -> Ask
+    requires { length p.now.payload.now ≤ MAX_PAYLOAD_BYTES }
+    ensures { result ≡ arrivals.packet_ask (queue_of q.now) r.now.key Kind.Write r.now.address r.now.left (length p.now.payload.now) }
+{
+    packet_ask(
+        q,
+        r.key,
+        Kind::Write,
+        r.address,
+        r.left,
+        p.payload.len() as u32,
+    )
 }

@@ -4,7 +4,7 @@ ghost use Rattle.ca_model.specs.machine.Invariants.{IsQueue};
 ghost use Rattle.ca_model.specs.machine.Respond as rows;
 ghost use Rattle.ca_qpstate.specs.Seen.{queue_of};
 
-use crate::remote::packet_ask;
+use ca_arrivals::packet_ask;
 use ca_base::{Ask, Key, Kind, Queued};
 use ca_qpstate::QueuePart;
 use ca_wire::Segment;

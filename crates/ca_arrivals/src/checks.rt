@@ -4,11 +4,11 @@ ghost use Rattle.ca_base.specs.declared.limits.TheConstants.{MAX_MESSAGE_BYTES};
 ghost use Rattle.ca_model.specs.machine.Expected as rows;
 ghost use Rattle.ca_model.specs.machine.Shapes as shapes;
 ghost use Rattle.ca_qpstate.specs.Seen.{queue_of};
-ghost use Rattle.ca_responder.specs.Shapes.{shape_seen};
+ghost use Rattle.ca_arrivals.specs.Shapes.{shape_seen};
 ghost use Rattle.ca_wire.specs.Packet.{fields_of};
 
 use crate::shape::Shape;
-use crate::write_reach::{WriteReach, write_reach};
+use crate::writes::{WriteReach, write_reach};
 use ca_base::Message;
 use ca_base::limits::{ATOMIC_BYTES, MAX_MESSAGE_BYTES, MAX_READS};
 use ca_qpstate::QueuePart;

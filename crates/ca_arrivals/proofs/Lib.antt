@@ -1,0 +1,2 @@
+pub mod FlushLemmas
+pub mod AskingLemmas

@@ -1,0 +1,15 @@
+-- When the receive of a message waits in its queue. Contracts cite it.
+use Rattle.std.specs.Prelude.{◌≡◌, ◌<◌, true, Option, None, Some, IfSome}
+use Rattle.ca_base.specs.objects.QueuePair.{QueuePair}
+use Rattle.ca_base.specs.objects.SharedReceives.{PlacedReceive}
+use Rattle.ca_base.specs.objects.WorkQueue.{waiting_count}
+use Rattle.ca_model.specs.machine.Expected.{Receiving}
+
+-- the receive that a message would take waits in its queue
+abbrev pub CanTake : QueuePair → Option PlacedReceive → Type 0
+CanTake q None = Unit {0}
+CanTake q (Some receive) = IfSome q.receives (λ r. 0 < waiting_count r)
+
+-- where a SEND packet takes its receive, that waits in its queue
+abbrev pub MayTake : Receiving → QueuePair → Type 0
+MayTake r q = r.taken ≡ true → IfSome q.receives (λ r. 0 < waiting_count r)
