@@ -331,7 +331,17 @@ fn take_valid<R: Reach>(
             None => take_invalid(alloc, q, marks),
         },
         Shape::Write(place) => match write_reach(q, p) {
-            Some(r) => take_write(alloc, q, reach, p, envelope, place, next, &r, marks),
+            Some(r) => take_write(
+                alloc,
+                q,
+                reach,
+                p,
+                envelope,
+                place,
+                next.as_ref(),
+                &r,
+                marks,
+            ),
             None => take_invalid(alloc, q, marks),
         },
         Shape::Read => match p.reth {

@@ -1,4 +1,4 @@
-ghost use Rattle.std.specs.Prelude.{◌≡◌, ◌+◌, ◌<◌, ◌≤◌, ◌^◌, ◌++◌, ◌∷◌, [], OnOk, OnErr, IfOk, None, false, true, length};
+ghost use Rattle.std.specs.Prelude.{◌≡◌, ◌+◌, ◌<◌, ◌≤◌, ◌^◌, ◌++◌, ◌∷◌, [], OnOk, OnErr, IfOk, None, false, true, length, option_copied};
 ghost use Rattle.ca_base.specs.Sight.{denial_in};
 ghost use Rattle.ca_base.specs.declared.access.Kind.{Kind};
 ghost use Rattle.ca_base.specs.declared.limits.TheConstants.{MAX_PAYLOAD_BYTES};
@@ -34,7 +34,7 @@ pub fn take_write<R: Reach>(
     p: &Packet<'_>,
     envelope: Option<u64>,
     place: Position,
-    next: Option<Placed>,
+    next: Option<&Placed>,
     r: &WriteReach,
     marks: &mut Marks,
 ) -> Result<bool, Memory>
@@ -43,9 +43,9 @@ pub fn take_write<R: Reach>(
     requires payload { length p.now.payload.now ≤ MAX_PAYLOAD_BYTES }
     requires place { fits_place q.old.responder.mtu place (length p.now.payload.now) ≡ true }
     requires left { rows.fits_left (length p.now.payload.now) place r.now ≡ true }
-    requires takes { CanTake (queue_of q.old) next }
-    requires at_hand { AreAtHand R.sight R.judges R.touches reach.old (rows.write_row (arrivals.with_flag false (queue_of q.old)) (fields_of p.now) envelope place next r.now).asks }
-    ensures taken { let row = rows.write_row (arrivals.with_flag false (queue_of q.old)) (fields_of p.now) envelope place next r.now in
+    requires takes { CanTake (queue_of q.old) (option_copied next) }
+    requires at_hand { AreAtHand R.sight R.judges R.touches reach.old (rows.write_row (arrivals.with_flag false (queue_of q.old)) (fields_of p.now) envelope place (option_copied next) r.now).asks }
+    ensures taken { let row = rows.write_row (arrivals.with_flag false (queue_of q.old)) (fields_of p.now) envelope place (option_copied next.entry) r.now in
         IsPacketTaken R.written R.revoked result (ending_of (R.sight reach.old) row) (ended_by (R.sight reach.old) row)
         (found (queue_of q.old) marks.old.marks reach.old) (found (queue_of q.new) marks.new.marks reach.new) }
     ensures room { OnOk result (2 ≤ marks.new.room) }
@@ -90,18 +90,18 @@ fn write_nothing(
     ask: &Ask,
     envelope: Option<u64>,
     place: Position,
-    next: Option<Placed>,
+    next: Option<&Placed>,
     r: &WriteReach,
     marks: &mut Marks,
 ) -> Result<bool, Memory>
     requires narrow { AreNarrow (queue_of q.old) }
     requires msn { q.old.responder.msn < 2 ^ 24 }
     requires left { length p.now.payload.now ≤ r.now.left }
-    requires takes { CanTake (queue_of q.old) next }
-    ensures queue { OnOk result (queue_of q.new ≡ (rows.after_write_packet (arrivals.with_flag false (queue_of q.old)) (fields_of p.now) place r.now next).queue) }
+    requires takes { CanTake (queue_of q.old) (option_copied next) }
+    ensures queue { OnOk result (queue_of q.new ≡ (rows.after_write_packet (arrivals.with_flag false (queue_of q.old)) (fields_of p.now) place r.now (option_copied next.entry)).queue) }
     ensures marks { OnOk result (marks.new.marks ≡ marks.old.marks ++ (arrivals.remote_mark ask.now envelope (Verdict.Wrote p.now.payload.now)
-        ∷ (rows.after_write_packet (arrivals.with_flag false (queue_of q.old)) (fields_of p.now) place r.now next).marks)) }
-    ensures shared { IfOk result (λ shared. shared ≡ (rows.after_write_packet (arrivals.with_flag false (queue_of q.old)) (fields_of p.now) place r.now next).takes_shared) }
+        ∷ (rows.after_write_packet (arrivals.with_flag false (queue_of q.old)) (fields_of p.now) place r.now (option_copied next.entry)).marks)) }
+    ensures shared { IfOk result (λ shared. shared ≡ (rows.after_write_packet (arrivals.with_flag false (queue_of q.old)) (fields_of p.now) place r.now (option_copied next.entry)).takes_shared) }
     ensures room { OnOk result (2 ≤ marks.new.room) }
     ensures err { OnErr result (q.new ≡ q.old) }
     ensures err_marks { OnErr result (marks.new.marks ≡ marks.old.marks) }
@@ -123,24 +123,24 @@ fn place_write<R: Reach>(
     ask: &Ask,
     envelope: Option<u64>,
     place: Position,
-    next: Option<Placed>,
+    next: Option<&Placed>,
     r: &WriteReach,
     marks: &mut Marks,
 ) -> Result<bool, Memory>
     requires narrow { AreNarrow (queue_of q.old) }
     requires msn { q.old.responder.msn < 2 ^ 24 }
     requires left { length p.now.payload.now ≤ r.now.left }
-    requires takes { CanTake (queue_of q.old) next }
+    requires takes { CanTake (queue_of q.old) (option_copied next) }
     requires judges { R.judges reach.old ask.now }
     requires touches { R.touches reach.old ask.now }
     requires packet { IsPacketAsk ask.now }
     requires kind { ask.now.kind ≡ Kind.Write }
     requires count { length p.now.payload.now ≡ ask.now.touch }
     requires allowed { denial_in (R.sight reach.old) ask.now ≡ None }
-    ensures queue { OnOk result (queue_of q.new ≡ (rows.after_write_packet (arrivals.with_flag false (queue_of q.old)) (fields_of p.now) place r.now next).queue) }
+    ensures queue { OnOk result (queue_of q.new ≡ (rows.after_write_packet (arrivals.with_flag false (queue_of q.old)) (fields_of p.now) place r.now (option_copied next.entry)).queue) }
     ensures marks { OnOk result (marks.new.marks ≡ marks.old.marks ++ (arrivals.remote_mark ask.now envelope (Verdict.Wrote p.now.payload.now)
-        ∷ (rows.after_write_packet (arrivals.with_flag false (queue_of q.old)) (fields_of p.now) place r.now next).marks)) }
-    ensures shared { IfOk result (λ shared. shared ≡ (rows.after_write_packet (arrivals.with_flag false (queue_of q.old)) (fields_of p.now) place r.now next).takes_shared) }
+        ∷ (rows.after_write_packet (arrivals.with_flag false (queue_of q.old)) (fields_of p.now) place r.now (option_copied next.entry)).marks)) }
+    ensures shared { IfOk result (λ shared. shared ≡ (rows.after_write_packet (arrivals.with_flag false (queue_of q.old)) (fields_of p.now) place r.now (option_copied next.entry)).takes_shared) }
     ensures wrote { OnOk result (reach.new ≡ R.written reach.old ask.now p.now.payload.now) }
     ensures room { OnOk result (2 ≤ marks.new.room) }
     ensures err { OnErr result (q.new ≡ q.old) }
@@ -162,18 +162,18 @@ fn end_write(
     q: &mut QueuePart,
     p: &Packet<'_>,
     place: Position,
-    next: Option<Placed>,
+    next: Option<&Placed>,
     r: &WriteReach,
     marks: &mut Marks,
 ) -> bool
     requires expected { q.old.responder.expected < 2 ^ 62 }
     requires msn { q.old.responder.msn < 2 ^ 24 }
     requires left { length p.now.payload.now ≤ r.now.left }
-    requires takes { CanTake (queue_of q.old) next }
+    requires takes { CanTake (queue_of q.old) (option_copied next) }
     requires room { 3 ≤ marks.old.room }
-    ensures queue { queue_of q.new ≡ (rows.after_write_packet (arrivals.with_flag false (queue_of q.old)) (unasked (fields_of p.now)) place r.now next).queue }
-    ensures marks { marks.new.marks ≡ marks.old.marks ++ (rows.after_write_packet (arrivals.with_flag false (queue_of q.old)) (unasked (fields_of p.now)) place r.now next).marks }
-    ensures shared { result ≡ (rows.after_write_packet (arrivals.with_flag false (queue_of q.old)) (unasked (fields_of p.now)) place r.now next).takes_shared }
+    ensures queue { queue_of q.new ≡ (rows.after_write_packet (arrivals.with_flag false (queue_of q.old)) (unasked (fields_of p.now)) place r.now (option_copied next.entry)).queue }
+    ensures marks { marks.new.marks ≡ marks.old.marks ++ (rows.after_write_packet (arrivals.with_flag false (queue_of q.old)) (unasked (fields_of p.now)) place r.now (option_copied next.entry)).marks }
+    ensures shared { result ≡ (rows.after_write_packet (arrivals.with_flag false (queue_of q.old)) (unasked (fields_of p.now)) place r.now (option_copied next.entry)).takes_shared }
     ensures room { 2 ≤ marks.new.room }
 {
     if !place.ends() {
