@@ -1,4 +1,4 @@
-ghost use Rattle.std.specs.Prelude.{◌≡◌, ◌≤◌, ◌∷◌, [], ℕ, Option, ◌&&◌, ◌==◌, if◌then◌else◌, IfSome, false, is_none, length, option_copied};
+ghost use Rattle.std.specs.Prelude.{◌≡◌, ◌≤◌, ◌∷◌, [], ℕ, Option, ◌==◌, if◌then◌else◌, IfSome, false, length, option_copied};
 ghost use Rattle.ca_base.specs.declared.access.Kind.{Kind};
 ghost use Rattle.ca_base.specs.declared.limits.TheConstants.{MAX_MESSAGE_BYTES, MAX_PAYLOAD_BYTES};
 ghost use Rattle.ca_model.specs.Packets.{is_response};
@@ -12,7 +12,7 @@ ghost use Rattle.ca_arrivals.specs.Shapes.{shape_seen};
 ghost use Rattle.ca_rows.specs.Narrow.{AreNarrow};
 ghost use Rattle.ca_wire.specs.Packet.{IsWellFormed, fields_of};
 
-use crate::checks::{is_invalid, takes_receive};
+use crate::checks::{is_invalid, lacks_receive};
 use crate::receive::{exceeds_receive, next_receive, receive_asks};
 use crate::remote::packet_ask;
 use crate::shape::{Shape, shape_of};
@@ -62,16 +62,6 @@ fn expected_asks(
         return ArrayVec::new();
     }
     valid_asks(q, srq, p, shape)
-}
-
-/// Whether the packet takes a receive where there is none.
-#[tactic(auto, using(crate::proofs::AskingLemmas::none_waits))]
-fn lacks_receive(q: &QueuePart, srq: Option<&Srq>, p: &Packet<'_>, shape: Shape) -> bool
-    requires { IsQueue (queue_of q.now) }
-    ensures { result ≡ (rows.takes_receive (fields_of p.now) (shape_seen shape)
-        && is_none (arrivals.next_receive (queue_of q.now) (option_copied srq.entry))) }
-{
-    takes_receive(p, shape) && next_receive(q, srq).is_none()
 }
 
 /// The asks of a packet that is valid and has its receive.

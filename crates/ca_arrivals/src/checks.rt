@@ -1,17 +1,22 @@
-ghost use Rattle.std.specs.Prelude.{◌≡◌, nat_lt, false};
+ghost use Rattle.std.specs.Prelude.{◌≡◌, ◌&&◌, IfOk, IfSome, nat_lt, false, is_none, option_copied};
 ghost use Rattle.std.specs.Option.{option_map_or};
 ghost use Rattle.ca_base.specs.declared.limits.TheConstants.{MAX_MESSAGE_BYTES};
+ghost use Rattle.ca_arrivals.specs.Receives.{CanTake, receive_if};
+ghost use Rattle.ca_model.specs.machine.Arrivals as arrivals;
 ghost use Rattle.ca_model.specs.machine.Expected as rows;
+ghost use Rattle.ca_model.specs.machine.Invariants.{IsQueue, IsReceive, IsSharedReceives};
 ghost use Rattle.ca_model.specs.machine.Shapes as shapes;
 ghost use Rattle.ca_qpstate.specs.Seen.{queue_of};
 ghost use Rattle.ca_arrivals.specs.Shapes.{shape_seen};
 ghost use Rattle.ca_wire.specs.Packet.{fields_of};
 
+use crate::receive::{Placed, find_receive, next_receive};
 use crate::shape::Shape;
 use crate::writes::{WriteReach, write_reach};
-use ca_base::Message;
 use ca_base::limits::{ATOMIC_BYTES, MAX_MESSAGE_BYTES, MAX_READS};
+use ca_base::{Memory, Message};
 use ca_qpstate::QueuePart;
+use ca_srq::Srq;
 use ca_wire::{Packet, Position};
 
 /// Whether the packet with the expected PSN is an invalid request: the checks in their order.
@@ -151,4 +156,34 @@ pub fn takes_receive(p: &Packet<'_>, shape: Shape) -> bool
         Shape::Read => false,
         Shape::Atomic(_) => false,
     }
+}
+
+/// Whether the packet takes a receive where there is none.
+#[tactic(auto, using(crate::proofs::AskingLemmas::none_waits))]
+pub fn lacks_receive(q: &QueuePart, srq: Option<&Srq>, p: &Packet<'_>, shape: Shape) -> bool
+    requires { IsQueue (queue_of q.now) }
+    ensures { result ≡ (rows.takes_receive (fields_of p.now) (shape_seen shape)
+        && is_none (arrivals.next_receive (queue_of q.now) (option_copied srq.entry))) }
+{
+    takes_receive(p, shape) && next_receive(q, srq).is_none()
+}
+
+/// A copy of the receive that the packet takes, with its place; None where it takes none.
+pub fn taken_receive(
+    q: &QueuePart,
+    srq: Option<&Srq>,
+    p: &Packet<'_>,
+    shape: Shape,
+) -> Result<Option<Placed>, Memory>
+    requires queue { IsQueue (queue_of q.now) }
+    requires shared { IfSome (option_copied srq) IsSharedReceives }
+    ensures value { IfOk result (λ next. next ≡ receive_if (rows.takes_receive (fields_of p.now) (shape_seen shape))
+        (arrivals.next_receive (queue_of q.now) (option_copied srq.entry))) }
+    ensures sound { IfOk result (λ next. IfSome next (λ r. IsReceive r.receive)) }
+    ensures takes { IfOk result (λ next. CanTake (queue_of q.now) next) }
+{
+    if takes_receive(p, shape) {
+        return find_receive(q, srq);
+    }
+    Ok(None)
 }

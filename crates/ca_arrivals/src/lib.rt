@@ -19,13 +19,10 @@ mod shape;
 mod writes;
 
 pub use asks::request_asks;
-pub use checks::{is_invalid, takes_receive};
+pub use checks::{is_invalid, lacks_receive, taken_receive};
 pub use flush::{push_flush, push_flush_behind, reserve_for};
 pub use queueing::{drop_packet, pass, queue_ack, queue_answer, queue_refusal, refuse};
-pub use receive::{
-    Placed, Receiving, exceeds_receive, find_receive, next_receive, receive_asks, receiving_of,
-    take_own,
-};
+pub use receive::{Placed, Receiving, exceeds_receive, receive_asks, receiving_of, take_own};
 pub use remote::{packet_ask, remote_mark};
 pub use segments::read_segments;
 pub use shape::{Shape, shape_of};

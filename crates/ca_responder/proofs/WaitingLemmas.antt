@@ -1,5 +1,5 @@
 -- The row of a packet by the receive that it takes, and of one that takes none.
-use Rattle.std.proofs.Common.{◌≡◌, ℕ, ◌==◌, Bool, true, false, true≢false, if◌then◌else◌, refl, sym, ap, ◌∙◌, [], ◌∷◌, length, Option, None, Some, is_some}
+use Rattle.std.proofs.Common.{◌≡◌, ℕ, ◌==◌, Bool, true, false, true≢false, if◌then◌else◌, ◌&&◌, is_none, refl, sym, ap, ◌∙◌, [], ◌∷◌, length, Option, None, Some, is_some}
 use Rattle.ca_base.specs.declared.access.Ask.{Ask}
 use Rattle.ca_base.specs.declared.access.Kind.TheVariants as kinds
 use Rattle.ca_base.specs.declared.queue_numbers.Message.{Message}
@@ -14,6 +14,7 @@ use Rattle.ca_wire.specs.declared.syndrome.NakCode.TheVariants.{InvalidRequest}
 use Rattle.ca_model.specs.machine.Arrivals.{next_receive, packet_ask, refusal_effects, remote_mark, with_flag}
 use Rattle.ca_model.specs.machine.Expected.{Receiving, WriteReach, after_write_packet, behind_marks, continues, expected_row, is_invalid, receiving_of, send_row, takes_receive, valid_row, write_reach, write_row}
 use Rattle.ca_model.specs.machine.Row.{Effects, Row, plain_row, Does}
+use Rattle.ca_arrivals.specs.Receives.{receive_if}
 use Rattle.ca_responder.proofs.ValidLemmas.{valid_order}
 use Rattle.ca_model.specs.machine.Shapes.{Shape, SendAt, WriteAt, ReadRequest, Atomic}
 
@@ -80,8 +81,20 @@ valid-without q p envelope next (WriteAt place) on takes = write-without q p env
 valid-without q p envelope next ReadRequest on takes = refl
 valid-without q p envelope next (Atomic kind) on takes = refl
 
-pub row_without : (q : QueuePair) (shared : Option SharedReceives) (p : Fields) (envelope : Option ℕ) (shape : Shape)
+row-without : (q : QueuePair) (shared : Option SharedReceives) (p : Fields) (envelope : Option ℕ) (shape : Shape)
     → is_invalid q p shape ≡ false → takes_receive p shape ≡ false → valid_row (with_flag false q) p envelope None shape ≡ expected_row q shared p envelope shape
-row_without q shared p envelope shape valid takes =
+row-without q shared p envelope shape valid takes =
     sym (valid-without (with_flag false q) p envelope (next_receive q shared) shape (valid_order q p shape valid) takes)
     ∙ rw (valid, takes) refl
+
+-- a packet's row by the receive that it takes, if it takes one
+pub row_by : (q : QueuePair) (shared : Option SharedReceives) (p : Fields) (envelope : Option ℕ) (shape : Shape) (next : Option PlacedReceive)
+    → is_invalid q p shape ≡ false → (takes_receive p shape && is_none (next_receive q shared)) ≡ false → next ≡ receive_if (takes_receive p shape) (next_receive q shared)
+    → valid_row (with_flag false q) p envelope next shape ≡ expected_row q shared p envelope shape
+row_by q shared p envelope shape next valid waits is =
+    ap (λ (n : Option PlacedReceive). valid_row (with_flag false q) p envelope n shape) is ∙ by (takes_receive p shape) refl
+  where
+    by : (b : Bool) → takes_receive p shape ≡ b
+        → valid_row (with_flag false q) p envelope (receive_if b (next_receive q shared)) shape ≡ expected_row q shared p envelope shape
+    by true e = rw (valid, waits) refl
+    by false e = row-without q shared p envelope shape valid e

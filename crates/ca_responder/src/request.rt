@@ -24,8 +24,8 @@ use crate::remote_requests::{take_atomic, take_read};
 use crate::send::take_send;
 use crate::write::take_write;
 use ca_arrivals::{
-    Placed, Shape, drop_packet, find_receive, is_invalid, queue_answer, receiving_of, refuse,
-    shape_of, takes_receive, write_reach,
+    Placed, Shape, drop_packet, is_invalid, lacks_receive, queue_answer, receiving_of, refuse,
+    shape_of, taken_receive, write_reach,
 };
 use ca_base::{Memory, Queued};
 use ca_grant::Reach;
@@ -228,7 +228,7 @@ fn is_duplicate(q: &QueuePart, p: &Packet<'_>) -> bool
 /// The packet with the expected PSN. Its steps, in this order, with the function of each:
 ///
 /// 1. it is no invalid request: `is_invalid`;
-/// 2. where it takes a receive, one waits: `take_receiving`;
+/// 2. where it takes a receive, one waits, and else an RNR NAK is queued: `lacks_receive`;
 /// 3. a SEND fits its receive: `exceeds_receive`;
 /// 4. the receive's list is allowed: `first_denied`;
 /// 5. the key of a WRITE or an atomic allows it: `check` of `Reach`, in `take_write` and `take_atomic`;
@@ -261,43 +261,13 @@ fn take_expected<R: Reach>(
         refuse(q, NakCode::InvalidRequest, Vec::new(alloc), marks)?;
         return Ok(false);
     }
-    if takes_receive(p, shape) {
-        return take_receiving(alloc, q, srq, reach, p, envelope, shape, marks);
-    }
-    take_valid(alloc, q, reach, p, envelope, shape, None, marks)
-}
-
-/// A valid packet that takes a receive. Where none waits, an RNR NAK is queued, and nothing else changes.
-fn take_receiving<R: Reach>(
-    alloc: Global,
-    q: &mut QueuePart,
-    srq: Option<&Srq>,
-    reach: &mut R,
-    p: &Packet<'_>,
-    envelope: Option<u64>,
-    shape: Shape,
-    marks: &mut Marks,
-) -> Result<bool, Memory>
-    requires queue { IsQueue (queue_of q.old) }
-    requires narrow { AreNarrow (queue_of q.old) }
-    requires shared { IfSome (option_copied srq) IsSharedReceives }
-    requires packet { IsWellFormed (fields_of p.now) }
-    requires shape { IsRequestShape shape }
-    requires valid { rows.is_invalid (queue_of q.old) (fields_of p.now) (shape_seen shape) ≡ false }
-    requires takes { rows.takes_receive (fields_of p.now) (shape_seen shape) ≡ true }
-    requires at_hand { AreAtHand R.sight R.judges R.touches reach.old (rows.expected_row (queue_of q.old) (option_copied srq) (fields_of p.now) envelope (shape_seen shape)).asks }
-    requires ends { IfSome (rows.expected_row (queue_of q.old) (option_copied srq) (fields_of p.now) envelope (shape_seen shape)).invalidation (MayEnd R.sight R.ends reach.old (queue_of q.old)) }
-    ensures taken { let row = rows.expected_row (queue_of q.old) (option_copied srq.entry) (fields_of p.now) envelope (shape_seen shape) in
-        IsPacketTaken R.written R.revoked result (ending_of (R.sight reach.old) row) (ended_by (R.sight reach.old) row)
-        (found (queue_of q.old) marks.old.marks reach.old) (found (queue_of q.new) marks.new.marks reach.new) }
-    ensures room { OnOk result (2 ≤ marks.new.room) }
-{
-    let Some(receive) = find_receive(q, srq)? else {
+    if lacks_receive(q, srq, p, shape) {
         let psn = q.responder.expected;
         queue_answer(q, Queued::Rnr { psn }, true, marks)?;
         return Ok(false);
-    };
-    take_valid(alloc, q, reach, p, envelope, shape, Some(receive), marks)
+    }
+    let next = taken_receive(q, srq, p, shape)?;
+    take_valid(alloc, q, reach, p, envelope, shape, next, marks)
 }
 
 /// A packet that is valid and has its receive.
