@@ -20,6 +20,7 @@ use ca_srq::Srq;
 use ca_wire::{Packet, Position};
 
 /// Whether the packet with the expected PSN is an invalid request: the checks in their order.
+#[inline(always)]
 pub fn is_invalid(q: &QueuePart, p: &Packet<'_>, shape: Shape) -> bool
     ensures { result ≡ rows.is_invalid (queue_of q.now) (fields_of p.now) (shape_seen shape) }
 {
@@ -147,7 +148,7 @@ fn has_no_place(q: &QueuePart, shape: Shape) -> bool
 }
 
 /// Whether the packet takes a receive: a SEND as it begins, a WRITE with its immediate data.
-pub fn takes_receive(p: &Packet<'_>, shape: Shape) -> bool
+fn takes_receive(p: &Packet<'_>, shape: Shape) -> bool
     ensures { result ≡ rows.takes_receive (fields_of p.now) (shape_seen shape) }
 {
     match shape {

@@ -1,6 +1,6 @@
 -- How a request is taken: as its row ends, also for the key that it ends and for the receive that it takes of a shared
 -- receive queue. Contracts cite it.
-use Rattle.std.specs.Prelude.{◌≡◌, ℕ, ◌<◌, Bool, true, if◌then◌else◌, List, [], Option, None, Some, Result, Ok, Err, IfSome, is_none}
+use Rattle.std.specs.Prelude.{◌≡◌, ℕ, ◌<◌, Bool, true, if◌then◌else◌, List, [], Option, None, Some, Result, Ok, Err, is_none}
 use Rattle.std.specs.Option.{option_map}
 use Rattle.ca_base.specs.declared.access.Ask.{Ask}
 use Rattle.ca_base.specs.declared.memory.Memory.{Memory}

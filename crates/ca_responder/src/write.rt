@@ -158,6 +158,7 @@ fn place_write<R: Reach>(
 
 /// A WRITE packet took effect: it goes on, or ends, where immediate data complete a receive. The acknowledgement is
 /// queued already. Whether a receive of the shared receive queue is to be taken.
+#[inline(always)]
 fn end_write(
     q: &mut QueuePart,
     p: &Packet<'_>,
