@@ -20,7 +20,6 @@ use ca_srq::Srq;
 use ca_wire::{Packet, Position};
 
 /// Whether the packet with the expected PSN is an invalid request: the checks in their order.
-#[inline(always)]
 pub fn is_invalid(q: &QueuePart, p: &Packet<'_>, shape: Shape) -> bool
     ensures { result ≡ rows.is_invalid (queue_of q.now) (fields_of p.now) (shape_seen shape) }
 {

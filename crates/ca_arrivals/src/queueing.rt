@@ -51,7 +51,6 @@ pub fn queue_answer(
 }
 
 /// Queues an acknowledgement of the expected packet, where it asks for one.
-#[inline(always)]
 pub fn queue_ack(q: &mut QueuePart, p: &Packet<'_>) -> Result<(), Memory>
     ensures queue { OnOk result (queue_of q.new ≡ acknowledged p.now.ack (queue_of q.old)) }
     ensures name { q.new.queue ≡ q.old.queue }

@@ -182,7 +182,9 @@ fn end_write(
         pass(q, 1, false);
         return false;
     }
-    q.responder.message = None;
+    if q.responder.message.is_some() {
+        q.responder.message = None;
+    }
     pass(q, 1, true);
     let Some(imm) = p.imm else {
         return false;
