@@ -1,4 +1,4 @@
-ghost use Rattle.std.specs.Prelude.{◌≡◌, ◌+◌, ◌*◌, ◌++◌, ◌<◌, ◌≤◌, ◌^◌, false, true, Some, OnOk, OnErr, length};
+ghost use Rattle.std.specs.Prelude.{◌≡◌, ◌+◌, ◌*◌, ◌++◌, ◌<◌, ◌≤◌, ◌^◌, [], false, true, Some, OnOk, OnErr, length};
 ghost use Rattle.std.specs.List.{AllByRecursion};
 ghost use Rattle.ca_base.specs.declared.access.Kind.{Kind};
 ghost use Rattle.ca_base.specs.declared.limits.TheConstants.{MAX_PAYLOAD_BYTES};
@@ -20,7 +20,7 @@ use ca_base::limits::MAX_PIECES;
 use ca_base::{Ask, Key, Kind, Memory, Piece, SendOp, SendRequest};
 use ca_qpstate::QueuePart;
 use ca_rows::{
-    carried_bytes, list_asks, list_length, list_of, peer_number, psn_bits, segments, spell_packet,
+    carried_bytes, fill_asks, list_length, list_of, peer_number, psn_bits, segments, spell_packet,
 };
 use ca_wire::{
     AtomicEth, Packet, Reth, Segment, SendKind, cmp_swap, fetch_add, read_request, send_packet,
@@ -46,23 +46,29 @@ fn bytes_before(q: &QueuePart, n: &Numbered<'_>) -> u32
     index_of_packet(q, n) * u32::from(q.responder.mtu)
 }
 
-/// The asks of the next packet, for the bytes that it carries of its request's list.
-pub(crate) fn packet_asks(q: &QueuePart, n: &Numbered<'_>) -> ArrayVec<Ask, MAX_PIECES>
+/// Puts the asks of the next packet into an empty list, for the bytes that it carries of its request's list.
+pub(crate) fn fill_packet_asks(
+    q: &QueuePart,
+    n: &Numbered<'_>,
+    asks: &mut ArrayVec<Ask, MAX_PIECES>,
+)
     requires queue { IsQueue (queue_of q.now) }
     requires packet { IsPacket (queue_of q.now) (numbered_of n.now) }
-    ensures value { result.items ≡ requester.packet_asks (queue_of q.now) (numbered_of n.now) }
-    ensures touched { touched_by result.items ≤ MAX_PAYLOAD_BYTES }
-    ensures asks { AllByRecursion (IsAskOf Kind.Read) result.items }
+    requires empty { asks.old.items ≡ [] }
+    ensures value { asks.new.items ≡ requester.packet_asks (queue_of q.now) (numbered_of n.now) }
+    ensures touched { touched_by asks.new.items ≤ MAX_PAYLOAD_BYTES }
+    ensures asks { AllByRecursion (IsAskOf Kind.Read) asks.new.items }
 {
     let count = carried_bytes(q.responder.mtu, n.op(), index_of_packet(q, n));
-    list_asks(
+    fill_asks(
         q.queue,
         q.domain,
         Kind::Read,
         bytes_before(q, n),
         count,
         list_of(n.op()),
-    )
+        asks,
+    );
 }
 
 /// Adds the bytes that spell the next packet, with this payload.
