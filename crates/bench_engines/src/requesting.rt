@@ -14,6 +14,7 @@ use crate::work::{bring_up, new_bed, write};
 use ca_model::Marks;
 use ca_qpstate::QueuePart;
 use ca_requester::{next_asks, next_packet, on_response, response_asks};
+use ca_rows::keep_marks;
 use ca_tests_grant::SmallReach;
 use ca_tests_requester::{Bed, are_here, is_narrow, is_response};
 use ca_wire::{Packet, decode};
@@ -106,7 +107,8 @@ fn answer(alloc: Global, bed: &mut Bed, psn: u8, marks: &mut Marks) -> bool
     }
 }
 
-// Posts requests, sends each and takes its acknowledgement, from a PSN on.
+// Posts requests, sends each and takes its acknowledgement, from a PSN on; how many marks that made. The marks of a turn
+// are let go at its end.
 fn turns(
     alloc: Global,
     bed: &mut Bed,
@@ -114,21 +116,22 @@ fn turns(
     count: u8,
     marks: &mut Marks,
     out: &mut Vec<u8>,
-) -> bool
+) -> Option<usize>
     requires { beds.Stands bed.old }
     ensures { beds.Stands bed.new }
 {
     if psn >= count {
-        return true;
+        return Some(0);
     }
-    let Some(request) = write() else {
-        return false;
-    };
+    let request = write()?;
     out.clear();
     if !bed.post(request) || !send_next(alloc, bed, marks, out) || !answer(alloc, bed, psn, marks) {
-        return false;
+        return None;
     }
-    turns(alloc, bed, psn + 1, count, marks, out)
+    let made = marks.as_slice().len();
+    keep_marks(alloc, marks, 0);
+    let more = turns(alloc, bed, psn + 1, count, marks, out)?;
+    Some(made.saturating_add(more))
 }
 
 // The turns of a queue pair.
@@ -137,14 +140,10 @@ fn run(alloc: Global, bed: &mut Bed, count: u8) -> Option<usize>
 {
     let mut marks = Marks::empty(alloc);
     let mut out = Vec::new(alloc);
-    if !bring_up(bed, 0) || marks.reserve(2048).is_err() || out.reserve(4096).is_err() {
+    if !bring_up(bed, 0) || marks.reserve(16).is_err() || out.reserve(4096).is_err() {
         return None;
     }
-    if turns(alloc, bed, 0, count, &mut marks, &mut out) {
-        Some(marks.as_slice().len())
-    } else {
-        None
-    }
+    turns(alloc, bed, 0, count, &mut marks, &mut out)
 }
 
 /// Sends a WRITE and takes its acknowledgement, so many times; how many marks that made.

@@ -47,6 +47,7 @@ fn bytes_before(q: &QueuePart, n: &Numbered<'_>) -> u32
 }
 
 /// Puts the asks of the next packet into an empty list, for the bytes that it carries of its request's list.
+#[inline(always)]
 pub(crate) fn fill_packet_asks(
     q: &QueuePart,
     n: &Numbered<'_>,

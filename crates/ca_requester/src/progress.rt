@@ -9,7 +9,7 @@ ghost use Rattle.ca_rows.specs.Narrow.{AreNarrow};
 ghost use Rattle.ca_requester.specs.Numbering.{begun_from, numbered_of, IsWithin};
 ghost use Rattle.ca_requester.specs.Progress.{AreNumbers, acknowledgement_of, finished_from, numbers_with_una, reached_numbers, success_between, una_behind};
 
-use crate::numbering::{Numbered, numbered_at};
+use crate::numbering::{Numbered, begun_at};
 use ca_base::RequesterNumbers;
 use ca_qpstate::QueuePart;
 use ca_rows::is_answered;
@@ -25,6 +25,7 @@ pub(crate) struct Reached {
 
 /// How far an acknowledgement of all below a PSN goes among the requests from a place on that have begun: up to the first
 /// READ or atomic with a PSN from `una` on and below it, or up to the first that does not end below it.
+#[inline]
 fn reached_by(q: &QueuePart, place: u64, first: u64, una: u64, psn: u64) -> Reached
     requires queue { IsQueue (queue_of q.now) }
     requires within { IsWithin place first (queue_of q.now) }
@@ -40,10 +41,7 @@ fn reached_by(q: &QueuePart, place: u64, first: u64, una: u64, psn: u64) -> Reac
         first,
         back: None,
     };
-    if place >= q.requester.next {
-        return here;
-    }
-    match numbered_at(q, place, first) {
+    match begun_at(q, place, first) {
         None => here,
         Some(n) if is_unanswered(&n, una, psn) => Reached {
             back: Some(una.max(n.first)),

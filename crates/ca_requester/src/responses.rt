@@ -58,6 +58,7 @@ pub(crate) struct Answer<'a> {
 }
 
 /// What a response makes: it is dropped in the wrong state, or where its PSN is not outstanding. It takes no memory.
+#[inline(always)]
 pub(crate) fn response_of<'a>(q: &'a QueuePart, p: &Packet<'_>) -> Response<'a>
     requires queue { IsQueue (queue_of q.now) }
     requires narrow { AreNarrow (queue_of q.now) }

@@ -46,6 +46,7 @@ pub fn next_asks(q: &QueuePart) -> ArrayVec<Ask, MAX_PIECES>
 
 /// The request of which the turn sends a packet, if nothing denies it, or the first reason for which it sends none.
 #[tactic(auto, using(crate::proofs::TurnLemmas::is_packet))]
+#[inline(always)]
 fn next_to_send(q: &QueuePart) -> Result<Next<'_>, Reason>
     requires queue { IsQueue (queue_of q.now) }
     requires narrow { AreNarrow (queue_of q.now) }
