@@ -157,6 +157,7 @@ fn has_psn(n: &Numbered<'_>, psn: u64) -> bool
 
 /// The request of which the next thing is: one that goes on, or the one that begins with it. It takes no memory.
 #[tactic(auto, using(crate::proofs::NumberingLemmas::start_within))]
+#[inline(always)]
 pub fn next_request(q: &QueuePart) -> Option<Next<'_>>
     requires queue { IsQueue (queue_of q.now) }
     requires narrow { AreNarrow (queue_of q.now) }

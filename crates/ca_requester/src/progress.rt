@@ -53,6 +53,7 @@ fn reached_by(q: &QueuePart, place: u64, first: u64, una: u64, psn: u64) -> Reac
 }
 
 /// `una` grows to a PSN, if it is above it; where it grew, retries are counted anew.
+#[inline(always)]
 fn with_una(numbers: RequesterNumbers, psn: u64) -> RequesterNumbers
     ensures { result ≡ numbers_with_una psn numbers }
 {
@@ -68,6 +69,7 @@ fn with_una(numbers: RequesterNumbers, psn: u64) -> RequesterNumbers
 }
 
 /// The numbers after all below a PSN is acknowledged, with the oldest unfinished request there.
+#[inline(always)]
 fn numbers_at(numbers: RequesterNumbers, psn: u64, reached: &Reached) -> RequesterNumbers
     ensures { result ≡ reached_numbers psn reached.now numbers }
 {
@@ -104,6 +106,7 @@ pub(crate) struct Acknowledged {
 /// All below a PSN is acknowledged. A READ or an atomic there that was not answered is an implied NAK: the requester goes
 /// back to it. It takes no memory.
 #[tactic(auto, using(crate::proofs::ProgressLemmas::own_numbers, crate::proofs::ProgressLemmas::goes_back, crate::proofs::ProgressLemmas::goes_on))]
+#[inline(always)]
 pub(crate) fn acknowledged_below(q: &QueuePart, psn: u64) -> Acknowledged
     requires queue { IsQueue (queue_of q.now) }
     requires narrow { AreNarrow (queue_of q.now) }

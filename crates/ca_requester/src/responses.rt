@@ -83,6 +83,7 @@ pub(crate) fn response_of<'a>(q: &'a QueuePart, p: &Packet<'_>) -> Response<'a>
 }
 
 /// What the packet's AETH says.
+#[inline(always)]
 fn syndrome_of(p: &Packet<'_>) -> Option<Syndrome>
     ensures { result ≡ option_and_then (λ a. syndrome_in a.syndrome) (fields_of p.now).aeth }
 {
@@ -93,6 +94,7 @@ fn syndrome_of(p: &Packet<'_>) -> Option<Syndrome>
 }
 
 /// An Acknowledge packet, by its syndrome.
+#[inline(always)]
 fn acknowledge(q: &QueuePart, psn: u64, syndrome: Syndrome) -> Ended
     requires queue { IsQueue (queue_of q.now) }
     requires narrow { AreNarrow (queue_of q.now) }
@@ -109,6 +111,7 @@ fn acknowledge(q: &QueuePart, psn: u64, syndrome: Syndrome) -> Ended
 
 /// An acknowledgement of all up to a PSN.
 #[tactic(auto, using(crate::proofs::ResponseLemmas::ack_back, crate::proofs::ResponseLemmas::ack_on, crate::proofs::ResponseLemmas::is_end))]
+#[inline(always)]
 fn on_ack(q: &QueuePart, psn: u64) -> Ended
     requires queue { IsQueue (queue_of q.now) }
     requires narrow { AreNarrow (queue_of q.now) }
