@@ -22,7 +22,6 @@ pub(crate) fn finished_count(q: &QueuePart, end: u64) -> u32
 
 /// Adds the completions of the requests from a place on and before another, which succeeded, in the spare room. It takes
 /// no memory.
-#[inline]
 pub(crate) fn push_finished(q: &QueuePart, place: u64, end: u64, marks: &mut Marks)
     requires queue { IsQueue (queue_of q.now) }
     requires posted { q.now.sends.first ≤ place }

@@ -169,7 +169,7 @@ pub fn next_request(q: &QueuePart) -> Option<Next<'_>>
 }
 
 /// The same among the requests from a place on, where none before it goes on or begins.
-#[inline]
+#[inline(always)]
 fn next_from(q: &QueuePart, place: u64, first: u64) -> Option<Next<'_>>
     requires queue { IsQueue (queue_of q.now) }
     requires within { IsWithin place first (queue_of q.now) }
@@ -188,16 +188,23 @@ fn next_from(q: &QueuePart, place: u64, first: u64) -> Option<Next<'_>>
     ensures room { IfSome result (λ next. next.begins ≡ true → q.now.requester.next + 1 < 2 ^ 64) }
     ensures sound { IfSome result (λ next. IsSound (queue_of q.now) (numbered_of next.request)) }
 {
-    match numbered_at(q, place, first) {
-        None => None,
-        Some(request) if place >= q.requester.next => Some(Next {
-            request,
-            begins: true,
-        }),
-        Some(request) if has_psn(&request, q.requester.cursor) => Some(Next {
-            request,
-            begins: false,
-        }),
-        Some(n) => next_from(q, place + 1, first + u64::from(n.count)),
+    let mut place = place;
+    let mut first = first;
+    while let Some(request) = numbered_at(q, place, first) {
+        if place >= q.requester.next {
+            return Some(Next {
+                request,
+                begins: true,
+            });
+        }
+        if has_psn(&request, q.requester.cursor) {
+            return Some(Next {
+                request,
+                begins: false,
+            });
+        }
+        place += 1;
+        first += u64::from(request.count);
     }
+    None
 }

@@ -60,7 +60,6 @@ pub(crate) fn one_retry(numbers: RequesterNumbers, psn: u64) -> Outcome
 
 /// It goes on with these numbers: the requests before its oldest unfinished one complete. After Ok there is room for two
 /// more marks, and `Memory` changes nothing.
-#[inline(always)]
 pub(crate) fn go(
     q: &mut QueuePart,
     numbers: RequesterNumbers,

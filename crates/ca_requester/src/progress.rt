@@ -25,7 +25,6 @@ pub(crate) struct Reached {
 
 /// How far an acknowledgement of all below a PSN goes among the requests from a place on that have begun: up to the first
 /// READ or atomic with a PSN from `una` on and below it, or up to the first that does not end below it.
-#[inline]
 fn reached_by(q: &QueuePart, place: u64, first: u64, una: u64, psn: u64) -> Reached
     requires queue { IsQueue (queue_of q.now) }
     requires within { IsWithin place first (queue_of q.now) }
@@ -36,24 +35,30 @@ fn reached_by(q: &QueuePart, place: u64, first: u64, una: u64, psn: u64) -> Reac
     ensures within { IsWithin result.place result.first (queue_of q.now) }
     ensures begun { place ≤ q.now.requester.next → result.place ≤ q.now.requester.next }
 {
-    let here = Reached {
+    let mut place = place;
+    let mut first = first;
+    while let Some(n) = begun_at(q, place, first) {
+        if is_unanswered(&n, una, psn) {
+            return Reached {
+                place,
+                first,
+                back: Some(una.max(n.first)),
+            };
+        }
+        if n.end() > una.max(psn) {
+            break;
+        }
+        place += 1;
+        first += u64::from(n.count);
+    }
+    Reached {
         place,
         first,
         back: None,
-    };
-    match begun_at(q, place, first) {
-        None => here,
-        Some(n) if is_unanswered(&n, una, psn) => Reached {
-            back: Some(una.max(n.first)),
-            ..here
-        },
-        Some(n) if n.end() > una.max(psn) => here,
-        Some(n) => reached_by(q, place + 1, first + u64::from(n.count), una, psn),
     }
 }
 
 /// `una` grows to a PSN, if it is above it; where it grew, retries are counted anew.
-#[inline(always)]
 fn with_una(numbers: RequesterNumbers, psn: u64) -> RequesterNumbers
     ensures { result ≡ numbers_with_una psn numbers }
 {
@@ -69,7 +74,6 @@ fn with_una(numbers: RequesterNumbers, psn: u64) -> RequesterNumbers
 }
 
 /// The numbers after all below a PSN is acknowledged, with the oldest unfinished request there.
-#[inline(always)]
 fn numbers_at(numbers: RequesterNumbers, psn: u64, reached: &Reached) -> RequesterNumbers
     ensures { result ≡ reached_numbers psn reached.now numbers }
 {
@@ -106,7 +110,6 @@ pub(crate) struct Acknowledged {
 /// All below a PSN is acknowledged. A READ or an atomic there that was not answered is an implied NAK: the requester goes
 /// back to it. It takes no memory.
 #[tactic(auto, using(crate::proofs::ProgressLemmas::own_numbers, crate::proofs::ProgressLemmas::goes_back, crate::proofs::ProgressLemmas::goes_on))]
-#[inline(always)]
 pub(crate) fn acknowledged_below(q: &QueuePart, psn: u64) -> Acknowledged
     requires queue { IsQueue (queue_of q.now) }
     requires narrow { AreNarrow (queue_of q.now) }

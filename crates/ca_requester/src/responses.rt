@@ -58,7 +58,6 @@ pub(crate) struct Answer<'a> {
 }
 
 /// What a response makes: it is dropped in the wrong state, or where its PSN is not outstanding. It takes no memory.
-#[inline(always)]
 pub(crate) fn response_of<'a>(q: &'a QueuePart, p: &Packet<'_>) -> Response<'a>
     requires queue { IsQueue (queue_of q.now) }
     requires narrow { AreNarrow (queue_of q.now) }
@@ -83,7 +82,6 @@ pub(crate) fn response_of<'a>(q: &'a QueuePart, p: &Packet<'_>) -> Response<'a>
 }
 
 /// What the packet's AETH says.
-#[inline(always)]
 fn syndrome_of(p: &Packet<'_>) -> Option<Syndrome>
     ensures { result ≡ option_and_then (λ a. syndrome_in a.syndrome) (fields_of p.now).aeth }
 {
@@ -94,7 +92,6 @@ fn syndrome_of(p: &Packet<'_>) -> Option<Syndrome>
 }
 
 /// An Acknowledge packet, by its syndrome.
-#[inline(always)]
 fn acknowledge(q: &QueuePart, psn: u64, syndrome: Syndrome) -> Ended
     requires queue { IsQueue (queue_of q.now) }
     requires narrow { AreNarrow (queue_of q.now) }
@@ -111,7 +108,6 @@ fn acknowledge(q: &QueuePart, psn: u64, syndrome: Syndrome) -> Ended
 
 /// An acknowledgement of all up to a PSN.
 #[tactic(auto, using(crate::proofs::ResponseLemmas::ack_back, crate::proofs::ResponseLemmas::ack_on, crate::proofs::ResponseLemmas::is_end))]
-#[inline(always)]
 fn on_ack(q: &QueuePart, psn: u64) -> Ended
     requires queue { IsQueue (queue_of q.now) }
     requires narrow { AreNarrow (queue_of q.now) }

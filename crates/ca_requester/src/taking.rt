@@ -174,7 +174,6 @@ fn drop_packet(queue: QueueId, cause: Drop1, marks: &mut Marks) -> Result<(), Me
 
 /// What is acknowledged completes, and then comes the outcome.
 #[tactic(auto, using(crate::proofs::ProgressLemmas::own_numbers))]
-#[inline(always)]
 fn end(alloc: Global, q: &mut QueuePart, ended: Ended, marks: &mut Marks) -> Result<(), Memory>
     requires queue { IsQueue (queue_of q.old) }
     requires narrow { AreNarrow (queue_of q.old) }

@@ -118,7 +118,6 @@ pub(crate) fn end_of_packet(q: &QueuePart, n: &Numbered<'_>) -> u64
 }
 
 /// Whether with the packet too much would be outstanding: PSNs, request packets, or READs and atomics.
-#[inline(always)]
 pub(crate) fn is_too_much(q: &QueuePart, n: &Numbered<'_>) -> bool
     requires queue { IsQueue (queue_of q.now) }
     requires narrow { AreNarrow (queue_of q.now) }
