@@ -4,6 +4,7 @@
 #![tactic(auto)]
 
 mod answering;
+mod requesting;
 mod work;
 
 use std::process::ExitCode;

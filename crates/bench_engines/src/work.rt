@@ -2,16 +2,15 @@ ghost use Rattle.std.specs.Prelude.{IfSome};
 ghost use Rattle.ca_tests_requester.specs.Bed as beds;
 
 use crate::answering::{answers, duplicates};
+use crate::requesting::requests;
 use arrayvec::ArrayVec;
 use ca_base::{
     AdapterConfig, Change, Config, DomainId, Key, Piece, QueueId, Rights, Run, SendOp, SendRequest,
     Slot,
 };
-use ca_model::Marks;
 use ca_qpstate::QueuePart;
 use ca_tests_grant::SmallReach;
 use ca_tests_requester::Bed;
-use ca_wire::decode;
 use std::alloc::Global;
 use std::env;
 use std::process::ExitCode;
@@ -103,7 +102,8 @@ pub fn new_bed(alloc: Global) -> Option<Bed>
     Some(Bed { queue, reach })
 }
 
-fn write() -> Option<SendRequest> {
+/// A WRITE of the eight bytes.
+pub fn write() -> Option<SendRequest> {
     let mut list = ArrayVec::new();
     list.try_push(PIECE).ok()?;
     Some(SendRequest {
@@ -119,53 +119,6 @@ fn write() -> Option<SendRequest> {
     })
 }
 
-/// The acknowledgement of a PSN.
-fn acknowledgement(psn: u8) -> [u8; 16] {
-    [0x11, 0, 0xff, 0xff, 0, 0, 1, 0, 0, 0, 0, psn, 0x1f, 0, 0, 1]
-}
-
-// Takes the acknowledgement of a PSN.
-fn answer(alloc: Global, bed: &mut Bed, psn: u8, marks: &mut Marks) -> bool
-    requires { beds.Stands bed.old }
-    ensures { beds.Stands bed.new }
-{
-    match decode(acknowledgement(psn).as_slice()) {
-        Err(_) => false,
-        Ok(p) => matches!(bed.take(alloc, &p, marks), Some(Ok(()))),
-    }
-}
-
-// Posts requests, sends each and takes its acknowledgement, from a PSN on; how many bytes were sent.
-fn turns(
-    alloc: Global,
-    bed: &mut Bed,
-    psn: u8,
-    count: u8,
-    marks: &mut Marks,
-    out: &mut Vec<u8>,
-) -> bool
-    requires { beds.Stands bed.old }
-    ensures { beds.Stands bed.new }
-{
-    if psn >= count {
-        return true;
-    }
-    let Some(request) = write() else {
-        return false;
-    };
-    out.clear();
-    if !bed.post(request) {
-        return false;
-    }
-    if !matches!(bed.send(alloc, true, marks, out), Some(Ok(_))) {
-        return false;
-    }
-    if !answer(alloc, bed, psn, marks) {
-        return false;
-    }
-    turns(alloc, bed, psn + 1, count, marks, out)
-}
-
 pub fn bring_up(bed: &mut Bed, expected: u32) -> bool
     requires { beds.Stands bed.old }
     ensures { beds.Stands bed.new }
@@ -177,32 +130,10 @@ pub fn bring_up(bed: &mut Bed, expected: u32) -> bool
     bed.change(&config, &first) && bed.change(&config, &second) && bed.change(&config, &third)
 }
 
-fn run(alloc: Global, bed: &mut Bed, count: u8) -> Option<usize>
-    requires { beds.Stands bed.old }
-{
-    let mut marks = Marks::empty(alloc);
-    let mut out = Vec::new(alloc);
-    if !bring_up(bed, 0) || marks.reserve(2048).is_err() || out.reserve(4096).is_err() {
-        return None;
-    }
-    if turns(alloc, bed, 0, count, &mut marks, &mut out) {
-        Some(marks.as_slice().len())
-    } else {
-        None
-    }
-}
-
-fn sum_of(alloc: Global, count: u8) -> Option<usize> {
-    match new_bed(alloc) {
-        None => None,
-        Some(mut bed) => run(alloc, &mut bed, count),
-    }
-}
-
 // Does what the word names, so many times; how many marks that made.
 fn sum_named(alloc: Global, word: &str, count: u8) -> Option<usize> {
     match word {
-        "requests" => sum_of(alloc, count),
+        "requests" => requests(alloc, count),
         "answers" => answers(alloc, count),
         "duplicates" => duplicates(alloc, count),
         _ => None,

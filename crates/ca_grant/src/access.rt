@@ -8,13 +8,24 @@ use ca_base::{Bytes, Memory, Span};
 use ca_memory::Buffer;
 use std::alloc::Global;
 
-/// The bytes that a buffer holds at the places of a span, in order.
+/// How many places a span has.
+fn length_of(span: &Span) -> usize
+    ensures { result ≡ places_count (runs_of_span span.now) }
+{
+    let second = match &span.second {
+        Some(second) => second.length,
+        None => 0,
+    };
+    span.first.length as usize + second as usize
+}
+
+/// The bytes that a buffer holds at the places of a span, in order. It takes memory once.
 pub fn bytes_of_span(alloc: Global, buffer: &Buffer, span: &Span) -> Result<Bytes, Memory>
     requires { FitInBytes (length buffer.now) (runs_of_span span.now) }
     ensures bytes { IfOk result (λ bytes. bytes ≡ bytes_at (memory_of buffer.now) (runs_of_span span.now)) }
     ensures count { IfOk result (λ bytes. length bytes ≡ places_count (runs_of_span span.now)) }
 {
-    let mut bytes = Vec::new(alloc);
+    let mut bytes = Vec::with_capacity(alloc, length_of(span))?;
     buffer.read(&span.first, &mut bytes)?;
     if let Some(second) = &span.second {
         buffer.read(second, &mut bytes)?;

@@ -120,3 +120,11 @@ pub found-behind : (q : QueuePair) (place next psn more cursor : ℕ) (n : Numbe
 found-behind q place next psn more cursor n one on before step other =
     let far : q.requester.next - place ≡ suc (q.requester.next - suc place) = omega (arith, before) in
     rw (one, on, step, far, other) refl
+
+-- and the one that begins next is looked for among the others, where it is none of those that have begun
+pub begins-behind : (q : QueuePair) (place next psn more : ℕ) (n : Numbered) → next ≡ suc place → more ≡ psn + n.count
+    → place < q.requester.next → numbers_from place psn q ≡ n ∷ numbers_from (suc place) (psn + n.count) q
+    → slice_get (numbers_from next more q) (q.requester.next - next) ≡ slice_get (numbers_from place psn q) (q.requester.next - place)
+begins-behind q place next psn more n one on before step =
+    let far : q.requester.next - place ≡ suc (q.requester.next - suc place) = omega (arith, before) in
+    rw (one, on, step, far) refl

@@ -239,3 +239,12 @@ goes_on q psn e = rw e refl
 pub goes_back : (q : QueuePair) (psn back : ℕ) → first_unanswered q.requester.una psn (begun_requests q) ≡ Some back
     → acknowledgement_below psn q ≡ acknowledgement_of true back q
 goes_back q psn back e = rw e refl
+
+-- where none has begun from a place on, none is finished
+pub finished-past : (q : QueuePair) (place psn una : ℕ) → begun_from place psn q ≡ [] → finished_from place psn una q ≡ []
+finished-past q place psn una e = rw e refl
+
+-- what lies behind a PSN lies behind an earlier one
+pub behind-earlier : (una earlier later : ℕ) (back : Option ℕ) → earlier ≤ later → IfSome back (λ b. (una ≤ b) × (later ≤ b)) → IfSome back (λ b. (una ≤ b) × (earlier ≤ b))
+behind-earlier una earlier later None le behind = tt
+behind-earlier una earlier later (Some b) le behind = (behind.0, omega (arith, le, behind.1))

@@ -10,7 +10,7 @@ use Rattle.ca_base.specs.objects.QueuePair.{QueuePair}
 use Rattle.ca_model.specs.Requests.{is_local}
 use Rattle.ca_model.specs.machine.LocalOperations.{operation_effects}
 use Rattle.ca_model.specs.machine.Numbering.{Numbered}
-use Rattle.ca_model.specs.machine.Requester.{RequestTurn, Waits, Performs, Sends, begins, end_of_packet, packet_row, turn_of}
+use Rattle.ca_model.specs.machine.Requester.{RequestTurn, Waits, Performs, Sends, packet_row, turn_of}
 use Rattle.ca_model.specs.machine.Row.{Effects, Row, plain_row, NotPossible, queue_and_marks}
 
 -- what a turn does on a request, where nothing stands against it
@@ -49,9 +49,9 @@ operation_end q cause = by (turn_of q)
     by (Performs n) = operation_effects q n q no_marks cause
     by turn = queue_and_marks q []
 
--- the requester's numbers after the next packet of a request is sent
-abbrev pub numbers_sent : QueuePair → Numbered → RequesterNumbers
-numbers_sent q n = record q.requester {
-  cursor = end_of_packet q n;
-  next = if begins q then suc q.requester.next else q.requester.next;
+-- the requester's numbers after a packet that ends below a PSN, and begins its request or not
+abbrev pub numbers_past : ℕ → Bool → RequesterNumbers → RequesterNumbers
+numbers_past end begins r = record r {
+  cursor = end;
+  next = if begins then suc r.next else r.next;
 }

@@ -93,6 +93,26 @@ pub(crate) fn numbered_at(q: &QueuePart, place: u64, first: u64) -> Option<Numbe
     }
 }
 
+/// The request at a place, where it has begun. Of those behind it none has begun where it has not.
+pub(crate) fn begun_at(q: &QueuePart, place: u64, first: u64) -> Option<Numbered<'_>>
+    requires queue { IsQueue (queue_of q.now) }
+    requires within { IsWithin place first (queue_of q.now) }
+    ensures none { IfNone result (begun_from place first (queue_of q.now) ≡ []) }
+    ensures some { IfSome result (λ n. numbers_from place first (queue_of q.now)
+        ≡ numbered_of n ∷ numbers_from (suc place) (first + n.count) (queue_of q.now)) }
+    ensures begun { IfSome result (λ n. place < q.now.requester.next) }
+    ensures first { IfSome result (λ n. n.first ≡ first) }
+    ensures sound { IfSome result (λ n. IsSound (queue_of q.now) (numbered_of n)) }
+    ensures place { IfSome result (λ n. place + 1 < 2 ^ 64) }
+    ensures within { IfSome result (λ n. IsWithin (suc place) (first + n.count) (queue_of q.now)) }
+{
+    if place < q.requester.next {
+        numbered_at(q, place, first)
+    } else {
+        None
+    }
+}
+
 /// The request that has begun and has this PSN, under numbers that the queue pair may go on with. It takes no memory.
 #[tactic(auto, using(crate::proofs::ResponseLemmas::at_under))]
 pub(crate) fn request_under<'a>(
@@ -137,6 +157,7 @@ fn has_psn(n: &Numbered<'_>, psn: u64) -> bool
 
 /// The request of which the next thing is: one that goes on, or the one that begins with it. It takes no memory.
 #[tactic(auto, using(crate::proofs::NumberingLemmas::start_within))]
+#[inline(always)]
 pub fn next_request(q: &QueuePart) -> Option<Next<'_>>
     requires queue { IsQueue (queue_of q.now) }
     requires narrow { AreNarrow (queue_of q.now) }
@@ -148,6 +169,7 @@ pub fn next_request(q: &QueuePart) -> Option<Next<'_>>
 }
 
 /// The same among the requests from a place on, where none before it goes on or begins.
+#[inline(always)]
 fn next_from(q: &QueuePart, place: u64, first: u64) -> Option<Next<'_>>
     requires queue { IsQueue (queue_of q.now) }
     requires within { IsWithin place first (queue_of q.now) }
@@ -166,16 +188,23 @@ fn next_from(q: &QueuePart, place: u64, first: u64) -> Option<Next<'_>>
     ensures room { IfSome result (λ next. next.begins ≡ true → q.now.requester.next + 1 < 2 ^ 64) }
     ensures sound { IfSome result (λ next. IsSound (queue_of q.now) (numbered_of next.request)) }
 {
-    match numbered_at(q, place, first) {
-        None => None,
-        Some(request) if place >= q.requester.next => Some(Next {
-            request,
-            begins: true,
-        }),
-        Some(request) if has_psn(&request, q.requester.cursor) => Some(Next {
-            request,
-            begins: false,
-        }),
-        Some(n) => next_from(q, place + 1, first + u64::from(n.count)),
+    let mut place = place;
+    let mut first = first;
+    while let Some(request) = numbered_at(q, place, first) {
+        if place >= q.requester.next {
+            return Some(Next {
+                request,
+                begins: true,
+            });
+        }
+        if has_psn(&request, q.requester.cursor) {
+            return Some(Next {
+                request,
+                begins: false,
+            });
+        }
+        place += 1;
+        first += u64::from(request.count);
     }
+    None
 }

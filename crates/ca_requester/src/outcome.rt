@@ -111,6 +111,27 @@ pub(crate) fn fail(
     Ok(())
 }
 
+/// The same with no mark in between. It stands apart, since a failure is rare.
+#[cold]
+#[inline(never)]
+pub(crate) fn fail_alone(
+    alloc: Global,
+    q: &mut QueuePart,
+    failure: &Failure,
+    marks: &mut Marks,
+) -> Result<(), Memory>
+    requires queue { IsQueue (queue_of q.old) }
+    requires ahead { AreAhead (queue_of q.old) failure.now.numbers }
+    ensures queue { OnOk result (queue_of q.new ≡ (failure_effects failure.now.status failure.now.cause (with_requester failure.now.numbers (queue_of q.old))).queue) }
+    ensures marks { OnOk result (marks.new.marks ≡ marks.old.marks ++ (success_between q.old.requester.oldest failure.now.numbers.oldest (queue_of q.old)
+        ++ (failure_effects failure.now.status failure.now.cause (with_requester failure.now.numbers (queue_of q.old))).marks)) }
+    ensures room { OnOk result (2 ≤ marks.new.room) }
+    ensures err { OnErr result (q.new ≡ q.old) }
+    ensures err_marks { OnErr result (marks.new.marks ≡ marks.old.marks) }
+{
+    fail(alloc, q, *failure, None, marks)
+}
+
 /// Makes room for so many marks, one more, these, and two more.
 fn reserve_for(finished: u32, made: &[Mark], marks: &mut Marks) -> Result<(), Memory>
     requires { finished ≤ MAX_DEPTH }

@@ -1,4 +1,4 @@
-ghost use Rattle.std.specs.Prelude.{◌≡◌, ◌+◌, ◌*◌, ◌++◌, ◌<◌, ◌≤◌, ◌^◌, false, true, Some, OnOk, OnErr, length};
+ghost use Rattle.std.specs.Prelude.{◌≡◌, ℕ, ◌+◌, ◌*◌, ◌++◌, ◌<◌, ◌≤◌, ◌^◌, [], false, true, Some, OnOk, OnErr, length};
 ghost use Rattle.std.specs.List.{AllByRecursion};
 ghost use Rattle.ca_base.specs.declared.access.Kind.{Kind};
 ghost use Rattle.ca_base.specs.declared.limits.TheConstants.{MAX_PAYLOAD_BYTES};
@@ -20,7 +20,7 @@ use ca_base::limits::MAX_PIECES;
 use ca_base::{Ask, Key, Kind, Memory, Piece, SendOp, SendRequest};
 use ca_qpstate::QueuePart;
 use ca_rows::{
-    carried_bytes, list_asks, list_length, list_of, peer_number, psn_bits, segments, spell_packet,
+    carried_bytes, fill_asks, list_length, list_of, peer_number, psn_bits, spell_packet,
 };
 use ca_wire::{
     AtomicEth, Packet, Reth, Segment, SendKind, cmp_swap, fetch_add, read_request, send_packet,
@@ -46,23 +46,30 @@ fn bytes_before(q: &QueuePart, n: &Numbered<'_>) -> u32
     index_of_packet(q, n) * u32::from(q.responder.mtu)
 }
 
-/// The asks of the next packet, for the bytes that it carries of its request's list.
-pub(crate) fn packet_asks(q: &QueuePart, n: &Numbered<'_>) -> ArrayVec<Ask, MAX_PIECES>
+/// Puts the asks of the next packet into an empty list, for the bytes that it carries of its request's list.
+#[inline(always)]
+pub(crate) fn fill_packet_asks(
+    q: &QueuePart,
+    n: &Numbered<'_>,
+    asks: &mut ArrayVec<Ask, MAX_PIECES>,
+)
     requires queue { IsQueue (queue_of q.now) }
     requires packet { IsPacket (queue_of q.now) (numbered_of n.now) }
-    ensures value { result.items ≡ requester.packet_asks (queue_of q.now) (numbered_of n.now) }
-    ensures touched { touched_by result.items ≤ MAX_PAYLOAD_BYTES }
-    ensures asks { AllByRecursion (IsAskOf Kind.Read) result.items }
+    requires empty { asks.old.items ≡ [] }
+    ensures value { asks.new.items ≡ requester.packet_asks (queue_of q.now) (numbered_of n.now) }
+    ensures touched { touched_by asks.new.items ≤ MAX_PAYLOAD_BYTES }
+    ensures asks { AllByRecursion (IsAskOf Kind.Read) asks.new.items }
 {
     let count = carried_bytes(q.responder.mtu, n.op(), index_of_packet(q, n));
-    list_asks(
+    fill_asks(
         q.queue,
         q.domain,
         Kind::Read,
         bytes_before(q, n),
         count,
         list_of(n.op()),
-    )
+        asks,
+    );
 }
 
 /// Adds the bytes that spell the next packet, with this payload.
@@ -93,13 +100,9 @@ fn packet_of<'a>(q: &QueuePart, n: &Numbered<'_>, payload: &'a [u8]) -> Packet<'
 {
     let head = head_of(q, n, payload);
     match n.op() {
-        SendOp::Send { list } => send_of(&head, SendKind::Plain, list.as_slice()),
-        SendOp::SendImm { imm, list } => {
-            send_of(&head, SendKind::WithImmediate(*imm), list.as_slice())
-        }
-        SendOp::SendInv { key, list } => {
-            send_of(&head, SendKind::WithInvalidate(*key), list.as_slice())
-        }
+        SendOp::Send { .. } => send_of(&head, SendKind::Plain),
+        SendOp::SendImm { imm, .. } => send_of(&head, SendKind::WithImmediate(*imm)),
+        SendOp::SendInv { key, .. } => send_of(&head, SendKind::WithInvalidate(*key)),
         SendOp::Write { address, key, list } => {
             write_of(&head, *address, *key, None, list.as_slice())
         }
@@ -125,8 +128,8 @@ fn packet_of<'a>(q: &QueuePart, n: &Numbered<'_>, payload: &'a [u8]) -> Packet<'
 #[derive(Clone, Copy)]
 struct Head<'a> {
     index: u32,
+    count: u32,
     solicited: bool,
-    mtu: u16,
     queue: u32,
     psn: u32,
     payload: &'a [u8],
@@ -138,7 +141,7 @@ fn head_of<'a>(q: &QueuePart, n: &Numbered<'_>, payload: &'a [u8]) -> Head<'a>
     requires packet { IsPacket (queue_of q.now) (numbered_of n.now) }
     ensures index { result.index ≡ requester.index_of_packet (queue_of q.now) (numbered_of n.now) }
     ensures solicited { result.solicited ≡ (numbered_of n.now).request.solicited }
-    ensures mtu { result.mtu ≡ q.now.responder.mtu }
+    ensures count { result.count ≡ n.now.count }
     ensures queue { result.queue ≡ requester.peer_number (queue_of q.now) }
     ensures number { result.queue < 2 ^ 24 }
     ensures psn { result.psn ≡ requester.psn_bits q.now.requester.cursor }
@@ -147,8 +150,8 @@ fn head_of<'a>(q: &QueuePart, n: &Numbered<'_>, payload: &'a [u8]) -> Head<'a>
 {
     Head {
         index: index_of_packet(q, n),
+        count: n.count,
         solicited: n.request().solicited,
-        mtu: q.responder.mtu,
         queue: peer_number(q),
         psn: psn_bits(q.requester.cursor),
         payload,
@@ -160,7 +163,7 @@ fn atomic_of<'a>(head: &Head<'a>, request: &SendRequest) -> Packet<'a>
     requires atomic { is_atomic_op request.now.op ≡ true }
     requires queue { head.now.queue < 2 ^ 24 }
     requires psn { head.now.psn < 2 ^ 24 }
-    ensures fields { requests.request_packet head.now.mtu request.now head.now.index head.now.queue head.now.psn head.now.payload.now ≡ Some (fields_of result) }
+    ensures fields { (mtu : ℕ) → requests.request_packet mtu request.now head.now.index head.now.queue head.now.psn head.now.payload.now ≡ Some (fields_of result) }
     ensures well_formed { IsWellFormed (fields_of result) }
 {
     match &request.op {
@@ -189,33 +192,29 @@ fn atomic_of<'a>(head: &Head<'a>, request: &SendRequest) -> Packet<'a>
     }
 }
 
-/// The segment at the index of a message with the bytes of a list.
-fn segment_of(head: &Head<'_>, list: &[Piece]) -> Segment
-    requires mtu { 0 < head.now.mtu }
-    requires list { IsList list.now }
-    ensures { result ≡ requests.segment head.now.mtu (requests.list_length list.now) head.now.index }
+/// Which segment of its message the packet carries.
+fn segment_of(head: &Head<'_>) -> Segment
+    ensures { result ≡ record { index = head.now.index; count = head.now.count } }
 {
     Segment {
         index: head.index,
-        count: segments(head.mtu, list_length(list)),
+        count: head.count,
     }
 }
 
 /// A packet of a SEND.
-fn send_of<'a>(head: &Head<'a>, kind: SendKind, list: &[Piece]) -> Packet<'a>
-    requires mtu { 0 < head.now.mtu }
-    requires list { IsList list.now }
-    requires index { head.now.index < requests.segments head.now.mtu (requests.list_length list.now) }
+fn send_of<'a>(head: &Head<'a>, kind: SendKind) -> Packet<'a>
+    requires index { head.now.index < head.now.count }
     requires queue { head.now.queue < 2 ^ 24 }
     requires psn { head.now.psn < 2 ^ 24 }
     requires payload { length head.now.payload.now ≤ MAX_PAYLOAD_BYTES }
-    ensures fields { fields_of result ≡ packets.send_packet kind (requests.segment head.now.mtu (requests.list_length list.now) head.now.index)
+    ensures fields { fields_of result ≡ packets.send_packet kind (record { index = head.now.index; count = head.now.count })
         head.now.solicited head.now.queue head.now.psn head.now.payload.now }
     ensures well_formed { IsWellFormed (fields_of result) }
 {
     send_packet(
         kind,
-        segment_of(head, list),
+        segment_of(head),
         head.solicited,
         head.queue,
         head.psn,
@@ -231,13 +230,12 @@ fn write_of<'a>(
     imm: Option<u32>,
     list: &[Piece],
 ) -> Packet<'a>
-    requires mtu { 0 < head.now.mtu }
     requires list { IsList list.now }
-    requires index { head.now.index < requests.segments head.now.mtu (requests.list_length list.now) }
+    requires index { head.now.index < head.now.count }
     requires queue { head.now.queue < 2 ^ 24 }
     requires psn { head.now.psn < 2 ^ 24 }
     requires payload { length head.now.payload.now ≤ MAX_PAYLOAD_BYTES }
-    ensures fields { fields_of result ≡ packets.write_packet (requests.segment head.now.mtu (requests.list_length list.now) head.now.index)
+    ensures fields { fields_of result ≡ packets.write_packet (record { index = head.now.index; count = head.now.count })
         (reth_of address key (requests.list_length list.now)) imm head.now.solicited head.now.queue head.now.psn head.now.payload.now }
     ensures well_formed { IsWellFormed (fields_of result) }
 {
@@ -247,7 +245,7 @@ fn write_of<'a>(
         length: list_length(list),
     };
     write_packet(
-        segment_of(head, list),
+        segment_of(head),
         reth,
         imm,
         head.solicited,

@@ -9,7 +9,7 @@ ghost use Rattle.ca_rows.specs.Narrow.{AreNarrow};
 ghost use Rattle.ca_requester.specs.Numbering.{begun_from, numbered_of, IsWithin};
 ghost use Rattle.ca_requester.specs.Progress.{AreNumbers, acknowledgement_of, finished_from, numbers_with_una, reached_numbers, success_between, una_behind};
 
-use crate::numbering::{Numbered, numbered_at};
+use crate::numbering::{Numbered, begun_at};
 use ca_base::RequesterNumbers;
 use ca_qpstate::QueuePart;
 use ca_rows::is_answered;
@@ -35,22 +35,26 @@ fn reached_by(q: &QueuePart, place: u64, first: u64, una: u64, psn: u64) -> Reac
     ensures within { IsWithin result.place result.first (queue_of q.now) }
     ensures begun { place ≤ q.now.requester.next → result.place ≤ q.now.requester.next }
 {
-    let here = Reached {
+    let mut place = place;
+    let mut first = first;
+    while let Some(n) = begun_at(q, place, first) {
+        if is_unanswered(&n, una, psn) {
+            return Reached {
+                place,
+                first,
+                back: Some(una.max(n.first)),
+            };
+        }
+        if n.end() > una.max(psn) {
+            break;
+        }
+        place += 1;
+        first += u64::from(n.count);
+    }
+    Reached {
         place,
         first,
         back: None,
-    };
-    if place >= q.requester.next {
-        return here;
-    }
-    match numbered_at(q, place, first) {
-        None => here,
-        Some(n) if is_unanswered(&n, una, psn) => Reached {
-            back: Some(una.max(n.first)),
-            ..here
-        },
-        Some(n) if n.end() > una.max(psn) => here,
-        Some(n) => reached_by(q, place + 1, first + u64::from(n.count), una, psn),
     }
 }
 

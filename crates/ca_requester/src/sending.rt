@@ -1,4 +1,4 @@
-ghost use Rattle.std.specs.Prelude.{◌≡◌, ◌+◌, ◌≤◌, ◌++◌, Bool, false, not, if◌then◌else◌, None, Some, [], drop, length, map, take, IfOk, IfErr, OnOk, OnErr};
+ghost use Rattle.std.specs.Prelude.{◌≡◌, ◌+◌, ◌<◌, ◌≤◌, ◌^◌, ◌++◌, Bool, true, false, not, if◌then◌else◌, None, Some, [], drop, length, map, take, IfOk, IfErr, OnOk, OnErr};
 ghost use Rattle.std.specs.List.{AllByRecursion, flat_map};
 ghost use Rattle.ca_base.specs.declared.access.Kind.{Kind};
 ghost use Rattle.ca_base.specs.declared.limits.TheConstants.{MAX_PAYLOAD_BYTES, MAX_PIECES};
@@ -16,16 +16,15 @@ ghost use Rattle.ca_rows.specs.Narrow.{AreNarrow};
 ghost use Rattle.ca_wire.specs.declared.packet.TheConstants.{MAX_PACKET_BYTES};
 ghost use Rattle.ca_requester.specs.Numbering.{numbered_of, IsNext};
 ghost use Rattle.ca_requester.specs.Packets.{IsPacket};
-ghost use Rattle.ca_requester.specs.Turn as turns;
-ghost use Rattle.ca_requester.specs.Turn.{turn_row};
+ghost use Rattle.ca_requester.specs.Turn.{numbers_past, turn_row};
 
 use crate::numbering::{Next, Numbered};
 use crate::outcome::{Failure, fail};
-use crate::packet::{packet_asks, spell};
+use crate::packet::{fill_packet_asks, spell};
 use crate::turn::{end_of_packet, is_too_much, turn_of};
 use arrayvec::ArrayVec;
 use ca_base::limits::MAX_PIECES;
-use ca_base::{Ask, Memory, Reason, RequesterNumbers, Sent, StepError, WcStatus};
+use ca_base::{Ask, Memory, Reason, Sent, StepError, WcStatus};
 use ca_grant::Reach;
 use ca_model::Marks;
 use ca_qpstate::QueuePart;
@@ -38,14 +37,16 @@ pub fn next_asks(q: &QueuePart) -> ArrayVec<Ask, MAX_PIECES>
     requires narrow { AreNarrow (queue_of q.now) }
     ensures { (room : Bool) → result.items ≡ (turn_row (queue_of q.now) room).asks }
 {
-    match next_to_send(q) {
-        Ok(next) => packet_asks(q, &next.request),
-        Err(_) => ArrayVec::new(),
+    let mut asks = ArrayVec::new();
+    if let Ok(next) = next_to_send(q) {
+        fill_packet_asks(q, &next.request, &mut asks);
     }
+    asks
 }
 
 /// The request of which the turn sends a packet, if nothing denies it, or the first reason for which it sends none.
 #[tactic(auto, using(crate::proofs::TurnLemmas::is_packet))]
+#[inline(always)]
 fn next_to_send(q: &QueuePart) -> Result<Next<'_>, Reason>
     requires queue { IsQueue (queue_of q.now) }
     requires narrow { AreNarrow (queue_of q.now) }
@@ -88,7 +89,8 @@ pub fn next_packet<R: Reach>(
         Err(reason) => return Err(StepError::NotReady(reason)),
         Ok(next) => next,
     };
-    let asks = packet_asks(q, &next.request);
+    let mut asks = ArrayVec::new();
+    fill_packet_asks(q, &next.request, &mut asks);
     match first_denied(reach, asks.as_slice()) {
         Some(denied) => match denied_refusal(q, room) {
             Some(reason) => Err(StepError::NotReady(reason)),
@@ -99,10 +101,10 @@ pub fn next_packet<R: Reach>(
         },
         None if !room => Err(StepError::NotReady(Reason::NoRoom)),
         None => {
-            let numbers = numbers_sent(q, &next);
-            let place = next.request.place;
+            let (place, end) = (next.request.place, end_of_packet(q, &next.request));
+            let begins = next.begins;
             read_and_spell(alloc, q, &next.request, reach, asks.as_slice(), marks, out)?;
-            q.requester = numbers;
+            go_past(q, end, begins);
             Ok(Sent::Spelt {
                 request: Some(place),
             })
@@ -142,23 +144,15 @@ fn fail_list(
     fail(alloc, q, failure, Some(local_denial(denied)), marks)
 }
 
-/// The requester's numbers after the packet.
-fn numbers_sent(q: &QueuePart, next: &Next<'_>) -> RequesterNumbers
-    requires narrow { AreNarrow (queue_of q.now) }
-    requires next { IsNext (queue_of q.now) next.now }
-    ensures { result ≡ turns.numbers_sent (queue_of q.now) (numbered_of next.now.request) }
+/// The requester goes past a packet that ends below a PSN, and past its request, where it begins with the packet.
+fn go_past(q: &mut QueuePart, end: u64, begins: bool)
+    requires { begins ≡ true → q.old.requester.next + 1 < 2 ^ 64 }
+    ensures { queue_of q.new ≡ with_requester (numbers_past end begins q.old.requester) (queue_of q.old) }
 {
-    let numbers = RequesterNumbers {
-        cursor: end_of_packet(q, &next.request),
-        ..q.requester
-    };
-    if next.begins {
-        return RequesterNumbers {
-            next: q.requester.next + 1,
-            ..numbers
-        };
+    q.requester.cursor = end;
+    if begins {
+        q.requester.next += 1;
     }
-    numbers
 }
 
 /// Reads the bytes of a packet, spells it, and adds a mark for each piece that was read.

@@ -22,7 +22,7 @@ ghost use Rattle.ca_requester.specs.Progress.{AreNumbers, success_between};
 ghost use Rattle.ca_requester.specs.Responses.{IsAnswer, IsEnd, answer_effects, denied_effects, ended_effects};
 
 use crate::finished::{finished_count, push_finished};
-use crate::outcome::{Failure, Outcome, fail, go};
+use crate::outcome::{Failure, Outcome, fail, fail_alone, go};
 use crate::progress::progressed;
 use crate::responses::{Answer, Ended, Response, response_of};
 use arrayvec::ArrayVec;
@@ -186,7 +186,7 @@ fn end(alloc: Global, q: &mut QueuePart, ended: Ended, marks: &mut Marks) -> Res
 {
     match ended.outcome {
         Outcome::Goes(numbers) => go(q, numbers, marks),
-        Outcome::Fails(failure) => fail(alloc, q, failure, None, marks),
+        Outcome::Fails(failure) => fail_alone(alloc, q, &failure, marks),
     }
 }
 

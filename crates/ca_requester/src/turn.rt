@@ -25,6 +25,7 @@ pub(crate) fn is_sending(state: State) -> bool
 
 /// The request on which a requester's turn does something, or the first reason for which it is not possible: `State`,
 /// `RnrWait`, `Empty`, `Fence`.
+#[inline(always)]
 pub(crate) fn turn_of(q: &QueuePart) -> Result<Next<'_>, Reason>
     requires queue { IsQueue (queue_of q.now) }
     requires narrow { AreNarrow (queue_of q.now) }
@@ -47,6 +48,7 @@ pub(crate) fn turn_of(q: &QueuePart) -> Result<Next<'_>, Reason>
 }
 
 /// The first reason that stands against the next thing, which is one of this request.
+#[inline(always)]
 fn refusal(q: &QueuePart, next: &Next<'_>) -> Option<Reason>
     requires queue { IsQueue (queue_of q.now) }
     requires narrow { AreNarrow (queue_of q.now) }
@@ -69,6 +71,7 @@ fn refusal(q: &QueuePart, next: &Next<'_>) -> Option<Reason>
 /// Whether a request that begins has to wait for earlier ones: a local operation for all, one with the fence for READs
 /// and atomics.
 #[tactic(auto, using(crate::proofs::NumberingLemmas::start_within))]
+#[inline(always)]
 fn is_fenced(q: &QueuePart, next: &Next<'_>) -> bool
     requires queue { IsQueue (queue_of q.now) }
     requires narrow { AreNarrow (queue_of q.now) }

@@ -32,11 +32,10 @@ pub fn first_denied<R: Reach>(reach: &R, asks: &[Ask]) -> Option<DeniedAsk>
     ensures first { result ≡ sights.first_denied (R.sight reach.now) asks.now }
     ensures allowed { IfNone result (AllByRecursion (IsGranted (R.sight reach.now)) asks.now) }
 {
-    let [ask, rest @ ..] = asks else {
-        return None;
-    };
-    match reach.check(ask) {
-        Some(denial) => Some(DeniedAsk { ask: *ask, denial }),
-        None => first_denied(reach, rest),
+    for ask in asks {
+        if let Some(denial) = reach.check(ask) {
+            return Some(DeniedAsk { ask: *ask, denial });
+        }
     }
+    None
 }

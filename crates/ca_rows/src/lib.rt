@@ -23,7 +23,7 @@ pub use completions::{
     failure_mark, local_denial, push_success, receive_failure, receive_mark, send_completion,
 };
 pub use flush::{push_flushed, push_flushed_receives, push_flushed_sends};
-pub use list::{list_asks, list_length};
+pub use list::{fill_asks, list_asks, list_length};
 pub use operations::{
     carried_bytes, is_answered, is_atomic, is_local, is_read, list_of, operation_of, psns_of,
     segments,

@@ -1,4 +1,4 @@
-ghost use Rattle.std.specs.Prelude.{◌≡◌, ◌+◌, ◌≤◌, ◌++◌, length};
+ghost use Rattle.std.specs.Prelude.{◌≡◌, ◌+◌, ◌≤◌, ◌++◌, [], length};
 ghost use Rattle.std.specs.List.{AllByRecursion};
 ghost use Rattle.ca_base.specs.declared.limits.TheConstants.{MAX_MESSAGE_BYTES, MAX_PAYLOAD_BYTES, MAX_PIECES};
 ghost use Rattle.ca_model.specs.Requests as requests;
@@ -23,7 +23,6 @@ pub fn list_length(list: &[Piece]) -> u32
 
 /// The asks of a queue pair for so many bytes of a list, without so many at its front, one a piece. An ask is for at most
 /// a packet's bytes.
-#[tactic(auto, using(crate::proofs::ListLemmas::cut_touches, crate::proofs::ListLemmas::cut_are_asks))]
 pub fn list_asks(
     queue: QueueId,
     domain: DomainId,
@@ -39,8 +38,29 @@ pub fn list_asks(
     ensures asks { AllByRecursion (IsAskOf kind) result.items }
 {
     let mut asks = ArrayVec::new();
-    push_asks(queue, domain, kind, skip, count, list, &mut asks);
+    fill_asks(queue, domain, kind, skip, count, list, &mut asks);
     asks
+}
+
+/// Puts these asks into a list of the caller's, which is empty.
+#[tactic(auto, using(crate::proofs::ListLemmas::cut_touches, crate::proofs::ListLemmas::cut_are_asks))]
+pub fn fill_asks(
+    queue: QueueId,
+    domain: DomainId,
+    kind: Kind,
+    skip: u32,
+    count: u32,
+    list: &[Piece],
+    asks: &mut ArrayVec<Ask, MAX_PIECES>,
+)
+    requires empty { asks.old.items ≡ [] }
+    requires few { length list.now ≤ MAX_PIECES }
+    requires packet { count ≤ MAX_PAYLOAD_BYTES }
+    ensures value { asks.new.items ≡ numbering.list_asks queue domain kind skip count list.now }
+    ensures touched { touched_by asks.new.items ≤ count }
+    ensures asks { AllByRecursion (IsAskOf kind) asks.new.items }
+{
+    push_asks(queue, domain, kind, skip, count, list, asks);
 }
 
 /// Adds these asks to a list that has room for them.

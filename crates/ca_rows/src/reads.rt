@@ -29,12 +29,11 @@ pub fn read_all<R: Reach>(
     ensures count { OnOk result (length (payload_of (reads_by (R.sight reach.old) asks.now)) ≡ touched_by asks.now) }
     ensures same { reach.new ≡ reach.old }
 {
-    let [ask, rest @ ..] = asks else {
-        return Ok(());
-    };
-    let verdict = reach.read(alloc, ask)?;
-    marks.push(local_mark(ask, verdict));
-    read_all(alloc, reach, rest, marks)
+    for ask in asks {
+        let verdict = reach.read(alloc, ask)?;
+        marks.push(local_mark(ask, verdict));
+    }
+    Ok(())
 }
 
 /// Keeps so many of the marks, the first ones. It takes no memory.

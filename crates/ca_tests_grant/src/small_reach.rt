@@ -62,6 +62,7 @@ impl SmallReach {
     }
 
     // The ask judged by the parts that its key names.
+    #[inline(always)]
     fn judge_by_key(&self, ask: &Ask) -> Result<Span, Denial>
         requires here { small.IsAskHere self.now ask.now }
         requires packet { IsPacketAsk ask.now }
@@ -79,6 +80,7 @@ impl SmallReach {
     }
 
     // Where the bytes lie that an ask touches.
+    #[inline(always)]
     fn find(&self, ask: &Ask) -> Result<Span, Denial>
         requires here { small.IsAskHere self.now ask.now }
         requires packet { IsPacketAsk ask.now }

@@ -1,5 +1,5 @@
 -- Each call of the requester leaves a queue pair that comes up, over parts that fit each other.
-use Rattle.std.proofs.Common.{arith, ◌≡◌, ℕ, IsTrue, not, Bool, true, false, true≢false, List, [], ◌∷◌, map, Option, None, Some, Result, Ok, Err, refl, sym, subst, ap}
+use Rattle.std.proofs.Common.{arith, ◌≡◌, ℕ, IsTrue, not, Bool, true, false, true≢false, List, [], ◌∷◌, map, Option, None, Some, Result, Ok, Err, refl, sym, subst}
 use Rattle.std.proofs.lemmas.Bool.{not-false}
 use Rattle.std.specs.List.{AllByRecursion}
 use Rattle.std.specs.Option.{option_and_then}
@@ -15,7 +15,7 @@ use Rattle.ca_base.specs.declared.refusals.OpRefusal.{OpRefusal}
 use Rattle.ca_base.specs.objects.QueuePair.{QueuePair}
 use Rattle.ca_grant.specs.Reaching.{AreAtHand}
 use Rattle.ca_laws.proofs.ResponseLemmas.{IsGoodEnding, IsGoodRow, plain-good, response-good}
-use Rattle.ca_laws.proofs.TurnLemmas.{all-fail, nothing-good, operation-good, packet-good, timeout-good, wake-good}
+use Rattle.ca_laws.proofs.TurnLemmas.{all-fail, operation-good, packet-good, timeout-good, wake-good}
 use Rattle.ca_model.specs.declared.mark.Mark.{Mark}
 use Rattle.ca_qpstate.specs.ComesUp.{AreDepths}
 use Rattle.ca_qpstate.specs.Seen.{queue_of}

@@ -1,4 +1,4 @@
-use Rattle.std.proofs.Common.{◌≡◌, ◌∙◌, sym, ap, rules}
+use Rattle.std.proofs.Common.{◌∙◌, rules}
 use Rattle.ca_qpstate.specs.Seen.{queue_of}
 use Rattle.ca_rows.specs.Done.{handed}
 use Rattle.ca_tests_grant.specs.SmallReach.{sight_of}

@@ -1,0 +1,155 @@
+ghost use Rattle.ca_grant.specs.Reaching.{AreAtHand};
+ghost use Rattle.ca_model.specs.Packets as packets;
+ghost use Rattle.ca_model.specs.machine.Invariants.{IsQueue};
+ghost use Rattle.ca_model.specs.machine.Responses.{response_row};
+ghost use Rattle.ca_qpstate.specs.Seen.{queue_of};
+ghost use Rattle.ca_requester.specs.Turn.{turn_row};
+ghost use Rattle.ca_rows.specs.Narrow.{AreNarrow};
+ghost use Rattle.ca_tests_grant.specs.SmallReach as small;
+ghost use Rattle.ca_tests_requester.specs.Bed as beds;
+ghost use Rattle.ca_wire.specs.Packet.{IsWellFormed, fields_of};
+ghost use Rattle.std.specs.Prelude.{◌≡◌, true};
+
+use crate::work::{bring_up, new_bed, write};
+use ca_model::Marks;
+use ca_qpstate::QueuePart;
+use ca_requester::{next_asks, next_packet, on_response, response_asks};
+use ca_rows::keep_marks;
+use ca_tests_grant::SmallReach;
+use ca_tests_requester::{Bed, are_here, is_narrow, is_response};
+use ca_wire::{Packet, decode};
+use std::alloc::Global;
+
+// The requester sends its next packet.
+#[inline(never)]
+fn send(
+    alloc: Global,
+    q: &mut QueuePart,
+    reach: &mut SmallReach,
+    marks: &mut Marks,
+    out: &mut Vec<u8>,
+) -> bool
+    requires queue { IsQueue (queue_of q.old) }
+    requires narrow { AreNarrow (queue_of q.old) }
+    requires parts { small.FitTogether reach.old }
+    requires at_hand { AreAtHand small.sight_of small.IsAskHere (λ s ask. Unit {0}) reach.old (turn_row (queue_of q.old) true).asks }
+    ensures queue { IsQueue (queue_of q.new) }
+    ensures parts { small.FitTogether reach.new }
+{
+    next_packet(alloc, q, reach, true, marks, out).is_ok()
+}
+
+// Sends the next packet; false where that cannot be tried here.
+fn send_next(alloc: Global, bed: &mut Bed, marks: &mut Marks, out: &mut Vec<u8>) -> bool
+    requires { beds.Stands bed.old }
+    ensures { beds.Stands bed.new }
+{
+    if !is_narrow(&bed.queue) {
+        return false;
+    }
+    let asks = next_asks(&bed.queue);
+    if !are_here(&bed.reach, asks.as_slice()) {
+        return false;
+    }
+    send(alloc, &mut bed.queue, &mut bed.reach, marks, out)
+}
+
+// The requester takes a response.
+#[inline(never)]
+fn take(
+    alloc: Global,
+    q: &mut QueuePart,
+    reach: &mut SmallReach,
+    p: &Packet<'_>,
+    marks: &mut Marks,
+) -> bool
+    requires queue { IsQueue (queue_of q.old) }
+    requires narrow { AreNarrow (queue_of q.old) }
+    requires packet { IsWellFormed (fields_of p.now) }
+    requires response { packets.is_response p.now.opcode ≡ true }
+    requires parts { small.FitTogether reach.old }
+    requires at_hand { AreAtHand small.sight_of small.IsAskHere (λ s ask. Unit {0}) reach.old (response_row (fields_of p.now) (queue_of q.old)).asks }
+    ensures queue { IsQueue (queue_of q.new) }
+    ensures parts { small.FitTogether reach.new }
+{
+    on_response(alloc, q, reach, p, marks).is_ok()
+}
+
+// Delivers a response; false where that cannot be tried here.
+fn deliver(alloc: Global, bed: &mut Bed, p: &Packet<'_>, marks: &mut Marks) -> bool
+    requires stands { beds.Stands bed.old }
+    requires packet { IsWellFormed (fields_of p.now) }
+    ensures { beds.Stands bed.new }
+{
+    if !is_response(p) || !is_narrow(&bed.queue) {
+        return false;
+    }
+    let asks = response_asks(&bed.queue, p);
+    if !are_here(&bed.reach, asks.as_slice()) {
+        return false;
+    }
+    take(alloc, &mut bed.queue, &mut bed.reach, p, marks)
+}
+
+/// The acknowledgement of a PSN.
+fn acknowledgement(psn: u8) -> [u8; 16] {
+    [0x11, 0, 0xff, 0xff, 0, 0, 1, 0, 0, 0, 0, psn, 0x1f, 0, 0, 1]
+}
+
+// Takes the acknowledgement of a PSN.
+fn answer(alloc: Global, bed: &mut Bed, psn: u8, marks: &mut Marks) -> bool
+    requires { beds.Stands bed.old }
+    ensures { beds.Stands bed.new }
+{
+    match decode(acknowledgement(psn).as_slice()) {
+        Err(_) => false,
+        Ok(p) => deliver(alloc, bed, &p, marks),
+    }
+}
+
+// Posts requests, sends each and takes its acknowledgement, from a PSN on; how many marks that made. The marks of a turn
+// are let go at its end.
+fn turns(
+    alloc: Global,
+    bed: &mut Bed,
+    psn: u8,
+    count: u8,
+    marks: &mut Marks,
+    out: &mut Vec<u8>,
+) -> Option<usize>
+    requires { beds.Stands bed.old }
+    ensures { beds.Stands bed.new }
+{
+    if psn >= count {
+        return Some(0);
+    }
+    let request = write()?;
+    out.clear();
+    if !bed.post(request) || !send_next(alloc, bed, marks, out) || !answer(alloc, bed, psn, marks) {
+        return None;
+    }
+    let made = marks.as_slice().len();
+    keep_marks(alloc, marks, 0);
+    let more = turns(alloc, bed, psn + 1, count, marks, out)?;
+    Some(made.saturating_add(more))
+}
+
+// The turns of a queue pair.
+fn run(alloc: Global, bed: &mut Bed, count: u8) -> Option<usize>
+    requires { beds.Stands bed.old }
+{
+    let mut marks = Marks::empty(alloc);
+    let mut out = Vec::new(alloc);
+    if !bring_up(bed, 0) || marks.reserve(16).is_err() || out.reserve(4096).is_err() {
+        return None;
+    }
+    turns(alloc, bed, 0, count, &mut marks, &mut out)
+}
+
+/// Sends a WRITE and takes its acknowledgement, so many times; how many marks that made.
+pub fn requests(alloc: Global, count: u8) -> Option<usize> {
+    match new_bed(alloc) {
+        None => None,
+        Some(mut bed) => run(alloc, &mut bed, count),
+    }
+}
