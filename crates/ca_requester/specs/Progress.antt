@@ -9,7 +9,7 @@ use Rattle.ca_model.specs.declared.mark.Mark.{Mark}
 use Rattle.ca_model.specs.machine.Acknowledgements.{Acknowledgement, and_then, one_retry, progress_to}
 use Rattle.ca_model.specs.machine.Completions.{success_marks}
 use Rattle.ca_model.specs.machine.Numbering.{Numbered, psn_end}
-use Rattle.ca_requester.specs.declared.progress.Reached.{Reached}
+use Rattle.ca_requester.specs.declared.progress.Acknowledged.{Acknowledged}
 use Rattle.ca_requester.specs.Numbering.{IsWithin, begun_from}
 
 -- those that have begun and whose PSNs all lie below one
@@ -39,8 +39,12 @@ abbrev pub numbers_with_una : ℕ → RequesterNumbers → RequesterNumbers
 numbers_with_una psn r = if nat_lt r.una psn then record r { una = psn; retries = 0; rnrs = 0 } else r
 
 -- the same, with the oldest unfinished request that was reached
-abbrev pub reached_numbers : ℕ → Reached → RequesterNumbers → RequesterNumbers
-reached_numbers psn reached r = record (numbers_with_una psn r) { oldest = reached.place; oldest_psn = reached.first }
+abbrev pub reached_numbers : ℕ → ℕ → ℕ → RequesterNumbers → RequesterNumbers
+reached_numbers psn place first r = record (numbers_with_una psn r) { oldest = place; oldest_psn = first }
+
+-- the numbers of a queue pair behind an acknowledgement
+abbrev pub numbers_behind : Acknowledged → QueuePair → RequesterNumbers
+numbers_behind a q = reached_numbers a.until a.place a.first q.requester
 
 -- Numbers that a queue pair may go on with: the oldest request is none that was finished before, and has begun or begins
 -- next; retries are few.

@@ -5,18 +5,20 @@ use Rattle.ca_base.specs.declared.access.Ask.{Ask}
 use Rattle.ca_base.specs.declared.completion.WcStatus.TheVariants.{LocalProtection}
 use Rattle.ca_base.specs.Sight.{DeniedAsk}
 use Rattle.ca_base.specs.objects.QueuePair.{QueuePair}
-use Rattle.ca_model.specs.machine.Acknowledgements.{and_then, failure_effects, progress_to, with_requester}
+use Rattle.ca_model.specs.machine.Acknowledgements.{acknowledgement_below, and_then, failure_effects, progress_to, with_requester}
 use Rattle.ca_model.specs.machine.Expected.{behind_marks}
 use Rattle.ca_model.specs.machine.Numbering.{Numbered, has_psn, request_at}
 use Rattle.ca_model.specs.machine.Requester.{local_denial}
-use Rattle.ca_model.specs.machine.Responses.{answer_bytes, answer_row, drop_effects, fits_request, local_writes, writes_by}
+use Rattle.ca_model.specs.machine.Responses.{answer_bytes, answer_row, drop_effects, fits_request, fitting_row, local_writes, nak_effects, rnr_nak_effects, unless_back, writes_by}
 use Rattle.ca_model.specs.machine.Row.{Effects, Row, plain_row, Does}
 use Rattle.ca_wire.specs.Packet.{Fields}
 use Rattle.ca_requester.specs.declared.taking.Taken.{Taken}
 use Rattle.ca_requester.specs.declared.responses.Answer.{Answer}
+use Rattle.ca_requester.specs.declared.responses.Arrival.{Arrival}
+use Rattle.ca_requester.specs.declared.responses.Arrival.TheVariants.{Drops, Acks, RnrNaks, Naks, Fits}
 use Rattle.ca_requester.specs.declared.responses.Ended.{Ended}
 use Rattle.ca_requester.specs.declared.responses.Response.{Response}
-use Rattle.ca_requester.specs.declared.responses.Response.TheVariants.{Drops, Ends, Answers}
+use Rattle.ca_requester.specs.declared.responses.Response.TheVariants.{Ends, Answers}
 use Rattle.ca_requester.specs.Numbering.{IsSound, numbered_of}
 use Rattle.ca_requester.specs.Outcome.{AreAhead, numbers_of, outcome_effects}
 use Rattle.ca_requester.specs.Progress.{AreNumbers, success_between}
@@ -30,9 +32,22 @@ pub record IsEnd (q : QueuePair) (e : Ended) : Type 0 where
   pub ahead : AreAhead q (numbers_of e.outcome)
   pub finished : (progress_to e.until q).marks ≡ success_between q.requester.oldest (numbers_of e.outcome).oldest q
 
--- the row of a response
+-- the row of a response, by what it says of its PSN
+abbrev pub arrival_row : Arrival → Fields → QueuePair → Row
+arrival_row (Drops cause) p q = plain_row (Does (drop_effects q cause))
+arrival_row (Acks psn) p q = plain_row (Does (acknowledgement_below (suc psn) q).effects)
+arrival_row (RnrNaks psn) p q = plain_row (Does (unless_back (acknowledgement_below psn q) (rnr_nak_effects psn)))
+arrival_row (Naks psn code) p q = plain_row (Does (unless_back (acknowledgement_below psn q) (nak_effects psn code)))
+arrival_row (Fits psn) p q = fitting_row psn p (acknowledgement_below psn q)
+
+-- the PSN of an acknowledgement or of an answer is narrow
+abbrev pub IsNarrowArrival : Arrival → Type 0
+IsNarrowArrival (Acks psn) = psn < 2 ^ 62
+IsNarrowArrival (Fits psn) = psn < 2 ^ 62
+IsNarrowArrival arrival = Unit {0}
+
+-- the row of an answer
 abbrev pub row_of : Response → Fields → QueuePair → Row
-row_of (Drops cause) p q = plain_row (Does (drop_effects q cause))
 row_of (Ends e) p q = plain_row (Does (ended_effects e q))
 row_of (Answers a) p q = answer_row a.psn p (progress_to a.psn q) (numbered_of a.request)
 
@@ -48,7 +63,6 @@ pub record IsAnswer (p : Fields) (q : QueuePair) (a : Answer) : Type 0 where
 
 -- what holds of a response that was found
 abbrev pub IsResponse : Response → Fields → QueuePair → Type 0
-IsResponse (Drops cause) p q = Unit {0}
 IsResponse (Ends e) p q = IsEnd q e
 IsResponse (Answers a) p q = IsAnswer p q a
 

@@ -7,7 +7,7 @@ ghost use Rattle.ca_model.specs.machine.Numbering.{is_answered_op, psn_end};
 ghost use Rattle.ca_qpstate.specs.Seen.{queue_of};
 ghost use Rattle.ca_rows.specs.Narrow.{AreNarrow};
 ghost use Rattle.ca_requester.specs.Numbering.{begun_from, numbered_of, IsWithin};
-ghost use Rattle.ca_requester.specs.Progress.{AreNumbers, acknowledgement_of, finished_from, numbers_with_una, reached_numbers, success_between, una_behind};
+ghost use Rattle.ca_requester.specs.Progress.{AreNumbers, acknowledgement_of, finished_from, numbers_behind, numbers_with_una, reached_numbers, success_between, una_behind};
 
 use crate::numbering::{Numbered, begun_at};
 use ca_base::RequesterNumbers;
@@ -25,6 +25,7 @@ pub(crate) struct Reached {
 
 /// How far an acknowledgement of all below a PSN goes among the requests from a place on that have begun: up to the first
 /// READ or atomic with a PSN from `una` on and below it, or up to the first that does not end below it.
+#[inline(always)]
 fn reached_by(q: &QueuePart, place: u64, first: u64, una: u64, psn: u64) -> Reached
     requires queue { IsQueue (queue_of q.now) }
     requires within { IsWithin place first (queue_of q.now) }
@@ -74,12 +75,12 @@ fn with_una(numbers: RequesterNumbers, psn: u64) -> RequesterNumbers
 }
 
 /// The numbers after all below a PSN is acknowledged, with the oldest unfinished request there.
-fn numbers_at(numbers: RequesterNumbers, psn: u64, reached: &Reached) -> RequesterNumbers
-    ensures { result ≡ reached_numbers psn reached.now numbers }
+fn numbers_at(numbers: RequesterNumbers, psn: u64, place: u64, first: u64) -> RequesterNumbers
+    ensures { result ≡ reached_numbers psn place first numbers }
 {
     RequesterNumbers {
-        oldest: reached.place,
-        oldest_psn: reached.first,
+        oldest: place,
+        oldest_psn: first,
         ..with_una(numbers, psn)
     }
 }
@@ -96,43 +97,65 @@ pub(crate) fn progressed(q: &QueuePart, numbers: RequesterNumbers, psn: u64) -> 
 {
     let una = with_una(numbers, psn).una;
     let reached = reached_by(q, numbers.oldest, numbers.oldest_psn, una, una);
-    numbers_at(numbers, psn, &reached)
+    numbers_at(numbers, psn, reached.place, reached.first)
 }
 
-/// How far an acknowledgement goes, whether it went back, and the numbers before it did.
+/// How far an acknowledgement goes, whether it went back, and the oldest unfinished request before it did: its place, and
+/// the first PSN that it has or would get.
 #[derive(Clone, Copy)]
 pub(crate) struct Acknowledged {
     pub until: u64,
     pub went_back: bool,
-    pub numbers: RequesterNumbers,
+    pub place: u64,
+    pub first: u64,
+}
+
+/// The numbers behind an acknowledgement, before it went back.
+pub(crate) fn numbers_after(q: &QueuePart, acknowledged: &Acknowledged) -> RequesterNumbers
+    ensures { result ≡ numbers_behind acknowledged.now (queue_of q.now) }
+{
+    numbers_at(
+        q.requester,
+        acknowledged.until,
+        acknowledged.place,
+        acknowledged.first,
+    )
 }
 
 /// All below a PSN is acknowledged. A READ or an atomic there that was not answered is an implied NAK: the requester goes
 /// back to it. It takes no memory.
 #[tactic(auto, using(crate::proofs::ProgressLemmas::own_numbers, crate::proofs::ProgressLemmas::goes_back, crate::proofs::ProgressLemmas::goes_on))]
+#[inline(always)]
 pub(crate) fn acknowledged_below(q: &QueuePart, psn: u64) -> Acknowledged
     requires queue { IsQueue (queue_of q.now) }
     requires narrow { AreNarrow (queue_of q.now) }
     ensures value { acknowledgements.acknowledgement_below psn (queue_of q.now) ≡ acknowledgement_of result.went_back result.until (queue_of q.now) }
-    ensures queue { with_requester result.numbers (queue_of q.now) ≡ (acknowledgements.progress_to result.until (queue_of q.now)).queue }
+    ensures queue { with_requester (numbers_behind result (queue_of q.now)) (queue_of q.now) ≡ (acknowledgements.progress_to result.until (queue_of q.now)).queue }
     ensures marks { (acknowledgements.progress_to result.until (queue_of q.now)).marks
-        ≡ success_between q.now.requester.oldest result.numbers.oldest (queue_of q.now) }
-    ensures numbers { AreNumbers (queue_of q.now) result.numbers }
+        ≡ success_between q.now.requester.oldest result.place (queue_of q.now) }
+    ensures numbers { AreNumbers (queue_of q.now) (numbers_behind result (queue_of q.now)) }
     ensures on { result.went_back ≡ false → result.until ≡ psn }
 {
-    let numbers = q.requester;
-    let una = numbers.una;
-    let reached = reached_by(q, numbers.oldest, numbers.oldest_psn, una, psn);
+    let reached = reached_by(
+        q,
+        q.requester.oldest,
+        q.requester.oldest_psn,
+        q.requester.una,
+        psn,
+    );
+    let (place, first) = (reached.place, reached.first);
     match reached.back {
         None => Acknowledged {
             until: psn,
             went_back: false,
-            numbers: numbers_at(numbers, psn, &reached),
+            place,
+            first,
         },
         Some(back) => Acknowledged {
             until: back,
             went_back: true,
-            numbers: numbers_at(numbers, back, &reached),
+            place,
+            first,
         },
     }
 }

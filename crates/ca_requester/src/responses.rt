@@ -2,7 +2,7 @@ ghost use Rattle.std.specs.Prelude.{◌≡◌, ◌≤◌, ◌<◌, ◌^◌, ◌&
 ghost use Rattle.std.specs.Option.{option_and_then, option_map};
 ghost use Rattle.ca_base.specs.objects.QueuePair.{QueuePair};
 ghost use Rattle.ca_model.specs.Requests.{list_of};
-ghost use Rattle.ca_model.specs.machine.Acknowledgements.{acknowledgement_below, with_requester};
+ghost use Rattle.ca_model.specs.machine.Acknowledgements.{acknowledgement_below, progress_to, with_requester};
 ghost use Rattle.ca_model.specs.machine.Invariants.{IsList, IsQueue};
 ghost use Rattle.ca_model.specs.machine.Numbering as numbering;
 ghost use Rattle.ca_model.specs.machine.Responses as rows;
@@ -13,12 +13,12 @@ ghost use Rattle.ca_rows.specs.Narrow.{AreNarrow};
 ghost use Rattle.ca_requester.specs.Numbering.{IsSound, numbered_of};
 ghost use Rattle.ca_requester.specs.declared.outcome.Outcome.TheVariants.{Fails};
 ghost use Rattle.ca_requester.specs.Outcome.{failure_of, numbers_of, outcome_effects};
-ghost use Rattle.ca_requester.specs.Progress.{AreNumbers};
-ghost use Rattle.ca_requester.specs.Responses.{IsEnd, IsResponse, ended_effects, fitting, row_of};
+ghost use Rattle.ca_requester.specs.Progress.{AreNumbers, acknowledgement_of, numbers_behind, success_between};
+ghost use Rattle.ca_requester.specs.Responses.{IsEnd, IsNarrowArrival, IsResponse, arrival_row, ended_effects, fitting, row_of};
 
 use crate::numbering::{Numbered, request_under};
 use crate::outcome::{Failure, Outcome, one_retry};
-use crate::progress::acknowledged_below;
+use crate::progress::{Acknowledged, acknowledged_below, numbers_after};
 use crate::turn::is_sending;
 use ca_base::limits::MAX_RETRY;
 use ca_base::{RequesterNumbers, WcStatus};
@@ -31,11 +31,24 @@ use ca_wire::opcode::{
 };
 use ca_wire::{NakCode, Packet, Syndrome};
 
-/// What a response makes of a requester, before it is made.
+/// What a response says, and the PSN of which it says it.
 #[derive(Clone, Copy)]
-pub(crate) enum Response<'a> {
+pub(crate) enum Arrival {
     /// The packet is dropped.
     Drops(Drop1),
+    /// All up to a PSN is acknowledged.
+    Acks(u64),
+    /// The peer has no receive for the request at a PSN.
+    RnrNaks(u64),
+    /// The request at a PSN is refused.
+    Naks(u64, NakCode),
+    /// It answers the request at a PSN, if it fits it.
+    Fits(u64),
+}
+
+/// What an answer makes of a requester, before it is made.
+#[derive(Clone, Copy)]
+pub(crate) enum Response<'a> {
     /// It acknowledges, and then comes an outcome.
     Ends(Ended),
     /// It acknowledges, and its bytes go to the list of its request.
@@ -57,27 +70,30 @@ pub(crate) struct Answer<'a> {
     pub request: Numbered<'a>,
 }
 
-/// What a response makes: it is dropped in the wrong state, or where its PSN is not outstanding. It takes no memory.
-pub(crate) fn response_of<'a>(q: &'a QueuePart, p: &Packet<'_>) -> Response<'a>
+/// What a response says: it is dropped in the wrong state, or where its PSN is not outstanding. It takes no memory.
+#[inline(always)]
+pub(crate) fn arrival_of(q: &QueuePart, p: &Packet<'_>) -> Arrival
     requires queue { IsQueue (queue_of q.now) }
     requires narrow { AreNarrow (queue_of q.now) }
     requires psn { p.now.psn < 2 ^ 24 }
-    ensures row { row_of result (fields_of p.now) (queue_of q.now) ≡ rows.response_row (fields_of p.now) (queue_of q.now) }
-    ensures sound { IsResponse result (fields_of p.now) (queue_of q.now) }
+    ensures row { arrival_row result (fields_of p.now) (queue_of q.now) ≡ rows.response_row (fields_of p.now) (queue_of q.now) }
+    ensures narrow { IsNarrowArrival result }
 {
     if !is_sending(q.state) {
-        return Response::Drops(Drop1::State);
+        return Arrival::Drops(Drop1::State);
     }
     let psn = widen(q.requester.una, p.psn);
     if psn < q.requester.una || q.requester.cursor <= psn {
-        return Response::Drops(Drop1::Stale);
+        return Arrival::Drops(Drop1::Stale);
     }
     if p.opcode != ACKNOWLEDGE {
-        return answer_of(q, p, psn);
+        return Arrival::Fits(psn);
     }
     match syndrome_of(p) {
-        None => Response::Drops(Drop1::Stale),
-        Some(syndrome) => Response::Ends(acknowledge(q, psn, syndrome)),
+        None => Arrival::Drops(Drop1::Stale),
+        Some(Syndrome::Ack(_)) => Arrival::Acks(psn),
+        Some(Syndrome::RnrNak(_)) => Arrival::RnrNaks(psn),
+        Some(Syndrome::Nak(code)) => Arrival::Naks(psn, code),
     }
 }
 
@@ -91,46 +107,26 @@ fn syndrome_of(p: &Packet<'_>) -> Option<Syndrome>
     }
 }
 
-/// An Acknowledge packet, by its syndrome.
-fn acknowledge(q: &QueuePart, psn: u64, syndrome: Syndrome) -> Ended
+/// A READ or an atomic that was not answered is an implied NAK: one retry, and back to it.
+#[tactic(auto, using(crate::proofs::ResponseLemmas::ack_back, crate::proofs::ResponseLemmas::is_end))]
+pub(crate) fn implied_nak(q: &QueuePart, acknowledged: &Acknowledged) -> Ended
     requires queue { IsQueue (queue_of q.now) }
-    requires narrow { AreNarrow (queue_of q.now) }
-    requires psn { psn < 2 ^ 62 }
-    ensures effects { ended_effects result (queue_of q.now) ≡ rows.acknowledge_row psn (Some syndrome) (queue_of q.now) }
+    requires numbers { AreNumbers (queue_of q.now) (numbers_behind acknowledged.now (queue_of q.now)) }
+    requires under { with_requester (numbers_behind acknowledged.now (queue_of q.now)) (queue_of q.now) ≡ (progress_to acknowledged.now.until (queue_of q.now)).queue }
+    requires finished { (progress_to acknowledged.now.until (queue_of q.now)).marks
+        ≡ success_between q.now.requester.oldest acknowledged.now.place (queue_of q.now) }
+    ensures effects { ended_effects result (queue_of q.now) ≡ (acknowledgement_of true acknowledged.now.until (queue_of q.now)).effects }
     ensures end { IsEnd (queue_of q.now) result }
 {
-    match syndrome {
-        Syndrome::Ack(_) => on_ack(q, psn),
-        Syndrome::RnrNak(_) => on_rnr_nak(q, psn),
-        Syndrome::Nak(code) => on_nak(q, psn, code),
-    }
-}
-
-/// An acknowledgement of all up to a PSN.
-#[tactic(auto, using(crate::proofs::ResponseLemmas::ack_back, crate::proofs::ResponseLemmas::ack_on, crate::proofs::ResponseLemmas::is_end))]
-fn on_ack(q: &QueuePart, psn: u64) -> Ended
-    requires queue { IsQueue (queue_of q.now) }
-    requires narrow { AreNarrow (queue_of q.now) }
-    requires psn { psn < 2 ^ 62 }
-    ensures effects { ended_effects result (queue_of q.now) ≡ (acknowledgement_below (suc psn) (queue_of q.now)).effects }
-    ensures end { IsEnd (queue_of q.now) result }
-{
-    let acknowledged = acknowledged_below(q, psn + 1);
-    if acknowledged.went_back {
-        return Ended {
-            until: acknowledged.until,
-            outcome: one_retry(acknowledged.numbers, acknowledged.until),
-        };
-    }
     Ended {
         until: acknowledged.until,
-        outcome: Outcome::Goes(acknowledged.numbers),
+        outcome: one_retry(numbers_after(q, acknowledged), acknowledged.until),
     }
 }
 
 /// An RNR NAK of the request at a PSN.
 #[tactic(auto, using(crate::proofs::ResponseLemmas::then_back, crate::proofs::ResponseLemmas::then_on, crate::proofs::ResponseLemmas::is_end))]
-fn on_rnr_nak(q: &QueuePart, psn: u64) -> Ended
+pub(crate) fn on_rnr_nak(q: &QueuePart, psn: u64) -> Ended
     requires queue { IsQueue (queue_of q.now) }
     requires narrow { AreNarrow (queue_of q.now) }
     ensures effects { ended_effects result (queue_of q.now) ≡ rows.unless_back (acknowledgement_below psn (queue_of q.now)) (rows.rnr_nak_effects psn) }
@@ -138,20 +134,17 @@ fn on_rnr_nak(q: &QueuePart, psn: u64) -> Ended
 {
     let acknowledged = acknowledged_below(q, psn);
     if acknowledged.went_back {
-        return Ended {
-            until: acknowledged.until,
-            outcome: one_retry(acknowledged.numbers, acknowledged.until),
-        };
+        return implied_nak(q, &acknowledged);
     }
     Ended {
         until: acknowledged.until,
-        outcome: rnr_nak(acknowledged.numbers, psn),
+        outcome: rnr_nak(numbers_after(q, &acknowledged), psn),
     }
 }
 
 /// A NAK of the request at a PSN.
 #[tactic(auto, using(crate::proofs::ResponseLemmas::then_back, crate::proofs::ResponseLemmas::then_on, crate::proofs::ResponseLemmas::is_end))]
-fn on_nak(q: &QueuePart, psn: u64, code: NakCode) -> Ended
+pub(crate) fn on_nak(q: &QueuePart, psn: u64, code: NakCode) -> Ended
     requires queue { IsQueue (queue_of q.now) }
     requires narrow { AreNarrow (queue_of q.now) }
     ensures effects { ended_effects result (queue_of q.now) ≡ rows.unless_back (acknowledgement_below psn (queue_of q.now)) (rows.nak_effects psn code) }
@@ -159,14 +152,11 @@ fn on_nak(q: &QueuePart, psn: u64, code: NakCode) -> Ended
 {
     let acknowledged = acknowledged_below(q, psn);
     if acknowledged.went_back {
-        return Ended {
-            until: acknowledged.until,
-            outcome: one_retry(acknowledged.numbers, acknowledged.until),
-        };
+        return implied_nak(q, &acknowledged);
     }
     Ended {
         until: acknowledged.until,
-        outcome: nak(acknowledged.numbers, psn, code),
+        outcome: nak(numbers_after(q, &acknowledged), psn, code),
     }
 }
 
@@ -218,7 +208,7 @@ fn failure(numbers: RequesterNumbers, status: WcStatus) -> Outcome
 
 /// An answer: an implied NAK, one that does not fit its request, or one whose bytes go to its list.
 #[tactic(auto, using(crate::proofs::ResponseLemmas::answer_back, crate::proofs::ResponseLemmas::answer_fails, crate::proofs::ResponseLemmas::answer_fits, crate::proofs::ResponseLemmas::is_end))]
-fn answer_of<'a>(q: &'a QueuePart, p: &Packet<'_>, psn: u64) -> Response<'a>
+pub(crate) fn answer_of<'a>(q: &'a QueuePart, p: &Packet<'_>, psn: u64) -> Response<'a>
     requires queue { IsQueue (queue_of q.now) }
     requires narrow { AreNarrow (queue_of q.now) }
     requires psn { psn < 2 ^ 62 }
@@ -227,19 +217,17 @@ fn answer_of<'a>(q: &'a QueuePart, p: &Packet<'_>, psn: u64) -> Response<'a>
 {
     let acknowledged = acknowledged_below(q, psn);
     if acknowledged.went_back {
-        return Response::Ends(Ended {
-            until: acknowledged.until,
-            outcome: one_retry(acknowledged.numbers, acknowledged.until),
-        });
+        return Response::Ends(implied_nak(q, &acknowledged));
     }
-    match fitting_request(q, p, &acknowledged.numbers, psn) {
+    let numbers = numbers_after(q, &acknowledged);
+    match fitting_request(q, p, &numbers, psn) {
         None => Response::Ends(Ended {
             until: acknowledged.until,
-            outcome: failure(acknowledged.numbers, WcStatus::BadResponse),
+            outcome: failure(numbers, WcStatus::BadResponse),
         }),
         Some(request) => Response::Answers(Answer {
             psn,
-            numbers: acknowledged.numbers,
+            numbers,
             request,
         }),
     }

@@ -7,7 +7,7 @@ ghost use Rattle.ca_base.specs.Memory.{little_endian_bytes};
 ghost use Rattle.ca_grant.specs.Reaching.{AreAtHand};
 ghost use Rattle.ca_model.specs.declared.mark.Mark.{Mark};
 ghost use Rattle.ca_model.specs.machine.Numbering.{has_psn};
-ghost use Rattle.ca_model.specs.machine.Acknowledgements.{progress_to, with_requester};
+ghost use Rattle.ca_model.specs.machine.Acknowledgements.{acknowledgement_below, progress_to, with_requester};
 ghost use Rattle.ca_model.specs.machine.Invariants.{IsQueue};
 ghost use Rattle.ca_model.specs.machine.Responses as rows;
 ghost use Rattle.ca_model.specs.machine.Row.{ending_of};
@@ -18,13 +18,15 @@ ghost use Rattle.ca_rows.specs.Asks.{CanWrite, IsAskOf, IsGranted, IsWrite, asks
 ghost use Rattle.ca_rows.specs.Done.{IsTaking, handed, written_all};
 ghost use Rattle.ca_rows.specs.Narrow.{AreNarrow};
 ghost use Rattle.ca_requester.specs.Numbering.{IsSound, numbered_of};
-ghost use Rattle.ca_requester.specs.Progress.{AreNumbers, success_between};
+ghost use Rattle.ca_requester.specs.Progress.{AreNumbers, acknowledgement_of, numbers_behind, success_between};
 ghost use Rattle.ca_requester.specs.Responses.{IsAnswer, IsEnd, answer_effects, denied_effects, ended_effects};
 
 use crate::finished::{finished_count, push_finished};
 use crate::outcome::{Failure, Outcome, fail, fail_alone, go};
-use crate::progress::progressed;
-use crate::responses::{Answer, Ended, Response, response_of};
+use crate::progress::{Acknowledged, acknowledged_below, numbers_after, progressed};
+use crate::responses::{
+    Answer, Arrival, Ended, Response, answer_of, arrival_of, implied_nak, on_nak, on_rnr_nak,
+};
 use arrayvec::ArrayVec;
 use ca_base::limits::MAX_PIECES;
 use ca_base::{Ask, Bytes, Kind, Memory, QueueId, RequesterNumbers, WcStatus};
@@ -32,8 +34,8 @@ use ca_grant::Reach;
 use ca_model::{Drop1, Mark, Marks};
 use ca_qpstate::QueuePart;
 use ca_rows::{DeniedAsk, cut_writes, first_denied, list_asks, list_of, local_denial, write_all};
-use ca_wire::Packet;
 use ca_wire::opcode::ATOMIC_ACKNOWLEDGE;
+use ca_wire::{NakCode, Packet};
 use std::alloc::Global;
 
 /// How many bytes an atomic reaches, and its answer brings.
@@ -46,9 +48,25 @@ pub fn response_asks(q: &QueuePart, p: &Packet<'_>) -> ArrayVec<Ask, MAX_PIECES>
     requires packet { IsWellFormed (fields_of p.now) }
     ensures { result.items ≡ (rows.response_row (fields_of p.now) (queue_of q.now)).asks }
 {
-    match response_of(q, p) {
+    match arrival_of(q, p) {
+        Arrival::Fits(psn) => answer_asks(q, p, psn),
+        Arrival::Drops(_) | Arrival::Acks(_) | Arrival::RnrNaks(_) | Arrival::Naks(_, _) => {
+            ArrayVec::new()
+        }
+    }
+}
+
+/// The asks of an answer with this PSN.
+fn answer_asks(q: &QueuePart, p: &Packet<'_>, psn: u64) -> ArrayVec<Ask, MAX_PIECES>
+    requires queue { IsQueue (queue_of q.now) }
+    requires narrow { AreNarrow (queue_of q.now) }
+    requires packet { IsWellFormed (fields_of p.now) }
+    requires psn { psn < 2 ^ 62 }
+    ensures { result.items ≡ (rows.fitting_row psn (fields_of p.now) (acknowledgement_below psn (queue_of q.now))).asks }
+{
+    match answer_of(q, p, psn) {
         Response::Answers(answer) => asks_for(q, p, &answer),
-        Response::Drops(_) | Response::Ends(_) => ArrayVec::new(),
+        Response::Ends(_) => ArrayVec::new(),
     }
 }
 
@@ -134,8 +152,137 @@ pub fn on_response<R: Reach>(
     ensures room { OnOk result (2 ≤ marks.new.room) }
     ensures err { OnErr result (q.new ≡ q.old) }
 {
-    match response_of(q, p) {
-        Response::Drops(cause) => drop_packet(q.queue, cause, marks),
+    match arrival_of(q, p) {
+        Arrival::Drops(cause) => drop_packet(q.queue, cause, marks),
+        Arrival::Acks(psn) => take_ack(alloc, q, psn, marks),
+        Arrival::RnrNaks(psn) => take_rnr_nak(alloc, q, psn, marks),
+        Arrival::Naks(psn, code) => take_nak(alloc, q, psn, code, marks),
+        Arrival::Fits(psn) => take_answer(alloc, q, reach, p, psn, marks),
+    }
+}
+
+/// All up to a PSN is acknowledged: the requests that end there complete.
+#[inline(always)]
+fn take_ack(alloc: Global, q: &mut QueuePart, psn: u64, marks: &mut Marks) -> Result<(), Memory>
+    requires queue { IsQueue (queue_of q.old) }
+    requires narrow { AreNarrow (queue_of q.old) }
+    requires psn { psn < 2 ^ 62 }
+    ensures queue { OnOk result (queue_of q.new ≡ (acknowledgement_below (suc psn) (queue_of q.old)).effects.queue) }
+    ensures marks { OnOk result (marks.new.marks ≡ marks.old.marks ++ (acknowledgement_below (suc psn) (queue_of q.old)).effects.marks) }
+    ensures room { OnOk result (2 ≤ marks.new.room) }
+    ensures err { OnErr result (q.new ≡ q.old) }
+    ensures err_marks { OnErr result (marks.new.marks ≡ marks.old.marks) }
+{
+    let acknowledged = acknowledged_below(q, psn + 1);
+    if acknowledged.went_back {
+        return go_back(alloc, q, &acknowledged, marks);
+    }
+    go_on(q, &acknowledged, marks)
+}
+
+/// The requests before the one that is the oldest now complete, and the requester goes on.
+#[inline(always)]
+#[tactic(auto, using(crate::proofs::ResponseLemmas::are_ahead))]
+fn go_on(q: &mut QueuePart, acknowledged: &Acknowledged, marks: &mut Marks) -> Result<(), Memory>
+    requires queue { IsQueue (queue_of q.old) }
+    requires numbers { AreNumbers (queue_of q.old) (numbers_behind acknowledged.now (queue_of q.old)) }
+    ensures queue { OnOk result (queue_of q.new ≡ with_requester (numbers_behind acknowledged.now (queue_of q.old)) (queue_of q.old)) }
+    ensures marks { OnOk result (marks.new.marks ≡ marks.old.marks ++ success_between q.old.requester.oldest acknowledged.now.place (queue_of q.old)) }
+    ensures room { OnOk result (2 ≤ marks.new.room) }
+    ensures err { OnErr result (q.new ≡ q.old) }
+    ensures err_marks { OnErr result (marks.new.marks ≡ marks.old.marks) }
+{
+    marks.reserve(finished_count(q, acknowledged.place) + 2)?;
+    push_finished(q, q.requester.oldest, acknowledged.place, marks);
+    q.requester = numbers_after(q, acknowledged);
+    Ok(())
+}
+
+/// The requests before the one that is the oldest now complete, and the requester goes back. It stands apart, since that
+/// is rare.
+#[cold]
+#[inline(never)]
+fn go_back(
+    alloc: Global,
+    q: &mut QueuePart,
+    acknowledged: &Acknowledged,
+    marks: &mut Marks,
+) -> Result<(), Memory>
+    requires queue { IsQueue (queue_of q.old) }
+    requires narrow { AreNarrow (queue_of q.old) }
+    requires numbers { AreNumbers (queue_of q.old) (numbers_behind acknowledged.now (queue_of q.old)) }
+    requires under { with_requester (numbers_behind acknowledged.now (queue_of q.old)) (queue_of q.old) ≡ (progress_to acknowledged.now.until (queue_of q.old)).queue }
+    requires finished { (progress_to acknowledged.now.until (queue_of q.old)).marks
+        ≡ success_between q.old.requester.oldest acknowledged.now.place (queue_of q.old) }
+    ensures queue { OnOk result (queue_of q.new ≡ (acknowledgement_of true acknowledged.now.until (queue_of q.old)).effects.queue) }
+    ensures marks { OnOk result (marks.new.marks ≡ marks.old.marks ++ (acknowledgement_of true acknowledged.now.until (queue_of q.old)).effects.marks) }
+    ensures room { OnOk result (2 ≤ marks.new.room) }
+    ensures err { OnErr result (q.new ≡ q.old) }
+    ensures err_marks { OnErr result (marks.new.marks ≡ marks.old.marks) }
+{
+    let ended = implied_nak(q, acknowledged);
+    end(alloc, q, ended, marks)
+}
+
+/// The peer has no receive for the request at a PSN. It stands apart, since that is rare.
+#[cold]
+#[inline(never)]
+fn take_rnr_nak(alloc: Global, q: &mut QueuePart, psn: u64, marks: &mut Marks) -> Result<(), Memory>
+    requires queue { IsQueue (queue_of q.old) }
+    requires narrow { AreNarrow (queue_of q.old) }
+    ensures queue { OnOk result (queue_of q.new ≡ (rows.unless_back (acknowledgement_below psn (queue_of q.old)) (rows.rnr_nak_effects psn)).queue) }
+    ensures marks { OnOk result (marks.new.marks ≡ marks.old.marks ++ (rows.unless_back (acknowledgement_below psn (queue_of q.old)) (rows.rnr_nak_effects psn)).marks) }
+    ensures room { OnOk result (2 ≤ marks.new.room) }
+    ensures err { OnErr result (q.new ≡ q.old) }
+    ensures err_marks { OnErr result (marks.new.marks ≡ marks.old.marks) }
+{
+    let ended = on_rnr_nak(q, psn);
+    end(alloc, q, ended, marks)
+}
+
+/// The request at a PSN is refused. It stands apart, since that is rare.
+#[cold]
+#[inline(never)]
+fn take_nak(
+    alloc: Global,
+    q: &mut QueuePart,
+    psn: u64,
+    code: NakCode,
+    marks: &mut Marks,
+) -> Result<(), Memory>
+    requires queue { IsQueue (queue_of q.old) }
+    requires narrow { AreNarrow (queue_of q.old) }
+    ensures queue { OnOk result (queue_of q.new ≡ (rows.unless_back (acknowledgement_below psn (queue_of q.old)) (rows.nak_effects psn code)).queue) }
+    ensures marks { OnOk result (marks.new.marks ≡ marks.old.marks ++ (rows.unless_back (acknowledgement_below psn (queue_of q.old)) (rows.nak_effects psn code)).marks) }
+    ensures room { OnOk result (2 ≤ marks.new.room) }
+    ensures err { OnErr result (q.new ≡ q.old) }
+    ensures err_marks { OnErr result (marks.new.marks ≡ marks.old.marks) }
+{
+    let ended = on_nak(q, psn, code);
+    end(alloc, q, ended, marks)
+}
+
+/// An answer to the request at a PSN. What it needs is large, so it stands apart from an acknowledgement.
+#[inline(never)]
+fn take_answer<R: Reach>(
+    alloc: Global,
+    q: &mut QueuePart,
+    reach: &mut R,
+    p: &Packet<'_>,
+    psn: u64,
+    marks: &mut Marks,
+) -> Result<(), Memory>
+    requires queue { IsQueue (queue_of q.old) }
+    requires narrow { AreNarrow (queue_of q.old) }
+    requires packet { IsWellFormed (fields_of p.now) }
+    requires psn { psn < 2 ^ 62 }
+    requires at_hand { AreAtHand R.sight R.judges R.touches reach.old (rows.fitting_row psn (fields_of p.now) (acknowledgement_below psn (queue_of q.old))).asks }
+    ensures done { IsTaking R.written result (ending_of (R.sight reach.old) (rows.fitting_row psn (fields_of p.now) (acknowledgement_below psn (queue_of q.old))))
+        (handed (queue_of q.old) marks.old.marks [] reach.old) (handed (queue_of q.new) marks.new.marks [] reach.new) }
+    ensures room { OnOk result (2 ≤ marks.new.room) }
+    ensures err { OnErr result (q.new ≡ q.old) }
+{
+    match answer_of(q, p, psn) {
         Response::Ends(ended) => end(alloc, q, ended, marks),
         Response::Answers(answer) => {
             let asks = asks_for(q, p, &answer);
@@ -158,7 +305,9 @@ pub(crate) struct Taken {
     pub numbers: RequesterNumbers,
 }
 
-/// The packet is dropped.
+/// The packet is dropped. It stands apart, since that is rare.
+#[cold]
+#[inline(never)]
 fn drop_packet(queue: QueueId, cause: Drop1, marks: &mut Marks) -> Result<(), Memory>
     ensures marks { OnOk result (marks.new.marks ≡ marks.old.marks ++ Mark.Dropped queue cause ∷ []) }
     ensures room { OnOk result (2 ≤ marks.new.room) }
