@@ -1,11 +1,12 @@
 -- What a requester's turn does, by its kind.
-use Rattle.std.proofs.Common.{◌≡◌, ℕ, ◌+◌, ◌-◌, ◌<◌, ◌≤◌, nat_lt, min, max, arith, Bool, true, false, true≢false, refl, ap, ◌∙◌, if◌then◌else◌, List, [], ◌∷◌, ◌++◌, drop, map, length, suc, sum_by, take}
+use Rattle.std.proofs.Common.{◌≡◌, ℕ, ◌+◌, ◌-◌, ◌<◌, ◌≤◌, nat_lt, ◌||◌, min, max, arith, Bool, true, false, true≢false, refl, ap, ◌∙◌, if◌then◌else◌, List, [], ◌∷◌, ◌++◌, drop, map, length, suc, sum_by, take}
 use Rattle.std.proofs.Math.Seq.{take-append_seam}
 use Rattle.std.proofs.lemmas.Bool.{le-ltb}
 use Rattle.std.proofs.lemmas.List.Sums.{sum_by-cons}
 use Rattle.std.specs.List.{AllByRecursion, flat_map}
 use Rattle.ca_base.specs.declared.access.Ask.{Ask}
 use Rattle.ca_base.specs.declared.access.Kind.TheVariants as kinds
+use Rattle.ca_base.specs.declared.limits.TheConstants.{MAX_OUTSTANDING_PACKETS, MAX_OUTSTANDING_PSNS}
 use Rattle.ca_base.specs.declared.request.SendOp.{SendOp}
 use Rattle.ca_base.specs.declared.request.SendOp.TheVariants as ops
 use Rattle.ca_base.specs.declared.verdict.Verdict.TheVariants as verdicts
@@ -24,7 +25,7 @@ use Rattle.ca_requester.specs.declared.numbering.Next.{Next}
 use Rattle.ca_requester.proofs.NumberingLemmas.{number_at}
 use Rattle.ca_requester.specs.Numbering.{IsNext, numbered_of, numbers_from}
 use Rattle.ca_requester.specs.Packets.{IsPacket}
-use Rattle.ca_requester.specs.Turn.{is_performing, turn_on}
+use Rattle.ca_requester.specs.Turn.{is_performing, is_too_much_below, turn_on}
 
 -- a turn that performs is one on a local operation
 pub performing : (n : Numbered) → is_performing (turn_on n) ≡ true → is_local n.request.op ≡ true
@@ -119,3 +120,13 @@ pub few_answers : (q : QueuePair) (place psn una upto most : ℕ) → upto - max
     → nat_lt most (sum_by (answers_between una upto) (numbers_from place psn q)) ≡ false
 few_answers q place psn una upto most le = le-ltb most (sum_by (answers_between una upto) (numbers_from place psn q))
     (omega (arith, le, few-psns (answers_between una upto) una upto q.responder.mtu place psn (items_from place q.sends) (λ n. at-most-one (is_answered_op n.request.op) (psns_between una upto n))))
+
+none-of-three : (a b c : Bool) → a ≡ false → b ≡ false → c ≡ false → (a || b || c) ≡ false
+none-of-three a b c e f g = rw (e, f, g) refl
+
+-- where no more PSNs lie there than READs may, too much does not
+pub little : (q : QueuePair) (upto : ℕ) → IsQueue q → upto - q.requester.una ≤ q.requester.reads → is_too_much_below upto q ≡ false
+little q upto is le = none-of-three _ _ _
+    (le-ltb MAX_OUTSTANDING_PSNS (upto - q.requester.una) (omega (arith, le, is.requester.reads)))
+    (few_packets q q.requester.oldest q.requester.oldest_psn q.requester.una upto MAX_OUTSTANDING_PACKETS (omega (arith, le, is.requester.reads)))
+    (few_answers q q.requester.oldest q.requester.oldest_psn q.requester.una upto q.requester.reads (omega (arith, le)))

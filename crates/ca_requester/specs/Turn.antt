@@ -1,5 +1,6 @@
 -- The row of a requester's turn that sends a packet, or waits. Contracts cite it.
-use Rattle.std.specs.Prelude.{ℕ, suc, Bool, true, false, if◌then◌else◌, [], Option, None, Some, Result, Ok, Err}
+use Rattle.std.specs.Prelude.{ℕ, suc, ◌-◌, ◌||◌, nat_lt, sum_by, Bool, true, false, if◌then◌else◌, [], Option, None, Some, Result, Ok, Err}
+use Rattle.ca_base.specs.declared.limits.TheConstants.{MAX_OUTSTANDING_PACKETS, MAX_OUTSTANDING_PSNS}
 use Rattle.ca_base.specs.declared.refusals.OpRefusal.{OpRefusal}
 use Rattle.ca_base.specs.declared.request.SendRequest.{SendRequest}
 use Rattle.ca_base.specs.declared.step.Reason.{Reason}
@@ -9,8 +10,8 @@ use Rattle.ca_base.specs.objects.LocalRequest.{LocalMarks}
 use Rattle.ca_base.specs.objects.QueuePair.{QueuePair}
 use Rattle.ca_model.specs.Requests.{is_local}
 use Rattle.ca_model.specs.machine.LocalOperations.{operation_effects}
-use Rattle.ca_model.specs.machine.Numbering.{Numbered}
-use Rattle.ca_model.specs.machine.Requester.{RequestTurn, Waits, Performs, Sends, packet_row, turn_of}
+use Rattle.ca_model.specs.machine.Numbering.{Numbered, unfinished_requests}
+use Rattle.ca_model.specs.machine.Requester.{RequestTurn, Waits, Performs, Sends, answers_between, packet_row, packets_between, turn_of}
 use Rattle.ca_model.specs.machine.Row.{Effects, Row, plain_row, NotPossible, queue_and_marks}
 
 -- what a turn does on a request, where nothing stands against it
@@ -36,6 +37,13 @@ operation_in (Sends n) = Ok None
 abbrev pub is_performing : RequestTurn → Bool
 is_performing (Performs n) = true
 is_performing turn = false
+
+-- too much lies from `una` on and below a PSN: PSNs, request packets, or READs and atomics
+abbrev pub is_too_much_below : ℕ → QueuePair → Bool
+is_too_much_below upto q =
+    nat_lt MAX_OUTSTANDING_PSNS (upto - q.requester.una)
+    || nat_lt MAX_OUTSTANDING_PACKETS (sum_by (packets_between q.requester.una upto) (unfinished_requests q))
+    || nat_lt q.requester.reads (sum_by (answers_between q.requester.una upto) (unfinished_requests q))
 
 -- nothing is revoked or granted
 abbrev pub no_marks : LocalMarks

@@ -122,7 +122,9 @@ fn denied_refusal(q: &QueuePart, room: bool) -> Option<Reason>
     if room { None } else { Some(Reason::NoRoom) }
 }
 
-/// The request whose list is denied fails.
+/// The request whose list is denied fails. It stands apart, since that is rare.
+#[cold]
+#[inline(never)]
 fn fail_list(
     alloc: Global,
     q: &mut QueuePart,

@@ -8,6 +8,7 @@ ghost use Rattle.ca_model.specs.machine.Requester as requester;
 ghost use Rattle.ca_qpstate.specs.Seen.{queue_of};
 ghost use Rattle.ca_rows.specs.Narrow.{AreNarrow};
 ghost use Rattle.ca_requester.specs.Numbering.{numbered_of, numbers_from, begun_from, IsWithin, IsNext, IsSound};
+ghost use Rattle.ca_requester.specs.Turn as turn;
 ghost use Rattle.ca_requester.specs.Turn.{turn_on};
 
 use crate::numbering::{Next, Numbered, next_request, numbered_at};
@@ -117,7 +118,9 @@ pub(crate) fn end_of_packet(q: &QueuePart, n: &Numbered<'_>) -> u64
     }
 }
 
-/// Whether with the packet too much would be outstanding: PSNs, request packets, or READs and atomics.
+/// Whether with the packet too much would be outstanding: PSNs, request packets, or READs and atomics. Where no more PSNs
+/// would be than READs may be, nothing need be counted.
+#[inline(always)]
 pub(crate) fn is_too_much(q: &QueuePart, n: &Numbered<'_>) -> bool
     requires queue { IsQueue (queue_of q.now) }
     requires narrow { AreNarrow (queue_of q.now) }
@@ -125,6 +128,19 @@ pub(crate) fn is_too_much(q: &QueuePart, n: &Numbered<'_>) -> bool
     ensures { result ≡ requester.is_too_much (queue_of q.now) (numbered_of n.now) }
 {
     let upto = end_of_packet(q, n);
+    if upto.saturating_sub(q.requester.una) <= u64::from(q.requester.reads) {
+        return false;
+    }
+    is_too_much_below(q, upto)
+}
+
+/// The same, of all that lies from `una` on and below a PSN.
+#[inline(never)]
+fn is_too_much_below(q: &QueuePart, upto: u64) -> bool
+    requires queue { IsQueue (queue_of q.now) }
+    requires narrow { AreNarrow (queue_of q.now) }
+    ensures { result ≡ turn.is_too_much_below upto (queue_of q.now) }
+{
     let oldest = q.requester.oldest;
     let psn = q.requester.oldest_psn;
     upto.saturating_sub(q.requester.una) > u64::from(MAX_OUTSTANDING_PSNS)
