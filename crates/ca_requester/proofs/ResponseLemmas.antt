@@ -1,5 +1,5 @@
 -- What a response makes: the row of an acknowledgement that went back or on, and the request that an answer fits.
-use Rattle.std.proofs.Common.{◌≡◌, ℕ, ◌-◌, arith, refl, sym, ap, ◌∙◌, Bool, true, false, if◌then◌else◌, [], ◌++◌, find, take, Option, None, Some, append-nil}
+use Rattle.std.proofs.Common.{◌≡◌, ℕ, ◌-◌, arith, refl, sym, ap, ◌∙◌, Bool, true, false, if◌then◌else◌, find, take, Option, None, Some}
 use Rattle.ca_base.specs.declared.queue_numbers.RequesterNumbers.{RequesterNumbers}
 use Rattle.ca_base.specs.declared.completion.WcStatus.TheVariants.{BadResponse}
 use Rattle.ca_base.specs.objects.QueuePair.{QueuePair}
@@ -10,10 +10,9 @@ use Rattle.ca_model.specs.machine.Expected.{behind_marks}
 use Rattle.ca_model.specs.machine.Invariants.{IsQueue}
 use Rattle.ca_model.specs.machine.Numbering.{Numbered, has_psn, request_at}
 use Rattle.ca_model.specs.machine.Responses.{answer_row, fits_request, fitting_row, unless_back}
-use Rattle.ca_model.specs.machine.Row.{Effects, Row, queue_and_marks, plain_row, Does}
+use Rattle.ca_model.specs.machine.Row.{Effects, Row, plain_row, Does}
 use Rattle.ca_requester.specs.declared.outcome.Outcome.{Outcome}
 use Rattle.ca_requester.specs.declared.responses.Ended.{Ended}
-use Rattle.ca_requester.specs.declared.outcome.Outcome.TheVariants.{Goes}
 use Rattle.ca_requester.specs.Numbering.{begun_from, numbers_from}
 use Rattle.ca_requester.specs.Outcome.{AreAhead, numbers_of, outcome_effects}
 use Rattle.ca_requester.specs.Progress.{AreNumbers, acknowledgement_of, success_between}
@@ -67,15 +66,6 @@ pub ack_back : (q : QueuePair) (psn until : ℕ) (numbers : RequesterNumbers) (o
 ack_back q psn until numbers o a at e =
     ap (λ x. behind_marks (progress_to until q).marks x) e
     ∙ ap (λ x. behind_marks (progress_to until q).marks (one_retry until x)) at
-    ∙ sym (ap (λ x. x.effects) a)
-
-pub ack_on : (q : QueuePair) (psn until : ℕ) (numbers : RequesterNumbers)
-    → acknowledgement_below psn q ≡ acknowledgement_of false until q
-    → with_requester numbers q ≡ (progress_to until q).queue
-    → behind_marks (progress_to until q).marks (outcome_effects (Goes numbers) q) ≡ (acknowledgement_below psn q).effects
-ack_on q psn until numbers a at =
-    ap (λ x. queue_and_marks x ((progress_to until q).marks ++ [])) at
-    ∙ ap (λ ms. queue_and_marks (progress_to until q).queue ms) (append-nil (progress_to until q).marks)
     ∙ sym (ap (λ x. x.effects) a)
 
 -- an answer where it went back, and one that does not fit: the row does not look at its bytes

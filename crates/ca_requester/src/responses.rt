@@ -1,4 +1,4 @@
-ghost use Rattle.std.specs.Prelude.{◌≡◌, ◌≤◌, ◌<◌, ◌^◌, ◌&&◌, ◌==◌, ◌-◌, suc, true, None, Some, IfSome, length};
+ghost use Rattle.std.specs.Prelude.{◌≡◌, ◌≤◌, ◌<◌, ◌^◌, ◌&&◌, ◌==◌, ◌-◌, true, None, Some, IfSome, length};
 ghost use Rattle.std.specs.Option.{option_and_then, option_map};
 ghost use Rattle.ca_base.specs.objects.QueuePair.{QueuePair};
 ghost use Rattle.ca_model.specs.Requests.{list_of};
