@@ -1,11 +1,11 @@
--- What a response makes: the row of an acknowledgement that went back or on, and the request that an answer fits.
+-- What a response makes: the row of an acknowledgement that went on, and the request that an answer fits.
 use Rattle.std.proofs.Common.{◌≡◌, ℕ, ◌-◌, arith, refl, sym, ap, ◌∙◌, Bool, true, false, if◌then◌else◌, find, take, Option, None, Some}
 use Rattle.ca_base.specs.declared.queue_numbers.RequesterNumbers.{RequesterNumbers}
 use Rattle.ca_base.specs.declared.completion.WcStatus.TheVariants.{BadResponse}
 use Rattle.ca_base.specs.objects.QueuePair.{QueuePair}
 use Rattle.ca_wire.specs.Packet.{Fields}
 use Rattle.std.specs.Option.{option_and_then}
-use Rattle.ca_model.specs.machine.Acknowledgements.{acknowledgement_below, and_then, failure_effects, one_retry, progress_to, with_requester}
+use Rattle.ca_model.specs.machine.Acknowledgements.{acknowledgement_below, and_then, failure_effects, progress_to, with_requester}
 use Rattle.ca_model.specs.machine.Expected.{behind_marks}
 use Rattle.ca_model.specs.machine.Invariants.{IsQueue}
 use Rattle.ca_model.specs.machine.Numbering.{Numbered, has_psn, request_at}
@@ -37,17 +37,7 @@ pub at_under : (q : QueuePair) (numbers : RequesterNumbers) (psn : ℕ) → numb
     → find (has_psn psn) (begun_from numbers.oldest numbers.oldest_psn q) ≡ request_at psn (with_requester numbers q)
 at_under q numbers psn next = ap (λ k. find (has_psn psn) (take (k - numbers.oldest) (numbers_from numbers.oldest numbers.oldest_psn q))) (sym next)
 
--- where it went back, the outcome is one retry
-pub then_back : (q : QueuePair) (psn until : ℕ) (numbers : RequesterNumbers) (o : Outcome) (f : QueuePair → Effects)
-    → acknowledgement_below psn q ≡ acknowledgement_of true until q
-    → with_requester numbers q ≡ (progress_to until q).queue
-    → outcome_effects o q ≡ one_retry until (with_requester numbers q)
-    → behind_marks (progress_to until q).marks (outcome_effects o q) ≡ unless_back (acknowledgement_below psn q) f
-then_back q psn until numbers o f a at e =
-    ap (λ x. behind_marks (progress_to until q).marks x) e
-    ∙ ap (λ x. behind_marks (progress_to until q).marks (one_retry until x)) at
-    ∙ sym (ap (λ x. unless_back x f) a)
-
+-- where it went on, what comes then is the outcome
 pub then_on : (q : QueuePair) (psn until : ℕ) (numbers : RequesterNumbers) (o : Outcome) (f : QueuePair → Effects)
     → acknowledgement_below psn q ≡ acknowledgement_of false until q
     → with_requester numbers q ≡ (progress_to until q).queue
@@ -57,27 +47,6 @@ then_on q psn until numbers o f a at e =
     ap (λ x. behind_marks (progress_to until q).marks x) e
     ∙ ap (λ x. behind_marks (progress_to until q).marks (f x)) at
     ∙ sym (ap (λ x. unless_back x f) a)
-
-pub ack_back : (q : QueuePair) (psn until : ℕ) (numbers : RequesterNumbers) (o : Outcome)
-    → acknowledgement_below psn q ≡ acknowledgement_of true until q
-    → with_requester numbers q ≡ (progress_to until q).queue
-    → outcome_effects o q ≡ one_retry until (with_requester numbers q)
-    → behind_marks (progress_to until q).marks (outcome_effects o q) ≡ (acknowledgement_below psn q).effects
-ack_back q psn until numbers o a at e =
-    ap (λ x. behind_marks (progress_to until q).marks x) e
-    ∙ ap (λ x. behind_marks (progress_to until q).marks (one_retry until x)) at
-    ∙ sym (ap (λ x. x.effects) a)
-
--- an answer where it went back, and one that does not fit: the row does not look at its bytes
-pub answer_back : (q : QueuePair) (psn until : ℕ) (p : Fields) (numbers : RequesterNumbers) (o : Outcome)
-    → acknowledgement_below psn q ≡ acknowledgement_of true until q
-    → with_requester numbers q ≡ (progress_to until q).queue
-    → outcome_effects o q ≡ one_retry until (with_requester numbers q)
-    → plain_row (Does (behind_marks (progress_to until q).marks (outcome_effects o q))) ≡ fitting_row psn p (acknowledgement_below psn q)
-answer_back q psn until p numbers o a at e =
-    ap (λ x. plain_row (Does x)) (ap (λ x. behind_marks (progress_to until q).marks x) e
-    ∙ ap (λ x. behind_marks (progress_to until q).marks (one_retry until x)) at)
-    ∙ sym (ap (λ x. fitting_row psn p x) a)
 
 -- the row of an answer, by the request that it fits
 abbrev fitted : ℕ → Fields → Effects → Option Numbered → Row

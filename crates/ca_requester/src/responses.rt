@@ -108,7 +108,7 @@ fn syndrome_of(p: &Packet<'_>) -> Option<Syndrome>
 }
 
 /// A READ or an atomic that was not answered is an implied NAK: one retry, and back to it.
-#[tactic(auto, using(crate::proofs::ResponseLemmas::ack_back, crate::proofs::ResponseLemmas::is_end))]
+#[tactic(auto, using(crate::proofs::ResponseLemmas::is_end))]
 pub(crate) fn implied_nak(q: &QueuePart, acknowledged: &Acknowledged) -> Ended
     requires queue { IsQueue (queue_of q.now) }
     requires numbers { AreNumbers (queue_of q.now) (numbers_behind acknowledged.now (queue_of q.now)) }
@@ -125,7 +125,7 @@ pub(crate) fn implied_nak(q: &QueuePart, acknowledged: &Acknowledged) -> Ended
 }
 
 /// An RNR NAK of the request at a PSN.
-#[tactic(auto, using(crate::proofs::ResponseLemmas::then_back, crate::proofs::ResponseLemmas::then_on, crate::proofs::ResponseLemmas::is_end))]
+#[tactic(auto, using(crate::proofs::ResponseLemmas::then_on, crate::proofs::ResponseLemmas::is_end))]
 pub(crate) fn on_rnr_nak(q: &QueuePart, psn: u64) -> Ended
     requires queue { IsQueue (queue_of q.now) }
     requires narrow { AreNarrow (queue_of q.now) }
@@ -143,7 +143,7 @@ pub(crate) fn on_rnr_nak(q: &QueuePart, psn: u64) -> Ended
 }
 
 /// A NAK of the request at a PSN.
-#[tactic(auto, using(crate::proofs::ResponseLemmas::then_back, crate::proofs::ResponseLemmas::then_on, crate::proofs::ResponseLemmas::is_end))]
+#[tactic(auto, using(crate::proofs::ResponseLemmas::then_on, crate::proofs::ResponseLemmas::is_end))]
 pub(crate) fn on_nak(q: &QueuePart, psn: u64, code: NakCode) -> Ended
     requires queue { IsQueue (queue_of q.now) }
     requires narrow { AreNarrow (queue_of q.now) }
@@ -207,7 +207,7 @@ fn failure(numbers: RequesterNumbers, status: WcStatus) -> Outcome
 }
 
 /// An answer: an implied NAK, one that does not fit its request, or one whose bytes go to its list.
-#[tactic(auto, using(crate::proofs::ResponseLemmas::answer_back, crate::proofs::ResponseLemmas::answer_fails, crate::proofs::ResponseLemmas::answer_fits, crate::proofs::ResponseLemmas::is_end))]
+#[tactic(auto, using(crate::proofs::ResponseLemmas::answer_fails, crate::proofs::ResponseLemmas::answer_fits, crate::proofs::ResponseLemmas::is_end))]
 pub(crate) fn answer_of<'a>(q: &'a QueuePart, p: &Packet<'_>, psn: u64) -> Response<'a>
     requires queue { IsQueue (queue_of q.now) }
     requires narrow { AreNarrow (queue_of q.now) }

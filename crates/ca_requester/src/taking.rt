@@ -181,8 +181,8 @@ fn take_ack(alloc: Global, q: &mut QueuePart, psn: u64, marks: &mut Marks) -> Re
 }
 
 /// The requests before the one that is the oldest now complete, and the requester goes on.
-#[inline(always)]
 #[tactic(auto, using(crate::proofs::ResponseLemmas::are_ahead))]
+#[inline(always)]
 fn go_on(q: &mut QueuePart, acknowledged: &Acknowledged, marks: &mut Marks) -> Result<(), Memory>
     requires queue { IsQueue (queue_of q.old) }
     requires numbers { AreNumbers (queue_of q.old) (numbers_behind acknowledged.now (queue_of q.old)) }
