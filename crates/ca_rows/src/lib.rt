@@ -29,5 +29,5 @@ pub use operations::{
     segments,
 };
 pub use packets::{peer_number, psn_bits, spell_packet};
-pub use reads::{join, keep_marks, read_all};
+pub use reads::{join, keep_marks, read_all, read_granted};
 pub use writes::{cut_writes, write_all};
