@@ -212,7 +212,7 @@ fn read_and_spell<R: Reach>(
     ensures none { IfOk result (λ granted. granted ≡ false → marks.new.marks ≡ marks.old.marks) }
     ensures none_out { IfOk result (λ granted. granted ≡ false → out.new.items ≡ out.old.items) }
     ensures size { OnOk result (length out.new.items ≤ length out.old.items + MAX_PACKET_BYTES) }
-    ensures room { OnOk result (2 ≤ marks.new.room) }
+    ensures room { IfOk result (λ granted. granted ≡ true → 2 ≤ marks.new.room) }
     ensures same { reach.new ≡ reach.old }
     ensures err_marks { OnErr result (marks.new.marks ≡ marks.old.marks) }
     ensures err_out { OnErr result (out.new.items ≡ out.old.items) }
@@ -220,15 +220,16 @@ fn read_and_spell<R: Reach>(
     marks.reserve(asks.len() as u32 + 2)?;
     let count = marks.as_slice().len();
     match read_then_spell(alloc, q, n, reach, asks, marks, out) {
-        Ok(granted) => Ok(granted),
-        Err(memory) => {
+        Ok(true) => Ok(true),
+        nothing => {
             keep_marks(alloc, marks, count);
-            Err(memory)
+            nothing
         }
     }
 }
 
-/// The same in the spare room. Where memory ends, some of the marks stand behind those that there were.
+/// The same in the spare room. Where the list is denied, and where memory ends, some of the marks stand behind those that
+/// there were.
 #[tactic(auto, using(crate::proofs::TurnLemmas::handed_on, crate::proofs::TurnLemmas::marks_read, crate::proofs::TurnLemmas::front_behind))]
 fn read_then_spell<R: Reach>(
     alloc: Global,
@@ -250,12 +251,12 @@ fn read_then_spell<R: Reach>(
     ensures marks { IfOk result (λ granted. granted ≡ true → marks.new.marks ≡ marks.old.marks ++ requester.local_reads asks.now (map (bytes_in (R.sight reach.old)) asks.now)) }
     ensures out { IfOk result (λ granted. granted ≡ true → out.new.items ≡ out.old.items
         ++ requester.spelt_packet (queue_of q.now) (numbered_of n.now) (flat_map (λ b. b) (map (bytes_in (R.sight reach.old)) asks.now))) }
-    ensures none { IfOk result (λ granted. granted ≡ false → marks.new.marks ≡ marks.old.marks) }
+    ensures front { IfOk result (λ granted. granted ≡ false → take (length marks.old.marks) marks.new.marks ≡ marks.old.marks) }
     ensures none_out { IfOk result (λ granted. granted ≡ false → out.new.items ≡ out.old.items) }
     ensures size { OnOk result (length out.new.items ≤ length out.old.items + MAX_PACKET_BYTES) }
     ensures room { OnOk result (2 ≤ marks.new.room) }
     ensures same { reach.new ≡ reach.old }
-    ensures front { OnErr result (take (length marks.old.marks) marks.new.marks ≡ marks.old.marks) }
+    ensures err_marks { OnErr result (take (length marks.old.marks) marks.new.marks ≡ marks.old.marks) }
     ensures err_out { OnErr result (out.new.items ≡ out.old.items) }
 {
     let count = marks.as_slice().len();

@@ -5,7 +5,7 @@ ghost use Rattle.ca_base.specs.Sight as sights;
 ghost use Rattle.ca_base.specs.declared.access.Kind.{Kind};
 ghost use Rattle.ca_base.specs.declared.verdict.Verdict.TheVariants as verdicts;
 ghost use Rattle.ca_grant.specs.Reaching.{IsPacketAsk};
-ghost use Rattle.ca_rows.specs.Asks.{IsAskOf, IsGranted, bytes_read, mark_of, payload_of, read_in, read_marks, reads_by, touched_by};
+ghost use Rattle.ca_rows.specs.Asks.{AreBytesAtHand, IsAskOf, IsGranted, bytes_read, mark_of, payload_of, read_in, read_marks, reads_by, touched_by};
 
 use crate::asks::first_denied;
 use ca_base::{Ask, Memory, Verdict};
@@ -41,8 +41,10 @@ pub fn read_all<R: Reach>(
     Ok(())
 }
 
-/// Reads what each of these asks touches, where none of them is denied, and adds a mark for each, in the spare room: true
-/// comes exactly then. One ask is judged as it is read.
+/// Reads what each of these asks touches, and adds a mark for each, in the spare room: true comes exactly where none of
+/// them is denied. Where one is, and where memory ends, some of the marks stand behind those that there were. One ask
+/// alone is judged as it is read.
+#[tactic(auto, using(crate::proofs::ReadLemmas::one_touches, crate::proofs::ReadLemmas::front_whole))]
 #[inline(always)]
 pub fn read_granted<R: Reach>(
     alloc: Global,
@@ -58,16 +60,46 @@ pub fn read_granted<R: Reach>(
     ensures granted { IfOk result (λ granted. granted ≡ true → sights.first_denied (R.sight reach.old) asks.now ≡ None) }
     ensures denied { IfOk result (λ granted. granted ≡ false → is_some (sights.first_denied (R.sight reach.old) asks.now) ≡ true) }
     ensures marks { IfOk result (λ granted. granted ≡ true → marks.new.marks ≡ marks.old.marks ++ read_marks (reads_by (R.sight reach.old) asks.now)) }
-    ensures none { IfOk result (λ granted. granted ≡ false → marks.new.marks ≡ marks.old.marks) }
     ensures room { OnOk result (marks.old.room ≤ marks.new.room + length asks.now) }
-    ensures front { OnErr result (take (length marks.old.marks) marks.new.marks ≡ marks.old.marks) }
+    ensures front { IfOk result (λ granted. granted ≡ false → take (length marks.old.marks) marks.new.marks ≡ marks.old.marks) }
+    ensures err { OnErr result (take (length marks.old.marks) marks.new.marks ≡ marks.old.marks) }
     ensures count { IfOk result (λ granted. granted ≡ true → length (payload_of (reads_by (R.sight reach.old) asks.now)) ≡ touched_by asks.now) }
     ensures same { reach.new ≡ reach.old }
 {
-    match asks {
-        [ask] => read_piece(alloc, reach, ask, marks),
-        _ => read_pieces(alloc, reach, asks, marks),
+    if asks.len() > 1 && first_denied(reach, asks).is_some() {
+        return Ok(false);
     }
+    read_until_denied(alloc, reach, asks, marks)
+}
+
+/// The same, where each ask that is not denied has its bytes at hand, whatever becomes of the others.
+#[tactic(auto, using(crate::proofs::ReadLemmas::front_still, crate::proofs::ReadLemmas::front_whole, crate::proofs::ReadLemmas::denied_first))]
+#[inline(always)]
+fn read_until_denied<R: Reach>(
+    alloc: Global,
+    reach: &mut R,
+    asks: &[Ask],
+    marks: &mut Marks,
+) -> Result<bool, Memory>
+    requires keys { AllByRecursion (R.judges reach.old) asks.now }
+    requires bytes { AllByRecursion (AreBytesAtHand (R.sight reach.old) (R.touches reach.old)) asks.now }
+    requires reads { AllByRecursion (IsAskOf Kind.Read) asks.now }
+    requires room { length asks.now ≤ marks.old.room }
+    ensures granted { IfOk result (λ granted. granted ≡ true → sights.first_denied (R.sight reach.old) asks.now ≡ None) }
+    ensures denied { IfOk result (λ granted. granted ≡ false → is_some (sights.first_denied (R.sight reach.old) asks.now) ≡ true) }
+    ensures marks { IfOk result (λ granted. granted ≡ true → marks.new.marks ≡ marks.old.marks ++ read_marks (reads_by (R.sight reach.old) asks.now)) }
+    ensures room { OnOk result (marks.old.room ≤ marks.new.room + length asks.now) }
+    ensures front { IfOk result (λ granted. granted ≡ false → take (length marks.old.marks) marks.new.marks ≡ marks.old.marks) }
+    ensures err { OnErr result (take (length marks.old.marks) marks.new.marks ≡ marks.old.marks) }
+    ensures count { IfOk result (λ granted. granted ≡ true → length (payload_of (reads_by (R.sight reach.old) asks.now)) ≡ touched_by asks.now) }
+    ensures same { reach.new ≡ reach.old }
+{
+    for ask in asks {
+        if !read_piece(alloc, reach, ask, marks)? {
+            return Ok(false);
+        }
+    }
+    Ok(true)
 }
 
 /// The same for one ask.
@@ -96,35 +128,6 @@ fn read_piece<R: Reach>(
         return Ok(false);
     }
     marks.push(local_mark(ask, verdict));
-    Ok(true)
-}
-
-/// The same for a list of asks: all are judged before one is read.
-#[inline(never)]
-fn read_pieces<R: Reach>(
-    alloc: Global,
-    reach: &mut R,
-    asks: &[Ask],
-    marks: &mut Marks,
-) -> Result<bool, Memory>
-    requires keys { AllByRecursion (R.judges reach.old) asks.now }
-    requires bytes { sights.first_denied (R.sight reach.old) asks.now ≡ None → AllByRecursion (R.touches reach.old) asks.now }
-    requires reads { AllByRecursion (IsAskOf Kind.Read) asks.now }
-    requires packet { AllByRecursion IsPacketAsk asks.now }
-    requires room { length asks.now ≤ marks.old.room }
-    ensures granted { IfOk result (λ granted. granted ≡ true → sights.first_denied (R.sight reach.old) asks.now ≡ None) }
-    ensures denied { IfOk result (λ granted. granted ≡ false → is_some (sights.first_denied (R.sight reach.old) asks.now) ≡ true) }
-    ensures marks { IfOk result (λ granted. granted ≡ true → marks.new.marks ≡ marks.old.marks ++ read_marks (reads_by (R.sight reach.old) asks.now)) }
-    ensures none { IfOk result (λ granted. granted ≡ false → marks.new.marks ≡ marks.old.marks) }
-    ensures room { OnOk result (marks.old.room ≤ marks.new.room + length asks.now) }
-    ensures front { OnErr result (take (length marks.old.marks) marks.new.marks ≡ marks.old.marks) }
-    ensures count { IfOk result (λ granted. granted ≡ true → length (payload_of (reads_by (R.sight reach.old) asks.now)) ≡ touched_by asks.now) }
-    ensures same { reach.new ≡ reach.old }
-{
-    if first_denied(reach, asks).is_some() {
-        return Ok(false);
-    }
-    read_all(alloc, reach, asks, marks)?;
     Ok(true)
 }
 
