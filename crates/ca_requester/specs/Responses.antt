@@ -33,12 +33,12 @@ pub record IsEnd (q : QueuePair) (e : Ended) : Type 0 where
   pub finished : (progress_to e.until q).marks ≡ success_between q.requester.oldest (numbers_of e.outcome).oldest q
 
 -- the row of a response, by what it says of its PSN
-abbrev pub arrival_row : Arrival → Fields → QueuePair → Row
-arrival_row (Drops cause) p q = plain_row (Does (drop_effects q cause))
-arrival_row (Acks psn) p q = plain_row (Does (acknowledgement_below (suc psn) q).effects)
-arrival_row (RnrNaks psn) p q = plain_row (Does (unless_back (acknowledgement_below psn q) (rnr_nak_effects psn)))
-arrival_row (Naks psn code) p q = plain_row (Does (unless_back (acknowledgement_below psn q) (nak_effects psn code)))
-arrival_row (Fits psn) p q = fitting_row psn p (acknowledgement_below psn q)
+abbrev pub row_of_arrival : Arrival → Fields → QueuePair → Row
+row_of_arrival (Drops cause) p q = plain_row (Does (drop_effects q cause))
+row_of_arrival (Acks psn) p q = plain_row (Does (acknowledgement_below (suc psn) q).effects)
+row_of_arrival (RnrNaks psn) p q = plain_row (Does (unless_back (acknowledgement_below psn q) (rnr_nak_effects psn)))
+row_of_arrival (Naks psn code) p q = plain_row (Does (unless_back (acknowledgement_below psn q) (nak_effects psn code)))
+row_of_arrival (Fits psn) p q = fitting_row psn p (acknowledgement_below psn q)
 
 -- the PSN of an acknowledgement or of an answer is narrow
 abbrev pub IsNarrowArrival : Arrival → Type 0

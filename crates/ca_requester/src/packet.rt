@@ -1,10 +1,10 @@
-ghost use Rattle.std.specs.Prelude.{◌≡◌, ℕ, ◌+◌, ◌*◌, ◌++◌, ◌<◌, ◌≤◌, ◌^◌, [], false, true, Some, OnOk, OnErr, length};
+ghost use Rattle.std.specs.Prelude.{◌≡◌, ℕ, ◌+◌, ◌*◌, ◌++◌, ◌<◌, ◌≤◌, ◌^◌, [], false, true, if◌then◌else◌, Some, OnOk, OnErr, length};
 ghost use Rattle.std.specs.List.{AllByRecursion};
 ghost use Rattle.ca_base.specs.declared.access.Kind.{Kind};
 ghost use Rattle.ca_base.specs.declared.limits.TheConstants.{MAX_PAYLOAD_BYTES};
 ghost use Rattle.ca_model.specs.Requests as requests;
 ghost use Rattle.ca_model.specs.machine.Invariants.{IsQueue, IsList};
-ghost use Rattle.ca_model.specs.machine.Numbering.{is_atomic_op};
+ghost use Rattle.ca_model.specs.machine.Numbering.{is_answered_op, is_atomic_op};
 ghost use Rattle.ca_model.specs.machine.Requester as requester;
 ghost use Rattle.ca_qpstate.specs.Seen.{queue_of};
 ghost use Rattle.ca_requester.specs.Numbering.{numbered_of, IsSound};
@@ -19,9 +19,7 @@ use arrayvec::ArrayVec;
 use ca_base::limits::MAX_PIECES;
 use ca_base::{Ask, Key, Kind, Memory, Piece, SendOp, SendRequest};
 use ca_qpstate::QueuePart;
-use ca_rows::{
-    carried_bytes, fill_asks, list_length, list_of, peer_number, psn_bits, spell_packet,
-};
+use ca_rows::{fill_asks, is_answered, list_length, list_of, peer_number, psn_bits, spell_packet};
 use ca_wire::{
     AtomicEth, Packet, Reth, Segment, SendKind, cmp_swap, fetch_add, read_request, send_packet,
     write_packet,
@@ -46,7 +44,20 @@ fn bytes_before(q: &QueuePart, n: &Numbered<'_>) -> u32
     index_of_packet(q, n) * u32::from(q.responder.mtu)
 }
 
-/// Puts the asks of the next packet into an empty list, for the bytes that it carries of its request's list.
+/// The most bytes of its request's list that a packet carries: those of a path MTU; a READ and an atomic carry none.
+fn most_carried(q: &QueuePart, n: &Numbered<'_>) -> u32
+    ensures { result ≡ (if is_answered_op (numbered_of n.now).request.op then 0 else q.now.responder.mtu) }
+{
+    if is_answered(n.op()) {
+        0
+    } else {
+        u32::from(q.responder.mtu)
+    }
+}
+
+/// Puts the asks of the next packet into an empty list, for the bytes that it carries of its request's list. The list need
+/// not be summed, since no asks reach past its end.
+#[tactic(auto, using(crate::proofs::PacketLemmas::most_asks))]
 #[inline(always)]
 pub(crate) fn fill_packet_asks(
     q: &QueuePart,
@@ -60,13 +71,12 @@ pub(crate) fn fill_packet_asks(
     ensures touched { touched_by asks.new.items ≤ MAX_PAYLOAD_BYTES }
     ensures asks { AllByRecursion (IsAskOf Kind.Read) asks.new.items }
 {
-    let count = carried_bytes(q.responder.mtu, n.op(), index_of_packet(q, n));
     fill_asks(
         q.queue,
         q.domain,
         Kind::Read,
         bytes_before(q, n),
-        count,
+        most_carried(q, n),
         list_of(n.op()),
         asks,
     );

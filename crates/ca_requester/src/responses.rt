@@ -14,7 +14,7 @@ ghost use Rattle.ca_requester.specs.Numbering.{IsSound, numbered_of};
 ghost use Rattle.ca_requester.specs.declared.outcome.Outcome.TheVariants.{Fails};
 ghost use Rattle.ca_requester.specs.Outcome.{failure_of, numbers_of, outcome_effects};
 ghost use Rattle.ca_requester.specs.Progress.{AreNumbers, acknowledgement_of, numbers_behind, success_between};
-ghost use Rattle.ca_requester.specs.Responses.{IsEnd, IsNarrowArrival, IsResponse, arrival_row, ended_effects, fitting, row_of};
+ghost use Rattle.ca_requester.specs.Responses.{IsEnd, IsNarrowArrival, IsResponse, ended_effects, fitting, row_of, row_of_arrival};
 
 use crate::numbering::{Numbered, request_under};
 use crate::outcome::{Failure, Outcome, one_retry};
@@ -76,7 +76,7 @@ pub(crate) fn arrival_of(q: &QueuePart, p: &Packet<'_>) -> Arrival
     requires queue { IsQueue (queue_of q.now) }
     requires narrow { AreNarrow (queue_of q.now) }
     requires psn { p.now.psn < 2 ^ 24 }
-    ensures row { arrival_row result (fields_of p.now) (queue_of q.now) ≡ rows.response_row (fields_of p.now) (queue_of q.now) }
+    ensures row { row_of_arrival result (fields_of p.now) (queue_of q.now) ≡ rows.response_row (fields_of p.now) (queue_of q.now) }
     ensures narrow { IsNarrowArrival result }
 {
     if !is_sending(q.state) {

@@ -1,16 +1,18 @@
-ghost use Rattle.std.specs.Prelude.{◌≡◌, ◌+◌, ◌<◌, ◌≤◌, ◌^◌, ◌++◌, Bool, true, false, not, if◌then◌else◌, None, Some, [], drop, length, map, take, IfOk, IfErr, OnOk, OnErr};
+ghost use Rattle.std.specs.Prelude.{◌≡◌, ◌+◌, ◌<◌, ◌≤◌, ◌^◌, ◌++◌, ℕ, List, Bool, true, false, not, if◌then◌else◌, is_some, None, Some, [], drop, length, map, take, IfOk, IfErr, OnOk, OnErr};
 ghost use Rattle.std.specs.List.{AllByRecursion, flat_map};
 ghost use Rattle.ca_base.specs.declared.access.Kind.{Kind};
 ghost use Rattle.ca_base.specs.declared.limits.TheConstants.{MAX_PAYLOAD_BYTES, MAX_PIECES};
 ghost use Rattle.ca_base.specs.declared.step.Reason.{Reason};
+ghost use Rattle.ca_base.specs.Sight as sights;
 ghost use Rattle.ca_base.specs.Sight.{bytes_in};
 ghost use Rattle.ca_grant.specs.Reaching.{AreAtHand};
 ghost use Rattle.ca_model.specs.machine.Acknowledgements.{with_requester};
 ghost use Rattle.ca_model.specs.machine.Invariants.{IsQueue};
+ghost use Rattle.ca_model.specs.machine.Numbering as numbering;
 ghost use Rattle.ca_model.specs.machine.Requester as requester;
 ghost use Rattle.ca_model.specs.machine.Row.{ending_of, plain_row, NotPossible};
 ghost use Rattle.ca_qpstate.specs.Seen.{queue_of};
-ghost use Rattle.ca_rows.specs.Asks.{IsAskOf, IsGranted, bytes_read, touched_by};
+ghost use Rattle.ca_rows.specs.Asks.{IsAskOf, bytes_read, touched_by};
 ghost use Rattle.ca_rows.specs.Done.{IsTurn, handed};
 ghost use Rattle.ca_rows.specs.Narrow.{AreNarrow};
 ghost use Rattle.ca_wire.specs.declared.packet.TheConstants.{MAX_PACKET_BYTES};
@@ -28,7 +30,7 @@ use ca_base::{Ask, Memory, Reason, Sent, StepError, WcStatus};
 use ca_grant::Reach;
 use ca_model::Marks;
 use ca_qpstate::QueuePart;
-use ca_rows::{DeniedAsk, first_denied, is_local, join, keep_marks, local_denial, read_all};
+use ca_rows::{DeniedAsk, first_denied, is_local, join, keep_marks, local_denial, read_granted};
 use std::alloc::Global;
 
 /// The asks that `next_packet` may make, in order; it makes no other. It takes no memory.
@@ -91,7 +93,47 @@ pub fn next_packet<R: Reach>(
     };
     let mut asks = ArrayVec::new();
     fill_packet_asks(q, &next.request, &mut asks);
-    match first_denied(reach, asks.as_slice()) {
+    let asks = asks.as_slice();
+    if !room {
+        return send_nothing(alloc, q, reach, room, asks, marks);
+    }
+    let (place, end) = (next.request.place, end_of_packet(q, &next.request));
+    let begins = next.begins;
+    if !read_and_spell(alloc, q, &next.request, reach, asks, marks, out)? {
+        return send_nothing(alloc, q, reach, room, asks, marks);
+    }
+    go_past(q, end, begins);
+    Ok(Sent::Spelt {
+        request: Some(place),
+    })
+}
+
+/// A turn that sends no packet of its request, since its list is denied or the peer has no room. It stands apart, since
+/// that is rare.
+#[tactic(auto, using(crate::proofs::TurnLemmas::handed_on))]
+#[cold]
+#[inline(never)]
+fn send_nothing<R: Reach>(
+    alloc: Global,
+    q: &mut QueuePart,
+    reach: &R,
+    room: bool,
+    asks: &[Ask],
+    marks: &mut Marks,
+) -> Result<Sent, StepError>
+    requires queue { IsQueue (queue_of q.old) }
+    requires keys { AllByRecursion (R.judges reach.now) asks.now }
+    requires reads { AllByRecursion (IsAskOf Kind.Read) asks.now }
+    requires nothing { room ≡ true → is_some (sights.first_denied (R.sight reach.now) asks.now) ≡ true }
+    ensures turn { (n : numbering.Numbered) (out : List ℕ) → requester.packet_asks (queue_of q.old) n ≡ asks.now
+        → requester.is_too_much (queue_of q.old) n ≡ false
+        → IsTurn R.written result (ending_of (R.sight reach.now) (requester.packet_row (queue_of q.old) room n))
+        (handed (queue_of q.old) marks.old.marks out reach.now)
+        (handed (queue_of q.new) marks.new.marks out reach.now) }
+    ensures room { OnOk result (2 ≤ marks.new.room) }
+{
+    match first_denied(reach, asks) {
+        None => Err(StepError::NotReady(Reason::NoRoom)),
         Some(denied) => match denied_refusal(q, room) {
             Some(reason) => Err(StepError::NotReady(reason)),
             None => {
@@ -99,16 +141,6 @@ pub fn next_packet<R: Reach>(
                 Ok(Sent::Silent)
             }
         },
-        None if !room => Err(StepError::NotReady(Reason::NoRoom)),
-        None => {
-            let (place, end) = (next.request.place, end_of_packet(q, &next.request));
-            let begins = next.begins;
-            read_and_spell(alloc, q, &next.request, reach, asks.as_slice(), marks, out)?;
-            go_past(q, end, begins);
-            Ok(Sent::Spelt {
-                request: Some(place),
-            })
-        }
     }
 }
 
@@ -122,9 +154,7 @@ fn denied_refusal(q: &QueuePart, room: bool) -> Option<Reason>
     if room { None } else { Some(Reason::NoRoom) }
 }
 
-/// The request whose list is denied fails. It stands apart, since that is rare.
-#[cold]
-#[inline(never)]
+/// The request whose list is denied fails.
 fn fail_list(
     alloc: Global,
     q: &mut QueuePart,
@@ -157,7 +187,8 @@ fn go_past(q: &mut QueuePart, end: u64, begins: bool)
     }
 }
 
-/// Reads the bytes of a packet, spells it, and adds a mark for each piece that was read.
+/// Reads the bytes of a packet, spells it, and adds a mark for each piece that was read. False comes exactly where the list
+/// is denied, and then nothing changes.
 fn read_and_spell<R: Reach>(
     alloc: Global,
     q: &QueuePart,
@@ -166,20 +197,22 @@ fn read_and_spell<R: Reach>(
     asks: &[Ask],
     marks: &mut Marks,
     out: &mut Vec<u8>,
-) -> Result<(), Memory>
+) -> Result<bool, Memory>
     requires queue { IsQueue (queue_of q.now) }
     requires packet { IsPacket (queue_of q.now) (numbered_of n.now) }
-    requires keys { AllByRecursion (R.judges reach.old) asks.now }
-    requires bytes { AllByRecursion (R.touches reach.old) asks.now }
+    requires at_hand { AreAtHand R.sight R.judges R.touches reach.old asks.now }
     requires reads { AllByRecursion (IsAskOf Kind.Read) asks.now }
-    requires allowed { AllByRecursion (IsGranted (R.sight reach.old)) asks.now }
     requires touched { touched_by asks.now ≤ MAX_PAYLOAD_BYTES }
     requires few { length asks.now ≤ MAX_PIECES }
-    ensures marks { OnOk result (marks.new.marks ≡ marks.old.marks ++ requester.local_reads asks.now (map (bytes_in (R.sight reach.old)) asks.now)) }
-    ensures out { OnOk result (out.new.items ≡ out.old.items
+    ensures granted { IfOk result (λ granted. granted ≡ true → sights.first_denied (R.sight reach.old) asks.now ≡ None) }
+    ensures denied { IfOk result (λ granted. granted ≡ false → is_some (sights.first_denied (R.sight reach.old) asks.now) ≡ true) }
+    ensures marks { IfOk result (λ granted. granted ≡ true → marks.new.marks ≡ marks.old.marks ++ requester.local_reads asks.now (map (bytes_in (R.sight reach.old)) asks.now)) }
+    ensures out { IfOk result (λ granted. granted ≡ true → out.new.items ≡ out.old.items
         ++ requester.spelt_packet (queue_of q.now) (numbered_of n.now) (flat_map (λ b. b) (map (bytes_in (R.sight reach.old)) asks.now))) }
+    ensures none { IfOk result (λ granted. granted ≡ false → marks.new.marks ≡ marks.old.marks) }
+    ensures none_out { IfOk result (λ granted. granted ≡ false → out.new.items ≡ out.old.items) }
     ensures size { OnOk result (length out.new.items ≤ length out.old.items + MAX_PACKET_BYTES) }
-    ensures room { OnOk result (2 ≤ marks.new.room) }
+    ensures room { IfOk result (λ granted. granted ≡ true → 2 ≤ marks.new.room) }
     ensures same { reach.new ≡ reach.old }
     ensures err_marks { OnErr result (marks.new.marks ≡ marks.old.marks) }
     ensures err_out { OnErr result (out.new.items ≡ out.old.items) }
@@ -187,16 +220,17 @@ fn read_and_spell<R: Reach>(
     marks.reserve(asks.len() as u32 + 2)?;
     let count = marks.as_slice().len();
     match read_then_spell(alloc, q, n, reach, asks, marks, out) {
-        Ok(()) => Ok(()),
-        Err(memory) => {
+        Ok(true) => Ok(true),
+        nothing => {
             keep_marks(alloc, marks, count);
-            Err(memory)
+            nothing
         }
     }
 }
 
-/// The same in the spare room. Where memory ends, some of the marks stand behind those that there were.
-#[tactic(auto, using(crate::proofs::TurnLemmas::marks_read, crate::proofs::TurnLemmas::front_behind))]
+/// The same in the spare room. Where the list is denied, and where memory ends, some of the marks stand behind those that
+/// there were.
+#[tactic(auto, using(crate::proofs::TurnLemmas::handed_on, crate::proofs::TurnLemmas::marks_read, crate::proofs::TurnLemmas::front_behind))]
 fn read_then_spell<R: Reach>(
     alloc: Global,
     q: &QueuePart,
@@ -205,29 +239,34 @@ fn read_then_spell<R: Reach>(
     asks: &[Ask],
     marks: &mut Marks,
     out: &mut Vec<u8>,
-) -> Result<(), Memory>
+) -> Result<bool, Memory>
     requires queue { IsQueue (queue_of q.now) }
     requires packet { IsPacket (queue_of q.now) (numbered_of n.now) }
-    requires keys { AllByRecursion (R.judges reach.old) asks.now }
-    requires bytes { AllByRecursion (R.touches reach.old) asks.now }
+    requires at_hand { AreAtHand R.sight R.judges R.touches reach.old asks.now }
     requires reads { AllByRecursion (IsAskOf Kind.Read) asks.now }
-    requires allowed { AllByRecursion (IsGranted (R.sight reach.old)) asks.now }
     requires touched { touched_by asks.now ≤ MAX_PAYLOAD_BYTES }
     requires room { length asks.now + 2 ≤ marks.old.room }
-    ensures marks { OnOk result (marks.new.marks ≡ marks.old.marks ++ requester.local_reads asks.now (map (bytes_in (R.sight reach.old)) asks.now)) }
-    ensures out { OnOk result (out.new.items ≡ out.old.items
+    ensures granted { IfOk result (λ granted. granted ≡ true → sights.first_denied (R.sight reach.old) asks.now ≡ None) }
+    ensures denied { IfOk result (λ granted. granted ≡ false → is_some (sights.first_denied (R.sight reach.old) asks.now) ≡ true) }
+    ensures marks { IfOk result (λ granted. granted ≡ true → marks.new.marks ≡ marks.old.marks ++ requester.local_reads asks.now (map (bytes_in (R.sight reach.old)) asks.now)) }
+    ensures out { IfOk result (λ granted. granted ≡ true → out.new.items ≡ out.old.items
         ++ requester.spelt_packet (queue_of q.now) (numbered_of n.now) (flat_map (λ b. b) (map (bytes_in (R.sight reach.old)) asks.now))) }
+    ensures front { IfOk result (λ granted. granted ≡ false → take (length marks.old.marks) marks.new.marks ≡ marks.old.marks) }
+    ensures none_out { IfOk result (λ granted. granted ≡ false → out.new.items ≡ out.old.items) }
     ensures size { OnOk result (length out.new.items ≤ length out.old.items + MAX_PACKET_BYTES) }
     ensures room { OnOk result (2 ≤ marks.new.room) }
     ensures same { reach.new ≡ reach.old }
-    ensures front { OnErr result (take (length marks.old.marks) marks.new.marks ≡ marks.old.marks) }
+    ensures err_marks { OnErr result (take (length marks.old.marks) marks.new.marks ≡ marks.old.marks) }
     ensures err_out { OnErr result (out.new.items ≡ out.old.items) }
 {
     let count = marks.as_slice().len();
-    read_all(alloc, reach, asks, marks)?;
+    if !read_granted(alloc, reach, asks, marks)? {
+        return Ok(false);
+    }
     let mut joined = Vec::new(alloc);
     let payload = payload_behind(marks, count, &mut joined)?;
-    spell(q, n, payload, out)
+    spell(q, n, payload, out)?;
+    Ok(true)
 }
 
 /// The bytes that the marks behind so many tell of.

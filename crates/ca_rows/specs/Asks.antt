@@ -19,6 +19,10 @@ IsAskOf kind ask = IsPacketAsk ask × (ask.kind ≡ kind)
 abbrev pub IsGranted : Sight → Ask → Type 0
 IsGranted s ask = denial_in s ask ≡ None
 
+-- the bytes that the ask touches are at hand, if it is allowed
+abbrev pub AreBytesAtHand : Sight → (Ask → Type 0) → Ask → Type 0
+AreBytesAtHand s touches ask = denial_in s ask ≡ None → touches ask
+
 -- how many bytes asks touch
 abbrev pub touched_by : List Ask → ℕ
 touched_by [] = 0

@@ -25,9 +25,9 @@ pub use completions::{
 pub use flush::{push_flushed, push_flushed_receives, push_flushed_sends};
 pub use list::{fill_asks, list_asks, list_length};
 pub use operations::{
-    carried_bytes, is_answered, is_atomic, is_local, is_read, list_of, operation_of, psns_of,
+    is_answered, is_atomic, is_local, is_read, list_of, operation_of, psns_of,
     segments,
 };
 pub use packets::{peer_number, psn_bits, spell_packet};
-pub use reads::{join, keep_marks, read_all};
+pub use reads::{join, keep_marks, read_granted};
 pub use writes::{cut_writes, write_all};

@@ -110,18 +110,3 @@ pub fn psns_of(mtu: u16, op: &SendOp) -> u32
         | SendOp::Read { list, .. } => segments(mtu, list_length(list.as_slice())),
     }
 }
-
-/// How many bytes of its list the packet at an index of a request carries; a READ and an atomic carry none.
-pub fn carried_bytes(mtu: u16, op: &SendOp, index: u32) -> u32
-    requires mtu { 0 < mtu }
-    requires list { IsList (requests.list_of op.now) }
-    ensures value { result ≡ requests.carried_bytes mtu op.now index }
-    ensures few { result ≤ mtu }
-{
-    if is_answered(op) {
-        return 0;
-    }
-    let whole = list_length(list_of(op));
-    let before = u64::from(index) * u64::from(mtu);
-    u64::from(whole).saturating_sub(before).min(u64::from(mtu)) as u32
-}

@@ -33,6 +33,7 @@ pub fn psn_bits(psn: u64) -> u32
 }
 
 /// Adds the bytes that spell a packet, at most 4128.
+#[inline(always)]
 pub fn spell_packet(packet: &Packet<'_>, out: &mut Vec<u8>) -> Result<(), Memory>
     requires { IsWellFormed (fields_of packet.now) }
     ensures spelt { OnOk result (out.new.items ≡ out.old.items ++ spelling (fields_of packet.now)) }

@@ -143,6 +143,7 @@ impl Reach for SmallReach {
         self.find(ask).err()
     }
 
+    #[inline(always)]
     fn read(&mut self, alloc: Global, ask: &Ask) -> Result<Verdict, Memory> {
         let span = match self.find(ask) {
             Ok(span) => span,
