@@ -25,8 +25,7 @@ pub use completions::{
 pub use flush::{push_flushed, push_flushed_receives, push_flushed_sends};
 pub use list::{fill_asks, list_asks, list_length};
 pub use operations::{
-    is_answered, is_atomic, is_local, is_read, list_of, operation_of, psns_of,
-    segments,
+    is_answered, is_atomic, is_local, is_read, list_of, operation_of, psns_of, segments,
 };
 pub use packets::{peer_number, psn_bits, spell_packet};
 pub use reads::{join, keep_marks, read_granted};
