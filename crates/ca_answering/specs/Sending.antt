@@ -1,6 +1,6 @@
 -- The ask of an answer, and an answer that is one packet at once, with the turn that sends it. Contracts cite it.
 use Rattle.std.specs.Prelude.{List, [], ◌∷◌, Option, None, Some}
-use Rattle.ca_base.specs.declared.access.Ask.{Ask}
+use Rattle.ca_keys.specs.declared.access.Ask.{Ask}
 use Rattle.ca_base.specs.declared.queue_numbers.Queued.{Queued}
 use Rattle.ca_base.specs.declared.queue_numbers.Queued.TheVariants as queued
 use Rattle.ca_base.specs.objects.QueuePair.{QueuePair}

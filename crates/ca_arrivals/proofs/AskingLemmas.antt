@@ -2,7 +2,7 @@
 use Rattle.std.proofs.Common.{◌≡◌, ℕ, refl, ap, sym, true≢false, ◌&&◌, is_none, is_some, Bool, true, false, List, [], length, nat_lt, ◌+◌, Option, None, Some}
 use Rattle.std.specs.Option.{option_map}
 use Rattle.std.proofs.lemmas.Option.{same_Some}
-use Rattle.ca_base.specs.declared.access.Ask.{Ask}
+use Rattle.ca_keys.specs.declared.access.Ask.{Ask}
 use Rattle.ca_base.specs.declared.queue_numbers.Message.{Message}
 use Rattle.ca_base.specs.declared.queue_numbers.Message.TheVariants as messages
 use Rattle.ca_base.specs.declared.request.RecvRequest.{RecvRequest}

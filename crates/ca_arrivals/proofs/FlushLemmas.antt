@@ -1,7 +1,7 @@
 -- How many completions a flush makes.
 use Rattle.std.proofs.Common.{◌≡◌, ℕ, suc, ◌+◌, ◌-◌, ◌≤◌, arith, refl, ap, List, [], ◌∷◌, ◌++◌, length, length-append, length-drop, Option, None, Some}
 use Rattle.std.specs.Option.{option_map, option_map_or}
-use Rattle.ca_base.specs.declared.names.QueueId.{QueueId}
+use Rattle.ca_keys.specs.declared.names.QueueId.{QueueId}
 use Rattle.ca_base.specs.declared.queue_numbers.Message.{Message}
 use Rattle.ca_base.specs.declared.queue_numbers.Message.TheVariants as messages
 use Rattle.ca_base.specs.declared.request.RecvRequest.{RecvRequest}

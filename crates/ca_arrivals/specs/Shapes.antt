@@ -1,6 +1,6 @@
 -- The shapes of request packets as the machine has them, and the kinds of atomics. Contracts cite it.
-use Rattle.ca_base.specs.declared.access.Kind.{Kind}
-use Rattle.ca_base.specs.declared.access.Kind.TheVariants as kinds
+use Rattle.ca_keys.specs.declared.access.Kind.{Kind}
+use Rattle.ca_keys.specs.declared.access.Kind.TheVariants as kinds
 use Rattle.ca_model.specs.machine.Shapes as machine
 use Rattle.ca_arrivals.specs.declared.shape.Shape.{Shape}
 use Rattle.ca_arrivals.specs.declared.shape.Shape.TheVariants as shapes

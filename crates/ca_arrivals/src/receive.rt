@@ -1,7 +1,7 @@
 ghost use Rattle.std.specs.Prelude.{◌≡◌, ◌+◌, ◌<◌, ◌≤◌, IfOk, IfSome, Some, length, nat_lt, option_copied};
 ghost use Rattle.std.specs.List.{AllByRecursion};
 ghost use Rattle.std.specs.Option.{option_map};
-ghost use Rattle.ca_base.specs.declared.access.Kind.{Kind};
+ghost use Rattle.ca_keys.specs.declared.access.Kind.{Kind};
 ghost use Rattle.ca_base.specs.declared.limits.TheConstants.{MAX_MESSAGE_BYTES, MAX_PAYLOAD_BYTES, MAX_PIECES};
 ghost use Rattle.ca_base.specs.objects.WorkQueue.{waiting_count};
 ghost use Rattle.ca_grant.specs.Reaching.{IsPacketAsk};

@@ -1,21 +1,21 @@
 -- What the definitions say of small values. For proofs only.
 use Rattle.std.proofs.Common.{◌≡◌, ℕ, [], ◌∷◌, true, false, None, Some, refl}
-use Rattle.ca_base.specs.declared.access.Ask.{Ask}
-use Rattle.ca_base.specs.declared.access.Denial.TheVariants.{NoGrant, WrongQueue, NoRight, OutOfRange}
-use Rattle.ca_base.specs.declared.access.Kind.{Kind}
-use Rattle.ca_base.specs.declared.access.Kind.TheVariants as kinds
-use Rattle.ca_base.specs.declared.grant.Grant.{Grant}
-use Rattle.ca_base.specs.declared.key.Key.{Key}
-use Rattle.ca_base.specs.declared.names.DomainId.{DomainId}
-use Rattle.ca_base.specs.declared.names.QueueId.{QueueId}
-use Rattle.ca_base.specs.declared.names.Slot.{Slot}
-use Rattle.ca_base.specs.declared.place.Run.{Run}
+use Rattle.ca_keys.specs.declared.access.Ask.{Ask}
+use Rattle.ca_keys.specs.declared.access.Denial.TheVariants.{NoGrant, WrongQueue, NoRight, OutOfRange}
+use Rattle.ca_keys.specs.declared.access.Kind.{Kind}
+use Rattle.ca_keys.specs.declared.access.Kind.TheVariants as kinds
+use Rattle.ca_keys.specs.declared.grant.Grant.{Grant}
+use Rattle.ca_keys.specs.declared.key.Key.{Key}
+use Rattle.ca_keys.specs.declared.names.DomainId.{DomainId}
+use Rattle.ca_keys.specs.declared.names.QueueId.{QueueId}
+use Rattle.ca_keys.specs.declared.names.Slot.{Slot}
+use Rattle.ca_keys.specs.declared.place.Run.{Run}
 use Rattle.ca_base.specs.declared.refusals.RegionError.TheVariants.{Empty, OutsideBuffer, RightsNeedLocalWrite}
-use Rattle.ca_base.specs.declared.rights.Rights.{Rights}
-use Rattle.ca_base.specs.Allowed.{denial_of}
+use Rattle.ca_keys.specs.declared.rights.Rights.{Rights}
+use Rattle.ca_keys.specs.Allowed.{denial_of}
 use Rattle.ca_base.specs.Configuration.{part_count}
-use Rattle.ca_base.specs.Memory.{zeros, places_of, runs_at, memory_after}
-use Rattle.ca_base.specs.Numbers.{key_at, region_index, window_index, queue_of, domain_of, first_address}
+use Rattle.ca_keys.specs.Memory.{zeros, places_of, runs_at, memory_after}
+use Rattle.ca_keys.specs.Numbers.{key_at, region_index, window_index, queue_of, domain_of, first_address}
 use Rattle.ca_base.specs.Grants.{grant_of_registration, grant_of_bind, page_runs, registration_refusal, next_low}
 
 abbrev domain : ℕ → DomainId

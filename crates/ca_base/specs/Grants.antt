@@ -1,16 +1,16 @@
 -- The grants that a registration, a fast registration and a bind make. Contracts cite it.
 use Rattle.std.specs.Prelude.{ℕ, ◌+◌, ◌*◌, ◌%◌, Bool, true, false, not, ◌&&◌, ◌||◌, ◌==◌, nat_lt, List, [], ◌∷◌, map, Option, None}
-use Rattle.ca_base.specs.declared.grant.Grant.{Grant}
+use Rattle.ca_keys.specs.declared.grant.Grant.{Grant}
 use Rattle.ca_base.specs.declared.limits.TheConstants.{PAGE_BYTES}
-use Rattle.ca_base.specs.declared.names.QueueId.{QueueId}
-use Rattle.ca_base.specs.declared.names.Slot.{Slot}
-use Rattle.ca_base.specs.declared.place.Run.{Run}
+use Rattle.ca_keys.specs.declared.names.QueueId.{QueueId}
+use Rattle.ca_keys.specs.declared.names.Slot.{Slot}
+use Rattle.ca_keys.specs.declared.place.Run.{Run}
 use Rattle.ca_base.specs.declared.refusals.RegionError.{RegionError}
 use Rattle.ca_base.specs.declared.refusals.RegionError.TheVariants.{Empty, OutsideBuffer, RightsNeedLocalWrite}
-use Rattle.ca_base.specs.declared.rights.Rights.{Rights}
-use Rattle.ca_base.specs.Memory.{cut, runs_at}
-use Rattle.ca_base.specs.Numbers.{key_at, region_index, window_index, first_address}
-use Rattle.ca_base.specs.Refusals.{first_of}
+use Rattle.ca_keys.specs.declared.rights.Rights.{Rights}
+use Rattle.ca_keys.specs.Memory.{cut, runs_at}
+use Rattle.ca_keys.specs.Numbers.{key_at, region_index, window_index, first_address}
+use Rattle.ca_keys.specs.Refusals.{first_of}
 
 -- the low byte that follows, as a registration and the drawing of a bind take it
 abbrev pub next_low : ℕ → ℕ

@@ -1,8 +1,4 @@
-pub mod Numbers
 pub mod Equal
-pub mod Refusals
-pub mod Allowed
-pub mod Memory
 pub mod Grants
 pub mod Configuration
 pub mod Spelling

@@ -1,5 +1,5 @@
-use crate::memory::Memory;
 use crate::queue_numbers::Queued;
+use ca_keys::Memory;
 use std::alloc::Global;
 use std::collections::VecDeque;
 use std::marker::Model;

@@ -1,7 +1,7 @@
 ghost use Rattle.std.specs.Prelude.{◌≡◌, Some};
 ghost use Rattle.ca_base.specs.Spelling.{state_text, field_text};
 
-use crate::names::QueueId;
+use ca_keys::QueueId;
 use std::fmt;
 
 /// The state of a queue pair (the standard's queue pair states, without the SQ Error state).

@@ -1,8 +1,7 @@
 ghost use Rattle.std.specs.Prelude.{◌≡◌, Some};
 ghost use Rattle.ca_base.specs.Spelling.{operation_text, status_text};
 
-use crate::key::Key;
-use crate::names::QueueId;
+use ca_keys::{Key, QueueId};
 use std::fmt;
 
 /// The status of a work completion.

@@ -1,6 +1,6 @@
 use crate::answers::Answers;
-use crate::key::Key;
 use crate::request::RecvRequest;
+use ca_keys::Key;
 
 /// What the requester of a queue pair counts. PSNs are whole numbers here: 2^24 and the first PSN, and onwards.
 #[derive(Clone, Copy)]

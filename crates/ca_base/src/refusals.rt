@@ -2,7 +2,7 @@ ghost use Rattle.std.specs.Prelude.{◌≡◌, Some};
 ghost use Rattle.ca_base.specs.Spelling.{region_error_text, window_error_text, op_refusal_text};
 ghost use Rattle.ca_base.specs.declared.refusals.RegionError.TheVariants as regions;
 
-use crate::memory::Memory;
+use ca_keys::Memory;
 use std::fmt;
 
 /// Why a call on a memory region is refused.

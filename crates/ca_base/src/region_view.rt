@@ -1,5 +1,4 @@
-use crate::key::Key;
-use crate::rights::Rights;
+use ca_keys::{Key, Rights};
 
 /// What others see of a memory region: whether it is valid, its key, its rights and its range.
 #[derive(Clone, Copy)]

@@ -1,11 +1,8 @@
 ghost use Rattle.std.specs.Prelude.{Some};
 ghost use Rattle.ca_base.specs.Spelling.{piece_text};
 
-use crate::key::Key;
-use crate::lists::Pages;
-use crate::rights::Rights;
-use crate::spelling::Address;
 use arrayvec::ArrayVec;
+use ca_keys::{Address, Key, Pages, Rights};
 use std::fmt;
 
 /// One part of a request's scatter or gather list: `length` bytes from `address` on, by an L_Key.

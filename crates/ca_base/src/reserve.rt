@@ -1,4 +1,4 @@
-use crate::names::QueueId;
+use ca_keys::QueueId;
 
 /// Who reserves room in a completion queue: a queue pair for its sends, or for its receives, or a queue pair that uses a
 /// shared receive queue, by slot.

@@ -1,8 +1,7 @@
 ghost use Rattle.std.specs.Prelude.{◌≡◌};
 ghost use Rattle.ca_base.specs.declared.step.StepError.TheVariants as steps;
 
-use crate::memory::Memory;
-use crate::names::QueueId;
+use ca_keys::{Memory, QueueId};
 
 /// Why an event is not possible now.
 #[derive(Clone, Copy)]

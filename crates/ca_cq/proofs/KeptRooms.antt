@@ -4,9 +4,9 @@ use Rattle.std.proofs.lemmas.Bool.{and_parts, ltb-false, ltb-true, not-true}
 use Rattle.std.specs.List.{AllByRecursion, list_any}
 use Rattle.std.specs.Option.{option_map_or}
 use Rattle.ca_base.specs.declared.completion.Completion.{Completion}
-use Rattle.ca_base.specs.declared.names.QueueId.{QueueId}
+use Rattle.ca_keys.specs.declared.names.QueueId.{QueueId}
 use Rattle.ca_base.specs.declared.reserve.Reserve.{Reserve}
-use Rattle.ca_base.specs.Equal.{bool_eq, queue_eq}
+use Rattle.ca_keys.specs.Equal.{bool_eq, queue_eq}
 use Rattle.ca_base.specs.objects.CompletionQueue.{CompletionQueue, Reservation, after_polls, after_puts, after_release, after_reserve, is_for_sends, is_same_side, is_too_small, room_reserved, user_of, with_reservation, without_completions}
 use Rattle.ca_cq.specs.Room.{HaveRoomOf, IsReserved, count_against, counts_against, has_room_left, is_new_side, is_of_side, is_polled_side, reservation_of, share_room}
 use Rattle.ca_cq.proofs.Rooms.{all-append, all-drop, all-filter, all-map, all-of, all-zip, drop-fewer, fewer, filter-fewer, filter-rooms, nobody, none-of, one-more}

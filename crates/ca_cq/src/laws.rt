@@ -1,6 +1,6 @@
 ghost use Rattle.std.specs.Prelude.{◌≡◌, ℕ, ◌<◌, true, false, [], ◌∷◌, length};
 ghost use Rattle.ca_base.specs.declared.completion.Completion.{Completion};
-ghost use Rattle.ca_base.specs.declared.names.QueueId.{QueueId};
+ghost use Rattle.ca_keys.specs.declared.names.QueueId.{QueueId};
 ghost use Rattle.ca_base.specs.declared.reserve.Reserve.{Reserve};
 ghost use Rattle.ca_base.specs.objects.CompletionQueue.{CompletionQueue, after_polls, after_puts, after_release, after_reserve, empty_cq, is_too_small, without_completions};
 ghost use Rattle.ca_cq.specs.Room.{HaveRoomOf, IsReserved, has_room_left, is_new_side, is_polled_side};

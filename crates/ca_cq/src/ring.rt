@@ -1,6 +1,6 @@
 ghost use Rattle.std.specs.Prelude.{◌≡◌, ◌≤◌, ◌&&◌, ◌++◌, drop, filter, length, map, not, take};
 ghost use Rattle.circular_buffer.specs.Buffer.{buffer};
-ghost use Rattle.ca_base.specs.Equal.{queue_eq};
+ghost use Rattle.ca_keys.specs.Equal.{queue_eq};
 
 use arrayvec::ArrayVec;
 use ca_base::{Completion, QueueId};

@@ -7,9 +7,9 @@ use Rattle.std.proofs.lemmas.List.{map-append, get_or-take, length-take-le, leng
 use Rattle.std.proofs.lemmas.List.Sums.{sum_by-cons}
 use Rattle.std.specs.Prelude.{slice_index_or}
 use Rattle.std.specs.List.{range_with_len}
-use Rattle.ca_base.specs.declared.place.Place.{Place}
-use Rattle.ca_base.specs.declared.place.Run.{Run}
-use Rattle.ca_base.specs.Memory.{ByteMap, bytes_at, cut, is_in, memory_after, places_count, run_part, run_places, places_of}
+use Rattle.ca_keys.specs.declared.place.Place.{Place}
+use Rattle.ca_keys.specs.declared.place.Run.{Run}
+use Rattle.ca_keys.specs.Memory.{ByteMap, bytes_at, cut, is_in, memory_after, places_count, run_part, run_places, places_of}
 use Rattle.ca_grant.specs.Access.{FitInBytes, AreOfBuffer, buffer_after, memory_of_buffer}
 use Rattle.ca_memory.specs.Buffer.{memory_of, bytes_after}
 use Rattle.ca_memory.proofs.Places.{write-places}

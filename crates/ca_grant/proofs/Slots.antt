@@ -2,9 +2,9 @@
 use Rattle.std.proofs.Common.{◌≡◌, Bool, true, false, if◌then◌else◌, List, [], ◌∷◌, None, Some, refl, arith}
 use Rattle.std.proofs.lemmas.Bool.Decides.{nat_tests}
 use Rattle.std.specs.List.{AllByRecursion}
-use Rattle.ca_base.specs.declared.access.Ask.{Ask}
-use Rattle.ca_base.specs.declared.grant.Grant.{Grant}
-use Rattle.ca_base.specs.Allowed.{fits, grant_for}
+use Rattle.ca_keys.specs.declared.access.Ask.{Ask}
+use Rattle.ca_keys.specs.declared.grant.Grant.{Grant}
+use Rattle.ca_keys.specs.Allowed.{fits, grant_for}
 use Rattle.ca_grant.specs.KeySlot.{is_at_slot_of, HaveSlotsApart, grant_in_slot, list_of_grant}
 
 -- a grant in another key slot does not fit

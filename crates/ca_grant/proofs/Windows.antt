@@ -1,15 +1,15 @@
 -- The key check by what is seen of a window is that by its grant. For proofs only.
 use Rattle.std.proofs.Common.{◌≡◌, ℕ, ◌+◌, ◌-◌, ◌<◌, ◌≤◌, true, false, [], ◌∷◌, Option, None, Some, refl, ap, ◌∙◌, arith}
 use Rattle.std.proofs.lemmas.Bool.Decides.{nat_tests}
-use Rattle.ca_base.specs.declared.access.Ask.{Ask}
-use Rattle.ca_base.specs.declared.access.Kind.{Kind}
-use Rattle.ca_base.specs.declared.access.Kind.TheVariants as kinds
-use Rattle.ca_base.specs.declared.grant.Grant.{Grant}
-use Rattle.ca_base.specs.declared.rights.Rights.{Rights}
+use Rattle.ca_keys.specs.declared.access.Ask.{Ask}
+use Rattle.ca_keys.specs.declared.access.Kind.{Kind}
+use Rattle.ca_keys.specs.declared.access.Kind.TheVariants as kinds
+use Rattle.ca_keys.specs.declared.grant.Grant.{Grant}
+use Rattle.ca_keys.specs.declared.rights.Rights.{Rights}
 use Rattle.std.specs.Option.{option_map, option_map_or, option_and_then}
-use Rattle.ca_base.specs.Allowed.{suffice, fits, denial_of}
+use Rattle.ca_keys.specs.Allowed.{suffice, fits, denial_of}
 use Rattle.ca_base.specs.Grants.{remote_rights}
-use Rattle.ca_base.specs.Memory.{cut, runs_at, runs_for}
+use Rattle.ca_keys.specs.Memory.{cut, runs_at, runs_for}
 use Rattle.ca_base.specs.objects.Slices.{is_key_of}
 use Rattle.ca_base.specs.objects.Window.{Window, Binding, key_of_window, grant_of_binding}
 use Rattle.ca_grant.specs.KeySlot.{list_of_grant}

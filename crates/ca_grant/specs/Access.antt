@@ -1,8 +1,8 @@
 -- Bytes of one buffer by runs: which runs lie in it, what it holds after a write, and the memory that it makes.
 -- Contracts cite it.
 use Rattle.std.specs.Prelude.{◌≡◌, ℕ, ◌+◌, ◌≤◌, ◌==◌, ◌&&◌, if◌then◌else◌, List, [], ◌∷◌, take, drop}
-use Rattle.ca_base.specs.declared.place.Run.{Run}
-use Rattle.ca_base.specs.Memory.{ByteMap}
+use Rattle.ca_keys.specs.declared.place.Run.{Run}
+use Rattle.ca_keys.specs.Memory.{ByteMap}
 use Rattle.ca_memory.specs.Buffer.{memory_of, bytes_after}
 
 -- runs that end within so many bytes

@@ -1,8 +1,8 @@
 -- The grants for which a window and a region stand, as parts that an ask's key names. Contracts cite it.
 use Rattle.std.specs.Prelude.{◌≡◌, ◌+◌, ◌≤◌, List, Option, None, Some}
 use Rattle.std.specs.Option.{option_map, option_and_then}
-use Rattle.ca_base.specs.declared.access.Ask.{Ask}
-use Rattle.ca_base.specs.declared.grant.Grant.{Grant}
+use Rattle.ca_keys.specs.declared.access.Ask.{Ask}
+use Rattle.ca_keys.specs.declared.grant.Grant.{Grant}
 use Rattle.ca_base.specs.objects.Region.{Region, grant_of_region}
 use Rattle.ca_base.specs.objects.Window.{Window, Binding, grant_of_binding}
 use Rattle.ca_grant.specs.KeySlot.{list_of_grant}

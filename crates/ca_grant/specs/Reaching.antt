@@ -2,21 +2,21 @@
 -- seen. Contracts cite it.
 use Rattle.std.specs.Prelude.{◌≡◌, ℕ, ◌-◌, ◌%◌, ◌≤◌, ◌==◌, ◌&&◌, Bool, if◌then◌else◌, List, Option, None}
 use Rattle.std.specs.List.{AllByRecursion}
-use Rattle.ca_base.specs.declared.access.Ask.{Ask}
-use Rattle.ca_base.specs.declared.access.AtomicOp.{AtomicOp}
-use Rattle.ca_base.specs.declared.access.AtomicOp.TheVariants as operations
-use Rattle.ca_base.specs.declared.access.Kind.{Kind}
-use Rattle.ca_base.specs.declared.access.Kind.TheVariants as kinds
-use Rattle.ca_base.specs.declared.grant.Grant.{Grant}
-use Rattle.ca_base.specs.declared.key.Key.{Key}
+use Rattle.ca_keys.specs.declared.access.Ask.{Ask}
+use Rattle.ca_keys.specs.declared.access.AtomicOp.{AtomicOp}
+use Rattle.ca_keys.specs.declared.access.AtomicOp.TheVariants as operations
+use Rattle.ca_keys.specs.declared.access.Kind.{Kind}
+use Rattle.ca_keys.specs.declared.access.Kind.TheVariants as kinds
+use Rattle.ca_keys.specs.declared.grant.Grant.{Grant}
+use Rattle.ca_keys.specs.declared.key.Key.{Key}
 use Rattle.ca_base.specs.declared.limits.TheConstants.{ATOMIC_BYTES, MAX_PAYLOAD_BYTES}
-use Rattle.ca_base.specs.declared.names.QueueId.{QueueId}
+use Rattle.ca_keys.specs.declared.names.QueueId.{QueueId}
 use Rattle.ca_base.specs.declared.queue_numbers.WindowCount.{WindowCount}
-use Rattle.ca_base.specs.Equal.{key_eq}
-use Rattle.ca_base.specs.Memory.{memory_after}
-use Rattle.ca_base.specs.Numbers.{domain_of}
+use Rattle.ca_keys.specs.Equal.{key_eq}
+use Rattle.ca_keys.specs.Memory.{memory_after}
+use Rattle.ca_keys.specs.Numbers.{domain_of}
 use Rattle.ca_base.specs.Sight.{Sight, Invalidation, IsTouching, first_denied, runs_in}
-use Rattle.ca_base.specs.objects.Slices.{is_window_key}
+use Rattle.ca_keys.specs.Numbers.{is_window_key}
 
 -- a list of asks that may be handed on: the parts of their keys are at hand, and where none is denied their bytes too
 pub record AreAtHand {S : Type 0} (sight : S → Sight) (judges touches : S → Ask → Type 0) (reach : S) (asks : List Ask) : Type 0 where

@@ -1,5 +1,5 @@
 ghost use Rattle.std.specs.Prelude.{◌≡◌, IfOk, length};
-ghost use Rattle.ca_base.specs.Memory.{bytes_at, places_count};
+ghost use Rattle.ca_keys.specs.Memory.{bytes_at, places_count};
 ghost use Rattle.ca_grant.specs.Access.{FitInBytes, buffer_after};
 ghost use Rattle.ca_memory.specs.Buffer.{memory_of};
 ghost use Rattle.ca_region.specs.Span.{runs_of_span};

@@ -1,8 +1,8 @@
 ghost use Rattle.std.specs.Prelude.{◌≡◌, ◌%◌, ◌<◌, ◌≤◌, None, Some, IfErr, IfOk, IfNone, OnOk};
 ghost use Rattle.std.specs.Option.{option_copied};
-ghost use Rattle.ca_base.specs.Allowed as allowed;
-ghost use Rattle.ca_base.specs.Allowed.{denial_of};
-ghost use Rattle.ca_base.specs.Memory.{runs_for, places_count};
+ghost use Rattle.ca_keys.specs.Allowed as allowed;
+ghost use Rattle.ca_keys.specs.Allowed.{denial_of};
+ghost use Rattle.ca_keys.specs.Memory.{runs_for, places_count};
 ghost use Rattle.ca_base.specs.declared.limits.TheConstants.{ATOMIC_BYTES};
 ghost use Rattle.ca_base.specs.objects.Region.{grant_of_region};
 ghost use Rattle.ca_base.specs.objects.Slices.{is_key_of};

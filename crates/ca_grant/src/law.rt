@@ -1,9 +1,9 @@
 //! A law of the key check, over every list of grants.
 ghost use Rattle.std.specs.Prelude.{◌≡◌, ℕ, List};
-ghost use Rattle.ca_base.specs.Allowed.{denial_of, grant_for};
-ghost use Rattle.ca_base.specs.Memory.{runs_for};
-ghost use Rattle.ca_base.specs.declared.access.Ask.{Ask};
-ghost use Rattle.ca_base.specs.declared.grant.Grant.{Grant};
+ghost use Rattle.ca_keys.specs.Allowed.{denial_of, grant_for};
+ghost use Rattle.ca_keys.specs.Memory.{runs_for};
+ghost use Rattle.ca_keys.specs.declared.access.Ask.{Ask};
+ghost use Rattle.ca_keys.specs.declared.grant.Grant.{Grant};
 ghost use Rattle.ca_grant.specs.KeySlot.{HaveSlotsApart, grant_in_slot, list_of_grant};
 
 /// Where each key slot has one grant in force at most, an ask is judged by the grant of its key's slot alone, and it

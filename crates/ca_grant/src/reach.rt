@@ -1,9 +1,9 @@
 ghost use Rattle.std.specs.Prelude.{◌≡◌, ◌<◌, ℕ, List, Some, None, OnOk, OnErr, IfOk, IfErr, IsTrue, length};
-ghost use Rattle.ca_base.specs.declared.access.Ask.{Ask};
-ghost use Rattle.ca_base.specs.declared.access.Denial.{Denial};
-ghost use Rattle.ca_base.specs.Memory.{little_endian, little_endian_bytes};
+ghost use Rattle.ca_keys.specs.declared.access.Ask.{Ask};
+ghost use Rattle.ca_keys.specs.declared.access.Denial.{Denial};
+ghost use Rattle.ca_keys.specs.Memory.{little_endian, little_endian_bytes};
 ghost use Rattle.ca_base.specs.Sight.{Sight, Invalidation, denial_in, bytes_in};
-ghost use Rattle.ca_base.specs.objects.Slices.{is_window_key};
+ghost use Rattle.ca_keys.specs.Numbers.{is_window_key};
 ghost use Rattle.ca_base.specs.objects.Window.{count_without};
 ghost use Rattle.ca_grant.specs.Reaching.{IsPacketAsk, IsAtomicAsk, invalidation_by, sight_after_write, grants_without};
 ghost use Rattle.ca_memory.specs.Number.{number_after};

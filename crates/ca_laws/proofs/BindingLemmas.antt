@@ -1,9 +1,9 @@
 -- Bound windows stay counted: where one window changes, and where none does.
 use Rattle.std.proofs.Common.{◌≡◌, ◌⊎◌, inl, inr, ℕ, suc, ◌+◌, ◌≤◌, ◌<◌, arith, Bool, true, false, List, [], ◌∷◌, length, Option, None, Some, IfSome, subst, ◌∙◌, ap, sym, true≢false, if◌then◌else◌, refl}
 use Rattle.std.specs.Option.{option_map_or}
-use Rattle.ca_base.specs.declared.names.QueueId.{QueueId}
-use Rattle.ca_base.specs.declared.names.Slot.{Slot}
-use Rattle.ca_base.specs.Equal.{queue_eq, slot_eq}
+use Rattle.ca_keys.specs.declared.names.QueueId.{QueueId}
+use Rattle.ca_keys.specs.declared.names.Slot.{Slot}
+use Rattle.ca_keys.specs.Equal.{queue_eq, slot_eq}
 use Rattle.ca_base.specs.objects.QueuePair.{QueueSlot}
 use Rattle.ca_base.specs.objects.Region.{Region, grant_of_region}
 use Rattle.ca_base.specs.objects.Window.{Binding, Window}

@@ -4,13 +4,13 @@ use Rattle.std.proofs.lemmas.List.{append-nil}
 use Rattle.std.proofs.lemmas.Bool.{not-false}
 use Rattle.std.specs.Option.{option_and_then, option_map_or}
 use Rattle.ca_base.specs.declared.lot.Lot.{Lot}
-use Rattle.ca_base.specs.declared.names.QueueId.{QueueId}
+use Rattle.ca_keys.specs.declared.names.QueueId.{QueueId}
 use Rattle.ca_base.specs.declared.step.Reason.{Reason}
 use Rattle.ca_base.specs.declared.step.Reason.TheVariants as reasons
 use Rattle.ca_base.specs.declared.step.Sent.{Sent}
 use Rattle.ca_base.specs.declared.step.Sent.TheVariants.{Silent, Spelt}
 use Rattle.ca_base.specs.Configuration.{Configuration}
-use Rattle.ca_base.specs.Refusals.{AllFail, first_of}
+use Rattle.ca_keys.specs.Refusals.{AllFail, first_of}
 use Rattle.ca_base.specs.Sight.{DeniedAsk}
 use Rattle.ca_base.specs.objects.Mailbox.{Correspondent, Mailbox, after_delivery, after_send, bytes_lent, has_room}
 use Rattle.ca_base.specs.objects.QueuePair.{QueuePair, QueueSlot, NoQueue, Present}

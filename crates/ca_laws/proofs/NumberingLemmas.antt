@@ -6,7 +6,7 @@ use Rattle.std.proofs.lemmas.List.Sums.{prefix_len-le-length, sum_by-cons, sum_b
 use Rattle.std.proofs.lemmas.List.{length-map}
 use Rattle.std.specs.List.{AllByRecursion, find, prefix_len, sum_by}
 use Rattle.std.specs.Option.{option_or}
-use Rattle.ca_base.specs.declared.access.Kind.{Kind}
+use Rattle.ca_keys.specs.declared.access.Kind.{Kind}
 use Rattle.ca_base.specs.declared.limits.TheConstants.{MAX_PIECES}
 use Rattle.ca_base.specs.declared.request.Piece.{Piece}
 use Rattle.ca_base.specs.objects.QueuePair.{PostedSend, QueuePair}

@@ -7,9 +7,9 @@ use Rattle.std.specs.Option.{option_eq}
 use Rattle.ca_base.specs.declared.completion.Completion.{Completion}
 use Rattle.ca_base.specs.declared.limits.TheConstants.{KEPT_ENVELOPES, MAX_DEPTH, MAX_UNDELIVERED}
 use Rattle.ca_base.specs.declared.lot.Lot.{Lot}
-use Rattle.ca_base.specs.declared.names.QueueId.{QueueId}
+use Rattle.ca_keys.specs.declared.names.QueueId.{QueueId}
 use Rattle.ca_base.specs.declared.request.RecvRequest.{RecvRequest}
-use Rattle.ca_base.specs.declared.rights.Rights.{Rights}
+use Rattle.ca_keys.specs.declared.rights.Rights.{Rights}
 use Rattle.ca_base.specs.Grants.{next_low}
 use Rattle.ca_base.specs.objects.CompletionQueue.{CompletionQueue}
 use Rattle.ca_base.specs.objects.Domain.{Domain, with_object, without_object}

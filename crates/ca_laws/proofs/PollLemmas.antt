@@ -3,10 +3,10 @@ use Rattle.std.proofs.Common.{zero, ◌≡◌, ℕ, suc, Bool, true, false, List
 use Rattle.std.specs.List.{AllByRecursion}
 use Rattle.std.specs.Option.{option_map}
 use Rattle.ca_base.specs.declared.completion.Completion.{Completion}
-use Rattle.ca_base.specs.declared.names.QueueId.{QueueId}
-use Rattle.ca_base.specs.declared.names.Slot.{Slot}
+use Rattle.ca_keys.specs.declared.names.QueueId.{QueueId}
+use Rattle.ca_keys.specs.declared.names.Slot.{Slot}
 use Rattle.ca_base.specs.Configuration.{Configuration}
-use Rattle.ca_base.specs.Equal.{queue_eq}
+use Rattle.ca_keys.specs.Equal.{queue_eq}
 use Rattle.ca_base.specs.objects.CompletionQueue.{CompletionQueue, after_polls}
 use Rattle.ca_base.specs.objects.QueuePair.{QueuePair, QueueSlot, NoQueue, Present}
 use Rattle.ca_base.specs.objects.SharedReceives.{SharedReceives}

@@ -6,8 +6,8 @@ use Rattle.ca_base.specs.declared.change.Change as state_change
 use Rattle.ca_base.specs.declared.change.Change.TheVariants as changes
 use Rattle.ca_base.specs.declared.completion.Completion.{Completion}
 use Rattle.ca_base.specs.declared.limits.TheConstants.{MAX_MESSAGE_BYTES, MAX_PIECES, MAX_QPS}
-use Rattle.ca_base.specs.declared.names.QueueId.{QueueId}
-use Rattle.ca_base.specs.declared.names.Slot.{Slot}
+use Rattle.ca_keys.specs.declared.names.QueueId.{QueueId}
+use Rattle.ca_keys.specs.declared.names.Slot.{Slot}
 use Rattle.ca_base.specs.declared.request.RecvRequest.{RecvRequest}
 use Rattle.ca_base.specs.declared.request.SendOp.{SendOp}
 use Rattle.ca_base.specs.declared.request.SendOp.TheVariants as ops
@@ -16,15 +16,15 @@ use Rattle.ca_base.specs.declared.change.Field.TheVariants as fields
 use Rattle.ca_base.specs.declared.reserve.Reserve.{Reserve}
 use Rattle.ca_base.specs.declared.reserve.Reserve.TheVariants.{Sends}
 use Rattle.ca_base.specs.Configuration.{Configuration}
-use Rattle.ca_base.specs.Equal.{queue_eq, slot_eq}
-use Rattle.ca_base.specs.Numbers.{queue_of}
+use Rattle.ca_keys.specs.Equal.{queue_eq, slot_eq}
+use Rattle.ca_keys.specs.Numbers.{queue_of}
 use Rattle.ca_base.specs.objects.CompletionQueue.{CompletionQueue, after_puts, after_reserve, without_completions}
 use Rattle.ca_base.specs.objects.Domain.{with_object, without_object}
 use Rattle.ca_base.specs.objects.Mailbox.{with_peer, without_envelopes}
 use Rattle.ca_base.specs.objects.QueuePair.{QueuePair, QueueSlot, NoQueue, Present, in_error, incarnation_of, is_present, timers_of, recv_cq_of, send_cq_of, without_answers}
 use Rattle.ca_base.specs.objects.SharedReceives.{SharedReceives, SrqSlot, after_receive_post, after_receives_retire, is_full_of_receives}
 use Rattle.ca_base.specs.objects.Slices.{slot_of_queue}
-use Rattle.ca_base.specs.Refusals.{AllFail}
+use Rattle.ca_keys.specs.Refusals.{AllFail}
 use Rattle.ca_base.specs.declared.change.ModifyRefusal.{ModifyRefusal}
 use Rattle.ca_base.specs.objects.StateTable.{is_reset, modify_refusals, queue_after_change}
 use Rattle.ca_base.specs.objects.Window.{Window, after_draw, byte_drawn}

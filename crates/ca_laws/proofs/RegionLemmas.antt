@@ -3,12 +3,12 @@ use Rattle.std.proofs.Common.{◌≡◌, ℕ, ◌+◌, ◌-◌, ◌*◌, ◌%◌
 use Rattle.std.proofs.lemmas.Bool.{eqb-true, leb-true, leb-false, ltb-false, or_parts}
 use Rattle.std.proofs.lemmas.List.Sums.{sum_by-cons}
 use Rattle.std.specs.List.{list_any}
-use Rattle.ca_base.specs.declared.names.Slot.{Slot}
-use Rattle.ca_base.specs.declared.place.Run.{Run}
-use Rattle.ca_base.specs.declared.rights.Rights.{Rights}
+use Rattle.ca_keys.specs.declared.names.Slot.{Slot}
+use Rattle.ca_keys.specs.declared.place.Run.{Run}
+use Rattle.ca_keys.specs.declared.rights.Rights.{Rights}
 use Rattle.ca_base.specs.Configuration.{Configuration}
 use Rattle.ca_base.specs.Grants.{grant_of_fast_registration, grant_of_registration, page_run, page_runs}
-use Rattle.ca_base.specs.Memory.{cut, places_count, run_part}
+use Rattle.ca_keys.specs.Memory.{cut, places_count, run_part}
 use Rattle.ca_base.specs.objects.Region.{pages_needed, passes_end}
 use Rattle.ca_model.specs.machine.Step.{bytes_of_buffer}
 use Rattle.ca_model.specs.machine.Sound.{IsRegionGrant, LieIn}

@@ -11,8 +11,8 @@ use Rattle.ca_base.specs.declared.queue_numbers.Queued.{Queued}
 use Rattle.ca_base.specs.declared.queue_numbers.Queued.TheVariants as queued
 use Rattle.ca_base.specs.declared.step.Reason.{Reason}
 use Rattle.ca_base.specs.declared.step.Reason.TheVariants as reasons
-use Rattle.ca_base.specs.declared.verdict.Verdict.TheVariants as verdicts
-use Rattle.ca_base.specs.Refusals.{first_of}
+use Rattle.ca_keys.specs.declared.verdict.Verdict.TheVariants as verdicts
+use Rattle.ca_keys.specs.Refusals.{first_of}
 use Rattle.ca_base.specs.objects.Answers.{answers_before, duplicate_count, psn_of_answer}
 use Rattle.ca_base.specs.objects.QueuePair.{QueuePair, in_error, without_answers}
 use Rattle.ca_base.specs.objects.Saved.{saved_at}

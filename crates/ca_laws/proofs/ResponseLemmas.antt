@@ -2,8 +2,8 @@
 use Rattle.std.proofs.Common.{◌≡◌, ℕ, suc, ◌≤◌, ◌<◌, max, nat_le, nat_lt, arith, Bool, true, false, List, [], ◌∷◌, ◌++◌, length, Option, None, Some, IfSome, ◌∙◌, ◌&&◌, not, ap, true≢false, ◌==◌, if◌then◌else◌, refl, rules}
 use Rattle.std.proofs.lemmas.Bool.{and_parts, leb-true, ltb-true}
 use Rattle.std.specs.Option.{option_and_then}
-use Rattle.ca_base.specs.declared.access.Ask.{Ask}
-use Rattle.ca_base.specs.declared.access.Kind.TheVariants as kinds
+use Rattle.ca_keys.specs.declared.access.Ask.{Ask}
+use Rattle.ca_keys.specs.declared.access.Kind.TheVariants as kinds
 use Rattle.ca_base.specs.declared.completion.WcStatus.TheVariants.{BadResponse, LocalProtection, RemoteAccess, RemoteInvalidRequest, RemoteOperation, RnrRetryExceeded}
 use Rattle.ca_base.specs.declared.limits.TheConstants.{MAX_PIECES, MAX_RETRY}
 use Rattle.ca_base.specs.declared.refusals.OpRefusal.{OpRefusal}

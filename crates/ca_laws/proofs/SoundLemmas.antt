@@ -1,10 +1,10 @@
 -- The world before the first event is sound, and every event keeps a world sound.
 use Rattle.std.proofs.Common.{◌≡◌, ◌∙◌, Bool, true, false, List, [], ◌∷◌, length, subst, if◌then◌else◌, refl, arith}
-use Rattle.ca_base.specs.declared.names.QueueId.{QueueId}
-use Rattle.ca_base.specs.declared.names.Slot.{Slot}
+use Rattle.ca_keys.specs.declared.names.QueueId.{QueueId}
+use Rattle.ca_keys.specs.declared.names.Slot.{Slot}
 use Rattle.ca_base.specs.Configuration.{Configuration}
-use Rattle.ca_base.specs.Equal.{domain_eq, queue_eq, slot_eq}
-use Rattle.ca_base.specs.Memory.{ByteMap, bytes_at}
+use Rattle.ca_keys.specs.Equal.{domain_eq, queue_eq, slot_eq}
+use Rattle.ca_keys.specs.Memory.{ByteMap, bytes_at}
 use Rattle.ca_base.specs.objects.QueuePair.{QueueSlot}
 use Rattle.ca_base.specs.objects.Region.{Region}
 use Rattle.ca_base.specs.objects.Window.{Window}

@@ -1,17 +1,17 @@
 -- What a plan touches: the names that it looks at, reads, changes and writes, where each has a property.
 use Rattle.std.proofs.Common.{◌≡◌, ℕ, ◌-◌, min, nat_le, Bool, true, false, List, [], ◌∷◌, ◌++◌, map, Option, None, Some, IfSome, ◌==◌, sym, true≢false, if◌then◌else◌, refl}
 use Rattle.std.specs.List.{AllByRecursion}
-use Rattle.ca_base.specs.declared.access.Ask.{Ask}
-use Rattle.ca_base.specs.declared.grant.Grant.{Grant}
-use Rattle.ca_base.specs.declared.key.Key.{Key}
-use Rattle.ca_base.specs.declared.names.DomainId.{DomainId}
-use Rattle.ca_base.specs.declared.names.Slot.{Slot}
-use Rattle.ca_base.specs.declared.place.Place.{Place}
-use Rattle.ca_base.specs.declared.place.Run.{Run}
+use Rattle.ca_keys.specs.declared.access.Ask.{Ask}
+use Rattle.ca_keys.specs.declared.grant.Grant.{Grant}
+use Rattle.ca_keys.specs.declared.key.Key.{Key}
+use Rattle.ca_keys.specs.declared.names.DomainId.{DomainId}
+use Rattle.ca_keys.specs.declared.names.Slot.{Slot}
+use Rattle.ca_keys.specs.declared.place.Place.{Place}
+use Rattle.ca_keys.specs.declared.place.Run.{Run}
 use Rattle.ca_base.specs.declared.refusals.OpRefusal.{OpRefusal}
-use Rattle.ca_base.specs.Allowed.{fits}
+use Rattle.ca_keys.specs.Allowed.{fits}
 use Rattle.ca_base.specs.Configuration.{Configuration}
-use Rattle.ca_base.specs.Memory.{bytes_at, cut, places_of, run_part, run_places}
+use Rattle.ca_keys.specs.Memory.{bytes_at, cut, places_of, run_part, run_places}
 use Rattle.ca_base.specs.Sight.{DeniedAsk, Invalidation, runs_by_grant}
 use Rattle.ca_base.specs.objects.LocalRequest.{window_refusal}
 use Rattle.ca_base.specs.objects.Region.{Region, grant_of_region, with_window_unbound}

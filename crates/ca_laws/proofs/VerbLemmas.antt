@@ -10,16 +10,16 @@ use Rattle.ca_base.specs.declared.change.State.{State}
 use Rattle.ca_base.specs.declared.change.State.TheVariants as states
 use Rattle.ca_base.specs.declared.completion.Completion.{Completion}
 use Rattle.ca_base.specs.declared.limits.TheConstants.{MAX_DEPTH, MAX_DOMAINS, MAX_QPS, MAX_READS, MAX_RETRY, MAX_RNR_CODE}
-use Rattle.ca_base.specs.declared.names.QueueId.{QueueId}
+use Rattle.ca_keys.specs.declared.names.QueueId.{QueueId}
 use Rattle.ca_base.specs.declared.queue_numbers.Message.{Message}
 use Rattle.ca_base.specs.declared.queue_numbers.Message.TheVariants as messages
 use Rattle.ca_base.specs.declared.request.RecvRequest.{RecvRequest}
 use Rattle.ca_base.specs.declared.request.SendRequest.{SendRequest}
-use Rattle.ca_base.specs.declared.names.DomainId.{DomainId}
-use Rattle.ca_base.specs.declared.names.Slot.{Slot}
+use Rattle.ca_keys.specs.declared.names.DomainId.{DomainId}
+use Rattle.ca_keys.specs.declared.names.Slot.{Slot}
 use Rattle.ca_base.specs.Configuration.{Adapter, Configuration}
-use Rattle.ca_base.specs.Equal.{queue_eq}
-use Rattle.ca_base.specs.Refusals.{AllFail}
+use Rattle.ca_keys.specs.Equal.{queue_eq}
+use Rattle.ca_keys.specs.Refusals.{AllFail}
 use Rattle.ca_base.specs.objects.QueuePair.{PostedSend, QueuePair, after_reset, in_error, psn_base, queue_at_start, requester_at_start, responder_at_start, with_all_flushed}
 use Rattle.ca_base.specs.objects.Slices.{adapter_at, has_domain, has_queue, has_slot, slot_of_queue}
 use Rattle.ca_base.specs.objects.StateTable.{is_among, is_path_mtu, modify_refusals, queue_after_change, state_eq}

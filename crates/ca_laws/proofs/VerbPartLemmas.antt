@@ -7,17 +7,17 @@ use Rattle.ca_base.specs.declared.change.Change.TheVariants as changes
 use Rattle.ca_base.specs.declared.change.Field.TheVariants as fields
 use Rattle.ca_base.specs.declared.completion.Completion.{Completion}
 use Rattle.ca_base.specs.declared.limits.TheConstants.{MAX_MESSAGE_BYTES, MAX_POLLED}
-use Rattle.ca_base.specs.declared.names.DomainId.{DomainId}
-use Rattle.ca_base.specs.declared.names.QueueId.{QueueId}
-use Rattle.ca_base.specs.declared.names.Slot.{Slot}
-use Rattle.ca_base.specs.declared.place.Run.{Run}
+use Rattle.ca_keys.specs.declared.names.DomainId.{DomainId}
+use Rattle.ca_keys.specs.declared.names.QueueId.{QueueId}
+use Rattle.ca_keys.specs.declared.names.Slot.{Slot}
+use Rattle.ca_keys.specs.declared.place.Run.{Run}
 use Rattle.ca_base.specs.declared.request.RecvRequest.{RecvRequest}
 use Rattle.ca_base.specs.declared.request.SendOp.{SendOp}
 use Rattle.ca_base.specs.declared.request.SendOp.TheVariants as ops
 use Rattle.ca_base.specs.declared.request.SendRequest.{SendRequest}
-use Rattle.ca_base.specs.declared.rights.Rights.{Rights}
+use Rattle.ca_keys.specs.declared.rights.Rights.{Rights}
 use Rattle.ca_base.specs.Configuration.{Configuration}
-use Rattle.ca_base.specs.Numbers.{queue_of}
+use Rattle.ca_keys.specs.Numbers.{queue_of}
 use Rattle.ca_base.specs.objects.CompletionQueue.{CompletionQueue, after_polls, after_reserve}
 use Rattle.ca_base.specs.objects.Domain.{with_object, without_object}
 use Rattle.ca_base.specs.objects.Mailbox.{with_peer}

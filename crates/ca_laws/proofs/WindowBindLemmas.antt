@@ -2,18 +2,19 @@
 use Rattle.std.proofs.Common.{◌≡◌, ℕ, suc, ◌+◌, ◌-◌, ◌/◌, ◌≤◌, nat_le, arith, Bool, true, false, [], ◌∷◌, Option, None, Some, IfSome, subst, ◌∙◌, ◌&&◌, not, ap, sym, true≢false, if◌then◌else◌, is_none, refl}
 use Rattle.std.proofs.lemmas.Bool.{and_parts, eqb-true, leb-true}
 use Rattle.std.specs.Option.{option_map, option_map_or}
-use Rattle.ca_base.specs.declared.grant.Grant.{Grant}
-use Rattle.ca_base.specs.declared.key.Key.{Key}
-use Rattle.ca_base.specs.declared.names.DomainId.{DomainId}
-use Rattle.ca_base.specs.declared.names.QueueId.{QueueId}
-use Rattle.ca_base.specs.declared.names.Slot.{Slot}
+use Rattle.ca_keys.specs.declared.grant.Grant.{Grant}
+use Rattle.ca_keys.specs.declared.key.Key.{Key}
+use Rattle.ca_keys.specs.declared.names.DomainId.{DomainId}
+use Rattle.ca_keys.specs.declared.names.QueueId.{QueueId}
+use Rattle.ca_keys.specs.declared.names.Slot.{Slot}
 use Rattle.ca_base.specs.Configuration.{Configuration}
-use Rattle.ca_base.specs.Equal.{queue_eq, slot_eq}
-use Rattle.ca_base.specs.Numbers.{index_of}
+use Rattle.ca_keys.specs.Equal.{queue_eq, slot_eq}
+use Rattle.ca_keys.specs.Numbers.{index_of}
 use Rattle.ca_base.specs.objects.LocalRequest.{view_by_key}
 use Rattle.ca_base.specs.objects.QueuePair.{QueuePair, Present}
 use Rattle.ca_base.specs.objects.Region.{Region, grant_of_region, has_other_key, view_of_grant, with_window_bound, with_window_unbound}
-use Rattle.ca_base.specs.objects.Slices.{has_slot, is_key_of, is_window_key, names_region, slot_of_key}
+use Rattle.ca_keys.specs.Numbers.{is_window_key}
+use Rattle.ca_base.specs.objects.Slices.{has_slot, is_key_of, names_region, slot_of_key}
 use Rattle.ca_base.specs.objects.Window.{Binding, Window, is_within}
 use Rattle.ca_model.specs.Past.{with_at}
 use Rattle.ca_model.specs.machine.LocalOperations.{PlacedRegion, view_named}

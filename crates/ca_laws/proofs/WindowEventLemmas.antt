@@ -4,7 +4,7 @@ use Rattle.ca_base.specs.objects.WorkQueue.{after_retire}
 use Rattle.std.proofs.Common.{◌≡◌, ℕ, Bool, true, false, List, [], ◌∷◌, ◌++◌, Option, None, Some, IfSome, subst, ◌∙◌, ◌&&◌, not, if◌then◌else◌, refl, suc, ◌+◌, ◌-◌, ◌≤◌, nat_lt, arith, ◌==◌, true≢false, is_none, take, ap, sym, ◌⊎◌, inl, inr, length}
 use Rattle.std.proofs.lemmas.Bool.{not-false, ltb-false}
 use Rattle.std.specs.Option.{option_and_then, option_map_or, option_map}
-use Rattle.ca_base.specs.declared.names.QueueId.{QueueId}
+use Rattle.ca_keys.specs.declared.names.QueueId.{QueueId}
 use Rattle.ca_base.specs.Configuration.{Configuration}
 use Rattle.ca_base.specs.objects.Mailbox.{with_peer}
 use Rattle.ca_base.specs.objects.QueuePair.{QueuePair, QueueSlot, NoQueue, Present, is_present, recv_cq_of, send_cq_of, srq_of, with_all_flushed}
@@ -22,14 +22,14 @@ use Rattle.ca_base.specs.declared.change.Change as state_change
 use Rattle.ca_base.specs.declared.change.Change.TheVariants as changes
 use Rattle.ca_base.specs.declared.completion.Completion.{Completion}
 use Rattle.ca_base.specs.declared.limits.TheConstants.{MAX_MESSAGE_BYTES}
-use Rattle.ca_base.specs.declared.names.Slot.{Slot}
+use Rattle.ca_keys.specs.declared.names.Slot.{Slot}
 use Rattle.ca_base.specs.declared.request.RecvRequest.{RecvRequest}
 use Rattle.ca_base.specs.declared.request.SendOp.{SendOp}
 use Rattle.ca_base.specs.declared.request.SendOp.TheVariants as ops
 use Rattle.ca_base.specs.declared.request.SendRequest.{SendRequest}
 use Rattle.ca_base.specs.declared.change.Field.TheVariants as fields
-use Rattle.ca_base.specs.Equal.{queue_eq, slot_eq}
-use Rattle.ca_base.specs.Numbers.{queue_of}
+use Rattle.ca_keys.specs.Equal.{queue_eq, slot_eq}
+use Rattle.ca_keys.specs.Numbers.{queue_of}
 use Rattle.ca_base.specs.objects.CompletionQueue.{CompletionQueue, after_puts, after_reserve, after_polls}
 use Rattle.ca_base.specs.objects.Domain.{with_object, without_object}
 use Rattle.ca_base.specs.objects.StateTable.{modify_refusals, queue_after_change, state_eq}
@@ -46,13 +46,13 @@ use Rattle.ca_model.specs.machine.QueuePairVerbs
 use Rattle.ca_model.specs.machine.QueuePairVerbs.{Creation, With_present, With_shared, before_receives, beside, create_qp_plan, destroy_qp_plan, emptied_updates, has_bad_depth, has_no_room, left_updates, modify_qp_plan, new_queue, places_held, receive_reserve, receive_room, send_reserved, user_updates, without_queue}
 use Rattle.ca_model.specs.machine.VerbAnswers.{Answer_plan, Call, Refuse_plan, Unless_plan, of_change_refusals}
 use Rattle.ca_laws.proofs.EngineLemmas.{ends-unless}
-use Rattle.ca_base.specs.declared.place.Run.{Run}
-use Rattle.ca_base.specs.declared.rights.Rights.{Rights}
+use Rattle.ca_keys.specs.declared.place.Run.{Run}
+use Rattle.ca_keys.specs.declared.rights.Rights.{Rights}
 use Rattle.ca_base.specs.objects.Region.{with_window_unbound, Region, grant_of_region, is_vacant_region, RegionState, NoRegion, Free, Registered, FastRegistered, has_no_region, grant_in_state}
 use Rattle.ca_model.specs.machine.RegionVerbs.{alloc_mr_plan, dereg_mr_plan, reg_mr_plan}
 use Rattle.ca_model.specs.machine.Step.{bytes_of_buffer, plan, run_of, step, verb_plan}
 use Rattle.ca_model.specs.machine.WindowVerbs.{With_binder, alloc_mw_plan, dealloc_mw_plan, queue_updates}
-use Rattle.ca_base.specs.Memory.{ByteMap, bytes_at}
+use Rattle.ca_keys.specs.Memory.{ByteMap, bytes_at}
 use Rattle.ca_model.specs.declared.event.Event.{Event}
 use Rattle.ca_model.specs.declared.event.Event.TheVariants as events
 use Rattle.ca_model.specs.declared.verb.Verb.{Verb}

@@ -23,8 +23,8 @@ use Rattle.ca_model.specs.machine.Numbering.{Numbered, begun_requests, request_a
 use Rattle.ca_model.specs.machine.Requester.{local_denial, denied_list_effects, is_outstanding, is_too_much, packet_asks, packet_row, sent_packet}
 use Rattle.ca_model.specs.machine.Responses.{acknowledge_row, answer_row, drop_effects, fits_request, fitting_row, is_outstanding_at, local_writes, nak_effects, outstanding_row, response_psn, response_row, rnr_nak_effects, unless_back, writes_by}
 use Rattle.ca_model.specs.machine.Row.{NotPossible, Does, Effects, Row, plain_row, queue_and_marks, Ending}
-use Rattle.ca_base.specs.declared.access.Kind.{Kind}
-use Rattle.ca_base.specs.declared.key.Key.{Key}
+use Rattle.ca_keys.specs.declared.access.Kind.{Kind}
+use Rattle.ca_keys.specs.declared.key.Key.{Key}
 use Rattle.ca_base.specs.declared.queue_numbers.Queued.{Queued}
 use Rattle.ca_base.specs.declared.queue_numbers.Queued.TheVariants as queued
 use Rattle.ca_base.specs.objects.Saved.{saved_at}
@@ -41,7 +41,7 @@ use Rattle.ca_model.specs.machine.Expected.{Receiving, WriteReach, after_send_pa
 use Rattle.ca_model.specs.machine.Shapes.{Shape, SendAt, WriteAt, ReadRequest, Atomic, shape_of}
 use Rattle.ca_base.specs.declared.step.Reason.{Reason}
 use Rattle.ca_base.specs.declared.step.Reason.TheVariants as reasons
-use Rattle.ca_base.specs.Refusals.{first_of}
+use Rattle.ca_keys.specs.Refusals.{first_of}
 use Rattle.ca_wire.specs.declared.wire_error.WireError.{WireError}
 use Rattle.ca_wire.specs.Decoding.{packet_in}
 use Rattle.ca_model.specs.machine.Delivery.{arrival_drops, arrival_row, packet_arrived}
@@ -53,7 +53,7 @@ use Rattle.ca_base.specs.declared.queue_numbers.Message.TheVariants as messages
 use Rattle.ca_wire.specs.Segment.{ends}
 use Rattle.ca_model.specs.machine.Completions.{receive_mark}
 use Rattle.ca_base.specs.Sight.{Invalidation}
-use Rattle.ca_base.specs.objects.Slices.{is_window_key}
+use Rattle.ca_keys.specs.Numbers.{is_window_key}
 use Rattle.ca_model.specs.machine.Expected.{with_window_gone}
 use Rattle.ca_model.specs.machine.LocalOperations.{invalidate_row}
 use Rattle.ca_laws.proofs.WorldLemmas.{EndingDoes}

@@ -2,20 +2,21 @@
 use Rattle.std.proofs.Common.{◌≡◌, ◌⊎◌, inl, inr, ℕ, ◌+◌, ◌-◌, ◌≤◌, arith, Bool, true, false, List, [], ◌∷◌, ◌++◌, Option, None, Some, IfSome, subst, ◌∙◌, ◌&&◌, not, ap, sym, true≢false, if◌then◌else◌, is_none, refl}
 use Rattle.std.proofs.lemmas.Bool.{and_parts, ltb-false, not-false, not-true}
 use Rattle.std.specs.Option.{option_map, option_map_or}
-use Rattle.ca_base.specs.declared.grant.Grant.{Grant}
-use Rattle.ca_base.specs.declared.key.Key.{Key}
-use Rattle.ca_base.specs.declared.names.QueueId.{QueueId}
-use Rattle.ca_base.specs.declared.names.Slot.{Slot}
+use Rattle.ca_keys.specs.declared.grant.Grant.{Grant}
+use Rattle.ca_keys.specs.declared.key.Key.{Key}
+use Rattle.ca_keys.specs.declared.names.QueueId.{QueueId}
+use Rattle.ca_keys.specs.declared.names.Slot.{Slot}
 use Rattle.ca_base.specs.declared.refusals.OpRefusal.{OpRefusal}
 use Rattle.ca_base.specs.Configuration.{Configuration}
-use Rattle.ca_base.specs.Equal.{queue_eq, slot_eq}
-use Rattle.ca_base.specs.Refusals.{AllFail}
+use Rattle.ca_keys.specs.Equal.{queue_eq, slot_eq}
+use Rattle.ca_keys.specs.Refusals.{AllFail}
 use Rattle.ca_base.specs.Sight.{DeniedAsk, Invalidation}
 use Rattle.ca_base.specs.objects.LocalRequest.{of_region, of_window, region_refusal, window_refusal}
 use Rattle.ca_base.specs.objects.QueuePair.{QueuePair, QueueSlot, Present, srq_of}
 use Rattle.ca_base.specs.objects.Region.{Region, after_region_invalidation, grant_of_region, region_invalidation_refusals, with_window_unbound}
 use Rattle.ca_base.specs.objects.SharedReceives.{SrqSlot, after_receive_take}
-use Rattle.ca_base.specs.objects.Slices.{has_slot, is_key_of, is_window_key, names_region, names_window, slot_of_key}
+use Rattle.ca_keys.specs.Numbers.{is_window_key}
+use Rattle.ca_base.specs.objects.Slices.{has_slot, is_key_of, names_region, names_window, slot_of_key}
 use Rattle.ca_base.specs.objects.Window.{Binding, Window, is_of_other_queue, window_invalidation_refusals, without_binding}
 use Rattle.ca_model.specs.Past.{with_at}
 use Rattle.ca_model.specs.machine.Around.{Around, srq_updates, updates_of, cq_updates}

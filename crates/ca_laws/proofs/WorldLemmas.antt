@@ -1,14 +1,14 @@
 -- How plans end in a sound world: what they look at is sound, and what they change stays so.
 use Rattle.std.proofs.Common.{◌≡◌, ℕ, arith, Bool, true, false, List, [], ◌∷◌, ◌++◌, Option, None, Some, IfSome, subst, ◌∙◌, ap, sym, if◌then◌else◌, refl, rules}
 use Rattle.std.specs.Option.{option_map}
-use Rattle.ca_base.specs.declared.access.Ask.{Ask}
-use Rattle.ca_base.specs.declared.grant.Grant.{Grant}
-use Rattle.ca_base.specs.declared.names.QueueId.{QueueId}
-use Rattle.ca_base.specs.declared.names.Slot.{Slot}
+use Rattle.ca_keys.specs.declared.access.Ask.{Ask}
+use Rattle.ca_keys.specs.declared.grant.Grant.{Grant}
+use Rattle.ca_keys.specs.declared.names.QueueId.{QueueId}
+use Rattle.ca_keys.specs.declared.names.Slot.{Slot}
 use Rattle.ca_base.specs.declared.refusals.OpRefusal.{OpRefusal}
 use Rattle.ca_base.specs.declared.step.Reason.{Reason}
 use Rattle.ca_base.specs.Configuration.{Configuration}
-use Rattle.ca_base.specs.Memory.{bytes_at}
+use Rattle.ca_keys.specs.Memory.{bytes_at}
 use Rattle.ca_base.specs.Sight.{DeniedAsk, Invalidation, runs_by_grant}
 use Rattle.ca_base.specs.objects.CompletionQueue.{CompletionQueue, after_puts}
 use Rattle.ca_base.specs.objects.QueuePair.{QueuePair, QueueSlot, NoQueue, Present, recv_cq_of, send_cq_of, srq_of}
@@ -17,7 +17,7 @@ use Rattle.ca_base.specs.objects.SharedReceives.{SharedReceives, SrqSlot, after_
 use Rattle.ca_base.specs.objects.Slices.{slot_of_key, slot_of_queue}
 use Rattle.ca_base.specs.objects.LocalRequest.{window_refusal}
 use Rattle.ca_base.specs.objects.Window.{Binding, without_binding}
-use Rattle.ca_base.specs.Equal.{queue_eq, slot_eq}
+use Rattle.ca_keys.specs.Equal.{queue_eq, slot_eq}
 use Rattle.ca_model.specs.Past.{with_at}
 use Rattle.ca_model.specs.machine.Around.{Around, With_around, With_queue, completions_to, cq_updates, srq_updates, updates_of}
 use Rattle.ca_model.specs.machine.Plan.{Plan, Stuck, Look, Read, If, Finish, Update, ◌:=◌, Write, put_all}

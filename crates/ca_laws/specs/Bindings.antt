@@ -1,10 +1,10 @@
 -- Bound windows: each lies in a region that is valid, and is counted by its region and by its queue pair. Laws cite it.
 use Rattle.std.specs.Prelude.{◌≡◌, ◌⊎◌, ℕ, ◌+◌, ◌≤◌, ◌<◌, Bool, true, false, List, [], ◌∷◌, length, Option, None, Some, IfSome}
 use Rattle.std.specs.Option.{option_map_or}
-use Rattle.ca_base.specs.declared.grant.Grant.{Grant}
-use Rattle.ca_base.specs.declared.names.QueueId.{QueueId}
-use Rattle.ca_base.specs.declared.names.Slot.{Slot}
-use Rattle.ca_base.specs.Equal.{queue_eq, slot_eq}
+use Rattle.ca_keys.specs.declared.grant.Grant.{Grant}
+use Rattle.ca_keys.specs.declared.names.QueueId.{QueueId}
+use Rattle.ca_keys.specs.declared.names.Slot.{Slot}
+use Rattle.ca_keys.specs.Equal.{queue_eq, slot_eq}
 use Rattle.ca_base.specs.objects.QueuePair.{QueueSlot, NoQueue, Present}
 use Rattle.ca_base.specs.objects.Region.{Region, grant_of_region}
 use Rattle.ca_base.specs.objects.Window.{Binding, Window}

@@ -1,8 +1,8 @@
 ghost use Rattle.std.specs.Prelude.{◌≡◌, ◌≤◌, List, Some, length};
 ghost use Rattle.std.specs.List.{AllByRecursion};
 ghost use Rattle.ca_base.specs.Configuration.{Configuration};
-ghost use Rattle.ca_base.specs.Memory.{ByteMap};
-ghost use Rattle.ca_base.specs.declared.names.Slot.{Slot};
+ghost use Rattle.ca_keys.specs.Memory.{ByteMap};
+ghost use Rattle.ca_keys.specs.declared.names.Slot.{Slot};
 ghost use Rattle.ca_base.specs.objects.Window.{Binding};
 ghost use Rattle.ca_laws.specs.Bindings.{IsBoundWorld, IsCounted};
 ghost use Rattle.ca_model.specs.declared.event.Event.{Event};

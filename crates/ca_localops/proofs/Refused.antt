@@ -5,7 +5,7 @@ use Rattle.ca_base.specs.declared.refusals.OpRefusal.TheVariants as refusals
 use Rattle.ca_base.specs.declared.refusals.RegionError.{RegionError}
 use Rattle.ca_base.specs.declared.refusals.RegionError.TheVariants as regions
 use Rattle.ca_base.specs.declared.refusals.WindowError.{WindowError}
-use Rattle.ca_base.specs.Refusals.{first_of}
+use Rattle.ca_keys.specs.Refusals.{first_of}
 use Rattle.ca_base.specs.objects.LocalRequest.{of_region, of_window}
 use Rattle.ca_localops.specs.Errors.{FailsBy, error_of_region}
 use Rattle.ca_region.specs.Region.{RefusesBy}

@@ -1,9 +1,9 @@
 -- A bind over parts: what refuses it, what it revokes and grants, and what it leaves. Contracts cite it.
 use Rattle.std.specs.Prelude.{◌≡◌, ℕ, suc, ◌<◌, ◌==◌, ◌&&◌, not, Bool, true, if◌then◌else◌, List, Option, None, Some, is_none, IsSomeAnd}
 use Rattle.std.specs.Option.{option_map, option_map_or, option_and_then}
-use Rattle.ca_base.specs.declared.grant.Grant.{Grant}
-use Rattle.ca_base.specs.declared.key.Key.{Key}
-use Rattle.ca_base.specs.declared.names.QueueId.{QueueId}
+use Rattle.ca_keys.specs.declared.grant.Grant.{Grant}
+use Rattle.ca_keys.specs.declared.key.Key.{Key}
+use Rattle.ca_keys.specs.declared.names.QueueId.{QueueId}
 use Rattle.ca_base.specs.declared.queue_numbers.WindowCount.{WindowCount}
 use Rattle.ca_base.specs.declared.refusals.OpRefusal.{OpRefusal}
 use Rattle.ca_base.specs.declared.region_view.RegionView.{RegionView}

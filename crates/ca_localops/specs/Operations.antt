@@ -1,10 +1,10 @@
 -- Local operations over parts: what refuses each, and what it leaves. Contracts cite it.
 use Rattle.std.specs.Prelude.{◌≡◌, ℕ, ◌-◌, ◌<◌, Bool, if◌then◌else◌, List, [], Option, None, Some, IsTrue, IsSomeAnd}
 use Rattle.std.specs.Option.{option_map_or}
-use Rattle.ca_base.specs.declared.grant.Grant.{Grant}
-use Rattle.ca_base.specs.declared.key.Key.{Key}
-use Rattle.ca_base.specs.declared.names.QueueId.{QueueId}
-use Rattle.ca_base.specs.declared.names.Slot.{Slot}
+use Rattle.ca_keys.specs.declared.grant.Grant.{Grant}
+use Rattle.ca_keys.specs.declared.key.Key.{Key}
+use Rattle.ca_keys.specs.declared.names.QueueId.{QueueId}
+use Rattle.ca_keys.specs.declared.names.Slot.{Slot}
 use Rattle.ca_base.specs.declared.queue_numbers.WindowCount.{WindowCount}
 use Rattle.ca_base.specs.declared.refusals.OpRefusal.{OpRefusal}
 use Rattle.ca_base.specs.declared.request.SendOp.{SendOp}
@@ -12,7 +12,7 @@ use Rattle.ca_base.specs.declared.request.SendOp.TheVariants as ops
 use Rattle.ca_base.specs.Grants.{grant_of_fast_registration}
 use Rattle.ca_base.specs.objects.LocalRequest.{fast_request_refusals, region_refusal, window_refusal, unnamed_refusal}
 use Rattle.ca_base.specs.objects.Region.{Region, after_fast_registration, after_region_invalidation, with_window_unbound}
-use Rattle.ca_base.specs.objects.Slices.{is_window_key}
+use Rattle.ca_keys.specs.Numbers.{is_window_key}
 use Rattle.ca_base.specs.objects.Window.{Window, without_binding}
 
 -- why the invalidation of a key is refused: by the window that a window's key names, or by the region that a region's

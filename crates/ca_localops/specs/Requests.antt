@@ -1,6 +1,6 @@
 -- What a bind asks for. Contracts cite it.
 use Rattle.std.specs.Prelude.{ℕ, Option, None}
-use Rattle.ca_base.specs.declared.names.QueueId.{QueueId}
+use Rattle.ca_keys.specs.declared.names.QueueId.{QueueId}
 use Rattle.ca_base.specs.declared.request.SendOp.{SendOp}
 use Rattle.ca_base.specs.declared.request.SendOp.TheVariants as ops
 use Rattle.ca_base.specs.objects.Region.{no_rights}

@@ -1,6 +1,6 @@
 ghost use Rattle.std.specs.Prelude.{◌≡◌, ◌<◌, None, Some, IfErr, IfOk, IfSome, OnOk, OnErr, is_none, not, false};
 ghost use Rattle.std.specs.Option.{option_copied_mut, option_map, option_and_then};
-ghost use Rattle.ca_base.specs.Refusals.{first_of};
+ghost use Rattle.ca_keys.specs.Refusals.{first_of};
 ghost use Rattle.ca_base.specs.objects.Region.{grant_of_region, with_window_unbound};
 ghost use Rattle.ca_localops.specs.Binds as binds;
 ghost use Rattle.ca_localops.specs.Errors.{FailsBy};

@@ -1,5 +1,5 @@
 ghost use Rattle.std.specs.Prelude.{◌≡◌, None, IfErr, IfOk, OnOk, OnErr};
-ghost use Rattle.ca_base.specs.Refusals.{first_of};
+ghost use Rattle.ca_keys.specs.Refusals.{first_of};
 ghost use Rattle.ca_localops.specs.Errors.{FailsBy};
 ghost use Rattle.ca_localops.specs.Operations.{IsFastRegistration, fast_refusals, grant_of_fast, region_after_fast};
 

@@ -1,10 +1,10 @@
 -- What a plan depends on and what it leaves: by induction on the plan, with no event named.
 use Rattle.std.proofs.Common.{◌≡◌, ℕ, suc, ◌-◌, ◌⊎◌, inl, inr, Bool, true, false, List, [], ◌∷◌, ◌++◌, map, drop, slice_index_or, if◌then◌else◌, Err, refl, ap, ap₂, subst}
-use Rattle.ca_base.specs.declared.place.Place.{Place}
-use Rattle.ca_base.specs.declared.place.Run.{Run}
+use Rattle.ca_keys.specs.declared.place.Place.{Place}
+use Rattle.ca_keys.specs.declared.place.Run.{Run}
 use Rattle.ca_base.specs.Configuration.{Configuration}
-use Rattle.ca_base.specs.Equal.{domain_eq, place_eq, queue_eq, slot_eq}
-use Rattle.ca_base.specs.Memory.{ByteMap, bytes_at, is_in, memory_after, places_of}
+use Rattle.ca_keys.specs.Equal.{domain_eq, place_eq, queue_eq, slot_eq}
+use Rattle.ca_keys.specs.Memory.{ByteMap, bytes_at, is_in, memory_after, places_of}
 use Rattle.ca_model.specs.declared.event.Event.{Event}
 use Rattle.ca_model.specs.machine.Frame.{AllPass, Afterwards, SameAt, SameOutcome, SameWhere, TouchesPass}
 use Rattle.ca_model.specs.machine.Plan.{Update, Did, Finish, If, Look, NotReady, Outcome, Plan, Read, Stuck, Write, byte_names, perform, put_all, touches, write_all}

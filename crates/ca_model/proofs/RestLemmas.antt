@@ -2,11 +2,11 @@
 use Rattle.std.proofs.Common.{◌≡◌, ℕ, zero, suc, ◌+◌, ◌-◌, ◌<◌, ◌≤◌, ◌==◌, ◌&&◌, ◌⊎◌, inl, inr, Bool, true, false, List, [], ◌∷◌, ◌++◌, map, drop, slice_index_or, if◌then◌else◌, refl, sym, ◌∙◌, eq-or-lt_of_le, true≢false, not-le_of_lt, arith, nat_le, nat_lt}
 use Rattle.std.proofs.lemmas.Bool.{and_from, and_parts, false_from_ne_true, eqb-true, eq-eqb, leb-true, ltb-true}
 use Rattle.std.specs.List.{range_with_len}
-use Rattle.ca_base.specs.declared.place.Place.{Place}
-use Rattle.ca_base.specs.declared.place.Run.{Run}
+use Rattle.ca_keys.specs.declared.place.Place.{Place}
+use Rattle.ca_keys.specs.declared.place.Run.{Run}
 use Rattle.ca_base.specs.Configuration.{Configuration}
-use Rattle.ca_base.specs.Equal.{domain_eq, place_eq, queue_eq, slot_eq}
-use Rattle.ca_base.specs.Memory.{ByteMap, bytes_at, is_in, memory_after, places_of, run_places}
+use Rattle.ca_keys.specs.Equal.{domain_eq, place_eq, queue_eq, slot_eq}
+use Rattle.ca_keys.specs.Memory.{ByteMap, bytes_at, is_in, memory_after, places_of, run_places}
 use Rattle.ca_model.specs.declared.event.Event.{Event}
 use Rattle.ca_model.specs.machine.Frame.{IsNoneOf, LeavesRest, name_eq}
 use Rattle.ca_model.specs.machine.Plan.{Update, Did, Finish, If, Look, NotReady, Outcome, Plan, Read, Stuck, Write, byte_names, names_updated, names_written, perform, put_all, touches, write_all}

@@ -2,7 +2,7 @@
 use Rattle.std.specs.Prelude.{ℕ, List, ◌++◌, codes, Result, Ok, Err}
 use Rattle.ca_base.specs.declared.change.ModifyRefusal.{ModifyRefusal}
 use Rattle.ca_base.specs.declared.change.ModifyRefusal.TheVariants as changes
-use Rattle.ca_base.specs.declared.memory.Memory.{Memory}
+use Rattle.ca_keys.specs.declared.memory.Memory.{Memory}
 use Rattle.ca_base.specs.declared.refusals.RegionError.{RegionError}
 use Rattle.ca_base.specs.declared.refusals.RegionError.TheVariants as regions
 use Rattle.ca_base.specs.Spelling.{field_text}

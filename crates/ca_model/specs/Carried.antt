@@ -3,16 +3,16 @@ use Rattle.std.specs.Prelude.{ℕ, ◌+◌, ◌-◌, ◌%◌, ◌^◌, Bool, tru
 use Rattle.std.specs.List.{list_any}
 use Rattle.std.specs.Option.{option_map_or, option_eq}
 use Rattle.std.specs.Str.{bytes_eq}
-use Rattle.ca_base.specs.declared.access.Ask.{Ask}
-use Rattle.ca_base.specs.declared.access.Kind.{Kind}
-use Rattle.ca_base.specs.declared.access.Kind.TheVariants as kinds
+use Rattle.ca_keys.specs.declared.access.Ask.{Ask}
+use Rattle.ca_keys.specs.declared.access.Kind.{Kind}
+use Rattle.ca_keys.specs.declared.access.Kind.TheVariants as kinds
 use Rattle.ca_base.specs.declared.completion.Completion.{Completion}
 use Rattle.ca_base.specs.declared.limits.TheConstants.{KEPT_ENVELOPES}
-use Rattle.ca_base.specs.declared.names.QueueId.{QueueId}
-use Rattle.ca_base.specs.declared.verdict.Verdict.{Verdict}
-use Rattle.ca_base.specs.declared.verdict.Verdict.TheVariants as verdicts
-use Rattle.ca_base.specs.Equal.{key_eq, queue_eq}
-use Rattle.ca_base.specs.Memory.{ByteMap}
+use Rattle.ca_keys.specs.declared.names.QueueId.{QueueId}
+use Rattle.ca_keys.specs.declared.verdict.Verdict.{Verdict}
+use Rattle.ca_keys.specs.declared.verdict.Verdict.TheVariants as verdicts
+use Rattle.ca_keys.specs.Equal.{key_eq, queue_eq}
+use Rattle.ca_keys.specs.Memory.{ByteMap}
 use Rattle.ca_wire.specs.declared.reth.Reth.{Reth}
 use Rattle.ca_wire.specs.Packet.{Fields, spelling}
 use Rattle.ca_model.specs.declared.event.Event.{Event}

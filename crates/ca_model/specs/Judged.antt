@@ -2,17 +2,17 @@
 use Rattle.std.specs.Prelude.{ℕ, ◌+◌, ◌/◌, ◌%◌, nat_le, nat_lt, Bool, true, false, ◌&&◌, ◌||◌, ◌==◌, List, [], ◌∷◌, length, Option, None, Some, is_none, IsTrue}
 use Rattle.std.specs.Option.{option_eq, option_map_or}
 use Rattle.std.specs.Str.{bytes_eq}
-use Rattle.ca_base.specs.declared.access.Ask.{Ask}
-use Rattle.ca_base.specs.declared.access.Kind.{Kind}
-use Rattle.ca_base.specs.declared.access.Kind.TheVariants as kinds
+use Rattle.ca_keys.specs.declared.access.Ask.{Ask}
+use Rattle.ca_keys.specs.declared.access.Kind.{Kind}
+use Rattle.ca_keys.specs.declared.access.Kind.TheVariants as kinds
 use Rattle.ca_base.specs.declared.limits.TheConstants.{ATOMIC_BYTES}
-use Rattle.ca_base.specs.declared.names.DomainId.{DomainId}
-use Rattle.ca_base.specs.declared.names.QueueId.{QueueId}
-use Rattle.ca_base.specs.declared.verdict.Verdict.{Verdict}
-use Rattle.ca_base.specs.declared.verdict.Verdict.TheVariants as verdicts
-use Rattle.ca_base.specs.Allowed.{denial_of}
-use Rattle.ca_base.specs.Equal.{kind_eq, denial_eq}
-use Rattle.ca_base.specs.Memory.{ByteMap, places_count, runs_for, bytes_at, little_endian}
+use Rattle.ca_keys.specs.declared.names.DomainId.{DomainId}
+use Rattle.ca_keys.specs.declared.names.QueueId.{QueueId}
+use Rattle.ca_keys.specs.declared.verdict.Verdict.{Verdict}
+use Rattle.ca_keys.specs.declared.verdict.Verdict.TheVariants as verdicts
+use Rattle.ca_keys.specs.Allowed.{denial_of}
+use Rattle.ca_keys.specs.Equal.{kind_eq, denial_eq}
+use Rattle.ca_keys.specs.Memory.{ByteMap, places_count, runs_for, bytes_at, little_endian}
 use Rattle.ca_wire.specs.Packet.{Fields}
 use Rattle.ca_model.specs.declared.answer.Answer.{Answer}
 use Rattle.ca_model.specs.declared.answer.Answer.TheVariants as answers

@@ -1,7 +1,7 @@
 -- InForce, Contents and the relations on a history together. Contracts cite it.
 use Rattle.std.specs.Prelude.{List}
-use Rattle.ca_base.specs.declared.grant.Grant.{Grant}
-use Rattle.ca_base.specs.Memory.{ByteMap}
+use Rattle.ca_keys.specs.declared.grant.Grant.{Grant}
+use Rattle.ca_keys.specs.Memory.{ByteMap}
 use Rattle.ca_model.specs.Carried.{Carried}
 use Rattle.ca_model.specs.Entries.{EntryValue}
 use Rattle.ca_model.specs.History.{IsHistory}

@@ -4,19 +4,19 @@ use Rattle.std.specs.List.{list_any, list_all}
 use Rattle.std.specs.Cmp.Lexicographic.{pointwise}
 use Rattle.std.specs.Option.{option_map_or, option_eq}
 use Rattle.ca_base.specs.declared.completion.Completion.{Completion}
-use Rattle.ca_base.specs.declared.grant.Grant.{Grant}
-use Rattle.ca_base.specs.declared.key.Key.{Key}
-use Rattle.ca_base.specs.declared.names.DomainId.{DomainId}
-use Rattle.ca_base.specs.declared.names.QueueId.{QueueId}
-use Rattle.ca_base.specs.declared.names.Slot.{Slot}
-use Rattle.ca_base.specs.declared.place.Run.{Run}
+use Rattle.ca_keys.specs.declared.grant.Grant.{Grant}
+use Rattle.ca_keys.specs.declared.key.Key.{Key}
+use Rattle.ca_keys.specs.declared.names.DomainId.{DomainId}
+use Rattle.ca_keys.specs.declared.names.QueueId.{QueueId}
+use Rattle.ca_keys.specs.declared.names.Slot.{Slot}
+use Rattle.ca_keys.specs.declared.place.Run.{Run}
 use Rattle.ca_base.specs.declared.request.SendOp.{SendOp}
 use Rattle.ca_base.specs.declared.request.SendOp.TheVariants as ops
-use Rattle.ca_base.specs.declared.rights.Rights.{Rights}
-use Rattle.ca_base.specs.Equal.{key_eq, domain_eq, queue_eq, grant_eq, run_eq}
+use Rattle.ca_keys.specs.declared.rights.Rights.{Rights}
+use Rattle.ca_keys.specs.Equal.{key_eq, domain_eq, queue_eq, grant_eq, run_eq}
 use Rattle.ca_base.specs.Grants.{grant_of_registration, grant_of_fast_registration, grant_of_bind, next_low, needs_local_write}
-use Rattle.ca_base.specs.Memory.{ByteMap, runs_at}
-use Rattle.ca_base.specs.Numbers.{region_index, window_index, index_of, domain_of}
+use Rattle.ca_keys.specs.Memory.{ByteMap, runs_at}
+use Rattle.ca_keys.specs.Numbers.{region_index, window_index, index_of, domain_of}
 use Rattle.ca_wire.specs.Packet.{Fields}
 use Rattle.ca_model.specs.declared.answer.Answer.{Answer}
 use Rattle.ca_model.specs.declared.answer.Answer.TheVariants as answers

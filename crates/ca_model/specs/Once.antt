@@ -3,7 +3,7 @@
 use Rattle.std.specs.Prelude.{ℕ, Bool, false, not, ◌&&◌, ◌||◌, ◌==◌, nat_le, List, [], ◌∷◌, IsTrue}
 use Rattle.std.specs.List.{list_any, list_all, count_by}
 use Rattle.std.specs.Str.{bytes_eq}
-use Rattle.ca_base.specs.Memory.{ByteMap, little_endian_bytes}
+use Rattle.ca_keys.specs.Memory.{ByteMap, little_endian_bytes}
 use Rattle.ca_model.specs.Entries.{EntryValue}
 use Rattle.ca_model.specs.Past.{Past, Life, Naming, Acted, Succeeded, life_eq, opening_past, after_entries}
 

@@ -6,7 +6,7 @@ use Rattle.std.specs.Option.{option_map_or}
 use Rattle.ca_base.specs.declared.completion.Completion.{Completion}
 use Rattle.ca_base.specs.declared.completion.WcStatus.TheVariants.{Success}
 use Rattle.ca_base.specs.Equal.{completion_eq, operation_eq, status_eq}
-use Rattle.ca_base.specs.Memory.{ByteMap}
+use Rattle.ca_keys.specs.Memory.{ByteMap}
 use Rattle.ca_model.specs.declared.answer.Answer.{Answer}
 use Rattle.ca_model.specs.declared.answer.Answer.TheVariants as answers
 use Rattle.ca_model.specs.declared.mark.Mark.{Mark}

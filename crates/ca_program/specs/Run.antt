@@ -1,6 +1,6 @@
 -- What a run of the program did, by its status. Contracts cite it.
 use Rattle.std.specs.Prelude.{◌≡◌, ℕ, List, [], ◌∷◌, codes, Option, Some, IfSome}
-use Rattle.ca_base.specs.Memory.{zeros}
+use Rattle.ca_keys.specs.Memory.{zeros}
 use Rattle.ca_model.specs.Entries.{EntryValue}
 use Rattle.ca_program.specs.FirstPath.{HasHistory}
 use Rattle.ca_model.specs.Lawful.{IsLawful}

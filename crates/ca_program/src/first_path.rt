@@ -5,7 +5,7 @@
 ghost use Rattle.std.specs.Prelude.{IfOk, IfErr};
 ghost use Rattle.ca_program.specs.FirstPath.{HasHistory};
 ghost use Rattle.ca_program.specs.FirstPath.Form.{IsRefusal};
-ghost use Rattle.ca_base.specs.Memory.{zeros};
+ghost use Rattle.ca_keys.specs.Memory.{zeros};
 ghost use Rattle.ca_model.specs.Lawful.{IsLawful};
 
 mod form;

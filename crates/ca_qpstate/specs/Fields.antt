@@ -4,9 +4,9 @@ use Rattle.std.specs.Prelude.{Option}
 use Rattle.ca_base.specs.declared.change.Change.{Change}
 use Rattle.ca_base.specs.declared.change.ModifyRefusal.{ModifyRefusal}
 use Rattle.ca_base.specs.declared.config.Config.{Config}
-use Rattle.ca_base.specs.declared.names.QueueId.{QueueId}
+use Rattle.ca_keys.specs.declared.names.QueueId.{QueueId}
 use Rattle.ca_base.specs.Configuration.{configuration_of}
-use Rattle.ca_base.specs.Refusals.{first_of}
+use Rattle.ca_keys.specs.Refusals.{first_of}
 use Rattle.ca_base.specs.objects.StateTable.{field_refusals}
 
 -- the first field that is out of its range

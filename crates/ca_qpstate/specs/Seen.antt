@@ -5,7 +5,7 @@ use Rattle.ca_base.specs.declared.change.Change.{Change}
 use Rattle.ca_base.specs.declared.change.ModifyRefusal.{ModifyRefusal}
 use Rattle.ca_base.specs.declared.config.Config.{Config}
 use Rattle.ca_base.specs.Configuration.{configuration_of}
-use Rattle.ca_base.specs.Refusals.{first_of}
+use Rattle.ca_keys.specs.Refusals.{first_of}
 use Rattle.ca_base.specs.objects.QueuePair.{QueuePair}
 use Rattle.ca_base.specs.objects.StateTable.{modify_refusals}
 use Rattle.ca_qpstate.specs.declared.queue_part.QueuePart.{QueuePart}

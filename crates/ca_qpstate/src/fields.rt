@@ -3,7 +3,7 @@ ghost use Rattle.ca_base.specs.Configuration.{configuration_of};
 ghost use Rattle.ca_base.specs.objects.Slices as slices;
 ghost use Rattle.ca_base.specs.objects.StateTable as table;
 ghost use Rattle.ca_base.specs.declared.config.Config.{Config};
-ghost use Rattle.ca_base.specs.declared.names.QueueId.{QueueId};
+ghost use Rattle.ca_keys.specs.declared.names.QueueId.{QueueId};
 ghost use Rattle.ca_base.specs.declared.change.Change.TheVariants as changes;
 ghost use Rattle.ca_model.specs.machine.Invariants.{NamesPeer};
 ghost use Rattle.ca_qpstate.specs.Fields.{refusal_of_fields};

@@ -4,8 +4,8 @@ use Rattle.std.specs.Prelude.{codes}
 use Rattle.std.specs.Int.{w8, w32, w64}
 use Rattle.std.proofs.lemmas.Bool.{le-leb, and_parts}
 use Rattle.ca_base.specs.declared.completion.Completion.{Completion}
-use Rattle.ca_base.specs.declared.verdict.Verdict.{Verdict}
-use Rattle.ca_base.specs.declared.verdict.Verdict.TheVariants as verdicts
+use Rattle.ca_keys.specs.declared.verdict.Verdict.{Verdict}
+use Rattle.ca_keys.specs.declared.verdict.Verdict.TheVariants as verdicts
 use Rattle.ca_model.specs.declared.answer.Answer.TheVariants as answers
 use Rattle.ca_model.specs.declared.event.Event.{Event}
 use Rattle.ca_model.specs.declared.event.Event.TheVariants as events
@@ -17,8 +17,9 @@ use Rattle.ca_trace.specs.declared.line.Line.TheVariants as lines
 use Rattle.ca_trace.specs.declared.line.Told.{Told}
 use Rattle.ca_trace.specs.declared.line.Told.TheVariants as told
 use Rattle.ca_reading_words.specs.Words.{pieces, lettered_in}
-use Rattle.ca_base.specs.Spelling.{perhaps, op_refusal_text}
-use Rattle.ca_base.specs.declared.names.QueueId.{QueueId}
+use Rattle.ca_keys.specs.Spelling.{perhaps}
+use Rattle.ca_base.specs.Spelling.{op_refusal_text}
+use Rattle.ca_keys.specs.declared.names.QueueId.{QueueId}
 use Rattle.ca_trace.specs.Table.{verb_words, call_words, event_words, answer_words, completion_words, got_words, verdict_words, mark_words}
 use Rattle.ca_trace.specs.Words.{Field, Fixed, Number, Lettered, OfCause, word, words, led, joined}
 use Rattle.ca_trace.specs.Lines.{answer_line_words, line_words, line_text}

@@ -4,13 +4,13 @@ use Rattle.std.specs.Prelude.{codes}
 use Rattle.std.proofs.lemmas.Bool.{cases_Bool, eqb-true}
 use Rattle.ca_base.specs.declared.change.Change.{Change}
 use Rattle.ca_base.specs.declared.change.Change.TheVariants as changes
-use Rattle.ca_base.specs.declared.names.Slot.{Slot}
+use Rattle.ca_keys.specs.declared.names.Slot.{Slot}
 use Rattle.ca_base.specs.declared.request.SendOp.{SendOp}
 use Rattle.ca_base.specs.declared.request.SendOp.TheVariants as ops
 use Rattle.ca_model.specs.declared.verb.Verb.{Verb}
 use Rattle.ca_model.specs.declared.verb.Verb.TheVariants as verbs
 use Rattle.ca_reading_words.specs.Words.{number_in}
-use Rattle.ca_base.specs.Spelling.{slot_text}
+use Rattle.ca_keys.specs.Spelling.{slot_text}
 use Rattle.ca_trace.specs.Table.{change_words, operation_words, poll_words, verb_words}
 use Rattle.ca_trace.specs.Words.{words}
 use Rattle.ca_reading_words.specs.Fits.{SlotFits, AllFit}

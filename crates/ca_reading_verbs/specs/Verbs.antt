@@ -4,11 +4,11 @@ use Rattle.std.specs.Prelude.{ℕ, if◌then◌else◌, List, Option, Some, None
 use Rattle.std.specs.Str.{bytes_eq}
 use Rattle.ca_base.specs.declared.change.Change.{Change}
 use Rattle.ca_base.specs.declared.change.Change.TheVariants as changes
-use Rattle.ca_base.specs.declared.names.Slot.{Slot}
+use Rattle.ca_keys.specs.declared.names.Slot.{Slot}
 use Rattle.ca_base.specs.declared.request.RecvRequest.{RecvRequest}
 use Rattle.ca_base.specs.declared.request.SendOp.{SendOp}
 use Rattle.ca_base.specs.declared.request.SendOp.TheVariants as ops
-use Rattle.ca_base.specs.declared.rights.Rights.{Rights}
+use Rattle.ca_keys.specs.declared.rights.Rights.{Rights}
 use Rattle.ca_model.specs.declared.verb.Verb.{Verb}
 use Rattle.ca_model.specs.declared.verb.Verb.TheVariants as verbs
 use Rattle.ca_reading_words.specs.Words.{◌>>=◌, next_of, field, number_in, perhaps_in, in_adapter_in, domain_in, queue_in, slot_in, key_in, address_in, hex_in, has, rights_in, list_in, pieces_in}

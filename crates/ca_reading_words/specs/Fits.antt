@@ -3,13 +3,13 @@ use Rattle.std.specs.Prelude.{◌≡◌, ℕ, ◌≤◌, ◌&&◌, nat_lt, Bool,
 use Rattle.std.specs.Int.{Width, w8, w16, w32}
 use Rattle.std.specs.List.{AllByRecursion}
 use Rattle.hex.specs.Hex.{IsBytes}
-use Rattle.ca_base.specs.declared.key.Key.{Key}
+use Rattle.ca_keys.specs.declared.key.Key.{Key}
 use Rattle.ca_base.specs.declared.lot.Lot.{Lot}
 use Rattle.ca_base.specs.declared.lot.Lot.TheVariants as lots
-use Rattle.ca_base.specs.declared.names.DomainId.{DomainId}
-use Rattle.ca_base.specs.declared.names.QueueId.{QueueId}
-use Rattle.ca_base.specs.declared.names.Slot.{Slot}
-use Rattle.ca_base.specs.declared.place.Run.{Run}
+use Rattle.ca_keys.specs.declared.names.DomainId.{DomainId}
+use Rattle.ca_keys.specs.declared.names.QueueId.{QueueId}
+use Rattle.ca_keys.specs.declared.names.Slot.{Slot}
+use Rattle.ca_keys.specs.declared.place.Run.{Run}
 use Rattle.ca_base.specs.declared.request.Piece.{Piece}
 use Rattle.ca_trace.specs.Words.{Field, Fixed, Number, Lettered, Perhaps, InAdapter, OfDomain, OfSlot, OfQueue, OfQueues, OfKey, PerhapsKey, Address, Hex, OfPieces, OfPages, OfRuns, OfLot}
 

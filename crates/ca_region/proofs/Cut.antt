@@ -3,8 +3,8 @@ use Rattle.std.proofs.Common.{◌≡◌, ℕ, suc, zero, ◌+◌, ◌-◌, ◌<�
 use Rattle.std.proofs.lemmas.Bool.{cases_lt, eqb-true, leb-true, leb-false}
 use Rattle.std.proofs.lemmas.Bool.Decides.{nat_tests}
 use Rattle.std.proofs.lemmas.List.Sums.{sum_by-cons}
-use Rattle.ca_base.specs.declared.place.Run.{Run}
-use Rattle.ca_base.specs.Memory.{cut, run_part, places_count}
+use Rattle.ca_keys.specs.declared.place.Run.{Run}
+use Rattle.ca_keys.specs.Memory.{cut, run_part, places_count}
 
 -- a run of which nothing is left does not stand
 pub cut-skip : (r : Run) (rs : List Run) (s n : ℕ) → r.length ≤ s → cut s n (r ∷ rs) ≡ cut (s - r.length) n rs

@@ -2,9 +2,9 @@
 use Rattle.std.proofs.Common.{◌≡◌, ℕ, suc, zero, ◌+◌, ◌-◌, ◌*◌, ◌/◌, ◌%◌, ◌<◌, ◌≤◌, min, List, [], ◌∷◌, length, drop, map, get_or, refl, sym, ap, ◌∙◌, arith}
 use Rattle.std.proofs.lemmas.List.{drop_more}
 use Rattle.std.proofs.lemmas.List.Sums.{sum_by-cons}
-use Rattle.ca_base.specs.declared.place.Run.{Run}
+use Rattle.ca_keys.specs.declared.place.Run.{Run}
 use Rattle.ca_base.specs.Grants.{page_run}
-use Rattle.ca_base.specs.Memory.{cut, run_part, places_count}
+use Rattle.ca_keys.specs.Memory.{cut, run_part, places_count}
 use Rattle.ca_region.proofs.Cut.{cut-skip, cut-none, cut-first, cut-count}
 
 module _ (adapter buffer : ℕ) where

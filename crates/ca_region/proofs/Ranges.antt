@@ -1,7 +1,7 @@
 -- Lemmas on the range that a mapping to pages has. For proofs only.
 use Rattle.std.proofs.Common.{◌≡◌, ℕ, ◌+◌, ◌%◌, ◌≤◌, List, map, ap, sym, ◌∙◌}
 use Rattle.ca_base.specs.Grants.{page_run}
-use Rattle.ca_base.specs.Memory.{cut}
+use Rattle.ca_keys.specs.Memory.{cut}
 use Rattle.ca_region.proofs.Cut.{cut-cut}
 use Rattle.ca_region.specs.declared.places.Places.{Places}
 use Rattle.ca_region.specs.declared.places.Places.TheVariants.{PageList}

@@ -2,9 +2,9 @@
 use Rattle.std.specs.Prelude.{◌≡◌, ℕ, ◌+◌, ◌*◌, ◌%◌, ◌^◌, ◌<◌, ◌≤◌, List, [], ◌∷◌, length}
 use Rattle.std.specs.Coded.{×_prop, le_prop, Coded-set, coded_ℕ}
 use Rattle.ca_base.specs.declared.limits.TheConstants.{PAGE_BYTES}
-use Rattle.ca_base.specs.declared.place.Run.{Run}
+use Rattle.ca_keys.specs.declared.place.Run.{Run}
 use Rattle.ca_base.specs.Grants.{page_runs}
-use Rattle.ca_base.specs.Numbers.{first_address}
+use Rattle.ca_keys.specs.Numbers.{first_address}
 use Rattle.ca_region.specs.declared.places.Places.{Places}
 use Rattle.ca_region.specs.declared.places.Places.TheVariants.{OneRun, PageList}
 

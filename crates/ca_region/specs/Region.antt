@@ -1,12 +1,12 @@
 -- What a region stands for, and which bytes it has. Contracts cite it.
 use Rattle.std.specs.Prelude.{◌≡◌, ℕ, ◌+◌, ◌≤◌, true, List, [], Option, None, Some}
 use Rattle.std.specs.Option.{option_map, option_map_or}
-use Rattle.ca_base.specs.declared.grant.Grant.{Grant}
-use Rattle.ca_base.specs.declared.key.Key.{Key}
-use Rattle.ca_base.specs.declared.place.Run.{Run}
+use Rattle.ca_keys.specs.declared.grant.Grant.{Grant}
+use Rattle.ca_keys.specs.declared.key.Key.{Key}
+use Rattle.ca_keys.specs.declared.place.Run.{Run}
 use Rattle.ca_base.specs.declared.refusals.RegionError.{RegionError}
 use Rattle.ca_base.specs.declared.refusals.RegionError.TheVariants.{Memory}
-use Rattle.ca_base.specs.Memory.{runs_at}
+use Rattle.ca_keys.specs.Memory.{runs_at}
 use Rattle.ca_base.specs.objects.Region.{Region, grant_of_region}
 use Rattle.ca_base.specs.objects.Slices.{is_key_of}
 

@@ -1,6 +1,6 @@
 ghost use Rattle.std.specs.Prelude.{◌≡◌, ◌+◌, ◌<◌, ◌≤◌, ◌^◌, [], ◌∷◌, IfOk, true};
-ghost use Rattle.ca_base.specs.Memory.{cut};
-ghost use Rattle.ca_base.specs.Numbers.{key_at, region_index};
+ghost use Rattle.ca_keys.specs.Memory.{cut};
+ghost use Rattle.ca_keys.specs.Numbers.{key_at, region_index};
 ghost use Rattle.ca_base.specs.objects.Slices.{is_key_of};
 ghost use Rattle.ca_region.specs.Places.{HoldBytes, HoldBytes-prop};
 
@@ -26,7 +26,7 @@ impl Mapping {
     ghost use Rattle.std.specs.Prelude.{◌-◌, ◌%◌, None};
     ghost use Rattle.ca_base.specs.declared.limits.TheConstants.{ATOMIC_BYTES};
     ghost use Rattle.ca_base.specs.Grants.{region_grant};
-    ghost use Rattle.ca_base.specs.Memory.{places_count};
+    ghost use Rattle.ca_keys.specs.Memory.{places_count};
     ghost use Rattle.ca_base.specs.objects.Region.{view_of_grant};
     ghost use Rattle.ca_region.specs.Places.{runs_of_places};
     ghost use Rattle.ca_region.specs.Span.{runs_of_span};

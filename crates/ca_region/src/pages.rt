@@ -2,7 +2,7 @@ ghost use Rattle.std.specs.Prelude.{◌≡◌, ◌+◌, ◌-◌, ◌*◌, ◌/�
 ghost use Rattle.std.specs.List.{list_any};
 ghost use Rattle.ca_base.specs.declared.limits.TheConstants.{ATOMIC_BYTES};
 ghost use Rattle.ca_base.specs.Grants.{page_run};
-ghost use Rattle.ca_base.specs.Memory.{cut, places_count, run_part};
+ghost use Rattle.ca_keys.specs.Memory.{cut, places_count, run_part};
 ghost use Rattle.ca_base.specs.objects.Region.{has_repeat, passes_end};
 ghost use Rattle.ca_region.specs.Span.{runs_of_span};
 

@@ -41,8 +41,8 @@ impl Region {
     ghost use Rattle.std.specs.Prelude.{◌≡◌, ◌%◌, ◌<◌, ◌≤◌, IfOk, IfErr, IfSome, OnOk, OnErr, None, Some};
     ghost use Rattle.ca_base.specs.Grants as grants;
     ghost use Rattle.ca_base.specs.declared.limits.TheConstants.{ATOMIC_BYTES};
-    ghost use Rattle.ca_base.specs.Memory.{places_count};
-    ghost use Rattle.ca_base.specs.Refusals.{first_of};
+    ghost use Rattle.ca_keys.specs.Memory.{places_count};
+    ghost use Rattle.ca_keys.specs.Refusals.{first_of};
     ghost use Rattle.ca_base.specs.objects.Region as regions;
     ghost use Rattle.ca_region.specs.Region.{RefusesBy, HasBytes, IsOfRegion, region_runs_at, valid_key};
     ghost use Rattle.ca_region.specs.Span.{runs_of_span};

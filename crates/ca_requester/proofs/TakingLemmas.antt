@@ -1,6 +1,6 @@
 -- What comes of an answer: the marks of what is finished before it, of its bytes, and of what is finished behind it.
 use Rattle.std.proofs.Common.{◌≡◌, ℕ, ◌≤◌, suc, refl, sym, ap, ◌∙◌, arith, List, [], ◌∷◌, ◌++◌, length, append_assoc}
-use Rattle.ca_base.specs.declared.access.Ask.{Ask}
+use Rattle.ca_keys.specs.declared.access.Ask.{Ask}
 use Rattle.ca_base.specs.declared.limits.TheConstants.{MAX_PIECES}
 use Rattle.ca_model.specs.declared.mark.Mark.{Mark}
 use Rattle.ca_rows.specs.Asks.{asks_of}

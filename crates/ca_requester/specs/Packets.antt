@@ -1,6 +1,6 @@
 -- The packet that a requester's turn sends. Contracts cite it.
 use Rattle.std.specs.Prelude.{◌≡◌, ℕ, ◌<◌, false, List, Option}
-use Rattle.ca_base.specs.declared.key.Key.{Key}
+use Rattle.ca_keys.specs.declared.key.Key.{Key}
 use Rattle.ca_base.specs.objects.QueuePair.{QueuePair}
 use Rattle.ca_wire.specs.declared.reth.Reth.{Reth}
 use Rattle.ca_wire.specs.Packet.{Fields}

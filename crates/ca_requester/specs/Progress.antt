@@ -1,7 +1,7 @@
 -- The requests that an acknowledgement finishes, from a place on. Contracts cite it.
 use Rattle.std.specs.Prelude.{◌≡◌, ℕ, suc, ◌-◌, ◌^◌, ◌≤◌, ◌<◌, nat_le, nat_lt, max, Bool, true, false, if◌then◌else◌, List, [], ◌∷◌, ◌++◌, take, Option, None, Some}
 use Rattle.std.specs.List.{flat_map, take_while}
-use Rattle.ca_base.specs.declared.names.QueueId.{QueueId}
+use Rattle.ca_keys.specs.declared.names.QueueId.{QueueId}
 use Rattle.ca_base.specs.declared.queue_numbers.RequesterNumbers.{RequesterNumbers}
 use Rattle.ca_base.specs.objects.QueuePair.{PostedSend, QueuePair}
 use Rattle.ca_base.specs.objects.WorkQueue.{items_from}

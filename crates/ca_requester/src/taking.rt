@@ -1,9 +1,9 @@
 ghost use Rattle.std.specs.Prelude.{◌≡◌, ◌≤◌, ◌<◌, ◌^◌, ◌+◌, ◌++◌, ◌∷◌, [], suc, true, IfOk, OnOk, OnErr, length};
 ghost use Rattle.std.specs.Option.{option_map_or};
 ghost use Rattle.std.specs.List.{AllByRecursion};
-ghost use Rattle.ca_base.specs.declared.access.Kind.{Kind};
+ghost use Rattle.ca_keys.specs.declared.access.Kind.{Kind};
 ghost use Rattle.ca_base.specs.declared.limits.TheConstants.{MAX_PAYLOAD_BYTES, MAX_PIECES};
-ghost use Rattle.ca_base.specs.Memory.{little_endian_bytes};
+ghost use Rattle.ca_keys.specs.Memory.{little_endian_bytes};
 ghost use Rattle.ca_grant.specs.Reaching.{AreAtHand};
 ghost use Rattle.ca_model.specs.declared.mark.Mark.{Mark};
 ghost use Rattle.ca_model.specs.machine.Numbering.{has_psn};

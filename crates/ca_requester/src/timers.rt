@@ -1,5 +1,5 @@
 ghost use Rattle.std.specs.Prelude.{◌≡◌, ◌≤◌, ◌++◌, ◌∷◌, [], None, Some, IfOk, IfErr, OnOk, OnErr};
-ghost use Rattle.ca_base.specs.Refusals.{first_of};
+ghost use Rattle.ca_keys.specs.Refusals.{first_of};
 ghost use Rattle.ca_model.specs.machine.Acknowledgements.{with_requester};
 ghost use Rattle.ca_model.specs.machine.Invariants.{IsQueue};
 ghost use Rattle.ca_model.specs.machine.Timers as timers;

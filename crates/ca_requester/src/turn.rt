@@ -1,6 +1,6 @@
 ghost use Rattle.std.specs.Prelude.{◌≡◌, ◌+◌, ◌<◌, ◌^◌, true, IfOk, IfErr, sum_by, nat_lt};
 ghost use Rattle.std.specs.List.{list_any};
-ghost use Rattle.ca_base.specs.Refusals.{first_of};
+ghost use Rattle.ca_keys.specs.Refusals.{first_of};
 ghost use Rattle.ca_model.specs.machine.Invariants as invariants;
 ghost use Rattle.ca_model.specs.machine.Invariants.{IsQueue};
 ghost use Rattle.ca_model.specs.machine.Numbering as numbering;

@@ -1,6 +1,6 @@
 -- A request that was taken, with the receive of a shared receive queue.
 use Rattle.std.proofs.Common.{◌≡◌, refl, ap, ◌∙◌, ℕ, List, Bool, true, false, if◌then◌else◌, Option, None, Some, Result, Ok, Err, OnErr}
-use Rattle.ca_base.specs.declared.access.Ask.{Ask}
+use Rattle.ca_keys.specs.declared.access.Ask.{Ask}
 use Rattle.ca_base.specs.Sight.{Invalidation}
 use Rattle.ca_base.specs.objects.SharedReceives.{SharedReceives, after_receive_take}
 use Rattle.ca_model.specs.machine.Row.{Ending, NotPossible, Does}

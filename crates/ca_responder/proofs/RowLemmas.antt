@@ -2,11 +2,11 @@
 use Rattle.std.proofs.Common.{◌≡◌, ℕ, Bool, false, List, [], ◌∷◌, ◌++◌, map, refl, sym, ap, subst, ◌∙◌, Option, None}
 use Rattle.std.specs.Option.{option_and_then}
 use Rattle.std.proofs.lemmas.List.{append-nil}
-use Rattle.ca_base.specs.declared.access.Ask.{Ask}
-use Rattle.ca_base.specs.declared.access.Kind.{Kind}
+use Rattle.ca_keys.specs.declared.access.Ask.{Ask}
+use Rattle.ca_keys.specs.declared.access.Kind.{Kind}
 use Rattle.ca_base.specs.declared.limits.TheConstants.{ATOMIC_BYTES}
-use Rattle.ca_base.specs.declared.verdict.Verdict.TheVariants.{Swapped}
-use Rattle.ca_base.specs.Memory.{little_endian, little_endian_bytes}
+use Rattle.ca_keys.specs.declared.verdict.Verdict.TheVariants.{Swapped}
+use Rattle.ca_keys.specs.Memory.{little_endian, little_endian_bytes}
 use Rattle.ca_base.specs.Sight.{Invalidation, Sight, bytes_in, denial_in, first_denied}
 use Rattle.ca_base.specs.objects.QueuePair.{QueuePair}
 use Rattle.ca_wire.specs.declared.atomic_eth.AtomicEth.{AtomicEth}

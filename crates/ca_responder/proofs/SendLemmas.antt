@@ -1,9 +1,9 @@
 -- A SEND that is placed: its writes, and what its row comes to.
 use Rattle.std.proofs.Common.{◌≡◌, ◌≤◌, ◌+◌, ℕ, suc, nat_lt, if◌then◌else◌, Bool, true, false, List, [], ◌∷◌, ◌++◌, length, arith, refl, sym, ap, subst, ◌∙◌, Option, None, Some, Result, Ok, Err, OnOk, OnErr, IfOk, append_assoc}
 use Rattle.std.specs.List.{AllByRecursion}
-use Rattle.ca_base.specs.declared.access.Ask.{Ask}
-use Rattle.ca_base.specs.declared.key.Key.{Key}
-use Rattle.ca_base.specs.declared.memory.Memory.{Memory}
+use Rattle.ca_keys.specs.declared.access.Ask.{Ask}
+use Rattle.ca_keys.specs.declared.key.Key.{Key}
+use Rattle.ca_keys.specs.declared.memory.Memory.{Memory}
 use Rattle.ca_base.specs.declared.refusals.OpRefusal.{OpRefusal}
 use Rattle.ca_base.specs.Sight.{Invalidation, Sight, first_denied}
 use Rattle.ca_base.specs.objects.QueuePair.{QueuePair}
@@ -22,7 +22,7 @@ use Rattle.ca_arrivals.specs.Numbers.{receive_taken, unasked}
 use Rattle.ca_responder.specs.Taking.{HasTaken, IsPacketTaken, ended_by, found}
 use Rattle.ca_responder.proofs.RowLemmas.{taken-as}
 use Rattle.ca_base.specs.declared.completion.WcStatus.TheVariants.{MemoryManagement}
-use Rattle.ca_base.specs.declared.names.QueueId.{QueueId}
+use Rattle.ca_keys.specs.declared.names.QueueId.{QueueId}
 use Rattle.ca_model.specs.declared.mark.Mark.TheVariants.{Revoked}
 use Rattle.ca_model.specs.machine.Completions.{flush_marks, receive_failure}
 use Rattle.ca_rows.specs.Asks.{CanWrite, IsGranted, IsWrite, asks_of}

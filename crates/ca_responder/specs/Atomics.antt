@@ -1,13 +1,13 @@
 -- What an atomic leaves at its responder. Contracts cite it.
 use Rattle.std.specs.Prelude.{◌≡◌, ℕ, ◌-◌, ◌%◌, false, true, length, slice_set}
 use Rattle.std.specs.Option.{option_map_or}
-use Rattle.ca_base.specs.declared.access.Ask.{Ask}
-use Rattle.ca_base.specs.declared.access.Kind.{Kind}
+use Rattle.ca_keys.specs.declared.access.Ask.{Ask}
+use Rattle.ca_keys.specs.declared.access.Kind.{Kind}
 use Rattle.ca_base.specs.declared.queue_numbers.Queued.TheVariants as queued
-use Rattle.ca_base.specs.declared.verdict.Verdict.{Verdict}
-use Rattle.ca_base.specs.declared.verdict.Verdict.TheVariants as verdicts
+use Rattle.ca_keys.specs.declared.verdict.Verdict.{Verdict}
+use Rattle.ca_keys.specs.declared.verdict.Verdict.TheVariants as verdicts
 use Rattle.ca_base.specs.declared.limits.TheConstants.{ATOMIC_BYTES}
-use Rattle.ca_base.specs.Memory.{little_endian}
+use Rattle.ca_keys.specs.Memory.{little_endian}
 use Rattle.ca_base.specs.Sight.{Sight, bytes_in}
 use Rattle.ca_base.specs.objects.QueuePair.{QueuePair}
 use Rattle.ca_base.specs.objects.Saved.{after_save}

@@ -2,7 +2,7 @@
 -- cite it.
 use Rattle.std.specs.Prelude.{false, Some}
 use Rattle.ca_base.specs.declared.completion.WcStatus.TheVariants.{MemoryManagement}
-use Rattle.ca_base.specs.declared.key.Key.{Key}
+use Rattle.ca_keys.specs.declared.key.Key.{Key}
 use Rattle.ca_base.specs.declared.refusals.OpRefusal.{OpRefusal}
 use Rattle.ca_base.specs.Sight.{Invalidation}
 use Rattle.ca_base.specs.objects.QueuePair.{QueuePair}

@@ -2,12 +2,12 @@
 -- receive queue. Contracts cite it.
 use Rattle.std.specs.Prelude.{◌≡◌, ℕ, ◌<◌, Bool, true, if◌then◌else◌, List, [], Option, None, Some, Result, Ok, Err, is_none}
 use Rattle.std.specs.Option.{option_map}
-use Rattle.ca_base.specs.declared.access.Ask.{Ask}
-use Rattle.ca_base.specs.declared.memory.Memory.{Memory}
+use Rattle.ca_keys.specs.declared.access.Ask.{Ask}
+use Rattle.ca_keys.specs.declared.memory.Memory.{Memory}
 use Rattle.ca_base.specs.Sight.{DeniedAsk, Invalidation, Sight, first_denied}
 use Rattle.ca_base.specs.objects.QueuePair.{QueuePair}
 use Rattle.ca_base.specs.objects.SharedReceives.{SharedReceives, after_receive_take}
-use Rattle.ca_base.specs.objects.Slices.{is_window_key}
+use Rattle.ca_keys.specs.Numbers.{is_window_key}
 use Rattle.ca_grant.specs.Reaching.{invalidation_by}
 use Rattle.ca_model.specs.declared.mark.Mark.{Mark}
 use Rattle.ca_model.specs.machine.Row.{Effects, Ending, NotPossible, Does, Row}

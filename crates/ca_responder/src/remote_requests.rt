@@ -1,5 +1,5 @@
 ghost use Rattle.std.specs.Prelude.{◌≡◌, ℕ, ◌%◌, ◌<◌, ◌≤◌, ◌^◌, ◌++◌, ◌∷◌, [], OnOk, OnErr, IfOk, None, Some, false, true, length};
-ghost use Rattle.ca_base.specs.Memory.{little_endian_bytes};
+ghost use Rattle.ca_keys.specs.Memory.{little_endian_bytes};
 ghost use Rattle.ca_base.specs.Sight.{denial_in};
 ghost use Rattle.ca_base.specs.declared.limits.TheConstants.{ATOMIC_BYTES};
 ghost use Rattle.ca_grant.specs.Reaching.{AreAtHand, kind_of};

@@ -1,7 +1,7 @@
 ghost use Rattle.std.specs.Prelude.{◌≡◌, ◌+◌, ◌<◌, ◌≤◌, ◌^◌, ◌++◌, ◌∷◌, [], drop, nat_lt, OnOk, OnErr, IfOk, IfErr, IfSome, None, Some, false, true, if◌then◌else◌, length};
 ghost use Rattle.std.specs.List.{AllByRecursion};
 ghost use Rattle.std.specs.Option.{option_map};
-ghost use Rattle.ca_base.specs.declared.access.Kind.{Kind};
+ghost use Rattle.ca_keys.specs.declared.access.Kind.{Kind};
 ghost use Rattle.ca_base.specs.Sight as sights;
 ghost use Rattle.ca_base.specs.declared.queue_numbers.Queued.{Queued};
 ghost use Rattle.ca_base.specs.declared.refusals.OpRefusal.{OpRefusal};

@@ -1,6 +1,6 @@
 ghost use Rattle.std.specs.Prelude.{◌≡◌, ◌+◌, ◌<◌, ◌≤◌, ◌^◌, ◌++◌, ◌∷◌, [], OnOk, OnErr, IfOk, None, false, true, length, option_copied};
 ghost use Rattle.ca_base.specs.Sight.{denial_in};
-ghost use Rattle.ca_base.specs.declared.access.Kind.{Kind};
+ghost use Rattle.ca_keys.specs.declared.access.Kind.{Kind};
 ghost use Rattle.ca_base.specs.declared.limits.TheConstants.{MAX_PAYLOAD_BYTES};
 ghost use Rattle.ca_grant.specs.Reaching.{AreAtHand, IsPacketAsk};
 ghost use Rattle.ca_model.specs.machine.Arrivals as arrivals;

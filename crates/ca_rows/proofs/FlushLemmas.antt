@@ -1,7 +1,7 @@
 -- One more request is flushed.
 use Rattle.std.proofs.Common.{◌≡◌, ℕ, suc, ◌≤◌, sym, ap, ◌∙◌, List, [], ◌∷◌, ◌++◌, None, Some, append_assoc}
 use Rattle.ca_base.specs.declared.completion.WcStatus.TheVariants.{Flushed}
-use Rattle.ca_base.specs.declared.names.QueueId.{QueueId}
+use Rattle.ca_keys.specs.declared.names.QueueId.{QueueId}
 use Rattle.ca_base.specs.declared.request.RecvRequest.{RecvRequest}
 use Rattle.ca_base.specs.objects.QueuePair.{PostedSend}
 use Rattle.ca_base.specs.objects.WorkQueue.{WorkQueue, item_at, items_from}

@@ -3,8 +3,8 @@ use Rattle.std.proofs.Common.{◌≡◌, ℕ, ◌≤◌, ◌<◌, true, true≢f
 use Rattle.std.proofs.Math.Seq.{take-append_seam, take-length, drop-append_seam}
 use Rattle.std.proofs.lemmas.List.{take-append-drop, take-append-le}
 use Rattle.std.specs.List.{AllByRecursion}
-use Rattle.ca_base.specs.declared.access.Ask.{Ask}
-use Rattle.ca_base.specs.declared.access.Denial.{Denial}
+use Rattle.ca_keys.specs.declared.access.Ask.{Ask}
+use Rattle.ca_keys.specs.declared.access.Denial.{Denial}
 use Rattle.ca_base.specs.Sight.{Sight, denial_in, first_denied, or_denied}
 use Rattle.ca_model.specs.declared.mark.Mark.{Mark}
 use Rattle.ca_rows.specs.Asks.{AreBytesAtHand, bytes_read, payload_of, read_marks}

@@ -1,8 +1,8 @@
 -- Accesses that write: what stands after one of them, and bytes cut for asks.
 use Rattle.std.proofs.Common.{◌≡◌, ◌≤◌, ℕ, List, [], ◌∷◌, length, length-drop, length-take-le, drop, arith, refl, sym, ap, subst}
 use Rattle.std.specs.List.{AllByRecursion}
-use Rattle.ca_base.specs.declared.access.Ask.{Ask}
-use Rattle.ca_base.specs.declared.access.Kind.TheVariants as kinds
+use Rattle.ca_keys.specs.declared.access.Ask.{Ask}
+use Rattle.ca_keys.specs.declared.access.Kind.TheVariants as kinds
 use Rattle.ca_base.specs.Sight.{Sight}
 use Rattle.ca_grant.specs.Reaching.{sight_after_write}
 use Rattle.ca_model.specs.machine.Responses.{writes_by}

@@ -2,8 +2,8 @@ ghost use Rattle.std.specs.Prelude.{◌≡◌, ◌+◌, ◌≤◌, ◌<◌, [], 
 ghost use Rattle.std.specs.List.{AllByRecursion};
 ghost use Rattle.ca_base.specs.Sight.{bytes_in, denial_in};
 ghost use Rattle.ca_base.specs.Sight as sights;
-ghost use Rattle.ca_base.specs.declared.access.Kind.{Kind};
-ghost use Rattle.ca_base.specs.declared.verdict.Verdict.TheVariants as verdicts;
+ghost use Rattle.ca_keys.specs.declared.access.Kind.{Kind};
+ghost use Rattle.ca_keys.specs.declared.verdict.Verdict.TheVariants as verdicts;
 ghost use Rattle.ca_grant.specs.Reaching.{IsPacketAsk};
 ghost use Rattle.ca_rows.specs.Asks.{AreBytesAtHand, IsAskOf, bytes_read, mark_of, payload_of, read_in, read_marks, reads_by, touched_by};
 

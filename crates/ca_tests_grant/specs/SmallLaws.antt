@@ -5,18 +5,18 @@ use Rattle.std.proofs.lemmas.List.{length-map, length-take, length-take-le, leng
 use Rattle.std.proofs.lemmas.List.FromFn.{length-range_with_len}
 use Rattle.std.proofs.lemmas.List.Sums.{sum_by-cons}
 use Rattle.std.specs.Option.{option_map, option_map_or, option_and_then}
-use Rattle.ca_base.specs.declared.access.Ask.{Ask}
-use Rattle.ca_base.specs.declared.grant.Grant.{Grant}
-use Rattle.ca_base.specs.declared.key.Key.{Key}
-use Rattle.ca_base.specs.declared.names.QueueId.{QueueId}
-use Rattle.ca_base.specs.declared.place.Run.{Run}
-use Rattle.ca_base.specs.Allowed.{fits, grant_for}
-use Rattle.ca_base.specs.Memory.{ByteMap, bytes_at, cut, places_count, places_of, run_part, runs_at, runs_for}
-use Rattle.ca_base.specs.Equal.{key_eq}
+use Rattle.ca_keys.specs.declared.access.Ask.{Ask}
+use Rattle.ca_keys.specs.declared.grant.Grant.{Grant}
+use Rattle.ca_keys.specs.declared.key.Key.{Key}
+use Rattle.ca_keys.specs.declared.names.QueueId.{QueueId}
+use Rattle.ca_keys.specs.declared.place.Run.{Run}
+use Rattle.ca_keys.specs.Allowed.{fits, grant_for}
+use Rattle.ca_keys.specs.Memory.{ByteMap, bytes_at, cut, places_count, places_of, run_part, runs_at, runs_for}
+use Rattle.ca_keys.specs.Equal.{key_eq}
 use Rattle.ca_base.specs.Sight.{Invalidation, bytes_in, runs_in}
 use Rattle.ca_base.specs.objects.LocalRequest.{region_refusal, window_refusal}
 use Rattle.ca_base.specs.objects.Region.{Region, RegionState, NoRegion, Free, Registered, FastRegistered, grant_in_state, grant_of_region, state_after_invalidation}
-use Rattle.ca_base.specs.objects.Slices.{is_window_key}
+use Rattle.ca_keys.specs.Numbers.{is_window_key}
 use Rattle.ca_base.specs.objects.Window.{Window, Binding, grant_of_binding, key_of_window}
 use Rattle.ca_grant.proofs.Places.{cut-fits, cut-of-buffer, runs-written, same-bytes}
 use Rattle.ca_grant.specs.Access.{FitInBytes, AreOfBuffer, buffer_after}

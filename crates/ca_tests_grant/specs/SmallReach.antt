@@ -1,13 +1,14 @@
 -- A window, a region and a buffer as all that an engine reaches: what is seen of them, what is at hand, and what a write
 -- and the end of a key leave. Contracts cite it.
 use Rattle.std.specs.Prelude.{◌≡◌, ℕ, ◌<◌, if◌then◌else◌, List, Option, None, Some, length}
-use Rattle.ca_base.specs.declared.access.Ask.{Ask}
-use Rattle.ca_base.specs.declared.grant.Grant.{Grant}
-use Rattle.ca_base.specs.declared.key.Key.{Key}
-use Rattle.ca_base.specs.Allowed.{grant_for}
+use Rattle.ca_keys.specs.declared.access.Ask.{Ask}
+use Rattle.ca_keys.specs.declared.grant.Grant.{Grant}
+use Rattle.ca_keys.specs.declared.key.Key.{Key}
+use Rattle.ca_keys.specs.Allowed.{grant_for}
 use Rattle.ca_base.specs.Sight.{Sight, Invalidation, runs_in}
 use Rattle.ca_base.specs.objects.Region.{Region, grant_of_region}
-use Rattle.ca_base.specs.objects.Slices.{is_window_key, slot_of_key}
+use Rattle.ca_keys.specs.Numbers.{is_window_key}
+use Rattle.ca_base.specs.objects.Slices.{slot_of_key}
 use Rattle.ca_base.specs.objects.Window.{Binding}
 use Rattle.ca_grant.specs.Access.{FitInBytes, AreOfBuffer, buffer_after, memory_of_buffer}
 use Rattle.ca_grant.specs.Parts.{LiesWithin, grants_of_parts}

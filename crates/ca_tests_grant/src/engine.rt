@@ -1,7 +1,7 @@
 ghost use Rattle.std.specs.Prelude.{◌≡◌, ◌+◌, ◌<◌, ◌++◌, [], ◌∷◌, None, IfNone, IfOk, OnOk, OnErr, IsTrue, length};
 ghost use Rattle.std.specs.List.{AllByRecursion};
 ghost use Rattle.ca_base.specs.Sight.{denial_in};
-ghost use Rattle.ca_base.specs.objects.Slices.{is_window_key};
+ghost use Rattle.ca_keys.specs.Numbers.{is_window_key};
 ghost use Rattle.ca_grant.specs.Reaching.{IsPacketAsk, AreAtHand, invalidation_by};
 ghost use Rattle.ca_tests_grant.specs.Turn as turns;
 

@@ -1,7 +1,7 @@
 ghost use Rattle.std.specs.Prelude.{◌≡◌, ◌%◌, ◌≤◌, ◌<◌, ◌+◌, [], ◌∷◌, None, Some, OnOk, OnErr, IfOk, IfErr, IsTrue, length};
-ghost use Rattle.ca_base.specs.Memory.{bytes_at, little_endian, little_endian_bytes};
+ghost use Rattle.ca_keys.specs.Memory.{bytes_at, little_endian, little_endian_bytes};
 ghost use Rattle.ca_base.specs.declared.limits.TheConstants.{ATOMIC_BYTES};
-ghost use Rattle.ca_base.specs.objects.Slices.{is_window_key};
+ghost use Rattle.ca_keys.specs.Numbers.{is_window_key};
 ghost use Rattle.ca_grant.specs.Access.{buffer_after};
 ghost use Rattle.ca_memory.specs.Buffer.{memory_of};
 ghost use Rattle.ca_memory.specs.Number.{number_after};
@@ -27,7 +27,7 @@ pub struct SmallReach {
 }
 
 impl SmallReach {
-    ghost use Rattle.ca_base.specs.Memory.{places_count};
+    ghost use Rattle.ca_keys.specs.Memory.{places_count};
     ghost use Rattle.ca_base.specs.Sight.{denial_in, runs_in};
     ghost use Rattle.ca_base.specs.objects.Window.{count_without};
     ghost use Rattle.ca_grant.specs.Access.{FitInBytes};

@@ -3,23 +3,23 @@ use Rattle.std.proofs.Common.{◌<◌, ◌^◌, ◌≡◌, ℕ, Bool, true, fals
 use Rattle.std.specs.List.{AllByRecursion}
 use Rattle.std.specs.Option.{option_map}
 use Rattle.ca_model.specs.machine.Arrivals.{with_responder}
-use Rattle.ca_base.specs.declared.access.Ask.{Ask}
+use Rattle.ca_keys.specs.declared.access.Ask.{Ask}
 use Rattle.ca_base.specs.declared.change.State.TheVariants as states
-use Rattle.ca_base.specs.declared.memory.Memory.{Memory}
+use Rattle.ca_keys.specs.declared.memory.Memory.{Memory}
 use Rattle.ca_base.specs.declared.queue_numbers.Queued.{Queued}
 use Rattle.ca_base.specs.declared.step.Reason.{Reason}
 use Rattle.ca_base.specs.declared.step.Reason.TheVariants as reasons
 use Rattle.ca_base.specs.declared.step.Sent.{Sent}
 use Rattle.ca_base.specs.declared.step.StepError.{StepError}
-use Rattle.ca_base.specs.Refusals.{first_of}
+use Rattle.ca_keys.specs.Refusals.{first_of}
 use Rattle.ca_base.specs.Sight.{Invalidation, Sight}
 use Rattle.ca_base.specs.objects.QueuePair.{QueuePair}
 use Rattle.ca_base.specs.objects.Region.{after_region_invalidation, RegionState, NoRegion, Free, Registered, FastRegistered, grant_in_state, state_after_invalidation}
 use Rattle.ca_base.specs.objects.SharedReceives.{SharedReceives, after_receive_post, after_receive_take, is_full_of_receives}
-use Rattle.ca_base.specs.objects.Slices.{is_window_key}
+use Rattle.ca_keys.specs.Numbers.{is_window_key}
 use Rattle.ca_base.specs.objects.StateTable.{is_among}
 use Rattle.ca_base.specs.objects.Window.{Binding}
-use Rattle.ca_base.specs.Memory.{runs_for}
+use Rattle.ca_keys.specs.Memory.{runs_for}
 use Rattle.ca_grant.specs.Access.{FitInBytes}
 use Rattle.ca_grant.specs.Parts.{LiesWithin, grants_of_parts}
 use Rattle.ca_laws.proofs.ArrivalLemmas.{responder-queue}

@@ -1,8 +1,9 @@
 ghost use Rattle.std.specs.Prelude.{◌≡◌, ◌≤◌, ◌<◌, ◌^◌, if◌then◌else◌, suc, IfSome, IsTrue, None, ℕ, Option, false, true, option_copied};
 ghost use Rattle.std.specs.List.{AllByRecursion};
-ghost use Rattle.ca_base.specs.Numbers.{domain_of};
-ghost use Rattle.ca_base.specs.Refusals.{first_of};
-ghost use Rattle.ca_base.specs.objects.Slices.{is_window_key, slot_of_key};
+ghost use Rattle.ca_keys.specs.Numbers.{domain_of};
+ghost use Rattle.ca_keys.specs.Refusals.{first_of};
+ghost use Rattle.ca_keys.specs.Numbers.{is_window_key};
+ghost use Rattle.ca_base.specs.objects.Slices.{slot_of_key};
 ghost use Rattle.ca_grant.specs.Reaching.{AreAtHand};
 ghost use Rattle.ca_model.specs.Packets as packets;
 ghost use Rattle.ca_model.specs.machine.Delivery.{arrival_drops, packet_arrived};

@@ -1,6 +1,7 @@
 ghost use Rattle.std.specs.Prelude.{◌≡◌, ◌++◌, ◌∷◌, [], length, map, decimal, OnOk, OnErr, IfOk, IfSome};
 ghost use Rattle.hex.specs.Hex.{encode_lower};
-ghost use Rattle.ca_base.specs.Spelling.{piece_text, run_text};
+ghost use Rattle.ca_keys.specs.Spelling.{run_text};
+ghost use Rattle.ca_base.specs.Spelling.{piece_text};
 ghost use Rattle.ca_trace.specs.Words.{commas, hexadecimal};
 
 use arrayvec::ArrayString;

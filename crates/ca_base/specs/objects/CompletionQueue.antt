@@ -3,10 +3,10 @@ use Rattle.std.specs.Prelude.{ℕ, ◌+◌, ◌==◌, ◌&&◌, nat_lt, Bool, tr
 use Rattle.std.specs.List.{list_any}
 use Rattle.std.specs.Option.{option_or}
 use Rattle.ca_base.specs.declared.completion.Completion.{Completion}
-use Rattle.ca_base.specs.declared.names.QueueId.{QueueId}
+use Rattle.ca_keys.specs.declared.names.QueueId.{QueueId}
 use Rattle.ca_base.specs.declared.reserve.Reserve.{Reserve}
 use Rattle.ca_base.specs.declared.reserve.Reserve.TheVariants.{Sends, Receives, Shared}
-use Rattle.ca_base.specs.Equal.{bool_eq, queue_eq}
+use Rattle.ca_keys.specs.Equal.{bool_eq, queue_eq}
 
 -- who reserved, and for how many completions
 pub record Reservation : Type 0 where

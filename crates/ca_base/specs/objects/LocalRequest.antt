@@ -2,10 +2,10 @@
 -- refuses it, and what it revokes and grants. Contracts cite it.
 use Rattle.std.specs.Prelude.{ℕ, Bool, if◌then◌else◌, List, ◌∷◌, map, Option, None, is_none}
 use Rattle.std.specs.Option.{option_map, option_map_or}
-use Rattle.ca_base.specs.declared.grant.Grant.{Grant}
-use Rattle.ca_base.specs.declared.key.Key.{Key}
-use Rattle.ca_base.specs.declared.names.QueueId.{QueueId}
-use Rattle.ca_base.specs.declared.names.Slot.{Slot}
+use Rattle.ca_keys.specs.declared.grant.Grant.{Grant}
+use Rattle.ca_keys.specs.declared.key.Key.{Key}
+use Rattle.ca_keys.specs.declared.names.QueueId.{QueueId}
+use Rattle.ca_keys.specs.declared.names.Slot.{Slot}
 use Rattle.ca_base.specs.declared.refusals.OpRefusal.{OpRefusal}
 use Rattle.ca_base.specs.declared.refusals.OpRefusal.TheVariants as refusals
 use Rattle.ca_base.specs.declared.refusals.RegionError.{RegionError}
@@ -13,10 +13,10 @@ use Rattle.ca_base.specs.declared.refusals.RegionError.TheVariants.{NotValid}
 use Rattle.ca_base.specs.declared.refusals.WindowError.{WindowError}
 use Rattle.ca_base.specs.declared.refusals.WindowError.TheVariants.{NoWindow, WrongType}
 use Rattle.ca_base.specs.declared.region_view.RegionView.{RegionView}
-use Rattle.ca_base.specs.declared.rights.Rights.{Rights}
-use Rattle.ca_base.specs.Refusals.{first_of}
+use Rattle.ca_keys.specs.declared.rights.Rights.{Rights}
+use Rattle.ca_keys.specs.Refusals.{first_of}
 use Rattle.ca_base.specs.objects.Region.{Region, grant_of_region, has_other_key, view_of_grant, fast_registration_refusals, region_invalidation_refusals}
-use Rattle.ca_base.specs.objects.Slices.{is_window_key}
+use Rattle.ca_keys.specs.Numbers.{is_window_key}
 use Rattle.ca_base.specs.objects.Window.{Window, bind1_refusals, bind2_refusals, window_invalidation_refusals}
 
 -- what a local request revokes and grants

@@ -5,8 +5,8 @@ use Rattle.std.specs.Option.{option_map_or, option_and_then, option_or}
 use Rattle.ca_base.specs.declared.limits.TheConstants.{KEPT_ENVELOPES, MAX_UNDELIVERED}
 use Rattle.ca_base.specs.declared.lot.Lot.{Lot}
 use Rattle.ca_base.specs.declared.lot.Lot.TheVariants.{Pass, Lose, Repeat, Hold}
-use Rattle.ca_base.specs.declared.names.QueueId.{QueueId}
-use Rattle.ca_base.specs.Equal.{queue_eq}
+use Rattle.ca_keys.specs.declared.names.QueueId.{QueueId}
+use Rattle.ca_keys.specs.Equal.{queue_eq}
 
 -- an envelope: what the weather does to it, its bytes, and how often it was delivered
 pub record MailEnvelope : Type 0 where

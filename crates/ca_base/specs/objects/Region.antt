@@ -3,16 +3,16 @@
 use Rattle.std.specs.Prelude.{ℕ, suc, ◌+◌, ◌-◌, ◌/◌, ◌%◌, ◌^◌, ◌==◌, ◌||◌, nat_lt, Bool, true, false, not, List, [], ◌∷◌, length, Option, None, Some, is_none}
 use Rattle.std.specs.List.{list_any}
 use Rattle.std.specs.Option.{option_map_or}
-use Rattle.ca_base.specs.declared.grant.Grant.{Grant}
-use Rattle.ca_base.specs.declared.key.Key.{Key}
+use Rattle.ca_keys.specs.declared.grant.Grant.{Grant}
+use Rattle.ca_keys.specs.declared.key.Key.{Key}
 use Rattle.ca_base.specs.declared.limits.TheConstants.{PAGE_BYTES}
-use Rattle.ca_base.specs.declared.names.Slot.{Slot}
-use Rattle.ca_base.specs.declared.place.Run.{Run}
+use Rattle.ca_keys.specs.declared.names.Slot.{Slot}
+use Rattle.ca_keys.specs.declared.place.Run.{Run}
 use Rattle.ca_base.specs.declared.refusals.RegionError.{RegionError}
 use Rattle.ca_base.specs.declared.refusals.RegionError.TheVariants.{RightsNeedLocalWrite, NotFree, BadPages, OutsideBuffer, NotValid, KeyDiffers, NotFastRegistered, WindowsBound, Vacant}
 use Rattle.ca_base.specs.declared.region_view.RegionView.{RegionView}
-use Rattle.ca_base.specs.declared.rights.Rights.{Rights}
-use Rattle.ca_base.specs.Equal.{key_eq}
+use Rattle.ca_keys.specs.declared.rights.Rights.{Rights}
+use Rattle.ca_keys.specs.Equal.{key_eq}
 use Rattle.ca_base.specs.Grants.{next_low, needs_local_write, grant_of_registration, grant_of_fast_registration, page_runs}
 
 -- what stands in a region's slot

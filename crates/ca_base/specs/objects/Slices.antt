@@ -1,12 +1,12 @@
 -- Which names the configuration has, and what a key names. Contracts cite it.
 use Rattle.std.specs.Prelude.{ℕ, ◌-◌, ◌/◌, ◌%◌, ◌==◌, ◌&&◌, nat_le, nat_lt, Bool, false, not, Option, slice_get}
 use Rattle.std.specs.Option.{option_map_or, option_and_then}
-use Rattle.ca_base.specs.declared.key.Key.{Key}
-use Rattle.ca_base.specs.declared.names.DomainId.{DomainId}
-use Rattle.ca_base.specs.declared.names.QueueId.{QueueId}
-use Rattle.ca_base.specs.declared.names.Slot.{Slot}
+use Rattle.ca_keys.specs.declared.key.Key.{Key}
+use Rattle.ca_keys.specs.declared.names.DomainId.{DomainId}
+use Rattle.ca_keys.specs.declared.names.QueueId.{QueueId}
+use Rattle.ca_keys.specs.declared.names.Slot.{Slot}
 use Rattle.ca_base.specs.Configuration.{Adapter, Configuration}
-use Rattle.ca_base.specs.Numbers.{index_of}
+use Rattle.ca_keys.specs.Numbers.{index_of, is_window_key}
 
 -- an adapter of the configuration
 abbrev pub adapter_at : Configuration → ℕ → Option Adapter
@@ -35,10 +35,6 @@ slot_of_queue q = record {
 -- the queue pair's number is that of a configured slot
 abbrev pub has_queue : Configuration → QueueId → Bool
 has_queue c q = nat_le 256 q.number && has_slot c (λ a. a.qps) (slot_of_queue q)
-
--- a key names a window, and else a region
-abbrev pub is_window_key : Key → Bool
-is_window_key key = nat_le 0x8000 (index_of key % 0x10000)
 
 -- the slot that a key names, at a domain's adapter
 abbrev pub slot_of_key : DomainId → Key → Slot

@@ -10,9 +10,9 @@ use Rattle.ca_base.specs.declared.change.ModifyRefusal.TheVariants.{Transition, 
 use Rattle.ca_base.specs.declared.change.State.{State}
 use Rattle.ca_base.specs.declared.change.State.TheVariants as states
 use Rattle.ca_base.specs.declared.limits.TheConstants.{MAX_READS, MAX_RETRY, MAX_RNR_CODE}
-use Rattle.ca_base.specs.declared.names.QueueId.{QueueId}
+use Rattle.ca_keys.specs.declared.names.QueueId.{QueueId}
 use Rattle.ca_base.specs.Configuration.{Configuration}
-use Rattle.ca_base.specs.Equal.{queue_eq}
+use Rattle.ca_keys.specs.Equal.{queue_eq}
 use Rattle.ca_base.specs.objects.QueuePair.{QueuePair, psn_base, after_reset, in_error, without_answers}
 use Rattle.ca_base.specs.objects.Slices.{has_queue}
 

@@ -2,19 +2,19 @@
 -- cite it.
 use Rattle.std.specs.Prelude.{ℕ, ◌+◌, ◌-◌, ◌==◌, ◌&&◌, ◌||◌, nat_le, Bool, true, false, not, if◌then◌else◌, List, [], ◌∷◌, Option, None, Some, is_none}
 use Rattle.std.specs.Option.{option_map, option_map_or}
-use Rattle.ca_base.specs.declared.grant.Grant.{Grant}
-use Rattle.ca_base.specs.declared.key.Key.{Key}
-use Rattle.ca_base.specs.declared.names.QueueId.{QueueId}
-use Rattle.ca_base.specs.declared.names.Slot.{Slot}
+use Rattle.ca_keys.specs.declared.grant.Grant.{Grant}
+use Rattle.ca_keys.specs.declared.key.Key.{Key}
+use Rattle.ca_keys.specs.declared.names.QueueId.{QueueId}
+use Rattle.ca_keys.specs.declared.names.Slot.{Slot}
 use Rattle.ca_base.specs.declared.queue_numbers.WindowCount.{WindowCount}
 use Rattle.ca_base.specs.declared.refusals.WindowError.{WindowError}
 use Rattle.ca_base.specs.declared.refusals.WindowError.TheVariants.{NoWindow, WrongType, RegionNotValid, NoBindRight, RightsNeedLocalWrite, OutsideRegion, StillBound, Empty, Type1, NotBound, KeyDiffers, WrongQueue}
 use Rattle.ca_base.specs.declared.region_view.RegionView.{RegionView}
-use Rattle.ca_base.specs.declared.rights.Rights.{Rights}
-use Rattle.ca_base.specs.Equal.{key_eq, queue_eq}
+use Rattle.ca_keys.specs.declared.rights.Rights.{Rights}
+use Rattle.ca_keys.specs.Equal.{key_eq, queue_eq}
 use Rattle.ca_base.specs.Grants.{next_low, remote_rights, grant_of_bind}
-use Rattle.ca_base.specs.Numbers.{key_at, window_index}
-use Rattle.ca_base.specs.objects.Slices.{is_window_key}
+use Rattle.ca_keys.specs.Numbers.{key_at, window_index}
+use Rattle.ca_keys.specs.Numbers.{is_window_key}
 
 -- a window's binding: the region, by slot, the range, the rights, and of a type 2 window the queue pair
 pub record Binding : Type 0 where

@@ -1,8 +1,8 @@
 -- Packets that arrive at a responder, and its answers: each drop, packets ahead and duplicates, each way to be invalid,
 -- receives, denials, and what is accepted. For proofs only.
 use Rattle.std.proofs.Common.{◌≡◌, ℕ, ◌^◌, ◌-◌, Bool, List, [], ◌∷◌, ◌++◌, map, replicate, true, false, Option, None, Some, refl}
-use Rattle.ca_base.specs.declared.access.Denial.{Denial}
-use Rattle.ca_base.specs.declared.access.Denial.TheVariants as denials
+use Rattle.ca_keys.specs.declared.access.Denial.{Denial}
+use Rattle.ca_keys.specs.declared.access.Denial.TheVariants as denials
 use Rattle.ca_base.specs.declared.change.State.TheVariants as states
 use Rattle.ca_base.specs.declared.completion.WcStatus.{WcStatus}
 use Rattle.ca_base.specs.declared.completion.WcStatus.TheVariants as statuses
@@ -10,7 +10,7 @@ use Rattle.ca_base.specs.declared.lot.Lot.TheVariants as lots
 use Rattle.ca_base.specs.declared.queue_numbers.Message.TheVariants as messages
 use Rattle.ca_base.specs.declared.queue_numbers.Queued.{Queued}
 use Rattle.ca_base.specs.declared.queue_numbers.Queued.TheVariants as queued
-use Rattle.ca_base.specs.declared.rights.Rights.{Rights}
+use Rattle.ca_keys.specs.declared.rights.Rights.{Rights}
 use Rattle.ca_base.specs.objects.QueuePair.{QueuePair, QueueSlot, NoQueue, Present}
 use Rattle.ca_base.specs.objects.Window.{vacant_window, after_binding, after_window_allocation}
 use Rattle.ca_wire.specs.declared.requests.SendKind.TheVariants.{Plain}

@@ -10,7 +10,7 @@ use Rattle.ca_base.specs.declared.change.ModifyRefusal.TheVariants.{OutOfRange, 
 use Rattle.ca_base.specs.declared.change.State.{State}
 use Rattle.ca_base.specs.declared.change.State.TheVariants as states
 use Rattle.ca_base.specs.declared.queue_numbers.Queued.TheVariants as queued
-use Rattle.ca_base.specs.Refusals.{first_of}
+use Rattle.ca_keys.specs.Refusals.{first_of}
 use Rattle.ca_base.specs.objects.QueuePair.{QueuePair, psn_base}
 use Rattle.ca_base.specs.objects.StateTable.{queue_after_change, modify_refusals}
 use Rattle.ca_base.specs.objects.WorkQueue.{occupied_count}

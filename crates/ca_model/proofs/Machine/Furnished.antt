@@ -4,16 +4,16 @@ use Rattle.std.proofs.Common.{ℕ, ◌+◌, List, [], ◌∷◌, true, false, No
 use Rattle.ca_base.specs.declared.change.State.{State}
 use Rattle.ca_base.specs.declared.change.State.TheVariants as states
 use Rattle.ca_base.specs.declared.lot.Lot.{Lot}
-use Rattle.ca_base.specs.declared.place.Run.{Run}
+use Rattle.ca_keys.specs.declared.place.Run.{Run}
 use Rattle.ca_base.specs.declared.queue_numbers.Queued.{Queued}
 use Rattle.ca_base.specs.declared.request.RecvRequest.{RecvRequest}
 use Rattle.ca_base.specs.declared.request.SendOp.{SendOp}
 use Rattle.ca_base.specs.declared.request.SendOp.TheVariants as ops
 use Rattle.ca_base.specs.declared.request.SendRequest.{SendRequest}
 use Rattle.ca_base.specs.declared.reserve.Reserve.TheVariants as reserves
-use Rattle.ca_base.specs.declared.rights.Rights.{Rights}
+use Rattle.ca_keys.specs.declared.rights.Rights.{Rights}
 use Rattle.ca_base.specs.Configuration.{Configuration}
-use Rattle.ca_base.specs.Memory.{zeros}
+use Rattle.ca_keys.specs.Memory.{zeros}
 use Rattle.ca_base.specs.objects.CompletionQueue.{empty_cq, after_reserve}
 use Rattle.ca_base.specs.objects.Mailbox.{Mailbox, MailEnvelope, empty_mailbox, with_peer}
 use Rattle.ca_base.specs.objects.QueuePair.{QueuePair, Present, queue_at_start, psn_base}

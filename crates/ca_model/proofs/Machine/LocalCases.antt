@@ -8,7 +8,7 @@ use Rattle.ca_base.specs.declared.refusals.RegionError.TheVariants as regions
 use Rattle.ca_base.specs.declared.refusals.WindowError.TheVariants as windows
 use Rattle.ca_base.specs.declared.request.SendOp.{SendOp}
 use Rattle.ca_base.specs.declared.request.SendOp.TheVariants as ops
-use Rattle.ca_base.specs.declared.rights.Rights.{Rights}
+use Rattle.ca_keys.specs.declared.rights.Rights.{Rights}
 use Rattle.ca_base.specs.objects.QueuePair.{Present, QueuePair}
 use Rattle.ca_base.specs.objects.Region.{vacant_region, after_allocation, after_fast_registration, with_window_bound}
 use Rattle.ca_base.specs.objects.Window.{vacant_window, after_binding, after_window_allocation}

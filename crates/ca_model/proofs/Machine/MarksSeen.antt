@@ -1,8 +1,8 @@
 -- What examples of the machine's rows look for among marks: a drop, a denial, the statuses of completions. For proofs only.
 use Rattle.std.proofs.Common.{List, [], ◌∷◌, Option, None, Some}
-use Rattle.ca_base.specs.declared.access.Denial.{Denial}
+use Rattle.ca_keys.specs.declared.access.Denial.{Denial}
 use Rattle.ca_base.specs.declared.completion.WcStatus.{WcStatus}
-use Rattle.ca_base.specs.declared.verdict.Verdict.TheVariants as verdicts
+use Rattle.ca_keys.specs.declared.verdict.Verdict.TheVariants as verdicts
 use Rattle.ca_model.specs.declared.mark.Drop1.{Drop1}
 use Rattle.ca_model.specs.declared.mark.Mark.{Mark}
 use Rattle.ca_model.specs.declared.mark.Mark.TheVariants as marks

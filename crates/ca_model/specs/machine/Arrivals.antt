@@ -2,14 +2,14 @@
 -- Contracts cite it.
 use Rattle.std.specs.Prelude.{ℕ, Bool, true, false, not, if◌then◌else◌, List, [], ◌∷◌, ◌++◌, filter, length, Option, None, Some}
 use Rattle.std.specs.Option.{option_map, option_map_or, option_and_then}
-use Rattle.ca_base.specs.declared.access.Ask.{Ask}
-use Rattle.ca_base.specs.declared.access.Kind.{Kind}
-use Rattle.ca_base.specs.declared.key.Key.{Key}
+use Rattle.ca_keys.specs.declared.access.Ask.{Ask}
+use Rattle.ca_keys.specs.declared.access.Kind.{Kind}
+use Rattle.ca_keys.specs.declared.key.Key.{Key}
 use Rattle.ca_base.specs.declared.queue_numbers.Message.{Message}
 use Rattle.ca_base.specs.declared.queue_numbers.Queued.{Queued}
 use Rattle.ca_base.specs.declared.queue_numbers.Queued.TheVariants as queued
 use Rattle.ca_base.specs.declared.queue_numbers.ResponderNumbers.{ResponderNumbers}
-use Rattle.ca_base.specs.declared.verdict.Verdict.{Verdict}
+use Rattle.ca_keys.specs.declared.verdict.Verdict.{Verdict}
 use Rattle.ca_base.specs.objects.QueuePair.{QueuePair, in_error}
 use Rattle.ca_base.specs.objects.SharedReceives.{PlacedReceive, SharedReceives, first_receive}
 use Rattle.ca_base.specs.objects.WorkQueue.{WorkQueue, after_take, item_at}

@@ -2,10 +2,10 @@
 -- cite it.
 use Rattle.std.specs.Prelude.{ℕ, ◌==◌, Bool, not, if◌then◌else◌, List, [], ◌∷◌, ◌++◌, Option, None, Some, Result, Ok, Err}
 use Rattle.ca_base.specs.declared.change.State.TheVariants as states
-use Rattle.ca_base.specs.declared.names.QueueId.{QueueId}
+use Rattle.ca_keys.specs.declared.names.QueueId.{QueueId}
 use Rattle.ca_base.specs.declared.step.Reason.TheVariants as reasons
 use Rattle.ca_base.specs.Configuration.{Configuration}
-use Rattle.ca_base.specs.Refusals.{first_of}
+use Rattle.ca_keys.specs.Refusals.{first_of}
 use Rattle.ca_base.specs.objects.Mailbox.{Mailbox, after_delivery, bytes_lent}
 use Rattle.ca_base.specs.objects.QueuePair.{QueuePair, QueueSlot, NoQueue, Present}
 use Rattle.ca_base.specs.objects.SharedReceives.{SharedReceives}

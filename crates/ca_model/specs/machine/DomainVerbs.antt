@@ -1,6 +1,6 @@
 -- The verbs on protection domains. Contracts cite it.
 use Rattle.std.specs.Prelude.{nat_lt, true, false, not, [], ◌∷◌}
-use Rattle.ca_base.specs.declared.names.DomainId.{DomainId}
+use Rattle.ca_keys.specs.declared.names.DomainId.{DomainId}
 use Rattle.ca_base.specs.objects.Domain.{with_allocation}
 use Rattle.ca_model.specs.declared.answer.Answer.TheVariants as answers
 use Rattle.ca_model.specs.declared.answer.Refusal.TheVariants.{DomainInUse, DomainTaken, NoDomain}

@@ -3,26 +3,26 @@
 use Rattle.std.specs.Prelude.{ℕ, suc, ◌+◌, ◌-◌, ◌%◌, ◌^◌, ◌==◌, ◌&&◌, ◌||◌, nat_le, nat_lt, Bool, true, false, not, if◌then◌else◌, List, [], ◌∷◌, ◌++◌, length, Option, None, Some, is_some, is_none}
 use Rattle.std.specs.List.{flat_map}
 use Rattle.std.specs.Option.{option_map, option_map_or}
-use Rattle.ca_base.specs.declared.access.Ask.{Ask}
-use Rattle.ca_base.specs.declared.access.Kind.{Kind}
-use Rattle.ca_base.specs.declared.access.Kind.TheVariants as kinds
+use Rattle.ca_keys.specs.declared.access.Ask.{Ask}
+use Rattle.ca_keys.specs.declared.access.Kind.{Kind}
+use Rattle.ca_keys.specs.declared.access.Kind.TheVariants as kinds
 use Rattle.ca_base.specs.declared.completion.WcOp.TheVariants as operations
 use Rattle.ca_base.specs.declared.completion.WcStatus.{WcStatus}
 use Rattle.ca_base.specs.declared.completion.WcStatus.TheVariants.{Success, LocalLength, LocalProtection, MemoryManagement}
-use Rattle.ca_base.specs.declared.key.Key.{Key}
+use Rattle.ca_keys.specs.declared.key.Key.{Key}
 use Rattle.ca_base.specs.declared.limits.TheConstants.{ATOMIC_BYTES, MAX_MESSAGE_BYTES, MAX_READS}
 use Rattle.ca_base.specs.declared.queue_numbers.Message.{Message}
 use Rattle.ca_base.specs.declared.queue_numbers.Message.TheVariants as messages
 use Rattle.ca_base.specs.declared.queue_numbers.Queued.TheVariants as queued
 use Rattle.ca_base.specs.declared.refusals.OpRefusal.{OpRefusal}
-use Rattle.ca_base.specs.declared.verdict.Verdict.TheVariants as verdicts
-use Rattle.ca_base.specs.Memory.{little_endian, little_endian_bytes}
+use Rattle.ca_keys.specs.declared.verdict.Verdict.TheVariants as verdicts
+use Rattle.ca_keys.specs.Memory.{little_endian, little_endian_bytes}
 use Rattle.ca_base.specs.Sight.{Invalidation}
 use Rattle.ca_base.specs.objects.Answers.{fresh_count, with_ack_at_end}
 use Rattle.ca_base.specs.objects.QueuePair.{QueuePair}
 use Rattle.ca_base.specs.objects.Saved.{after_save}
 use Rattle.ca_base.specs.objects.SharedReceives.{PlacedReceive, SharedReceives}
-use Rattle.ca_base.specs.objects.Slices.{is_window_key}
+use Rattle.ca_keys.specs.Numbers.{is_window_key}
 use Rattle.ca_wire.specs.declared.atomic_eth.AtomicEth.{AtomicEth}
 use Rattle.ca_wire.specs.declared.reth.Reth.{Reth}
 use Rattle.ca_wire.specs.declared.segment.Position.{Position}

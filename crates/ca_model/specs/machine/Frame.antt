@@ -1,7 +1,7 @@
 -- The frame: what an event depends on, and what it leaves as it was. Laws cite it.
 use Rattle.std.specs.Prelude.{◌≡◌, Bool, true, false, List, [], ◌∷◌}
 use Rattle.ca_base.specs.Configuration.{Configuration}
-use Rattle.ca_base.specs.Equal.{domain_eq, place_eq, queue_eq, slot_eq}
+use Rattle.ca_keys.specs.Equal.{domain_eq, place_eq, queue_eq, slot_eq}
 use Rattle.ca_model.specs.declared.event.Event.{Event}
 use Rattle.ca_model.specs.machine.Plan.{Outcome, NotReady, Did, touches}
 use Rattle.ca_model.specs.machine.Step.{plan, step}

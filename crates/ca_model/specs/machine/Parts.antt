@@ -3,16 +3,16 @@ use Rattle.std.specs.Prelude.{◌≡◌, ℕ, min, ◌⊎◌, true, if◌then◌
 use Rattle.std.specs.List.{flat_map}
 use Rattle.std.specs.Option.{option_and_then, option_map_or}
 use Rattle.ca_base.specs.declared.completion.Completion.{Completion}
-use Rattle.ca_base.specs.declared.key.Key.{Key}
+use Rattle.ca_keys.specs.declared.key.Key.{Key}
 use Rattle.ca_base.specs.declared.limits.TheConstants.{MAX_POLLED}
-use Rattle.ca_base.specs.declared.names.DomainId.{DomainId}
-use Rattle.ca_base.specs.declared.names.QueueId.{QueueId}
-use Rattle.ca_base.specs.declared.names.Slot.{Slot}
-use Rattle.ca_base.specs.declared.place.Run.{Run}
+use Rattle.ca_keys.specs.declared.names.DomainId.{DomainId}
+use Rattle.ca_keys.specs.declared.names.QueueId.{QueueId}
+use Rattle.ca_keys.specs.declared.names.Slot.{Slot}
+use Rattle.ca_keys.specs.declared.place.Run.{Run}
 use Rattle.ca_base.specs.declared.request.SendOp.{SendOp}
 use Rattle.ca_base.specs.declared.request.SendOp.TheVariants as ops
 use Rattle.ca_base.specs.Configuration.{Configuration}
-use Rattle.ca_base.specs.Numbers.{queue_of}
+use Rattle.ca_keys.specs.Numbers.{queue_of}
 use Rattle.ca_base.specs.objects.CompletionQueue.{CompletionQueue}
 use Rattle.ca_base.specs.objects.Mailbox.{Correspondent, bytes_lent}
 use Rattle.ca_base.specs.objects.QueuePair.{QueuePair, queue_in, recv_cq_of, send_cq_of, srq_of}

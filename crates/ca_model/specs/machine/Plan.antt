@@ -1,9 +1,9 @@
 -- Plans: what an event does, as a text that looks at things and then changes them. What it looks at, it names. Contracts
 -- cite it.
 use Rattle.std.specs.Prelude.{ℕ, Bool, if◌then◌else◌, List, [], ◌∷◌, ◌++◌, map}
-use Rattle.ca_base.specs.declared.place.Run.{Run}
+use Rattle.ca_keys.specs.declared.place.Run.{Run}
 use Rattle.ca_base.specs.declared.step.Reason.{Reason}
-use Rattle.ca_base.specs.Memory.{bytes_at, memory_after, places_of}
+use Rattle.ca_keys.specs.Memory.{bytes_at, memory_after, places_of}
 use Rattle.ca_model.specs.declared.mark.Mark.{Mark}
 use Rattle.ca_model.specs.machine.World.{World, Name, Byte_at, Thing, get, put}
 

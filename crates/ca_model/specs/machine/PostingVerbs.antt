@@ -4,12 +4,12 @@ use Rattle.std.specs.Option.{option_map, option_map_or}
 use Rattle.ca_base.specs.declared.change.Field.TheVariants as fields
 use Rattle.ca_base.specs.declared.change.State.TheVariants as states
 use Rattle.ca_base.specs.declared.limits.TheConstants.{ATOMIC_BYTES, MAX_MESSAGE_BYTES}
-use Rattle.ca_base.specs.declared.names.Slot.{Slot}
+use Rattle.ca_keys.specs.declared.names.Slot.{Slot}
 use Rattle.ca_base.specs.declared.request.RecvRequest.{RecvRequest}
 use Rattle.ca_base.specs.declared.request.SendOp.{SendOp}
 use Rattle.ca_base.specs.declared.request.SendOp.TheVariants as ops
 use Rattle.ca_base.specs.declared.request.SendRequest.{SendRequest}
-use Rattle.ca_base.specs.Numbers.{key_at, window_index}
+use Rattle.ca_keys.specs.Numbers.{key_at, window_index}
 use Rattle.ca_base.specs.objects.QueuePair.{QueuePair, Present, recv_cq_of, send_cq_of, with_all_flushed}
 use Rattle.ca_base.specs.objects.SharedReceives.{SharedReceives, SrqSlot, after_receive_post, is_full_of_receives}
 use Rattle.ca_base.specs.objects.StateTable.{is_among, state_eq}

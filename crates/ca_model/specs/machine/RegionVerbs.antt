@@ -2,11 +2,11 @@
 use Rattle.std.specs.Prelude.{ℕ, ◌==◌, ◌||◌, nat_lt, not, List, [], ◌∷◌}
 use Rattle.std.specs.Option.{option_map_or}
 use Rattle.ca_base.specs.declared.change.Field.TheVariants as fields
-use Rattle.ca_base.specs.declared.grant.Grant.{Grant}
+use Rattle.ca_keys.specs.declared.grant.Grant.{Grant}
 use Rattle.ca_base.specs.declared.limits.TheConstants.{MAX_PAGES}
-use Rattle.ca_base.specs.declared.names.Slot.{Slot}
-use Rattle.ca_base.specs.declared.place.Run.{Run}
-use Rattle.ca_base.specs.declared.rights.Rights.{Rights}
+use Rattle.ca_keys.specs.declared.names.Slot.{Slot}
+use Rattle.ca_keys.specs.declared.place.Run.{Run}
+use Rattle.ca_keys.specs.declared.rights.Rights.{Rights}
 use Rattle.ca_base.specs.Grants.{grant_of_registration, next_low, registration_refusals}
 use Rattle.ca_base.specs.objects.Domain.{with_object, without_object}
 use Rattle.ca_base.specs.objects.Region.{after_allocation, after_deregistration, after_registration, deregistration_refusals, grant_of_region, is_vacant_region}

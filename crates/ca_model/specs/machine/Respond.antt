@@ -2,17 +2,17 @@
 use Rattle.std.specs.Prelude.{ℕ, suc, ◌+◌, ◌-◌, ◌%◌, ◌^◌, ◌==◌, nat_le, min, Bool, true, false, not, if◌then◌else◌, List, [], ◌∷◌, drop, Option, None, Some, is_none, slice_get}
 use Rattle.std.specs.List.{flat_map}
 use Rattle.std.specs.Option.{option_map_or}
-use Rattle.ca_base.specs.declared.access.Ask.{Ask}
-use Rattle.ca_base.specs.declared.access.Kind.TheVariants as kinds
+use Rattle.ca_keys.specs.declared.access.Ask.{Ask}
+use Rattle.ca_keys.specs.declared.access.Kind.TheVariants as kinds
 use Rattle.ca_base.specs.declared.change.State.TheVariants as states
-use Rattle.ca_base.specs.declared.key.Key.{Key}
+use Rattle.ca_keys.specs.declared.key.Key.{Key}
 use Rattle.ca_base.specs.declared.queue_numbers.Queued.{Queued}
 use Rattle.ca_base.specs.declared.queue_numbers.Queued.TheVariants as queued
 use Rattle.ca_base.specs.declared.step.Reason.{Reason}
 use Rattle.ca_base.specs.declared.step.Reason.TheVariants as reasons
 use Rattle.ca_base.specs.declared.step.Sent.TheVariants.{Spelt}
-use Rattle.ca_base.specs.declared.verdict.Verdict.TheVariants as verdicts
-use Rattle.ca_base.specs.Refusals.{first_of}
+use Rattle.ca_keys.specs.declared.verdict.Verdict.TheVariants as verdicts
+use Rattle.ca_keys.specs.Refusals.{first_of}
 use Rattle.ca_base.specs.objects.QueuePair.{QueuePair, in_error, without_answers}
 use Rattle.ca_base.specs.objects.StateTable.{is_among}
 use Rattle.ca_wire.specs.declared.segment.Segment.{Segment}

@@ -1,13 +1,13 @@
 -- The requester's responses: what each makes of a queue pair. Contracts cite it.
 use Rattle.std.specs.Prelude.{ℕ, suc, ◌-◌, ◌*◌, ◌==◌, ◌&&◌, ◌||◌, nat_le, nat_lt, Bool, true, false, not, if◌then◌else◌, List, [], ◌∷◌, ◌++◌, length, take, drop, Option, None, Some}
 use Rattle.std.specs.Option.{option_map_or, option_and_then}
-use Rattle.ca_base.specs.declared.access.Ask.{Ask}
-use Rattle.ca_base.specs.declared.access.Kind.TheVariants as kinds
+use Rattle.ca_keys.specs.declared.access.Ask.{Ask}
+use Rattle.ca_keys.specs.declared.access.Kind.TheVariants as kinds
 use Rattle.ca_base.specs.declared.change.State.TheVariants as states
 use Rattle.ca_base.specs.declared.completion.WcStatus.TheVariants.{BadResponse, LocalProtection, RemoteAccess, RemoteInvalidRequest, RemoteOperation, RnrRetryExceeded}
 use Rattle.ca_base.specs.declared.limits.TheConstants.{MAX_RETRY}
-use Rattle.ca_base.specs.declared.verdict.Verdict.TheVariants as verdicts
-use Rattle.ca_base.specs.Memory.{little_endian_bytes}
+use Rattle.ca_keys.specs.declared.verdict.Verdict.TheVariants as verdicts
+use Rattle.ca_keys.specs.Memory.{little_endian_bytes}
 use Rattle.ca_base.specs.objects.QueuePair.{QueuePair}
 use Rattle.ca_base.specs.objects.StateTable.{is_among}
 use Rattle.ca_psn.specs.Psn.{widened}

@@ -1,14 +1,14 @@
 -- Rows: what an engine does with a queue pair, apart from the keys and the memory that it meets. Contracts cite it.
 use Rattle.std.specs.Prelude.{ℕ, Bool, false, if◌then◌else◌, List, [], ◌∷◌, map, Option, None, Some, is_none}
 use Rattle.std.specs.Option.{option_and_then}
-use Rattle.ca_base.specs.declared.access.Ask.{Ask}
-use Rattle.ca_base.specs.declared.grant.Grant.{Grant}
-use Rattle.ca_base.specs.declared.names.Slot.{Slot}
+use Rattle.ca_keys.specs.declared.access.Ask.{Ask}
+use Rattle.ca_keys.specs.declared.grant.Grant.{Grant}
+use Rattle.ca_keys.specs.declared.names.Slot.{Slot}
 use Rattle.ca_base.specs.declared.refusals.OpRefusal.{OpRefusal}
 use Rattle.ca_base.specs.declared.step.Reason.{Reason}
 use Rattle.ca_base.specs.declared.step.Sent.{Sent}
 use Rattle.ca_base.specs.declared.step.Sent.TheVariants.{Silent}
-use Rattle.ca_base.specs.Allowed.{grant_for}
+use Rattle.ca_keys.specs.Allowed.{grant_for}
 use Rattle.ca_base.specs.Configuration.{Configuration}
 use Rattle.ca_base.specs.Sight.{Sight, Invalidation, DeniedAsk, or_denied, denial_by_grant, runs_by_grant, bytes_in, first_denied}
 use Rattle.ca_base.specs.objects.LocalRequest.{region_refusal, window_refusal, unnamed_refusal}

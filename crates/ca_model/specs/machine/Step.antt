@@ -1,10 +1,10 @@
 -- The plan of each event, and what one step of the machine makes. Contracts cite it.
 use Rattle.std.specs.Prelude.{ℕ, ◌&&◌, Bool, true, length, is_some}
 use Rattle.std.specs.Option.{option_map_or}
-use Rattle.ca_base.specs.declared.place.Run.{Run}
+use Rattle.ca_keys.specs.declared.place.Run.{Run}
 use Rattle.ca_base.specs.declared.request.SendOp.{SendOp}
 use Rattle.ca_base.specs.declared.request.SendOp.TheVariants as ops
-use Rattle.ca_base.specs.declared.names.DomainId.{DomainId}
+use Rattle.ca_keys.specs.declared.names.DomainId.{DomainId}
 use Rattle.ca_base.specs.Configuration.{Configuration}
 use Rattle.ca_base.specs.objects.Slices.{buffer_length, has_domain, has_queue, has_slot}
 use Rattle.ca_model.specs.declared.answer.Refusal.TheVariants.{NoSuch}

@@ -1,8 +1,8 @@
 -- The verbs on memory windows. Contracts cite it.
 use Rattle.std.specs.Prelude.{ℕ, ◌-◌, ◌==◌, ◌||◌, not, List, [], ◌∷◌, ◌++◌, Option, None, Some}
 use Rattle.ca_base.specs.declared.change.Field.TheVariants as fields
-use Rattle.ca_base.specs.declared.names.QueueId.{QueueId}
-use Rattle.ca_base.specs.declared.names.Slot.{Slot}
+use Rattle.ca_keys.specs.declared.names.QueueId.{QueueId}
+use Rattle.ca_keys.specs.declared.names.Slot.{Slot}
 use Rattle.ca_base.specs.objects.Domain.{Domain, with_object, without_object}
 use Rattle.ca_base.specs.objects.QueuePair.{QueueSlot, NoQueue, Present}
 use Rattle.ca_base.specs.objects.Region.{with_window_unbound}

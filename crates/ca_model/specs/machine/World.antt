@@ -1,11 +1,11 @@
 -- The world: everything that the adapters of a fabric are at one moment, each thing by its name. Contracts cite it.
 use Rattle.std.specs.Prelude.{ℕ, Option, None}
-use Rattle.ca_base.specs.declared.names.DomainId.{DomainId}
-use Rattle.ca_base.specs.declared.names.QueueId.{QueueId}
-use Rattle.ca_base.specs.declared.names.Slot.{Slot}
-use Rattle.ca_base.specs.declared.place.Place.{Place}
-use Rattle.ca_base.specs.Equal.{domain_eq, place_eq, queue_eq, slot_eq}
-use Rattle.ca_base.specs.Memory.{ByteMap}
+use Rattle.ca_keys.specs.declared.names.DomainId.{DomainId}
+use Rattle.ca_keys.specs.declared.names.QueueId.{QueueId}
+use Rattle.ca_keys.specs.declared.names.Slot.{Slot}
+use Rattle.ca_keys.specs.declared.place.Place.{Place}
+use Rattle.ca_keys.specs.Equal.{domain_eq, place_eq, queue_eq, slot_eq}
+use Rattle.ca_keys.specs.Memory.{ByteMap}
 use Rattle.ca_base.specs.objects.CompletionQueue.{CompletionQueue}
 use Rattle.ca_base.specs.objects.Domain.{Domain, free_domain}
 use Rattle.ca_base.specs.objects.Mailbox.{Mailbox, empty_mailbox}

@@ -10,7 +10,7 @@ use Rattle.ca_wire.specs.Packet.{Fields, Spells, IsWellFormed, FitsBits, packet_
 use Rattle.ca_wire.specs.declared.opcode.TheConstants.{RDMA_WRITE_ONLY}
 use Rattle.ca_wire.specs.Table.{row_of, headers_of}
 use Rattle.ca_trace.specs.Trace.{call}
-use Rattle.ca_base.specs.Spelling.{rights_text as rights}
+use Rattle.ca_keys.specs.Spelling.{rights_text as rights}
 use Rattle.ca_program.specs.declared.first_path.script.Script.{Script}
 use Rattle.ca_program.specs.declared.first_path.lines.Registration.{Registration}
 use Rattle.ca_program.specs.FirstPath.Form.{IsOfForm, IsWrite, queue, alloc_pd, create_cq, create_qp, reg_mr, init, rtr, lines}

@@ -1,10 +1,10 @@
 -- What the definitions say of the first script's history, and of histories that differ from it in one thing. For proofs
 -- only.
 use Rattle.std.proofs.Common.{◌≡◌, ℕ, true, false, List, [], ◌∷◌, ◌++◌, None, Some, refl}
-use Rattle.ca_base.specs.declared.access.Denial.TheVariants.{OutOfRange, NoRight}
-use Rattle.ca_base.specs.declared.grant.Grant.{Grant}
-use Rattle.ca_base.specs.declared.rights.Rights.{Rights}
-use Rattle.ca_base.specs.Memory.{zeros}
+use Rattle.ca_keys.specs.declared.access.Denial.TheVariants.{OutOfRange, NoRight}
+use Rattle.ca_keys.specs.declared.grant.Grant.{Grant}
+use Rattle.ca_keys.specs.declared.rights.Rights.{Rights}
+use Rattle.ca_keys.specs.Memory.{zeros}
 use Rattle.ca_model.specs.declared.answer.Answer.TheVariants as answers
 use Rattle.ca_model.specs.declared.mark.Mark.{Mark}
 use Rattle.ca_model.specs.declared.mark.Mark.TheVariants as marks

@@ -1,13 +1,13 @@
 -- The history of a script is lawful.
 use Rattle.std.proofs.Common.{◌≡◌, ℕ, ◌<◌, ◌==◌, nat_le, nat_lt, Bool, true, false, ◌&&◌, ◌||◌, List, [], ◌∷◌, length, Option, None, Some, is_none, Ok, refl, sym, ap, subst, arith, ◌∙◌}
 use Rattle.std.proofs.lemmas.Bool.Decides.{nat_tests}
-use Rattle.ca_base.specs.declared.access.Denial.{Denial}
-use Rattle.ca_base.specs.declared.access.Denial.TheVariants.{NoGrant, WrongQueue, NoRight, OutOfRange}
-use Rattle.ca_base.specs.Allowed.{denial_of}
-use Rattle.ca_base.specs.declared.access.Kind.TheVariants as kinds
-use Rattle.ca_base.specs.declared.rights.Rights.{Rights}
-use Rattle.ca_base.specs.Equal.{denial_eq, bool_eq, rights_eq}
-use Rattle.ca_base.specs.Memory.{zeros, places_count}
+use Rattle.ca_keys.specs.declared.access.Denial.{Denial}
+use Rattle.ca_keys.specs.declared.access.Denial.TheVariants.{NoGrant, WrongQueue, NoRight, OutOfRange}
+use Rattle.ca_keys.specs.Allowed.{denial_of}
+use Rattle.ca_keys.specs.declared.access.Kind.TheVariants as kinds
+use Rattle.ca_keys.specs.declared.rights.Rights.{Rights}
+use Rattle.ca_keys.specs.Equal.{denial_eq, bool_eq, rights_eq}
+use Rattle.ca_keys.specs.Memory.{zeros, places_count}
 use Rattle.ca_model.specs.declared.answer.Refusal.{Refusal}
 use Rattle.std.specs.Option.{option_eq}
 use Rattle.std.specs.Str.{bytes_eq}

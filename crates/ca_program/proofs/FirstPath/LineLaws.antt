@@ -5,7 +5,7 @@ use Rattle.std.proofs.lemmas.Bool.{and_parts, and_from, ltb-true, leb-true, lt-l
 use Rattle.std.proofs.lemmas.Option.{cond_some}
 use Rattle.hex.specs.Hex.{encode_lower}
 use Rattle.ca_base.specs.declared.limits.TheConstants.{MAX_BUFFER_BYTES}
-use Rattle.ca_base.specs.Spelling.{rights_text as rights}
+use Rattle.ca_keys.specs.Spelling.{rights_text as rights}
 use Rattle.ca_program.specs.declared.first_path.lines.Registration.{Registration}
 use Rattle.ca_program.specs.FirstPath.Form.{line_text}
 use Rattle.ca_program.specs.FirstPath.WordReaders.{strip, word_at, decimal_in, rights_in, buffer_at, region_at, inject_at, no_rights}

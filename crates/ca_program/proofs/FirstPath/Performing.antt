@@ -1,8 +1,8 @@
 -- What the steps of a script make together, and what its packet asks.
 use Rattle.std.proofs.Common.{◌≡◌, ℕ, List, [], ◌∷◌, ◌++◌, length, Option, None, Some, IsSome, IsSomeAnd, Result, IsOkAnd, refl, sym, ap, subst}
-use Rattle.ca_base.specs.declared.access.Denial.{Denial}
-use Rattle.ca_base.specs.declared.grant.Grant.{Grant}
-use Rattle.ca_base.specs.Allowed.{denial_of}
+use Rattle.ca_keys.specs.declared.access.Denial.{Denial}
+use Rattle.ca_keys.specs.declared.grant.Grant.{Grant}
+use Rattle.ca_keys.specs.Allowed.{denial_of}
 use Rattle.ca_model.specs.declared.answer.Answer.TheVariants as answers
 use Rattle.ca_model.specs.Entries.{EntryValue}
 use Rattle.ca_program.specs.declared.first_path.script.Script.{Script}

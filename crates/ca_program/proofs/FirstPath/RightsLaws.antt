@@ -4,8 +4,8 @@ use Rattle.std.specs.Str.{bytes_eq}
 use Rattle.std.proofs.lemmas.Bool.{cases_Bool, or_parts, cond_both, cond-true, eqb-true, eqb-false}
 use Rattle.std.proofs.lemmas.List.{nil_from_length}
 use Rattle.std.proofs.lemmas.Slice.Eq.{bytes_eq-Decides}
-use Rattle.ca_base.specs.declared.rights.Rights.{Rights}
-use Rattle.ca_base.specs.Spelling.{rights_text as rights, letter, has_right, dash}
+use Rattle.ca_keys.specs.declared.rights.Rights.{Rights}
+use Rattle.ca_keys.specs.Spelling.{rights_text as rights, letter, has_right, dash}
 use Rattle.ca_program.specs.FirstPath.WordReaders.{letter_in, rights_in, no_rights}
 use Rattle.ca_program.proofs.FirstPath.WordLaws.{IsWord, IsPlain, IsPlain-append}
 

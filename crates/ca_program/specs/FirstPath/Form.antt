@@ -5,9 +5,9 @@ use Rattle.std.specs.List.{flat_map}
 use Rattle.hex.specs.Hex.{IsBytes}
 use Rattle.ca_base.specs.declared.limits.TheConstants.{MAX_BUFFER_BYTES, MAX_SCRIPT_BYTES}
 use Rattle.ca_base.specs.declared.change.Change.TheVariants as changes
-use Rattle.ca_base.specs.declared.names.DomainId.{DomainId}
-use Rattle.ca_base.specs.declared.names.QueueId.{QueueId}
-use Rattle.ca_base.specs.declared.names.Slot.{Slot}
+use Rattle.ca_keys.specs.declared.names.DomainId.{DomainId}
+use Rattle.ca_keys.specs.declared.names.QueueId.{QueueId}
+use Rattle.ca_keys.specs.declared.names.Slot.{Slot}
 use Rattle.ca_model.specs.declared.verb.Verb.{Verb}
 use Rattle.ca_model.specs.declared.verb.Verb.TheVariants as verbs
 use Rattle.ca_program.specs.declared.first_path.form.TheConstants.{MTU, RNR_CODE}

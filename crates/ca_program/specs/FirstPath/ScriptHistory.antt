@@ -3,15 +3,15 @@
 -- cite it.
 use Rattle.std.specs.Prelude.{◌≡◌, ℕ, ◌+◌, List, [], ◌∷◌, ◌++◌, length, Option, None, Some}
 use Rattle.std.specs.Option.{option_and_then}
-use Rattle.ca_base.specs.declared.access.Ask.{Ask}
-use Rattle.ca_base.specs.declared.access.Denial.{Denial}
-use Rattle.ca_base.specs.declared.access.Kind.TheVariants as kinds
-use Rattle.ca_base.specs.declared.verdict.Verdict.{Verdict}
-use Rattle.ca_base.specs.declared.verdict.Verdict.TheVariants as verdicts
-use Rattle.ca_base.specs.declared.grant.Grant.{Grant}
+use Rattle.ca_keys.specs.declared.access.Ask.{Ask}
+use Rattle.ca_keys.specs.declared.access.Denial.{Denial}
+use Rattle.ca_keys.specs.declared.access.Kind.TheVariants as kinds
+use Rattle.ca_keys.specs.declared.verdict.Verdict.{Verdict}
+use Rattle.ca_keys.specs.declared.verdict.Verdict.TheVariants as verdicts
+use Rattle.ca_keys.specs.declared.grant.Grant.{Grant}
 use Rattle.ca_base.specs.declared.lot.Lot.TheVariants as lots
-use Rattle.ca_base.specs.declared.place.Run.{Run}
-use Rattle.ca_base.specs.Allowed.{denial_of}
+use Rattle.ca_keys.specs.declared.place.Run.{Run}
+use Rattle.ca_keys.specs.Allowed.{denial_of}
 use Rattle.ca_base.specs.Grants.{grant_of_registration, registration_refusal}
 use Rattle.ca_model.specs.declared.answer.Answer.{Answer}
 use Rattle.ca_model.specs.declared.answer.Answer.TheVariants as answers

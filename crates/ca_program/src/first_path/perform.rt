@@ -1,8 +1,8 @@
 ghost use Rattle.std.specs.Prelude.{◌≡◌, ◌≤◌, [], ◌∷◌, ◌++◌, length, OnOk, IfOk, IfErr, IsSome, None, Some};
 ghost use Rattle.std.specs.Result.{result_ok};
-ghost use Rattle.ca_base.specs.Allowed.{denial_of};
+ghost use Rattle.ca_keys.specs.Allowed.{denial_of};
 ghost use Rattle.ca_base.specs.Grants.{registration_refusal};
-ghost use Rattle.ca_base.specs.declared.access.Denial.{Denial};
+ghost use Rattle.ca_keys.specs.declared.access.Denial.{Denial};
 ghost use Rattle.ca_model.specs.History.{FitTheEvent};
 ghost use Rattle.ca_model.specs.Answers.{refusal_of_region};
 ghost use Rattle.ca_program.specs.FirstPath.Form as form;

@@ -1,5 +1,5 @@
 ghost use Rattle.std.specs.Prelude.{◌≡◌, None, Some, IsTrue, false};
-ghost use Rattle.ca_base.specs.objects.Slices.{is_window_key};
+ghost use Rattle.ca_keys.specs.Numbers.{is_window_key};
 ghost use Rattle.ca_localops.specs.Binds.{CountsBinding};
 ghost use Rattle.ca_localops.specs.Requests.{IsBind};
 

@@ -1,6 +1,6 @@
 use Rattle.std.proofs.Common.{◌&&◌, arith}
 use Rattle.std.proofs.lemmas.Grind.{common_steps}
-use Rattle.ca_base.specs.Equal.{queue_eq}
+use Rattle.ca_keys.specs.Equal.{queue_eq}
 use Rattle.ca_cq.proofs.Parts.{filter-more, take-at, take-none, length-filter-before}
 use Rattle.ca_cq.proofs.ring.places_of.Goals as goal
 

@@ -1,5 +1,5 @@
 use Rattle.std.proofs.Common.{◌≡◌, ◌&&◌, filter, map, take}
-use Rattle.ca_base.specs.Equal.{queue_eq}
+use Rattle.ca_keys.specs.Equal.{queue_eq}
 use Rattle.ca_cq.proofs.ring.places_of.Given as goal
 
 -- the places of the receives among those that were looked at

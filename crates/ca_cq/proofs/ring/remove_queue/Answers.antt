@@ -1,5 +1,5 @@
 use Rattle.std.proofs.Common.{not, arith}
-use Rattle.ca_base.specs.Equal.{queue_eq}
+use Rattle.ca_keys.specs.Equal.{queue_eq}
 use Rattle.ca_cq.proofs.Parts.{pass-front}
 use Rattle.ca_cq.proofs.ring.remove_queue.Goals as goal
 

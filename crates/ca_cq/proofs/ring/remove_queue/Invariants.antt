@@ -1,6 +1,6 @@
 use Rattle.std.proofs.Common.{◌≡◌, ◌++◌, drop, filter, not, take}
 use Rattle.circular_buffer.specs.Buffer.{buffer}
-use Rattle.ca_base.specs.Equal.{queue_eq}
+use Rattle.ca_keys.specs.Equal.{queue_eq}
 use Rattle.ca_cq.proofs.ring.remove_queue.Given as goal
 
 -- the completions that were not looked at yet, and behind them those that stay

@@ -1,8 +1,8 @@
 use Rattle.std.proofs.Common.{[], Option, None, ◌==◌, if◌then◌else◌, ap}
 use Rattle.std.specs.Option.{option_map_or}
-use Rattle.ca_base.specs.declared.grant.Grant.{Grant}
-use Rattle.ca_base.specs.Allowed.{denial_under}
-use Rattle.ca_base.specs.Memory.{runs_at}
+use Rattle.ca_keys.specs.declared.grant.Grant.{Grant}
+use Rattle.ca_keys.specs.Allowed.{denial_under}
+use Rattle.ca_keys.specs.Memory.{runs_at}
 use Rattle.ca_grant.proofs.Slots.{grant-in-slot}
 use Rattle.ca_grant.proofs.law.judged_by_slot.Goals as goal
 

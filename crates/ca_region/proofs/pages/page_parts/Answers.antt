@@ -1,7 +1,7 @@
 use Rattle.std.proofs.Common.{◌∙◌, ap, arith, map, drop}
 use Rattle.std.proofs.lemmas.Grind.{common_steps}
 use Rattle.ca_base.specs.Grants.{page_run}
-use Rattle.ca_base.specs.Memory.{places_count}
+use Rattle.ca_keys.specs.Memory.{places_count}
 use Rattle.ca_region.proofs.Cut.{cut-none}
 use Rattle.ca_region.proofs.PageRuns.{range-count}
 use Rattle.ca_region.proofs.pages.page_parts.Goals as goal

@@ -1,6 +1,6 @@
 use Rattle.std.proofs.Common.{◌≡◌, ◌<◌, ◌++◌, drop, map}
 use Rattle.ca_base.specs.Grants.{page_run}
-use Rattle.ca_base.specs.Memory.{cut}
+use Rattle.ca_keys.specs.Memory.{cut}
 use Rattle.ca_region.proofs.pages.page_parts.Given as goal
 
 -- the parts so far, and those of the pages that were not looked at yet

@@ -1,8 +1,8 @@
 use Rattle.std.proofs.Common.{◌≡◌, ◌/◌, ◌∙◌, List, IfOk, subst, ap, sym, drop, map, ℕ}
 use Rattle.std.proofs.lemmas.List.{take_rest}
-use Rattle.ca_base.specs.declared.place.Run.{Run}
+use Rattle.ca_keys.specs.declared.place.Run.{Run}
 use Rattle.ca_base.specs.Grants.{page_run}
-use Rattle.ca_base.specs.Memory.{cut}
+use Rattle.ca_keys.specs.Memory.{cut}
 use Rattle.ca_region.proofs.PageRuns.{cut-pages}
 use Rattle.ca_region.proofs.pages.page_runs.Goals as goal
 

@@ -1,5 +1,5 @@
 use Rattle.std.proofs.Common.{◌∙◌, ap, arith}
-use Rattle.ca_base.specs.Memory.{places_count}
+use Rattle.ca_keys.specs.Memory.{places_count}
 use Rattle.ca_region.proofs.PageRuns.{range-count, span-in-one, span-in-two}
 use Rattle.ca_region.proofs.pages.page_span.Goals as goal
 

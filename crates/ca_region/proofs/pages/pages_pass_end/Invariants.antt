@@ -1,7 +1,7 @@
 use Rattle.std.proofs.Common.{◌≡◌, ◌<◌, drop, map}
 use Rattle.std.specs.List.{list_any}
 use Rattle.ca_base.specs.Grants.{page_run}
-use Rattle.ca_base.specs.Memory.{cut}
+use Rattle.ca_keys.specs.Memory.{cut}
 use Rattle.ca_base.specs.objects.Region.{passes_end}
 use Rattle.ca_region.proofs.pages.pages_pass_end.Given as goal
 

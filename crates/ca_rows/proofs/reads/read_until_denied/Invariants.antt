@@ -1,7 +1,7 @@
 use Rattle.std.proofs.Common.{◌≡◌, ◌+◌, ◌≤◌, ◌++◌, drop, length, take}
 use Rattle.std.specs.List.{AllByRecursion}
 use Rattle.ca_base.specs.Sight.{first_denied}
-use Rattle.ca_base.specs.declared.access.Kind.TheVariants as kinds
+use Rattle.ca_keys.specs.declared.access.Kind.TheVariants as kinds
 use Rattle.ca_rows.specs.Asks.{AreBytesAtHand, IsAskOf, payload_of, read_marks, reads_by, touched_by}
 use Rattle.ca_rows.proofs.reads.read_until_denied.Given as goal
 

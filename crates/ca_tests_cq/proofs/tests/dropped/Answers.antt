@@ -1,6 +1,6 @@
 use Rattle.std.proofs.Common.{◌&&◌, not, arith}
 use Rattle.std.proofs.lemmas.Grind.{common_steps}
-use Rattle.ca_base.specs.Equal.{queue_eq}
+use Rattle.ca_keys.specs.Equal.{queue_eq}
 use Rattle.ca_cq.proofs.Parts.{length-filter-le}
 use Rattle.ca_tests_cq.proofs.tests.dropped.Goals as goal
 

@@ -1,5 +1,5 @@
 use Rattle.std.proofs.Common.{List, length, rules, subst, sym}
-use Rattle.ca_base.specs.declared.place.Run.{Run}
+use Rattle.ca_keys.specs.declared.place.Run.{Run}
 use Rattle.ca_grant.specs.Access.{FitInBytes}
 use Rattle.ca_tests_responder.proofs.Kept.{store_fits}
 use Rattle.ca_tests_responder.proofs.responder.store.Goals as goal

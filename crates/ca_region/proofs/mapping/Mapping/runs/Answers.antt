@@ -1,5 +1,5 @@
 use Rattle.std.proofs.Common.{◌≡◌, ◌-◌, List, IfOk, subst, arith}
-use Rattle.ca_base.specs.declared.place.Run.{Run}
+use Rattle.ca_keys.specs.declared.place.Run.{Run}
 use Rattle.ca_region.proofs.Ranges.{cut-of-pages}
 use Rattle.ca_region.proofs.mapping.Mapping.runs.Goals as goal
 

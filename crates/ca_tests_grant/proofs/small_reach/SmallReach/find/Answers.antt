@@ -1,5 +1,5 @@
 use Rattle.std.proofs.Common.{List, length, sym, subst}
-use Rattle.ca_base.specs.declared.place.Run.{Run}
+use Rattle.ca_keys.specs.declared.place.Run.{Run}
 use Rattle.ca_grant.specs.Access.{FitInBytes}
 use Rattle.ca_tests_grant.specs.SmallLaws.{places-here}
 use Rattle.ca_tests_grant.proofs.small_reach.SmallReach.find.Goals as goal

@@ -1,8 +1,8 @@
 use Rattle.std.proofs.Common.{◌≡◌, ℕ, List, [], ◌∷◌, Option, sym, ap, ◌∙◌, arith}
 use Rattle.std.specs.Option.{option_map_or}
-use Rattle.ca_base.specs.declared.place.Run.{Run}
-use Rattle.ca_base.specs.declared.verdict.Verdict.TheVariants as verdicts
-use Rattle.ca_base.specs.Memory.{little_endian, little_endian_bytes}
+use Rattle.ca_keys.specs.declared.place.Run.{Run}
+use Rattle.ca_keys.specs.declared.verdict.Verdict.TheVariants as verdicts
+use Rattle.ca_keys.specs.Memory.{little_endian, little_endian_bytes}
 use Rattle.ca_base.specs.Sight.{bytes_in, runs_in}
 use Rattle.ca_grant.specs.Access.{buffer_after}
 use Rattle.ca_memory.specs.Number.{number_after}

@@ -1,5 +1,5 @@
 use Rattle.std.proofs.Common.{ap, ◌∙◌}
-use Rattle.ca_base.specs.declared.verdict.Verdict.TheVariants as verdicts
+use Rattle.ca_keys.specs.declared.verdict.Verdict.TheVariants as verdicts
 use Rattle.ca_region.specs.Span.{runs_of_span}
 use Rattle.ca_tests_grant.specs.SmallLaws.{small-bytes, small-count}
 use Rattle.ca_tests_grant.proofs.small_reach.SmallReachReach.read.Goals as goal

@@ -1,5 +1,5 @@
 use Rattle.std.proofs.Common.{◌≡◌, ℕ, List, ap, ◌∙◌}
-use Rattle.ca_base.specs.declared.place.Run.{Run}
+use Rattle.ca_keys.specs.declared.place.Run.{Run}
 use Rattle.ca_base.specs.Sight.{runs_in}
 use Rattle.ca_grant.specs.Access.{buffer_after}
 use Rattle.ca_tests_grant.specs.SmallLaws.{small_write}

@@ -1,5 +1,5 @@
 use Rattle.std.proofs.Common.{◌≡◌, ◌++◌, drop, map}
-use Rattle.ca_base.specs.Spelling.{run_text}
+use Rattle.ca_keys.specs.Spelling.{run_text}
 use Rattle.ca_trace.specs.Words.{led}
 use Rattle.ca_trace.proofs.text.Text.put_runs.Given as goal
 

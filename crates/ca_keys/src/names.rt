@@ -1,5 +1,5 @@
 ghost use Rattle.std.specs.Prelude.{◌≡◌, ◌+◌, ◌*◌, ◌<◌, ◌≤◌, Some};
-ghost use Rattle.ca_base.specs.Spelling.{domain_text, slot_text, queue_text};
+ghost use Rattle.ca_keys.specs.Spelling.{domain_text, slot_text, queue_text};
 
 use std::fmt;
 
@@ -46,7 +46,7 @@ pub struct QueueId {
 }
 
 impl QueueId {
-    ghost use Rattle.ca_base.specs.Numbers.{queue_of, domain_of};
+    ghost use Rattle.ca_keys.specs.Numbers.{queue_of, domain_of};
 
     /// The queue pair that stands in a slot, which is one of at most 256 of its domain.
     pub fn of_slot(slot: Slot) -> QueueId

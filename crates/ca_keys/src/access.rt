@@ -1,5 +1,5 @@
 ghost use Rattle.std.specs.Prelude.{◌≡◌, Some};
-ghost use Rattle.ca_base.specs.Spelling.{kind_text, denial_text};
+ghost use Rattle.ca_keys.specs.Spelling.{kind_text, denial_text};
 
 use crate::grant::Grant;
 use crate::key::Key;
@@ -79,7 +79,7 @@ pub struct Ask {
 
 impl Ask {
     ghost use Rattle.std.specs.Prelude.{◌≡◌};
-    ghost use Rattle.ca_base.specs.Allowed as allowed;
+    ghost use Rattle.ca_keys.specs.Allowed as allowed;
 
     /// The first part of the key check that fails, over the grants in force, the latest first. None comes exactly
     /// where the access is allowed; an access of no bytes is.

@@ -1,6 +1,6 @@
 ghost use Rattle.std.specs.Prelude.{◌≡◌, Some};
-ghost use Rattle.ca_base.specs.Numbers as numbers;
-ghost use Rattle.ca_base.specs.Spelling.{run_text};
+ghost use Rattle.ca_keys.specs.Numbers as numbers;
+ghost use Rattle.ca_keys.specs.Spelling.{run_text};
 
 use std::fmt;
 

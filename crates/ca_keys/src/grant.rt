@@ -21,7 +21,7 @@ pub struct Grant {
 
 impl Grant {
     ghost use Rattle.std.specs.Prelude.{◌≡◌};
-    ghost use Rattle.ca_base.specs.Allowed as allowed;
+    ghost use Rattle.ca_keys.specs.Allowed as allowed;
 
     /// Whether the grant has the key and the domain of the ask, and may be used as an L_Key where one is asked.
     pub fn fits(&self, ask: &Ask) -> bool

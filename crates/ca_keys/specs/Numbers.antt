@@ -1,9 +1,9 @@
 -- How keys, queue pairs and addresses are numbered. All of it is this profile's choice. Contracts cite it.
-use Rattle.std.specs.Prelude.{◌≡◌, ℕ, ◌+◌, ◌-◌, ◌*◌, ◌/◌, ◌%◌}
-use Rattle.ca_base.specs.declared.key.Key.{Key}
-use Rattle.ca_base.specs.declared.names.DomainId.{DomainId}
-use Rattle.ca_base.specs.declared.names.Slot.{Slot}
-use Rattle.ca_base.specs.declared.names.QueueId.{QueueId}
+use Rattle.std.specs.Prelude.{◌≡◌, ℕ, ◌+◌, ◌-◌, ◌*◌, ◌/◌, ◌%◌, nat_le, Bool}
+use Rattle.ca_keys.specs.declared.key.Key.{Key}
+use Rattle.ca_keys.specs.declared.names.DomainId.{DomainId}
+use Rattle.ca_keys.specs.declared.names.Slot.{Slot}
+use Rattle.ca_keys.specs.declared.names.QueueId.{QueueId}
 
 -- the key index of the region in a slot
 abbrev pub region_index : Slot → ℕ
@@ -22,6 +22,10 @@ index_of k = k.0 / 256
 
 abbrev pub low_of : Key → ℕ
 low_of k = k.0 % 256
+
+-- a key names a window, and else a region
+abbrev pub is_window_key : Key → Bool
+is_window_key key = nat_le 0x8000 (index_of key % 0x10000)
 
 -- the queue pair in a slot
 abbrev pub queue_of : Slot → QueueId

@@ -1,16 +1,16 @@
 -- Allowed: which access a list of grants in force allows, and which part fails first where it allows none. Contracts
 -- cite it. Sums are whole numbers that never wrap.
 use Rattle.std.specs.Prelude.{◌≡◌, Bool, true, false, ◌&&◌, ◌||◌, not, nat_le, ◌==◌, ◌+◌, if◌then◌else◌, List, [], ◌∷◌, Option, None, Some}
-use Rattle.ca_base.specs.declared.access.Ask.{Ask}
-use Rattle.ca_base.specs.declared.access.Denial.{Denial}
-use Rattle.ca_base.specs.declared.access.Denial.TheVariants.{NoGrant, WrongQueue, NoRight, OutOfRange}
-use Rattle.ca_base.specs.declared.access.Kind.{Kind}
-use Rattle.ca_base.specs.declared.access.Kind.TheVariants as kinds
-use Rattle.ca_base.specs.declared.grant.Grant.{Grant}
-use Rattle.ca_base.specs.declared.names.QueueId.{QueueId}
-use Rattle.ca_base.specs.declared.rights.Rights.{Rights}
-use Rattle.ca_base.specs.Equal.{key_eq, domain_eq, queue_eq}
-use Rattle.ca_base.specs.Refusals.{first_of}
+use Rattle.ca_keys.specs.declared.access.Ask.{Ask}
+use Rattle.ca_keys.specs.declared.access.Denial.{Denial}
+use Rattle.ca_keys.specs.declared.access.Denial.TheVariants.{NoGrant, WrongQueue, NoRight, OutOfRange}
+use Rattle.ca_keys.specs.declared.access.Kind.{Kind}
+use Rattle.ca_keys.specs.declared.access.Kind.TheVariants as kinds
+use Rattle.ca_keys.specs.declared.grant.Grant.{Grant}
+use Rattle.ca_keys.specs.declared.names.QueueId.{QueueId}
+use Rattle.ca_keys.specs.declared.rights.Rights.{Rights}
+use Rattle.ca_keys.specs.Equal.{key_eq, domain_eq, queue_eq}
+use Rattle.ca_keys.specs.Refusals.{first_of}
 
 -- part 1: the grant has this key and this domain, and may be used as an L_Key where one is asked
 abbrev pub fits : Ask → Grant → Bool

@@ -1,5 +1,5 @@
 ghost use Rattle.std.specs.Prelude.{◌≡◌, ◌<◌, Some};
-ghost use Rattle.ca_base.specs.Spelling.{key_text};
+ghost use Rattle.ca_keys.specs.Spelling.{key_text};
 
 use crate::names::Slot;
 use std::fmt;
@@ -10,8 +10,8 @@ use std::fmt;
 pub struct Key(pub u32);
 
 impl Key {
-    ghost use Rattle.ca_base.specs.Numbers.{region_index, window_index, index_of, low_of, key_at};
-    ghost use Rattle.ca_base.specs.objects.Slices.{is_window_key};
+    ghost use Rattle.ca_keys.specs.Numbers.{region_index, window_index, index_of, low_of, key_at};
+    ghost use Rattle.ca_keys.specs.Numbers.{is_window_key};
 
     /// The key of the region in a slot, with this low byte.
     pub fn of_region(slot: Slot, low: u8) -> Key

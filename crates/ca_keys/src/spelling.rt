@@ -1,5 +1,5 @@
 ghost use Rattle.std.specs.Prelude.{Some};
-ghost use Rattle.ca_base.specs.Spelling.{address_text, perhaps_output};
+ghost use Rattle.ca_keys.specs.Spelling.{address_text, perhaps_output};
 
 use std::fmt;
 

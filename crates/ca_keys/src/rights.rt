@@ -1,6 +1,6 @@
 ghost use Rattle.std.specs.Prelude.{◌≡◌, [], if◌then◌else◌, Some};
-ghost use Rattle.ca_base.specs.Allowed as allowed;
-ghost use Rattle.ca_base.specs.Spelling.{rights_text, has_right};
+ghost use Rattle.ca_keys.specs.Allowed as allowed;
+ghost use Rattle.ca_keys.specs.Spelling.{rights_text, has_right};
 
 use crate::access::Kind;
 use std::fmt;

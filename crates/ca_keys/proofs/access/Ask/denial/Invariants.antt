@@ -1,6 +1,6 @@
 use Rattle.std.proofs.Common.{◌≡◌, drop}
-use Rattle.ca_base.specs.Allowed as allowed
-use Rattle.ca_base.proofs.access.Ask.denial.Given as goal
+use Rattle.ca_keys.specs.Allowed as allowed
+use Rattle.ca_keys.proofs.access.Ask.denial.Given as goal
 
 -- the grant that the ask goes by is among those to come
 abbrev pub invariant-loop-grant : goal.invariant-loop-grant

@@ -1,0 +1,6 @@
+pub mod Numbers
+pub mod Equal
+pub mod Refusals
+pub mod Allowed
+pub mod Memory
+pub mod Spelling
