@@ -9,7 +9,7 @@ ghost use Rattle.ca_rows.specs.Narrow.{AreNarrow};
 ghost use Rattle.ca_tests_grant.specs.SmallReach as small;
 ghost use Rattle.ca_tests_requester.specs.Bed as beds;
 ghost use Rattle.ca_tests_responder.specs.Responder as responders;
-ghost use Rattle.ca_wire.specs.Packet.{IsWellFormed, fields_of};
+ghost use Rattle.ca_packet.specs.Packet.{IsWellFormed, fields_of};
 
 use crate::work::{bring_up, new_bed};
 use ca_model::Marks;

@@ -7,7 +7,7 @@ ghost use Rattle.ca_requester.specs.Turn.{turn_row};
 ghost use Rattle.ca_rows.specs.Narrow.{AreNarrow};
 ghost use Rattle.ca_tests_grant.specs.SmallReach as small;
 ghost use Rattle.ca_tests_requester.specs.Bed as beds;
-ghost use Rattle.ca_wire.specs.Packet.{IsWellFormed, fields_of};
+ghost use Rattle.ca_packet.specs.Packet.{IsWellFormed, fields_of};
 ghost use Rattle.std.specs.Prelude.{◌≡◌, true};
 
 use crate::work::{bring_up, new_bed, write};

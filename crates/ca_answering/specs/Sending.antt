@@ -4,7 +4,7 @@ use Rattle.ca_keys.specs.declared.access.Ask.{Ask}
 use Rattle.ca_base.specs.declared.queue_numbers.Queued.{Queued}
 use Rattle.ca_base.specs.declared.queue_numbers.Queued.TheVariants as queued
 use Rattle.ca_base.specs.objects.QueuePair.{QueuePair}
-use Rattle.ca_wire.specs.Packet.{Fields}
+use Rattle.ca_packet.specs.Packet.{Fields}
 use Rattle.ca_model.specs.machine.Respond.{with_packet, without_front}
 use Rattle.ca_model.specs.machine.Row.{Row, Does, plain_row, queue_and_marks}
 

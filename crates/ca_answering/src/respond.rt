@@ -15,8 +15,8 @@ ghost use Rattle.ca_answering.specs.Sending.{IsOnePacket, one_ask, packet_turn};
 ghost use Rattle.ca_rows.specs.Done.{IsTurn, handed};
 ghost use Rattle.ca_rows.specs.Narrow.{AreNarrow};
 ghost use Rattle.ca_wire.specs.Builders as packets;
-ghost use Rattle.ca_wire.specs.declared.packet.TheConstants.{MAX_PACKET_BYTES};
-ghost use Rattle.ca_wire.specs.Packet.{IsWellFormed, fields_of, spelling};
+ghost use Rattle.ca_packet.specs.declared.packet.TheConstants.{MAX_PACKET_BYTES};
+ghost use Rattle.ca_packet.specs.Packet.{IsWellFormed, fields_of, spelling};
 
 use crate::answer::next_answer;
 use crate::read_left::{ReadLeft, is_last_response, response_ask, response_segment, rest_of};

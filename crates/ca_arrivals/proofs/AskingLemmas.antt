@@ -8,7 +8,7 @@ use Rattle.ca_base.specs.declared.queue_numbers.Message.TheVariants as messages
 use Rattle.ca_base.specs.declared.request.RecvRequest.{RecvRequest}
 use Rattle.ca_base.specs.objects.QueuePair.{QueuePair}
 use Rattle.ca_base.specs.objects.SharedReceives.{PlacedReceive, SharedReceives}
-use Rattle.ca_wire.specs.Packet.{Fields}
+use Rattle.ca_packet.specs.Packet.{Fields}
 use Rattle.ca_wire.specs.declared.segment.Position.{Position}
 use Rattle.ca_model.specs.Requests.{list_length}
 use Rattle.ca_model.specs.machine.Arrivals.{next_receive, refusal_effects, with_flag}

@@ -10,7 +10,7 @@ ghost use Rattle.ca_qpstate.specs.Seen.{queue_of};
 ghost use Rattle.ca_arrivals.specs.Asking.{IsFree, asks_fitting, send_asks};
 ghost use Rattle.ca_arrivals.specs.Shapes.{shape_seen};
 ghost use Rattle.ca_rows.specs.Narrow.{AreNarrow};
-ghost use Rattle.ca_wire.specs.Packet.{IsWellFormed, fields_of};
+ghost use Rattle.ca_packet.specs.Packet.{IsWellFormed, fields_of};
 
 use crate::checks::{is_invalid, lacks_receive};
 use crate::receive::{exceeds_receive, next_receive, receive_asks};

@@ -8,7 +8,7 @@ ghost use Rattle.ca_model.specs.machine.Invariants.{IsQueue, IsReceive, IsShared
 ghost use Rattle.ca_model.specs.machine.Shapes as shapes;
 ghost use Rattle.ca_qpstate.specs.Seen.{queue_of};
 ghost use Rattle.ca_arrivals.specs.Shapes.{shape_seen};
-ghost use Rattle.ca_wire.specs.Packet.{fields_of};
+ghost use Rattle.ca_packet.specs.Packet.{fields_of};
 
 use crate::receive::{Placed, find_receive, next_receive};
 use crate::shape::Shape;

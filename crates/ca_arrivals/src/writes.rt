@@ -4,7 +4,7 @@ ghost use Rattle.ca_base.specs.declared.limits.TheConstants.{MAX_PAYLOAD_BYTES};
 ghost use Rattle.ca_model.specs.machine.Arrivals as arrivals;
 ghost use Rattle.ca_model.specs.machine.Expected as rows;
 ghost use Rattle.ca_qpstate.specs.Seen.{queue_of};
-ghost use Rattle.ca_wire.specs.Packet.{fields_of};
+ghost use Rattle.ca_packet.specs.Packet.{fields_of};
 
 use crate::remote::packet_ask;
 use ca_base::{Ask, Key, Kind, Message};

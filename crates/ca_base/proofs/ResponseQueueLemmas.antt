@@ -1,5 +1,5 @@
 -- An acknowledgement at the end of a response queue: what stands there, and what is set there or added.
-use Rattle.std.proofs.Common.{◌≡◌, arith, refl, sym, ap, ℕ, zero, suc, ◌+◌, ◌-◌, ◌<◌, Bool, true, false, List, [], ◌∷◌, ◌++◌, length, slice_index_or, slice_set}
+use Rattle.std.proofs.Common.{◌≡◌, arith, refl, ap, ℕ, zero, suc, ◌+◌, ◌-◌, ◌<◌, true, false, List, [], ◌∷◌, ◌++◌, length, slice_index_or, slice_set}
 use Rattle.ca_base.specs.declared.queue_numbers.Queued.{Queued}
 use Rattle.ca_base.specs.declared.queue_numbers.Queued.TheVariants.{Ack}
 use Rattle.ca_base.specs.objects.Answers.{ends_with_ack, is_ack, with_ack_at_end}

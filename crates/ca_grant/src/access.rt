@@ -20,6 +20,7 @@ fn length_of(span: &Span) -> usize
 }
 
 /// The bytes that a buffer holds at the places of a span, in order. It takes memory once.
+#[inline(always)]
 pub fn bytes_of_span(alloc: Global, buffer: &Buffer, span: &Span) -> Result<Bytes, Memory>
     requires { FitInBytes (length buffer.now) (runs_of_span span.now) }
     ensures bytes { IfOk result (λ bytes. bytes ≡ bytes_at (memory_of buffer.now) (runs_of_span span.now)) }

@@ -22,12 +22,12 @@ use Rattle.ca_base.specs.objects.QueuePair.{QueuePair}
 use Rattle.ca_base.specs.objects.Saved.{SavedResult, after_save}
 use Rattle.ca_base.specs.objects.SharedReceives.{PlacedReceive, SharedReceives}
 use Rattle.ca_base.specs.objects.WorkQueue.{WorkQueue}
-use Rattle.ca_wire.specs.declared.atomic_eth.AtomicEth.{AtomicEth}
-use Rattle.ca_wire.specs.declared.reth.Reth.{Reth}
+use Rattle.ca_packet.specs.declared.atomic_eth.AtomicEth.{AtomicEth}
+use Rattle.ca_packet.specs.declared.reth.Reth.{Reth}
 use Rattle.ca_wire.specs.declared.segment.Position.{Position}
 use Rattle.ca_wire.specs.declared.syndrome.NakCode.{NakCode}
 use Rattle.ca_wire.specs.declared.syndrome.NakCode.TheVariants.{InvalidRequest, RemoteAccessError, RemoteOperationalError}
-use Rattle.ca_wire.specs.Packet.{Fields}
+use Rattle.ca_packet.specs.Packet.{Fields}
 use Rattle.ca_wire.specs.Segment.{ends}
 use Rattle.ca_model.specs.Packets.{number_put}
 use Rattle.ca_model.specs.Requests.{list_length, segments}

@@ -18,12 +18,12 @@ use Rattle.ca_base.specs.objects.QueuePair.{QueuePair, in_error, without_answers
 use Rattle.ca_base.specs.objects.Saved.{saved_at}
 use Rattle.ca_base.specs.objects.SharedReceives.{SharedReceives}
 use Rattle.ca_psn.specs.Psn.{widened}
-use Rattle.ca_wire.specs.declared.reth.Reth.{Reth}
+use Rattle.ca_packet.specs.declared.reth.Reth.{Reth}
 use Rattle.ca_wire.specs.declared.syndrome.NakCode.TheVariants.{PsnSequenceError}
-use Rattle.ca_wire.specs.declared.wire_error.WireError.{WireError}
+use Rattle.ca_packet.specs.declared.wire_error.WireError.{WireError}
 use Rattle.ca_wire.specs.Builders.{acknowledgement, atomic_acknowledge, nak, read_response, rnr_nak}
-use Rattle.ca_wire.specs.Decoding.{packet_in}
-use Rattle.ca_wire.specs.Packet.{Fields}
+use Rattle.ca_packet.specs.Decoding.{packet_in}
+use Rattle.ca_packet.specs.Packet.{Fields}
 use Rattle.ca_wire.specs.Syndrome.{nak_code}
 use Rattle.ca_model.specs.declared.mark.Drop1.{Drop1}
 use Rattle.ca_model.specs.declared.mark.Drop1.TheVariants as drops

@@ -11,8 +11,8 @@ use Rattle.ca_base.specs.Sight.{DeniedAsk}
 use Rattle.ca_base.specs.objects.QueuePair.{QueuePair}
 use Rattle.ca_wire.specs.declared.syndrome.NakCode.{NakCode}
 use Rattle.ca_wire.specs.declared.syndrome.NakCode.TheVariants.{PsnSequenceError, InvalidRequest, RemoteAccessError, RemoteOperationalError}
-use Rattle.ca_wire.specs.declared.opcode.TheConstants.{ACKNOWLEDGE}
-use Rattle.ca_wire.specs.Packet.{Fields}
+use Rattle.ca_packet.specs.declared.opcode.TheConstants.{ACKNOWLEDGE}
+use Rattle.ca_packet.specs.Packet.{Fields}
 use Rattle.ca_wire.specs.declared.syndrome.Syndrome.{Syndrome}
 use Rattle.ca_wire.specs.declared.syndrome.Syndrome.TheVariants.{Ack, Nak, RnrNak}
 use Rattle.ca_wire.specs.Syndrome.{syndrome_in}

@@ -11,8 +11,8 @@ use Rattle.ca_base.specs.objects.QueuePair.{QueuePair}
 use Rattle.ca_base.specs.objects.StateTable.{is_among}
 use Rattle.ca_wire.specs.declared.syndrome.NakCode.{NakCode}
 use Rattle.ca_wire.specs.declared.syndrome.NakCode.TheVariants.{PsnSequenceError, InvalidRequest, RemoteAccessError, RemoteOperationalError}
-use Rattle.ca_wire.specs.declared.opcode.TheConstants.{ACKNOWLEDGE}
-use Rattle.ca_wire.specs.Packet.{Fields}
+use Rattle.ca_packet.specs.declared.opcode.TheConstants.{ACKNOWLEDGE}
+use Rattle.ca_packet.specs.Packet.{Fields}
 use Rattle.ca_wire.specs.declared.syndrome.Syndrome.{Syndrome}
 use Rattle.ca_wire.specs.declared.syndrome.Syndrome.TheVariants.{Ack, Nak, RnrNak}
 use Rattle.ca_wire.specs.Syndrome.{syndrome_in, nak_code}
@@ -30,8 +30,8 @@ use Rattle.ca_base.specs.declared.queue_numbers.Queued.TheVariants as queued
 use Rattle.ca_base.specs.objects.Saved.{saved_at}
 use Rattle.ca_base.specs.objects.SharedReceives.{PlacedReceive, SharedReceives}
 use Rattle.ca_psn.specs.Psn.{widened}
-use Rattle.ca_wire.specs.declared.atomic_eth.AtomicEth.{AtomicEth}
-use Rattle.ca_wire.specs.declared.reth.Reth.{Reth}
+use Rattle.ca_packet.specs.declared.atomic_eth.AtomicEth.{AtomicEth}
+use Rattle.ca_packet.specs.declared.reth.Reth.{Reth}
 use Rattle.ca_wire.specs.declared.segment.Position.{Position}
 use Rattle.ca_model.specs.Packets.{is_response}
 use Rattle.ca_model.specs.Requests.{list_length, segments}
@@ -42,8 +42,8 @@ use Rattle.ca_model.specs.machine.Shapes.{Shape, SendAt, WriteAt, ReadRequest, A
 use Rattle.ca_base.specs.declared.step.Reason.{Reason}
 use Rattle.ca_base.specs.declared.step.Reason.TheVariants as reasons
 use Rattle.ca_keys.specs.Refusals.{first_of}
-use Rattle.ca_wire.specs.declared.wire_error.WireError.{WireError}
-use Rattle.ca_wire.specs.Decoding.{packet_in}
+use Rattle.ca_packet.specs.declared.wire_error.WireError.{WireError}
+use Rattle.ca_packet.specs.Decoding.{packet_in}
 use Rattle.ca_model.specs.machine.Delivery.{arrival_drops, arrival_row, packet_arrived}
 use Rattle.ca_model.specs.machine.Respond.{answer_turn, respond_refusals, respond_row, ReadLeft, is_last_response, rest_of, with_front, without_front}
 use Rattle.ca_model.specs.machine.LocalOperations.{invalidate_row, operation_effects}

@@ -3,10 +3,10 @@ use Rattle.std.specs.Prelude.{ℕ, ◌+◌, ◌%◌, ◌^◌, ◌==◌, nat_le, 
 use Rattle.std.specs.Result.{result_ok}
 use Rattle.ca_keys.specs.declared.access.Kind.{Kind}
 use Rattle.ca_keys.specs.declared.access.Kind.TheVariants as kinds
-use Rattle.ca_wire.specs.declared.atomic_eth.AtomicEth.{AtomicEth}
-use Rattle.ca_wire.specs.declared.opcode.TheConstants.{SEND_LAST_WITH_INVALIDATE, SEND_ONLY_WITH_INVALIDATE, RDMA_WRITE_FIRST, RDMA_WRITE_MIDDLE, RDMA_WRITE_LAST, RDMA_WRITE_LAST_WITH_IMMEDIATE, RDMA_WRITE_ONLY, RDMA_WRITE_ONLY_WITH_IMMEDIATE, RDMA_READ_REQUEST, RDMA_READ_RESPONSE_FIRST, ATOMIC_ACKNOWLEDGE, CMP_SWAP, FETCH_ADD}
-use Rattle.ca_wire.specs.Decoding.{packet_in}
-use Rattle.ca_wire.specs.Packet.{Fields}
+use Rattle.ca_packet.specs.declared.atomic_eth.AtomicEth.{AtomicEth}
+use Rattle.ca_packet.specs.declared.opcode.TheConstants.{SEND_LAST_WITH_INVALIDATE, SEND_ONLY_WITH_INVALIDATE, RDMA_WRITE_FIRST, RDMA_WRITE_MIDDLE, RDMA_WRITE_LAST, RDMA_WRITE_LAST_WITH_IMMEDIATE, RDMA_WRITE_ONLY, RDMA_WRITE_ONLY_WITH_IMMEDIATE, RDMA_READ_REQUEST, RDMA_READ_RESPONSE_FIRST, ATOMIC_ACKNOWLEDGE, CMP_SWAP, FETCH_ADD}
+use Rattle.ca_packet.specs.Decoding.{packet_in}
+use Rattle.ca_packet.specs.Packet.{Fields}
 
 -- the packet that bytes spell, if they spell one
 abbrev pub packet_of : List ℕ → Option Fields

@@ -40,7 +40,7 @@ use Rattle.ca_base.specs.declared.request.Piece.{Piece}
 use Rattle.ca_keys.specs.declared.rights.Rights.{Rights}
 use Rattle.ca_keys.specs.Spelling.{dash, perhaps, domain_text, slot_text, queue_text, key_text, address_text, run_text, rights_text, kind_text, denial_text}
 use Rattle.ca_base.specs.Spelling.{piece_text, lot_text, state_text, field_text, operation_text, status_text, op_refusal_text}
-use Rattle.ca_wire.specs.declared.wire_error.WireError.TheVariants as wire
+use Rattle.ca_packet.specs.declared.wire_error.WireError.TheVariants as wire
 use Rattle.ca_model.specs.declared.answer.Refusal.{Refusal}
 use Rattle.ca_model.specs.declared.answer.Refusal.TheVariants as refusals
 use Rattle.ca_model.specs.declared.mark.Drop1.{Drop1}

@@ -32,7 +32,7 @@ use Rattle.ca_base.specs.declared.refusals.WindowError.TheVariants as windows
 use Rattle.ca_base.specs.declared.request.Piece.{Piece}
 use Rattle.ca_keys.specs.declared.rights.Rights.{Rights}
 use Rattle.ca_keys.specs.Spelling.{dash}
-use Rattle.ca_wire.specs.declared.wire_error.WireError.TheVariants as wire
+use Rattle.ca_packet.specs.declared.wire_error.WireError.TheVariants as wire
 use Rattle.ca_model.specs.declared.answer.Refusal.{Refusal}
 use Rattle.ca_model.specs.declared.answer.Refusal.TheVariants as refusals
 use Rattle.ca_model.specs.declared.mark.Drop1.{Drop1}

@@ -2,8 +2,8 @@
 use Rattle.std.specs.Prelude.{◌≡◌, ℕ, ◌<◌, false, List, Option}
 use Rattle.ca_keys.specs.declared.key.Key.{Key}
 use Rattle.ca_base.specs.objects.QueuePair.{QueuePair}
-use Rattle.ca_wire.specs.declared.reth.Reth.{Reth}
-use Rattle.ca_wire.specs.Packet.{Fields}
+use Rattle.ca_packet.specs.declared.reth.Reth.{Reth}
+use Rattle.ca_packet.specs.Packet.{Fields}
 use Rattle.ca_model.specs.Requests.{is_local, request_packet}
 use Rattle.ca_model.specs.machine.Numbering.{Numbered}
 use Rattle.ca_model.specs.machine.Requester.{index_of_packet, peer_number, psn_bits}

@@ -10,9 +10,9 @@ ghost use Rattle.ca_qpstate.specs.Seen.{queue_of};
 ghost use Rattle.ca_requester.specs.Numbering.{numbered_of, IsSound};
 ghost use Rattle.ca_requester.specs.Packets.{IsPacket, packet_fields, reth_of};
 ghost use Rattle.ca_rows.specs.Asks.{IsAskOf, touched_by};
-ghost use Rattle.ca_wire.specs.declared.packet.TheConstants.{MAX_PACKET_BYTES};
+ghost use Rattle.ca_packet.specs.declared.packet.TheConstants.{MAX_PACKET_BYTES};
 ghost use Rattle.ca_wire.specs.Builders as packets;
-ghost use Rattle.ca_wire.specs.Packet.{IsWellFormed, fields_of};
+ghost use Rattle.ca_packet.specs.Packet.{IsWellFormed, fields_of};
 
 use crate::numbering::Numbered;
 use arrayvec::ArrayVec;

@@ -7,7 +7,7 @@ ghost use Rattle.ca_model.specs.machine.Invariants.{IsList, IsQueue};
 ghost use Rattle.ca_model.specs.machine.Numbering as numbering;
 ghost use Rattle.ca_model.specs.machine.Responses as rows;
 ghost use Rattle.ca_qpstate.specs.Seen.{queue_of};
-ghost use Rattle.ca_wire.specs.Packet.{fields_of};
+ghost use Rattle.ca_packet.specs.Packet.{fields_of};
 ghost use Rattle.ca_wire.specs.Syndrome.{syndrome_in};
 ghost use Rattle.ca_rows.specs.Narrow.{AreNarrow};
 ghost use Rattle.ca_requester.specs.Numbering.{IsSound, numbered_of};

@@ -15,7 +15,7 @@ ghost use Rattle.ca_qpstate.specs.Seen.{queue_of};
 ghost use Rattle.ca_rows.specs.Asks.{IsAskOf, bytes_read, touched_by};
 ghost use Rattle.ca_rows.specs.Done.{IsTurn, handed};
 ghost use Rattle.ca_rows.specs.Narrow.{AreNarrow};
-ghost use Rattle.ca_wire.specs.declared.packet.TheConstants.{MAX_PACKET_BYTES};
+ghost use Rattle.ca_packet.specs.declared.packet.TheConstants.{MAX_PACKET_BYTES};
 ghost use Rattle.ca_requester.specs.Numbering.{numbered_of, IsNext};
 ghost use Rattle.ca_requester.specs.Packets.{IsPacket};
 ghost use Rattle.ca_requester.specs.Turn.{numbers_past, turn_row};

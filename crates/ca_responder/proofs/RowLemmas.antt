@@ -9,8 +9,8 @@ use Rattle.ca_keys.specs.declared.verdict.Verdict.TheVariants.{Swapped}
 use Rattle.ca_keys.specs.Memory.{little_endian, little_endian_bytes}
 use Rattle.ca_base.specs.Sight.{Invalidation, Sight, bytes_in, denial_in, first_denied}
 use Rattle.ca_base.specs.objects.QueuePair.{QueuePair}
-use Rattle.ca_wire.specs.declared.atomic_eth.AtomicEth.{AtomicEth}
-use Rattle.ca_wire.specs.Packet.{Fields}
+use Rattle.ca_packet.specs.declared.atomic_eth.AtomicEth.{AtomicEth}
+use Rattle.ca_packet.specs.Packet.{Fields}
 use Rattle.ca_model.specs.declared.mark.Mark.{Mark}
 use Rattle.ca_model.specs.machine.Arrivals.{packet_ask, remote_mark, with_flag}
 use Rattle.ca_model.specs.machine.Expected.{atomic_row}

@@ -2,7 +2,7 @@
 use Rattle.std.proofs.Common.{◌≡◌, Bool, true, false, not, ◌||◌, refl, sym, ◌∙◌, length, Some}
 use Rattle.ca_base.specs.objects.QueuePair.{QueuePair}
 use Rattle.ca_wire.specs.declared.segment.Position.{Position}
-use Rattle.ca_wire.specs.Packet.{Fields}
+use Rattle.ca_packet.specs.Packet.{Fields}
 use Rattle.ca_model.specs.machine.Expected.{WriteReach, continues, fits_left, fits_payload, fits_write, is_invalid, write_reach}
 use Rattle.ca_model.specs.machine.Shapes.{Shape, WriteAt, fits_place}
 

@@ -7,7 +7,7 @@ use Rattle.ca_base.specs.declared.queue_numbers.Message.TheVariants as messages
 use Rattle.ca_keys.specs.declared.verdict.Verdict.TheVariants as verdicts
 use Rattle.ca_base.specs.objects.QueuePair.{QueuePair}
 use Rattle.ca_base.specs.objects.SharedReceives.{PlacedReceive, SharedReceives}
-use Rattle.ca_wire.specs.Packet.{Fields}
+use Rattle.ca_packet.specs.Packet.{Fields}
 use Rattle.ca_wire.specs.Segment.{begins, ends}
 use Rattle.ca_wire.specs.declared.segment.Position.{Position}
 use Rattle.ca_wire.specs.declared.syndrome.NakCode.TheVariants.{InvalidRequest}

@@ -11,7 +11,7 @@ use Rattle.ca_keys.specs.Memory.{little_endian}
 use Rattle.ca_base.specs.Sight.{Sight, bytes_in}
 use Rattle.ca_base.specs.objects.QueuePair.{QueuePair}
 use Rattle.ca_base.specs.objects.Saved.{after_save}
-use Rattle.ca_wire.specs.declared.atomic_eth.AtomicEth.{AtomicEth}
+use Rattle.ca_packet.specs.declared.atomic_eth.AtomicEth.{AtomicEth}
 use Rattle.ca_model.specs.Packets.{number_put}
 use Rattle.ca_model.specs.machine.Arrivals.{with_answer}
 use Rattle.ca_arrivals.specs.Numbers.{passed}

@@ -13,7 +13,7 @@ ghost use Rattle.ca_arrivals.specs.Shapes.{IsAtomicKind};
 ghost use Rattle.ca_responder.specs.Atomics.{IsAtomicRequest, after_atomic, found_in, number_left, number_seen, settled};
 ghost use Rattle.ca_responder.specs.Taking.{IsPacketTaken, ended_by, found};
 ghost use Rattle.ca_rows.specs.Narrow.{AreNarrow};
-ghost use Rattle.ca_wire.specs.Packet.{fields_of};
+ghost use Rattle.ca_packet.specs.Packet.{fields_of};
 
 use crate::write::deny;
 use ca_arrivals::{packet_ask, pass, read_segments, remote_mark};

@@ -17,7 +17,7 @@ ghost use Rattle.ca_arrivals.specs.Receives.{CanTake};
 ghost use Rattle.ca_arrivals.specs.Shapes.{IsRequestShape, shape_seen};
 ghost use Rattle.ca_responder.specs.Taking.{IsArrival, IsPacketTaken, MayEnd, after_shared, ended_by, found};
 ghost use Rattle.ca_rows.specs.Narrow.{AreNarrow};
-ghost use Rattle.ca_wire.specs.Packet.{IsWellFormed, fields_of};
+ghost use Rattle.ca_packet.specs.Packet.{IsWellFormed, fields_of};
 
 use crate::duplicates::{take_ahead, take_duplicate};
 use crate::remote_requests::{take_atomic, take_read};

@@ -25,7 +25,7 @@ ghost use Rattle.ca_responder.specs.Taking.{IsPacketTaken, MayEnd, ended_by, fou
 ghost use Rattle.ca_rows.specs.Asks.{CanWrite, IsAskOf, IsGranted, touched_by};
 ghost use Rattle.ca_rows.specs.Done.{written_all};
 ghost use Rattle.ca_rows.specs.Narrow.{AreNarrow};
-ghost use Rattle.ca_wire.specs.Packet.{fields_of};
+ghost use Rattle.ca_packet.specs.Packet.{fields_of};
 
 use crate::held::{hold, refuse_held, settle_held};
 use ca_arrivals::{

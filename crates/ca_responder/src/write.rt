@@ -14,7 +14,7 @@ ghost use Rattle.ca_arrivals.specs.Numbers.{unasked};
 ghost use Rattle.ca_arrivals.specs.Receives.{CanTake};
 ghost use Rattle.ca_responder.specs.Taking.{IsPacketTaken, ended_by, found};
 ghost use Rattle.ca_rows.specs.Narrow.{AreNarrow};
-ghost use Rattle.ca_wire.specs.Packet.{fields_of};
+ghost use Rattle.ca_packet.specs.Packet.{fields_of};
 
 use ca_arrivals::{Placed, WriteReach, pass, queue_ack, refuse, remote_mark, take_own, write_ask};
 use ca_base::{Ask, Bytes, Denial, Memory, Message, Verdict, WcOp};

@@ -2,8 +2,8 @@ ghost use Rattle.std.specs.Prelude.{◌≡◌, ◌+◌, ◌<◌, ◌≤◌, ◌^
 ghost use Rattle.ca_model.specs.machine.Invariants.{IsQueue};
 ghost use Rattle.ca_model.specs.machine.Requester as requester;
 ghost use Rattle.ca_qpstate.specs.Seen.{queue_of};
-ghost use Rattle.ca_wire.specs.Packet.{IsWellFormed, fields_of, spelling};
-ghost use Rattle.ca_wire.specs.declared.packet.TheConstants.{MAX_PACKET_BYTES};
+ghost use Rattle.ca_packet.specs.Packet.{IsWellFormed, fields_of, spelling};
+ghost use Rattle.ca_packet.specs.declared.packet.TheConstants.{MAX_PACKET_BYTES};
 
 use ca_base::Memory;
 use ca_qpstate::QueuePart;

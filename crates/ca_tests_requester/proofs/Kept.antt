@@ -36,7 +36,7 @@ use Rattle.ca_tests_grant.specs.SmallReach.{FitTogether, IsAskHere, after_write_
 use Rattle.ca_tests_grant.specs.declared.small_reach.SmallReach.{SmallReach}
 use Rattle.ca_tests_requester.specs.Bed.{Stands}
 use Rattle.ca_tests_requester.specs.declared.bed.Bed.{Bed}
-use Rattle.ca_wire.specs.Packet.{Fields}
+use Rattle.ca_packet.specs.Packet.{Fields}
 
 -- a good row ends well, whatever is seen
 pub ends-good : (q : QueuePair) (s : Sight) (row : Row) → IsGoodRow q row → IsGoodEnding q (ending_of s row)

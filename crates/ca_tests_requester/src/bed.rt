@@ -10,7 +10,7 @@ ghost use Rattle.ca_qpstate.specs.Seen.{queue_of};
 ghost use Rattle.ca_rows.specs.Narrow.{AreNarrow};
 ghost use Rattle.ca_tests_grant.specs.SmallReach as small;
 ghost use Rattle.ca_tests_requester.specs.Bed as beds;
-ghost use Rattle.ca_wire.specs.Packet.{IsWellFormed, fields_of};
+ghost use Rattle.ca_packet.specs.Packet.{IsWellFormed, fields_of};
 
 use ca_base::limits::{MAX_MESSAGE_BYTES, MAX_PIECES};
 use ca_base::{

@@ -4,11 +4,11 @@ use Rattle.ca_base.specs.Sight.{Invalidation}
 use Rattle.ca_base.specs.objects.QueuePair.{QueuePair}
 use Rattle.ca_base.specs.objects.SharedReceives.{PlacedReceive, SharedReceives}
 use Rattle.ca_psn.specs.Psn.{widened}
-use Rattle.ca_wire.specs.declared.atomic_eth.AtomicEth.{AtomicEth}
-use Rattle.ca_wire.specs.declared.reth.Reth.{Reth}
+use Rattle.ca_packet.specs.declared.atomic_eth.AtomicEth.{AtomicEth}
+use Rattle.ca_packet.specs.declared.reth.Reth.{Reth}
 use Rattle.ca_wire.specs.declared.segment.Position.{Position}
 use Rattle.ca_wire.specs.declared.syndrome.NakCode.TheVariants.{InvalidRequest}
-use Rattle.ca_wire.specs.Packet.{Fields}
+use Rattle.ca_packet.specs.Packet.{Fields}
 use Rattle.ca_model.specs.declared.mark.Drop1.TheVariants as drops
 use Rattle.ca_model.specs.Packets.{is_response}
 use Rattle.ca_model.specs.Requests.{list_length}

@@ -45,9 +45,9 @@ use Rattle.ca_tests_requester.proofs.Kept.{ends-good, turn-ending-kept, writes-k
 use Rattle.ca_tests_requester.proofs.Kept as requests
 use Rattle.ca_tests_requester.specs.Bed.{Stands}
 use Rattle.ca_tests_requester.specs.declared.bed.Bed.{Bed}
-use Rattle.ca_wire.proofs.PacketLaws.{packet_again}
-use Rattle.ca_wire.specs.declared.wire_error.WireError.{WireError}
-use Rattle.ca_wire.specs.Packet.{Fields, Spells}
+use Rattle.ca_packet.proofs.PacketLaws.{packet_again}
+use Rattle.ca_packet.specs.declared.wire_error.WireError.{WireError}
+use Rattle.ca_packet.specs.Packet.{Fields, Spells}
 
 -- the row of a request that is spelt so, and that the adapter does not drop, is good
 pub request-good : (bytes : List ℕ) (p : Fields) (envelope : Option ℕ) (shared : Option SharedReceives) (q : QueuePair) → IsQueue q → IfSome shared IsSharedReceives

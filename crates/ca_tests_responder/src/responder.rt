@@ -17,7 +17,7 @@ ghost use Rattle.ca_rows.specs.Narrow.{AreNarrow};
 ghost use Rattle.ca_tests_grant.specs.SmallReach as small;
 ghost use Rattle.ca_tests_requester.specs.Bed as beds;
 ghost use Rattle.ca_tests_responder.specs.Responder as responders;
-ghost use Rattle.ca_wire.specs.Packet.{IsWellFormed, Spells, fields_of};
+ghost use Rattle.ca_packet.specs.Packet.{IsWellFormed, Spells, fields_of};
 
 use ca_base::limits::{MAX_DEPTH, MAX_PAYLOAD_BYTES};
 use ca_base::{

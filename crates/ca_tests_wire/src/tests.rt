@@ -1,4 +1,4 @@
-ghost use Rattle.ca_wire.specs.Packet.{IsWellFormed, fields_of};
+ghost use Rattle.ca_packet.specs.Packet.{IsWellFormed, fields_of};
 
 mod packet_text;
 mod vectors;

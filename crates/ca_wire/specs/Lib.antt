@@ -1,7 +1,3 @@
-pub mod Table
-pub mod Syndrome
 pub mod Segment
-pub mod Packet
-pub mod Decoding
-pub mod Writing
+pub mod Syndrome
 pub mod Builders

@@ -1,14 +1,12 @@
 ghost use Rattle.std.specs.Prelude.{◌≡◌, ◌^◌, ◌<◌, ◌≤◌, length};
 ghost use Rattle.ca_base.specs.declared.limits.TheConstants.{MAX_PAYLOAD_BYTES};
 ghost use Rattle.ca_wire.specs.Builders as packets;
-ghost use Rattle.ca_wire.specs.Packet.{IsWellFormed, fields_of};
+ghost use Rattle.ca_packet.specs.Packet.{IsWellFormed, fields_of};
 
-use crate::atomic_eth::AtomicEth;
-use crate::opcode::*;
-use crate::packet::Packet;
-use crate::reth::Reth;
 use crate::segment::{Position, Segment};
 use ca_base::Key;
+use ca_packet::opcode::*;
+use ca_packet::{AtomicEth, Packet, Reth};
 
 /// What a SEND brings beside its bytes, at its end.
 #[derive(Clone, Copy)]

@@ -23,12 +23,12 @@ use Rattle.ca_base.specs.objects.QueuePair.{QueuePair}
 use Rattle.ca_base.specs.objects.Saved.{after_save}
 use Rattle.ca_base.specs.objects.SharedReceives.{PlacedReceive, SharedReceives}
 use Rattle.ca_keys.specs.Numbers.{is_window_key}
-use Rattle.ca_wire.specs.declared.atomic_eth.AtomicEth.{AtomicEth}
-use Rattle.ca_wire.specs.declared.reth.Reth.{Reth}
+use Rattle.ca_packet.specs.declared.atomic_eth.AtomicEth.{AtomicEth}
+use Rattle.ca_packet.specs.declared.reth.Reth.{Reth}
 use Rattle.ca_wire.specs.declared.segment.Position.{Position}
 use Rattle.ca_wire.specs.declared.syndrome.NakCode.{NakCode}
 use Rattle.ca_wire.specs.declared.syndrome.NakCode.TheVariants.{InvalidRequest, RemoteAccessError, RemoteOperationalError}
-use Rattle.ca_wire.specs.Packet.{Fields}
+use Rattle.ca_packet.specs.Packet.{Fields}
 use Rattle.ca_wire.specs.Segment.{begins, ends}
 use Rattle.ca_model.specs.declared.mark.Mark.{Mark}
 use Rattle.ca_model.specs.declared.mark.Mark.TheVariants as marks

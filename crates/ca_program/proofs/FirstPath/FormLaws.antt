@@ -5,10 +5,10 @@ use Rattle.std.specs.List.{flat_map}
 use Rattle.std.proofs.lemmas.Bool.{and_parts, ltb-true}
 use Rattle.std.proofs.lemmas.List.{length-append}
 use Rattle.hex.specs.Hex.{IsBytes, encode_lower}
-use Rattle.ca_wire.specs.declared.packet.TheConstants.{DEFAULT_PKEY}
-use Rattle.ca_wire.specs.Packet.{Fields, Spells, IsWellFormed, FitsBits, packet_bytes, be_bytes, bth_bytes, bth_of, header_bytes}
-use Rattle.ca_wire.specs.declared.opcode.TheConstants.{RDMA_WRITE_ONLY}
-use Rattle.ca_wire.specs.Table.{row_of, headers_of}
+use Rattle.ca_packet.specs.declared.packet.TheConstants.{DEFAULT_PKEY}
+use Rattle.ca_packet.specs.Packet.{Fields, Spells, IsWellFormed, FitsBits, packet_bytes, be_bytes, bth_bytes, bth_of, header_bytes}
+use Rattle.ca_packet.specs.declared.opcode.TheConstants.{RDMA_WRITE_ONLY}
+use Rattle.ca_packet.specs.Table.{row_of, headers_of}
 use Rattle.ca_trace.specs.Trace.{call}
 use Rattle.ca_keys.specs.Spelling.{rights_text as rights}
 use Rattle.ca_program.specs.declared.first_path.script.Script.{Script}

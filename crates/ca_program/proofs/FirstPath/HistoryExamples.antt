@@ -18,8 +18,8 @@ use Rattle.ca_program.specs.FirstPath.ScriptHistory.{history, history_by, refusa
 use Rattle.ca_program.specs.FirstPath.Form.{queue, reg_mr, alloc_pd}
 use Rattle.ca_program.proofs.FirstPath.FormLaws.{one_packet, one_write, one_spelt, one_is_write}
 use Rattle.ca_program.proofs.FirstPath.Lawful.{lawful}
-use Rattle.ca_wire.specs.declared.reth.Reth.{Reth}
-use Rattle.ca_wire.proofs.PacketLaws.{packet_again}
+use Rattle.ca_packet.specs.declared.reth.Reth.{Reth}
+use Rattle.ca_packet.proofs.PacketLaws.{packet_again}
 
 -- local write and perhaps remote write
 abbrev rights : Rights

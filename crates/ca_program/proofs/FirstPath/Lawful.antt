@@ -22,9 +22,9 @@ use Rattle.ca_model.specs.Once.{is_once_history}
 use Rattle.ca_model.specs.Ordered.{is_ordered_history}
 use Rattle.ca_program.specs.declared.first_path.script.Script.{Script}
 use Rattle.ca_program.specs.FirstPath.ScriptHistory.{history_by, history, refusal, denial, ask, grants_after, grant, verdict, Asks, IsHistoryOf}
-use Rattle.ca_wire.specs.declared.reth.Reth.{Reth}
-use Rattle.ca_wire.specs.Decoding.{packet_in}
-use Rattle.ca_wire.specs.Packet.{Fields, Spells}
+use Rattle.ca_packet.specs.declared.reth.Reth.{Reth}
+use Rattle.ca_packet.specs.Decoding.{packet_in}
+use Rattle.ca_packet.specs.Packet.{Fields, Spells}
 
 well_formed : (s : Script) (h : Reth) (b : List ℕ) (r : Option Refusal) (d : Option Denial) → IsHistory (history_by s h b r d)
 well_formed s h b None None = search

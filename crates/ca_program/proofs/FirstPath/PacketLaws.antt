@@ -3,7 +3,7 @@ use Rattle.std.proofs.Common.{◌≡◌, ℕ, ◌≤◌, min, List, [], ◌++◌
 use Rattle.std.proofs.lemmas.Option.{none-some}
 use Rattle.std.proofs.lemmas.List.{take_min}
 use Rattle.ca_base.specs.declared.limits.TheConstants.{MAX_SCRIPT_BYTES}
-use Rattle.ca_wire.specs.Packet.{Fields}
+use Rattle.ca_packet.specs.Packet.{Fields}
 use Rattle.ca_program.specs.declared.script_error.ScriptError.{ScriptError}
 use Rattle.ca_program.specs.declared.script_error.ScriptError.TheVariants as errors
 use Rattle.ca_program.specs.declared.first_path.lines.Setup.{Setup}

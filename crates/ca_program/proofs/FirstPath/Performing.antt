@@ -8,10 +8,10 @@ use Rattle.ca_model.specs.Entries.{EntryValue}
 use Rattle.ca_program.specs.declared.first_path.script.Script.{Script}
 use Rattle.ca_program.specs.FirstPath.ScriptHistory.{history, set_up, registration, connection, call_entry, arrival, response, refusal, grants_after, ask}
 use Rattle.ca_program.specs.FirstPath.Form.{inject, IsFirstWrite}
-use Rattle.ca_wire.specs.declared.reth.Reth.{Reth}
-use Rattle.ca_wire.specs.declared.packet.Packet.{Packet}
-use Rattle.ca_wire.specs.declared.wire_error.WireError.{WireError}
-use Rattle.ca_wire.specs.Packet.{Fields, Spells, fields_of}
+use Rattle.ca_packet.specs.declared.reth.Reth.{Reth}
+use Rattle.ca_packet.specs.declared.packet.Packet.{Packet}
+use Rattle.ca_packet.specs.declared.wire_error.WireError.{WireError}
+use Rattle.ca_packet.specs.Packet.{Fields, Spells, fields_of}
 
 -- the entries of each step, one after the other, are the history
 pub steps-history : (s : Script) (h : Reth) (b : List ℕ) (h1 h2 h3 h4 h5 : List EntryValue) (g : List Grant) (d : Option Denial)

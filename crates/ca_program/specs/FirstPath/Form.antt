@@ -15,9 +15,9 @@ use Rattle.ca_program.specs.declared.first_path.script.Script.{Script}
 use Rattle.ca_program.specs.declared.script_error.ScriptError.{ScriptError}
 use Rattle.ca_program.specs.declared.script_error.ScriptError.TheVariants as errors
 use Rattle.ca_trace.specs.Trace.{call}
-use Rattle.ca_wire.specs.declared.opcode.TheConstants.{RDMA_WRITE_ONLY}
-use Rattle.ca_wire.specs.declared.packet.TheConstants.{DEFAULT_PKEY}
-use Rattle.ca_wire.specs.Packet.{Fields, Spells}
+use Rattle.ca_packet.specs.declared.opcode.TheConstants.{RDMA_WRITE_ONLY}
+use Rattle.ca_packet.specs.declared.packet.TheConstants.{DEFAULT_PKEY}
+use Rattle.ca_packet.specs.Packet.{Fields, Spells}
 
 -- domain 0 of adapter 0, slot 0 of the domain, the queue pair there, and the peer that it names
 abbrev pub domain : DomainId

@@ -1,7 +1,7 @@
 -- What reading a script line by line finds, and the number of the first line that differs. Contracts cite it.
 use Rattle.std.specs.Prelude.{◌≡◌, ℕ, ◌++◌, List, Option, None, Some, codes, Result, Ok, Err}
 use Rattle.hex.specs.Hex.{IsBytes}
-use Rattle.ca_wire.specs.Packet.{Fields}
+use Rattle.ca_packet.specs.Packet.{Fields}
 use Rattle.ca_model.specs.declared.verb.Verb.TheVariants as verbs
 use Rattle.ca_trace.specs.Trace.{call}
 use Rattle.ca_program.specs.declared.script_error.ScriptError.{ScriptError}

@@ -26,10 +26,10 @@ use Rattle.std.specs.Result.{result_ok}
 use Rattle.ca_model.specs.Answers.{refusal_of_region}
 use Rattle.ca_program.specs.declared.first_path.script.Script.{Script}
 use Rattle.ca_program.specs.FirstPath.Form.{domain, slot, queue, peer, alloc_pd, create_cq, create_qp, reg_mr, init, rtr, inject, IsFirstWrite}
-use Rattle.ca_wire.specs.declared.reth.Reth.{Reth}
+use Rattle.ca_packet.specs.declared.reth.Reth.{Reth}
 use Rattle.ca_wire.specs.declared.syndrome.NakCode.TheVariants.{RemoteAccessError}
 use Rattle.ca_wire.specs.Builders.{nak}
-use Rattle.ca_wire.specs.Packet.{Fields, spelling}
+use Rattle.ca_packet.specs.Packet.{Fields, spelling}
 
 -- the bytes that the script registers
 abbrev pub region : Script → Run

@@ -1,5 +1,5 @@
 ghost use Rattle.std.specs.Prelude.{◌≡◌, ◌++◌, ◌↔◌, IsTrue, IfOk, IfErr};
-ghost use Rattle.ca_wire.specs.Packet.{Fields, fields_of};
+ghost use Rattle.ca_packet.specs.Packet.{Fields, fields_of};
 ghost use Rattle.ca_program.specs.FirstPath.Form.{IsFirstWrite, IsWrite, line_text};
 ghost use Rattle.ca_program.specs.FirstPath.WordReaders as words;
 ghost use Rattle.ca_program.specs.FirstPath.LineReaders.{Finds, Gives, GivesOrLacks, IsInjected, LacksPacket, inject_line, line, opening_at, setup_at};

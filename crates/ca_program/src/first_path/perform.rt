@@ -9,8 +9,8 @@ ghost use Rattle.ca_program.specs.FirstPath.Form as form;
 ghost use Rattle.ca_program.specs.FirstPath.Form.{slot, IsOfForm};
 ghost use Rattle.ca_program.specs.FirstPath.ScriptHistory as path;
 ghost use Rattle.ca_region.specs.Region.{RefusesBy};
-ghost use Rattle.ca_wire.specs.declared.reth.Reth.{Reth};
-ghost use Rattle.ca_wire.specs.Packet.{spelling};
+ghost use Rattle.ca_packet.specs.declared.reth.Reth.{Reth};
+ghost use Rattle.ca_packet.specs.Packet.{spelling};
 
 use crate::first_path::form::{DOMAIN, MTU, PEER, QUEUE, RNR_CODE, SLOT};
 use crate::first_path::script::Script;

@@ -3,7 +3,7 @@ use Rattle.ca_qpstate.specs.Seen.{queue_of}
 use Rattle.ca_rows.specs.Done.{handed}
 use Rattle.ca_tests_grant.specs.SmallReach.{sight_of}
 use Rattle.ca_tests_requester.proofs.Kept.{taking_kept}
-use Rattle.ca_wire.specs.Packet.{fields_of}
+use Rattle.ca_packet.specs.Packet.{fields_of}
 use Rattle.bench_engines.proofs.requesting.take.Goals as goal
 
 pub returns-clause-queue : goal.returns-clause-queue

@@ -1,6 +1,6 @@
 use Rattle.std.proofs.Common.{rules, ◌∙◌, option_copied}
 use Rattle.ca_qpstate.specs.Seen.{queue_of}
-use Rattle.ca_wire.specs.Packet.{fields_of}
+use Rattle.ca_packet.specs.Packet.{fields_of}
 use Rattle.ca_arrivals.proofs.AskingLemmas.{asks_of_expected}
 use Rattle.ca_arrivals.specs.Shapes.{shape_seen}
 use Rattle.ca_arrivals.proofs.asks.expected_asks.Goals as goal

@@ -1,6 +1,6 @@
 use Rattle.std.proofs.Common.{rules}
 use Rattle.ca_qpstate.specs.Seen.{queue_of}
-use Rattle.ca_wire.specs.Packet.{fields_of}
+use Rattle.ca_packet.specs.Packet.{fields_of}
 use Rattle.ca_requester.proofs.ResponseLemmas.{answer_fits}
 use Rattle.ca_requester.specs.Numbering.{numbered_of}
 use Rattle.ca_requester.proofs.responses.answer_of.Goals as goal

@@ -1,6 +1,6 @@
 use Rattle.std.proofs.Common.{sym}
 use Rattle.ca_qpstate.specs.Seen.{queue_of}
-use Rattle.ca_wire.specs.Packet.{fields_of}
+use Rattle.ca_packet.specs.Packet.{fields_of}
 use Rattle.ca_responder.proofs.RowLemmas.{atomic-taken-by}
 use Rattle.ca_responder.proofs.remote_requests.take_atomic.Goals as goal
 

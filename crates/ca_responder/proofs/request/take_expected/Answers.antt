@@ -2,7 +2,7 @@ use Rattle.std.proofs.Common.{subst, sym, ◌∙◌, IfSome, option_copied}
 use Rattle.ca_grant.specs.Reaching.{AreAtHand}
 use Rattle.ca_model.specs.machine.Row.{Row, ending_of}
 use Rattle.ca_qpstate.specs.Seen.{queue_of}
-use Rattle.ca_wire.specs.Packet.{fields_of}
+use Rattle.ca_packet.specs.Packet.{fields_of}
 use Rattle.ca_responder.proofs.WaitingLemmas.{row_by}
 use Rattle.ca_arrivals.specs.Shapes.{shape_seen}
 use Rattle.ca_responder.specs.Taking.{IsPacketTaken, MayEnd, ended_by, found}

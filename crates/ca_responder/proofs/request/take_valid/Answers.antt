@@ -1,6 +1,6 @@
 use Rattle.std.proofs.Common.{◌≡◌, false, subst, sym, ◌∙◌}
 use Rattle.ca_qpstate.specs.Seen.{queue_of}
-use Rattle.ca_wire.specs.Packet.{fields_of}
+use Rattle.ca_packet.specs.Packet.{fields_of}
 use Rattle.ca_model.specs.machine.Expected.{is_invalid}
 use Rattle.ca_arrivals.specs.Shapes.{shape_seen}
 use Rattle.ca_arrivals.specs.declared.shape.Shape.{Shape}

@@ -5,7 +5,7 @@ use Rattle.ca_model.specs.machine.Completions.{flush_marks}
 use Rattle.ca_model.specs.machine.Expected.{Receiving}
 use Rattle.ca_model.specs.machine.Responses.{local_writes}
 use Rattle.ca_qpstate.specs.Seen.{queue_of}
-use Rattle.ca_wire.specs.Packet.{fields_of}
+use Rattle.ca_packet.specs.Packet.{fields_of}
 use Rattle.ca_responder.specs.Ending.{key_end}
 use Rattle.ca_arrivals.specs.Numbers.{receive_taken}
 use Rattle.ca_responder.proofs.SendLemmas.{ended-marks, refused-marks}

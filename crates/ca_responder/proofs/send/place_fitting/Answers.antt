@@ -1,5 +1,5 @@
 use Rattle.ca_qpstate.specs.Seen.{queue_of}
-use Rattle.ca_wire.specs.Packet.{fields_of}
+use Rattle.ca_packet.specs.Packet.{fields_of}
 use Rattle.ca_responder.proofs.SendLemmas.{can-write, ended-as, few-writes, placed-by}
 use Rattle.ca_responder.proofs.send.place_fitting.Goals as goal
 

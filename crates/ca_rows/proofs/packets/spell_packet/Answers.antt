@@ -1,6 +1,6 @@
 use Rattle.std.proofs.lemmas.Result.{on_ok_weaker}
-use Rattle.ca_wire.specs.declared.packet.TheConstants.{MAX_PACKET_BYTES}
-use Rattle.ca_wire.specs.Packet.{fields_of, spelling}
+use Rattle.ca_packet.specs.declared.packet.TheConstants.{MAX_PACKET_BYTES}
+use Rattle.ca_packet.specs.Packet.{fields_of, spelling}
 use Rattle.ca_rows.proofs.PacketLemmas.{longer}
 use Rattle.ca_rows.proofs.packets.spell_packet.Goals as goal
 

@@ -4,7 +4,7 @@ use Rattle.ca_responder.specs.Taking.{MayEnd}
 use Rattle.ca_tests_grant.specs.SmallReach.{IsEndHere, sight_of}
 use Rattle.ca_tests_responder.proofs.Ended.{ended_as}
 use Rattle.ca_tests_responder.proofs.responder.request_in.Goals as goal
-use Rattle.ca_wire.specs.Packet.{fields_of}
+use Rattle.ca_packet.specs.Packet.{fields_of}
 
 pub returns-clause-ends : goal.returns-clause-ends
 returns-clause-ends c = λ envelope. ended_as (fields_of c.in-Ok.p) envelope (option_copied c.args.srq) (queue_of c.args.q.now)

@@ -5,7 +5,7 @@ use Rattle.ca_responder.specs.Taking.{found}
 use Rattle.ca_tests_grant.specs.SmallReach.{sight_of}
 use Rattle.ca_tests_responder.proofs.Kept.{arrival_kept, request-good, stands_by}
 use Rattle.ca_tests_responder.proofs.responder.take_own.Goals as goal
-use Rattle.ca_wire.specs.Packet.{fields_of}
+use Rattle.ca_packet.specs.Packet.{fields_of}
 
 pub returns : goal.returns
 returns c =

@@ -6,7 +6,7 @@ use Rattle.ca_responder.specs.Taking.{found}
 use Rattle.ca_tests_grant.specs.SmallReach.{sight_of}
 use Rattle.ca_tests_responder.proofs.Kept.{arrival_kept, request-good, shared_kept, stands_by}
 use Rattle.ca_tests_responder.proofs.responder.take_shared.Goals as goal
-use Rattle.ca_wire.specs.Packet.{fields_of}
+use Rattle.ca_packet.specs.Packet.{fields_of}
 
 pub returns-clause-stands : goal.returns-clause-stands
 returns-clause-stands c =

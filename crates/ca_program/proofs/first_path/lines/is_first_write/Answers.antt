@@ -1,5 +1,5 @@
 use Rattle.std.proofs.Common.{subst, sym}
-use Rattle.ca_wire.specs.Packet.{fields_of}
+use Rattle.ca_packet.specs.Packet.{fields_of}
 use Rattle.ca_program.specs.FirstPath.Form.{IsWrite}
 use Rattle.ca_program.proofs.first_path.lines.is_first_write.Goals as goal
 

@@ -1,7 +1,7 @@
 use Rattle.std.proofs.Common.{◌≡◌, ◌++◌, refl, sym, subst, ◌∙◌, ℕ, List}
 use Rattle.std.proofs.lemmas.Result.{err_from_is_err_and}
 use Rattle.std.proofs.lemmas.Bool.{false≢true}
-use Rattle.ca_wire.specs.Packet.{Fields}
+use Rattle.ca_packet.specs.Packet.{Fields}
 use Rattle.ca_program.specs.FirstPath.Form.{IsFirstWrite, line_text}
 use Rattle.ca_program.specs.FirstPath.LineReaders.{IsInjected, inject_line}
 use Rattle.ca_program.proofs.FirstPath.PacketLaws.{packet_refused, packet_other, packet_found}

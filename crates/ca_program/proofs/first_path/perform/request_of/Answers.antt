@@ -1,7 +1,7 @@
 use Rattle.std.proofs.Common.{sym, ap, ◌∙◌}
 use Rattle.ca_program.proofs.FirstPath.Performing.{found-spelt, some-reth}
 use Rattle.ca_program.proofs.first_path.perform.request_of.Goals as goal
-use Rattle.ca_wire.specs.Packet.{Fields}
+use Rattle.ca_packet.specs.Packet.{Fields}
 
 pub request_in-requires : goal.request_in-requires
 request_in-requires c =

@@ -1,7 +1,7 @@
 use Rattle.std.proofs.Common.{◌∙◌, [], rules}
 use Rattle.ca_qpstate.specs.Seen.{queue_of}
 use Rattle.ca_rows.specs.Done.{handed}
-use Rattle.ca_wire.specs.Packet.{fields_of}
+use Rattle.ca_packet.specs.Packet.{fields_of}
 use Rattle.ca_tests_grant.specs.SmallReach.{sight_of}
 use Rattle.ca_tests_requester.proofs.Kept.{at_hand, stands_by, taking_kept}
 use Rattle.ca_tests_requester.proofs.bed.Bed.take.Goals as goal

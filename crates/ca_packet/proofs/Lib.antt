@@ -1,0 +1,11 @@
+pub mod NumberLaws
+pub mod Steps
+pub mod BthLaws
+pub mod HeaderLaws
+pub mod PayloadLaws
+pub mod TableRows
+pub mod AllHeaders
+pub mod PacketLaws
+pub mod RefusalLaws
+pub mod DecoderLaws
+pub mod WritingLaws

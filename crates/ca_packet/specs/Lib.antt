@@ -1,0 +1,4 @@
+pub mod Table
+pub mod Packet
+pub mod Decoding
+pub mod Writing

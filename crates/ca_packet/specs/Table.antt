@@ -1,0 +1,88 @@
+-- The table of opcodes: which headers follow the base transport header, in order, and whether a payload may stand.
+-- Contracts cite it.
+use Rattle.std.specs.Prelude.{ℕ, ◌==◌, Bool, true, false, List, [], ◌∷◌, Option, find}
+use Rattle.std.specs.List.{list_any}
+use Rattle.std.specs.Option.{option_map_or}
+use Rattle.ca_packet.specs.declared.opcode.TheConstants.{SEND_FIRST, SEND_MIDDLE, SEND_LAST, SEND_LAST_WITH_IMMEDIATE, SEND_ONLY, SEND_ONLY_WITH_IMMEDIATE, RDMA_WRITE_FIRST, RDMA_WRITE_MIDDLE, RDMA_WRITE_LAST, RDMA_WRITE_LAST_WITH_IMMEDIATE, RDMA_WRITE_ONLY, RDMA_WRITE_ONLY_WITH_IMMEDIATE, RDMA_READ_REQUEST, RDMA_READ_RESPONSE_FIRST, RDMA_READ_RESPONSE_MIDDLE, RDMA_READ_RESPONSE_LAST, RDMA_READ_RESPONSE_ONLY, ACKNOWLEDGE, ATOMIC_ACKNOWLEDGE, CMP_SWAP, FETCH_ADD, SEND_LAST_WITH_INVALIDATE, SEND_ONLY_WITH_INVALIDATE}
+
+-- a header that may follow the base transport header
+pub data Header : Type 0 where
+  RETH : Header
+  AtomicETH : Header
+  AETH : Header
+  AtomicAckETH : Header
+  ImmDt : Header
+  IETH : Header
+
+-- how many bytes a header has
+abbrev pub size_of : Header → ℕ
+size_of RETH = 16
+size_of AtomicETH = 28
+size_of AETH = 4
+size_of AtomicAckETH = 8
+size_of ImmDt = 4
+size_of IETH = 4
+
+-- what stands in a packet with this opcode
+pub record Row : Type 0 where
+  pub opcode : ℕ
+  pub headers : List Header
+  pub payload : Bool
+
+-- one row of the table
+abbrev pub row : ℕ → List Header → Bool → Row
+row opcode headers payload = record { opcode = opcode; headers = headers; payload = payload }
+
+-- the opcodes of the reliable connection
+abbrev pub table : List Row
+table =
+    row SEND_FIRST [] true
+    ∷ row SEND_MIDDLE [] true
+    ∷ row SEND_LAST [] true
+    ∷ row SEND_LAST_WITH_IMMEDIATE (ImmDt ∷ []) true
+    ∷ row SEND_ONLY [] true
+    ∷ row SEND_ONLY_WITH_IMMEDIATE (ImmDt ∷ []) true
+    ∷ row RDMA_WRITE_FIRST (RETH ∷ []) true
+    ∷ row RDMA_WRITE_MIDDLE [] true
+    ∷ row RDMA_WRITE_LAST [] true
+    ∷ row RDMA_WRITE_LAST_WITH_IMMEDIATE (ImmDt ∷ []) true
+    ∷ row RDMA_WRITE_ONLY (RETH ∷ []) true
+    ∷ row RDMA_WRITE_ONLY_WITH_IMMEDIATE (RETH ∷ ImmDt ∷ []) true
+    ∷ row RDMA_READ_REQUEST (RETH ∷ []) false
+    ∷ row RDMA_READ_RESPONSE_FIRST (AETH ∷ []) true
+    ∷ row RDMA_READ_RESPONSE_MIDDLE [] true
+    ∷ row RDMA_READ_RESPONSE_LAST (AETH ∷ []) true
+    ∷ row RDMA_READ_RESPONSE_ONLY (AETH ∷ []) true
+    ∷ row ACKNOWLEDGE (AETH ∷ []) false
+    ∷ row ATOMIC_ACKNOWLEDGE (AETH ∷ AtomicAckETH ∷ []) false
+    ∷ row CMP_SWAP (AtomicETH ∷ []) false
+    ∷ row FETCH_ADD (AtomicETH ∷ []) false
+    ∷ row SEND_LAST_WITH_INVALIDATE (IETH ∷ []) true
+    ∷ row SEND_ONLY_WITH_INVALIDATE (IETH ∷ []) true
+    ∷ []
+
+-- the row of an opcode, if the table has it
+unfoldable pub row_of : ℕ → Option Row
+row_of opcode = find (λ r. r.opcode == opcode) table
+
+-- the headers of an opcode, in order
+abbrev pub headers_of : ℕ → List Header
+headers_of opcode = option_map_or (λ r. r.headers) (row_of opcode) []
+
+-- whether a payload may stand after the headers of an opcode
+abbrev pub allows_payload : ℕ → Bool
+allows_payload opcode = option_map_or (λ r. r.payload) (row_of opcode) false
+
+-- these are one header
+abbrev pub is_header : Header → Header → Bool
+is_header RETH RETH = true
+is_header AtomicETH AtomicETH = true
+is_header AETH AETH = true
+is_header AtomicAckETH AtomicAckETH = true
+is_header ImmDt ImmDt = true
+is_header IETH IETH = true
+is_header _ _ = false
+
+-- whether a header is among these
+abbrev pub has : Header → List Header → Bool
+has header headers = list_any (is_header header) headers

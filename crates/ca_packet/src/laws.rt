@@ -1,0 +1,26 @@
+ghost use Rattle.std.specs.Prelude.{◌≡◌, ◌≤◌, List, ℕ, Ok, length};
+ghost use Rattle.ca_packet.specs.declared.packet.TheConstants.{MAX_PACKET_BYTES};
+ghost use Rattle.ca_packet.specs.Decoding.{packet_in};
+ghost use Rattle.ca_packet.specs.Packet.{Fields, FitsBits, IsWellFormed, Spells, spelling, spelling_size};
+
+/// Bytes spell one packet at most.
+pub fn one_packet()
+    ensures { (bytes : List ℕ) (f g : Fields) → Spells bytes f → Spells bytes g → f ≡ g }
+{}
+
+/// The canonical spelling of a packet spells it, and no other.
+pub fn round_trip()
+    ensures spells { (f : Fields) → IsWellFormed f → FitsBits f → Spells (spelling f) f }
+    ensures only { (f g : Fields) → IsWellFormed f → FitsBits f → Spells (spelling f) g → g ≡ f }
+{}
+
+/// How many bytes spell a packet, and that none takes more than the most.
+pub fn spelling_length()
+    ensures exact { (f : Fields) → IsWellFormed f → length (spelling f) ≡ spelling_size f }
+    ensures most { (f : Fields) → IsWellFormed f → length (spelling f) ≤ MAX_PACKET_BYTES }
+{}
+
+/// The reading from left to right gives the packet that the bytes spell.
+pub fn reading()
+    ensures { (bytes : List ℕ) (f : Fields) → Spells bytes f → packet_in bytes ≡ Ok f }
+{}

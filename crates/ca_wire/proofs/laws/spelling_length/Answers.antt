@@ -1,8 +1,0 @@
-use Rattle.ca_wire.proofs.WritingLaws.{spelling_length, spelling_most}
-use Rattle.ca_wire.proofs.laws.spelling_length.Goals as goal
-
-pub returns-clause-exact : goal.returns-clause-exact
-returns-clause-exact c = spelling_length
-
-pub returns-clause-most : goal.returns-clause-most
-returns-clause-most c = spelling_most
