@@ -3,7 +3,7 @@ ghost use Rattle.ca_model.specs.Packets as packets;
 ghost use Rattle.ca_model.specs.machine.Invariants.{IsQueue};
 ghost use Rattle.ca_model.specs.machine.Responses.{response_row};
 ghost use Rattle.ca_qpstate.specs.Seen.{queue_of};
-ghost use Rattle.ca_requester.specs.Turn.{turn_row};
+ghost use Rattle.ca_sending.specs.Turn.{turn_row};
 ghost use Rattle.ca_rows.specs.Narrow.{AreNarrow};
 ghost use Rattle.ca_tests_grant.specs.SmallReach as small;
 ghost use Rattle.ca_tests_requester.specs.Bed as beds;

@@ -1,2 +1,4 @@
 pub mod FlushLemmas
 pub mod AskingLemmas
+pub mod EndLemmas
+pub mod TakingLemmas

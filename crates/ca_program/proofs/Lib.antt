@@ -1,3 +1,3 @@
-pub mod FirstPath
+pub mod Limit
 pub mod OneWord
 pub mod RunLaws

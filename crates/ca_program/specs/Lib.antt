@@ -1,3 +1,2 @@
-pub mod FirstPath
 pub mod Run
 pub mod Status

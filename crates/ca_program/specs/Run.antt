@@ -2,9 +2,9 @@
 use Rattle.std.specs.Prelude.{◌≡◌, ℕ, List, [], ◌∷◌, codes, Option, Some, IfSome}
 use Rattle.ca_keys.specs.Memory.{zeros}
 use Rattle.ca_model.specs.Entries.{EntryValue}
-use Rattle.ca_program.specs.FirstPath.{HasHistory}
+use Rattle.ca_first_path.specs.ScriptHistory.{HasHistory}
 use Rattle.ca_model.specs.Lawful.{IsLawful}
-use Rattle.ca_reading.specs.Fits.{HistoryFits}
+use Rattle.ca_reading_fits.specs.Histories.{HistoryFits}
 use Rattle.ca_trace.specs.Trace.{text}
 
 -- the words are the one command

@@ -1,9 +1,8 @@
 -- The exit code and the line of each status. Contracts cite it.
 use Rattle.std.specs.Prelude.{ℕ, Bool, true, false, List, [], ◌++◌, codes, decimal}
-use Rattle.ca_program.specs.declared.script_error.ScriptCause.{ScriptCause}
-use Rattle.ca_program.specs.declared.script_error.ScriptCause.TheVariants.{NotBuilt}
-use Rattle.ca_program.specs.declared.script_error.ScriptError.{ScriptError}
-use Rattle.ca_program.specs.declared.script_error.ScriptError.TheVariants as errors
+use Rattle.ca_first_path.specs.Causes.{cause_text}
+use Rattle.ca_first_path.specs.declared.script_error.ScriptError.{ScriptError}
+use Rattle.ca_first_path.specs.declared.script_error.ScriptError.TheVariants as errors
 use Rattle.ca_outside.specs.declared.transfer.ReadStop.{ReadStop}
 use Rattle.ca_outside.specs.declared.transfer.ReadStop.TheVariants as stops
 use Rattle.ca_program.specs.declared.status.Status.{Status}
@@ -16,10 +15,6 @@ exit_code statuses.Usage = 2
 exit_code statuses.ReadFault = 3
 exit_code statuses.WriteFault = 4
 exit_code statuses.Memory = 7
-
--- why a script is refused
-abbrev pub cause_text : ScriptCause → List ℕ
-cause_text NotBuilt = codes "not built"
 
 -- the line that tells of a status; there is none of Fine
 abbrev pub status_line : Status → List ℕ

@@ -8,9 +8,7 @@
 #![tactic(auto)]
 
 mod command;
-mod first_path;
 mod run;
-mod script_error;
 mod status;
 
 use std::process::ExitCode;

@@ -1,16 +1,15 @@
 ghost use Rattle.std.specs.Prelude.{◌≡◌, ◌≢◌, ◌↔◌, ◌+◌, ◌++◌, ℕ, List, map, codes, false, IsTrue, IfSome, IfOk, IfErr};
 ghost use Rattle.std.specs.String.{string_bytes};
 ghost use Rattle.std.specs.Io.KnownBytes.{Appends};
-ghost use Rattle.ca_program.specs.declared.script_error.ScriptCause.{ScriptCause};
-ghost use Rattle.ca_program.specs.FirstPath.Form.{FirstDiffers, IsRefusal};
+ghost use Rattle.ca_first_path.specs.declared.script_error.ScriptCause.{ScriptCause};
+ghost use Rattle.ca_first_path.specs.Form.{FirstDiffers, IsRefusal};
 ghost use Rattle.ca_outside.specs.Outside.{Rose, LosesAtMost, AppendsPart};
 ghost use Rattle.ca_program.specs.Run.{IsCommand, HasOutput, Ran};
 ghost use Rattle.ca_program.specs.Status.{writes};
 
-use crate::first_path::history_of;
-use crate::script_error::ScriptError;
 use crate::status::Status;
 use ca_base::limits::MAX_SCRIPT_BYTES;
+use ca_first_path::{ScriptError, history_of};
 use ca_outside::{Sink, Source, read_up_to, write_all};
 use ca_reading::{history_fits, one_text};
 use ca_trace::print_history;

@@ -1,8 +1,8 @@
 ghost use Rattle.std.specs.Prelude.{◌≡◌, ◌++◌, OnOk, OnErr, Some};
 ghost use Rattle.ca_program.specs.Status as table;
 
-use crate::script_error::{ScriptCause, ScriptError};
 use ca_base::Memory;
+use ca_first_path::{ScriptCause, ScriptError};
 use ca_outside::ReadStop;
 use std::fmt;
 

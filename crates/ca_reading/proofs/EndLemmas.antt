@@ -12,12 +12,13 @@ use Rattle.ca_trace.specs.declared.line.Line.TheVariants as lines
 use Rattle.ca_trace.specs.Lines.{line_text, lines_text, entry_lines, history_lines}
 use Rattle.ca_trace.specs.Trace.{text}
 use Rattle.ca_reading_lines.specs.Fits.{LineFits}
-use Rattle.ca_reading.specs.Fits.{EntryFits, HistoryFits}
-use Rattle.ca_reading.specs.Steps.{Poll, Stage, Start, Polling, Open, Over, Stopped, Reading, polled, polling, start}
+use Rattle.ca_reading_fits.specs.Histories.{EntryFits, HistoryFits}
+use Rattle.ca_reading_steps.specs.Steps.{Poll, Stage, Start, Polling, Open, Over, Stopped, Reading, polled, polling, start}
 use Rattle.ca_reading.specs.Taken.{AreTaken, lined}
 use Rattle.ca_reading.specs.Outside.{BeginsText}
 use Rattle.ca_reading.proofs.TextLemmas.{history_text}
-use Rattle.ca_reading.proofs.SplitLemmas.{lined_lines, fit_front, fit_back, fit_both}
+use Rattle.ca_reading.proofs.SplitLemmas.{lined_lines, fit_front, fit_back}
+use Rattle.ca_reading_fits.proofs.HistoryLemmas.{fit_both}
 use Rattle.ca_reading.proofs.ReachLemmas.{IsBehind, run_stands, got_place, next_poll, end_place}
 
 abbrev a_completion : Completion

@@ -1,7 +1,5 @@
-pub mod StepLemmas
 pub mod TextLemmas
 pub mod WholeLemmas
-pub mod RunLemmas
 pub mod SplitLemmas
 pub mod EntryLemmas
 pub mod ReachLemmas
@@ -10,4 +8,3 @@ pub mod OutsideLemmas
 pub mod TakeLemmas
 pub mod FeedLemmas
 pub mod ReadLemmas
-pub mod FitLemmas

@@ -17,9 +17,10 @@ use Rattle.ca_trace.specs.declared.line.Told.{Told}
 use Rattle.ca_trace.specs.declared.line.Told.TheVariants as told
 use Rattle.ca_trace.specs.Lines.{entry_lines}
 use Rattle.ca_reading_words.specs.Words.{◌>>=◌}
-use Rattle.ca_reading_lines.specs.Fits.{IsShaped, IsTold, IsTurn, LineFits}
-use Rattle.ca_reading.specs.Steps.{Poll, Stage, Start, Polling, Open, Over, Stopped, Reading, shown, may_end, may_begin, polling, called, step, before, run, start}
-use Rattle.ca_reading.proofs.RunLemmas.{bind_some}
+use Rattle.ca_reading_lines.specs.Fits.{IsShaped, IsTurn, LineFits}
+use Rattle.ca_reading_answers.specs.Answers.{IsTold}
+use Rattle.ca_reading_steps.specs.Steps.{Poll, Stage, Start, Polling, Open, Over, Stopped, Reading, shown, may_end, may_begin, polling, called, step, before, run, start}
+use Rattle.ca_reading_steps.proofs.RunLemmas.{bind_some}
 use Rattle.ca_reading.proofs.EntryLemmas.{stage_lines, StandsAt, turn_fits, call_lines, poll_lines, poll_stands, mark_lines, fit_more, history_more}
 
 -- the lines of these entries and of what has begun

@@ -79,10 +79,6 @@ pub fit_back : (ls ms : List Line) → AllByRecursion LineFits (ls ++ ms) → Al
 fit_back [] ms h = h
 fit_back (l ∷ ls) ms h = fit_back ls ms h.1
 
-pub fit_both : (ls ms : List Line) → AllByRecursion LineFits ls → AllByRecursion LineFits ms → AllByRecursion LineFits (ls ++ ms)
-fit_both [] ms h g = g
-fit_both (l ∷ ls) ms h g = (h.0, fit_both ls ms h.1 g)
-
 -- a text is cut into its lines in one way
 pub same_lines : (ws : List (List ℕ)) (hs : List Line) → AllByRecursion (λ w. is_one_line w ≡ true) ws → AllByRecursion LineFits hs → lined ws ≡ lines_text hs → ws ≡ map line_text hs
 same_lines [] [] h g e = refl

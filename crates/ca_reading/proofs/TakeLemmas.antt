@@ -9,7 +9,7 @@ use Rattle.ca_reading_words.specs.declared.stop.Stop.TheVariants as stops
 use Rattle.ca_reading_lines.specs.Calls.{exact_in}
 use Rattle.ca_reading_lines.specs.Fits.{IsShaped, LineFits}
 use Rattle.ca_reading_lines.proofs.ExactLemmas.{exact_again}
-use Rattle.ca_reading.specs.Steps.{Reading, step}
+use Rattle.ca_reading_steps.specs.Steps.{Reading, step}
 use Rattle.ca_reading.specs.Taken.{IsRefused}
 
 -- a text is one line

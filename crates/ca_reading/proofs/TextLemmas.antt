@@ -18,17 +18,18 @@ use Rattle.ca_model.specs.History.{ArePlain, FitTheEvent, IsHistoryFrom, IsHisto
 use Rattle.ca_trace.specs.declared.line.Line.{Line}
 use Rattle.ca_trace.specs.declared.line.Line.TheVariants as lines
 use Rattle.ca_trace.specs.Lines.{told_of, answer_line_words, line_text, lines_text, event_lines, entry_lines, history_lines}
-use Rattle.ca_trace.specs.Table.{call_words, event_words, told_words}
+use Rattle.ca_trace.specs.Table.{event_words, told_words}
+use Rattle.ca_trace_words.specs.Verbs.{call_words}
 use Rattle.ca_trace.specs.Trace.{completions_of, got_line, got_lines, mark_text, marks_text, entry_text, end_text, text}
-use Rattle.ca_trace.specs.Words.{Field, Lettered, word, words, led, joined}
+use Rattle.ca_trace_words.specs.Words.{Field, Lettered, word, words, led, joined}
 use Rattle.ca_reading_words.specs.Words.{◌>>=◌, pieces}
 use Rattle.ca_reading_words.proofs.PieceLemmas.{first_piece}
 use Rattle.ca_reading_lines.specs.Fits.{LineFits}
 use Rattle.ca_reading_lines.specs.Reading.{line_in}
 use Rattle.ca_reading_lines.proofs.LineLemmas.{words_append, line_read, line_lacks}
-use Rattle.ca_reading.specs.Fits.{EntryFits, HistoryFits}
-use Rattle.ca_reading.specs.Steps.{Reading, run, start}
-use Rattle.ca_reading.proofs.StepLemmas.{lines_run}
+use Rattle.ca_reading_fits.specs.Histories.{EntryFits, HistoryFits}
+use Rattle.ca_reading_steps.specs.Steps.{Reading, run, start}
+use Rattle.ca_reading_steps.proofs.StepLemmas.{lines_run}
 
 marks_lines : (ms : List Mark) → lines_text (map lines.Mark ms) ≡ flat_map mark_text ms
 marks_lines [] = refl

@@ -8,9 +8,9 @@ use Rattle.ca_trace.specs.Trace.{text}
 use Rattle.ca_reading_words.specs.Words.{pieces}
 use Rattle.ca_reading_lines.specs.Fits.{LineFits}
 use Rattle.ca_reading_lines.proofs.ExactLemmas.{exact_again}
-use Rattle.ca_reading.specs.Fits.{HistoryFits}
+use Rattle.ca_reading_fits.specs.Histories.{HistoryFits}
 use Rattle.ca_reading.specs.Texts.{lines_in, history_in}
-use Rattle.ca_reading.proofs.StepLemmas.{lines_run}
+use Rattle.ca_reading_steps.proofs.StepLemmas.{lines_run}
 use Rattle.ca_reading.proofs.TextLemmas.{history_text, lines_cut, history_fits}
 
 lines_again : (ls : List Line) → AllByRecursion LineFits ls → lines_in (map line_text ls ++ [] ∷ []) ≡ Some ls

@@ -1,5 +1,3 @@
-pub mod Fits
-pub mod Steps
 pub mod Texts
 pub mod Taken
 pub mod Outside

@@ -2,7 +2,7 @@
 use Rattle.std.specs.Prelude.{◌≡◌, ℕ, ◌+◌, ◌==◌, min, not, ◌&&◌, Bool, true, List, [], ◌∷◌, ◌++◌, length}
 use Rattle.ca_model.specs.Entries.{EntryValue}
 use Rattle.ca_trace.specs.Trace.{text}
-use Rattle.ca_reading.specs.Fits.{HistoryFits}
+use Rattle.ca_reading_fits.specs.Histories.{HistoryFits}
 use Rattle.ca_reading.specs.Taken.{lined}
 
 -- the text of some history begins so

@@ -1,27 +1,7 @@
 -- ReaderView: what the fields of a reader stand for.
-use Rattle.std.specs.Prelude.{◌+◌, ◌<◌, ◌≤◌, length}
-use Rattle.ca_model.specs.Entries.{entry_of}
-use Rattle.ca_reading.specs.declared.progress.OpenPoll.{OpenPoll}
-use Rattle.ca_reading.specs.declared.progress.Progress.{Progress}
-use Rattle.ca_reading.specs.declared.progress.Progress.TheVariants as places
 use Rattle.ca_reading.specs.declared.reader.TraceReader.TheInside.{Inside}
 use Rattle.ca_reading.specs.ReaderValue.{ReaderValue}
-use Rattle.ca_reading.specs.Steps.{Poll, Stage, Start, Polling, Open, Over, Stopped}
-
-abbrev pub poll_of : OpenPoll → Poll
-poll_of p = record { stamp = p.stamp; pass = p.pass; by = p.by; verb = p.verb; given = p.given; wanted = p.wanted }
-
-abbrev pub stage_of : Progress → Stage
-stage_of places.Start = Start
-stage_of (places.Polling poll) = Polling (poll_of poll)
-stage_of (places.Open entry) = Open (entry_of entry)
-stage_of places.Over = Over
-stage_of places.Stopped = Stopped
-
--- some completions of a poll are still to come, and with them it gives at most sixteen
-abbrev pub HasRoom : Progress → Type 0
-HasRoom (places.Polling poll) = (0 < poll.wanted) × (length poll.given + poll.wanted ≤ 16)
-HasRoom place = Unit {0}
+use Rattle.ca_reading_steps.specs.ProgressView.{HasRoom, stage_of}
 
 abbrev pub view_of : Inside → ReaderValue
 view_of r = record { next = r.next; reading = record { count = r.count; stage = stage_of r.progress } }

@@ -7,16 +7,13 @@
 //! Source: this profile's choice, as the text of a history is.
 #![tactic(auto)]
 
-mod copy;
 mod error;
-mod fits;
 mod laws;
-mod progress;
 mod reader;
 mod whole;
 
+pub use ca_reading_fits::history_fits;
 pub use error::TraceError;
-pub use fits::history_fits;
 pub use laws::{
     lines_are_text, lines_give, one_more_line, one_text, refused_line_begins_none,
     taken_lines_begin, text_is_read,

@@ -1,18 +1,18 @@
 ghost use Rattle.std.specs.Prelude.{◌≡◌, ◌==◌, ◌<◌, ◌+◌, length, drop, ◌∷◌, [], ◌++◌, List, true, false, MatchOption, IfOk, IfErr, OnErr, OnOk};
 ghost use Rattle.ca_model.specs.Entries.{EntryValue};
-ghost use Rattle.ca_reading.specs.Fits.{HistoryFits};
-ghost use Rattle.ca_reading.specs.Steps as steps;
-ghost use Rattle.ca_reading.specs.Steps.{is_over};
+ghost use Rattle.ca_reading_fits.specs.Histories.{HistoryFits};
+ghost use Rattle.ca_reading_steps.specs.Steps as steps;
+ghost use Rattle.ca_reading_steps.specs.Steps.{is_over};
 ghost use Rattle.ca_reading.specs.Outside.{is_one_line};
 ghost use Rattle.ca_reading.specs.Reader.{IsReached, TakesInto, IsCause, IsRefusedRight, IsReadAs};
 ghost use Rattle.ca_reading.specs.declared.error.TraceError.TheVariants as errors;
 ghost use Rattle.ca_trace.specs.Trace.{text};
 
 use crate::error::TraceError;
-use crate::fits::history_fits;
 use crate::reader::TraceReader;
 use ca_base::Memory;
 use ca_model::History;
+use ca_reading_fits::history_fits;
 use ca_reading_words::place_of;
 use ca_trace::print_history;
 use std::alloc::Global;

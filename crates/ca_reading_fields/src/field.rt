@@ -1,4 +1,5 @@
 ghost use Rattle.std.specs.Prelude.{Some};
+ghost use Rattle.ca_reading_names.specs.Names as names;
 ghost use Rattle.ca_reading_words.specs.Words as words;
 ghost use Rattle.ca_reading_words.specs.Words.{Reads};
 
@@ -80,9 +81,9 @@ pub fn take_perhaps_key(line: &mut Pieces) -> Result<Option<Key>, Stop>
 
 /// Why a local operation was refused, or nothing, by the first word.
 pub fn take_perhaps_cause(line: &mut Pieces) -> Result<Option<OpRefusal>, Stop>
-    ensures { Reads (λ x. x) result line.new (words.field (words.perhaps_in words.cause_in) line.old) }
+    ensures { Reads (λ x. x) result line.new (words.field (words.perhaps_in names.cause_in) line.old) }
 {
-    ca_reading_words::perhaps_cause_in(line.take_word()?)
+    ca_reading_names::perhaps_cause_in(line.take_word()?)
 }
 
 /// An adapter, and a buffer there, by the first word.
@@ -136,79 +137,79 @@ pub fn take_address(line: &mut Pieces) -> Result<u64, Stop>
 
 /// Whether a region stands there, or a window, by the first word.
 pub fn take_object(line: &mut Pieces) -> Result<bool, Stop>
-    ensures { Reads (λ x. x) result line.new (words.field (words.object_in) line.old) }
+    ensures { Reads (λ x. x) result line.new (words.field (names.object_in) line.old) }
 {
-    ca_reading_words::object_in(line.take_word()?)
+    ca_reading_names::object_in(line.take_word()?)
 }
 
 /// Whether the receive side stands there, or the send side, by the first word.
 pub fn take_side(line: &mut Pieces) -> Result<bool, Stop>
-    ensures { Reads (λ x. x) result line.new (words.field (words.side_in) line.old) }
+    ensures { Reads (λ x. x) result line.new (words.field (names.side_in) line.old) }
 {
-    ca_reading_words::side_in(line.take_word()?)
+    ca_reading_names::side_in(line.take_word()?)
 }
 
 /// Whether a timer was silent, or only hastened, by the first word.
 pub fn take_alarm(line: &mut Pieces) -> Result<bool, Stop>
-    ensures { Reads (λ x. x) result line.new (words.field (words.alarm_in) line.old) }
+    ensures { Reads (λ x. x) result line.new (words.field (names.alarm_in) line.old) }
 {
-    ca_reading_words::alarm_in(line.take_word()?)
+    ca_reading_names::alarm_in(line.take_word()?)
 }
 
 /// What an access does, by the first word.
 pub fn take_kind(line: &mut Pieces) -> Result<Kind, Stop>
-    ensures { Reads (λ x. x) result line.new (words.field (words.kind_in) line.old) }
+    ensures { Reads (λ x. x) result line.new (words.field (names.kind_in) line.old) }
 {
-    ca_reading_words::kind_in(line.take_word()?)
+    ca_reading_names::kind_in(line.take_word()?)
 }
 
 /// The part of the key check that failed, by the first word.
 pub fn take_denial(line: &mut Pieces) -> Result<Denial, Stop>
-    ensures { Reads (λ x. x) result line.new (words.field (words.denial_in) line.old) }
+    ensures { Reads (λ x. x) result line.new (words.field (names.denial_in) line.old) }
 {
-    ca_reading_words::denial_in(line.take_word()?)
+    ca_reading_names::denial_in(line.take_word()?)
 }
 
 /// What the weather does to a packet, by the first word.
 pub fn take_lot(line: &mut Pieces) -> Result<Lot, Stop>
-    ensures { Reads (λ x. x) result line.new (words.field (words.lot_in) line.old) }
+    ensures { Reads (λ x. x) result line.new (words.field (names.lot_in) line.old) }
 {
-    ca_reading_words::lot_in(line.take_word()?)
+    ca_reading_names::lot_in(line.take_word()?)
 }
 
 /// The state of a queue pair, by the first word.
 pub fn take_state(line: &mut Pieces) -> Result<State, Stop>
-    ensures { Reads (λ x. x) result line.new (words.field (words.state_in) line.old) }
+    ensures { Reads (λ x. x) result line.new (words.field (names.state_in) line.old) }
 {
-    ca_reading_words::state_in(line.take_word()?)
+    ca_reading_names::state_in(line.take_word()?)
 }
 
 /// What the request of a completion asked for, by the first word.
 pub fn take_operation(line: &mut Pieces) -> Result<WcOp, Stop>
-    ensures { Reads (λ x. x) result line.new (words.field (words.operation_in) line.old) }
+    ensures { Reads (λ x. x) result line.new (words.field (names.operation_in) line.old) }
 {
-    ca_reading_words::operation_in(line.take_word()?)
+    ca_reading_names::operation_in(line.take_word()?)
 }
 
 /// How a request ended, by the first word.
 pub fn take_status(line: &mut Pieces) -> Result<WcStatus, Stop>
-    ensures { Reads (λ x. x) result line.new (words.field (words.status_in) line.old) }
+    ensures { Reads (λ x. x) result line.new (words.field (names.status_in) line.old) }
 {
-    ca_reading_words::status_in(line.take_word()?)
+    ca_reading_names::status_in(line.take_word()?)
 }
 
 /// Why a verb is refused, by the first word.
 pub fn take_refusal(line: &mut Pieces) -> Result<Refusal, Stop>
-    ensures { Reads (λ x. x) result line.new (words.field (words.refusal_in) line.old) }
+    ensures { Reads (λ x. x) result line.new (words.field (names.refusal_in) line.old) }
 {
-    ca_reading_words::refusal_in(line.take_word()?)
+    ca_reading_names::refusal_in(line.take_word()?)
 }
 
 /// Why a packet was dropped, by the first word.
 pub fn take_drop(line: &mut Pieces) -> Result<Drop1, Stop>
-    ensures { Reads (λ x. x) result line.new (words.field (words.drop_in) line.old) }
+    ensures { Reads (λ x. x) result line.new (words.field (names.drop_in) line.old) }
 {
-    ca_reading_words::drop_in(line.take_word()?)
+    ca_reading_names::drop_in(line.take_word()?)
 }
 
 /// The rights whose letters stand in the first word.

@@ -1,5 +1,5 @@
 ghost use Rattle.ca_reading_words.specs.Fits.{AllFit};
-ghost use Rattle.ca_trace.specs.Table.{change_words, operation_words};
+ghost use Rattle.ca_trace_words.specs.Verbs.{change_words, operation_words};
 
 use crate::list::{pages_fit, pieces_fit};
 use crate::word::{key_fits, queue_fits, slot_fits, u8_fits, u16_fits, u32_fits, u64_fits};

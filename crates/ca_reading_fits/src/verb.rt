@@ -1,5 +1,5 @@
 ghost use Rattle.ca_reading_words.specs.Fits.{AllFit};
-ghost use Rattle.ca_trace.specs.Table.{verb_words};
+ghost use Rattle.ca_trace_words.specs.Verbs.{verb_words};
 
 use crate::list::{bytes_fit, pieces_fit};
 use crate::operation::{change_fits, operation_fits};

@@ -1,12 +1,9 @@
 -- A line that is spelled is read as what it says.
 use Rattle.std.proofs.Common.{◌≡◌, ℕ, ◌≤◌, true, false, List, [], ◌∷◌, ◌++◌, Some, decimal, refl, ap, ◌∙◌, arith}
 use Rattle.std.specs.Prelude.{codes}
-use Rattle.std.specs.Int.{w8, w32, w64}
-use Rattle.std.proofs.lemmas.Bool.{le-leb, and_parts}
+use Rattle.std.specs.Int.{w32, w64}
+use Rattle.std.proofs.lemmas.Bool.{and_parts}
 use Rattle.ca_base.specs.declared.completion.Completion.{Completion}
-use Rattle.ca_keys.specs.declared.verdict.Verdict.{Verdict}
-use Rattle.ca_keys.specs.declared.verdict.Verdict.TheVariants as verdicts
-use Rattle.ca_model.specs.declared.answer.Answer.TheVariants as answers
 use Rattle.ca_model.specs.declared.event.Event.{Event}
 use Rattle.ca_model.specs.declared.event.Event.TheVariants as events
 use Rattle.ca_model.specs.declared.mark.Mark.{Mark}
@@ -20,54 +17,31 @@ use Rattle.ca_reading_words.specs.Words.{pieces, lettered_in}
 use Rattle.ca_keys.specs.Spelling.{perhaps}
 use Rattle.ca_base.specs.Spelling.{op_refusal_text}
 use Rattle.ca_keys.specs.declared.names.QueueId.{QueueId}
-use Rattle.ca_trace.specs.Table.{verb_words, call_words, event_words, answer_words, completion_words, got_words, verdict_words, mark_words}
-use Rattle.ca_trace.specs.Words.{Field, Fixed, Number, Lettered, OfCause, word, words, led, joined}
+use Rattle.ca_trace.specs.Table.{event_words, completion_words, got_words, mark_words}
+use Rattle.ca_trace_words.specs.Verbs.{verb_words, call_words}
+use Rattle.ca_trace_words.specs.Words.{Field, Fixed, Number, Lettered, OfCause, word, words, led, joined}
 use Rattle.ca_trace.specs.Lines.{answer_line_words, line_words, line_text}
 use Rattle.ca_model.specs.History.{IsPlain}
 use Rattle.ca_reading_words.specs.Fits.{AllFit}
 use Rattle.ca_reading_words.proofs.PieceLemmas.{lacks, all_lack, pieces_joined, lacks_append, plain_lacks}
 use Rattle.ca_reading_words.proofs.NumberLemmas.{number_again}
-use Rattle.ca_reading_words.proofs.WordLemmas.{place_again, domain_again, queue_again, queues_again, key_again, address_again, hex_again, perhaps_number_again, perhaps_key_again, runs_again, rights_again, object_again, side_again, alarm_again, kind_again, denial_again, state_again, operation_again as wc_op_again, status_again, lot_again, refusal_again, drop_again, perhaps_cause_again, field_plain}
-use Rattle.ca_reading_lines.specs.Fits.{IsTold, IsTurn, LineFits}
-use Rattle.ca_reading_verbs.specs.Verbs.{Words}
-use Rattle.ca_reading_lines.specs.Reading.{state_at, answer_at, completion_at, verdict_at, granted_at, remote_at, local_mark_at, stored_at, sent_at, done_at, passing_at, mark_at, turn_at, head_at, inner_at, line_at, line_in}
-use Rattle.ca_reading_verbs.proofs.VerbLemmas.{u8, u16, u32, u64, verb_again}
+use Rattle.ca_reading_words.proofs.WordLemmas.{place_again, domain_again, queue_again, queues_again, key_again, address_again, hex_again, perhaps_number_again, runs_again, rights_again}
+use Rattle.ca_reading_names.proofs.NameLemmas.{object_again, alarm_again, kind_again, lot_again, drop_again, perhaps_cause_again, field_plain}
+use Rattle.ca_reading_lines.specs.Fits.{IsTurn, LineFits}
+use Rattle.ca_reading_answers.specs.Answers.{IsTold}
+use Rattle.ca_reading_fields.specs.Fields.{Words}
+use Rattle.ca_reading_lines.specs.Reading.{granted_at, remote_at, local_mark_at, stored_at, sent_at, done_at, passing_at, mark_at, turn_at, head_at, inner_at, line_at, line_in}
+use Rattle.ca_reading_verbs.proofs.VerbLemmas.{verb_again}
+use Rattle.ca_reading_fields.proofs.FieldLemmas.{u8, u32, u64}
+use Rattle.ca_reading_answers.proofs.AnswerLemmas.{tail_words, answer_again, completion_again, verdict_again}
 
 lettered_again : (bound c n : ℕ) → n ≤ bound → bound ≤ 18446744073709551615 → lettered_in bound (c ∷ decimal n) ≡ Some n
 unfolding lettered_in
 lettered_again bound c n h small = number_again bound n h small
 
--- the words of what the line of a call tells of its answer, behind the arrow
-abbrev tail_words : Told → List Field
-tail_words (told.Whole answer) = answer_words answer
-tail_words (told.Polled n) = Fixed (codes "polled") ∷ Number w8 n ∷ []
-
 arrow_first : (t : Told) → answer_line_words t ≡ Fixed (codes "->") ∷ tail_words t
 arrow_first (told.Whole answer) = refl
 arrow_first (told.Polled n) = refl
-
-answer_again : (t : Told) → IsTold t → AllFit (tail_words t) → answer_at (words (tail_words t)) ≡ Some (t, [])
-unfolding answer_at state_at
-answer_again (told.Whole answers.Fine) g h = refl
-answer_again (told.Whole (answers.Key k)) g h = rw (key_again k h.1.0) refl
-answer_again (told.Whole (answers.Queue n i)) g h = rw (u32 n h.1.0, u32 i h.1.1.0) refl
-answer_again (told.Whole (answers.Posted k)) g h = rw (perhaps_key_again k h.1.0) refl
-answer_again (told.Whole (answers.Query s i a b)) g h = rw (state_again s, u32 i h.1.1.0, u16 a h.1.1.1.0, u16 b h.1.1.1.1.0) refl
-answer_again (told.Whole (answers.Loaded bs)) g h = rw (hex_again bs h.1.0) refl
-answer_again (told.Whole (answers.Refused r)) g h = rw (refusal_again r) refl
-answer_again (told.Whole (answers.Polled completions)) g h = absurd g
-answer_again (told.Polled n) g h = rw (u8 n h.1.0, le-leb n 16 g) refl
-
-completion_again : (c : Completion) (rest : Words) → AllFit (completion_words c) → completion_at (words (completion_words c) ++ rest) ≡ Some (c, rest)
-unfolding completion_at
-completion_again c rest h = rw (queue_again c.queue h.0, side_again c.receive, u64 c.place h.1.1.0, u64 c.id h.1.1.1.0, wc_op_again c.op, status_again c.status, u32 c.bytes h.1.1.1.1.1.1.0, perhaps_number_again 4294967295 c.imm (omega arith) h.1.1.1.1.1.1.1.0, perhaps_key_again c.invalidated h.1.1.1.1.1.1.1.1.0) refl
-
-verdict_again : (v : Verdict) → AllFit (verdict_words v) → verdict_at (words (verdict_words v)) ≡ Some (v, [])
-unfolding verdict_at
-verdict_again (verdicts.Read bs) h = rw (hex_again bs h.1.0) refl
-verdict_again (verdicts.Wrote bs) h = rw (hex_again bs h.1.0) refl
-verdict_again (verdicts.Swapped a b) h = rw (u64 a h.1.0, u64 b h.1.1.1.0) refl
-verdict_again (verdicts.Denied d) h = rw (denial_again d) refl
 
 all_front : (fs gs : List Field) → AllFit (fs ++ gs) → AllFit fs
 all_front [] gs h = tt

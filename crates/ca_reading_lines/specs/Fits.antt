@@ -1,21 +1,12 @@
 -- Fits: which lines may stand in a trace, as the types of the program allow. Contracts cite it.
-use Rattle.std.specs.Prelude.{◌≤◌}
-use Rattle.ca_model.specs.declared.answer.Answer.TheVariants as answers
 use Rattle.ca_model.specs.History.{IsPlain}
 use Rattle.ca_trace.specs.declared.line.Line.{Line}
 use Rattle.ca_trace.specs.declared.line.Line.TheVariants as lines
-use Rattle.ca_trace.specs.declared.line.Told.{Told}
-use Rattle.ca_trace.specs.declared.line.Told.TheVariants as told
 use Rattle.ca_trace.specs.Lines.{line_words}
 use Rattle.ca_reading_words.specs.Fits.{AllFit}
 use Rattle.ca_model.specs.declared.event.Event.{Event}
 use Rattle.ca_model.specs.declared.event.Event.TheVariants as events
-
--- an answer that stands whole on its line, or completions of which there are no more than a poll gives
-abbrev pub IsTold : Told → Type 0
-IsTold (told.Whole (answers.Polled completions)) = ⊥
-IsTold (told.Whole answer) = Unit {0}
-IsTold (told.Polled n) = n ≤ 16
+use Rattle.ca_reading_answers.specs.Answers.{IsTold}
 
 -- an event that is no verb's
 abbrev pub IsTurn : Event → Type 0

@@ -1,90 +1,18 @@
 -- Reading: what the words of each kind of line are read as, by the table that prints them. It is lenient: what is read
 -- need not print so. Contracts cite it.
-use Rattle.std.specs.Prelude.{ℕ, ◌==◌, not, nat_le, Bool, false, if◌then◌else◌, List, [], ◌∷◌, Option, Some, None, codes}
+use Rattle.std.specs.Prelude.{ℕ, ◌==◌, not, Bool, false, if◌then◌else◌, List, [], ◌∷◌, Option, Some, None, codes}
 use Rattle.std.specs.Str.{bytes_eq}
-use Rattle.ca_base.specs.declared.completion.Completion.{Completion}
-use Rattle.ca_keys.specs.declared.verdict.Verdict.{Verdict}
-use Rattle.ca_keys.specs.declared.verdict.Verdict.TheVariants as verdicts
-use Rattle.ca_model.specs.declared.answer.Answer.TheVariants as answers
 use Rattle.ca_model.specs.declared.event.Event.{Event}
 use Rattle.ca_model.specs.declared.event.Event.TheVariants as events
 use Rattle.ca_model.specs.declared.mark.Mark.{Mark}
 use Rattle.ca_model.specs.declared.mark.Mark.TheVariants as marks
 use Rattle.ca_trace.specs.declared.line.Line.{Line}
 use Rattle.ca_trace.specs.declared.line.Line.TheVariants as lines
-use Rattle.ca_trace.specs.declared.line.Told.{Told}
-use Rattle.ca_trace.specs.declared.line.Told.TheVariants as told
-use Rattle.ca_reading_words.specs.Words.{◌>>=◌, pieces, next_of, field, lettered_in, perhaps_in, in_adapter_in, domain_in, queue_in, queues_in, key_in, address_in, hex_in, list_in, run_in, object_in, side_in, alarm_in, kind_in, denial_in, lot_in, state_in, operation_in, status_in, cause_in, refusal_in, drop_in}
-use Rattle.ca_reading_verbs.specs.Verbs.{Words, u8_in, u16_in, u32_in, u64_in, rights_at, verb_at}
-
--- ---- answers, completions and verdicts
-
-unfoldable pub state_at : Words → Option (Told × Words)
-state_at ws = do
-  state ← field state_in ws
-  incarnation ← field u32_in state.1
-  sends ← field u16_in incarnation.1
-  receives ← field u16_in sends.1
-  Some (told.Whole (answers.Query state.0 incarnation.0 sends.0 receives.0), receives.1)
-
--- an answer, behind the arrow
-unfoldable pub answer_at : Words → Option (Told × Words)
-answer_at ws = do
-  name ← next_of ws
-  if bytes_eq name.0 (codes "ok") then Some (told.Whole answers.Fine, name.1)
-      else if bytes_eq name.0 (codes "key") then (do
-        key ← field key_in name.1
-        Some (told.Whole (answers.Key key.0), key.1))
-      else if bytes_eq name.0 (codes "qp") then (do
-        number ← field u32_in name.1
-        incarnation ← field u32_in number.1
-        Some (told.Whole (answers.Queue number.0 incarnation.0), incarnation.1))
-      else if bytes_eq name.0 (codes "posted") then (do
-        key ← field (perhaps_in key_in) name.1
-        Some (told.Whole (answers.Posted key.0), key.1))
-      else if bytes_eq name.0 (codes "polled") then (do
-        n ← field u8_in name.1
-        if nat_le n.0 16 then Some (told.Polled n.0, n.1) else None)
-      else if bytes_eq name.0 (codes "state") then state_at name.1
-      else if bytes_eq name.0 (codes "bytes") then (do
-        bytes ← field hex_in name.1
-        Some (told.Whole (answers.Loaded bytes.0), bytes.1))
-      else if bytes_eq name.0 (codes "refused") then (do
-        refusal ← field refusal_in name.1
-        Some (told.Whole (answers.Refused refusal.0), refusal.1))
-      else None
-
-unfoldable pub completion_at : Words → Option (Completion × Words)
-completion_at ws = do
-  queue ← field queue_in ws
-  receive ← field side_in queue.1
-  place ← field u64_in receive.1
-  id ← field u64_in place.1
-  op ← field operation_in id.1
-  status ← field status_in op.1
-  bytes ← field u32_in status.1
-  imm ← field (perhaps_in u32_in) bytes.1
-  key ← field (perhaps_in key_in) imm.1
-  Some (record { id = id.0; queue = queue.0; receive = receive.0; place = place.0; status = status.0; op = op.0; bytes = bytes.0; imm = imm.0; invalidated = key.0 }, key.1)
-
-unfoldable pub verdict_at : Words → Option (Verdict × Words)
-verdict_at ws = do
-  name ← next_of ws
-  if bytes_eq name.0 (codes "read") then (do
-    bytes ← field hex_in name.1
-    Some (verdicts.Read bytes.0, bytes.1))
-      else if bytes_eq name.0 (codes "wrote") then (do
-        bytes ← field hex_in name.1
-        Some (verdicts.Wrote bytes.0, bytes.1))
-      else if bytes_eq name.0 (codes "found") then (do
-        found ← field u64_in name.1
-        word ← next_of found.1
-        put ← field u64_in word.1
-        Some (verdicts.Swapped found.0 put.0, put.1))
-      else if bytes_eq name.0 (codes "denied") then (do
-        denial ← field denial_in name.1
-        Some (verdicts.Denied denial.0, denial.1))
-      else None
+use Rattle.ca_reading_words.specs.Words.{◌>>=◌, pieces, next_of, field, lettered_in, perhaps_in, in_adapter_in, domain_in, queue_in, queues_in, key_in, address_in, hex_in, list_in, run_in}
+use Rattle.ca_reading_names.specs.Names.{object_in, alarm_in, kind_in, lot_in, cause_in, drop_in}
+use Rattle.ca_reading_verbs.specs.Verbs.{verb_at}
+use Rattle.ca_reading_fields.specs.Fields.{Words, u8_in, u32_in, u64_in, rights_at}
+use Rattle.ca_reading_answers.specs.Answers.{answer_at, completion_at, verdict_at}
 
 -- ---- marks
 

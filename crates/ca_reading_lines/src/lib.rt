@@ -5,7 +5,6 @@
 //! Source: this profile's choice, as the text of a history is.
 #![tactic(auto)]
 
-mod answer;
 mod line;
 mod mark;
 

@@ -5,45 +5,17 @@ use Rattle.std.proofs.lemmas.Bool.{cases_Bool, eqb-true}
 use Rattle.ca_base.specs.declared.change.Change.{Change}
 use Rattle.ca_base.specs.declared.change.Change.TheVariants as changes
 use Rattle.ca_keys.specs.declared.names.Slot.{Slot}
-use Rattle.ca_base.specs.declared.request.SendOp.{SendOp}
-use Rattle.ca_base.specs.declared.request.SendOp.TheVariants as ops
 use Rattle.ca_model.specs.declared.verb.Verb.{Verb}
 use Rattle.ca_model.specs.declared.verb.Verb.TheVariants as verbs
-use Rattle.ca_reading_words.specs.Words.{number_in}
 use Rattle.ca_keys.specs.Spelling.{slot_text}
-use Rattle.ca_trace.specs.Table.{change_words, operation_words, poll_words, verb_words}
-use Rattle.ca_trace.specs.Words.{words}
+use Rattle.ca_trace_words.specs.Verbs.{change_words, poll_words, verb_words}
+use Rattle.ca_trace_words.specs.Words.{words}
 use Rattle.ca_reading_words.specs.Fits.{SlotFits, AllFit}
-use Rattle.ca_reading_words.proofs.NumberLemmas.{number_again}
-use Rattle.ca_reading_words.proofs.WordLemmas.{place_again, domain_again, queue_again, slot_again, key_again, address_again, hex_again, perhaps_number_again, pages_again, pieces_again, rights_again, flags_again, number_is_no_arrow}
-use Rattle.ca_reading_verbs.specs.Verbs.{Words, rtr_at, rts_at, plain_change_at, change_at, send_at, send_imm_at, send_inv_at, write_at, write_imm_at, read_at, cmp_swap_at, fetch_add_at, bind1_at, bind2_at, fast_reg_at, local_inv_at, local_at, operation_at, reg_at, qp_at, post_at, receive_at, least_at, poll_at, wait_at, store_at, load_at, inject_at, work_at, object_at, verb_at}
-
-pub u8 : (n : ℕ) → n ≤ 255 → number_in 255 (decimal n) ≡ Some n
-u8 n h = number_again 255 n h (omega arith)
-
-pub u16 : (n : ℕ) → n ≤ 65535 → number_in 65535 (decimal n) ≡ Some n
-u16 n h = number_again 65535 n h (omega arith)
-
-pub u32 : (n : ℕ) → n ≤ 4294967295 → number_in 4294967295 (decimal n) ≡ Some n
-u32 n h = number_again 4294967295 n h (omega arith)
-
-pub u64 : (n : ℕ) → n ≤ 18446744073709551615 → number_in 18446744073709551615 (decimal n) ≡ Some n
-u64 n h = number_again 18446744073709551615 n h (omega arith)
-
-operation_again : (op : SendOp) (rest : Words) → AllFit (operation_words op) → operation_at (words (operation_words op) ++ rest) ≡ Some (op, rest)
-unfolding operation_at local_at send_at send_imm_at send_inv_at write_at write_imm_at read_at cmp_swap_at fetch_add_at bind1_at bind2_at fast_reg_at local_inv_at
-operation_again (ops.Send list) rest h = rw (pieces_again list.items h.1.0.0 h.1.0.1) refl
-operation_again (ops.SendImm imm list) rest h = rw (u32 imm h.1.0, pieces_again list.items h.1.1.0.0 h.1.1.0.1) refl
-operation_again (ops.SendInv key list) rest h = rw (key_again key h.1.0, pieces_again list.items h.1.1.0.0 h.1.1.0.1) refl
-operation_again (ops.Write at key list) rest h = rw (address_again at h.1.0, key_again key h.1.1.0, pieces_again list.items h.1.1.1.0.0 h.1.1.1.0.1) refl
-operation_again (ops.WriteImm at key imm list) rest h = rw (address_again at h.1.0, key_again key h.1.1.0, u32 imm h.1.1.1.0, pieces_again list.items h.1.1.1.1.0.0 h.1.1.1.1.0.1) refl
-operation_again (ops.Read at key list) rest h = rw (address_again at h.1.0, key_again key h.1.1.0, pieces_again list.items h.1.1.1.0.0 h.1.1.1.0.1) refl
-operation_again (ops.CmpSwap at key a b list) rest h = rw (address_again at h.1.0, key_again key h.1.1.0, u64 a h.1.1.1.0, u64 b h.1.1.1.1.0, pieces_again list.items h.1.1.1.1.1.0.0 h.1.1.1.1.1.0.1) refl
-operation_again (ops.FetchAdd at key a list) rest h = rw (address_again at h.1.0, key_again key h.1.1.0, u64 a h.1.1.1.0, pieces_again list.items h.1.1.1.1.0.0 h.1.1.1.1.0.1) refl
-operation_again (ops.Bind1 w region at n r) rest h = rw (u16 w h.1.0, key_again region h.1.1.0, address_again at h.1.1.1.0, u32 n h.1.1.1.1.0, rights_again r) refl
-operation_again (ops.Bind2 w region low at n r) rest h = rw (u16 w h.1.0, key_again region h.1.1.0, u8 low h.1.1.1.0, address_again at h.1.1.1.1.0, u32 n h.1.1.1.1.1.0, rights_again r) refl
-operation_again (ops.FastReg w low b at n r pages) rest h = rw (u16 w h.1.0, u8 low h.1.1.0, u16 b h.1.1.1.0, address_again at h.1.1.1.1.0, u32 n h.1.1.1.1.1.0, rights_again r, pages_again pages h.1.1.1.1.1.1.1.0) refl
-operation_again (ops.LocalInv key) rest h = rw (key_again key h.1.0) refl
+use Rattle.ca_reading_words.proofs.WordLemmas.{place_again, domain_again, queue_again, slot_again, hex_again, perhaps_number_again, pieces_again, rights_again, flags_again, number_is_no_arrow}
+use Rattle.ca_reading_verbs.specs.Verbs.{rtr_at, rts_at, plain_change_at, change_at, reg_at, qp_at, post_at, receive_at, least_at, poll_at, wait_at, store_at, load_at, inject_at, work_at, object_at, verb_at}
+use Rattle.ca_reading_fields.specs.Fields.{Words}
+use Rattle.ca_reading_fields.proofs.FieldLemmas.{u8, u16, u32, u64}
+use Rattle.ca_reading_operations.proofs.OperationLemmas.{operation_again}
 
 change_again : (s : Slot) (change : Change) (rest : Words) → AllFit (change_words s change) → verb_at (words (change_words s change) ++ rest) ≡ Some (verbs.ModifyQp s change, rest)
 unfolding verb_at object_at work_at change_at plain_change_at rtr_at rts_at

@@ -7,7 +7,6 @@
 #![tactic(auto)]
 
 mod change;
-mod operation;
 mod verb;
 
 pub use verb::verb_at;

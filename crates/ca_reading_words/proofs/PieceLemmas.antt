@@ -5,7 +5,7 @@ use Rattle.std.specs.Str.Parse.{AllDigits}
 use Rattle.std.proofs.lemmas.Bool.{and_parts, and_from, ltb-true, lt-ltb, not-true, ne_eqb}
 use Rattle.std.proofs.lemmas.Bool.Decides.{nat_tests}
 use Rattle.std.proofs.lemmas.List.{append-nil}
-use Rattle.ca_trace.specs.Words.{led}
+use Rattle.ca_trace_words.specs.Words.{led}
 use Rattle.ca_reading_words.specs.Words.{pieces}
 use Rattle.ca_reading_words.specs.Fits.{plain}
 

@@ -11,44 +11,18 @@ use Rattle.std.proofs.lemmas.Bool.{ne_eqb, le-leb}
 use Rattle.std.proofs.lemmas.Fmt.{digits_is_IsNumeral}
 use Rattle.std.proofs.lemmas.Nat.{from_be_bytes-to_be_bytes_4}
 use Rattle.hex.specs.Hex.{encode_lower, encode_with, lower_digits, IsBytes}
-use Rattle.ca_keys.specs.declared.access.Denial.{Denial}
-use Rattle.ca_keys.specs.declared.access.Denial.TheVariants as denials
-use Rattle.ca_keys.specs.declared.access.Kind.{Kind}
-use Rattle.ca_keys.specs.declared.access.Kind.TheVariants as kinds
-use Rattle.ca_base.specs.declared.change.Field.{Field as ChangeField}
-use Rattle.ca_base.specs.declared.change.Field.TheVariants as fields
-use Rattle.ca_base.specs.declared.change.State.{State}
-use Rattle.ca_base.specs.declared.change.State.TheVariants as states
-use Rattle.ca_base.specs.declared.completion.WcOp.{WcOp}
-use Rattle.ca_base.specs.declared.completion.WcOp.TheVariants as operations
-use Rattle.ca_base.specs.declared.completion.WcStatus.{WcStatus}
-use Rattle.ca_base.specs.declared.completion.WcStatus.TheVariants as statuses
 use Rattle.ca_keys.specs.declared.key.Key.{Key}
-use Rattle.ca_base.specs.declared.lot.Lot.{Lot}
-use Rattle.ca_base.specs.declared.lot.Lot.TheVariants as lots
 use Rattle.ca_keys.specs.declared.names.DomainId.{DomainId}
 use Rattle.ca_keys.specs.declared.names.QueueId.{QueueId}
 use Rattle.ca_keys.specs.declared.names.Slot.{Slot}
 use Rattle.ca_keys.specs.declared.place.Run.{Run}
-use Rattle.ca_base.specs.declared.refusals.OpRefusal.{OpRefusal}
-use Rattle.ca_base.specs.declared.refusals.OpRefusal.TheVariants as causes
-use Rattle.ca_base.specs.declared.refusals.RegionError.{RegionError}
-use Rattle.ca_base.specs.declared.refusals.RegionError.TheVariants as regions
-use Rattle.ca_base.specs.declared.refusals.WindowError.{WindowError}
-use Rattle.ca_base.specs.declared.refusals.WindowError.TheVariants as windows
 use Rattle.ca_base.specs.declared.request.Piece.{Piece}
 use Rattle.ca_keys.specs.declared.rights.Rights.{Rights}
-use Rattle.ca_keys.specs.Spelling.{dash, perhaps, domain_text, slot_text, queue_text, key_text, address_text, run_text, rights_text, kind_text, denial_text}
-use Rattle.ca_base.specs.Spelling.{piece_text, lot_text, state_text, field_text, operation_text, status_text, op_refusal_text}
-use Rattle.ca_packet.specs.declared.wire_error.WireError.TheVariants as wire
-use Rattle.ca_model.specs.declared.answer.Refusal.{Refusal}
-use Rattle.ca_model.specs.declared.answer.Refusal.TheVariants as refusals
-use Rattle.ca_model.specs.declared.mark.Drop1.{Drop1}
-use Rattle.ca_model.specs.declared.mark.Drop1.TheVariants as drops
-use Rattle.ca_model.specs.Answers.{refusal_text, drop_text}
-use Rattle.ca_trace.specs.Words.{Field, Fixed, Number, Lettered, Perhaps, InAdapter, OfDomain, OfSlot, OfQueue, OfQueues, OfKey, PerhapsKey, Address, Hex, OfRights, OfFlags, OfPieces, OfPages, OfRuns, OfObject, OfSide, OfAlarm, OfKind, OfDenial, OfRefusal, OfLot, OfState, OfOperation, OfStatus, OfCause, OfDrop, word, led, commas, hexadecimal, queues_text, object_text, side_text, alarm_text, flags_text}
-use Rattle.ca_reading_words.specs.Fits.{most, plain, DomainFits, SlotFits, QueueFits, KeyFits, PieceFits, RunFits, LotFits, Fits}
-use Rattle.ca_reading_words.specs.Words.{◌>>=◌, pieces, field, value_in, number_in, perhaps_in, in_adapter_in, domain_in, queue_in, slot_in, queues_in, key_in, address_in, hex_in, has, rights_in, all_in, list_in, piece_in, pieces_in, run_in, object_in, side_in, alarm_in, kind_in, denial_in, lot_in, state_in, field_in, operation_in, status_in, region_error_in, window_error_in, cause_in, refusal_in, drop_in}
+use Rattle.ca_keys.specs.Spelling.{dash, perhaps, domain_text, slot_text, queue_text, key_text, address_text, run_text, rights_text}
+use Rattle.ca_base.specs.Spelling.{piece_text}
+use Rattle.ca_trace_words.specs.Words.{led, commas, hexadecimal, queues_text, flags_text}
+use Rattle.ca_reading_words.specs.Fits.{most, plain, DomainFits, SlotFits, QueueFits, KeyFits, PieceFits, RunFits}
+use Rattle.ca_reading_words.specs.Words.{◌>>=◌, pieces, field, value_in, number_in, perhaps_in, in_adapter_in, domain_in, queue_in, slot_in, queues_in, key_in, address_in, hex_in, has, rights_in, all_in, list_in, piece_in, pieces_in, run_in}
 use Rattle.ca_reading_words.proofs.DigitLemmas.{bytes_again}
 use Rattle.ca_reading_words.proofs.PieceLemmas.{lacks, all_lack, one_piece, first_piece, pieces_joined, lacks_append, plain_append, digits_plain, digits_lack}
 use Rattle.ca_reading_words.proofs.NumberLemmas.{value_read, digits_again, decimal_digits, number_again, number_plain, number_lacks, number_is_some}
@@ -80,7 +54,7 @@ in_adapter_again bound a n ha hn small =
 pub place_again : (bound a n : ℕ) → a ≤ 255 → n ≤ bound → bound ≤ 18446744073709551615 → in_adapter_in bound ((decimal a ++ 47 ∷ []) ++ decimal n) ≡ Some (a, n)
 place_again bound a n ha hn small = ap (in_adapter_in bound) (two_text 47 (decimal a) (decimal n)) ∙ in_adapter_again bound a n ha hn small
 
-in_adapter_plain : (a n : ℕ) → a ≤ 255 → n ≤ 18446744073709551615 → plain ((decimal a ++ 47 ∷ []) ++ decimal n) ≡ true
+pub in_adapter_plain : (a n : ℕ) → a ≤ 255 → n ≤ 18446744073709551615 → plain ((decimal a ++ 47 ∷ []) ++ decimal n) ≡ true
 in_adapter_plain a n ha hn = plain_append (decimal a ++ 47 ∷ []) (decimal n) (plain_append (decimal a) (47 ∷ []) (number_plain a (omega arith)) refl) (number_plain n hn)
 
 pub domain_again : (d : DomainId) → DomainFits d → domain_in (domain_text d) ≡ Some d
@@ -100,7 +74,7 @@ slot_again s h =
     ap slot_in (three_text 47 47 (decimal s.domain.adapter) (decimal s.domain.domain) (decimal s.slot))
     ∙ rw (three_pieces 47 (decimal s.domain.adapter) (decimal s.domain.domain) (decimal s.slot) (number_lacks 47 s.domain.adapter (omega arith) (omega arith)) (number_lacks 47 s.domain.domain (omega arith) (omega arith)) (number_lacks 47 s.slot (omega arith) (omega arith)), number_again 255 s.domain.adapter a (omega arith), number_again 255 s.domain.domain d (omega arith), number_again 65535 s.slot n (omega arith)) refl
 
-slot_plain : (s : Slot) → SlotFits s → plain (slot_text s) ≡ true
+pub slot_plain : (s : Slot) → SlotFits s → plain (slot_text s) ≡ true
 slot_plain s h =
     plain_append (domain_text s.domain ++ 47 ∷ []) (decimal s.slot) (plain_append (domain_text s.domain) (47 ∷ []) (in_adapter_plain s.domain.adapter s.domain.domain h.0.0 (omega (arith, h.0.1))) refl) (number_plain s.slot (omega (arith, h.1)))
 
@@ -120,7 +94,7 @@ queues_again (Some q) h =
     ap (λ (b : Bool). cond b (Some None) (queue_in (queue_text q) >>= λ q. Some (Some q))) none
     ∙ ap (λ (r : Option QueueId). r >>= λ q. Some (Some q)) (queue_again q h)
 
-queues_plain : (q : Option QueueId) → IfSome q QueueFits → plain (queues_text q) ≡ true
+pub queues_plain : (q : Option QueueId) → IfSome q QueueFits → plain (queues_text q) ≡ true
 queues_plain None h = refl
 queues_plain (Some q) h = in_adapter_plain q.adapter q.number h.0 (omega (arith, h.1))
 
@@ -189,7 +163,7 @@ key_again k h =
 key_digits : (k : Key) → AllDigits 16 (encode_lower (to_be_bytes w32 k.0))
 key_digits k = hex_digits (to_be_bytes w32 k.0) (key_bytes k.0)
 
-key_plain : (k : Key) → plain (key_text k) ≡ true
+pub key_plain : (k : Key) → plain (key_text k) ≡ true
 key_plain k = digits_plain (encode_lower (to_be_bytes w32 k.0)) (key_digits k)
 
 address_digits : (at : ℕ) → at ≤ 18446744073709551615 → AllDigits 16 (digits 16 false at)
@@ -199,7 +173,7 @@ pub address_again : (at : ℕ) → at ≤ 18446744073709551615 → address_in (a
 unfolding address_in
 address_again at h = digits_again 16 18446744073709551615 at (omega arith) (omega arith) h (omega arith)
 
-address_plain : (at : ℕ) → at ≤ 18446744073709551615 → plain (address_text at) ≡ true
+pub address_plain : (at : ℕ) → at ≤ 18446744073709551615 → plain (address_text at) ≡ true
 address_plain at h = digits_plain (digits 16 false at) (address_digits at h)
 
 hex_is_some : (b : ℕ) (bs : List ℕ) → IsBytes (b ∷ bs) → bytes_eq (encode_lower (b ∷ bs)) dash ≡ false
@@ -214,7 +188,7 @@ unfolding hex_in
 hex_again [] h = refl
 hex_again (b ∷ bs) h = rw (hex_is_some b bs h, bytes_again (b ∷ bs) h) refl
 
-hex_plain : (bytes : List ℕ) → IsBytes bytes → plain (hexadecimal bytes) ≡ true
+pub hex_plain : (bytes : List ℕ) → IsBytes bytes → plain (hexadecimal bytes) ≡ true
 hex_plain [] h = refl
 hex_plain (b ∷ bs) h = digits_plain (encode_lower (b ∷ bs)) (hex_digits (b ∷ bs) h)
 
@@ -228,7 +202,7 @@ pub perhaps_number_again : (bound : ℕ) (n : Option ℕ) → bound ≤ 18446744
 perhaps_number_again bound None small h = refl
 perhaps_number_again bound (Some n) small h = rw (number_is_some n (omega arith), number_again bound n h small) refl
 
-perhaps_number_plain : (n : Option ℕ) → IfSome n (λ n. n ≤ 18446744073709551615) → plain (perhaps decimal n) ≡ true
+pub perhaps_number_plain : (n : Option ℕ) → IfSome n (λ n. n ≤ 18446744073709551615) → plain (perhaps decimal n) ≡ true
 perhaps_number_plain None h = refl
 perhaps_number_plain (Some n) h = number_plain n h
 
@@ -236,7 +210,7 @@ pub perhaps_key_again : (k : Option Key) → IfSome k KeyFits → perhaps_in key
 perhaps_key_again None h = refl
 perhaps_key_again (Some k) h = rw (key_again k h) refl
 
-perhaps_key_plain : (k : Option Key) → IfSome k KeyFits → plain (perhaps key_text k) ≡ true
+pub perhaps_key_plain : (k : Option Key) → IfSome k KeyFits → plain (perhaps key_text k) ≡ true
 perhaps_key_plain None h = refl
 perhaps_key_plain (Some k) h = key_plain k
 
@@ -266,11 +240,11 @@ led_plain : {Y : Type 0} (reader : List ℕ → Option Y) (spelling : Y → List
 led_plain reader spelling [] h = refl
 led_plain reader spelling (x ∷ xs) h = plain_append (44 ∷ spelling x) (led 44 (map spelling xs)) h.0.clear (led_plain reader spelling xs h.1)
 
-list_plain : {Y : Type 0} (reader : List ℕ → Option Y) (spelling : Y → List ℕ) (xs : List Y) → AllByRecursion (IsListed reader spelling) xs → plain (commas (map spelling xs)) ≡ true
+pub list_plain : {Y : Type 0} (reader : List ℕ → Option Y) (spelling : Y → List ℕ) (xs : List Y) → AllByRecursion (IsListed reader spelling) xs → plain (commas (map spelling xs)) ≡ true
 list_plain reader spelling [] h = refl
 list_plain reader spelling (x ∷ xs) h = plain_append (spelling x) (led 44 (map spelling xs)) h.0.clear (led_plain reader spelling xs h.1)
 
-all_then : {Y : Type 0} {P Q : Y → Type 0} → ((x : Y) → P x → Q x) → (xs : List Y) → AllByRecursion P xs → AllByRecursion Q xs
+pub all_then : {Y : Type 0} {P Q : Y → Type 0} → ((x : Y) → P x → Q x) → (xs : List Y) → AllByRecursion P xs → AllByRecursion Q xs
 all_then f [] h = tt
 all_then f (x ∷ xs) h = (f x h.0, all_then f xs h.1)
 
@@ -291,7 +265,7 @@ numeral_is_no_arrow (c ∷ cs) h =
 pub number_is_no_arrow : (n : ℕ) → n ≤ 18446744073709551615 → bytes_eq (decimal n) (codes "->") ≡ false
 number_is_no_arrow n h = numeral_is_no_arrow (decimal n) (decimal_digits n h)
 
-page_listed : (page : ℕ) → page ≤ 65535 → IsListed (number_in 65535) decimal page
+pub page_listed : (page : ℕ) → page ≤ 65535 → IsListed (number_in 65535) decimal page
 page_listed page h = record {
   again = number_again 65535 page h (omega arith);
   lack = number_lacks 44 page (omega arith) (omega arith);
@@ -319,7 +293,7 @@ piece_again p h =
     ∙ ap (λ (ws : List (List ℕ)). field key_in ws >>= λ key. field address_in key.1 >>= λ address. field (number_in 4294967295) address.1 >>= λ count. Some (record { address = address.0; key = key.0; length = count.0 })) (three_pieces 58 (key_text p.key) (address_text p.address) (decimal p.length) (key_lacks 58 p.key (omega arith) refl) (address_lacks 58 p.address h.1 (omega arith) refl) (number_lacks 58 p.length (omega arith) (omega arith)))
     ∙ rw (key_again p.key h.0, address_again p.address h.1, number_again 4294967295 p.length len (omega arith)) refl
 
-piece_listed : (p : Piece) → PieceFits p → IsListed piece_in piece_text p
+pub piece_listed : (p : Piece) → PieceFits p → IsListed piece_in piece_text p
 piece_listed p h =
     let len : p.length ≤ 4294967295 = h.2 in
     record {
@@ -351,7 +325,7 @@ run_again r h =
     ap run_in (run_words r)
     ∙ rw (two_pieces 58 (decimal r.adapter ++ 47 ∷ decimal r.buffer) (decimal r.offset ++ 43 ∷ decimal r.length) (lacks_append 58 (decimal r.adapter) (47 ∷ decimal r.buffer) (number_lacks 58 r.adapter (omega arith) (omega arith)) (number_lacks 58 r.buffer (omega arith) (omega arith))) (lacks_append 58 (decimal r.offset) (43 ∷ decimal r.length) (number_lacks 58 r.offset (omega arith) (omega arith)) (number_lacks 58 r.length (omega arith) (omega arith))), in_adapter_again 65535 r.adapter r.buffer a b (omega arith), two_pieces 43 (decimal r.offset) (decimal r.length) (number_lacks 43 r.offset (omega arith) (omega arith)) (number_lacks 43 r.length (omega arith) (omega arith)), number_again 4294967295 r.offset o (omega arith), number_again 4294967295 r.length n (omega arith)) refl
 
-run_listed : (r : Run) → RunFits r → IsListed run_in run_text r
+pub run_listed : (r : Run) → RunFits r → IsListed run_in run_text r
 run_listed r h =
     let a : r.adapter ≤ 255 = h.0 in
     let b : r.buffer ≤ 65535 = h.1 in
@@ -367,7 +341,7 @@ run_listed r h =
 pub runs_again : (runs : List Run) → AllByRecursion RunFits runs → list_in run_in (commas (map run_text runs)) ≡ Some runs
 runs_again runs h = list_again run_in run_text runs (all_then run_listed runs h)
 
--- ---- names
+-- ---- rights and flags
 
 rights_are : (l r w a b : Bool) → (rights_in (rights_text (record { local_write = l; remote_read = r; remote_write = w; remote_atomic = a; window_bind = b })) ≡ record { local_write = l; remote_read = r; remote_write = w; remote_atomic = a; window_bind = b }) × (plain (rights_text (record { local_write = l; remote_read = r; remote_write = w; remote_atomic = a; window_bind = b })) ≡ true)
 unfolding rights_in
@@ -407,7 +381,7 @@ rights_are false false false false false = (refl, refl)
 pub rights_again : (r : Rights) → rights_in (rights_text r) ≡ r
 rights_again r = (rights_are r.local_write r.remote_read r.remote_write r.remote_atomic r.window_bind).0
 
-rights_plain : (r : Rights) → plain (rights_text r) ≡ true
+pub rights_plain : (r : Rights) → plain (rights_text r) ≡ true
 rights_plain r = (rights_are r.local_write r.remote_read r.remote_write r.remote_atomic r.window_bind).1
 
 pub flags_again : (a b c : Bool) → (has 115 (flags_text a b c) ≡ a) × (has 102 (flags_text a b c) ≡ b) × (has 101 (flags_text a b c) ≡ c) × (plain (flags_text a b c) ≡ true)
@@ -419,234 +393,3 @@ flags_again false true true = (refl, refl, refl, refl)
 flags_again false true false = (refl, refl, refl, refl)
 flags_again false false true = (refl, refl, refl, refl)
 flags_again false false false = (refl, refl, refl, refl)
-
-object_are : (x : Bool) → (object_in (object_text x) ≡ Some x) × (plain (object_text x) ≡ true)
-unfolding object_in
-object_are true = (refl, refl)
-object_are false = (refl, refl)
-
-pub object_again : (x : Bool) → object_in (object_text x) ≡ Some x
-object_again x = (object_are x).0
-
-side_are : (x : Bool) → (side_in (side_text x) ≡ Some x) × (plain (side_text x) ≡ true)
-unfolding side_in
-side_are true = (refl, refl)
-side_are false = (refl, refl)
-
-pub side_again : (x : Bool) → side_in (side_text x) ≡ Some x
-side_again x = (side_are x).0
-
-alarm_are : (x : Bool) → (alarm_in (alarm_text x) ≡ Some x) × (plain (alarm_text x) ≡ true)
-unfolding alarm_in
-alarm_are true = (refl, refl)
-alarm_are false = (refl, refl)
-
-pub alarm_again : (x : Bool) → alarm_in (alarm_text x) ≡ Some x
-alarm_again x = (alarm_are x).0
-
-kind_are : (x : Kind) → (kind_in (kind_text x) ≡ Some x) × (plain (kind_text x) ≡ true)
-unfolding kind_in
-kind_are kinds.Read = (refl, refl)
-kind_are kinds.Write = (refl, refl)
-kind_are kinds.CmpSwap = (refl, refl)
-kind_are kinds.FetchAdd = (refl, refl)
-
-pub kind_again : (x : Kind) → kind_in (kind_text x) ≡ Some x
-kind_again x = (kind_are x).0
-
-denial_are : (x : Denial) → (denial_in (denial_text x) ≡ Some x) × (plain (denial_text x) ≡ true)
-unfolding denial_in
-denial_are denials.NoGrant = (refl, refl)
-denial_are denials.WrongQueue = (refl, refl)
-denial_are denials.NoRight = (refl, refl)
-denial_are denials.OutOfRange = (refl, refl)
-
-pub denial_again : (x : Denial) → denial_in (denial_text x) ≡ Some x
-denial_again x = (denial_are x).0
-
-state_are : (x : State) → (state_in (state_text x) ≡ Some x) × (plain (state_text x) ≡ true)
-unfolding state_in
-state_are states.Reset = (refl, refl)
-state_are states.Init = (refl, refl)
-state_are states.Rtr = (refl, refl)
-state_are states.Rts = (refl, refl)
-state_are states.Sqd = (refl, refl)
-state_are states.Error = (refl, refl)
-
-pub state_again : (x : State) → state_in (state_text x) ≡ Some x
-state_again x = (state_are x).0
-
-operation_are : (x : WcOp) → (operation_in (operation_text x) ≡ Some x) × (plain (operation_text x) ≡ true)
-unfolding operation_in
-operation_are operations.Send = (refl, refl)
-operation_are operations.Write = (refl, refl)
-operation_are operations.Read = (refl, refl)
-operation_are operations.CmpSwap = (refl, refl)
-operation_are operations.FetchAdd = (refl, refl)
-operation_are operations.Bind = (refl, refl)
-operation_are operations.FastReg = (refl, refl)
-operation_are operations.LocalInv = (refl, refl)
-operation_are operations.Recv = (refl, refl)
-operation_are operations.RecvImm = (refl, refl)
-
-pub operation_again : (x : WcOp) → operation_in (operation_text x) ≡ Some x
-operation_again x = (operation_are x).0
-
-status_are : (x : WcStatus) → (status_in (status_text x) ≡ Some x) × (plain (status_text x) ≡ true)
-unfolding status_in
-status_are statuses.Success = (refl, refl)
-status_are statuses.LocalLength = (refl, refl)
-status_are statuses.LocalProtection = (refl, refl)
-status_are statuses.Flushed = (refl, refl)
-status_are statuses.MemoryManagement = (refl, refl)
-status_are statuses.BadResponse = (refl, refl)
-status_are statuses.RemoteInvalidRequest = (refl, refl)
-status_are statuses.RemoteAccess = (refl, refl)
-status_are statuses.RemoteOperation = (refl, refl)
-status_are statuses.RetryExceeded = (refl, refl)
-status_are statuses.RnrRetryExceeded = (refl, refl)
-
-pub status_again : (x : WcStatus) → status_in (status_text x) ≡ Some x
-status_again x = (status_are x).0
-
-lot_again_of : (l : Lot) → LotFits l → (lot_in (lot_text l) ≡ Some l) × (plain (lot_text l) ≡ true)
-unfolding lot_in
-lot_again_of lots.Pass h = (refl, refl)
-lot_again_of lots.Lose h = (refl, refl)
-lot_again_of (lots.Repeat n) h = (rw (one_piece 58 (decimal n) (number_lacks 58 n (omega arith) (omega arith)), number_again 255 n h (omega arith)) refl, number_plain n (omega arith))
-lot_again_of (lots.Hold n) h = (rw (one_piece 58 (decimal n) (number_lacks 58 n (omega arith) (omega arith)), number_again 255 n h (omega arith)) refl, number_plain n (omega arith))
-
-pub lot_again : (l : Lot) → LotFits l → lot_in (lot_text l) ≡ Some l
-lot_again l h = (lot_again_of l h).0
-
-out_of_range_are : (x : ChangeField) → (refusal_in (codes "out-of-range:" ++ field_text x) ≡ Some (refusals.OutOfRange x)) × (plain (codes "out-of-range:" ++ field_text x) ≡ true)
-unfolding refusal_in field_in
-out_of_range_are fields.Peer = (refl, refl)
-out_of_range_are fields.Incarnation = (refl, refl)
-out_of_range_are fields.Psn = (refl, refl)
-out_of_range_are fields.Mtu = (refl, refl)
-out_of_range_are fields.RnrCode = (refl, refl)
-out_of_range_are fields.Retry = (refl, refl)
-out_of_range_are fields.RnrRetry = (refl, refl)
-out_of_range_are fields.Reads = (refl, refl)
-out_of_range_are fields.Depth = (refl, refl)
-out_of_range_are fields.Capacity = (refl, refl)
-out_of_range_are fields.Pages = (refl, refl)
-out_of_range_are fields.Length = (refl, refl)
-out_of_range_are fields.List = (refl, refl)
-out_of_range_are fields.Kind = (refl, refl)
-
-refusal_are : (x : Refusal) → (refusal_in (refusal_text x) ≡ Some x) × (plain (refusal_text x) ≡ true)
-unfolding refusal_in
-refusal_are refusals.NoSuch = (refl, refl)
-refusal_are refusals.NoDomain = (refl, refl)
-refusal_are refusals.DomainTaken = (refl, refl)
-refusal_are refusals.DomainInUse = (refl, refl)
-refusal_are refusals.SlotTaken = (refl, refl)
-refusal_are refusals.Empty = (refl, refl)
-refusal_are refusals.OutsideBuffer = (refl, refl)
-refusal_are refusals.RightsNeedLocalWrite = (refl, refl)
-refusal_are refusals.WindowsBound = (refl, refl)
-refusal_are refusals.CqTooSmall = (refl, refl)
-refusal_are refusals.CqInUse = (refl, refl)
-refusal_are refusals.SrqInUse = (refl, refl)
-refusal_are refusals.HasSrq = (refl, refl)
-refusal_are refusals.TooLong = (refl, refl)
-refusal_are refusals.QueueState = (refl, refl)
-refusal_are refusals.QueueFull = (refl, refl)
-refusal_are refusals.Transition = (refl, refl)
-refusal_are (refusals.OutOfRange field) = out_of_range_are field
-
-pub refusal_again : (x : Refusal) → refusal_in (refusal_text x) ≡ Some x
-refusal_again x = (refusal_are x).0
-
-drop_are : (x : Drop1) → (drop_in (drop_text x) ≡ Some x) × (plain (drop_text x) ≡ true)
-unfolding drop_in
-drop_are (drops.Wire wire.TooShort) = (refl, refl)
-drop_are (drops.Wire wire.Version) = (refl, refl)
-drop_are (drops.Wire wire.Opcode) = (refl, refl)
-drop_are (drops.Wire wire.Length) = (refl, refl)
-drop_are (drops.Wire wire.Pad) = (refl, refl)
-drop_are drops.Partition = (refl, refl)
-drop_are drops.Queue = (refl, refl)
-drop_are drops.State = (refl, refl)
-drop_are drops.Stale = (refl, refl)
-drop_are drops.Unsaved = (refl, refl)
-
-pub drop_again : (x : Drop1) → drop_in (drop_text x) ≡ Some x
-drop_again x = (drop_are x).0
-
-region_cause_are : (x : RegionError) → (cause_in (op_refusal_text (causes.Region x)) ≡ Some (causes.Region x)) × (plain (op_refusal_text (causes.Region x)) ≡ true) × (bytes_eq (op_refusal_text (causes.Region x)) dash ≡ false)
-unfolding cause_in region_error_in
-region_cause_are regions.Empty = (refl, refl, refl)
-region_cause_are regions.OutsideBuffer = (refl, refl, refl)
-region_cause_are regions.RightsNeedLocalWrite = (refl, refl, refl)
-region_cause_are regions.NotFree = (refl, refl, refl)
-region_cause_are regions.BadPages = (refl, refl, refl)
-region_cause_are regions.NotValid = (refl, refl, refl)
-region_cause_are regions.KeyDiffers = (refl, refl, refl)
-region_cause_are regions.NotFastRegistered = (refl, refl, refl)
-region_cause_are regions.WindowsBound = (refl, refl, refl)
-region_cause_are regions.Vacant = (refl, refl, refl)
-region_cause_are regions.Memory = (refl, refl, refl)
-
-window_cause_are : (x : WindowError) → (cause_in (op_refusal_text (causes.Window x)) ≡ Some (causes.Window x)) × (plain (op_refusal_text (causes.Window x)) ≡ true) × (bytes_eq (op_refusal_text (causes.Window x)) dash ≡ false)
-unfolding cause_in window_error_in
-window_cause_are windows.NoWindow = (refl, refl, refl)
-window_cause_are windows.WrongType = (refl, refl, refl)
-window_cause_are windows.RegionNotValid = (refl, refl, refl)
-window_cause_are windows.NoBindRight = (refl, refl, refl)
-window_cause_are windows.RightsNeedLocalWrite = (refl, refl, refl)
-window_cause_are windows.OutsideRegion = (refl, refl, refl)
-window_cause_are windows.StillBound = (refl, refl, refl)
-window_cause_are windows.Empty = (refl, refl, refl)
-window_cause_are windows.Type1 = (refl, refl, refl)
-window_cause_are windows.NotBound = (refl, refl, refl)
-window_cause_are windows.KeyDiffers = (refl, refl, refl)
-window_cause_are windows.WrongQueue = (refl, refl, refl)
-
-cause_are : (x : OpRefusal) → (cause_in (op_refusal_text x) ≡ Some x) × (plain (op_refusal_text x) ≡ true) × (bytes_eq (op_refusal_text x) dash ≡ false)
-cause_are (causes.Region x) = region_cause_are x
-cause_are (causes.Window x) = window_cause_are x
-
-pub perhaps_cause_again : (x : Option OpRefusal) → perhaps_in cause_in (perhaps op_refusal_text x) ≡ Some x
-perhaps_cause_again None = refl
-perhaps_cause_again (Some x) = perhaps_again cause_in op_refusal_text (Some x) ((cause_are x).0, (cause_are x).2)
-
-perhaps_cause_plain : (x : Option OpRefusal) → plain (perhaps op_refusal_text x) ≡ true
-perhaps_cause_plain None = refl
-perhaps_cause_plain (Some x) = (cause_are x).1
-
--- a word that fits has no space and no line feed
-pub field_plain : (f : Field) → Fits f → plain (word f) ≡ true
-field_plain (Fixed text) h = h
-field_plain (Number width n) h = number_plain n (omega (arith, most_small width, h))
-field_plain (Lettered c width n) h = rw (h.0) (number_plain n (omega (arith, most_small width, h.1)))
-field_plain (Perhaps width None) h = refl
-field_plain (Perhaps width (Some n)) h = number_plain n (omega (arith, most_small width, h))
-field_plain (InAdapter adapter width n) h = in_adapter_plain adapter n h.0 (omega (arith, most_small width, h.1))
-field_plain (OfDomain d) h = in_adapter_plain d.adapter d.domain h.0 (omega (arith, h.1))
-field_plain (OfSlot s) h = slot_plain s h
-field_plain (OfQueue q) h = in_adapter_plain q.adapter q.number h.0 (omega (arith, h.1))
-field_plain (OfQueues q) h = queues_plain q h
-field_plain (OfKey k) h = key_plain k
-field_plain (PerhapsKey k) h = perhaps_key_plain k h
-field_plain (Address at) h = address_plain at h
-field_plain (Hex bytes) h = hex_plain bytes h
-field_plain (OfRights r) h = rights_plain r
-field_plain (OfFlags a b c) h = (flags_again a b c).3
-field_plain (OfPieces list) h = list_plain piece_in piece_text list (all_then piece_listed list h.1)
-field_plain (OfPages pages) h = list_plain (number_in 65535) decimal pages (all_then page_listed pages h)
-field_plain (OfRuns runs) h = list_plain run_in run_text runs (all_then run_listed runs h)
-field_plain (OfObject x) h = (object_are x).1
-field_plain (OfSide x) h = (side_are x).1
-field_plain (OfAlarm x) h = (alarm_are x).1
-field_plain (OfKind x) h = (kind_are x).1
-field_plain (OfDenial x) h = (denial_are x).1
-field_plain (OfRefusal x) h = (refusal_are x).1
-field_plain (OfLot x) h = (lot_again_of x h).1
-field_plain (OfState x) h = (state_are x).1
-field_plain (OfOperation x) h = (operation_are x).1
-field_plain (OfStatus x) h = (status_are x).1
-field_plain (OfCause x) h = perhaps_cause_plain x
-field_plain (OfDrop x) h = (drop_are x).1

@@ -2,8 +2,8 @@ ghost use Rattle.std.specs.Prelude.{◌≡◌, ◌/◌, length, IfOk};
 ghost use Rattle.ca_reading_words.specs.Words as words;
 ghost use Rattle.ca_reading_words.specs.Words.{Gives};
 
-use crate::name::is_name;
 use crate::stop::Stop;
+use crate::word::is_name;
 use ca_base::{Bytes, Memory};
 use std::alloc::Global;
 

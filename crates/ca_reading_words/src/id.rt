@@ -2,11 +2,11 @@ ghost use Rattle.std.specs.Prelude.{◌≡◌, drop};
 ghost use Rattle.ca_reading_words.specs.Words as words;
 ghost use Rattle.ca_reading_words.specs.Words.{Gives};
 
-use crate::name::{cause_in, is_name};
 use crate::number::{u8_in, u16_in, u32_in, u64_in, value_in};
 use crate::pieces::Pieces;
 use crate::stop::Stop;
-use ca_base::{DomainId, Key, OpRefusal, QueueId, Rights, Slot};
+use crate::word::is_name;
+use ca_base::{DomainId, Key, QueueId, Rights, Slot};
 
 /// What stands behind the first byte.
 fn behind_letter(word: &[u8]) -> &[u8]
@@ -154,16 +154,6 @@ pub fn perhaps_key_in(word: &[u8]) -> Result<Option<Key>, Stop>
         return Ok(None);
     }
     Ok(Some(key_in(word)?))
-}
-
-/// Why a local operation was refused, or nothing.
-pub fn perhaps_cause_in(word: &[u8]) -> Result<Option<OpRefusal>, Stop>
-    ensures { Gives result (words.perhaps_in words.cause_in word.now) }
-{
-    if is_name(word, "-") {
-        return Ok(None);
-    }
-    Ok(Some(cause_in(word)?))
 }
 
 /// Whether a byte stands in a word.

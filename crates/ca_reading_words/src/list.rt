@@ -3,10 +3,10 @@ ghost use Rattle.ca_reading_words.specs.Words as words;
 ghost use Rattle.ca_reading_words.specs.Words.{Gives, GivesAs};
 
 use crate::id::{address_in, buffer_in, key_in};
-use crate::name::is_name;
 use crate::number::{u16_in, u32_in};
 use crate::pieces::Pieces;
 use crate::stop::Stop;
+use crate::word::is_name;
 use arrayvec::ArrayVec;
 use ca_base::{Pages, Piece, Run, Runs};
 use std::alloc::Global;

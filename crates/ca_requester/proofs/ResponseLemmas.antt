@@ -1,5 +1,5 @@
 -- What a response makes: the row of an acknowledgement that went on, and the request that an answer fits.
-use Rattle.std.proofs.Common.{◌≡◌, ℕ, ◌-◌, arith, refl, sym, ap, ◌∙◌, Bool, true, false, if◌then◌else◌, find, take, Option, None, Some}
+use Rattle.std.proofs.Common.{◌≡◌, ℕ, refl, sym, ap, ◌∙◌, Bool, true, false, if◌then◌else◌, Option, None, Some}
 use Rattle.ca_base.specs.declared.queue_numbers.RequesterNumbers.{RequesterNumbers}
 use Rattle.ca_base.specs.declared.completion.WcStatus.TheVariants.{BadResponse}
 use Rattle.ca_base.specs.objects.QueuePair.{QueuePair}
@@ -8,21 +8,15 @@ use Rattle.std.specs.Option.{option_and_then}
 use Rattle.ca_model.specs.machine.Acknowledgements.{acknowledgement_below, and_then, failure_effects, progress_to, with_requester}
 use Rattle.ca_model.specs.machine.Expected.{behind_marks}
 use Rattle.ca_model.specs.machine.Invariants.{IsQueue}
-use Rattle.ca_model.specs.machine.Numbering.{Numbered, has_psn, request_at}
+use Rattle.ca_model.specs.machine.Numbering.{Numbered, request_at}
 use Rattle.ca_model.specs.machine.Responses.{answer_row, fits_request, fitting_row, unless_back}
 use Rattle.ca_model.specs.machine.Row.{Effects, Row, plain_row, Does}
-use Rattle.ca_requester.specs.declared.outcome.Outcome.{Outcome}
+use Rattle.ca_progress.proofs.OutcomeLemmas.{are_ahead}
+use Rattle.ca_progress.specs.declared.outcome.Outcome.{Outcome}
 use Rattle.ca_requester.specs.declared.responses.Ended.{Ended}
-use Rattle.ca_requester.specs.Numbering.{begun_from, numbers_from}
-use Rattle.ca_requester.specs.Outcome.{AreAhead, numbers_of, outcome_effects}
-use Rattle.ca_requester.specs.Progress.{AreNumbers, acknowledgement_of, success_between}
+use Rattle.ca_progress.specs.Outcome.{numbers_of, outcome_effects}
+use Rattle.ca_progress.specs.Progress.{AreNumbers, acknowledgement_of, success_between}
 use Rattle.ca_requester.specs.Responses.{IsEnd, fitting}
-
-pub are_ahead : (q : QueuePair) (numbers others : RequesterNumbers) → IsQueue q → AreNumbers q numbers → others.oldest ≡ numbers.oldest → AreAhead q others
-are_ahead q numbers others is are e = record {
-  oldest = omega (arith, are.oldest, e);
-  posted = omega (arith, are.begun, are.next, is.requester.waiting, e);
-}
 
 -- where what is acknowledged are the requests before the oldest one of such numbers, others with the same oldest end it
 pub is_end : (q : QueuePair) (numbers : RequesterNumbers) (e : Ended) → IsQueue q → AreNumbers q numbers
@@ -32,10 +26,6 @@ is_end q numbers e is are finished same = record {
   ahead = are_ahead q numbers (numbers_of e.outcome) is are same;
   finished = finished ∙ ap (λ place. success_between q.requester.oldest place q) (sym same);
 }
-
-pub at_under : (q : QueuePair) (numbers : RequesterNumbers) (psn : ℕ) → numbers.next ≡ q.requester.next
-    → find (has_psn psn) (begun_from numbers.oldest numbers.oldest_psn q) ≡ request_at psn (with_requester numbers q)
-at_under q numbers psn next = ap (λ k. find (has_psn psn) (take (k - numbers.oldest) (numbers_from numbers.oldest numbers.oldest_psn q))) (sym next)
 
 -- where it went on, what comes then is the outcome
 pub then_on : (q : QueuePair) (psn until : ℕ) (numbers : RequesterNumbers) (o : Outcome) (f : QueuePair → Effects)

@@ -19,9 +19,9 @@ use Rattle.ca_requester.specs.declared.responses.Arrival.TheVariants.{Drops, Ack
 use Rattle.ca_requester.specs.declared.responses.Ended.{Ended}
 use Rattle.ca_requester.specs.declared.responses.Response.{Response}
 use Rattle.ca_requester.specs.declared.responses.Response.TheVariants.{Ends, Answers}
-use Rattle.ca_requester.specs.Numbering.{IsSound, numbered_of}
-use Rattle.ca_requester.specs.Outcome.{AreAhead, numbers_of, outcome_effects}
-use Rattle.ca_requester.specs.Progress.{AreNumbers, success_between}
+use Rattle.ca_progress.specs.Numbering.{IsSound, numbered_of}
+use Rattle.ca_progress.specs.Outcome.{AreAhead, numbers_of, outcome_effects}
+use Rattle.ca_progress.specs.Progress.{AreNumbers, success_between}
 
 -- what is acknowledged completes, and then comes the outcome
 abbrev pub ended_effects : Ended → QueuePair → Effects

@@ -1,27 +1,18 @@
-//! The requester of a queue pair: what it sends, how it takes answers, when it goes back, and when it gives up.
+//! The requester of a queue pair: what it sends, how it takes answers, when it goes back, and when it gives up. It hands out
+//! the calls of `ca_sending` beside its own.
 //!
 //! To the layers above it promises that each of its calls does what the machine's row says, with the queue pair, the
-//! marks, the packet and the bytes that it writes, or nothing for the first reason that stands against it; that it
-//! touches no byte by an ask that is denied; and that it hands on no other asks than it named before.
+//! marks and the bytes that it writes, or nothing for the first reason that stands against it; that it touches no byte by
+//! an ask that is denied; and that it hands on no other asks than it named before.
 //!
 //! Source: InfiniBand Architecture Specification Volume 1, the chapter on the transport layer, sections on the requester
-//! of the reliable connection. Which packets ask for an acknowledgement, and that a bad answer fails its request, is this
-//! profile's choice.
+//! of the reliable connection. That a bad answer fails its request is this profile's choice.
 #![tactic(auto)]
 
-mod finished;
-mod local;
-mod numbering;
-mod outcome;
-mod packet;
-mod progress;
 mod responses;
-mod sending;
 mod taking;
 mod timers;
-mod turn;
 
-pub use local::{local_done, next_local};
-pub use sending::{next_asks, next_packet};
+pub use ca_sending::{local_done, next_asks, next_local, next_packet};
 pub use taking::{on_response, response_asks};
 pub use timers::{on_rnr_wake, on_timeout};

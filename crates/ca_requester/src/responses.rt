@@ -10,19 +10,19 @@ ghost use Rattle.ca_qpstate.specs.Seen.{queue_of};
 ghost use Rattle.ca_packet.specs.Packet.{fields_of};
 ghost use Rattle.ca_wire.specs.Syndrome.{syndrome_in};
 ghost use Rattle.ca_rows.specs.Narrow.{AreNarrow};
-ghost use Rattle.ca_requester.specs.Numbering.{IsSound, numbered_of};
-ghost use Rattle.ca_requester.specs.declared.outcome.Outcome.TheVariants.{Fails};
-ghost use Rattle.ca_requester.specs.Outcome.{failure_of, numbers_of, outcome_effects};
-ghost use Rattle.ca_requester.specs.Progress.{AreNumbers, acknowledgement_of, numbers_behind, success_between};
+ghost use Rattle.ca_progress.specs.Numbering.{IsSound, numbered_of};
+ghost use Rattle.ca_progress.specs.declared.outcome.Outcome.TheVariants.{Fails};
+ghost use Rattle.ca_progress.specs.Outcome.{failure_of, numbers_of, outcome_effects};
+ghost use Rattle.ca_progress.specs.Progress.{AreNumbers, acknowledgement_of, numbers_behind, success_between};
 ghost use Rattle.ca_requester.specs.Responses.{IsEnd, IsNarrowArrival, IsResponse, ended_effects, fitting, row_of, row_of_arrival};
 
-use crate::numbering::{Numbered, request_under};
-use crate::outcome::{Failure, Outcome, one_retry};
-use crate::progress::{Acknowledged, acknowledged_below, numbers_after};
-use crate::turn::is_sending;
 use ca_base::limits::MAX_RETRY;
 use ca_base::{RequesterNumbers, WcStatus};
 use ca_model::Drop1;
+use ca_progress::{
+    Acknowledged, Failure, Numbered, Outcome, acknowledged_below, is_sending, numbers_after,
+    one_retry, request_under,
+};
 use ca_psn::widen;
 use ca_qpstate::QueuePart;
 use ca_rows::{is_atomic, is_read, list_length, list_of};

@@ -17,13 +17,10 @@ ghost use Rattle.ca_model.specs.Packets.{is_response};
 ghost use Rattle.ca_rows.specs.Asks.{CanWrite, IsAskOf, IsGranted, IsWrite, asks_of, touched_by};
 ghost use Rattle.ca_rows.specs.Done.{IsTaking, handed, written_all};
 ghost use Rattle.ca_rows.specs.Narrow.{AreNarrow};
-ghost use Rattle.ca_requester.specs.Numbering.{IsSound, numbered_of};
-ghost use Rattle.ca_requester.specs.Progress.{AreNumbers, acknowledgement_of, numbers_behind, success_between};
+ghost use Rattle.ca_progress.specs.Numbering.{IsSound, numbered_of};
+ghost use Rattle.ca_progress.specs.Progress.{AreNumbers, acknowledgement_of, numbers_behind, success_between};
 ghost use Rattle.ca_requester.specs.Responses.{IsAnswer, IsEnd, answer_effects, denied_effects, ended_effects};
 
-use crate::finished::{finished_count, push_finished};
-use crate::outcome::{Failure, Outcome, fail, fail_alone, go};
-use crate::progress::{Acknowledged, acknowledged_below, numbers_after, progressed};
 use crate::responses::{
     Answer, Arrival, Ended, Response, answer_of, arrival_of, implied_nak, on_nak, on_rnr_nak,
 };
@@ -32,6 +29,10 @@ use ca_base::limits::MAX_PIECES;
 use ca_base::{Ask, Bytes, Kind, Memory, QueueId, RequesterNumbers, WcStatus};
 use ca_grant::Reach;
 use ca_model::{Drop1, Mark, Marks};
+use ca_progress::{
+    Acknowledged, Failure, Outcome, acknowledged_below, complete_before, fail, fail_alone,
+    finished_count, go, numbers_after, progressed, push_finished,
+};
 use ca_qpstate::QueuePart;
 use ca_rows::{DeniedAsk, cut_writes, first_denied, list_asks, list_of, local_denial, write_all};
 use ca_wire::opcode::ATOMIC_ACKNOWLEDGE;
@@ -91,7 +92,7 @@ fn asks_for(q: &QueuePart, p: &Packet<'_>, answer: &Answer<'_>) -> ArrayVec<Ask,
 }
 
 /// Where an answer's bytes begin in its request's message.
-#[tactic(auto, using(crate::proofs::PacketLemmas::few_before))]
+#[tactic(auto, using(ca_progress::proofs::NumberingLemmas::few_before))]
 fn bytes_before(q: &QueuePart, answer: &Answer<'_>) -> u32
     requires queue { IsQueue (queue_of q.now) }
     requires sound { IsSound (queue_of q.now) (numbered_of answer.now.request) }
@@ -175,13 +176,13 @@ fn take_ack(alloc: Global, q: &mut QueuePart, psn: u64, marks: &mut Marks) -> Re
 {
     let acknowledged = acknowledged_below(q, psn + 1);
     if acknowledged.went_back {
-        return go_back(alloc, q, &acknowledged, marks);
+        return take_implied_nak(alloc, q, &acknowledged, marks);
     }
     go_on(q, &acknowledged, marks)
 }
 
 /// The requests before the one that is the oldest now complete, and the requester goes on.
-#[tactic(auto, using(crate::proofs::ResponseLemmas::are_ahead))]
+#[tactic(auto, using(ca_progress::proofs::OutcomeLemmas::are_ahead))]
 #[inline(always)]
 fn go_on(q: &mut QueuePart, acknowledged: &Acknowledged, marks: &mut Marks) -> Result<(), Memory>
     requires queue { IsQueue (queue_of q.old) }
@@ -192,17 +193,16 @@ fn go_on(q: &mut QueuePart, acknowledged: &Acknowledged, marks: &mut Marks) -> R
     ensures err { OnErr result (q.new ≡ q.old) }
     ensures err_marks { OnErr result (marks.new.marks ≡ marks.old.marks) }
 {
-    marks.reserve(finished_count(q, acknowledged.place) + 2)?;
-    push_finished(q, q.requester.oldest, acknowledged.place, marks);
+    complete_before(q, acknowledged.place, marks)?;
     q.requester = numbers_after(q, acknowledged);
     Ok(())
 }
 
-/// The requests before the one that is the oldest now complete, and the requester goes back. It stands apart, since that
-/// is rare.
+/// An implied NAK: the requests before the one that is the oldest now complete, and the requester goes back. It stands
+/// apart, since that is rare.
 #[cold]
 #[inline(never)]
-fn go_back(
+fn take_implied_nak(
     alloc: Global,
     q: &mut QueuePart,
     acknowledged: &Acknowledged,
@@ -322,7 +322,7 @@ fn drop_packet(queue: QueueId, cause: Drop1, marks: &mut Marks) -> Result<(), Me
 }
 
 /// What is acknowledged completes, and then comes the outcome.
-#[tactic(auto, using(crate::proofs::ProgressLemmas::own_numbers))]
+#[tactic(auto, using(ca_progress::proofs::ProgressLemmas::own_numbers))]
 fn end(alloc: Global, q: &mut QueuePart, ended: Ended, marks: &mut Marks) -> Result<(), Memory>
     requires queue { IsQueue (queue_of q.old) }
     requires narrow { AreNarrow (queue_of q.old) }
@@ -340,7 +340,7 @@ fn end(alloc: Global, q: &mut QueuePart, ended: Ended, marks: &mut Marks) -> Res
 }
 
 /// The list is denied: the request fails.
-#[tactic(auto, using(crate::proofs::ProgressLemmas::own_numbers, crate::proofs::ResponseLemmas::are_ahead))]
+#[tactic(auto, using(ca_progress::proofs::ProgressLemmas::own_numbers, ca_progress::proofs::OutcomeLemmas::are_ahead))]
 fn deny(
     alloc: Global,
     q: &mut QueuePart,
@@ -404,7 +404,7 @@ fn place<R: Reach>(
 }
 
 /// The answer's bytes are written, and all up to its PSN is acknowledged.
-#[tactic(auto, using(crate::proofs::ProgressLemmas::own_numbers))]
+#[tactic(auto, using(ca_progress::proofs::ProgressLemmas::own_numbers))]
 fn finish<R: Reach>(
     alloc: Global,
     q: &mut QueuePart,

@@ -7,11 +7,10 @@ ghost use Rattle.ca_qpstate.specs.Seen.{queue_of};
 ghost use Rattle.ca_rows.specs.Narrow.{AreNarrow};
 ghost use Rattle.ca_requester.specs.Timers.{reason_of};
 
-use crate::outcome::{Outcome, fail, one_retry};
-use crate::turn::is_sending;
 use ca_base::limits::MAX_RETRY;
 use ca_base::{Memory, Reason, RequesterNumbers, StepError};
 use ca_model::{Mark, Marks};
+use ca_progress::{Outcome, fail, is_sending, one_retry};
 use ca_qpstate::QueuePart;
 use std::alloc::Global;
 
@@ -47,14 +46,14 @@ pub fn on_timeout(
         silent,
     };
     match one_retry(counted, q.requester.una) {
-        Outcome::Goes(numbers) => go_back(q, numbers, mark, marks)?,
+        Outcome::Goes(numbers) => go_back_on_timeout(q, numbers, mark, marks)?,
         Outcome::Fails(failure) => fail(alloc, q, failure, Some(mark), marks)?,
     }
     Ok(())
 }
 
 /// The requester goes back under these numbers, behind the mark of the timer.
-fn go_back(
+fn go_back_on_timeout(
     q: &mut QueuePart,
     numbers: RequesterNumbers,
     mark: Mark,

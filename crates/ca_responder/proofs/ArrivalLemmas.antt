@@ -5,7 +5,7 @@ use Rattle.ca_base.specs.Sight.{Invalidation}
 use Rattle.ca_base.specs.objects.SharedReceives.{SharedReceives, after_receive_take}
 use Rattle.ca_model.specs.machine.Row.{Ending, NotPossible, Does}
 use Rattle.ca_rows.specs.Done.{Handed}
-use Rattle.ca_responder.specs.Taking.{HasArrived, IsPacketTaken, after_shared}
+use Rattle.ca_arrivals.specs.Taking.{HasArrived, IsPacketTaken, after_shared}
 
 pub arrives : {S : Type 0} (written : S → Ask → List ℕ → S) (revoked : S → Invalidation → S) (takes : Bool) (e : Ending) (ended : Option Invalidation) (before new : Handed S)
     → IsPacketTaken written revoked (Ok takes) e ended before new → HasArrived written revoked e ended before new

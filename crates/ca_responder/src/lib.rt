@@ -9,11 +9,7 @@
 #![tactic(auto)]
 
 mod duplicates;
-mod held;
-mod remote_requests;
 mod request;
-mod send;
-mod write;
 
 pub use ca_answering::{next_response, respond_ask};
 pub use ca_arrivals::request_asks;

@@ -15,14 +15,11 @@ ghost use Rattle.ca_psn.specs.Psn.{widened};
 ghost use Rattle.ca_qpstate.specs.Seen.{queue_of};
 ghost use Rattle.ca_arrivals.specs.Receives.{CanTake};
 ghost use Rattle.ca_arrivals.specs.Shapes.{IsRequestShape, shape_seen};
-ghost use Rattle.ca_responder.specs.Taking.{IsArrival, IsPacketTaken, MayEnd, after_shared, ended_by, found};
+ghost use Rattle.ca_arrivals.specs.Taking.{IsArrival, IsPacketTaken, MayEnd, after_shared, ended_by, found};
 ghost use Rattle.ca_rows.specs.Narrow.{AreNarrow};
 ghost use Rattle.ca_packet.specs.Packet.{IsWellFormed, fields_of};
 
 use crate::duplicates::{take_ahead, take_duplicate};
-use crate::remote_requests::{take_atomic, take_read};
-use crate::send::take_send;
-use crate::write::take_write;
 use ca_arrivals::{
     Placed, Shape, drop_packet, is_invalid, lacks_receive, queue_answer, receiving_of, refuse,
     shape_of, taken_receive, write_reach,
@@ -32,6 +29,8 @@ use ca_grant::Reach;
 use ca_model::{Drop1, Marks};
 use ca_psn::widen;
 use ca_qpstate::QueuePart;
+use ca_receiving::take_send;
+use ca_remote::{take_atomic, take_read, take_write};
 use ca_srq::Srq;
 use ca_wire::{NakCode, Packet};
 use std::alloc::Global;

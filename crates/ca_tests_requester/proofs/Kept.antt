@@ -29,7 +29,7 @@ use Rattle.ca_base.specs.objects.WorkQueue.{is_full}
 use Rattle.ca_laws.proofs.VerbLemmas.{posted-send}
 use Rattle.ca_model.specs.Requests.{list_of}
 use Rattle.ca_model.specs.machine.PostingVerbs.{with_send}
-use Rattle.ca_requester.specs.Turn.{no_marks, operation_end, turn_row}
+use Rattle.ca_sending.specs.Turn.{no_marks, operation_end, turn_row}
 use Rattle.ca_rows.specs.Done.{Handed, IsTurn, IsTaking, written_all}
 use Rattle.ca_tests_grant.specs.SmallLaws.{small-keeps}
 use Rattle.ca_tests_grant.specs.SmallReach.{FitTogether, IsAskHere, after_write_by, sight_of}

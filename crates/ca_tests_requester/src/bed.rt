@@ -5,7 +5,7 @@ ghost use Rattle.ca_model.specs.Packets as packets;
 ghost use Rattle.ca_model.specs.Requests as requests;
 ghost use Rattle.ca_model.specs.machine.Invariants.{IsList, IsQueue};
 ghost use Rattle.ca_model.specs.machine.Requester.{turn_of};
-ghost use Rattle.ca_requester.specs.Turn.{is_performing};
+ghost use Rattle.ca_sending.specs.Turn.{is_performing};
 ghost use Rattle.ca_qpstate.specs.Seen.{queue_of};
 ghost use Rattle.ca_rows.specs.Narrow.{AreNarrow};
 ghost use Rattle.ca_tests_grant.specs.SmallReach as small;

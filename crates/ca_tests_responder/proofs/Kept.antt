@@ -35,7 +35,7 @@ use Rattle.ca_model.specs.machine.Invariants.{IsQueue, IsReceive, IsSharedReceiv
 use Rattle.ca_model.specs.machine.Respond.{answer_turn, respond_row}
 use Rattle.ca_model.specs.machine.Responses.{drop_effects}
 use Rattle.ca_model.specs.machine.Row.{Ending, NotPossible, Does, Row, ending_of, plain_row}
-use Rattle.ca_responder.specs.Taking.{found, IsArrival, after_shared, ended_by, without_key}
+use Rattle.ca_arrivals.specs.Taking.{found, IsArrival, after_shared, ended_by, without_key}
 use Rattle.ca_qpstate.specs.Seen.{queue_of}
 use Rattle.ca_rows.specs.Done.{Handed, IsTurn}
 use Rattle.ca_tests_grant.specs.SmallLaws.{places-here}

@@ -67,6 +67,21 @@ fn are_as_many(rt: &impl Abort, rows: usize, lines: &str) {
     assert_eq!(rt; lines.lines().count(), rows);
 }
 
+/// A row of a table: what it stands for prints as one line.
+trait Row {
+    fn text(&self, alloc: Global) -> Result<Vec<u8>, Fail>;
+}
+
+// These rows are these lines.
+fn rows_are<R: Abort + AllocGlobal, T: Row>(rt: &R, rows: &[T], lines: &str) -> Result<(), Fail> {
+    are_as_many(rt, rows.len(), lines);
+    for (row, line) in rows.iter().zip(lines.lines()) {
+        let text = row.text(rt.alloc())?;
+        is_line(rt, text.as_slice(), line);
+    }
+    Ok(())
+}
+
 fn list_of(pieces: &[Piece]) -> Result<ArrayVec<Piece, 4>, Fail> {
     let mut list = ArrayVec::new();
     for piece in pieces {
@@ -89,31 +104,45 @@ fn entry(alloc: Global, stamp: u64, event: Event, mark: Option<Mark>) -> Result<
     })
 }
 
-// The entry of a call that was answered so has this text.
-fn call_text<R: Abort + AllocGlobal>(
-    rt: &R,
+fn answer_of(by: u32, verb: &Verb, answer: &Answer) -> Result<Mark, Fail> {
+    let verb = verb.clone()?;
+    let answer = answer.clone()?;
+    Ok(Mark::Verb { by, verb, answer })
+}
+
+fn event_of(by: u32, verb: &Verb) -> Result<Event, Fail> {
+    let verb = verb.clone()?;
+    Ok(Event::Verb { by, verb })
+}
+
+// The entry of a call that was answered so.
+fn call_entry(
+    alloc: Global,
     stamp: u64,
     by: u32,
     verb: &Verb,
     answer: &Answer,
-) -> Result<Vec<u8>, Fail> {
-    let mark = Mark::Verb {
-        by,
-        verb: verb.clone()?,
-        answer: answer.clone()?,
-    };
-    let event = Event::Verb {
-        by,
-        verb: verb.clone()?,
-    };
-    let entry = entry(rt.alloc(), stamp, event, Some(mark))?;
-    let mut out = Vec::new(rt.alloc());
-    print(&entry, &mut out)?;
+) -> Result<Entry, Fail> {
+    let event = event_of(by, verb)?;
+    let mark = answer_of(by, verb, answer)?;
+    entry(alloc, stamp, event, Some(mark))
+}
+
+fn text_of(alloc: Global, entry: &Entry) -> Result<Vec<u8>, Fail> {
+    let mut out = Vec::new(alloc);
+    print(entry, &mut out)?;
     Ok(out)
 }
 
+// The entry is this line.
+fn entry_is<R: Abort + AllocGlobal>(rt: &R, entry: &Entry, want: &str) -> Result<(), Fail> {
+    let text = text_of(rt.alloc(), entry)?;
+    is_line(rt, text.as_slice(), want);
+    Ok(())
+}
+
 // The entry of a call that was answered so is this line.
-fn call_is<R: Abort + AllocGlobal>(
+fn call_prints<R: Abort + AllocGlobal>(
     rt: &R,
     stamp: u64,
     by: u32,
@@ -121,14 +150,53 @@ fn call_is<R: Abort + AllocGlobal>(
     answer: &Answer,
     want: &str,
 ) -> Result<(), Fail> {
-    is_line(rt, call_text(rt, stamp, by, verb, answer)?.as_slice(), want);
-    Ok(())
+    let entry = call_entry(rt.alloc(), stamp, by, verb, answer)?;
+    entry_is(rt, &entry, want)
+}
+
+// The same of a call that its caller needs no more.
+fn call_is<R: Abort + AllocGlobal>(
+    rt: &R,
+    stamp: u64,
+    by: u32,
+    verb: Verb,
+    answer: Answer,
+    want: &str,
+) -> Result<(), Fail> {
+    call_prints(rt, stamp, by, &verb, &answer, want)
+}
+
+/// A call: its stamp, its consumer, its verb and the answer.
+type Call = (u64, u32, Verb, Answer);
+
+impl Row for Call {
+    fn text(&self, alloc: Global) -> Result<Vec<u8>, Fail> {
+        let (stamp, by, verb, answer) = self;
+        let entry = call_entry(alloc, *stamp, *by, verb, answer)?;
+        text_of(alloc, &entry)
+    }
+}
+
+fn mark_text(alloc: Global, mark: &Mark) -> Result<Vec<u8>, Fail> {
+    let mut out = Vec::new(alloc);
+    print_reply(mark, &mut out)?;
+    Ok(out)
 }
 
 // The mark is this line.
-fn mark_is<R: Abort + AllocGlobal>(rt: &R, mark: &Mark, want: &str) -> Result<(), Fail> {
-    let mut out = Vec::new(rt.alloc());
-    print_reply(mark, &mut out)?;
-    is_line(rt, out.as_slice(), want);
+fn mark_prints<R: Abort + AllocGlobal>(rt: &R, mark: &Mark, want: &str) -> Result<(), Fail> {
+    let text = mark_text(rt.alloc(), mark)?;
+    is_line(rt, text.as_slice(), want);
     Ok(())
+}
+
+// The same of a mark that its caller needs no more.
+fn mark_is<R: Abort + AllocGlobal>(rt: &R, mark: Mark, want: &str) -> Result<(), Fail> {
+    mark_prints(rt, &mark, want)
+}
+
+impl Row for Mark {
+    fn text(&self, alloc: Global) -> Result<Vec<u8>, Fail> {
+        mark_text(alloc, self)
+    }
 }

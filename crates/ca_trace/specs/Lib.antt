@@ -1,6 +1,3 @@
-pub mod Words
 pub mod Table
 pub mod Trace
-pub mod TextView
-pub mod Text
 pub mod Lines

@@ -7,14 +7,10 @@ use Rattle.ca_model.specs.declared.answer.Answer.{Answer}
 use Rattle.ca_model.specs.declared.answer.Answer.TheVariants as answers
 use Rattle.ca_model.specs.declared.mark.Mark.{Mark}
 use Rattle.ca_model.specs.declared.mark.Mark.TheVariants as marks
-use Rattle.ca_model.specs.declared.verb.Verb.{Verb}
 use Rattle.ca_model.specs.Entries.{EntryValue}
-use Rattle.ca_trace.specs.Table.{call_words, event_words, told_words, got_words, mark_words}
-use Rattle.ca_trace.specs.Words.{Field, Fixed, Number, Lettered, words, joined, led}
-
--- the line of a script that calls a verb, without its end
-abbrev pub call : ℕ → Verb → List ℕ
-call by verb = joined 32 (words (call_words by verb))
+use Rattle.ca_trace.specs.Table.{event_words, told_words, got_words, mark_words}
+use Rattle.ca_trace_words.specs.Verbs.{call_words}
+use Rattle.ca_trace_words.specs.Words.{Field, Fixed, Number, Lettered, words, joined, led}
 
 -- a line of these words, with its line feed
 abbrev pub line : List Field → List ℕ

@@ -1,17 +1,15 @@
 ghost use Rattle.std.specs.Prelude.{◌≡◌, ◌∷◌, [], ◌++◌, OnOk, OnErr};
 ghost use Rattle.std.specs.List.{flat_map};
 ghost use Rattle.ca_model.specs.Entries.{entry_of};
-ghost use Rattle.ca_trace.specs.Words.{joined, words};
+ghost use Rattle.ca_trace_words.specs.Words.{joined, words};
 ghost use Rattle.ca_trace.specs.Table.{event_words};
 ghost use Rattle.ca_trace.specs.Trace.{entry_text, marks_text, mark_text, reply_text};
 
 use crate::answer::{put_answer, put_got_lines};
 use crate::mark::put_mark;
-use crate::text::Text;
-use crate::verb::put_call;
-use crate::words::alarm;
 use ca_base::Memory;
 use ca_model::{Entry, Event, Mark};
+use ca_trace_words::{Text, alarm, put_call};
 use std::mem;
 
 /// Appends the lines of an entry, each with its line feed. `Memory` leaves the output as it was.

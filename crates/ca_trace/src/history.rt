@@ -2,9 +2,9 @@ ghost use Rattle.std.specs.Prelude.{◌≡◌, ◌++◌, length, take, OnOk, OnE
 ghost use Rattle.ca_trace.specs.Trace.{end_text, text};
 
 use crate::entry::print;
-use crate::text::Text;
 use ca_base::Memory;
 use ca_model::History;
+use ca_trace_words::Text;
 use std::mem;
 
 /// Appends the text of a history: the lines of all entries in order, and the line that tells how many there are.

@@ -12,12 +12,8 @@ mod entry;
 mod history;
 mod line;
 mod mark;
-mod post;
-mod text;
-mod verb;
-mod words;
 
+pub use ca_trace_words::print_call;
 pub use entry::{print, print_reply};
 pub use history::print_history;
 pub use line::{Line, Told, print_line};
-pub use verb::print_call;

@@ -1,14 +1,13 @@
 ghost use Rattle.std.specs.Prelude.{◌≡◌, ◌++◌, OnOk, OnErr};
-ghost use Rattle.ca_trace.specs.Words.{led, words};
+ghost use Rattle.ca_trace_words.specs.Words.{led, words};
 ghost use Rattle.ca_trace.specs.Lines.{answer_line_words, line_text};
 
 use crate::answer::{put_answer, put_completion};
 use crate::entry::put_event;
 use crate::mark::put_mark;
-use crate::text::Text;
-use crate::verb::put_call;
 use ca_base::{Completion, Memory};
 use ca_model::{Answer, Event, Mark, Verb};
+use ca_trace_words::{Text, put_call};
 use std::mem;
 
 /// What the line of a call tells of its answer: all of it, or how many completions a poll gave, which have lines of

@@ -1,6 +1,7 @@
-use super::{HERE, OTHER_QUEUE, OTHER_SLOT, SLOT, are_as_many, call_is};
+use super::{Call, HERE, OTHER_QUEUE, OTHER_SLOT, Row, SLOT, call_entry, rows_are, text_of};
 use ca_base::{Change, DomainId, Field, Key, Rights, SendOp, SendRequest, Slot, State};
 use ca_model::{Answer, Refusal, Verb};
+use std::alloc::Global;
 use std::test::Fail;
 
 /// The lines of calls. The last five have a poll that takes fewer than it may and states that the others lack.
@@ -42,7 +43,7 @@ const LINES: &str = "@0 p0 c0 pd 0/0 -> ok
 @23 p0 c0 query 0/0/0 -> state sqd 1 0 0";
 
 /// The stamp, the consumer, the verb and its answer of each line.
-const CALLS: [(u64, u32, Verb, Answer); 36] = [
+const CALLS: [Call; 36] = [
     (0, 0, Verb::AllocPd { domain: HERE }, Answer::Fine),
     (
         87,
@@ -481,12 +482,7 @@ const CALLS: [(u64, u32, Verb, Answer); 36] = [
 
 #[test]
 fn calls_print_with_their_answers(rt: HostRuntime) -> Result<(), Fail> {
-    are_as_many(&rt, CALLS.len(), LINES);
-    for (row, line) in CALLS.as_slice().iter().zip(LINES.lines()) {
-        let (stamp, by, verb, answer) = row;
-        call_is(&rt, *stamp, *by, verb, answer, line)?;
-    }
-    Ok(())
+    rows_are(&rt, CALLS.as_slice(), LINES)
 }
 
 /// Each refusal, as it stands in the line of one call.
@@ -522,7 +518,7 @@ const REFUSED: &str = "@52 p0 c0 uncq 0/0/0 -> refused no-such
 @52 p0 c0 uncq 0/0/0 -> refused out-of-range:retry
 @52 p0 c0 uncq 0/0/0 -> refused out-of-range:rnr-retry";
 
-const REFUSALS: [Refusal; 31] = [
+const REFUSALS: &[Refusal] = &[
     Refusal::NoSuch,
     Refusal::NoDomain,
     Refusal::DomainTaken,
@@ -556,12 +552,16 @@ const REFUSALS: [Refusal; 31] = [
     Refusal::OutOfRange(Field::RnrRetry),
 ];
 
+// A call that is refused so.
+impl Row for Refusal {
+    fn text(&self, alloc: Global) -> Result<Vec<u8>, Fail> {
+        let verb = Verb::DestroyCq { slot: SLOT };
+        let entry = call_entry(alloc, 52, 0, &verb, &Answer::Refused(*self))?;
+        text_of(alloc, &entry)
+    }
+}
+
 #[test]
 fn refusals_print_their_names(rt: HostRuntime) -> Result<(), Fail> {
-    are_as_many(&rt, REFUSALS.len(), REFUSED);
-    for (refusal, line) in REFUSALS.as_slice().iter().zip(REFUSED.lines()) {
-        let answer = Answer::Refused(*refusal);
-        call_is(&rt, 52, 0, &Verb::DestroyCq { slot: SLOT }, &answer, line)?;
-    }
-    Ok(())
+    rows_are(&rt, REFUSALS, REFUSED)
 }

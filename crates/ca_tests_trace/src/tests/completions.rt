@@ -1,7 +1,10 @@
-use super::{OTHER_QUEUE, QUEUE, SLOT, are_as_many, call_text, is_text, mark_is};
+use super::{
+    OTHER_QUEUE, QUEUE, Row, SLOT, call_entry, is_text, mark_is, mark_text, rows_are, text_of,
+};
 use arrayvec::ArrayVec;
 use ca_base::{Completion, Key, OpRefusal, QueueId, RegionError, WcOp, WcStatus, WindowError};
-use ca_model::{Answer, Completions, Mark, Verb};
+use ca_model::{Answer, Completions, Entry, Mark, Verb};
+use std::alloc::Global;
 use std::test::Fail;
 
 /// The lines of completions of no bytes, with each status and each cause. The last twelve have the causes that the
@@ -43,10 +46,10 @@ const LINES: &str = " done 0/770 send 0 2 send bad-response 0 - - -
  done 0/256 send 0 1 bind memory-management 0 - - window:key-differs
  done 0/256 send 0 1 bind memory-management 0 - - window:wrong-queue";
 
-type Row = (QueueId, bool, u64, u64, WcOp, WcStatus, Option<OpRefusal>);
+type Done = (QueueId, bool, u64, u64, WcOp, WcStatus, Option<OpRefusal>);
 
 /// The queue pair, whether it is of a receive, the posting place, the id, the operation, the status and the cause.
-const DONE: [Row; 36] = [
+const DONE: &[Done] = &[
     (
         QueueId {
             adapter: 0,
@@ -380,7 +383,7 @@ const DONE: [Row; 36] = [
     ),
 ];
 
-fn mark_of(row: &Row) -> Mark {
+fn mark_of(row: &Done) -> Mark {
     let (queue, receive, place, id, op, status, cause) = *row;
     Mark::Done {
         queue,
@@ -399,41 +402,44 @@ fn mark_of(row: &Row) -> Mark {
     }
 }
 
+impl Row for Done {
+    fn text(&self, alloc: Global) -> Result<Vec<u8>, Fail> {
+        mark_text(alloc, &mark_of(self))
+    }
+}
+
 #[test]
 fn completions_print_their_status_and_cause(rt: HostRuntime) -> Result<(), Fail> {
-    are_as_many(&rt, DONE.len(), LINES);
-    for (row, line) in DONE.as_slice().iter().zip(LINES.lines()) {
-        mark_is(&rt, &mark_of(row), line)?;
+    rows_are(&rt, DONE, LINES)
+}
+
+const INVALIDATING: Completion = Completion {
+    id: 1008,
+    queue: QueueId {
+        adapter: 0,
+        number: 512,
+    },
+    receive: true,
+    place: 3,
+    status: WcStatus::Success,
+    op: WcOp::Recv,
+    bytes: 0,
+    imm: None,
+    invalidated: Some(Key(0x01000401)),
+};
+
+fn done(completion: Completion) -> Mark {
+    Mark::Done {
+        queue: completion.queue,
+        completion,
+        cause: None,
     }
-    Ok(())
 }
 
 #[test]
 fn a_completion_prints_the_key_that_was_invalidated(rt: HostRuntime) -> Result<(), Fail> {
-    let completion = Completion {
-        id: 1008,
-        queue: QueueId {
-            adapter: 0,
-            number: 512,
-        },
-        receive: true,
-        place: 3,
-        status: WcStatus::Success,
-        op: WcOp::Recv,
-        bytes: 0,
-        imm: None,
-        invalidated: Some(Key(0x01000401)),
-    };
-    let mark = Mark::Done {
-        queue: completion.queue,
-        completion,
-        cause: None,
-    };
-    mark_is(
-        &rt,
-        &mark,
-        " done 0/512 recv 3 1008 recv success 0 - 0x01000401 -",
-    )
+    let line = " done 0/512 recv 3 1008 recv success 0 - 0x01000401 -";
+    mark_is(&rt, done(INVALIDATING), line)
 }
 
 /// A poll that took four completions.
@@ -444,7 +450,7 @@ const POLLED: &str = "@19 p0 c0 wait 0/0/0 4 -> polled 4
  got 1/256 recv 0 9 recv success 300 - -
 ";
 
-const TAKEN: [Completion; 4] = [
+const TAKEN: &[Completion] = &[
     Completion {
         id: 1003,
         queue: QueueId {
@@ -497,19 +503,34 @@ const TAKEN: [Completion; 4] = [
     },
 ];
 
-#[test]
-fn a_poll_prints_what_it_took(rt: HostRuntime) -> Result<(), Fail> {
+fn polled(alloc: Global, completions: &[Completion]) -> Result<Answer, Fail> {
     let mut taken = ArrayVec::new();
-    for completion in TAKEN.as_slice() {
+    for completion in completions {
         taken.try_push(*completion)?;
     }
-    let taken = Completions::copy_of(rt.alloc(), &taken)?;
-    let verb = Verb::Poll {
-        slot: SLOT,
-        n: 4,
-        least: 4,
-    };
-    let text = call_text(&rt, 19, 0, &verb, &Answer::Polled(taken))?;
+    let taken = Completions::copy_of(alloc, &taken)?;
+    Ok(Answer::Polled(taken))
+}
+
+const POLL: Verb = Verb::Poll {
+    slot: SLOT,
+    n: 4,
+    least: 4,
+};
+
+fn poll_entry(alloc: Global, completions: &[Completion]) -> Result<Entry, Fail> {
+    let answer = polled(alloc, completions)?;
+    call_entry(alloc, 19, 0, &POLL, &answer)
+}
+
+fn poll_text(alloc: Global, completions: &[Completion]) -> Result<Vec<u8>, Fail> {
+    let entry = poll_entry(alloc, completions)?;
+    text_of(alloc, &entry)
+}
+
+#[test]
+fn a_poll_prints_what_it_took(rt: HostRuntime) -> Result<(), Fail> {
+    let text = poll_text(rt.alloc(), TAKEN)?;
     is_text(&rt, text.as_slice(), POLLED);
     Ok(())
 }

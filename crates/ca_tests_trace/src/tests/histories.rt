@@ -62,15 +62,25 @@ fn push_queue(alloc: Global, history: &mut History, by: u32, slot: Slot) -> Resu
     Ok(())
 }
 
+// Each consumer allocates a protection domain and creates a completion queue.
+fn push_calls(alloc: Global, history: &mut History) -> Result<(), Fail> {
+    push_domain(alloc, history, 0, HERE)?;
+    push_domain(alloc, history, 1, THERE)?;
+    push_queue(alloc, history, 0, SLOT)?;
+    push_queue(alloc, history, 1, OTHER_SLOT)
+}
+
+fn history_text(alloc: Global) -> Result<Vec<u8>, Fail> {
+    let mut history = History::empty(alloc);
+    push_calls(alloc, &mut history)?;
+    let mut out = Vec::new(alloc);
+    print_history(&history, &mut out)?;
+    Ok(out)
+}
+
 #[test]
 fn a_history_prints_whole(rt: HostRuntime) -> Result<(), Fail> {
-    let mut history = History::empty(rt.alloc());
-    push_domain(rt.alloc(), &mut history, 0, HERE)?;
-    push_domain(rt.alloc(), &mut history, 1, THERE)?;
-    push_queue(rt.alloc(), &mut history, 0, SLOT)?;
-    push_queue(rt.alloc(), &mut history, 1, OTHER_SLOT)?;
-    let mut out = Vec::new(rt.alloc());
-    print_history(&history, &mut out)?;
-    is_text(&rt, out.as_slice(), TEXT);
+    let text = history_text(rt.alloc())?;
+    is_text(&rt, text.as_slice(), TEXT);
     Ok(())
 }

@@ -1,10 +1,9 @@
-use super::{are_as_many, call_is, entry, is_line, list_of, mark_is};
+use super::{Call, call_is, entry, entry_is, list_of, mark_is, rows_are};
 use ca_base::{
     Bytes, Change, Completion, DomainId, Field, Grant, Key, Kind, OpRefusal, Pages, Piece, QueueId,
     Rights, Run, Runs, SendOp, SendRequest, Slot, State, Verdict, WcOp, WcStatus, WindowError,
 };
 use ca_model::{Answer, Event, Mark, Refusal, Verb};
-use ca_trace::print;
 use std::process::Abort;
 use std::test::Fail;
 
@@ -53,8 +52,10 @@ const CALLED: &str =
 @18446744073709551615 p0 c4294967295 load 255/65535 4294967295 4294967295 -> refused rights-need-local-write
 @18446744073709551615 p0 c4294967295 post 255/255/65535 18446744073709551615 sfe bind2 65535 0xffffffff 255 0xffffffffffffffff 4294967295 lrwab -> posted 0xffffffff";
 
-const CALLS: [(Verb, Answer); 6] = [
+const CALLS: [Call; 6] = [
     (
+        LONG,
+        WORD,
         Verb::RegMr {
             slot: SLOT,
             buffer: 65_535,
@@ -65,6 +66,8 @@ const CALLS: [(Verb, Answer); 6] = [
         Answer::Key(KEY),
     ),
     (
+        LONG,
+        WORD,
         Verb::CreateQp {
             slot: SLOT,
             send_cq: 65_535,
@@ -79,6 +82,8 @@ const CALLS: [(Verb, Answer); 6] = [
         },
     ),
     (
+        LONG,
+        WORD,
         Verb::ModifyQp {
             slot: SLOT,
             change: Change::Rtr {
@@ -92,6 +97,8 @@ const CALLS: [(Verb, Answer); 6] = [
         Answer::Refused(Refusal::OutOfRange(Field::Incarnation)),
     ),
     (
+        LONG,
+        WORD,
         Verb::QueryQp { slot: SLOT },
         Answer::Query {
             state: State::Reset,
@@ -101,6 +108,8 @@ const CALLS: [(Verb, Answer); 6] = [
         },
     ),
     (
+        LONG,
+        WORD,
         Verb::Load {
             adapter: 255,
             buffer: 65_535,
@@ -110,6 +119,8 @@ const CALLS: [(Verb, Answer); 6] = [
         Answer::Refused(Refusal::RightsNeedLocalWrite),
     ),
     (
+        LONG,
+        WORD,
         Verb::PostSend {
             slot: SLOT,
             request: SendRequest {
@@ -133,12 +144,7 @@ const CALLS: [(Verb, Answer); 6] = [
 
 #[test]
 fn the_longest_calls_print(rt: HostRuntime) -> Result<(), Fail> {
-    are_as_many(&rt, CALLS.len(), CALLED);
-    for (row, line) in CALLS.as_slice().iter().zip(CALLED.lines()) {
-        let (verb, answer) = row;
-        call_is(&rt, LONG, WORD, verb, answer, line)?;
-    }
-    Ok(())
+    rows_are(&rt, CALLS.as_slice(), CALLED)
 }
 
 // The entry of a request that was posted is this line.
@@ -153,7 +159,7 @@ fn post_is<R: Abort + AllocGlobal>(rt: &R, op: SendOp, want: &str) -> Result<(),
             op,
         },
     };
-    call_is(rt, LONG, WORD, &verb, &Answer::Posted(Some(KEY)), want)
+    call_is(rt, LONG, WORD, verb, Answer::Posted(Some(KEY)), want)
 }
 
 #[test]
@@ -238,22 +244,18 @@ const MARKS: [Mark; 4] = [
 
 #[test]
 fn the_longest_marks_print(rt: HostRuntime) -> Result<(), Fail> {
-    are_as_many(&rt, MARKS.len(), LINES);
-    for (mark, line) in MARKS.as_slice().iter().zip(LINES.lines()) {
-        mark_is(&rt, mark, line)?;
-    }
-    Ok(())
+    rows_are(&rt, MARKS.as_slice(), LINES)
 }
 
-#[test]
-fn the_longest_grant_prints(rt: HostRuntime) -> Result<(), Fail> {
-    let run = Run {
-        adapter: 255,
-        buffer: 65_535,
-        offset: WORD,
-        length: WORD,
-    };
-    let grant = Grant {
+const RUN: Run = Run {
+    adapter: 255,
+    buffer: 65_535,
+    offset: WORD,
+    length: WORD,
+};
+
+fn grant(runs: Runs) -> Grant {
+    Grant {
         key: KEY,
         domain: DOMAIN,
         queue: Some(QUEUE),
@@ -261,33 +263,40 @@ fn the_longest_grant_prints(rt: HostRuntime) -> Result<(), Fail> {
         address: LONG,
         length: WORD,
         rights: RIGHTS,
-        runs: Runs::copy_of(rt.alloc(), [run, run].as_slice())?,
-    };
-    let line =
-        " granted 255/255 0xffffffff window 255/4294967295 0xffffffffffffffff 4294967295 lrwab 255/65535:4294967295+4294967295,255/65535:4294967295+4294967295";
-    mark_is(&rt, &Mark::Granted(grant), line)
+        runs,
+    }
 }
 
 #[test]
-fn the_longest_packet_and_turn_print(rt: HostRuntime) -> Result<(), Fail> {
+fn the_longest_grant_prints(rt: HostRuntime) -> Result<(), Fail> {
+    let grant = grant(Runs::copy_of(rt.alloc(), [RUN, RUN].as_slice())?);
+    let line =
+        " granted 255/255 0xffffffff window 255/4294967295 0xffffffffffffffff 4294967295 lrwab 255/65535:4294967295+4294967295,255/65535:4294967295+4294967295";
+    mark_is(&rt, Mark::Granted(grant), line)
+}
+
+#[test]
+fn the_longest_packet_prints(rt: HostRuntime) -> Result<(), Fail> {
+    let bytes = Bytes::copy_of(rt.alloc(), b"\xff".as_slice())?;
     let sent = Mark::Sent {
         source: QUEUE,
         target: QUEUE,
         index: Some(LONG),
         request: Some(LONG),
-        bytes: Bytes::copy_of(rt.alloc(), b"\xff".as_slice())?,
+        bytes,
     };
     let line = " sent 255/4294967295 255/4294967295 18446744073709551615 18446744073709551615 ff";
-    mark_is(&rt, &sent, line)?;
+    mark_is(&rt, sent, line)
+}
+
+#[test]
+fn the_longest_turn_prints(rt: HostRuntime) -> Result<(), Fail> {
     let turn = Event::Deliver {
         queue: QUEUE,
         index: LONG,
     };
     let mut entry = entry(rt.alloc(), LONG, turn, None)?;
     entry.pass = WORD;
-    let mut out = Vec::new(rt.alloc());
-    print(&entry, &mut out)?;
     let line = "@18446744073709551615 p4294967295 deliver 255/4294967295 18446744073709551615";
-    is_line(&rt, out.as_slice(), line);
-    Ok(())
+    entry_is(&rt, &entry, line)
 }

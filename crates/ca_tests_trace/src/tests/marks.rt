@@ -1,9 +1,10 @@
-use super::{HERE, OTHER_QUEUE, QUEUE, THERE, are_as_many, mark_is};
+use super::{HERE, OTHER_QUEUE, QUEUE, Row, THERE, mark_is, mark_text, rows_are};
 use ca_base::{
     Bytes, Denial, DomainId, Grant, Key, Kind, Place, QueueId, Rights, Run, Runs, Verdict,
 };
 use ca_model::{Drop1, Mark};
 use ca_wire::WireError;
+use std::alloc::Global;
 use std::test::Fail;
 
 /// The lines of marks that hold no list.
@@ -217,11 +218,7 @@ const MARKS: [Mark; 25] = [
 
 #[test]
 fn marks_without_lists_print(rt: HostRuntime) -> Result<(), Fail> {
-    are_as_many(&rt, MARKS.len(), LINES);
-    for (mark, line) in MARKS.as_slice().iter().zip(LINES.lines()) {
-        mark_is(&rt, mark, line)?;
-    }
-    Ok(())
+    rows_are(&rt, MARKS.as_slice(), LINES)
 }
 
 /// The lines of grants.
@@ -231,7 +228,9 @@ const GRANTED: &str = " granted 0/0 0x00000107 region any 0xffa 12 lrwab 0/0:163
  granted 0/0 0x00800009 window 0/256 0x100000000 64 w 0/0:0+64";
 
 /// The key, whether it is an L_Key, for which queue pair, the address, the length, the rights and the runs.
-const GRANTS: [(Key, bool, Option<QueueId>, u64, u32, Rights, &[Run]); 4] = [
+type GrantRow = (Key, bool, Option<QueueId>, u64, u32, Rights, &'static [Run]);
+
+const GRANTS: &[GrantRow] = &[
     (
         Key(0x00000107),
         true,
@@ -322,24 +321,31 @@ const GRANTS: [(Key, bool, Option<QueueId>, u64, u32, Rights, &[Run]); 4] = [
     ),
 ];
 
+fn grant_of(alloc: Global, row: &GrantRow) -> Result<Mark, Fail> {
+    let (key, local, queue, address, length, rights, runs) = *row;
+    let runs = Runs::copy_of(alloc, runs)?;
+    Ok(Mark::Granted(Grant {
+        key,
+        domain: HERE,
+        queue,
+        local,
+        address,
+        length,
+        rights,
+        runs,
+    }))
+}
+
+impl Row for GrantRow {
+    fn text(&self, alloc: Global) -> Result<Vec<u8>, Fail> {
+        let mark = grant_of(alloc, self)?;
+        mark_text(alloc, &mark)
+    }
+}
+
 #[test]
 fn grants_print_their_runs(rt: HostRuntime) -> Result<(), Fail> {
-    are_as_many(&rt, GRANTS.len(), GRANTED);
-    for (row, line) in GRANTS.as_slice().iter().zip(GRANTED.lines()) {
-        let (key, local, queue, address, length, rights, runs) = *row;
-        let grant = Grant {
-            key,
-            domain: HERE,
-            queue,
-            local,
-            address,
-            length,
-            rights,
-            runs: Runs::copy_of(rt.alloc(), runs)?,
-        };
-        mark_is(&rt, &Mark::Granted(grant), line)?;
-    }
-    Ok(())
+    rows_are(&rt, GRANTS, GRANTED)
 }
 
 /// The lines of packets that were sent.
@@ -349,7 +355,9 @@ const SENT: &str = " sent 0/256 0/257 - - 1100ffff000001010000000062000000
  sent 0/769 0/768 0 0 0400ffff0000030080000000";
 
 /// The source, the target, the index, the posting place and the bytes.
-const PACKETS: [(QueueId, QueueId, Option<u64>, Option<u64>, &[u8]); 4] = [
+type Packet = (QueueId, QueueId, Option<u64>, Option<u64>, &'static [u8]);
+
+const PACKETS: &[Packet] = &[
     (
         QUEUE,
         QueueId {
@@ -392,21 +400,28 @@ const PACKETS: [(QueueId, QueueId, Option<u64>, Option<u64>, &[u8]); 4] = [
     ),
 ];
 
+fn packet_of(alloc: Global, row: &Packet) -> Result<Mark, Fail> {
+    let (source, target, index, request, bytes) = *row;
+    let bytes = Bytes::copy_of(alloc, bytes)?;
+    Ok(Mark::Sent {
+        source,
+        target,
+        index,
+        request,
+        bytes,
+    })
+}
+
+impl Row for Packet {
+    fn text(&self, alloc: Global) -> Result<Vec<u8>, Fail> {
+        let mark = packet_of(alloc, self)?;
+        mark_text(alloc, &mark)
+    }
+}
+
 #[test]
 fn packets_print_their_bytes(rt: HostRuntime) -> Result<(), Fail> {
-    are_as_many(&rt, PACKETS.len(), SENT);
-    for (row, line) in PACKETS.as_slice().iter().zip(SENT.lines()) {
-        let (source, target, index, request, bytes) = *row;
-        let mark = Mark::Sent {
-            source,
-            target,
-            index,
-            request,
-            bytes: Bytes::copy_of(rt.alloc(), bytes)?,
-        };
-        mark_is(&rt, &mark, line)?;
-    }
-    Ok(())
+    rows_are(&rt, PACKETS, SENT)
 }
 
 /// The lines of packets that read or wrote.
@@ -416,7 +431,18 @@ const REACHED: &str = " remote 0/256 0/0 0 0x00000001 read 0x1000010f7 1 read 00
  remote 1/256 1/0 0 0xdeadbeef write 0x0 0 wrote -";
 
 /// The queue pair, the domain, the envelope, the key, the kind, the address, the length and the bytes.
-const ACCESSES: [(QueueId, DomainId, Option<u64>, Key, Kind, u64, u32, &[u8]); 4] = [
+type Access = (
+    QueueId,
+    DomainId,
+    Option<u64>,
+    Key,
+    Kind,
+    u64,
+    u32,
+    &'static [u8],
+);
+
+const ACCESSES: &[Access] = &[
     (
         QUEUE,
         HERE,
@@ -469,50 +495,59 @@ fn verdict_of(kind: Kind, bytes: Bytes) -> Verdict {
     }
 }
 
-#[test]
-fn accesses_by_packets_print_their_bytes(rt: HostRuntime) -> Result<(), Fail> {
-    are_as_many(&rt, ACCESSES.len(), REACHED);
-    for (row, line) in ACCESSES.as_slice().iter().zip(REACHED.lines()) {
-        let (queue, domain, envelope, key, kind, address, length, bytes) = *row;
-        let verdict = verdict_of(kind, Bytes::copy_of(rt.alloc(), bytes)?);
-        let mark = Mark::Remote {
-            queue,
-            domain,
-            envelope,
-            key,
-            kind,
-            address,
-            length,
-            verdict,
-        };
-        mark_is(&rt, &mark, line)?;
+fn access_of(alloc: Global, row: &Access) -> Result<Mark, Fail> {
+    let (queue, domain, envelope, key, kind, address, length, bytes) = *row;
+    let verdict = verdict_of(kind, Bytes::copy_of(alloc, bytes)?);
+    Ok(Mark::Remote {
+        queue,
+        domain,
+        envelope,
+        key,
+        kind,
+        address,
+        length,
+        verdict,
+    })
+}
+
+impl Row for Access {
+    fn text(&self, alloc: Global) -> Result<Vec<u8>, Fail> {
+        let mark = access_of(alloc, self)?;
+        mark_text(alloc, &mark)
     }
-    Ok(())
 }
 
 #[test]
-fn accesses_by_lists_and_stores_print_their_bytes(rt: HostRuntime) -> Result<(), Fail> {
-    let read = Mark::Local {
+fn accesses_by_packets_print_their_bytes(rt: HostRuntime) -> Result<(), Fail> {
+    rows_are(&rt, ACCESSES, REACHED)
+}
+
+fn list_read(bytes: Bytes) -> Mark {
+    Mark::Local {
         queue: QUEUE,
         domain: HERE,
         key: Key(1),
         kind: Kind::Read,
         address: 0x1_0000_0000,
         length: 1,
-        verdict: Verdict::Read(Bytes::copy_of(rt.alloc(), b"\x00".as_slice())?),
+        verdict: Verdict::Read(bytes),
+    }
+}
+
+fn store(bytes: Bytes) -> Mark {
+    let place = Place {
+        adapter: 0,
+        buffer: 0,
+        offset: 0,
     };
-    mark_is(
-        &rt,
-        &read,
-        " local 0/256 0/0 0x00000001 read 0x100000000 1 read 00",
-    )?;
-    let stored = Mark::Stored {
-        place: Place {
-            adapter: 0,
-            buffer: 0,
-            offset: 0,
-        },
-        bytes: Bytes::copy_of(rt.alloc(), b"\xab".as_slice())?,
-    };
-    mark_is(&rt, &stored, " stored 0/0 0 ab")
+    Mark::Stored { place, bytes }
+}
+
+#[test]
+fn accesses_by_lists_and_stores_print_their_bytes(rt: HostRuntime) -> Result<(), Fail> {
+    let read = list_read(Bytes::copy_of(rt.alloc(), b"\x00".as_slice())?);
+    let line = " local 0/256 0/0 0x00000001 read 0x100000000 1 read 00";
+    mark_is(&rt, read, line)?;
+    let stored = store(Bytes::copy_of(rt.alloc(), b"\xab".as_slice())?);
+    mark_is(&rt, stored, " stored 0/0 0 ab")
 }

@@ -45,7 +45,7 @@ fn post_is<R: Abort + AllocGlobal>(
         op,
     };
     let verb = Verb::PostSend { slot, request };
-    call_is(rt, stamp, by, &verb, &Answer::Posted(None), want)
+    call_is(rt, stamp, by, verb, Answer::Posted(None), want)
 }
 
 #[test]
@@ -139,67 +139,56 @@ fn a_fast_registration_prints_its_pages(rt: HostRuntime) -> Result<(), Fail> {
 
 #[test]
 fn receives_print_their_lists(rt: HostRuntime) -> Result<(), Fail> {
-    let verb = Verb::PostRecv {
-        slot: slot(0, 0, 2),
-        request: RecvRequest {
-            id: 1021,
-            list: list_of(&[piece(0x1_0000_0c14, 0x201, 4)])?,
-        },
+    let request = RecvRequest {
+        id: 1021,
+        list: list_of(&[piece(0x1_0000_0c14, 0x201, 4)])?,
     };
+    let slot = slot(0, 0, 2);
     let line = "@97 p0 c0 recv 0/0/2 1021 0x00000201:0x100000c14:4 -> refused has-srq";
-    call_is(&rt, 97, 0, &verb, &Answer::Refused(Refusal::HasSrq), line)?;
-    let verb = Verb::PostSrq {
-        slot: slot(0, 2, 0),
-        request: RecvRequest {
-            id: 1003,
-            list: list_of(&[])?,
-        },
-    };
-    let line = "@52 p0 c2 srecv 0/2/0 1003 - -> posted -";
-    call_is(&rt, 52, 2, &verb, &Answer::Posted(None), line)
+    let answer = Answer::Refused(Refusal::HasSrq);
+    call_is(&rt, 97, 0, Verb::PostRecv { slot, request }, answer, line)
 }
 
 #[test]
-fn calls_with_bytes_print_them(rt: HostRuntime) -> Result<(), Fail> {
-    let verb = Verb::Store {
+fn shared_receives_print_their_lists(rt: HostRuntime) -> Result<(), Fail> {
+    let request = RecvRequest {
+        id: 1003,
+        list: list_of(&[])?,
+    };
+    let slot = slot(0, 2, 0);
+    let line = "@52 p0 c2 srecv 0/2/0 1003 - -> posted -";
+    let answer = Answer::Posted(None);
+    call_is(&rt, 52, 2, Verb::PostSrq { slot, request }, answer, line)
+}
+
+fn store(bytes: Bytes) -> Verb {
+    Verb::Store {
         adapter: 0,
         buffer: 0,
         offset: 0,
-        bytes: Bytes::copy_of(rt.alloc(), b"\xab".as_slice())?,
-    };
-    call_is(
-        &rt,
-        14,
-        0,
-        &verb,
-        &Answer::Fine,
-        "@14 p0 c0 store 0/0 0 ab -> ok",
-    )?;
+        bytes,
+    }
+}
+
+const LOAD: Verb = Verb::Load {
+    adapter: 1,
+    buffer: 0,
+    offset: 0,
+    length: 1,
+};
+
+#[test]
+fn calls_with_bytes_print_them(rt: HostRuntime) -> Result<(), Fail> {
+    let verb = store(Bytes::copy_of(rt.alloc(), b"\xab".as_slice())?);
+    let line = "@14 p0 c0 store 0/0 0 ab -> ok";
+    call_is(&rt, 14, 0, verb, Answer::Fine, line)?;
     let verb = Verb::Inject {
         queue: OTHER_QUEUE,
         bytes: Bytes::empty(rt.alloc()),
     };
-    call_is(
-        &rt,
-        14,
-        0,
-        &verb,
-        &Answer::Fine,
-        "@14 p0 c0 inject 1/256 - -> ok",
-    )?;
-    let verb = Verb::Load {
-        adapter: 1,
-        buffer: 0,
-        offset: 0,
-        length: 1,
-    };
+    let line = "@14 p0 c0 inject 1/256 - -> ok";
+    call_is(&rt, 14, 0, verb, Answer::Fine, line)?;
     let answer = Answer::Loaded(Bytes::copy_of(rt.alloc(), b"\x00".as_slice())?);
-    call_is(
-        &rt,
-        19,
-        1,
-        &verb,
-        &answer,
-        "@19 p0 c1 load 1/0 0 1 -> bytes 00",
-    )
+    let line = "@19 p0 c1 load 1/0 0 1 -> bytes 00";
+    call_is(&rt, 19, 1, LOAD, answer, line)
 }

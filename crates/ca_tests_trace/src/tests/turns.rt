@@ -1,8 +1,7 @@
-use super::{OTHER_QUEUE, QUEUE, are_as_many, entry, is_line};
+use super::{OTHER_QUEUE, QUEUE, Row, entry, rows_are, text_of};
 use ca_base::{Lot, QueueId};
 use ca_model::Event;
-use ca_trace::print;
-use std::process::Abort;
+use std::alloc::Global;
 use std::test::Fail;
 
 const LINES: &str = "@16 p0 request 0/256 pass
@@ -109,26 +108,17 @@ const TURNS: [(u64, Event); 12] = [
     (19, Event::RnrWake { queue: QUEUE }),
 ];
 
-// The entry of a turn that has no marks is this line.
-fn turn_is<R: Abort + AllocGlobal>(
-    rt: &R,
-    stamp: u64,
-    event: &Event,
-    want: &str,
-) -> Result<(), Fail> {
-    let entry = entry(rt.alloc(), stamp, event.clone()?, None)?;
-    let mut out = Vec::new(rt.alloc());
-    print(&entry, &mut out)?;
-    is_line(rt, out.as_slice(), want);
-    Ok(())
+// The entry of a turn that has no marks.
+impl Row for (u64, Event) {
+    fn text(&self, alloc: Global) -> Result<Vec<u8>, Fail> {
+        let (stamp, event) = self;
+        let event = event.clone()?;
+        let entry = entry(alloc, *stamp, event, None)?;
+        text_of(alloc, &entry)
+    }
 }
 
 #[test]
 fn turns_print_with_their_lots(rt: HostRuntime) -> Result<(), Fail> {
-    are_as_many(&rt, TURNS.len(), LINES);
-    for (row, line) in TURNS.as_slice().iter().zip(LINES.lines()) {
-        let (stamp, event) = row;
-        turn_is(&rt, *stamp, event, line)?;
-    }
-    Ok(())
+    rows_are(&rt, TURNS.as_slice(), LINES)
 }

@@ -1,7 +1,7 @@
 use Rattle.std.proofs.Common.{arith}
 use Rattle.std.specs.Io.KnownBytes.{Appends}
 use Rattle.ca_outside.specs.Outside.{AppendsPart}
-use Rattle.ca_program.proofs.FirstPath.Limit.{differs-left}
+use Rattle.ca_program.proofs.Limit.{differs-left}
 use Rattle.ca_program.proofs.RunLaws.{ran}
 use Rattle.ca_program.proofs.run.run.Goals as goal
 

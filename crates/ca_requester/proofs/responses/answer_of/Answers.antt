@@ -2,7 +2,7 @@ use Rattle.std.proofs.Common.{rules}
 use Rattle.ca_qpstate.specs.Seen.{queue_of}
 use Rattle.ca_packet.specs.Packet.{fields_of}
 use Rattle.ca_requester.proofs.ResponseLemmas.{answer_fits}
-use Rattle.ca_requester.specs.Numbering.{numbered_of}
+use Rattle.ca_progress.specs.Numbering.{numbered_of}
 use Rattle.ca_requester.proofs.responses.answer_of.Goals as goal
 
 pub returns-in-Some-clause-row : goal.returns-in-Some-clause-row

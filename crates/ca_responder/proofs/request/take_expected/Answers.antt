@@ -5,7 +5,7 @@ use Rattle.ca_qpstate.specs.Seen.{queue_of}
 use Rattle.ca_packet.specs.Packet.{fields_of}
 use Rattle.ca_responder.proofs.WaitingLemmas.{row_by}
 use Rattle.ca_arrivals.specs.Shapes.{shape_seen}
-use Rattle.ca_responder.specs.Taking.{IsPacketTaken, MayEnd, ended_by, found}
+use Rattle.ca_arrivals.specs.Taking.{IsPacketTaken, MayEnd, ended_by, found}
 use Rattle.ca_responder.proofs.request.take_expected.Goals as goal
 
 pub take_valid-requires-clause-at_hand : goal.take_valid-requires-clause-at_hand

@@ -1,6 +1,6 @@
 use Rattle.std.proofs.Common.{option_copied, rules}
 use Rattle.ca_qpstate.specs.Seen.{queue_of}
-use Rattle.ca_responder.specs.Taking.{MayEnd}
+use Rattle.ca_arrivals.specs.Taking.{MayEnd}
 use Rattle.ca_tests_grant.specs.SmallReach.{IsEndHere, sight_of}
 use Rattle.ca_tests_responder.proofs.Ended.{ended_as}
 use Rattle.ca_tests_responder.proofs.responder.request_in.Goals as goal

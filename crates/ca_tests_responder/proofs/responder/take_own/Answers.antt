@@ -1,7 +1,7 @@
 use Rattle.std.proofs.Common.{None}
 use Rattle.ca_model.specs.machine.Delivery.{packet_arrived}
 use Rattle.ca_qpstate.specs.Seen.{queue_of}
-use Rattle.ca_responder.specs.Taking.{found}
+use Rattle.ca_arrivals.specs.Taking.{found}
 use Rattle.ca_tests_grant.specs.SmallReach.{sight_of}
 use Rattle.ca_tests_responder.proofs.Kept.{arrival_kept, request-good, stands_by}
 use Rattle.ca_tests_responder.proofs.responder.take_own.Goals as goal

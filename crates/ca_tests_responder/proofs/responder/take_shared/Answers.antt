@@ -2,7 +2,7 @@ use Rattle.std.proofs.Common.{Some}
 use Rattle.ca_model.specs.machine.Delivery.{packet_arrived}
 use Rattle.ca_model.specs.machine.Row.{ending_of}
 use Rattle.ca_qpstate.specs.Seen.{queue_of}
-use Rattle.ca_responder.specs.Taking.{found}
+use Rattle.ca_arrivals.specs.Taking.{found}
 use Rattle.ca_tests_grant.specs.SmallReach.{sight_of}
 use Rattle.ca_tests_responder.proofs.Kept.{arrival_kept, request-good, shared_kept, stands_by}
 use Rattle.ca_tests_responder.proofs.responder.take_shared.Goals as goal

@@ -1,0 +1,5 @@
+pub mod Causes
+pub mod Form
+pub mod LineReaders
+pub mod ScriptHistory
+pub mod WordReaders

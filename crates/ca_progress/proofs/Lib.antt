@@ -1,0 +1,4 @@
+pub mod NumberingLemmas
+pub mod OutcomeLemmas
+pub mod ProgressLemmas
+pub mod FinishedLemmas

@@ -1,0 +1,2 @@
+pub mod AtomicLemmas
+pub mod AtomicRowLemmas

@@ -1,4 +1,0 @@
-pub mod Atomics
-pub mod Ending
-pub mod Taking
-pub mod Held

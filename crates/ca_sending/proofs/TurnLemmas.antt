@@ -1,0 +1,135 @@
+-- What a requester's turn does, by its kind.
+use Rattle.std.proofs.Common.{◌≡◌, ℕ, ◌+◌, ◌-◌, ◌<◌, ◌≤◌, nat_lt, ◌||◌, min, max, arith, Bool, true, false, true≢false, refl, ap, ◌∙◌, if◌then◌else◌, List, [], ◌∷◌, ◌++◌, drop, map, length, suc, sum_by, take}
+use Rattle.std.proofs.Math.Seq.{take-append_seam}
+use Rattle.std.proofs.lemmas.Bool.{le-ltb}
+use Rattle.std.proofs.lemmas.List.Sums.{sum_by-cons}
+use Rattle.std.specs.List.{AllByRecursion, flat_map}
+use Rattle.ca_keys.specs.declared.access.Ask.{Ask}
+use Rattle.ca_keys.specs.declared.access.Kind.TheVariants as kinds
+use Rattle.ca_base.specs.declared.limits.TheConstants.{MAX_OUTSTANDING_PACKETS, MAX_OUTSTANDING_PSNS}
+use Rattle.ca_base.specs.declared.request.SendOp.{SendOp}
+use Rattle.ca_base.specs.declared.request.SendOp.TheVariants as ops
+use Rattle.ca_keys.specs.declared.verdict.Verdict.TheVariants as verdicts
+use Rattle.ca_base.specs.Sight.{Sight, bytes_in}
+use Rattle.ca_base.specs.objects.QueuePair.{PostedSend, QueuePair}
+use Rattle.ca_base.specs.objects.WorkQueue.{items_from}
+use Rattle.ca_grant.specs.Reaching.{IsPacketAsk}
+use Rattle.ca_model.specs.Requests.{is_local, psns_of}
+use Rattle.ca_model.specs.declared.mark.Mark.{Mark}
+use Rattle.ca_model.specs.machine.Invariants.{IsQueue, is_sending}
+use Rattle.ca_model.specs.machine.Numbering.{Numbered, is_answered_op, is_read, numbers_of}
+use Rattle.ca_model.specs.machine.Requester.{Performs, Sends, answers_between, end_of_packet, index_of_packet, is_too_much, local_reads, packets_between, psns_between}
+use Rattle.ca_rows.proofs.ReadLemmas.{behind_old, bytes_of_reads}
+use Rattle.ca_rows.specs.Asks.{IsAskOf, bytes_read, mark_of, payload_of, read_marks, reads_by}
+use Rattle.ca_progress.specs.declared.numbering.Next.{Next}
+use Rattle.ca_progress.proofs.NumberingLemmas.{number_at}
+use Rattle.ca_progress.specs.Numbering.{IsNext, numbered_of, numbers_from}
+use Rattle.ca_sending.specs.Packets.{IsPacket}
+use Rattle.ca_sending.specs.Turn.{is_performing, turn_on}
+
+-- a turn that performs is one on a local operation
+pub performing : (n : Numbered) → is_performing (turn_on n) ≡ true → is_local n.request.op ≡ true
+performing n e = by (is_local n.request.op) e
+  where
+    by : (b : Bool) → is_performing (if b then Performs n else Sends n) ≡ true → b ≡ true
+    by true e = refl
+    by false e = e
+
+-- a request that is no local operation takes a PSN at least
+some-psns : (mtu : ℕ) (op : SendOp) → is_local op ≡ false → 0 < psns_of mtu op
+some-psns mtu (ops.Send list) e = omega arith
+some-psns mtu (ops.SendImm imm list) e = omega arith
+some-psns mtu (ops.SendInv key list) e = omega arith
+some-psns mtu (ops.Write address key list) e = omega arith
+some-psns mtu (ops.WriteImm address key imm list) e = omega arith
+some-psns mtu (ops.Read address key list) e = omega arith
+some-psns mtu (ops.CmpSwap address key compare swap list) e = omega arith
+some-psns mtu (ops.FetchAdd address key add list) e = omega arith
+some-psns mtu (ops.Bind1 window region address count rights) e = absurd (true≢false e)
+some-psns mtu (ops.Bind2 window region low address count rights) e = absurd (true≢false e)
+some-psns mtu (ops.FastReg region low buffer address count rights pages) e = absurd (true≢false e)
+some-psns mtu (ops.LocalInv key) e = absurd (true≢false e)
+
+-- the next thing of a request that is no local operation is one of its packets
+pub is_packet : (q : QueuePair) (next : Next) → IsQueue q → is_sending q.state ≡ true → IsNext q next → is_local (numbered_of next.request).request.op ≡ false
+    → IsPacket q (numbered_of next.request)
+is_packet q next is sending it op = record { sound = it.sound; sent = op; index = by next.begins refl }
+  where
+    by : (b : Bool) → next.begins ≡ b → index_of_packet q (numbered_of next.request) < next.request.count
+    by false e = omega (arith, (it.within e).0, (it.within e).1)
+    by true e = omega (arith, it.at_end e, is.begun sending, it.sound.counted, some-psns q.responder.mtu (numbered_of next.request).request.op op)
+
+-- the marks of pieces that were read, as the requester's row has them
+pub marks_read : (s : Sight) (asks : List Ask) → local_reads asks (map (bytes_in s) asks) ≡ read_marks (reads_by s asks)
+marks_read s [] = refl
+marks_read s (ask ∷ asks) = ap (λ ms. mark_of ask (verdicts.Read (bytes_in s ask)) ∷ ms) (marks_read s asks)
+
+-- the payload, which the marks behind those that there were tell of, is what the asks bring
+pub payload-read : (s : Sight) (asks : List Ask) (old new : List Mark) (count : ℕ) (payload : List ℕ) → count ≡ length old
+    → new ≡ old ++ read_marks (reads_by s asks) → payload ≡ bytes_read (drop count new) → payload ≡ payload_of (reads_by s asks)
+payload-read s asks old new count payload at e p =
+    p
+    ∙ ap (λ n. bytes_read (drop n new)) at
+    ∙ ap bytes_read (behind_old old (read_marks (reads_by s asks)) new e)
+    ∙ bytes_of_reads (reads_by s asks)
+
+-- and those bytes are what the requester's row spells
+pub reads-joined : (s : Sight) (asks : List Ask) → payload_of (reads_by s asks) ≡ flat_map (λ b. b) (map (bytes_in s) asks)
+reads-joined s [] = refl
+reads-joined s (ask ∷ asks) = ap (λ bs. bytes_in s ask ++ bs) (reads-joined s asks)
+
+-- asks for reading are asks that may be handed on
+pub handed_on : (asks : List Ask) → AllByRecursion (IsAskOf kinds.Read) asks → AllByRecursion IsPacketAsk asks
+handed_on [] all = tt
+handed_on (ask ∷ asks) all = (all.0.0, handed_on asks all.1)
+
+-- the marks that there were stand in front of those that were added
+pub front_behind : (old more new : List Mark) → new ≡ old ++ more → take (length old) new ≡ old
+front_behind old more new e = ap (take (length old)) e ∙ take-append_seam old more
+
+-- no more PSNs of requests lie between two than there are
+few-psns : (f : Numbered → ℕ) (una upto mtu place psn : ℕ) (ps : List PostedSend) → ((n : Numbered) → f n ≤ psns_between una upto n)
+    → sum_by f (numbers_of mtu place psn ps) ≤ upto - max una psn
+few-psns f una upto mtu place psn [] few = omega arith
+few-psns f una upto mtu place psn (p ∷ ps) few =
+    omega (
+      arith,
+      sum_by-cons f n (numbers_of mtu (suc place) (psn + psns_of mtu p.request.op) ps),
+      few n,
+      few-psns f una upto mtu (suc place) (psn + psns_of mtu p.request.op) ps few,
+    )
+  where
+    n : Numbered
+    n = number_at place psn (psns_of mtu p.request.op) p
+
+at-most : (b : Bool) (n : ℕ) → (if b then min 1 n else n) ≤ n
+at-most true n = omega arith
+at-most false n = omega arith
+
+at-most-one : (b : Bool) (n : ℕ) → (if b then min 1 n else 0) ≤ n
+at-most-one true n = omega arith
+at-most-one false n = omega arith
+
+-- and no more request packets, and no more READs and atomics
+pub few_packets : (q : QueuePair) (place psn una upto most : ℕ) → upto - max una psn ≤ most
+    → nat_lt most (sum_by (packets_between una upto) (numbers_from place psn q)) ≡ false
+few_packets q place psn una upto most le = le-ltb most (sum_by (packets_between una upto) (numbers_from place psn q))
+    (omega (arith, le, few-psns (packets_between una upto) una upto q.responder.mtu place psn (items_from place q.sends) (λ n. at-most (is_read n.request.op) (psns_between una upto n))))
+
+pub few_answers : (q : QueuePair) (place psn una upto most : ℕ) → upto - max una psn ≤ most
+    → nat_lt most (sum_by (answers_between una upto) (numbers_from place psn q)) ≡ false
+few_answers q place psn una upto most le = le-ltb most (sum_by (answers_between una upto) (numbers_from place psn q))
+    (omega (arith, le, few-psns (answers_between una upto) una upto q.responder.mtu place psn (items_from place q.sends) (λ n. at-most-one (is_answered_op n.request.op) (psns_between una upto n))))
+
+none-of-three : (a b c : Bool) → a ≡ false → b ≡ false → c ≡ false → (a || b || c) ≡ false
+none-of-three a b c e f g = rw (e, f, g) refl
+
+-- where no more PSNs lie there than READs may, too much does not
+pub little : (q : QueuePair) (n : Numbered) → IsQueue q → end_of_packet q n - q.requester.una ≤ q.requester.reads → is_too_much q n ≡ false
+little q n is le = none-of-three _ _ _
+    (le-ltb MAX_OUTSTANDING_PSNS (upto - q.requester.una) (omega (arith, le, is.requester.reads)))
+    (few_packets q q.requester.oldest q.requester.oldest_psn q.requester.una upto MAX_OUTSTANDING_PACKETS (omega (arith, le, is.requester.reads)))
+    (few_answers q q.requester.oldest q.requester.oldest_psn q.requester.una upto q.requester.reads (omega (arith, le)))
+  where
+    upto : ℕ
+    upto = end_of_packet q n

@@ -1,0 +1,57 @@
+-- The row of a requester's turn that sends a packet, or waits. Contracts cite it.
+use Rattle.std.specs.Prelude.{ℕ, suc, Bool, true, false, if◌then◌else◌, [], Option, None, Some, Result, Ok, Err}
+use Rattle.ca_base.specs.declared.refusals.OpRefusal.{OpRefusal}
+use Rattle.ca_base.specs.declared.request.SendRequest.{SendRequest}
+use Rattle.ca_base.specs.declared.step.Reason.{Reason}
+use Rattle.ca_base.specs.declared.step.Reason.TheVariants as reasons
+use Rattle.ca_base.specs.declared.queue_numbers.RequesterNumbers.{RequesterNumbers}
+use Rattle.ca_base.specs.objects.LocalRequest.{LocalMarks}
+use Rattle.ca_base.specs.objects.QueuePair.{QueuePair}
+use Rattle.ca_model.specs.Requests.{is_local}
+use Rattle.ca_model.specs.machine.LocalOperations.{operation_effects}
+use Rattle.ca_model.specs.machine.Numbering.{Numbered}
+use Rattle.ca_model.specs.machine.Requester.{RequestTurn, Waits, Performs, Sends, packet_row, turn_of}
+use Rattle.ca_model.specs.machine.Row.{Effects, Row, plain_row, NotPossible, queue_and_marks}
+
+-- what a turn does on a request, where nothing stands against it
+abbrev pub turn_on : Numbered → RequestTurn
+turn_on n = if is_local n.request.op then Performs n else Sends n
+
+-- the row of a turn: it waits, or it sends a packet; one that performs a local operation has nothing to send
+abbrev pub turn_row : QueuePair → Bool → Row
+turn_row q room = by (turn_of q)
+  where
+    by : RequestTurn → Row
+    by (Waits reason) = plain_row (NotPossible reason)
+    by (Performs n) = plain_row (NotPossible reasons.Empty)
+    by (Sends n) = packet_row q room n
+
+-- the local operation that a turn performs: its request, and the byte that it drew; none where it sends a packet
+abbrev pub operation_in : RequestTurn → Result (Option (SendRequest × Option ℕ)) Reason
+operation_in (Waits reason) = Err reason
+operation_in (Performs n) = Ok (Some (n.request, n.drawn))
+operation_in (Sends n) = Ok None
+
+-- the turn performs a local operation
+abbrev pub is_performing : RequestTurn → Bool
+is_performing (Performs n) = true
+is_performing turn = false
+
+-- nothing is revoked or granted
+abbrev pub no_marks : LocalMarks
+no_marks = record { revoked = None; granted = None }
+
+-- the end of the local operation that the queue pair's turn performs, apart from what it revokes and grants
+abbrev pub operation_end : QueuePair → Option OpRefusal → Effects
+operation_end q cause = by (turn_of q)
+  where
+    by : RequestTurn → Effects
+    by (Performs n) = operation_effects q n q no_marks cause
+    by turn = queue_and_marks q []
+
+-- the requester's numbers after a packet that ends below a PSN, and begins its request or not
+abbrev pub numbers_past : ℕ → Bool → RequesterNumbers → RequesterNumbers
+numbers_past end begins r = record r {
+  cursor = end;
+  next = if begins then suc r.next else r.next;
+}

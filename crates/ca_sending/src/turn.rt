@@ -1,0 +1,216 @@
+ghost use Rattle.std.specs.Prelude.{◌≡◌, ◌+◌, ◌<◌, ◌^◌, true, IfOk, IfErr, sum_by, nat_lt};
+ghost use Rattle.std.specs.List.{list_any};
+ghost use Rattle.ca_keys.specs.Refusals.{first_of};
+ghost use Rattle.ca_model.specs.machine.Invariants as invariants;
+ghost use Rattle.ca_model.specs.machine.Invariants.{IsQueue};
+ghost use Rattle.ca_model.specs.machine.Numbering as numbering;
+ghost use Rattle.ca_model.specs.machine.Requester as requester;
+ghost use Rattle.ca_qpstate.specs.Seen.{queue_of};
+ghost use Rattle.ca_rows.specs.Narrow.{AreNarrow};
+ghost use Rattle.ca_progress.specs.Numbering.{numbered_of, numbers_from, begun_from, IsWithin, IsNext, IsSound};
+ghost use Rattle.ca_sending.specs.Turn.{turn_on};
+
+use ca_base::limits::{MAX_OUTSTANDING_PACKETS, MAX_OUTSTANDING_PSNS};
+use ca_base::{Reason, State};
+use ca_progress::{Next, Numbered, begun_at, is_sending, next_request, numbered_at};
+use ca_qpstate::QueuePart;
+use ca_rows::{is_answered, is_local, is_read};
+
+/// The request on which a requester's turn does something, or the first reason for which it is not possible: `State`,
+/// `RnrWait`, `Empty`, `Fence`.
+#[inline(always)]
+pub(crate) fn turn_of(q: &QueuePart) -> Result<Next<'_>, Reason>
+    requires queue { IsQueue (queue_of q.now) }
+    requires narrow { AreNarrow (queue_of q.now) }
+    ensures waits { IfErr result (λ reason. requester.turn_of (queue_of q.now) ≡ requester.Waits reason) }
+    ensures acts { IfOk result (λ next. requester.turn_of (queue_of q.now) ≡ turn_on (numbered_of next.request)) }
+    ensures next { IfOk result (λ next. IsNext (queue_of q.now) next) }
+    ensures sending { IfOk result (λ next. invariants.is_sending q.now.state ≡ true) }
+{
+    if !is_sending(q.state) {
+        return Err(Reason::State);
+    }
+    match next_request(q) {
+        None if q.requester.waiting => Err(Reason::RnrWait),
+        None => Err(Reason::Empty),
+        Some(next) => match refusal(q, &next) {
+            Some(reason) => Err(reason),
+            None => Ok(next),
+        },
+    }
+}
+
+/// The first reason that stands against the next thing, which is one of this request.
+#[inline(always)]
+fn refusal(q: &QueuePart, next: &Next<'_>) -> Option<Reason>
+    requires queue { IsQueue (queue_of q.now) }
+    requires narrow { AreNarrow (queue_of q.now) }
+    requires next { IsNext (queue_of q.now) next.now }
+    requires sending { invariants.is_sending q.now.state ≡ true }
+    ensures { result ≡ first_of (requester.turn_refusals (queue_of q.now)) }
+{
+    if next.begins && matches!(q.state, State::Sqd) {
+        return Some(Reason::State);
+    }
+    if q.requester.waiting {
+        return Some(Reason::RnrWait);
+    }
+    if is_fenced(q, next) {
+        return Some(Reason::Fence);
+    }
+    None
+}
+
+/// Whether a request that begins has to wait for earlier ones: a local operation for all, one with the fence for READs
+/// and atomics.
+#[tactic(auto, using(ca_progress::proofs::NumberingLemmas::start_within))]
+#[inline(always)]
+fn is_fenced(q: &QueuePart, next: &Next<'_>) -> bool
+    requires queue { IsQueue (queue_of q.now) }
+    requires narrow { AreNarrow (queue_of q.now) }
+    requires next { IsNext (queue_of q.now) next.now }
+    ensures { result ≡ requester.is_fenced (queue_of q.now) }
+{
+    if !next.begins {
+        return false;
+    }
+    if is_local(next.request.op()) && q.requester.oldest < q.requester.next {
+        return true;
+    }
+    next.request.request().fence && awaits_answer(q, q.requester.oldest, q.requester.oldest_psn)
+}
+
+/// Whether one of the requests from a place on that have begun is a READ or an atomic.
+fn awaits_answer(q: &QueuePart, place: u64, first: u64) -> bool
+    requires queue { IsQueue (queue_of q.now) }
+    requires within { IsWithin place first (queue_of q.now) }
+    ensures { result ≡ list_any (λ m. numbering.is_answered_op m.request.op) (begun_from place first (queue_of q.now)) }
+{
+    match begun_at(q, place, first) {
+        None => false,
+        Some(n) if is_answered(n.op()) => true,
+        Some(n) => awaits_answer(q, place + 1, first + u64::from(n.count)),
+    }
+}
+
+/// The PSN behind the next packet: a READ Request takes those of all its responses.
+pub(crate) fn end_of_packet(q: &QueuePart, n: &Numbered<'_>) -> u64
+    requires narrow { AreNarrow (queue_of q.now) }
+    requires sound { IsSound (queue_of q.now) (numbered_of n.now) }
+    ensures value { result ≡ requester.end_of_packet (queue_of q.now) (numbered_of n.now) }
+    ensures narrow { result < 2 ^ 63 }
+{
+    if is_read(n.op()) {
+        n.end()
+    } else {
+        q.requester.cursor + 1
+    }
+}
+
+/// Whether with the packet too much would be outstanding: PSNs, request packets, or READs and atomics. Where no more PSNs
+/// would be than READs may be, nothing need be counted.
+#[inline(always)]
+pub(crate) fn is_too_much(q: &QueuePart, n: &Numbered<'_>) -> bool
+    requires queue { IsQueue (queue_of q.now) }
+    requires narrow { AreNarrow (queue_of q.now) }
+    requires sound { IsSound (queue_of q.now) (numbered_of n.now) }
+    ensures { result ≡ requester.is_too_much (queue_of q.now) (numbered_of n.now) }
+{
+    let upto = end_of_packet(q, n);
+    if upto.saturating_sub(q.requester.una) <= u64::from(q.requester.reads) {
+        return false;
+    }
+    is_too_much_counted(q, n)
+}
+
+/// The same, where all is counted.
+#[inline(never)]
+fn is_too_much_counted(q: &QueuePart, n: &Numbered<'_>) -> bool
+    requires queue { IsQueue (queue_of q.now) }
+    requires narrow { AreNarrow (queue_of q.now) }
+    requires sound { IsSound (queue_of q.now) (numbered_of n.now) }
+    ensures { result ≡ requester.is_too_much (queue_of q.now) (numbered_of n.now) }
+{
+    let upto = end_of_packet(q, n);
+    let oldest = q.requester.oldest;
+    let psn = q.requester.oldest_psn;
+    upto.saturating_sub(q.requester.una) > u64::from(MAX_OUTSTANDING_PSNS)
+        || has_more_packets(q, oldest, psn, upto, u64::from(MAX_OUTSTANDING_PACKETS))
+        || has_more_answers(q, oldest, psn, upto, u64::from(q.requester.reads))
+}
+
+/// Whether more request packets than so many lie from `una` on and below a PSN, among the requests from a place on. No
+/// more lie there than PSNs.
+fn has_more_packets(q: &QueuePart, place: u64, first: u64, upto: u64, most: u64) -> bool
+    requires queue { IsQueue (queue_of q.now) }
+    requires within { IsWithin place first (queue_of q.now) }
+    ensures { result ≡ nat_lt most (sum_by (requester.packets_between q.now.requester.una upto) (numbers_from place first (queue_of q.now))) }
+{
+    if upto.saturating_sub(q.requester.una.max(first)) <= most {
+        return false;
+    }
+    let Some(n) = numbered_at(q, place, first) else {
+        return false;
+    };
+    let packets = packets_between(q.requester.una, upto, &n);
+    packets > most
+        || has_more_packets(
+            q,
+            place + 1,
+            first + u64::from(n.count),
+            upto,
+            most - packets,
+        )
+}
+
+/// Whether more READs and atomics than so many lie there.
+fn has_more_answers(q: &QueuePart, place: u64, first: u64, upto: u64, most: u64) -> bool
+    requires queue { IsQueue (queue_of q.now) }
+    requires within { IsWithin place first (queue_of q.now) }
+    ensures { result ≡ nat_lt most (sum_by (requester.answers_between q.now.requester.una upto) (numbers_from place first (queue_of q.now))) }
+{
+    if upto.saturating_sub(q.requester.una.max(first)) <= most {
+        return false;
+    }
+    let Some(n) = numbered_at(q, place, first) else {
+        return false;
+    };
+    let answers = answers_between(q.requester.una, upto, &n);
+    answers > most
+        || has_more_answers(
+            q,
+            place + 1,
+            first + u64::from(n.count),
+            upto,
+            most - answers,
+        )
+}
+
+/// How many request packets of a request lie from one PSN on and below another; a READ counts once.
+fn packets_between(from: u64, upto: u64, n: &Numbered<'_>) -> u64
+    requires { n.now.first + n.now.count < 2 ^ 63 }
+    ensures { result ≡ requester.packets_between from upto (numbered_of n.now) }
+{
+    let psns = psns_between(from, upto, n);
+    if is_read(n.op()) { psns.min(1) } else { psns }
+}
+
+/// Whether a READ or an atomic has PSNs there, as 1 or 0.
+fn answers_between(from: u64, upto: u64, n: &Numbered<'_>) -> u64
+    requires { n.now.first + n.now.count < 2 ^ 63 }
+    ensures { result ≡ requester.answers_between from upto (numbered_of n.now) }
+{
+    if is_answered(n.op()) {
+        psns_between(from, upto, n).min(1)
+    } else {
+        0
+    }
+}
+
+/// How many PSNs of a request lie from one PSN on and below another.
+fn psns_between(from: u64, upto: u64, n: &Numbered<'_>) -> u64
+    requires { n.now.first + n.now.count < 2 ^ 63 }
+    ensures { result ≡ requester.psns_between from upto (numbered_of n.now) }
+{
+    upto.min(n.end()).saturating_sub(from.max(n.first))
+}

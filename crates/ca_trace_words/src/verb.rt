@@ -1,0 +1,171 @@
+ghost use Rattle.std.specs.Prelude.{◌≡◌, ◌++◌, ◌∷◌, [], OnOk, OnErr};
+ghost use Rattle.std.specs.Int.{w64};
+ghost use Rattle.ca_trace_words.specs.Words.{Fixed, OfSlot, Number, OfPieces, led, words, joined};
+ghost use Rattle.ca_trace_words.specs.Verbs.{call_words, change_words, poll_words, verb_words, call};
+
+use crate::post::put_operation;
+use crate::text::Text;
+use crate::words::Flags;
+use ca_base::{Change, Memory, Perhaps, RecvRequest, SendRequest, Slot};
+use ca_model::Verb;
+use std::mem;
+
+/// Appends the line of a script by which consumer `by` calls a verb, without its line feed. `Memory` leaves the output
+/// as it was.
+pub fn print_call(by: u32, verb: &Verb, out: &mut Vec<u8>) -> Result<(), Memory>
+    ensures ok { OnOk result (out.new.items ≡ out.old.items ++ call by verb.now) }
+    ensures err { OnErr result (out.new.items ≡ out.old.items) }
+{
+    let alloc = *out.allocator();
+    let mut text = Text::behind(mem::replace(out, Vec::new(alloc)));
+    match put_call(&mut text, by, verb) {
+        Ok(()) => {
+            *out = text.into_vec();
+            Ok(())
+        }
+        Err(memory) => {
+            *out = text.undo();
+            Err(memory)
+        }
+    }
+}
+
+/// Adds a consumer and the verb that it calls.
+pub fn put_call(text: &mut Text, by: u32, verb: &Verb) -> Result<(), Memory>
+    ensures ok { OnOk result (text.new.added ≡ text.old.added ++ joined 32 (words (call_words by verb.now))) }
+    ensures same { text.new.before ≡ text.old.before }
+{
+    text.put(format_args!("c{by}"))?;
+    put_verb(text, verb)
+}
+
+/// Adds the words of a verb, each after a space.
+fn put_verb(text: &mut Text, verb: &Verb) -> Result<(), Memory>
+    ensures ok { OnOk result (text.new.added ≡ text.old.added ++ led 32 (words (verb_words verb.now))) }
+    ensures same { text.new.before ≡ text.old.before }
+{
+    match verb {
+        Verb::AllocPd { domain } => text.put(format_args!(" pd {domain}")),
+        Verb::DeallocPd { domain } => text.put(format_args!(" unpd {domain}")),
+        Verb::RegMr {
+            slot,
+            buffer,
+            offset,
+            length,
+            rights,
+        } => text.put(format_args!(" reg {slot} {buffer} {offset} {length} {rights}")),
+        Verb::AllocMr { slot, pages } => text.put(format_args!(" mr {slot} {pages}")),
+        Verb::DeregMr { slot } => text.put(format_args!(" dereg {slot}")),
+        Verb::AllocMw { slot, kind } => text.put(format_args!(" mw {slot} {kind}")),
+        Verb::DeallocMw { slot } => text.put(format_args!(" unmw {slot}")),
+        Verb::CreateCq { slot, capacity } => text.put(format_args!(" cq {slot} {capacity}")),
+        Verb::DestroyCq { slot } => text.put(format_args!(" uncq {slot}")),
+        Verb::CreateSrq { slot, depth } => text.put(format_args!(" srq {slot} {depth}")),
+        Verb::DestroySrq { slot } => text.put(format_args!(" unsrq {slot}")),
+        Verb::CreateQp {
+            slot,
+            send_cq,
+            recv_cq,
+            send_depth,
+            recv_depth,
+            srq,
+        } => {
+            let srq = Perhaps(*srq);
+            text.put(format_args!(" qp {slot} {send_cq} {recv_cq} {send_depth} {recv_depth} {srq}"))
+        }
+        Verb::ModifyQp { slot, change } => put_change(text, *slot, change),
+        Verb::QueryQp { slot } => text.put(format_args!(" query {slot}")),
+        Verb::DestroyQp { slot } => text.put(format_args!(" unqp {slot}")),
+        Verb::PostSend { slot, request } => put_post(text, *slot, request),
+        Verb::PostRecv { slot, request } => put_receive(text, "recv", *slot, request),
+        Verb::PostSrq { slot, request } => put_receive(text, "srecv", *slot, request),
+        Verb::Poll { slot, n, least } => put_poll(text, *slot, *n, *least),
+        Verb::Store {
+            adapter,
+            buffer,
+            offset,
+            bytes,
+        } => {
+            text.put(format_args!(" store {adapter}/{buffer} {offset} "))?;
+            text.put_hex(bytes.as_slice())
+        }
+        Verb::Load {
+            adapter,
+            buffer,
+            offset,
+            length,
+        } => text.put(format_args!(" load {adapter}/{buffer} {offset} {length}")),
+        Verb::Inject { queue, bytes } => {
+            text.put(format_args!(" inject {queue} "))?;
+            text.put_hex(bytes.as_slice())
+        }
+    }
+}
+
+fn put_change(text: &mut Text, slot: Slot, change: &Change) -> Result<(), Memory>
+    ensures ok { OnOk result (text.new.added ≡ text.old.added ++ led 32 (words (change_words slot change.now))) }
+    ensures same { text.new.before ≡ text.old.before }
+{
+    match change {
+        Change::Reset => text.put(format_args!(" reset {slot}")),
+        Change::Init => text.put(format_args!(" init {slot}")),
+        Change::Rtr {
+            peer,
+            incarnation,
+            psn,
+            mtu,
+            rnr_code,
+        } => text.put(format_args!(" rtr {slot} {peer} {incarnation} {psn} {mtu} {rnr_code}")),
+        Change::Rts {
+            psn,
+            retry,
+            rnr_retry,
+            reads,
+        } => text.put(format_args!(" rts {slot} {psn} {retry} {rnr_retry} {reads}")),
+        Change::Sqd => text.put(format_args!(" sqd {slot}")),
+        Change::Resume => text.put(format_args!(" resume {slot}")),
+        Change::Error => text.put(format_args!(" error {slot}")),
+    }
+}
+
+fn put_post(text: &mut Text, slot: Slot, request: &SendRequest) -> Result<(), Memory>
+    ensures ok { OnOk result (text.new.added ≡ text.old.added ++ led 32 (words (verb_words (Verb.PostSend slot request.now)))) }
+    ensures same { text.new.before ≡ text.old.before }
+{
+    let id = request.id;
+    let flags = Flags {
+        signalled: request.signalled,
+        fence: request.fence,
+        solicited: request.solicited,
+    };
+    text.put(format_args!(" post {slot} {id} {flags}"))?;
+    put_operation(text, &request.op)
+}
+
+fn put_receive(
+    text: &mut Text,
+    name: &'static str,
+    slot: Slot,
+    request: &RecvRequest,
+) -> Result<(), Memory>
+    ensures ok { OnOk result (text.new.added ≡ text.old.added
+        ++ led 32 (words (Fixed name.now ∷ OfSlot slot ∷ Number w64 request.now.id ∷ OfPieces request.now.list.items ∷ []))) }
+    ensures same { text.new.before ≡ text.old.before }
+{
+    let id = request.id;
+    text.put(format_args!(" {name} {slot} {id} "))?;
+    text.put_pieces(request.list.as_slice())
+}
+
+fn put_poll(text: &mut Text, slot: Slot, n: u8, least: u8) -> Result<(), Memory>
+    ensures ok { OnOk result (text.new.added ≡ text.old.added ++ led 32 (words (poll_words slot n least))) }
+    ensures same { text.new.before ≡ text.old.before }
+{
+    if least == 0 {
+        text.put(format_args!(" poll {slot} {n}"))
+    } else if least == n {
+        text.put(format_args!(" wait {slot} {n}"))
+    } else {
+        text.put(format_args!(" poll {slot} {n} {least}"))
+    }
+}
