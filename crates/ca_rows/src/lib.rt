@@ -28,5 +28,5 @@ pub use operations::{
     is_answered, is_atomic, is_local, is_read, list_of, operation_of, psns_of, segments,
 };
 pub use packets::{peer_number, psn_bits, spell_packet};
-pub use reads::{bytes_together, join, keep_marks, read_granted};
+pub use reads::{join, keep_marks, read_granted};
 pub use writes::{cut_writes, write_all};

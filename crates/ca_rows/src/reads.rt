@@ -1,4 +1,4 @@
-ghost use Rattle.std.specs.Prelude.{◌≡◌, ◌+◌, ◌≤◌, ◌<◌, [], ◌∷◌, ◌++◌, true, false, is_some, None, IfNone, IfOk, IfSome, OnOk, OnErr, length, take};
+ghost use Rattle.std.specs.Prelude.{◌≡◌, ◌+◌, ◌≤◌, ◌<◌, [], ◌∷◌, ◌++◌, true, false, is_some, None, IfOk, OnOk, OnErr, length, take};
 ghost use Rattle.std.specs.List.{AllByRecursion};
 ghost use Rattle.ca_base.specs.Sight.{bytes_in, denial_in};
 ghost use Rattle.ca_base.specs.Sight as sights;
@@ -113,28 +113,29 @@ pub fn keep_marks(alloc: Global, marks: &mut Marks, count: usize)
     *marks = Marks::from(items);
 }
 
-/// The bytes that were read, as their marks have them, where they lie together: those of one access, or of none.
-#[inline(always)]
-pub fn bytes_together(reads: &[Mark]) -> Option<&[u8]>
-    ensures together { IfSome result (λ payload. payload.now ≡ bytes_read reads.now) }
-    ensures apart { IfNone result (2 ≤ length reads.now) }
+/// The bytes that were read, as their marks have them, one after another: those of one access lie together already, and
+/// those of several are joined in a list that is empty.
+pub fn join<'a>(reads: &'a [Mark], joined: &'a mut Vec<u8>) -> Result<&'a [u8], Memory>
+    requires { joined.old.items ≡ [] }
+    ensures { IfOk result (λ payload. payload.now ≡ bytes_read reads.now) }
 {
     match reads {
-        [] => Some(&[]),
-        [mark] => Some(bytes_of_mark(mark)),
-        _ => None,
+        [mark] => Ok(bytes_of_mark(mark)),
+        _ => {
+            append_all(reads, joined)?;
+            Ok(joined.as_slice())
+        }
     }
 }
 
-/// Adds the bytes that were read, as their marks have them, one after another, to a list.
-pub fn join(reads: &[Mark], joined: &mut Vec<u8>) -> Result<(), Memory>
+fn append_all(reads: &[Mark], joined: &mut Vec<u8>) -> Result<(), Memory>
     ensures { OnOk result (joined.new.items ≡ joined.old.items ++ bytes_read reads.now) }
 {
     let [mark, rest @ ..] = reads else {
         return Ok(());
     };
     joined.extend_from_slice(bytes_of_mark(mark))?;
-    join(rest, joined)
+    append_all(rest, joined)
 }
 
 /// The bytes of a mark of what was read; of another there are none.

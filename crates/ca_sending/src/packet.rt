@@ -83,7 +83,6 @@ pub(crate) fn fill_packet_asks(
 }
 
 /// Adds the bytes that spell the next packet, with this payload.
-#[inline(always)]
 pub(crate) fn spell(
     q: &QueuePart,
     n: &Numbered<'_>,

@@ -26,12 +26,10 @@ use arrayvec::ArrayVec;
 use ca_base::limits::MAX_PIECES;
 use ca_base::{Ask, Memory, Reason, Sent, StepError, WcStatus};
 use ca_grant::Reach;
-use ca_model::{Mark, Marks};
+use ca_model::Marks;
 use ca_progress::{Failure, Next, Numbered, fail};
 use ca_qpstate::QueuePart;
-use ca_rows::{
-    DeniedAsk, bytes_together, first_denied, is_local, join, keep_marks, local_denial, read_granted,
-};
+use ca_rows::{DeniedAsk, first_denied, is_local, join, keep_marks, local_denial, read_granted};
 use std::alloc::Global;
 
 /// The asks that `next_packet` may make, in order; it makes no other. It takes no memory.
@@ -264,53 +262,21 @@ fn read_then_spell<R: Reach>(
     if !read_granted(alloc, reach, asks, marks)? {
         return Ok(false);
     }
-    spell_behind(alloc, q, n, marks, count, out)?;
+    let mut joined = Vec::new(alloc);
+    let payload = payload_behind(marks, count, &mut joined)?;
+    spell(q, n, payload, out)?;
     Ok(true)
 }
 
-/// Spells a packet with the bytes that the marks behind so many tell of.
-#[inline(always)]
-fn spell_behind(
-    alloc: Global,
-    q: &QueuePart,
-    n: &Numbered<'_>,
-    marks: &Marks,
+/// The bytes that the marks behind so many tell of.
+fn payload_behind<'a>(
+    marks: &'a Marks,
     count: usize,
-    out: &mut Vec<u8>,
-) -> Result<(), Memory>
-    requires queue { IsQueue (queue_of q.now) }
-    requires packet { IsPacket (queue_of q.now) (numbered_of n.now) }
+    joined: &'a mut Vec<u8>,
+) -> Result<&'a [u8], Memory>
     requires count { count ≤ length marks.now.marks }
-    requires payload { length (bytes_read (drop count marks.now.marks)) ≤ MAX_PAYLOAD_BYTES }
-    ensures ok { OnOk result (out.new.items ≡ out.old.items ++ requester.spelt_packet (queue_of q.now) (numbered_of n.now) (bytes_read (drop count marks.now.marks))) }
-    ensures size { OnOk result (length out.new.items ≤ length out.old.items + MAX_PACKET_BYTES) }
-    ensures err { OnErr result (out.new.items ≡ out.old.items) }
+    requires joined { joined.old.items ≡ [] }
+    ensures { IfOk result (λ payload. payload.now ≡ bytes_read (drop count marks.now.marks)) }
 {
-    let reads = &marks.as_slice()[count..];
-    match bytes_together(reads) {
-        Some(payload) => spell(q, n, payload, out),
-        None => spell_joined(alloc, q, n, reads, out),
-    }
-}
-
-/// The same for the bytes of several marks. It stands apart, since that is rare.
-#[cold]
-#[inline(never)]
-fn spell_joined(
-    alloc: Global,
-    q: &QueuePart,
-    n: &Numbered<'_>,
-    reads: &[Mark],
-    out: &mut Vec<u8>,
-) -> Result<(), Memory>
-    requires queue { IsQueue (queue_of q.now) }
-    requires packet { IsPacket (queue_of q.now) (numbered_of n.now) }
-    requires payload { length (bytes_read reads.now) ≤ MAX_PAYLOAD_BYTES }
-    ensures ok { OnOk result (out.new.items ≡ out.old.items ++ requester.spelt_packet (queue_of q.now) (numbered_of n.now) (bytes_read reads.now)) }
-    ensures size { OnOk result (length out.new.items ≤ length out.old.items + MAX_PACKET_BYTES) }
-    ensures err { OnErr result (out.new.items ≡ out.old.items) }
-{
-    let mut joined = Vec::new(alloc);
-    join(reads, &mut joined)?;
-    spell(q, n, joined.as_slice(), out)
+    join(&marks.as_slice()[count..], joined)
 }

@@ -1,24 +1,23 @@
-use Rattle.std.proofs.Common.{rules, arith, refl, ◌≡◌, ◌∙◌, ◌++◌, ℕ, List, ap, drop, length, subst}
+use Rattle.std.proofs.Common.{rules, arith, ◌≡◌, ◌∙◌, ◌++◌, ℕ, List, ap, length, subst}
 use Rattle.ca_model.specs.machine.Requester.{spelt_packet}
 use Rattle.ca_qpstate.specs.Seen.{queue_of}
-use Rattle.ca_progress.specs.Numbering.{numbered_of}
-use Rattle.ca_rows.specs.Asks.{bytes_read}
 use Rattle.ca_sending.proofs.TurnLemmas.{payload-read, reads-joined}
+use Rattle.ca_progress.specs.Numbering.{numbered_of}
 use Rattle.ca_sending.proofs.sending.read_then_spell.Goals as goal
 
-pub spell_behind-requires-clause-payload : goal.spell_behind-requires-clause-payload
-spell_behind-requires-clause-payload g c =
+pub spell-requires-clause-payload : goal.spell-requires-clause-payload
+spell-requires-clause-payload g c =
     omega (
       arith,
       c.in_ok-read_granted.ensures.count,
       c.requires.touched,
       ap length (payload-read (g.R.Reach.sight c.args.reach.now) c.args.asks.now c.args.marks.now.marks c.read_granted.new.marks.marks
-          (length c.as_slice-count.result.now) (bytes_read (drop (length c.as_slice-count.result.now) c.read_granted.new.marks.marks)) (search rules) (search rules) refl),
+          (length c.as_slice-count.result.now) c.in_ok-payload.payload.now (search rules) (search rules) (search rules)),
     )
 
 pub returns-clause-out : goal.returns-clause-out
 returns-clause-out g c =
-    let P : List ℕ → Type 0 = λ bytes. c.spell_behind.new.out.items ≡ c.args.out.now.items ++ spelt_packet (queue_of c.args.q.now) (numbered_of c.args.n.now) bytes in
+    let P : List ℕ → Type 0 = λ bytes. c.spell.new.out.items ≡ c.args.out.now.items ++ spelt_packet (queue_of c.args.q.now) (numbered_of c.args.n.now) bytes in
     λ granted. subst P (payload-read (g.R.Reach.sight c.args.reach.now) c.args.asks.now c.args.marks.now.marks c.read_granted.new.marks.marks
-    (length c.as_slice-count.result.now) (bytes_read (drop (length c.as_slice-count.result.now) c.read_granted.new.marks.marks)) (search rules) (search rules) refl
-    ∙ reads-joined (g.R.Reach.sight c.args.reach.now) c.args.asks.now) c.in_ok-spell_behind.ensures.ok
+    (length c.as_slice-count.result.now) c.in_ok-payload.payload.now (search rules) (search rules) (search rules)
+    ∙ reads-joined (g.R.Reach.sight c.args.reach.now) c.args.asks.now) c.in_ok-spell.ensures.ok
