@@ -1,6 +1,7 @@
-use super::{OTHER_QUEUE, QUEUE, Row, entry, rows_are, text_of};
-use ca_base::{Lot, QueueId};
-use ca_model::Event;
+use super::rows_are;
+use crate::{OTHER_QUEUE, QUEUE, Row, text_of};
+use ca_base::{Lot, Memory, QueueId};
+use ca_model::{Entry, Event, Marks};
 use std::alloc::Global;
 use std::test::Fail;
 
@@ -109,12 +110,20 @@ const TURNS: [(u64, Event); 12] = [
 ];
 
 // The entry of a turn that has no marks.
+pub fn entry(alloc: Global, stamp: u64, pass: u32, event: Event) -> Entry {
+    Entry {
+        stamp,
+        pass,
+        event,
+        marks: Marks::empty(alloc),
+    }
+}
+
 impl Row for (u64, Event) {
-    fn text(&self, alloc: Global) -> Result<Vec<u8>, Fail> {
+    fn text(&self, alloc: Global) -> Result<Vec<u8>, Memory> {
         let (stamp, event) = self;
         let event = event.clone()?;
-        let entry = entry(alloc, *stamp, event, None)?;
-        text_of(alloc, &entry)
+        text_of(alloc, entry(alloc, *stamp, 0, event))
     }
 }
 

@@ -1,16 +1,9 @@
-use super::{OTHER_QUEUE, OTHER_SLOT, SLOT, call_is, list_of};
-use ca_base::{Bytes, DomainId, Key, Pages, Piece, RecvRequest, Rights, SendOp, SendRequest, Slot};
+use super::{call_is, list_of};
+use ca_base::{Bytes, DomainId, Key, Pages, Piece, RecvRequest, SendOp, SendRequest, Slot};
 use ca_model::{Answer, Refusal, Verb};
+use ca_tests_trace::{OTHER_QUEUE, OTHER_SLOT, RIGHTS, SLOT};
 use std::process::Abort;
 use std::test::Fail;
-
-const RIGHTS: Rights = Rights {
-    local_write: true,
-    remote_read: true,
-    remote_write: true,
-    remote_atomic: true,
-    window_bind: true,
-};
 
 fn piece(address: u64, key: u32, length: u32) -> Piece {
     Piece {
