@@ -1,4 +1,5 @@
-//! The greatest number of each field, whether it may occur or not.
+//! The greatest number of each field, whether it may occur or not. The longest lines have these, and the longest name of
+//! each choice.
 
 use ca_base::{DomainId, Key, QueueId};
 

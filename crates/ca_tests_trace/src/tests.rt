@@ -6,7 +6,7 @@ mod turns;
 
 use crate::{Row, line_of, lines_of};
 use ca_base::Memory;
-use ca_model::Mark;
+use ca_model::{Entry, Event, Mark, Marks};
 use ca_trace::print_reply;
 use std::alloc::Global;
 use std::process::Abort;
@@ -22,6 +22,16 @@ fn rows_are<R: Abort + AllocGlobal, T: Row>(rt: &R, rows: &[T], lines: &str) -> 
     let text = lines_of(rt.alloc(), rows)?;
     lines_are(rt, text.as_slice(), lines);
     Ok(())
+}
+
+// The entry of a turn that has no marks.
+fn entry(alloc: Global, stamp: u64, pass: u32, event: Event) -> Entry {
+    Entry {
+        stamp,
+        pass,
+        event,
+        marks: Marks::empty(alloc),
+    }
 }
 
 impl Row for Mark {

@@ -1,5 +1,4 @@
-use super::turns::entry;
-use super::{lines_are, mark_is, rows_are};
+use super::{entry, lines_are, mark_is, rows_are};
 use crate::longest::{DOMAIN, KEY, LONG, QUEUE, WORD};
 use crate::{RIGHTS, text_of};
 use ca_base::{

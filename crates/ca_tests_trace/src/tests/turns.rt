@@ -1,7 +1,7 @@
-use super::rows_are;
+use super::{entry, rows_are};
 use crate::{OTHER_QUEUE, QUEUE, Row, text_of};
 use ca_base::{Lot, Memory, QueueId};
-use ca_model::{Entry, Event, Marks};
+use ca_model::Event;
 use std::alloc::Global;
 use std::test::Fail;
 
@@ -108,16 +108,6 @@ const TURNS: [(u64, Event); 12] = [
     ),
     (19, Event::RnrWake { queue: QUEUE }),
 ];
-
-// The entry of a turn that has no marks.
-pub fn entry(alloc: Global, stamp: u64, pass: u32, event: Event) -> Entry {
-    Entry {
-        stamp,
-        pass,
-        event,
-        marks: Marks::empty(alloc),
-    }
-}
 
 impl Row for (u64, Event) {
     fn text(&self, alloc: Global) -> Result<Vec<u8>, Memory> {
