@@ -1,4 +1,4 @@
-ghost use Rattle.std.specs.Prelude.{◌≡◌, IfOk};
+ghost use Rattle.std.specs.Prelude.{◌≡◌, ◌∷◌, [], ◌++◌, IfOk, IfSome};
 ghost use Rattle.ca_model.specs.Entries.{entry_of};
 ghost use Rattle.ca_trace.specs.Trace.{entry_text};
 
@@ -40,11 +40,16 @@ pub fn lines_of<T: Row>(alloc: Global, rows: &[T]) -> Result<Vec<u8>, Memory> {
     Ok(lines)
 }
 
-/// A text without its last line feed, or "no line" where it has none there.
-pub fn line_of(text: &[u8]) -> &str {
+/// A text without its last line feed; None where it has none there, or is not UTF-8.
+pub fn line_of(text: &[u8]) -> Option<&str>
+    ensures { IfSome result (λ line. text.now ≡ line.now ++ 10 ∷ []) }
+{
     match text.split_last() {
-        Some((b'\n', line)) => str::from_utf8(line).unwrap_or("no text"),
-        _ => "no line",
+        Some((b'\n', line)) => match str::from_utf8(line) {
+            Ok(line) => Some(line),
+            Err(_) => None,
+        },
+        _ => None,
     }
 }
 

@@ -14,7 +14,7 @@ use std::test::Fail;
 
 // The text is these lines.
 fn lines_are(rt: &impl Abort, text: &[u8], want: &str) {
-    assert_eq!(rt; line_of(text), want);
+    assert_eq!(rt; line_of(text), Some(want));
 }
 
 // These rows are these lines.

@@ -143,7 +143,7 @@ fn the_longest_requests_print(rt: HostRuntime) -> Result<(), Fail> {
         key: KEY,
         compare: LONG,
         swap: LONG,
-        list: list_of(&[PIECE, PIECE, PIECE, PIECE])?,
+        list: list_of(&[PIECE, PIECE, PIECE, PIECE]),
     };
     let line =
         "@18446744073709551615 p0 c4294967295 post 255/255/65535 18446744073709551615 sfe cas 0xffffffffffffffff 0xffffffff 18446744073709551615 18446744073709551615 0xffffffff:0xffffffffffffffff:4294967295,0xffffffff:0xffffffffffffffff:4294967295,0xffffffff:0xffffffffffffffff:4294967295,0xffffffff:0xffffffffffffffff:4294967295 -> posted 0xffffffff";
