@@ -1,9 +1,9 @@
-use super::{
-    OTHER_QUEUE, QUEUE, Row, SLOT, call_entry, is_text, mark_is, mark_text, rows_are, text_of,
+use super::{mark_is, mark_text, rows_are};
+use crate::{OTHER_QUEUE, QUEUE, Row};
+use ca_base::{
+    Completion, Key, Memory, OpRefusal, QueueId, RegionError, WcOp, WcStatus, WindowError,
 };
-use arrayvec::ArrayVec;
-use ca_base::{Completion, Key, OpRefusal, QueueId, RegionError, WcOp, WcStatus, WindowError};
-use ca_model::{Answer, Completions, Entry, Mark, Verb};
+use ca_model::Mark;
 use std::alloc::Global;
 use std::test::Fail;
 
@@ -403,8 +403,8 @@ fn mark_of(row: &Done) -> Mark {
 }
 
 impl Row for Done {
-    fn text(&self, alloc: Global) -> Result<Vec<u8>, Fail> {
-        mark_text(alloc, &mark_of(self))
+    fn text(&self, alloc: Global) -> Result<Vec<u8>, Memory> {
+        mark_text(alloc, mark_of(self))
     }
 }
 
@@ -440,97 +440,4 @@ fn done(completion: Completion) -> Mark {
 fn a_completion_prints_the_key_that_was_invalidated(rt: HostRuntime) -> Result<(), Fail> {
     let line = " done 0/512 recv 3 1008 recv success 0 - 0x01000401 -";
     mark_is(&rt, done(INVALIDATING), line)
-}
-
-/// A poll that took four completions.
-const POLLED: &str = "@19 p0 c0 wait 0/0/0 4 -> polled 4
- got 0/257 recv 0 1003 recv-imm success 8 109352156 -
- got 1/513 send 0 3 cmp-swap success 8 - -
- got 0/256 send 0 1 fetch-add success 8 - -
- got 1/256 recv 0 9 recv success 300 - -
-";
-
-const TAKEN: &[Completion] = &[
-    Completion {
-        id: 1003,
-        queue: QueueId {
-            adapter: 0,
-            number: 257,
-        },
-        receive: true,
-        place: 0,
-        status: WcStatus::Success,
-        op: WcOp::RecvImm,
-        bytes: 8,
-        imm: Some(109352156),
-        invalidated: None,
-    },
-    Completion {
-        id: 3,
-        queue: QueueId {
-            adapter: 1,
-            number: 513,
-        },
-        receive: false,
-        place: 0,
-        status: WcStatus::Success,
-        op: WcOp::CmpSwap,
-        bytes: 8,
-        imm: None,
-        invalidated: None,
-    },
-    Completion {
-        id: 1,
-        queue: QUEUE,
-        receive: false,
-        place: 0,
-        status: WcStatus::Success,
-        op: WcOp::FetchAdd,
-        bytes: 8,
-        imm: None,
-        invalidated: None,
-    },
-    Completion {
-        id: 9,
-        queue: OTHER_QUEUE,
-        receive: true,
-        place: 0,
-        status: WcStatus::Success,
-        op: WcOp::Recv,
-        bytes: 300,
-        imm: None,
-        invalidated: None,
-    },
-];
-
-fn polled(alloc: Global, completions: &[Completion]) -> Result<Answer, Fail> {
-    let mut taken = ArrayVec::new();
-    for completion in completions {
-        taken.try_push(*completion)?;
-    }
-    let taken = Completions::copy_of(alloc, &taken)?;
-    Ok(Answer::Polled(taken))
-}
-
-const POLL: Verb = Verb::Poll {
-    slot: SLOT,
-    n: 4,
-    least: 4,
-};
-
-fn poll_entry(alloc: Global, completions: &[Completion]) -> Result<Entry, Fail> {
-    let answer = polled(alloc, completions)?;
-    call_entry(alloc, 19, 0, &POLL, &answer)
-}
-
-fn poll_text(alloc: Global, completions: &[Completion]) -> Result<Vec<u8>, Fail> {
-    let entry = poll_entry(alloc, completions)?;
-    text_of(alloc, &entry)
-}
-
-#[test]
-fn a_poll_prints_what_it_took(rt: HostRuntime) -> Result<(), Fail> {
-    let text = poll_text(rt.alloc(), TAKEN)?;
-    is_text(&rt, text.as_slice(), POLLED);
-    Ok(())
 }

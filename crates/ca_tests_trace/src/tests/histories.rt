@@ -1,5 +1,6 @@
-use super::{HERE, OTHER_SLOT, SLOT, THERE, is_text};
-use ca_base::{DomainId, Slot};
+use super::lines_are;
+use crate::{HERE, OTHER_SLOT, SLOT, THERE};
+use ca_base::{DomainId, Memory, Slot};
 use ca_model::{Answer, Entry, Event, History, Mark, Marks, Verb};
 use ca_trace::print_history;
 use std::alloc::Global;
@@ -10,8 +11,7 @@ const TEXT: &str = "@0 p0 c0 pd 0/0 -> ok
 @1 p0 c1 pd 1/0 -> ok
 @2 p0 c0 cq 0/0/0 8 -> ok
 @3 p0 c1 cq 1/0/0 8 -> ok
-end 4
-";
+end 4";
 
 // A consumer allocates a protection domain, and it is done.
 fn push_domain(
@@ -19,7 +19,7 @@ fn push_domain(
     history: &mut History,
     by: u32,
     domain: DomainId,
-) -> Result<(), Fail> {
+) -> Result<(), Memory> {
     let mut marks = Marks::empty(alloc);
     marks.reserve(1)?;
     marks.push(Mark::Verb {
@@ -41,7 +41,7 @@ fn push_domain(
 }
 
 // A consumer creates a completion queue for eight completions, and it is done.
-fn push_queue(alloc: Global, history: &mut History, by: u32, slot: Slot) -> Result<(), Fail> {
+fn push_queue(alloc: Global, history: &mut History, by: u32, slot: Slot) -> Result<(), Memory> {
     let mut marks = Marks::empty(alloc);
     marks.reserve(1)?;
     marks.push(Mark::Verb {
@@ -63,14 +63,14 @@ fn push_queue(alloc: Global, history: &mut History, by: u32, slot: Slot) -> Resu
 }
 
 // Each consumer allocates a protection domain and creates a completion queue.
-fn push_calls(alloc: Global, history: &mut History) -> Result<(), Fail> {
+fn push_calls(alloc: Global, history: &mut History) -> Result<(), Memory> {
     push_domain(alloc, history, 0, HERE)?;
     push_domain(alloc, history, 1, THERE)?;
     push_queue(alloc, history, 0, SLOT)?;
     push_queue(alloc, history, 1, OTHER_SLOT)
 }
 
-fn history_text(alloc: Global) -> Result<Vec<u8>, Fail> {
+fn history_text(alloc: Global) -> Result<Vec<u8>, Memory> {
     let mut history = History::empty(alloc);
     push_calls(alloc, &mut history)?;
     let mut out = Vec::new(alloc);
@@ -81,6 +81,6 @@ fn history_text(alloc: Global) -> Result<Vec<u8>, Fail> {
 #[test]
 fn a_history_prints_whole(rt: HostRuntime) -> Result<(), Fail> {
     let text = history_text(rt.alloc())?;
-    is_text(&rt, text.as_slice(), TEXT);
+    lines_are(&rt, text.as_slice(), TEXT);
     Ok(())
 }

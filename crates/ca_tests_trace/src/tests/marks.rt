@@ -1,6 +1,7 @@
-use super::{HERE, OTHER_QUEUE, QUEUE, Row, THERE, mark_is, mark_text, rows_are};
+use super::{mark_is, mark_text, rows_are};
+use crate::{HERE, OTHER_QUEUE, QUEUE, Row, THERE};
 use ca_base::{
-    Bytes, Denial, DomainId, Grant, Key, Kind, Place, QueueId, Rights, Run, Runs, Verdict,
+    Bytes, Denial, DomainId, Grant, Key, Kind, Memory, Place, QueueId, Rights, Run, Runs, Verdict,
 };
 use ca_model::{Drop1, Mark};
 use ca_wire::WireError;
@@ -321,7 +322,7 @@ const GRANTS: &[GrantRow] = &[
     ),
 ];
 
-fn grant_of(alloc: Global, row: &GrantRow) -> Result<Mark, Fail> {
+fn grant_of(alloc: Global, row: &GrantRow) -> Result<Mark, Memory> {
     let (key, local, queue, address, length, rights, runs) = *row;
     let runs = Runs::copy_of(alloc, runs)?;
     Ok(Mark::Granted(Grant {
@@ -337,9 +338,9 @@ fn grant_of(alloc: Global, row: &GrantRow) -> Result<Mark, Fail> {
 }
 
 impl Row for GrantRow {
-    fn text(&self, alloc: Global) -> Result<Vec<u8>, Fail> {
+    fn text(&self, alloc: Global) -> Result<Vec<u8>, Memory> {
         let mark = grant_of(alloc, self)?;
-        mark_text(alloc, &mark)
+        mark_text(alloc, mark)
     }
 }
 
@@ -400,7 +401,7 @@ const PACKETS: &[Packet] = &[
     ),
 ];
 
-fn packet_of(alloc: Global, row: &Packet) -> Result<Mark, Fail> {
+fn packet_of(alloc: Global, row: &Packet) -> Result<Mark, Memory> {
     let (source, target, index, request, bytes) = *row;
     let bytes = Bytes::copy_of(alloc, bytes)?;
     Ok(Mark::Sent {
@@ -413,9 +414,9 @@ fn packet_of(alloc: Global, row: &Packet) -> Result<Mark, Fail> {
 }
 
 impl Row for Packet {
-    fn text(&self, alloc: Global) -> Result<Vec<u8>, Fail> {
+    fn text(&self, alloc: Global) -> Result<Vec<u8>, Memory> {
         let mark = packet_of(alloc, self)?;
-        mark_text(alloc, &mark)
+        mark_text(alloc, mark)
     }
 }
 
@@ -495,7 +496,7 @@ fn verdict_of(kind: Kind, bytes: Bytes) -> Verdict {
     }
 }
 
-fn access_of(alloc: Global, row: &Access) -> Result<Mark, Fail> {
+fn access_of(alloc: Global, row: &Access) -> Result<Mark, Memory> {
     let (queue, domain, envelope, key, kind, address, length, bytes) = *row;
     let verdict = verdict_of(kind, Bytes::copy_of(alloc, bytes)?);
     Ok(Mark::Remote {
@@ -511,9 +512,9 @@ fn access_of(alloc: Global, row: &Access) -> Result<Mark, Fail> {
 }
 
 impl Row for Access {
-    fn text(&self, alloc: Global) -> Result<Vec<u8>, Fail> {
+    fn text(&self, alloc: Global) -> Result<Vec<u8>, Memory> {
         let mark = access_of(alloc, self)?;
-        mark_text(alloc, &mark)
+        mark_text(alloc, mark)
     }
 }
 

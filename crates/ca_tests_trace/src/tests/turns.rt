@@ -1,5 +1,6 @@
-use super::{OTHER_QUEUE, QUEUE, Row, entry, rows_are, text_of};
-use ca_base::{Lot, QueueId};
+use super::{entry, rows_are};
+use crate::{OTHER_QUEUE, QUEUE, Row, text_of};
+use ca_base::{Lot, Memory, QueueId};
 use ca_model::Event;
 use std::alloc::Global;
 use std::test::Fail;
@@ -108,13 +109,11 @@ const TURNS: [(u64, Event); 12] = [
     (19, Event::RnrWake { queue: QUEUE }),
 ];
 
-// The entry of a turn that has no marks.
 impl Row for (u64, Event) {
-    fn text(&self, alloc: Global) -> Result<Vec<u8>, Fail> {
+    fn text(&self, alloc: Global) -> Result<Vec<u8>, Memory> {
         let (stamp, event) = self;
         let event = event.clone()?;
-        let entry = entry(alloc, *stamp, event, None)?;
-        text_of(alloc, &entry)
+        text_of(alloc, entry(alloc, *stamp, 0, event))
     }
 }
 

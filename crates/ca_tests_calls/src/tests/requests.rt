@@ -1,16 +1,9 @@
-use super::{OTHER_QUEUE, OTHER_SLOT, SLOT, call_is, list_of};
-use ca_base::{Bytes, DomainId, Key, Pages, Piece, RecvRequest, Rights, SendOp, SendRequest, Slot};
+use super::{call_is, list_of};
+use ca_base::{Bytes, DomainId, Key, Pages, Piece, RecvRequest, SendOp, SendRequest, Slot};
 use ca_model::{Answer, Refusal, Verb};
+use ca_tests_trace::{OTHER_QUEUE, OTHER_SLOT, RIGHTS, SLOT};
 use std::process::Abort;
 use std::test::Fail;
-
-const RIGHTS: Rights = Rights {
-    local_write: true,
-    remote_read: true,
-    remote_write: true,
-    remote_atomic: true,
-    window_bind: true,
-};
 
 fn piece(address: u64, key: u32, length: u32) -> Piece {
     Piece {
@@ -55,19 +48,19 @@ fn sends_print_their_lists(rt: HostRuntime) -> Result<(), Fail> {
         piece(0x1_0000_eb5b, 1, 1),
         piece(0x1_0000_2efa, 0x101, 0),
         piece(0x1_0000_a1aa, 1, 2),
-    ])?;
+    ]);
     let line =
         "@112 p0 c0 post 0/0/0 4 s send 0x00000101:0x1000072a6:5,0x00000001:0x10000eb5b:1,0x00000101:0x100002efa:0,0x00000001:0x10000a1aa:2 -> posted -";
     post_is(&rt, 112, 0, SLOT, 4, SendOp::Send { list }, line)?;
     let op = SendOp::SendImm {
         imm: 2_729_858_276,
-        list: list_of(&[])?,
+        list: list_of(&[]),
     };
     let line = "@92 p0 c1 post 1/0/0 4 s sendimm 2729858276 - -> posted -";
     post_is(&rt, 92, 1, OTHER_SLOT, 4, op, line)?;
     let op = SendOp::SendInv {
         key: Key(0x0080_01ff),
-        list: list_of(&[])?,
+        list: list_of(&[]),
     };
     let line = "@170 p0 c2 post 1/1/1 3 s sendinv 0x008001ff - -> posted -";
     post_is(&rt, 170, 2, slot(1, 1, 1), 3, op, line)
@@ -78,7 +71,7 @@ fn accesses_print_what_they_reach(rt: HostRuntime) -> Result<(), Fail> {
     let op = SendOp::Read {
         address: 0x3_0001_07d1,
         key: Key(0x0100_0001),
-        list: list_of(&[])?,
+        list: list_of(&[]),
     };
     let line = "@42 p0 c0 post 0/0/0 5 s read 0x3000107d1 0x01000001 - -> posted -";
     post_is(&rt, 42, 0, SLOT, 5, op, line)?;
@@ -86,14 +79,14 @@ fn accesses_print_what_they_reach(rt: HostRuntime) -> Result<(), Fail> {
         address: 0x1_0000_2c5e,
         key: Key(0x0200_0101),
         imm: 2_928_881_333,
-        list: list_of(&[])?,
+        list: list_of(&[]),
     };
     let line = "@80 p0 c0 post 0/0/0 2 s writeimm 0x100002c5e 0x02000101 2928881333 - -> posted -";
     post_is(&rt, 80, 0, SLOT, 2, op, line)?;
     let op = SendOp::Write {
         address: 0,
         key: Key(0xdead_beef),
-        list: list_of(&[])?,
+        list: list_of(&[]),
     };
     let line = "@14 p0 c0 post 0/0/0 1 s write 0x0 0xdeadbeef - -> posted -";
     post_is(&rt, 14, 0, SLOT, 1, op, line)
@@ -106,7 +99,7 @@ fn atomics_print_their_numbers(rt: HostRuntime) -> Result<(), Fail> {
         key: Key(0x0100_0201),
         compare: 0,
         swap: 7,
-        list: list_of(&[piece(0, 1, 8)])?,
+        list: list_of(&[piece(0, 1, 8)]),
     };
     let line =
         "@52 p0 c0 post 0/0/0 4 s cas 0x100000030 0x01000201 0 7 0x00000001:0x0:8 -> posted -";
@@ -115,7 +108,7 @@ fn atomics_print_their_numbers(rt: HostRuntime) -> Result<(), Fail> {
         address: 0x1_0000_7e40,
         key: Key(0x101),
         add: 1,
-        list: list_of(&[piece(0x2cac, 0x0100_0307, 8)])?,
+        list: list_of(&[piece(0x2cac, 0x0100_0307, 8)]),
     };
     let line =
         "@94 p0 c0 post 0/1/0 5 s add 0x100007e40 0x00000101 1 0x01000307:0x2cac:8 -> posted -";
@@ -141,7 +134,7 @@ fn a_fast_registration_prints_its_pages(rt: HostRuntime) -> Result<(), Fail> {
 fn receives_print_their_lists(rt: HostRuntime) -> Result<(), Fail> {
     let request = RecvRequest {
         id: 1021,
-        list: list_of(&[piece(0x1_0000_0c14, 0x201, 4)])?,
+        list: list_of(&[piece(0x1_0000_0c14, 0x201, 4)]),
     };
     let slot = slot(0, 0, 2);
     let line = "@97 p0 c0 recv 0/0/2 1021 0x00000201:0x100000c14:4 -> refused has-srq";
@@ -153,7 +146,7 @@ fn receives_print_their_lists(rt: HostRuntime) -> Result<(), Fail> {
 fn shared_receives_print_their_lists(rt: HostRuntime) -> Result<(), Fail> {
     let request = RecvRequest {
         id: 1003,
-        list: list_of(&[])?,
+        list: list_of(&[]),
     };
     let slot = slot(0, 2, 0);
     let line = "@52 p0 c2 srecv 0/2/0 1003 - -> posted -";

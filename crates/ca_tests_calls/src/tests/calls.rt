@@ -1,11 +1,12 @@
-use super::{Call, HERE, OTHER_QUEUE, OTHER_SLOT, Row, SLOT, call_entry, rows_are, text_of};
-use ca_base::{Change, DomainId, Field, Key, Rights, SendOp, SendRequest, Slot, State};
+use super::{Call, call_text, rows_are};
+use ca_base::{Change, DomainId, Field, Key, Memory, Rights, SendOp, SendRequest, Slot, State};
 use ca_model::{Answer, Refusal, Verb};
+use ca_tests_trace::{HERE, OTHER_QUEUE, OTHER_SLOT, Row, SLOT};
 use std::alloc::Global;
 use std::test::Fail;
 
-/// The lines of calls. The last five have a poll that takes fewer than it may and states that the others lack.
-const LINES: &str = "@0 p0 c0 pd 0/0 -> ok
+/// The lines of calls that make an object or end it.
+const MADE: &str = "@0 p0 c0 pd 0/0 -> ok
 @87 p0 c0 unpd 0/3 -> refused no-domain
 @3 p0 c0 reg 0/0/0 0 0 64 l -> key 0x00000001
 @6 p0 c0 reg 0/0/0 1 0 35000 - -> key 0x00000001
@@ -19,33 +20,12 @@ const LINES: &str = "@0 p0 c0 pd 0/0 -> ok
 @69 p0 c1 unsrq 0/1/0 -> ok
 @2 p0 c0 qp 0/0/0 0 0 4 4 - -> qp 256 1
 @3 p0 c0 qp 0/0/0 0 0 1 0 0 -> qp 256 1
-@5 p0 c1 reset 0/0/0 -> ok
-@4 p0 c0 init 0/0/0 -> ok
-@5 p0 c0 rtr 0/0/0 1/256 1 0 256 12 -> ok
-@9 p0 c0 rts 0/0/1 0 7 7 2 -> ok
-@47 p0 c1 sqd 1/0/0 -> ok
-@50 p0 c1 resume 1/0/0 -> ok
-@49 p0 c0 error 0/0/0 -> ok
-@23 p0 c0 query 0/0/0 -> state reset 2 0 0
-@51 p0 c2 query 1/1/1 -> state rts 1 0 0
-@286 p0 c2 query 0/2/1 -> state error 2 1 0
-@55 p0 c0 unqp 0/0/0 -> ok
-@28 p0 c0 poll 0/0/0 0 -> refused out-of-range:length
-@116 p0 c1 load 0/0 2772 4096 -> refused outside-buffer
-@51 p0 c0 post 0/0/0 3 - bind1 2 0x00000201 0x200000000 0 r -> posted 0x00800201
-@15 p0 c0 post 0/0/0 1 s bind2 0 0x00000001 9 0x100000000 64 w -> posted -
-@71 p0 c1 post 1/0/0 7 - inv 0x01000001 -> posted -
-@104 p0 c0 post 0/0/1 10 sfe inv 0x00000300 -> posted -
-@28 p0 c0 poll 0/0/0 2 1 -> refused no-such
-@28 p0 c0 wait 0/0/0 2 -> refused no-such
-@23 p0 c0 query 0/0/0 -> state init 1 0 0
-@23 p0 c0 query 0/0/0 -> state rtr 1 0 0
-@23 p0 c0 query 0/0/0 -> state sqd 1 0 0";
+@55 p0 c0 unqp 0/0/0 -> ok";
 
 /// The stamp, the consumer, the verb and its answer of each line.
-const CALLS: [Call; 36] = [
-    (0, 0, Verb::AllocPd { domain: HERE }, Answer::Fine),
-    (
+const MAKING: [Call; 15] = [
+    Call(0, 0, Verb::AllocPd { domain: HERE }, Answer::Fine),
+    Call(
         87,
         0,
         Verb::DeallocPd {
@@ -56,7 +36,7 @@ const CALLS: [Call; 36] = [
         },
         Answer::Refused(Refusal::NoDomain),
     ),
-    (
+    Call(
         3,
         0,
         Verb::RegMr {
@@ -74,7 +54,7 @@ const CALLS: [Call; 36] = [
         },
         Answer::Key(Key(0x00000001)),
     ),
-    (
+    Call(
         6,
         0,
         Verb::RegMr {
@@ -92,7 +72,7 @@ const CALLS: [Call; 36] = [
         },
         Answer::Key(Key(0x00000001)),
     ),
-    (
+    Call(
         6,
         0,
         Verb::AllocMr {
@@ -104,8 +84,8 @@ const CALLS: [Call; 36] = [
         },
         Answer::Fine,
     ),
-    (20, 0, Verb::DeregMr { slot: SLOT }, Answer::Fine),
-    (
+    Call(20, 0, Verb::DeregMr { slot: SLOT }, Answer::Fine),
+    Call(
         9,
         0,
         Verb::AllocMw {
@@ -114,8 +94,8 @@ const CALLS: [Call; 36] = [
         },
         Answer::Fine,
     ),
-    (19, 0, Verb::DeallocMw { slot: SLOT }, Answer::Fine),
-    (
+    Call(19, 0, Verb::DeallocMw { slot: SLOT }, Answer::Fine),
+    Call(
         1,
         0,
         Verb::CreateCq {
@@ -124,13 +104,13 @@ const CALLS: [Call; 36] = [
         },
         Answer::Fine,
     ),
-    (
+    Call(
         52,
         0,
         Verb::DestroyCq { slot: SLOT },
         Answer::Refused(Refusal::CqInUse),
     ),
-    (
+    Call(
         5,
         1,
         Verb::CreateSrq {
@@ -139,7 +119,7 @@ const CALLS: [Call; 36] = [
         },
         Answer::Fine,
     ),
-    (
+    Call(
         69,
         1,
         Verb::DestroySrq {
@@ -153,7 +133,7 @@ const CALLS: [Call; 36] = [
         },
         Answer::Fine,
     ),
-    (
+    Call(
         2,
         0,
         Verb::CreateQp {
@@ -169,7 +149,7 @@ const CALLS: [Call; 36] = [
             incarnation: 1,
         },
     ),
-    (
+    Call(
         3,
         0,
         Verb::CreateQp {
@@ -185,7 +165,41 @@ const CALLS: [Call; 36] = [
             incarnation: 1,
         },
     ),
-    (
+    Call(55, 0, Verb::DestroyQp { slot: SLOT }, Answer::Fine),
+];
+
+#[test]
+fn calls_that_make_and_end_objects_print(rt: HostRuntime) -> Result<(), Fail> {
+    rows_are(&rt, MAKING.as_slice(), MADE)
+}
+
+/// The lines of calls on objects that stand. The last five have a poll that takes fewer than it may and states that the
+/// others lack.
+const USED: &str = "@5 p0 c1 reset 0/0/0 -> ok
+@4 p0 c0 init 0/0/0 -> ok
+@5 p0 c0 rtr 0/0/0 1/256 1 0 256 12 -> ok
+@9 p0 c0 rts 0/0/1 0 7 7 2 -> ok
+@47 p0 c1 sqd 1/0/0 -> ok
+@50 p0 c1 resume 1/0/0 -> ok
+@49 p0 c0 error 0/0/0 -> ok
+@23 p0 c0 query 0/0/0 -> state reset 2 0 0
+@51 p0 c2 query 1/1/1 -> state rts 1 0 0
+@286 p0 c2 query 0/2/1 -> state error 2 1 0
+@28 p0 c0 poll 0/0/0 0 -> refused out-of-range:length
+@116 p0 c1 load 0/0 2772 4096 -> refused outside-buffer
+@51 p0 c0 post 0/0/0 3 - bind1 2 0x00000201 0x200000000 0 r -> posted 0x00800201
+@15 p0 c0 post 0/0/0 1 s bind2 0 0x00000001 9 0x100000000 64 w -> posted -
+@71 p0 c1 post 1/0/0 7 - inv 0x01000001 -> posted -
+@104 p0 c0 post 0/0/1 10 sfe inv 0x00000300 -> posted -
+@28 p0 c0 poll 0/0/0 2 1 -> refused no-such
+@28 p0 c0 wait 0/0/0 2 -> refused no-such
+@23 p0 c0 query 0/0/0 -> state init 1 0 0
+@23 p0 c0 query 0/0/0 -> state rtr 1 0 0
+@23 p0 c0 query 0/0/0 -> state sqd 1 0 0";
+
+/// The same of each of these lines.
+const USING: [Call; 21] = [
+    Call(
         5,
         1,
         Verb::ModifyQp {
@@ -194,7 +208,7 @@ const CALLS: [Call; 36] = [
         },
         Answer::Fine,
     ),
-    (
+    Call(
         4,
         0,
         Verb::ModifyQp {
@@ -203,7 +217,7 @@ const CALLS: [Call; 36] = [
         },
         Answer::Fine,
     ),
-    (
+    Call(
         5,
         0,
         Verb::ModifyQp {
@@ -218,7 +232,7 @@ const CALLS: [Call; 36] = [
         },
         Answer::Fine,
     ),
-    (
+    Call(
         9,
         0,
         Verb::ModifyQp {
@@ -235,7 +249,7 @@ const CALLS: [Call; 36] = [
         },
         Answer::Fine,
     ),
-    (
+    Call(
         47,
         1,
         Verb::ModifyQp {
@@ -244,7 +258,7 @@ const CALLS: [Call; 36] = [
         },
         Answer::Fine,
     ),
-    (
+    Call(
         50,
         1,
         Verb::ModifyQp {
@@ -253,7 +267,7 @@ const CALLS: [Call; 36] = [
         },
         Answer::Fine,
     ),
-    (
+    Call(
         49,
         0,
         Verb::ModifyQp {
@@ -262,7 +276,7 @@ const CALLS: [Call; 36] = [
         },
         Answer::Fine,
     ),
-    (
+    Call(
         23,
         0,
         Verb::QueryQp { slot: SLOT },
@@ -273,7 +287,7 @@ const CALLS: [Call; 36] = [
             receives: 0,
         },
     ),
-    (
+    Call(
         51,
         2,
         Verb::QueryQp {
@@ -292,7 +306,7 @@ const CALLS: [Call; 36] = [
             receives: 0,
         },
     ),
-    (
+    Call(
         286,
         2,
         Verb::QueryQp {
@@ -311,8 +325,7 @@ const CALLS: [Call; 36] = [
             receives: 0,
         },
     ),
-    (55, 0, Verb::DestroyQp { slot: SLOT }, Answer::Fine),
-    (
+    Call(
         28,
         0,
         Verb::Poll {
@@ -322,7 +335,7 @@ const CALLS: [Call; 36] = [
         },
         Answer::Refused(Refusal::OutOfRange(Field::Length)),
     ),
-    (
+    Call(
         116,
         1,
         Verb::Load {
@@ -333,7 +346,7 @@ const CALLS: [Call; 36] = [
         },
         Answer::Refused(Refusal::OutsideBuffer),
     ),
-    (
+    Call(
         51,
         0,
         Verb::PostSend {
@@ -360,7 +373,7 @@ const CALLS: [Call; 36] = [
         },
         Answer::Posted(Some(Key(0x00800201))),
     ),
-    (
+    Call(
         15,
         0,
         Verb::PostSend {
@@ -388,7 +401,7 @@ const CALLS: [Call; 36] = [
         },
         Answer::Posted(None),
     ),
-    (
+    Call(
         71,
         1,
         Verb::PostSend {
@@ -405,7 +418,7 @@ const CALLS: [Call; 36] = [
         },
         Answer::Posted(None),
     ),
-    (
+    Call(
         104,
         0,
         Verb::PostSend {
@@ -425,7 +438,7 @@ const CALLS: [Call; 36] = [
         },
         Answer::Posted(None),
     ),
-    (
+    Call(
         28,
         0,
         Verb::Poll {
@@ -435,7 +448,7 @@ const CALLS: [Call; 36] = [
         },
         Answer::Refused(Refusal::NoSuch),
     ),
-    (
+    Call(
         28,
         0,
         Verb::Poll {
@@ -445,7 +458,7 @@ const CALLS: [Call; 36] = [
         },
         Answer::Refused(Refusal::NoSuch),
     ),
-    (
+    Call(
         23,
         0,
         Verb::QueryQp { slot: SLOT },
@@ -456,7 +469,7 @@ const CALLS: [Call; 36] = [
             receives: 0,
         },
     ),
-    (
+    Call(
         23,
         0,
         Verb::QueryQp { slot: SLOT },
@@ -467,7 +480,7 @@ const CALLS: [Call; 36] = [
             receives: 0,
         },
     ),
-    (
+    Call(
         23,
         0,
         Verb::QueryQp { slot: SLOT },
@@ -481,8 +494,8 @@ const CALLS: [Call; 36] = [
 ];
 
 #[test]
-fn calls_print_with_their_answers(rt: HostRuntime) -> Result<(), Fail> {
-    rows_are(&rt, CALLS.as_slice(), LINES)
+fn calls_on_objects_print_with_their_answers(rt: HostRuntime) -> Result<(), Fail> {
+    rows_are(&rt, USING.as_slice(), USED)
 }
 
 /// Each refusal, as it stands in the line of one call.
@@ -518,46 +531,48 @@ const REFUSED: &str = "@52 p0 c0 uncq 0/0/0 -> refused no-such
 @52 p0 c0 uncq 0/0/0 -> refused out-of-range:retry
 @52 p0 c0 uncq 0/0/0 -> refused out-of-range:rnr-retry";
 
-const REFUSALS: &[Refusal] = &[
-    Refusal::NoSuch,
-    Refusal::NoDomain,
-    Refusal::DomainTaken,
-    Refusal::DomainInUse,
-    Refusal::SlotTaken,
-    Refusal::Empty,
-    Refusal::OutsideBuffer,
-    Refusal::RightsNeedLocalWrite,
-    Refusal::WindowsBound,
-    Refusal::CqTooSmall,
-    Refusal::CqInUse,
-    Refusal::HasSrq,
-    Refusal::TooLong,
-    Refusal::QueueState,
-    Refusal::QueueFull,
-    Refusal::Transition,
-    Refusal::OutOfRange(Field::Capacity),
-    Refusal::OutOfRange(Field::Depth),
-    Refusal::OutOfRange(Field::Incarnation),
-    Refusal::OutOfRange(Field::Kind),
-    Refusal::OutOfRange(Field::Length),
-    Refusal::OutOfRange(Field::List),
-    Refusal::OutOfRange(Field::Mtu),
-    Refusal::OutOfRange(Field::Pages),
-    Refusal::OutOfRange(Field::Peer),
-    Refusal::OutOfRange(Field::Reads),
-    Refusal::OutOfRange(Field::RnrCode),
-    Refusal::SrqInUse,
-    Refusal::OutOfRange(Field::Psn),
-    Refusal::OutOfRange(Field::Retry),
-    Refusal::OutOfRange(Field::RnrRetry),
+/// A call that is refused so.
+#[derive(Clone, Copy)]
+struct Refused(Refusal);
+
+const REFUSALS: &[Refused] = &[
+    Refused(Refusal::NoSuch),
+    Refused(Refusal::NoDomain),
+    Refused(Refusal::DomainTaken),
+    Refused(Refusal::DomainInUse),
+    Refused(Refusal::SlotTaken),
+    Refused(Refusal::Empty),
+    Refused(Refusal::OutsideBuffer),
+    Refused(Refusal::RightsNeedLocalWrite),
+    Refused(Refusal::WindowsBound),
+    Refused(Refusal::CqTooSmall),
+    Refused(Refusal::CqInUse),
+    Refused(Refusal::HasSrq),
+    Refused(Refusal::TooLong),
+    Refused(Refusal::QueueState),
+    Refused(Refusal::QueueFull),
+    Refused(Refusal::Transition),
+    Refused(Refusal::OutOfRange(Field::Capacity)),
+    Refused(Refusal::OutOfRange(Field::Depth)),
+    Refused(Refusal::OutOfRange(Field::Incarnation)),
+    Refused(Refusal::OutOfRange(Field::Kind)),
+    Refused(Refusal::OutOfRange(Field::Length)),
+    Refused(Refusal::OutOfRange(Field::List)),
+    Refused(Refusal::OutOfRange(Field::Mtu)),
+    Refused(Refusal::OutOfRange(Field::Pages)),
+    Refused(Refusal::OutOfRange(Field::Peer)),
+    Refused(Refusal::OutOfRange(Field::Reads)),
+    Refused(Refusal::OutOfRange(Field::RnrCode)),
+    Refused(Refusal::SrqInUse),
+    Refused(Refusal::OutOfRange(Field::Psn)),
+    Refused(Refusal::OutOfRange(Field::Retry)),
+    Refused(Refusal::OutOfRange(Field::RnrRetry)),
 ];
 
-// A call that is refused so.
-impl Row for Refusal {
-    fn text(&self, alloc: Global) -> Result<Vec<u8>, Fail> {
+impl Row for Refused {
+    fn text(&self, alloc: Global) -> Result<Vec<u8>, Memory> {
         let verb = Verb::DestroyCq { slot: SLOT };
-        let entry = call_entry(alloc, 52, 0, &verb, &Answer::Refused(*self))?;
-        text_of(alloc, &entry)
+        call_text(alloc, 52, 0, &verb, &Answer::Refused(self.0))
     }
 }
 
