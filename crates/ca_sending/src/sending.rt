@@ -86,11 +86,11 @@ pub fn next_packet<R: Reach>(
     ensures room { OnOk result (2 ≤ marks.new.room) }
     ensures size { OnOk result (length out.new.items ≤ length out.old.items + MAX_PACKET_BYTES) }
 {
+    let mut asks = ArrayVec::new();
     let next = match next_to_send(q) {
         Err(reason) => return Err(StepError::NotReady(reason)),
         Ok(next) => next,
     };
-    let mut asks = ArrayVec::new();
     fill_packet_asks(q, &next.request, &mut asks);
     let asks = asks.as_slice();
     if !room {

@@ -120,18 +120,18 @@ pub(crate) fn is_too_much(q: &QueuePart, n: &Numbered<'_>) -> bool
     if upto.saturating_sub(q.requester.una) <= u64::from(q.requester.reads) {
         return false;
     }
-    is_too_much_counted(q, n)
+    is_too_much_counted(q, *n)
 }
 
-/// The same, where all is counted.
+/// The same, where all is counted. The request comes by value, so that the caller need not keep one in memory.
 #[inline(never)]
-fn is_too_much_counted(q: &QueuePart, n: &Numbered<'_>) -> bool
+fn is_too_much_counted(q: &QueuePart, n: Numbered<'_>) -> bool
     requires queue { IsQueue (queue_of q.now) }
     requires narrow { AreNarrow (queue_of q.now) }
-    requires sound { IsSound (queue_of q.now) (numbered_of n.now) }
-    ensures { result ≡ requester.is_too_much (queue_of q.now) (numbered_of n.now) }
+    requires sound { IsSound (queue_of q.now) (numbered_of n) }
+    ensures { result ≡ requester.is_too_much (queue_of q.now) (numbered_of n.entry) }
 {
-    let upto = end_of_packet(q, n);
+    let upto = end_of_packet(q, &n);
     let oldest = q.requester.oldest;
     let psn = q.requester.oldest_psn;
     upto.saturating_sub(q.requester.una) > u64::from(MAX_OUTSTANDING_PSNS)
