@@ -6,18 +6,18 @@ ghost use Rattle.ca_model.specs.machine.Invariants.{IsQueue};
 ghost use Rattle.ca_model.specs.machine.Respond.{respond_row};
 ghost use Rattle.ca_qpstate.specs.Seen.{queue_of};
 ghost use Rattle.ca_rows.specs.Narrow.{AreNarrow};
-ghost use Rattle.ca_tests_grant.specs.SmallReach as small;
-ghost use Rattle.ca_tests_requester.specs.Bed as beds;
-ghost use Rattle.ca_tests_responder.specs.Responder as responders;
+ghost use Rattle.ca_bed_reach.specs.SmallReach as small;
+ghost use Rattle.ca_bed_requester.specs.Bed as beds;
+ghost use Rattle.ca_bed_responder.specs.Responder as responders;
 ghost use Rattle.ca_packet.specs.Packet.{IsWellFormed, fields_of};
 
 use crate::work::{bring_up, new_bed};
+use ca_bed_reach::SmallReach;
+use ca_bed_requester::{Bed, are_here, is_narrow, is_response};
+use ca_bed_responder::Responder;
 use ca_model::Marks;
 use ca_qpstate::QueuePart;
 use ca_responder::{next_response, on_request, request_asks, respond_ask};
-use ca_tests_grant::SmallReach;
-use ca_tests_requester::{Bed, are_here, is_narrow, is_response};
-use ca_tests_responder::Responder;
 use ca_wire::{Packet, decode};
 use std::alloc::Global;
 

@@ -5,18 +5,18 @@ ghost use Rattle.ca_model.specs.machine.Responses.{response_row};
 ghost use Rattle.ca_qpstate.specs.Seen.{queue_of};
 ghost use Rattle.ca_sending.specs.Turn.{turn_row};
 ghost use Rattle.ca_rows.specs.Narrow.{AreNarrow};
-ghost use Rattle.ca_tests_grant.specs.SmallReach as small;
-ghost use Rattle.ca_tests_requester.specs.Bed as beds;
+ghost use Rattle.ca_bed_reach.specs.SmallReach as small;
+ghost use Rattle.ca_bed_requester.specs.Bed as beds;
 ghost use Rattle.ca_packet.specs.Packet.{IsWellFormed, fields_of};
 ghost use Rattle.std.specs.Prelude.{◌≡◌, true};
 
 use crate::work::{bring_up, new_bed, write};
+use ca_bed_reach::SmallReach;
+use ca_bed_requester::{Bed, are_here, is_narrow, is_response};
 use ca_model::Marks;
 use ca_qpstate::QueuePart;
 use ca_requester::{next_asks, next_packet, on_response, response_asks};
 use ca_rows::keep_marks;
-use ca_tests_grant::SmallReach;
-use ca_tests_requester::{Bed, are_here, is_narrow, is_response};
 use ca_wire::{Packet, decode};
 use std::alloc::Global;
 

@@ -1,5 +1,5 @@
 ghost use Rattle.std.specs.Prelude.{IfSome};
-ghost use Rattle.ca_tests_requester.specs.Bed as beds;
+ghost use Rattle.ca_bed_requester.specs.Bed as beds;
 
 use crate::answering::{answers, duplicates};
 use crate::requesting::requests;
@@ -8,9 +8,9 @@ use ca_base::{
     AdapterConfig, Change, Config, DomainId, Key, Piece, QueueId, Rights, Run, SendOp, SendRequest,
     Slot,
 };
+use ca_bed_reach::SmallReach;
+use ca_bed_requester::Bed;
 use ca_qpstate::QueuePart;
-use ca_tests_grant::SmallReach;
-use ca_tests_requester::Bed;
 use std::alloc::Global;
 use std::env;
 use std::process::ExitCode;

@@ -1,11 +1,7 @@
-//! Tests of the key check and of local operations, with a small engine over `Reach`, and a window, a region and a buffer
-//! as what it reaches.
+//! Tests of the key check and of local operations, by a small engine over a window, a region and a buffer.
+//!
+//! It has nothing but tests, so that the crates below are proved once.
 #![tactic(auto)]
 
-mod engine;
-mod small_reach;
 #[cfg(test)]
 mod tests;
-
-pub use engine::{Outcome, turn};
-pub use small_reach::SmallReach;

@@ -1,4 +1,4 @@
-ghost use Rattle.ca_tests_requester.specs.Bed as beds;
+ghost use Rattle.ca_bed_requester.specs.Bed as beds;
 
 mod answers;
 mod drawn_rows;
@@ -9,8 +9,8 @@ mod rows;
 mod wakes;
 mod worked_rows;
 
-use crate::{Bed, Setup, bed_of, config, reason_text, setup_in};
 use ca_base::{Bytes, DomainId, Lot, OpRefusal, QueueId, Rights, Run, Sent, Slot, StepError};
+use ca_bed_requester::{Bed, Setup, bed_of, config, reason_text, setup_in};
 use ca_model::{Event, Mark, Marks, Verb};
 use ca_qpstate::QueuePart;
 use ca_reading_lines::read_line;

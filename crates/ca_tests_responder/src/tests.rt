@@ -1,5 +1,5 @@
 ghost use Rattle.std.specs.Prelude.{IfSome};
-ghost use Rattle.ca_tests_responder.specs.Responder as responders;
+ghost use Rattle.ca_bed_responder.specs.Responder as responders;
 
 mod again;
 mod drawn_rows;
@@ -11,12 +11,12 @@ mod turns;
 mod windows;
 mod worked_rows;
 
-use crate::Responder;
 use ca_base::{Bytes, Lot, QueueId, SendOp, SendRequest, Sent, Slot, StepError};
+use ca_bed_requester::{Setup, bed_of, config, reason_text, setup_in};
+use ca_bed_responder::Responder;
 use ca_model::{Event, Mark, Marks, Verb};
 use ca_qpstate::QueuePart;
 use ca_reading_lines::read_line;
-use ca_tests_requester::{Setup, bed_of, config, reason_text, setup_in};
 use ca_trace::{Line, print_reply};
 use std::alloc::Global;
 use std::process::Abort;

@@ -1,11 +1,10 @@
 ghost use Rattle.std.specs.Prelude.{◌≡◌};
 
 use super::texts_are;
-use crate::engine::{Outcome, turn};
-use crate::small_reach::SmallReach;
 use ca_base::{
     Ask, AtomicOp, DomainId, Key, Kind, QueueId, Rights, Run, Slot, Verdict, WindowCount,
 };
+use ca_bed_reach::{Outcome, SmallReach, turn};
 use ca_grant::Reach;
 use std::test::Fail;
 

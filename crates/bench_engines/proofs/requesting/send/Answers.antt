@@ -1,8 +1,8 @@
 use Rattle.std.proofs.Common.{true}
 use Rattle.ca_qpstate.specs.Seen.{queue_of}
 use Rattle.ca_rows.specs.Done.{handed}
-use Rattle.ca_tests_grant.specs.SmallReach.{sight_of}
-use Rattle.ca_tests_requester.proofs.Kept.{turn_kept}
+use Rattle.ca_bed_reach.specs.SmallReach.{sight_of}
+use Rattle.ca_bed_requester.proofs.Kept.{turn_kept}
 use Rattle.bench_engines.proofs.requesting.send.Goals as goal
 
 pub returns-clause-queue : goal.returns-clause-queue

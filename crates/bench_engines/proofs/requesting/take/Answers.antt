@@ -1,8 +1,8 @@
 use Rattle.std.proofs.Common.{[]}
 use Rattle.ca_qpstate.specs.Seen.{queue_of}
 use Rattle.ca_rows.specs.Done.{handed}
-use Rattle.ca_tests_grant.specs.SmallReach.{sight_of}
-use Rattle.ca_tests_requester.proofs.Kept.{taking_kept}
+use Rattle.ca_bed_reach.specs.SmallReach.{sight_of}
+use Rattle.ca_bed_requester.proofs.Kept.{taking_kept}
 use Rattle.ca_packet.specs.Packet.{fields_of}
 use Rattle.bench_engines.proofs.requesting.take.Goals as goal
 

@@ -1,5 +1,5 @@
 use Rattle.std.proofs.Common.{◌≡◌}
-use Rattle.ca_tests_responder.specs.Responder as responders
+use Rattle.ca_bed_responder.specs.Responder as responders
 use Rattle.ca_tests_responder.proofs.tests.go_on.Given as goal
 
 -- after each step what stands before a call stands

@@ -1,0 +1,131 @@
+-- Each call of the requester leaves a queue pair that comes up, over parts that fit each other.
+use Rattle.std.proofs.Common.{arith, ◌≡◌, ℕ, IsTrue, not, Bool, true, false, true≢false, List, [], ◌∷◌, map, Option, None, Some, Result, Ok, Err, refl, sym, subst}
+use Rattle.std.proofs.lemmas.Bool.{not-false}
+use Rattle.std.specs.List.{AllByRecursion}
+use Rattle.std.specs.Option.{option_and_then}
+use Rattle.ca_keys.specs.declared.access.Ask.{Ask}
+use Rattle.ca_keys.specs.declared.memory.Memory.{Memory}
+use Rattle.ca_base.specs.declared.step.Reason.TheVariants as reasons
+use Rattle.ca_base.specs.declared.step.Sent.{Sent}
+use Rattle.ca_base.specs.declared.step.StepError.{StepError}
+use Rattle.ca_base.specs.declared.step.StepError.TheVariants as steps
+use Rattle.ca_base.specs.Sight.{Sight, DeniedAsk, bytes_in, first_denied}
+use Rattle.ca_keys.specs.Refusals.{first_of}
+use Rattle.ca_base.specs.declared.refusals.OpRefusal.{OpRefusal}
+use Rattle.ca_base.specs.objects.QueuePair.{QueuePair}
+use Rattle.ca_grant.specs.Reaching.{AreAtHand}
+use Rattle.ca_laws.proofs.ResponseLemmas.{IsGoodEnding, IsGoodRow, plain-good, response-good}
+use Rattle.ca_laws.proofs.TurnLemmas.{all-fail, operation-good, packet-good, timeout-good, wake-good}
+use Rattle.ca_model.specs.declared.mark.Mark.{Mark}
+use Rattle.ca_qpstate.specs.ComesUp.{AreDepths}
+use Rattle.ca_qpstate.specs.Seen.{queue_of}
+use Rattle.ca_model.specs.machine.Invariants.{IsList, IsQueue, is_sending}
+use Rattle.ca_model.specs.machine.Requester.{RequestTurn, Waits, Performs, Sends, turn_of}
+use Rattle.ca_model.specs.machine.Responses.{response_row}
+use Rattle.ca_model.specs.machine.Timers.{after_timeout, after_wake, timeout_refusals}
+use Rattle.ca_model.specs.machine.Row.{Ending, NotPossible, Does, Row, ending_of}
+use Rattle.ca_base.specs.declared.request.SendRequest.{SendRequest}
+use Rattle.ca_base.specs.objects.WorkQueue.{is_full}
+use Rattle.ca_laws.proofs.VerbLemmas.{posted-send}
+use Rattle.ca_model.specs.Requests.{list_of}
+use Rattle.ca_model.specs.machine.PostingVerbs.{with_send}
+use Rattle.ca_sending.specs.Turn.{no_marks, operation_end, turn_row}
+use Rattle.ca_rows.specs.Done.{Handed, IsTurn, IsTaking, written_all}
+use Rattle.ca_bed_reach.specs.SmallLaws.{small-keeps}
+use Rattle.ca_bed_reach.specs.SmallReach.{FitTogether, IsAskHere, after_write_by, sight_of}
+use Rattle.ca_bed_reach.specs.declared.small_reach.SmallReach.{SmallReach}
+use Rattle.ca_bed_requester.specs.Bed.{Stands}
+use Rattle.ca_bed_requester.specs.declared.bed.Bed.{Bed}
+use Rattle.ca_packet.specs.Packet.{Fields}
+
+-- a good row ends well, whatever is seen
+pub ends-good : (q : QueuePair) (s : Sight) (row : Row) → IsGoodRow q row → IsGoodEnding q (ending_of s row)
+ends-good q s row good = by (first_denied s row.asks) refl
+  where
+    by : (o : Option DeniedAsk) → first_denied s row.asks ≡ o → IsGoodEnding q (ending_of s row)
+    by (Some d) e = rw e (good.denied d)
+    by None e = rw e (good.allowed (map (bytes_in s) row.asks) (option_and_then s.refusal row.invalidation))
+
+-- the row of a turn is good
+turn-good : (q : QueuePair) (room : Bool) → IsQueue q → IsGoodRow q (turn_row q room)
+turn-good q room is = by (turn_of q) refl
+  where
+    by : (t : RequestTurn) → turn_of q ≡ t → IsGoodRow q (turn_row q room)
+    by (Waits reason) e = rw e (plain-good q (NotPossible reason) (record {}))
+    by (Performs n) e = rw e (plain-good q (NotPossible reasons.Empty) (record {}))
+    by (Sends n) e = rw e (packet-good q room n is e)
+
+-- writes leave parts that fit each other
+pub writes-keep : (xs : List (Ask × List ℕ)) (s : SmallReach) → FitTogether s → FitTogether (written_all after_write_by s xs)
+writes-keep [] s fit = fit
+writes-keep (x ∷ xs) s fit = writes-keep xs (after_write_by s x.0 x.1) (small-keeps s x.0 x.1 fit)
+
+-- what is kept from what was handed to what came back
+pub record IsKept (new : Handed SmallReach) : Type 0 where
+  pub queue : IsQueue new.queue
+  pub reach : FitTogether new.reach
+
+same-kept : (before new : Handed SmallReach) → IsKept before → new ≡ before → IsKept new
+same-kept before new kept e = rw e kept
+
+pub turn-ending-kept : (result : Result Sent StepError) (ending : Ending) (before new : Handed SmallReach) → IsKept before → IsGoodEnding before.queue ending
+    → IsTurn after_write_by result ending before new → IsKept new
+turn-ending-kept (Ok sent) (Does e) before new kept good h =
+    rw h.1 (record { queue = good.sound; reach = writes-keep e.writes before.reach kept.reach })
+turn-ending-kept (Ok sent) (NotPossible reason) before new kept good h = absurd h.1
+turn-ending-kept (Err (steps.NotReady reason)) ending before new kept good h = same-kept before new kept h.1
+turn-ending-kept (Err steps.Memory) ending before new kept good h = same-kept before new kept h
+
+pub turn_kept : (result : Result Sent StepError) (s : Sight) (room : Bool) (before new : Handed SmallReach) → IsKept before
+    → IsTurn after_write_by result (ending_of s (turn_row before.queue room)) before new → IsKept new
+turn_kept result s room before new kept h =
+    turn-ending-kept result (ending_of s (turn_row before.queue room)) before new kept
+    (ends-good before.queue s (turn_row before.queue room) (turn-good before.queue room kept.queue)) h
+
+taking-ending-kept : (result : Result (Unit {0}) Memory) (ending : Ending) (before new : Handed SmallReach) → IsKept before → IsGoodEnding before.queue ending
+    → IsTaking after_write_by result ending before new → IsKept new
+taking-ending-kept (Ok done) (Does e) before new kept good h =
+    rw h (record { queue = good.sound; reach = writes-keep e.writes before.reach kept.reach })
+taking-ending-kept (Ok done) (NotPossible reason) before new kept good h = absurd h
+taking-ending-kept (Err memory) ending before new kept good h = same-kept before new kept h
+
+pub taking_kept : (result : Result (Unit {0}) Memory) (s : Sight) (p : Fields) (before new : Handed SmallReach) → IsKept before
+    → IsTaking after_write_by result (ending_of s (response_row p before.queue)) before new → IsKept new
+taking_kept result s p before new kept h =
+    taking-ending-kept result (ending_of s (response_row p before.queue)) before new kept
+    (ends-good before.queue s (response_row p before.queue) (response-good p before.queue kept.queue)) h
+
+pub stands_by : (b : Bed) {ms : List Mark} {out : List ℕ} → IsKept (record { queue = queue_of b.queue; marks = ms; out = out; reach = b.reach }) → Stands b
+stands_by b kept = record { queue = kept.queue; reach = kept.reach }
+
+-- asks of this adapter may be handed on
+pub at_hand : (s : SmallReach) {asks bs : List Ask} → asks ≡ bs → AllByRecursion (IsAskHere s) asks → AllByRecursion (λ ask. Unit {0}) asks
+    → AreAtHand sight_of IsAskHere (λ s ask. Unit {0}) s bs
+at_hand s same keys bytes = record { keys = subst (AllByRecursion (IsAskHere s)) same keys; bytes = λ none. subst (AllByRecursion (λ ask. Unit {0})) same bytes }
+
+pub timeout_kept : (silent hasten : Bool) (q p : QueuePair) → IsQueue q → first_of (timeout_refusals silent hasten q) ≡ None → p ≡ (after_timeout silent q).queue → IsQueue p
+timeout_kept silent hasten q p is none same =
+    rw same (timeout-good q silent is (not-false (is_sending q.state) (all-fail (timeout_refusals silent hasten q) none).0)).sound
+
+pub wake_kept : (q : QueuePair) → IsQueue q → IsQueue (after_wake q).queue
+wake_kept q is = (wake-good q is).sound
+
+pub operation_kept : (q p : QueuePair) (cause : Option OpRefusal) → IsQueue q → p ≡ (operation_end q cause).queue → IsQueue p
+operation_kept q p cause is same = rw same (by (turn_of q) refl)
+  where
+    by : (t : RequestTurn) → turn_of q ≡ t → IsQueue (operation_end q cause).queue
+    by (Performs n) e = rw e (operation-good q n q.windows no_marks cause is e).sound
+    by (Waits reason) e = rw e is
+    by (Sends n) e = rw e is
+
+pub posted_kept : (q p : QueuePair) (request : SendRequest) → IsQueue q → IsList (list_of request.op) → IsTrue (not (is_full q.sends)) → p ≡ with_send request None q → IsQueue p
+posted_kept q p request is list free same = rw same (posted-send q request None is list (by (is_full q.sends) free))
+  where
+    by : (b : Bool) → IsTrue (not b) → b ≡ false
+    by true h = absurd (true≢false (sym h))
+    by false h = refl
+
+-- queues of the greatest depth are some that come up
+pub full_depths : (srq : Option ℕ) → AreDepths 256 256 srq
+full_depths None = ((omega arith, omega arith), (omega arith, omega arith))
+full_depths (Some srq) = (omega arith, omega arith)

@@ -1,0 +1,293 @@
+ghost use Rattle.std.specs.Prelude.{◌≡◌, ◌≤◌, ◌<◌, ◌^◌, suc, IsTrue, true};
+ghost use Rattle.std.specs.List.{AllByRecursion};
+ghost use Rattle.ca_base.specs.objects.WorkQueue.{next_place};
+ghost use Rattle.ca_model.specs.Packets as packets;
+ghost use Rattle.ca_model.specs.Requests as requests;
+ghost use Rattle.ca_model.specs.machine.Invariants.{IsList, IsQueue};
+ghost use Rattle.ca_model.specs.machine.Requester.{turn_of};
+ghost use Rattle.ca_sending.specs.Turn.{is_performing};
+ghost use Rattle.ca_qpstate.specs.Seen.{queue_of};
+ghost use Rattle.ca_rows.specs.Narrow.{AreNarrow};
+ghost use Rattle.ca_bed_reach.specs.SmallReach as small;
+ghost use Rattle.ca_bed_requester.specs.Bed as beds;
+ghost use Rattle.ca_packet.specs.Packet.{IsWellFormed, fields_of};
+
+use ca_base::limits::{MAX_MESSAGE_BYTES, MAX_PIECES};
+use ca_base::{
+    Ask, Change, Config, Memory, OpRefusal, Piece, Reason, SendRequest, Sent, StepError,
+};
+use ca_bed_reach::SmallReach;
+use ca_model::Marks;
+use ca_qpstate::{PostedSend, QueuePart};
+use ca_requester::{
+    local_done, next_asks, next_local, next_packet, on_response, on_rnr_wake, on_timeout,
+    response_asks,
+};
+use ca_rows::list_of;
+use ca_wire::Packet;
+use ca_wire::opcode::{ATOMIC_ACKNOWLEDGE, RDMA_READ_RESPONSE_FIRST};
+use std::alloc::Global;
+
+/// A queue pair, and what it reaches.
+#[derive(Drop)]
+pub struct Bed {
+    pub queue: QueuePart,
+    pub reach: SmallReach,
+}
+
+/// The bound of the numbers that only events raise.
+pub const FAR: u64 = 1 << 62;
+
+/// Whether the numbers that only events raise lie far below the ends of their types.
+pub fn is_narrow(q: &QueuePart) -> bool
+    ensures { IsTrue result → AreNarrow (queue_of q.now) }
+{
+    let r = &q.requester;
+    r.una < FAR
+        && r.cursor < FAR
+        && r.oldest_psn < FAR
+        && r.rnrs < FAR
+        && r.timers < FAR
+        && q.responder.expected < FAR
+}
+
+/// Whether all asks are of the adapter of what is reached.
+pub fn are_here(reach: &SmallReach, asks: &[Ask]) -> bool
+    requires { small.FitTogether reach.now }
+    ensures keys { IsTrue result → AllByRecursion (small.IsAskHere reach.now) asks.now }
+    ensures bytes { IsTrue result → AllByRecursion (λ ask. Unit {0}) asks.now }
+{
+    let [ask, rest @ ..] = asks else {
+        return true;
+    };
+    if ask.domain.adapter != reach.slot.domain.adapter {
+        return false;
+    }
+    are_here(reach, rest)
+}
+
+/// Whether a packet is a response.
+pub fn is_response(p: &Packet<'_>) -> bool
+    ensures { result ≡ packets.is_response (fields_of p.now).opcode }
+{
+    p.opcode >= RDMA_READ_RESPONSE_FIRST && p.opcode <= ATOMIC_ACKNOWLEDGE
+}
+
+/// Whether a list has few pieces, and no more bytes than a message may have.
+pub fn is_short(list: &[Piece]) -> bool
+    ensures { IsTrue result → IsList list.now }
+{
+    list.len() <= MAX_PIECES && holds(list, MAX_MESSAGE_BYTES)
+}
+
+// Whether a list has at most so many bytes.
+fn holds(list: &[Piece], most: u32) -> bool
+    ensures { IsTrue result → requests.list_length list.now ≤ most }
+{
+    let [piece, rest @ ..] = list else {
+        return true;
+    };
+    if piece.length > most {
+        return false;
+    }
+    holds(rest, most - piece.length)
+}
+
+// Whether the turn performs a local operation.
+fn is_local_next(q: &QueuePart) -> bool
+    requires queue { IsQueue (queue_of q.now) }
+    requires narrow { AreNarrow (queue_of q.now) }
+    ensures { IsTrue result → is_performing (turn_of (queue_of q.now)) ≡ true }
+{
+    match next_local(q) {
+        Ok(Some(_)) => true,
+        _ => false,
+    }
+}
+
+// A timer fires.
+
+fn fire(
+    alloc: Global,
+    q: &mut QueuePart,
+    silent: bool,
+    hasten: bool,
+    marks: &mut Marks,
+) -> Result<(), StepError>
+    requires queue { IsQueue (queue_of q.old) }
+    requires narrow { AreNarrow (queue_of q.old) }
+    ensures { IsQueue (queue_of q.new) }
+{
+    match on_timeout(alloc, q, silent, hasten, marks) {
+        Ok(()) => Ok(()),
+        Err(error) => Err(error),
+    }
+}
+
+// The local operation that the turn performs is done.
+
+fn finish(
+    alloc: Global,
+    q: &mut QueuePart,
+    cause: Option<OpRefusal>,
+    marks: &mut Marks,
+) -> Result<(), Memory>
+    requires queue { IsQueue (queue_of q.old) }
+    requires narrow { AreNarrow (queue_of q.old) }
+    requires performs { is_performing (turn_of (queue_of q.old)) ≡ true }
+    ensures { IsQueue (queue_of q.new) }
+{
+    marks.reserve(1)?;
+    match local_done(alloc, q, cause, marks) {
+        Ok(()) => Ok(()),
+        Err(memory) => Err(memory),
+    }
+}
+
+// Posts a request that can be posted, unless the queue is full.
+fn push(q: &mut QueuePart, request: SendRequest) -> Result<u64, PostedSend>
+    requires queue { IsQueue (queue_of q.old) }
+    requires list { IsList (requests.list_of request.op) }
+    requires far { suc (next_place q.old.sends) < 2 ^ 64 }
+    ensures { IsQueue (queue_of q.new) }
+{
+    let posted = PostedSend {
+        request,
+        drawn: None,
+    };
+    match q.sends.post(posted) {
+        Ok(place) => Ok(place),
+        Err(refused) => Err(refused),
+    }
+}
+
+// Posts a request.
+fn post(q: &mut QueuePart, request: SendRequest) -> bool
+    requires { IsQueue (queue_of q.old) }
+    ensures { IsQueue (queue_of q.new) }
+{
+    if !is_short(list_of(&request.op)) || q.sends.next_place() >= FAR {
+        return false;
+    }
+    push(q, request).is_ok()
+}
+
+impl Bed {
+    /// The turn of the requester; None where it cannot be tried here.
+    #[inline(never)]
+    pub fn send(
+        &mut self,
+        alloc: Global,
+        room: bool,
+        marks: &mut Marks,
+        out: &mut Vec<u8>,
+    ) -> Option<Result<Sent, StepError>>
+        requires { beds.Stands self.old }
+        ensures { beds.Stands self.new }
+    {
+        if !is_narrow(&self.queue) {
+            return None;
+        }
+        let asks = next_asks(&self.queue);
+        if !are_here(&self.reach, asks.as_slice()) {
+            return None;
+        }
+        Some(next_packet(alloc, &mut self.queue, &mut self.reach, room, marks, out))
+    }
+
+    /// Takes a packet, if it is a response; None where that cannot be tried here.
+    #[inline(never)]
+    pub fn take(
+        &mut self,
+        alloc: Global,
+        p: &Packet<'_>,
+        marks: &mut Marks,
+    ) -> Option<Result<(), Memory>>
+        requires stands { beds.Stands self.old }
+        requires packet { IsWellFormed (fields_of p.now) }
+        ensures { beds.Stands self.new }
+    {
+        if !is_narrow(&self.queue) || !is_response(p) {
+            return None;
+        }
+        let asks = response_asks(&self.queue, p);
+        if !are_here(&self.reach, asks.as_slice()) {
+            return None;
+        }
+        Some(on_response(alloc, &mut self.queue, &mut self.reach, p, marks))
+    }
+
+    /// A timer fires; None where that cannot be tried here.
+    pub fn time_out(
+        &mut self,
+        alloc: Global,
+        silent: bool,
+        hasten: bool,
+        marks: &mut Marks,
+    ) -> Option<Result<(), StepError>>
+        requires { beds.Stands self.old }
+        ensures { beds.Stands self.new }
+    {
+        if !is_narrow(&self.queue) {
+            return None;
+        }
+        Some(fire(alloc, &mut self.queue, silent, hasten, marks))
+    }
+
+    /// A wake after an RNR NAK.
+    #[tactic(auto, using(crate::proofs::Kept::wake_kept))]
+    pub fn wake(&mut self, peer_empty: bool) -> Result<(), Reason>
+        requires { beds.Stands self.old }
+        ensures { beds.Stands self.new }
+    {
+        on_rnr_wake(&mut self.queue, peer_empty)
+    }
+
+    /// Whether the turn performs a local operation; None where that cannot be tried here.
+    pub fn performs(&self) -> Option<Result<bool, Reason>>
+        requires { beds.Stands self.now }
+    {
+        if !is_narrow(&self.queue) {
+            return None;
+        }
+        match next_local(&self.queue) {
+            Err(reason) => Some(Err(reason)),
+            Ok(operation) => Some(Ok(operation.is_some())),
+        }
+    }
+
+    /// Finishes the local operation that the turn performs; None where there is none, or where it cannot be tried here.
+    pub fn perform(
+        &mut self,
+        alloc: Global,
+        cause: Option<OpRefusal>,
+        marks: &mut Marks,
+    ) -> Option<Result<(), Memory>>
+        requires { beds.Stands self.old }
+        ensures { beds.Stands self.new }
+    {
+        if !is_narrow(&self.queue) {
+            return None;
+        }
+        if !is_local_next(&self.queue) {
+            return None;
+        }
+        Some(finish(alloc, &mut self.queue, cause, marks))
+    }
+
+    /// Posts a request; false where it is none that can be posted.
+    pub fn post(&mut self, request: SendRequest) -> bool
+        requires { beds.Stands self.old }
+        ensures { beds.Stands self.new }
+    {
+        post(&mut self.queue, request)
+    }
+
+    /// Changes the state; false where that is refused.
+    pub fn change(&mut self, config: &Config, change: &Change) -> bool
+        requires { beds.Stands self.old }
+        ensures { beds.Stands self.new }
+    {
+        self.queue.incarnation < 1000 && self.queue.modify(config, change).is_ok()
+    }
+}

@@ -1,0 +1,11 @@
+//! What the runs of one queue pair stand on, as a requester and as a responder: the queue pair over one region, and the
+//! script that it begins with.
+//!
+//! Its tests stand in `ca_tests_requester`, so that it is proved once.
+#![tactic(auto)]
+
+mod bed;
+mod setup;
+
+pub use bed::{Bed, FAR, are_here, is_narrow, is_response, is_short};
+pub use setup::{Setup, bed_of, config, reason_text, setup_in};
