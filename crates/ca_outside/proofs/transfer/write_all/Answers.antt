@@ -9,3 +9,6 @@ loop-done-preserved g c = record {
   took = Appends-more _ _ _ _ _ _ c.loop-done.invariant.took c.in_ok-done.ensures.bytes;
   never_falls = omega (arith, c.loop-done.invariant.never_falls, c.in_ok-done.ensures.cause.never_falls);
 }
+
+pub returns-clause-ok : goal.returns-clause-ok
+returns-clause-ok c = grind (arith, common_steps)

@@ -1,4 +1,5 @@
 use Rattle.std.proofs.Common.{rules, arith, ◌+◌, ◌∙◌, ◌<◌}
+use Rattle.std.proofs.lemmas.Grind.{common_steps}
 use Rattle.ca_qpstate.specs.Seen.{queue_of}
 use Rattle.ca_progress.proofs.NumberingLemmas.{begins-behind, found-behind, one-begun}
 use Rattle.ca_progress.specs.Numbering.{numbered_of, numbers_from}
@@ -22,3 +23,15 @@ loop-request-preserved c =
         ),
       ),
     )
+
+pub returns-then-has_psn-clause-begins : goal.returns-then-has_psn-clause-begins
+returns-then-has_psn-clause-begins c = grind (arith, common_steps)
+
+pub returns-then-has_psn-clause-begun : goal.returns-then-has_psn-clause-begun
+returns-then-has_psn-clause-begun c = grind (arith, common_steps)
+
+pub returns-then-has_psn-clause-first : goal.returns-then-has_psn-clause-first
+returns-then-has_psn-clause-first c = grind (arith, common_steps)
+
+pub returns-then-has_psn-clause-room : goal.returns-then-has_psn-clause-room
+returns-then-has_psn-clause-room c = grind (arith, common_steps)
