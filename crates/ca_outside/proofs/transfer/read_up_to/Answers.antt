@@ -9,6 +9,3 @@ returns-in_err-extend_from_slice-clause-loses g c =
 
 pub returns-then-count-eq0-clause-failed : goal.returns-then-count-eq0-clause-failed
 returns-then-count-eq0-clause-failed c = grind (arith, common_steps)
-
-pub loop-chunk-preserved : goal.loop-chunk-preserved
-loop-chunk-preserved g c = grind (arith, common_steps)

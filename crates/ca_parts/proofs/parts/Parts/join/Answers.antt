@@ -1,4 +1,5 @@
 use Rattle.std.proofs.Common.{ap, ◌∙◌, arith}
+use Rattle.std.proofs.lemmas.Grind.{common_steps}
 use Rattle.ca_parts.proofs.Ranges.{joins}
 use Rattle.ca_parts.proofs.Seats.{weighs_at}
 use Rattle.ca_parts.proofs.parts.Parts.join.Goals as goal
@@ -10,3 +11,6 @@ join_seat-requires g c = let of = c.requires.into in let other = c.requires.othe
 pub load-requires : goal.load-requires
 load-requires g c = let of = c.requires.into in let row = c.args.self.now in let words = row.words_are in let seat = c.join_seat.new.seat in let joined = c.join_seat.ensures in
     (joined.0 ∙ of.0, omega arith, weighs_at g.T.Machine.needs g.T.Machine.steps g.T.Machine.stands row.table.shared.key row.table.shared.table_id.slots seat.id seat.me (ap (λ m. m.1) joined.2 ∙ of.1))
+
+pub invariant_of-into : goal.invariant_of-into
+invariant_of-into c = grind (arith, common_steps)
