@@ -16,7 +16,7 @@ use Rattle.ca_reading_words.proofs.WordLemmas.{queue_again, key_again, hex_again
 use Rattle.ca_reading_names.proofs.NameLemmas.{side_again, denial_again, state_again, operation_again as wc_op_again, status_again, refusal_again}
 use Rattle.ca_reading_answers.specs.Answers.{IsTold}
 use Rattle.ca_reading_fields.specs.Fields.{Words}
-use Rattle.ca_reading_answers.specs.Answers.{state_at, answer_at, completion_at, verdict_at}
+use Rattle.ca_reading_answers.specs.Answers.{state_at, polled_at, answer_at, completion_at, verdict_at}
 use Rattle.ca_reading_fields.proofs.FieldLemmas.{u8, u16, u32, u64}
 
 -- the words of what the line of a call tells of its answer, behind the arrow
@@ -25,7 +25,7 @@ tail_words (told.Whole answer) = answer_words answer
 tail_words (told.Polled n) = Fixed (codes "polled") ∷ Number w8 n ∷ []
 
 pub answer_again : (t : Told) → IsTold t → AllFit (tail_words t) → answer_at (words (tail_words t)) ≡ Some (t, [])
-unfolding answer_at state_at
+unfolding answer_at polled_at state_at
 answer_again (told.Whole answers.Fine) g h = refl
 answer_again (told.Whole (answers.Key k)) g h = rw (key_again k h.1.0) refl
 answer_again (told.Whole (answers.Queue n i)) g h = rw (u32 n h.1.0, u32 i h.1.1.0) refl

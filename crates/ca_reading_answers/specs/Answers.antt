@@ -27,6 +27,12 @@ state_at ws = do
   receives ← field u16_in sends.1
   Some (told.Whole (answers.Query state.0 incarnation.0 sends.0 receives.0), receives.1)
 
+-- how many completions a poll gave
+unfoldable pub polled_at : Words → Option (Told × Words)
+polled_at ws = do
+  n ← field u8_in ws
+  if nat_le n.0 16 then Some (told.Polled n.0, n.1) else None
+
 -- an answer, behind the arrow
 unfoldable pub answer_at : Words → Option (Told × Words)
 answer_at ws = do
@@ -42,9 +48,7 @@ answer_at ws = do
       else if bytes_eq name.0 (codes "posted") then (do
         key ← field (perhaps_in key_in) name.1
         Some (told.Whole (answers.Posted key.0), key.1))
-      else if bytes_eq name.0 (codes "polled") then (do
-        n ← field u8_in name.1
-        if nat_le n.0 16 then Some (told.Polled n.0, n.1) else None)
+      else if bytes_eq name.0 (codes "polled") then polled_at name.1
       else if bytes_eq name.0 (codes "state") then state_at name.1
       else if bytes_eq name.0 (codes "bytes") then (do
         bytes ← field hex_in name.1

@@ -30,6 +30,19 @@ fn state_at(words: &mut Pieces) -> Result<Told, Stop>
     }))
 }
 
+/// How many completions a poll gave.
+#[tactic(auto, unfolding(crate::specs::Answers::polled_at))]
+fn polled_at(words: &mut Pieces) -> Result<Told, Stop>
+    ensures { Reads (λ x. x) result words.new (reading.polled_at words.old) }
+{
+    let n = take_u8(words)?;
+    if n <= 16 {
+        Ok(Told::Polled(n))
+    } else {
+        Err(Stop::Outside)
+    }
+}
+
 /// What the line of a call tells of its answer, behind the arrow.
 #[tactic(auto, unfolding(crate::specs::Answers::answer_at))]
 pub fn answer_at(alloc: Global, words: &mut Pieces) -> Result<Told, Stop>
@@ -52,12 +65,7 @@ pub fn answer_at(alloc: Global, words: &mut Pieces) -> Result<Told, Stop>
         let key = take_perhaps_key(words)?;
         Ok(Told::Whole(Answer::Posted(key)))
     } else if is_name(name, "polled") {
-        let n = take_u8(words)?;
-        if n <= 16 {
-            Ok(Told::Polled(n))
-        } else {
-            Err(Stop::Outside)
-        }
+        polled_at(words)
     } else if is_name(name, "state") {
         state_at(words)
     } else if is_name(name, "bytes") {
