@@ -4,8 +4,7 @@ ghost use Rattle.ca_model.specs.Packets as packets;
 ghost use Rattle.ca_model.specs.machine.Delivery.{packet_arrived};
 ghost use Rattle.ca_model.specs.machine.Invariants.{IsQueue};
 ghost use Rattle.ca_model.specs.machine.Respond.{respond_row};
-ghost use Rattle.ca_qpstate.specs.Seen.{queue_of};
-ghost use Rattle.ca_rows.specs.Narrow.{AreNarrow};
+ghost use Rattle.ca_model.specs.machine.CanStep.{CanStep};
 ghost use Rattle.ca_bed_reach.specs.SmallReach as small;
 ghost use Rattle.ca_bed_requester.specs.Bed as beds;
 ghost use Rattle.ca_bed_responder.specs.Responder as responders;
@@ -38,12 +37,11 @@ fn take(
     p: &Packet<'_>,
     marks: &mut Marks,
 ) -> bool
-    requires queue { IsQueue (queue_of q.old) }
-    requires narrow { AreNarrow (queue_of q.old) }
+    requires step { CanStep q.old }
     requires packet { IsWellFormed (fields_of p.now) }
     requires request { packets.is_response p.now.opcode ≡ false }
     requires plain { p.now.ieth ≡ None }
-    requires at_hand { AreAtHand small.sight_of small.IsAskHere (λ s ask. Unit {0}) reach.old (packet_arrived (fields_of p.now) None None (queue_of q.old)).asks }
+    requires at_hand { AreAtHand small.sight_of small.IsAskHere (λ s ask. Unit {0}) reach.old (packet_arrived (fields_of p.now) None None q.old).asks }
 {
     on_request(alloc, q, None, reach, p, None, marks).is_ok()
 }
@@ -72,9 +70,8 @@ fn send(
     marks: &mut Marks,
     out: &mut Vec<u8>,
 ) -> bool
-    requires queue { IsQueue (queue_of q.old) }
-    requires narrow { AreNarrow (queue_of q.old) }
-    requires plain { (respond_row true (queue_of q.old)).asks ≡ [] }
+    requires step { CanStep q.old }
+    requires plain { (respond_row true q.old).asks ≡ [] }
 {
     next_response(alloc, q, reach, true, marks, out).is_ok()
 }

@@ -2,9 +2,8 @@ ghost use Rattle.ca_grant.specs.Reaching.{AreAtHand};
 ghost use Rattle.ca_model.specs.Packets as packets;
 ghost use Rattle.ca_model.specs.machine.Invariants.{IsQueue};
 ghost use Rattle.ca_model.specs.machine.Responses.{response_row};
-ghost use Rattle.ca_qpstate.specs.Seen.{queue_of};
 ghost use Rattle.ca_sending.specs.Turn.{turn_row};
-ghost use Rattle.ca_rows.specs.Narrow.{AreNarrow};
+ghost use Rattle.ca_model.specs.machine.CanStep.{CanStep};
 ghost use Rattle.ca_bed_reach.specs.SmallReach as small;
 ghost use Rattle.ca_bed_requester.specs.Bed as beds;
 ghost use Rattle.ca_packet.specs.Packet.{IsWellFormed, fields_of};
@@ -29,11 +28,10 @@ fn send(
     marks: &mut Marks,
     out: &mut Vec<u8>,
 ) -> bool
-    requires queue { IsQueue (queue_of q.old) }
-    requires narrow { AreNarrow (queue_of q.old) }
+    requires step { CanStep q.old }
     requires parts { small.FitTogether reach.old }
-    requires at_hand { AreAtHand small.sight_of small.IsAskHere (λ s ask. Unit {0}) reach.old (turn_row (queue_of q.old) true).asks }
-    ensures queue { IsQueue (queue_of q.new) }
+    requires at_hand { AreAtHand small.sight_of small.IsAskHere (λ s ask. Unit {0}) reach.old (turn_row q.old true).asks }
+    ensures queue { IsQueue q.new }
     ensures parts { small.FitTogether reach.new }
 {
     next_packet(alloc, q, reach, true, marks, out).is_ok()
@@ -63,13 +61,12 @@ fn take(
     p: &Packet<'_>,
     marks: &mut Marks,
 ) -> bool
-    requires queue { IsQueue (queue_of q.old) }
-    requires narrow { AreNarrow (queue_of q.old) }
+    requires step { CanStep q.old }
     requires packet { IsWellFormed (fields_of p.now) }
     requires response { packets.is_response p.now.opcode ≡ true }
     requires parts { small.FitTogether reach.old }
-    requires at_hand { AreAtHand small.sight_of small.IsAskHere (λ s ask. Unit {0}) reach.old (response_row (fields_of p.now) (queue_of q.old)).asks }
-    ensures queue { IsQueue (queue_of q.new) }
+    requires at_hand { AreAtHand small.sight_of small.IsAskHere (λ s ask. Unit {0}) reach.old (response_row (fields_of p.now) q.old).asks }
+    ensures queue { IsQueue q.new }
     ensures parts { small.FitTogether reach.new }
 {
     on_response(alloc, q, reach, p, marks).is_ok()

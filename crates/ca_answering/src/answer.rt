@@ -1,7 +1,6 @@
 ghost use Rattle.std.specs.Prelude.{◌≡◌, Some, IfOk, MatchResult, slice_get};
 ghost use Rattle.ca_model.specs.machine.Respond as rows;
 ghost use Rattle.ca_model.specs.machine.Row.{plain_row, NotPossible};
-ghost use Rattle.ca_qpstate.specs.Seen.{queue_of};
 
 use ca_base::{Queued, Reason, State};
 use ca_qpstate::QueuePart;
@@ -9,8 +8,8 @@ use ca_qpstate::QueuePart;
 /// The answer that the responder sends next, or why there is none: the first of the row's reasons.
 pub fn next_answer(q: &QueuePart, room: bool) -> Result<Queued, Reason>
     ensures row { MatchResult result
-        (λ answer. rows.respond_row room (queue_of q.now) ≡ rows.answer_turn (queue_of q.now) answer)
-        (λ reason. rows.respond_row room (queue_of q.now) ≡ plain_row (NotPossible reason)) }
+        (λ answer. rows.respond_row room q.now ≡ rows.answer_turn q.now answer)
+        (λ reason. rows.respond_row room q.now ≡ plain_row (NotPossible reason)) }
     ensures front { IfOk result (λ answer. slice_get q.now.responder.answers 0 ≡ Some answer) }
 {
     if matches!(q.state, State::Reset | State::Init) {

@@ -2,7 +2,6 @@ ghost use Rattle.std.specs.Prelude.{◌≡◌, ◌<◌, ◌^◌};
 ghost use Rattle.ca_grant.specs.Reaching.{IsPacketAsk};
 ghost use Rattle.ca_model.specs.machine.Invariants.{IsQueue};
 ghost use Rattle.ca_model.specs.machine.Respond as rows;
-ghost use Rattle.ca_qpstate.specs.Seen.{queue_of};
 
 use ca_arrivals::packet_ask;
 use ca_base::{Ask, Key, Kind, Queued};
@@ -54,14 +53,14 @@ impl Model for ReadLeft {
 
 /// The bytes of its next response: at most the path MTU.
 pub fn response_length(q: &QueuePart, r: &ReadLeft) -> u32
-    ensures { result ≡ rows.response_length (queue_of q.now) r.now }
+    ensures { result ≡ rows.response_length q.now r.now }
 {
     u32::from(q.responder.mtu).min(r.left)
 }
 
 /// Whether its next response is the last.
 pub fn is_last_response(q: &QueuePart, r: &ReadLeft) -> bool
-    ensures { result ≡ rows.is_last_response (queue_of q.now) r.now }
+    ensures { result ≡ rows.is_last_response q.now r.now }
 {
     r.left <= u32::from(q.responder.mtu)
 }
@@ -80,8 +79,8 @@ pub fn response_segment(first: bool, last: bool) -> Segment
 
 /// The ask of its next response: all bytes that are left are judged.
 pub fn response_ask(q: &QueuePart, r: &ReadLeft) -> Ask
-    ensures value { result ≡ rows.response_ask (queue_of q.now) r.now }
-    ensures packet { IsQueue (queue_of q.now) → 0 < r.now.left → IsPacketAsk result }
+    ensures value { result ≡ rows.response_ask q.now r.now }
+    ensures packet { IsQueue q.now → 0 < r.now.left → IsPacketAsk result }
 {
     let length = response_length(q, r);
     packet_ask(q, r.key, Kind::Read, r.address, r.left, length)
@@ -90,7 +89,7 @@ pub fn response_ask(q: &QueuePart, r: &ReadLeft) -> Ask
 /// The READ without its next response, as it waits then.
 pub fn rest_of(q: &QueuePart, r: &ReadLeft) -> Queued
     requires { r.now.psn < 2 ^ 63 }
-    ensures { result ≡ rows.rest_of (queue_of q.now) r.now }
+    ensures { result ≡ rows.rest_of q.now r.now }
 {
     let length = response_length(q, r);
     Queued::Read {

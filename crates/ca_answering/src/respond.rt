@@ -10,10 +10,9 @@ ghost use Rattle.ca_model.specs.machine.Invariants.{IsQueue};
 ghost use Rattle.ca_model.specs.machine.Requester as requester;
 ghost use Rattle.ca_model.specs.machine.Respond as rows;
 ghost use Rattle.ca_model.specs.machine.Row.{ending_of};
-ghost use Rattle.ca_qpstate.specs.Seen.{queue_of};
 ghost use Rattle.ca_answering.specs.Sending.{IsOnePacket, one_ask, packet_turn};
 ghost use Rattle.ca_rows.specs.Done.{IsTurn, handed};
-ghost use Rattle.ca_rows.specs.Narrow.{AreNarrow};
+ghost use Rattle.ca_model.specs.machine.CanStep.{CanStep};
 ghost use Rattle.ca_wire.specs.Builders as packets;
 ghost use Rattle.ca_packet.specs.declared.packet.TheConstants.{MAX_PACKET_BYTES};
 ghost use Rattle.ca_packet.specs.Packet.{IsWellFormed, fields_of, spelling};
@@ -35,7 +34,7 @@ const RESPONSE: Sent = Sent::Spelt { request: None };
 /// The ask that the responder's turn makes. None comes exactly where the next answer is no READ response with bytes. It
 /// takes no memory.
 pub fn respond_ask(q: &QueuePart) -> Option<Ask>
-    ensures { one_ask result ≡ (rows.respond_row true (queue_of q.now)).asks }
+    ensures { one_ask result ≡ (rows.respond_row true q.now).asks }
 {
     match next_answer(q, true) {
         Ok(answer) => answer_ask(q, answer),
@@ -44,7 +43,7 @@ pub fn respond_ask(q: &QueuePart) -> Option<Ask>
 }
 
 fn answer_ask(q: &QueuePart, answer: Queued) -> Option<Ask>
-    ensures { one_ask result ≡ (rows.answer_turn (queue_of q.now) answer).asks }
+    ensures { one_ask result ≡ (rows.answer_turn q.now answer).asks }
 {
     match answer {
         Queued::Read {
@@ -73,10 +72,10 @@ fn answer_ask(q: &QueuePart, answer: Queued) -> Option<Ask>
 
 /// The ask of a READ's next response, if it has bytes.
 fn read_ask(q: &QueuePart, r: &ReadLeft) -> Option<Ask>
-    ensures value { one_ask result ≡ (rows.read_row (queue_of q.now) r.now).asks }
-    ensures packet { IsQueue (queue_of q.now) → IfSome result IsPacketAsk }
+    ensures value { one_ask result ≡ (rows.read_row q.now r.now).asks }
+    ensures packet { IsQueue q.now → IfSome result IsPacketAsk }
     ensures kind { IfSome result (λ ask. ask.kind ≡ Kind.Read) }
-    ensures touch { IfSome result (λ ask. ask.touch ≡ rows.response_length (queue_of q.now) r.now) }
+    ensures touch { IfSome result (λ ask. ask.touch ≡ rows.response_length q.now r.now) }
 {
     if r.left == 0 {
         return None;
@@ -96,12 +95,11 @@ pub fn next_response<R: Reach>(
     marks: &mut Marks,
     out: &mut Vec<u8>,
 ) -> Result<Sent, StepError>
-    requires queue { IsQueue (queue_of q.old) }
-    requires narrow { AreNarrow (queue_of q.old) }
-    requires at_hand { AreAtHand R.sight R.judges R.touches reach.old (rows.respond_row room (queue_of q.old)).asks }
-    ensures turn { IsTurn R.written result (ending_of (R.sight reach.old) (rows.respond_row room (queue_of q.old)))
-        (handed (queue_of q.old) marks.old.marks out.old.items reach.old)
-        (handed (queue_of q.new) marks.new.marks out.new.items reach.new) }
+    requires step { CanStep q.old }
+    requires at_hand { AreAtHand R.sight R.judges R.touches reach.old (rows.respond_row room q.old).asks }
+    ensures turn { IsTurn R.written result (ending_of (R.sight reach.old) (rows.respond_row room q.old))
+        (handed q.old marks.old.marks out.old.items reach.old)
+        (handed q.new marks.new.marks out.new.items reach.new) }
     ensures room { OnOk result (2 ≤ marks.new.room) }
     ensures size { OnOk result (length out.new.items ≤ length out.old.items + MAX_PACKET_BYTES) }
 {
@@ -120,13 +118,12 @@ fn send_answer<R: Reach>(
     marks: &mut Marks,
     out: &mut Vec<u8>,
 ) -> Result<Sent, StepError>
-    requires queue { IsQueue (queue_of q.old) }
-    requires narrow { AreNarrow (queue_of q.old) }
+    requires step { CanStep q.old }
     requires front { slice_get q.old.responder.answers 0 ≡ Some answer }
-    requires at_hand { AreAtHand R.sight R.judges R.touches reach.old (rows.answer_turn (queue_of q.old) answer).asks }
-    ensures turn { IsTurn R.written result (ending_of (R.sight reach.old) (rows.answer_turn (queue_of q.old) answer))
-        (handed (queue_of q.old) marks.old.marks out.old.items reach.old)
-        (handed (queue_of q.new) marks.new.marks out.new.items reach.new) }
+    requires at_hand { AreAtHand R.sight R.judges R.touches reach.old (rows.answer_turn q.old answer).asks }
+    ensures turn { IsTurn R.written result (ending_of (R.sight reach.old) (rows.answer_turn q.old answer))
+        (handed q.old marks.old.marks out.old.items reach.old)
+        (handed q.new marks.new.marks out.new.items reach.new) }
     ensures room { OnOk result (2 ≤ marks.new.room) }
     ensures size { OnOk result (length out.new.items ≤ length out.old.items + MAX_PACKET_BYTES) }
 {
@@ -165,9 +162,9 @@ fn send_answer<R: Reach>(
 
 /// The packet of an answer that is no READ. Each carries the MSN as it is now.
 fn packet_of<'a>(q: &QueuePart, answer: Queued) -> Packet<'a>
-    requires queue { IsQueue (queue_of q.now) }
+    requires queue { IsQueue q.now }
     requires one { IsOnePacket answer }
-    ensures turn { rows.answer_turn (queue_of q.now) answer ≡ packet_turn (queue_of q.now) (fields_of result) }
+    ensures turn { rows.answer_turn q.now answer ≡ packet_turn q.now (fields_of result) }
     ensures formed { IsWellFormed (fields_of result) }
 {
     let (peer, msn) = (peer_number(q), q.responder.msn);
@@ -198,7 +195,7 @@ fn send_front(
     out: &mut Vec<u8>,
 ) -> Result<(), Memory>
     requires { IsWellFormed (fields_of packet.now) }
-    ensures queue { OnOk result (queue_of q.new ≡ rows.without_front (queue_of q.old)) }
+    ensures queue { OnOk result (q.new ≡ rows.without_front q.old) }
     ensures spelt { OnOk result (out.new.items ≡ out.old.items ++ spelling (fields_of packet.now)) }
     ensures room { OnOk result (2 ≤ marks.new.room) }
     ensures size { OnOk result (length out.new.items ≤ length out.old.items + MAX_PACKET_BYTES) }
@@ -221,13 +218,13 @@ fn send_read<R: Reach>(
     marks: &mut Marks,
     out: &mut Vec<u8>,
 ) -> Result<Sent, StepError>
-    requires queue { IsQueue (queue_of q.old) }
+    requires queue { IsQueue q.old }
     requires some { 0 < length q.old.responder.answers }
     requires psn { r.now.psn < 2 ^ 63 }
-    requires at_hand { AreAtHand R.sight R.judges R.touches reach.old (rows.read_row (queue_of q.old) r.now).asks }
-    ensures turn { IsTurn R.written result (ending_of (R.sight reach.old) (rows.read_row (queue_of q.old) r.now))
-        (handed (queue_of q.old) marks.old.marks out.old.items reach.old)
-        (handed (queue_of q.new) marks.new.marks out.new.items reach.new) }
+    requires at_hand { AreAtHand R.sight R.judges R.touches reach.old (rows.read_row q.old r.now).asks }
+    ensures turn { IsTurn R.written result (ending_of (R.sight reach.old) (rows.read_row q.old r.now))
+        (handed q.old marks.old.marks out.old.items reach.old)
+        (handed q.new marks.new.marks out.new.items reach.new) }
     ensures room { OnOk result (2 ≤ marks.new.room) }
     ensures size { OnOk result (length out.new.items ≤ length out.old.items + MAX_PACKET_BYTES) }
 {
@@ -269,13 +266,13 @@ fn send_bytes(
     marks: &mut Marks,
     out: &mut Vec<u8>,
 ) -> Result<(), Memory>
-    requires queue { IsQueue (queue_of q.old) }
+    requires queue { IsQueue q.old }
     requires some { 0 < length q.old.responder.answers }
     requires psn { r.now.psn < 2 ^ 63 }
     requires payload { length bytes ≤ MAX_PAYLOAD_BYTES }
-    ensures queue { OnOk result (queue_of q.new ≡ (rows.read_answer (queue_of q.old) r.now bytes).queue) }
-    ensures marks { OnOk result (marks.new.marks ≡ marks.old.marks ++ (rows.read_answer (queue_of q.old) r.now bytes).marks) }
-    ensures spelt { OnOk result (out.new.items ≡ out.old.items ++ (rows.read_answer (queue_of q.old) r.now bytes).spelt) }
+    ensures queue { OnOk result (q.new ≡ (rows.read_answer q.old r.now bytes).queue) }
+    ensures marks { OnOk result (marks.new.marks ≡ marks.old.marks ++ (rows.read_answer q.old r.now bytes).marks) }
+    ensures spelt { OnOk result (out.new.items ≡ out.old.items ++ (rows.read_answer q.old r.now bytes).spelt) }
     ensures room { OnOk result (2 ≤ marks.new.room) }
     ensures size { OnOk result (length out.new.items ≤ length out.old.items + MAX_PACKET_BYTES) }
     ensures err_queue { OnErr result (q.new ≡ q.old) }
@@ -300,7 +297,7 @@ fn send_bytes(
 fn leave_front(q: &mut QueuePart, r: &ReadLeft, last: bool)
     requires some { 0 < length q.old.responder.answers }
     requires psn { r.now.psn < 2 ^ 63 }
-    ensures { queue_of q.new ≡ (if last then rows.without_front (queue_of q.old) else rows.with_front (rows.rest_of (queue_of q.old) r.now) (queue_of q.old)) }
+    ensures { q.new ≡ (if last then rows.without_front q.old else rows.with_front (rows.rest_of q.old r.now) q.old) }
 {
     if last {
         q.responder.answers.pop();
@@ -319,10 +316,10 @@ fn refuse_read(
     marks: &mut Marks,
     out: &mut Vec<u8>,
 ) -> Result<(), Memory>
-    requires queue { IsQueue (queue_of q.old) }
-    ensures queue { OnOk result (queue_of q.new ≡ without_answers (in_error (queue_of q.old))) }
-    ensures marks { OnOk result (marks.new.marks ≡ marks.old.marks ++ (arrivals.remote_mark (rows.response_ask (queue_of q.old) r.now) r.now.envelope (Verdict.Denied denial) ∷ flush_marks (queue_of q.old))) }
-    ensures spelt { OnOk result (out.new.items ≡ out.old.items ++ spelling (packets.nak NakCode.RemoteAccessError (requester.peer_number (queue_of q.old)) (requester.psn_bits r.now.psn) q.old.responder.msn)) }
+    requires queue { IsQueue q.old }
+    ensures queue { OnOk result (q.new ≡ without_answers (in_error q.old)) }
+    ensures marks { OnOk result (marks.new.marks ≡ marks.old.marks ++ (arrivals.remote_mark (rows.response_ask q.old r.now) r.now.envelope (Verdict.Denied denial) ∷ flush_marks q.old)) }
+    ensures spelt { OnOk result (out.new.items ≡ out.old.items ++ spelling (packets.nak NakCode.RemoteAccessError (requester.peer_number q.old) (requester.psn_bits r.now.psn) q.old.responder.msn)) }
     ensures room { OnOk result (2 ≤ marks.new.room) }
     ensures size { OnOk result (length out.new.items ≤ length out.old.items + MAX_PACKET_BYTES) }
     ensures err_queue { OnErr result (q.new ≡ q.old) }

@@ -6,10 +6,9 @@ ghost use Rattle.ca_model.specs.machine.Arrivals as arrivals;
 ghost use Rattle.ca_model.specs.machine.Delivery.{packet_arrived};
 ghost use Rattle.ca_model.specs.machine.Expected as rows;
 ghost use Rattle.ca_model.specs.machine.Invariants.{IsList, IsQueue, IsSharedReceives};
-ghost use Rattle.ca_qpstate.specs.Seen.{queue_of};
 ghost use Rattle.ca_arrivals.specs.Asking.{IsFree, asks_fitting, send_asks};
 ghost use Rattle.ca_arrivals.specs.Shapes.{shape_seen};
-ghost use Rattle.ca_rows.specs.Narrow.{AreNarrow};
+ghost use Rattle.ca_model.specs.machine.CanStep.{CanStep};
 ghost use Rattle.ca_packet.specs.Packet.{IsWellFormed, fields_of};
 
 use crate::checks::{is_invalid, lacks_receive};
@@ -27,12 +26,11 @@ use ca_wire::Packet;
 
 /// The asks that `on_request` may make, in order; it makes no other. It takes no memory.
 pub fn request_asks(q: &QueuePart, srq: Option<&Srq>, p: &Packet<'_>) -> ArrayVec<Ask, MAX_PIECES>
-    requires queue { IsQueue (queue_of q.now) }
-    requires narrow { AreNarrow (queue_of q.now) }
+    requires step { CanStep q.now }
     requires shared { IfSome (option_copied srq) IsSharedReceives }
     requires packet { IsWellFormed (fields_of p.now) }
     requires request { is_response p.now.opcode ≡ false }
-    ensures { (envelope : Option ℕ) → result.items ≡ (packet_arrived (fields_of p.now) envelope (option_copied srq.entry) (queue_of q.now)).asks }
+    ensures { (envelope : Option ℕ) → result.items ≡ (packet_arrived (fields_of p.now) envelope (option_copied srq.entry) q.now).asks }
 {
     let Some(shape) = shape_of(p.opcode) else {
         return ArrayVec::new();
@@ -50,10 +48,10 @@ fn expected_asks(
     p: &Packet<'_>,
     shape: Shape,
 ) -> ArrayVec<Ask, MAX_PIECES>
-    requires queue { IsQueue (queue_of q.now) }
+    requires queue { IsQueue q.now }
     requires shared { IfSome (option_copied srq) IsSharedReceives }
     requires packet { IsWellFormed (fields_of p.now) }
-    ensures { (envelope : Option ℕ) → result.items ≡ (rows.expected_row (queue_of q.now) (option_copied srq.entry) (fields_of p.now) envelope (shape_seen shape)).asks }
+    ensures { (envelope : Option ℕ) → result.items ≡ (rows.expected_row q.now (option_copied srq.entry) (fields_of p.now) envelope (shape_seen shape)).asks }
 {
     if is_invalid(q, p, shape) {
         return ArrayVec::new();
@@ -72,11 +70,11 @@ fn valid_asks(
     p: &Packet<'_>,
     shape: Shape,
 ) -> ArrayVec<Ask, MAX_PIECES>
-    requires queue { IsQueue (queue_of q.now) }
+    requires queue { IsQueue q.now }
     requires shared { IfSome (option_copied srq) IsSharedReceives }
     requires packet { IsWellFormed (fields_of p.now) }
-    ensures { (envelope : Option ℕ) → result.items ≡ (rows.valid_row (arrivals.with_flag false (queue_of q.now)) (fields_of p.now) envelope
-        (arrivals.next_receive (queue_of q.now) (option_copied srq.entry)) (shape_seen shape)).asks }
+    ensures { (envelope : Option ℕ) → result.items ≡ (rows.valid_row (arrivals.with_flag false q.now) (fields_of p.now) envelope
+        (arrivals.next_receive q.now (option_copied srq.entry)) (shape_seen shape)).asks }
 {
     match shape {
         Shape::Send(_) => message_asks(q, srq, p),
@@ -94,10 +92,10 @@ fn valid_asks(
 
 /// The asks of a SEND packet, by the receive of the message in progress, or by the next one.
 fn message_asks(q: &QueuePart, srq: Option<&Srq>, p: &Packet<'_>) -> ArrayVec<Ask, MAX_PIECES>
-    requires queue { IsQueue (queue_of q.now) }
+    requires queue { IsQueue q.now }
     requires shared { IfSome (option_copied srq) IsSharedReceives }
     requires packet { IsWellFormed (fields_of p.now) }
-    ensures { result.items ≡ send_asks (queue_of q.now) (fields_of p.now) (arrivals.next_receive (queue_of q.now) (option_copied srq.entry)) }
+    ensures { result.items ≡ send_asks q.now (fields_of p.now) (arrivals.next_receive q.now (option_copied srq.entry)) }
 {
     match &q.responder.message {
         Some(Message::Send { receive, bytes, .. }) => {
@@ -111,11 +109,11 @@ fn message_asks(q: &QueuePart, srq: Option<&Srq>, p: &Packet<'_>) -> ArrayVec<As
 /// The asks of a SEND packet that begins its message.
 #[tactic(auto, using(crate::proofs::AskingLemmas::asks_of_next, crate::proofs::AskingLemmas::asks_of_none))]
 fn next_asks(q: &QueuePart, srq: Option<&Srq>, p: &Packet<'_>) -> ArrayVec<Ask, MAX_PIECES>
-    requires queue { IsQueue (queue_of q.now) }
+    requires queue { IsQueue q.now }
     requires shared { IfSome (option_copied srq) IsSharedReceives }
     requires packet { IsWellFormed (fields_of p.now) }
     requires free { IsFree q.now.responder.message }
-    ensures { result.items ≡ send_asks (queue_of q.now) (fields_of p.now) (arrivals.next_receive (queue_of q.now) (option_copied srq.entry)) }
+    ensures { result.items ≡ send_asks q.now (fields_of p.now) (arrivals.next_receive q.now (option_copied srq.entry)) }
 {
     match next_receive(q, srq) {
         Some(receive) => fitting_asks(q, p, 0, receive.list.as_slice()),
@@ -133,7 +131,7 @@ fn fitting_asks(
     requires payload { length p.now.payload.now ≤ MAX_PAYLOAD_BYTES }
     requires before { before ≤ MAX_MESSAGE_BYTES }
     requires list { IsList list.now }
-    ensures { result.items ≡ asks_fitting (queue_of q.now) (fields_of p.now) before list.now }
+    ensures { result.items ≡ asks_fitting q.now (fields_of p.now) before list.now }
 {
     if exceeds_receive(p, before, list) {
         return ArrayVec::new();
@@ -145,7 +143,7 @@ fn fitting_asks(
 fn left_asks(q: &QueuePart, p: &Packet<'_>, r: &WriteReach) -> ArrayVec<Ask, MAX_PIECES>
     requires { length p.now.payload.now ≤ MAX_PAYLOAD_BYTES }
     ensures { result.items ≡ (if r.now.left == 0 then []
-        else arrivals.packet_ask (queue_of q.now) r.now.key Kind.Write r.now.address r.now.left (length p.now.payload.now) ∷ []) }
+        else arrivals.packet_ask q.now r.now.key Kind.Write r.now.address r.now.left (length p.now.payload.now) ∷ []) }
 {
     if r.left == 0 {
         return ArrayVec::new();

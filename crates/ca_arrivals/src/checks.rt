@@ -6,7 +6,6 @@ ghost use Rattle.ca_model.specs.machine.Arrivals as arrivals;
 ghost use Rattle.ca_model.specs.machine.Expected as rows;
 ghost use Rattle.ca_model.specs.machine.Invariants.{IsQueue, IsReceive, IsSharedReceives};
 ghost use Rattle.ca_model.specs.machine.Shapes as shapes;
-ghost use Rattle.ca_qpstate.specs.Seen.{queue_of};
 ghost use Rattle.ca_arrivals.specs.Shapes.{shape_seen};
 ghost use Rattle.ca_packet.specs.Packet.{fields_of};
 
@@ -21,7 +20,7 @@ use ca_wire::{Packet, Position};
 
 /// Whether the packet with the expected PSN is an invalid request: the checks in their order.
 pub fn is_invalid(q: &QueuePart, p: &Packet<'_>, shape: Shape) -> bool
-    ensures { result ≡ rows.is_invalid (queue_of q.now) (fields_of p.now) (shape_seen shape) }
+    ensures { result ≡ rows.is_invalid q.now (fields_of p.now) (shape_seen shape) }
 {
     if !check_op_seq(&q.responder.message, shape) {
         return true;
@@ -65,7 +64,7 @@ fn check_op_seq(message: &Option<Message>, shape: Shape) -> bool
 
 /// Whether the payload of a SEND or a WRITE fits its place in the message.
 fn check_length(q: &QueuePart, p: &Packet<'_>, shape: Shape) -> bool
-    ensures { result ≡ rows.fits_payload (queue_of q.now) (fields_of p.now) (shape_seen shape) }
+    ensures { result ≡ rows.fits_payload q.now (fields_of p.now) (shape_seen shape) }
 {
     let mtu = usize::from(q.responder.mtu);
     match shape {
@@ -90,7 +89,7 @@ fn fits_place(mtu: usize, place: Position, count: usize) -> bool
 
 /// Whether a WRITE leaves bytes before its last packet, and ends exactly with it.
 fn check_write_length(q: &QueuePart, p: &Packet<'_>, shape: Shape) -> bool
-    ensures { result ≡ rows.fits_write (queue_of q.now) (fields_of p.now) (shape_seen shape) }
+    ensures { result ≡ rows.fits_write q.now (fields_of p.now) (shape_seen shape) }
 {
     match shape {
         Shape::Write(place) => match write_reach(q, p) {
@@ -136,7 +135,7 @@ fn is_misaligned(p: &Packet<'_>) -> bool
 
 /// Whether a READ or an atomic comes where as many are queued as may be.
 fn has_no_place(q: &QueuePart, shape: Shape) -> bool
-    ensures { result ≡ rows.has_no_place (queue_of q.now) (shape_seen shape) }
+    ensures { result ≡ rows.has_no_place q.now (shape_seen shape) }
 {
     match shape {
         Shape::Read => q.responder.answers.fresh_count() >= usize::from(MAX_READS),
@@ -161,9 +160,9 @@ fn takes_receive(p: &Packet<'_>, shape: Shape) -> bool
 /// Whether the packet takes a receive where there is none.
 #[tactic(auto, using(crate::proofs::AskingLemmas::none_waits))]
 pub fn lacks_receive(q: &QueuePart, srq: Option<&Srq>, p: &Packet<'_>, shape: Shape) -> bool
-    requires { IsQueue (queue_of q.now) }
+    requires { IsQueue q.now }
     ensures { result ≡ (rows.takes_receive (fields_of p.now) (shape_seen shape)
-        && is_none (arrivals.next_receive (queue_of q.now) (option_copied srq.entry))) }
+        && is_none (arrivals.next_receive q.now (option_copied srq.entry))) }
 {
     takes_receive(p, shape) && next_receive(q, srq).is_none()
 }
@@ -175,12 +174,12 @@ pub fn taken_receive(
     p: &Packet<'_>,
     shape: Shape,
 ) -> Result<Option<Placed>, Memory>
-    requires queue { IsQueue (queue_of q.now) }
+    requires queue { IsQueue q.now }
     requires shared { IfSome (option_copied srq) IsSharedReceives }
     ensures value { IfOk result (λ next. next ≡ receive_if (rows.takes_receive (fields_of p.now) (shape_seen shape))
-        (arrivals.next_receive (queue_of q.now) (option_copied srq.entry))) }
+        (arrivals.next_receive q.now (option_copied srq.entry))) }
     ensures sound { IfOk result (λ next. IfSome next (λ r. IsReceive r.receive)) }
-    ensures takes { IfOk result (λ next. CanTake (queue_of q.now) next) }
+    ensures takes { IfOk result (λ next. CanTake q.now next) }
 {
     if takes_receive(p, shape) {
         return find_receive(q, srq);

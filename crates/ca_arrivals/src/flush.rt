@@ -3,7 +3,6 @@ ghost use Rattle.ca_base.specs.objects.WorkQueue.{waiting_count};
 ghost use Rattle.ca_model.specs.machine.Arrivals.{with_message, with_receive_taken};
 ghost use Rattle.ca_model.specs.machine.Completions.{flush_marks};
 ghost use Rattle.ca_model.specs.machine.Invariants.{IsQueue};
-ghost use Rattle.ca_qpstate.specs.Seen.{queue_of};
 ghost use Rattle.ca_arrivals.specs.Numbers.{receive_taken};
 
 use crate::receive::next_place;
@@ -14,8 +13,8 @@ use ca_rows::{push_flushed, push_flushed_receives, push_flushed_sends};
 
 /// Adds the completions of all that is posted and unfinished, flushed.
 pub fn push_flush(q: &QueuePart, made: &mut Vec<Mark>) -> Result<(), Memory>
-    requires { IsQueue (queue_of q.now) }
-    ensures marks { OnOk result (made.new.items ≡ made.old.items ++ flush_marks (queue_of q.now)) }
+    requires { IsQueue q.now }
+    ensures marks { OnOk result (made.new.items ≡ made.old.items ++ flush_marks q.now) }
     ensures few { OnOk result (length made.new.items ≤ length made.old.items + 513) }
 {
     push_flushed(q, q.requester.oldest, made)?;
@@ -34,9 +33,9 @@ pub fn reserve_for(marks: &mut Marks, made: &Vec<Mark>) -> Result<(), Memory>
 /// Adds the completions of all that is posted and unfinished, flushed, but for the message in progress and, where it is
 /// taken, the next receive.
 pub fn push_flush_behind(q: &QueuePart, taken: bool, made: &mut Vec<Mark>) -> Result<(), Memory>
-    requires queue { IsQueue (queue_of q.now) }
+    requires queue { IsQueue q.now }
     requires takes { taken ≡ true → IfSome q.now.receives (λ r. 0 < waiting_count r) }
-    ensures marks { OnOk result (made.new.items ≡ made.old.items ++ flush_marks (with_message None (receive_taken taken (queue_of q.now)))) }
+    ensures marks { OnOk result (made.new.items ≡ made.old.items ++ flush_marks (with_message None (receive_taken taken q.now))) }
     ensures few { OnOk result (length made.new.items ≤ length made.old.items + 513) }
 {
     if taken {
@@ -49,8 +48,8 @@ pub fn push_flush_behind(q: &QueuePart, taken: bool, made: &mut Vec<Mark>) -> Re
 
 /// Adds these completions, where no receive is taken.
 fn push_flush_rest(q: &QueuePart, made: &mut Vec<Mark>) -> Result<(), Memory>
-    requires { IsQueue (queue_of q.now) }
-    ensures { OnOk result (made.new.items ≡ made.old.items ++ flush_marks (with_message None (queue_of q.now))) }
+    requires { IsQueue q.now }
+    ensures { OnOk result (made.new.items ≡ made.old.items ++ flush_marks (with_message None q.now)) }
 {
     push_flushed_sends(
         q.queue,
@@ -68,9 +67,9 @@ fn push_flush_rest(q: &QueuePart, made: &mut Vec<Mark>) -> Result<(), Memory>
 
 /// Adds these completions, where the next receive is taken.
 fn push_flush_taken(q: &QueuePart, made: &mut Vec<Mark>) -> Result<(), Memory>
-    requires queue { IsQueue (queue_of q.now) }
+    requires queue { IsQueue q.now }
     requires takes { IfSome q.now.receives (λ r. 0 < waiting_count r) }
-    ensures { OnOk result (made.new.items ≡ made.old.items ++ flush_marks (with_message None (with_receive_taken (queue_of q.now)))) }
+    ensures { OnOk result (made.new.items ≡ made.old.items ++ flush_marks (with_message None (with_receive_taken q.now))) }
 {
     push_flushed_sends(
         q.queue,

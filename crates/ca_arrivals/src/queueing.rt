@@ -4,7 +4,6 @@ ghost use Rattle.ca_model.specs.declared.mark.Mark.TheVariants as marked;
 ghost use Rattle.ca_model.specs.machine.Arrivals as arrivals;
 ghost use Rattle.ca_model.specs.machine.Completions.{flush_marks};
 ghost use Rattle.ca_model.specs.machine.Invariants.{IsQueue};
-ghost use Rattle.ca_qpstate.specs.Seen.{queue_of};
 ghost use Rattle.ca_arrivals.specs.Numbers.{acknowledged, passed};
 ghost use Rattle.ca_base.specs.objects.QueuePair.{in_error};
 ghost use Rattle.ca_wire.specs.Syndrome.{nak_code};
@@ -39,7 +38,7 @@ pub fn queue_answer(
     nak_sent: bool,
     marks: &mut Marks,
 ) -> Result<(), Memory>
-    ensures queue { OnOk result (queue_of q.new ≡ arrivals.with_flag nak_sent (arrivals.with_answer answer (queue_of q.old))) }
+    ensures queue { OnOk result (q.new ≡ arrivals.with_flag nak_sent (arrivals.with_answer answer q.old)) }
     ensures marks { marks.new.marks ≡ marks.old.marks }
     ensures room { OnOk result (2 ≤ marks.new.room) }
     ensures err { OnErr result (q.new ≡ q.old) }
@@ -52,7 +51,7 @@ pub fn queue_answer(
 
 /// Queues an acknowledgement of the expected packet, where it asks for one.
 pub fn queue_ack(q: &mut QueuePart, p: &Packet<'_>) -> Result<(), Memory>
-    ensures queue { OnOk result (queue_of q.new ≡ acknowledged p.now.ack (queue_of q.old)) }
+    ensures queue { OnOk result (q.new ≡ acknowledged p.now.ack q.old) }
     ensures name { q.new.queue ≡ q.old.queue }
     ensures err { OnErr result (q.new ≡ q.old) }
 {
@@ -68,7 +67,7 @@ pub fn pass(q: &mut QueuePart, count: u64, at_end: bool)
     requires expected { q.old.responder.expected < 2 ^ 62 }
     requires count { count ≤ 2 ^ 32 }
     requires msn { q.old.responder.msn < 2 ^ 24 }
-    ensures { queue_of q.new ≡ passed count at_end (queue_of q.old) }
+    ensures { q.new ≡ passed count at_end q.old }
 {
     q.responder.nak_sent = false;
     q.responder.expected += count;
@@ -85,10 +84,10 @@ pub fn refuse(
     mut made: Vec<Mark>,
     marks: &mut Marks,
 ) -> Result<(), Memory>
-    requires queue { IsQueue (queue_of q.old) }
+    requires queue { IsQueue q.old }
     requires few { length made.items ≤ 2 }
-    ensures queue { OnOk result (queue_of q.new ≡ (arrivals.refusal_effects code (arrivals.with_flag false (queue_of q.old))).queue) }
-    ensures marks { OnOk result (marks.new.marks ≡ marks.old.marks ++ (made.items ++ flush_marks (queue_of q.old))) }
+    ensures queue { OnOk result (q.new ≡ (arrivals.refusal_effects code (arrivals.with_flag false q.old)).queue) }
+    ensures marks { OnOk result (marks.new.marks ≡ marks.old.marks ++ (made.items ++ flush_marks q.old)) }
     ensures room { OnOk result (2 ≤ marks.new.room) }
     ensures err { OnErr result (q.new ≡ q.old) }
     ensures err_marks { OnErr result (marks.new.marks ≡ marks.old.marks) }
@@ -102,7 +101,7 @@ pub fn refuse(
 
 /// Queues a NAK at the expected PSN, and moves the queue pair to Error.
 pub fn queue_refusal(q: &mut QueuePart, code: NakCode) -> Result<(), Memory>
-    ensures queue { OnOk result (queue_of q.new ≡ in_error (arrivals.with_answer (Queued.Nak q.old.responder.expected (nak_code code)) (arrivals.with_flag false (queue_of q.old)))) }
+    ensures queue { OnOk result (q.new ≡ in_error (arrivals.with_answer (Queued.Nak q.old.responder.expected (nak_code code)) (arrivals.with_flag false q.old))) }
     ensures err { OnErr result (q.new ≡ q.old) }
 {
     q.responder.answers.push(Queued::Nak {

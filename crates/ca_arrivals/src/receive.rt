@@ -10,7 +10,6 @@ ghost use Rattle.ca_model.specs.machine.Arrivals as arrivals;
 ghost use Rattle.ca_model.specs.machine.Expected as rows;
 ghost use Rattle.ca_model.specs.machine.Invariants.{IsQueue, IsReceive, IsReceives, IsSharedReceives};
 ghost use Rattle.ca_model.specs.machine.Numbering.{list_asks};
-ghost use Rattle.ca_qpstate.specs.Seen.{queue_of};
 ghost use Rattle.ca_rows.specs.Asks.{IsAskOf, touched_by};
 ghost use Rattle.ca_arrivals.specs.Receives.{CanTake, MayTake};
 
@@ -66,8 +65,8 @@ pub fn next_place(receives: &WorkQueue<RecvRequest>) -> u64
 /// The receive that a message would take: of the shared receive queue, or of the queue pair's own. None comes exactly
 /// where none waits. It takes no memory.
 pub fn next_receive<'a>(q: &'a QueuePart, srq: Option<&'a Srq>) -> Option<&'a RecvRequest>
-    requires { IsQueue (queue_of q.now) }
-    ensures { option_copied result ≡ option_map (λ r. r.receive) (arrivals.next_receive (queue_of q.now) (option_copied srq.entry)) }
+    requires { IsQueue q.now }
+    ensures { option_copied result ≡ option_map (λ r. r.receive) (arrivals.next_receive q.now (option_copied srq.entry)) }
 {
     if q.srq.is_some() {
         return match srq {
@@ -83,8 +82,8 @@ pub fn next_receive<'a>(q: &'a QueuePart, srq: Option<&'a Srq>) -> Option<&'a Re
 
 /// The place of the receive that a message would take.
 fn next_receive_place(q: &QueuePart, srq: Option<&Srq>) -> Option<u64>
-    requires { IsQueue (queue_of q.now) }
-    ensures { IfSome (arrivals.next_receive (queue_of q.now) (option_copied srq.entry)) (λ r. result ≡ Some r.place) }
+    requires { IsQueue q.now }
+    ensures { IfSome (arrivals.next_receive q.now (option_copied srq.entry)) (λ r. result ≡ Some r.place) }
 {
     if q.srq.is_some() {
         return match srq {
@@ -100,11 +99,11 @@ fn next_receive_place(q: &QueuePart, srq: Option<&Srq>) -> Option<u64>
 
 /// A copy of the receive that a message would take, with its place.
 pub fn find_receive(q: &QueuePart, srq: Option<&Srq>) -> Result<Option<Placed>, Memory>
-    requires queue { IsQueue (queue_of q.now) }
+    requires queue { IsQueue q.now }
     requires shared { IfSome (option_copied srq) IsSharedReceives }
-    ensures value { IfOk result (λ next. next ≡ arrivals.next_receive (queue_of q.now) (option_copied srq.entry)) }
+    ensures value { IfOk result (λ next. next ≡ arrivals.next_receive q.now (option_copied srq.entry)) }
     ensures sound { IfOk result (λ next. IfSome next (λ r. IsReceive r.receive)) }
-    ensures takes { IfOk result (λ next. CanTake (queue_of q.now) next) }
+    ensures takes { IfOk result (λ next. CanTake q.now next) }
 {
     let Some(receive) = next_receive(q, srq) else {
         return Ok(None);
@@ -118,12 +117,12 @@ pub fn find_receive(q: &QueuePart, srq: Option<&Srq>) -> Result<Option<Placed>, 
 
 /// The receive of a SEND packet: the next one where the message begins, and else that of the message in progress.
 pub fn receiving_of(q: &QueuePart, next: Option<Placed>) -> Result<Option<Receiving>, Memory>
-    requires queue { IsQueue (queue_of q.now) }
+    requires queue { IsQueue q.now }
     requires next { IfSome next (λ r. IsReceive r.receive) }
-    requires takes { CanTake (queue_of q.now) next }
-    ensures value { IfOk result (λ r. r ≡ rows.receiving_of (queue_of q.now) next q.now.responder.message) }
+    requires takes { CanTake q.now next }
+    ensures value { IfOk result (λ r. r ≡ rows.receiving_of q.now next q.now.responder.message) }
     ensures sound { IfOk result (λ r. IfSome r (λ r. IsReceive r.receive.receive × (r.before ≤ MAX_MESSAGE_BYTES))) }
-    ensures takes { IfOk result (λ r. IfSome r (λ r. MayTake r (queue_of q.now))) }
+    ensures takes { IfOk result (λ r. IfSome r (λ r. MayTake r q.now)) }
 {
     if let Some(
         Message::Send {
@@ -155,7 +154,7 @@ pub fn receiving_of(q: &QueuePart, next: Option<Placed>) -> Result<Option<Receiv
 /// Takes the next receive of the queue pair's own, where it has one.
 pub fn take_own(q: &mut QueuePart)
     requires { IfSome q.old.receives (λ r. 0 < waiting_count r) }
-    ensures { queue_of q.new ≡ arrivals.with_receive_taken (queue_of q.old) }
+    ensures { q.new ≡ arrivals.with_receive_taken q.old }
 {
     if let Some(receives) = &mut q.receives {
         receives.take_next();

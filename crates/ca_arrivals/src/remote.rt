@@ -1,6 +1,5 @@
 ghost use Rattle.std.specs.Prelude.{◌≡◌};
 ghost use Rattle.ca_model.specs.machine.Arrivals as arrivals;
-ghost use Rattle.ca_qpstate.specs.Seen.{queue_of};
 
 use ca_base::{Ask, Key, Kind, Verdict};
 use ca_model::Mark;
@@ -8,7 +7,7 @@ use ca_qpstate::QueuePart;
 
 /// The ask of a packet by an R_Key, for so many bytes from an address on, of which it touches some.
 pub fn packet_ask(q: &QueuePart, key: Key, kind: Kind, address: u64, length: u32, touch: u32) -> Ask
-    ensures { result ≡ arrivals.packet_ask (queue_of q.now) key kind address length touch }
+    ensures { result ≡ arrivals.packet_ask q.now key kind address length touch }
 {
     Ask {
         queue: q.queue,

@@ -18,7 +18,6 @@ use Rattle.ca_laws.proofs.ResponseLemmas.{IsGoodEnding, IsGoodRow, plain-good, r
 use Rattle.ca_laws.proofs.TurnLemmas.{all-fail, operation-good, packet-good, timeout-good, wake-good}
 use Rattle.ca_model.specs.declared.mark.Mark.{Mark}
 use Rattle.ca_qpstate.specs.ComesUp.{AreDepths}
-use Rattle.ca_qpstate.specs.Seen.{queue_of}
 use Rattle.ca_model.specs.machine.Invariants.{IsList, IsQueue, is_sending}
 use Rattle.ca_model.specs.machine.Requester.{RequestTurn, Waits, Performs, Sends, turn_of}
 use Rattle.ca_model.specs.machine.Responses.{response_row}
@@ -95,7 +94,7 @@ taking_kept result s p before new kept h =
     taking-ending-kept result (ending_of s (response_row p before.queue)) before new kept
     (ends-good before.queue s (response_row p before.queue) (response-good p before.queue kept.queue)) h
 
-pub stands_by : (b : Bed) {ms : List Mark} {out : List ℕ} → IsKept (record { queue = queue_of b.queue; marks = ms; out = out; reach = b.reach }) → Stands b
+pub stands_by : (b : Bed) {ms : List Mark} {out : List ℕ} → IsKept (record { queue = b.queue; marks = ms; out = out; reach = b.reach }) → Stands b
 stands_by b kept = record { queue = kept.queue; reach = kept.reach }
 
 -- asks of this adapter may be handed on

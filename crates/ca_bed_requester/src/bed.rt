@@ -6,8 +6,7 @@ ghost use Rattle.ca_model.specs.Requests as requests;
 ghost use Rattle.ca_model.specs.machine.Invariants.{IsList, IsQueue};
 ghost use Rattle.ca_model.specs.machine.Requester.{turn_of};
 ghost use Rattle.ca_sending.specs.Turn.{is_performing};
-ghost use Rattle.ca_qpstate.specs.Seen.{queue_of};
-ghost use Rattle.ca_rows.specs.Narrow.{AreNarrow};
+ghost use Rattle.ca_model.specs.machine.CanStep.{AreNarrow, CanStep};
 ghost use Rattle.ca_bed_reach.specs.SmallReach as small;
 ghost use Rattle.ca_bed_requester.specs.Bed as beds;
 ghost use Rattle.ca_packet.specs.Packet.{IsWellFormed, fields_of};
@@ -40,7 +39,7 @@ pub const FAR: u64 = 1 << 62;
 
 /// Whether the numbers that only events raise lie far below the ends of their types.
 pub fn is_narrow(q: &QueuePart) -> bool
-    ensures { IsTrue result → AreNarrow (queue_of q.now) }
+    ensures { IsTrue result → AreNarrow q.now }
 {
     let r = &q.requester;
     r.una < FAR
@@ -95,9 +94,8 @@ fn holds(list: &[Piece], most: u32) -> bool
 
 // Whether the turn performs a local operation.
 fn is_local_next(q: &QueuePart) -> bool
-    requires queue { IsQueue (queue_of q.now) }
-    requires narrow { AreNarrow (queue_of q.now) }
-    ensures { IsTrue result → is_performing (turn_of (queue_of q.now)) ≡ true }
+    requires { CanStep q.now }
+    ensures { IsTrue result → is_performing (turn_of q.now) ≡ true }
 {
     match next_local(q) {
         Ok(Some(_)) => true,
@@ -114,9 +112,8 @@ fn fire(
     hasten: bool,
     marks: &mut Marks,
 ) -> Result<(), StepError>
-    requires queue { IsQueue (queue_of q.old) }
-    requires narrow { AreNarrow (queue_of q.old) }
-    ensures { IsQueue (queue_of q.new) }
+    requires { CanStep q.old }
+    ensures { IsQueue q.new }
 {
     match on_timeout(alloc, q, silent, hasten, marks) {
         Ok(()) => Ok(()),
@@ -132,10 +129,9 @@ fn finish(
     cause: Option<OpRefusal>,
     marks: &mut Marks,
 ) -> Result<(), Memory>
-    requires queue { IsQueue (queue_of q.old) }
-    requires narrow { AreNarrow (queue_of q.old) }
-    requires performs { is_performing (turn_of (queue_of q.old)) ≡ true }
-    ensures { IsQueue (queue_of q.new) }
+    requires step { CanStep q.old }
+    requires performs { is_performing (turn_of q.old) ≡ true }
+    ensures { IsQueue q.new }
 {
     marks.reserve(1)?;
     match local_done(alloc, q, cause, marks) {
@@ -146,10 +142,10 @@ fn finish(
 
 // Posts a request that can be posted, unless the queue is full.
 fn push(q: &mut QueuePart, request: SendRequest) -> Result<u64, PostedSend>
-    requires queue { IsQueue (queue_of q.old) }
+    requires queue { IsQueue q.old }
     requires list { IsList (requests.list_of request.op) }
     requires far { suc (next_place q.old.sends) < 2 ^ 64 }
-    ensures { IsQueue (queue_of q.new) }
+    ensures { IsQueue q.new }
 {
     let posted = PostedSend {
         request,
@@ -163,8 +159,8 @@ fn push(q: &mut QueuePart, request: SendRequest) -> Result<u64, PostedSend>
 
 // Posts a request.
 fn post(q: &mut QueuePart, request: SendRequest) -> bool
-    requires { IsQueue (queue_of q.old) }
-    ensures { IsQueue (queue_of q.new) }
+    requires { IsQueue q.old }
+    ensures { IsQueue q.new }
 {
     if !is_short(list_of(&request.op)) || q.sends.next_place() >= FAR {
         return false;

@@ -1,6 +1,5 @@
 ghost use Rattle.std.specs.Prelude.{IfSome};
 ghost use Rattle.ca_model.specs.machine.Invariants.{IsQueue};
-ghost use Rattle.ca_qpstate.specs.Seen.{queue_of};
 ghost use Rattle.ca_bed_requester.specs.Bed as beds;
 
 use crate::bed::Bed;
@@ -54,7 +53,7 @@ pub fn config() -> Config {
 // The queue pair in Reset.
 #[tactic(auto, using(crate::proofs::Kept::full_depths))]
 fn queue_of_setup(alloc: Global, setup: &Setup) -> Option<QueuePart>
-    ensures { IfSome result (λ q. IsQueue (queue_of q)) }
+    ensures { IfSome result (λ q. IsQueue q) }
 {
     let (name, domain) = (setup.queue, setup.slot.domain);
     match QueuePart::create(alloc, name, domain, 1, 0, 0, DEPTH, DEPTH, setup.srq) {

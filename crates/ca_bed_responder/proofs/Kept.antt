@@ -36,7 +36,6 @@ use Rattle.ca_model.specs.machine.Respond.{answer_turn, respond_row}
 use Rattle.ca_model.specs.machine.Responses.{drop_effects}
 use Rattle.ca_model.specs.machine.Row.{Ending, NotPossible, Does, Row, ending_of, plain_row}
 use Rattle.ca_arrivals.specs.Taking.{found, IsArrival, after_shared, ended_by, without_key}
-use Rattle.ca_qpstate.specs.Seen.{queue_of}
 use Rattle.ca_rows.specs.Done.{Handed, IsTurn}
 use Rattle.ca_bed_reach.specs.SmallLaws.{places-here}
 use Rattle.ca_bed_reach.specs.SmallReach.{FitTogether, IsCounted, IsInBuffer, after_end_of, after_write_by}
@@ -173,7 +172,7 @@ posted_kept r s t sound receive free same = rw same (post-receive r s sound rece
     by true h = absurd (true≢false (sym h))
     by false h = refl
 
-pub stands_by : (b : Bed) {ms : List Mark} → IsKept (found (queue_of b.queue) ms b.reach) → Stands b
+pub stands_by : (b : Bed) {ms : List Mark} → IsKept (found b.queue ms b.reach) → Stands b
 stands_by b kept = record { queue = kept.queue; reach = kept.reach }
 
 -- a queue pair may have accepted any number of messages

@@ -10,10 +10,9 @@ ghost use Rattle.ca_model.specs.machine.Delivery.{arrival_drops, packet_arrived}
 ghost use Rattle.ca_model.specs.machine.Expected.{invalidation_of};
 ghost use Rattle.ca_model.specs.machine.Invariants.{IsQueue, IsReceive, IsSharedReceives};
 ghost use Rattle.ca_model.specs.machine.Respond.{respond_row};
-ghost use Rattle.ca_qpstate.specs.Seen.{queue_of};
 ghost use Rattle.ca_receiving.specs.Ending.{key_end};
 ghost use Rattle.ca_arrivals.specs.Taking.{MayEnd};
-ghost use Rattle.ca_rows.specs.Narrow.{AreNarrow};
+ghost use Rattle.ca_model.specs.machine.CanStep.{AreNarrow, CanStep};
 ghost use Rattle.ca_bed_reach.specs.SmallReach as small;
 ghost use Rattle.ca_bed_requester.specs.Bed as beds;
 ghost use Rattle.ca_bed_responder.specs.Responder as responders;
@@ -45,7 +44,7 @@ pub struct Responder {
 
 // Whether the adapter hands a packet on, and does not drop it before.
 fn is_taken(q: &QueuePart, p: &Packet<'_>) -> bool
-    ensures { IsTrue result → first_of (arrival_drops (queue_of q.now) (fields_of p.now)) ≡ None }
+    ensures { IsTrue result → first_of (arrival_drops q.now (fields_of p.now)) ≡ None }
 {
     let connected = matches!(q.state, State::Rtr | State::Rts | State::Sqd);
     p.pkey == DEFAULT_PKEY && p.queue == q.queue.number && connected
@@ -88,7 +87,7 @@ fn is_of_own_domain(q: &QueuePart) -> bool
 // the queue pair counts one.
 fn may_end_key(q: &QueuePart, reach: &SmallReach, key: Key) -> bool
     requires { small.FitTogether reach.now }
-    ensures { IsTrue result → MayEnd small.sight_of small.IsEndHere reach.now (queue_of q.now) (key_end (queue_of q.now) key) }
+    ensures { IsTrue result → MayEnd small.sight_of small.IsEndHere reach.now q.now (key_end q.now key) }
 {
     if !is_of_own_domain(q) || q.domain.adapter != reach.slot.domain.adapter {
         return false;
@@ -102,7 +101,7 @@ fn may_end_key(q: &QueuePart, reach: &SmallReach, key: Key) -> bool
 // Whether the key that a packet ends, if it ends one, can be tried.
 fn may_end(q: &QueuePart, reach: &SmallReach, p: &Packet<'_>) -> bool
     requires { small.FitTogether reach.now }
-    ensures { IsTrue result → IfSome (invalidation_of (queue_of q.now) (fields_of p.now)) (MayEnd small.sight_of small.IsEndHere reach.now (queue_of q.now)) }
+    ensures { IsTrue result → IfSome (invalidation_of q.now (fields_of p.now)) (MayEnd small.sight_of small.IsEndHere reach.now q.now) }
 {
     match p.ieth {
         None => true,
@@ -117,18 +116,18 @@ fn request_in<'a>(
     reach: &SmallReach,
     bytes: &'a [u8],
 ) -> Option<Packet<'a>>
-    requires queue { IsQueue (queue_of q.now) }
+    requires queue { IsQueue q.now }
     requires reach { small.FitTogether reach.now }
     requires shared { IfSome (option_copied srq) IsSharedReceives }
-    ensures narrow { IfSome result (λ p. AreNarrow (queue_of q.now)) }
+    ensures narrow { IfSome result (λ p. AreNarrow q.now) }
     ensures spelt { IfSome result (λ p. Spells bytes.now (fields_of p)) }
     ensures packet { IfSome result (λ p. IsWellFormed (fields_of p)) }
     ensures request { IfSome result (λ p. packets.is_response p.opcode ≡ false) }
-    ensures taken { IfSome result (λ p. first_of (arrival_drops (queue_of q.now) (fields_of p)) ≡ None) }
+    ensures taken { IfSome result (λ p. first_of (arrival_drops q.now (fields_of p)) ≡ None) }
     ensures at_hand { IfSome result (λ p. (envelope : Option ℕ) → AreAtHand small.sight_of small.IsAskHere (λ s ask. Unit {0}) reach.now
-        (packet_arrived (fields_of p) envelope (option_copied srq.entry) (queue_of q.now)).asks) }
-    ensures ends { IfSome result (λ p. (envelope : Option ℕ) → IfSome (packet_arrived (fields_of p) envelope (option_copied srq.entry) (queue_of q.now)).invalidation
-        (MayEnd small.sight_of small.IsEndHere reach.now (queue_of q.now))) }
+        (packet_arrived (fields_of p) envelope (option_copied srq.entry) q.now).asks) }
+    ensures ends { IfSome result (λ p. (envelope : Option ℕ) → IfSome (packet_arrived (fields_of p) envelope (option_copied srq.entry) q.now).invalidation
+        (MayEnd small.sight_of small.IsEndHere reach.now q.now)) }
 {
     let Ok(p) = decode(bytes) else {
         return None;
@@ -196,8 +195,8 @@ fn take_shared(
 // Whether what the responder's turn asks for is of the adapter of what is reached.
 fn is_answer_here(q: &QueuePart, reach: &SmallReach) -> bool
     requires { small.FitTogether reach.now }
-    ensures keys { IsTrue result → AllByRecursion (small.IsAskHere reach.now) (respond_row true (queue_of q.now)).asks }
-    ensures bytes { IsTrue result → AllByRecursion (λ ask. Unit {0}) (respond_row true (queue_of q.now)).asks }
+    ensures keys { IsTrue result → AllByRecursion (small.IsAskHere reach.now) (respond_row true q.now).asks }
+    ensures bytes { IsTrue result → AllByRecursion (λ ask. Unit {0}) (respond_row true q.now).asks }
 {
     match respond_ask(q) {
         Some(ask) => ask.domain.adapter == reach.slot.domain.adapter,
@@ -225,9 +224,9 @@ fn respond(
 
 // Posts a receive to the queue pair's own, unless their queue is full.
 fn push_receive(q: &mut QueuePart, request: RecvRequest) -> bool
-    requires queue { IsQueue (queue_of q.old) }
+    requires queue { IsQueue q.old }
     requires receive { IsReceive request }
-    ensures { IsQueue (queue_of q.new) }
+    ensures { IsQueue q.new }
 {
     match &mut q.receives {
         Some(receives) => {
@@ -306,17 +305,17 @@ fn end_region(reach: &mut SmallReach) -> bool
 
 // Puts the count of messages that were accepted, which no run reaches.
 fn put_msn(q: &mut QueuePart, msn: u32)
-    requires queue { IsQueue (queue_of q.old) }
+    requires queue { IsQueue q.old }
     requires bits { msn < 2 ^ 24 }
-    ensures { IsQueue (queue_of q.new) }
+    ensures { IsQueue q.new }
 {
     q.responder.msn = msn;
 }
 
 // Counts one more window that is bound to the queue pair.
 fn count_window(q: &mut QueuePart) -> bool
-    requires { IsQueue (queue_of q.old) }
-    ensures { IsQueue (queue_of q.new) }
+    requires { IsQueue q.old }
+    ensures { IsQueue q.new }
 {
     if q.windows.count >= 1000 {
         return false;

@@ -29,5 +29,6 @@ pub mod Step
 pub mod Run
 pub mod Frame
 pub mod Invariants
+pub mod CanStep
 pub mod Sound
 pub mod Parts

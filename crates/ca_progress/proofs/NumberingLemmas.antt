@@ -16,7 +16,7 @@ use Rattle.ca_model.specs.Requests.{list_of, psns_of}
 use Rattle.ca_model.specs.machine.Acknowledgements.{with_requester}
 use Rattle.ca_model.specs.machine.Numbering.{Numbered, has_psn, numbers_of, request_at}
 use Rattle.ca_model.specs.machine.Invariants.{IsList, IsQueue, IsSend}
-use Rattle.ca_rows.specs.Narrow.{AreNarrow}
+use Rattle.ca_model.specs.machine.CanStep.{AreNarrow}
 use Rattle.ca_progress.specs.Numbering.{IsSound, IsWithin, begun_from, numbers_from}
 
 -- the element at a place stands before those behind it

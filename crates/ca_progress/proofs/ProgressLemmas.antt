@@ -14,7 +14,7 @@ use Rattle.ca_model.specs.Requests.{psns_of}
 use Rattle.ca_model.specs.machine.Completions.{success_marks}
 use Rattle.ca_model.specs.machine.Numbering.{Numbered, begun_requests, is_answered_op, numbers_of, psn_end}
 use Rattle.ca_model.specs.machine.Invariants.{IsQueue}
-use Rattle.ca_rows.specs.Narrow.{AreNarrow}
+use Rattle.ca_model.specs.machine.CanStep.{AreNarrow}
 use Rattle.ca_progress.proofs.NumberingLemmas.{start_within}
 use Rattle.ca_progress.specs.Numbering.{begun_from, numbers_from}
 use Rattle.ca_progress.specs.Progress.{AreNumbers, acknowledgement_of, finished_from, finished_marks_from, numbers_with_una, success_between, success_from, una_behind}

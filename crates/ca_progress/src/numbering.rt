@@ -4,8 +4,7 @@ ghost use Rattle.ca_model.specs.machine.Acknowledgements.{with_requester};
 ghost use Rattle.ca_model.specs.machine.Invariants.{IsQueue, begun_end};
 ghost use Rattle.ca_model.specs.machine.Numbering as numbering;
 ghost use Rattle.ca_model.specs.machine.Requester as requester;
-ghost use Rattle.ca_qpstate.specs.Seen.{queue_of};
-ghost use Rattle.ca_rows.specs.Narrow.{AreNarrow};
+ghost use Rattle.ca_model.specs.machine.CanStep.{CanStep};
 ghost use Rattle.ca_progress.specs.Progress.{AreNumbers};
 ghost use Rattle.ca_progress.specs.Numbering.{numbered_of, numbers_from, begun_from, IsWithin, IsSound, IsNext};
 
@@ -69,15 +68,15 @@ pub struct Next<'a> {
 
 /// The request at a place, which has or would get the PSNs from `first` on. None comes exactly where none is posted there.
 pub fn numbered_at(q: &QueuePart, place: u64, first: u64) -> Option<Numbered<'_>>
-    requires queue { IsQueue (queue_of q.now) }
-    requires within { IsWithin place first (queue_of q.now) }
-    ensures none { IfNone result (numbers_from place first (queue_of q.now) ≡ []) }
-    ensures some { IfSome result (λ n. numbers_from place first (queue_of q.now)
-        ≡ numbered_of n ∷ numbers_from (suc place) (first + n.count) (queue_of q.now)) }
+    requires queue { IsQueue q.now }
+    requires within { IsWithin place first q.now }
+    ensures none { IfNone result (numbers_from place first q.now ≡ []) }
+    ensures some { IfSome result (λ n. numbers_from place first q.now
+        ≡ numbered_of n ∷ numbers_from (suc place) (first + n.count) q.now) }
     ensures first { IfSome result (λ n. n.first ≡ first) }
-    ensures sound { IfSome result (λ n. IsSound (queue_of q.now) (numbered_of n)) }
+    ensures sound { IfSome result (λ n. IsSound q.now (numbered_of n)) }
     ensures place { IfSome result (λ n. place + 1 < 2 ^ 64) }
-    ensures within { IfSome result (λ n. IsWithin (suc place) (first + n.count) (queue_of q.now)) }
+    ensures within { IfSome result (λ n. IsWithin (suc place) (first + n.count) q.now) }
 {
     if place >= q.sends.next_place() {
         return None;
@@ -95,16 +94,16 @@ pub fn numbered_at(q: &QueuePart, place: u64, first: u64) -> Option<Numbered<'_>
 
 /// The request at a place, where it has begun. Of those behind it none has begun where it has not.
 pub fn begun_at(q: &QueuePart, place: u64, first: u64) -> Option<Numbered<'_>>
-    requires queue { IsQueue (queue_of q.now) }
-    requires within { IsWithin place first (queue_of q.now) }
-    ensures none { IfNone result (begun_from place first (queue_of q.now) ≡ []) }
-    ensures some { IfSome result (λ n. numbers_from place first (queue_of q.now)
-        ≡ numbered_of n ∷ numbers_from (suc place) (first + n.count) (queue_of q.now)) }
+    requires queue { IsQueue q.now }
+    requires within { IsWithin place first q.now }
+    ensures none { IfNone result (begun_from place first q.now ≡ []) }
+    ensures some { IfSome result (λ n. numbers_from place first q.now
+        ≡ numbered_of n ∷ numbers_from (suc place) (first + n.count) q.now) }
     ensures begun { IfSome result (λ n. place < q.now.requester.next) }
     ensures first { IfSome result (λ n. n.first ≡ first) }
-    ensures sound { IfSome result (λ n. IsSound (queue_of q.now) (numbered_of n)) }
+    ensures sound { IfSome result (λ n. IsSound q.now (numbered_of n)) }
     ensures place { IfSome result (λ n. place + 1 < 2 ^ 64) }
-    ensures within { IfSome result (λ n. IsWithin (suc place) (first + n.count) (queue_of q.now)) }
+    ensures within { IfSome result (λ n. IsWithin (suc place) (first + n.count) q.now) }
 {
     if place < q.requester.next {
         numbered_at(q, place, first)
@@ -120,10 +119,10 @@ pub fn request_under<'a>(
     numbers: &RequesterNumbers,
     psn: u64,
 ) -> Option<Numbered<'a>>
-    requires queue { IsQueue (queue_of q.now) }
-    requires numbers { AreNumbers (queue_of q.now) numbers.now }
-    ensures request { option_map numbered_of result ≡ numbering.request_at psn (with_requester numbers.now (queue_of q.now)) }
-    ensures sound { IfSome result (λ n. IsSound (queue_of q.now) (numbered_of n)) }
+    requires queue { IsQueue q.now }
+    requires numbers { AreNumbers q.now numbers.now }
+    ensures request { option_map numbered_of result ≡ numbering.request_at psn (with_requester numbers.now q.now) }
+    ensures sound { IfSome result (λ n. IsSound q.now (numbered_of n)) }
     ensures psn { IfSome result (λ n. numbering.has_psn psn (numbered_of n) ≡ true) }
 {
     find_psn(q, numbers.oldest, numbers.oldest_psn, psn)
@@ -131,11 +130,11 @@ pub fn request_under<'a>(
 
 /// The request that has this PSN, among those from a place on that have begun.
 fn find_psn(q: &QueuePart, place: u64, first: u64, psn: u64) -> Option<Numbered<'_>>
-    requires queue { IsQueue (queue_of q.now) }
-    requires within { IsWithin place first (queue_of q.now) }
-    ensures request { option_map numbered_of result ≡ find (numbering.has_psn psn) (begun_from place first (queue_of q.now)) }
+    requires queue { IsQueue q.now }
+    requires within { IsWithin place first q.now }
+    ensures request { option_map numbered_of result ≡ find (numbering.has_psn psn) (begun_from place first q.now) }
     ensures psn { IfSome result (λ n. (n.first ≤ psn) × (psn < n.first + n.count)) }
-    ensures sound { IfSome result (λ n. IsSound (queue_of q.now) (numbered_of n)) }
+    ensures sound { IfSome result (λ n. IsSound q.now (numbered_of n)) }
 {
     match begun_at(q, place, first) {
         None => None,
@@ -156,11 +155,10 @@ fn has_psn(n: &Numbered<'_>, psn: u64) -> bool
 #[tactic(auto, using(crate::proofs::NumberingLemmas::start_within))]
 #[inline(always)]
 pub fn next_request(q: &QueuePart) -> Option<Next<'_>>
-    requires queue { IsQueue (queue_of q.now) }
-    requires narrow { AreNarrow (queue_of q.now) }
-    ensures none { IfNone result (requester.next_request (queue_of q.now) ≡ None) }
-    ensures begins_none { IfNone result (requester.begins (queue_of q.now) ≡ false) }
-    ensures some { IfSome result (λ next. IsNext (queue_of q.now) next) }
+    requires { CanStep q.now }
+    ensures none { IfNone result (requester.next_request q.now ≡ None) }
+    ensures begins_none { IfNone result (requester.begins q.now ≡ false) }
+    ensures some { IfSome result (λ next. IsNext q.now next) }
 {
     next_from(q, q.requester.oldest, q.requester.oldest_psn)
 }
@@ -168,22 +166,22 @@ pub fn next_request(q: &QueuePart) -> Option<Next<'_>>
 /// The same among the requests from a place on, where none before it goes on or begins.
 #[inline(always)]
 fn next_from(q: &QueuePart, place: u64, first: u64) -> Option<Next<'_>>
-    requires queue { IsQueue (queue_of q.now) }
-    requires within { IsWithin place first (queue_of q.now) }
-    ensures none { IfNone result (find (numbering.has_psn q.now.requester.cursor) (begun_from place first (queue_of q.now)) ≡ None) }
-    ensures none_begins { IfNone result (slice_get (numbers_from place first (queue_of q.now)) (q.now.requester.next - place) ≡ None) }
+    requires queue { IsQueue q.now }
+    requires within { IsWithin place first q.now }
+    ensures none { IfNone result (find (numbering.has_psn q.now.requester.cursor) (begun_from place first q.now) ≡ None) }
+    ensures none_begins { IfNone result (slice_get (numbers_from place first q.now) (q.now.requester.next - place) ≡ None) }
     ensures goes_on { IfSome result (λ next. next.begins ≡ false →
-        find (numbering.has_psn q.now.requester.cursor) (begun_from place first (queue_of q.now)) ≡ Some (numbered_of next.request)) }
+        find (numbering.has_psn q.now.requester.cursor) (begun_from place first q.now) ≡ Some (numbered_of next.request)) }
     ensures psn { IfSome result (λ next. next.begins ≡ false →
         (next.request.first ≤ q.now.requester.cursor) × (q.now.requester.cursor < next.request.first + next.request.count)) }
     ensures begins { IfSome result (λ next. next.begins ≡ true →
-        find (numbering.has_psn q.now.requester.cursor) (begun_from place first (queue_of q.now)) ≡ None) }
+        find (numbering.has_psn q.now.requester.cursor) (begun_from place first q.now) ≡ None) }
     ensures begun { IfSome result (λ next. next.begins ≡ true →
-        slice_get (numbers_from place first (queue_of q.now)) (q.now.requester.next - place) ≡ Some (numbered_of next.request)) }
+        slice_get (numbers_from place first q.now) (q.now.requester.next - place) ≡ Some (numbered_of next.request)) }
     ensures first { IfSome result (λ next. next.begins ≡ true →
-        next.request.first ≡ first + sum_by (λ m. m.count) (begun_from place first (queue_of q.now))) }
+        next.request.first ≡ first + sum_by (λ m. m.count) (begun_from place first q.now)) }
     ensures room { IfSome result (λ next. next.begins ≡ true → q.now.requester.next + 1 < 2 ^ 64) }
-    ensures sound { IfSome result (λ next. IsSound (queue_of q.now) (numbered_of next.request)) }
+    ensures sound { IfSome result (λ next. IsSound q.now (numbered_of next.request)) }
 {
     let mut place = place;
     let mut first = first;

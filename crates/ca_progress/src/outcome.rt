@@ -5,7 +5,6 @@ ghost use Rattle.ca_base.specs.objects.WorkQueue.{next_place};
 ghost use Rattle.ca_model.specs.machine.Acknowledgements as acknowledgements;
 ghost use Rattle.ca_model.specs.machine.Acknowledgements.{failure_effects, with_requester};
 ghost use Rattle.ca_model.specs.machine.Invariants.{IsQueue};
-ghost use Rattle.ca_qpstate.specs.Seen.{queue_of};
 ghost use Rattle.ca_rows.specs.Flush.{with_oldest};
 ghost use Rattle.ca_progress.specs.Progress.{success_between};
 ghost use Rattle.ca_progress.specs.Outcome.{AreAhead, marks_of, numbers_of, outcome_effects};
@@ -61,10 +60,10 @@ pub fn one_retry(numbers: RequesterNumbers, psn: u64) -> Outcome
 /// It goes on with these numbers: the requests before its oldest unfinished one complete. After Ok there is room for two
 /// more marks, and `Memory` changes nothing.
 pub fn go(q: &mut QueuePart, numbers: RequesterNumbers, marks: &mut Marks) -> Result<(), Memory>
-    requires queue { IsQueue (queue_of q.old) }
-    requires ahead { AreAhead (queue_of q.old) numbers }
-    ensures queue { OnOk result (queue_of q.new ≡ with_requester numbers (queue_of q.old)) }
-    ensures marks { OnOk result (marks.new.marks ≡ marks.old.marks ++ success_between q.old.requester.oldest numbers.oldest (queue_of q.old)) }
+    requires queue { IsQueue q.old }
+    requires ahead { AreAhead q.old numbers }
+    ensures queue { OnOk result (q.new ≡ with_requester numbers q.old) }
+    ensures marks { OnOk result (marks.new.marks ≡ marks.old.marks ++ success_between q.old.requester.oldest numbers.oldest q.old) }
     ensures room { OnOk result (2 ≤ marks.new.room) }
     ensures err { OnErr result (q.new ≡ q.old) }
     ensures err_marks { OnErr result (marks.new.marks ≡ marks.old.marks) }
@@ -84,11 +83,11 @@ pub fn fail(
     first: Option<Mark>,
     marks: &mut Marks,
 ) -> Result<(), Memory>
-    requires queue { IsQueue (queue_of q.old) }
-    requires ahead { AreAhead (queue_of q.old) failure.numbers }
-    ensures queue { OnOk result (queue_of q.new ≡ (failure_effects failure.status failure.cause (with_requester failure.numbers (queue_of q.old))).queue) }
-    ensures marks { OnOk result (marks.new.marks ≡ marks.old.marks ++ (success_between q.old.requester.oldest failure.numbers.oldest (queue_of q.old)
-        ++ (marks_of first ++ (failure_effects failure.status failure.cause (with_requester failure.numbers (queue_of q.old))).marks))) }
+    requires queue { IsQueue q.old }
+    requires ahead { AreAhead q.old failure.numbers }
+    ensures queue { OnOk result (q.new ≡ (failure_effects failure.status failure.cause (with_requester failure.numbers q.old)).queue) }
+    ensures marks { OnOk result (marks.new.marks ≡ marks.old.marks ++ (success_between q.old.requester.oldest failure.numbers.oldest q.old
+        ++ (marks_of first ++ (failure_effects failure.status failure.cause (with_requester failure.numbers q.old)).marks))) }
     ensures room { OnOk result (2 ≤ marks.new.room) }
     ensures err { OnErr result (q.new ≡ q.old) }
     ensures err_marks { OnErr result (marks.new.marks ≡ marks.old.marks) }
@@ -115,11 +114,11 @@ pub fn fail_alone(
     failure: &Failure,
     marks: &mut Marks,
 ) -> Result<(), Memory>
-    requires queue { IsQueue (queue_of q.old) }
-    requires ahead { AreAhead (queue_of q.old) failure.now.numbers }
-    ensures queue { OnOk result (queue_of q.new ≡ (failure_effects failure.now.status failure.now.cause (with_requester failure.now.numbers (queue_of q.old))).queue) }
-    ensures marks { OnOk result (marks.new.marks ≡ marks.old.marks ++ (success_between q.old.requester.oldest failure.now.numbers.oldest (queue_of q.old)
-        ++ (failure_effects failure.now.status failure.now.cause (with_requester failure.now.numbers (queue_of q.old))).marks)) }
+    requires queue { IsQueue q.old }
+    requires ahead { AreAhead q.old failure.now.numbers }
+    ensures queue { OnOk result (q.new ≡ (failure_effects failure.now.status failure.now.cause (with_requester failure.now.numbers q.old)).queue) }
+    ensures marks { OnOk result (marks.new.marks ≡ marks.old.marks ++ (success_between q.old.requester.oldest failure.now.numbers.oldest q.old
+        ++ (failure_effects failure.now.status failure.now.cause (with_requester failure.now.numbers q.old)).marks)) }
     ensures room { OnOk result (2 ≤ marks.new.room) }
     ensures err { OnErr result (q.new ≡ q.old) }
     ensures err_marks { OnErr result (marks.new.marks ≡ marks.old.marks) }
@@ -158,10 +157,10 @@ fn push_failure(
     cause: Option<OpRefusal>,
     made: &mut Vec<Mark>,
 ) -> Result<(), Memory>
-    requires queue { IsQueue (queue_of q.now) }
+    requires queue { IsQueue q.now }
     requires oldest { q.now.requester.oldest ≤ oldest }
     requires posted { oldest ≤ next_place q.now.sends }
-    ensures { OnOk result (made.new.items ≡ made.old.items ++ (failure_effects status cause (with_oldest oldest (queue_of q.now))).marks) }
+    ensures { OnOk result (made.new.items ≡ made.old.items ++ (failure_effects status cause (with_oldest oldest q.now)).marks) }
 {
     if oldest >= q.sends.next_place() {
         return push_flushed(q, oldest, made);

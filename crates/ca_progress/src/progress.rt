@@ -4,8 +4,7 @@ ghost use Rattle.ca_model.specs.machine.Acknowledgements as acknowledgements;
 ghost use Rattle.ca_model.specs.machine.Acknowledgements.{with_requester};
 ghost use Rattle.ca_model.specs.machine.Invariants.{IsQueue};
 ghost use Rattle.ca_model.specs.machine.Numbering.{is_answered_op, psn_end};
-ghost use Rattle.ca_qpstate.specs.Seen.{queue_of};
-ghost use Rattle.ca_rows.specs.Narrow.{AreNarrow};
+ghost use Rattle.ca_model.specs.machine.CanStep.{CanStep};
 ghost use Rattle.ca_progress.specs.Numbering.{begun_from, numbered_of, IsWithin};
 ghost use Rattle.ca_progress.specs.Progress.{AreNumbers, acknowledgement_of, finished_from, numbers_behind, numbers_with_una, reached_numbers, success_between, una_behind};
 
@@ -27,13 +26,13 @@ pub(crate) struct Reached {
 /// READ or atomic with a PSN from `una` on and below it, or up to the first that does not end below it.
 #[inline(always)]
 fn reached_by(q: &QueuePart, place: u64, first: u64, una: u64, psn: u64) -> Reached
-    requires queue { IsQueue (queue_of q.now) }
-    requires within { IsWithin place first (queue_of q.now) }
-    ensures back { result.back ≡ acknowledgements.first_unanswered una psn (begun_from place first (queue_of q.now)) }
+    requires queue { IsQueue q.now }
+    requires within { IsWithin place first q.now }
+    ensures back { result.back ≡ acknowledgements.first_unanswered una psn (begun_from place first q.now) }
     ensures behind { IfSome result.back (λ back. (una ≤ back) × (first ≤ back)) }
-    ensures place { result.place ≡ place + length (finished_from place first (una_behind una psn result.back) (queue_of q.now)) }
-    ensures first { result.first ≡ first + sum_by (λ n. n.count) (finished_from place first (una_behind una psn result.back) (queue_of q.now)) }
-    ensures within { IsWithin result.place result.first (queue_of q.now) }
+    ensures place { result.place ≡ place + length (finished_from place first (una_behind una psn result.back) q.now) }
+    ensures first { result.first ≡ first + sum_by (λ n. n.count) (finished_from place first (una_behind una psn result.back) q.now) }
+    ensures within { IsWithin result.place result.first q.now }
     ensures begun { place ≤ q.now.requester.next → result.place ≤ q.now.requester.next }
 {
     let mut place = place;
@@ -87,12 +86,12 @@ fn numbers_at(numbers: RequesterNumbers, psn: u64, place: u64, first: u64) -> Re
 
 /// The numbers after all below a PSN is acknowledged, where nothing is gone back to. It takes no memory.
 pub fn progressed(q: &QueuePart, numbers: RequesterNumbers, psn: u64) -> RequesterNumbers
-    requires queue { IsQueue (queue_of q.now) }
-    requires numbers { AreNumbers (queue_of q.now) numbers }
-    ensures value { with_requester result (queue_of q.now) ≡ (acknowledgements.progress_to psn (with_requester numbers (queue_of q.now))).queue }
-    ensures marks { (acknowledgements.progress_to psn (with_requester numbers (queue_of q.now))).marks
-        ≡ success_between numbers.oldest result.oldest (queue_of q.now) }
-    ensures numbers { AreNumbers (queue_of q.now) result }
+    requires queue { IsQueue q.now }
+    requires numbers { AreNumbers q.now numbers }
+    ensures value { with_requester result q.now ≡ (acknowledgements.progress_to psn (with_requester numbers q.now)).queue }
+    ensures marks { (acknowledgements.progress_to psn (with_requester numbers q.now)).marks
+        ≡ success_between numbers.oldest result.oldest q.now }
+    ensures numbers { AreNumbers q.now result }
     ensures later { numbers.oldest ≤ result.oldest }
 {
     let una = with_una(numbers, psn).una;
@@ -112,7 +111,7 @@ pub struct Acknowledged {
 
 /// The numbers behind an acknowledgement, before it went back.
 pub fn numbers_after(q: &QueuePart, acknowledged: &Acknowledged) -> RequesterNumbers
-    ensures { result ≡ numbers_behind acknowledged.now (queue_of q.now) }
+    ensures { result ≡ numbers_behind acknowledged.now q.now }
 {
     numbers_at(
         q.requester,
@@ -127,13 +126,12 @@ pub fn numbers_after(q: &QueuePart, acknowledged: &Acknowledged) -> RequesterNum
 #[tactic(auto, using(crate::proofs::ProgressLemmas::own_numbers, crate::proofs::ProgressLemmas::goes_back, crate::proofs::ProgressLemmas::goes_on))]
 #[inline(always)]
 pub fn acknowledged_below(q: &QueuePart, psn: u64) -> Acknowledged
-    requires queue { IsQueue (queue_of q.now) }
-    requires narrow { AreNarrow (queue_of q.now) }
-    ensures value { acknowledgements.acknowledgement_below psn (queue_of q.now) ≡ acknowledgement_of result.went_back result.until (queue_of q.now) }
-    ensures queue { with_requester (numbers_behind result (queue_of q.now)) (queue_of q.now) ≡ (acknowledgements.progress_to result.until (queue_of q.now)).queue }
-    ensures marks { (acknowledgements.progress_to result.until (queue_of q.now)).marks
-        ≡ success_between q.now.requester.oldest result.place (queue_of q.now) }
-    ensures numbers { AreNumbers (queue_of q.now) (numbers_behind result (queue_of q.now)) }
+    requires { CanStep q.now }
+    ensures value { acknowledgements.acknowledgement_below psn q.now ≡ acknowledgement_of result.went_back result.until q.now }
+    ensures queue { with_requester (numbers_behind result q.now) q.now ≡ (acknowledgements.progress_to result.until q.now).queue }
+    ensures marks { (acknowledgements.progress_to result.until q.now).marks
+        ≡ success_between q.now.requester.oldest result.place q.now }
+    ensures numbers { AreNumbers q.now (numbers_behind result q.now) }
     ensures on { result.went_back ≡ false → result.until ≡ psn }
 {
     let reached = reached_by(

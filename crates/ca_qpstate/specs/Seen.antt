@@ -1,18 +1,11 @@
--- The queue pair that a part is, field for field, and why a change of it is refused. Contracts cite it.
-use Rattle.std.specs.Prelude.{Option}
+-- The queue pair that a part is, field for field: what contracts see of a part. Contracts cite it.
 use Rattle.std.specs.Option.{option_map}
-use Rattle.ca_base.specs.declared.change.Change.{Change}
-use Rattle.ca_base.specs.declared.change.ModifyRefusal.{ModifyRefusal}
-use Rattle.ca_base.specs.declared.config.Config.{Config}
-use Rattle.ca_base.specs.Configuration.{configuration_of}
-use Rattle.ca_keys.specs.Refusals.{first_of}
 use Rattle.ca_base.specs.objects.QueuePair.{QueuePair}
-use Rattle.ca_base.specs.objects.StateTable.{modify_refusals}
-use Rattle.ca_qpstate.specs.declared.queue_part.QueuePart.{QueuePart}
+use Rattle.ca_qpstate.specs.declared.queue_part.QueuePart.TheInside.{Inside}
 
 -- the part as the object of the standard
-abbrev pub queue_of : QueuePart → QueuePair
-queue_of q = record {
+abbrev pub queue_seen : Inside → QueuePair
+queue_seen q = record {
   queue = q.queue;
   domain = q.domain;
   state = q.state;
@@ -28,7 +21,3 @@ queue_of q = record {
   saved = q.saved.value;
   windows = q.windows.count;
 }
-
--- the first reason for which a change is refused
-abbrev pub refusal_of_change : Config → Change → QueuePart → Option ModifyRefusal
-refusal_of_change c change q = first_of (modify_refusals (configuration_of c) (queue_of q) change)

@@ -12,6 +12,7 @@ use ca_base::{
 use ca_saved::Saved;
 use ca_workqueue::WorkQueue;
 use std::alloc::Global;
+use std::marker::Model;
 
 /// A queue pair. What grows and what is long lies on the heap, so that a part moves as few bytes: the requests of its
 /// queues, its response queue, and its saved results.
@@ -42,13 +43,24 @@ pub struct QueuePart {
     alloc: Global,
 }
 
+// contracts see the queue pair of the standard
+impl Model for QueuePart {
+    ghost use Rattle.ca_base.specs.objects.QueuePair.{QueuePair};
+
+    ghost Value = { QueuePair };
+
+    ghost use Rattle.ca_qpstate.specs.Seen.{queue_seen};
+
+    ghost view = { queue_seen };
+}
+
 impl QueuePart {
     ghost use Rattle.std.specs.Prelude.{◌≡◌, ◌-◌, ◌^◌, ◌<◌, None, Some, IfOk, IfErr, IfNone, OnOk, OnErr};
     ghost use Rattle.ca_base.specs.objects.QueuePair as objects;
     ghost use Rattle.ca_base.specs.objects.StateTable.{queue_after_change};
     ghost use Rattle.ca_model.specs.machine.Invariants.{IsQueue, NamesPeer};
     ghost use Rattle.ca_qpstate.specs.ComesUp.{AreDepths};
-    ghost use Rattle.ca_qpstate.specs.Seen.{queue_of, refusal_of_change};
+    ghost use Rattle.ca_qpstate.specs.Fields.{refusal_of_change};
 
     /// A queue pair in Reset, over these completion queues, with queues of these depths, each 1 to 256. With a shared
     /// receive queue it has no receives of its own, and their depth says nothing. `Memory` is its only refusal. The
@@ -64,9 +76,9 @@ impl QueuePart {
         recv_depth: u16,
         srq: Option<u16>,
     ) -> Result<QueuePart, Memory>
-        ensures value { IfOk result (λ q. queue_of q
+        ensures value { IfOk result (λ q. q
             ≡ objects.queue_at_start queue domain incarnation 0 send_cq recv_cq send_depth recv_depth srq) }
-        ensures comes_up { AreDepths send_depth recv_depth srq → IfOk result (λ q. IsQueue (queue_of q)) }
+        ensures comes_up { AreDepths send_depth recv_depth srq → IfOk result (λ q. IsQueue q) }
     {
         Ok(QueuePart {
             queue,
@@ -93,9 +105,9 @@ impl QueuePart {
         requires { self.old.incarnation < 2 ^ 32 - 1 }
         ensures accepted { OnOk result (refusal_of_change config.now change.now self.old ≡ None) }
         ensures refused { IfErr result (λ e. refusal_of_change config.now change.now self.old ≡ Some e) }
-        ensures changed { OnOk result (queue_of self.new ≡ queue_after_change change.now (queue_of self.old)) }
+        ensures changed { OnOk result (self.new ≡ queue_after_change change.now self.old) }
         ensures err { OnErr result (self.new ≡ self.old) }
-        ensures comes_up { IsQueue (queue_of self.old) → IsQueue (queue_of self.new) }
+        ensures comes_up { IsQueue self.old → IsQueue self.new }
     {
         if let Some(refusal) = self.modify_refusal(config, change) {
             return Err(refusal);
@@ -124,7 +136,7 @@ impl QueuePart {
     /// What a change makes of the queue pair: the state table's column of effects, a row for each change.
     fn apply(&mut self, change: &Change)
         requires { self.old.incarnation < 2 ^ 32 - 1 }
-        ensures { queue_of self.new ≡ queue_after_change change.now (queue_of self.old) }
+        ensures { self.new ≡ queue_after_change change.now self.old }
     {
         match *change {
             Change::Init => self.state = State::Init,
@@ -169,7 +181,7 @@ impl QueuePart {
     /// Nothing that is posted is unfinished any more, and no message is in progress. What completes by that is for the
     /// caller to say. It takes no memory.
     pub fn flush(&mut self)
-        ensures { queue_of self.new ≡ objects.with_all_flushed (queue_of self.old) }
+        ensures { self.new ≡ objects.with_all_flushed self.old }
     {
         let next = self.sends.next_place();
         self.requester.oldest = next;
@@ -183,7 +195,7 @@ impl QueuePart {
 
     /// Moves to Error, where all that is posted is flushed. The response queue stays. It takes no memory.
     pub fn move_to_error(&mut self)
-        ensures { queue_of self.new ≡ objects.in_error (queue_of self.old) }
+        ensures { self.new ≡ objects.in_error self.old }
     {
         self.flush();
         self.state = State::Error;
@@ -191,7 +203,7 @@ impl QueuePart {
 
     /// Empties the response queue. It takes no memory.
     pub fn empty_answers(&mut self)
-        ensures { queue_of self.new ≡ objects.without_answers (queue_of self.old) }
+        ensures { self.new ≡ objects.without_answers self.old }
     {
         self.responder.answers = Answers::empty(self.alloc);
     }
@@ -199,7 +211,7 @@ impl QueuePart {
     /// Empties queues and numbers, but for the count of timers, and begins the next incarnation.
     fn reset(&mut self)
         requires { self.old.incarnation < 2 ^ 32 - 1 }
-        ensures { queue_of self.new ≡ objects.after_reset (queue_of self.old) }
+        ensures { self.new ≡ objects.after_reset self.old }
     {
         self.state = State::Reset;
         self.incarnation += 1;

@@ -17,14 +17,13 @@ ghost use Rattle.ca_model.specs.machine.Expected as rows;
 ghost use Rattle.ca_model.specs.machine.Invariants.{IsQueue, IsReceive};
 ghost use Rattle.ca_model.specs.machine.Responses.{local_writes};
 ghost use Rattle.ca_model.specs.machine.Row.{ending_of};
-ghost use Rattle.ca_qpstate.specs.Seen.{queue_of};
 ghost use Rattle.ca_receiving.specs.Ending.{key_end, refused_end, sent_and_ended};
 ghost use Rattle.ca_arrivals.specs.Numbers.{receive_taken, unasked};
 ghost use Rattle.ca_arrivals.specs.Receives.{MayTake};
 ghost use Rattle.ca_arrivals.specs.Taking.{IsPacketTaken, MayEnd, ended_by, found};
 ghost use Rattle.ca_rows.specs.Asks.{CanWrite, IsAskOf, IsGranted, touched_by};
 ghost use Rattle.ca_rows.specs.Done.{written_all};
-ghost use Rattle.ca_rows.specs.Narrow.{AreNarrow};
+ghost use Rattle.ca_model.specs.machine.CanStep.{AreNarrow, CanStep};
 ghost use Rattle.ca_packet.specs.Packet.{fields_of};
 
 use crate::held::{hold, refuse_held, settle_held};
@@ -51,17 +50,16 @@ pub fn take_send<R: Reach>(
     r: Receiving,
     marks: &mut Marks,
 ) -> Result<bool, Memory>
-    requires queue { IsQueue (queue_of q.old) }
-    requires narrow { AreNarrow (queue_of q.old) }
+    requires step { CanStep q.old }
     requires payload { length p.now.payload.now ≤ MAX_PAYLOAD_BYTES }
     requires list { IsReceive r.receive.receive }
     requires before { r.before ≤ MAX_MESSAGE_BYTES }
-    requires takes { MayTake r (queue_of q.old) }
-    requires at_hand { AreAtHand R.sight R.judges R.touches reach.old (rows.send_row (arrivals.with_flag false (queue_of q.old)) (fields_of p.now) place r).asks }
-    requires ends { IfSome (rows.send_row (arrivals.with_flag false (queue_of q.old)) (fields_of p.now) place r).invalidation (MayEnd R.sight R.ends reach.old (queue_of q.old)) }
-    ensures taken { let row = rows.send_row (arrivals.with_flag false (queue_of q.old)) (fields_of p.now) place r in
+    requires takes { MayTake r q.old }
+    requires at_hand { AreAtHand R.sight R.judges R.touches reach.old (rows.send_row (arrivals.with_flag false q.old) (fields_of p.now) place r).asks }
+    requires ends { IfSome (rows.send_row (arrivals.with_flag false q.old) (fields_of p.now) place r).invalidation (MayEnd R.sight R.ends reach.old q.old) }
+    ensures taken { let row = rows.send_row (arrivals.with_flag false q.old) (fields_of p.now) place r in
         IsPacketTaken R.written R.revoked result (ending_of (R.sight reach.old) row) (ended_by (R.sight reach.old) row)
-        (found (queue_of q.old) marks.old.marks reach.old) (found (queue_of q.new) marks.new.marks reach.new) }
+        (found q.old marks.old.marks reach.old) (found q.new marks.new.marks reach.new) }
     ensures room { OnOk result (2 ≤ marks.new.room) }
 {
     if exceeds_receive(p, r.before, r.receive.receive.list.as_slice()) {
@@ -100,12 +98,11 @@ fn place_fitting<R: Reach>(
     asks: &[Ask],
     marks: &mut Marks,
 ) -> Result<bool, Memory>
-    requires queue { IsQueue (queue_of q.old) }
-    requires narrow { AreNarrow (queue_of q.old) }
+    requires step { CanStep q.old }
     requires list { IsReceive r.receive.receive }
     requires fits { nat_lt (list_length r.receive.receive.list.items) (r.before + length p.now.payload.now) ≡ false }
-    requires takes { MayTake r (queue_of q.old) }
-    requires asks { asks.now ≡ rows.receive_asks (queue_of q.old) (fields_of p.now) r }
+    requires takes { MayTake r q.old }
+    requires asks { asks.now ≡ rows.receive_asks q.old (fields_of p.now) r }
     requires kind { AllByRecursion (IsAskOf Kind.Write) asks.now }
     requires touched { touched_by asks.now ≤ length p.now.payload.now }
     requires few { length asks.now ≤ MAX_PIECES }
@@ -113,10 +110,10 @@ fn place_fitting<R: Reach>(
     requires bytes { AllByRecursion (R.touches reach.old) asks.now }
     requires allowed { AllByRecursion (IsGranted (R.sight reach.old)) asks.now }
     requires none { sights.first_denied (R.sight reach.old) asks.now ≡ None }
-    requires ends { IfSome p.now.ieth (λ key. MayEnd R.sight R.ends reach.old (queue_of q.old) (key_end (queue_of q.old) (record { 0 = key }))) }
-    ensures taken { let row = rows.send_row (arrivals.with_flag false (queue_of q.old)) (fields_of p.now) place r in
+    requires ends { IfSome p.now.ieth (λ key. MayEnd R.sight R.ends reach.old q.old (key_end q.old (record { 0 = key }))) }
+    ensures taken { let row = rows.send_row (arrivals.with_flag false q.old) (fields_of p.now) place r in
         IsPacketTaken R.written R.revoked result (ending_of (R.sight reach.old) row) (ended_by (R.sight reach.old) row)
-        (found (queue_of q.old) marks.old.marks reach.old) (found (queue_of q.new) marks.new.marks reach.new) }
+        (found q.old marks.old.marks reach.old) (found q.new marks.new.marks reach.new) }
     ensures room { OnOk result (2 ≤ marks.new.room) }
 {
     let writes = cut_writes(alloc, asks, p.payload)?;
@@ -128,7 +125,7 @@ fn place_fitting<R: Reach>(
 
 /// Whether the packet takes a receive of a shared receive queue.
 fn takes_shared(q: &QueuePart, r: &Receiving) -> bool
-    ensures { result ≡ (if r.now.taken then arrivals.has_shared (queue_of q.now) else false) }
+    ensures { result ≡ (if r.now.taken then arrivals.has_shared q.now else false) }
 {
     if r.taken {
         return q.srq.is_some();
@@ -145,11 +142,11 @@ fn fail_receive(
     mut made: Vec<Mark>,
     marks: &mut Marks,
 ) -> Result<(), Memory>
-    requires queue { IsQueue (queue_of q.old) }
-    requires takes { MayTake r.now (queue_of q.old) }
+    requires queue { IsQueue q.old }
+    requires takes { MayTake r.now q.old }
     requires few { length made.items ≤ 2 }
-    ensures queue { OnOk result (queue_of q.new ≡ (rows.receive_failure_effects (receive_taken r.now.taken (arrivals.with_flag false (queue_of q.old))) r.now.receive status None code).queue) }
-    ensures marks { OnOk result (marks.new.marks ≡ marks.old.marks ++ (made.items ++ (rows.receive_failure_effects (receive_taken r.now.taken (arrivals.with_flag false (queue_of q.old))) r.now.receive status None code).marks)) }
+    ensures queue { OnOk result (q.new ≡ (rows.receive_failure_effects (receive_taken r.now.taken (arrivals.with_flag false q.old)) r.now.receive status None code).queue) }
+    ensures marks { OnOk result (marks.new.marks ≡ marks.old.marks ++ (made.items ++ (rows.receive_failure_effects (receive_taken r.now.taken (arrivals.with_flag false q.old)) r.now.receive status None code).marks)) }
     ensures room { OnOk result (2 ≤ marks.new.room) }
     ensures err { OnErr result (q.new ≡ q.old) }
     ensures err_marks { OnErr result (marks.new.marks ≡ marks.old.marks) }
@@ -172,18 +169,18 @@ fn place_send<R: Reach>(
     writes: Vec<(Ask, Bytes)>,
     marks: &mut Marks,
 ) -> Result<bool, Memory>
-    requires narrow { AreNarrow (queue_of q.old) }
+    requires narrow { AreNarrow q.old }
     requires msn { q.old.responder.msn < 2 ^ 24 }
     requires fits { r.before + length p.now.payload.now ≤ MAX_MESSAGE_BYTES }
-    requires takes { MayTake r (queue_of q.old) }
+    requires takes { MayTake r q.old }
     requires can { CanWrite R.sight R.judges R.touches reach.old writes.items }
     requires few { length writes.items ≤ MAX_PIECES }
-    ensures queue { OnOk result (queue_of q.new ≡ (rows.after_send_packet (receive_taken r.taken (arrivals.with_flag false (queue_of q.old))) (fields_of p.now) place r).queue) }
-    ensures marks { OnOk result (marks.new.marks ≡ marks.old.marks ++ (local_writes writes.items ++ (rows.after_send_packet (receive_taken r.taken (arrivals.with_flag false (queue_of q.old))) (fields_of p.now) place r).marks)) }
-    ensures shared { IfOk result (λ shared. shared ≡ (if r.taken then arrivals.has_shared (queue_of q.old) else false)) }
+    ensures queue { OnOk result (q.new ≡ (rows.after_send_packet (receive_taken r.taken (arrivals.with_flag false q.old)) (fields_of p.now) place r).queue) }
+    ensures marks { OnOk result (marks.new.marks ≡ marks.old.marks ++ (local_writes writes.items ++ (rows.after_send_packet (receive_taken r.taken (arrivals.with_flag false q.old)) (fields_of p.now) place r).marks)) }
+    ensures shared { IfOk result (λ shared. shared ≡ (if r.taken then arrivals.has_shared q.old else false)) }
     ensures wrote { OnOk result (reach.new ≡ written_all R.written reach.old writes.items) }
     ensures room { OnOk result (2 ≤ marks.new.room) }
-    ensures err_queue { OnErr result (queue_of q.new ≡ queue_of q.old) }
+    ensures err_queue { OnErr result (q.new ≡ q.old) }
     ensures err_marks { OnErr result (marks.new.marks ≡ marks.old.marks) }
     ensures err_reach { OnErr result (reach.new ≡ reach.old) }
 {
@@ -207,28 +204,27 @@ fn place_and_end<R: Reach>(
     key: Key,
     marks: &mut Marks,
 ) -> Result<bool, Memory>
-    requires queue { IsQueue (queue_of q.old) }
-    requires narrow { AreNarrow (queue_of q.old) }
+    requires step { CanStep q.old }
     requires fits { r.before + length p.now.payload.now ≤ MAX_MESSAGE_BYTES }
-    requires takes { MayTake r (queue_of q.old) }
+    requires takes { MayTake r q.old }
     requires can { CanWrite R.sight R.judges R.touches reach.old writes.items }
     requires few { length writes.items ≤ MAX_PIECES }
-    requires ends { MayEnd R.sight R.ends reach.old (queue_of q.old) (key_end (queue_of q.old) key) }
-    ensures ended_queue { (R.sight reach.old).refusal (key_end (queue_of q.old) key) ≡ None →
-        OnOk result (queue_of q.new ≡ (sent_and_ended (queue_of q.old) (fields_of p.now) place r key).queue) }
-    ensures ended_marks { (R.sight reach.old).refusal (key_end (queue_of q.old) key) ≡ None →
-        OnOk result (marks.new.marks ≡ marks.old.marks ++ (local_writes writes.items ++ (sent_and_ended (queue_of q.old) (fields_of p.now) place r key).marks)) }
-    ensures ended_reach { (R.sight reach.old).refusal (key_end (queue_of q.old) key) ≡ None →
-        OnOk result (reach.new ≡ R.revoked (written_all R.written reach.old writes.items) (key_end (queue_of q.old) key)) }
-    ensures refused_queue { (cause : OpRefusal) → (R.sight reach.old).refusal (key_end (queue_of q.old) key) ≡ Some cause →
-        OnOk result (queue_of q.new ≡ (refused_end (queue_of q.old) r cause).queue) }
-    ensures refused_marks { (cause : OpRefusal) → (R.sight reach.old).refusal (key_end (queue_of q.old) key) ≡ Some cause →
-        OnOk result (marks.new.marks ≡ marks.old.marks ++ (local_writes writes.items ++ (refused_end (queue_of q.old) r cause).marks)) }
-    ensures refused_reach { (cause : OpRefusal) → (R.sight reach.old).refusal (key_end (queue_of q.old) key) ≡ Some cause →
+    requires ends { MayEnd R.sight R.ends reach.old q.old (key_end q.old key) }
+    ensures ended_queue { (R.sight reach.old).refusal (key_end q.old key) ≡ None →
+        OnOk result (q.new ≡ (sent_and_ended q.old (fields_of p.now) place r key).queue) }
+    ensures ended_marks { (R.sight reach.old).refusal (key_end q.old key) ≡ None →
+        OnOk result (marks.new.marks ≡ marks.old.marks ++ (local_writes writes.items ++ (sent_and_ended q.old (fields_of p.now) place r key).marks)) }
+    ensures ended_reach { (R.sight reach.old).refusal (key_end q.old key) ≡ None →
+        OnOk result (reach.new ≡ R.revoked (written_all R.written reach.old writes.items) (key_end q.old key)) }
+    ensures refused_queue { (cause : OpRefusal) → (R.sight reach.old).refusal (key_end q.old key) ≡ Some cause →
+        OnOk result (q.new ≡ (refused_end q.old r cause).queue) }
+    ensures refused_marks { (cause : OpRefusal) → (R.sight reach.old).refusal (key_end q.old key) ≡ Some cause →
+        OnOk result (marks.new.marks ≡ marks.old.marks ++ (local_writes writes.items ++ (refused_end q.old r cause).marks)) }
+    ensures refused_reach { (cause : OpRefusal) → (R.sight reach.old).refusal (key_end q.old key) ≡ Some cause →
         OnOk result (reach.new ≡ written_all R.written reach.old writes.items) }
-    ensures shared { IfOk result (λ shared. shared ≡ (if r.taken then arrivals.has_shared (queue_of q.old) else false)) }
+    ensures shared { IfOk result (λ shared. shared ≡ (if r.taken then arrivals.has_shared q.old else false)) }
     ensures room { OnOk result (2 ≤ marks.new.room) }
-    ensures err_queue { OnErr result (queue_of q.new ≡ queue_of q.old) }
+    ensures err_queue { OnErr result (q.new ≡ q.old) }
     ensures err_marks { OnErr result (marks.new.marks ≡ marks.old.marks) }
     ensures err_reach { OnErr result (reach.new ≡ reach.old) }
 {
@@ -271,11 +267,11 @@ fn refused_receive(q: &QueuePart, r: &Receiving, cause: OpRefusal) -> Mark
 
 /// Ends a key, and counts a type 2 window that it unbinds.
 fn end_key<R: Reach>(q: &mut QueuePart, reach: &mut R, key: Key) -> Result<(), OpRefusal>
-    requires { MayEnd R.sight R.ends reach.old (queue_of q.old) (key_end (queue_of q.old) key) }
-    ensures accepted { OnOk result ((R.sight reach.old).refusal (key_end (queue_of q.old) key) ≡ None) }
-    ensures refused { IfErr result (λ cause. (R.sight reach.old).refusal (key_end (queue_of q.old) key) ≡ Some cause) }
-    ensures revoked { OnOk result (reach.new ≡ R.revoked reach.old (key_end (queue_of q.old) key)) }
-    ensures queue { OnOk result (queue_of q.new ≡ rows.with_window_gone (Some (key_end (queue_of q.old) key)) (queue_of q.old)) }
+    requires { MayEnd R.sight R.ends reach.old q.old (key_end q.old key) }
+    ensures accepted { OnOk result ((R.sight reach.old).refusal (key_end q.old key) ≡ None) }
+    ensures refused { IfErr result (λ cause. (R.sight reach.old).refusal (key_end q.old key) ≡ Some cause) }
+    ensures revoked { OnOk result (reach.new ≡ R.revoked reach.old (key_end q.old key)) }
+    ensures queue { OnOk result (q.new ≡ rows.with_window_gone (Some (key_end q.old key)) q.old) }
     ensures name { q.new.queue ≡ q.old.queue }
     ensures err { OnErr result (q.new ≡ q.old) }
     ensures err_reach { OnErr result (reach.new ≡ reach.old) }
@@ -289,10 +285,10 @@ fn end_send(q: &mut QueuePart, p: &Packet<'_>, place: Position, r: Receiving, ma
     requires expected { q.old.responder.expected < 2 ^ 62 }
     requires msn { q.old.responder.msn < 2 ^ 24 }
     requires fits { r.before + length p.now.payload.now ≤ MAX_MESSAGE_BYTES }
-    requires takes { MayTake r (queue_of q.old) }
+    requires takes { MayTake r q.old }
     requires room { 3 ≤ marks.old.room }
-    ensures queue { queue_of q.new ≡ (rows.after_send_packet (receive_taken r.taken (arrivals.with_flag false (queue_of q.old))) (unasked (fields_of p.now)) place r).queue }
-    ensures marks { marks.new.marks ≡ marks.old.marks ++ (rows.after_send_packet (receive_taken r.taken (arrivals.with_flag false (queue_of q.old))) (unasked (fields_of p.now)) place r).marks }
+    ensures queue { q.new ≡ (rows.after_send_packet (receive_taken r.taken (arrivals.with_flag false q.old)) (unasked (fields_of p.now)) place r).queue }
+    ensures marks { marks.new.marks ≡ marks.old.marks ++ (rows.after_send_packet (receive_taken r.taken (arrivals.with_flag false q.old)) (unasked (fields_of p.now)) place r).marks }
     ensures room { 2 ≤ marks.new.room }
 {
     if r.taken {
@@ -314,8 +310,8 @@ fn end_taken_send(
     requires msn { q.old.responder.msn < 2 ^ 24 }
     requires fits { r.before + length p.now.payload.now ≤ MAX_MESSAGE_BYTES }
     requires room { 3 ≤ marks.old.room }
-    ensures queue { queue_of q.new ≡ (rows.after_send_packet (arrivals.with_flag false (queue_of q.old)) (unasked (fields_of p.now)) place r).queue }
-    ensures marks { marks.new.marks ≡ marks.old.marks ++ (rows.after_send_packet (arrivals.with_flag false (queue_of q.old)) (unasked (fields_of p.now)) place r).marks }
+    ensures queue { q.new ≡ (rows.after_send_packet (arrivals.with_flag false q.old) (unasked (fields_of p.now)) place r).queue }
+    ensures marks { marks.new.marks ≡ marks.old.marks ++ (rows.after_send_packet (arrivals.with_flag false q.old) (unasked (fields_of p.now)) place r).marks }
     ensures room { 2 ≤ marks.new.room }
 {
     let bytes = r.before + p.payload.len() as u32;

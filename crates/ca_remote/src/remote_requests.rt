@@ -8,11 +8,10 @@ ghost use Rattle.ca_model.specs.machine.Arrivals as arrivals;
 ghost use Rattle.ca_model.specs.machine.Expected as rows;
 ghost use Rattle.ca_model.specs.machine.Invariants.{IsQueue};
 ghost use Rattle.ca_model.specs.machine.Row.{ending_of};
-ghost use Rattle.ca_qpstate.specs.Seen.{queue_of};
 ghost use Rattle.ca_arrivals.specs.Shapes.{IsAtomicKind};
 ghost use Rattle.ca_remote.specs.Atomics.{IsAtomicRequest, after_atomic, found_in, number_left, number_seen, settled};
 ghost use Rattle.ca_arrivals.specs.Taking.{IsPacketTaken, ended_by, found};
-ghost use Rattle.ca_rows.specs.Narrow.{AreNarrow};
+ghost use Rattle.ca_model.specs.machine.CanStep.{CanStep};
 ghost use Rattle.ca_packet.specs.Packet.{fields_of};
 
 use crate::write::deny;
@@ -33,9 +32,8 @@ pub fn take_read(
     h: &Reth,
     marks: &mut Marks,
 ) -> Result<(), Memory>
-    requires queue { IsQueue (queue_of q.old) }
-    requires narrow { AreNarrow (queue_of q.old) }
-    ensures queue { OnOk result (queue_of q.new ≡ (rows.read_queued (arrivals.with_flag false (queue_of q.old)) (fields_of p.now) envelope h.now).queue) }
+    requires { CanStep q.old }
+    ensures queue { OnOk result (q.new ≡ (rows.read_queued (arrivals.with_flag false q.old) (fields_of p.now) envelope h.now).queue) }
     ensures marks { marks.new.marks ≡ marks.old.marks }
     ensures room { OnOk result (2 ≤ marks.new.room) }
     ensures err { OnErr result (q.new ≡ q.old) }
@@ -82,14 +80,13 @@ pub fn take_atomic<R: Reach>(
     a: &AtomicEth,
     marks: &mut Marks,
 ) -> Result<bool, Memory>
-    requires queue { IsQueue (queue_of q.old) }
-    requires narrow { AreNarrow (queue_of q.old) }
+    requires step { CanStep q.old }
     requires kind { IsAtomicKind kind }
     requires aligned { a.now.address % ATOMIC_BYTES ≡ 0 }
-    requires at_hand { AreAtHand R.sight R.judges R.touches reach.old (rows.atomic_row (arrivals.with_flag false (queue_of q.old)) (fields_of p.now) envelope kind a.now).asks }
-    ensures taken { let row = rows.atomic_row (arrivals.with_flag false (queue_of q.old)) (fields_of p.now) envelope kind a.now in
+    requires at_hand { AreAtHand R.sight R.judges R.touches reach.old (rows.atomic_row (arrivals.with_flag false q.old) (fields_of p.now) envelope kind a.now).asks }
+    ensures taken { let row = rows.atomic_row (arrivals.with_flag false q.old) (fields_of p.now) envelope kind a.now in
         IsPacketTaken R.written R.revoked result (ending_of (R.sight reach.old) row) (ended_by (R.sight reach.old) row)
-        (found (queue_of q.old) marks.old.marks reach.old) (found (queue_of q.new) marks.new.marks reach.new) }
+        (found q.old marks.old.marks reach.old) (found q.new marks.new.marks reach.new) }
     ensures room { OnOk result (2 ≤ marks.new.room) }
 {
     let ask = packet_ask(q, a.key, kind, a.address, ATOMIC_BYTES, ATOMIC_BYTES);
@@ -111,13 +108,12 @@ fn act<R: Reach>(
     a: &AtomicEth,
     marks: &mut Marks,
 ) -> Result<(), Memory>
-    requires queue { IsQueue (queue_of q.old) }
-    requires narrow { AreNarrow (queue_of q.old) }
+    requires step { CanStep q.old }
     requires judges { R.judges reach.old ask.now }
     requires touches { R.touches reach.old ask.now }
     requires eight { IsAtomicRequest kind ask.now }
     requires allowed { denial_in (R.sight reach.old) ask.now ≡ None }
-    ensures queue { OnOk result (queue_of q.new ≡ after_atomic (number_seen (R.sight reach.old) ask.now) (queue_of q.old)) }
+    ensures queue { OnOk result (q.new ≡ after_atomic (number_seen (R.sight reach.old) ask.now) q.old) }
     ensures marks { OnOk result (marks.new.marks ≡ marks.old.marks ++ arrivals.remote_mark ask.now envelope (Verdict.Swapped (number_seen (R.sight reach.old) ask.now)
         (number_left kind a.now (number_seen (R.sight reach.old) ask.now))) ∷ []) }
     ensures wrote { OnOk result (reach.new ≡ R.written reach.old ask.now (little_endian_bytes (number_left kind a.now (number_seen (R.sight reach.old) ask.now)))) }
@@ -152,7 +148,7 @@ fn act_once<R: Reach>(reach: &mut R, ask: &Ask, kind: Kind, a: &AtomicEth) -> Ve
 fn settle(q: &mut QueuePart, found: u64)
     requires expected { q.old.responder.expected < 2 ^ 62 }
     requires msn { q.old.responder.msn < 2 ^ 24 }
-    ensures { queue_of q.new ≡ settled found (queue_of q.old) }
+    ensures { q.new ≡ settled found q.old }
 {
     let psn = q.responder.expected;
     q.responder.answers.set_last(atomic_answer(psn, found));

@@ -9,11 +9,10 @@ ghost use Rattle.ca_model.specs.machine.Expected as rows;
 ghost use Rattle.ca_model.specs.machine.Invariants.{IsQueue};
 ghost use Rattle.ca_model.specs.machine.Row.{ending_of};
 ghost use Rattle.ca_model.specs.machine.Shapes.{fits_place};
-ghost use Rattle.ca_qpstate.specs.Seen.{queue_of};
 ghost use Rattle.ca_arrivals.specs.Numbers.{unasked};
 ghost use Rattle.ca_arrivals.specs.Receives.{CanTake};
 ghost use Rattle.ca_arrivals.specs.Taking.{IsPacketTaken, ended_by, found};
-ghost use Rattle.ca_rows.specs.Narrow.{AreNarrow};
+ghost use Rattle.ca_model.specs.machine.CanStep.{AreNarrow, CanStep};
 ghost use Rattle.ca_packet.specs.Packet.{fields_of};
 
 use ca_arrivals::{Placed, WriteReach, pass, queue_ack, refuse, remote_mark, take_own, write_ask};
@@ -38,16 +37,15 @@ pub fn take_write<R: Reach>(
     r: &WriteReach,
     marks: &mut Marks,
 ) -> Result<bool, Memory>
-    requires queue { IsQueue (queue_of q.old) }
-    requires narrow { AreNarrow (queue_of q.old) }
+    requires step { CanStep q.old }
     requires payload { length p.now.payload.now ≤ MAX_PAYLOAD_BYTES }
     requires place { fits_place q.old.responder.mtu place (length p.now.payload.now) ≡ true }
     requires left { rows.fits_left (length p.now.payload.now) place r.now ≡ true }
-    requires takes { CanTake (queue_of q.old) (option_copied next) }
-    requires at_hand { AreAtHand R.sight R.judges R.touches reach.old (rows.write_row (arrivals.with_flag false (queue_of q.old)) (fields_of p.now) envelope place (option_copied next) r.now).asks }
-    ensures taken { let row = rows.write_row (arrivals.with_flag false (queue_of q.old)) (fields_of p.now) envelope place (option_copied next.entry) r.now in
+    requires takes { CanTake q.old (option_copied next) }
+    requires at_hand { AreAtHand R.sight R.judges R.touches reach.old (rows.write_row (arrivals.with_flag false q.old) (fields_of p.now) envelope place (option_copied next) r.now).asks }
+    ensures taken { let row = rows.write_row (arrivals.with_flag false q.old) (fields_of p.now) envelope place (option_copied next.entry) r.now in
         IsPacketTaken R.written R.revoked result (ending_of (R.sight reach.old) row) (ended_by (R.sight reach.old) row)
-        (found (queue_of q.old) marks.old.marks reach.old) (found (queue_of q.new) marks.new.marks reach.new) }
+        (found q.old marks.old.marks reach.old) (found q.new marks.new.marks reach.new) }
     ensures room { OnOk result (2 ≤ marks.new.room) }
 {
     let ask = write_ask(q, p, r);
@@ -70,9 +68,9 @@ pub fn deny(
     denial: Denial,
     marks: &mut Marks,
 ) -> Result<(), Memory>
-    requires { IsQueue (queue_of q.old) }
-    ensures queue { OnOk result (queue_of q.new ≡ (arrivals.refusal_effects NakCode.RemoteAccessError (arrivals.with_flag false (queue_of q.old))).queue) }
-    ensures marks { OnOk result (marks.new.marks ≡ marks.old.marks ++ (arrivals.remote_mark ask.now envelope (Verdict.Denied denial) ∷ flush_marks (queue_of q.old))) }
+    requires { IsQueue q.old }
+    ensures queue { OnOk result (q.new ≡ (arrivals.refusal_effects NakCode.RemoteAccessError (arrivals.with_flag false q.old)).queue) }
+    ensures marks { OnOk result (marks.new.marks ≡ marks.old.marks ++ (arrivals.remote_mark ask.now envelope (Verdict.Denied denial) ∷ flush_marks q.old)) }
     ensures room { OnOk result (2 ≤ marks.new.room) }
     ensures err { OnErr result (q.new ≡ q.old) }
     ensures err_marks { OnErr result (marks.new.marks ≡ marks.old.marks) }
@@ -94,14 +92,14 @@ fn write_nothing(
     r: &WriteReach,
     marks: &mut Marks,
 ) -> Result<bool, Memory>
-    requires narrow { AreNarrow (queue_of q.old) }
+    requires narrow { AreNarrow q.old }
     requires msn { q.old.responder.msn < 2 ^ 24 }
     requires left { length p.now.payload.now ≤ r.now.left }
-    requires takes { CanTake (queue_of q.old) (option_copied next) }
-    ensures queue { OnOk result (queue_of q.new ≡ (rows.after_write_packet (arrivals.with_flag false (queue_of q.old)) (fields_of p.now) place r.now (option_copied next.entry)).queue) }
+    requires takes { CanTake q.old (option_copied next) }
+    ensures queue { OnOk result (q.new ≡ (rows.after_write_packet (arrivals.with_flag false q.old) (fields_of p.now) place r.now (option_copied next.entry)).queue) }
     ensures marks { OnOk result (marks.new.marks ≡ marks.old.marks ++ (arrivals.remote_mark ask.now envelope (Verdict.Wrote p.now.payload.now)
-        ∷ (rows.after_write_packet (arrivals.with_flag false (queue_of q.old)) (fields_of p.now) place r.now (option_copied next.entry)).marks)) }
-    ensures shared { IfOk result (λ shared. shared ≡ (rows.after_write_packet (arrivals.with_flag false (queue_of q.old)) (fields_of p.now) place r.now (option_copied next.entry)).takes_shared) }
+        ∷ (rows.after_write_packet (arrivals.with_flag false q.old) (fields_of p.now) place r.now (option_copied next.entry)).marks)) }
+    ensures shared { IfOk result (λ shared. shared ≡ (rows.after_write_packet (arrivals.with_flag false q.old) (fields_of p.now) place r.now (option_copied next.entry)).takes_shared) }
     ensures room { OnOk result (2 ≤ marks.new.room) }
     ensures err { OnErr result (q.new ≡ q.old) }
     ensures err_marks { OnErr result (marks.new.marks ≡ marks.old.marks) }
@@ -127,20 +125,20 @@ fn place_write<R: Reach>(
     r: &WriteReach,
     marks: &mut Marks,
 ) -> Result<bool, Memory>
-    requires narrow { AreNarrow (queue_of q.old) }
+    requires narrow { AreNarrow q.old }
     requires msn { q.old.responder.msn < 2 ^ 24 }
     requires left { length p.now.payload.now ≤ r.now.left }
-    requires takes { CanTake (queue_of q.old) (option_copied next) }
+    requires takes { CanTake q.old (option_copied next) }
     requires judges { R.judges reach.old ask.now }
     requires touches { R.touches reach.old ask.now }
     requires packet { IsPacketAsk ask.now }
     requires kind { ask.now.kind ≡ Kind.Write }
     requires count { length p.now.payload.now ≡ ask.now.touch }
     requires allowed { denial_in (R.sight reach.old) ask.now ≡ None }
-    ensures queue { OnOk result (queue_of q.new ≡ (rows.after_write_packet (arrivals.with_flag false (queue_of q.old)) (fields_of p.now) place r.now (option_copied next.entry)).queue) }
+    ensures queue { OnOk result (q.new ≡ (rows.after_write_packet (arrivals.with_flag false q.old) (fields_of p.now) place r.now (option_copied next.entry)).queue) }
     ensures marks { OnOk result (marks.new.marks ≡ marks.old.marks ++ (arrivals.remote_mark ask.now envelope (Verdict.Wrote p.now.payload.now)
-        ∷ (rows.after_write_packet (arrivals.with_flag false (queue_of q.old)) (fields_of p.now) place r.now (option_copied next.entry)).marks)) }
-    ensures shared { IfOk result (λ shared. shared ≡ (rows.after_write_packet (arrivals.with_flag false (queue_of q.old)) (fields_of p.now) place r.now (option_copied next.entry)).takes_shared) }
+        ∷ (rows.after_write_packet (arrivals.with_flag false q.old) (fields_of p.now) place r.now (option_copied next.entry)).marks)) }
+    ensures shared { IfOk result (λ shared. shared ≡ (rows.after_write_packet (arrivals.with_flag false q.old) (fields_of p.now) place r.now (option_copied next.entry)).takes_shared) }
     ensures wrote { OnOk result (reach.new ≡ R.written reach.old ask.now p.now.payload.now) }
     ensures room { OnOk result (2 ≤ marks.new.room) }
     ensures err { OnErr result (q.new ≡ q.old) }
@@ -170,11 +168,11 @@ fn end_write(
     requires expected { q.old.responder.expected < 2 ^ 62 }
     requires msn { q.old.responder.msn < 2 ^ 24 }
     requires left { length p.now.payload.now ≤ r.now.left }
-    requires takes { CanTake (queue_of q.old) (option_copied next) }
+    requires takes { CanTake q.old (option_copied next) }
     requires room { 3 ≤ marks.old.room }
-    ensures queue { queue_of q.new ≡ (rows.after_write_packet (arrivals.with_flag false (queue_of q.old)) (unasked (fields_of p.now)) place r.now (option_copied next.entry)).queue }
-    ensures marks { marks.new.marks ≡ marks.old.marks ++ (rows.after_write_packet (arrivals.with_flag false (queue_of q.old)) (unasked (fields_of p.now)) place r.now (option_copied next.entry)).marks }
-    ensures shared { result ≡ (rows.after_write_packet (arrivals.with_flag false (queue_of q.old)) (unasked (fields_of p.now)) place r.now (option_copied next.entry)).takes_shared }
+    ensures queue { q.new ≡ (rows.after_write_packet (arrivals.with_flag false q.old) (unasked (fields_of p.now)) place r.now (option_copied next.entry)).queue }
+    ensures marks { marks.new.marks ≡ marks.old.marks ++ (rows.after_write_packet (arrivals.with_flag false q.old) (unasked (fields_of p.now)) place r.now (option_copied next.entry)).marks }
+    ensures shared { result ≡ (rows.after_write_packet (arrivals.with_flag false q.old) (unasked (fields_of p.now)) place r.now (option_copied next.entry)).takes_shared }
     ensures room { 2 ≤ marks.new.room }
 {
     if !place.ends() {

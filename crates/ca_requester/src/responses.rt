@@ -6,10 +6,9 @@ ghost use Rattle.ca_model.specs.machine.Acknowledgements.{acknowledgement_below,
 ghost use Rattle.ca_model.specs.machine.Invariants.{IsList, IsQueue};
 ghost use Rattle.ca_model.specs.machine.Numbering as numbering;
 ghost use Rattle.ca_model.specs.machine.Responses as rows;
-ghost use Rattle.ca_qpstate.specs.Seen.{queue_of};
 ghost use Rattle.ca_packet.specs.Packet.{fields_of};
 ghost use Rattle.ca_wire.specs.Syndrome.{syndrome_in};
-ghost use Rattle.ca_rows.specs.Narrow.{AreNarrow};
+ghost use Rattle.ca_model.specs.machine.CanStep.{CanStep};
 ghost use Rattle.ca_progress.specs.Numbering.{IsSound, numbered_of};
 ghost use Rattle.ca_progress.specs.declared.outcome.Outcome.TheVariants.{Fails};
 ghost use Rattle.ca_progress.specs.Outcome.{failure_of, numbers_of, outcome_effects};
@@ -73,10 +72,9 @@ pub(crate) struct Answer<'a> {
 /// What a response says: it is dropped in the wrong state, or where its PSN is not outstanding. It takes no memory.
 #[inline(always)]
 pub(crate) fn arrival_of(q: &QueuePart, p: &Packet<'_>) -> Arrival
-    requires queue { IsQueue (queue_of q.now) }
-    requires narrow { AreNarrow (queue_of q.now) }
+    requires step { CanStep q.now }
     requires psn { p.now.psn < 2 ^ 24 }
-    ensures row { row_of_arrival result (fields_of p.now) (queue_of q.now) ≡ rows.response_row (fields_of p.now) (queue_of q.now) }
+    ensures row { row_of_arrival result (fields_of p.now) q.now ≡ rows.response_row (fields_of p.now) q.now }
     ensures narrow { IsNarrowArrival result }
 {
     if !is_sending(q.state) {
@@ -110,13 +108,13 @@ fn syndrome_of(p: &Packet<'_>) -> Option<Syndrome>
 /// A READ or an atomic that was not answered is an implied NAK: one retry, and back to it.
 #[tactic(auto, using(crate::proofs::ResponseLemmas::is_end))]
 pub(crate) fn implied_nak(q: &QueuePart, acknowledged: &Acknowledged) -> Ended
-    requires queue { IsQueue (queue_of q.now) }
-    requires numbers { AreNumbers (queue_of q.now) (numbers_behind acknowledged.now (queue_of q.now)) }
-    requires under { with_requester (numbers_behind acknowledged.now (queue_of q.now)) (queue_of q.now) ≡ (progress_to acknowledged.now.until (queue_of q.now)).queue }
-    requires finished { (progress_to acknowledged.now.until (queue_of q.now)).marks
-        ≡ success_between q.now.requester.oldest acknowledged.now.place (queue_of q.now) }
-    ensures effects { ended_effects result (queue_of q.now) ≡ (acknowledgement_of true acknowledged.now.until (queue_of q.now)).effects }
-    ensures end { IsEnd (queue_of q.now) result }
+    requires queue { IsQueue q.now }
+    requires numbers { AreNumbers q.now (numbers_behind acknowledged.now q.now) }
+    requires under { with_requester (numbers_behind acknowledged.now q.now) q.now ≡ (progress_to acknowledged.now.until q.now).queue }
+    requires finished { (progress_to acknowledged.now.until q.now).marks
+        ≡ success_between q.now.requester.oldest acknowledged.now.place q.now }
+    ensures effects { ended_effects result q.now ≡ (acknowledgement_of true acknowledged.now.until q.now).effects }
+    ensures end { IsEnd q.now result }
 {
     Ended {
         until: acknowledged.until,
@@ -127,10 +125,9 @@ pub(crate) fn implied_nak(q: &QueuePart, acknowledged: &Acknowledged) -> Ended
 /// An RNR NAK of the request at a PSN.
 #[tactic(auto, using(crate::proofs::ResponseLemmas::then_on, crate::proofs::ResponseLemmas::is_end))]
 pub(crate) fn on_rnr_nak(q: &QueuePart, psn: u64) -> Ended
-    requires queue { IsQueue (queue_of q.now) }
-    requires narrow { AreNarrow (queue_of q.now) }
-    ensures effects { ended_effects result (queue_of q.now) ≡ rows.unless_back (acknowledgement_below psn (queue_of q.now)) (rows.rnr_nak_effects psn) }
-    ensures end { IsEnd (queue_of q.now) result }
+    requires { CanStep q.now }
+    ensures effects { ended_effects result q.now ≡ rows.unless_back (acknowledgement_below psn q.now) (rows.rnr_nak_effects psn) }
+    ensures end { IsEnd q.now result }
 {
     let acknowledged = acknowledged_below(q, psn);
     if acknowledged.went_back {
@@ -145,10 +142,9 @@ pub(crate) fn on_rnr_nak(q: &QueuePart, psn: u64) -> Ended
 /// A NAK of the request at a PSN.
 #[tactic(auto, using(crate::proofs::ResponseLemmas::then_on, crate::proofs::ResponseLemmas::is_end))]
 pub(crate) fn on_nak(q: &QueuePart, psn: u64, code: NakCode) -> Ended
-    requires queue { IsQueue (queue_of q.now) }
-    requires narrow { AreNarrow (queue_of q.now) }
-    ensures effects { ended_effects result (queue_of q.now) ≡ rows.unless_back (acknowledgement_below psn (queue_of q.now)) (rows.nak_effects psn code) }
-    ensures end { IsEnd (queue_of q.now) result }
+    requires { CanStep q.now }
+    ensures effects { ended_effects result q.now ≡ rows.unless_back (acknowledgement_below psn q.now) (rows.nak_effects psn code) }
+    ensures end { IsEnd q.now result }
 {
     let acknowledged = acknowledged_below(q, psn);
     if acknowledged.went_back {
@@ -209,11 +205,10 @@ fn failure(numbers: RequesterNumbers, status: WcStatus) -> Outcome
 /// An answer: an implied NAK, one that does not fit its request, or one whose bytes go to its list.
 #[tactic(auto, using(crate::proofs::ResponseLemmas::answer_fails, crate::proofs::ResponseLemmas::answer_fits, crate::proofs::ResponseLemmas::is_end))]
 pub(crate) fn answer_of<'a>(q: &'a QueuePart, p: &Packet<'_>, psn: u64) -> Response<'a>
-    requires queue { IsQueue (queue_of q.now) }
-    requires narrow { AreNarrow (queue_of q.now) }
+    requires step { CanStep q.now }
     requires psn { psn < 2 ^ 62 }
-    ensures row { row_of result (fields_of p.now) (queue_of q.now) ≡ rows.fitting_row psn (fields_of p.now) (acknowledgement_below psn (queue_of q.now)) }
-    ensures sound { IsResponse result (fields_of p.now) (queue_of q.now) }
+    ensures row { row_of result (fields_of p.now) q.now ≡ rows.fitting_row psn (fields_of p.now) (acknowledgement_below psn q.now) }
+    ensures sound { IsResponse result (fields_of p.now) q.now }
 {
     let acknowledged = acknowledged_below(q, psn);
     if acknowledged.went_back {
@@ -241,12 +236,12 @@ fn fitting_request<'a>(
     numbers: &RequesterNumbers,
     psn: u64,
 ) -> Option<Numbered<'a>>
-    requires queue { IsQueue (queue_of q.now) }
-    requires numbers { AreNumbers (queue_of q.now) numbers.now }
-    ensures request { option_map numbered_of result ≡ fitting psn (fields_of p.now) (with_requester numbers.now (queue_of q.now)) }
-    ensures sound { IfSome result (λ n. IsSound (queue_of q.now) (numbered_of n)) }
+    requires queue { IsQueue q.now }
+    requires numbers { AreNumbers q.now numbers.now }
+    ensures request { option_map numbered_of result ≡ fitting psn (fields_of p.now) (with_requester numbers.now q.now) }
+    ensures sound { IfSome result (λ n. IsSound q.now (numbered_of n)) }
     ensures psn { IfSome result (λ n. numbering.has_psn psn (numbered_of n) ≡ true) }
-    ensures fits { IfSome result (λ n. rows.fits_request psn (fields_of p.now) (queue_of q.now) (numbered_of n) ≡ true) }
+    ensures fits { IfSome result (λ n. rows.fits_request psn (fields_of p.now) q.now (numbered_of n) ≡ true) }
 {
     match request_under(q, numbers, psn) {
         Some(request) if fits(q, p, psn, &request) => Some(request),
@@ -257,10 +252,10 @@ fn fitting_request<'a>(
 /// Whether a response fits its request: a READ's segment by its length and by whether it is the last, an atomic's answer
 /// an atomic.
 fn fits(q: &QueuePart, p: &Packet<'_>, psn: u64, n: &Numbered<'_>) -> bool
-    requires queue { IsQueue (queue_of q.now) }
-    requires sound { IsSound (queue_of q.now) (numbered_of n.now) }
+    requires queue { IsQueue q.now }
+    requires sound { IsSound q.now (numbered_of n.now) }
     requires psn { numbering.has_psn psn (numbered_of n.now) ≡ true }
-    ensures { result ≡ rows.fits_request psn (fields_of p.now) (queue_of q.now) (numbered_of n.now) }
+    ensures { result ≡ rows.fits_request psn (fields_of p.now) q.now (numbered_of n.now) }
 {
     if p.opcode == ATOMIC_ACKNOWLEDGE {
         return is_atomic(n.op());
@@ -280,10 +275,10 @@ fn ends_read(opcode: u8) -> bool
 
 /// How many bytes the segment of a request's message at a PSN has.
 fn segment_length(q: &QueuePart, psn: u64, n: &Numbered<'_>) -> u64
-    requires queue { IsQueue (queue_of q.now) }
-    requires sound { IsSound (queue_of q.now) (numbered_of n.now) }
+    requires queue { IsQueue q.now }
+    requires sound { IsSound q.now (numbered_of n.now) }
     requires psn { numbering.has_psn psn (numbered_of n.now) ≡ true }
-    ensures { result ≡ rows.segment_length psn (queue_of q.now) (numbered_of n.now) }
+    ensures { result ≡ rows.segment_length psn q.now (numbered_of n.now) }
 {
     let mtu = u64::from(q.responder.mtu);
     let before = u64::from((psn - n.first) as u32) * mtu;

@@ -11,12 +11,11 @@ ghost use Rattle.ca_model.specs.machine.Acknowledgements.{acknowledgement_below,
 ghost use Rattle.ca_model.specs.machine.Invariants.{IsQueue};
 ghost use Rattle.ca_model.specs.machine.Responses as rows;
 ghost use Rattle.ca_model.specs.machine.Row.{ending_of};
-ghost use Rattle.ca_qpstate.specs.Seen.{queue_of};
 ghost use Rattle.ca_packet.specs.Packet.{IsWellFormed, fields_of};
 ghost use Rattle.ca_model.specs.Packets.{is_response};
 ghost use Rattle.ca_rows.specs.Asks.{CanWrite, IsAskOf, IsGranted, IsWrite, asks_of, touched_by};
 ghost use Rattle.ca_rows.specs.Done.{IsTaking, handed, written_all};
-ghost use Rattle.ca_rows.specs.Narrow.{AreNarrow};
+ghost use Rattle.ca_model.specs.machine.CanStep.{CanStep};
 ghost use Rattle.ca_progress.specs.Numbering.{IsSound, numbered_of};
 ghost use Rattle.ca_progress.specs.Progress.{AreNumbers, acknowledgement_of, numbers_behind, success_between};
 ghost use Rattle.ca_requester.specs.Responses.{IsAnswer, IsEnd, answer_effects, denied_effects, ended_effects};
@@ -44,10 +43,9 @@ const ATOMIC_BYTES: u32 = 8;
 
 /// The asks that `on_response` may make, in order; it makes no other. It takes no memory.
 pub fn response_asks(q: &QueuePart, p: &Packet<'_>) -> ArrayVec<Ask, MAX_PIECES>
-    requires queue { IsQueue (queue_of q.now) }
-    requires narrow { AreNarrow (queue_of q.now) }
+    requires step { CanStep q.now }
     requires packet { IsWellFormed (fields_of p.now) }
-    ensures { result.items ≡ (rows.response_row (fields_of p.now) (queue_of q.now)).asks }
+    ensures { result.items ≡ (rows.response_row (fields_of p.now) q.now).asks }
 {
     match arrival_of(q, p) {
         Arrival::Fits(psn) => answer_asks(q, p, psn),
@@ -59,11 +57,10 @@ pub fn response_asks(q: &QueuePart, p: &Packet<'_>) -> ArrayVec<Ask, MAX_PIECES>
 
 /// The asks of an answer with this PSN.
 fn answer_asks(q: &QueuePart, p: &Packet<'_>, psn: u64) -> ArrayVec<Ask, MAX_PIECES>
-    requires queue { IsQueue (queue_of q.now) }
-    requires narrow { AreNarrow (queue_of q.now) }
+    requires step { CanStep q.now }
     requires packet { IsWellFormed (fields_of p.now) }
     requires psn { psn < 2 ^ 62 }
-    ensures { result.items ≡ (rows.fitting_row psn (fields_of p.now) (acknowledgement_below psn (queue_of q.now))).asks }
+    ensures { result.items ≡ (rows.fitting_row psn (fields_of p.now) (acknowledgement_below psn q.now)).asks }
 {
     match answer_of(q, p, psn) {
         Response::Answers(answer) => asks_for(q, p, &answer),
@@ -73,10 +70,10 @@ fn answer_asks(q: &QueuePart, p: &Packet<'_>, psn: u64) -> ArrayVec<Ask, MAX_PIE
 
 /// The asks for the places in its request's list to which an answer's bytes go.
 fn asks_for(q: &QueuePart, p: &Packet<'_>, answer: &Answer<'_>) -> ArrayVec<Ask, MAX_PIECES>
-    requires queue { IsQueue (queue_of q.now) }
+    requires queue { IsQueue q.now }
     requires packet { IsWellFormed (fields_of p.now) }
-    requires answer { IsAnswer (fields_of p.now) (queue_of q.now) answer.now }
-    ensures value { result.items ≡ rows.answer_asks answer.now.psn (fields_of p.now) (queue_of q.now) (numbered_of answer.now.request) }
+    requires answer { IsAnswer (fields_of p.now) q.now answer.now }
+    ensures value { result.items ≡ rows.answer_asks answer.now.psn (fields_of p.now) q.now (numbered_of answer.now.request) }
     ensures asks { AllByRecursion (IsAskOf Kind.Write) result.items }
     ensures enough { touched_by result.items ≤ length (rows.answer_bytes (fields_of p.now)) }
 {
@@ -94,10 +91,10 @@ fn asks_for(q: &QueuePart, p: &Packet<'_>, answer: &Answer<'_>) -> ArrayVec<Ask,
 /// Where an answer's bytes begin in its request's message.
 #[tactic(auto, using(ca_progress::proofs::NumberingLemmas::few_before))]
 fn bytes_before(q: &QueuePart, answer: &Answer<'_>) -> u32
-    requires queue { IsQueue (queue_of q.now) }
-    requires sound { IsSound (queue_of q.now) (numbered_of answer.now.request) }
+    requires queue { IsQueue q.now }
+    requires sound { IsSound q.now (numbered_of answer.now.request) }
     requires psn { has_psn answer.now.psn (numbered_of answer.now.request) ≡ true }
-    ensures { result ≡ rows.segment_at answer.now.psn (queue_of q.now) (numbered_of answer.now.request) }
+    ensures { result ≡ rows.segment_at answer.now.psn q.now (numbered_of answer.now.request) }
 {
     let request = &answer.request;
     (answer.psn - request.first) as u32 * u32::from(q.responder.mtu)
@@ -143,13 +140,12 @@ pub fn on_response<R: Reach>(
     p: &Packet<'_>,
     marks: &mut Marks,
 ) -> Result<(), Memory>
-    requires queue { IsQueue (queue_of q.old) }
-    requires narrow { AreNarrow (queue_of q.old) }
+    requires step { CanStep q.old }
     requires packet { IsWellFormed (fields_of p.now) }
     requires response { is_response (fields_of p.now).opcode ≡ true }
-    requires at_hand { AreAtHand R.sight R.judges R.touches reach.old (rows.response_row (fields_of p.now) (queue_of q.old)).asks }
-    ensures done { IsTaking R.written result (ending_of (R.sight reach.old) (rows.response_row (fields_of p.now) (queue_of q.old)))
-        (handed (queue_of q.old) marks.old.marks [] reach.old) (handed (queue_of q.new) marks.new.marks [] reach.new) }
+    requires at_hand { AreAtHand R.sight R.judges R.touches reach.old (rows.response_row (fields_of p.now) q.old).asks }
+    ensures done { IsTaking R.written result (ending_of (R.sight reach.old) (rows.response_row (fields_of p.now) q.old))
+        (handed q.old marks.old.marks [] reach.old) (handed q.new marks.new.marks [] reach.new) }
     ensures room { OnOk result (2 ≤ marks.new.room) }
     ensures err { OnErr result (q.new ≡ q.old) }
 {
@@ -165,11 +161,10 @@ pub fn on_response<R: Reach>(
 /// All up to a PSN is acknowledged: the requests that end there complete.
 #[inline(always)]
 fn take_ack(alloc: Global, q: &mut QueuePart, psn: u64, marks: &mut Marks) -> Result<(), Memory>
-    requires queue { IsQueue (queue_of q.old) }
-    requires narrow { AreNarrow (queue_of q.old) }
+    requires step { CanStep q.old }
     requires psn { psn < 2 ^ 62 }
-    ensures queue { OnOk result (queue_of q.new ≡ (acknowledgement_below (suc psn) (queue_of q.old)).effects.queue) }
-    ensures marks { OnOk result (marks.new.marks ≡ marks.old.marks ++ (acknowledgement_below (suc psn) (queue_of q.old)).effects.marks) }
+    ensures queue { OnOk result (q.new ≡ (acknowledgement_below (suc psn) q.old).effects.queue) }
+    ensures marks { OnOk result (marks.new.marks ≡ marks.old.marks ++ (acknowledgement_below (suc psn) q.old).effects.marks) }
     ensures room { OnOk result (2 ≤ marks.new.room) }
     ensures err { OnErr result (q.new ≡ q.old) }
     ensures err_marks { OnErr result (marks.new.marks ≡ marks.old.marks) }
@@ -185,10 +180,10 @@ fn take_ack(alloc: Global, q: &mut QueuePart, psn: u64, marks: &mut Marks) -> Re
 #[tactic(auto, using(ca_progress::proofs::OutcomeLemmas::are_ahead))]
 #[inline(always)]
 fn go_on(q: &mut QueuePart, acknowledged: &Acknowledged, marks: &mut Marks) -> Result<(), Memory>
-    requires queue { IsQueue (queue_of q.old) }
-    requires numbers { AreNumbers (queue_of q.old) (numbers_behind acknowledged.now (queue_of q.old)) }
-    ensures queue { OnOk result (queue_of q.new ≡ with_requester (numbers_behind acknowledged.now (queue_of q.old)) (queue_of q.old)) }
-    ensures marks { OnOk result (marks.new.marks ≡ marks.old.marks ++ success_between q.old.requester.oldest acknowledged.now.place (queue_of q.old)) }
+    requires queue { IsQueue q.old }
+    requires numbers { AreNumbers q.old (numbers_behind acknowledged.now q.old) }
+    ensures queue { OnOk result (q.new ≡ with_requester (numbers_behind acknowledged.now q.old) q.old) }
+    ensures marks { OnOk result (marks.new.marks ≡ marks.old.marks ++ success_between q.old.requester.oldest acknowledged.now.place q.old) }
     ensures room { OnOk result (2 ≤ marks.new.room) }
     ensures err { OnErr result (q.new ≡ q.old) }
     ensures err_marks { OnErr result (marks.new.marks ≡ marks.old.marks) }
@@ -208,14 +203,13 @@ fn take_implied_nak(
     acknowledged: &Acknowledged,
     marks: &mut Marks,
 ) -> Result<(), Memory>
-    requires queue { IsQueue (queue_of q.old) }
-    requires narrow { AreNarrow (queue_of q.old) }
-    requires numbers { AreNumbers (queue_of q.old) (numbers_behind acknowledged.now (queue_of q.old)) }
-    requires under { with_requester (numbers_behind acknowledged.now (queue_of q.old)) (queue_of q.old) ≡ (progress_to acknowledged.now.until (queue_of q.old)).queue }
-    requires finished { (progress_to acknowledged.now.until (queue_of q.old)).marks
-        ≡ success_between q.old.requester.oldest acknowledged.now.place (queue_of q.old) }
-    ensures queue { OnOk result (queue_of q.new ≡ (acknowledgement_of true acknowledged.now.until (queue_of q.old)).effects.queue) }
-    ensures marks { OnOk result (marks.new.marks ≡ marks.old.marks ++ (acknowledgement_of true acknowledged.now.until (queue_of q.old)).effects.marks) }
+    requires step { CanStep q.old }
+    requires numbers { AreNumbers q.old (numbers_behind acknowledged.now q.old) }
+    requires under { with_requester (numbers_behind acknowledged.now q.old) q.old ≡ (progress_to acknowledged.now.until q.old).queue }
+    requires finished { (progress_to acknowledged.now.until q.old).marks
+        ≡ success_between q.old.requester.oldest acknowledged.now.place q.old }
+    ensures queue { OnOk result (q.new ≡ (acknowledgement_of true acknowledged.now.until q.old).effects.queue) }
+    ensures marks { OnOk result (marks.new.marks ≡ marks.old.marks ++ (acknowledgement_of true acknowledged.now.until q.old).effects.marks) }
     ensures room { OnOk result (2 ≤ marks.new.room) }
     ensures err { OnErr result (q.new ≡ q.old) }
     ensures err_marks { OnErr result (marks.new.marks ≡ marks.old.marks) }
@@ -228,10 +222,9 @@ fn take_implied_nak(
 #[cold]
 #[inline(never)]
 fn take_rnr_nak(alloc: Global, q: &mut QueuePart, psn: u64, marks: &mut Marks) -> Result<(), Memory>
-    requires queue { IsQueue (queue_of q.old) }
-    requires narrow { AreNarrow (queue_of q.old) }
-    ensures queue { OnOk result (queue_of q.new ≡ (rows.unless_back (acknowledgement_below psn (queue_of q.old)) (rows.rnr_nak_effects psn)).queue) }
-    ensures marks { OnOk result (marks.new.marks ≡ marks.old.marks ++ (rows.unless_back (acknowledgement_below psn (queue_of q.old)) (rows.rnr_nak_effects psn)).marks) }
+    requires { CanStep q.old }
+    ensures queue { OnOk result (q.new ≡ (rows.unless_back (acknowledgement_below psn q.old) (rows.rnr_nak_effects psn)).queue) }
+    ensures marks { OnOk result (marks.new.marks ≡ marks.old.marks ++ (rows.unless_back (acknowledgement_below psn q.old) (rows.rnr_nak_effects psn)).marks) }
     ensures room { OnOk result (2 ≤ marks.new.room) }
     ensures err { OnErr result (q.new ≡ q.old) }
     ensures err_marks { OnErr result (marks.new.marks ≡ marks.old.marks) }
@@ -250,10 +243,9 @@ fn take_nak(
     code: NakCode,
     marks: &mut Marks,
 ) -> Result<(), Memory>
-    requires queue { IsQueue (queue_of q.old) }
-    requires narrow { AreNarrow (queue_of q.old) }
-    ensures queue { OnOk result (queue_of q.new ≡ (rows.unless_back (acknowledgement_below psn (queue_of q.old)) (rows.nak_effects psn code)).queue) }
-    ensures marks { OnOk result (marks.new.marks ≡ marks.old.marks ++ (rows.unless_back (acknowledgement_below psn (queue_of q.old)) (rows.nak_effects psn code)).marks) }
+    requires { CanStep q.old }
+    ensures queue { OnOk result (q.new ≡ (rows.unless_back (acknowledgement_below psn q.old) (rows.nak_effects psn code)).queue) }
+    ensures marks { OnOk result (marks.new.marks ≡ marks.old.marks ++ (rows.unless_back (acknowledgement_below psn q.old) (rows.nak_effects psn code)).marks) }
     ensures room { OnOk result (2 ≤ marks.new.room) }
     ensures err { OnErr result (q.new ≡ q.old) }
     ensures err_marks { OnErr result (marks.new.marks ≡ marks.old.marks) }
@@ -272,13 +264,12 @@ fn take_answer<R: Reach>(
     psn: u64,
     marks: &mut Marks,
 ) -> Result<(), Memory>
-    requires queue { IsQueue (queue_of q.old) }
-    requires narrow { AreNarrow (queue_of q.old) }
+    requires step { CanStep q.old }
     requires packet { IsWellFormed (fields_of p.now) }
     requires psn { psn < 2 ^ 62 }
-    requires at_hand { AreAtHand R.sight R.judges R.touches reach.old (rows.fitting_row psn (fields_of p.now) (acknowledgement_below psn (queue_of q.old))).asks }
-    ensures done { IsTaking R.written result (ending_of (R.sight reach.old) (rows.fitting_row psn (fields_of p.now) (acknowledgement_below psn (queue_of q.old))))
-        (handed (queue_of q.old) marks.old.marks [] reach.old) (handed (queue_of q.new) marks.new.marks [] reach.new) }
+    requires at_hand { AreAtHand R.sight R.judges R.touches reach.old (rows.fitting_row psn (fields_of p.now) (acknowledgement_below psn q.old)).asks }
+    ensures done { IsTaking R.written result (ending_of (R.sight reach.old) (rows.fitting_row psn (fields_of p.now) (acknowledgement_below psn q.old)))
+        (handed q.old marks.old.marks [] reach.old) (handed q.new marks.new.marks [] reach.new) }
     ensures room { OnOk result (2 ≤ marks.new.room) }
     ensures err { OnErr result (q.new ≡ q.old) }
 {
@@ -324,11 +315,10 @@ fn drop_packet(queue: QueueId, cause: Drop1, marks: &mut Marks) -> Result<(), Me
 /// What is acknowledged completes, and then comes the outcome.
 #[tactic(auto, using(ca_progress::proofs::ProgressLemmas::own_numbers))]
 fn end(alloc: Global, q: &mut QueuePart, ended: Ended, marks: &mut Marks) -> Result<(), Memory>
-    requires queue { IsQueue (queue_of q.old) }
-    requires narrow { AreNarrow (queue_of q.old) }
-    requires end { IsEnd (queue_of q.old) ended }
-    ensures queue { OnOk result (queue_of q.new ≡ (ended_effects ended (queue_of q.old)).queue) }
-    ensures marks { OnOk result (marks.new.marks ≡ marks.old.marks ++ (ended_effects ended (queue_of q.old)).marks) }
+    requires step { CanStep q.old }
+    requires end { IsEnd q.old ended }
+    ensures queue { OnOk result (q.new ≡ (ended_effects ended q.old).queue) }
+    ensures marks { OnOk result (marks.new.marks ≡ marks.old.marks ++ (ended_effects ended q.old).marks) }
     ensures room { OnOk result (2 ≤ marks.new.room) }
     ensures err { OnErr result (q.new ≡ q.old) }
     ensures err_marks { OnErr result (marks.new.marks ≡ marks.old.marks) }
@@ -348,13 +338,12 @@ fn deny(
     denied: &DeniedAsk,
     marks: &mut Marks,
 ) -> Result<(), Memory>
-    requires queue { IsQueue (queue_of q.old) }
-    requires narrow { AreNarrow (queue_of q.old) }
-    requires numbers { AreNumbers (queue_of q.old) taken.numbers }
-    requires under { with_requester taken.numbers (queue_of q.old) ≡ (progress_to taken.psn (queue_of q.old)).queue }
-    requires finished { (progress_to taken.psn (queue_of q.old)).marks ≡ success_between q.old.requester.oldest taken.numbers.oldest (queue_of q.old) }
-    ensures queue { OnOk result (queue_of q.new ≡ (denied_effects taken denied.now (queue_of q.old)).queue) }
-    ensures marks { OnOk result (marks.new.marks ≡ marks.old.marks ++ (denied_effects taken denied.now (queue_of q.old)).marks) }
+    requires step { CanStep q.old }
+    requires numbers { AreNumbers q.old taken.numbers }
+    requires under { with_requester taken.numbers q.old ≡ (progress_to taken.psn q.old).queue }
+    requires finished { (progress_to taken.psn q.old).marks ≡ success_between q.old.requester.oldest taken.numbers.oldest q.old }
+    ensures queue { OnOk result (q.new ≡ (denied_effects taken denied.now q.old).queue) }
+    ensures marks { OnOk result (marks.new.marks ≡ marks.old.marks ++ (denied_effects taken denied.now q.old).marks) }
     ensures room { OnOk result (2 ≤ marks.new.room) }
     ensures err { OnErr result (q.new ≡ q.old) }
     ensures err_marks { OnErr result (marks.new.marks ≡ marks.old.marks) }
@@ -378,22 +367,21 @@ fn place<R: Reach>(
     asks: &[Ask],
     marks: &mut Marks,
 ) -> Result<(), Memory>
-    requires queue { IsQueue (queue_of q.old) }
-    requires narrow { AreNarrow (queue_of q.old) }
+    requires step { CanStep q.old }
     requires packet { IsWellFormed (fields_of p.now) }
     requires psn { taken.psn < 2 ^ 62 }
-    requires numbers { AreNumbers (queue_of q.old) taken.numbers }
-    requires under { with_requester taken.numbers (queue_of q.old) ≡ (progress_to taken.psn (queue_of q.old)).queue }
-    requires finished { (progress_to taken.psn (queue_of q.old)).marks ≡ success_between q.old.requester.oldest taken.numbers.oldest (queue_of q.old) }
+    requires numbers { AreNumbers q.old taken.numbers }
+    requires under { with_requester taken.numbers q.old ≡ (progress_to taken.psn q.old).queue }
+    requires finished { (progress_to taken.psn q.old).marks ≡ success_between q.old.requester.oldest taken.numbers.oldest q.old }
     requires keys { AllByRecursion (R.judges reach.old) asks.now }
     requires bytes { AllByRecursion (R.touches reach.old) asks.now }
     requires allowed { AllByRecursion (IsGranted (R.sight reach.old)) asks.now }
     requires asks { AllByRecursion (IsAskOf Kind.Write) asks.now }
     requires enough { touched_by asks.now ≤ length (rows.answer_bytes (fields_of p.now)) }
     requires few { length asks.now ≤ MAX_PIECES }
-    ensures queue { OnOk result (queue_of q.new ≡ (answer_effects taken (fields_of p.now) asks.now (queue_of q.old)).queue) }
-    ensures marks { OnOk result (marks.new.marks ≡ marks.old.marks ++ (answer_effects taken (fields_of p.now) asks.now (queue_of q.old)).marks) }
-    ensures reach { OnOk result (reach.new ≡ written_all R.written reach.old (answer_effects taken (fields_of p.now) asks.now (queue_of q.old)).writes) }
+    ensures queue { OnOk result (q.new ≡ (answer_effects taken (fields_of p.now) asks.now q.old).queue) }
+    ensures marks { OnOk result (marks.new.marks ≡ marks.old.marks ++ (answer_effects taken (fields_of p.now) asks.now q.old).marks) }
+    ensures reach { OnOk result (reach.new ≡ written_all R.written reach.old (answer_effects taken (fields_of p.now) asks.now q.old).writes) }
     ensures room { OnOk result (2 ≤ marks.new.room) }
     ensures err { OnErr result (q.new ≡ q.old) }
     ensures err_marks { OnErr result (marks.new.marks ≡ marks.old.marks) }
@@ -413,16 +401,15 @@ fn finish<R: Reach>(
     writes: Vec<(Ask, Bytes)>,
     marks: &mut Marks,
 ) -> Result<(), Memory>
-    requires queue { IsQueue (queue_of q.old) }
-    requires narrow { AreNarrow (queue_of q.old) }
-    requires numbers { AreNumbers (queue_of q.old) taken.numbers }
+    requires step { CanStep q.old }
+    requires numbers { AreNumbers q.old taken.numbers }
     requires psn { taken.psn < 2 ^ 62 }
     requires can { CanWrite R.sight R.judges R.touches reach.old writes.items }
     requires few { length writes.items ≤ MAX_PIECES }
-    requires finished { (progress_to taken.psn (queue_of q.old)).marks ≡ success_between q.old.requester.oldest taken.numbers.oldest (queue_of q.old) }
-    ensures queue { OnOk result (queue_of q.new ≡ (progress_to (suc taken.psn) (with_requester taken.numbers (queue_of q.old))).queue) }
-    ensures marks { OnOk result (marks.new.marks ≡ marks.old.marks ++ ((progress_to taken.psn (queue_of q.old)).marks
-        ++ (rows.local_writes writes.items ++ (progress_to (suc taken.psn) (with_requester taken.numbers (queue_of q.old))).marks))) }
+    requires finished { (progress_to taken.psn q.old).marks ≡ success_between q.old.requester.oldest taken.numbers.oldest q.old }
+    ensures queue { OnOk result (q.new ≡ (progress_to (suc taken.psn) (with_requester taken.numbers q.old)).queue) }
+    ensures marks { OnOk result (marks.new.marks ≡ marks.old.marks ++ ((progress_to taken.psn q.old).marks
+        ++ (rows.local_writes writes.items ++ (progress_to (suc taken.psn) (with_requester taken.numbers q.old)).marks))) }
     ensures reach { OnOk result (reach.new ≡ written_all R.written reach.old writes.items) }
     ensures room { OnOk result (2 ≤ marks.new.room) }
     ensures err { OnErr result (q.new ≡ q.old) }

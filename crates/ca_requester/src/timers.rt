@@ -3,8 +3,7 @@ ghost use Rattle.ca_keys.specs.Refusals.{first_of};
 ghost use Rattle.ca_model.specs.machine.Acknowledgements.{with_requester};
 ghost use Rattle.ca_model.specs.machine.Invariants.{IsQueue};
 ghost use Rattle.ca_model.specs.machine.Timers as timers;
-ghost use Rattle.ca_qpstate.specs.Seen.{queue_of};
-ghost use Rattle.ca_rows.specs.Narrow.{AreNarrow};
+ghost use Rattle.ca_model.specs.machine.CanStep.{CanStep};
 ghost use Rattle.ca_requester.specs.Timers.{reason_of};
 
 use ca_base::limits::MAX_RETRY;
@@ -24,13 +23,12 @@ pub fn on_timeout(
     hasten: bool,
     marks: &mut Marks,
 ) -> Result<(), StepError>
-    requires queue { IsQueue (queue_of q.old) }
-    requires narrow { AreNarrow (queue_of q.old) }
-    ensures fires { OnOk result (first_of (timers.timeout_refusals silent hasten (queue_of q.old)) ≡ None) }
-    ensures queue { OnOk result (queue_of q.new ≡ (timers.after_timeout silent (queue_of q.old)).queue) }
-    ensures marks { OnOk result (marks.new.marks ≡ marks.old.marks ++ (timers.after_timeout silent (queue_of q.old)).marks) }
+    requires { CanStep q.old }
+    ensures fires { OnOk result (first_of (timers.timeout_refusals silent hasten q.old) ≡ None) }
+    ensures queue { OnOk result (q.new ≡ (timers.after_timeout silent q.old).queue) }
+    ensures marks { OnOk result (marks.new.marks ≡ marks.old.marks ++ (timers.after_timeout silent q.old).marks) }
     ensures room { OnOk result (2 ≤ marks.new.room) }
-    ensures refused { IfErr result (λ e. first_of (timers.timeout_refusals silent hasten (queue_of q.old)) ≡ reason_of e) }
+    ensures refused { IfErr result (λ e. first_of (timers.timeout_refusals silent hasten q.old) ≡ reason_of e) }
     ensures err { OnErr result (q.new ≡ q.old) }
     ensures err_marks { OnErr result (marks.new.marks ≡ marks.old.marks) }
 {
@@ -59,7 +57,7 @@ fn go_back_on_timeout(
     mark: Mark,
     marks: &mut Marks,
 ) -> Result<(), Memory>
-    ensures queue { OnOk result (queue_of q.new ≡ with_requester numbers (queue_of q.old)) }
+    ensures queue { OnOk result (q.new ≡ with_requester numbers q.old) }
     ensures marks { OnOk result (marks.new.marks ≡ marks.old.marks ++ mark ∷ []) }
     ensures room { OnOk result (2 ≤ marks.new.room) }
     ensures err { OnErr result (q.new ≡ q.old) }
@@ -73,7 +71,7 @@ fn go_back_on_timeout(
 
 /// Why a timer does not fire.
 fn timeout_refusal(q: &QueuePart, silent: bool, hasten: bool) -> Option<Reason>
-    ensures { result ≡ first_of (timers.timeout_refusals silent hasten (queue_of q.now)) }
+    ensures { result ≡ first_of (timers.timeout_refusals silent hasten q.now) }
 {
     if !is_sending(q.state) {
         return Some(Reason::State);
@@ -91,9 +89,9 @@ fn timeout_refusal(q: &QueuePart, silent: bool, hasten: bool) -> Option<Reason>
 /// The waiting after an RNR NAK ends. `peer_empty` says that a path leads to the peer and the peer has no receive to take.
 /// Else the reason is the first of `State`, `Empty` and `RnrWait`, and nothing changes. It takes no memory.
 pub fn on_rnr_wake(q: &mut QueuePart, peer_empty: bool) -> Result<(), Reason>
-    ensures wakes { OnOk result (first_of (timers.wake_refusals peer_empty (queue_of q.old)) ≡ None) }
-    ensures queue { OnOk result (queue_of q.new ≡ (timers.after_wake (queue_of q.old)).queue) }
-    ensures refused { IfErr result (λ reason. first_of (timers.wake_refusals peer_empty (queue_of q.old)) ≡ Some reason) }
+    ensures wakes { OnOk result (first_of (timers.wake_refusals peer_empty q.old) ≡ None) }
+    ensures queue { OnOk result (q.new ≡ (timers.after_wake q.old).queue) }
+    ensures refused { IfErr result (λ reason. first_of (timers.wake_refusals peer_empty q.old) ≡ Some reason) }
     ensures err { OnErr result (q.new ≡ q.old) }
 {
     if let Some(reason) = wake_refusal(q, peer_empty) {
@@ -105,7 +103,7 @@ pub fn on_rnr_wake(q: &mut QueuePart, peer_empty: bool) -> Result<(), Reason>
 
 /// Why a wake is not possible.
 fn wake_refusal(q: &QueuePart, peer_empty: bool) -> Option<Reason>
-    ensures { result ≡ first_of (timers.wake_refusals peer_empty (queue_of q.now)) }
+    ensures { result ≡ first_of (timers.wake_refusals peer_empty q.now) }
 {
     if !is_sending(q.state) {
         return Some(Reason::State);

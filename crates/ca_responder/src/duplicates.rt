@@ -2,9 +2,8 @@ ghost use Rattle.std.specs.Prelude.{◌≡◌, ◌<◌, ◌≤◌, ◌^◌, ◌�
 ghost use Rattle.ca_base.specs.objects.Answers.{answers_before, has_nak_from};
 ghost use Rattle.ca_model.specs.machine.Duplicates as rows;
 ghost use Rattle.ca_model.specs.machine.Invariants.{IsQueue};
-ghost use Rattle.ca_qpstate.specs.Seen.{queue_of};
 ghost use Rattle.ca_arrivals.specs.Shapes.{shape_seen};
-ghost use Rattle.ca_rows.specs.Narrow.{AreNarrow};
+ghost use Rattle.ca_model.specs.machine.CanStep.{CanStep};
 ghost use Rattle.ca_packet.specs.Packet.{fields_of};
 
 use ca_arrivals::{Shape, drop_packet, queue_answer, read_segments};
@@ -16,8 +15,8 @@ use ca_wire::{NakCode, Packet, Reth};
 
 /// A packet ahead of the expected one: the first asks for what is missing, the others are dropped.
 pub fn take_ahead(q: &mut QueuePart, marks: &mut Marks) -> Result<(), Memory>
-    ensures queue { OnOk result (queue_of q.new ≡ (rows.ahead_effects (queue_of q.old)).queue) }
-    ensures marks { OnOk result (marks.new.marks ≡ marks.old.marks ++ (rows.ahead_effects (queue_of q.old)).marks) }
+    ensures queue { OnOk result (q.new ≡ (rows.ahead_effects q.old).queue) }
+    ensures marks { OnOk result (marks.new.marks ≡ marks.old.marks ++ (rows.ahead_effects q.old).marks) }
     ensures room { OnOk result (2 ≤ marks.new.room) }
     ensures err { OnErr result (q.new ≡ q.old) }
     ensures err_marks { OnErr result (marks.new.marks ≡ marks.old.marks) }
@@ -41,12 +40,11 @@ pub fn take_duplicate(
     shape: Shape,
     marks: &mut Marks,
 ) -> Result<(), Memory>
-    requires queue { IsQueue (queue_of q.old) }
-    requires narrow { AreNarrow (queue_of q.old) }
+    requires step { CanStep q.old }
     requires some { 0 < psn }
     requires psn { psn < 2 ^ 62 }
-    ensures queue { OnOk result (queue_of q.new ≡ (rows.duplicate_effects psn (fields_of p.now) envelope (shape_seen shape) (queue_of q.old)).queue) }
-    ensures marks { OnOk result (marks.new.marks ≡ marks.old.marks ++ (rows.duplicate_effects psn (fields_of p.now) envelope (shape_seen shape) (queue_of q.old)).marks) }
+    ensures queue { OnOk result (q.new ≡ (rows.duplicate_effects psn (fields_of p.now) envelope (shape_seen shape) q.old).queue) }
+    ensures marks { OnOk result (marks.new.marks ≡ marks.old.marks ++ (rows.duplicate_effects psn (fields_of p.now) envelope (shape_seen shape) q.old).marks) }
     ensures room { OnOk result (2 ≤ marks.new.room) }
     ensures err { OnErr result (q.new ≡ q.old) }
     ensures err_marks { OnErr result (marks.new.marks ≡ marks.old.marks) }
@@ -77,9 +75,9 @@ pub fn take_duplicate(
 
 /// A SEND or a WRITE once more: an acknowledgement of all that came, where nothing waits to be answered.
 fn ack_again(q: &mut QueuePart, marks: &mut Marks) -> Result<(), Memory>
-    requires { IsQueue (queue_of q.old) }
-    ensures queue { OnOk result (queue_of q.new ≡ (rows.ack_again (queue_of q.old)).queue) }
-    ensures marks { OnOk result (marks.new.marks ≡ marks.old.marks ++ (rows.ack_again (queue_of q.old)).marks) }
+    requires { IsQueue q.old }
+    ensures queue { OnOk result (q.new ≡ (rows.ack_again q.old).queue) }
+    ensures marks { OnOk result (marks.new.marks ≡ marks.old.marks ++ (rows.ack_again q.old).marks) }
     ensures room { OnOk result (2 ≤ marks.new.room) }
     ensures err { OnErr result (q.new ≡ q.old) }
     ensures err_marks { OnErr result (marks.new.marks ≡ marks.old.marks) }
@@ -100,11 +98,11 @@ fn read_again(
     h: &Reth,
     marks: &mut Marks,
 ) -> Result<(), Memory>
-    requires queue { IsQueue (queue_of q.old) }
+    requires queue { IsQueue q.old }
     requires some { 0 < psn }
     requires psn { psn < 2 ^ 62 }
-    ensures queue { OnOk result (queue_of q.new ≡ (rows.read_again psn envelope h.now (queue_of q.old)).queue) }
-    ensures marks { OnOk result (marks.new.marks ≡ marks.old.marks ++ (rows.read_again psn envelope h.now (queue_of q.old)).marks) }
+    ensures queue { OnOk result (q.new ≡ (rows.read_again psn envelope h.now q.old).queue) }
+    ensures marks { OnOk result (marks.new.marks ≡ marks.old.marks ++ (rows.read_again psn envelope h.now q.old).marks) }
     ensures room { OnOk result (2 ≤ marks.new.room) }
     ensures err { OnErr result (q.new ≡ q.old) }
     ensures err_marks { OnErr result (marks.new.marks ≡ marks.old.marks) }
@@ -132,7 +130,7 @@ fn answer_again(
     marks: &mut Marks,
 ) -> Result<(), Memory>
     requires { 0 < psn }
-    ensures queue { OnOk result (queue_of q.new ≡ (rows.answer_again psn answer (queue_of q.old)).queue) }
+    ensures queue { OnOk result (q.new ≡ (rows.answer_again psn answer q.old).queue) }
     ensures marks { marks.new.marks ≡ marks.old.marks }
     ensures room { OnOk result (2 ≤ marks.new.room) }
     ensures err { OnErr result (q.new ≡ q.old) }

@@ -12,11 +12,10 @@ ghost use Rattle.ca_model.specs.machine.Expected as rows;
 ghost use Rattle.ca_model.specs.machine.Invariants.{IsQueue, IsReceive, IsSharedReceives};
 ghost use Rattle.ca_model.specs.machine.Row.{ending_of};
 ghost use Rattle.ca_psn.specs.Psn.{widened};
-ghost use Rattle.ca_qpstate.specs.Seen.{queue_of};
 ghost use Rattle.ca_arrivals.specs.Receives.{CanTake};
 ghost use Rattle.ca_arrivals.specs.Shapes.{IsRequestShape, shape_seen};
 ghost use Rattle.ca_arrivals.specs.Taking.{IsArrival, IsPacketTaken, MayEnd, after_shared, ended_by, found};
-ghost use Rattle.ca_rows.specs.Narrow.{AreNarrow};
+ghost use Rattle.ca_model.specs.machine.CanStep.{CanStep};
 ghost use Rattle.ca_packet.specs.Packet.{IsWellFormed, fields_of};
 
 use crate::duplicates::{take_ahead, take_duplicate};
@@ -50,18 +49,17 @@ pub fn on_request<R: Reach>(
     envelope: Option<u64>,
     marks: &mut Marks,
 ) -> Result<(), Memory>
-    requires queue { IsQueue (queue_of q.old) }
-    requires narrow { AreNarrow (queue_of q.old) }
+    requires step { CanStep q.old }
     requires shared { IfSome (option_copied_mut srq) IsSharedReceives }
     requires packet { IsWellFormed (fields_of p.now) }
     requires request { is_response p.now.opcode ≡ false }
-    requires at_hand { AreAtHand R.sight R.judges R.touches reach.old (packet_arrived (fields_of p.now) envelope (option_copied_mut srq) (queue_of q.old)).asks }
-    requires ends { IfSome (packet_arrived (fields_of p.now) envelope (option_copied_mut srq) (queue_of q.old)).invalidation (MayEnd R.sight R.ends reach.old (queue_of q.old)) }
-    ensures taken { let row = packet_arrived (fields_of p.now) envelope (option_copied_mut srq.entry) (queue_of q.old) in
+    requires at_hand { AreAtHand R.sight R.judges R.touches reach.old (packet_arrived (fields_of p.now) envelope (option_copied_mut srq) q.old).asks }
+    requires ends { IfSome (packet_arrived (fields_of p.now) envelope (option_copied_mut srq) q.old).invalidation (MayEnd R.sight R.ends reach.old q.old) }
+    ensures taken { let row = packet_arrived (fields_of p.now) envelope (option_copied_mut srq.entry) q.old in
         IsArrival R.written R.revoked result (ending_of (R.sight reach.old) row) (ended_by (R.sight reach.old) row)
-        (found (queue_of q.old) marks.old.marks reach.old) (found (queue_of q.new) marks.new.marks reach.new) }
+        (found q.old marks.old.marks reach.old) (found q.new marks.new.marks reach.new) }
     ensures receives { OnOk result (left_behind srq.exit ≡ after_shared (ending_of (R.sight reach.old)
-        (packet_arrived (fields_of p.now) envelope (option_copied_mut srq.entry) (queue_of q.old))) (option_copied_mut srq.entry)) }
+        (packet_arrived (fields_of p.now) envelope (option_copied_mut srq.entry) q.old)) (option_copied_mut srq.entry)) }
     ensures err_receives { OnErr result (left_behind srq.exit ≡ option_copied_mut srq.entry) }
     ensures room { OnOk result (2 ≤ marks.new.room) }
 {
@@ -81,16 +79,15 @@ fn take_without<R: Reach>(
     envelope: Option<u64>,
     marks: &mut Marks,
 ) -> Result<(), Memory>
-    requires queue { IsQueue (queue_of q.old) }
-    requires narrow { AreNarrow (queue_of q.old) }
+    requires step { CanStep q.old }
     requires packet { IsWellFormed (fields_of p.now) }
     requires request { is_response p.now.opcode ≡ false }
-    requires at_hand { AreAtHand R.sight R.judges R.touches reach.old (packet_arrived (fields_of p.now) envelope None (queue_of q.old)).asks }
-    requires ends { IfSome (packet_arrived (fields_of p.now) envelope None (queue_of q.old)).invalidation (MayEnd R.sight R.ends reach.old (queue_of q.old)) }
-    ensures taken { let row = packet_arrived (fields_of p.now) envelope None (queue_of q.old) in
+    requires at_hand { AreAtHand R.sight R.judges R.touches reach.old (packet_arrived (fields_of p.now) envelope None q.old).asks }
+    requires ends { IfSome (packet_arrived (fields_of p.now) envelope None q.old).invalidation (MayEnd R.sight R.ends reach.old q.old) }
+    ensures taken { let row = packet_arrived (fields_of p.now) envelope None q.old in
         IsArrival R.written R.revoked result (ending_of (R.sight reach.old) row) (ended_by (R.sight reach.old) row)
-        (found (queue_of q.old) marks.old.marks reach.old) (found (queue_of q.new) marks.new.marks reach.new) }
-    ensures receives { None ≡ after_shared (ending_of (R.sight reach.old) (packet_arrived (fields_of p.now) envelope None (queue_of q.old))) None }
+        (found q.old marks.old.marks reach.old) (found q.new marks.new.marks reach.new) }
+    ensures receives { None ≡ after_shared (ending_of (R.sight reach.old) (packet_arrived (fields_of p.now) envelope None q.old)) None }
     ensures room { OnOk result (2 ≤ marks.new.room) }
 {
     match take_request(alloc, q, None, reach, p, envelope, marks) {
@@ -110,17 +107,16 @@ fn take_with<R: Reach>(
     envelope: Option<u64>,
     marks: &mut Marks,
 ) -> Result<(), Memory>
-    requires queue { IsQueue (queue_of q.old) }
-    requires narrow { AreNarrow (queue_of q.old) }
+    requires step { CanStep q.old }
     requires shared { IsSharedReceives srq.old }
     requires packet { IsWellFormed (fields_of p.now) }
     requires request { is_response p.now.opcode ≡ false }
-    requires at_hand { AreAtHand R.sight R.judges R.touches reach.old (packet_arrived (fields_of p.now) envelope (Some srq.old) (queue_of q.old)).asks }
-    requires ends { IfSome (packet_arrived (fields_of p.now) envelope (Some srq.old) (queue_of q.old)).invalidation (MayEnd R.sight R.ends reach.old (queue_of q.old)) }
-    ensures taken { let row = packet_arrived (fields_of p.now) envelope (Some srq.old) (queue_of q.old) in
+    requires at_hand { AreAtHand R.sight R.judges R.touches reach.old (packet_arrived (fields_of p.now) envelope (Some srq.old) q.old).asks }
+    requires ends { IfSome (packet_arrived (fields_of p.now) envelope (Some srq.old) q.old).invalidation (MayEnd R.sight R.ends reach.old q.old) }
+    ensures taken { let row = packet_arrived (fields_of p.now) envelope (Some srq.old) q.old in
         IsArrival R.written R.revoked result (ending_of (R.sight reach.old) row) (ended_by (R.sight reach.old) row)
-        (found (queue_of q.old) marks.old.marks reach.old) (found (queue_of q.new) marks.new.marks reach.new) }
-    ensures receives { OnOk result (Some srq.new ≡ after_shared (ending_of (R.sight reach.old) (packet_arrived (fields_of p.now) envelope (Some srq.old) (queue_of q.old))) (Some srq.old)) }
+        (found q.old marks.old.marks reach.old) (found q.new marks.new.marks reach.new) }
+    ensures receives { OnOk result (Some srq.new ≡ after_shared (ending_of (R.sight reach.old) (packet_arrived (fields_of p.now) envelope (Some srq.old) q.old)) (Some srq.old)) }
     ensures err_receives { OnErr result (srq.new ≡ srq.old) }
     ensures room { OnOk result (2 ≤ marks.new.room) }
 {
@@ -152,16 +148,15 @@ fn take_request<R: Reach>(
     envelope: Option<u64>,
     marks: &mut Marks,
 ) -> Result<bool, Memory>
-    requires queue { IsQueue (queue_of q.old) }
-    requires narrow { AreNarrow (queue_of q.old) }
+    requires step { CanStep q.old }
     requires shared { IfSome (option_copied srq) IsSharedReceives }
     requires packet { IsWellFormed (fields_of p.now) }
     requires request { is_response p.now.opcode ≡ false }
-    requires at_hand { AreAtHand R.sight R.judges R.touches reach.old (packet_arrived (fields_of p.now) envelope (option_copied srq) (queue_of q.old)).asks }
-    requires ends { IfSome (packet_arrived (fields_of p.now) envelope (option_copied srq) (queue_of q.old)).invalidation (MayEnd R.sight R.ends reach.old (queue_of q.old)) }
-    ensures taken { let row = packet_arrived (fields_of p.now) envelope (option_copied srq.entry) (queue_of q.old) in
+    requires at_hand { AreAtHand R.sight R.judges R.touches reach.old (packet_arrived (fields_of p.now) envelope (option_copied srq) q.old).asks }
+    requires ends { IfSome (packet_arrived (fields_of p.now) envelope (option_copied srq) q.old).invalidation (MayEnd R.sight R.ends reach.old q.old) }
+    ensures taken { let row = packet_arrived (fields_of p.now) envelope (option_copied srq.entry) q.old in
         IsPacketTaken R.written R.revoked result (ending_of (R.sight reach.old) row) (ended_by (R.sight reach.old) row)
-        (found (queue_of q.old) marks.old.marks reach.old) (found (queue_of q.new) marks.new.marks reach.new) }
+        (found q.old marks.old.marks reach.old) (found q.new marks.new.marks reach.new) }
     ensures room { OnOk result (2 ≤ marks.new.room) }
 {
     let Some(shape) = shape_of(p.opcode) else {
@@ -182,16 +177,15 @@ fn take_shaped<R: Reach>(
     shape: Shape,
     marks: &mut Marks,
 ) -> Result<bool, Memory>
-    requires queue { IsQueue (queue_of q.old) }
-    requires narrow { AreNarrow (queue_of q.old) }
+    requires step { CanStep q.old }
     requires shared { IfSome (option_copied srq) IsSharedReceives }
     requires packet { IsWellFormed (fields_of p.now) }
     requires shape { IsRequestShape shape }
-    requires at_hand { AreAtHand R.sight R.judges R.touches reach.old (request_row (fields_of p.now) envelope (option_copied srq) (shape_seen shape) (queue_of q.old)).asks }
-    requires ends { IfSome (request_row (fields_of p.now) envelope (option_copied srq) (shape_seen shape) (queue_of q.old)).invalidation (MayEnd R.sight R.ends reach.old (queue_of q.old)) }
-    ensures taken { let row = request_row (fields_of p.now) envelope (option_copied srq.entry) (shape_seen shape) (queue_of q.old) in
+    requires at_hand { AreAtHand R.sight R.judges R.touches reach.old (request_row (fields_of p.now) envelope (option_copied srq) (shape_seen shape) q.old).asks }
+    requires ends { IfSome (request_row (fields_of p.now) envelope (option_copied srq) (shape_seen shape) q.old).invalidation (MayEnd R.sight R.ends reach.old q.old) }
+    ensures taken { let row = request_row (fields_of p.now) envelope (option_copied srq.entry) (shape_seen shape) q.old in
         IsPacketTaken R.written R.revoked result (ending_of (R.sight reach.old) row) (ended_by (R.sight reach.old) row)
-        (found (queue_of q.old) marks.old.marks reach.old) (found (queue_of q.new) marks.new.marks reach.new) }
+        (found q.old marks.old.marks reach.old) (found q.new marks.new.marks reach.new) }
     ensures room { OnOk result (2 ≤ marks.new.room) }
 {
     if is_ahead(q, p) {
@@ -208,8 +202,7 @@ fn take_shaped<R: Reach>(
 
 /// Whether packets before it are missing: its PSN lies behind the expected one.
 fn is_ahead(q: &QueuePart, p: &Packet<'_>) -> bool
-    requires queue { IsQueue (queue_of q.now) }
-    requires narrow { AreNarrow (queue_of q.now) }
+    requires { CanStep q.now }
     ensures { result ≡ nat_lt q.now.responder.expected (widened q.now.responder.expected p.now.psn) }
 {
     widen(q.responder.expected, p.psn) > q.responder.expected
@@ -217,8 +210,7 @@ fn is_ahead(q: &QueuePart, p: &Packet<'_>) -> bool
 
 /// Whether it came before: its PSN lies before the expected one.
 fn is_duplicate(q: &QueuePart, p: &Packet<'_>) -> bool
-    requires queue { IsQueue (queue_of q.now) }
-    requires narrow { AreNarrow (queue_of q.now) }
+    requires { CanStep q.now }
     ensures { result ≡ nat_lt (widened q.now.responder.expected p.now.psn) q.now.responder.expected }
 {
     widen(q.responder.expected, p.psn) < q.responder.expected
@@ -244,16 +236,15 @@ fn take_expected<R: Reach>(
     shape: Shape,
     marks: &mut Marks,
 ) -> Result<bool, Memory>
-    requires queue { IsQueue (queue_of q.old) }
-    requires narrow { AreNarrow (queue_of q.old) }
+    requires step { CanStep q.old }
     requires shared { IfSome (option_copied srq) IsSharedReceives }
     requires packet { IsWellFormed (fields_of p.now) }
     requires shape { IsRequestShape shape }
-    requires at_hand { AreAtHand R.sight R.judges R.touches reach.old (rows.expected_row (queue_of q.old) (option_copied srq) (fields_of p.now) envelope (shape_seen shape)).asks }
-    requires ends { IfSome (rows.expected_row (queue_of q.old) (option_copied srq) (fields_of p.now) envelope (shape_seen shape)).invalidation (MayEnd R.sight R.ends reach.old (queue_of q.old)) }
-    ensures taken { let row = rows.expected_row (queue_of q.old) (option_copied srq.entry) (fields_of p.now) envelope (shape_seen shape) in
+    requires at_hand { AreAtHand R.sight R.judges R.touches reach.old (rows.expected_row q.old (option_copied srq) (fields_of p.now) envelope (shape_seen shape)).asks }
+    requires ends { IfSome (rows.expected_row q.old (option_copied srq) (fields_of p.now) envelope (shape_seen shape)).invalidation (MayEnd R.sight R.ends reach.old q.old) }
+    ensures taken { let row = rows.expected_row q.old (option_copied srq.entry) (fields_of p.now) envelope (shape_seen shape) in
         IsPacketTaken R.written R.revoked result (ending_of (R.sight reach.old) row) (ended_by (R.sight reach.old) row)
-        (found (queue_of q.old) marks.old.marks reach.old) (found (queue_of q.new) marks.new.marks reach.new) }
+        (found q.old marks.old.marks reach.old) (found q.new marks.new.marks reach.new) }
     ensures room { OnOk result (2 ≤ marks.new.room) }
 {
     if is_invalid(q, p, shape) {
@@ -280,18 +271,17 @@ fn take_valid<R: Reach>(
     next: Option<Placed>,
     marks: &mut Marks,
 ) -> Result<bool, Memory>
-    requires queue { IsQueue (queue_of q.old) }
-    requires narrow { AreNarrow (queue_of q.old) }
+    requires step { CanStep q.old }
     requires packet { IsWellFormed (fields_of p.now) }
     requires shape { IsRequestShape shape }
-    requires valid { rows.is_invalid (queue_of q.old) (fields_of p.now) (shape_seen shape) ≡ false }
+    requires valid { rows.is_invalid q.old (fields_of p.now) (shape_seen shape) ≡ false }
     requires next { IfSome next (λ r. IsReceive r.receive) }
-    requires takes { CanTake (queue_of q.old) next }
-    requires at_hand { AreAtHand R.sight R.judges R.touches reach.old (rows.valid_row (arrivals.with_flag false (queue_of q.old)) (fields_of p.now) envelope next (shape_seen shape)).asks }
-    requires ends { IfSome (rows.valid_row (arrivals.with_flag false (queue_of q.old)) (fields_of p.now) envelope next (shape_seen shape)).invalidation (MayEnd R.sight R.ends reach.old (queue_of q.old)) }
-    ensures taken { let row = rows.valid_row (arrivals.with_flag false (queue_of q.old)) (fields_of p.now) envelope next (shape_seen shape) in
+    requires takes { CanTake q.old next }
+    requires at_hand { AreAtHand R.sight R.judges R.touches reach.old (rows.valid_row (arrivals.with_flag false q.old) (fields_of p.now) envelope next (shape_seen shape)).asks }
+    requires ends { IfSome (rows.valid_row (arrivals.with_flag false q.old) (fields_of p.now) envelope next (shape_seen shape)).invalidation (MayEnd R.sight R.ends reach.old q.old) }
+    ensures taken { let row = rows.valid_row (arrivals.with_flag false q.old) (fields_of p.now) envelope next (shape_seen shape) in
         IsPacketTaken R.written R.revoked result (ending_of (R.sight reach.old) row) (ended_by (R.sight reach.old) row)
-        (found (queue_of q.old) marks.old.marks reach.old) (found (queue_of q.new) marks.new.marks reach.new) }
+        (found q.old marks.old.marks reach.old) (found q.new marks.new.marks reach.new) }
     ensures room { OnOk result (2 ≤ marks.new.room) }
 {
     match shape {
@@ -329,9 +319,9 @@ fn take_valid<R: Reach>(
 
 /// Refuses a packet as an invalid request. It takes no receive of the shared receive queue.
 fn take_invalid(alloc: Global, q: &mut QueuePart, marks: &mut Marks) -> Result<bool, Memory>
-    requires { IsQueue (queue_of q.old) }
-    ensures queue { OnOk result (queue_of q.new ≡ (arrivals.refusal_effects NakCode.InvalidRequest (arrivals.with_flag false (queue_of q.old))).queue) }
-    ensures marks { OnOk result (marks.new.marks ≡ marks.old.marks ++ flush_marks (queue_of q.old)) }
+    requires { IsQueue q.old }
+    ensures queue { OnOk result (q.new ≡ (arrivals.refusal_effects NakCode.InvalidRequest (arrivals.with_flag false q.old)).queue) }
+    ensures marks { OnOk result (marks.new.marks ≡ marks.old.marks ++ flush_marks q.old) }
     ensures shared { IfOk result (λ shared. shared ≡ false) }
     ensures room { OnOk result (2 ≤ marks.new.room) }
     ensures err { OnErr result (q.new ≡ q.old) }

@@ -1,4 +1,3 @@
 pub mod Asks
 pub mod Done
 pub mod Flush
-pub mod Narrow

@@ -2,7 +2,6 @@ ghost use Rattle.std.specs.Prelude.{◌≡◌, ◌≤◌, ◌++◌, OnOk};
 ghost use Rattle.ca_base.specs.objects.WorkQueue.{items_from, next_place};
 ghost use Rattle.ca_model.specs.machine.Completions as completions;
 ghost use Rattle.ca_model.specs.machine.Invariants.{IsQueue, IsReceives};
-ghost use Rattle.ca_qpstate.specs.Seen.{queue_of};
 ghost use Rattle.ca_rows.specs.Flush.{with_oldest};
 
 use crate::completions::{failure_mark, receive_failure};
@@ -14,9 +13,9 @@ use ca_workqueue::WorkQueue;
 /// Adds the completions of all that is posted and unfinished, flushed: the sends from a place on, the receive in use, the
 /// posted receives.
 pub fn push_flushed(q: &QueuePart, oldest: u64, made: &mut Vec<Mark>) -> Result<(), Memory>
-    requires queue { IsQueue (queue_of q.now) }
+    requires queue { IsQueue q.now }
     requires oldest { q.now.requester.oldest ≤ oldest }
-    ensures { OnOk result (made.new.items ≡ made.old.items ++ completions.flush_marks (with_oldest oldest (queue_of q.now))) }
+    ensures { OnOk result (made.new.items ≡ made.old.items ++ completions.flush_marks (with_oldest oldest q.now)) }
 {
     push_flushed_sends(q.queue, &q.sends, oldest, q.sends.next_place(), made)?;
     push_flushed_message(q.queue, &q.responder.message, made)?;

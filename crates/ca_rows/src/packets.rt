@@ -1,7 +1,6 @@
 ghost use Rattle.std.specs.Prelude.{◌≡◌, ◌+◌, ◌<◌, ◌≤◌, ◌^◌, ◌++◌, OnOk, OnErr, length};
 ghost use Rattle.ca_model.specs.machine.Invariants.{IsQueue};
 ghost use Rattle.ca_model.specs.machine.Requester as requester;
-ghost use Rattle.ca_qpstate.specs.Seen.{queue_of};
 ghost use Rattle.ca_packet.specs.Packet.{IsWellFormed, fields_of, spelling};
 ghost use Rattle.ca_packet.specs.declared.packet.TheConstants.{MAX_PACKET_BYTES};
 
@@ -14,8 +13,8 @@ const PSNS: u64 = 0x100_0000;
 
 /// The number of the peer, which the queue pair's packets name as their destination.
 pub fn peer_number(q: &QueuePart) -> u32
-    requires { IsQueue (queue_of q.now) }
-    ensures value { result ≡ requester.peer_number (queue_of q.now) }
+    requires { IsQueue q.now }
+    ensures value { result ≡ requester.peer_number q.now }
     ensures narrow { result < 2 ^ 24 }
 {
     match q.peer {

@@ -4,8 +4,7 @@ ghost use Rattle.ca_base.specs.declared.completion.WcStatus.{WcStatus};
 ghost use Rattle.ca_model.specs.machine.Acknowledgements.{failure_effects};
 ghost use Rattle.ca_model.specs.machine.Invariants.{IsQueue};
 ghost use Rattle.ca_model.specs.machine.Requester as requester;
-ghost use Rattle.ca_qpstate.specs.Seen.{queue_of};
-ghost use Rattle.ca_rows.specs.Narrow.{AreNarrow};
+ghost use Rattle.ca_model.specs.machine.CanStep.{CanStep};
 ghost use Rattle.ca_sending.specs.Turn.{is_performing, operation_end, operation_in};
 
 use crate::turn::turn_of;
@@ -19,10 +18,9 @@ use std::alloc::Global;
 /// The local operation that is now to be performed, with the byte that it drew. None comes exactly where the next thing
 /// is a packet. The reason is the first of `State`, `RnrWait`, `Empty` and `Fence`. It takes no memory.
 pub fn next_local(q: &QueuePart) -> Result<Option<(&SendRequest, Option<u8>)>, Reason>
-    requires queue { IsQueue (queue_of q.now) }
-    requires narrow { AreNarrow (queue_of q.now) }
-    ensures waits { IfErr result (λ reason. operation_in (requester.turn_of (queue_of q.now)) ≡ Err reason) }
-    ensures operation { IfOk result (λ operation. operation_in (requester.turn_of (queue_of q.now)) ≡ Ok (option_map (λ x. (x.0.now, x.1)) operation)) }
+    requires { CanStep q.now }
+    ensures waits { IfErr result (λ reason. operation_in (requester.turn_of q.now) ≡ Err reason) }
+    ensures operation { IfOk result (λ operation. operation_in (requester.turn_of q.now) ≡ Ok (option_map (λ x. (x.0.now, x.1)) operation)) }
 {
     match turn_of(q) {
         Err(reason) => Err(reason),
@@ -42,12 +40,11 @@ pub fn local_done(
     cause: Option<OpRefusal>,
     marks: &mut Marks,
 ) -> Result<(), Memory>
-    requires queue { IsQueue (queue_of q.old) }
-    requires narrow { AreNarrow (queue_of q.old) }
-    requires local { is_performing (requester.turn_of (queue_of q.old)) ≡ true }
+    requires step { CanStep q.old }
+    requires local { is_performing (requester.turn_of q.old) ≡ true }
     requires room { cause ≡ None → 1 ≤ marks.old.room }
-    ensures queue { OnOk result (queue_of q.new ≡ (operation_end (queue_of q.old) cause).queue) }
-    ensures marks { OnOk result (marks.new.marks ≡ marks.old.marks ++ (operation_end (queue_of q.old) cause).marks) }
+    ensures queue { OnOk result (q.new ≡ (operation_end q.old cause).queue) }
+    ensures marks { OnOk result (marks.new.marks ≡ marks.old.marks ++ (operation_end q.old cause).marks) }
     ensures fine { cause ≡ None → IsOk result }
     ensures room { IfSome cause (λ c. OnOk result (2 ≤ marks.new.room)) }
     ensures room_left { cause ≡ None → marks.old.room ≤ marks.new.room + 1 }
@@ -66,12 +63,11 @@ pub fn local_done(
 /// The operation succeeded.
 #[tactic(auto, using(crate::proofs::TurnLemmas::performing))]
 fn finish(q: &mut QueuePart, marks: &mut Marks)
-    requires queue { IsQueue (queue_of q.old) }
-    requires narrow { AreNarrow (queue_of q.old) }
-    requires local { is_performing (requester.turn_of (queue_of q.old)) ≡ true }
+    requires step { CanStep q.old }
+    requires local { is_performing (requester.turn_of q.old) ≡ true }
     requires room { 1 ≤ marks.old.room }
-    ensures queue { queue_of q.new ≡ (operation_end (queue_of q.old) None).queue }
-    ensures marks { marks.new.marks ≡ marks.old.marks ++ (operation_end (queue_of q.old) None).marks }
+    ensures queue { q.new ≡ (operation_end q.old None).queue }
+    ensures marks { marks.new.marks ≡ marks.old.marks ++ (operation_end q.old None).marks }
     ensures room { marks.old.room ≤ marks.new.room + 1 }
 {
     if let Ok(next) = turn_of(q) {
@@ -89,9 +85,9 @@ fn refuse(
     cause: OpRefusal,
     marks: &mut Marks,
 ) -> Result<(), Memory>
-    requires queue { IsQueue (queue_of q.old) }
-    ensures queue { OnOk result (queue_of q.new ≡ (failure_effects WcStatus.MemoryManagement (Some cause) (queue_of q.old)).queue) }
-    ensures marks { OnOk result (marks.new.marks ≡ marks.old.marks ++ (failure_effects WcStatus.MemoryManagement (Some cause) (queue_of q.old)).marks) }
+    requires queue { IsQueue q.old }
+    ensures queue { OnOk result (q.new ≡ (failure_effects WcStatus.MemoryManagement (Some cause) q.old).queue) }
+    ensures marks { OnOk result (marks.new.marks ≡ marks.old.marks ++ (failure_effects WcStatus.MemoryManagement (Some cause) q.old).marks) }
     ensures room { OnOk result (2 ≤ marks.new.room) }
     ensures err { OnErr result (q.new ≡ q.old) }
     ensures err_marks { OnErr result (marks.new.marks ≡ marks.old.marks) }

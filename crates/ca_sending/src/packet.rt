@@ -6,7 +6,6 @@ ghost use Rattle.ca_model.specs.Requests as requests;
 ghost use Rattle.ca_model.specs.machine.Invariants.{IsQueue, IsList};
 ghost use Rattle.ca_model.specs.machine.Numbering.{is_answered_op, is_atomic_op};
 ghost use Rattle.ca_model.specs.machine.Requester as requester;
-ghost use Rattle.ca_qpstate.specs.Seen.{queue_of};
 ghost use Rattle.ca_progress.specs.Numbering.{numbered_of, IsSound};
 ghost use Rattle.ca_sending.specs.Packets.{IsPacket, packet_fields, reth_of};
 ghost use Rattle.ca_rows.specs.Asks.{IsAskOf, touched_by};
@@ -27,8 +26,8 @@ use ca_wire::{
 
 /// Which packet of its request the next one is.
 fn index_of_packet(q: &QueuePart, n: &Numbered<'_>) -> u32
-    requires { IsPacket (queue_of q.now) (numbered_of n.now) }
-    ensures value { result ≡ requester.index_of_packet (queue_of q.now) (numbered_of n.now) }
+    requires { IsPacket q.now (numbered_of n.now) }
+    ensures value { result ≡ requester.index_of_packet q.now (numbered_of n.now) }
     ensures within { result < n.now.count }
 {
     q.requester.cursor.saturating_sub(n.first) as u32
@@ -37,9 +36,9 @@ fn index_of_packet(q: &QueuePart, n: &Numbered<'_>) -> u32
 /// How many bytes of its request's list lie before those of the next packet.
 #[tactic(auto, using(ca_progress::proofs::NumberingLemmas::few_before))]
 fn bytes_before(q: &QueuePart, n: &Numbered<'_>) -> u32
-    requires queue { IsQueue (queue_of q.now) }
-    requires packet { IsPacket (queue_of q.now) (numbered_of n.now) }
-    ensures { result ≡ requester.index_of_packet (queue_of q.now) (numbered_of n.now) * q.now.responder.mtu }
+    requires queue { IsQueue q.now }
+    requires packet { IsPacket q.now (numbered_of n.now) }
+    ensures { result ≡ requester.index_of_packet q.now (numbered_of n.now) * q.now.responder.mtu }
 {
     index_of_packet(q, n) * u32::from(q.responder.mtu)
 }
@@ -64,10 +63,10 @@ pub(crate) fn fill_packet_asks(
     n: &Numbered<'_>,
     asks: &mut ArrayVec<Ask, MAX_PIECES>,
 )
-    requires queue { IsQueue (queue_of q.now) }
-    requires packet { IsPacket (queue_of q.now) (numbered_of n.now) }
+    requires queue { IsQueue q.now }
+    requires packet { IsPacket q.now (numbered_of n.now) }
     requires empty { asks.old.items ≡ [] }
-    ensures value { asks.new.items ≡ requester.packet_asks (queue_of q.now) (numbered_of n.now) }
+    ensures value { asks.new.items ≡ requester.packet_asks q.now (numbered_of n.now) }
     ensures touched { touched_by asks.new.items ≤ MAX_PAYLOAD_BYTES }
     ensures asks { AllByRecursion (IsAskOf Kind.Read) asks.new.items }
 {
@@ -89,10 +88,10 @@ pub(crate) fn spell(
     payload: &[u8],
     out: &mut Vec<u8>,
 ) -> Result<(), Memory>
-    requires queue { IsQueue (queue_of q.now) }
-    requires packet { IsPacket (queue_of q.now) (numbered_of n.now) }
+    requires queue { IsQueue q.now }
+    requires packet { IsPacket q.now (numbered_of n.now) }
     requires payload { length payload.now ≤ MAX_PAYLOAD_BYTES }
-    ensures ok { OnOk result (out.new.items ≡ out.old.items ++ requester.spelt_packet (queue_of q.now) (numbered_of n.now) payload.now) }
+    ensures ok { OnOk result (out.new.items ≡ out.old.items ++ requester.spelt_packet q.now (numbered_of n.now) payload.now) }
     ensures size { OnOk result (length out.new.items ≤ length out.old.items + MAX_PACKET_BYTES) }
     ensures err { OnErr result (out.new.items ≡ out.old.items) }
 {
@@ -102,10 +101,10 @@ pub(crate) fn spell(
 
 /// The next packet, with this payload.
 fn packet_of<'a>(q: &QueuePart, n: &Numbered<'_>, payload: &'a [u8]) -> Packet<'a>
-    requires queue { IsQueue (queue_of q.now) }
-    requires packet { IsPacket (queue_of q.now) (numbered_of n.now) }
+    requires queue { IsQueue q.now }
+    requires packet { IsPacket q.now (numbered_of n.now) }
     requires payload { length payload.now ≤ MAX_PAYLOAD_BYTES }
-    ensures fields { packet_fields (queue_of q.now) (numbered_of n.now) payload.now ≡ Some (fields_of result) }
+    ensures fields { packet_fields q.now (numbered_of n.now) payload.now ≡ Some (fields_of result) }
     ensures well_formed { IsWellFormed (fields_of result) }
 {
     let head = head_of(q, n, payload);
@@ -147,12 +146,12 @@ struct Head<'a> {
 
 /// What the next packet has.
 fn head_of<'a>(q: &QueuePart, n: &Numbered<'_>, payload: &'a [u8]) -> Head<'a>
-    requires queue { IsQueue (queue_of q.now) }
-    requires packet { IsPacket (queue_of q.now) (numbered_of n.now) }
-    ensures index { result.index ≡ requester.index_of_packet (queue_of q.now) (numbered_of n.now) }
+    requires queue { IsQueue q.now }
+    requires packet { IsPacket q.now (numbered_of n.now) }
+    ensures index { result.index ≡ requester.index_of_packet q.now (numbered_of n.now) }
     ensures solicited { result.solicited ≡ (numbered_of n.now).request.solicited }
     ensures count { result.count ≡ n.now.count }
-    ensures queue { result.queue ≡ requester.peer_number (queue_of q.now) }
+    ensures queue { result.queue ≡ requester.peer_number q.now }
     ensures number { result.queue < 2 ^ 24 }
     ensures psn { result.psn ≡ requester.psn_bits q.now.requester.cursor }
     ensures narrow { result.psn < 2 ^ 24 }

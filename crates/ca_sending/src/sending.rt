@@ -11,10 +11,9 @@ ghost use Rattle.ca_model.specs.machine.Invariants.{IsQueue};
 ghost use Rattle.ca_model.specs.machine.Numbering as numbering;
 ghost use Rattle.ca_model.specs.machine.Requester as requester;
 ghost use Rattle.ca_model.specs.machine.Row.{ending_of, plain_row, NotPossible};
-ghost use Rattle.ca_qpstate.specs.Seen.{queue_of};
 ghost use Rattle.ca_rows.specs.Asks.{IsAskOf, bytes_read, touched_by};
 ghost use Rattle.ca_rows.specs.Done.{IsTurn, handed};
-ghost use Rattle.ca_rows.specs.Narrow.{AreNarrow};
+ghost use Rattle.ca_model.specs.machine.CanStep.{CanStep};
 ghost use Rattle.ca_packet.specs.declared.packet.TheConstants.{MAX_PACKET_BYTES};
 ghost use Rattle.ca_progress.specs.Numbering.{numbered_of, IsNext};
 ghost use Rattle.ca_sending.specs.Packets.{IsPacket};
@@ -34,9 +33,8 @@ use std::alloc::Global;
 
 /// The asks that `next_packet` may make, in order; it makes no other. It takes no memory.
 pub fn next_asks(q: &QueuePart) -> ArrayVec<Ask, MAX_PIECES>
-    requires queue { IsQueue (queue_of q.now) }
-    requires narrow { AreNarrow (queue_of q.now) }
-    ensures { (room : Bool) → result.items ≡ (turn_row (queue_of q.now) room).asks }
+    requires { CanStep q.now }
+    ensures { (room : Bool) → result.items ≡ (turn_row q.now room).asks }
 {
     let mut asks = ArrayVec::new();
     if let Ok(next) = next_to_send(q) {
@@ -49,13 +47,12 @@ pub fn next_asks(q: &QueuePart) -> ArrayVec<Ask, MAX_PIECES>
 #[tactic(auto, using(crate::proofs::TurnLemmas::is_packet))]
 #[inline(always)]
 fn next_to_send(q: &QueuePart) -> Result<Next<'_>, Reason>
-    requires queue { IsQueue (queue_of q.now) }
-    requires narrow { AreNarrow (queue_of q.now) }
-    ensures waits { IfErr result (λ reason. (room : Bool) → turn_row (queue_of q.now) room ≡ plain_row (NotPossible reason)) }
-    ensures sends { IfOk result (λ next. (room : Bool) → turn_row (queue_of q.now) room ≡ requester.packet_row (queue_of q.now) room (numbered_of next.request)) }
-    ensures fits { IfOk result (λ next. requester.is_too_much (queue_of q.now) (numbered_of next.request) ≡ false) }
-    ensures packet { IfOk result (λ next. IsPacket (queue_of q.now) (numbered_of next.request)) }
-    ensures next { IfOk result (λ next. IsNext (queue_of q.now) next) }
+    requires { CanStep q.now }
+    ensures waits { IfErr result (λ reason. (room : Bool) → turn_row q.now room ≡ plain_row (NotPossible reason)) }
+    ensures sends { IfOk result (λ next. (room : Bool) → turn_row q.now room ≡ requester.packet_row q.now room (numbered_of next.request)) }
+    ensures fits { IfOk result (λ next. requester.is_too_much q.now (numbered_of next.request) ≡ false) }
+    ensures packet { IfOk result (λ next. IsPacket q.now (numbered_of next.request)) }
+    ensures next { IfOk result (λ next. IsNext q.now next) }
 {
     match turn_of(q) {
         Err(reason) => Err(reason),
@@ -77,12 +74,11 @@ pub fn next_packet<R: Reach>(
     marks: &mut Marks,
     out: &mut Vec<u8>,
 ) -> Result<Sent, StepError>
-    requires queue { IsQueue (queue_of q.old) }
-    requires narrow { AreNarrow (queue_of q.old) }
-    requires at_hand { AreAtHand R.sight R.judges R.touches reach.old (turn_row (queue_of q.old) room).asks }
-    ensures turn { IsTurn R.written result (ending_of (R.sight reach.old) (turn_row (queue_of q.old) room))
-        (handed (queue_of q.old) marks.old.marks out.old.items reach.old)
-        (handed (queue_of q.new) marks.new.marks out.new.items reach.new) }
+    requires step { CanStep q.old }
+    requires at_hand { AreAtHand R.sight R.judges R.touches reach.old (turn_row q.old room).asks }
+    ensures turn { IsTurn R.written result (ending_of (R.sight reach.old) (turn_row q.old room))
+        (handed q.old marks.old.marks out.old.items reach.old)
+        (handed q.new marks.new.marks out.new.items reach.new) }
     ensures room { OnOk result (2 ≤ marks.new.room) }
     ensures size { OnOk result (length out.new.items ≤ length out.old.items + MAX_PACKET_BYTES) }
 {
@@ -120,15 +116,15 @@ fn send_nothing<R: Reach>(
     asks: &[Ask],
     marks: &mut Marks,
 ) -> Result<Sent, StepError>
-    requires queue { IsQueue (queue_of q.old) }
+    requires queue { IsQueue q.old }
     requires keys { AllByRecursion (R.judges reach.now) asks.now }
     requires reads { AllByRecursion (IsAskOf Kind.Read) asks.now }
     requires nothing { room ≡ true → is_some (sights.first_denied (R.sight reach.now) asks.now) ≡ true }
-    ensures turn { (n : numbering.Numbered) (out : List ℕ) → requester.packet_asks (queue_of q.old) n ≡ asks.now
-        → requester.is_too_much (queue_of q.old) n ≡ false
-        → IsTurn R.written result (ending_of (R.sight reach.now) (requester.packet_row (queue_of q.old) room n))
-        (handed (queue_of q.old) marks.old.marks out reach.now)
-        (handed (queue_of q.new) marks.new.marks out reach.now) }
+    ensures turn { (n : numbering.Numbered) (out : List ℕ) → requester.packet_asks q.old n ≡ asks.now
+        → requester.is_too_much q.old n ≡ false
+        → IsTurn R.written result (ending_of (R.sight reach.now) (requester.packet_row q.old room n))
+        (handed q.old marks.old.marks out reach.now)
+        (handed q.new marks.new.marks out reach.now) }
     ensures room { OnOk result (2 ≤ marks.new.room) }
 {
     match first_denied(reach, asks) {
@@ -145,7 +141,7 @@ fn send_nothing<R: Reach>(
 
 /// Why a denied list does not fail its request now: something is outstanding, or the peer has no room.
 fn denied_refusal(q: &QueuePart, room: bool) -> Option<Reason>
-    ensures { result ≡ (if requester.is_outstanding (queue_of q.now) then Some Reason.Outstanding else if not room then Some Reason.NoRoom else None) }
+    ensures { result ≡ (if requester.is_outstanding q.now then Some Reason.Outstanding else if not room then Some Reason.NoRoom else None) }
 {
     if q.requester.una < q.requester.cursor {
         return Some(Reason::Outstanding);
@@ -160,9 +156,9 @@ fn fail_list(
     denied: &DeniedAsk,
     marks: &mut Marks,
 ) -> Result<(), Memory>
-    requires queue { IsQueue (queue_of q.old) }
-    ensures queue { OnOk result (queue_of q.new ≡ (requester.denied_list_effects (queue_of q.old) denied.now).queue) }
-    ensures marks { OnOk result (marks.new.marks ≡ marks.old.marks ++ (requester.denied_list_effects (queue_of q.old) denied.now).marks) }
+    requires queue { IsQueue q.old }
+    ensures queue { OnOk result (q.new ≡ (requester.denied_list_effects q.old denied.now).queue) }
+    ensures marks { OnOk result (marks.new.marks ≡ marks.old.marks ++ (requester.denied_list_effects q.old denied.now).marks) }
     ensures room { OnOk result (2 ≤ marks.new.room) }
     ensures err { OnErr result (q.new ≡ q.old) }
     ensures err_marks { OnErr result (marks.new.marks ≡ marks.old.marks) }
@@ -178,7 +174,7 @@ fn fail_list(
 /// The requester goes past a packet that ends below a PSN, and past its request, where it begins with the packet.
 fn go_past(q: &mut QueuePart, end: u64, begins: bool)
     requires { begins ≡ true → q.old.requester.next + 1 < 2 ^ 64 }
-    ensures { queue_of q.new ≡ with_requester (numbers_past end begins q.old.requester) (queue_of q.old) }
+    ensures { q.new ≡ with_requester (numbers_past end begins q.old.requester) q.old }
 {
     q.requester.cursor = end;
     if begins {
@@ -197,8 +193,8 @@ fn read_and_spell<R: Reach>(
     marks: &mut Marks,
     out: &mut Vec<u8>,
 ) -> Result<bool, Memory>
-    requires queue { IsQueue (queue_of q.now) }
-    requires packet { IsPacket (queue_of q.now) (numbered_of n.now) }
+    requires queue { IsQueue q.now }
+    requires packet { IsPacket q.now (numbered_of n.now) }
     requires at_hand { AreAtHand R.sight R.judges R.touches reach.old asks.now }
     requires reads { AllByRecursion (IsAskOf Kind.Read) asks.now }
     requires touched { touched_by asks.now ≤ MAX_PAYLOAD_BYTES }
@@ -207,7 +203,7 @@ fn read_and_spell<R: Reach>(
     ensures denied { IfOk result (λ granted. granted ≡ false → is_some (sights.first_denied (R.sight reach.old) asks.now) ≡ true) }
     ensures marks { IfOk result (λ granted. granted ≡ true → marks.new.marks ≡ marks.old.marks ++ requester.local_reads asks.now (map (bytes_in (R.sight reach.old)) asks.now)) }
     ensures out { IfOk result (λ granted. granted ≡ true → out.new.items ≡ out.old.items
-        ++ requester.spelt_packet (queue_of q.now) (numbered_of n.now) (flat_map (λ b. b) (map (bytes_in (R.sight reach.old)) asks.now))) }
+        ++ requester.spelt_packet q.now (numbered_of n.now) (flat_map (λ b. b) (map (bytes_in (R.sight reach.old)) asks.now))) }
     ensures none { IfOk result (λ granted. granted ≡ false → marks.new.marks ≡ marks.old.marks) }
     ensures none_out { IfOk result (λ granted. granted ≡ false → out.new.items ≡ out.old.items) }
     ensures size { OnOk result (length out.new.items ≤ length out.old.items + MAX_PACKET_BYTES) }
@@ -239,8 +235,8 @@ fn read_then_spell<R: Reach>(
     marks: &mut Marks,
     out: &mut Vec<u8>,
 ) -> Result<bool, Memory>
-    requires queue { IsQueue (queue_of q.now) }
-    requires packet { IsPacket (queue_of q.now) (numbered_of n.now) }
+    requires queue { IsQueue q.now }
+    requires packet { IsPacket q.now (numbered_of n.now) }
     requires at_hand { AreAtHand R.sight R.judges R.touches reach.old asks.now }
     requires reads { AllByRecursion (IsAskOf Kind.Read) asks.now }
     requires touched { touched_by asks.now ≤ MAX_PAYLOAD_BYTES }
@@ -249,7 +245,7 @@ fn read_then_spell<R: Reach>(
     ensures denied { IfOk result (λ granted. granted ≡ false → is_some (sights.first_denied (R.sight reach.old) asks.now) ≡ true) }
     ensures marks { IfOk result (λ granted. granted ≡ true → marks.new.marks ≡ marks.old.marks ++ requester.local_reads asks.now (map (bytes_in (R.sight reach.old)) asks.now)) }
     ensures out { IfOk result (λ granted. granted ≡ true → out.new.items ≡ out.old.items
-        ++ requester.spelt_packet (queue_of q.now) (numbered_of n.now) (flat_map (λ b. b) (map (bytes_in (R.sight reach.old)) asks.now))) }
+        ++ requester.spelt_packet q.now (numbered_of n.now) (flat_map (λ b. b) (map (bytes_in (R.sight reach.old)) asks.now))) }
     ensures front { IfOk result (λ granted. granted ≡ false → take (length marks.old.marks) marks.new.marks ≡ marks.old.marks) }
     ensures none_out { IfOk result (λ granted. granted ≡ false → out.new.items ≡ out.old.items) }
     ensures size { OnOk result (length out.new.items ≤ length out.old.items + MAX_PACKET_BYTES) }

@@ -5,8 +5,7 @@ ghost use Rattle.ca_model.specs.machine.Invariants as invariants;
 ghost use Rattle.ca_model.specs.machine.Invariants.{IsQueue};
 ghost use Rattle.ca_model.specs.machine.Numbering as numbering;
 ghost use Rattle.ca_model.specs.machine.Requester as requester;
-ghost use Rattle.ca_qpstate.specs.Seen.{queue_of};
-ghost use Rattle.ca_rows.specs.Narrow.{AreNarrow};
+ghost use Rattle.ca_model.specs.machine.CanStep.{AreNarrow, CanStep};
 ghost use Rattle.ca_progress.specs.Numbering.{numbered_of, numbers_from, begun_from, IsWithin, IsNext, IsSound};
 ghost use Rattle.ca_sending.specs.Turn.{turn_on};
 
@@ -20,11 +19,10 @@ use ca_rows::{is_answered, is_local, is_read};
 /// `RnrWait`, `Empty`, `Fence`.
 #[inline(always)]
 pub(crate) fn turn_of(q: &QueuePart) -> Result<Next<'_>, Reason>
-    requires queue { IsQueue (queue_of q.now) }
-    requires narrow { AreNarrow (queue_of q.now) }
-    ensures waits { IfErr result (λ reason. requester.turn_of (queue_of q.now) ≡ requester.Waits reason) }
-    ensures acts { IfOk result (λ next. requester.turn_of (queue_of q.now) ≡ turn_on (numbered_of next.request)) }
-    ensures next { IfOk result (λ next. IsNext (queue_of q.now) next) }
+    requires { CanStep q.now }
+    ensures waits { IfErr result (λ reason. requester.turn_of q.now ≡ requester.Waits reason) }
+    ensures acts { IfOk result (λ next. requester.turn_of q.now ≡ turn_on (numbered_of next.request)) }
+    ensures next { IfOk result (λ next. IsNext q.now next) }
     ensures sending { IfOk result (λ next. invariants.is_sending q.now.state ≡ true) }
 {
     if !is_sending(q.state) {
@@ -43,11 +41,10 @@ pub(crate) fn turn_of(q: &QueuePart) -> Result<Next<'_>, Reason>
 /// The first reason that stands against the next thing, which is one of this request.
 #[inline(always)]
 fn refusal(q: &QueuePart, next: &Next<'_>) -> Option<Reason>
-    requires queue { IsQueue (queue_of q.now) }
-    requires narrow { AreNarrow (queue_of q.now) }
-    requires next { IsNext (queue_of q.now) next.now }
+    requires step { CanStep q.now }
+    requires next { IsNext q.now next.now }
     requires sending { invariants.is_sending q.now.state ≡ true }
-    ensures { result ≡ first_of (requester.turn_refusals (queue_of q.now)) }
+    ensures { result ≡ first_of (requester.turn_refusals q.now) }
 {
     if next.begins && matches!(q.state, State::Sqd) {
         return Some(Reason::State);
@@ -66,10 +63,9 @@ fn refusal(q: &QueuePart, next: &Next<'_>) -> Option<Reason>
 #[tactic(auto, using(ca_progress::proofs::NumberingLemmas::start_within))]
 #[inline(always)]
 fn is_fenced(q: &QueuePart, next: &Next<'_>) -> bool
-    requires queue { IsQueue (queue_of q.now) }
-    requires narrow { AreNarrow (queue_of q.now) }
-    requires next { IsNext (queue_of q.now) next.now }
-    ensures { result ≡ requester.is_fenced (queue_of q.now) }
+    requires step { CanStep q.now }
+    requires next { IsNext q.now next.now }
+    ensures { result ≡ requester.is_fenced q.now }
 {
     if !next.begins {
         return false;
@@ -82,9 +78,9 @@ fn is_fenced(q: &QueuePart, next: &Next<'_>) -> bool
 
 /// Whether one of the requests from a place on that have begun is a READ or an atomic.
 fn awaits_answer(q: &QueuePart, place: u64, first: u64) -> bool
-    requires queue { IsQueue (queue_of q.now) }
-    requires within { IsWithin place first (queue_of q.now) }
-    ensures { result ≡ list_any (λ m. numbering.is_answered_op m.request.op) (begun_from place first (queue_of q.now)) }
+    requires queue { IsQueue q.now }
+    requires within { IsWithin place first q.now }
+    ensures { result ≡ list_any (λ m. numbering.is_answered_op m.request.op) (begun_from place first q.now) }
 {
     match begun_at(q, place, first) {
         None => false,
@@ -95,9 +91,9 @@ fn awaits_answer(q: &QueuePart, place: u64, first: u64) -> bool
 
 /// The PSN behind the next packet: a READ Request takes those of all its responses.
 pub(crate) fn end_of_packet(q: &QueuePart, n: &Numbered<'_>) -> u64
-    requires narrow { AreNarrow (queue_of q.now) }
-    requires sound { IsSound (queue_of q.now) (numbered_of n.now) }
-    ensures value { result ≡ requester.end_of_packet (queue_of q.now) (numbered_of n.now) }
+    requires narrow { AreNarrow q.now }
+    requires sound { IsSound q.now (numbered_of n.now) }
+    ensures value { result ≡ requester.end_of_packet q.now (numbered_of n.now) }
     ensures narrow { result < 2 ^ 63 }
 {
     if is_read(n.op()) {
@@ -111,10 +107,9 @@ pub(crate) fn end_of_packet(q: &QueuePart, n: &Numbered<'_>) -> u64
 /// would be than READs may be, nothing need be counted.
 #[inline(always)]
 pub(crate) fn is_too_much(q: &QueuePart, n: &Numbered<'_>) -> bool
-    requires queue { IsQueue (queue_of q.now) }
-    requires narrow { AreNarrow (queue_of q.now) }
-    requires sound { IsSound (queue_of q.now) (numbered_of n.now) }
-    ensures { result ≡ requester.is_too_much (queue_of q.now) (numbered_of n.now) }
+    requires step { CanStep q.now }
+    requires sound { IsSound q.now (numbered_of n.now) }
+    ensures { result ≡ requester.is_too_much q.now (numbered_of n.now) }
 {
     let upto = end_of_packet(q, n);
     if upto.saturating_sub(q.requester.una) <= u64::from(q.requester.reads) {
@@ -126,10 +121,9 @@ pub(crate) fn is_too_much(q: &QueuePart, n: &Numbered<'_>) -> bool
 /// The same, where all is counted. The request comes by value, so that the caller need not keep one in memory.
 #[inline(never)]
 fn is_too_much_counted(q: &QueuePart, n: Numbered<'_>) -> bool
-    requires queue { IsQueue (queue_of q.now) }
-    requires narrow { AreNarrow (queue_of q.now) }
-    requires sound { IsSound (queue_of q.now) (numbered_of n) }
-    ensures { result ≡ requester.is_too_much (queue_of q.now) (numbered_of n.entry) }
+    requires step { CanStep q.now }
+    requires sound { IsSound q.now (numbered_of n) }
+    ensures { result ≡ requester.is_too_much q.now (numbered_of n.entry) }
 {
     let upto = end_of_packet(q, &n);
     let oldest = q.requester.oldest;
@@ -142,9 +136,9 @@ fn is_too_much_counted(q: &QueuePart, n: Numbered<'_>) -> bool
 /// Whether more request packets than so many lie from `una` on and below a PSN, among the requests from a place on. No
 /// more lie there than PSNs.
 fn has_more_packets(q: &QueuePart, place: u64, first: u64, upto: u64, most: u64) -> bool
-    requires queue { IsQueue (queue_of q.now) }
-    requires within { IsWithin place first (queue_of q.now) }
-    ensures { result ≡ nat_lt most (sum_by (requester.packets_between q.now.requester.una upto) (numbers_from place first (queue_of q.now))) }
+    requires queue { IsQueue q.now }
+    requires within { IsWithin place first q.now }
+    ensures { result ≡ nat_lt most (sum_by (requester.packets_between q.now.requester.una upto) (numbers_from place first q.now)) }
 {
     if upto.saturating_sub(q.requester.una.max(first)) <= most {
         return false;
@@ -165,9 +159,9 @@ fn has_more_packets(q: &QueuePart, place: u64, first: u64, upto: u64, most: u64)
 
 /// Whether more READs and atomics than so many lie there.
 fn has_more_answers(q: &QueuePart, place: u64, first: u64, upto: u64, most: u64) -> bool
-    requires queue { IsQueue (queue_of q.now) }
-    requires within { IsWithin place first (queue_of q.now) }
-    ensures { result ≡ nat_lt most (sum_by (requester.answers_between q.now.requester.una upto) (numbers_from place first (queue_of q.now))) }
+    requires queue { IsQueue q.now }
+    requires within { IsWithin place first q.now }
+    ensures { result ≡ nat_lt most (sum_by (requester.answers_between q.now.requester.una upto) (numbers_from place first q.now)) }
 {
     if upto.saturating_sub(q.requester.una.max(first)) <= most {
         return false;

@@ -1,7 +1,6 @@
 use Rattle.std.proofs.Common.{◌+◌}
-use Rattle.ca_qpstate.specs.Seen.{queue_of}
 use Rattle.ca_laws.proofs.TurnLemmas.{windows-queue}
 use Rattle.ca_bed_responder.proofs.responder.count_window.Goals as goal
 
 pub returns : goal.returns
-returns c = windows-queue (queue_of c.args.q.now) (c.args.q.now.windows.count + 1) c.requires
+returns c = windows-queue c.args.q.now (c.args.q.now.windows.count + 1) c.requires

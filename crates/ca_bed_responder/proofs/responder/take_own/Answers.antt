@@ -1,6 +1,5 @@
 use Rattle.std.proofs.Common.{None}
 use Rattle.ca_model.specs.machine.Delivery.{packet_arrived}
-use Rattle.ca_qpstate.specs.Seen.{queue_of}
 use Rattle.ca_arrivals.specs.Taking.{found}
 use Rattle.ca_bed_reach.specs.SmallReach.{sight_of}
 use Rattle.ca_bed_responder.proofs.Kept.{arrival_kept, request-good, stands_by}
@@ -10,12 +9,12 @@ use Rattle.ca_packet.specs.Packet.{fields_of}
 pub returns : goal.returns
 returns c =
     let bed = c.args.bed.now in
-    let q = queue_of bed.queue in
+    let q = bed.queue in
     let p = fields_of c.in_ok-p.p in
     stands_by (record { queue = c.on_request.new.q; reach = c.on_request.new.reach })
     (arrival_kept c.on_request.result (sight_of bed.reach) (packet_arrived p c.args.envelope None q)
     (found q c.args.marks.now.marks bed.reach)
-    (found (queue_of c.on_request.new.q) c.on_request.new.marks.marks c.on_request.new.reach)
+    (found c.on_request.new.q c.on_request.new.marks.marks c.on_request.new.reach)
     (record { queue = c.requires.queue; reach = c.requires.reach })
     (request-good c.args.bytes.now p c.args.envelope None q c.requires.queue tt c.in_ok-p.ensures.spelt c.in_ok-p.ensures.taken)
     c.on_request.ensures.taken)

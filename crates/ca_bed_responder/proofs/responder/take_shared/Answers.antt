@@ -1,7 +1,6 @@
 use Rattle.std.proofs.Common.{Some}
 use Rattle.ca_model.specs.machine.Delivery.{packet_arrived}
 use Rattle.ca_model.specs.machine.Row.{ending_of}
-use Rattle.ca_qpstate.specs.Seen.{queue_of}
 use Rattle.ca_arrivals.specs.Taking.{found}
 use Rattle.ca_bed_reach.specs.SmallReach.{sight_of}
 use Rattle.ca_bed_responder.proofs.Kept.{arrival_kept, request-good, shared_kept, stands_by}
@@ -11,12 +10,12 @@ use Rattle.ca_packet.specs.Packet.{fields_of}
 pub returns-clause-stands : goal.returns-clause-stands
 returns-clause-stands c =
     let bed = c.args.bed.now in
-    let q = queue_of bed.queue in
+    let q = bed.queue in
     let p = fields_of c.in_ok-p.p in
     stands_by (record { queue = c.on_request.new.q; reach = c.on_request.new.reach })
     (arrival_kept c.on_request.result (sight_of bed.reach) (packet_arrived p c.args.envelope (Some c.args.srq.now) q)
     (found q c.args.marks.now.marks bed.reach)
-    (found (queue_of c.on_request.new.q) c.on_request.new.marks.marks c.on_request.new.reach)
+    (found c.on_request.new.q c.on_request.new.marks.marks c.on_request.new.reach)
     (record { queue = c.requires.stands.queue; reach = c.requires.stands.reach })
     (request-good c.args.bytes.now p c.args.envelope (Some c.args.srq.now) q c.requires.stands.queue c.requires.shared
     c.in_ok-p.ensures.spelt c.in_ok-p.ensures.taken)
@@ -26,12 +25,12 @@ pub returns-clause-shared : goal.returns-clause-shared
 returns-clause-shared c =
     let bed = c.args.bed.now in
     (shared_kept c.on_request.result
-    (ending_of (sight_of bed.reach) (packet_arrived (fields_of c.in_ok-p.p) c.args.envelope (Some c.args.srq.now) (queue_of bed.queue)))
+    (ending_of (sight_of bed.reach) (packet_arrived (fields_of c.in_ok-p.p) c.args.envelope (Some c.args.srq.now) bed.queue))
     c.args.srq.now c.on_request.new.srq.0 c.requires.shared c.on_request.ensures.receives c.on_request.ensures.err_receives).sound
 
 pub returns-clause-next : goal.returns-clause-next
 returns-clause-next c =
     let bed = c.args.bed.now in
     (shared_kept c.on_request.result
-    (ending_of (sight_of bed.reach) (packet_arrived (fields_of c.in_ok-p.p) c.args.envelope (Some c.args.srq.now) (queue_of bed.queue)))
+    (ending_of (sight_of bed.reach) (packet_arrived (fields_of c.in_ok-p.p) c.args.envelope (Some c.args.srq.now) bed.queue))
     c.args.srq.now c.on_request.new.srq.0 c.requires.shared c.on_request.ensures.receives c.on_request.ensures.err_receives).next

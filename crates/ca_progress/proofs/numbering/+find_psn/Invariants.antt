@@ -1,7 +1,6 @@
 use Rattle.std.proofs.Common.{length}
-use Rattle.ca_qpstate.specs.Seen.{queue_of}
 use Rattle.ca_progress.specs.Numbering.{numbers_from}
 use Rattle.ca_progress.proofs.numbering.+find_psn.Given as goal
 
 abbrev pub decreases-find_psn : goal.decreases-find_psn
-decreases-find_psn l = length (numbers_from l.place l.first (queue_of l.q.now))
+decreases-find_psn l = length (numbers_from l.place l.first l.q.now)
