@@ -114,3 +114,9 @@ pub const MAX_PASSES: u64 = 4_294_967_296;
 
 /// The stamp from which on each pass number has at most one stamp more.
 pub const LATE_STAMP: u64 = 9_223_372_036_854_775_808;
+
+/// How many PSNs there are: a PSN has 24 bits. So have an MSN and the number of a queue pair.
+pub const PSN_COUNT: u32 = 0x100_0000;
+
+/// The whole number of the first PSN 0, so that there are numbers before the first.
+pub const PSN_BASE: u64 = PSN_COUNT as u64;

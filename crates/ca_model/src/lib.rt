@@ -29,7 +29,7 @@ pub use laws::{
     event_depends_on_what_it_touches, event_leaves_the_rest, events_depend_on_what_they_touch,
 };
 pub use mark::{Drop1, Mark};
-pub use marks::Marks;
+pub use marks::{Marks, SPARE_MARKS};
 pub use opening::{Contents, Opening};
 pub use part_name::PartName;
 pub use verb::Verb;

@@ -3,6 +3,10 @@ use ca_base::Memory;
 use std::alloc::Global;
 use std::marker::Model;
 
+/// For how many more marks each call of an engine leaves room: those of the packet that its turn sends, Sent and Lost, which
+/// its caller adds where nothing may fail any more.
+pub const SPARE_MARKS: u32 = 2;
+
 /// The marks of an event, in order. Contracts see them as a list, beside the spare room for more.
 #[derive(Drop)]
 pub struct Marks {
@@ -20,7 +24,7 @@ impl Model for Marks {
 }
 
 impl Marks {
-    ghost use Rattle.std.specs.Prelude.{◌≡◌, ◌≤◌, ◌<◌, ◌+◌, [], ◌∷◌, ◌++◌, length, OnOk, OnErr};
+    ghost use Rattle.std.specs.Prelude.{◌≡◌, ◌≤◌, ◌<◌, ◌+◌, [], ◌∷◌, ◌++◌, length, take, OnOk, OnErr};
 
     /// No marks. It takes no memory; what is reserved later comes from `alloc`.
     pub fn empty(alloc: Global) -> Marks
@@ -56,6 +60,13 @@ impl Marks {
         ensures room { self.old.room ≤ self.new.room + length more.items }
     {
         self.items.append(&mut more).unwrap()
+    }
+
+    /// Keeps so many of the marks, the first ones. It takes no memory.
+    pub fn truncate(&mut self, count: usize)
+        ensures { self.new.marks ≡ take count self.old.marks }
+    {
+        self.items.truncate(count);
     }
 
     /// The marks in order.

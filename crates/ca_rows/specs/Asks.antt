@@ -1,13 +1,16 @@
 -- Asks of a row: which may be handed on, what they touch, and the marks of what was read and written by them. Contracts
 -- cite it.
-use Rattle.std.specs.Prelude.{◌≡◌, ℕ, ◌+◌, List, [], ◌∷◌, ◌++◌, None, length}
+use Rattle.std.specs.Prelude.{◌≡◌, ℕ, ◌+◌, ◌≤◌, Bool, true, false, List, [], ◌∷◌, ◌++◌, Result, Ok, Err, None, is_some, length, take}
+use Rattle.std.specs.List.{AllByRecursion}
 use Rattle.ca_keys.specs.declared.access.Ask.{Ask}
 use Rattle.ca_keys.specs.declared.access.Kind.{Kind}
 use Rattle.ca_keys.specs.declared.access.Kind.TheVariants as kinds
 use Rattle.ca_keys.specs.declared.verdict.Verdict.{Verdict}
 use Rattle.ca_keys.specs.declared.verdict.Verdict.TheVariants as verdicts
-use Rattle.ca_base.specs.Sight.{Sight, bytes_in, denial_in}
+use Rattle.ca_keys.specs.declared.memory.Memory.{Memory}
+use Rattle.ca_base.specs.Sight.{Invalidation, Sight, bytes_in, denial_in, first_denied}
 use Rattle.ca_grant.specs.Reaching.{IsPacketAsk}
+use Rattle.ca_model.specs.Marks.{MarkList}
 use Rattle.ca_model.specs.declared.mark.Mark.{Mark}
 use Rattle.ca_model.specs.declared.mark.Mark.TheVariants as marks
 
@@ -32,6 +35,16 @@ touched_by (ask ∷ asks) = ask.touch + touched_by asks
 abbrev pub reads_by : Sight → List Ask → List (Ask × List ℕ)
 reads_by s [] = []
 reads_by s (ask ∷ asks) = (ask, bytes_in s ask) ∷ reads_by s asks
+
+-- asks that may be judged: the parts of their keys are at hand
+pub record CanJudge {S : Type 0} (judges : S → Ask → Type 0) (reach : S) (asks : List Ask) : Type 0 where
+  pub keys : AllByRecursion (judges reach) asks
+  pub packet : AllByRecursion IsPacketAsk asks
+
+-- asks of one kind that may be handed on, and touch at most so many bytes together
+pub record AreAsksFor (kind : Kind) (most : ℕ) (asks : List Ask) : Type 0 where
+  pub each : AllByRecursion (IsAskOf kind) asks
+  pub touched : touched_by asks ≤ most
 
 -- the bytes of accesses, one after another
 abbrev pub payload_of : List (Ask × List ℕ) → List ℕ
@@ -72,3 +85,13 @@ abbrev pub CanWrite : {S : Type 0} (sight : S → Sight) (judges touches : S →
 CanWrite sight judges touches s [] = Unit {0}
 CanWrite sight judges touches s (x ∷ xs) =
     (judges s x.0 × touches s x.0 × IsGranted (sight s) x.0 × IsWrite x) × CanWrite sight judges touches s xs
+
+-- accesses that write by these asks, each with as many bytes as it touches
+pub record AreWritesFor (asks : List Ask) (writes : List (Ask × List ℕ)) : Type 0 where
+  pub each : AllByRecursion IsWrite writes
+  pub by : asks_of writes ≡ asks
+
+-- what is known of the keys that may end stays as it was
+pub record KeepsKeys {S : Type 0} (sight : S → Sight) (may_end : S → Invalidation → Type 0) (before after : S) : Type 0 where
+  pub ends : (i : Invalidation) → may_end before i → may_end after i
+  pub refusal : (i : Invalidation) → (sight after).refusal i ≡ (sight before).refusal i

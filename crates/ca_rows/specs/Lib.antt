@@ -1,3 +1,4 @@
 pub mod Asks
-pub mod Done
+pub mod Made
 pub mod Flush
+pub mod Reading

@@ -1,8 +1,7 @@
 ghost use Rattle.std.specs.Prelude.{◌≡◌, IfNone};
 ghost use Rattle.std.specs.List.{AllByRecursion};
 ghost use Rattle.ca_base.specs.Sight as sights;
-ghost use Rattle.ca_grant.specs.Reaching.{IsPacketAsk};
-ghost use Rattle.ca_rows.specs.Asks.{IsGranted};
+ghost use Rattle.ca_rows.specs.Asks.{CanJudge, IsGranted};
 
 use ca_base::{Ask, Denial};
 use ca_grant::Reach;
@@ -27,8 +26,7 @@ impl Model for DeniedAsk {
 
 /// The first ask that is denied. None comes exactly where all are allowed.
 pub fn first_denied<R: Reach>(reach: &R, asks: &[Ask]) -> Option<DeniedAsk>
-    requires keys { AllByRecursion (R.judges reach.now) asks.now }
-    requires packet { AllByRecursion IsPacketAsk asks.now }
+    requires { CanJudge R.judges reach.now asks.now }
     ensures first { result ≡ sights.first_denied (R.sight reach.now) asks.now }
     ensures allowed { IfNone result (AllByRecursion (IsGranted (R.sight reach.now)) asks.now) }
 {

@@ -1,21 +1,20 @@
-ghost use Rattle.std.specs.Prelude.{◌≡◌, ◌≤◌, ◌+◌, ◌++◌};
+ghost use Rattle.std.specs.Prelude.{◌≡◌, ◌≤◌};
 ghost use Rattle.ca_base.specs.declared.completion.WcStatus.{WcStatus};
 ghost use Rattle.ca_model.specs.Requests.{list_of};
 ghost use Rattle.ca_model.specs.machine.Completions as completions;
 ghost use Rattle.ca_model.specs.machine.Invariants.{IsList};
 ghost use Rattle.ca_model.specs.machine.Requester as requester;
+ghost use Rattle.ca_rows.specs.Made.{AreAdded};
 
 use crate::asks::DeniedAsk;
 use crate::list::list_length;
 use crate::operations::operation_of;
 use crate::reads::local_mark;
+use ca_base::limits::ATOMIC_BYTES;
 use ca_base::{
     Completion, Key, OpRefusal, QueueId, RecvRequest, SendOp, SendRequest, Verdict, WcOp, WcStatus,
 };
 use ca_model::{Mark, Marks};
-
-/// How many bytes an atomic reaches, and its answer brings.
-const ATOMIC_BYTES: u32 = 8;
 
 /// The completion of the send request at a place. With an error it tells of no bytes.
 pub fn send_completion(
@@ -56,8 +55,7 @@ fn bytes_of_success(op: &SendOp) -> u32
 pub fn push_success(queue: QueueId, place: u64, request: &SendRequest, marks: &mut Marks)
     requires list { IsList (list_of request.now.op) }
     requires room { 1 ≤ marks.old.room }
-    ensures marks { marks.new.marks ≡ marks.old.marks ++ completions.success_marks queue place request.now }
-    ensures room { marks.old.room ≤ marks.new.room + 1 }
+    ensures { AreAdded (completions.success_marks queue place request.now) marks.old marks.new }
 {
     if request.signalled {
         let bytes = bytes_of_success(&request.op);

@@ -23,10 +23,10 @@ pub use completions::{
     failure_mark, local_denial, push_success, receive_failure, receive_mark, send_completion,
 };
 pub use flush::{push_flushed, push_flushed_receives, push_flushed_sends};
-pub use list::{fill_asks, list_asks, list_length};
+pub use list::{Asker, fill_asks, list_asks, list_length};
 pub use operations::{
     is_answered, is_atomic, is_local, is_read, list_of, operation_of, psns_of, segments,
 };
 pub use packets::{peer_number, psn_bits, spell_packet};
-pub use reads::{join, keep_marks, read_granted};
+pub use reads::{join, read_granted};
 pub use writes::{cut_writes, write_all};

@@ -1,13 +1,20 @@
 ghost use Rattle.std.specs.Prelude.{◌≡◌, ◌+◌, ◌≤◌, ◌++◌, [], length};
-ghost use Rattle.std.specs.List.{AllByRecursion};
 ghost use Rattle.ca_base.specs.declared.limits.TheConstants.{MAX_MESSAGE_BYTES, MAX_PAYLOAD_BYTES, MAX_PIECES};
 ghost use Rattle.ca_model.specs.Requests as requests;
 ghost use Rattle.ca_model.specs.machine.Numbering as numbering;
-ghost use Rattle.ca_rows.specs.Asks.{IsAskOf, touched_by};
+ghost use Rattle.ca_rows.specs.Asks.{AreAsksFor};
 
 use arrayvec::ArrayVec;
 use ca_base::limits::MAX_PIECES;
 use ca_base::{Ask, DomainId, Kind, Piece, QueueId};
+
+/// Who asks for the bytes of a list, and for which kind of access.
+#[derive(Clone, Copy)]
+pub struct Asker {
+    pub queue: QueueId,
+    pub domain: DomainId,
+    pub kind: Kind,
+}
 
 /// The bytes of a list, which are no more than a message may have.
 #[tactic(auto, using(crate::proofs::ListLemmas::longer_list))]
@@ -23,31 +30,21 @@ pub fn list_length(list: &[Piece]) -> u32
 
 /// The asks of a queue pair for so many bytes of a list, without so many at its front, one a piece. An ask is for at most
 /// a packet's bytes.
-pub fn list_asks(
-    queue: QueueId,
-    domain: DomainId,
-    kind: Kind,
-    skip: u32,
-    count: u32,
-    list: &[Piece],
-) -> ArrayVec<Ask, MAX_PIECES>
+pub fn list_asks(asker: Asker, skip: u32, count: u32, list: &[Piece]) -> ArrayVec<Ask, MAX_PIECES>
     requires few { length list.now ≤ MAX_PIECES }
     requires packet { count ≤ MAX_PAYLOAD_BYTES }
-    ensures value { result.items ≡ numbering.list_asks queue domain kind skip count list.now }
-    ensures touched { touched_by result.items ≤ count }
-    ensures asks { AllByRecursion (IsAskOf kind) result.items }
+    ensures value { result.items ≡ numbering.list_asks asker.queue asker.domain asker.kind skip count list.now }
+    ensures asks { AreAsksFor asker.kind count result.items }
 {
     let mut asks = ArrayVec::new();
-    fill_asks(queue, domain, kind, skip, count, list, &mut asks);
+    fill_asks(asker, skip, count, list, &mut asks);
     asks
 }
 
 /// Puts these asks into a list of the caller's, which is empty.
 #[tactic(auto, using(crate::proofs::ListLemmas::cut_touches, crate::proofs::ListLemmas::cut_are_asks))]
 pub fn fill_asks(
-    queue: QueueId,
-    domain: DomainId,
-    kind: Kind,
+    asker: Asker,
     skip: u32,
     count: u32,
     list: &[Piece],
@@ -56,58 +53,48 @@ pub fn fill_asks(
     requires empty { asks.old.items ≡ [] }
     requires few { length list.now ≤ MAX_PIECES }
     requires packet { count ≤ MAX_PAYLOAD_BYTES }
-    ensures value { asks.new.items ≡ numbering.list_asks queue domain kind skip count list.now }
-    ensures touched { touched_by asks.new.items ≤ count }
-    ensures asks { AllByRecursion (IsAskOf kind) asks.new.items }
+    ensures value { asks.new.items ≡ numbering.list_asks asker.queue asker.domain asker.kind skip count list.now }
+    ensures asks { AreAsksFor asker.kind count asks.new.items }
 {
-    push_asks(queue, domain, kind, skip, count, list, asks);
+    push_asks(asker, skip, count, list, asks);
 }
 
 /// Adds these asks to a list that has room for them.
 fn push_asks(
-    queue: QueueId,
-    domain: DomainId,
-    kind: Kind,
+    asker: Asker,
     skip: u32,
     count: u32,
     list: &[Piece],
     asks: &mut ArrayVec<Ask, MAX_PIECES>,
 )
     requires few { length asks.old.items + length list.now ≤ MAX_PIECES }
-    ensures { asks.new.items ≡ asks.old.items ++ numbering.list_asks queue domain kind skip count list.now }
+    ensures { asks.new.items ≡ asks.old.items ++ numbering.list_asks asker.queue asker.domain asker.kind skip count list.now }
 {
     let [piece, rest @ ..] = list else {
         return;
     };
     if piece.length <= skip {
         let skip = skip - piece.length;
-        return push_asks(queue, domain, kind, skip, count, rest, asks);
+        return push_asks(asker, skip, count, rest, asks);
     }
     if count == 0 {
         return;
     }
     let part = count.min(piece.length - skip);
-    asks.push(piece_ask(queue, domain, kind, piece, skip, part));
-    push_asks(queue, domain, kind, 0, count - part, rest, asks)
+    asks.push(piece_ask(asker, piece, skip, part));
+    push_asks(asker, 0, count - part, rest, asks)
 }
 
 /// The ask for a part of a piece, by its L_Key: so many bytes, without so many at its front. Addresses count modulo 2^64.
-fn piece_ask(
-    queue: QueueId,
-    domain: DomainId,
-    kind: Kind,
-    piece: &Piece,
-    skip: u32,
-    count: u32,
-) -> Ask
-    ensures { result ≡ numbering.piece_ask queue domain kind (numbering.piece_part piece.now skip count) }
+fn piece_ask(asker: Asker, piece: &Piece, skip: u32, count: u32) -> Ask
+    ensures { result ≡ numbering.piece_ask asker.queue asker.domain asker.kind (numbering.piece_part piece.now skip count) }
 {
     Ask {
-        queue,
-        domain,
+        queue: asker.queue,
+        domain: asker.domain,
         key: piece.key,
         local: true,
-        kind,
+        kind: asker.kind,
         address: piece.address.wrapping_add(u64::from(skip)),
         length: count,
         touch: count,

@@ -2,14 +2,12 @@ ghost use Rattle.std.specs.Prelude.{◌≡◌, ◌+◌, ◌<◌, ◌≤◌, ◌^
 ghost use Rattle.ca_model.specs.machine.Invariants.{IsQueue};
 ghost use Rattle.ca_model.specs.machine.Requester as requester;
 ghost use Rattle.ca_packet.specs.Packet.{IsWellFormed, fields_of, spelling};
-ghost use Rattle.ca_packet.specs.declared.packet.TheConstants.{MAX_PACKET_BYTES};
+ghost use Rattle.ca_rows.specs.Made.{IsSpelt};
 
 use ca_base::Memory;
+use ca_base::limits::PSN_BASE;
 use ca_qpstate::QueuePart;
 use ca_wire::{Packet, encode, spelling_length};
-
-/// How many PSNs there are: a packet carries 24 bits of a whole number.
-const PSNS: u64 = 0x100_0000;
 
 /// The number of the peer, which the queue pair's packets name as their destination.
 pub fn peer_number(q: &QueuePart) -> u32
@@ -28,15 +26,14 @@ pub fn psn_bits(psn: u64) -> u32
     ensures value { result ≡ requester.psn_bits psn }
     ensures narrow { result < 2 ^ 24 }
 {
-    (psn % PSNS) as u32
+    (psn % PSN_BASE) as u32
 }
 
 /// Adds the bytes that spell a packet, at most 4128.
 #[inline(always)]
 pub fn spell_packet(packet: &Packet<'_>, out: &mut Vec<u8>) -> Result<(), Memory>
     requires { IsWellFormed (fields_of packet.now) }
-    ensures spelt { OnOk result (out.new.items ≡ out.old.items ++ spelling (fields_of packet.now)) }
-    ensures size { OnOk result (length out.new.items ≤ length out.old.items + MAX_PACKET_BYTES) }
+    ensures spelt { OnOk result (IsSpelt (spelling (fields_of packet.now)) out.old.items out.new.items) }
     ensures err { OnErr result (out.new.items ≡ out.old.items) }
 {
     spelling_length();

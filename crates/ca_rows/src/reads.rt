@@ -1,18 +1,16 @@
-ghost use Rattle.std.specs.Prelude.{◌≡◌, ◌+◌, ◌≤◌, ◌<◌, [], ◌∷◌, ◌++◌, true, false, is_some, None, IfOk, OnOk, OnErr, length, take};
+ghost use Rattle.std.specs.Prelude.{◌≡◌, ◌+◌, ◌≤◌, ◌<◌, [], ◌++◌, None, IfOk, OnOk, length};
 ghost use Rattle.std.specs.List.{AllByRecursion};
-ghost use Rattle.ca_base.specs.Sight.{bytes_in, denial_in};
-ghost use Rattle.ca_base.specs.Sight as sights;
+ghost use Rattle.ca_base.specs.Sight.{denial_in};
 ghost use Rattle.ca_keys.specs.declared.access.Kind.{Kind};
-ghost use Rattle.ca_keys.specs.declared.verdict.Verdict.TheVariants as verdicts;
-ghost use Rattle.ca_grant.specs.Reaching.{IsPacketAsk};
-ghost use Rattle.ca_rows.specs.Asks.{AreBytesAtHand, IsAskOf, bytes_read, mark_of, payload_of, read_in, read_marks, reads_by, touched_by};
+ghost use Rattle.ca_grant.specs.Reaching.{AreAtHand};
+ghost use Rattle.ca_rows.specs.Asks.{AreBytesAtHand, IsAskOf, bytes_read, mark_of, read_in};
+ghost use Rattle.ca_rows.specs.Reading.{IsReading, IsReadingOne};
 
 use crate::asks::first_denied;
 use ca_base::{Ask, Memory, Verdict};
 use ca_grant::Reach;
 use ca_model::{Mark, Marks};
 use std::alloc::Global;
-use std::mem;
 
 /// Reads what each of these asks touches, and adds a mark for each, in the spare room: true comes exactly where none of
 /// them is denied. Where one is, and where memory ends, some of the marks stand behind those that there were. One ask
@@ -25,18 +23,10 @@ pub fn read_granted<R: Reach>(
     asks: &[Ask],
     marks: &mut Marks,
 ) -> Result<bool, Memory>
-    requires keys { AllByRecursion (R.judges reach.old) asks.now }
-    requires bytes { sights.first_denied (R.sight reach.old) asks.now ≡ None → AllByRecursion (R.touches reach.old) asks.now }
+    requires at_hand { AreAtHand R.sight R.judges R.touches reach.old asks.now }
     requires reads { AllByRecursion (IsAskOf Kind.Read) asks.now }
-    requires packet { AllByRecursion IsPacketAsk asks.now }
     requires room { length asks.now ≤ marks.old.room }
-    ensures granted { IfOk result (λ granted. granted ≡ true → sights.first_denied (R.sight reach.old) asks.now ≡ None) }
-    ensures denied { IfOk result (λ granted. granted ≡ false → is_some (sights.first_denied (R.sight reach.old) asks.now) ≡ true) }
-    ensures marks { IfOk result (λ granted. granted ≡ true → marks.new.marks ≡ marks.old.marks ++ read_marks (reads_by (R.sight reach.old) asks.now)) }
-    ensures room { OnOk result (marks.old.room ≤ marks.new.room + length asks.now) }
-    ensures front { IfOk result (λ granted. granted ≡ false → take (length marks.old.marks) marks.new.marks ≡ marks.old.marks) }
-    ensures err { OnErr result (take (length marks.old.marks) marks.new.marks ≡ marks.old.marks) }
-    ensures count { IfOk result (λ granted. granted ≡ true → length (payload_of (reads_by (R.sight reach.old) asks.now)) ≡ touched_by asks.now) }
+    ensures read { IsReading (R.sight reach.old) asks.now result marks.old marks.new }
     ensures same { reach.new ≡ reach.old }
 {
     if asks.len() > 1 && first_denied(reach, asks).is_some() {
@@ -58,13 +48,7 @@ fn read_until_denied<R: Reach>(
     requires bytes { AllByRecursion (AreBytesAtHand (R.sight reach.old) (R.touches reach.old)) asks.now }
     requires reads { AllByRecursion (IsAskOf Kind.Read) asks.now }
     requires room { length asks.now ≤ marks.old.room }
-    ensures granted { IfOk result (λ granted. granted ≡ true → sights.first_denied (R.sight reach.old) asks.now ≡ None) }
-    ensures denied { IfOk result (λ granted. granted ≡ false → is_some (sights.first_denied (R.sight reach.old) asks.now) ≡ true) }
-    ensures marks { IfOk result (λ granted. granted ≡ true → marks.new.marks ≡ marks.old.marks ++ read_marks (reads_by (R.sight reach.old) asks.now)) }
-    ensures room { OnOk result (marks.old.room ≤ marks.new.room + length asks.now) }
-    ensures front { IfOk result (λ granted. granted ≡ false → take (length marks.old.marks) marks.new.marks ≡ marks.old.marks) }
-    ensures err { OnErr result (take (length marks.old.marks) marks.new.marks ≡ marks.old.marks) }
-    ensures count { IfOk result (λ granted. granted ≡ true → length (payload_of (reads_by (R.sight reach.old) asks.now)) ≡ touched_by asks.now) }
+    ensures read { IsReading (R.sight reach.old) asks.now result marks.old marks.new }
     ensures same { reach.new ≡ reach.old }
 {
     for ask in asks {
@@ -87,13 +71,7 @@ fn read_piece<R: Reach>(
     requires bytes { denial_in (R.sight reach.old) ask.now ≡ None → R.touches reach.old ask.now }
     requires reads { IsAskOf Kind.Read ask.now }
     requires room { 0 < marks.old.room }
-    ensures granted { IfOk result (λ granted. granted ≡ true → denial_in (R.sight reach.old) ask.now ≡ None) }
-    ensures denied { IfOk result (λ granted. granted ≡ false → is_some (denial_in (R.sight reach.old) ask.now) ≡ true) }
-    ensures marks { IfOk result (λ granted. granted ≡ true → marks.new.marks ≡ marks.old.marks ++ mark_of ask.now (verdicts.Read (bytes_in (R.sight reach.old) ask.now)) ∷ []) }
-    ensures none { IfOk result (λ granted. granted ≡ false → marks.new.marks ≡ marks.old.marks) }
-    ensures room { OnOk result (marks.old.room ≤ marks.new.room + 1) }
-    ensures err { OnErr result (marks.new.marks ≡ marks.old.marks) }
-    ensures count { IfOk result (λ granted. granted ≡ true → length (bytes_in (R.sight reach.old) ask.now) ≡ ask.now.touch) }
+    ensures read { IsReadingOne (R.sight reach.old) ask.now result marks.old marks.new }
     ensures same { reach.new ≡ reach.old }
 {
     let verdict = reach.read(alloc, ask)?;
@@ -102,15 +80,6 @@ fn read_piece<R: Reach>(
     }
     marks.push(local_mark(ask, verdict));
     Ok(true)
-}
-
-/// Keeps so many of the marks, the first ones. It takes no memory.
-pub fn keep_marks(alloc: Global, marks: &mut Marks, count: usize)
-    ensures { marks.new.marks ≡ take count marks.old.marks }
-{
-    let mut items = mem::replace(marks, Marks::empty(alloc)).into_vec();
-    items.truncate(count);
-    *marks = Marks::from(items);
 }
 
 /// The bytes that were read, as their marks have them, one after another: those of one access lie together already, and

@@ -3,9 +3,8 @@ ghost use Rattle.std.specs.List.{AllByRecursion};
 ghost use Rattle.ca_keys.specs.declared.access.Kind.{Kind};
 ghost use Rattle.ca_model.specs.machine.Responses as responses;
 ghost use Rattle.std.specs.Vec.Iter.{into_iter_items};
-ghost use Rattle.ca_base.specs.Sight.{Invalidation};
-ghost use Rattle.ca_rows.specs.Asks.{CanWrite, IsAskOf, IsWrite, asks_of, touched_by};
-ghost use Rattle.ca_rows.specs.Done.{written_all};
+ghost use Rattle.ca_rows.specs.Asks.{AreWritesFor, CanWrite, IsAskOf, KeepsKeys, touched_by};
+ghost use Rattle.ca_rows.specs.Made.{AreAdded, written_all};
 
 use crate::reads::local_mark;
 use ca_base::{Ask, Bytes, Memory};
@@ -20,8 +19,7 @@ pub fn cut_writes(alloc: Global, asks: &[Ask], bytes: &[u8]) -> Result<Vec<(Ask,
     requires asks { AllByRecursion (IsAskOf Kind.Write) asks.now }
     requires enough { touched_by asks.now ≤ length bytes.now }
     ensures value { IfOk result (λ writes. writes.items ≡ responses.writes_by asks.now bytes.now) }
-    ensures writes { IfOk result (λ writes. AllByRecursion IsWrite writes.items) }
-    ensures asks { IfOk result (λ writes. asks_of writes.items ≡ asks.now) }
+    ensures writes { IfOk result (λ writes. AreWritesFor asks.now writes.items) }
 {
     let mut writes = Vec::with_capacity(alloc, asks.len())?;
     push_writes(alloc, asks, bytes, &mut writes)?;
@@ -51,10 +49,8 @@ pub fn write_all<R: Reach>(reach: &mut R, writes: Vec<(Ask, Bytes)>, marks: &mut
     requires can { CanWrite R.sight R.judges R.touches reach.old writes.items }
     requires room { length writes.items ≤ marks.old.room }
     ensures wrote { reach.new ≡ written_all R.written reach.old writes.items }
-    ensures marks { marks.new.marks ≡ marks.old.marks ++ responses.local_writes writes.items }
-    ensures room { marks.old.room ≤ marks.new.room + length writes.items }
-    ensures ends { (i : Invalidation) → R.ends reach.old i → R.ends reach.new i }
-    ensures refusal { (i : Invalidation) → (R.sight reach.new).refusal i ≡ (R.sight reach.old).refusal i }
+    ensures marks { AreAdded (responses.local_writes writes.items) marks.old marks.new }
+    ensures keys { KeepsKeys R.sight R.ends reach.old reach.new }
 {
     write_rest(reach, writes.into_iter(), marks)
 }
@@ -64,10 +60,8 @@ fn write_rest<R: Reach>(reach: &mut R, mut writes: IntoIter<(Ask, Bytes)>, marks
     requires can { CanWrite R.sight R.judges R.touches reach.old (into_iter_items writes) }
     requires room { length (into_iter_items writes) ≤ marks.old.room }
     ensures wrote { reach.new ≡ written_all R.written reach.old (into_iter_items writes) }
-    ensures marks { marks.new.marks ≡ marks.old.marks ++ responses.local_writes (into_iter_items writes) }
-    ensures room { marks.old.room ≤ marks.new.room + length (into_iter_items writes) }
-    ensures ends { (i : Invalidation) → R.ends reach.old i → R.ends reach.new i }
-    ensures refusal { (i : Invalidation) → (R.sight reach.new).refusal i ≡ (R.sight reach.old).refusal i }
+    ensures marks { AreAdded (responses.local_writes (into_iter_items writes)) marks.old marks.new }
+    ensures keys { KeepsKeys R.sight R.ends reach.old reach.new }
 {
     let Some((ask, bytes)) = writes.next() else {
         return;

@@ -4,8 +4,11 @@ use Rattle.ca_packet.specs.Packet.{fields_of, spelling}
 use Rattle.ca_rows.proofs.PacketLemmas.{longer}
 use Rattle.ca_rows.proofs.packets.spell_packet.Goals as goal
 
-pub returns-clause-size : goal.returns-clause-size
-returns-clause-size c = on_ok_weaker c.encode.result
-    (λ h. longer c.encode.new.out.items c.args.out.now.items (spelling (fields_of c.args.packet.now)) MAX_PACKET_BYTES h
-    (c.spelling_length.ensures.most (fields_of c.args.packet.now) c.requires))
+pub returns-clause-spelt : goal.returns-clause-spelt
+returns-clause-spelt c = on_ok_weaker c.encode.result
+    (λ h. record {
+      spelt = h;
+      size = longer c.encode.new.out.items c.args.out.now.items (spelling (fields_of c.args.packet.now)) MAX_PACKET_BYTES h
+          (c.spelling_length.ensures.most (fields_of c.args.packet.now) c.requires);
+    })
     c.encode.ensures.ok
