@@ -1,15 +1,9 @@
 ghost use Rattle.std.specs.Prelude.{◌≡◌};
 ghost use Rattle.ca_base.specs.objects.QueuePair as objects;
 
-use ca_base::limits::MIN_PATH_MTU;
+use ca_base::limits::{MIN_PATH_MTU, PSN_BASE};
 use ca_base::{Answers, RequesterNumbers, ResponderNumbers};
 use std::alloc::Global;
-
-/// How many PSNs there are: a PSN has 24 bits.
-pub const PSN_COUNT: u32 = 0x100_0000;
-
-/// The whole number of the first PSN 0, so that there are numbers before the first.
-pub const PSN_BASE: u64 = PSN_COUNT as u64;
 
 /// A requester that sent nothing, of a slot in which so many timers fired.
 pub fn requester_at_start(timers: u64) -> RequesterNumbers

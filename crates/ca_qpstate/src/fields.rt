@@ -8,8 +8,7 @@ ghost use Rattle.ca_base.specs.declared.change.Change.TheVariants as changes;
 ghost use Rattle.ca_model.specs.machine.Invariants.{NamesPeer};
 ghost use Rattle.ca_qpstate.specs.Fields.{refusal_of_fields};
 
-use crate::at_start::PSN_COUNT;
-use ca_base::limits::{MAX_READS, MAX_RETRY, MAX_RNR_CODE};
+use ca_base::limits::{MAX_READS, MAX_RETRY, MAX_RNR_CODE, PSN_COUNT};
 use ca_base::{Change, Config, Field, ModifyRefusal, QueueId};
 
 /// Whether a queue pair's number, which is at least 256, is that of a slot of an adapter of so many domains, each with

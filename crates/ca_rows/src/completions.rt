@@ -5,17 +5,15 @@ ghost use Rattle.ca_model.specs.machine.Completions as completions;
 ghost use Rattle.ca_model.specs.machine.Invariants.{IsList};
 ghost use Rattle.ca_model.specs.machine.Requester as requester;
 
-use crate::asks::DeniedAsk;
 use crate::list::list_length;
 use crate::operations::operation_of;
 use crate::reads::local_mark;
+use ca_base::limits::ATOMIC_BYTES;
 use ca_base::{
-    Completion, Key, OpRefusal, QueueId, RecvRequest, SendOp, SendRequest, Verdict, WcOp, WcStatus,
+    Completion, DeniedAsk, Key, OpRefusal, QueueId, RecvRequest, SendOp, SendRequest, Verdict,
+    WcOp, WcStatus,
 };
 use ca_model::{Mark, Marks};
-
-/// How many bytes an atomic reaches, and its answer brings.
-const ATOMIC_BYTES: u32 = 8;
 
 /// The completion of the send request at a place. With an error it tells of no bytes.
 pub fn send_completion(

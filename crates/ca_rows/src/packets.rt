@@ -6,11 +6,9 @@ ghost use Rattle.ca_packet.specs.Packet.{IsWellFormed, fields_of, spelling};
 ghost use Rattle.ca_packet.specs.declared.packet.TheConstants.{MAX_PACKET_BYTES};
 
 use ca_base::Memory;
+use ca_base::limits::PSN_COUNT;
 use ca_qpstate::QueuePart;
 use ca_wire::{Packet, encode, spelling_length};
-
-/// How many PSNs there are: a packet carries 24 bits of a whole number.
-const PSNS: u64 = 0x100_0000;
 
 /// The number of the peer, which the queue pair's packets name as their destination.
 pub fn peer_number(q: &QueuePart) -> u32
@@ -29,7 +27,7 @@ pub fn psn_bits(psn: u64) -> u32
     ensures value { result ≡ requester.psn_bits psn }
     ensures narrow { result < 2 ^ 24 }
 {
-    (psn % PSNS) as u32
+    (psn % u64::from(PSN_COUNT)) as u32
 }
 
 /// Adds the bytes that spell a packet, at most 4128.
