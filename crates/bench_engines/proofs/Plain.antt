@@ -1,7 +1,8 @@
 -- A request without a key to end ends none.
 use Rattle.std.proofs.Common.{◌≡◌, ℕ, ◌+◌, Bool, true, false, if◌then◌else◌, ◌&&◌, nat_lt, refl, Option, None, Some, is_none, length}
 use Rattle.ca_base.specs.objects.QueuePair.{QueuePair}
-use Rattle.ca_base.specs.objects.SharedReceives.{PlacedReceive, SharedReceives}
+use Rattle.ca_base.specs.declared.request.PlacedReceive.{PlacedReceive}
+use Rattle.ca_base.specs.objects.SharedReceives.{SharedReceives}
 use Rattle.ca_psn.specs.Psn.{widened}
 use Rattle.ca_packet.specs.Packet.{Fields}
 use Rattle.ca_packet.specs.declared.atomic_eth.AtomicEth.{AtomicEth}
@@ -14,7 +15,9 @@ use Rattle.ca_model.specs.Requests.{list_length}
 use Rattle.ca_model.specs.machine.Arrivals.{next_receive, refusal_effects, with_flag}
 use Rattle.ca_model.specs.machine.Delivery.{packet_arrived}
 use Rattle.ca_model.specs.machine.Duplicates.{request_row}
-use Rattle.ca_model.specs.machine.Expected.{Receiving, WriteReach, atomic_row, expected_row, invalidation_of, is_invalid, read_queued, receiving_of, send_row, takes_receive, valid_row, write_reach, write_row}
+use Rattle.ca_model.specs.declared.receiving.Receiving.{Receiving}
+use Rattle.ca_model.specs.declared.write_reach.WriteReach.{WriteReach}
+use Rattle.ca_model.specs.machine.Expected.{atomic_row, expected_row, invalidation_of, is_invalid, read_queued, receiving_of, send_row, takes_receive, valid_row, write_reach, write_row}
 use Rattle.ca_model.specs.machine.Responses.{drop_effects}
 use Rattle.ca_model.specs.machine.Row.{Row, Does, plain_row}
 use Rattle.ca_model.specs.machine.Shapes.{Shape, SendAt, WriteAt, ReadRequest, Atomic, shape_of}

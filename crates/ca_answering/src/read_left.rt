@@ -4,52 +4,10 @@ ghost use Rattle.ca_model.specs.machine.Invariants.{IsQueue};
 ghost use Rattle.ca_model.specs.machine.Respond as rows;
 
 use ca_arrivals::packet_ask;
-use ca_base::{Ask, Key, Kind, Queued};
+use ca_base::{Ask, Kind, Queued};
+use ca_model::ReadLeft;
 use ca_qpstate::QueuePart;
 use ca_wire::Segment;
-use std::marker::Model;
-
-/// What is left of a READ that waits to be answered.
-#[derive(Clone, Copy)]
-pub struct ReadLeft {
-    /// The PSN of its next response.
-    pub psn: u64,
-    pub key: Key,
-    pub address: u64,
-    /// The bytes that are left.
-    pub left: u32,
-    /// Whether no response was sent yet.
-    pub first: bool,
-    /// The envelope of its request.
-    pub envelope: Option<u64>,
-    pub duplicate: bool,
-}
-
-impl Model for ReadLeft {
-    ghost use Rattle.ca_model.specs.machine.Respond.{ReadLeft};
-
-    ghost Value = { ReadLeft };
-
-    ghost view = { λ r. record {
-      psn = r.psn;
-      key = r.key;
-      address = r.address;
-      left = r.left;
-      first = r.first;
-      envelope = r.envelope;
-      duplicate = r.duplicate;
-    } };
-
-    ghost inverse = { λ r. record {
-      psn = r.psn;
-      key = r.key;
-      address = r.address;
-      left = r.left;
-      first = r.first;
-      envelope = r.envelope;
-      duplicate = r.duplicate;
-    } };
-}
 
 /// The bytes of its next response: at most the path MTU.
 pub fn response_length(q: &QueuePart, r: &ReadLeft) -> u32

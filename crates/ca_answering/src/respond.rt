@@ -18,11 +18,11 @@ ghost use Rattle.ca_packet.specs.declared.packet.TheConstants.{MAX_PACKET_BYTES}
 ghost use Rattle.ca_packet.specs.Packet.{IsWellFormed, fields_of, spelling};
 
 use crate::answer::next_answer;
-use crate::read_left::{ReadLeft, is_last_response, response_ask, response_segment, rest_of};
+use crate::read_left::{is_last_response, response_ask, response_segment, rest_of};
 use ca_arrivals::{push_flush, remote_mark, reserve_for};
 use ca_base::{Ask, Bytes, Denial, Memory, Queued, Sent, StepError, Verdict};
 use ca_grant::Reach;
-use ca_model::Marks;
+use ca_model::{Marks, ReadLeft};
 use ca_qpstate::QueuePart;
 use ca_rows::{peer_number, psn_bits, spell_packet};
 use ca_wire::{NakCode, Packet, acknowledgement, atomic_acknowledge, nak, read_response, rnr_nak};

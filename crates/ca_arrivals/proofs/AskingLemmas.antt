@@ -7,12 +7,14 @@ use Rattle.ca_base.specs.declared.queue_numbers.Message.{Message}
 use Rattle.ca_base.specs.declared.queue_numbers.Message.TheVariants as messages
 use Rattle.ca_base.specs.declared.request.RecvRequest.{RecvRequest}
 use Rattle.ca_base.specs.objects.QueuePair.{QueuePair}
-use Rattle.ca_base.specs.objects.SharedReceives.{PlacedReceive, SharedReceives}
+use Rattle.ca_base.specs.declared.request.PlacedReceive.{PlacedReceive}
+use Rattle.ca_base.specs.objects.SharedReceives.{SharedReceives}
 use Rattle.ca_packet.specs.Packet.{Fields}
 use Rattle.ca_wire.specs.declared.segment.Position.{Position}
 use Rattle.ca_model.specs.Requests.{list_length}
 use Rattle.ca_model.specs.machine.Arrivals.{next_receive, refusal_effects, with_flag}
-use Rattle.ca_model.specs.machine.Expected.{Receiving, expected_row, is_invalid, receiving_of, send_row, takes_receive, valid_row}
+use Rattle.ca_model.specs.declared.receiving.Receiving.{Receiving}
+use Rattle.ca_model.specs.machine.Expected.{expected_row, is_invalid, receiving_of, send_row, takes_receive, valid_row}
 use Rattle.ca_model.specs.machine.Row.{Row, plain_row, Does}
 use Rattle.ca_model.specs.machine.Shapes.{Shape, SendAt}
 use Rattle.ca_wire.specs.declared.syndrome.NakCode.TheVariants.{InvalidRequest}

@@ -6,10 +6,11 @@ use Rattle.ca_base.specs.declared.queue_numbers.Message.{Message}
 use Rattle.ca_base.specs.declared.queue_numbers.Message.TheVariants as messages
 use Rattle.ca_base.specs.declared.request.Piece.{Piece}
 use Rattle.ca_base.specs.objects.QueuePair.{QueuePair}
-use Rattle.ca_base.specs.objects.SharedReceives.{PlacedReceive}
+use Rattle.ca_base.specs.declared.request.PlacedReceive.{PlacedReceive}
 use Rattle.ca_packet.specs.Packet.{Fields}
 use Rattle.ca_model.specs.Requests.{list_length}
-use Rattle.ca_model.specs.machine.Expected.{Receiving, receiving_of}
+use Rattle.ca_model.specs.declared.receiving.Receiving.{Receiving}
+use Rattle.ca_model.specs.machine.Expected.{receiving_of}
 use Rattle.ca_model.specs.machine.Numbering.{list_asks}
 
 -- the asks for a packet's bytes in a receive's list, behind so many that came before, where they fit into it

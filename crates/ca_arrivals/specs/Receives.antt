@@ -1,9 +1,9 @@
 -- The receive that a packet takes, and when that waits in its queue. Contracts cite it.
 use Rattle.std.specs.Prelude.{◌≡◌, ◌<◌, Bool, true, false, Option, None, Some, IfSome}
 use Rattle.ca_base.specs.objects.QueuePair.{QueuePair}
-use Rattle.ca_base.specs.objects.SharedReceives.{PlacedReceive}
+use Rattle.ca_base.specs.declared.request.PlacedReceive.{PlacedReceive}
 use Rattle.ca_base.specs.objects.WorkQueue.{waiting_count}
-use Rattle.ca_model.specs.machine.Expected.{Receiving}
+use Rattle.ca_model.specs.declared.receiving.Receiving.{Receiving}
 
 -- the receive that a message would take waits in its queue
 abbrev pub CanTake : QueuePair → Option PlacedReceive → Type 0

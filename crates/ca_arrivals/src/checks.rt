@@ -9,11 +9,12 @@ ghost use Rattle.ca_model.specs.machine.Shapes as shapes;
 ghost use Rattle.ca_arrivals.specs.Shapes.{shape_seen};
 ghost use Rattle.ca_packet.specs.Packet.{fields_of};
 
-use crate::receive::{Placed, find_receive, next_receive};
+use crate::receive::{find_receive, next_receive};
 use crate::shape::Shape;
-use crate::writes::{WriteReach, write_reach};
+use crate::writes::write_reach;
 use ca_base::limits::{ATOMIC_BYTES, MAX_MESSAGE_BYTES, MAX_READS};
-use ca_base::{Memory, Message};
+use ca_base::{Memory, Message, PlacedReceive};
+use ca_model::WriteReach;
 use ca_qpstate::QueuePart;
 use ca_srq::Srq;
 use ca_wire::{Packet, Position};
@@ -173,7 +174,7 @@ pub fn taken_receive(
     srq: Option<&Srq>,
     p: &Packet<'_>,
     shape: Shape,
-) -> Result<Option<Placed>, Memory>
+) -> Result<Option<PlacedReceive>, Memory>
     requires queue { IsQueue q.now }
     requires shared { IfSome (option_copied srq) IsSharedReceives }
     ensures value { IfOk result (λ next. next ≡ receive_if (rows.takes_receive (fields_of p.now) (shape_seen shape))

@@ -9,13 +9,11 @@ ghost use Rattle.ca_base.specs.objects.QueuePair.{in_error};
 ghost use Rattle.ca_wire.specs.Syndrome.{nak_code};
 
 use crate::flush::{push_flush, reserve_for};
+use ca_base::limits::PSN_COUNT;
 use ca_base::{Memory, Queued};
 use ca_model::{Drop1, Mark, Marks};
 use ca_qpstate::QueuePart;
 use ca_wire::{NakCode, Packet};
-
-/// How many MSNs there are: messages accepted are counted modulo 2^24.
-const MSNS: u32 = 0x100_0000;
 
 /// Drops the packet, for this cause.
 pub fn drop_packet(q: &QueuePart, cause: Drop1, marks: &mut Marks) -> Result<(), Memory>
@@ -72,7 +70,7 @@ pub fn pass(q: &mut QueuePart, count: u64, at_end: bool)
     q.responder.nak_sent = false;
     q.responder.expected += count;
     if at_end {
-        q.responder.msn = (q.responder.msn + 1) % MSNS;
+        q.responder.msn = (q.responder.msn + 1) % PSN_COUNT;
     }
 }
 

@@ -15,44 +15,13 @@ ghost use Rattle.ca_arrivals.specs.Receives.{CanTake, MayTake};
 
 use arrayvec::ArrayVec;
 use ca_base::limits::MAX_PIECES;
-use ca_base::{Ask, Kind, Memory, Message, Piece, RecvRequest};
+use ca_base::{Ask, Kind, Memory, Message, Piece, PlacedReceive, RecvRequest};
+use ca_model::Receiving;
 use ca_qpstate::QueuePart;
 use ca_rows::{list_asks, list_length};
 use ca_srq::Srq;
 use ca_wire::Packet;
 use ca_workqueue::WorkQueue;
-use std::marker::Model;
-
-/// A receive with its posting place.
-#[derive(Drop)]
-pub struct Placed {
-    pub place: u64,
-    pub receive: RecvRequest,
-}
-
-impl Model for Placed {
-    ghost use Rattle.ca_base.specs.objects.SharedReceives.{PlacedReceive};
-
-    ghost Value = { PlacedReceive };
-
-    ghost view = { λ p. record { place = p.place; receive = p.receive } };
-}
-
-/// The receive of a SEND packet, how many bytes came into it before, and whether the packet takes it.
-#[derive(Drop)]
-pub struct Receiving {
-    pub receive: Placed,
-    pub before: u32,
-    pub taken: bool,
-}
-
-impl Model for Receiving {
-    ghost use Rattle.ca_model.specs.machine.Expected.{Receiving};
-
-    ghost Value = { Receiving };
-
-    ghost view = { λ r. record { receive = r.receive; before = r.before; taken = r.taken } };
-}
 
 /// The place of the next receive of a queue pair's own: those that wait stand at the end.
 pub fn next_place(receives: &WorkQueue<RecvRequest>) -> u64
@@ -98,7 +67,7 @@ fn next_receive_place(q: &QueuePart, srq: Option<&Srq>) -> Option<u64>
 }
 
 /// A copy of the receive that a message would take, with its place.
-pub fn find_receive(q: &QueuePart, srq: Option<&Srq>) -> Result<Option<Placed>, Memory>
+pub fn find_receive(q: &QueuePart, srq: Option<&Srq>) -> Result<Option<PlacedReceive>, Memory>
     requires queue { IsQueue q.now }
     requires shared { IfSome (option_copied srq) IsSharedReceives }
     ensures value { IfOk result (λ next. next ≡ arrivals.next_receive q.now (option_copied srq.entry)) }
@@ -110,13 +79,13 @@ pub fn find_receive(q: &QueuePart, srq: Option<&Srq>) -> Result<Option<Placed>, 
     };
     let receive = receive.clone()?;
     match next_receive_place(q, srq) {
-        Some(place) => Ok(Some(Placed { place, receive })),
+        Some(place) => Ok(Some(PlacedReceive { place, receive })),
         None => unreachable!(),
     }
 }
 
 /// The receive of a SEND packet: the next one where the message begins, and else that of the message in progress.
-pub fn receiving_of(q: &QueuePart, next: Option<Placed>) -> Result<Option<Receiving>, Memory>
+pub fn receiving_of(q: &QueuePart, next: Option<PlacedReceive>) -> Result<Option<Receiving>, Memory>
     requires queue { IsQueue q.now }
     requires next { IfSome next (λ r. IsReceive r.receive) }
     requires takes { CanTake q.now next }
@@ -133,7 +102,7 @@ pub fn receiving_of(q: &QueuePart, next: Option<Placed>) -> Result<Option<Receiv
     ) = &q.responder.message
     {
         return Ok(Some(Receiving {
-            receive: Placed {
+            receive: PlacedReceive {
                 place: *place,
                 receive: receive.clone()?,
             },

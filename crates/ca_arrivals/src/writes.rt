@@ -6,32 +6,10 @@ ghost use Rattle.ca_model.specs.machine.Expected as rows;
 ghost use Rattle.ca_packet.specs.Packet.{fields_of};
 
 use crate::remote::packet_ask;
-use ca_base::{Ask, Key, Kind, Message};
+use ca_base::{Ask, Kind, Message};
+use ca_model::WriteReach;
 use ca_qpstate::QueuePart;
 use ca_wire::Packet;
-use std::marker::Model;
-
-/// What a WRITE packet reaches.
-#[derive(Clone, Copy)]
-pub struct WriteReach {
-    pub key: Key,
-    /// Where it goes on.
-    pub address: u64,
-    /// The bytes of the message that are left.
-    pub left: u32,
-    /// The bytes of the whole message.
-    pub whole: u32,
-}
-
-impl Model for WriteReach {
-    ghost use Rattle.ca_model.specs.machine.Expected.{WriteReach};
-
-    ghost Value = { WriteReach };
-
-    ghost view = { λ r. record { key = r.key; address = r.address; left = r.left; whole = r.whole } };
-
-    ghost inverse = { λ r. record { key = r.key; address = r.address; left = r.left; whole = r.whole } };
-}
 
 /// What a WRITE packet reaches: one that begins a WRITE has it in its RETH, and one that goes on in the message in
 /// progress. None comes exactly where there is neither.

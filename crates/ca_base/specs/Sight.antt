@@ -8,6 +8,7 @@ use Rattle.ca_keys.specs.declared.grant.Grant.{Grant}
 use Rattle.ca_keys.specs.declared.key.Key.{Key}
 use Rattle.ca_keys.specs.declared.names.DomainId.{DomainId}
 use Rattle.ca_keys.specs.declared.names.QueueId.{QueueId}
+use Rattle.ca_base.specs.declared.denied_ask.DeniedAsk.{DeniedAsk}
 use Rattle.ca_keys.specs.declared.place.Run.{Run}
 use Rattle.ca_base.specs.declared.refusals.OpRefusal.{OpRefusal}
 use Rattle.ca_keys.specs.Allowed.{denial_under}
@@ -24,11 +25,6 @@ pub record Sight : Type 0 where
   pub grant : Ask → Option Grant
   pub byte : ByteMap
   pub refusal : Invalidation → Option OpRefusal
-
--- an ask that is denied, and the part of the key check that fails
-pub record DeniedAsk : Type 0 where
-  pub ask : Ask
-  pub denial : Denial
 
 -- the part that fails for an ask which goes by this grant; an access of no bytes is allowed
 abbrev pub denial_by_grant : Ask → Option Grant → Option Denial

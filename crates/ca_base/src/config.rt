@@ -1,13 +1,14 @@
 ghost use Rattle.std.specs.Prelude.{◌≡◌, ◌+◌, ◌*◌, ◌^◌, ◌<◌};
 ghost use Rattle.ca_base.specs.Configuration as configuration;
 
+use crate::limits::{MAX_ADAPTERS, MAX_BUFFERS};
 use arrayvec::ArrayVec;
 
 /// How many of each thing an adapter has: the bytes of each buffer, its domains, and in each domain the slots of
 /// regions, windows, completion queues, shared receive queues and queue pairs.
 #[derive(Clone, Default, Drop)]
 pub struct AdapterConfig {
-    pub buffers: ArrayVec<u32, 16>,
+    pub buffers: ArrayVec<u32, MAX_BUFFERS>,
     pub domains: u8,
     pub regions: u16,
     pub windows: u16,
@@ -19,7 +20,7 @@ pub struct AdapterConfig {
 /// The adapters of a fabric, and how many events it may make.
 #[derive(Clone, Drop)]
 pub struct Config {
-    pub adapters: ArrayVec<AdapterConfig, 8>,
+    pub adapters: ArrayVec<AdapterConfig, MAX_ADAPTERS>,
     pub events: u32,
 }
 

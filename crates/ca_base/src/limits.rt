@@ -1,11 +1,11 @@
 /// The most adapters that stand in one process.
-pub const MAX_ADAPTERS: u8 = 8;
+pub const MAX_ADAPTERS: usize = 8;
 
 /// The most protection domains of an adapter.
 pub const MAX_DOMAINS: u8 = 16;
 
 /// The most buffers of an adapter.
-pub const MAX_BUFFERS: u16 = 16;
+pub const MAX_BUFFERS: usize = 16;
 
 /// The most bytes of a buffer.
 pub const MAX_BUFFER_BYTES: u32 = 1_048_576;
@@ -44,13 +44,19 @@ pub const MIN_PATH_MTU: u32 = 256;
 pub const MAX_MESSAGE_PACKETS: u32 = 4096;
 
 /// The most requests of a send, a receive or a shared receive queue.
-pub const MAX_DEPTH: u16 = 256;
+pub const MAX_DEPTH: usize = 256;
 
 /// The most completions that a completion queue holds.
 pub const MAX_CAPACITY: u16 = 4096;
 
 /// The most completions that one poll takes.
-pub const MAX_POLLED: u8 = 16;
+pub const MAX_POLLED: usize = 16;
+
+/// How many PSNs there are, which count modulo this. MSNs and the numbers of queue pairs have 24 bits too.
+pub const PSN_COUNT: u32 = 0x100_0000;
+
+/// The whole number of PSN 0, so that there are numbers before the first.
+pub const PSN_BASE: u64 = PSN_COUNT as u64;
 
 /// The most PSNs that a queue pair has outstanding.
 pub const MAX_OUTSTANDING_PSNS: u32 = 8192;
@@ -114,9 +120,3 @@ pub const MAX_PASSES: u64 = 4_294_967_296;
 
 /// The stamp from which on each pass number has at most one stamp more.
 pub const LATE_STAMP: u64 = 9_223_372_036_854_775_808;
-
-/// How many PSNs there are: a PSN has 24 bits. So have an MSN and the number of a queue pair.
-pub const PSN_COUNT: u32 = 0x100_0000;
-
-/// The whole number of the first PSN 0, so that there are numbers before the first.
-pub const PSN_BASE: u64 = PSN_COUNT as u64;

@@ -1,6 +1,7 @@
 ghost use Rattle.std.specs.Prelude.{Some};
 ghost use Rattle.ca_base.specs.Spelling.{piece_text};
 
+use crate::limits::MAX_PIECES;
 use arrayvec::ArrayVec;
 use ca_keys::{Address, Key, Pages, Rights};
 use std::fmt;
@@ -28,47 +29,47 @@ impl fmt::Display for Piece {
 #[derive(Clone, Drop)]
 pub enum SendOp {
     Send {
-        list: ArrayVec<Piece, 4>,
+        list: ArrayVec<Piece, MAX_PIECES>,
     },
     /// SEND with Immediate.
     SendImm {
         imm: u32,
-        list: ArrayVec<Piece, 4>,
+        list: ArrayVec<Piece, MAX_PIECES>,
     },
     /// SEND with Invalidate: the peer ends this R_Key.
     SendInv {
         key: Key,
-        list: ArrayVec<Piece, 4>,
+        list: ArrayVec<Piece, MAX_PIECES>,
     },
     Write {
         address: u64,
         key: Key,
-        list: ArrayVec<Piece, 4>,
+        list: ArrayVec<Piece, MAX_PIECES>,
     },
     /// RDMA WRITE with Immediate.
     WriteImm {
         address: u64,
         key: Key,
         imm: u32,
-        list: ArrayVec<Piece, 4>,
+        list: ArrayVec<Piece, MAX_PIECES>,
     },
     Read {
         address: u64,
         key: Key,
-        list: ArrayVec<Piece, 4>,
+        list: ArrayVec<Piece, MAX_PIECES>,
     },
     CmpSwap {
         address: u64,
         key: Key,
         compare: u64,
         swap: u64,
-        list: ArrayVec<Piece, 4>,
+        list: ArrayVec<Piece, MAX_PIECES>,
     },
     FetchAdd {
         address: u64,
         key: Key,
         add: u64,
-        list: ArrayVec<Piece, 4>,
+        list: ArrayVec<Piece, MAX_PIECES>,
     },
     /// Binds a type 1 window, by slot, to a part of the region that has this key; no bytes unbind it.
     Bind1 {
@@ -119,5 +120,19 @@ pub struct SendRequest {
 #[derive(Clone, Drop)]
 pub struct RecvRequest {
     pub id: u64,
-    pub list: ArrayVec<Piece, 4>,
+    pub list: ArrayVec<Piece, MAX_PIECES>,
+}
+
+/// A request of a send queue, and the low byte that it drew where it is a bind of a type 1 window.
+#[derive(Drop)]
+pub struct PostedSend {
+    pub request: SendRequest,
+    pub drawn: Option<u8>,
+}
+
+/// A receive with its posting place.
+#[derive(Drop)]
+pub struct PlacedReceive {
+    pub place: u64,
+    pub receive: RecvRequest,
 }

@@ -9,7 +9,8 @@ use Rattle.ca_base.specs.declared.step.Reason.TheVariants as reasons
 use Rattle.ca_base.specs.declared.step.Sent.{Sent}
 use Rattle.ca_base.specs.declared.step.StepError.{StepError}
 use Rattle.ca_base.specs.declared.step.StepError.TheVariants as steps
-use Rattle.ca_base.specs.Sight.{Sight, DeniedAsk, bytes_in, first_denied}
+use Rattle.ca_base.specs.declared.denied_ask.DeniedAsk.{DeniedAsk}
+use Rattle.ca_base.specs.Sight.{Sight, bytes_in, first_denied}
 use Rattle.ca_keys.specs.Refusals.{first_of}
 use Rattle.ca_base.specs.declared.refusals.OpRefusal.{OpRefusal}
 use Rattle.ca_base.specs.objects.QueuePair.{QueuePair}

@@ -13,11 +13,11 @@ ghost use Rattle.ca_packet.specs.Packet.{IsWellFormed, fields_of};
 
 use ca_base::limits::{MAX_MESSAGE_BYTES, MAX_PIECES};
 use ca_base::{
-    Ask, Change, Config, Memory, OpRefusal, Piece, Reason, SendRequest, Sent, StepError,
+    Ask, Change, Config, Memory, OpRefusal, Piece, PostedSend, Reason, SendRequest, Sent, StepError,
 };
 use ca_bed_reach::SmallReach;
 use ca_model::Marks;
-use ca_qpstate::{PostedSend, QueuePart};
+use ca_qpstate::QueuePart;
 use ca_requester::{
     local_done, next_asks, next_local, next_packet, on_response, on_rnr_wake, on_timeout,
     response_asks,

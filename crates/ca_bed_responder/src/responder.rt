@@ -377,7 +377,7 @@ impl Responder {
             let srq = None;
             return Some(Responder { bed, srq, posted });
         }
-        match Srq::create(alloc, MAX_DEPTH) {
+        match Srq::create(alloc, MAX_DEPTH as u16) {
             Ok(srq) => {
                 let srq = Some(srq);
                 Some(Responder { bed, srq, posted })

@@ -2,6 +2,7 @@ use crate::cq_error::CqError;
 use crate::reservation::{Reservation, is_same_side, room_reserved, room_taken, source_in};
 use crate::ring::{places_of, remove_queue};
 use arrayvec::ArrayVec;
+use ca_base::limits::{MAX_DEPTH, MAX_POLLED};
 use ca_base::{Completion, Memory, QueueId, Reserve};
 use circular_buffer::HeapCircularBuffer;
 use std::alloc::Global;
@@ -32,6 +33,7 @@ impl Model for Cq {
 
 impl Cq {
     ghost use Rattle.std.specs.Prelude.{◌≡◌, ◌<◌, ◌≤◌, ◌↔◌, [], ◌∷◌, IfOk, OnOk, OnErr, IsTrue, Err, length, slice_get, take};
+    ghost use Rattle.ca_base.specs.declared.limits.TheConstants.{MAX_DEPTH, MAX_POLLED};
     ghost use Rattle.ca_base.specs.objects.CompletionQueue.{empty_cq, is_too_small, after_reserve, after_release, after_puts, after_polls, is_in_use, source_in, without_completions, receives_of};
     ghost use Rattle.ca_cq.specs.declared.cq_error.CqError.TheVariants.{TooSmall};
 
@@ -87,8 +89,8 @@ impl Cq {
     }
 
     /// Takes the first completions, as many as are asked for or as wait.
-    pub fn poll(&mut self, n: u8) -> ArrayVec<Completion, 16>
-        requires { n ≤ 16 }
+    pub fn poll(&mut self, n: u8) -> ArrayVec<Completion, MAX_POLLED>
+        requires { n ≤ MAX_POLLED }
         ensures completions { result.items ≡ take n self.old.waiting }
         ensures queue { self.new ≡ after_polls n self.old }
     {
@@ -123,10 +125,10 @@ impl Cq {
         source_in(self.reservations.as_slice(), queue)
     }
 
-    /// Removes the completions of a queue pair, of which at most 256 are of receives, and gives the places of those, in
-    /// order. It takes time by how many completions wait.
-    pub fn drop_queue(&mut self, queue: QueueId) -> ArrayVec<u64, 256>
-        requires { length (receives_of queue self.old) ≤ 256 }
+    /// Removes the completions of a queue pair, of which at most `MAX_DEPTH` are of receives, and gives the places of
+    /// those, in order. It takes time by how many completions wait.
+    pub fn drop_queue(&mut self, queue: QueueId) -> ArrayVec<u64, MAX_DEPTH>
+        requires { length (receives_of queue self.old) ≤ MAX_DEPTH }
         ensures places { result.items ≡ receives_of queue self.old }
         ensures queue { self.new ≡ without_completions queue self.old }
     {

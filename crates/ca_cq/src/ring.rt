@@ -1,8 +1,10 @@
 ghost use Rattle.std.specs.Prelude.{◌≡◌, ◌≤◌, ◌&&◌, ◌++◌, drop, filter, length, map, not, take};
 ghost use Rattle.circular_buffer.specs.Buffer.{buffer};
+ghost use Rattle.ca_base.specs.declared.limits.TheConstants.{MAX_DEPTH};
 ghost use Rattle.ca_keys.specs.Equal.{queue_eq};
 
 use arrayvec::ArrayVec;
+use ca_base::limits::MAX_DEPTH;
 use ca_base::{Completion, QueueId};
 use circular_buffer::HeapCircularBuffer;
 
@@ -10,8 +12,8 @@ use circular_buffer::HeapCircularBuffer;
 pub(crate) fn places_of(
     waiting: &HeapCircularBuffer<Completion>,
     queue: QueueId,
-) -> ArrayVec<u64, 256>
-    requires { length (filter (λ c. c.receive && queue_eq c.queue queue) waiting.now.items) ≤ 256 }
+) -> ArrayVec<u64, MAX_DEPTH>
+    requires { length (filter (λ c. c.receive && queue_eq c.queue queue) waiting.now.items) ≤ MAX_DEPTH }
     ensures { result.items ≡ map (λ c. c.place) (filter (λ c. c.receive && queue_eq c.queue queue) waiting.now.items) }
 {
     let mut places = ArrayVec::new();

@@ -15,7 +15,8 @@ use Rattle.ca_base.specs.declared.refusals.OpRefusal.{OpRefusal}
 use Rattle.ca_base.specs.declared.request.RecvRequest.{RecvRequest}
 use Rattle.ca_base.specs.objects.Answers.{is_ack, with_ack_at_end}
 use Rattle.ca_base.specs.objects.QueuePair.{QueuePair, in_error}
-use Rattle.ca_base.specs.objects.SharedReceives.{PlacedReceive, SharedReceives, first_receive}
+use Rattle.ca_base.specs.declared.request.PlacedReceive.{PlacedReceive}
+use Rattle.ca_base.specs.objects.SharedReceives.{SharedReceives, first_receive}
 use Rattle.ca_base.specs.objects.StateTable.{is_path_mtu}
 use Rattle.ca_base.specs.objects.WorkQueue.{WorkQueue, after_take, item_at, next_place, with_all_taken}
 use Rattle.ca_wire.specs.declared.syndrome.NakCode.{NakCode}

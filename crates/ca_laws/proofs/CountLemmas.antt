@@ -18,7 +18,8 @@ use Rattle.ca_keys.specs.Numbers.{queue_of}
 use Rattle.ca_base.specs.Sight.{Invalidation}
 use Rattle.ca_model.specs.machine.QueuePairVerbs.{beside}
 use Rattle.ca_base.specs.objects.CompletionQueue.{CompletionQueue}
-use Rattle.ca_base.specs.objects.Mailbox.{Correspondent, bytes_lent}
+use Rattle.ca_base.specs.declared.correspondent.Correspondent.{Correspondent}
+use Rattle.ca_base.specs.objects.Mailbox.{bytes_lent}
 use Rattle.ca_base.specs.objects.QueuePair.{NoQueue, Present, QueuePair, QueueSlot, queue_in, recv_cq_of, send_cq_of, srq_of}
 use Rattle.ca_base.specs.objects.Region.{grant_of_region}
 use Rattle.ca_base.specs.objects.Slices.{names_region, names_window, slot_of_key}

@@ -11,8 +11,9 @@ use Rattle.ca_base.specs.declared.step.Sent.{Sent}
 use Rattle.ca_base.specs.declared.step.Sent.TheVariants.{Silent, Spelt}
 use Rattle.ca_base.specs.Configuration.{Configuration}
 use Rattle.ca_keys.specs.Refusals.{AllFail, first_of}
-use Rattle.ca_base.specs.Sight.{DeniedAsk}
-use Rattle.ca_base.specs.objects.Mailbox.{Correspondent, Mailbox, after_delivery, after_send, bytes_lent, has_room}
+use Rattle.ca_base.specs.declared.denied_ask.DeniedAsk.{DeniedAsk}
+use Rattle.ca_base.specs.declared.correspondent.Correspondent.{Correspondent}
+use Rattle.ca_base.specs.objects.Mailbox.{Mailbox, after_delivery, after_send, bytes_lent, has_room}
 use Rattle.ca_base.specs.objects.QueuePair.{QueuePair, QueueSlot, NoQueue, Present}
 use Rattle.ca_base.specs.objects.SharedReceives.{SrqSlot}
 use Rattle.ca_model.specs.declared.mark.Mark.{Mark}

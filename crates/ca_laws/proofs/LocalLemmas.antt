@@ -17,7 +17,7 @@ use Rattle.ca_base.specs.Configuration.{Configuration}
 use Rattle.ca_keys.specs.Equal.{slot_eq}
 use Rattle.ca_keys.specs.Refusals.{AllFail}
 use Rattle.ca_base.specs.objects.LocalRequest.{bind1_request_refusals, bind2_request_refusals, fast_request_refusals, of_window}
-use Rattle.ca_base.specs.objects.Mailbox.{Correspondent}
+use Rattle.ca_base.specs.declared.correspondent.Correspondent.{Correspondent}
 use Rattle.ca_base.specs.objects.QueuePair.{QueuePair}
 use Rattle.ca_base.specs.objects.Region.{Region, free_pages, has_repeat, pages_needed, with_window_bound, with_window_unbound}
 use Rattle.ca_keys.specs.Numbers.{is_window_key}

@@ -9,7 +9,8 @@ use Rattle.std.specs.Option.{option_or}
 use Rattle.ca_keys.specs.declared.access.Kind.{Kind}
 use Rattle.ca_base.specs.declared.limits.TheConstants.{MAX_PIECES}
 use Rattle.ca_base.specs.declared.request.Piece.{Piece}
-use Rattle.ca_base.specs.objects.QueuePair.{PostedSend, QueuePair}
+use Rattle.ca_base.specs.declared.request.PostedSend.{PostedSend}
+use Rattle.ca_base.specs.objects.QueuePair.{QueuePair}
 use Rattle.ca_base.specs.objects.WorkQueue.{items_from}
 use Rattle.ca_model.specs.Requests.{list_of, psns_of}
 use Rattle.ca_model.specs.machine.Acknowledgements.{after_finished, finished_requests}

@@ -19,7 +19,8 @@ use Rattle.ca_base.specs.Configuration.{Configuration}
 use Rattle.ca_keys.specs.Refusals.{first_of}
 use Rattle.ca_base.specs.Sight.{Invalidation}
 use Rattle.ca_base.specs.objects.CompletionQueue.{CompletionQueue}
-use Rattle.ca_base.specs.objects.Mailbox.{Correspondent, Mailbox, after_delivery, after_send, bytes_lent}
+use Rattle.ca_base.specs.declared.correspondent.Correspondent.{Correspondent}
+use Rattle.ca_base.specs.objects.Mailbox.{Mailbox, after_delivery, after_send, bytes_lent}
 use Rattle.ca_base.specs.objects.QueuePair.{QueuePair, QueueSlot, NoQueue, Present, queue_in, recv_cq_of, send_cq_of, srq_of}
 use Rattle.ca_base.specs.objects.Region.{RegionState, NoRegion, Free, Registered, FastRegistered, grant_in_state}
 use Rattle.ca_base.specs.objects.SharedReceives.{SharedReceives, SrqSlot, after_receive_take}

@@ -6,7 +6,8 @@ use Rattle.std.specs.List.{flat_map, prefix_len, take_while}
 use Rattle.ca_base.specs.declared.change.State.{State}
 use Rattle.ca_base.specs.declared.change.State.TheVariants as states
 use Rattle.ca_base.specs.declared.completion.WcStatus.TheVariants.{RetryExceeded}
-use Rattle.ca_base.specs.objects.QueuePair.{PostedSend, QueuePair}
+use Rattle.ca_base.specs.declared.request.PostedSend.{PostedSend}
+use Rattle.ca_base.specs.objects.QueuePair.{QueuePair}
 use Rattle.ca_base.specs.objects.WorkQueue.{items_from}
 use Rattle.ca_model.specs.machine.Acknowledgements.{after_finished, failure_effects, finished_marks, finished_requests, one_retry, progress_to, with_cursor, with_requester, with_una}
 use Rattle.ca_model.specs.declared.mark.Mark.TheVariants as marks

@@ -34,7 +34,8 @@ use Rattle.ca_model.specs.machine.Completions.{flush_marks}
 use Rattle.ca_model.specs.machine.Delivery.{arrival_drops, arrival_row, packet_arrived}
 use Rattle.ca_model.specs.machine.Duplicates.{ack_again, ahead_effects, answer_again, atomic_again, duplicate_effects, read_again, request_row, with_answers_before}
 use Rattle.ca_model.specs.machine.Expected.{expected_row}
-use Rattle.ca_model.specs.machine.Respond.{ReadLeft, answer_turn, is_last_response, nak_of, response_segment, read_row, respond_refusals, respond_row, response_ask, response_length, rest_of, with_front, with_packet, without_front}
+use Rattle.ca_model.specs.declared.read_left.ReadLeft.{ReadLeft}
+use Rattle.ca_model.specs.machine.Respond.{answer_turn, is_last_response, nak_of, response_segment, read_row, respond_refusals, respond_row, response_ask, response_length, rest_of, with_front, with_packet, without_front}
 use Rattle.ca_model.specs.machine.Requester.{peer_number, psn_bits}
 use Rattle.ca_model.specs.machine.Responses.{drop_effects, response_row}
 use Rattle.ca_model.specs.machine.Row.{Does, Effects, NotPossible, Row, plain_row, queue_and_marks}

@@ -12,7 +12,8 @@ use Rattle.ca_base.specs.declared.refusals.OpRefusal.{OpRefusal}
 use Rattle.ca_keys.specs.Allowed.{fits}
 use Rattle.ca_base.specs.Configuration.{Configuration}
 use Rattle.ca_keys.specs.Memory.{bytes_at, cut, places_of, run_part, run_places}
-use Rattle.ca_base.specs.Sight.{DeniedAsk, Invalidation, runs_by_grant}
+use Rattle.ca_base.specs.declared.denied_ask.DeniedAsk.{DeniedAsk}
+use Rattle.ca_base.specs.Sight.{Invalidation, runs_by_grant}
 use Rattle.ca_base.specs.objects.LocalRequest.{window_refusal}
 use Rattle.ca_base.specs.objects.Region.{Region, grant_of_region, with_window_unbound}
 use Rattle.ca_base.specs.objects.Slices.{names_region, names_window, slot_of_key}

@@ -20,7 +20,8 @@ use Rattle.ca_keys.specs.declared.names.Slot.{Slot}
 use Rattle.ca_base.specs.Configuration.{Adapter, Configuration}
 use Rattle.ca_keys.specs.Equal.{queue_eq}
 use Rattle.ca_keys.specs.Refusals.{AllFail}
-use Rattle.ca_base.specs.objects.QueuePair.{PostedSend, QueuePair, after_reset, in_error, psn_base, queue_at_start, requester_at_start, responder_at_start, with_all_flushed}
+use Rattle.ca_base.specs.declared.request.PostedSend.{PostedSend}
+use Rattle.ca_base.specs.objects.QueuePair.{QueuePair, after_reset, in_error, psn_base, queue_at_start, requester_at_start, responder_at_start, with_all_flushed}
 use Rattle.ca_base.specs.objects.Slices.{adapter_at, has_domain, has_queue, has_slot, slot_of_queue}
 use Rattle.ca_base.specs.objects.StateTable.{is_among, is_path_mtu, modify_refusals, queue_after_change, state_eq}
 use Rattle.ca_base.specs.objects.WorkQueue.{WorkQueue, after_retire, empty_queue, is_full, items_from, next_place, with_item}

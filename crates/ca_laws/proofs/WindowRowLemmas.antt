@@ -5,7 +5,8 @@ use Rattle.ca_base.specs.declared.change.State.TheVariants as states
 use Rattle.ca_base.specs.declared.completion.WcStatus.TheVariants.{BadResponse, LocalProtection, RetryExceeded, RnrRetryExceeded, LocalLength, MemoryManagement, Success}
 use Rattle.ca_base.specs.declared.limits.TheConstants.{MAX_RETRY, MAX_DUPLICATES}
 use Rattle.ca_base.specs.declared.refusals.OpRefusal.{OpRefusal}
-use Rattle.ca_base.specs.Sight.{DeniedAsk, Invalidation}
+use Rattle.ca_base.specs.declared.denied_ask.DeniedAsk.{DeniedAsk}
+use Rattle.ca_base.specs.Sight.{Invalidation}
 use Rattle.ca_base.specs.objects.Answers.{duplicate_count}
 use Rattle.ca_base.specs.objects.QueuePair.{QueuePair}
 use Rattle.ca_base.specs.objects.StateTable.{is_among}
@@ -28,7 +29,8 @@ use Rattle.ca_keys.specs.declared.key.Key.{Key}
 use Rattle.ca_base.specs.declared.queue_numbers.Queued.{Queued}
 use Rattle.ca_base.specs.declared.queue_numbers.Queued.TheVariants as queued
 use Rattle.ca_base.specs.objects.Saved.{saved_at}
-use Rattle.ca_base.specs.objects.SharedReceives.{PlacedReceive, SharedReceives}
+use Rattle.ca_base.specs.declared.request.PlacedReceive.{PlacedReceive}
+use Rattle.ca_base.specs.objects.SharedReceives.{SharedReceives}
 use Rattle.ca_psn.specs.Psn.{widened}
 use Rattle.ca_packet.specs.declared.atomic_eth.AtomicEth.{AtomicEth}
 use Rattle.ca_packet.specs.declared.reth.Reth.{Reth}
@@ -37,7 +39,9 @@ use Rattle.ca_model.specs.Packets.{is_response}
 use Rattle.ca_model.specs.Requests.{list_length, segments}
 use Rattle.ca_model.specs.machine.Arrivals.{next_receive, refusal_effects, with_answer, with_flag, with_receive_taken, with_message}
 use Rattle.ca_model.specs.machine.Duplicates.{ack_again, ahead_effects, answer_again, atomic_again, duplicate_effects, read_again, request_row}
-use Rattle.ca_model.specs.machine.Expected.{Receiving, WriteReach, after_send_packet, atomic_row, behind_marks, expected_row, invalidation_of, is_invalid, read_queued, receive_asks, receive_failure_effects, receiving_of, revoked_marks, rnr_effects, send_row, takes_receive, valid_row, with_shared_receive, with_window_gone, write_reach, write_row, message_left, queue_after_packet}
+use Rattle.ca_model.specs.declared.receiving.Receiving.{Receiving}
+use Rattle.ca_model.specs.declared.write_reach.WriteReach.{WriteReach}
+use Rattle.ca_model.specs.machine.Expected.{after_send_packet, atomic_row, behind_marks, expected_row, invalidation_of, is_invalid, read_queued, receive_asks, receive_failure_effects, receiving_of, revoked_marks, rnr_effects, send_row, takes_receive, valid_row, with_shared_receive, with_window_gone, write_reach, write_row, message_left, queue_after_packet}
 use Rattle.ca_model.specs.machine.Shapes.{Shape, SendAt, WriteAt, ReadRequest, Atomic, shape_of}
 use Rattle.ca_base.specs.declared.step.Reason.{Reason}
 use Rattle.ca_base.specs.declared.step.Reason.TheVariants as reasons
@@ -45,7 +49,8 @@ use Rattle.ca_keys.specs.Refusals.{first_of}
 use Rattle.ca_packet.specs.declared.wire_error.WireError.{WireError}
 use Rattle.ca_packet.specs.Decoding.{packet_in}
 use Rattle.ca_model.specs.machine.Delivery.{arrival_drops, arrival_row, packet_arrived}
-use Rattle.ca_model.specs.machine.Respond.{answer_turn, respond_refusals, respond_row, ReadLeft, is_last_response, rest_of, with_front, without_front}
+use Rattle.ca_model.specs.declared.read_left.ReadLeft.{ReadLeft}
+use Rattle.ca_model.specs.machine.Respond.{answer_turn, respond_refusals, respond_row, is_last_response, rest_of, with_front, without_front}
 use Rattle.ca_model.specs.machine.LocalOperations.{invalidate_row, operation_effects}
 use Rattle.ca_base.specs.declared.completion.WcOp.TheVariants as operations
 use Rattle.ca_base.specs.declared.queue_numbers.Message.{Message}

@@ -10,7 +10,8 @@ use Rattle.ca_base.specs.declared.refusals.OpRefusal.{OpRefusal}
 use Rattle.ca_base.specs.Configuration.{Configuration}
 use Rattle.ca_keys.specs.Equal.{queue_eq, slot_eq}
 use Rattle.ca_keys.specs.Refusals.{AllFail}
-use Rattle.ca_base.specs.Sight.{DeniedAsk, Invalidation}
+use Rattle.ca_base.specs.declared.denied_ask.DeniedAsk.{DeniedAsk}
+use Rattle.ca_base.specs.Sight.{Invalidation}
 use Rattle.ca_base.specs.objects.LocalRequest.{of_region, of_window, region_refusal, window_refusal}
 use Rattle.ca_base.specs.objects.QueuePair.{QueuePair, QueueSlot, Present, srq_of}
 use Rattle.ca_base.specs.objects.Region.{Region, after_region_invalidation, grant_of_region, region_invalidation_refusals, with_window_unbound}

@@ -9,7 +9,8 @@ use Rattle.ca_base.specs.declared.refusals.OpRefusal.{OpRefusal}
 use Rattle.ca_base.specs.declared.step.Reason.{Reason}
 use Rattle.ca_base.specs.Configuration.{Configuration}
 use Rattle.ca_keys.specs.Memory.{bytes_at}
-use Rattle.ca_base.specs.Sight.{DeniedAsk, Invalidation, runs_by_grant}
+use Rattle.ca_base.specs.declared.denied_ask.DeniedAsk.{DeniedAsk}
+use Rattle.ca_base.specs.Sight.{Invalidation, runs_by_grant}
 use Rattle.ca_base.specs.objects.CompletionQueue.{CompletionQueue, after_puts}
 use Rattle.ca_base.specs.objects.QueuePair.{QueuePair, QueueSlot, NoQueue, Present, recv_cq_of, send_cq_of, srq_of}
 use Rattle.ca_base.specs.objects.Region.{RegionState, NoRegion, Free, Registered, FastRegistered, state_after_invalidation, with_window_unbound}

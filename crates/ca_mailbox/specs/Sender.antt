@@ -2,7 +2,7 @@
 use Rattle.std.specs.Prelude.{ℕ, Option}
 use Rattle.std.specs.Option.{option_map}
 use Rattle.ca_keys.specs.declared.names.QueueId.{QueueId}
-use Rattle.ca_base.specs.objects.Mailbox.{Correspondent}
+use Rattle.ca_base.specs.declared.correspondent.Correspondent.{Correspondent}
 
 -- a queue pair with its incarnation
 abbrev pub sender_of : QueueId × ℕ → Correspondent

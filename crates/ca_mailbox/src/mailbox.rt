@@ -3,7 +3,7 @@ ghost use Rattle.std.specs.Prelude.{◌≡◌};
 use crate::envelope::{Envelope, is_lost};
 use crate::order::{deliver, first_ready, slot_is_held, slot_is_undelivered, trimmed};
 use ca_base::limits::{KEPT_ENVELOPES, MAX_UNDELIVERED};
-use ca_base::{Bytes, Lot, Memory, QueueId};
+use ca_base::{Bytes, Correspondent, Lot, Memory, QueueId};
 use circular_buffer::HeapCircularBuffer;
 use std::alloc::Global;
 use std::marker::Model;
@@ -20,23 +20,6 @@ pub enum SendError {
 /// The index is not one of the last 256 that are kept, or its packet was lost.
 #[derive(Clone, Copy, Debug, PartialEq, Eq)]
 pub struct NotKept;
-
-/// A queue pair in an incarnation.
-#[derive(Clone, Copy)]
-struct Correspondent {
-    queue: QueueId,
-    incarnation: u32,
-}
-
-impl Model for Correspondent {
-    ghost use Rattle.ca_base.specs.objects.Mailbox.{Correspondent};
-
-    ghost Value = { Correspondent };
-
-    ghost view = { λ c. record { queue = c.queue; incarnation = c.incarnation } };
-
-    ghost inverse = { λ c. record { queue = c.queue; incarnation = c.incarnation } };
-}
 
 /// The mailbox of a queue pair. Contracts see the owner's incarnation, the peer that it named, the index of the next
 /// envelope, and the last 256 envelopes since the mailbox was cleared, the newest first.

@@ -2,6 +2,7 @@ ghost use Rattle.std.specs.Prelude.{◌≡◌, ◌≤◌, ◌<◌, [], ◌∷◌
 ghost use Rattle.ca_base.specs.declared.limits.TheConstants.{MAX_POLLED};
 
 use arrayvec::ArrayVec;
+use ca_base::limits::MAX_POLLED;
 use ca_base::{Completion, Memory};
 use std::alloc::{AllocError, Global};
 use std::marker::Model;
@@ -38,7 +39,7 @@ impl Completions {
     /// A copy of those that were taken from a completion queue.
     pub fn copy_of(
         alloc: Global,
-        completions: &ArrayVec<Completion, 16>,
+        completions: &ArrayVec<Completion, MAX_POLLED>,
     ) -> Result<Completions, Memory>
         ensures { IfOk result (λ list. list ≡ completions.now.items) }
     {

@@ -18,7 +18,10 @@ mod mark;
 mod marks;
 mod opening;
 mod part_name;
+mod read_left;
+mod receiving;
 mod verb;
+mod write_reach;
 
 pub use answer::{Answer, Refusal};
 pub use completions::Completions;
@@ -32,4 +35,7 @@ pub use mark::{Drop1, Mark};
 pub use marks::{Marks, SPARE_MARKS};
 pub use opening::{Contents, Opening};
 pub use part_name::PartName;
+pub use read_left::ReadLeft;
+pub use receiving::Receiving;
 pub use verb::Verb;
+pub use write_reach::WriteReach;

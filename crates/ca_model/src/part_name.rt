@@ -4,6 +4,7 @@ use ca_base::{DomainId, QueueId, Slot};
 ///
 /// A domain's control part tells whether it is allocated and how many objects it has. A queue pair has two parts, its own
 /// and its mailbox. A buffer is a part, with all its bytes.
+#[derive(Clone, Copy, PartialEq, Eq)]
 pub enum PartName {
     /// The control part of a protection domain.
     Control(DomainId),

@@ -7,7 +7,8 @@ use Rattle.ca_base.specs.declared.queue_numbers.RequesterNumbers.{RequesterNumbe
 use Rattle.ca_keys.specs.declared.names.QueueId.{QueueId}
 use Rattle.ca_base.specs.declared.request.SendOp.{SendOp}
 use Rattle.ca_base.specs.declared.request.SendOp.TheVariants as ops
-use Rattle.ca_base.specs.objects.QueuePair.{PostedSend, QueuePair}
+use Rattle.ca_base.specs.declared.request.PostedSend.{PostedSend}
+use Rattle.ca_base.specs.objects.QueuePair.{QueuePair}
 use Rattle.ca_base.specs.objects.WorkQueue.{items_from}
 use Rattle.ca_model.specs.machine.Acknowledgements.{acknowledgement_below, after_finished, finished_marks, first_unanswered, progress_to, with_requester}
 use Rattle.ca_model.specs.Requests.{psns_of}

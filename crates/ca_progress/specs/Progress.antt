@@ -3,7 +3,8 @@ use Rattle.std.specs.Prelude.{◌≡◌, ℕ, suc, ◌-◌, ◌^◌, ◌≤◌, 
 use Rattle.std.specs.List.{flat_map, take_while}
 use Rattle.ca_keys.specs.declared.names.QueueId.{QueueId}
 use Rattle.ca_base.specs.declared.queue_numbers.RequesterNumbers.{RequesterNumbers}
-use Rattle.ca_base.specs.objects.QueuePair.{PostedSend, QueuePair}
+use Rattle.ca_base.specs.declared.request.PostedSend.{PostedSend}
+use Rattle.ca_base.specs.objects.QueuePair.{QueuePair}
 use Rattle.ca_base.specs.objects.WorkQueue.{items_from}
 use Rattle.ca_model.specs.declared.mark.Mark.{Mark}
 use Rattle.ca_model.specs.machine.Acknowledgements.{Acknowledgement, and_then, one_retry, progress_to}

@@ -8,8 +8,8 @@ ghost use Rattle.ca_model.specs.machine.CanStep.{CanStep};
 ghost use Rattle.ca_progress.specs.Progress.{AreNumbers};
 ghost use Rattle.ca_progress.specs.Numbering.{numbered_of, numbers_from, begun_from, IsWithin, IsSound, IsNext};
 
-use ca_base::{RequesterNumbers, SendOp, SendRequest};
-use ca_qpstate::{PostedSend, QueuePart};
+use ca_base::{PostedSend, RequesterNumbers, SendOp, SendRequest};
+use ca_qpstate::QueuePart;
 use ca_rows::psns_of;
 
 /// A posted request with its place and its PSNs: the first, and how many it has or would get.

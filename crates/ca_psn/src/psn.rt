@@ -3,9 +3,7 @@ ghost use Rattle.ca_psn.specs.declared.class.Class.{Class};
 ghost use Rattle.ca_psn.specs.Psn.{IsClass, class_of, IsWidened, widened};
 
 use crate::class::Class;
-
-/// How many PSNs there are: they count modulo 2^24.
-const COUNT: u32 = 0x100_0000;
+use ca_base::limits::PSN_COUNT;
 
 /// How many PSNs before the expected one are duplicates: half of them all, 2^23.
 const DUPLICATES: u32 = 0x80_0000;
@@ -18,7 +16,7 @@ pub fn classify(expected: u32, got: u32) -> Class
     ensures meaning { IsClass expected got result }
     ensures only { (c : Class) → IsClass expected got c → c ≡ result }
 {
-    let back = (expected + COUNT - got) % COUNT;
+    let back = (expected + PSN_COUNT - got) % PSN_COUNT;
     if back == 0 {
         Class::Expected
     } else if back <= DUPLICATES {
@@ -38,6 +36,6 @@ pub fn widen(near: u64, got: u32) -> u64
     ensures only { (w : ℕ) → IsWidened near got w → w ≡ result }
 {
     let first = near - u64::from(DUPLICATES);
-    let count = u64::from(COUNT);
+    let count = u64::from(PSN_COUNT);
     first + (u64::from(got) + count - first % count) % count
 }

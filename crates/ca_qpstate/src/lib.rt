@@ -11,10 +11,8 @@
 
 mod at_start;
 mod fields;
-mod posted_send;
 mod queue_part;
 mod state_table;
 
 pub use ca_base::{Change, Field, ModifyRefusal, State};
-pub use posted_send::PostedSend;
 pub use queue_part::QueuePart;

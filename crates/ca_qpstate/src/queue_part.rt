@@ -3,11 +3,10 @@ ghost use Rattle.ca_qpstate.specs.Start.{receives_at_start};
 
 use crate::at_start::{requester_at_start, responder_at_start};
 use crate::fields::field_refusal;
-use crate::posted_send::PostedSend;
 use crate::state_table::is_allowed_from;
 use ca_base::limits::PSN_BASE;
 use ca_base::{
-    Answers, Change, Config, DomainId, Memory, ModifyRefusal, QueueId, RecvRequest,
+    Answers, Change, Config, DomainId, Memory, ModifyRefusal, PostedSend, QueueId, RecvRequest,
     RequesterNumbers, ResponderNumbers, State, WindowCount,
 };
 use ca_saved::Saved;

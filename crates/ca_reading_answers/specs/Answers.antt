@@ -3,6 +3,7 @@
 -- Contracts cite it.
 use Rattle.std.specs.Prelude.{◌≤◌, nat_le, if◌then◌else◌, Option, Some, None, codes}
 use Rattle.std.specs.Str.{bytes_eq}
+use Rattle.ca_base.specs.declared.limits.TheConstants.{MAX_POLLED}
 use Rattle.ca_base.specs.declared.completion.Completion.{Completion}
 use Rattle.ca_keys.specs.declared.verdict.Verdict.{Verdict}
 use Rattle.ca_keys.specs.declared.verdict.Verdict.TheVariants as verdicts
@@ -17,7 +18,7 @@ use Rattle.ca_reading_fields.specs.Fields.{Words, u8_in, u16_in, u32_in, u64_in}
 abbrev pub IsTold : Told → Type 0
 IsTold (told.Whole (answers.Polled completions)) = ⊥
 IsTold (told.Whole answer) = Unit {0}
-IsTold (told.Polled n) = n ≤ 16
+IsTold (told.Polled n) = n ≤ MAX_POLLED
 
 unfoldable pub state_at : Words → Option (Told × Words)
 state_at ws = do
@@ -31,7 +32,7 @@ state_at ws = do
 unfoldable pub polled_at : Words → Option (Told × Words)
 polled_at ws = do
   n ← field u8_in ws
-  if nat_le n.0 16 then Some (told.Polled n.0, n.1) else None
+  if nat_le n.0 MAX_POLLED then Some (told.Polled n.0, n.1) else None
 
 -- an answer, behind the arrow
 unfoldable pub answer_at : Words → Option (Told × Words)

@@ -2,6 +2,7 @@ ghost use Rattle.std.specs.Prelude.{◌≡◌};
 ghost use Rattle.ca_reading_words.specs.Words.{Reads, GivesAs};
 ghost use Rattle.ca_reading_answers.specs.Answers as reading;
 
+use ca_base::limits::MAX_POLLED;
 use ca_base::{Completion, Verdict};
 use ca_model::Answer;
 use ca_reading_fields::{
@@ -36,7 +37,7 @@ fn polled_at(words: &mut Pieces) -> Result<Told, Stop>
     ensures { Reads (λ x. x) result words.new (reading.polled_at words.old) }
 {
     let n = take_u8(words)?;
-    if n <= 16 {
+    if usize::from(n) <= MAX_POLLED {
         Ok(Told::Polled(n))
     } else {
         Err(Stop::Outside)

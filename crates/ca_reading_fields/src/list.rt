@@ -2,6 +2,7 @@ ghost use Rattle.ca_reading_words.specs.Words as words;
 ghost use Rattle.ca_reading_words.specs.Words.{Reads};
 
 use arrayvec::ArrayVec;
+use ca_base::limits::MAX_PIECES;
 use ca_base::{Bytes, Pages, Piece, Runs};
 use ca_reading_words::{Pieces, Stop};
 use std::alloc::Global;
@@ -28,7 +29,7 @@ pub fn take_runs(alloc: Global, line: &mut Pieces) -> Result<Runs, Stop>
 }
 
 /// The pieces of a request's list, by the first word.
-pub fn take_pieces(alloc: Global, line: &mut Pieces) -> Result<ArrayVec<Piece, 4>, Stop>
+pub fn take_pieces(alloc: Global, line: &mut Pieces) -> Result<ArrayVec<Piece, MAX_PIECES>, Stop>
     ensures { Reads (λ list. list.items) result line.new (words.field (words.pieces_in) line.old) }
 {
     ca_reading_words::pieces_in(alloc, line.take_word()?)

@@ -1,6 +1,7 @@
 -- Histories: which histories have a text, as the types of the program allow. Contracts cite it.
 use Rattle.std.specs.Prelude.{◌<◌, ◌≤◌, ◌^◌, List, length}
 use Rattle.std.specs.List.{AllByRecursion}
+use Rattle.ca_base.specs.declared.limits.TheConstants.{MAX_POLLED}
 use Rattle.ca_model.specs.declared.answer.Answer.{Answer}
 use Rattle.ca_model.specs.declared.answer.Answer.TheVariants as answers
 use Rattle.ca_model.specs.declared.mark.Mark.{Mark}
@@ -24,7 +25,7 @@ pub record HistoryFits (es : List EntryValue) : Type 0 where
 
 -- the completions that an answer gave may have lines of a trace
 abbrev pub AnswerHolds : Answer → Type 0
-AnswerHolds (answers.Polled completions) = (length completions ≤ 16) × AllByRecursion (λ c. AllFit (completion_words c)) completions
+AnswerHolds (answers.Polled completions) = (length completions ≤ MAX_POLLED) × AllByRecursion (λ c. AllFit (completion_words c)) completions
 AnswerHolds answer = Unit {0}
 
 -- what a mark tells may stand in a trace

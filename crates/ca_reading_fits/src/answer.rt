@@ -1,5 +1,6 @@
 ghost use Rattle.std.specs.Prelude.{◌≤◌, length};
 ghost use Rattle.std.specs.List.{AllByRecursion};
+ghost use Rattle.ca_base.specs.declared.limits.TheConstants.{MAX_POLLED};
 ghost use Rattle.ca_reading_words.specs.Fits.{AllFit};
 ghost use Rattle.ca_trace.specs.Table.{answer_words, completion_words};
 
@@ -30,9 +31,9 @@ fn each_completion_fits(completions: &[Completion])
     }
 }
 
-/// A poll gives at most sixteen completions.
+/// A poll gives at most `MAX_POLLED` completions.
 pub fn completions_fit(completions: &Completions)
-    ensures few { length completions.now ≤ 16 }
+    ensures few { length completions.now ≤ MAX_POLLED }
     ensures each { AllByRecursion (λ c. AllFit (completion_words c)) completions.now }
 {
     each_completion_fits(completions.as_slice());

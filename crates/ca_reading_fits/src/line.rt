@@ -10,11 +10,9 @@ use crate::event::event_fits;
 use crate::mark::mark_fits;
 use crate::verb::verb_fits;
 use crate::word::{u8_fits, u32_fits, u64_fits};
+use ca_base::limits::MAX_POLLED;
 use ca_model::{Answer, Event, Mark};
 use ca_trace::{Line, Told};
-
-/// The most completions that one poll gives.
-const POLL_MOST: u8 = 16;
 
 fn told_fits(told: &Told)
     ensures { AllFit (answer_line_words told.now) }
@@ -60,7 +58,7 @@ fn is_told(told: &Told) -> bool
     match told {
         Told::Whole(Answer::Polled(_)) => false,
         Told::Whole(_) => true,
-        Told::Polled(n) => *n <= POLL_MOST,
+        Told::Polled(n) => usize::from(*n) <= MAX_POLLED,
     }
 }
 

@@ -1,10 +1,12 @@
 ghost use Rattle.std.specs.Prelude.{◌≤◌, length};
 ghost use Rattle.std.specs.List.{AllByRecursion};
+ghost use Rattle.ca_base.specs.declared.limits.TheConstants.{MAX_PIECES};
 ghost use Rattle.hex.specs.Hex.{IsBytes};
 ghost use Rattle.ca_reading_words.specs.Fits.{PieceFits, RunFits};
 
 use crate::word::{piece_fits, run_fits, u16_fits};
 use arrayvec::ArrayVec;
+use ca_base::limits::MAX_PIECES;
 use ca_base::{Piece, Run};
 
 /// Bytes are below 256.
@@ -39,8 +41,8 @@ fn each_piece_fits(list: &[Piece])
 }
 
 /// A request's list has at most four pieces.
-pub fn pieces_fit(list: &ArrayVec<Piece, 4>)
-    ensures few { length list.now.items ≤ 4 }
+pub fn pieces_fit(list: &ArrayVec<Piece, MAX_PIECES>)
+    ensures few { length list.now.items ≤ MAX_PIECES }
     ensures each { AllByRecursion PieceFits list.now.items }
 {
     each_piece_fits(list.as_slice());

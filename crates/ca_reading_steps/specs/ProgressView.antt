@@ -1,5 +1,6 @@
 -- ProgressView: what the place of a reader stands for. Contracts cite it.
 use Rattle.std.specs.Prelude.{◌+◌, ◌<◌, ◌≤◌, length}
+use Rattle.ca_base.specs.declared.limits.TheConstants.{MAX_POLLED}
 use Rattle.ca_model.specs.Entries.{entry_of}
 use Rattle.ca_reading_steps.specs.declared.progress.OpenPoll.{OpenPoll}
 use Rattle.ca_reading_steps.specs.declared.progress.Progress.{Progress}
@@ -16,7 +17,7 @@ stage_of (places.Open entry) = Open (entry_of entry)
 stage_of places.Over = Over
 stage_of places.Stopped = Stopped
 
--- some completions of a poll are still to come, and with them it gives at most sixteen
+-- some completions of a poll are still to come, and with them it gives no more than a poll gives
 abbrev pub HasRoom : Progress → Type 0
-HasRoom (places.Polling poll) = (0 < poll.wanted) × (length poll.given + poll.wanted ≤ 16)
+HasRoom (places.Polling poll) = (0 < poll.wanted) × (length poll.given + poll.wanted ≤ MAX_POLLED)
 HasRoom place = Unit {0}

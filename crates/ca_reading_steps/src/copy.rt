@@ -1,10 +1,11 @@
 ghost use Rattle.std.specs.Prelude.{◌≡◌, IfOk};
 
 use arrayvec::ArrayVec;
+use ca_base::limits::MAX_PIECES;
 use ca_base::{Memory, Piece, RecvRequest, SendOp, SendRequest};
 use ca_model::Verb;
 
-fn copy_of_list(list: &ArrayVec<Piece, 4>) -> Result<ArrayVec<Piece, 4>, Memory>
+fn copy_of_list(list: &ArrayVec<Piece, MAX_PIECES>) -> Result<ArrayVec<Piece, MAX_PIECES>, Memory>
     ensures { IfOk result (λ copy. copy ≡ list.now) }
 {
     Ok(list.clone()?)

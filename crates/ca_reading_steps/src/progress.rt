@@ -1,4 +1,5 @@
 ghost use Rattle.std.specs.Prelude.{◌≡◌, ◌<◌, ◌∷◌, [], ◌++◌, length, Some, None, OnOk, OnErr, IfOk, IfErr, option_map};
+ghost use Rattle.ca_base.specs.declared.limits.TheConstants.{MAX_POLLED};
 ghost use Rattle.ca_model.specs.Entries.{entry_of};
 ghost use Rattle.ca_reading_steps.specs.Steps as steps;
 ghost use Rattle.ca_reading_steps.specs.ProgressView.{HasRoom, stage_of, poll_of};
@@ -126,7 +127,7 @@ pub fn called(
 
 /// The entry of a poll to which this completion is the last; an error changes nothing.
 fn polled(alloc: Global, poll: &mut OpenPoll, last: Completion) -> Result<Entry, Memory>
-    requires { length poll.old.given < 16 }
+    requires { length poll.old.given < MAX_POLLED }
     ensures ok { IfOk result (λ e. entry_of e ≡ steps.polled (poll_of poll.old) (poll.old.given ++ last ∷ [])) }
     ensures err { OnErr result (poll.new ≡ poll.old) }
 {

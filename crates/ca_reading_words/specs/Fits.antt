@@ -3,6 +3,7 @@ use Rattle.std.specs.Prelude.{◌≡◌, ℕ, ◌≤◌, ◌&&◌, nat_lt, Bool,
 use Rattle.std.specs.Int.{Width, w8, w16, w32}
 use Rattle.std.specs.List.{AllByRecursion}
 use Rattle.hex.specs.Hex.{IsBytes}
+use Rattle.ca_base.specs.declared.limits.TheConstants.{MAX_PIECES}
 use Rattle.ca_keys.specs.declared.key.Key.{Key}
 use Rattle.ca_base.specs.declared.lot.Lot.{Lot}
 use Rattle.ca_base.specs.declared.lot.Lot.TheVariants as lots
@@ -63,7 +64,7 @@ Fits (OfKey k) = KeyFits k
 Fits (PerhapsKey k) = IfSome k KeyFits
 Fits (Address at) = at ≤ 18446744073709551615
 Fits (Hex bytes) = IsBytes bytes
-Fits (OfPieces list) = (length list ≤ 4) × AllByRecursion PieceFits list
+Fits (OfPieces list) = (length list ≤ MAX_PIECES) × AllByRecursion PieceFits list
 Fits (OfPages pages) = AllByRecursion (λ page. page ≤ 65535) pages
 Fits (OfRuns runs) = AllByRecursion RunFits runs
 Fits (OfLot lot) = LotFits lot

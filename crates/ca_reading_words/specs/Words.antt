@@ -4,6 +4,7 @@ use Rattle.std.specs.Prelude.{◌≡◌, ℕ, ◌+◌, ◌*◌, ◌/◌, ◌%◌
 use Rattle.std.specs.List.{slice_split}
 use Rattle.std.specs.Str.{bytes_eq}
 use Rattle.std.specs.Char.{digit_value}
+use Rattle.ca_base.specs.declared.limits.TheConstants.{MAX_PIECES}
 use Rattle.ca_keys.specs.declared.key.Key.{Key}
 use Rattle.ca_keys.specs.declared.names.DomainId.{DomainId}
 use Rattle.ca_keys.specs.declared.names.QueueId.{QueueId}
@@ -163,7 +164,7 @@ piece_in w = do
 unfoldable pub pieces_in : List ℕ → Option (List Piece)
 pieces_in w = do
   list ← list_in piece_in w
-  if nat_le (length list) 4 then Some list else None
+  if nat_le (length list) MAX_PIECES then Some list else None
 
 -- A/B:OFFSET+LENGTH
 unfoldable pub run_in : List ℕ → Option Run

@@ -1,4 +1,5 @@
 ghost use Rattle.std.specs.Prelude.{◌≡◌, ◌≤◌, length};
+ghost use Rattle.ca_base.specs.declared.limits.TheConstants.{MAX_PIECES};
 ghost use Rattle.ca_reading_words.specs.Words as words;
 ghost use Rattle.ca_reading_words.specs.Words.{Gives, GivesAs};
 
@@ -8,6 +9,7 @@ use crate::pieces::Pieces;
 use crate::stop::Stop;
 use crate::word::is_name;
 use arrayvec::ArrayVec;
+use ca_base::limits::MAX_PIECES;
 use ca_base::{Pages, Piece, Run, Runs};
 use std::alloc::Global;
 
@@ -115,8 +117,8 @@ fn piece_list_in(alloc: Global, word: &[u8]) -> Result<Vec<Piece>, Stop>
 }
 
 /// At most four pieces, as a list of a request holds them.
-fn four_of(list: &[Piece]) -> ArrayVec<Piece, 4>
-    requires { length list.now ≤ 4 }
+fn four_of(list: &[Piece]) -> ArrayVec<Piece, MAX_PIECES>
+    requires { length list.now ≤ MAX_PIECES }
     ensures { result.items ≡ list.now }
 {
     let mut pieces = ArrayVec::new();
@@ -128,11 +130,11 @@ fn four_of(list: &[Piece]) -> ArrayVec<Piece, 4>
 
 /// The pieces of a request's list, of which there are at most four.
 #[tactic(auto, unfolding(crate::specs::Words::pieces_in))]
-pub fn pieces_in(alloc: Global, word: &[u8]) -> Result<ArrayVec<Piece, 4>, Stop>
+pub fn pieces_in(alloc: Global, word: &[u8]) -> Result<ArrayVec<Piece, MAX_PIECES>, Stop>
     ensures { GivesAs (λ list. list.items) result (words.pieces_in word.now) }
 {
     let list = piece_list_in(alloc, word)?;
-    if list.len() <= 4 {
+    if list.len() <= MAX_PIECES {
         Ok(four_of(list.as_slice()))
     } else {
         Err(Stop::Outside)

@@ -7,14 +7,15 @@ use Rattle.ca_keys.specs.declared.memory.Memory.{Memory}
 use Rattle.ca_base.specs.declared.refusals.OpRefusal.{OpRefusal}
 use Rattle.ca_base.specs.Sight.{Invalidation, Sight, first_denied}
 use Rattle.ca_base.specs.objects.QueuePair.{QueuePair}
-use Rattle.ca_base.specs.objects.SharedReceives.{PlacedReceive}
+use Rattle.ca_base.specs.declared.request.PlacedReceive.{PlacedReceive}
 use Rattle.ca_wire.specs.declared.segment.Position.{Position}
 use Rattle.ca_wire.specs.declared.segment.Position.TheVariants.{First, Middle, Last, Only}
 use Rattle.ca_packet.specs.Packet.{Fields}
 use Rattle.ca_model.specs.declared.mark.Mark.{Mark}
 use Rattle.ca_model.specs.Requests.{list_length}
 use Rattle.ca_model.specs.machine.Arrivals.{has_shared, with_flag, with_message}
-use Rattle.ca_model.specs.machine.Expected.{Receiving, after_send_packet, behind_marks, receive_asks, send_row, with_shared_receive, with_window_gone}
+use Rattle.ca_model.specs.declared.receiving.Receiving.{Receiving}
+use Rattle.ca_model.specs.machine.Expected.{after_send_packet, behind_marks, receive_asks, send_row, with_shared_receive, with_window_gone}
 use Rattle.ca_model.specs.machine.Responses.{local_writes, writes_by}
 use Rattle.ca_model.specs.machine.Row.{Does, ending_of}
 use Rattle.ca_receiving.specs.Ending.{key_end, refused_end, sent_and_ended}

@@ -10,7 +10,8 @@ use Rattle.ca_wire.specs.declared.segment.Position.{Position}
 use Rattle.ca_wire.specs.declared.syndrome.NakCode.TheVariants.{RemoteOperationalError}
 use Rattle.ca_packet.specs.Packet.{Fields}
 use Rattle.ca_model.specs.machine.Arrivals.{with_flag}
-use Rattle.ca_model.specs.machine.Expected.{Receiving, after_send_packet, behind_marks, receive_failure_effects, revoked_marks, with_window_gone}
+use Rattle.ca_model.specs.declared.receiving.Receiving.{Receiving}
+use Rattle.ca_model.specs.machine.Expected.{after_send_packet, behind_marks, receive_failure_effects, revoked_marks, with_window_gone}
 use Rattle.ca_model.specs.machine.Row.{Effects}
 use Rattle.ca_arrivals.specs.Numbers.{receive_taken}
 

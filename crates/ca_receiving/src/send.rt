@@ -28,12 +28,12 @@ ghost use Rattle.ca_packet.specs.Packet.{fields_of};
 
 use crate::held::{hold, refuse_held, settle_held};
 use ca_arrivals::{
-    Placed, Receiving, exceeds_receive, pass, push_flush_behind, queue_ack, queue_refusal,
-    receive_asks, reserve_for, take_own,
+    exceeds_receive, pass, push_flush_behind, queue_ack, queue_refusal, receive_asks, reserve_for,
+    take_own,
 };
-use ca_base::{Ask, Bytes, Key, Memory, Message, OpRefusal, WcOp, WcStatus};
+use ca_base::{Ask, Bytes, Key, Memory, Message, OpRefusal, PlacedReceive, WcOp, WcStatus};
 use ca_grant::Reach;
-use ca_model::{Mark, Marks};
+use ca_model::{Mark, Marks, Receiving};
 use ca_qpstate::QueuePart;
 use ca_rows::{cut_writes, first_denied, local_denial, receive_failure, receive_mark, write_all};
 use ca_wire::{NakCode, Packet, Position};
@@ -315,7 +315,7 @@ fn end_taken_send(
     ensures room { 2 ≤ marks.new.room }
 {
     let bytes = r.before + p.payload.len() as u32;
-    let Placed { place: at, receive } = r.receive;
+    let PlacedReceive { place: at, receive } = r.receive;
     if !place.ends() {
         q.responder.message = Some(Message::Send {
             place: at,

@@ -15,10 +15,10 @@ ghost use Rattle.ca_arrivals.specs.Taking.{IsPacketTaken, ended_by, found};
 ghost use Rattle.ca_model.specs.machine.CanStep.{AreNarrow, CanStep};
 ghost use Rattle.ca_packet.specs.Packet.{fields_of};
 
-use ca_arrivals::{Placed, WriteReach, pass, queue_ack, refuse, remote_mark, take_own, write_ask};
-use ca_base::{Ask, Bytes, Denial, Memory, Message, Verdict, WcOp};
+use ca_arrivals::{pass, queue_ack, refuse, remote_mark, take_own, write_ask};
+use ca_base::{Ask, Bytes, Denial, Memory, Message, PlacedReceive, Verdict, WcOp};
 use ca_grant::Reach;
-use ca_model::Marks;
+use ca_model::{Marks, WriteReach};
 use ca_qpstate::QueuePart;
 use ca_rows::receive_mark;
 use ca_wire::{NakCode, Packet, Position};
@@ -33,7 +33,7 @@ pub fn take_write<R: Reach>(
     p: &Packet<'_>,
     envelope: Option<u64>,
     place: Position,
-    next: Option<&Placed>,
+    next: Option<&PlacedReceive>,
     r: &WriteReach,
     marks: &mut Marks,
 ) -> Result<bool, Memory>
@@ -88,7 +88,7 @@ fn write_nothing(
     ask: &Ask,
     envelope: Option<u64>,
     place: Position,
-    next: Option<&Placed>,
+    next: Option<&PlacedReceive>,
     r: &WriteReach,
     marks: &mut Marks,
 ) -> Result<bool, Memory>
@@ -121,7 +121,7 @@ fn place_write<R: Reach>(
     ask: &Ask,
     envelope: Option<u64>,
     place: Position,
-    next: Option<&Placed>,
+    next: Option<&PlacedReceive>,
     r: &WriteReach,
     marks: &mut Marks,
 ) -> Result<bool, Memory>
@@ -161,7 +161,7 @@ fn end_write(
     q: &mut QueuePart,
     p: &Packet<'_>,
     place: Position,
-    next: Option<&Placed>,
+    next: Option<&PlacedReceive>,
     r: &WriteReach,
     marks: &mut Marks,
 ) -> bool

@@ -3,7 +3,7 @@ use Rattle.std.specs.Prelude.{◌≡◌, ℕ, ◌^◌, ◌<◌, suc, true, if◌
 use Rattle.std.specs.Option.{option_and_then}
 use Rattle.ca_keys.specs.declared.access.Ask.{Ask}
 use Rattle.ca_base.specs.declared.completion.WcStatus.TheVariants.{LocalProtection}
-use Rattle.ca_base.specs.Sight.{DeniedAsk}
+use Rattle.ca_base.specs.declared.denied_ask.DeniedAsk.{DeniedAsk}
 use Rattle.ca_base.specs.objects.QueuePair.{QueuePair}
 use Rattle.ca_model.specs.machine.Acknowledgements.{acknowledgement_below, and_then, failure_effects, progress_to, with_requester}
 use Rattle.ca_model.specs.machine.Expected.{behind_marks}

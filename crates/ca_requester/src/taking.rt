@@ -24,8 +24,8 @@ use crate::responses::{
     Answer, Arrival, Ended, Response, answer_of, arrival_of, implied_nak, on_nak, on_rnr_nak,
 };
 use arrayvec::ArrayVec;
-use ca_base::limits::MAX_PIECES;
-use ca_base::{Ask, Bytes, Kind, Memory, QueueId, RequesterNumbers, WcStatus};
+use ca_base::limits::{ATOMIC_BYTES, MAX_PIECES};
+use ca_base::{Ask, Bytes, DeniedAsk, Kind, Memory, QueueId, RequesterNumbers, WcStatus};
 use ca_grant::Reach;
 use ca_model::{Drop1, Mark, Marks};
 use ca_progress::{
@@ -33,13 +33,10 @@ use ca_progress::{
     finished_count, go, numbers_after, progressed, push_finished,
 };
 use ca_qpstate::QueuePart;
-use ca_rows::{DeniedAsk, cut_writes, first_denied, list_asks, list_of, local_denial, write_all};
+use ca_rows::{cut_writes, first_denied, list_asks, list_of, local_denial, write_all};
 use ca_wire::opcode::ATOMIC_ACKNOWLEDGE;
 use ca_wire::{NakCode, Packet};
 use std::alloc::Global;
-
-/// How many bytes an atomic reaches, and its answer brings.
-const ATOMIC_BYTES: u32 = 8;
 
 /// The asks that `on_response` may make, in order; it makes no other. It takes no memory.
 pub fn response_asks(q: &QueuePart, p: &Packet<'_>) -> ArrayVec<Ask, MAX_PIECES>

@@ -3,7 +3,8 @@ use Rattle.std.proofs.Common.{◌≡◌, Bool, true, false, not, ◌||◌, refl,
 use Rattle.ca_base.specs.objects.QueuePair.{QueuePair}
 use Rattle.ca_wire.specs.declared.segment.Position.{Position}
 use Rattle.ca_packet.specs.Packet.{Fields}
-use Rattle.ca_model.specs.machine.Expected.{WriteReach, continues, fits_left, fits_payload, fits_write, is_invalid, write_reach}
+use Rattle.ca_model.specs.declared.write_reach.WriteReach.{WriteReach}
+use Rattle.ca_model.specs.machine.Expected.{continues, fits_left, fits_payload, fits_write, is_invalid, write_reach}
 use Rattle.ca_model.specs.machine.Shapes.{Shape, WriteAt, fits_place}
 
 none-of : (a b c d e f : Bool) → not a || not b || not c || d || e || f ≡ false → (a ≡ true) × (b ≡ true) × (c ≡ true)

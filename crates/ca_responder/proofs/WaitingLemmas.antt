@@ -6,13 +6,16 @@ use Rattle.ca_base.specs.declared.queue_numbers.Message.{Message}
 use Rattle.ca_base.specs.declared.queue_numbers.Message.TheVariants as messages
 use Rattle.ca_keys.specs.declared.verdict.Verdict.TheVariants as verdicts
 use Rattle.ca_base.specs.objects.QueuePair.{QueuePair}
-use Rattle.ca_base.specs.objects.SharedReceives.{PlacedReceive, SharedReceives}
+use Rattle.ca_base.specs.declared.request.PlacedReceive.{PlacedReceive}
+use Rattle.ca_base.specs.objects.SharedReceives.{SharedReceives}
 use Rattle.ca_packet.specs.Packet.{Fields}
 use Rattle.ca_wire.specs.Segment.{begins, ends}
 use Rattle.ca_wire.specs.declared.segment.Position.{Position}
 use Rattle.ca_wire.specs.declared.syndrome.NakCode.TheVariants.{InvalidRequest}
 use Rattle.ca_model.specs.machine.Arrivals.{next_receive, packet_ask, refusal_effects, remote_mark, with_flag}
-use Rattle.ca_model.specs.machine.Expected.{Receiving, WriteReach, after_write_packet, behind_marks, continues, expected_row, is_invalid, receiving_of, send_row, takes_receive, valid_row, write_reach, write_row}
+use Rattle.ca_model.specs.declared.receiving.Receiving.{Receiving}
+use Rattle.ca_model.specs.declared.write_reach.WriteReach.{WriteReach}
+use Rattle.ca_model.specs.machine.Expected.{after_write_packet, behind_marks, continues, expected_row, is_invalid, receiving_of, send_row, takes_receive, valid_row, write_reach, write_row}
 use Rattle.ca_model.specs.machine.Row.{Effects, Row, plain_row, Does}
 use Rattle.ca_arrivals.specs.Receives.{receive_if}
 use Rattle.ca_responder.proofs.ValidLemmas.{valid_order}

@@ -20,10 +20,10 @@ ghost use Rattle.ca_packet.specs.Packet.{IsWellFormed, fields_of};
 
 use crate::duplicates::{take_ahead, take_duplicate};
 use ca_arrivals::{
-    Placed, Shape, drop_packet, is_invalid, lacks_receive, queue_answer, receiving_of, refuse,
-    shape_of, taken_receive, write_reach,
+    Shape, drop_packet, is_invalid, lacks_receive, queue_answer, receiving_of, refuse, shape_of,
+    taken_receive, write_reach,
 };
-use ca_base::{Memory, Queued};
+use ca_base::{Memory, PlacedReceive, Queued};
 use ca_grant::Reach;
 use ca_model::{Drop1, Marks};
 use ca_psn::widen;
@@ -268,7 +268,7 @@ fn take_valid<R: Reach>(
     p: &Packet<'_>,
     envelope: Option<u64>,
     shape: Shape,
-    next: Option<Placed>,
+    next: Option<PlacedReceive>,
     marks: &mut Marks,
 ) -> Result<bool, Memory>
     requires step { CanStep q.old }

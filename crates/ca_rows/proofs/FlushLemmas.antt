@@ -3,7 +3,7 @@ use Rattle.std.proofs.Common.{◌≡◌, ℕ, suc, ◌≤◌, sym, ap, ◌∙◌
 use Rattle.ca_base.specs.declared.completion.WcStatus.TheVariants.{Flushed}
 use Rattle.ca_keys.specs.declared.names.QueueId.{QueueId}
 use Rattle.ca_base.specs.declared.request.RecvRequest.{RecvRequest}
-use Rattle.ca_base.specs.objects.QueuePair.{PostedSend}
+use Rattle.ca_base.specs.declared.request.PostedSend.{PostedSend}
 use Rattle.ca_base.specs.objects.WorkQueue.{WorkQueue, item_at, items_from}
 use Rattle.ca_model.specs.declared.mark.Mark.{Mark}
 use Rattle.ca_model.specs.machine.Completions.{failure_mark, flushed_receives, flushed_sends, receive_failure}

@@ -3,26 +3,8 @@ ghost use Rattle.std.specs.List.{AllByRecursion};
 ghost use Rattle.ca_base.specs.Sight as sights;
 ghost use Rattle.ca_rows.specs.Asks.{CanJudge, IsGranted};
 
-use ca_base::{Ask, Denial};
+use ca_base::{Ask, DeniedAsk};
 use ca_grant::Reach;
-use std::marker::Model;
-
-/// An ask that is denied, and the part of the key check that fails.
-#[derive(Clone, Copy)]
-pub struct DeniedAsk {
-    pub ask: Ask,
-    pub denial: Denial,
-}
-
-impl Model for DeniedAsk {
-    ghost use Rattle.ca_base.specs.Sight.{DeniedAsk};
-
-    ghost Value = { DeniedAsk };
-
-    ghost view = { λ d. record { ask = d.ask; denial = d.denial } };
-
-    ghost inverse = { λ d. record { ask = d.ask; denial = d.denial } };
-}
 
 /// The first ask that is denied. None comes exactly where all are allowed.
 pub fn first_denied<R: Reach>(reach: &R, asks: &[Ask]) -> Option<DeniedAsk>

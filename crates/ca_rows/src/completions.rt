@@ -6,13 +6,13 @@ ghost use Rattle.ca_model.specs.machine.Invariants.{IsList};
 ghost use Rattle.ca_model.specs.machine.Requester as requester;
 ghost use Rattle.ca_rows.specs.Made.{AreAdded};
 
-use crate::asks::DeniedAsk;
 use crate::list::list_length;
 use crate::operations::operation_of;
 use crate::reads::local_mark;
 use ca_base::limits::ATOMIC_BYTES;
 use ca_base::{
-    Completion, Key, OpRefusal, QueueId, RecvRequest, SendOp, SendRequest, Verdict, WcOp, WcStatus,
+    Completion, DeniedAsk, Key, OpRefusal, QueueId, RecvRequest, SendOp, SendRequest, Verdict,
+    WcOp, WcStatus,
 };
 use ca_model::{Mark, Marks};
 

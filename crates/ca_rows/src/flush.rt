@@ -5,9 +5,9 @@ ghost use Rattle.ca_model.specs.machine.Invariants.{IsQueue, IsReceives};
 ghost use Rattle.ca_rows.specs.Flush.{with_oldest};
 
 use crate::completions::{failure_mark, receive_failure};
-use ca_base::{Memory, Message, QueueId, RecvRequest, WcStatus};
+use ca_base::{Memory, Message, PostedSend, QueueId, RecvRequest, WcStatus};
 use ca_model::Mark;
-use ca_qpstate::{PostedSend, QueuePart};
+use ca_qpstate::QueuePart;
 use ca_workqueue::WorkQueue;
 
 /// Adds the completions of all that is posted and unfinished, flushed: the sends from a place on, the receive in use, the

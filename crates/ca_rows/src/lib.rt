@@ -18,7 +18,7 @@ mod packets;
 mod reads;
 mod writes;
 
-pub use asks::{DeniedAsk, first_denied};
+pub use asks::first_denied;
 pub use completions::{
     failure_mark, local_denial, push_success, receive_failure, receive_mark, send_completion,
 };

@@ -5,7 +5,7 @@ ghost use Rattle.ca_packet.specs.Packet.{IsWellFormed, fields_of, spelling};
 ghost use Rattle.ca_rows.specs.Made.{IsSpelt};
 
 use ca_base::Memory;
-use ca_base::limits::PSN_BASE;
+use ca_base::limits::PSN_COUNT;
 use ca_qpstate::QueuePart;
 use ca_wire::{Packet, encode, spelling_length};
 
@@ -26,7 +26,7 @@ pub fn psn_bits(psn: u64) -> u32
     ensures value { result ≡ requester.psn_bits psn }
     ensures narrow { result < 2 ^ 24 }
 {
-    (psn % PSN_BASE) as u32
+    (psn % u64::from(PSN_COUNT)) as u32
 }
 
 /// Adds the bytes that spell a packet, at most 4128.

@@ -1,23 +1,7 @@
 use arrayvec::ArrayVec;
+use ca_base::SavedResult;
 use ca_base::limits::SAVED_RESULTS;
 use std::marker::Model;
-
-/// What one atomic found, with its PSN.
-#[derive(Clone, Copy, Default)]
-struct SavedResult {
-    psn: u64,
-    found: u64,
-}
-
-impl Model for SavedResult {
-    ghost use Rattle.ca_base.specs.objects.Saved.{SavedResult};
-
-    ghost Value = { SavedResult };
-
-    ghost view = { λ r. record { psn = r.psn; found = r.found } };
-
-    ghost inverse = { λ r. record { psn = r.psn; found = r.found } };
-}
 
 /// The results of the last 16 atomics of a queue pair. Contracts see the list of them, the newest first.
 #[derive(Drop)]
@@ -27,7 +11,7 @@ pub struct Saved {
 
 impl Model for Saved {
     ghost use Rattle.std.specs.Prelude.{List};
-    ghost use Rattle.ca_base.specs.objects.Saved.{SavedResult};
+    ghost use Rattle.ca_base.specs.declared.saved_result.SavedResult.{SavedResult};
 
     ghost Value = { List SavedResult };
 

@@ -11,7 +11,8 @@ use Rattle.ca_base.specs.declared.request.SendOp.{SendOp}
 use Rattle.ca_base.specs.declared.request.SendOp.TheVariants as ops
 use Rattle.ca_keys.specs.declared.verdict.Verdict.TheVariants as verdicts
 use Rattle.ca_base.specs.Sight.{Sight, bytes_in}
-use Rattle.ca_base.specs.objects.QueuePair.{PostedSend, QueuePair}
+use Rattle.ca_base.specs.declared.request.PostedSend.{PostedSend}
+use Rattle.ca_base.specs.objects.QueuePair.{QueuePair}
 use Rattle.ca_base.specs.objects.WorkQueue.{items_from}
 use Rattle.ca_grant.specs.Reaching.{IsPacketAsk}
 use Rattle.ca_model.specs.Requests.{is_local, psns_of}

@@ -23,12 +23,12 @@ use crate::packet::{fill_packet_asks, spell};
 use crate::turn::{end_of_packet, is_too_much, turn_of};
 use arrayvec::ArrayVec;
 use ca_base::limits::MAX_PIECES;
-use ca_base::{Ask, Memory, Reason, Sent, StepError, WcStatus};
+use ca_base::{Ask, DeniedAsk, Memory, Reason, Sent, StepError, WcStatus};
 use ca_grant::Reach;
 use ca_model::Marks;
 use ca_progress::{Failure, Next, Numbered, fail};
 use ca_qpstate::QueuePart;
-use ca_rows::{DeniedAsk, first_denied, is_local, join, keep_marks, local_denial, read_granted};
+use ca_rows::{first_denied, is_local, join, keep_marks, local_denial, read_granted};
 use std::alloc::Global;
 
 /// The asks that `next_packet` may make, in order; it makes no other. It takes no memory.

@@ -1,32 +1,17 @@
 ghost use Rattle.std.specs.Prelude.{◌≡◌, ◌==◌, ◌++◌, drop, filter, not, take};
 ghost use Rattle.circular_buffer.specs.Buffer.{buffer};
 
-use ca_base::{Memory, RecvRequest};
+use ca_base::{Memory, PlacedReceive, RecvRequest};
 use circular_buffer::HeapCircularBuffer;
 use std::alloc::Global;
 use std::marker::Model;
-
-/// A receive with its posting place.
-#[derive(Drop)]
-struct Placed {
-    place: u64,
-    receive: RecvRequest,
-}
-
-impl Model for Placed {
-    ghost use Rattle.ca_base.specs.objects.SharedReceives.{PlacedReceive};
-
-    ghost Value = { PlacedReceive };
-
-    ghost view = { λ p. record { place = p.place; receive = p.receive } };
-}
 
 /// A shared receive queue. Contracts see its depth, the place of the next receive to be posted, the receives that wait
 /// with their places, and the places that were taken and still occupy the queue, in the order in which they were taken.
 #[derive(Drop)]
 pub struct Srq {
     next: u64,
-    waiting: HeapCircularBuffer<Placed>,
+    waiting: HeapCircularBuffer<PlacedReceive>,
     taken: HeapCircularBuffer<u64>,
 }
 
@@ -75,7 +60,7 @@ impl Srq {
             return Err(receive);
         }
         let place = self.next;
-        self.waiting.push_back(Placed { place, receive });
+        self.waiting.push_back(PlacedReceive { place, receive });
         self.next = place + 1;
         Ok(place)
     }
@@ -86,7 +71,7 @@ impl Srq {
         ensures queue { self.new ≡ after_receive_take self.old }
     {
         match self.waiting.pop_front() {
-            Some(Placed { place, receive }) => {
+            Some(PlacedReceive { place, receive }) => {
                 self.taken.push_back(place);
                 Some((place, receive))
             }

@@ -112,22 +112,23 @@ impl<T> WorkQueue<T> {
 }
 
 impl<T: Drop> WorkQueue<T> {
-    ghost use Rattle.std.specs.Prelude.{◌≡◌, ◌<◌};
-    ghost use Rattle.ca_base.specs.objects.WorkQueue.{empty_queue, next_place, after_retire};
+    ghost use Rattle.std.specs.Prelude.{◌≡◌, ◌<◌, ◌^◌, suc};
+    ghost use Rattle.ca_base.specs.objects.WorkQueue.{empty_queue, after_retire};
 
-    /// Frees all places up to this one, which is one that was posted. It takes no memory, and time by how many
-    /// requests it frees.
+    /// Frees all places up to this one. It takes no memory, and time by how many requests it frees.
     pub fn retire(&mut self, place: u64)
-        requires { place < next_place self.old }
+        requires { suc place < 2 ^ 64 }
         ensures { self.new ≡ after_retire place self.old }
     {
         if place < self.first {
             return;
         }
-        let left = self.first + self.requests.len() as u64 - (place + 1);
+        let next = self.first + self.requests.len() as u64;
+        let left = next.saturating_sub(place + 1);
         self.requests.truncate_front(left as usize);
         self.first = place + 1;
     }
+
     /// The queue is as `create` made it: nothing was posted. It takes no memory.
     pub fn reset(&mut self)
         ensures { self.new ≡ empty_queue self.old.depth }

@@ -2,10 +2,10 @@
 use Rattle.std.specs.Prelude.{ℕ, suc, ◌-◌, ◌==◌, ◌&&◌, ◌||◌, nat_le, nat_lt, Bool, true, false, not, if◌then◌else◌, List, [], ◌∷◌, filter, length, take, Option, None, Some, slice_get}
 use Rattle.std.specs.List.{list_any}
 use Rattle.std.specs.Option.{option_map_or, option_and_then, option_or}
+use Rattle.ca_base.specs.declared.correspondent.Correspondent.{Correspondent}
 use Rattle.ca_base.specs.declared.limits.TheConstants.{KEPT_ENVELOPES, MAX_UNDELIVERED}
 use Rattle.ca_base.specs.declared.lot.Lot.{Lot}
 use Rattle.ca_base.specs.declared.lot.Lot.TheVariants.{Pass, Lose, Repeat, Hold}
-use Rattle.ca_keys.specs.declared.names.QueueId.{QueueId}
 use Rattle.ca_keys.specs.Equal.{queue_eq}
 
 -- an envelope: what the weather does to it, its bytes, and how often it was delivered
@@ -13,11 +13,6 @@ pub record MailEnvelope : Type 0 where
   pub lot : Lot
   pub bytes : List ℕ
   pub delivered : ℕ
-
--- a queue pair in an incarnation
-pub record Correspondent : Type 0 where
-  pub queue : QueueId
-  pub incarnation : ℕ
 
 -- the owner's incarnation, the peer that it named, the index of the next envelope, and the envelopes since the mailbox
 -- was cleared, the newest first: as many stand before one as were sent after it

@@ -1,9 +1,9 @@
 -- A queue pair: its state, its peer, its queues, and what its requester and its responder count. Contracts cite it.
-use Rattle.std.specs.Prelude.{ℕ, suc, ◌^◌, Bool, true, false, List, [], Option, None, Some}
+use Rattle.std.specs.Prelude.{ℕ, suc, Bool, true, false, List, [], Option, None, Some}
 use Rattle.std.specs.Option.{option_map}
 use Rattle.ca_base.specs.declared.change.State.{State}
 use Rattle.ca_base.specs.declared.change.State.TheVariants as states
-use Rattle.ca_base.specs.declared.limits.TheConstants.{MIN_PATH_MTU}
+use Rattle.ca_base.specs.declared.limits.TheConstants.{MIN_PATH_MTU, PSN_BASE}
 use Rattle.ca_keys.specs.declared.names.DomainId.{DomainId}
 use Rattle.ca_keys.specs.declared.names.QueueId.{QueueId}
 use Rattle.ca_keys.specs.declared.names.Slot.{Slot}
@@ -11,16 +11,11 @@ use Rattle.ca_base.specs.declared.queue_numbers.Message.{Message}
 use Rattle.ca_base.specs.declared.queue_numbers.Message.TheVariants as messages
 use Rattle.ca_base.specs.declared.queue_numbers.RequesterNumbers.{RequesterNumbers}
 use Rattle.ca_base.specs.declared.queue_numbers.ResponderNumbers.{ResponderNumbers}
+use Rattle.ca_base.specs.declared.request.PostedSend.{PostedSend}
 use Rattle.ca_base.specs.declared.request.RecvRequest.{RecvRequest}
-use Rattle.ca_base.specs.declared.request.SendRequest.{SendRequest}
-use Rattle.ca_base.specs.objects.Mailbox.{Correspondent}
-use Rattle.ca_base.specs.objects.Saved.{SavedResult}
+use Rattle.ca_base.specs.declared.correspondent.Correspondent.{Correspondent}
+use Rattle.ca_base.specs.declared.saved_result.SavedResult.{SavedResult}
 use Rattle.ca_base.specs.objects.WorkQueue.{WorkQueue, empty_queue, next_place, with_all_taken}
-
--- a posted send request, and the byte that a bind of a type 1 window drew
-pub record PostedSend : Type 0 where
-  pub request : SendRequest
-  pub drawn : Option ℕ
 
 -- what a queue pair is; it takes its receives from a queue of its own or from a shared one, by slot
 pub record QueuePair : Type 0 where
@@ -68,7 +63,7 @@ is_present (Present q) = true
 
 -- the whole number of PSN 0, so that there are numbers before the first
 abbrev pub psn_base : ℕ
-psn_base = 2 ^ 24
+psn_base = PSN_BASE
 
 -- a requester that sent nothing
 abbrev pub requester_at_start : ℕ → RequesterNumbers

@@ -1,11 +1,7 @@
 -- Saved results: what the latest atomics of a queue pair found, for their duplicates. Contracts cite it.
 use Rattle.std.specs.Prelude.{ℕ, ◌==◌, if◌then◌else◌, List, [], ◌∷◌, take, Option, None, Some}
 use Rattle.ca_base.specs.declared.limits.TheConstants.{SAVED_RESULTS}
-
--- an atomic's PSN and what it found
-pub record SavedResult : Type 0 where
-  pub psn : ℕ
-  pub found : ℕ
+use Rattle.ca_base.specs.declared.saved_result.SavedResult.{SavedResult}
 
 -- the results, the newest first, with one more: of more than the limit the oldest goes
 abbrev pub after_save : ℕ → ℕ → List SavedResult → List SavedResult

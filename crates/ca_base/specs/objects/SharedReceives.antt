@@ -1,12 +1,8 @@
 -- A shared receive queue: the receives that wait, and the places of those that were taken and still occupy it. Contracts
 -- cite it.
 use Rattle.std.specs.Prelude.{ℕ, suc, ◌+◌, ◌==◌, nat_le, Bool, not, List, [], ◌∷◌, ◌++◌, drop, filter, length, map, take, Option, None, slice_get}
+use Rattle.ca_base.specs.declared.request.PlacedReceive.{PlacedReceive}
 use Rattle.ca_base.specs.declared.request.RecvRequest.{RecvRequest}
-
--- a receive with its posting place
-pub record PlacedReceive : Type 0 where
-  pub place : ℕ
-  pub receive : RecvRequest
 
 -- the depth, the place of the next receive to be posted, the receives that wait, and the places that were taken
 pub record SharedReceives : Type 0 where

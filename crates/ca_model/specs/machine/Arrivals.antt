@@ -1,6 +1,6 @@
 -- What the responder's rows share: the receive that a message takes, the response queue, NAKs, and the end of a packet.
 -- Contracts cite it.
-use Rattle.std.specs.Prelude.{ℕ, Bool, true, false, not, if◌then◌else◌, List, [], ◌∷◌, ◌++◌, filter, length, Option, None, Some}
+use Rattle.std.specs.Prelude.{ℕ, Bool, true, false, [], ◌∷◌, ◌++◌, Option, None, Some}
 use Rattle.std.specs.Option.{option_map, option_map_or, option_and_then}
 use Rattle.ca_keys.specs.declared.access.Ask.{Ask}
 use Rattle.ca_keys.specs.declared.access.Kind.{Kind}
@@ -11,7 +11,8 @@ use Rattle.ca_base.specs.declared.queue_numbers.Queued.TheVariants as queued
 use Rattle.ca_base.specs.declared.queue_numbers.ResponderNumbers.{ResponderNumbers}
 use Rattle.ca_keys.specs.declared.verdict.Verdict.{Verdict}
 use Rattle.ca_base.specs.objects.QueuePair.{QueuePair, in_error}
-use Rattle.ca_base.specs.objects.SharedReceives.{PlacedReceive, SharedReceives, first_receive}
+use Rattle.ca_base.specs.declared.request.PlacedReceive.{PlacedReceive}
+use Rattle.ca_base.specs.objects.SharedReceives.{SharedReceives, first_receive}
 use Rattle.ca_base.specs.objects.WorkQueue.{WorkQueue, after_take, item_at}
 use Rattle.ca_base.specs.declared.request.RecvRequest.{RecvRequest}
 use Rattle.ca_wire.specs.declared.syndrome.NakCode.{NakCode}

@@ -9,7 +9,6 @@ use Rattle.ca_keys.specs.declared.access.Kind.TheVariants as kinds
 use Rattle.ca_base.specs.declared.completion.WcOp.TheVariants as operations
 use Rattle.ca_base.specs.declared.completion.WcStatus.{WcStatus}
 use Rattle.ca_base.specs.declared.completion.WcStatus.TheVariants.{Success, LocalLength, LocalProtection, MemoryManagement}
-use Rattle.ca_keys.specs.declared.key.Key.{Key}
 use Rattle.ca_base.specs.declared.limits.TheConstants.{ATOMIC_BYTES, MAX_MESSAGE_BYTES, MAX_READS}
 use Rattle.ca_base.specs.declared.queue_numbers.Message.{Message}
 use Rattle.ca_base.specs.declared.queue_numbers.Message.TheVariants as messages
@@ -21,7 +20,8 @@ use Rattle.ca_base.specs.Sight.{Invalidation}
 use Rattle.ca_base.specs.objects.Answers.{fresh_count, with_ack_at_end}
 use Rattle.ca_base.specs.objects.QueuePair.{QueuePair}
 use Rattle.ca_base.specs.objects.Saved.{after_save}
-use Rattle.ca_base.specs.objects.SharedReceives.{PlacedReceive, SharedReceives}
+use Rattle.ca_base.specs.declared.request.PlacedReceive.{PlacedReceive}
+use Rattle.ca_base.specs.objects.SharedReceives.{SharedReceives}
 use Rattle.ca_keys.specs.Numbers.{is_window_key}
 use Rattle.ca_packet.specs.declared.atomic_eth.AtomicEth.{AtomicEth}
 use Rattle.ca_packet.specs.declared.reth.Reth.{Reth}
@@ -32,6 +32,8 @@ use Rattle.ca_packet.specs.Packet.{Fields}
 use Rattle.ca_wire.specs.Segment.{begins, ends}
 use Rattle.ca_model.specs.declared.mark.Mark.{Mark}
 use Rattle.ca_model.specs.declared.mark.Mark.TheVariants as marks
+use Rattle.ca_model.specs.declared.receiving.Receiving.{Receiving}
+use Rattle.ca_model.specs.declared.write_reach.WriteReach.{WriteReach}
 use Rattle.ca_model.specs.Packets.{number_put}
 use Rattle.ca_model.specs.Requests.{list_length, segments}
 use Rattle.ca_model.specs.machine.Arrivals.{has_shared, next_receive, packet_ask, refusal_effects, remote_mark, with_answer, with_flag, with_message, with_receive_taken, with_responder}
@@ -42,13 +44,6 @@ use Rattle.ca_model.specs.machine.Responses.{local_writes, writes_by}
 use Rattle.ca_model.specs.machine.Row as rows
 use Rattle.ca_model.specs.machine.Row.{Effects, queue_and_marks, Row, Does}
 use Rattle.ca_model.specs.machine.Shapes.{Shape, SendAt, WriteAt, ReadRequest, Atomic, fits_place}
-
--- what a WRITE packet reaches: the key, where it goes on, what is left, and the message's whole length
-pub record WriteReach : Type 0 where
-  pub key : Key
-  pub address : ℕ
-  pub left : ℕ
-  pub whole : ℕ
 
 abbrev pub reach_of_reth : Reth → WriteReach
 reach_of_reth h = record { key = h.key; address = h.address; left = h.length; whole = h.length }
@@ -137,12 +132,6 @@ behind_marks ms e = record e { marks = ms ++ e.marks }
 abbrev pub receive_failure_effects : QueuePair → PlacedReceive → WcStatus → Option OpRefusal → NakCode → Effects
 receive_failure_effects q r status cause code =
     behind_marks (receive_failure q.queue r.place r.receive status cause ∷ []) (refusal_effects code (with_message None q))
-
--- a SEND's bytes with its receive, and how many came before
-pub record Receiving : Type 0 where
-  pub receive : PlacedReceive
-  pub before : ℕ
-  pub taken : Bool
 
 -- the receive of a SEND packet: the next one where the message begins, and else that of the message in progress
 abbrev pub receiving_of : QueuePair → Option PlacedReceive → Option Message → Option Receiving

@@ -17,7 +17,8 @@ use Rattle.ca_base.specs.declared.queue_numbers.ResponderNumbers.{ResponderNumbe
 use Rattle.ca_base.specs.objects.CompletionQueue.{CompletionQueue}
 use Rattle.ca_base.specs.objects.Domain.{Domain}
 use Rattle.ca_base.specs.objects.Mailbox.{Mailbox, undelivered_count}
-use Rattle.ca_base.specs.objects.QueuePair.{PostedSend, QueuePair, psn_base}
+use Rattle.ca_base.specs.declared.request.PostedSend.{PostedSend}
+use Rattle.ca_base.specs.objects.QueuePair.{QueuePair, psn_base}
 use Rattle.ca_base.specs.objects.SharedReceives.{SharedReceives, occupied_receives}
 use Rattle.ca_base.specs.objects.StateTable.{is_among, is_path_mtu}
 use Rattle.ca_base.specs.objects.Window.{Binding, Window}

@@ -14,7 +14,8 @@ use Rattle.ca_base.specs.declared.request.SendOp.TheVariants as ops
 use Rattle.ca_base.specs.Configuration.{Configuration}
 use Rattle.ca_keys.specs.Numbers.{queue_of}
 use Rattle.ca_base.specs.objects.CompletionQueue.{CompletionQueue}
-use Rattle.ca_base.specs.objects.Mailbox.{Correspondent, bytes_lent}
+use Rattle.ca_base.specs.declared.correspondent.Correspondent.{Correspondent}
+use Rattle.ca_base.specs.objects.Mailbox.{bytes_lent}
 use Rattle.ca_base.specs.objects.QueuePair.{QueuePair, queue_in, recv_cq_of, send_cq_of, srq_of}
 use Rattle.ca_base.specs.objects.Region.{grant_of_region}
 use Rattle.ca_base.specs.objects.SharedReceives.{SharedReceives}

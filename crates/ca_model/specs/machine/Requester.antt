@@ -12,7 +12,7 @@ use Rattle.ca_base.specs.declared.step.Reason.TheVariants as reasons
 use Rattle.ca_base.specs.declared.step.Sent.TheVariants.{Spelt}
 use Rattle.ca_keys.specs.declared.verdict.Verdict.TheVariants as verdicts
 use Rattle.ca_keys.specs.Refusals.{first_of}
-use Rattle.ca_base.specs.Sight.{DeniedAsk}
+use Rattle.ca_base.specs.declared.denied_ask.DeniedAsk.{DeniedAsk}
 use Rattle.ca_base.specs.objects.QueuePair.{QueuePair}
 use Rattle.ca_base.specs.objects.StateTable.{is_among, state_eq}
 use Rattle.ca_packet.specs.Packet.{spelling}

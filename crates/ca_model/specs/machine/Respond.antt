@@ -5,7 +5,6 @@ use Rattle.std.specs.Option.{option_map_or}
 use Rattle.ca_keys.specs.declared.access.Ask.{Ask}
 use Rattle.ca_keys.specs.declared.access.Kind.TheVariants as kinds
 use Rattle.ca_base.specs.declared.change.State.TheVariants as states
-use Rattle.ca_keys.specs.declared.key.Key.{Key}
 use Rattle.ca_base.specs.declared.queue_numbers.Queued.{Queued}
 use Rattle.ca_base.specs.declared.queue_numbers.Queued.TheVariants as queued
 use Rattle.ca_base.specs.declared.step.Reason.{Reason}
@@ -21,6 +20,7 @@ use Rattle.ca_wire.specs.declared.syndrome.NakCode.TheVariants.{PsnSequenceError
 use Rattle.ca_wire.specs.Builders.{acknowledgement, atomic_acknowledge, nak, read_response, rnr_nak}
 use Rattle.ca_packet.specs.Packet.{Fields, spelling}
 use Rattle.ca_wire.specs.Syndrome.{nak_code_in}
+use Rattle.ca_model.specs.declared.read_left.ReadLeft.{ReadLeft}
 use Rattle.ca_model.specs.machine.Arrivals.{packet_ask, remote_mark, with_responder}
 use Rattle.ca_model.specs.machine.Completions.{flush_marks}
 use Rattle.ca_model.specs.machine.Requester.{peer_number, psn_bits}
@@ -49,16 +49,6 @@ with_packet f e = record e { sent = Spelt None; spelt = spelling f }
 -- a NAK by its code
 abbrev pub nak_of : ℕ → NakCode
 nak_of code = option_map_or (λ c. c) (nak_code_in code) PsnSequenceError
-
--- what is left of a READ that waits to be answered
-pub record ReadLeft : Type 0 where
-  pub psn : ℕ
-  pub key : Key
-  pub address : ℕ
-  pub left : ℕ
-  pub first : Bool
-  pub envelope : Option ℕ
-  pub duplicate : Bool
 
 -- the bytes of its next response
 abbrev pub response_length : QueuePair → ReadLeft → ℕ

@@ -10,7 +10,8 @@ use Rattle.ca_base.specs.declared.step.Sent.{Sent}
 use Rattle.ca_base.specs.declared.step.Sent.TheVariants.{Silent}
 use Rattle.ca_keys.specs.Allowed.{grant_for}
 use Rattle.ca_base.specs.Configuration.{Configuration}
-use Rattle.ca_base.specs.Sight.{Sight, Invalidation, DeniedAsk, or_denied, denial_by_grant, runs_by_grant, bytes_in, first_denied}
+use Rattle.ca_base.specs.declared.denied_ask.DeniedAsk.{DeniedAsk}
+use Rattle.ca_base.specs.Sight.{Sight, Invalidation, or_denied, denial_by_grant, runs_by_grant, bytes_in, first_denied}
 use Rattle.ca_base.specs.objects.LocalRequest.{region_refusal, window_refusal, unnamed_refusal}
 use Rattle.ca_base.specs.objects.QueuePair.{QueuePair}
 use Rattle.ca_base.specs.objects.Region.{Region, grant_of_region, after_region_invalidation, with_window_unbound}
@@ -41,12 +42,12 @@ queue_and_marks queue marks = record {
   writes = [];
 }
 
--- how a row plain_row
+-- how a row ends
 pub data Ending : Type 0 where
   NotPossible : Reason → Ending
   Does : Effects → Ending
 
--- A row: the asks that it makes, the key that it plain_row, if any; what it does where one of the asks is denied; and what it
+-- A row: the asks that it makes, the key that it ends, if any; what it does where one of the asks is denied; and what it
 -- does where all are allowed, with the bytes that each touches, and with the refusal of the invalidation, if it is
 -- refused.
 pub record Row : Type 0 where
@@ -64,7 +65,7 @@ plain_row ending = record {
   allowed = λ bytes refusal. ending;
 }
 
--- how a row plain_row, by what is seen of keys and memory
+-- how a row ends, by what is seen of keys and memory
 abbrev pub ending_of : Sight → Row → Ending
 ending_of s row = by (first_denied s row.asks)
   where

@@ -1,7 +1,9 @@
 use super::{DOMAIN, PEER, QUEUE, TO_RTR, TO_RTS, change, config, created};
 use arrayvec::ArrayVec;
-use ca_base::{Config, Key, Message, Queued, RecvRequest, RequesterNumbers, SendOp, SendRequest};
-use ca_qpstate::{Change, PostedSend, QueuePart, State};
+use ca_base::{
+    Config, Key, Message, PostedSend, Queued, RecvRequest, RequesterNumbers, SendOp, SendRequest,
+};
+use ca_qpstate::{Change, QueuePart, State};
 use std::process::Abort;
 
 /// The first PSN 0.

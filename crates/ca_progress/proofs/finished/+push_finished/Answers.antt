@@ -1,5 +1,5 @@
 use Rattle.std.proofs.Common.{rules, arith, ◌+◌, ◌∙◌, subst, sym}
-use Rattle.ca_base.specs.objects.QueuePair.{PostedSend}
+use Rattle.ca_base.specs.declared.request.PostedSend.{PostedSend}
 use Rattle.ca_model.specs.Requests.{list_of}
 use Rattle.ca_model.specs.machine.Invariants.{IsList}
 use Rattle.ca_progress.proofs.FinishedLemmas.{success-more, success-none}

@@ -1,5 +1,5 @@
 use Rattle.std.proofs.Common.{arith, ◌∙◌, ap}
-use Rattle.ca_base.specs.objects.QueuePair.{PostedSend}
+use Rattle.ca_base.specs.declared.request.PostedSend.{PostedSend}
 use Rattle.ca_model.specs.Requests.{psns_of}
 use Rattle.ca_progress.proofs.NumberingLemmas.{no-numbers, step-numbers, step-sound, step-within}
 use Rattle.ca_progress.proofs.numbering.numbered_at.Goals as goal

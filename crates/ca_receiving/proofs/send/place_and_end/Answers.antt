@@ -2,7 +2,7 @@ use Rattle.std.proofs.Common.{◌≡◌, Bool, ap, sym, ◌∙◌, List, [], ◌
 use Rattle.ca_model.specs.declared.mark.Mark.{Mark}
 use Rattle.ca_model.specs.machine.Arrivals.{with_message, with_responder}
 use Rattle.ca_model.specs.machine.Completions.{flush_marks}
-use Rattle.ca_model.specs.machine.Expected.{Receiving}
+use Rattle.ca_model.specs.declared.receiving.Receiving.{Receiving}
 use Rattle.ca_model.specs.machine.Responses.{local_writes}
 use Rattle.ca_packet.specs.Packet.{fields_of}
 use Rattle.ca_receiving.specs.Ending.{key_end}
