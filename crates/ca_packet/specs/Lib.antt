@@ -1,4 +1,5 @@
 pub mod Table
 pub mod Packet
+pub mod PacketView
 pub mod Decoding
 pub mod Writing
