@@ -1,3 +1,4 @@
+pub mod Shapes
 pub mod Table
 pub mod Packet
 pub mod PacketView
