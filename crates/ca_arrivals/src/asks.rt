@@ -8,14 +8,12 @@ ghost use Rattle.ca_model.specs.machine.Expected as rows;
 ghost use Rattle.ca_model.specs.machine.Invariants.{IsList, IsQueue, IsSharedReceives};
 ghost use Rattle.ca_qpstate.specs.Seen.{queue_of};
 ghost use Rattle.ca_arrivals.specs.Asking.{IsFree, asks_fitting, send_asks};
-ghost use Rattle.ca_arrivals.specs.Shapes.{shape_seen};
 ghost use Rattle.ca_rows.specs.Narrow.{AreNarrow};
 ghost use Rattle.ca_packet.specs.Packet.{IsWellFormed, fields_of};
 
 use crate::checks::{is_invalid, lacks_receive};
 use crate::receive::{exceeds_receive, next_receive, receive_asks};
 use crate::remote::packet_ask;
-use crate::shape::{Shape, shape_of};
 use crate::writes::{WriteReach, write_ask, write_reach};
 use arrayvec::ArrayVec;
 use ca_base::limits::{ATOMIC_BYTES, MAX_PIECES};
@@ -23,7 +21,7 @@ use ca_base::{Ask, Message, Piece};
 use ca_psn::widen;
 use ca_qpstate::QueuePart;
 use ca_srq::Srq;
-use ca_wire::Packet;
+use ca_wire::{Packet, Shape, shape_of};
 
 /// The asks that `on_request` may make, in order; it makes no other. It takes no memory.
 pub fn request_asks(q: &QueuePart, srq: Option<&Srq>, p: &Packet<'_>) -> ArrayVec<Ask, MAX_PIECES>
@@ -53,7 +51,7 @@ fn expected_asks(
     requires queue { IsQueue (queue_of q.now) }
     requires shared { IfSome (option_copied srq) IsSharedReceives }
     requires packet { IsWellFormed (fields_of p.now) }
-    ensures { (envelope : Option ℕ) → result.items ≡ (rows.expected_row (queue_of q.now) (option_copied srq.entry) (fields_of p.now) envelope (shape_seen shape)).asks }
+    ensures { (envelope : Option ℕ) → result.items ≡ (rows.expected_row (queue_of q.now) (option_copied srq.entry) (fields_of p.now) envelope shape).asks }
 {
     if is_invalid(q, p, shape) {
         return ArrayVec::new();
@@ -76,7 +74,7 @@ fn valid_asks(
     requires shared { IfSome (option_copied srq) IsSharedReceives }
     requires packet { IsWellFormed (fields_of p.now) }
     ensures { (envelope : Option ℕ) → result.items ≡ (rows.valid_row (arrivals.with_flag false (queue_of q.now)) (fields_of p.now) envelope
-        (arrivals.next_receive (queue_of q.now) (option_copied srq.entry)) (shape_seen shape)).asks }
+        (arrivals.next_receive (queue_of q.now) (option_copied srq.entry)) shape).asks }
 {
     match shape {
         Shape::Send(_) => message_asks(q, srq, p),

@@ -9,7 +9,7 @@ ghost use Rattle.ca_model.specs.machine.Expected as rows;
 ghost use Rattle.ca_model.specs.machine.Invariants.{IsQueue};
 ghost use Rattle.ca_model.specs.machine.Row.{ending_of};
 ghost use Rattle.ca_qpstate.specs.Seen.{queue_of};
-ghost use Rattle.ca_arrivals.specs.Shapes.{IsAtomicKind};
+ghost use Rattle.ca_packet.specs.Shapes.{IsAtomicKind};
 ghost use Rattle.ca_remote.specs.Atomics.{IsAtomicRequest, after_atomic, found_in, number_left, number_seen, settled};
 ghost use Rattle.ca_arrivals.specs.Taking.{IsPacketTaken, ended_by, found};
 ghost use Rattle.ca_rows.specs.Narrow.{AreNarrow};

@@ -8,7 +8,7 @@ ghost use Rattle.ca_model.specs.machine.Completions.{flush_marks};
 ghost use Rattle.ca_model.specs.machine.Expected as rows;
 ghost use Rattle.ca_model.specs.machine.Invariants.{IsQueue};
 ghost use Rattle.ca_model.specs.machine.Row.{ending_of};
-ghost use Rattle.ca_model.specs.machine.Shapes.{fits_place};
+ghost use Rattle.ca_model.specs.machine.Expected.{fits_place};
 ghost use Rattle.ca_qpstate.specs.Seen.{queue_of};
 ghost use Rattle.ca_arrivals.specs.Numbers.{unasked};
 ghost use Rattle.ca_arrivals.specs.Receives.{CanTake};

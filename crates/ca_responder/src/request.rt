@@ -14,15 +14,15 @@ ghost use Rattle.ca_model.specs.machine.Row.{ending_of};
 ghost use Rattle.ca_psn.specs.Psn.{widened};
 ghost use Rattle.ca_qpstate.specs.Seen.{queue_of};
 ghost use Rattle.ca_arrivals.specs.Receives.{CanTake};
-ghost use Rattle.ca_arrivals.specs.Shapes.{IsRequestShape, shape_seen};
+ghost use Rattle.ca_packet.specs.Shapes.{IsRequestShape};
 ghost use Rattle.ca_arrivals.specs.Taking.{IsArrival, IsPacketTaken, MayEnd, after_shared, ended_by, found};
 ghost use Rattle.ca_rows.specs.Narrow.{AreNarrow};
 ghost use Rattle.ca_packet.specs.Packet.{IsWellFormed, fields_of};
 
 use crate::duplicates::{take_ahead, take_duplicate};
 use ca_arrivals::{
-    Placed, Shape, drop_packet, is_invalid, lacks_receive, queue_answer, receiving_of, refuse,
-    shape_of, taken_receive, write_reach,
+    Placed, drop_packet, is_invalid, lacks_receive, queue_answer, receiving_of, refuse,
+    taken_receive, write_reach,
 };
 use ca_base::{Memory, Queued};
 use ca_grant::Reach;
@@ -32,7 +32,7 @@ use ca_qpstate::QueuePart;
 use ca_receiving::take_send;
 use ca_remote::{take_atomic, take_read, take_write};
 use ca_srq::Srq;
-use ca_wire::{NakCode, Packet};
+use ca_wire::{NakCode, Packet, Shape, shape_of};
 use std::alloc::Global;
 
 /// Takes a request that arrived. A packet ahead of the expected one asks once for what is missing; a duplicate is
@@ -187,9 +187,9 @@ fn take_shaped<R: Reach>(
     requires shared { IfSome (option_copied srq) IsSharedReceives }
     requires packet { IsWellFormed (fields_of p.now) }
     requires shape { IsRequestShape shape }
-    requires at_hand { AreAtHand R.sight R.judges R.touches reach.old (request_row (fields_of p.now) envelope (option_copied srq) (shape_seen shape) (queue_of q.old)).asks }
-    requires ends { IfSome (request_row (fields_of p.now) envelope (option_copied srq) (shape_seen shape) (queue_of q.old)).invalidation (MayEnd R.sight R.ends reach.old (queue_of q.old)) }
-    ensures taken { let row = request_row (fields_of p.now) envelope (option_copied srq.entry) (shape_seen shape) (queue_of q.old) in
+    requires at_hand { AreAtHand R.sight R.judges R.touches reach.old (request_row (fields_of p.now) envelope (option_copied srq) shape (queue_of q.old)).asks }
+    requires ends { IfSome (request_row (fields_of p.now) envelope (option_copied srq) shape (queue_of q.old)).invalidation (MayEnd R.sight R.ends reach.old (queue_of q.old)) }
+    ensures taken { let row = request_row (fields_of p.now) envelope (option_copied srq.entry) shape (queue_of q.old) in
         IsPacketTaken R.written R.revoked result (ending_of (R.sight reach.old) row) (ended_by (R.sight reach.old) row)
         (found (queue_of q.old) marks.old.marks reach.old) (found (queue_of q.new) marks.new.marks reach.new) }
     ensures room { OnOk result (2 ≤ marks.new.room) }
@@ -249,9 +249,9 @@ fn take_expected<R: Reach>(
     requires shared { IfSome (option_copied srq) IsSharedReceives }
     requires packet { IsWellFormed (fields_of p.now) }
     requires shape { IsRequestShape shape }
-    requires at_hand { AreAtHand R.sight R.judges R.touches reach.old (rows.expected_row (queue_of q.old) (option_copied srq) (fields_of p.now) envelope (shape_seen shape)).asks }
-    requires ends { IfSome (rows.expected_row (queue_of q.old) (option_copied srq) (fields_of p.now) envelope (shape_seen shape)).invalidation (MayEnd R.sight R.ends reach.old (queue_of q.old)) }
-    ensures taken { let row = rows.expected_row (queue_of q.old) (option_copied srq.entry) (fields_of p.now) envelope (shape_seen shape) in
+    requires at_hand { AreAtHand R.sight R.judges R.touches reach.old (rows.expected_row (queue_of q.old) (option_copied srq) (fields_of p.now) envelope shape).asks }
+    requires ends { IfSome (rows.expected_row (queue_of q.old) (option_copied srq) (fields_of p.now) envelope shape).invalidation (MayEnd R.sight R.ends reach.old (queue_of q.old)) }
+    ensures taken { let row = rows.expected_row (queue_of q.old) (option_copied srq.entry) (fields_of p.now) envelope shape in
         IsPacketTaken R.written R.revoked result (ending_of (R.sight reach.old) row) (ended_by (R.sight reach.old) row)
         (found (queue_of q.old) marks.old.marks reach.old) (found (queue_of q.new) marks.new.marks reach.new) }
     ensures room { OnOk result (2 ≤ marks.new.room) }
@@ -284,12 +284,12 @@ fn take_valid<R: Reach>(
     requires narrow { AreNarrow (queue_of q.old) }
     requires packet { IsWellFormed (fields_of p.now) }
     requires shape { IsRequestShape shape }
-    requires valid { rows.is_invalid (queue_of q.old) (fields_of p.now) (shape_seen shape) ≡ false }
+    requires valid { rows.is_invalid (queue_of q.old) (fields_of p.now) shape ≡ false }
     requires next { IfSome next (λ r. IsReceive r.receive) }
     requires takes { CanTake (queue_of q.old) next }
-    requires at_hand { AreAtHand R.sight R.judges R.touches reach.old (rows.valid_row (arrivals.with_flag false (queue_of q.old)) (fields_of p.now) envelope next (shape_seen shape)).asks }
-    requires ends { IfSome (rows.valid_row (arrivals.with_flag false (queue_of q.old)) (fields_of p.now) envelope next (shape_seen shape)).invalidation (MayEnd R.sight R.ends reach.old (queue_of q.old)) }
-    ensures taken { let row = rows.valid_row (arrivals.with_flag false (queue_of q.old)) (fields_of p.now) envelope next (shape_seen shape) in
+    requires at_hand { AreAtHand R.sight R.judges R.touches reach.old (rows.valid_row (arrivals.with_flag false (queue_of q.old)) (fields_of p.now) envelope next shape).asks }
+    requires ends { IfSome (rows.valid_row (arrivals.with_flag false (queue_of q.old)) (fields_of p.now) envelope next shape).invalidation (MayEnd R.sight R.ends reach.old (queue_of q.old)) }
+    ensures taken { let row = rows.valid_row (arrivals.with_flag false (queue_of q.old)) (fields_of p.now) envelope next shape in
         IsPacketTaken R.written R.revoked result (ending_of (R.sight reach.old) row) (ended_by (R.sight reach.old) row)
         (found (queue_of q.old) marks.old.marks reach.old) (found (queue_of q.new) marks.new.marks reach.new) }
     ensures room { OnOk result (2 ≤ marks.new.room) }

@@ -3,10 +3,10 @@ ghost use Rattle.ca_base.specs.declared.limits.TheConstants.{MAX_PAYLOAD_BYTES};
 ghost use Rattle.ca_wire.specs.Builders as packets;
 ghost use Rattle.ca_packet.specs.Packet.{IsWellFormed};
 
-use crate::segment::{Position, Segment};
+use crate::segment::Segment;
 use ca_base::Key;
 use ca_packet::opcode::*;
-use ca_packet::{AtomicEth, Packet, Reth};
+use ca_packet::{AtomicEth, Packet, Position, Reth};
 
 /// What a SEND brings beside its bytes, at its end.
 #[derive(Clone, Copy)]

@@ -4,10 +4,10 @@ ghost use Rattle.ca_wire.specs.Builders as packets;
 ghost use Rattle.ca_packet.specs.Packet.{IsWellFormed};
 ghost use Rattle.ca_wire.specs.Syndrome.{FitsSyndrome};
 
-use crate::segment::{Position, Segment};
+use crate::segment::Segment;
 use crate::syndrome::{NakCode, Syndrome, UNLIMITED_CREDITS};
 use ca_packet::opcode::*;
-use ca_packet::{Aeth, Packet};
+use ca_packet::{Aeth, Packet, Position};
 
 #[inline(always)]
 fn aeth_of(syndrome: Syndrome, msn: u32) -> Aeth
