@@ -24,8 +24,7 @@ use ca_requester::{
     response_asks,
 };
 use ca_rows::list_of;
-use ca_wire::Packet;
-use ca_wire::opcode::{ATOMIC_ACKNOWLEDGE, RDMA_READ_RESPONSE_FIRST};
+use ca_wire::{Operation, Packet, operation_of};
 use std::alloc::Global;
 
 /// A queue pair, and what it reaches.
@@ -70,7 +69,10 @@ pub fn are_here(reach: &SmallReach, asks: &[Ask]) -> bool
 pub fn is_response(p: &Packet<'_>) -> bool
     ensures { result ≡ packets.is_response (fields_of p.now).opcode }
 {
-    p.opcode >= RDMA_READ_RESPONSE_FIRST && p.opcode <= ATOMIC_ACKNOWLEDGE
+    match operation_of(p.opcode) {
+        None | Some(Operation::Request(_)) => false,
+        Some(_) => true,
+    }
 }
 
 /// Whether a list has few pieces, and no more bytes than a message may have.

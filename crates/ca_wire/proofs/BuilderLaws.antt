@@ -1,4 +1,4 @@
--- The packets that the engines send are well formed, and their opcodes are those of their operations.
+-- The packets that the engines send are well formed.
 use Rattle.std.proofs.Common.{◌≡◌, ℕ, ◌^◌, ◌<◌, ◌≤◌, Bool, ◌&&◌, cond, List, length, Option, Some, None, refl, lit≤}
 use Rattle.std.specs.Prelude.{is_some}
 use Rattle.ca_keys.specs.declared.key.Key.{Key}
@@ -16,9 +16,7 @@ use Rattle.ca_wire.specs.Builders.{acknowledge, atomic_acknowledge, read_respons
 use Rattle.ca_packet.specs.Packet.{Fields, IsWellFormed}
 use Rattle.ca_packet.specs.Shapes.{begins, ends}
 use Rattle.ca_wire.specs.Segment.{position_of, asks_acknowledgement}
-use Rattle.ca_packet.specs.Table.{row_of, operation_of}
-use Rattle.ca_packet.specs.declared.shape.Operation.TheVariants.{Request, ReadResponse}
-use Rattle.ca_packet.specs.declared.shape.Shape.TheVariants as shapes
+use Rattle.ca_packet.specs.Table.{row_of}
 
 pub acknowledge_fits : (s : Syndrome) (queue psn msn : ℕ) → queue < 2 ^ 24 → psn < 2 ^ 24 → msn < 2 ^ 24 → IsWellFormed (acknowledge s queue psn msn)
 unfolding row_of
@@ -121,31 +119,3 @@ write_fits segment reth imm solicited queue psn payload hq hp hl =
 
 pub by_fields : (f g : Fields) → f ≡ g → IsWellFormed g → IsWellFormed f
 by_fields f g e h = rw e h
-
--- an opcode that a builder chooses is of its operation, at its place in the message
-pub read_response_is : (p : Position) → operation_of (read_response_opcode p) ≡ Some (ReadResponse p)
-unfolding row_of
-read_response_is First = refl
-read_response_is Middle = refl
-read_response_is Last = refl
-read_response_is Only = refl
-
-pub send_is : (kind : SendKind) (p : Position) → operation_of (send_opcode kind p) ≡ Some (Request (shapes.Send p))
-unfolding row_of
-send_is kind First = refl
-send_is kind Middle = refl
-send_is Plain Last = refl
-send_is Plain Only = refl
-send_is (WithImmediate imm) Last = refl
-send_is (WithImmediate imm) Only = refl
-send_is (WithInvalidate key) Last = refl
-send_is (WithInvalidate key) Only = refl
-
-pub write_is : (imm : Option ℕ) (p : Position) → operation_of (write_opcode imm p) ≡ Some (Request (shapes.Write p))
-unfolding row_of
-write_is imm First = refl
-write_is imm Middle = refl
-write_is None Last = refl
-write_is None Only = refl
-write_is (Some imm) Last = refl
-write_is (Some imm) Only = refl

@@ -19,7 +19,7 @@ pub use ca_packet::{
     WireError, decode, encode, one_packet, opcode, operation_of, read_bth, reading, round_trip,
     shape_of, spelling_length,
 };
-pub use laws::syndromes;
+pub use laws::{operations, syndromes};
 pub use requests::{SendKind, cmp_swap, fetch_add, read_request, send_packet, write_packet};
 pub use responses::{
     acknowledge, acknowledgement, atomic_acknowledge, nak, read_response, rnr_nak,
