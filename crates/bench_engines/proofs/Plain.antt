@@ -7,7 +7,7 @@ use Rattle.ca_psn.specs.Psn.{widened}
 use Rattle.ca_packet.specs.Packet.{Fields}
 use Rattle.ca_packet.specs.declared.atomic_eth.AtomicEth.{AtomicEth}
 use Rattle.ca_packet.specs.declared.reth.Reth.{Reth}
-use Rattle.ca_wire.specs.declared.segment.Position.{Position}
+use Rattle.ca_packet.specs.declared.shape.Position.{Position}
 use Rattle.ca_wire.specs.declared.syndrome.NakCode.TheVariants.{InvalidRequest}
 use Rattle.ca_model.specs.declared.mark.Drop1.TheVariants as drops
 use Rattle.ca_model.specs.Packets.{is_response}
@@ -20,7 +20,9 @@ use Rattle.ca_model.specs.declared.write_reach.WriteReach.{WriteReach}
 use Rattle.ca_model.specs.machine.Expected.{atomic_row, expected_row, invalidation_of, is_invalid, read_queued, receiving_of, send_row, takes_receive, valid_row, write_reach, write_row}
 use Rattle.ca_model.specs.machine.Responses.{drop_effects}
 use Rattle.ca_model.specs.machine.Row.{Row, Does, plain_row}
-use Rattle.ca_model.specs.machine.Shapes.{Shape, SendAt, WriteAt, ReadRequest, Atomic, shape_of}
+use Rattle.ca_packet.specs.declared.shape.Shape.{Shape}
+use Rattle.ca_packet.specs.declared.shape.Shape.TheVariants as shapes
+use Rattle.ca_packet.specs.Table.{shape_of}
 
 abbrev EndsNone : Row → Type 0
 EndsNone row = row.invalidation ≡ None
@@ -40,7 +42,7 @@ send-none q p place r plain = by (nat_lt (list_length r.receive.receive.list.ite
     by false e = rw (e, plain) refl
 
 valid-none : (q : QueuePair) (p : Fields) (envelope : Option ℕ) (next : Option PlacedReceive) (shape : Shape) → p.ieth ≡ None → EndsNone (valid_row q p envelope next shape)
-valid-none q p envelope next (SendAt place) plain = by (receiving_of q next q.responder.message)
+valid-none q p envelope next (shapes.Send place) plain = by (receiving_of q next q.responder.message)
   where
     row : Option Receiving → Row
     row (Some r) = send_row q p place r
@@ -49,7 +51,7 @@ valid-none q p envelope next (SendAt place) plain = by (receiving_of q next q.re
     by : (o : Option Receiving) → EndsNone (row o)
     by (Some r) = send-none q p place r plain
     by None = refl
-valid-none q p envelope next (WriteAt place) plain = by (write_reach q p)
+valid-none q p envelope next (shapes.Write place) plain = by (write_reach q p)
   where
     row : Option WriteReach → Row
     row (Some r) = write_row q p envelope place next r
@@ -58,7 +60,7 @@ valid-none q p envelope next (WriteAt place) plain = by (write_reach q p)
     by : (o : Option WriteReach) → EndsNone (row o)
     by (Some r) = refl
     by None = refl
-valid-none q p envelope next ReadRequest plain = by p.reth
+valid-none q p envelope next shapes.Read plain = by p.reth
   where
     row : Option Reth → Row
     row (Some h) = plain_row (Does (read_queued q p envelope h))
@@ -67,7 +69,7 @@ valid-none q p envelope next ReadRequest plain = by p.reth
     by : (o : Option Reth) → EndsNone (row o)
     by (Some h) = refl
     by None = refl
-valid-none q p envelope next (Atomic kind) plain = by p.atomic
+valid-none q p envelope next (shapes.Atomic kind) plain = by p.atomic
   where
     row : Option AtomicEth → Row
     row (Some a) = atomic_row q p envelope kind a

@@ -8,7 +8,7 @@ ghost use Rattle.ca_model.specs.machine.CanStep.{CanStep};
 ghost use Rattle.ca_bed_reach.specs.SmallReach as small;
 ghost use Rattle.ca_bed_requester.specs.Bed as beds;
 ghost use Rattle.ca_bed_responder.specs.Responder as responders;
-ghost use Rattle.ca_packet.specs.Packet.{IsWellFormed, fields_of};
+ghost use Rattle.ca_packet.specs.Packet.{IsWellFormed};
 
 use crate::work::{bring_up, new_bed};
 use ca_bed_reach::SmallReach;
@@ -38,10 +38,10 @@ fn take(
     marks: &mut Marks,
 ) -> bool
     requires step { CanStep q.old }
-    requires packet { IsWellFormed (fields_of p.now) }
+    requires packet { IsWellFormed p.now }
     requires request { packets.is_response p.now.opcode ≡ false }
     requires plain { p.now.ieth ≡ None }
-    requires at_hand { AreAtHand small.sight_of small.IsAskHere (λ s ask. Unit {0}) reach.old (packet_arrived (fields_of p.now) None None q.old).asks }
+    requires at_hand { AreAtHand small.sight_of small.IsAskHere (λ s ask. Unit {0}) reach.old (packet_arrived p.now None None q.old).asks }
 {
     on_request(alloc, q, None, reach, p, None, marks).is_ok()
 }
@@ -49,7 +49,7 @@ fn take(
 // Delivers a request that ends no key; false where that cannot be tried here.
 fn deliver(alloc: Global, bed: &mut Bed, p: &Packet<'_>, marks: &mut Marks) -> bool
     requires stands { beds.Stands bed.old }
-    requires packet { IsWellFormed (fields_of p.now) }
+    requires packet { IsWellFormed p.now }
 {
     if is_response(p) || p.ieth.is_some() || !is_narrow(&bed.queue) {
         return false;

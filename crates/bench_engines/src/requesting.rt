@@ -6,7 +6,7 @@ ghost use Rattle.ca_sending.specs.Turn.{turn_row};
 ghost use Rattle.ca_model.specs.machine.CanStep.{CanStep};
 ghost use Rattle.ca_bed_reach.specs.SmallReach as small;
 ghost use Rattle.ca_bed_requester.specs.Bed as beds;
-ghost use Rattle.ca_packet.specs.Packet.{IsWellFormed, fields_of};
+ghost use Rattle.ca_packet.specs.Packet.{IsWellFormed};
 ghost use Rattle.std.specs.Prelude.{◌≡◌, true};
 
 use crate::work::{bring_up, new_bed, write};
@@ -62,10 +62,10 @@ fn take(
     marks: &mut Marks,
 ) -> bool
     requires step { CanStep q.old }
-    requires packet { IsWellFormed (fields_of p.now) }
+    requires packet { IsWellFormed p.now }
     requires response { packets.is_response p.now.opcode ≡ true }
     requires parts { small.FitTogether reach.old }
-    requires at_hand { AreAtHand small.sight_of small.IsAskHere (λ s ask. Unit {0}) reach.old (response_row (fields_of p.now) q.old).asks }
+    requires at_hand { AreAtHand small.sight_of small.IsAskHere (λ s ask. Unit {0}) reach.old (response_row p.now q.old).asks }
     ensures queue { IsQueue q.new }
     ensures parts { small.FitTogether reach.new }
 {
@@ -75,7 +75,7 @@ fn take(
 // Delivers a response; false where that cannot be tried here.
 fn deliver(alloc: Global, bed: &mut Bed, p: &Packet<'_>, marks: &mut Marks) -> bool
     requires stands { beds.Stands bed.old }
-    requires packet { IsWellFormed (fields_of p.now) }
+    requires packet { IsWellFormed p.now }
     ensures { beds.Stands bed.new }
 {
     if !is_response(p) || !is_narrow(&bed.queue) {

@@ -1,5 +1,5 @@
 ghost use Rattle.std.specs.Prelude.{◌^◌, ◌<◌};
-ghost use Rattle.ca_packet.specs.Packet.{IsWellFormed, fields_of};
+ghost use Rattle.ca_packet.specs.Packet.{IsWellFormed};
 
 use ca_base::Key;
 use ca_wire::{
@@ -36,7 +36,7 @@ fn reth_at(turn: u32) -> Reth {
 
 /// The packet of a shape at this turn: its numbers differ from turn to turn.
 pub fn packet_of(shape: Shape, turn: u32) -> Packet<'static>
-    ensures { IsWellFormed (fields_of result) }
+    ensures { IsWellFormed result }
 {
     let psn = turn % 0x100_0000;
     match shape {

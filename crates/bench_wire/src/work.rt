@@ -1,5 +1,5 @@
 ghost use Rattle.std.specs.Prelude.{◌≡◌};
-ghost use Rattle.ca_packet.specs.Packet.{IsWellFormed, fields_of};
+ghost use Rattle.ca_packet.specs.Packet.{IsWellFormed};
 
 use crate::shapes::{Shape, packet_of};
 use ca_base::Memory;
@@ -53,7 +53,7 @@ fn sum_of_headers(p: &Packet<'_>) -> u64 {
 /// Encodes into an empty list, in a function of its own.
 #[inline(never)]
 fn encode_alone(p: &Packet<'_>, out: &mut Vec<u8>) -> Result<(), Memory>
-    requires { IsWellFormed (fields_of p.now) }
+    requires { IsWellFormed p.now }
 {
     encode(p, out)
 }

@@ -15,7 +15,7 @@ ghost use Rattle.ca_rows.specs.Done.{IsTurn, handed};
 ghost use Rattle.ca_model.specs.machine.CanStep.{CanStep};
 ghost use Rattle.ca_wire.specs.Builders as packets;
 ghost use Rattle.ca_packet.specs.declared.packet.TheConstants.{MAX_PACKET_BYTES};
-ghost use Rattle.ca_packet.specs.Packet.{IsWellFormed, fields_of, spelling};
+ghost use Rattle.ca_packet.specs.Packet.{IsWellFormed, spelling};
 
 use crate::answer::next_answer;
 use crate::read_left::{is_last_response, response_ask, response_segment, rest_of};
@@ -164,8 +164,8 @@ fn send_answer<R: Reach>(
 fn packet_of<'a>(q: &QueuePart, answer: Queued) -> Packet<'a>
     requires queue { IsQueue q.now }
     requires one { IsOnePacket answer }
-    ensures turn { rows.answer_turn q.now answer ≡ packet_turn q.now (fields_of result) }
-    ensures formed { IsWellFormed (fields_of result) }
+    ensures turn { rows.answer_turn q.now answer ≡ packet_turn q.now result }
+    ensures formed { IsWellFormed result }
 {
     let (peer, msn) = (peer_number(q), q.responder.msn);
     match answer {
@@ -194,9 +194,9 @@ fn send_front(
     marks: &mut Marks,
     out: &mut Vec<u8>,
 ) -> Result<(), Memory>
-    requires { IsWellFormed (fields_of packet.now) }
+    requires { IsWellFormed packet.now }
     ensures queue { OnOk result (q.new ≡ rows.without_front q.old) }
-    ensures spelt { OnOk result (out.new.items ≡ out.old.items ++ spelling (fields_of packet.now)) }
+    ensures spelt { OnOk result (out.new.items ≡ out.old.items ++ spelling packet.now) }
     ensures room { OnOk result (2 ≤ marks.new.room) }
     ensures size { OnOk result (length out.new.items ≤ length out.old.items + MAX_PACKET_BYTES) }
     ensures marks { marks.new.marks ≡ marks.old.marks }

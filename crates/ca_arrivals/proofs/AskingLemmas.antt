@@ -10,13 +10,14 @@ use Rattle.ca_base.specs.objects.QueuePair.{QueuePair}
 use Rattle.ca_base.specs.declared.request.PlacedReceive.{PlacedReceive}
 use Rattle.ca_base.specs.objects.SharedReceives.{SharedReceives}
 use Rattle.ca_packet.specs.Packet.{Fields}
-use Rattle.ca_wire.specs.declared.segment.Position.{Position}
+use Rattle.ca_packet.specs.declared.shape.Position.{Position}
 use Rattle.ca_model.specs.Requests.{list_length}
 use Rattle.ca_model.specs.machine.Arrivals.{next_receive, refusal_effects, with_flag}
 use Rattle.ca_model.specs.declared.receiving.Receiving.{Receiving}
 use Rattle.ca_model.specs.machine.Expected.{expected_row, is_invalid, receiving_of, send_row, takes_receive, valid_row}
 use Rattle.ca_model.specs.machine.Row.{Row, plain_row, Does}
-use Rattle.ca_model.specs.machine.Shapes.{Shape, SendAt}
+use Rattle.ca_packet.specs.declared.shape.Shape.{Shape}
+use Rattle.ca_packet.specs.declared.shape.Shape.TheVariants as shapes
 use Rattle.ca_wire.specs.declared.syndrome.NakCode.TheVariants.{InvalidRequest}
 use Rattle.ca_arrivals.specs.Asking.{IsFree, asks_fitting, send_asks}
 
@@ -53,7 +54,7 @@ asks_of_none q p next free e = by q.responder.message next free e
 
 -- the asks of its row
 pub asks_of_send : (q : QueuePair) (p : Fields) (envelope : Option ℕ) (next : Option PlacedReceive) (place : Position)
-    → send_asks q p next ≡ (valid_row (with_flag false q) p envelope next (SendAt place)).asks
+    → send_asks q p next ≡ (valid_row (with_flag false q) p envelope next (shapes.Send place)).asks
 asks_of_send q p envelope next place = by (receiving_of q next q.responder.message)
   where
     asks : Option Receiving → List Ask

@@ -1,5 +1,4 @@
 pub mod Asking
 pub mod Numbers
 pub mod Receives
-pub mod Shapes
 pub mod Taking

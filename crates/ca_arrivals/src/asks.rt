@@ -7,14 +7,12 @@ ghost use Rattle.ca_model.specs.machine.Delivery.{packet_arrived};
 ghost use Rattle.ca_model.specs.machine.Expected as rows;
 ghost use Rattle.ca_model.specs.machine.Invariants.{IsList, IsQueue, IsSharedReceives};
 ghost use Rattle.ca_arrivals.specs.Asking.{IsFree, asks_fitting, send_asks};
-ghost use Rattle.ca_arrivals.specs.Shapes.{shape_seen};
 ghost use Rattle.ca_model.specs.machine.CanStep.{CanStep};
-ghost use Rattle.ca_packet.specs.Packet.{IsWellFormed, fields_of};
+ghost use Rattle.ca_packet.specs.Packet.{IsWellFormed};
 
 use crate::checks::{is_invalid, lacks_receive};
 use crate::receive::{exceeds_receive, next_receive, receive_asks};
 use crate::remote::packet_ask;
-use crate::shape::{Shape, shape_of};
 use crate::writes::{write_ask, write_reach};
 use arrayvec::ArrayVec;
 use ca_base::limits::{ATOMIC_BYTES, MAX_PIECES};
@@ -23,15 +21,15 @@ use ca_model::WriteReach;
 use ca_psn::widen;
 use ca_qpstate::QueuePart;
 use ca_srq::Srq;
-use ca_wire::Packet;
+use ca_wire::{Packet, Shape, shape_of};
 
 /// The asks that `on_request` may make, in order; it makes no other. It takes no memory.
 pub fn request_asks(q: &QueuePart, srq: Option<&Srq>, p: &Packet<'_>) -> ArrayVec<Ask, MAX_PIECES>
     requires step { CanStep q.now }
     requires shared { IfSome (option_copied srq) IsSharedReceives }
-    requires packet { IsWellFormed (fields_of p.now) }
+    requires packet { IsWellFormed p.now }
     requires request { is_response p.now.opcode ≡ false }
-    ensures { (envelope : Option ℕ) → result.items ≡ (packet_arrived (fields_of p.now) envelope (option_copied srq.entry) q.now).asks }
+    ensures { (envelope : Option ℕ) → result.items ≡ (packet_arrived p.now envelope (option_copied srq.entry) q.now).asks }
 {
     let Some(shape) = shape_of(p.opcode) else {
         return ArrayVec::new();
@@ -51,8 +49,8 @@ fn expected_asks(
 ) -> ArrayVec<Ask, MAX_PIECES>
     requires queue { IsQueue q.now }
     requires shared { IfSome (option_copied srq) IsSharedReceives }
-    requires packet { IsWellFormed (fields_of p.now) }
-    ensures { (envelope : Option ℕ) → result.items ≡ (rows.expected_row q.now (option_copied srq.entry) (fields_of p.now) envelope (shape_seen shape)).asks }
+    requires packet { IsWellFormed p.now }
+    ensures { (envelope : Option ℕ) → result.items ≡ (rows.expected_row q.now (option_copied srq.entry) p.now envelope shape).asks }
 {
     if is_invalid(q, p, shape) {
         return ArrayVec::new();
@@ -73,9 +71,9 @@ fn valid_asks(
 ) -> ArrayVec<Ask, MAX_PIECES>
     requires queue { IsQueue q.now }
     requires shared { IfSome (option_copied srq) IsSharedReceives }
-    requires packet { IsWellFormed (fields_of p.now) }
-    ensures { (envelope : Option ℕ) → result.items ≡ (rows.valid_row (arrivals.with_flag false q.now) (fields_of p.now) envelope
-        (arrivals.next_receive q.now (option_copied srq.entry)) (shape_seen shape)).asks }
+    requires packet { IsWellFormed p.now }
+    ensures { (envelope : Option ℕ) → result.items ≡ (rows.valid_row (arrivals.with_flag false q.now) p.now envelope
+        (arrivals.next_receive q.now (option_copied srq.entry)) shape).asks }
 {
     match shape {
         Shape::Send(_) => message_asks(q, srq, p),
@@ -95,8 +93,8 @@ fn valid_asks(
 fn message_asks(q: &QueuePart, srq: Option<&Srq>, p: &Packet<'_>) -> ArrayVec<Ask, MAX_PIECES>
     requires queue { IsQueue q.now }
     requires shared { IfSome (option_copied srq) IsSharedReceives }
-    requires packet { IsWellFormed (fields_of p.now) }
-    ensures { result.items ≡ send_asks q.now (fields_of p.now) (arrivals.next_receive q.now (option_copied srq.entry)) }
+    requires packet { IsWellFormed p.now }
+    ensures { result.items ≡ send_asks q.now p.now (arrivals.next_receive q.now (option_copied srq.entry)) }
 {
     match &q.responder.message {
         Some(Message::Send { receive, bytes, .. }) => {
@@ -112,9 +110,9 @@ fn message_asks(q: &QueuePart, srq: Option<&Srq>, p: &Packet<'_>) -> ArrayVec<As
 fn next_asks(q: &QueuePart, srq: Option<&Srq>, p: &Packet<'_>) -> ArrayVec<Ask, MAX_PIECES>
     requires queue { IsQueue q.now }
     requires shared { IfSome (option_copied srq) IsSharedReceives }
-    requires packet { IsWellFormed (fields_of p.now) }
+    requires packet { IsWellFormed p.now }
     requires free { IsFree q.now.responder.message }
-    ensures { result.items ≡ send_asks q.now (fields_of p.now) (arrivals.next_receive q.now (option_copied srq.entry)) }
+    ensures { result.items ≡ send_asks q.now p.now (arrivals.next_receive q.now (option_copied srq.entry)) }
 {
     match next_receive(q, srq) {
         Some(receive) => fitting_asks(q, p, 0, receive.list.as_slice()),
@@ -129,10 +127,10 @@ fn fitting_asks(
     before: u32,
     list: &[Piece],
 ) -> ArrayVec<Ask, MAX_PIECES>
-    requires payload { length p.now.payload.now ≤ MAX_PAYLOAD_BYTES }
+    requires payload { length p.now.payload ≤ MAX_PAYLOAD_BYTES }
     requires before { before ≤ MAX_MESSAGE_BYTES }
     requires list { IsList list.now }
-    ensures { result.items ≡ asks_fitting q.now (fields_of p.now) before list.now }
+    ensures { result.items ≡ asks_fitting q.now p.now before list.now }
 {
     if exceeds_receive(p, before, list) {
         return ArrayVec::new();
@@ -142,9 +140,9 @@ fn fitting_asks(
 
 /// The ask of a WRITE packet. One of no bytes makes none.
 fn left_asks(q: &QueuePart, p: &Packet<'_>, r: &WriteReach) -> ArrayVec<Ask, MAX_PIECES>
-    requires { length p.now.payload.now ≤ MAX_PAYLOAD_BYTES }
+    requires { length p.now.payload ≤ MAX_PAYLOAD_BYTES }
     ensures { result.items ≡ (if r.now.left == 0 then []
-        else arrivals.packet_ask q.now r.now.key Kind.Write r.now.address r.now.left (length p.now.payload.now) ∷ []) }
+        else arrivals.packet_ask q.now r.now.key Kind.Write r.now.address r.now.left (length p.now.payload) ∷ []) }
 {
     if r.left == 0 {
         return ArrayVec::new();

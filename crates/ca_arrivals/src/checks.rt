@@ -5,23 +5,19 @@ ghost use Rattle.ca_arrivals.specs.Receives.{CanTake, receive_if};
 ghost use Rattle.ca_model.specs.machine.Arrivals as arrivals;
 ghost use Rattle.ca_model.specs.machine.Expected as rows;
 ghost use Rattle.ca_model.specs.machine.Invariants.{IsQueue, IsReceive, IsSharedReceives};
-ghost use Rattle.ca_model.specs.machine.Shapes as shapes;
-ghost use Rattle.ca_arrivals.specs.Shapes.{shape_seen};
-ghost use Rattle.ca_packet.specs.Packet.{fields_of};
 
 use crate::receive::{find_receive, next_receive};
-use crate::shape::Shape;
 use crate::writes::write_reach;
 use ca_base::limits::{ATOMIC_BYTES, MAX_MESSAGE_BYTES, MAX_READS};
 use ca_base::{Memory, Message, PlacedReceive};
 use ca_model::WriteReach;
 use ca_qpstate::QueuePart;
 use ca_srq::Srq;
-use ca_wire::{Packet, Position};
+use ca_wire::{Packet, Position, Shape};
 
 /// Whether the packet with the expected PSN is an invalid request: the checks in their order.
 pub fn is_invalid(q: &QueuePart, p: &Packet<'_>, shape: Shape) -> bool
-    ensures { result ≡ rows.is_invalid q.now (fields_of p.now) (shape_seen shape) }
+    ensures { result ≡ rows.is_invalid q.now p.now shape }
 {
     if !check_op_seq(&q.responder.message, shape) {
         return true;
@@ -43,7 +39,7 @@ pub fn is_invalid(q: &QueuePart, p: &Packet<'_>, shape: Shape) -> bool
 
 /// Whether the packet goes on with the message in progress, or begins one where none is.
 fn check_op_seq(message: &Option<Message>, shape: Shape) -> bool
-    ensures { result ≡ rows.continues message.now (shape_seen shape) }
+    ensures { result ≡ rows.continues message.now shape }
 {
     match message {
         None => match shape {
@@ -65,7 +61,7 @@ fn check_op_seq(message: &Option<Message>, shape: Shape) -> bool
 
 /// Whether the payload of a SEND or a WRITE fits its place in the message.
 fn check_length(q: &QueuePart, p: &Packet<'_>, shape: Shape) -> bool
-    ensures { result ≡ rows.fits_payload q.now (fields_of p.now) (shape_seen shape) }
+    ensures { result ≡ rows.fits_payload q.now p.now shape }
 {
     let mtu = usize::from(q.responder.mtu);
     match shape {
@@ -78,7 +74,7 @@ fn check_length(q: &QueuePart, p: &Packet<'_>, shape: Shape) -> bool
 
 /// Exactly the path MTU, 1 to it at the end, 0 to it alone.
 fn fits_place(mtu: usize, place: Position, count: usize) -> bool
-    ensures { result ≡ shapes.fits_place mtu place count }
+    ensures { result ≡ rows.fits_place mtu place count }
 {
     match place {
         Position::First => count == mtu,
@@ -90,7 +86,7 @@ fn fits_place(mtu: usize, place: Position, count: usize) -> bool
 
 /// Whether a WRITE leaves bytes before its last packet, and ends exactly with it.
 fn check_write_length(q: &QueuePart, p: &Packet<'_>, shape: Shape) -> bool
-    ensures { result ≡ rows.fits_write q.now (fields_of p.now) (shape_seen shape) }
+    ensures { result ≡ rows.fits_write q.now p.now shape }
 {
     match shape {
         Shape::Write(place) => match write_reach(q, p) {
@@ -126,7 +122,7 @@ fn is_too_long(p: &Packet<'_>) -> bool
 
 /// Whether an atomic's address is no multiple of eight.
 fn is_misaligned(p: &Packet<'_>) -> bool
-    ensures { result ≡ rows.is_misaligned (fields_of p.now) }
+    ensures { result ≡ rows.is_misaligned p.now }
 {
     match p.atomic {
         Some(a) => a.address % u64::from(ATOMIC_BYTES) != 0,
@@ -136,7 +132,7 @@ fn is_misaligned(p: &Packet<'_>) -> bool
 
 /// Whether a READ or an atomic comes where as many are queued as may be.
 fn has_no_place(q: &QueuePart, shape: Shape) -> bool
-    ensures { result ≡ rows.has_no_place q.now (shape_seen shape) }
+    ensures { result ≡ rows.has_no_place q.now shape }
 {
     match shape {
         Shape::Read => q.responder.answers.fresh_count() >= usize::from(MAX_READS),
@@ -148,7 +144,7 @@ fn has_no_place(q: &QueuePart, shape: Shape) -> bool
 
 /// Whether the packet takes a receive: a SEND as it begins, a WRITE with its immediate data.
 fn takes_receive(p: &Packet<'_>, shape: Shape) -> bool
-    ensures { result ≡ rows.takes_receive (fields_of p.now) (shape_seen shape) }
+    ensures { result ≡ rows.takes_receive p.now shape }
 {
     match shape {
         Shape::Send(place) => place.begins(),
@@ -162,7 +158,7 @@ fn takes_receive(p: &Packet<'_>, shape: Shape) -> bool
 #[tactic(auto, using(crate::proofs::AskingLemmas::none_waits))]
 pub fn lacks_receive(q: &QueuePart, srq: Option<&Srq>, p: &Packet<'_>, shape: Shape) -> bool
     requires { IsQueue q.now }
-    ensures { result ≡ (rows.takes_receive (fields_of p.now) (shape_seen shape)
+    ensures { result ≡ (rows.takes_receive p.now shape
         && is_none (arrivals.next_receive q.now (option_copied srq.entry))) }
 {
     takes_receive(p, shape) && next_receive(q, srq).is_none()
@@ -177,7 +173,7 @@ pub fn taken_receive(
 ) -> Result<Option<PlacedReceive>, Memory>
     requires queue { IsQueue q.now }
     requires shared { IfSome (option_copied srq) IsSharedReceives }
-    ensures value { IfOk result (λ next. next ≡ receive_if (rows.takes_receive (fields_of p.now) (shape_seen shape))
+    ensures value { IfOk result (λ next. next ≡ receive_if (rows.takes_receive p.now shape)
         (arrivals.next_receive q.now (option_copied srq.entry))) }
     ensures sound { IfOk result (λ next. IfSome next (λ r. IsReceive r.receive)) }
     ensures takes { IfOk result (λ next. CanTake q.now next) }

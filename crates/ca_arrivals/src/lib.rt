@@ -15,7 +15,6 @@ mod queueing;
 mod receive;
 mod remote;
 mod segments;
-mod shape;
 mod writes;
 
 pub use asks::request_asks;
@@ -25,5 +24,4 @@ pub use queueing::{drop_packet, pass, queue_ack, queue_answer, queue_refusal, re
 pub use receive::{exceeds_receive, receive_asks, receiving_of, take_own};
 pub use remote::{packet_ask, remote_mark};
 pub use segments::read_segments;
-pub use shape::{Shape, shape_of};
 pub use writes::{write_ask, write_reach};

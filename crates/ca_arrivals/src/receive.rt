@@ -138,9 +138,9 @@ pub fn receive_asks(
     list: &[Piece],
 ) -> ArrayVec<Ask, MAX_PIECES>
     requires few { length list.now ≤ MAX_PIECES }
-    requires payload { length p.now.payload.now ≤ MAX_PAYLOAD_BYTES }
-    ensures value { result.items ≡ list_asks q.now.queue q.now.domain Kind.Write before (length p.now.payload.now) list.now }
-    ensures touched { touched_by result.items ≤ length p.now.payload.now }
+    requires payload { length p.now.payload ≤ MAX_PAYLOAD_BYTES }
+    ensures value { result.items ≡ list_asks q.now.queue q.now.domain Kind.Write before (length p.now.payload) list.now }
+    ensures touched { touched_by result.items ≤ length p.now.payload }
     ensures asks { AllByRecursion (IsAskOf Kind.Write) result.items }
     ensures packet { AllByRecursion IsPacketAsk result.items }
     ensures few { length result.items ≤ MAX_PIECES }
@@ -151,10 +151,10 @@ pub fn receive_asks(
 
 /// Whether a SEND packet has more bytes than its receive has room for.
 pub fn exceeds_receive(p: &Packet<'_>, before: u32, list: &[Piece]) -> bool
-    requires payload { length p.now.payload.now ≤ MAX_PAYLOAD_BYTES }
+    requires payload { length p.now.payload ≤ MAX_PAYLOAD_BYTES }
     requires before { before ≤ MAX_MESSAGE_BYTES }
     requires list { list_length list.now ≤ MAX_MESSAGE_BYTES }
-    ensures { result ≡ nat_lt (list_length list.now) (before + length p.now.payload.now) }
+    ensures { result ≡ nat_lt (list_length list.now) (before + length p.now.payload) }
 {
     list_length(list) < before + p.payload.len() as u32
 }

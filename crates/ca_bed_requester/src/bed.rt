@@ -9,7 +9,7 @@ ghost use Rattle.ca_sending.specs.Turn.{is_performing};
 ghost use Rattle.ca_model.specs.machine.CanStep.{AreNarrow, CanStep};
 ghost use Rattle.ca_bed_reach.specs.SmallReach as small;
 ghost use Rattle.ca_bed_requester.specs.Bed as beds;
-ghost use Rattle.ca_packet.specs.Packet.{IsWellFormed, fields_of};
+ghost use Rattle.ca_packet.specs.Packet.{IsWellFormed};
 
 use ca_base::limits::{MAX_MESSAGE_BYTES, MAX_PIECES};
 use ca_base::{
@@ -23,8 +23,7 @@ use ca_requester::{
     response_asks,
 };
 use ca_rows::list_of;
-use ca_wire::Packet;
-use ca_wire::opcode::{ATOMIC_ACKNOWLEDGE, RDMA_READ_RESPONSE_FIRST};
+use ca_wire::{Operation, Packet, operation_of};
 use std::alloc::Global;
 
 /// A queue pair, and what it reaches.
@@ -67,9 +66,12 @@ pub fn are_here(reach: &SmallReach, asks: &[Ask]) -> bool
 
 /// Whether a packet is a response.
 pub fn is_response(p: &Packet<'_>) -> bool
-    ensures { result ≡ packets.is_response (fields_of p.now).opcode }
+    ensures { result ≡ packets.is_response p.now.opcode }
 {
-    p.opcode >= RDMA_READ_RESPONSE_FIRST && p.opcode <= ATOMIC_ACKNOWLEDGE
+    match operation_of(p.opcode) {
+        None | Some(Operation::Request(_)) => false,
+        Some(_) => true,
+    }
 }
 
 /// Whether a list has few pieces, and no more bytes than a message may have.
@@ -200,7 +202,7 @@ impl Bed {
         marks: &mut Marks,
     ) -> Option<Result<(), Memory>>
         requires stands { beds.Stands self.old }
-        requires packet { IsWellFormed (fields_of p.now) }
+        requires packet { IsWellFormed p.now }
         ensures { beds.Stands self.new }
     {
         if !is_narrow(&self.queue) || !is_response(p) {

@@ -7,7 +7,7 @@ use Rattle.ca_base.specs.objects.SharedReceives.{SharedReceives}
 use Rattle.ca_psn.specs.Psn.{widened}
 use Rattle.ca_packet.specs.declared.atomic_eth.AtomicEth.{AtomicEth}
 use Rattle.ca_packet.specs.declared.reth.Reth.{Reth}
-use Rattle.ca_wire.specs.declared.segment.Position.{Position}
+use Rattle.ca_packet.specs.declared.shape.Position.{Position}
 use Rattle.ca_wire.specs.declared.syndrome.NakCode.TheVariants.{InvalidRequest}
 use Rattle.ca_packet.specs.Packet.{Fields}
 use Rattle.ca_model.specs.declared.mark.Drop1.TheVariants as drops
@@ -21,7 +21,9 @@ use Rattle.ca_model.specs.declared.write_reach.WriteReach.{WriteReach}
 use Rattle.ca_model.specs.machine.Expected.{atomic_row, expected_row, invalidation_of, is_invalid, read_queued, receiving_of, rnr_effects, send_row, takes_receive, valid_row, write_reach, write_row}
 use Rattle.ca_model.specs.machine.Responses.{drop_effects, response_row}
 use Rattle.ca_model.specs.machine.Row.{Does, Row, plain_row}
-use Rattle.ca_model.specs.machine.Shapes.{Shape, SendAt, WriteAt, ReadRequest, Atomic, shape_of}
+use Rattle.ca_packet.specs.declared.shape.Shape.{Shape}
+use Rattle.ca_packet.specs.declared.shape.Shape.TheVariants as shapes
+use Rattle.ca_packet.specs.Table.{shape_of}
 
 -- the key that a row ends, if it ends one, is the packet's
 abbrev Ends : QueuePair → Fields → Row → Type 0
@@ -43,22 +45,22 @@ send-ends q p place r = either q p (nat_lt (list_length r.receive.receive.list.i
     one false = itself (invalidation_of q p)
 
 valid-ends : (q : QueuePair) (p : Fields) (envelope : Option ℕ) (next : Option PlacedReceive) (shape : Shape) → Ends q p (valid_row q p envelope next shape)
-valid-ends q p envelope next (SendAt place) = by (receiving_of q next q.responder.message)
+valid-ends q p envelope next (shapes.Send place) = by (receiving_of q next q.responder.message)
   where
     by : (o : Option Receiving) → Ends q p (elim o as (λ o. Row) [ Some r ↦ send_row q p place r | None ↦ plain_row (Does (refusal_effects InvalidRequest q)) ])
     by (Some r) = send-ends q p place r
     by None = tt
-valid-ends q p envelope next (WriteAt place) = by (write_reach q p)
+valid-ends q p envelope next (shapes.Write place) = by (write_reach q p)
   where
     by : (o : Option WriteReach) → Ends q p (elim o as (λ o. Row) [ Some r ↦ write_row q p envelope place next r | None ↦ plain_row (Does (refusal_effects InvalidRequest q)) ])
     by (Some r) = tt
     by None = tt
-valid-ends q p envelope next ReadRequest = by p.reth
+valid-ends q p envelope next shapes.Read = by p.reth
   where
     by : (o : Option Reth) → Ends q p (elim o as (λ o. Row) [ Some h ↦ plain_row (Does (read_queued q p envelope h)) | None ↦ plain_row (Does (refusal_effects InvalidRequest q)) ])
     by (Some h) = tt
     by None = tt
-valid-ends q p envelope next (Atomic kind) = by p.atomic
+valid-ends q p envelope next (shapes.Atomic kind) = by p.atomic
   where
     by : (o : Option AtomicEth) → Ends q p (elim o as (λ o. Row) [ Some a ↦ atomic_row q p envelope kind a | None ↦ plain_row (Does (refusal_effects InvalidRequest q)) ])
     by (Some a) = tt

@@ -16,7 +16,7 @@ ghost use Rattle.ca_model.specs.machine.CanStep.{AreNarrow, CanStep};
 ghost use Rattle.ca_bed_reach.specs.SmallReach as small;
 ghost use Rattle.ca_bed_requester.specs.Bed as beds;
 ghost use Rattle.ca_bed_responder.specs.Responder as responders;
-ghost use Rattle.ca_packet.specs.Packet.{IsWellFormed, Spells, fields_of};
+ghost use Rattle.ca_packet.specs.Packet.{IsWellFormed, Spells};
 
 use ca_base::limits::{MAX_DEPTH, MAX_PAYLOAD_BYTES};
 use ca_base::{
@@ -44,7 +44,7 @@ pub struct Responder {
 
 // Whether the adapter hands a packet on, and does not drop it before.
 fn is_taken(q: &QueuePart, p: &Packet<'_>) -> bool
-    ensures { IsTrue result → first_of (arrival_drops q.now (fields_of p.now)) ≡ None }
+    ensures { IsTrue result → first_of (arrival_drops q.now p.now) ≡ None }
 {
     let connected = matches!(q.state, State::Rtr | State::Rts | State::Sqd);
     p.pkey == DEFAULT_PKEY && p.queue == q.queue.number && connected
@@ -101,7 +101,7 @@ fn may_end_key(q: &QueuePart, reach: &SmallReach, key: Key) -> bool
 // Whether the key that a packet ends, if it ends one, can be tried.
 fn may_end(q: &QueuePart, reach: &SmallReach, p: &Packet<'_>) -> bool
     requires { small.FitTogether reach.now }
-    ensures { IsTrue result → IfSome (invalidation_of q.now (fields_of p.now)) (MayEnd small.sight_of small.IsEndHere reach.now q.now) }
+    ensures { IsTrue result → IfSome (invalidation_of q.now p.now) (MayEnd small.sight_of small.IsEndHere reach.now q.now) }
 {
     match p.ieth {
         None => true,
@@ -120,13 +120,13 @@ fn request_in<'a>(
     requires reach { small.FitTogether reach.now }
     requires shared { IfSome (option_copied srq) IsSharedReceives }
     ensures narrow { IfSome result (λ p. AreNarrow q.now) }
-    ensures spelt { IfSome result (λ p. Spells bytes.now (fields_of p)) }
-    ensures packet { IfSome result (λ p. IsWellFormed (fields_of p)) }
+    ensures spelt { IfSome result (λ p. Spells bytes.now p) }
+    ensures packet { IfSome result (λ p. IsWellFormed p) }
     ensures request { IfSome result (λ p. packets.is_response p.opcode ≡ false) }
-    ensures taken { IfSome result (λ p. first_of (arrival_drops q.now (fields_of p)) ≡ None) }
+    ensures taken { IfSome result (λ p. first_of (arrival_drops q.now p) ≡ None) }
     ensures at_hand { IfSome result (λ p. (envelope : Option ℕ) → AreAtHand small.sight_of small.IsAskHere (λ s ask. Unit {0}) reach.now
-        (packet_arrived (fields_of p) envelope (option_copied srq.entry) q.now).asks) }
-    ensures ends { IfSome result (λ p. (envelope : Option ℕ) → IfSome (packet_arrived (fields_of p) envelope (option_copied srq.entry) q.now).invalidation
+        (packet_arrived p envelope (option_copied srq.entry) q.now).asks) }
+    ensures ends { IfSome result (λ p. (envelope : Option ℕ) → IfSome (packet_arrived p envelope (option_copied srq.entry) q.now).invalidation
         (MayEnd small.sight_of small.IsEndHere reach.now q.now)) }
 {
     let Ok(p) = decode(bytes) else {

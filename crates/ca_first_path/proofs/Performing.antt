@@ -11,7 +11,7 @@ use Rattle.ca_first_path.specs.Form.{inject, IsFirstWrite}
 use Rattle.ca_packet.specs.declared.reth.Reth.{Reth}
 use Rattle.ca_packet.specs.declared.packet.Packet.{Packet}
 use Rattle.ca_packet.specs.declared.wire_error.WireError.{WireError}
-use Rattle.ca_packet.specs.Packet.{Fields, Spells, fields_of}
+use Rattle.ca_packet.specs.Packet.{Fields, Spells}
 
 -- the entries of each step, one after the other, are the history
 pub steps-history : (s : Script) (h : Reth) (b : List ℕ) (h1 h2 h3 h4 h5 : List EntryValue) (g : List Grant) (d : Option Denial)
@@ -31,9 +31,9 @@ some-where (Some x) P h = refl
 
 -- what decoding found is what the bytes are known to spell
 pub found-spelt : (bytes packet : List ℕ) (q : Fields) (r : Result Packet WireError) → bytes ≡ packet → Spells packet q
-    → ((f : Fields) → Spells bytes f → IsOkAnd r (λ p. fields_of p ≡ f)) → IsOkAnd r (λ p. fields_of p ≡ q)
+    → ((f : Fields) → Spells bytes f → IsOkAnd r (λ p. p ≡ f)) → IsOkAnd r (λ p. p ≡ q)
 found-spelt bytes packet q r e spelt only = let P : List ℕ → Type 0 = λ x. Spells x q in only q (subst P (sym e) spelt)
 
 -- a WRITE of the form has a RETH
-pub some-reth : (bytes : List ℕ) (p : Packet) (q : Fields) → fields_of p ≡ q → IsFirstWrite bytes q → IsSome p.reth
+pub some-reth : (bytes : List ℕ) (p : Packet) (q : Fields) → p ≡ q → IsFirstWrite bytes q → IsSome p.reth
 some-reth bytes p q e write = rw (ap (λ (f : Fields). f.reth) e) (some-where q.reth (λ r. r.length ≡ length q.payload) write.write.whole)

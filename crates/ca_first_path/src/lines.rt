@@ -1,5 +1,5 @@
 ghost use Rattle.std.specs.Prelude.{◌≡◌, ◌++◌, ◌↔◌, IsTrue, IfOk, IfErr};
-ghost use Rattle.ca_packet.specs.Packet.{Fields, fields_of};
+ghost use Rattle.ca_packet.specs.Packet.{Fields};
 ghost use Rattle.ca_first_path.specs.Form.{IsFirstWrite, IsWrite, line_text};
 ghost use Rattle.ca_first_path.specs.WordReaders as words;
 ghost use Rattle.ca_first_path.specs.LineReaders.{Finds, Gives, GivesOrLacks, IsInjected, LacksPacket, inject_line, line, opening_at, setup_at};
@@ -138,7 +138,7 @@ fn injection(alloc: Global, bytes: &[u8]) -> Result<(Vec<u8>, &[u8]), ScriptErro
 
 /// Whether a packet is an RDMA WRITE Only as the program takes it.
 fn is_write(packet: Packet<'_>) -> bool
-    ensures { IsTrue result ↔ IsWrite (fields_of packet.entry) }
+    ensures { IsTrue result ↔ IsWrite packet.entry }
 {
     let Packet {
         opcode,

@@ -26,11 +26,11 @@ use Rattle.ca_base.specs.objects.SharedReceives.{SharedReceives}
 use Rattle.ca_base.specs.objects.WorkQueue.{WorkQueue}
 use Rattle.ca_packet.specs.declared.atomic_eth.AtomicEth.{AtomicEth}
 use Rattle.ca_packet.specs.declared.reth.Reth.{Reth}
-use Rattle.ca_wire.specs.declared.segment.Position.{Position}
+use Rattle.ca_packet.specs.declared.shape.Position.{Position}
 use Rattle.ca_wire.specs.declared.syndrome.NakCode.{NakCode}
 use Rattle.ca_wire.specs.declared.syndrome.NakCode.TheVariants.{InvalidRequest, RemoteAccessError, RemoteOperationalError}
 use Rattle.ca_packet.specs.Packet.{Fields}
-use Rattle.ca_wire.specs.Segment.{ends}
+use Rattle.ca_packet.specs.Shapes.{ends}
 use Rattle.ca_model.specs.Packets.{number_put}
 use Rattle.ca_model.specs.Requests.{list_length, segments}
 use Rattle.ca_model.specs.machine.Arrivals.{next_receive, packet_ask, refusal_effects, remote_mark, with_answer, with_flag, with_message, with_receive_taken}
@@ -42,7 +42,8 @@ use Rattle.ca_model.specs.machine.Requester.{local_denial}
 use Rattle.ca_model.specs.machine.Responses.{local_writes, writes_by}
 use Rattle.ca_model.specs.machine.Row as rows
 use Rattle.ca_model.specs.machine.Row.{Ending, Does, Effects, Row, plain_row, queue_and_marks}
-use Rattle.ca_model.specs.machine.Shapes.{Shape, SendAt, WriteAt, ReadRequest, Atomic}
+use Rattle.ca_packet.specs.declared.shape.Shape.{Shape}
+use Rattle.ca_packet.specs.declared.shape.Shape.TheVariants as shapes
 use Rattle.ca_model.specs.machine.Invariants.{IsMessage, IsQueue, IsSharedReceives, IsTaken, is_idle}
 use Rattle.ca_laws.proofs.ArrivalLemmas.{IsHeld, IsTaking, answer-queue, flag-queue, message-queue, no-message-queue, packet-answer-queue, packet-queue, receive-failure-good, refusal-good, responder-later, segments-enough, taking}
 use Rattle.ca_laws.proofs.GoodLemmas.{AreSettledMarks, IsGood, IsLater, later-on, later-same, taken-same}
@@ -298,7 +299,7 @@ refused code q s busy = plain-good q (Does (refusal_effects code q)) (refusal-go
 
 valid-good : (q : QueuePair) (p : Fields) (envelope : Option ℕ) (next : Option PlacedReceive) (shape : Shape) → IsQueue q → is_idle q.state ≡ false
     → IfSome next (IsTaking q) → IfSome p.reth (λ h. h.length ≤ MAX_MESSAGE_BYTES) → IsGoodRow q (valid_row q p envelope next shape)
-valid-good q p envelope next (SendAt place) s busy taken short = by q.responder.message refl next taken
+valid-good q p envelope next (shapes.Send place) s busy taken short = by q.responder.message refl next taken
   where
     row : Option Receiving → Row
     row (Some r) = send_row q p place r
@@ -320,7 +321,7 @@ valid-good q p envelope next (SendAt place) s busy taken short = by q.responder.
           receive = (subst IsMessage is s.responder.message).0;
           taken = held at receive bytes q.receives (subst (λ m. IsTaken q.receives m) is s.taken);
         })
-valid-good q p envelope next (WriteAt place) s busy taken short = by p.reth short q.responder.message s.responder.message
+valid-good q p envelope next (shapes.Write place) s busy taken short = by p.reth short q.responder.message s.responder.message
   where
     row : Option WriteReach → Row
     row (Some r) = write_row q p envelope place next r
@@ -336,7 +337,7 @@ valid-good q p envelope next (WriteAt place) s busy taken short = by p.reth shor
     by None short (Some (messages.Write key address left count)) message = write-good q p envelope place next _ s busy (record { left = message.0; whole = message.1 }) taken
     by None short (Some (messages.Send at receive bytes)) message = refused InvalidRequest q s busy
     by None short None message = refused InvalidRequest q s busy
-valid-good q p envelope next ReadRequest s busy taken short = by p.reth short
+valid-good q p envelope next shapes.Read s busy taken short = by p.reth short
   where
     row : Option Reth → Row
     row (Some h) = plain_row (Does (read_queued q p envelope h))
@@ -345,7 +346,7 @@ valid-good q p envelope next ReadRequest s busy taken short = by p.reth short
     by : (o : Option Reth) → IfSome o (λ h. h.length ≤ MAX_MESSAGE_BYTES) → IsGoodRow q (row o)
     by (Some h) short = plain-good q _ (read-good q p envelope h s busy short)
     by None short = refused InvalidRequest q s busy
-valid-good q p envelope next (Atomic kind) s busy taken short = by p.atomic
+valid-good q p envelope next (shapes.Atomic kind) s busy taken short = by p.atomic
   where
     row : Option AtomicEth → Row
     row (Some a) = atomic_row q p envelope kind a

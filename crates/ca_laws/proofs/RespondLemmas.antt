@@ -39,7 +39,9 @@ use Rattle.ca_model.specs.machine.Respond.{answer_turn, is_last_response, nak_of
 use Rattle.ca_model.specs.machine.Requester.{peer_number, psn_bits}
 use Rattle.ca_model.specs.machine.Responses.{drop_effects, response_row}
 use Rattle.ca_model.specs.machine.Row.{Does, Effects, NotPossible, Row, plain_row, queue_and_marks}
-use Rattle.ca_model.specs.machine.Shapes.{Shape, SendAt, WriteAt, ReadRequest, Atomic, shape_of}
+use Rattle.ca_packet.specs.declared.shape.Shape.{Shape}
+use Rattle.ca_packet.specs.declared.shape.Shape.TheVariants as shapes
+use Rattle.ca_packet.specs.Table.{shape_of}
 use Rattle.ca_model.specs.machine.Invariants.{IsAnswer, IsQueue, IsSharedReceives, is_connected, is_idle}
 use Rattle.ca_laws.proofs.ArrivalLemmas.{answer-queue, flag-queue, responder-later, responder-queue, segments-enough}
 use Rattle.ca_laws.proofs.ExpectedLemmas.{expected-good, responder-good}
@@ -124,16 +126,16 @@ duplicate-good psn p envelope shape q s busy low = at (nat_le MAX_DUPLICATES (du
     atomics (Some found) = again-good psn (queued.Atomic psn found true) q s busy (omega (arith, low))
 
     effects : Shape → Effects
-    effects (SendAt place) = ack_again q
-    effects (WriteAt place) = ack_again q
-    effects ReadRequest = option_map_or (λ h. read_again psn envelope h q) p.reth (drop_effects q drops.Unsaved)
-    effects (Atomic kind) = atomic_again psn (saved_at psn q.saved) q
+    effects (shapes.Send place) = ack_again q
+    effects (shapes.Write place) = ack_again q
+    effects shapes.Read = option_map_or (λ h. read_again psn envelope h q) p.reth (drop_effects q drops.Unsaved)
+    effects (shapes.Atomic kind) = atomic_again psn (saved_at psn q.saved) q
 
     by : (shape : Shape) → IsGood q (effects shape)
-    by (SendAt place) = acks (length q.responder.answers == 0)
-    by (WriteAt place) = acks (length q.responder.answers == 0)
-    by ReadRequest = reads p.reth
-    by (Atomic kind) = atomics (saved_at psn q.saved)
+    by (shapes.Send place) = acks (length q.responder.answers == 0)
+    by (shapes.Write place) = acks (length q.responder.answers == 0)
+    by shapes.Read = reads p.reth
+    by (shapes.Atomic kind) = atomics (saved_at psn q.saved)
 
     at : (b : Bool) → IsGood q (if b then drop_effects q drops.Unsaved else effects shape)
     at true = drop-good q drops.Unsaved s

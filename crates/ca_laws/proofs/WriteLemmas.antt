@@ -36,7 +36,7 @@ use Rattle.ca_base.specs.objects.SharedReceives.{SharedReceives}
 use Rattle.ca_psn.specs.Psn.{widened}
 use Rattle.ca_packet.specs.declared.atomic_eth.AtomicEth.{AtomicEth}
 use Rattle.ca_packet.specs.declared.reth.Reth.{Reth}
-use Rattle.ca_wire.specs.declared.segment.Position.{Position}
+use Rattle.ca_packet.specs.declared.shape.Position.{Position}
 use Rattle.ca_model.specs.Packets.{is_response}
 use Rattle.ca_model.specs.Requests.{list_length, segments}
 use Rattle.ca_model.specs.machine.Arrivals.{next_receive, packet_ask, refusal_effects, with_answer, with_flag, with_receive_taken}
@@ -44,7 +44,9 @@ use Rattle.ca_model.specs.machine.Duplicates.{ack_again, ahead_effects, answer_a
 use Rattle.ca_model.specs.declared.receiving.Receiving.{Receiving}
 use Rattle.ca_model.specs.declared.write_reach.WriteReach.{WriteReach}
 use Rattle.ca_model.specs.machine.Expected.{after_send_packet, atomic_row, behind_marks, expected_row, invalidation_of, is_invalid, read_queued, receive_asks, receive_failure_effects, receiving_of, revoked_marks, rnr_effects, send_row, takes_receive, valid_row, with_shared_receive, with_window_gone, write_reach, write_row}
-use Rattle.ca_model.specs.machine.Shapes.{Shape, SendAt, WriteAt, ReadRequest, Atomic, shape_of}
+use Rattle.ca_packet.specs.declared.shape.Shape.{Shape}
+use Rattle.ca_packet.specs.declared.shape.Shape.TheVariants as shapes
+use Rattle.ca_packet.specs.Table.{shape_of}
 use Rattle.ca_base.specs.declared.step.Reason.{Reason}
 use Rattle.ca_base.specs.declared.step.Reason.TheVariants as reasons
 use Rattle.ca_keys.specs.Refusals.{first_of}
@@ -226,7 +228,7 @@ refused-writes : (code : NakCode) (q : QueuePair) → RowWrites (plain_row (Does
 refused-writes code q = plain-writes (refusal_effects code q) refl
 
 valid-writes : (q : QueuePair) (p : Fields) (envelope : Option ℕ) (next : Option PlacedReceive) (shape : Shape) → RowWrites (valid_row q p envelope next shape)
-valid-writes q p envelope next (SendAt place) = by (receiving_of q next q.responder.message)
+valid-writes q p envelope next (shapes.Send place) = by (receiving_of q next q.responder.message)
   where
     row : Option Receiving → Row
     row (Some r) = send_row q p place r
@@ -235,7 +237,7 @@ valid-writes q p envelope next (SendAt place) = by (receiving_of q next q.respon
     by : (o : Option Receiving) → RowWrites (row o)
     by (Some r) = send-writes q p place r
     by None = refused-writes InvalidRequest q
-valid-writes q p envelope next (WriteAt place) = by (write_reach q p)
+valid-writes q p envelope next (shapes.Write place) = by (write_reach q p)
   where
     row : Option WriteReach → Row
     row (Some r) = write_row q p envelope place next r
@@ -244,7 +246,7 @@ valid-writes q p envelope next (WriteAt place) = by (write_reach q p)
     by : (o : Option WriteReach) → RowWrites (row o)
     by (Some r) = write-writes q p envelope place next r
     by None = refused-writes InvalidRequest q
-valid-writes q p envelope next ReadRequest = by p.reth
+valid-writes q p envelope next shapes.Read = by p.reth
   where
     row : Option Reth → Row
     row (Some h) = plain_row (Does (read_queued q p envelope h))
@@ -253,7 +255,7 @@ valid-writes q p envelope next ReadRequest = by p.reth
     by : (o : Option Reth) → RowWrites (row o)
     by (Some h) = plain-writes (read_queued q p envelope h) refl
     by None = refused-writes InvalidRequest q
-valid-writes q p envelope next (Atomic kind) = by p.atomic
+valid-writes q p envelope next (shapes.Atomic kind) = by p.atomic
   where
     row : Option AtomicEth → Row
     row (Some a) = atomic_row q p envelope kind a
@@ -308,16 +310,16 @@ duplicate-none psn p envelope shape q = at (nat_le MAX_DUPLICATES (duplicate_cou
     atomics (Some found) = refl
 
     effects : Shape → Effects
-    effects (SendAt place) = ack_again q
-    effects (WriteAt place) = ack_again q
-    effects ReadRequest = option_map_or (λ h. read_again psn envelope h q) p.reth (drop_effects q drops.Unsaved)
-    effects (Atomic kind) = atomic_again psn (saved_at psn q.saved) q
+    effects (shapes.Send place) = ack_again q
+    effects (shapes.Write place) = ack_again q
+    effects shapes.Read = option_map_or (λ h. read_again psn envelope h q) p.reth (drop_effects q drops.Unsaved)
+    effects (shapes.Atomic kind) = atomic_again psn (saved_at psn q.saved) q
 
     by : (shape : Shape) → (effects shape).writes ≡ []
-    by (SendAt place) = acks (length q.responder.answers == 0)
-    by (WriteAt place) = acks (length q.responder.answers == 0)
-    by ReadRequest = reads p.reth
-    by (Atomic kind) = atomics (saved_at psn q.saved)
+    by (shapes.Send place) = acks (length q.responder.answers == 0)
+    by (shapes.Write place) = acks (length q.responder.answers == 0)
+    by shapes.Read = reads p.reth
+    by (shapes.Atomic kind) = atomics (saved_at psn q.saved)
 
     at : (b : Bool) → (if b then drop_effects q drops.Unsaved else effects shape).writes ≡ []
     at true = refl

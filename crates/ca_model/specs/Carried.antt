@@ -21,7 +21,7 @@ use Rattle.ca_model.specs.declared.mark.Mark.{Mark}
 use Rattle.ca_model.specs.declared.mark.Mark.TheVariants as marks
 use Rattle.ca_model.specs.declared.verb.Verb.TheVariants as verbs
 use Rattle.ca_model.specs.Entries.{EntryValue}
-use Rattle.ca_model.specs.Packets.{packet_of, begins_write, continues_write, atomic_opcode, is_response}
+use Rattle.ca_model.specs.Packets.{packet_of, begins_write, continues_write, asks_atomic, is_response}
 use Rattle.ca_model.specs.Past.{Past, Envelope, LatestWrite, ReadRequest, Posted, opening_past, life_of, life_eq, mtu_of, packet_at, remote_ask, is_send_success, each_entry}
 use Rattle.ca_model.specs.Requests.{is_local, psns_of, carried_bytes, request_packet}
 
@@ -95,7 +95,7 @@ names_write past ask p =
 -- an atomic's packet is of the kind of the mark and names its key and address
 abbrev pub names_atomic : Ask → Fields → Bool
 names_atomic ask p =
-    option_eq (λ m n. m == n) (atomic_opcode ask.kind) (Some p.opcode)
+    asks_atomic ask.kind p.opcode
     && option_map_or (λ a. key_eq a.key ask.key && (a.address == ask.address)) p.atomic false
 
 -- what is written is the payload

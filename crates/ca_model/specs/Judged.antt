@@ -21,7 +21,7 @@ use Rattle.ca_model.specs.declared.mark.Mark.TheVariants as marks
 use Rattle.ca_model.specs.declared.verb.Verb.{Verb}
 use Rattle.ca_model.specs.declared.verb.Verb.TheVariants as verbs
 use Rattle.ca_model.specs.Entries.{EntryValue}
-use Rattle.ca_model.specs.Packets.{atomic_opcode, number_put}
+use Rattle.ca_model.specs.Packets.{asks_atomic, number_put}
 use Rattle.ca_model.specs.Past.{Past, opening_past, packet_at, remote_ask, local_ask, each_entry}
 
 -- no part of the key check fails, by the grants so far
@@ -39,7 +39,7 @@ touches ask bytes = nat_le (length bytes) ask.length && ((ask.length == 0) || na
 -- the packet is an atomic of the kind of the ask, and this number is what it puts where it found the other
 abbrev pub puts : Ask → ℕ → ℕ → Fields → Bool
 puts ask found put p =
-    option_eq (λ m n. m == n) (atomic_opcode ask.kind) (Some p.opcode)
+    asks_atomic ask.kind p.opcode
     && option_map_or (λ a. option_eq (λ m n. m == n) (number_put ask.kind a found) (Some put)) p.atomic false
 
 -- Denied comes exactly where a part fails, with the first such part. Where none fails, a read tells what memory held,

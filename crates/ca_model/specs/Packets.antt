@@ -1,42 +1,65 @@
 -- What the relations on a history ask of packets. Contracts cite it.
-use Rattle.std.specs.Prelude.{ℕ, ◌+◌, ◌%◌, ◌^◌, ◌==◌, nat_le, Bool, ◌||◌, ◌&&◌, if◌then◌else◌, List, Option, None, Some}
+use Rattle.std.specs.Prelude.{ℕ, ◌+◌, ◌%◌, ◌^◌, ◌==◌, Bool, true, false, not, if◌then◌else◌, List, Option, None, Some}
 use Rattle.std.specs.Result.{result_ok}
 use Rattle.ca_keys.specs.declared.access.Kind.{Kind}
 use Rattle.ca_keys.specs.declared.access.Kind.TheVariants as kinds
+use Rattle.ca_keys.specs.Equal.{kind_eq}
 use Rattle.ca_packet.specs.declared.atomic_eth.AtomicEth.{AtomicEth}
-use Rattle.ca_packet.specs.declared.opcode.TheConstants.{SEND_LAST_WITH_INVALIDATE, SEND_ONLY_WITH_INVALIDATE, RDMA_WRITE_FIRST, RDMA_WRITE_MIDDLE, RDMA_WRITE_LAST, RDMA_WRITE_LAST_WITH_IMMEDIATE, RDMA_WRITE_ONLY, RDMA_WRITE_ONLY_WITH_IMMEDIATE, RDMA_READ_REQUEST, RDMA_READ_RESPONSE_FIRST, ATOMIC_ACKNOWLEDGE, CMP_SWAP, FETCH_ADD}
+use Rattle.ca_packet.specs.declared.shape.Operation.{Operation}
+use Rattle.ca_packet.specs.declared.shape.Operation.TheVariants.{Request}
+use Rattle.ca_packet.specs.declared.shape.Position.{Position}
+use Rattle.ca_packet.specs.declared.shape.Shape.{Shape}
+use Rattle.ca_packet.specs.declared.shape.Shape.TheVariants as shapes
 use Rattle.ca_packet.specs.Decoding.{packet_in}
-use Rattle.ca_packet.specs.Packet.{Fields}
+use Rattle.ca_packet.specs.Packet.{Fields, follows}
+use Rattle.ca_packet.specs.Shapes.{begins}
+use Rattle.ca_packet.specs.Table.{IETH, operation_of, shape_of}
 
 -- the packet that bytes spell, if they spell one
 abbrev pub packet_of : List ℕ → Option Fields
 packet_of bytes = result_ok (packet_in bytes)
 
--- RDMA WRITE First and Only, and Only with Immediate, which carry a RETH
-abbrev pub begins_write : ℕ → Bool
-begins_write opcode = (opcode == RDMA_WRITE_FIRST) || (opcode == RDMA_WRITE_ONLY) || (opcode == RDMA_WRITE_ONLY_WITH_IMMEDIATE)
+-- a packet of a WRITE which stands in its message where the test says
+abbrev pub is_write : (Position → Bool) → Option Shape → Bool
+is_write stands (Some (shapes.Write place)) = stands place
+is_write stands shape = false
 
--- RDMA WRITE Middle and Last, and Last with Immediate
+-- a packet that begins a WRITE, which carries a RETH
+abbrev pub begins_write : ℕ → Bool
+begins_write opcode = is_write begins (shape_of opcode)
+
+-- a packet that goes on with a WRITE
 abbrev pub continues_write : ℕ → Bool
-continues_write opcode = (opcode == RDMA_WRITE_MIDDLE) || (opcode == RDMA_WRITE_LAST) || (opcode == RDMA_WRITE_LAST_WITH_IMMEDIATE)
+continues_write opcode = is_write (λ place. not (begins place)) (shape_of opcode)
 
 -- a READ Request
 abbrev pub asks_read : ℕ → Bool
-asks_read opcode = opcode == RDMA_READ_REQUEST
+asks_read opcode = by (shape_of opcode)
+  where
+    by : Option Shape → Bool
+    by (Some shapes.Read) = true
+    by shape = false
 
--- a SEND with Invalidate, at its last packet
+-- the atomic of this kind
+abbrev pub asks_atomic : Kind → ℕ → Bool
+asks_atomic kind opcode = by (shape_of opcode)
+  where
+    by : Option Shape → Bool
+    by (Some (shapes.Atomic found)) = kind_eq found kind
+    by shape = false
+
+-- a SEND with Invalidate, at its last packet, which carries an IETH
 abbrev pub asks_invalidate : ℕ → Bool
-asks_invalidate opcode = (opcode == SEND_LAST_WITH_INVALIDATE) || (opcode == SEND_ONLY_WITH_INVALIDATE)
+asks_invalidate opcode = follows IETH opcode
 
 -- a response: READ Response, Acknowledge or ATOMIC Acknowledge
 abbrev pub is_response : ℕ → Bool
-is_response opcode = nat_le RDMA_READ_RESPONSE_FIRST opcode && nat_le opcode ATOMIC_ACKNOWLEDGE
-
--- the opcode of the atomic of a kind
-abbrev pub atomic_opcode : Kind → Option ℕ
-atomic_opcode kinds.CmpSwap = Some CMP_SWAP
-atomic_opcode kinds.FetchAdd = Some FETCH_ADD
-atomic_opcode kind = None
+is_response opcode = by (operation_of opcode)
+  where
+    by : Option Operation → Bool
+    by (Some (Request shape)) = false
+    by (Some operation) = true
+    by None = false
 
 -- what an atomic of a kind puts where it found this number; eight bytes hold the sum modulo 2^64
 abbrev pub number_put : Kind → AtomicEth → ℕ → Option ℕ

@@ -2,7 +2,6 @@
 pub mod World
 pub mod Plan
 pub mod Row
-pub mod Shapes
 pub mod Completions
 pub mod Numbering
 pub mod Acknowledgements

@@ -1,10 +1,9 @@
 -- What reading gives, as the clauses of the decoder say it.
-use Rattle.ca_packet.specs.Packet.{bth_bytes, Fields, Spells, headers_size, refusal_of, fields_of, SpellsBth, bth_refusal_of}
+use Rattle.ca_packet.specs.Packet.{bth_bytes, Fields, Spells, headers_size, refusal_of, SpellsBth, bth_refusal_of}
 use Rattle.ca_packet.specs.Decoding.{bth_at, body_in, fields_from, packet_in, front_at, Returns}
 use Rattle.ca_packet.specs.declared.bth.TheConstants.{BTH_BYTES}
 use Rattle.ca_packet.specs.declared.headers.Headers.{Headers}
 use Rattle.ca_packet.specs.declared.bth.Bth.{Bth}
-use Rattle.ca_packet.specs.declared.packet.Packet.{Packet}
 use Rattle.ca_packet.specs.declared.wire_error.WireError.{WireError}
 use Rattle.std.proofs.Common.{◌≡◌, ℕ, ◌+◌, List, ◌++◌, length, take, drop, Some, None, Result, Ok, Err, refl, sym, ap, subst, ◌∙◌}
 use Rattle.std.proofs.lemmas.List.{take-append-drop, take_at}
@@ -15,11 +14,11 @@ use Rattle.ca_packet.proofs.BthLaws.{bth_takes, bth_length, bth_again}
 use Rattle.ca_packet.proofs.PacketLaws.{packet_takes, packet_again, payload_lies}
 use Rattle.ca_packet.proofs.RefusalLaws.{fault, refusal_is, front_refused}
 
-pub is_only : (r : Result Packet WireError) (bytes : List ℕ) (f : Fields) → Returns fields_of r (packet_in bytes) → Spells bytes f → IsOkAnd r (λ p. fields_of p ≡ f)
-is_only (Ok p) bytes f h s = ok_is (fields_of p) f (sym h ∙ packet_again bytes f s)
+pub is_only : (r : Result Fields WireError) (bytes : List ℕ) (f : Fields) → Returns (λ p. p) r (packet_in bytes) → Spells bytes f → IsOkAnd r (λ p. p ≡ f)
+is_only (Ok p) bytes f h s = ok_is p f (sym h ∙ packet_again bytes f s)
 is_only (Err e) bytes f h s = absurd (let k : done f ≡ Err e = sym (packet_again bytes f s) ∙ h in cc)
 
-pub is_refused : (r : Result Packet WireError) (bytes : List ℕ) → IsBytes bytes → Returns fields_of r (packet_in bytes) → IfErr r (λ e. refusal_of bytes ≡ Some e)
+pub is_refused : (r : Result Fields WireError) (bytes : List ℕ) → IsBytes bytes → Returns (λ p. p) r (packet_in bytes) → IfErr r (λ e. refusal_of bytes ≡ Some e)
 is_refused (Ok p) bytes fits h = tt
 is_refused (Err e) bytes fits h = refusal_is bytes fits ∙ ap (λ (x : Result Fields WireError). fault x) h
 
@@ -52,11 +51,11 @@ is_taken_front (Ok b) bytes fits h = front_refused bytes fits ∙ ap (λ (x : Re
 is_taken_front (Err e) bytes fits h = tt
 
 -- what a decoder returned, by the steps of reading
-pub no_header : (r : Result Packet WireError) (bytes : List ℕ) (e : WireError) → r ≡ Err e → bth_at bytes ≡ Err e → Returns fields_of r (packet_in bytes)
+pub no_header : (r : Result Fields WireError) (bytes : List ℕ) (e : WireError) → r ≡ Err e → bth_at bytes ≡ Err e → Returns (λ p. p) r (packet_in bytes)
 unfolding packet_in
 no_header r bytes e is h = rw is (rw h refl)
 
-pub no_body : (r : Result Packet WireError) (bytes rest : List ℕ) (b : Bth) (e : WireError) → r ≡ Err e → bth_at bytes ≡ Ok (b, rest) → body_in b.opcode b.pad rest ≡ Err e → Returns fields_of r (packet_in bytes)
+pub no_body : (r : Result Fields WireError) (bytes rest : List ℕ) (b : Bth) (e : WireError) → r ≡ Err e → bth_at bytes ≡ Ok (b, rest) → body_in b.opcode b.pad rest ≡ Err e → Returns (λ p. p) r (packet_in bytes)
 unfolding packet_in
 no_body r bytes rest b e is h k = rw is (rw (h, k) refl)
 

@@ -10,13 +10,12 @@ use Rattle.ca_packet.specs.declared.bth.TheConstants.{BTH_BYTES}
 use Rattle.ca_packet.specs.declared.reth.Reth.{Reth}
 use Rattle.ca_packet.specs.declared.atomic_eth.AtomicEth.{AtomicEth}
 use Rattle.ca_packet.specs.declared.aeth.Aeth.{Aeth}
-use Rattle.ca_packet.specs.declared.packet.Packet.{Packet}
 use Rattle.ca_packet.specs.declared.packet.TheConstants.{DEFAULT_PKEY}
 use Rattle.ca_packet.specs.declared.wire_error.WireError.{WireError}
 use Rattle.ca_packet.specs.declared.wire_error.WireError.TheVariants.{TooShort, Version, Opcode, Length, Pad}
 use Rattle.ca_packet.specs.Table.{Header, RETH, AtomicETH, AETH, AtomicAckETH, ImmDt, IETH, has, size_of, row_of, headers_of, allows_payload}
 
--- what a packet says, apart from where its payload lies
+-- what a packet says, apart from where its payload lies: contracts see a packet as this
 pub record Fields : Type 0 where
   pub opcode : ℕ
   pub solicited : Bool
@@ -32,25 +31,6 @@ pub record Fields : Type 0 where
   pub imm : Option ℕ
   pub ieth : Option ℕ
   pub payload : List ℕ
-
--- what this packet says
-abbrev pub fields_of : Packet → Fields
-fields_of p = record {
-  opcode = p.opcode;
-  solicited = p.solicited;
-  migrated = p.migrated;
-  pkey = p.pkey;
-  queue = p.queue;
-  ack = p.ack;
-  psn = p.psn;
-  reth = p.reth;
-  atomic = p.atomic;
-  aeth = p.aeth;
-  «result» = p.result;
-  imm = p.imm;
-  ieth = p.ieth;
-  payload = p.payload.now;
-}
 
 -- whether this header follows the base transport header of a packet with this opcode
 abbrev pub follows : Header → ℕ → Bool

@@ -1,5 +1,5 @@
 ghost use Rattle.std.specs.Prelude.{◌≡◌, List, ℕ, None, Some, IfOk, IfErr, OnOk, IsOkAnd, drop, take, length, ◌+◌};
-ghost use Rattle.ca_packet.specs.Packet.{Fields, Spells, fields_of, headers_size, refusal_of};
+ghost use Rattle.ca_packet.specs.Packet.{Fields, Spells, headers_size, refusal_of};
 
 use crate::bth::{BTH_BYTES, Bth};
 use crate::headers::body_of;
@@ -12,15 +12,15 @@ use crate::wire_error::WireError;
 #[inline(always)]
 pub fn decode(bytes: &[u8]) -> Result<Packet<'_>, WireError>
     // What is read is spelt so.
-    ensures found { IfOk result (λ p. Spells bytes.now (fields_of p)) }
+    ensures found { IfOk result (λ p. Spells bytes.now p) }
     // What is spelt so is read.
-    ensures only { (f : Fields) → Spells bytes.now f → IsOkAnd result (λ p. fields_of p ≡ f) }
+    ensures only { (f : Fields) → Spells bytes.now f → IsOkAnd result (λ p. p ≡ f) }
     // Which test refuses.
     ensures refused { IfErr result (λ e. refusal_of bytes.now ≡ Some e) }
     ensures taken { OnOk result (refusal_of bytes.now ≡ None) }
     // Which part of the bytes the payload is.
-    ensures payload { IfOk result (λ p. p.payload.now
-        ≡ take (length p.payload.now) (drop (BTH_BYTES + headers_size p.opcode) bytes.now)) }
+    ensures payload { IfOk result (λ p. p.payload
+        ≡ take (length p.payload) (drop (BTH_BYTES + headers_size p.opcode) bytes.now)) }
 {
     let (bth, rest) = Bth::read(bytes)?;
     let (headers, payload) = body_of(bth.opcode, bth.pad, rest)?;

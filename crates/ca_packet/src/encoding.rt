@@ -1,7 +1,7 @@
 ghost use Rattle.std.specs.Prelude.{◌≡◌, ◌+◌, ◌++◌, ◌^◌, ◌<◌, ◌≤◌, OnOk, OnErr, IfSome, is_some, length, [], replicate};
 ghost use Rattle.std.specs.Int.{w32, w64};
 ghost use Rattle.std.specs.Option.{option_map_or};
-ghost use Rattle.ca_packet.specs.Packet.{FitsReth, FitsAtomic, IsWellFormed, Spells, be_bytes, pad_count, reth_bytes, atomic_bytes, aeth_bytes, fields_of, spelling};
+ghost use Rattle.ca_packet.specs.Packet.{FitsReth, FitsAtomic, IsWellFormed, Spells, be_bytes, pad_count, reth_bytes, atomic_bytes, aeth_bytes, spelling};
 ghost use Rattle.ca_packet.specs.Decoding.{if_there};
 ghost use Rattle.ca_packet.specs.Writing.{HasRoom, Grows};
 
@@ -124,11 +124,11 @@ fn put_pad(count: usize, out: &mut Vec<u8>)
 /// most 4096 bytes and none where the opcode allows none.
 #[inline(always)]
 pub fn encode(p: &Packet<'_>, out: &mut Vec<u8>) -> Result<(), Memory>
-    requires { IsWellFormed (fields_of p.now) }
-    ensures ok { OnOk result (out.new.items ≡ out.old.items ++ spelling (fields_of p.now)) }
+    requires { IsWellFormed p.now }
+    ensures ok { OnOk result (out.new.items ≡ out.old.items ++ spelling p.now) }
     ensures err { OnErr result (out.new.items ≡ out.old.items) }
     // What is written spells the packet, and so is read as it.
-    ensures again { Spells (spelling (fields_of p.now)) (fields_of p.now) }
+    ensures again { Spells (spelling p.now) p.now }
 {
     let pad = pad_of(p.payload.len());
     out.reserve(BTH_BYTES + size_of_headers(p) + p.payload.len() + pad)?;

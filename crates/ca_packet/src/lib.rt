@@ -19,6 +19,7 @@ pub mod opcode;
 mod packet;
 mod payload;
 mod reth;
+mod shape;
 mod wire_error;
 mod writing;
 
@@ -28,6 +29,8 @@ pub use bth::{Bth, read_bth};
 pub use decoding::decode;
 pub use encoding::encode;
 pub use laws::{one_packet, reading, round_trip, spelling_length};
+pub use opcode::{operation_of, shape_of};
 pub use packet::{DEFAULT_PKEY, MAX_PACKET_BYTES, Packet};
 pub use reth::Reth;
+pub use shape::{Operation, Position, Shape};
 pub use wire_error::WireError;

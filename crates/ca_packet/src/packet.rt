@@ -1,10 +1,11 @@
 ghost use Rattle.std.specs.Prelude.{◌≡◌};
-ghost use Rattle.ca_packet.specs.Packet.{fields_of, plain};
+ghost use Rattle.ca_packet.specs.Packet.{plain};
 
 use crate::aeth::Aeth;
 use crate::atomic_eth::AtomicEth;
 use crate::reth::Reth;
 use ca_base::limits::MAX_PAYLOAD_BYTES;
+use std::marker::Model;
 
 /// The default partition key, which this profile sends and takes alone.
 pub const DEFAULT_PKEY: u16 = 0xFFFF;
@@ -46,12 +47,23 @@ pub struct Packet<'a> {
     pub payload: &'a [u8],
 }
 
+/// In contracts a packet is its fields, and the payload the bytes that it brings.
+impl<'a> Model for Packet<'a> {
+    ghost use Rattle.ca_packet.specs.Packet.{Fields};
+
+    ghost Value = { Fields };
+
+    ghost use Rattle.ca_packet.specs.PacketView.{packet_seen};
+
+    ghost view = { packet_seen };
+}
+
 impl<'a> Packet<'a> {
     /// The packet with this opcode, for this queue pair, at this PSN, in the default partition, with this payload: no
     /// flag is set, and it has no header.
     #[inline(always)]
     pub fn plain(opcode: u8, queue: u32, psn: u32, payload: &'a [u8]) -> Packet<'a>
-        ensures { fields_of result ≡ record (plain opcode queue psn) { payload = payload.now } }
+        ensures { result ≡ record (plain opcode queue psn) { payload = payload.now } }
     {
         Packet {
             opcode,

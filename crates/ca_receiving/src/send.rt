@@ -24,7 +24,6 @@ ghost use Rattle.ca_arrivals.specs.Taking.{IsPacketTaken, MayEnd, ended_by, foun
 ghost use Rattle.ca_rows.specs.Asks.{CanWrite, IsAskOf, IsGranted, touched_by};
 ghost use Rattle.ca_rows.specs.Done.{written_all};
 ghost use Rattle.ca_model.specs.machine.CanStep.{AreNarrow, CanStep};
-ghost use Rattle.ca_packet.specs.Packet.{fields_of};
 
 use crate::held::{hold, refuse_held, settle_held};
 use ca_arrivals::{
@@ -51,13 +50,13 @@ pub fn take_send<R: Reach>(
     marks: &mut Marks,
 ) -> Result<bool, Memory>
     requires step { CanStep q.old }
-    requires payload { length p.now.payload.now ≤ MAX_PAYLOAD_BYTES }
+    requires payload { length p.now.payload ≤ MAX_PAYLOAD_BYTES }
     requires list { IsReceive r.receive.receive }
     requires before { r.before ≤ MAX_MESSAGE_BYTES }
     requires takes { MayTake r q.old }
-    requires at_hand { AreAtHand R.sight R.judges R.touches reach.old (rows.send_row (arrivals.with_flag false q.old) (fields_of p.now) place r).asks }
-    requires ends { IfSome (rows.send_row (arrivals.with_flag false q.old) (fields_of p.now) place r).invalidation (MayEnd R.sight R.ends reach.old q.old) }
-    ensures taken { let row = rows.send_row (arrivals.with_flag false q.old) (fields_of p.now) place r in
+    requires at_hand { AreAtHand R.sight R.judges R.touches reach.old (rows.send_row (arrivals.with_flag false q.old) p.now place r).asks }
+    requires ends { IfSome (rows.send_row (arrivals.with_flag false q.old) p.now place r).invalidation (MayEnd R.sight R.ends reach.old q.old) }
+    ensures taken { let row = rows.send_row (arrivals.with_flag false q.old) p.now place r in
         IsPacketTaken R.written R.revoked result (ending_of (R.sight reach.old) row) (ended_by (R.sight reach.old) row)
         (found q.old marks.old.marks reach.old) (found q.new marks.new.marks reach.new) }
     ensures room { OnOk result (2 ≤ marks.new.room) }
@@ -100,18 +99,18 @@ fn place_fitting<R: Reach>(
 ) -> Result<bool, Memory>
     requires step { CanStep q.old }
     requires list { IsReceive r.receive.receive }
-    requires fits { nat_lt (list_length r.receive.receive.list.items) (r.before + length p.now.payload.now) ≡ false }
+    requires fits { nat_lt (list_length r.receive.receive.list.items) (r.before + length p.now.payload) ≡ false }
     requires takes { MayTake r q.old }
-    requires asks { asks.now ≡ rows.receive_asks q.old (fields_of p.now) r }
+    requires asks { asks.now ≡ rows.receive_asks q.old p.now r }
     requires kind { AllByRecursion (IsAskOf Kind.Write) asks.now }
-    requires touched { touched_by asks.now ≤ length p.now.payload.now }
+    requires touched { touched_by asks.now ≤ length p.now.payload }
     requires few { length asks.now ≤ MAX_PIECES }
     requires keys { AllByRecursion (R.judges reach.old) asks.now }
     requires bytes { AllByRecursion (R.touches reach.old) asks.now }
     requires allowed { AllByRecursion (IsGranted (R.sight reach.old)) asks.now }
     requires none { sights.first_denied (R.sight reach.old) asks.now ≡ None }
     requires ends { IfSome p.now.ieth (λ key. MayEnd R.sight R.ends reach.old q.old (key_end q.old (record { 0 = key }))) }
-    ensures taken { let row = rows.send_row (arrivals.with_flag false q.old) (fields_of p.now) place r in
+    ensures taken { let row = rows.send_row (arrivals.with_flag false q.old) p.now place r in
         IsPacketTaken R.written R.revoked result (ending_of (R.sight reach.old) row) (ended_by (R.sight reach.old) row)
         (found q.old marks.old.marks reach.old) (found q.new marks.new.marks reach.new) }
     ensures room { OnOk result (2 ≤ marks.new.room) }
@@ -171,12 +170,12 @@ fn place_send<R: Reach>(
 ) -> Result<bool, Memory>
     requires narrow { AreNarrow q.old }
     requires msn { q.old.responder.msn < 2 ^ 24 }
-    requires fits { r.before + length p.now.payload.now ≤ MAX_MESSAGE_BYTES }
+    requires fits { r.before + length p.now.payload ≤ MAX_MESSAGE_BYTES }
     requires takes { MayTake r q.old }
     requires can { CanWrite R.sight R.judges R.touches reach.old writes.items }
     requires few { length writes.items ≤ MAX_PIECES }
-    ensures queue { OnOk result (q.new ≡ (rows.after_send_packet (receive_taken r.taken (arrivals.with_flag false q.old)) (fields_of p.now) place r).queue) }
-    ensures marks { OnOk result (marks.new.marks ≡ marks.old.marks ++ (local_writes writes.items ++ (rows.after_send_packet (receive_taken r.taken (arrivals.with_flag false q.old)) (fields_of p.now) place r).marks)) }
+    ensures queue { OnOk result (q.new ≡ (rows.after_send_packet (receive_taken r.taken (arrivals.with_flag false q.old)) p.now place r).queue) }
+    ensures marks { OnOk result (marks.new.marks ≡ marks.old.marks ++ (local_writes writes.items ++ (rows.after_send_packet (receive_taken r.taken (arrivals.with_flag false q.old)) p.now place r).marks)) }
     ensures shared { IfOk result (λ shared. shared ≡ (if r.taken then arrivals.has_shared q.old else false)) }
     ensures wrote { OnOk result (reach.new ≡ written_all R.written reach.old writes.items) }
     ensures room { OnOk result (2 ≤ marks.new.room) }
@@ -205,15 +204,15 @@ fn place_and_end<R: Reach>(
     marks: &mut Marks,
 ) -> Result<bool, Memory>
     requires step { CanStep q.old }
-    requires fits { r.before + length p.now.payload.now ≤ MAX_MESSAGE_BYTES }
+    requires fits { r.before + length p.now.payload ≤ MAX_MESSAGE_BYTES }
     requires takes { MayTake r q.old }
     requires can { CanWrite R.sight R.judges R.touches reach.old writes.items }
     requires few { length writes.items ≤ MAX_PIECES }
     requires ends { MayEnd R.sight R.ends reach.old q.old (key_end q.old key) }
     ensures ended_queue { (R.sight reach.old).refusal (key_end q.old key) ≡ None →
-        OnOk result (q.new ≡ (sent_and_ended q.old (fields_of p.now) place r key).queue) }
+        OnOk result (q.new ≡ (sent_and_ended q.old p.now place r key).queue) }
     ensures ended_marks { (R.sight reach.old).refusal (key_end q.old key) ≡ None →
-        OnOk result (marks.new.marks ≡ marks.old.marks ++ (local_writes writes.items ++ (sent_and_ended q.old (fields_of p.now) place r key).marks)) }
+        OnOk result (marks.new.marks ≡ marks.old.marks ++ (local_writes writes.items ++ (sent_and_ended q.old p.now place r key).marks)) }
     ensures ended_reach { (R.sight reach.old).refusal (key_end q.old key) ≡ None →
         OnOk result (reach.new ≡ R.revoked (written_all R.written reach.old writes.items) (key_end q.old key)) }
     ensures refused_queue { (cause : OpRefusal) → (R.sight reach.old).refusal (key_end q.old key) ≡ Some cause →
@@ -284,11 +283,11 @@ fn end_key<R: Reach>(q: &mut QueuePart, reach: &mut R, key: Key) -> Result<(), O
 fn end_send(q: &mut QueuePart, p: &Packet<'_>, place: Position, r: Receiving, marks: &mut Marks)
     requires expected { q.old.responder.expected < 2 ^ 62 }
     requires msn { q.old.responder.msn < 2 ^ 24 }
-    requires fits { r.before + length p.now.payload.now ≤ MAX_MESSAGE_BYTES }
+    requires fits { r.before + length p.now.payload ≤ MAX_MESSAGE_BYTES }
     requires takes { MayTake r q.old }
     requires room { 3 ≤ marks.old.room }
-    ensures queue { q.new ≡ (rows.after_send_packet (receive_taken r.taken (arrivals.with_flag false q.old)) (unasked (fields_of p.now)) place r).queue }
-    ensures marks { marks.new.marks ≡ marks.old.marks ++ (rows.after_send_packet (receive_taken r.taken (arrivals.with_flag false q.old)) (unasked (fields_of p.now)) place r).marks }
+    ensures queue { q.new ≡ (rows.after_send_packet (receive_taken r.taken (arrivals.with_flag false q.old)) (unasked p.now) place r).queue }
+    ensures marks { marks.new.marks ≡ marks.old.marks ++ (rows.after_send_packet (receive_taken r.taken (arrivals.with_flag false q.old)) (unasked p.now) place r).marks }
     ensures room { 2 ≤ marks.new.room }
 {
     if r.taken {
@@ -308,10 +307,10 @@ fn end_taken_send(
 )
     requires expected { q.old.responder.expected < 2 ^ 62 }
     requires msn { q.old.responder.msn < 2 ^ 24 }
-    requires fits { r.before + length p.now.payload.now ≤ MAX_MESSAGE_BYTES }
+    requires fits { r.before + length p.now.payload ≤ MAX_MESSAGE_BYTES }
     requires room { 3 ≤ marks.old.room }
-    ensures queue { q.new ≡ (rows.after_send_packet (arrivals.with_flag false q.old) (unasked (fields_of p.now)) place r).queue }
-    ensures marks { marks.new.marks ≡ marks.old.marks ++ (rows.after_send_packet (arrivals.with_flag false q.old) (unasked (fields_of p.now)) place r).marks }
+    ensures queue { q.new ≡ (rows.after_send_packet (arrivals.with_flag false q.old) (unasked p.now) place r).queue }
+    ensures marks { marks.new.marks ≡ marks.old.marks ++ (rows.after_send_packet (arrivals.with_flag false q.old) (unasked p.now) place r).marks }
     ensures room { 2 ≤ marks.new.room }
 {
     let bytes = r.before + p.payload.len() as u32;

@@ -15,7 +15,7 @@ use Rattle.ca_packet.specs.declared.atomic_eth.AtomicEth.{AtomicEth}
 use Rattle.ca_model.specs.Packets.{number_put}
 use Rattle.ca_model.specs.machine.Arrivals.{with_answer}
 use Rattle.ca_arrivals.specs.Numbers.{passed}
-use Rattle.ca_arrivals.specs.Shapes.{IsAtomicKind}
+use Rattle.ca_packet.specs.Shapes.{IsAtomicKind}
 
 -- an ask for the eight bytes of an atomic, at an address that is a multiple of eight
 pub record IsAtomicRequest (of_kind : Kind) (ask : Ask) : Type 0 where

@@ -8,11 +8,10 @@ ghost use Rattle.ca_model.specs.machine.Arrivals as arrivals;
 ghost use Rattle.ca_model.specs.machine.Expected as rows;
 ghost use Rattle.ca_model.specs.machine.Invariants.{IsQueue};
 ghost use Rattle.ca_model.specs.machine.Row.{ending_of};
-ghost use Rattle.ca_arrivals.specs.Shapes.{IsAtomicKind};
+ghost use Rattle.ca_packet.specs.Shapes.{IsAtomicKind};
 ghost use Rattle.ca_remote.specs.Atomics.{IsAtomicRequest, after_atomic, found_in, number_left, number_seen, settled};
 ghost use Rattle.ca_arrivals.specs.Taking.{IsPacketTaken, ended_by, found};
 ghost use Rattle.ca_model.specs.machine.CanStep.{CanStep};
-ghost use Rattle.ca_packet.specs.Packet.{fields_of};
 
 use crate::write::deny;
 use ca_arrivals::{packet_ask, pass, read_segments, remote_mark};
@@ -33,7 +32,7 @@ pub fn take_read(
     marks: &mut Marks,
 ) -> Result<(), Memory>
     requires { CanStep q.old }
-    ensures queue { OnOk result (q.new ≡ (rows.read_queued (arrivals.with_flag false q.old) (fields_of p.now) envelope h.now).queue) }
+    ensures queue { OnOk result (q.new ≡ (rows.read_queued (arrivals.with_flag false q.old) p.now envelope h.now).queue) }
     ensures marks { marks.new.marks ≡ marks.old.marks }
     ensures room { OnOk result (2 ≤ marks.new.room) }
     ensures err { OnErr result (q.new ≡ q.old) }
@@ -83,8 +82,8 @@ pub fn take_atomic<R: Reach>(
     requires step { CanStep q.old }
     requires kind { IsAtomicKind kind }
     requires aligned { a.now.address % ATOMIC_BYTES ≡ 0 }
-    requires at_hand { AreAtHand R.sight R.judges R.touches reach.old (rows.atomic_row (arrivals.with_flag false q.old) (fields_of p.now) envelope kind a.now).asks }
-    ensures taken { let row = rows.atomic_row (arrivals.with_flag false q.old) (fields_of p.now) envelope kind a.now in
+    requires at_hand { AreAtHand R.sight R.judges R.touches reach.old (rows.atomic_row (arrivals.with_flag false q.old) p.now envelope kind a.now).asks }
+    ensures taken { let row = rows.atomic_row (arrivals.with_flag false q.old) p.now envelope kind a.now in
         IsPacketTaken R.written R.revoked result (ending_of (R.sight reach.old) row) (ended_by (R.sight reach.old) row)
         (found q.old marks.old.marks reach.old) (found q.new marks.new.marks reach.new) }
     ensures room { OnOk result (2 ≤ marks.new.room) }

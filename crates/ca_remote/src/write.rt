@@ -8,12 +8,11 @@ ghost use Rattle.ca_model.specs.machine.Completions.{flush_marks};
 ghost use Rattle.ca_model.specs.machine.Expected as rows;
 ghost use Rattle.ca_model.specs.machine.Invariants.{IsQueue};
 ghost use Rattle.ca_model.specs.machine.Row.{ending_of};
-ghost use Rattle.ca_model.specs.machine.Shapes.{fits_place};
+ghost use Rattle.ca_model.specs.machine.Expected.{fits_place};
 ghost use Rattle.ca_arrivals.specs.Numbers.{unasked};
 ghost use Rattle.ca_arrivals.specs.Receives.{CanTake};
 ghost use Rattle.ca_arrivals.specs.Taking.{IsPacketTaken, ended_by, found};
 ghost use Rattle.ca_model.specs.machine.CanStep.{AreNarrow, CanStep};
-ghost use Rattle.ca_packet.specs.Packet.{fields_of};
 
 use ca_arrivals::{pass, queue_ack, refuse, remote_mark, take_own, write_ask};
 use ca_base::{Ask, Bytes, Denial, Memory, Message, PlacedReceive, Verdict, WcOp};
@@ -38,12 +37,12 @@ pub fn take_write<R: Reach>(
     marks: &mut Marks,
 ) -> Result<bool, Memory>
     requires step { CanStep q.old }
-    requires payload { length p.now.payload.now ≤ MAX_PAYLOAD_BYTES }
-    requires place { fits_place q.old.responder.mtu place (length p.now.payload.now) ≡ true }
-    requires left { rows.fits_left (length p.now.payload.now) place r.now ≡ true }
+    requires payload { length p.now.payload ≤ MAX_PAYLOAD_BYTES }
+    requires place { fits_place q.old.responder.mtu place (length p.now.payload) ≡ true }
+    requires left { rows.fits_left (length p.now.payload) place r.now ≡ true }
     requires takes { CanTake q.old (option_copied next) }
-    requires at_hand { AreAtHand R.sight R.judges R.touches reach.old (rows.write_row (arrivals.with_flag false q.old) (fields_of p.now) envelope place (option_copied next) r.now).asks }
-    ensures taken { let row = rows.write_row (arrivals.with_flag false q.old) (fields_of p.now) envelope place (option_copied next.entry) r.now in
+    requires at_hand { AreAtHand R.sight R.judges R.touches reach.old (rows.write_row (arrivals.with_flag false q.old) p.now envelope place (option_copied next) r.now).asks }
+    ensures taken { let row = rows.write_row (arrivals.with_flag false q.old) p.now envelope place (option_copied next.entry) r.now in
         IsPacketTaken R.written R.revoked result (ending_of (R.sight reach.old) row) (ended_by (R.sight reach.old) row)
         (found q.old marks.old.marks reach.old) (found q.new marks.new.marks reach.new) }
     ensures room { OnOk result (2 ≤ marks.new.room) }
@@ -94,12 +93,12 @@ fn write_nothing(
 ) -> Result<bool, Memory>
     requires narrow { AreNarrow q.old }
     requires msn { q.old.responder.msn < 2 ^ 24 }
-    requires left { length p.now.payload.now ≤ r.now.left }
+    requires left { length p.now.payload ≤ r.now.left }
     requires takes { CanTake q.old (option_copied next) }
-    ensures queue { OnOk result (q.new ≡ (rows.after_write_packet (arrivals.with_flag false q.old) (fields_of p.now) place r.now (option_copied next.entry)).queue) }
-    ensures marks { OnOk result (marks.new.marks ≡ marks.old.marks ++ (arrivals.remote_mark ask.now envelope (Verdict.Wrote p.now.payload.now)
-        ∷ (rows.after_write_packet (arrivals.with_flag false q.old) (fields_of p.now) place r.now (option_copied next.entry)).marks)) }
-    ensures shared { IfOk result (λ shared. shared ≡ (rows.after_write_packet (arrivals.with_flag false q.old) (fields_of p.now) place r.now (option_copied next.entry)).takes_shared) }
+    ensures queue { OnOk result (q.new ≡ (rows.after_write_packet (arrivals.with_flag false q.old) p.now place r.now (option_copied next.entry)).queue) }
+    ensures marks { OnOk result (marks.new.marks ≡ marks.old.marks ++ (arrivals.remote_mark ask.now envelope (Verdict.Wrote p.now.payload)
+        ∷ (rows.after_write_packet (arrivals.with_flag false q.old) p.now place r.now (option_copied next.entry)).marks)) }
+    ensures shared { IfOk result (λ shared. shared ≡ (rows.after_write_packet (arrivals.with_flag false q.old) p.now place r.now (option_copied next.entry)).takes_shared) }
     ensures room { OnOk result (2 ≤ marks.new.room) }
     ensures err { OnErr result (q.new ≡ q.old) }
     ensures err_marks { OnErr result (marks.new.marks ≡ marks.old.marks) }
@@ -127,19 +126,19 @@ fn place_write<R: Reach>(
 ) -> Result<bool, Memory>
     requires narrow { AreNarrow q.old }
     requires msn { q.old.responder.msn < 2 ^ 24 }
-    requires left { length p.now.payload.now ≤ r.now.left }
+    requires left { length p.now.payload ≤ r.now.left }
     requires takes { CanTake q.old (option_copied next) }
     requires judges { R.judges reach.old ask.now }
     requires touches { R.touches reach.old ask.now }
     requires packet { IsPacketAsk ask.now }
     requires kind { ask.now.kind ≡ Kind.Write }
-    requires count { length p.now.payload.now ≡ ask.now.touch }
+    requires count { length p.now.payload ≡ ask.now.touch }
     requires allowed { denial_in (R.sight reach.old) ask.now ≡ None }
-    ensures queue { OnOk result (q.new ≡ (rows.after_write_packet (arrivals.with_flag false q.old) (fields_of p.now) place r.now (option_copied next.entry)).queue) }
-    ensures marks { OnOk result (marks.new.marks ≡ marks.old.marks ++ (arrivals.remote_mark ask.now envelope (Verdict.Wrote p.now.payload.now)
-        ∷ (rows.after_write_packet (arrivals.with_flag false q.old) (fields_of p.now) place r.now (option_copied next.entry)).marks)) }
-    ensures shared { IfOk result (λ shared. shared ≡ (rows.after_write_packet (arrivals.with_flag false q.old) (fields_of p.now) place r.now (option_copied next.entry)).takes_shared) }
-    ensures wrote { OnOk result (reach.new ≡ R.written reach.old ask.now p.now.payload.now) }
+    ensures queue { OnOk result (q.new ≡ (rows.after_write_packet (arrivals.with_flag false q.old) p.now place r.now (option_copied next.entry)).queue) }
+    ensures marks { OnOk result (marks.new.marks ≡ marks.old.marks ++ (arrivals.remote_mark ask.now envelope (Verdict.Wrote p.now.payload)
+        ∷ (rows.after_write_packet (arrivals.with_flag false q.old) p.now place r.now (option_copied next.entry)).marks)) }
+    ensures shared { IfOk result (λ shared. shared ≡ (rows.after_write_packet (arrivals.with_flag false q.old) p.now place r.now (option_copied next.entry)).takes_shared) }
+    ensures wrote { OnOk result (reach.new ≡ R.written reach.old ask.now p.now.payload) }
     ensures room { OnOk result (2 ≤ marks.new.room) }
     ensures err { OnErr result (q.new ≡ q.old) }
     ensures err_marks { OnErr result (marks.new.marks ≡ marks.old.marks) }
@@ -167,12 +166,12 @@ fn end_write(
 ) -> bool
     requires expected { q.old.responder.expected < 2 ^ 62 }
     requires msn { q.old.responder.msn < 2 ^ 24 }
-    requires left { length p.now.payload.now ≤ r.now.left }
+    requires left { length p.now.payload ≤ r.now.left }
     requires takes { CanTake q.old (option_copied next) }
     requires room { 3 ≤ marks.old.room }
-    ensures queue { q.new ≡ (rows.after_write_packet (arrivals.with_flag false q.old) (unasked (fields_of p.now)) place r.now (option_copied next.entry)).queue }
-    ensures marks { marks.new.marks ≡ marks.old.marks ++ (rows.after_write_packet (arrivals.with_flag false q.old) (unasked (fields_of p.now)) place r.now (option_copied next.entry)).marks }
-    ensures shared { result ≡ (rows.after_write_packet (arrivals.with_flag false q.old) (unasked (fields_of p.now)) place r.now (option_copied next.entry)).takes_shared }
+    ensures queue { q.new ≡ (rows.after_write_packet (arrivals.with_flag false q.old) (unasked p.now) place r.now (option_copied next.entry)).queue }
+    ensures marks { marks.new.marks ≡ marks.old.marks ++ (rows.after_write_packet (arrivals.with_flag false q.old) (unasked p.now) place r.now (option_copied next.entry)).marks }
+    ensures shared { result ≡ (rows.after_write_packet (arrivals.with_flag false q.old) (unasked p.now) place r.now (option_copied next.entry)).takes_shared }
     ensures room { 2 ≤ marks.new.room }
 {
     if !place.ends() {
@@ -205,8 +204,8 @@ fn end_write(
 
 /// What is left of a WRITE after a packet; addresses count modulo 2^64.
 fn write_left(p: &Packet<'_>, r: &WriteReach) -> Message
-    requires { length p.now.payload.now ≤ r.now.left }
-    ensures { result ≡ rows.message_left r.now (length p.now.payload.now) }
+    requires { length p.now.payload ≤ r.now.left }
+    ensures { result ≡ rows.message_left r.now (length p.now.payload) }
 {
     let count = p.payload.len();
     Message::Write {

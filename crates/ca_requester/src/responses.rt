@@ -6,7 +6,6 @@ ghost use Rattle.ca_model.specs.machine.Acknowledgements.{acknowledgement_below,
 ghost use Rattle.ca_model.specs.machine.Invariants.{IsList, IsQueue};
 ghost use Rattle.ca_model.specs.machine.Numbering as numbering;
 ghost use Rattle.ca_model.specs.machine.Responses as rows;
-ghost use Rattle.ca_packet.specs.Packet.{fields_of};
 ghost use Rattle.ca_wire.specs.Syndrome.{syndrome_in};
 ghost use Rattle.ca_model.specs.machine.CanStep.{CanStep};
 ghost use Rattle.ca_progress.specs.Numbering.{IsSound, numbered_of};
@@ -74,7 +73,7 @@ pub(crate) struct Answer<'a> {
 pub(crate) fn arrival_of(q: &QueuePart, p: &Packet<'_>) -> Arrival
     requires step { CanStep q.now }
     requires psn { p.now.psn < 2 ^ 24 }
-    ensures row { row_of_arrival result (fields_of p.now) q.now ≡ rows.response_row (fields_of p.now) q.now }
+    ensures row { row_of_arrival result p.now q.now ≡ rows.response_row p.now q.now }
     ensures narrow { IsNarrowArrival result }
 {
     if !is_sending(q.state) {
@@ -97,7 +96,7 @@ pub(crate) fn arrival_of(q: &QueuePart, p: &Packet<'_>) -> Arrival
 
 /// What the packet's AETH says.
 fn syndrome_of(p: &Packet<'_>) -> Option<Syndrome>
-    ensures { result ≡ option_and_then (λ a. syndrome_in a.syndrome) (fields_of p.now).aeth }
+    ensures { result ≡ option_and_then (λ a. syndrome_in a.syndrome) p.now.aeth }
 {
     match p.aeth {
         None => None,
@@ -207,8 +206,8 @@ fn failure(numbers: RequesterNumbers, status: WcStatus) -> Outcome
 pub(crate) fn answer_of<'a>(q: &'a QueuePart, p: &Packet<'_>, psn: u64) -> Response<'a>
     requires step { CanStep q.now }
     requires psn { psn < 2 ^ 62 }
-    ensures row { row_of result (fields_of p.now) q.now ≡ rows.fitting_row psn (fields_of p.now) (acknowledgement_below psn q.now) }
-    ensures sound { IsResponse result (fields_of p.now) q.now }
+    ensures row { row_of result p.now q.now ≡ rows.fitting_row psn p.now (acknowledgement_below psn q.now) }
+    ensures sound { IsResponse result p.now q.now }
 {
     let acknowledged = acknowledged_below(q, psn);
     if acknowledged.went_back {
@@ -238,10 +237,10 @@ fn fitting_request<'a>(
 ) -> Option<Numbered<'a>>
     requires queue { IsQueue q.now }
     requires numbers { AreNumbers q.now numbers.now }
-    ensures request { option_map numbered_of result ≡ fitting psn (fields_of p.now) (with_requester numbers.now q.now) }
+    ensures request { option_map numbered_of result ≡ fitting psn p.now (with_requester numbers.now q.now) }
     ensures sound { IfSome result (λ n. IsSound q.now (numbered_of n)) }
     ensures psn { IfSome result (λ n. numbering.has_psn psn (numbered_of n) ≡ true) }
-    ensures fits { IfSome result (λ n. rows.fits_request psn (fields_of p.now) q.now (numbered_of n) ≡ true) }
+    ensures fits { IfSome result (λ n. rows.fits_request psn p.now q.now (numbered_of n) ≡ true) }
 {
     match request_under(q, numbers, psn) {
         Some(request) if fits(q, p, psn, &request) => Some(request),
@@ -255,7 +254,7 @@ fn fits(q: &QueuePart, p: &Packet<'_>, psn: u64, n: &Numbered<'_>) -> bool
     requires queue { IsQueue q.now }
     requires sound { IsSound q.now (numbered_of n.now) }
     requires psn { numbering.has_psn psn (numbered_of n.now) ≡ true }
-    ensures { result ≡ rows.fits_request psn (fields_of p.now) q.now (numbered_of n.now) }
+    ensures { result ≡ rows.fits_request psn p.now q.now (numbered_of n.now) }
 {
     if p.opcode == ATOMIC_ACKNOWLEDGE {
         return is_atomic(n.op());

@@ -11,7 +11,7 @@ ghost use Rattle.ca_model.specs.machine.Acknowledgements.{acknowledgement_below,
 ghost use Rattle.ca_model.specs.machine.Invariants.{IsQueue};
 ghost use Rattle.ca_model.specs.machine.Responses as rows;
 ghost use Rattle.ca_model.specs.machine.Row.{ending_of};
-ghost use Rattle.ca_packet.specs.Packet.{IsWellFormed, fields_of};
+ghost use Rattle.ca_packet.specs.Packet.{IsWellFormed};
 ghost use Rattle.ca_model.specs.Packets.{is_response};
 ghost use Rattle.ca_rows.specs.Asks.{CanWrite, IsAskOf, IsGranted, IsWrite, asks_of, touched_by};
 ghost use Rattle.ca_rows.specs.Done.{IsTaking, handed, written_all};
@@ -41,8 +41,8 @@ use std::alloc::Global;
 /// The asks that `on_response` may make, in order; it makes no other. It takes no memory.
 pub fn response_asks(q: &QueuePart, p: &Packet<'_>) -> ArrayVec<Ask, MAX_PIECES>
     requires step { CanStep q.now }
-    requires packet { IsWellFormed (fields_of p.now) }
-    ensures { result.items ≡ (rows.response_row (fields_of p.now) q.now).asks }
+    requires packet { IsWellFormed p.now }
+    ensures { result.items ≡ (rows.response_row p.now q.now).asks }
 {
     match arrival_of(q, p) {
         Arrival::Fits(psn) => answer_asks(q, p, psn),
@@ -55,9 +55,9 @@ pub fn response_asks(q: &QueuePart, p: &Packet<'_>) -> ArrayVec<Ask, MAX_PIECES>
 /// The asks of an answer with this PSN.
 fn answer_asks(q: &QueuePart, p: &Packet<'_>, psn: u64) -> ArrayVec<Ask, MAX_PIECES>
     requires step { CanStep q.now }
-    requires packet { IsWellFormed (fields_of p.now) }
+    requires packet { IsWellFormed p.now }
     requires psn { psn < 2 ^ 62 }
-    ensures { result.items ≡ (rows.fitting_row psn (fields_of p.now) (acknowledgement_below psn q.now)).asks }
+    ensures { result.items ≡ (rows.fitting_row psn p.now (acknowledgement_below psn q.now)).asks }
 {
     match answer_of(q, p, psn) {
         Response::Answers(answer) => asks_for(q, p, &answer),
@@ -68,11 +68,11 @@ fn answer_asks(q: &QueuePart, p: &Packet<'_>, psn: u64) -> ArrayVec<Ask, MAX_PIE
 /// The asks for the places in its request's list to which an answer's bytes go.
 fn asks_for(q: &QueuePart, p: &Packet<'_>, answer: &Answer<'_>) -> ArrayVec<Ask, MAX_PIECES>
     requires queue { IsQueue q.now }
-    requires packet { IsWellFormed (fields_of p.now) }
-    requires answer { IsAnswer (fields_of p.now) q.now answer.now }
-    ensures value { result.items ≡ rows.answer_asks answer.now.psn (fields_of p.now) q.now (numbered_of answer.now.request) }
+    requires packet { IsWellFormed p.now }
+    requires answer { IsAnswer p.now q.now answer.now }
+    ensures value { result.items ≡ rows.answer_asks answer.now.psn p.now q.now (numbered_of answer.now.request) }
     ensures asks { AllByRecursion (IsAskOf Kind.Write) result.items }
-    ensures enough { touched_by result.items ≤ length (rows.answer_bytes (fields_of p.now)) }
+    ensures enough { touched_by result.items ≤ length (rows.answer_bytes p.now) }
 {
     let request = &answer.request;
     list_asks(
@@ -99,8 +99,8 @@ fn bytes_before(q: &QueuePart, answer: &Answer<'_>) -> u32
 
 /// How many bytes an answer brings: its payload, or the eight of what an atomic found.
 fn answer_length(p: &Packet<'_>) -> u32
-    requires { IsWellFormed (fields_of p.now) }
-    ensures value { result ≡ length (rows.answer_bytes (fields_of p.now)) }
+    requires { IsWellFormed p.now }
+    ensures value { result ≡ length (rows.answer_bytes p.now) }
     ensures few { result ≤ MAX_PAYLOAD_BYTES }
 {
     if p.opcode == ATOMIC_ACKNOWLEDGE {
@@ -113,8 +113,8 @@ fn answer_length(p: &Packet<'_>) -> u32
 /// The bytes that an answer brings, cut for the asks to which they go.
 fn cut_answer(alloc: Global, p: &Packet<'_>, asks: &[Ask]) -> Result<Vec<(Ask, Bytes)>, Memory>
     requires asks { AllByRecursion (IsAskOf Kind.Write) asks.now }
-    requires enough { touched_by asks.now ≤ length (rows.answer_bytes (fields_of p.now)) }
-    ensures value { IfOk result (λ writes. writes.items ≡ rows.writes_by asks.now (rows.answer_bytes (fields_of p.now))) }
+    requires enough { touched_by asks.now ≤ length (rows.answer_bytes p.now) }
+    ensures value { IfOk result (λ writes. writes.items ≡ rows.writes_by asks.now (rows.answer_bytes p.now)) }
     ensures writes { IfOk result (λ writes. AllByRecursion IsWrite writes.items) }
     ensures asks { IfOk result (λ writes. asks_of writes.items ≡ asks.now) }
 {
@@ -138,10 +138,10 @@ pub fn on_response<R: Reach>(
     marks: &mut Marks,
 ) -> Result<(), Memory>
     requires step { CanStep q.old }
-    requires packet { IsWellFormed (fields_of p.now) }
-    requires response { is_response (fields_of p.now).opcode ≡ true }
-    requires at_hand { AreAtHand R.sight R.judges R.touches reach.old (rows.response_row (fields_of p.now) q.old).asks }
-    ensures done { IsTaking R.written result (ending_of (R.sight reach.old) (rows.response_row (fields_of p.now) q.old))
+    requires packet { IsWellFormed p.now }
+    requires response { is_response p.now.opcode ≡ true }
+    requires at_hand { AreAtHand R.sight R.judges R.touches reach.old (rows.response_row p.now q.old).asks }
+    ensures done { IsTaking R.written result (ending_of (R.sight reach.old) (rows.response_row p.now q.old))
         (handed q.old marks.old.marks [] reach.old) (handed q.new marks.new.marks [] reach.new) }
     ensures room { OnOk result (2 ≤ marks.new.room) }
     ensures err { OnErr result (q.new ≡ q.old) }
@@ -262,10 +262,10 @@ fn take_answer<R: Reach>(
     marks: &mut Marks,
 ) -> Result<(), Memory>
     requires step { CanStep q.old }
-    requires packet { IsWellFormed (fields_of p.now) }
+    requires packet { IsWellFormed p.now }
     requires psn { psn < 2 ^ 62 }
-    requires at_hand { AreAtHand R.sight R.judges R.touches reach.old (rows.fitting_row psn (fields_of p.now) (acknowledgement_below psn q.old)).asks }
-    ensures done { IsTaking R.written result (ending_of (R.sight reach.old) (rows.fitting_row psn (fields_of p.now) (acknowledgement_below psn q.old)))
+    requires at_hand { AreAtHand R.sight R.judges R.touches reach.old (rows.fitting_row psn p.now (acknowledgement_below psn q.old)).asks }
+    ensures done { IsTaking R.written result (ending_of (R.sight reach.old) (rows.fitting_row psn p.now (acknowledgement_below psn q.old)))
         (handed q.old marks.old.marks [] reach.old) (handed q.new marks.new.marks [] reach.new) }
     ensures room { OnOk result (2 ≤ marks.new.room) }
     ensures err { OnErr result (q.new ≡ q.old) }
@@ -365,7 +365,7 @@ fn place<R: Reach>(
     marks: &mut Marks,
 ) -> Result<(), Memory>
     requires step { CanStep q.old }
-    requires packet { IsWellFormed (fields_of p.now) }
+    requires packet { IsWellFormed p.now }
     requires psn { taken.psn < 2 ^ 62 }
     requires numbers { AreNumbers q.old taken.numbers }
     requires under { with_requester taken.numbers q.old ≡ (progress_to taken.psn q.old).queue }
@@ -374,11 +374,11 @@ fn place<R: Reach>(
     requires bytes { AllByRecursion (R.touches reach.old) asks.now }
     requires allowed { AllByRecursion (IsGranted (R.sight reach.old)) asks.now }
     requires asks { AllByRecursion (IsAskOf Kind.Write) asks.now }
-    requires enough { touched_by asks.now ≤ length (rows.answer_bytes (fields_of p.now)) }
+    requires enough { touched_by asks.now ≤ length (rows.answer_bytes p.now) }
     requires few { length asks.now ≤ MAX_PIECES }
-    ensures queue { OnOk result (q.new ≡ (answer_effects taken (fields_of p.now) asks.now q.old).queue) }
-    ensures marks { OnOk result (marks.new.marks ≡ marks.old.marks ++ (answer_effects taken (fields_of p.now) asks.now q.old).marks) }
-    ensures reach { OnOk result (reach.new ≡ written_all R.written reach.old (answer_effects taken (fields_of p.now) asks.now q.old).writes) }
+    ensures queue { OnOk result (q.new ≡ (answer_effects taken p.now asks.now q.old).queue) }
+    ensures marks { OnOk result (marks.new.marks ≡ marks.old.marks ++ (answer_effects taken p.now asks.now q.old).marks) }
+    ensures reach { OnOk result (reach.new ≡ written_all R.written reach.old (answer_effects taken p.now asks.now q.old).writes) }
     ensures room { OnOk result (2 ≤ marks.new.room) }
     ensures err { OnErr result (q.new ≡ q.old) }
     ensures err_marks { OnErr result (marks.new.marks ≡ marks.old.marks) }

@@ -9,8 +9,8 @@ use Rattle.ca_base.specs.objects.QueuePair.{QueuePair}
 use Rattle.ca_base.specs.declared.request.PlacedReceive.{PlacedReceive}
 use Rattle.ca_base.specs.objects.SharedReceives.{SharedReceives}
 use Rattle.ca_packet.specs.Packet.{Fields}
-use Rattle.ca_wire.specs.Segment.{begins, ends}
-use Rattle.ca_wire.specs.declared.segment.Position.{Position}
+use Rattle.ca_packet.specs.Shapes.{begins, ends}
+use Rattle.ca_packet.specs.declared.shape.Position.{Position}
 use Rattle.ca_wire.specs.declared.syndrome.NakCode.TheVariants.{InvalidRequest}
 use Rattle.ca_model.specs.machine.Arrivals.{next_receive, packet_ask, refusal_effects, remote_mark, with_flag}
 use Rattle.ca_model.specs.declared.receiving.Receiving.{Receiving}
@@ -19,10 +19,11 @@ use Rattle.ca_model.specs.machine.Expected.{after_write_packet, behind_marks, co
 use Rattle.ca_model.specs.machine.Row.{Effects, Row, plain_row, Does}
 use Rattle.ca_arrivals.specs.Receives.{receive_if}
 use Rattle.ca_responder.proofs.ValidLemmas.{valid_order}
-use Rattle.ca_model.specs.machine.Shapes.{Shape, SendAt, WriteAt, ReadRequest, Atomic}
+use Rattle.ca_packet.specs.declared.shape.Shape.{Shape}
+use Rattle.ca_packet.specs.declared.shape.Shape.TheVariants as shapes
 
 -- a SEND that goes on has the receive of its message
-goes-on : (q : QueuePair) (next : Option PlacedReceive) (place : Position) (m : Option Message) → continues m (SendAt place) ≡ true → begins place ≡ false
+goes-on : (q : QueuePair) (next : Option PlacedReceive) (place : Position) (m : Option Message) → continues m (shapes.Send place) ≡ true → begins place ≡ false
     → receiving_of q next m ≡ receiving_of q None m
 goes-on q next place None on not_first = absurd (true≢false (sym on ∙ not_first))
 goes-on q next place (Some (messages.Write key address left count)) on not_first = absurd (true≢false (sym on))
@@ -30,7 +31,7 @@ goes-on q next place (Some (messages.Send at receive count)) on not_first = refl
 
 send-without : (q : QueuePair) (p : Fields) (envelope : Option ℕ) (next : Option PlacedReceive) (place : Position)
     → receiving_of q next q.responder.message ≡ receiving_of q None q.responder.message
-    → valid_row q p envelope next (SendAt place) ≡ valid_row q p envelope None (SendAt place)
+    → valid_row q p envelope next (shapes.Send place) ≡ valid_row q p envelope None (shapes.Send place)
 send-without q p envelope next place same = ap (λ (r : Option Receiving). row r) same
   where
     row : Option Receiving → Row
@@ -61,7 +62,7 @@ write-by q p envelope place next r none = ap (λ (e : Effects). row e) (plain-wr
     }
 
 write-without : (q : QueuePair) (p : Fields) (envelope : Option ℕ) (next : Option PlacedReceive) (place : Position) → p.imm ≡ None
-    → valid_row q p envelope next (WriteAt place) ≡ valid_row q p envelope None (WriteAt place)
+    → valid_row q p envelope next (shapes.Write place) ≡ valid_row q p envelope None (shapes.Write place)
 write-without q p envelope next place none = by (write_reach q p)
   where
     row : Option PlacedReceive → Option WriteReach → Row
@@ -79,10 +80,10 @@ not-some (Some a) e = absurd (true≢false e)
 -- a packet that takes no receive does the same whatever receive waits
 valid-without : (q : QueuePair) (p : Fields) (envelope : Option ℕ) (next : Option PlacedReceive) (shape : Shape)
     → continues q.responder.message shape ≡ true → takes_receive p shape ≡ false → valid_row q p envelope next shape ≡ valid_row q p envelope None shape
-valid-without q p envelope next (SendAt place) on takes = send-without q p envelope next place (goes-on q next place q.responder.message on takes)
-valid-without q p envelope next (WriteAt place) on takes = write-without q p envelope next place (not-some p.imm takes)
-valid-without q p envelope next ReadRequest on takes = refl
-valid-without q p envelope next (Atomic kind) on takes = refl
+valid-without q p envelope next (shapes.Send place) on takes = send-without q p envelope next place (goes-on q next place q.responder.message on takes)
+valid-without q p envelope next (shapes.Write place) on takes = write-without q p envelope next place (not-some p.imm takes)
+valid-without q p envelope next shapes.Read on takes = refl
+valid-without q p envelope next (shapes.Atomic kind) on takes = refl
 
 row-without : (q : QueuePair) (shared : Option SharedReceives) (p : Fields) (envelope : Option ℕ) (shape : Shape)
     → is_invalid q p shape ≡ false → takes_receive p shape ≡ false → valid_row (with_flag false q) p envelope None shape ≡ expected_row q shared p envelope shape

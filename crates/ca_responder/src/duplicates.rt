@@ -2,16 +2,14 @@ ghost use Rattle.std.specs.Prelude.{◌≡◌, ◌<◌, ◌≤◌, ◌^◌, ◌�
 ghost use Rattle.ca_base.specs.objects.Answers.{answers_before, has_nak_from};
 ghost use Rattle.ca_model.specs.machine.Duplicates as rows;
 ghost use Rattle.ca_model.specs.machine.Invariants.{IsQueue};
-ghost use Rattle.ca_arrivals.specs.Shapes.{shape_seen};
 ghost use Rattle.ca_model.specs.machine.CanStep.{CanStep};
-ghost use Rattle.ca_packet.specs.Packet.{fields_of};
 
-use ca_arrivals::{Shape, drop_packet, queue_answer, read_segments};
+use ca_arrivals::{drop_packet, queue_answer, read_segments};
 use ca_base::limits::MAX_DUPLICATES;
 use ca_base::{Answers, Memory, Queued};
 use ca_model::{Drop1, Marks};
 use ca_qpstate::QueuePart;
-use ca_wire::{NakCode, Packet, Reth};
+use ca_wire::{NakCode, Packet, Reth, Shape};
 
 /// A packet ahead of the expected one: the first asks for what is missing, the others are dropped.
 pub fn take_ahead(q: &mut QueuePart, marks: &mut Marks) -> Result<(), Memory>
@@ -43,8 +41,8 @@ pub fn take_duplicate(
     requires step { CanStep q.old }
     requires some { 0 < psn }
     requires psn { psn < 2 ^ 62 }
-    ensures queue { OnOk result (q.new ≡ (rows.duplicate_effects psn (fields_of p.now) envelope (shape_seen shape) q.old).queue) }
-    ensures marks { OnOk result (marks.new.marks ≡ marks.old.marks ++ (rows.duplicate_effects psn (fields_of p.now) envelope (shape_seen shape) q.old).marks) }
+    ensures queue { OnOk result (q.new ≡ (rows.duplicate_effects psn p.now envelope shape q.old).queue) }
+    ensures marks { OnOk result (marks.new.marks ≡ marks.old.marks ++ (rows.duplicate_effects psn p.now envelope shape q.old).marks) }
     ensures room { OnOk result (2 ≤ marks.new.room) }
     ensures err { OnErr result (q.new ≡ q.old) }
     ensures err_marks { OnErr result (marks.new.marks ≡ marks.old.marks) }

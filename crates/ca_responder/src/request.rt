@@ -13,15 +13,15 @@ ghost use Rattle.ca_model.specs.machine.Invariants.{IsQueue, IsReceive, IsShared
 ghost use Rattle.ca_model.specs.machine.Row.{ending_of};
 ghost use Rattle.ca_psn.specs.Psn.{widened};
 ghost use Rattle.ca_arrivals.specs.Receives.{CanTake};
-ghost use Rattle.ca_arrivals.specs.Shapes.{IsRequestShape, shape_seen};
+ghost use Rattle.ca_packet.specs.Shapes.{IsRequestShape};
 ghost use Rattle.ca_arrivals.specs.Taking.{IsArrival, IsPacketTaken, MayEnd, after_shared, ended_by, found};
 ghost use Rattle.ca_model.specs.machine.CanStep.{CanStep};
-ghost use Rattle.ca_packet.specs.Packet.{IsWellFormed, fields_of};
+ghost use Rattle.ca_packet.specs.Packet.{IsWellFormed};
 
 use crate::duplicates::{take_ahead, take_duplicate};
 use ca_arrivals::{
-    Shape, drop_packet, is_invalid, lacks_receive, queue_answer, receiving_of, refuse, shape_of,
-    taken_receive, write_reach,
+    drop_packet, is_invalid, lacks_receive, queue_answer, receiving_of, refuse, taken_receive,
+    write_reach,
 };
 use ca_base::{Memory, PlacedReceive, Queued};
 use ca_grant::Reach;
@@ -31,7 +31,7 @@ use ca_qpstate::QueuePart;
 use ca_receiving::take_send;
 use ca_remote::{take_atomic, take_read, take_write};
 use ca_srq::Srq;
-use ca_wire::{NakCode, Packet};
+use ca_wire::{NakCode, Packet, Shape, shape_of};
 use std::alloc::Global;
 
 /// Takes a request that arrived. A packet ahead of the expected one asks once for what is missing; a duplicate is
@@ -51,15 +51,15 @@ pub fn on_request<R: Reach>(
 ) -> Result<(), Memory>
     requires step { CanStep q.old }
     requires shared { IfSome (option_copied_mut srq) IsSharedReceives }
-    requires packet { IsWellFormed (fields_of p.now) }
+    requires packet { IsWellFormed p.now }
     requires request { is_response p.now.opcode ≡ false }
-    requires at_hand { AreAtHand R.sight R.judges R.touches reach.old (packet_arrived (fields_of p.now) envelope (option_copied_mut srq) q.old).asks }
-    requires ends { IfSome (packet_arrived (fields_of p.now) envelope (option_copied_mut srq) q.old).invalidation (MayEnd R.sight R.ends reach.old q.old) }
-    ensures taken { let row = packet_arrived (fields_of p.now) envelope (option_copied_mut srq.entry) q.old in
+    requires at_hand { AreAtHand R.sight R.judges R.touches reach.old (packet_arrived p.now envelope (option_copied_mut srq) q.old).asks }
+    requires ends { IfSome (packet_arrived p.now envelope (option_copied_mut srq) q.old).invalidation (MayEnd R.sight R.ends reach.old q.old) }
+    ensures taken { let row = packet_arrived p.now envelope (option_copied_mut srq.entry) q.old in
         IsArrival R.written R.revoked result (ending_of (R.sight reach.old) row) (ended_by (R.sight reach.old) row)
         (found q.old marks.old.marks reach.old) (found q.new marks.new.marks reach.new) }
     ensures receives { OnOk result (left_behind srq.exit ≡ after_shared (ending_of (R.sight reach.old)
-        (packet_arrived (fields_of p.now) envelope (option_copied_mut srq.entry) q.old)) (option_copied_mut srq.entry)) }
+        (packet_arrived p.now envelope (option_copied_mut srq.entry) q.old)) (option_copied_mut srq.entry)) }
     ensures err_receives { OnErr result (left_behind srq.exit ≡ option_copied_mut srq.entry) }
     ensures room { OnOk result (2 ≤ marks.new.room) }
 {
@@ -80,14 +80,14 @@ fn take_without<R: Reach>(
     marks: &mut Marks,
 ) -> Result<(), Memory>
     requires step { CanStep q.old }
-    requires packet { IsWellFormed (fields_of p.now) }
+    requires packet { IsWellFormed p.now }
     requires request { is_response p.now.opcode ≡ false }
-    requires at_hand { AreAtHand R.sight R.judges R.touches reach.old (packet_arrived (fields_of p.now) envelope None q.old).asks }
-    requires ends { IfSome (packet_arrived (fields_of p.now) envelope None q.old).invalidation (MayEnd R.sight R.ends reach.old q.old) }
-    ensures taken { let row = packet_arrived (fields_of p.now) envelope None q.old in
+    requires at_hand { AreAtHand R.sight R.judges R.touches reach.old (packet_arrived p.now envelope None q.old).asks }
+    requires ends { IfSome (packet_arrived p.now envelope None q.old).invalidation (MayEnd R.sight R.ends reach.old q.old) }
+    ensures taken { let row = packet_arrived p.now envelope None q.old in
         IsArrival R.written R.revoked result (ending_of (R.sight reach.old) row) (ended_by (R.sight reach.old) row)
         (found q.old marks.old.marks reach.old) (found q.new marks.new.marks reach.new) }
-    ensures receives { None ≡ after_shared (ending_of (R.sight reach.old) (packet_arrived (fields_of p.now) envelope None q.old)) None }
+    ensures receives { None ≡ after_shared (ending_of (R.sight reach.old) (packet_arrived p.now envelope None q.old)) None }
     ensures room { OnOk result (2 ≤ marks.new.room) }
 {
     match take_request(alloc, q, None, reach, p, envelope, marks) {
@@ -109,14 +109,14 @@ fn take_with<R: Reach>(
 ) -> Result<(), Memory>
     requires step { CanStep q.old }
     requires shared { IsSharedReceives srq.old }
-    requires packet { IsWellFormed (fields_of p.now) }
+    requires packet { IsWellFormed p.now }
     requires request { is_response p.now.opcode ≡ false }
-    requires at_hand { AreAtHand R.sight R.judges R.touches reach.old (packet_arrived (fields_of p.now) envelope (Some srq.old) q.old).asks }
-    requires ends { IfSome (packet_arrived (fields_of p.now) envelope (Some srq.old) q.old).invalidation (MayEnd R.sight R.ends reach.old q.old) }
-    ensures taken { let row = packet_arrived (fields_of p.now) envelope (Some srq.old) q.old in
+    requires at_hand { AreAtHand R.sight R.judges R.touches reach.old (packet_arrived p.now envelope (Some srq.old) q.old).asks }
+    requires ends { IfSome (packet_arrived p.now envelope (Some srq.old) q.old).invalidation (MayEnd R.sight R.ends reach.old q.old) }
+    ensures taken { let row = packet_arrived p.now envelope (Some srq.old) q.old in
         IsArrival R.written R.revoked result (ending_of (R.sight reach.old) row) (ended_by (R.sight reach.old) row)
         (found q.old marks.old.marks reach.old) (found q.new marks.new.marks reach.new) }
-    ensures receives { OnOk result (Some srq.new ≡ after_shared (ending_of (R.sight reach.old) (packet_arrived (fields_of p.now) envelope (Some srq.old) q.old)) (Some srq.old)) }
+    ensures receives { OnOk result (Some srq.new ≡ after_shared (ending_of (R.sight reach.old) (packet_arrived p.now envelope (Some srq.old) q.old)) (Some srq.old)) }
     ensures err_receives { OnErr result (srq.new ≡ srq.old) }
     ensures room { OnOk result (2 ≤ marks.new.room) }
 {
@@ -150,11 +150,11 @@ fn take_request<R: Reach>(
 ) -> Result<bool, Memory>
     requires step { CanStep q.old }
     requires shared { IfSome (option_copied srq) IsSharedReceives }
-    requires packet { IsWellFormed (fields_of p.now) }
+    requires packet { IsWellFormed p.now }
     requires request { is_response p.now.opcode ≡ false }
-    requires at_hand { AreAtHand R.sight R.judges R.touches reach.old (packet_arrived (fields_of p.now) envelope (option_copied srq) q.old).asks }
-    requires ends { IfSome (packet_arrived (fields_of p.now) envelope (option_copied srq) q.old).invalidation (MayEnd R.sight R.ends reach.old q.old) }
-    ensures taken { let row = packet_arrived (fields_of p.now) envelope (option_copied srq.entry) q.old in
+    requires at_hand { AreAtHand R.sight R.judges R.touches reach.old (packet_arrived p.now envelope (option_copied srq) q.old).asks }
+    requires ends { IfSome (packet_arrived p.now envelope (option_copied srq) q.old).invalidation (MayEnd R.sight R.ends reach.old q.old) }
+    ensures taken { let row = packet_arrived p.now envelope (option_copied srq.entry) q.old in
         IsPacketTaken R.written R.revoked result (ending_of (R.sight reach.old) row) (ended_by (R.sight reach.old) row)
         (found q.old marks.old.marks reach.old) (found q.new marks.new.marks reach.new) }
     ensures room { OnOk result (2 ≤ marks.new.room) }
@@ -179,11 +179,11 @@ fn take_shaped<R: Reach>(
 ) -> Result<bool, Memory>
     requires step { CanStep q.old }
     requires shared { IfSome (option_copied srq) IsSharedReceives }
-    requires packet { IsWellFormed (fields_of p.now) }
+    requires packet { IsWellFormed p.now }
     requires shape { IsRequestShape shape }
-    requires at_hand { AreAtHand R.sight R.judges R.touches reach.old (request_row (fields_of p.now) envelope (option_copied srq) (shape_seen shape) q.old).asks }
-    requires ends { IfSome (request_row (fields_of p.now) envelope (option_copied srq) (shape_seen shape) q.old).invalidation (MayEnd R.sight R.ends reach.old q.old) }
-    ensures taken { let row = request_row (fields_of p.now) envelope (option_copied srq.entry) (shape_seen shape) q.old in
+    requires at_hand { AreAtHand R.sight R.judges R.touches reach.old (request_row p.now envelope (option_copied srq) shape q.old).asks }
+    requires ends { IfSome (request_row p.now envelope (option_copied srq) shape q.old).invalidation (MayEnd R.sight R.ends reach.old q.old) }
+    ensures taken { let row = request_row p.now envelope (option_copied srq.entry) shape q.old in
         IsPacketTaken R.written R.revoked result (ending_of (R.sight reach.old) row) (ended_by (R.sight reach.old) row)
         (found q.old marks.old.marks reach.old) (found q.new marks.new.marks reach.new) }
     ensures room { OnOk result (2 ≤ marks.new.room) }
@@ -238,11 +238,11 @@ fn take_expected<R: Reach>(
 ) -> Result<bool, Memory>
     requires step { CanStep q.old }
     requires shared { IfSome (option_copied srq) IsSharedReceives }
-    requires packet { IsWellFormed (fields_of p.now) }
+    requires packet { IsWellFormed p.now }
     requires shape { IsRequestShape shape }
-    requires at_hand { AreAtHand R.sight R.judges R.touches reach.old (rows.expected_row q.old (option_copied srq) (fields_of p.now) envelope (shape_seen shape)).asks }
-    requires ends { IfSome (rows.expected_row q.old (option_copied srq) (fields_of p.now) envelope (shape_seen shape)).invalidation (MayEnd R.sight R.ends reach.old q.old) }
-    ensures taken { let row = rows.expected_row q.old (option_copied srq.entry) (fields_of p.now) envelope (shape_seen shape) in
+    requires at_hand { AreAtHand R.sight R.judges R.touches reach.old (rows.expected_row q.old (option_copied srq) p.now envelope shape).asks }
+    requires ends { IfSome (rows.expected_row q.old (option_copied srq) p.now envelope shape).invalidation (MayEnd R.sight R.ends reach.old q.old) }
+    ensures taken { let row = rows.expected_row q.old (option_copied srq.entry) p.now envelope shape in
         IsPacketTaken R.written R.revoked result (ending_of (R.sight reach.old) row) (ended_by (R.sight reach.old) row)
         (found q.old marks.old.marks reach.old) (found q.new marks.new.marks reach.new) }
     ensures room { OnOk result (2 ≤ marks.new.room) }
@@ -272,14 +272,14 @@ fn take_valid<R: Reach>(
     marks: &mut Marks,
 ) -> Result<bool, Memory>
     requires step { CanStep q.old }
-    requires packet { IsWellFormed (fields_of p.now) }
+    requires packet { IsWellFormed p.now }
     requires shape { IsRequestShape shape }
-    requires valid { rows.is_invalid q.old (fields_of p.now) (shape_seen shape) ≡ false }
+    requires valid { rows.is_invalid q.old p.now shape ≡ false }
     requires next { IfSome next (λ r. IsReceive r.receive) }
     requires takes { CanTake q.old next }
-    requires at_hand { AreAtHand R.sight R.judges R.touches reach.old (rows.valid_row (arrivals.with_flag false q.old) (fields_of p.now) envelope next (shape_seen shape)).asks }
-    requires ends { IfSome (rows.valid_row (arrivals.with_flag false q.old) (fields_of p.now) envelope next (shape_seen shape)).invalidation (MayEnd R.sight R.ends reach.old q.old) }
-    ensures taken { let row = rows.valid_row (arrivals.with_flag false q.old) (fields_of p.now) envelope next (shape_seen shape) in
+    requires at_hand { AreAtHand R.sight R.judges R.touches reach.old (rows.valid_row (arrivals.with_flag false q.old) p.now envelope next shape).asks }
+    requires ends { IfSome (rows.valid_row (arrivals.with_flag false q.old) p.now envelope next shape).invalidation (MayEnd R.sight R.ends reach.old q.old) }
+    ensures taken { let row = rows.valid_row (arrivals.with_flag false q.old) p.now envelope next shape in
         IsPacketTaken R.written R.revoked result (ending_of (R.sight reach.old) row) (ended_by (R.sight reach.old) row)
         (found q.old marks.old.marks reach.old) (found q.new marks.new.marks reach.new) }
     ensures room { OnOk result (2 ≤ marks.new.room) }

@@ -1,7 +1,7 @@
 ghost use Rattle.std.specs.Prelude.{◌≡◌, ◌+◌, ◌<◌, ◌≤◌, ◌^◌, ◌++◌, OnOk, OnErr, length};
 ghost use Rattle.ca_model.specs.machine.Invariants.{IsQueue};
 ghost use Rattle.ca_model.specs.machine.Requester as requester;
-ghost use Rattle.ca_packet.specs.Packet.{IsWellFormed, fields_of, spelling};
+ghost use Rattle.ca_packet.specs.Packet.{IsWellFormed, spelling};
 ghost use Rattle.ca_rows.specs.Made.{IsSpelt};
 
 use ca_base::Memory;
@@ -32,8 +32,8 @@ pub fn psn_bits(psn: u64) -> u32
 /// Adds the bytes that spell a packet, at most 4128.
 #[inline(always)]
 pub fn spell_packet(packet: &Packet<'_>, out: &mut Vec<u8>) -> Result<(), Memory>
-    requires { IsWellFormed (fields_of packet.now) }
-    ensures spelt { OnOk result (IsSpelt (spelling (fields_of packet.now)) out.old.items out.new.items) }
+    requires { IsWellFormed packet.now }
+    ensures spelt { OnOk result (IsSpelt (spelling packet.now) out.old.items out.new.items) }
     ensures err { OnErr result (out.new.items ≡ out.old.items) }
 {
     spelling_length();

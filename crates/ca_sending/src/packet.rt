@@ -11,7 +11,7 @@ ghost use Rattle.ca_sending.specs.Packets.{IsPacket, packet_fields, reth_of};
 ghost use Rattle.ca_rows.specs.Asks.{IsAskOf, touched_by};
 ghost use Rattle.ca_packet.specs.declared.packet.TheConstants.{MAX_PACKET_BYTES};
 ghost use Rattle.ca_wire.specs.Builders as packets;
-ghost use Rattle.ca_packet.specs.Packet.{IsWellFormed, fields_of};
+ghost use Rattle.ca_packet.specs.Packet.{IsWellFormed};
 
 use arrayvec::ArrayVec;
 use ca_base::limits::MAX_PIECES;
@@ -104,8 +104,8 @@ fn packet_of<'a>(q: &QueuePart, n: &Numbered<'_>, payload: &'a [u8]) -> Packet<'
     requires queue { IsQueue q.now }
     requires packet { IsPacket q.now (numbered_of n.now) }
     requires payload { length payload.now ≤ MAX_PAYLOAD_BYTES }
-    ensures fields { packet_fields q.now (numbered_of n.now) payload.now ≡ Some (fields_of result) }
-    ensures well_formed { IsWellFormed (fields_of result) }
+    ensures fields { packet_fields q.now (numbered_of n.now) payload.now ≡ Some result }
+    ensures well_formed { IsWellFormed result }
 {
     let head = head_of(q, n, payload);
     match n.op() {
@@ -155,7 +155,7 @@ fn head_of<'a>(q: &QueuePart, n: &Numbered<'_>, payload: &'a [u8]) -> Head<'a>
     ensures number { result.queue < 2 ^ 24 }
     ensures psn { result.psn ≡ requester.psn_bits q.now.requester.cursor }
     ensures narrow { result.psn < 2 ^ 24 }
-    ensures payload { result.payload.now ≡ payload.now }
+    ensures payload { result.payload ≡ payload.now }
 {
     Head {
         index: index_of_packet(q, n),
@@ -172,8 +172,8 @@ fn atomic_of<'a>(head: &Head<'a>, request: &SendRequest) -> Packet<'a>
     requires atomic { is_atomic_op request.now.op ≡ true }
     requires queue { head.now.queue < 2 ^ 24 }
     requires psn { head.now.psn < 2 ^ 24 }
-    ensures fields { (mtu : ℕ) → requests.request_packet mtu request.now head.now.index head.now.queue head.now.psn head.now.payload.now ≡ Some (fields_of result) }
-    ensures well_formed { IsWellFormed (fields_of result) }
+    ensures fields { (mtu : ℕ) → requests.request_packet mtu request.now head.now.index head.now.queue head.now.psn head.now.payload ≡ Some result }
+    ensures well_formed { IsWellFormed result }
 {
     match &request.op {
         SendOp::CmpSwap {
@@ -216,10 +216,10 @@ fn send_of<'a>(head: &Head<'a>, kind: SendKind) -> Packet<'a>
     requires index { head.now.index < head.now.count }
     requires queue { head.now.queue < 2 ^ 24 }
     requires psn { head.now.psn < 2 ^ 24 }
-    requires payload { length head.now.payload.now ≤ MAX_PAYLOAD_BYTES }
-    ensures fields { fields_of result ≡ packets.send_packet kind (record { index = head.now.index; count = head.now.count })
-        head.now.solicited head.now.queue head.now.psn head.now.payload.now }
-    ensures well_formed { IsWellFormed (fields_of result) }
+    requires payload { length head.now.payload ≤ MAX_PAYLOAD_BYTES }
+    ensures fields { result ≡ packets.send_packet kind (record { index = head.now.index; count = head.now.count })
+        head.now.solicited head.now.queue head.now.psn head.now.payload }
+    ensures well_formed { IsWellFormed result }
 {
     send_packet(
         kind,
@@ -243,10 +243,10 @@ fn write_of<'a>(
     requires index { head.now.index < head.now.count }
     requires queue { head.now.queue < 2 ^ 24 }
     requires psn { head.now.psn < 2 ^ 24 }
-    requires payload { length head.now.payload.now ≤ MAX_PAYLOAD_BYTES }
-    ensures fields { fields_of result ≡ packets.write_packet (record { index = head.now.index; count = head.now.count })
-        (reth_of address key (requests.list_length list.now)) imm head.now.solicited head.now.queue head.now.psn head.now.payload.now }
-    ensures well_formed { IsWellFormed (fields_of result) }
+    requires payload { length head.now.payload ≤ MAX_PAYLOAD_BYTES }
+    ensures fields { result ≡ packets.write_packet (record { index = head.now.index; count = head.now.count })
+        (reth_of address key (requests.list_length list.now)) imm head.now.solicited head.now.queue head.now.psn head.now.payload }
+    ensures well_formed { IsWellFormed result }
 {
     let reth = Reth {
         address,

@@ -1,4 +1,4 @@
-ghost use Rattle.ca_packet.specs.Packet.{IsWellFormed, fields_of};
+ghost use Rattle.ca_packet.specs.Packet.{IsWellFormed};
 
 mod packet_text;
 mod vectors;
@@ -38,7 +38,7 @@ fn is_packet<R: Abort + AllocGlobal>(
 
 // The packet is spelt so.
 fn is_spelt<R: Abort + AllocGlobal>(rt: &R, p: &Packet<'_>, text: &str) -> Result<(), Fail>
-    requires { IsWellFormed (fields_of p.now) }
+    requires { IsWellFormed p.now }
 {
     let mut out = Vec::new(rt.alloc());
     encode(p, &mut out)?;

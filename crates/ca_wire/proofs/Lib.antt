@@ -1,3 +1,4 @@
 pub mod SyndromeLaws
 pub mod BuilderLaws
+pub mod OperationLaws
 pub mod WorkedPackets

@@ -7,15 +7,16 @@ use Rattle.ca_packet.specs.declared.opcode.TheConstants.{SEND_FIRST, SEND_MIDDLE
 use Rattle.ca_wire.specs.declared.requests.SendKind.{SendKind}
 use Rattle.ca_wire.specs.declared.requests.SendKind.TheVariants.{Plain, WithImmediate, WithInvalidate}
 use Rattle.ca_packet.specs.declared.reth.Reth.{Reth}
-use Rattle.ca_wire.specs.declared.segment.Position.{Position}
-use Rattle.ca_wire.specs.declared.segment.Position.TheVariants.{First, Middle, Last, Only}
+use Rattle.ca_packet.specs.declared.shape.Position.{Position}
+use Rattle.ca_packet.specs.declared.shape.Position.TheVariants.{First, Middle, Last, Only}
 use Rattle.ca_wire.specs.declared.segment.Segment.{Segment}
 use Rattle.ca_wire.specs.declared.syndrome.NakCode.{NakCode}
 use Rattle.ca_wire.specs.declared.syndrome.Syndrome.{Syndrome}
 use Rattle.ca_wire.specs.declared.syndrome.Syndrome.TheVariants.{Ack, RnrNak, Nak}
 use Rattle.ca_wire.specs.declared.syndrome.TheConstants.{UNLIMITED_CREDITS}
 use Rattle.ca_packet.specs.Packet.{Fields, plain}
-use Rattle.ca_wire.specs.Segment.{begins, ends, position_of, asks_acknowledgement}
+use Rattle.ca_packet.specs.Shapes.{begins, ends}
+use Rattle.ca_wire.specs.Segment.{position_of, asks_acknowledgement}
 use Rattle.ca_wire.specs.Syndrome.{syndrome_byte}
 
 -- the AETH that says this, with this MSN

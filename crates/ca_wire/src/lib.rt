@@ -15,13 +15,14 @@ mod segment;
 mod syndrome;
 
 pub use ca_packet::{
-    Aeth, AtomicEth, Bth, DEFAULT_PKEY, MAX_PACKET_BYTES, Packet, Reth, WireError, decode, encode,
-    one_packet, opcode, read_bth, reading, round_trip, spelling_length,
+    Aeth, AtomicEth, Bth, DEFAULT_PKEY, MAX_PACKET_BYTES, Operation, Packet, Position, Reth, Shape,
+    WireError, decode, encode, one_packet, opcode, operation_of, read_bth, reading, round_trip,
+    shape_of, spelling_length,
 };
-pub use laws::syndromes;
+pub use laws::{operations, syndromes};
 pub use requests::{SendKind, cmp_swap, fetch_add, read_request, send_packet, write_packet};
 pub use responses::{
     acknowledge, acknowledgement, atomic_acknowledge, nak, read_response, rnr_nak,
 };
-pub use segment::{Position, Segment};
+pub use segment::Segment;
 pub use syndrome::{NakCode, Syndrome, UNLIMITED_CREDITS};

@@ -1,12 +1,12 @@
 ghost use Rattle.std.specs.Prelude.{◌≡◌, ◌^◌, ◌<◌, ◌≤◌, length};
 ghost use Rattle.ca_base.specs.declared.limits.TheConstants.{MAX_PAYLOAD_BYTES};
 ghost use Rattle.ca_wire.specs.Builders as packets;
-ghost use Rattle.ca_packet.specs.Packet.{IsWellFormed, fields_of};
+ghost use Rattle.ca_packet.specs.Packet.{IsWellFormed};
 
-use crate::segment::{Position, Segment};
+use crate::segment::Segment;
 use ca_base::Key;
 use ca_packet::opcode::*;
-use ca_packet::{AtomicEth, Packet, Reth};
+use ca_packet::{AtomicEth, Packet, Position, Reth};
 
 /// What a SEND brings beside its bytes, at its end.
 #[derive(Clone, Copy)]
@@ -86,8 +86,8 @@ pub fn send_packet(
     requires queue { queue < 2 ^ 24 }
     requires psn { psn < 2 ^ 24 }
     requires payload { length payload.now ≤ MAX_PAYLOAD_BYTES }
-    ensures fields { fields_of result ≡ packets.send_packet kind segment solicited queue psn payload.now }
-    ensures well_formed { IsWellFormed (fields_of result) }
+    ensures fields { result ≡ packets.send_packet kind segment solicited queue psn payload.now }
+    ensures well_formed { IsWellFormed result }
 {
     let position = segment.position();
     Packet {
@@ -114,8 +114,8 @@ pub fn write_packet(
     requires queue { queue < 2 ^ 24 }
     requires psn { psn < 2 ^ 24 }
     requires payload { length payload.now ≤ MAX_PAYLOAD_BYTES }
-    ensures fields { fields_of result ≡ packets.write_packet segment reth imm solicited queue psn payload.now }
-    ensures well_formed { IsWellFormed (fields_of result) }
+    ensures fields { result ≡ packets.write_packet segment reth imm solicited queue psn payload.now }
+    ensures well_formed { IsWellFormed result }
 {
     let position = segment.position();
     Packet {
@@ -131,8 +131,8 @@ pub fn write_packet(
 pub fn read_request(reth: Reth, queue: u32, psn: u32) -> Packet<'static>
     requires queue { queue < 2 ^ 24 }
     requires psn { psn < 2 ^ 24 }
-    ensures fields { fields_of result ≡ packets.read_request reth queue psn }
-    ensures well_formed { IsWellFormed (fields_of result) }
+    ensures fields { result ≡ packets.read_request reth queue psn }
+    ensures well_formed { IsWellFormed result }
 {
     Packet {
         ack: true,
@@ -145,8 +145,8 @@ pub fn read_request(reth: Reth, queue: u32, psn: u32) -> Packet<'static>
 pub fn cmp_swap(atomic: AtomicEth, queue: u32, psn: u32) -> Packet<'static>
     requires queue { queue < 2 ^ 24 }
     requires psn { psn < 2 ^ 24 }
-    ensures fields { fields_of result ≡ packets.cmp_swap atomic queue psn }
-    ensures well_formed { IsWellFormed (fields_of result) }
+    ensures fields { result ≡ packets.cmp_swap atomic queue psn }
+    ensures well_formed { IsWellFormed result }
 {
     Packet {
         ack: true,
@@ -160,8 +160,8 @@ pub fn cmp_swap(atomic: AtomicEth, queue: u32, psn: u32) -> Packet<'static>
 pub fn fetch_add(address: u64, key: Key, add: u64, queue: u32, psn: u32) -> Packet<'static>
     requires queue { queue < 2 ^ 24 }
     requires psn { psn < 2 ^ 24 }
-    ensures fields { fields_of result ≡ packets.fetch_add address key add queue psn }
-    ensures well_formed { IsWellFormed (fields_of result) }
+    ensures fields { result ≡ packets.fetch_add address key add queue psn }
+    ensures well_formed { IsWellFormed result }
 {
     let atomic = AtomicEth {
         address,

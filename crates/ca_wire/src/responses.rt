@@ -1,13 +1,13 @@
 ghost use Rattle.std.specs.Prelude.{◌≡◌, ◌^◌, ◌<◌, ◌≤◌, length};
 ghost use Rattle.ca_base.specs.declared.limits.TheConstants.{MAX_PAYLOAD_BYTES};
 ghost use Rattle.ca_wire.specs.Builders as packets;
-ghost use Rattle.ca_packet.specs.Packet.{IsWellFormed, fields_of};
+ghost use Rattle.ca_packet.specs.Packet.{IsWellFormed};
 ghost use Rattle.ca_wire.specs.Syndrome.{FitsSyndrome};
 
-use crate::segment::{Position, Segment};
+use crate::segment::Segment;
 use crate::syndrome::{NakCode, Syndrome, UNLIMITED_CREDITS};
 use ca_packet::opcode::*;
-use ca_packet::{Aeth, Packet};
+use ca_packet::{Aeth, Packet, Position};
 
 #[inline(always)]
 fn aeth_of(syndrome: Syndrome, msn: u32) -> Aeth
@@ -26,8 +26,8 @@ pub fn acknowledge(syndrome: Syndrome, queue: u32, psn: u32, msn: u32) -> Packet
     requires queue { queue < 2 ^ 24 }
     requires psn { psn < 2 ^ 24 }
     requires msn { msn < 2 ^ 24 }
-    ensures fields { fields_of result ≡ packets.acknowledge syndrome queue psn msn }
-    ensures well_formed { IsWellFormed (fields_of result) }
+    ensures fields { result ≡ packets.acknowledge syndrome queue psn msn }
+    ensures well_formed { IsWellFormed result }
 {
     Packet {
         aeth: Some(aeth_of(syndrome, msn)),
@@ -40,8 +40,8 @@ pub fn acknowledgement(queue: u32, psn: u32, msn: u32) -> Packet<'static>
     requires queue { queue < 2 ^ 24 }
     requires psn { psn < 2 ^ 24 }
     requires msn { msn < 2 ^ 24 }
-    ensures fields { fields_of result ≡ packets.acknowledgement queue psn msn }
-    ensures well_formed { IsWellFormed (fields_of result) }
+    ensures fields { result ≡ packets.acknowledgement queue psn msn }
+    ensures well_formed { IsWellFormed result }
 {
     acknowledge(Syndrome::Ack(UNLIMITED_CREDITS), queue, psn, msn)
 }
@@ -52,8 +52,8 @@ pub fn rnr_nak(timer: u8, queue: u32, psn: u32, msn: u32) -> Packet<'static>
     requires queue { queue < 2 ^ 24 }
     requires psn { psn < 2 ^ 24 }
     requires msn { msn < 2 ^ 24 }
-    ensures fields { fields_of result ≡ packets.rnr_nak timer queue psn msn }
-    ensures well_formed { IsWellFormed (fields_of result) }
+    ensures fields { result ≡ packets.rnr_nak timer queue psn msn }
+    ensures well_formed { IsWellFormed result }
 {
     acknowledge(Syndrome::RnrNak(timer), queue, psn, msn)
 }
@@ -63,8 +63,8 @@ pub fn nak(code: NakCode, queue: u32, psn: u32, msn: u32) -> Packet<'static>
     requires queue { queue < 2 ^ 24 }
     requires psn { psn < 2 ^ 24 }
     requires msn { msn < 2 ^ 24 }
-    ensures fields { fields_of result ≡ packets.nak code queue psn msn }
-    ensures well_formed { IsWellFormed (fields_of result) }
+    ensures fields { result ≡ packets.nak code queue psn msn }
+    ensures well_formed { IsWellFormed result }
 {
     acknowledge(Syndrome::Nak(code), queue, psn, msn)
 }
@@ -74,8 +74,8 @@ pub fn atomic_acknowledge(found: u64, queue: u32, psn: u32, msn: u32) -> Packet<
     requires queue { queue < 2 ^ 24 }
     requires psn { psn < 2 ^ 24 }
     requires msn { msn < 2 ^ 24 }
-    ensures fields { fields_of result ≡ packets.atomic_acknowledge found queue psn msn }
-    ensures well_formed { IsWellFormed (fields_of result) }
+    ensures fields { result ≡ packets.atomic_acknowledge found queue psn msn }
+    ensures well_formed { IsWellFormed result }
 {
     Packet {
         aeth: Some(aeth_of(Syndrome::Ack(UNLIMITED_CREDITS), msn)),
@@ -111,8 +111,8 @@ pub fn read_response(segment: Segment, queue: u32, psn: u32, msn: u32, payload: 
     requires psn { psn < 2 ^ 24 }
     requires msn { msn < 2 ^ 24 }
     requires payload { length payload.now ≤ MAX_PAYLOAD_BYTES }
-    ensures fields { fields_of result ≡ packets.read_response segment queue psn msn payload.now }
-    ensures well_formed { IsWellFormed (fields_of result) }
+    ensures fields { result ≡ packets.read_response segment queue psn msn payload.now }
+    ensures well_formed { IsWellFormed result }
 {
     let position = segment.position();
     Packet {

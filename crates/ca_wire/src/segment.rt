@@ -1,5 +1,7 @@
 ghost use Rattle.std.specs.Prelude.{◌≡◌, ◌<◌};
-ghost use Rattle.ca_wire.specs.Segment.{begins, ends, is_last, position_of, asks_acknowledgement};
+ghost use Rattle.ca_wire.specs.Segment.{is_last, position_of, asks_acknowledgement};
+
+use ca_packet::Position;
 
 /// Besides the last packet of a message, each one whose number, counted from 1, is a multiple of this asks for an
 /// acknowledgement. The standard leaves it to the requester.
@@ -12,35 +14,6 @@ pub struct Segment {
     pub index: u32,
     /// How many packets the message has.
     pub count: u32,
-}
-
-/// Where a packet stands in its message.
-#[derive(Clone, Copy)]
-pub enum Position {
-    /// The first of several.
-    First,
-    /// Neither the first nor the last.
-    Middle,
-    /// The last of several.
-    Last,
-    /// The only one.
-    Only,
-}
-
-impl Position {
-    /// Whether the message begins here.
-    pub fn begins(self) -> bool
-        ensures { result ≡ begins self }
-    {
-        matches!(self, Position::First | Position::Only)
-    }
-
-    /// Whether the message ends here.
-    pub fn ends(self) -> bool
-        ensures { result ≡ ends self }
-    {
-        matches!(self, Position::Last | Position::Only)
-    }
 }
 
 impl Segment {

@@ -25,7 +25,8 @@ use Rattle.ca_model.specs.machine.Duplicates.{request_row}
 use Rattle.ca_model.specs.machine.Plan.{Plan, Stuck, Look, If, Finish, Update, ◌:=◌}
 use Rattle.ca_model.specs.machine.Responses.{drop_effects, response_row}
 use Rattle.ca_model.specs.machine.Row.{Row, Row_plan, plain_row, Does}
-use Rattle.ca_model.specs.machine.Shapes.{Shape, shape_of}
+use Rattle.ca_packet.specs.declared.shape.Shape.{Shape}
+use Rattle.ca_packet.specs.Table.{shape_of}
 use Rattle.ca_model.specs.machine.World.{Mailbox_of, Queue_of}
 
 -- why a packet is dropped before its row, in order

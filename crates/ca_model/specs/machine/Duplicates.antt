@@ -20,7 +20,8 @@ use Rattle.ca_model.specs.machine.Arrivals.{with_answer, with_flag, with_respond
 use Rattle.ca_model.specs.machine.Expected.{expected_row}
 use Rattle.ca_model.specs.machine.Responses.{drop_effects}
 use Rattle.ca_model.specs.machine.Row.{Effects, queue_and_marks, Row, plain_row, Does}
-use Rattle.ca_model.specs.machine.Shapes.{Shape, SendAt, WriteAt, ReadRequest, Atomic}
+use Rattle.ca_packet.specs.declared.shape.Shape.{Shape}
+use Rattle.ca_packet.specs.declared.shape.Shape.TheVariants as shapes
 
 -- a packet ahead: the first asks for what is missing, the others are dropped
 abbrev pub ahead_effects : QueuePair → Effects
@@ -64,10 +65,10 @@ duplicate_effects psn p envelope shape q =
     if nat_le MAX_DUPLICATES (duplicate_count q.responder.answers) then drop_effects q drops.Unsaved else by shape
   where
     by : Shape → Effects
-    by (SendAt place) = ack_again q
-    by (WriteAt place) = ack_again q
-    by ReadRequest = option_map_or (λ h. read_again psn envelope h q) p.reth (drop_effects q drops.Unsaved)
-    by (Atomic kind) = atomic_again psn (saved_at psn q.saved) q
+    by (shapes.Send place) = ack_again q
+    by (shapes.Write place) = ack_again q
+    by shapes.Read = option_map_or (λ h. read_again psn envelope h q) p.reth (drop_effects q drops.Unsaved)
+    by (shapes.Atomic kind) = atomic_again psn (saved_at psn q.saved) q
 
 -- a request that arrived: ahead, a duplicate, or the expected one
 abbrev pub request_row : Fields → Option ℕ → Option SharedReceives → Shape → QueuePair → Row

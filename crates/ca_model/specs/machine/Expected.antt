@@ -25,11 +25,12 @@ use Rattle.ca_base.specs.objects.SharedReceives.{SharedReceives}
 use Rattle.ca_keys.specs.Numbers.{is_window_key}
 use Rattle.ca_packet.specs.declared.atomic_eth.AtomicEth.{AtomicEth}
 use Rattle.ca_packet.specs.declared.reth.Reth.{Reth}
-use Rattle.ca_wire.specs.declared.segment.Position.{Position}
+use Rattle.ca_packet.specs.declared.shape.Position.{Position}
+use Rattle.ca_packet.specs.declared.shape.Position.TheVariants.{First, Middle, Last, Only}
 use Rattle.ca_wire.specs.declared.syndrome.NakCode.{NakCode}
 use Rattle.ca_wire.specs.declared.syndrome.NakCode.TheVariants.{InvalidRequest, RemoteAccessError, RemoteOperationalError}
 use Rattle.ca_packet.specs.Packet.{Fields}
-use Rattle.ca_wire.specs.Segment.{begins, ends}
+use Rattle.ca_packet.specs.Shapes.{begins, ends}
 use Rattle.ca_model.specs.declared.mark.Mark.{Mark}
 use Rattle.ca_model.specs.declared.mark.Mark.TheVariants as marks
 use Rattle.ca_model.specs.declared.receiving.Receiving.{Receiving}
@@ -43,7 +44,8 @@ use Rattle.ca_model.specs.machine.Requester.{local_denial}
 use Rattle.ca_model.specs.machine.Responses.{local_writes, writes_by}
 use Rattle.ca_model.specs.machine.Row as rows
 use Rattle.ca_model.specs.machine.Row.{Effects, queue_and_marks, Row, Does}
-use Rattle.ca_model.specs.machine.Shapes.{Shape, SendAt, WriteAt, ReadRequest, Atomic, fits_place}
+use Rattle.ca_packet.specs.declared.shape.Shape.{Shape}
+use Rattle.ca_packet.specs.declared.shape.Shape.TheVariants as shapes
 
 abbrev pub reach_of_reth : Reth → WriteReach
 reach_of_reth h = record { key = h.key; address = h.address; left = h.length; whole = h.length }
@@ -60,17 +62,24 @@ write_reach q p = by p.reth q.responder.message
 
 -- the packet goes on with the message in progress, or begins one where none is
 abbrev pub continues : Option Message → Shape → Bool
-continues None (SendAt place) = begins place
-continues None (WriteAt place) = begins place
+continues None (shapes.Send place) = begins place
+continues None (shapes.Write place) = begins place
 continues None shape = true
-continues (Some (messages.Send at receive count)) (SendAt place) = not (begins place)
-continues (Some (messages.Write key address left count)) (WriteAt place) = not (begins place)
+continues (Some (messages.Send at receive count)) (shapes.Send place) = not (begins place)
+continues (Some (messages.Write key address left count)) (shapes.Write place) = not (begins place)
 continues message shape = false
+
+-- the payload of a SEND or a WRITE fits its place: exactly the path MTU, 1 to it at the end, 0 to it alone
+abbrev pub fits_place : ℕ → Position → ℕ → Bool
+fits_place mtu First count = count == mtu
+fits_place mtu Middle count = count == mtu
+fits_place mtu Last count = nat_lt 0 count && nat_le count mtu
+fits_place mtu Only count = nat_le count mtu
 
 -- the payload fits its place in the message
 abbrev pub fits_payload : QueuePair → Fields → Shape → Bool
-fits_payload q p (SendAt place) = fits_place q.responder.mtu place (length p.payload)
-fits_payload q p (WriteAt place) = fits_place q.responder.mtu place (length p.payload)
+fits_payload q p (shapes.Send place) = fits_place q.responder.mtu place (length p.payload)
+fits_payload q p (shapes.Write place) = fits_place q.responder.mtu place (length p.payload)
 fits_payload q p shape = true
 
 -- a WRITE leaves bytes before its last packet, and ends exactly with it
@@ -78,7 +87,7 @@ abbrev pub fits_left : ℕ → Position → WriteReach → Bool
 fits_left count place r = if ends place then count == r.left else nat_lt count r.left
 
 abbrev pub fits_write : QueuePair → Fields → Shape → Bool
-fits_write q p (WriteAt place) = option_map_or (fits_left (length p.payload) place) (write_reach q p) true
+fits_write q p (shapes.Write place) = option_map_or (fits_left (length p.payload) place) (write_reach q p) true
 fits_write q p shape = true
 
 -- an atomic's address is no multiple of eight
@@ -87,8 +96,8 @@ is_misaligned p = option_map_or (λ a. not (a.address % ATOMIC_BYTES == 0)) p.at
 
 -- a READ or an atomic where as many are queued as may be
 abbrev pub has_no_place : QueuePair → Shape → Bool
-has_no_place q ReadRequest = nat_le MAX_READS (fresh_count q.responder.answers)
-has_no_place q (Atomic kind) = nat_le MAX_READS (fresh_count q.responder.answers)
+has_no_place q shapes.Read = nat_le MAX_READS (fresh_count q.responder.answers)
+has_no_place q (shapes.Atomic kind) = nat_le MAX_READS (fresh_count q.responder.answers)
 has_no_place q shape = false
 
 -- the packet is an invalid request
@@ -103,8 +112,8 @@ is_invalid q p shape =
 
 -- the packet takes a receive: a SEND as it begins, a WRITE with its immediate data
 abbrev pub takes_receive : Fields → Shape → Bool
-takes_receive p (SendAt place) = begins place
-takes_receive p (WriteAt place) = is_some p.imm
+takes_receive p (shapes.Send place) = begins place
+takes_receive p (shapes.Write place) = is_some p.imm
 takes_receive p shape = false
 
 -- an RNR NAK is queued, and nothing else changes
@@ -264,22 +273,22 @@ atomic_row q p envelope kind a = record {
 
 -- what the packet asks for, once it is valid and has its receive
 abbrev pub valid_row : QueuePair → Fields → Option ℕ → Option PlacedReceive → Shape → Row
-valid_row q p envelope next (SendAt place) = by (receiving_of q next q.responder.message)
+valid_row q p envelope next (shapes.Send place) = by (receiving_of q next q.responder.message)
   where
     by : Option Receiving → Row
     by (Some r) = send_row q p place r
     by None = rows.plain_row (Does (refusal_effects InvalidRequest q))
-valid_row q p envelope next (WriteAt place) = by (write_reach q p)
+valid_row q p envelope next (shapes.Write place) = by (write_reach q p)
   where
     by : Option WriteReach → Row
     by (Some r) = write_row q p envelope place next r
     by None = rows.plain_row (Does (refusal_effects InvalidRequest q))
-valid_row q p envelope next ReadRequest = by p.reth
+valid_row q p envelope next shapes.Read = by p.reth
   where
     by : Option Reth → Row
     by (Some h) = rows.plain_row (Does (read_queued q p envelope h))
     by None = rows.plain_row (Does (refusal_effects InvalidRequest q))
-valid_row q p envelope next (Atomic kind) = by p.atomic
+valid_row q p envelope next (shapes.Atomic kind) = by p.atomic
   where
     by : Option AtomicEth → Row
     by (Some a) = atomic_row q p envelope kind a

@@ -1,9 +1,7 @@
 use Rattle.std.proofs.Common.{rules, ◌∙◌, option_copied}
-use Rattle.ca_packet.specs.Packet.{fields_of}
 use Rattle.ca_arrivals.proofs.AskingLemmas.{asks_of_expected}
-use Rattle.ca_arrivals.specs.Shapes.{shape_seen}
 use Rattle.ca_arrivals.proofs.asks.expected_asks.Goals as goal
 
 pub returns : goal.returns
 returns c = λ envelope. c.valid_asks.ensures envelope
-    ∙ asks_of_expected c.args.q.now (option_copied c.args.srq) (fields_of c.args.p.now) envelope (shape_seen c.args.shape) (search rules) (search rules)
+    ∙ asks_of_expected c.args.q.now (option_copied c.args.srq) c.args.p.now envelope c.args.shape (search rules) (search rules)

@@ -3,8 +3,7 @@ use Rattle.ca_arrivals.specs.Taking.{MayEnd}
 use Rattle.ca_bed_reach.specs.SmallReach.{IsEndHere, sight_of}
 use Rattle.ca_bed_responder.proofs.Ended.{ended_as}
 use Rattle.ca_bed_responder.proofs.responder.request_in.Goals as goal
-use Rattle.ca_packet.specs.Packet.{fields_of}
 
 pub returns-clause-ends : goal.returns-clause-ends
-returns-clause-ends c = λ envelope. ended_as (fields_of c.in-Ok.p) envelope (option_copied c.args.srq) c.args.q.now
+returns-clause-ends c = λ envelope. ended_as c.in-Ok.p envelope (option_copied c.args.srq) c.args.q.now
     (MayEnd sight_of IsEndHere c.args.reach.now c.args.q.now) (search rules) (c.may_end.ensures (search rules))

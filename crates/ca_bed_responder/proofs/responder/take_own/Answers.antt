@@ -4,13 +4,12 @@ use Rattle.ca_arrivals.specs.Taking.{found}
 use Rattle.ca_bed_reach.specs.SmallReach.{sight_of}
 use Rattle.ca_bed_responder.proofs.Kept.{arrival_kept, request-good, stands_by}
 use Rattle.ca_bed_responder.proofs.responder.take_own.Goals as goal
-use Rattle.ca_packet.specs.Packet.{fields_of}
 
 pub returns : goal.returns
 returns c =
     let bed = c.args.bed.now in
     let q = bed.queue in
-    let p = fields_of c.in_ok-p.p in
+    let p = c.in_ok-p.p in
     stands_by (record { queue = c.on_request.new.q; reach = c.on_request.new.reach })
     (arrival_kept c.on_request.result (sight_of bed.reach) (packet_arrived p c.args.envelope None q)
     (found q c.args.marks.now.marks bed.reach)

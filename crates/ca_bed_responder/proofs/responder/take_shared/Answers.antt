@@ -5,13 +5,12 @@ use Rattle.ca_arrivals.specs.Taking.{found}
 use Rattle.ca_bed_reach.specs.SmallReach.{sight_of}
 use Rattle.ca_bed_responder.proofs.Kept.{arrival_kept, request-good, shared_kept, stands_by}
 use Rattle.ca_bed_responder.proofs.responder.take_shared.Goals as goal
-use Rattle.ca_packet.specs.Packet.{fields_of}
 
 pub returns-clause-stands : goal.returns-clause-stands
 returns-clause-stands c =
     let bed = c.args.bed.now in
     let q = bed.queue in
-    let p = fields_of c.in_ok-p.p in
+    let p = c.in_ok-p.p in
     stands_by (record { queue = c.on_request.new.q; reach = c.on_request.new.reach })
     (arrival_kept c.on_request.result (sight_of bed.reach) (packet_arrived p c.args.envelope (Some c.args.srq.now) q)
     (found q c.args.marks.now.marks bed.reach)
@@ -25,12 +24,12 @@ pub returns-clause-shared : goal.returns-clause-shared
 returns-clause-shared c =
     let bed = c.args.bed.now in
     (shared_kept c.on_request.result
-    (ending_of (sight_of bed.reach) (packet_arrived (fields_of c.in_ok-p.p) c.args.envelope (Some c.args.srq.now) bed.queue))
+    (ending_of (sight_of bed.reach) (packet_arrived c.in_ok-p.p c.args.envelope (Some c.args.srq.now) bed.queue))
     c.args.srq.now c.on_request.new.srq.0 c.requires.shared c.on_request.ensures.receives c.on_request.ensures.err_receives).sound
 
 pub returns-clause-next : goal.returns-clause-next
 returns-clause-next c =
     let bed = c.args.bed.now in
     (shared_kept c.on_request.result
-    (ending_of (sight_of bed.reach) (packet_arrived (fields_of c.in_ok-p.p) c.args.envelope (Some c.args.srq.now) bed.queue))
+    (ending_of (sight_of bed.reach) (packet_arrived c.in_ok-p.p c.args.envelope (Some c.args.srq.now) bed.queue))
     c.args.srq.now c.on_request.new.srq.0 c.requires.shared c.on_request.ensures.receives c.on_request.ensures.err_receives).next

@@ -1,33 +1,39 @@
 use Rattle.std.proofs.Common.{arith}
-use Rattle.ca_packet.specs.Packet.{fields_of}
-use Rattle.ca_packet.proofs.WritingLaws.{size_is, spelling_is}
+use Rattle.ca_packet.specs.Packet.{IsWellFormed}
+use Rattle.ca_packet.specs.PacketView.{packet_seen}
+use Rattle.ca_packet.proofs.WritingLaws.{spelling_is}
 use Rattle.ca_packet.proofs.encoding.encode.Goals as goal
 
 pub put_reth-requires : goal.put_reth-requires
-put_reth-requires c = let size = size_is (fields_of c.args.p.now) c.requires in omega (arith, c.in_ok-reserve.ensures.ok)
+put_reth-requires c = let sizes = rw (← c.p.view_is) at c.size_of_headers.ensures in omega (arith, c.in_ok-reserve.ensures.ok)
 
 pub put_atomic-requires : goal.put_atomic-requires
-put_atomic-requires c = let size = size_is (fields_of c.args.p.now) c.requires in omega (arith, c.in_ok-reserve.ensures.ok)
+put_atomic-requires c = let sizes = rw (← c.p.view_is) at c.size_of_headers.ensures in omega (arith, c.in_ok-reserve.ensures.ok)
 
 pub put_aeth-requires-clause-room : goal.put_aeth-requires-clause-room
-put_aeth-requires-clause-room c = let size = size_is (fields_of c.args.p.now) c.requires in omega (arith, c.in_ok-reserve.ensures.ok)
+put_aeth-requires-clause-room c = let sizes = rw (← c.p.view_is) at c.size_of_headers.ensures in omega (arith, c.in_ok-reserve.ensures.ok)
 
 pub put_u64_if-requires : goal.put_u64_if-requires
-put_u64_if-requires c = let size = size_is (fields_of c.args.p.now) c.requires in omega (arith, c.in_ok-reserve.ensures.ok)
+put_u64_if-requires c = let sizes = rw (← c.p.view_is) at c.size_of_headers.ensures in omega (arith, c.in_ok-reserve.ensures.ok)
 
 pub put_u32_if-requires : goal.put_u32_if-requires
-put_u32_if-requires c = let size = size_is (fields_of c.args.p.now) c.requires in omega (arith, c.in_ok-reserve.ensures.ok)
+put_u32_if-requires c = let sizes = rw (← c.p.view_is) at c.size_of_headers.ensures in omega (arith, c.in_ok-reserve.ensures.ok)
 
 pub put_u32_if-requires-2 : goal.put_u32_if-requires-2
-put_u32_if-requires-2 c = let size = size_is (fields_of c.args.p.now) c.requires in omega (arith, c.in_ok-reserve.ensures.ok)
+put_u32_if-requires-2 c = let sizes = rw (← c.p.view_is) at c.size_of_headers.ensures in omega (arith, c.in_ok-reserve.ensures.ok)
 
 pub put-requires : goal.put-requires
-put-requires c = let size = size_is (fields_of c.args.p.now) c.requires in omega (arith, c.in_ok-reserve.ensures.ok)
+put-requires c =
+    let sizes = rw (← c.p.view_is) at c.size_of_headers.ensures in
+    let queue = rw (← c.p.view_is) at c.requires.queue in
+    let psn = rw (← c.p.view_is) at c.requires.psn in
+    omega (arith, c.in_ok-reserve.ensures.ok)
 
 pub put_pad-requires-clause-room : goal.put_pad-requires-clause-room
-put_pad-requires-clause-room c = let size = size_is (fields_of c.args.p.now) c.requires in omega (arith, c.in_ok-reserve.ensures.ok)
+put_pad-requires-clause-room c = let sizes = rw (← c.p.view_is) at c.size_of_headers.ensures in omega (arith, c.in_ok-reserve.ensures.ok)
 
 pub returns-clause-ok : goal.returns-clause-ok
 returns-clause-ok c =
-    let whole = spelling_is (fields_of c.args.p.now) c.args.out.now.items c.requires in
-    cc
+    let good : IsWellFormed (packet_seen c.p.inside) = rw c.p.view_is c.requires in
+    let whole = spelling_is (packet_seen c.p.inside) c.args.out.now.items good in
+    rw (← c.p.view_is) cc

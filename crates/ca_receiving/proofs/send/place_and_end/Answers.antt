@@ -4,7 +4,6 @@ use Rattle.ca_model.specs.machine.Arrivals.{with_message, with_responder}
 use Rattle.ca_model.specs.machine.Completions.{flush_marks}
 use Rattle.ca_model.specs.declared.receiving.Receiving.{Receiving}
 use Rattle.ca_model.specs.machine.Responses.{local_writes}
-use Rattle.ca_packet.specs.Packet.{fields_of}
 use Rattle.ca_receiving.specs.Ending.{key_end}
 use Rattle.ca_arrivals.specs.Numbers.{receive_taken}
 use Rattle.ca_receiving.proofs.SendLemmas.{ended-marks, refused-marks}
@@ -27,7 +26,7 @@ returns-in-Err-clause-refused_marks g c = λ cause known.
 
 pub returns-clause-ended_marks : goal.returns-clause-ended_marks
 returns-clause-ended_marks g c = λ gone.
-    ended-marks c.args.q.now (with_responder (record c.end_key.new.q.responder { answers = c.settle_held.new.answers }) c.end_key.new.q) (fields_of c.args.p.now) c.args.place c.args.r c.args.key c.args.marks.now.marks c.write_all.new.marks.marks
+    ended-marks c.args.q.now (with_responder (record c.end_key.new.q.responder { answers = c.settle_held.new.answers }) c.end_key.new.q) c.args.p.now c.args.place c.args.r c.args.key c.args.marks.now.marks c.write_all.new.marks.marks
     c.push-2.new.self.marks c.end_send.new.marks.marks (local_writes c.args.writes.items)
     c.end_key.ensures.name
     (c.write_all.ensures.marks ∙ ap (λ (ms : List Mark). ms ++ local_writes c.args.writes.items) c.reserve.ensures.same)

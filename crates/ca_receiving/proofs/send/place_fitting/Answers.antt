@@ -1,4 +1,3 @@
-use Rattle.ca_packet.specs.Packet.{fields_of}
 use Rattle.ca_receiving.proofs.SendLemmas.{can-write, ended-as, few-writes, placed-by}
 use Rattle.ca_receiving.proofs.send.place_fitting.Goals as goal
 
@@ -18,14 +17,14 @@ place_and_end-requires-clause-few g c = few-writes c.in_ok-writes.writes.items c
 
 pub returns-in-None-clause-taken : goal.returns-in-None-clause-taken
 returns-in-None-clause-taken g c =
-    placed-by g.R.Reach.written g.R.Reach.revoked (g.R.Reach.sight c.args.reach.now) c.args.q.now c.place_send.new.q (fields_of c.args.p.now) c.args.place c.args.r
+    placed-by g.R.Reach.written g.R.Reach.revoked (g.R.Reach.sight c.args.reach.now) c.args.q.now c.place_send.new.q c.args.p.now c.args.place c.args.r
     c.args.marks.now.marks c.place_send.new.marks.marks c.args.reach.now c.place_send.new.reach c.place_send.result c.args.asks.now c.in_ok-writes.writes.items
     c.requires.fits c.requires.asks c.requires.none c.in_ok-writes.ensures.value c.in-None.is c.place_send.ensures.queue c.place_send.ensures.marks c.place_send.ensures.shared c.place_send.ensures.wrote
     c.place_send.ensures.err_queue c.place_send.ensures.err_marks c.place_send.ensures.err_reach
 
 pub returns-in-Some-clause-taken : goal.returns-in-Some-clause-taken
 returns-in-Some-clause-taken g c =
-    ended-as g.R.Reach.written g.R.Reach.revoked (g.R.Reach.sight c.args.reach.now) c.args.q.now c.place_and_end.new.q (fields_of c.args.p.now) c.args.place c.args.r
+    ended-as g.R.Reach.written g.R.Reach.revoked (g.R.Reach.sight c.args.reach.now) c.args.q.now c.place_and_end.new.q c.args.p.now c.args.place c.args.r
     c.args.marks.now.marks c.place_and_end.new.marks.marks c.args.reach.now c.place_and_end.new.reach c.place_and_end.result c.args.asks.now c.in_ok-writes.writes.items c.in-Some.key
     c.requires.fits c.requires.asks c.requires.none c.in_ok-writes.ensures.value c.in-Some.is c.place_and_end.ensures.ended_queue c.place_and_end.ensures.ended_marks c.place_and_end.ensures.ended_reach
     c.place_and_end.ensures.refused_queue c.place_and_end.ensures.refused_marks c.place_and_end.ensures.refused_reach c.place_and_end.ensures.shared

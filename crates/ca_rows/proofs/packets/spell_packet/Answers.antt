@@ -1,6 +1,6 @@
 use Rattle.std.proofs.lemmas.Result.{on_ok_weaker}
 use Rattle.ca_packet.specs.declared.packet.TheConstants.{MAX_PACKET_BYTES}
-use Rattle.ca_packet.specs.Packet.{fields_of, spelling}
+use Rattle.ca_packet.specs.Packet.{spelling}
 use Rattle.ca_rows.proofs.PacketLemmas.{longer}
 use Rattle.ca_rows.proofs.packets.spell_packet.Goals as goal
 
@@ -8,7 +8,7 @@ pub returns-clause-spelt : goal.returns-clause-spelt
 returns-clause-spelt c = on_ok_weaker c.encode.result
     (λ h. record {
       spelt = h;
-      size = longer c.encode.new.out.items c.args.out.now.items (spelling (fields_of c.args.packet.now)) MAX_PACKET_BYTES h
-          (c.spelling_length.ensures.most (fields_of c.args.packet.now) c.requires);
+      size = longer c.encode.new.out.items c.args.out.now.items (spelling c.args.packet.now) MAX_PACKET_BYTES h
+          (c.spelling_length.ensures.most c.args.packet.now c.requires);
     })
     c.encode.ensures.ok

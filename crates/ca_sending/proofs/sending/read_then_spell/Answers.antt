@@ -11,12 +11,12 @@ spell-requires-clause-payload g c =
       c.in_ok-read_granted.ensures.count,
       c.requires.touched,
       ap length (payload-read (g.R.Reach.sight c.args.reach.now) c.args.asks.now c.args.marks.now.marks c.read_granted.new.marks.marks
-          (length c.as_slice-count.result.now) c.in_ok-payload.payload.now (search rules) (search rules) (search rules)),
+          (length c.as_slice-count.result.now) c.in_ok-payload.payload (search rules) (search rules) (search rules)),
     )
 
 pub returns-clause-out : goal.returns-clause-out
 returns-clause-out g c =
     let P : List ℕ → Type 0 = λ bytes. c.spell.new.out.items ≡ c.args.out.now.items ++ spelt_packet c.args.q.now (numbered_of c.args.n.now) bytes in
     λ granted. subst P (payload-read (g.R.Reach.sight c.args.reach.now) c.args.asks.now c.args.marks.now.marks c.read_granted.new.marks.marks
-    (length c.as_slice-count.result.now) c.in_ok-payload.payload.now (search rules) (search rules) (search rules)
+    (length c.as_slice-count.result.now) c.in_ok-payload.payload (search rules) (search rules) (search rules)
     ∙ reads-joined (g.R.Reach.sight c.args.reach.now) c.args.asks.now) c.in_ok-spell.ensures.ok
