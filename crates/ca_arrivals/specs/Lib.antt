@@ -1,4 +1,5 @@
 pub mod Asking
 pub mod Numbers
 pub mod Receives
+pub mod Requests
 pub mod Taking

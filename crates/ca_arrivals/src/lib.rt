@@ -14,6 +14,7 @@ mod flush;
 mod queueing;
 mod receive;
 mod remote;
+mod request;
 mod segments;
 mod writes;
 
@@ -23,5 +24,6 @@ pub use flush::{push_flush, push_flush_behind, reserve_for};
 pub use queueing::{drop_packet, pass, queue_ack, queue_answer, queue_refusal, refuse};
 pub use receive::{exceeds_receive, receive_asks, receiving_of, take_own};
 pub use remote::{packet_ask, remote_mark};
+pub use request::{Request, SharedReceive};
 pub use segments::read_segments;
 pub use writes::{write_ask, write_reach};

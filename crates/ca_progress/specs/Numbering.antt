@@ -1,4 +1,4 @@
--- The posted requests from a place on, as the machine numbers them, and how the machine sees one. Contracts cite it.
+-- The posted requests from a place on, as the machine numbers them. Contracts cite it.
 use Rattle.std.specs.Prelude.{◌≡◌, ℕ, ◌+◌, ◌-◌, ◌*◌, ◌^◌, ◌≤◌, ◌<◌, true, false, List, length, take, Some}
 use Rattle.ca_base.specs.declared.limits.TheConstants.{MAX_MESSAGE_BYTES}
 use Rattle.ca_base.specs.objects.QueuePair.{QueuePair}
@@ -8,17 +8,6 @@ use Rattle.ca_model.specs.machine.Invariants.{IsList, begun_end}
 use Rattle.ca_model.specs.machine.Numbering as numbering
 use Rattle.ca_model.specs.machine.Requester.{begins, next_request}
 use Rattle.ca_progress.specs.declared.numbering.Next.{Next}
-use Rattle.ca_progress.specs.declared.numbering.Numbered.{Numbered}
-
--- the posted request with its place and its PSNs
-abbrev pub numbered_of : Numbered → numbering.Numbered
-numbered_of n = record {
-  place = n.place;
-  request = n.posted.now.request;
-  drawn = n.posted.now.drawn;
-  first = n.first;
-  count = n.count;
-}
 
 -- the requests from a place on, of which the first has or would get the PSNs from one on
 abbrev pub numbers_from : ℕ → ℕ → QueuePair → List numbering.Numbered
@@ -43,11 +32,11 @@ pub record IsSound (q : QueuePair) (n : numbering.Numbered) : Type 0 where
 
 -- the next thing is of this request, and begins it or not
 pub record IsNext (q : QueuePair) (next : Next) : Type 0 where
-  pub request : next_request q ≡ Some (numbered_of next.request)
+  pub request : next_request q ≡ Some next.request
   pub begins : begins q ≡ next.begins
-  pub goes_on : next.begins ≡ false → numbering.request_at q.requester.cursor q ≡ Some (numbered_of next.request)
-  pub begun : next.begins ≡ true → numbering.next_to_begin q ≡ Some (numbered_of next.request)
-  pub sound : IsSound q (numbered_of next.request)
+  pub goes_on : next.begins ≡ false → numbering.request_at q.requester.cursor q ≡ Some next.request
+  pub begun : next.begins ≡ true → numbering.next_to_begin q ≡ Some next.request
+  pub sound : IsSound q next.request
   pub within : next.begins ≡ false → (next.request.first ≤ q.requester.cursor) × (q.requester.cursor < next.request.first + next.request.count)
   pub room : next.begins ≡ true → q.requester.next + 1 < 2 ^ 64
   pub at_end : next.begins ≡ true → next.request.first ≡ begun_end q

@@ -6,14 +6,14 @@ ghost use Rattle.ca_model.specs.machine.Numbering as numbering;
 ghost use Rattle.ca_model.specs.machine.Requester as requester;
 ghost use Rattle.ca_model.specs.machine.CanStep.{CanStep};
 ghost use Rattle.ca_progress.specs.Progress.{AreNumbers};
-ghost use Rattle.ca_progress.specs.Numbering.{numbered_of, numbers_from, begun_from, IsWithin, IsSound, IsNext};
+ghost use Rattle.ca_progress.specs.Numbering.{numbers_from, begun_from, IsWithin, IsSound, IsNext};
 
 use ca_base::{PostedSend, RequesterNumbers, SendOp, SendRequest};
 use ca_qpstate::QueuePart;
 use ca_rows::psns_of;
+use std::marker::Model;
 
 /// A posted request with its place and its PSNs: the first, and how many it has or would get.
-#[derive(Clone, Copy)]
 pub struct Numbered<'a> {
     pub place: u64,
     pub posted: &'a PostedSend,
@@ -21,14 +21,23 @@ pub struct Numbered<'a> {
     pub count: u32,
 }
 
+impl<'a> Model for Numbered<'a> {
+    ghost use Rattle.ca_model.specs.machine.Numbering.{Numbered};
+
+    ghost Value = { Numbered };
+
+    ghost use Rattle.ca_progress.specs.Numbered.{numbered_seen};
+
+    ghost view = { numbered_seen };
+}
+
 impl<'a> Numbered<'a> {
     ghost use Rattle.std.specs.Prelude.{◌≡◌, ◌+◌, ◌<◌, ◌^◌};
     ghost use Rattle.ca_model.specs.machine.Numbering as numbering;
-    ghost use Rattle.ca_progress.specs.Numbering.{numbered_of};
-
+    
     /// The request itself.
     pub fn request(&self) -> &'a SendRequest
-        ensures { result.now ≡ (numbered_of self.now).request }
+        ensures { result.now ≡ self.now.request }
     {
         let posted = self.posted;
         &posted.request
@@ -36,7 +45,7 @@ impl<'a> Numbered<'a> {
 
     /// What it asks for.
     pub fn op(&self) -> &SendOp
-        ensures { result.now ≡ (numbered_of self.now).request.op }
+        ensures { result.now ≡ self.now.request.op }
     {
         let posted = self.posted;
         &posted.request.op
@@ -44,7 +53,7 @@ impl<'a> Numbered<'a> {
 
     /// The byte that it drew, where it is a bind of a type 1 window.
     pub fn drawn(&self) -> Option<u8>
-        ensures { result ≡ (numbered_of self.now).drawn }
+        ensures { result ≡ self.now.drawn }
     {
         let posted = self.posted;
         posted.drawn
@@ -53,14 +62,13 @@ impl<'a> Numbered<'a> {
     /// The PSN behind its last.
     pub fn end(&self) -> u64
         requires { self.now.first + self.now.count < 2 ^ 63 }
-        ensures { result ≡ numbering.psn_end (numbered_of self.now) }
+        ensures { result ≡ numbering.psn_end self.now }
     {
         self.first + u64::from(self.count)
     }
 }
 
 /// The request of which the next thing is, and whether it begins with it.
-#[derive(Clone, Copy)]
 pub struct Next<'a> {
     pub request: Numbered<'a>,
     pub begins: bool,
@@ -72,9 +80,9 @@ pub fn numbered_at(q: &QueuePart, place: u64, first: u64) -> Option<Numbered<'_>
     requires within { IsWithin place first q.now }
     ensures none { IfNone result (numbers_from place first q.now ≡ []) }
     ensures some { IfSome result (λ n. numbers_from place first q.now
-        ≡ numbered_of n ∷ numbers_from (suc place) (first + n.count) q.now) }
+        ≡ n ∷ numbers_from (suc place) (first + n.count) q.now) }
     ensures first { IfSome result (λ n. n.first ≡ first) }
-    ensures sound { IfSome result (λ n. IsSound q.now (numbered_of n)) }
+    ensures sound { IfSome result (λ n. IsSound q.now n) }
     ensures place { IfSome result (λ n. place + 1 < 2 ^ 64) }
     ensures within { IfSome result (λ n. IsWithin (suc place) (first + n.count) q.now) }
 {
@@ -98,10 +106,10 @@ pub fn begun_at(q: &QueuePart, place: u64, first: u64) -> Option<Numbered<'_>>
     requires within { IsWithin place first q.now }
     ensures none { IfNone result (begun_from place first q.now ≡ []) }
     ensures some { IfSome result (λ n. numbers_from place first q.now
-        ≡ numbered_of n ∷ numbers_from (suc place) (first + n.count) q.now) }
+        ≡ n ∷ numbers_from (suc place) (first + n.count) q.now) }
     ensures begun { IfSome result (λ n. place < q.now.requester.next) }
     ensures first { IfSome result (λ n. n.first ≡ first) }
-    ensures sound { IfSome result (λ n. IsSound q.now (numbered_of n)) }
+    ensures sound { IfSome result (λ n. IsSound q.now n) }
     ensures place { IfSome result (λ n. place + 1 < 2 ^ 64) }
     ensures within { IfSome result (λ n. IsWithin (suc place) (first + n.count) q.now) }
 {
@@ -121,9 +129,9 @@ pub fn request_under<'a>(
 ) -> Option<Numbered<'a>>
     requires queue { IsQueue q.now }
     requires numbers { AreNumbers q.now numbers.now }
-    ensures request { option_map numbered_of result ≡ numbering.request_at psn (with_requester numbers.now q.now) }
-    ensures sound { IfSome result (λ n. IsSound q.now (numbered_of n)) }
-    ensures psn { IfSome result (λ n. numbering.has_psn psn (numbered_of n) ≡ true) }
+    ensures request { option_map result ≡ numbering.request_at psn (with_requester numbers.now q.now) }
+    ensures sound { IfSome result (λ n. IsSound q.now n) }
+    ensures psn { IfSome result (λ n. numbering.has_psn psn n ≡ true) }
 {
     find_psn(q, numbers.oldest, numbers.oldest_psn, psn)
 }
@@ -132,9 +140,9 @@ pub fn request_under<'a>(
 fn find_psn(q: &QueuePart, place: u64, first: u64, psn: u64) -> Option<Numbered<'_>>
     requires queue { IsQueue q.now }
     requires within { IsWithin place first q.now }
-    ensures request { option_map numbered_of result ≡ find (numbering.has_psn psn) (begun_from place first q.now) }
+    ensures request { option_map result ≡ find (numbering.has_psn psn) (begun_from place first q.now) }
     ensures psn { IfSome result (λ n. (n.first ≤ psn) × (psn < n.first + n.count)) }
-    ensures sound { IfSome result (λ n. IsSound q.now (numbered_of n)) }
+    ensures sound { IfSome result (λ n. IsSound q.now n) }
 {
     match begun_at(q, place, first) {
         None => None,
@@ -145,7 +153,7 @@ fn find_psn(q: &QueuePart, place: u64, first: u64, psn: u64) -> Option<Numbered<
 
 /// Whether a PSN is one of a request's.
 fn has_psn(n: &Numbered<'_>, psn: u64) -> bool
-    ensures value { result ≡ numbering.has_psn psn (numbered_of n.now) }
+    ensures value { result ≡ numbering.has_psn psn n.now }
     ensures psn { IsTrue result → (n.now.first ≤ psn) × (psn < n.now.first + n.now.count) }
 {
     n.first <= psn && psn - n.first < u64::from(n.count)
@@ -171,17 +179,17 @@ fn next_from(q: &QueuePart, place: u64, first: u64) -> Option<Next<'_>>
     ensures none { IfNone result (find (numbering.has_psn q.now.requester.cursor) (begun_from place first q.now) ≡ None) }
     ensures none_begins { IfNone result (slice_get (numbers_from place first q.now) (q.now.requester.next - place) ≡ None) }
     ensures goes_on { IfSome result (λ next. next.begins ≡ false →
-        find (numbering.has_psn q.now.requester.cursor) (begun_from place first q.now) ≡ Some (numbered_of next.request)) }
+        find (numbering.has_psn q.now.requester.cursor) (begun_from place first q.now) ≡ Some next.request) }
     ensures psn { IfSome result (λ next. next.begins ≡ false →
         (next.request.first ≤ q.now.requester.cursor) × (q.now.requester.cursor < next.request.first + next.request.count)) }
     ensures begins { IfSome result (λ next. next.begins ≡ true →
         find (numbering.has_psn q.now.requester.cursor) (begun_from place first q.now) ≡ None) }
     ensures begun { IfSome result (λ next. next.begins ≡ true →
-        slice_get (numbers_from place first q.now) (q.now.requester.next - place) ≡ Some (numbered_of next.request)) }
+        slice_get (numbers_from place first q.now) (q.now.requester.next - place) ≡ Some next.request) }
     ensures first { IfSome result (λ next. next.begins ≡ true →
         next.request.first ≡ first + sum_by (λ m. m.count) (begun_from place first q.now)) }
     ensures room { IfSome result (λ next. next.begins ≡ true → q.now.requester.next + 1 < 2 ^ 64) }
-    ensures sound { IfSome result (λ next. IsSound q.now (numbered_of next.request)) }
+    ensures sound { IfSome result (λ next. IsSound q.now next.request) }
 {
     let mut place = place;
     let mut first = first;

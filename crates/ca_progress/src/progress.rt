@@ -5,7 +5,7 @@ ghost use Rattle.ca_model.specs.machine.Acknowledgements.{with_requester};
 ghost use Rattle.ca_model.specs.machine.Invariants.{IsQueue};
 ghost use Rattle.ca_model.specs.machine.Numbering.{is_answered_op, psn_end};
 ghost use Rattle.ca_model.specs.machine.CanStep.{CanStep};
-ghost use Rattle.ca_progress.specs.Numbering.{begun_from, numbered_of, IsWithin};
+ghost use Rattle.ca_progress.specs.Numbering.{begun_from, IsWithin};
 ghost use Rattle.ca_progress.specs.Progress.{AreNumbers, acknowledgement_of, finished_from, numbers_behind, numbers_with_una, reached_numbers, success_between, una_behind};
 
 use crate::numbering::{Numbered, begun_at};
@@ -161,7 +161,7 @@ pub fn acknowledged_below(q: &QueuePart, psn: u64) -> Acknowledged
 /// Whether a request is a READ or an atomic, and has a PSN from `una` on and below another.
 fn is_unanswered(n: &Numbered<'_>, una: u64, psn: u64) -> bool
     requires { n.now.first + n.now.count < 2 ^ 63 }
-    ensures { result ≡ (is_answered_op (numbered_of n.now).request.op && nat_lt una (psn_end (numbered_of n.now))
+    ensures { result ≡ (is_answered_op n.now.request.op && nat_lt una (psn_end n.now)
         && nat_lt (max una n.now.first) psn) }
 {
     is_answered(n.op()) && una < n.end() && una.max(n.first) < psn

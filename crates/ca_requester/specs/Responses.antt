@@ -19,7 +19,7 @@ use Rattle.ca_requester.specs.declared.responses.Arrival.TheVariants.{Drops, Ack
 use Rattle.ca_requester.specs.declared.responses.Ended.{Ended}
 use Rattle.ca_requester.specs.declared.responses.Response.{Response}
 use Rattle.ca_requester.specs.declared.responses.Response.TheVariants.{Ends, Answers}
-use Rattle.ca_progress.specs.Numbering.{IsSound, numbered_of}
+use Rattle.ca_progress.specs.Numbering.{IsSound}
 use Rattle.ca_progress.specs.Outcome.{AreAhead, numbers_of, outcome_effects}
 use Rattle.ca_progress.specs.Progress.{AreNumbers, success_between}
 
@@ -49,17 +49,17 @@ IsNarrowArrival arrival = Unit {0}
 -- the row of an answer
 abbrev pub row_of : Response → Fields → QueuePair → Row
 row_of (Ends e) p q = plain_row (Does (ended_effects e q))
-row_of (Answers a) p q = answer_row a.psn p (progress_to a.psn q) (numbered_of a.request)
+row_of (Answers a) p q = answer_row a.psn p (progress_to a.psn q) a.request
 
 -- an answer that fits its request, under the numbers behind what it acknowledges
 pub record IsAnswer (p : Fields) (q : QueuePair) (a : Answer) : Type 0 where
   pub numbers : AreNumbers q a.numbers
   pub queue : with_requester a.numbers q ≡ (progress_to a.psn q).queue
   pub finished : (progress_to a.psn q).marks ≡ success_between q.requester.oldest a.numbers.oldest q
-  pub sound : IsSound q (numbered_of a.request)
-  pub psn : has_psn a.psn (numbered_of a.request) ≡ true
+  pub sound : IsSound q a.request
+  pub psn : has_psn a.psn a.request ≡ true
   pub narrow : a.psn < 2 ^ 62
-  pub fits : fits_request a.psn p q (numbered_of a.request) ≡ true
+  pub fits : fits_request a.psn p q a.request ≡ true
 
 -- what holds of a response that was found
 abbrev pub IsResponse : Response → Fields → QueuePair → Type 0

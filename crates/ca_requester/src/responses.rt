@@ -8,7 +8,7 @@ ghost use Rattle.ca_model.specs.machine.Numbering as numbering;
 ghost use Rattle.ca_model.specs.machine.Responses as rows;
 ghost use Rattle.ca_wire.specs.Syndrome.{syndrome_in};
 ghost use Rattle.ca_model.specs.machine.CanStep.{CanStep};
-ghost use Rattle.ca_progress.specs.Numbering.{IsSound, numbered_of};
+ghost use Rattle.ca_progress.specs.Numbering.{IsSound};
 ghost use Rattle.ca_progress.specs.declared.outcome.Outcome.TheVariants.{Fails};
 ghost use Rattle.ca_progress.specs.Outcome.{failure_of, numbers_of, outcome_effects};
 ghost use Rattle.ca_progress.specs.Progress.{AreNumbers, acknowledgement_of, numbers_behind, success_between};
@@ -237,10 +237,10 @@ fn fitting_request<'a>(
 ) -> Option<Numbered<'a>>
     requires queue { IsQueue q.now }
     requires numbers { AreNumbers q.now numbers.now }
-    ensures request { option_map numbered_of result ≡ fitting psn p.now (with_requester numbers.now q.now) }
-    ensures sound { IfSome result (λ n. IsSound q.now (numbered_of n)) }
-    ensures psn { IfSome result (λ n. numbering.has_psn psn (numbered_of n) ≡ true) }
-    ensures fits { IfSome result (λ n. rows.fits_request psn p.now q.now (numbered_of n) ≡ true) }
+    ensures request { option_map result ≡ fitting psn p.now (with_requester numbers.now q.now) }
+    ensures sound { IfSome result (λ n. IsSound q.now n) }
+    ensures psn { IfSome result (λ n. numbering.has_psn psn n ≡ true) }
+    ensures fits { IfSome result (λ n. rows.fits_request psn p.now q.now n ≡ true) }
 {
     match request_under(q, numbers, psn) {
         Some(request) if fits(q, p, psn, &request) => Some(request),
@@ -252,9 +252,9 @@ fn fitting_request<'a>(
 /// an atomic.
 fn fits(q: &QueuePart, p: &Packet<'_>, psn: u64, n: &Numbered<'_>) -> bool
     requires queue { IsQueue q.now }
-    requires sound { IsSound q.now (numbered_of n.now) }
-    requires psn { numbering.has_psn psn (numbered_of n.now) ≡ true }
-    ensures { result ≡ rows.fits_request psn p.now q.now (numbered_of n.now) }
+    requires sound { IsSound q.now n.now }
+    requires psn { numbering.has_psn psn n.now ≡ true }
+    ensures { result ≡ rows.fits_request psn p.now q.now n.now }
 {
     if p.opcode == ATOMIC_ACKNOWLEDGE {
         return is_atomic(n.op());
@@ -275,9 +275,9 @@ fn ends_read(opcode: u8) -> bool
 /// How many bytes the segment of a request's message at a PSN has.
 fn segment_length(q: &QueuePart, psn: u64, n: &Numbered<'_>) -> u64
     requires queue { IsQueue q.now }
-    requires sound { IsSound q.now (numbered_of n.now) }
-    requires psn { numbering.has_psn psn (numbered_of n.now) ≡ true }
-    ensures { result ≡ rows.segment_length psn q.now (numbered_of n.now) }
+    requires sound { IsSound q.now n.now }
+    requires psn { numbering.has_psn psn n.now ≡ true }
+    ensures { result ≡ rows.segment_length psn q.now n.now }
 {
     let mtu = u64::from(q.responder.mtu);
     let before = u64::from((psn - n.first) as u32) * mtu;

@@ -16,7 +16,7 @@ ghost use Rattle.ca_model.specs.Packets.{is_response};
 ghost use Rattle.ca_rows.specs.Asks.{CanWrite, IsAskOf, IsGranted, IsWrite, asks_of, touched_by};
 ghost use Rattle.ca_rows.specs.Done.{IsTaking, handed, written_all};
 ghost use Rattle.ca_model.specs.machine.CanStep.{CanStep};
-ghost use Rattle.ca_progress.specs.Numbering.{IsSound, numbered_of};
+ghost use Rattle.ca_progress.specs.Numbering.{IsSound};
 ghost use Rattle.ca_progress.specs.Progress.{AreNumbers, acknowledgement_of, numbers_behind, success_between};
 ghost use Rattle.ca_requester.specs.Responses.{IsAnswer, IsEnd, answer_effects, denied_effects, ended_effects};
 
@@ -70,7 +70,7 @@ fn asks_for(q: &QueuePart, p: &Packet<'_>, answer: &Answer<'_>) -> ArrayVec<Ask,
     requires queue { IsQueue q.now }
     requires packet { IsWellFormed p.now }
     requires answer { IsAnswer p.now q.now answer.now }
-    ensures value { result.items ≡ rows.answer_asks answer.now.psn p.now q.now (numbered_of answer.now.request) }
+    ensures value { result.items ≡ rows.answer_asks answer.now.psn p.now q.now answer.now.request }
     ensures asks { AllByRecursion (IsAskOf Kind.Write) result.items }
     ensures enough { touched_by result.items ≤ length (rows.answer_bytes p.now) }
 {
@@ -89,9 +89,9 @@ fn asks_for(q: &QueuePart, p: &Packet<'_>, answer: &Answer<'_>) -> ArrayVec<Ask,
 #[tactic(auto, using(ca_progress::proofs::NumberingLemmas::few_before))]
 fn bytes_before(q: &QueuePart, answer: &Answer<'_>) -> u32
     requires queue { IsQueue q.now }
-    requires sound { IsSound q.now (numbered_of answer.now.request) }
-    requires psn { has_psn answer.now.psn (numbered_of answer.now.request) ≡ true }
-    ensures { result ≡ rows.segment_at answer.now.psn q.now (numbered_of answer.now.request) }
+    requires sound { IsSound q.now answer.now.request }
+    requires psn { has_psn answer.now.psn answer.now.request ≡ true }
+    ensures { result ≡ rows.segment_at answer.now.psn q.now answer.now.request }
 {
     let request = &answer.request;
     (answer.psn - request.first) as u32 * u32::from(q.responder.mtu)

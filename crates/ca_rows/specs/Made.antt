@@ -47,15 +47,15 @@ IsMadeBy written (Err error) e queue_before queue_after before after reach_befor
     IsUnchanged queue_before queue_after before after × (reach_after ≡ reach_before)
 
 -- the row's effects were made, and what they write
-abbrev pub HasTaken : {S : Type 0} → (S → Ask → List ℕ → S) → Ending → QueuePair → MarkList → MarkList → S → S → Type 0
-HasTaken written (Does e) queue_after before after reach_before reach_after =
+abbrev pub HasEnded : {S : Type 0} → (S → Ask → List ℕ → S) → Ending → QueuePair → MarkList → MarkList → S → S → Type 0
+HasEnded written (Does e) queue_after before after reach_before reach_after =
     HasMade e queue_after before after × (reach_after ≡ written_all written reach_before e.writes)
-HasTaken written (NotPossible reason) queue_after before after reach_before reach_after = ⊥
+HasEnded written (NotPossible reason) queue_after before after reach_before reach_after = ⊥
 
 -- a packet was taken as its row ends, or nothing changed
 abbrev pub IsTaking : {S A E : Type 0} → (S → Ask → List ℕ → S) → Result A E → Ending → QueuePair → QueuePair → MarkList → MarkList → S → S → Type 0
 IsTaking written (Ok done) ending queue_before queue_after before after reach_before reach_after =
-    HasTaken written ending queue_after before after reach_before reach_after
+    HasEnded written ending queue_after before after reach_before reach_after
 IsTaking written (Err error) ending queue_before queue_after before after reach_before reach_after =
     IsUnchanged queue_before queue_after before after × (reach_after ≡ reach_before)
 

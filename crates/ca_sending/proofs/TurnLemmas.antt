@@ -24,7 +24,7 @@ use Rattle.ca_rows.proofs.ReadLemmas.{behind_old, bytes_of_reads}
 use Rattle.ca_rows.specs.Asks.{IsAskOf, bytes_read, mark_of, payload_of, read_marks, reads_by}
 use Rattle.ca_progress.specs.declared.numbering.Next.{Next}
 use Rattle.ca_progress.proofs.NumberingLemmas.{number_at}
-use Rattle.ca_progress.specs.Numbering.{IsNext, numbered_of, numbers_from}
+use Rattle.ca_progress.specs.Numbering.{IsNext, numbers_from}
 use Rattle.ca_sending.specs.Packets.{IsPacket}
 use Rattle.ca_sending.specs.Turn.{is_performing, turn_on}
 
@@ -52,13 +52,13 @@ some-psns mtu (ops.FastReg region low buffer address count rights pages) e = abs
 some-psns mtu (ops.LocalInv key) e = absurd (true≢false e)
 
 -- the next thing of a request that is no local operation is one of its packets
-pub is_packet : (q : QueuePair) (next : Next) → IsQueue q → is_sending q.state ≡ true → IsNext q next → is_local (numbered_of next.request).request.op ≡ false
-    → IsPacket q (numbered_of next.request)
+pub is_packet : (q : QueuePair) (next : Next) → IsQueue q → is_sending q.state ≡ true → IsNext q next → is_local next.request.request.op ≡ false
+    → IsPacket q next.request
 is_packet q next is sending it op = record { sound = it.sound; sent = op; index = by next.begins refl }
   where
-    by : (b : Bool) → next.begins ≡ b → index_of_packet q (numbered_of next.request) < next.request.count
+    by : (b : Bool) → next.begins ≡ b → index_of_packet q next.request < next.request.count
     by false e = omega (arith, (it.within e).0, (it.within e).1)
-    by true e = omega (arith, it.at_end e, is.begun sending, it.sound.counted, some-psns q.responder.mtu (numbered_of next.request).request.op op)
+    by true e = omega (arith, it.at_end e, is.begun sending, it.sound.counted, some-psns q.responder.mtu next.request.request.op op)
 
 -- the marks of pieces that were read, as the requester's row has them
 pub marks_read : (s : Sight) (asks : List Ask) → local_reads asks (map (bytes_in s) asks) ≡ read_marks (reads_by s asks)

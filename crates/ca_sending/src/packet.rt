@@ -6,7 +6,7 @@ ghost use Rattle.ca_model.specs.Requests as requests;
 ghost use Rattle.ca_model.specs.machine.Invariants.{IsQueue, IsList};
 ghost use Rattle.ca_model.specs.machine.Numbering.{is_answered_op, is_atomic_op};
 ghost use Rattle.ca_model.specs.machine.Requester as requester;
-ghost use Rattle.ca_progress.specs.Numbering.{numbered_of, IsSound};
+ghost use Rattle.ca_progress.specs.Numbering.{IsSound};
 ghost use Rattle.ca_sending.specs.Packets.{IsPacket, packet_fields, reth_of};
 ghost use Rattle.ca_rows.specs.Asks.{IsAskOf, touched_by};
 ghost use Rattle.ca_packet.specs.declared.packet.TheConstants.{MAX_PACKET_BYTES};
@@ -26,8 +26,8 @@ use ca_wire::{
 
 /// Which packet of its request the next one is.
 fn index_of_packet(q: &QueuePart, n: &Numbered<'_>) -> u32
-    requires { IsPacket q.now (numbered_of n.now) }
-    ensures value { result ≡ requester.index_of_packet q.now (numbered_of n.now) }
+    requires { IsPacket q.now n.now }
+    ensures value { result ≡ requester.index_of_packet q.now n.now }
     ensures within { result < n.now.count }
 {
     q.requester.cursor.saturating_sub(n.first) as u32
@@ -37,15 +37,15 @@ fn index_of_packet(q: &QueuePart, n: &Numbered<'_>) -> u32
 #[tactic(auto, using(ca_progress::proofs::NumberingLemmas::few_before))]
 fn bytes_before(q: &QueuePart, n: &Numbered<'_>) -> u32
     requires queue { IsQueue q.now }
-    requires packet { IsPacket q.now (numbered_of n.now) }
-    ensures { result ≡ requester.index_of_packet q.now (numbered_of n.now) * q.now.responder.mtu }
+    requires packet { IsPacket q.now n.now }
+    ensures { result ≡ requester.index_of_packet q.now n.now * q.now.responder.mtu }
 {
     index_of_packet(q, n) * u32::from(q.responder.mtu)
 }
 
 /// The most bytes of its request's list that a packet carries: those of a path MTU; a READ and an atomic carry none.
 fn most_carried(q: &QueuePart, n: &Numbered<'_>) -> u32
-    ensures { result ≡ (if is_answered_op (numbered_of n.now).request.op then 0 else q.now.responder.mtu) }
+    ensures { result ≡ (if is_answered_op n.now.request.op then 0 else q.now.responder.mtu) }
 {
     if is_answered(n.op()) {
         0
@@ -64,9 +64,9 @@ pub(crate) fn fill_packet_asks(
     asks: &mut ArrayVec<Ask, MAX_PIECES>,
 )
     requires queue { IsQueue q.now }
-    requires packet { IsPacket q.now (numbered_of n.now) }
+    requires packet { IsPacket q.now n.now }
     requires empty { asks.old.items ≡ [] }
-    ensures value { asks.new.items ≡ requester.packet_asks q.now (numbered_of n.now) }
+    ensures value { asks.new.items ≡ requester.packet_asks q.now n.now }
     ensures touched { touched_by asks.new.items ≤ MAX_PAYLOAD_BYTES }
     ensures asks { AllByRecursion (IsAskOf Kind.Read) asks.new.items }
 {
@@ -89,9 +89,9 @@ pub(crate) fn spell(
     out: &mut Vec<u8>,
 ) -> Result<(), Memory>
     requires queue { IsQueue q.now }
-    requires packet { IsPacket q.now (numbered_of n.now) }
+    requires packet { IsPacket q.now n.now }
     requires payload { length payload.now ≤ MAX_PAYLOAD_BYTES }
-    ensures ok { OnOk result (out.new.items ≡ out.old.items ++ requester.spelt_packet q.now (numbered_of n.now) payload.now) }
+    ensures ok { OnOk result (out.new.items ≡ out.old.items ++ requester.spelt_packet q.now n.now payload.now) }
     ensures size { OnOk result (length out.new.items ≤ length out.old.items + MAX_PACKET_BYTES) }
     ensures err { OnErr result (out.new.items ≡ out.old.items) }
 {
@@ -102,9 +102,9 @@ pub(crate) fn spell(
 /// The next packet, with this payload.
 fn packet_of<'a>(q: &QueuePart, n: &Numbered<'_>, payload: &'a [u8]) -> Packet<'a>
     requires queue { IsQueue q.now }
-    requires packet { IsPacket q.now (numbered_of n.now) }
+    requires packet { IsPacket q.now n.now }
     requires payload { length payload.now ≤ MAX_PAYLOAD_BYTES }
-    ensures fields { packet_fields q.now (numbered_of n.now) payload.now ≡ Some result }
+    ensures fields { packet_fields q.now n.now payload.now ≡ Some result }
     ensures well_formed { IsWellFormed result }
 {
     let head = head_of(q, n, payload);
@@ -147,9 +147,9 @@ struct Head<'a> {
 /// What the next packet has.
 fn head_of<'a>(q: &QueuePart, n: &Numbered<'_>, payload: &'a [u8]) -> Head<'a>
     requires queue { IsQueue q.now }
-    requires packet { IsPacket q.now (numbered_of n.now) }
-    ensures index { result.index ≡ requester.index_of_packet q.now (numbered_of n.now) }
-    ensures solicited { result.solicited ≡ (numbered_of n.now).request.solicited }
+    requires packet { IsPacket q.now n.now }
+    ensures index { result.index ≡ requester.index_of_packet q.now n.now }
+    ensures solicited { result.solicited ≡ n.now.request.solicited }
     ensures count { result.count ≡ n.now.count }
     ensures queue { result.queue ≡ requester.peer_number q.now }
     ensures number { result.queue < 2 ^ 24 }

@@ -15,7 +15,7 @@ ghost use Rattle.ca_rows.specs.Asks.{IsAskOf, bytes_read, touched_by};
 ghost use Rattle.ca_rows.specs.Done.{IsTurn, handed};
 ghost use Rattle.ca_model.specs.machine.CanStep.{CanStep};
 ghost use Rattle.ca_packet.specs.declared.packet.TheConstants.{MAX_PACKET_BYTES};
-ghost use Rattle.ca_progress.specs.Numbering.{numbered_of, IsNext};
+ghost use Rattle.ca_progress.specs.Numbering.{IsNext};
 ghost use Rattle.ca_sending.specs.Packets.{IsPacket};
 ghost use Rattle.ca_sending.specs.Turn.{numbers_past, turn_row};
 
@@ -49,9 +49,9 @@ pub fn next_asks(q: &QueuePart) -> ArrayVec<Ask, MAX_PIECES>
 fn next_to_send(q: &QueuePart) -> Result<Next<'_>, Reason>
     requires { CanStep q.now }
     ensures waits { IfErr result (λ reason. (room : Bool) → turn_row q.now room ≡ plain_row (NotPossible reason)) }
-    ensures sends { IfOk result (λ next. (room : Bool) → turn_row q.now room ≡ requester.packet_row q.now room (numbered_of next.request)) }
-    ensures fits { IfOk result (λ next. requester.is_too_much q.now (numbered_of next.request) ≡ false) }
-    ensures packet { IfOk result (λ next. IsPacket q.now (numbered_of next.request)) }
+    ensures sends { IfOk result (λ next. (room : Bool) → turn_row q.now room ≡ requester.packet_row q.now room next.request) }
+    ensures fits { IfOk result (λ next. requester.is_too_much q.now next.request ≡ false) }
+    ensures packet { IfOk result (λ next. IsPacket q.now next.request) }
     ensures next { IfOk result (λ next. IsNext q.now next) }
 {
     match turn_of(q) {
@@ -194,7 +194,7 @@ fn read_and_spell<R: Reach>(
     out: &mut Vec<u8>,
 ) -> Result<bool, Memory>
     requires queue { IsQueue q.now }
-    requires packet { IsPacket q.now (numbered_of n.now) }
+    requires packet { IsPacket q.now n.now }
     requires at_hand { AreAtHand R.sight R.judges R.touches reach.old asks.now }
     requires reads { AllByRecursion (IsAskOf Kind.Read) asks.now }
     requires touched { touched_by asks.now ≤ MAX_PAYLOAD_BYTES }
@@ -203,7 +203,7 @@ fn read_and_spell<R: Reach>(
     ensures denied { IfOk result (λ granted. granted ≡ false → is_some (sights.first_denied (R.sight reach.old) asks.now) ≡ true) }
     ensures marks { IfOk result (λ granted. granted ≡ true → marks.new.marks ≡ marks.old.marks ++ requester.local_reads asks.now (map (bytes_in (R.sight reach.old)) asks.now)) }
     ensures out { IfOk result (λ granted. granted ≡ true → out.new.items ≡ out.old.items
-        ++ requester.spelt_packet q.now (numbered_of n.now) (flat_map (λ b. b) (map (bytes_in (R.sight reach.old)) asks.now))) }
+        ++ requester.spelt_packet q.now n.now (flat_map (λ b. b) (map (bytes_in (R.sight reach.old)) asks.now))) }
     ensures none { IfOk result (λ granted. granted ≡ false → marks.new.marks ≡ marks.old.marks) }
     ensures none_out { IfOk result (λ granted. granted ≡ false → out.new.items ≡ out.old.items) }
     ensures size { OnOk result (length out.new.items ≤ length out.old.items + MAX_PACKET_BYTES) }
@@ -236,7 +236,7 @@ fn read_then_spell<R: Reach>(
     out: &mut Vec<u8>,
 ) -> Result<bool, Memory>
     requires queue { IsQueue q.now }
-    requires packet { IsPacket q.now (numbered_of n.now) }
+    requires packet { IsPacket q.now n.now }
     requires at_hand { AreAtHand R.sight R.judges R.touches reach.old asks.now }
     requires reads { AllByRecursion (IsAskOf Kind.Read) asks.now }
     requires touched { touched_by asks.now ≤ MAX_PAYLOAD_BYTES }
@@ -245,7 +245,7 @@ fn read_then_spell<R: Reach>(
     ensures denied { IfOk result (λ granted. granted ≡ false → is_some (sights.first_denied (R.sight reach.old) asks.now) ≡ true) }
     ensures marks { IfOk result (λ granted. granted ≡ true → marks.new.marks ≡ marks.old.marks ++ requester.local_reads asks.now (map (bytes_in (R.sight reach.old)) asks.now)) }
     ensures out { IfOk result (λ granted. granted ≡ true → out.new.items ≡ out.old.items
-        ++ requester.spelt_packet q.now (numbered_of n.now) (flat_map (λ b. b) (map (bytes_in (R.sight reach.old)) asks.now))) }
+        ++ requester.spelt_packet q.now n.now (flat_map (λ b. b) (map (bytes_in (R.sight reach.old)) asks.now))) }
     ensures front { IfOk result (λ granted. granted ≡ false → take (length marks.old.marks) marks.new.marks ≡ marks.old.marks) }
     ensures none_out { IfOk result (λ granted. granted ≡ false → out.new.items ≡ out.old.items) }
     ensures size { OnOk result (length out.new.items ≤ length out.old.items + MAX_PACKET_BYTES) }

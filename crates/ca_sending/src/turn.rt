@@ -6,7 +6,7 @@ ghost use Rattle.ca_model.specs.machine.Invariants.{IsQueue};
 ghost use Rattle.ca_model.specs.machine.Numbering as numbering;
 ghost use Rattle.ca_model.specs.machine.Requester as requester;
 ghost use Rattle.ca_model.specs.machine.CanStep.{AreNarrow, CanStep};
-ghost use Rattle.ca_progress.specs.Numbering.{numbered_of, numbers_from, begun_from, IsWithin, IsNext, IsSound};
+ghost use Rattle.ca_progress.specs.Numbering.{numbers_from, begun_from, IsWithin, IsNext, IsSound};
 ghost use Rattle.ca_sending.specs.Turn.{turn_on};
 
 use ca_base::limits::{MAX_OUTSTANDING_PACKETS, MAX_OUTSTANDING_PSNS};
@@ -21,7 +21,7 @@ use ca_rows::{is_answered, is_local, is_read};
 pub(crate) fn turn_of(q: &QueuePart) -> Result<Next<'_>, Reason>
     requires { CanStep q.now }
     ensures waits { IfErr result (λ reason. requester.turn_of q.now ≡ requester.Waits reason) }
-    ensures acts { IfOk result (λ next. requester.turn_of q.now ≡ turn_on (numbered_of next.request)) }
+    ensures acts { IfOk result (λ next. requester.turn_of q.now ≡ turn_on next.request) }
     ensures next { IfOk result (λ next. IsNext q.now next) }
     ensures sending { IfOk result (λ next. invariants.is_sending q.now.state ≡ true) }
 {
@@ -92,8 +92,8 @@ fn awaits_answer(q: &QueuePart, place: u64, first: u64) -> bool
 /// The PSN behind the next packet: a READ Request takes those of all its responses.
 pub(crate) fn end_of_packet(q: &QueuePart, n: &Numbered<'_>) -> u64
     requires narrow { AreNarrow q.now }
-    requires sound { IsSound q.now (numbered_of n.now) }
-    ensures value { result ≡ requester.end_of_packet q.now (numbered_of n.now) }
+    requires sound { IsSound q.now n.now }
+    ensures value { result ≡ requester.end_of_packet q.now n.now }
     ensures narrow { result < 2 ^ 63 }
 {
     if is_read(n.op()) {
@@ -108,8 +108,8 @@ pub(crate) fn end_of_packet(q: &QueuePart, n: &Numbered<'_>) -> u64
 #[inline(always)]
 pub(crate) fn is_too_much(q: &QueuePart, n: &Numbered<'_>) -> bool
     requires step { CanStep q.now }
-    requires sound { IsSound q.now (numbered_of n.now) }
-    ensures { result ≡ requester.is_too_much q.now (numbered_of n.now) }
+    requires sound { IsSound q.now n.now }
+    ensures { result ≡ requester.is_too_much q.now n.now }
 {
     let upto = end_of_packet(q, n);
     if upto.saturating_sub(q.requester.una) <= u64::from(q.requester.reads) {
@@ -122,8 +122,8 @@ pub(crate) fn is_too_much(q: &QueuePart, n: &Numbered<'_>) -> bool
 #[inline(never)]
 fn is_too_much_counted(q: &QueuePart, n: Numbered<'_>) -> bool
     requires step { CanStep q.now }
-    requires sound { IsSound q.now (numbered_of n) }
-    ensures { result ≡ requester.is_too_much q.now (numbered_of n.entry) }
+    requires sound { IsSound q.now n }
+    ensures { result ≡ requester.is_too_much q.now n.entry }
 {
     let upto = end_of_packet(q, &n);
     let oldest = q.requester.oldest;
@@ -183,7 +183,7 @@ fn has_more_answers(q: &QueuePart, place: u64, first: u64, upto: u64, most: u64)
 /// How many request packets of a request lie from one PSN on and below another; a READ counts once.
 fn packets_between(from: u64, upto: u64, n: &Numbered<'_>) -> u64
     requires { n.now.first + n.now.count < 2 ^ 63 }
-    ensures { result ≡ requester.packets_between from upto (numbered_of n.now) }
+    ensures { result ≡ requester.packets_between from upto n.now }
 {
     let psns = psns_between(from, upto, n);
     if is_read(n.op()) { psns.min(1) } else { psns }
@@ -192,7 +192,7 @@ fn packets_between(from: u64, upto: u64, n: &Numbered<'_>) -> u64
 /// Whether a READ or an atomic has PSNs there, as 1 or 0.
 fn answers_between(from: u64, upto: u64, n: &Numbered<'_>) -> u64
     requires { n.now.first + n.now.count < 2 ^ 63 }
-    ensures { result ≡ requester.answers_between from upto (numbered_of n.now) }
+    ensures { result ≡ requester.answers_between from upto n.now }
 {
     if is_answered(n.op()) {
         psns_between(from, upto, n).min(1)
@@ -204,7 +204,7 @@ fn answers_between(from: u64, upto: u64, n: &Numbered<'_>) -> u64
 /// How many PSNs of a request lie from one PSN on and below another.
 fn psns_between(from: u64, upto: u64, n: &Numbered<'_>) -> u64
     requires { n.now.first + n.now.count < 2 ^ 63 }
-    ensures { result ≡ requester.psns_between from upto (numbered_of n.now) }
+    ensures { result ≡ requester.psns_between from upto n.now }
 {
     upto.min(n.end()).saturating_sub(from.max(n.first))
 }

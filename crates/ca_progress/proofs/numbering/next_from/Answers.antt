@@ -1,7 +1,7 @@
 use Rattle.std.proofs.Common.{rules, arith, ◌+◌, ◌∙◌, ◌<◌}
 use Rattle.std.proofs.lemmas.Grind.{common_steps}
 use Rattle.ca_progress.proofs.NumberingLemmas.{begins-behind, found-behind, one-begun}
-use Rattle.ca_progress.specs.Numbering.{numbered_of, numbers_from}
+use Rattle.ca_progress.specs.Numbering.{numbers_from}
 use Rattle.ca_progress.proofs.numbering.next_from.Goals as goal
 
 pub loop-request-preserved : goal.loop-request-preserved
@@ -9,15 +9,15 @@ loop-request-preserved c =
     let before : c.loop-request.place < c.args.q.now.requester.next = search rules in (
       search rules,
       (
-        found-behind c.args.q.now c.loop-request.place (c.loop-request.place + 1) c.loop-request.first (c.loop-request.first + c.from-first.result) c.args.q.now.requester.cursor (numbered_of c.in-Some.request)
+        found-behind c.args.q.now c.loop-request.place (c.loop-request.place + 1) c.loop-request.first (c.loop-request.first + c.from-first.result) c.args.q.now.requester.cursor c.in-Some.request
             (omega arith) (search rules) before (search rules) (search rules)
             ∙ c.loop-request.invariant.1.0,
         (
-          begins-behind c.args.q.now c.loop-request.place (c.loop-request.place + 1) c.loop-request.first (c.loop-request.first + c.from-first.result) (numbered_of c.in-Some.request)
+          begins-behind c.args.q.now c.loop-request.place (c.loop-request.place + 1) c.loop-request.first (c.loop-request.first + c.from-first.result) c.in-Some.request
               (omega arith) (search rules) before (search rules)
               ∙ c.loop-request.invariant.1.1.0,
           one-begun c.args.q.now.requester.next c.loop-request.place (c.loop-request.place + 1) c.loop-request.first (c.loop-request.first + c.from-first.result) (λ i n. numbers_from i n c.args.q.now)
-              (numbers_from c.loop-request.place c.loop-request.first c.args.q.now) (numbered_of c.in-Some.request) (omega arith) (search rules) (search rules) before
+              (numbers_from c.loop-request.place c.loop-request.first c.args.q.now) c.in-Some.request (omega arith) (search rules) (search rules) before
               ∙ c.loop-request.invariant.1.1.1,
         ),
       ),

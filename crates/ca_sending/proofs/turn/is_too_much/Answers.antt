@@ -1,9 +1,8 @@
 use Rattle.std.proofs.Common.{arith, sym}
 use Rattle.ca_sending.proofs.TurnLemmas.{little}
-use Rattle.ca_progress.specs.Numbering.{numbered_of}
 use Rattle.ca_sending.proofs.turn.is_too_much.Goals as goal
 
 pub returns-then-saturating_sub-from : goal.returns-then-saturating_sub-from
 returns-then-saturating_sub-from c =
-    sym (little c.args.q.now (numbered_of c.args.n.now) c.requires.queue
+    sym (little c.args.q.now c.args.n.now c.requires.queue
     (omega (arith, c.end_of_packet-upto.ensures.value)))

@@ -1,0 +1,19 @@
+use ca_wire::{Packet, Shape};
+
+/// A request that arrived, which no call changes: its packet, its shape, and the index of its envelope for the marks of
+/// its remote accesses, or None where it was injected.
+#[derive(Clone, Copy)]
+pub struct Request<'a> {
+    pub packet: &'a Packet<'a>,
+    pub envelope: Option<u64>,
+    pub shape: Shape,
+}
+
+/// What becomes of the next receive of the shared receive queue.
+#[derive(Clone, Copy)]
+pub enum SharedReceive {
+    /// It stays, or the queue pair has receives of its own.
+    Stays,
+    /// The packet takes it.
+    Taken,
+}
