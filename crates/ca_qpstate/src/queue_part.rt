@@ -99,6 +99,11 @@ impl QueuePart {
         })
     }
 
+    /// Where the queue pair takes its memory.
+    pub fn alloc(&self) -> Global {
+        self.alloc
+    }
+
     /// Changes the state by the state table. The refusals in order are `Transition`, `OutOfRange` of the first field
     /// that is out of its range, and `WindowsBound`. It takes no memory.
     pub fn modify(&mut self, config: &Config, change: &Change) -> Result<(), ModifyRefusal>
