@@ -25,6 +25,7 @@ use Rattle.ca_first_path.specs.ScriptHistory.{history_by, history, refusal, deni
 use Rattle.ca_packet.specs.declared.reth.Reth.{Reth}
 use Rattle.ca_packet.specs.Decoding.{packet_in}
 use Rattle.ca_packet.specs.Packet.{Fields, Spells}
+use Rattle.ca_packet.specs.Table.{row_of}
 
 well_formed : (s : Script) (h : Reth) (b : List ℕ) (r : Option Refusal) (d : Option Denial) → IsHistory (history_by s h b r d)
 well_formed s h b None None = search
@@ -112,6 +113,7 @@ IsRead = (bytes : List ℕ) (f : Fields) → Spells bytes f → packet_in bytes 
 -- the packet of the script names what its mark names, and carries what is written
 asks_for_it : (past : Past) (s : Script) (h : Reth) (b : List ℕ) (d : Option Denial) (e : Asks s h b)
     → asks_for past (ask h) (verdict b d) kinds.Write e.packet ≡ true
+unfolding row_of
 asks_for_it past s h b None e =
     rw (e.write.write.opcode, e.reth, e.carried) (search (both, nat_themselves, bytes_themselves) depth 10)
 asks_for_it past s h b (Some d) e =

@@ -309,7 +309,7 @@ fn verdict_of(alloc: Global, payload: &[u8], denied: Option<Denial>) -> Result<V
 fn request_in<'a>(packet: Packet<'a>) -> (Reth, &'a [u8])
     requires { IsSome packet.reth }
     ensures reth { packet.entry.reth ≡ Some result.0 }
-    ensures payload { result.1.now ≡ packet.entry.payload.now }
+    ensures payload { result.1.now ≡ packet.entry.payload }
 {
     match packet.reth {
         Some(reth) => (reth, packet.payload),

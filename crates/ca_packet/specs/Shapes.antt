@@ -32,14 +32,14 @@ IsAtomicKind kinds.FetchAdd = Unit {0}
 
 -- an atomic's shape has the kind of one
 abbrev pub IsRequestShape : Shape → Type 0
-IsRequestShape (shapes.Send place) = Unit {0}
-IsRequestShape (shapes.Write place) = Unit {0}
+IsRequestShape (shapes.Send position) = Unit {0}
+IsRequestShape (shapes.Write position) = Unit {0}
 IsRequestShape shapes.Read = Unit {0}
 IsRequestShape (shapes.Atomic kind) = IsAtomicKind kind
 
 -- a request's shape is one
 abbrev pub IsOperation : Operation → Type 0
 IsOperation (Request shape) = IsRequestShape shape
-IsOperation (ReadResponse place) = Unit {0}
+IsOperation (ReadResponse position) = Unit {0}
 IsOperation Acknowledge = Unit {0}
 IsOperation AtomicAcknowledge = Unit {0}

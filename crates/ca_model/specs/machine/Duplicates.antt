@@ -65,8 +65,8 @@ duplicate_effects psn p envelope shape q =
     if nat_le MAX_DUPLICATES (duplicate_count q.responder.answers) then drop_effects q drops.Unsaved else by shape
   where
     by : Shape → Effects
-    by (shapes.Send place) = ack_again q
-    by (shapes.Write place) = ack_again q
+    by (shapes.Send position) = ack_again q
+    by (shapes.Write position) = ack_again q
     by shapes.Read = option_map_or (λ h. read_again psn envelope h q) p.reth (drop_effects q drops.Unsaved)
     by (shapes.Atomic kind) = atomic_again psn (saved_at psn q.saved) q
 

@@ -62,32 +62,32 @@ write_reach q p = by p.reth q.responder.message
 
 -- the packet goes on with the message in progress, or begins one where none is
 abbrev pub continues : Option Message → Shape → Bool
-continues None (shapes.Send place) = begins place
-continues None (shapes.Write place) = begins place
+continues None (shapes.Send position) = begins position
+continues None (shapes.Write position) = begins position
 continues None shape = true
-continues (Some (messages.Send at receive count)) (shapes.Send place) = not (begins place)
-continues (Some (messages.Write key address left count)) (shapes.Write place) = not (begins place)
+continues (Some (messages.Send at receive count)) (shapes.Send position) = not (begins position)
+continues (Some (messages.Write key address left count)) (shapes.Write position) = not (begins position)
 continues message shape = false
 
--- the payload of a SEND or a WRITE fits its place: exactly the path MTU, 1 to it at the end, 0 to it alone
-abbrev pub fits_place : ℕ → Position → ℕ → Bool
-fits_place mtu First count = count == mtu
-fits_place mtu Middle count = count == mtu
-fits_place mtu Last count = nat_lt 0 count && nat_le count mtu
-fits_place mtu Only count = nat_le count mtu
+-- the payload of a SEND or a WRITE fits its position: exactly the path MTU, 1 to it at the end, 0 to it alone
+abbrev pub fits_position : ℕ → Position → ℕ → Bool
+fits_position mtu First count = count == mtu
+fits_position mtu Middle count = count == mtu
+fits_position mtu Last count = nat_lt 0 count && nat_le count mtu
+fits_position mtu Only count = nat_le count mtu
 
--- the payload fits its place in the message
+-- the payload fits its position in the message
 abbrev pub fits_payload : QueuePair → Fields → Shape → Bool
-fits_payload q p (shapes.Send place) = fits_place q.responder.mtu place (length p.payload)
-fits_payload q p (shapes.Write place) = fits_place q.responder.mtu place (length p.payload)
+fits_payload q p (shapes.Send position) = fits_position q.responder.mtu position (length p.payload)
+fits_payload q p (shapes.Write position) = fits_position q.responder.mtu position (length p.payload)
 fits_payload q p shape = true
 
 -- a WRITE leaves bytes before its last packet, and ends exactly with it
 abbrev pub fits_left : ℕ → Position → WriteReach → Bool
-fits_left count place r = if ends place then count == r.left else nat_lt count r.left
+fits_left count position r = if ends position then count == r.left else nat_lt count r.left
 
 abbrev pub fits_write : QueuePair → Fields → Shape → Bool
-fits_write q p (shapes.Write place) = option_map_or (fits_left (length p.payload) place) (write_reach q p) true
+fits_write q p (shapes.Write position) = option_map_or (fits_left (length p.payload) position) (write_reach q p) true
 fits_write q p shape = true
 
 -- an atomic's address is no multiple of eight
@@ -112,8 +112,8 @@ is_invalid q p shape =
 
 -- the packet takes a receive: a SEND as it begins, a WRITE with its immediate data
 abbrev pub takes_receive : Fields → Shape → Bool
-takes_receive p (shapes.Send place) = begins place
-takes_receive p (shapes.Write place) = is_some p.imm
+takes_receive p (shapes.Send position) = begins position
+takes_receive p (shapes.Write position) = is_some p.imm
 takes_receive p shape = false
 
 -- an RNR NAK is queued, and nothing else changes
@@ -144,8 +144,8 @@ receive_failure_effects q r status cause code =
 
 -- the receive of a SEND packet: the next one where the message begins, and else that of the message in progress
 abbrev pub receiving_of : QueuePair → Option PlacedReceive → Option Message → Option Receiving
-receiving_of q next (Some (messages.Send place receive count)) =
-    Some (record { receive = record { place = place; receive = receive }; before = count; taken = false })
+receiving_of q next (Some (messages.Send posting receive count)) =
+    Some (record { receive = record { place = posting; receive = receive }; before = count; taken = false })
 receiving_of q next message = option_map (λ r. record { receive = r; before = 0; taken = true }) next
 
 -- the key that the packet ends
@@ -164,8 +164,8 @@ with_window_gone i q =
 
 -- the completion of a SEND's receive, or the message in progress
 abbrev pub after_send_packet : QueuePair → Fields → Position → Receiving → Effects
-after_send_packet q p place r =
-    if ends place
+after_send_packet q p position r =
+    if ends position
     then queue_and_marks (with_message None (queue_after_packet p 1 true true q))
     (receive_mark q.queue r.receive.place r.receive.receive Success operations.Recv (r.before + length p.payload) p.imm
     (option_map (λ key. record { 0 = key }) p.ieth) ∷ [])
@@ -178,7 +178,7 @@ receive_asks q p r = list_asks q.queue q.domain kinds.Write r.before (length p.p
 
 -- a SEND packet, with its receive: it is too long for it, its list is denied, its invalidation is refused, or it is placed
 abbrev pub send_row : QueuePair → Fields → Position → Receiving → Row
-send_row before p place r =
+send_row before p position r =
     if nat_lt (list_length r.receive.receive.list.items) (r.before + length p.payload)
     then rows.plain_row (Does (took (receive_failure_effects q r.receive LocalLength None InvalidRequest)))
     else record {
@@ -203,7 +203,7 @@ send_row before p place r =
     by : Option OpRefusal → Effects
     by (Some cause) = receive_failure_effects q r.receive MemoryManagement (Some cause) RemoteOperationalError
     by None = behind_marks (revoked_marks q (invalidation_of q p))
-        (after_send_packet (with_window_gone (invalidation_of q p) q) p place r)
+        (after_send_packet (with_window_gone (invalidation_of q p) q) p position r)
 
 -- what is left of a WRITE after a packet of so many bytes; addresses count modulo 2^64
 abbrev pub message_left : WriteReach → ℕ → Message
@@ -211,8 +211,8 @@ message_left r count = messages.Write r.key ((r.address + count) % 2 ^ 64) (r.le
 
 -- a WRITE packet took effect: at its end immediate data complete a receive
 abbrev pub after_write_packet : QueuePair → Fields → Position → WriteReach → Option PlacedReceive → Effects
-after_write_packet q p place r next =
-    if ends place then by p.imm next else queue_and_marks (with_message (Some (message_left r (length p.payload))) (queue_after_packet p 1 false true q)) []
+after_write_packet q p position r next =
+    if ends position then by p.imm next else queue_and_marks (with_message (Some (message_left r (length p.payload))) (queue_after_packet p 1 false true q)) []
   where
     done : QueuePair → QueuePair
     done q = with_message None (queue_after_packet p 1 true true q)
@@ -225,7 +225,7 @@ after_write_packet q p place r next =
 -- a WRITE packet: judged for all bytes that are left, of which it touches its payload; one of no bytes meets no key, and
 -- has its mark too
 abbrev pub write_row : QueuePair → Fields → Option ℕ → Position → Option PlacedReceive → WriteReach → Row
-write_row q p envelope place next r = record {
+write_row q p envelope position next r = record {
   asks = if r.left == 0 then [] else ask ∷ [];
   invalidation = None;
   denied = λ d. Does (behind_marks (remote_mark d.ask envelope (verdicts.Denied d.denial) ∷ []) (refusal_effects RemoteAccessError q));
@@ -236,7 +236,7 @@ write_row q p envelope place next r = record {
     ask = packet_ask q r.key kinds.Write r.address r.left (length p.payload)
 
     wrote : Effects
-    wrote = record (behind_marks (remote_mark ask envelope (verdicts.Wrote p.payload) ∷ []) (after_write_packet q p place r next)) {
+    wrote = record (behind_marks (remote_mark ask envelope (verdicts.Wrote p.payload) ∷ []) (after_write_packet q p position r next)) {
       writes = if r.left == 0 then [] else (ask, p.payload) ∷ [];
     }
 
@@ -273,15 +273,15 @@ atomic_row q p envelope kind a = record {
 
 -- what the packet asks for, once it is valid and has its receive
 abbrev pub valid_row : QueuePair → Fields → Option ℕ → Option PlacedReceive → Shape → Row
-valid_row q p envelope next (shapes.Send place) = by (receiving_of q next q.responder.message)
+valid_row q p envelope next (shapes.Send position) = by (receiving_of q next q.responder.message)
   where
     by : Option Receiving → Row
-    by (Some r) = send_row q p place r
+    by (Some r) = send_row q p position r
     by None = rows.plain_row (Does (refusal_effects InvalidRequest q))
-valid_row q p envelope next (shapes.Write place) = by (write_reach q p)
+valid_row q p envelope next (shapes.Write position) = by (write_reach q p)
   where
     by : Option WriteReach → Row
-    by (Some r) = write_row q p envelope place next r
+    by (Some r) = write_row q p envelope position next r
     by None = rows.plain_row (Does (refusal_effects InvalidRequest q))
 valid_row q p envelope next shapes.Read = by p.reth
   where
