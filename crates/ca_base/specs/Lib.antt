@@ -5,3 +5,4 @@ pub mod Spelling
 pub mod Sight
 pub mod objects
 pub mod Handed
+pub mod Side

@@ -84,6 +84,13 @@ impl fmt::Display for WcOp {
     }
 }
 
+/// The two queues of a queue pair, of one of which a completion is.
+#[derive(Clone, Copy)]
+pub enum Side {
+    Sends,
+    Receives,
+}
+
 /// A work completion: of the request with this `id`, posted at this `queue` pair, in its send queue or as a receive, at
 /// this posting `place`. `bytes` is the length of the message of a READ or a receive, 8 for an atomic, and else 0;
 /// `invalidated` is the R_Key that a SEND with Invalidate named.
@@ -98,4 +105,20 @@ pub struct Completion {
     pub bytes: u32,
     pub imm: Option<u32>,
     pub invalidated: Option<Key>,
+}
+
+impl Completion {
+    ghost use Rattle.std.specs.Prelude.{◌≡◌};
+    ghost use Rattle.ca_base.specs.Side.{is_receives};
+
+    /// Which queue it is of.
+    pub fn side(&self) -> Side
+        ensures { is_receives result ≡ self.now.receive }
+    {
+        if self.receive {
+            Side::Receives
+        } else {
+            Side::Sends
+        }
+    }
 }

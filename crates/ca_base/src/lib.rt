@@ -28,11 +28,11 @@ mod step;
 
 pub use answers::Answers;
 pub use ca_keys::{
-    Address, Ask, AtomicOp, Bytes, Denial, DomainId, Grant, Items, Key, Kind, Memory, Pages,
-    Perhaps, Place, QueueId, Rights, Run, Runs, Slot, Span, Verdict, first_address,
+    Address, Ask, AtomicOp, Bytes, Denial, DomainId, Grant, Items, Key, KeyUse, Kind, Memory,
+    Pages, Perhaps, Place, QueueId, Rights, Run, Runs, Slot, Span, Verdict, first_address,
 };
 pub use change::{Change, Field, ModifyRefusal, State};
-pub use completion::{Completion, WcOp, WcStatus};
+pub use completion::{Completion, Side, WcOp, WcStatus};
 pub use config::{AdapterConfig, Config, part_count};
 pub use correspondent::Correspondent;
 pub use denied_ask::DeniedAsk;

@@ -5,7 +5,7 @@ ghost use Rattle.ca_keys.specs.Equal.{queue_eq};
 
 use arrayvec::ArrayVec;
 use ca_base::limits::MAX_DEPTH;
-use ca_base::{Completion, QueueId};
+use ca_base::{Completion, QueueId, Side};
 use circular_buffer::HeapCircularBuffer;
 
 /// The places of the receives of a queue pair among these, in order.
@@ -19,7 +19,7 @@ pub(crate) fn places_of(
     let mut places = ArrayVec::new();
     for i in 0..waiting.len() {
         if let Some(completion) = waiting.get(i) {
-            if completion.receive && completion.queue == queue {
+            if matches!(completion.side(), Side::Receives) && completion.queue == queue {
                 places.push(completion.place);
             }
         }

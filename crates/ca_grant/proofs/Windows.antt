@@ -1,6 +1,7 @@
 -- The key check by what is seen of a window is that by its grant. For proofs only.
 use Rattle.std.proofs.Common.{◌≡◌, ℕ, ◌+◌, ◌-◌, ◌<◌, ◌≤◌, true, false, [], ◌∷◌, Option, None, Some, refl, ap, ◌∙◌, arith}
 use Rattle.std.proofs.lemmas.Bool.Decides.{nat_tests}
+use Rattle.ca_keys.specs.declared.access.KeyUse.TheVariants.{RKey}
 use Rattle.ca_keys.specs.declared.access.Ask.{Ask}
 use Rattle.ca_keys.specs.declared.access.Kind.{Kind}
 use Rattle.ca_keys.specs.declared.access.Kind.TheVariants as kinds
@@ -19,7 +20,7 @@ use Rattle.ca_region.proofs.Cut.{cut-cut}
 use Rattle.ca_window.specs.declared.view.WindowView.{WindowView}
 
 -- for a remote ask only the remote rights count
-suffice-remote : (rights : Rights) (kind : Kind) → suffice (remote_rights rights) false kind ≡ suffice rights false kind
+suffice-remote : (rights : Rights) (kind : Kind) → suffice (remote_rights rights) RKey kind ≡ suffice rights RKey kind
 suffice-remote rights kinds.Read = refl
 suffice-remote rights kinds.Write = refl
 suffice-remote rights kinds.CmpSwap = refl

@@ -6,7 +6,7 @@ use Rattle.ca_keys.specs.declared.access.Denial.TheVariants.{NoGrant, WrongQueue
 use Rattle.ca_keys.specs.declared.names.QueueId.{QueueId}
 use Rattle.ca_base.specs.declared.region_view.RegionView.{RegionView}
 use Rattle.ca_keys.specs.declared.rights.Rights.{Rights}
-use Rattle.ca_keys.specs.Allowed.{serves, suffice}
+use Rattle.ca_keys.specs.Allowed.{key_use, serves, suffice}
 use Rattle.ca_keys.specs.Equal.{key_eq}
 use Rattle.ca_keys.specs.Refusals.{first_of}
 use Rattle.ca_base.specs.objects.Slices.{is_key_of}
@@ -21,7 +21,7 @@ abbrev pub denial_by_parts : Bool → Option QueueId → Rights → ℕ → ℕ 
 denial_by_parts is_fitting queue rights address count ask = first_of (
     (not is_fitting, NoGrant)
     ∷ (not (serves queue ask.queue), WrongQueue)
-    ∷ (not (suffice rights ask.local ask.kind), NoRight)
+    ∷ (not (suffice rights (key_use ask.local) ask.kind), NoRight)
     ∷ (not (range_covers address count ask), OutOfRange)
     ∷ [])
 

@@ -149,7 +149,7 @@ fn denial_by_parts(
     if !serves(queue, ask.queue) {
         return Some(Denial::WrongQueue);
     }
-    if !rights.suffice(ask.local, ask.kind) {
+    if !rights.suffice(ask.key_use(), ask.kind) {
         return Some(Denial::NoRight);
     }
     if !covers(address, length, ask) {

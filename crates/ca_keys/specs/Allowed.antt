@@ -4,6 +4,8 @@ use Rattle.std.specs.Prelude.{◌≡◌, Bool, true, false, ◌&&◌, ◌||◌, 
 use Rattle.ca_keys.specs.declared.access.Ask.{Ask}
 use Rattle.ca_keys.specs.declared.access.Denial.{Denial}
 use Rattle.ca_keys.specs.declared.access.Denial.TheVariants.{NoGrant, WrongQueue, NoRight, OutOfRange}
+use Rattle.ca_keys.specs.declared.access.KeyUse.{KeyUse}
+use Rattle.ca_keys.specs.declared.access.KeyUse.TheVariants.{LKey, RKey}
 use Rattle.ca_keys.specs.declared.access.Kind.{Kind}
 use Rattle.ca_keys.specs.declared.access.Kind.TheVariants as kinds
 use Rattle.ca_keys.specs.declared.grant.Grant.{Grant}
@@ -11,6 +13,11 @@ use Rattle.ca_keys.specs.declared.names.QueueId.{QueueId}
 use Rattle.ca_keys.specs.declared.rights.Rights.{Rights}
 use Rattle.ca_keys.specs.Equal.{key_eq, domain_eq, queue_eq}
 use Rattle.ca_keys.specs.Refusals.{first_of}
+
+-- which key an ask comes by, by its flag
+abbrev pub key_use : Bool → KeyUse
+key_use true = LKey
+key_use false = RKey
 
 -- part 1: the grant has this key and this domain, and may be used as an L_Key where one is asked
 abbrev pub fits : Ask → Grant → Bool
@@ -22,15 +29,15 @@ serves None queue = true
 serves (Some named) queue = queue_eq named queue
 
 -- part 3: the right that an access of this kind needs, by an L_Key or by an R_Key; no L_Key is used for an atomic
-abbrev pub suffice : Rights → Bool → Kind → Bool
-suffice rights false kinds.Read = rights.remote_read
-suffice rights false kinds.Write = rights.remote_write
-suffice rights false kinds.CmpSwap = rights.remote_atomic
-suffice rights false kinds.FetchAdd = rights.remote_atomic
-suffice rights true kinds.Read = true
-suffice rights true kinds.Write = rights.local_write
-suffice rights true kinds.CmpSwap = false
-suffice rights true kinds.FetchAdd = false
+abbrev pub suffice : Rights → KeyUse → Kind → Bool
+suffice rights RKey kinds.Read = rights.remote_read
+suffice rights RKey kinds.Write = rights.remote_write
+suffice rights RKey kinds.CmpSwap = rights.remote_atomic
+suffice rights RKey kinds.FetchAdd = rights.remote_atomic
+suffice rights LKey kinds.Read = true
+suffice rights LKey kinds.Write = rights.local_write
+suffice rights LKey kinds.CmpSwap = false
+suffice rights LKey kinds.FetchAdd = false
 
 -- part 4: all addresses that are asked for are the grant's
 abbrev pub covers : Grant → Ask → Bool
@@ -40,7 +47,7 @@ covers g ask = nat_le g.address ask.address && nat_le (ask.address + ask.length)
 abbrev pub denials : Ask → Grant → List (Bool × Denial)
 denials ask g =
     (not (serves g.queue ask.queue), WrongQueue)
-    ∷ (not (suffice g.rights ask.local ask.kind), NoRight)
+    ∷ (not (suffice g.rights (key_use ask.local) ask.kind), NoRight)
     ∷ (not (covers g ask), OutOfRange)
     ∷ []
 

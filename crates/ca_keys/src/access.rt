@@ -63,6 +63,15 @@ pub enum AtomicOp {
     FetchAdd { add: u64 },
 }
 
+/// Which of a region's or a window's two keys an access comes by.
+#[derive(Clone, Copy)]
+pub enum KeyUse {
+    /// The L_Key: the queue pair's own host names its memory.
+    LKey,
+    /// The R_Key: a packet of the peer names memory here.
+    RKey,
+}
+
 /// A question to the key check: may this queue pair, of this domain, use this key for `length` bytes from `address`
 /// on? `local` says that the key is used as an L_Key; `touch` is how many of the bytes this packet touches.
 #[derive(Clone, Copy, Default)]
@@ -80,6 +89,18 @@ pub struct Ask {
 impl Ask {
     ghost use Rattle.std.specs.Prelude.{◌≡◌};
     ghost use Rattle.ca_keys.specs.Allowed as allowed;
+
+    /// Which key the access comes by.
+    #[inline(always)]
+    pub fn key_use(&self) -> KeyUse
+        ensures { result ≡ allowed.key_use self.now.local }
+    {
+        if self.local {
+            KeyUse::LKey
+        } else {
+            KeyUse::RKey
+        }
+    }
 
     /// The first part of the key check that fails, over the grants in force, the latest first. None comes exactly
     /// where the access is allowed; an access of no bytes is.
@@ -103,7 +124,7 @@ impl Ask {
         if !grant.serves(self.queue) {
             return Some(Denial::WrongQueue);
         }
-        if !grant.rights.suffice(self.local, self.kind) {
+        if !grant.rights.suffice(self.key_use(), self.kind) {
             return Some(Denial::NoRight);
         }
         if !grant.covers(self) {

@@ -19,7 +19,7 @@ mod rights;
 mod spelling;
 mod verdict;
 
-pub use access::{Ask, AtomicOp, Denial, Kind};
+pub use access::{Ask, AtomicOp, Denial, KeyUse, Kind};
 pub use grant::Grant;
 pub use key::Key;
 pub use lists::{Bytes, Items, Pages, Runs};

@@ -2,7 +2,7 @@ ghost use Rattle.std.specs.Prelude.{◌≡◌, [], if◌then◌else◌, Some};
 ghost use Rattle.ca_keys.specs.Allowed as allowed;
 ghost use Rattle.ca_keys.specs.Spelling.{rights_text, has_right};
 
-use crate::access::Kind;
+use crate::access::{KeyUse, Kind};
 use std::fmt;
 
 /// What a key allows. A local read needs no right. A remote write or a remote atomic needs local write beside it.
@@ -17,16 +17,16 @@ pub struct Rights {
 
 impl Rights {
     /// Whether these rights suffice for an access of this kind, by an L_Key or by an R_Key.
-    pub fn suffice(self, local: bool, kind: Kind) -> bool
-        ensures { result ≡ allowed.suffice self local kind }
+    pub fn suffice(self, by: KeyUse, kind: Kind) -> bool
+        ensures { result ≡ allowed.suffice self by kind }
     {
-        match (local, kind) {
-            (false, Kind::Read) => self.remote_read,
-            (false, Kind::Write) => self.remote_write,
-            (false, Kind::CmpSwap | Kind::FetchAdd) => self.remote_atomic,
-            (true, Kind::Read) => true,
-            (true, Kind::Write) => self.local_write,
-            (true, Kind::CmpSwap | Kind::FetchAdd) => false,
+        match (by, kind) {
+            (KeyUse::RKey, Kind::Read) => self.remote_read,
+            (KeyUse::RKey, Kind::Write) => self.remote_write,
+            (KeyUse::RKey, Kind::CmpSwap | Kind::FetchAdd) => self.remote_atomic,
+            (KeyUse::LKey, Kind::Read) => true,
+            (KeyUse::LKey, Kind::Write) => self.local_write,
+            (KeyUse::LKey, Kind::CmpSwap | Kind::FetchAdd) => false,
         }
     }
 

@@ -71,7 +71,7 @@ pub fn put_completion(text: &mut Text, completion: &Completion) -> Result<(), Me
     ensures same { text.new.before ≡ text.old.before }
 {
     let queue = completion.queue;
-    let side = side(completion.receive);
+    let side = side(completion.side());
     let place = completion.place;
     let id = completion.id;
     let op = completion.op;

@@ -1,7 +1,8 @@
 ghost use Rattle.std.specs.Prelude.{◌≡◌, [], if◌then◌else◌, Some};
+ghost use Rattle.ca_base.specs.Side.{is_receives};
 ghost use Rattle.ca_trace_words.specs.Words as words;
 
-use ca_base::QueueId;
+use ca_base::{QueueId, Side};
 use std::fmt;
 
 /// The flags of a send request, as they print.
@@ -55,10 +56,13 @@ pub fn object(local: bool) -> &'static str
 }
 
 /// What stands for the side of a queue pair that a completion is of.
-pub fn side(receive: bool) -> &'static str
-    ensures { result.now ≡ words.side_text receive }
+pub fn side(side: Side) -> &'static str
+    ensures { result.now ≡ words.side_text (is_receives side) }
 {
-    if receive { "recv" } else { "send" }
+    match side {
+        Side::Receives => "recv",
+        Side::Sends => "send",
+    }
 }
 
 /// What stands for a timer that was silent, or only hastened.
