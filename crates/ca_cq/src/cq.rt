@@ -1,9 +1,9 @@
 use crate::cq_error::CqError;
-use crate::reservation::{Reservation, is_same_side, room_reserved, room_taken, source_in};
+use crate::reservation::{is_same_side, room_reserved, room_taken, source_in};
 use crate::ring::{places_of, remove_queue};
 use arrayvec::ArrayVec;
 use ca_base::limits::{MAX_DEPTH, MAX_POLLED};
-use ca_base::{Completion, Memory, QueueId, Reserve};
+use ca_base::{Completion, Memory, QueueId, Reservation, Reserve};
 use circular_buffer::HeapCircularBuffer;
 use std::alloc::Global;
 use std::marker::Model;
