@@ -43,7 +43,7 @@ fn work_get(queue: &WorkQueue<RecvRequest>, place: u64) -> Option<u64> {
 
 #[inline(never)]
 fn work_retire(queue: &mut WorkQueue<RecvRequest>, place: u64)
-    requires { place < next_place queue.old }
+    requires { suc place < 2 ^ 64 }
 {
     queue.retire(place);
 }

@@ -8,3 +8,10 @@ pub enum Reserve {
     Receives(QueueId),
     Shared { srq: u16, user: QueueId },
 }
+
+/// Who reserved, and for how many completions.
+#[derive(Drop)]
+pub struct Reservation {
+    pub who: Reserve,
+    pub room: u16,
+}

@@ -7,7 +7,8 @@ use Rattle.ca_base.specs.declared.completion.Completion.{Completion}
 use Rattle.ca_keys.specs.declared.names.QueueId.{QueueId}
 use Rattle.ca_base.specs.declared.reserve.Reserve.{Reserve}
 use Rattle.ca_keys.specs.Equal.{bool_eq, queue_eq}
-use Rattle.ca_base.specs.objects.CompletionQueue.{CompletionQueue, Reservation, after_polls, after_puts, after_release, after_reserve, is_for_sends, is_same_side, is_too_small, room_reserved, user_of, with_reservation, without_completions}
+use Rattle.ca_base.specs.declared.reserve.Reservation.{Reservation}
+use Rattle.ca_base.specs.objects.CompletionQueue.{CompletionQueue, after_polls, after_puts, after_release, after_reserve, is_for_sends, is_same_side, is_too_small, room_reserved, user_of, with_reservation, without_completions}
 use Rattle.ca_cq.specs.Room.{HaveRoomOf, IsReserved, count_against, counts_against, has_room_left, is_new_side, is_of_side, is_polled_side, reservation_of, share_room}
 use Rattle.ca_cq.proofs.Rooms.{all-append, all-drop, all-filter, all-map, all-of, all-zip, drop-fewer, fewer, filter-fewer, filter-rooms, nobody, none-of, one-more}
 use Rattle.ca_cq.proofs.RoomLemmas.{alike-sources, counts-agree, one-agrees, one-swap, one_source, own-all, own-any, queue-path, queue-swap, room_of, rooms-reserved, share-swap}

@@ -1,5 +1,5 @@
 -- Lemmas on the first elements of a list, one more at a time. For proofs only.
-use Rattle.std.proofs.Common.{◌≡◌, ℕ, suc, zero, ◌+◌, ◌<◌, ◌≤◌, Bool, true, List, [], ◌∷◌, ◌++◌, length, take, drop, filter, slice_get, Some, None, refl, arith, append_assoc}
+use Rattle.std.proofs.Common.{◌≡◌, ℕ, suc, zero, ◌+◌, ◌<◌, ◌≤◌, Bool, true, List, [], ◌∷◌, ◌++◌, length, take, drop, filter, slice_get, Some, None, refl, arith}
 use Rattle.std.proofs.lemmas.Grind.{common_steps}
 use Rattle.std.proofs.lemmas.List.Elements.{filter-append}
 
@@ -10,22 +10,9 @@ module _ {X : Type 0} where
   take-more (suc k) [] = grind (arith, common_steps)
   take-more (suc k) (x ∷ xs) = grind (arith, take-more k xs)
 
-  -- the element in front goes behind others, if it stays
-  pass : (p : X → Bool) (k : ℕ) (xs others : List X) → k < length xs →
-      drop 1 (drop k xs ++ others) ++ filter p (take 1 (drop k xs ++ others)) ≡ drop (k + 1) xs ++ (others ++ filter p (take 1 (drop k xs)))
-  pass p k [] others h = grind (arith, h)
-  pass p zero (x ∷ xs) others h = append_assoc xs others (filter p (x ∷ []))
-  pass p (suc k) (x ∷ xs) others h = grind (arith, pass p k xs others (omega (arith, h)))
-
   -- of those that stay, one more
   pub filter-more : (p : X → Bool) (k : ℕ) (xs : List X) → filter p (take (k + 1) xs) ≡ filter p (take k xs) ++ filter p (take 1 (drop k xs))
   filter-more p k xs = rw (take-more k xs) (filter-append p (take k xs) (take 1 (drop k xs)))
-
-  -- the element in front goes behind those that stay, if it stays
-  pub pass-front : (p : X → Bool) (k : ℕ) (xs : List X) → k < length xs →
-      drop 1 (drop k xs ++ filter p (take k xs)) ++ filter p (take 1 (drop k xs ++ filter p (take k xs)))
-      ≡ drop (k + 1) xs ++ filter p (take (k + 1) xs)
-  pass-front p k xs h = rw (filter-more p k xs) (pass p k xs (filter p (take k xs)) h)
 
   -- the element at a place, alone
   pub take-at : (k : ℕ) (xs : List X) (x : X) → slice_get xs k ≡ Some x → take 1 (drop k xs) ≡ x ∷ []

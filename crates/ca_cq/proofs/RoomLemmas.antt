@@ -8,7 +8,8 @@ use Rattle.ca_keys.specs.declared.names.QueueId.{QueueId}
 use Rattle.ca_base.specs.declared.reserve.Reserve.{Reserve}
 use Rattle.ca_base.specs.declared.reserve.Reserve.TheVariants.{Sends, Receives, Shared}
 use Rattle.ca_keys.specs.Equal.{queue_eq}
-use Rattle.ca_base.specs.objects.CompletionQueue.{CompletionQueue, Reservation, is_shared_in, room_reserved, source_of}
+use Rattle.ca_base.specs.declared.reserve.Reservation.{Reservation}
+use Rattle.ca_base.specs.objects.CompletionQueue.{CompletionQueue, is_shared_in, room_reserved, source_of}
 use Rattle.ca_cq.specs.Room.{HaveRoomOf, IsReserved, counts_against, has_room_left, is_of_side, reservation_of, share_room}
 use Rattle.ca_cq.proofs.Rooms.{HaveRoom, all-map, all-stay, below-rooms, has_any, has_left, or-right, rooms}
 

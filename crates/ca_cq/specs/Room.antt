@@ -7,7 +7,8 @@ use Rattle.ca_base.specs.declared.completion.Completion.{Completion}
 use Rattle.ca_base.specs.declared.reserve.Reserve.{Reserve}
 use Rattle.ca_base.specs.declared.reserve.Reserve.TheVariants.{Sends, Receives, Shared}
 use Rattle.ca_keys.specs.Equal.{bool_eq, queue_eq}
-use Rattle.ca_base.specs.objects.CompletionQueue.{CompletionQueue, Reservation, is_for_sends, is_same_side, room_reserved, user_of}
+use Rattle.ca_base.specs.declared.reserve.Reservation.{Reservation}
+use Rattle.ca_base.specs.objects.CompletionQueue.{CompletionQueue, is_for_sends, is_same_side, room_reserved, user_of}
 
 -- a completion is of the side that reserved: of this queue pair's sends, or of its receives
 abbrev pub is_of_side : Reserve → Completion → Bool

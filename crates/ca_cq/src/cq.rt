@@ -1,9 +1,10 @@
 use crate::cq_error::CqError;
-use crate::reservation::{Reservation, is_same_side, room_reserved, room_taken, source_in};
-use crate::ring::{places_of, remove_queue};
+use crate::reservation::{is_same_side, room_reserved, room_taken, source_in};
+use crate::ring::{Dropped, places_of};
 use arrayvec::ArrayVec;
 use ca_base::limits::{MAX_DEPTH, MAX_POLLED};
-use ca_base::{Completion, Memory, QueueId, Reserve};
+use ca_base::{Completion, Memory, QueueId, Reservation, Reserve};
+use ca_ring::remove;
 use circular_buffer::HeapCircularBuffer;
 use std::alloc::Global;
 use std::marker::Model;
@@ -133,7 +134,7 @@ impl Cq {
         ensures queue { self.new ≡ without_completions queue self.old }
     {
         let places = places_of(&self.waiting, queue);
-        remove_queue(&mut self.waiting, queue);
+        remove(&mut self.waiting, &Dropped(queue));
         places
     }
 }

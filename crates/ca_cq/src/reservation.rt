@@ -2,23 +2,7 @@ ghost use Rattle.std.specs.Prelude.{◌≡◌, ◌==◌, ◌-◌, ◌^◌, min, 
 ghost use Rattle.std.specs.Option.{option_map_or};
 ghost use Rattle.ca_base.specs.objects.CompletionQueue.{is_for_sends, is_same_side, is_shared_in, room_reserved, source_in, source_of, user_of};
 
-use ca_base::{QueueId, Reserve};
-use std::marker::Model;
-
-/// Who reserved, and for how many completions.
-#[derive(Drop)]
-pub(crate) struct Reservation {
-    pub(crate) who: Reserve,
-    pub(crate) room: u16,
-}
-
-impl Model for Reservation {
-    ghost use Rattle.ca_base.specs.objects.CompletionQueue.{Reservation};
-
-    ghost Value = { Reservation };
-
-    ghost view = { λ r. record { who = r.who; room = r.room } };
-}
+use ca_base::{QueueId, Reservation, Reserve};
 
 /// The queue pair of a reservation.
 fn user_of(who: Reserve) -> QueueId

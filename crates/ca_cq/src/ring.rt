@@ -1,11 +1,11 @@
-ghost use Rattle.std.specs.Prelude.{◌≡◌, ◌≤◌, ◌&&◌, ◌++◌, drop, filter, length, map, not, take};
-ghost use Rattle.circular_buffer.specs.Buffer.{buffer};
+ghost use Rattle.std.specs.Prelude.{◌≡◌, ◌≤◌, ◌&&◌, filter, length, map};
 ghost use Rattle.ca_base.specs.declared.limits.TheConstants.{MAX_DEPTH};
 ghost use Rattle.ca_keys.specs.Equal.{queue_eq};
 
 use arrayvec::ArrayVec;
 use ca_base::limits::MAX_DEPTH;
 use ca_base::{Completion, QueueId, Side};
+use ca_ring::Removal;
 use circular_buffer::HeapCircularBuffer;
 
 /// The places of the receives of a queue pair among these, in order.
@@ -27,25 +27,16 @@ pub(crate) fn places_of(
     places
 }
 
-/// Removes the completions of a queue pair, and keeps the others in their order.
-pub(crate) fn remove_queue(waiting: &mut HeapCircularBuffer<Completion>, queue: QueueId)
-    ensures { waiting.new ≡ buffer (filter (λ c. not (queue_eq c.queue queue)) waiting.old.items) waiting.old.capacity }
-{
-    for _ in 0..waiting.len() {
-        pass_front(waiting, queue);
-    }
-}
+/// The queue pair whose completions go.
+#[derive(Clone, Copy)]
+pub(crate) struct Dropped(pub(crate) QueueId);
 
-/// Moves the completion in front to the back, or drops it where it is of the queue pair.
-fn pass_front(waiting: &mut HeapCircularBuffer<Completion>, queue: QueueId)
-    ensures { waiting.new ≡ buffer (drop 1 waiting.old.items ++ filter (λ c. not (queue_eq c.queue queue)) (take 1 waiting.old.items)) waiting.old.capacity }
-{
-    if waiting.len() == 0 {
-        return;
-    }
-    if let Some(front) = waiting.pop_front() {
-        if front.queue != queue {
-            waiting.push_back(front);
-        }
+impl Removal<Completion> for Dropped {
+    ghost use Rattle.ca_keys.specs.Equal.{queue_eq};
+
+    ghost names = { λ dropped completion. queue_eq completion.queue dropped.0 };
+
+    fn names(&self, completion: &Completion) -> bool {
+        completion.queue == self.0
     }
 }

@@ -13,9 +13,9 @@ region_index s = s.domain.domain * 0x10000 + s.slot
 abbrev pub window_index : Slot → ℕ
 window_index s = s.domain.domain * 0x10000 + 0x8000 + s.slot
 
--- the key with this index and this low byte
+-- the key with this index and this low byte, which counts modulo 256
 abbrev pub key_at : ℕ → ℕ → Key
-key_at index low = record { 0 = index * 256 + low }
+key_at index low = record { 0 = index * 256 + low % 256 }
 
 abbrev pub index_of : Key → ℕ
 index_of k = k.0 / 256

@@ -14,7 +14,8 @@ use Rattle.ca_base.specs.Grants.{next_low}
 use Rattle.ca_base.specs.objects.CompletionQueue.{CompletionQueue}
 use Rattle.ca_base.specs.objects.Domain.{Domain, with_object, without_object}
 use Rattle.ca_base.specs.declared.correspondent.Correspondent.{Correspondent}
-use Rattle.ca_base.specs.objects.Mailbox.{MailEnvelope, Mailbox, after_delivery, after_send, has_room, is_undelivered, later_than, undelivered_count, with_delivery, with_peer, without_envelopes}
+use Rattle.ca_base.specs.declared.mail_envelope.MailEnvelope.{MailEnvelope}
+use Rattle.ca_base.specs.objects.Mailbox.{Mailbox, after_delivery, after_send, has_room, is_undelivered, later_than, undelivered_count, with_delivery, with_peer, without_envelopes}
 use Rattle.ca_base.specs.declared.request.PlacedReceive.{PlacedReceive}
 use Rattle.ca_base.specs.objects.SharedReceives.{SharedReceives, after_receive_post, after_receive_retire, after_receive_take, after_receives_retire, empty_receives, is_full_of_receives}
 use Rattle.ca_base.specs.objects.Window.{Window, after_binding, after_deallocation, after_draw, without_binding}

@@ -2,7 +2,8 @@
 use Rattle.std.proofs.Common.{◌≡◌, ℕ, suc, zero, ◌-◌, ◌<◌, ◌&&◌, Bool, true, false, if◌then◌else◌, List, [], ◌∷◌, drop, slice_get, nat_lt, Option, Some, None, refl, arith}
 use Rattle.std.specs.Option.{option_map_or, option_or}
 use Rattle.std.proofs.lemmas.Grind.{common_steps}
-use Rattle.ca_base.specs.objects.Mailbox.{MailEnvelope, due_from, is_hold, is_ready, is_undelivered, undelivered_count}
+use Rattle.ca_base.specs.declared.mail_envelope.MailEnvelope.{MailEnvelope}
+use Rattle.ca_base.specs.objects.Mailbox.{due_from, is_hold, is_ready, is_undelivered, undelivered_count}
 use Rattle.ca_base.specs.declared.lot.Lot.{Lot}
 use Rattle.ca_base.specs.declared.lot.Lot.TheVariants.{Pass, Lose, Repeat, Hold}
 

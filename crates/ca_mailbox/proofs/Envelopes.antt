@@ -2,7 +2,8 @@
 use Rattle.std.proofs.Common.{◌≡◌, ℕ, suc, zero, ◌+◌, ◌<◌, ◌≤◌, ◌&&◌, true, false, not, if◌then◌else◌, List, [], ◌∷◌, length, take, drop, slice_get, slice_set, Some, None, IsTrue, min, refl, arith}
 use Rattle.std.specs.Option.{option_map_or}
 use Rattle.std.proofs.lemmas.Grind.{common_steps}
-use Rattle.ca_base.specs.objects.Mailbox.{Mailbox, MailEnvelope, after_send, has_room, is_undelivered, undelivered_count, with_delivery}
+use Rattle.ca_base.specs.declared.mail_envelope.MailEnvelope.{MailEnvelope}
+use Rattle.ca_base.specs.objects.Mailbox.{Mailbox, after_send, has_room, is_undelivered, undelivered_count, with_delivery}
 use Rattle.ca_base.specs.declared.lot.Lot.{Lot}
 
 -- without a last envelope that is not undelivered as many are undelivered

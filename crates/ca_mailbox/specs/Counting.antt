@@ -1,7 +1,8 @@
 -- Which envelope may be delivered once more. Contracts cite it.
 use Rattle.std.specs.Prelude.{ℕ, suc, ◌^◌, ◌&&◌, Bool, false, not, nat_lt}
 use Rattle.std.specs.Option.{option_map_or}
-use Rattle.ca_base.specs.objects.Mailbox.{Mailbox, MailEnvelope, envelope_at, is_lost}
+use Rattle.ca_base.specs.declared.mail_envelope.MailEnvelope.{MailEnvelope}
+use Rattle.ca_base.specs.objects.Mailbox.{Mailbox, envelope_at, is_lost}
 
 -- its count of deliveries is not at the end of its type
 abbrev pub has_count_left : MailEnvelope → Bool

@@ -1,24 +1,7 @@
-ghost use Rattle.std.specs.Prelude.{◌≡◌};
-ghost use Rattle.ca_base.specs.objects.Mailbox.{deliveries, is_hold, is_lost, is_ready};
+ghost use Rattle.std.specs.Prelude.{◌≡◌, ◌&&◌, not};
+ghost use Rattle.ca_base.specs.objects.Mailbox.{deliveries, is_hold, is_lost, is_ready, is_undelivered};
 
-use ca_base::{Bytes, Lot};
-use std::marker::Model;
-
-/// A packet under way: what the weather does to it, its bytes, and how often it was delivered.
-#[derive(Drop)]
-pub(crate) struct Envelope {
-    pub(crate) lot: Lot,
-    pub(crate) bytes: Bytes,
-    pub(crate) delivered: u64,
-}
-
-impl Model for Envelope {
-    ghost use Rattle.ca_base.specs.objects.Mailbox.{MailEnvelope};
-
-    ghost Value = { MailEnvelope };
-
-    ghost view = { λ e. record { lot = e.lot; bytes = e.bytes; delivered = e.delivered } };
-}
+use ca_base::{Lot, MailEnvelope};
 
 /// How many deliveries an envelope of this lot wants.
 pub(crate) fn deliveries(lot: Lot) -> u64
@@ -55,28 +38,23 @@ fn is_ready(all_held: bool, later: u64, lot: Lot) -> bool
     }
 }
 
-impl Envelope {
-    ghost use Rattle.std.specs.Prelude.{◌≡◌, ◌&&◌, not};
-    ghost use Rattle.ca_base.specs.objects.Mailbox.{is_hold, is_ready, is_undelivered};
+/// Whether an envelope is undelivered and not held.
+pub(crate) fn is_unheld(envelope: &MailEnvelope) -> bool
+    ensures { result ≡ (is_undelivered envelope.now && not (is_hold envelope.now.lot)) }
+{
+    is_undelivered(envelope) && !is_hold(envelope.lot)
+}
 
-    /// Whether it is undelivered and not held.
-    pub(crate) fn is_unheld(&self) -> bool
-        ensures { result ≡ (is_undelivered self.now && not (is_hold self.now.lot)) }
-    {
-        self.is_undelivered() && !is_hold(self.lot)
-    }
+/// Whether an envelope is undelivered and ready, where so many later ones were delivered.
+pub(crate) fn is_due(envelope: &MailEnvelope, all_held: bool, later: u64) -> bool
+    ensures { result ≡ (is_undelivered envelope.now && is_ready all_held later envelope.now.lot) }
+{
+    is_undelivered(envelope) && is_ready(all_held, later, envelope.lot)
+}
 
-    /// Whether it is undelivered and ready, where so many later ones were delivered.
-    pub(crate) fn is_due(&self, all_held: bool, later: u64) -> bool
-        ensures { result ≡ (is_undelivered self.now && is_ready all_held later self.now.lot) }
-    {
-        self.is_undelivered() && is_ready(all_held, later, self.lot)
-    }
-
-    /// Whether it had fewer deliveries than it wants.
-    pub(crate) fn is_undelivered(&self) -> bool
-        ensures { result ≡ is_undelivered self.now }
-    {
-        self.delivered < deliveries(self.lot)
-    }
+/// Whether an envelope had fewer deliveries than it wants.
+pub(crate) fn is_undelivered(envelope: &MailEnvelope) -> bool
+    ensures { result ≡ is_undelivered envelope.now }
+{
+    envelope.delivered < deliveries(envelope.lot)
 }

@@ -1,9 +1,9 @@
 ghost use Rattle.std.specs.Prelude.{◌≡◌};
 
-use crate::envelope::{Envelope, is_lost};
+use crate::envelope::{is_lost, is_undelivered};
 use crate::order::{deliver, first_ready, slot_is_held, slot_is_undelivered, trimmed};
 use ca_base::limits::{KEPT_ENVELOPES, MAX_UNDELIVERED};
-use ca_base::{Bytes, Correspondent, Lot, Memory, QueueId};
+use ca_base::{Bytes, Correspondent, Lot, MailEnvelope, Memory, QueueId};
 use circular_buffer::HeapCircularBuffer;
 use std::alloc::Global;
 use std::marker::Model;
@@ -31,7 +31,7 @@ pub struct Mailbox {
     waits: u32,
     // No envelope that has this many or more before it is undelivered.
     span: usize,
-    envelopes: HeapCircularBuffer<Envelope>,
+    envelopes: HeapCircularBuffer<MailEnvelope>,
 }
 
 impl Model for Mailbox {
@@ -141,12 +141,12 @@ impl Mailbox {
         ensures mailbox { self.new ≡ after_send lot bytes self.old }
     {
         let index = self.next;
-        let envelope = Envelope {
+        let envelope = MailEnvelope {
             lot,
             bytes,
             delivered: 0,
         };
-        self.waits += u32::from(envelope.is_undelivered());
+        self.waits += u32::from(is_undelivered(&envelope));
         self.envelopes.push_front(envelope);
         self.span = (self.span + 1).min(KEPT_ENVELOPES as usize);
         self.next = index + 1;

@@ -1,12 +1,13 @@
 ghost use Rattle.std.specs.Prelude.{◌≡◌, ◌+◌, ◌^◌, ◌%◌, ◌==◌};
 ghost use Rattle.ca_mailbox.specs.Weather.{drawn_word, lot_of_word};
 
+use ca_base::limits::PSN_COUNT;
 use ca_base::{Lot, QueueId};
 use rand_core::utils::NextWord;
 use rand_pcg::Pcg32;
 
-/// How far apart the numbers of two adapters' mailboxes begin: queue pair numbers are below it.
-const ADAPTER_UNIT: u64 = 16_777_216;
+/// How far apart the numbers of two adapters' mailboxes begin: queue pair numbers have 24 bits, as PSNs have.
+const ADAPTER_UNIT: u64 = PSN_COUNT as u64;
 
 /// The first word of the generator of a seed, a mailbox and a number.
 pub(crate) fn drawn_word(seed: u64, queue: QueueId, number: u64) -> u32

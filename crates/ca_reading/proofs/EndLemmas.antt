@@ -13,7 +13,8 @@ use Rattle.ca_trace.specs.Lines.{line_text, lines_text, entry_lines, history_lin
 use Rattle.ca_trace.specs.Trace.{text}
 use Rattle.ca_reading_lines.specs.Fits.{LineFits}
 use Rattle.ca_reading_fits.specs.Histories.{EntryFits, HistoryFits}
-use Rattle.ca_reading_steps.specs.Steps.{Poll, Stage, Start, Polling, Open, Over, Stopped, Reading, polled, polling, start}
+use Rattle.ca_reading_steps.specs.declared.progress.OpenPoll.{OpenPoll}
+use Rattle.ca_reading_steps.specs.Steps.{Stage, Start, Polling, Open, Over, Stopped, Reading, polled, polling, start}
 use Rattle.ca_reading.specs.Taken.{AreTaken, lined}
 use Rattle.ca_reading.specs.Outside.{BeginsText}
 use Rattle.ca_reading.proofs.TextLemmas.{history_text}
@@ -44,16 +45,16 @@ record LeadsToEntry (ls : List Line) (n : ℕ) (es : List EntryValue) : Type 0 w
   pub entry : EntryValue
   pub behind : IsBehind (ls ++ more) n (Open entry) es
 
-poll_more : (w n : ℕ) → ((ls : List Line) (p : Poll) (es : List EntryValue) → p.wanted ≡ w → IsBehind ls n (Polling p) es → LeadsToEntry ls n es)
-    → (ls : List Line) (p : Poll) (es : List EntryValue) (b : Bool) → p.wanted ≡ w → IsBehind ls n (cond b (Open (polled p p.given)) (Polling p)) es → LeadsToEntry ls n es
+poll_more : (w n : ℕ) → ((ls : List Line) (p : OpenPoll) (es : List EntryValue) → p.wanted ≡ w → IsBehind ls n (Polling p) es → LeadsToEntry ls n es)
+    → (ls : List Line) (p : OpenPoll) (es : List EntryValue) (b : Bool) → p.wanted ≡ w → IsBehind ls n (cond b (Open (polled p p.given)) (Polling p)) es → LeadsToEntry ls n es
 poll_more w n ends ls p es true e g = record { more = []; fit = tt; entry = polled p p.given; behind = rw (append-nil ls) g }
 poll_more w n ends ls p es false e g = ends ls p es e g
 
-poll_ends : (w n : ℕ) (ls : List Line) (p : Poll) (es : List EntryValue) → p.wanted ≡ w → IsBehind ls n (Polling p) es → LeadsToEntry ls n es
+poll_ends : (w n : ℕ) (ls : List Line) (p : OpenPoll) (es : List EntryValue) → p.wanted ≡ w → IsBehind ls n (Polling p) es → LeadsToEntry ls n es
 poll_ends zero n ls p es e h = absurd (omega (arith, h.place.2))
 poll_ends (suc w) n ls p es e h =
     let l : Line = lines.Got a_completion in
-    let next : Poll = next_poll p a_completion in
+    let next : OpenPoll = next_poll p a_completion in
     let less : next.wanted ≡ w = omega arith in
     let there : IsBehind (ls ++ l ∷ []) n (polling next) es = subst (λ (x : List EntryValue). IsBehind (ls ++ l ∷ []) n (polling next) x) (append-nil es) (got_place ls n p a_completion es h) in
     let rest = poll_more w n (λ ls p es. poll_ends w n ls p es) (ls ++ l ∷ []) next es (eqb next.wanted 0) less there in

@@ -18,7 +18,8 @@ use Rattle.ca_trace.specs.Lines.{told_of, event_lines, entry_lines}
 use Rattle.ca_trace.specs.Trace.{completions_of}
 use Rattle.ca_reading_lines.specs.Fits.{IsTurn}
 use Rattle.ca_reading_answers.specs.Answers.{IsTold}
-use Rattle.ca_reading_steps.specs.Steps.{Poll, Stage, Start, Polling, Open, Over, Stopped, answered, polled, polling}
+use Rattle.ca_reading_steps.specs.declared.progress.OpenPoll.{OpenPoll}
+use Rattle.ca_reading_steps.specs.Steps.{Stage, Start, Polling, Open, Over, Stopped, answered, polled, polling}
 
 -- the lines of what has begun and is not shown to be complete
 abbrev pub stage_lines : ℕ → Stage → List Line
@@ -57,7 +58,7 @@ call_lines stamp pass by verb (answers.Query s a b c) h = refl
 call_lines stamp pass by verb (answers.Loaded bs) h = refl
 call_lines stamp pass by verb (answers.Refused r) h = refl
 
-poll_all : (n : ℕ) (p : Poll) (b : Bool) → eqb p.wanted 0 ≡ b → stage_lines n (cond b (Open (polled p p.given)) (Polling p)) ≡ stage_lines n (Polling p)
+poll_all : (n : ℕ) (p : OpenPoll) (b : Bool) → eqb p.wanted 0 ≡ b → stage_lines n (cond b (Open (polled p p.given)) (Polling p)) ≡ stage_lines n (Polling p)
 poll_all n p true h =
     let none : p.wanted ≡ 0 = eqb-true p.wanted 0 h in
     let all : length p.given ≡ length p.given + p.wanted = omega arith in
@@ -66,10 +67,10 @@ poll_all n p true h =
 poll_all n p false h = refl
 
 -- behind the line of a poll, or of one of its completions
-pub poll_lines : (n : ℕ) (p : Poll) → stage_lines n (polling p) ≡ stage_lines n (Polling p)
+pub poll_lines : (n : ℕ) (p : OpenPoll) → stage_lines n (polling p) ≡ stage_lines n (Polling p)
 poll_lines n p = poll_all n p (eqb p.wanted 0) refl
 
-poll_open : (k n : ℕ) (p : Poll) (b : Bool) → eqb p.wanted 0 ≡ b → n ≡ k + 1 → p.stamp ≡ k → StandsAt k n (cond b (Open (polled p p.given)) (Polling p))
+poll_open : (k n : ℕ) (p : OpenPoll) (b : Bool) → eqb p.wanted 0 ≡ b → n ≡ k + 1 → p.stamp ≡ k → StandsAt k n (cond b (Open (polled p p.given)) (Polling p))
 poll_open k n p true h e f = (e, record { stamp = f; marks = ((refl, refl), tt) })
 poll_open k n p false h e f = (e, f, above p.wanted h)
   where
@@ -77,7 +78,7 @@ poll_open k n p false h e f = (e, f, above p.wanted h)
     above zero g = absurd cc
     above (suc w) g = omega arith
 
-pub poll_stands : (k n : ℕ) (p : Poll) → n ≡ k + 1 → p.stamp ≡ k → StandsAt k n (polling p)
+pub poll_stands : (k n : ℕ) (p : OpenPoll) → n ≡ k + 1 → p.stamp ≡ k → StandsAt k n (polling p)
 poll_stands k n p e f = poll_open k n p (eqb p.wanted 0) refl e f
 
 -- one more mark has one more line

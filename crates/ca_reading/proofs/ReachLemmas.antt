@@ -19,7 +19,8 @@ use Rattle.ca_trace.specs.Lines.{entry_lines}
 use Rattle.ca_reading_words.specs.Words.{◌>>=◌}
 use Rattle.ca_reading_lines.specs.Fits.{IsShaped, IsTurn, LineFits}
 use Rattle.ca_reading_answers.specs.Answers.{IsTold}
-use Rattle.ca_reading_steps.specs.Steps.{Poll, Stage, Start, Polling, Open, Over, Stopped, Reading, shown, may_end, may_begin, polling, called, step, before, run, start}
+use Rattle.ca_reading_steps.specs.declared.progress.OpenPoll.{OpenPoll}
+use Rattle.ca_reading_steps.specs.Steps.{Stage, Start, Polling, Open, Over, Stopped, Reading, shown, may_end, may_begin, polling, called, step, before, run, start}
 use Rattle.ca_reading_steps.proofs.RunLemmas.{bind_some}
 use Rattle.ca_reading.proofs.EntryLemmas.{stage_lines, StandsAt, turn_fits, call_lines, poll_lines, poll_stands, mark_lines, fit_more, history_more}
 
@@ -107,10 +108,10 @@ call_step ls n stamp pass by verb t stage es s h g e =
     subst (Then ls (lines.Call stamp pass by verb t) es) both.1 (begin ls (lines.Call stamp pass by verb t) n stage new es h is.0 is.2 (called_lines (n + 1) stamp pass by verb t g) (called_stands n stamp pass by verb t is.1))
 
 -- the poll behind the line of a completion
-abbrev pub next_poll : Poll → Completion → Poll
+abbrev pub next_poll : OpenPoll → Completion → OpenPoll
 next_poll p c = record { stamp = p.stamp; pass = p.pass; by = p.by; verb = p.verb; given = p.given ++ c ∷ []; wanted = p.wanted - 1 }
 
-got_lines_more : (n : ℕ) (p : Poll) (c : Completion) → 0 < p.wanted → stage_lines n (polling (next_poll p c)) ≡ stage_lines n (Polling p) ++ lines.Got c ∷ []
+got_lines_more : (n : ℕ) (p : OpenPoll) (c : Completion) → 0 < p.wanted → stage_lines n (polling (next_poll p c)) ≡ stage_lines n (Polling p) ++ lines.Got c ∷ []
 got_lines_more n p c h =
     let more : length (p.given ++ c ∷ []) ≡ length p.given + 1 = length-append p.given (c ∷ []) in
     let all : length (p.given ++ c ∷ []) + (p.wanted - 1) ≡ length p.given + p.wanted = omega arith in
@@ -129,7 +130,7 @@ go_on ls l n stage new es h more place =
       few = h.few;
     })
 
-pub got_place : (ls : List Line) (n : ℕ) (p : Poll) (c : Completion) (es : List EntryValue) → IsBehind ls n (Polling p) es → IsBehind (ls ++ lines.Got c ∷ []) n (polling (next_poll p c)) (es ++ [])
+pub got_place : (ls : List Line) (n : ℕ) (p : OpenPoll) (c : Completion) (es : List EntryValue) → IsBehind ls n (Polling p) es → IsBehind (ls ++ lines.Got c ∷ []) n (polling (next_poll p c)) (es ++ [])
 got_place ls n p c es h =
     go_on ls (lines.Got c) n (Polling p) (polling (next_poll p c)) es h (got_lines_more n p c h.place.2) (poll_stands (length es) n (next_poll p c) h.place.0 h.place.1)
 

@@ -18,7 +18,8 @@ use Rattle.ca_trace.specs.declared.line.Line.TheVariants as lines
 use Rattle.ca_trace.specs.Lines.{told_of, event_lines, entry_lines, history_lines}
 use Rattle.ca_trace.specs.Trace.{completions_of}
 use Rattle.ca_reading_words.specs.Words.{◌>>=◌}
-use Rattle.ca_reading_steps.specs.Steps.{Poll, Stage, Start, Polling, Open, Over, Reading, shown, may_end, answered, polling, called, before, run, start}
+use Rattle.ca_reading_steps.specs.declared.progress.OpenPoll.{OpenPoll}
+use Rattle.ca_reading_steps.specs.Steps.{Stage, Start, Polling, Open, Over, Reading, shown, may_end, answered, polling, called, before, run, start}
 
 abbrev at_stage : ℕ → Stage → Reading
 at_stage n stage = record { count = n; stage = stage }
@@ -39,7 +40,7 @@ marks_run n e (m ∷ ms) rest =
     ∙ marks_run n (with e (e.marks ++ m ∷ [])) ms rest
     ∙ ap (λ (xs : List Mark). run (at_stage n (Open (with e xs))) rest) (append_assoc e.marks (m ∷ []) ms)
 
-abbrev a_poll : ℕ → ℕ → ℕ → Verb → List Completion → ℕ → Poll
+abbrev a_poll : ℕ → ℕ → ℕ → Verb → List Completion → ℕ → OpenPoll
 a_poll stamp pass by verb given wanted = record { stamp = stamp; pass = pass; by = by; verb = verb; given = given; wanted = wanted }
 
 gots_run : (n stamp pass by : ℕ) (verb : Verb) (given cs : List Completion) (rest : List Line)

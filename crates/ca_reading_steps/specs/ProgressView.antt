@@ -2,17 +2,13 @@
 use Rattle.std.specs.Prelude.{◌+◌, ◌<◌, ◌≤◌, length}
 use Rattle.ca_base.specs.declared.limits.TheConstants.{MAX_POLLED}
 use Rattle.ca_model.specs.Entries.{entry_of}
-use Rattle.ca_reading_steps.specs.declared.progress.OpenPoll.{OpenPoll}
 use Rattle.ca_reading_steps.specs.declared.progress.Progress.{Progress}
 use Rattle.ca_reading_steps.specs.declared.progress.Progress.TheVariants as places
-use Rattle.ca_reading_steps.specs.Steps.{Poll, Stage, Start, Polling, Open, Over, Stopped}
-
-abbrev pub poll_of : OpenPoll → Poll
-poll_of p = record { stamp = p.stamp; pass = p.pass; by = p.by; verb = p.verb; given = p.given; wanted = p.wanted }
+use Rattle.ca_reading_steps.specs.Steps.{Stage, Start, Polling, Open, Over, Stopped}
 
 abbrev pub stage_of : Progress → Stage
 stage_of places.Start = Start
-stage_of (places.Polling poll) = Polling (poll_of poll)
+stage_of (places.Polling poll) = Polling poll
 stage_of (places.Open entry) = Open (entry_of entry)
 stage_of places.Over = Over
 stage_of places.Stopped = Stopped

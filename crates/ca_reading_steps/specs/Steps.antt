@@ -12,25 +12,15 @@ use Rattle.ca_trace.specs.declared.line.Line.{Line}
 use Rattle.ca_trace.specs.declared.line.Line.TheVariants as lines
 use Rattle.ca_trace.specs.declared.line.Told.{Told}
 use Rattle.ca_trace.specs.declared.line.Told.TheVariants as told
+use Rattle.ca_reading_steps.specs.declared.progress.OpenPoll.{OpenPoll}
 use Rattle.ca_reading_words.specs.Words.{◌>>=◌}
-
--- a poll whose completions have lines that are still to come
-pub record Poll : Type 0 where
-  pub stamp : ℕ
-  pub pass : ℕ
-  pub by : ℕ
-  pub verb : Verb
-  -- those that came
-  pub given : List Completion
-  -- how many are still to come
-  pub wanted : ℕ
 
 -- where in a text a reader stands
 pub data Stage : Type 0 where
   -- at its first line
   Start : Stage
   -- behind lines of this poll
-  Polling : Poll → Stage
+  Polling : OpenPoll → Stage
   -- behind the lines of this entry, or of a front of it
   Open : EntryValue → Stage
   -- behind the last line
@@ -69,11 +59,11 @@ answered stamp pass by verb answer =
     record { stamp = stamp; pass = pass; event = events.Verb by verb; marks = marks.Verb by verb answer ∷ [] }
 
 -- the entry of a poll that gave these
-abbrev pub polled : Poll → List Completion → EntryValue
+abbrev pub polled : OpenPoll → List Completion → EntryValue
 polled p given = answered p.stamp p.pass p.by p.verb (answers.Polled given)
 
 -- behind the line of a poll, or of one of its completions
-abbrev pub polling : Poll → Stage
+abbrev pub polling : OpenPoll → Stage
 polling p = if p.wanted == 0 then Open (polled p p.given) else Polling p
 
 -- behind the line of a call

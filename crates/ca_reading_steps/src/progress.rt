@@ -2,7 +2,7 @@ ghost use Rattle.std.specs.Prelude.{◌≡◌, ◌<◌, ◌∷◌, [], ◌++◌,
 ghost use Rattle.ca_base.specs.declared.limits.TheConstants.{MAX_POLLED};
 ghost use Rattle.ca_model.specs.Entries.{entry_of};
 ghost use Rattle.ca_reading_steps.specs.Steps as steps;
-ghost use Rattle.ca_reading_steps.specs.ProgressView.{HasRoom, stage_of, poll_of};
+ghost use Rattle.ca_reading_steps.specs.ProgressView.{HasRoom, stage_of};
 ghost use Rattle.ca_reading_words.specs.declared.stop.Stop.TheVariants as stops;
 ghost use Rattle.ca_reading_answers.specs.Answers.{IsTold};
 
@@ -128,7 +128,7 @@ pub fn called(
 /// The entry of a poll to which this completion is the last; an error changes nothing.
 fn polled(alloc: Global, poll: &mut OpenPoll, last: Completion) -> Result<Entry, Memory>
     requires { length poll.old.given < MAX_POLLED }
-    ensures ok { IfOk result (λ e. entry_of e ≡ steps.polled (poll_of poll.old) (poll.old.given ++ last ∷ [])) }
+    ensures ok { IfOk result (λ e. entry_of e ≡ steps.polled poll.old (poll.old.given ++ last ∷ [])) }
     ensures err { OnErr result (poll.new ≡ poll.old) }
 {
     let mut entry = unanswered(alloc, poll.stamp, poll.pass, poll.by, &poll.verb)?;

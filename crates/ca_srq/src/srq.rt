@@ -1,10 +1,22 @@
-ghost use Rattle.std.specs.Prelude.{◌≡◌, ◌==◌, ◌++◌, drop, filter, not, take};
-ghost use Rattle.circular_buffer.specs.Buffer.{buffer};
-
 use ca_base::{Memory, PlacedReceive, RecvRequest};
+use ca_ring::{Removal, remove};
 use circular_buffer::HeapCircularBuffer;
 use std::alloc::Global;
 use std::marker::Model;
+
+/// The place that is to be free.
+#[derive(Clone, Copy)]
+struct Freed(u64);
+
+impl Removal<u64> for Freed {
+    ghost use Rattle.std.specs.Prelude.{◌==◌};
+
+    ghost names = { λ freed place. place == freed.0 };
+
+    fn names(&self, place: &u64) -> bool {
+        *place == self.0
+    }
+}
 
 /// A shared receive queue. Contracts see its depth, the place of the next receive to be posted, the receives that wait
 /// with their places, and the places that were taken and still occupy the queue, in the order in which they were taken.
@@ -118,29 +130,6 @@ impl Srq {
     pub fn retire(&mut self, place: u64)
         ensures { self.new ≡ after_receive_retire place self.old }
     {
-        remove_place(&mut self.taken, place);
-    }
-}
-
-/// Removes a place wherever it stands, and keeps the others in their order.
-fn remove_place(places: &mut HeapCircularBuffer<u64>, place: u64)
-    ensures { places.new ≡ buffer (filter (λ p. not (p == place)) places.old.items) places.old.capacity }
-{
-    for _ in 0..places.len() {
-        pass_front(places, place);
-    }
-}
-
-/// Moves the front place to the back, or drops it where it is the one to be removed.
-fn pass_front(places: &mut HeapCircularBuffer<u64>, place: u64)
-    ensures { places.new ≡ buffer (drop 1 places.old.items ++ filter (λ p. not (p == place)) (take 1 places.old.items)) places.old.capacity }
-{
-    if places.len() == 0 {
-        return;
-    }
-    if let Some(front) = places.pop_front() {
-        if front != place {
-            places.push_back(front);
-        }
+        remove(&mut self.taken, &Freed(place));
     }
 }

@@ -3,7 +3,8 @@ use Rattle.std.proofs.Common.{◌≡◌, ℕ, suc, zero, ◌-◌, ◌<◌, ◌�
 use Rattle.std.proofs.lemmas.Grind.{common_steps}
 use Rattle.std.proofs.lemmas.Bool.{lt-ltb}
 use Rattle.std.specs.Option.{option_and_then, option_map_or}
-use Rattle.ca_base.specs.objects.Mailbox.{Mailbox, MailEnvelope, after_delivery, after_send, bytes_lent, envelope_at, is_lost, later_than, with_delivery}
+use Rattle.ca_base.specs.declared.mail_envelope.MailEnvelope.{MailEnvelope}
+use Rattle.ca_base.specs.objects.Mailbox.{Mailbox, after_delivery, after_send, bytes_lent, envelope_at, is_lost, later_than, with_delivery}
 use Rattle.ca_base.specs.declared.lot.Lot.{Lot}
 use Rattle.ca_mailbox.specs.Counting.{has_count_left, is_countable}
 use Rattle.ca_tests_queues.specs.Delivered.{most_delivered}

@@ -4,15 +4,12 @@ use Rattle.std.specs.List.{list_any}
 use Rattle.std.specs.Option.{option_or}
 use Rattle.ca_base.specs.declared.completion.Completion.{Completion}
 use Rattle.ca_keys.specs.declared.names.QueueId.{QueueId}
+use Rattle.ca_base.specs.declared.reserve.Reservation.{Reservation}
 use Rattle.ca_base.specs.declared.reserve.Reserve.{Reserve}
 use Rattle.ca_base.specs.declared.reserve.Reserve.TheVariants.{Sends, Receives, Shared}
 use Rattle.ca_keys.specs.Equal.{bool_eq, queue_eq}
 
--- who reserved, and for how many completions
-pub record Reservation : Type 0 where
-  pub who : Reserve
-  pub room : ℕ
-
+-- how many completions it holds, the reservations, the latest first, and the completions that wait, the next one first
 pub record CompletionQueue : Type 0 where
   pub capacity : ℕ
   pub reservations : List Reservation

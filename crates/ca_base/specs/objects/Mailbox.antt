@@ -6,13 +6,8 @@ use Rattle.ca_base.specs.declared.correspondent.Correspondent.{Correspondent}
 use Rattle.ca_base.specs.declared.limits.TheConstants.{KEPT_ENVELOPES, MAX_UNDELIVERED}
 use Rattle.ca_base.specs.declared.lot.Lot.{Lot}
 use Rattle.ca_base.specs.declared.lot.Lot.TheVariants.{Pass, Lose, Repeat, Hold}
+use Rattle.ca_base.specs.declared.mail_envelope.MailEnvelope.{MailEnvelope}
 use Rattle.ca_keys.specs.Equal.{queue_eq}
-
--- an envelope: what the weather does to it, its bytes, and how often it was delivered
-pub record MailEnvelope : Type 0 where
-  pub lot : Lot
-  pub bytes : List ℕ
-  pub delivered : ℕ
 
 -- the owner's incarnation, the peer that it named, the index of the next envelope, and the envelopes since the mailbox
 -- was cleared, the newest first: as many stand before one as were sent after it

@@ -15,7 +15,8 @@ use Rattle.ca_keys.specs.declared.rights.Rights.{Rights}
 use Rattle.ca_base.specs.Configuration.{Configuration}
 use Rattle.ca_keys.specs.Memory.{zeros}
 use Rattle.ca_base.specs.objects.CompletionQueue.{empty_cq, after_reserve}
-use Rattle.ca_base.specs.objects.Mailbox.{Mailbox, MailEnvelope, empty_mailbox, with_peer}
+use Rattle.ca_base.specs.declared.mail_envelope.MailEnvelope.{MailEnvelope}
+use Rattle.ca_base.specs.objects.Mailbox.{Mailbox, empty_mailbox, with_peer}
 use Rattle.ca_base.specs.objects.QueuePair.{QueuePair, Present, queue_at_start, psn_base}
 use Rattle.ca_base.specs.objects.Region.{Region, after_allocation, after_registration, vacant_region, with_window_bound}
 use Rattle.ca_base.specs.objects.SharedReceives.{after_receive_post, empty_receives}

@@ -9,7 +9,8 @@ use Rattle.ca_base.specs.declared.request.SendOp.{SendOp}
 use Rattle.ca_base.specs.declared.request.SendOp.TheVariants as ops
 use Rattle.ca_base.specs.declared.step.Reason.{Reason}
 use Rattle.ca_base.specs.declared.step.Reason.TheVariants as reasons
-use Rattle.ca_base.specs.objects.Mailbox.{Mailbox, MailEnvelope, due, empty_mailbox}
+use Rattle.ca_base.specs.declared.mail_envelope.MailEnvelope.{MailEnvelope}
+use Rattle.ca_base.specs.objects.Mailbox.{Mailbox, due, empty_mailbox}
 use Rattle.ca_base.specs.objects.QueuePair.{QueuePair, QueueSlot, Present, psn_base, vacant_queue}
 use Rattle.ca_packet.specs.Decoding.{packet_in, front_at, bth_at, number_at}
 use Rattle.ca_packet.specs.Packet.{be_bytes, packet_bytes}

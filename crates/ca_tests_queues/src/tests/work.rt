@@ -127,7 +127,7 @@ fn retire(rt: &impl Abort, queue: &mut WorkQueue<u64>, plain: &mut Plain, place:
 {
     let got = queue.get(place).copied();
     same(rt, got, plain.at(place), "a drawn place");
-    if queue.get(place).is_some() {
+    if queue.get(place).is_some() && place < queue.next_place() {
         queue.retire(place);
         plain.first = (place as usize).wrapping_add(1);
     }
