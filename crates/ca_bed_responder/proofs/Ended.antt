@@ -108,13 +108,13 @@ ended_as p envelope shared q P request holds = as-named (packet_arrived p envelo
     shaped (Some shape) = request_row p envelope shared shape q
     shaped None = plain_row (Does (drop_effects q drops.State))
 
-    shapes : (o : Option Shape) → Ends q p (shaped o)
-    shapes (Some shape) = request-ends p envelope shared shape q
-    shapes None = tt
+    shaped-ends : (o : Option Shape) → Ends q p (shaped o)
+    shaped-ends (Some shape) = request-ends p envelope shared shape q
+    shaped-ends None = tt
 
     by : (b : Bool) → b ≡ false → Ends q p (if b then response_row p q else shaped (shape_of p.opcode))
     by true e = absurd (true≢false e)
-    by false e = shapes (shape_of p.opcode)
+    by false e = shaped-ends (shape_of p.opcode)
 
     named : (o : Option Invalidation) → IfSome o (λ i. invalidation_of q p ≡ Some i) → IfSome o P
     named None h = tt
