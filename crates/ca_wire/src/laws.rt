@@ -17,7 +17,10 @@ pub fn syndromes()
 /// The opcode of a packet of a SEND, of a WRITE or of the answer to a READ has that operation in its row, at that place in
 /// the message.
 pub fn operations()
-    ensures send { (kind : SendKind) (place : Position) → operation_of (send_opcode kind place) ≡ Some (Request (shapes.Send place)) }
-    ensures write { (imm : Option ℕ) (place : Position) → operation_of (write_opcode imm place) ≡ Some (Request (shapes.Write place)) }
-    ensures read_response { (place : Position) → operation_of (read_response_opcode place) ≡ Some (ReadResponse place) }
+    ensures send { (kind : SendKind) (place : Position)
+        → operation_of (send_opcode kind place) ≡ Some (Request (shapes.Send place)) }
+    ensures write { (imm : Option ℕ) (place : Position)
+        → operation_of (write_opcode imm place) ≡ Some (Request (shapes.Write place)) }
+    ensures read_response { (place : Position)
+        → operation_of (read_response_opcode place) ≡ Some (ReadResponse place) }
 {}
