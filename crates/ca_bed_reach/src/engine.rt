@@ -42,7 +42,8 @@ fn read_all<R: Reach>(
     requires bytes { AllByRecursion (R.touches reach.old) asks.now }
     requires reads { AllByRecursion turns.IsReadAsk asks.now }
     requires allowed { AllByRecursion (turns.IsGranted (R.sight reach.old)) asks.now }
-    ensures bytes { OnOk result (payload.new.items ≡ payload.old.items ++ turns.all_bytes_in (R.sight reach.old) asks.now) }
+    ensures bytes { OnOk result (payload.new.items
+        ≡ payload.old.items ++ turns.all_bytes_in (R.sight reach.old) asks.now) }
     ensures count { OnOk result (length payload.new.items ≡ length payload.old.items + turns.touched_by asks.now) }
     ensures same { reach.new ≡ reach.old }
 {
@@ -77,7 +78,8 @@ pub fn turn<R: Reach>(
     requires count { turns.touched_by reads.now ≡ write.now.touch }
     requires counted { IsTrue (is_window_key key) → 0 < windows.old.count }
     ensures turn { IfOk result (λ outcome. turns.IsTurn R.revoked (invalidation_by key queue)
-        (turns.first_some (turns.first_denial_in (R.sight reach.old) reads.now) (denial_in (R.sight reach.old) write.now))
+        (turns.first_some (turns.first_denial_in (R.sight reach.old) reads.now)
+        (denial_in (R.sight reach.old) write.now))
         ((R.sight reach.old).refusal (invalidation_by key queue))
         (record { reach = reach.old; windows = windows.old })
         (R.written reach.old write.now (turns.all_bytes_in (R.sight reach.old) reads.now))

@@ -70,7 +70,8 @@ impl SmallReach {
         ensures allowed { OnOk result (denial_in (small.sight_of self.now) ask.now ≡ None) }
         ensures places { IfOk result (λ span. runs_of_span span ≡ runs_in (small.sight_of self.now) ask.now) }
         ensures count { IfOk result (λ span. places_count (runs_of_span span) ≡ ask.now.touch) }
-        ensures whole { IfOk result (λ span. ask.now.address % ATOMIC_BYTES ≡ 0 → ask.now.touch ≤ ATOMIC_BYTES → span.second ≡ None) }
+        ensures whole { IfOk result (λ span. ask.now.address % ATOMIC_BYTES ≡ 0 → ask.now.touch ≤ ATOMIC_BYTES
+            → span.second ≡ None) }
     {
         if ask.key.names_window() {
             judge(Some(&self.window), Some(&self.region), ask)
@@ -89,7 +90,8 @@ impl SmallReach {
         ensures places { IfOk result (λ span. runs_of_span span ≡ runs_in (small.sight_of self.now) ask.now) }
         ensures count { IfOk result (λ span. places_count (runs_of_span span) ≡ ask.now.touch) }
         ensures fits { IfOk result (λ span. FitInBytes (length self.now.buffer) (runs_of_span span)) }
-        ensures whole { IfOk result (λ span. ask.now.address % ATOMIC_BYTES ≡ 0 → ask.now.touch ≤ ATOMIC_BYTES → span.second ≡ None) }
+        ensures whole { IfOk result (λ span. ask.now.address % ATOMIC_BYTES ≡ 0 → ask.now.touch ≤ ATOMIC_BYTES
+            → span.second ≡ None) }
     {
         match self.judge_by_key(ask) {
             Ok(span) => Ok(span),
@@ -104,7 +106,8 @@ impl SmallReach {
         windows: &mut WindowCount,
     ) -> Result<(), OpRefusal>
         requires here { small.IsEndHere self.old (invalidation_by key queue) }
-        requires counted { IsTrue (is_window_key key) → (small.sight_of self.old).refusal (invalidation_by key queue) ≡ None → 0 < windows.old.count }
+        requires counted { IsTrue (is_window_key key) → (small.sight_of self.old).refusal (invalidation_by key queue)
+            ≡ None → 0 < windows.old.count }
         ensures accepted { OnOk result ((small.sight_of self.old).refusal (invalidation_by key queue) ≡ None) }
         ensures refused { IfErr result (λ e. (small.sight_of self.old).refusal (invalidation_by key queue) ≡ Some e) }
         ensures revoked { OnOk result (self.new ≡ small.after_end_of self.old (invalidation_by key queue)) }

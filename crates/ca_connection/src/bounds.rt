@@ -15,7 +15,8 @@ pub fn numbers_form_a_chain()
 /// Each request that may be delivered lies near the expected number, so the responder takes its PSN for the number with
 /// which it was sent.
 pub fn request_is_near()
-    ensures { (d : Direction) (l : Link) (k : ℕ) (packet : RequestPacket) → Reached d l → MayArrive l k packet → RequestIsNear l packet }
+    ensures { (d : Direction) (l : Link) (k : ℕ) (packet : RequestPacket) → Reached d l → MayArrive l k packet
+        → RequestIsNear l packet }
 {}
 
 /// Each response that may be delivered lies near `una`, so the requester takes its PSN for the number with which it was

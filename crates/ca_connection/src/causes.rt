@@ -10,11 +10,13 @@ ghost use Rattle.ca_connection.specs.Once.{Fits};
 /// Each response that was sent, however old, fits the request that has its number: so a requester never meets a response
 /// that does not fit.
 pub fn response_fits_its_request()
-    ensures { (d : Direction) (l : Link) (k place : ℕ) (a : Response) → Reached d l → slice_get l.responses k ≡ Some (Some a)
+    ensures { (d : Direction) (l : Link) (k place : ℕ) (a : Response) → Reached d l
+        → slice_get l.responses k ≡ Some (Some a)
         → HasNumber d place (number_of a) → Fits d place a }
 {}
 
-/// A NAK that was sent, other than a sequence error, has its rejection: of a packet of the request that has its number, with
+/// A NAK that was sent, other than a sequence error, has its rejection: of a packet of the request that has its
+number, with
 /// its code.
 pub fn nak_has_its_rejection()
     ensures { (d : Direction) (l : Link) (k place n : ℕ) (code : NakReason) → Reached d l

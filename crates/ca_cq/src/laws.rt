@@ -8,18 +8,26 @@ ghost use Rattle.ca_cq.specs.Room.{HaveRoomOf, IsReserved, has_room_left, is_new
 /// Where every reservation has room for what waits, and the reservation of one more completion has room left, fewer wait
 /// than the capacity. So a reservation makes `Cq::put` succeed.
 pub fn reservation_makes_room()
-    ensures { (q : CompletionQueue) (c : Completion) → IsReserved q → has_room_left q c ≡ true → length q.waiting < q.capacity }
+    ensures { (q : CompletionQueue) (c : Completion) → IsReserved q → has_room_left q c ≡ true
+        → length q.waiting < q.capacity }
 {}
 
-/// Every reservation has room for what waits in a new queue, and each call keeps it so: a reservation of a side that has
-/// none, which is not refused, and which for a shared receive queue is as large as those of its other users; a put where
-/// the completion's reservation has room left; a poll; the removal of a queue pair's completions; and a release of a side
+/// Every reservation has room for what waits in
+a new queue, and each call keeps it so: a reservation of a side that has
+/// none, which is not refused, and which for a shared receive queue is as large as those of its other users; a put
+where
+/// the completion's reservation has room left; a poll; the removal of a queue pair's completions; and a release of a
+side
 /// of which none waits.
 pub fn calls_keep_room()
     ensures create { (capacity : ℕ) → IsReserved (empty_cq capacity) }
-    ensures reserve { (who : Reserve) (room : ℕ) (q : CompletionQueue) → IsReserved q → is_new_side who q ≡ true → HaveRoomOf who room q.reservations → is_too_small who room q ≡ false → IsReserved (after_reserve who room q) }
-    ensures put { (c : Completion) (q : CompletionQueue) → IsReserved q → has_room_left q c ≡ true → IsReserved (after_puts (c ∷ []) q) }
+    ensures reserve { (who : Reserve) (room : ℕ) (q : CompletionQueue) → IsReserved q → is_new_side who q ≡ true
+        → HaveRoomOf who room q.reservations → is_too_small who room q ≡ false → IsReserved (after_reserve who room q) }
+    ensures put { (c : Completion) (q : CompletionQueue) → IsReserved q → has_room_left q c ≡ true
+        → IsReserved (after_puts (c ∷ []) q) }
     ensures poll { (n : ℕ) (q : CompletionQueue) → IsReserved q → IsReserved (after_polls n q) }
-    ensures drop_queue { (queue : QueueId) (q : CompletionQueue) → IsReserved q → IsReserved (without_completions queue q) }
-    ensures release { (who : Reserve) (q : CompletionQueue) → IsReserved q → is_polled_side who q ≡ true → IsReserved (after_release who q) }
+    ensures drop_queue { (queue : QueueId) (q : CompletionQueue) → IsReserved q
+        → IsReserved (without_completions queue q) }
+    ensures release { (who : Reserve) (q : CompletionQueue) → IsReserved q → is_polled_side who q ≡ true
+        → IsReserved (after_release who q) }
 {}

@@ -168,7 +168,8 @@ fn set_up(alloc: Global, history: &mut History) -> Result<(), Memory>
 
 // Registers the region, and gives the grants that are then in force.
 fn register(alloc: Global, history: &mut History, script: &Script) -> Result<Vec<Grant>, Memory>
-    ensures history { OnOk result (history.new ≡ history.old ++ path.registration (length history.old) script.now (path.refusal script.now) ∷ []) }
+    ensures history { OnOk result (history.new
+        ≡ history.old ++ path.registration (length history.old) script.now (path.refusal script.now) ∷ []) }
     ensures in_force { IfOk result (λ grants. grants.items ≡ path.grants_after script.now (path.refusal script.now)) }
 {
     match first_grant(alloc, script) {
@@ -180,8 +181,10 @@ fn register(alloc: Global, history: &mut History, script: &Script) -> Result<Vec
 // What the registration grants, as the first of its slot.
 fn first_grant(alloc: Global, script: &Script) -> Result<Grant, RegionError>
     ensures granted { IfOk result (λ grant. grant ≡ path.grant script.now) }
-    ensures accepted { OnOk result (registration_refusal (path.region script.now) script.now.buffer_length script.now.rights ≡ None) }
-    ensures refused { IfErr result (RefusesBy (registration_refusal (path.region script.now) script.now.buffer_length script.now.rights)) }
+    ensures accepted { OnOk result
+        (registration_refusal (path.region script.now) script.now.buffer_length script.now.rights ≡ None) }
+    ensures refused { IfErr result
+        (RefusesBy (registration_refusal (path.region script.now) script.now.buffer_length script.now.rights)) }
 {
     let at = Run {
         adapter: DOMAIN.adapter,
@@ -200,7 +203,8 @@ fn grant_key(
     grant: Grant,
 ) -> Result<Vec<Grant>, Memory>
     ensures history { OnOk result (history.new ≡ history.old
-        ++ path.call_entry (length history.old) (form.reg_mr script.now) (Answer.Key grant.key) (Mark.Granted grant ∷ []) ∷ []) }
+        ++ path.call_entry (length history.old) (form.reg_mr script.now) (Answer.Key grant.key)
+        (Mark.Granted grant ∷ []) ∷ []) }
     ensures in_force { IfOk result (λ grants. grants.items ≡ grant ∷ []) }
 {
     let mut in_force = Vec::new(alloc);
@@ -219,7 +223,8 @@ fn refuse(
     script: &Script,
     error: RegionError,
 ) -> Result<Vec<Grant>, Memory>
-    ensures history { OnOk result (path.IsRefusedBy history.old history.new (form.reg_mr script.now) (result_ok (refusal_of_region error))) }
+    ensures history { OnOk result
+        (path.IsRefusedBy history.old history.new (form.reg_mr script.now) (result_ok (refusal_of_region error))) }
     ensures in_force { IfOk result (λ grants. grants.items ≡ []) }
 {
     let refusal = Refusal::try_from(error)?;
@@ -254,7 +259,8 @@ fn arrive(
     in_force: &[Grant],
 ) -> Result<Option<Denial>, Memory>
     ensures history { IfOk result (λ denied. history.new ≡ history.old
-        ++ path.call_entry (length history.old) (form.inject script.now) Answer.Fine (path.arrival reth payload.now denied) ∷ []) }
+        ++ path.call_entry (length history.old) (form.inject script.now) Answer.Fine
+        (path.arrival reth payload.now denied) ∷ []) }
     ensures denied { IfOk result (λ denied. denied ≡ denial_of (path.ask reth) in_force.now) }
 {
     let denied = judge(reth, in_force);

@@ -25,11 +25,15 @@ pub fn judge(w: Option<&Window>, r: Option<&Region>, ask: &Ask) -> Result<Span, 
     requires packet { IsPacketAsk ask.now }
     requires adapter { IsOfAdapter ask.now (grant_of_parts (option_copied w) (option_copied r)) }
     requires lies { LiesInRegion (option_copied w) (option_copied r) }
-    ensures denied { IfErr result (λ d. denial_of ask.now (grants_of_parts (option_copied w.entry) (option_copied r.entry)) ≡ Some d) }
-    ensures allowed { OnOk result (denial_of ask.now (grants_of_parts (option_copied w.entry) (option_copied r.entry)) ≡ None) }
-    ensures places { IfOk result (λ span. runs_of_span span ≡ runs_for ask.now (grants_of_parts (option_copied w.entry) (option_copied r.entry)) ask.now.touch) }
+    ensures denied { IfErr result
+        (λ d. denial_of ask.now (grants_of_parts (option_copied w.entry) (option_copied r.entry)) ≡ Some d) }
+    ensures allowed { OnOk result
+        (denial_of ask.now (grants_of_parts (option_copied w.entry) (option_copied r.entry)) ≡ None) }
+    ensures places { IfOk result (λ span. runs_of_span span
+        ≡ runs_for ask.now (grants_of_parts (option_copied w.entry) (option_copied r.entry)) ask.now.touch) }
     ensures count { IfOk result (λ span. places_count (runs_of_span span) ≡ ask.now.touch) }
-    ensures whole { IfOk result (λ span. ask.now.address % ATOMIC_BYTES ≡ 0 → ask.now.touch ≤ ATOMIC_BYTES → span.second ≡ None) }
+    ensures whole { IfOk result (λ span. ask.now.address % ATOMIC_BYTES ≡ 0 → ask.now.touch ≤ ATOMIC_BYTES
+        → span.second ≡ None) }
 {
     let Some(region) = r else {
         return Err(Denial::NoGrant);
@@ -46,9 +50,11 @@ fn judge_by_region(region: &Region, ask: &Ask) -> Result<Span, Denial>
     requires adapter { IsOfAdapter ask.now (grant_of_region region.now) }
     ensures denied { IfErr result (λ d. denial_of ask.now (list_of_grant (grant_of_region region.now)) ≡ Some d) }
     ensures allowed { OnOk result (denial_of ask.now (list_of_grant (grant_of_region region.now)) ≡ None) }
-    ensures places { IfOk result (λ span. runs_of_span span ≡ runs_for ask.now (list_of_grant (grant_of_region region.now)) ask.now.touch) }
+    ensures places { IfOk result (λ span. runs_of_span span
+        ≡ runs_for ask.now (list_of_grant (grant_of_region region.now)) ask.now.touch) }
     ensures count { IfOk result (λ span. places_count (runs_of_span span) ≡ ask.now.touch) }
-    ensures whole { IfOk result (λ span. ask.now.address % ATOMIC_BYTES ≡ 0 → ask.now.touch ≤ ATOMIC_BYTES → span.second ≡ None) }
+    ensures whole { IfOk result (λ span. ask.now.address % ATOMIC_BYTES ≡ 0 → ask.now.touch ≤ ATOMIC_BYTES
+        → span.second ≡ None) }
 {
     match region_denial(region, ask) {
         Some(denial) => Err(denial),
@@ -61,11 +67,15 @@ fn judge_by_window(window: &Window, region: &Region, ask: &Ask) -> Result<Span, 
     requires packet { IsPacketAsk ask.now }
     requires adapter { IsOfAdapter ask.now (grant_of_bound window.now (grant_of_region region.now)) }
     requires lies { LiesWithin window.now.binding (grant_of_region region.now) }
-    ensures denied { IfErr result (λ d. denial_of ask.now (list_of_grant (grant_of_bound window.now (grant_of_region region.now))) ≡ Some d) }
-    ensures allowed { OnOk result (denial_of ask.now (list_of_grant (grant_of_bound window.now (grant_of_region region.now))) ≡ None) }
-    ensures places { IfOk result (λ span. runs_of_span span ≡ runs_for ask.now (list_of_grant (grant_of_bound window.now (grant_of_region region.now))) ask.now.touch) }
+    ensures denied { IfErr result
+        (λ d. denial_of ask.now (list_of_grant (grant_of_bound window.now (grant_of_region region.now))) ≡ Some d) }
+    ensures allowed { OnOk result
+        (denial_of ask.now (list_of_grant (grant_of_bound window.now (grant_of_region region.now))) ≡ None) }
+    ensures places { IfOk result (λ span. runs_of_span span
+        ≡ runs_for ask.now (list_of_grant (grant_of_bound window.now (grant_of_region region.now))) ask.now.touch) }
     ensures count { IfOk result (λ span. places_count (runs_of_span span) ≡ ask.now.touch) }
-    ensures whole { IfOk result (λ span. ask.now.address % ATOMIC_BYTES ≡ 0 → ask.now.touch ≤ ATOMIC_BYTES → span.second ≡ None) }
+    ensures whole { IfOk result (λ span. ask.now.address % ATOMIC_BYTES ≡ 0 → ask.now.touch ≤ ATOMIC_BYTES
+        → span.second ≡ None) }
 {
     match window_denial(window, region, ask) {
         Some(denial) => Err(denial),
@@ -99,7 +109,8 @@ fn window_denial(window: &Window, region: &Region, ask: &Ask) -> Option<Denial>
     requires some { 0 < ask.now.length }
     requires adapter { IsOfAdapter ask.now (grant_of_bound window.now (grant_of_region region.now)) }
     requires lies { LiesWithin window.now.binding (grant_of_region region.now) }
-    ensures denial { result ≡ denial_of ask.now (list_of_grant (grant_of_bound window.now (grant_of_region region.now))) }
+    ensures denial { result
+        ≡ denial_of ask.now (list_of_grant (grant_of_bound window.now (grant_of_region region.now))) }
     ensures has { IfNone result (HasBytes ask.now.address ask.now.length (grant_of_region region.now)) }
 {
     let Some(v) = window.view() else {

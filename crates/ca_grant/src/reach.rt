@@ -48,9 +48,12 @@ pub trait Reach {
         requires bytes_at_hand { denial_in (sight self.old) ask.now ≡ None → touches self.old ask.now }
         requires touch { IsPacketAsk ask.now }
         requires kind { ask.now.kind ≡ Kind.Read }
-        ensures denied { (d : Denial) → denial_in (sight self.old) ask.now ≡ Some d → IfOk result (λ v. v ≡ Verdict.Denied d) }
-        ensures read { denial_in (sight self.old) ask.now ≡ None → IfOk result (λ v. v ≡ Verdict.Read (bytes_in (sight self.old) ask.now)) }
-        ensures count { denial_in (sight self.old) ask.now ≡ None → length (bytes_in (sight self.old) ask.now) ≡ ask.now.touch }
+        ensures denied { (d : Denial) → denial_in (sight self.old) ask.now ≡ Some d
+            → IfOk result (λ v. v ≡ Verdict.Denied d) }
+        ensures read { denial_in (sight self.old) ask.now ≡ None
+            → IfOk result (λ v. v ≡ Verdict.Read (bytes_in (sight self.old) ask.now)) }
+        ensures count { denial_in (sight self.old) ask.now ≡ None
+            → length (bytes_in (sight self.old) ask.now) ≡ ask.now.touch }
         ensures same { self.new ≡ self.old };
 
     /// Writes these bytes, as many as the ask touches, to their places.
@@ -67,7 +70,8 @@ pub trait Reach {
         ensures hand { (x : Ask) → judges self.old x → judges self.new x }
         ensures bytes_hand { (x : Ask) → touches self.old x → touches self.new x }
         ensures ends_hand { (i : Invalidation) → ends self.old i → ends self.new i }
-        ensures sees { denial_in (sight self.old) ask.now ≡ None → sight self.new ≡ sight_after_write (sight self.old) ask.now bytes };
+        ensures sees { denial_in (sight self.old) ask.now ≡ None
+            → sight self.new ≡ sight_after_write (sight self.old) ask.now bytes };
 
     /// Does an atomic on the eight bytes that the ask is for.
     fn atomic(&mut self, ask: &Ask, op: AtomicOp) -> Verdict
@@ -94,12 +98,14 @@ pub trait Reach {
         windows: &mut WindowCount,
     ) -> Result<(), OpRefusal>
         requires at_hand { ends self.old (invalidation_by key queue) }
-        requires counted { IsTrue (is_window_key key) → (sight self.old).refusal (invalidation_by key queue) ≡ None → 0 < windows.old.count }
+        requires counted { IsTrue (is_window_key key) → (sight self.old).refusal (invalidation_by key queue) ≡ None
+            → 0 < windows.old.count }
         ensures accepted { OnOk result ((sight self.old).refusal (invalidation_by key queue) ≡ None) }
         ensures refused { IfErr result (λ e. (sight self.old).refusal (invalidation_by key queue) ≡ Some e) }
         ensures revoked { OnOk result (self.new ≡ revoked self.old (invalidation_by key queue)) }
         ensures count { OnOk result (windows.new ≡ count_without key windows.old) }
-        ensures grants { OnOk result ((x : Ask) → (sight self.new).grant x ≡ grants_without (invalidation_by key queue) (sight self.old).grant x) }
+        ensures grants { OnOk result ((x : Ask)
+            → (sight self.new).grant x ≡ grants_without (invalidation_by key queue) (sight self.old).grant x) }
         ensures bytes { OnOk result ((sight self.new).byte ≡ (sight self.old).byte) }
         ensures err { OnErr result (self.new ≡ self.old) }
         ensures err_count { OnErr result (windows.new ≡ windows.old) };

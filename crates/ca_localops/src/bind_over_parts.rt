@@ -34,15 +34,22 @@ pub fn bind(
     requires region_room { IfSome (option_copied_mut r) (λ r. r.bound < u32.MAX) }
     requires room { q.old.count < u32.MAX }
     ensures accepted { let b = request_of op.now drawn queue in
-        OnOk result (first_of (binds.bind_refusals b (binds.view_for_bind b.key (option_copied_mut r.entry)) w.old) ≡ None) }
+        OnOk result (first_of (binds.bind_refusals b (binds.view_for_bind b.key (option_copied_mut r.entry)) w.old)
+        ≡ None) }
     ensures refused { let b = request_of op.now drawn queue in
-        IfErr result (FailsBy (first_of (binds.bind_refusals b (binds.view_for_bind b.key (option_copied_mut r.entry)) w.old))) }
+        IfErr result (FailsBy
+        (first_of (binds.bind_refusals b (binds.view_for_bind b.key (option_copied_mut r.entry)) w.old))) }
     ensures revoked { IfOk result (λ m. m.revoked ≡ binds.key_ended_by_bind (request_of op.now drawn queue) w.old) }
-    ensures granted { IfOk result (λ m. m.granted ≡ binds.granted_by_bind (request_of op.now drawn queue) w.old (option_and_then grant_of_region (option_copied_mut r.entry))) }
+    ensures granted { IfOk result (λ m. m.granted
+        ≡ binds.granted_by_bind (request_of op.now drawn queue) w.old
+        (option_and_then grant_of_region (option_copied_mut r.entry))) }
     ensures window { OnOk result (w.new ≡ binds.window_after_bind (request_of op.now drawn queue) w.old) }
-    ensures former { OnOk result (left_behind former.exit ≡ option_map with_window_unbound (option_copied_mut former.entry)) }
+    ensures former { OnOk result (left_behind former.exit
+        ≡ option_map with_window_unbound (option_copied_mut former.entry)) }
     ensures region { let was_bound = binds.is_bound_in_named w.old (option_copied_mut former.entry) in
-        OnOk result (left_behind r.exit ≡ option_map (binds.named_after_bind (request_of op.now drawn queue).length was_bound) (option_copied_mut r.entry)) }
+        OnOk result (left_behind r.exit
+        ≡ option_map (binds.named_after_bind (request_of op.now drawn queue).length was_bound)
+        (option_copied_mut r.entry)) }
     ensures count { OnOk result (q.new ≡ binds.count_after_bind (request_of op.now drawn queue) q.old) }
     ensures err_window { OnErr result (w.new ≡ w.old) }
     ensures err_former { OnErr result (left_behind former.exit ≡ option_copied_mut former.entry) }
@@ -73,13 +80,16 @@ fn bind_in_named(
     requires counted { binds.CountsBinding w.old None (Some region.old) }
     requires region_room { region.old.bound < u32.MAX }
     requires room { q.old.count < u32.MAX }
-    ensures accepted { OnOk result (first_of (binds.bind_refusals b.now (binds.view_for_bind b.now.key (Some region.old)) w.old) ≡ None) }
-    ensures refused { IfErr result (FailsBy (first_of (binds.bind_refusals b.now (binds.view_for_bind b.now.key (Some region.old)) w.old))) }
+    ensures accepted { OnOk result
+        (first_of (binds.bind_refusals b.now (binds.view_for_bind b.now.key (Some region.old)) w.old) ≡ None) }
+    ensures refused { IfErr result
+        (FailsBy (first_of (binds.bind_refusals b.now (binds.view_for_bind b.now.key (Some region.old)) w.old))) }
     ensures revoked { IfOk result (λ m. m.revoked ≡ binds.key_ended_by_bind b.now w.old) }
     ensures granted { IfOk result (λ m. m.granted ≡ binds.granted_by_bind b.now w.old (grant_of_region region.old)) }
     ensures window { OnOk result (w.new ≡ binds.window_after_bind b.now w.old) }
     ensures count { OnOk result (q.new ≡ binds.count_after_bind b.now q.old) }
-    ensures region { OnOk result (region.new ≡ binds.named_after_bind b.now.length (not (is_none w.old.binding)) region.old) }
+    ensures region { OnOk result (region.new
+        ≡ binds.named_after_bind b.now.length (not (is_none w.old.binding)) region.old) }
     ensures err_window { OnErr result (w.new ≡ w.old) }
     ensures err_count { OnErr result (q.new ≡ q.old) }
     ensures err_region { OnErr result (region.new ≡ region.old) }
@@ -100,8 +110,10 @@ fn bind_away(
 ) -> Result<Marks2, OpError>
     requires counted { 0 < former.old.bound }
     requires room { q.old.count < u32.MAX }
-    ensures accepted { OnOk result (first_of (binds.bind_refusals b.now (binds.view_for_bind b.now.key None) w.old) ≡ None) }
-    ensures refused { IfErr result (FailsBy (first_of (binds.bind_refusals b.now (binds.view_for_bind b.now.key None) w.old))) }
+    ensures accepted { OnOk result (first_of (binds.bind_refusals b.now (binds.view_for_bind b.now.key None) w.old)
+        ≡ None) }
+    ensures refused { IfErr result
+        (FailsBy (first_of (binds.bind_refusals b.now (binds.view_for_bind b.now.key None) w.old))) }
     ensures revoked { IfOk result (λ m. m.revoked ≡ binds.key_ended_by_bind b.now w.old) }
     ensures granted { IfOk result (λ m. m.granted ≡ binds.granted_by_bind b.now w.old None) }
     ensures window { OnOk result (w.new ≡ binds.window_after_bind b.now w.old) }
@@ -128,8 +140,10 @@ fn bind_elsewhere(
     requires counted { 0 < former.old.bound }
     requires region_room { region.old.bound < u32.MAX }
     requires room { q.old.count < u32.MAX }
-    ensures accepted { OnOk result (first_of (binds.bind_refusals b.now (binds.view_for_bind b.now.key (Some region.old)) w.old) ≡ None) }
-    ensures refused { IfErr result (FailsBy (first_of (binds.bind_refusals b.now (binds.view_for_bind b.now.key (Some region.old)) w.old))) }
+    ensures accepted { OnOk result
+        (first_of (binds.bind_refusals b.now (binds.view_for_bind b.now.key (Some region.old)) w.old) ≡ None) }
+    ensures refused { IfErr result
+        (FailsBy (first_of (binds.bind_refusals b.now (binds.view_for_bind b.now.key (Some region.old)) w.old))) }
     ensures revoked { IfOk result (λ m. m.revoked ≡ binds.key_ended_by_bind b.now w.old) }
     ensures granted { IfOk result (λ m. m.granted ≡ binds.granted_by_bind b.now w.old (grant_of_region region.old)) }
     ensures window { OnOk result (w.new ≡ binds.window_after_bind b.now w.old) }

@@ -114,8 +114,10 @@ fn grant_of_request(
     named: Option<&Region>,
     b: &BindRequest,
 ) -> Result<Option<Grant>, Memory>
-    requires { 0 < b.now.length → HasBytes b.now.address b.now.length (option_and_then grant_of_region (option_copied named)) }
-    ensures { IfOk result (λ g. g ≡ binds.granted_by_bind b.now w.now (option_and_then grant_of_region (option_copied named.entry))) }
+    requires { 0 < b.now.length
+        → HasBytes b.now.address b.now.length (option_and_then grant_of_region (option_copied named)) }
+    ensures { IfOk result (λ g. g
+        ≡ binds.granted_by_bind b.now w.now (option_and_then grant_of_region (option_copied named.entry))) }
 {
     if b.length == 0 {
         return Ok(None);
@@ -136,7 +138,8 @@ fn marks_of_bind(
     ensures accepted { OnOk result (first_of (binds.bind_refusals b.now (option_copied view.entry) w.now) ≡ None) }
     ensures refused { IfErr result (FailsBy (first_of (binds.bind_refusals b.now (option_copied view.entry) w.now))) }
     ensures revoked { IfOk result (λ m. m.revoked ≡ binds.key_ended_by_bind b.now w.now) }
-    ensures granted { IfOk result (λ m. m.granted ≡ binds.granted_by_bind b.now w.now (option_and_then grant_of_region (option_copied named.entry))) }
+    ensures granted { IfOk result (λ m. m.granted
+        ≡ binds.granted_by_bind b.now w.now (option_and_then grant_of_region (option_copied named.entry))) }
 {
     if let Some(refusal) = bind_refusal(w, view, b) {
         return Err(OpError::Refused(refusal));
@@ -188,10 +191,15 @@ pub fn rebind(
     q: &mut WindowCount,
 ) -> Result<Marks2, OpError>
     requires { q.old.count < u32.MAX }
-    ensures accepted { OnOk result (first_of (binds.bind_refusals b.now (binds.view_for_bind b.now.key (option_copied named.entry)) w.old) ≡ None) }
-    ensures refused { IfErr result (FailsBy (first_of (binds.bind_refusals b.now (binds.view_for_bind b.now.key (option_copied named.entry)) w.old))) }
+    ensures accepted { OnOk result
+        (first_of (binds.bind_refusals b.now (binds.view_for_bind b.now.key (option_copied named.entry)) w.old)
+        ≡ None) }
+    ensures refused { IfErr result
+        (FailsBy (first_of (binds.bind_refusals b.now
+        (binds.view_for_bind b.now.key (option_copied named.entry)) w.old))) }
     ensures revoked { IfOk result (λ m. m.revoked ≡ binds.key_ended_by_bind b.now w.old) }
-    ensures granted { IfOk result (λ m. m.granted ≡ binds.granted_by_bind b.now w.old (option_and_then grant_of_region (option_copied named.entry))) }
+    ensures granted { IfOk result (λ m. m.granted
+        ≡ binds.granted_by_bind b.now w.old (option_and_then grant_of_region (option_copied named.entry))) }
     ensures window { OnOk result (w.new ≡ binds.window_after_bind b.now w.old) }
     ensures count { OnOk result (q.new ≡ binds.count_after_bind b.now q.old) }
     ensures err_window { OnErr result (w.new ≡ w.old) }

@@ -25,13 +25,18 @@ pub fn invalidate(
     queue: QueueId,
 ) -> Result<Marks2, OpRefusal>
     requires region { CountsWindow key queue (option_copied_mut w) (option_copied_mut r) }
-    requires counted { IsTrue (is_window_key key) → key_refusal key queue (option_copied_mut w) (option_copied_mut r) ≡ None → 0 < q.old.count }
-    ensures accepted { OnOk result (key_refusal key queue (option_copied_mut w.entry) (option_copied_mut r.entry) ≡ None) }
-    ensures refused { IfErr result (λ e. key_refusal key queue (option_copied_mut w.entry) (option_copied_mut r.entry) ≡ Some e) }
+    requires counted { IsTrue (is_window_key key) → key_refusal key queue (option_copied_mut w) (option_copied_mut r)
+        ≡ None → 0 < q.old.count }
+    ensures accepted { OnOk result (key_refusal key queue (option_copied_mut w.entry) (option_copied_mut r.entry)
+        ≡ None) }
+    ensures refused { IfErr result
+        (λ e. key_refusal key queue (option_copied_mut w.entry) (option_copied_mut r.entry) ≡ Some e) }
     ensures revoked { IfOk result (λ m. m.revoked ≡ Some key) }
     ensures granted { IfOk result (λ m. m.granted ≡ None) }
-    ensures window { OnOk result (left_behind w.exit ≡ option_map (window_without_key key) (option_copied_mut w.entry)) }
-    ensures region { OnOk result (left_behind r.exit ≡ option_map (region_without_key key) (option_copied_mut r.entry)) }
+    ensures window { OnOk result (left_behind w.exit
+        ≡ option_map (window_without_key key) (option_copied_mut w.entry)) }
+    ensures region { OnOk result (left_behind r.exit
+        ≡ option_map (region_without_key key) (option_copied_mut r.entry)) }
     ensures count { OnOk result (q.new ≡ count_without key q.old) }
     ensures err_window { OnErr result (left_behind w.exit ≡ option_copied_mut w.entry) }
     ensures err_region { OnErr result (left_behind r.exit ≡ option_copied_mut r.entry) }
@@ -90,7 +95,8 @@ fn end_key(
     queue: QueueId,
 ) -> Result<Marks2, OpRefusal>
     requires region { CountsWindow key queue (Some window.old) (Some region.old) }
-    requires counted { IsTrue (is_window_key key) → key_refusal key queue (Some window.old) (Some region.old) ≡ None → 0 < q.old.count }
+    requires counted { IsTrue (is_window_key key) → key_refusal key queue (Some window.old) (Some region.old) ≡ None
+        → 0 < q.old.count }
     ensures accepted { OnOk result (key_refusal key queue (Some window.old) (Some region.old) ≡ None) }
     ensures refused { IfErr result (λ e. key_refusal key queue (Some window.old) (Some region.old) ≡ Some e) }
     ensures revoked { IfOk result (λ m. m.revoked ≡ Some key) }

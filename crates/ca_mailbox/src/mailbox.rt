@@ -121,7 +121,8 @@ impl Mailbox {
         requires { suc self.old.next < 2 ^ 64 }
         ensures variant { IsOk result ↔ IsTrue (passes (sender_of sender) incarnation self.old && has_room self.old) }
         ensures ok { IfOk result (λ index. (index ≡ self.old.next) × (self.new ≡ after_send lot bytes self.old)) }
-        ensures cause { IfErr result (λ e. e ≡ (if passes (sender_of sender) incarnation self.old then NoRoom else NoPath)) }
+        ensures cause { IfErr result (λ e. e ≡ (if passes (sender_of sender) incarnation self.old then NoRoom else
+            NoPath)) }
         ensures err { OnErr result (self.new ≡ self.old) }
     {
         if !self.passes(sender, incarnation) {

@@ -25,7 +25,8 @@ pub(crate) fn slot_is_undelivered(
 pub(crate) fn deliver(envelopes: &mut HeapCircularBuffer<MailEnvelope>, later: usize) -> bool
     requires { IsTrue (option_map_or has_count_left (slice_get envelopes.old.items later) false) }
     ensures envelopes { envelopes.new ≡ buffer (with_delivery later envelopes.old.items) envelopes.old.capacity }
-    ensures done { undelivered_count (with_delivery later envelopes.old.items) + (if result then 1 else 0) ≡ undelivered_count envelopes.old.items }
+    ensures done { undelivered_count (with_delivery later envelopes.old.items) + (if result then 1 else 0)
+        ≡ undelivered_count envelopes.old.items }
 {
     match envelopes.get_mut(later) {
         Some(envelope) => deliver_once(envelope),
@@ -59,7 +60,8 @@ pub(crate) fn trimmed(envelopes: &HeapCircularBuffer<MailEnvelope>, enough: usiz
     requires { undelivered_count (drop enough envelopes.now.items) ≡ 0 }
     ensures within { result ≤ enough }
     ensures none_behind { undelivered_count (drop result envelopes.now.items) ≡ 0 }
-    ensures least { 0 < result → option_map_or is_undelivered (slice_get envelopes.now.items (result - 1)) false ≡ true }
+    ensures least { 0 < result → option_map_or is_undelivered (slice_get envelopes.now.items (result - 1)) false
+        ≡ true }
 {
     let mut left = enough;
     while left > 0 && !slot_is_undelivered(envelopes, left - 1) {

@@ -65,9 +65,11 @@ impl Buffer {
     /// atomic makes of it.
     pub fn swap(&mut self, offset: u32, op: AtomicOp) -> u64
         requires { IsInside offset ATOMIC_BYTES self.old }
-        ensures found { (at : Run) → at.offset ≡ offset → at.length ≡ ATOMIC_BYTES → result ≡ little_endian (bytes_at (memory_of self.old) (at ∷ [])) }
+        ensures found { (at : Run) → at.offset ≡ offset → at.length ≡ ATOMIC_BYTES
+            → result ≡ little_endian (bytes_at (memory_of self.old) (at ∷ [])) }
         ensures bytes { self.new ≡ bytes_after offset (little_endian_bytes (number_after op result)) self.old }
-        ensures places { (at : Run) → at.offset ≡ offset → at.length ≡ ATOMIC_BYTES → IsWrittenAt at (little_endian_bytes (number_after op result)) self.old self.new }
+        ensures places { (at : Run) → at.offset ≡ offset → at.length ≡ ATOMIC_BYTES
+            → IsWrittenAt at (little_endian_bytes (number_after op result)) self.old self.new }
         ensures count { length self.new ≡ length self.old }
     {
         let begin = offset as usize;

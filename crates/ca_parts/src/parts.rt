@@ -88,7 +88,8 @@ impl<T: Machine> Parts<T> {
         requires no_part { (view_of pass).hand ≡ [] }
         ensures out { IsErr result ↔ ((view_of pass).share < MAX_PASSES) }
         ensures count { IfOk result (λ r. length r.0.items ≡ part_count self) }
-        ensures whole { IfOk result (λ r. IsWhole T.needs T.steps T.stands (settings_of self) r.1 r.0.items (view_of pass)) }
+        ensures whole { IfOk result
+            (λ r. IsWhole T.needs T.steps T.stands (settings_of self) r.1 r.0.items (view_of pass)) }
         ensures same { IfErr result (λ r. (r.0 ≡ self) × (r.1 ≡ pass)) }
     {
         if !pass.is_alone() {

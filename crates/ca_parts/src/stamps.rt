@@ -41,7 +41,8 @@ impl<T: Machine> Parts<T> {
     pub fn stamp(&self, pass: &mut PartPass<T>) -> u64
         ghost plan: { T.Entry × List (ℕ × T) }
         requires of { IsPassOf self.now pass.old }
-        requires may { MayStamp T.records T.needs T.steps T.stands (settings_of self.now) plan.0 plan.1 (view_of pass.old) }
+        requires may { MayStamp T.records T.needs T.steps T.stands (settings_of self.now) plan.0 plan.1
+            (view_of pass.old) }
         ensures of { IsPassOf self.now pass.new }
         ensures added { view_of pass.new ≡ with_entry plan.0 plan.1 result (view_of pass.old) }
         ensures moment { IsMoment T.needs T.steps T.stands (settings_of self.now) result (view_of pass.old) }

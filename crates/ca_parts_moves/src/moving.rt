@@ -36,7 +36,9 @@ fn mark(
 ) -> u64
     ghost plan: { Move × List (ℕ × Amount) }
     requires of { IsPassOf parts.now pass.old }
-    requires may { MayStamp (λ entry event. entry ≡ event) (λ _ m hand. next_of m hand) CanFollow StandsFor (settings_of parts.now) plan.0 plan.1 (view_of pass.old) }
+    requires may { MayStamp (λ entry event. entry
+        ≡ event) (λ _ m hand. next_of m hand) CanFollow StandsFor (settings_of parts.now) plan.0 plan.1
+        (view_of pass.old) }
     ensures of { IsPassOf parts.now pass.new }
     ensures added { view_of pass.new ≡ with_entry plan.0 plan.1 result (view_of pass.old) }
 {

@@ -24,7 +24,8 @@ pub fn run<S: Source, K: Sink>(
     sink: &mut K,
 ) -> Status
     // The script is read to its end, and the sink took the text of its one history, which is lawful.
-    ensures fine { result ≡ Status.Fine → Ran (S.left source.old) (S.left source.new) (Appends (K.held sink.old) (K.held sink.new)) }
+    ensures fine { result ≡ Status.Fine
+        → Ran (S.left source.old) (S.left source.new) (Appends (K.held sink.old) (K.held sink.new)) }
 
     // Other words than the one command come to this, and to nothing else.
     ensures usage { (result ≡ Status.Usage) ↔ (¬ IsCommand (map string_bytes words.now)) }
@@ -42,7 +43,8 @@ pub fn run<S: Source, K: Sink>(
     ensures write_fault { result ≡ Status.WriteFault → Rose (K.faults sink.old) (K.faults sink.new) }
 
     // After a fault of the sink it took the front of that text, and not all of it.
-    ensures part { result ≡ Status.WriteFault → Ran (S.left source.old) (S.left source.new) (AppendsPart (K.held sink.old) (K.held sink.new)) }
+    ensures part { result ≡ Status.WriteFault
+        → Ran (S.left source.old) (S.left source.new) (AppendsPart (K.held sink.old) (K.held sink.new)) }
 
     // All else leaves the sink as it was.
     ensures unwritten { writes result ≡ false → sink.new ≡ sink.old }
@@ -75,9 +77,12 @@ fn names_script(word: &str) -> bool
 
 // Performs the script that the bytes are, and writes the text of its history.
 fn answer<K: Sink>(alloc: Global, bytes: &[u8], sink: &mut K) -> Status
-    ensures fine { result ≡ Status.Fine → (output : List ℕ) × HasOutput bytes.now output × Appends (K.held sink.old) (K.held sink.new) output }
-    ensures part { result ≡ Status.WriteFault → (output : List ℕ) × HasOutput bytes.now output × AppendsPart (K.held sink.old) (K.held sink.new) output }
-    ensures script { (line : ℕ) (cause : ScriptCause) → result ≡ Status.Script line cause → FirstDiffers bytes.now line }
+    ensures fine { result ≡ Status.Fine
+        → (output : List ℕ) × HasOutput bytes.now output × Appends (K.held sink.old) (K.held sink.new) output }
+    ensures part { result ≡ Status.WriteFault
+        → (output : List ℕ) × HasOutput bytes.now output × AppendsPart (K.held sink.old) (K.held sink.new) output }
+    ensures script { (line : ℕ) (cause : ScriptCause) → result ≡ Status.Script line cause
+        → FirstDiffers bytes.now line }
     ensures write_fault { result ≡ Status.WriteFault → Rose (K.faults sink.old) (K.faults sink.new) }
     ensures unwritten { writes result ≡ false → sink.new ≡ sink.old }
     ensures no_usage { result ≢ Status.Usage }

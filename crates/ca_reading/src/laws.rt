@@ -20,28 +20,33 @@ pub fn text_is_read()
 
 /// The lines of the text of a history are taken one behind the other, and show its entries, in order.
 pub fn lines_give()
-    ensures { (es : List EntryValue) (lines : List (List ℕ)) → HistoryFits es → AllByRecursion (λ w. is_one_line w ≡ true) lines → lined lines ≡ text es
+    ensures { (es : List EntryValue) (lines : List (List ℕ)) → HistoryFits es
+        → AllByRecursion (λ w. is_one_line w ≡ true) lines → lined lines ≡ text es
         → AreTaken start lines (record { count = length es; stage = Over }) es }
 {}
 
 /// Lines that are taken one behind the other, the last one too, are the text of the entries that they show.
 pub fn lines_are_text()
-    ensures { (lines : List (List ℕ)) (r : Reading) (es : List EntryValue) → AreTaken start lines r es → r.stage ≡ Over → HistoryFits es × (lined lines ≡ text es) }
+    ensures { (lines : List (List ℕ)) (r : Reading) (es : List EntryValue) → AreTaken start lines r es
+        → r.stage ≡ Over → HistoryFits es × (lined lines ≡ text es) }
 {}
 
 /// A line that is taken behind others is taken with them.
 pub fn one_more_line()
-    ensures { (lines : List (List ℕ)) (line : List ℕ) (r s : Reading) (es : List EntryValue) (shown : Option EntryValue) → AreTaken start lines r es → IsTaken r line s shown
+    ensures { (lines : List (List ℕ)) (line : List ℕ) (r s : Reading) (es : List EntryValue)
+        (shown : Option EntryValue) → AreTaken start lines r es → IsTaken r line s shown
         → AreTaken start (lines ++ line ∷ []) s (es ++ before shown []) }
 {}
 
 /// Lines that are taken one behind the other begin the text of a history.
 pub fn taken_lines_begin()
-    ensures { (lines : List (List ℕ)) (r : Reading) (es : List EntryValue) → AreTaken start lines r es → BeginsText (lined lines) }
+    ensures { (lines : List (List ℕ)) (r : Reading) (es : List EntryValue) → AreTaken start lines r es
+        → BeginsText (lined lines) }
 {}
 
 /// With a line that is refused behind them they begin none.
 pub fn refused_line_begins_none()
-    ensures { (lines : List (List ℕ)) (line : List ℕ) (r : Reading) (es : List EntryValue) → AreTaken start lines r es → is_one_line line ≡ true → IsRefused r line
+    ensures { (lines : List (List ℕ)) (line : List ℕ) (r : Reading) (es : List EntryValue)
+        → AreTaken start lines r es → is_one_line line ≡ true → IsRefused r line
         → BeginsText (lined lines ++ (line ++ 10 ∷ [])) → ⊥ }
 {}

@@ -95,7 +95,8 @@ impl TraceReader {
 
     /// Takes a line, but for its number.
     fn take(&mut self, alloc: Global, bytes: &[u8]) -> Result<Option<Entry>, Stop>
-        ensures taken { IfOk result (λ shown. IsTaken self.old.reading bytes.now self.new.reading (option_map entry_of shown)) }
+        ensures taken { IfOk result
+            (λ shown. IsTaken self.old.reading bytes.now self.new.reading (option_map entry_of shown)) }
         ensures refused { IfErr result (λ stop. stop ≡ stops.Outside → IsRefused self.old.reading bytes.now) }
         ensures next { self.new.next ≡ self.old.next }
         ensures err { OnErr result (self.new ≡ self.old) }
@@ -111,7 +112,8 @@ impl TraceReader {
     /// Goes behind a line.
     fn step(&mut self, alloc: Global, line: Line) -> Result<Option<Entry>, Stop>
         requires { IsShaped line }
-        ensures taken { IfOk result (λ shown. steps.step self.old.reading line ≡ Some (self.new.reading, option_map entry_of shown)) }
+        ensures taken { IfOk result (λ shown. steps.step self.old.reading line
+            ≡ Some (self.new.reading, option_map entry_of shown)) }
         ensures refused { IfErr result (λ stop. stop ≡ stops.Outside → steps.step self.old.reading line ≡ None) }
         ensures next { self.new.next ≡ self.old.next }
         ensures err { OnErr result (self.new ≡ self.old) }
@@ -163,8 +165,10 @@ impl TraceReader {
         event: Event,
     ) -> Result<Option<Entry>, Stop>
         ensures taken { IfOk result (λ shown.
-            steps.step self.old.reading (lines.Turn stamp pass event) ≡ Some (self.new.reading, option_map entry_of shown)) }
-        ensures refused { IfErr result (λ stop. stop ≡ stops.Outside → steps.step self.old.reading (lines.Turn stamp pass event) ≡ None) }
+            steps.step self.old.reading (lines.Turn stamp pass event)
+            ≡ Some (self.new.reading, option_map entry_of shown)) }
+        ensures refused { IfErr result (λ stop. stop ≡ stops.Outside
+            → steps.step self.old.reading (lines.Turn stamp pass event) ≡ None) }
         ensures next { self.new.next ≡ self.old.next }
         ensures err { OnErr result (self.new ≡ self.old) }
     {
@@ -194,8 +198,10 @@ impl TraceReader {
     ) -> Result<Option<Entry>, Stop>
         requires { IsTold told }
         ensures taken { IfOk result (λ shown.
-            steps.step self.old.reading (lines.Call stamp pass by verb told) ≡ Some (self.new.reading, option_map entry_of shown)) }
-        ensures refused { IfErr result (λ stop. stop ≡ stops.Outside → steps.step self.old.reading (lines.Call stamp pass by verb told) ≡ None) }
+            steps.step self.old.reading (lines.Call stamp pass by verb told)
+            ≡ Some (self.new.reading, option_map entry_of shown)) }
+        ensures refused { IfErr result (λ stop. stop ≡ stops.Outside
+            → steps.step self.old.reading (lines.Call stamp pass by verb told) ≡ None) }
         ensures next { self.new.next ≡ self.old.next }
         ensures err { OnErr result (self.new ≡ self.old) }
     {
@@ -211,7 +217,8 @@ impl TraceReader {
     fn end(&mut self, count: u64) -> Result<Option<Entry>, Stop>
         ensures taken { IfOk result (λ shown.
             steps.step self.old.reading (lines.End count) ≡ Some (self.new.reading, option_map entry_of shown)) }
-        ensures refused { IfErr result (λ stop. stop ≡ stops.Outside → steps.step self.old.reading (lines.End count) ≡ None) }
+        ensures refused { IfErr result (λ stop. stop ≡ stops.Outside
+            → steps.step self.old.reading (lines.End count) ≡ None) }
         ensures next { self.new.next ≡ self.old.next }
         ensures err { OnErr result (self.new ≡ self.old) }
     {

@@ -67,7 +67,8 @@ pub fn take_perhaps_u32(line: &mut Pieces) -> Result<Option<u32>, Stop>
 
 /// A number of 64 bits, or none, by the first word.
 pub fn take_perhaps_u64(line: &mut Pieces) -> Result<Option<u64>, Stop>
-    ensures { Reads (λ x. x) result line.new (words.field (words.perhaps_in (words.number_in 18446744073709551615)) line.old) }
+    ensures { Reads (λ x. x) result line.new
+        (words.field (words.perhaps_in (words.number_in 18446744073709551615)) line.old) }
 {
     ca_reading_words::perhaps_u64_in(line.take_word()?)
 }

@@ -165,7 +165,8 @@ fn exact_line(alloc: Global, text: &[u8]) -> Result<Line, Stop>
 pub fn read_line(alloc: Global, text: &[u8]) -> Result<Line, Stop>
     ensures exact { Gives result (calls.exact_in text.now) }
     ensures found { IfOk result (λ line. text.now ≡ line_text line) }
-    ensures outside { IfErr result (λ stop. stop ≡ stops.Outside → (line : kinds.Line) → LineFits line → text.now ≢ line_text line) }
+    ensures outside { IfErr result (λ stop. stop ≡ stops.Outside → (line : kinds.Line) → LineFits line
+        → text.now ≢ line_text line) }
 {
     exact_line(alloc, text)
 }

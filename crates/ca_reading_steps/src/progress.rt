@@ -148,7 +148,8 @@ pub fn take_got(alloc: Global, progress: &mut Progress, completion: Completion) 
     requires { HasRoom progress.old }
     ensures ok { OnOk result (steps.with_got completion (stage_of progress.old) ≡ Some (stage_of progress.new)) }
     ensures room { OnOk result (HasRoom progress.new) }
-    ensures outside { IfErr result (λ stop. stop ≡ stops.Outside → steps.with_got completion (stage_of progress.old) ≡ None) }
+    ensures outside { IfErr result (λ stop. stop ≡ stops.Outside
+        → steps.with_got completion (stage_of progress.old) ≡ None) }
     ensures err { OnErr result (progress.new ≡ progress.old) }
 {
     let Progress::Polling(poll) = progress else {
@@ -168,7 +169,8 @@ pub fn take_mark(progress: &mut Progress, mark: Mark) -> Result<(), Stop>
     requires { HasRoom progress.old }
     ensures ok { OnOk result (steps.with_mark mark (stage_of progress.old) ≡ Some (stage_of progress.new)) }
     ensures room { HasRoom progress.new }
-    ensures outside { IfErr result (λ stop. stop ≡ stops.Outside → steps.with_mark mark (stage_of progress.old) ≡ None) }
+    ensures outside { IfErr result (λ stop. stop ≡ stops.Outside
+        → steps.with_mark mark (stage_of progress.old) ≡ None) }
     ensures err { OnErr result (stage_of progress.new ≡ stage_of progress.old) }
 {
     let Progress::Open(entry) = progress else {

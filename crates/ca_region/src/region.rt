@@ -175,7 +175,8 @@ impl Region {
         ensures valid { OnOk result (self.new
             ≡ regions.after_fast_registration slot low buffer address length rights pages.now self.old) }
         ensures accepted { OnOk result (first_of
-            (regions.fast_registration_refusals slot buffer buffer_length address length rights pages.now self.old) ≡ None) }
+            (regions.fast_registration_refusals slot buffer buffer_length address length rights pages.now self.old)
+            ≡ None) }
         ensures refused { IfErr result (RefusesBy (first_of
             (regions.fast_registration_refusals slot buffer buffer_length address length rights pages.now self.old))) }
         ensures err { OnErr result (self.new ≡ self.old) }

@@ -27,7 +27,8 @@ pub fn remove<T: Drop, R: Removal<T>>(ring: &mut HeapCircularBuffer<T>, which: &
 
 /// Moves the thing in front to the back, or drops it where it is named.
 fn pass_front<T: Drop, R: Removal<T>>(ring: &mut HeapCircularBuffer<T>, which: &R)
-    ensures { ring.new ≡ buffer (drop 1 ring.old.items ++ filter (λ x. not (R.names which.now x)) (take 1 ring.old.items)) ring.old.capacity }
+    ensures { ring.new ≡ buffer (drop 1 ring.old.items
+        ++ filter (λ x. not (R.names which.now x)) (take 1 ring.old.items)) ring.old.capacity }
 {
     if ring.len() == 0 {
         return;

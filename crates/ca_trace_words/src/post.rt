@@ -45,7 +45,8 @@ fn put_cmp_swap(
     list: &[Piece],
 ) -> Result<(), Memory>
     ensures ok { OnOk result (text.new.added ≡ text.old.added
-        ++ led 32 (words (Fixed (codes "cas") ∷ fields.Address address ∷ OfKey key ∷ Number w64 compare ∷ Number w64 swap
+        ++ led 32 (words (Fixed (codes "cas") ∷ fields.Address address ∷ OfKey key ∷ Number w64 compare
+        ∷ Number w64 swap
         ∷ OfPieces list.now ∷ []))) }
     ensures same { text.new.before ≡ text.old.before }
 {
@@ -65,7 +66,8 @@ fn put_fetch_add(
     list: &[Piece],
 ) -> Result<(), Memory>
     ensures ok { OnOk result (text.new.added ≡ text.old.added
-        ++ led 32 (words (Fixed (codes "add") ∷ fields.Address address ∷ OfKey key ∷ Number w64 add ∷ OfPieces list.now ∷ []))) }
+        ++ led 32 (words (Fixed (codes "add") ∷ fields.Address address ∷ OfKey key ∷ Number w64 add
+        ∷ OfPieces list.now ∷ []))) }
     ensures same { text.new.before ≡ text.old.before }
 {
     let address = Address(address);

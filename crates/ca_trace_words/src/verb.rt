@@ -129,7 +129,8 @@ fn put_change(text: &mut Text, slot: Slot, change: &Change) -> Result<(), Memory
 }
 
 fn put_post(text: &mut Text, slot: Slot, request: &SendRequest) -> Result<(), Memory>
-    ensures ok { OnOk result (text.new.added ≡ text.old.added ++ led 32 (words (verb_words (Verb.PostSend slot request.now)))) }
+    ensures ok { OnOk result (text.new.added
+        ≡ text.old.added ++ led 32 (words (verb_words (Verb.PostSend slot request.now)))) }
     ensures same { text.new.before ≡ text.old.before }
 {
     let id = request.id;
@@ -149,7 +150,8 @@ fn put_receive(
     request: &RecvRequest,
 ) -> Result<(), Memory>
     ensures ok { OnOk result (text.new.added ≡ text.old.added
-        ++ led 32 (words (Fixed name.now ∷ OfSlot slot ∷ Number w64 request.now.id ∷ OfPieces request.now.list.items ∷ []))) }
+        ++ led 32 (words (Fixed name.now ∷ OfSlot slot ∷ Number w64 request.now.id ∷ OfPieces request.now.list.items
+        ∷ []))) }
     ensures same { text.new.before ≡ text.old.before }
 {
     let id = request.id;

@@ -146,10 +146,15 @@ impl Window {
         length: u32,
         rights: Rights,
     ) -> Result<(), WindowError>
-        ensures accepted { OnOk result (first_of (windows.bind1_refusals (option_copied r.entry) address length rights self.old) ≡ None) }
-        ensures refused { IfErr result (λ e. first_of (windows.bind1_refusals (option_copied r.entry) address length rights self.old) ≡ Some e) }
-        ensures granted { OnOk result (0 < length → (g : Grant) → grant_of_window self.new g ≡ Some (grant_of_bind self.old.slot drawn None g address length rights)) }
-        ensures bound { OnOk result (self.new ≡ windows.after_bind1 drawn (region_of_view self.old.slot.domain (option_copied r.entry)) address length rights self.old) }
+        ensures accepted { OnOk result
+            (first_of (windows.bind1_refusals (option_copied r.entry) address length rights self.old) ≡ None) }
+        ensures refused { IfErr result
+            (λ e. first_of (windows.bind1_refusals (option_copied r.entry) address length rights self.old) ≡ Some e) }
+        ensures granted { OnOk result (0 < length → (g : Grant)
+            → grant_of_window self.new g ≡ Some (grant_of_bind self.old.slot drawn None g address length rights)) }
+        ensures bound { OnOk result (self.new
+            ≡ windows.after_bind1 drawn
+            (region_of_view self.old.slot.domain (option_copied r.entry)) address length rights self.old) }
         ensures err { OnErr result (self.new ≡ self.old) }
     {
         if let Some(refusal) = self.bind1_refusal(r, address, length, rights) {
@@ -175,10 +180,16 @@ impl Window {
         length: u32,
         rights: Rights,
     ) -> Result<(), WindowError>
-        ensures accepted { OnOk result (first_of (windows.bind2_refusals (option_copied r.entry) address length rights self.old) ≡ None) }
-        ensures refused { IfErr result (λ e. first_of (windows.bind2_refusals (option_copied r.entry) address length rights self.old) ≡ Some e) }
-        ensures granted { OnOk result ((g : Grant) → grant_of_window self.new g ≡ Some (grant_of_bind self.old.slot low (Some queue) g address length rights)) }
-        ensures bound { OnOk result (self.new ≡ windows.after_binding low (Some queue) (region_of_view self.old.slot.domain (option_copied r.entry)) address length rights self.old) }
+        ensures accepted { OnOk result
+            (first_of (windows.bind2_refusals (option_copied r.entry) address length rights self.old) ≡ None) }
+        ensures refused { IfErr result
+            (λ e. first_of (windows.bind2_refusals (option_copied r.entry) address length rights self.old) ≡ Some e) }
+        ensures granted { OnOk result ((g : Grant)
+            → grant_of_window self.new g
+            ≡ Some (grant_of_bind self.old.slot low (Some queue) g address length rights)) }
+        ensures bound { OnOk result (self.new
+            ≡ windows.after_binding low (Some queue)
+            (region_of_view self.old.slot.domain (option_copied r.entry)) address length rights self.old) }
         ensures err { OnErr result (self.new ≡ self.old) }
     {
         if let Some(refusal) = self.bind2_refusal(r, address, length, rights) {
@@ -192,7 +203,8 @@ impl Window {
     /// in order are `NoWindow`, `Type1`, `NotBound`, `KeyDiffers` and `WrongQueue`.
     pub fn invalidate(&mut self, key: Key, queue: QueueId) -> Result<(), WindowError>
         ensures accepted { OnOk result (first_of (windows.window_invalidation_refusals key queue self.old) ≡ None) }
-        ensures refused { IfErr result (λ e. first_of (windows.window_invalidation_refusals key queue self.old) ≡ Some e) }
+        ensures refused { IfErr result (λ e. first_of (windows.window_invalidation_refusals key queue self.old)
+            ≡ Some e) }
         ensures unbound { OnOk result (self.new ≡ windows.without_binding self.old) }
         ensures err { OnErr result (self.new ≡ self.old) }
     {
