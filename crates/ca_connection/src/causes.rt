@@ -15,8 +15,7 @@ pub fn response_fits_its_request()
         → HasNumber d place (number_of a) → Fits d place a }
 {}
 
-/// A NAK that was sent, other than a sequence error, has its rejection: of a packet of the request that has its
-number, with
+/// A NAK that was sent, other than a sequence error, has its rejection: of a packet of the request that has its number, with
 /// its code.
 pub fn nak_has_its_rejection()
     ensures { (d : Direction) (l : Link) (k place n : ℕ) (code : NakReason) → Reached d l

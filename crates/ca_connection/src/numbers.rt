@@ -25,8 +25,7 @@ pub fn packet_ends_within_its_request()
     ensures { (d : Direction) (p n : ℕ) → 0 < d.mtu → HasNumber d p n → n + span d p n ≤ first d (suc p) }
 {}
 
-/// The request packet of a READ, also one that is sent again from the middle, takes all numbers of the READ from
-there on.
+/// The request packet of a READ, also one that is sent again from the middle, takes all numbers of the READ from there on.
 pub fn read_asks_for_the_rest()
     ensures { (d : Direction) (p n : ℕ) → 0 < d.mtu → is_read (d.work p) ≡ true → HasNumber d p n
         → n + span d p n ≡ first d (suc p) }
@@ -38,8 +37,7 @@ pub fn longest_message()
         → segments mtu bytes ≤ MAX_MESSAGE_PACKETS }
 {}
 
-/// The walk over the requests that are not finished, from the oldest on, so many of them that they have all numbers
-up to
+/// The walk over the requests that are not finished, from the oldest on, so many of them that they have all numbers up to
 /// `upto`, finds the first number of a READ or an atomic from `una` on, and finds nothing only where there is none.
 pub fn acknowledgement_stops_at_first_unanswered()
     ensures { (d : Direction) (count place una upto : ℕ) → first d place ≤ una → upto < first d (place + count)

@@ -28,8 +28,7 @@ pub fn atomic_acts_once()
         → acceptances_of_request place l.acceptances ≤ 1 }
 {}
 
-/// Where a SEND, a WRITE or an atomic succeeded, each of its packets was accepted exactly once, and as one of that
-request.
+/// Where a SEND, a WRITE or an atomic succeeded, each of its packets was accepted exactly once, and as one of that request.
 pub fn packet_of_success_acted_once()
     ensures { (d : Direction) (l : Link) (place n : ℕ) → Reached d l → is_read (d.work place) ≡ false
         → HasNumber d place n
@@ -38,8 +37,7 @@ pub fn packet_of_success_acted_once()
         × ((found : ℕ) × Contains l.acceptances (record { number = n; place = place; found = found })) }
 {}
 
-/// An atomic that completed has exactly one acceptance, and the value that its completion gives is what that
-acceptance found.
+/// An atomic that completed has exactly one acceptance, and the value that its completion gives is what that acceptance found.
 pub fn completed_atomic_acted_once()
     ensures { (d : Direction) (l : Link) (place found : ℕ) → Reached d l
         → Contains l.completions (record { place = place; found = found })

@@ -12,12 +12,9 @@ pub fn reservation_makes_room()
         → length q.waiting < q.capacity }
 {}
 
-/// Every reservation has room for what waits in
-a new queue, and each call keeps it so: a reservation of a side that has
-/// none, which is not refused, and which for a shared receive queue is as large as those of its other users; a put
-where
-/// the completion's reservation has room left; a poll; the removal of a queue pair's completions; and a release of a
-side
+/// Every reservation has room for what waits in a new queue, and each call keeps it so: a reservation of a side that has
+/// none, which is not refused, and which for a shared receive queue is as large as those of its other users; a put where
+/// the completion's reservation has room left; a poll; the removal of a queue pair's completions; and a release of a side
 /// of which none waits.
 pub fn calls_keep_room()
     ensures create { (capacity : ℕ) → IsReserved (empty_cq capacity) }

@@ -31,12 +31,11 @@ pub fn event_keeps_worlds_sound()
         → Afterwards (IsSoundWorld c) (step c w event) }
 {}
 
-/// In a sound world each thing that an event looks at, reads, changes or writes stands in
-a part that the table of parts
+/// In a sound world each thing that an event looks at, reads, changes or writes stands in a part that the table of parts
 /// has for this event.
 pub fn event_touches_its_parts()
-    ensures { (c : Configuration) (w : World) (event : Event) → IsSoundWorld c w
-        → AllByRecursion (λ n. IsAmong (event_parts c w event) (part_of n)) (touches w (plan c event)) }
+    ensures { (c : Configuration) (w : World) (event : Event)
+        → IsSoundWorld c w → AllByRecursion (λ n. IsAmong (event_parts c w event) (part_of n)) (touches w (plan c event)) }
 {}
 
 /// In a sound world the table has few parts for an event.

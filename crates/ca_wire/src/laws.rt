@@ -14,8 +14,7 @@ pub fn syndromes()
     ensures only { (byte : ℕ) (s : Syndrome) → syndrome_in byte ≡ Some s → (syndrome_byte s ≡ byte) × FitsSyndrome s }
 {}
 
-/// The opcode of a packet of a SEND, of a WRITE or of the answer to a READ has that operation in
-its row, at that place in
+/// The opcode of a packet of a SEND, of a WRITE or of the answer to a READ has that operation in its row, at that place in
 /// the message.
 pub fn operations()
     ensures send { (kind : SendKind) (place : Position)
