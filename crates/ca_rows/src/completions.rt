@@ -11,26 +11,26 @@ use crate::operations::operation_of;
 use crate::reads::local_mark;
 use ca_base::limits::ATOMIC_BYTES;
 use ca_base::{
-    Completion, DeniedAsk, Key, OpRefusal, QueueId, RecvRequest, SendOp, SendRequest, Verdict,
-    WcOp, WcStatus,
+    Completion, DeniedAsk, Key, OpRefusal, PlacedReceive, QueueId, RecvRequest, SendOp,
+    SendRequest, Verdict, WcOp, WcStatus,
 };
 use ca_model::{Mark, Marks};
 
-/// The completion of the send request at a place. With an error it tells of no bytes.
+/// The completion of the send request at a posting place. With an error it tells of no bytes.
 pub fn send_completion(
     queue: QueueId,
-    place: u64,
+    posting: u64,
     request: &SendRequest,
     status: WcStatus,
     bytes: u32,
 ) -> Completion
-    ensures { result ≡ completions.send_completion queue place request.now status bytes }
+    ensures { result ≡ completions.send_completion queue posting request.now status bytes }
 {
     Completion {
         id: request.id,
         queue,
         receive: false,
-        place,
+        place: posting,
         status,
         op: operation_of(&request.op),
         bytes,
@@ -52,16 +52,16 @@ fn bytes_of_success(op: &SendOp) -> u32
 }
 
 /// Adds the completion of a request that succeeded, where it is signalled, in the spare room. It takes no memory.
-pub fn push_success(queue: QueueId, place: u64, request: &SendRequest, marks: &mut Marks)
+pub fn push_success(queue: QueueId, posting: u64, request: &SendRequest, marks: &mut Marks)
     requires list { IsList (list_of request.now.op) }
     requires room { 1 ≤ marks.old.room }
-    ensures { AreAdded (completions.success_marks queue place request.now) marks.old marks.new }
+    ensures { AreAdded (completions.success_marks queue posting request.now) marks.old marks.new }
 {
     if request.signalled {
         let bytes = bytes_of_success(&request.op);
         marks.push(Mark::Done {
             queue,
-            completion: send_completion(queue, place, request, WcStatus::Success, bytes),
+            completion: send_completion(queue, posting, request, WcStatus::Success, bytes),
             cause: None,
         });
     }
@@ -70,44 +70,46 @@ pub fn push_success(queue: QueueId, place: u64, request: &SendRequest, marks: &m
 /// The completion of a request that failed, with its cause where a local operation was refused.
 pub fn failure_mark(
     queue: QueueId,
-    place: u64,
+    posting: u64,
     request: &SendRequest,
     status: WcStatus,
     cause: Option<OpRefusal>,
 ) -> Mark
-    ensures { result ≡ completions.failure_mark queue place request.now status cause }
+    ensures { result ≡ completions.failure_mark queue posting request.now status cause }
 {
     Mark::Done {
         queue,
-        completion: send_completion(queue, place, request, status, 0),
+        completion: send_completion(queue, posting, request, status, 0),
         cause,
     }
 }
 
-/// The completion of the receive at a place.
-pub fn receive_mark(
-    queue: QueueId,
-    place: u64,
-    receive: &RecvRequest,
-    op: WcOp,
-    bytes: u32,
-    imm: Option<u32>,
-    invalidated: Option<Key>,
-) -> Mark
-    ensures { result ≡ completions.receive_mark queue place receive.now WcStatus.Success op bytes imm invalidated }
+/// What the completion of a receive that succeeded tells of its message.
+#[derive(Clone, Copy)]
+pub struct Received {
+    pub op: WcOp,
+    pub bytes: u32,
+    pub imm: Option<u32>,
+    pub invalidated: Option<Key>,
+}
+
+/// The completion of a receive that succeeded.
+pub fn receive_mark(queue: QueueId, receive: &PlacedReceive, received: Received) -> Mark
+    ensures { result ≡ completions.receive_mark queue receive.now.place receive.now.receive WcStatus.Success
+        received.op received.bytes received.imm received.invalidated }
 {
     Mark::Done {
         queue,
         completion: Completion {
-            id: receive.id,
+            id: receive.receive.id,
             queue,
             receive: true,
-            place,
+            place: receive.place,
             status: WcStatus::Success,
-            op,
-            bytes,
-            imm,
-            invalidated,
+            op: received.op,
+            bytes: received.bytes,
+            imm: received.imm,
+            invalidated: received.invalidated,
         },
         cause: None,
     }
@@ -116,12 +118,12 @@ pub fn receive_mark(
 /// The completion of a receive that failed.
 pub fn receive_failure(
     queue: QueueId,
-    place: u64,
+    posting: u64,
     receive: &RecvRequest,
     status: WcStatus,
     cause: Option<OpRefusal>,
 ) -> Mark
-    ensures { result ≡ completions.receive_failure queue place receive.now status cause }
+    ensures { result ≡ completions.receive_failure queue posting receive.now status cause }
 {
     Mark::Done {
         queue,
@@ -129,7 +131,7 @@ pub fn receive_failure(
             id: receive.id,
             queue,
             receive: true,
-            place,
+            place: posting,
             status,
             op: WcOp::Recv,
             bytes: 0,

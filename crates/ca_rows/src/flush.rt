@@ -10,8 +10,8 @@ use ca_model::Mark;
 use ca_qpstate::QueuePart;
 use ca_workqueue::WorkQueue;
 
-/// Adds the completions of all that is posted and unfinished, flushed: the sends from a place on, the receive in use, the
-/// posted receives.
+/// Adds the completions of all that is posted and unfinished, flushed: the sends from a posting place on, the receive in
+/// use, the posted receives.
 pub fn push_flushed(q: &QueuePart, oldest: u64, made: &mut Vec<Mark>) -> Result<(), Memory>
     requires queue { IsQueue q.now }
     requires oldest { q.now.requester.oldest ≤ oldest }
@@ -25,27 +25,28 @@ pub fn push_flushed(q: &QueuePart, oldest: u64, made: &mut Vec<Mark>) -> Result<
     Ok(())
 }
 
-/// Adds the completions of the sends from a place on, flushed; `end` is the place of the next send to be posted.
+/// Adds the completions of the sends from a posting place on, flushed; `end` is that of the next send to be posted.
 #[tactic(auto, using(crate::proofs::QueueLemmas::items_step, crate::proofs::QueueLemmas::items_past, crate::proofs::QueueLemmas::items_none))]
 pub fn push_flushed_sends(
     queue: QueueId,
     sends: &WorkQueue<PostedSend>,
-    place: u64,
+    posting: u64,
     end: u64,
     made: &mut Vec<Mark>,
 ) -> Result<(), Memory>
-    requires posted { sends.now.first ≤ place }
+    requires posted { sends.now.first ≤ posting }
     requires end { end ≡ next_place sends.now }
-    ensures { OnOk result (made.new.items ≡ made.old.items ++ completions.flushed_sends queue place (items_from place sends.now)) }
+    ensures { OnOk result (made.new.items
+        ≡ made.old.items ++ completions.flushed_sends queue posting (items_from posting sends.now)) }
 {
-    if place >= end {
+    if posting >= end {
         return Ok(());
     }
-    let Some(posted) = sends.get(place) else {
+    let Some(posted) = sends.get(posting) else {
         return Ok(());
     };
-    made.push(failure_mark(queue, place, &posted.request, WcStatus::Flushed, None))?;
-    push_flushed_sends(queue, sends, place + 1, end, made)
+    made.push(failure_mark(queue, posting, &posted.request, WcStatus::Flushed, None))?;
+    push_flushed_sends(queue, sends, posting + 1, end, made)
 }
 
 fn push_flushed_message(
@@ -67,7 +68,9 @@ fn push_waiting_receives(
     made: &mut Vec<Mark>,
 ) -> Result<(), Memory>
     requires { IsReceives receives.now }
-    ensures { OnOk result (made.new.items ≡ made.old.items ++ completions.flushed_receives queue receives.now.next_taken (items_from receives.now.next_taken receives.now)) }
+    ensures { OnOk result (made.new.items
+        ≡ made.old.items ++ completions.flushed_receives queue receives.now.next_taken
+        (items_from receives.now.next_taken receives.now)) }
 {
     let end = receives.next_place();
     push_flushed_receives(
@@ -79,25 +82,27 @@ fn push_waiting_receives(
     )
 }
 
-/// Adds the completions of the receives from a place on, flushed; `end` is the place of the next receive to be posted.
+/// Adds the completions of the receives from a posting place on, flushed; `end` is that of the next receive to be
+/// posted.
 #[tactic(auto, using(crate::proofs::QueueLemmas::items_step, crate::proofs::QueueLemmas::items_past, crate::proofs::QueueLemmas::items_none))]
 pub fn push_flushed_receives(
     queue: QueueId,
     receives: &WorkQueue<RecvRequest>,
-    place: u64,
+    posting: u64,
     end: u64,
     made: &mut Vec<Mark>,
 ) -> Result<(), Memory>
-    requires posted { receives.now.first ≤ place }
+    requires posted { receives.now.first ≤ posting }
     requires end { end ≡ next_place receives.now }
-    ensures { OnOk result (made.new.items ≡ made.old.items ++ completions.flushed_receives queue place (items_from place receives.now)) }
+    ensures { OnOk result (made.new.items
+        ≡ made.old.items ++ completions.flushed_receives queue posting (items_from posting receives.now)) }
 {
-    if place >= end {
+    if posting >= end {
         return Ok(());
     }
-    let Some(receive) = receives.get(place) else {
+    let Some(receive) = receives.get(posting) else {
         return Ok(());
     };
-    made.push(receive_failure(queue, place, receive, WcStatus::Flushed, None))?;
-    push_flushed_receives(queue, receives, place + 1, end, made)
+    made.push(receive_failure(queue, posting, receive, WcStatus::Flushed, None))?;
+    push_flushed_receives(queue, receives, posting + 1, end, made)
 }

@@ -20,7 +20,8 @@ mod writes;
 
 pub use asks::first_denied;
 pub use completions::{
-    failure_mark, local_denial, push_success, receive_failure, receive_mark, send_completion,
+    Received, failure_mark, local_denial, push_success, receive_failure, receive_mark,
+    send_completion,
 };
 pub use flush::{push_flushed, push_flushed_receives, push_flushed_sends};
 pub use list::{Asker, fill_asks, list_asks, list_length};

@@ -68,7 +68,8 @@ fn push_asks(
     asks: &mut ArrayVec<Ask, MAX_PIECES>,
 )
     requires few { length asks.old.items + length list.now ≤ MAX_PIECES }
-    ensures { asks.new.items ≡ asks.old.items ++ numbering.list_asks asker.queue asker.domain asker.kind skip count list.now }
+    ensures { asks.new.items
+        ≡ asks.old.items ++ numbering.list_asks asker.queue asker.domain asker.kind skip count list.now }
 {
     let [piece, rest @ ..] = list else {
         return;
@@ -87,7 +88,8 @@ fn push_asks(
 
 /// The ask for a part of a piece, by its L_Key: so many bytes, without so many at its front. Addresses count modulo 2^64.
 fn piece_ask(asker: Asker, piece: &Piece, skip: u32, count: u32) -> Ask
-    ensures { result ≡ numbering.piece_ask asker.queue asker.domain asker.kind (numbering.piece_part piece.now skip count) }
+    ensures { result ≡ numbering.piece_ask asker.queue asker.domain asker.kind
+        (numbering.piece_part piece.now skip count) }
 {
     Ask {
         queue: asker.queue,
