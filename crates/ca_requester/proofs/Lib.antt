@@ -1,2 +1,3 @@
+pub mod ProgressLemmas
 pub mod ResponseLemmas
 pub mod TakingLemmas

@@ -11,11 +11,11 @@ use Rattle.ca_model.specs.machine.Invariants.{IsQueue}
 use Rattle.ca_model.specs.machine.Numbering.{Numbered, request_at}
 use Rattle.ca_model.specs.machine.Responses.{answer_row, fits_request, fitting_row, unless_back}
 use Rattle.ca_model.specs.machine.Row.{Effects, Row, plain_row, Does}
-use Rattle.ca_progress.proofs.OutcomeLemmas.{are_ahead}
-use Rattle.ca_progress.specs.declared.outcome.Outcome.{Outcome}
+use Rattle.ca_sending.proofs.OutcomeLemmas.{are_ahead}
+use Rattle.ca_sending.specs.declared.outcome.Outcome.{Outcome}
 use Rattle.ca_requester.specs.declared.responses.Ended.{Ended}
-use Rattle.ca_progress.specs.Outcome.{numbers_of, outcome_effects}
-use Rattle.ca_progress.specs.Progress.{AreNumbers, acknowledgement_of, success_between}
+use Rattle.ca_sending.specs.Outcome.{numbers_of, outcome_effects}
+use Rattle.ca_requester.specs.Progress.{AreNumbers, acknowledgement_of, success_between}
 use Rattle.ca_requester.specs.Responses.{IsEnd, fitting}
 
 -- where what is acknowledged are the requests before the oldest one of such numbers, others with the same oldest end it

@@ -16,8 +16,8 @@ ghost use Rattle.ca_model.specs.Packets.{is_response};
 ghost use Rattle.ca_rows.specs.Asks.{CanWrite, IsAskOf, IsGranted, IsWrite, asks_of, touched_by};
 ghost use Rattle.ca_rows.specs.Done.{IsTaking, handed, written_all};
 ghost use Rattle.ca_model.specs.machine.CanStep.{CanStep};
-ghost use Rattle.ca_progress.specs.Numbering.{IsSound};
-ghost use Rattle.ca_progress.specs.Progress.{AreNumbers, acknowledgement_of, numbers_behind, success_between};
+ghost use Rattle.ca_sending.specs.Numbering.{IsSound};
+ghost use Rattle.ca_requester.specs.Progress.{AreNumbers, acknowledgement_of, numbers_behind, success_between};
 ghost use Rattle.ca_requester.specs.Responses.{IsAnswer, IsEnd, answer_effects, denied_effects, ended_effects};
 
 use crate::responses::{
@@ -28,7 +28,7 @@ use ca_base::limits::{ATOMIC_BYTES, MAX_PIECES};
 use ca_base::{Ask, Bytes, DeniedAsk, Kind, Memory, QueueId, RequesterNumbers, WcStatus};
 use ca_grant::Reach;
 use ca_model::{Drop1, Mark, Marks};
-use ca_progress::{
+use ca_sending::{
     Acknowledged, Failure, Outcome, acknowledged_below, complete_before, fail, fail_alone,
     finished_count, go, numbers_after, progressed, push_finished,
 };
@@ -86,7 +86,7 @@ fn asks_for(q: &QueuePart, p: &Packet<'_>, answer: &Answer<'_>) -> ArrayVec<Ask,
 }
 
 /// Where an answer's bytes begin in its request's message.
-#[tactic(auto, using(ca_progress::proofs::NumberingLemmas::few_before))]
+#[tactic(auto, using(ca_sending::proofs::NumberingLemmas::few_before))]
 fn bytes_before(q: &QueuePart, answer: &Answer<'_>) -> u32
     requires queue { IsQueue q.now }
     requires sound { IsSound q.now answer.now.request }
@@ -174,7 +174,7 @@ fn take_ack(alloc: Global, q: &mut QueuePart, psn: u64, marks: &mut Marks) -> Re
 }
 
 /// The requests before the one that is the oldest now complete, and the requester goes on.
-#[tactic(auto, using(ca_progress::proofs::OutcomeLemmas::are_ahead))]
+#[tactic(auto, using(ca_sending::proofs::OutcomeLemmas::are_ahead))]
 #[inline(always)]
 fn go_on(q: &mut QueuePart, acknowledged: &Acknowledged, marks: &mut Marks) -> Result<(), Memory>
     requires queue { IsQueue q.old }
@@ -310,7 +310,7 @@ fn drop_packet(queue: QueueId, cause: Drop1, marks: &mut Marks) -> Result<(), Me
 }
 
 /// What is acknowledged completes, and then comes the outcome.
-#[tactic(auto, using(ca_progress::proofs::ProgressLemmas::own_numbers))]
+#[tactic(auto, using(crate::proofs::ProgressLemmas::own_numbers))]
 fn end(alloc: Global, q: &mut QueuePart, ended: Ended, marks: &mut Marks) -> Result<(), Memory>
     requires step { CanStep q.old }
     requires end { IsEnd q.old ended }
@@ -327,7 +327,7 @@ fn end(alloc: Global, q: &mut QueuePart, ended: Ended, marks: &mut Marks) -> Res
 }
 
 /// The list is denied: the request fails.
-#[tactic(auto, using(ca_progress::proofs::ProgressLemmas::own_numbers, ca_progress::proofs::OutcomeLemmas::are_ahead))]
+#[tactic(auto, using(crate::proofs::ProgressLemmas::own_numbers, ca_sending::proofs::OutcomeLemmas::are_ahead))]
 fn deny(
     alloc: Global,
     q: &mut QueuePart,
@@ -389,7 +389,7 @@ fn place<R: Reach>(
 }
 
 /// The answer's bytes are written, and all up to its PSN is acknowledged.
-#[tactic(auto, using(ca_progress::proofs::ProgressLemmas::own_numbers))]
+#[tactic(auto, using(crate::proofs::ProgressLemmas::own_numbers))]
 fn finish<R: Reach>(
     alloc: Global,
     q: &mut QueuePart,

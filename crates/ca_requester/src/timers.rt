@@ -9,7 +9,7 @@ ghost use Rattle.ca_requester.specs.Timers.{reason_of};
 use ca_base::limits::MAX_RETRY;
 use ca_base::{Memory, Reason, RequesterNumbers, StepError};
 use ca_model::{Mark, Marks};
-use ca_progress::{Outcome, fail, is_sending, one_retry};
+use ca_sending::{Outcome, fail, is_sending, one_retry};
 use ca_qpstate::QueuePart;
 use std::alloc::Global;
 

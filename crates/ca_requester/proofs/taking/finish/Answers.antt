@@ -2,7 +2,7 @@ use Rattle.std.proofs.Common.{rules, suc}
 use Rattle.ca_model.specs.machine.Acknowledgements.{progress_to, with_requester}
 use Rattle.ca_model.specs.machine.Responses.{local_writes}
 use Rattle.ca_requester.proofs.TakingLemmas.{three-appended}
-use Rattle.ca_progress.specs.Progress.{success_between}
+use Rattle.ca_requester.specs.Progress.{success_between}
 use Rattle.ca_requester.proofs.taking.finish.Goals as goal
 
 pub returns-clause-marks : goal.returns-clause-marks

@@ -3,7 +3,7 @@ use Rattle.ca_model.specs.declared.mark.Mark.{Mark}
 use Rattle.ca_model.specs.declared.mark.Mark.TheVariants as marks
 use Rattle.ca_model.specs.machine.Acknowledgements.{failure_effects, with_requester}
 use Rattle.ca_model.specs.machine.Row.{Effects}
-use Rattle.ca_progress.proofs.FinishedLemmas.{nothing-between}
+use Rattle.ca_sending.proofs.FinishedLemmas.{nothing-between}
 use Rattle.ca_requester.proofs.timers.on_timeout.Goals as goal
 
 pub returns-in_ok-go_back_on_timeout-in-Goes-clause-queue : goal.returns-in_ok-go_back_on_timeout-in-Goes-clause-queue
