@@ -10,15 +10,16 @@ use Rattle.ca_base.specs.declared.request.SendOp.TheVariants as ops
 use Rattle.ca_base.specs.declared.request.PostedSend.{PostedSend}
 use Rattle.ca_base.specs.objects.QueuePair.{QueuePair}
 use Rattle.ca_base.specs.objects.WorkQueue.{items_from}
-use Rattle.ca_model.specs.machine.Acknowledgements.{acknowledgement_below, after_finished, finished_marks, first_unanswered, progress_to, with_requester}
+use Rattle.ca_model.specs.machine.Acknowledgements.{after_finished, finished_marks, first_unanswered, progress_to, with_requester}
 use Rattle.ca_model.specs.Requests.{psns_of}
 use Rattle.ca_model.specs.machine.Completions.{success_marks}
 use Rattle.ca_model.specs.machine.Numbering.{Numbered, begun_requests, is_answered_op, numbers_of, psn_end}
-use Rattle.ca_model.specs.machine.Invariants.{IsQueue}
-use Rattle.ca_model.specs.machine.CanStep.{AreNarrow}
+use Rattle.ca_model.specs.machine.CanStep.{CanStep}
+use Rattle.ca_requester.specs.declared.progress.Reached.{Reached}
+use Rattle.ca_requester.specs.Progress.{IsAcknowledged, IsProgress, IsReached, finished_from, finished_marks_from, numbers_with_una, reached_numbers, una_behind}
 use Rattle.ca_sending.proofs.NumberingLemmas.{start_within}
-use Rattle.ca_sending.specs.Numbering.{begun_from, numbers_from}
-use Rattle.ca_requester.specs.Progress.{AreNumbers, acknowledgement_of, finished_from, finished_marks_from, numbers_with_una, success_between, success_from, una_behind}
+use Rattle.ca_sending.specs.Finished.{success_between, success_from}
+use Rattle.ca_sending.specs.Numbering.{AreNumbers, IsWithin, begun_from, numbers_from}
 
 -- a choice that is not made
 skips : (b : Bool) (x y : Option ℕ) → b ≡ false → y ≡ None → (if b then x else y) ≡ None
@@ -223,23 +224,76 @@ progress_success q numbers psn una place next grows at =
     count = omega (arith, at)
 
 -- the numbers that a queue pair has
-pub own_numbers : (q : QueuePair) → IsQueue q → AreNarrow q → AreNumbers q q.requester
-own_numbers q is narrow = record {
-  within = start_within q is narrow;
+pub own_numbers : (q : QueuePair) → CanStep q → AreNumbers q q.requester
+own_numbers q step = record {
+  within = start_within q step;
   next = refl;
   oldest = omega arith;
-  begun = is.requester.begun;
-  retries = omega (arith, is.requester.retried, is.requester.retry);
-  rnrs = narrow.rnrs;
+  begun = step.queue.requester.begun;
+  retries = omega (arith, step.queue.requester.retried, step.queue.requester.retry);
+  rnrs = step.narrow.rnrs;
 }
 
-pub goes_on : (q : QueuePair) (psn : ℕ) → first_unanswered q.requester.una psn (begun_requests q) ≡ None
-    → acknowledgement_below psn q ≡ acknowledgement_of false psn q
-goes_on q psn e = rw e refl
+-- numbers up to where an acknowledgement goes may be gone on with
+kept : (q : QueuePair) (from : RequesterNumbers) (psn : ℕ) (r : Reached) → AreNumbers q from → IsWithin r.posting r.first q
+    → (from.oldest ≤ q.requester.next → r.posting ≤ q.requester.next) → from.oldest ≤ r.posting
+    → AreNumbers q (reached_numbers psn r.posting r.first from)
+kept q from psn r are within begun later = by (nat_lt from.una psn)
+  where
+    begun_now : r.posting ≤ from.next
+    begun_now = omega (arith, are.next, begun (omega (arith, are.begun, are.next)))
 
-pub goes_back : (q : QueuePair) (psn back : ℕ) → first_unanswered q.requester.una psn (begun_requests q) ≡ Some back
-    → acknowledgement_below psn q ≡ acknowledgement_of true back q
-goes_back q psn back e = rw e refl
+    by : (b : Bool) → AreNumbers q (record (if b then record from { una = psn; retries = 0; rnrs = 0 } else from) { oldest = r.posting; oldest_psn = r.first })
+    by true = record {
+      within = within;
+      next = are.next;
+      oldest = omega (arith, are.oldest, later);
+      begun = begun_now;
+      retries = omega arith;
+      rnrs = omega arith;
+    }
+    by false = record {
+      within = within;
+      next = are.next;
+      oldest = omega (arith, are.oldest, later);
+      begun = begun_now;
+      retries = are.retries;
+      rnrs = are.rnrs;
+    }
+
+-- what is reached under a PSN is how far numbers go
+pub is_progress : (q : QueuePair) (from : RequesterNumbers) (psn una end : ℕ) (r : Reached) → AreNumbers q from
+    → IsReached from.oldest from.oldest_psn una end q r → una_behind una end r.back ≡ (numbers_with_una psn from).una
+    → IsProgress psn from (reached_numbers psn r.posting r.first from) q
+is_progress q from psn una end r are is grows = record {
+  may = kept q from psn r are is.within is.begun later;
+  later = later;
+  queue = progress_queue q from psn (una_behind una end r.back) r.posting r.first are.next grows is.posting is.at;
+  finished = progress_success q from psn (una_behind una end r.back) r.posting are.next grows is.posting;
+}
+  where
+    later : from.oldest ≤ r.posting
+    later = omega (arith, is.posting)
+
+pub goes_on : (q : QueuePair) (psn : ℕ) (r : Reached) → CanStep q → IsReached q.requester.oldest q.requester.oldest_psn q.requester.una psn q r → r.back ≡ None
+    → IsAcknowledged psn q (record { until = psn; went_back = false; posting = r.posting; first = r.first })
+goes_on q psn r step is e = record {
+  makes = rw (sym is.back ∙ e) refl;
+  progress = is_progress q q.requester psn q.requester.una psn r (own_numbers q step) is (ap (una_behind q.requester.una psn) e ∙ grown_on psn q.requester);
+  on = λ f. refl;
+}
+
+pub goes_back : (q : QueuePair) (psn back : ℕ) (r : Reached) → CanStep q → IsReached q.requester.oldest q.requester.oldest_psn q.requester.una psn q r → r.back ≡ Some back
+    → IsAcknowledged psn q (record { until = back; went_back = true; posting = r.posting; first = r.first })
+goes_back q psn back r step is e = record {
+  makes = rw (sym is.back ∙ e) refl;
+  progress = is_progress q q.requester back q.requester.una psn r (own_numbers q step) is
+      (ap (una_behind q.requester.una psn) e ∙ grown_back back q.requester (subst P e is.behind).0);
+  on = λ f. absurd (true≢false f);
+}
+  where
+    P : Option ℕ → Type 0
+    P o = IfSome o (λ back. (q.requester.una ≤ back) × (q.requester.oldest_psn ≤ back))
 
 -- where none has begun from a place on, none is finished
 pub finished-past : (q : QueuePair) (place psn una : ℕ) → begun_from place psn q ≡ [] → finished_from place psn una q ≡ []

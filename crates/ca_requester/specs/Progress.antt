@@ -30,7 +30,7 @@ pub record IsReached (place first una psn : ℕ) (q : QueuePair) (r : Reached) :
   pub back : r.back ≡ first_unanswered una psn (begun_from place first q)
   pub behind : IfSome r.back (λ back. (una ≤ back) × (first ≤ back))
   pub posting : r.posting ≡ place + length (finished_from place first (una_behind una psn r.back) q)
-  pub psn : r.first ≡ first + sum_by (λ n. n.count) (finished_from place first (una_behind una psn r.back) q)
+  pub at : r.first ≡ first + sum_by (λ n. n.count) (finished_from place first (una_behind una psn r.back) q)
   pub within : IsWithin r.posting r.first q
   pub begun : place ≤ q.requester.next → r.posting ≤ q.requester.next
 
@@ -48,7 +48,7 @@ numbers_behind a q = reached_numbers a.until a.posting a.first q.requester
 
 -- numbers that a queue pair may go on with after all below a PSN is acknowledged, from others that it may go on with
 pub record IsProgress (psn : ℕ) (from numbers : RequesterNumbers) (q : QueuePair) : Type 0 where
-  pub numbers : AreNumbers q numbers
+  pub may : AreNumbers q numbers
   pub later : from.oldest ≤ numbers.oldest
   pub queue : with_requester numbers q ≡ (progress_to psn (with_requester from q)).queue
   pub finished : (progress_to psn (with_requester from q)).marks ≡ success_between from.oldest numbers.oldest q

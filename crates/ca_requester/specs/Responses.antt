@@ -1,5 +1,6 @@
 -- What a response makes of a requester, before it is made, and the row that it is. Contracts cite it.
 use Rattle.std.specs.Prelude.{◌≡◌, ℕ, ◌^◌, ◌<◌, suc, true, if◌then◌else◌, List, [], ◌∷◌, ◌++◌, Option, None, Some}
+use Rattle.std.specs.List.{AllByRecursion}
 use Rattle.std.specs.Option.{option_and_then}
 use Rattle.ca_keys.specs.declared.access.Ask.{Ask}
 use Rattle.ca_base.specs.declared.completion.WcStatus.TheVariants.{LocalProtection}
@@ -11,6 +12,8 @@ use Rattle.ca_model.specs.machine.Requester.{local_denial}
 use Rattle.ca_model.specs.machine.Responses.{answer_bytes, answer_row, drop_effects, fits_request, fitting_row, local_writes, nak_effects, response_row, rnr_nak_effects, unless_back, writes_by}
 use Rattle.ca_model.specs.machine.Row.{Effects, Row, plain_row, Does}
 use Rattle.ca_packet.specs.Packet.{Fields}
+use Rattle.ca_base.specs.Sight.{Sight}
+use Rattle.ca_rows.specs.Asks.{IsGranted}
 use Rattle.ca_requester.specs.declared.taking.Taken.{Taken}
 use Rattle.ca_requester.specs.declared.responses.Answer.{Answer}
 use Rattle.ca_requester.specs.declared.responses.Arrival.{Arrival}
@@ -79,3 +82,9 @@ answer_effects t p asks q = record (and_then (progress_to t.psn q) (λ q.
   where
     writes : List (Ask × List ℕ)
     writes = writes_by asks (answer_bytes p)
+
+-- the bytes that these asks touch may be written: they and the parts of their keys are at hand, and none is denied
+pub record CanWriteBy {S : Type 0} (sight : S → Sight) (judges touches : S → Ask → Type 0) (reach : S) (asks : List Ask) : Type 0 where
+  pub keys : AllByRecursion (judges reach) asks
+  pub bytes : AllByRecursion (touches reach) asks
+  pub granted : AllByRecursion (IsGranted (sight reach)) asks

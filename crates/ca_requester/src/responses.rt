@@ -14,10 +14,10 @@ use crate::progress::{Acknowledged, acknowledged_below, numbers_after};
 use ca_base::limits::MAX_RETRY;
 use ca_base::{RequesterNumbers, WcStatus};
 use ca_model::Drop1;
-use ca_sending::{Failure, Numbered, Outcome, is_sending, one_retry, request_under};
 use ca_psn::widen;
 use ca_qpstate::QueuePart;
 use ca_rows::{is_atomic, is_read, list_length, list_of};
+use ca_sending::{Failure, Numbered, Outcome, is_sending, one_retry, request_under};
 use ca_wire::opcode::{
     ACKNOWLEDGE, ATOMIC_ACKNOWLEDGE, RDMA_READ_RESPONSE_LAST, RDMA_READ_RESPONSE_ONLY,
 };
@@ -91,7 +91,6 @@ fn syndrome_of(p: &Packet<'_>) -> Option<Syndrome>
 }
 
 /// A READ or an atomic that was not answered is an implied NAK: one retry, and back to it.
-#[tactic(auto, using(crate::proofs::ResponseLemmas::makes_back))]
 pub(crate) fn on_implied_nak(q: &QueuePart, acknowledged: &Acknowledged) -> Outcome
     requires { IsProgress acknowledged.now.until q.now.requester (numbers_behind acknowledged.now q.now) q.now }
     ensures { Makes (acknowledgement_of true acknowledged.now.until q.now).effects q.now result }
@@ -100,7 +99,6 @@ pub(crate) fn on_implied_nak(q: &QueuePart, acknowledged: &Acknowledged) -> Outc
 }
 
 /// An RNR NAK of the request at a PSN.
-#[tactic(auto, using(crate::proofs::ResponseLemmas::makes_on, crate::proofs::ResponseLemmas::makes_unless))]
 pub(crate) fn on_rnr_nak(q: &QueuePart, psn: u64) -> Outcome
     requires { CanStep q.now }
     ensures { Makes (rows.unless_back (acknowledgement_below psn q.now) (rows.rnr_nak_effects psn)) q.now result }
@@ -113,7 +111,6 @@ pub(crate) fn on_rnr_nak(q: &QueuePart, psn: u64) -> Outcome
 }
 
 /// A NAK of the request at a PSN.
-#[tactic(auto, using(crate::proofs::ResponseLemmas::makes_on, crate::proofs::ResponseLemmas::makes_unless))]
 pub(crate) fn on_nak(q: &QueuePart, psn: u64, code: NakCode) -> Outcome
     requires { CanStep q.now }
     ensures { Makes (rows.unless_back (acknowledgement_below psn q.now) (rows.nak_effects psn code)) q.now result }

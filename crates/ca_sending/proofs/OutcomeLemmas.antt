@@ -10,6 +10,7 @@ use Rattle.ca_model.specs.declared.mark.Mark.{Mark}
 use Rattle.ca_model.specs.machine.Acknowledgements.{failure_effects, without_oldest}
 use Rattle.ca_model.specs.machine.Completions.{failure_mark, flush_marks}
 use Rattle.ca_model.specs.Marks.{MarkList}
+use Rattle.ca_model.specs.machine.Invariants.{IsQueue}
 use Rattle.ca_model.specs.declared.marks.TheConstants.{SPARE_MARKS}
 use Rattle.ca_rows.specs.Made.{AreAdded, HasMade}
 use Rattle.ca_sending.proofs.FinishedLemmas.{added_behind, few_finished}
@@ -40,6 +41,14 @@ is_ahead q numbers place are e = record {
   queue = are.within.queue;
   oldest = omega (arith, are.oldest, e);
   posted = omega (arith, are.begun, are.next, are.within.queue.requester.waiting, e);
+}
+
+-- the one that is the oldest now is ahead
+pub is_ahead_now : (q : QueuePair) (place : ℕ) → IsQueue q → place ≡ q.requester.oldest → IsAhead place q
+is_ahead_now q place is e = record {
+  queue = is;
+  oldest = omega (arith, e);
+  posted = omega (arith, e, is.requester.begun, is.requester.waiting);
 }
 
 -- one mark at most

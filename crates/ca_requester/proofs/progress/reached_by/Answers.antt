@@ -4,32 +4,32 @@ use Rattle.ca_requester.proofs.ProgressLemmas.{behind-earlier, ends-before, ends
 use Rattle.ca_requester.specs.Progress.{una_behind}
 use Rattle.ca_requester.proofs.progress.reached_by.Goals as goal
 
-pub returns-then-is_unanswered-clause-back : goal.returns-then-is_unanswered-clause-back
-returns-then-is_unanswered-clause-back c =
+pub returns-then-is_unanswered : goal.returns-then-is_unanswered
+returns-then-is_unanswered c =
     let e : c.max.result ≡ max c.args.una c.in-Some.n.first = search rules in
-    ap Some e
-    ∙ sym (unanswered-here c.args.q.now c.loop-n.place c.loop-n.first c.args.una c.args.psn c.in-Some.n (search rules) (search rules) (search rules))
-    ∙ c.loop-n.invariant.1.1.1.0
-
-pub returns-then-is_unanswered-clause-place : goal.returns-then-is_unanswered-clause-place
-returns-then-is_unanswered-clause-place c =
-    let e : c.max.result ≡ max c.args.una c.in-Some.n.first = search rules in
-    omega (
-      arith,
-      (c.loop-n.invariant.1.1.1.1 (Some c.max.result) (omega (arith, e), omega (arith, e, c.in-Some.ensures.first))).0,
-      ap length (finished-none c.args.q.now c.loop-n.place c.loop-n.first c.max.result c.in-Some.n (search rules) (search rules)
-          (ends-behind c.args.q.now.responder.mtu c.args.una c.args.psn c.max.result c.in-Some.n e (search rules) (search rules))),
-    )
-
-pub returns-then-is_unanswered-clause-first : goal.returns-then-is_unanswered-clause-first
-returns-then-is_unanswered-clause-first c =
-    let e : c.max.result ≡ max c.args.una c.in-Some.n.first = search rules in
-    omega (
-      arith,
-      (c.loop-n.invariant.1.1.1.1 (Some c.max.result) (omega (arith, e), omega (arith, e, c.in-Some.ensures.first))).1,
-      ap (sum_by (λ (n : Numbered). n.count)) (finished-none c.args.q.now c.loop-n.place c.loop-n.first c.max.result c.in-Some.n (search rules) (search rules)
-          (ends-behind c.args.q.now.responder.mtu c.args.una c.args.psn c.max.result c.in-Some.n e (search rules) (search rules))),
-    )
+    record {
+      back =
+          ap Some e
+          ∙ sym (unanswered-here c.args.q.now c.loop-n.posting c.loop-n.first c.args.una c.args.psn c.in-Some.n (search rules) (search rules) (search rules))
+          ∙ c.loop-n.invariant.1.1.1.0;
+      behind = (omega (arith, e), omega (arith, e, c.in-Some.ensures.some.first));
+      posting =
+          omega (
+            arith,
+            (c.loop-n.invariant.1.1.1.1 (Some c.max.result) (omega (arith, e), omega (arith, e, c.in-Some.ensures.some.first))).0,
+            ap length (finished-none c.args.q.now c.loop-n.posting c.loop-n.first c.max.result c.in-Some.n (search rules) (search rules)
+                (ends-behind c.args.q.now.responder.mtu c.args.una c.args.psn c.max.result c.in-Some.n e (search rules) (search rules))),
+          );
+      at =
+          omega (
+            arith,
+            (c.loop-n.invariant.1.1.1.1 (Some c.max.result) (omega (arith, e), omega (arith, e, c.in-Some.ensures.some.first))).1,
+            ap (sum_by (λ (n : Numbered). n.count)) (finished-none c.args.q.now c.loop-n.posting c.loop-n.first c.max.result c.in-Some.n (search rules) (search rules)
+                (ends-behind c.args.q.now.responder.mtu c.args.una c.args.psn c.max.result c.in-Some.n e (search rules) (search rules))),
+          );
+      within = search rules;
+      begun = search rules;
+    }
 
 pub loop-n-preserved : goal.loop-n-preserved
 loop-n-preserved c = (
@@ -39,14 +39,14 @@ loop-n-preserved c = (
     (
       omega (arith, c.loop-n.invariant.1.1.0),
       (
-        sym (unanswered-behind c.args.q.now c.loop-n.place (c.loop-n.place + 1) c.loop-n.first (c.loop-n.first + c.from-first.result) c.args.una c.args.psn c.in-Some.n
+        sym (unanswered-behind c.args.q.now c.loop-n.posting (c.loop-n.posting + 1) c.loop-n.first (c.loop-n.first + c.from-first.result) c.args.una c.args.psn c.in-Some.n
             (omega arith) (search rules) (search rules) (search rules) (search rules)) ∙ c.loop-n.invariant.1.1.1.0,
         λ back behind. (
-          sym (finished-places c.args.q.now c.loop-n.place (c.loop-n.place + 1) c.loop-n.first (c.loop-n.first + c.from-first.result) (una_behind c.args.una c.args.psn back) c.in-Some.n
+          sym (finished-places c.args.q.now c.loop-n.posting (c.loop-n.posting + 1) c.loop-n.first (c.loop-n.first + c.from-first.result) (una_behind c.args.una c.args.psn back) c.in-Some.n
               (omega arith) (search rules) (search rules) (search rules)
               (ends-before c.args.una c.args.psn c.loop-n.first (c.loop-n.first + c.from-first.result) c.end.result c.in-Some.n back (search rules) (search rules) (search rules) (omega arith) behind))
               ∙ (c.loop-n.invariant.1.1.1.1 back (behind-earlier c.args.una c.loop-n.first (c.loop-n.first + c.from-first.result) back (omega arith) behind)).0,
-          sym (finished-psns c.args.q.now c.loop-n.place (c.loop-n.place + 1) c.loop-n.first (c.loop-n.first + c.from-first.result) (una_behind c.args.una c.args.psn back) c.in-Some.n
+          sym (finished-psns c.args.q.now c.loop-n.posting (c.loop-n.posting + 1) c.loop-n.first (c.loop-n.first + c.from-first.result) (una_behind c.args.una c.args.psn back) c.in-Some.n
               (omega arith) (search rules) (search rules) (search rules)
               (ends-before c.args.una c.args.psn c.loop-n.first (c.loop-n.first + c.from-first.result) c.end.result c.in-Some.n back (search rules) (search rules) (search rules) (omega arith) behind))
               ∙ (c.loop-n.invariant.1.1.1.1 back (behind-earlier c.args.una c.loop-n.first (c.loop-n.first + c.from-first.result) back (omega arith) behind)).1,
@@ -56,40 +56,45 @@ loop-n-preserved c = (
   ),
 )
 
-pub returns-then-end-max-clause-back : goal.returns-then-end-max-clause-back
-returns-then-end-max-clause-back c =
-    unanswered-none c.args.q.now c.loop-n.place c.loop-n.first c.args.una c.args.psn c.in-Some.n
-    (search rules) (search rules) (search rules) (search rules) c.end.result (search rules) (omega arith)
-    ∙ c.loop-n.invariant.1.1.1.0
+pub returns-then-end-max : goal.returns-then-end-max
+returns-then-end-max c = record {
+  back =
+      unanswered-none c.args.q.now c.loop-n.posting c.loop-n.first c.args.una c.args.psn c.in-Some.n
+      (search rules) (search rules) (search rules) (search rules) c.end.result (search rules) (omega arith)
+      ∙ c.loop-n.invariant.1.1.1.0;
+  behind = tt;
+  posting =
+      omega (
+        arith,
+        (c.loop-n.invariant.1.1.1.1 None tt).0,
+        ap length (finished-none c.args.q.now c.loop-n.posting c.loop-n.first (max c.args.una c.args.psn) c.in-Some.n (search rules) (search rules) (search rules)),
+      );
+  at =
+      omega (
+        arith,
+        (c.loop-n.invariant.1.1.1.1 None tt).1,
+        ap (sum_by (λ (n : Numbered). n.count)) (finished-none c.args.q.now c.loop-n.posting c.loop-n.first (max c.args.una c.args.psn) c.in-Some.n (search rules) (search rules) (search rules)),
+      );
+  within = search rules;
+  begun = search rules;
+}
 
-pub returns-then-end-max-clause-place : goal.returns-then-end-max-clause-place
-returns-then-end-max-clause-place c =
-    omega (
-      arith,
-      (c.loop-n.invariant.1.1.1.1 None tt).0,
-      ap length (finished-none c.args.q.now c.loop-n.place c.loop-n.first (max c.args.una c.args.psn) c.in-Some.n (search rules) (search rules) (search rules)),
-    )
-
-pub returns-then-end-max-clause-first : goal.returns-then-end-max-clause-first
-returns-then-end-max-clause-first c =
-    omega (
-      arith,
-      (c.loop-n.invariant.1.1.1.1 None tt).1,
-      ap (sum_by (λ (n : Numbered). n.count)) (finished-none c.args.q.now c.loop-n.place c.loop-n.first (max c.args.una c.args.psn) c.in-Some.n (search rules) (search rules) (search rules)),
-    )
-
-pub returns-in_default-clause-place : goal.returns-in_default-clause-place
-returns-in_default-clause-place c =
-    omega (
-      arith,
-      (c.loop-n.invariant.1.1.1.1 None tt).0,
-      ap length (finished-past c.args.q.now c.loop-n.place c.loop-n.first (max c.args.una c.args.psn) (search rules)),
-    )
-
-pub returns-in_default-clause-first : goal.returns-in_default-clause-first
-returns-in_default-clause-first c =
-    omega (
-      arith,
-      (c.loop-n.invariant.1.1.1.1 None tt).1,
-      ap (sum_by (λ (n : Numbered). n.count)) (finished-past c.args.q.now c.loop-n.place c.loop-n.first (max c.args.una c.args.psn) (search rules)),
-    )
+pub returns-in_default : goal.returns-in_default
+returns-in_default c = record {
+  back = search rules;
+  behind = tt;
+  posting =
+      omega (
+        arith,
+        (c.loop-n.invariant.1.1.1.1 None tt).0,
+        ap length (finished-past c.args.q.now c.loop-n.posting c.loop-n.first (max c.args.una c.args.psn) (search rules)),
+      );
+  at =
+      omega (
+        arith,
+        (c.loop-n.invariant.1.1.1.1 None tt).1,
+        ap (sum_by (λ (n : Numbered). n.count)) (finished-past c.args.q.now c.loop-n.posting c.loop-n.first (max c.args.una c.args.psn) (search rules)),
+      );
+  within = search rules;
+  begun = search rules;
+}
