@@ -1,2 +1,4 @@
+pub mod ProgressLemmas
 pub mod ResponseLemmas
 pub mod TakingLemmas
+pub mod TimerLemmas

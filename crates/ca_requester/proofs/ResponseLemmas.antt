@@ -1,42 +1,73 @@
 -- What a response makes: the row of an acknowledgement that went on, and the request that an answer fits.
-use Rattle.std.proofs.Common.{◌≡◌, ℕ, refl, sym, ap, ◌∙◌, Bool, true, false, if◌then◌else◌, Option, None, Some}
+use Rattle.std.proofs.Common.{◌≡◌, ℕ, ◌<◌, ◌^◌, refl, sym, ap, ◌∙◌, Bool, true, false, if◌then◌else◌, [], Option, None, Some}
+use Rattle.std.specs.Option.{option_and_then}
 use Rattle.ca_base.specs.declared.queue_numbers.RequesterNumbers.{RequesterNumbers}
 use Rattle.ca_base.specs.declared.completion.WcStatus.TheVariants.{BadResponse}
 use Rattle.ca_base.specs.objects.QueuePair.{QueuePair}
 use Rattle.ca_packet.specs.Packet.{Fields}
-use Rattle.std.specs.Option.{option_and_then}
-use Rattle.ca_model.specs.machine.Acknowledgements.{acknowledgement_below, and_then, failure_effects, progress_to, with_requester}
+use Rattle.ca_model.specs.machine.Acknowledgements.{acknowledgement_below, and_then, failure_effects, one_retry, progress_to, with_requester}
 use Rattle.ca_model.specs.machine.Expected.{behind_marks}
-use Rattle.ca_model.specs.machine.Invariants.{IsQueue}
 use Rattle.ca_model.specs.machine.Numbering.{Numbered, request_at}
 use Rattle.ca_model.specs.machine.Responses.{answer_row, fits_request, fitting_row, unless_back}
 use Rattle.ca_model.specs.machine.Row.{Effects, Row, plain_row, Does}
-use Rattle.ca_progress.proofs.OutcomeLemmas.{are_ahead}
-use Rattle.ca_progress.specs.declared.outcome.Outcome.{Outcome}
-use Rattle.ca_requester.specs.declared.responses.Ended.{Ended}
-use Rattle.ca_progress.specs.Outcome.{numbers_of, outcome_effects}
-use Rattle.ca_progress.specs.Progress.{AreNumbers, acknowledgement_of, success_between}
-use Rattle.ca_requester.specs.Responses.{IsEnd, fitting}
+use Rattle.ca_requester.specs.Progress.{IsAcknowledged, IsProgress, acknowledgement_of, numbers_behind}
+use Rattle.ca_requester.specs.Responses.{IsFitting, IsResponse, fitting}
+use Rattle.ca_requester.specs.declared.progress.Acknowledged.{Acknowledged}
+use Rattle.ca_requester.specs.declared.responses.Response.TheVariants.{Ends, Answers}
+use Rattle.ca_sending.proofs.OutcomeLemmas.{is_ahead}
+use Rattle.ca_sending.specs.Finished.{IsAhead, success_between}
+use Rattle.ca_sending.specs.Outcome.{IsUnder, Makes, effects_behind, failure_of, numbers_of}
+use Rattle.ca_sending.specs.declared.outcome.Outcome.{Outcome}
+use Rattle.ca_sending.specs.declared.outcome.Outcome.TheVariants.{Fails}
 
--- where what is acknowledged are the requests before the oldest one of such numbers, others with the same oldest end it
-pub is_end : (q : QueuePair) (numbers : RequesterNumbers) (e : Ended) → IsQueue q → AreNumbers q numbers
-    → (progress_to e.until q).marks ≡ success_between q.requester.oldest numbers.oldest q
-    → (numbers_of e.outcome).oldest ≡ numbers.oldest → IsEnd q e
-is_end q numbers e is are finished same = record {
-  ahead = are_ahead q numbers (numbers_of e.outcome) is are same;
-  finished = finished ∙ ap (λ place. success_between q.requester.oldest place q) (sym same);
+-- what is acknowledged completes, and then comes an outcome under the numbers behind it
+makes-then : (q : QueuePair) (until : ℕ) (numbers : RequesterNumbers) (f : QueuePair → Effects) (o : Outcome)
+    → IsProgress until q.requester numbers q → IsUnder numbers f o → effects_behind [] o q ≡ and_then (progress_to until q) f
+makes-then q until numbers f o progress under =
+    ap (λ x. behind_marks (success_between q.requester.oldest (numbers_of o).oldest q) x) (under.effects q)
+    ∙ ap (λ x. behind_marks (success_between q.requester.oldest (numbers_of o).oldest q) (f x)) progress.queue
+    ∙ sym (ap (λ ms. behind_marks ms (f (progress_to until q).queue))
+    (progress.finished ∙ ap (λ place. success_between q.requester.oldest place q) (sym under.oldest)))
+
+ahead-of : (q : QueuePair) (until : ℕ) (numbers : RequesterNumbers) (f : QueuePair → Effects) (o : Outcome)
+    → IsProgress until q.requester numbers q → IsUnder numbers f o → IsAhead (numbers_of o).oldest q
+ahead-of q until numbers f o progress under = is_ahead q numbers (numbers_of o).oldest progress.may under.oldest
+
+-- the numbers are those behind an acknowledgement
+under-numbers : (q : QueuePair) (a : Acknowledged) (numbers : RequesterNumbers) → numbers ≡ numbers_behind a q
+    → IsProgress a.until q.requester (numbers_behind a q) q → IsProgress a.until q.requester numbers q
+under-numbers q a numbers e progress = rw e progress
+
+-- an implied NAK
+pub makes_back : (q : QueuePair) (a : Acknowledged) (numbers : RequesterNumbers) (o : Outcome) → numbers ≡ numbers_behind a q
+    → IsProgress a.until q.requester (numbers_behind a q) q → IsUnder numbers (one_retry a.until) o
+    → Makes (acknowledgement_of true a.until q).effects q o
+makes_back q a numbers o e progress under = record {
+  ahead = ahead-of q a.until numbers (one_retry a.until) o (under-numbers q a numbers e progress) under;
+  effects = makes-then q a.until numbers (one_retry a.until) o (under-numbers q a numbers e progress) under;
 }
 
--- where it went on, what comes then is the outcome
-pub then_on : (q : QueuePair) (psn until : ℕ) (numbers : RequesterNumbers) (o : Outcome) (f : QueuePair → Effects)
-    → acknowledgement_below psn q ≡ acknowledgement_of false until q
-    → with_requester numbers q ≡ (progress_to until q).queue
-    → outcome_effects o q ≡ f (with_requester numbers q)
-    → behind_marks (progress_to until q).marks (outcome_effects o q) ≡ unless_back (acknowledgement_below psn q) f
-then_on q psn until numbers o f a at e =
-    ap (λ x. behind_marks (progress_to until q).marks x) e
-    ∙ ap (λ x. behind_marks (progress_to until q).marks (f x)) at
-    ∙ sym (ap (λ x. unless_back x f) a)
+-- how an acknowledgement is, by whether it went back
+by-back : (q : QueuePair) (psn : ℕ) (a : Acknowledged) (back : Bool) → IsAcknowledged psn q a → a.went_back ≡ back
+    → acknowledgement_below psn q ≡ acknowledgement_of back a.until q
+by-back q psn a back is e = is.makes ∙ ap (λ b. acknowledgement_of b a.until q) e
+
+pub makes_unless : (q : QueuePair) (psn : ℕ) (a : Acknowledged) (f : QueuePair → Effects) (o : Outcome) → IsAcknowledged psn q a → a.went_back ≡ true
+    → Makes (acknowledgement_of true a.until q).effects q o → Makes (unless_back (acknowledgement_below psn q) f) q o
+makes_unless q psn a f o is back makes = record {
+  ahead = makes.ahead;
+  effects = makes.effects ∙ sym (ap (λ x. unless_back x f) (by-back q psn a true is back));
+}
+
+pub makes_on : (q : QueuePair) (psn : ℕ) (a : Acknowledged) (numbers : RequesterNumbers) (f : QueuePair → Effects) (o : Outcome)
+    → IsAcknowledged psn q a → a.went_back ≡ false → numbers ≡ numbers_behind a q → IsUnder numbers f o
+    → Makes (unless_back (acknowledgement_below psn q) f) q o
+makes_on q psn a numbers f o is on e under = record {
+  ahead = ahead-of q a.until numbers f o (under-numbers q a numbers e is.progress) under;
+  effects =
+      makes-then q a.until numbers f o (under-numbers q a numbers e is.progress) under
+      ∙ sym (ap (λ x. unless_back x f) (by-back q psn a false is on));
+}
 
 -- the row of an answer, by the request that it fits
 abbrev fitted : ℕ → Fields → Effects → Option Numbered → Row
@@ -61,29 +92,47 @@ by-fitting psn p e = by (request_at psn e.queue)
     by None = refl
     by (Some n) = one n (fits_request psn p e.queue n)
 
-pub answer_fails : (q : QueuePair) (psn until : ℕ) (p : Fields) (numbers : RequesterNumbers) (o : Outcome)
-    → acknowledgement_below psn q ≡ acknowledgement_of false until q
-    → with_requester numbers q ≡ (progress_to until q).queue
-    → fitting psn p (with_requester numbers q) ≡ None
-    → outcome_effects o q ≡ failure_effects BadResponse None (with_requester numbers q)
-    → plain_row (Does (behind_marks (progress_to until q).marks (outcome_effects o q))) ≡ fitting_row psn p (acknowledgement_below psn q)
-answer_fails q psn until p numbers o a at none e =
-    ap (λ x. plain_row (Does x)) (ap (λ x. behind_marks (progress_to until q).marks x) e
-    ∙ ap (λ x. behind_marks (progress_to until q).marks (failure_effects BadResponse None x)) at)
-    ∙ ap (λ x. fitted psn p (progress_to until q) x) (sym none ∙ ap (λ x. fitting psn p x) at)
-    ∙ sym (by-fitting psn p (progress_to until q))
-    ∙ sym (ap (λ x. fitting_row psn p x) a)
+-- an answer that is an implied NAK
+pub answer_back : (q : QueuePair) (psn : ℕ) (p : Fields) (a : Acknowledged) (o : Outcome) → IsAcknowledged psn q a → a.went_back ≡ true
+    → Makes (acknowledgement_of true a.until q).effects q o → IsResponse (Ends o) (fitting_row psn p (acknowledgement_below psn q)) p q
+answer_back q psn p a o is back makes = (
+  makes.ahead,
+  ap (λ x. plain_row (Does x)) makes.effects ∙ sym (ap (λ x. fitting_row psn p x) (by-back q psn a true is back)),
+)
 
-pub answer_fits : (q : QueuePair) (psn until : ℕ) (p : Fields) (numbers : RequesterNumbers) (n : Numbered)
-    → acknowledgement_below psn q ≡ acknowledgement_of false until q → until ≡ psn
-    → with_requester numbers q ≡ (progress_to until q).queue
-    → fitting psn p (with_requester numbers q) ≡ Some n
-    → answer_row psn p (progress_to psn q) n ≡ fitting_row psn p (acknowledgement_below psn q)
-answer_fits q psn until p numbers n a on at some =
-    ap (λ u. answer_row psn p (progress_to u q) n) (sym on)
-    ∙ ap (λ x. fitted psn p (progress_to until q) x) (sym some ∙ ap (λ x. fitting psn p x) at)
-    ∙ sym (by-fitting psn p (progress_to until q))
-    ∙ sym (ap (λ x. fitting_row psn p x) a)
+-- an answer that does not fit its request
+pub answer_fails : (q : QueuePair) (psn : ℕ) (p : Fields) (a : Acknowledged) (numbers : RequesterNumbers) (o : Outcome)
+    → IsAcknowledged psn q a → a.went_back ≡ false → numbers ≡ numbers_behind a q
+    → None ≡ fitting psn p (with_requester numbers q) → o ≡ Fails (failure_of numbers BadResponse)
+    → IsResponse (Ends o) (fitting_row psn p (acknowledgement_below psn q)) p q
+answer_fails q psn p a numbers o is on e none fails = (
+  ahead-of q a.until numbers (failure_effects BadResponse None) o progress under,
+  ap (λ x. plain_row (Does x)) (makes-then q a.until numbers (failure_effects BadResponse None) o progress under)
+      ∙ ap (λ x. fitted psn p (progress_to a.until q) x) (none ∙ ap (λ x. fitting psn p x) progress.queue)
+      ∙ sym (by-fitting psn p (progress_to a.until q))
+      ∙ sym (ap (λ x. fitting_row psn p x) (by-back q psn a false is on)),
+)
+  where
+    progress : IsProgress a.until q.requester numbers q
+    progress = under-numbers q a numbers e is.progress
+
+    under : IsUnder numbers (failure_effects BadResponse None) o
+    under = rw fails (record { effects = λ q. refl; oldest = refl })
+
+-- an answer that fits its request
+pub answer_fits : (q : QueuePair) (psn : ℕ) (p : Fields) (a : Acknowledged) (numbers : RequesterNumbers) (n : Numbered)
+    → IsAcknowledged psn q a → a.went_back ≡ false → numbers ≡ numbers_behind a q
+    → Some n ≡ fitting psn p (with_requester numbers q) → IsFitting psn p q n → psn < 2 ^ 62
+    → IsResponse (Answers (record { psn = psn; numbers = numbers; request = n })) (fitting_row psn p (acknowledgement_below psn q)) p q
+answer_fits q psn p a numbers n is on e some fits narrow = (
+  record { progress = progress; request = fits.request; narrow = narrow; fits = fits.fits },
+  ap (λ x. fitted psn p (progress_to psn q) x) (some ∙ ap (λ x. fitting psn p x) progress.queue)
+      ∙ sym (by-fitting psn p (progress_to psn q))
+      ∙ sym (ap (λ x. fitting_row psn p x) (by-back q psn a false is on ∙ ap (λ u. acknowledgement_of false u q) (is.on on))),
+)
+  where
+    progress : IsProgress psn q.requester numbers q
+    progress = rw (sym (is.on on)) (under-numbers q a numbers e is.progress)
 
 -- the request that an answer fits, by what is found
 pub fits_none : (q : QueuePair) (psn : ℕ) (p : Fields) → request_at psn q ≡ None → None ≡ fitting psn p q

@@ -9,6 +9,7 @@
 //! of the reliable connection. That a bad answer fails its request is this profile's choice.
 #![tactic(auto)]
 
+mod progress;
 mod responses;
 mod taking;
 mod timers;

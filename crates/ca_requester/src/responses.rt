@@ -1,29 +1,23 @@
-ghost use Rattle.std.specs.Prelude.{◌≡◌, ◌≤◌, ◌<◌, ◌^◌, ◌&&◌, ◌==◌, ◌-◌, true, None, Some, IfSome, length};
-ghost use Rattle.std.specs.Option.{option_and_then, option_map};
-ghost use Rattle.ca_base.specs.objects.QueuePair.{QueuePair};
-ghost use Rattle.ca_model.specs.Requests.{list_of};
-ghost use Rattle.ca_model.specs.machine.Acknowledgements.{acknowledgement_below, progress_to, with_requester};
-ghost use Rattle.ca_model.specs.machine.Invariants.{IsList, IsQueue};
-ghost use Rattle.ca_model.specs.machine.Numbering as numbering;
+ghost use Rattle.std.specs.Prelude.{◌≡◌, ◌<◌, ◌^◌, true, None, Some, IfSome};
+ghost use Rattle.std.specs.Option.{option_and_then};
+ghost use Rattle.ca_model.specs.machine.Acknowledgements.{acknowledgement_below, with_requester};
+ghost use Rattle.ca_model.specs.machine.CanStep.{CanStep};
 ghost use Rattle.ca_model.specs.machine.Responses as rows;
 ghost use Rattle.ca_wire.specs.Syndrome.{syndrome_in};
-ghost use Rattle.ca_model.specs.machine.CanStep.{CanStep};
-ghost use Rattle.ca_progress.specs.Numbering.{IsSound};
-ghost use Rattle.ca_progress.specs.declared.outcome.Outcome.TheVariants.{Fails};
-ghost use Rattle.ca_progress.specs.Outcome.{failure_of, numbers_of, outcome_effects};
-ghost use Rattle.ca_progress.specs.Progress.{AreNumbers, acknowledgement_of, numbers_behind, success_between};
-ghost use Rattle.ca_requester.specs.Responses.{IsEnd, IsNarrowArrival, IsResponse, ended_effects, fitting, row_of, row_of_arrival};
+ghost use Rattle.ca_requester.specs.Progress.{IsProgress, acknowledgement_of, numbers_behind};
+ghost use Rattle.ca_requester.specs.Responses.{IsArrival, IsFitting, IsResponse, fitting};
+ghost use Rattle.ca_sending.specs.Numbering.{AreNumbers, IsRequestOf};
+ghost use Rattle.ca_sending.specs.Outcome.{IsUnder, Makes, failure_of};
+ghost use Rattle.ca_sending.specs.declared.outcome.Outcome.TheVariants.{Fails};
 
+use crate::progress::{Acknowledged, acknowledged_below, numbers_after};
 use ca_base::limits::MAX_RETRY;
 use ca_base::{RequesterNumbers, WcStatus};
 use ca_model::Drop1;
-use ca_progress::{
-    Acknowledged, Failure, Numbered, Outcome, acknowledged_below, is_sending, numbers_after,
-    one_retry, request_under,
-};
 use ca_psn::widen;
 use ca_qpstate::QueuePart;
 use ca_rows::{is_atomic, is_read, list_length, list_of};
+use ca_sending::{Failure, Numbered, Outcome, is_sending, one_retry, request_under};
 use ca_wire::opcode::{
     ACKNOWLEDGE, ATOMIC_ACKNOWLEDGE, RDMA_READ_RESPONSE_LAST, RDMA_READ_RESPONSE_ONLY,
 };
@@ -45,23 +39,16 @@ pub(crate) enum Arrival {
 }
 
 /// What an answer makes of a requester, before it is made.
-#[derive(Clone, Copy)]
+#[derive(Drop)]
 pub(crate) enum Response<'a> {
     /// It acknowledges, and then comes an outcome.
-    Ends(Ended),
+    Ends(Outcome),
     /// It acknowledges, and its bytes go to the list of its request.
     Answers(Answer<'a>),
 }
 
-/// All below a PSN is acknowledged, and then comes an outcome.
-#[derive(Clone, Copy)]
-pub(crate) struct Ended {
-    pub until: u64,
-    pub outcome: Outcome,
-}
-
 /// An answer to a request, with its PSN, under the numbers behind what it acknowledges.
-#[derive(Clone, Copy)]
+#[derive(Drop)]
 pub(crate) struct Answer<'a> {
     pub psn: u64,
     pub numbers: RequesterNumbers,
@@ -73,8 +60,7 @@ pub(crate) struct Answer<'a> {
 pub(crate) fn arrival_of(q: &QueuePart, p: &Packet<'_>) -> Arrival
     requires step { CanStep q.now }
     requires psn { p.now.psn < 2 ^ 24 }
-    ensures row { row_of_arrival result p.now q.now ≡ rows.response_row p.now q.now }
-    ensures narrow { IsNarrowArrival result }
+    ensures { IsArrival p.now q.now result }
 {
     if !is_sending(q.state) {
         return Arrival::Drops(Drop1::State);
@@ -105,62 +91,42 @@ fn syndrome_of(p: &Packet<'_>) -> Option<Syndrome>
 }
 
 /// A READ or an atomic that was not answered is an implied NAK: one retry, and back to it.
-#[tactic(auto, using(crate::proofs::ResponseLemmas::is_end))]
-pub(crate) fn implied_nak(q: &QueuePart, acknowledged: &Acknowledged) -> Ended
-    requires queue { IsQueue q.now }
-    requires numbers { AreNumbers q.now (numbers_behind acknowledged.now q.now) }
-    requires under { with_requester (numbers_behind acknowledged.now q.now) q.now ≡ (progress_to acknowledged.now.until q.now).queue }
-    requires finished { (progress_to acknowledged.now.until q.now).marks
-        ≡ success_between q.now.requester.oldest acknowledged.now.place q.now }
-    ensures effects { ended_effects result q.now ≡ (acknowledgement_of true acknowledged.now.until q.now).effects }
-    ensures end { IsEnd q.now result }
+pub(crate) fn on_implied_nak(q: &QueuePart, acknowledged: &Acknowledged) -> Outcome
+    requires { IsProgress acknowledged.now.until q.now.requester (numbers_behind acknowledged.now q.now) q.now }
+    ensures { Makes (acknowledgement_of true acknowledged.now.until q.now).effects q.now result }
 {
-    Ended {
-        until: acknowledged.until,
-        outcome: one_retry(numbers_after(q, acknowledged), acknowledged.until),
-    }
+    one_retry(numbers_after(q, acknowledged), acknowledged.until)
 }
 
 /// An RNR NAK of the request at a PSN.
-#[tactic(auto, using(crate::proofs::ResponseLemmas::then_on, crate::proofs::ResponseLemmas::is_end))]
-pub(crate) fn on_rnr_nak(q: &QueuePart, psn: u64) -> Ended
+pub(crate) fn on_rnr_nak(q: &QueuePart, psn: u64) -> Outcome
     requires { CanStep q.now }
-    ensures effects { ended_effects result q.now ≡ rows.unless_back (acknowledgement_below psn q.now) (rows.rnr_nak_effects psn) }
-    ensures end { IsEnd q.now result }
+    ensures { Makes (rows.unless_back (acknowledgement_below psn q.now) (rows.rnr_nak_effects psn)) q.now result }
 {
     let acknowledged = acknowledged_below(q, psn);
     if acknowledged.went_back {
-        return implied_nak(q, &acknowledged);
+        return on_implied_nak(q, &acknowledged);
     }
-    Ended {
-        until: acknowledged.until,
-        outcome: rnr_nak(numbers_after(q, &acknowledged), psn),
-    }
+    rnr_nak(numbers_after(q, &acknowledged), psn)
 }
 
 /// A NAK of the request at a PSN.
-#[tactic(auto, using(crate::proofs::ResponseLemmas::then_on, crate::proofs::ResponseLemmas::is_end))]
-pub(crate) fn on_nak(q: &QueuePart, psn: u64, code: NakCode) -> Ended
+pub(crate) fn on_nak(q: &QueuePart, psn: u64, code: NakCode) -> Outcome
     requires { CanStep q.now }
-    ensures effects { ended_effects result q.now ≡ rows.unless_back (acknowledgement_below psn q.now) (rows.nak_effects psn code) }
-    ensures end { IsEnd q.now result }
+    ensures { Makes (rows.unless_back (acknowledgement_below psn q.now) (rows.nak_effects psn code)) q.now result }
 {
     let acknowledged = acknowledged_below(q, psn);
     if acknowledged.went_back {
-        return implied_nak(q, &acknowledged);
+        return on_implied_nak(q, &acknowledged);
     }
-    Ended {
-        until: acknowledged.until,
-        outcome: nak(numbers_after(q, &acknowledged), psn, code),
-    }
+    nak(numbers_after(q, &acknowledged), psn, code)
 }
 
 /// An RNR NAK: where the count is used up the request fails, and else it is sent again after a wake. A limit of 7 has no
 /// end.
 fn rnr_nak(numbers: RequesterNumbers, psn: u64) -> Outcome
     requires { numbers.rnrs < 2 ^ 62 }
-    ensures effects { (q : QueuePair) → outcome_effects result q ≡ rows.rnr_nak_effects psn (with_requester numbers q) }
-    ensures oldest { (numbers_of result).oldest ≡ numbers.oldest }
+    ensures { IsUnder numbers (rows.rnr_nak_effects psn) result }
 {
     let counted = RequesterNumbers {
         rnrs: numbers.rnrs + 1,
@@ -179,8 +145,7 @@ fn rnr_nak(numbers: RequesterNumbers, psn: u64) -> Outcome
 /// A NAK: 0 asks for the packets again, the others fail the request.
 fn nak(numbers: RequesterNumbers, psn: u64, code: NakCode) -> Outcome
     requires { numbers.retries < 255 }
-    ensures effects { (q : QueuePair) → outcome_effects result q ≡ rows.nak_effects psn code (with_requester numbers q) }
-    ensures oldest { (numbers_of result).oldest ≡ numbers.oldest }
+    ensures { IsUnder numbers (rows.nak_effects psn code) result }
 {
     match code {
         NakCode::PsnSequenceError => one_retry(numbers, psn),
@@ -202,23 +167,18 @@ fn failure(numbers: RequesterNumbers, status: WcStatus) -> Outcome
 }
 
 /// An answer: an implied NAK, one that does not fit its request, or one whose bytes go to its list.
-#[tactic(auto, using(crate::proofs::ResponseLemmas::answer_fails, crate::proofs::ResponseLemmas::answer_fits, crate::proofs::ResponseLemmas::is_end))]
 pub(crate) fn answer_of<'a>(q: &'a QueuePart, p: &Packet<'_>, psn: u64) -> Response<'a>
     requires step { CanStep q.now }
     requires psn { psn < 2 ^ 62 }
-    ensures row { row_of result p.now q.now ≡ rows.fitting_row psn p.now (acknowledgement_below psn q.now) }
-    ensures sound { IsResponse result p.now q.now }
+    ensures { IsResponse result (rows.fitting_row psn p.now (acknowledgement_below psn q.now)) p.now q.now }
 {
     let acknowledged = acknowledged_below(q, psn);
     if acknowledged.went_back {
-        return Response::Ends(implied_nak(q, &acknowledged));
+        return Response::Ends(on_implied_nak(q, &acknowledged));
     }
     let numbers = numbers_after(q, &acknowledged);
     match fitting_request(q, p, &numbers, psn) {
-        None => Response::Ends(Ended {
-            until: acknowledged.until,
-            outcome: failure(numbers, WcStatus::BadResponse),
-        }),
+        None => Response::Ends(failure(numbers, WcStatus::BadResponse)),
         Some(request) => Response::Answers(Answer {
             psn,
             numbers,
@@ -235,12 +195,9 @@ fn fitting_request<'a>(
     numbers: &RequesterNumbers,
     psn: u64,
 ) -> Option<Numbered<'a>>
-    requires queue { IsQueue q.now }
-    requires numbers { AreNumbers q.now numbers.now }
-    ensures request { option_map result ≡ fitting psn p.now (with_requester numbers.now q.now) }
-    ensures sound { IfSome result (λ n. IsSound q.now n) }
-    ensures psn { IfSome result (λ n. numbering.has_psn psn n ≡ true) }
-    ensures fits { IfSome result (λ n. rows.fits_request psn p.now q.now n ≡ true) }
+    requires { AreNumbers q.now numbers.now }
+    ensures value { result ≡ fitting psn p.now (with_requester numbers.now q.now) }
+    ensures fits { IfSome result (λ n. IsFitting psn p.now q.now n) }
 {
     match request_under(q, numbers, psn) {
         Some(request) if fits(q, p, psn, &request) => Some(request),
@@ -251,9 +208,7 @@ fn fitting_request<'a>(
 /// Whether a response fits its request: a READ's segment by its length and by whether it is the last, an atomic's answer
 /// an atomic.
 fn fits(q: &QueuePart, p: &Packet<'_>, psn: u64, n: &Numbered<'_>) -> bool
-    requires queue { IsQueue q.now }
-    requires sound { IsSound q.now n.now }
-    requires psn { numbering.has_psn psn n.now ≡ true }
+    requires { IsRequestOf psn q.now n.now }
     ensures { result ≡ rows.fits_request psn p.now q.now n.now }
 {
     if p.opcode == ATOMIC_ACKNOWLEDGE {
@@ -274,9 +229,7 @@ fn ends_read(opcode: u8) -> bool
 
 /// How many bytes the segment of a request's message at a PSN has.
 fn segment_length(q: &QueuePart, psn: u64, n: &Numbered<'_>) -> u64
-    requires queue { IsQueue q.now }
-    requires sound { IsSound q.now n.now }
-    requires psn { numbering.has_psn psn n.now ≡ true }
+    requires { IsRequestOf psn q.now n.now }
     ensures { result ≡ rows.segment_length psn q.now n.now }
 {
     let mtu = u64::from(q.responder.mtu);

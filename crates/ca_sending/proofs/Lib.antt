@@ -1,2 +1,5 @@
+pub mod FinishedLemmas
+pub mod NumberingLemmas
+pub mod OutcomeLemmas
 pub mod PacketLemmas
 pub mod TurnLemmas

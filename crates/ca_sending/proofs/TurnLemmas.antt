@@ -1,30 +1,34 @@
 -- What a requester's turn does, by its kind.
-use Rattle.std.proofs.Common.{◌≡◌, ℕ, ◌+◌, ◌-◌, ◌<◌, ◌≤◌, nat_lt, ◌||◌, min, max, arith, Bool, true, false, true≢false, refl, ap, ◌∙◌, if◌then◌else◌, List, [], ◌∷◌, ◌++◌, drop, map, length, suc, sum_by, take}
+use Rattle.std.proofs.Common.{◌≡◌, ℕ, ◌+◌, ◌-◌, ◌<◌, ◌≤◌, nat_lt, ◌||◌, min, max, arith, Bool, true, false, true≢false, refl, ap, ◌∙◌, if◌then◌else◌, List, [], ◌∷◌, ◌++◌, drop, map, length, suc, sum_by, take, Result, Ok, Err}
 use Rattle.std.proofs.Math.Seq.{take-append_seam}
 use Rattle.std.proofs.lemmas.Bool.{le-ltb}
 use Rattle.std.proofs.lemmas.List.Sums.{sum_by-cons}
-use Rattle.std.specs.List.{AllByRecursion, flat_map}
+use Rattle.std.specs.List.{flat_map}
 use Rattle.ca_keys.specs.declared.access.Ask.{Ask}
-use Rattle.ca_keys.specs.declared.access.Kind.TheVariants as kinds
 use Rattle.ca_base.specs.declared.limits.TheConstants.{MAX_OUTSTANDING_PACKETS, MAX_OUTSTANDING_PSNS}
 use Rattle.ca_base.specs.declared.request.SendOp.{SendOp}
 use Rattle.ca_base.specs.declared.request.SendOp.TheVariants as ops
 use Rattle.ca_keys.specs.declared.verdict.Verdict.TheVariants as verdicts
 use Rattle.ca_base.specs.Sight.{Sight, bytes_in}
 use Rattle.ca_base.specs.declared.request.PostedSend.{PostedSend}
+use Rattle.ca_base.specs.declared.step.Sent.{Sent}
+use Rattle.ca_base.specs.declared.step.StepError.{StepError}
+use Rattle.ca_base.specs.declared.step.StepError.TheVariants as steps
+use Rattle.ca_model.specs.Marks.{MarkList}
+use Rattle.ca_model.specs.machine.Row.{Ending, NotPossible, Does}
+use Rattle.ca_rows.specs.Made.{IsTurn}
 use Rattle.ca_base.specs.objects.QueuePair.{QueuePair}
 use Rattle.ca_base.specs.objects.WorkQueue.{items_from}
-use Rattle.ca_grant.specs.Reaching.{IsPacketAsk}
 use Rattle.ca_model.specs.Requests.{is_local, psns_of}
 use Rattle.ca_model.specs.declared.mark.Mark.{Mark}
 use Rattle.ca_model.specs.machine.Invariants.{IsQueue, is_sending}
 use Rattle.ca_model.specs.machine.Numbering.{Numbered, is_answered_op, is_read, numbers_of}
 use Rattle.ca_model.specs.machine.Requester.{Performs, Sends, answers_between, end_of_packet, index_of_packet, is_too_much, local_reads, packets_between, psns_between}
 use Rattle.ca_rows.proofs.ReadLemmas.{behind_old, bytes_of_reads}
-use Rattle.ca_rows.specs.Asks.{IsAskOf, bytes_read, mark_of, payload_of, read_marks, reads_by}
-use Rattle.ca_progress.specs.declared.numbering.Next.{Next}
-use Rattle.ca_progress.proofs.NumberingLemmas.{number_at}
-use Rattle.ca_progress.specs.Numbering.{IsNext, numbers_from}
+use Rattle.ca_rows.specs.Asks.{bytes_read, mark_of, payload_of, read_marks, reads_by}
+use Rattle.ca_sending.specs.declared.numbering.Next.{Next}
+use Rattle.ca_sending.proofs.NumberingLemmas.{number_at}
+use Rattle.ca_sending.specs.Numbering.{IsNext, numbers_from}
 use Rattle.ca_sending.specs.Packets.{IsPacket}
 use Rattle.ca_sending.specs.Turn.{is_performing, turn_on}
 
@@ -79,11 +83,6 @@ pub reads-joined : (s : Sight) (asks : List Ask) → payload_of (reads_by s asks
 reads-joined s [] = refl
 reads-joined s (ask ∷ asks) = ap (λ bs. bytes_in s ask ++ bs) (reads-joined s asks)
 
--- asks for reading are asks that may be handed on
-pub handed_on : (asks : List Ask) → AllByRecursion (IsAskOf kinds.Read) asks → AllByRecursion IsPacketAsk asks
-handed_on [] all = tt
-handed_on (ask ∷ asks) all = (all.0.0, handed_on asks all.1)
-
 -- the marks that there were stand in front of those that were added
 pub front_behind : (old more new : List Mark) → new ≡ old ++ more → take (length old) new ≡ old
 front_behind old more new e = ap (take (length old)) e ∙ take-append_seam old more
@@ -134,3 +133,15 @@ little q n is le = none-of-three _ _ _
   where
     upto : ℕ
     upto = end_of_packet q n
+
+-- a turn from marks is one from others that are the same, whatever room there is
+pub turn_before : {S : Type 0} (written : S → Ask → List ℕ → S) (r : Result Sent StepError) (ending : Ending) (q after : QueuePair) (old same new : MarkList)
+    (reach reached : S) (out spelt : List ℕ) → same.marks ≡ old.marks
+    → IsTurn written r ending q after same new reach reached out spelt → IsTurn written r ending q after old new reach reached out spelt
+turn_before written (Ok sent) (Does e) q after old same new reach reached out spelt is t =
+    (t.0, (record { queue = t.1.0.queue; marks = t.1.0.marks ∙ ap (λ ms. ms ++ e.marks) is; room = t.1.0.room }, t.1.1))
+turn_before written (Ok sent) (NotPossible reason) q after old same new reach reached out spelt is t = t
+turn_before written (Err (steps.NotReady reason)) ending q after old same new reach reached out spelt is t =
+    (t.0, (record { queue = t.1.0.queue; marks = t.1.0.marks ∙ is }, t.1.1))
+turn_before written (Err steps.Memory) ending q after old same new reach reached out spelt is t =
+    (record { queue = t.0.queue; marks = t.0.marks ∙ is }, t.1)

@@ -1,5 +1,5 @@
 -- The row of a requester's turn that sends a packet, or waits. Contracts cite it.
-use Rattle.std.specs.Prelude.{ℕ, suc, Bool, true, false, if◌then◌else◌, [], Option, None, Some, Result, Ok, Err}
+use Rattle.std.specs.Prelude.{◌≡◌, ℕ, ◌≤◌, ◌+◌, suc, Bool, true, false, if◌then◌else◌, ◌++◌, [], Option, None, Some, Result, Ok, Err}
 use Rattle.ca_base.specs.declared.refusals.OpRefusal.{OpRefusal}
 use Rattle.ca_base.specs.declared.request.SendRequest.{SendRequest}
 use Rattle.ca_base.specs.declared.step.Reason.{Reason}
@@ -7,15 +7,27 @@ use Rattle.ca_base.specs.declared.step.Reason.TheVariants as reasons
 use Rattle.ca_base.specs.declared.queue_numbers.RequesterNumbers.{RequesterNumbers}
 use Rattle.ca_base.specs.objects.LocalRequest.{LocalMarks}
 use Rattle.ca_base.specs.objects.QueuePair.{QueuePair}
+use Rattle.ca_model.specs.Marks.{MarkList}
 use Rattle.ca_model.specs.Requests.{is_local}
+use Rattle.ca_model.specs.machine.Invariants.{is_sending}
 use Rattle.ca_model.specs.machine.LocalOperations.{operation_effects}
 use Rattle.ca_model.specs.machine.Numbering.{Numbered}
-use Rattle.ca_model.specs.machine.Requester.{RequestTurn, Waits, Performs, Sends, packet_row, turn_of}
+use Rattle.ca_model.specs.machine.Requester.{RequestTurn, Waits, Performs, Sends, is_too_much, packet_row, turn_of}
 use Rattle.ca_model.specs.machine.Row.{Effects, Row, plain_row, NotPossible, queue_and_marks}
+use Rattle.ca_rows.specs.Made.{IsMade}
+use Rattle.ca_sending.specs.Numbering.{IsNext}
+use Rattle.ca_sending.specs.Packets.{IsPacket}
+use Rattle.ca_sending.specs.declared.numbering.Next.{Next}
 
 -- what a turn does on a request, where nothing stands against it
 abbrev pub turn_on : Numbered → RequestTurn
 turn_on n = if is_local n.request.op then Performs n else Sends n
+
+-- the turn does something on this request, which is next
+pub record IsTurnOn (q : QueuePair) (next : Next) : Type 0 where
+  pub turn : turn_of q ≡ turn_on next.request
+  pub is_next : IsNext q next
+  pub sending : is_sending q.state ≡ true
 
 -- the row of a turn: it waits, or it sends a packet; one that performs a local operation has nothing to send
 abbrev pub turn_row : QueuePair → Bool → Row
@@ -25,6 +37,13 @@ turn_row q room = by (turn_of q)
     by (Waits reason) = plain_row (NotPossible reason)
     by (Performs n) = plain_row (NotPossible reasons.Empty)
     by (Sends n) = packet_row q room n
+
+-- the turn sends a packet of this request, if nothing denies it
+pub record IsSending (q : QueuePair) (next : Next) : Type 0 where
+  pub row : (room : Bool) → turn_row q room ≡ packet_row q room next.request
+  pub fits : is_too_much q next.request ≡ false
+  pub packet : IsPacket q next.request
+  pub is_next : IsNext q next
 
 -- the local operation that a turn performs: its request, and the byte that it drew; none where it sends a packet
 abbrev pub operation_in : RequestTurn → Result (Option (SendRequest × Option ℕ)) Reason
@@ -48,6 +67,18 @@ operation_end q cause = by (turn_of q)
     by : RequestTurn → Effects
     by (Performs n) = operation_effects q n q no_marks cause
     by turn = queue_and_marks q []
+
+-- these effects were made, with at most one mark, in the spare room
+pub record HasFinished (e : Effects) (queue_after : QueuePair) (before after : MarkList) : Type 0 where
+  pub queue : queue_after ≡ e.queue
+  pub marks : after.marks ≡ before.marks ++ e.marks
+  pub room : before.room ≤ after.room + 1
+
+-- an operation ended with these effects: a success takes no memory; with a cause it is made, or nothing
+abbrev pub IsOperationEnd : {A E : Type 0} → Result A E → Option OpRefusal → Effects → QueuePair → QueuePair → MarkList → MarkList → Type 0
+IsOperationEnd (Ok done) None e queue_before queue_after before after = HasFinished e queue_after before after
+IsOperationEnd (Err error) None e queue_before queue_after before after = ⊥
+IsOperationEnd result (Some cause) e queue_before queue_after before after = IsMade result e queue_before queue_after before after
 
 -- the requester's numbers after a packet that ends below a PSN, and begins its request or not
 abbrev pub numbers_past : ℕ → Bool → RequesterNumbers → RequesterNumbers

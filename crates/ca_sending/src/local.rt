@@ -1,19 +1,15 @@
-ghost use Rattle.std.specs.Prelude.{◌≡◌, ◌+◌, ◌≤◌, ◌++◌, true, None, Some, Ok, Err, IfOk, IfErr, IfSome, OnOk, OnErr, IsOk};
+ghost use Rattle.std.specs.Prelude.{◌≡◌, ◌≤◌, true, None, Ok, Err, IfOk, IfErr};
 ghost use Rattle.std.specs.Option.{option_map};
-ghost use Rattle.ca_base.specs.declared.completion.WcStatus.{WcStatus};
-ghost use Rattle.ca_model.specs.machine.Acknowledgements.{failure_effects};
-ghost use Rattle.ca_model.specs.machine.Invariants.{IsQueue};
-ghost use Rattle.ca_model.specs.machine.Requester as requester;
 ghost use Rattle.ca_model.specs.machine.CanStep.{CanStep};
-ghost use Rattle.ca_sending.specs.Turn.{is_performing, operation_end, operation_in};
+ghost use Rattle.ca_model.specs.machine.Requester as requester;
+ghost use Rattle.ca_sending.specs.Turn.{HasFinished, IsOperationEnd, is_performing, operation_end, operation_in};
 
+use crate::outcome::fail_oldest;
 use crate::turn::turn_of;
 use ca_base::{Memory, OpRefusal, Reason, SendRequest, WcStatus};
 use ca_model::Marks;
-use ca_progress::{Failure, fail};
 use ca_qpstate::QueuePart;
 use ca_rows::{is_local, push_success};
-use std::alloc::Global;
 
 /// The local operation that is now to be performed, with the byte that it drew. None comes exactly where the next thing
 /// is a packet. The reason is the first of `State`, `RnrWait`, `Empty` and `Fence`. It takes no memory.
@@ -35,28 +31,21 @@ pub fn next_local(q: &QueuePart) -> Result<Option<(&SendRequest, Option<u8>)>, R
 /// MemoryManagement, and the queue pair moves to Error; `Memory` comes only there, and changes nothing. What the operation
 /// revoked and granted is for the caller to say before.
 pub fn local_done(
-    alloc: Global,
     q: &mut QueuePart,
     cause: Option<OpRefusal>,
     marks: &mut Marks,
 ) -> Result<(), Memory>
     requires step { CanStep q.old }
     requires local { is_performing (requester.turn_of q.old) ≡ true }
-    requires room { cause ≡ None → 1 ≤ marks.old.room }
-    ensures queue { OnOk result (q.new ≡ (operation_end q.old cause).queue) }
-    ensures marks { OnOk result (marks.new.marks ≡ marks.old.marks ++ (operation_end q.old cause).marks) }
-    ensures fine { cause ≡ None → IsOk result }
-    ensures room { IfSome cause (λ c. OnOk result (2 ≤ marks.new.room)) }
-    ensures room_left { cause ≡ None → marks.old.room ≤ marks.new.room + 1 }
-    ensures err { OnErr result (q.new ≡ q.old) }
-    ensures err_marks { OnErr result (marks.new.marks ≡ marks.old.marks) }
+    requires spare { cause ≡ None → 1 ≤ marks.old.room }
+    ensures { IsOperationEnd result cause (operation_end q.old cause) q.old q.new marks.old marks.new }
 {
     match cause {
         None => {
             finish(q, marks);
             Ok(())
         }
-        Some(cause) => refuse(alloc, q, cause, marks),
+        Some(_) => fail_oldest(q, WcStatus::MemoryManagement, cause, None, marks),
     }
 }
 
@@ -65,37 +54,13 @@ pub fn local_done(
 fn finish(q: &mut QueuePart, marks: &mut Marks)
     requires step { CanStep q.old }
     requires local { is_performing (requester.turn_of q.old) ≡ true }
-    requires room { 1 ≤ marks.old.room }
-    ensures queue { q.new ≡ (operation_end q.old None).queue }
-    ensures marks { marks.new.marks ≡ marks.old.marks ++ (operation_end q.old None).marks }
-    ensures room { marks.old.room ≤ marks.new.room + 1 }
+    requires spare { 1 ≤ marks.old.room }
+    ensures { HasFinished (operation_end q.old None) q.new marks.old marks.new }
 {
     if let Ok(next) = turn_of(q) {
-        let place = next.request.place;
-        push_success(q.queue, place, next.request.request(), marks);
-        q.requester.oldest = place + 1;
-        q.requester.next = place + 1;
+        let posting = next.request.place;
+        push_success(q.queue, posting, next.request.request(), marks);
+        q.requester.oldest = posting + 1;
+        q.requester.next = posting + 1;
     }
-}
-
-/// The operation was refused: its request fails.
-fn refuse(
-    alloc: Global,
-    q: &mut QueuePart,
-    cause: OpRefusal,
-    marks: &mut Marks,
-) -> Result<(), Memory>
-    requires queue { IsQueue q.old }
-    ensures queue { OnOk result (q.new ≡ (failure_effects WcStatus.MemoryManagement (Some cause) q.old).queue) }
-    ensures marks { OnOk result (marks.new.marks ≡ marks.old.marks ++ (failure_effects WcStatus.MemoryManagement (Some cause) q.old).marks) }
-    ensures room { OnOk result (2 ≤ marks.new.room) }
-    ensures err { OnErr result (q.new ≡ q.old) }
-    ensures err_marks { OnErr result (marks.new.marks ≡ marks.old.marks) }
-{
-    let failure = Failure {
-        numbers: q.requester,
-        status: WcStatus::MemoryManagement,
-        cause: Some(cause),
-    };
-    fail(alloc, q, failure, None, marks)
 }

@@ -1,24 +1,23 @@
-ghost use Rattle.std.specs.Prelude.{◌≡◌, ℕ, ◌+◌, ◌*◌, ◌++◌, ◌<◌, ◌≤◌, ◌^◌, [], false, true, if◌then◌else◌, Some, OnOk, OnErr, length};
-ghost use Rattle.std.specs.List.{AllByRecursion};
+ghost use Rattle.std.specs.Prelude.{◌≡◌, ℕ, ◌*◌, ◌<◌, ◌≤◌, [], true, if◌then◌else◌, Some, OnOk, OnErr, length};
 ghost use Rattle.ca_keys.specs.declared.access.Kind.{Kind};
 ghost use Rattle.ca_base.specs.declared.limits.TheConstants.{MAX_PAYLOAD_BYTES};
 ghost use Rattle.ca_model.specs.Requests as requests;
-ghost use Rattle.ca_model.specs.machine.Invariants.{IsQueue, IsList};
+ghost use Rattle.ca_model.specs.machine.Invariants.{IsList};
 ghost use Rattle.ca_model.specs.machine.Numbering.{is_answered_op, is_atomic_op};
 ghost use Rattle.ca_model.specs.machine.Requester as requester;
-ghost use Rattle.ca_progress.specs.Numbering.{IsSound};
-ghost use Rattle.ca_sending.specs.Packets.{IsPacket, packet_fields, reth_of};
-ghost use Rattle.ca_rows.specs.Asks.{IsAskOf, touched_by};
-ghost use Rattle.ca_packet.specs.declared.packet.TheConstants.{MAX_PACKET_BYTES};
+ghost use Rattle.ca_rows.specs.Asks.{AreAsksFor};
+ghost use Rattle.ca_rows.specs.Made.{IsSpelt};
+ghost use Rattle.ca_sending.specs.Packets.{IsBuilt, IsHead, IsHeadOf, IsPacket, packet_fields, reth_of};
 ghost use Rattle.ca_wire.specs.Builders as packets;
-ghost use Rattle.ca_packet.specs.Packet.{IsWellFormed};
 
+use crate::numbering::Numbered;
 use arrayvec::ArrayVec;
 use ca_base::limits::MAX_PIECES;
 use ca_base::{Ask, Key, Kind, Memory, Piece, SendOp, SendRequest};
-use ca_progress::Numbered;
 use ca_qpstate::QueuePart;
-use ca_rows::{fill_asks, is_answered, list_length, list_of, peer_number, psn_bits, spell_packet};
+use ca_rows::{
+    Asker, fill_asks, is_answered, list_length, list_of, peer_number, psn_bits, spell_packet,
+};
 use ca_wire::{
     AtomicEth, Packet, Reth, Segment, SendKind, cmp_swap, fetch_add, read_request, send_packet,
     write_packet,
@@ -34,10 +33,9 @@ fn index_of_packet(q: &QueuePart, n: &Numbered<'_>) -> u32
 }
 
 /// How many bytes of its request's list lie before those of the next packet.
-#[tactic(auto, using(ca_progress::proofs::NumberingLemmas::few_before))]
+#[tactic(auto, using(crate::proofs::NumberingLemmas::few_before))]
 fn bytes_before(q: &QueuePart, n: &Numbered<'_>) -> u32
-    requires queue { IsQueue q.now }
-    requires packet { IsPacket q.now n.now }
+    requires { IsPacket q.now n.now }
     ensures { result ≡ requester.index_of_packet q.now n.now * q.now.responder.mtu }
 {
     index_of_packet(q, n) * u32::from(q.responder.mtu)
@@ -63,17 +61,18 @@ pub(crate) fn fill_packet_asks(
     n: &Numbered<'_>,
     asks: &mut ArrayVec<Ask, MAX_PIECES>,
 )
-    requires queue { IsQueue q.now }
     requires packet { IsPacket q.now n.now }
     requires empty { asks.old.items ≡ [] }
     ensures value { asks.new.items ≡ requester.packet_asks q.now n.now }
-    ensures touched { touched_by asks.new.items ≤ MAX_PAYLOAD_BYTES }
-    ensures asks { AllByRecursion (IsAskOf Kind.Read) asks.new.items }
+    ensures asks { AreAsksFor Kind.Read MAX_PAYLOAD_BYTES asks.new.items }
 {
+    let asker = Asker {
+        queue: q.queue,
+        domain: q.domain,
+        kind: Kind::Read,
+    };
     fill_asks(
-        q.queue,
-        q.domain,
-        Kind::Read,
+        asker,
         bytes_before(q, n),
         most_carried(q, n),
         list_of(n.op()),
@@ -88,11 +87,9 @@ pub(crate) fn spell(
     payload: &[u8],
     out: &mut Vec<u8>,
 ) -> Result<(), Memory>
-    requires queue { IsQueue q.now }
     requires packet { IsPacket q.now n.now }
     requires payload { length payload.now ≤ MAX_PAYLOAD_BYTES }
-    ensures ok { OnOk result (out.new.items ≡ out.old.items ++ requester.spelt_packet q.now n.now payload.now) }
-    ensures size { OnOk result (length out.new.items ≤ length out.old.items + MAX_PACKET_BYTES) }
+    ensures spelt { OnOk result (IsSpelt (requester.spelt_packet q.now n.now payload.now) out.old.items out.new.items) }
     ensures err { OnErr result (out.new.items ≡ out.old.items) }
 {
     let packet = packet_of(q, n, payload);
@@ -101,14 +98,13 @@ pub(crate) fn spell(
 
 /// The next packet, with this payload.
 fn packet_of<'a>(q: &QueuePart, n: &Numbered<'_>, payload: &'a [u8]) -> Packet<'a>
-    requires queue { IsQueue q.now }
     requires packet { IsPacket q.now n.now }
     requires payload { length payload.now ≤ MAX_PAYLOAD_BYTES }
-    ensures fields { packet_fields q.now n.now payload.now ≡ Some result }
-    ensures well_formed { IsWellFormed result }
+    ensures { IsBuilt (packet_fields q.now n.now payload.now) result }
 {
     let head = head_of(q, n, payload);
-    match n.op() {
+    let request = n.request();
+    match &request.op {
         SendOp::Send { .. } => send_of(&head, SendKind::Plain),
         SendOp::SendImm { imm, .. } => send_of(&head, SendKind::WithImmediate(*imm)),
         SendOp::SendInv { key, .. } => send_of(&head, SendKind::WithInvalidate(*key)),
@@ -122,10 +118,9 @@ fn packet_of<'a>(q: &QueuePart, n: &Numbered<'_>, payload: &'a [u8]) -> Packet<'
             list,
         } => write_of(&head, *address, *key, Some(*imm), list.as_slice()),
         SendOp::Read { address, key, list } => {
-            let reth = reth_behind(bytes_before(q, n), *address, *key, list.as_slice());
-            read_request(reth, head.queue, head.psn)
+            read_of(&head, bytes_before(q, n), *address, *key, list.as_slice())
         }
-        SendOp::CmpSwap { .. } | SendOp::FetchAdd { .. } => atomic_of(&head, n.request()),
+        SendOp::CmpSwap { .. } | SendOp::FetchAdd { .. } => atomic_of(&head, request),
         SendOp::Bind1 { .. }
         | SendOp::Bind2 { .. }
         | SendOp::FastReg { .. }
@@ -135,27 +130,20 @@ fn packet_of<'a>(q: &QueuePart, n: &Numbered<'_>, payload: &'a [u8]) -> Packet<'
 
 /// What a packet has of its queue pair and of its request, and its payload.
 #[derive(Clone, Copy)]
-struct Head<'a> {
-    index: u32,
-    count: u32,
-    solicited: bool,
-    queue: u32,
-    psn: u32,
-    payload: &'a [u8],
+pub(crate) struct Head<'a> {
+    pub index: u32,
+    pub count: u32,
+    pub solicited: bool,
+    pub queue: u32,
+    pub psn: u32,
+    pub payload: &'a [u8],
 }
 
 /// What the next packet has.
 fn head_of<'a>(q: &QueuePart, n: &Numbered<'_>, payload: &'a [u8]) -> Head<'a>
-    requires queue { IsQueue q.now }
     requires packet { IsPacket q.now n.now }
-    ensures index { result.index ≡ requester.index_of_packet q.now n.now }
-    ensures solicited { result.solicited ≡ n.now.request.solicited }
-    ensures count { result.count ≡ n.now.count }
-    ensures queue { result.queue ≡ requester.peer_number q.now }
-    ensures number { result.queue < 2 ^ 24 }
-    ensures psn { result.psn ≡ requester.psn_bits q.now.requester.cursor }
-    ensures narrow { result.psn < 2 ^ 24 }
-    ensures payload { result.payload ≡ payload.now }
+    requires payload { length payload.now ≤ MAX_PAYLOAD_BYTES }
+    ensures { IsHeadOf q.now n.now payload.now result }
 {
     Head {
         index: index_of_packet(q, n),
@@ -170,10 +158,9 @@ fn head_of<'a>(q: &QueuePart, n: &Numbered<'_>, payload: &'a [u8]) -> Head<'a>
 /// A packet of an atomic.
 fn atomic_of<'a>(head: &Head<'a>, request: &SendRequest) -> Packet<'a>
     requires atomic { is_atomic_op request.now.op ≡ true }
-    requires queue { head.now.queue < 2 ^ 24 }
-    requires psn { head.now.psn < 2 ^ 24 }
-    ensures fields { (mtu : ℕ) → requests.request_packet mtu request.now head.now.index head.now.queue head.now.psn head.now.payload ≡ Some result }
-    ensures well_formed { IsWellFormed result }
+    requires head { IsHead head.now }
+    ensures { (mtu : ℕ) → IsBuilt (requests.request_packet mtu request.now head.now.index head.now.queue head.now.psn head.now.payload.now)
+        result }
 {
     match &request.op {
         SendOp::CmpSwap {
@@ -213,13 +200,9 @@ fn segment_of(head: &Head<'_>) -> Segment
 
 /// A packet of a SEND.
 fn send_of<'a>(head: &Head<'a>, kind: SendKind) -> Packet<'a>
-    requires index { head.now.index < head.now.count }
-    requires queue { head.now.queue < 2 ^ 24 }
-    requires psn { head.now.psn < 2 ^ 24 }
-    requires payload { length head.now.payload ≤ MAX_PAYLOAD_BYTES }
-    ensures fields { result ≡ packets.send_packet kind (record { index = head.now.index; count = head.now.count })
-        head.now.solicited head.now.queue head.now.psn head.now.payload }
-    ensures well_formed { IsWellFormed result }
+    requires { IsHead head.now }
+    ensures { IsBuilt (Some (packets.send_packet kind (record { index = head.now.index; count = head.now.count })
+        head.now.solicited head.now.queue head.now.psn head.now.payload.now)) result }
 {
     send_packet(
         kind,
@@ -240,13 +223,10 @@ fn write_of<'a>(
     list: &[Piece],
 ) -> Packet<'a>
     requires list { IsList list.now }
-    requires index { head.now.index < head.now.count }
-    requires queue { head.now.queue < 2 ^ 24 }
-    requires psn { head.now.psn < 2 ^ 24 }
-    requires payload { length head.now.payload ≤ MAX_PAYLOAD_BYTES }
-    ensures fields { result ≡ packets.write_packet (record { index = head.now.index; count = head.now.count })
-        (reth_of address key (requests.list_length list.now)) imm head.now.solicited head.now.queue head.now.psn head.now.payload }
-    ensures well_formed { IsWellFormed result }
+    requires head { IsHead head.now }
+    ensures { IsBuilt (Some (packets.write_packet (record { index = head.now.index; count = head.now.count })
+        (reth_of address key (requests.list_length list.now)) imm
+        head.now.solicited head.now.queue head.now.psn head.now.payload.now)) result }
 {
     let reth = Reth {
         address,
@@ -264,14 +244,17 @@ fn write_of<'a>(
     )
 }
 
-/// What a READ reaches, without so many bytes at its front. Addresses count modulo 2^64.
-fn reth_behind(skip: u32, address: u64, key: Key, list: &[Piece]) -> Reth
-    requires { IsList list.now }
-    ensures { result ≡ requests.reth_behind skip address key (requests.list_length list.now) }
+/// A packet of a READ, for what it reaches without so many bytes at its front. Addresses count modulo 2^64.
+fn read_of<'a>(head: &Head<'a>, skip: u32, address: u64, key: Key, list: &[Piece]) -> Packet<'a>
+    requires list { IsList list.now }
+    requires head { IsHead head.now }
+    ensures { IsBuilt (Some (packets.read_request (requests.reth_behind skip address key (requests.list_length list.now))
+        head.now.queue head.now.psn)) result }
 {
-    Reth {
+    let reth = Reth {
         address: address.wrapping_add(u64::from(skip)),
         key,
         length: list_length(list).saturating_sub(skip),
-    }
+    };
+    read_request(reth, head.queue, head.psn)
 }

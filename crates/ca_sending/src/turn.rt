@@ -1,17 +1,17 @@
 ghost use Rattle.std.specs.Prelude.{◌≡◌, ◌+◌, ◌<◌, ◌^◌, true, IfOk, IfErr, sum_by, nat_lt};
 ghost use Rattle.std.specs.List.{list_any};
 ghost use Rattle.ca_keys.specs.Refusals.{first_of};
+ghost use Rattle.ca_model.specs.machine.CanStep.{AreNarrow, CanStep};
 ghost use Rattle.ca_model.specs.machine.Invariants as invariants;
-ghost use Rattle.ca_model.specs.machine.Invariants.{IsQueue};
 ghost use Rattle.ca_model.specs.machine.Numbering as numbering;
 ghost use Rattle.ca_model.specs.machine.Requester as requester;
-ghost use Rattle.ca_model.specs.machine.CanStep.{AreNarrow, CanStep};
-ghost use Rattle.ca_progress.specs.Numbering.{numbers_from, begun_from, IsWithin, IsNext, IsSound};
-ghost use Rattle.ca_sending.specs.Turn.{turn_on};
+ghost use Rattle.ca_sending.specs.Numbering.{numbers_from, begun_from, IsWithin, IsNext, IsSound};
+ghost use Rattle.ca_sending.specs.Turn.{IsTurnOn};
 
+use crate::numbering::{Next, Numbered, begun_at, next_request, numbered_at};
+use crate::state::is_sending;
 use ca_base::limits::{MAX_OUTSTANDING_PACKETS, MAX_OUTSTANDING_PSNS};
 use ca_base::{Reason, State};
-use ca_progress::{Next, Numbered, begun_at, is_sending, next_request, numbered_at};
 use ca_qpstate::QueuePart;
 use ca_rows::{is_answered, is_local, is_read};
 
@@ -21,9 +21,7 @@ use ca_rows::{is_answered, is_local, is_read};
 pub(crate) fn turn_of(q: &QueuePart) -> Result<Next<'_>, Reason>
     requires { CanStep q.now }
     ensures waits { IfErr result (λ reason. requester.turn_of q.now ≡ requester.Waits reason) }
-    ensures acts { IfOk result (λ next. requester.turn_of q.now ≡ turn_on next.request) }
-    ensures next { IfOk result (λ next. IsNext q.now next) }
-    ensures sending { IfOk result (λ next. invariants.is_sending q.now.state ≡ true) }
+    ensures acts { IfOk result (λ next. IsTurnOn q.now next) }
 {
     if !is_sending(q.state) {
         return Err(Reason::State);
@@ -41,7 +39,6 @@ pub(crate) fn turn_of(q: &QueuePart) -> Result<Next<'_>, Reason>
 /// The first reason that stands against the next thing, which is one of this request.
 #[inline(always)]
 fn refusal(q: &QueuePart, next: &Next<'_>) -> Option<Reason>
-    requires step { CanStep q.now }
     requires next { IsNext q.now next.now }
     requires sending { invariants.is_sending q.now.state ≡ true }
     ensures { result ≡ first_of (requester.turn_refusals q.now) }
@@ -60,11 +57,10 @@ fn refusal(q: &QueuePart, next: &Next<'_>) -> Option<Reason>
 
 /// Whether a request that begins has to wait for earlier ones: a local operation for all, one with the fence for READs
 /// and atomics.
-#[tactic(auto, using(ca_progress::proofs::NumberingLemmas::start_within))]
+#[tactic(auto, using(crate::proofs::NumberingLemmas::start_within))]
 #[inline(always)]
 fn is_fenced(q: &QueuePart, next: &Next<'_>) -> bool
-    requires step { CanStep q.now }
-    requires next { IsNext q.now next.now }
+    requires { IsNext q.now next.now }
     ensures { result ≡ requester.is_fenced q.now }
 {
     if !next.begins {
@@ -76,16 +72,15 @@ fn is_fenced(q: &QueuePart, next: &Next<'_>) -> bool
     next.request.request().fence && awaits_answer(q, q.requester.oldest, q.requester.oldest_psn)
 }
 
-/// Whether one of the requests from a place on that have begun is a READ or an atomic.
-fn awaits_answer(q: &QueuePart, place: u64, first: u64) -> bool
-    requires queue { IsQueue q.now }
-    requires within { IsWithin place first q.now }
-    ensures { result ≡ list_any (λ m. numbering.is_answered_op m.request.op) (begun_from place first q.now) }
+/// Whether one of the requests from a posting place on that have begun is a READ or an atomic.
+fn awaits_answer(q: &QueuePart, posting: u64, first: u64) -> bool
+    requires { IsWithin posting first q.now }
+    ensures { result ≡ list_any (λ m. numbering.is_answered_op m.request.op) (begun_from posting first q.now) }
 {
-    match begun_at(q, place, first) {
+    match begun_at(q, posting, first) {
         None => false,
         Some(n) if is_answered(n.op()) => true,
-        Some(n) => awaits_answer(q, place + 1, first + u64::from(n.count)),
+        Some(n) => awaits_answer(q, posting + 1, first + u64::from(n.count)),
     }
 }
 
@@ -115,17 +110,16 @@ pub(crate) fn is_too_much(q: &QueuePart, n: &Numbered<'_>) -> bool
     if upto.saturating_sub(q.requester.una) <= u64::from(q.requester.reads) {
         return false;
     }
-    is_too_much_counted(q, *n)
+    is_too_much_below(q, upto)
 }
 
-/// The same, where all is counted. The request comes by value, so that the caller need not keep one in memory.
+/// Whether too much would be outstanding below a PSN, where all is counted.
+#[tactic(auto, using(crate::proofs::NumberingLemmas::start_within))]
 #[inline(never)]
-fn is_too_much_counted(q: &QueuePart, n: Numbered<'_>) -> bool
-    requires step { CanStep q.now }
-    requires sound { IsSound q.now n }
-    ensures { result ≡ requester.is_too_much q.now n.entry }
+fn is_too_much_below(q: &QueuePart, upto: u64) -> bool
+    requires { CanStep q.now }
+    ensures { (n : numbering.Numbered) → requester.end_of_packet q.now n ≡ upto → result ≡ requester.is_too_much q.now n }
 {
-    let upto = end_of_packet(q, &n);
     let oldest = q.requester.oldest;
     let psn = q.requester.oldest_psn;
     upto.saturating_sub(q.requester.una) > u64::from(MAX_OUTSTANDING_PSNS)
@@ -133,24 +127,23 @@ fn is_too_much_counted(q: &QueuePart, n: Numbered<'_>) -> bool
         || has_more_answers(q, oldest, psn, upto, u64::from(q.requester.reads))
 }
 
-/// Whether more request packets than so many lie from `una` on and below a PSN, among the requests from a place on. No
+/// Whether more request packets than so many lie from `una` on and below a PSN, among the requests from a posting place on. No
 /// more lie there than PSNs.
-fn has_more_packets(q: &QueuePart, place: u64, first: u64, upto: u64, most: u64) -> bool
-    requires queue { IsQueue q.now }
-    requires within { IsWithin place first q.now }
-    ensures { result ≡ nat_lt most (sum_by (requester.packets_between q.now.requester.una upto) (numbers_from place first q.now)) }
+fn has_more_packets(q: &QueuePart, posting: u64, first: u64, upto: u64, most: u64) -> bool
+    requires { IsWithin posting first q.now }
+    ensures { result ≡ nat_lt most (sum_by (requester.packets_between q.now.requester.una upto) (numbers_from posting first q.now)) }
 {
     if upto.saturating_sub(q.requester.una.max(first)) <= most {
         return false;
     }
-    let Some(n) = numbered_at(q, place, first) else {
+    let Some(n) = numbered_at(q, posting, first) else {
         return false;
     };
     let packets = packets_between(q.requester.una, upto, &n);
     packets > most
         || has_more_packets(
             q,
-            place + 1,
+            posting + 1,
             first + u64::from(n.count),
             upto,
             most - packets,
@@ -158,22 +151,21 @@ fn has_more_packets(q: &QueuePart, place: u64, first: u64, upto: u64, most: u64)
 }
 
 /// Whether more READs and atomics than so many lie there.
-fn has_more_answers(q: &QueuePart, place: u64, first: u64, upto: u64, most: u64) -> bool
-    requires queue { IsQueue q.now }
-    requires within { IsWithin place first q.now }
-    ensures { result ≡ nat_lt most (sum_by (requester.answers_between q.now.requester.una upto) (numbers_from place first q.now)) }
+fn has_more_answers(q: &QueuePart, posting: u64, first: u64, upto: u64, most: u64) -> bool
+    requires { IsWithin posting first q.now }
+    ensures { result ≡ nat_lt most (sum_by (requester.answers_between q.now.requester.una upto) (numbers_from posting first q.now)) }
 {
     if upto.saturating_sub(q.requester.una.max(first)) <= most {
         return false;
     }
-    let Some(n) = numbered_at(q, place, first) else {
+    let Some(n) = numbered_at(q, posting, first) else {
         return false;
     };
     let answers = answers_between(q.requester.una, upto, &n);
     answers > most
         || has_more_answers(
             q,
-            place + 1,
+            posting + 1,
             first + u64::from(n.count),
             upto,
             most - answers,

@@ -1,28 +1,16 @@
-use Rattle.std.proofs.Common.{◌≡◌, ◌∙◌, ◌+◌, ◌++◌, ◌∷◌, List, ap, arith, suc}
-use Rattle.ca_model.specs.declared.mark.Mark.{Mark}
-use Rattle.ca_model.specs.declared.mark.Mark.TheVariants as marks
-use Rattle.ca_model.specs.machine.Acknowledgements.{failure_effects, with_requester}
+use Rattle.std.proofs.Common.{◌+◌, ap, arith, rules, subst}
+use Rattle.ca_base.specs.objects.QueuePair.{QueuePair}
 use Rattle.ca_model.specs.machine.Row.{Effects}
-use Rattle.ca_progress.proofs.FinishedLemmas.{nothing-between}
+use Rattle.ca_rows.specs.Made.{HasMade}
+use Rattle.ca_requester.proofs.TimerLemmas.{timer_retries}
 use Rattle.ca_requester.proofs.timers.on_timeout.Goals as goal
 
-pub returns-in_ok-go_back_on_timeout-in-Goes-clause-queue : goal.returns-in_ok-go_back_on_timeout-in-Goes-clause-queue
-returns-in_ok-go_back_on_timeout-in-Goes-clause-queue c =
-    let one : suc c.args.q.now.requester.timers ≡ c.args.q.now.requester.timers + 1 = omega arith in
-    rw one (c.in_ok-go_back_on_timeout-in-Goes.ensures.queue ∙ ap (λ (e : Effects). e.queue) (c.in-Goes.ensures.effects c.args.q.now))
-
-pub returns-in_ok-go_back_on_timeout-in-Goes-clause-marks : goal.returns-in_ok-go_back_on_timeout-in-Goes-clause-marks
-returns-in_ok-go_back_on_timeout-in-Goes-clause-marks c =
-    let one : suc c.args.q.now.requester.timers ≡ c.args.q.now.requester.timers + 1 = omega arith in
-    rw one (c.in_ok-go_back_on_timeout-in-Goes.ensures.marks
-    ∙ ap (λ (e : Effects). c.args.marks.now.marks ++ marks.Timer c.args.q.now.queue c.args.silent ∷ e.marks) (c.in-Goes.ensures.effects c.args.q.now))
-
-pub returns-in_ok-fail-in-Fails-clause-marks : goal.returns-in_ok-fail-in-Fails-clause-marks
-returns-in_ok-fail-in-Fails-clause-marks c =
-    let q = c.args.q.now in
-    let failure = c.in-Fails.failure in
-    let one : suc c.args.q.now.requester.timers ≡ c.args.q.now.requester.timers + 1 = omega arith in
-    rw one (c.in_ok-fail-in-Fails.ensures.marks
-    ∙ ap (λ (ms : List Mark). c.args.marks.now.marks ++ (ms ++ marks.Timer c.args.q.now.queue c.args.silent ∷ (failure_effects failure.status failure.cause (with_requester failure.numbers q)).marks))
-    (nothing-between q c.args.q.now.requester.oldest failure.numbers.oldest c.in-Fails.ensures.numbers)
-    ∙ ap (λ (e : Effects). c.args.marks.now.marks ++ marks.Timer c.args.q.now.queue c.args.silent ∷ e.marks) (c.in-Fails.ensures.effects q))
+pub returns : goal.returns
+returns c =
+    let P : Effects → Type 0 = λ e. HasMade e c.make.new.q c.args.marks.now c.make.new.marks in (
+      search rules,
+      subst P
+          (timer_retries c.args.q.now c.q.inside.requester (c.q.inside.requester.timers + 1) c.q.inside.queue c.args.silent c.one_retry-outcome.result
+          (ap (λ (q : QueuePair). q.requester) c.q.view_is) (ap (λ (q : QueuePair). q.queue) c.q.view_is) (omega arith) c.one_retry-outcome.ensures)
+          c.in_ok-make.ensures,
+    )

@@ -1,4 +1,0 @@
-pub mod NumberingLemmas
-pub mod OutcomeLemmas
-pub mod ProgressLemmas
-pub mod FinishedLemmas

@@ -1,0 +1,12 @@
+use Rattle.std.proofs.Common.{rules}
+use Rattle.ca_model.specs.machine.Responses.{rnr_nak_effects}
+use Rattle.ca_requester.proofs.ResponseLemmas.{makes_on, makes_unless}
+use Rattle.ca_requester.proofs.responses.on_rnr_nak.Goals as goal
+
+pub returns-then-acknowledged : goal.returns-then-acknowledged
+returns-then-acknowledged c =
+    makes_unless c.args.q.now c.args.psn c.acknowledged_below-acknowledged.result (rnr_nak_effects c.args.psn) c.on_implied_nak.result c.acknowledged_below-acknowledged.ensures (search rules) c.on_implied_nak.ensures
+
+pub returns : goal.returns
+returns c =
+    makes_on c.args.q.now c.args.psn c.acknowledged_below-acknowledged.result c.numbers_after.result (rnr_nak_effects c.args.psn) c.rnr_nak.result c.acknowledged_below-acknowledged.ensures (search rules) c.numbers_after.ensures c.rnr_nak.ensures
