@@ -15,14 +15,12 @@ use ca_bed_requester::{Bed, are_here, is_narrow, is_response};
 use ca_model::Marks;
 use ca_qpstate::QueuePart;
 use ca_requester::{next_asks, next_packet, on_response, response_asks};
-use ca_rows::keep_marks;
 use ca_wire::{Packet, decode};
 use std::alloc::Global;
 
 // The requester sends its next packet.
 #[inline(never)]
 fn send(
-    alloc: Global,
     q: &mut QueuePart,
     reach: &mut SmallReach,
     marks: &mut Marks,
@@ -34,11 +32,11 @@ fn send(
     ensures queue { IsQueue q.new }
     ensures parts { small.FitTogether reach.new }
 {
-    next_packet(alloc, q, reach, true, marks, out).is_ok()
+    next_packet(q, reach, true, marks, out).is_ok()
 }
 
 // Sends the next packet; false where that cannot be tried here.
-fn send_next(alloc: Global, bed: &mut Bed, marks: &mut Marks, out: &mut Vec<u8>) -> bool
+fn send_next(bed: &mut Bed, marks: &mut Marks, out: &mut Vec<u8>) -> bool
     requires { beds.Stands bed.old }
     ensures { beds.Stands bed.new }
 {
@@ -49,13 +47,12 @@ fn send_next(alloc: Global, bed: &mut Bed, marks: &mut Marks, out: &mut Vec<u8>)
     if !are_here(&bed.reach, asks.as_slice()) {
         return false;
     }
-    send(alloc, &mut bed.queue, &mut bed.reach, marks, out)
+    send(&mut bed.queue, &mut bed.reach, marks, out)
 }
 
 // The requester takes a response.
 #[inline(never)]
 fn take(
-    alloc: Global,
     q: &mut QueuePart,
     reach: &mut SmallReach,
     p: &Packet<'_>,
@@ -69,11 +66,11 @@ fn take(
     ensures queue { IsQueue q.new }
     ensures parts { small.FitTogether reach.new }
 {
-    on_response(alloc, q, reach, p, marks).is_ok()
+    on_response(q, reach, p, marks).is_ok()
 }
 
 // Delivers a response; false where that cannot be tried here.
-fn deliver(alloc: Global, bed: &mut Bed, p: &Packet<'_>, marks: &mut Marks) -> bool
+fn deliver(bed: &mut Bed, p: &Packet<'_>, marks: &mut Marks) -> bool
     requires stands { beds.Stands bed.old }
     requires packet { IsWellFormed p.now }
     ensures { beds.Stands bed.new }
@@ -85,7 +82,7 @@ fn deliver(alloc: Global, bed: &mut Bed, p: &Packet<'_>, marks: &mut Marks) -> b
     if !are_here(&bed.reach, asks.as_slice()) {
         return false;
     }
-    take(alloc, &mut bed.queue, &mut bed.reach, p, marks)
+    take(&mut bed.queue, &mut bed.reach, p, marks)
 }
 
 /// The acknowledgement of a PSN.
@@ -94,20 +91,19 @@ fn acknowledgement(psn: u8) -> [u8; 16] {
 }
 
 // Takes the acknowledgement of a PSN.
-fn answer(alloc: Global, bed: &mut Bed, psn: u8, marks: &mut Marks) -> bool
+fn answer(bed: &mut Bed, psn: u8, marks: &mut Marks) -> bool
     requires { beds.Stands bed.old }
     ensures { beds.Stands bed.new }
 {
     match decode(acknowledgement(psn).as_slice()) {
         Err(_) => false,
-        Ok(p) => deliver(alloc, bed, &p, marks),
+        Ok(p) => deliver(bed, &p, marks),
     }
 }
 
 // Posts requests, sends each and takes its acknowledgement, from a PSN on; how many marks that made. The marks of a turn
 // are let go at its end.
 fn turns(
-    alloc: Global,
     bed: &mut Bed,
     psn: u8,
     count: u8,
@@ -122,12 +118,12 @@ fn turns(
     }
     let request = write()?;
     out.clear();
-    if !bed.post(request) || !send_next(alloc, bed, marks, out) || !answer(alloc, bed, psn, marks) {
+    if !bed.post(request) || !send_next(bed, marks, out) || !answer(bed, psn, marks) {
         return None;
     }
     let made = marks.as_slice().len();
-    keep_marks(alloc, marks, 0);
-    let more = turns(alloc, bed, psn + 1, count, marks, out)?;
+    marks.truncate(0);
+    let more = turns(bed, psn + 1, count, marks, out)?;
     Some(made.saturating_add(more))
 }
 
@@ -140,7 +136,7 @@ fn run(alloc: Global, bed: &mut Bed, count: u8) -> Option<usize>
     if !bring_up(bed, 0) || marks.reserve(16).is_err() || out.reserve(4096).is_err() {
         return None;
     }
-    turns(alloc, bed, 0, count, &mut marks, &mut out)
+    turns(bed, 0, count, &mut marks, &mut out)
 }
 
 /// Sends a WRITE and takes its acknowledgement, so many times; how many marks that made.

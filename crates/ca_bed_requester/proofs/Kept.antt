@@ -17,7 +17,6 @@ use Rattle.ca_base.specs.objects.QueuePair.{QueuePair}
 use Rattle.ca_grant.specs.Reaching.{AreAtHand}
 use Rattle.ca_laws.proofs.ResponseLemmas.{IsGoodEnding, IsGoodRow, plain-good, response-good}
 use Rattle.ca_laws.proofs.TurnLemmas.{all-fail, operation-good, packet-good, timeout-good, wake-good}
-use Rattle.ca_model.specs.declared.mark.Mark.{Mark}
 use Rattle.ca_qpstate.specs.ComesUp.{AreDepths}
 use Rattle.ca_model.specs.machine.Invariants.{IsList, IsQueue, is_sending}
 use Rattle.ca_model.specs.machine.Requester.{RequestTurn, Waits, Performs, Sends, turn_of}
@@ -29,8 +28,11 @@ use Rattle.ca_base.specs.objects.WorkQueue.{is_full}
 use Rattle.ca_laws.proofs.VerbLemmas.{posted-send}
 use Rattle.ca_model.specs.Requests.{list_of}
 use Rattle.ca_model.specs.machine.PostingVerbs.{with_send}
-use Rattle.ca_sending.specs.Turn.{no_marks, operation_end, turn_row}
-use Rattle.ca_rows.specs.Done.{Handed, IsTurn, IsTaking, written_all}
+use Rattle.ca_base.specs.declared.step.Reason.{Reason}
+use Rattle.ca_model.specs.Marks.{MarkList}
+use Rattle.ca_requester.specs.Timers.{IsPlainStep, IsStep}
+use Rattle.ca_sending.specs.Turn.{IsOperationEnd, no_marks, operation_end, turn_row}
+use Rattle.ca_rows.specs.Made.{IsTurn, IsTaking, written_all}
 use Rattle.ca_bed_reach.specs.SmallLaws.{small-keeps}
 use Rattle.ca_bed_reach.specs.SmallReach.{FitTogether, IsAskHere, after_write_by, sight_of}
 use Rattle.ca_bed_reach.specs.declared.small_reach.SmallReach.{SmallReach}
@@ -60,42 +62,44 @@ pub writes-keep : (xs : List (Ask × List ℕ)) (s : SmallReach) → FitTogether
 writes-keep [] s fit = fit
 writes-keep (x ∷ xs) s fit = writes-keep xs (after_write_by s x.0 x.1) (small-keeps s x.0 x.1 fit)
 
--- what is kept from what was handed to what came back
-pub record IsKept (new : Handed SmallReach) : Type 0 where
-  pub queue : IsQueue new.queue
-  pub reach : FitTogether new.reach
+-- what is kept by a call
+pub record IsKept (q : QueuePair) (s : SmallReach) : Type 0 where
+  pub queue : IsQueue q
+  pub reach : FitTogether s
 
-same-kept : (before new : Handed SmallReach) → IsKept before → new ≡ before → IsKept new
-same-kept before new kept e = rw e kept
+-- nothing changed
+same-kept : (q new : QueuePair) (s t : SmallReach) → IsKept q s → new ≡ q → t ≡ s → IsKept new t
+same-kept q new s t kept same reach = rw (same, reach) kept
 
-pub turn-ending-kept : (result : Result Sent StepError) (ending : Ending) (before new : Handed SmallReach) → IsKept before → IsGoodEnding before.queue ending
-    → IsTurn after_write_by result ending before new → IsKept new
-turn-ending-kept (Ok sent) (Does e) before new kept good h =
-    rw h.1 (record { queue = good.sound; reach = writes-keep e.writes before.reach kept.reach })
-turn-ending-kept (Ok sent) (NotPossible reason) before new kept good h = absurd h.1
-turn-ending-kept (Err (steps.NotReady reason)) ending before new kept good h = same-kept before new kept h.1
-turn-ending-kept (Err steps.Memory) ending before new kept good h = same-kept before new kept h
+turn-ending-kept : (result : Result Sent StepError) (ending : Ending) (q new : QueuePair) (before after : MarkList) (s t : SmallReach) (out_before out_after : List ℕ)
+    → IsKept q s → IsGoodEnding q ending → IsTurn after_write_by result ending q new before after s t out_before out_after → IsKept new t
+turn-ending-kept (Ok sent) (Does e) q new before after s t out_before out_after kept good h =
+    rw (h.1.0.queue, h.1.1.0) (record { queue = good.sound; reach = writes-keep e.writes s kept.reach })
+turn-ending-kept (Ok sent) (NotPossible reason) q new before after s t out_before out_after kept good h = absurd h
+turn-ending-kept (Err (steps.NotReady reason)) ending q new before after s t out_before out_after kept good h =
+    same-kept q new s t kept h.1.0.queue h.1.1.0
+turn-ending-kept (Err steps.Memory) ending q new before after s t out_before out_after kept good h = same-kept q new s t kept h.0.queue h.1.0
 
-pub turn_kept : (result : Result Sent StepError) (s : Sight) (room : Bool) (before new : Handed SmallReach) → IsKept before
-    → IsTurn after_write_by result (ending_of s (turn_row before.queue room)) before new → IsKept new
-turn_kept result s room before new kept h =
-    turn-ending-kept result (ending_of s (turn_row before.queue room)) before new kept
-    (ends-good before.queue s (turn_row before.queue room) (turn-good before.queue room kept.queue)) h
+pub turn_kept : (result : Result Sent StepError) (sight : Sight) (room : Bool) (q new : QueuePair) (before after : MarkList) (s t : SmallReach) (out_before out_after : List ℕ)
+    → IsKept q s → IsTurn after_write_by result (ending_of sight (turn_row q room)) q new before after s t out_before out_after → IsKept new t
+turn_kept result sight room q new before after s t out_before out_after kept h =
+    turn-ending-kept result (ending_of sight (turn_row q room)) q new before after s t out_before out_after kept
+    (ends-good q sight (turn_row q room) (turn-good q room kept.queue)) h
 
-taking-ending-kept : (result : Result (Unit {0}) Memory) (ending : Ending) (before new : Handed SmallReach) → IsKept before → IsGoodEnding before.queue ending
-    → IsTaking after_write_by result ending before new → IsKept new
-taking-ending-kept (Ok done) (Does e) before new kept good h =
-    rw h (record { queue = good.sound; reach = writes-keep e.writes before.reach kept.reach })
-taking-ending-kept (Ok done) (NotPossible reason) before new kept good h = absurd h
-taking-ending-kept (Err memory) ending before new kept good h = same-kept before new kept h
+taking-ending-kept : (result : Result (Unit {0}) Memory) (ending : Ending) (q new : QueuePair) (before after : MarkList) (s t : SmallReach)
+    → IsKept q s → IsGoodEnding q ending → IsTaking after_write_by result ending q new before after s t → IsKept new t
+taking-ending-kept (Ok done) (Does e) q new before after s t kept good h =
+    rw (h.0.queue, h.1) (record { queue = good.sound; reach = writes-keep e.writes s kept.reach })
+taking-ending-kept (Ok done) (NotPossible reason) q new before after s t kept good h = absurd h
+taking-ending-kept (Err memory) ending q new before after s t kept good h = same-kept q new s t kept h.0.queue h.1
 
-pub taking_kept : (result : Result (Unit {0}) Memory) (s : Sight) (p : Fields) (before new : Handed SmallReach) → IsKept before
-    → IsTaking after_write_by result (ending_of s (response_row p before.queue)) before new → IsKept new
-taking_kept result s p before new kept h =
-    taking-ending-kept result (ending_of s (response_row p before.queue)) before new kept
-    (ends-good before.queue s (response_row p before.queue) (response-good p before.queue kept.queue)) h
+pub taking_kept : (result : Result (Unit {0}) Memory) (sight : Sight) (p : Fields) (q new : QueuePair) (before after : MarkList) (s t : SmallReach)
+    → IsKept q s → IsTaking after_write_by result (ending_of sight (response_row p q)) q new before after s t → IsKept new t
+taking_kept result sight p q new before after s t kept h =
+    taking-ending-kept result (ending_of sight (response_row p q)) q new before after s t kept
+    (ends-good q sight (response_row p q) (response-good p q kept.queue)) h
 
-pub stands_by : (b : Bed) {ms : List Mark} {out : List ℕ} → IsKept (record { queue = b.queue; marks = ms; out = out; reach = b.reach }) → Stands b
+pub stands_by : (b : Bed) → IsKept b.queue b.reach → Stands b
 stands_by b kept = record { queue = kept.queue; reach = kept.reach }
 
 -- asks of this adapter may be handed on
@@ -103,20 +107,34 @@ pub at_hand : (s : SmallReach) {asks bs : List Ask} → asks ≡ bs → AllByRec
     → AreAtHand sight_of IsAskHere (λ s ask. Unit {0}) s bs
 at_hand s same keys bytes = record { keys = subst (AllByRecursion (IsAskHere s)) same keys; bytes = λ none. subst (AllByRecursion (λ ask. Unit {0})) same bytes }
 
-pub timeout_kept : (silent hasten : Bool) (q p : QueuePair) → IsQueue q → first_of (timeout_refusals silent hasten q) ≡ None → p ≡ (after_timeout silent q).queue → IsQueue p
-timeout_kept silent hasten q p is none same =
+timeout-kept : (silent hasten : Bool) (q new : QueuePair) → IsQueue q → first_of (timeout_refusals silent hasten q) ≡ None → new ≡ (after_timeout silent q).queue → IsQueue new
+timeout-kept silent hasten q new is none same =
     rw same (timeout-good q silent is (not-false (is_sending q.state) (all-fail (timeout_refusals silent hasten q) none).0)).sound
 
-pub wake_kept : (q : QueuePair) → IsQueue q → IsQueue (after_wake q).queue
-wake_kept q is = (wake-good q is).sound
+pub timeout_kept : (result : Result (Unit {0}) StepError) (silent hasten : Bool) (q new : QueuePair) (before after : MarkList) → IsQueue q
+    → IsStep result (first_of (timeout_refusals silent hasten q)) (after_timeout silent q) q new before after → IsQueue new
+timeout_kept (Ok done) silent hasten q new before after is h = timeout-kept silent hasten q new is h.0 h.1.queue
+timeout_kept (Err error) silent hasten q new before after is h = rw h.1.queue is
 
-pub operation_kept : (q p : QueuePair) (cause : Option OpRefusal) → IsQueue q → p ≡ (operation_end q cause).queue → IsQueue p
-operation_kept q p cause is same = rw same (by (turn_of q) refl)
+pub wake_kept : (result : Result (Unit {0}) Reason) (refusal : Option Reason) (q new : QueuePair) → IsQueue q
+    → IsPlainStep result refusal (after_wake q) q new → IsQueue new
+wake_kept (Ok done) refusal q new is h = rw h.1 (wake-good q is).sound
+wake_kept (Err reason) refusal q new is h = rw h.1 is
+
+operation-kept : (q new : QueuePair) (cause : Option OpRefusal) → IsQueue q → new ≡ (operation_end q cause).queue → IsQueue new
+operation-kept q new cause is same = rw same (by (turn_of q) refl)
   where
     by : (t : RequestTurn) → turn_of q ≡ t → IsQueue (operation_end q cause).queue
     by (Performs n) e = rw e (operation-good q n q.windows no_marks cause is e).sound
     by (Waits reason) e = rw e is
     by (Sends n) e = rw e is
+
+pub operation_kept : (result : Result (Unit {0}) Memory) (cause : Option OpRefusal) (q new : QueuePair) (before after : MarkList) → IsQueue q
+    → IsOperationEnd result cause (operation_end q cause) q new before after → IsQueue new
+operation_kept (Ok done) None q new before after is h = operation-kept q new None is h.queue
+operation_kept (Err error) None q new before after is h = absurd h
+operation_kept (Ok done) (Some cause) q new before after is h = operation-kept q new (Some cause) is h.queue
+operation_kept (Err error) (Some cause) q new before after is h = rw h.queue is
 
 pub posted_kept : (q p : QueuePair) (request : SendRequest) → IsQueue q → IsList (list_of request.op) → IsTrue (not (is_full q.sends)) → p ≡ with_send request None q → IsQueue p
 posted_kept q p request is list free same = rw same (posted-send q request None is list (by (is_full q.sends) free))

@@ -24,7 +24,6 @@ use ca_requester::{
 };
 use ca_rows::list_of;
 use ca_wire::{Operation, Packet, operation_of};
-use std::alloc::Global;
 
 /// A queue pair, and what it reaches.
 #[derive(Drop)]
@@ -106,40 +105,21 @@ fn is_local_next(q: &QueuePart) -> bool
 }
 
 // A timer fires.
-
-fn fire(
-    alloc: Global,
-    q: &mut QueuePart,
-    silent: bool,
-    hasten: bool,
-    marks: &mut Marks,
-) -> Result<(), StepError>
+fn fire(q: &mut QueuePart, silent: bool, hasten: bool, marks: &mut Marks) -> Result<(), StepError>
     requires { CanStep q.old }
     ensures { IsQueue q.new }
 {
-    match on_timeout(alloc, q, silent, hasten, marks) {
-        Ok(()) => Ok(()),
-        Err(error) => Err(error),
-    }
+    on_timeout(q, silent, hasten, marks)
 }
 
 // The local operation that the turn performs is done.
-
-fn finish(
-    alloc: Global,
-    q: &mut QueuePart,
-    cause: Option<OpRefusal>,
-    marks: &mut Marks,
-) -> Result<(), Memory>
+fn finish(q: &mut QueuePart, cause: Option<OpRefusal>, marks: &mut Marks) -> Result<(), Memory>
     requires step { CanStep q.old }
     requires performs { is_performing (turn_of q.old) ≡ true }
     ensures { IsQueue q.new }
 {
     marks.reserve(1)?;
-    match local_done(alloc, q, cause, marks) {
-        Ok(()) => Ok(()),
-        Err(memory) => Err(memory),
-    }
+    local_done(q, cause, marks)
 }
 
 // Posts a request that can be posted, unless the queue is full.
@@ -175,7 +155,6 @@ impl Bed {
     #[inline(never)]
     pub fn send(
         &mut self,
-        alloc: Global,
         room: bool,
         marks: &mut Marks,
         out: &mut Vec<u8>,
@@ -190,17 +169,12 @@ impl Bed {
         if !are_here(&self.reach, asks.as_slice()) {
             return None;
         }
-        Some(next_packet(alloc, &mut self.queue, &mut self.reach, room, marks, out))
+        Some(next_packet(&mut self.queue, &mut self.reach, room, marks, out))
     }
 
     /// Takes a packet, if it is a response; None where that cannot be tried here.
     #[inline(never)]
-    pub fn take(
-        &mut self,
-        alloc: Global,
-        p: &Packet<'_>,
-        marks: &mut Marks,
-    ) -> Option<Result<(), Memory>>
+    pub fn take(&mut self, p: &Packet<'_>, marks: &mut Marks) -> Option<Result<(), Memory>>
         requires stands { beds.Stands self.old }
         requires packet { IsWellFormed p.now }
         ensures { beds.Stands self.new }
@@ -212,13 +186,12 @@ impl Bed {
         if !are_here(&self.reach, asks.as_slice()) {
             return None;
         }
-        Some(on_response(alloc, &mut self.queue, &mut self.reach, p, marks))
+        Some(on_response(&mut self.queue, &mut self.reach, p, marks))
     }
 
     /// A timer fires; None where that cannot be tried here.
     pub fn time_out(
         &mut self,
-        alloc: Global,
         silent: bool,
         hasten: bool,
         marks: &mut Marks,
@@ -229,11 +202,10 @@ impl Bed {
         if !is_narrow(&self.queue) {
             return None;
         }
-        Some(fire(alloc, &mut self.queue, silent, hasten, marks))
+        Some(fire(&mut self.queue, silent, hasten, marks))
     }
 
     /// A wake after an RNR NAK.
-    #[tactic(auto, using(crate::proofs::Kept::wake_kept))]
     pub fn wake(&mut self, peer_empty: bool) -> Result<(), Reason>
         requires { beds.Stands self.old }
         ensures { beds.Stands self.new }
@@ -257,7 +229,6 @@ impl Bed {
     /// Finishes the local operation that the turn performs; None where there is none, or where it cannot be tried here.
     pub fn perform(
         &mut self,
-        alloc: Global,
         cause: Option<OpRefusal>,
         marks: &mut Marks,
     ) -> Option<Result<(), Memory>>
@@ -270,7 +241,7 @@ impl Bed {
         if !is_local_next(&self.queue) {
             return None;
         }
-        Some(finish(alloc, &mut self.queue, cause, marks))
+        Some(finish(&mut self.queue, cause, marks))
     }
 
     /// Posts a request; false where it is none that can be posted.

@@ -177,7 +177,8 @@ fn take_implied_nak(
     marks: &mut Marks,
 ) -> Result<(), Memory>
     requires { IsProgress acknowledged.now.until q.old.requester (numbers_behind acknowledged.now q.old) q.old }
-    ensures { IsMade result (acknowledgement_of true acknowledged.now.until q.old).effects q.old q.new marks.old marks.new }
+    ensures { IsMade result
+        (acknowledgement_of true acknowledged.now.until q.old).effects q.old q.new marks.old marks.new }
 {
     let outcome = on_implied_nak(q, acknowledged);
     make(q, &outcome, None, marks)
@@ -219,8 +220,10 @@ fn take_answer<R: Reach>(
     requires step { CanStep q.old }
     requires packet { IsWellFormed p.now }
     requires psn { psn < 2 ^ 62 }
-    requires at_hand { AreAtHand R.sight R.judges R.touches reach.old (rows.fitting_row psn p.now (acknowledgement_below psn q.old)).asks }
-    ensures { IsTaking R.written result (ending_of (R.sight reach.old) (rows.fitting_row psn p.now (acknowledgement_below psn q.old)))
+    requires at_hand { AreAtHand R.sight R.judges R.touches reach.old
+        (rows.fitting_row psn p.now (acknowledgement_below psn q.old)).asks }
+    ensures { IsTaking R.written result
+        (ending_of (R.sight reach.old) (rows.fitting_row psn p.now (acknowledgement_below psn q.old)))
         q.old q.new marks.old marks.new reach.old reach.new }
 {
     match answer_of(q, p, psn) {

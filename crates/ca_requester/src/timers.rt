@@ -60,7 +60,8 @@ fn timeout_refusal(q: &QueuePart, silent: bool, hasten: bool) -> Option<Reason>
 /// The waiting after an RNR NAK ends. `peer_empty` says that a path leads to the peer and the peer has no receive to take.
 /// Else the reason is the first of `State`, `Empty` and `RnrWait`, and nothing changes. It takes no memory.
 pub fn on_rnr_wake(q: &mut QueuePart, peer_empty: bool) -> Result<(), Reason>
-    ensures { IsPlainStep result (first_of (timers.wake_refusals peer_empty q.old)) (timers.after_wake q.old) q.old q.new }
+    ensures { IsPlainStep result (first_of (timers.wake_refusals peer_empty q.old))
+        (timers.after_wake q.old) q.old q.new }
 {
     if let Some(reason) = wake_refusal(q, peer_empty) {
         return Err(reason);

@@ -16,7 +16,8 @@ use ca_rows::{is_local, push_success};
 pub fn next_local(q: &QueuePart) -> Result<Option<(&SendRequest, Option<u8>)>, Reason>
     requires { CanStep q.now }
     ensures waits { IfErr result (λ reason. operation_in (requester.turn_of q.now) ≡ Err reason) }
-    ensures operation { IfOk result (λ operation. operation_in (requester.turn_of q.now) ≡ Ok (option_map (λ x. (x.0.now, x.1)) operation)) }
+    ensures operation { IfOk result (λ operation. operation_in (requester.turn_of q.now)
+        ≡ Ok (option_map (λ x. (x.0.now, x.1)) operation)) }
 {
     match turn_of(q) {
         Err(reason) => Err(reason),

@@ -169,7 +169,8 @@ fn push_failure(
     made: &mut Vec<Mark>,
 ) -> Result<(), Memory>
     requires { IsAhead oldest q.now }
-    ensures { OnOk result (made.new.items ≡ made.old.items ++ (failure_effects status cause (with_oldest oldest q.now)).marks) }
+    ensures { OnOk result (made.new.items
+        ≡ made.old.items ++ (failure_effects status cause (with_oldest oldest q.now)).marks) }
 {
     if oldest >= q.sends.next_place() {
         return push_flushed(q, oldest, made);

@@ -159,7 +159,8 @@ fn head_of<'a>(q: &QueuePart, n: &Numbered<'_>, payload: &'a [u8]) -> Head<'a>
 fn atomic_of<'a>(head: &Head<'a>, request: &SendRequest) -> Packet<'a>
     requires atomic { is_atomic_op request.now.op ≡ true }
     requires head { IsHead head.now }
-    ensures { (mtu : ℕ) → IsBuilt (requests.request_packet mtu request.now head.now.index head.now.queue head.now.psn head.now.payload.now)
+    ensures { (mtu : ℕ) → IsBuilt
+        (requests.request_packet mtu request.now head.now.index head.now.queue head.now.psn head.now.payload.now)
         result }
 {
     match &request.op {
@@ -248,7 +249,8 @@ fn write_of<'a>(
 fn read_of<'a>(head: &Head<'a>, skip: u32, address: u64, key: Key, list: &[Piece]) -> Packet<'a>
     requires list { IsList list.now }
     requires head { IsHead head.now }
-    ensures { IsBuilt (Some (packets.read_request (requests.reth_behind skip address key (requests.list_length list.now))
+    ensures { IsBuilt (Some
+        (packets.read_request (requests.reth_behind skip address key (requests.list_length list.now))
         head.now.queue head.now.psn)) result }
 {
     let reth = Reth {

@@ -108,7 +108,8 @@ fn send_nothing<R: Reach>(
     requires queue { IsQueue q.old }
     requires asks { CanJudge R.judges reach.now asks.now }
     requires nothing { room ≡ true → is_some (sights.first_denied (R.sight reach.now) asks.now) ≡ true }
-    ensures { (n : numbering.Numbered) (out : List ℕ) → requester.packet_asks q.old n ≡ asks.now → requester.is_too_much q.old n ≡ false
+    ensures { (n : numbering.Numbered) (out : List ℕ) → requester.packet_asks q.old n ≡ asks.now
+        → requester.is_too_much q.old n ≡ false
         → IsTurn R.written result (ending_of (R.sight reach.now) (requester.packet_row q.old room n))
         q.old q.new marks.old marks.new reach.now reach.now out out }
 {
@@ -125,7 +126,8 @@ fn send_nothing<R: Reach>(
 
 /// Why a denied list does not fail its request now: something is outstanding, or the peer has no room.
 fn denied_refusal(q: &QueuePart, room: bool) -> Option<Reason>
-    ensures { result ≡ (if requester.is_outstanding q.now then Some Reason.Outstanding else if not room then Some Reason.NoRoom else None) }
+    ensures { result ≡ (if requester.is_outstanding q.now then Some Reason.Outstanding else if not room then
+        Some Reason.NoRoom else None) }
 {
     if q.requester.una < q.requester.cursor {
         return Some(Reason::Outstanding);
@@ -164,7 +166,8 @@ fn read_and_spell<R: Reach>(
     requires at_hand { AreAtHand R.sight R.judges R.touches reach.old asks.now }
     requires asks { AreAsksFor Kind.Read MAX_PAYLOAD_BYTES asks.now }
     requires few { length asks.now ≤ MAX_PIECES }
-    ensures spelt { IsSpellingOrNone (R.sight reach.old) q.now n.now asks.now result marks.old marks.new out.old.items out.new.items }
+    ensures spelt { IsSpellingOrNone
+        (R.sight reach.old) q.now n.now asks.now result marks.old marks.new out.old.items out.new.items }
     ensures same { reach.new ≡ reach.old }
 {
     marks.reserve(asks.len() as u32 + SPARE_MARKS)?;
@@ -192,7 +195,8 @@ fn read_then_spell<R: Reach>(
     requires at_hand { AreAtHand R.sight R.judges R.touches reach.old asks.now }
     requires asks { AreAsksFor Kind.Read MAX_PAYLOAD_BYTES asks.now }
     requires spare { length asks.now + SPARE_MARKS ≤ marks.old.room }
-    ensures spelt { IsSpelling (R.sight reach.old) q.now n.now asks.now result marks.old marks.new out.old.items out.new.items }
+    ensures spelt { IsSpelling
+        (R.sight reach.old) q.now n.now asks.now result marks.old marks.new out.old.items out.new.items }
     ensures same { reach.new ≡ reach.old }
 {
     let count = marks.as_slice().len();

@@ -118,7 +118,8 @@ pub(crate) fn is_too_much(q: &QueuePart, n: &Numbered<'_>) -> bool
 #[inline(never)]
 fn is_too_much_below(q: &QueuePart, upto: u64) -> bool
     requires { CanStep q.now }
-    ensures { (n : numbering.Numbered) → requester.end_of_packet q.now n ≡ upto → result ≡ requester.is_too_much q.now n }
+    ensures { (n : numbering.Numbered) → requester.end_of_packet q.now n ≡ upto
+        → result ≡ requester.is_too_much q.now n }
 {
     let oldest = q.requester.oldest;
     let psn = q.requester.oldest_psn;
@@ -131,7 +132,8 @@ fn is_too_much_below(q: &QueuePart, upto: u64) -> bool
 /// more lie there than PSNs.
 fn has_more_packets(q: &QueuePart, posting: u64, first: u64, upto: u64, most: u64) -> bool
     requires { IsWithin posting first q.now }
-    ensures { result ≡ nat_lt most (sum_by (requester.packets_between q.now.requester.una upto) (numbers_from posting first q.now)) }
+    ensures { result ≡ nat_lt most
+        (sum_by (requester.packets_between q.now.requester.una upto) (numbers_from posting first q.now)) }
 {
     if upto.saturating_sub(q.requester.una.max(first)) <= most {
         return false;
@@ -153,7 +155,8 @@ fn has_more_packets(q: &QueuePart, posting: u64, first: u64, upto: u64, most: u6
 /// Whether more READs and atomics than so many lie there.
 fn has_more_answers(q: &QueuePart, posting: u64, first: u64, upto: u64, most: u64) -> bool
     requires { IsWithin posting first q.now }
-    ensures { result ≡ nat_lt most (sum_by (requester.answers_between q.now.requester.una upto) (numbers_from posting first q.now)) }
+    ensures { result ≡ nat_lt most
+        (sum_by (requester.answers_between q.now.requester.una upto) (numbers_from posting first q.now)) }
 {
     if upto.saturating_sub(q.requester.una.max(first)) <= most {
         return false;

@@ -100,7 +100,7 @@ fn send(rt: &impl Abort, alloc: Global, bed: &mut Bed, room: bool, text: &mut Ve
     let before = numbers(&bed.queue);
     let mut marks = Marks::empty(alloc);
     let mut out = Vec::new(alloc);
-    let done = bed.send(alloc, room, &mut marks, &mut out);
+    let done = bed.send(room, &mut marks, &mut out);
     put(rt, marks.as_slice(), text);
     match done {
         Some(Ok(Sent::Spelt { request })) => put_sent(rt, &bed.queue, request, out, text),
@@ -130,7 +130,7 @@ fn perform(
     ensures { beds.Stands bed.new }
 {
     let mut marks = Marks::empty(alloc);
-    let done = bed.perform(alloc, cause, &mut marks);
+    let done = bed.perform(cause, &mut marks);
     holds(rt, matches!(done, Some(Ok(()))), "a local operation");
     put(rt, marks.as_slice(), text);
 }
@@ -163,7 +163,7 @@ fn undue(alloc: Global, bed: &mut Bed) -> &'static str
     ensures { beds.Stands bed.new }
 {
     let mut marks = Marks::empty(alloc);
-    match bed.time_out(alloc, false, false, &mut marks) {
+    match bed.time_out(false, false, &mut marks) {
         Some(Err(StepError::NotReady(reason))) => reason_text(reason),
         _ => "a timer that fired",
     }
@@ -176,7 +176,7 @@ fn time_out(rt: &impl Abort, alloc: Global, bed: &mut Bed, hasten: bool, text: &
     let before = numbers(&bed.queue);
     let undue = undue(alloc, bed).as_bytes();
     let mut marks = Marks::empty(alloc);
-    let done = bed.time_out(alloc, !hasten, hasten, &mut marks);
+    let done = bed.time_out(!hasten, hasten, &mut marks);
     put(rt, marks.as_slice(), text);
     match done {
         Some(Ok(())) => texts_are(rt, undue, b" reason not-due\n", "a timer that is not due"),
@@ -219,7 +219,7 @@ fn arrive(rt: &impl Abort, alloc: Global, bed: &mut Bed, bytes: &[u8], text: &mu
     match decode(bytes) {
         Err(_) => holds(rt, false, "a packet"),
         Ok(p) => {
-            let done = bed.take(alloc, &p, &mut marks);
+            let done = bed.take(&p, &mut marks);
             holds(rt, matches!(done, Some(Ok(()))), "a response");
         }
     }

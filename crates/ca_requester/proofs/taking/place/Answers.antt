@@ -14,28 +14,28 @@ overflow_add-count-2 g c = omega (arith, c.finished_count.ensures.few, few_write
 
 pub write_all-requires-clause-room : goal.write_all-requires-clause-room
 write_all-requires-clause-room g c = omega (
-      arith,
-      c.in_ok-reserve.ensures.room,
-      c.finished_count.ensures.value,
-      c.push_finished.ensures.room,
-      c.numbers_past-numbers.ensures.later,
-      few_finished c.args.q.now c.q.inside.requester.oldest c.args.taken.numbers.oldest,
-      ap (λ (q : QueuePair). q.requester.oldest) c.q.view_is,
-    )
+  arith,
+  c.in_ok-reserve.ensures.room,
+  c.finished_count.ensures.value,
+  c.push_finished.ensures.room,
+  c.numbers_past-numbers.ensures.later,
+  few_finished c.args.q.now c.q.inside.requester.oldest c.args.taken.numbers.oldest,
+  ap (λ (q : QueuePair). q.requester.oldest) c.q.view_is,
+)
 
 pub push_finished-requires-2-clause-spare : goal.push_finished-requires-2-clause-spare
 push_finished-requires-2-clause-spare g c = omega (
-      arith,
-      c.in_ok-reserve.ensures.room,
-      c.finished_count.ensures.value,
-      c.push_finished.ensures.room,
-      c.write_all.ensures.marks.room,
-      writes_count c.in_ok-writes.writes.items,
-      c.numbers_past-numbers.ensures.later,
-      c.requires.taken.progress.later,
-      few_finished c.args.q.now c.q.inside.requester.oldest c.args.taken.numbers.oldest,
-      ap (λ (q : QueuePair). q.requester.oldest) c.q.view_is,
-    )
+  arith,
+  c.in_ok-reserve.ensures.room,
+  c.finished_count.ensures.value,
+  c.push_finished.ensures.room,
+  c.write_all.ensures.marks.room,
+  writes_count c.in_ok-writes.writes.items,
+  c.numbers_past-numbers.ensures.later,
+  c.requires.taken.progress.later,
+  few_finished c.args.q.now c.q.inside.requester.oldest c.args.taken.numbers.oldest,
+  ap (λ (q : QueuePair). q.requester.oldest) c.q.view_is,
+)
 
 pub returns : goal.returns
 returns g c =

@@ -12,14 +12,14 @@ push_first-requires c = omega (arith, c.in_ok-reserve_for.ensures.room, c.push_f
 
 pub append-requires : goal.append-requires
 append-requires c = omega (
-      arith,
-      c.in_ok-reserve_for.ensures.room,
-      c.push_finished.ensures.room,
-      c.push_first.ensures.room,
-      few_mark c.args.first,
-      few_finished c.args.q.now c.q.inside.requester.oldest c.args.failure.now.numbers.oldest,
-      ap (λ (q : QueuePair). q.requester.oldest) c.q.view_is,
-    )
+  arith,
+  c.in_ok-reserve_for.ensures.room,
+  c.push_finished.ensures.room,
+  c.push_first.ensures.room,
+  few_mark c.args.first,
+  few_finished c.args.q.now c.q.inside.requester.oldest c.args.failure.now.numbers.oldest,
+  ap (λ (q : QueuePair). q.requester.oldest) c.q.view_is,
+)
 
 pub returns : goal.returns
 returns c =

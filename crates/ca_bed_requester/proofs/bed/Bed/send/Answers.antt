@@ -1,5 +1,4 @@
 use Rattle.std.proofs.Common.{◌∙◌, rules}
-use Rattle.ca_rows.specs.Done.{handed}
 use Rattle.ca_bed_reach.specs.SmallReach.{sight_of}
 use Rattle.ca_bed_requester.proofs.Kept.{at_hand, stands_by, turn_kept}
 use Rattle.ca_bed_requester.proofs.bed.Bed.send.Goals as goal
@@ -10,6 +9,6 @@ next_packet-requires-clause-at_hand c = at_hand c.args.self.now.reach (c.as_slic
 
 pub returns : goal.returns
 returns c = stands_by record { queue = c.next_packet.new.q; reach = c.next_packet.new.reach } (turn_kept c.next_packet.result (sight_of c.args.self.now.reach) c.args.room
-    (handed c.args.self.now.queue c.args.marks.now.marks c.args.out.now.items c.args.self.now.reach)
-    (handed c.next_packet.new.q c.next_packet.new.marks.marks c.next_packet.new.out.items c.next_packet.new.reach)
-    (record { queue = c.requires.queue; reach = c.requires.reach }) c.next_packet.ensures.turn)
+    c.args.self.now.queue c.next_packet.new.q c.args.marks.now c.next_packet.new.marks c.args.self.now.reach c.next_packet.new.reach
+    c.args.out.now.items c.next_packet.new.out.items
+    (record { queue = c.requires.queue; reach = c.requires.reach }) c.next_packet.ensures)

@@ -1,5 +1,4 @@
-use Rattle.std.proofs.Common.{◌∙◌, [], rules}
-use Rattle.ca_rows.specs.Done.{handed}
+use Rattle.std.proofs.Common.{◌∙◌, rules}
 use Rattle.ca_bed_reach.specs.SmallReach.{sight_of}
 use Rattle.ca_bed_requester.proofs.Kept.{at_hand, stands_by, taking_kept}
 use Rattle.ca_bed_requester.proofs.bed.Bed.take.Goals as goal
@@ -10,6 +9,5 @@ on_response-requires-clause-at_hand c = at_hand c.args.self.now.reach (c.as_slic
 
 pub returns : goal.returns
 returns c = stands_by record { queue = c.on_response.new.q; reach = c.on_response.new.reach } (taking_kept c.on_response.result (sight_of c.args.self.now.reach) c.args.p.now
-    (handed c.args.self.now.queue c.args.marks.now.marks [] c.args.self.now.reach)
-    (handed c.on_response.new.q c.on_response.new.marks.marks [] c.on_response.new.reach)
-    (record { queue = c.requires.stands.queue; reach = c.requires.stands.reach }) c.on_response.ensures.done)
+    c.args.self.now.queue c.on_response.new.q c.args.marks.now c.on_response.new.marks c.args.self.now.reach c.on_response.new.reach
+    (record { queue = c.requires.stands.queue; reach = c.requires.stands.reach }) c.on_response.ensures)
