@@ -20,12 +20,7 @@ use std::alloc::Global;
 
 // The requester sends its next packet.
 #[inline(never)]
-fn send(
-    q: &mut QueuePart,
-    reach: &mut SmallReach,
-    marks: &mut Marks,
-    out: &mut Vec<u8>,
-) -> bool
+fn send(q: &mut QueuePart, reach: &mut SmallReach, marks: &mut Marks, out: &mut Vec<u8>) -> bool
     requires step { CanStep q.old }
     requires parts { small.FitTogether reach.old }
     requires at_hand { AreAtHand small.sight_of small.IsAskHere (λ s ask. Unit {0}) reach.old (turn_row q.old true).asks }
@@ -52,12 +47,7 @@ fn send_next(bed: &mut Bed, marks: &mut Marks, out: &mut Vec<u8>) -> bool
 
 // The requester takes a response.
 #[inline(never)]
-fn take(
-    q: &mut QueuePart,
-    reach: &mut SmallReach,
-    p: &Packet<'_>,
-    marks: &mut Marks,
-) -> bool
+fn take(q: &mut QueuePart, reach: &mut SmallReach, p: &Packet<'_>, marks: &mut Marks) -> bool
     requires step { CanStep q.old }
     requires packet { IsWellFormed p.now }
     requires response { packets.is_response p.now.opcode ≡ true }
@@ -103,13 +93,7 @@ fn answer(bed: &mut Bed, psn: u8, marks: &mut Marks) -> bool
 
 // Posts requests, sends each and takes its acknowledgement, from a PSN on; how many marks that made. The marks of a turn
 // are let go at its end.
-fn turns(
-    bed: &mut Bed,
-    psn: u8,
-    count: u8,
-    marks: &mut Marks,
-    out: &mut Vec<u8>,
-) -> Option<usize>
+fn turns(bed: &mut Bed, psn: u8, count: u8, marks: &mut Marks, out: &mut Vec<u8>) -> Option<usize>
     requires { beds.Stands bed.old }
     ensures { beds.Stands bed.new }
 {

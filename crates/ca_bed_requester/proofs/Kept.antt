@@ -1,5 +1,5 @@
 -- Each call of the requester leaves a queue pair that comes up, over parts that fit each other.
-use Rattle.std.proofs.Common.{arith, ◌≡◌, ℕ, IsTrue, not, Bool, true, false, true≢false, List, [], ◌∷◌, map, Option, None, Some, Result, Ok, Err, refl, sym, subst}
+use Rattle.std.proofs.Common.{arith, ◌≡◌, ℕ, IsTrue, not, Bool, true, false, true≢false, List, [], ◌∷◌, map, Option, None, Some, Result, Ok, Err, IsOk, IfOk, IfErr, refl, sym, subst, ap, ◌∙◌}
 use Rattle.std.proofs.lemmas.Bool.{not-false}
 use Rattle.std.specs.List.{AllByRecursion}
 use Rattle.std.specs.Option.{option_and_then}
@@ -24,7 +24,8 @@ use Rattle.ca_model.specs.machine.Responses.{response_row}
 use Rattle.ca_model.specs.machine.Timers.{after_timeout, after_wake, timeout_refusals}
 use Rattle.ca_model.specs.machine.Row.{Ending, NotPossible, Does, Row, ending_of}
 use Rattle.ca_base.specs.declared.request.SendRequest.{SendRequest}
-use Rattle.ca_base.specs.objects.WorkQueue.{is_full}
+use Rattle.ca_base.specs.declared.request.PostedSend.{PostedSend}
+use Rattle.ca_base.specs.objects.WorkQueue.{WorkQueue, is_full, next_place, with_item}
 use Rattle.ca_laws.proofs.VerbLemmas.{posted-send}
 use Rattle.ca_model.specs.Requests.{list_of}
 use Rattle.ca_model.specs.machine.PostingVerbs.{with_send}
@@ -136,12 +137,20 @@ operation_kept (Err error) None q new before after is h = absurd h
 operation_kept (Ok done) (Some cause) q new before after is h = operation-kept q new (Some cause) is h.queue
 operation_kept (Err error) (Some cause) q new before after is h = rw h.queue is
 
-pub posted_kept : (q p : QueuePair) (request : SendRequest) → IsQueue q → IsList (list_of request.op) → IsTrue (not (is_full q.sends)) → p ≡ with_send request None q → IsQueue p
-posted_kept q p request is list free same = rw same (posted-send q request None is list (by (is_full q.sends) free))
+posted-kept : (q p : QueuePair) (request : SendRequest) → IsQueue q → IsList (list_of request.op) → IsTrue (not (is_full q.sends)) → p ≡ with_send request None q → IsQueue p
+posted-kept q p request is list free same = rw same (posted-send q request None is list (by (is_full q.sends) free))
   where
     by : (b : Bool) → IsTrue (not b) → b ≡ false
     by true h = absurd (true≢false (sym h))
     by false h = refl
+
+pub posted_kept : (q p : QueuePair) (request : SendRequest) (result : Result ℕ PostedSend) (sends : WorkQueue PostedSend) → IsQueue q → IsList (list_of request.op)
+    → (IsOk result → IsTrue (not (is_full q.sends)))
+    → IfOk result (λ place. (place ≡ next_place q.sends) × (sends ≡ with_item (record { request = request; drawn = None }) q.sends))
+    → IfErr result (λ refused. (refused ≡ record { request = request; drawn = None }) × (sends ≡ q.sends)) → p ≡ record q { sends = sends } → IsQueue p
+posted_kept q p request (Ok place) sends is list free ok full same =
+    posted-kept q p request is list (free refl) (same ∙ ap (λ x. record q { sends = x }) ok.1)
+posted_kept q p request (Err refused) sends is list free ok full same = rw (same, full.1) is
 
 -- queues of the greatest depth are some that come up
 pub full_depths : (srq : Option ℕ) → AreDepths 256 256 srq

@@ -133,10 +133,7 @@ fn push(q: &mut QueuePart, request: SendRequest) -> Result<u64, PostedSend>
         request,
         drawn: None,
     };
-    match q.sends.post(posted) {
-        Ok(place) => Ok(place),
-        Err(refused) => Err(refused),
-    }
+    q.sends.post(posted)
 }
 
 // Posts a request.

@@ -1,4 +1,4 @@
-use Rattle.ca_bed_requester.proofs.Kept.{stands_by, wake_kept}
+use Rattle.ca_bed_requester.proofs.Kept.{wake_kept}
 use Rattle.ca_bed_requester.proofs.bed.Bed.wake.Goals as goal
 
 pub returns : goal.returns
