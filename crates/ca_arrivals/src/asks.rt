@@ -1,18 +1,20 @@
 ghost use Rattle.std.specs.Prelude.{◌≡◌, ◌≤◌, ◌∷◌, [], ℕ, Option, ◌==◌, if◌then◌else◌, IfSome, false, length, option_copied};
 ghost use Rattle.ca_keys.specs.declared.access.Kind.{Kind};
-ghost use Rattle.ca_base.specs.declared.limits.TheConstants.{MAX_MESSAGE_BYTES, MAX_PAYLOAD_BYTES};
+ghost use Rattle.ca_base.specs.declared.limits.TheConstants.{MAX_PAYLOAD_BYTES};
 ghost use Rattle.ca_model.specs.Packets.{is_response};
 ghost use Rattle.ca_model.specs.machine.Arrivals as arrivals;
 ghost use Rattle.ca_model.specs.machine.Delivery.{packet_arrived};
 ghost use Rattle.ca_model.specs.machine.Expected as rows;
-ghost use Rattle.ca_model.specs.machine.Invariants.{IsList, IsQueue, IsSharedReceives};
-ghost use Rattle.ca_arrivals.specs.Asking.{IsFree, asks_fitting, send_asks};
+ghost use Rattle.ca_model.specs.machine.Invariants.{IsSharedReceives};
+ghost use Rattle.ca_arrivals.specs.Asking.{CanAsk, asks_fitting, send_asks};
+ghost use Rattle.ca_arrivals.specs.Receives.{AreCounted};
 ghost use Rattle.ca_model.specs.machine.CanStep.{CanStep};
 ghost use Rattle.ca_packet.specs.Packet.{IsWellFormed};
 
 use crate::checks::{is_invalid, lacks_receive};
 use crate::receive::{exceeds_receive, next_receive, receive_asks};
 use crate::remote::packet_ask;
+use crate::request::Request;
 use crate::writes::{write_ask, write_reach};
 use arrayvec::ArrayVec;
 use ca_base::limits::{ATOMIC_BYTES, MAX_PIECES};
@@ -37,28 +39,31 @@ pub fn request_asks(q: &QueuePart, srq: Option<&Srq>, p: &Packet<'_>) -> ArrayVe
     if widen(q.responder.expected, p.psn) != q.responder.expected {
         return ArrayVec::new();
     }
-    expected_asks(q, srq, p, shape)
+    expected_asks(
+        q,
+        srq,
+        &Request {
+            packet: p,
+            envelope: None,
+            shape,
+        },
+    )
 }
 
 /// The asks of the packet with the expected PSN.
 fn expected_asks(
     q: &QueuePart,
     srq: Option<&Srq>,
-    p: &Packet<'_>,
-    shape: Shape,
+    request: &Request<'_>,
 ) -> ArrayVec<Ask, MAX_PIECES>
-    requires queue { IsQueue q.now }
-    requires shared { IfSome (option_copied srq) IsSharedReceives }
-    requires packet { IsWellFormed p.now }
-    ensures { (envelope : Option ℕ) → result.items ≡ (rows.expected_row q.now (option_copied srq.entry) p.now envelope shape).asks }
+    requires { CanAsk q.now (option_copied srq) request.now.packet.now }
+    ensures { (envelope : Option ℕ) → result.items ≡ (rows.expected_row q.now (option_copied srq.entry)
+        request.now.packet.now envelope request.now.shape).asks }
 {
-    if is_invalid(q, p, shape) {
+    if is_invalid(q, request) || lacks_receive(q, srq, request) {
         return ArrayVec::new();
     }
-    if lacks_receive(q, srq, p, shape) {
-        return ArrayVec::new();
-    }
-    valid_asks(q, srq, p, shape)
+    valid_asks(q, srq, request)
 }
 
 /// The asks of a packet that is valid and has its receive.
@@ -66,16 +71,14 @@ fn expected_asks(
 fn valid_asks(
     q: &QueuePart,
     srq: Option<&Srq>,
-    p: &Packet<'_>,
-    shape: Shape,
+    request: &Request<'_>,
 ) -> ArrayVec<Ask, MAX_PIECES>
-    requires queue { IsQueue q.now }
-    requires shared { IfSome (option_copied srq) IsSharedReceives }
-    requires packet { IsWellFormed p.now }
-    ensures { (envelope : Option ℕ) → result.items ≡ (rows.valid_row (arrivals.with_flag false q.now) p.now envelope
-        (arrivals.next_receive q.now (option_copied srq.entry)) shape).asks }
+    requires { CanAsk q.now (option_copied srq) request.now.packet.now }
+    ensures { (envelope : Option ℕ) → result.items ≡ (rows.valid_row (arrivals.with_flag false q.now)
+        request.now.packet.now envelope (arrivals.next_receive q.now (option_copied srq.entry)) request.now.shape).asks }
 {
-    match shape {
+    let p = request.packet;
+    match request.shape {
         Shape::Send(_) => message_asks(q, srq, p),
         Shape::Write(_) => match write_reach(q, p) {
             Some(r) => left_asks(q, p, &r),
@@ -90,30 +93,14 @@ fn valid_asks(
 }
 
 /// The asks of a SEND packet, by the receive of the message in progress, or by the next one.
-fn message_asks(q: &QueuePart, srq: Option<&Srq>, p: &Packet<'_>) -> ArrayVec<Ask, MAX_PIECES>
-    requires queue { IsQueue q.now }
-    requires shared { IfSome (option_copied srq) IsSharedReceives }
-    requires packet { IsWellFormed p.now }
-    ensures { result.items ≡ send_asks q.now p.now (arrivals.next_receive q.now (option_copied srq.entry)) }
-{
-    match &q.responder.message {
-        Some(Message::Send { receive, bytes, .. }) => {
-            fitting_asks(q, p, *bytes, receive.list.as_slice())
-        }
-        Some(Message::Write { .. }) => next_asks(q, srq, p),
-        None => next_asks(q, srq, p),
-    }
-}
-
-/// The asks of a SEND packet that begins its message.
 #[tactic(auto, using(crate::proofs::AskingLemmas::asks_of_next, crate::proofs::AskingLemmas::asks_of_none))]
-fn next_asks(q: &QueuePart, srq: Option<&Srq>, p: &Packet<'_>) -> ArrayVec<Ask, MAX_PIECES>
-    requires queue { IsQueue q.now }
-    requires shared { IfSome (option_copied srq) IsSharedReceives }
-    requires packet { IsWellFormed p.now }
-    requires free { IsFree q.now.responder.message }
+fn message_asks(q: &QueuePart, srq: Option<&Srq>, p: &Packet<'_>) -> ArrayVec<Ask, MAX_PIECES>
+    requires { CanAsk q.now (option_copied srq) p.now }
     ensures { result.items ≡ send_asks q.now p.now (arrivals.next_receive q.now (option_copied srq.entry)) }
 {
+    if let Some(Message::Send { receive, bytes, .. }) = &q.responder.message {
+        return fitting_asks(q, p, *bytes, receive.list.as_slice());
+    }
     match next_receive(q, srq) {
         Some(receive) => fitting_asks(q, p, 0, receive.list.as_slice()),
         None => ArrayVec::new(),
@@ -127,9 +114,8 @@ fn fitting_asks(
     before: u32,
     list: &[Piece],
 ) -> ArrayVec<Ask, MAX_PIECES>
-    requires payload { length p.now.payload ≤ MAX_PAYLOAD_BYTES }
-    requires before { before ≤ MAX_MESSAGE_BYTES }
-    requires list { IsList list.now }
+    requires few { length list.now ≤ MAX_PIECES }
+    requires counted { AreCounted (length p.now.payload) before list.now }
     ensures { result.items ≡ asks_fitting q.now p.now before list.now }
 {
     if exceeds_receive(p, before, list) {

@@ -1,24 +1,22 @@
 ghost use Rattle.std.specs.Prelude.{◌≡◌, ◌+◌, ◌<◌, ◌≤◌, IfOk, IfSome, Some, length, nat_lt, option_copied};
-ghost use Rattle.std.specs.List.{AllByRecursion};
 ghost use Rattle.std.specs.Option.{option_map};
 ghost use Rattle.ca_keys.specs.declared.access.Kind.{Kind};
-ghost use Rattle.ca_base.specs.declared.limits.TheConstants.{MAX_MESSAGE_BYTES, MAX_PAYLOAD_BYTES, MAX_PIECES};
+ghost use Rattle.ca_base.specs.declared.limits.TheConstants.{MAX_PAYLOAD_BYTES, MAX_PIECES};
 ghost use Rattle.ca_base.specs.objects.WorkQueue.{waiting_count};
-ghost use Rattle.ca_grant.specs.Reaching.{IsPacketAsk};
 ghost use Rattle.ca_model.specs.Requests.{list_length};
 ghost use Rattle.ca_model.specs.machine.Arrivals as arrivals;
 ghost use Rattle.ca_model.specs.machine.Expected as rows;
-ghost use Rattle.ca_model.specs.machine.Invariants.{IsQueue, IsReceive, IsReceives, IsSharedReceives};
+ghost use Rattle.ca_model.specs.machine.Invariants.{IsQueue, IsReceives, IsSharedReceives};
 ghost use Rattle.ca_model.specs.machine.Numbering.{list_asks};
-ghost use Rattle.ca_rows.specs.Asks.{IsAskOf, touched_by};
-ghost use Rattle.ca_arrivals.specs.Receives.{CanTake, MayTake};
+ghost use Rattle.ca_rows.specs.Asks.{AreAsksFor};
+ghost use Rattle.ca_arrivals.specs.Receives.{AreCounted, CanReceive, IsNext, IsReceiving};
 
 use arrayvec::ArrayVec;
 use ca_base::limits::MAX_PIECES;
 use ca_base::{Ask, Kind, Memory, Message, Piece, PlacedReceive, RecvRequest};
 use ca_model::Receiving;
 use ca_qpstate::QueuePart;
-use ca_rows::{list_asks, list_length};
+use ca_rows::{Asker, list_asks, list_length};
 use ca_srq::Srq;
 use ca_wire::Packet;
 use ca_workqueue::WorkQueue;
@@ -49,7 +47,7 @@ pub fn next_receive<'a>(q: &'a QueuePart, srq: Option<&'a Srq>) -> Option<&'a Re
     }
 }
 
-/// The place of the receive that a message would take.
+/// The posting place of the receive that a message would take.
 fn next_receive_place(q: &QueuePart, srq: Option<&Srq>) -> Option<u64>
     requires { IsQueue q.now }
     ensures { IfSome (arrivals.next_receive q.now (option_copied srq.entry)) (λ r. result ≡ Some r.place) }
@@ -66,13 +64,11 @@ fn next_receive_place(q: &QueuePart, srq: Option<&Srq>) -> Option<u64>
     }
 }
 
-/// A copy of the receive that a message would take, with its place.
+/// A copy of the receive that a message would take, with its posting place.
 pub fn find_receive(q: &QueuePart, srq: Option<&Srq>) -> Result<Option<PlacedReceive>, Memory>
     requires queue { IsQueue q.now }
     requires shared { IfSome (option_copied srq) IsSharedReceives }
-    ensures value { IfOk result (λ next. next ≡ arrivals.next_receive q.now (option_copied srq.entry)) }
-    ensures sound { IfOk result (λ next. IfSome next (λ r. IsReceive r.receive)) }
-    ensures takes { IfOk result (λ next. CanTake q.now next) }
+    ensures { IfOk result (IsNext q.now (arrivals.next_receive q.now (option_copied srq.entry))) }
 {
     let Some(receive) = next_receive(q, srq) else {
         return Ok(None);
@@ -87,11 +83,8 @@ pub fn find_receive(q: &QueuePart, srq: Option<&Srq>) -> Result<Option<PlacedRec
 /// The receive of a SEND packet: the next one where the message begins, and else that of the message in progress.
 pub fn receiving_of(q: &QueuePart, next: Option<PlacedReceive>) -> Result<Option<Receiving>, Memory>
     requires queue { IsQueue q.now }
-    requires next { IfSome next (λ r. IsReceive r.receive) }
-    requires takes { CanTake q.now next }
-    ensures value { IfOk result (λ r. r ≡ rows.receiving_of q.now next q.now.responder.message) }
-    ensures sound { IfOk result (λ r. IfSome r (λ r. IsReceive r.receive.receive × (r.before ≤ MAX_MESSAGE_BYTES))) }
-    ensures takes { IfOk result (λ r. IfSome r (λ r. MayTake r q.now)) }
+    requires next { CanReceive q.now next }
+    ensures { IfOk result (IsReceiving q.now (rows.receiving_of q.now next q.now.responder.message)) }
 {
     if let Some(
         Message::Send {
@@ -140,20 +133,19 @@ pub fn receive_asks(
     requires few { length list.now ≤ MAX_PIECES }
     requires payload { length p.now.payload ≤ MAX_PAYLOAD_BYTES }
     ensures value { result.items ≡ list_asks q.now.queue q.now.domain Kind.Write before (length p.now.payload) list.now }
-    ensures touched { touched_by result.items ≤ length p.now.payload }
-    ensures asks { AllByRecursion (IsAskOf Kind.Write) result.items }
-    ensures packet { AllByRecursion IsPacketAsk result.items }
-    ensures few { length result.items ≤ MAX_PIECES }
+    ensures asks { AreAsksFor Kind.Write (length p.now.payload) result.items }
 {
-    let count = p.payload.len() as u32;
-    list_asks(q.queue, q.domain, Kind::Write, before, count, list)
+    let asker = Asker {
+        queue: q.queue,
+        domain: q.domain,
+        kind: Kind::Write,
+    };
+    list_asks(asker, before, p.payload.len() as u32, list)
 }
 
 /// Whether a SEND packet has more bytes than its receive has room for.
 pub fn exceeds_receive(p: &Packet<'_>, before: u32, list: &[Piece]) -> bool
-    requires payload { length p.now.payload ≤ MAX_PAYLOAD_BYTES }
-    requires before { before ≤ MAX_MESSAGE_BYTES }
-    requires list { list_length list.now ≤ MAX_MESSAGE_BYTES }
+    requires { AreCounted (length p.now.payload) before list.now }
     ensures { result ≡ nat_lt (list_length list.now) (before + length p.now.payload) }
 {
     list_length(list) < before + p.payload.len() as u32
