@@ -11,4 +11,3 @@ ending-allowed s row e = rw e refl
 
 pub ended-allowed : (s : Sight) (row : Row) → first_denied s row.asks ≡ None → ended_by s row ≡ unless_refused s row.invalidation
 ended-allowed s row e = rw e refl
-

@@ -26,6 +26,6 @@ pub use queueing::{
 };
 pub use receive::{exceeds_receive, receive_asks, receiving_of, take_own};
 pub use remote::{packet_ask, remote_mark};
-pub use request::{Request, SharedReceive};
+pub use request::{Request, SharedReceive, shared_receive};
 pub use segments::read_segments;
 pub use writes::{write_ask, write_reach};
