@@ -1,4 +1,5 @@
 pub mod FlushLemmas
 pub mod AskingLemmas
 pub mod EndLemmas
+pub mod OutcomeLemmas
 pub mod TakingLemmas

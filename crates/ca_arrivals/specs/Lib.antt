@@ -1,4 +1,5 @@
 pub mod Asking
+pub mod Flush
 pub mod Numbers
 pub mod Receives
 pub mod Requests

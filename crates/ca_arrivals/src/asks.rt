@@ -68,11 +68,7 @@ fn expected_asks(
 
 /// The asks of a packet that is valid and has its receive.
 #[tactic(auto, using(crate::proofs::AskingLemmas::asks_of_send))]
-fn valid_asks(
-    q: &QueuePart,
-    srq: Option<&Srq>,
-    request: &Request<'_>,
-) -> ArrayVec<Ask, MAX_PIECES>
+fn valid_asks(q: &QueuePart, srq: Option<&Srq>, request: &Request<'_>) -> ArrayVec<Ask, MAX_PIECES>
     requires { CanAsk q.now (option_copied srq) request.now.packet.now }
     ensures { (envelope : Option ℕ) → result.items ≡ (rows.valid_row (arrivals.with_flag false q.now)
         request.now.packet.now envelope (arrivals.next_receive q.now (option_copied srq.entry)) request.now.shape).asks }

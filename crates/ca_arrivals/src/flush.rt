@@ -1,87 +1,77 @@
-ghost use Rattle.std.specs.Prelude.{◌≡◌, ◌+◌, ◌<◌, ◌≤◌, ◌++◌, IfSome, None, OnOk, length, true};
+ghost use Rattle.std.specs.Prelude.{◌≡◌, ◌+◌, ◌<◌, ◌≤◌, OnOk, length};
 ghost use Rattle.ca_base.specs.objects.WorkQueue.{waiting_count};
-ghost use Rattle.ca_model.specs.machine.Arrivals.{with_message, with_receive_taken};
-ghost use Rattle.ca_model.specs.machine.Completions.{flush_marks};
-ghost use Rattle.ca_model.specs.machine.Invariants.{IsQueue};
-ghost use Rattle.ca_arrivals.specs.Numbers.{receive_taken};
+ghost use Rattle.ca_model.specs.declared.marks.TheConstants.{SPARE_MARKS};
+ghost use Rattle.ca_model.specs.machine.CanStep.{CanStep};
+ghost use Rattle.ca_model.specs.machine.Invariants.{IsReceives};
+ghost use Rattle.ca_arrivals.specs.declared.flush.FlushedReceives.{FlushedReceives};
+ghost use Rattle.ca_arrivals.specs.declared.flush.TheConstants.{MAX_REFUSAL_MARKS};
+ghost use Rattle.ca_arrivals.specs.Flush.{CanFlush, IsFlush, first_behind, left_to_flush};
 
 use crate::receive::next_place;
-use ca_base::Memory;
-use ca_model::{Mark, Marks};
+use ca_base::limits::MAX_DEPTH;
+use ca_base::{Memory, RecvRequest};
+use ca_model::{Mark, Marks, SPARE_MARKS};
 use ca_qpstate::QueuePart;
 use ca_rows::{push_flushed, push_flushed_receives, push_flushed_sends};
+use ca_workqueue::WorkQueue;
 
-/// Adds the completions of all that is posted and unfinished, flushed.
-pub fn push_flush(q: &QueuePart, made: &mut Vec<Mark>) -> Result<(), Memory>
-    requires { IsQueue q.now }
-    ensures marks { OnOk result (made.new.items ≡ made.old.items ++ flush_marks q.now) }
-    ensures few { OnOk result (length made.new.items ≤ length made.old.items + 513) }
+/// The most completions of a flush: of all sends and all receives that may be posted, and of the message in progress.
+pub const MAX_FLUSHED: usize = 2 * MAX_DEPTH + 1;
+
+/// The most marks of a refusal: a flush, and behind what it comes.
+pub const MAX_REFUSAL_MARKS: usize = MAX_FLUSHED + 2;
+
+/// Which receives are flushed with the sends of a queue pair.
+#[derive(Clone, Copy)]
+pub enum FlushedReceives {
+    /// That of the message in progress, and all that wait.
+    All,
+    /// All that wait.
+    Waiting,
+    /// All that wait behind the next one, which the packet takes.
+    BehindNext,
+}
+
+/// Adds the completions of all that is posted and unfinished, flushed: the sends, and these receives.
+pub fn push_flush(
+    q: &QueuePart,
+    receives: FlushedReceives,
+    made: &mut Vec<Mark>,
+) -> Result<(), Memory>
+    requires step { CanStep q.now }
+    requires receives { CanFlush receives q.now }
+    ensures { OnOk result (IsFlush (left_to_flush receives q.now) made.old.items made.new.items) }
 {
-    push_flushed(q, q.requester.oldest, made)?;
+    let oldest = q.requester.oldest;
+    if let FlushedReceives::All = receives {
+        push_flushed(q, oldest, made)?;
+        return Ok(());
+    }
+    push_flushed_sends(q.queue, &q.sends, oldest, q.sends.next_place(), made)?;
+    if let Some(own) = &q.receives {
+        let place = first_flushed(own, receives);
+        push_flushed_receives(q.queue, own, place, own.next_place(), made)?;
+    }
     Ok(())
+}
+
+/// The posting place of the first of these receives that wait.
+fn first_flushed(own: &WorkQueue<RecvRequest>, receives: FlushedReceives) -> u64
+    requires own { IsReceives own.now }
+    requires waits { receives ≡ FlushedReceives.BehindNext → 0 < waiting_count own.now }
+    ensures { result ≡ own.now.next_taken + first_behind receives }
+{
+    match receives {
+        FlushedReceives::BehindNext => own.next_place() - (u64::from(own.waiting()) - 1),
+        _ => next_place(own),
+    }
 }
 
 /// Makes room for these marks, and for two more.
 pub fn reserve_for(marks: &mut Marks, made: &Vec<Mark>) -> Result<(), Memory>
-    requires { length made.now.items ≤ 1000 }
-    ensures room { OnOk result (length made.now.items + 2 ≤ marks.new.room) }
+    requires { length made.now.items ≤ MAX_REFUSAL_MARKS }
+    ensures room { OnOk result (length made.now.items + SPARE_MARKS ≤ marks.new.room) }
     ensures same { marks.new.marks ≡ marks.old.marks }
 {
-    marks.reserve(made.len() as u32 + 2)
-}
-
-/// Adds the completions of all that is posted and unfinished, flushed, but for the message in progress and, where it is
-/// taken, the next receive.
-pub fn push_flush_behind(q: &QueuePart, taken: bool, made: &mut Vec<Mark>) -> Result<(), Memory>
-    requires queue { IsQueue q.now }
-    requires takes { taken ≡ true → IfSome q.now.receives (λ r. 0 < waiting_count r) }
-    ensures marks { OnOk result (made.new.items ≡ made.old.items ++ flush_marks (with_message None (receive_taken taken q.now))) }
-    ensures few { OnOk result (length made.new.items ≤ length made.old.items + 513) }
-{
-    if taken {
-        push_flush_taken(q, made)?;
-        return Ok(());
-    }
-    push_flush_rest(q, made)?;
-    Ok(())
-}
-
-/// Adds these completions, where no receive is taken.
-fn push_flush_rest(q: &QueuePart, made: &mut Vec<Mark>) -> Result<(), Memory>
-    requires { IsQueue q.now }
-    ensures { OnOk result (made.new.items ≡ made.old.items ++ flush_marks (with_message None q.now)) }
-{
-    push_flushed_sends(
-        q.queue,
-        &q.sends,
-        q.requester.oldest,
-        q.sends.next_place(),
-        made,
-    )?;
-    if let Some(receives) = &q.receives {
-        let place = next_place(receives);
-        push_flushed_receives(q.queue, receives, place, receives.next_place(), made)?;
-    }
-    Ok(())
-}
-
-/// Adds these completions, where the next receive is taken.
-fn push_flush_taken(q: &QueuePart, made: &mut Vec<Mark>) -> Result<(), Memory>
-    requires queue { IsQueue q.now }
-    requires takes { IfSome q.now.receives (λ r. 0 < waiting_count r) }
-    ensures { OnOk result (made.new.items ≡ made.old.items ++ flush_marks (with_message None (with_receive_taken q.now))) }
-{
-    push_flushed_sends(
-        q.queue,
-        &q.sends,
-        q.requester.oldest,
-        q.sends.next_place(),
-        made,
-    )?;
-    if let Some(receives) = &q.receives {
-        let end = receives.next_place();
-        let place = next_place(receives) + 1;
-        push_flushed_receives(q.queue, receives, place, end, made)?;
-    }
-    Ok(())
+    marks.reserve(made.len() as u32 + SPARE_MARKS)
 }

@@ -20,10 +20,12 @@ mod writes;
 
 pub use asks::request_asks;
 pub use checks::{is_invalid, lacks_receive, taken_receive};
-pub use flush::{push_flush, push_flush_behind, reserve_for};
-pub use queueing::{drop_packet, pass, queue_ack, queue_answer, queue_refusal, refuse};
+pub use flush::{FlushedReceives, MAX_FLUSHED, MAX_REFUSAL_MARKS, push_flush, reserve_for};
+pub use queueing::{
+    drop_packet, pass, queue_ack, queue_answer, queue_refusal, refuse, refuse_invalid,
+};
 pub use receive::{exceeds_receive, receive_asks, receiving_of, take_own};
 pub use remote::{packet_ask, remote_mark};
-pub use request::{Request, SharedReceive};
+pub use request::{Request, SharedReceive, shared_receive};
 pub use segments::read_segments;
 pub use writes::{write_ask, write_reach};

@@ -1,27 +1,26 @@
-ghost use Rattle.std.specs.Prelude.{◌≡◌, ◌+◌, ◌<◌, ◌≤◌, ◌^◌, ◌++◌, ◌∷◌, [], if◌then◌else◌, OnOk, OnErr, false, true, length};
-ghost use Rattle.ca_base.specs.declared.queue_numbers.Queued.{Queued};
-ghost use Rattle.ca_model.specs.declared.mark.Mark.TheVariants as marked;
+ghost use Rattle.std.specs.Prelude.{◌≡◌, ◌≤◌, ◌^◌, [], MatchResult, false, length};
+ghost use Rattle.ca_wire.specs.declared.syndrome.NakCode.{NakCode};
+ghost use Rattle.ca_model.specs.declared.marks.TheConstants.{SPARE_MARKS};
 ghost use Rattle.ca_model.specs.machine.Arrivals as arrivals;
-ghost use Rattle.ca_model.specs.machine.Completions.{flush_marks};
-ghost use Rattle.ca_model.specs.machine.Invariants.{IsQueue};
-ghost use Rattle.ca_arrivals.specs.Numbers.{acknowledged, passed};
-ghost use Rattle.ca_base.specs.objects.QueuePair.{in_error};
-ghost use Rattle.ca_wire.specs.Syndrome.{nak_code};
+ghost use Rattle.ca_model.specs.machine.CanStep.{CanStep};
+ghost use Rattle.ca_model.specs.machine.Expected.{behind_marks};
+ghost use Rattle.ca_model.specs.machine.Responses.{drop_effects};
+ghost use Rattle.ca_model.specs.machine.Row.{queue_and_marks};
+ghost use Rattle.ca_rows.specs.Made.{IsMade};
+ghost use Rattle.ca_arrivals.specs.Numbers.{CanPass, past_packet, with_ack_if_asked};
 
-use crate::flush::{push_flush, reserve_for};
+use crate::flush::{FlushedReceives, push_flush, reserve_for};
 use ca_base::limits::PSN_COUNT;
 use ca_base::{Memory, Queued};
-use ca_model::{Drop1, Mark, Marks};
+use ca_model::{Drop1, Mark, Marks, SPARE_MARKS};
 use ca_qpstate::QueuePart;
 use ca_wire::{NakCode, Packet};
 
 /// Drops the packet, for this cause.
 pub fn drop_packet(q: &QueuePart, cause: Drop1, marks: &mut Marks) -> Result<(), Memory>
-    ensures marks { OnOk result (marks.new.marks ≡ marks.old.marks ++ marked.Dropped q.now.queue cause ∷ []) }
-    ensures room { OnOk result (2 ≤ marks.new.room) }
-    ensures err { OnErr result (marks.new.marks ≡ marks.old.marks) }
+    ensures { IsMade result (drop_effects q.now cause) q.now q.now marks.old marks.new }
 {
-    marks.reserve(3)?;
+    marks.reserve(SPARE_MARKS + 1)?;
     marks.push(Mark::Dropped {
         target: q.queue,
         cause,
@@ -36,12 +35,9 @@ pub fn queue_answer(
     nak_sent: bool,
     marks: &mut Marks,
 ) -> Result<(), Memory>
-    ensures queue { OnOk result (q.new ≡ arrivals.with_flag nak_sent (arrivals.with_answer answer q.old)) }
-    ensures marks { marks.new.marks ≡ marks.old.marks }
-    ensures room { OnOk result (2 ≤ marks.new.room) }
-    ensures err { OnErr result (q.new ≡ q.old) }
+    ensures { IsMade result (queue_and_marks (arrivals.with_flag nak_sent (arrivals.with_answer answer q.old)) []) q.old q.new marks.old marks.new }
 {
-    marks.reserve(2)?;
+    marks.reserve(SPARE_MARKS)?;
     q.responder.answers.push(answer)?;
     q.responder.nak_sent = nak_sent;
     Ok(())
@@ -49,9 +45,7 @@ pub fn queue_answer(
 
 /// Queues an acknowledgement of the expected packet, where it asks for one.
 pub fn queue_ack(q: &mut QueuePart, p: &Packet<'_>) -> Result<(), Memory>
-    ensures queue { OnOk result (q.new ≡ acknowledged p.now.ack q.old) }
-    ensures name { q.new.queue ≡ q.old.queue }
-    ensures err { OnErr result (q.new ≡ q.old) }
+    ensures { MatchResult result (λ done. q.new ≡ with_ack_if_asked p.now.ack q.old) (λ memory. q.new ≡ q.old) }
 {
     if !p.ack {
         return Ok(());
@@ -62,10 +56,9 @@ pub fn queue_ack(q: &mut QueuePart, p: &Packet<'_>) -> Result<(), Memory>
 
 /// The expected PSN goes past a packet, and at a message's end the MSN rises by one.
 pub fn pass(q: &mut QueuePart, count: u64, at_end: bool)
-    requires expected { q.old.responder.expected < 2 ^ 62 }
+    requires numbers { CanPass q.old }
     requires count { count ≤ 2 ^ 32 }
-    requires msn { q.old.responder.msn < 2 ^ 24 }
-    ensures { q.new ≡ passed count at_end q.old }
+    ensures { q.new ≡ past_packet count at_end q.old }
 {
     q.responder.nak_sent = false;
     q.responder.expected += count;
@@ -82,25 +75,29 @@ pub fn refuse(
     mut made: Vec<Mark>,
     marks: &mut Marks,
 ) -> Result<(), Memory>
-    requires queue { IsQueue q.old }
-    requires few { length made.items ≤ 2 }
-    ensures queue { OnOk result (q.new ≡ (arrivals.refusal_effects code (arrivals.with_flag false q.old)).queue) }
-    ensures marks { OnOk result (marks.new.marks ≡ marks.old.marks ++ (made.items ++ flush_marks q.old)) }
-    ensures room { OnOk result (2 ≤ marks.new.room) }
-    ensures err { OnErr result (q.new ≡ q.old) }
-    ensures err_marks { OnErr result (marks.new.marks ≡ marks.old.marks) }
+    requires step { CanStep q.old }
+    requires few { length made.items ≤ SPARE_MARKS }
+    ensures { IsMade result (behind_marks made.items (arrivals.refusal_effects code (arrivals.with_flag false q.old))) q.old q.new marks.old marks.new }
 {
-    push_flush(q, &mut made)?;
+    push_flush(q, FlushedReceives::All, &mut made)?;
     reserve_for(marks, &made)?;
     queue_refusal(q, code)?;
     marks.append(made);
     Ok(())
 }
 
+/// Refuses the packet as an invalid request.
+pub fn refuse_invalid(q: &mut QueuePart, marks: &mut Marks) -> Result<(), Memory>
+    requires { CanStep q.old }
+    ensures { IsMade result (arrivals.refusal_effects NakCode.InvalidRequest (arrivals.with_flag false q.old)) q.old q.new marks.old marks.new }
+{
+    let none = Vec::new(q.alloc());
+    refuse(q, NakCode::InvalidRequest, none, marks)
+}
+
 /// Queues a NAK at the expected PSN, and moves the queue pair to Error.
 pub fn queue_refusal(q: &mut QueuePart, code: NakCode) -> Result<(), Memory>
-    ensures queue { OnOk result (q.new ≡ in_error (arrivals.with_answer (Queued.Nak q.old.responder.expected (nak_code code)) (arrivals.with_flag false q.old))) }
-    ensures err { OnErr result (q.new ≡ q.old) }
+    ensures { MatchResult result (λ done. q.new ≡ (arrivals.refusal_effects code (arrivals.with_flag false q.old)).queue) (λ memory. q.new ≡ q.old) }
 {
     q.responder.answers.push(Queued::Nak {
         psn: q.responder.expected,

@@ -1,3 +1,8 @@
+ghost use Rattle.std.specs.Prelude.{◌≡◌};
+ghost use Rattle.ca_model.specs.machine.Arrivals as arrivals;
+ghost use Rattle.ca_arrivals.specs.Taking.{is_taken};
+
+use ca_qpstate::QueuePart;
 use ca_wire::{Packet, Shape};
 
 /// A request that arrived, which no call changes: its packet, its shape, and the index of its envelope for the marks of
@@ -16,4 +21,14 @@ pub enum SharedReceive {
     Stays,
     /// The packet takes it.
     Taken,
+}
+
+/// What becomes of it where a packet takes a receive: it is taken where the queue pair has a shared receive queue.
+pub fn shared_receive(q: &QueuePart) -> SharedReceive
+    ensures { is_taken result ≡ arrivals.has_shared q.now }
+{
+    match q.srq {
+        Some(_) => SharedReceive::Taken,
+        None => SharedReceive::Stays,
+    }
 }

@@ -1,2 +1,2 @@
-pub mod HeldLemmas
 pub mod SendLemmas
+pub mod StandInLemmas

@@ -1,2 +1,2 @@
-pub mod Ending
-pub mod Held
+pub mod Sends
+pub mod StandIn

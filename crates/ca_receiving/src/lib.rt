@@ -8,7 +8,7 @@
 //! responder of the reliable connection.
 #![tactic(auto)]
 
-mod held;
 mod send;
+mod stand_in;
 
 pub use send::take_send;

@@ -1,2 +1,2 @@
 pub mod AtomicLemmas
-pub mod AtomicRowLemmas
+pub mod WriteLemmas

@@ -1,217 +1,205 @@
-ghost use Rattle.std.specs.Prelude.{◌≡◌, ◌+◌, ◌<◌, ◌≤◌, ◌^◌, ◌++◌, ◌∷◌, [], OnOk, OnErr, IfOk, None, false, true, length, option_copied};
-ghost use Rattle.ca_base.specs.Sight.{denial_in};
+ghost use Rattle.std.specs.Prelude.{◌≡◌, ◌+◌, ◌<◌, ◌≤◌, ◌==◌, if◌then◌else◌, [], ◌∷◌, false, length};
+ghost use Rattle.ca_base.specs.Sight as sights;
 ghost use Rattle.ca_keys.specs.declared.access.Kind.{Kind};
-ghost use Rattle.ca_base.specs.declared.limits.TheConstants.{MAX_PAYLOAD_BYTES};
+ghost use Rattle.ca_packet.specs.declared.shape.Shape.{Shape};
 ghost use Rattle.ca_grant.specs.Reaching.{AreAtHand, IsPacketAsk};
+ghost use Rattle.ca_wire.specs.declared.syndrome.NakCode.{NakCode};
+ghost use Rattle.ca_model.specs.declared.marks.TheConstants.{SPARE_MARKS};
 ghost use Rattle.ca_model.specs.machine.Arrivals as arrivals;
-ghost use Rattle.ca_model.specs.machine.Completions.{flush_marks};
+ghost use Rattle.ca_model.specs.machine.CanStep.{CanStep};
 ghost use Rattle.ca_model.specs.machine.Expected as rows;
-ghost use Rattle.ca_model.specs.machine.Invariants.{IsQueue};
-ghost use Rattle.ca_model.specs.machine.Row.{ending_of};
-ghost use Rattle.ca_model.specs.machine.Expected.{fits_place};
-ghost use Rattle.ca_arrivals.specs.Numbers.{unasked};
+ghost use Rattle.ca_rows.specs.Asks.{IsWrite};
+ghost use Rattle.ca_rows.specs.Made.{HasMade, IsMade, written_all};
+ghost use Rattle.ca_arrivals.specs.Numbers.{CanPass, without_ack_request};
 ghost use Rattle.ca_arrivals.specs.Receives.{CanTake};
-ghost use Rattle.ca_arrivals.specs.Taking.{IsPacketTaken, ended_by, found};
-ghost use Rattle.ca_model.specs.machine.CanStep.{AreNarrow, CanStep};
+ghost use Rattle.ca_arrivals.specs.Requests.{IsValidRequest};
+ghost use Rattle.ca_arrivals.specs.Taking.{CanMeet, IsTaken, is_taken, outcome_in};
+ghost use Rattle.ca_remote.specs.Access.{AreAllowed, IsFitting, ask_of_write, asks_met};
 
-use ca_arrivals::{pass, queue_ack, refuse, remote_mark, take_own, write_ask};
-use ca_base::{Ask, Bytes, Denial, Memory, Message, PlacedReceive, Verdict, WcOp};
+use ca_arrivals::{
+    Request, SharedReceive, pass, queue_ack, refuse, refuse_invalid, remote_mark, shared_receive,
+    take_own, write_ask, write_reach,
+};
+use ca_base::{Ask, Bytes, DeniedAsk, Memory, Message, PlacedReceive, Verdict, WcOp};
 use ca_grant::Reach;
-use ca_model::{Marks, WriteReach};
+use ca_model::{Marks, SPARE_MARKS, WriteReach};
 use ca_qpstate::QueuePart;
 use ca_rows::receive_mark;
 use ca_wire::{NakCode, Packet, Position};
-use std::alloc::Global;
 
-/// A WRITE packet, which is judged for all bytes that are left. One of no bytes meets no key. Whether a receive of the
-/// shared receive queue is to be taken.
+/// A WRITE packet, with where it stands in its message and what it reaches, and the index of its envelope for its mark.
+#[derive(Clone, Copy)]
+pub struct WritePacket<'a> {
+    pub packet: &'a Packet<'a>,
+    pub envelope: Option<u64>,
+    pub position: Position,
+    pub target: WriteReach,
+}
+
+/// A WRITE packet, which is judged for all bytes that are left. One of no bytes meets no key.
 pub fn take_write<R: Reach>(
-    alloc: Global,
     q: &mut QueuePart,
     reach: &mut R,
-    p: &Packet<'_>,
-    envelope: Option<u64>,
-    place: Position,
-    next: Option<&PlacedReceive>,
-    r: &WriteReach,
+    request: &Request<'_>,
+    position: Position,
+    next: Option<PlacedReceive>,
     marks: &mut Marks,
-) -> Result<bool, Memory>
+) -> Result<SharedReceive, Memory>
     requires step { CanStep q.old }
-    requires payload { length p.now.payload ≤ MAX_PAYLOAD_BYTES }
-    requires place { fits_place q.old.responder.mtu place (length p.now.payload) ≡ true }
-    requires left { rows.fits_left (length p.now.payload) place r.now ≡ true }
-    requires takes { CanTake q.old (option_copied next) }
-    requires at_hand { AreAtHand R.sight R.judges R.touches reach.old (rows.write_row (arrivals.with_flag false q.old) p.now envelope place (option_copied next) r.now).asks }
-    ensures taken { let row = rows.write_row (arrivals.with_flag false q.old) p.now envelope place (option_copied next.entry) r.now in
-        IsPacketTaken R.written R.revoked result (ending_of (R.sight reach.old) row) (ended_by (R.sight reach.old) row)
-        (found q.old marks.old.marks reach.old) (found q.new marks.new.marks reach.new) }
-    ensures room { OnOk result (2 ≤ marks.new.room) }
+    requires request { IsValidRequest q.old request.now next }
+    requires shape { request.now.shape ≡ Shape.Write position }
+    requires at_hand { CanMeet R.sight R.judges R.touches R.ends reach.old q.old
+        (rows.valid_row (arrivals.with_flag false q.old) request.now.packet.now request.now.envelope next request.now.shape) }
+    ensures taken { IsTaken R.written R.revoked result (outcome_in (R.sight reach.old)
+        (rows.valid_row (arrivals.with_flag false q.old) request.now.packet.now request.now.envelope next request.now.shape))
+        q.old q.new marks.old marks.new reach.old reach.new }
 {
-    let ask = write_ask(q, p, r);
-    if r.left == 0 {
-        return write_nothing(alloc, q, p, &ask, envelope, place, next, r, marks);
+    let p = request.packet;
+    let Some(target) = write_reach(q, p) else {
+        refuse_invalid(q, marks)?;
+        return Ok(SharedReceive::Stays);
+    };
+    let ask = write_ask(q, p, &target);
+    if let Some(denied) = denied_access(reach, &ask) {
+        deny(q, &denied, request.envelope, marks)?;
+        return Ok(SharedReceive::Stays);
     }
-    if let Some(denial) = reach.check(&ask) {
-        deny(alloc, q, &ask, envelope, denial, marks)?;
-        return Ok(false);
+    let write = WritePacket {
+        packet: p,
+        envelope: request.envelope,
+        position,
+        target,
+    };
+    place_write(q, reach, &write, &ask, &next, marks)
+}
+
+/// Whether an access is denied: one of no bytes meets no key.
+pub fn denied_access<R: Reach>(reach: &R, ask: &Ask) -> Option<DeniedAsk>
+    requires at_hand { AreAtHand R.sight R.judges R.touches reach.now (asks_met ask.now) }
+    requires touch { 0 < ask.now.length → IsPacketAsk ask.now }
+    ensures { result ≡ sights.first_denied (R.sight reach.now) (asks_met ask.now) }
+{
+    if ask.length == 0 {
+        return None;
     }
-    place_write(alloc, q, reach, p, &ask, envelope, place, next, r, marks)
+    match reach.check(ask) {
+        Some(denial) => Some(DeniedAsk { ask: *ask, denial }),
+        None => None,
+    }
 }
 
 /// Refuses a packet whose access is denied.
 pub fn deny(
-    alloc: Global,
     q: &mut QueuePart,
-    ask: &Ask,
+    denied: &DeniedAsk,
     envelope: Option<u64>,
-    denial: Denial,
     marks: &mut Marks,
 ) -> Result<(), Memory>
-    requires { IsQueue q.old }
-    ensures queue { OnOk result (q.new ≡ (arrivals.refusal_effects NakCode.RemoteAccessError (arrivals.with_flag false q.old)).queue) }
-    ensures marks { OnOk result (marks.new.marks ≡ marks.old.marks ++ (arrivals.remote_mark ask.now envelope (Verdict.Denied denial) ∷ flush_marks q.old)) }
-    ensures room { OnOk result (2 ≤ marks.new.room) }
-    ensures err { OnErr result (q.new ≡ q.old) }
-    ensures err_marks { OnErr result (marks.new.marks ≡ marks.old.marks) }
+    requires { CanStep q.old }
+    ensures { IsMade result (rows.behind_marks (arrivals.remote_mark denied.now.ask envelope (Verdict.Denied denied.now.denial) ∷ [])
+        (arrivals.refusal_effects NakCode.RemoteAccessError (arrivals.with_flag false q.old))) q.old q.new marks.old marks.new }
 {
-    let mut made = Vec::new(alloc);
-    made.push(remote_mark(ask, envelope, Verdict::Denied(denial)))?;
+    let mut made = Vec::new(q.alloc());
+    made.push(remote_mark(&denied.ask, envelope, Verdict::Denied(denied.denial)))?;
     refuse(q, NakCode::RemoteAccessError, made, marks)
-}
-
-/// A WRITE packet with nothing left to write: it has its mark, and takes effect.
-fn write_nothing(
-    alloc: Global,
-    q: &mut QueuePart,
-    p: &Packet<'_>,
-    ask: &Ask,
-    envelope: Option<u64>,
-    place: Position,
-    next: Option<&PlacedReceive>,
-    r: &WriteReach,
-    marks: &mut Marks,
-) -> Result<bool, Memory>
-    requires narrow { AreNarrow q.old }
-    requires msn { q.old.responder.msn < 2 ^ 24 }
-    requires left { length p.now.payload ≤ r.now.left }
-    requires takes { CanTake q.old (option_copied next) }
-    ensures queue { OnOk result (q.new ≡ (rows.after_write_packet (arrivals.with_flag false q.old) p.now place r.now (option_copied next.entry)).queue) }
-    ensures marks { OnOk result (marks.new.marks ≡ marks.old.marks ++ (arrivals.remote_mark ask.now envelope (Verdict.Wrote p.now.payload)
-        ∷ (rows.after_write_packet (arrivals.with_flag false q.old) p.now place r.now (option_copied next.entry)).marks)) }
-    ensures shared { IfOk result (λ shared. shared ≡ (rows.after_write_packet (arrivals.with_flag false q.old) p.now place r.now (option_copied next.entry)).takes_shared) }
-    ensures room { OnOk result (2 ≤ marks.new.room) }
-    ensures err { OnErr result (q.new ≡ q.old) }
-    ensures err_marks { OnErr result (marks.new.marks ≡ marks.old.marks) }
-{
-    let bytes = Bytes::copy_of(alloc, p.payload)?;
-    marks.reserve(4)?;
-    queue_ack(q, p)?;
-    marks.push(remote_mark(ask, envelope, Verdict::Wrote(bytes)));
-    let shared = end_write(q, p, place, next, r, marks);
-    Ok(shared)
 }
 
 /// A WRITE packet that is not denied: its bytes are placed, and it takes effect.
 fn place_write<R: Reach>(
-    alloc: Global,
     q: &mut QueuePart,
     reach: &mut R,
-    p: &Packet<'_>,
+    w: &WritePacket<'_>,
     ask: &Ask,
-    envelope: Option<u64>,
-    place: Position,
-    next: Option<&PlacedReceive>,
-    r: &WriteReach,
+    next: &Option<PlacedReceive>,
     marks: &mut Marks,
-) -> Result<bool, Memory>
-    requires narrow { AreNarrow q.old }
-    requires msn { q.old.responder.msn < 2 ^ 24 }
-    requires left { length p.now.payload ≤ r.now.left }
-    requires takes { CanTake q.old (option_copied next) }
-    requires judges { R.judges reach.old ask.now }
-    requires touches { R.touches reach.old ask.now }
-    requires packet { IsPacketAsk ask.now }
-    requires kind { ask.now.kind ≡ Kind.Write }
-    requires count { length p.now.payload ≡ ask.now.touch }
-    requires allowed { denial_in (R.sight reach.old) ask.now ≡ None }
-    ensures queue { OnOk result (q.new ≡ (rows.after_write_packet (arrivals.with_flag false q.old) p.now place r.now (option_copied next.entry)).queue) }
-    ensures marks { OnOk result (marks.new.marks ≡ marks.old.marks ++ (arrivals.remote_mark ask.now envelope (Verdict.Wrote p.now.payload)
-        ∷ (rows.after_write_packet (arrivals.with_flag false q.old) p.now place r.now (option_copied next.entry)).marks)) }
-    ensures shared { IfOk result (λ shared. shared ≡ (rows.after_write_packet (arrivals.with_flag false q.old) p.now place r.now (option_copied next.entry)).takes_shared) }
-    ensures wrote { OnOk result (reach.new ≡ R.written reach.old ask.now p.now.payload) }
-    ensures room { OnOk result (2 ≤ marks.new.room) }
-    ensures err { OnErr result (q.new ≡ q.old) }
-    ensures err_marks { OnErr result (marks.new.marks ≡ marks.old.marks) }
-    ensures err_reach { OnErr result (reach.new ≡ reach.old) }
+) -> Result<SharedReceive, Memory>
+    requires step { CanStep q.old }
+    requires fits { IsFitting q.old w.now next.now }
+    requires ask { ask.now ≡ ask_of_write q.old w.now }
+    requires allowed { AreAllowed R.sight R.judges R.touches reach.old (asks_met ask.now) }
+    ensures taken { IsTaken R.written R.revoked result (outcome_in (R.sight reach.old)
+        (rows.write_row (arrivals.with_flag false q.old) w.now.packet.now w.now.envelope w.now.position next.now w.now.target))
+        q.old q.new marks.old marks.new reach.old reach.new }
 {
-    let bytes = Bytes::copy_of(alloc, p.payload)?;
-    marks.reserve(4)?;
+    let p = w.packet;
+    let bytes = Bytes::copy_of(q.alloc(), p.payload)?;
+    marks.reserve(SPARE_MARKS + 2)?;
     queue_ack(q, p)?;
-    let verdict = reach.write(ask, bytes);
-    marks.push(remote_mark(ask, envelope, verdict));
-    let shared = end_write(q, p, place, next, r, marks);
-    Ok(shared)
+    let verdict = write_bytes(reach, ask, bytes);
+    marks.push(remote_mark(ask, w.envelope, verdict));
+    Ok(end_write(q, w, next, marks))
+}
+
+/// Writes bytes by an ask that is not denied. No bytes meet no key.
+fn write_bytes<R: Reach>(reach: &mut R, ask: &Ask, bytes: Bytes) -> Verdict
+    requires write { 0 < ask.now.length → IsWrite (ask.now, bytes) }
+    requires allowed { AreAllowed R.sight R.judges R.touches reach.old (asks_met ask.now) }
+    ensures verdict { result ≡ Verdict.Wrote bytes }
+    ensures wrote { reach.new ≡ written_all R.written reach.old (if ask.now.length == 0 then [] else (ask.now, bytes) ∷ []) }
+{
+    if ask.length == 0 {
+        return Verdict::Wrote(bytes);
+    }
+    reach.write(ask, bytes)
 }
 
 /// A WRITE packet took effect: it goes on, or ends, where immediate data complete a receive. The acknowledgement is
-/// queued already. Whether a receive of the shared receive queue is to be taken.
+/// queued already.
 #[inline(always)]
 fn end_write(
     q: &mut QueuePart,
-    p: &Packet<'_>,
-    place: Position,
-    next: Option<&PlacedReceive>,
-    r: &WriteReach,
+    w: &WritePacket<'_>,
+    next: &Option<PlacedReceive>,
     marks: &mut Marks,
-) -> bool
-    requires expected { q.old.responder.expected < 2 ^ 62 }
-    requires msn { q.old.responder.msn < 2 ^ 24 }
-    requires left { length p.now.payload ≤ r.now.left }
-    requires takes { CanTake q.old (option_copied next) }
-    requires room { 3 ≤ marks.old.room }
-    ensures queue { q.new ≡ (rows.after_write_packet (arrivals.with_flag false q.old) (unasked p.now) place r.now (option_copied next.entry)).queue }
-    ensures marks { marks.new.marks ≡ marks.old.marks ++ (rows.after_write_packet (arrivals.with_flag false q.old) (unasked p.now) place r.now (option_copied next.entry)).marks }
-    ensures shared { result ≡ (rows.after_write_packet (arrivals.with_flag false q.old) (unasked p.now) place r.now (option_copied next.entry)).takes_shared }
-    ensures room { 2 ≤ marks.new.room }
+) -> SharedReceive
+    requires numbers { CanPass q.old }
+    requires left { length w.now.packet.now.payload ≤ w.now.target.left }
+    requires receive { CanTake q.old next.now }
+    requires room { SPARE_MARKS + 1 ≤ marks.old.room }
+    ensures made { HasMade (rows.after_write_packet (arrivals.with_flag false q.old) (without_ack_request w.now.packet.now) w.now.position w.now.target next.now)
+        q.new marks.old marks.new }
+    ensures shared { is_taken result ≡ (rows.after_write_packet (arrivals.with_flag false q.old) (without_ack_request w.now.packet.now) w.now.position w.now.target next.now).takes_shared }
 {
-    if !place.ends() {
-        q.responder.message = Some(write_left(p, r));
+    if !w.position.ends() {
+        q.responder.message = Some(write_left(w));
         pass(q, 1, false);
-        return false;
+        return SharedReceive::Stays;
     }
     if q.responder.message.is_some() {
         q.responder.message = None;
     }
     pass(q, 1, true);
+    let p = w.packet;
     let Some(imm) = p.imm else {
-        return false;
+        return SharedReceive::Stays;
     };
     let Some(receive) = next else {
-        return false;
+        return SharedReceive::Stays;
     };
     marks.push(receive_mark(
         q.queue,
         receive.place,
         &receive.receive,
         WcOp::RecvImm,
-        r.whole,
+        w.target.whole,
         Some(imm),
         None,
     ));
     take_own(q);
-    q.srq.is_some()
+    shared_receive(q)
 }
 
 /// What is left of a WRITE after a packet; addresses count modulo 2^64.
-fn write_left(p: &Packet<'_>, r: &WriteReach) -> Message
-    requires { length p.now.payload ≤ r.now.left }
-    ensures { result ≡ rows.message_left r.now (length p.now.payload) }
+fn write_left(w: &WritePacket<'_>) -> Message
+    requires { length w.now.packet.now.payload ≤ w.now.target.left }
+    ensures { result ≡ rows.message_left w.now.target (length w.now.packet.now.payload) }
 {
+    let p = w.packet;
     let count = p.payload.len();
     Message::Write {
-        key: r.key,
-        address: r.address.wrapping_add(count as u64),
-        left: r.left - count as u32,
-        length: r.whole,
+        key: w.target.key,
+        address: w.target.address.wrapping_add(count as u64),
+        left: w.target.left - count as u32,
+        length: w.target.whole,
     }
 }

@@ -1,4 +1,4 @@
--- A place that is held at the end of a response queue. Contracts cite it.
+-- An answer that stands at the end of a response queue for one to come. Contracts cite it.
 use Rattle.std.specs.Prelude.{ℕ, ◌+◌, ◌≤◌, List, [], ◌∷◌, ◌++◌}
 use Rattle.std.specs.List.{AllByRecursion}
 use Rattle.ca_base.specs.declared.queue_numbers.Queued.{Queued}
@@ -9,6 +9,6 @@ use Rattle.ca_base.specs.objects.Answers.{psn_of_answer}
 abbrev pub AreUntil : ℕ → List Queued → Type 0
 AreUntil psn answers = AllByRecursion (λ a. psn_of_answer a ≤ psn) answers
 
--- an acknowledgement of the next PSN holds the place behind them
-abbrev pub held : ℕ → List Queued → List Queued
-held psn answers = answers ++ queued.Ack (psn + 1) ∷ []
+-- an acknowledgement of the next PSN stands behind them
+abbrev pub with_stand_in : ℕ → List Queued → List Queued
+with_stand_in psn answers = answers ++ queued.Ack (psn + 1) ∷ []

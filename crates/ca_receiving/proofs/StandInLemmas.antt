@@ -1,4 +1,4 @@
--- A place that is held at the end of a response queue, by an answer behind all PSNs that wait.
+-- An answer that stands at the end of a response queue for one to come, behind all PSNs that wait.
 use Rattle.std.proofs.Common.{◌≡◌, ℕ, zero, suc, ◌+◌, ◌-◌, ◌≤◌, arith, refl, ap, ◌∙◌, Bool, true, false, List, [], ◌∷◌, ◌++◌, length, length-append, slice_get, slice_set, Option, None, Some}
 use Rattle.std.proofs.lemmas.Bool.{le-ltb, lt-ltb}
 use Rattle.std.specs.List.{AllByRecursion}
@@ -8,7 +8,7 @@ use Rattle.ca_base.specs.declared.queue_numbers.Queued.TheVariants.{Ack, Atomic,
 use Rattle.ca_base.specs.objects.Answers.{answers_before, ends_with_ack, is_ack, psn_of_answer, with_ack_at_end}
 use Rattle.ca_model.specs.machine.Invariants.{IsAnswer}
 use Rattle.ca_arrivals.proofs.EndLemmas.{end-set}
-use Rattle.ca_receiving.specs.Held.{AreUntil, held}
+use Rattle.ca_receiving.specs.StandIn.{AreUntil, with_stand_in}
 
 until : (mtu expected : ℕ) (a : Queued) → IsAnswer mtu expected a → psn_of_answer a ≤ expected
 until mtu expected (Ack psn) h = h
@@ -22,8 +22,8 @@ pub are_until : (mtu expected : ℕ) (xs : List Queued) → AllByRecursion (IsAn
 are_until mtu expected [] h = record {}
 are_until mtu expected (x ∷ xs) h = (until mtu expected x h.0, are_until mtu expected xs h.1)
 
--- the place is given up
-pub given_up : (psn : ℕ) (xs : List Queued) → AreUntil psn xs → answers_before (psn + 1) (held psn xs) ≡ xs
+-- what stands in is removed
+pub given_up : (psn : ℕ) (xs : List Queued) → AreUntil psn xs → answers_before (psn + 1) (with_stand_in psn xs) ≡ xs
 given_up psn [] h = rw (le-ltb (psn + 1) (psn + 1) (omega arith)) refl
 given_up psn (x ∷ xs) h = rw (lt-ltb (psn_of_answer x) (psn + 1) (omega (arith, h.0))) (ap (λ (ys : List Queued). x ∷ ys) (given_up psn xs h.1))
 
@@ -31,7 +31,7 @@ abbrev pub ack-at : Option Queued → Bool
 ack-at (Some a) = is_ack a
 ack-at None = false
 
--- what stands before the place
+-- what stands before it
 pub before_end : (xs : List Queued) (a : Queued) (n : ℕ) → n + 2 ≡ length (xs ++ a ∷ []) → ack-at (slice_get (xs ++ a ∷ []) n) ≡ ends_with_ack xs
 before_end [] a n count = absurd (omega (arith, count))
 before_end (x ∷ []) a zero count = refl
@@ -39,11 +39,11 @@ before_end (x ∷ []) a (suc n) count = absurd (omega (arith, count))
 before_end (x ∷ y ∷ rest) a zero count = absurd (omega (arith, count, length-append rest (a ∷ [])))
 before_end (x ∷ y ∷ rest) a (suc n) count = before_end (y ∷ rest) a n (omega (arith, count))
 
--- an acknowledgement takes the place
-pub taken_by : (psn : ℕ) (xs ys : List Queued) → ends_with_ack xs ≡ false → ys ≡ slice_set (held psn xs) (length (held psn xs) - 1) (Ack psn) → ys ≡ with_ack_at_end psn xs
+-- an acknowledgement comes in its place
+pub taken_by : (psn : ℕ) (xs ys : List Queued) → ends_with_ack xs ≡ false → ys ≡ slice_set (with_stand_in psn xs) (length (with_stand_in psn xs) - 1) (Ack psn) → ys ≡ with_ack_at_end psn xs
 taken_by psn xs ys other e = e ∙ end-set xs (Ack (psn + 1)) (Ack psn) ∙ ack_added psn xs other
 
--- the place is given up for an acknowledgement that stands before it
-pub given_for : (psn : ℕ) (xs ys zs : List Queued) → AreUntil psn xs → ends_with_ack xs ≡ true → ys ≡ answers_before (psn + 1) (held psn xs)
+-- an acknowledgement that stands before it makes room for the new one
+pub given_for : (psn : ℕ) (xs ys zs : List Queued) → AreUntil psn xs → ends_with_ack xs ≡ true → ys ≡ answers_before (psn + 1) (with_stand_in psn xs)
     → zs ≡ slice_set ys (length ys - 1) (Ack psn) → zs ≡ with_ack_at_end psn xs
 given_for psn xs ys zs before ack e f = f ∙ ap (λ (l : List Queued). slice_set l (length l - 1) (Ack psn)) (e ∙ given_up psn xs before) ∙ ack_set psn xs ack

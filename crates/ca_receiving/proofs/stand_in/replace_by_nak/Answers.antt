@@ -2,7 +2,7 @@ use Rattle.std.proofs.Common.{ap, ◌∙◌, [], ◌∷◌, ◌++◌, ◌-◌, �
 use Rattle.ca_base.specs.declared.queue_numbers.Queued.{Queued}
 use Rattle.ca_base.specs.declared.queue_numbers.Queued.TheVariants.{Ack, Nak}
 use Rattle.ca_arrivals.proofs.EndLemmas.{end-set}
-use Rattle.ca_receiving.proofs.held.refuse_held.Goals as goal
+use Rattle.ca_receiving.proofs.stand_in.replace_by_nak.Goals as goal
 
 pub returns : goal.returns
 returns c = λ before is.

@@ -2,8 +2,8 @@ use Rattle.std.proofs.Common.{sym, ap, ◌∙◌, ◌-◌, ◌+◌, length, List
 use Rattle.ca_base.specs.declared.queue_numbers.Queued.{Queued}
 use Rattle.ca_base.specs.declared.queue_numbers.Queued.TheVariants.{Ack}
 use Rattle.ca_base.specs.objects.Answers.{answers_before}
-use Rattle.ca_receiving.proofs.HeldLemmas.{given_for, given_up, taken_by}
-use Rattle.ca_receiving.proofs.held.settle_held.Goals as goal
+use Rattle.ca_receiving.proofs.StandInLemmas.{given_for, given_up, taken_by}
+use Rattle.ca_receiving.proofs.stand_in.replace_by_ack.Goals as goal
 
 pub returns-then-not-ack : goal.returns-then-not-ack
 returns-then-not-ack c = λ before is until.
