@@ -16,7 +16,7 @@ use Rattle.ca_model.specs.Marks.{MarkList}
 use Rattle.ca_model.specs.declared.read_left.ReadLeft.{ReadLeft}
 use Rattle.ca_model.specs.machine.Arrivals.{remote_mark}
 use Rattle.ca_model.specs.machine.Completions.{flush_marks}
-use Rattle.ca_model.specs.machine.Invariants.{IsQueue}
+use Rattle.ca_model.specs.machine.CanStep.{CanStep}
 use Rattle.ca_model.specs.machine.Requester.{peer_number, psn_bits}
 use Rattle.ca_model.specs.machine.Respond.{response_ask, with_packet, without_front}
 use Rattle.ca_model.specs.machine.Row.{Effects, Row, Does, plain_row, queue_and_marks}
@@ -52,9 +52,9 @@ IsSent (Ok done) e queue_before queue_after before after out_before out_after =
 IsSent (Err memory) e queue_before queue_after before after out_before out_after =
     IsUnchanged queue_before queue_after before after × (out_after ≡ out_before)
 
--- a response of a READ may be sent: the queue pair can come up, an answer waits, and the READ's PSN is narrow
+-- a response of a READ may be sent: an answer waits, and the READ's PSN is narrow
 pub record CanRespond (q : QueuePair) (r : ReadLeft) : Type 0 where
-  pub queue : IsQueue q
+  pub step : CanStep q
   pub some : 0 < length q.responder.answers
   pub psn : r.psn < 2 ^ 63
 

@@ -12,7 +12,7 @@ ghost use Rattle.ca_packet.specs.Packet.{IsWellFormed};
 
 use crate::answer::next_answer;
 use crate::read_left::{is_last_response, response_ask, response_segment, rest_of};
-use ca_arrivals::{push_flush, remote_mark, reserve_for};
+use ca_arrivals::{FlushedReceives, push_flush, remote_mark, reserve_for};
 use ca_base::{Ask, Bytes, Denial, Memory, Queued, Sent, StepError, Verdict};
 use ca_grant::Reach;
 use ca_model::{Marks, ReadLeft};
@@ -270,13 +270,13 @@ fn refuse_read(
     marks: &mut Marks,
     out: &mut Vec<u8>,
 ) -> Result<(), Memory>
-    requires { IsQueue q.old }
+    requires { CanStep q.old }
     ensures { IsSent result (read_refusal q.old r.now denial) q.old q.new marks.old marks.new out.old.items out.new.items }
 {
     let ask = response_ask(q, r);
     let mut made = Vec::new(q.alloc());
     made.push(remote_mark(&ask, r.envelope, Verdict::Denied(denial)))?;
-    push_flush(q, &mut made)?;
+    push_flush(q, FlushedReceives::All, &mut made)?;
     let (peer, msn) = (peer_number(q), q.responder.msn);
     reserve_for(marks, &made)?;
     spell_packet(
