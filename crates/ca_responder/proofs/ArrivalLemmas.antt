@@ -1,32 +1,25 @@
--- A request that was taken, as its row comes out: one that is no expected packet, and one that is.
-use Rattle.std.proofs.Common.{◌≡◌, refl, ap, ℕ, ◌==◌, nat_le, ◌+◌, ◌-◌, List, [], ◌∷◌, length, Bool, true, false, if◌then◌else◌, Option, None, Some, Result, Ok, Err}
+-- A request that was taken, as its row comes out: a READ, which is queued, and one that takes a receive.
+use Rattle.std.proofs.Common.{◌≡◌, refl, ap, sym, ◌∙◌, ℕ, List, [], Bool, true, false, if◌then◌else◌, IfOk, Option, None, Some, Result, Ok, Err}
 use Rattle.std.specs.Option.{option_map, option_map_or}
 use Rattle.ca_keys.specs.declared.access.Ask.{Ask}
 use Rattle.ca_keys.specs.declared.memory.Memory.{Memory}
 use Rattle.ca_base.specs.Sight.{Invalidation, Sight}
-use Rattle.ca_base.specs.declared.limits.TheConstants.{MAX_DUPLICATES}
-use Rattle.ca_base.specs.declared.queue_numbers.Queued.{Queued}
-use Rattle.ca_base.specs.declared.queue_numbers.Queued.TheVariants as queued
-use Rattle.ca_base.specs.objects.Answers.{duplicate_count}
 use Rattle.ca_base.specs.objects.QueuePair.{QueuePair}
-use Rattle.ca_base.specs.objects.Saved.{saved_at}
+use Rattle.ca_base.specs.declared.request.PlacedReceive.{PlacedReceive}
 use Rattle.ca_base.specs.objects.SharedReceives.{SharedReceives, after_receive_take}
 use Rattle.ca_packet.specs.Packet.{Fields}
 use Rattle.ca_packet.specs.declared.reth.Reth.{Reth}
-use Rattle.ca_packet.specs.declared.shape.Shape.{Shape}
 use Rattle.ca_packet.specs.declared.shape.Shape.TheVariants as shapes
-use Rattle.ca_wire.specs.Syndrome.{nak_code}
-use Rattle.ca_wire.specs.declared.syndrome.NakCode.TheVariants.{PsnSequenceError}
+use Rattle.ca_wire.specs.declared.syndrome.NakCode.TheVariants.{InvalidRequest}
 use Rattle.ca_model.specs.Marks.{MarkList}
-use Rattle.ca_model.specs.Requests.{segments}
-use Rattle.ca_model.specs.declared.mark.Drop1.TheVariants as drops
-use Rattle.ca_model.specs.machine.Arrivals.{with_answer, with_flag}
-use Rattle.ca_model.specs.machine.Duplicates.{ack_again, ahead_effects, answer_again, atomic_again, duplicate_effects, read_again}
-use Rattle.ca_model.specs.machine.Responses.{drop_effects}
-use Rattle.ca_model.specs.machine.Row.{Effects, Ending, NotPossible, Does, plain_row, queue_and_marks}
+use Rattle.ca_model.specs.machine.Arrivals.{refusal_effects}
+use Rattle.ca_model.specs.machine.Expected.{read_queued, valid_row}
+use Rattle.ca_model.specs.machine.Row.{Effects, Ending, NotPossible, Does, Row, plain_row, queue_and_marks}
 use Rattle.ca_rows.specs.Made.{IsMade}
-use Rattle.ca_arrivals.specs.Taking.{HasArrived, HasTaken, IsArrival, is_taken, outcome_in}
+use Rattle.ca_arrivals.specs.Taking.{HasArrived, HasTaken, IsTaken, is_taken, outcome_in}
 use Rattle.ca_arrivals.specs.declared.request.SharedReceive.{SharedReceive}
+use Rattle.ca_arrivals.specs.declared.request.SharedReceive.TheVariants.{Stays}
+use Rattle.ca_remote.specs.Access.{read_effects}
 
 -- effects that write nothing, and take no receive of a shared receive queue
 pub record IsPlain (e : Effects) : Type 0 where
@@ -36,60 +29,42 @@ pub record IsPlain (e : Effects) : Type 0 where
 plain-made : (q : QueuePair) (ms : List _) → IsPlain (queue_and_marks q ms)
 plain-made q ms = record { shared = refl; writes = refl }
 
-plain-if : (b : Bool) (x y : Effects) → IsPlain x → IsPlain y → IsPlain (if b then x else y)
-plain-if true x y p r = p
-plain-if false x y p r = r
-
-pub plain_ahead : (q : QueuePair) → IsPlain (ahead_effects q)
-plain_ahead q = plain-if q.responder.nak_sent (drop_effects q drops.Stale)
-    (queue_and_marks (with_flag true (with_answer (queued.Nak q.responder.expected (nak_code PsnSequenceError)) q)) [])
-    (plain-made _ _) (plain-made _ _)
-
-plain-ack : (q : QueuePair) → IsPlain (ack_again q)
-plain-ack q = plain-if (length q.responder.answers == 0)
-    (queue_and_marks (with_answer (queued.Ack (q.responder.expected - 1)) q) []) (drop_effects q drops.Unsaved)
-    (plain-made _ _) (plain-made _ _)
-
-plain-read : (psn : ℕ) (envelope : Option ℕ) (h : Reth) (q : QueuePair) → IsPlain (read_again psn envelope h q)
-plain-read psn envelope h q = plain-if (nat_le (psn + segments q.responder.mtu h.length) q.responder.expected)
-    (answer_again psn (queued.Read psn h.key h.address h.length true envelope true) q) (drop_effects q drops.Unsaved)
-    (plain-made _ _) (plain-made _ _)
-
-plain-atomic : (psn : ℕ) (found : Option ℕ) (q : QueuePair) → IsPlain (atomic_again psn found q)
-plain-atomic psn (Some found) q = plain-made _ _
-plain-atomic psn None q = plain-made _ _
-
-pub plain_duplicate : (psn : ℕ) (p : Fields) (envelope : Option ℕ) (shape : Shape) (q : QueuePair) → IsPlain (duplicate_effects psn p envelope shape q)
-plain_duplicate psn p envelope shape q = plain-if (nat_le MAX_DUPLICATES (duplicate_count q.responder.answers))
-    (drop_effects q drops.Unsaved) (by shape) (plain-made _ _) (plain shape)
+-- a READ Request writes nothing, and takes no receive
+pub plain_queued : (q : QueuePair) (p : Fields) (envelope : Option ℕ) → IsPlain (read_effects q p envelope)
+plain_queued q p envelope = by p.reth
   where
-    read : Option Reth → Effects
-    read h = option_map_or (λ h. read_again psn envelope h q) h (drop_effects q drops.Unsaved)
+    effects : Option Reth → Effects
+    effects (Some h) = read_queued q p envelope h
+    effects None = refusal_effects InvalidRequest q
 
-    by : Shape → Effects
-    by (shapes.Send place) = ack_again q
-    by (shapes.Write place) = ack_again q
-    by shapes.Read = read p.reth
-    by (shapes.Atomic kind) = atomic_again psn (saved_at psn q.saved) q
+    by : (h : Option Reth) → IsPlain (effects h)
+    by (Some h) = plain-made _ _
+    by None = plain-made _ _
 
-    plain-by : (h : Option Reth) → IsPlain (read h)
-    plain-by (Some h) = plain-read psn envelope h q
-    plain-by None = plain-made _ _
+pub queued_row : (q : QueuePair) (p : Fields) (envelope : Option ℕ) (next : Option PlacedReceive)
+    → plain_row (Does (read_effects q p envelope)) ≡ valid_row q p envelope next shapes.Read
+queued_row q p envelope next = by p.reth
+  where
+    effects : Option Reth → Effects
+    effects (Some h) = read_queued q p envelope h
+    effects None = refusal_effects InvalidRequest q
 
-    plain : (shape : Shape) → IsPlain (by shape)
-    plain (shapes.Send place) = plain-ack q
-    plain (shapes.Write place) = plain-ack q
-    plain shapes.Read = plain-by p.reth
-    plain (shapes.Atomic kind) = plain-atomic psn (saved_at psn q.saved) q
+    row : Option Reth → Row
+    row (Some h) = plain_row (Does (read_queued q p envelope h))
+    row None = plain_row (Does (refusal_effects InvalidRequest q))
 
--- what was made of a packet that is not the expected one
-pub arrives_plain : {S : Type 0} (written : S → Ask → List ℕ → S) (revoked : S → Invalidation → S) (sight : Sight) (r : Result (Unit {0}) Memory) (e : Effects)
-    (queue_before queue_after : QueuePair) (before after : MarkList) (reach : S) (shared : Option SharedReceives)
-    → IsPlain e → IsMade r e queue_before queue_after before after
-    → IsArrival written revoked r (outcome_in sight (plain_row (Does e))) queue_before queue_after before after reach reach shared shared
-arrives_plain written revoked sight (Ok done) e queue_before queue_after before after reach shared plain made =
-    (made, (rw plain.writes refl, rw plain.shared refl))
-arrives_plain written revoked sight (Err memory) e queue_before queue_after before after reach shared plain made = (made, (refl, refl))
+    by : (h : Option Reth) → plain_row (Does (effects h)) ≡ row h
+    by (Some h) = refl
+    by None = refl
+
+-- what was made of a request that writes nothing and takes no receive
+pub taken_plain : {S : Type 0} (written : S → Ask → List ℕ → S) (revoked : S → Invalidation → S) (sight : Sight) (r : Result SharedReceive Memory) (e : Effects)
+    (queue_before queue_after : QueuePair) (before after : MarkList) (reach : S)
+    → IsPlain e → IfOk r (λ shared. shared ≡ Stays) → IsMade r e queue_before queue_after before after
+    → IsTaken written revoked r (outcome_in sight (plain_row (Does e))) queue_before queue_after before after reach reach
+taken_plain written revoked sight (Ok shared) e queue_before queue_after before after reach plain stays made =
+    (ap is_taken stays ∙ sym plain.shared, (made, rw plain.writes refl))
+taken_plain written revoked sight (Err memory) e queue_before queue_after before after reach plain stays made = (made, refl)
 
 -- what was taken of the expected packet, with the receive of the shared receive queue
 pub arrives_taken : {S : Type 0} (written : S → Ask → List ℕ → S) (revoked : S → Invalidation → S) (shared : SharedReceive) (e : Ending) (ended : Option Invalidation)

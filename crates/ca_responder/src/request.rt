@@ -12,10 +12,8 @@ ghost use Rattle.ca_model.specs.machine.CanStep.{CanStep};
 ghost use Rattle.ca_packet.specs.Packet.{IsWellFormed};
 
 use crate::duplicates::{take_ahead, take_duplicate};
-use ca_receiving::take_send;
-use ca_remote::{take_atomic, take_read, take_write};
 use ca_arrivals::{
-    Request, SharedReceive, drop_packet, is_invalid, lacks_receive, queue_answer, refuse,
+    Request, SharedReceive, drop_packet, is_invalid, lacks_receive, queue_answer, refuse_invalid,
     taken_receive,
 };
 use ca_base::{Memory, Queued};
@@ -23,8 +21,10 @@ use ca_grant::Reach;
 use ca_model::{Drop1, Marks};
 use ca_psn::widen;
 use ca_qpstate::QueuePart;
+use ca_receiving::take_send;
+use ca_remote::{take_atomic, take_read, take_write};
 use ca_srq::Srq;
-use ca_wire::{NakCode, Packet, Shape, shape_of};
+use ca_wire::{Packet, Shape, shape_of};
 
 /// Takes a request that arrived. A packet ahead of the expected one asks once for what is missing; a duplicate is
 /// answered once more, and does nothing again; the expected one is checked, judged, and takes effect. A request that is
@@ -119,7 +119,7 @@ fn take_request<R: Reach>(
         return Ok(SharedReceive::Stays);
     }
     if is_invalid(q, &request) {
-        refuse(q, NakCode::InvalidRequest, Vec::new(q.alloc()), marks)?;
+        refuse_invalid(q, marks)?;
         return Ok(SharedReceive::Stays);
     }
     if lacks_receive(q, srq, &request) {
