@@ -66,6 +66,12 @@ as-many : (ws : List (Ask × List ℕ)) → length (asks_of ws) ≡ length ws
 as-many [] = refl
 as-many (w ∷ ws) = ap (λ n. suc n) (as-many ws)
 
+few-writes : (ws : List (Ask × List ℕ)) (asks : List Ask) (n : ℕ) → asks_of ws ≡ asks → length asks ≤ n → length ws ≤ n
+few-writes ws asks n e le = omega (arith, as-many ws, ap length e, le)
+
+most-of : (room bytes most : ℕ) → nat_lt room bytes ≡ false → room ≤ most → bytes ≤ most
+most-of room bytes most e le = grind (arith, nat_tests)
+
 -- a packet that fits its receive, whose list is allowed, may be placed by the writes that were cut for it
 pub can-place : {S : Type 0} (sight : S → Sight) (judges touches : S → Ask → Type 0) (ends : S → Invalidation → Type 0) (reach : S) (q : QueuePair) (s : SendPacket)
     (asks : List Ask) (ws : List (Ask × List ℕ))
@@ -80,7 +86,7 @@ can-place {S} sight judges touches ends reach q s asks ws hold payload fits can 
     let row : (send_row (with_flag false q) s.packet.now s.position s.receiving).asks ≡ receive_asks q s.packet.now s.receiving = asks-of-row q s.packet.now s.position s.receiving s.receiving.taken fits refl in
     let by : asks_of ws ≡ receive_asks q s.packet.now s.receiving = writes.by ∙ is in
     record {
-      fitting = record { most = grind (arith, nat_tests); receive = hold.waits };
+      fitting = record { most = most-of (list_length s.receiving.receive.receive.list.items) (s.receiving.before + length s.packet.now.payload) MAX_MESSAGE_BYTES fits hold.sound.bytes; receive = hold.waits };
       fits = fits;
       none = denied;
       cut = cut ∙ ap (λ (xs : List Ask). writes_by xs s.packet.now.payload) is;
@@ -88,7 +94,7 @@ can-place {S} sight judges touches ends reach q s asks ws hold payload fits can 
           (subst (λ (xs : List Ask). AllByRecursion (judges reach) xs) (row ∙ sym by) can.asks.keys)
           (subst (λ (xs : List Ask). AllByRecursion (touches reach) xs) (row ∙ sym by) (can.asks.bytes (subst (λ (xs : List Ask). first_denied (sight reach) xs ≡ None) (sym row) denied)))
           (subst (λ (xs : List Ask). AllByRecursion (IsGranted (sight reach)) xs) (sym writes.by) granted) writes.each;
-      few = omega (arith, as-many ws, ap length writes.by, few);
+      few = few-writes ws asks MAX_PIECES writes.by few;
       ended = subst (λ (i : Option Invalidation). IfSome i (MayEnd sight ends reach q)) (key-of-row q s.packet.now s.position s.receiving s.receiving.taken fits refl) can.ended;
     }
 

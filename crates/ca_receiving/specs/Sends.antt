@@ -7,10 +7,11 @@ use Rattle.ca_base.specs.declared.refusals.OpRefusal.{OpRefusal}
 use Rattle.ca_base.specs.Sight.{Invalidation, Sight, first_denied}
 use Rattle.ca_base.specs.objects.QueuePair.{QueuePair}
 use Rattle.ca_model.specs.Requests.{list_length}
-use Rattle.ca_model.specs.machine.Expected.{invalidation_of, receive_asks, with_window_gone}
+use Rattle.ca_model.specs.machine.Arrivals.{with_flag}
+use Rattle.ca_model.specs.machine.Expected.{invalidation_of, receive_asks, send_row, with_window_gone}
 use Rattle.ca_model.specs.machine.Responses.{writes_by}
 use Rattle.ca_arrivals.specs.Receives.{MayTake}
-use Rattle.ca_arrivals.specs.Taking.{MayEnd}
+use Rattle.ca_arrivals.specs.Taking.{MayEnd, Outcome, outcome_in}
 use Rattle.ca_rows.specs.Asks.{CanWrite}
 use Rattle.ca_receiving.specs.declared.send.SendPacket.{SendPacket}
 
@@ -40,3 +41,7 @@ IsEnding sight revoked (Ok done) i queue_before queue_after before after =
     ((sight before).refusal i ≡ None) × ((queue_after ≡ with_window_gone (Some i) queue_before) × (after ≡ revoked before i))
 IsEnding sight revoked (Err cause) i queue_before queue_after before after =
     ((sight before).refusal i ≡ Some cause) × ((queue_after ≡ queue_before) × (after ≡ before))
+
+-- what a SEND packet comes to, by its receive
+unfoldable pub outcome_of_send : Sight → QueuePair → SendPacket → Outcome
+outcome_of_send sight q s = outcome_in sight (send_row (with_flag false q) s.packet.now s.position s.receiving)

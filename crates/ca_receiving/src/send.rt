@@ -15,7 +15,7 @@ ghost use Rattle.ca_arrivals.specs.Numbers.{CanPass, without_ack_request, withou
 ghost use Rattle.ca_arrivals.specs.Receives.{CanHold, MayTake};
 ghost use Rattle.ca_arrivals.specs.Requests.{IsValidRequest};
 ghost use Rattle.ca_arrivals.specs.Taking.{CanMeet, IsTaken, MayEnd, is_taken, outcome_in};
-ghost use Rattle.ca_receiving.specs.Sends.{CanPlace, IsEnding, IsFitting, key_end};
+ghost use Rattle.ca_receiving.specs.Sends.{CanPlace, IsEnding, IsFitting, key_end, outcome_of_send};
 
 use crate::stand_in::{queue_stand_in, replace_by_ack, replace_by_nak};
 use ca_arrivals::{
@@ -86,8 +86,7 @@ fn receive_send<R: Reach>(
     requires receiving { CanHold q.old s.receiving }
     requires at_hand { CanMeet R.sight R.judges R.touches R.ends reach.old q.old
         (rows.send_row (arrivals.with_flag false q.old) s.packet.now s.position s.receiving) }
-    ensures taken { IsTaken R.written R.revoked result (outcome_in (R.sight reach.old)
-        (rows.send_row (arrivals.with_flag false q.old) s.packet.now s.position s.receiving))
+    ensures taken { IsTaken R.written R.revoked result (outcome_of_send (R.sight reach.old) q.old s.entry)
         q.old q.new marks.old marks.new reach.old reach.new }
 {
     let p = s.packet;
@@ -169,8 +168,7 @@ fn place_send<R: Reach>(
     requires step { CanStep q.old }
     requires can { CanPlace R.sight R.judges R.touches R.ends reach.old q.old s writes.items }
     requires no_key { s.packet.now.ieth ≡ None }
-    ensures taken { IsTaken R.written R.revoked result (outcome_in (R.sight reach.old)
-        (rows.send_row (arrivals.with_flag false q.old) s.packet.now s.position s.receiving))
+    ensures taken { IsTaken R.written R.revoked result (outcome_of_send (R.sight reach.old) q.old s.entry)
         q.old q.new marks.old marks.new reach.old reach.new }
 {
     let shared = taken_shared(q, &s.receiving);
@@ -193,8 +191,7 @@ fn place_and_end<R: Reach>(
     requires step { CanStep q.old }
     requires can { CanPlace R.sight R.judges R.touches R.ends reach.old q.old s writes.items }
     requires key { s.packet.now.ieth ≡ Some key.0 }
-    ensures taken { IsTaken R.written R.revoked result (outcome_in (R.sight reach.old)
-        (rows.send_row (arrivals.with_flag false q.old) s.packet.now s.position s.receiving))
+    ensures taken { IsTaken R.written R.revoked result (outcome_of_send (R.sight reach.old) q.old s.entry)
         q.old q.new marks.old marks.new reach.old reach.new }
 {
     let p = s.packet;
@@ -250,8 +247,8 @@ fn end_send(q: &mut QueuePart, s: SendPacket<'_>, marks: &mut Marks)
     requires numbers { CanPass q.old }
     requires fits { IsFitting q.old s }
     requires room { SPARE_MARKS + 1 ≤ marks.old.room }
-    ensures { HasMade (rows.after_send_packet (without_taken_receive s.receiving.taken (arrivals.with_flag false q.old))
-        (without_ack_request s.packet.now) s.position s.receiving) q.new marks.old marks.new }
+    ensures { HasMade (rows.after_send_packet (without_taken_receive s.entry.receiving.taken (arrivals.with_flag false q.old))
+        (without_ack_request s.entry.packet.now) s.entry.position s.entry.receiving) q.new marks.old marks.new }
 {
     let SendPacket {
         packet,
