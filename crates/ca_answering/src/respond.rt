@@ -11,8 +11,9 @@ ghost use Rattle.ca_model.specs.machine.CanStep.{CanStep};
 ghost use Rattle.ca_packet.specs.Packet.{IsWellFormed};
 
 use crate::answer::next_answer;
+use crate::flush::{FlushedReceives, push_flush, reserve_for};
 use crate::read_left::{is_last_response, response_ask, response_segment, rest_of};
-use ca_arrivals::{FlushedReceives, push_flush, remote_mark, reserve_for};
+use crate::remote::remote_mark;
 use ca_base::{Ask, Bytes, Denial, Memory, Queued, Sent, StepError, Verdict};
 use ca_grant::Reach;
 use ca_model::{Marks, ReadLeft};

@@ -37,7 +37,7 @@ use Rattle.ca_model.specs.machine.Respond.{answer_turn, respond_row}
 use Rattle.ca_model.specs.machine.Responses.{drop_effects}
 use Rattle.ca_model.specs.machine.Row.{Ending, NotPossible, Does, Row, ending_of, plain_row}
 use Rattle.ca_model.specs.Marks.{MarkList}
-use Rattle.ca_arrivals.specs.Taking.{IsArrival, ended_by, outcome_in, without_key}
+use Rattle.ca_operations.specs.Taking.{IsArrival, ended_by, outcome_in, without_key}
 use Rattle.ca_rows.specs.Made.{IsTurn}
 use Rattle.ca_bed_reach.specs.SmallLaws.{places-here}
 use Rattle.ca_bed_reach.specs.SmallReach.{FitTogether, IsCounted, IsInBuffer, after_end_of, after_write_by}

@@ -10,8 +10,8 @@ ghost use Rattle.ca_model.specs.machine.Delivery.{arrival_drops, packet_arrived}
 ghost use Rattle.ca_model.specs.machine.Expected.{invalidation_of};
 ghost use Rattle.ca_model.specs.machine.Invariants.{IsQueue, IsReceive, IsSharedReceives};
 ghost use Rattle.ca_model.specs.machine.Respond.{respond_row};
-ghost use Rattle.ca_receiving.specs.Sends.{key_end};
-ghost use Rattle.ca_arrivals.specs.Taking.{CanMeet, MayEnd};
+ghost use Rattle.ca_operations.specs.Sends.{key_end};
+ghost use Rattle.ca_operations.specs.Taking.{CanMeet, MayEnd};
 ghost use Rattle.ca_model.specs.machine.CanStep.{AreNarrow, CanStep};
 ghost use Rattle.ca_bed_reach.specs.SmallReach as small;
 ghost use Rattle.ca_bed_requester.specs.Bed as beds;

@@ -5,10 +5,11 @@ ghost use Rattle.ca_model.specs.machine.Invariants.{IsQueue};
 ghost use Rattle.ca_model.specs.machine.CanStep.{CanStep};
 ghost use Rattle.ca_rows.specs.Made.{IsMade};
 
-use ca_arrivals::{Request, drop_packet, queue_answer, read_segments};
+use ca_answering::{drop_packet, queue_answer, read_segments};
 use ca_base::limits::MAX_DUPLICATES;
 use ca_base::{Answers, Memory, Queued};
 use ca_model::{Drop1, Marks};
+use ca_operations::Request;
 use ca_qpstate::QueuePart;
 use ca_wire::{NakCode, Reth, Shape};
 

@@ -6,23 +6,20 @@ ghost use Rattle.ca_model.specs.Packets.{is_response};
 ghost use Rattle.ca_model.specs.machine.Delivery.{packet_arrived};
 ghost use Rattle.ca_model.specs.machine.Expected as rows;
 ghost use Rattle.ca_model.specs.machine.Invariants.{IsSharedReceives};
-ghost use Rattle.ca_arrivals.specs.Requests.{IsRequest};
-ghost use Rattle.ca_arrivals.specs.Taking.{CanMeet, IsArrival, IsTaken, is_taken, outcome_in};
+ghost use Rattle.ca_operations.specs.Requests.{IsRequest};
+ghost use Rattle.ca_operations.specs.Taking.{CanMeet, IsArrival, IsTaken, is_taken, outcome_in};
 ghost use Rattle.ca_model.specs.machine.CanStep.{CanStep};
 ghost use Rattle.ca_packet.specs.Packet.{IsWellFormed};
 
+use crate::checks::{is_invalid, lacks_receive, taken_receive};
 use crate::duplicates::{take_ahead, take_duplicate};
-use ca_arrivals::{
-    Request, SharedReceive, drop_packet, is_invalid, lacks_receive, queue_answer, refuse_invalid,
-    taken_receive,
-};
+use ca_answering::{drop_packet, queue_answer, refuse_invalid};
 use ca_base::{Memory, Queued};
 use ca_grant::Reach;
 use ca_model::{Drop1, Marks};
+use ca_operations::{Request, SharedReceive, take_atomic, take_read, take_send, take_write};
 use ca_psn::widen;
 use ca_qpstate::QueuePart;
-use ca_receiving::take_send;
-use ca_remote::{take_atomic, take_read, take_write};
 use ca_srq::Srq;
 use ca_wire::{Packet, Shape, shape_of};
 

@@ -1,5 +1,5 @@
 use Rattle.std.proofs.Common.{option_copied, rules}
-use Rattle.ca_arrivals.specs.Taking.{MayEnd}
+use Rattle.ca_operations.specs.Taking.{MayEnd}
 use Rattle.ca_bed_reach.specs.SmallReach.{IsEndHere, sight_of}
 use Rattle.ca_bed_responder.proofs.Ended.{ended_as}
 use Rattle.ca_bed_responder.proofs.responder.request_in.Goals as goal

@@ -1,7 +1,0 @@
-use Rattle.ca_receiving.proofs.send.place_and_end.Goals as goal
-
-pub returns : goal.returns
-returns g c = ?
-
-pub returns-in-Err : goal.returns-in-Err
-returns-in-Err g c = ?
