@@ -35,7 +35,8 @@ pub fn queue_answer(
     nak_sent: bool,
     marks: &mut Marks,
 ) -> Result<(), Memory>
-    ensures { IsMade result (queue_and_marks (arrivals.with_flag nak_sent (arrivals.with_answer answer q.old)) []) q.old q.new marks.old marks.new }
+    ensures { IsMade result (queue_and_marks (arrivals.with_flag nak_sent (arrivals.with_answer answer q.old)) [])
+        q.old q.new marks.old marks.new }
 {
     marks.reserve(SPARE_MARKS)?;
     q.responder.answers.push(answer)?;
@@ -77,7 +78,8 @@ pub fn refuse(
 ) -> Result<(), Memory>
     requires step { CanStep q.old }
     requires few { length made.items ≤ SPARE_MARKS }
-    ensures { IsMade result (behind_marks made.items (arrivals.refusal_effects code (arrivals.with_flag false q.old))) q.old q.new marks.old marks.new }
+    ensures { IsMade result (behind_marks made.items
+        (arrivals.refusal_effects code (arrivals.with_flag false q.old))) q.old q.new marks.old marks.new }
 {
     push_flush(q, FlushedReceives::All, &mut made)?;
     reserve_for(marks, &made)?;
@@ -89,7 +91,8 @@ pub fn refuse(
 /// Refuses the packet as an invalid request.
 pub fn refuse_invalid(q: &mut QueuePart, marks: &mut Marks) -> Result<(), Memory>
     requires { CanStep q.old }
-    ensures { IsMade result (arrivals.refusal_effects NakCode.InvalidRequest (arrivals.with_flag false q.old)) q.old q.new marks.old marks.new }
+    ensures { IsMade result (arrivals.refusal_effects NakCode.InvalidRequest (arrivals.with_flag false q.old))
+        q.old q.new marks.old marks.new }
 {
     let none = Vec::new(q.alloc());
     refuse(q, NakCode::InvalidRequest, none, marks)
@@ -97,7 +100,8 @@ pub fn refuse_invalid(q: &mut QueuePart, marks: &mut Marks) -> Result<(), Memory
 
 /// Queues a NAK at the expected PSN, and moves the queue pair to Error.
 pub fn queue_refusal(q: &mut QueuePart, code: NakCode) -> Result<(), Memory>
-    ensures { MatchResult result (λ done. q.new ≡ (arrivals.refusal_effects code (arrivals.with_flag false q.old)).queue) (λ memory. q.new ≡ q.old) }
+    ensures { MatchResult result (λ done. q.new ≡ (arrivals.refusal_effects code
+        (arrivals.with_flag false q.old)).queue) (λ memory. q.new ≡ q.old) }
 {
     q.responder.answers.push(Queued::Nak {
         psn: q.responder.expected,

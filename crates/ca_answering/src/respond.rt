@@ -235,7 +235,8 @@ fn send_bytes(
 ) -> Result<(), Memory>
     requires can { CanRespond q.old r.now }
     requires payload { length bytes ≤ MAX_PAYLOAD_BYTES }
-    ensures { IsSent result (rows.read_answer q.old r.now bytes) q.old q.new marks.old marks.new out.old.items out.new.items }
+    ensures { IsSent result (rows.read_answer q.old r.now bytes) q.old q.new marks.old marks.new out.old.items
+        out.new.items }
 {
     let ask = response_ask(q, r);
     let segment = response_segment(r.first, is_last_response(q, r));
@@ -272,7 +273,8 @@ fn refuse_read(
     out: &mut Vec<u8>,
 ) -> Result<(), Memory>
     requires { CanStep q.old }
-    ensures { IsSent result (read_refusal q.old r.now denial) q.old q.new marks.old marks.new out.old.items out.new.items }
+    ensures { IsSent result (read_refusal q.old r.now denial) q.old q.new marks.old marks.new out.old.items
+        out.new.items }
 {
     let ask = response_ask(q, r);
     let mut made = Vec::new(q.alloc());

@@ -25,7 +25,8 @@ use ca_wire::Packet;
 /// where none waits. It takes no memory.
 pub fn next_receive<'a>(q: &'a QueuePart, srq: Option<&'a Srq>) -> Option<&'a RecvRequest>
     requires { IsQueue q.now }
-    ensures { option_copied result ≡ option_map (λ r. r.receive) (arrivals.next_receive q.now (option_copied srq.entry)) }
+    ensures { option_copied result ≡ option_map (λ r. r.receive)
+        (arrivals.next_receive q.now (option_copied srq.entry)) }
 {
     if q.srq.is_some() {
         return match srq {
@@ -124,7 +125,8 @@ pub fn receive_asks(
 ) -> ArrayVec<Ask, MAX_PIECES>
     requires few { length list.now ≤ MAX_PIECES }
     requires payload { length p.now.payload ≤ MAX_PAYLOAD_BYTES }
-    ensures value { result.items ≡ list_asks q.now.queue q.now.domain Kind.Write before (length p.now.payload) list.now }
+    ensures value { result.items ≡ list_asks q.now.queue q.now.domain Kind.Write before (length p.now.payload)
+        list.now }
     ensures asks { AreAsksFor Kind.Write (length p.now.payload) result.items }
 {
     let asker = Asker {

@@ -32,7 +32,8 @@ pub fn take_read(
     marks: &mut Marks,
 ) -> Result<SharedReceive, Memory>
     requires { CanStep q.old }
-    ensures made { IsMade result (read_effects (arrivals.with_flag false q.old) request.now.packet.now request.now.envelope) q.old q.new marks.old marks.new }
+    ensures made { IsMade result (read_effects (arrivals.with_flag false q.old) request.now.packet.now
+        request.now.envelope) q.old q.new marks.old marks.new }
     ensures stays { IfOk result (λ shared. shared ≡ SharedReceive.Stays) }
 {
     let p = request.packet;
@@ -68,9 +69,11 @@ pub fn take_atomic<R: Reach>(
     requires shape { request.now.shape ≡ Shape.Atomic kind }
     requires valid { rows.is_invalid q.old request.now.packet.now request.now.shape ≡ false }
     requires at_hand { CanMeet R.sight R.judges R.touches R.ends reach.old q.old
-        (rows.valid_row (arrivals.with_flag false q.old) request.now.packet.now request.now.envelope None (Shape.Atomic kind)) }
+        (rows.valid_row (arrivals.with_flag false q.old) request.now.packet.now request.now.envelope None
+        (Shape.Atomic kind)) }
     ensures taken { IsTaken R.written R.revoked result (outcome_in (R.sight reach.old)
-        (rows.valid_row (arrivals.with_flag false q.old) request.now.packet.now request.now.envelope None (Shape.Atomic kind)))
+        (rows.valid_row (arrivals.with_flag false q.old) request.now.packet.now request.now.envelope None
+        (Shape.Atomic kind)))
         q.old q.new marks.old marks.new reach.old reach.new }
 {
     let p = request.packet;
@@ -99,7 +102,8 @@ fn place_atomic<R: Reach>(
     requires ask { ask.now ≡ arrivals.packet_ask q.old a.now.key ask.now.kind a.now.address ATOMIC_BYTES ATOMIC_BYTES }
     requires atomic { IsAtomicRequest R.sight R.judges R.touches reach.old ask.now }
     ensures taken { IsTaken R.written R.revoked result (outcome_in (R.sight reach.old)
-        (rows.atomic_row (arrivals.with_flag false q.old) request.now.packet.now request.now.envelope ask.now.kind a.now))
+        (rows.atomic_row (arrivals.with_flag false q.old) request.now.packet.now request.now.envelope ask.now.kind
+        a.now))
         q.old q.new marks.old marks.new reach.old reach.new }
 {
     marks.reserve(SPARE_MARKS + 1)?;

@@ -49,9 +49,11 @@ pub fn take_write<R: Reach>(
     requires request { IsValidRequest q.old request.now next }
     requires shape { request.now.shape ≡ Shape.Write position }
     requires at_hand { CanMeet R.sight R.judges R.touches R.ends reach.old q.old
-        (rows.valid_row (arrivals.with_flag false q.old) request.now.packet.now request.now.envelope next request.now.shape) }
+        (rows.valid_row (arrivals.with_flag false q.old) request.now.packet.now request.now.envelope next
+        request.now.shape) }
     ensures taken { IsTaken R.written R.revoked result (outcome_in (R.sight reach.old)
-        (rows.valid_row (arrivals.with_flag false q.old) request.now.packet.now request.now.envelope next request.now.shape))
+        (rows.valid_row (arrivals.with_flag false q.old) request.now.packet.now request.now.envelope next
+        request.now.shape))
         q.old q.new marks.old marks.new reach.old reach.new }
 {
     let p = request.packet;
@@ -96,8 +98,10 @@ pub fn deny(
     marks: &mut Marks,
 ) -> Result<(), Memory>
     requires { CanStep q.old }
-    ensures { IsMade result (rows.behind_marks (arrivals.remote_mark denied.now.ask envelope (Verdict.Denied denied.now.denial) ∷ [])
-        (arrivals.refusal_effects NakCode.RemoteAccessError (arrivals.with_flag false q.old))) q.old q.new marks.old marks.new }
+    ensures { IsMade result (rows.behind_marks (arrivals.remote_mark denied.now.ask envelope
+        (Verdict.Denied denied.now.denial) ∷ [])
+        (arrivals.refusal_effects NakCode.RemoteAccessError (arrivals.with_flag false q.old))) q.old q.new
+        marks.old marks.new }
 {
     let mut made = Vec::new(q.alloc());
     made.push(remote_mark(&denied.ask, envelope, Verdict::Denied(denied.denial)))?;
@@ -118,7 +122,8 @@ fn place_write<R: Reach>(
     requires ask { ask.now ≡ ask_of_write q.old w.now }
     requires allowed { AreAllowed R.sight R.judges R.touches reach.old (asks_met ask.now) }
     ensures taken { IsTaken R.written R.revoked result (outcome_in (R.sight reach.old)
-        (rows.write_row (arrivals.with_flag false q.old) w.now.packet.now w.now.envelope w.now.position next.now w.now.target))
+        (rows.write_row (arrivals.with_flag false q.old) w.now.packet.now w.now.envelope w.now.position next.now
+        w.now.target))
         q.old q.new marks.old marks.new reach.old reach.new }
 {
     let p = w.packet;
@@ -135,7 +140,8 @@ fn write_bytes<R: Reach>(reach: &mut R, ask: &Ask, bytes: Bytes) -> Verdict
     requires write { 0 < ask.now.length → IsWrite (ask.now, bytes) }
     requires allowed { AreAllowed R.sight R.judges R.touches reach.old (asks_met ask.now) }
     ensures verdict { result ≡ Verdict.Wrote bytes }
-    ensures wrote { reach.new ≡ written_all R.written reach.old (if ask.now.length == 0 then [] else (ask.now, bytes) ∷ []) }
+    ensures wrote { reach.new ≡ written_all R.written reach.old
+        (if ask.now.length == 0 then [] else (ask.now, bytes) ∷ []) }
 {
     if ask.length == 0 {
         return Verdict::Wrote(bytes);
@@ -156,9 +162,11 @@ fn end_write(
     requires left { length w.now.packet.now.payload ≤ w.now.target.left }
     requires receive { CanTake q.old next.now }
     requires room { SPARE_MARKS + 1 ≤ marks.old.room }
-    ensures made { HasMade (rows.after_write_packet (arrivals.with_flag false q.old) (without_ack_request w.now.packet.now) w.now.position w.now.target next.now)
+    ensures made { HasMade (rows.after_write_packet (arrivals.with_flag false q.old)
+        (without_ack_request w.now.packet.now) w.now.position w.now.target next.now)
         q.new marks.old marks.new }
-    ensures shared { is_taken result ≡ (rows.after_write_packet (arrivals.with_flag false q.old) (without_ack_request w.now.packet.now) w.now.position w.now.target next.now).takes_shared }
+    ensures shared { is_taken result ≡ (rows.after_write_packet (arrivals.with_flag false q.old)
+        (without_ack_request w.now.packet.now) w.now.position w.now.target next.now).takes_shared }
 {
     if !w.position.ends() {
         q.responder.message = Some(write_left(w));

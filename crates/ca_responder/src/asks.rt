@@ -29,7 +29,8 @@ pub fn request_asks(q: &QueuePart, srq: Option<&Srq>, p: &Packet<'_>) -> ArrayVe
     requires shared { IfSome (option_copied srq) IsSharedReceives }
     requires packet { IsWellFormed p.now }
     requires request { is_response p.now.opcode ≡ false }
-    ensures { (envelope : Option ℕ) → result.items ≡ (packet_arrived p.now envelope (option_copied srq.entry) q.now).asks }
+    ensures { (envelope : Option ℕ) → result.items ≡
+        (packet_arrived p.now envelope (option_copied srq.entry) q.now).asks }
 {
     let Some(shape) = shape_of(p.opcode) else {
         return ArrayVec::new();
@@ -69,7 +70,8 @@ fn expected_asks(
 fn valid_asks(q: &QueuePart, srq: Option<&Srq>, request: &Request<'_>) -> ArrayVec<Ask, MAX_PIECES>
     requires { CanAsk q.now (option_copied srq) request.now.packet.now }
     ensures { (envelope : Option ℕ) → result.items ≡ (rows.valid_row (arrivals.with_flag false q.now)
-        request.now.packet.now envelope (arrivals.next_receive q.now (option_copied srq.entry)) request.now.shape).asks }
+        request.now.packet.now envelope (arrivals.next_receive q.now (option_copied srq.entry))
+        request.now.shape).asks }
 {
     let p = request.packet;
     match request.shape {

@@ -37,7 +37,8 @@ pub fn take_duplicate(
     requires step { CanStep q.old }
     requires some { 0 < psn }
     requires narrow { psn < 2 ^ 62 }
-    ensures { IsMade result (rows.duplicate_effects psn request.now.packet.now request.now.envelope request.now.shape q.old)
+    ensures { IsMade result (rows.duplicate_effects psn request.now.packet.now request.now.envelope
+        request.now.shape q.old)
         q.old q.new marks.old marks.new }
 {
     if q.responder.answers.duplicate_count() >= MAX_DUPLICATES {
