@@ -66,6 +66,11 @@ as-many : (ws : List (Ask × List ℕ)) → length (asks_of ws) ≡ length ws
 as-many [] = refl
 as-many (w ∷ ws) = ap (λ n. suc n) (as-many ws)
 
+-- each write has one mark
+pub marks-count : (ws : List (Ask × List ℕ)) → length (local_writes ws) ≡ length ws
+marks-count [] = refl
+marks-count (w ∷ ws) = ap (λ n. suc n) (marks-count ws)
+
 few-writes : (ws : List (Ask × List ℕ)) (asks : List Ask) (n : ℕ) → asks_of ws ≡ asks → length asks ≤ n → length ws ≤ n
 few-writes ws asks n e le = omega (arith, as-many ws, ap length e, le)
 

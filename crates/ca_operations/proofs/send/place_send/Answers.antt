@@ -8,7 +8,7 @@ use Rattle.ca_model.specs.machine.Row.{Effects}
 use Rattle.ca_answering.specs.Numbers.{CanPass, with_ack_if_asked, without_ack_request, without_taken_receive}
 use Rattle.ca_operations.specs.Sends.{IsFitting, outcome_of_send}
 use Rattle.ca_operations.proofs.OutcomeLemmas.{taken-as}
-use Rattle.ca_operations.proofs.SendLemmas.{acknowledged-send, placed, sent}
+use Rattle.ca_operations.proofs.SendLemmas.{acknowledged-send, marks-count, placed, sent}
 use Rattle.ca_operations.proofs.send.place_send.Goals as goal
 
 pub end_send-requires-clause-numbers : goal.end_send-requires-clause-numbers
@@ -18,6 +18,9 @@ end_send-requires-clause-numbers g c =
 pub end_send-requires-clause-fits : goal.end_send-requires-clause-fits
 end_send-requires-clause-fits g c =
     subst (λ (x : QueuePair). IsFitting x c.args.s) (sym c.in_ok-queue_ack.ensures) (record { most = c.requires.can.fitting.most; receive = c.requires.can.fitting.receive })
+
+pub end_send-requires-clause-room : goal.end_send-requires-clause-room
+end_send-requires-clause-room g c = omega (arith, c.in_ok-reserve.ensures.room, c.write_all.ensures.marks.room, c.requires.can.few, marks-count c.args.writes.items)
 
 pub write_all-requires-clause-can : goal.write_all-requires-clause-can
 write_all-requires-clause-can g c = c.requires.can.can
