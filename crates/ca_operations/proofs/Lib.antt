@@ -4,3 +4,4 @@ pub mod SendLemmas
 pub mod StandInLemmas
 pub mod TakingLemmas
 pub mod WriteLemmas
+pub mod EndLemmas
