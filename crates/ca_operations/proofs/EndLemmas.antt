@@ -23,16 +23,18 @@ use Rattle.ca_model.specs.declared.marks.TheConstants.{SPARE_MARKS}
 use Rattle.ca_model.specs.declared.receiving.Receiving.{Receiving}
 use Rattle.ca_model.specs.machine.Arrivals.{has_shared, with_answer, with_flag, with_message}
 use Rattle.ca_model.specs.machine.Completions.{flush_marks, receive_failure}
-use Rattle.ca_model.specs.machine.Expected.{after_send_packet, receive_asks, send_row, with_window_gone}
+use Rattle.ca_model.specs.machine.Expected.{after_send_packet, behind_marks, receive_asks, send_row, with_window_gone}
 use Rattle.ca_model.specs.machine.Responses.{local_writes, writes_by}
 use Rattle.ca_model.specs.machine.Row.{Effects}
-use Rattle.ca_rows.specs.Made.{HasMade, written_all}
+use Rattle.std.specs.Prelude.{Result, Ok, Err, IfOk}
+use Rattle.ca_keys.specs.declared.memory.Memory.{Memory}
+use Rattle.ca_rows.specs.Made.{HasMade, IsMade, written_all}
 use Rattle.ca_answering.specs.Numbers.{with_ack_if_asked, without_ack_request, without_taken_receive}
 use Rattle.ca_operations.specs.Sends.{key_end}
-use Rattle.ca_operations.specs.Taking.{HasTaken, is_taken, outcome_in}
+use Rattle.ca_operations.specs.Taking.{HasTaken, IsTaken, Outcome, does, is_taken, outcome_in}
 use Rattle.ca_operations.specs.declared.request.SharedReceive.{SharedReceive}
 use Rattle.ca_operations.proofs.OutcomeLemmas.{taken-as}
-use Rattle.ca_operations.proofs.SendLemmas.{acknowledged-end, ended, is_too_long, placed, refused, refused_end, sent_and_ended}
+use Rattle.ca_operations.proofs.SendLemmas.{acknowledged-end, ended, failed, is_too_long, placed, refused, refused_end, sent_and_ended}
 
 -- the packet may be placed, and ends this key
 pub record Ends (s : Sight) (q : QueuePair) (p : Fields) (r : Receiving) (ws : List (Ask × List ℕ)) (key : Key) : Type 0 where
@@ -137,3 +139,15 @@ refused-taken {S} written revoked sight q kept new stood given p position r ws k
     ∙ ap (λ (ms : List Mark). before.marks ++ (local_writes ws ++ ms)) (sym (refused-marks q r cause r.taken refl)))
     room
     (same ∙ wrote_is)
+
+-- the receive failed, or nothing changed
+pub failed-taken : {S : Type 0} (written : S → Ask → List ℕ → S) (revoked : S → Invalidation → S) (o : Outcome) (q new : QueuePair) (r : Receiving) (ms : List Mark) (e : Effects)
+    (result : Result SharedReceive Memory) (before after : MarkList) (reach : S)
+    → o ≡ does (failed q r ms e) None → e.writes ≡ []
+    → IsMade result (behind_marks ms e) q new before after
+    → IfOk result (λ shared. is_taken shared ≡ (if r.taken then has_shared q else false))
+    → IsTaken written revoked result o q new before after reach reach
+failed-taken {S} written revoked o q new r ms e (Ok shared) before after reach is none made taken =
+    taken-as written revoked o (failed q r ms e) None new before after reach reach shared is taken made.queue made.marks made.room
+    (sym (ap (λ (ws : List (Ask × List ℕ)). written_all written reach ws) none))
+failed-taken {S} written revoked o q new r ms e (Err memory) before after reach is none made taken = (made, refl)

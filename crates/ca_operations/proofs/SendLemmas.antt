@@ -4,6 +4,8 @@ use Rattle.std.proofs.lemmas.Bool.Decides.{nat_tests}
 use Rattle.std.specs.List.{AllByRecursion}
 use Rattle.std.specs.Prelude.{IfSome}
 use Rattle.ca_keys.specs.declared.access.Ask.{Ask}
+use Rattle.ca_keys.specs.declared.access.Kind.{Kind}
+use Rattle.ca_grant.specs.Reaching.{IsPacketAsk}
 use Rattle.ca_base.specs.declared.completion.WcStatus.TheVariants.{LocalLength, LocalProtection, MemoryManagement}
 use Rattle.ca_base.specs.declared.denied_ask.DeniedAsk.{DeniedAsk}
 use Rattle.ca_base.specs.declared.limits.TheConstants.{MAX_MESSAGE_BYTES, MAX_PAYLOAD_BYTES, MAX_PIECES}
@@ -25,7 +27,7 @@ use Rattle.ca_model.specs.machine.Expected.{after_send_packet, behind_marks, inv
 use Rattle.ca_model.specs.machine.Requester.{local_denial}
 use Rattle.ca_model.specs.machine.Responses.{local_writes, writes_by}
 use Rattle.ca_model.specs.machine.Row.{Does, Effects, plain_row}
-use Rattle.ca_rows.specs.Asks.{AreWritesFor, CanWrite, IsGranted, IsWrite, asks_of}
+use Rattle.ca_rows.specs.Asks.{AreWritesFor, CanWrite, IsAskOf, IsGranted, IsWrite, asks_of}
 use Rattle.ca_answering.specs.Numbers.{with_ack_if_asked, without_ack_request, without_taken_receive}
 use Rattle.ca_operations.specs.Receives.{CanHold}
 use Rattle.ca_operations.specs.Taking.{CanMeet, MayEnd, does, outcome_in}
@@ -190,3 +192,8 @@ acknowledged-end false q p First r i = refl
 acknowledged-end false q p Middle r i = refl
 acknowledged-end false q p Last r i = refl
 acknowledged-end false q p Only r i = refl
+
+-- asks that may be handed on are asks of a packet
+pub packet-asks : (kind : Kind) (asks : List Ask) → AllByRecursion (IsAskOf kind) asks → AllByRecursion IsPacketAsk asks
+packet-asks kind [] all = tt
+packet-asks kind (ask ∷ asks) all = (all.0.0, packet-asks kind asks all.1)
