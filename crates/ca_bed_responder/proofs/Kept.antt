@@ -171,7 +171,7 @@ asks_with false q P all =
 turn-ending-kept : (result : Result Sent StepError) (ending : Ending) (q new : QueuePair) (before after : MarkList) (s t : SmallReach) (out_before out_after : List ℕ)
     → IsQueue q → FitTogether s → IsGoodEnding q ending → IsTurn after_write_by result ending q new before after s t out_before out_after → IsKept new t
 turn-ending-kept (Ok sent) (Does e) q new before after s t out_before out_after queue parts good h =
-    kept-by new e.queue t _ good.sound (writes-keep e.writes s parts) h.1.queue h.2.0
+    kept-by new e.queue t _ good.sound (writes-keep e.writes s parts) h.1.0.queue h.1.1.0
 turn-ending-kept (Ok sent) (NotPossible reason) q new before after s t out_before out_after queue parts good h = absurd h
 turn-ending-kept (Err (steps.NotReady reason)) ending q new before after s t out_before out_after queue parts good h =
     kept-by new q t s queue parts h.1.0.queue h.1.1.0
