@@ -31,7 +31,6 @@ fn write(psn: u8) -> [u8; 36] {
 // The responder takes a request that ends no key.
 #[inline(never)]
 fn take(
-    alloc: Global,
     q: &mut QueuePart,
     reach: &mut SmallReach,
     p: &Packet<'_>,
@@ -43,11 +42,11 @@ fn take(
     requires plain { p.now.ieth ≡ None }
     requires at_hand { AreAtHand small.sight_of small.IsAskHere (λ s ask. Unit {0}) reach.old (packet_arrived p.now None None q.old).asks }
 {
-    on_request(alloc, q, None, reach, p, None, marks).is_ok()
+    on_request(q, None, reach, p, None, marks).is_ok()
 }
 
 // Delivers a request that ends no key; false where that cannot be tried here.
-fn deliver(alloc: Global, bed: &mut Bed, p: &Packet<'_>, marks: &mut Marks) -> bool
+fn deliver(bed: &mut Bed, p: &Packet<'_>, marks: &mut Marks) -> bool
     requires stands { beds.Stands bed.old }
     requires packet { IsWellFormed p.now }
 {
@@ -58,13 +57,12 @@ fn deliver(alloc: Global, bed: &mut Bed, p: &Packet<'_>, marks: &mut Marks) -> b
     if !are_here(&bed.reach, asks.as_slice()) {
         return false;
     }
-    take(alloc, &mut bed.queue, &mut bed.reach, p, marks)
+    take(&mut bed.queue, &mut bed.reach, p, marks)
 }
 
 // Sends the answer that waits, which reads no memory.
 #[inline(never)]
 fn send(
-    alloc: Global,
     q: &mut QueuePart,
     reach: &mut SmallReach,
     marks: &mut Marks,
@@ -73,25 +71,25 @@ fn send(
     requires step { CanStep q.old }
     requires plain { (respond_row true q.old).asks ≡ [] }
 {
-    next_response(alloc, q, reach, true, marks, out).is_ok()
+    next_response(q, reach, true, marks, out).is_ok()
 }
 
 // Sends the answer that waits; false where that cannot be tried here.
-fn respond(alloc: Global, bed: &mut Bed, marks: &mut Marks, out: &mut Vec<u8>) -> bool
+fn respond(bed: &mut Bed, marks: &mut Marks, out: &mut Vec<u8>) -> bool
     requires { beds.Stands bed.old }
 {
     if !is_narrow(&bed.queue) || respond_ask(&bed.queue).is_some() {
         return false;
     }
-    send(alloc, &mut bed.queue, &mut bed.reach, marks, out)
+    send(&mut bed.queue, &mut bed.reach, marks, out)
 }
 
 // A responder takes the WRITE with this PSN; false where it does not.
-fn take_first(alloc: Global, responder: &mut Responder, psn: u8, marks: &mut Marks) -> bool
+fn take_first(responder: &mut Responder, psn: u8, marks: &mut Marks) -> bool
     requires { responders.Stands responder.old }
     ensures { responders.Stands responder.new }
 {
-    let taken = responder.take(alloc, write(psn).as_slice(), None, marks);
+    let taken = responder.take(write(psn).as_slice(), None, marks);
     matches!(taken, Some(Ok(())))
 }
 
@@ -106,10 +104,10 @@ fn new_responder(alloc: Global) -> Option<Responder>
         return None;
     }
     let mut responder = Responder::of(alloc, bed)?;
-    if !take_first(alloc, &mut responder, 0, &mut marks) {
+    if !take_first(&mut responder, 0, &mut marks) {
         return None;
     }
-    match responder.respond(alloc, true, &mut marks, &mut out) {
+    match responder.respond(true, &mut marks, &mut out) {
         Some(Ok(_)) => Some(responder),
         _ => None,
     }
@@ -121,7 +119,7 @@ fn deliver_anew(alloc: Global, psn: u8, marks: &mut Marks) -> bool {
         return false;
     };
     match decode(write(psn).as_slice()) {
-        Ok(p) => deliver(alloc, &mut responder.bed, &p, marks),
+        Ok(p) => deliver(&mut responder.bed, &p, marks),
         Err(_) => false,
     }
 }
@@ -133,8 +131,8 @@ fn respond_anew(alloc: Global, marks: &mut Marks, out: &mut Vec<u8>) -> bool {
     };
     let mut taken = Marks::empty(alloc);
     out.clear();
-    take_first(alloc, &mut responder, 1, &mut taken)
-        && respond(alloc, &mut responder.bed, marks, out)
+    take_first(&mut responder, 1, &mut taken)
+        && respond(&mut responder.bed, marks, out)
 }
 
 /// Takes the WRITE, and sends an acknowledgement, so many times; how many marks that made. Each queue pair has answered

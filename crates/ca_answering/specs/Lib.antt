@@ -1,1 +1,3 @@
+pub mod Flush
+pub mod Numbers
 pub mod Sending

@@ -3,7 +3,7 @@ ghost use Rattle.ca_grant.specs.Reaching.{IsPacketAsk};
 ghost use Rattle.ca_model.specs.machine.Invariants.{IsQueue};
 ghost use Rattle.ca_model.specs.machine.Respond as rows;
 
-use ca_arrivals::packet_ask;
+use crate::remote::packet_ask;
 use ca_base::{Ask, Kind, Queued};
 use ca_model::ReadLeft;
 use ca_qpstate::QueuePart;

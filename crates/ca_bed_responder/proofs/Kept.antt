@@ -11,6 +11,7 @@ use Rattle.ca_base.specs.declared.step.Reason.{Reason}
 use Rattle.ca_base.specs.declared.step.Reason.TheVariants as reasons
 use Rattle.ca_base.specs.declared.step.Sent.{Sent}
 use Rattle.ca_base.specs.declared.step.StepError.{StepError}
+use Rattle.ca_base.specs.declared.step.StepError.TheVariants as steps
 use Rattle.ca_keys.specs.Refusals.{first_of}
 use Rattle.ca_base.specs.Sight.{Invalidation, Sight}
 use Rattle.ca_base.specs.objects.QueuePair.{QueuePair}
@@ -35,13 +36,13 @@ use Rattle.ca_model.specs.machine.Invariants.{IsQueue, IsReceive, IsSharedReceiv
 use Rattle.ca_model.specs.machine.Respond.{answer_turn, respond_row}
 use Rattle.ca_model.specs.machine.Responses.{drop_effects}
 use Rattle.ca_model.specs.machine.Row.{Ending, NotPossible, Does, Row, ending_of, plain_row}
-use Rattle.ca_arrivals.specs.Taking.{found, IsArrival, after_shared, ended_by, without_key}
-use Rattle.ca_rows.specs.Done.{Handed, IsTurn}
+use Rattle.ca_model.specs.Marks.{MarkList}
+use Rattle.ca_operations.specs.Taking.{IsArrival, ended_by, outcome_in, without_key}
+use Rattle.ca_rows.specs.Made.{IsTurn}
 use Rattle.ca_bed_reach.specs.SmallLaws.{places-here}
 use Rattle.ca_bed_reach.specs.SmallReach.{FitTogether, IsCounted, IsInBuffer, after_end_of, after_write_by}
 use Rattle.ca_bed_reach.specs.declared.small_reach.SmallReach.{SmallReach}
-use Rattle.ca_bed_requester.proofs.Kept.{ends-good, turn-ending-kept, writes-keep}
-use Rattle.ca_bed_requester.proofs.Kept as requests
+use Rattle.ca_bed_requester.proofs.Kept.{ends-good, writes-keep}
 use Rattle.ca_bed_requester.specs.Bed.{Stands}
 use Rattle.ca_bed_requester.specs.declared.bed.Bed.{Bed}
 use Rattle.ca_packet.proofs.PacketLaws.{packet_again}
@@ -96,45 +97,54 @@ key-keeps : (o : Option Invalidation) (s : SmallReach) → FitTogether s → Fit
 key-keeps None s fit = fit
 key-keeps (Some i) s fit = end-keeps s i fit
 
--- what is kept from what a request finds to what it leaves
-pub record IsKept (new : Handed SmallReach) : Type 0 where
-  pub queue : IsQueue new.queue
-  pub reach : FitTogether new.reach
+-- the queue pair comes up, and the parts that are reached fit each other
+pub record IsKept (q : QueuePair) (reach : SmallReach) : Type 0 where
+  pub queue : IsQueue q
+  pub parts : FitTogether reach
 
-arrival-ending-kept : (result : Result (Unit {0}) Memory) (ending : Ending) (ended : Option Invalidation) (before new : Handed SmallReach) → IsKept before
-    → IsGoodEnding before.queue ending → IsArrival after_write_by after_end_of result ending ended before new → IsKept new
-arrival-ending-kept (Ok done) (Does e) ended before new kept good h =
-    rw h (record { queue = good.sound; reach = key-keeps ended _ (writes-keep e.writes before.reach kept.reach) })
-arrival-ending-kept (Ok done) (NotPossible reason) ended before new kept good h = absurd h
-arrival-ending-kept (Err memory) ending ended before new kept good h = rw h kept
+kept-by : (q r : QueuePair) (s t : SmallReach) → IsQueue r → FitTogether t → q ≡ r → s ≡ t → IsKept q s
+kept-by q r s t queue parts e f = rw (e, f) (record { queue = queue; parts = parts })
 
-pub arrival_kept : (result : Result (Unit {0}) Memory) (s : Sight) (row : Row) (before new : Handed SmallReach) → IsKept before → IsGoodRow before.queue row
-    → IsArrival after_write_by after_end_of result (ending_of s row) (ended_by s row) before new → IsKept new
-arrival_kept result s row before new kept good h =
-    arrival-ending-kept result (ending_of s row) (ended_by s row) before new kept (ends-good before.queue s row good) h
+arrival-ending-kept : (result : Result (Unit {0}) Memory) (ending : Ending) (ended : Option Invalidation) (q new : QueuePair) (before after : MarkList) (s t : SmallReach)
+    (shared left : Option SharedReceives) → IsQueue q → FitTogether s → IsGoodEnding q ending
+    → IsArrival after_write_by after_end_of result (record { ending = ending; ended = ended }) q new before after s t shared left → IsKept new t
+arrival-ending-kept (Ok done) (Does e) ended q new before after s t shared left queue parts good h =
+    kept-by new e.queue t _ good.sound (key-keeps ended _ (writes-keep e.writes s parts)) h.0.queue h.1.0
+arrival-ending-kept (Ok done) (NotPossible reason) ended q new before after s t shared left queue parts good h = absurd h
+arrival-ending-kept (Err memory) ending ended q new before after s t shared left queue parts good h = kept-by new q t s queue parts h.0.queue h.1.0
+
+-- a request leaves a queue pair that comes up, over parts that fit each other
+pub arrival_kept : (result : Result (Unit {0}) Memory) (sight : Sight) (row : Row) (q new : QueuePair) (before after : MarkList) (s t : SmallReach)
+    (shared left : Option SharedReceives) → IsQueue q → FitTogether s → IsGoodRow q row
+    → IsArrival after_write_by after_end_of result (outcome_in sight row) q new before after s t shared left → IsKept new t
+arrival_kept result sight row q new before after s t shared left queue parts good h =
+    arrival-ending-kept result (ending_of sight row) (ended_by sight row) q new before after s t shared left queue parts (ends-good q sight row good) h
 
 -- the shared receive queue after a request is one that comes up, and its next place is the same
 pub record IsTakenFrom (s t : SharedReceives) : Type 0 where
   pub sound : IsSharedReceives t
   pub next : t.next ≡ s.next
 
-taken-from : (ending : Ending) (s : SharedReceives) → IsSharedReceives s → IfSome (after_shared ending (Some s)) (IsTakenFrom s)
-taken-from ending s sound = by ending
-  where
-    taken : (b : Bool) → IfSome (if b then option_map after_receive_take (Some s) else Some s) (IsTakenFrom s)
-    taken true = record { sound = take-receive s sound; next = refl }
-    taken false = record { sound = sound; next = refl }
+taken-from : (s : SharedReceives) → IsSharedReceives s → (b : Bool) → IfSome (if b then option_map after_receive_take (Some s) else Some s) (IsTakenFrom s)
+taken-from s sound true = record { sound = take-receive s sound; next = refl }
+taken-from s sound false = record { sound = sound; next = refl }
 
-    by : (ending : Ending) → IfSome (after_shared ending (Some s)) (IsTakenFrom s)
-    by (Does e) = taken e.takes_shared
-    by (NotPossible reason) = record { sound = sound; next = refl }
+left-by : (s t : SharedReceives) (o : Option SharedReceives) → Some t ≡ o → IfSome o (IsTakenFrom s) → IsTakenFrom s t
+left-by s t o e h = let P : Option SharedReceives → Type 0 = λ o. IfSome o (IsTakenFrom s) in subst P (sym e) h
 
-pub shared_kept : (result : Result (Unit {0}) Memory) (ending : Ending) (s t : SharedReceives) → IsSharedReceives s
-    → OnOk result (Some t ≡ after_shared ending (Some s)) → OnErr result (Some t ≡ Some s) → IsTakenFrom s t
-shared_kept (Ok done) ending s t sound ok err =
-    let P : Option SharedReceives → Type 0 = λ o. IfSome o (IsTakenFrom s) in subst P (sym ok) (taken-from ending s sound)
-shared_kept (Err memory) ending s t sound ok err =
-    let P : Option SharedReceives → Type 0 = λ o. IfSome o (IsTakenFrom s) in subst P (sym err) (record { sound = sound; next = refl })
+shared-ending-kept : (result : Result (Unit {0}) Memory) (ending : Ending) (ended : Option Invalidation) (q new : QueuePair) (before after : MarkList) (x y : SmallReach)
+    (s t : SharedReceives) → IsSharedReceives s
+    → IsArrival after_write_by after_end_of result (record { ending = ending; ended = ended }) q new before after x y (Some s) (Some t) → IsTakenFrom s t
+shared-ending-kept (Ok done) (Does e) ended q new before after x y s t sound h = left-by s t _ h.1.1 (taken-from s sound e.takes_shared)
+shared-ending-kept (Ok done) (NotPossible reason) ended q new before after x y s t sound h = absurd h
+shared-ending-kept (Err memory) ending ended q new before after x y s t sound h = left-by s t _ h.1.1 (record { sound = sound; next = refl })
+
+-- a request leaves such a shared receive queue
+pub shared_kept : (result : Result (Unit {0}) Memory) (sight : Sight) (row : Row) (q new : QueuePair) (before after : MarkList) (x y : SmallReach)
+    (s t : SharedReceives) → IsSharedReceives s
+    → IsArrival after_write_by after_end_of result (outcome_in sight row) q new before after x y (Some s) (Some t) → IsTakenFrom s t
+shared_kept result sight row q new before after x y s t sound h =
+    shared-ending-kept result (ending_of sight row) (ended_by sight row) q new before after x y s t sound h
 
 -- the places of an ask by the region's own key lie in the buffer
 pub store_fits : (s : SmallReach) (ask : Ask) → FitTogether s → ask.domain.adapter ≡ s.slot.domain.adapter → is_window_key ask.key ≡ false
@@ -158,11 +168,21 @@ asks_with false q P all =
     by false true answer = tt
     by false false answer = tt
 
-pub respond_kept : (result : Result Sent StepError) (s : Sight) (room : Bool) (before new : Handed SmallReach) → requests.IsKept before
-    → IsTurn after_write_by result (ending_of s (respond_row room before.queue)) before new → requests.IsKept new
-respond_kept result s room before new kept h =
-    turn-ending-kept result (ending_of s (respond_row room before.queue)) before new kept
-    (ends-good before.queue s (respond_row room before.queue) (respond-good room before.queue kept.queue)) h
+turn-ending-kept : (result : Result Sent StepError) (ending : Ending) (q new : QueuePair) (before after : MarkList) (s t : SmallReach) (out_before out_after : List ℕ)
+    → IsQueue q → FitTogether s → IsGoodEnding q ending → IsTurn after_write_by result ending q new before after s t out_before out_after → IsKept new t
+turn-ending-kept (Ok sent) (Does e) q new before after s t out_before out_after queue parts good h =
+    kept-by new e.queue t _ good.sound (writes-keep e.writes s parts) h.1.0.queue h.1.1.0
+turn-ending-kept (Ok sent) (NotPossible reason) q new before after s t out_before out_after queue parts good h = absurd h
+turn-ending-kept (Err (steps.NotReady reason)) ending q new before after s t out_before out_after queue parts good h =
+    kept-by new q t s queue parts h.1.0.queue h.1.1.0
+turn-ending-kept (Err steps.Memory) ending q new before after s t out_before out_after queue parts good h = kept-by new q t s queue parts h.0.queue h.1.0
+
+-- the responder's turn leaves a queue pair that comes up, over parts that fit each other
+pub respond_kept : (result : Result Sent StepError) (sight : Sight) (room : Bool) (q new : QueuePair) (before after : MarkList) (s t : SmallReach) (out_before out_after : List ℕ)
+    → IsQueue q → FitTogether s → IsTurn after_write_by result (ending_of sight (respond_row room q)) q new before after s t out_before out_after → IsKept new t
+respond_kept result sight room q new before after s t out_before out_after queue parts h =
+    turn-ending-kept result (ending_of sight (respond_row room q)) q new before after s t out_before out_after queue parts
+    (ends-good q sight (respond_row room q) (respond-good room q queue)) h
 
 pub posted_kept : (r : RecvRequest) (s t : SharedReceives) → IsSharedReceives s → IsReceive r → IsTrue (not (is_full_of_receives s)) → t ≡ after_receive_post r s
     → IsSharedReceives t
@@ -172,8 +192,8 @@ posted_kept r s t sound receive free same = rw same (post-receive r s sound rece
     by true h = absurd (true≢false (sym h))
     by false h = refl
 
-pub stands_by : (b : Bed) {ms : List Mark} → IsKept (found b.queue ms b.reach) → Stands b
-stands_by b kept = record { queue = kept.queue; reach = kept.reach }
+pub stands_by : (b : Bed) → IsKept b.queue b.reach → Stands b
+stands_by b kept = record { queue = kept.queue; reach = kept.parts }
 
 -- a queue pair may have accepted any number of messages
 pub msn_kept : (q : QueuePair) (msn : ℕ) → IsQueue q → msn < 2 ^ 24 → IsQueue (with_responder (record q.responder { msn = msn }) q)

@@ -10,8 +10,8 @@ ghost use Rattle.ca_model.specs.machine.Delivery.{arrival_drops, packet_arrived}
 ghost use Rattle.ca_model.specs.machine.Expected.{invalidation_of};
 ghost use Rattle.ca_model.specs.machine.Invariants.{IsQueue, IsReceive, IsSharedReceives};
 ghost use Rattle.ca_model.specs.machine.Respond.{respond_row};
-ghost use Rattle.ca_receiving.specs.Ending.{key_end};
-ghost use Rattle.ca_arrivals.specs.Taking.{MayEnd};
+ghost use Rattle.ca_operations.specs.Sends.{key_end};
+ghost use Rattle.ca_operations.specs.Taking.{CanMeet, MayEnd};
 ghost use Rattle.ca_model.specs.machine.CanStep.{AreNarrow, CanStep};
 ghost use Rattle.ca_bed_reach.specs.SmallReach as small;
 ghost use Rattle.ca_bed_requester.specs.Bed as beds;
@@ -124,10 +124,8 @@ fn request_in<'a>(
     ensures packet { IfSome result (λ p. IsWellFormed p) }
     ensures request { IfSome result (λ p. packets.is_response p.opcode ≡ false) }
     ensures taken { IfSome result (λ p. first_of (arrival_drops q.now p) ≡ None) }
-    ensures at_hand { IfSome result (λ p. (envelope : Option ℕ) → AreAtHand small.sight_of small.IsAskHere (λ s ask. Unit {0}) reach.now
-        (packet_arrived p envelope (option_copied srq.entry) q.now).asks) }
-    ensures ends { IfSome result (λ p. (envelope : Option ℕ) → IfSome (packet_arrived p envelope (option_copied srq.entry) q.now).invalidation
-        (MayEnd small.sight_of small.IsEndHere reach.now q.now)) }
+    ensures at_hand { IfSome result (λ p. (envelope : Option ℕ) → CanMeet small.sight_of small.IsAskHere (λ s ask. Unit {0})
+        small.IsEndHere reach.now q.now (packet_arrived p envelope (option_copied srq.entry) q.now)) }
 {
     let Ok(p) = decode(bytes) else {
         return None;
@@ -144,7 +142,6 @@ fn request_in<'a>(
 
 // A request arrives at a queue pair with receives of its own.
 fn take_own(
-    alloc: Global,
     bed: &mut Bed,
     bytes: &[u8],
     envelope: Option<u64>,
@@ -155,7 +152,6 @@ fn take_own(
 {
     let p = request_in(&bed.queue, None, &bed.reach, bytes)?;
     Some(on_request(
-        alloc,
         &mut bed.queue,
         None,
         &mut bed.reach,
@@ -167,7 +163,6 @@ fn take_own(
 
 // A request arrives at a queue pair with a shared receive queue.
 fn take_shared(
-    alloc: Global,
     bed: &mut Bed,
     srq: &mut Srq,
     bytes: &[u8],
@@ -182,7 +177,6 @@ fn take_shared(
 {
     let p = request_in(&bed.queue, Some(srq), &bed.reach, bytes)?;
     Some(on_request(
-        alloc,
         &mut bed.queue,
         Some(srq),
         &mut bed.reach,
@@ -206,7 +200,6 @@ fn is_answer_here(q: &QueuePart, reach: &SmallReach) -> bool
 
 // The responder's turn; None where it cannot be tried here.
 fn respond(
-    alloc: Global,
     bed: &mut Bed,
     room: bool,
     marks: &mut Marks,
@@ -219,7 +212,7 @@ fn respond(
         return None;
     }
     let (q, reach) = (&mut bed.queue, &mut bed.reach);
-    Some(next_response(alloc, q, reach, room, marks, out))
+    Some(next_response(q, reach, room, marks, out))
 }
 
 // Posts a receive to the queue pair's own, unless their queue is full.
@@ -390,7 +383,6 @@ impl Responder {
     #[inline(never)]
     pub fn take(
         &mut self,
-        alloc: Global,
         bytes: &[u8],
         envelope: Option<u64>,
         marks: &mut Marks,
@@ -399,8 +391,8 @@ impl Responder {
         ensures { responders.Stands self.new }
     {
         match &mut self.srq {
-            Some(srq) => take_shared(alloc, &mut self.bed, srq, bytes, envelope, marks),
-            None => take_own(alloc, &mut self.bed, bytes, envelope, marks),
+            Some(srq) => take_shared(&mut self.bed, srq, bytes, envelope, marks),
+            None => take_own(&mut self.bed, bytes, envelope, marks),
         }
     }
 
@@ -408,7 +400,6 @@ impl Responder {
     #[inline(never)]
     pub fn respond(
         &mut self,
-        alloc: Global,
         room: bool,
         marks: &mut Marks,
         out: &mut Vec<u8>,
@@ -416,7 +407,7 @@ impl Responder {
         requires { responders.Stands self.old }
         ensures { responders.Stands self.new }
     {
-        respond(alloc, &mut self.bed, room, marks, out)
+        respond(&mut self.bed, room, marks, out)
     }
 
     /// Posts a receive to the queue pair; false where it is none that can be posted.

@@ -1,4 +1,5 @@
 pub mod AnswerLemmas
-pub mod ValidLemmas
 pub mod ArrivalLemmas
+pub mod AskingLemmas
+pub mod ValidLemmas
 pub mod WaitingLemmas

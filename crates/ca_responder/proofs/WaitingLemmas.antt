@@ -1,5 +1,5 @@
 -- The row of a packet by the receive that it takes, and of one that takes none.
-use Rattle.std.proofs.Common.{◌≡◌, ℕ, ◌==◌, Bool, true, false, true≢false, if◌then◌else◌, ◌&&◌, is_none, refl, sym, ap, ◌∙◌, [], ◌∷◌, length, Option, None, Some, is_some}
+use Rattle.std.proofs.Common.{◌≡◌, ℕ, ◌≤◌, ◌==◌, Bool, true, false, true≢false, if◌then◌else◌, ◌&&◌, is_none, refl, sym, ap, arith, ◌∙◌, [], ◌∷◌, length, Option, None, Some, is_some}
 use Rattle.ca_keys.specs.declared.access.Ask.{Ask}
 use Rattle.ca_keys.specs.declared.access.Kind.TheVariants as kinds
 use Rattle.ca_base.specs.declared.queue_numbers.Message.{Message}
@@ -17,7 +17,12 @@ use Rattle.ca_model.specs.declared.receiving.Receiving.{Receiving}
 use Rattle.ca_model.specs.declared.write_reach.WriteReach.{WriteReach}
 use Rattle.ca_model.specs.machine.Expected.{after_write_packet, behind_marks, continues, expected_row, is_invalid, receiving_of, send_row, takes_receive, valid_row, write_reach, write_row}
 use Rattle.ca_model.specs.machine.Row.{Effects, Row, plain_row, Does}
-use Rattle.ca_arrivals.specs.Receives.{receive_if}
+use Rattle.ca_operations.specs.Receives.{receive_if}
+use Rattle.std.proofs.lemmas.Bool.{le-ltb}
+use Rattle.ca_psn.specs.Psn.{widened}
+use Rattle.ca_model.specs.Packets.{is_response}
+use Rattle.ca_model.specs.machine.Delivery.{packet_arrived}
+use Rattle.ca_packet.specs.Table.{shape_of}
 use Rattle.ca_responder.proofs.ValidLemmas.{valid_order}
 use Rattle.ca_packet.specs.declared.shape.Shape.{Shape}
 use Rattle.ca_packet.specs.declared.shape.Shape.TheVariants as shapes
@@ -92,7 +97,7 @@ row-without q shared p envelope shape valid takes =
     ∙ rw (valid, takes) refl
 
 -- a packet's row by the receive that it takes, if it takes one
-pub row_by : (q : QueuePair) (shared : Option SharedReceives) (p : Fields) (envelope : Option ℕ) (shape : Shape) (next : Option PlacedReceive)
+row_by : (q : QueuePair) (shared : Option SharedReceives) (p : Fields) (envelope : Option ℕ) (shape : Shape) (next : Option PlacedReceive)
     → is_invalid q p shape ≡ false → (takes_receive p shape && is_none (next_receive q shared)) ≡ false → next ≡ receive_if (takes_receive p shape) (next_receive q shared)
     → valid_row (with_flag false q) p envelope next shape ≡ expected_row q shared p envelope shape
 row_by q shared p envelope shape next valid waits is =
@@ -102,3 +107,18 @@ row_by q shared p envelope shape next valid waits is =
         → valid_row (with_flag false q) p envelope (receive_if b (next_receive q shared)) shape ≡ expected_row q shared p envelope shape
     by true e = rw (valid, waits) refl
     by false e = row-without q shared p envelope shape valid e
+
+-- the row of a request with the expected PSN
+arrived-row : (q : QueuePair) (shared : Option SharedReceives) (p : Fields) (envelope : Option ℕ) (shape : Shape)
+    → is_response p.opcode ≡ false → shape_of p.opcode ≡ Some shape → widened q.responder.expected p.psn ≡ q.responder.expected
+    → expected_row q shared p envelope shape ≡ packet_arrived p envelope shared q
+arrived-row q shared p envelope shape request is same =
+    rw (request, is, same, le-ltb q.responder.expected q.responder.expected (omega arith)) refl
+
+-- the row of a request that is valid, with the expected PSN, by the receive that it takes
+pub arrived_by : (q : QueuePair) (shared : Option SharedReceives) (p : Fields) (envelope : Option ℕ) (shape : Shape) (next : Option PlacedReceive)
+    → is_response p.opcode ≡ false → shape_of p.opcode ≡ Some shape → widened q.responder.expected p.psn ≡ q.responder.expected
+    → is_invalid q p shape ≡ false → (takes_receive p shape && is_none (next_receive q shared)) ≡ false → next ≡ receive_if (takes_receive p shape) (next_receive q shared)
+    → valid_row (with_flag false q) p envelope next shape ≡ packet_arrived p envelope shared q
+arrived_by q shared p envelope shape next request is same valid waits found =
+    row_by q shared p envelope shape next valid waits found ∙ arrived-row q shared p envelope shape request is same

@@ -1,23 +1,21 @@
-ghost use Rattle.std.specs.Prelude.{◌≡◌, ◌<◌, ◌≤◌, ◌^◌, ◌∷◌, [], ◌++◌, if◌then◌else◌, OnOk, OnErr, false};
+ghost use Rattle.std.specs.Prelude.{◌≡◌, ◌<◌, ◌^◌, ◌∷◌, [], ◌++◌, if◌then◌else◌, OnOk, OnErr, false};
 ghost use Rattle.ca_base.specs.objects.Answers.{answers_before, has_nak_from};
 ghost use Rattle.ca_model.specs.machine.Duplicates as rows;
 ghost use Rattle.ca_model.specs.machine.Invariants.{IsQueue};
 ghost use Rattle.ca_model.specs.machine.CanStep.{CanStep};
+ghost use Rattle.ca_rows.specs.Made.{IsMade};
 
-use ca_arrivals::{drop_packet, queue_answer, read_segments};
+use ca_answering::{drop_packet, queue_answer, read_segments};
 use ca_base::limits::MAX_DUPLICATES;
 use ca_base::{Answers, Memory, Queued};
 use ca_model::{Drop1, Marks};
+use ca_operations::Request;
 use ca_qpstate::QueuePart;
-use ca_wire::{NakCode, Packet, Reth, Shape};
+use ca_wire::{NakCode, Reth, Shape};
 
 /// A packet ahead of the expected one: the first asks for what is missing, the others are dropped.
 pub fn take_ahead(q: &mut QueuePart, marks: &mut Marks) -> Result<(), Memory>
-    ensures queue { OnOk result (q.new ≡ (rows.ahead_effects q.old).queue) }
-    ensures marks { OnOk result (marks.new.marks ≡ marks.old.marks ++ (rows.ahead_effects q.old).marks) }
-    ensures room { OnOk result (2 ≤ marks.new.room) }
-    ensures err { OnErr result (q.new ≡ q.old) }
-    ensures err_marks { OnErr result (marks.new.marks ≡ marks.old.marks) }
+    ensures { IsMade result (rows.ahead_effects q.old) q.old q.new marks.old marks.new }
 {
     if q.responder.nak_sent {
         return drop_packet(q, Drop1::Stale, marks);
@@ -33,28 +31,25 @@ pub fn take_ahead(q: &mut QueuePart, marks: &mut Marks) -> Result<(), Memory>
 pub fn take_duplicate(
     q: &mut QueuePart,
     psn: u64,
-    p: &Packet<'_>,
-    envelope: Option<u64>,
-    shape: Shape,
+    request: &Request<'_>,
     marks: &mut Marks,
 ) -> Result<(), Memory>
     requires step { CanStep q.old }
     requires some { 0 < psn }
-    requires psn { psn < 2 ^ 62 }
-    ensures queue { OnOk result (q.new ≡ (rows.duplicate_effects psn p.now envelope shape q.old).queue) }
-    ensures marks { OnOk result (marks.new.marks ≡ marks.old.marks ++ (rows.duplicate_effects psn p.now envelope shape q.old).marks) }
-    ensures room { OnOk result (2 ≤ marks.new.room) }
-    ensures err { OnErr result (q.new ≡ q.old) }
-    ensures err_marks { OnErr result (marks.new.marks ≡ marks.old.marks) }
+    requires narrow { psn < 2 ^ 62 }
+    ensures { IsMade result (rows.duplicate_effects psn request.now.packet.now request.now.envelope
+        request.now.shape q.old)
+        q.old q.new marks.old marks.new }
 {
     if q.responder.answers.duplicate_count() >= MAX_DUPLICATES {
         return drop_packet(q, Drop1::Unsaved, marks);
     }
-    match shape {
+    let p = request.packet;
+    match request.shape {
         Shape::Send(_) => ack_again(q, marks),
         Shape::Write(_) => ack_again(q, marks),
         Shape::Read => match p.reth {
-            Some(h) => read_again(q, psn, envelope, &h, marks),
+            Some(h) => read_again(q, psn, request.envelope, &h, marks),
             None => drop_packet(q, Drop1::Unsaved, marks),
         },
         Shape::Atomic(_) => match q.saved.find(psn) {
@@ -74,11 +69,7 @@ pub fn take_duplicate(
 /// A SEND or a WRITE once more: an acknowledgement of all that came, where nothing waits to be answered.
 fn ack_again(q: &mut QueuePart, marks: &mut Marks) -> Result<(), Memory>
     requires { IsQueue q.old }
-    ensures queue { OnOk result (q.new ≡ (rows.ack_again q.old).queue) }
-    ensures marks { OnOk result (marks.new.marks ≡ marks.old.marks ++ (rows.ack_again q.old).marks) }
-    ensures room { OnOk result (2 ≤ marks.new.room) }
-    ensures err { OnErr result (q.new ≡ q.old) }
-    ensures err_marks { OnErr result (marks.new.marks ≡ marks.old.marks) }
+    ensures { IsMade result (rows.ack_again q.old) q.old q.new marks.old marks.new }
 {
     if q.responder.answers.len() != 0 {
         return drop_packet(q, Drop1::Unsaved, marks);
@@ -98,12 +89,8 @@ fn read_again(
 ) -> Result<(), Memory>
     requires queue { IsQueue q.old }
     requires some { 0 < psn }
-    requires psn { psn < 2 ^ 62 }
-    ensures queue { OnOk result (q.new ≡ (rows.read_again psn envelope h.now q.old).queue) }
-    ensures marks { OnOk result (marks.new.marks ≡ marks.old.marks ++ (rows.read_again psn envelope h.now q.old).marks) }
-    ensures room { OnOk result (2 ≤ marks.new.room) }
-    ensures err { OnErr result (q.new ≡ q.old) }
-    ensures err_marks { OnErr result (marks.new.marks ≡ marks.old.marks) }
+    requires narrow { psn < 2 ^ 62 }
+    ensures { IsMade result (rows.read_again psn envelope h.now q.old) q.old q.new marks.old marks.new }
 {
     if psn + read_segments(q, h.length) > q.responder.expected {
         return drop_packet(q, Drop1::Unsaved, marks);
@@ -128,10 +115,7 @@ fn answer_again(
     marks: &mut Marks,
 ) -> Result<(), Memory>
     requires { 0 < psn }
-    ensures queue { OnOk result (q.new ≡ (rows.answer_again psn answer q.old).queue) }
-    ensures marks { marks.new.marks ≡ marks.old.marks }
-    ensures room { OnOk result (2 ≤ marks.new.room) }
-    ensures err { OnErr result (q.new ≡ q.old) }
+    ensures { IsMade result (rows.answer_again psn answer q.old) q.old q.new marks.old marks.new }
 {
     marks.reserve(2)?;
     let sent = keeps_flag(q, psn);
@@ -144,13 +128,10 @@ fn answer_again(
 fn keeps_flag(q: &QueuePart, psn: u64) -> bool
     ensures { result ≡ (if has_nak_from psn q.now.responder.answers then false else q.now.responder.nak_sent) }
 {
-    if q.responder.answers.has_nak_from(psn) {
-        return false;
-    }
-    q.responder.nak_sent
+    !q.responder.answers.has_nak_from(psn) && q.responder.nak_sent
 }
 
-/// Puts an answer in the place of those from a PSN on. An acknowledgement that stays holds the place of the answer while
+/// Puts an answer in the place of those from a PSN on. An acknowledgement that stays is where the answer will be while
 /// the others are removed, so that `Memory` leaves the queue as it was.
 fn replace_from(answers: &mut Answers, psn: u64, answer: Queued) -> Result<(), Memory>
     requires { 0 < psn }

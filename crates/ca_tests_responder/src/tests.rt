@@ -89,7 +89,7 @@ fn respond(rt: &impl Abort, alloc: Global, r: &mut Responder, room: bool, text: 
     let before = numbers(&r.bed.queue);
     let mut marks = Marks::empty(alloc);
     let mut out = Vec::new(alloc);
-    let done = r.respond(alloc, room, &mut marks, &mut out);
+    let done = r.respond(room, &mut marks, &mut out);
     put(rt, marks.as_slice(), text);
     match done {
         Some(Ok(Sent::Spelt { request: None })) => put_sent(rt, &r.bed.queue, out, text),
@@ -115,7 +115,7 @@ fn arrive(
     ensures { responders.Stands r.new }
 {
     let mut marks = Marks::empty(alloc);
-    let done = r.take(alloc, bytes, envelope, &mut marks);
+    let done = r.take(bytes, envelope, &mut marks);
     put(rt, marks.as_slice(), text);
     if !matches!(done, Some(Ok(()))) {
         put_text(rt, b" no request\n", text);

@@ -1,6 +1,5 @@
 use Rattle.std.proofs.Common.{None}
 use Rattle.ca_model.specs.machine.Delivery.{packet_arrived}
-use Rattle.ca_arrivals.specs.Taking.{found}
 use Rattle.ca_bed_reach.specs.SmallReach.{sight_of}
 use Rattle.ca_bed_responder.proofs.Kept.{arrival_kept, request-good, stands_by}
 use Rattle.ca_bed_responder.proofs.responder.take_own.Goals as goal
@@ -8,12 +7,9 @@ use Rattle.ca_bed_responder.proofs.responder.take_own.Goals as goal
 pub returns : goal.returns
 returns c =
     let bed = c.args.bed.now in
-    let q = bed.queue in
     let p = c.in_ok-p.p in
     stands_by (record { queue = c.on_request.new.q; reach = c.on_request.new.reach })
-    (arrival_kept c.on_request.result (sight_of bed.reach) (packet_arrived p c.args.envelope None q)
-    (found q c.args.marks.now.marks bed.reach)
-    (found c.on_request.new.q c.on_request.new.marks.marks c.on_request.new.reach)
-    (record { queue = c.requires.queue; reach = c.requires.reach })
-    (request-good c.args.bytes.now p c.args.envelope None q c.requires.queue tt c.in_ok-p.ensures.spelt c.in_ok-p.ensures.taken)
-    c.on_request.ensures.taken)
+    (arrival_kept c.on_request.result (sight_of bed.reach) (packet_arrived p c.args.envelope None bed.queue) bed.queue c.on_request.new.q
+    c.args.marks.now c.on_request.new.marks bed.reach c.on_request.new.reach None None c.requires.queue c.requires.reach
+    (request-good c.args.bytes.now p c.args.envelope None bed.queue c.requires.queue tt c.in_ok-p.ensures.spelt c.in_ok-p.ensures.taken)
+    c.on_request.ensures)

@@ -1,4 +1,0 @@
-pub mod FlushLemmas
-pub mod AskingLemmas
-pub mod EndLemmas
-pub mod TakingLemmas

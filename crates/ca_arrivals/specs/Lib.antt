@@ -1,5 +1,0 @@
-pub mod Asking
-pub mod Numbers
-pub mod Receives
-pub mod Requests
-pub mod Taking

@@ -1,2 +1,0 @@
-pub mod AtomicLemmas
-pub mod AtomicRowLemmas
