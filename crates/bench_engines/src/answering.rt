@@ -30,17 +30,13 @@ fn write(psn: u8) -> [u8; 36] {
 
 // The responder takes a request that ends no key.
 #[inline(never)]
-fn take(
-    q: &mut QueuePart,
-    reach: &mut SmallReach,
-    p: &Packet<'_>,
-    marks: &mut Marks,
-) -> bool
+fn take(q: &mut QueuePart, reach: &mut SmallReach, p: &Packet<'_>, marks: &mut Marks) -> bool
     requires step { CanStep q.old }
     requires packet { IsWellFormed p.now }
     requires request { packets.is_response p.now.opcode ≡ false }
     requires plain { p.now.ieth ≡ None }
-    requires at_hand { AreAtHand small.sight_of small.IsAskHere (λ s ask. Unit {0}) reach.old (packet_arrived p.now None None q.old).asks }
+    requires at_hand { AreAtHand small.sight_of small.IsAskHere (λ s ask. Unit {0}) reach.old
+        (packet_arrived p.now None None q.old).asks }
 {
     on_request(q, None, reach, p, None, marks).is_ok()
 }
@@ -62,12 +58,7 @@ fn deliver(bed: &mut Bed, p: &Packet<'_>, marks: &mut Marks) -> bool
 
 // Sends the answer that waits, which reads no memory.
 #[inline(never)]
-fn send(
-    q: &mut QueuePart,
-    reach: &mut SmallReach,
-    marks: &mut Marks,
-    out: &mut Vec<u8>,
-) -> bool
+fn send(q: &mut QueuePart, reach: &mut SmallReach, marks: &mut Marks, out: &mut Vec<u8>) -> bool
     requires step { CanStep q.old }
     requires plain { (respond_row true q.old).asks ≡ [] }
 {
@@ -131,8 +122,7 @@ fn respond_anew(alloc: Global, marks: &mut Marks, out: &mut Vec<u8>) -> bool {
     };
     let mut taken = Marks::empty(alloc);
     out.clear();
-    take_first(&mut responder, 1, &mut taken)
-        && respond(&mut responder.bed, marks, out)
+    take_first(&mut responder, 1, &mut taken) && respond(&mut responder.bed, marks, out)
 }
 
 /// Takes the WRITE, and sends an acknowledgement, so many times; how many marks that made. Each queue pair has answered

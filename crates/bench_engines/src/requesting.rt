@@ -23,7 +23,8 @@ use std::alloc::Global;
 fn send(q: &mut QueuePart, reach: &mut SmallReach, marks: &mut Marks, out: &mut Vec<u8>) -> bool
     requires step { CanStep q.old }
     requires parts { small.FitTogether reach.old }
-    requires at_hand { AreAtHand small.sight_of small.IsAskHere (λ s ask. Unit {0}) reach.old (turn_row q.old true).asks }
+    requires at_hand { AreAtHand small.sight_of small.IsAskHere (λ s ask. Unit {0}) reach.old
+        (turn_row q.old true).asks }
     ensures queue { IsQueue q.new }
     ensures parts { small.FitTogether reach.new }
 {
@@ -52,7 +53,8 @@ fn take(q: &mut QueuePart, reach: &mut SmallReach, p: &Packet<'_>, marks: &mut M
     requires packet { IsWellFormed p.now }
     requires response { packets.is_response p.now.opcode ≡ true }
     requires parts { small.FitTogether reach.old }
-    requires at_hand { AreAtHand small.sight_of small.IsAskHere (λ s ask. Unit {0}) reach.old (response_row p.now q.old).asks }
+    requires at_hand { AreAtHand small.sight_of small.IsAskHere (λ s ask. Unit {0}) reach.old
+        (response_row p.now q.old).asks }
     ensures queue { IsQueue q.new }
     ensures parts { small.FitTogether reach.new }
 {

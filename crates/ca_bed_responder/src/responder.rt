@@ -65,7 +65,8 @@ fn slot_named(domain: DomainId, key: Key) -> Slot
 
 // Whether a key names the window or the region that is reached.
 fn names_part(reach: &SmallReach, domain: DomainId, key: Key) -> bool
-    ensures { IsTrue result → slot_of_key domain key ≡ (if is_window_key key then reach.now.window.slot else reach.now.slot) }
+    ensures { IsTrue result
+        → slot_of_key domain key ≡ (if is_window_key key then reach.now.window.slot else reach.now.slot) }
 {
     let named = slot_named(domain, key);
     if key.names_window() {
@@ -101,7 +102,8 @@ fn may_end_key(q: &QueuePart, reach: &SmallReach, key: Key) -> bool
 // Whether the key that a packet ends, if it ends one, can be tried.
 fn may_end(q: &QueuePart, reach: &SmallReach, p: &Packet<'_>) -> bool
     requires { small.FitTogether reach.now }
-    ensures { IsTrue result → IfSome (invalidation_of q.now p.now) (MayEnd small.sight_of small.IsEndHere reach.now q.now) }
+    ensures { IsTrue result
+        → IfSome (invalidation_of q.now p.now) (MayEnd small.sight_of small.IsEndHere reach.now q.now) }
 {
     match p.ieth {
         None => true,
@@ -124,7 +126,8 @@ fn request_in<'a>(
     ensures packet { IfSome result (λ p. IsWellFormed p) }
     ensures request { IfSome result (λ p. packets.is_response p.opcode ≡ false) }
     ensures taken { IfSome result (λ p. first_of (arrival_drops q.now p) ≡ None) }
-    ensures at_hand { IfSome result (λ p. (envelope : Option ℕ) → CanMeet small.sight_of small.IsAskHere (λ s ask. Unit {0})
+    ensures at_hand { IfSome result (λ p. (envelope : Option ℕ)
+        → CanMeet small.sight_of small.IsAskHere (λ s ask. Unit {0})
         small.IsEndHere reach.now q.now (packet_arrived p envelope (option_copied srq.entry) q.now)) }
 {
     let Ok(p) = decode(bytes) else {
@@ -151,14 +154,7 @@ fn take_own(
     ensures { beds.Stands bed.new }
 {
     let p = request_in(&bed.queue, None, &bed.reach, bytes)?;
-    Some(on_request(
-        &mut bed.queue,
-        None,
-        &mut bed.reach,
-        &p,
-        envelope,
-        marks,
-    ))
+    Some(on_request(&mut bed.queue, None, &mut bed.reach, &p, envelope, marks))
 }
 
 // A request arrives at a queue pair with a shared receive queue.

@@ -17,7 +17,7 @@ use Rattle.ca_wire.specs.declared.syndrome.NakCode.TheVariants.{InvalidRequest}
 use Rattle.ca_model.specs.Marks.{MarkList}
 use Rattle.ca_model.specs.declared.mark.Mark.{Mark}
 use Rattle.ca_model.specs.machine.Arrivals.{packet_ask, refusal_effects, remote_mark, with_flag}
-use Rattle.ca_model.specs.machine.Expected.{after_write_packet, continues, fits_left, fits_payload, fits_place, fits_write, is_invalid, valid_row, write_reach, write_row}
+use Rattle.ca_model.specs.machine.Expected.{after_write_packet, continues, fits_left, fits_payload, fits_position, fits_write, is_invalid, valid_row, write_reach, write_row}
 use Rattle.ca_model.specs.machine.Row.{Does, Effects, plain_row}
 use Rattle.ca_rows.specs.Made.{HasMade, written_all}
 use Rattle.ca_answering.specs.Numbers.{with_ack_if_asked, without_ack_request}
@@ -32,13 +32,13 @@ none-of true true false d e f h = cc
 none-of true false c d e f h = cc
 none-of false b c d e f h = cc
 
-position-of : (q : QueuePair) (p : Fields) (position : Position) → is_invalid q p (shapes.Write position) ≡ false → fits_place q.responder.mtu position (length p.payload) ≡ true
+position-of : (q : QueuePair) (p : Fields) (position : Position) → is_invalid q p (shapes.Write position) ≡ false → fits_position q.responder.mtu position (length p.payload) ≡ true
 position-of q p position h = (none-of (continues q.responder.message (shapes.Write position)) (fits_payload q p (shapes.Write position)) (fits_write q p (shapes.Write position)) _ _ _ h).1
 
 left-of : (q : QueuePair) (p : Fields) (position : Position) (r : WriteReach) → is_invalid q p (shapes.Write position) ≡ false → write_reach q p ≡ Some r → fits_left (length p.payload) position r ≡ true
 left-of q p position r h e = sym (rw e refl) ∙ (none-of (continues q.responder.message (shapes.Write position)) (fits_payload q p (shapes.Write position)) (fits_write q p (shapes.Write position)) _ _ _ h).2
 
-fits-in : (mtu count : ℕ) (position : Position) (r : WriteReach) → 0 < mtu → fits_place mtu position count ≡ true → fits_left count position r ≡ true
+fits-in : (mtu count : ℕ) (position : Position) (r : WriteReach) → 0 < mtu → fits_position mtu position count ≡ true → fits_left count position r ≡ true
     → (count ≤ r.left) × (0 < r.left → 0 < count)
 fits-in mtu count First r some e f = (grind (arith, nat_tests), λ left. grind (arith, nat_tests))
 fits-in mtu count Middle r some e f = (grind (arith, nat_tests), λ left. grind (arith, nat_tests))

@@ -28,7 +28,9 @@ use ca_base::{Ask, Bytes, Key, Memory, Message, OpRefusal, PlacedReceive, WcOp, 
 use ca_grant::Reach;
 use ca_model::{Mark, Marks, Receiving, SPARE_MARKS};
 use ca_qpstate::QueuePart;
-use ca_rows::{cut_writes, first_denied, local_denial, receive_failure, receive_mark, write_all};
+use ca_rows::{
+    Received, cut_writes, first_denied, local_denial, receive_failure, receive_mark, write_all,
+};
 use ca_wire::{NakCode, Packet, Position};
 
 /// For how many marks a SEND packet that is placed makes room: those of its writes, of the key that it ends, of its
@@ -56,9 +58,11 @@ pub fn take_send<R: Reach>(
     requires request { IsValidRequest q.old request.now next }
     requires shape { request.now.shape ≡ Shape.Send position }
     requires at_hand { CanMeet R.sight R.judges R.touches R.ends reach.old q.old
-        (rows.valid_row (arrivals.with_flag false q.old) request.now.packet.now request.now.envelope next request.now.shape) }
+        (rows.valid_row (arrivals.with_flag false q.old) request.now.packet.now request.now.envelope next
+        request.now.shape) }
     ensures taken { IsTaken R.written R.revoked result (outcome_in (R.sight reach.old)
-        (rows.valid_row (arrivals.with_flag false q.old) request.now.packet.now request.now.envelope next request.now.shape))
+        (rows.valid_row (arrivals.with_flag false q.old) request.now.packet.now request.now.envelope next
+        request.now.shape))
         q.old q.new marks.old marks.new reach.old reach.new }
 {
     let Some(receiving) = receiving_of(q, next)? else {
@@ -124,8 +128,10 @@ fn fail_receive(
     requires takes { MayTake r.now q.old }
     requires few { length made.items ≤ 1 }
     ensures made { IsMade result (rows.behind_marks made.items (rows.receive_failure_effects
-        (without_taken_receive r.now.taken (arrivals.with_flag false q.old)) r.now.receive status None code)) q.old q.new marks.old marks.new }
-    ensures shared { IfOk result (λ shared. is_taken shared ≡ (if r.now.taken then arrivals.has_shared q.old else false)) }
+        (without_taken_receive r.now.taken (arrivals.with_flag false q.old)) r.now.receive status None code)) q.old
+        q.new marks.old marks.new }
+    ensures shared { IfOk result (λ shared. is_taken shared
+        ≡ (if r.now.taken then arrivals.has_shared q.old else false)) }
 {
     let shared = taken_shared(q, r);
     made.push(receive_failure(q.queue, r.receive.place, &r.receive.receive, status, None))?;
@@ -148,7 +154,8 @@ fn taken_shared(q: &QueuePart, r: &Receiving) -> SharedReceive
 
 /// Which receives are flushed behind that of the packet.
 fn flushed_behind(r: &Receiving) -> FlushedReceives
-    ensures left { (q : QueuePair) → left_to_flush result q ≡ arrivals.with_message None (without_taken_receive r.now.taken q) }
+    ensures left { (q : QueuePair)
+        → left_to_flush result q ≡ arrivals.with_message None (without_taken_receive r.now.taken q) }
     ensures waits { (q : QueuePair) → MayTake r.now q → CanFlush result q }
 {
     if r.taken {
@@ -222,7 +229,8 @@ fn place_and_end<R: Reach>(
 
 /// The completion of a receive whose message's key was not ended.
 fn refused_receive(q: &QueuePart, r: &Receiving, cause: OpRefusal) -> Mark
-    ensures { result ≡ completions.receive_failure q.now.queue r.now.receive.place r.now.receive.receive WcStatus.MemoryManagement (Some cause) }
+    ensures { result ≡ completions.receive_failure q.now.queue r.now.receive.place r.now.receive.receive
+        WcStatus.MemoryManagement (Some cause) }
 {
     receive_failure(
         q.queue,
@@ -247,7 +255,8 @@ fn end_send(q: &mut QueuePart, s: SendPacket<'_>, marks: &mut Marks)
     requires numbers { CanPass q.old }
     requires fits { IsFitting q.old s }
     requires room { SPARE_MARKS + 1 ≤ marks.old.room }
-    ensures { HasMade (rows.after_send_packet (without_taken_receive s.entry.receiving.taken (arrivals.with_flag false q.old))
+    ensures { HasMade (rows.after_send_packet
+        (without_taken_receive s.entry.receiving.taken (arrivals.with_flag false q.old))
         (without_ack_request s.entry.packet.now) s.entry.position s.entry.receiving) q.new marks.old marks.new }
 {
     let SendPacket {
@@ -257,8 +266,8 @@ fn end_send(q: &mut QueuePart, s: SendPacket<'_>, marks: &mut Marks)
     } = s;
     take_receive(q, &receiving);
     let bytes = receiving.before + packet.payload.len() as u32;
-    let PlacedReceive { place, receive } = receiving.receive;
     if !position.ends() {
+        let PlacedReceive { place, receive } = receiving.receive;
         q.responder.message = Some(Message::Send {
             place,
             receive,
@@ -267,15 +276,13 @@ fn end_send(q: &mut QueuePart, s: SendPacket<'_>, marks: &mut Marks)
         pass(q, 1, false);
         return;
     }
-    marks.push(receive_mark(
-        q.queue,
-        place,
-        &receive,
-        WcOp::Recv,
+    let received = Received {
+        op: WcOp::Recv,
         bytes,
-        packet.imm,
-        ended_key(packet),
-    ));
+        imm: packet.imm,
+        invalidated: ended_key(packet),
+    };
+    marks.push(receive_mark(q.queue, &receiving.receive, received));
     q.responder.message = None;
     pass(q, 1, true);
 }

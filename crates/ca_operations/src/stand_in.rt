@@ -11,7 +11,8 @@ use ca_wire::NakCode;
 /// Queues an answer that stands for the one to come, behind all PSNs that wait.
 pub fn queue_stand_in(answers: &mut Answers, psn: u64) -> Result<(), Memory>
     requires { psn < 2 ^ 62 }
-    ensures { MatchResult result (λ done. answers.new ≡ with_stand_in psn answers.old) (λ memory. answers.new ≡ answers.old) }
+    ensures { MatchResult result (λ done. answers.new ≡ with_stand_in psn answers.old) (λ memory. answers.new
+        ≡ answers.old) }
 {
     answers.push(Queued::Ack { psn: psn + 1 })
 }
@@ -48,7 +49,8 @@ pub fn replace_by_nak(answers: &mut Answers, psn: u64)
 
 /// Whether an acknowledgement stands before the answer at the end.
 fn is_behind_ack(answers: &Answers) -> bool
-    ensures { (before : List Queued) (answer : Queued) → answers.now ≡ before ++ answer ∷ [] → result ≡ ends_with_ack before }
+    ensures { (before : List Queued) (answer : Queued) → answers.now ≡ before ++ answer ∷ []
+        → result ≡ ends_with_ack before }
 {
     let Some(index) = answers.len().checked_sub(2) else {
         return false;

@@ -24,7 +24,7 @@ use ca_base::{Ask, Bytes, DeniedAsk, Memory, Message, PlacedReceive, Verdict, Wc
 use ca_grant::Reach;
 use ca_model::{Marks, SPARE_MARKS, WriteReach};
 use ca_qpstate::QueuePart;
-use ca_rows::receive_mark;
+use ca_rows::{Received, receive_mark};
 use ca_wire::{NakCode, Packet, Position};
 
 /// A WRITE packet, with where it stands in its message and what it reaches, and the index of its envelope for its mark.
@@ -184,15 +184,13 @@ fn end_write(
     let Some(receive) = next else {
         return SharedReceive::Stays;
     };
-    marks.push(receive_mark(
-        q.queue,
-        receive.place,
-        &receive.receive,
-        WcOp::RecvImm,
-        w.target.whole,
-        Some(imm),
-        None,
-    ));
+    let received = Received {
+        op: WcOp::RecvImm,
+        bytes: w.target.whole,
+        imm: Some(imm),
+        invalidated: None,
+    };
+    marks.push(receive_mark(q.queue, receive, received));
     take_own(q);
     shared_receive(q)
 }

@@ -64,7 +64,7 @@ fn check_length(q: &QueuePart, p: &Packet<'_>, shape: Shape) -> bool
 
 /// Exactly the path MTU, 1 to it at the end, 0 to it alone.
 fn fits_position(mtu: usize, position: Position, count: usize) -> bool
-    ensures { result ≡ rows.fits_place mtu position count }
+    ensures { result ≡ rows.fits_position mtu position count }
 {
     match position {
         Position::First => count == mtu,
