@@ -1,13 +1,10 @@
 -- Which receives are flushed with the sends of a queue pair. Contracts cite it.
-use Rattle.std.specs.Prelude.{◌≡◌, ℕ, ◌+◌, ◌≤◌, ◌<◌, List, ◌++◌, length, None, IfSome}
+use Rattle.std.specs.Prelude.{◌≡◌, ℕ, ◌<◌, None, IfSome}
 use Rattle.ca_base.specs.objects.QueuePair.{QueuePair}
 use Rattle.ca_base.specs.objects.WorkQueue.{waiting_count}
-use Rattle.ca_model.specs.declared.mark.Mark.{Mark}
 use Rattle.ca_model.specs.machine.Arrivals.{with_message, with_receive_taken}
-use Rattle.ca_model.specs.machine.Completions.{flush_marks}
 use Rattle.ca_answering.specs.declared.flush.FlushedReceives.{FlushedReceives}
 use Rattle.ca_answering.specs.declared.flush.FlushedReceives.TheVariants.{All, Waiting, BehindNext}
-use Rattle.ca_answering.specs.declared.flush.TheConstants.{MAX_FLUSHED}
 
 -- the queue pair with the receives that are to be flushed
 abbrev pub left_to_flush : FlushedReceives → QueuePair → QueuePair
@@ -18,11 +15,6 @@ left_to_flush BehindNext q = with_message None (with_receive_taken q)
 -- the next receive waits, where the flush begins behind it
 abbrev pub CanFlush : FlushedReceives → QueuePair → Type 0
 CanFlush receives q = receives ≡ BehindNext → IfSome q.receives (λ r. 0 < waiting_count r)
-
--- all that is posted and unfinished was flushed, in few completions
-pub record IsFlush (q : QueuePair) (before after : List Mark) : Type 0 where
-  pub marks : after ≡ before ++ flush_marks q
-  pub few : length after ≤ length before + MAX_FLUSHED
 
 -- how many of the receives that wait stand before those that are flushed
 abbrev pub first_behind : FlushedReceives → ℕ

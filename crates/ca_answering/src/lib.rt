@@ -14,14 +14,8 @@ mod queueing;
 mod read_left;
 mod remote;
 mod respond;
-mod segments;
 
-pub use flush::{
-    FlushedReceives, MAX_FLUSHED, MAX_REFUSAL_MARKS, next_posting, push_flush, reserve_for,
-};
-pub use queueing::{
-    drop_packet, pass, queue_ack, queue_answer, queue_refusal, refuse, refuse_invalid,
-};
+pub use flush::{FlushedReceives, next_posting, push_flush};
+pub use queueing::{pass, queue_ack, queue_answer, queue_refusal, refuse, refuse_invalid};
 pub use remote::{packet_ask, remote_mark};
 pub use respond::{next_response, respond_ask};
-pub use segments::read_segments;

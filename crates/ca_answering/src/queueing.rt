@@ -1,32 +1,19 @@
-ghost use Rattle.std.specs.Prelude.{◌≡◌, ◌≤◌, ◌^◌, [], MatchResult, false, length};
+ghost use Rattle.std.specs.Prelude.{◌≡◌, ◌≤◌, ◌^◌, [], MatchResult, false};
 ghost use Rattle.ca_wire.specs.declared.syndrome.NakCode.{NakCode};
-ghost use Rattle.ca_model.specs.declared.marks.TheConstants.{SPARE_MARKS};
 ghost use Rattle.ca_model.specs.machine.Arrivals as arrivals;
 ghost use Rattle.ca_model.specs.machine.CanStep.{CanStep};
 ghost use Rattle.ca_model.specs.machine.Expected.{behind_marks};
-ghost use Rattle.ca_model.specs.machine.Responses.{drop_effects};
 ghost use Rattle.ca_model.specs.machine.Row.{queue_and_marks};
 ghost use Rattle.ca_rows.specs.Made.{IsMade};
 ghost use Rattle.ca_answering.specs.Numbers.{CanPass, past_packet, with_ack_if_asked};
 
-use crate::flush::{FlushedReceives, push_flush, reserve_for};
+use crate::flush::{FlushedReceives, push_flush};
 use ca_base::limits::PSN_COUNT;
 use ca_base::{Memory, Queued};
-use ca_model::{Drop1, Mark, Marks, SPARE_MARKS};
+use ca_model::{Mark, Marks, SPARE_MARKS};
 use ca_qpstate::QueuePart;
+use ca_rows::reserve_for;
 use ca_wire::{NakCode, Packet};
-
-/// Drops the packet, for this cause.
-pub fn drop_packet(q: &QueuePart, cause: Drop1, marks: &mut Marks) -> Result<(), Memory>
-    ensures { IsMade result (drop_effects q.now cause) q.now q.now marks.old marks.new }
-{
-    marks.reserve(SPARE_MARKS + 1)?;
-    marks.push(Mark::Dropped {
-        target: q.queue,
-        cause,
-    });
-    Ok(())
-}
 
 /// Queues an answer, and says whether a NAK or an RNR NAK was queued since the last expected packet.
 pub fn queue_answer(
@@ -76,13 +63,12 @@ pub fn refuse(
     mut made: Vec<Mark>,
     marks: &mut Marks,
 ) -> Result<(), Memory>
-    requires step { CanStep q.old }
-    requires few { length made.items ≤ SPARE_MARKS }
+    requires { CanStep q.old }
     ensures { IsMade result (behind_marks made.items
         (arrivals.refusal_effects code (arrivals.with_flag false q.old))) q.old q.new marks.old marks.new }
 {
     push_flush(q, FlushedReceives::All, &mut made)?;
-    reserve_for(marks, &made)?;
+    reserve_for(made.as_slice(), 0, marks)?;
     queue_refusal(q, code)?;
     marks.append(made);
     Ok(())

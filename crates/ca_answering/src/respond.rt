@@ -11,14 +11,14 @@ ghost use Rattle.ca_model.specs.machine.CanStep.{CanStep};
 ghost use Rattle.ca_packet.specs.Packet.{IsWellFormed};
 
 use crate::answer::next_answer;
-use crate::flush::{FlushedReceives, push_flush, reserve_for};
+use crate::flush::{FlushedReceives, push_flush};
 use crate::read_left::{is_last_response, response_ask, response_segment, rest_of};
 use crate::remote::remote_mark;
 use ca_base::{Ask, Bytes, Denial, Memory, Queued, Sent, StepError, Verdict};
 use ca_grant::Reach;
 use ca_model::{Marks, ReadLeft};
 use ca_qpstate::QueuePart;
-use ca_rows::{peer_number, psn_bits, spell_packet};
+use ca_rows::{peer_number, psn_bits, reserve_for, spell_packet};
 use ca_wire::{NakCode, Packet, acknowledgement, atomic_acknowledge, nak, read_response, rnr_nak};
 
 /// A response is of no request of this queue pair.
@@ -281,7 +281,7 @@ fn refuse_read(
     made.push(remote_mark(&ask, r.envelope, Verdict::Denied(denial)))?;
     push_flush(q, FlushedReceives::All, &mut made)?;
     let (peer, msn) = (peer_number(q), q.responder.msn);
-    reserve_for(marks, &made)?;
+    reserve_for(made.as_slice(), 0, marks)?;
     spell_packet(
         &nak(NakCode::RemoteAccessError, peer, psn_bits(r.psn), msn),
         out,

@@ -17,12 +17,13 @@ ghost use Rattle.ca_operations.specs.Atomics.{IsAtomicRequest, number_found, num
 
 use crate::request::{Request, SharedReceive};
 use crate::write::{denied_access, deny};
-use ca_answering::{packet_ask, pass, read_segments, refuse_invalid, remote_mark};
+use ca_answering::{packet_ask, pass, refuse_invalid, remote_mark};
 use ca_base::limits::ATOMIC_BYTES;
 use ca_base::{Ask, AtomicOp, Kind, Memory, Queued, Verdict};
 use ca_grant::Reach;
 use ca_model::{Marks, SPARE_MARKS};
 use ca_qpstate::QueuePart;
+use ca_rows::segments;
 use ca_wire::AtomicEth;
 
 /// A READ Request is queued. It is judged as it is answered.
@@ -41,7 +42,7 @@ pub fn take_read(
         refuse_invalid(q, marks)?;
         return Ok(SharedReceive::Stays);
     };
-    let count = read_segments(q, h.length);
+    let count = segments(q.responder.mtu, h.length);
     marks.reserve(SPARE_MARKS)?;
     q.responder.answers.push(Queued::Read {
         psn: q.responder.expected,

@@ -20,22 +20,20 @@ ghost use Rattle.ca_operations.specs.Sends.{CanPlace, IsEnding, IsFitting, key_e
 use crate::receive::{exceeds_receive, receive_asks, receiving_of, take_own};
 use crate::request::{Request, SharedReceive, shared_receive};
 use crate::stand_in::{queue_stand_in, replace_by_ack, replace_by_nak};
-use ca_answering::{
-    FlushedReceives, pass, push_flush, queue_ack, queue_refusal, refuse_invalid, reserve_for,
-};
+use ca_answering::{FlushedReceives, pass, push_flush, queue_ack, queue_refusal, refuse_invalid};
 use ca_base::limits::MAX_PIECES;
 use ca_base::{Ask, Bytes, Key, Memory, Message, OpRefusal, PlacedReceive, WcOp, WcStatus};
 use ca_grant::Reach;
 use ca_model::{Mark, Marks, Receiving, SPARE_MARKS};
 use ca_qpstate::QueuePart;
 use ca_rows::{
-    Received, cut_writes, first_denied, local_denial, receive_failure, receive_mark, write_all,
+    Received, cut_writes, first_denied, local_denial, receive_failure, receive_mark, reserve_for,
+    write_all,
 };
 use ca_wire::{NakCode, Packet, Position};
 
-/// For how many marks a SEND packet that is placed makes room: those of its writes, of the key that it ends, of its
-/// completion, and the spare ones.
-const SEND_MARKS: u32 = MAX_PIECES as u32 + 2 + SPARE_MARKS;
+/// The most marks of a SEND packet that is placed: those of its writes, of the key that it ends, and of its completion.
+const SEND_MARKS: usize = MAX_PIECES + 2;
 
 /// A SEND packet, with where it stands in its message and the receive of the message.
 #[derive(Drop)]
@@ -136,7 +134,7 @@ fn fail_receive(
     let shared = taken_shared(q, r);
     made.push(receive_failure(q.queue, r.receive.place, &r.receive.receive, status, None))?;
     push_flush(q, flushed_behind(r), &mut made)?;
-    reserve_for(marks, &made)?;
+    reserve_for(made.as_slice(), 0, marks)?;
     queue_refusal(q, code)?;
     marks.append(made);
     Ok(shared)
@@ -179,7 +177,7 @@ fn place_send<R: Reach>(
         q.old q.new marks.old marks.new reach.old reach.new }
 {
     let shared = taken_shared(q, &s.receiving);
-    marks.reserve(SEND_MARKS)?;
+    marks.reserve(SEND_MARKS as u32 + SPARE_MARKS)?;
     queue_ack(q, s.packet)?;
     write_all(reach, writes, marks);
     end_send(q, s, marks);
@@ -206,7 +204,7 @@ fn place_and_end<R: Reach>(
     let shared = taken_shared(q, r);
     let mut flushed = Vec::new(q.alloc());
     push_flush(q, flushed_behind(r), &mut flushed)?;
-    marks.reserve(flushed.len() as u32 + SEND_MARKS)?;
+    reserve_for(flushed.as_slice(), SEND_MARKS, marks)?;
     let psn = q.responder.expected;
     queue_stand_in(&mut q.responder.answers, psn)?;
     write_all(reach, writes, marks);

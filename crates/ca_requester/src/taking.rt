@@ -22,9 +22,11 @@ use arrayvec::ArrayVec;
 use ca_base::limits::{ATOMIC_BYTES, MAX_PIECES};
 use ca_base::{Ask, Bytes, DeniedAsk, Kind, Memory, RequesterNumbers, WcStatus};
 use ca_grant::Reach;
-use ca_model::{Drop1, Mark, Marks, SPARE_MARKS};
+use ca_model::{Drop1, Marks, SPARE_MARKS};
 use ca_qpstate::QueuePart;
-use ca_rows::{Asker, cut_writes, first_denied, list_asks, list_of, local_denial, write_all};
+use ca_rows::{
+    Asker, cut_writes, drop_packet, first_denied, list_asks, list_of, local_denial, write_all,
+};
 use ca_sending::{Failure, Outcome, complete_before, finished_count, make, push_finished};
 use ca_wire::opcode::ATOMIC_ACKNOWLEDGE;
 use ca_wire::{NakCode, Packet};
@@ -247,20 +249,6 @@ fn take_answer<R: Reach>(
 pub(crate) struct Taken {
     pub psn: u64,
     pub numbers: RequesterNumbers,
-}
-
-/// The packet is dropped. It stands apart, since that is rare.
-#[cold]
-#[inline(never)]
-fn drop_packet(q: &QueuePart, cause: Drop1, marks: &mut Marks) -> Result<(), Memory>
-    ensures { IsMade result (rows.drop_effects q.now cause) q.now q.now marks.old marks.new }
-{
-    marks.reserve(1 + SPARE_MARKS)?;
-    marks.push(Mark::Dropped {
-        target: q.queue,
-        cause,
-    });
-    Ok(())
 }
 
 /// The list is denied: the request fails.

@@ -5,12 +5,13 @@ ghost use Rattle.ca_model.specs.machine.Invariants.{IsQueue};
 ghost use Rattle.ca_model.specs.machine.CanStep.{CanStep};
 ghost use Rattle.ca_rows.specs.Made.{IsMade};
 
-use ca_answering::{drop_packet, queue_answer, read_segments};
+use ca_answering::queue_answer;
 use ca_base::limits::MAX_DUPLICATES;
 use ca_base::{Answers, Memory, Queued};
 use ca_model::{Drop1, Marks};
 use ca_operations::Request;
 use ca_qpstate::QueuePart;
+use ca_rows::{drop_packet, segments};
 use ca_wire::{NakCode, Reth, Shape};
 
 /// A packet ahead of the expected one: the first asks for what is missing, the others are dropped.
@@ -92,7 +93,7 @@ fn read_again(
     requires narrow { psn < 2 ^ 62 }
     ensures { IsMade result (rows.read_again psn envelope h.now q.old) q.old q.new marks.old marks.new }
 {
-    if psn + read_segments(q, h.length) > q.responder.expected {
+    if psn + segments(q.responder.mtu, h.length) > q.responder.expected {
         return drop_packet(q, Drop1::Unsaved, marks);
     }
     let answer = Queued::Read {

@@ -13,13 +13,14 @@ ghost use Rattle.ca_packet.specs.Packet.{IsWellFormed};
 
 use crate::checks::{is_invalid, lacks_receive, taken_receive};
 use crate::duplicates::{take_ahead, take_duplicate};
-use ca_answering::{drop_packet, queue_answer, refuse_invalid};
+use ca_answering::{queue_answer, refuse_invalid};
 use ca_base::{Memory, Queued};
 use ca_grant::Reach;
 use ca_model::{Drop1, Marks};
 use ca_operations::{Request, SharedReceive, take_atomic, take_read, take_send, take_write};
 use ca_psn::widen;
 use ca_qpstate::QueuePart;
+use ca_rows::drop_packet;
 use ca_srq::Srq;
 use ca_wire::{Packet, Shape, shape_of};
 

@@ -13,6 +13,7 @@ mod asks;
 mod completions;
 mod flush;
 mod list;
+mod marks;
 mod operations;
 mod packets;
 mod reads;
@@ -25,6 +26,7 @@ pub use completions::{
 };
 pub use flush::{push_flushed, push_flushed_receives, push_flushed_sends};
 pub use list::{Asker, fill_asks, list_asks, list_length};
+pub use marks::{drop_packet, reserve_for};
 pub use operations::{
     is_answered, is_atomic, is_local, is_read, list_of, operation_of, psns_of, segments,
 };

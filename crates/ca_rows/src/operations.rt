@@ -1,4 +1,4 @@
-ghost use Rattle.std.specs.Prelude.{◌≡◌, ◌<◌, ◌≤◌};
+ghost use Rattle.std.specs.Prelude.{◌≡◌, ◌<◌, ◌≤◌, ◌^◌};
 ghost use Rattle.ca_base.specs.declared.limits.TheConstants.{MAX_MESSAGE_BYTES};
 ghost use Rattle.ca_model.specs.Requests as requests;
 ghost use Rattle.ca_model.specs.machine.Invariants.{IsList};
@@ -78,15 +78,15 @@ pub fn is_answered(op: &SendOp) -> bool
 }
 
 /// How many packets a message of so many bytes has at a path MTU: at least one.
-pub fn segments(mtu: u16, count: u32) -> u32
-    requires mtu { 0 < mtu }
-    requires message { count ≤ MAX_MESSAGE_BYTES }
+pub fn segments(mtu: u16, count: u32) -> u64
+    requires { 0 < mtu }
     ensures value { result ≡ requests.segments mtu count }
     ensures some { 0 < result }
-    ensures few { result ≤ MAX_MESSAGE_BYTES }
+    ensures few { count ≤ MAX_MESSAGE_BYTES → result ≤ MAX_MESSAGE_BYTES }
+    ensures narrow { result < 2 ^ 32 }
 {
-    let mtu = u32::from(mtu);
-    ((count + mtu - 1) / mtu).max(1)
+    let mtu = u64::from(mtu);
+    ((u64::from(count) + mtu - 1) / mtu).max(1)
 }
 
 /// How many PSNs a request takes at a path MTU: one a packet, of a READ one a response, and none for a local operation.
@@ -107,6 +107,6 @@ pub fn psns_of(mtu: u16, op: &SendOp) -> u32
         | SendOp::SendInv { list, .. }
         | SendOp::Write { list, .. }
         | SendOp::WriteImm { list, .. }
-        | SendOp::Read { list, .. } => segments(mtu, list_length(list.as_slice())),
+        | SendOp::Read { list, .. } => segments(mtu, list_length(list.as_slice())) as u32,
     }
 }

@@ -14,7 +14,7 @@ use crate::finished::{finished_count, push_finished};
 use ca_base::{Memory, OpRefusal, RequesterNumbers, WcStatus};
 use ca_model::{Mark, Marks, SPARE_MARKS};
 use ca_qpstate::QueuePart;
-use ca_rows::{failure_mark, push_flushed};
+use ca_rows::{failure_mark, push_flushed, reserve_for};
 
 /// What an event makes of a requester's numbers.
 #[derive(Clone, Copy)]
@@ -108,7 +108,11 @@ fn fail(
     let oldest = failure.numbers.oldest;
     let mut made = Vec::new(q.alloc());
     push_failure(q, oldest, failure.status, failure.cause, &mut made)?;
-    reserve_for(finished_count(q, oldest), made.as_slice(), marks)?;
+    reserve_for(
+        made.as_slice(),
+        finished_count(q, oldest) as usize + 1,
+        marks,
+    )?;
     push_finished(q, q.requester.oldest, oldest, marks);
     push_first(first, marks);
     marks.append(made);
@@ -136,18 +140,6 @@ pub(crate) fn fail_oldest(
         cause,
     };
     fail(q, &failure, first, marks)
-}
-
-/// Makes room for so many marks, one more, these, and the spare ones.
-fn reserve_for(finished: u32, made: &[Mark], marks: &mut Marks) -> Result<(), Memory>
-    requires { finished ≤ MAX_DEPTH }
-    ensures room { OnOk result (finished + 1 + length made.now + SPARE_MARKS ≤ marks.new.room) }
-    ensures same { marks.new.marks ≡ marks.old.marks }
-{
-    let Ok(count) = u32::try_from(made.len() + finished as usize + 3) else {
-        return Err(Memory);
-    };
-    marks.reserve(count)
 }
 
 /// Adds a mark, if there is one, in the spare room.

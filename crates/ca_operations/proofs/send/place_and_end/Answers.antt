@@ -48,7 +48,7 @@ returns g c =
           (are_until q.responder.mtu q.responder.expected q.responder.answers
           (subst (λ (x : QueuePair). AllByRecursion (IsAnswer x.responder.mtu x.responder.expected) x.responder.answers) back c.requires.step.queue.responder.answers))
           ∙ ap (λ (f : Fields). if f.ack then with_ack_at_end q.responder.expected q.responder.answers else q.responder.answers) c.p.view_is)
-          (c.write_all.ensures.marks.marks ∙ ap (λ (ms : List Mark). ms ++ local_writes ws) c.reserve.ensures.same)
+          (c.write_all.ensures.marks.marks ∙ ap (λ (ms : List Mark). ms ++ local_writes ws) c.reserve_for.ensures.same)
           c.push-2.ensures.marks
           c.end_send.ensures
           (sym (c.write_all.ensures.keys.refusal (key_end q c.args.key)) ∙ c.in_default.ensures.0)
@@ -77,25 +77,25 @@ returns-in-Err g c =
           (c.q-in-Err.view_is ∙ c.in-Err.ensures.1.0)
           (c.replace_by_nak.ensures q.responder.answers (ap (λ (x : QueuePair). x.responder.answers) (c.q-in-Err.view_is ∙ c.in-Err.ensures.1.0) ∙ c.in_ok-queue_stand_in.ensures))
           c.move_to_error.ensures
-          (c.write_all.ensures.marks.marks ∙ ap (λ (ms : List Mark). ms ++ local_writes ws) c.reserve.ensures.same)
+          (c.write_all.ensures.marks.marks ∙ ap (λ (ms : List Mark). ms ++ local_writes ws) c.reserve_for.ensures.same)
           (c.push.ensures.marks ∙ ap (λ (m : Mark). c.write_all.new.marks.marks ++ m ∷ [])
           (c.refused_receive.ensures ∙ ap (λ (x : QueuePair). receive_failure x.queue r.receive.place r.receive.receive MemoryManagement (Some c.in-Err.cause)) (sym c.q-in-Err.view_is)))
-          (c.in_ok-push_flush.ensures.marks ∙ ap (λ (ms : List Mark). ms ++ flush_marks (left_to_flush c.flushed_behind.result c.args.q.now)) c.new-flushed.ensures.items
+          (c.in_ok-push_flush.ensures ∙ ap (λ (ms : List Mark). ms ++ flush_marks (left_to_flush c.flushed_behind.result c.args.q.now)) c.new-flushed.ensures.items
           ∙ ap flush_marks (c.flushed_behind.ensures.left c.args.q.now) ∙ ap (λ (x : QueuePair). flush_marks (with_message None (without_taken_receive r.taken x))) back)
           c.append.ensures.marks
-          (omega (arith, c.in_ok-reserve.ensures.room, c.write_all.ensures.marks.room, c.requires.can.few, marks-count c.args.writes.items, c.len.ensures, c.push.ensures.room, c.append.ensures.room))
+          (omega (arith, c.in_ok-reserve_for.ensures.room, c.write_all.ensures.marks.room, c.requires.can.few, marks-count c.args.writes.items, c.push.ensures.room, c.append.ensures.room))
           (sym (c.write_all.ensures.keys.refusal (key_end q c.args.key)) ∙ c.in-Err.ensures.0)
           c.write_all.ensures.wrote c.in-Err.ensures.1.1);
     }
 
 pub push-requires : goal.push-requires
-push-requires g c = omega (arith, c.in_ok-reserve.ensures.room, c.write_all.ensures.marks.room, c.requires.can.few, marks-count c.args.writes.items, c.len.ensures)
+push-requires g c = omega (arith, c.in_ok-reserve_for.ensures.room, c.write_all.ensures.marks.room, c.requires.can.few, marks-count c.args.writes.items)
 
 pub append-requires : goal.append-requires
-append-requires g c = omega (arith, c.in_ok-reserve.ensures.room, c.write_all.ensures.marks.room, c.requires.can.few, marks-count c.args.writes.items, c.len.ensures, c.push.ensures.room)
+append-requires g c = omega (arith, c.in_ok-reserve_for.ensures.room, c.write_all.ensures.marks.room, c.requires.can.few, marks-count c.args.writes.items, c.push.ensures.room)
 
 pub push-requires-2 : goal.push-requires-2
-push-requires-2 g c = omega (arith, c.in_ok-reserve.ensures.room, c.write_all.ensures.marks.room, c.requires.can.few, marks-count c.args.writes.items, c.len.ensures)
+push-requires-2 g c = omega (arith, c.in_ok-reserve_for.ensures.room, c.write_all.ensures.marks.room, c.requires.can.few, marks-count c.args.writes.items)
 
 pub end_send-requires-clause-room : goal.end_send-requires-clause-room
-end_send-requires-clause-room g c = omega (arith, c.in_ok-reserve.ensures.room, c.write_all.ensures.marks.room, c.requires.can.few, marks-count c.args.writes.items, c.len.ensures, c.push-2.ensures.room)
+end_send-requires-clause-room g c = omega (arith, c.in_ok-reserve_for.ensures.room, c.write_all.ensures.marks.room, c.requires.can.few, marks-count c.args.writes.items, c.push-2.ensures.room)
