@@ -217,15 +217,13 @@ fn push_receive(q: &mut QueuePart, request: RecvRequest) -> bool
     requires receive { IsReceive request }
     ensures { IsQueue q.new }
 {
-    match &mut q.receives {
-        Some(receives) => {
-            if receives.next_place() >= FAR {
-                return false;
-            }
-            receives.post(request).is_ok()
-        }
-        None => false,
+    let Some(receives) = &mut q.receives else {
+        return false;
+    };
+    if receives.next_place() >= FAR {
+        return false;
     }
+    receives.post(request).is_ok()
 }
 
 // Posts a receive to a shared receive queue, unless it is full.
