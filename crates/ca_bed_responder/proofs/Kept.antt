@@ -1,5 +1,5 @@
 -- Each call of the responder leaves a queue pair that comes up, over parts that fit each other.
-use Rattle.std.proofs.Common.{◌<◌, ◌^◌, ◌≡◌, ℕ, Bool, true, false, List, [], ◌∷◌, Option, None, Some, Result, Ok, Err, refl, sym, subst, ap, ◌∙◌, IfSome, IsTrue, true≢false, OnOk, OnErr, length, slice_get, is_none, not, if◌then◌else◌}
+use Rattle.std.proofs.Common.{◌<◌, ◌^◌, ◌≡◌, ℕ, Bool, true, false, List, [], ◌∷◌, Option, None, Some, Result, Ok, Err, refl, sym, subst, ap, ◌∙◌, IfSome, IsTrue, true≢false, length, slice_get, is_none, not, if◌then◌else◌}
 use Rattle.std.specs.List.{AllByRecursion}
 use Rattle.std.specs.Option.{option_map}
 use Rattle.ca_model.specs.machine.Arrivals.{with_responder}
@@ -28,7 +28,6 @@ use Rattle.ca_laws.proofs.ObjectLemmas.{post-receive, take-receive}
 use Rattle.ca_laws.proofs.RespondLemmas.{arrival-good, respond-good}
 use Rattle.ca_laws.proofs.ResponseLemmas.{IsGoodEnding, IsGoodRow}
 use Rattle.ca_base.specs.declared.request.RecvRequest.{RecvRequest}
-use Rattle.ca_model.specs.declared.mark.Mark.{Mark}
 use Rattle.ca_model.specs.declared.mark.Drop1.{Drop1}
 use Rattle.ca_model.specs.declared.mark.Drop1.TheVariants as drops
 use Rattle.ca_model.specs.machine.Delivery.{arrival_drops, packet_arrived}

@@ -4,7 +4,6 @@ ghost use Rattle.ca_keys.specs.Numbers.{domain_of};
 ghost use Rattle.ca_keys.specs.Refusals.{first_of};
 ghost use Rattle.ca_keys.specs.Numbers.{is_window_key};
 ghost use Rattle.ca_base.specs.objects.Slices.{slot_of_key};
-ghost use Rattle.ca_grant.specs.Reaching.{AreAtHand};
 ghost use Rattle.ca_model.specs.Packets as packets;
 ghost use Rattle.ca_model.specs.machine.Delivery.{arrival_drops, packet_arrived};
 ghost use Rattle.ca_model.specs.machine.Expected.{invalidation_of};
@@ -12,7 +11,7 @@ ghost use Rattle.ca_model.specs.machine.Invariants.{IsQueue, IsReceive, IsShared
 ghost use Rattle.ca_model.specs.machine.Respond.{respond_row};
 ghost use Rattle.ca_operations.specs.Sends.{key_end};
 ghost use Rattle.ca_operations.specs.Taking.{CanMeet, MayEnd};
-ghost use Rattle.ca_model.specs.machine.CanStep.{AreNarrow, CanStep};
+ghost use Rattle.ca_model.specs.machine.CanStep.{AreNarrow};
 ghost use Rattle.ca_bed_reach.specs.SmallReach as small;
 ghost use Rattle.ca_bed_requester.specs.Bed as beds;
 ghost use Rattle.ca_bed_responder.specs.Responder as responders;

@@ -21,7 +21,7 @@ use Rattle.ca_model.specs.declared.mark.Mark.{Mark}
 use Rattle.ca_model.specs.declared.mark.Mark.TheVariants as marks
 use Rattle.ca_model.specs.declared.marks.TheConstants.{SPARE_MARKS}
 use Rattle.ca_model.specs.declared.receiving.Receiving.{Receiving}
-use Rattle.ca_model.specs.machine.Arrivals.{has_shared, with_answer, with_flag, with_message}
+use Rattle.ca_model.specs.machine.Arrivals.{has_shared, with_flag, with_message}
 use Rattle.ca_model.specs.machine.Completions.{flush_marks, receive_failure}
 use Rattle.ca_model.specs.machine.Expected.{after_send_packet, behind_marks, receive_asks, send_row, with_window_gone}
 use Rattle.ca_model.specs.machine.Responses.{local_writes, writes_by}

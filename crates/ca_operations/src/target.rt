@@ -1,5 +1,4 @@
 ghost use Rattle.std.specs.Prelude.{◌≡◌, ◌≤◌, length};
-ghost use Rattle.std.specs.Option.{option_map};
 ghost use Rattle.ca_base.specs.declared.limits.TheConstants.{MAX_PAYLOAD_BYTES};
 ghost use Rattle.ca_model.specs.machine.Arrivals as arrivals;
 ghost use Rattle.ca_model.specs.machine.Expected as rows;

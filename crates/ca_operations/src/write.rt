@@ -1,6 +1,5 @@
 ghost use Rattle.std.specs.Prelude.{◌≡◌, ◌+◌, ◌<◌, ◌≤◌, ◌==◌, if◌then◌else◌, [], ◌∷◌, false, length};
 ghost use Rattle.ca_base.specs.Sight as sights;
-ghost use Rattle.ca_keys.specs.declared.access.Kind.{Kind};
 ghost use Rattle.ca_packet.specs.declared.shape.Shape.{Shape};
 ghost use Rattle.ca_grant.specs.Reaching.{AreAtHand, IsPacketAsk};
 ghost use Rattle.ca_wire.specs.declared.syndrome.NakCode.{NakCode};

@@ -22,7 +22,7 @@ use arrayvec::ArrayVec;
 use ca_base::limits::{ATOMIC_BYTES, MAX_PIECES};
 use ca_base::{Ask, Bytes, DeniedAsk, Kind, Memory, RequesterNumbers, WcStatus};
 use ca_grant::Reach;
-use ca_model::{Drop1, Marks, SPARE_MARKS};
+use ca_model::{Marks, SPARE_MARKS};
 use ca_qpstate::QueuePart;
 use ca_rows::{
     Asker, cut_writes, drop_packet, first_denied, list_asks, list_of, local_denial, write_all,

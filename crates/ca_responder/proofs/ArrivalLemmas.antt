@@ -1,6 +1,6 @@
 -- A request that was taken, as its row comes out: a READ, which is queued, and one that takes a receive.
 use Rattle.std.proofs.Common.{◌≡◌, refl, ap, sym, ◌∙◌, ℕ, List, [], Bool, true, false, if◌then◌else◌, IfOk, Option, None, Some, Result, Ok, Err}
-use Rattle.std.specs.Option.{option_map, option_map_or}
+use Rattle.std.specs.Option.{option_map}
 use Rattle.ca_keys.specs.declared.access.Ask.{Ask}
 use Rattle.ca_keys.specs.declared.memory.Memory.{Memory}
 use Rattle.ca_base.specs.Sight.{Invalidation, Sight}

@@ -1,5 +1,5 @@
 -- The row of a packet by the receive that it takes, and of one that takes none.
-use Rattle.std.proofs.Common.{◌≡◌, ℕ, ◌≤◌, ◌==◌, Bool, true, false, true≢false, if◌then◌else◌, ◌&&◌, is_none, refl, sym, ap, arith, ◌∙◌, [], ◌∷◌, length, Option, None, Some, is_some}
+use Rattle.std.proofs.Common.{◌≡◌, ℕ, ◌==◌, Bool, true, false, true≢false, if◌then◌else◌, ◌&&◌, is_none, refl, sym, ap, arith, ◌∙◌, [], ◌∷◌, length, Option, None, Some, is_some}
 use Rattle.ca_keys.specs.declared.access.Ask.{Ask}
 use Rattle.ca_keys.specs.declared.access.Kind.TheVariants as kinds
 use Rattle.ca_base.specs.declared.queue_numbers.Message.{Message}

@@ -1,5 +1,4 @@
-ghost use Rattle.std.specs.Prelude.{◌≡◌, ◌+◌, ◌≤◌, ◌<◌, ◌++◌, length, OnOk};
-ghost use Rattle.ca_base.specs.declared.limits.TheConstants.{MAX_DEPTH};
+ghost use Rattle.std.specs.Prelude.{◌≡◌, ◌+◌, ◌≤◌, ◌<◌, ◌++◌, OnOk};
 ghost use Rattle.ca_model.specs.declared.marks.TheConstants.{SPARE_MARKS};
 ghost use Rattle.ca_model.specs.machine.Acknowledgements as acknowledgements;
 ghost use Rattle.ca_model.specs.machine.Acknowledgements.{failure_effects};

@@ -4,8 +4,6 @@ use Rattle.ca_base.specs.objects.Answers.{with_ack_at_end}
 use Rattle.ca_packet.specs.Packet.{Fields}
 use Rattle.ca_model.specs.machine.Invariants.{IsAnswer}
 use Rattle.std.proofs.Common.{◌≡◌, [], ◌∷◌, ◌++◌, arith, ap, sym, subst, ◌∙◌, if◌then◌else◌, List, false, None, Some}
-use Rattle.ca_keys.specs.declared.key.Key.{Key}
-use Rattle.ca_base.specs.Sight.{Invalidation}
 use Rattle.ca_base.specs.objects.QueuePair.{QueuePair}
 use Rattle.ca_model.specs.declared.mark.Mark.{Mark}
 use Rattle.ca_base.specs.declared.completion.WcStatus.TheVariants.{MemoryManagement}
@@ -17,7 +15,6 @@ use Rattle.ca_model.specs.machine.Expected.{receive_asks, send_row}
 use Rattle.ca_model.specs.machine.Responses.{local_writes, writes_by}
 use Rattle.ca_qpstate.specs.Seen.{queue_seen}
 use Rattle.ca_operations.specs.Sends.{key_end, outcome_of_send}
-use Rattle.ca_operations.specs.StandIn.{with_stand_in}
 use Rattle.ca_operations.specs.Taking.{HasTaken, is_taken, outcome_in}
 use Rattle.ca_operations.proofs.EndLemmas.{ended-taken, refused-taken}
 use Rattle.ca_operations.proofs.SendLemmas.{marks-count}

@@ -5,7 +5,7 @@ use Rattle.ca_model.specs.machine.Arrivals.{with_flag}
 use Rattle.ca_model.specs.machine.Expected.{after_send_packet}
 use Rattle.ca_model.specs.machine.Responses.{local_writes}
 use Rattle.ca_model.specs.machine.Row.{Effects}
-use Rattle.ca_answering.specs.Numbers.{CanPass, with_ack_if_asked, without_ack_request, without_taken_receive}
+use Rattle.ca_answering.specs.Numbers.{CanPass, without_ack_request, without_taken_receive}
 use Rattle.ca_operations.specs.Sends.{IsFitting, outcome_of_send}
 use Rattle.ca_operations.proofs.OutcomeLemmas.{taken-as}
 use Rattle.ca_operations.proofs.SendLemmas.{acknowledged-send, marks-count, placed, sent}

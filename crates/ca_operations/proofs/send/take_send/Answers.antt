@@ -1,4 +1,4 @@
-use Rattle.std.proofs.Common.{◌≡◌, sym, subst, ◌∙◌}
+use Rattle.std.proofs.Common.{sym, subst, ◌∙◌}
 use Rattle.ca_model.specs.machine.Row.{Row}
 use Rattle.ca_operations.specs.Sends.{outcome_of_send}
 use Rattle.ca_operations.specs.Taking.{IsTaken, outcome_in}

@@ -1,4 +1,4 @@
-use Rattle.std.proofs.Common.{◌≡◌, ℕ, rules, arith, ap, subst, sym, ◌∙◌, false, option_copied, Some}
+use Rattle.std.proofs.Common.{◌≡◌, rules, arith, ap, subst, sym, ◌∙◌, false, option_copied, Some}
 use Rattle.std.proofs.lemmas.Grind.{common_steps}
 use Rattle.ca_model.specs.machine.Arrivals.{with_flag}
 use Rattle.ca_model.specs.machine.Expected.{valid_row}
