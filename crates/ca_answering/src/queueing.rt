@@ -56,7 +56,9 @@ pub fn pass(q: &mut QueuePart, count: u64, at_end: bool)
 }
 
 /// Refuses the packet: a NAK at the expected PSN, behind these marks all that is posted is flushed, and the queue pair
-/// moves to Error. It keeps its response queue.
+/// moves to Error. It keeps its response queue. It stands apart, since that is rare.
+#[cold]
+#[inline(never)]
 pub fn refuse(
     q: &mut QueuePart,
     code: NakCode,

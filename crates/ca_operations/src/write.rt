@@ -41,17 +41,17 @@ pub fn take_write<R: Reach>(
     reach: &mut R,
     request: &Request<'_>,
     position: Position,
-    next: Option<PlacedReceive>,
+    next: &Option<PlacedReceive>,
     marks: &mut Marks,
 ) -> Result<SharedReceive, Memory>
     requires step { CanStep q.old }
-    requires request { IsValidRequest q.old request.now next }
+    requires request { IsValidRequest q.old request.now next.now }
     requires shape { request.now.shape ≡ Shape.Write position }
     requires at_hand { CanMeet R.sight R.judges R.touches R.ends reach.old q.old
-        (rows.valid_row (arrivals.with_flag false q.old) request.now.packet.now request.now.envelope next
+        (rows.valid_row (arrivals.with_flag false q.old) request.now.packet.now request.now.envelope next.now
         request.now.shape) }
     ensures taken { IsTaken R.written R.revoked result (outcome_in (R.sight reach.old)
-        (rows.valid_row (arrivals.with_flag false q.old) request.now.packet.now request.now.envelope next
+        (rows.valid_row (arrivals.with_flag false q.old) request.now.packet.now request.now.envelope next.now
         request.now.shape))
         q.old q.new marks.old marks.new reach.old reach.new }
 {
@@ -71,7 +71,7 @@ pub fn take_write<R: Reach>(
         position,
         target,
     };
-    place_write(q, reach, &write, &ask, &next, marks)
+    place_write(q, reach, &write, &ask, next, marks)
 }
 
 /// Whether an access is denied: one of no bytes meets no key.
@@ -89,7 +89,9 @@ pub fn denied_access<R: Reach>(reach: &R, ask: &Ask) -> Option<DeniedAsk>
     }
 }
 
-/// Refuses a packet whose access is denied.
+/// Refuses a packet whose access is denied. It stands apart, since that is rare.
+#[cold]
+#[inline(never)]
 pub fn deny(
     q: &mut QueuePart,
     denied: &DeniedAsk,

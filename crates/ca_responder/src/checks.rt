@@ -1,4 +1,4 @@
-ghost use Rattle.std.specs.Prelude.{◌≡◌, ◌&&◌, IfOk, IfSome, nat_lt, false, is_none, option_copied};
+ghost use Rattle.std.specs.Prelude.{◌≡◌, ◌&&◌, IfSome, None, OnOk, nat_lt, false, is_none, option_copied};
 ghost use Rattle.std.specs.Option.{option_map_or};
 ghost use Rattle.ca_base.specs.declared.limits.TheConstants.{MAX_MESSAGE_BYTES};
 ghost use Rattle.ca_operations.specs.Receives.{IsNext, receive_if};
@@ -15,6 +15,7 @@ use ca_srq::Srq;
 use ca_wire::{Packet, Position, Shape};
 
 /// Whether the packet with the expected PSN is an invalid request: the checks in their order.
+#[inline(always)]
 pub fn is_invalid(q: &QueuePart, request: &Request<'_>) -> bool
     ensures { result ≡ rows.is_invalid q.now request.now.packet.now request.now.shape }
 {
@@ -121,6 +122,7 @@ fn is_misaligned(p: &Packet<'_>) -> bool
 }
 
 /// Whether a READ or an atomic comes where as many are queued as may be.
+#[inline(always)]
 fn exceeds_reads(q: &QueuePart, shape: Shape) -> bool
     ensures { result ≡ rows.has_no_place q.now shape }
 {
@@ -155,19 +157,37 @@ pub fn lacks_receive(q: &QueuePart, srq: Option<&Srq>, request: &Request<'_>) ->
     takes_receive(request) && next_receive(q, srq).is_none()
 }
 
-/// A copy of the receive that the packet takes, with its posting place; None where it takes none.
-pub fn taken_receive(
+/// Puts a copy of the receive that the packet takes, with its posting place, where it takes one.
+pub fn put_receive(
     q: &QueuePart,
     srq: Option<&Srq>,
     request: &Request<'_>,
-) -> Result<Option<PlacedReceive>, Memory>
+    next: &mut Option<PlacedReceive>,
+) -> Result<(), Memory>
     requires queue { IsQueue q.now }
     requires shared { IfSome (option_copied srq) IsSharedReceives }
-    ensures { IfOk result (IsNext q.now (receive_if (rows.takes_receive request.now.packet.now request.now.shape)
-        (arrivals.next_receive q.now (option_copied srq.entry)))) }
+    requires empty { next.old ≡ None }
+    ensures { OnOk result (IsNext q.now (receive_if (rows.takes_receive request.now.packet.now request.now.shape)
+        (arrivals.next_receive q.now (option_copied srq.entry))) next.new) }
 {
-    if takes_receive(request) {
-        return find_receive(q, srq);
+    if !takes_receive(request) {
+        return Ok(());
     }
-    Ok(None)
+    put_next(q, srq, next)
+}
+
+/// Puts a copy of the receive that a message would take. It stands apart, so that a packet that takes none has no room for
+/// one made.
+#[inline(never)]
+fn put_next(
+    q: &QueuePart,
+    srq: Option<&Srq>,
+    next: &mut Option<PlacedReceive>,
+) -> Result<(), Memory>
+    requires queue { IsQueue q.now }
+    requires shared { IfSome (option_copied srq) IsSharedReceives }
+    ensures { OnOk result (IsNext q.now (arrivals.next_receive q.now (option_copied srq.entry)) next.new) }
+{
+    *next = find_receive(q, srq)?;
+    Ok(())
 }

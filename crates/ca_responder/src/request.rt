@@ -1,15 +1,18 @@
-ghost use Rattle.std.specs.Prelude.{◌≡◌, if◌then◌else◌, IfSome, false, option_copied};
+ghost use Rattle.std.specs.Prelude.{◌≡◌, if◌then◌else◌, IfSome, None, false, option_copied};
 ghost use Rattle.std.specs.Option.{option_copied_mut};
 ghost use Rattle.ca_base.specs.Handed.{left_behind};
 ghost use Rattle.ca_base.specs.objects.SharedReceives.{after_receive_take};
 ghost use Rattle.ca_model.specs.Packets.{is_response};
+ghost use Rattle.ca_model.specs.machine.Arrivals as arrivals;
 ghost use Rattle.ca_model.specs.machine.Delivery.{packet_arrived};
+ghost use Rattle.ca_model.specs.machine.Expected as rows;
 ghost use Rattle.ca_model.specs.machine.Invariants.{IsSharedReceives};
 ghost use Rattle.ca_operations.specs.Taking.{CanMeet, IsArrival, IsTaken, is_taken, outcome_in};
 ghost use Rattle.ca_model.specs.machine.CanStep.{CanStep};
 ghost use Rattle.ca_packet.specs.Packet.{IsWellFormed};
+ghost use Rattle.ca_rows.specs.Made.{IsMade};
 
-use crate::checks::{is_invalid, lacks_receive, taken_receive};
+use crate::checks::{is_invalid, lacks_receive, put_receive};
 use crate::duplicates::{take_ahead, take_duplicate};
 use ca_answering::{queue_answer, refuse_invalid};
 use ca_base::{Memory, Queued};
@@ -119,15 +122,25 @@ fn take_request<R: Reach>(
         return Ok(SharedReceive::Stays);
     }
     if lacks_receive(q, srq, &request) {
-        let psn = q.responder.expected;
-        queue_answer(q, Queued::Rnr { psn }, true, marks)?;
+        queue_rnr(q, marks)?;
         return Ok(SharedReceive::Stays);
     }
-    let next = taken_receive(q, srq, &request)?;
+    let mut next = None;
+    put_receive(q, srq, &request, &mut next)?;
     match shape {
         Shape::Send(position) => take_send(q, reach, &request, position, next, marks),
-        Shape::Write(position) => take_write(q, reach, &request, position, next, marks),
+        Shape::Write(position) => take_write(q, reach, &request, position, &next, marks),
         Shape::Read => take_read(q, &request, marks),
         Shape::Atomic(kind) => take_atomic(q, reach, &request, kind, marks),
     }
+}
+
+/// Queues an RNR NAK, since no receive waits for the packet. It stands apart, since that is rare.
+#[cold]
+#[inline(never)]
+fn queue_rnr(q: &mut QueuePart, marks: &mut Marks) -> Result<(), Memory>
+    ensures { IsMade result (rows.rnr_effects (arrivals.with_flag false q.old)) q.old q.new marks.old marks.new }
+{
+    let psn = q.responder.expected;
+    queue_answer(q, Queued::Rnr { psn }, true, marks)
 }

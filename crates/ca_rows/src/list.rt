@@ -56,12 +56,12 @@ pub fn fill_asks(
     ensures value { asks.new.items ≡ numbering.list_asks asker.queue asker.domain asker.kind skip count list.now }
     ensures asks { AreAsksFor asker.kind count asks.new.items }
 {
-    push_asks(asker, skip, count, list, asks);
+    push_asks(&asker, skip, count, list, asks);
 }
 
 /// Adds these asks to a list that has room for them.
 fn push_asks(
-    asker: Asker,
+    asker: &Asker,
     skip: u32,
     count: u32,
     list: &[Piece],
@@ -69,7 +69,7 @@ fn push_asks(
 )
     requires few { length asks.old.items + length list.now ≤ MAX_PIECES }
     ensures { asks.new.items
-        ≡ asks.old.items ++ numbering.list_asks asker.queue asker.domain asker.kind skip count list.now }
+        ≡ asks.old.items ++ numbering.list_asks asker.now.queue asker.now.domain asker.now.kind skip count list.now }
 {
     let [piece, rest @ ..] = list else {
         return;
@@ -87,8 +87,8 @@ fn push_asks(
 }
 
 /// The ask for a part of a piece, by its L_Key: so many bytes, without so many at its front. Addresses count modulo 2^64.
-fn piece_ask(asker: Asker, piece: &Piece, skip: u32, count: u32) -> Ask
-    ensures { result ≡ numbering.piece_ask asker.queue asker.domain asker.kind
+fn piece_ask(asker: &Asker, piece: &Piece, skip: u32, count: u32) -> Ask
+    ensures { result ≡ numbering.piece_ask asker.now.queue asker.now.domain asker.now.kind
         (numbering.piece_part piece.now skip count) }
 {
     Ask {

@@ -85,8 +85,7 @@ pub fn segments(mtu: u16, count: u32) -> u64
     ensures few { count ≤ MAX_MESSAGE_BYTES → result ≤ MAX_MESSAGE_BYTES }
     ensures narrow { result < 2 ^ 32 }
 {
-    let mtu = u64::from(mtu);
-    ((u64::from(count) + mtu - 1) / mtu).max(1)
+    u64::from(count.max(1) - 1) / u64::from(mtu) + 1
 }
 
 /// How many PSNs a request takes at a path MTU: one a packet, of a READ one a response, and none for a local operation.

@@ -17,16 +17,16 @@ take_send-requires-clause-at_hand g c =
     let is : shape_of c.args.p.now.opcode ≡ Some c.in-Some.shape = search rules in
     let same : widened c.args.q.now.responder.expected c.args.p.now.psn ≡ c.args.q.now.responder.expected = grind (arith, common_steps) in
     subst (λ (row : Row). CanMeet g.R.Reach.sight g.R.Reach.judges g.R.Reach.touches g.R.Reach.ends c.args.reach.now c.args.q.now row)
-    (sym (arrived_by c.args.q.now (option_copied c.args.srq) c.args.p.now c.args.envelope c.in-Some.shape c.in_ok-next.next c.requires.request is same
-    (sym c.is_invalid.ensures ∙ c.if-is_invalid.false) (sym c.lacks_receive.ensures ∙ c.if-lacks_receive.false) c.in_ok-next.ensures.value)) c.requires.at_hand
+    (sym (arrived_by c.args.q.now (option_copied c.args.srq) c.args.p.now c.args.envelope c.in-Some.shape c.put_receive.new.next c.requires.request is same
+    (sym c.is_invalid.ensures ∙ c.if-is_invalid.false) (sym c.lacks_receive.ensures ∙ c.if-lacks_receive.false) c.in_ok-put_receive.ensures.value)) c.requires.at_hand
 
 pub take_write-requires-clause-at_hand : goal.take_write-requires-clause-at_hand
 take_write-requires-clause-at_hand g c =
     let is : shape_of c.args.p.now.opcode ≡ Some c.in-Some.shape = search rules in
     let same : widened c.args.q.now.responder.expected c.args.p.now.psn ≡ c.args.q.now.responder.expected = grind (arith, common_steps) in
     subst (λ (row : Row). CanMeet g.R.Reach.sight g.R.Reach.judges g.R.Reach.touches g.R.Reach.ends c.args.reach.now c.args.q.now row)
-    (sym (arrived_by c.args.q.now (option_copied c.args.srq) c.args.p.now c.args.envelope c.in-Some.shape c.in_ok-next.next c.requires.request is same
-    (sym c.is_invalid.ensures ∙ c.if-is_invalid.false) (sym c.lacks_receive.ensures ∙ c.if-lacks_receive.false) c.in_ok-next.ensures.value)) c.requires.at_hand
+    (sym (arrived_by c.args.q.now (option_copied c.args.srq) c.args.p.now c.args.envelope c.in-Some.shape c.put_receive.new.next c.requires.request is same
+    (sym c.is_invalid.ensures ∙ c.if-is_invalid.false) (sym c.lacks_receive.ensures ∙ c.if-lacks_receive.false) c.in_ok-put_receive.ensures.value)) c.requires.at_hand
 
 pub returns-in-Write : goal.returns-in-Write
 returns-in-Write g c =
@@ -34,8 +34,8 @@ returns-in-Write g c =
     let same : widened c.args.q.now.responder.expected c.args.p.now.psn ≡ c.args.q.now.responder.expected = grind (arith, common_steps) in
     subst (λ (row : Row). IsTaken g.R.Reach.written g.R.Reach.revoked c.take_write.result (outcome_in (g.R.Reach.sight c.args.reach.now) row)
     c.args.q.now c.take_write.new.q c.args.marks.now c.take_write.new.marks c.args.reach.now c.take_write.new.reach)
-    (arrived_by c.args.q.now (option_copied c.args.srq) c.args.p.now c.args.envelope c.in-Some.shape c.in_ok-next.next c.requires.request is same
-    (sym c.is_invalid.ensures ∙ c.if-is_invalid.false) (sym c.lacks_receive.ensures ∙ c.if-lacks_receive.false) c.in_ok-next.ensures.value) c.take_write.ensures.taken
+    (arrived_by c.args.q.now (option_copied c.args.srq) c.args.p.now c.args.envelope c.in-Some.shape c.put_receive.new.next c.requires.request is same
+    (sym c.is_invalid.ensures ∙ c.if-is_invalid.false) (sym c.lacks_receive.ensures ∙ c.if-lacks_receive.false) c.in_ok-put_receive.ensures.value) c.take_write.ensures.taken
 
 pub returns-in-Read : goal.returns-in-Read
 returns-in-Read g c =
@@ -46,8 +46,8 @@ returns-in-Read g c =
     let queued : Row = plain_row (Does (read_effects q p c.args.envelope)) in
     subst (λ (row : Row). IsTaken g.R.Reach.written g.R.Reach.revoked c.take_read.result (outcome_in (g.R.Reach.sight c.args.reach.now) row)
     c.args.q.now c.take_read.new.q c.args.marks.now c.take_read.new.marks c.args.reach.now c.args.reach.now)
-    (queued_row q p c.args.envelope c.in_ok-next.next ∙ ap (λ (shape : Shape). valid_row q p c.args.envelope c.in_ok-next.next shape) (sym c.in-Read.is)
-    ∙ arrived_by c.args.q.now (option_copied c.args.srq) p c.args.envelope c.in-Some.shape c.in_ok-next.next c.requires.request is same
-    (sym c.is_invalid.ensures ∙ c.if-is_invalid.false) (sym c.lacks_receive.ensures ∙ c.if-lacks_receive.false) c.in_ok-next.ensures.value)
+    (queued_row q p c.args.envelope c.put_receive.new.next ∙ ap (λ (shape : Shape). valid_row q p c.args.envelope c.put_receive.new.next shape) (sym c.in-Read.is)
+    ∙ arrived_by c.args.q.now (option_copied c.args.srq) p c.args.envelope c.in-Some.shape c.put_receive.new.next c.requires.request is same
+    (sym c.is_invalid.ensures ∙ c.if-is_invalid.false) (sym c.lacks_receive.ensures ∙ c.if-lacks_receive.false) c.in_ok-put_receive.ensures.value)
     (taken_plain g.R.Reach.written g.R.Reach.revoked (g.R.Reach.sight c.args.reach.now) c.take_read.result (read_effects q p c.args.envelope)
     c.args.q.now c.take_read.new.q c.args.marks.now c.take_read.new.marks c.args.reach.now (plain_queued q p c.args.envelope) c.take_read.ensures.stays c.take_read.ensures.made)
