@@ -40,8 +40,8 @@ pub fn push_flush(
     }
     push_flushed_sends(q.queue, &q.sends, oldest, q.sends.next_place(), made)?;
     if let Some(own) = &q.receives {
-        let place = first_flushed(own, receives);
-        push_flushed_receives(q.queue, own, place, own.next_place(), made)?;
+        let posting = first_flushed(own, receives);
+        push_flushed_receives(q.queue, own, posting, own.next_place(), made)?;
     }
     Ok(())
 }

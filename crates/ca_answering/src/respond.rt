@@ -16,7 +16,7 @@ use crate::read_left::{is_last_response, response_ask, response_segment, rest_of
 use crate::remote::remote_mark;
 use ca_base::{Ask, Bytes, Denial, Memory, Queued, Sent, StepError, Verdict};
 use ca_grant::Reach;
-use ca_model::{Marks, ReadLeft};
+use ca_model::{Marks, ReadLeft, SPARE_MARKS};
 use ca_qpstate::QueuePart;
 use ca_rows::{peer_number, psn_bits, reserve_for, spell_packet};
 use ca_wire::{NakCode, Packet, acknowledgement, atomic_acknowledge, nak, read_response, rnr_nak};
@@ -179,7 +179,7 @@ fn send_front(
     ensures { IsSent result (rows.with_packet packet.now (queue_and_marks (rows.without_front q.old) []))
         q.old q.new marks.old marks.new out.old.items out.new.items }
 {
-    marks.reserve(2)?;
+    marks.reserve(SPARE_MARKS)?;
     spell_packet(packet, out)?;
     q.responder.answers.pop();
     Ok(())
@@ -241,7 +241,7 @@ fn send_bytes(
     let ask = response_ask(q, r);
     let segment = response_segment(r.first, is_last_response(q, r));
     let (peer, msn) = (peer_number(q), q.responder.msn);
-    marks.reserve(3)?;
+    marks.reserve(SPARE_MARKS + 1)?;
     spell_packet(
         &read_response(segment, peer, psn_bits(r.psn), msn, bytes.as_slice()),
         out,

@@ -24,7 +24,7 @@ use Rattle.ca_requester.specs.declared.responses.Answer.{Answer}
 use Rattle.ca_requester.specs.declared.responses.Response.TheVariants.{Answers}
 use Rattle.ca_requester.specs.declared.taking.Taken.{Taken}
 use Rattle.ca_rows.specs.Asks.{AreAsksFor, CanJudge, IsAskOf, IsGranted, asks_of}
-use Rattle.ca_rows.specs.Made.{AreAdded, HasMade, IsMade, IsMadeBy, IsTaking}
+use Rattle.ca_rows.specs.Made.{AreAdded, HasMade, IsMade, IsTaking}
 use Rattle.ca_sending.proofs.FinishedLemmas.{added_behind, few_finished}
 use Rattle.ca_sending.specs.Finished.{success_between}
 use Rattle.ca_sending.specs.Outcome.{effects_behind, failure_of}
@@ -134,6 +134,5 @@ taken_plain written (Ok done) ending e q after old new reach is none made = rw i
 taken_plain written (Err error) ending e q after old new reach is none made = (made, refl)
 
 pub taken_by : {S A E : Type 0} (written : S → Ask → List ℕ → S) (r : Result A E) (ending : Ending) (e : Effects) (q after : QueuePair) (old new : MarkList) (reach reached : S)
-    → ending ≡ Does e → IsMadeBy written r e q after old new reach reached → IsTaking written r ending q after old new reach reached
-taken_by written (Ok done) ending e q after old new reach reached is made = rw is made
-taken_by written (Err error) ending e q after old new reach reached is made = made
+    → ending ≡ Does e → IsTaking written r (Does e) q after old new reach reached → IsTaking written r ending q after old new reach reached
+taken_by written r ending e q after old new reach reached is made = rw is made

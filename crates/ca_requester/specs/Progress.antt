@@ -12,27 +12,27 @@ use Rattle.ca_requester.specs.declared.progress.Reached.{Reached}
 use Rattle.ca_sending.specs.Finished.{success_between}
 use Rattle.ca_sending.specs.Numbering.{AreNumbers, IsWithin, begun_from}
 
--- those of the requests from a place on that have begun and whose PSNs all lie below one
+-- those of the requests from a posting place on that have begun and whose PSNs all lie below one
 abbrev pub finished_from : ℕ → ℕ → ℕ → QueuePair → List Numbered
-finished_from place psn una q = take_while (λ n. nat_le (psn_end n) una) (begun_from place psn q)
+finished_from posting psn una q = take_while (λ n. nat_le (psn_end n) una) (begun_from posting psn q)
 
 -- their completions
 abbrev pub finished_marks_from : ℕ → ℕ → ℕ → QueuePair → List Mark
-finished_marks_from place psn una q = flat_map (λ n. success_marks q.queue n.place n.request) (finished_from place psn una q)
+finished_marks_from posting psn una q = flat_map (λ n. success_marks q.queue n.place n.request) (finished_from posting psn una q)
 
 -- `una` after all below a PSN is acknowledged, or after going back to one
 abbrev pub una_behind : ℕ → ℕ → Option ℕ → ℕ
 una_behind una psn None = max una psn
 una_behind una psn (Some back) = back
 
--- how far an acknowledgement of all below a PSN goes among the requests from a place on
-pub record IsReached (place first una psn : ℕ) (q : QueuePair) (r : Reached) : Type 0 where
-  pub back : r.back ≡ first_unanswered una psn (begun_from place first q)
+-- how far an acknowledgement of all below a PSN goes among the requests from a posting place on
+pub record IsReached (start first una psn : ℕ) (q : QueuePair) (r : Reached) : Type 0 where
+  pub back : r.back ≡ first_unanswered una psn (begun_from start first q)
   pub behind : IfSome r.back (λ back. (una ≤ back) × (first ≤ back))
-  pub posting : r.posting ≡ place + length (finished_from place first (una_behind una psn r.back) q)
-  pub at : r.first ≡ first + sum_by (λ n. n.count) (finished_from place first (una_behind una psn r.back) q)
+  pub posting : r.posting ≡ start + length (finished_from start first (una_behind una psn r.back) q)
+  pub at : r.first ≡ first + sum_by (λ n. n.count) (finished_from start first (una_behind una psn r.back) q)
   pub within : IsWithin r.posting r.first q
-  pub begun : place ≤ q.requester.next → r.posting ≤ q.requester.next
+  pub begun : start ≤ q.requester.next → r.posting ≤ q.requester.next
 
 -- `una` grows to a PSN, if it is above it; where it grew, retries are counted anew
 abbrev pub numbers_with_una : ℕ → RequesterNumbers → RequesterNumbers
@@ -40,7 +40,7 @@ numbers_with_una psn r = if nat_lt r.una psn then record r { una = psn; retries 
 
 -- the same, with the oldest unfinished request that was reached
 abbrev pub reached_numbers : ℕ → ℕ → ℕ → RequesterNumbers → RequesterNumbers
-reached_numbers psn place first r = record (numbers_with_una psn r) { oldest = place; oldest_psn = first }
+reached_numbers psn posting first r = record (numbers_with_una psn r) { oldest = posting; oldest_psn = first }
 
 -- the numbers of a queue pair behind an acknowledgement
 abbrev pub numbers_behind : Acknowledged → QueuePair → RequesterNumbers

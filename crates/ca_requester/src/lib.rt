@@ -1,5 +1,5 @@
-//! The requester of a queue pair: what it sends, how it takes answers, when it goes back, and when it gives up. It hands out
-//! the calls of `ca_sending` beside its own.
+//! The requester of a queue pair: what it sends, how it takes answers, when it goes back, and when it gives up. It
+//! hands out the calls of `ca_sending` beside its own.
 //!
 //! To the layers above it promises that each of its calls does what the machine's row says, with the queue pair, the
 //! marks and the bytes that it writes, or nothing for the first reason that stands against it; that it touches no byte by

@@ -9,8 +9,8 @@ use ca_qpstate::QueuePart;
 use ca_rows::is_answered;
 use ca_sending::{Numbered, begun_at};
 
-/// Where the oldest unfinished request stands after an acknowledgement: its posting place, and the first PSN that it has or would
-/// get; and the PSN to which the requester goes back, if it does.
+/// Where the oldest unfinished request stands after an acknowledgement: its posting place, and the first PSN that it
+/// has or would get; and the PSN to which the requester goes back, if it does.
 #[derive(Clone, Copy)]
 pub(crate) struct Reached {
     pub posting: u64,
@@ -18,8 +18,8 @@ pub(crate) struct Reached {
     pub back: Option<u64>,
 }
 
-/// How far an acknowledgement of all below a PSN goes among the requests from a posting place on that have begun: up to the
-/// first READ or atomic with a PSN from `una` on and below it, or up to the first that does not end below it.
+/// How far an acknowledgement of all below a PSN goes among the requests from a posting place on that have begun: up to
+/// the first READ or atomic with a PSN from `una` on and below it, or up to the first that does not end below it.
 #[inline(always)]
 fn reached_by(q: &QueuePart, posting: u64, first: u64, una: u64, psn: u64) -> Reached
     requires { IsWithin posting first q.now }

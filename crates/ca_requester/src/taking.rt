@@ -6,12 +6,12 @@ ghost use Rattle.ca_model.specs.Packets.{is_response};
 ghost use Rattle.ca_model.specs.machine.Acknowledgements.{acknowledgement_below, progress_to};
 ghost use Rattle.ca_model.specs.machine.CanStep.{CanStep};
 ghost use Rattle.ca_model.specs.machine.Responses as rows;
-ghost use Rattle.ca_model.specs.machine.Row.{ending_of};
+ghost use Rattle.ca_model.specs.machine.Row.{Does, ending_of};
 ghost use Rattle.ca_packet.specs.Packet.{IsWellFormed};
 ghost use Rattle.ca_requester.specs.Progress.{IsProgress, acknowledgement_of, numbers_behind};
 ghost use Rattle.ca_requester.specs.Responses.{CanWriteBy, IsAnswer, IsTakenAnswer, answer_effects, denied_effects};
 ghost use Rattle.ca_rows.specs.Asks.{AreAsksFor, AreWritesFor};
-ghost use Rattle.ca_rows.specs.Made.{IsMade, IsMadeBy, IsTaking};
+ghost use Rattle.ca_rows.specs.Made.{IsMade, IsTaking};
 ghost use Rattle.ca_sending.specs.Numbering.{IsRequestOf};
 
 use crate::progress::{Acknowledged, acknowledged_below, numbers_after, numbers_past};
@@ -116,8 +116,9 @@ fn cut_answer(alloc: Global, p: &Packet<'_>, asks: &[Ask]) -> Result<Vec<(Ask, B
     cut_writes(alloc, asks, p.payload)
 }
 
-/// Takes a response that arrived: what it acknowledges completes, an answer's bytes go to the list of their request, and
-/// what was refused is sent again or fails. After Ok there is room for two more marks, and `Memory` changes nothing.
+/// Takes a response that arrived: what it acknowledges completes, an answer's bytes go to the list of their request,
+/// and what was refused is sent again or fails. After Ok there is room for two more marks, and `Memory` changes
+/// nothing.
 ///
 /// The packet is well formed, with a response's opcode. The parts of the keys of `response_asks` are at hand, and where
 /// none of them is denied, the bytes too.
@@ -284,7 +285,7 @@ fn place<R: Reach>(
     requires at_hand { CanWriteBy R.sight R.judges R.touches reach.old asks.now }
     requires asks { AreAsksFor Kind.Write (length (rows.answer_bytes p.now)) asks.now }
     requires few { length asks.now ≤ MAX_PIECES }
-    ensures { IsMadeBy R.written result (answer_effects taken p.now asks.now q.old)
+    ensures { IsTaking R.written result (Does (answer_effects taken p.now asks.now q.old))
         q.old q.new marks.old marks.new reach.old reach.new }
 {
     let writes = cut_answer(q.alloc(), p, asks)?;

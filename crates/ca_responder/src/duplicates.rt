@@ -8,7 +8,7 @@ ghost use Rattle.ca_rows.specs.Made.{IsMade};
 use ca_answering::queue_answer;
 use ca_base::limits::MAX_DUPLICATES;
 use ca_base::{Answers, Memory, Queued};
-use ca_model::{Drop1, Marks};
+use ca_model::{Drop1, Marks, SPARE_MARKS};
 use ca_operations::Request;
 use ca_qpstate::QueuePart;
 use ca_rows::{drop_packet, segments};
@@ -118,7 +118,7 @@ fn answer_again(
     requires { 0 < psn }
     ensures { IsMade result (rows.answer_again psn answer q.old) q.old q.new marks.old marks.new }
 {
-    marks.reserve(2)?;
+    marks.reserve(SPARE_MARKS)?;
     let sent = keeps_flag(q, psn);
     replace_from(&mut q.responder.answers, psn, answer)?;
     q.responder.nak_sent = sent;

@@ -23,7 +23,8 @@ pub record IsUnchanged (queue_before queue_after : QueuePair) (before after : Ma
   pub queue : queue_after ≡ queue_before
   pub marks : after.marks ≡ before.marks
 
--- these effects were made: the new queue pair, and their marks behind those that there were; and the spare room is there
+-- these effects were made: the new queue pair, and their marks behind those that there were; and the spare room is
+-- there
 pub record HasMade (e : Effects) (queue_after : QueuePair) (before after : MarkList) : Type 0 where
   pub queue : queue_after ≡ e.queue
   pub marks : after.marks ≡ before.marks ++ e.marks
@@ -38,13 +39,6 @@ IsMade (Err error) e queue_before queue_after before after = IsUnchanged queue_b
 abbrev pub written_all : {S : Type 0} → (S → Ask → List ℕ → S) → S → List (Ask × List ℕ) → S
 written_all f s [] = s
 written_all f s (x ∷ xs) = written_all f (f s x.0 x.1) xs
-
--- a call made these effects, with what they write, or nothing
-abbrev pub IsMadeBy : {S A E : Type 0} → (S → Ask → List ℕ → S) → Result A E → Effects → QueuePair → QueuePair → MarkList → MarkList → S → S → Type 0
-IsMadeBy written (Ok done) e queue_before queue_after before after reach_before reach_after =
-    HasMade e queue_after before after × (reach_after ≡ written_all written reach_before e.writes)
-IsMadeBy written (Err error) e queue_before queue_after before after reach_before reach_after =
-    IsUnchanged queue_before queue_after before after × (reach_after ≡ reach_before)
 
 -- the row's effects were made, and what they write
 abbrev pub HasEnded : {S : Type 0} → (S → Ask → List ℕ → S) → Ending → QueuePair → MarkList → MarkList → S → S → Type 0

@@ -2,7 +2,7 @@
 use Rattle.ca_model.specs.machine.Numbering as numbering
 use Rattle.ca_sending.specs.declared.numbering.Numbered.TheInside.{Inside}
 
--- the posted request with its place and its PSNs
+-- the posted request with its posting place and its PSNs
 abbrev pub numbered_seen : Inside → numbering.Numbered
 numbered_seen n = record {
   place = n.place;

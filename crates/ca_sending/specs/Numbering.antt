@@ -1,4 +1,4 @@
--- The posted requests from a place on, as the machine numbers them. Contracts cite it.
+-- The posted requests from a posting place on, as the machine numbers them. Contracts cite it.
 use Rattle.std.specs.Prelude.{◌≡◌, ℕ, ◌+◌, ◌-◌, ◌*◌, ◌^◌, ◌≤◌, ◌<◌, suc, true, false, List, ◌∷◌, find, length, slice_get, sum_by, take, None, Some}
 use Rattle.ca_base.specs.declared.limits.TheConstants.{MAX_MESSAGE_BYTES}
 use Rattle.ca_base.specs.declared.queue_numbers.RequesterNumbers.{RequesterNumbers}
@@ -12,22 +12,22 @@ use Rattle.ca_model.specs.machine.Numbering.{Numbered, has_psn}
 use Rattle.ca_model.specs.machine.Requester.{begins, next_request}
 use Rattle.ca_sending.specs.declared.numbering.Next.{Next}
 
--- the requests from a place on, of which the first has or would get the PSNs from one on
+-- the requests from a posting place on, of which the first has or would get the PSNs from one on
 abbrev pub numbers_from : ℕ → ℕ → QueuePair → List Numbered
-numbers_from place psn q = numbering.numbers_of q.responder.mtu place psn (items_from place q.sends)
+numbers_from posting psn q = numbering.numbers_of q.responder.mtu posting psn (items_from posting q.sends)
 
 -- those of them that have begun
 abbrev pub begun_from : ℕ → ℕ → QueuePair → List Numbered
-begun_from place psn q = take (q.requester.next - place) (numbers_from place psn q)
+begun_from posting psn q = take (q.requester.next - posting) (numbers_from posting psn q)
 
--- a place of a queue pair that is not freed, from which on the PSNs are far below the end of their type
-pub record IsWithin (place psn : ℕ) (q : QueuePair) : Type 0 where
+-- a posting place of a queue pair that is not freed, from which on the PSNs are far below the end of their type
+pub record IsWithin (posting psn : ℕ) (q : QueuePair) : Type 0 where
   pub queue : IsQueue q
-  pub posted : q.sends.first ≤ place
-  pub narrow : psn + MAX_MESSAGE_BYTES * length (items_from place q.sends) < 2 ^ 63
+  pub posted : q.sends.first ≤ posting
+  pub narrow : psn + MAX_MESSAGE_BYTES * length (items_from posting q.sends) < 2 ^ 63
 
--- a posted request of a queue pair: its list is short, its PSNs lie far below the end of their type, and there is a place
--- behind it
+-- a posted request of a queue pair: its list is short, its PSNs lie far below the end of their type, and there is a
+-- posting place behind it
 pub record IsSound (q : QueuePair) (n : Numbered) : Type 0 where
   pub queue : IsQueue q
   pub list : IsList (list_of n.request.op)
@@ -35,21 +35,21 @@ pub record IsSound (q : QueuePair) (n : Numbered) : Type 0 where
   pub narrow : n.first + n.count < 2 ^ 63
   pub room : n.place + 1 < 2 ^ 64
 
--- the request at a place, with those behind it
-pub record IsNumbered (place psn : ℕ) (q : QueuePair) (n : Numbered) : Type 0 where
+-- the request at a posting place, with those behind it
+pub record IsNumbered (posting psn : ℕ) (q : QueuePair) (n : Numbered) : Type 0 where
   pub sound : IsSound q n
-  pub before : numbers_from place psn q ≡ n ∷ numbers_from (suc place) (psn + n.count) q
+  pub before : numbers_from posting psn q ≡ n ∷ numbers_from (suc posting) (psn + n.count) q
   pub first : n.first ≡ psn
-  pub room : place + 1 < 2 ^ 64
-  pub within : IsWithin (suc place) (psn + n.count) q
+  pub room : posting + 1 < 2 ^ 64
+  pub within : IsWithin (suc posting) (psn + n.count) q
 
 -- a posted request that has this PSN
 pub record IsRequestOf (psn : ℕ) (q : QueuePair) (n : Numbered) : Type 0 where
   pub sound : IsSound q n
   pub has : has_psn psn n ≡ true
 
--- Numbers that a queue pair may go on with: the oldest request is none that was finished before, and has begun or begins
--- next; retries are few.
+-- Numbers that a queue pair may go on with: the oldest request is none that was finished before, and has begun or
+-- begins next; retries are few.
 pub record AreNumbers (q : QueuePair) (numbers : RequesterNumbers) : Type 0 where
   pub within : IsWithin numbers.oldest numbers.oldest_psn q
   pub next : numbers.next ≡ q.requester.next
@@ -58,25 +58,25 @@ pub record AreNumbers (q : QueuePair) (numbers : RequesterNumbers) : Type 0 wher
   pub retries : numbers.retries < 255
   pub rnrs : numbers.rnrs < 2 ^ 62
 
--- of the requests from a place on, the next thing is of this one: it goes on
-pub record GoesOnFrom (place psn : ℕ) (q : QueuePair) (n : Numbered) : Type 0 where
+-- of the requests from a posting place on, the next thing is of this one: it goes on
+pub record GoesOnFrom (posting psn : ℕ) (q : QueuePair) (n : Numbered) : Type 0 where
   pub sound : IsSound q n
-  pub request : find (has_psn q.requester.cursor) (begun_from place psn q) ≡ Some n
+  pub request : find (has_psn q.requester.cursor) (begun_from posting psn q) ≡ Some n
   pub behind : n.first ≤ q.requester.cursor
   pub before : q.requester.cursor < n.first + n.count
 
--- of the requests from a place on, the next thing is of this one: it begins with it, and none goes on
-pub record BeginsFrom (place psn : ℕ) (q : QueuePair) (n : Numbered) : Type 0 where
+-- of the requests from a posting place on, the next thing is of this one: it begins with it, and none goes on
+pub record BeginsFrom (posting psn : ℕ) (q : QueuePair) (n : Numbered) : Type 0 where
   pub sound : IsSound q n
-  pub none : find (has_psn q.requester.cursor) (begun_from place psn q) ≡ None
-  pub request : slice_get (numbers_from place psn q) (q.requester.next - place) ≡ Some n
-  pub first : n.first ≡ psn + sum_by (λ m. m.count) (begun_from place psn q)
+  pub none : find (has_psn q.requester.cursor) (begun_from posting psn q) ≡ None
+  pub request : slice_get (numbers_from posting psn q) (q.requester.next - posting) ≡ Some n
+  pub first : n.first ≡ psn + sum_by (λ m. m.count) (begun_from posting psn q)
   pub room : q.requester.next + 1 < 2 ^ 64
 
--- of the requests from a place on, none goes on and none begins
-pub record IsNoneFrom (place psn : ℕ) (q : QueuePair) : Type 0 where
-  pub goes_on : find (has_psn q.requester.cursor) (begun_from place psn q) ≡ None
-  pub begins : slice_get (numbers_from place psn q) (q.requester.next - place) ≡ None
+-- of the requests from a posting place on, none goes on and none begins
+pub record IsNoneFrom (posting psn : ℕ) (q : QueuePair) : Type 0 where
+  pub goes_on : find (has_psn q.requester.cursor) (begun_from posting psn q) ≡ None
+  pub begins : slice_get (numbers_from posting psn q) (q.requester.next - posting) ≡ None
 
 -- no request goes on or begins
 pub record IsNoNext (q : QueuePair) : Type 0 where

@@ -68,8 +68,8 @@ pub record HasFront (before after : MarkList) (out_before out_after : List ℕ) 
   pub marks : take (length before.marks) after.marks ≡ before.marks
   pub out : out_after ≡ out_before
 
--- what came of reading the bytes of a packet and spelling it; where it is not spelt, some marks may stand behind those that
--- there were
+-- what came of reading the bytes of a packet and spelling it; where it is not spelt, some marks may stand behind those
+-- that there were
 abbrev pub IsSpelling : Sight → QueuePair → Numbered → List Ask → Result Reading Memory → MarkList → MarkList → List ℕ → List ℕ → Type 0
 IsSpelling s q n asks (Ok readings.Spelt) before after out_before out_after = HasSpelt s q n asks before after out_before out_after
 IsSpelling s q n asks (Ok readings.Denied) before after out_before out_after =

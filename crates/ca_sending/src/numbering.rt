@@ -79,8 +79,8 @@ pub struct Next<'a> {
     pub begins: bool,
 }
 
-/// The request at a posting place, which has or would get the PSNs from `first` on. None comes exactly where none is posted
-/// there.
+/// The request at a posting place, which has or would get the PSNs from `first` on. None comes exactly where none is
+/// posted there.
 pub fn numbered_at(q: &QueuePart, posting: u64, first: u64) -> Option<Numbered<'_>>
     requires { IsWithin posting first q.now }
     ensures none { IfNone result (numbers_from posting first q.now ≡ []) }

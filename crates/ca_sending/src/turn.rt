@@ -128,8 +128,8 @@ fn is_too_much_below(q: &QueuePart, upto: u64) -> bool
         || has_more_answers(q, oldest, psn, upto, u64::from(q.requester.reads))
 }
 
-/// Whether more request packets than so many lie from `una` on and below a PSN, among the requests from a posting place on. No
-/// more lie there than PSNs.
+/// Whether more request packets than so many lie from `una` on and below a PSN, among the requests from a posting place
+/// on. No more lie there than PSNs.
 fn has_more_packets(q: &QueuePart, posting: u64, first: u64, upto: u64, most: u64) -> bool
     requires { IsWithin posting first q.now }
     ensures { result ≡ nat_lt most
