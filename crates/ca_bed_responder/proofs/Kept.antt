@@ -23,10 +23,10 @@ use Rattle.ca_base.specs.objects.Window.{Binding}
 use Rattle.ca_keys.specs.Memory.{runs_for}
 use Rattle.ca_grant.specs.Access.{FitInBytes}
 use Rattle.ca_grant.specs.Parts.{LiesWithin, grants_of_parts}
-use Rattle.ca_laws.proofs.ArrivalLemmas.{responder-queue}
-use Rattle.ca_laws.proofs.ObjectLemmas.{post-receive, take-receive}
-use Rattle.ca_laws.proofs.RespondLemmas.{arrival-good, respond-good}
-use Rattle.ca_laws.proofs.ResponseLemmas.{IsGoodEnding, IsGoodRow}
+use Rattle.ca_laws_sound.proofs.ArrivalLemmas.{responder-queue}
+use Rattle.ca_laws_sound.proofs.ObjectLemmas.{post-receive, take-receive}
+use Rattle.ca_laws_sound.proofs.RespondLemmas.{arrival-good, respond-good}
+use Rattle.ca_laws_sound.proofs.ResponseLemmas.{IsGoodEnding, IsGoodRow}
 use Rattle.ca_base.specs.declared.request.RecvRequest.{RecvRequest}
 use Rattle.ca_model.specs.declared.mark.Drop1.{Drop1}
 use Rattle.ca_model.specs.declared.mark.Drop1.TheVariants as drops

@@ -28,6 +28,7 @@ pub mod Step
 pub mod Run
 pub mod Frame
 pub mod Invariants
+pub mod Places
 pub mod CanStep
 pub mod Sound
 pub mod Parts

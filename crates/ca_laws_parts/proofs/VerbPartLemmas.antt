@@ -1,0 +1,569 @@
+-- What the verbs touch lies in the table of parts.
+use Rattle.std.proofs.Common.{◌≡◌, ℕ, suc, ◌-◌, min, nat_lt, arith, inl, inr, Bool, false, List, [], ◌∷◌, ◌++◌, length, map, take, Option, None, Some, subst, ◌&&◌, ◌||◌, ◌==◌, not, ap₂, sym, is_none, refl}
+use Rattle.std.proofs.lemmas.Bool.{ltb-false, or_parts}
+use Rattle.std.specs.Option.{option_and_then, option_map, option_map_or}
+use Rattle.ca_base.specs.declared.change.Change as state_change
+use Rattle.ca_base.specs.declared.change.Change.TheVariants as changes
+use Rattle.ca_base.specs.declared.change.Field.TheVariants as fields
+use Rattle.ca_base.specs.declared.completion.Completion.{Completion}
+use Rattle.ca_base.specs.declared.limits.TheConstants.{MAX_MESSAGE_BYTES, MAX_POLLED}
+use Rattle.ca_keys.specs.declared.names.DomainId.{DomainId}
+use Rattle.ca_keys.specs.declared.names.QueueId.{QueueId}
+use Rattle.ca_keys.specs.declared.names.Slot.{Slot}
+use Rattle.ca_keys.specs.declared.place.Run.{Run}
+use Rattle.ca_base.specs.declared.request.RecvRequest.{RecvRequest}
+use Rattle.ca_base.specs.declared.request.SendOp.{SendOp}
+use Rattle.ca_base.specs.declared.request.SendOp.TheVariants as ops
+use Rattle.ca_base.specs.declared.request.SendRequest.{SendRequest}
+use Rattle.ca_keys.specs.declared.rights.Rights.{Rights}
+use Rattle.ca_base.specs.Configuration.{Configuration}
+use Rattle.ca_keys.specs.Numbers.{queue_of}
+use Rattle.ca_base.specs.objects.CompletionQueue.{CompletionQueue, after_polls, after_reserve}
+use Rattle.ca_base.specs.objects.Domain.{with_object, without_object}
+use Rattle.ca_base.specs.objects.Mailbox.{with_peer}
+use Rattle.ca_base.specs.objects.QueuePair.{QueuePair, QueueSlot, NoQueue, Present, queue_in, recv_cq_of, send_cq_of, srq_of}
+use Rattle.ca_base.specs.objects.Region.{with_window_unbound}
+use Rattle.ca_base.specs.objects.SharedReceives.{SharedReceives, SrqSlot, after_receive_post, after_receives_retire, is_full_of_receives}
+use Rattle.ca_base.specs.objects.StateTable.{modify_refusals, queue_after_change}
+use Rattle.ca_base.specs.objects.Window.{Binding, Window, after_deallocation, after_draw, byte_drawn, key_of_window}
+use Rattle.ca_model.specs.declared.answer.Answer.TheVariants as answers
+use Rattle.ca_model.specs.declared.answer.Refusal.{Refusal}
+use Rattle.ca_model.specs.declared.answer.Refusal.TheVariants.{CqTooSmall, NoSuch, OutOfRange, QueueFull, TooLong, WindowsBound}
+use Rattle.ca_model.specs.declared.mark.Mark.{Mark}
+use Rattle.ca_model.specs.declared.mark.Mark.TheVariants as marks
+use Rattle.ca_model.specs.declared.verb.Verb.{Verb}
+use Rattle.ca_model.specs.declared.verb.Verb.TheVariants as verbs
+use Rattle.ca_model.specs.Requests.{list_length}
+use Rattle.ca_model.specs.machine.Around.{Around, cq_updates}
+use Rattle.ca_model.specs.machine.CompletionVerbs.{Poll_of, With_place, With_places, create_cq_plan, create_srq_plan, destroy_cq_plan, destroy_srq_plan, poll_plan, receives_after_poll, slot_after_poll, source_of_completion}
+use Rattle.ca_model.specs.machine.Completions.{flush_marks}
+use Rattle.ca_model.specs.machine.DomainVerbs.{alloc_pd_plan, dealloc_pd_plan}
+use Rattle.ca_model.specs.machine.HostVerbs.{load_plan, store_plan}
+use Rattle.ca_model.specs.machine.Plan.{If, Look, Plan, Update, ◌:=◌, names_updated, unless_refused}
+use Rattle.ca_model.specs.machine.PostingVerbs.{Posted_send, post_recv_plan, post_send_plan, post_srq_plan}
+use Rattle.ca_model.specs.machine.QueuePairVerbs
+use Rattle.ca_model.specs.machine.QueuePairVerbs.{Creation, With_present, With_shared, before_receives, beside, create_qp_plan, destroy_qp_plan, emptied_updates, has_bad_depth, has_no_room, left_updates, modify_qp_plan, new_queue, places_held, query_qp_plan, receive_reserve, receive_room, send_reserved, user_updates, without_queue}
+use Rattle.ca_model.specs.machine.RegionVerbs.{alloc_mr_plan, dereg_mr_plan, reg_mr_plan}
+use Rattle.ca_model.specs.machine.Row.{region_under}
+use Rattle.ca_model.specs.machine.Step.{bytes_of_buffer, run_of, verb_plan}
+use Rattle.ca_model.specs.machine.VerbAnswers.{Answer_plan, Call, Refuse_plan, Unless_plan, of_change_refusals}
+use Rattle.ca_model.specs.machine.WindowVerbs.{With_binder, alloc_mw_plan, dealloc_mw_plan, queue_updates}
+use Rattle.ca_model.specs.machine.World.{Cq_of, Domain_of, Mailbox_of, Queue_of, Region_of, Srq_of, Window_of, World}
+use Rattle.ca_model.specs.declared.part_name.PartName.{PartName}
+use Rattle.ca_model.specs.declared.part_name.PartName.TheVariants as names
+use Rattle.ca_model.specs.machine.Parts.{IsAmong, around_parts, drawing_parts, parts_if_present, place_part, region_parts, verb_parts, window_parts}
+use Rattle.ca_model.specs.machine.Sound.{IsSoundWorld}
+use Rattle.ca_laws_parts.proofs.PartLemmas.{In, Included, among-left, among-right, around-in, inject-in, present-in, queue-part, srq-in}
+use Rattle.ca_laws_parts.proofs.TouchLemmas.{InBuffers, NamesIn, TouchesIn, bytes-in, names-append}
+use Rattle.ca_laws_sound.proofs.WorldLemmas.{around_in, shared_of}
+
+-- nothing is changed
+nothing : (ps : List PartName) → NamesIn (In ps) [] × NamesIn (In ps) []
+nothing ps = (record {}, record {})
+
+alloc_pd-in : (c : Configuration) (w : World) (call : Call) (d : DomainId) → TouchesIn w (In (verb_parts c w (verbs.AllocPd d))) (alloc_pd_plan call d)
+alloc_pd-in c w call d = (inl refl, (λ is. nothing (verb_parts c w (verbs.AllocPd d)), λ is. ((inl refl, record {}), record {})))
+
+dealloc_pd-in : (c : Configuration) (w : World) (call : Call) (d : DomainId) → TouchesIn w (In (verb_parts c w (verbs.DeallocPd d))) (dealloc_pd_plan call d)
+dealloc_pd-in c w call d = (inl refl, (λ is. nothing (verb_parts c w (verbs.DeallocPd d)), λ is. (λ is. nothing (verb_parts c w (verbs.DeallocPd d)), λ is. ((inl refl, record {}), record {}))))
+
+-- a verb on an object of a domain: it looks at both, and changes both or nothing
+reg_mr-in : (c : Configuration) (w : World) (ps : List PartName) (call : Call) (s : Slot) (at : Run) (bytes : ℕ) (rights : Rights) → IsAmong ps (names.Control s.domain) → IsAmong ps (names.Region s)
+    → TouchesIn w (In ps) (reg_mr_plan call s at bytes rights)
+reg_mr-in c w ps call s at bytes rights domain region = (
+  domain,
+  (
+    region,
+    (
+      λ is. nothing ps,
+      λ is. (
+        λ is. nothing ps,
+        λ is. (
+          λ is. nothing ps,
+          λ is. (
+            λ is. nothing ps,
+            λ is. (
+              λ is. nothing ps,
+              λ is.
+                  ((domain, (region, record {})), record {}),
+            ),
+          ),
+        ),
+      ),
+    ),
+  ),
+)
+
+alloc_mr-in : (c : Configuration) (w : World) (ps : List PartName) (call : Call) (s : Slot) (pages : ℕ) → IsAmong ps (names.Control s.domain) → IsAmong ps (names.Region s)
+    → TouchesIn w (In ps) (alloc_mr_plan call s pages)
+alloc_mr-in c w ps call s pages domain region = (domain, (region, (λ is. nothing ps, λ is. (λ is. nothing ps, λ is. (λ is. nothing ps, λ is. ((domain, (region, record {})), record {}))))))
+
+dereg_mr-in : (c : Configuration) (w : World) (ps : List PartName) (call : Call) (s : Slot) → IsAmong ps (names.Control s.domain) → IsAmong ps (names.Region s)
+    → TouchesIn w (In ps) (dereg_mr_plan call s)
+dereg_mr-in c w ps call s domain region = (domain, (region, (λ is. nothing ps, λ is. (λ is. nothing ps, λ is. ((domain, (region, record {})), record {})))))
+
+alloc_mw-in : (c : Configuration) (w : World) (ps : List PartName) (call : Call) (s : Slot) (kind : ℕ) → IsAmong ps (names.Control s.domain) → IsAmong ps (names.Window s)
+    → TouchesIn w (In ps) (alloc_mw_plan call s kind)
+alloc_mw-in c w ps call s kind domain window = (domain, (window, (λ is. nothing ps, λ is. (λ is. nothing ps, λ is. (λ is. nothing ps, λ is. ((domain, (window, record {})), record {}))))))
+
+dealloc_mw-in : (c : Configuration) (w : World) (call : Call) (s : Slot) → TouchesIn w (In (verb_parts c w (verbs.DeallocMw s))) (dealloc_mw_plan call s)
+dealloc_mw-in c w call s = (inl refl, (inr (inl refl), (λ is. nothing ps, λ is. by x.binding regions binders)))
+  where
+    x : Window
+    x = w.window s
+
+    binder_parts : Option Binding → List PartName
+    binder_parts o = option_map_or (λ b. option_map_or (λ q. names.Queue q ∷ []) b.queue []) o []
+
+    ps : List PartName
+    ps = names.Control s.domain ∷ window_parts w s ++ binder_parts x.binding
+
+    regions : Included (option_map_or (λ b. region_parts w (region_under x b)) x.binding []) ps
+    regions p among = inr (among-left (window_parts w s) (binder_parts x.binding) p (inr among))
+
+    binders : Included (binder_parts x.binding) ps
+    binders p among = inr (among-right (window_parts w s) (binder_parts x.binding) p among)
+
+    two : List Update
+    two = (Domain_of s.domain := without_object (w.domain s.domain)) ∷ (Window_of s := after_deallocation x) ∷ []
+
+    plan : Option Binding → Plan
+    plan None = Answer_plan call answers.Fine two []
+    plan (Some b) = Look (Region_of (region_under x b)) (λ region. With_binder b.queue (λ more.
+        Answer_plan call answers.Fine (two ++ (Region_of (region_under x b) := with_window_unbound region) ∷ more)
+        (marks.Revoked s.domain.adapter (key_of_window x) ∷ [])))
+
+    queues : (q : QueueId) (v : QueueSlot) → IsAmong ps (names.Queue q) → NamesIn (In ps) (names_updated (queue_updates q v))
+    queues q (NoQueue incarnation timers) among = record {}
+    queues q (Present p) among = (among, record {})
+
+    binder : (at : Slot) (o : Option QueueId) → IsAmong ps (names.Region at) → Included (option_map_or (λ q. names.Queue q ∷ []) o []) ps
+        → TouchesIn w (In ps) (With_binder o (λ more. Answer_plan call answers.Fine (two ++ (Region_of at := with_window_unbound (w.region at)) ∷ more) (marks.Revoked s.domain.adapter (key_of_window x) ∷ [])))
+    binder at None region inc = ((inl refl, (inr (inl refl), (region, record {}))), record {})
+    binder at (Some q) region inc = (inc (names.Queue q) (inl refl), ((inl refl, (inr (inl refl), (region, queues q (w.queue q) (inc (names.Queue q) (inl refl))))), record {}))
+
+    by : (o : Option Binding) → Included (option_map_or (λ b. region_parts w (region_under x b)) o []) ps → Included (binder_parts o) ps → TouchesIn w (In ps) (plan o)
+    by None regions binders = ((inl refl, (inr (inl refl), record {})), record {})
+    by (Some b) regions binders = (regions (names.Region (region_under x b)) (inl refl), binder (region_under x b) b.queue (regions (names.Region (region_under x b)) (inl refl)) binders)
+
+create_cq-in : (c : Configuration) (w : World) (ps : List PartName) (call : Call) (s : Slot) (capacity : ℕ) → IsAmong ps (names.Control s.domain) → IsAmong ps (names.Cq s)
+    → TouchesIn w (In ps) (create_cq_plan call s capacity)
+create_cq-in c w ps call s capacity domain cq = (domain, (cq, (λ is. nothing ps, λ is. (λ is. nothing ps, λ is. (λ is. nothing ps, λ is. ((domain, (cq, record {})), record {}))))))
+
+destroy_cq-in : (c : Configuration) (w : World) (ps : List PartName) (call : Call) (s : Slot) → IsAmong ps (names.Control s.domain) → IsAmong ps (names.Cq s)
+    → TouchesIn w (In ps) (destroy_cq_plan call s)
+destroy_cq-in c w ps call s domain cq = (domain, (cq, (λ is. nothing ps, λ is. (λ is. nothing ps, λ is. ((domain, (cq, record {})), record {})))))
+
+create_srq-in : (c : Configuration) (w : World) (ps : List PartName) (call : Call) (s : Slot) (depth : ℕ) → IsAmong ps (names.Control s.domain) → IsAmong ps (names.Srq s)
+    → TouchesIn w (In ps) (create_srq_plan call s depth)
+create_srq-in c w ps call s depth domain srq = (domain, (srq, (λ is. nothing ps, λ is. (λ is. nothing ps, λ is. (λ is. nothing ps, λ is. ((domain, (srq, record {})), record {}))))))
+
+destroy_srq-in : (c : Configuration) (w : World) (ps : List PartName) (call : Call) (s : Slot) → IsAmong ps (names.Control s.domain) → IsAmong ps (names.Srq s)
+    → TouchesIn w (In ps) (destroy_srq_plan call s)
+destroy_srq-in c w ps call s domain srq = (domain, (srq, (λ is. nothing ps, λ is. (λ is. nothing ps, λ is. ((domain, (srq, record {})), record {})))))
+
+-- the bytes of one run lie in its buffer
+run-buffer : (ps : List PartName) (adapter buffer offset count : ℕ) → IsAmong ps (names.Buffer adapter buffer) → InBuffers (In ps) (run_of adapter buffer offset count ∷ [])
+run-buffer ps adapter buffer offset count among = (λ p a b. subst (λ x. IsAmong ps x) (sym (ap₂ (λ x y. names.Buffer x y) a b)) among, record {})
+
+store-in : (c : Configuration) (w : World) (call : Call) (adapter buffer offset : ℕ) (bytes : List ℕ)
+    → TouchesIn w (In (names.Buffer adapter buffer ∷ [])) (store_plan call (run_of adapter buffer offset (length bytes)) (bytes_of_buffer c adapter buffer) bytes)
+store-in c w call adapter buffer offset bytes = (
+  λ is. nothing (names.Buffer adapter buffer ∷ []),
+  λ is. (
+    λ is. nothing (names.Buffer adapter buffer ∷ []),
+    λ is. (
+      record {},
+      names-append (In (names.Buffer adapter buffer ∷ [])) _ [] (bytes-in (In (names.Buffer adapter buffer ∷ [])) (run_of adapter buffer offset (length bytes) ∷ [])
+          (run-buffer (names.Buffer adapter buffer ∷ []) adapter buffer offset (length bytes) (inl refl))) (record {}),
+    ),
+  ),
+)
+
+load-in : (c : Configuration) (w : World) (call : Call) (adapter buffer offset count : ℕ)
+    → TouchesIn w (In (names.Buffer adapter buffer ∷ [])) (load_plan call (run_of adapter buffer offset count) (bytes_of_buffer c adapter buffer))
+load-in c w call adapter buffer offset count = (
+  λ is. nothing (names.Buffer adapter buffer ∷ []),
+  λ is. (
+    λ is. nothing (names.Buffer adapter buffer ∷ []),
+    λ is.
+        (bytes-in (In (names.Buffer adapter buffer ∷ [])) (run_of adapter buffer offset count ∷ []) (run-buffer (names.Buffer adapter buffer ∷ []) adapter buffer offset count (inl refl)), nothing (names.Buffer adapter buffer ∷ [])),
+  ),
+)
+
+-- a verb that names a queue pair
+verb-present : (c : Configuration) (w : World) (ps : List PartName) (call : Call) (s : Slot) (more : QueuePair → List PartName) (k : QueuePair → Plan) → IsSoundWorld c w
+    → IsAmong ps (names.Queue (queue_of s)) → Included (parts_if_present w (queue_of s) more) ps
+    → ((q : QueuePair) → IsAmong ps (names.Queue q.queue) → Included (more q) ps → TouchesIn w (In ps) (k q)) → TouchesIn w (In ps) (With_present call s k)
+verb-present c w ps call s more k sound queue inc there = (
+  queue,
+  present-in c w ps (queue_of s) more k (Refuse_plan call NoSuch) sound inc (nothing ps)
+      (λ q stands is all. there q (queue-part ps q.queue (queue_of s) is queue) all) (w.queue (queue_of s)) refl,
+)
+
+query-in : (c : Configuration) (w : World) (call : Call) (s : Slot) → IsSoundWorld c w → TouchesIn w (In (names.Queue (queue_of s) ∷ [])) (query_qp_plan call s)
+query-in c w call s sound = verb-present c w (names.Queue (queue_of s) ∷ []) call s (λ q. []) _ sound (inl refl) (none (w.queue (queue_of s))) (λ q queue inc. nothing (names.Queue (queue_of s) ∷ []))
+  where
+    none : (v : QueueSlot) → Included (option_map_or (λ q. []) (queue_in v) []) (names.Queue (queue_of s) ∷ [])
+    none (NoQueue incarnation timers) p among = absurd among
+    none (Present q) p among = absurd among
+
+modify-in : (c : Configuration) (w : World) (call : Call) (s : Slot) (change : state_change.Change) → IsSoundWorld c w
+    → TouchesIn w (In (verb_parts c w (verbs.ModifyQp s change))) (modify_qp_plan c call s change)
+modify-in c w call s change sound = verb-present c w ps call s (λ q. names.Mailbox q.queue ∷ around_parts q) _ sound (inl refl) (λ p among. inr among) (λ q queue inc. (
+  inc (names.Mailbox q.queue) (inl refl),
+  around-in w ps q (plan q) (λ p among. inc p (inr among))
+      (refusing q (of_change_refusals (modify_refusals c q change)) (changed q change queue (inc (names.Mailbox q.queue) (inl refl)) (λ p among. inc p (inr among)))),
+))
+  where
+    ps : List PartName
+    ps = verb_parts c w (verbs.ModifyQp s change)
+
+    updates : QueuePair → Around → state_change.Change → List Update
+    updates q a changes.Error = cq_updates q a (flush_marks q)
+    updates q a changes.Reset =
+        (Mailbox_of q.queue := QueuePairVerbs.emptied_mailbox (queue_after_change changes.Reset q).incarnation (w.mailbox q.queue)) ∷ emptied_updates q a
+    updates q a (changes.Rtr peer incarnation psn mtu rnr_code) =
+        (Mailbox_of q.queue := with_peer q.incarnation (Some (record { queue = peer; incarnation = incarnation })) (w.mailbox q.queue)) ∷ []
+    updates q a change = []
+
+    told : QueuePair → state_change.Change → List Mark
+    told q changes.Error = flush_marks q
+    told q change = []
+
+    done : QueuePair → Around → state_change.Change → Plan
+    done q a change = Answer_plan call answers.Fine ((Queue_of q.queue := Present (queue_after_change change q)) ∷ updates q a change) (told q change)
+
+    plan : QueuePair → Around → Plan
+    plan q a = Unless_plan call (of_change_refusals (modify_refusals c q change)) (done q a change)
+
+    refusing : (q : QueuePair) (tests : List (Bool × Refusal)) → TouchesIn w (In ps) (done q (around_in w q (shared_of w q)) change)
+        → TouchesIn w (In ps) (unless_refused tests (Refuse_plan call) (done q (around_in w q (shared_of w q)) change))
+    refusing q [] ends = ends
+    refusing q (t ∷ ts) ends = (λ is. nothing ps, λ is. refusing q ts ends)
+
+    emptied : (q : QueuePair) → Included (around_parts q) ps → NamesIn (In ps) (names_updated (emptied_updates q (around_in w q (shared_of w q))))
+    emptied q around = (
+      around (names.Cq (send_cq_of q)) (inl refl),
+      (
+        around (names.Cq (recv_cq_of q)) (inr (inl refl)),
+        srq-in ps q (around_in w q (shared_of w q)) (after_receives_retire (places_held q (around_in w q (shared_of w q)))) around,
+      ),
+    )
+
+    changed : (q : QueuePair) (change : state_change.Change) → IsAmong ps (names.Queue q.queue) → IsAmong ps (names.Mailbox q.queue) → Included (around_parts q) ps
+        → TouchesIn w (In ps) (done q (around_in w q (shared_of w q)) change)
+    changed q changes.Error queue mailbox around = ((queue, (around (names.Cq (send_cq_of q)) (inl refl), (around (names.Cq (recv_cq_of q)) (inr (inl refl)), record {}))), record {})
+    changed q changes.Reset queue mailbox around = ((queue, (mailbox, emptied q around)), record {})
+    changed q (changes.Rtr peer incarnation psn mtu rnr_code) queue mailbox around = ((queue, (mailbox, record {})), record {})
+    changed q changes.Init queue mailbox around = ((queue, record {}), record {})
+    changed q (changes.Rts psn retry rnr_retry reads) queue mailbox around = ((queue, record {}), record {})
+    changed q changes.Sqd queue mailbox around = ((queue, record {}), record {})
+    changed q changes.Resume queue mailbox around = ((queue, record {}), record {})
+
+destroy-in : (c : Configuration) (w : World) (call : Call) (s : Slot) → IsSoundWorld c w → TouchesIn w (In (verb_parts c w (verbs.DestroyQp s))) (destroy_qp_plan call s)
+destroy-in c w call s sound = (
+  inl refl,
+  verb-present c w ps call s (λ q. names.Mailbox q.queue ∷ around_parts q) _ sound (inr (inl refl)) (λ p among. inr (inr among)) (λ q queue inc. (
+    inc (names.Mailbox q.queue) (inl refl),
+    around-in w ps q (plan q) (λ p among. inc p (inr among))
+        (λ is. nothing ps, λ is. changed q queue (inc (names.Mailbox q.queue) (inl refl)) (λ p among. inc p (inr among))),
+  )),
+)
+  where
+    ps : List PartName
+    ps = verb_parts c w (verbs.DestroyQp s)
+
+    plan : QueuePair → Around → Plan
+    plan q a = If (nat_lt 0 q.windows) (Refuse_plan call WindowsBound)
+        (Answer_plan call answers.Fine
+        ((Domain_of s.domain := without_object (w.domain s.domain))
+        ∷ (Queue_of q.queue := NoQueue q.incarnation q.requester.timers)
+        ∷ (Mailbox_of q.queue := QueuePairVerbs.emptied_mailbox q.incarnation (w.mailbox q.queue))
+        ∷ (Cq_of (send_cq_of q) := option_map (without_queue q) a.send)
+        ∷ (Cq_of (recv_cq_of q) := option_map (without_queue q) a.recv)
+        ∷ left_updates q a)
+        [])
+
+    left : QueuePair → Option ℕ → Option SrqSlot → List Update
+    left q (Some srq) (Some slot) = (Srq_of (record { domain = q.domain; slot = srq }) := record {
+      srq = option_map (after_receives_retire (places_held q (around_in w q (shared_of w q)))) slot.srq;
+      users = slot.users - 1;
+    }) ∷ []
+    left q srq slot = []
+
+    by : (q : QueuePair) (o : Option ℕ) (t : Option SrqSlot) → Included (option_map_or (λ srq. names.Srq (srq_of q srq) ∷ []) o []) ps → NamesIn (In ps) (names_updated (left q o t))
+    by q None t inc = record {}
+    by q (Some srq) None inc = record {}
+    by q (Some srq) (Some slot) inc = (inc (names.Srq (srq_of q srq)) (inl refl), record {})
+
+    changed : (q : QueuePair) → IsAmong ps (names.Queue q.queue) → IsAmong ps (names.Mailbox q.queue) → Included (around_parts q) ps
+        → NamesIn (In ps) (names_updated ((Domain_of s.domain := without_object (w.domain s.domain))
+        ∷ (Queue_of q.queue := NoQueue q.incarnation q.requester.timers)
+        ∷ (Mailbox_of q.queue := QueuePairVerbs.emptied_mailbox q.incarnation (w.mailbox q.queue))
+        ∷ (Cq_of (send_cq_of q) := option_map (without_queue q) (w.cq (send_cq_of q)))
+        ∷ (Cq_of (recv_cq_of q) := option_map (without_queue q) (w.cq (recv_cq_of q)))
+        ∷ left_updates q (around_in w q (shared_of w q)))) × NamesIn (In ps) []
+    changed q queue mailbox around = (
+      (
+        inl refl,
+        (
+          queue,
+          (
+            mailbox,
+            (
+              around (names.Cq (send_cq_of q)) (inl refl),
+              (
+                around (names.Cq (recv_cq_of q)) (inr (inl refl)),
+                by q q.srq (shared_of w q) (λ p among. around p (inr (inr among))),
+              ),
+            ),
+          ),
+        ),
+      ),
+      record {},
+    )
+
+create-in : (c : Configuration) (w : World) (ps : List PartName) (call : Call) (x : Creation) → IsAmong ps (names.Control x.slot.domain) → IsAmong ps (names.Queue (queue_of x.slot))
+    → IsAmong ps (names.Mailbox (queue_of x.slot)) → IsAmong ps (names.Cq (beside x.slot x.send_cq)) → IsAmong ps (names.Cq (beside x.slot x.recv_cq))
+    → Included (option_map_or (λ srq. names.Srq (beside x.slot srq) ∷ []) x.srq []) ps → TouchesIn w (In ps) (create_qp_plan c call x)
+create-in c w ps call x domain queue mailbox send_cq recv_cq inc = (
+  domain,
+  (
+    queue,
+    (
+      mailbox,
+      (
+        λ is. nothing ps,
+        λ is. (
+          λ is. nothing ps,
+          λ is.
+              (λ is. (send_cq, (recv_cq, looks x.srq inc)), λ is. nothing ps),
+        ),
+      ),
+    ),
+  ),
+)
+  where
+    made : CompletionQueue → CompletionQueue → Option SrqSlot → Option SharedReceives → Plan
+    made send recv srq shared = Answer_plan call (answers.Queue (queue_of x.slot).number (new_queue x (w.queue (queue_of x.slot))).incarnation)
+        ((Domain_of x.slot.domain := with_object (w.domain x.slot.domain))
+        ∷ (Queue_of (queue_of x.slot) := Present (new_queue x (w.queue (queue_of x.slot))))
+        ∷ (Mailbox_of (queue_of x.slot) := with_peer (new_queue x (w.queue (queue_of x.slot))).incarnation None (w.mailbox (queue_of x.slot)))
+        ∷ (Cq_of (beside x.slot x.send_cq) := Some (send_reserved x send))
+        ∷ (Cq_of (beside x.slot x.recv_cq) := Some (after_reserve (receive_reserve x) (receive_room x shared) (before_receives x send recv)))
+        ∷ user_updates x srq)
+        []
+
+    there_plan : Option CompletionQueue → Option CompletionQueue → Option SrqSlot → Option SharedReceives → Plan
+    there_plan (Some send) (Some recv) srq shared = If (is_none shared && not (is_none x.srq)) (Refuse_plan call NoSuch)
+        (If (has_bad_depth x) (Refuse_plan call (OutOfRange fields.Depth)) (If (has_no_room x shared send recv) (Refuse_plan call CqTooSmall) (made send recv srq shared)))
+    there_plan send recv srq shared = Refuse_plan call NoSuch
+
+    plan : Option SrqSlot → Plan
+    plan shared = there_plan (w.cq (beside x.slot x.send_cq)) (w.cq (beside x.slot x.recv_cq)) shared (option_and_then (λ s. s.srq) shared)
+
+    shared_plan : Option ℕ → Plan
+    shared_plan None = plan None
+    shared_plan (Some srq) = Look (Srq_of (beside x.slot srq)) (λ slot. plan (Some slot))
+
+    users : Option ℕ → Option SrqSlot → List Update
+    users (Some srq) (Some slot) = (Srq_of (beside x.slot srq) := record slot { users = suc slot.users }) ∷ []
+    users srq slot = []
+
+    used : (o : Option ℕ) (t : Option SrqSlot) → Included (option_map_or (λ srq. names.Srq (beside x.slot srq) ∷ []) o []) ps → NamesIn (In ps) (names_updated (users o t))
+    used None t inc = record {}
+    used (Some srq) None inc = record {}
+    used (Some srq) (Some slot) inc = (inc (names.Srq (beside x.slot srq)) (inl refl), record {})
+
+    there : (send recv : Option CompletionQueue) (srq : Option SrqSlot) (shared : Option SharedReceives) → TouchesIn w (In ps) (there_plan send recv srq shared)
+    there None recv srq shared = nothing ps
+    there (Some send) None srq shared = nothing ps
+    there (Some send) (Some recv) srq shared = (
+      λ is. nothing ps,
+      λ is. (
+        λ is. nothing ps,
+        λ is. (
+          λ is. nothing ps,
+          λ is.
+              ((domain, (queue, (mailbox, (send_cq, (recv_cq, used x.srq srq inc))))), record {}),
+        ),
+      ),
+    )
+
+    looks : (o : Option ℕ) → Included (option_map_or (λ srq. names.Srq (beside x.slot srq) ∷ []) o []) ps → TouchesIn w (In ps) (shared_plan o)
+    looks None inc = there _ _ None _
+    looks (Some srq) inc = (inc (names.Srq (beside x.slot srq)) (inl refl), there _ _ (Some (w.srq (beside x.slot srq))) _)
+
+posted-in : (w : World) (ps : List PartName) (call : Call) (q : QueuePair) (request : SendRequest) (drawn : Option ℕ) (window : Slot) (more : List Update) → IsAmong ps (names.Queue q.queue)
+    → IsAmong ps (names.Cq (send_cq_of q)) → NamesIn (In ps) (names_updated more) → TouchesIn w (In ps) (Posted_send call q request drawn window more)
+posted-in w ps call q request drawn window more queue cq rest = (
+  cq,
+  (
+    λ is. nothing ps,
+    λ is. (
+      λ is. nothing ps,
+      λ is. (
+        λ is. nothing ps,
+        λ is. (
+          λ is. nothing ps,
+          λ is.
+              ((queue, (cq, rest)), record {}),
+        ),
+      ),
+    ),
+  ),
+)
+
+post_send-in : (c : Configuration) (w : World) (call : Call) (s : Slot) (request : SendRequest) → IsSoundWorld c w → TouchesIn w (In (verb_parts c w (verbs.PostSend s request))) (post_send_plan call s request)
+post_send-in c w call s request sound = verb-present c w ps call s (λ q. names.Cq (send_cq_of q) ∷ drawing_parts s request.op) (λ q. plan q request.op) sound (inl refl) (λ p among. inr among)
+    (λ q queue inc. by q request.op queue (inc (names.Cq (send_cq_of q)) (inl refl)) (λ p among. inc p (inr among)))
+  where
+    ps : List PartName
+    ps = verb_parts c w (verbs.PostSend s request)
+
+    plan : QueuePair → SendOp → Plan
+    plan q (ops.Bind1 window region address count rights) = Look (Window_of (beside s window)) (λ x. If (x.kind == 0) (Refuse_plan call NoSuch)
+        (Posted_send call q request (byte_drawn x) (beside s window) ((Window_of (beside s window) := after_draw x) ∷ [])))
+    plan q op = Posted_send call q request None s []
+
+    by : (q : QueuePair) (op : SendOp) → IsAmong ps (names.Queue q.queue) → IsAmong ps (names.Cq (send_cq_of q)) → Included (drawing_parts s op) ps → TouchesIn w (In ps) (plan q op)
+    by q (ops.Bind1 window region address count rights) queue cq inc = (
+      inc (names.Window (beside s window)) (inl refl),
+      (
+        λ is. nothing ps,
+        λ is.
+            posted-in w ps call q request (byte_drawn (w.window (beside s window))) (beside s window) ((Window_of (beside s window) := after_draw (w.window (beside s window))) ∷ []) queue cq
+            (inc (names.Window (beside s window)) (inl refl), record {}),
+      ),
+    )
+    by q (ops.Bind2 window region low address count rights) queue cq inc = posted-in w ps call q request None s [] queue cq (record {})
+    by q (ops.FastReg region low buffer address count rights pages) queue cq inc = posted-in w ps call q request None s [] queue cq (record {})
+    by q (ops.LocalInv key) queue cq inc = posted-in w ps call q request None s [] queue cq (record {})
+    by q (ops.Send list) queue cq inc = posted-in w ps call q request None s [] queue cq (record {})
+    by q (ops.SendImm imm list) queue cq inc = posted-in w ps call q request None s [] queue cq (record {})
+    by q (ops.SendInv key list) queue cq inc = posted-in w ps call q request None s [] queue cq (record {})
+    by q (ops.Write address key list) queue cq inc = posted-in w ps call q request None s [] queue cq (record {})
+    by q (ops.WriteImm address key imm list) queue cq inc = posted-in w ps call q request None s [] queue cq (record {})
+    by q (ops.Read address key list) queue cq inc = posted-in w ps call q request None s [] queue cq (record {})
+    by q (ops.CmpSwap address key compare swap list) queue cq inc = posted-in w ps call q request None s [] queue cq (record {})
+    by q (ops.FetchAdd address key add list) queue cq inc = posted-in w ps call q request None s [] queue cq (record {})
+
+post_recv-in : (c : Configuration) (w : World) (call : Call) (s : Slot) (request : RecvRequest) → IsSoundWorld c w → TouchesIn w (In (verb_parts c w (verbs.PostRecv s request))) (post_recv_plan call s request)
+post_recv-in c w call s request sound = verb-present c w ps call s (λ q. names.Cq (recv_cq_of q) ∷ []) _ sound (inl refl) (λ p among. inr among)
+    (λ q queue inc. (
+      inc (names.Cq (recv_cq_of q)) (inl refl),
+      (
+        λ is. nothing ps,
+        λ is. (
+          λ is. nothing ps,
+          λ is. (
+            λ is. nothing ps,
+            λ is. (
+              λ is. nothing ps,
+              λ is.
+                  ((queue, (inc (names.Cq (recv_cq_of q)) (inl refl), record {})), record {}),
+            ),
+          ),
+        ),
+      ),
+    ))
+  where
+    ps : List PartName
+    ps = verb_parts c w (verbs.PostRecv s request)
+
+post_srq-in : (c : Configuration) (w : World) (call : Call) (s : Slot) (request : RecvRequest) → TouchesIn w (In (names.Srq s ∷ [])) (post_srq_plan call s request)
+post_srq-in c w call s request = (inl refl, by (w.srq s).srq)
+  where
+    ps : List PartName
+    ps = names.Srq s ∷ []
+
+    plan : Option SharedReceives → Plan
+    plan None = Refuse_plan call NoSuch
+    plan (Some srq) = If (nat_lt MAX_MESSAGE_BYTES (list_length request.list.items)) (Refuse_plan call TooLong) (If (is_full_of_receives srq) (Refuse_plan call QueueFull)
+        (Answer_plan call (answers.Posted None) ((Srq_of s := record (w.srq s) { srq = Some (after_receive_post request srq) }) ∷ []) []))
+
+    by : (o : Option SharedReceives) → TouchesIn w (In ps) (plan o)
+    by None = nothing ps
+    by (Some srq) = (λ is. nothing ps, λ is. (λ is. nothing ps, λ is. ((inl refl, record {}), record {})))
+
+place-in : (w : World) (ps : List PartName) (s : Slot) (cq : CompletionQueue) (polled : List Completion) (x : Completion) (k : Update → Plan) → IsAmong ps (place_part s cq x)
+    → ((u : Update) → In ps u.name → TouchesIn w (In ps) (k u)) → TouchesIn w (In ps) (With_place s cq polled x k)
+place-in w ps s cq polled x k among more = by (source_of_completion cq x) among
+  where
+    shared : ℕ → Slot
+    shared srq = record { domain = s.domain; slot = srq }
+
+    plan : Option ℕ → Plan
+    plan None = Look (Queue_of x.queue) (λ slot. k (Queue_of x.queue := slot_after_poll x.queue polled slot))
+    plan (Some srq) = Look (Srq_of (shared srq)) (λ slot. k (Srq_of (shared srq) := record slot { srq = option_map (receives_after_poll cq srq polled) slot.srq }))
+
+    part : Option ℕ → PartName
+    part None = names.Queue x.queue
+    part (Some srq) = names.Srq (shared srq)
+
+    by : (o : Option ℕ) → IsAmong ps (part o) → TouchesIn w (In ps) (plan o)
+    by None among = (among, more _ among)
+    by (Some srq) among = (among, more _ among)
+
+places-in : (w : World) (ps : List PartName) (s : Slot) (cq : CompletionQueue) (polled xs : List Completion) (k : List Update → Plan) → Included (map (place_part s cq) xs) ps
+    → ((us : List Update) → NamesIn (In ps) (names_updated us) → TouchesIn w (In ps) (k us)) → TouchesIn w (In ps) (With_places s cq polled xs k)
+places-in w ps s cq polled [] k inc more = more [] (record {})
+places-in w ps s cq polled (x ∷ xs) k inc more = place-in w ps s cq polled x (λ u. With_places s cq polled xs (λ us. k (u ∷ us))) (inc (place_part s cq x) (inl refl))
+    (λ u among. places-in w ps s cq polled xs (λ us. k (u ∷ us)) (λ p in_rest. inc p (inr in_rest)) (λ us rest. more (u ∷ us) (among, rest)))
+
+poll-in : (c : Configuration) (w : World) (call : Call) (s : Slot) (n least : ℕ) → TouchesIn w (In (verb_parts c w (verbs.Poll s n least))) (poll_plan call s n least)
+poll-in c w call s n least = (inl refl, by (w.cq s) (λ p among. inr among))
+  where
+    ps : List PartName
+    ps = verb_parts c w (verbs.Poll s n least)
+
+    places : Option CompletionQueue → List PartName
+    places o = option_map_or (λ cq. map (place_part s cq) (take (min n MAX_POLLED) cq.waiting)) o []
+
+    in_range : ((n == 0) || nat_lt MAX_POLLED n || nat_lt n least) ≡ false → min n MAX_POLLED ≡ n
+    in_range e = at (or_parts (n == 0) (nat_lt MAX_POLLED n) (or_parts ((n == 0) || nat_lt MAX_POLLED n) (nat_lt n least) e).0)
+      where
+        at : ((n == 0) ≡ false) × (nat_lt MAX_POLLED n ≡ false) → min n MAX_POLLED ≡ n
+        at parts = omega (arith, ltb-false MAX_POLLED n parts.1)
+
+    by : (o : Option CompletionQueue) → Included (places o) ps → TouchesIn w (In ps) (Poll_of call s n least o)
+    by None inc = nothing ps
+    by (Some cq) inc = (
+      λ is. nothing ps,
+      λ range. (
+        λ is. record {},
+        λ is. places-in w ps s cq (take n cq.waiting) (take n cq.waiting)
+            (λ changes. Answer_plan call (answers.Polled (take n cq.waiting)) ((Cq_of s := Some (after_polls (length (take n cq.waiting)) cq)) ∷ changes) [])
+            (λ p among. inc p (subst (λ k. IsAmong (map (place_part s cq) (take k cq.waiting)) p) (sym (in_range range)) among))
+            (λ us rest. ((inl refl, rest), record {})),
+      ),
+    )
+
+pub verb-in : (c : Configuration) (w : World) (call : Call) (verb : Verb) → IsSoundWorld c w → TouchesIn w (In (verb_parts c w verb)) (verb_plan c call verb)
+verb-in c w call (verbs.AllocPd domain) sound = alloc_pd-in c w call domain
+verb-in c w call (verbs.DeallocPd domain) sound = dealloc_pd-in c w call domain
+verb-in c w call (verbs.RegMr slot buffer offset count rights) sound =
+    reg_mr-in c w (verb_parts c w (verbs.RegMr slot buffer offset count rights)) call slot (run_of slot.domain.adapter buffer offset count) (bytes_of_buffer c slot.domain.adapter buffer) rights (inl refl) (inr (inl refl))
+verb-in c w call (verbs.AllocMr slot pages) sound = alloc_mr-in c w (verb_parts c w (verbs.AllocMr slot pages)) call slot pages (inl refl) (inr (inl refl))
+verb-in c w call (verbs.DeregMr slot) sound = dereg_mr-in c w (verb_parts c w (verbs.DeregMr slot)) call slot (inl refl) (inr (inl refl))
+verb-in c w call (verbs.AllocMw slot kind) sound = alloc_mw-in c w (verb_parts c w (verbs.AllocMw slot kind)) call slot kind (inl refl) (inr (inl refl))
+verb-in c w call (verbs.DeallocMw slot) sound = dealloc_mw-in c w call slot
+verb-in c w call (verbs.CreateCq slot capacity) sound = create_cq-in c w (verb_parts c w (verbs.CreateCq slot capacity)) call slot capacity (inl refl) (inr (inl refl))
+verb-in c w call (verbs.DestroyCq slot) sound = destroy_cq-in c w (verb_parts c w (verbs.DestroyCq slot)) call slot (inl refl) (inr (inl refl))
+verb-in c w call (verbs.CreateSrq slot depth) sound = create_srq-in c w (verb_parts c w (verbs.CreateSrq slot depth)) call slot depth (inl refl) (inr (inl refl))
+verb-in c w call (verbs.DestroySrq slot) sound = destroy_srq-in c w (verb_parts c w (verbs.DestroySrq slot)) call slot (inl refl) (inr (inl refl))
+verb-in c w call (verbs.CreateQp slot send_cq recv_cq send_depth recv_depth srq) sound =
+    create-in c w (verb_parts c w (verbs.CreateQp slot send_cq recv_cq send_depth recv_depth srq)) call
+    (record { slot = slot; send_cq = send_cq; recv_cq = recv_cq; send_depth = send_depth; recv_depth = recv_depth; srq = srq }) (inl refl) (inr (inl refl)) (inr (inr (inl refl))) (inr (inr (inr (inl refl))))
+    (inr (inr (inr (inr (inl refl))))) (λ p among. inr (inr (inr (inr (inr among)))))
+verb-in c w call (verbs.ModifyQp slot change) sound = modify-in c w call slot change sound
+verb-in c w call (verbs.QueryQp slot) sound = query-in c w call slot sound
+verb-in c w call (verbs.DestroyQp slot) sound = destroy-in c w call slot sound
+verb-in c w call (verbs.PostSend slot request) sound = post_send-in c w call slot request sound
+verb-in c w call (verbs.PostRecv slot request) sound = post_recv-in c w call slot request sound
+verb-in c w call (verbs.PostSrq slot request) sound = post_srq-in c w call slot request
+verb-in c w call (verbs.Poll slot n least) sound = poll-in c w call slot n least
+verb-in c w call (verbs.Store adapter buffer offset bytes) sound = store-in c w call adapter buffer offset bytes
+verb-in c w call (verbs.Load adapter buffer offset count) sound = load-in c w call adapter buffer offset count
+verb-in c w call (verbs.Inject queue bytes) sound = inject-in c w call queue bytes sound

@@ -1,0 +1,240 @@
+-- What responses, timers and wakes make of a queue pair that can come up.
+use Rattle.std.proofs.Common.{◌≡◌, ℕ, suc, ◌≤◌, ◌<◌, max, nat_le, nat_lt, arith, Bool, true, false, List, [], ◌∷◌, ◌++◌, length, Option, None, Some, IfSome, ◌∙◌, ◌&&◌, not, ap, true≢false, ◌==◌, if◌then◌else◌, refl, rules}
+use Rattle.std.proofs.lemmas.Bool.{and_parts, leb-true, ltb-true}
+use Rattle.std.specs.Option.{option_and_then}
+use Rattle.ca_keys.specs.declared.access.Ask.{Ask}
+use Rattle.ca_keys.specs.declared.access.Kind.TheVariants as kinds
+use Rattle.ca_base.specs.declared.completion.WcStatus.TheVariants.{BadResponse, LocalProtection, RemoteAccess, RemoteInvalidRequest, RemoteOperation, RnrRetryExceeded}
+use Rattle.ca_base.specs.declared.limits.TheConstants.{MAX_PIECES, MAX_RETRY}
+use Rattle.ca_base.specs.declared.refusals.OpRefusal.{OpRefusal}
+use Rattle.ca_base.specs.declared.denied_ask.DeniedAsk.{DeniedAsk}
+use Rattle.ca_base.specs.objects.QueuePair.{QueuePair}
+use Rattle.ca_wire.specs.declared.syndrome.NakCode.{NakCode}
+use Rattle.ca_wire.specs.declared.syndrome.NakCode.TheVariants.{PsnSequenceError, InvalidRequest, RemoteAccessError, RemoteOperationalError}
+use Rattle.ca_packet.specs.declared.opcode.TheConstants.{ACKNOWLEDGE}
+use Rattle.ca_packet.specs.Packet.{Fields}
+use Rattle.ca_wire.specs.declared.syndrome.Syndrome.{Syndrome}
+use Rattle.ca_wire.specs.declared.syndrome.Syndrome.TheVariants.{Ack, Nak, RnrNak}
+use Rattle.ca_wire.specs.Syndrome.{syndrome_in}
+use Rattle.ca_model.specs.declared.mark.Drop1.{Drop1}
+use Rattle.ca_model.specs.declared.mark.Drop1.TheVariants as drops
+use Rattle.ca_model.specs.declared.mark.Mark.{Mark}
+use Rattle.ca_model.specs.Requests.{list_of}
+use Rattle.ca_model.specs.machine.Acknowledgements.{Acknowledgement, acknowledgement_below, and_then, failure_effects, first_unanswered, one_retry, progress_to, with_requester}
+use Rattle.ca_model.specs.machine.Numbering.{Numbered, begun_requests, is_answered_op, psn_end, request_at}
+use Rattle.ca_model.specs.machine.Requester.{local_denial}
+use Rattle.ca_model.specs.machine.Responses.{acknowledge_row, answer_asks, answer_bytes, answer_row, drop_effects, fits_request, fitting_row, is_outstanding_at, local_writes, nak_effects, outstanding_row, response_psn, response_row, rnr_nak_effects, segment_at, unless_back, writes_by}
+use Rattle.ca_model.specs.machine.Row.{Ending, NotPossible, Does, Effects, Row, plain_row, queue_and_marks}
+use Rattle.ca_model.specs.machine.Invariants.{IsQueue, is_sending}
+use Rattle.ca_laws_sound.proofs.GoodLemmas.{AreSettledMarks, IsGood, IsLater, failure-good, good-then, later-same, requester-queue, settled-append, taken-same}
+use Rattle.ca_laws_sound.proofs.NumberingLemmas.{IsShort, found-short, list-asks}
+use Rattle.ca_laws_sound.proofs.RequesterLemmas.{good-from, progress-after, progress-good, retry-good}
+
+-- an ending that leaves a queue pair that can come up
+abbrev pub IsGoodEnding : QueuePair → Ending → Type 0
+IsGoodEnding q (NotPossible reason) = Unit {0}
+IsGoodEnding q (Does e) = IsGood q e
+
+-- a row of which each ending does
+pub record IsGoodRow (q : QueuePair) (row : Row) : Type 0 where
+  pub denied : (d : DeniedAsk) → IsGoodEnding q (row.denied d)
+  pub allowed : (bytes : List (List ℕ)) (refusal : Option OpRefusal) → IsGoodEnding q (row.allowed bytes refusal)
+  pub few : length row.asks ≤ MAX_PIECES
+
+pub plain-good : (q : QueuePair) (e : Ending) → IsGoodEnding q e → IsGoodRow q (plain_row e)
+plain-good q e good = record { denied = λ d. good; allowed = λ bytes refusal. good; few = omega arith }
+
+pub drop-good : (q : QueuePair) (cause : Drop1) → IsQueue q → IsGood q (drop_effects q cause)
+drop-good q cause s = record { sound = s; later = later-same q; settled = (record {}, record {}) }
+
+-- what stands after all below a PSN was acknowledged
+record IsAcknowledged (psn : ℕ) (q : QueuePair) (a : Acknowledgement) : Type 0 where
+  good : IsGood q a.effects
+  low : a.went_back ≡ false → a.effects.queue.requester.una ≤ psn
+  high : a.went_back ≡ false → psn ≤ a.effects.queue.requester.cursor
+  cursor : a.went_back ≡ false → a.effects.queue.requester.cursor ≡ q.requester.cursor
+  state : a.went_back ≡ false → a.effects.queue.state ≡ q.state
+
+-- a READ or an atomic that was not answered stands from `una` on, and before the PSN
+abbrev IsBetween : ℕ → ℕ → Option ℕ → Type 0
+IsBetween una psn None = Unit {0}
+IsBetween una psn (Some back) = (una ≤ back) × (back < psn)
+
+unanswered-between : (una psn : ℕ) (ns : List Numbered) → IsBetween una psn (first_unanswered una psn ns)
+unanswered-between una psn [] = record {}
+unanswered-between una psn (n ∷ ns) =
+    by (is_answered_op n.request.op && nat_lt una (psn_end n)) (nat_lt (max una n.first) psn) refl (unanswered-between una psn ns)
+  where
+    by : (b z : Bool) → nat_lt (max una n.first) psn ≡ z → IsBetween una psn (first_unanswered una psn ns)
+        → IsBetween una psn (if b && z then Some (max una n.first) else first_unanswered una psn ns)
+    by true true e rest = (omega arith, ltb-true (max una n.first) psn e)
+    by true false e rest = rest
+    by false z e rest = rest
+
+acknowledged : (psn : ℕ) (q : QueuePair) → IsQueue q → is_sending q.state ≡ true → q.requester.una ≤ psn → psn ≤ q.requester.cursor
+    → IsAcknowledged psn q (acknowledgement_below psn q)
+acknowledged psn q s sending low high =
+    by (first_unanswered q.requester.una psn (begun_requests q)) (unanswered-between q.requester.una psn (begun_requests q))
+  where
+    after : Option ℕ → Acknowledgement
+    after None = record { effects = progress_to psn q; went_back = false }
+    after (Some back) = record { effects = and_then (progress_to back q) (one_retry back); went_back = true }
+
+    by : (back : Option ℕ) → IsBetween q.requester.una psn back → IsAcknowledged psn q (after back)
+    by None between = record {
+      good = progress-good psn q s high;
+      low = λ e. omega (arith, low, (progress-after psn q).una);
+      high = λ e. omega (arith, high, (progress-after psn q).cursor);
+      cursor = λ e. (progress-after psn q).cursor;
+      state = λ e. (progress-after psn q).state;
+    }
+    by (Some back) between = record {
+      good = good-then q (progress_to back q) (one_retry back) progress
+          (retry-good back (progress_to back q).queue progress.sound (ap is_sending (progress-after back q).state ∙ sending)
+          (progress.sound.requester.retries (ap is_sending (progress-after back q).state ∙ sending))
+          (omega (arith, between.0, (progress-after back q).una)) (omega (arith, between.1, high, (progress-after back q).cursor)));
+      low = λ e. absurd (true≢false e);
+      high = λ e. absurd (true≢false e);
+      cursor = λ e. absurd (true≢false e);
+      state = λ e. absurd (true≢false e);
+    }
+      where
+        progress : IsGood q (progress_to back q)
+        progress = progress-good back q s (omega (arith, between.1, high))
+
+unless-back-good : (psn : ℕ) (q : QueuePair) (a : Acknowledgement) (f : QueuePair → Effects) → IsAcknowledged psn q a
+    → (a.went_back ≡ false → IsGood a.effects.queue (f a.effects.queue)) → IsGood q (unless_back a f)
+unless-back-good psn q a f after then_good = by a.went_back refl
+  where
+    by : (b : Bool) → a.went_back ≡ b → IsGood q (if b then a.effects else and_then a.effects f)
+    by true e = after.good
+    by false e = good-then q a.effects f after.good (then_good e)
+
+rnr-good : (psn : ℕ) (q : QueuePair) → IsQueue q → q.requester.una ≤ psn → psn ≤ q.requester.cursor → IsGood q (rnr_nak_effects psn q)
+rnr-good psn q s low high = by (nat_lt q.requester.rnr_retry MAX_RETRY && nat_le q.requester.rnr_retry q.requester.rnrs)
+  where
+    counted : QueuePair
+    counted = with_requester (record q.requester { rnrs = suc q.requester.rnrs }) q
+
+    same : IsLater q counted
+    same = record { queue = refl; domain = refl; send_cq = refl; recv_cq = refl; srq = refl; finished = omega arith; taken = taken-same q.receives }
+
+    by : (b : Bool) → IsGood q (if b then failure_effects RnrRetryExceeded None counted
+        else queue_and_marks (with_requester (record counted.requester { cursor = psn; waiting = true }) q) [])
+    by true = good-from q counted (failure_effects RnrRetryExceeded None counted) same
+        (failure-good RnrRetryExceeded None counted (requester-queue q counted.requester s (search rules) s.begun))
+    by false = record {
+      sound = requester-queue q (record counted.requester { cursor = psn; waiting = true }) s (search rules) (λ sending. omega (arith, high, s.begun sending));
+      later = record { queue = refl; domain = refl; send_cq = refl; recv_cq = refl; srq = refl; finished = omega arith; taken = taken-same q.receives };
+      settled = record {};
+    }
+
+nak-good : (psn : ℕ) (code : NakCode) (q : QueuePair) → IsQueue q → is_sending q.state ≡ true → q.requester.retries ≤ q.requester.retry → q.requester.una ≤ psn
+    → psn ≤ q.requester.cursor → IsGood q (nak_effects psn code q)
+nak-good psn PsnSequenceError q s sending few low high = retry-good psn q s sending few low high
+nak-good psn InvalidRequest q s sending few low high = failure-good RemoteInvalidRequest None q s
+nak-good psn RemoteAccessError q s sending few low high = failure-good RemoteAccess None q s
+nak-good psn RemoteOperationalError q s sending few low high = failure-good RemoteOperation None q s
+
+few-retries : (psn : ℕ) (q : QueuePair) (a : Acknowledgement) → is_sending q.state ≡ true → IsAcknowledged psn q a → a.went_back ≡ false
+    → a.effects.queue.requester.retries ≤ a.effects.queue.requester.retry
+few-retries psn q a sending after e = after.good.sound.requester.retries (ap is_sending (after.state e) ∙ sending)
+
+acknowledge-good : (psn : ℕ) (syndrome : Option Syndrome) (q : QueuePair) → IsQueue q → is_sending q.state ≡ true → q.requester.una ≤ psn → psn < q.requester.cursor
+    → IsGood q (acknowledge_row psn syndrome q)
+acknowledge-good psn (Some (Ack credits)) q s sending low high = (acknowledged (suc psn) q s sending (omega (arith, low)) high).good
+acknowledge-good psn (Some (RnrNak timer)) q s sending low high =
+    unless-back-good psn q (acknowledgement_below psn q) (rnr_nak_effects psn) after (λ e. rnr-good psn _ after.good.sound (after.low e) (after.high e))
+  where
+    after : IsAcknowledged psn q (acknowledgement_below psn q)
+    after = acknowledged psn q s sending low (omega (arith, high))
+acknowledge-good psn (Some (Nak code)) q s sending low high =
+    unless-back-good psn q (acknowledgement_below psn q) (nak_effects psn code) after
+    (λ e. nak-good psn code _ after.good.sound (ap is_sending (after.state e) ∙ sending) (few-retries psn q (acknowledgement_below psn q) sending after e) (after.low e) (after.high e))
+  where
+    after : IsAcknowledged psn q (acknowledgement_below psn q)
+    after = acknowledged psn q s sending low (omega (arith, high))
+acknowledge-good psn None q s sending low high = drop-good q drops.Stale s
+
+pub local-writes-settled : (q : QueuePair) (xs : List (Ask × List ℕ)) → AreSettledMarks q (local_writes xs)
+local-writes-settled q [] = record {}
+local-writes-settled q (x ∷ xs) = (record {}, local-writes-settled q xs)
+
+-- marks that tell of no completion, before those of effects
+pub more-marks : (q : QueuePair) (e : Effects) (ms : List Mark) → AreSettledMarks e.queue ms → IsGood q e → IsGood q (record e { marks = ms ++ e.marks })
+more-marks q e ms all good = record { sound = good.sound; later = good.later; settled = settled-append e.queue ms e.marks all good.settled }
+
+pub more-writes : (q : QueuePair) (e : Effects) (writes : List (Ask × List ℕ)) → IsGood q e → IsGood q (record e { writes = writes })
+more-writes q e writes good = record { sound = good.sound; later = good.later; settled = good.settled }
+
+answer-good : (psn : ℕ) (p : Fields) (q : QueuePair) (before : Effects) (n : Numbered) → IsGood q before → psn < before.queue.requester.cursor
+    → IsShort n → IsGoodRow q (answer_row psn p before n)
+answer-good psn p q before n good high short = record {
+  denied = λ d. good-then q before (denied d) good
+      (more-marks before.queue (failure_effects LocalProtection None before.queue) (local_denial d ∷ []) (record {}, record {})
+      (failure-good LocalProtection None before.queue good.sound));
+  allowed = λ bytes refusal. more-writes q (and_then before placed) writes (good-then q before placed good
+      (more-marks before.queue (progress_to (suc psn) before.queue) (local_writes writes)
+      (local-writes-settled (progress_to (suc psn) before.queue).queue writes) (progress-good (suc psn) before.queue good.sound high)));
+  few = list-asks before.queue kinds.Write (segment_at psn before.queue n) (length (answer_bytes p)) (list_of n.request.op) short;
+}
+  where
+    writes : List (Ask × List ℕ)
+    writes = writes_by (answer_asks psn p before.queue n) (answer_bytes p)
+
+    denied : DeniedAsk → QueuePair → Effects
+    denied d q = record (failure_effects LocalProtection None q) { marks = local_denial d ∷ (failure_effects LocalProtection None q).marks }
+
+    placed : QueuePair → Effects
+    placed q = record (progress_to (suc psn) q) { marks = local_writes writes ++ (progress_to (suc psn) q).marks }
+
+fitting-good : (psn : ℕ) (p : Fields) (q : QueuePair) (a : Acknowledgement) → IsAcknowledged psn q a → psn < q.requester.cursor → IsGoodRow q (fitting_row psn p a)
+fitting-good psn p q a after high = back a.went_back refl
+  where
+    bad : Row
+    bad = plain_row (Does (and_then a.effects (failure_effects BadResponse None)))
+
+    is_bad : IsGoodRow q bad
+    is_bad = plain-good q _ (good-then q a.effects (failure_effects BadResponse None) after.good (failure-good BadResponse None a.effects.queue after.good.sound))
+
+    at : Option Numbered → Row
+    at None = bad
+    at (Some n) = if fits_request psn p a.effects.queue n then answer_row psn p a.effects n else bad
+
+    fits : (n : Numbered) → IsShort n → a.went_back ≡ false → (b : Bool) → IsGoodRow q (if b then answer_row psn p a.effects n else bad)
+    fits n short e true = answer-good psn p q a.effects n after.good (omega (arith, high, after.cursor e)) short
+    fits n short e false = is_bad
+
+    by : (n : Option Numbered) → IfSome n IsShort → a.went_back ≡ false → IsGoodRow q (at n)
+    by None short e = is_bad
+    by (Some n) short e = fits n short e (fits_request psn p a.effects.queue n)
+
+    back : (b : Bool) → a.went_back ≡ b → IsGoodRow q (if b then plain_row (Does a.effects) else at (request_at psn a.effects.queue))
+    back true e = plain-good q (Does a.effects) after.good
+    back false e = by (request_at psn a.effects.queue) (found-short psn a.effects.queue after.good.sound) e
+
+outstanding-good : (psn : ℕ) (p : Fields) (q : QueuePair) → IsQueue q → is_sending q.state ≡ true → q.requester.una ≤ psn → psn < q.requester.cursor
+    → IsGoodRow q (outstanding_row psn p q)
+outstanding-good psn p q s sending low high = by (p.opcode == ACKNOWLEDGE)
+  where
+    by : (b : Bool) → IsGoodRow q (if b then plain_row (Does (acknowledge_row psn (option_and_then (λ a. syndrome_in a.syndrome) p.aeth) q))
+        else fitting_row psn p (acknowledgement_below psn q))
+    by true = plain-good q _ (acknowledge-good psn (option_and_then (λ a. syndrome_in a.syndrome) p.aeth) q s sending low high)
+    by false = fitting-good psn p q (acknowledgement_below psn q) (acknowledged psn q s sending low (omega (arith, high))) high
+
+pub response-good : (p : Fields) (q : QueuePair) → IsQueue q → IsGoodRow q (response_row p q)
+response-good p q s = by (is_sending q.state) refl
+  where
+    there : (b : Bool) → is_outstanding_at (response_psn q p) q ≡ b → is_sending q.state ≡ true
+        → IsGoodRow q (if not b then plain_row (Does (drop_effects q drops.Stale)) else outstanding_row (response_psn q p) p q)
+    there true e sending = outstanding-good (response_psn q p) p q s sending (leb-true q.requester.una (response_psn q p) (parts e).0)
+        (ltb-true (response_psn q p) q.requester.cursor (parts e).1)
+      where
+        parts : is_outstanding_at (response_psn q p) q ≡ true → (nat_le q.requester.una (response_psn q p) ≡ true) × (nat_lt (response_psn q p) q.requester.cursor ≡ true)
+        parts e = and_parts (nat_le q.requester.una (response_psn q p)) (nat_lt (response_psn q p) q.requester.cursor) e
+    there false e sending = plain-good q _ (drop-good q drops.Stale s)
+
+    by : (b : Bool) → is_sending q.state ≡ b → IsGoodRow q (if not b then plain_row (Does (drop_effects q drops.State))
+        else if not (is_outstanding_at (response_psn q p) q) then plain_row (Does (drop_effects q drops.Stale)) else outstanding_row (response_psn q p) p q)
+    by true e = there (is_outstanding_at (response_psn q p) q) refl e
+    by false e = plain-good q _ (drop-good q drops.State s)

@@ -1,0 +1,7 @@
+pub mod WindowRowLemmas
+pub mod WindowWorldLemmas
+pub mod WindowBindLemmas
+pub mod WindowOperationLemmas
+pub mod WindowTurnLemmas
+pub mod WindowEventLemmas
+pub mod BindingLemmas
