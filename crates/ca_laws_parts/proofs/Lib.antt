@@ -1,3 +1,4 @@
+pub mod NeedsLemmas
 pub mod TouchLemmas
 pub mod WriteLemmas
 pub mod PartLemmas

@@ -1,6 +1,5 @@
 -- What local operations, the requester's turn and the verbs touch lies in the table of parts.
-use Rattle.std.proofs.Common.{ℕ, suc, inl, inr, Bool, true, false, List, [], ◌∷◌, ◌++◌, Option, None, Some, IfSome, ◌==◌, not, if◌then◌else◌, refl}
-use Rattle.std.specs.Option.{option_map_or}
+use Rattle.std.proofs.Common.{◌≡◌, ℕ, suc, inl, inr, subst, sym, Bool, true, false, List, [], ◌++◌, Option, None, Some, IfSome, ◌==◌, not, if◌then◌else◌, refl}
 use Rattle.ca_keys.specs.declared.key.Key.{Key}
 use Rattle.ca_base.specs.declared.lot.Lot.{Lot}
 use Rattle.ca_keys.specs.declared.names.DomainId.{DomainId}
@@ -14,23 +13,23 @@ use Rattle.ca_base.specs.declared.step.Reason.TheVariants as reasons
 use Rattle.ca_base.specs.Configuration.{Configuration}
 use Rattle.ca_base.specs.declared.correspondent.Correspondent.{Correspondent}
 use Rattle.ca_base.specs.objects.QueuePair.{QueuePair}
-use Rattle.ca_base.specs.objects.Slices.{slot_of_key}
+use Rattle.ca_base.specs.objects.Slices.{names_region, slot_of_key}
 use Rattle.ca_base.specs.objects.Window.{Binding, Window}
 use Rattle.ca_model.specs.declared.event.Event.TheVariants as events
 use Rattle.ca_model.specs.machine.Around.{With_around, updates_of}
 use Rattle.ca_model.specs.machine.LocalOperations.{Bind1_plan, Bind2_plan, Finishing, Perform_op, PlacedRegion, With_former, With_named, bind1_changes, bind1_marks, bind1_refusal, bind2_changes, bind2_marks, bind2_refusal, drawn_by, fast_changes, fast_marks, fast_refusal, former_updates, invalidate_row, named_updates, operation_effects, region_slot, window_slot}
 use Rattle.ca_model.specs.machine.Numbering.{Numbered}
-use Rattle.ca_model.specs.machine.Plan.{Finish, Look, Plan, Stuck, Update, Write, names_updated}
+use Rattle.ca_model.specs.machine.Plan.{Finish, Look, Plan, Update, Write, names_updated}
 use Rattle.ca_model.specs.machine.Requester.{RequestTurn, Waits, Performs, Sends, denied_list_effects, is_outstanding, is_too_much, packet_asks, packet_row, sent_packet, turn_of}
 use Rattle.ca_model.specs.machine.Row.{Does, Effects, NotPossible, Row, plain_row, queue_and_marks, region_under, unless_none}
 use Rattle.ca_model.specs.machine.Turns.{Request_around, has_room_for, request_plan}
 use Rattle.ca_model.specs.machine.World.{Region_of, World}
 use Rattle.ca_model.specs.declared.part_name.PartName.{PartName}
 use Rattle.ca_model.specs.declared.part_name.PartName.TheVariants as names
-use Rattle.ca_model.specs.machine.Parts.{IsAmong, around_parts, event_parts, key_parts, operation_parts, peer_mailbox, region_parts, row_parts, turn_parts, window_parts}
+use Rattle.ca_model.specs.machine.Parts.{Enough, IsAmong, Needs, Part, around_needs, bind_needs, event_needs, listed, operation_needs, region_part, request_needs, row_needs, where_some, window_needs}
 use Rattle.ca_model.specs.machine.Sound.{IsSoundWorld}
-use Rattle.ca_laws_parts.proofs.PartLemmas.{AreThree, In, Included, among-left, among-right, around-in, key-in, left-in, present-in, queue-part, row-in, three, updates-in}
-use Rattle.ca_laws_parts.proofs.TouchLemmas.{KeyIn, NamesIn, TouchesIn, WritesAt, unless-in, updated-append}
+use Rattle.ca_laws_parts.proofs.PartLemmas.{Given, In, Included, IsAround, around-given, around-in, around_parts, former-region, given-first, given-second, left-in, row-in, turn-in, updates-in}
+use Rattle.ca_laws_parts.proofs.TouchLemmas.{NamesIn, TouchesIn, WritesAt, unless-in, updated-append}
 use Rattle.ca_laws_sound.proofs.WorldLemmas.{around_in, shared_of}
 use Rattle.ca_laws_parts.proofs.WriteLemmas.{invalidate-writes, packet-writes}
 
@@ -41,27 +40,28 @@ GoesOn w ps finish = (e : Effects) (cs : List Update) (ws : List Write) → Name
 abbrev PlacedIn : List PartName → Option PlacedRegion → Type 0
 PlacedIn ps r = IfSome r (λ f. In ps (Region_of f.slot))
 
-named-in : (c : Configuration) (w : World) (ps : List PartName) (d : DomainId) (key : Key) (k : Option PlacedRegion → Plan) → KeyIn c w (In ps) d key
+-- the region that a key names is among these parts
+abbrev NamesGiven : Configuration → List PartName → DomainId → Key → Type 0
+NamesGiven c ps d key = names_region c d key ≡ true → IsAmong ps (names.Region (slot_of_key d key))
+
+named-in : (c : Configuration) (w : World) (ps : List PartName) (d : DomainId) (key : Key) (k : Option PlacedRegion → Plan) → NamesGiven c ps d key
     → ((r : Option PlacedRegion) → PlacedIn ps r → TouchesIn w (In ps) (k r)) → TouchesIn w (In ps) (With_named c d key k)
 named-in c w ps d key k all more = (
-  λ named. ((all.region named).region, more (Some (record { slot = slot_of_key d key; region = w.region (slot_of_key d key) })) (all.region named).region),
+  λ named. (all named, more (Some (record { slot = slot_of_key d key; region = w.region (slot_of_key d key) })) (all named)),
   λ none. more None (record {}),
 )
 
-former-in : (c : Configuration) (w : World) (ps : List PartName) (s : Slot) (k : Option PlacedRegion → Plan) → IsSoundWorld c w → Included (window_parts w s) ps
+former-in : (c : Configuration) (w : World) (ps : List PartName) (s : Slot) (k : Option PlacedRegion → Plan) → Given w ps (window_needs region_part s)
     → ((r : Option PlacedRegion) → PlacedIn ps r → TouchesIn w (In ps) (k r)) → TouchesIn w (In ps) (With_former (w.window s) k)
-former-in c w ps s k sound inc more = by (w.window s).binding (λ p among. inc p (inr among))
+former-in c w ps s k inc more = by (w.window s).binding (former-region w ps s inc)
   where
     plan : Option Binding → Plan
     plan None = k None
     plan (Some b) = Look (Region_of (region_under (w.window s) b)) (λ region. k (Some (record { slot = region_under (w.window s) b; region = region })))
 
-    by : (o : Option Binding) → Included (option_map_or (λ b. region_parts w (region_under (w.window s) b)) o []) ps → TouchesIn w (In ps) (plan o)
+    by : (o : Option Binding) → IfSome o (λ b. IsAmong ps (names.Region (region_under (w.window s) b))) → TouchesIn w (In ps) (plan o)
     by None inc = more None (record {})
-    by (Some b) inc = (
-      inc (names.Region (region_under (w.window s) b)) (inl refl),
-      more (Some (record { slot = region_under (w.window s) b; region = w.region (region_under (w.window s) b) })) (inc (names.Region (region_under (w.window s) b)) (inl refl)),
-    )
+    by (Some b) among = (among, more (Some (record { slot = region_under (w.window s) b; region = w.region (region_under (w.window s) b) })) among)
 
 former-updated : (ps : List PartName) (former : Option PlacedRegion) → PlacedIn ps former → NamesIn (In ps) (names_updated (former_updates former))
 former-updated ps None placed = record {}
@@ -72,12 +72,12 @@ named-updated ps former None placed = record {}
 named-updated ps former (Some n) placed = (placed, record {})
 
 bind1-in : (c : Configuration) (w : World) (ps : List PartName) (q : QueuePair) (n : Numbered) (window : ℕ) (key : Key) (address count : ℕ) (rights : Rights) (finish : Finishing)
-    → IsSoundWorld c w → Included (key_parts c w q.domain key) ps → Included (window_parts w (window_slot q window)) ps → GoesOn w ps finish
+    → NamesGiven c ps q.domain key → Given w ps (window_needs region_part (window_slot q window)) → GoesOn w ps finish
     → TouchesIn w (In ps) (Bind1_plan c q n window key address count rights finish)
-bind1-in c w ps q n window key address count rights finish sound keys windows more = (
+bind1-in c w ps q n window key address count rights finish keys windows more = (
   windows (names.Window slot) (inl refl),
-  named-in c w ps q.domain key (λ named. With_former x (λ former. ending named former)) (key-in c w ps q.domain key sound keys) (λ named named-there.
-      former-in c w ps slot (λ former. ending named former) sound windows (λ former former-there.
+  named-in c w ps q.domain key (λ named. With_former x (λ former. ending named former)) keys (λ named named-there.
+      former-in c w ps slot (λ former. ending named former) windows (λ former former-there.
       more (effects named) (unless_none (refusal named) (bind1_changes slot (drawn_by n) x former named address count rights)) []
       (unless-in (In ps) (refusal named) (bind1_changes slot (drawn_by n) x former named address count rights) (changed former named former-there named-there)) (record {}))),
 )
@@ -109,12 +109,12 @@ bind1-in c w ps q n window key address count rights finish sound keys windows mo
     )
 
 bind2-in : (c : Configuration) (w : World) (ps : List PartName) (q : QueuePair) (n : Numbered) (window : ℕ) (key : Key) (low address count : ℕ) (rights : Rights) (finish : Finishing)
-    → IsSoundWorld c w → Included (key_parts c w q.domain key) ps → Included (window_parts w (window_slot q window)) ps → GoesOn w ps finish
+    → NamesGiven c ps q.domain key → Given w ps (window_needs region_part (window_slot q window)) → GoesOn w ps finish
     → TouchesIn w (In ps) (Bind2_plan c q n window key low address count rights finish)
-bind2-in c w ps q n window key low address count rights finish sound keys windows more = (
+bind2-in c w ps q n window key low address count rights finish keys windows more = (
   windows (names.Window slot) (inl refl),
-  named-in c w ps q.domain key (λ named. With_former x (λ former. ending named)) (key-in c w ps q.domain key sound keys) (λ named named-there.
-      former-in c w ps slot (λ former. ending named) sound windows (λ former former-there.
+  named-in c w ps q.domain key (λ named. With_former x (λ former. ending named)) keys (λ named named-there.
+      former-in c w ps slot (λ former. ending named) windows (λ former former-there.
       more (effects named) (unless_none (refusal named) (bind2_changes slot low q.queue x named address count rights)) []
       (unless-in (In ps) (refusal named) (bind2_changes slot low q.queue x named address count rights)
       (windows (names.Window slot) (inl refl), named-updated ps None named named-there)) (record {}))),
@@ -135,14 +135,37 @@ bind2-in c w ps q n window key low address count rights finish sound keys window
     ending : Option PlacedRegion → Plan
     ending named = finish (effects named) (unless_none (refusal named) (bind2_changes slot low q.queue x named address count rights)) []
 
-perform-in : (c : Configuration) (w : World) (ps : List PartName) (q : QueuePair) (n : Numbered) (finish : Finishing) (op : SendOp) → IsSoundWorld c w → Included (operation_parts c w q op) ps
+-- what a bind names is given
+record BindGiven (c : Configuration) (w : World) (ps : List PartName) (q : QueuePair) (window : ℕ) (key : Key) : Type 0 where
+  keys : NamesGiven c ps q.domain key
+  windows : Given w ps (window_needs region_part (window_slot q window))
+
+bind-given : (c : Configuration) (w : World) (ps : List PartName) (q : QueuePair) (window : ℕ) (key : Key) → Given w ps (bind_needs c q window key) → BindGiven c w ps q window key
+bind-given c w ps q window key inc = record {
+  keys = λ named. given-second w ps first (chosen (names_region c q.domain key)) inc (names.Region slot)
+      (subst (λ b. IsAmong (listed w (chosen b)) (names.Region slot)) (sym named) (inl refl));
+  windows = given-first w ps first (chosen (names_region c q.domain key)) inc;
+}
+  where
+    slot : Slot
+    slot = slot_of_key q.domain key
+
+    first : Needs
+    first = window_needs region_part (window_slot q window)
+
+    chosen : Bool → Needs
+    chosen b = if b then region_part slot else Enough
+
+perform-in : (c : Configuration) (w : World) (ps : List PartName) (q : QueuePair) (n : Numbered) (finish : Finishing) (op : SendOp) → IsSoundWorld c w → Given w ps (operation_needs c q op)
     → GoesOn w ps finish → TouchesIn w (In ps) (Perform_op c q n finish op)
-perform-in c w ps q n finish (ops.Bind1 window key address count rights) sound inc more = bind1-in c w ps q n window key address count rights finish sound
-    (λ p among. inc p (among-left (key_parts c w q.domain key) (window_parts w (window_slot q window)) p among))
-    (λ p among. inc p (among-right (key_parts c w q.domain key) (window_parts w (window_slot q window)) p among)) more
-perform-in c w ps q n finish (ops.Bind2 window key low address count rights) sound inc more = bind2-in c w ps q n window key low address count rights finish sound
-    (λ p among. inc p (among-left (key_parts c w q.domain key) (window_parts w (window_slot q window)) p among))
-    (λ p among. inc p (among-right (key_parts c w q.domain key) (window_parts w (window_slot q window)) p among)) more
+perform-in c w ps q n finish (ops.Bind1 window key address count rights) sound inc more = by (bind-given c w ps q window key inc)
+  where
+    by : BindGiven c w ps q window key → TouchesIn w (In ps) (Bind1_plan c q n window key address count rights finish)
+    by all = bind1-in c w ps q n window key address count rights finish all.keys all.windows more
+perform-in c w ps q n finish (ops.Bind2 window key low address count rights) sound inc more = by (bind-given c w ps q window key inc)
+  where
+    by : BindGiven c w ps q window key → TouchesIn w (In ps) (Bind2_plan c q n window key low address count rights finish)
+    by all = bind2-in c w ps q n window key low address count rights finish all.keys all.windows more
 perform-in c w ps q n finish (ops.FastReg region low buffer address count rights pages) sound inc more = (
   inc (names.Region (region_slot q region)) (inl refl),
   more (operation_effects q n q (fast_marks q region low buffer address count rights pages) refusal) (unless_none refusal changed) []
@@ -165,10 +188,9 @@ perform-in c w ps q n finish (ops.CmpSwap address key compare swap list) sound i
 perform-in c w ps q n finish (ops.FetchAdd address key add list) sound inc more = more (queue_and_marks q []) [] [] (record {}) (record {})
 
 -- whether there is room changes nothing of what a packet asks for
-packet-included : (c : Configuration) (w : World) (room : Bool) (q : QueuePair) (n : Numbered) (ps : List PartName) → Included (row_parts c w (packet_row q true n)) ps
-    → Included (row_parts c w (packet_row q room n)) ps
-packet-included c w true q n ps inc = inc
-packet-included c w false q n ps inc = by (is_too_much q n) inc
+packet-given : (c : Configuration) (w : World) (room : Bool) (q : QueuePair) (n : Numbered) (ps : List PartName) → Given w ps (row_needs c (packet_row q true n)) → Given w ps (row_needs c (packet_row q room n))
+packet-given c w true q n ps inc = inc
+packet-given c w false q n ps inc = by (is_too_much q n) inc
   where
     row : Bool → Row
     row room = record {
@@ -181,41 +203,39 @@ packet-included c w false q n ps inc = by (is_too_much q n) inc
       allowed = λ bytes refusal. if not room then NotPossible reasons.NoRoom else Does (sent_packet q n bytes);
     }
 
-    by : (b : Bool) → Included (row_parts c w (if b then plain_row (NotPossible reasons.Outstanding) else row true)) ps
-        → Included (row_parts c w (if b then plain_row (NotPossible reasons.Outstanding) else row false)) ps
+    by : (b : Bool) → Given w ps (row_needs c (if b then plain_row (NotPossible reasons.Outstanding) else row true))
+        → Given w ps (row_needs c (if b then plain_row (NotPossible reasons.Outstanding) else row false))
     by true inc = inc
     by false inc = inc
 
-pub request-in : (c : Configuration) (w : World) (name : QueueId) (lot : Lot) → IsSoundWorld c w → TouchesIn w (In (event_parts c w (events.Request name lot))) (request_plan c name lot)
-request-in c w name lot sound = (
-  λ has. (
-    inl refl,
-    present-in c w ps name parts (λ q. With_around q (λ a. Request_around c lot q a q.peer (turn_of q))) (Stuck reasons.State) sound (λ p among. inr among) (record {})
-        (λ q there is inc. by q (queue-part ps q.queue name is (inl refl)) (three (around_parts q) (peer_mailbox q) (turn_parts c w q (turn_of q)) ps inc)) (w.queue name) refl,
-  ),
-  λ none. record {},
-)
+pub request-in : (c : Configuration) (w : World) (ps : List PartName) (name : QueueId) (lot : Lot) → IsSoundWorld c w → Given w ps (event_needs c (events.Request name lot))
+    → TouchesIn w (In ps) (request_plan c name lot)
+request-in c w ps name lot sound inc = turn-in c w ps name reasons.State needs (λ q. With_around q (λ a. Request_around c lot q a q.peer (turn_of q))) sound inc
+    (λ q queue given. at q queue (around-given w ps q (λ shared. request_needs c q (turn_of q)) given))
   where
-    parts : QueuePair → List PartName
-    parts q = around_parts q ++ peer_mailbox q ++ turn_parts c w q (turn_of q)
+    needs : QueuePair → Needs
+    needs q = around_needs q (λ shared. request_needs c q (turn_of q))
 
-    ps : List PartName
-    ps = event_parts c w (events.Request name lot)
+    sends : QueuePair → Numbered → Correspondent → Needs
+    sends q n p = Part (names.Mailbox p.queue) (row_needs c (packet_row q true n))
 
-    turns : (q : QueuePair) (o : Option Correspondent) (turn : RequestTurn) → IsAmong ps (names.Queue q.queue) → Included (around_parts q) ps
-        → Included (option_map_or (λ p. names.Mailbox p.queue ∷ []) o []) ps → Included (turn_parts c w q turn) ps
-        → TouchesIn w (In ps) (Request_around c lot q (around_in w q (shared_of w q)) o turn)
-    turns q o (Waits reason) queue around mailbox all = record {}
-    turns q o (Performs n) queue around mailbox all =
-        perform-in c w ps q n (λ e changes writes. Finish (updates_of q (around_in w q (shared_of w q)) e ++ changes) writes e.marks) n.request.op sound all
-        (λ e cs ws named at. (updates-in ps q (around_in w q (shared_of w q)) e cs queue around named, at))
-    turns q None (Sends n) queue around mailbox all = record {}
-    turns q (Some peer) (Sends n) queue around mailbox all = (
-      mailbox (names.Mailbox peer.queue) (inl refl),
+    sent : (q : QueuePair) (n : Numbered) (o : Option Correspondent) → IsAmong ps (names.Queue q.queue) → Included (around_parts q) ps → Given w ps (where_some (sends q n) o)
+        → TouchesIn w (In ps) (Request_around c lot q (around_in w q (shared_of w q)) o (Sends n))
+    sent q n None queue around all = record {}
+    sent q n (Some peer) queue around all = (
+      all (names.Mailbox peer.queue) (inl refl),
       left-in c w ps q peer lot (packet_row q (has_room_for q peer (w.mailbox peer.queue)) n) sound (packet-writes q (has_room_for q peer (w.mailbox peer.queue)) n)
-          (packet-included c w (has_room_for q peer (w.mailbox peer.queue)) q n ps all) queue around (mailbox (names.Mailbox peer.queue) (inl refl)),
+          (packet-given c w (has_room_for q peer (w.mailbox peer.queue)) q n ps (λ p among. all p (inr among))) queue around (all (names.Mailbox peer.queue) (inl refl)),
     )
 
-    by : (q : QueuePair) → IsAmong ps (names.Queue q.queue) → AreThree (around_parts q) (peer_mailbox q) (turn_parts c w q (turn_of q)) ps
+    turns : (q : QueuePair) (turn : RequestTurn) → IsAmong ps (names.Queue q.queue) → Included (around_parts q) ps → Given w ps (request_needs c q turn)
+        → TouchesIn w (In ps) (Request_around c lot q (around_in w q (shared_of w q)) q.peer turn)
+    turns q (Waits reason) queue around all = record {}
+    turns q (Performs n) queue around all =
+        perform-in c w ps q n (λ e changes writes. Finish (updates_of q (around_in w q (shared_of w q)) e ++ changes) writes e.marks) n.request.op sound all
+        (λ e cs ws named at. (updates-in ps q (around_in w q (shared_of w q)) e cs queue around named, at))
+    turns q (Sends n) queue around all = sent q n q.peer queue around all
+
+    at : (q : QueuePair) → IsAmong ps (names.Queue q.queue) → IsAround w ps q (λ shared. request_needs c q (turn_of q))
         → TouchesIn w (In ps) (With_around q (λ a. Request_around c lot q a q.peer (turn_of q)))
-    by q queue all = around-in w ps q (λ a. Request_around c lot q a q.peer (turn_of q)) all.first (turns q q.peer (turn_of q) queue all.first all.second all.third)
+    at q queue all = around-in w ps q (λ a. Request_around c lot q a q.peer (turn_of q)) all.around (turns q (turn_of q) queue all.around all.more)

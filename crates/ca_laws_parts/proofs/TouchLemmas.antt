@@ -1,5 +1,5 @@
 -- What a plan touches: the names that it looks at, reads, changes and writes, where each has a property.
-use Rattle.std.proofs.Common.{◌≡◌, ℕ, ◌-◌, min, nat_le, Bool, true, false, List, [], ◌∷◌, ◌++◌, map, Option, None, Some, IfSome, ◌==◌, sym, true≢false, if◌then◌else◌, refl}
+use Rattle.std.proofs.Common.{◌≡◌, ℕ, ◌-◌, min, nat_le, Bool, true, false, List, [], ◌∷◌, ◌++◌, map, Option, None, Some, IfSome, ◌==◌, if◌then◌else◌, refl}
 use Rattle.std.specs.List.{AllByRecursion}
 use Rattle.ca_keys.specs.declared.access.Ask.{Ask}
 use Rattle.ca_keys.specs.declared.grant.Grant.{Grant}
@@ -96,14 +96,22 @@ pub record RegionIn (w : World) (A : Name → Type 0) (s : Slot) : Type 0 where
   pub region : A (Region_of s)
   pub buffer : GrantIn A (grant_of_region (w.region s))
 
--- what a key names: a region, or a window and the region of its binding
-pub record KeyIn (c : Configuration) (w : World) (A : Name → Type 0) (d : DomainId) (key : Key) : Type 0 where
-  pub region : names_region c d key ≡ true → RegionIn w A (slot_of_key d key)
-  pub window : names_window c d key ≡ true → A (Window_of (slot_of_key d key))
-  pub under : names_window c d key ≡ true → IfSome (w.window (slot_of_key d key)).binding (λ b. RegionIn w A (region_under (w.window (slot_of_key d key)) b))
+-- an access's key names a window: it is no L_Key
+abbrev pub asks_window : Configuration → Ask → Bool
+asks_window c ask = if ask.local then false else names_window c ask.domain ask.key
 
-abbrev pub AskIn : Configuration → World → (Name → Type 0) → Ask → Type 0
-AskIn c w A ask = KeyIn c w A ask.domain ask.key
+-- what the key of an access names: a region, or a window and the region of its binding
+pub record AskIn (c : Configuration) (w : World) (A : Name → Type 0) (ask : Ask) : Type 0 where
+  pub region : names_region c ask.domain ask.key ≡ true → RegionIn w A (slot_of_key ask.domain ask.key)
+  pub window : asks_window c ask ≡ true → A (Window_of (slot_of_key ask.domain ask.key))
+  pub under : asks_window c ask ≡ true
+      → IfSome (w.window (slot_of_key ask.domain ask.key)).binding (λ b. RegionIn w A (region_under (w.window (slot_of_key ask.domain ask.key)) b))
+
+-- what a key names that ends: a region, or a window and the region of its binding, without their buffers
+pub record EndingIn (c : Configuration) (w : World) (A : Name → Type 0) (d : DomainId) (key : Key) : Type 0 where
+  pub region : names_region c d key ≡ true → A (Region_of (slot_of_key d key))
+  pub window : names_window c d key ≡ true → A (Window_of (slot_of_key d key))
+  pub under : names_window c d key ≡ true → IfSome (w.window (slot_of_key d key)).binding (λ b. A (Region_of (region_under (w.window (slot_of_key d key)) b)))
 
 fitting-in : (A : Name → Type 0) (ask : Ask) (g : Option Grant) → GrantIn A g → GrantIn A (grant_if_fitting ask g)
 fitting-in A ask None all = record {}
@@ -128,7 +136,7 @@ pub touches-grant : (c : Configuration) (w : World) (A : Name → Type 0) (ask :
     → ((g : Option Grant) → GrantIn A g → TouchesIn w A (k g)) → TouchesIn w A (With_grant c ask k)
 touches-grant c w A ask k key more = (
   λ named. ((key.region named).region, more (grant_if_fitting ask (grant_of_region (w.region slot))) (fitting-in A ask (grant_of_region (w.region slot)) (key.region named).buffer)),
-  λ none. (λ named. windows ask.local named, λ none. more None (record {})),
+  λ none. (λ named. (key.window named, by (w.window slot).binding (key.under named)), λ none. more None (record {})),
 )
   where
     slot : Slot
@@ -146,10 +154,6 @@ touches-grant c w A ask k key more = (
           (fitting-in A ask (grant_over (w.window slot) b (w.region (region_under (w.window slot) b)))
           (over-in A (w.window slot) b (w.region (region_under (w.window slot) b)) under.buffer)),
     )
-
-    windows : (b : Bool) → (if b then false else names_window c ask.domain ask.key) ≡ true → A (Window_of slot) × TouchesIn w A (plan (w.window slot).binding)
-    windows true e = absurd (true≢false (sym e))
-    windows false e = (key.window e, by (w.window slot).binding (key.under e))
 
 -- grants of asks, in order
 abbrev pub GrantsIn : (Name → Type 0) → List (Option Grant) → Type 0
@@ -187,11 +191,11 @@ touches-writes c w A (x ∷ xs) k all more = touches-grant c w A x.0 (λ g. With
     (names-append A (byte_names (runs_by_grant x.0 g)) (names_written ws) (bytes-in A (runs_by_grant x.0 g) (granted-in A x.0 g one)) rest)))
 
 touches-invalidation : (c : Configuration) (w : World) (A : Name → Type 0) (i : Option Invalidation) (k : Option OpRefusal → List Update → Plan)
-    → IfSome i (λ i. KeyIn c w A i.domain i.key) → ((r : Option OpRefusal) (cs : List Update) → NamesIn A (names_updated cs) → TouchesIn w A (k r cs))
+    → IfSome i (λ i. EndingIn c w A i.domain i.key) → ((r : Option OpRefusal) (cs : List Update) → NamesIn A (names_updated cs) → TouchesIn w A (k r cs))
     → TouchesIn w A (With_invalidation c i k)
 touches-invalidation c w A None k key more = more None [] (record {})
 touches-invalidation c w A (Some i) k key more = (
-  λ named. ((key.region named).region, more _ _ ((key.region named).region, record {})),
+  λ named. (key.region named, more _ _ (key.region named, record {})),
   λ none. (λ named. (key.window named, by (w.window slot).binding (key.window named) (key.under named)), λ none. more _ [] (record {})),
 )
   where
@@ -204,9 +208,9 @@ touches-invalidation c w A (Some i) k key more = (
         k (window_refusal i.key i.queue (w.window slot))
         ((Window_of slot := without_binding (w.window slot)) ∷ (Region_of (region_under (w.window slot) b) := with_window_unbound region) ∷ []))
 
-    by : (o : Option Binding) → A (Window_of slot) → IfSome o (λ b. RegionIn w A (region_under (w.window slot) b)) → TouchesIn w A (plan o)
+    by : (o : Option Binding) → A (Window_of slot) → IfSome o (λ b. A (Region_of (region_under (w.window slot) b))) → TouchesIn w A (plan o)
     by None window under = more _ [] (record {})
-    by (Some b) window under = (under.region, more _ _ (window, (under.region, record {})))
+    by (Some b) window under = (under, more _ _ (window, (under, record {})))
 
 -- what a row's writes go by
 abbrev pub WritesIn : (Ask → Type 0) → Effects → Type 0
@@ -217,7 +221,7 @@ unless-in A None cs all = all
 unless-in A (Some r) cs all = record {}
 
 pub touches-row : (c : Configuration) (w : World) (A : Name → Type 0) (row : Row) (finish : Effects → List Update → List Write → Plan) → AllByRecursion (AskIn c w A) row.asks
-    → IfSome row.invalidation (λ i. KeyIn c w A i.domain i.key) → RowDoes (WritesIn (AskIn c w A)) row
+    → IfSome row.invalidation (λ i. EndingIn c w A i.domain i.key) → RowDoes (WritesIn (AskIn c w A)) row
     → ((e : Effects) (cs : List Update) (ws : List Write) → NamesIn A (names_updated cs) → WritesAt A ws → TouchesIn w A (finish e cs ws)) → TouchesIn w A (Row_plan c row finish)
 touches-row c w A row finish asks key does more = touches-grants c w A row.asks _ asks (λ gs all. by gs all (first_denied_by row.asks gs))
   where

@@ -1,5 +1,5 @@
 -- What the verbs touch lies in the table of parts.
-use Rattle.std.proofs.Common.{◌≡◌, ℕ, suc, ◌-◌, min, nat_lt, arith, inl, inr, Bool, false, List, [], ◌∷◌, ◌++◌, length, map, take, Option, None, Some, subst, ◌&&◌, ◌||◌, ◌==◌, not, ap₂, sym, is_none, refl}
+use Rattle.std.proofs.Common.{◌≡◌, ℕ, suc, ◌-◌, min, nat_lt, arith, inl, inr, Bool, false, List, [], ◌∷◌, ◌++◌, length, take, Option, None, Some, IfSome, subst, ◌&&◌, ◌||◌, ◌==◌, not, ap₂, sym, true, if◌then◌else◌, is_none, refl}
 use Rattle.std.proofs.lemmas.Bool.{ltb-false, or_parts}
 use Rattle.std.specs.Option.{option_and_then, option_map, option_map_or}
 use Rattle.ca_base.specs.declared.change.Change as state_change
@@ -21,7 +21,7 @@ use Rattle.ca_keys.specs.Numbers.{queue_of}
 use Rattle.ca_base.specs.objects.CompletionQueue.{CompletionQueue, after_polls, after_reserve}
 use Rattle.ca_base.specs.objects.Domain.{with_object, without_object}
 use Rattle.ca_base.specs.objects.Mailbox.{with_peer}
-use Rattle.ca_base.specs.objects.QueuePair.{QueuePair, QueueSlot, NoQueue, Present, queue_in, recv_cq_of, send_cq_of, srq_of}
+use Rattle.ca_base.specs.objects.QueuePair.{QueuePair, QueueSlot, NoQueue, Present, recv_cq_of, send_cq_of, srq_of}
 use Rattle.ca_base.specs.objects.Region.{with_window_unbound}
 use Rattle.ca_base.specs.objects.SharedReceives.{SharedReceives, SrqSlot, after_receive_post, after_receives_retire, is_full_of_receives}
 use Rattle.ca_base.specs.objects.StateTable.{modify_refusals, queue_after_change}
@@ -34,15 +34,16 @@ use Rattle.ca_model.specs.declared.mark.Mark.TheVariants as marks
 use Rattle.ca_model.specs.declared.verb.Verb.{Verb}
 use Rattle.ca_model.specs.declared.verb.Verb.TheVariants as verbs
 use Rattle.ca_model.specs.Requests.{list_length}
-use Rattle.ca_model.specs.machine.Around.{Around, cq_updates}
+use Rattle.ca_model.specs.machine.Around.{Around, With_around, cq_updates}
 use Rattle.ca_model.specs.machine.CompletionVerbs.{Poll_of, With_place, With_places, create_cq_plan, create_srq_plan, destroy_cq_plan, destroy_srq_plan, poll_plan, receives_after_poll, slot_after_poll, source_of_completion}
 use Rattle.ca_model.specs.machine.Completions.{flush_marks}
 use Rattle.ca_model.specs.machine.DomainVerbs.{alloc_pd_plan, dealloc_pd_plan}
 use Rattle.ca_model.specs.machine.HostVerbs.{load_plan, store_plan}
 use Rattle.ca_model.specs.machine.Plan.{If, Look, Plan, Update, ◌:=◌, names_updated, unless_refused}
 use Rattle.ca_model.specs.machine.PostingVerbs.{Posted_send, post_recv_plan, post_send_plan, post_srq_plan}
+use Rattle.ca_base.specs.objects.WorkQueue.{occupied_count}
 use Rattle.ca_model.specs.machine.QueuePairVerbs
-use Rattle.ca_model.specs.machine.QueuePairVerbs.{Creation, With_present, With_shared, before_receives, beside, create_qp_plan, destroy_qp_plan, emptied_updates, has_bad_depth, has_no_room, left_updates, modify_qp_plan, new_queue, places_held, query_qp_plan, receive_reserve, receive_room, send_reserved, user_updates, without_queue}
+use Rattle.ca_model.specs.machine.QueuePairVerbs.{Creation, With_present, With_shared, before_receives, beside, create_qp_plan, destroy_qp_plan, emptied_updates, has_bad_depth, has_queues, has_no_room, left_updates, modify_qp_plan, new_queue, places_held, query_qp_plan, receive_reserve, receive_room, send_reserved, user_updates, without_queue}
 use Rattle.ca_model.specs.machine.RegionVerbs.{alloc_mr_plan, dereg_mr_plan, reg_mr_plan}
 use Rattle.ca_model.specs.machine.Row.{region_under}
 use Rattle.ca_model.specs.machine.Step.{bytes_of_buffer, run_of, verb_plan}
@@ -51,9 +52,9 @@ use Rattle.ca_model.specs.machine.WindowVerbs.{With_binder, alloc_mw_plan, deall
 use Rattle.ca_model.specs.machine.World.{Cq_of, Domain_of, Mailbox_of, Queue_of, Region_of, Srq_of, Window_of, World}
 use Rattle.ca_model.specs.declared.part_name.PartName.{PartName}
 use Rattle.ca_model.specs.declared.part_name.PartName.TheVariants as names
-use Rattle.ca_model.specs.machine.Parts.{IsAmong, around_parts, drawing_parts, parts_if_present, place_part, region_parts, verb_parts, window_parts}
+use Rattle.ca_model.specs.machine.Parts.{Enough, IsAmong, Needs, Part, drawing_needs, emptying_needs, listed, part, place_part, places_needs, present_needs, queues_needs, verb_needs, where_some}
 use Rattle.ca_model.specs.machine.Sound.{IsSoundWorld}
-use Rattle.ca_laws_parts.proofs.PartLemmas.{In, Included, among-left, among-right, around-in, inject-in, present-in, queue-part, srq-in}
+use Rattle.ca_laws_parts.proofs.PartLemmas.{Given, In, Included, around-given, around-in, around_parts, inject-in, present-in, srq-in}
 use Rattle.ca_laws_parts.proofs.TouchLemmas.{InBuffers, NamesIn, TouchesIn, bytes-in, names-append}
 use Rattle.ca_laws_sound.proofs.WorldLemmas.{around_in, shared_of}
 
@@ -61,11 +62,11 @@ use Rattle.ca_laws_sound.proofs.WorldLemmas.{around_in, shared_of}
 nothing : (ps : List PartName) → NamesIn (In ps) [] × NamesIn (In ps) []
 nothing ps = (record {}, record {})
 
-alloc_pd-in : (c : Configuration) (w : World) (call : Call) (d : DomainId) → TouchesIn w (In (verb_parts c w (verbs.AllocPd d))) (alloc_pd_plan call d)
-alloc_pd-in c w call d = (inl refl, (λ is. nothing (verb_parts c w (verbs.AllocPd d)), λ is. ((inl refl, record {}), record {})))
+alloc_pd-in : (w : World) (ps : List PartName) (call : Call) (d : DomainId) → IsAmong ps (names.Control d) → TouchesIn w (In ps) (alloc_pd_plan call d)
+alloc_pd-in w ps call d domain = (domain, (λ is. nothing ps, λ is. ((domain, record {}), record {})))
 
-dealloc_pd-in : (c : Configuration) (w : World) (call : Call) (d : DomainId) → TouchesIn w (In (verb_parts c w (verbs.DeallocPd d))) (dealloc_pd_plan call d)
-dealloc_pd-in c w call d = (inl refl, (λ is. nothing (verb_parts c w (verbs.DeallocPd d)), λ is. (λ is. nothing (verb_parts c w (verbs.DeallocPd d)), λ is. ((inl refl, record {}), record {}))))
+dealloc_pd-in : (w : World) (ps : List PartName) (call : Call) (d : DomainId) → IsAmong ps (names.Control d) → TouchesIn w (In ps) (dealloc_pd_plan call d)
+dealloc_pd-in w ps call d domain = (domain, (λ is. nothing ps, λ is. (λ is. nothing ps, λ is. ((domain, record {}), record {}))))
 
 -- a verb on an object of a domain: it looks at both, and changes both or nothing
 reg_mr-in : (c : Configuration) (w : World) (ps : List PartName) (call : Call) (s : Slot) (at : Run) (bytes : ℕ) (rights : Rights) → IsAmong ps (names.Control s.domain) → IsAmong ps (names.Region s)
@@ -106,23 +107,20 @@ alloc_mw-in : (c : Configuration) (w : World) (ps : List PartName) (call : Call)
     → TouchesIn w (In ps) (alloc_mw_plan call s kind)
 alloc_mw-in c w ps call s kind domain window = (domain, (window, (λ is. nothing ps, λ is. (λ is. nothing ps, λ is. (λ is. nothing ps, λ is. ((domain, (window, record {})), record {}))))))
 
-dealloc_mw-in : (c : Configuration) (w : World) (call : Call) (s : Slot) → TouchesIn w (In (verb_parts c w (verbs.DeallocMw s))) (dealloc_mw_plan call s)
-dealloc_mw-in c w call s = (inl refl, (inr (inl refl), (λ is. nothing ps, λ is. by x.binding regions binders)))
+dealloc_mw-in : (c : Configuration) (w : World) (ps : List PartName) (call : Call) (s : Slot) → Given w ps (verb_needs c (verbs.DeallocMw s)) → TouchesIn w (In ps) (dealloc_mw_plan call s)
+dealloc_mw-in c w ps call s inc = (domain, (window, (λ is. nothing ps, λ is. by x.binding (λ p among. inc p (inr (inr among))))))
   where
     x : Window
     x = w.window s
 
-    binder_parts : Option Binding → List PartName
-    binder_parts o = option_map_or (λ b. option_map_or (λ q. names.Queue q ∷ []) b.queue []) o []
+    domain : IsAmong ps (names.Control s.domain)
+    domain = inc (names.Control s.domain) (inl refl)
 
-    ps : List PartName
-    ps = names.Control s.domain ∷ window_parts w s ++ binder_parts x.binding
+    window : IsAmong ps (names.Window s)
+    window = inc (names.Window s) (inr (inl refl))
 
-    regions : Included (option_map_or (λ b. region_parts w (region_under x b)) x.binding []) ps
-    regions p among = inr (among-left (window_parts w s) (binder_parts x.binding) p (inr among))
-
-    binders : Included (binder_parts x.binding) ps
-    binders p among = inr (among-right (window_parts w s) (binder_parts x.binding) p among)
+    binding : Binding → Needs
+    binding b = Part (names.Region (region_under x b)) (where_some (λ q. part (names.Queue q)) b.queue)
 
     two : List Update
     two = (Domain_of s.domain := without_object (w.domain s.domain)) ∷ (Window_of s := after_deallocation x) ∷ []
@@ -137,14 +135,17 @@ dealloc_mw-in c w call s = (inl refl, (inr (inl refl), (λ is. nothing ps, λ is
     queues q (NoQueue incarnation timers) among = record {}
     queues q (Present p) among = (among, record {})
 
-    binder : (at : Slot) (o : Option QueueId) → IsAmong ps (names.Region at) → Included (option_map_or (λ q. names.Queue q ∷ []) o []) ps
+    binder : (at : Slot) (o : Option QueueId) → IsAmong ps (names.Region at) → Given w ps (where_some (λ q. part (names.Queue q)) o)
         → TouchesIn w (In ps) (With_binder o (λ more. Answer_plan call answers.Fine (two ++ (Region_of at := with_window_unbound (w.region at)) ∷ more) (marks.Revoked s.domain.adapter (key_of_window x) ∷ [])))
-    binder at None region inc = ((inl refl, (inr (inl refl), (region, record {}))), record {})
-    binder at (Some q) region inc = (inc (names.Queue q) (inl refl), ((inl refl, (inr (inl refl), (region, queues q (w.queue q) (inc (names.Queue q) (inl refl))))), record {}))
+    binder at None region inc = ((domain, (window, (region, record {}))), record {})
+    binder at (Some q) region inc = (inc (names.Queue q) (inl refl), ((domain, (window, (region, queues q (w.queue q) (inc (names.Queue q) (inl refl))))), record {}))
 
-    by : (o : Option Binding) → Included (option_map_or (λ b. region_parts w (region_under x b)) o []) ps → Included (binder_parts o) ps → TouchesIn w (In ps) (plan o)
-    by None regions binders = ((inl refl, (inr (inl refl), record {})), record {})
-    by (Some b) regions binders = (regions (names.Region (region_under x b)) (inl refl), binder (region_under x b) b.queue (regions (names.Region (region_under x b)) (inl refl)) binders)
+    by : (o : Option Binding) → Given w ps (where_some binding o) → TouchesIn w (In ps) (plan o)
+    by None given = ((domain, (window, record {})), record {})
+    by (Some b) given = (
+      given (names.Region (region_under x b)) (inl refl),
+      binder (region_under x b) b.queue (given (names.Region (region_under x b)) (inl refl)) (λ p among. given p (inr among)),
+    )
 
 create_cq-in : (c : Configuration) (w : World) (ps : List PartName) (call : Call) (s : Slot) (capacity : ℕ) → IsAmong ps (names.Control s.domain) → IsAmong ps (names.Cq s)
     → TouchesIn w (In ps) (create_cq_plan call s capacity)
@@ -166,59 +167,62 @@ destroy_srq-in c w ps call s domain srq = (domain, (srq, (λ is. nothing ps, λ 
 run-buffer : (ps : List PartName) (adapter buffer offset count : ℕ) → IsAmong ps (names.Buffer adapter buffer) → InBuffers (In ps) (run_of adapter buffer offset count ∷ [])
 run-buffer ps adapter buffer offset count among = (λ p a b. subst (λ x. IsAmong ps x) (sym (ap₂ (λ x y. names.Buffer x y) a b)) among, record {})
 
-store-in : (c : Configuration) (w : World) (call : Call) (adapter buffer offset : ℕ) (bytes : List ℕ)
-    → TouchesIn w (In (names.Buffer adapter buffer ∷ [])) (store_plan call (run_of adapter buffer offset (length bytes)) (bytes_of_buffer c adapter buffer) bytes)
-store-in c w call adapter buffer offset bytes = (
-  λ is. nothing (names.Buffer adapter buffer ∷ []),
+store-in : (c : Configuration) (w : World) (ps : List PartName) (call : Call) (adapter buffer offset : ℕ) (bytes : List ℕ) → IsAmong ps (names.Buffer adapter buffer)
+    → TouchesIn w (In ps) (store_plan call (run_of adapter buffer offset (length bytes)) (bytes_of_buffer c adapter buffer) bytes)
+store-in c w ps call adapter buffer offset bytes among = (
+  λ is. nothing ps,
   λ is. (
-    λ is. nothing (names.Buffer adapter buffer ∷ []),
+    λ is. nothing ps,
     λ is. (
       record {},
-      names-append (In (names.Buffer adapter buffer ∷ [])) _ [] (bytes-in (In (names.Buffer adapter buffer ∷ [])) (run_of adapter buffer offset (length bytes) ∷ [])
-          (run-buffer (names.Buffer adapter buffer ∷ []) adapter buffer offset (length bytes) (inl refl))) (record {}),
+      names-append (In ps) _ [] (bytes-in (In ps) (run_of adapter buffer offset (length bytes) ∷ []) (run-buffer ps adapter buffer offset (length bytes) among)) (record {}),
     ),
   ),
 )
 
-load-in : (c : Configuration) (w : World) (call : Call) (adapter buffer offset count : ℕ)
-    → TouchesIn w (In (names.Buffer adapter buffer ∷ [])) (load_plan call (run_of adapter buffer offset count) (bytes_of_buffer c adapter buffer))
-load-in c w call adapter buffer offset count = (
-  λ is. nothing (names.Buffer adapter buffer ∷ []),
+load-in : (c : Configuration) (w : World) (ps : List PartName) (call : Call) (adapter buffer offset count : ℕ) → IsAmong ps (names.Buffer adapter buffer)
+    → TouchesIn w (In ps) (load_plan call (run_of adapter buffer offset count) (bytes_of_buffer c adapter buffer))
+load-in c w ps call adapter buffer offset count among = (
+  λ is. nothing ps,
   λ is. (
-    λ is. nothing (names.Buffer adapter buffer ∷ []),
+    λ is. nothing ps,
     λ is.
-        (bytes-in (In (names.Buffer adapter buffer ∷ [])) (run_of adapter buffer offset count ∷ []) (run-buffer (names.Buffer adapter buffer ∷ []) adapter buffer offset count (inl refl)), nothing (names.Buffer adapter buffer ∷ [])),
+        (bytes-in (In ps) (run_of adapter buffer offset count ∷ []) (run-buffer ps adapter buffer offset count among), nothing ps),
   ),
 )
 
 -- a verb that names a queue pair
-verb-present : (c : Configuration) (w : World) (ps : List PartName) (call : Call) (s : Slot) (more : QueuePair → List PartName) (k : QueuePair → Plan) → IsSoundWorld c w
-    → IsAmong ps (names.Queue (queue_of s)) → Included (parts_if_present w (queue_of s) more) ps
-    → ((q : QueuePair) → IsAmong ps (names.Queue q.queue) → Included (more q) ps → TouchesIn w (In ps) (k q)) → TouchesIn w (In ps) (With_present call s k)
-verb-present c w ps call s more k sound queue inc there = (
-  queue,
-  present-in c w ps (queue_of s) more k (Refuse_plan call NoSuch) sound inc (nothing ps)
-      (λ q stands is all. there q (queue-part ps q.queue (queue_of s) is queue) all) (w.queue (queue_of s)) refl,
-)
+verb-present : (c : Configuration) (w : World) (ps : List PartName) (call : Call) (s : Slot) (more : QueuePair → Needs) (k : QueuePair → Plan) → IsSoundWorld c w
+    → Given w ps (present_needs (queue_of s) more) → ((q : QueuePair) → IsAmong ps (names.Queue q.queue) → Given w ps (more q) → TouchesIn w (In ps) (k q)) → TouchesIn w (In ps) (With_present call s k)
+verb-present c w ps call s more k sound inc there = present-in c w ps (queue_of s) more k (Refuse_plan call NoSuch) sound inc (nothing ps) there
 
-query-in : (c : Configuration) (w : World) (call : Call) (s : Slot) → IsSoundWorld c w → TouchesIn w (In (names.Queue (queue_of s) ∷ [])) (query_qp_plan call s)
-query-in c w call s sound = verb-present c w (names.Queue (queue_of s) ∷ []) call s (λ q. []) _ sound (inl refl) (none (w.queue (queue_of s))) (λ q queue inc. nothing (names.Queue (queue_of s) ∷ []))
+query-in : (w : World) (ps : List PartName) (call : Call) (s : Slot) → IsAmong ps (names.Queue (queue_of s)) → TouchesIn w (In ps) (query_qp_plan call s)
+query-in w ps call s among = (among, by (w.queue (queue_of s)))
   where
-    none : (v : QueueSlot) → Included (option_map_or (λ q. []) (queue_in v) []) (names.Queue (queue_of s) ∷ [])
-    none (NoQueue incarnation timers) p among = absurd among
-    none (Present q) p among = absurd among
+    plan : QueueSlot → Plan
+    plan (NoQueue incarnation timers) = Refuse_plan call NoSuch
+    plan (Present q) = Answer_plan call (answers.Query q.state q.incarnation (occupied_count q.sends) (option_map_or occupied_count q.receives 0)) [] []
 
-modify-in : (c : Configuration) (w : World) (call : Call) (s : Slot) (change : state_change.Change) → IsSoundWorld c w
-    → TouchesIn w (In (verb_parts c w (verbs.ModifyQp s change))) (modify_qp_plan c call s change)
-modify-in c w call s change sound = verb-present c w ps call s (λ q. names.Mailbox q.queue ∷ around_parts q) _ sound (inl refl) (λ p among. inr among) (λ q queue inc. (
-  inc (names.Mailbox q.queue) (inl refl),
-  around-in w ps q (plan q) (λ p among. inc p (inr among))
-      (refusing q (of_change_refusals (modify_refusals c q change)) (changed q change queue (inc (names.Mailbox q.queue) (inl refl)) (λ p among. inc p (inr among)))),
-))
+    by : (v : QueueSlot) → TouchesIn w (In ps) (plan v)
+    by (NoQueue incarnation timers) = nothing ps
+    by (Present q) = nothing ps
+
+-- what stands around a queue pair that is emptied, and its mailbox
+record IsEmptied (w : World) (ps : List PartName) (q : QueuePair) : Type 0 where
+  mailbox : IsAmong ps (names.Mailbox q.queue)
+  around : Included (around_parts q) ps
+
+emptied-given : (w : World) (ps : List PartName) (q : QueuePair) → Given w ps (emptying_needs q) → IsEmptied w ps q
+emptied-given w ps q inc = record {
+  mailbox = inc (names.Mailbox q.queue) (inl refl);
+  around = (around-given w ps q (λ shared. Enough) (λ p among. inc p (inr among))).around;
+}
+
+modify-in : (c : Configuration) (w : World) (ps : List PartName) (call : Call) (s : Slot) (change : state_change.Change) → IsSoundWorld c w → Given w ps (verb_needs c (verbs.ModifyQp s change))
+    → TouchesIn w (In ps) (modify_qp_plan c call s change)
+modify-in c w ps call s change sound inc = verb-present c w ps call s emptying_needs _ sound inc
+    (λ q queue given. at q queue (emptied-given w ps q given))
   where
-    ps : List PartName
-    ps = verb_parts c w (verbs.ModifyQp s change)
-
     updates : QueuePair → Around → state_change.Change → List Update
     updates q a changes.Error = cq_updates q a (flush_marks q)
     updates q a changes.Reset =
@@ -261,18 +265,21 @@ modify-in c w call s change sound = verb-present c w ps call s (λ q. names.Mail
     changed q changes.Sqd queue mailbox around = ((queue, record {}), record {})
     changed q changes.Resume queue mailbox around = ((queue, record {}), record {})
 
-destroy-in : (c : Configuration) (w : World) (call : Call) (s : Slot) → IsSoundWorld c w → TouchesIn w (In (verb_parts c w (verbs.DestroyQp s))) (destroy_qp_plan call s)
-destroy-in c w call s sound = (
-  inl refl,
-  verb-present c w ps call s (λ q. names.Mailbox q.queue ∷ around_parts q) _ sound (inr (inl refl)) (λ p among. inr (inr among)) (λ q queue inc. (
-    inc (names.Mailbox q.queue) (inl refl),
-    around-in w ps q (plan q) (λ p among. inc p (inr among))
-        (λ is. nothing ps, λ is. changed q queue (inc (names.Mailbox q.queue) (inl refl)) (λ p among. inc p (inr among))),
-  )),
+    at : (q : QueuePair) → IsAmong ps (names.Queue q.queue) → IsEmptied w ps q → IsAmong ps (names.Mailbox q.queue) × TouchesIn w (In ps) (With_around q (plan q))
+    at q queue all = (
+      all.mailbox,
+      around-in w ps q (plan q) all.around
+          (refusing q (of_change_refusals (modify_refusals c q change)) (changed q change queue all.mailbox all.around)),
+    )
+
+destroy-in : (c : Configuration) (w : World) (ps : List PartName) (call : Call) (s : Slot) → IsSoundWorld c w → Given w ps (verb_needs c (verbs.DestroyQp s)) → TouchesIn w (In ps) (destroy_qp_plan call s)
+destroy-in c w ps call s sound inc = (
+  domain,
+  verb-present c w ps call s emptying_needs _ sound (λ p among. inc p (inr among)) (λ q queue given. at q queue (emptied-given w ps q given)),
 )
   where
-    ps : List PartName
-    ps = verb_parts c w (verbs.DestroyQp s)
+    domain : IsAmong ps (names.Control s.domain)
+    domain = inc (names.Control s.domain) (inl refl)
 
     plan : QueuePair → Around → Plan
     plan q a = If (nat_lt 0 q.windows) (Refuse_plan call WindowsBound)
@@ -306,7 +313,7 @@ destroy-in c w call s sound = (
         ∷ left_updates q (around_in w q (shared_of w q)))) × NamesIn (In ps) []
     changed q queue mailbox around = (
       (
-        inl refl,
+        domain,
         (
           queue,
           (
@@ -324,10 +331,35 @@ destroy-in c w call s sound = (
       record {},
     )
 
+    at : (q : QueuePair) → IsAmong ps (names.Queue q.queue) → IsEmptied w ps q → IsAmong ps (names.Mailbox q.queue) × TouchesIn w (In ps) (With_around q (plan q))
+    at q queue all = (all.mailbox, around-in w ps q (plan q) all.around (λ is. nothing ps, λ is. changed q queue all.mailbox all.around))
+
+-- the queues of a queue pair that is made, where they are configured
+record AreQueues (ps : List PartName) (x : Creation) : Type 0 where
+  send : IsAmong ps (names.Cq (beside x.slot x.send_cq))
+  recv : IsAmong ps (names.Cq (beside x.slot x.recv_cq))
+  shared : IfSome x.srq (λ srq. IsAmong ps (names.Srq (beside x.slot srq)))
+
+queues-given : (c : Configuration) (w : World) (ps : List PartName) (x : Creation) → Given w ps (queues_needs c x) → has_queues c x ≡ true → AreQueues ps x
+queues-given c w ps x inc has = record {
+  send = all (names.Cq (beside x.slot x.send_cq)) (inl refl);
+  recv = all (names.Cq (beside x.slot x.recv_cq)) (inr (inl refl));
+  shared = by x.srq (λ p among. all p (inr (inr among)));
+}
+  where
+    queues : Needs
+    queues = Part (names.Cq (beside x.slot x.send_cq)) (Part (names.Cq (beside x.slot x.recv_cq)) (where_some (λ srq. part (names.Srq (beside x.slot srq))) x.srq))
+
+    all : Given w ps queues
+    all p among = inc p (subst (λ b. IsAmong (listed w (if b then queues else Enough)) p) (sym has) among)
+
+    by : (o : Option ℕ) → Given w ps (where_some (λ srq. part (names.Srq (beside x.slot srq))) o) → IfSome o (λ srq. IsAmong ps (names.Srq (beside x.slot srq)))
+    by None given = record {}
+    by (Some srq) given = given (names.Srq (beside x.slot srq)) (inl refl)
+
 create-in : (c : Configuration) (w : World) (ps : List PartName) (call : Call) (x : Creation) → IsAmong ps (names.Control x.slot.domain) → IsAmong ps (names.Queue (queue_of x.slot))
-    → IsAmong ps (names.Mailbox (queue_of x.slot)) → IsAmong ps (names.Cq (beside x.slot x.send_cq)) → IsAmong ps (names.Cq (beside x.slot x.recv_cq))
-    → Included (option_map_or (λ srq. names.Srq (beside x.slot srq) ∷ []) x.srq []) ps → TouchesIn w (In ps) (create_qp_plan c call x)
-create-in c w ps call x domain queue mailbox send_cq recv_cq inc = (
+    → IsAmong ps (names.Mailbox (queue_of x.slot)) → Given w ps (queues_needs c x) → TouchesIn w (In ps) (create_qp_plan c call x)
+create-in c w ps call x domain queue mailbox inc = (
   domain,
   (
     queue,
@@ -338,7 +370,7 @@ create-in c w ps call x domain queue mailbox send_cq recv_cq inc = (
         λ is. (
           λ is. nothing ps,
           λ is.
-              (λ is. (send_cq, (recv_cq, looks x.srq inc)), λ is. nothing ps),
+              (λ has. at (queues-given c w ps x inc has), λ is. nothing ps),
         ),
       ),
     ),
@@ -371,29 +403,32 @@ create-in c w ps call x domain queue mailbox send_cq recv_cq inc = (
     users (Some srq) (Some slot) = (Srq_of (beside x.slot srq) := record slot { users = suc slot.users }) ∷ []
     users srq slot = []
 
-    used : (o : Option ℕ) (t : Option SrqSlot) → Included (option_map_or (λ srq. names.Srq (beside x.slot srq) ∷ []) o []) ps → NamesIn (In ps) (names_updated (users o t))
-    used None t inc = record {}
-    used (Some srq) None inc = record {}
-    used (Some srq) (Some slot) inc = (inc (names.Srq (beside x.slot srq)) (inl refl), record {})
+    used : (o : Option ℕ) (t : Option SrqSlot) → IfSome o (λ srq. IsAmong ps (names.Srq (beside x.slot srq))) → NamesIn (In ps) (names_updated (users o t))
+    used None t among = record {}
+    used (Some srq) None among = record {}
+    used (Some srq) (Some slot) among = (among, record {})
 
-    there : (send recv : Option CompletionQueue) (srq : Option SrqSlot) (shared : Option SharedReceives) → TouchesIn w (In ps) (there_plan send recv srq shared)
-    there None recv srq shared = nothing ps
-    there (Some send) None srq shared = nothing ps
-    there (Some send) (Some recv) srq shared = (
+    there : (send recv : Option CompletionQueue) (srq : Option SrqSlot) (shared : Option SharedReceives) → AreQueues ps x → TouchesIn w (In ps) (there_plan send recv srq shared)
+    there None recv srq shared all = nothing ps
+    there (Some send) None srq shared all = nothing ps
+    there (Some send) (Some recv) srq shared all = (
       λ is. nothing ps,
       λ is. (
         λ is. nothing ps,
         λ is. (
           λ is. nothing ps,
           λ is.
-              ((domain, (queue, (mailbox, (send_cq, (recv_cq, used x.srq srq inc))))), record {}),
+              ((domain, (queue, (mailbox, (all.send, (all.recv, used x.srq srq all.shared))))), record {}),
         ),
       ),
     )
 
-    looks : (o : Option ℕ) → Included (option_map_or (λ srq. names.Srq (beside x.slot srq) ∷ []) o []) ps → TouchesIn w (In ps) (shared_plan o)
-    looks None inc = there _ _ None _
-    looks (Some srq) inc = (inc (names.Srq (beside x.slot srq)) (inl refl), there _ _ (Some (w.srq (beside x.slot srq))) _)
+    looks : (o : Option ℕ) → IfSome o (λ srq. IsAmong ps (names.Srq (beside x.slot srq))) → AreQueues ps x → TouchesIn w (In ps) (shared_plan o)
+    looks None among all = there _ _ None _ all
+    looks (Some srq) among all = (among, there _ _ (Some (w.srq (beside x.slot srq))) _ all)
+
+    at : AreQueues ps x → IsAmong ps (names.Cq (beside x.slot x.send_cq)) × (IsAmong ps (names.Cq (beside x.slot x.recv_cq)) × TouchesIn w (In ps) (shared_plan x.srq))
+    at all = (all.send, (all.recv, looks x.srq all.shared all))
 
 posted-in : (w : World) (ps : List PartName) (call : Call) (q : QueuePair) (request : SendRequest) (drawn : Option ℕ) (window : Slot) (more : List Update) → IsAmong ps (names.Queue q.queue)
     → IsAmong ps (names.Cq (send_cq_of q)) → NamesIn (In ps) (names_updated more) → TouchesIn w (In ps) (Posted_send call q request drawn window more)
@@ -415,19 +450,17 @@ posted-in w ps call q request drawn window more queue cq rest = (
   ),
 )
 
-post_send-in : (c : Configuration) (w : World) (call : Call) (s : Slot) (request : SendRequest) → IsSoundWorld c w → TouchesIn w (In (verb_parts c w (verbs.PostSend s request))) (post_send_plan call s request)
-post_send-in c w call s request sound = verb-present c w ps call s (λ q. names.Cq (send_cq_of q) ∷ drawing_parts s request.op) (λ q. plan q request.op) sound (inl refl) (λ p among. inr among)
-    (λ q queue inc. by q request.op queue (inc (names.Cq (send_cq_of q)) (inl refl)) (λ p among. inc p (inr among)))
+post_send-in : (c : Configuration) (w : World) (ps : List PartName) (call : Call) (s : Slot) (request : SendRequest) → IsSoundWorld c w → Given w ps (verb_needs c (verbs.PostSend s request))
+    → TouchesIn w (In ps) (post_send_plan call s request)
+post_send-in c w ps call s request sound inc = verb-present c w ps call s (λ q. Part (names.Cq (send_cq_of q)) (drawing_needs s request.op)) (λ q. plan q request.op) sound inc
+    (λ q queue given. by q request.op queue (given (names.Cq (send_cq_of q)) (inl refl)) (λ p among. given p (inr among)))
   where
-    ps : List PartName
-    ps = verb_parts c w (verbs.PostSend s request)
-
     plan : QueuePair → SendOp → Plan
     plan q (ops.Bind1 window region address count rights) = Look (Window_of (beside s window)) (λ x. If (x.kind == 0) (Refuse_plan call NoSuch)
         (Posted_send call q request (byte_drawn x) (beside s window) ((Window_of (beside s window) := after_draw x) ∷ [])))
     plan q op = Posted_send call q request None s []
 
-    by : (q : QueuePair) (op : SendOp) → IsAmong ps (names.Queue q.queue) → IsAmong ps (names.Cq (send_cq_of q)) → Included (drawing_parts s op) ps → TouchesIn w (In ps) (plan q op)
+    by : (q : QueuePair) (op : SendOp) → IsAmong ps (names.Queue q.queue) → IsAmong ps (names.Cq (send_cq_of q)) → Given w ps (drawing_needs s op) → TouchesIn w (In ps) (plan q op)
     by q (ops.Bind1 window region address count rights) queue cq inc = (
       inc (names.Window (beside s window)) (inl refl),
       (
@@ -449,8 +482,9 @@ post_send-in c w call s request sound = verb-present c w ps call s (λ q. names.
     by q (ops.CmpSwap address key compare swap list) queue cq inc = posted-in w ps call q request None s [] queue cq (record {})
     by q (ops.FetchAdd address key add list) queue cq inc = posted-in w ps call q request None s [] queue cq (record {})
 
-post_recv-in : (c : Configuration) (w : World) (call : Call) (s : Slot) (request : RecvRequest) → IsSoundWorld c w → TouchesIn w (In (verb_parts c w (verbs.PostRecv s request))) (post_recv_plan call s request)
-post_recv-in c w call s request sound = verb-present c w ps call s (λ q. names.Cq (recv_cq_of q) ∷ []) _ sound (inl refl) (λ p among. inr among)
+post_recv-in : (c : Configuration) (w : World) (ps : List PartName) (call : Call) (s : Slot) (request : RecvRequest) → IsSoundWorld c w → Given w ps (verb_needs c (verbs.PostRecv s request))
+    → TouchesIn w (In ps) (post_recv_plan call s request)
+post_recv-in c w ps call s request sound inc = verb-present c w ps call s (λ q. part (names.Cq (recv_cq_of q))) _ sound inc
     (λ q queue inc. (
       inc (names.Cq (recv_cq_of q)) (inl refl),
       (
@@ -468,16 +502,10 @@ post_recv-in c w call s request sound = verb-present c w ps call s (λ q. names.
         ),
       ),
     ))
-  where
-    ps : List PartName
-    ps = verb_parts c w (verbs.PostRecv s request)
 
-post_srq-in : (c : Configuration) (w : World) (call : Call) (s : Slot) (request : RecvRequest) → TouchesIn w (In (names.Srq s ∷ [])) (post_srq_plan call s request)
-post_srq-in c w call s request = (inl refl, by (w.srq s).srq)
+post_srq-in : (w : World) (ps : List PartName) (call : Call) (s : Slot) (request : RecvRequest) → IsAmong ps (names.Srq s) → TouchesIn w (In ps) (post_srq_plan call s request)
+post_srq-in w ps call s request among = (among, by (w.srq s).srq)
   where
-    ps : List PartName
-    ps = names.Srq s ∷ []
-
     plan : Option SharedReceives → Plan
     plan None = Refuse_plan call NoSuch
     plan (Some srq) = If (nat_lt MAX_MESSAGE_BYTES (list_length request.list.items)) (Refuse_plan call TooLong) (If (is_full_of_receives srq) (Refuse_plan call QueueFull)
@@ -485,7 +513,7 @@ post_srq-in c w call s request = (inl refl, by (w.srq s).srq)
 
     by : (o : Option SharedReceives) → TouchesIn w (In ps) (plan o)
     by None = nothing ps
-    by (Some srq) = (λ is. nothing ps, λ is. (λ is. nothing ps, λ is. ((inl refl, record {}), record {})))
+    by (Some srq) = (λ is. nothing ps, λ is. (λ is. nothing ps, λ is. ((among, record {}), record {})))
 
 place-in : (w : World) (ps : List PartName) (s : Slot) (cq : CompletionQueue) (polled : List Completion) (x : Completion) (k : Update → Plan) → IsAmong ps (place_part s cq x)
     → ((u : Update) → In ps u.name → TouchesIn w (In ps) (k u)) → TouchesIn w (In ps) (With_place s cq polled x k)
@@ -506,20 +534,17 @@ place-in w ps s cq polled x k among more = by (source_of_completion cq x) among
     by None among = (among, more _ among)
     by (Some srq) among = (among, more _ among)
 
-places-in : (w : World) (ps : List PartName) (s : Slot) (cq : CompletionQueue) (polled xs : List Completion) (k : List Update → Plan) → Included (map (place_part s cq) xs) ps
+places-in : (w : World) (ps : List PartName) (s : Slot) (cq : CompletionQueue) (polled xs : List Completion) (k : List Update → Plan) → Given w ps (places_needs s cq xs)
     → ((us : List Update) → NamesIn (In ps) (names_updated us) → TouchesIn w (In ps) (k us)) → TouchesIn w (In ps) (With_places s cq polled xs k)
 places-in w ps s cq polled [] k inc more = more [] (record {})
 places-in w ps s cq polled (x ∷ xs) k inc more = place-in w ps s cq polled x (λ u. With_places s cq polled xs (λ us. k (u ∷ us))) (inc (place_part s cq x) (inl refl))
     (λ u among. places-in w ps s cq polled xs (λ us. k (u ∷ us)) (λ p in_rest. inc p (inr in_rest)) (λ us rest. more (u ∷ us) (among, rest)))
 
-poll-in : (c : Configuration) (w : World) (call : Call) (s : Slot) (n least : ℕ) → TouchesIn w (In (verb_parts c w (verbs.Poll s n least))) (poll_plan call s n least)
-poll-in c w call s n least = (inl refl, by (w.cq s) (λ p among. inr among))
+poll-in : (c : Configuration) (w : World) (ps : List PartName) (call : Call) (s : Slot) (n least : ℕ) → Given w ps (verb_needs c (verbs.Poll s n least)) → TouchesIn w (In ps) (poll_plan call s n least)
+poll-in c w ps call s n least inc = (cq, by (w.cq s) (λ p among. inc p (inr among)))
   where
-    ps : List PartName
-    ps = verb_parts c w (verbs.Poll s n least)
-
-    places : Option CompletionQueue → List PartName
-    places o = option_map_or (λ cq. map (place_part s cq) (take (min n MAX_POLLED) cq.waiting)) o []
+    cq : IsAmong ps (names.Cq s)
+    cq = inc (names.Cq s) (inl refl)
 
     in_range : ((n == 0) || nat_lt MAX_POLLED n || nat_lt n least) ≡ false → min n MAX_POLLED ≡ n
     in_range e = at (or_parts (n == 0) (nat_lt MAX_POLLED n) (or_parts ((n == 0) || nat_lt MAX_POLLED n) (nat_lt n least) e).0)
@@ -527,43 +552,43 @@ poll-in c w call s n least = (inl refl, by (w.cq s) (λ p among. inr among))
         at : ((n == 0) ≡ false) × (nat_lt MAX_POLLED n ≡ false) → min n MAX_POLLED ≡ n
         at parts = omega (arith, ltb-false MAX_POLLED n parts.1)
 
-    by : (o : Option CompletionQueue) → Included (places o) ps → TouchesIn w (In ps) (Poll_of call s n least o)
-    by None inc = nothing ps
-    by (Some cq) inc = (
+    by : (o : Option CompletionQueue) → Given w ps (where_some (λ v. places_needs s v (take (min n MAX_POLLED) v.waiting)) o) → TouchesIn w (In ps) (Poll_of call s n least o)
+    by None given = nothing ps
+    by (Some v) given = (
       λ is. nothing ps,
       λ range. (
         λ is. record {},
-        λ is. places-in w ps s cq (take n cq.waiting) (take n cq.waiting)
-            (λ changes. Answer_plan call (answers.Polled (take n cq.waiting)) ((Cq_of s := Some (after_polls (length (take n cq.waiting)) cq)) ∷ changes) [])
-            (λ p among. inc p (subst (λ k. IsAmong (map (place_part s cq) (take k cq.waiting)) p) (sym (in_range range)) among))
-            (λ us rest. ((inl refl, rest), record {})),
+        λ is. places-in w ps s v (take n v.waiting) (take n v.waiting)
+            (λ changes. Answer_plan call (answers.Polled (take n v.waiting)) ((Cq_of s := Some (after_polls (length (take n v.waiting)) v)) ∷ changes) [])
+            (λ p among. given p (subst (λ k. IsAmong (listed w (places_needs s v (take k v.waiting))) p) (sym (in_range range)) among))
+            (λ us rest. ((cq, rest), record {})),
       ),
     )
 
-pub verb-in : (c : Configuration) (w : World) (call : Call) (verb : Verb) → IsSoundWorld c w → TouchesIn w (In (verb_parts c w verb)) (verb_plan c call verb)
-verb-in c w call (verbs.AllocPd domain) sound = alloc_pd-in c w call domain
-verb-in c w call (verbs.DeallocPd domain) sound = dealloc_pd-in c w call domain
-verb-in c w call (verbs.RegMr slot buffer offset count rights) sound =
-    reg_mr-in c w (verb_parts c w (verbs.RegMr slot buffer offset count rights)) call slot (run_of slot.domain.adapter buffer offset count) (bytes_of_buffer c slot.domain.adapter buffer) rights (inl refl) (inr (inl refl))
-verb-in c w call (verbs.AllocMr slot pages) sound = alloc_mr-in c w (verb_parts c w (verbs.AllocMr slot pages)) call slot pages (inl refl) (inr (inl refl))
-verb-in c w call (verbs.DeregMr slot) sound = dereg_mr-in c w (verb_parts c w (verbs.DeregMr slot)) call slot (inl refl) (inr (inl refl))
-verb-in c w call (verbs.AllocMw slot kind) sound = alloc_mw-in c w (verb_parts c w (verbs.AllocMw slot kind)) call slot kind (inl refl) (inr (inl refl))
-verb-in c w call (verbs.DeallocMw slot) sound = dealloc_mw-in c w call slot
-verb-in c w call (verbs.CreateCq slot capacity) sound = create_cq-in c w (verb_parts c w (verbs.CreateCq slot capacity)) call slot capacity (inl refl) (inr (inl refl))
-verb-in c w call (verbs.DestroyCq slot) sound = destroy_cq-in c w (verb_parts c w (verbs.DestroyCq slot)) call slot (inl refl) (inr (inl refl))
-verb-in c w call (verbs.CreateSrq slot depth) sound = create_srq-in c w (verb_parts c w (verbs.CreateSrq slot depth)) call slot depth (inl refl) (inr (inl refl))
-verb-in c w call (verbs.DestroySrq slot) sound = destroy_srq-in c w (verb_parts c w (verbs.DestroySrq slot)) call slot (inl refl) (inr (inl refl))
-verb-in c w call (verbs.CreateQp slot send_cq recv_cq send_depth recv_depth srq) sound =
-    create-in c w (verb_parts c w (verbs.CreateQp slot send_cq recv_cq send_depth recv_depth srq)) call
-    (record { slot = slot; send_cq = send_cq; recv_cq = recv_cq; send_depth = send_depth; recv_depth = recv_depth; srq = srq }) (inl refl) (inr (inl refl)) (inr (inr (inl refl))) (inr (inr (inr (inl refl))))
-    (inr (inr (inr (inr (inl refl))))) (λ p among. inr (inr (inr (inr (inr among)))))
-verb-in c w call (verbs.ModifyQp slot change) sound = modify-in c w call slot change sound
-verb-in c w call (verbs.QueryQp slot) sound = query-in c w call slot sound
-verb-in c w call (verbs.DestroyQp slot) sound = destroy-in c w call slot sound
-verb-in c w call (verbs.PostSend slot request) sound = post_send-in c w call slot request sound
-verb-in c w call (verbs.PostRecv slot request) sound = post_recv-in c w call slot request sound
-verb-in c w call (verbs.PostSrq slot request) sound = post_srq-in c w call slot request
-verb-in c w call (verbs.Poll slot n least) sound = poll-in c w call slot n least
-verb-in c w call (verbs.Store adapter buffer offset bytes) sound = store-in c w call adapter buffer offset bytes
-verb-in c w call (verbs.Load adapter buffer offset count) sound = load-in c w call adapter buffer offset count
-verb-in c w call (verbs.Inject queue bytes) sound = inject-in c w call queue bytes sound
+pub verb-in : (c : Configuration) (w : World) (ps : List PartName) (call : Call) (verb : Verb) → IsSoundWorld c w → Given w ps (verb_needs c verb) → TouchesIn w (In ps) (verb_plan c call verb)
+verb-in c w ps call (verbs.AllocPd domain) sound inc = alloc_pd-in w ps call domain (inc (names.Control domain) (inl refl))
+verb-in c w ps call (verbs.DeallocPd domain) sound inc = dealloc_pd-in w ps call domain (inc (names.Control domain) (inl refl))
+verb-in c w ps call (verbs.RegMr slot buffer offset count rights) sound inc =
+    reg_mr-in c w ps call slot (run_of slot.domain.adapter buffer offset count) (bytes_of_buffer c slot.domain.adapter buffer) rights (inc (names.Control slot.domain) (inl refl))
+    (inc (names.Region slot) (inr (inl refl)))
+verb-in c w ps call (verbs.AllocMr slot pages) sound inc = alloc_mr-in c w ps call slot pages (inc (names.Control slot.domain) (inl refl)) (inc (names.Region slot) (inr (inl refl)))
+verb-in c w ps call (verbs.DeregMr slot) sound inc = dereg_mr-in c w ps call slot (inc (names.Control slot.domain) (inl refl)) (inc (names.Region slot) (inr (inl refl)))
+verb-in c w ps call (verbs.AllocMw slot kind) sound inc = alloc_mw-in c w ps call slot kind (inc (names.Control slot.domain) (inl refl)) (inc (names.Window slot) (inr (inl refl)))
+verb-in c w ps call (verbs.DeallocMw slot) sound inc = dealloc_mw-in c w ps call slot inc
+verb-in c w ps call (verbs.CreateCq slot capacity) sound inc = create_cq-in c w ps call slot capacity (inc (names.Control slot.domain) (inl refl)) (inc (names.Cq slot) (inr (inl refl)))
+verb-in c w ps call (verbs.DestroyCq slot) sound inc = destroy_cq-in c w ps call slot (inc (names.Control slot.domain) (inl refl)) (inc (names.Cq slot) (inr (inl refl)))
+verb-in c w ps call (verbs.CreateSrq slot depth) sound inc = create_srq-in c w ps call slot depth (inc (names.Control slot.domain) (inl refl)) (inc (names.Srq slot) (inr (inl refl)))
+verb-in c w ps call (verbs.DestroySrq slot) sound inc = destroy_srq-in c w ps call slot (inc (names.Control slot.domain) (inl refl)) (inc (names.Srq slot) (inr (inl refl)))
+verb-in c w ps call (verbs.CreateQp slot send_cq recv_cq send_depth recv_depth srq) sound inc =
+    create-in c w ps call (record { slot = slot; send_cq = send_cq; recv_cq = recv_cq; send_depth = send_depth; recv_depth = recv_depth; srq = srq }) (inc (names.Control slot.domain) (inl refl))
+    (inc (names.Queue (queue_of slot)) (inr (inl refl))) (inc (names.Mailbox (queue_of slot)) (inr (inr (inl refl)))) (λ p among. inc p (inr (inr (inr among))))
+verb-in c w ps call (verbs.ModifyQp slot change) sound inc = modify-in c w ps call slot change sound inc
+verb-in c w ps call (verbs.QueryQp slot) sound inc = query-in w ps call slot (inc (names.Queue (queue_of slot)) (inl refl))
+verb-in c w ps call (verbs.DestroyQp slot) sound inc = destroy-in c w ps call slot sound inc
+verb-in c w ps call (verbs.PostSend slot request) sound inc = post_send-in c w ps call slot request sound inc
+verb-in c w ps call (verbs.PostRecv slot request) sound inc = post_recv-in c w ps call slot request sound inc
+verb-in c w ps call (verbs.PostSrq slot request) sound inc = post_srq-in w ps call slot request (inc (names.Srq slot) (inl refl))
+verb-in c w ps call (verbs.Poll slot n least) sound inc = poll-in c w ps call slot n least inc
+verb-in c w ps call (verbs.Store adapter buffer offset bytes) sound inc = store-in c w ps call adapter buffer offset bytes (inc (names.Buffer adapter buffer) (inl refl))
+verb-in c w ps call (verbs.Load adapter buffer offset count) sound inc = load-in c w ps call adapter buffer offset count (inc (names.Buffer adapter buffer) (inl refl))
+verb-in c w ps call (verbs.Inject queue bytes) sound inc = inject-in c w ps call queue bytes sound inc

@@ -12,7 +12,7 @@ use Rattle.ca_model.specs.declared.part_name.PartName.{PartName}
 use Rattle.ca_model.specs.declared.part_name.PartName.TheVariants as names
 use Rattle.ca_model.specs.declared.verb.Verb.{Verb}
 use Rattle.ca_model.specs.declared.verb.Verb.TheVariants as verbs
-use Rattle.ca_model.specs.machine.Parts.{event_parts, verb_parts}
+use Rattle.ca_model.specs.machine.Parts.{event_needs, event_parts, listed, verb_needs}
 use Rattle.ca_model.specs.machine.Plan.{◌:=◌, put_all}
 use Rattle.ca_model.specs.machine.World.{Cq_of, Window_of, World}
 use Rattle.ca_model.proofs.Literals.{completion, d, k, list, piece, q, s}
@@ -20,7 +20,7 @@ use Rattle.ca_model.proofs.Machine.Furnished.{all_rights, furnished, pair, ready
 
 -- the parts of a verb in the furnished world
 abbrev of_verb : Verb → List PartName
-of_verb verb = verb_parts pair furnished verb
+of_verb verb = event_parts pair furnished (events.Verb 0 verb)
 
 -- the domain 0 of adapter 0, its queue pair 256 and what stands around it
 abbrev control : PartName
@@ -91,7 +91,7 @@ bound = put_all ((Window_of (s 0 0 1) := record {
   binding = Some (record { region = 1; queue = Some (q 0 258); address = 0x100000000; length = 8; rights = all_rights });
 }) ∷ []) furnished
 
-deallocation : verb_parts pair bound (verbs.DeallocMw (s 0 0 1)) ≡ control ∷ window 1 ∷ region 1 ∷ buffer ∷ names.Queue (q 0 258) ∷ []
+deallocation : event_parts pair bound (events.Verb 0 (verbs.DeallocMw (s 0 0 1))) ≡ control ∷ window 1 ∷ region 1 ∷ names.Queue (q 0 258) ∷ []
 deallocation = refl
 
 -- a poll of at most one of two completions: a receive of a shared receive queue frees a place there, a send one of its queue pair
@@ -102,10 +102,10 @@ completed = put_all ((Cq_of (s 0 0 0) := Some (record {
   waiting = completion (q 0 257) true 0 9 operations.Recv Success 8 None None ∷ completion (q 0 256) false 0 7 operations.Send Success 0 None None ∷ [];
 })) ∷ []) furnished
 
-poll_one : verb_parts pair completed (verbs.Poll (s 0 0 0) 1 0) ≡ cq 0 ∷ names.Srq (s 0 0 0) ∷ []
+poll_one : event_parts pair completed (events.Verb 0 (verbs.Poll (s 0 0 0) 1 0)) ≡ cq 0 ∷ names.Srq (s 0 0 0) ∷ []
 poll_one = refl
 
-poll_both : verb_parts pair completed (verbs.Poll (s 0 0 0) 16 0) ≡ cq 0 ∷ names.Srq (s 0 0 0) ∷ queue ∷ []
+poll_both : event_parts pair completed (events.Verb 0 (verbs.Poll (s 0 0 0) 16 0)) ≡ cq 0 ∷ names.Srq (s 0 0 0) ∷ queue ∷ []
 poll_both = refl
 
 host : of_verb (verbs.Store 1 0 0 (1 ∷ [])) ≡ names.Buffer 1 0 ∷ []
@@ -119,20 +119,20 @@ sends : turn (with_posted (signalled (send_of 8)) ready) ≡ queue ∷ cq 0 ∷ 
 sends = refl
 
 binds : turn (with_posted (signalled (ops.Bind2 1 (k 1) 2 0x100000000 8 all_rights)) ready)
-    ≡ queue ∷ cq 0 ∷ cq 0 ∷ peer ∷ region 0 ∷ buffer ∷ window 1 ∷ []
+    ≡ queue ∷ cq 0 ∷ cq 0 ∷ window 1 ∷ region 0 ∷ []
 binds = refl
 
 -- a key of another domain names no part
 strange_key : turn (with_posted (signalled (ops.Send (list (piece 0x1000001 0x100000000 8 ∷ [])))) ready) ≡ queue ∷ cq 0 ∷ cq 0 ∷ peer ∷ []
 strange_key = refl
 
-idle : turn ready ≡ queue ∷ cq 0 ∷ cq 0 ∷ peer ∷ []
+idle : turn ready ≡ queue ∷ cq 0 ∷ cq 0 ∷ []
 idle = refl
 
 responds : event_parts pair furnished (events.Respond (q 0 256) lots.Pass) ≡ queue ∷ cq 0 ∷ cq 0 ∷ peer ∷ []
 responds = refl
 
-not_kept : event_parts pair furnished (events.Deliver (q 0 256) 0) ≡ own_mailbox ∷ queue ∷ []
+not_kept : event_parts pair furnished (events.Deliver (q 0 256) 0) ≡ own_mailbox ∷ []
 not_kept = refl
 
 timer : event_parts pair furnished (events.Timeout (q 0 256) false) ≡ queue ∷ own_mailbox ∷ cq 0 ∷ cq 0 ∷ names.Queue (q 1 256) ∷ peer ∷ []

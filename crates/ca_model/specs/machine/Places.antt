@@ -57,7 +57,7 @@ pub record IsInOrder (q : QueuePair) (e : Effects) : Type 0 where
   pub done : Ascend q.requester.oldest e.queue.requester.oldest (places_done false e.marks)
   pub own : AreTakenInOrder q.receives e.queue.receives q.responder.message e.queue.responder.message e.marks
   pub held : q.receives ≡ None → e.takes_shared ≡ false
-    → places_done true e.marks ++ places_in_use e.queue.responder.message ≡ places_in_use q.responder.message
+      → places_done true e.marks ++ places_in_use e.queue.responder.message ≡ places_in_use q.responder.message
 
 -- what a turn takes from a shared receive queue, it completes or holds, behind the one in use
 abbrev pub TakesInOrder : Option SharedReceives → QueuePair → Effects → Type 0
