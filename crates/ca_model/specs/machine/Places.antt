@@ -25,11 +25,11 @@ places_of_side queue receive cs = map (λ c. c.place) (filter (λ c. queue_eq c.
 -- the completions among marks
 abbrev pub completions_in : List Mark → List Completion
 completions_in [] = []
-completions_in (m ∷ ms) = by m
+completions_in (m ∷ ms) = by m ++ completions_in ms
   where
     by : Mark → List Completion
-    by (marks.Done queue c cause) = c ∷ completions_in ms
-    by m = completions_in ms
+    by (marks.Done queue c cause) = c ∷ []
+    by m = []
 
 -- the places of the receives, or of the sends, that complete by these marks
 abbrev pub places_done : Bool → List Mark → List ℕ
