@@ -1,0 +1,5 @@
+pub mod PlanLemmas
+pub mod KeptLemmas
+pub mod PlacedTurnLemmas
+pub mod PlacedOperationLemmas
+pub mod PlacedVerbLemmas
