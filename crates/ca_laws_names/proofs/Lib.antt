@@ -3,3 +3,5 @@ pub mod KeptLemmas
 pub mod PlacedTurnLemmas
 pub mod PlacedOperationLemmas
 pub mod PlacedVerbLemmas
+pub mod PlacedQueueVerbLemmas
+pub mod PlacedLemmas
