@@ -1,5 +1,5 @@
 -- What rows leave of a queue pair as it was: its names, its peer, and the requests that are posted.
-use Rattle.std.proofs.Common.{◌≡◌, ℕ, suc, ◌+◌, ◌-◌, nat_le, nat_lt, Bool, true, false, List, [], ◌∷◌, length, Option, None, Some, subst, ◌&&◌, not, is_none, sym, ◌==◌, if◌then◌else◌, refl, slice_get, Result, Ok, Err, IfSome, ◌∙◌, ap}
+use Rattle.std.proofs.Common.{◌≡◌, ℕ, suc, ◌+◌, ◌-◌, nat_le, nat_lt, Bool, true, false, List, [], ◌∷◌, length, Option, None, Some, subst, ◌&&◌, not, is_none, sym, ◌==◌, if◌then◌else◌, refl, slice_get, Result, Ok, Err, ◌∙◌}
 use Rattle.std.specs.Option.{option_and_then, option_map_or, option_map}
 use Rattle.ca_base.specs.declared.change.State.TheVariants as states
 use Rattle.ca_base.specs.declared.completion.WcStatus.TheVariants.{BadResponse, LocalProtection, RetryExceeded, RnrRetryExceeded, LocalLength, MemoryManagement, Success}

@@ -1,14 +1,11 @@
 -- The world before the first event is placed, every event keeps a world placed, and what it touches is configured.
-use Rattle.std.proofs.Common.{◌≡◌, ◌∙◌, ◌==◌, Bool, true, false, List, [], ◌∷◌, length, subst, ap, sym, ◌&&◌, if◌then◌else◌, true≢false, refl}
+use Rattle.std.proofs.Common.{◌≡◌, ◌∙◌, ◌==◌, Bool, true, false, List, [], ◌∷◌, length, subst, sym, if◌then◌else◌, true≢false, refl}
 use Rattle.std.proofs.lemmas.Bool.{and_parts, eqb-true}
 use Rattle.ca_keys.specs.declared.names.DomainId.{DomainId}
-use Rattle.ca_keys.specs.declared.names.QueueId.{QueueId}
-use Rattle.ca_keys.specs.declared.names.Slot.{Slot}
 use Rattle.ca_base.specs.Configuration.{Configuration}
 use Rattle.ca_keys.specs.Equal.{domain_eq, queue_eq, slot_eq}
 use Rattle.ca_keys.specs.Memory.{ByteMap, bytes_at}
 use Rattle.ca_base.specs.objects.Slices.{has_slot}
-use Rattle.ca_base.specs.objects.Window.{Window}
 use Rattle.ca_model.specs.declared.event.Event.{Event}
 use Rattle.ca_model.specs.declared.event.Event.TheVariants as events
 use Rattle.ca_model.specs.declared.verb.Verb.{Verb}

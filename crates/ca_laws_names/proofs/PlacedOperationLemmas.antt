@@ -1,7 +1,7 @@
 -- The local operations and the requester's turn in a placed world.
-use Rattle.std.proofs.Common.{◌≡◌, ℕ, suc, ◌+◌, ◌-◌, Bool, true, false, List, [], ◌∷◌, ◌++◌, Option, None, Some, IfSome, subst, ◌==◌, true≢false, if◌then◌else◌, drop, take, slice_get, refl}
+use Rattle.std.proofs.Common.{◌≡◌, ℕ, suc, ◌+◌, ◌-◌, Bool, true, false, List, [], ◌∷◌, ◌++◌, Option, None, Some, IfSome, subst, ◌==◌, true≢false, if◌then◌else◌, refl}
 use Rattle.std.specs.List.{AllByRecursion}
-use Rattle.std.specs.Option.{option_map_or, option_or}
+use Rattle.std.specs.Option.{option_or}
 use Rattle.ca_base.specs.declared.lot.Lot.{Lot}
 use Rattle.ca_keys.specs.declared.key.Key.{Key}
 use Rattle.ca_keys.specs.declared.names.DomainId.{DomainId}
@@ -20,14 +20,14 @@ use Rattle.ca_keys.specs.Refusals.{AllFail, first_of}
 use Rattle.ca_base.specs.objects.LocalRequest.{bind1_request_refusals, bind2_request_refusals, of_window}
 use Rattle.ca_base.specs.objects.QueuePair.{QueuePair}
 use Rattle.ca_base.specs.objects.Region.{Region}
-use Rattle.ca_base.specs.objects.Slices.{names_region, slot_of_key}
+use Rattle.ca_base.specs.objects.Slices.{slot_of_key}
 use Rattle.ca_base.specs.objects.WorkQueue.{items_from}
 use Rattle.ca_base.specs.objects.Window.{Binding, Window, after_binding, binding_refusals, without_binding}
 use Rattle.ca_model.specs.machine.Around.{With_around, updates_of}
-use Rattle.ca_model.specs.machine.LocalOperations.{Finishing, PlacedRegion, Bind1_plan, Bind2_plan, Fast_plan, Perform_op, With_former, With_named, bind1_changes, bind1_marks, bind1_refusal, bind2_changes, bind2_marks, bind2_refusal, drawn_by, fast_changes, fast_marks, fast_refusal, former_updates, invalidate_row, named_slot, named_updates, operation_effects, region_left, region_slot, view_named, window_slot}
+use Rattle.ca_model.specs.machine.LocalOperations.{Finishing, PlacedRegion, Bind1_plan, Bind2_plan, Fast_plan, Perform_op, With_former, With_named, bind1_changes, bind1_marks, bind1_refusal, bind2_changes, bind2_marks, bind2_refusal, drawn_by, fast_changes, fast_marks, fast_refusal, former_updates, invalidate_row, named_slot, named_updates, operation_effects, region_slot, view_named, window_slot}
 use Rattle.ca_model.specs.machine.Numbering.{Numbered, begun_requests, has_psn, next_to_begin, numbers_of, request_at, unfinished_requests}
 use Rattle.ca_model.specs.Requests.{is_local, psns_of}
-use Rattle.ca_model.specs.machine.Plan.{Plan, Look, Finish, Update, ◌:=◌, Write, names_written}
+use Rattle.ca_model.specs.machine.Plan.{Plan, Look, Finish, Update, Write, names_written}
 use Rattle.ca_model.specs.machine.Requester.{RequestTurn, Waits, Performs, Sends, next_request, packet_row, turn_of, turn_refusals}
 use Rattle.ca_model.specs.machine.Row.{Effects, queue_and_marks, region_under, unless_none}
 use Rattle.ca_model.specs.machine.Step.{has_named_slot}
@@ -39,7 +39,7 @@ use Rattle.ca_laws_sound.proofs.VerbLemmas.{all-dropped}
 use Rattle.ca_laws_sound.proofs.WorldLemmas.{around_in, shared_of}
 use Rattle.ca_laws_windows.proofs.WindowBindLemmas.{named-region}
 use Rattle.ca_laws_names.specs.Placed.{IsConfigured, IsPlacedBinding, IsPlacedThing}
-use Rattle.ca_laws_names.proofs.KeptLemmas.{Keeps, invalidate-keeps, kept_of, operation-kept, packet-keeps}
+use Rattle.ca_laws_names.proofs.KeptLemmas.{Keeps, invalidate-keeps, operation-kept, packet-keeps}
 use Rattle.ca_laws_names.proofs.PlanLemmas.{AreConfigured, ArePlaced, IsFit, IsPlacedPlan, named-region-in, placed-append, placed-row, under-in, unless-placed}
 use Rattle.ca_laws_names.proofs.PlacedTurnLemmas.{IsPlacedHere, around-placed, left-placed, queue-placed, turn-placed}
 
@@ -272,5 +272,8 @@ request-placed c w name lot fit = queue-placed c w name reasons.State (λ q. Wit
     by q here peer named (Performs n) one = perform-placed c w q n (λ e changes writes. Finish (updates_of q (around_in w q (shared_of w q)) e ++ changes) writes e.marks)
         n.request.op fit here.name one (λ e cs ws keeps placed bytes. (turn-placed c w q e cs fit here keeps placed, bytes))
     by q here None named (Sends n) one = record {}
-    by q here (Some peer) named (Sends n) one = (named, left-placed c w q peer lot (packet_row q (has_room_for q peer (w.mailbox peer.queue)) n) fit here named
-        (packet-keeps q (has_room_for q peer (w.mailbox peer.queue)) n))
+    by q here (Some peer) named (Sends n) one = (
+      named,
+      left-placed c w q peer lot (packet_row q (has_room_for q peer (w.mailbox peer.queue)) n) fit here named
+          (packet-keeps q (has_room_for q peer (w.mailbox peer.queue)) n),
+    )

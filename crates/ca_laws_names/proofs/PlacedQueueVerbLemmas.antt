@@ -1,5 +1,5 @@
 -- The verbs on queue pairs, and those that post to them, in a placed world.
-use Rattle.std.proofs.Common.{◌≡◌, ◌∙◌, ap, ◌==◌, ℕ, suc, ◌+◌, ◌*◌, ◌/◌, ◌%◌, ◌-◌, ◌<◌, nat_le, nat_lt, arith, Bool, true, false, List, [], ◌∷◌, ◌++◌, filter, Option, None, Some, IfSome, subst, sym, ◌&&◌, ◌||◌, not, is_none, if◌then◌else◌, refl}
+use Rattle.std.proofs.Common.{◌≡◌, ◌∙◌, ap, ◌==◌, ℕ, suc, ◌+◌, ◌*◌, ◌/◌, ◌%◌, ◌-◌, ◌<◌, nat_le, nat_lt, arith, Bool, true, false, List, [], ◌∷◌, filter, Option, None, Some, IfSome, subst, sym, ◌&&◌, not, is_none, if◌then◌else◌, refl}
 use Rattle.std.proofs.lemmas.Bool.{and_from, and_parts, eqb-true, le-leb, not-false, or_parts}
 use Rattle.std.specs.List.{AllByRecursion}
 use Rattle.std.specs.Option.{option_and_then, option_map, option_map_or}
@@ -13,9 +13,7 @@ use Rattle.ca_base.specs.declared.request.RecvRequest.{RecvRequest}
 use Rattle.ca_base.specs.declared.request.SendOp.{SendOp}
 use Rattle.ca_base.specs.declared.request.SendOp.TheVariants as ops
 use Rattle.ca_base.specs.declared.request.SendRequest.{SendRequest}
-use Rattle.ca_base.specs.declared.reserve.Reservation.{Reservation}
-use Rattle.ca_base.specs.declared.reserve.Reserve.{Reserve}
-use Rattle.ca_base.specs.declared.reserve.Reserve.TheVariants.{Sends, Receives, Shared}
+use Rattle.ca_base.specs.declared.reserve.Reserve.TheVariants.{Receives, Shared}
 use Rattle.ca_keys.specs.declared.names.QueueId.{QueueId}
 use Rattle.ca_keys.specs.declared.names.Slot.{Slot}
 use Rattle.ca_base.specs.Configuration.{Configuration}
@@ -23,10 +21,10 @@ use Rattle.ca_keys.specs.Equal.{queue_eq}
 use Rattle.ca_base.specs.Grants.{next_low}
 use Rattle.ca_keys.specs.Numbers.{queue_of}
 use Rattle.ca_keys.specs.Refusals.{AllFail}
-use Rattle.ca_base.specs.objects.CompletionQueue.{CompletionQueue, after_puts, after_reserve, source_of, user_of, without_completions}
+use Rattle.ca_base.specs.objects.CompletionQueue.{CompletionQueue, after_puts, after_reserve, without_completions}
 use Rattle.ca_base.specs.objects.Domain.{with_object, without_object}
-use Rattle.ca_base.specs.objects.Mailbox.{Mailbox, with_peer}
-use Rattle.ca_base.specs.objects.QueuePair.{QueuePair, QueueSlot, NoQueue, Present, is_present, queue_at_start, recv_cq_of, send_cq_of, with_all_flushed}
+use Rattle.ca_base.specs.objects.Mailbox.{with_peer}
+use Rattle.ca_base.specs.objects.QueuePair.{QueuePair, QueueSlot, NoQueue, Present, recv_cq_of, send_cq_of, with_all_flushed}
 use Rattle.ca_base.specs.objects.SharedReceives.{SharedReceives, SrqSlot, after_receives_retire}
 use Rattle.ca_base.specs.objects.Slices.{has_queue, has_slot, slot_of_queue}
 use Rattle.ca_base.specs.objects.StateTable.{modify_refusals, queue_after_change, state_eq}
@@ -35,10 +33,10 @@ use Rattle.ca_base.specs.objects.WorkQueue.{with_item}
 use Rattle.ca_model.specs.declared.answer.Answer.TheVariants as answers
 use Rattle.ca_model.specs.declared.answer.Refusal.TheVariants.{CqTooSmall, NoSuch, OutOfRange, WindowsBound}
 use Rattle.ca_model.specs.declared.mark.Mark.{Mark}
-use Rattle.ca_model.specs.machine.Around.{Around, With_around, completions_to, cq_updates}
+use Rattle.ca_model.specs.machine.Around.{Around, completions_to, cq_updates}
 use Rattle.ca_model.specs.machine.Completions.{flush_marks}
 use Rattle.ca_model.specs.machine.Plan.{Plan, If, Look, Update, ◌:=◌}
-use Rattle.ca_model.specs.machine.PostingVerbs.{Posted_send, after_flush, marks_of_flush, post_recv_plan, post_recv_refusals, post_send_plan, post_send_refusals, with_send}
+use Rattle.ca_model.specs.machine.PostingVerbs.{Posted_send, after_flush, marks_of_flush, post_recv_plan, post_send_plan, with_send}
 use Rattle.ca_model.specs.machine.QueuePairVerbs as QueuePairVerbs
 use Rattle.ca_model.specs.machine.QueuePairVerbs.{Creation, With_present, With_shared, before_receives, beside, create_qp_plan, destroy_qp_plan, emptied_updates, has_bad_depth, has_no_room, has_queues, left_updates, modify_qp_plan, new_queue, places_held, query_qp_plan, receive_reserve, receive_room, send_reserved, user_updates, without_queue}
 use Rattle.ca_model.specs.machine.Sound.{AreLimited, IsQueueOf}
@@ -51,7 +49,6 @@ use Rattle.ca_laws_names.specs.Placed.{IsConfigured, IsPlacedQueue, IsPlacedRese
 use Rattle.ca_laws_names.proofs.KeptLemmas.{kept_of}
 use Rattle.ca_laws_names.proofs.PlanLemmas.{ArePlaced, IsFit, IsPlacedPlan, all-joined}
 use Rattle.ca_laws_names.proofs.PlacedTurnLemmas.{IsPlacedHere, around-placed, cq-placed, cqs-placed, kept-placed, placed-here, srq-placed, unless-refused}
-use Rattle.ca_laws_names.proofs.PlacedVerbLemmas.{domain-in}
 
 -- the slot of the number of a queue pair's slot is that slot
 slot-back : (s : Slot) → s.slot < MAX_QPS → slot_of_queue (queue_of s) ≡ s
@@ -294,31 +291,34 @@ left-placed c q a placed = by q.srq a.shared placed.shared
 
 pub destroy_qp-placed : (c : Configuration) (w : World) (call : Call) (s : Slot) → IsFit c w → IsConfigured c (Domain_of s.domain) → IsConfigured c (Queue_of (queue_of s))
     → IsPlacedPlan c w (destroy_qp_plan call s)
-destroy_qp-placed c w call s fit domain has = (domain, present-placed c w call s _ fit has (λ q is here. (
-  here.name,
-  around-placed c w q (plan q) here (
-    λ is. (record {}, record {}),
-    λ free. (
-      (
-        (domain, record {}),
+destroy_qp-placed c w call s fit domain has = (
+  domain,
+  present-placed c w call s _ fit has (λ q is here. (
+    here.name,
+    around-placed c w q (plan q) here (
+      λ is. (record {}, record {}),
+      λ free. (
         (
-          (here.name, record {}),
+          (domain, record {}),
           (
             (here.name, record {}),
             (
-              (here.placed.send, cq-placed c (send_cq_of q) (without_queue q) (w.cq (send_cq_of q)) (λ x all. all-filtered (IsPlacedReservation c (send_cq_of q)) _ x.reservations all) (fit.placed.things (Cq_of (send_cq_of q)))),
+              (here.name, record {}),
               (
-                (here.placed.recv, cq-placed c (recv_cq_of q) (without_queue q) (w.cq (recv_cq_of q)) (λ x all. all-filtered (IsPlacedReservation c (recv_cq_of q)) _ x.reservations all) (fit.placed.things (Cq_of (recv_cq_of q)))),
-                left-placed c q (around_in w q (shared_of w q)) here.placed,
+                (here.placed.send, cq-placed c (send_cq_of q) (without_queue q) (w.cq (send_cq_of q)) (λ x all. all-filtered (IsPlacedReservation c (send_cq_of q)) _ x.reservations all) (fit.placed.things (Cq_of (send_cq_of q)))),
+                (
+                  (here.placed.recv, cq-placed c (recv_cq_of q) (without_queue q) (w.cq (recv_cq_of q)) (λ x all. all-filtered (IsPlacedReservation c (recv_cq_of q)) _ x.reservations all) (fit.placed.things (Cq_of (recv_cq_of q)))),
+                  left-placed c q (around_in w q (shared_of w q)) here.placed,
+                ),
               ),
             ),
           ),
         ),
+        record {},
       ),
-      record {},
     ),
-  ),
-)))
+  )),
+)
   where
     plan : QueuePair → Around → Plan
     plan q a = If (nat_lt 0 q.windows) (Refuse_plan call WindowsBound)
@@ -376,13 +376,22 @@ receive-placed c x room made = by x.srq made.shared
 
 pub create_qp-placed : (c : Configuration) (w : World) (call : Call) (x : Creation) → IsFit c w → IsConfigured c (Domain_of x.slot.domain) → IsConfigured c (Queue_of (queue_of x.slot))
     → IsPlacedPlan c w (create_qp_plan c call x)
-create_qp-placed c w call x fit domain has = (domain, (has, (has, (
-  λ is. (record {}, record {}),
-  λ there. (
-    λ is. (record {}, record {}),
-    λ vacant. (λ named. queues (creation-placed c x domain has named), λ none. (record {}, record {})),
+create_qp-placed c w call x fit domain has = (
+  domain,
+  (
+    has,
+    (
+      has,
+      (
+        λ is. (record {}, record {}),
+        λ there. (
+          λ is. (record {}, record {}),
+          λ vacant. (λ named. queues (creation-placed c x domain has named), λ none. (record {}, record {})),
+        ),
+      ),
+    ),
   ),
-))))
+)
   where
     queue : QueueId
     queue = queue_of x.slot

@@ -1,13 +1,12 @@
 -- Turns of an engine, and packets that arrive, in a placed world.
-use Rattle.std.proofs.Common.{◌≡◌, ℕ, suc, ◌-◌, Bool, true, false, List, [], ◌∷◌, ◌++◌, Option, None, Some, IfSome, subst, ◌∙◌, ap, sym, ◌&&◌, ◌||◌, not, is_none, if◌then◌else◌, drop, take, slice_get, refl, rules}
+use Rattle.std.proofs.Common.{◌≡◌, ℕ, Bool, true, false, List, [], ◌∷◌, ◌++◌, Option, None, Some, IfSome, subst, sym, ◌&&◌, is_none, if◌then◌else◌, refl, rules}
 use Rattle.std.proofs.lemmas.List.{append-nil}
-use Rattle.std.specs.List.{AllByRecursion, find}
-use Rattle.std.specs.Option.{option_and_then, option_map, option_map_or, option_or}
+use Rattle.std.specs.List.{AllByRecursion}
+use Rattle.std.specs.Option.{option_map, option_map_or}
 use Rattle.ca_base.specs.declared.lot.Lot.{Lot}
 use Rattle.ca_keys.specs.declared.names.QueueId.{QueueId}
 use Rattle.ca_keys.specs.declared.names.Slot.{Slot}
 use Rattle.ca_base.specs.declared.request.PostedSend.{PostedSend}
-use Rattle.ca_base.specs.declared.reserve.Reservation.{Reservation}
 use Rattle.ca_base.specs.declared.step.Reason.{Reason}
 use Rattle.ca_base.specs.declared.step.Reason.TheVariants as reasons
 use Rattle.ca_base.specs.declared.step.Sent.{Sent}
@@ -16,10 +15,9 @@ use Rattle.ca_base.specs.Configuration.{Configuration}
 use Rattle.ca_base.specs.declared.correspondent.Correspondent.{Correspondent}
 use Rattle.ca_base.specs.objects.CompletionQueue.{CompletionQueue, after_puts}
 use Rattle.ca_base.specs.objects.Mailbox.{Mailbox, after_delivery, after_send, bytes_lent}
-use Rattle.ca_base.specs.objects.QueuePair.{QueuePair, QueueSlot, NoQueue, Present, queue_in, recv_cq_of, send_cq_of, srq_of}
+use Rattle.ca_base.specs.objects.QueuePair.{QueuePair, QueueSlot, NoQueue, Present, recv_cq_of, send_cq_of, srq_of}
 use Rattle.ca_base.specs.objects.SharedReceives.{SharedReceives, SrqSlot, after_receive_take}
 use Rattle.ca_base.specs.objects.Slices.{has_queue}
-use Rattle.ca_base.specs.objects.WorkQueue.{items_from}
 use Rattle.ca_model.specs.declared.answer.Answer.TheVariants as answers
 use Rattle.ca_model.specs.declared.answer.Refusal.TheVariants.{NoSuch}
 use Rattle.ca_model.specs.declared.mark.Mark.{Mark}
@@ -28,13 +26,12 @@ use Rattle.ca_model.specs.machine.Arrivals.{next_receive}
 use Rattle.ca_model.specs.machine.Around.{Around, With_around, With_queue, completions_to, cq_updates, shared_in, srq_updates, updates_of}
 use Rattle.ca_model.specs.machine.Delivery.{Arrive, arrival_row, deliver_plan}
 use Rattle.ca_model.specs.machine.HostVerbs.{inject_plan}
-use Rattle.ca_model.specs.machine.Plan.{Plan, Stuck, Look, If, Finish, Update, ◌:=◌, Write, names_written, unless_refused}
-use Rattle.ca_model.specs.machine.Numbering.{Numbered}
+use Rattle.ca_model.specs.machine.Plan.{Plan, Stuck, Look, Finish, Update, ◌:=◌, Write, unless_refused}
 use Rattle.ca_model.specs.machine.Respond.{respond_row}
 use Rattle.ca_model.specs.machine.Row.{Effects, Row, Row_plan}
 use Rattle.ca_model.specs.machine.Step.{has_named_slot}
 use Rattle.ca_model.specs.machine.Timers.{after_timeout, after_wake, timeout_refusals, wake_refusals}
-use Rattle.ca_model.specs.machine.Turns.{Fire, Leave_plan, Packet, Respond_around, Timeout_around, With_receives, has_room_for, is_silent, packet_sent, reaches_peer, respond_plan, sent_updates, timeout_plan, wake_plan}
+use Rattle.ca_model.specs.machine.Turns.{Fire, Leave_plan, Packet, Respond_around, Timeout_around, With_receives, has_room_for, packet_sent, reaches_peer, respond_plan, sent_updates, timeout_plan, wake_plan}
 use Rattle.ca_model.specs.machine.VerbAnswers.{Call, Refuse_plan, answer_mark}
 use Rattle.ca_model.specs.machine.World.{World, Cq_of, Mailbox_of, Queue_of, Srq_of}
 use Rattle.ca_laws_sound.proofs.WorldLemmas.{IsThere, around_in, is-there, shared_of}
@@ -42,7 +39,7 @@ use Rattle.ca_model.specs.machine.Sound.{IsQueueOf}
 use Rattle.ca_keys.specs.Refusals.{AllFail}
 use Rattle.ca_laws_names.specs.Placed.{IsConfigured, IsPlacedQueue, IsPlacedReservation, IsPlacedSlot, IsPlacedThing}
 use Rattle.ca_laws_names.proofs.KeptLemmas.{Keeps, Kept, RowKeeps, arrival-keeps, kept_of, respond-keeps, timeout-keeps}
-use Rattle.ca_laws_names.proofs.PlanLemmas.{AreConfigured, ArePlaced, IsFit, IsPlacedPlan, placed-append, placed-row}
+use Rattle.ca_laws_names.proofs.PlanLemmas.{ArePlaced, IsFit, IsPlacedPlan, placed-append, placed-row}
 
 -- a queue pair that stands in a placed world
 pub record IsPlacedHere (c : Configuration) (w : World) (q : QueuePair) : Type 0 where
@@ -122,11 +119,10 @@ cqs-placed c w q ms fit placed = (
 -- what a turn changes, with more placed changes behind
 pub turn-placed : (c : Configuration) (w : World) (q : QueuePair) (e : Effects) (more : List Update) → IsFit c w → IsPlacedHere c w q → Keeps q e → ArePlaced c more
     → ArePlaced c (updates_of q (around_in w q (shared_of w q)) e ++ more)
-turn-placed c w q e more fit here keeps placed = placed-append c (updates_of q a e) more
-    (
-      (here.name, kept-placed c q e.queue keeps here.placed),
-      placed-append c (cq_updates q a e.marks) (if e.takes_shared then srq_updates q a after_receive_take else []) (cqs-placed c w q e.marks fit here.placed) (taken e.takes_shared),
-    )
+turn-placed c w q e more fit here keeps placed = placed-append c (updates_of q a e) more (
+  (here.name, kept-placed c q e.queue keeps here.placed),
+  placed-append c (cq_updates q a e.marks) (if e.takes_shared then srq_updates q a after_receive_take else []) (cqs-placed c w q e.marks fit here.placed) (taken e.takes_shared),
+)
     placed
   where
     a : Around
@@ -156,8 +152,11 @@ pub left-placed : (c : Configuration) (w : World) (q : QueuePair) (peer : Corres
     → IsConfigured c (Queue_of peer.queue) → RowKeeps q row
     → IsPlacedPlan c w (Row_plan c row (Leave_plan q (around_in w q (shared_of w q)) peer (w.mailbox peer.queue) lot))
 left-placed c w q peer lot row fit here named keeps = placed-row c w (Keeps q) row (Leave_plan q (around_in w q (shared_of w q)) peer (w.mailbox peer.queue) lot) fit keeps
-    (λ e cs ws kept placed bytes. (turn-placed c w q e (cs ++ option_map_or (sent_updates q peer (w.mailbox peer.queue) lot) (packet_sent e) []) fit here kept
-    (placed-append c cs (option_map_or (sent_updates q peer (w.mailbox peer.queue) lot) (packet_sent e) []) placed (sent-placed c q peer (w.mailbox peer.queue) lot e named)), bytes))
+    (λ e cs ws kept placed bytes. (
+      turn-placed c w q e (cs ++ option_map_or (sent_updates q peer (w.mailbox peer.queue) lot) (packet_sent e) []) fit here kept
+          (placed-append c cs (option_map_or (sent_updates q peer (w.mailbox peer.queue) lot) (packet_sent e) []) placed (sent-placed c q peer (w.mailbox peer.queue) lot e named)),
+      bytes,
+    ))
 
 -- where a test refuses, nothing is touched
 pub unless-refused : {R : Type 0} (c : Configuration) (w : World) (tests : List (Bool × R)) (refuse : R → Plan) (p : Plan) → ((r : R) → IsPlacedPlan c w (refuse r))
@@ -172,8 +171,11 @@ respond-placed c w name lot fit = queue-placed c w name reasons.State (λ q. Wit
     by : (q : QueuePair) → IsPlacedHere c w q → (peer : Option Correspondent) → IfSome peer (λ p. IsConfigured c (Queue_of p.queue))
         → IsPlacedPlan c w (Respond_around c lot q (around_in w q (shared_of w q)) peer)
     by q here None named = search rules
-    by q here (Some peer) named = (named, left-placed c w q peer lot (respond_row (has_room_for q peer (w.mailbox peer.queue)) q) fit here named
-        (respond-keeps (has_room_for q peer (w.mailbox peer.queue)) q))
+    by q here (Some peer) named = (
+      named,
+      left-placed c w q peer lot (respond_row (has_room_for q peer (w.mailbox peer.queue)) q) fit here named
+          (respond-keeps (has_room_for q peer (w.mailbox peer.queue)) q),
+    )
 
 pub timeout-placed : (c : Configuration) (w : World) (name : QueueId) (hasten : Bool) → IsFit c w → IsPlacedPlan c w (timeout_plan c name hasten)
 timeout-placed c w name hasten fit = (λ has. (has, by has (w.queue name) refl), λ none. record {})
@@ -188,8 +190,11 @@ timeout-placed c w name hasten fit = (λ has. (has, by has (w.queue name) refl),
     fire : (q : QueuePair) → IsPlacedHere c w q → (silent : Bool) → IsPlacedPlan c w (Fire hasten q (around_in w q (shared_of w q)) silent)
     fire q here silent = unless-refused c w (timeout_refusals silent hasten q) Stuck
         (Finish (updates_of q (around_in w q (shared_of w q)) (after_timeout silent q)) [] (after_timeout silent q).marks) (λ r. record {})
-        (λ fails. (subst (ArePlaced c) (append-nil (updates_of q (around_in w q (shared_of w q)) (after_timeout silent q)))
-        (turn-placed c w q (after_timeout silent q) [] fit here (timeout-keeps q silent) (record {})), record {}))
+        (λ fails. (
+          subst (ArePlaced c) (append-nil (updates_of q (around_in w q (shared_of w q)) (after_timeout silent q)))
+              (turn-placed c w q (after_timeout silent q) [] fit here (timeout-keeps q silent) (record {})),
+          record {},
+        ))
 
     fires : (q : QueuePair) → IsPlacedHere c w q → (peer : Option Correspondent) → IfSome peer (λ p. IsConfigured c (Queue_of p.queue))
         → IsPlacedPlan c w (Timeout_around hasten q (w.mailbox name) (around_in w q (shared_of w q)) peer)
@@ -279,5 +284,11 @@ wake-placed c w name fit = queue-placed c w name reasons.State (λ q. plan q q.p
 
     by : (q : QueuePair) → IsPlacedHere c w q → (peer : Option Correspondent) → IfSome peer (λ p. IsConfigured c (Queue_of p.queue)) → IsPlacedPlan c w (plan q peer)
     by q here None named = search rules
-    by q here (Some peer) named = (named, (named, receives (w.queue peer.queue) (λ empty. wakes q (reaches_peer q peer (w.mailbox peer.queue) && empty))
-        (fit.placed.things (Queue_of peer.queue)) (λ empty. wake q here _)))
+    by q here (Some peer) named = (
+      named,
+      (
+        named,
+        receives (w.queue peer.queue) (λ empty. wakes q (reaches_peer q peer (w.mailbox peer.queue) && empty))
+            (fit.placed.things (Queue_of peer.queue)) (λ empty. wake q here _),
+      ),
+    )

@@ -1,6 +1,6 @@
 -- The verbs on domains, regions, windows, completion queues and shared receive queues, and those of the host, in a placed
 -- world.
-use Rattle.std.proofs.Common.{◌≡◌, ◌∙◌, ℕ, suc, ◌+◌, ◌-◌, ◌≤◌, nat_lt, Bool, true, false, List, [], ◌∷◌, ◌++◌, length, take, Option, None, Some, IfSome, subst, ap, sym, ◌&&◌, true≢false, if◌then◌else◌, refl}
+use Rattle.std.proofs.Common.{◌≡◌, ◌∙◌, ℕ, suc, ◌+◌, ◌-◌, nat_lt, Bool, true, false, List, [], ◌∷◌, ◌++◌, take, Option, None, Some, IfSome, ap, sym, true≢false, if◌then◌else◌, refl}
 use Rattle.std.proofs.lemmas.Bool.{and_parts, ltb-false}
 use Rattle.std.specs.List.{AllByRecursion}
 use Rattle.std.specs.Option.{option_map, option_map_or, option_or}
@@ -15,39 +15,36 @@ use Rattle.ca_keys.specs.declared.place.Run.{Run}
 use Rattle.ca_keys.specs.declared.rights.Rights.{Rights}
 use Rattle.ca_base.specs.Configuration.{Adapter, Configuration}
 use Rattle.ca_keys.specs.Equal.{queue_eq}
-use Rattle.ca_keys.specs.Refusals.{AllFail}
 use Rattle.ca_base.specs.objects.CompletionQueue.{CompletionQueue, source_in, source_of, user_of}
-use Rattle.ca_base.specs.objects.Domain.{Domain, without_object}
+use Rattle.ca_base.specs.objects.Domain.{without_object}
 use Rattle.ca_base.specs.objects.QueuePair.{QueuePair, QueueSlot, NoQueue, Present, is_present}
-use Rattle.ca_base.specs.objects.SharedReceives.{SharedReceives, SrqSlot, after_receive_post, is_full_of_receives}
+use Rattle.ca_base.specs.objects.SharedReceives.{SharedReceives, after_receive_post, is_full_of_receives}
 use Rattle.ca_base.specs.objects.Slices.{adapter_at, has_domain, has_queue, has_slot}
-use Rattle.ca_base.specs.objects.Window.{Binding, Window, after_deallocation}
+use Rattle.ca_base.specs.objects.Window.{Binding, after_deallocation}
 use Rattle.ca_base.specs.objects.WorkQueue.{after_retire}
 use Rattle.ca_model.specs.declared.answer.Answer.TheVariants as answers
-use Rattle.ca_model.specs.declared.answer.Refusal.{Refusal}
 use Rattle.ca_model.specs.declared.answer.Refusal.TheVariants.{NoSuch, QueueFull, TooLong}
 use Rattle.ca_model.specs.Requests.{list_length}
 use Rattle.ca_base.specs.declared.limits.TheConstants.{MAX_MESSAGE_BYTES}
-use Rattle.ca_model.specs.declared.mark.Mark.{Mark}
 use Rattle.ca_model.specs.declared.mark.Mark.TheVariants as marks
 use Rattle.ca_base.specs.objects.Region.{with_window_unbound}
 use Rattle.ca_base.specs.objects.Window.{key_of_window}
-use Rattle.ca_model.specs.machine.CompletionVerbs.{Poll_of, Take_plan, With_place, With_places, after_poll, create_cq_plan, create_srq_plan, destroy_cq_plan, destroy_srq_plan, poll_plan, receives_after_poll, slot_after_poll, source_of_completion}
+use Rattle.ca_model.specs.machine.CompletionVerbs.{Poll_of, With_place, With_places, after_poll, create_cq_plan, create_srq_plan, destroy_cq_plan, destroy_srq_plan, poll_plan, receives_after_poll, slot_after_poll, source_of_completion}
 use Rattle.ca_model.specs.machine.DomainVerbs.{alloc_pd_plan, dealloc_pd_plan}
-use Rattle.ca_model.specs.machine.HostVerbs.{host_refusals, load_plan, store_plan}
+use Rattle.ca_model.specs.machine.HostVerbs.{load_plan, store_plan}
 use Rattle.ca_model.specs.machine.Plan.{Plan, If, Look, Update, ◌:=◌, byte_names}
 use Rattle.ca_model.specs.machine.PostingVerbs.{post_srq_plan}
 use Rattle.ca_model.specs.machine.RegionVerbs.{alloc_mr_plan, dereg_mr_plan, reg_mr_plan}
 use Rattle.ca_model.specs.machine.Row.{region_under}
 use Rattle.ca_model.specs.machine.Sound.{IsSettled}
 use Rattle.ca_model.specs.machine.Step.{bytes_of_buffer, has_named_slot}
-use Rattle.ca_model.specs.machine.VerbAnswers.{Answer_plan, Call, Refuse_plan, Unless_plan}
+use Rattle.ca_model.specs.machine.VerbAnswers.{Answer_plan, Call, Refuse_plan}
 use Rattle.ca_model.specs.machine.WindowVerbs.{With_binder, alloc_mw_plan, dealloc_mw_plan, queue_updates}
 use Rattle.ca_model.specs.machine.World.{World, Cq_of, Domain_of, Queue_of, Region_of, Srq_of, Window_of}
 use Rattle.ca_laws_sound.proofs.NumberingLemmas.{all-taken}
 use Rattle.ca_laws_sound.proofs.VerbLemmas.{all-dropped}
 use Rattle.ca_laws_names.specs.Placed.{IsConfigured, IsPlacedBinding, IsPlacedQueue, IsPlacedReservation, IsPlacedSlot, IsPlacedThing}
-use Rattle.ca_laws_names.proofs.PlanLemmas.{AreConfigured, ArePlaced, IsFit, IsPlacedPlan, all-joined, bytes-in, placed-append, under-in}
+use Rattle.ca_laws_names.proofs.PlanLemmas.{AreConfigured, ArePlaced, IsFit, IsPlacedPlan, all-joined, bytes-in, under-in}
 use Rattle.ca_laws_names.proofs.PlacedTurnLemmas.{kept-placed}
 
 -- the domain of a configured slot is configured
@@ -221,8 +218,11 @@ place-placed c w s cq xs x k fit reserved settled more = by (source_of_completio
     plan (Some srq) = Look (Srq_of (shared srq)) (λ slot. k (Srq_of (shared srq) := record slot { srq = option_map (receives_after_poll cq srq xs) slot.srq }))
 
     by : (o : Option ℕ) → IfSome o (λ srq. IsConfigured c (Srq_of (shared srq))) → IsPlacedPlan c w (plan o)
-    by None one = (waiting-in c w s x fit settled, more (Queue_of x.queue := slot_after_poll x.queue xs (w.queue x.queue))
-        (waiting-in c w s x fit settled, slot-polled c x.queue xs (w.queue x.queue) (fit.placed.things (Queue_of x.queue))))
+    by None one = (
+      waiting-in c w s x fit settled,
+      more (Queue_of x.queue := slot_after_poll x.queue xs (w.queue x.queue))
+          (waiting-in c w s x fit settled, slot-polled c x.queue xs (w.queue x.queue) (fit.placed.things (Queue_of x.queue))),
+    )
     by (Some srq) one = (one, more (Srq_of (shared srq) := record (w.srq (shared srq)) { srq = option_map (receives_after_poll cq srq xs) (w.srq (shared srq)).srq }) (one, record {}))
 
 places-placed : (c : Configuration) (w : World) (s : Slot) (cq : CompletionQueue) (xs ys : List Completion) (k : List Update → Plan) → IsFit c w

@@ -1,14 +1,12 @@
 -- Plans in a placed world: all that they look at, read and write is configured, and what they change is placed.
-use Rattle.std.proofs.Common.{◌≡◌, ℕ, zero, suc, ◌+◌, ◌-◌, ◌≤◌, ◌<◌, min, nat_le, nat_lt, arith, Bool, true, false, List, [], ◌∷◌, ◌++◌, map, Option, None, Some, IfSome, subst, ap, ◌&&◌, not, ◌==◌, sym, true≢false, if◌then◌else◌, refl}
+use Rattle.std.proofs.Common.{◌≡◌, ℕ, zero, suc, ◌+◌, ◌-◌, ◌≤◌, ◌<◌, min, nat_le, arith, Bool, true, false, List, [], ◌∷◌, ◌++◌, map, Option, None, Some, IfSome, subst, ◌&&◌, not, ◌==◌, sym, true≢false, if◌then◌else◌, refl}
 use Rattle.std.proofs.lemmas.Bool.{and_parts, leb-false, lt-ltb}
 use Rattle.std.specs.List.{AllByRecursion, range_with_len}
 use Rattle.ca_keys.specs.declared.access.Ask.{Ask}
 use Rattle.ca_keys.specs.declared.grant.Grant.{Grant}
 use Rattle.ca_keys.specs.declared.key.Key.{Key}
 use Rattle.ca_keys.specs.declared.names.DomainId.{DomainId}
-use Rattle.ca_keys.specs.declared.names.QueueId.{QueueId}
 use Rattle.ca_keys.specs.declared.names.Slot.{Slot}
-use Rattle.ca_keys.specs.declared.place.Place.{Place}
 use Rattle.ca_keys.specs.declared.place.Run.{Run}
 use Rattle.ca_base.specs.declared.refusals.OpRefusal.{OpRefusal}
 use Rattle.ca_keys.specs.Allowed.{fits}
@@ -24,7 +22,7 @@ use Rattle.ca_base.specs.objects.Window.{Binding, Window, grant_of_binding, with
 use Rattle.ca_model.specs.machine.Plan.{Plan, Stuck, Look, Read, If, Finish, Update, ◌:=◌, Write, byte_names, names_updated, names_written, touches}
 use Rattle.ca_model.specs.machine.Row.{Ending, NotPossible, Does, Effects, Row, Row_plan, End_plan, With_grant, With_grants, With_bytes, With_writes, With_invalidation, first_denied_by, grant_if_fitting, grant_over, region_under, unless_none}
 use Rattle.ca_model.specs.machine.Step.{bytes_of_buffer}
-use Rattle.ca_model.specs.machine.World.{World, Name, Byte_at, Region_of, Window_of, Thing, get}
+use Rattle.ca_model.specs.machine.World.{World, Name, Byte_at, Region_of, Window_of, get}
 use Rattle.ca_model.specs.machine.Sound.{IsSoundState, IsSoundWorld, LieIn}
 use Rattle.ca_laws_sound.proofs.WorldLemmas.{EndingDoes, RowDoes}
 use Rattle.ca_laws_names.specs.Placed.{IsConfigured, IsPlacedBinding, IsPlacedThing, IsPlacedWorld}
@@ -173,8 +171,11 @@ under-in c w s b sound one =
 pub placed-grant : (c : Configuration) (w : World) (ask : Ask) (k : Option Grant → Plan) → IsFit c w
     → ((g : Option Grant) → GrantIn c g → IsPlacedPlan c w (k g)) → IsPlacedPlan c w (With_grant c ask k)
 placed-grant c w ask k fit more = (
-  λ named. (named-region-in c ask.domain ask.key named, more (grant_if_fitting ask (grant_of_region (w.region slot)))
-      (fitting-in c ask (grant_of_region (w.region slot)) (region-in c w slot fit.sound))),
+  λ named. (
+    named-region-in c ask.domain ask.key named,
+    more (grant_if_fitting ask (grant_of_region (w.region slot)))
+        (fitting-in c ask (grant_of_region (w.region slot)) (region-in c w slot fit.sound)),
+  ),
   λ none. (λ named. windows ask.local named, λ none. more None (record {})),
 )
   where

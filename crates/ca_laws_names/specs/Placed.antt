@@ -1,7 +1,6 @@
 -- Placed worlds: what is not configured is vacant, and what things name is configured. Laws cite it.
-use Rattle.std.specs.Prelude.{◌≡◌, ℕ, nat_lt, Bool, true, false, Option, None, IfSome}
+use Rattle.std.specs.Prelude.{◌≡◌, nat_lt, Bool, true, false, None, IfSome}
 use Rattle.std.specs.List.{AllByRecursion}
-use Rattle.ca_keys.specs.declared.names.QueueId.{QueueId}
 use Rattle.ca_keys.specs.declared.names.Slot.{Slot}
 use Rattle.ca_base.specs.declared.request.PostedSend.{PostedSend}
 use Rattle.ca_base.specs.declared.reserve.Reservation.{Reservation}
