@@ -97,60 +97,60 @@ gone-kept (Some i) q = refl
 una-kept : (psn : ℕ) (q : QueuePair) → kept_of (with_una psn q) ≡ kept_of q
 una-kept psn q = by (nat_lt q.requester.una psn)
   where
-    by : (b : Bool) → kept_of ((if b then with_requester (record q.requester { una = psn; retries = 0; rnrs = 0 }) q else q)) ≡ kept_of q
+    by : (b : Bool) → kept_of (if b then with_requester (record q.requester { una = psn; retries = 0; rnrs = 0 }) q else q) ≡ kept_of q
     by true = refl
     by false = refl
 
-pub progress-kept : (psn : ℕ) (q : QueuePair) → kept_of ((progress_to psn q).queue) ≡ kept_of q
+pub progress-kept : (psn : ℕ) (q : QueuePair) → kept_of (progress_to psn q).queue ≡ kept_of q
 progress-kept psn q = una-kept psn q
 
-pub retry-kept : (psn : ℕ) (q : QueuePair) → kept_of ((one_retry psn q).queue) ≡ kept_of q
+pub retry-kept : (psn : ℕ) (q : QueuePair) → kept_of (one_retry psn q).queue ≡ kept_of q
 retry-kept psn q = by (nat_le q.requester.retry q.requester.retries)
   where
     counted : QueuePair
     counted = with_requester (record q.requester { retries = suc q.requester.retries }) q
 
-    by : (b : Bool) → kept_of ((if b then failure_effects RetryExceeded None counted else queue_and_marks (with_cursor psn counted) []).queue) ≡ kept_of q
+    by : (b : Bool) → kept_of (if b then failure_effects RetryExceeded None counted else queue_and_marks (with_cursor psn counted) []).queue ≡ kept_of q
     by true = refl
     by false = refl
 
-below-kept : (psn : ℕ) (q : QueuePair) → kept_of ((acknowledgement_below psn q).effects.queue) ≡ kept_of q
+below-kept : (psn : ℕ) (q : QueuePair) → kept_of (acknowledgement_below psn q).effects.queue ≡ kept_of q
 below-kept psn q = by (first_unanswered q.requester.una psn (begun_requests q))
   where
     after : Option ℕ → Acknowledgement
     after None = record { effects = progress_to psn q; went_back = false }
     after (Some back) = record { effects = and_then (progress_to back q) (one_retry back); went_back = true }
 
-    by : (back : Option ℕ) → kept_of ((after back).effects.queue) ≡ kept_of q
+    by : (back : Option ℕ) → kept_of (after back).effects.queue ≡ kept_of q
     by None = progress-kept psn q
     by (Some back) = retry-kept back (progress_to back q).queue ∙ progress-kept back q
 
-back-kept : (q : QueuePair) (a : Acknowledgement) (f : QueuePair → Effects) → kept_of (a.effects.queue) ≡ kept_of q → kept_of ((f a.effects.queue).queue) ≡ kept_of (a.effects.queue)
-    → kept_of ((unless_back a f).queue) ≡ kept_of q
+back-kept : (q : QueuePair) (a : Acknowledgement) (f : QueuePair → Effects) → kept_of a.effects.queue ≡ kept_of q → kept_of (f a.effects.queue).queue ≡ kept_of a.effects.queue
+    → kept_of (unless_back a f).queue ≡ kept_of q
 back-kept q a f one other = by a.went_back
   where
-    by : (b : Bool) → kept_of ((if b then a.effects else and_then a.effects f).queue) ≡ kept_of q
+    by : (b : Bool) → kept_of (if b then a.effects else and_then a.effects f).queue ≡ kept_of q
     by true = one
     by false = other ∙ one
 
-rnr-kept : (psn : ℕ) (q : QueuePair) → kept_of ((rnr_nak_effects psn q).queue) ≡ kept_of q
+rnr-kept : (psn : ℕ) (q : QueuePair) → kept_of (rnr_nak_effects psn q).queue ≡ kept_of q
 rnr-kept psn q = by (nat_lt q.requester.rnr_retry MAX_RETRY && nat_le q.requester.rnr_retry q.requester.rnrs)
   where
     counted : QueuePair
     counted = with_requester (record q.requester { rnrs = suc q.requester.rnrs }) q
 
-    by : (b : Bool) → kept_of ((if b then failure_effects RnrRetryExceeded None counted
-        else queue_and_marks (with_requester (record counted.requester { cursor = psn; waiting = true }) q) []).queue) ≡ kept_of q
+    by : (b : Bool) → kept_of (if b then failure_effects RnrRetryExceeded None counted
+        else queue_and_marks (with_requester (record counted.requester { cursor = psn; waiting = true }) q) []).queue ≡ kept_of q
     by true = refl
     by false = refl
 
-nak-kept : (psn : ℕ) (code : NakCode) (q : QueuePair) → kept_of ((nak_effects psn code q).queue) ≡ kept_of q
+nak-kept : (psn : ℕ) (code : NakCode) (q : QueuePair) → kept_of (nak_effects psn code q).queue ≡ kept_of q
 nak-kept psn PsnSequenceError q = retry-kept psn q
 nak-kept psn InvalidRequest q = refl
 nak-kept psn RemoteAccessError q = refl
 nak-kept psn RemoteOperationalError q = refl
 
-acknowledge-kept : (psn : ℕ) (syndrome : Option Syndrome) (q : QueuePair) → kept_of ((acknowledge_row psn syndrome q).queue) ≡ kept_of q
+acknowledge-kept : (psn : ℕ) (syndrome : Option Syndrome) (q : QueuePair) → kept_of (acknowledge_row psn syndrome q).queue ≡ kept_of q
 acknowledge-kept psn (Some (Ack credits)) q = below-kept (suc psn) q
 acknowledge-kept psn (Some (RnrNak timer)) q =
     back-kept q (acknowledgement_below psn q) (rnr_nak_effects psn) (below-kept psn q) (rnr-kept psn (acknowledgement_below psn q).effects.queue)
@@ -158,13 +158,13 @@ acknowledge-kept psn (Some (Nak code)) q =
     back-kept q (acknowledgement_below psn q) (nak_effects psn code) (below-kept psn q) (nak-kept psn code (acknowledgement_below psn q).effects.queue)
 acknowledge-kept psn None q = refl
 
-answer-keeps : (psn : ℕ) (p : Fields) (q : QueuePair) (before : Effects) (n : Numbered) → kept_of (before.queue) ≡ kept_of q → RowKeeps q (answer_row psn p before n)
+answer-keeps : (psn : ℕ) (p : Fields) (q : QueuePair) (before : Effects) (n : Numbered) → kept_of before.queue ≡ kept_of q → RowKeeps q (answer_row psn p before n)
 answer-keeps psn p q before n same = record {
   denied = λ d. same;
   allowed = λ bytes refusal. progress-kept (suc psn) before.queue ∙ same;
 }
 
-fitting-keeps : (psn : ℕ) (p : Fields) (q : QueuePair) (a : Acknowledgement) → kept_of (a.effects.queue) ≡ kept_of q → RowKeeps q (fitting_row psn p a)
+fitting-keeps : (psn : ℕ) (p : Fields) (q : QueuePair) (a : Acknowledgement) → kept_of a.effects.queue ≡ kept_of q → RowKeeps q (fitting_row psn p a)
 fitting-keeps psn p q a same = back a.went_back
   where
     bad : Row
@@ -210,7 +210,7 @@ response-keeps p q = by (is_among (states.Rts ∷ states.Sqd ∷ []) q.state)
     by false = plain-keeps q (drop_effects q drops.State) refl
 
 -- what a SEND packet does, with its receive
-took-kept : (q : QueuePair) (b : Bool) (e : Effects) (k : Kept) → kept_of (e.queue) ≡ k → kept_of ((if b then with_shared_receive q e else e).queue) ≡ k
+took-kept : (q : QueuePair) (b : Bool) (e : Effects) (k : Kept) → kept_of e.queue ≡ k → kept_of (if b then with_shared_receive q e else e).queue ≡ k
 took-kept q true e k same = same
 took-kept q false e k same = same
 
@@ -264,12 +264,12 @@ write-keeps q p envelope place next r = record { denied = λ d. refl; allowed = 
         (receive_mark q.queue receive.place receive.receive Success operations.RecvImm r.whole (Some imm) None ∷ []))
     by imm next = queue_and_marks (done q) []
 
-    immediate : (imm : Option ℕ) (next : Option PlacedReceive) → kept_of ((by imm next).queue) ≡ kept_of q
+    immediate : (imm : Option ℕ) (next : Option PlacedReceive) → kept_of (by imm next).queue ≡ kept_of q
     immediate (Some imm) (Some receive) = refl
     immediate (Some imm) None = refl
     immediate None next = refl
 
-    at : (b : Bool) → kept_of ((if b then by p.imm next else queue_and_marks (with_message (Some (message_left r (length p.payload))) (queue_after_packet p 1 false true q)) []).queue) ≡ kept_of q
+    at : (b : Bool) → kept_of (if b then by p.imm next else queue_and_marks (with_message (Some (message_left r (length p.payload))) (queue_after_packet p 1 false true q)) []).queue ≡ kept_of q
     at true = immediate p.imm next
     at false = refl
 
@@ -347,30 +347,30 @@ expected-keeps before shared p envelope shape = keeps-from before q (expected_ro
     by true = refused-keeps InvalidRequest q
     by false = waits (takes_receive p shape && is_none (next_receive q shared))
 
-ahead-kept : (q : QueuePair) → kept_of ((ahead_effects q).queue) ≡ kept_of q
+ahead-kept : (q : QueuePair) → kept_of (ahead_effects q).queue ≡ kept_of q
 ahead-kept q = by q.responder.nak_sent
   where
-    by : (b : Bool) → kept_of ((if b then drop_effects q drops.Stale
-        else queue_and_marks (with_flag true (with_answer (queued.Nak q.responder.expected (nak_code PsnSequenceError)) q)) []).queue) ≡ kept_of q
+    by : (b : Bool) → kept_of (if b then drop_effects q drops.Stale
+        else queue_and_marks (with_flag true (with_answer (queued.Nak q.responder.expected (nak_code PsnSequenceError)) q)) []).queue ≡ kept_of q
     by true = refl
     by false = refl
 
-duplicate-kept : (psn : ℕ) (p : Fields) (envelope : Option ℕ) (shape : Shape) (q : QueuePair) → kept_of ((duplicate_effects psn p envelope shape q).queue) ≡ kept_of q
+duplicate-kept : (psn : ℕ) (p : Fields) (envelope : Option ℕ) (shape : Shape) (q : QueuePair) → kept_of (duplicate_effects psn p envelope shape q).queue ≡ kept_of q
 duplicate-kept psn p envelope shape q = at (nat_le MAX_DUPLICATES (duplicate_count q.responder.answers))
   where
-    acks : (b : Bool) → kept_of ((if b then queue_and_marks (with_answer (queued.Ack (q.responder.expected - 1)) q) [] else drop_effects q drops.Unsaved).queue) ≡ kept_of q
+    acks : (b : Bool) → kept_of (if b then queue_and_marks (with_answer (queued.Ack (q.responder.expected - 1)) q) [] else drop_effects q drops.Unsaved).queue ≡ kept_of q
     acks true = refl
     acks false = refl
 
-    within : (h : Reth) (b : Bool) → kept_of ((if b then answer_again psn (queued.Read psn h.key h.address h.length true envelope true) q else drop_effects q drops.Unsaved).queue) ≡ kept_of q
+    within : (h : Reth) (b : Bool) → kept_of (if b then answer_again psn (queued.Read psn h.key h.address h.length true envelope true) q else drop_effects q drops.Unsaved).queue ≡ kept_of q
     within h true = refl
     within h false = refl
 
-    reads : (o : Option Reth) → kept_of ((option_map_or (λ h. read_again psn envelope h q) o (drop_effects q drops.Unsaved)).queue) ≡ kept_of q
+    reads : (o : Option Reth) → kept_of (option_map_or (λ h. read_again psn envelope h q) o (drop_effects q drops.Unsaved)).queue ≡ kept_of q
     reads None = refl
     reads (Some h) = within h (nat_le (psn + segments q.responder.mtu h.length) q.responder.expected)
 
-    atomics : (o : Option ℕ) → kept_of ((atomic_again psn o q).queue) ≡ kept_of q
+    atomics : (o : Option ℕ) → kept_of (atomic_again psn o q).queue ≡ kept_of q
     atomics None = refl
     atomics (Some found) = refl
 
@@ -380,13 +380,13 @@ duplicate-kept psn p envelope shape q = at (nat_le MAX_DUPLICATES (duplicate_cou
     effects shapes.Read = option_map_or (λ h. read_again psn envelope h q) p.reth (drop_effects q drops.Unsaved)
     effects (shapes.Atomic kind) = atomic_again psn (saved_at psn q.saved) q
 
-    by : (shape : Shape) → kept_of ((effects shape).queue) ≡ kept_of q
+    by : (shape : Shape) → kept_of (effects shape).queue ≡ kept_of q
     by (shapes.Send place) = acks (length q.responder.answers == 0)
     by (shapes.Write place) = acks (length q.responder.answers == 0)
     by shapes.Read = reads p.reth
     by (shapes.Atomic kind) = atomics (saved_at psn q.saved)
 
-    at : (b : Bool) → kept_of ((if b then drop_effects q drops.Unsaved else effects shape).queue) ≡ kept_of q
+    at : (b : Bool) → kept_of (if b then drop_effects q drops.Unsaved else effects shape).queue ≡ kept_of q
     at true = refl
     at false = by shape
 
@@ -449,7 +449,7 @@ respond-keeps room q = by (first_of (respond_refusals room q)) (slice_get q.resp
     front None None = plain_row (NotPossible reasons.Empty)
     front None (Some answer) = answer_turn q answer
 
-    left : (r : ReadLeft) (b : Bool) → kept_of ((if b then without_front q else with_front (rest_of q r) q)) ≡ kept_of q
+    left : (r : ReadLeft) (b : Bool) → kept_of (if b then without_front q else with_front (rest_of q r) q) ≡ kept_of q
     left r true = refl
     left r false = refl
 

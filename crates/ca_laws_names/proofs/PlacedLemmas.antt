@@ -1,7 +1,9 @@
 -- The world before the first event is placed, every event keeps a world placed, and what it touches is configured.
-use Rattle.std.proofs.Common.{◌≡◌, ◌∙◌, ◌==◌, Bool, true, false, List, [], ◌∷◌, length, subst, sym, if◌then◌else◌, true≢false, refl}
+use Rattle.std.proofs.Common.{◌≡◌, ◌∙◌, ◌==◌, Bool, true, false, List, [], ◌∷◌, length, IfSome, subst, sym, if◌then◌else◌, true≢false, refl}
 use Rattle.std.proofs.lemmas.Bool.{and_parts, eqb-true}
+use Rattle.std.specs.List.{AllByRecursion}
 use Rattle.ca_keys.specs.declared.names.DomainId.{DomainId}
+use Rattle.ca_keys.specs.declared.names.Slot.{Slot}
 use Rattle.ca_base.specs.Configuration.{Configuration}
 use Rattle.ca_keys.specs.Equal.{domain_eq, queue_eq, slot_eq}
 use Rattle.ca_keys.specs.Memory.{ByteMap, bytes_at}
@@ -12,18 +14,18 @@ use Rattle.ca_model.specs.declared.verb.Verb.{Verb}
 use Rattle.ca_model.specs.declared.verb.Verb.TheVariants as verbs
 use Rattle.ca_model.specs.machine.Frame.{Afterwards}
 use Rattle.ca_model.specs.machine.Plan.{Finish, If, Look, Plan, Read, Stuck, Update, Write, perform, put_all, touches, write_all}
-use Rattle.ca_model.specs.machine.Sound.{AreLimited, IsSoundWorld}
+use Rattle.ca_model.specs.machine.Sound.{AreLimited, IsSettled, IsSoundWorld}
 use Rattle.ca_model.specs.machine.Step.{has_buffer, has_named_slot, is_named, plan, run_of, step, verb_plan}
 use Rattle.ca_model.specs.machine.VerbAnswers.{Call}
 use Rattle.ca_model.specs.machine.World.{Byte_at, Cq_of, Domain_of, Mailbox_of, Name, Queue_of, Region_of, Srq_of, Thing, Window_of, World, get, opening_world, put}
 use Rattle.ca_model.proofs.FrameLemmas.{after_write}
-use Rattle.ca_laws_sound.proofs.SettledLemmas.{queue-path, slot-path}
+use Rattle.ca_laws_sound.proofs.SettledLemmas.{queue-path, slot-path, wait-map}
 use Rattle.ca_laws_names.specs.Placed.{IsConfigured, IsPlacedThing, IsPlacedWorld, IsVacant, is_configured}
 use Rattle.ca_laws_names.proofs.PlanLemmas.{AreConfigured, ArePlaced, IsFit, IsPlacedPlan, placed-touches}
 use Rattle.ca_laws_names.proofs.PlacedOperationLemmas.{request-placed}
 use Rattle.ca_laws_names.proofs.PlacedQueueVerbLemmas.{create_qp-placed, destroy_qp-placed, modify_qp-placed, post_recv-placed, post_send-placed, query_qp-placed, queue-in}
 use Rattle.ca_laws_names.proofs.PlacedTurnLemmas.{deliver-placed, inject-placed, respond-placed, timeout-placed, wake-placed}
-use Rattle.ca_laws_names.proofs.PlacedVerbLemmas.{alloc_mr-placed, alloc_mw-placed, alloc_pd-placed, create_cq-placed, create_srq-placed, dealloc_mw-placed, dealloc_pd-placed, dereg_mr-placed, destroy_cq-placed, destroy_srq-placed, domain-in, load-placed, poll-placed, post_srq-placed, reg_mr-placed, store-placed}
+use Rattle.ca_laws_names.proofs.PlacedVerbLemmas.{alloc_mr-placed, alloc_mw-placed, alloc_pd-placed, create_cq-placed, create_srq-placed, dealloc_mw-placed, dealloc_pd-placed, dereg_mr-placed, destroy_cq-placed, destroy_srq-placed, domain-in, load-placed, poll-placed, post_srq-placed, reg_mr-placed, store-placed, waiting-in}
 
 verb-placed : (c : Configuration) (w : World) (call : Call) (verb : Verb) → AreLimited c → IsFit c w → is_named c verb ≡ true → IsPlacedPlan c w (verb_plan c call verb)
 verb-placed c w call (verbs.AllocPd domain) limited fit named = alloc_pd-placed c w call domain named
@@ -161,3 +163,9 @@ opening-placed c byte = world-of c (opening_world byte) by
     by (Queue_of q) = record { placed = record {}; vacant = λ none. refl }
     by (Mailbox_of q) = record { placed = record {}; vacant = λ none. refl }
     by (Byte_at p) = record { placed = record {}; vacant = λ none. record {} }
+
+-- the queue pairs of completions that wait are configured
+pub waiting-configured : (c : Configuration) (w : World) (s : Slot) → IsSoundWorld c w → IsPlacedWorld c w
+    → IfSome (w.cq s) (λ v. AllByRecursion (λ x. IsConfigured c (Queue_of x.queue)) v.waiting)
+waiting-configured c w s sound placed = wait-map (λ x. IsSettled s (w.queue x.queue) x) (λ x. IsConfigured c (Queue_of x.queue))
+    (λ x settled. waiting-in c w s x (record { sound = sound; placed = placed }) settled) (w.cq s) (sound.settled s)

@@ -52,22 +52,112 @@ pub domain-in : (c : Configuration) (slots : Adapter → ℕ) (s : Slot) → has
 domain-in c slots s has = (and_parts (has_domain c s.domain) (option_map_or (λ a. nat_lt s.slot (slots a)) (adapter_at c s.domain.adapter) false) has).0
 
 pub alloc_pd-placed : (c : Configuration) (w : World) (call : Call) (d : DomainId) → IsConfigured c (Domain_of d) → IsPlacedPlan c w (alloc_pd_plan call d)
-alloc_pd-placed c w call d has = (has, (λ is. (record {}, record {}), λ fails. (((has, record {}), record {}), record {})))
+alloc_pd-placed c w call d has = (
+  has,
+  (
+    λ is. (record {}, record {}),
+    λ fails. (((has, record {}), record {}), record {}),
+  ),
+)
 
 pub dealloc_pd-placed : (c : Configuration) (w : World) (call : Call) (d : DomainId) → IsConfigured c (Domain_of d) → IsPlacedPlan c w (dealloc_pd_plan call d)
-dealloc_pd-placed c w call d has = (has, (λ is. (record {}, record {}), λ fine. (λ is. (record {}, record {}), λ fails. (((has, record {}), record {}), record {}))))
+dealloc_pd-placed c w call d has = (
+  has,
+  (
+    λ is. (record {}, record {}),
+    λ fails. (
+      λ is. (record {}, record {}),
+      λ fails. (((has, record {}), record {}), record {}),
+    ),
+  ),
+)
 
 pub reg_mr-placed : (c : Configuration) (w : World) (call : Call) (s : Slot) (at : Run) (bytes : ℕ) (rights : Rights) → IsConfigured c (Region_of s) → IsPlacedPlan c w (reg_mr_plan call s at bytes rights)
-reg_mr-placed c w call s at bytes rights has = (domain-in c (λ a. a.regions) s has, (has, (λ is. (record {}, record {}), λ fine. (λ is. (record {}, record {}), λ fine. (λ is. (record {}, record {}), λ fine. (λ is. (record {}, record {}), λ fine. (λ is. (record {}, record {}), λ fails. (((domain-in c (λ a. a.regions) s has, record {}), ((has, record {}), record {})), record {}))))))))
+reg_mr-placed c w call s at bytes rights has = (
+  domain,
+  (
+    has,
+    (
+      λ is. (record {}, record {}),
+      λ fails. (
+        λ is. (record {}, record {}),
+        λ fails. (
+          λ is. (record {}, record {}),
+          λ fails. (
+            λ is. (record {}, record {}),
+            λ fails. (
+              λ is. (record {}, record {}),
+              λ fails. (((domain, record {}), ((has, record {}), record {})), record {}),
+            ),
+          ),
+        ),
+      ),
+    ),
+  ),
+)
+  where
+    domain : IsConfigured c (Domain_of s.domain)
+    domain = domain-in c (λ a. a.regions) s has
 
 pub alloc_mr-placed : (c : Configuration) (w : World) (call : Call) (s : Slot) (pages : ℕ) → IsConfigured c (Region_of s) → IsPlacedPlan c w (alloc_mr_plan call s pages)
-alloc_mr-placed c w call s pages has = (domain-in c (λ a. a.regions) s has, (has, (λ is. (record {}, record {}), λ fine. (λ is. (record {}, record {}), λ fine. (λ is. (record {}, record {}), λ fails. (((domain-in c (λ a. a.regions) s has, record {}), ((has, record {}), record {})), record {}))))))
+alloc_mr-placed c w call s pages has = (
+  domain,
+  (
+    has,
+    (
+      λ is. (record {}, record {}),
+      λ fails. (
+        λ is. (record {}, record {}),
+        λ fails. (
+          λ is. (record {}, record {}),
+          λ fails. (((domain, record {}), ((has, record {}), record {})), record {}),
+        ),
+      ),
+    ),
+  ),
+)
+  where
+    domain : IsConfigured c (Domain_of s.domain)
+    domain = domain-in c (λ a. a.regions) s has
 
 pub dereg_mr-placed : (c : Configuration) (w : World) (call : Call) (s : Slot) → IsConfigured c (Region_of s) → IsPlacedPlan c w (dereg_mr_plan call s)
-dereg_mr-placed c w call s has = (domain-in c (λ a. a.regions) s has, (has, (λ is. (record {}, record {}), λ fine. (λ is. (record {}, record {}), λ fails. (((domain-in c (λ a. a.regions) s has, record {}), ((has, record {}), record {})), record {})))))
+dereg_mr-placed c w call s has = (
+  domain,
+  (
+    has,
+    (
+      λ is. (record {}, record {}),
+      λ fails. (
+        λ is. (record {}, record {}),
+        λ fails. (((domain, record {}), ((has, record {}), record {})), record {}),
+      ),
+    ),
+  ),
+)
+  where
+    domain : IsConfigured c (Domain_of s.domain)
+    domain = domain-in c (λ a. a.regions) s has
 
 pub alloc_mw-placed : (c : Configuration) (w : World) (call : Call) (s : Slot) (kind : ℕ) → IsFit c w → IsConfigured c (Window_of s) → IsPlacedPlan c w (alloc_mw_plan call s kind)
-alloc_mw-placed c w call s kind fit has = (domain-in c (λ a. a.windows) s has, (has, (λ is. (record {}, record {}), λ fine. (λ is. (record {}, record {}), λ fine. (λ is. (record {}, record {}), λ fails. (((domain-in c (λ a. a.windows) s has, record {}), ((has, fit.placed.things (Window_of s)), record {})), record {}))))))
+alloc_mw-placed c w call s kind fit has = (
+  domain,
+  (
+    has,
+    (
+      λ is. (record {}, record {}),
+      λ fails. (
+        λ is. (record {}, record {}),
+        λ fails. (
+          λ is. (record {}, record {}),
+          λ fails. (((domain, record {}), ((has, fit.placed.things (Window_of s)), record {})), record {}),
+        ),
+      ),
+    ),
+  ),
+)
+  where
+    domain : IsConfigured c (Domain_of s.domain)
+    domain = domain-in c (λ a. a.windows) s has
 
 -- the queue pair of a type 2 window has one window fewer
 queue-fewer : (c : Configuration) (q : QueueId) (slot : QueueSlot) → IsConfigured c (Queue_of q) → IsPlacedSlot c slot → ArePlaced c (queue_updates q slot)
@@ -104,16 +194,82 @@ dealloc_mw-placed c w call s fit has =
     )
 
 pub create_cq-placed : (c : Configuration) (w : World) (call : Call) (s : Slot) (capacity : ℕ) → IsConfigured c (Cq_of s) → IsPlacedPlan c w (create_cq_plan call s capacity)
-create_cq-placed c w call s capacity has = (domain-in c (λ a. a.cqs) s has, (has, (λ is. (record {}, record {}), λ fine. (λ is. (record {}, record {}), λ fine. (λ is. (record {}, record {}), λ fails. (((domain-in c (λ a. a.cqs) s has, record {}), ((has, record {}), record {})), record {}))))))
+create_cq-placed c w call s capacity has = (
+  domain,
+  (
+    has,
+    (
+      λ is. (record {}, record {}),
+      λ fails. (
+        λ is. (record {}, record {}),
+        λ fails. (
+          λ is. (record {}, record {}),
+          λ fails. (((domain, record {}), ((has, record {}), record {})), record {}),
+        ),
+      ),
+    ),
+  ),
+)
+  where
+    domain : IsConfigured c (Domain_of s.domain)
+    domain = domain-in c (λ a. a.cqs) s has
 
 pub destroy_cq-placed : (c : Configuration) (w : World) (call : Call) (s : Slot) → IsConfigured c (Cq_of s) → IsPlacedPlan c w (destroy_cq_plan call s)
-destroy_cq-placed c w call s has = (domain-in c (λ a. a.cqs) s has, (has, (λ is. (record {}, record {}), λ fine. (λ is. (record {}, record {}), λ fails. (((domain-in c (λ a. a.cqs) s has, record {}), ((has, record {}), record {})), record {})))))
+destroy_cq-placed c w call s has = (
+  domain,
+  (
+    has,
+    (
+      λ is. (record {}, record {}),
+      λ fails. (
+        λ is. (record {}, record {}),
+        λ fails. (((domain, record {}), ((has, record {}), record {})), record {}),
+      ),
+    ),
+  ),
+)
+  where
+    domain : IsConfigured c (Domain_of s.domain)
+    domain = domain-in c (λ a. a.cqs) s has
 
 pub create_srq-placed : (c : Configuration) (w : World) (call : Call) (s : Slot) (depth : ℕ) → IsConfigured c (Srq_of s) → IsPlacedPlan c w (create_srq_plan call s depth)
-create_srq-placed c w call s depth has = (domain-in c (λ a. a.srqs) s has, (has, (λ is. (record {}, record {}), λ fine. (λ is. (record {}, record {}), λ fine. (λ is. (record {}, record {}), λ fails. (((domain-in c (λ a. a.srqs) s has, record {}), ((has, record {}), record {})), record {}))))))
+create_srq-placed c w call s depth has = (
+  domain,
+  (
+    has,
+    (
+      λ is. (record {}, record {}),
+      λ fails. (
+        λ is. (record {}, record {}),
+        λ fails. (
+          λ is. (record {}, record {}),
+          λ fails. (((domain, record {}), ((has, record {}), record {})), record {}),
+        ),
+      ),
+    ),
+  ),
+)
+  where
+    domain : IsConfigured c (Domain_of s.domain)
+    domain = domain-in c (λ a. a.srqs) s has
 
 pub destroy_srq-placed : (c : Configuration) (w : World) (call : Call) (s : Slot) → IsConfigured c (Srq_of s) → IsPlacedPlan c w (destroy_srq_plan call s)
-destroy_srq-placed c w call s has = (domain-in c (λ a. a.srqs) s has, (has, (λ is. (record {}, record {}), λ fine. (λ is. (record {}, record {}), λ fails. (((domain-in c (λ a. a.srqs) s has, record {}), ((has, record {}), record {})), record {})))))
+destroy_srq-placed c w call s has = (
+  domain,
+  (
+    has,
+    (
+      λ is. (record {}, record {}),
+      λ fails. (
+        λ is. (record {}, record {}),
+        λ fails. (((domain, record {}), ((has, record {}), record {})), record {}),
+      ),
+    ),
+  ),
+)
+  where
+    domain : IsConfigured c (Domain_of s.domain)
+    domain = domain-in c (λ a. a.srqs) s has
 
 pub post_srq-placed : (c : Configuration) (w : World) (call : Call) (s : Slot) (request : RecvRequest) → IsConfigured c (Srq_of s) → IsPlacedPlan c w (post_srq_plan call s request)
 post_srq-placed c w call s request has = (has, by (w.srq s).srq)
@@ -150,7 +306,7 @@ present-in c w name q fit is = by (has_queue c name) refl
     by false e = absurd (true≢false (sym (ap is_present is) ∙ ap is_present (fit.placed.vacant (Queue_of name) e)))
 
 -- a queue pair of which a completion waits has a configured name
-waiting-in : (c : Configuration) (w : World) (s : Slot) (x : Completion) → IsFit c w → IsSettled s (w.queue x.queue) x → IsConfigured c (Queue_of x.queue)
+pub waiting-in : (c : Configuration) (w : World) (s : Slot) (x : Completion) → IsFit c w → IsSettled s (w.queue x.queue) x → IsConfigured c (Queue_of x.queue)
 waiting-in c w s x fit settled = by (w.queue x.queue) refl settled
   where
     by : (v : QueueSlot) → w.queue x.queue ≡ v → IsSettled s v x → IsConfigured c (Queue_of x.queue)
