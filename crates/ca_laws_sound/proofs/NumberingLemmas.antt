@@ -121,12 +121,12 @@ whole-short : (q : QueuePair) → IsQueue q → AllByRecursion (λ n. IsList (li
 whole-short q s = numbers-short q.responder.mtu q.requester.oldest q.requester.oldest_psn (items_from q.requester.oldest q.sends)
     (all-left IsSend (q.requester.oldest - q.sends.first) q.sends.items s.sends.items)
 
-all-taken : {A : Type 0} (P : A → Type 0) (k : ℕ) (xs : List A) → AllByRecursion P xs → AllByRecursion P (take k xs)
+pub all-taken : {A : Type 0} (P : A → Type 0) (k : ℕ) (xs : List A) → AllByRecursion P xs → AllByRecursion P (take k xs)
 all-taken P zero xs all = record {}
 all-taken P (suc k) [] all = record {}
 all-taken P (suc k) (x ∷ xs) all = (all.0, all-taken P k xs all.1)
 
-all-found : {A : Type 0} (P : A → Type 0) (test : A → Bool) (xs : List A) → AllByRecursion P xs → IfSome (find test xs) P
+pub all-found : {A : Type 0} (P : A → Type 0) (test : A → Bool) (xs : List A) → AllByRecursion P xs → IfSome (find test xs) P
 all-found P test [] all = record {}
 all-found P test (x ∷ xs) all = by (test x) (all-found P test xs all.1)
   where
@@ -134,7 +134,7 @@ all-found P test (x ∷ xs) all = by (test x) (all-found P test xs all.1)
     by true rest = all.0
     by false rest = rest
 
-all-got : {A : Type 0} (P : A → Type 0) (xs : List A) (i : ℕ) → AllByRecursion P xs → IfSome (slice_get xs i) P
+pub all-got : {A : Type 0} (P : A → Type 0) (xs : List A) (i : ℕ) → AllByRecursion P xs → IfSome (slice_get xs i) P
 all-got P [] i all = record {}
 all-got P (x ∷ xs) zero all = all.0
 all-got P (x ∷ xs) (suc i) all = all-got P xs i all.1

@@ -31,7 +31,7 @@ use Rattle.ca_model.specs.machine.Completions.{flush_marks}
 use Rattle.ca_model.specs.machine.Numbering.{numbers_of}
 use Rattle.ca_model.specs.machine.PostingVerbs.{after_flush, marks_of_flush, with_send}
 use Rattle.ca_model.specs.machine.Invariants.{IsAnswer, IsQueue, IsReceive, IsReceives, IsRequester, IsResponder, IsSend, IsTaken, IsWorkQueue, NamesPeer, begun_end, is_connected, is_fresh, is_idle, is_sending}
-use Rattle.ca_model.specs.machine.Sound.{AreLimited, IsFinished}
+use Rattle.ca_model.specs.machine.Sound.{AreLimited, IsFinished, IsLimitedAdapter}
 use Rattle.ca_laws_sound.proofs.GoodLemmas.{AreSettledMarks, IsLater, IsTakenOn, error-later, error-queue, finished-later, flush-settled, items-end, later-on, later-same, none-taken, settled-later, silent-queue, taken-same}
 use Rattle.ca_laws_sound.proofs.NumberingLemmas.{count_sum}
 use Rattle.ca_laws_sound.proofs.SettledLemmas.{all-map}
@@ -311,15 +311,15 @@ polled name (x ∷ xs) q s all = on (by (queue_eq x.queue name) all.0 x.receive 
             → IsPolled (next (queue_eq x.queue name) x.receive) (after_poll name xs (next (queue_eq x.queue name) x.receive))
         more one rest = rest (next (queue_eq x.queue name) x.receive) one.sound (all-map _ _ (λ y finished same. finished-later q (next (queue_eq x.queue name) x.receive) y.receive y.place one.later (finished same)) xs all.1)
 
-adapter-few : (xs : List Adapter) (i : ℕ) (d : ℕ) → AllByRecursion (λ a. (a.domains ≤ MAX_DOMAINS) × (a.qps ≤ MAX_QPS)) xs
+adapter-few : (xs : List Adapter) (i : ℕ) (d : ℕ) → AllByRecursion IsLimitedAdapter xs
     → option_map_or (λ a. nat_lt d a.domains) (slice_get xs i) false ≡ true → d < MAX_DOMAINS
 adapter-few [] i d all e = absurd (true≢false (sym e))
-adapter-few (a ∷ xs) zero d all e = omega (arith, all.0.0, ltb-true d a.domains e)
+adapter-few (a ∷ xs) zero d all e = omega (arith, all.0.domains, ltb-true d a.domains e)
 adapter-few (a ∷ xs) (suc i) d all e = adapter-few xs i d all.1 e
 
 -- the number of a configured queue pair has 24 bits
 queue-number : (c : Configuration) (q : QueueId) → AreLimited c → has_queue c q ≡ true → q.number < 2 ^ 24
-queue-number c q few e = omega (arith, adapter-few c.adapters q.adapter (q.number / 256 - 1) few named)
+queue-number c q few e = omega (arith, adapter-few c.adapters q.adapter (q.number / 256 - 1) few.adapters named)
   where
     slot : Slot
     slot = slot_of_queue q
@@ -328,15 +328,15 @@ queue-number c q few e = omega (arith, adapter-few c.adapters q.adapter (q.numbe
     named = (and_parts (has_domain c slot.domain) (option_map_or (λ a. nat_lt slot.slot a.qps) (adapter_at c slot.domain.adapter) false)
         (and_parts (nat_le 256 q.number) (has_slot c (λ a. a.qps) slot) e).1).0
 
-slots-few : (xs : List Adapter) (i : ℕ) (k : ℕ) → AllByRecursion (λ a. (a.domains ≤ MAX_DOMAINS) × (a.qps ≤ MAX_QPS)) xs
+slots-few : (xs : List Adapter) (i : ℕ) (k : ℕ) → AllByRecursion IsLimitedAdapter xs
     → option_map_or (λ a. nat_lt k a.qps) (slice_get xs i) false ≡ true → k < MAX_QPS
 slots-few [] i k all e = absurd (true≢false (sym e))
-slots-few (a ∷ xs) zero k all e = omega (arith, all.0.1, ltb-true k a.qps e)
+slots-few (a ∷ xs) zero k all e = omega (arith, all.0.qps, ltb-true k a.qps e)
 slots-few (a ∷ xs) (suc i) k all e = slots-few xs i k all.1 e
 
 -- the slot of a configured queue pair
 pub queue-slot : (c : Configuration) (s : Slot) → AreLimited c → has_slot c (λ a. a.qps) s ≡ true → s.slot < MAX_QPS
-queue-slot c s few e = slots-few c.adapters s.domain.adapter s.slot few
+queue-slot c s few e = slots-few c.adapters s.domain.adapter s.slot few.adapters
     (and_parts (has_domain c s.domain) (option_map_or (λ a. nat_lt s.slot a.qps) (adapter_at c s.domain.adapter) false) e).1
 
 -- from which states a change may come

@@ -1,13 +1,13 @@
 -- Sound worlds: what holds of each thing of a world that comes up, and of its completions. Laws cite it.
 use Rattle.std.specs.Prelude.{◌≡◌, ℕ, ◌+◌, ◌≤◌, ◌<◌, Bool, true, false, List, [], ◌∷◌, length, Option, None, IfSome}
-use Rattle.std.specs.List.{AllByRecursion}
+use Rattle.std.specs.List.{AllByRecursion, sum_by}
 use Rattle.ca_base.specs.declared.completion.Completion.{Completion}
 use Rattle.ca_keys.specs.declared.grant.Grant.{Grant}
-use Rattle.ca_base.specs.declared.limits.TheConstants.{MAX_DOMAINS, MAX_PIECES, MAX_QPS}
+use Rattle.ca_base.specs.declared.limits.TheConstants.{MAX_ADAPTERS, MAX_BUFFERS, MAX_BUFFER_BYTES, MAX_CQS, MAX_DOMAINS, MAX_EVENTS, MAX_PARTS, MAX_PIECES, MAX_QPS, MAX_REGIONS, MAX_SRQS, MAX_TOTAL_BYTES, MAX_WINDOWS}
 use Rattle.ca_keys.specs.declared.names.QueueId.{QueueId}
 use Rattle.ca_keys.specs.declared.names.Slot.{Slot}
 use Rattle.ca_keys.specs.declared.place.Run.{Run}
-use Rattle.ca_base.specs.Configuration.{Configuration}
+use Rattle.ca_base.specs.Configuration.{Adapter, Configuration, part_count}
 use Rattle.ca_keys.specs.Equal.{slot_eq}
 use Rattle.ca_keys.specs.Memory.{places_count}
 use Rattle.ca_keys.specs.Numbers.{key_at, region_index}
@@ -24,9 +24,24 @@ use Rattle.ca_model.specs.machine.Step.{bytes_of_buffer}
 use Rattle.ca_model.specs.machine.World.{World, Name, Domain_of, Region_of, Window_of, Cq_of, Srq_of, Queue_of, Mailbox_of, Byte_at, Thing, get}
 use Rattle.ca_model.specs.machine.Invariants.{IsCompletionQueue, IsDomain, IsMailbox, IsQueue, IsSharedReceives, IsWindow}
 
--- as many domains, and as many queue pairs in a domain, as the limits allow
-abbrev pub AreLimited : Configuration → Type 0
-AreLimited c = AllByRecursion (λ a. (a.domains ≤ MAX_DOMAINS) × (a.qps ≤ MAX_QPS)) c.adapters
+-- an adapter within the limits: its buffers, its domains, and the slots of each kind in a domain
+pub record IsLimitedAdapter (a : Adapter) : Type 0 where
+  pub buffers : length a.buffers ≤ MAX_BUFFERS
+  pub bytes : AllByRecursion (λ bytes. bytes ≤ MAX_BUFFER_BYTES) a.buffers
+  pub domains : a.domains ≤ MAX_DOMAINS
+  pub regions : a.regions ≤ MAX_REGIONS
+  pub windows : a.windows ≤ MAX_WINDOWS
+  pub cqs : a.cqs ≤ MAX_CQS
+  pub srqs : a.srqs ≤ MAX_SRQS
+  pub qps : a.qps ≤ MAX_QPS
+
+-- a configuration within the limits: its adapters, the bytes of all buffers together, its parts, and its events
+pub record AreLimited (c : Configuration) : Type 0 where
+  pub count : length c.adapters ≤ MAX_ADAPTERS
+  pub adapters : AllByRecursion IsLimitedAdapter c.adapters
+  pub bytes : sum_by (λ a. sum_by (λ bytes. bytes) a.buffers) c.adapters ≤ MAX_TOTAL_BYTES
+  pub parts : part_count c ≤ MAX_PARTS
+  pub events : c.events ≤ MAX_EVENTS
 
 -- runs lie in this buffer, which has so many bytes
 abbrev pub LieIn : ℕ → ℕ → ℕ → List Run → Type 0
