@@ -1,12 +1,12 @@
 -- What a plan depends on and what it leaves: by induction on the plan, with no event named.
-use Rattle.std.proofs.Common.{◌≡◌, ℕ, suc, ◌-◌, ◌⊎◌, inl, inr, Bool, true, false, List, [], ◌∷◌, ◌++◌, map, drop, slice_index_or, if◌then◌else◌, Err, refl, ap, ap₂, subst}
+use Rattle.std.proofs.Common.{◌≡◌, ℕ, suc, ◌-◌, ◌⊎◌, inl, inr, Bool, true, false, List, [], ◌∷◌, ◌++◌, map, drop, slice_index_or, if◌then◌else◌, Err, refl, ap, ap₂, ◌∙◌, subst}
 use Rattle.ca_keys.specs.declared.place.Place.{Place}
 use Rattle.ca_keys.specs.declared.place.Run.{Run}
 use Rattle.ca_base.specs.Configuration.{Configuration}
 use Rattle.ca_keys.specs.Equal.{domain_eq, place_eq, queue_eq, slot_eq}
 use Rattle.ca_keys.specs.Memory.{ByteMap, bytes_at, is_in, memory_after, places_of}
 use Rattle.ca_model.specs.declared.event.Event.{Event}
-use Rattle.ca_model.specs.machine.Frame.{AllPass, Afterwards, SameAt, SameOutcome, SameWhere, TouchesPass}
+use Rattle.ca_model.specs.machine.Frame.{AllPass, Afterwards, SameAt, SameOutcome, SameOutcomeWhere, SameWhere, TouchesPass}
 use Rattle.ca_model.specs.machine.Plan.{Update, Did, Finish, If, Look, NotReady, Outcome, Plan, Read, Stuck, Write, byte_names, perform, put_all, touches, write_all}
 use Rattle.ca_model.specs.machine.Run.{Ran, go_on, run_from, with_marks}
 use Rattle.ca_model.specs.machine.Step.{plan, step}
@@ -152,3 +152,32 @@ events-depend test c n (event ∷ events) v w same pass =
     (λ x y agree touch. events-depend test c (suc n) events x y agree touch)
     (perform-same (Passing test) (plan c event) v w same (within-pass test (touches v (plan c event)) pass.0))
     pass.1
+
+-- what an event makes of the things that pass a test, where all that it touches passes
+pub event-agrees : (test : Name → Bool) (c : Configuration) (event : Event) (v w : World) → SameWhere test v w → AllPass test (touches v (plan c event))
+    → SameOutcomeWhere test (step c v event) (step c w event)
+event-agrees test c event v w same pass =
+    by (step c v event) (step c w event) (perform-same (Passing test) (plan c event) v w same (within-pass test (touches v (plan c event)) pass))
+  where
+    by : (a b : Outcome) → SameUnder (Passing test) a b → SameOutcomeWhere test a b
+    by (NotReady r) (NotReady s) same = same
+    by (Did v ms) (Did w ns) same = same
+    by (NotReady r) (Did w ns) same = absurd same
+    by (Did v ms) (NotReady s) same = absurd same
+
+touches-agree : (P : Name → Type 0) (p : Plan) (v w : World) → Agree P v w → Within P (touches v p) → touches v p ≡ touches w p
+touches-agree P (Stuck reason) v w agree all = refl
+touches-agree P (Look n k) v w agree all =
+    ap (λ ns. n ∷ ns) (touches-agree P (k (get v n)) v w agree all.1 ∙ ap (λ x. touches w (k x)) (agree n all.0))
+touches-agree P (Read runs k) v w agree all =
+    ap (λ ns. byte_names runs ++ ns)
+    (touches-agree P (k (bytes_at v.byte runs)) v w agree (within-right P (byte_names runs) _ all)
+    ∙ ap (λ x. touches w (k x)) (bytes-agree P v w (places_of runs) agree (within-left P (byte_names runs) _ all)))
+touches-agree P (If true p q) v w agree all = touches-agree P p v w agree all
+touches-agree P (If false p q) v w agree all = touches-agree P q v w agree all
+touches-agree P (Finish changes writes marks) v w agree all = refl
+
+-- what an event touches is the same in both worlds
+pub event-touches-same : (test : Name → Bool) (c : Configuration) (event : Event) (v w : World) → SameWhere test v w → AllPass test (touches v (plan c event))
+    → touches v (plan c event) ≡ touches w (plan c event)
+event-touches-same test c event v w same pass = touches-agree (Passing test) (plan c event) v w same (within-pass test (touches v (plan c event)) pass)

@@ -19,7 +19,7 @@ other-choice x y true e = absurd (true≢false e)
 other-choice x y false e = refl
 
 -- a change of one thing leaves the others
-put-leaves : (w : World) (m : Name) (x : Thing m) (n : Name) → name_eq m n ≡ false → get (put w m x) n ≡ get w n
+pub put-leaves : (w : World) (m : Name) (x : Thing m) (n : Name) → name_eq m n ≡ false → get (put w m x) n ≡ get w n
 put-leaves w (Domain_of d) x (Domain_of a) e = other-choice x (get w (Domain_of a)) (domain_eq d a) e
 put-leaves w (Region_of d) x (Region_of a) e = other-choice x (get w (Region_of a)) (slot_eq d a) e
 put-leaves w (Window_of d) x (Window_of a) e = other-choice x (get w (Window_of a)) (slot_eq d a) e

@@ -27,6 +27,7 @@ pub mod HostVerbs
 pub mod Step
 pub mod Run
 pub mod Frame
+pub mod Seen
 pub mod Invariants
 pub mod Places
 pub mod CanStep

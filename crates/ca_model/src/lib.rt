@@ -29,7 +29,8 @@ pub use entry::Entry;
 pub use event::Event;
 pub use history::History;
 pub use laws::{
-    event_depends_on_what_it_touches, event_leaves_the_rest, events_depend_on_what_they_touch,
+    event_agrees_where_it_touches, event_depends_on_what_it_touches, event_leaves_the_rest,
+    events_depend_on_what_they_touch, row_does_what_is_seen,
 };
 pub use mark::{Drop1, Mark};
 pub use marks::{Marks, SPARE_MARKS};

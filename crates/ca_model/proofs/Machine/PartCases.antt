@@ -12,7 +12,8 @@ use Rattle.ca_model.specs.declared.part_name.PartName.{PartName}
 use Rattle.ca_model.specs.declared.part_name.PartName.TheVariants as names
 use Rattle.ca_model.specs.declared.verb.Verb.{Verb}
 use Rattle.ca_model.specs.declared.verb.Verb.TheVariants as verbs
-use Rattle.ca_model.specs.machine.Parts.{event_needs, event_parts, listed, verb_needs}
+use Rattle.ca_packet.specs.Decoding.{bth_at, packet_in}
+use Rattle.ca_model.specs.machine.Parts.{Needs, event_needs, event_parts, gathered, is_held, next_part}
 use Rattle.ca_model.specs.machine.Plan.{◌:=◌, put_all}
 use Rattle.ca_model.specs.machine.World.{Cq_of, Window_of, World}
 use Rattle.ca_model.proofs.Literals.{completion, d, k, list, piece, q, s}
@@ -57,6 +58,36 @@ registration = refl
 queue_pair : of_verb (verbs.CreateQp (s 0 0 3) 0 1 2 0 (Some 1))
     ≡ control ∷ names.Queue (q 0 259) ∷ names.Mailbox (q 0 259) ∷ cq 0 ∷ cq 1 ∷ names.Srq (s 0 0 1) ∷ []
 queue_pair = refl
+
+-- a queue pair whose queues are not configured needs none of them, and so it is with a shared receive queue
+far_queue : of_verb (verbs.CreateQp (s 0 0 3) 0 4 2 2 None) ≡ control ∷ names.Queue (q 0 259) ∷ names.Mailbox (q 0 259) ∷ []
+far_queue = refl
+
+far_shared : of_verb (verbs.CreateQp (s 0 0 3) 0 1 2 0 (Some 4)) ≡ control ∷ names.Queue (q 0 259) ∷ names.Mailbox (q 0 259) ∷ []
+far_shared = refl
+
+-- A verb that names something that is not configured needs nothing: another domain, or a slot whose number would be that of
+-- a queue pair of the next domain.
+far_domain : of_verb (verbs.ModifyQp (s 0 9 0) changes.Init) ≡ []
+far_domain = refl
+
+next_domain : of_verb (verbs.QueryQp (s 0 1 0)) ≡ names.Queue (q 0 512) ∷ []
+next_domain = refl
+
+far_slot : of_verb (verbs.QueryQp (s 0 0 256)) ≡ []
+far_slot = refl
+
+far_buffer : of_verb (verbs.Load 0 1 0 1) ≡ []
+far_buffer = refl
+
+far_window : of_verb (verbs.PostSend (s 0 0 0) (signalled (ops.Bind1 4 (k 1) 0 8 all_rights))) ≡ []
+far_window = refl
+
+far_turn : event_parts pair furnished (events.Request (q 0 260) lots.Pass) ≡ []
+far_turn = refl
+
+far_delivery : event_parts pair furnished (events.Deliver (q 0 260) 0) ≡ []
+far_delivery = refl
 
 -- a queue pair that is there with its mailbox and its queues, and a slot alone where none is
 change : of_verb (verbs.ModifyQp (s 0 0 1) changes.Sqd) ≡ names.Queue (q 0 257) ∷ names.Mailbox (q 0 257) ∷ cq 0 ∷ cq 0 ∷ names.Srq (s 0 0 0) ∷ []
@@ -122,6 +153,20 @@ binds : turn (with_posted (signalled (ops.Bind2 1 (k 1) 2 0x100000000 8 all_righ
     ≡ queue ∷ cq 0 ∷ cq 0 ∷ window 1 ∷ region 0 ∷ []
 binds = refl
 
+-- a window's key in place of a region's names no part: as the region of a bind, and as an L_Key
+strange_bind : turn (with_posted (signalled (ops.Bind2 1 (k 0x800001) 2 0x100000000 8 all_rights)) ready) ≡ queue ∷ cq 0 ∷ cq 0 ∷ window 1 ∷ []
+strange_bind = refl
+
+strange_list : turn (with_posted (signalled (ops.Send (list (piece 0x800001 0x100000000 8 ∷ [])))) ready) ≡ queue ∷ cq 0 ∷ cq 0 ∷ peer ∷ []
+strange_list = refl
+
+-- a key that ends has no buffer
+ends_region : turn (with_posted (signalled (ops.LocalInv (k 1))) ready) ≡ queue ∷ cq 0 ∷ cq 0 ∷ region 0 ∷ []
+ends_region = refl
+
+ends_window : turn (with_posted (signalled (ops.LocalInv (k 0x800001))) ready) ≡ queue ∷ cq 0 ∷ cq 0 ∷ window 0 ∷ []
+ends_window = refl
+
 -- a key of another domain names no part
 strange_key : turn (with_posted (signalled (ops.Send (list (piece 0x1000001 0x100000000 8 ∷ [])))) ready) ≡ queue ∷ cq 0 ∷ cq 0 ∷ peer ∷ []
 strange_key = refl
@@ -140,3 +185,24 @@ timer = refl
 
 wakes : event_parts pair furnished (events.RnrWake (q 0 256)) ≡ queue ∷ names.Queue (q 1 256) ∷ peer ∷ []
 wakes = refl
+
+-- bytes that a consumer hands to a queue pair need its mailbox too
+injected : of_verb (verbs.Inject (q 0 256) []) ≡ queue ∷ own_mailbox ∷ cq 0 ∷ cq 0 ∷ []
+unfolding packet_in bth_at
+injected = refl
+
+-- what is needed next for a registration: the control part, then the region, and then no more
+abbrev registers : Needs
+registers = event_needs pair (events.Verb 0 (verbs.RegMr (s 0 0 3) 0 0 8 all_rights))
+
+first_needed : next_part (is_held []) furnished registers ≡ Some control
+first_needed = refl
+
+then_needed : next_part (is_held (control ∷ [])) furnished registers ≡ Some (region 3)
+then_needed = refl
+
+all_held : next_part (is_held (region 3 ∷ control ∷ [])) furnished registers ≡ None
+all_held = refl
+
+gathers : gathered 32 furnished registers [] ≡ region 3 ∷ control ∷ []
+gathers = refl

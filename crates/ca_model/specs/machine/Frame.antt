@@ -35,6 +35,13 @@ SameOutcome names (Did v ms) (Did w ns) = (ms ≡ ns) × SameAt names v w
 SameOutcome names (NotReady a) (Did w ns) = ⊥
 SameOutcome names (Did v ms) (NotReady b) = ⊥
 
+-- two outcomes have one reason, or the same marks and the same things under all names that pass a test
+abbrev pub SameOutcomeWhere : (Name → Bool) → Outcome → Outcome → Type 0
+SameOutcomeWhere test (NotReady a) (NotReady b) = a ≡ b
+SameOutcomeWhere test (Did v ms) (Did w ns) = (ms ≡ ns) × SameWhere test v w
+SameOutcomeWhere test (NotReady a) (Did w ns) = ⊥
+SameOutcomeWhere test (Did v ms) (NotReady b) = ⊥
+
 -- a name is none of these
 abbrev pub IsNoneOf : Name → List Name → Type 0
 IsNoneOf n [] = Unit {0}
