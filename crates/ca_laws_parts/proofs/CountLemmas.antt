@@ -45,7 +45,7 @@ use Rattle.ca_laws_sound.proofs.RespondLemmas.{arrival-good, respond-good}
 use Rattle.ca_laws_sound.proofs.TurnLemmas.{packet-good}
 use Rattle.ca_laws_sound.proofs.WorldLemmas.{around_in, shared_of}
 use Rattle.ca_laws_parts.proofs.NeedsLemmas.{listed-also}
-use Rattle.ca_laws_parts.proofs.TouchLemmas.{asks_window}
+use Rattle.ca_model.specs.machine.Seen.{asks_window}
 use Rattle.ca_model.specs.machine.Around.{shared_in}
 use Rattle.ca_model.specs.machine.Step.{is_named}
 

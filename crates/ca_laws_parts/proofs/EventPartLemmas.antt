@@ -34,7 +34,7 @@ event-in c w ps (events.RnrWake queue) sound inc = wake-in c w ps queue sound in
 pub event-touches : (c : Configuration) (w : World) (event : Event) → IsSoundWorld c w → AllByRecursion (λ n. IsAmong (event_parts c w event) (part_of n)) (touches w (plan c event))
 event-touches c w event sound = touches-all w (In (event_parts c w event)) (plan c event) (event-in c w (event_parts c w event) event sound (λ p among. among))
 
-among-held : (held : PartName → Bool) (ps : List PartName) (p : PartName) → AreHeld held ps → IsAmong ps p → held p ≡ true
+pub among-held : (held : PartName → Bool) (ps : List PartName) (p : PartName) → AreHeld held ps → IsAmong ps p → held p ≡ true
 among-held held [] p all among = absurd among
 among-held held (x ∷ xs) p all (inl is) = subst (λ y. held y ≡ true) (sym is) all.0
 among-held held (x ∷ xs) p all (inr rest) = among-held held xs p all.1 rest

@@ -6,3 +6,4 @@ pub mod TableLemmas
 pub mod VerbPartLemmas
 pub mod CountLemmas
 pub mod EventPartLemmas
+pub mod HeldLemmas

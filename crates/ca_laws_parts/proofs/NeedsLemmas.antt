@@ -7,7 +7,7 @@ use Rattle.ca_laws_sound.proofs.SettledLemmas.{domain-refl, queue-refl, slot-ref
 use Rattle.ca_model.specs.declared.part_name.PartName.{PartName}
 use Rattle.ca_model.specs.declared.part_name.PartName.TheVariants as names
 use Rattle.ca_model.specs.machine.Parts.{By, Enough, IsAmong, Needs, Part, ShowsHeld, also, gathered, is_held, listed, next_part, part_eq, part_of}
-use Rattle.ca_model.specs.machine.World.{World, get}
+use Rattle.ca_model.specs.machine.World.{Name, Thing, World, get}
 
 pub next-same : (held : PartName → Bool) (v w : World) (needs : Needs) → ShowsHeld held v w → next_part held v needs ≡ next_part held w needs
 next-same held v w Enough shows = refl
@@ -155,3 +155,35 @@ pub listed-also : (w : World) (a b : Needs) → listed w (also a b) ≡ listed w
 listed-also w Enough b = refl
 listed-also w (Part p more) b = ap (λ ps. p ∷ ps) (listed-also w more b)
 listed-also w (By n decides) b = ap (λ ps. part_of n ∷ ps) (listed-also w (decides (get w n)) b)
+
+-- where no part is missing of two needs, none is of either
+pub none-first : (held : PartName → Bool) (w : World) (a b : Needs) → next_part held w (also a b) ≡ None → next_part held w a ≡ None
+none-first held w Enough b none = refl
+none-first held w (Part p more) b none = by (held p) none (none-first held w more b)
+  where
+    by : (z : Bool) → (if z then next_part held w (also more b) else Some p) ≡ None → (next_part held w (also more b) ≡ None → next_part held w more ≡ None)
+        → (if z then next_part held w more else Some p) ≡ None
+    by true none rest = rest none
+    by false none rest = none
+none-first held w (By n decides) b none = by (held (part_of n)) none (none-first held w (decides (get w n)) b)
+  where
+    by : (z : Bool) → (if z then next_part held w (also (decides (get w n)) b) else Some (part_of n)) ≡ None
+        → (next_part held w (also (decides (get w n)) b) ≡ None → next_part held w (decides (get w n)) ≡ None)
+        → (if z then next_part held w (decides (get w n)) else Some (part_of n)) ≡ None
+    by true none rest = rest none
+    by false none rest = none
+
+-- where no part is missing, none is of what comes behind a part
+pub none-behind : (held : PartName → Bool) (w : World) (p : PartName) (more : Needs) → next_part held w (Part p more) ≡ None → next_part held w more ≡ None
+none-behind held w p more none = by (held p) none
+  where
+    by : (z : Bool) → (if z then next_part held w more else Some p) ≡ None → next_part held w more ≡ None
+    by true none = none
+    by false none = absurd (none-some p (sym none))
+
+pub none-decided : (held : PartName → Bool) (w : World) (n : Name) (decides : Thing n → Needs) → next_part held w (By n decides) ≡ None → next_part held w (decides (get w n)) ≡ None
+none-decided held w n decides none = by (held (part_of n)) none
+  where
+    by : (z : Bool) → (if z then next_part held w (decides (get w n)) else Some (part_of n)) ≡ None → next_part held w (decides (get w n)) ≡ None
+    by true none = none
+    by false none = absurd (none-some (part_of n) (sym none))

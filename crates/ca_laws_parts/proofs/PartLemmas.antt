@@ -40,6 +40,7 @@ use Rattle.ca_model.specs.declared.answer.Answer.TheVariants as answers
 use Rattle.ca_model.specs.declared.answer.Refusal.TheVariants.{NoSuch}
 use Rattle.ca_model.specs.machine.Arrivals.{next_receive}
 use Rattle.ca_model.specs.machine.HostVerbs.{inject_plan}
+use Rattle.ca_model.specs.machine.Seen.{asks_window}
 use Rattle.ca_model.specs.machine.Respond.{answer_turn, respond_refusals, respond_row}
 use Rattle.ca_model.specs.machine.Timers.{after_timeout, after_wake, wake_refusals}
 use Rattle.ca_model.specs.machine.Turns.{Fire, Leave_plan, Packet, Respond_around, Timeout_around, With_receives, has_room_for, packet_sent, reaches_peer, respond_plan, sent_updates, timeout_plan, wake_plan}
@@ -50,7 +51,7 @@ use Rattle.ca_model.specs.declared.part_name.PartName.TheVariants as names
 use Rattle.ca_model.specs.machine.Parts.{By, Enough, IsAmong, Needs, Part, also, around_needs, arrival_needs, ask_needs, asks_needs, buffer_needs, ending_needs, event_needs, listed, part, part_of, peer_needs, present_needs, region_needs, region_part, respond_needs, row_needs, turn_needs, verb_needs, where_some, window_needs}
 use Rattle.ca_laws_parts.proofs.NeedsLemmas.{listed-also}
 use Rattle.ca_model.specs.machine.Sound.{IsQueueOf, IsSoundWorld, IsSoundState, LieIn}
-use Rattle.ca_laws_parts.proofs.TouchLemmas.{AskIn, EndingIn, GrantIn, InBuffers, NamesIn, RegionIn, TouchesIn, WritesAt, asks_window, touches-row, updated-append}
+use Rattle.ca_laws_parts.proofs.TouchLemmas.{AskIn, EndingIn, GrantIn, InBuffers, NamesIn, RegionIn, TouchesIn, WritesAt, touches-row, updated-append}
 use Rattle.ca_laws_sound.proofs.TurnLemmas.{all-fail}
 use Rattle.ca_laws_sound.proofs.WorldLemmas.{around_in, shared_of}
 use Rattle.ca_laws_parts.proofs.WriteLemmas.{RowWrites, arrival-writes, respond-writes}
@@ -173,14 +174,14 @@ ending-in c w ps d key inc = record {
     windows named p among = inc p (subst (λ b. IsAmong (listed w (chosen b (names_window c d key))) p) (sym (window-no-region c d key named))
         (subst (λ z. IsAmong (listed w (chosen false z)) p) (sym named) among))
 
-asks-in : (c : Configuration) (w : World) (ps : List PartName) (asks : List Ask) → IsSoundWorld c w → Given w ps (asks_needs c asks) → AllByRecursion (AskIn c w (In ps)) asks
+pub asks-in : (c : Configuration) (w : World) (ps : List PartName) (asks : List Ask) → IsSoundWorld c w → Given w ps (asks_needs c asks) → AllByRecursion (AskIn c w (In ps)) asks
 asks-in c w ps [] sound inc = record {}
 asks-in c w ps (ask ∷ asks) sound inc = (
   ask-in c w ps ask sound (given-first w ps (ask_needs c ask) (asks_needs c asks) inc),
   asks-in c w ps asks sound (given-second w ps (ask_needs c ask) (asks_needs c asks) inc),
 )
 
-invalidation-in : (c : Configuration) (w : World) (ps : List PartName) (i : Option Invalidation) → Given w ps (where_some (λ i. ending_needs c i.domain i.key) i)
+pub invalidation-in : (c : Configuration) (w : World) (ps : List PartName) (i : Option Invalidation) → Given w ps (where_some (λ i. ending_needs c i.domain i.key) i)
     → IfSome i (λ i. EndingIn c w (In ps) i.domain i.key)
 invalidation-in c w ps None inc = record {}
 invalidation-in c w ps (Some i) inc = ending-in c w ps i.domain i.key inc
@@ -392,7 +393,7 @@ left-in c w ps q peer lot row sound writes inc queue around mailbox = row-in c w
     m = w.mailbox peer.queue
 
 -- where there is no room, a responder's turn asks for nothing
-respond-given : (c : Configuration) (w : World) (room : Bool) (q : QueuePair) (ps : List PartName) → Given w ps (row_needs c (respond_row true q)) → Given w ps (row_needs c (respond_row room q))
+pub respond-given : (c : Configuration) (w : World) (room : Bool) (q : QueuePair) (ps : List PartName) → Given w ps (row_needs c (respond_row true q)) → Given w ps (row_needs c (respond_row room q))
 respond-given c w true q ps inc = inc
 respond-given c w false q ps inc = by (first_of (respond_refusals false q)) refl (slice_get q.responder.answers 0)
   where

@@ -188,7 +188,7 @@ perform-in c w ps q n finish (ops.CmpSwap address key compare swap list) sound i
 perform-in c w ps q n finish (ops.FetchAdd address key add list) sound inc more = more (queue_and_marks q []) [] [] (record {}) (record {})
 
 -- whether there is room changes nothing of what a packet asks for
-packet-given : (c : Configuration) (w : World) (room : Bool) (q : QueuePair) (n : Numbered) (ps : List PartName) → Given w ps (row_needs c (packet_row q true n)) → Given w ps (row_needs c (packet_row q room n))
+pub packet-given : (c : Configuration) (w : World) (room : Bool) (q : QueuePair) (n : Numbered) (ps : List PartName) → Given w ps (row_needs c (packet_row q true n)) → Given w ps (row_needs c (packet_row q room n))
 packet-given c w true q n ps inc = inc
 packet-given c w false q n ps inc = by (is_too_much q n) inc
   where

@@ -20,6 +20,7 @@ use Rattle.ca_base.specs.objects.Slices.{names_region, names_window, slot_of_key
 use Rattle.ca_base.specs.objects.Window.{Binding, Window, grant_of_binding, without_binding}
 use Rattle.ca_model.specs.machine.Plan.{Plan, Stuck, Look, Read, If, Finish, Update, ◌:=◌, Write, byte_names, names_updated, names_written, touches}
 use Rattle.ca_model.specs.machine.Row.{Ending, NotPossible, Does, Effects, Row, Row_plan, End_plan, With_grant, With_grants, With_bytes, With_writes, With_invalidation, first_denied_by, grant_if_fitting, grant_over, region_under, unless_none}
+use Rattle.ca_model.specs.machine.Seen.{asks_window, grant_in}
 use Rattle.ca_model.specs.machine.World.{World, Name, Byte_at, Region_of, Window_of, get}
 use Rattle.ca_laws_sound.proofs.WorldLemmas.{EndingDoes, RowDoes}
 
@@ -96,10 +97,6 @@ pub record RegionIn (w : World) (A : Name → Type 0) (s : Slot) : Type 0 where
   pub region : A (Region_of s)
   pub buffer : GrantIn A (grant_of_region (w.region s))
 
--- an access's key names a window: it is no L_Key
-abbrev pub asks_window : Configuration → Ask → Bool
-asks_window c ask = if ask.local then false else names_window c ask.domain ask.key
-
 -- what the key of an access names: a region, or a window and the region of its binding
 pub record AskIn (c : Configuration) (w : World) (A : Name → Type 0) (ask : Ask) : Type 0 where
   pub region : names_region c ask.domain ask.key ≡ true → RegionIn w A (slot_of_key ask.domain ask.key)
@@ -155,6 +152,28 @@ touches-grant c w A ask k key more = (
           (over-in A (w.window slot) b (w.region (region_under (w.window slot) b)) under.buffer)),
     )
 
+-- the grant that an ask goes by in the world
+pub seen-in : (c : Configuration) (w : World) (A : Name → Type 0) (ask : Ask) → AskIn c w A ask → GrantIn A (grant_in c w ask)
+seen-in c w A ask key = by (names_region c ask.domain ask.key) refl (asks_window c ask) refl
+  where
+    slot : Slot
+    slot = slot_of_key ask.domain ask.key
+
+    over : Option Binding → Option Grant
+    over None = None
+    over (Some b) = grant_if_fitting ask (grant_over (w.window slot) b (w.region (region_under (w.window slot) b)))
+
+    bound : (o : Option Binding) → IfSome o (λ b. RegionIn w A (region_under (w.window slot) b)) → GrantIn A (over o)
+    bound None under = record {}
+    bound (Some b) under = fitting-in A ask (grant_over (w.window slot) b (w.region (region_under (w.window slot) b)))
+        (over-in A (w.window slot) b (w.region (region_under (w.window slot) b)) under.buffer)
+
+    by : (b : Bool) → names_region c ask.domain ask.key ≡ b → (z : Bool) → asks_window c ask ≡ z
+        → GrantIn A (if b then grant_if_fitting ask (grant_of_region (w.region slot)) else if z then over (w.window slot).binding else None)
+    by true named z e = fitting-in A ask (grant_of_region (w.region slot)) (key.region named).buffer
+    by false none true named = bound (w.window slot).binding (key.under named)
+    by false none false e = record {}
+
 -- grants of asks, in order
 abbrev pub GrantsIn : (Name → Type 0) → List (Option Grant) → Type 0
 GrantsIn A gs = AllByRecursion (GrantIn A) gs
@@ -165,7 +184,7 @@ touches-grants c w A [] k all more = more [] (record {})
 touches-grants c w A (ask ∷ asks) k all more = touches-grant c w A ask (λ g. With_grants c asks (λ gs. k (g ∷ gs))) all.0
     (λ g one. touches-grants c w A asks (λ gs. k (g ∷ gs)) all.1 (λ gs rest. more (g ∷ gs) (one, rest)))
 
-granted-in : (A : Name → Type 0) (ask : Ask) (g : Option Grant) → GrantIn A g → InBuffers A (runs_by_grant ask g)
+pub granted-in : (A : Name → Type 0) (ask : Ask) (g : Option Grant) → GrantIn A g → InBuffers A (runs_by_grant ask g)
 granted-in A ask None all = record {}
 granted-in A ask (Some g) all = cut-in A (ask.address - g.address) ask.touch g.runs all
 

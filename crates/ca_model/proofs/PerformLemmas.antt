@@ -1,16 +1,15 @@
 -- How looks, rows and changes of a plan are carried out in a world.
-use Rattle.std.proofs.Common.{◌≡◌, ◌∙◌, ℕ, Bool, true, false, if◌then◌else◌, List, [], ◌∷◌, ◌++◌, map, Option, None, Some, ap, refl}
+use Rattle.std.proofs.Common.{◌≡◌, ◌∙◌, ℕ, Bool, true, false, if◌then◌else◌, List, [], ◌∷◌, map, Option, None, Some, ap, refl}
 use Rattle.std.specs.Option.{option_and_then, option_map, option_map_or}
 use Rattle.ca_keys.specs.declared.access.Ask.{Ask}
 use Rattle.ca_keys.specs.declared.grant.Grant.{Grant}
 use Rattle.ca_keys.specs.declared.names.QueueId.{QueueId}
 use Rattle.ca_keys.specs.declared.names.Slot.{Slot}
-use Rattle.ca_keys.specs.Memory.{bytes_at}
 use Rattle.ca_base.specs.Configuration.{Configuration}
 use Rattle.ca_base.specs.declared.denied_ask.DeniedAsk.{DeniedAsk}
 use Rattle.ca_base.specs.declared.refusals.OpRefusal.{OpRefusal}
 use Rattle.ca_base.specs.declared.step.Reason.{Reason}
-use Rattle.ca_base.specs.Sight.{Invalidation, Sight, bytes_in, denial_in, first_denied, or_denied, runs_by_grant}
+use Rattle.ca_base.specs.Sight.{Invalidation, bytes_in, denial_in, first_denied, or_denied, runs_by_grant}
 use Rattle.ca_base.specs.objects.CompletionQueue.{CompletionQueue}
 use Rattle.ca_base.specs.objects.LocalRequest.{region_refusal, unnamed_refusal, window_refusal}
 use Rattle.ca_base.specs.objects.QueuePair.{NoQueue, Present, QueuePair, QueueSlot, recv_cq_of, send_cq_of, srq_of}
@@ -18,10 +17,10 @@ use Rattle.ca_base.specs.objects.Region.{after_region_invalidation, grant_of_reg
 use Rattle.ca_base.specs.objects.Slices.{has_queue, names_region, names_window, slot_of_key}
 use Rattle.ca_base.specs.objects.Window.{Binding, Window, without_binding}
 use Rattle.ca_model.specs.machine.Around.{Around, With_around, With_queue}
-use Rattle.ca_model.specs.machine.Plan.{Look, NotReady, Outcome, Plan, Stuck, Update, Write, perform, put_all, ◌:=◌}
+use Rattle.ca_model.specs.machine.Plan.{Look, NotReady, Plan, Stuck, Update, Write, perform, ◌:=◌}
 use Rattle.ca_model.specs.machine.Row.{Does, Effects, Ending, End_plan, NotPossible, Row, Row_plan, ending_of, With_bytes, With_grant, With_grants, With_invalidation, With_writes, first_denied_by, grant_if_fitting, grant_over, region_under, unless_none}
 use Rattle.ca_model.specs.machine.Seen.{asks_window, ending_changes, grant_in, perform_ending, refusal_in, row_changes, sight_in, writes_in}
-use Rattle.ca_model.specs.machine.World.{Cq_of, Name, Queue_of, Region_of, Srq_of, Thing, Window_of, World, get, put}
+use Rattle.ca_model.specs.machine.World.{Region_of, Srq_of, Window_of, World}
 
 -- a queue pair that is there is looked at
 pub queue-performs : (c : Configuration) (w : World) (name : QueueId) (reason : Reason) (k : QueuePair → Plan) (q : QueuePair) → has_queue c name ≡ true → w.queue name ≡ Present q

@@ -33,3 +33,4 @@ pub mod Places
 pub mod CanStep
 pub mod Sound
 pub mod Parts
+pub mod Held

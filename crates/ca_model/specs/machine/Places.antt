@@ -1,5 +1,5 @@
 -- Posting places in order: those of completions, and of the receives that a queue pair holds. Laws cite it.
-use Rattle.std.specs.Prelude.{◌≡◌, ℕ, suc, ◌&&◌, ◌≤◌, Bool, true, false, if◌then◌else◌, List, [], ◌∷◌, ◌++◌, filter, map, Option, None, Some}
+use Rattle.std.specs.Prelude.{◌≡◌, ℕ, suc, ◌&&◌, ◌≤◌, Bool, true, false, List, [], ◌∷◌, ◌++◌, filter, map, Option, None, Some}
 use Rattle.std.specs.Option.{option_map_or}
 use Rattle.ca_base.specs.declared.completion.Completion.{Completion}
 use Rattle.ca_base.specs.declared.queue_numbers.Message.{Message}
@@ -7,7 +7,7 @@ use Rattle.ca_base.specs.declared.request.RecvRequest.{RecvRequest}
 use Rattle.ca_keys.specs.declared.names.QueueId.{QueueId}
 use Rattle.ca_keys.specs.Equal.{bool_eq, queue_eq}
 use Rattle.ca_base.specs.objects.QueuePair.{QueuePair, receive_in_use}
-use Rattle.ca_base.specs.objects.SharedReceives.{SharedReceives, after_receive_take, first_receive}
+use Rattle.ca_base.specs.objects.SharedReceives.{SharedReceives, first_receive}
 use Rattle.ca_base.specs.objects.WorkQueue.{WorkQueue}
 use Rattle.ca_model.specs.declared.mark.Mark.{Mark}
 use Rattle.ca_model.specs.declared.mark.Mark.TheVariants as marks

@@ -1,6 +1,6 @@
 -- What is seen of keys and memory in a world, and how a row ends there. Laws cite it.
 use Rattle.std.specs.Prelude.{ℕ, Bool, false, if◌then◌else◌, List, [], ◌∷◌, Option, None, Some}
-use Rattle.std.specs.Option.{option_map_or}
+use Rattle.std.specs.Option.{option_and_then, option_map, option_map_or}
 use Rattle.ca_keys.specs.declared.access.Ask.{Ask}
 use Rattle.ca_keys.specs.declared.grant.Grant.{Grant}
 use Rattle.ca_keys.specs.declared.names.Slot.{Slot}
@@ -10,11 +10,17 @@ use Rattle.ca_base.specs.declared.refusals.OpRefusal.{OpRefusal}
 use Rattle.ca_base.specs.Sight.{Invalidation, Sight, first_denied, runs_in}
 use Rattle.ca_base.specs.objects.LocalRequest.{region_refusal, unnamed_refusal, window_refusal}
 use Rattle.ca_base.specs.objects.Region.{after_region_invalidation, grant_of_region, with_window_unbound}
+use Rattle.ca_base.specs.objects.QueuePair.{QueuePair, srq_of}
+use Rattle.ca_base.specs.objects.SharedReceives.{SharedReceives}
 use Rattle.ca_base.specs.objects.Slices.{names_region, names_window, slot_of_key}
 use Rattle.ca_base.specs.objects.Window.{Binding, Window, without_binding}
 use Rattle.ca_model.specs.machine.Plan.{NotReady, Outcome, Plan, Update, Write, perform, ◌:=◌}
 use Rattle.ca_model.specs.machine.Row.{Does, Effects, Ending, NotPossible, Row, grant_if_fitting, grant_over, region_under, unless_none}
 use Rattle.ca_model.specs.machine.World.{Region_of, Window_of, World}
+
+-- the shared receive queue of a queue pair in a world, if it has one
+abbrev pub shared_receives : World → QueuePair → Option SharedReceives
+shared_receives w q = option_and_then (λ slot. slot.srq) (option_map (λ srq. w.srq (srq_of q srq)) q.srq)
 
 -- an access's key names a window: it is no L_Key
 abbrev pub asks_window : Configuration → Ask → Bool
