@@ -15,7 +15,7 @@ use Rattle.ca_base.specs.declared.refusals.OpRefusal.{OpRefusal}
 use Rattle.ca_base.specs.declared.request.PlacedReceive.{PlacedReceive}
 use Rattle.ca_base.specs.declared.request.PostedSend.{PostedSend}
 use Rattle.ca_base.specs.declared.request.RecvRequest.{RecvRequest}
-use Rattle.ca_base.specs.objects.QueuePair.{QueuePair, in_error, receive_in_use}
+use Rattle.ca_base.specs.objects.QueuePair.{QueuePair, in_error, receive_in_use, without_answers}
 use Rattle.ca_base.specs.objects.WorkQueue.{WorkQueue, after_take, items_from, next_place, with_all_taken}
 use Rattle.ca_model.specs.declared.mark.Mark.{Mark}
 use Rattle.ca_model.specs.declared.mark.Mark.TheVariants as marks
@@ -80,7 +80,7 @@ pub record IsSameWork (q p : QueuePair) : Type 0 where
   pub in_use : receive_in_use p.responder.message ≡ receive_in_use q.responder.message
 
 -- own receives where other places complete, or another message holds the same receive
-taken-as : (a b : Option (WorkQueue RecvRequest)) (x y z : Option Message) (ms ns : List Mark) → receive_in_use y ≡ receive_in_use x
+pub taken-as : (a b : Option (WorkQueue RecvRequest)) (x y z : Option Message) (ms ns : List Mark) → receive_in_use y ≡ receive_in_use x
     → places_done true ns ≡ places_done true ms → AreTakenInOrder a b x z ms → AreTakenInOrder a b y z ns
 taken-as None None x y z ms ns held same one = record {}
 taken-as None (Some b) x y z ms ns held same one = absurd one
@@ -102,7 +102,7 @@ taken-to (Some a) (Some b) x y z ms held one = (
 )
 
 -- nothing is taken, and nothing completes
-taken-still : (a : Option (WorkQueue RecvRequest)) (x y : Option Message) (ms : List Mark) → receive_in_use y ≡ receive_in_use x → places_done true ms ≡ []
+pub taken-still : (a : Option (WorkQueue RecvRequest)) (x y : Option Message) (ms : List Mark) → receive_in_use y ≡ receive_in_use x → places_done true ms ≡ []
     → AreTakenInOrder a a x y ms
 taken-still None x y ms held none = record {}
 taken-still (Some a) x y ms held none = (
@@ -271,6 +271,11 @@ flush-order q low high all taken = record {
     by None all taken e = record {}
     by (Some r) all taken e =
         (refl, subst (Ascend (first_held r q.responder.message) (next_place r)) (sym e) (from r q.responder.message all taken))
+
+pub silent-order : (q : QueuePair) → q.sends.first ≤ q.requester.oldest → q.requester.oldest ≤ next_place q.sends → IfSome q.receives IsReceives
+    → IsTaken q.receives q.responder.message → IsInOrder q (queue_and_marks (without_answers (in_error q)) (flush_marks q))
+silent-order q low high all taken = order-as q (queue_and_marks (in_error q) (flush_marks q)) (queue_and_marks (without_answers (in_error q)) (flush_marks q))
+    (record { sends = refl; receives = refl; oldest = refl; in_use = refl }) refl refl (flush-order q low high all taken)
 
 -- the queue pair with this receive in use
 abbrev pub holding : PlacedReceive → QueuePair → QueuePair
