@@ -101,7 +101,7 @@ send-packet-good q p place r s busy held room = by (ends place)
         (message-queue (Some message) (after false) (sound false) busy (held.receive, room) (held-message q r.receive (r.before + length p.payload) q.receives held.taken))
         (held-later false (Some message)) (record { sends = refl; receives = refl; oldest = refl; in_use = refl })
 
-revoked-quiet : (q : QueuePair) (i : Option Invalidation) → completions_in (revoked_marks q i) ≡ []
+pub revoked-quiet : (q : QueuePair) (i : Option Invalidation) → completions_in (revoked_marks q i) ≡ []
 revoked-quiet q None = refl
 revoked-quiet q (Some i) = refl
 
@@ -324,6 +324,12 @@ valid-goes q p shape e = not-false (continues q.responder.message shape) (or_par
     front : Bool
     front = not (continues q.responder.message shape) || not (fits_payload q p shape) || not (fits_write q p shape)
 
+-- a WRITE goes on where no message holds a receive
+pub unheld-write : (m : Option Message) (place : Position) → continues m (shapes.Write place) ≡ true → receive_in_use m ≡ None
+unheld-write None place goes = refl
+unheld-write (Some (messages.Write key address left count)) place goes = refl
+unheld-write (Some (messages.Send at receive bytes)) place goes = absurd (true≢false (sym goes))
+
 refused : (code : NakCode) (q : QueuePair) → IsQueue q → is_idle q.state ≡ false → IsGoodRow q (plain_row (Does (refusal_effects code q)))
 refused code q s busy = plain-good q (Does (refusal_effects code q)) (refusal-good code q s busy)
 
@@ -361,13 +367,8 @@ valid-good q p envelope next (shapes.Write place) s busy taken short goes = by p
     row (Some r) = write_row q p envelope place next r
     row None = plain_row (Does (refusal_effects InvalidRequest q))
 
-    begun : (m : Option Message) → continues m (shapes.Write place) ≡ true → receive_in_use m ≡ None
-    begun None goes = refl
-    begun (Some (messages.Write key address left count)) goes = refl
-    begun (Some (messages.Send at receive bytes)) goes = absurd (true≢false (sym goes))
-
     unheld : receive_in_use q.responder.message ≡ None
-    unheld = begun q.responder.message goes
+    unheld = unheld-write q.responder.message place goes
 
     reach : Option Reth → Option Message → Option WriteReach
     reach (Some h) message = Some (record { key = h.key; address = h.address; left = h.length; whole = h.length })

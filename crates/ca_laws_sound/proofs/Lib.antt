@@ -12,6 +12,7 @@ pub mod ObjectLemmas
 pub mod VerbLemmas
 pub mod RegionLemmas
 pub mod WorldLemmas
+pub mod TakenLemmas
 pub mod EngineLemmas
 pub mod LocalLemmas
 pub mod EventLemmas

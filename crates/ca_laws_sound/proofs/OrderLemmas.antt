@@ -234,7 +234,7 @@ flush-sends q = flush-places q false
     (message-sends q.queue q.responder.message) (own-sends q.queue q.receives)
     ∙ append-nil _ ∙ append-nil _
 
-flush-receives : (q : QueuePair) → places_done true (flush_marks q) ≡ places_in_use q.responder.message ++ places_done true (flushed_own q.queue q.receives)
+pub flush-receives : (q : QueuePair) → places_done true (flush_marks q) ≡ places_in_use q.responder.message ++ places_done true (flushed_own q.queue q.receives)
 flush-receives q = flush-places q true
     ∙ ap₂ (λ xs ys. xs ++ ys ++ places_done true (flushed_own q.queue q.receives))
     (no-receives q.queue q.requester.oldest (items_from q.requester.oldest q.sends)) (message-done q.queue q.responder.message)
