@@ -19,8 +19,7 @@ use Rattle.ca_base.specs.objects.QueuePair.{QueuePair, in_error, receive_in_use,
 use Rattle.ca_base.specs.objects.WorkQueue.{WorkQueue, after_take, items_from, next_place, with_all_taken}
 use Rattle.ca_model.specs.declared.mark.Mark.{Mark}
 use Rattle.ca_model.specs.declared.mark.Mark.TheVariants as marks
-use Rattle.ca_model.specs.machine.Acknowledgements.{and_then}
-use Rattle.ca_model.specs.machine.Arrivals.{has_shared, with_message, with_receive_taken}
+use Rattle.ca_model.specs.machine.Arrivals.{with_message, with_receive_taken}
 use Rattle.ca_model.specs.machine.Completions.{flush_marks, flushed_message, flushed_receives, flushed_sends, receive_completion}
 use Rattle.ca_model.specs.machine.Expected.{with_shared_receive}
 use Rattle.ca_model.specs.machine.Invariants.{IsReceives, IsTaken}
@@ -183,9 +182,11 @@ order-then q e g takes one other = record {
 -- flushed sends stand one after another, and are no receives
 sends-ascend : (queue : QueueId) (place : ℕ) (ps : List PostedSend) → Ascend place (place + length ps) (places_done false (flushed_sends queue place ps))
 sends-ascend queue place [] = omega arith
-sends-ascend queue place (p ∷ ps) =
-    (omega arith, ascend-high (suc place) (suc place + length ps) (place + length (p ∷ ps)) (places_done false (flushed_sends queue (suc place) ps)) (omega arith)
-    (sends-ascend queue (suc place) ps))
+sends-ascend queue place (p ∷ ps) = (
+  omega arith,
+  ascend-high (suc place) (suc place + length ps) (place + length (p ∷ ps)) (places_done false (flushed_sends queue (suc place) ps)) (omega arith)
+      (sends-ascend queue (suc place) ps),
+)
 
 no-receives : (queue : QueueId) (place : ℕ) (ps : List PostedSend) → places_done true (flushed_sends queue place ps) ≡ []
 no-receives queue place [] = refl
@@ -194,9 +195,11 @@ no-receives queue place (p ∷ ps) = no-receives queue (suc place) ps
 -- so do flushed receives
 receives-ascend : (queue : QueueId) (place : ℕ) (rs : List RecvRequest) → Ascend place (place + length rs) (places_done true (flushed_receives queue place rs))
 receives-ascend queue place [] = omega arith
-receives-ascend queue place (r ∷ rs) =
-    (omega arith, ascend-high (suc place) (suc place + length rs) (place + length (r ∷ rs)) (places_done true (flushed_receives queue (suc place) rs)) (omega arith)
-    (receives-ascend queue (suc place) rs))
+receives-ascend queue place (r ∷ rs) = (
+  omega arith,
+  ascend-high (suc place) (suc place + length rs) (place + length (r ∷ rs)) (places_done true (flushed_receives queue (suc place) rs)) (omega arith)
+      (receives-ascend queue (suc place) rs),
+)
 
 no-sends : (queue : QueueId) (place : ℕ) (rs : List RecvRequest) → places_done false (flushed_receives queue place rs) ≡ []
 no-sends queue place [] = refl

@@ -72,8 +72,10 @@ success-ascends queue place high (n ∷ ns) places enough =
     by : (b : Bool) → Ascend (suc place) high (places_done false (flat_map (λ n. success_marks queue n.place n.request) ns))
         → Ascend place high (places_done false (if b then marks.Done queue (send_completion queue n.place n.request Success (bytes_of_success n.request.op)) None ∷ [] else [])
         ++ places_done false (flat_map (λ n. success_marks queue n.place n.request) ns))
-    by true rest = (omega (arith, places.0),
-        ascend-low (suc n.place) (suc place) high (places_done false (flat_map (λ n. success_marks queue n.place n.request) ns)) (omega (arith, places.0)) rest)
+    by true rest = (
+      omega (arith, places.0),
+      ascend-low (suc n.place) (suc place) high (places_done false (flat_map (λ n. success_marks queue n.place n.request) ns)) (omega (arith, places.0)) rest,
+    )
     by false rest = ascend-low place (suc place) high (places_done false (flat_map (λ n. success_marks queue n.place n.request) ns)) (omega arith) rest
 
 success-sends : (queue : QueueId) (ns : List Numbered) → places_done true (flat_map (λ n. success_marks queue n.place n.request) ns) ≡ []
