@@ -5,6 +5,7 @@ use Rattle.std.proofs.lemmas.Bool.{eqb-true}
 use Rattle.std.proofs.lemmas.Option.{same_Some, slice_get_within}
 use Rattle.std.specs.List.{AllByRecursion}
 use Rattle.std.specs.Option.{option_and_then, option_map}
+use Rattle.ca_base.specs.declared.completion.WcOp.TheVariants as operations
 use Rattle.ca_base.specs.declared.completion.WcStatus.{WcStatus}
 use Rattle.ca_base.specs.declared.queue_numbers.Message.{Message}
 use Rattle.ca_base.specs.declared.queue_numbers.Message.TheVariants as messages
@@ -27,10 +28,10 @@ use Rattle.ca_model.specs.machine.Arrivals.{next_receive, refusal_effects, with_
 use Rattle.ca_model.specs.machine.Completions.{flush_marks, receive_failure}
 use Rattle.ca_model.specs.machine.Expected.{queue_after_packet, receive_failure_effects}
 use Rattle.ca_model.specs.machine.Invariants.{IsAnswer, IsMessage, IsQueue, IsReceive, IsReceives, IsResponder, IsSharedReceives, IsTaken, begun_end, is_idle}
+use Rattle.ca_model.specs.machine.Row.{queue_and_marks}
 use Rattle.ca_model.specs.machine.Sound.{IsFinished}
 use Rattle.ca_laws_sound.proofs.GoodLemmas.{IsGood, IsLater, IsTakenOn, error-later, error-queue, flush-settled, later-on, none-taken, settled-later, taken-same}
-use Rattle.ca_laws_sound.proofs.RequesterLemmas.{good-from}
-use Rattle.ca_laws_sound.proofs.ResponseLemmas.{more-marks}
+use Rattle.ca_laws_sound.proofs.OrderLemmas.{flush-order, holding, order-as, order-then, receive-order}
 
 -- the responder's numbers change, and its path MTU does not
 pub responder-queue : (q : QueuePair) (r : ResponderNumbers) → IsQueue q → r.mtu ≡ q.responder.mtu → IsResponder q.state r → IsTaken q.receives r.message
@@ -179,6 +180,8 @@ refusal-good code q s busy = record {
     finished = omega arith;
     taken = taken-same (in_error q).receives;
   }) (flush-settled q s.requester.finished (omega (arith, s.requester.begun, s.requester.waiting)) s.receives s.taken);
+  order = order-as q (queue_and_marks (in_error q) (flush_marks q)) (refusal_effects code q) (record { sends = refl; receives = refl; oldest = refl; in_use = refl }) refl refl
+      (flush-order q s.requester.finished (omega (arith, s.requester.begun, s.requester.waiting)) s.receives s.taken);
 }
   where
     answered : QueuePair
@@ -191,14 +194,21 @@ pub record IsHeld (q : QueuePair) (r : PlacedReceive) : Type 0 where
 
 -- the receive of the message in progress fails, and the packet is refused
 pub receive-failure-good : (q : QueuePair) (r : PlacedReceive) (status : WcStatus) (cause : Option OpRefusal) (code : NakCode) → IsQueue q → is_idle q.state ≡ false
-    → IsHeld q r → IsGood q (receive_failure_effects q r status cause code)
-receive-failure-good q r status cause code s busy held =
-    more-marks q (refusal_effects code without) (receive_failure q.queue r.place r.receive status cause ∷ [])
-    ((refl, held-on q.receives s.receives held.taken), record {})
-    (good-from q without (refusal_effects code without) (responder-later q without.responder) (refusal-good code without (no-message-queue q s busy) busy))
+    → IsHeld q r → IsGood (holding r q) (receive_failure_effects q r status cause code)
+receive-failure-good q r status cause code s busy held = record {
+  sound = refused.sound;
+  later = later-on (holding r q) without (refusal_effects code without).queue (responder-later (holding r q) without.responder) refused.later;
+  settled = ((refl, held-on q.receives s.receives held.taken), refused.settled);
+  order = order-then (holding r q) (queue_and_marks without (receive_failure q.queue r.place r.receive status cause ∷ [])) (refusal_effects code without) refl
+      (receive-order r q without r.receive.id status operations.Recv 0 None None cause (record { sends = refl; receives = refl; oldest = refl; in_use = refl }) held.taken)
+      refused.order;
+}
   where
     without : QueuePair
     without = with_message None q
+
+    refused : IsGood without (refusal_effects code without)
+    refused = refusal-good code without (no-message-queue q s busy) busy
 
     held-on : (o : Option (WorkQueue RecvRequest)) → IfSome o IsReceives → IfSome o (λ x. r.place < x.next_taken)
         → IfSome (option_map with_all_taken o) (λ x. r.place < x.next_taken)
@@ -245,6 +255,7 @@ own-receive r x s e = by (nat_lt r.next_taken r.first) refl e
 pub record IsTaking (q : QueuePair) (r : PlacedReceive) : Type 0 where
   pub sound : IsQueue (with_receive_taken q)
   pub held : IsHeld (with_receive_taken q) r
+  pub place : IfSome q.receives (λ x. r.place ≡ x.next_taken)
   pub later : IsLater q (with_receive_taken q)
 
 taken-queue : (q : QueuePair) → IsQueue q → IfSome q.receives (λ r. r.next_taken < next_place r) → IsQueue (with_receive_taken q)
@@ -308,19 +319,24 @@ taking q shared r s all e = by q.srq refl q.receives refl (s.source) e
     finished None e = record {}
     finished (Some x) e = absurd (true≢false e)
 
+    at : (o : Option (WorkQueue RecvRequest)) → is_some o ≡ false → IfSome o (λ x. r.place ≡ x.next_taken)
+    at None e = record {}
+    at (Some x) e = absurd (true≢false e)
+
     item : (x : WorkQueue RecvRequest) → IsReceives x → (i : Option RecvRequest) → item_at x.next_taken x ≡ i
         → option_map (λ y. record { place = x.next_taken; receive = y }) i ≡ Some r
-        → (IsReceive r.receive × (x.next_taken < next_place x) × (r.place < suc x.next_taken))
+        → (IsReceive r.receive × (x.next_taken < next_place x) × (r.place ≡ x.next_taken))
     item x sound None is e = absurd (true≢false (sym (ap is_some e)))
-    item x sound (Some y) is e = subst (λ (z : PlacedReceive). IsReceive z.receive × (x.next_taken < next_place x) × (z.place < suc x.next_taken))
+    item x sound (Some y) is e = subst (λ (z : PlacedReceive). IsReceive z.receive × (x.next_taken < next_place x) × (z.place ≡ x.next_taken))
         (same_Some (record { place = x.next_taken; receive = y }) r e)
-        ((own-receive x y sound is).receive, (own-receive x y sound is).more, omega arith)
+        ((own-receive x y sound is).receive, (own-receive x y sound is).more, refl)
 
     by : (srq : Option ℕ) → q.srq ≡ srq → (receives : Option (WorkQueue RecvRequest)) → q.receives ≡ receives → is_some q.receives ≡ is_none q.srq
         → from srq ≡ Some r → IsTaking q r
     by (Some srq) is receives own-is source e = record {
       sound = taken-queue q s (none q.receives (source ∙ ap is_none is));
       held = record { receive = first shared all e; taken = finished q.receives (source ∙ ap is_none is) };
+      place = at q.receives (source ∙ ap is_none is);
       later = taken-later-queue q;
     }
     by None is None own-is source e = absurd (true≢false (sym (ap is_some (sym (ap (λ o. option_and_then own o) own-is) ∙ e))))
@@ -328,13 +344,14 @@ taking q shared r s all e = by q.srq refl q.receives refl (s.source) e
       sound = taken-queue q s (subst (λ o. IfSome o (λ r. r.next_taken < next_place r)) (sym own-is) (parts sound).1);
       held = record {
         receive = (parts sound).0;
-        taken = subst (λ o. IfSome (option_map after_take o) (λ x. r.place < x.next_taken)) (sym own-is) (parts sound).2;
+        taken = subst (λ o. IfSome (option_map after_take o) (λ x. r.place < x.next_taken)) (sym own-is) (omega (arith, (parts sound).2));
       };
+      place = subst (λ o. IfSome o (λ x. r.place ≡ x.next_taken)) (sym own-is) (parts sound).2;
       later = taken-later-queue q;
     }
       where
         sound : IsReceives x
         sound = subst (λ o. IfSome o IsReceives) own-is s.receives
 
-        parts : IsReceives x → IsReceive r.receive × (x.next_taken < next_place x) × (r.place < suc x.next_taken)
+        parts : IsReceives x → IsReceive r.receive × (x.next_taken < next_place x) × (r.place ≡ x.next_taken)
         parts all = item x all (item_at x.next_taken x) refl (sym (ap (λ o. option_and_then own o) own-is) ∙ e)

@@ -10,15 +10,18 @@ use Rattle.ca_base.specs.declared.queue_numbers.RequesterNumbers.{RequesterNumbe
 use Rattle.ca_base.specs.declared.refusals.OpRefusal.{OpRefusal}
 use Rattle.ca_base.specs.declared.request.RecvRequest.{RecvRequest}
 use Rattle.ca_base.specs.declared.request.PostedSend.{PostedSend}
+use Rattle.ca_base.specs.declared.request.SendRequest.{SendRequest}
 use Rattle.ca_base.specs.objects.QueuePair.{QueuePair, in_error, without_answers}
 use Rattle.ca_base.specs.objects.WorkQueue.{WorkQueue, items_from, next_place, with_all_taken}
 use Rattle.ca_model.specs.declared.mark.Mark.{Mark}
 use Rattle.ca_model.specs.declared.mark.Mark.TheVariants as marks
 use Rattle.ca_model.specs.machine.Acknowledgements.{and_then, failure_effects, with_requester, without_oldest}
 use Rattle.ca_model.specs.machine.Completions.{failure_mark, flush_marks, flushed_message, flushed_receives, flushed_sends}
-use Rattle.ca_model.specs.machine.Row.{Effects}
+use Rattle.ca_model.specs.machine.Places.{IsInOrder, completions_in}
+use Rattle.ca_model.specs.machine.Row.{Effects, queue_and_marks}
 use Rattle.ca_model.specs.machine.Invariants.{begun_end, IsQueue, IsReceives, IsRequester, IsTaken, is_sending}
 use Rattle.ca_model.specs.machine.Sound.{IsFinished}
+use Rattle.ca_laws_sound.proofs.OrderLemmas.{flush-order, order-then, silent-order, taken-as}
 
 -- what one mark tells of a queue pair's completion: its request is finished, or its receive taken
 abbrev pub IsSettledMark : QueuePair → Mark → Type 0
@@ -45,15 +48,35 @@ pub record IsLater (q p : QueuePair) : Type 0 where
   pub finished : q.requester.oldest ≤ p.requester.oldest
   pub taken : IsTakenOn q.receives p.receives
 
--- effects that leave a queue pair that can come up, later, with all that completed settled
+-- effects that leave a queue pair that can come up, later, with all that completed settled and in order
 pub record IsGood (q : QueuePair) (e : Effects) : Type 0 where
   pub sound : IsQueue e.queue
   pub later : IsLater q e.queue
   pub settled : AreSettledMarks e.queue e.marks
+  pub order : IsInOrder q e
 
 pub settled-append : (q : QueuePair) (ms ns : List Mark) → AreSettledMarks q ms → AreSettledMarks q ns → AreSettledMarks q (ms ++ ns)
 settled-append q [] ns one other = other
 settled-append q (m ∷ ms) ns one other = (one.0, settled-append q ms ns one.1 other)
+
+-- marks that tell of no completion are settled
+pub settled-quiet : (q : QueuePair) (ms : List Mark) → completions_in ms ≡ [] → AreSettledMarks q ms
+settled-quiet q [] e = record {}
+settled-quiet q (m ∷ ms) e = one m e (settled-quiet q ms)
+  where
+    one : (m : Mark) → completions_in (m ∷ ms) ≡ [] → (completions_in ms ≡ [] → AreSettledMarks q ms) → AreSettledMarks q (m ∷ ms)
+    one (marks.Done queue x cause) e rest = absurd (omega (arith, ap length e))
+    one (marks.Verb by verb answer) e rest = (record {}, rest e)
+    one (marks.Granted g) e rest = (record {}, rest e)
+    one (marks.Revoked adapter key) e rest = (record {}, rest e)
+    one (marks.Remote queue domain envelope key kind address count verdict) e rest = (record {}, rest e)
+    one (marks.Local queue domain key kind address count verdict) e rest = (record {}, rest e)
+    one (marks.Stored place bytes) e rest = (record {}, rest e)
+    one (marks.Sent source target index request bytes) e rest = (record {}, rest e)
+    one (marks.Lost target index) e rest = (record {}, rest e)
+    one (marks.Arrived target index) e rest = (record {}, rest e)
+    one (marks.Dropped target cause) e rest = (record {}, rest e)
+    one (marks.Timer queue silent) e rest = (record {}, rest e)
 
 pub taken-same : (a : Option (WorkQueue RecvRequest)) → IsTakenOn a a
 taken-same None = record {}
@@ -109,11 +132,12 @@ settled-later q p (m ∷ ms) later all = (one m all.0, settled-later q p ms late
     one (marks.Dropped target cause) done = record {}
     one (marks.Timer queue silent) done = record {}
 
-pub good-then : (q : QueuePair) (e : Effects) (f : QueuePair → Effects) → IsGood q e → IsGood e.queue (f e.queue) → IsGood q (and_then e f)
-good-then q e f one other = record {
+pub good-then : (q : QueuePair) (e : Effects) (f : QueuePair → Effects) → e.takes_shared ≡ false → IsGood q e → IsGood e.queue (f e.queue) → IsGood q (and_then e f)
+good-then q e f takes one other = record {
   sound = other.sound;
   later = later-on q e.queue (f e.queue).queue one.later other.later;
   settled = settled-append (f e.queue).queue e.marks (f e.queue).marks (settled-later e.queue (f e.queue).queue e.marks other.later one.settled) other.settled;
+  order = order-then q e (f e.queue) takes one.order other.order;
 }
 
 -- the sends from a place on are finished once the next one to be posted is the oldest
@@ -244,6 +268,7 @@ failure-good status cause q s = record {
   sound = silent-queue (in_error q) (error-queue q s);
   later = silent-later q (in_error q) (error-later q s);
   settled = by (items_from q.requester.oldest q.sends) refl;
+  order = order (items_from q.requester.oldest q.sends) refl;
 }
   where
     failure_marks : List PostedSend → List Mark
@@ -260,6 +285,22 @@ failure-good status cause q s = record {
       flush-settled (without_oldest q) (omega (arith, s.requester.finished)) (omega (arith, items-end q.sends q.requester.oldest s.requester.finished high, ap length e))
           s.receives s.taken,
     )
+
+    -- the oldest one first, and what is flushed behind it
+    behind : (request : SendRequest) → IsInOrder (without_oldest q) (queue_and_marks (in_error q) (flush_marks (without_oldest q)))
+        → IsInOrder q (queue_and_marks (without_answers (in_error q)) (failure_mark q.queue q.requester.oldest request status cause ∷ flush_marks (without_oldest q)))
+    behind request rest = record {
+      sends = refl;
+      done = (omega arith, rest.done);
+      own = taken-as q.receives (in_error q).receives q.responder.message q.responder.message None (flush_marks (without_oldest q))
+          (failure_mark q.queue q.requester.oldest request status cause ∷ flush_marks (without_oldest q)) refl refl rest.own;
+      held = rest.held;
+    }
+
+    order : (ps : List PostedSend) → items_from q.requester.oldest q.sends ≡ ps → IsInOrder q (queue_and_marks (without_answers (in_error q)) (failure_marks ps))
+    order [] e = silent-order q s.requester.finished high s.receives s.taken
+    order (p ∷ ps) e = behind p.request (flush-order (without_oldest q) (omega (arith, s.requester.finished))
+        (omega (arith, items-end q.sends q.requester.oldest s.requester.finished high, ap length e)) s.receives s.taken)
 
 pub requester-queue : (q : QueuePair) (r : RequesterNumbers) → IsQueue q → IsRequester q.state q.sends r
     → (is_sending q.state ≡ true → r.cursor ≤ begun_end (with_requester r q)) → IsQueue (with_requester r q)

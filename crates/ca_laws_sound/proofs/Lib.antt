@@ -1,3 +1,4 @@
+pub mod OrderLemmas
 pub mod GoodLemmas
 pub mod NumberingLemmas
 pub mod RequesterLemmas
@@ -11,6 +12,7 @@ pub mod ObjectLemmas
 pub mod VerbLemmas
 pub mod RegionLemmas
 pub mod WorldLemmas
+pub mod TakenLemmas
 pub mod EngineLemmas
 pub mod LocalLemmas
 pub mod EventLemmas

@@ -50,6 +50,7 @@ use Rattle.ca_model.specs.machine.Sound.{AreLimited, AreSettled, IsQueueOf, IsSe
 use Rattle.ca_laws_sound.proofs.EventLemmas.{unchanged}
 use Rattle.ca_laws_sound.proofs.EngineLemmas.{ends-unless, queue-change, turn-change}
 use Rattle.ca_laws_sound.proofs.GoodLemmas.{AreSettledMarks, IsLater, error-later, error-queue, flush-settled, later-on, later-same, settled-later, silent-later, silent-queue, taken-same}
+use Rattle.ca_laws_sound.proofs.OrderLemmas.{silent-order}
 use Rattle.ca_laws_sound.proofs.ObjectLemmas.{depth-parts, drawn-window, emptied-mailbox, named-mailbox, object-added, object-removed, post-receive, retire-receives}
 use Rattle.ca_laws_sound.proofs.SettledLemmas.{AllWait, cq-settled, emptied-settled, emptied-waits, made-settled, puts-settled, queue-settled}
 use Rattle.ca_laws_sound.proofs.VerbLemmas.{IsFlushed, changed-queue, flushed, made-queue, named-peer, posted-receive, posted-send, receive-later, send-later}
@@ -232,6 +233,7 @@ error-change c w q sound there = by (turn-change c w q (queue_and_marks (queue_a
   later = silent-later q (in_error q) (error-later q there.sound);
   settled = settled-later (in_error q) (without_answers (in_error q)) (flush_marks q) (silent-later (in_error q) (in_error q) (later-same (in_error q)))
       (flush-settled q there.sound.requester.finished (omega (arith, there.sound.requester.begun, there.sound.requester.waiting)) there.sound.receives there.sound.taken);
+  order = silent-order q there.sound.requester.finished (omega (arith, there.sound.requester.begun, there.sound.requester.waiting)) there.sound.receives there.sound.taken;
 }) (record {}))
   where
     by : IsGoodChange c w ((Queue_of q.queue := Present (queue_after_change changes.Error q)) ∷ cq_updates q (around_in w q (shared_of w q)) (flush_marks q))

@@ -46,6 +46,7 @@ use Rattle.ca_model.specs.machine.Invariants.{IsAnswer, IsQueue, IsSharedReceive
 use Rattle.ca_laws_sound.proofs.ArrivalLemmas.{answer-queue, flag-queue, responder-later, responder-queue, segments-enough}
 use Rattle.ca_laws_sound.proofs.ExpectedLemmas.{expected-good, responder-good}
 use Rattle.ca_laws_sound.proofs.GoodLemmas.{AreSettledMarks, IsGood, error-later, error-queue, flush-settled, later-on, later-same, settled-later, silent-later, silent-queue}
+use Rattle.ca_laws_sound.proofs.OrderLemmas.{order-as, order-still, silent-order}
 use Rattle.ca_laws_sound.proofs.ResponseLemmas.{IsGoodRow, drop-good, plain-good, response-good}
 use Rattle.ca_laws_sound.proofs.TurnLemmas.{all-fail}
 
@@ -82,6 +83,7 @@ ahead-good q s busy = by q.responder.nak_sent
     by false = responder-good q (with_flag true nak)
         (flag-queue true nak (answer-queue (queued.Nak q.responder.expected (nak_code PsnSequenceError)) q s busy (omega arith)))
         (later-on q nak (with_flag true nak) (responder-later q nak.responder) (responder-later nak (with_flag true nak).responder))
+        (record { sends = refl; receives = refl; oldest = refl; in_use = refl })
 
 again-good : (psn : ℕ) (answer : Queued) (q : QueuePair) → IsQueue q → is_idle q.state ≡ false → IsAnswer q.responder.mtu q.responder.expected answer
     → IsGood q (answer_again psn answer q)
@@ -89,6 +91,7 @@ again-good psn answer q s busy one = responder-good q (with_answer answer before
     (answer-queue answer before (answers-queue (answers_before psn q.responder.answers) before.responder.nak_sent q s busy
     (all-filtered (IsAnswer q.responder.mtu q.responder.expected) (λ a. nat_lt (psn_of_answer a) psn) q.responder.answers s.responder.answers)) busy one)
     (later-on q before (with_answer answer before) (responder-later q before.responder) (responder-later before (with_answer answer before).responder))
+    (record { sends = refl; receives = refl; oldest = refl; in_use = refl })
   where
     before : QueuePair
     before = with_answers_before psn q
@@ -114,7 +117,7 @@ duplicate-good psn p envelope shape q s busy low = at (nat_le MAX_DUPLICATES (du
   where
     acks : (b : Bool) → IsGood q (if b then queue_and_marks (with_answer (queued.Ack (q.responder.expected - 1)) q) [] else drop_effects q drops.Unsaved)
     acks true = responder-good q (with_answer (queued.Ack (q.responder.expected - 1)) q) (answer-queue (queued.Ack (q.responder.expected - 1)) q s busy (omega arith))
-        (responder-later q (with_answer (queued.Ack (q.responder.expected - 1)) q).responder)
+        (responder-later q (with_answer (queued.Ack (q.responder.expected - 1)) q).responder) (record { sends = refl; receives = refl; oldest = refl; in_use = refl })
     acks false = drop-good q drops.Unsaved s
 
     reads : (o : Option Reth) → IsGood q (option_map_or (λ h. read_again psn envelope h q) o (drop_effects q drops.Unsaved))
@@ -216,7 +219,12 @@ front-queue q s busy = answers-queue (drop 1 q.responder.answers) q.responder.na
     (drop-all (IsAnswer q.responder.mtu q.responder.expected) q.responder.answers s.responder.answers)
 
 front-good : (q : QueuePair) (p : Fields) → IsQueue q → is_idle q.state ≡ false → IsGood q (with_packet p (queue_and_marks (without_front q) []))
-front-good q p s busy = record { sound = front-queue q s busy; later = responder-later q (without_front q).responder; settled = record {} }
+front-good q p s busy = record {
+  sound = front-queue q s busy;
+  later = responder-later q (without_front q).responder;
+  settled = record {};
+  order = order-still q (with_packet p (queue_and_marks (without_front q) [])) (record { sends = refl; receives = refl; oldest = refl; in_use = refl }) refl;
+}
 
 -- what is left of a READ after its next response, where that is not the last
 rest-answer : (q : QueuePair) (r : ReadLeft) → nat_le r.left q.responder.mtu ≡ false → r.psn < q.responder.expected
@@ -239,6 +247,8 @@ read-left-good q r s busy low enough = record {
     sound = silent-queue (in_error q) (error-queue q s);
     later = silent-later q (in_error q) (error-later q s);
     settled = (record {}, settled-silent);
+    order = order-as q (queue_and_marks (without_answers (in_error q)) (flush_marks q)) _ (record { sends = refl; receives = refl; oldest = refl; in_use = refl }) refl refl
+        (silent-order q s.requester.finished (omega (arith, s.requester.begun, s.requester.waiting)) s.receives s.taken);
   };
   allowed = λ bytes refusal. answered (flat_map (λ b. b) bytes) (is_last_response q r) refl;
   few = few (r.left == 0);
@@ -263,11 +273,17 @@ read-left-good q r s busy low enough = record {
 
     answered : (bytes : List ℕ) (b : Bool) → is_last_response q r ≡ b → IsGood q (with_packet (packet bytes) (queue_and_marks (next b)
         (remote_mark (response_ask q r) r.envelope (verdicts.Read bytes) ∷ [])))
-    answered bytes true e = record { sound = front-queue q s busy; later = responder-later q (without_front q).responder; settled = (record {}, record {}) }
+    answered bytes true e = record {
+      sound = front-queue q s busy;
+      later = responder-later q (without_front q).responder;
+      settled = (record {}, record {});
+      order = order-still q _ (record { sends = refl; receives = refl; oldest = refl; in_use = refl }) refl;
+    }
     answered bytes false e = record {
       sound = answers-queue (rest_of q r ∷ drop 1 q.responder.answers) q.responder.nak_sent q s busy (rest-answer q r e low enough, rest);
       later = responder-later q (with_front (rest_of q r) q).responder;
       settled = (record {}, record {});
+      order = order-still q _ (record { sends = refl; receives = refl; oldest = refl; in_use = refl }) refl;
     }
 
 pub respond-good : (room : Bool) (q : QueuePair) → IsQueue q → IsGoodRow q (respond_row room q)

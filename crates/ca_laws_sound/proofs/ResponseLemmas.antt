@@ -4,7 +4,7 @@ use Rattle.std.proofs.lemmas.Bool.{and_parts, leb-true, ltb-true}
 use Rattle.std.specs.Option.{option_and_then}
 use Rattle.ca_keys.specs.declared.access.Ask.{Ask}
 use Rattle.ca_keys.specs.declared.access.Kind.TheVariants as kinds
-use Rattle.ca_base.specs.declared.completion.WcStatus.TheVariants.{BadResponse, LocalProtection, RemoteAccess, RemoteInvalidRequest, RemoteOperation, RnrRetryExceeded}
+use Rattle.ca_base.specs.declared.completion.WcStatus.TheVariants.{BadResponse, LocalProtection, RemoteAccess, RemoteInvalidRequest, RemoteOperation, RetryExceeded, RnrRetryExceeded}
 use Rattle.ca_base.specs.declared.limits.TheConstants.{MAX_PIECES, MAX_RETRY}
 use Rattle.ca_base.specs.declared.refusals.OpRefusal.{OpRefusal}
 use Rattle.ca_base.specs.declared.denied_ask.DeniedAsk.{DeniedAsk}
@@ -20,13 +20,15 @@ use Rattle.ca_model.specs.declared.mark.Drop1.{Drop1}
 use Rattle.ca_model.specs.declared.mark.Drop1.TheVariants as drops
 use Rattle.ca_model.specs.declared.mark.Mark.{Mark}
 use Rattle.ca_model.specs.Requests.{list_of}
-use Rattle.ca_model.specs.machine.Acknowledgements.{Acknowledgement, acknowledgement_below, and_then, failure_effects, first_unanswered, one_retry, progress_to, with_requester}
+use Rattle.ca_model.specs.machine.Acknowledgements.{Acknowledgement, acknowledgement_below, and_then, failure_effects, first_unanswered, one_retry, progress_to, with_cursor, with_requester}
 use Rattle.ca_model.specs.machine.Numbering.{Numbered, begun_requests, is_answered_op, psn_end, request_at}
 use Rattle.ca_model.specs.machine.Requester.{local_denial}
 use Rattle.ca_model.specs.machine.Responses.{acknowledge_row, answer_asks, answer_bytes, answer_row, drop_effects, fits_request, fitting_row, is_outstanding_at, local_writes, nak_effects, outstanding_row, response_psn, response_row, rnr_nak_effects, segment_at, unless_back, writes_by}
+use Rattle.ca_model.specs.machine.Places.{completions_in}
 use Rattle.ca_model.specs.machine.Row.{Ending, NotPossible, Does, Effects, Row, plain_row, queue_and_marks}
 use Rattle.ca_model.specs.machine.Invariants.{IsQueue, is_sending}
-use Rattle.ca_laws_sound.proofs.GoodLemmas.{AreSettledMarks, IsGood, IsLater, failure-good, good-then, later-same, requester-queue, settled-append, taken-same}
+use Rattle.ca_laws_sound.proofs.GoodLemmas.{IsGood, IsLater, failure-good, good-then, later-same, requester-queue, settled-append, settled-quiet, taken-same}
+use Rattle.ca_laws_sound.proofs.OrderLemmas.{order-as, order-behind, order-still}
 use Rattle.ca_laws_sound.proofs.NumberingLemmas.{IsShort, found-short, list-asks}
 use Rattle.ca_laws_sound.proofs.RequesterLemmas.{good-from, progress-after, progress-good, retry-good}
 
@@ -45,11 +47,17 @@ pub plain-good : (q : QueuePair) (e : Ending) → IsGoodEnding q e → IsGoodRow
 plain-good q e good = record { denied = λ d. good; allowed = λ bytes refusal. good; few = omega arith }
 
 pub drop-good : (q : QueuePair) (cause : Drop1) → IsQueue q → IsGood q (drop_effects q cause)
-drop-good q cause s = record { sound = s; later = later-same q; settled = (record {}, record {}) }
+drop-good q cause s = record {
+  sound = s;
+  later = later-same q;
+  settled = (record {}, record {});
+  order = order-still q (drop_effects q cause) (record { sends = refl; receives = refl; oldest = refl; in_use = refl }) refl;
+}
 
 -- what stands after all below a PSN was acknowledged
 record IsAcknowledged (psn : ℕ) (q : QueuePair) (a : Acknowledgement) : Type 0 where
   good : IsGood q a.effects
+  takes : a.effects.takes_shared ≡ false
   low : a.went_back ≡ false → a.effects.queue.requester.una ≤ psn
   high : a.went_back ≡ false → psn ≤ a.effects.queue.requester.cursor
   cursor : a.went_back ≡ false → a.effects.queue.requester.cursor ≡ q.requester.cursor
@@ -71,6 +79,17 @@ unanswered-between una psn (n ∷ ns) =
     by true false e rest = rest
     by false z e rest = rest
 
+-- a retry takes no receive
+pub retry-takes : (psn : ℕ) (q : QueuePair) → (one_retry psn q).takes_shared ≡ false
+retry-takes psn q = by (nat_le q.requester.retry q.requester.retries)
+  where
+    counted : QueuePair
+    counted = with_requester (record q.requester { retries = suc q.requester.retries }) q
+
+    by : (b : Bool) → (if b then failure_effects RetryExceeded None counted else queue_and_marks (with_cursor psn counted) []).takes_shared ≡ false
+    by true = refl
+    by false = refl
+
 acknowledged : (psn : ℕ) (q : QueuePair) → IsQueue q → is_sending q.state ≡ true → q.requester.una ≤ psn → psn ≤ q.requester.cursor
     → IsAcknowledged psn q (acknowledgement_below psn q)
 acknowledged psn q s sending low high =
@@ -83,16 +102,18 @@ acknowledged psn q s sending low high =
     by : (back : Option ℕ) → IsBetween q.requester.una psn back → IsAcknowledged psn q (after back)
     by None between = record {
       good = progress-good psn q s high;
+      takes = refl;
       low = λ e. omega (arith, low, (progress-after psn q).una);
       high = λ e. omega (arith, high, (progress-after psn q).cursor);
       cursor = λ e. (progress-after psn q).cursor;
       state = λ e. (progress-after psn q).state;
     }
     by (Some back) between = record {
-      good = good-then q (progress_to back q) (one_retry back) progress
+      good = good-then q (progress_to back q) (one_retry back) refl progress
           (retry-good back (progress_to back q).queue progress.sound (ap is_sending (progress-after back q).state ∙ sending)
           (progress.sound.requester.retries (ap is_sending (progress-after back q).state ∙ sending))
           (omega (arith, between.0, (progress-after back q).una)) (omega (arith, between.1, high, (progress-after back q).cursor)));
+      takes = retry-takes back (progress_to back q).queue;
       low = λ e. absurd (true≢false e);
       high = λ e. absurd (true≢false e);
       cursor = λ e. absurd (true≢false e);
@@ -108,7 +129,7 @@ unless-back-good psn q a f after then_good = by a.went_back refl
   where
     by : (b : Bool) → a.went_back ≡ b → IsGood q (if b then a.effects else and_then a.effects f)
     by true e = after.good
-    by false e = good-then q a.effects f after.good (then_good e)
+    by false e = good-then q a.effects f after.takes after.good (then_good e)
 
 rnr-good : (psn : ℕ) (q : QueuePair) → IsQueue q → q.requester.una ≤ psn → psn ≤ q.requester.cursor → IsGood q (rnr_nak_effects psn q)
 rnr-good psn q s low high = by (nat_lt q.requester.rnr_retry MAX_RETRY && nat_le q.requester.rnr_retry q.requester.rnrs)
@@ -121,12 +142,14 @@ rnr-good psn q s low high = by (nat_lt q.requester.rnr_retry MAX_RETRY && nat_le
 
     by : (b : Bool) → IsGood q (if b then failure_effects RnrRetryExceeded None counted
         else queue_and_marks (with_requester (record counted.requester { cursor = psn; waiting = true }) q) [])
-    by true = good-from q counted (failure_effects RnrRetryExceeded None counted) same
+    by true = good-from q counted (failure_effects RnrRetryExceeded None counted) same (record { sends = refl; receives = refl; oldest = refl; in_use = refl })
         (failure-good RnrRetryExceeded None counted (requester-queue q counted.requester s (search rules) s.begun))
     by false = record {
       sound = requester-queue q (record counted.requester { cursor = psn; waiting = true }) s (search rules) (λ sending. omega (arith, high, s.begun sending));
       later = record { queue = refl; domain = refl; send_cq = refl; recv_cq = refl; srq = refl; finished = omega arith; taken = taken-same q.receives };
       settled = record {};
+      order = order-still q (queue_and_marks (with_requester (record counted.requester { cursor = psn; waiting = true }) q) [])
+          (record { sends = refl; receives = refl; oldest = refl; in_use = refl }) refl;
     }
 
 nak-good : (psn : ℕ) (code : NakCode) (q : QueuePair) → IsQueue q → is_sending q.state ≡ true → q.requester.retries ≤ q.requester.retry → q.requester.una ≤ psn
@@ -156,26 +179,36 @@ acknowledge-good psn (Some (Nak code)) q s sending low high =
     after = acknowledged psn q s sending low (omega (arith, high))
 acknowledge-good psn None q s sending low high = drop-good q drops.Stale s
 
-pub local-writes-settled : (q : QueuePair) (xs : List (Ask × List ℕ)) → AreSettledMarks q (local_writes xs)
-local-writes-settled q [] = record {}
-local-writes-settled q (x ∷ xs) = (record {}, local-writes-settled q xs)
+pub local-writes-quiet : (xs : List (Ask × List ℕ)) → completions_in (local_writes xs) ≡ []
+local-writes-quiet [] = refl
+local-writes-quiet (x ∷ xs) = local-writes-quiet xs
 
 -- marks that tell of no completion, before those of effects
-pub more-marks : (q : QueuePair) (e : Effects) (ms : List Mark) → AreSettledMarks e.queue ms → IsGood q e → IsGood q (record e { marks = ms ++ e.marks })
-more-marks q e ms all good = record { sound = good.sound; later = good.later; settled = settled-append e.queue ms e.marks all good.settled }
+pub more-marks : (q : QueuePair) (e : Effects) (ms : List Mark) → completions_in ms ≡ [] → IsGood q e → IsGood q (record e { marks = ms ++ e.marks })
+more-marks q e ms quiet good = record {
+  sound = good.sound;
+  later = good.later;
+  settled = settled-append e.queue ms e.marks (settled-quiet e.queue ms quiet) good.settled;
+  order = order-behind q e ms quiet good.order;
+}
 
 pub more-writes : (q : QueuePair) (e : Effects) (writes : List (Ask × List ℕ)) → IsGood q e → IsGood q (record e { writes = writes })
-more-writes q e writes good = record { sound = good.sound; later = good.later; settled = good.settled }
+more-writes q e writes good = record {
+  sound = good.sound;
+  later = good.later;
+  settled = good.settled;
+  order = order-as q e (record e { writes = writes }) (record { sends = refl; receives = refl; oldest = refl; in_use = refl }) refl refl good.order;
+}
 
-answer-good : (psn : ℕ) (p : Fields) (q : QueuePair) (before : Effects) (n : Numbered) → IsGood q before → psn < before.queue.requester.cursor
+answer-good : (psn : ℕ) (p : Fields) (q : QueuePair) (before : Effects) (n : Numbered) → before.takes_shared ≡ false → IsGood q before → psn < before.queue.requester.cursor
     → IsShort n → IsGoodRow q (answer_row psn p before n)
-answer-good psn p q before n good high short = record {
-  denied = λ d. good-then q before (denied d) good
-      (more-marks before.queue (failure_effects LocalProtection None before.queue) (local_denial d ∷ []) (record {}, record {})
+answer-good psn p q before n takes good high short = record {
+  denied = λ d. good-then q before (denied d) takes good
+      (more-marks before.queue (failure_effects LocalProtection None before.queue) (local_denial d ∷ []) refl
       (failure-good LocalProtection None before.queue good.sound));
-  allowed = λ bytes refusal. more-writes q (and_then before placed) writes (good-then q before placed good
+  allowed = λ bytes refusal. more-writes q (and_then before placed) writes (good-then q before placed takes good
       (more-marks before.queue (progress_to (suc psn) before.queue) (local_writes writes)
-      (local-writes-settled (progress_to (suc psn) before.queue).queue writes) (progress-good (suc psn) before.queue good.sound high)));
+      (local-writes-quiet writes) (progress-good (suc psn) before.queue good.sound high)));
   few = list-asks before.queue kinds.Write (segment_at psn before.queue n) (length (answer_bytes p)) (list_of n.request.op) short;
 }
   where
@@ -195,14 +228,14 @@ fitting-good psn p q a after high = back a.went_back refl
     bad = plain_row (Does (and_then a.effects (failure_effects BadResponse None)))
 
     is_bad : IsGoodRow q bad
-    is_bad = plain-good q _ (good-then q a.effects (failure_effects BadResponse None) after.good (failure-good BadResponse None a.effects.queue after.good.sound))
+    is_bad = plain-good q _ (good-then q a.effects (failure_effects BadResponse None) after.takes after.good (failure-good BadResponse None a.effects.queue after.good.sound))
 
     at : Option Numbered → Row
     at None = bad
     at (Some n) = if fits_request psn p a.effects.queue n then answer_row psn p a.effects n else bad
 
     fits : (n : Numbered) → IsShort n → a.went_back ≡ false → (b : Bool) → IsGoodRow q (if b then answer_row psn p a.effects n else bad)
-    fits n short e true = answer-good psn p q a.effects n after.good (omega (arith, high, after.cursor e)) short
+    fits n short e true = answer-good psn p q a.effects n after.takes after.good (omega (arith, high, after.cursor e)) short
     fits n short e false = is_bad
 
     by : (n : Option Numbered) → IfSome n IsShort → a.went_back ≡ false → IsGoodRow q (at n)

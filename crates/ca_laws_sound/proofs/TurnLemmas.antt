@@ -29,11 +29,13 @@ use Rattle.ca_model.specs.machine.Acknowledgements.{failure_effects, one_retry, 
 use Rattle.ca_model.specs.machine.LocalOperations.{after_operation, local_marks, operation_effects}
 use Rattle.ca_model.specs.machine.Numbering.{Numbered, begun_requests, has_psn, is_answered_op, is_read, next_to_begin, psn_end, request_at, unfinished_requests}
 use Rattle.ca_model.specs.machine.Requester.{RequestTurn, Waits, Performs, Sends, begins, denied_list_effects, index_of_packet, is_fenced, is_outstanding, is_too_much, local_denial, local_reads, next_request, packet_asks, packet_row, sent_packet, turn_of, turn_refusals}
+use Rattle.ca_model.specs.machine.Places.{IsInOrder, completions_in}
 use Rattle.ca_model.specs.machine.Row.{NotPossible, Does, Row, plain_row, queue_and_marks}
 use Rattle.ca_model.specs.machine.Completions.{bytes_of_success, send_completion, success_marks}
 use Rattle.ca_model.specs.machine.Timers.{after_timeout, after_wake}
 use Rattle.ca_model.specs.machine.Invariants.{IsQueue, IsRequester, begun_end, is_sending}
-use Rattle.ca_laws_sound.proofs.GoodLemmas.{AreSettledMarks, IsGood, IsLater, IsTakenOn, failure-good, items-end, later-same, requester-queue, settled-append, taken-same}
+use Rattle.ca_laws_sound.proofs.GoodLemmas.{AreSettledMarks, IsGood, IsLater, IsTakenOn, failure-good, items-end, later-same, requester-queue, settled-append, settled-quiet, taken-same}
+use Rattle.ca_laws_sound.proofs.OrderLemmas.{order-behind, order-still, quiet-append, taken-still}
 use Rattle.ca_laws_sound.proofs.NumberingLemmas.{IsShort, Numbers, are-numbers, count_sum, length-numbers, list-asks, next-short, take-numbers}
 use Rattle.ca_laws_sound.proofs.RequesterLemmas.{good-from, retry-good}
 use Rattle.ca_laws_sound.proofs.ResponseLemmas.{IsGoodEnding, IsGoodRow, more-marks, plain-good}
@@ -208,17 +210,21 @@ later-sent q p a b c d e finished receives = record {
   taken = subst (λ r. IsTakenOn q.receives r) (sym receives) (taken-same q.receives);
 }
 
-reads-settled : (q : QueuePair) (asks : List Ask) (bytes : List (List ℕ)) → AreSettledMarks q (local_reads asks bytes)
-reads-settled q [] bytes = record {}
-reads-settled q (ask ∷ asks) [] = record {}
-reads-settled q (ask ∷ asks) (b ∷ bytes) = (record {}, reads-settled q asks bytes)
+reads-quiet : (asks : List Ask) (bytes : List (List ℕ)) → completions_in (local_reads asks bytes) ≡ []
+reads-quiet [] bytes = refl
+reads-quiet (ask ∷ asks) [] = refl
+reads-quiet (ask ∷ asks) (b ∷ bytes) = reads-quiet asks bytes
+
+sent-order : (q : QueuePair) (n : Numbered) (bytes : List (List ℕ)) → IsInOrder q (sent_packet q n bytes)
+sent-order q n bytes = order-still q (sent_packet q n bytes) (record { sends = refl; receives = refl; oldest = refl; in_use = refl }) (reads-quiet (packet_asks q n) bytes)
 
 sent-good : (q : QueuePair) (n : Numbered) (bytes : List (List ℕ)) → IsQueue q → is_sending q.state ≡ true → is_local n.request.op ≡ false → IsNext q n
     → IsGood q (sent_packet q n bytes)
 sent-good q n bytes s sending remote (goes_on e f) = record {
   sound = requester-queue q (sent_packet q n bytes).queue.requester s (by (begins q) e (is_read n.request.op)).0 (λ sending. (by (begins q) e (is_read n.request.op)).1);
   later = later-sent q (sent_packet q n bytes).queue refl refl refl refl refl (omega arith) refl;
-  settled = reads-settled (sent_packet q n bytes).queue (packet_asks q n) bytes;
+  settled = settled-quiet (sent_packet q n bytes).queue (local_reads (packet_asks q n) bytes) (reads-quiet (packet_asks q n) bytes);
+  order = sent-order q n bytes;
 }
   where
     numbers : Bool → Bool → RequesterNumbers
@@ -262,7 +268,8 @@ sent-good q n bytes s sending remote (goes_on e f) = record {
 sent-good q n bytes s sending remote (begins_now e f more) = record {
   sound = requester-queue q (sent_packet q n bytes).queue.requester s (by (begins q) e (is_read n.request.op)).0 (λ sending. (by (begins q) e (is_read n.request.op)).1);
   later = later-sent q (sent_packet q n bytes).queue refl refl refl refl refl (omega arith) refl;
-  settled = reads-settled (sent_packet q n bytes).queue (packet_asks q n) bytes;
+  settled = settled-quiet (sent_packet q n bytes).queue (local_reads (packet_asks q n) bytes) (reads-quiet (packet_asks q n) bytes);
+  order = sent-order q n bytes;
 }
   where
     numbers : Bool → Bool → RequesterNumbers
@@ -327,7 +334,7 @@ sending-parts q e = by (all-fail (turn_refusals q) e)
     by fails = (not-false (is_sending q.state) (or_parts (not (is_sending q.state)) (state_eq q.state states.Sqd && begins q) fails.0).0, fails.1.1.1.0)
 
 denied-good : (q : QueuePair) (d : DeniedAsk) → IsQueue q → IsGood q (denied_list_effects q d)
-denied-good q d s = more-marks q (failure_effects LocalProtection None q) (local_denial d ∷ []) (record {}, record {}) (failure-good LocalProtection None q s)
+denied-good q d s = more-marks q (failure_effects LocalProtection None q) (local_denial d ∷ []) refl (failure-good LocalProtection None q s)
 
 pub packet-good : (q : QueuePair) (room : Bool) (n : Numbered) → IsQueue q → turn_of q ≡ Sends n → IsGoodRow q (packet_row q room n)
 packet-good q room n s turn = by (is_too_much q n) (sends-parts (first_of (turn_refusals q)) (next_request q) n turn)
@@ -435,17 +442,17 @@ windows-queue q windows s = record {
 none-begun : (i : ℕ) (ns : List Numbered) → i ≡ 0 → count_sum (take i ns) ≡ 0
 none-begun i ns e = ap (λ i. count_sum (take i ns)) e
 
-local-settled : (q p : QueuePair) (m : LocalMarks) → AreSettledMarks p (local_marks q m)
-local-settled q p m = settled-append p (option_map_or (λ key. marks.Revoked q.queue.adapter key ∷ []) m.revoked []) (option_map_or (λ g. marks.Granted g ∷ []) m.granted [])
+local-quiet : (q : QueuePair) (m : LocalMarks) → completions_in (local_marks q m) ≡ []
+local-quiet q m = quiet-append (option_map_or (λ key. marks.Revoked q.queue.adapter key ∷ []) m.revoked []) (option_map_or (λ g. marks.Granted g ∷ []) m.granted [])
     (revoked m.revoked) (granted m.granted)
   where
-    revoked : (o : Option Key) → AreSettledMarks p (option_map_or (λ key. marks.Revoked q.queue.adapter key ∷ []) o [])
-    revoked None = record {}
-    revoked (Some key) = (record {}, record {})
+    revoked : (o : Option Key) → completions_in (option_map_or (λ key. marks.Revoked q.queue.adapter key ∷ []) o []) ≡ []
+    revoked None = refl
+    revoked (Some key) = refl
 
-    granted : (o : Option Grant) → AreSettledMarks p (option_map_or (λ g. marks.Granted g ∷ []) o [])
-    granted None = record {}
-    granted (Some g) = (record {}, record {})
+    granted : (o : Option Grant) → completions_in (option_map_or (λ g. marks.Granted g ∷ []) o []) ≡ []
+    granted None = refl
+    granted (Some g) = refl
 
 pub operation-good : (q : QueuePair) (n : Numbered) (windows : ℕ) (m : LocalMarks) (refusal : Option OpRefusal) → IsQueue q → turn_of q ≡ Performs n
     → IsGood q (operation_effects q n (record q { windows = windows }) m refusal)
@@ -459,6 +466,22 @@ operation-good q n windows m None s turn = by (is-lone q n s turn)
         → AreSettledMarks after (if b then marks.Done q.queue (send_completion q.queue n.place n.request Success (bytes_of_success n.request.op)) None ∷ [] else [])
     success true place = ((refl, place), record {})
     success false place = record {}
+
+    in-order : (b : Bool) → q.requester.oldest ≤ n.place
+        → IsInOrder q (queue_and_marks after (if b then marks.Done q.queue (send_completion q.queue n.place n.request Success (bytes_of_success n.request.op)) None ∷ [] else []))
+    in-order true place = record {
+      sends = refl;
+      done = (place, omega arith);
+      own = taken-still q.receives q.responder.message q.responder.message
+          (marks.Done q.queue (send_completion q.queue n.place n.request Success (bytes_of_success n.request.op)) None ∷ []) refl refl;
+      held = λ none takes. refl;
+    }
+    in-order false place = record {
+      sends = refl;
+      done = omega (arith, place);
+      own = taken-still q.receives q.responder.message q.responder.message [] refl refl;
+      held = λ none takes. refl;
+    }
 
     by : IsLone q n → IsGood q (queue_and_marks after (local_marks q m ++ success_marks q.queue n.place n.request))
     by lone = record {
@@ -481,16 +504,24 @@ operation-good q n windows m None s turn = by (is-lone q n s turn)
         none-begun (suc n.place - suc n.place) (unfinished_requests after) (omega arith),
       ));
       later = later-sent q after refl refl refl refl refl (omega (arith, lone.place)) refl;
-      settled = settled-append after (local_marks q m) (success_marks q.queue n.place n.request) (local-settled q after m) (success n.request.signalled (omega arith));
+      settled = settled-append after (local_marks q m) (success_marks q.queue n.place n.request) (settled-quiet after (local_marks q m) (local-quiet q m)) (success n.request.signalled (omega arith));
+      order = order-behind q (queue_and_marks after (success_marks q.queue n.place n.request)) (local_marks q m) (local-quiet q m)
+          (in-order n.request.signalled (omega (arith, lone.place)));
     }
 
 -- where a turn performs nothing that this profile has, nothing changes
 pub nothing-good : (q : QueuePair) → IsQueue q → IsGood q (queue_and_marks q [])
-nothing-good q s = record { sound = s; later = later-same q; settled = record {} }
+nothing-good q s = record {
+  sound = s;
+  later = later-same q;
+  settled = record {};
+  order = order-still q (queue_and_marks q []) (record { sends = refl; receives = refl; oldest = refl; in_use = refl }) refl;
+}
 
 pub timeout-good : (q : QueuePair) (silent : Bool) → IsQueue q → is_sending q.state ≡ true → IsGood q (after_timeout silent q)
 timeout-good q silent s sending = good-from q counted (after_timeout silent q) (later-sent q counted refl refl refl refl refl (omega arith) refl)
-    (more-marks counted (one_retry q.requester.una counted) (marks.Timer q.queue silent ∷ []) (record {}, record {})
+    (record { sends = refl; receives = refl; oldest = refl; in_use = refl })
+    (more-marks counted (one_retry q.requester.una counted) (marks.Timer q.queue silent ∷ []) refl
     (retry-good q.requester.una counted (requester-queue q counted.requester s (search rules) s.begun) sending (s.requester.retries sending) (omega arith) s.requester.outstanding))
   where
     counted : QueuePair
@@ -501,4 +532,5 @@ wake-good q s = record {
   sound = requester-queue q (after_wake q).queue.requester s (search rules) s.begun;
   later = later-sent q (after_wake q).queue refl refl refl refl refl (omega arith) refl;
   settled = record {};
+  order = order-still q (after_wake q) (record { sends = refl; receives = refl; oldest = refl; in_use = refl }) refl;
 }

@@ -29,11 +29,14 @@ use Rattle.ca_model.specs.Requests.{psns_of}
 use Rattle.ca_model.specs.machine.CompletionVerbs.{after_poll}
 use Rattle.ca_model.specs.machine.Completions.{flush_marks}
 use Rattle.ca_model.specs.machine.Numbering.{numbers_of}
+use Rattle.ca_model.specs.machine.Places.{IsInOrder}
 use Rattle.ca_model.specs.machine.PostingVerbs.{after_flush, marks_of_flush, with_send}
+use Rattle.ca_model.specs.machine.Row.{queue_and_marks}
 use Rattle.ca_model.specs.machine.Invariants.{IsAnswer, IsQueue, IsReceive, IsReceives, IsRequester, IsResponder, IsSend, IsTaken, IsWorkQueue, NamesPeer, begun_end, is_connected, is_fresh, is_idle, is_sending}
 use Rattle.ca_model.specs.machine.Sound.{AreLimited, IsFinished, IsLimitedAdapter}
 use Rattle.ca_laws_sound.proofs.GoodLemmas.{AreSettledMarks, IsLater, IsTakenOn, error-later, error-queue, finished-later, flush-settled, items-end, later-on, later-same, none-taken, settled-later, silent-queue, taken-same}
 use Rattle.ca_laws_sound.proofs.NumberingLemmas.{count_sum}
+use Rattle.ca_laws_sound.proofs.OrderLemmas.{flush-order, order-as, order-still}
 use Rattle.ca_laws_sound.proofs.SettledLemmas.{all-map}
 
 -- numbers of more requests begin with those of the first
@@ -168,9 +171,15 @@ pub record IsFlushed (q : QueuePair) : Type 0 where
   pub sound : IsQueue (after_flush q)
   pub later : IsLater q (after_flush q)
   pub settled : AreSettledMarks (after_flush q) (marks_of_flush q)
+  pub order : IsInOrder q (queue_and_marks (after_flush q) (marks_of_flush q))
 
 pub flushed : (q : QueuePair) → IsQueue q → IsFlushed q
-flushed q s = record { sound = (by (state_eq q.state states.Error) refl).0; later = (by (state_eq q.state states.Error) refl).1; settled = marks (state_eq q.state states.Error) }
+flushed q s = record {
+  sound = (by (state_eq q.state states.Error) refl).0;
+  later = (by (state_eq q.state states.Error) refl).1;
+  settled = marks (state_eq q.state states.Error);
+  order = order (state_eq q.state states.Error);
+}
   where
     after : Bool → QueuePair
     after b = if b then with_all_flushed q else q
@@ -187,6 +196,12 @@ flushed q s = record { sound = (by (state_eq q.state states.Error) refl).0; late
     marks : (b : Bool) → AreSettledMarks (after b) (if b then flush_marks q else [])
     marks true = flushed-marks
     marks false = record {}
+
+    order : (b : Bool) → IsInOrder q (queue_and_marks (after b) (if b then flush_marks q else []))
+    order true = order-as q (queue_and_marks (in_error q) (flush_marks q)) (queue_and_marks (with_all_flushed q) (flush_marks q))
+        (record { sends = refl; receives = refl; oldest = refl; in_use = refl }) refl refl
+        (flush-order q s.requester.finished (omega (arith, s.requester.begun, s.requester.waiting)) s.receives s.taken)
+    order false = order-still q (queue_and_marks q []) (record { sends = refl; receives = refl; oldest = refl; in_use = refl }) refl
 
 -- a work queue of which the places up to one that was posted are free
 retired-queue : {T : Type 0} (Item : T → Type 0) (place : ℕ) (q : WorkQueue T) → IsWorkQueue T Item q → IsWorkQueue T Item (after_retire place q)
