@@ -70,7 +70,7 @@ ends-reg_mr c w call s at rights sound own = (
         λ within. (
           λ is. unchanged c w sound,
           λ right. quiet-good c w _ sound
-              ((record {}, object-added (w.domain s.domain) (allocated (w.domain s.domain) there)), ((record {}, sound-registration c s at rights _ own within), record {})),
+              ((record {}, object-added (w.domain s.domain) (allocated (w.domain s.domain) there)), ((record {}, sound-registration c s at rights _ own some within), record {})),
         ),
       ),
     ),

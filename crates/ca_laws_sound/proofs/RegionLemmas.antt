@@ -1,8 +1,8 @@
 -- The grants that registrations make: as many places as bytes, in one buffer.
-use Rattle.std.proofs.Common.{◌≡◌, ℕ, ◌+◌, ◌-◌, ◌*◌, ◌%◌, ◌≤◌, min, nat_le, nat_lt, arith, Bool, true, false, List, [], ◌∷◌, length, map, ◌==◌, sym, if◌then◌else◌, refl}
-use Rattle.std.proofs.lemmas.Bool.{eqb-true, leb-true, leb-false, ltb-false, or_parts}
+use Rattle.std.proofs.Common.{◌≡◌, ℕ, ◌+◌, ◌-◌, ◌*◌, ◌%◌, ◌≤◌, ◌<◌, min, nat_le, nat_lt, arith, Bool, true, false, List, [], ◌∷◌, length, map, ◌==◌, sym, if◌then◌else◌, refl}
+use Rattle.std.proofs.lemmas.Bool.{eqb-false, eqb-true, leb-true, leb-false, ltb-false, or_parts}
 use Rattle.std.proofs.lemmas.List.Sums.{sum_by-cons}
-use Rattle.std.specs.List.{list_any}
+use Rattle.std.specs.List.{AllByRecursion, list_any}
 use Rattle.ca_keys.specs.declared.names.Slot.{Slot}
 use Rattle.ca_keys.specs.declared.place.Run.{Run}
 use Rattle.ca_keys.specs.declared.rights.Rights.{Rights}
@@ -69,6 +69,22 @@ pages-enough : (address count : ℕ) (pages : List ℕ) → length pages ≡ pag
     → address % 4096 + count ≤ length pages * 4096
 pages-enough address count pages e = omega (arith, e)
 
+-- each run that is cut from pages has some bytes
+some-cut : (adapter buffer : ℕ) (pages : List ℕ) (skip count : ℕ) → AllByRecursion (λ r. 0 < r.length) (cut skip count (map (page_run adapter buffer) pages))
+some-cut adapter buffer [] skip count = record {}
+some-cut adapter buffer (p ∷ ps) skip count =
+    by (nat_le 4096 skip) refl (count == 0) refl (some-cut adapter buffer ps (skip - 4096) count) (some-cut adapter buffer ps 0 (count - (4096 - skip)))
+  where
+    runs : List Run
+    runs = map (page_run adapter buffer) ps
+
+    by : (b : Bool) → nat_le 4096 skip ≡ b → (z : Bool) → (count == 0) ≡ z
+        → AllByRecursion (λ r. 0 < r.length) (cut (skip - 4096) count runs) → AllByRecursion (λ r. 0 < r.length) (cut 0 (count - (4096 - skip)) runs)
+        → AllByRecursion (λ r. 0 < r.length) (if b then cut (skip - 4096) count runs else if z then [] else run_part (page_run adapter buffer p) skip (min count (4096 - skip)) ∷ cut 0 (count - (4096 - skip)) runs)
+    by true e z f later rest = later
+    by false e true f later rest = record {}
+    by false e false f later rest = (omega (arith, leb-false 4096 skip e, eqb-false count 0 f), rest)
+
 pub sound-fast : (c : Configuration) (s : Slot) (low buffer address count : ℕ) (rights : Rights) (pages : List ℕ)
     → length pages ≡ pages_needed address count
     → list_any (passes_end (bytes_of_buffer c s.domain.adapter buffer)) (page_runs s.domain.adapter buffer address count pages) ≡ false
@@ -80,19 +96,21 @@ sound-fast c s low buffer address count rights pages enough none = record {
   local = refl;
   places = sound-cut (map (page_run s.domain.adapter buffer) pages) (address % 4096) count
       (omega (arith, pages-enough address count pages enough, pages-places s.domain.adapter buffer pages));
+  some = some-cut s.domain.adapter buffer pages (address % 4096) count;
   buffer = buffer;
   inside = lie-cut s.domain.adapter buffer (bytes_of_buffer c s.domain.adapter buffer) pages (address % 4096) count none;
 }
 
-pub sound-registration : (c : Configuration) (s : Slot) (at : Run) (rights : Rights) (low : ℕ) → at.adapter ≡ s.domain.adapter
+pub sound-registration : (c : Configuration) (s : Slot) (at : Run) (rights : Rights) (low : ℕ) → at.adapter ≡ s.domain.adapter → (at.length == 0) ≡ false
     → nat_lt (bytes_of_buffer c s.domain.adapter at.buffer) (at.offset + at.length) ≡ false
     → IsRegionGrant c s low (grant_of_registration s at rights low)
-sound-registration c s at rights low own inside = record {
+sound-registration c s at rights low own some inside = record {
   key = refl;
   domain = refl;
   queue = refl;
   local = refl;
   places = omega arith;
+  some = (omega (arith, eqb-false at.length 0 some), record {});
   buffer = at.buffer;
   inside = ((own, refl, ltb-false (bytes_of_buffer c s.domain.adapter at.buffer) (at.offset + at.length) inside), record {});
 }

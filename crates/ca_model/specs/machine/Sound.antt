@@ -49,13 +49,15 @@ LieIn adapter buffer bytes [] = Unit {0}
 LieIn adapter buffer bytes (r ∷ rs) =
     ((r.adapter ≡ adapter) × (r.buffer ≡ buffer) × (r.offset + r.length ≤ bytes)) × LieIn adapter buffer bytes rs
 
--- the grant of a region in a slot, under a low byte: its key, its domain, as many places as bytes, in one buffer
+-- the grant of a region in a slot, under a low byte: its key, its domain, as many places as bytes, in runs of some bytes
+-- each, in one buffer
 pub record IsRegionGrant (c : Configuration) (s : Slot) (low : ℕ) (g : Grant) : Type 0 where
   pub key : g.key ≡ key_at (region_index s) low
   pub domain : g.domain ≡ s.domain
   pub queue : g.queue ≡ None
   pub local : g.local ≡ true
   pub places : places_count g.runs ≡ g.length
+  pub some : AllByRecursion (λ r. 0 < r.length) g.runs
   pub buffer : ℕ
   pub inside : LieIn s.domain.adapter buffer (bytes_of_buffer c s.domain.adapter buffer) g.runs
 
