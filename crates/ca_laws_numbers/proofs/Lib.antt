@@ -1,3 +1,6 @@
 pub mod NumberLemmas
 pub mod RequesterNumberLemmas
 pub mod ResponderNumberLemmas
+pub mod WorldNumberLemmas
+pub mod VerbNumberLemmas
+pub mod EventNumberLemmas
