@@ -4,3 +4,4 @@ pub mod ResponderNumberLemmas
 pub mod WorldNumberLemmas
 pub mod VerbNumberLemmas
 pub mod EventNumberLemmas
+pub mod LimitLemmas

@@ -1,11 +1,17 @@
 -- Numbers that only events raise: how large they are at most after so many events. Laws cite it.
-use Rattle.std.specs.Prelude.{◌≡◌, ℕ, ◌+◌, ◌*◌, ◌^◌, ◌≤◌, Bool, true, IfSome}
+use Rattle.std.specs.Prelude.{◌≡◌, ℕ, suc, ◌+◌, ◌*◌, ◌^◌, ◌≤◌, ◌<◌, Bool, true, List, [], ◌∷◌, IfSome, is_some}
 use Rattle.std.specs.List.{AllByRecursion}
+use Rattle.ca_base.specs.Configuration.{Configuration}
+use Rattle.ca_base.specs.declared.completion.Completion.{Completion}
 use Rattle.ca_base.specs.objects.Mailbox.{Mailbox}
 use Rattle.ca_base.specs.objects.QueuePair.{QueuePair, QueueSlot, NoQueue, Present}
 use Rattle.ca_base.specs.objects.SharedReceives.{SrqSlot}
 use Rattle.ca_base.specs.objects.WorkQueue.{next_place}
+use Rattle.ca_model.specs.declared.event.Event.{Event}
+use Rattle.ca_model.specs.machine.Frame.{Afterwards}
 use Rattle.ca_model.specs.machine.Invariants.{begun_end, is_fresh}
+use Rattle.ca_model.specs.machine.Sound.{IsSoundWorld}
+use Rattle.ca_model.specs.machine.Step.{step}
 use Rattle.ca_model.specs.machine.World.{World, Name, Domain_of, Region_of, Window_of, Cq_of, Srq_of, Queue_of, Mailbox_of, Byte_at, Thing, get}
 
 -- how large whole PSNs are at most after so many events: a change sets at most 24 bits beside the base, and an event goes
@@ -55,3 +61,14 @@ IsThingWithin events (Byte_at p) v = Unit {0}
 -- a world after so many events
 abbrev pub IsWorldWithin : ℕ → World → Type 0
 IsWorldWithin events w = (x : Name) → IsThingWithin events x (get w x)
+
+-- from a world after so many events on, each world that these events lead to is sound, and within one event more
+abbrev pub AreWorldsWithin : Configuration → ℕ → World → List Event → Type 0
+AreWorldsWithin c n w [] = IsSoundWorld c w × IsWorldWithin n w
+AreWorldsWithin c n w (event ∷ events) =
+    (IsSoundWorld c w × IsWorldWithin n w) × Afterwards (λ v. AreWorldsWithin c (suc n) v events) (step c w event)
+
+-- the place of a completion can be freed: a send's, or that of a receive of the queue pair's own
+abbrev pub CanFree : QueueSlot → Completion → Type 0
+CanFree (NoQueue incarnation timers) x = Unit {0}
+CanFree (Present q) x = (x.receive ≡ true → is_some q.receives ≡ true) → suc x.place < 2 ^ 64
