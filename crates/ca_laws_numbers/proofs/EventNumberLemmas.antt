@@ -1,5 +1,5 @@
 -- Every event raises numbers by one, and whole PSNs by 4096, at most.
-use Rattle.std.proofs.Common.{◌≡◌, ℕ, suc, ◌≤◌, arith, Bool, true, false, List, [], ◌∷◌, if◌then◌else◌, length, refl}
+use Rattle.std.proofs.Common.{ℕ, suc, arith, Bool, true, false, List, [], ◌∷◌, if◌then◌else◌, refl}
 use Rattle.ca_base.specs.Configuration.{Configuration}
 use Rattle.ca_keys.specs.Equal.{domain_eq, queue_eq, slot_eq}
 use Rattle.ca_keys.specs.Memory.{ByteMap, bytes_at}

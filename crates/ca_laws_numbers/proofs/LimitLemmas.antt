@@ -1,5 +1,5 @@
 -- Before 2^32 - 1 events no number that only events raise is near the end of its type.
-use Rattle.std.proofs.Common.{zero, ◌≡◌, ℕ, suc, ◌+◌, ◌-◌, ◌^◌, ◌≤◌, ◌<◌, nat_lt, arith, Bool, true, false, List, [], ◌∷◌, Option, None, Some, IfSome, IsTrue, ◌&&◌, not, ap, sym, subst, true≢false, if◌then◌else◌, is_some, slice_get, refl}
+use Rattle.std.proofs.Common.{zero, ◌≡◌, ℕ, suc, ◌-◌, ◌^◌, ◌≤◌, ◌<◌, nat_lt, arith, Bool, true, false, List, [], ◌∷◌, Option, None, Some, IfSome, IsTrue, ◌&&◌, not, ap, sym, subst, true≢false, if◌then◌else◌, is_some, slice_get, refl}
 use Rattle.std.proofs.lemmas.Bool.{lt-ltb}
 use Rattle.std.specs.List.{AllByRecursion}
 use Rattle.std.specs.Option.{option_and_then, option_map_or}
@@ -7,7 +7,6 @@ use Rattle.ca_base.specs.Configuration.{Configuration}
 use Rattle.ca_base.specs.declared.completion.Completion.{Completion}
 use Rattle.ca_base.specs.declared.mail_envelope.MailEnvelope.{MailEnvelope}
 use Rattle.ca_base.specs.declared.request.RecvRequest.{RecvRequest}
-use Rattle.ca_base.specs.objects.CompletionQueue.{CompletionQueue}
 use Rattle.ca_base.specs.objects.Mailbox.{Mailbox, bytes_lent, envelope_at, is_lost, later_than}
 use Rattle.ca_base.specs.objects.QueuePair.{QueuePair, QueueSlot, NoQueue, Present, incarnation_of}
 use Rattle.ca_base.specs.objects.SharedReceives.{SharedReceives}
@@ -18,11 +17,11 @@ use Rattle.ca_mailbox.specs.Counting.{has_count_left, is_countable}
 use Rattle.ca_model.specs.declared.event.Event.{Event}
 use Rattle.ca_model.specs.machine.CanStep.{AreNarrow, CanStep}
 use Rattle.ca_model.specs.machine.Frame.{Afterwards}
-use Rattle.ca_model.specs.machine.Invariants.{IsReceives}
+use Rattle.ca_model.specs.machine.Invariants.{IsQueue, IsReceives}
 use Rattle.ca_model.specs.machine.Plan.{Outcome, NotReady, Did}
 use Rattle.ca_model.specs.machine.Sound.{AreLimited, CanBeMade, IsFinished, IsQueueOf, IsSettled, IsSoundWorld}
 use Rattle.ca_model.specs.machine.Step.{step}
-use Rattle.ca_model.specs.machine.World.{World, Domain_of, Mailbox_of, Queue_of, Region_of, Srq_of}
+use Rattle.ca_model.specs.machine.World.{World, Queue_of}
 use Rattle.ca_laws_numbers.specs.Raised.{AreNumbersWithin, AreWorldsWithin, CanFree, IsSlotWithin, IsWorldWithin, psn_bound}
 use Rattle.ca_laws_numbers.proofs.EventNumberLemmas.{event-within}
 use Rattle.ca_laws_numbers.proofs.NumberLemmas.{AreReceivesWithin, oldest-within}
@@ -32,9 +31,11 @@ use Rattle.ca_laws_sound.proofs.SoundLemmas.{event-sound}
 -- a world, sound and within so many events, and all that events lead to from there
 pub worlds-within : (c : Configuration) (n : ℕ) (w : World) (events : List Event) → AreLimited c → AllByRecursion CanBeMade events → IsSoundWorld c w → IsWorldWithin n w → AreWorldsWithin c n w events
 worlds-within c n w [] limited made sound within = (sound, within)
-worlds-within c n w (event ∷ events) limited made sound within =
-    ((sound, within), by (step c w event) (event-sound c event w limited sound made.0) (event-within c event n w sound within)
-    (λ v one other. worlds-within c (suc n) v events limited made.1 one other))
+worlds-within c n w (event ∷ events) limited made sound within = (
+  (sound, within),
+  by (step c w event) (event-sound c event w limited sound made.0) (event-within c event n w sound within)
+      (λ v one other. worlds-within c (suc n) v events limited made.1 one other),
+)
   where
     by : (o : Outcome) → Afterwards (IsSoundWorld c) o → Afterwards (IsWorldWithin (suc n)) o
         → ((v : World) → IsSoundWorld c v → IsWorldWithin (suc n) v → AreWorldsWithin c (suc n) v events) → Afterwards (λ v. AreWorldsWithin c (suc n) v events) o
@@ -44,6 +45,10 @@ worlds-within c n w (event ∷ events) limited made sound within =
 -- the numbers of a queue pair that is there
 pub there-within : (n : ℕ) (w : World) (name : QueueId) (q : QueuePair) → IsWorldWithin n w → w.queue name ≡ Present q → AreNumbersWithin (psn_bound n) n q
 there-within n w name q within is = subst (IsSlotWithin n) is (within (Queue_of name))
+
+-- and it can come up
+pub there-sound : (c : Configuration) (w : World) (name : QueueId) (q : QueuePair) → IsSoundWorld c w → w.queue name ≡ Present q → IsQueue q
+there-sound c w name q sound is = (subst (IsQueueOf name) is (sound.things (Queue_of name))).2
 
 pub narrow-queue : (n : ℕ) (w : World) (name : QueueId) (q : QueuePair) → n < 2 ^ 32 - 1 → IsWorldWithin n w → w.queue name ≡ Present q → AreNarrow q
 narrow-queue n w name q few within is = record {
@@ -59,7 +64,11 @@ narrow-queue n w name q few within is = record {
     numbers = there-within n w name q within is
 
 pub can-step : (c : Configuration) (n : ℕ) (w : World) (name : QueueId) (q : QueuePair) → n < 2 ^ 32 - 1 → IsSoundWorld c w → IsWorldWithin n w → w.queue name ≡ Present q → CanStep q
-can-step c n w name q few sound within is = record { queue = (subst (IsQueueOf name) is (sound.things (Queue_of name))).2; narrow = narrow-queue n w name q few within is }
+can-step c n w name q few sound within is = record { queue = there-sound c w name q sound is; narrow = narrow-queue n w name q few within is }
+
+pub taken-places : (n : ℕ) (o : Option (WorkQueue RecvRequest)) → IfSome o IsReceives → AreReceivesWithin n o → IfSome o (λ r. r.next_taken ≤ n)
+taken-places n None good within = record {}
+taken-places n (Some r) good within = omega (arith, good.waiting, within)
 
 pub slot-incarnation : (n : ℕ) (w : World) (name : QueueId) → n < 2 ^ 32 - 1 → IsWorldWithin n w → incarnation_of (w.queue name) < 2 ^ 32 - 1
 slot-incarnation n w name few within = by (w.queue name) (within (Queue_of name))

@@ -1,8 +1,8 @@
 -- What small changes of a queue pair make of the numbers that only events raise.
-use Rattle.std.proofs.Common.{zero, ◌≡◌, ℕ, suc, ◌+◌, ◌-◌, ◌*◌, ◌≤◌, ◌<◌, max, nat_le, nat_lt, arith, Bool, true, false, List, [], ◌∷◌, length, take, drop, Option, None, Some, IfSome, subst, ◌∙◌, ◌&&◌, ◌||◌, ◌==◌, ap, sym, true≢false, if◌then◌else◌, rules, refl}
+use Rattle.std.proofs.Common.{zero, ◌≡◌, ℕ, suc, ◌+◌, ◌-◌, ◌≤◌, arith, Bool, true, false, List, [], ◌∷◌, take, Option, None, Some, IfSome, subst, ◌||◌, ◌==◌, ap, sym, true≢false, refl}
 use Rattle.std.proofs.lemmas.Bool.{eqb-true}
 use Rattle.std.proofs.lemmas.List.Sums.{sum_by-cons}
-use Rattle.std.specs.List.{AllByRecursion, sum_by}
+use Rattle.std.specs.List.{AllByRecursion}
 use Rattle.std.specs.Option.{option_map}
 use Rattle.ca_base.specs.declared.limits.TheConstants.{MAX_MESSAGE_BYTES}
 use Rattle.ca_base.specs.declared.queue_numbers.RequesterNumbers.{RequesterNumbers}
@@ -18,7 +18,7 @@ use Rattle.ca_model.specs.Requests.{list_length, list_of, psns_of, segments}
 use Rattle.ca_model.specs.machine.Acknowledgements.{with_requester}
 use Rattle.ca_model.specs.machine.Arrivals.{with_receive_taken, with_responder}
 use Rattle.ca_model.specs.machine.Invariants.{IsQueue, IsSend, begun_end, is_fresh}
-use Rattle.ca_model.specs.machine.Numbering.{Numbered, begun_requests, numbers_of, unfinished_requests}
+use Rattle.ca_model.specs.machine.Numbering.{Numbered, numbers_of, unfinished_requests}
 use Rattle.ca_laws_numbers.specs.Raised.{AreNumbersWithin}
 use Rattle.ca_laws_sound.proofs.NumberingLemmas.{count_sum}
 use Rattle.ca_laws_sound.proofs.VerbLemmas.{all-dropped}

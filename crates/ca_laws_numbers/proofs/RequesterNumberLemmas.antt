@@ -1,6 +1,6 @@
 -- What the requester's turn, responses, timers and wakes make of the numbers that only events raise.
-use Rattle.std.proofs.Common.{◌≡◌, ℕ, suc, ◌+◌, ◌-◌, ◌≤◌, ◌<◌, max, nat_le, nat_lt, arith, Bool, true, false, List, [], ◌∷◌, length, take, Option, None, Some, IfSome, ◌&&◌, ◌==◌, not, true≢false, if◌then◌else◌, refl}
-use Rattle.std.proofs.lemmas.Bool.{and_parts, leb-true, ltb-true}
+use Rattle.std.proofs.Common.{◌≡◌, ℕ, suc, ◌+◌, ◌-◌, ◌≤◌, ◌<◌, nat_le, nat_lt, arith, Bool, true, false, List, [], ◌∷◌, Option, None, Some, ◌&&◌, ◌==◌, not, true≢false, if◌then◌else◌, refl}
+use Rattle.std.proofs.lemmas.Bool.{and_parts, ltb-true}
 use Rattle.std.specs.Option.{option_and_then}
 use Rattle.ca_base.specs.declared.change.State.TheVariants as states
 use Rattle.ca_base.specs.declared.completion.WcStatus.{WcStatus}
@@ -20,13 +20,13 @@ use Rattle.ca_wire.specs.declared.syndrome.Syndrome.{Syndrome}
 use Rattle.ca_wire.specs.declared.syndrome.Syndrome.TheVariants.{Ack, Nak, RnrNak}
 use Rattle.ca_model.specs.declared.mark.Drop1.TheVariants as drops
 use Rattle.ca_model.specs.machine.Acknowledgements.{Acknowledgement, acknowledgement_below, after_finished, and_then, failure_effects, first_unanswered, one_retry, progress_to, with_cursor, with_requester, with_una}
-use Rattle.ca_model.specs.machine.Invariants.{IsQueue, begun_end, is_fresh, is_sending}
+use Rattle.ca_model.specs.machine.Invariants.{IsQueue, begun_end, is_sending}
 use Rattle.ca_model.specs.machine.LocalOperations.{after_operation, operation_effects}
-use Rattle.ca_model.specs.machine.Numbering.{Numbered, begun_requests, request_at, unfinished_requests}
+use Rattle.ca_model.specs.machine.Numbering.{Numbered, begun_requests, request_at}
 use Rattle.ca_base.specs.objects.LocalRequest.{LocalMarks}
 use Rattle.ca_model.specs.machine.Requester.{begins, denied_list_effects, is_outstanding, is_too_much, packet_asks, packet_row, sent_packet}
 use Rattle.ca_model.specs.machine.Responses.{acknowledge_row, answer_row, drop_effects, fits_request, fitting_row, is_outstanding_at, nak_effects, outstanding_row, response_psn, response_row, rnr_nak_effects, unless_back}
-use Rattle.ca_model.specs.machine.Row.{Effects, Ending, NotPossible, Does, Row, plain_row, queue_and_marks}
+use Rattle.ca_model.specs.machine.Row.{Effects, NotPossible, Does, Row, plain_row, queue_and_marks}
 use Rattle.ca_model.specs.machine.Timers.{after_timeout}
 use Rattle.ca_laws_numbers.specs.Raised.{AreNumbersWithin}
 use Rattle.ca_laws_numbers.proofs.NumberLemmas.{begun-more, error-within, none-end, oldest-within, raised, requester-within, responder-within}

@@ -5,7 +5,6 @@ use Rattle.ca_base.specs.Sight.{Invalidation}
 use Rattle.ca_base.specs.declared.completion.WcOp.TheVariants as operations
 use Rattle.ca_base.specs.declared.completion.WcStatus.{WcStatus}
 use Rattle.ca_base.specs.declared.completion.WcStatus.TheVariants.{LocalLength, LocalProtection, MemoryManagement, Success}
-use Rattle.ca_base.specs.declared.denied_ask.DeniedAsk.{DeniedAsk}
 use Rattle.ca_base.specs.declared.limits.TheConstants.{MAX_DUPLICATES, MAX_MESSAGE_BYTES}
 use Rattle.ca_base.specs.declared.queue_numbers.Message.{Message}
 use Rattle.ca_base.specs.declared.queue_numbers.Message.TheVariants as messages
@@ -45,11 +44,11 @@ use Rattle.ca_model.specs.declared.mark.Drop1.TheVariants as drops
 use Rattle.ca_model.specs.declared.read_left.ReadLeft.{ReadLeft}
 use Rattle.ca_model.specs.declared.receiving.Receiving.{Receiving}
 use Rattle.ca_model.specs.declared.write_reach.WriteReach.{WriteReach}
-use Rattle.ca_model.specs.machine.Arrivals.{next_receive, refusal_effects, with_answer, with_flag, with_message, with_receive_taken, with_responder}
+use Rattle.ca_model.specs.machine.Arrivals.{next_receive, refusal_effects, with_answer, with_flag, with_message, with_receive_taken}
 use Rattle.ca_model.specs.machine.Completions.{receive_mark}
 use Rattle.ca_model.specs.machine.Delivery.{arrival_drops, arrival_row, packet_arrived}
 use Rattle.ca_model.specs.machine.Duplicates.{ack_again, ahead_effects, answer_again, atomic_again, duplicate_effects, read_again, request_row, with_answers_before}
-use Rattle.ca_model.specs.machine.Expected.{after_send_packet, after_write_packet, atomic_row, behind_marks, expected_row, invalidation_of, is_invalid, message_left, queue_after_packet, read_queued, receive_asks, receive_failure_effects, receiving_of, revoked_marks, rnr_effects, send_row, takes_receive, valid_row, with_shared_receive, with_window_gone, write_reach, write_row}
+use Rattle.ca_model.specs.machine.Expected.{after_send_packet, atomic_row, behind_marks, expected_row, invalidation_of, is_invalid, message_left, queue_after_packet, read_queued, receive_asks, receive_failure_effects, receiving_of, revoked_marks, rnr_effects, send_row, takes_receive, valid_row, with_shared_receive, with_window_gone, write_reach, write_row}
 use Rattle.ca_model.specs.machine.Invariants.{IsQueue}
 use Rattle.ca_model.specs.machine.LocalOperations.{invalidate_row, operation_effects}
 use Rattle.ca_model.specs.machine.Numbering.{Numbered}
@@ -58,11 +57,11 @@ use Rattle.ca_model.specs.machine.Respond.{answer_turn, is_last_response, respon
 use Rattle.ca_model.specs.machine.Responses.{drop_effects, local_writes, response_row, writes_by}
 use Rattle.ca_model.specs.machine.Row.{Effects, NotPossible, Does, Row, plain_row, queue_and_marks}
 use Rattle.ca_laws_numbers.specs.Raised.{AreNumbersWithin}
-use Rattle.ca_laws_numbers.proofs.NumberLemmas.{error-within, raised, responder-within, segments-few, taken-within, windows-within}
+use Rattle.ca_laws_numbers.proofs.NumberLemmas.{error-within, responder-within, segments-few, taken-within, windows-within}
 use Rattle.ca_laws_numbers.proofs.RequesterNumberLemmas.{IsRaised, failure-within, more-within, operation-raised, plain-raised, response-raised}
 use Rattle.ca_laws_sound.proofs.ArrivalLemmas.{flag-queue}
 use Rattle.ca_laws_sound.proofs.ExpectedLemmas.{valid-length}
-use Rattle.ca_laws_sound.proofs.WorldLemmas.{EndingDoes, RowDoes}
+use Rattle.ca_laws_sound.proofs.WorldLemmas.{RowDoes}
 
 -- one more answer, another flag, another message: the expected PSN stays
 pub answer-within : (b n : ℕ) (answer : Queued) (q : QueuePair) → AreNumbersWithin b n q → AreNumbersWithin b n (with_answer answer q)

@@ -1,27 +1,25 @@
 -- The verbs raise numbers by one at most, and what a change sets lies below the bound.
-use Rattle.std.proofs.Common.{◌≡◌, ℕ, suc, ◌+◌, ◌-◌, ◌*◌, ◌^◌, ◌≤◌, ◌<◌, max, nat_le, nat_lt, arith, Bool, true, false, List, [], ◌∷◌, ◌++◌, length, take, Option, None, Some, IfSome, ◌∙◌, ◌&&◌, ◌||◌, ◌==◌, not, ap, sym, subst, true≢false, if◌then◌else◌, is_none, refl}
+use Rattle.std.proofs.Common.{◌≡◌, ℕ, suc, ◌+◌, ◌-◌, ◌^◌, ◌≤◌, ◌<◌, nat_le, nat_lt, arith, Bool, true, false, List, [], ◌∷◌, ◌++◌, take, Option, None, Some, IfSome, ◌∙◌, ◌&&◌, ◌==◌, not, ap, sym, subst, true≢false, if◌then◌else◌, is_none, refl}
 use Rattle.std.proofs.lemmas.Bool.{leb-false, not-false}
 use Rattle.std.proofs.lemmas.List.{length-append}
 use Rattle.std.specs.List.{AllByRecursion}
-use Rattle.std.specs.Option.{option_and_then, option_eq, option_map, option_map_or}
+use Rattle.std.specs.Option.{option_and_then, option_eq, option_map}
 use Rattle.ca_base.specs.Configuration.{Configuration}
 use Rattle.ca_base.specs.declared.change.Change as state_change
 use Rattle.ca_base.specs.declared.change.Change.TheVariants as changes
 use Rattle.ca_base.specs.declared.change.Field.TheVariants as fields
-use Rattle.ca_base.specs.declared.change.ModifyRefusal.{ModifyRefusal}
 use Rattle.ca_base.specs.declared.change.State.{State}
 use Rattle.ca_base.specs.declared.change.State.TheVariants as states
 use Rattle.ca_base.specs.declared.completion.Completion.{Completion}
 use Rattle.ca_base.specs.declared.limits.TheConstants.{MAX_MESSAGE_BYTES}
-use Rattle.ca_base.specs.declared.request.PostedSend.{PostedSend}
 use Rattle.ca_base.specs.declared.request.RecvRequest.{RecvRequest}
 use Rattle.ca_base.specs.declared.request.SendOp.{SendOp}
 use Rattle.ca_base.specs.declared.request.SendOp.TheVariants as ops
 use Rattle.ca_base.specs.declared.request.SendRequest.{SendRequest}
-use Rattle.ca_base.specs.objects.CompletionQueue.{CompletionQueue, after_polls, after_puts, after_reserve}
+use Rattle.ca_base.specs.objects.CompletionQueue.{CompletionQueue, after_reserve}
 use Rattle.ca_base.specs.objects.Domain.{Domain, with_object, without_object}
 use Rattle.ca_base.specs.objects.Mailbox.{with_peer}
-use Rattle.ca_base.specs.objects.QueuePair.{QueuePair, QueueSlot, NoQueue, Present, after_reset, in_error, incarnation_of, timers_of, recv_cq_of, send_cq_of, srq_of, with_all_flushed}
+use Rattle.ca_base.specs.objects.QueuePair.{QueuePair, QueueSlot, NoQueue, Present, after_reset, in_error, incarnation_of, timers_of, recv_cq_of, send_cq_of, with_all_flushed}
 use Rattle.ca_base.specs.objects.Region.{with_window_unbound}
 use Rattle.ca_base.specs.objects.SharedReceives.{SharedReceives, SrqSlot, after_receive_post, after_receive_retire, after_receives_retire, is_full_of_receives}
 use Rattle.ca_base.specs.objects.StateTable.{is_among, modify_refusals, queue_after_change, state_eq}
@@ -37,13 +35,13 @@ use Rattle.ca_model.specs.declared.answer.Answer.TheVariants as answers
 use Rattle.ca_model.specs.declared.answer.Refusal.TheVariants.{CqTooSmall, NoSuch, OutOfRange, QueueFull, TooLong, WindowsBound}
 use Rattle.ca_model.specs.declared.mark.Mark.{Mark}
 use Rattle.ca_model.specs.declared.mark.Mark.TheVariants as marks
-use Rattle.ca_model.specs.machine.Around.{Around, completions_to, cq_updates, srq_updates}
+use Rattle.ca_model.specs.machine.Around.{Around, cq_updates}
 use Rattle.ca_model.specs.machine.CompletionVerbs.{Poll_of, With_places, after_poll, poll_plan, receives_after_poll, slot_after_poll, source_of_completion}
 use Rattle.ca_model.specs.machine.Completions.{flush_marks}
-use Rattle.ca_model.specs.machine.Invariants.{IsQueue, IsReceives, begun_end, is_fresh}
+use Rattle.ca_model.specs.machine.Invariants.{IsQueue, IsReceives, is_fresh}
 use Rattle.ca_model.specs.machine.Numbering.{numbers_of}
 use Rattle.ca_model.specs.machine.Plan.{Plan, If, Look, Update, ◌:=◌}
-use Rattle.ca_model.specs.machine.PostingVerbs.{Posted_send, after_flush, marks_of_flush, post_recv_plan, post_send_plan, post_srq_plan, with_send}
+use Rattle.ca_model.specs.machine.PostingVerbs.{Posted_send, after_flush, post_recv_plan, post_send_plan, post_srq_plan, with_send}
 use Rattle.ca_model.specs.machine.QueuePairVerbs
 use Rattle.ca_model.specs.machine.QueuePairVerbs.{Creation, With_present, With_shared, before_receives, beside, create_qp_plan, destroy_qp_plan, emptied_updates, has_bad_depth, has_no_room, left_updates, modify_qp_plan, new_queue, places_held, receive_reserve, receive_room, send_reserved, user_updates}
 use Rattle.ca_model.specs.machine.Row.{region_under}
@@ -51,15 +49,15 @@ use Rattle.ca_model.specs.machine.Sound.{IsFinished, IsQueueOf, IsSettled, IsSou
 use Rattle.ca_model.specs.machine.VerbAnswers.{Answer_plan, Call, Refuse_plan, Unless_plan, of_change_refusals}
 use Rattle.ca_model.specs.machine.WindowVerbs.{With_binder, dealloc_mw_plan, queue_updates}
 use Rattle.ca_model.specs.machine.World.{World, Domain_of, Region_of, Window_of, Cq_of, Srq_of, Queue_of, Mailbox_of}
-use Rattle.ca_laws_numbers.specs.Raised.{AreNumbersWithin, IsSharedWithin, IsSlotWithin, IsThingWithin, IsWorldWithin, psn_bound}
+use Rattle.ca_laws_numbers.specs.Raised.{AreNumbersWithin, IsSlotWithin, IsThingWithin, IsWorldWithin, psn_bound}
 use Rattle.ca_laws_numbers.proofs.NumberLemmas.{AreReceivesWithin, error-within, flushed-within, none-end, oldest-within, raised, receives-within, responder-within, windows-within}
-use Rattle.ca_laws_numbers.proofs.WorldNumberLemmas.{AllWithin, IsShareWithin, mailbox-later, queue-numbers, raised-numbers, share-within, shared-later, slot-later, srq-within, within-append}
+use Rattle.ca_laws_numbers.proofs.WorldNumberLemmas.{AllWithin, IsShareWithin, mailbox-later, queue-numbers, share-within, shared-later, slot-later, srq-within}
 use Rattle.ca_laws_sound.proofs.EngineLemmas.{ends-unless}
 use Rattle.ca_laws_sound.proofs.GoodLemmas.{finished-later}
 use Rattle.ca_laws_sound.proofs.NumberingLemmas.{count_sum}
 use Rattle.ca_laws_sound.proofs.PollLemmas.{all-finished, all-taken}
 use Rattle.ca_laws_sound.proofs.QueueVerbLemmas.{change-fails}
-use Rattle.ca_laws_sound.proofs.SettledLemmas.{all-map, queue-path}
+use Rattle.ca_laws_sound.proofs.SettledLemmas.{all-map}
 use Rattle.ca_laws_sound.proofs.VerbLemmas.{IsPolled, polled, posted-end, retired-items, retired-next}
 use Rattle.ca_laws_sound.proofs.WorldLemmas.{EndsIn, IsThere, around_in, ends-around, is-there, shared_of}
 

@@ -1,7 +1,6 @@
 -- How plans end in a world after so many events: the turns of an engine, and a packet that arrives.
-use Rattle.std.proofs.Common.{◌≡◌, ℕ, suc, ◌+◌, ◌-◌, ◌*◌, ◌^◌, ◌≤◌, zero, arith, Bool, true, false, List, [], ◌∷◌, ◌++◌, Option, None, Some, IfSome, take, ◌&&◌, ◌==◌, if◌then◌else◌, subst, sym, is_none, refl, rules}
+use Rattle.std.proofs.Common.{◌≡◌, ℕ, suc, ◌+◌, ◌-◌, ◌≤◌, arith, Bool, true, false, List, [], ◌∷◌, ◌++◌, Option, None, Some, IfSome, ◌&&◌, ◌==◌, if◌then◌else◌, subst, refl, rules}
 use Rattle.std.proofs.lemmas.List.{append-nil}
-use Rattle.std.proofs.lemmas.Bool.{not-false, or_parts}
 use Rattle.std.specs.List.{AllByRecursion}
 use Rattle.std.specs.Option.{option_map, option_map_or}
 use Rattle.ca_base.specs.Configuration.{Configuration}
@@ -14,19 +13,16 @@ use Rattle.ca_base.specs.declared.mail_envelope.MailEnvelope.{MailEnvelope}
 use Rattle.ca_base.specs.declared.refusals.OpRefusal.{OpRefusal}
 use Rattle.ca_base.specs.declared.request.SendOp.{SendOp}
 use Rattle.ca_base.specs.declared.request.SendOp.TheVariants as ops
-use Rattle.ca_base.specs.declared.step.Reason.{Reason}
 use Rattle.ca_base.specs.declared.step.Reason.TheVariants as reasons
 use Rattle.ca_base.specs.declared.step.Sent.{Sent}
 use Rattle.ca_base.specs.declared.step.Sent.TheVariants.{Silent, Spelt}
-use Rattle.ca_base.specs.objects.LocalRequest.{LocalMarks, window_refusal}
+use Rattle.ca_base.specs.objects.LocalRequest.{window_refusal}
 use Rattle.ca_base.specs.objects.Mailbox.{Mailbox, after_delivery, after_send, bytes_lent, later_than, with_delivery}
 use Rattle.ca_base.specs.objects.QueuePair.{QueuePair, QueueSlot, NoQueue, Present, srq_of}
 use Rattle.ca_base.specs.objects.Region.{Region, with_window_bound, with_window_unbound}
 use Rattle.ca_base.specs.objects.SharedReceives.{SharedReceives, SrqSlot, after_receive_take}
-use Rattle.ca_base.specs.objects.Slices.{names_region, slot_of_key}
-use Rattle.ca_base.specs.objects.StateTable.{state_eq}
+use Rattle.ca_base.specs.objects.Slices.{slot_of_key}
 use Rattle.ca_base.specs.objects.Window.{Binding, Window, without_binding}
-use Rattle.ca_base.specs.declared.change.State.TheVariants as states
 use Rattle.ca_keys.specs.Equal.{slot_eq}
 use Rattle.ca_keys.specs.Refusals.{first_of}
 use Rattle.ca_keys.specs.declared.grant.Grant.{Grant}
@@ -35,7 +31,6 @@ use Rattle.ca_keys.specs.declared.names.DomainId.{DomainId}
 use Rattle.ca_keys.specs.declared.names.QueueId.{QueueId}
 use Rattle.ca_keys.specs.declared.names.Slot.{Slot}
 use Rattle.ca_keys.specs.declared.rights.Rights.{Rights}
-use Rattle.ca_model.specs.Requests.{is_local}
 use Rattle.ca_model.specs.declared.answer.Answer.TheVariants as answers
 use Rattle.ca_model.specs.declared.answer.Refusal.TheVariants.{NoSuch}
 use Rattle.ca_model.specs.declared.mark.Mark.{Mark}
@@ -47,7 +42,7 @@ use Rattle.ca_model.specs.machine.Invariants.{IsQueue, is_sending}
 use Rattle.ca_model.specs.machine.LocalOperations.{Bind1_plan, Bind2_plan, Fast_plan, Finishing, Perform_op, PlacedRegion, With_former, With_named, bind1_changes, bind1_marks, bind1_refusal, bind2_changes, bind2_marks, bind2_refusal, drawn_by, fast_changes, fast_marks, fast_refusal, former_updates, invalidate_row, named_updates, operation_effects, region_slot, window_slot}
 use Rattle.ca_model.specs.machine.Numbering.{Numbered}
 use Rattle.ca_model.specs.machine.Plan.{Plan, Stuck, Look, Finish, Update, ◌:=◌, Write, unless_refused}
-use Rattle.ca_model.specs.machine.Requester.{RequestTurn, Waits, Performs, Sends, begins, next_request, packet_row, turn_of, turn_refusals}
+use Rattle.ca_model.specs.machine.Requester.{RequestTurn, Waits, Performs, Sends, next_request, packet_row, turn_of, turn_refusals}
 use Rattle.ca_model.specs.machine.Respond.{respond_row}
 use Rattle.ca_model.specs.machine.Row.{Effects, Ending, NotPossible, Does, End_plan, Row, Row_plan, With_bytes, With_invalidation, first_denied_by, queue_and_marks, region_under, unless_none}
 use Rattle.ca_model.specs.machine.Sound.{IsQueueOf, IsSoundWorld}
@@ -298,8 +293,10 @@ within-bind1 c n w P q m window key address count rights finish within numbers m
     former-within n w P x (λ former. ending named former) within (λ former fewer.
     more (effects named) (unless_none (refusal named) (changed named former)) []
     (operation-raised (psn_bound n) n q m q.windows (bind1_marks q m window named address count rights x) (refusal named) numbers (omega (arith, numbers.windows)))
-    (unless-within (suc n) (refusal named) (changed named former) (record {},
-    within-append (suc n) (former_updates former) (regions named former (count == 0)) (former-updates-within n former fewer) (regions-within named former few (count == 0))))))
+    (unless-within (suc n) (refusal named) (changed named former) (
+      record {},
+      within-append (suc n) (former_updates former) (regions named former (count == 0)) (former-updates-within n former fewer) (regions-within named former few (count == 0)),
+    ))))
   where
     slot : Slot
     slot = window_slot q window

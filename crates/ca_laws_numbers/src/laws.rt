@@ -1,4 +1,4 @@
-ghost use Rattle.std.specs.Prelude.{◌≡◌, ℕ, suc, ◌-◌, ◌^◌, ◌<◌, List, Some, IfSome, IsTrue};
+ghost use Rattle.std.specs.Prelude.{◌≡◌, ℕ, suc, ◌-◌, ◌^◌, ◌≤◌, ◌<◌, List, Some, IfSome, IsTrue};
 ghost use Rattle.std.specs.List.{AllByRecursion};
 ghost use Rattle.ca_base.specs.Configuration.{Configuration};
 ghost use Rattle.ca_base.specs.objects.Mailbox.{bytes_lent};
@@ -9,7 +9,7 @@ ghost use Rattle.ca_keys.specs.declared.names.DomainId.{DomainId};
 ghost use Rattle.ca_keys.specs.declared.names.QueueId.{QueueId};
 ghost use Rattle.ca_keys.specs.declared.names.Slot.{Slot};
 ghost use Rattle.ca_mailbox.specs.Counting.{is_countable};
-ghost use Rattle.ca_laws_numbers.specs.Raised.{AreWorldsWithin, CanFree, IsWorldWithin};
+ghost use Rattle.ca_laws_numbers.specs.Raised.{AreWorldsWithin, CanFree, IsWorldWithin, psn_bound};
 ghost use Rattle.ca_model.specs.declared.event.Event.{Event};
 ghost use Rattle.ca_model.specs.machine.CanStep.{AreNarrow, CanStep};
 ghost use Rattle.ca_model.specs.machine.Frame.{Afterwards};
@@ -33,6 +33,20 @@ pub fn event_raises_numbers_little()
 pub fn worlds_after_events_are_within()
     ensures { (c : Configuration) (byte : ByteMap) (events : List Event) → AreLimited c
         → AllByRecursion CanBeMade events → AreWorldsWithin c 0 (opening_world byte) events }
+{}
+
+/// What of a queue pair follows from the order of its posting places: after so many events, the oldest unfinished request,
+/// the next one to begin and the next receive to be taken stand at most at this place, and the oldest PSN is within the
+/// bound of PSNs.
+pub fn places_in_use_are_within()
+    ensures oldest { (c : Configuration) (n : ℕ) (w : World) (name : QueueId) (q : QueuePair) → IsSoundWorld c w
+        → IsWorldWithin n w → w.queue name ≡ Present q → q.requester.oldest ≤ n }
+    ensures next { (c : Configuration) (n : ℕ) (w : World) (name : QueueId) (q : QueuePair) → IsSoundWorld c w
+        → IsWorldWithin n w → w.queue name ≡ Present q → q.requester.next ≤ n }
+    ensures taken { (c : Configuration) (n : ℕ) (w : World) (name : QueueId) (q : QueuePair) → IsSoundWorld c w
+        → IsWorldWithin n w → w.queue name ≡ Present q → IfSome q.receives (λ r. r.next_taken ≤ n) }
+    ensures oldest_psn { (n : ℕ) (w : World) (name : QueueId) (q : QueuePair) → IsWorldWithin n w
+        → w.queue name ≡ Present q → q.requester.oldest_psn ≤ psn_bound n }
 {}
 
 /// Before 2^32 - 1 events, an engine may take a step with every queue pair that is there: its numbers are narrow.

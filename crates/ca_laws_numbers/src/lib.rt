@@ -12,6 +12,7 @@ mod laws;
 
 pub use laws::{
     bound_windows_can_rise, completed_places_can_be_freed, event_raises_numbers_little,
-    incarnation_can_rise, mailbox_can_count, opening_world_has_no_numbers, posting_places_can_rise,
-    queue_pair_can_step, users_can_rise, worlds_after_events_are_within,
+    incarnation_can_rise, mailbox_can_count, opening_world_has_no_numbers,
+    places_in_use_are_within, posting_places_can_rise, queue_pair_can_step, users_can_rise,
+    worlds_after_events_are_within,
 };
