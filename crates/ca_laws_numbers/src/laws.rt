@@ -17,27 +17,27 @@ ghost use Rattle.ca_model.specs.machine.Sound.{AreLimited, CanBeMade, IsSoundWor
 ghost use Rattle.ca_model.specs.machine.Step.{step};
 ghost use Rattle.ca_model.specs.machine.World.{World, opening_world};
 
-/// In the world before the first event the numbers that only events raise are within none.
+/// In the world before the first event, the numbers that only events raise are within 0 events.
 pub fn opening_world_has_no_numbers()
     ensures { (byte : ByteMap) → IsWorldWithin 0 (opening_world byte) }
 {}
 
-/// Every event leaves a sound world, whose numbers are within so many events, within one event more: counts, incarnations,
-/// posting places and indices rise by one at most, and whole PSNs by 4096.
+/// Every event leaves a sound world, whose numbers are within so many events, within one event more: counts,
+/// incarnations, posting places and indices rise by one at most, and whole PSNs by 4096.
 pub fn event_raises_numbers_little()
     ensures { (c : Configuration) (event : Event) (n : ℕ) (w : World) → IsSoundWorld c w → IsWorldWithin n w
         → Afterwards (IsWorldWithin (suc n)) (step c w event) }
 {}
 
-/// Each world that events which can be made lead to from an opening is sound, and its numbers are within as many events.
+/// Each world to which events that can be made lead from an opening is sound, and its numbers are within as many
+/// events.
 pub fn worlds_after_events_are_within()
     ensures { (c : Configuration) (byte : ByteMap) (events : List Event) → AreLimited c
         → AllByRecursion CanBeMade events → AreWorldsWithin c 0 (opening_world byte) events }
 {}
 
-/// What of a queue pair follows from the order of its posting places: after so many events, the oldest unfinished request,
-/// the next one to begin and the next receive to be taken stand at most at this place, and the oldest PSN is within the
-/// bound of PSNs.
+/// After so many events, a queue pair's oldest unfinished request, the next one to begin and the next receive to be
+/// taken stand at this place at most, and its oldest PSN is within the bound of PSNs.
 pub fn places_in_use_are_within()
     ensures oldest { (c : Configuration) (n : ℕ) (w : World) (name : QueueId) (q : QueuePair) → IsSoundWorld c w
         → IsWorldWithin n w → w.queue name ≡ Present q → q.requester.oldest ≤ n }
@@ -91,7 +91,8 @@ pub fn completed_places_can_be_freed()
         → IfSome (w.cq s) (λ v. AllByRecursion (λ x. CanFree (w.queue x.queue) x) v.waiting) }
 {}
 
-/// Before 2^32 - 1 events, a domain counts fewer objects than its type holds, and a shared receive queue fewer queue pairs.
+/// Before 2^32 - 1 events, a domain counts fewer objects than its type holds, and a shared receive queue fewer queue
+/// pairs.
 pub fn users_can_rise()
     ensures objects { (n : ℕ) (w : World) (d : DomainId) → n < 2 ^ 32 - 1 → IsWorldWithin n w
         → (w.domain d).objects < u32.MAX }

@@ -1,9 +1,9 @@
 //! Numbers that only events raise are small: how large each is at most after so many events.
 //!
-//! To the layers above it promises, as clauses of functions that do nothing, that in the world before the first event these
-//! numbers are 0, but for whole PSNs, which are at their base; that every event raises each by one, and whole PSNs by 4096,
-//! at most; and that so, before 2^32 - 1 events, each number that a call asks to be below the end of its type is. They hold
-//! of the machine's definitions, and no code is in them.
+//! To the layers above it promises, as clauses of functions that do nothing, that in the world before the first event
+//! these numbers are 0; that every event raises each by one at most, and whole PSNs, which begin below 2^25, by 4096;
+//! and that so, before 2^32 - 1 events, each of them that a call asks to be below the end of its type is. They hold of
+//! the machine's definitions, and no code is in them.
 //!
 //! Source: this profile's choice; the bounds are what the calls of an implementation ask for.
 #![tactic(auto)]
