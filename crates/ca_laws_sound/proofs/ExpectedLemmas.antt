@@ -301,7 +301,7 @@ atomic-good q p envelope kind a s busy = record {
     }
 
 -- what a packet that is not invalid keeps to: its RETH tells of no more bytes than a message may have
-valid-length : (q : QueuePair) (p : Fields) (shape : Shape) → is_invalid q p shape ≡ false → IfSome p.reth (λ h. h.length ≤ MAX_MESSAGE_BYTES)
+pub valid-length : (q : QueuePair) (p : Fields) (shape : Shape) → is_invalid q p shape ≡ false → IfSome p.reth (λ h. h.length ≤ MAX_MESSAGE_BYTES)
 valid-length q p shape e = by p.reth (or_parts front (option_map_or (λ h. nat_lt MAX_MESSAGE_BYTES h.length) p.reth false)
     (or_parts (front || option_map_or (λ h. nat_lt MAX_MESSAGE_BYTES h.length) p.reth false) (is_misaligned p)
     (or_parts (front || option_map_or (λ h. nat_lt MAX_MESSAGE_BYTES h.length) p.reth false || is_misaligned p) (has_no_place q shape) e).0).0).1

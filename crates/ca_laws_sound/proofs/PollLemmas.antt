@@ -69,7 +69,7 @@ freed-settled c w v (x ∷ xs) all on settled = by x.name x.thing all.0 (λ u go
     by (Mailbox_of q) t freed rest = rest (put v (Mailbox_of q) t) on settled
     by (Byte_at p) t freed rest = rest (put v (Byte_at p) t) on settled
 
-all-taken : {A : Type 0} (P : A → Type 0) (k : ℕ) (xs : List A) → AllByRecursion P xs → AllByRecursion P (take k xs)
+pub all-taken : {A : Type 0} (P : A → Type 0) (k : ℕ) (xs : List A) → AllByRecursion P xs → AllByRecursion P (take k xs)
 all-taken P zero xs all = record {}
 all-taken P (suc k) [] all = record {}
 all-taken P (suc k) (x ∷ xs) all = (all.0, all-taken P k xs all.1)
@@ -79,7 +79,7 @@ all-dropped P zero xs all = all
 all-dropped P (suc k) [] all = record {}
 all-dropped P (suc k) (x ∷ xs) all = all-dropped P k xs all.1
 
-all-finished : (w : World) (s : Slot) (name : QueueId) (q : QueuePair) (xs : List Completion) → w.queue name ≡ Present q → AllByRecursion (λ x. IsSettled s (w.queue x.queue) x) xs
+pub all-finished : (w : World) (s : Slot) (name : QueueId) (q : QueuePair) (xs : List Completion) → w.queue name ≡ Present q → AllByRecursion (λ x. IsSettled s (w.queue x.queue) x) xs
     → AllByRecursion (λ x. queue_eq x.queue name ≡ true → IsFinished q x.receive x.place) xs
 all-finished w s name q [] is all = record {}
 all-finished w s name q (x ∷ xs) is all =

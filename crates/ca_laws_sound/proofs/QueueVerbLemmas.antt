@@ -218,7 +218,7 @@ quiet-change : (c : Configuration) (w : World) (q : QueuePair) (change : state_c
     → IsQueue (queue_after_change change q) → AreQuiet c more → IsGoodChange c w ((Queue_of q.queue := Present (queue_after_change change q)) ∷ more)
 quiet-change c w q change more sound there e s quiet = queue-change c w q (queue_after_change change q) more sound there s (quiet-later q change e there.sound) quiet
 
-change-fails : (c : Configuration) (q : QueuePair) (change : state_change.Change) → AllFail (of_change_refusals (modify_refusals c q change)) → AllFail (modify_refusals c q change)
+pub change-fails : (c : Configuration) (q : QueuePair) (change : state_change.Change) → AllFail (of_change_refusals (modify_refusals c q change)) → AllFail (modify_refusals c q change)
 change-fails c q change fails = by (modify_refusals c q change) fails
   where
     by : (tests : List (Bool × ModifyRefusal)) → AllFail (of_change_refusals tests) → AllFail tests

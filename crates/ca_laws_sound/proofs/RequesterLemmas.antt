@@ -42,7 +42,7 @@ while-places test place ns all = take-places (prefix_len test ns) place ns all
 while-length : (test : Numbered → Bool) (ns : List Numbered) → length (take_while test ns) ≤ length ns
 while-length test ns = omega (arith, length-take (prefix_len test ns) ns)
 
-finished-count : (q : QueuePair) → length (finished_requests q) ≤ q.requester.next - q.requester.oldest
+pub finished-count : (q : QueuePair) → length (finished_requests q) ≤ q.requester.next - q.requester.oldest
 finished-count q = omega (
   arith,
   while-length (λ n. nat_le (psn_end n) q.requester.una) (begun_requests q),

@@ -64,11 +64,11 @@ record IsAcknowledged (psn : ℕ) (q : QueuePair) (a : Acknowledgement) : Type 0
   state : a.went_back ≡ false → a.effects.queue.state ≡ q.state
 
 -- a READ or an atomic that was not answered stands from `una` on, and before the PSN
-abbrev IsBetween : ℕ → ℕ → Option ℕ → Type 0
+abbrev pub IsBetween : ℕ → ℕ → Option ℕ → Type 0
 IsBetween una psn None = Unit {0}
 IsBetween una psn (Some back) = (una ≤ back) × (back < psn)
 
-unanswered-between : (una psn : ℕ) (ns : List Numbered) → IsBetween una psn (first_unanswered una psn ns)
+pub unanswered-between : (una psn : ℕ) (ns : List Numbered) → IsBetween una psn (first_unanswered una psn ns)
 unanswered-between una psn [] = record {}
 unanswered-between una psn (n ∷ ns) =
     by (is_answered_op n.request.op && nat_lt una (psn_end n)) (nat_lt (max una n.first) psn) refl (unanswered-between una psn ns)

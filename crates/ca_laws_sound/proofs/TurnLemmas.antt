@@ -133,15 +133,15 @@ request_performed (Performs n) = Some n
 request_performed (Sends n) = None
 request_performed (Waits reason) = None
 
-abbrev turn_from : Option Reason → Option Numbered → RequestTurn
+abbrev pub turn_from : Option Reason → Option Numbered → RequestTurn
 turn_from (Some reason) n = Waits reason
 turn_from None None = Waits reasons.Empty
 turn_from None (Some n) = if is_local n.request.op then Performs n else Sends n
 
-abbrev NoReason : Option Reason → Type 0
+abbrev pub NoReason : Option Reason → Type 0
 NoReason r = r ≡ None
 
-sends-parts : (r : Option Reason) (o : Option Numbered) (n : Numbered) → turn_from r o ≡ Sends n
+pub sends-parts : (r : Option Reason) (o : Option Numbered) (n : Numbered) → turn_from r o ≡ Sends n
     → NoReason r × (o ≡ Some n) × (is_local n.request.op ≡ false)
 sends-parts (Some reason) o n e = absurd (true≢false (sym (ap (λ t. is_some (request_sent t)) e)))
 sends-parts None None n e = absurd (true≢false (sym (ap (λ t. is_some (request_sent t)) e)))
@@ -327,7 +327,7 @@ all-fail (t ∷ ts) e = by t.0 refl e (all-fail ts)
     by false is none rest = (is, rest none)
 
 -- a turn that is possible is one of a queue pair that sends, and whose next thing need not wait
-sending-parts : (q : QueuePair) → first_of (turn_refusals q) ≡ None → (is_sending q.state ≡ true) × (is_fenced q ≡ false)
+pub sending-parts : (q : QueuePair) → first_of (turn_refusals q) ≡ None → (is_sending q.state ≡ true) × (is_fenced q ≡ false)
 sending-parts q e = by (all-fail (turn_refusals q) e)
   where
     by : AllFail (turn_refusals q) → (is_sending q.state ≡ true) × (is_fenced q ≡ false)

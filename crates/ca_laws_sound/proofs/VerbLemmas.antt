@@ -65,7 +65,7 @@ posted-queue Item x q s item free = record {
   items = all-append Item q.items (x ∷ []) s.items (item, record {});
 }
 
-posted-end : (q : QueuePair) (request : SendRequest) (drawn : Option ℕ) → IsQueue q → begun_end (with_send request drawn q) ≡ begun_end q
+pub posted-end : (q : QueuePair) (request : SendRequest) (drawn : Option ℕ) → IsQueue q → begun_end (with_send request drawn q) ≡ begun_end q
 posted-end q request drawn s = ap (λ ns. q.requester.oldest_psn + count_sum ns) (same ∙ numbers-append q.responder.mtu q.requester.oldest q.requester.oldest_psn (items_from q.requester.oldest q.sends) x
     (q.requester.next - q.requester.oldest) (omega (arith, s.requester.waiting, items-end q.sends q.requester.oldest s.requester.finished (omega (arith, s.requester.begun, s.requester.waiting)))))
   where
@@ -212,10 +212,10 @@ retired-queue Item place q s = record {
   items = all-dropped Item (suc place - q.first) q.items s.items;
 }
 
-retired-next : {T : Type 0} (place : ℕ) (q : WorkQueue T) → place < next_place q → next_place (after_retire place q) ≡ next_place q
+pub retired-next : {T : Type 0} (place : ℕ) (q : WorkQueue T) → place < next_place q → next_place (after_retire place q) ≡ next_place q
 retired-next place q low = omega (arith, low, length-drop (suc place - q.first) q.items)
 
-retired-items : {T : Type 0} (place from : ℕ) (q : WorkQueue T) → place < from → q.first ≤ from → items_from from (after_retire place q) ≡ items_from from q
+pub retired-items : {T : Type 0} (place from : ℕ) (q : WorkQueue T) → place < from → q.first ≤ from → items_from from (after_retire place q) ≡ items_from from q
 retired-items place from q low first = drop-drop (from - max q.first (suc place)) (suc place - q.first) q.items ∙ ap (λ i. drop i q.items) (omega (arith, low, first))
 
 retire-send : (q : QueuePair) (place : ℕ) → IsQueue q → place < q.requester.oldest → IsQueue (record q { sends = after_retire place q.sends })
