@@ -221,10 +221,10 @@ perform-placed c w q n finish (ops.CmpSwap address key compare swap list) fit of
 perform-placed c w q n finish (ops.FetchAdd address key add list) fit of_queue has more = more (queue_and_marks q []) [] [] refl (record {}) (record {})
 
 -- a request whose local operation names a configured slot
-abbrev IsNamedRequest : Configuration → QueuePair → Numbered → Type 0
+abbrev pub IsNamedRequest : Configuration → QueuePair → Numbered → Type 0
 IsNamedRequest c q n = has_named_slot c q.domain n.request.op ≡ true
 
-abbrev IsNamedTurn : Configuration → QueuePair → RequestTurn → Type 0
+abbrev pub IsNamedTurn : Configuration → QueuePair → RequestTurn → Type 0
 IsNamedTurn c q (Waits reason) = Unit {0}
 IsNamedTurn c q (Performs n) = IsNamedRequest c q n
 IsNamedTurn c q (Sends n) = Unit {0}
@@ -234,7 +234,7 @@ numbers-named : (c : Configuration) (q : QueuePair) (mtu place psn : ℕ) (ps : 
 numbers-named c q mtu place psn [] all = record {}
 numbers-named c q mtu place psn (p ∷ ps) all = (all.0, numbers-named c q mtu (suc place) (psn + psns_of mtu p.request.op) ps all.1)
 
-turn-named : (c : Configuration) (w : World) (q : QueuePair) → IsPlacedHere c w q → IsNamedTurn c q (turn_of q)
+pub turn-named : (c : Configuration) (w : World) (q : QueuePair) → IsPlacedHere c w q → IsNamedTurn c q (turn_of q)
 turn-named c w q here = by (first_of (turn_refusals q)) (next_request q) (next (request_at q.requester.cursor q) begun)
   where
     all : AllByRecursion (IsNamedRequest c q) (unfinished_requests q)

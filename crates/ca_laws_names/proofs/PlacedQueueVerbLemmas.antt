@@ -339,7 +339,7 @@ pub record IsPlacedCreation (c : Configuration) (x : Creation) : Type 0 where
   pub recv : IsConfigured c (Cq_of (beside x.slot x.recv_cq))
   pub shared : IfSome x.srq (λ srq. IsConfigured c (Srq_of (beside x.slot srq)))
 
-creation-placed : (c : Configuration) (x : Creation) → IsConfigured c (Domain_of x.slot.domain) → IsConfigured c (Queue_of (queue_of x.slot)) → has_queues c x ≡ true → IsPlacedCreation c x
+pub creation-placed : (c : Configuration) (x : Creation) → IsConfigured c (Domain_of x.slot.domain) → IsConfigured c (Queue_of (queue_of x.slot)) → has_queues c x ≡ true → IsPlacedCreation c x
 creation-placed c x domain queue has = record { domain = domain; queue = queue; send = both.0; recv = both.1; shared = by x.srq parts.1 }
   where
     parts : (has_slot c (λ a. a.cqs) (beside x.slot x.send_cq) && has_slot c (λ a. a.cqs) (beside x.slot x.recv_cq) ≡ true)

@@ -326,7 +326,7 @@ sources-in c s queue (r ∷ rs) all = by (queue_eq (user_of r.who) queue) (sourc
     by true (Some srq) one rest = one
     by false o one rest = rest
 
-source-in : (c : Configuration) (s : Slot) (cq : CompletionQueue) (x : Completion) → AllByRecursion (IsPlacedReservation c s) cq.reservations
+pub source-in : (c : Configuration) (s : Slot) (cq : CompletionQueue) (x : Completion) → AllByRecursion (IsPlacedReservation c s) cq.reservations
     → IfSome (source_of_completion cq x) (λ srq. IsConfigured c (Srq_of (record { domain = s.domain; slot = srq })))
 source-in c s cq x all = by x.receive
   where

@@ -7,3 +7,4 @@ pub mod VerbPartLemmas
 pub mod CountLemmas
 pub mod EventPartLemmas
 pub mod HeldLemmas
+pub mod ConfiguredLemmas

@@ -7,6 +7,7 @@ ghost use Rattle.ca_base.specs.declared.lot.Lot.{Lot};
 ghost use Rattle.ca_base.specs.objects.Mailbox.{bytes_lent};
 ghost use Rattle.ca_base.specs.objects.QueuePair.{Present, QueuePair};
 ghost use Rattle.ca_base.specs.objects.Slices.{has_queue};
+ghost use Rattle.ca_laws_names.specs.Placed.{IsPlacedWorld};
 ghost use Rattle.ca_model.specs.declared.event.Event.{Event};
 ghost use Rattle.ca_model.specs.declared.event.Event.TheVariants as events;
 ghost use Rattle.ca_model.specs.declared.verb.Verb.TheVariants as verbs;
@@ -14,13 +15,13 @@ ghost use Rattle.ca_model.specs.declared.part_name.PartName.{PartName};
 ghost use Rattle.ca_model.specs.machine.Delivery.{arrival_row};
 ghost use Rattle.ca_model.specs.machine.Held.{IsAskHeld, IsEndHeld};
 ghost use Rattle.ca_model.specs.machine.Numbering.{Numbered};
-ghost use Rattle.ca_model.specs.machine.Parts.{IsAmong, Needs, ShowsHeld, event_needs, event_parts, gathered, is_held, listed, next_part, operation_needs, part_of, row_needs};
+ghost use Rattle.ca_model.specs.machine.Parts.{IsAmong, Needs, ShowsHeld, event_needs, event_parts, gathered, is_configured_part, is_held, listed, next_part, operation_needs, part_of, row_needs};
 ghost use Rattle.ca_model.specs.machine.Plan.{touches};
 ghost use Rattle.ca_model.specs.machine.Requester.{Performs, Sends, packet_row, turn_of};
 ghost use Rattle.ca_model.specs.machine.Respond.{respond_row};
 ghost use Rattle.ca_model.specs.machine.Row.{Row};
 ghost use Rattle.ca_model.specs.machine.Seen.{shared_receives};
-ghost use Rattle.ca_model.specs.machine.Sound.{IsSoundWorld};
+ghost use Rattle.ca_model.specs.machine.Sound.{AreLimited, IsSoundWorld};
 ghost use Rattle.ca_model.specs.machine.Step.{plan};
 ghost use Rattle.ca_model.specs.machine.World.{World};
 
@@ -32,6 +33,12 @@ pub const MAX_EVENT_PARTS: usize = 32;
 pub fn event_touches_its_parts()
     ensures { (c : Configuration) (w : World) (event : Event)
         → IsSoundWorld c w → AllByRecursion (λ n. IsAmong (event_parts c w event) (part_of n)) (touches w (plan c event)) }
+{}
+
+/// In a sound and placed world only configured parts are needed, where the configuration keeps to its limits.
+pub fn event_needs_configured_parts()
+    ensures { (c : Configuration) (w : World) (event : Event) → AreLimited c → IsSoundWorld c w → IsPlacedWorld c w
+        → AllByRecursion (λ p. is_configured_part c p ≡ true) (event_parts c w event) }
 {}
 
 /// In a sound world the table has few parts for an event.

@@ -132,7 +132,7 @@ marks-settled queue q p cq (m ∷ ms) later all = append (by m) (completions_to 
     one (marks.Dropped target cause) settled = record {}
     one (marks.Timer queue silent) settled = record {}
 
-append-all : {A : Type 0} (P : A → Type 0) (xs ys : List A) → AllByRecursion P xs → AllByRecursion P ys → AllByRecursion P (xs ++ ys)
+pub append-all : {A : Type 0} (P : A → Type 0) (xs ys : List A) → AllByRecursion P xs → AllByRecursion P ys → AllByRecursion P (xs ++ ys)
 append-all P [] ys one other = other
 append-all P (x ∷ xs) ys one other = (one.0, append-all P xs ys one.1 other)
 

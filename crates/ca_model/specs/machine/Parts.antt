@@ -20,7 +20,7 @@ use Rattle.ca_base.specs.objects.Mailbox.{bytes_lent}
 use Rattle.ca_base.specs.objects.QueuePair.{QueuePair, QueueSlot, NoQueue, Present, recv_cq_of, send_cq_of, srq_of}
 use Rattle.ca_base.specs.objects.Region.{grant_of_region}
 use Rattle.ca_base.specs.objects.SharedReceives.{SharedReceives}
-use Rattle.ca_base.specs.objects.Slices.{has_queue, names_region, names_window, slot_of_key}
+use Rattle.ca_base.specs.objects.Slices.{has_domain, has_queue, has_slot, names_region, names_window, slot_of_key}
 use Rattle.ca_base.specs.objects.Window.{Binding, Window}
 use Rattle.ca_model.specs.declared.event.Event.{Event}
 use Rattle.ca_model.specs.declared.event.Event.TheVariants as events
@@ -35,7 +35,7 @@ use Rattle.ca_model.specs.machine.QueuePairVerbs.{Creation, beside, has_queues}
 use Rattle.ca_model.specs.machine.Requester.{RequestTurn, Waits, Performs, Sends, packet_row, turn_of}
 use Rattle.ca_model.specs.machine.Respond.{respond_row}
 use Rattle.ca_model.specs.machine.Row.{Row, region_under}
-use Rattle.ca_model.specs.machine.Step.{is_named}
+use Rattle.ca_model.specs.machine.Step.{has_buffer, is_named}
 use Rattle.ca_model.specs.machine.World.{World, Name, Domain_of, Region_of, Window_of, Cq_of, Srq_of, Queue_of, Mailbox_of, Byte_at, Thing, get}
 
 -- the part in which a thing stands; bytes stand in their buffer
@@ -48,6 +48,17 @@ part_of (Srq_of s) = names.Srq s
 part_of (Queue_of q) = names.Queue q
 part_of (Mailbox_of q) = names.Mailbox q
 part_of (Byte_at p) = names.Buffer p.adapter p.buffer
+
+-- the part is configured: its domain, its slot, or its buffer
+abbrev pub is_configured_part : Configuration → PartName → Bool
+is_configured_part c (names.Control d) = has_domain c d
+is_configured_part c (names.Region s) = has_slot c (λ a. a.regions) s
+is_configured_part c (names.Window s) = has_slot c (λ a. a.windows) s
+is_configured_part c (names.Cq s) = has_slot c (λ a. a.cqs) s
+is_configured_part c (names.Srq s) = has_slot c (λ a. a.srqs) s
+is_configured_part c (names.Queue q) = has_queue c q
+is_configured_part c (names.Mailbox q) = has_queue c q
+is_configured_part c (names.Buffer adapter buffer) = has_buffer c adapter buffer
 
 abbrev pub IsAmong : List PartName → PartName → Type 0
 IsAmong [] p = ⊥
