@@ -1,0 +1,3 @@
+pub mod RoomLists
+pub mod FitLemmas
+pub mod RoomLemmas
