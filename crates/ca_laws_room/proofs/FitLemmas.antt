@@ -485,7 +485,7 @@ receives-few c w s v n sound room there = omega (arith, ap length (receives-side
         T = record s { slot = k }
 
         sourced : srq_of q k ≡ T
-        sourced = ap (λ t. record t { slot = k }) same
+        sourced = ap (λ (t : Slot). record t { slot = k }) same
 
         takes : TakesFrom s k (use_of (w.queue n))
         takes = subst (λ z. TakesFrom s k (use_of z)) (sym is) (same, ap (option_map (srq_of q)) e ∙ ap Some sourced)
