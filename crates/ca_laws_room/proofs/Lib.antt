@@ -1,3 +1,4 @@
 pub mod RoomLists
 pub mod FitLemmas
+pub mod KeptLemmas
 pub mod RoomLemmas
