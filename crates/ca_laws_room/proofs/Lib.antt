@@ -1,4 +1,5 @@
 pub mod RoomLists
 pub mod FitLemmas
 pub mod KeptLemmas
+pub mod AdvanceLemmas
 pub mod RoomLemmas
