@@ -282,3 +282,47 @@ take-room queue cq now srq q e t room named there later order is takes put = by 
         waits : (xs : List PlacedReceive) → s.waiting ≡ xs → HaveRoom (with_at queue_eq queue q.queue (Present e.queue)) now now_srq
         waits [] e = none s has (ap (λ xs. slice_get xs 0) e)
         waits (r ∷ rest) e = some s has r rest e
+
+-- a turn's effects that leave a queue pair that can come up, and take receives of the shared receive queue in order
+pub record IsTurn (shared : Option SharedReceives) (q : QueuePair) (e : Effects) : Type 0 where
+  pub good : IsGood q e
+  pub takes : TakesInOrder shared q e
+
+-- effects that take none
+pub no-taking : (shared : Option SharedReceives) (q : QueuePair) (e : Effects) → IsGood q e → e.takes_shared ≡ false → IsTurn shared q e
+no-taking shared q e good none = record { good = good; takes = λ takes. absurd (true≢false (sym takes ∙ none)) }
+
+-- a turn's changes leave room
+pub turn-room : (c : Configuration) (w : World) (q : QueuePair) (e : Effects) (more : List Update) → IsSoundWorld c w → HasRoom w → IsThere w q
+    → IsTurn (shared_in (around_in w q (shared_of w q))) q e → AreAside more → HasRoom (put_all (updates_of q (around_in w q (shared_of w q)) e ++ more) w)
+turn-room c w q e more sound room there turn aside = room-behind (updates_of q a e) more w aside (by e.takes_shared refl)
+  where
+    a : Around
+    a = around_in w q (shared_of w q)
+
+    named : AreNamed w.queue
+    named = sound-named c w sound
+
+    done : AllByRecursion (λ c. c.queue ≡ q.queue) (completions_in e.marks)
+    done = all-map (λ c. c.queue ≡ e.queue.queue) (λ c. c.queue ≡ q.queue) (λ c same. same ∙ turn.good.later.queue) (completions_in e.marks) (marks-of e.queue e.marks turn.good.settled)
+
+    now : Slot → Option CompletionQueue
+    now = with_at slot_eq (with_at slot_eq w.cq (send_cq_of q) (option_map (after_puts (completions_to q q.send_cq e.marks)) (w.cq (send_cq_of q))))
+        (recv_cq_of q) (option_map (after_puts (completions_to q q.recv_cq e.marks)) (w.cq (recv_cq_of q)))
+
+    updates : Option ℕ → Option SrqSlot → List Update
+    updates (Some srq) (Some slot) = (Srq_of (srq_of q srq) := record slot { srq = option_map after_receive_take slot.srq }) ∷ []
+    updates srq slot = []
+
+    take : (o : Option ℕ) → q.srq ≡ o → e.takes_shared ≡ true
+        → HasRoom (put_all ((Queue_of q.queue := Present e.queue) ∷ cq_updates q a e.marks ++ updates o (option_map (λ srq. w.srq (srq_of q srq)) o)) w)
+    take None is takes = advance-room w.queue w.cq now w.srq w.srq room.holder q e [] room named there.present turn.good.later turn.good.order (puts-put w.cq q e.marks done)
+        (λ t. refl) (λ t. refl) room.sequence (λ n other t x taken held. (taken, held))
+        (subst (λ o. IfSome o (λ t. (places_done true e.marks ++ places_in_use e.queue.responder.message ≡ places_in_use q.responder.message ++ [])
+        × AreHeld room.holder q.queue (srq_of q t) (taken_in (w.srq (srq_of q t))) (places_kept w.cq q ++ []))) (sym is) (record {}))
+    take (Some t) is takes = take-room w.queue w.cq now w.srq q e t room named there.present turn.good.later turn.good.order is
+        (λ s has. turn.takes takes s (ap (λ o. option_and_then (λ (s : SrqSlot). s.srq) (option_map (λ srq. w.srq (srq_of q srq)) o)) is ∙ has)) (puts-put w.cq q e.marks done)
+
+    by : (b : Bool) → e.takes_shared ≡ b → HasRoom (put_all ((Queue_of q.queue := Present e.queue) ∷ cq_updates q a e.marks ++ (if b then srq_updates q a after_receive_take else [])) w)
+    by false takes = still-room w.queue w.cq now w.srq q e room named there.present there.sound turn.good.later turn.good.order takes (puts-put w.cq q e.marks done)
+    by true takes = take q.srq refl takes

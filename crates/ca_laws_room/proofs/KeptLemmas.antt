@@ -376,3 +376,21 @@ advanced cq now srq srq' holder after q e new later order grows kept place = rec
                 (sym (ap (λ xs. xs ++ places_in_use e.queue.responder.message) same ∙ append_assoc before (places_done true e.marks) (places_in_use e.queue.responder.message))) whole
             at (inr same) = subst (AreHeld after q.queue (srq_of q u) (taken_in (srq' (srq_of q u)))) (sym (ap (λ xs. xs ++ places_in_use e.queue.responder.message) same))
                 (held-without after q.queue (srq_of q u) (taken_in (srq' (srq_of q u))) before (places_done true e.marks) (places_in_use e.queue.responder.message) whole)
+
+same-put : (u v : World) (n : Name) (t : Thing n) → SameQueues u v → SameQueues (put u n t) (put v n t)
+same-put u v (Queue_of q) t same = record { queue = ap (λ f. with_at queue_eq f q t) same.queue; cq = same.cq; srq = same.srq }
+same-put u v (Cq_of s) t same = record { queue = same.queue; cq = ap (λ f. with_at slot_eq f s t) same.cq; srq = same.srq }
+same-put u v (Srq_of s) t same = record { queue = same.queue; cq = same.cq; srq = ap (λ f. with_at slot_eq f s t) same.srq }
+same-put u v (Domain_of d) t same = record { queue = same.queue; cq = same.cq; srq = same.srq }
+same-put u v (Region_of s) t same = record { queue = same.queue; cq = same.cq; srq = same.srq }
+same-put u v (Window_of s) t same = record { queue = same.queue; cq = same.cq; srq = same.srq }
+same-put u v (Mailbox_of q) t same = record { queue = same.queue; cq = same.cq; srq = same.srq }
+same-put u v (Byte_at p) t same = record { queue = same.queue; cq = same.cq; srq = same.srq }
+
+pub same-puts : (xs : List Update) (u v : World) → SameQueues u v → SameQueues (put_all xs u) (put_all xs v)
+same-puts [] u v same = same
+same-puts (x ∷ xs) u v same = same-puts xs (put u x.name x.thing) (put v x.name x.thing) (same-put u v x.name x.thing same)
+
+-- one change aside comes first
+pub room-first : (n : Name) (t : Thing n) (xs : List Update) (w : World) → IsAsideName n → HasRoom (put_all xs w) → HasRoom (put_all xs (put w n t))
+room-first n t xs w aside room = same-room (put_all xs w) (put_all xs (put w n t)) (same-puts xs w (put w n t) (aside-put w w n t aside (same-queues w))) room
