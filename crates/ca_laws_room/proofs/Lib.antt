@@ -2,4 +2,5 @@ pub mod RoomLists
 pub mod FitLemmas
 pub mod KeptLemmas
 pub mod AdvanceLemmas
+pub mod EngineRoomLemmas
 pub mod RoomLemmas
