@@ -124,15 +124,15 @@ pub held-kept : (holder after : Holder) (n : QueueId) (t : Slot) (taken now : Li
 held-kept holder after n t taken now xs stay held =
     (held.0, all-map (λ x. (is_in x taken ≡ true) × (holder t x ≡ n)) (λ x. (is_in x now ≡ true) × (after t x ≡ n)) (λ x two. stay x two.0 two.1) xs held.1)
 
--- a queue pair of which nothing changes, with what waits for it
-pub still-in-place : (cq now : Slot → Option CompletionQueue) (srq srq' : Slot → SrqSlot) (holder after : Holder) (q : QueuePair)
+-- a queue pair of which nothing changes, with what waits for it, and with the shared receive queue that it uses
+pub still-in-use : (cq now : Slot → Option CompletionQueue) (srq srq' : Slot → SrqSlot) (holder after : Holder) (q : QueuePair)
     → ((s : Slot) (b : Bool) → places_of_side q.queue b (waits_in now s) ≡ places_of_side q.queue b (waits_in cq s))
-    → ((t : Slot) (x : ℕ) → is_in x (taken_in (srq t)) ≡ true → holder t x ≡ q.queue → (is_in x (taken_in (srq' t)) ≡ true) × (after t x ≡ q.queue))
+    → ((t : Slot) → option_map (srq_of q) q.srq ≡ Some t → (x : ℕ) → is_in x (taken_in (srq t)) ≡ true → holder t x ≡ q.queue → (is_in x (taken_in (srq' t)) ≡ true) × (after t x ≡ q.queue))
     → IsInPlace cq srq holder q → IsInPlace now srq' after q
-still-in-place cq now srq srq' holder after q sides stay place = record {
+still-in-use cq now srq srq' holder after q sides stay place = record {
   sends = subst (Ascend q.sends.first q.requester.oldest) (sym (sides (send_cq_of q) false)) place.sends;
   receives = by q.receives place.receives;
-  shared = shared q.srq place.shared;
+  shared = shared q.srq refl place.shared;
 }
   where
     by : (o : Option (WorkQueue RecvRequest)) → IfSome o (λ r. Ascend r.first (first_held r q.responder.message) (places_of_side q.queue true (waits_in cq (recv_cq_of q))))
@@ -140,11 +140,18 @@ still-in-place cq now srq srq' holder after q sides stay place = record {
     by None all = record {}
     by (Some r) all = subst (Ascend r.first (first_held r q.responder.message)) (sym (sides (recv_cq_of q) true)) all
 
-    shared : (o : Option ℕ) → IfSome o (λ t. AreHeld holder q.queue (srq_of q t) (taken_in (srq (srq_of q t))) (places_kept cq q))
+    shared : (o : Option ℕ) → q.srq ≡ o → IfSome o (λ t. AreHeld holder q.queue (srq_of q t) (taken_in (srq (srq_of q t))) (places_kept cq q))
         → IfSome o (λ t. AreHeld after q.queue (srq_of q t) (taken_in (srq' (srq_of q t))) (places_kept now q))
-    shared None all = record {}
-    shared (Some t) all = subst (AreHeld after q.queue (srq_of q t) (taken_in (srq' (srq_of q t)))) (sym (ap (λ xs. xs ++ places_in_use q.responder.message) (sides (recv_cq_of q) true)))
-        (held-kept holder after q.queue (srq_of q t) (taken_in (srq (srq_of q t))) (taken_in (srq' (srq_of q t))) (places_kept cq q) (stay (srq_of q t)) all)
+    shared None is all = record {}
+    shared (Some t) is all = subst (AreHeld after q.queue (srq_of q t) (taken_in (srq' (srq_of q t)))) (sym (ap (λ xs. xs ++ places_in_use q.responder.message) (sides (recv_cq_of q) true)))
+        (held-kept holder after q.queue (srq_of q t) (taken_in (srq (srq_of q t))) (taken_in (srq' (srq_of q t))) (places_kept cq q) (stay (srq_of q t) (ap (option_map (srq_of q)) is)) all)
+
+-- the same where all places stay taken
+pub still-in-place : (cq now : Slot → Option CompletionQueue) (srq srq' : Slot → SrqSlot) (holder after : Holder) (q : QueuePair)
+    → ((s : Slot) (b : Bool) → places_of_side q.queue b (waits_in now s) ≡ places_of_side q.queue b (waits_in cq s))
+    → ((t : Slot) (x : ℕ) → is_in x (taken_in (srq t)) ≡ true → holder t x ≡ q.queue → (is_in x (taken_in (srq' t)) ≡ true) × (after t x ≡ q.queue))
+    → IsInPlace cq srq holder q → IsInPlace now srq' after q
+still-in-place cq now srq srq' holder after q sides stay place = still-in-use cq now srq srq' holder after q sides (λ t is. stay t) place
 
 -- one queue pair goes on, and for others nothing changes
 pub local-places : (queue : QueueId → QueueSlot) (cq now : Slot → Option CompletionQueue) (srq srq' : Slot → SrqSlot) (holder after : Holder) (name : QueueId) (slot : QueueSlot)

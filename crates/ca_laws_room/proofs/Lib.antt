@@ -3,4 +3,5 @@ pub mod FitLemmas
 pub mod KeptLemmas
 pub mod AdvanceLemmas
 pub mod EngineRoomLemmas
+pub mod ObjectRoomLemmas
 pub mod RoomLemmas
