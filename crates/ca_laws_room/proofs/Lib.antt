@@ -4,4 +4,5 @@ pub mod KeptLemmas
 pub mod AdvanceLemmas
 pub mod EngineRoomLemmas
 pub mod ObjectRoomLemmas
+pub mod PairRoomLemmas
 pub mod RoomLemmas
