@@ -5,4 +5,6 @@ pub mod AdvanceLemmas
 pub mod EngineRoomLemmas
 pub mod ObjectRoomLemmas
 pub mod PairRoomLemmas
+pub mod EmptiedRoomLemmas
+pub mod DestroyRoomLemmas
 pub mod RoomLemmas
