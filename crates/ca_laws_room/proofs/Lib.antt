@@ -7,4 +7,5 @@ pub mod ObjectRoomLemmas
 pub mod PairRoomLemmas
 pub mod EmptiedRoomLemmas
 pub mod DestroyRoomLemmas
+pub mod CreateRoomLemmas
 pub mod RoomLemmas
