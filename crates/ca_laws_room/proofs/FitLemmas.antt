@@ -95,7 +95,7 @@ counts-receives rs n x counts = by (reservation_of rs x) (own-of-side rs x) coun
     by (Some r) of counts = at r.who of counts x.receive refl
 
 -- a queue pair that takes its receives here from this shared receive queue
-abbrev TakesFrom : Slot → ℕ → Option Use → Type 0
+abbrev pub TakesFrom : Slot → ℕ → Option Use → Type 0
 TakesFrom s t u = Has (λ u. (u.recv_cq ≡ s) × (u.srq ≡ Some (record s { slot = t }))) u
 
 -- a completion that counts against a shared receive queue is of a receive of one of its users
@@ -253,7 +253,7 @@ pub some-same : {A : Type 0} (a b : A) → Some a ≡ Some b → a ≡ b
 some-same a b same = ap (λ o. option_map_or (λ x. x) o a) same
 
 -- each completion's place is among those of its side
-members : (xs : List Completion) → AllByRecursion (λ x. (n : QueueId) → is_of n true x ≡ true → is_in x.place (places_of_side n true xs) ≡ true) xs
+pub members : (xs : List Completion) → AllByRecursion (λ x. (n : QueueId) → is_of n true x ≡ true → is_in x.place (places_of_side n true xs) ≡ true) xs
 members [] = record {}
 members (x ∷ xs) = (
   λ n e. ap (is_in x.place) (side-head n true x xs e) ∙ ap (λ b. b || is_in x.place (places_of_side n true xs)) (number-refl x.place),
@@ -266,7 +266,7 @@ members (x ∷ xs) = (
     more n place is false e = ap (is_in place) (side-skip n true x xs e) ∙ is
 
 -- the places that wait here of a user of a shared receive queue are its own
-user-held : (c : Configuration) (w : World) (s : Slot) (v : CompletionQueue) (t : ℕ) (n : QueueId) → (at : IsAt c w s v) → TakesFrom s t (use_of (w.queue n))
+pub user-held : (c : Configuration) (w : World) (s : Slot) (v : CompletionQueue) (t : ℕ) (n : QueueId) → (at : IsAt c w s v) → TakesFrom s t (use_of (w.queue n))
     → AreHeld at.room.holder n (record s { slot = t }) (taken_in (w.srq (record s { slot = t }))) (places_of_side n true v.waiting)
 user-held c w s v t n at takes = by (w.queue n) refl takes
   where

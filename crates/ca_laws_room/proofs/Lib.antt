@@ -8,4 +8,5 @@ pub mod PairRoomLemmas
 pub mod EmptiedRoomLemmas
 pub mod DestroyRoomLemmas
 pub mod CreateRoomLemmas
+pub mod PollRoomLemmas
 pub mod RoomLemmas
