@@ -24,6 +24,7 @@ use Rattle.ca_model.specs.machine.Plan.{Plan, Look, Update, ◌:=◌, put_all}
 use Rattle.ca_model.specs.machine.Sound.{IsSettled, IsSoundWorld, side_of}
 use Rattle.ca_model.specs.machine.VerbAnswers.{Call}
 use Rattle.ca_model.specs.machine.World.{World, Cq_of, Queue_of, Srq_of, put}
+use Rattle.ca_cq.proofs.Rooms.{all-zip, none-of}
 use Rattle.ca_laws_sound.proofs.SettledLemmas.{queue-path, queue-refl, slot-path, slot-refl}
 use Rattle.ca_laws_sound.proofs.WorldLemmas.{EndsIn}
 use Rattle.ca_laws_room.specs.Room.{AreDistinct, AreHeld, Has, HasRoom, HasSide, HaveRoom, Holder, IsDue, IsInPlace, IsInSequence, IsSlotInPlace, Rooms, Use, depth_of, is_in, places_kept, rooms_of, taken_in, use_of, waits_in}
@@ -307,3 +308,272 @@ take-drop : {A : Type 0} (n : ℕ) (xs : List A) → take n xs ++ drop (length (
 take-drop zero xs = refl
 take-drop (suc n) [] = refl
 take-drop (suc n) (x ∷ xs) = ap (λ ys. x ∷ ys) (take-drop n xs)
+
+distinct-apart : (xs ys : List ℕ) (x : ℕ) → AreDistinct (xs ++ ys) → is_in x xs ≡ true → is_in x ys ≡ false
+distinct-apart [] ys x distinct is = absurd (true≢false (sym is))
+distinct-apart (z ∷ zs) ys x distinct is = by (z == x) refl is (distinct-apart zs ys x distinct.1)
+  where
+    by : (b : Bool) → (z == x) ≡ b → (b || is_in x zs) ≡ true → (is_in x zs ≡ true → is_in x ys ≡ false) → is_in x ys ≡ false
+    by true e is rest = ap (λ y. is_in y ys) (sym (eqb-true z x e)) ∙ (or_parts (is_in z zs) (is_in z ys) (sym (in-append z zs ys) ∙ distinct.0)).1
+    by false e is rest = rest is
+
+all-self : (xs : List ℕ) → AllByRecursion (λ x. is_in x xs ≡ true) xs
+all-self [] = record {}
+all-self (x ∷ xs) = (or_left (x == x) (is_in x xs) (eq-eqb x x refl), all-map (λ y. is_in y xs ≡ true) (λ y. is_in y (x ∷ xs) ≡ true) (λ y is. or_right (x == y) (is_in y xs) is) xs (all-self xs))
+
+none-before : (xs ys : List ℕ) → xs ++ ys ≡ [] → xs ≡ []
+none-before [] ys e = refl
+none-before (x ∷ xs) ys e = absurd (by (ap length e))
+  where
+    by : suc (length (xs ++ ys)) ≡ 0 → ⊥
+    by e = absurd (omega (arith, e))
+
+-- the completions that are taken, and those that are left
+record IsTaken (c : Configuration) (w : World) (s : Slot) (cq : CompletionQueue) (xs rest : List Completion) : Type 0 where
+  pub at : IsAt c w s cq
+  pub split : cq.waiting ≡ xs ++ rest
+
+-- a completion queue with what is left
+abbrev left_in : World → Slot → CompletionQueue → List Completion → Slot → Option CompletionQueue
+left_in w s cq rest = with_at slot_eq w.cq s (Some (record cq { waiting = rest }))
+
+-- the places of a side are those that are taken, and those that are left
+sides-split : (c : Configuration) (w : World) (s : Slot) (cq : CompletionQueue) (xs rest : List Completion) (q : QueuePair) (b : Bool) → IsTaken c w s cq xs rest → w.queue q.queue ≡ Present q
+    → places_of_side q.queue b (waits_in w.cq (side_of q b)) ≡ places_of_side q.queue b xs ++ places_of_side q.queue b (waits_in (left_in w s cq rest) (side_of q b))
+sides-split c w s cq xs rest q b taken there = by (slot_eq s (side_of q b)) refl
+  where
+    in-queue : QueueSlot → Slot
+    in-queue (NoQueue incarnation timers) = s
+    in-queue (Present p) = side_of p b
+
+    swap : (z : Bool) → slot_eq (side_of q b) s ≡ z → slot_eq s (side_of q b) ≡ false → z ≡ false
+    swap false e f = refl
+    swap true e f = absurd (true≢false (sym (slot-refl s) ∙ (ap (slot_eq s) (sym (slot-path (side_of q b) s e)) ∙ f)))
+
+    by : (z : Bool) → slot_eq s (side_of q b) ≡ z → places_of_side q.queue b (waits_in w.cq (side_of q b))
+        ≡ places_of_side q.queue b xs ++ places_of_side q.queue b (option_map_or (λ v. v.waiting) (if z then Some (record cq { waiting = rest }) else w.cq (side_of q b)) [])
+    by true e = ap (λ t. places_of_side q.queue b (waits_in w.cq t)) (sym (slot-path s (side_of q b) e)) ∙ (ap (λ o. places_of_side q.queue b (option_map_or (λ (v : CompletionQueue). v.waiting) o [])) taken.at.there
+        ∙ (ap (places_of_side q.queue b) taken.split ∙ side-append q.queue b xs rest))
+    by false e = ap (λ zs. zs ++ places_of_side q.queue b (waits_in w.cq (side_of q b))) (sym (none-before (places_of_side q.queue b xs) (places_of_side q.queue b rest)
+        (sym (ap (places_of_side q.queue b) taken.split ∙ side-append q.queue b xs rest)
+        ∙ side-empty c w s cq q.queue b taken.at.sound taken.at.there (λ p here. ap (λ z. slot_eq (in-queue z) s) (sym here ∙ there) ∙ swap (slot_eq (side_of q b) s) refl e))))
+
+-- a completion that is taken of a shared receive queue is of a place that its queue pair holds
+source-held : (c : Configuration) (w : World) (s : Slot) (cq : CompletionQueue) (xs rest : List Completion) (t : ℕ) (x : Completion) → (taken : IsTaken c w s cq xs rest)
+    → is_in x.place (places_of_side x.queue true xs) ≡ true → source_of_completion cq x ≡ Some t → taken.at.room.holder (record s { slot = t }) x.place ≡ x.queue
+source-held c w s cq xs rest t x taken member is = (all-in (λ y. (is_in y (taken_in (w.srq (record s { slot = t }))) ≡ true) × (taken.at.room.holder (record s { slot = t }) y ≡ x.queue)) x.place
+    (places_of_side x.queue true cq.waiting)
+    (user-held c w s cq t x.queue taken.at (source-takes (λ n. use_of (w.queue n)) (λ t. depth_of (w.srq t)) s cq.reservations x.queue t (at-due c w s cq taken.at) (source-receive cq x t is).1)).1
+    (ap (λ zs. is_in x.place (places_of_side x.queue true zs)) taken.split ∙ (ap (is_in x.place) (side-append x.queue true xs rest)
+    ∙ (in-append x.place (places_of_side x.queue true xs) (places_of_side x.queue true rest) ∙ or_left (is_in x.place (places_of_side x.queue true xs)) (is_in x.place (places_of_side x.queue true rest)) member)))).1
+
+-- what is left of a queue pair's places is none of those that are freed
+left-apart : (c : Configuration) (w : World) (s : Slot) (cq : CompletionQueue) (xs rest : List Completion) (n : QueueId) (T : Slot) (behind : List ℕ) (x : ℕ) → (taken : IsTaken c w s cq xs rest)
+    → record s { slot = T.slot } ≡ T → AreDistinct (places_of_side n true xs ++ behind) → is_in x behind ≡ true → taken.at.room.holder T x ≡ n
+    → AllByRecursion (λ c. source_of_completion cq c ≡ Some T.slot → (x == c.place) ≡ false) xs
+left-apart c w s cq xs rest n T behind x taken same distinct is held = all-map
+    (λ y. (n : QueueId) → is_of n true y ≡ true → is_in y.place (places_of_side n true xs) ≡ true)
+    (λ y. source_of_completion cq y ≡ Some T.slot → (x == y.place) ≡ false) one xs (members xs)
+  where
+    one : (y : Completion) → ((n : QueueId) → is_of n true y ≡ true → is_in y.place (places_of_side n true xs) ≡ true) → source_of_completion cq y ≡ Some T.slot → (x == y.place) ≡ false
+    one y member source = by (x == y.place) refl
+      where
+        own : is_in y.place (places_of_side y.queue true xs) ≡ true
+        own = member y.queue (ap₂ (λ a b. a && bool_eq b true) (queue-refl y.queue) (source-receive cq y T.slot source).0)
+
+        holds : taken.at.room.holder T y.place ≡ y.queue
+        holds = ap (λ t. taken.at.room.holder t y.place) (sym same) ∙ source-held c w s cq xs rest T.slot y taken own source
+
+        by : (b : Bool) → (x == y.place) ≡ b → b ≡ false
+        by false e = refl
+        by true e = absurd (true≢false (sym is ∙ distinct-apart (places_of_side n true xs) behind x distinct
+            (ap (λ z. is_in z (places_of_side n true xs)) (eqb-true x y.place e) ∙ subst (λ m. is_in y.place (places_of_side m true xs) ≡ true) (sym holds ∙ (ap (taken.at.room.holder T) (sym (eqb-true x y.place e)) ∙ held)) own)))
+
+-- a shared receive queue of which something is freed is of this domain
+frees-domain : (cq : CompletionQueue) (s T : Slot) (xs : List Completion) → list_any (frees_shared cq s T) xs ≡ true → record s { slot = T.slot } ≡ T
+frees-domain cq s T [] is = absurd (true≢false (sym is))
+frees-domain cq s T (c ∷ cs) is = by (source_of_completion cq c) is (frees-domain cq s T cs)
+  where
+    at : (t : ℕ) (b : Bool) → slot_eq (record s { slot = t }) T ≡ b → (b || list_any (frees_shared cq s T) cs) ≡ true → (list_any (frees_shared cq s T) cs ≡ true → record s { slot = T.slot } ≡ T) → record s { slot = T.slot } ≡ T
+    at t true e is rest = ap (λ (k : ℕ). record s { slot = k }) (sym (ap (λ (z : Slot). z.slot) (slot-path (record s { slot = t }) T e))) ∙ slot-path (record s { slot = t }) T e
+    at t false e is rest = rest is
+
+    by : (o : Option ℕ) → (option_map_or (λ t. slot_eq (record s { slot = t }) T) o false || list_any (frees_shared cq s T) cs) ≡ true → (list_any (frees_shared cq s T) cs ≡ true → record s { slot = T.slot } ≡ T) → record s { slot = T.slot } ≡ T
+    by None is rest = rest is
+    by (Some t) is rest = at t (slot_eq (record s { slot = t }) T) refl is rest
+
+-- what holds of a shared receive queue after a poll
+record IsFreedSlot (before after : SrqSlot) (cq : CompletionQueue) (t : ℕ) (xs : List Completion) : Type 0 where
+  pub depth : depth_of after ≡ depth_of before
+  pub users : after.users ≡ before.users
+  pub sequence : IsInSequence before → IsInSequence after
+  pub taken : (x : ℕ) → AllByRecursion (λ c. source_of_completion cq c ≡ Some t → (x == c.place) ≡ false) xs → is_in x (taken_in before) ≡ true → is_in x (taken_in after) ≡ true
+
+slot-is-freed : (slot : SrqSlot) (cq : CompletionQueue) (t : ℕ) (xs : List Completion) → IsFreedSlot slot (slot_freed cq xs t slot) cq t xs
+slot-is-freed slot cq t xs = record { depth = depth slot.srq; users = refl; sequence = sequence slot.srq; taken = λ x all. taken slot.srq x all }
+  where
+    depth : (o : Option SharedReceives) → option_map (λ (s : SharedReceives). s.depth) (option_map (receives_after_poll cq t xs) o) ≡ option_map (λ (s : SharedReceives). s.depth) o
+    depth None = refl
+    depth (Some s) = ap Some (srq-depth cq t xs s)
+
+    sequence : (o : Option SharedReceives) → IfSome o (λ s. Ascend 0 s.next (s.taken ++ map (λ r. r.place) s.waiting)) → IfSome (option_map (receives_after_poll cq t xs) o) (λ s. Ascend 0 s.next (s.taken ++ map (λ r. r.place) s.waiting))
+    sequence None all = record {}
+    sequence (Some s) all = srq-sequence cq t xs s all
+
+    taken : (o : Option SharedReceives) (x : ℕ) → AllByRecursion (λ c. source_of_completion cq c ≡ Some t → (x == c.place) ≡ false) xs → is_in x (option_map_or (λ s. s.taken) o []) ≡ true
+        → is_in x (option_map_or (λ s. s.taken) (option_map (receives_after_poll cq t xs) o) []) ≡ true
+    taken None x all is = is
+    taken (Some s) x all is = srq-taken cq t xs s x all is
+
+-- the world after a poll has room
+polled-room : (c : Configuration) (w : World) (s : Slot) (cq : CompletionQueue) (xs rest : List Completion) → (taken : IsTaken c w s cq xs rest)
+    → HasRoom (put_all (map (freed w s cq xs) xs) (put w (Cq_of s) (Some (record cq { waiting = rest }))))
+polled-room c w s cq xs rest taken = subst (λ f. HaveRoom v.queue f v.srq) (sym (cqs-freed w s cq xs xs first)) (record {
+  reserved = same-reserved w.queue v.queue w.cq now w.srq v.srq (record {
+    uses = λ n. ap use_of (queue-is n) ∙ uses n (w.queue n);
+    rooms = with-same rooms_of w.cq s (Some (record cq { waiting = rest })) (ap rooms_of (sym taken.at.there));
+    depths = λ T. (shared T).depth;
+    users = λ T. (shared T).users;
+  }) room.reserved;
+  sequence = λ T. (shared T).sequence (room.sequence T);
+  holder = room.holder;
+  places = λ n. subst (IsSlotInPlace now v.srq room.holder) (sym (queue-is n)) (places n (w.queue n) refl);
+})
+  where
+    room : HasRoom w
+    room = taken.at.room
+
+    first : World
+    first = put w (Cq_of s) (Some (record cq { waiting = rest }))
+
+    v : World
+    v = put_all (map (freed w s cq xs) xs) first
+
+    now : Slot → Option CompletionQueue
+    now = left_in w s cq rest
+
+    -- a queue pair none of whose own places is freed
+    not-freed : (n : QueueId) (q : QueuePair) → w.queue n ≡ Present q → AllByRecursion (λ c. frees_queue cq n c ≡ false) xs
+        → AllByRecursion (λ c. queue_eq c.queue n ≡ true → (c.receive ≡ true) × (q.receives ≡ None)) xs
+    not-freed n q is all = all-map (λ c. frees_queue cq n c ≡ false) (λ c. queue_eq c.queue n ≡ true → (c.receive ≡ true) × (q.receives ≡ None)) one xs all
+      where
+        own : (o : Option ℕ) → q.srq ≡ o → is_some (option_map (srq_of q) o) ≡ true → is_none q.srq ≡ false
+        own None e has = absurd (true≢false (sym has))
+        own (Some t) e has = ap is_none e
+
+        none : (o : Option (WorkQueue RecvRequest)) → is_some o ≡ false → o ≡ None
+        none None e = refl
+        none (Some r) e = absurd (true≢false e)
+
+        takes : (t : ℕ) → TakesFrom s t (use_of (w.queue n)) → q.receives ≡ None
+        takes t from = none q.receives ((sound-queue c w n q taken.at.sound is).source ∙ own q.srq refl (ap is_some (subst (λ z. TakesFrom s t (use_of z)) is from).1))
+
+        one : (x : Completion) → frees_queue cq n x ≡ false → queue_eq x.queue n ≡ true → (x.receive ≡ true) × (q.receives ≡ None)
+        one x e same = at (source_of_completion cq x) refl
+          where
+            at : (o : Option ℕ) → source_of_completion cq x ≡ o → (x.receive ≡ true) × (q.receives ≡ None)
+            at None f = absurd (true≢false (sym (ap₂ (λ a b. is_none a && b) f same) ∙ e))
+            at (Some t) f = (
+              (source-receive cq x t f).0,
+              takes t (subst (λ m. TakesFrom s t (use_of (w.queue m))) (queue-path x.queue n same)
+                  (source-takes (λ n. use_of (w.queue n)) (λ t. depth_of (w.srq t)) s cq.reservations x.queue t (at-due c w s cq taken.at) (source-receive cq x t f).1)),
+            )
+
+    same-slot : (n : QueueId) (z : QueueSlot) → w.queue n ≡ z → AllByRecursion (λ c. frees_queue cq n c ≡ false) xs → z ≡ slot_after_poll n xs z
+    same-slot n (NoQueue incarnation timers) is all = refl
+    same-slot n (Present q) is all = ap Present (sym (poll-none n xs q (not-freed n q is all)))
+
+    queue-is : (n : QueueId) → v.queue n ≡ slot_after_poll n xs (w.queue n)
+    queue-is n = queues-freed w s cq xs xs first n ∙ by (list_any (frees_queue cq n) xs) refl
+      where
+        by : (b : Bool) → list_any (frees_queue cq n) xs ≡ b → (if b then slot_after_poll n xs (w.queue n) else w.queue n) ≡ slot_after_poll n xs (w.queue n)
+        by true e = refl
+        by false e = same-slot n (w.queue n) refl (none-of (frees_queue cq n) xs e)
+
+    uses : (n : QueueId) (z : QueueSlot) → use_of (slot_after_poll n xs z) ≡ use_of z
+    uses n (NoQueue incarnation timers) = refl
+    uses n (Present q) = (poll-beside n xs q).uses
+
+    -- a shared receive queue after the poll, which is freed in part where it is of this domain
+    shared : (T : Slot) → IsFreedSlot (w.srq T) (v.srq T) cq T.slot xs
+    shared T = subst (λ z. IsFreedSlot (w.srq T) z cq T.slot xs) (sym (shared-freed w s cq xs xs first T)) (by (list_any (frees_shared cq s T) xs))
+      where
+        by : (b : Bool) → IsFreedSlot (w.srq T) (if b then slot_freed cq xs T.slot (w.srq T) else w.srq T) cq T.slot xs
+        by true = slot-is-freed (w.srq T) cq T.slot xs
+        by false = record { depth = refl; users = refl; sequence = λ all. all; taken = λ x all is. is }
+
+    stays : (T : Slot) (x : ℕ) → (record s { slot = T.slot } ≡ T → AllByRecursion (λ c. source_of_completion cq c ≡ Some T.slot → (x == c.place) ≡ false) xs)
+        → is_in x (taken_in (w.srq T)) ≡ true → is_in x (taken_in (v.srq T)) ≡ true
+    stays T x apart is = by (list_any (frees_shared cq s T) xs) refl
+      where
+        by : (b : Bool) → list_any (frees_shared cq s T) xs ≡ b → is_in x (taken_in (v.srq T)) ≡ true
+        by true e = (shared T).taken x (apart (frees-domain cq s T xs e)) is
+        by false e = ap (λ z. is_in x (taken_in z)) (shared-freed w s cq xs xs first T ∙ ap (λ b. if b then slot_freed cq xs T.slot (w.srq T) else w.srq T) e) ∙ is
+
+    -- a queue pair after the poll
+    pair : (q : QueuePair) → w.queue q.queue ≡ Present q → IsInPlace w.cq w.srq room.holder q → IsInPlace now v.srq room.holder (after_poll q.queue xs q)
+    pair q there place = by (poll-beside q.queue xs q)
+      where
+        p : QueuePair
+        p = after_poll q.queue xs q
+
+        by : IsSameBeside q p → IsInPlace now v.srq room.holder p
+        by same = record {
+          sends = subst (λ n. Ascend p.sends.first p.requester.oldest (places_of_side n false (waits_in now (send_cq_of p)))) (sym same.queue)
+              (subst (λ t. Ascend p.sends.first p.requester.oldest (places_of_side q.queue false (waits_in now t))) (sym same.send)
+              (subst (λ o. Ascend p.sends.first o (places_of_side q.queue false (waits_in now (send_cq_of q)))) (sym same.oldest)
+              (poll-sends q.queue xs q q.requester.oldest (places_of_side q.queue false (waits_in now (send_cq_of q)))
+              (subst (Ascend q.sends.first q.requester.oldest) (sides-split c w s cq xs rest q false taken there) place.sends))));
+          receives = subst (λ n. IfSome p.receives (λ r. Ascend r.first (first_held r p.responder.message) (places_of_side n true (waits_in now (recv_cq_of p))))) (sym same.queue)
+              (subst (λ t. IfSome p.receives (λ r. Ascend r.first (first_held r p.responder.message) (places_of_side q.queue true (waits_in now t)))) (sym same.recv)
+              (subst (λ m. IfSome p.receives (λ r. Ascend r.first (first_held r m) (places_of_side q.queue true (waits_in now (recv_cq_of q))))) (sym same.message)
+              (poll-receives q.queue xs q (places_of_side q.queue true (waits_in now (recv_cq_of q)))
+              (subst (OwnAscend q.receives (λ r. first_held r q.responder.message)) (sides-split c w s cq xs rest q true taken there) place.receives))));
+          shared = subst (λ o. IfSome o (λ t. AreHeld room.holder p.queue (srq_of p t) (taken_in (v.srq (srq_of p t))) (places_kept now p))) (sym same.srq) (held q.srq place.shared);
+        }
+          where
+            behind : List ℕ
+            behind = places_of_side q.queue true (waits_in now (recv_cq_of q)) ++ places_in_use q.responder.message
+
+            kept : places_kept w.cq q ≡ places_of_side q.queue true xs ++ behind
+            kept = ap (λ zs. zs ++ places_in_use q.responder.message) (sides-split c w s cq xs rest q true taken there)
+                ∙ append_assoc (places_of_side q.queue true xs) (places_of_side q.queue true (waits_in now (recv_cq_of q))) (places_in_use q.responder.message)
+
+            kept-now : places_kept now p ≡ behind
+            kept-now = ap₂ (λ n t. places_of_side n true (waits_in now t) ++ places_in_use p.responder.message) same.queue same.recv
+                ∙ ap (λ m. places_of_side q.queue true (waits_in now (recv_cq_of q)) ++ places_in_use m) same.message
+
+            left : (T : Slot) → AreHeld room.holder q.queue T (taken_in (w.srq T)) (places_of_side q.queue true xs ++ behind) → AreHeld room.holder q.queue T (taken_in (v.srq T)) behind
+            left T all = (
+              distinct-behind (places_of_side q.queue true xs) behind all.0,
+              all-zip (λ x. is_in x behind ≡ true) (λ x. (is_in x (taken_in (w.srq T)) ≡ true) × (room.holder T x ≡ q.queue)) (λ x. (is_in x (taken_in (v.srq T)) ≡ true) × (room.holder T x ≡ q.queue))
+                  (λ x is two. (stays T x (λ domain. left-apart c w s cq xs rest q.queue T behind x taken domain all.0 is two.1) two.0, two.1)) behind (all-self behind)
+                  (all-behind (λ x. (is_in x (taken_in (w.srq T)) ≡ true) × (room.holder T x ≡ q.queue)) (places_of_side q.queue true xs) behind all.1),
+            )
+
+            held : (o : Option ℕ) → IfSome o (λ t. AreHeld room.holder q.queue (srq_of q t) (taken_in (w.srq (srq_of q t))) (places_kept w.cq q))
+                → IfSome o (λ t. AreHeld room.holder p.queue (srq_of p t) (taken_in (v.srq (srq_of p t))) (places_kept now p))
+            held None all = record {}
+            held (Some t) all = subst (λ n. AreHeld room.holder n (srq_of p t) (taken_in (v.srq (srq_of p t))) (places_kept now p)) (sym same.queue)
+                (subst (λ T. AreHeld room.holder q.queue T (taken_in (v.srq T)) (places_kept now p)) (sym (same.shared t))
+                (subst (AreHeld room.holder q.queue (srq_of q t) (taken_in (v.srq (srq_of q t)))) (sym kept-now)
+                (left (srq_of q t) (subst (AreHeld room.holder q.queue (srq_of q t) (taken_in (w.srq (srq_of q t)))) kept all))))
+
+    places : (n : QueueId) (z : QueueSlot) → w.queue n ≡ z → IsSlotInPlace now v.srq room.holder (slot_after_poll n xs z)
+    places n (NoQueue incarnation timers) is = record {}
+    places n (Present q) is = subst (λ m. IsInPlace now v.srq room.holder (after_poll m xs q)) named
+        (pair q (ap w.queue named ∙ is) (subst (IsSlotInPlace w.cq w.srq room.holder) is (room.places n)))
+      where
+        named : q.queue ≡ n
+        named = sound-named c w taken.at.sound n q is
+
+pub room-poll : (c : Configuration) (w : World) (call : Call) (s : Slot) (n least : ℕ) → IsSoundWorld c w → HasRoom w → EndsIn w (LeavesRoom w) (poll_plan call s n least)
+room-poll c w call s n least sound room = by (w.cq s) refl
+  where
+    taken : (cq : CompletionQueue) → w.cq s ≡ Some cq → EndsIn w (LeavesRoom w) (Take_plan call s cq (take n cq.waiting))
+    taken cq is = places-end w (LeavesRoom w) s cq (take n cq.waiting) (take n cq.waiting) _
+        (polled-room c w s cq (take n cq.waiting) (drop (length (take n cq.waiting)) cq.waiting) (record { at = record { sound = sound; room = room; there = is }; split = sym (take-drop n cq.waiting) }))
+
+    by : (o : Option CompletionQueue) → w.cq s ≡ o → EndsIn w (LeavesRoom w) (Poll_of call s n least o)
+    by None is = room
+    by (Some cq) is = (λ e. room, λ range. (λ few. record {}, λ enough. taken cq is))
