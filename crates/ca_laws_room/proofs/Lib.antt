@@ -9,4 +9,5 @@ pub mod EmptiedRoomLemmas
 pub mod DestroyRoomLemmas
 pub mod CreateRoomLemmas
 pub mod PollRoomLemmas
+pub mod EventRoomLemmas
 pub mod RoomLemmas
