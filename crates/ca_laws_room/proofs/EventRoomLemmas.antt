@@ -1,18 +1,24 @@
 -- Every event leaves room.
-use Rattle.std.proofs.Common.{◌≡◌, Bool, true, false, List, [], ◌∷◌, length, refl}
+use Rattle.std.proofs.Common.{◌≡◌, ◌+◌, ◌≤◌, ◌<◌, arith, Bool, true, false, List, [], ◌∷◌, ◌++◌, length, Some, subst, refl}
+use Rattle.std.proofs.lemmas.List.{length-append}
+use Rattle.ca_base.specs.declared.completion.Completion.{Completion}
+use Rattle.ca_keys.specs.declared.names.Slot.{Slot}
 use Rattle.ca_base.specs.Configuration.{Configuration}
 use Rattle.ca_keys.specs.Memory.{bytes_at}
+use Rattle.ca_base.specs.objects.CompletionQueue.{CompletionQueue, after_puts}
+use Rattle.ca_model.specs.declared.mark.Mark.{Mark}
 use Rattle.ca_model.specs.declared.event.Event.{Event}
 use Rattle.ca_model.specs.declared.event.Event.TheVariants as events
 use Rattle.ca_model.specs.declared.verb.Verb.{Verb}
 use Rattle.ca_model.specs.declared.verb.Verb.TheVariants as verbs
 use Rattle.ca_model.specs.machine.Frame.{Afterwards}
-use Rattle.ca_model.specs.machine.Plan.{Finish, If, Look, Plan, Read, Stuck, Write, perform, put_all, write_all}
-use Rattle.ca_model.specs.machine.Sound.{CanBeMade, HasFewPieces, IsSoundWorld}
+use Rattle.ca_model.specs.machine.Plan.{Did, Finish, If, Look, Plan, Read, Stuck, Write, perform, put_all, write_all}
+use Rattle.ca_model.specs.machine.Sound.{AreLimited, CanBeMade, HasFewPieces, IsSoundWorld}
 use Rattle.ca_model.specs.machine.Step.{bytes_of_buffer, is_named, plan, run_of, step, verb_plan}
 use Rattle.ca_model.specs.machine.VerbAnswers.{Call}
 use Rattle.ca_model.specs.machine.World.{World, get}
 use Rattle.ca_model.proofs.FrameLemmas.{after_write}
+use Rattle.ca_laws_sound.proofs.SoundLemmas.{event-sound}
 use Rattle.ca_laws_sound.proofs.TakenLemmas.{arrival-takes}
 use Rattle.ca_laws_sound.proofs.WorldLemmas.{EndsIn}
 use Rattle.ca_laws_room.specs.Room.{HasRoom}
@@ -20,6 +26,7 @@ use Rattle.ca_laws_room.proofs.CreateRoomLemmas.{room-create_qp}
 use Rattle.ca_laws_room.proofs.DestroyRoomLemmas.{room-destroy_qp}
 use Rattle.ca_laws_room.proofs.EmptiedRoomLemmas.{room-modify_qp}
 use Rattle.ca_laws_room.proofs.EngineRoomLemmas.{ArrivalsTake, LeavesRoom, room-deliver, room-inject, room-request, room-respond, room-timeout, room-wake}
+use Rattle.ca_laws_room.proofs.FitLemmas.{waiting-few}
 use Rattle.ca_laws_room.proofs.ObjectRoomLemmas.{room-alloc_mr, room-alloc_mw, room-alloc_pd, room-create_cq, room-create_srq, room-dealloc_mw, room-dealloc_pd, room-dereg_mr, room-destroy_cq, room-destroy_srq, room-load, room-post_srq, room-reg_mr, room-store}
 use Rattle.ca_laws_room.proofs.PairRoomLemmas.{room-post_recv, room-post_send, room-query}
 use Rattle.ca_laws_room.proofs.PollRoomLemmas.{room-poll}
@@ -81,3 +88,16 @@ perform-room (Finish changes writes marks) w ends = writes-room writes (put_all 
 
 pub event-room : (c : Configuration) (event : Event) (w : World) → IsSoundWorld c w → HasRoom w → CanBeMade event → Afterwards HasRoom (step c w event)
 event-room c event w sound room few = perform-room (plan c event) w (room-event c w event sound room few)
+
+-- what an event puts into a completion queue fits, with what waits there
+pub together-fit : (c : Configuration) (event : Event) (w v : World) (ms : List Mark) (s : Slot) (q : CompletionQueue) (put : List Completion) → AreLimited c → IsSoundWorld c w → HasRoom w
+    → CanBeMade event → step c w event ≡ Did v ms → v.cq s ≡ Some (after_puts put q) → length q.waiting + length put ≤ q.capacity
+together-fit c event w v ms s q put limited sound room few did there = omega (arith, length-append q.waiting put, waiting-few c v s (after_puts put q)
+    (subst (Afterwards (IsSoundWorld c)) did (event-sound c event w limited sound few)) (subst (Afterwards HasRoom) did (event-room c event w sound room few)) there)
+
+-- and each of them in its turn
+pub each-fits : (c : Configuration) (event : Event) (w v : World) (ms : List Mark) (s : Slot) (q : CompletionQueue) (first : List Completion) (next : Completion) (others : List Completion)
+    → AreLimited c → IsSoundWorld c w → HasRoom w → CanBeMade event → step c w event ≡ Did v ms → v.cq s ≡ Some (after_puts (first ++ next ∷ others) q)
+    → length (after_puts first q).waiting < (after_puts first q).capacity
+each-fits c event w v ms s q first next others limited sound room few did there =
+    omega (arith, length-append q.waiting first, length-append first (next ∷ others), together-fit c event w v ms s q (first ++ next ∷ others) limited sound room few did there)

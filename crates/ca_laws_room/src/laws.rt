@@ -1,8 +1,51 @@
+ghost use Rattle.std.specs.Prelude.{◌≡◌, ℕ, ◌+◌, ◌≤◌, ◌<◌, List, ◌∷◌, ◌++◌, length, Some};
+ghost use Rattle.ca_base.specs.Configuration.{Configuration};
+ghost use Rattle.ca_base.specs.declared.completion.Completion.{Completion};
+ghost use Rattle.ca_base.specs.declared.limits.TheConstants.{MAX_DEPTH};
 ghost use Rattle.ca_keys.specs.Memory.{ByteMap};
+ghost use Rattle.ca_keys.specs.declared.names.QueueId.{QueueId};
+ghost use Rattle.ca_keys.specs.declared.names.Slot.{Slot};
+ghost use Rattle.ca_base.specs.objects.CompletionQueue.{CompletionQueue, after_puts, receives_of};
 ghost use Rattle.ca_laws_room.specs.Room.{HasRoom};
-ghost use Rattle.ca_model.specs.machine.World.{opening_world};
+ghost use Rattle.ca_model.specs.declared.event.Event.{Event};
+ghost use Rattle.ca_model.specs.declared.mark.Mark.{Mark};
+ghost use Rattle.ca_model.specs.machine.Frame.{Afterwards};
+ghost use Rattle.ca_model.specs.machine.Plan.{Did};
+ghost use Rattle.ca_model.specs.machine.Sound.{AreLimited, CanBeMade, IsSoundWorld};
+ghost use Rattle.ca_model.specs.machine.Step.{step};
+ghost use Rattle.ca_model.specs.machine.World.{World, opening_world};
 
 /// In the world before the first event no completion waits and nothing is reserved.
 pub fn opening_world_has_room()
     ensures { (byte : ByteMap) → HasRoom (opening_world byte) }
+{}
+
+/// Every event that can be made leaves room: what each queue pair reserved stays reserved, and what waits stands for
+/// requests and receives that occupy its queues, or for places that it took of a shared receive queue.
+pub fn event_keeps_room()
+    ensures { (c : Configuration) (event : Event) (w : World) → IsSoundWorld c w → HasRoom w → CanBeMade event
+        → Afterwards HasRoom (step c w event) }
+{}
+
+/// In a sound world that has room no more completions wait in a completion queue than its capacity, and of the receives
+/// of one queue pair no more than a queue may be deep, so that `Cq::drop_queue` may remove them.
+pub fn completion_queues_hold_what_waits()
+    ensures waiting { (c : Configuration) (w : World) (s : Slot) (q : CompletionQueue) → IsSoundWorld c w → HasRoom w
+        → w.cq s ≡ Some q → length q.waiting ≤ q.capacity }
+    ensures receives { (c : Configuration) (w : World) (s : Slot) (q : CompletionQueue) (queue : QueueId)
+        → IsSoundWorld c w → HasRoom w → w.cq s ≡ Some q → length (receives_of queue q) ≤ MAX_DEPTH }
+{}
+
+/// Where an event puts completions into a completion queue, they fit, together with what waits there already; and before
+/// each of them is put, fewer wait than the capacity, which is what `Cq::put` asks.
+pub fn completions_of_an_event_fit()
+    ensures together { (c : Configuration) (event : Event) (w v : World) (ms : List Mark) (s : Slot)
+        (q : CompletionQueue) (put : List Completion) → AreLimited c → IsSoundWorld c w → HasRoom w → CanBeMade event
+        → step c w event ≡ Did v ms → v.cq s ≡ Some (after_puts put q)
+        → length q.waiting + length put ≤ q.capacity }
+    ensures each { (c : Configuration) (event : Event) (w v : World) (ms : List Mark) (s : Slot) (q : CompletionQueue)
+        (first : List Completion) (next : Completion) (others : List Completion) → AreLimited c → IsSoundWorld c w
+        → HasRoom w → CanBeMade event → step c w event ≡ Did v ms
+        → v.cq s ≡ Some (after_puts (first ++ next ∷ others) q)
+        → length (after_puts first q).waiting < (after_puts first q).capacity }
 {}
