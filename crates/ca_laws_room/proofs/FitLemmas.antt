@@ -24,7 +24,7 @@ use Rattle.ca_model.specs.machine.Invariants.{IsQueue, IsReceives, IsSharedRecei
 use Rattle.ca_model.specs.machine.Places.{Ascend, first_held, places_in_use, places_of_side}
 use Rattle.ca_model.specs.machine.Sound.{IsQueueOf, IsSettled, IsSoundWorld, side_of}
 use Rattle.ca_model.specs.machine.World.{World, Cq_of, Queue_of, Srq_of}
-use Rattle.ca_cq.specs.Room.{HaveRoomOf, IsReserved, count_against, counts_against, is_of_side, reservation_of, share_room}
+use Rattle.ca_cq.specs.Room.{HaveRoomOf, IsReserved, count_against, counts_against, is_new_side, is_of_side, reservation_of, share_room}
 use Rattle.ca_cq.proofs.Rooms.{all-of, all-zip, fewer}
 use Rattle.ca_cq.proofs.RoomLemmas.{own-all, waiting-fits}
 use Rattle.ca_laws_sound.proofs.SettledLemmas.{queue-path, queue-refl, slot-path, slot-refl}
@@ -518,3 +518,31 @@ receives-few c w s v n sound room there = omega (arith, ap length (receives-side
         side : (b : Bool) → slot_eq (recv_cq_of q) s ≡ b → length (places_of_side n true v.waiting) ≤ MAX_DEPTH
         side true e = here q is (sound-queue c w n q sound is) (slot-path (recv_cq_of q) s e) q.receives refl q.srq refl
         side false e = few (ap length (side-empty c w s v n true sound there (λ p i. ap (λ z. slot_eq (cq-in z) s) (sym i ∙ is) ∙ e)))
+
+-- a slot without a queue pair has no reservation: each that stands is of a queue pair that is there
+pub vacant-new : (w : World) (s : Slot) (q : CompletionQueue) (who : Reserve) (incarnation timers : ℕ) → HasRoom w → w.queue (user_of who) ≡ NoQueue incarnation timers → w.cq s ≡ Some q
+    → is_new_side who q ≡ true
+vacant-new w s q who incarnation timers room vacant there = ap not (none q.reservations
+    (subst (λ o. IfSome (rooms_of o) (λ v. AllByRecursion (λ r. IsDue uses depths s r.who r.room) v.reservations)) there (room.reserved.due s)))
+  where
+    uses : QueueId → Option Use
+    uses n = use_of (w.queue n)
+
+    depths : Slot → Option ℕ
+    depths t = depth_of (w.srq t)
+
+    empty : uses (user_of who) ≡ None
+    empty = ap use_of vacant
+
+    absent : (o : Reserve) (room : ℕ) → uses (user_of o) ≡ None → IsDue uses depths s o room → ⊥
+    absent (Sends n) room e due = subst (Has (λ u. (u.send_cq ≡ s) × (u.send_depth ≡ room))) e due
+    absent (Receives n) room e due = subst (Has (λ u. (u.recv_cq ≡ s) × (u.recv_depth ≡ Some room))) e due
+    absent (Shared t n) room e due = subst (Has (λ u. (u.recv_cq ≡ s) × (u.srq ≡ Some (record s { slot = t })) × (depths (record s { slot = t }) ≡ Some room))) e due
+
+    other : (o : Reserve) (room : ℕ) → IsDue uses depths s o room → (b : Bool) → is_same_side o who ≡ b → b ≡ false
+    other o room due false e = refl
+    other o room due true e = absurd (absent o room (ap uses (queue-path (user_of o) (user_of who) (and_parts (queue_eq (user_of o) (user_of who)) (bool_eq (is_for_sends o) (is_for_sends who)) e).0) ∙ empty) due)
+
+    none : (rs : List Reservation) → AllByRecursion (λ r. IsDue uses depths s r.who r.room) rs → list_any (λ r. is_same_side r.who who) rs ≡ false
+    none [] due = refl
+    none (r ∷ rs) due = ap₂ (λ a b. a || b) (other r.who r.room due.0 (is_same_side r.who who) refl) (none rs due.1)

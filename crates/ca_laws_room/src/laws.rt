@@ -1,11 +1,14 @@
-ghost use Rattle.std.specs.Prelude.{◌≡◌, ℕ, ◌+◌, ◌≤◌, ◌<◌, List, ◌∷◌, ◌++◌, length, Some};
+ghost use Rattle.std.specs.Prelude.{◌≡◌, ℕ, ◌+◌, ◌≤◌, ◌<◌, true, List, ◌∷◌, ◌++◌, length, Some};
 ghost use Rattle.ca_base.specs.Configuration.{Configuration};
 ghost use Rattle.ca_base.specs.declared.completion.Completion.{Completion};
 ghost use Rattle.ca_base.specs.declared.limits.TheConstants.{MAX_DEPTH};
 ghost use Rattle.ca_keys.specs.Memory.{ByteMap};
 ghost use Rattle.ca_keys.specs.declared.names.QueueId.{QueueId};
 ghost use Rattle.ca_keys.specs.declared.names.Slot.{Slot};
-ghost use Rattle.ca_base.specs.objects.CompletionQueue.{CompletionQueue, after_puts, receives_of};
+ghost use Rattle.ca_base.specs.objects.CompletionQueue.{CompletionQueue, after_puts, receives_of, user_of};
+ghost use Rattle.ca_base.specs.objects.QueuePair.{NoQueue};
+ghost use Rattle.ca_base.specs.declared.reserve.Reserve.{Reserve};
+ghost use Rattle.ca_cq.specs.Room.{is_new_side};
 ghost use Rattle.ca_laws_room.specs.Room.{HasRoom};
 ghost use Rattle.ca_model.specs.declared.event.Event.{Event};
 ghost use Rattle.ca_model.specs.declared.mark.Mark.{Mark};
@@ -48,4 +51,11 @@ pub fn completions_of_an_event_fit()
         → HasRoom w → CanBeMade event → step c w event ≡ Did v ms
         → v.cq s ≡ Some (after_puts (first ++ next ∷ others) q)
         → length (after_puts first q).waiting < (after_puts first q).capacity }
+{}
+
+/// Where a slot has no queue pair, neither of its sides has a reservation in any completion queue. So the sides of a new
+/// queue pair are new, and what it reserves may be given back (`ca_cq`, `release_undoes_reserve`).
+pub fn vacant_slots_reserve_nothing()
+    ensures { (w : World) (s : Slot) (q : CompletionQueue) (who : Reserve) (incarnation timers : ℕ) → HasRoom w
+        → w.queue (user_of who) ≡ NoQueue incarnation timers → w.cq s ≡ Some q → is_new_side who q ≡ true }
 {}
