@@ -10,4 +10,5 @@ pub mod DestroyRoomLemmas
 pub mod CreateRoomLemmas
 pub mod PollRoomLemmas
 pub mod EventRoomLemmas
+pub mod RoomCases
 pub mod RoomLemmas
