@@ -111,7 +111,7 @@ pub advance-room : (queue : QueueId → QueueSlot) (cq now : Slot → Option Com
     → ((t : Slot) → depth_of (srq' t) ≡ depth_of (srq t)) → ((t : Slot) → (srq' t).users ≡ (srq t).users) → ((t : Slot) → IsInSequence (srq' t))
     → ((n : QueueId) → queue_eq q.queue n ≡ false → (t : Slot) (x : ℕ) → is_in x (taken_in (srq t)) ≡ true → room.holder t x ≡ n → (is_in x (taken_in (srq' t)) ≡ true) × (after t x ≡ n))
     → IfSome q.srq (λ t. (places_done true e.marks ++ places_in_use e.queue.responder.message ≡ places_in_use q.responder.message ++ new)
-        × AreHeld after q.queue (srq_of q t) (taken_in (srq' (srq_of q t))) (places_kept cq q ++ new))
+    × AreHeld after q.queue (srq_of q t) (taken_in (srq' (srq_of q t))) (places_kept cq q ++ new))
     → HaveRoom (with_at queue_eq queue q.queue (Present e.queue)) now srq'
 advance-room queue cq now srq srq' after q e new room named there later order put depths users sequence stay kept = record {
   reserved = same-reserved queue (with_at queue_eq queue q.queue (Present e.queue)) cq now srq srq' (record {
@@ -198,7 +198,7 @@ taken-more slot x is = by slot.srq is
 pub take-room : (queue : QueueId → QueueSlot) (cq now : Slot → Option CompletionQueue) (srq : Slot → SrqSlot) (q : QueuePair) (e : Effects) (t : ℕ)
     → HaveRoom queue cq srq → AreNamed queue → queue q.queue ≡ Present q → IsLater q e.queue → IsInOrder q e → q.srq ≡ Some t
     → ((s : SharedReceives) → (srq (srq_of q t)).srq ≡ Some s → places_done true e.marks ++ places_in_use e.queue.responder.message
-        ≡ places_in_use q.responder.message ++ option_map_or (λ r. r.place ∷ []) (first_receive s) [])
+    ≡ places_in_use q.responder.message ++ option_map_or (λ r. r.place ∷ []) (first_receive s) [])
     → IsPut cq now q e.marks
     → HaveRoom (with_at queue_eq queue q.queue (Present e.queue)) now (with_at slot_eq srq (srq_of q t) (taken_slot (srq (srq_of q t))))
 take-room queue cq now srq q e t room named there later order is takes put = by (srq T).srq refl (shared-there queue cq srq q t room there is)

@@ -442,14 +442,20 @@ room-create_qp c w call x sound room = (
     cqs vacant shared is (Some send) send-is None recv-is = room
     cqs vacant shared is (Some send) send-is (Some recv) recv-is = (
       λ refused. room,
-      λ named. (λ refused. room, λ depth. (λ refused. room, λ fits. made-room c w x send recv shared (record {
-        sound = sound;
-        room = room;
-        vacant = vacant;
-        send_is = send-is;
-        recv_is = recv-is;
-        shared_is = is;
-        named = named;
-        fits = fits;
-      }))),
+      λ named. (
+        λ refused. room,
+        λ depth. (
+          λ refused. room,
+          λ fits. made-room c w x send recv shared (record {
+            sound = sound;
+            room = room;
+            vacant = vacant;
+            send_is = send-is;
+            recv_is = recv-is;
+            shared_is = is;
+            named = named;
+            fits = fits;
+          }),
+        ),
+      ),
     )

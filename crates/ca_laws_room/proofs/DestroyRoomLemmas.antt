@@ -47,8 +47,12 @@ others name rs = filter (λ r. not (queue_eq (user_of r.who) name)) rs
 -- what is reserved without a queue pair is no more
 others-fewer : (name : QueueId) (uses : QueueId → Option Use) (depths : Slot → Option ℕ) (s : Slot) (rs : List Reservation) → AllByRecursion (λ r. IsDue uses depths s r.who r.room) rs
     → room_reserved (others name rs) ≤ room_reserved rs
-others-fewer name uses depths s rs due = omega (arith, rooms-reserved rs, rooms-reserved (others name rs),
-    filter-rooms one_source room_of (λ a b. one-swap a.who b.who) (λ a b one c. one-agrees a.who b.who one c.who) (λ r. not (queue_eq (user_of r.who) name)) [] rs (alike-sources rs (all-alike uses depths s rs due)))
+others-fewer name uses depths s rs due = omega (
+  arith,
+  rooms-reserved rs,
+  rooms-reserved (others name rs),
+  filter-rooms one_source room_of (λ a b. one-swap a.who b.who) (λ a b one c. one-agrees a.who b.who one c.who) (λ r. not (queue_eq (user_of r.who) name)) [] rs (alike-sources rs (all-alike uses depths s rs due)),
+)
 
 -- the side of another queue pair keeps its reservation
 side-stays : (name n : QueueId) (who : Reserve) (rs : List Reservation) → user_of who ≡ n → queue_eq name n ≡ false → has_side who rs ≡ true → has_side who (others name rs) ≡ true

@@ -92,8 +92,12 @@ event-room c event w sound room few = perform-room (plan c event) w (room-event 
 -- what an event puts into a completion queue fits, with what waits there
 pub together-fit : (c : Configuration) (event : Event) (w v : World) (ms : List Mark) (s : Slot) (q : CompletionQueue) (put : List Completion) → AreLimited c → IsSoundWorld c w → HasRoom w
     → CanBeMade event → step c w event ≡ Did v ms → v.cq s ≡ Some (after_puts put q) → length q.waiting + length put ≤ q.capacity
-together-fit c event w v ms s q put limited sound room few did there = omega (arith, length-append q.waiting put, waiting-few c v s (after_puts put q)
-    (subst (Afterwards (IsSoundWorld c)) did (event-sound c event w limited sound few)) (subst (Afterwards HasRoom) did (event-room c event w sound room few)) there)
+together-fit c event w v ms s q put limited sound room few did there = omega (
+  arith,
+  length-append q.waiting put,
+  waiting-few c v s (after_puts put q)
+      (subst (Afterwards (IsSoundWorld c)) did (event-sound c event w limited sound few)) (subst (Afterwards HasRoom) did (event-room c event w sound room few)) there,
+)
 
 -- and each of them in its turn
 pub each-fits : (c : Configuration) (event : Event) (w v : World) (ms : List Mark) (s : Slot) (q : CompletionQueue) (first : List Completion) (next : Completion) (others : List Completion)

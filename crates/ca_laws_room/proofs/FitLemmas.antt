@@ -354,8 +354,12 @@ within : (c : Configuration) (w : World) (s : Slot) (v : CompletionQueue) → Is
 within c w s v at (Sends n) room due = by (w.queue n) refl due
   where
     few : count_against v (Sends n) ≤ length (places_of_side n false v.waiting)
-    few = omega (arith, length-map (λ (x : Completion). x.place) (filter (is_of n false) v.waiting), fewer (counts_against v.reservations (Sends n)) (is_of n false) v.waiting
-        (all-of (λ x. counts_against v.reservations (Sends n) x ≡ true → is_of n false x ≡ true) (counts-sends v.reservations n) v.waiting))
+    few = omega (
+      arith,
+      length-map (λ (x : Completion). x.place) (filter (is_of n false) v.waiting),
+      fewer (counts_against v.reservations (Sends n)) (is_of n false) v.waiting
+          (all-of (λ x. counts_against v.reservations (Sends n) x ≡ true → is_of n false x ≡ true) (counts-sends v.reservations n) v.waiting),
+    )
 
     by : (z : QueueSlot) → w.queue n ≡ z → IsDue (λ m. use_of z) (λ t. depth_of (w.srq t)) s (Sends n) room → count_against v (Sends n) ≤ room
     by (NoQueue incarnation timers) is due = absurd due
@@ -363,8 +367,12 @@ within c w s v at (Sends n) room due = by (w.queue n) refl due
 within c w s v at (Receives n) room due = by (w.queue n) refl due
   where
     few : count_against v (Receives n) ≤ length (places_of_side n true v.waiting)
-    few = omega (arith, length-map (λ (x : Completion). x.place) (filter (is_of n true) v.waiting), fewer (counts_against v.reservations (Receives n)) (is_of n true) v.waiting
-        (all-of (λ x. counts_against v.reservations (Receives n) x ≡ true → is_of n true x ≡ true) (counts-receives v.reservations n) v.waiting))
+    few = omega (
+      arith,
+      length-map (λ (x : Completion). x.place) (filter (is_of n true) v.waiting),
+      fewer (counts_against v.reservations (Receives n)) (is_of n true) v.waiting
+          (all-of (λ x. counts_against v.reservations (Receives n) x ≡ true → is_of n true x ≡ true) (counts-receives v.reservations n) v.waiting),
+    )
 
     own : (q : QueuePair) → w.queue n ≡ Present q → recv_cq_of q ≡ s → (o : Option (WorkQueue RecvRequest)) → q.receives ≡ o → option_map (λ r. r.depth) o ≡ Some room → count_against v (Receives n) ≤ room
     own q is same None e depth = absurd (true≢false (sym (ap is_some depth)))

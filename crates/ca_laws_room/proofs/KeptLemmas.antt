@@ -315,7 +315,7 @@ held-without holder n t taken xs ys zs held = (distinct xs held.0, all xs held.1
 pub advanced : (cq now : Slot → Option CompletionQueue) (srq srq' : Slot → SrqSlot) (holder after : Holder) (q : QueuePair) (e : Effects) (new : List ℕ) → IsLater q e.queue → IsInOrder q e
     → ((s : Slot) (b : Bool) → Grows q.queue b e.marks (waits_in cq s) (waits_in now s))
     → IfSome q.srq (λ t. (places_done true e.marks ++ places_in_use e.queue.responder.message ≡ places_in_use q.responder.message ++ new)
-        × AreHeld after q.queue (srq_of q t) (taken_in (srq' (srq_of q t))) (places_kept cq q ++ new))
+    × AreHeld after q.queue (srq_of q t) (taken_in (srq' (srq_of q t))) (places_kept cq q ++ new))
     → IsInPlace cq srq holder q → IsInPlace now srq' after e.queue
 advanced cq now srq srq' holder after q e new later order grows kept place = record {
   sends = subst (λ n. Ascend e.queue.sends.first e.queue.requester.oldest (places_of_side n false (waits_in now (send_cq_of e.queue)))) (sym later.queue)
@@ -352,7 +352,7 @@ advanced cq now srq srq' holder after q e new later order grows kept place = rec
         (join true a.first (first_held a q.responder.message) (first_held b e.queue.responder.message) (waits_in cq (recv_cq_of q)) (waits_in now (recv_cq_of q)) (grows (recv_cq_of q) true) one own.1)
 
     shared : (o p : Option ℕ) → p ≡ o → IfSome o (λ t. (places_done true e.marks ++ places_in_use e.queue.responder.message ≡ places_in_use q.responder.message ++ new)
-            × AreHeld after q.queue (srq_of q t) (taken_in (srq' (srq_of q t))) (places_kept cq q ++ new))
+        × AreHeld after q.queue (srq_of q t) (taken_in (srq' (srq_of q t))) (places_kept cq q ++ new))
         → IfSome p (λ t. AreHeld after e.queue.queue (srq_of e.queue t) (taken_in (srq' (srq_of e.queue t))) (places_kept now e.queue))
     shared o None same all = record {}
     shared None (Some t) same all = absurd (true≢false (ap is_some same))

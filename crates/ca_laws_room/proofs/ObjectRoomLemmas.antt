@@ -252,8 +252,17 @@ shared-room queue cq srq s v room users sequence stay = record {
     by n (Present q) is place = still-in-use cq cq srq now room.holder room.holder q (λ t b. refl) (λ t e x h held. (taken n t (subst (λ z. Uses t (use_of z)) (sym is) e) x h, held)) place
 
 pub room-create_srq : (c : Configuration) (w : World) (call : Call) (s : Slot) (depth : ℕ) → IsSoundWorld c w → HasRoom w → EndsIn w (LeavesRoom w) (create_srq_plan call s depth)
-room-create_srq c w call s depth sound room = (λ is. room, λ there. (λ is. room, λ free. (λ is. room, λ range.
-    shared-room w.queue w.cq w.srq s (record (w.srq s) { srq = Some (empty_receives depth) }) room refl (omega arith) (λ n is. absurd (unused n is free)))))
+room-create_srq c w call s depth sound room = (
+  λ is. room,
+  λ there. (
+    λ is. room,
+    λ free. (
+      λ is. room,
+      λ range.
+          shared-room w.queue w.cq w.srq s (record (w.srq s) { srq = Some (empty_receives depth) }) room refl (omega arith) (λ n is. absurd (unused n is free)),
+    ),
+  ),
+)
   where
     unused : (n : QueueId) → Uses s (use_of (w.queue n)) → is_some (w.srq s).srq ≡ false → ⊥
     unused n is free = by (use_of (w.queue n)) is (room.reserved.shared n)
@@ -267,8 +276,14 @@ room-create_srq c w call s depth sound room = (λ is. room, λ there. (λ is. ro
         by (Some u) is all = true≢false (sym (subst (λ o. IfSome o (λ t. is_some (depth_of (w.srq t)) ≡ true)) is all) ∙ none (w.srq s).srq free)
 
 pub room-destroy_srq : (c : Configuration) (w : World) (call : Call) (s : Slot) → HasRoom w → EndsIn w (LeavesRoom w) (destroy_srq_plan call s)
-room-destroy_srq c w call s room = (λ is. room, λ there. (λ is. room, λ free.
-    shared-room w.queue w.cq w.srq s (record (w.srq s) { srq = None }) room refl (record {}) (λ n is. absurd (unused n is (room.reserved.used s) free))))
+room-destroy_srq c w call s room = (
+  λ is. room,
+  λ there. (
+    λ is. room,
+    λ free.
+        shared-room w.queue w.cq w.srq s (record (w.srq s) { srq = None }) room refl (record {}) (λ n is. absurd (unused n is (room.reserved.used s) free)),
+  ),
+)
   where
     unused : (n : QueueId) → Uses s (use_of (w.queue n)) → AreUsers (λ n. use_of (w.queue n)) s (w.srq s).users → nat_lt 0 (w.srq s).users ≡ false → ⊥
     unused n is used free = by used.names (omega (arith, used.few, ltb-false 0 (w.srq s).users free)) (used.all n is)
@@ -291,6 +306,12 @@ room-post_srq c w call s request room = by (w.srq s).srq refl
 
     by : (o : Option SharedReceives) → (w.srq s).srq ≡ o → EndsIn w (LeavesRoom w) (plan o)
     by None is = room
-    by (Some srq) is = (λ e. room, λ short. (λ e. room, λ free. shared-room w.queue w.cq w.srq s (record (w.srq s) { srq = Some (after_receive_post request srq) }) room refl
-        (sequence srq (subst (λ o. IfSome o (λ s. Ascend 0 s.next (s.taken ++ map (λ r. r.place) s.waiting))) is (room.sequence s)))
-        (λ n uses. (ap (option_map (λ s. s.depth)) (sym is), λ x h. ap (λ o. is_in x (option_map_or (λ (s : SharedReceives). s.taken) o [])) (sym is) ∙ h))))
+    by (Some srq) is = (
+      λ e. room,
+      λ short. (
+        λ e. room,
+        λ free. shared-room w.queue w.cq w.srq s (record (w.srq s) { srq = Some (after_receive_post request srq) }) room refl
+            (sequence srq (subst (λ o. IfSome o (λ s. Ascend 0 s.next (s.taken ++ map (λ r. r.place) s.waiting))) is (room.sequence s)))
+            (λ n uses. (ap (option_map (λ s. s.depth)) (sym is), λ x h. ap (λ o. is_in x (option_map_or (λ (s : SharedReceives). s.taken) o [])) (sym is) ∙ h)),
+      ),
+    )
