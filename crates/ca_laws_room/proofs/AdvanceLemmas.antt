@@ -1,20 +1,18 @@
 -- A queue pair that goes on in order leaves room, with what it takes of a shared receive queue.
-use Rattle.std.proofs.Common.{◌≡◌, ◌⊎◌, inl, inr, ℕ, suc, ◌+◌, ◌≤◌, ◌<◌, ◌==◌, ◌&&◌, ◌||◌, not, Bool, true, false, List, [], ◌∷◌, ◌++◌, length, map, filter, take, drop, Option, None, Some, IfSome, is_some, is_none, refl, arith, sym, ◌∙◌, ap, ap₂, subst, true≢false, if◌then◌else◌, append_assoc, slice_get}
-use Rattle.std.proofs.lemmas.Bool.{and_parts, eq-eqb, eqb-true, or_left, or_right}
+use Rattle.std.proofs.Common.{◌≡◌, inr, ℕ, ◌==◌, ◌&&◌, ◌||◌, Bool, true, false, List, [], ◌∷◌, ◌++◌, map, take, drop, Option, None, Some, IfSome, is_some, is_none, refl, sym, ◌∙◌, ap, ap₂, subst, true≢false, if◌then◌else◌, append_assoc, slice_get}
+use Rattle.std.proofs.lemmas.Bool.{or_left, or_right}
 use Rattle.std.proofs.lemmas.List.{append-nil}
-use Rattle.std.specs.List.{AllByRecursion, list_any}
+use Rattle.std.specs.List.{AllByRecursion}
 use Rattle.std.specs.Option.{option_and_then, option_map, option_map_or}
-use Rattle.ca_base.specs.declared.completion.Completion.{Completion}
 use Rattle.ca_base.specs.declared.queue_numbers.Message.{Message}
 use Rattle.ca_base.specs.declared.request.PlacedReceive.{PlacedReceive}
 use Rattle.ca_base.specs.declared.request.RecvRequest.{RecvRequest}
-use Rattle.ca_keys.specs.declared.names.DomainId.{DomainId}
 use Rattle.ca_keys.specs.declared.names.QueueId.{QueueId}
 use Rattle.ca_keys.specs.declared.names.Slot.{Slot}
 use Rattle.ca_base.specs.Configuration.{Configuration}
-use Rattle.ca_keys.specs.Equal.{bool_eq, queue_eq, slot_eq}
+use Rattle.ca_keys.specs.Equal.{queue_eq, slot_eq}
 use Rattle.ca_base.specs.objects.CompletionQueue.{CompletionQueue, after_puts}
-use Rattle.ca_base.specs.objects.QueuePair.{QueuePair, QueueSlot, NoQueue, Present, recv_cq_of, send_cq_of, srq_of}
+use Rattle.ca_base.specs.objects.QueuePair.{QueuePair, QueueSlot, Present, recv_cq_of, send_cq_of, srq_of}
 use Rattle.ca_base.specs.objects.SharedReceives.{SharedReceives, SrqSlot, after_receive_take, first_receive}
 use Rattle.ca_base.specs.objects.WorkQueue.{WorkQueue}
 use Rattle.ca_model.specs.Past.{with_at}
@@ -25,13 +23,13 @@ use Rattle.ca_model.specs.machine.Places.{AreTakenInOrder, Ascend, IsInOrder, Ta
 use Rattle.ca_model.specs.machine.Plan.{Update, ◌:=◌, put_all}
 use Rattle.ca_model.specs.machine.Row.{Effects}
 use Rattle.ca_model.specs.machine.Sound.{IsQueueOf, IsSoundWorld}
-use Rattle.ca_model.specs.machine.World.{World, Cq_of, Srq_of, Queue_of}
-use Rattle.ca_laws_sound.proofs.GoodLemmas.{AreSettledMarks, IsLater, IsGood}
-use Rattle.ca_laws_sound.proofs.SettledLemmas.{queue-path, queue-refl, slot-path, slot-refl}
+use Rattle.ca_model.specs.machine.World.{World, Srq_of, Queue_of}
+use Rattle.ca_laws_sound.proofs.GoodLemmas.{IsLater, IsGood}
+use Rattle.ca_laws_sound.proofs.SettledLemmas.{slot-path, slot-refl}
 use Rattle.ca_laws_sound.proofs.WorldLemmas.{IsThere, around_in, shared_of}
-use Rattle.ca_laws_room.specs.Room.{AreHeld, AreReserved, HasRoom, HaveRoom, Holder, IsInPlace, IsInSequence, IsSlotInPlace, Use, depth_of, is_in, places_kept, rooms_of, taken_in, use_of, waits_in}
-use Rattle.ca_laws_room.proofs.RoomLists.{all-behind, all-in, all-join, all-map, ascend-behind, distinct-append, in-append, in-apart, is_of, number-refl, number-swap}
-use Rattle.ca_laws_room.proofs.KeptLemmas.{AreAside, Grows, IsSameUse, SameQueues, advanced, aside-puts, held-kept, local-places, marks-of, puts-append, puts-rooms, queue-apart, queue-grows, queue-with-same, room-behind, same-queues, same-reserved, same-room, two-same, with-same}
+use Rattle.ca_laws_room.specs.Room.{AreHeld, HasRoom, HaveRoom, Holder, IsInPlace, IsInSequence, IsSlotInPlace, depth_of, is_in, places_kept, rooms_of, taken_in, use_of, waits_in}
+use Rattle.ca_laws_room.proofs.RoomLists.{all-join, all-map, ascend-behind, distinct-append, in-append, in-apart, number-refl}
+use Rattle.ca_laws_room.proofs.KeptLemmas.{AreAside, Grows, advanced, held-kept, local-places, marks-of, puts-rooms, queue-apart, queue-grows, queue-with-same, room-behind, same-reserved, two-same, with-same}
 
 -- what holds of each value of a function by its slot, where one value is another
 pub with-all : {V : Type 0} (P : Slot → V → Type 0) (f : Slot → V) (at : Slot) (v : V) → P at v → ((s : Slot) → P s (f s)) → (s : Slot) → P s (with_at slot_eq f at v s)

@@ -1,6 +1,6 @@
 -- A new queue pair leaves room: it reserves what can complete.
-use Rattle.std.proofs.Common.{◌≡◌, ℕ, suc, zero, ◌+◌, ◌≤◌, ◌<◌, ◌==◌, ◌&&◌, ◌||◌, nat_lt, not, Bool, true, false, List, [], ◌∷◌, ◌++◌, length, Option, None, Some, IfSome, is_some, is_none, refl, arith, sym, ◌∙◌, ap, ap₂, subst, true≢false, if◌then◌else◌}
-use Rattle.std.proofs.lemmas.Bool.{and_parts, eq-eqb, eqb-true, eqb-false, ltb-false, not-true, or_left, or_parts, or_right}
+use Rattle.std.proofs.Common.{◌≡◌, ℕ, suc, ◌≤◌, ◌==◌, ◌&&◌, ◌||◌, not, Bool, true, false, List, [], ◌∷◌, ◌++◌, Option, None, Some, IfSome, is_some, is_none, refl, arith, sym, ◌∙◌, ap, ap₂, subst, true≢false, if◌then◌else◌}
+use Rattle.std.proofs.lemmas.Bool.{eq-eqb, eqb-true, ltb-false, or_left, or_parts, or_right}
 use Rattle.std.specs.List.{AllByRecursion, list_any}
 use Rattle.std.specs.Option.{option_and_then, option_map, option_map_or}
 use Rattle.ca_base.specs.declared.change.Field.TheVariants as fields
@@ -16,21 +16,21 @@ use Rattle.ca_keys.specs.Numbers.{queue_of}
 use Rattle.ca_base.specs.objects.CompletionQueue.{CompletionQueue, after_reserve, is_for_sends, is_same_side, is_too_small, room_reserved, user_of, with_reservation}
 use Rattle.ca_base.specs.objects.Domain.{with_object}
 use Rattle.ca_base.specs.objects.Mailbox.{with_peer}
-use Rattle.ca_base.specs.objects.QueuePair.{QueuePair, QueueSlot, NoQueue, Present, is_present, recv_cq_of, send_cq_of, srq_of}
+use Rattle.ca_base.specs.objects.QueuePair.{QueuePair, QueueSlot, NoQueue, Present, is_present, srq_of}
 use Rattle.ca_base.specs.objects.SharedReceives.{SharedReceives, SrqSlot}
 use Rattle.ca_base.specs.objects.WorkQueue.{WorkQueue, empty_queue}
 use Rattle.ca_model.specs.Past.{with_at}
 use Rattle.ca_model.specs.declared.answer.Answer.TheVariants as answers
 use Rattle.ca_model.specs.declared.answer.Refusal.TheVariants.{CqTooSmall, NoSuch, OutOfRange}
 use Rattle.ca_model.specs.machine.Places.{Ascend, first_held, places_of_side}
-use Rattle.ca_model.specs.machine.Plan.{If, Look, Plan, Update, ◌:=◌, put_all}
+use Rattle.ca_model.specs.machine.Plan.{If, Look, Plan, Update, ◌:=◌}
 use Rattle.ca_model.specs.machine.QueuePairVerbs.{Creation, With_shared, before_receives, beside, create_qp_plan, has_bad_depth, has_no_room, new_queue, receive_reserve, receive_room, send_reserved, user_updates}
 use Rattle.ca_model.specs.machine.Sound.{IsSoundWorld}
 use Rattle.ca_model.specs.machine.VerbAnswers.{Answer_plan, Call, Refuse_plan}
 use Rattle.ca_model.specs.machine.World.{World, Cq_of, Domain_of, Mailbox_of, Queue_of, Srq_of}
 use Rattle.ca_laws_sound.proofs.SettledLemmas.{queue-path, queue-refl, slot-path, slot-refl}
 use Rattle.ca_laws_sound.proofs.WorldLemmas.{EndsIn}
-use Rattle.ca_laws_room.specs.Room.{AreHeld, AreReserved, AreUsers, Has, HasRoom, HasSide, HaveRoom, Holder, IsDue, IsInPlace, IsInSequence, IsSlotInPlace, Rooms, Use, Uses, depth_of, has_side, is_in, rooms_of, taken_in, use_of, waits_in}
+use Rattle.ca_laws_room.specs.Room.{AreHeld, AreReserved, AreUsers, Has, HasRoom, HasSide, HaveRoom, IsDue, IsInPlace, IsInSequence, Use, Uses, depth_of, has_side, is_in, rooms_of, taken_in, use_of, waits_in}
 use Rattle.ca_laws_room.proofs.RoomLists.{all-map}
 use Rattle.ca_laws_room.proofs.FitLemmas.{side-empty, some-same}
 use Rattle.ca_laws_room.proofs.KeptLemmas.{local-places, two-same, with-same}

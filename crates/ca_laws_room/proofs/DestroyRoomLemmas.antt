@@ -1,42 +1,41 @@
 -- The destruction of a queue pair leaves room: what it reserved is free again.
-use Rattle.std.proofs.Common.{◌≡◌, ℕ, suc, zero, ◌+◌, ◌-◌, ◌≤◌, ◌<◌, ◌==◌, ◌&&◌, ◌||◌, nat_lt, not, Bool, true, false, List, [], ◌∷◌, ◌++◌, length, map, filter, Option, None, Some, IfSome, is_some, is_none, refl, arith, sym, ◌∙◌, ap, ap₂, subst, true≢false, if◌then◌else◌}
-use Rattle.std.proofs.lemmas.Bool.{and_parts, not-true, or_left, or_right}
+use Rattle.std.proofs.Common.{◌≡◌, ℕ, suc, ◌-◌, ◌≤◌, ◌||◌, nat_lt, not, Bool, true, false, List, [], ◌∷◌, length, filter, Option, None, Some, IfSome, is_some, refl, arith, sym, ◌∙◌, ap, ap₂, subst, true≢false, if◌then◌else◌}
+use Rattle.std.proofs.lemmas.Bool.{and_parts, or_left, or_right}
 use Rattle.std.specs.List.{AllByRecursion, list_any}
 use Rattle.std.specs.Option.{option_map, option_map_or}
-use Rattle.ca_base.specs.declared.completion.Completion.{Completion}
 use Rattle.ca_base.specs.declared.reserve.Reservation.{Reservation}
 use Rattle.ca_base.specs.declared.reserve.Reserve.{Reserve}
 use Rattle.ca_base.specs.declared.reserve.Reserve.TheVariants.{Sends, Receives, Shared}
 use Rattle.ca_keys.specs.declared.names.QueueId.{QueueId}
 use Rattle.ca_keys.specs.declared.names.Slot.{Slot}
 use Rattle.ca_base.specs.Configuration.{Configuration}
-use Rattle.ca_keys.specs.Equal.{bool_eq, queue_eq, slot_eq}
+use Rattle.ca_keys.specs.Equal.{queue_eq, slot_eq}
 use Rattle.ca_base.specs.objects.CompletionQueue.{CompletionQueue, is_same_side, room_reserved, user_of, without_completions}
 use Rattle.ca_base.specs.objects.Domain.{without_object}
-use Rattle.ca_base.specs.objects.QueuePair.{QueuePair, QueueSlot, NoQueue, Present, recv_cq_of, send_cq_of, srq_of}
-use Rattle.ca_base.specs.objects.SharedReceives.{SharedReceives, SrqSlot, after_receives_retire}
+use Rattle.ca_base.specs.objects.QueuePair.{QueuePair, QueueSlot, NoQueue, recv_cq_of, send_cq_of, srq_of}
+use Rattle.ca_base.specs.objects.SharedReceives.{SrqSlot, after_receives_retire}
 use Rattle.ca_model.specs.Past.{with_at}
 use Rattle.ca_model.specs.declared.answer.Answer.TheVariants as answers
 use Rattle.ca_model.specs.declared.answer.Refusal.TheVariants.{WindowsBound}
 use Rattle.ca_model.specs.machine.Around.{Around}
 use Rattle.ca_model.specs.machine.Places.{places_of_side}
-use Rattle.ca_model.specs.machine.Plan.{If, Plan, Update, ◌:=◌, put_all}
+use Rattle.ca_model.specs.machine.Plan.{If, Plan, Update, ◌:=◌}
 use Rattle.ca_model.specs.machine.QueuePairVerbs
 use Rattle.ca_model.specs.machine.QueuePairVerbs.{destroy_qp_plan, left_updates, places_held, without_queue}
 use Rattle.ca_model.specs.machine.Sound.{IsSoundWorld}
 use Rattle.ca_model.specs.machine.VerbAnswers.{Answer_plan, Call, Refuse_plan}
 use Rattle.ca_model.specs.machine.World.{World, Cq_of, Domain_of, Mailbox_of, Queue_of, Srq_of}
-use Rattle.ca_cq.proofs.Rooms.{all-filter, filter-rooms}
+use Rattle.ca_cq.proofs.Rooms.{filter-rooms}
 use Rattle.ca_cq.proofs.RoomLemmas.{alike-sources, one-agrees, one-swap, one_source, room_of, rooms-reserved}
 use Rattle.ca_laws_sound.proofs.SettledLemmas.{queue-path, queue-refl, slot-path, slot-refl}
 use Rattle.ca_laws_sound.proofs.WorldLemmas.{EndsIn, IsThere, around_in, ends-around, shared_of}
-use Rattle.ca_laws_room.specs.Room.{AreReserved, AreUsers, Has, HasRoom, HasSide, HaveRoom, Holder, IsDue, IsInPlace, IsInSequence, IsSlotInPlace, Rooms, Use, Uses, depth_of, has_side, is_in, rooms_of, taken_in, use_of, waits_in}
+use Rattle.ca_laws_room.specs.Room.{AreReserved, AreUsers, Has, HasRoom, HasSide, HaveRoom, IsDue, IsInSequence, Rooms, Use, Uses, depth_of, has_side, is_in, rooms_of, taken_in, use_of}
 use Rattle.ca_laws_room.proofs.RoomLists.{all-map, filter-few}
-use Rattle.ca_laws_room.proofs.FitLemmas.{all-alike, some-same}
+use Rattle.ca_laws_room.proofs.FitLemmas.{all-alike}
 use Rattle.ca_laws_room.proofs.KeptLemmas.{local-places, two-same, with-same}
-use Rattle.ca_laws_room.proofs.AdvanceLemmas.{AreNamed, sound-named, with-all}
+use Rattle.ca_laws_room.proofs.AdvanceLemmas.{sound-named, with-all}
 use Rattle.ca_laws_room.proofs.EngineRoomLemmas.{LeavesRoom}
-use Rattle.ca_laws_room.proofs.ObjectRoomLemmas.{due-depths, if-map}
+use Rattle.ca_laws_room.proofs.ObjectRoomLemmas.{if-map}
 use Rattle.ca_laws_room.proofs.PairRoomLemmas.{room-present}
 use Rattle.ca_laws_room.proofs.EmptiedRoomLemmas.{IsEmptied, not-held, retired_slot, slot-depth, slot-others, slot-sequence, without-emptied}
 

@@ -1,13 +1,10 @@
 -- The changes of state of a queue pair leave room, and what is emptied of it.
-use Rattle.std.proofs.Common.{◌≡◌, ℕ, suc, zero, ◌+◌, ◌-◌, ◌≤◌, ◌<◌, ◌==◌, ◌&&◌, ◌||◌, nat_lt, not, Bool, true, false, List, [], ◌∷◌, ◌++◌, length, map, filter, Option, None, Some, IfSome, is_some, is_none, refl, arith, sym, ◌∙◌, ap, ap₂, subst, true≢false, if◌then◌else◌}
-use Rattle.std.proofs.lemmas.Bool.{and_parts, not-true}
-use Rattle.std.proofs.lemmas.List.{append-nil}
-use Rattle.std.specs.List.{AllByRecursion, list_any}
+use Rattle.std.proofs.Common.{◌≡◌, ℕ, ◌==◌, ◌&&◌, ◌||◌, not, Bool, true, false, List, [], ◌∷◌, ◌++◌, map, filter, Option, None, Some, IfSome, refl, arith, sym, ◌∙◌, ap, subst, true≢false, if◌then◌else◌}
+use Rattle.std.proofs.lemmas.Bool.{and_parts}
 use Rattle.std.specs.Option.{option_map, option_map_or}
 use Rattle.ca_base.specs.declared.change.Change as state_change
 use Rattle.ca_base.specs.declared.change.Change.TheVariants as changes
 use Rattle.ca_base.specs.declared.completion.Completion.{Completion}
-use Rattle.ca_base.specs.declared.request.PlacedReceive.{PlacedReceive}
 use Rattle.ca_base.specs.declared.request.RecvRequest.{RecvRequest}
 use Rattle.ca_keys.specs.declared.names.QueueId.{QueueId}
 use Rattle.ca_keys.specs.declared.names.Slot.{Slot}
@@ -15,18 +12,17 @@ use Rattle.ca_base.specs.Configuration.{Configuration}
 use Rattle.ca_keys.specs.Equal.{bool_eq, queue_eq, slot_eq}
 use Rattle.ca_base.specs.objects.CompletionQueue.{CompletionQueue, receives_of, without_completions}
 use Rattle.ca_base.specs.objects.Mailbox.{with_peer}
-use Rattle.ca_base.specs.objects.QueuePair.{QueuePair, QueueSlot, NoQueue, Present, after_reset, in_error, receive_in_use, recv_cq_of, send_cq_of, srq_of, without_answers}
+use Rattle.ca_base.specs.objects.QueuePair.{QueuePair, Present, after_reset, in_error, recv_cq_of, send_cq_of, srq_of, without_answers}
 use Rattle.ca_base.specs.objects.SharedReceives.{SharedReceives, SrqSlot, after_receive_retire, after_receives_retire}
 use Rattle.ca_base.specs.objects.StateTable.{modify_refusals, queue_after_change}
 use Rattle.ca_base.specs.objects.WorkQueue.{WorkQueue, empty_queue}
 use Rattle.ca_model.specs.Past.{with_at}
 use Rattle.ca_model.specs.declared.answer.Answer.TheVariants as answers
 use Rattle.ca_model.specs.declared.mark.Mark.{Mark}
-use Rattle.ca_model.specs.machine.Around.{Around, cq_updates, srq_updates}
+use Rattle.ca_model.specs.machine.Around.{Around, cq_updates}
 use Rattle.ca_model.specs.machine.Completions.{flush_marks}
-use Rattle.ca_model.specs.machine.Invariants.{IsQueue}
 use Rattle.ca_model.specs.machine.Places.{Ascend, IsInOrder, first_held, places_in_use, places_of_side}
-use Rattle.ca_model.specs.machine.Plan.{Plan, Update, ◌:=◌, put_all}
+use Rattle.ca_model.specs.machine.Plan.{Plan, Update, ◌:=◌}
 use Rattle.ca_model.specs.machine.QueuePairVerbs
 use Rattle.ca_model.specs.machine.QueuePairVerbs.{emptied_updates, modify_qp_plan, places_held}
 use Rattle.ca_model.specs.machine.Row.{Effects, queue_and_marks}
@@ -34,15 +30,15 @@ use Rattle.ca_model.specs.machine.Sound.{IsSoundWorld}
 use Rattle.ca_model.specs.machine.VerbAnswers.{Answer_plan, Call, Refuse_plan, Unless_plan, of_change_refusals}
 use Rattle.ca_model.specs.machine.World.{World, Cq_of, Mailbox_of, Queue_of, Srq_of}
 use Rattle.ca_laws_sound.proofs.EngineLemmas.{ends-unless}
-use Rattle.ca_laws_sound.proofs.GoodLemmas.{IsGood, IsLater, error-later, error-queue, flush-settled, later-same, settled-later, silent-later, silent-queue}
+use Rattle.ca_laws_sound.proofs.GoodLemmas.{IsGood, error-later, error-queue, flush-settled, later-same, settled-later, silent-later, silent-queue}
 use Rattle.ca_laws_sound.proofs.OrderLemmas.{flush-order}
-use Rattle.ca_laws_sound.proofs.SettledLemmas.{queue-path, queue-refl, slot-path, slot-refl}
+use Rattle.ca_laws_sound.proofs.SettledLemmas.{queue-path, queue-refl, slot-refl}
 use Rattle.ca_laws_sound.proofs.WorldLemmas.{EndsIn, IsThere, around_in, ends-around, shared_of}
-use Rattle.ca_laws_room.specs.Room.{AreHeld, HasRoom, HaveRoom, Holder, IsInPlace, IsInSequence, IsSlotInPlace, depth_of, is_in, places_kept, rooms_of, taken_in, use_of, waits_in}
-use Rattle.ca_laws_room.proofs.RoomLists.{all-in, ascend-filter, in-filter, is_of, number-swap, side-none}
+use Rattle.ca_laws_room.specs.Room.{AreHeld, HasRoom, HaveRoom, Holder, IsInPlace, IsInSequence, depth_of, is_in, places_kept, rooms_of, taken_in, use_of, waits_in}
+use Rattle.ca_laws_room.proofs.RoomLists.{all-in, ascend-filter, in-filter, is_of, number-swap}
 use Rattle.ca_laws_room.proofs.FitLemmas.{receives-side}
-use Rattle.ca_laws_room.proofs.KeptLemmas.{IsSameUse, local-places, queue-with-same, same-reserved, two-same, with-same}
-use Rattle.ca_laws_room.proofs.AdvanceLemmas.{AreNamed, no-taking, own-held, sound-named, turn-room, with-all}
+use Rattle.ca_laws_room.proofs.KeptLemmas.{local-places, queue-with-same, same-reserved, two-same, with-same}
+use Rattle.ca_laws_room.proofs.AdvanceLemmas.{no-taking, own-held, sound-named, turn-room, with-all}
 use Rattle.ca_laws_room.proofs.EngineRoomLemmas.{LeavesRoom}
 use Rattle.ca_laws_room.proofs.ObjectRoomLemmas.{pair-room}
 use Rattle.ca_laws_room.proofs.PairRoomLemmas.{room-present}

@@ -1,8 +1,8 @@
 -- The turns of an engine and a packet that arrives leave room.
-use Rattle.std.proofs.Common.{◌≡◌, ℕ, suc, ◌-◌, Bool, true, false, List, [], ◌∷◌, ◌++◌, Option, None, Some, IfSome, subst, ◌∙◌, ◌==◌, ◌&&◌, ◌||◌, not, ap, sym, true≢false, if◌then◌else◌, slice_get, refl, rules}
+use Rattle.std.proofs.Common.{◌≡◌, ℕ, suc, ◌-◌, Bool, true, false, List, [], ◌∷◌, ◌++◌, Option, None, Some, IfSome, subst, ◌==◌, ◌&&◌, not, if◌then◌else◌, slice_get, refl, rules}
 use Rattle.std.proofs.lemmas.List.{append-nil}
 use Rattle.std.proofs.lemmas.Bool.{not-false}
-use Rattle.std.specs.Option.{option_and_then, option_map, option_map_or}
+use Rattle.std.specs.Option.{option_and_then, option_map_or}
 use Rattle.ca_keys.specs.declared.grant.Grant.{Grant}
 use Rattle.ca_keys.specs.declared.key.Key.{Key}
 use Rattle.ca_base.specs.declared.lot.Lot.{Lot}
@@ -18,7 +18,7 @@ use Rattle.ca_base.specs.declared.step.Reason.TheVariants as reasons
 use Rattle.ca_base.specs.declared.step.Sent.{Sent}
 use Rattle.ca_base.specs.declared.step.Sent.TheVariants.{Silent, Spelt}
 use Rattle.ca_base.specs.Configuration.{Configuration}
-use Rattle.ca_keys.specs.Refusals.{AllFail, first_of}
+use Rattle.ca_keys.specs.Refusals.{first_of}
 use Rattle.ca_base.specs.declared.denied_ask.DeniedAsk.{DeniedAsk}
 use Rattle.ca_base.specs.Sight.{Invalidation}
 use Rattle.ca_base.specs.declared.correspondent.Correspondent.{Correspondent}
@@ -34,13 +34,13 @@ use Rattle.ca_base.specs.objects.Window.{Binding, Window, without_binding}
 use Rattle.ca_keys.specs.Numbers.{is_window_key}
 use Rattle.ca_model.specs.declared.mark.Mark.{Mark}
 use Rattle.ca_model.specs.declared.mark.Mark.TheVariants as marks
-use Rattle.ca_model.specs.machine.Acknowledgements.{failure_effects, one_retry, with_requester}
+use Rattle.ca_model.specs.machine.Acknowledgements.{one_retry, with_requester}
 use Rattle.ca_model.specs.machine.Around.{Around, With_around, shared_in, updates_of}
 use Rattle.ca_model.specs.machine.Delivery.{Arrive, arrival_row, deliver_plan}
 use Rattle.ca_model.specs.machine.Expected.{with_window_gone}
 use Rattle.ca_model.specs.machine.HostVerbs.{inject_plan}
 use Rattle.ca_model.specs.machine.Invariants.{IsQueue, IsSharedReceives, is_sending}
-use Rattle.ca_model.specs.machine.LocalOperations.{Bind1_plan, Bind2_plan, Fast_plan, Finishing, Perform_op, PlacedRegion, With_former, With_named, bind1_changes, bind1_marks, bind1_refusal, bind2_changes, bind2_marks, bind2_refusal, drawn_by, fast_changes, fast_marks, fast_refusal, former_updates, invalidate_row, named_updates, operation_effects, region_slot, window_slot}
+use Rattle.ca_model.specs.machine.LocalOperations.{Finishing, Perform_op, PlacedRegion, With_former, With_named, bind1_changes, bind1_marks, bind1_refusal, bind2_changes, bind2_marks, bind2_refusal, drawn_by, fast_changes, fast_marks, fast_refusal, former_updates, invalidate_row, named_updates, operation_effects, region_slot, window_slot}
 use Rattle.ca_base.specs.objects.LocalRequest.{LocalMarks}
 use Rattle.ca_model.specs.machine.Numbering.{Numbered}
 use Rattle.ca_model.specs.machine.Places.{TakesInOrder}
@@ -54,14 +54,14 @@ use Rattle.ca_model.specs.machine.Turns.{Fire, Leave_plan, Packet, Request_aroun
 use Rattle.ca_model.specs.machine.VerbAnswers.{Call, Refuse_plan, answer_mark}
 use Rattle.ca_model.specs.declared.answer.Answer.TheVariants as answers
 use Rattle.ca_model.specs.declared.answer.Refusal.TheVariants.{NoSuch}
-use Rattle.ca_model.specs.machine.World.{World, Mailbox_of, Queue_of, Region_of, Srq_of, Window_of, put}
+use Rattle.ca_model.specs.machine.World.{World, Mailbox_of, Queue_of, Region_of, Window_of}
 use Rattle.ca_laws_sound.proofs.EngineLemmas.{ends-unless}
 use Rattle.ca_laws_sound.proofs.GoodLemmas.{IsGood}
 use Rattle.ca_laws_sound.proofs.RespondLemmas.{arrival-good, respond-good}
 use Rattle.ca_laws_sound.proofs.TurnLemmas.{nothing-good, operation-good, packet-good, timeout-good, wake-good}
 use Rattle.ca_laws_sound.proofs.WorldLemmas.{EndingDoes, EndsIn, IsSoundShared, IsThere, RowDoes, around_in, ends-around, ends-bytes, ends-grants, ends-queue, ends-writes, is-there, row-does, shared_of, sound-shared}
 use Rattle.ca_laws_room.specs.Room.{HasRoom}
-use Rattle.ca_laws_room.proofs.KeptLemmas.{AreAside, aside-append, aside-room, room-first}
+use Rattle.ca_laws_room.proofs.KeptLemmas.{AreAside, aside-append, room-first}
 use Rattle.ca_laws_room.proofs.AdvanceLemmas.{IsTurn, no-taking, none-put, still-room, turn-room, sound-named}
 
 -- what an event's changes leave

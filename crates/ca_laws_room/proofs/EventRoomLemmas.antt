@@ -1,5 +1,5 @@
 -- Every event leaves room.
-use Rattle.std.proofs.Common.{◌≡◌, ◌+◌, ◌≤◌, ◌<◌, arith, Bool, true, false, List, [], ◌∷◌, ◌++◌, length, Some, subst, refl}
+use Rattle.std.proofs.Common.{◌≡◌, ◌+◌, ◌≤◌, ◌<◌, arith, true, false, List, [], ◌∷◌, ◌++◌, length, Some, subst, refl}
 use Rattle.std.proofs.lemmas.List.{length-append}
 use Rattle.ca_base.specs.declared.completion.Completion.{Completion}
 use Rattle.ca_keys.specs.declared.names.Slot.{Slot}
@@ -14,7 +14,7 @@ use Rattle.ca_model.specs.declared.verb.Verb.TheVariants as verbs
 use Rattle.ca_model.specs.machine.Frame.{Afterwards}
 use Rattle.ca_model.specs.machine.Plan.{Did, Finish, If, Look, Plan, Read, Stuck, Write, perform, put_all, write_all}
 use Rattle.ca_model.specs.machine.Sound.{AreLimited, CanBeMade, HasFewPieces, IsSoundWorld}
-use Rattle.ca_model.specs.machine.Step.{bytes_of_buffer, is_named, plan, run_of, step, verb_plan}
+use Rattle.ca_model.specs.machine.Step.{bytes_of_buffer, plan, run_of, step, verb_plan}
 use Rattle.ca_model.specs.machine.VerbAnswers.{Call}
 use Rattle.ca_model.specs.machine.World.{World, get}
 use Rattle.ca_model.proofs.FrameLemmas.{after_write}

@@ -1,7 +1,7 @@
 -- In a world that has room the completions that wait are no more than the capacity, and the receives of a queue pair no
 -- more than its depth.
-use Rattle.std.proofs.Common.{◌≡◌, ℕ, suc, ◌+◌, ◌≤◌, ◌<◌, ◌==◌, ◌&&◌, ◌||◌, not, Bool, true, false, List, [], ◌∷◌, ◌++◌, length, map, filter, Option, None, Some, IfSome, is_some, is_none, refl, arith, sym, ◌∙◌, ap, ap₂, subst, true≢false, if◌then◌else◌}
-use Rattle.std.proofs.lemmas.Bool.{and_parts, and_from, eqb-true, not-true, or_parts, or_right}
+use Rattle.std.proofs.Common.{◌≡◌, ℕ, ◌≤◌, ◌==◌, ◌&&◌, ◌||◌, not, Bool, true, false, List, [], ◌∷◌, length, map, filter, Option, None, Some, IfSome, is_some, is_none, refl, arith, sym, ◌∙◌, ap, ap₂, subst, true≢false, if◌then◌else◌}
+use Rattle.std.proofs.lemmas.Bool.{and_parts, eqb-true, or_parts, or_right}
 use Rattle.std.specs.List.{AllByRecursion, list_any}
 use Rattle.std.specs.Option.{option_map, option_map_or}
 use Rattle.ca_base.specs.declared.completion.Completion.{Completion}
@@ -23,13 +23,13 @@ use Rattle.ca_base.specs.objects.WorkQueue.{WorkQueue}
 use Rattle.ca_model.specs.machine.Invariants.{IsQueue, IsReceives, IsSharedReceives, IsTaken}
 use Rattle.ca_model.specs.machine.Places.{Ascend, first_held, places_in_use, places_of_side}
 use Rattle.ca_model.specs.machine.Sound.{IsQueueOf, IsSettled, IsSoundWorld, side_of}
-use Rattle.ca_model.specs.machine.World.{World, Cq_of, Queue_of, Srq_of}
+use Rattle.ca_model.specs.machine.World.{World, Queue_of, Srq_of}
 use Rattle.ca_cq.specs.Room.{HaveRoomOf, IsReserved, count_against, counts_against, is_new_side, is_of_side, reservation_of, share_room}
-use Rattle.ca_cq.proofs.Rooms.{all-of, all-zip, fewer}
+use Rattle.ca_cq.proofs.Rooms.{all-of, fewer}
 use Rattle.ca_cq.proofs.RoomLemmas.{own-all, waiting-fits}
-use Rattle.ca_laws_sound.proofs.SettledLemmas.{queue-path, queue-refl, slot-path, slot-refl}
-use Rattle.ca_laws_room.specs.Room.{AreDistinct, AreHeld, Has, HasRoom, HasSide, HaveRoom, Holder, IsDue, IsInPlace, IsSlotInPlace, Rooms, Use, depth_of, has_side, is_in, places_kept, rooms_of, taken_in, use_of, waits_in}
-use Rattle.ca_laws_room.proofs.RoomLists.{all-before, all-behind, all-in, all-map, ascend-bounds, ascend-distinct, ascend-few, distinct-before, distinct-few, is_of, length-map, number-refl, side-head, side-none, side-skip}
+use Rattle.ca_laws_sound.proofs.SettledLemmas.{queue-path, queue-refl, slot-path}
+use Rattle.ca_laws_room.specs.Room.{AreDistinct, AreHeld, Has, HasRoom, HasSide, Holder, IsDue, IsInPlace, IsSlotInPlace, Use, depth_of, has_side, is_in, places_kept, rooms_of, taken_in, use_of, waits_in}
+use Rattle.ca_laws_room.proofs.RoomLists.{all-before, all-in, all-map, ascend-few, distinct-before, distinct-few, is_of, length-map, number-refl, side-head, side-none, side-skip}
 
 -- the reservation of this side of a queue pair
 abbrev pub side_reserve : Bool → QueueId → Reserve

@@ -1,12 +1,9 @@
 -- What keeps a world's room: reservations that stay, and completions of a queue pair that goes on in order.
-use Rattle.std.proofs.Common.{◌≡◌, ◌⊎◌, inl, inr, ℕ, suc, ◌+◌, ◌≤◌, ◌<◌, ◌==◌, ◌&&◌, ◌||◌, not, Bool, true, false, List, [], ◌∷◌, ◌++◌, length, map, filter, take, drop, Option, None, Some, IfSome, is_some, is_none, refl, arith, sym, ◌∙◌, ap, ap₂, subst, true≢false, if◌then◌else◌, append_assoc}
-use Rattle.std.proofs.lemmas.Bool.{and_parts, eq-eqb, eqb-true, or_left, or_right}
+use Rattle.std.proofs.Common.{◌≡◌, ◌⊎◌, inl, inr, ℕ, ◌==◌, ◌&&◌, ◌||◌, Bool, true, false, List, [], ◌∷◌, ◌++◌, map, filter, Option, None, Some, IfSome, is_some, refl, sym, ◌∙◌, ap, ap₂, subst, true≢false, if◌then◌else◌, append_assoc}
 use Rattle.std.proofs.lemmas.List.{append-nil}
-use Rattle.std.specs.List.{AllByRecursion, list_any}
+use Rattle.std.specs.List.{AllByRecursion}
 use Rattle.std.specs.Option.{option_map, option_map_or}
 use Rattle.ca_base.specs.declared.completion.Completion.{Completion}
-use Rattle.ca_base.specs.declared.queue_numbers.Message.{Message}
-use Rattle.ca_base.specs.declared.request.PlacedReceive.{PlacedReceive}
 use Rattle.ca_base.specs.declared.request.RecvRequest.{RecvRequest}
 use Rattle.ca_keys.specs.declared.names.DomainId.{DomainId}
 use Rattle.ca_keys.specs.declared.names.QueueId.{QueueId}
@@ -14,21 +11,21 @@ use Rattle.ca_keys.specs.declared.names.Slot.{Slot}
 use Rattle.ca_keys.specs.Equal.{bool_eq, queue_eq, slot_eq}
 use Rattle.ca_base.specs.objects.CompletionQueue.{CompletionQueue, after_puts}
 use Rattle.ca_base.specs.objects.QueuePair.{QueuePair, QueueSlot, NoQueue, Present, recv_cq_of, send_cq_of, srq_of}
-use Rattle.ca_base.specs.objects.SharedReceives.{SharedReceives, SrqSlot, after_receive_take, first_receive}
+use Rattle.ca_base.specs.objects.SharedReceives.{SrqSlot}
 use Rattle.ca_base.specs.objects.WorkQueue.{WorkQueue}
 use Rattle.ca_model.specs.Past.{with_at}
 use Rattle.ca_model.specs.declared.mark.Mark.{Mark}
 use Rattle.ca_model.specs.declared.mark.Mark.TheVariants as marks
 use Rattle.ca_model.specs.machine.Around.{completions_to}
 use Rattle.ca_model.specs.machine.Places.{AreTakenInOrder, Ascend, IsInOrder, completions_in, first_held, places_done, places_in_use, places_of_side}
-use Rattle.ca_model.specs.machine.Plan.{Update, ◌:=◌, put_all}
+use Rattle.ca_model.specs.machine.Plan.{Update, put_all}
 use Rattle.ca_model.specs.machine.Row.{Effects}
 use Rattle.ca_model.specs.machine.World.{World, Name, Domain_of, Region_of, Window_of, Cq_of, Srq_of, Queue_of, Mailbox_of, Byte_at, Thing, put}
 use Rattle.ca_cq.proofs.Rooms.{all-filter}
 use Rattle.ca_laws_sound.proofs.GoodLemmas.{AreSettledMarks, IsLater, IsSettledMark}
-use Rattle.ca_laws_sound.proofs.SettledLemmas.{queue-path, queue-refl, slot-path, slot-refl}
-use Rattle.ca_laws_room.specs.Room.{AreDistinct, AreHeld, AreReserved, HasRoom, HaveRoom, Holder, IsInPlace, IsInSequence, IsSlotInPlace, Use, Rooms, depth_of, is_in, places_kept, rooms_of, taken_in, use_of, waits_in}
-use Rattle.ca_laws_room.proofs.RoomLists.{all-before, all-behind, all-in, all-join, all-map, ascend-append, ascend-behind, ascend-bounds, ascend-higher, distinct-append, distinct-before, distinct-behind, in-append, in-apart, is_of, number-refl, number-swap, side-append, side-head, side-none, side-skip}
+use Rattle.ca_laws_sound.proofs.SettledLemmas.{queue-path, queue-refl, slot-path}
+use Rattle.ca_laws_room.specs.Room.{AreDistinct, AreHeld, AreReserved, HasRoom, HaveRoom, Holder, IsInPlace, IsSlotInPlace, depth_of, is_in, places_kept, rooms_of, taken_in, use_of, waits_in}
+use Rattle.ca_laws_room.proofs.RoomLists.{all-behind, all-map, ascend-append, ascend-bounds, ascend-higher, distinct-behind, in-append, is_of, side-append, side-head, side-none, side-skip}
 
 -- two worlds with the same queue pairs, completion queues and shared receive queues
 pub record SameQueues (u v : World) : Type 0 where

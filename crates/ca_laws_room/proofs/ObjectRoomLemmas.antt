@@ -1,6 +1,6 @@
 -- The verbs on completion queues and shared receive queues, and those beside queue pairs, leave room.
-use Rattle.std.proofs.Common.{◌≡◌, ℕ, suc, zero, ◌+◌, ◌-◌, ◌≤◌, ◌<◌, ◌==◌, ◌&&◌, ◌||◌, nat_lt, not, Bool, true, false, List, [], ◌∷◌, ◌++◌, length, map, Option, None, Some, IfSome, is_some, is_none, refl, arith, sym, ◌∙◌, ap, ap₂, subst, true≢false, if◌then◌else◌, append_assoc, rules}
-use Rattle.std.proofs.lemmas.Bool.{ltb-false, not-false}
+use Rattle.std.proofs.Common.{◌≡◌, ℕ, suc, ◌-◌, ◌≤◌, nat_lt, Bool, true, false, List, [], ◌∷◌, ◌++◌, length, map, Option, None, Some, IfSome, is_some, is_none, refl, arith, sym, ◌∙◌, ap, subst, true≢false, append_assoc}
+use Rattle.std.proofs.lemmas.Bool.{ltb-false}
 use Rattle.std.proofs.lemmas.List.{map-append}
 use Rattle.std.specs.List.{AllByRecursion, list_any}
 use Rattle.std.specs.Option.{option_map, option_map_or}
@@ -16,8 +16,8 @@ use Rattle.ca_keys.specs.declared.rights.Rights.{Rights}
 use Rattle.ca_base.specs.Configuration.{Configuration}
 use Rattle.ca_keys.specs.Equal.{queue_eq, slot_eq}
 use Rattle.ca_base.specs.objects.CompletionQueue.{CompletionQueue, empty_cq, is_in_use, room_reserved}
-use Rattle.ca_base.specs.objects.Domain.{Domain, without_object}
-use Rattle.ca_base.specs.objects.QueuePair.{QueuePair, QueueSlot, NoQueue, Present, recv_cq_of, send_cq_of, srq_of}
+use Rattle.ca_base.specs.objects.Domain.{without_object}
+use Rattle.ca_base.specs.objects.QueuePair.{QueuePair, QueueSlot, NoQueue, Present, recv_cq_of, send_cq_of}
 use Rattle.ca_base.specs.objects.Region.{with_window_unbound}
 use Rattle.ca_base.specs.objects.SharedReceives.{SharedReceives, SrqSlot, after_receive_post, empty_receives, is_full_of_receives}
 use Rattle.ca_base.specs.objects.Window.{Binding, Window, after_deallocation, key_of_window}
@@ -31,20 +31,20 @@ use Rattle.ca_model.specs.machine.CompletionVerbs.{create_cq_plan, create_srq_pl
 use Rattle.ca_model.specs.machine.DomainVerbs.{alloc_pd_plan, dealloc_pd_plan}
 use Rattle.ca_model.specs.machine.HostVerbs.{load_plan, store_plan}
 use Rattle.ca_model.specs.machine.Places.{Ascend, places_of_side}
-use Rattle.ca_model.specs.machine.Plan.{If, Look, Plan, Update, ◌:=◌, put_all}
+use Rattle.ca_model.specs.machine.Plan.{If, Look, Plan, Update, ◌:=◌}
 use Rattle.ca_model.specs.machine.PostingVerbs.{post_srq_plan}
 use Rattle.ca_model.specs.machine.RegionVerbs.{alloc_mr_plan, dereg_mr_plan, reg_mr_plan}
 use Rattle.ca_model.specs.machine.Row.{region_under}
-use Rattle.ca_model.specs.machine.Sound.{IsQueueOf, IsSoundWorld, side_of}
+use Rattle.ca_model.specs.machine.Sound.{IsSoundWorld, side_of}
 use Rattle.ca_model.specs.machine.VerbAnswers.{Answer_plan, Call, Refuse_plan}
 use Rattle.ca_model.specs.machine.WindowVerbs.{With_binder, alloc_mw_plan, dealloc_mw_plan, queue_updates}
-use Rattle.ca_model.specs.machine.World.{World, Cq_of, Domain_of, Queue_of, Region_of, Srq_of, Window_of}
-use Rattle.ca_laws_sound.proofs.SettledLemmas.{queue-path, queue-refl, slot-path, slot-refl}
+use Rattle.ca_model.specs.machine.World.{World, Cq_of, Domain_of, Region_of, Srq_of, Window_of}
+use Rattle.ca_laws_sound.proofs.SettledLemmas.{slot-path}
 use Rattle.ca_laws_sound.proofs.WorldLemmas.{EndsIn}
-use Rattle.ca_laws_room.specs.Room.{AreReserved, AreUsers, Has, HasRoom, HasSide, HaveRoom, Holder, IsDue, IsInPlace, IsInSequence, IsSlotInPlace, Use, Uses, depth_of, has_side, is_in, rooms_of, taken_in, use_of, waits_in}
-use Rattle.ca_laws_room.proofs.RoomLists.{all-map, ascend-append, side-none}
+use Rattle.ca_laws_room.specs.Room.{AreUsers, HasRoom, HasSide, HaveRoom, IsDue, IsInPlace, IsInSequence, IsSlotInPlace, Use, Uses, depth_of, has_side, is_in, rooms_of, taken_in, use_of, waits_in}
+use Rattle.ca_laws_room.proofs.RoomLists.{all-map, ascend-append}
 use Rattle.ca_laws_room.proofs.FitLemmas.{side-empty}
-use Rattle.ca_laws_room.proofs.KeptLemmas.{AreAside, IsSameUse, aside-room, local-places, queue-with-same, room-behind, room-first, same-reserved, still-in-place, still-in-use, with-same}
+use Rattle.ca_laws_room.proofs.KeptLemmas.{aside-room, local-places, queue-with-same, room-first, same-reserved, still-in-place, still-in-use, with-same}
 use Rattle.ca_laws_room.proofs.AdvanceLemmas.{AreNamed, sound-named, with-all}
 use Rattle.ca_laws_room.proofs.EngineRoomLemmas.{LeavesRoom}
 

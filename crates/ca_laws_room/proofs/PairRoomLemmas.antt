@@ -1,13 +1,9 @@
 -- The posts to a queue pair and its changes of state leave room.
-use Rattle.std.proofs.Common.{◌≡◌, ◌⊎◌, inl, inr, ℕ, suc, zero, ◌+◌, ◌-◌, ◌≤◌, ◌<◌, ◌==◌, ◌&&◌, ◌||◌, nat_lt, not, Bool, true, false, List, [], ◌∷◌, ◌++◌, length, map, filter, Option, None, Some, IfSome, is_some, is_none, refl, arith, sym, ◌∙◌, ap, ap₂, subst, true≢false, if◌then◌else◌, append_assoc, rules}
-use Rattle.std.proofs.lemmas.Bool.{and_parts, eq-eqb, eqb-true, ltb-false, not-false, or_parts}
-use Rattle.std.proofs.lemmas.List.{append-nil}
-use Rattle.std.specs.List.{AllByRecursion, list_any}
-use Rattle.std.specs.Option.{option_and_then, option_map, option_map_or}
-use Rattle.ca_base.specs.declared.change.Change as state_change
-use Rattle.ca_base.specs.declared.change.Change.TheVariants as changes
+use Rattle.std.proofs.Common.{◌≡◌, ℕ, ◌≤◌, ◌==◌, nat_lt, Bool, true, false, List, [], ◌∷◌, length, Option, None, Some, IfSome, refl, arith, sym, ◌∙◌, ap, subst, if◌then◌else◌}
+use Rattle.std.proofs.lemmas.Bool.{ltb-false}
+use Rattle.std.specs.List.{AllByRecursion}
+use Rattle.std.specs.Option.{option_map, option_map_or}
 use Rattle.ca_base.specs.declared.change.State.TheVariants as states
-use Rattle.ca_base.specs.declared.completion.Completion.{Completion}
 use Rattle.ca_base.specs.declared.limits.TheConstants.{MAX_MESSAGE_BYTES, MAX_PIECES}
 use Rattle.ca_base.specs.declared.request.RecvRequest.{RecvRequest}
 use Rattle.ca_base.specs.declared.request.SendOp.{SendOp}
@@ -18,42 +14,34 @@ use Rattle.ca_keys.specs.declared.names.Slot.{Slot}
 use Rattle.ca_base.specs.Configuration.{Configuration}
 use Rattle.ca_keys.specs.Equal.{queue_eq, slot_eq}
 use Rattle.ca_keys.specs.Numbers.{queue_of}
-use Rattle.ca_base.specs.objects.CompletionQueue.{CompletionQueue, after_puts, receives_of, without_completions}
-use Rattle.ca_base.specs.objects.Mailbox.{with_peer}
-use Rattle.ca_base.specs.objects.QueuePair.{QueuePair, QueueSlot, NoQueue, Present, after_reset, in_error, receive_in_use, recv_cq_of, send_cq_of, srq_of, with_all_flushed, without_answers}
-use Rattle.ca_base.specs.objects.SharedReceives.{SharedReceives, SrqSlot, after_receive_retire, after_receives_retire}
-use Rattle.ca_base.specs.objects.StateTable.{modify_refusals, queue_after_change, state_eq}
+use Rattle.ca_base.specs.objects.CompletionQueue.{CompletionQueue, after_puts}
+use Rattle.ca_base.specs.objects.QueuePair.{QueuePair, QueueSlot, NoQueue, Present, in_error, recv_cq_of, send_cq_of, srq_of, with_all_flushed}
+use Rattle.ca_base.specs.objects.StateTable.{state_eq}
 use Rattle.ca_base.specs.objects.Window.{Window, after_draw, byte_drawn}
 use Rattle.ca_base.specs.objects.WorkQueue.{WorkQueue, is_full, with_item}
 use Rattle.ca_model.specs.Past.{with_at}
 use Rattle.ca_model.specs.Requests.{list_length, list_of}
-use Rattle.ca_model.specs.declared.answer.Answer.TheVariants as answers
 use Rattle.ca_model.specs.declared.answer.Refusal.TheVariants.{NoSuch}
 use Rattle.ca_model.specs.declared.mark.Mark.{Mark}
-use Rattle.ca_model.specs.machine.Around.{Around, completions_to, cq_updates, srq_updates}
+use Rattle.ca_model.specs.machine.Around.{completions_to}
 use Rattle.ca_model.specs.machine.Completions.{flush_marks}
-use Rattle.ca_model.specs.machine.Invariants.{IsQueue, IsReceives}
-use Rattle.ca_model.specs.machine.Places.{AreTakenInOrder, Ascend, IsInOrder, completions_in, first_held, places_in_use, places_of_side}
-use Rattle.ca_model.specs.machine.Plan.{If, Look, Plan, Update, ◌:=◌, put_all}
+use Rattle.ca_model.specs.machine.Invariants.{IsQueue}
+use Rattle.ca_model.specs.machine.Places.{AreTakenInOrder, Ascend, IsInOrder, completions_in, first_held, places_of_side}
+use Rattle.ca_model.specs.machine.Plan.{If, Look, Plan, Update, ◌:=◌}
 use Rattle.ca_model.specs.machine.PostingVerbs.{Posted_send, after_flush, marks_of_flush, post_recv_plan, post_send_plan, with_send}
-use Rattle.ca_model.specs.machine.QueuePairVerbs
-use Rattle.ca_model.specs.machine.QueuePairVerbs.{With_present, beside, emptied_updates, modify_qp_plan, places_held, query_qp_plan}
-use Rattle.ca_model.specs.machine.Row.{Effects, queue_and_marks}
+use Rattle.ca_model.specs.machine.QueuePairVerbs.{With_present, beside, query_qp_plan}
+use Rattle.ca_model.specs.machine.Row.{queue_and_marks}
 use Rattle.ca_model.specs.machine.Sound.{IsQueueOf, IsSoundWorld}
-use Rattle.ca_model.specs.machine.VerbAnswers.{Answer_plan, Call, Refuse_plan, Unless_plan, of_change_refusals}
-use Rattle.ca_model.specs.machine.World.{World, Cq_of, Mailbox_of, Queue_of, Srq_of, Window_of}
-use Rattle.ca_laws_sound.proofs.EngineLemmas.{ends-unless}
-use Rattle.ca_laws_sound.proofs.GoodLemmas.{IsGood, IsLater, error-later, error-queue, flush-settled, later-same, settled-later, silent-later, silent-queue}
+use Rattle.ca_model.specs.machine.VerbAnswers.{Call, Refuse_plan}
+use Rattle.ca_model.specs.machine.World.{World, Cq_of, Queue_of, Window_of}
+use Rattle.ca_laws_sound.proofs.GoodLemmas.{IsLater}
 use Rattle.ca_laws_sound.proofs.OrderLemmas.{flush-order}
-use Rattle.ca_laws_sound.proofs.SettledLemmas.{queue-path, queue-refl, slot-path, slot-refl}
+use Rattle.ca_laws_sound.proofs.SettledLemmas.{queue-path, queue-refl}
 use Rattle.ca_laws_sound.proofs.VerbLemmas.{IsFlushed, flushed, posted-receive, posted-send}
-use Rattle.ca_model.specs.machine.Invariants.{IsReceive, IsSend}
-use Rattle.ca_laws_sound.proofs.WorldLemmas.{EndsIn, IsThere, around_in, ends-around, is-there, shared_of}
-use Rattle.ca_laws_room.specs.Room.{AreHeld, HasRoom, HaveRoom, Holder, IsInPlace, IsInSequence, IsSlotInPlace, depth_of, is_in, places_kept, rooms_of, taken_in, use_of, waits_in}
-use Rattle.ca_laws_room.proofs.RoomLists.{all-in, ascend-filter, ascend-lower, in-filter, is_of, side-none}
-use Rattle.ca_laws_room.proofs.FitLemmas.{receives-side}
-use Rattle.ca_laws_room.proofs.KeptLemmas.{AreAside, IsSameUse, local-places, marks-of, queue-with-same, room-behind, same-reserved, two-same, with-same}
-use Rattle.ca_laws_room.proofs.AdvanceLemmas.{AreNamed, IsPut, IsTurn, no-taking, own-held, put-put, sound-named, still-room, turn-room, with-all}
+use Rattle.ca_laws_sound.proofs.WorldLemmas.{EndsIn, IsThere, is-there}
+use Rattle.ca_laws_room.specs.Room.{HasRoom, HaveRoom, IsInPlace, use_of, waits_in}
+use Rattle.ca_laws_room.proofs.KeptLemmas.{AreAside, marks-of, room-behind}
+use Rattle.ca_laws_room.proofs.AdvanceLemmas.{AreNamed, IsPut, put-put, sound-named, still-room}
 use Rattle.ca_laws_room.proofs.EngineRoomLemmas.{LeavesRoom}
 use Rattle.ca_laws_room.proofs.ObjectRoomLemmas.{pair-room}
 

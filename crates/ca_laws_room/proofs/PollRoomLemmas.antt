@@ -1,6 +1,6 @@
 -- A poll leaves room: it frees the places of what it takes.
-use Rattle.std.proofs.Common.{◌≡◌, ℕ, suc, zero, ◌+◌, ◌≤◌, ◌<◌, ◌==◌, ◌&&◌, ◌||◌, max, nat_lt, not, Bool, true, false, List, [], ◌∷◌, ◌++◌, length, map, filter, take, drop, Option, None, Some, IfSome, is_some, is_none, refl, arith, sym, ◌∙◌, ap, ap₂, subst, true≢false, if◌then◌else◌, append_assoc}
-use Rattle.std.proofs.lemmas.Bool.{and_parts, eq-eqb, eqb-true, or_left, or_parts, or_right}
+use Rattle.std.proofs.Common.{◌≡◌, ℕ, suc, zero, ◌==◌, ◌&&◌, ◌||◌, max, not, Bool, true, false, List, [], ◌∷◌, ◌++◌, length, map, take, drop, Option, None, Some, IfSome, is_some, is_none, refl, arith, sym, ◌∙◌, ap, ap₂, subst, true≢false, if◌then◌else◌, append_assoc}
+use Rattle.std.proofs.lemmas.Bool.{eq-eqb, eqb-true, or_left, or_parts, or_right}
 use Rattle.std.specs.List.{AllByRecursion, list_any}
 use Rattle.std.specs.Option.{option_eq, option_map, option_map_or, option_or}
 use Rattle.ca_base.specs.declared.completion.Completion.{Completion}
@@ -12,26 +12,25 @@ use Rattle.ca_keys.specs.declared.names.QueueId.{QueueId}
 use Rattle.ca_keys.specs.declared.names.Slot.{Slot}
 use Rattle.ca_base.specs.Configuration.{Configuration}
 use Rattle.ca_keys.specs.Equal.{bool_eq, queue_eq, slot_eq}
-use Rattle.ca_base.specs.objects.CompletionQueue.{CompletionQueue, after_polls, source_in, source_of, user_of}
+use Rattle.ca_base.specs.objects.CompletionQueue.{CompletionQueue, source_in, source_of, user_of}
 use Rattle.ca_base.specs.objects.QueuePair.{QueuePair, QueueSlot, NoQueue, Present, recv_cq_of, send_cq_of, srq_of}
 use Rattle.ca_base.specs.objects.SharedReceives.{SharedReceives, SrqSlot, after_receive_retire}
 use Rattle.ca_base.specs.objects.WorkQueue.{WorkQueue, after_retire}
 use Rattle.ca_model.specs.Past.{with_at}
 use Rattle.ca_model.specs.machine.CompletionVerbs.{Poll_of, Take_plan, With_place, With_places, after_poll, poll_plan, receives_after_poll, slot_after_poll, source_of_completion}
-use Rattle.ca_model.specs.machine.Invariants.{IsQueue}
 use Rattle.ca_model.specs.machine.Places.{Ascend, first_held, places_in_use, places_of_side}
 use Rattle.ca_model.specs.machine.Plan.{Plan, Look, Update, ◌:=◌, put_all}
-use Rattle.ca_model.specs.machine.Sound.{IsSettled, IsSoundWorld, side_of}
+use Rattle.ca_model.specs.machine.Sound.{IsSoundWorld, side_of}
 use Rattle.ca_model.specs.machine.VerbAnswers.{Call}
 use Rattle.ca_model.specs.machine.World.{World, Cq_of, Queue_of, Srq_of, put}
 use Rattle.ca_cq.proofs.Rooms.{all-zip, none-of}
 use Rattle.ca_laws_sound.proofs.SettledLemmas.{queue-path, queue-refl, slot-path, slot-refl}
 use Rattle.ca_laws_sound.proofs.WorldLemmas.{EndsIn}
-use Rattle.ca_laws_room.specs.Room.{AreDistinct, AreHeld, Has, HasRoom, HasSide, HaveRoom, Holder, IsDue, IsInPlace, IsInSequence, IsSlotInPlace, Rooms, Use, depth_of, is_in, places_kept, rooms_of, taken_in, use_of, waits_in}
-use Rattle.ca_laws_room.proofs.RoomLists.{all-behind, all-in, all-map, ascend-filter, ascend-lower, distinct-behind, in-append, in-filter, is_of, number-swap, side-append, side-head, side-skip}
+use Rattle.ca_laws_room.specs.Room.{AreDistinct, AreHeld, Has, HasRoom, HaveRoom, IsDue, IsInPlace, IsInSequence, IsSlotInPlace, Use, depth_of, is_in, places_kept, rooms_of, taken_in, use_of, waits_in}
+use Rattle.ca_laws_room.proofs.RoomLists.{all-behind, all-in, all-map, ascend-filter, ascend-lower, distinct-behind, in-append, in-filter, is_of, side-append}
 use Rattle.ca_laws_room.proofs.FitLemmas.{IsAt, TakesFrom, at-due, members, side-empty, some-same, sound-queue, user-held}
-use Rattle.ca_laws_room.proofs.KeptLemmas.{IsSameUse, same-reserved, with-same}
-use Rattle.ca_laws_room.proofs.AdvanceLemmas.{sound-named, with-all}
+use Rattle.ca_laws_room.proofs.KeptLemmas.{same-reserved, with-same}
+use Rattle.ca_laws_room.proofs.AdvanceLemmas.{sound-named}
 use Rattle.ca_laws_room.proofs.EngineRoomLemmas.{LeavesRoom}
 
 -- a shared receive queue after a poll

@@ -1,11 +1,10 @@
 -- Examples of room: a completion queue that is reserved to its last place by two users of a shared receive queue, and fills.
 -- They compute. For proofs only.
-use Rattle.std.proofs.Common.{◌≡◌, ℕ, Bool, true, false, List, [], ◌∷◌, length, map, Option, None, Some, refl}
+use Rattle.std.proofs.Common.{◌≡◌, ℕ, true, false, List, [], ◌∷◌, length, Option, None, Some, refl}
 use Rattle.std.specs.Option.{option_map_or}
 use Rattle.ca_base.specs.declared.change.Change.TheVariants as changes
-use Rattle.ca_base.specs.declared.reserve.Reserve.TheVariants.{Sends, Shared}
 use Rattle.ca_keys.specs.Memory.{zeros}
-use Rattle.ca_base.specs.objects.CompletionQueue.{CompletionQueue, room_reserved}
+use Rattle.ca_base.specs.objects.CompletionQueue.{room_reserved}
 use Rattle.ca_wire.specs.declared.requests.SendKind.TheVariants.{Plain}
 use Rattle.ca_wire.specs.Builders.{send_packet}
 use Rattle.ca_packet.specs.Decoding.{packet_in, bth_at, number_at, payload_at, payload_behind, body_in}
@@ -31,7 +30,7 @@ use Rattle.ca_base.specs.declared.request.SendRequest.{SendRequest}
 use Rattle.ca_model.specs.declared.answer.Refusal.{Refusal}
 use Rattle.ca_model.specs.declared.mark.Mark.{Mark}
 use Rattle.ca_model.specs.declared.mark.Mark.TheVariants as marks
-use Rattle.ca_laws_room.specs.Room.{is_in, taken_in, waits_in}
+use Rattle.ca_laws_room.specs.Room.{taken_in, waits_in}
 
 -- two adapters with a buffer of a page each, and two domains of four slots of each kind
 abbrev one : Adapter

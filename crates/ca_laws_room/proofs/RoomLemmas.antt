@@ -1,8 +1,6 @@
 -- The world before the first event has room.
-use Rattle.std.proofs.Common.{◌≡◌, ℕ, [], refl, arith}
+use Rattle.std.proofs.Common.{[], arith}
 use Rattle.ca_keys.specs.Memory.{ByteMap}
-use Rattle.ca_base.specs.objects.QueuePair.{queue_at_start}
-use Rattle.ca_keys.specs.declared.names.QueueId.{QueueId}
 use Rattle.ca_model.specs.machine.World.{opening_world}
 use Rattle.ca_laws_room.specs.Room.{HasRoom}
 
