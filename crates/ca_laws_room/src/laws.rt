@@ -1,4 +1,4 @@
-ghost use Rattle.std.specs.Prelude.{◌≡◌, ℕ, ◌+◌, ◌≤◌, ◌<◌, true, List, ◌∷◌, ◌++◌, length, Some};
+ghost use Rattle.std.specs.Prelude.{◌≡◌, ℕ, ◌+◌, ◌≤◌, ◌<◌, true, List, ◌∷◌, ◌++◌, length, Some, is_some};
 ghost use Rattle.ca_base.specs.Configuration.{Configuration};
 ghost use Rattle.ca_base.specs.declared.completion.Completion.{Completion};
 ghost use Rattle.ca_base.specs.declared.limits.TheConstants.{MAX_DEPTH};
@@ -6,10 +6,11 @@ ghost use Rattle.ca_keys.specs.Memory.{ByteMap};
 ghost use Rattle.ca_keys.specs.declared.names.QueueId.{QueueId};
 ghost use Rattle.ca_keys.specs.declared.names.Slot.{Slot};
 ghost use Rattle.ca_base.specs.objects.CompletionQueue.{CompletionQueue, after_puts, receives_of, user_of};
-ghost use Rattle.ca_base.specs.objects.QueuePair.{NoQueue};
+ghost use Rattle.ca_base.specs.objects.QueuePair.{NoQueue, Present, QueuePair, recv_cq_of, send_cq_of, srq_of};
 ghost use Rattle.ca_base.specs.declared.reserve.Reserve.{Reserve};
+ghost use Rattle.ca_base.specs.declared.reserve.Reserve.TheVariants.{Receives, Sends};
 ghost use Rattle.ca_cq.specs.Room.{is_new_side};
-ghost use Rattle.ca_laws_room.specs.Room.{HasRoom};
+ghost use Rattle.ca_laws_room.specs.Room.{HasRoom, HasSide, rooms_of};
 ghost use Rattle.ca_model.specs.declared.event.Event.{Event};
 ghost use Rattle.ca_model.specs.declared.mark.Mark.{Mark};
 ghost use Rattle.ca_model.specs.machine.Frame.{Afterwards};
@@ -58,4 +59,15 @@ pub fn completions_of_an_event_fit()
 pub fn vacant_slots_reserve_nothing()
     ensures { (w : World) (s : Slot) (q : CompletionQueue) (who : Reserve) (incarnation timers : ℕ) → HasRoom w
         → w.queue (user_of who) ≡ NoQueue incarnation timers → w.cq s ≡ Some q → is_new_side who q ≡ true }
+{}
+
+/// Where a queue pair is there, so are its completion queues, each with the reservation of its side; and so is the shared
+/// receive queue that it uses.
+pub fn queues_in_use_are_there()
+    ensures sends { (w : World) (queue : QueueId) (q : QueuePair) → HasRoom w → w.queue queue ≡ Present q
+        → HasSide (Sends queue) (rooms_of (w.cq (send_cq_of q))) }
+    ensures receives { (w : World) (queue : QueueId) (q : QueuePair) → HasRoom w → w.queue queue ≡ Present q
+        → HasSide (Receives queue) (rooms_of (w.cq (recv_cq_of q))) }
+    ensures shared { (w : World) (queue : QueueId) (q : QueuePair) (srq : ℕ) → HasRoom w → w.queue queue ≡ Present q
+        → q.srq ≡ Some srq → is_some (w.srq (srq_of q srq)).srq ≡ true }
 {}

@@ -11,5 +11,5 @@ mod laws;
 
 pub use laws::{
     completion_queues_hold_what_waits, completions_of_an_event_fit, event_keeps_room,
-    opening_world_has_room, vacant_slots_reserve_nothing,
+    opening_world_has_room, queues_in_use_are_there, vacant_slots_reserve_nothing,
 };
