@@ -1,6 +1,6 @@
 -- Lemmas on what keeps the room of reservations: reservations, puts, polls, removals and releases. For proofs only.
 use Rattle.std.proofs.Common.{◌≡◌, ℕ, ◌+◌, ◌≤◌, ◌&&◌, ◌||◌, nat_lt, Bool, true, false, not, List, [], ◌∷◌, ◌++◌, drop, filter, length, Option, None, Some, IfSome, is_some, if◌then◌else◌, refl, arith, sym, ◌∙◌, ap, ap₂, true≢false}
-use Rattle.std.proofs.lemmas.Bool.{and_parts, ltb-false, ltb-true, not-true}
+use Rattle.std.proofs.lemmas.Bool.{and_parts, ltb-false, ltb-true, not-true, or_parts}
 use Rattle.std.specs.List.{AllByRecursion, list_any}
 use Rattle.std.specs.Option.{option_map_or}
 use Rattle.ca_base.specs.declared.completion.Completion.{Completion}
@@ -11,7 +11,7 @@ use Rattle.ca_base.specs.declared.reserve.Reservation.{Reservation}
 use Rattle.ca_base.specs.objects.CompletionQueue.{CompletionQueue, after_polls, after_puts, after_release, after_reserve, is_for_sends, is_same_side, is_too_small, room_reserved, user_of, with_reservation, without_completions}
 use Rattle.ca_cq.specs.Room.{HaveRoomOf, IsReserved, count_against, counts_against, has_room_left, is_new_side, is_of_side, is_polled_side, reservation_of, share_room}
 use Rattle.ca_cq.proofs.Rooms.{all-append, all-drop, all-filter, all-map, all-of, all-zip, drop-fewer, fewer, filter-fewer, filter-rooms, nobody, none-of, one-more}
-use Rattle.ca_cq.proofs.RoomLemmas.{alike-sources, counts-agree, one-agrees, one-swap, one_source, own-all, own-any, queue-path, queue-swap, room_of, rooms-reserved, share-swap}
+use Rattle.ca_cq.proofs.RoomLemmas.{alike-sources, counts-agree, one-agrees, one-swap, one_source, own-all, own-any, queue-path, queue-refl, queue-swap, room_of, rooms-reserved, share-swap}
 
 -- a queue in which fewer wait, each of them among those before, and as few against each reservation
 fewer-wait : (q : CompletionQueue) (waiting : List Completion) → IsReserved q
@@ -189,3 +189,45 @@ after-release who q reserved polled = record {
     same : AllByRecursion (λ c. reservation_of rs c ≡ reservation_of q.reservations c) q.waiting
     same =
         all-map (λ c. is_of_side who c ≡ false) (λ c. reservation_of rs c ≡ reservation_of q.reservations c) (still-own who q.reservations) q.waiting (none-of (is_of_side who) q.waiting (not-true (list_any (is_of_side who) q.waiting) polled))
+
+-- where each passes, the list stays
+filter-stays : (p : Reservation → Bool) (rs : List Reservation) → AllByRecursion (λ r. p r ≡ true) rs → filter p rs ≡ rs
+filter-stays p [] all = refl
+filter-stays p (r ∷ rs) all = ap (λ b. if b then r ∷ filter p rs else filter p rs) all.0 ∙ ap (λ xs. r ∷ xs) (filter-stays p rs all.1)
+
+-- reservations of which none is of a side stay where it is released
+others-stay : (who : Reserve) (rs : List Reservation) → list_any (λ r. is_same_side r.who who) rs ≡ false → filter (λ r. not (is_same_side r.who who)) rs ≡ rs
+others-stay who rs none = filter-stays (λ r. not (is_same_side r.who who)) rs
+    (all-map (λ r. is_same_side r.who who ≡ false) (λ r. not (is_same_side r.who who) ≡ true) (λ r e. ap not e) rs (none-of (λ r. is_same_side r.who who) rs none))
+
+same-refl : (who : Reserve) → is_same_side who who ≡ true
+same-refl who = ap₂ (λ b c. b && c) (queue-refl (user_of who)) (at (is_for_sends who))
+  where
+    at : (b : Bool) → bool_eq b b ≡ true
+    at true = refl
+    at false = refl
+
+-- a new side that is released leaves the queue as it was
+pub release-undoes : (who : Reserve) (room : ℕ) (q : CompletionQueue) → is_new_side who q ≡ true → after_release who (after_reserve who room q) ≡ q
+release-undoes who room q new = ap (λ rs. record q { reservations = rs })
+    (ap (λ b. if not b then record { who = who; room = room } ∷ filter (λ r. not (is_same_side r.who who)) q.reservations else filter (λ r. not (is_same_side r.who who)) q.reservations) (same-refl who)
+    ∙ others-stay who q.reservations (not-true (list_any (λ r. is_same_side r.who who) q.reservations) new))
+
+pub latest-first : (a b : Reserve) (m n : ℕ) (q : CompletionQueue) → is_new_side a q ≡ true → is_new_side b (after_reserve a m q) ≡ true
+    → after_release a (after_release b (after_reserve b n (after_reserve a m q))) ≡ q
+latest-first a b m n q one other = ap (after_release a) (release-undoes b n (after_reserve a m q) other) ∙ release-undoes a m q one
+
+same-swap : (a b : Reserve) → is_same_side a b ≡ is_same_side b a
+same-swap a b = ap₂ (λ x y. x && y) (queue-swap (user_of a) (user_of b)) (bool-swap (is_for_sends a) (is_for_sends b))
+
+pub latest-last : (a b : Reserve) (m n : ℕ) (q : CompletionQueue) → is_new_side a q ≡ true → is_new_side b (after_reserve a m q) ≡ true
+    → after_release b (after_release a (after_reserve b n (after_reserve a m q))) ≡ q
+latest-last a b m n q one other = ap (after_release b) (ap (λ c. record q { reservations = if not c then record { who = b; room = n } ∷ behind else behind }) (same-swap b a ∙ parts.0)
+    ∙ ap (λ rs. record q { reservations = record { who = b; room = n } ∷ rs }) (ap (λ (v : CompletionQueue). v.reservations) (release-undoes a m q one)))
+    ∙ release-undoes b n q (ap not parts.1)
+  where
+    behind : List Reservation
+    behind = filter (λ r. not (is_same_side r.who a)) (with_reservation a m q.reservations)
+
+    parts : (is_same_side a b ≡ false) × (list_any (λ r. is_same_side r.who b) q.reservations ≡ false)
+    parts = or_parts (is_same_side a b) (list_any (λ r. is_same_side r.who b) q.reservations) (not-true (list_any (λ r. is_same_side r.who b) (with_reservation a m q.reservations)) other)

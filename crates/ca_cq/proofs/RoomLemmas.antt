@@ -1,5 +1,5 @@
 -- Lemmas on the room of reservations: where a completion's reservation has room left, the queue has. For proofs only.
-use Rattle.std.proofs.Common.{◌≡◌, ℕ, ◌+◌, ◌<◌, ◌==◌, ◌&&◌, ◌||◌, Bool, true, false, List, [], ◌∷◌, filter, length, Option, None, Some, IfSome, is_some, if◌then◌else◌, refl, arith, sym, ◌∙◌, ap, ap₂, true≢false}
+use Rattle.std.proofs.Common.{◌≡◌, ℕ, ◌+◌, ◌<◌, ◌≤◌, ◌==◌, ◌&&◌, ◌||◌, Bool, true, false, List, [], ◌∷◌, filter, length, Option, None, Some, IfSome, is_some, if◌then◌else◌, refl, arith, sym, ◌∙◌, ap, ap₂, true≢false}
 use Rattle.std.proofs.lemmas.Bool.{and_parts, eq-eqb, eqb-true}
 use Rattle.std.specs.List.{AllByRecursion, list_any}
 use Rattle.std.specs.Option.{option_map_or}
@@ -11,7 +11,7 @@ use Rattle.ca_keys.specs.Equal.{queue_eq}
 use Rattle.ca_base.specs.declared.reserve.Reservation.{Reservation}
 use Rattle.ca_base.specs.objects.CompletionQueue.{CompletionQueue, is_shared_in, room_reserved, source_of}
 use Rattle.ca_cq.specs.Room.{HaveRoomOf, IsReserved, counts_against, has_room_left, is_of_side, reservation_of, share_room}
-use Rattle.ca_cq.proofs.Rooms.{HaveRoom, all-map, all-stay, below-rooms, has_any, has_left, or-right, rooms}
+use Rattle.ca_cq.proofs.Rooms.{HaveRoom, all-map, all-stay, below-rooms, has_any, has_left, or-right, rooms, within-rooms}
 
 number-swap : (a b : ℕ) → (a == b) ≡ (b == a)
 number-swap a b = by (a == b) refl (b == a) refl
@@ -185,3 +185,15 @@ room-left q c reserved left =
     below : length (filter (has_any counted q.reservations) q.waiting) < rooms one_source room_of q.reservations
     below =
         below-rooms one_source counted room_of q.waiting (λ a b one. counts-agree q.reservations a.who b.who (one-shares a.who b.who one)) q.reservations (alike-sources q.reservations reserved.alike) reserved.within (own-any (has_left counted room_of q.waiting) q.reservations c left)
+
+-- where every reservation has room for what waits, no more wait than the capacity
+pub waiting-fits : (q : CompletionQueue) → IsReserved q → length q.waiting ≤ q.capacity
+waiting-fits q reserved =
+    omega (arith, reserved.rooms, rooms-reserved q.reservations, all-stay (has_any counted q.reservations) q.waiting (all-map (λ x. is_some (reservation_of q.reservations x) ≡ true) (λ x. has_any counted q.reservations x ≡ true) (has-one q.reservations) q.waiting reserved.standing), within)
+  where
+    counted : Reservation → Completion → Bool
+    counted r = counts_against q.reservations r.who
+
+    within : length (filter (has_any counted q.reservations) q.waiting) ≤ rooms one_source room_of q.reservations
+    within =
+        within-rooms one_source counted room_of q.waiting (λ a b one. counts-agree q.reservations a.who b.who (one-shares a.who b.who one)) q.reservations reserved.within

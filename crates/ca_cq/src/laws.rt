@@ -28,3 +28,16 @@ pub fn calls_keep_room()
     ensures release { (who : Reserve) (q : CompletionQueue) → IsReserved q → is_polled_side who q ≡ true
         → IsReserved (after_release who q) }
 {}
+
+/// A release takes back what was reserved: where no reservation of that side stood, the queue is as it was before. So it
+/// is where two sides reserved, one after the other, and are released in either order.
+pub fn release_undoes_reserve()
+    ensures one { (who : Reserve) (room : ℕ) (q : CompletionQueue) → is_new_side who q ≡ true
+        → after_release who (after_reserve who room q) ≡ q }
+    ensures latest_first { (a b : Reserve) (m n : ℕ) (q : CompletionQueue) → is_new_side a q ≡ true
+        → is_new_side b (after_reserve a m q) ≡ true
+        → after_release a (after_release b (after_reserve b n (after_reserve a m q))) ≡ q }
+    ensures latest_last { (a b : Reserve) (m n : ℕ) (q : CompletionQueue) → is_new_side a q ≡ true
+        → is_new_side b (after_reserve a m q) ≡ true
+        → after_release b (after_release a (after_reserve b n (after_reserve a m q))) ≡ q }
+{}

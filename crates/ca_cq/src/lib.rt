@@ -16,4 +16,4 @@ mod ring;
 
 pub use cq::Cq;
 pub use cq_error::CqError;
-pub use laws::{calls_keep_room, reservation_makes_room};
+pub use laws::{calls_keep_room, release_undoes_reserve, reservation_makes_room};

@@ -1,0 +1,14 @@
+pub mod RoomLists
+pub mod FitLemmas
+pub mod KeptLemmas
+pub mod AdvanceLemmas
+pub mod EngineRoomLemmas
+pub mod ObjectRoomLemmas
+pub mod PairRoomLemmas
+pub mod EmptiedRoomLemmas
+pub mod DestroyRoomLemmas
+pub mod CreateRoomLemmas
+pub mod PollRoomLemmas
+pub mod EventRoomLemmas
+pub mod RoomCases
+pub mod RoomLemmas
