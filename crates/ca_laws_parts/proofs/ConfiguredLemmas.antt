@@ -1,17 +1,16 @@
 -- Only configured parts are needed, in a sound and placed world.
-use Rattle.std.proofs.Common.{◌≡◌, ◌∙◌, ℕ, zero, suc, ◌≤◌, ◌&&◌, arith, Bool, true, false, not, List, [], ◌∷◌, ◌++◌, min, take, Option, None, Some, IfSome, ap, is_some, subst, sym, if◌then◌else◌, refl, true≢false}
+use Rattle.std.proofs.Common.{◌≡◌, ◌∙◌, ℕ, zero, suc, ◌≤◌, ◌&&◌, arith, Bool, true, false, not, List, [], ◌∷◌, min, take, Option, None, Some, IfSome, ap, is_some, subst, sym, if◌then◌else◌, refl, true≢false}
 use Rattle.std.proofs.lemmas.Bool.{and_parts}
 use Rattle.std.specs.List.{AllByRecursion}
 use Rattle.std.specs.Option.{option_and_then, option_map, option_map_or}
 use Rattle.ca_keys.specs.declared.access.Ask.{Ask}
-use Rattle.ca_keys.specs.declared.grant.Grant.{Grant}
 use Rattle.ca_keys.specs.declared.key.Key.{Key}
 use Rattle.ca_keys.specs.declared.names.DomainId.{DomainId}
 use Rattle.ca_keys.specs.declared.names.QueueId.{QueueId}
 use Rattle.ca_keys.specs.declared.names.Slot.{Slot}
 use Rattle.ca_keys.specs.declared.place.Run.{Run}
 use Rattle.ca_keys.specs.Numbers.{is_window_key, queue_of}
-use Rattle.ca_base.specs.Configuration.{Adapter, Configuration}
+use Rattle.ca_base.specs.Configuration.{Configuration}
 use Rattle.ca_base.specs.Sight.{Invalidation}
 use Rattle.ca_base.specs.declared.completion.Completion.{Completion}
 use Rattle.ca_base.specs.declared.correspondent.Correspondent.{Correspondent}
@@ -21,7 +20,7 @@ use Rattle.ca_base.specs.declared.request.SendOp.TheVariants as ops
 use Rattle.ca_base.specs.objects.CompletionQueue.{CompletionQueue}
 use Rattle.ca_base.specs.objects.Mailbox.{bytes_lent}
 use Rattle.ca_base.specs.objects.QueuePair.{NoQueue, Present, QueuePair, QueueSlot, recv_cq_of, send_cq_of, srq_of}
-use Rattle.ca_base.specs.objects.Region.{FastRegistered, Free, NoRegion, RegionState, Registered, grant_in_state, grant_of_region}
+use Rattle.ca_base.specs.objects.Region.{FastRegistered, Free, NoRegion, RegionState, Registered, grant_in_state}
 use Rattle.ca_base.specs.objects.SharedReceives.{SharedReceives}
 use Rattle.ca_base.specs.objects.Slices.{buffer_length, has_queue, has_slot, is_key_of, names_region, names_window, slot_of_key}
 use Rattle.ca_base.specs.objects.Window.{Binding, Window}
@@ -42,7 +41,7 @@ use Rattle.ca_model.specs.declared.verb.Verb.{Verb}
 use Rattle.ca_model.specs.declared.verb.Verb.TheVariants as verbs
 use Rattle.ca_model.specs.machine.CompletionVerbs.{source_of_completion}
 use Rattle.ca_model.specs.machine.Delivery.{arrival_row}
-use Rattle.ca_model.specs.machine.LocalOperations.{region_slot, window_slot}
+use Rattle.ca_model.specs.machine.LocalOperations.{window_slot}
 use Rattle.ca_model.specs.machine.Parts.{By, Enough, Needs, Part, also, around_needs, arrival_needs, ask_needs, asks_needs, bind_needs, buffer_needs, drawing_needs, emptying_needs, ending_needs, event_needs, is_configured_part, listed, operation_needs, part, peer_needs, place_part, places_needs, present_needs, queues_needs, region_needs, region_part, request_needs, respond_needs, row_needs, turn_needs, verb_needs, where_some, window_needs}
 use Rattle.ca_model.specs.machine.QueuePairVerbs.{Creation, beside, has_queues}
 use Rattle.ca_model.specs.machine.Requester.{Performs, RequestTurn, Sends, Waits, packet_row, turn_of}
@@ -51,7 +50,7 @@ use Rattle.ca_model.specs.machine.Row.{Row, region_under}
 use Rattle.ca_model.specs.machine.Seen.{asks_window, shared_receives}
 use Rattle.ca_model.specs.machine.Sound.{AreLimited, IsSoundState, IsSoundWorld, LieIn}
 use Rattle.ca_model.specs.machine.Step.{bytes_of_buffer, has_buffer, has_named_slot, is_named}
-use Rattle.ca_model.specs.machine.World.{Cq_of, Domain_of, Mailbox_of, Queue_of, Region_of, Srq_of, Window_of, World, get}
+use Rattle.ca_model.specs.machine.World.{Cq_of, Domain_of, Mailbox_of, Queue_of, Region_of, Srq_of, Window_of, World}
 
 -- all parts of these are configured
 abbrev AreParts : Configuration → List PartName → Type 0

@@ -11,7 +11,7 @@
 mod laws;
 
 pub use laws::{
-    MAX_EVENT_PARTS, event_needs_configured_parts, event_needs_few_parts, event_touches_its_parts, held_parts_serve_rows,
-    held_parts_serve_turns, held_parts_suffice, next_part_comes_to_an_end, next_part_is_needed,
-    next_part_is_shown,
+    MAX_EVENT_PARTS, event_needs_configured_parts, event_needs_few_parts, event_touches_its_parts,
+    held_parts_serve_rows, held_parts_serve_turns, held_parts_suffice, next_part_comes_to_an_end,
+    next_part_is_needed, next_part_is_shown,
 };

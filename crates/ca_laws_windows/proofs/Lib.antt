@@ -5,3 +5,4 @@ pub mod WindowOperationLemmas
 pub mod WindowTurnLemmas
 pub mod WindowEventLemmas
 pub mod BindingLemmas
+pub mod EndedLemmas

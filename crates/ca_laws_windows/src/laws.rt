@@ -1,11 +1,15 @@
-ghost use Rattle.std.specs.Prelude.{◌≡◌, Some};
+ghost use Rattle.std.specs.Prelude.{◌≡◌, ◌<◌, true, None, Some};
 ghost use Rattle.ca_base.specs.Configuration.{Configuration};
 ghost use Rattle.ca_keys.specs.Memory.{ByteMap};
 ghost use Rattle.ca_keys.specs.declared.names.Slot.{Slot};
+ghost use Rattle.ca_keys.specs.Numbers.{is_window_key};
+ghost use Rattle.ca_base.specs.Sight.{Invalidation};
+ghost use Rattle.ca_base.specs.objects.QueuePair.{Present, QueuePair};
 ghost use Rattle.ca_base.specs.objects.Window.{Binding};
 ghost use Rattle.ca_laws_windows.specs.Bindings.{IsBoundWorld, IsCounted};
 ghost use Rattle.ca_model.specs.declared.event.Event.{Event};
 ghost use Rattle.ca_model.specs.machine.Frame.{Afterwards};
+ghost use Rattle.ca_model.specs.machine.Seen.{refusal_in};
 ghost use Rattle.ca_model.specs.machine.Sound.{IsSoundWorld};
 ghost use Rattle.ca_model.specs.machine.Step.{step};
 ghost use Rattle.ca_model.specs.machine.World.{World, opening_world};
@@ -27,4 +31,11 @@ pub fn event_keeps_windows_counted()
 pub fn bound_window_is_counted()
     ensures { (w : World) (s : Slot) (b : Binding) → IsBoundWorld w → (w.window s).binding ≡ Some b
         → IsCounted (w.window s) b w.region w.queue }
+{}
+
+/// Where bound windows are counted, a queue pair that may end a window's key counts that window, as its invalidation by a
+/// Local Invalidate or by a SEND with Invalidate asks.
+pub fn ended_window_is_counted()
+    ensures { (c : Configuration) (w : World) (i : Invalidation) (q : QueuePair) → IsBoundWorld w
+        → is_window_key i.key ≡ true → refusal_in c w i ≡ None → w.queue i.queue ≡ Present q → 0 < q.windows }
 {}

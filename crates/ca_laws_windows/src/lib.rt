@@ -9,4 +9,7 @@
 
 mod laws;
 
-pub use laws::{bound_window_is_counted, event_keeps_windows_counted, opening_world_counts_windows};
+pub use laws::{
+    bound_window_is_counted, ended_window_is_counted, event_keeps_windows_counted,
+    opening_world_counts_windows,
+};
