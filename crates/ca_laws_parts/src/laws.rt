@@ -31,8 +31,8 @@ pub const MAX_EVENT_PARTS: usize = 32;
 /// In a sound world each thing that an event looks at, reads, changes or writes stands in a part that the table of parts
 /// has for this event.
 pub fn event_touches_its_parts()
-    ensures { (c : Configuration) (w : World) (event : Event)
-        → IsSoundWorld c w → AllByRecursion (λ n. IsAmong (event_parts c w event) (part_of n)) (touches w (plan c event)) }
+    ensures { (c : Configuration) (w : World) (event : Event) → IsSoundWorld c w
+        → AllByRecursion (λ n. IsAmong (event_parts c w event) (part_of n)) (touches w (plan c event)) }
 {}
 
 /// In a sound and placed world only configured parts are needed, where the configuration keeps to its limits.
