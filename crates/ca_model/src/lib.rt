@@ -14,6 +14,7 @@ mod entry;
 mod event;
 mod history;
 mod laws;
+mod list;
 mod mark;
 mod marks;
 mod opening;
@@ -31,6 +32,7 @@ pub use history::History;
 pub use laws::{
     event_depends_on_what_it_touches, event_leaves_the_rest, events_depend_on_what_they_touch,
 };
+pub use list::list_length;
 pub use mark::{Drop1, Mark};
 pub use marks::{Marks, SPARE_MARKS};
 pub use opening::{Contents, Opening};

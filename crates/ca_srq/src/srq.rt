@@ -44,7 +44,7 @@ impl Model for Srq {
 }
 
 impl Srq {
-    ghost use Rattle.std.specs.Prelude.{◌≡◌, ◌<◌, ◌^◌, ◌↔◌, suc, length, IfOk, IfErr, IsOk, IsTrue, not, option_copied};
+    ghost use Rattle.std.specs.Prelude.{◌≡◌, ◌<◌, ◌^◌, ◌↔◌, suc, length, IfOk, IfErr, IsOk, IsTrue, is_some, not, option_copied};
     ghost use Rattle.std.specs.Option.{option_map};
     ghost use Rattle.ca_base.specs.objects.SharedReceives.{empty_receives, occupied_receives, is_full_of_receives, after_receive_post, first_receive, after_receive_take, after_receive_retire};
 
@@ -68,7 +68,7 @@ impl Srq {
         ensures ok { IfOk result (λ place. (place ≡ self.old.next) × (self.new ≡ after_receive_post receive self.old)) }
         ensures full { IfErr result (λ refused. (refused ≡ receive) × (self.new ≡ self.old)) }
     {
-        if self.waiting.len() + self.taken.len() >= self.waiting.capacity() {
+        if self.is_full() {
             return Err(receive);
         }
         let place = self.next;
@@ -117,6 +117,27 @@ impl Srq {
         ensures { result ≡ length self.now.waiting }
     {
         self.waiting.len() as u16
+    }
+
+    /// Whether a receive waits to be taken. It takes no memory.
+    pub fn has_waiting(&self) -> bool
+        ensures { result ≡ is_some (first_receive self.now) }
+    {
+        self.waiting.front().is_some()
+    }
+
+    /// Whether all places are occupied. It takes no memory.
+    pub fn is_full(&self) -> bool
+        ensures { result ≡ is_full_of_receives self.now }
+    {
+        self.waiting.len() + self.taken.len() >= self.waiting.capacity()
+    }
+
+    /// How many places there are. It takes no memory.
+    pub fn depth(&self) -> u16
+        ensures { result ≡ self.now.depth }
+    {
+        self.waiting.capacity() as u16
     }
 
     /// How many places are occupied. It takes no memory.
