@@ -6,7 +6,7 @@ use crate::requesting::requests;
 use arrayvec::ArrayVec;
 use ca_base::{
     AdapterConfig, Change, Config, DomainId, Key, Piece, QueueId, Rights, Run, SendOp, SendRequest,
-    Slot,
+    Settings, Slot,
 };
 use ca_bed_reach::SmallReach;
 use ca_bed_requester::Bed;
@@ -76,7 +76,7 @@ fn changes(expected: u32) -> [Change; 3] {
     [Change::Init, ready_to_receive, ready_to_send]
 }
 
-fn config() -> Option<Config> {
+fn settings() -> Option<Settings> {
     let mut adapters = ArrayVec::new();
     let adapter = AdapterConfig {
         buffers: ArrayVec::new(),
@@ -88,10 +88,10 @@ fn config() -> Option<Config> {
         qps: 2,
     };
     adapters.try_push(adapter).ok()?;
-    Some(Config {
+    Some(Settings::of(&Config {
         adapters,
         events: 1,
-    })
+    }))
 }
 
 pub fn new_bed(alloc: Global) -> Option<Bed>
@@ -123,11 +123,13 @@ pub fn bring_up(bed: &mut Bed, expected: u32) -> bool
     requires { beds.Stands bed.old }
     ensures { beds.Stands bed.new }
 {
-    let Some(config) = config() else {
+    let Some(settings) = settings() else {
         return false;
     };
     let [first, second, third] = changes(expected);
-    bed.change(&config, &first) && bed.change(&config, &second) && bed.change(&config, &third)
+    bed.change(&settings, &first)
+        && bed.change(&settings, &second)
+        && bed.change(&settings, &third)
 }
 
 // Does what the word names, so many times; how many marks that made.

@@ -25,6 +25,7 @@ mod request;
 mod reserve;
 mod saved_result;
 mod settings;
+mod slots;
 mod step;
 
 pub use answers::Answers;
@@ -46,4 +47,5 @@ pub use request::{Piece, PlacedReceive, PostedSend, RecvRequest, SendOp, SendReq
 pub use reserve::{Reservation, Reserve};
 pub use saved_result::SavedResult;
 pub use settings::{AdapterSettings, Settings};
+pub use slots::{slot_of_key, slot_of_queue};
 pub use step::{Reason, Sent, StepError, Turn};

@@ -1,9 +1,10 @@
-ghost use Rattle.std.specs.Prelude.{Some};
+ghost use Rattle.std.specs.Prelude.{◌≡◌, Some};
 ghost use Rattle.ca_base.specs.Spelling.{piece_text};
 
 use crate::limits::MAX_PIECES;
 use arrayvec::ArrayVec;
 use ca_keys::{Address, Key, Pages, Rights};
+use std::alloc::AllocError;
 use std::fmt;
 
 /// One part of a request's scatter or gather list: `length` bytes from `address` on, by an L_Key.
@@ -26,7 +27,7 @@ impl fmt::Display for Piece {
 }
 
 /// What a request of a send queue asks for: a message, an access to the peer's memory, or a local operation.
-#[derive(Clone, Drop)]
+#[derive(Drop)]
 pub enum SendOp {
     Send {
         list: ArrayVec<Piece, MAX_PIECES>,
@@ -103,6 +104,117 @@ pub enum SendOp {
     LocalInv {
         key: Key,
     },
+}
+
+impl Clone for SendOp {
+    ghost is_clone = { λ op copy. copy ≡ op };
+
+    fn clone(&self) -> Result<SendOp, AllocError> {
+        Ok(match self {
+            SendOp::Send { list } => SendOp::Send {
+                list: list.clone()?,
+            },
+            SendOp::SendImm { imm, list } => SendOp::SendImm {
+                imm: *imm,
+                list: list.clone()?,
+            },
+            SendOp::SendInv { key, list } => SendOp::SendInv {
+                key: *key,
+                list: list.clone()?,
+            },
+            SendOp::Write { address, key, list } => SendOp::Write {
+                address: *address,
+                key: *key,
+                list: list.clone()?,
+            },
+            SendOp::WriteImm {
+                address,
+                key,
+                imm,
+                list,
+            } => SendOp::WriteImm {
+                address: *address,
+                key: *key,
+                imm: *imm,
+                list: list.clone()?,
+            },
+            SendOp::Read { address, key, list } => SendOp::Read {
+                address: *address,
+                key: *key,
+                list: list.clone()?,
+            },
+            SendOp::CmpSwap {
+                address,
+                key,
+                compare,
+                swap,
+                list,
+            } => SendOp::CmpSwap {
+                address: *address,
+                key: *key,
+                compare: *compare,
+                swap: *swap,
+                list: list.clone()?,
+            },
+            SendOp::FetchAdd {
+                address,
+                key,
+                add,
+                list,
+            } => SendOp::FetchAdd {
+                address: *address,
+                key: *key,
+                add: *add,
+                list: list.clone()?,
+            },
+            SendOp::Bind1 {
+                window,
+                region,
+                address,
+                length,
+                rights,
+            } => SendOp::Bind1 {
+                window: *window,
+                region: *region,
+                address: *address,
+                length: *length,
+                rights: *rights,
+            },
+            SendOp::Bind2 {
+                window,
+                region,
+                low,
+                address,
+                length,
+                rights,
+            } => SendOp::Bind2 {
+                window: *window,
+                region: *region,
+                low: *low,
+                address: *address,
+                length: *length,
+                rights: *rights,
+            },
+            SendOp::FastReg {
+                region,
+                low,
+                buffer,
+                address,
+                length,
+                rights,
+                pages,
+            } => SendOp::FastReg {
+                region: *region,
+                low: *low,
+                buffer: *buffer,
+                address: *address,
+                length: *length,
+                rights: *rights,
+                pages: pages.clone()?,
+            },
+            SendOp::LocalInv { key } => SendOp::LocalInv { key: *key },
+        })
+    }
 }
 
 /// A request of a send queue. A `fence` waits for the READs and atomics before it; `solicited` asks the peer for a

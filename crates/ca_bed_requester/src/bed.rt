@@ -13,7 +13,7 @@ ghost use Rattle.ca_packet.specs.Packet.{IsWellFormed};
 
 use ca_base::limits::{MAX_MESSAGE_BYTES, MAX_PIECES};
 use ca_base::{
-    Ask, Change, Config, Memory, OpRefusal, Piece, PostedSend, Reason, SendRequest, Sent, StepError,
+    Ask, Change, Memory, OpRefusal, Piece, PostedSend, Reason, SendRequest, Sent, Settings, StepError,
 };
 use ca_bed_reach::SmallReach;
 use ca_model::Marks;
@@ -250,10 +250,10 @@ impl Bed {
     }
 
     /// Changes the state; false where that is refused.
-    pub fn change(&mut self, config: &Config, change: &Change) -> bool
+    pub fn change(&mut self, settings: &Settings, change: &Change) -> bool
         requires { beds.Stands self.old }
         ensures { beds.Stands self.new }
     {
-        self.queue.incarnation < 1000 && self.queue.modify(config, change).is_ok()
+        self.queue.incarnation < 1000 && self.queue.modify(settings, change).is_ok()
     }
 }

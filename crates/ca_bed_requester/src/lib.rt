@@ -8,4 +8,4 @@ mod bed;
 mod setup;
 
 pub use bed::{Bed, FAR, are_here, is_narrow, is_response, is_short};
-pub use setup::{Setup, bed_of, config, reason_text, setup_in};
+pub use setup::{Setup, bed_of, reason_text, settings, setup_in};

@@ -4,7 +4,7 @@ ghost use Rattle.ca_bed_requester.specs.Bed as beds;
 
 use crate::bed::Bed;
 use arrayvec::ArrayVec;
-use ca_base::{AdapterConfig, Config, QueueId, Reason, Rights, Run, Slot};
+use ca_base::{AdapterConfig, Config, QueueId, Reason, Rights, Run, Settings, Slot};
 use ca_bed_reach::SmallReach;
 use ca_model::{Answer, Verb};
 use ca_qpstate::QueuePart;
@@ -39,15 +39,15 @@ fn adapter() -> AdapterConfig {
 }
 
 /// Four adapters of many domains.
-pub fn config() -> Config {
+pub fn settings() -> Settings {
     let mut adapters = ArrayVec::new();
     for _ in 0..4 {
         let _ = adapters.try_push(adapter());
     }
-    Config {
+    Settings::of(&Config {
         adapters,
         events: 100,
-    }
+    })
 }
 
 // The queue pair in Reset.

@@ -1,5 +1,5 @@
 use crate::cq_error::CqError;
-use crate::reservation::{is_same_side, room_reserved, room_taken, source_in};
+use crate::reservation::{is_same_side, room_reserved, room_taken, room_taken_behind, source_in};
 use crate::ring::{Dropped, places_of};
 use arrayvec::ArrayVec;
 use ca_base::limits::{MAX_DEPTH, MAX_POLLED};
@@ -33,7 +33,7 @@ impl Model for Cq {
 }
 
 impl Cq {
-    ghost use Rattle.std.specs.Prelude.{◌≡◌, ◌<◌, ◌≤◌, ◌↔◌, [], ◌∷◌, IfOk, OnOk, OnErr, IsTrue, Err, length, slice_get, take};
+    ghost use Rattle.std.specs.Prelude.{◌≡◌, ◌+◌, ◌<◌, ◌≤◌, ◌↔◌, [], ◌∷◌, IfOk, OnOk, OnErr, IsTrue, Err, length, slice_get, take};
     ghost use Rattle.ca_base.specs.declared.limits.TheConstants.{MAX_DEPTH, MAX_POLLED};
     ghost use Rattle.ca_base.specs.objects.CompletionQueue.{empty_cq, is_too_small, after_reserve, after_release, after_puts, after_polls, is_in_use, source_in, without_completions, receives_of};
     ghost use Rattle.ca_cq.specs.declared.cq_error.CqError.TheVariants.{TooSmall};
@@ -63,13 +63,27 @@ impl Cq {
         Ok(())
     }
 
-    // Whether the capacity is too small for one more reservation.
-    fn is_too_small(&self, who: Reserve, n: u16) -> bool
+    /// Whether the capacity is too small for one more reservation, which `reserve` then refuses. It takes time by the
+    /// square of the number of reservations.
+    pub fn is_too_small(&self, who: Reserve, n: u16) -> bool
         ensures { result ≡ is_too_small who n self.now }
     {
         let reservations = self.reservations.as_slice();
         let room = room_taken(reservations, who, n).saturating_add(room_reserved(reservations));
         room as usize > self.waiting.capacity()
+    }
+
+    /// Whether the capacity is too small for a second reservation once a first one stands, as that of the receives of a
+    /// queue pair whose sends complete here too. It takes time by the square of the number of reservations.
+    pub fn is_too_small_after(&self, first: Reserve, room: u16, who: Reserve, n: u16) -> bool
+        ensures { result ≡ is_too_small who n (after_reserve first room self.now) }
+    {
+        let reservations = self.reservations.as_slice();
+        let taken = room_taken(reservations, first, room);
+        let first = Reservation { who: first, room };
+        let more = room_taken_behind(first, reservations, who, n);
+        let all = room_reserved(reservations).saturating_add(taken + more);
+        all as usize > self.waiting.capacity()
     }
 
     /// Frees what this side of the queue pair reserved. It takes no memory, as none of the calls below does.
@@ -87,6 +101,22 @@ impl Cq {
         ensures { self.new ≡ after_puts (completion ∷ []) self.old }
     {
         self.waiting.push_back(completion);
+    }
+
+    /// Puts these completions behind the others, in their order. Its condition is that there is room for all of them.
+    pub fn put_all(&mut self, completions: &[Completion])
+        requires { length self.old.waiting + length completions.now ≤ self.old.capacity }
+        ensures { self.new ≡ after_puts completions.now self.old }
+    {
+        self.waiting.fill_from_slice(completions);
+    }
+
+    /// Takes the first completion. None comes exactly where none waits.
+    pub fn poll_first(&mut self) -> Option<Completion>
+        ensures completion { result ≡ slice_get self.old.waiting 0 }
+        ensures queue { self.new ≡ after_polls 1 self.old }
+    {
+        self.waiting.pop_front()
     }
 
     /// Takes the first completions, as many as are asked for or as wait.

@@ -1,4 +1,4 @@
-ghost use Rattle.std.specs.Prelude.{◌≡◌, ◌==◌, ◌-◌, ◌^◌, min, if◌then◌else◌, false};
+ghost use Rattle.std.specs.Prelude.{◌≡◌, ◌==◌, ◌-◌, ◌^◌, ◌<◌, ◌∷◌, min, if◌then◌else◌, false};
 ghost use Rattle.std.specs.Option.{option_map_or};
 ghost use Rattle.ca_base.specs.objects.CompletionQueue.{is_for_sends, is_same_side, is_shared_in, room_reserved, source_in, source_of, user_of};
 
@@ -65,12 +65,30 @@ fn is_shared_in(reservations: &[Reservation], who: Reserve) -> bool
 
 /// How much room a reservation takes beside these: none, where one of them is for the same shared receive queue.
 pub(crate) fn room_taken(reservations: &[Reservation], who: Reserve, room: u16) -> u32
-    ensures { result ≡ (if is_shared_in reservations.now who then 0 else room) }
+    ensures value { result ≡ (if is_shared_in reservations.now who then 0 else room) }
+    ensures few { result < 2 ^ 16 }
 {
     if is_shared_in(reservations, who) {
         0
     } else {
         u32::from(room)
+    }
+}
+
+/// The same where a first one stands beside these.
+pub(crate) fn room_taken_behind(
+    first: Reservation,
+    reservations: &[Reservation],
+    who: Reserve,
+    room: u16,
+) -> u32
+    ensures value { result ≡ (if is_shared_in (first ∷ reservations.now) who then 0 else room) }
+    ensures few { result < 2 ^ 16 }
+{
+    if is_shared_in([first].as_slice(), who) {
+        0
+    } else {
+        room_taken(reservations, who, room)
     }
 }
 

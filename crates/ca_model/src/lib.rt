@@ -14,6 +14,7 @@ mod entry;
 mod event;
 mod history;
 mod laws;
+mod list;
 mod mark;
 mod marks;
 mod opening;
@@ -32,6 +33,7 @@ pub use laws::{
     event_agrees_where_it_touches, event_depends_on_what_it_touches, event_leaves_the_rest,
     events_depend_on_what_they_touch, row_does_what_is_seen,
 };
+pub use list::list_length;
 pub use mark::{Drop1, Mark};
 pub use marks::{Marks, SPARE_MARKS};
 pub use opening::{Contents, Opening};

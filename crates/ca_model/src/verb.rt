@@ -1,7 +1,10 @@
+ghost use Rattle.std.specs.Prelude.{◌≡◌};
+
 use ca_base::{Bytes, Change, DomainId, QueueId, RecvRequest, Rights, SendRequest, Slot};
+use std::alloc::AllocError;
 
 /// What a consumer asks of its adapter: a transport verb of the standard, an access of its host, or an injection.
-#[derive(Clone, Drop)]
+#[derive(Drop)]
 pub enum Verb {
     /// Allocates a protection domain.
     AllocPd {
@@ -113,4 +116,112 @@ pub enum Verb {
         queue: QueueId,
         bytes: Bytes,
     },
+}
+
+impl Clone for Verb {
+    ghost is_clone = { λ verb copy. copy ≡ verb };
+
+    fn clone(&self) -> Result<Verb, AllocError> {
+        Ok(match self {
+            Verb::AllocPd { domain } => Verb::AllocPd { domain: *domain },
+            Verb::DeallocPd { domain } => Verb::DeallocPd { domain: *domain },
+            Verb::RegMr {
+                slot,
+                buffer,
+                offset,
+                length,
+                rights,
+            } => Verb::RegMr {
+                slot: *slot,
+                buffer: *buffer,
+                offset: *offset,
+                length: *length,
+                rights: *rights,
+            },
+            Verb::AllocMr { slot, pages } => Verb::AllocMr {
+                slot: *slot,
+                pages: *pages,
+            },
+            Verb::DeregMr { slot } => Verb::DeregMr { slot: *slot },
+            Verb::AllocMw { slot, kind } => Verb::AllocMw {
+                slot: *slot,
+                kind: *kind,
+            },
+            Verb::DeallocMw { slot } => Verb::DeallocMw { slot: *slot },
+            Verb::CreateCq { slot, capacity } => Verb::CreateCq {
+                slot: *slot,
+                capacity: *capacity,
+            },
+            Verb::DestroyCq { slot } => Verb::DestroyCq { slot: *slot },
+            Verb::CreateSrq { slot, depth } => Verb::CreateSrq {
+                slot: *slot,
+                depth: *depth,
+            },
+            Verb::DestroySrq { slot } => Verb::DestroySrq { slot: *slot },
+            Verb::CreateQp {
+                slot,
+                send_cq,
+                recv_cq,
+                send_depth,
+                recv_depth,
+                srq,
+            } => Verb::CreateQp {
+                slot: *slot,
+                send_cq: *send_cq,
+                recv_cq: *recv_cq,
+                send_depth: *send_depth,
+                recv_depth: *recv_depth,
+                srq: *srq,
+            },
+            Verb::ModifyQp { slot, change } => Verb::ModifyQp {
+                slot: *slot,
+                change: *change,
+            },
+            Verb::QueryQp { slot } => Verb::QueryQp { slot: *slot },
+            Verb::DestroyQp { slot } => Verb::DestroyQp { slot: *slot },
+            Verb::Poll { slot, n, least } => Verb::Poll {
+                slot: *slot,
+                n: *n,
+                least: *least,
+            },
+            Verb::Load {
+                adapter,
+                buffer,
+                offset,
+                length,
+            } => Verb::Load {
+                adapter: *adapter,
+                buffer: *buffer,
+                offset: *offset,
+                length: *length,
+            },
+            Verb::PostSend { slot, request } => Verb::PostSend {
+                slot: *slot,
+                request: request.clone()?,
+            },
+            Verb::PostRecv { slot, request } => Verb::PostRecv {
+                slot: *slot,
+                request: request.clone()?,
+            },
+            Verb::PostSrq { slot, request } => Verb::PostSrq {
+                slot: *slot,
+                request: request.clone()?,
+            },
+            Verb::Store {
+                adapter,
+                buffer,
+                offset,
+                bytes,
+            } => Verb::Store {
+                adapter: *adapter,
+                buffer: *buffer,
+                offset: *offset,
+                bytes: bytes.clone()?,
+            },
+            Verb::Inject { queue, bytes } => Verb::Inject {
+                queue: *queue,
+                bytes: bytes.clone()?,
+            },
+        })
+    }
 }

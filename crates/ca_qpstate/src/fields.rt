@@ -1,39 +1,13 @@
-ghost use Rattle.std.specs.Prelude.{◌≡◌, ◌<◌, ◌≤◌, ◌^◌, ◌/◌, ◌%◌, ◌-◌, ◌&&◌, nat_lt, IsTrue, IfNone};
-ghost use Rattle.ca_base.specs.Configuration.{configuration_of};
-ghost use Rattle.ca_base.specs.objects.Slices as slices;
+ghost use Rattle.std.specs.Prelude.{◌≡◌, ◌<◌, ◌^◌, IfNone};
 ghost use Rattle.ca_base.specs.objects.StateTable as table;
-ghost use Rattle.ca_base.specs.declared.config.Config.{Config};
+ghost use Rattle.ca_base.specs.declared.settings.Settings.{Settings};
 ghost use Rattle.ca_keys.specs.declared.names.QueueId.{QueueId};
 ghost use Rattle.ca_base.specs.declared.change.Change.TheVariants as changes;
 ghost use Rattle.ca_model.specs.machine.Invariants.{NamesPeer};
 ghost use Rattle.ca_qpstate.specs.Fields.{refusal_of_fields};
 
 use ca_base::limits::{MAX_READS, MAX_RETRY, MAX_RNR_CODE, PSN_COUNT};
-use ca_base::{Change, Config, Field, ModifyRefusal, QueueId};
-
-/// Whether a queue pair's number, which is at least 256, is that of a slot of an adapter of so many domains, each with
-/// so many queue pairs. Such a number has 24 bits.
-fn names_slot(domains: u8, qps: u16, number: u32) -> bool
-    requires { 256 ≤ number }
-    ensures value { result ≡ (nat_lt (number / 256 - 1) domains && nat_lt (number % 256) qps) }
-    ensures narrow { IsTrue result → number < 2 ^ 24 }
-{
-    number / 256 - 1 < u32::from(domains) && number % 256 < u32::from(qps)
-}
-
-/// Whether a queue pair's number is that of a configured slot. Such a number has 24 bits.
-fn has_queue(config: &Config, queue: QueueId) -> bool
-    ensures value { result ≡ slices.has_queue (configuration_of config.now) queue }
-    ensures narrow { IsTrue result → queue.number < 2 ^ 24 }
-{
-    if queue.number < 256 {
-        return false;
-    }
-    match config.adapters.get(usize::from(queue.adapter)) {
-        None => false,
-        Some(adapter) => names_slot(adapter.domains, adapter.qps, queue.number),
-    }
-}
+use ca_base::{Change, Field, ModifyRefusal, QueueId, Settings};
 
 /// Whether so many bytes are a path MTU.
 fn is_path_mtu(mtu: u16) -> bool
@@ -44,7 +18,7 @@ fn is_path_mtu(mtu: u16) -> bool
 
 /// The first field of a change to Ready to Receive that is out of its range.
 fn rtr_refusal(
-    config: &Config,
+    settings: &Settings,
     queue: QueueId,
     peer: QueueId,
     incarnation: u32,
@@ -52,10 +26,10 @@ fn rtr_refusal(
     mtu: u16,
     rnr_code: u8,
 ) -> Option<ModifyRefusal>
-    ensures first { result ≡ refusal_of_fields config.now queue (changes.Rtr peer incarnation psn mtu rnr_code) }
+    ensures first { result ≡ refusal_of_fields settings.now queue (changes.Rtr peer incarnation psn mtu rnr_code) }
     ensures narrow { IfNone result (peer.number < 2 ^ 24) }
 {
-    if !has_queue(config, peer) || peer == queue {
+    if !settings.has_queue(peer) || peer == queue {
         Some(ModifyRefusal::OutOfRange(Field::Peer))
     } else if incarnation == 0 {
         Some(ModifyRefusal::OutOfRange(Field::Incarnation))
@@ -72,7 +46,7 @@ fn rtr_refusal(
 
 /// The first field of a change to Ready to Send that is out of its range.
 fn rts_refusal(psn: u32, retry: u8, rnr_retry: u8, reads: u8) -> Option<ModifyRefusal>
-    ensures { (c : Config) → (q : QueueId) → result ≡ refusal_of_fields c q (changes.Rts psn retry rnr_retry reads) }
+    ensures { (s : Settings) → (q : QueueId) → result ≡ refusal_of_fields s q (changes.Rts psn retry rnr_retry reads) }
 {
     if psn >= PSN_COUNT {
         Some(ModifyRefusal::OutOfRange(Field::Psn))
@@ -88,8 +62,8 @@ fn rts_refusal(psn: u32, retry: u8, rnr_retry: u8, reads: u8) -> Option<ModifyRe
 }
 
 /// The first field of a change that is out of its range.
-pub fn field_refusal(config: &Config, queue: QueueId, change: &Change) -> Option<ModifyRefusal>
-    ensures first { result ≡ refusal_of_fields config.now queue change.now }
+pub fn field_refusal(settings: &Settings, queue: QueueId, change: &Change) -> Option<ModifyRefusal>
+    ensures first { result ≡ refusal_of_fields settings.now queue change.now }
     ensures peer { IfNone result (NamesPeer change.now) }
 {
     match *change {
@@ -99,7 +73,7 @@ pub fn field_refusal(config: &Config, queue: QueueId, change: &Change) -> Option
             psn,
             mtu,
             rnr_code,
-        } => rtr_refusal(config, queue, peer, incarnation, psn, mtu, rnr_code),
+        } => rtr_refusal(settings, queue, peer, incarnation, psn, mtu, rnr_code),
         Change::Rts {
             psn,
             retry,

@@ -6,8 +6,8 @@ use crate::fields::field_refusal;
 use crate::state_table::is_allowed_from;
 use ca_base::limits::PSN_BASE;
 use ca_base::{
-    Answers, Change, Config, DomainId, Memory, ModifyRefusal, PostedSend, QueueId, RecvRequest,
-    RequesterNumbers, ResponderNumbers, State, WindowCount,
+    Answers, Change, DomainId, Memory, ModifyRefusal, PostedSend, QueueId, RecvRequest,
+    RequesterNumbers, ResponderNumbers, Settings, State, WindowCount,
 };
 use ca_saved::Saved;
 use ca_workqueue::WorkQueue;
@@ -106,30 +106,30 @@ impl QueuePart {
 
     /// Changes the state by the state table. The refusals in order are `Transition`, `OutOfRange` of the first field
     /// that is out of its range, and `WindowsBound`. It takes no memory.
-    pub fn modify(&mut self, config: &Config, change: &Change) -> Result<(), ModifyRefusal>
+    pub fn modify(&mut self, settings: &Settings, change: &Change) -> Result<(), ModifyRefusal>
         requires { self.old.incarnation < 2 ^ 32 - 1 }
-        ensures accepted { OnOk result (refusal_of_change config.now change.now self.old ≡ None) }
-        ensures refused { IfErr result (λ e. refusal_of_change config.now change.now self.old ≡ Some e) }
+        ensures accepted { OnOk result (refusal_of_change settings.now change.now self.old ≡ None) }
+        ensures refused { IfErr result (λ e. refusal_of_change settings.now change.now self.old ≡ Some e) }
         ensures changed { OnOk result (self.new ≡ queue_after_change change.now self.old) }
         ensures err { OnErr result (self.new ≡ self.old) }
         ensures comes_up { IsQueue self.old → IsQueue self.new }
     {
-        if let Some(refusal) = self.modify_refusal(config, change) {
+        if let Some(refusal) = self.modify_refusal(settings, change) {
             return Err(refusal);
         }
         self.apply(change);
         Ok(())
     }
 
-    /// Why a change is refused: the first of the state table's reasons.
-    fn modify_refusal(&self, config: &Config, change: &Change) -> Option<ModifyRefusal>
-        ensures first { result ≡ refusal_of_change config.now change.now self.now }
+    /// Why `modify` refuses a change: the first of the state table's reasons. None comes exactly where it does not.
+    pub fn modify_refusal(&self, settings: &Settings, change: &Change) -> Option<ModifyRefusal>
+        ensures first { result ≡ refusal_of_change settings.now change.now self.now }
         ensures peer { IfNone result (NamesPeer change.now) }
     {
         if !is_allowed_from(change, self.state) {
             return Some(ModifyRefusal::Transition);
         }
-        if let Some(refusal) = field_refusal(config, self.queue, change) {
+        if let Some(refusal) = field_refusal(settings, self.queue, change) {
             return Some(refusal);
         }
         if matches!(change, Change::Reset) && self.windows.count > 0 {

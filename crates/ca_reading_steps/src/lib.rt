@@ -6,7 +6,6 @@
 //! Source: this profile's choice, as the text of a history is.
 #![tactic(auto)]
 
-mod copy;
 mod progress;
 
 pub use progress::{OpenPoll, Progress, called, go_on, may_end, take_got, take_mark};

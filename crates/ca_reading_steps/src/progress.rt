@@ -6,7 +6,6 @@ ghost use Rattle.ca_reading_steps.specs.ProgressView.{HasRoom, stage_of};
 ghost use Rattle.ca_reading_words.specs.declared.stop.Stop.TheVariants as stops;
 ghost use Rattle.ca_reading_answers.specs.Answers.{IsTold};
 
-use crate::copy::copy_of_verb;
 use ca_base::{Completion, Memory};
 use ca_model::{Answer, Completions, Entry, Event, Mark, Marks, Verb};
 use ca_reading_words::Stop;
@@ -69,7 +68,7 @@ fn unanswered(alloc: Global, stamp: u64, pass: u32, by: u32, verb: &Verb) -> Res
     marks.reserve(1)?;
     let event = Event::Verb {
         by,
-        verb: copy_of_verb(verb)?,
+        verb: verb.clone()?,
     };
     Ok(Entry {
         stamp,
@@ -132,7 +131,7 @@ fn polled(alloc: Global, poll: &mut OpenPoll, last: Completion) -> Result<Entry,
     ensures err { OnErr result (poll.new ≡ poll.old) }
 {
     let mut entry = unanswered(alloc, poll.stamp, poll.pass, poll.by, &poll.verb)?;
-    let verb = copy_of_verb(&poll.verb)?;
+    let verb = poll.verb.clone()?;
     poll.given.push(last)?;
     let given = mem::replace(&mut poll.given, Completions::empty(alloc));
     entry.marks.push(Mark::Verb {

@@ -1,6 +1,6 @@
 -- What a region stands for, and which bytes it has. Contracts cite it.
-use Rattle.std.specs.Prelude.{◌≡◌, ℕ, ◌+◌, ◌≤◌, true, List, [], Option, None, Some}
-use Rattle.std.specs.Option.{option_map, option_map_or}
+use Rattle.std.specs.Prelude.{◌≡◌, ℕ, ◌+◌, ◌≤◌, true, List, [], ◌∷◌, Option, None, Some}
+use Rattle.std.specs.Option.{option_and_then, option_map, option_map_or}
 use Rattle.ca_keys.specs.declared.grant.Grant.{Grant}
 use Rattle.ca_keys.specs.declared.key.Key.{Key}
 use Rattle.ca_keys.specs.declared.place.Run.{Run}
@@ -31,3 +31,12 @@ HasBytes address count (Some g) = (g.address ≤ address) × (address + count �
 -- the runs of this many bytes from an address on: those of the region's grant, cut to these bytes
 abbrev pub region_runs_at : Region → ℕ → ℕ → List Run
 region_runs_at r address count = option_map_or (λ g. runs_at g address count) (grant_of_region r) []
+
+-- the buffer in which runs lie, by its adapter and its number there, as the first of them tells it
+abbrev pub buffer_of_runs : List Run → Option (ℕ × ℕ)
+buffer_of_runs [] = None
+buffer_of_runs (r ∷ rs) = Some (r.adapter, r.buffer)
+
+-- the buffer in which a region's bytes lie
+abbrev pub buffer_of_region : Region → Option (ℕ × ℕ)
+buffer_of_region r = option_and_then (λ g. buffer_of_runs g.runs) (grant_of_region r)

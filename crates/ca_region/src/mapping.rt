@@ -29,6 +29,7 @@ impl Mapping {
     ghost use Rattle.ca_keys.specs.Memory.{places_count};
     ghost use Rattle.ca_base.specs.objects.Region.{view_of_grant};
     ghost use Rattle.ca_region.specs.Places.{runs_of_places};
+    ghost use Rattle.ca_region.specs.Region.{buffer_of_runs};
     ghost use Rattle.ca_region.specs.Span.{runs_of_span};
 
     /// The key under a low byte.
@@ -124,6 +125,23 @@ impl Mapping {
                     self.in_pages(before),
                     count,
                 )
+            }
+        }
+    }
+
+    /// The buffer in which the bytes lie, by its adapter and its number there.
+    pub fn buffer(&self) -> Option<(u8, u16)>
+        ensures { result ≡ buffer_of_runs
+            (runs_of_places self.now.slot.domain.adapter self.now.address self.now.bytes self.now.places) }
+    {
+        match &self.places {
+            Places::OneRun(at) => Some((at.adapter, at.buffer)),
+            Places::PageList { buffer, .. } => {
+                if self.bytes == 0 {
+                    None
+                } else {
+                    Some((self.slot.domain.adapter, *buffer))
+                }
             }
         }
     }

@@ -44,7 +44,7 @@ impl Region {
     ghost use Rattle.ca_keys.specs.Memory.{places_count};
     ghost use Rattle.ca_keys.specs.Refusals.{first_of};
     ghost use Rattle.ca_base.specs.objects.Region as regions;
-    ghost use Rattle.ca_region.specs.Region.{RefusesBy, HasBytes, IsOfRegion, region_runs_at, valid_key};
+    ghost use Rattle.ca_region.specs.Region.{RefusesBy, HasBytes, IsOfRegion, buffer_of_region, region_runs_at, valid_key};
     ghost use Rattle.ca_region.specs.Span.{runs_of_span};
 
     /// The slot before its first region.
@@ -284,6 +284,17 @@ impl Region {
         match &self.state {
             State::Valid(mapping) => mapping.runs(alloc, address, length),
             State::Vacant | State::Free { .. } => unreachable!(),
+        }
+    }
+
+    /// The buffer in which the region's bytes lie, by its adapter and its number there. None comes exactly where the
+    /// region has no byte.
+    pub fn buffer(&self) -> Option<(u8, u16)>
+        ensures { result ≡ buffer_of_region self.now }
+    {
+        match &self.state {
+            State::Valid(mapping) => mapping.buffer(),
+            State::Vacant | State::Free { .. } => None,
         }
     }
 

@@ -9,5 +9,6 @@
 #![tactic(auto)]
 
 mod srq;
+mod taken;
 
 pub use srq::Srq;

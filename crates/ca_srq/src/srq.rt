@@ -1,22 +1,8 @@
+use crate::taken::{TakenPlace, TakenPlaces};
 use ca_base::{Memory, PlacedReceive, RecvRequest};
-use ca_ring::{Removal, remove};
 use circular_buffer::HeapCircularBuffer;
 use std::alloc::Global;
 use std::marker::Model;
-
-/// The place that is to be free.
-#[derive(Clone, Copy)]
-struct Freed(u64);
-
-impl Removal<u64> for Freed {
-    ghost use Rattle.std.specs.Prelude.{◌==◌};
-
-    ghost names = { λ freed place. place == freed.0 };
-
-    fn names(&self, place: &u64) -> bool {
-        *place == self.0
-    }
-}
 
 /// A shared receive queue. Contracts see its depth, the place of the next receive to be posted, the receives that wait
 /// with their places, and the places that were taken and still occupy the queue, in the order in which they were taken.
@@ -24,7 +10,9 @@ impl Removal<u64> for Freed {
 pub struct Srq {
     next: u64,
     waiting: HeapCircularBuffer<PlacedReceive>,
-    taken: HeapCircularBuffer<u64>,
+    /// How many places were taken and still occupy the queue. Which these are, only contracts say.
+    taken_count: u16,
+    taken: TakenPlaces,
 }
 
 impl Model for Srq {
@@ -37,16 +25,17 @@ impl Model for Srq {
       depth = s.waiting.capacity;
       next = s.next;
       waiting = s.waiting.items;
-      taken = s.taken.items;
+      taken = s.taken.places;
     } };
 
-    ghost invariant = { λ s. (s.next < 2 ^ 64) × (s.waiting.capacity < 2 ^ 16) × (s.taken.capacity ≡ s.waiting.capacity) × (length s.waiting.items + length s.taken.items ≤ s.waiting.capacity) };
+    ghost invariant = { λ s. (s.next < 2 ^ 64) × (s.waiting.capacity < 2 ^ 16) × (length s.taken.places ≡ s.taken_count) × (length s.waiting.items + s.taken_count ≤ s.waiting.capacity) };
 }
 
 impl Srq {
-    ghost use Rattle.std.specs.Prelude.{◌≡◌, ◌<◌, ◌^◌, ◌↔◌, suc, length, IfOk, IfErr, IsOk, IsTrue, not, option_copied};
+    ghost use Rattle.std.specs.Prelude.{◌≡◌, ◌-◌, ◌<◌, ◌^◌, ◌↔◌, suc, length, IfOk, IfErr, IsOk, IsTrue, is_some, not, option_copied, true};
     ghost use Rattle.std.specs.Option.{option_map};
     ghost use Rattle.ca_base.specs.objects.SharedReceives.{empty_receives, occupied_receives, is_full_of_receives, after_receive_post, first_receive, after_receive_take, after_receive_retire};
+    ghost use Rattle.ca_srq.specs.Taken.{stands_once};
 
     /// The empty queue of a depth, which is 1 to 256. `Memory` is its only refusal.
     pub fn create(alloc: Global, depth: u16) -> Result<Srq, Memory>
@@ -56,7 +45,8 @@ impl Srq {
         Ok(Srq {
             next: 0,
             waiting: HeapCircularBuffer::with_capacity(alloc, capacity)?,
-            taken: HeapCircularBuffer::with_capacity(alloc, capacity)?,
+            taken_count: 0,
+            taken: TakenPlaces::none(),
         })
     }
 
@@ -68,7 +58,7 @@ impl Srq {
         ensures ok { IfOk result (λ place. (place ≡ self.old.next) × (self.new ≡ after_receive_post receive self.old)) }
         ensures full { IfErr result (λ refused. (refused ≡ receive) × (self.new ≡ self.old)) }
     {
-        if self.waiting.len() + self.taken.len() >= self.waiting.capacity() {
+        if self.is_full() {
             return Err(receive);
         }
         let place = self.next;
@@ -84,7 +74,8 @@ impl Srq {
     {
         match self.waiting.pop_front() {
             Some(PlacedReceive { place, receive }) => {
-                self.taken.push_back(place);
+                self.taken_count += 1;
+                self.taken = TakenPlaces::with(&self.taken, &TakenPlace { place });
                 Some((place, receive))
             }
             None => None,
@@ -119,17 +110,44 @@ impl Srq {
         self.waiting.len() as u16
     }
 
+    /// Whether a receive waits to be taken. It takes no memory.
+    pub fn has_waiting(&self) -> bool
+        ensures { result ≡ is_some (first_receive self.now) }
+    {
+        self.waiting.front().is_some()
+    }
+
+    /// Whether all places are occupied. It takes no memory.
+    pub fn is_full(&self) -> bool
+        ensures { result ≡ is_full_of_receives self.now }
+    {
+        self.waiting.len() + usize::from(self.taken_count) >= self.waiting.capacity()
+    }
+
+    /// How many places there are. It takes no memory.
+    pub fn depth(&self) -> u16
+        ensures { result ≡ self.now.depth }
+    {
+        self.waiting.capacity() as u16
+    }
+
     /// How many places are occupied. It takes no memory.
     pub fn occupied(&self) -> u16
         ensures { result ≡ occupied_receives self.now }
     {
-        (self.waiting.len() + self.taken.len()) as u16
+        self.waiting.len() as u16 + self.taken_count
     }
 
-    /// Frees this place alone, where it was taken. It takes no memory, and time by how many places are taken.
+    /// Frees this place alone, where it was taken and stands there once. The caller knows whether it does; else one place
+    /// fewer is occupied all the same. It takes no memory, and the same time however many places are taken.
     pub fn retire(&mut self, place: u64)
-        ensures { self.new ≡ after_receive_retire place self.old }
+        ensures freed { stands_once place self.old.taken ≡ true → self.new ≡ after_receive_retire place self.old }
+        ensures fewer { length self.new.taken ≡ length self.old.taken - 1 }
+        ensures next { self.new.next ≡ self.old.next }
+        ensures depth { self.new.depth ≡ self.old.depth }
+        ensures waiting { self.new.waiting ≡ self.old.waiting }
     {
-        remove(&mut self.taken, &Freed(place));
+        self.taken_count = self.taken_count.saturating_sub(1);
+        self.taken = TakenPlaces::without(&self.taken, &TakenPlace { place });
     }
 }

@@ -10,7 +10,7 @@ mod wakes;
 mod worked_rows;
 
 use ca_base::{Bytes, DomainId, Lot, OpRefusal, QueueId, Rights, Run, Sent, Slot, StepError};
-use ca_bed_requester::{Bed, Setup, bed_of, config, reason_text, setup_in};
+use ca_bed_requester::{Bed, Setup, bed_of, reason_text, settings, setup_in};
 use ca_model::{Event, Mark, Marks, Verb};
 use ca_qpstate::QueuePart;
 use ca_reading_lines::read_line;
@@ -233,7 +233,7 @@ fn call(rt: &impl Abort, alloc: Global, bed: &mut Bed, verb: Verb, text: &mut Ve
 {
     match verb {
         Verb::ModifyQp { change, .. } => {
-            holds(rt, bed.change(&config(), &change), "a change of state");
+            holds(rt, bed.change(&settings(), &change), "a change of state");
         }
         Verb::PostSend { request, .. } => holds(rt, bed.post(request), "a request is posted"),
         Verb::Inject { bytes, .. } => arrive(rt, alloc, bed, bytes.as_slice(), text),

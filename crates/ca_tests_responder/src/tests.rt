@@ -12,7 +12,7 @@ mod windows;
 mod worked_rows;
 
 use ca_base::{Bytes, Lot, QueueId, SendOp, SendRequest, Sent, Slot, StepError};
-use ca_bed_requester::{Setup, bed_of, config, reason_text, setup_in};
+use ca_bed_requester::{Setup, bed_of, reason_text, settings, setup_in};
 use ca_bed_responder::Responder;
 use ca_model::{Event, Mark, Marks, Verb};
 use ca_qpstate::QueuePart;
@@ -160,7 +160,7 @@ fn call(
 {
     match verb {
         Verb::ModifyQp { change, .. } => {
-            holds(rt, r.bed.change(&config(), &change), "a change of state");
+            holds(rt, r.bed.change(&settings(), &change), "a change of state");
         }
         Verb::PostSend { slot, request } => post(rt, r, slot, request),
         Verb::PostRecv { request, .. } => holds(rt, r.receive(request), "a receive is posted"),

@@ -3,7 +3,7 @@ mod ranges;
 mod table;
 
 use arrayvec::ArrayVec;
-use ca_base::{AdapterConfig, Config, DomainId, QueueId};
+use ca_base::{AdapterConfig, Config, DomainId, QueueId, Settings};
 use ca_qpstate::{Change, Field, ModifyRefusal, QueuePart};
 use std::alloc::Global;
 use std::process::Abort;
@@ -101,15 +101,15 @@ fn adapter(domains: u8, qps: u16) -> AdapterConfig {
 }
 
 // Adapter 0 has two domains of three queue pairs, and adapter 1 has one of two.
-fn config(rt: &impl Abort) -> Config {
+fn settings(rt: &impl Abort) -> Settings {
     let mut adapters = ArrayVec::new();
     let first = adapters.try_push(adapter(2, 3)).is_ok();
     let second = adapters.try_push(adapter(1, 2)).is_ok();
     assert!(rt; first && second);
-    Config {
+    Settings::of(&Config {
         adapters,
         events: 100,
-    }
+    })
 }
 
 // A queue pair in Reset, in its first incarnation, with queues of two requests.
@@ -118,26 +118,32 @@ fn created(rt: &impl Abort, alloc: Global) -> QueuePart {
 }
 
 // The answer of a change, by its number.
-fn modify(rt: &impl Abort, q: &mut QueuePart, config: &Config, change: &Change) -> u8 {
+fn modify(rt: &impl Abort, q: &mut QueuePart, settings: &Settings, change: &Change) -> u8 {
     assert!(rt; q.incarnation < 1000);
-    number_of_answer(q.modify(config, change))
+    let tested = match q.modify_refusal(settings, change) {
+        Some(refusal) => number_of_answer(Err(refusal)),
+        None => DONE,
+    };
+    let answer = number_of_answer(q.modify(settings, change));
+    same(rt, tested, answer, "why it is refused");
+    answer
 }
 
 // Tries a change, which has to give this answer and then to stand in this state.
 fn tries(
     rt: &impl Abort,
     q: &mut QueuePart,
-    config: &Config,
+    settings: &Settings,
     change: &Change,
     (want, state): (u8, u8),
 ) {
-    same(rt, modify(rt, q, config, change), want, "the answer");
+    same(rt, modify(rt, q, settings, change), want, "the answer");
     same(rt, q.state as u8, state, "the state after it");
 }
 
 // A change that has to be done.
-fn change(rt: &impl Abort, q: &mut QueuePart, config: &Config, change: &Change) {
-    let answer = modify(rt, q, config, change);
+fn change(rt: &impl Abort, q: &mut QueuePart, settings: &Settings, change: &Change) {
+    let answer = modify(rt, q, settings, change);
     same(rt, answer, DONE, "a change on the way");
 }
 

@@ -103,6 +103,27 @@ impl<T> WorkQueue<T> {
         next.saturating_sub(self.next_taken) as u16
     }
 
+    /// Whether a request waits to be taken. It takes no memory.
+    pub fn has_waiting(&self) -> bool
+        ensures { result ≡ nat_lt 0 (waiting_count self.now) }
+    {
+        self.next_taken < self.first + self.requests.len() as u64
+    }
+
+    /// Whether all places are occupied. It takes no memory.
+    pub fn is_full(&self) -> bool
+        ensures { result ≡ is_full self.now }
+    {
+        self.requests.len() >= self.requests.capacity()
+    }
+
+    /// How many places there are. It takes no memory.
+    pub fn depth(&self) -> u16
+        ensures { result ≡ self.now.depth }
+    {
+        self.requests.capacity() as u16
+    }
+
     /// How many places are occupied. It takes no memory.
     pub fn occupied(&self) -> u16
         ensures { result ≡ occupied_count self.now }

@@ -1,6 +1,9 @@
 use super::{copy_of, holds};
 use arrayvec::ArrayVec;
-use ca_base::{AdapterConfig, AdapterSettings, Config, Settings, part_count};
+use ca_base::{
+    AdapterConfig, AdapterSettings, Config, DomainId, Key, QueueId, Settings, Slot, part_count,
+    slot_of_key, slot_of_queue,
+};
 
 // An adapter with as many buffers as there may be.
 fn adapter() -> AdapterConfig {
@@ -98,5 +101,81 @@ fn settings_are_the_configuration_in_plain_numbers(rt: HostRuntime) {
         &rt,
         matches!(&config, Some(config) if are_the_greatest(&Settings::of(config))),
         "the settings",
+    );
+}
+
+/// The last domain of the last adapter.
+const LAST: DomainId = DomainId {
+    adapter: 7,
+    domain: 15,
+};
+
+fn slot(slot: u16) -> Slot {
+    Slot { domain: LAST, slot }
+}
+
+fn queue(number: u32) -> QueueId {
+    QueueId { adapter: 7, number }
+}
+
+// Whether these slots of regions, windows, completion queues, shared receive queues and queue pairs are configured.
+fn has_slots(settings: &Settings, slots: [u16; 5]) -> [bool; 5] {
+    [
+        settings.has_region(slot(slots[0])),
+        settings.has_window(slot(slots[1])),
+        settings.has_cq(slot(slots[2])),
+        settings.has_srq(slot(slots[3])),
+        settings.has_qp(slot(slots[4])),
+    ]
+}
+
+fn has_the_slots(settings: &Settings) -> bool {
+    let other = DomainId {
+        adapter: 7,
+        domain: 16,
+    };
+    has_slots(settings, [7, 7, 3, 1, 3]) == [true; 5]
+        && has_slots(settings, SLOTS) == [false; 5]
+        && settings.has_domain(LAST)
+        && !settings.has_domain(other)
+}
+
+// The queue pair in slot 3 of domain 15 has the number 4099.
+fn has_the_queues(settings: &Settings) -> bool {
+    settings.has_queue(queue(4099))
+        && !settings.has_queue(queue(4100))
+        && !settings.has_queue(queue(3))
+        && slot_of_queue(queue(4099)) == slot(3)
+}
+
+// The index of the region in slot 7 of domain 15 is 0x0f0007, and that of the window is 0x0f8007.
+fn has_the_keys(settings: &Settings) -> bool {
+    settings.names_region(LAST, Key(0x0f00_0701))
+        && !settings.names_region(LAST, Key(0x0e00_0701))
+        && !settings.names_region(LAST, Key(0x0f80_0701))
+        && settings.names_window(LAST, Key(0x0f80_0701))
+        && !settings.names_window(LAST, Key(0x0f80_0801))
+        && slot_of_key(LAST, Key(0x0f80_0701)) == slot(7)
+}
+
+fn has_the_buffers(settings: &Settings) -> bool {
+    settings.buffer_length(7, 15) == Some(16)
+        && settings.buffer_length(7, 16).is_none()
+        && settings.buffer_length(8, 0).is_none()
+}
+
+#[test]
+fn settings_know_which_names_are_configured(rt: HostRuntime) {
+    let config = configuration();
+    let settings = config.map(|config| Settings::of(&config));
+    holds(
+        &rt,
+        matches!(&settings, Some(settings) if has_the_slots(settings) && has_the_queues(settings)),
+        "slots and queue pairs",
+    );
+    holds(
+        &rt,
+        matches!(&settings, Some(settings) if has_the_keys(settings) && has_the_buffers(settings)),
+        "keys and buffers",
     );
 }

@@ -14,6 +14,8 @@ fn a_capacity_of_seven_is_too_small_for_four_and_four(rt: HostRuntime) -> Result
     same(&rt, queue.in_use(), false, "no reservation");
     let sends = queue.reserve(Reserve::Sends(FIRST), 4);
     same(&rt, sends, Ok(()), "four of seven");
+    let both = queue.is_too_small(Reserve::Receives(FIRST), 4);
+    same(&rt, both, true, "four more are too many");
     let receives = queue.reserve(Reserve::Receives(FIRST), 4);
     same(&rt, receives, Err(CqError::TooSmall), "four more");
     let fewer = queue.reserve(Reserve::Receives(FIRST), 3);
@@ -30,6 +32,46 @@ fn a_capacity_of_seven_is_too_small_for_four_and_four(rt: HostRuntime) -> Result
 // The reservation of a queue pair that uses the shared receive queue 3.
 fn shared(user: QueueId) -> Reserve {
     Reserve::Shared { srq: 3, user }
+}
+
+#[test]
+fn a_second_side_is_tried_after_the_first(rt: HostRuntime) -> Result<(), Fail> {
+    let queue = Cq::create(rt.alloc(), 7)?;
+    let sends = Reserve::Sends(FIRST);
+    let receives = Reserve::Receives(FIRST);
+    let four = queue.is_too_small_after(sends, 4, receives, 4);
+    same(&rt, four, true, "four and four");
+    let three = queue.is_too_small_after(sends, 4, receives, 3);
+    same(&rt, three, false, "four and three");
+    let users = queue.is_too_small_after(shared(FIRST), 4, shared(SECOND), 4);
+    same(&rt, users, false, "two users of one shared receive queue");
+    Ok(())
+}
+
+#[test]
+fn completions_are_put_together_and_taken_one_by_one(rt: HostRuntime) -> Result<(), Fail> {
+    let mut queue = Cq::create(rt.alloc(), 3)?;
+    queue.put(completion(FIRST, true, 1));
+    let more = [completion(SECOND, true, 2), completion(FIRST, false, 3)];
+    queue.put_all(more.as_slice());
+    let first = queue.poll_first();
+    same(&rt, first.as_ref().map(seen), Some((256, true, 1)), "first");
+    let second = queue.poll_first();
+    same(
+        &rt,
+        second.as_ref().map(seen),
+        Some((257, true, 2)),
+        "second",
+    );
+    let third = queue.poll_first();
+    same(
+        &rt,
+        third.as_ref().map(seen),
+        Some((256, false, 3)),
+        "third",
+    );
+    same(&rt, queue.poll_first().is_none(), true, "none waits");
+    Ok(())
 }
 
 #[test]

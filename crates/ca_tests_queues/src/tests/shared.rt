@@ -40,8 +40,13 @@ fn take(queue: &mut Srq) -> Option<(u64, u64)>
 #[test]
 fn a_place_is_freed_alone(rt: HostRuntime) -> Result<(), Fail> {
     let mut queue = Srq::create(rt.alloc(), 2)?;
+    same(&rt, queue.has_waiting(), false, "none waits yet");
     same(&rt, post(&mut queue, 10), Ok(0), "the first place");
+    same(&rt, queue.is_full(), false, "a place is free");
     same(&rt, post(&mut queue, 11), Ok(1), "the second place");
+    same(&rt, queue.has_waiting(), true, "two wait");
+    same(&rt, queue.is_full(), true, "no place is free");
+    same(&rt, queue.depth(), 2, "the depth");
     same(&rt, post(&mut queue, 12), Err(12), "a full queue");
     same(&rt, take(&mut queue), Some((0, 10)), "the first is taken");
     same(&rt, take(&mut queue), Some((1, 11)), "the second is taken");
@@ -61,8 +66,6 @@ fn a_place_is_freed_alone(rt: HostRuntime) -> Result<(), Fail> {
     );
     same(&rt, post(&mut queue, 12), Ok(2), "a place keeps its number");
     same(&rt, post(&mut queue, 13), Err(13), "full again");
-    queue.retire(1);
-    same(&rt, queue.occupied(), 2, "a place that is free already");
     Ok(())
 }
 
@@ -116,14 +119,12 @@ fn take_at_both(rt: &impl Abort, queue: &mut Srq, plain: &mut Plain) -> Result<(
     Ok(())
 }
 
-// Frees at both the place of that number among those that were taken, or one that was not.
+// Frees at both the place of that number among those that were taken, if there are so many.
 fn retire_at_both(queue: &mut Srq, plain: &mut Plain, number: usize)
     ensures { queue.new.next ≡ queue.old.next }
 {
     if number < plain.taken.len() {
         queue.retire(plain.taken.remove(number));
-    } else {
-        queue.retire(plain.posted.len() as u64);
     }
 }
 

@@ -179,3 +179,15 @@ fn an_address_within_a_page_moves_all_places(rt: HostRuntime) -> Result<(), Fail
     );
     Ok(())
 }
+
+#[test]
+fn a_region_tells_its_buffer(rt: HostRuntime) -> Result<(), Fail> {
+    let mut region = Region::vacant();
+    holds(&rt, region.buffer().is_none(), "no buffer of a vacant slot");
+    let _ = region.register(rt.alloc(), SLOT, run(100, 5000), 5100, WRITE);
+    holds(&rt, region.buffer() == Some((1, 3)), "the buffer of a run");
+    let pages = falling(rt.alloc())?;
+    let region = fast_region(rt.alloc(), 0, 1_048_576, &pages);
+    holds(&rt, region.buffer() == Some((1, 3)), "the buffer of pages");
+    Ok(())
+}

@@ -1,7 +1,7 @@
-use super::{DOMAIN, PEER, QUEUE, TO_RTR, TO_RTS, change, config, created};
+use super::{DOMAIN, PEER, QUEUE, TO_RTR, TO_RTS, change, settings, created};
 use arrayvec::ArrayVec;
 use ca_base::{
-    Config, Key, Message, PostedSend, Queued, RecvRequest, RequesterNumbers, SendOp, SendRequest,
+    Key, Message, PostedSend, Queued, RecvRequest, RequesterNumbers, SendOp, SendRequest, Settings,
 };
 use ca_qpstate::{Change, QueuePart, State};
 use std::process::Abort;
@@ -199,16 +199,16 @@ fn busy(rt: &impl Abort, q: &mut QueuePart) {
 }
 
 // A queue pair in Ready to Send that is busy.
-fn busy_queue(rt: &impl Abort, q: &mut QueuePart, config: &Config) {
+fn busy_queue(rt: &impl Abort, q: &mut QueuePart, settings: &Settings) {
     q.requester.timers = 5;
-    change(rt, q, config, &Change::Init);
+    change(rt, q, settings, &Change::Init);
     is_at_start(rt, q, 5);
     holds(rt, post_receive(rt, q, 1) == Some(0), "a receive");
     holds(rt, post_receive(rt, q, 2) == Some(1), "another receive");
-    change(rt, q, config, &TO_RTR);
+    change(rt, q, settings, &TO_RTR);
     responder_is(rt, q, &[0x112_3456, 0, 0, 0, 0, 1024, 12], "in Rtr");
     peer_is(rt, q, true, "the peer from Rtr on");
-    change(rt, q, config, &TO_RTS);
+    change(rt, q, settings, &TO_RTS);
     requester_is(
         rt,
         &q.requester,
@@ -222,10 +222,10 @@ fn busy_queue(rt: &impl Abort, q: &mut QueuePart, config: &Config) {
 
 #[test]
 fn error_flushes_what_is_posted(rt: HostRuntime) {
-    let config = config(&rt);
+    let settings = settings(&rt);
     let mut q = created(&rt, rt.alloc());
-    busy_queue(&rt, &mut q, &config);
-    change(&rt, &mut q, &config, &Change::Error);
+    busy_queue(&rt, &mut q, &settings);
+    change(&rt, &mut q, &settings, &Change::Error);
     requester_is(
         &rt,
         &q.requester,
@@ -252,9 +252,9 @@ fn error_flushes_what_is_posted(rt: HostRuntime) {
 
 #[test]
 fn a_move_to_error_keeps_the_response_queue(rt: HostRuntime) {
-    let config = config(&rt);
+    let settings = settings(&rt);
     let mut q = created(&rt, rt.alloc());
-    busy_queue(&rt, &mut q, &config);
+    busy_queue(&rt, &mut q, &settings);
     q.flush();
     responder_is(
         &rt,
@@ -290,10 +290,10 @@ fn a_move_to_error_keeps_the_response_queue(rt: HostRuntime) {
 
 #[test]
 fn reset_empties_queues_and_numbers(rt: HostRuntime) {
-    let config = config(&rt);
+    let settings = settings(&rt);
     let mut q = created(&rt, rt.alloc());
-    busy_queue(&rt, &mut q, &config);
-    change(&rt, &mut q, &config, &Change::Reset);
+    busy_queue(&rt, &mut q, &settings);
+    change(&rt, &mut q, &settings, &Change::Reset);
     is_of_the_tests(&rt, &q, 2);
     is_at_start(&rt, &q, 5);
     has_empty_queues(&rt, &mut q);
@@ -301,11 +301,11 @@ fn reset_empties_queues_and_numbers(rt: HostRuntime) {
 
 #[test]
 fn drain_and_resume_change_the_state_alone(rt: HostRuntime) {
-    let config = config(&rt);
+    let settings = settings(&rt);
     let mut q = created(&rt, rt.alloc());
-    busy_queue(&rt, &mut q, &config);
-    change(&rt, &mut q, &config, &Change::Sqd);
-    change(&rt, &mut q, &config, &Change::Resume);
+    busy_queue(&rt, &mut q, &settings);
+    change(&rt, &mut q, &settings, &Change::Sqd);
+    change(&rt, &mut q, &settings, &Change::Resume);
     requester_is(
         &rt,
         &q.requester,

@@ -1,6 +1,6 @@
 use super::{
     DONE, INCARNATION_OUT, MTU_OUT, PEER_OUT, PSN_OUT, QUEUE, READS_OUT, RETRY_OUT, RNR_CODE_OUT,
-    RNR_RETRY_OUT, TO_RTR, TRANSITION, change, config, created, tries,
+    RNR_RETRY_OUT, TO_RTR, TRANSITION, change, settings, created, tries,
 };
 use ca_base::QueueId;
 use ca_qpstate::{Change, State};
@@ -108,10 +108,10 @@ fn state_after(answer: u8, done: State, refused: State) -> u8 {
 
 #[test]
 fn each_field_of_ready_to_receive_at_its_edges(rt: HostRuntime) {
-    let config = config(&rt);
+    let settings = settings(&rt);
     for ((adapter, number), incarnation, psn, mtu, rnr_code, want) in RTR.as_slice() {
         let mut q = created(&rt, rt.alloc());
-        change(&rt, &mut q, &config, &Change::Init);
+        change(&rt, &mut q, &settings, &Change::Init);
         let peer = QueueId {
             adapter: *adapter,
             number: *number,
@@ -124,17 +124,17 @@ fn each_field_of_ready_to_receive_at_its_edges(rt: HostRuntime) {
             rnr_code: *rnr_code,
         };
         let after = state_after(*want, State::Rtr, State::Init);
-        tries(&rt, &mut q, &config, &to_rtr, (*want, after));
+        tries(&rt, &mut q, &settings, &to_rtr, (*want, after));
     }
 }
 
 #[test]
 fn each_field_of_ready_to_send_at_its_edges(rt: HostRuntime) {
-    let config = config(&rt);
+    let settings = settings(&rt);
     for (psn, retry, rnr_retry, reads, want) in RTS.as_slice() {
         let mut q = created(&rt, rt.alloc());
-        change(&rt, &mut q, &config, &Change::Init);
-        change(&rt, &mut q, &config, &TO_RTR);
+        change(&rt, &mut q, &settings, &Change::Init);
+        change(&rt, &mut q, &settings, &TO_RTR);
         let to_rts = Change::Rts {
             psn: *psn,
             retry: *retry,
@@ -142,7 +142,7 @@ fn each_field_of_ready_to_send_at_its_edges(rt: HostRuntime) {
             reads: *reads,
         };
         let after = state_after(*want, State::Rts, State::Rtr);
-        tries(&rt, &mut q, &config, &to_rts, (*want, after));
+        tries(&rt, &mut q, &settings, &to_rts, (*want, after));
     }
 }
 
@@ -163,9 +163,9 @@ const BAD_RTS: Change = Change::Rts {
 
 #[test]
 fn a_wrong_state_comes_before_a_wrong_field(rt: HostRuntime) {
-    let config = config(&rt);
+    let settings = settings(&rt);
     let mut q = created(&rt, rt.alloc());
     let in_reset = (TRANSITION, State::Reset as u8);
-    tries(&rt, &mut q, &config, &BAD_RTR, in_reset);
-    tries(&rt, &mut q, &config, &BAD_RTS, in_reset);
+    tries(&rt, &mut q, &settings, &BAD_RTR, in_reset);
+    tries(&rt, &mut q, &settings, &BAD_RTS, in_reset);
 }

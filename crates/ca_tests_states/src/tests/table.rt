@@ -1,5 +1,5 @@
-use super::{DONE, TO_RTR, TO_RTS, TRANSITION, WINDOWS_BOUND, change, config, created, tries};
-use ca_base::Config;
+use super::{DONE, TO_RTR, TO_RTS, TRANSITION, WINDOWS_BOUND, change, settings, created, tries};
+use ca_base::Settings;
 use ca_qpstate::{Change, State};
 use std::alloc::Global;
 use std::process::Abort;
@@ -48,13 +48,13 @@ fn way_to(state: State) -> &'static [Change] {
 fn tries_from(
     rt: &impl Abort,
     alloc: Global,
-    config: &Config,
+    settings: &Settings,
     state: State,
     (by, leads_to, windows): (&Change, u8, u32),
 ) {
     let mut q = created(rt, alloc);
     for next in way_to(state) {
-        change(rt, &mut q, config, next);
+        change(rt, &mut q, settings, next);
     }
     q.windows.count = windows;
     let want = if leads_to == NONE {
@@ -64,14 +64,14 @@ fn tries_from(
     } else {
         (DONE, leads_to)
     };
-    tries(rt, &mut q, config, by, want);
+    tries(rt, &mut q, settings, by, want);
 }
 
 fn goes_through_the_table(rt: &impl Abort, alloc: Global, windows: u32) {
-    let config = config(rt);
+    let settings = settings(rt);
     for (by, leads_to) in TABLE.as_slice() {
         for (state, to) in STATES.as_slice().iter().zip(leads_to.as_slice()) {
-            tries_from(rt, alloc, &config, *state, (by, *to, windows));
+            tries_from(rt, alloc, &settings, *state, (by, *to, windows));
         }
     }
 }
