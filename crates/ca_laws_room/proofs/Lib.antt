@@ -12,3 +12,4 @@ pub mod PollRoomLemmas
 pub mod EventRoomLemmas
 pub mod RoomCases
 pub mod RoomLemmas
+pub mod FreedLemmas

@@ -277,7 +277,7 @@ srq-taken cq t (c ∷ cs) s x all is = srq-taken cq t cs (if option_eq (λ a b. 
     by (Some u) e = at u e (u == t) refl
 
 -- the source of a completion is that of a user
-source-takes : (uses : QueueId → Option Use) (depths : Slot → Option ℕ) (s : Slot) (rs : List Reservation) (n : QueueId) (t : ℕ) → AllByRecursion (λ r. IsDue uses depths s r.who r.room) rs
+pub source-takes : (uses : QueueId → Option Use) (depths : Slot → Option ℕ) (s : Slot) (rs : List Reservation) (n : QueueId) (t : ℕ) → AllByRecursion (λ r. IsDue uses depths s r.who r.room) rs
     → source_in rs n ≡ Some t → TakesFrom s t (uses n)
 source-takes uses depths s [] n t due is = absurd (true≢false (sym (ap is_some is)))
 source-takes uses depths s (r ∷ rs) n t due is = by (queue_eq (user_of r.who) n) refl is (source-takes uses depths s rs n t due.1)

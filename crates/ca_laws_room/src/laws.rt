@@ -1,11 +1,14 @@
 ghost use Rattle.std.specs.Prelude.{◌≡◌, ℕ, ◌+◌, ◌≤◌, ◌<◌, true, List, ◌∷◌, ◌++◌, length, Some, is_some};
+ghost use Rattle.std.specs.List.{AllByRecursion};
 ghost use Rattle.ca_base.specs.Configuration.{Configuration};
 ghost use Rattle.ca_base.specs.declared.completion.Completion.{Completion};
 ghost use Rattle.ca_base.specs.declared.limits.TheConstants.{MAX_DEPTH};
 ghost use Rattle.ca_keys.specs.Memory.{ByteMap};
 ghost use Rattle.ca_keys.specs.declared.names.QueueId.{QueueId};
 ghost use Rattle.ca_keys.specs.declared.names.Slot.{Slot};
-ghost use Rattle.ca_base.specs.objects.CompletionQueue.{CompletionQueue, after_puts, receives_of, user_of};
+ghost use Rattle.ca_base.specs.objects.CompletionQueue.{CompletionQueue, after_puts, receives_of, source_in, user_of};
+ghost use Rattle.ca_base.specs.objects.SharedReceives.{SharedReceives};
+ghost use Rattle.ca_srq.specs.Taken.{stands_once};
 ghost use Rattle.ca_base.specs.objects.QueuePair.{NoQueue, Present, QueuePair, recv_cq_of, send_cq_of, srq_of};
 ghost use Rattle.ca_base.specs.declared.reserve.Reserve.{Reserve};
 ghost use Rattle.ca_base.specs.declared.reserve.Reserve.TheVariants.{Receives, Sends};
@@ -52,6 +55,15 @@ pub fn completions_of_an_event_fit()
         → HasRoom w → CanBeMade event → step c w event ≡ Did v ms
         → v.cq s ≡ Some (after_puts (first ++ next ∷ others) q)
         → length (after_puts first q).waiting < (after_puts first q).capacity }
+{}
+
+/// Where the completion of a receive waits that was taken of a shared receive queue, its place stands once among those that
+/// this queue has taken, so that `Srq::retire` frees it and no other.
+pub fn waiting_receives_stand_once()
+    ensures { (c : Configuration) (w : World) (s : Slot) (v : CompletionQueue) (srq : ℕ) (z : SharedReceives)
+        → IsSoundWorld c w → HasRoom w → w.cq s ≡ Some v → (w.srq (record s { slot = srq })).srq ≡ Some z
+        → AllByRecursion (λ x. x.receive ≡ true → source_in v.reservations x.queue ≡ Some srq
+        → stands_once x.place z.taken ≡ true) v.waiting }
 {}
 
 /// Where a slot has no queue pair, neither of its sides has a reservation in any completion queue. So the sides of a new
