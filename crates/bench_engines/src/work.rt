@@ -127,9 +127,7 @@ pub fn bring_up(bed: &mut Bed, expected: u32) -> bool
         return false;
     };
     let [first, second, third] = changes(expected);
-    bed.change(&settings, &first)
-        && bed.change(&settings, &second)
-        && bed.change(&settings, &third)
+    bed.change(&settings, &first) && bed.change(&settings, &second) && bed.change(&settings, &third)
 }
 
 // Does what the word names, so many times; how many marks that made.

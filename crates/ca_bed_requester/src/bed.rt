@@ -13,7 +13,8 @@ ghost use Rattle.ca_packet.specs.Packet.{IsWellFormed};
 
 use ca_base::limits::{MAX_MESSAGE_BYTES, MAX_PIECES};
 use ca_base::{
-    Ask, Change, Memory, OpRefusal, Piece, PostedSend, Reason, SendRequest, Sent, Settings, StepError,
+    Ask, Change, Memory, OpRefusal, Piece, PostedSend, Reason, SendRequest, Sent, Settings,
+    StepError,
 };
 use ca_bed_reach::SmallReach;
 use ca_model::Marks;

@@ -1,4 +1,4 @@
-use super::{DOMAIN, PEER, QUEUE, TO_RTR, TO_RTS, change, settings, created};
+use super::{DOMAIN, PEER, QUEUE, TO_RTR, TO_RTS, change, created, settings};
 use arrayvec::ArrayVec;
 use ca_base::{
     Key, Message, PostedSend, Queued, RecvRequest, RequesterNumbers, SendOp, SendRequest, Settings,

@@ -1,6 +1,6 @@
 use super::{
     DONE, INCARNATION_OUT, MTU_OUT, PEER_OUT, PSN_OUT, QUEUE, READS_OUT, RETRY_OUT, RNR_CODE_OUT,
-    RNR_RETRY_OUT, TO_RTR, TRANSITION, change, settings, created, tries,
+    RNR_RETRY_OUT, TO_RTR, TRANSITION, change, created, settings, tries,
 };
 use ca_base::QueueId;
 use ca_qpstate::{Change, State};

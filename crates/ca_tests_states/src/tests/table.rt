@@ -1,4 +1,4 @@
-use super::{DONE, TO_RTR, TO_RTS, TRANSITION, WINDOWS_BOUND, change, settings, created, tries};
+use super::{DONE, TO_RTR, TO_RTS, TRANSITION, WINDOWS_BOUND, change, created, settings, tries};
 use ca_base::Settings;
 use ca_qpstate::{Change, State};
 use std::alloc::Global;
