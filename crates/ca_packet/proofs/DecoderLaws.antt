@@ -50,6 +50,11 @@ pub is_taken_front : (r : Result Bth WireError) (bytes : List ℕ) → IsBytes b
 is_taken_front (Ok b) bytes fits h = front_refused bytes fits ∙ ap (λ (x : Result Bth WireError). fault x) h
 is_taken_front (Err e) bytes fits h = tt
 
+-- what a decoder returned is what reading gives
+pub is_read : (r read : Result Fields WireError) → Returns (λ p. p) r read → r ≡ read
+is_read (Ok p) read h = sym h
+is_read (Err e) read h = sym h
+
 -- what a decoder returned, by the steps of reading
 pub no_header : (r : Result Fields WireError) (bytes : List ℕ) (e : WireError) → r ≡ Err e → bth_at bytes ≡ Err e → Returns (λ p. p) r (packet_in bytes)
 unfolding packet_in

@@ -1,9 +1,9 @@
 -- What holds of each row of the table of opcodes, read off the table by one test.
-use Rattle.std.proofs.Common.{◌≡◌, ℕ, ◌<◌, ◌≤◌, Bool, true, false, not, ◌&&◌, cond, eqb, ltb, List, [], ◌∷◌, ◌++◌, Some, refl, subst, arith}
-use Rattle.std.specs.Prelude.{find, sum_by}
+use Rattle.std.proofs.Common.{◌≡◌, ℕ, ◌<◌, ◌≤◌, Bool, true, false, not, ◌&&◌, ◌||◌, cond, eqb, ltb, List, [], ◌∷◌, ◌++◌, Some, None, refl, subst, arith}
+use Rattle.std.specs.Prelude.{find, is_some, sum_by}
 use Rattle.std.specs.List.{flat_map}
 use Rattle.std.proofs.lemmas.Bool.{eqb-true, ltb-true, and_parts}
-use Rattle.ca_packet.specs.Table.{Header, RETH, AtomicETH, AETH, AtomicAckETH, ImmDt, IETH, Row, table, row_of, has, size_of}
+use Rattle.ca_packet.specs.Table.{Header, RETH, AtomicETH, AETH, AtomicAckETH, ImmDt, IETH, Row, table, row_of, has, request_shape, size_of}
 use Rattle.ca_packet.specs.Decoding.{flags_size}
 
 -- these headers in the order in which each of them stands before the later ones
@@ -93,3 +93,22 @@ unfolding row_of
 row_orderly opcode r e =
     let f = found_by (λ (x : Row). eqb x.opcode opcode) is_orderly table r all_orderly e in
     (orderly r f.0, eqb-true r.opcode opcode f.1)
+
+-- the headers of a response are few: an AETH before a payload, and else that and an AtomicAckETH
+abbrev is_short_answer : Row → Bool
+is_short_answer r = is_some (request_shape (Some r.operation)) || ltb (sum_by size_of r.headers) (cond r.payload 5 13)
+
+all_short : every is_short_answer table ≡ true
+all_short = refl
+
+few : (n : ℕ) (payload : Bool) → n < cond payload 5 13 → n ≤ cond payload 4 12
+few n true less = omega (arith, less)
+few n false less = omega (arith, less)
+
+pub row_answer : (opcode : ℕ) (r : Row) → row_of opcode ≡ Some r → request_shape (Some r.operation) ≡ None
+    → sum_by size_of r.headers ≤ cond r.payload 4 12
+unfolding row_of
+row_answer opcode r e none =
+    let f = found_by (λ (x : Row). eqb x.opcode opcode) is_short_answer table r all_short e in
+    let less : ltb (sum_by size_of r.headers) (cond r.payload 5 13) ≡ true = rw none at f.0 in
+    few (sum_by size_of r.headers) r.payload (ltb-true _ _ less)

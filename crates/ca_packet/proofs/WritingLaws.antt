@@ -2,10 +2,10 @@
 use Rattle.ca_base.specs.declared.limits.TheConstants.{MAX_PAYLOAD_BYTES}
 use Rattle.ca_packet.specs.declared.bth.TheConstants.{BTH_BYTES}
 use Rattle.ca_packet.specs.declared.packet.TheConstants.{MAX_PACKET_BYTES}
-use Rattle.ca_packet.specs.Packet.{spelling_size, be_bytes, bth_bytes, reth_bytes, atomic_bytes, aeth_bytes, pad_count, Fields, IsWellFormed, Spells, bth_of, header_bytes, packet_bytes, headers_size, FitsBits, canonical, spelling}
+use Rattle.ca_packet.specs.Packet.{spelling_size, be_bytes, bth_bytes, reth_bytes, atomic_bytes, aeth_bytes, pad_count, Fields, IsWellFormed, Spells, bth_of, header_bytes, packet_bytes, headers_size, FitsBits, canonical, most_of_response, most_spelt, spelling}
 use Rattle.ca_packet.specs.Decoding.{if_there, flags_size}
-use Rattle.ca_packet.specs.Table.{row_of, headers_of, allows_payload}
-use Rattle.std.proofs.Common.{◌≡◌, ℕ, ◌+◌, ◌<◌, ◌≤◌, Bool, true, false, cond, List, [], ◌∷◌, ◌++◌, length, take, refl, ap, ◌∙◌, append_assoc, arith, zero, suc}
+use Rattle.ca_packet.specs.Table.{row_of, headers_of, allows_payload, request_shape, shape_of}
+use Rattle.std.proofs.Common.{◌≡◌, ℕ, ◌+◌, ◌<◌, ◌≤◌, Bool, true, false, cond, List, [], ◌∷◌, ◌++◌, length, take, refl, ap, ◌∙◌, append_assoc, arith, None, Some, zero, suc}
 use Rattle.std.proofs.lemmas.List.{length-replicate, length-append}
 use Rattle.std.specs.Int.{w32, w64}
 use Rattle.std.specs.List.{flat_map}
@@ -14,7 +14,7 @@ use Rattle.std.specs.Prelude.{is_some, replicate}
 use Rattle.ca_packet.proofs.AllHeaders.{shown, all_headers, in_table_order, some_row, with_row, those_of, shown_length}
 use Rattle.ca_packet.proofs.BthLaws.{bth_length}
 use Rattle.ca_packet.proofs.PacketLaws.{one_packet_at_most}
-use Rattle.ca_packet.proofs.TableRows.{row_orderly}
+use Rattle.ca_packet.proofs.TableRows.{row_answer, row_orderly}
 
 -- the headers that the opcode has are as long as those that are there
 pub size_is : (f : Fields) → IsWellFormed f → headers_size f.opcode ≡ if_there (is_some f.reth) 16 + if_there (is_some f.atomic) 28 + if_there (is_some f.aeth) 4 + if_there (is_some f.«result») 8 + if_there (is_some f.imm) 4 + if_there (is_some f.ieth) 4
@@ -84,3 +84,31 @@ spelling_most f good =
     let row = row_orderly f.opcode r.0 r.1 in
     let few : headers_size f.opcode ≤ cond r.0.payload 20 28 = rw w.0 row.0.most in
     rw (spelling_length f good) (at_most r.0.payload (headers_size f.opcode) (length f.payload) few (no_payload f good r.0.payload w.1))
+
+by-payload : (b : Bool) (headers payload : ℕ) → headers ≤ cond b 20 28 → payload ≤ cond b MAX_PAYLOAD_BYTES 0
+    → BTH_BYTES + headers + payload + pad_count payload ≤ most_spelt payload
+by-payload true headers payload few most = omega (arith, few)
+by-payload false headers payload few most = omega (arith, few, most)
+
+-- by the bytes of its payload
+pub spelling_by_payload : (f : Fields) → IsWellFormed f → length (spelling f) ≤ most_spelt (length f.payload)
+spelling_by_payload f good =
+    let r = some_row (row_of f.opcode) good.known in
+    let w = with_row f.opcode r.0 r.1 in
+    let row = row_orderly f.opcode r.0 r.1 in
+    let few : headers_size f.opcode ≤ cond r.0.payload 20 28 = rw w.0 row.0.most in
+    rw (spelling_length f good) (by-payload r.0.payload (headers_size f.opcode) (length f.payload) few (no_payload f good r.0.payload w.1))
+
+of-response : (b : Bool) (headers payload : ℕ) → headers ≤ cond b 4 12 → payload ≤ cond b MAX_PAYLOAD_BYTES 0
+    → BTH_BYTES + headers + payload + pad_count payload ≤ most_of_response payload
+of-response true headers payload few most = omega (arith, few)
+of-response false headers payload few most = omega (arith, few, most)
+
+-- and that of a response
+pub response_most : (f : Fields) → IsWellFormed f → shape_of f.opcode ≡ None → length (spelling f) ≤ most_of_response (length f.payload)
+response_most f good none =
+    let r = some_row (row_of f.opcode) good.known in
+    let w = with_row f.opcode r.0 r.1 in
+    let answer : request_shape (Some r.0.operation) ≡ None = rw r.1 at none in
+    let few : headers_size f.opcode ≤ cond r.0.payload 4 12 = rw w.0 (row_answer f.opcode r.0 r.1 answer) in
+    rw (spelling_length f good) (of-response r.0.payload (headers_size f.opcode) (length f.payload) few (no_payload f good r.0.payload w.1))

@@ -1,5 +1,5 @@
 -- The grammar of packets: which bytes spell which packet, field by field, and what refuses the others. Contracts cite it.
-use Rattle.std.specs.Prelude.{◌≡◌, ℕ, ◌+◌, ◌-◌, ◌*◌, ◌/◌, ◌%◌, ◌^◌, ◌<◌, ◌≤◌, ◌==◌, nat_lt, Bool, false, not, ◌&&◌, if◌then◌else◌, List, [], ◌∷◌, ◌++◌, length, fold, slice_index, replicate, sum_by, Option, None, is_some, is_none, IsSome, IfSome}
+use Rattle.std.specs.Prelude.{◌≡◌, ℕ, ◌+◌, ◌-◌, ◌*◌, ◌/◌, ◌%◌, ◌^◌, ◌<◌, ◌≤◌, ◌==◌, nat_lt, max, Bool, false, not, ◌&&◌, if◌then◌else◌, List, [], ◌∷◌, ◌++◌, length, fold, slice_index, replicate, sum_by, Option, None, is_some, is_none, IsSome, IfSome}
 use Rattle.std.specs.Int.{Width, w32, w64, to_be_bytes}
 use Rattle.std.specs.List.{flat_map}
 use Rattle.std.specs.Option.{option_map_or}
@@ -183,6 +183,16 @@ headers_size opcode = sum_by size_of (headers_of opcode)
 -- how many bytes spell a packet: those of the base transport header, of the opcode's headers, of the payload and its pad
 abbrev pub spelling_size : Fields → ℕ
 spelling_size f = BTH_BYTES + headers_size f.opcode + length f.payload + pad_count (length f.payload)
+
+-- The most bytes that spell a packet with so many bytes of payload: the 40 of an atomic, which carries none, or those of a
+-- WRITE with immediate data and its pad.
+abbrev pub most_spelt : ℕ → ℕ
+most_spelt count = max 40 (count + 35)
+
+-- The most that spell a response: the 24 of an ATOMIC Acknowledge, which carries none, or those of a READ Response with an
+-- AETH and its pad.
+abbrev pub most_of_response : ℕ → ℕ
+most_of_response count = max 24 (count + 19)
 
 -- These bytes spell this base transport header.
 pub record SpellsBth (bytes : List ℕ) (b : Bth) : Type 0 where

@@ -1,4 +1,5 @@
 ghost use Rattle.std.specs.Prelude.{◌≡◌, List, ℕ, None, Some, IfOk, IfErr, OnOk, IsOkAnd, drop, take, length, ◌+◌};
+ghost use Rattle.ca_packet.specs.Decoding.{packet_in};
 ghost use Rattle.ca_packet.specs.Packet.{Fields, Spells, headers_size, refusal_of};
 
 use crate::bth::{BTH_BYTES, Bth};
@@ -11,6 +12,8 @@ use crate::wire_error::WireError;
 /// `Opcode`, for the headers that the opcode has.
 #[inline(always)]
 pub fn decode(bytes: &[u8]) -> Result<Packet<'_>, WireError>
+    // The reading from left to right gives the same, packet or refusal.
+    ensures value { result ≡ packet_in bytes.now }
     // What is read is spelt so.
     ensures found { IfOk result (λ p. Spells bytes.now p) }
     // What is spelt so is read.

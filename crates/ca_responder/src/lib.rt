@@ -2,9 +2,9 @@
 //! are those of `ca_answering`.
 //!
 //! To the layers above it promises that a request and a turn end as the machine's rows say, for all of the queue pair,
-//! the marks, the packet, what is reached and the shared receive queue; that the asks named before are those that the
-//! request makes; that each access is judged before any byte is touched; and that an answer for want of memory leaves all
-//! as it was.
+//! the marks, the packet, what is reached and the shared receive queue; that the asks and the key named before are those
+//! that the request makes and ends; that each access is judged before any byte is touched; and that an answer for want of
+//! memory leaves all as it was.
 //!
 //! Source: InfiniBand Architecture Specification Volume 1, the chapter on the transport layer, sections on the
 //! responder of the reliable connection.
@@ -15,6 +15,6 @@ mod checks;
 mod duplicates;
 mod request;
 
-pub use asks::request_asks;
+pub use asks::{request_asks, request_key};
 pub use ca_answering::{next_response, respond_ask};
 pub use request::on_request;

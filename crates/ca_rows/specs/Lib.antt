@@ -1,3 +1,4 @@
+pub mod Arrival
 pub mod Asks
 pub mod Made
 pub mod Flush

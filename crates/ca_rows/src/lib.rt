@@ -1,14 +1,15 @@
-//! What the rows of the requester's and of the responder's engine share: the asks of a list, what is read and written by
-//! them, the completions that a queue pair makes, and what its packets carry.
+//! What the rows of the requester's and of the responder's engine share: which packets they take, the asks of a list, what
+//! is read and written by them, the completions that a queue pair makes, and what its packets carry.
 //!
-//! To the layers above it promises that a list is cut to the asks that the machine's rows name, that all asks are judged
-//! before any byte is touched, that what was read and written is exactly what the marks say, and that each completion is
-//! the machine's, in its order.
+//! To the layers above it promises that bytes are dropped for the machine's first cause, or are the packet of its row, that
+//! a list is cut to the asks that the machine's rows name, that all asks are judged before any byte is touched, that what
+//! was read and written is exactly what the marks say, and that each completion is the machine's, in its order.
 //!
 //! Source: InfiniBand Architecture Specification Volume 1, the chapter on the software transport interface, sections on
 //! work requests and completions, and the chapter on the transport layer.
 #![tactic(auto)]
 
+mod arrival;
 mod asks;
 mod completions;
 mod flush;
@@ -19,6 +20,7 @@ mod packets;
 mod reads;
 mod writes;
 
+pub use arrival::{Arrival, arrival_of};
 pub use asks::first_denied;
 pub use completions::{
     Received, failure_mark, local_denial, push_success, receive_failure, receive_mark,

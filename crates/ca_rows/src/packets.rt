@@ -1,7 +1,8 @@
-ghost use Rattle.std.specs.Prelude.{◌≡◌, ◌<◌, ◌^◌, OnOk, OnErr};
+ghost use Rattle.std.specs.Prelude.{◌≡◌, ◌+◌, ◌<◌, ◌≤◌, ◌^◌, None, OnOk, OnErr, length};
 ghost use Rattle.ca_model.specs.machine.Invariants.{IsQueue};
 ghost use Rattle.ca_model.specs.machine.Requester as requester;
-ghost use Rattle.ca_packet.specs.Packet.{IsWellFormed, spelling};
+ghost use Rattle.ca_packet.specs.Packet.{IsWellFormed, most_of_response, most_spelt, spelling};
+ghost use Rattle.ca_packet.specs.Table.{shape_of};
 ghost use Rattle.ca_rows.specs.Made.{IsSpelt};
 
 use ca_base::Memory;
@@ -29,11 +30,16 @@ pub fn psn_bits(psn: u64) -> u32
     (psn % u64::from(PSN_COUNT)) as u32
 }
 
-/// Adds the bytes that spell a packet, at most 4128.
+/// Adds the bytes that spell a packet, at most 4128: by the bytes of its payload, no more than an atomic or a WRITE with
+/// immediate data has, and of a response no more than an ATOMIC Acknowledge or a READ Response.
 #[inline(always)]
 pub fn spell_packet(packet: &Packet<'_>, out: &mut Vec<u8>) -> Result<(), Memory>
     requires { IsWellFormed packet.now }
     ensures spelt { OnOk result (IsSpelt (spelling packet.now) out.old.items out.new.items) }
+    ensures size { OnOk result
+        (length out.new.items ≤ length out.old.items + most_spelt (length packet.now.payload)) }
+    ensures response { shape_of packet.now.opcode ≡ None → OnOk result
+        (length out.new.items ≤ length out.old.items + most_of_response (length packet.now.payload)) }
     ensures err { OnErr result (out.new.items ≡ out.old.items) }
 {
     spelling_length();

@@ -71,6 +71,7 @@ step-sound q place psn count p within e counted few room = record {
   counted = counted;
   narrow = omega (arith, within.narrow, ap length (items_step q.sends place p within.posted (sym e)));
   room = room;
+  posted = sym e;
 }
 
 -- the PSNs of the unfinished requests of a queue pair are narrow

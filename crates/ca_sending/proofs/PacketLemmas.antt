@@ -1,13 +1,16 @@
 -- What the asks of a packet bring.
-use Rattle.std.proofs.Common.{◌≡◌, ℕ, ◌-◌, ◌*◌, ◌==◌, nat_le, min, arith, Bool, true, false, if◌then◌else◌, refl, sym, ap, ◌∙◌, List, [], ◌∷◌, map}
+use Rattle.std.proofs.Common.{◌≡◌, ℕ, ◌-◌, ◌*◌, ◌==◌, nat_le, min, arith, Bool, true, false, if◌then◌else◌, refl, sym, ap, ◌∙◌, List, [], ◌∷◌, length, map, None, Some, ◌+◌, ◌≤◌}
 use Rattle.std.proofs.lemmas.Bool.{leb-true, leb-false, eqb-true, eqb-false}
+use Rattle.std.proofs.lemmas.Option.{same_Some}
 use Rattle.ca_keys.specs.declared.access.Kind.{Kind}
 use Rattle.ca_keys.specs.declared.names.DomainId.{DomainId}
 use Rattle.ca_keys.specs.declared.names.QueueId.{QueueId}
 use Rattle.ca_base.specs.declared.request.Piece.{Piece}
 use Rattle.ca_base.specs.declared.request.SendOp.{SendOp}
 use Rattle.ca_base.specs.declared.request.SendOp.TheVariants as ops
-use Rattle.ca_model.specs.Requests.{carried_bytes, list_length, list_of}
+use Rattle.ca_base.specs.declared.request.SendRequest.{SendRequest}
+use Rattle.ca_packet.specs.Packet.{Fields, most_spelt}
+use Rattle.ca_model.specs.Requests.{carried_bytes, list_length, list_of, request_packet}
 use Rattle.ca_model.specs.machine.Numbering.{cut_list, is_answered_op, list_asks, piece_ask, piece_part}
 use Rattle.ca_rows.proofs.ListLemmas.{longer_list}
 
@@ -69,3 +72,26 @@ most_asks queue domain kind mtu index op = ap (map (piece_ask queue domain kind)
     by (ops.Bind2 window region low address count rights) = refl
     by (ops.FastReg region low buffer address count rights pages) = refl
     by (ops.LocalInv key) = refl
+
+-- a packet has no other payload than it is given
+pub given_payload : (mtu : ℕ) (request : SendRequest) (index queue psn : ℕ) (payload : List ℕ) (p : Fields) → request_packet mtu request index queue psn payload ≡ Some p
+    → length p.payload ≤ length payload
+given_payload mtu request index queue psn payload p e = by request.op refl
+  where
+    by : (op : SendOp) → request.op ≡ op → length p.payload ≤ length payload
+    by (ops.Send list) is = let f = same_Some _ p (rw is at e) in omega (arith, ap (λ (x : Fields). length x.payload) f)
+    by (ops.SendImm imm list) is = let f = same_Some _ p (rw is at e) in omega (arith, ap (λ (x : Fields). length x.payload) f)
+    by (ops.SendInv key list) is = let f = same_Some _ p (rw is at e) in omega (arith, ap (λ (x : Fields). length x.payload) f)
+    by (ops.Write address key list) is = let f = same_Some _ p (rw is at e) in omega (arith, ap (λ (x : Fields). length x.payload) f)
+    by (ops.WriteImm address key imm list) is = let f = same_Some _ p (rw is at e) in omega (arith, ap (λ (x : Fields). length x.payload) f)
+    by (ops.Read address key list) is = let f = same_Some _ p (rw is at e) in omega (arith, ap (λ (x : Fields). length x.payload) f)
+    by (ops.CmpSwap address key compare swap list) is = let f = same_Some _ p (rw is at e) in omega (arith, ap (λ (x : Fields). length x.payload) f)
+    by (ops.FetchAdd address key add list) is = let f = same_Some _ p (rw is at e) in omega (arith, ap (λ (x : Fields). length x.payload) f)
+    by (ops.Bind1 window region address count rights) is = let f : None ≡ Some p = rw is at e in absurd cc
+    by (ops.Bind2 window region low address count rights) is = let f : None ≡ Some p = rw is at e in absurd cc
+    by (ops.FastReg region low buffer address count rights pages) is = let f : None ≡ Some p = rw is at e in absurd cc
+    by (ops.LocalInv key) is = let f : None ≡ Some p = rw is at e in absurd cc
+
+-- and is spelt in no more bytes than one that has all of them
+pub few_spelt : (new old some all : ℕ) → some ≤ all → new ≤ old + most_spelt some → new ≤ old + most_spelt all
+few_spelt new old some all le few = omega (arith, le, few)

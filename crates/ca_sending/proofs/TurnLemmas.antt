@@ -1,9 +1,10 @@
 -- What a requester's turn does, by its kind.
-use Rattle.std.proofs.Common.{◌≡◌, ℕ, ◌+◌, ◌-◌, ◌<◌, ◌≤◌, nat_lt, ◌||◌, min, max, arith, Bool, true, false, true≢false, refl, ap, ◌∙◌, if◌then◌else◌, List, [], ◌∷◌, ◌++◌, drop, map, length, suc, sum_by, take, Result, Ok, Err}
+use Rattle.std.proofs.Common.{◌≡◌, ℕ, ◌+◌, ◌-◌, ◌<◌, ◌≤◌, nat_lt, ◌||◌, min, max, arith, Bool, true, false, true≢false, refl, ap, ◌∙◌, if◌then◌else◌, List, [], ◌∷◌, ◌++◌, drop, map, length, suc, sum_by, take, Option, None, Some, Result, Ok, Err}
 use Rattle.std.proofs.Math.Seq.{take-append_seam}
 use Rattle.std.proofs.lemmas.Bool.{le-ltb}
+use Rattle.std.proofs.lemmas.Option.{same_Some}
 use Rattle.std.proofs.lemmas.List.Sums.{sum_by-cons}
-use Rattle.std.specs.List.{flat_map}
+use Rattle.std.specs.List.{flat_map, list_any}
 use Rattle.ca_keys.specs.declared.access.Ask.{Ask}
 use Rattle.ca_base.specs.declared.limits.TheConstants.{MAX_OUTSTANDING_PACKETS, MAX_OUTSTANDING_PSNS}
 use Rattle.ca_base.specs.declared.request.SendOp.{SendOp}
@@ -18,27 +19,33 @@ use Rattle.ca_model.specs.Marks.{MarkList}
 use Rattle.ca_model.specs.machine.Row.{Ending, NotPossible, Does}
 use Rattle.ca_rows.specs.Made.{IsTurn}
 use Rattle.ca_base.specs.objects.QueuePair.{QueuePair}
-use Rattle.ca_base.specs.objects.WorkQueue.{items_from}
+use Rattle.ca_base.specs.objects.WorkQueue.{item_at, items_from}
 use Rattle.ca_model.specs.Requests.{is_local, psns_of}
 use Rattle.ca_model.specs.declared.mark.Mark.{Mark}
 use Rattle.ca_model.specs.machine.Invariants.{IsQueue, is_sending}
 use Rattle.ca_model.specs.machine.Numbering.{Numbered, is_answered_op, is_read, numbers_of}
-use Rattle.ca_model.specs.machine.Requester.{Performs, Sends, answers_between, end_of_packet, index_of_packet, is_too_much, local_reads, packets_between, psns_between}
+use Rattle.ca_model.specs.machine.Requester.{answers_between, end_of_packet, index_of_packet, is_too_much, local_reads, packets_between, psns_between}
 use Rattle.ca_rows.proofs.ReadLemmas.{behind_old, bytes_of_reads}
 use Rattle.ca_rows.specs.Asks.{bytes_read, mark_of, payload_of, read_marks, reads_by}
 use Rattle.ca_sending.specs.declared.numbering.Next.{Next}
 use Rattle.ca_sending.proofs.NumberingLemmas.{number_at}
-use Rattle.ca_sending.specs.Numbering.{IsNext, numbers_from}
+use Rattle.ca_sending.specs.Numbering.{IsNext, begun_from, numbers_from}
 use Rattle.ca_sending.specs.Packets.{IsPacket}
-use Rattle.ca_sending.specs.Turn.{is_performing, turn_on}
+use Rattle.ca_sending.specs.Turn.{IsFound, IsPosted}
+use Rattle.ca_sending.specs.declared.turn.Found.{Found}
 
--- a turn that performs is one on a local operation
-pub performing : (n : Numbered) → is_performing (turn_on n) ≡ true → is_local n.request.op ≡ true
-performing n e = by (is_local n.request.op) e
-  where
-    by : (b : Bool) → is_performing (if b then Performs n else Sends n) ≡ true → b ≡ true
-    by true e = refl
-    by false e = e
+-- the request at the place that was found is the one that it stands for
+pub same_next : (q : QueuePair) (f : Found) (p : PostedSend) (next : Next) → Some p ≡ item_at f.place q.sends → IsFound q f next
+    → record { request = number_at f.place f.first f.count p; begins = f.begins } ≡ next
+same_next q f p next e is =
+    let same : p ≡ record { request = next.request.request; drawn = next.request.drawn } =
+        same_Some _ _ (e ∙ ap (λ (g : Found). item_at g.place q.sends) is.found ∙ is.sound.posted) in
+    rw (same, is.found) refl
+
+-- one is posted there
+pub posted_there : (q : QueuePair) (f : Found) → IsPosted q f → None ≡ item_at f.place q.sends → ⊥
+posted_there q f is e =
+    let none : None ≡ Some _ = e ∙ ap (λ (g : Found). item_at g.place q.sends) is.is.found ∙ is.is.sound.posted in cc
 
 -- a request that is no local operation takes a PSN at least
 some-psns : (mtu : ℕ) (op : SendOp) → is_local op ≡ false → 0 < psns_of mtu op
@@ -145,3 +152,11 @@ turn_before written (Err (steps.NotReady reason)) ending q after old same new re
     (t.0, (record { queue = t.1.0.queue; marks = t.1.0.marks ∙ is }, t.1.1))
 turn_before written (Err steps.Memory) ending q after old same new reach reached out spelt is t =
     (record { queue = t.0.queue; marks = t.0.marks ∙ is }, t.1)
+
+-- whether one of the requests from a place on is a READ or an atomic, where the first is none
+pub any_behind : (q : QueuePair) (place next psn more : ℕ) (n : Numbered) → next ≡ suc place → more ≡ psn + n.count → place < q.requester.next
+    → numbers_from place psn q ≡ n ∷ numbers_from (suc place) (psn + n.count) q → is_answered_op n.request.op ≡ false
+    → list_any (λ m. is_answered_op m.request.op) (begun_from next more q) ≡ list_any (λ m. is_answered_op m.request.op) (begun_from place psn q)
+any_behind q place next psn more n one on before step other =
+    let far : q.requester.next - place ≡ suc (q.requester.next - suc place) = omega (arith, before) in
+    rw (one, on, step, far, other) refl

@@ -3,7 +3,7 @@ use Rattle.std.specs.Prelude.{◌≡◌, ℕ, ◌+◌, ◌-◌, ◌*◌, ◌^◌
 use Rattle.ca_base.specs.declared.limits.TheConstants.{MAX_MESSAGE_BYTES}
 use Rattle.ca_base.specs.declared.queue_numbers.RequesterNumbers.{RequesterNumbers}
 use Rattle.ca_base.specs.objects.QueuePair.{QueuePair}
-use Rattle.ca_base.specs.objects.WorkQueue.{items_from}
+use Rattle.ca_base.specs.objects.WorkQueue.{item_at, items_from}
 use Rattle.ca_model.specs.Requests.{list_of, psns_of}
 use Rattle.ca_model.specs.machine.CanStep.{CanStep}
 use Rattle.ca_model.specs.machine.Invariants.{IsList, IsQueue, begun_end}
@@ -27,13 +27,14 @@ pub record IsWithin (posting psn : ℕ) (q : QueuePair) : Type 0 where
   pub narrow : psn + MAX_MESSAGE_BYTES * length (items_from posting q.sends) < 2 ^ 63
 
 -- a posted request of a queue pair: its list is short, its PSNs lie far below the end of their type, and there is a
--- posting place behind it
+-- posting place behind it; and it stands at its own
 pub record IsSound (q : QueuePair) (n : Numbered) : Type 0 where
   pub queue : IsQueue q
   pub list : IsList (list_of n.request.op)
   pub counted : n.count ≡ psns_of q.responder.mtu n.request.op
   pub narrow : n.first + n.count < 2 ^ 63
   pub room : n.place + 1 < 2 ^ 64
+  pub posted : item_at n.place q.sends ≡ Some (record { request = n.request; drawn = n.drawn })
 
 -- the request at a posting place, with those behind it
 pub record IsNumbered (posting psn : ℕ) (q : QueuePair) (n : Numbered) : Type 0 where

@@ -15,9 +15,12 @@ use Rattle.ca_model.specs.machine.Numbering.{Numbered}
 use Rattle.ca_model.specs.machine.Requester.{RequestTurn, Waits, Performs, Sends, is_too_much, packet_row, turn_of}
 use Rattle.ca_model.specs.machine.Row.{Effects, Row, plain_row, NotPossible, queue_and_marks}
 use Rattle.ca_rows.specs.Made.{IsMade}
-use Rattle.ca_sending.specs.Numbering.{IsNext}
+use Rattle.ca_sending.specs.Numbering.{IsNext, IsSound}
 use Rattle.ca_sending.specs.Packets.{IsPacket}
 use Rattle.ca_sending.specs.declared.numbering.Next.{Next}
+use Rattle.ca_sending.specs.declared.turn.Found.{Found}
+use Rattle.ca_sending.specs.declared.turn.Turn.{Turn}
+use Rattle.ca_sending.specs.declared.turn.Turn.TheVariants as turns
 
 -- what a turn does on a request, where nothing stands against it
 abbrev pub turn_on : Numbered → RequestTurn
@@ -45,16 +48,58 @@ pub record IsSending (q : QueuePair) (next : Next) : Type 0 where
   pub packet : IsPacket q next.request
   pub is_next : IsNext q next
 
--- the local operation that a turn performs: its request, and the byte that it drew; none where it sends a packet
-abbrev pub operation_in : RequestTurn → Result (Option (SendRequest × Option ℕ)) Reason
-operation_in (Waits reason) = Err reason
-operation_in (Performs n) = Ok (Some (n.request, n.drawn))
-operation_in (Sends n) = Ok None
-
 -- the turn performs a local operation
 abbrev pub is_performing : RequestTurn → Bool
 is_performing (Performs n) = true
 is_performing turn = false
+
+-- what stands for the request of which the next thing is: its place, its PSNs, and whether it begins
+abbrev pub found_of : Next → Found
+found_of next = record {
+  place = next.request.place;
+  first = next.request.first;
+  count = next.request.count;
+  begins = next.begins;
+}
+
+-- it stands for this request of the queue pair
+pub record IsFound (q : QueuePair) (f : Found) (next : Next) : Type 0 where
+  pub found : f ≡ found_of next
+  pub sound : IsSound q next.request
+
+-- it stands for a request of the queue pair
+pub record IsPosted (q : QueuePair) (f : Found) : Type 0 where
+  pub next : Next
+  pub is : IsFound q f next
+
+-- the turn sends a packet of the request that it stands for, if nothing denies it
+pub record SendsFound (q : QueuePair) (f : Found) : Type 0 where
+  pub next : Next
+  pub found : f ≡ found_of next
+  pub turn : turn_of q ≡ Sends next.request
+  pub sending : IsSending q next
+
+-- the turn performs the local operation that it stands for
+pub record PerformsFound (q : QueuePair) (f : Found) : Type 0 where
+  pub next : Next
+  pub found : f ≡ found_of next
+  pub turn : turn_of q ≡ Performs next.request
+  pub sound : IsSound q next.request
+
+-- the turn does this
+abbrev pub IsTurnFound : QueuePair → Turn → Type 0
+IsTurnFound q (turns.Performs f) = PerformsFound q f
+IsTurnFound q (turns.Sends f) = SendsFound q f
+
+-- the turn waits, for this reason: it performs no local operation, and sends no packet whatever room the peer has
+pub record IsWaiting (q : QueuePair) (reason : Reason) : Type 0 where
+  pub performs : is_performing (turn_of q) ≡ false
+  pub row : (room : Bool) → turn_row q room ≡ plain_row (NotPossible reason)
+
+-- the local operation that a turn performs: its request, and the byte that it drew
+abbrev pub operation_in : RequestTurn → Option (SendRequest × Option ℕ)
+operation_in (Performs n) = Some (n.request, n.drawn)
+operation_in turn = None
 
 -- nothing is revoked or granted
 abbrev pub no_marks : LocalMarks

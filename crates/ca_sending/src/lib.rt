@@ -26,3 +26,4 @@ pub use numbering::{Numbered, begun_at, request_under};
 pub use outcome::{Failure, Outcome, make, one_retry};
 pub use sending::{next_asks, next_packet};
 pub use state::is_sending;
+pub use turn::{Found, Turn, next_turn};

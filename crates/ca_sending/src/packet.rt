@@ -1,10 +1,11 @@
-ghost use Rattle.std.specs.Prelude.{◌≡◌, ℕ, ◌*◌, ◌<◌, ◌≤◌, [], true, if◌then◌else◌, Some, OnOk, OnErr, length};
+ghost use Rattle.std.specs.Prelude.{◌≡◌, ℕ, ◌+◌, ◌*◌, ◌<◌, ◌≤◌, [], true, if◌then◌else◌, Some, OnOk, OnErr, length};
 ghost use Rattle.ca_keys.specs.declared.access.Kind.{Kind};
 ghost use Rattle.ca_base.specs.declared.limits.TheConstants.{MAX_PAYLOAD_BYTES};
 ghost use Rattle.ca_model.specs.Requests as requests;
 ghost use Rattle.ca_model.specs.machine.Invariants.{IsList};
 ghost use Rattle.ca_model.specs.machine.Numbering.{is_answered_op, is_atomic_op};
 ghost use Rattle.ca_model.specs.machine.Requester as requester;
+ghost use Rattle.ca_packet.specs.Packet.{most_spelt};
 ghost use Rattle.ca_rows.specs.Asks.{AreAsksFor};
 ghost use Rattle.ca_rows.specs.Made.{IsSpelt};
 ghost use Rattle.ca_sending.specs.Packets.{IsBuilt, IsHead, IsHeadOf, IsPacket, packet_fields, reth_of};
@@ -81,6 +82,7 @@ pub(crate) fn fill_packet_asks(
 }
 
 /// Adds the bytes that spell the next packet, with this payload.
+#[tactic(auto, using(crate::proofs::PacketLemmas::few_spelt))]
 pub(crate) fn spell(
     q: &QueuePart,
     n: &Numbered<'_>,
@@ -90,6 +92,7 @@ pub(crate) fn spell(
     requires packet { IsPacket q.now n.now }
     requires payload { length payload.now ≤ MAX_PAYLOAD_BYTES }
     ensures spelt { OnOk result (IsSpelt (requester.spelt_packet q.now n.now payload.now) out.old.items out.new.items) }
+    ensures size { OnOk result (length out.new.items ≤ length out.old.items + most_spelt (length payload.now)) }
     ensures err { OnErr result (out.new.items ≡ out.old.items) }
 {
     let packet = packet_of(q, n, payload);

@@ -1,4 +1,4 @@
-ghost use Rattle.std.specs.Prelude.{◌≡◌, ◌+◌, ◌<◌, ◌≤◌, ◌^◌, List, ℕ, Bool, true, false, not, if◌then◌else◌, is_some, None, Some, [], drop, length, IfOk, IfErr};
+ghost use Rattle.std.specs.Prelude.{◌≡◌, ◌+◌, ◌<◌, ◌≤◌, ◌^◌, List, ℕ, Bool, true, false, not, if◌then◌else◌, is_some, None, Some, [], drop, length, IfOk};
 ghost use Rattle.ca_keys.specs.declared.access.Kind.{Kind};
 ghost use Rattle.ca_base.specs.declared.limits.TheConstants.{MAX_PAYLOAD_BYTES, MAX_PIECES};
 ghost use Rattle.ca_base.specs.declared.step.Reason.{Reason};
@@ -6,76 +6,60 @@ ghost use Rattle.ca_base.specs.Sight as sights;
 ghost use Rattle.ca_grant.specs.Reaching.{AreAtHand};
 ghost use Rattle.ca_model.specs.declared.marks.TheConstants.{SPARE_MARKS};
 ghost use Rattle.ca_model.specs.machine.Acknowledgements.{with_requester};
-ghost use Rattle.ca_model.specs.machine.CanStep.{CanStep};
 ghost use Rattle.ca_model.specs.machine.Invariants.{IsQueue};
 ghost use Rattle.ca_model.specs.machine.Numbering as numbering;
 ghost use Rattle.ca_model.specs.machine.Requester as requester;
-ghost use Rattle.ca_model.specs.machine.Row.{ending_of, plain_row, NotPossible};
-ghost use Rattle.ca_rows.specs.Asks.{AreAsksFor, CanJudge, bytes_read};
+ghost use Rattle.ca_model.specs.machine.Row.{ending_of};
+ghost use Rattle.ca_packet.specs.Packet.{most_spelt};
+ghost use Rattle.ca_rows.specs.Asks.{AreAsksFor, CanJudge, bytes_read, touched_by};
 ghost use Rattle.ca_rows.specs.Made.{IsTurn};
 ghost use Rattle.ca_sending.specs.Packets.{IsPacket, IsSpelling, IsSpellingOrNone};
-ghost use Rattle.ca_sending.specs.Turn.{IsSending, numbers_past, turn_row};
+ghost use Rattle.ca_sending.specs.Turn.{SendsFound, numbers_past, turn_row};
 
-use crate::numbering::{Next, Numbered};
+use crate::numbering::Numbered;
 use crate::outcome::fail_oldest;
 use crate::packet::{fill_packet_asks, spell};
-use crate::turn::{end_of_packet, is_too_much, turn_of};
+use crate::turn::{Found, end_of_packet, sending_of};
 use arrayvec::ArrayVec;
 use ca_base::limits::MAX_PIECES;
 use ca_base::{Ask, Memory, Reason, Sent, StepError, WcStatus};
 use ca_grant::Reach;
 use ca_model::{Marks, SPARE_MARKS};
 use ca_qpstate::QueuePart;
-use ca_rows::{first_denied, is_local, join, local_denial, read_granted};
+use ca_rows::{first_denied, join, local_denial, read_granted};
 
-/// The asks that `next_packet` may make, in order; it makes no other. It takes no memory.
-pub fn next_asks(q: &QueuePart) -> ArrayVec<Ask, MAX_PIECES>
-    requires { CanStep q.now }
+/// The asks that `next_packet` may make for the request that `next_turn` found, in order; it makes no other. It takes no
+/// memory.
+pub fn next_asks(q: &QueuePart, found: &Found) -> ArrayVec<Ask, MAX_PIECES>
+    requires { SendsFound q.now found.now }
     ensures { (room : Bool) → result.items ≡ (turn_row q.now room).asks }
 {
     let mut asks = ArrayVec::new();
-    if let Ok(next) = next_to_send(q) {
-        fill_packet_asks(q, &next.request, &mut asks);
-    }
+    let next = sending_of(q, found);
+    fill_packet_asks(q, &next.request, &mut asks);
     asks
 }
 
-/// The request of which the turn sends a packet, if nothing denies it, or the first reason for which it sends none.
-#[tactic(auto, using(crate::proofs::TurnLemmas::is_packet))]
-#[inline(always)]
-fn next_to_send(q: &QueuePart) -> Result<Next<'_>, Reason>
-    requires { CanStep q.now }
-    ensures waits { IfErr result (λ reason. (room : Bool) → turn_row q.now room ≡ plain_row (NotPossible reason)) }
-    ensures sends { IfOk result (λ next. IsSending q.now next) }
-{
-    match turn_of(q) {
-        Err(reason) => Err(reason),
-        Ok(next) if is_local(next.request.op()) => Err(Reason::Empty),
-        Ok(next) if is_too_much(q, &next.request) => Err(Reason::Outstanding),
-        Ok(next) => Ok(next),
-    }
-}
-
-/// Sends the next packet: spells it into `out`, in at most 4128 bytes, where the peer has `room` for it. After Ok there is
-/// room for two more marks. Where it is not possible now, and where memory ends, nothing changes. A turn that performs a
-/// local operation has nothing to send, and is `Empty` here.
+/// Sends the next packet, of the request that `next_turn` found: spells it into `out`, where the peer has `room` for it, in
+/// at most 4128 bytes, and in no more than 40, or 35 and those that its asks touch. After Ok there is room for two more
+/// marks. Where it is not possible now, and where memory ends, nothing changes.
 pub fn next_packet<R: Reach>(
     q: &mut QueuePart,
+    found: &Found,
     reach: &mut R,
     room: bool,
     marks: &mut Marks,
     out: &mut Vec<u8>,
 ) -> Result<Sent, StepError>
-    requires step { CanStep q.old }
+    requires sends { SendsFound q.old found.now }
     requires at_hand { AreAtHand R.sight R.judges R.touches reach.old (turn_row q.old room).asks }
-    ensures { IsTurn R.written result (ending_of (R.sight reach.old) (turn_row q.old room))
+    ensures turn { IsTurn R.written result (ending_of (R.sight reach.old) (turn_row q.old room))
         q.old q.new marks.old marks.new reach.old reach.new out.old.items out.new.items }
+    ensures size { length out.new.items
+        ≤ length out.old.items + most_spelt (touched_by (turn_row q.old room).asks) }
 {
     let mut asks = ArrayVec::new();
-    let next = match next_to_send(q) {
-        Err(reason) => return Err(StepError::NotReady(reason)),
-        Ok(next) => next,
-    };
+    let next = sending_of(q, found);
     fill_packet_asks(q, &next.request, &mut asks);
     let asks = asks.as_slice();
     if !room {
@@ -168,6 +152,7 @@ fn read_and_spell<R: Reach>(
     requires few { length asks.now ≤ MAX_PIECES }
     ensures spelt { IsSpellingOrNone
         (R.sight reach.old) q.now n.now asks.now result marks.old marks.new out.old.items out.new.items }
+    ensures size { length out.new.items ≤ length out.old.items + most_spelt (touched_by asks.now) }
     ensures same { reach.new ≡ reach.old }
 {
     marks.reserve(asks.len() as u32 + SPARE_MARKS)?;
@@ -197,6 +182,7 @@ fn read_then_spell<R: Reach>(
     requires spare { length asks.now + SPARE_MARKS ≤ marks.old.room }
     ensures spelt { IsSpelling
         (R.sight reach.old) q.now n.now asks.now result marks.old marks.new out.old.items out.new.items }
+    ensures size { length out.new.items ≤ length out.old.items + most_spelt (touched_by asks.now) }
     ensures same { reach.new ≡ reach.old }
 {
     let count = marks.as_slice().len();

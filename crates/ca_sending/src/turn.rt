@@ -6,7 +6,9 @@ ghost use Rattle.ca_model.specs.machine.Invariants as invariants;
 ghost use Rattle.ca_model.specs.machine.Numbering as numbering;
 ghost use Rattle.ca_model.specs.machine.Requester as requester;
 ghost use Rattle.ca_sending.specs.Numbering.{numbers_from, begun_from, IsWithin, IsNext, IsSound};
-ghost use Rattle.ca_sending.specs.Turn.{IsTurnOn};
+ghost use Rattle.ca_sending.specs.Turn as turns;
+ghost use Rattle.ca_sending.specs.Turn.{IsFound, IsPosted, IsSending, IsTurnFound, IsTurnOn, IsWaiting, PerformsFound, SendsFound};
+ghost use Rattle.ca_sending.specs.declared.numbering.Next as nexts;
 
 use crate::numbering::{Next, Numbered, begun_at, next_request, numbered_at};
 use crate::state::is_sending;
@@ -15,10 +17,99 @@ use ca_base::{Reason, State};
 use ca_qpstate::QueuePart;
 use ca_rows::{is_answered, is_local, is_read};
 
+/// What a requester's turn does. It is found once, and handed to the calls that do it.
+#[derive(Clone, Copy)]
+pub enum Turn {
+    /// It performs a local operation.
+    Performs(Found),
+    /// It sends a packet of a request.
+    Sends(Found),
+}
+
+/// What stands for a posted request that a turn found: its posting place, its first PSN, how many it has or would get, and
+/// whether it begins. It holds as long as the queue pair stays as it is.
+#[derive(Clone, Copy)]
+pub struct Found {
+    pub place: u64,
+    pub first: u64,
+    pub count: u32,
+    pub begins: bool,
+}
+
+/// What the requester's turn does, or the first reason for which it does nothing: `State`, `RnrWait`, `Empty`, `Fence`, and
+/// of a packet `Outstanding`. It takes no memory.
+#[tactic(auto, using(crate::proofs::TurnLemmas::is_packet))]
+pub fn next_turn(q: &QueuePart) -> Result<Turn, Reason>
+    requires { CanStep q.now }
+    ensures waits { IfErr result (λ reason. IsWaiting q.now reason) }
+    ensures does { IfOk result (λ turn. IsTurnFound q.now turn) }
+{
+    match turn_of(q) {
+        Err(reason) => Err(reason),
+        Ok(next) if is_local(next.request.op()) => Ok(Turn::Performs(found_of(&next))),
+        Ok(next) if is_too_much(q, &next.request) => Err(Reason::Outstanding),
+        Ok(next) => Ok(Turn::Sends(found_of(&next))),
+    }
+}
+
+/// What stands for the request of which the next thing is.
+#[inline(always)]
+fn found_of(next: &Next<'_>) -> Found
+    ensures { result ≡ turns.found_of next.now }
+{
+    Found {
+        place: next.request.place,
+        first: next.request.first,
+        count: next.request.count,
+        begins: next.begins,
+    }
+}
+
+/// The request that was found.
+#[tactic(auto, using(crate::proofs::TurnLemmas::same_next, crate::proofs::TurnLemmas::posted_there))]
+#[inline(always)]
+fn next_of<'a>(q: &'a QueuePart, found: &Found) -> Next<'a>
+    requires { IsPosted q.now found.now }
+    ensures { (next : nexts.Next) → IsFound q.now found.now next → result ≡ next }
+{
+    match q.sends.get(found.place) {
+        Some(posted) => Next {
+            request: Numbered {
+                place: found.place,
+                posted,
+                first: found.first,
+                count: found.count,
+            },
+            begins: found.begins,
+        },
+        None => unreachable!(),
+    }
+}
+
+/// The request of which the turn sends a packet.
+#[inline(always)]
+pub(crate) fn sending_of<'a>(q: &'a QueuePart, found: &Found) -> Next<'a>
+    requires { SendsFound q.now found.now }
+    ensures { IsSending q.now result }
+{
+    next_of(q, found)
+}
+
+/// The local operation that the turn performs.
+#[inline(always)]
+pub(crate) fn performing_of<'a>(q: &'a QueuePart, found: &Found) -> Next<'a>
+    requires { PerformsFound q.now found.now }
+    ensures turn { requester.turn_of q.now ≡ requester.Performs result.request }
+    ensures place { found.now.place ≡ result.request.place }
+    ensures sound { IsSound q.now result.request }
+{
+    next_of(q, found)
+}
+
 /// The request on which a requester's turn does something, or the first reason for which it is not possible: `State`,
 /// `RnrWait`, `Empty`, `Fence`.
 #[inline(always)]
-pub(crate) fn turn_of(q: &QueuePart) -> Result<Next<'_>, Reason>
+fn turn_of(q: &QueuePart) -> Result<Next<'_>, Reason>
     requires { CanStep q.now }
     ensures waits { IfErr result (λ reason. requester.turn_of q.now ≡ requester.Waits reason) }
     ensures acts { IfOk result (λ next. IsTurnOn q.now next) }
@@ -101,7 +192,7 @@ pub(crate) fn end_of_packet(q: &QueuePart, n: &Numbered<'_>) -> u64
 /// Whether with the packet too much would be outstanding: PSNs, request packets, or READs and atomics. Where no more PSNs
 /// would be than READs may be, nothing need be counted.
 #[inline(always)]
-pub(crate) fn is_too_much(q: &QueuePart, n: &Numbered<'_>) -> bool
+fn is_too_much(q: &QueuePart, n: &Numbered<'_>) -> bool
     requires step { CanStep q.now }
     requires sound { IsSound q.now n.now }
     ensures { result ≡ requester.is_too_much q.now n.now }

@@ -1,7 +1,9 @@
 use Rattle.std.proofs.Common.{rules, arith, ◌∙◌, ℕ, List, ap, length, subst}
 use Rattle.ca_model.specs.machine.Requester.{spelt_packet}
+use Rattle.ca_rows.specs.Asks.{touched_by}
 use Rattle.ca_rows.specs.Made.{IsSpelt}
 use Rattle.ca_rows.specs.Reading.{AreRead}
+use Rattle.ca_sending.proofs.PacketLemmas.{few_spelt}
 use Rattle.ca_sending.proofs.TurnLemmas.{marks_read, payload-read, reads-joined}
 use Rattle.ca_sending.proofs.sending.read_then_spell.Goals as goal
 
@@ -28,3 +30,15 @@ returns-clause-spelt g c =
           (length c.as_slice-count.result.now) c.in_ok-payload.payload.now (search rules) read.marks (search rules)
           ∙ reads-joined (g.R.Reach.sight c.args.reach.now) c.args.asks.now) c.in_ok-spell.ensures.spelt;
     }
+
+pub returns-clause-size : goal.returns-clause-size
+returns-clause-size g c =
+    let read : AreRead (g.R.Reach.sight c.args.reach.now) c.args.asks.now c.args.marks.now c.read_granted.new.marks = search rules in
+    few_spelt _ _ (length c.in_ok-payload.payload.now) (touched_by c.args.asks.now)
+    (omega (
+      arith,
+      read.count,
+      ap length (payload-read (g.R.Reach.sight c.args.reach.now) c.args.asks.now c.args.marks.now.marks c.read_granted.new.marks.marks
+          (length c.as_slice-count.result.now) c.in_ok-payload.payload.now (search rules) read.marks (search rules)),
+    ))
+    c.in_ok-spell.ensures.size
