@@ -23,6 +23,7 @@ use ca_wire::Packet;
 
 /// The receive that a message would take: of the shared receive queue, or of the queue pair's own. None comes exactly
 /// where none waits. It takes no memory.
+#[inline(always)]
 pub fn next_receive<'a>(q: &'a QueuePart, srq: Option<&'a Srq>) -> Option<&'a RecvRequest>
     requires { IsQueue q.now }
     ensures { option_copied result ≡ option_map (λ r. r.receive)
@@ -41,6 +42,7 @@ pub fn next_receive<'a>(q: &'a QueuePart, srq: Option<&'a Srq>) -> Option<&'a Re
 }
 
 /// The posting place of the receive that a message would take.
+#[inline(always)]
 fn next_receive_place(q: &QueuePart, srq: Option<&Srq>) -> Option<u64>
     requires { IsQueue q.now }
     ensures { IfSome (arrivals.next_receive q.now (option_copied srq.entry)) (λ r. result ≡ Some r.place) }
@@ -58,6 +60,7 @@ fn next_receive_place(q: &QueuePart, srq: Option<&Srq>) -> Option<u64>
 }
 
 /// A copy of the receive that a message would take, with its posting place.
+#[inline(always)]
 pub fn find_receive(q: &QueuePart, srq: Option<&Srq>) -> Result<Option<PlacedReceive>, Memory>
     requires queue { IsQueue q.now }
     requires shared { IfSome (option_copied srq) IsSharedReceives }
@@ -74,6 +77,7 @@ pub fn find_receive(q: &QueuePart, srq: Option<&Srq>) -> Result<Option<PlacedRec
 }
 
 /// The receive of a SEND packet: the next one where the message begins, and else that of the message in progress.
+#[inline(always)]
 pub fn receiving_of(q: &QueuePart, next: Option<PlacedReceive>) -> Result<Option<Receiving>, Memory>
     requires queue { IsQueue q.now }
     requires next { CanReceive q.now next }
@@ -117,6 +121,7 @@ pub fn take_own(q: &mut QueuePart)
 }
 
 /// Where the bytes of a SEND packet go in a receive's list, behind so many that came before.
+#[inline(always)]
 pub fn receive_asks(
     q: &QueuePart,
     p: &Packet<'_>,
@@ -138,6 +143,7 @@ pub fn receive_asks(
 }
 
 /// Whether a SEND packet has more bytes than its receive has room for.
+#[inline(always)]
 pub fn exceeds_receive(p: &Packet<'_>, before: u32, list: &[Piece]) -> bool
     requires { AreCounted (length p.now.payload) before list.now }
     ensures { result ≡ nat_lt (list_length list.now) (before + length p.now.payload) }

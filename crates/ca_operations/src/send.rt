@@ -22,13 +22,13 @@ use crate::request::{Request, SharedReceive, shared_receive};
 use crate::stand_in::{queue_stand_in, replace_by_ack, replace_by_nak};
 use ca_answering::{FlushedReceives, pass, push_flush, queue_ack, queue_refusal, refuse_invalid};
 use ca_base::limits::MAX_PIECES;
-use ca_base::{Ask, Bytes, Key, Memory, Message, OpRefusal, PlacedReceive, WcOp, WcStatus};
+use ca_base::{Key, Memory, Message, OpRefusal, PlacedReceive, WcOp, WcStatus};
 use ca_grant::Reach;
 use ca_model::{Mark, Marks, Receiving, SPARE_MARKS};
 use ca_qpstate::QueuePart;
 use ca_rows::{
-    Received, cut_writes, first_denied, local_denial, receive_failure, receive_mark, reserve_for,
-    write_all,
+    Received, Writes, cut_writes, first_denied, local_denial, receive_failure, receive_mark,
+    reserve_for, write_all,
 };
 use ca_wire::{NakCode, Packet, Position};
 
@@ -44,6 +44,7 @@ pub struct SendPacket<'a> {
 }
 
 /// A SEND packet, which goes to the receive of its message: the next one, where it begins the message.
+#[inline(never)]
 pub fn take_send<R: Reach>(
     q: &mut QueuePart,
     reach: &mut R,
@@ -77,6 +78,7 @@ pub fn take_send<R: Reach>(
 
 /// A SEND packet with its receive: it is too long for it, its list is denied, the end of its key is refused, or it is
 /// placed.
+#[inline(always)]
 fn receive_send<R: Reach>(
     q: &mut QueuePart,
     reach: &mut R,
@@ -113,7 +115,9 @@ fn receive_send<R: Reach>(
     }
 }
 
-/// The receive fails with this status, behind these marks; the packet is refused.
+/// The receive fails with this status, behind these marks; the packet is refused. It stands apart, since that is rare.
+#[cold]
+#[inline(never)]
 fn fail_receive(
     q: &mut QueuePart,
     r: &Receiving,
@@ -163,15 +167,16 @@ fn flushed_behind(r: &Receiving) -> FlushedReceives
 }
 
 /// A SEND packet that ends no key is placed.
+#[inline(always)]
 fn place_send<R: Reach>(
     q: &mut QueuePart,
     reach: &mut R,
     s: SendPacket<'_>,
-    writes: Vec<(Ask, Bytes)>,
+    writes: Writes,
     marks: &mut Marks,
 ) -> Result<SharedReceive, Memory>
     requires step { CanStep q.old }
-    requires can { CanPlace R.sight R.judges R.touches R.ends reach.old q.old s writes.items }
+    requires can { CanPlace R.sight R.judges R.touches R.ends reach.old q.old s writes }
     requires no_key { s.packet.now.ieth ≡ None }
     ensures taken { IsTaken R.written R.revoked result (outcome_of_send (R.sight reach.old) q.old s.entry)
         q.old q.new marks.old marks.new reach.old reach.new }
@@ -185,16 +190,17 @@ fn place_send<R: Reach>(
 }
 
 /// A SEND packet that ends a key is placed, and then the key ends. Where that is refused, the receive fails.
+#[inline(never)]
 fn place_and_end<R: Reach>(
     q: &mut QueuePart,
     reach: &mut R,
     s: SendPacket<'_>,
-    writes: Vec<(Ask, Bytes)>,
+    writes: Writes,
     key: Key,
     marks: &mut Marks,
 ) -> Result<SharedReceive, Memory>
     requires step { CanStep q.old }
-    requires can { CanPlace R.sight R.judges R.touches R.ends reach.old q.old s writes.items }
+    requires can { CanPlace R.sight R.judges R.touches R.ends reach.old q.old s writes }
     requires key { s.packet.now.ieth ≡ Some key.0 }
     ensures taken { IsTaken R.written R.revoked result (outcome_of_send (R.sight reach.old) q.old s.entry)
         q.old q.new marks.old marks.new reach.old reach.new }
@@ -249,6 +255,7 @@ fn end_key<R: Reach>(q: &mut QueuePart, reach: &mut R, key: Key) -> Result<(), O
 
 /// A SEND packet took effect: its receive is taken where the message begins with it, and the message goes on or ends.
 /// The acknowledgement is queued already.
+#[inline(always)]
 fn end_send(q: &mut QueuePart, s: SendPacket<'_>, marks: &mut Marks)
     requires numbers { CanPass q.old }
     requires fits { IsFitting q.old s }

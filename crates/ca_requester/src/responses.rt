@@ -167,6 +167,7 @@ fn failure(numbers: RequesterNumbers, status: WcStatus) -> Outcome
 }
 
 /// An answer: an implied NAK, one that does not fit its request, or one whose bytes go to its list.
+#[inline(always)]
 pub(crate) fn answer_of<'a>(q: &'a QueuePart, p: &Packet<'_>, psn: u64) -> Response<'a>
     requires step { CanStep q.now }
     requires psn { psn < 2 ^ 62 }
@@ -189,6 +190,7 @@ pub(crate) fn answer_of<'a>(q: &'a QueuePart, p: &Packet<'_>, psn: u64) -> Respo
 
 /// The request of a PSN that has begun under these numbers, where the response fits it.
 #[tactic(auto, using(crate::proofs::ResponseLemmas::fits_none, crate::proofs::ResponseLemmas::fits_not, crate::proofs::ResponseLemmas::fits_all))]
+#[inline(always)]
 fn fitting_request<'a>(
     q: &'a QueuePart,
     p: &Packet<'_>,
@@ -207,6 +209,7 @@ fn fitting_request<'a>(
 
 /// Whether a response fits its request: a READ's segment by its length and by whether it is the last, an atomic's answer
 /// an atomic.
+#[inline(always)]
 fn fits(q: &QueuePart, p: &Packet<'_>, psn: u64, n: &Numbered<'_>) -> bool
     requires { IsRequestOf psn q.now n.now }
     ensures { result ≡ rows.fits_request psn p.now q.now n.now }

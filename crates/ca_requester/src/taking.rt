@@ -20,12 +20,13 @@ use crate::responses::{
 };
 use arrayvec::ArrayVec;
 use ca_base::limits::{ATOMIC_BYTES, MAX_PIECES};
-use ca_base::{Ask, Bytes, DeniedAsk, Kind, Memory, RequesterNumbers, WcStatus};
+use ca_base::{Ask, DeniedAsk, Kind, Memory, RequesterNumbers, WcStatus};
 use ca_grant::Reach;
 use ca_model::{Marks, SPARE_MARKS};
 use ca_qpstate::QueuePart;
 use ca_rows::{
-    Asker, cut_writes, drop_packet, first_denied, list_asks, list_of, local_denial, write_all,
+    Asker, Writes, cut_writes, drop_packet, first_denied, list_asks, list_of, local_denial,
+    write_all,
 };
 use ca_sending::{Failure, Outcome, complete_before, finished_count, make, push_finished};
 use ca_wire::opcode::ATOMIC_ACKNOWLEDGE;
@@ -60,6 +61,7 @@ fn answer_asks(q: &QueuePart, p: &Packet<'_>, psn: u64) -> ArrayVec<Ask, MAX_PIE
 }
 
 /// The asks for the places in its request's list to which an answer's bytes go.
+#[inline(always)]
 fn asks_for(q: &QueuePart, p: &Packet<'_>, answer: &Answer<'_>) -> ArrayVec<Ask, MAX_PIECES>
     requires packet { IsWellFormed p.now }
     requires answer { IsAnswer p.now q.now answer.now }
@@ -104,10 +106,11 @@ fn answer_length(p: &Packet<'_>) -> u32
 }
 
 /// The bytes that an answer brings, cut for the asks to which they go.
-fn cut_answer(alloc: Global, p: &Packet<'_>, asks: &[Ask]) -> Result<Vec<(Ask, Bytes)>, Memory>
+#[inline(always)]
+fn cut_answer(alloc: Global, p: &Packet<'_>, asks: &[Ask]) -> Result<Writes, Memory>
     requires { AreAsksFor Kind.Write (length (rows.answer_bytes p.now)) asks.now }
-    ensures value { IfOk result (λ writes. writes.items ≡ rows.writes_by asks.now (rows.answer_bytes p.now)) }
-    ensures writes { IfOk result (λ writes. AreWritesFor asks.now writes.items) }
+    ensures value { IfOk result (λ writes. writes ≡ rows.writes_by asks.now (rows.answer_bytes p.now)) }
+    ensures writes { IfOk result (λ writes. AreWritesFor asks.now writes) }
 {
     if p.opcode == ATOMIC_ACKNOWLEDGE {
         let found = p.result.unwrap_or(0).to_le_bytes();
@@ -252,8 +255,10 @@ pub(crate) struct Taken {
     pub numbers: RequesterNumbers,
 }
 
-/// The list is denied: the request fails.
+/// The list is denied: the request fails. It stands apart, since that is rare.
 #[tactic(auto, using(ca_sending::proofs::OutcomeLemmas::is_ahead))]
+#[cold]
+#[inline(never)]
 fn deny(
     q: &mut QueuePart,
     taken: Taken,
@@ -273,6 +278,7 @@ fn deny(
 
 /// The bytes go to the list, and all up to the answer's PSN is acknowledged.
 #[tactic(auto, using(ca_rows::proofs::WriteLemmas::can_write, crate::proofs::TakingLemmas::few_writes))]
+#[inline(always)]
 fn place<R: Reach>(
     q: &mut QueuePart,
     reach: &mut R,

@@ -7,6 +7,7 @@ use ca_base::{Ask, DeniedAsk};
 use ca_grant::Reach;
 
 /// The first ask that is denied. None comes exactly where all are allowed.
+#[inline(always)]
 pub fn first_denied<R: Reach>(reach: &R, asks: &[Ask]) -> Option<DeniedAsk>
     requires { CanJudge R.judges reach.now asks.now }
     ensures first { result ≡ sights.first_denied (R.sight reach.now) asks.now }

@@ -34,4 +34,4 @@ pub use operations::{
 };
 pub use packets::{peer_number, psn_bits, spell_packet};
 pub use reads::{join, read_granted};
-pub use writes::{cut_writes, write_all};
+pub use writes::{Writes, cut_writes, write_all};

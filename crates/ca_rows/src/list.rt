@@ -30,6 +30,7 @@ pub fn list_length(list: &[Piece]) -> u32
 
 /// The asks of a queue pair for so many bytes of a list, without so many at its front, one a piece. An ask is for at most
 /// a packet's bytes.
+#[inline(always)]
 pub fn list_asks(asker: Asker, skip: u32, count: u32, list: &[Piece]) -> ArrayVec<Ask, MAX_PIECES>
     requires few { length list.now ≤ MAX_PIECES }
     requires packet { count ≤ MAX_PAYLOAD_BYTES }
@@ -43,6 +44,7 @@ pub fn list_asks(asker: Asker, skip: u32, count: u32, list: &[Piece]) -> ArrayVe
 
 /// Puts these asks into a list of the caller's, which is empty.
 #[tactic(auto, using(crate::proofs::ListLemmas::cut_touches, crate::proofs::ListLemmas::cut_are_asks))]
+#[inline(always)]
 pub fn fill_asks(
     asker: Asker,
     skip: u32,

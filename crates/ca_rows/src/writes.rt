@@ -11,17 +11,80 @@ use ca_base::{Ask, Bytes, Memory};
 use ca_grant::Reach;
 use ca_model::Marks;
 use std::alloc::Global;
+use std::marker::Model;
 use std::vec::IntoIter;
+
+/// Accesses with the bytes that they write, in order. The first stands apart: one access alone needs no list.
+#[derive(Drop)]
+pub struct Writes {
+    first: Option<(Ask, Bytes)>,
+    rest: Vec<(Ask, Bytes)>,
+}
+
+// contracts see the accesses in order
+impl Model for Writes {
+    ghost use Rattle.std.specs.Prelude.{ℕ, List};
+    ghost use Rattle.ca_keys.specs.declared.access.Ask.{Ask};
+
+    ghost Value = { List (Ask × List ℕ) };
+
+    ghost use Rattle.ca_rows.specs.Writes.{writes_seen};
+
+    ghost view = { writes_seen };
+}
+
+impl Writes {
+    ghost use Rattle.std.specs.Prelude.{◌≡◌, length};
+
+    /// How many accesses there are.
+    #[inline(always)]
+    pub fn len(&self) -> usize
+        ensures { result ≡ length self.now }
+    {
+        match &self.first {
+            Some(_) => self.rest.len() + 1,
+            None => self.rest.len(),
+        }
+    }
+}
 
 /// Cuts bytes for these asks in order, each as many as the ask touches. The asks touch no more bytes than there are.
 #[tactic(auto, using(crate::proofs::WriteLemmas::cut_asks, crate::proofs::WriteLemmas::cut_are_writes))]
-pub fn cut_writes(alloc: Global, asks: &[Ask], bytes: &[u8]) -> Result<Vec<(Ask, Bytes)>, Memory>
+#[inline(always)]
+pub fn cut_writes(alloc: Global, asks: &[Ask], bytes: &[u8]) -> Result<Writes, Memory>
     requires asks { AllByRecursion (IsAskOf Kind.Write) asks.now }
     requires enough { touched_by asks.now ≤ length bytes.now }
-    ensures value { IfOk result (λ writes. writes.items ≡ responses.writes_by asks.now bytes.now) }
-    ensures writes { IfOk result (λ writes. AreWritesFor asks.now writes.items) }
+    ensures value { IfOk result (λ writes. writes ≡ responses.writes_by asks.now bytes.now) }
+    ensures writes { IfOk result (λ writes. AreWritesFor asks.now writes) }
 {
-    let mut writes = Vec::with_capacity(alloc, asks.len())?;
+    cut_each(alloc, asks, bytes)
+}
+
+/// The same, for asks of any kind.
+#[inline(always)]
+fn cut_each(alloc: Global, asks: &[Ask], bytes: &[u8]) -> Result<Writes, Memory>
+    requires enough { touched_by asks.now ≤ length bytes.now }
+    ensures value { IfOk result (λ writes. writes ≡ responses.writes_by asks.now bytes.now) }
+{
+    let [ask, behind @ ..] = asks else {
+        return Ok(Writes {
+            first: None,
+            rest: Vec::new(alloc),
+        });
+    };
+    let (front, left) = bytes.split_at(ask.touch as usize);
+    let first = Some((*ask, Bytes::copy_of(alloc, front)?));
+    let rest = cut_rest(alloc, behind, left)?;
+    Ok(Writes { first, rest })
+}
+
+/// The same for the asks behind the first.
+#[inline(always)]
+fn cut_rest(alloc: Global, asks: &[Ask], bytes: &[u8]) -> Result<Vec<(Ask, Bytes)>, Memory>
+    requires enough { touched_by asks.now ≤ length bytes.now }
+    ensures value { IfOk result (λ writes. writes.items ≡ responses.writes_by asks.now bytes.now) }
+{
+    let mut writes = Vec::new(alloc);
     push_writes(alloc, asks, bytes, &mut writes)?;
     Ok(writes)
 }
@@ -45,14 +108,22 @@ fn push_writes(
 
 /// Writes the bytes of each access to its places, and adds a mark for each, in the spare room. None of them is denied. It
 /// takes no memory.
-pub fn write_all<R: Reach>(reach: &mut R, writes: Vec<(Ask, Bytes)>, marks: &mut Marks)
-    requires can { CanWrite R.sight R.judges R.touches reach.old writes.items }
-    requires room { length writes.items ≤ marks.old.room }
-    ensures wrote { reach.new ≡ written_all R.written reach.old writes.items }
-    ensures marks { AreAdded (responses.local_writes writes.items) marks.old marks.new }
+#[tactic(auto, using(crate::proofs::WriteLemmas::can_still))]
+#[inline(always)]
+pub fn write_all<R: Reach>(reach: &mut R, writes: Writes, marks: &mut Marks)
+    requires can { CanWrite R.sight R.judges R.touches reach.old writes }
+    requires room { length writes ≤ marks.old.room }
+    ensures wrote { reach.new ≡ written_all R.written reach.old writes }
+    ensures marks { AreAdded (responses.local_writes writes) marks.old marks.new }
     ensures keys { KeepsKeys R.sight R.ends reach.old reach.new }
 {
-    write_rest(reach, writes.into_iter(), marks)
+    let Writes { first, rest } = writes;
+    let Some((ask, bytes)) = first else {
+        return write_rest(reach, rest.into_iter(), marks);
+    };
+    let verdict = reach.write(&ask, bytes);
+    marks.push(local_mark(&ask, verdict));
+    write_rest(reach, rest.into_iter(), marks)
 }
 
 #[tactic(auto, using(crate::proofs::WriteLemmas::can_still))]

@@ -81,7 +81,7 @@ place_send-requires-clause-can g c =
     let asks : c.as_slice.result.now ≡ receive_asks q p r =
     c.as_slice.ensures.value ∙ c.receive_asks-asks.ensures.value ∙ ap (λ (l : List Piece). list_asks q.queue q.domain kinds.Write r.before (length p.payload) l) c.as_slice-list.ensures.value in
     let again : c.as_slice-2.result.now ≡ c.as_slice.result.now = c.as_slice-2.ensures.value ∙ sym c.as_slice.ensures.value in
-    can-place g.R.Reach.sight g.R.Reach.judges g.R.Reach.touches g.R.Reach.ends c.args.reach.now q c.args.s c.as_slice-2.result.now c.in_ok-writes.writes.items
+    can-place g.R.Reach.sight g.R.Reach.judges g.R.Reach.touches g.R.Reach.ends c.args.reach.now q c.args.s c.as_slice-2.result.now c.in_ok-writes.writes
     c.requires.receiving c.requires.payload
     (ap (λ (l : List Piece). nat_lt (list_length l) (r.before + length p.payload)) (sym c.as_slice-list.ensures.value) ∙ sym c.exceeds_receive.ensures ∙ c.if-exceeds_receive.false)
     c.requires.at_hand (again ∙ asks) c.as_slice-2.ensures.fits
@@ -98,7 +98,7 @@ place_and_end-requires-clause-can g c =
     let asks : c.as_slice.result.now ≡ receive_asks q p r =
     c.as_slice.ensures.value ∙ c.receive_asks-asks.ensures.value ∙ ap (λ (l : List Piece). list_asks q.queue q.domain kinds.Write r.before (length p.payload) l) c.as_slice-list.ensures.value in
     let again : c.as_slice-2.result.now ≡ c.as_slice.result.now = c.as_slice-2.ensures.value ∙ sym c.as_slice.ensures.value in
-    can-place g.R.Reach.sight g.R.Reach.judges g.R.Reach.touches g.R.Reach.ends c.args.reach.now q c.args.s c.as_slice-2.result.now c.in_ok-writes.writes.items
+    can-place g.R.Reach.sight g.R.Reach.judges g.R.Reach.touches g.R.Reach.ends c.args.reach.now q c.args.s c.as_slice-2.result.now c.in_ok-writes.writes
     c.requires.receiving c.requires.payload
     (ap (λ (l : List Piece). nat_lt (list_length l) (r.before + length p.payload)) (sym c.as_slice-list.ensures.value) ∙ sym c.exceeds_receive.ensures ∙ c.if-exceeds_receive.false)
     c.requires.at_hand (again ∙ asks) c.as_slice-2.ensures.fits

@@ -7,10 +7,10 @@ use Rattle.ca_requester.proofs.TakingLemmas.{few_writes, has_answered, writes_co
 use Rattle.ca_requester.proofs.taking.place.Goals as goal
 
 pub overflow_add-count : goal.overflow_add-count
-overflow_add-count g c = omega (arith, c.finished_count.ensures.few, few_writes c.args.asks.now c.in_ok-writes.writes.items c.in_ok-writes.ensures.writes.by c.requires.few)
+overflow_add-count g c = omega (arith, c.finished_count.ensures.few, few_writes c.args.asks.now c.in_ok-writes.writes c.in_ok-writes.ensures.writes.by c.requires.few)
 
 pub overflow_add-count-2 : goal.overflow_add-count-2
-overflow_add-count-2 g c = omega (arith, c.finished_count.ensures.few, few_writes c.args.asks.now c.in_ok-writes.writes.items c.in_ok-writes.ensures.writes.by c.requires.few)
+overflow_add-count-2 g c = omega (arith, c.finished_count.ensures.few, few_writes c.args.asks.now c.in_ok-writes.writes c.in_ok-writes.ensures.writes.by c.requires.few)
 
 pub write_all-requires-clause-room : goal.write_all-requires-clause-room
 write_all-requires-clause-room g c = omega (
@@ -30,7 +30,7 @@ push_finished-requires-2-clause-spare g c = omega (
   c.finished_count.ensures.value,
   c.push_finished.ensures.room,
   c.write_all.ensures.marks.room,
-  writes_count c.in_ok-writes.writes.items,
+  writes_count c.in_ok-writes.writes,
   c.numbers_past-numbers.ensures.later,
   c.requires.taken.progress.later,
   few_finished c.args.q.now c.q.inside.requester.oldest c.args.taken.numbers.oldest,
@@ -40,7 +40,7 @@ push_finished-requires-2-clause-spare g c = omega (
 pub returns : goal.returns
 returns g c =
     let P : QueuePair → Type 0 = λ q. AreAdded (success_between q.requester.oldest c.args.taken.numbers.oldest c.args.q.now) c.reserve.new.self c.push_finished.new.marks in (
-      has_answered c.args.q.now _ c.args.taken c.args.p.now c.args.asks.now c.numbers_past-numbers.result (c.args.taken.psn + 1) c.in_ok-writes.writes.items
+      has_answered c.args.q.now _ c.args.taken c.args.p.now c.args.asks.now c.numbers_past-numbers.result (c.args.taken.psn + 1) c.in_ok-writes.writes
           c.args.marks.now c.reserve.new.self c.push_finished.new.marks c.write_all.new.marks c.push_finished-2.new.marks
           c.requires.taken (omega arith) c.numbers_past-numbers.ensures c.in_ok-writes.ensures.value (search rules)
           (omega (arith, c.in_ok-reserve.ensures.room, c.finished_count.ensures.value))
