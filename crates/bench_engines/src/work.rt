@@ -98,7 +98,7 @@ pub fn new_bed(alloc: Global) -> Option<Bed>
     ensures { IfSome result beds.Stands }
 {
     let reach = SmallReach::registered(alloc, SLOT, AT, 4096, ALL).ok()?;
-    let queue = QueuePart::create(alloc, QUEUE, DOMAIN, 1, 0, 0, 256, 0, Some(0)).ok()?;
+    let queue = QueuePart::create(alloc, QUEUE, DOMAIN, 1, 0, 0, 256, 1, None).ok()?;
     Some(Bed { queue, reach })
 }
 
