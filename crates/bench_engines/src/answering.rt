@@ -9,7 +9,7 @@ ghost use Rattle.ca_bed_requester.specs.Bed as beds;
 ghost use Rattle.ca_bed_responder.specs.Responder as responders;
 ghost use Rattle.ca_packet.specs.Packet.{IsWellFormed};
 
-use crate::work::{bring_up, new_bed};
+use crate::work::{bring_up, new_bed, receive};
 use ca_bed_reach::SmallReach;
 use ca_bed_requester::{Bed, are_here, is_narrow, is_response};
 use ca_bed_responder::Responder;
@@ -24,6 +24,13 @@ fn write(psn: u8) -> [u8; 36] {
     [
         0x0a, 0, 0xff, 0xff, 0, 0, 1, 0, 0x80, 0, 0, psn, 0, 0, 0, 1, 0, 0, 0, 0, 0, 0, 0, 1, 0, 0,
         0, 8, 1, 2, 3, 4, 5, 6, 7, 8,
+    ]
+}
+
+/// A SEND of eight bytes that asks for an acknowledgement, with this PSN.
+fn send_packet(psn: u8) -> [u8; 20] {
+    [
+        0x04, 0, 0xff, 0xff, 0, 0, 1, 0, 0x80, 0, 0, psn, 1, 2, 3, 4, 5, 6, 7, 8,
     ]
 }
 
@@ -103,12 +110,15 @@ fn new_responder(alloc: Global) -> Option<Responder>
     }
 }
 
-// Such a responder takes the WRITE with this PSN.
-fn deliver_anew(alloc: Global, psn: u8, marks: &mut Marks) -> bool {
-    let Some(mut responder) = new_responder(alloc) else {
+// Such a responder, with a receive, takes a request of these bytes.
+fn deliver_anew(alloc: Global, bytes: &[u8], marks: &mut Marks) -> bool {
+    let (Some(mut responder), Some(posted)) = (new_responder(alloc), receive()) else {
         return false;
     };
-    match decode(write(psn).as_slice()) {
+    if !responder.receive(posted) {
+        return false;
+    }
+    match decode(bytes) {
         Ok(p) => deliver(&mut responder.bed, &p, marks),
         Err(_) => false,
     }
@@ -133,23 +143,35 @@ pub fn answers(alloc: Global, count: u8) -> Option<usize> {
         return None;
     }
     for _ in 0..count {
-        if !deliver_anew(alloc, 1, &mut marks) || !respond_anew(alloc, &mut marks, &mut out) {
+        if !deliver_anew(alloc, write(1).as_slice(), &mut marks)
+            || !respond_anew(alloc, &mut marks, &mut out)
+        {
             return None;
         }
     }
     Some(marks.as_slice().len())
 }
 
-/// Takes the WRITE once more, so many times; how many marks that made. Each queue pair has answered before.
-pub fn duplicates(alloc: Global, count: u8) -> Option<usize> {
+// Takes a request of these bytes, so many times; how many marks that made. Each queue pair has answered before.
+fn repeats(alloc: Global, bytes: &[u8], count: u8) -> Option<usize> {
     let mut marks = Marks::empty(alloc);
     if marks.reserve(2048).is_err() {
         return None;
     }
     for _ in 0..count {
-        if !deliver_anew(alloc, 0, &mut marks) {
+        if !deliver_anew(alloc, bytes, &mut marks) {
             return None;
         }
     }
     Some(marks.as_slice().len())
+}
+
+/// Takes the WRITE once more, so many times; how many marks that made.
+pub fn duplicates(alloc: Global, count: u8) -> Option<usize> {
+    repeats(alloc, write(0).as_slice(), count)
+}
+
+/// Takes a SEND, so many times; how many marks that made.
+pub fn sends(alloc: Global, count: u8) -> Option<usize> {
+    repeats(alloc, send_packet(1).as_slice(), count)
 }

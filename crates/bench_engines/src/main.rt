@@ -1,4 +1,4 @@
-//! How long the engines take: WRITEs of eight bytes and their acknowledgements, as often as its words say.
+//! How long the engines take: requests of eight bytes and their answers, as often as its words say.
 //!
 //! It promises nothing; `bench/engines` counts the instructions of the functions that it calls.
 #![tactic(auto)]

@@ -9,7 +9,7 @@ ghost use Rattle.ca_bed_requester.specs.Bed as beds;
 ghost use Rattle.ca_packet.specs.Packet.{IsWellFormed};
 ghost use Rattle.std.specs.Prelude.{◌≡◌, true};
 
-use crate::work::{bring_up, new_bed, write};
+use crate::work::{Asked, bring_up, new_bed, request};
 use ca_bed_reach::SmallReach;
 use ca_bed_requester::{Bed, are_here, is_narrow, is_response};
 use ca_model::Marks;
@@ -82,39 +82,80 @@ fn acknowledgement(psn: u8) -> [u8; 16] {
     [0x11, 0, 0xff, 0xff, 0, 0, 1, 0, 0, 0, 0, psn, 0x1f, 0, 0, 1]
 }
 
-// Takes the acknowledgement of a PSN.
-fn answer(bed: &mut Bed, psn: u8, marks: &mut Marks) -> bool
+/// The answer to a READ of eight bytes, with this PSN.
+fn read_answer(psn: u8) -> [u8; 24] {
+    [
+        0x10, 0, 0xff, 0xff, 0, 0, 1, 0, 0, 0, 0, psn, 0x1f, 0, 0, 1, 1, 2, 3, 4, 5, 6, 7, 8,
+    ]
+}
+
+/// The answer to an atomic, with this PSN.
+fn atomic_answer(psn: u8) -> [u8; 24] {
+    [
+        0x12, 0, 0xff, 0xff, 0, 0, 1, 0, 0, 0, 0, psn, 0x1f, 0, 0, 1, 1, 2, 3, 4, 5, 6, 7, 8,
+    ]
+}
+
+// Takes a response of these bytes.
+fn answer_by(bed: &mut Bed, bytes: &[u8], marks: &mut Marks) -> bool
     requires { beds.Stands bed.old }
     ensures { beds.Stands bed.new }
 {
-    match decode(acknowledgement(psn).as_slice()) {
+    match decode(bytes) {
         Err(_) => false,
         Ok(p) => deliver(bed, &p, marks),
     }
 }
 
-// Posts requests, sends each and takes its acknowledgement, from a PSN on; how many marks that made. The marks of a turn
-// are let go at its end.
-fn turns(bed: &mut Bed, psn: u8, count: u8, marks: &mut Marks, out: &mut Vec<u8>) -> Option<usize>
+// Takes the answer to the request with this PSN.
+fn answer(bed: &mut Bed, asked: Asked, psn: u8, marks: &mut Marks) -> bool
+    requires { beds.Stands bed.old }
+    ensures { beds.Stands bed.new }
+{
+    match asked {
+        Asked::Write => answer_by(bed, acknowledgement(psn).as_slice(), marks),
+        Asked::Read => answer_by(bed, read_answer(psn).as_slice(), marks),
+        Asked::Atomic => answer_by(bed, atomic_answer(psn).as_slice(), marks),
+    }
+}
+
+// Posts a request, sends it and takes its answer; how many marks that made, which are let go.
+fn turn(bed: &mut Bed, asked: Asked, psn: u8, marks: &mut Marks, out: &mut Vec<u8>) -> Option<usize>
+    requires { beds.Stands bed.old }
+    ensures { beds.Stands bed.new }
+{
+    let posted = request(asked)?;
+    out.clear();
+    if !bed.post(posted) || !send_next(bed, marks, out) || !answer(bed, asked, psn, marks) {
+        return None;
+    }
+    let made = marks.as_slice().len();
+    marks.truncate(0);
+    Some(made)
+}
+
+// Turns of the PSNs from one on and before another; how many marks that made.
+fn turns(
+    bed: &mut Bed,
+    asked: Asked,
+    psn: u8,
+    count: u8,
+    marks: &mut Marks,
+    out: &mut Vec<u8>,
+) -> Option<usize>
     requires { beds.Stands bed.old }
     ensures { beds.Stands bed.new }
 {
     if psn >= count {
         return Some(0);
     }
-    let request = write()?;
-    out.clear();
-    if !bed.post(request) || !send_next(bed, marks, out) || !answer(bed, psn, marks) {
-        return None;
-    }
-    let made = marks.as_slice().len();
-    marks.truncate(0);
-    let more = turns(bed, psn + 1, count, marks, out)?;
+    let made = turn(bed, asked, psn, marks, out)?;
+    let more = turns(bed, asked, psn + 1, count, marks, out)?;
     Some(made.saturating_add(more))
 }
 
 // The turns of a queue pair.
-fn run(alloc: Global, bed: &mut Bed, count: u8) -> Option<usize>
+fn run(alloc: Global, bed: &mut Bed, asked: Asked, count: u8) -> Option<usize>
     requires { beds.Stands bed.old }
 {
     let mut marks = Marks::empty(alloc);
@@ -122,13 +163,13 @@ fn run(alloc: Global, bed: &mut Bed, count: u8) -> Option<usize>
     if !bring_up(bed, 0) || marks.reserve(16).is_err() || out.reserve(4096).is_err() {
         return None;
     }
-    turns(bed, 0, count, &mut marks, &mut out)
+    turns(bed, asked, 0, count, &mut marks, &mut out)
 }
 
-/// Sends a WRITE and takes its acknowledgement, so many times; how many marks that made.
-pub fn requests(alloc: Global, count: u8) -> Option<usize> {
+/// Sends a request and takes its answer, so many times; how many marks that made.
+pub fn requests(alloc: Global, asked: Asked, count: u8) -> Option<usize> {
     match new_bed(alloc) {
         None => None,
-        Some(mut bed) => run(alloc, &mut bed, count),
+        Some(mut bed) => run(alloc, &mut bed, asked, count),
     }
 }

@@ -1,12 +1,12 @@
 ghost use Rattle.std.specs.Prelude.{IfSome};
 ghost use Rattle.ca_bed_requester.specs.Bed as beds;
 
-use crate::answering::{answers, duplicates};
+use crate::answering::{answers, duplicates, sends};
 use crate::requesting::requests;
 use arrayvec::ArrayVec;
 use ca_base::{
-    AdapterConfig, Change, Config, DomainId, Key, Piece, QueueId, Rights, Run, SendOp, SendRequest,
-    Settings, Slot,
+    AdapterConfig, Change, Config, DomainId, Key, Piece, QueueId, RecvRequest, Rights, Run, SendOp,
+    SendRequest, Settings, Slot,
 };
 use ca_bed_reach::SmallReach;
 use ca_bed_requester::Bed;
@@ -98,25 +98,51 @@ pub fn new_bed(alloc: Global) -> Option<Bed>
     ensures { IfSome result beds.Stands }
 {
     let reach = SmallReach::registered(alloc, SLOT, AT, 4096, ALL).ok()?;
-    let queue = QueuePart::create(alloc, QUEUE, DOMAIN, 1, 0, 0, 256, 0, Some(0)).ok()?;
+    let queue = QueuePart::create(alloc, QUEUE, DOMAIN, 1, 0, 0, 256, 1, None).ok()?;
     Some(Bed { queue, reach })
 }
 
-/// A WRITE of the eight bytes.
-pub fn write() -> Option<SendRequest> {
+/// What a request asks for.
+#[derive(Clone, Copy)]
+pub enum Asked {
+    Write,
+    Read,
+    Atomic,
+}
+
+/// What a request of the eight bytes asks for.
+fn operation(asked: Asked) -> Option<SendOp> {
     let mut list = ArrayVec::new();
     list.try_push(PIECE).ok()?;
+    let (address, key) = (0x1_0000_0000, Key(1));
+    Some(match asked {
+        Asked::Write => SendOp::Write { address, key, list },
+        Asked::Read => SendOp::Read { address, key, list },
+        Asked::Atomic => SendOp::FetchAdd {
+            address,
+            key,
+            add: 1,
+            list,
+        },
+    })
+}
+
+/// A request of the eight bytes.
+pub fn request(asked: Asked) -> Option<SendRequest> {
     Some(SendRequest {
         id: 1,
         signalled: true,
         fence: false,
         solicited: false,
-        op: SendOp::Write {
-            address: 0x1_0000_0000,
-            key: Key(1),
-            list,
-        },
+        op: operation(asked)?,
     })
+}
+
+/// A receive of the eight bytes.
+pub fn receive() -> Option<RecvRequest> {
+    let mut list = ArrayVec::new();
+    list.try_push(PIECE).ok()?;
+    Some(RecvRequest { id: 1, list })
 }
 
 pub fn bring_up(bed: &mut Bed, expected: u32) -> bool
@@ -133,16 +159,20 @@ pub fn bring_up(bed: &mut Bed, expected: u32) -> bool
 // Does what the word names, so many times; how many marks that made.
 fn sum_named(alloc: Global, word: &str, count: u8) -> Option<usize> {
     match word {
-        "requests" => requests(alloc, count),
+        "requests" => requests(alloc, Asked::Write, count),
+        "reads" => requests(alloc, Asked::Read, count),
+        "atomics" => requests(alloc, Asked::Atomic, count),
         "answers" => answers(alloc, count),
         "duplicates" => duplicates(alloc, count),
+        "sends" => sends(alloc, count),
         _ => None,
     }
 }
 
 /// Does what the first word names as often as the second says, at most 255 times, and prints how many marks that made.
-/// `requests` sends WRITEs and takes their acknowledgements, `answers` takes a WRITE and sends an acknowledgement, and
-/// `duplicates` takes a WRITE that came before.
+/// `requests` sends WRITEs and takes their acknowledgements, `reads` and `atomics` send these and take their answers,
+/// `answers` takes a WRITE and sends an acknowledgement, `duplicates` takes a WRITE that came before, and `sends` takes a
+/// SEND.
 pub fn start<R: Env + Print + AllocGlobal>(rt: &R) -> ExitCode {
     let Ok(mut args) = env::args(rt) else {
         return ExitCode::from(2);
