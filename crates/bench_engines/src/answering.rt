@@ -11,12 +11,13 @@ ghost use Rattle.ca_packet.specs.Packet.{IsWellFormed};
 
 use crate::work::{bring_up, new_bed};
 use ca_bed_reach::SmallReach;
-use ca_bed_requester::{Bed, are_here, is_narrow, is_response};
+use ca_bed_requester::{Bed, are_here, is_narrow};
 use ca_bed_responder::Responder;
 use ca_model::Marks;
 use ca_qpstate::QueuePart;
 use ca_responder::{next_response, on_request, request_asks, respond_ask};
-use ca_wire::{Packet, decode};
+use ca_rows::{Arrival, arrival_of};
+use ca_wire::Packet;
 use std::alloc::Global;
 
 /// A WRITE of eight bytes that asks for an acknowledgement, with this PSN.
@@ -44,8 +45,9 @@ fn take(q: &mut QueuePart, reach: &mut SmallReach, p: &Packet<'_>, marks: &mut M
 fn deliver(bed: &mut Bed, p: &Packet<'_>, marks: &mut Marks) -> bool
     requires stands { beds.Stands bed.old }
     requires packet { IsWellFormed p.now }
+    requires request { packets.is_response p.now.opcode ≡ false }
 {
-    if is_response(p) || p.ieth.is_some() || !is_narrow(&bed.queue) {
+    if p.ieth.is_some() || !is_narrow(&bed.queue) {
         return false;
     }
     let asks = request_asks(&bed.queue, None, p);
@@ -108,9 +110,9 @@ fn deliver_anew(alloc: Global, psn: u8, marks: &mut Marks) -> bool {
     let Some(mut responder) = new_responder(alloc) else {
         return false;
     };
-    match decode(write(psn).as_slice()) {
-        Ok(p) => deliver(&mut responder.bed, &p, marks),
-        Err(_) => false,
+    match arrival_of(&responder.bed.queue, write(psn).as_slice()) {
+        Ok(Arrival::Request(p, _)) => deliver(&mut responder.bed, &p, marks),
+        _ => false,
     }
 }
 
