@@ -14,9 +14,7 @@ use ca_bed_reach::SmallReach;
 use ca_bed_requester::{Bed, are_here, is_narrow};
 use ca_model::Marks;
 use ca_qpstate::QueuePart;
-use ca_requester::{
-    Found, Turn, next_asks, next_packet, next_turn, on_response, response_asks,
-};
+use ca_requester::{Found, Turn, next_asks, next_packet, next_turn, on_response, response_asks};
 use ca_rows::{Arrival, arrival_of};
 use ca_wire::Packet;
 use std::alloc::Global;
