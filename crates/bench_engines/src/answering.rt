@@ -11,12 +11,13 @@ ghost use Rattle.ca_packet.specs.Packet.{IsWellFormed};
 
 use crate::work::{bring_up, new_bed, receive};
 use ca_bed_reach::SmallReach;
-use ca_bed_requester::{Bed, are_here, is_narrow, is_response};
+use ca_bed_requester::{Bed, are_here, is_narrow};
 use ca_bed_responder::Responder;
 use ca_model::Marks;
 use ca_qpstate::QueuePart;
 use ca_responder::{next_response, on_request, request_asks, respond_ask};
-use ca_wire::{Packet, decode};
+use ca_rows::{Arrival, arrival_of};
+use ca_wire::Packet;
 use std::alloc::Global;
 
 /// A WRITE of eight bytes that asks for an acknowledgement, with this PSN.
@@ -51,8 +52,9 @@ fn take(q: &mut QueuePart, reach: &mut SmallReach, p: &Packet<'_>, marks: &mut M
 fn deliver(bed: &mut Bed, p: &Packet<'_>, marks: &mut Marks) -> bool
     requires stands { beds.Stands bed.old }
     requires packet { IsWellFormed p.now }
+    requires request { packets.is_response p.now.opcode ≡ false }
 {
-    if is_response(p) || p.ieth.is_some() || !is_narrow(&bed.queue) {
+    if p.ieth.is_some() || !is_narrow(&bed.queue) {
         return false;
     }
     let asks = request_asks(&bed.queue, None, p);
@@ -118,9 +120,9 @@ fn deliver_anew(alloc: Global, bytes: &[u8], marks: &mut Marks) -> bool {
     if !responder.receive(posted) {
         return false;
     }
-    match decode(bytes) {
-        Ok(p) => deliver(&mut responder.bed, &p, marks),
-        Err(_) => false,
+    match arrival_of(&responder.bed.queue, bytes) {
+        Ok(Arrival::Request(p, _)) => deliver(&mut responder.bed, &p, marks),
+        _ => false,
     }
 }
 

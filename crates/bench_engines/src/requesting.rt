@@ -2,33 +2,49 @@ ghost use Rattle.ca_grant.specs.Reaching.{AreAtHand};
 ghost use Rattle.ca_model.specs.Packets as packets;
 ghost use Rattle.ca_model.specs.machine.Invariants.{IsQueue};
 ghost use Rattle.ca_model.specs.machine.Responses.{response_row};
-ghost use Rattle.ca_sending.specs.Turn.{turn_row};
+ghost use Rattle.ca_sending.specs.Turn.{IsTurnFound, SendsFound, turn_row};
 ghost use Rattle.ca_model.specs.machine.CanStep.{CanStep};
 ghost use Rattle.ca_bed_reach.specs.SmallReach as small;
 ghost use Rattle.ca_bed_requester.specs.Bed as beds;
 ghost use Rattle.ca_packet.specs.Packet.{IsWellFormed};
-ghost use Rattle.std.specs.Prelude.{◌≡◌, true};
+ghost use Rattle.std.specs.Prelude.{◌≡◌, IfSome, true};
 
 use crate::work::{Asked, bring_up, new_bed, request};
 use ca_bed_reach::SmallReach;
-use ca_bed_requester::{Bed, are_here, is_narrow, is_response};
+use ca_bed_requester::{Bed, are_here, is_narrow};
 use ca_model::Marks;
 use ca_qpstate::QueuePart;
-use ca_requester::{next_asks, next_packet, on_response, response_asks};
-use ca_wire::{Packet, decode};
+use ca_requester::{Found, Turn, next_asks, next_packet, next_turn, on_response, response_asks};
+use ca_rows::{Arrival, arrival_of};
+use ca_wire::Packet;
 use std::alloc::Global;
 
 // The requester sends its next packet.
 #[inline(never)]
-fn send(q: &mut QueuePart, reach: &mut SmallReach, marks: &mut Marks, out: &mut Vec<u8>) -> bool
-    requires step { CanStep q.old }
+fn send(
+    q: &mut QueuePart,
+    found: &Found,
+    reach: &mut SmallReach,
+    marks: &mut Marks,
+    out: &mut Vec<u8>,
+) -> bool
+    requires sends { SendsFound q.old found.now }
     requires parts { small.FitTogether reach.old }
     requires at_hand { AreAtHand small.sight_of small.IsAskHere (λ s ask. Unit {0}) reach.old
         (turn_row q.old true).asks }
     ensures queue { IsQueue q.new }
     ensures parts { small.FitTogether reach.new }
 {
-    next_packet(q, reach, true, marks, out).is_ok()
+    next_packet(q, found, reach, true, marks, out).is_ok()
+}
+
+// What the requester's turn does; None where it waits.
+#[inline(never)]
+fn find(q: &QueuePart) -> Option<Turn>
+    requires { CanStep q.now }
+    ensures { IfSome result (λ turn. IsTurnFound q.now turn) }
+{
+    next_turn(q).ok()
 }
 
 // Sends the next packet; false where that cannot be tried here.
@@ -39,11 +55,14 @@ fn send_next(bed: &mut Bed, marks: &mut Marks, out: &mut Vec<u8>) -> bool
     if !is_narrow(&bed.queue) {
         return false;
     }
-    let asks = next_asks(&bed.queue);
+    let Some(Turn::Sends(found)) = find(&bed.queue) else {
+        return false;
+    };
+    let asks = next_asks(&bed.queue, &found);
     if !are_here(&bed.reach, asks.as_slice()) {
         return false;
     }
-    send(&mut bed.queue, &mut bed.reach, marks, out)
+    send(&mut bed.queue, &found, &mut bed.reach, marks, out)
 }
 
 // The requester takes a response.
@@ -65,9 +84,10 @@ fn take(q: &mut QueuePart, reach: &mut SmallReach, p: &Packet<'_>, marks: &mut M
 fn deliver(bed: &mut Bed, p: &Packet<'_>, marks: &mut Marks) -> bool
     requires stands { beds.Stands bed.old }
     requires packet { IsWellFormed p.now }
+    requires response { packets.is_response p.now.opcode ≡ true }
     ensures { beds.Stands bed.new }
 {
-    if !is_response(p) || !is_narrow(&bed.queue) {
+    if !is_narrow(&bed.queue) {
         return false;
     }
     let asks = response_asks(&bed.queue, p);
@@ -101,9 +121,9 @@ fn answer_by(bed: &mut Bed, bytes: &[u8], marks: &mut Marks) -> bool
     requires { beds.Stands bed.old }
     ensures { beds.Stands bed.new }
 {
-    match decode(bytes) {
-        Err(_) => false,
-        Ok(p) => deliver(bed, &p, marks),
+    match arrival_of(&bed.queue, bytes) {
+        Ok(Arrival::Response(p)) => deliver(bed, &p, marks),
+        _ => false,
     }
 }
 

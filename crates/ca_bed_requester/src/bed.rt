@@ -4,8 +4,7 @@ ghost use Rattle.ca_base.specs.objects.WorkQueue.{next_place};
 ghost use Rattle.ca_model.specs.Packets as packets;
 ghost use Rattle.ca_model.specs.Requests as requests;
 ghost use Rattle.ca_model.specs.machine.Invariants.{IsList, IsQueue};
-ghost use Rattle.ca_model.specs.machine.Requester.{turn_of};
-ghost use Rattle.ca_sending.specs.Turn.{is_performing};
+ghost use Rattle.ca_sending.specs.Turn.{PerformsFound};
 ghost use Rattle.ca_model.specs.machine.CanStep.{AreNarrow, CanStep};
 ghost use Rattle.ca_bed_reach.specs.SmallReach as small;
 ghost use Rattle.ca_bed_requester.specs.Bed as beds;
@@ -20,11 +19,11 @@ use ca_bed_reach::SmallReach;
 use ca_model::Marks;
 use ca_qpstate::QueuePart;
 use ca_requester::{
-    local_done, next_asks, next_local, next_packet, on_response, on_rnr_wake, on_timeout,
-    response_asks,
+    Found, Turn, local_done, next_asks, next_local, next_packet, next_turn, on_response,
+    on_rnr_wake, on_timeout, response_asks,
 };
-use ca_rows::list_of;
-use ca_wire::{Operation, Packet, operation_of};
+use ca_rows::{Arrival, arrival_of, drop_packet, is_local, list_of};
+use ca_wire::Packet;
 
 /// A queue pair, and what it reaches.
 #[derive(Drop)]
@@ -64,16 +63,6 @@ pub fn are_here(reach: &SmallReach, asks: &[Ask]) -> bool
     are_here(reach, rest)
 }
 
-/// Whether a packet is a response.
-pub fn is_response(p: &Packet<'_>) -> bool
-    ensures { result ≡ packets.is_response p.now.opcode }
-{
-    match operation_of(p.opcode) {
-        None | Some(Operation::Request(_)) => false,
-        Some(_) => true,
-    }
-}
-
 /// Whether a list has few pieces, and no more bytes than a message may have.
 pub fn is_short(list: &[Piece]) -> bool
     ensures { IsTrue result → IsList list.now }
@@ -94,17 +83,6 @@ fn holds(list: &[Piece], most: u32) -> bool
     holds(rest, most - piece.length)
 }
 
-// Whether the turn performs a local operation.
-fn is_local_next(q: &QueuePart) -> bool
-    requires { CanStep q.now }
-    ensures { IsTrue result → is_performing (turn_of q.now) ≡ true }
-{
-    match next_local(q) {
-        Ok(Some(_)) => true,
-        _ => false,
-    }
-}
-
 // A timer fires.
 fn fire(q: &mut QueuePart, silent: bool, hasten: bool, marks: &mut Marks) -> Result<(), StepError>
     requires { CanStep q.old }
@@ -114,13 +92,18 @@ fn fire(q: &mut QueuePart, silent: bool, hasten: bool, marks: &mut Marks) -> Res
 }
 
 // The local operation that the turn performs is done.
-fn finish(q: &mut QueuePart, cause: Option<OpRefusal>, marks: &mut Marks) -> Result<(), Memory>
+fn finish(
+    q: &mut QueuePart,
+    found: &Found,
+    cause: Option<OpRefusal>,
+    marks: &mut Marks,
+) -> Result<(), Memory>
     requires step { CanStep q.old }
-    requires performs { is_performing (turn_of q.old) ≡ true }
+    requires performs { PerformsFound q.old found.now }
     ensures { IsQueue q.new }
 {
     marks.reserve(1)?;
-    local_done(q, cause, marks)
+    local_done(q, found, cause, marks)
 }
 
 // Posts a request that can be posted, unless the queue is full.
@@ -163,21 +146,40 @@ impl Bed {
         if !is_narrow(&self.queue) {
             return None;
         }
-        let asks = next_asks(&self.queue);
+        let found = match next_turn(&self.queue) {
+            Err(reason) => return Some(Err(StepError::NotReady(reason))),
+            Ok(Turn::Performs(_)) => return Some(Err(StepError::NotReady(Reason::Empty))),
+            Ok(Turn::Sends(found)) => found,
+        };
+        let asks = next_asks(&self.queue, &found);
         if !are_here(&self.reach, asks.as_slice()) {
             return None;
         }
-        Some(next_packet(&mut self.queue, &mut self.reach, room, marks, out))
+        let (q, reach) = (&mut self.queue, &mut self.reach);
+        Some(next_packet(q, &found, reach, room, marks, out))
     }
 
-    /// Takes a packet, if it is a response; None where that cannot be tried here.
+    /// Takes bytes that arrive, where they are a response or are dropped; None where that cannot be tried here.
     #[inline(never)]
-    pub fn take(&mut self, p: &Packet<'_>, marks: &mut Marks) -> Option<Result<(), Memory>>
-        requires stands { beds.Stands self.old }
-        requires packet { IsWellFormed p.now }
+    pub fn take(&mut self, bytes: &[u8], marks: &mut Marks) -> Option<Result<(), Memory>>
+        requires { beds.Stands self.old }
         ensures { beds.Stands self.new }
     {
-        if !is_narrow(&self.queue) || !is_response(p) {
+        match arrival_of(&self.queue, bytes) {
+            Err(cause) => Some(drop_packet(&self.queue, cause, marks)),
+            Ok(Arrival::Request(_, _)) => None,
+            Ok(Arrival::Response(p)) => self.take_response(&p, marks),
+        }
+    }
+
+    // Takes a response; None where that cannot be tried here.
+    fn take_response(&mut self, p: &Packet<'_>, marks: &mut Marks) -> Option<Result<(), Memory>>
+        requires stands { beds.Stands self.old }
+        requires packet { IsWellFormed p.now }
+        requires response { packets.is_response p.now.opcode ≡ true }
+        ensures { beds.Stands self.new }
+    {
+        if !is_narrow(&self.queue) {
             return None;
         }
         let asks = response_asks(&self.queue, p);
@@ -218,9 +220,13 @@ impl Bed {
         if !is_narrow(&self.queue) {
             return None;
         }
-        match next_local(&self.queue) {
+        match next_turn(&self.queue) {
             Err(reason) => Some(Err(reason)),
-            Ok(operation) => Some(Ok(operation.is_some())),
+            Ok(Turn::Sends(_)) => Some(Ok(false)),
+            Ok(Turn::Performs(found)) => {
+                let (request, _) = next_local(&self.queue, &found);
+                Some(Ok(is_local(&request.op)))
+            }
         }
     }
 
@@ -236,10 +242,10 @@ impl Bed {
         if !is_narrow(&self.queue) {
             return None;
         }
-        if !is_local_next(&self.queue) {
-            return None;
+        match next_turn(&self.queue) {
+            Ok(Turn::Performs(found)) => Some(finish(&mut self.queue, &found, cause, marks)),
+            _ => None,
         }
-        Some(finish(&mut self.queue, cause, marks))
     }
 
     /// Posts a request; false where it is none that can be posted.

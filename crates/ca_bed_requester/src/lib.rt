@@ -7,5 +7,5 @@
 mod bed;
 mod setup;
 
-pub use bed::{Bed, FAR, are_here, is_narrow, is_response, is_short};
+pub use bed::{Bed, FAR, are_here, is_narrow, is_short};
 pub use setup::{Setup, bed_of, reason_text, settings, setup_in};

@@ -1,12 +1,12 @@
 ghost use Rattle.std.specs.Prelude.{◌≡◌, ◌≤◌, ◌<◌, ◌^◌, if◌then◌else◌, suc, IfSome, IsTrue, None, ℕ, Option, false, true, option_copied};
 ghost use Rattle.std.specs.List.{AllByRecursion};
+ghost use Rattle.std.specs.Option.{option_map};
 ghost use Rattle.ca_keys.specs.Numbers.{domain_of};
 ghost use Rattle.ca_keys.specs.Refusals.{first_of};
 ghost use Rattle.ca_keys.specs.Numbers.{is_window_key};
 ghost use Rattle.ca_base.specs.objects.Slices.{slot_of_key};
 ghost use Rattle.ca_model.specs.Packets as packets;
 ghost use Rattle.ca_model.specs.machine.Delivery.{arrival_drops, packet_arrived};
-ghost use Rattle.ca_model.specs.machine.Expected.{invalidation_of};
 ghost use Rattle.ca_model.specs.machine.Invariants.{IsQueue, IsReceive, IsSharedReceives};
 ghost use Rattle.ca_model.specs.machine.Respond.{respond_row};
 ghost use Rattle.ca_operations.specs.Sends.{key_end};
@@ -19,17 +19,18 @@ ghost use Rattle.ca_packet.specs.Packet.{IsWellFormed, Spells};
 
 use ca_base::limits::{MAX_DEPTH, MAX_PAYLOAD_BYTES};
 use ca_base::{
-    Ask, DomainId, Key, Kind, Memory, QueueId, RecvRequest, Rights, Sent, Slot, State, StepError,
+    Ask, DomainId, Key, Kind, Memory, QueueId, RecvRequest, Rights, Sent, Slot, StepError,
     first_address,
 };
 use ca_bed_reach::SmallReach;
-use ca_bed_requester::{Bed, FAR, are_here, is_narrow, is_response, is_short};
+use ca_bed_requester::{Bed, FAR, are_here, is_narrow, is_short};
 use ca_grant::{judge, write_span};
 use ca_model::Marks;
 use ca_qpstate::QueuePart;
-use ca_responder::{next_response, on_request, request_asks, respond_ask};
+use ca_responder::{next_response, on_request, request_asks, request_key, respond_ask};
+use ca_rows::{Arrival, arrival_of};
 use ca_srq::Srq;
-use ca_wire::{DEFAULT_PKEY, Packet, decode};
+use ca_wire::Packet;
 use std::alloc::Global;
 
 /// A queue pair with what it reaches, and with its shared receive queue, where it has one.
@@ -39,14 +40,6 @@ pub struct Responder {
     pub srq: Option<Srq>,
     /// How many receives were posted to the shared receive queue.
     pub posted: u32,
-}
-
-// Whether the adapter hands a packet on, and does not drop it before.
-fn is_taken(q: &QueuePart, p: &Packet<'_>) -> bool
-    ensures { IsTrue result → first_of (arrival_drops q.now p.now) ≡ None }
-{
-    let connected = matches!(q.state, State::Rtr | State::Rts | State::Sqd);
-    p.pkey == DEFAULT_PKEY && p.queue == q.queue.number && connected
 }
 
 // The slot that a key names, at a domain's adapter.
@@ -99,14 +92,14 @@ fn may_end_key(q: &QueuePart, reach: &SmallReach, key: Key) -> bool
 }
 
 // Whether the key that a packet ends, if it ends one, can be tried.
-fn may_end(q: &QueuePart, reach: &SmallReach, p: &Packet<'_>) -> bool
+fn may_end(q: &QueuePart, reach: &SmallReach, key: Option<Key>) -> bool
     requires { small.FitTogether reach.now }
     ensures { IsTrue result
-        → IfSome (invalidation_of q.now p.now) (MayEnd small.sight_of small.IsEndHere reach.now q.now) }
+        → IfSome (option_map (key_end q.now) key) (MayEnd small.sight_of small.IsEndHere reach.now q.now) }
 {
-    match p.ieth {
+    match key {
         None => true,
-        Some(key) => may_end_key(q, reach, Key(key)),
+        Some(key) => may_end_key(q, reach, key),
     }
 }
 
@@ -129,14 +122,14 @@ fn request_in<'a>(
         → CanMeet small.sight_of small.IsAskHere (λ s ask. Unit {0})
         small.IsEndHere reach.now q.now (packet_arrived p envelope (option_copied srq.entry) q.now)) }
 {
-    let Ok(p) = decode(bytes) else {
+    let Ok(Arrival::Request(p, _)) = arrival_of(q, bytes) else {
         return None;
     };
-    if !is_narrow(q) || is_response(&p) || !is_taken(q, &p) {
+    if !is_narrow(q) {
         return None;
     }
     let asks = request_asks(q, srq, &p);
-    if !are_here(reach, asks.as_slice()) || !may_end(q, reach, &p) {
+    if !are_here(reach, asks.as_slice()) || !may_end(q, reach, request_key(q, srq, &p)) {
         return None;
     }
     Some(p)

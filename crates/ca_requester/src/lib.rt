@@ -14,6 +14,6 @@ mod responses;
 mod taking;
 mod timers;
 
-pub use ca_sending::{local_done, next_asks, next_local, next_packet};
+pub use ca_sending::{Found, Turn, local_done, next_asks, next_local, next_packet, next_turn};
 pub use taking::{on_response, response_asks};
 pub use timers::{on_rnr_wake, on_timeout};

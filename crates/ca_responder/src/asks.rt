@@ -115,15 +115,7 @@ fn valid_asks(
 }
 
 /// The key that a packet ends which is valid and has its receive.
-#[tactic(
-    auto,
-    using(
-        crate::proofs::AskingLemmas::key_of_send,
-        crate::proofs::AskingLemmas::key_of_write,
-        crate::proofs::AskingLemmas::key_of_read,
-        crate::proofs::AskingLemmas::key_of_atomic
-    )
-)]
+#[tactic(auto, using(crate::proofs::AskingLemmas::key_of_send, crate::proofs::AskingLemmas::key_of_write, crate::proofs::AskingLemmas::key_of_read, crate::proofs::AskingLemmas::key_of_atomic))]
 fn valid_key(q: &QueuePart, srq: Option<&Srq>, p: &Packet<'_>, shape: Shape) -> Option<Key>
     requires { CanAsk q.now (option_copied srq) p.now }
     ensures { (envelope : Option ℕ) → option_map (key_end q.now) result

@@ -39,7 +39,7 @@ pub same_next : (q : QueuePair) (f : Found) (p : PostedSend) (next : Next) → S
     → record { request = number_at f.place f.first f.count p; begins = f.begins } ≡ next
 same_next q f p next e is =
     let same : p ≡ record { request = next.request.request; drawn = next.request.drawn } =
-        same_Some _ _ (e ∙ ap (λ (g : Found). item_at g.place q.sends) is.found ∙ is.sound.posted) in
+    same_Some _ _ (e ∙ ap (λ (g : Found). item_at g.place q.sends) is.found ∙ is.sound.posted) in
     rw (same, is.found) refl
 
 -- one is posted there

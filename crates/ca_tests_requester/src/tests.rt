@@ -15,7 +15,6 @@ use ca_model::{Event, Mark, Marks, Verb};
 use ca_qpstate::QueuePart;
 use ca_reading_lines::read_line;
 use ca_trace::{Line, print_reply};
-use ca_wire::decode;
 use std::alloc::Global;
 use std::process::Abort;
 
@@ -216,13 +215,8 @@ fn arrive(rt: &impl Abort, alloc: Global, bed: &mut Bed, bytes: &[u8], text: &mu
     ensures { beds.Stands bed.new }
 {
     let mut marks = Marks::empty(alloc);
-    match decode(bytes) {
-        Err(_) => holds(rt, false, "a packet"),
-        Ok(p) => {
-            let done = bed.take(&p, &mut marks);
-            holds(rt, matches!(done, Some(Ok(()))), "a response");
-        }
-    }
+    let done = bed.take(bytes, &mut marks);
+    holds(rt, matches!(done, Some(Ok(()))), "a response");
     put(rt, marks.as_slice(), text);
 }
 

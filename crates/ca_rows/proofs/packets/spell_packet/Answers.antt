@@ -17,11 +17,11 @@ returns-clause-spelt c = on_ok_weaker c.encode.result
 pub returns-clause-size : goal.returns-clause-size
 returns-clause-size c = on_ok_weaker c.encode.result
     (λ h. longer c.encode.new.out.items c.args.out.now.items (spelling c.args.packet.now) (most_spelt (length c.args.packet.now.payload)) h
-        (c.spelling_length.ensures.by_payload c.args.packet.now c.requires))
+    (c.spelling_length.ensures.by_payload c.args.packet.now c.requires))
     c.encode.ensures.ok
 
 pub returns-clause-response : goal.returns-clause-response
 returns-clause-response c = λ none. on_ok_weaker c.encode.result
     (λ h. longer c.encode.new.out.items c.args.out.now.items (spelling c.args.packet.now) (most_of_response (length c.args.packet.now.payload)) h
-        (c.spelling_length.ensures.response c.args.packet.now c.requires none))
+    (c.spelling_length.ensures.response c.args.packet.now c.requires none))
     c.encode.ensures.ok

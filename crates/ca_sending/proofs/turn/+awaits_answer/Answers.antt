@@ -10,4 +10,4 @@ pub returns-in-Some-2 : goal.returns-in-Some-2
 returns-in-Some-2 t c =
     c.awaits_answer.ensures
     ∙ any_behind c.args.q.now c.args.posting (c.args.posting + 1) c.args.first (c.args.first + c.from.result) c.in-Some-2.n
-        (omega arith) (search rules) (search rules) (search rules) (search rules)
+    (omega arith) (search rules) (search rules) (search rules) (search rules)

@@ -11,4 +11,4 @@ pub returns : goal.returns
 returns c = stands_by record { queue = c.next_packet.new.q; reach = c.next_packet.new.reach } (turn_kept c.next_packet.result (sight_of c.args.self.now.reach) c.args.room
     c.args.self.now.queue c.next_packet.new.q c.args.marks.now c.next_packet.new.marks c.args.self.now.reach c.next_packet.new.reach
     c.args.out.now.items c.next_packet.new.out.items
-    (record { queue = c.requires.queue; reach = c.requires.reach }) c.next_packet.ensures)
+    (record { queue = c.requires.queue; reach = c.requires.reach }) c.next_packet.ensures.turn)

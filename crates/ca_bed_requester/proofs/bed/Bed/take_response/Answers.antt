@@ -1,7 +1,7 @@
 use Rattle.std.proofs.Common.{◌∙◌, rules}
 use Rattle.ca_bed_reach.specs.SmallReach.{sight_of}
 use Rattle.ca_bed_requester.proofs.Kept.{at_hand, stands_by, taking_kept}
-use Rattle.ca_bed_requester.proofs.bed.Bed.take.Goals as goal
+use Rattle.ca_bed_requester.proofs.bed.Bed.take_response.Goals as goal
 
 pub on_response-requires-clause-at_hand : goal.on_response-requires-clause-at_hand
 on_response-requires-clause-at_hand c = at_hand c.args.self.now.reach (c.as_slice.ensures.value ∙ c.response_asks-asks.ensures)
