@@ -140,12 +140,17 @@ fn has_the_slots(settings: &Settings) -> bool {
         && !settings.has_domain(other)
 }
 
-// The queue pair in slot 3 of domain 15 has the number 4099.
+/// The queue pair in slot 3 of domain 15.
+const QUEUE: QueueId = QueueId {
+    adapter: 7,
+    number: 4099,
+};
+
 fn has_the_queues(settings: &Settings) -> bool {
-    settings.has_queue(queue(4099))
+    settings.has_queue(QUEUE)
         && !settings.has_queue(queue(4100))
         && !settings.has_queue(queue(3))
-        && slot_of_queue(queue(4099)) == slot(3)
+        && slot_of_queue(QUEUE) == slot(3)
 }
 
 // The index of the region in slot 7 of domain 15 is 0x0f0007, and that of the window is 0x0f8007.
