@@ -1,4 +1,4 @@
-ghost use Rattle.std.specs.Prelude.{◌≡◌, ◌≤◌, [], IfOk, Some, length, slice_get, true};
+ghost use Rattle.std.specs.Prelude.{◌≡◌, ◌+◌, ◌≤◌, [], IfOk, None, OnOk, Some, length, slice_get, true};
 ghost use Rattle.ca_base.specs.Sight.{bytes_in};
 ghost use Rattle.ca_base.specs.declared.limits.TheConstants.{MAX_PAYLOAD_BYTES};
 ghost use Rattle.ca_grant.specs.Reaching.{AreAtHand};
@@ -6,9 +6,11 @@ ghost use Rattle.ca_model.specs.machine.Invariants.{IsQueue};
 ghost use Rattle.ca_model.specs.machine.Respond as rows;
 ghost use Rattle.ca_model.specs.machine.Row.{ending_of, queue_and_marks};
 ghost use Rattle.ca_answering.specs.Sending.{CanRead, CanRespond, IsOnePacket, IsSent, one_ask, packet_turn, read_refusal};
+ghost use Rattle.ca_rows.specs.Asks.{touched_by};
 ghost use Rattle.ca_rows.specs.Made.{IsTurn};
 ghost use Rattle.ca_model.specs.machine.CanStep.{CanStep};
-ghost use Rattle.ca_packet.specs.Packet.{IsWellFormed};
+ghost use Rattle.ca_packet.specs.Packet.{IsWellFormed, most_of_response};
+ghost use Rattle.ca_packet.specs.Table.{shape_of};
 
 use crate::answer::next_answer;
 use crate::flush::{FlushedReceives, push_flush};
@@ -73,10 +75,10 @@ fn read_ask(q: &QueuePart, r: &ReadLeft) -> Option<Ask>
     Some(response_ask(q, r))
 }
 
-/// Sends the answer that waits at the front, spelt into `out` in at most 4128 bytes, and reserves room for two more
-/// marks. A READ is judged for all bytes that are left of it, at each of its responses; a denied one sends a NAK, and
-/// moves the queue pair to Error. `room` says that the peer's mailbox has room for a packet. The reasons are `State`,
-/// `Empty` and `NoRoom`, in this order.
+/// Sends the answer that waits at the front, spelt into `out` in at most 4128 bytes, and in no more than 24, or 19 and
+/// those that its ask touches. After Ok there is room for two more marks. A READ is judged for all bytes that are left
+/// of it, at each of its responses; a denied one sends a NAK, and moves the queue pair to Error. `room` says that the
+/// peer's mailbox has room for a packet. The reasons are `State`, `Empty` and `NoRoom`, in this order.
 pub fn next_response<R: Reach>(
     q: &mut QueuePart,
     reach: &mut R,
@@ -86,8 +88,10 @@ pub fn next_response<R: Reach>(
 ) -> Result<Sent, StepError>
     requires step { CanStep q.old }
     requires at_hand { AreAtHand R.sight R.judges R.touches reach.old (rows.respond_row room q.old).asks }
-    ensures { IsTurn R.written result (ending_of (R.sight reach.old) (rows.respond_row room q.old))
+    ensures turn { IsTurn R.written result (ending_of (R.sight reach.old) (rows.respond_row room q.old))
         q.old q.new marks.old marks.new reach.old reach.new out.old.items out.new.items }
+    ensures size { OnOk result (length out.new.items
+        ≤ length out.old.items + most_of_response (touched_by (rows.respond_row room q.old).asks)) }
 {
     match next_answer(q, room) {
         Ok(answer) => send_answer(q, reach, answer, marks, out),
@@ -106,8 +110,10 @@ fn send_answer<R: Reach>(
     requires step { CanStep q.old }
     requires front { slice_get q.old.responder.answers 0 ≡ Some answer }
     requires at_hand { AreAtHand R.sight R.judges R.touches reach.old (rows.answer_turn q.old answer).asks }
-    ensures { IsTurn R.written result (ending_of (R.sight reach.old) (rows.answer_turn q.old answer))
+    ensures turn { IsTurn R.written result (ending_of (R.sight reach.old) (rows.answer_turn q.old answer))
         q.old q.new marks.old marks.new reach.old reach.new out.old.items out.new.items }
+    ensures size { OnOk result (length out.new.items
+        ≤ length out.old.items + most_of_response (touched_by (rows.answer_turn q.old answer).asks)) }
 {
     match answer {
         Queued::Read {
@@ -147,6 +153,8 @@ fn packet_of<'a>(q: &QueuePart, answer: Queued) -> Packet<'a>
     requires one { IsOnePacket answer }
     ensures turn { rows.answer_turn q.now answer ≡ packet_turn q.now result }
     ensures formed { IsWellFormed result }
+    ensures response { shape_of result.opcode ≡ None }
+    ensures empty { length result.payload ≡ 0 }
 {
     let (peer, msn) = (peer_number(q), q.responder.msn);
     match answer {
@@ -175,9 +183,12 @@ fn send_front(
     marks: &mut Marks,
     out: &mut Vec<u8>,
 ) -> Result<(), Memory>
-    requires { IsWellFormed packet.now }
-    ensures { IsSent result (rows.with_packet packet.now (queue_and_marks (rows.without_front q.old) []))
+    requires formed { IsWellFormed packet.now }
+    requires response { shape_of packet.now.opcode ≡ None }
+    ensures sent { IsSent result (rows.with_packet packet.now (queue_and_marks (rows.without_front q.old) []))
         q.old q.new marks.old marks.new out.old.items out.new.items }
+    ensures size { OnOk result
+        (length out.new.items ≤ length out.old.items + most_of_response (length packet.now.payload)) }
 {
     marks.reserve(SPARE_MARKS)?;
     spell_packet(packet, out)?;
@@ -195,8 +206,10 @@ fn send_read<R: Reach>(
 ) -> Result<Sent, StepError>
     requires can { CanRespond q.old r.now }
     requires at_hand { AreAtHand R.sight R.judges R.touches reach.old (rows.read_row q.old r.now).asks }
-    ensures { IsTurn R.written result (ending_of (R.sight reach.old) (rows.read_row q.old r.now))
+    ensures turn { IsTurn R.written result (ending_of (R.sight reach.old) (rows.read_row q.old r.now))
         q.old q.new marks.old marks.new reach.old reach.new out.old.items out.new.items }
+    ensures size { OnOk result (length out.new.items
+        ≤ length out.old.items + most_of_response (touched_by (rows.read_row q.old r.now).asks)) }
 {
     if r.left == 0 {
         send_bytes(q, r, Bytes::empty(q.alloc()), marks, out)?;
@@ -235,8 +248,9 @@ fn send_bytes(
 ) -> Result<(), Memory>
     requires can { CanRespond q.old r.now }
     requires payload { length bytes ≤ MAX_PAYLOAD_BYTES }
-    ensures { IsSent result (rows.read_answer q.old r.now bytes) q.old q.new marks.old marks.new out.old.items
+    ensures sent { IsSent result (rows.read_answer q.old r.now bytes) q.old q.new marks.old marks.new out.old.items
         out.new.items }
+    ensures size { OnOk result (length out.new.items ≤ length out.old.items + most_of_response (length bytes)) }
 {
     let ask = response_ask(q, r);
     let segment = response_segment(r.first, is_last_response(q, r));
@@ -273,8 +287,9 @@ fn refuse_read(
     out: &mut Vec<u8>,
 ) -> Result<(), Memory>
     requires { CanStep q.old }
-    ensures { IsSent result (read_refusal q.old r.now denial) q.old q.new marks.old marks.new out.old.items
+    ensures sent { IsSent result (read_refusal q.old r.now denial) q.old q.new marks.old marks.new out.old.items
         out.new.items }
+    ensures size { OnOk result (length out.new.items ≤ length out.old.items + most_of_response 0) }
 {
     let ask = response_ask(q, r);
     let mut made = Vec::new(q.alloc());

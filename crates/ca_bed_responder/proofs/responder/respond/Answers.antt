@@ -7,4 +7,4 @@ returns c =
     let bed = c.args.bed.now in
     stands_by (record { queue = c.next_response.new.q; reach = c.next_response.new.reach })
     (respond_kept c.next_response.result (sight_of bed.reach) c.args.room bed.queue c.next_response.new.q c.args.marks.now c.next_response.new.marks
-    bed.reach c.next_response.new.reach c.args.out.now.items c.next_response.new.out.items c.requires.queue c.requires.reach c.next_response.ensures)
+    bed.reach c.next_response.new.reach c.args.out.now.items c.next_response.new.out.items c.requires.queue c.requires.reach c.next_response.ensures.turn)
