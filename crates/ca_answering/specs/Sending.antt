@@ -5,7 +5,7 @@ use Rattle.ca_keys.specs.declared.access.Denial.{Denial}
 use Rattle.ca_keys.specs.declared.access.Kind.TheVariants as kinds
 use Rattle.ca_keys.specs.declared.memory.Memory.{Memory}
 use Rattle.ca_keys.specs.declared.verdict.Verdict.TheVariants as verdicts
-use Rattle.ca_base.specs.Sight.{Sight}
+use Rattle.ca_base.specs.Sight.{Sight, bytes_in, denial_in}
 use Rattle.ca_base.specs.declared.queue_numbers.Queued.{Queued}
 use Rattle.ca_base.specs.declared.queue_numbers.Queued.TheVariants as queued
 use Rattle.ca_base.specs.objects.QueuePair.{QueuePair, in_error, without_answers}
@@ -20,7 +20,7 @@ use Rattle.ca_model.specs.machine.CanStep.{CanStep}
 use Rattle.ca_model.specs.machine.Requester.{peer_number, psn_bits}
 use Rattle.ca_model.specs.machine.Respond.{response_ask, with_packet, without_front}
 use Rattle.ca_model.specs.machine.Row.{Effects, Row, Does, plain_row, queue_and_marks}
-use Rattle.ca_rows.specs.Asks.{IsAskOf, IsGranted}
+use Rattle.ca_rows.specs.Asks.{IsAskOf}
 use Rattle.ca_rows.specs.Made.{HasMade, IsSpelt, IsUnchanged}
 
 -- no ask, or this one
@@ -58,9 +58,13 @@ pub record CanRespond (q : QueuePair) (r : ReadLeft) : Type 0 where
   pub some : 0 < length q.responder.answers
   pub psn : r.psn < 2 ^ 63
 
--- the bytes that an ask touches may be read: the parts of its key and its bytes are at hand, and it is not denied
+-- the bytes that an ask touches may be read: the parts of its key are at hand, and its bytes too, where it is not denied
 pub record CanRead {S : Type 0} (sight : S → Sight) (judges touches : S → Ask → Type 0) (reach : S) (ask : Ask) : Type 0 where
   pub keys : judges reach ask
-  pub bytes : touches reach ask
+  pub bytes : denial_in (sight reach) ask ≡ None → touches reach ask
   pub read : IsAskOf kinds.Read ask
-  pub granted : IsGranted (sight reach) ask
+
+-- what an ask reads: the bytes that it touches, or how it is denied
+abbrev pub IsReadBy : Sight → Ask → Result (List ℕ) Denial → Type 0
+IsReadBy s ask (Ok bytes) = (denial_in s ask ≡ None) × ((bytes ≡ bytes_in s ask) × (length bytes ≡ ask.touch))
+IsReadBy s ask (Err denial) = denial_in s ask ≡ Some denial

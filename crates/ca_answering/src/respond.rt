@@ -1,11 +1,10 @@
 ghost use Rattle.std.specs.Prelude.{◌≡◌, ◌+◌, ◌≤◌, [], IfOk, None, OnOk, Some, length, slice_get, true};
-ghost use Rattle.ca_base.specs.Sight.{bytes_in};
 ghost use Rattle.ca_base.specs.declared.limits.TheConstants.{MAX_PAYLOAD_BYTES};
 ghost use Rattle.ca_grant.specs.Reaching.{AreAtHand};
 ghost use Rattle.ca_model.specs.machine.Invariants.{IsQueue};
 ghost use Rattle.ca_model.specs.machine.Respond as rows;
 ghost use Rattle.ca_model.specs.machine.Row.{ending_of, queue_and_marks};
-ghost use Rattle.ca_answering.specs.Sending.{CanRead, CanRespond, IsOnePacket, IsSent, one_ask, packet_turn, read_refusal};
+ghost use Rattle.ca_answering.specs.Sending.{CanRead, CanRespond, IsOnePacket, IsReadBy, IsSent, one_ask, packet_turn, read_refusal};
 ghost use Rattle.ca_rows.specs.Asks.{touched_by};
 ghost use Rattle.ca_rows.specs.Made.{IsTurn};
 ghost use Rattle.ca_model.specs.machine.CanStep.{CanStep};
@@ -216,24 +215,27 @@ fn send_read<R: Reach>(
         return Ok(RESPONSE);
     }
     let ask = response_ask(q, r);
-    if let Some(denial) = reach.check(&ask) {
-        refuse_read(q, r, denial, marks, out)?;
-        return Ok(RESPONSE);
+    match read_one(q, reach, &ask)? {
+        Ok(bytes) => send_bytes(q, r, bytes, marks, out)?,
+        Err(denial) => refuse_read(q, r, denial, marks, out)?,
     }
-    let bytes = read_one(q, reach, &ask)?;
-    send_bytes(q, r, bytes, marks, out)?;
     Ok(RESPONSE)
 }
 
-/// Reads the bytes that an ask touches, which is not denied.
-fn read_one<R: Reach>(q: &QueuePart, reach: &mut R, ask: &Ask) -> Result<Bytes, Memory>
+/// Reads the bytes that an ask touches, or says how it is denied: it is judged as it is read.
+#[inline(always)]
+fn read_one<R: Reach>(
+    q: &QueuePart,
+    reach: &mut R,
+    ask: &Ask,
+) -> Result<Result<Bytes, Denial>, Memory>
     requires { CanRead R.sight R.judges R.touches reach.old ask.now }
-    ensures bytes { IfOk result (λ bytes. bytes ≡ bytes_in (R.sight reach.old) ask.now) }
-    ensures count { IfOk result (λ bytes. length bytes ≡ ask.now.touch) }
+    ensures read { IfOk result (IsReadBy (R.sight reach.old) ask.now) }
     ensures same { reach.new ≡ reach.old }
 {
     match reach.read(q.alloc(), ask)? {
-        Verdict::Read(bytes) => Ok(bytes),
+        Verdict::Read(bytes) => Ok(Ok(bytes)),
+        Verdict::Denied(denial) => Ok(Err(denial)),
         _ => unreachable!(),
     }
 }

@@ -5,7 +5,7 @@ ghost use Rattle.ca_keys.specs.Numbers.{is_window_key};
 ghost use Rattle.ca_grant.specs.Reaching.{IsPacketAsk, AreAtHand, invalidation_by};
 ghost use Rattle.ca_bed_reach.specs.Turn as turns;
 
-use ca_base::{Ask, Bytes, Denial, Key, Kind, Memory, OpRefusal, QueueId, Verdict, WindowCount};
+use ca_base::{Ask, Denial, Key, Kind, Memory, OpRefusal, QueueId, Verdict, WindowCount};
 use ca_grant::Reach;
 use std::alloc::Global;
 
@@ -27,8 +27,8 @@ fn first_denial<R: Reach>(reach: &R, asks: &[Ask]) -> Option<Denial>
         return None;
     };
     match reach.check(ask) {
-        Some(denial) => Some(denial),
-        None => first_denial(reach, rest),
+        Err(denial) => Some(denial),
+        Ok(_) => first_denial(reach, rest),
     }
 }
 
@@ -91,12 +91,13 @@ pub fn turn<R: Reach>(
     if let Some(denial) = first_denial(reach, reads) {
         return Ok(Outcome::Denied(denial));
     }
-    if let Some(denial) = reach.check(write) {
-        return Ok(Outcome::Denied(denial));
-    }
+    let found = match reach.check(write) {
+        Ok(found) => found,
+        Err(denial) => return Ok(Outcome::Denied(denial)),
+    };
     let mut payload = Vec::new(alloc);
     read_all(alloc, reach, reads, &mut payload)?;
-    let _ = reach.write(write, Bytes::from(payload));
+    reach.write_at(write, &found, payload.as_slice());
     Ok(match reach.invalidate(key, queue, windows) {
         Err(refusal) => Outcome::Refused(refusal),
         Ok(()) => Outcome::Done,

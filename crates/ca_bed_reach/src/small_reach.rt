@@ -7,7 +7,7 @@ ghost use Rattle.ca_memory.specs.Buffer.{memory_of};
 ghost use Rattle.ca_memory.specs.Number.{number_after};
 
 use ca_base::{
-    Ask, AtomicOp, Bytes, Denial, Key, Memory, OpRefusal, QueueId, RegionError, Rights, Run, Slot,
+    Ask, AtomicOp, Denial, Key, Memory, OpRefusal, QueueId, RegionError, Rights, Run, Slot,
     Span, Verdict, WindowCount,
 };
 use ca_grant::{Reach, bytes_of_span, judge, write_span};
@@ -27,12 +27,9 @@ pub struct SmallReach {
 }
 
 impl SmallReach {
-    ghost use Rattle.ca_keys.specs.Memory.{places_count};
-    ghost use Rattle.ca_base.specs.Sight.{denial_in, runs_in};
+    ghost use Rattle.ca_base.specs.Sight.{denial_in};
     ghost use Rattle.ca_base.specs.objects.Window.{count_without};
-    ghost use Rattle.ca_grant.specs.Access.{FitInBytes};
-    ghost use Rattle.ca_grant.specs.Reaching.{IsPacketAsk, invalidation_by};
-    ghost use Rattle.ca_region.specs.Span.{runs_of_span};
+    ghost use Rattle.ca_grant.specs.Reaching.{IsFound, IsPacketAsk, invalidation_by};
     ghost use Rattle.ca_bed_reach.specs.SmallReach as small;
 
     /// A region that is registered over a run of a buffer of so many bytes, beside a vacant window.
@@ -67,35 +64,12 @@ impl SmallReach {
         requires here { small.IsAskHere self.now ask.now }
         requires packet { IsPacketAsk ask.now }
         ensures denied { IfErr result (λ d. denial_in (small.sight_of self.now) ask.now ≡ Some d) }
-        ensures allowed { OnOk result (denial_in (small.sight_of self.now) ask.now ≡ None) }
-        ensures places { IfOk result (λ span. runs_of_span span ≡ runs_in (small.sight_of self.now) ask.now) }
-        ensures count { IfOk result (λ span. places_count (runs_of_span span) ≡ ask.now.touch) }
-        ensures whole { IfOk result (λ span. ask.now.address % ATOMIC_BYTES ≡ 0 → ask.now.touch ≤ ATOMIC_BYTES
-            → span.second ≡ None) }
+        ensures found { IfOk result (IsFound (small.sight_of self.now) ask.now) }
     {
         if ask.key.names_window() {
             judge(Some(&self.window), Some(&self.region), ask)
         } else {
             judge(None, Some(&self.region), ask)
-        }
-    }
-
-    // Where the bytes lie that an ask touches.
-    #[inline(always)]
-    fn find(&self, ask: &Ask) -> Result<Span, Denial>
-        requires here { small.IsAskHere self.now ask.now }
-        requires packet { IsPacketAsk ask.now }
-        ensures denied { IfErr result (λ d. denial_in (small.sight_of self.now) ask.now ≡ Some d) }
-        ensures allowed { OnOk result (denial_in (small.sight_of self.now) ask.now ≡ None) }
-        ensures places { IfOk result (λ span. runs_of_span span ≡ runs_in (small.sight_of self.now) ask.now) }
-        ensures count { IfOk result (λ span. places_count (runs_of_span span) ≡ ask.now.touch) }
-        ensures fits { IfOk result (λ span. FitInBytes (length self.now.buffer) (runs_of_span span)) }
-        ensures whole { IfOk result (λ span. ask.now.address % ATOMIC_BYTES ≡ 0 → ask.now.touch ≤ ATOMIC_BYTES
-            → span.second ≡ None) }
-    {
-        match self.judge_by_key(ask) {
-            Ok(span) => Ok(span),
-            Err(denial) => Err(denial),
         }
     }
 
@@ -142,38 +116,29 @@ impl Reach for SmallReach {
 
     ghost writes_memory = { λ s ask bytes here touches allowed count. small_write s ask bytes here count };
 
-    fn check(&self, ask: &Ask) -> Option<Denial> {
-        self.find(ask).err()
+    fn check(&self, ask: &Ask) -> Result<Span, Denial> {
+        self.judge_by_key(ask)
     }
 
     #[inline(always)]
     fn read(&mut self, alloc: Global, ask: &Ask) -> Result<Verdict, Memory> {
-        let span = match self.find(ask) {
-            Ok(span) => span,
+        let found = match self.judge_by_key(ask) {
+            Ok(found) => found,
             Err(denial) => return Ok(Verdict::Denied(denial)),
         };
-        let bytes = bytes_of_span(alloc, &self.buffer, &span)?;
+        let bytes = bytes_of_span(alloc, &self.buffer, &found)?;
         Ok(Verdict::Read(bytes))
     }
 
-    fn write(&mut self, ask: &Ask, bytes: Bytes) -> Verdict {
-        let span = match self.find(ask) {
-            Ok(span) => span,
-            Err(denial) => return Verdict::Denied(denial),
-        };
-        write_span(&mut self.buffer, &span, bytes.as_slice());
-        Verdict::Wrote(bytes)
+    fn write_at(&mut self, ask: &Ask, found: &Span, bytes: &[u8]) {
+        write_span(&mut self.buffer, found, bytes);
     }
 
-    fn atomic(&mut self, ask: &Ask, op: AtomicOp) -> Verdict {
-        let span = match self.find(ask) {
-            Ok(span) => span,
-            Err(denial) => return Verdict::Denied(denial),
-        };
-        let found = swap_at(&mut self.buffer, &span.first, op);
+    fn atomic_at(&mut self, ask: &Ask, found: &Span, op: AtomicOp) -> Verdict {
+        let number = swap_at(&mut self.buffer, &found.first, op);
         Verdict::Swapped {
-            found,
-            put: number_put(op, found),
+            found: number,
+            put: number_put(op, number),
         }
     }
 

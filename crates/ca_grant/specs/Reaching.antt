@@ -1,5 +1,5 @@
--- What an engine reaches: which asks may be handed on, and what an access, a write and the end of a key make of what is
--- seen. Contracts cite it.
+-- What an engine reaches: which asks may be handed on, what was found of an ask, and what an access, a write and the end of
+-- a key make of what is seen. Contracts cite it.
 use Rattle.std.specs.Prelude.{◌≡◌, ℕ, ◌-◌, ◌%◌, ◌≤◌, ◌==◌, ◌&&◌, Bool, if◌then◌else◌, List, Option, None}
 use Rattle.std.specs.List.{AllByRecursion}
 use Rattle.ca_keys.specs.declared.access.Ask.{Ask}
@@ -9,14 +9,16 @@ use Rattle.ca_keys.specs.declared.access.Kind.{Kind}
 use Rattle.ca_keys.specs.declared.access.Kind.TheVariants as kinds
 use Rattle.ca_keys.specs.declared.grant.Grant.{Grant}
 use Rattle.ca_keys.specs.declared.key.Key.{Key}
+use Rattle.ca_keys.specs.declared.place.Span.{Span}
 use Rattle.ca_base.specs.declared.limits.TheConstants.{ATOMIC_BYTES, MAX_PAYLOAD_BYTES}
 use Rattle.ca_keys.specs.declared.names.QueueId.{QueueId}
 use Rattle.ca_base.specs.declared.queue_numbers.WindowCount.{WindowCount}
 use Rattle.ca_keys.specs.Equal.{key_eq}
-use Rattle.ca_keys.specs.Memory.{memory_after}
+use Rattle.ca_keys.specs.Memory.{memory_after, places_count}
 use Rattle.ca_keys.specs.Numbers.{domain_of}
-use Rattle.ca_base.specs.Sight.{Sight, Invalidation, IsTouching, first_denied, runs_in}
+use Rattle.ca_base.specs.Sight.{Sight, Invalidation, IsTouching, denial_in, first_denied, runs_in}
 use Rattle.ca_keys.specs.Numbers.{is_window_key}
+use Rattle.ca_region.specs.Span.{runs_of_span}
 
 -- a list of asks that may be handed on: the parts of their keys are at hand, and where none is denied their bytes too
 pub record AreAtHand {S : Type 0} (sight : S → Sight) (judges touches : S → Ask → Type 0) (reach : S) (asks : List Ask) : Type 0 where
@@ -38,6 +40,14 @@ pub record IsAtomicAsk (ask : Ask) (op : AtomicOp) : Type 0 where
   pub length : ask.length ≡ ATOMIC_BYTES
   pub touch : ask.touch ≡ ATOMIC_BYTES
   pub aligned : ask.address % ATOMIC_BYTES ≡ 0
+
+-- this was found of an ask: it is allowed, and these are the places of the bytes that it touches, as many as it touches;
+-- a number at an address that is a multiple of eight lies in one run
+pub record IsFound (sight : Sight) (ask : Ask) (span : Span) : Type 0 where
+  pub allowed : denial_in sight ask ≡ None
+  pub places : runs_of_span span ≡ runs_in sight ask
+  pub count : places_count (runs_of_span span) ≡ ask.touch
+  pub whole : ask.address % ATOMIC_BYTES ≡ 0 → ask.touch ≤ ATOMIC_BYTES → span.second ≡ None
 
 -- a queue pair of the key's domain wants to end it
 abbrev pub invalidation_by : Key → QueueId → Invalidation

@@ -5,18 +5,19 @@ ghost use Rattle.ca_keys.specs.Memory.{little_endian, little_endian_bytes};
 ghost use Rattle.ca_base.specs.Sight.{Sight, Invalidation, denial_in, bytes_in};
 ghost use Rattle.ca_keys.specs.Numbers.{is_window_key};
 ghost use Rattle.ca_base.specs.objects.Window.{count_without};
-ghost use Rattle.ca_grant.specs.Reaching.{IsPacketAsk, IsAtomicAsk, invalidation_by, sight_after_write, grants_without};
+ghost use Rattle.ca_grant.specs.Reaching.{IsPacketAsk, IsAtomicAsk, IsFound, invalidation_by, sight_after_write, grants_without};
 ghost use Rattle.ca_memory.specs.Number.{number_after};
 
 use ca_base::{
-    Ask, AtomicOp, Bytes, Denial, Key, Kind, Memory, OpRefusal, QueueId, Verdict, WindowCount,
+    Ask, AtomicOp, Denial, Key, Kind, Memory, OpRefusal, QueueId, Span, Verdict, WindowCount,
 };
 use std::alloc::Global;
 
 /// What an engine may reach of keys and memory. It hands on asks, and the keys that end; it sees no part.
 ///
-/// An access is denied exactly where the key check denies its ask, with the first part that fails, and it changes
-/// nothing then. `read` alone takes memory.
+/// An access is judged once. `check` judges an ask, with the first part of the key check that fails, and else answers with
+/// what it found: a small value that borrows nothing, by which `write_at` and `atomic_at` act without judging anew, for as
+/// long as no key ends. `read` judges as it reads. What is denied changes nothing. `read` alone takes memory.
 pub trait Reach {
     // what is seen of keys and memory
     ghost sight: { Self → Sight };
@@ -36,11 +37,12 @@ pub trait Reach {
     // what is reached after the key ended
     ghost revoked: { Self → Invalidation → Self };
 
-    /// The first part of the key check that fails. None comes exactly where the ask is not denied.
-    fn check(&self, ask: &Ask) -> Option<Denial>
+    /// Judges an ask: the first part of the key check that fails, or else the places of the bytes that it touches.
+    fn check(&self, ask: &Ask) -> Result<Span, Denial>
         requires at_hand { judges self.now ask.now }
         requires touch { IsPacketAsk ask.now }
-        ensures { result ≡ denial_in (sight self.now) ask.now };
+        ensures denied { IfErr result (λ d. denial_in (sight self.now) ask.now ≡ Some d) }
+        ensures found { IfOk result (IsFound (sight self.now) ask.now) };
 
     /// Reads the bytes that the ask touches.
     fn read(&mut self, alloc: Global, ask: &Ask) -> Result<Verdict, Memory>
@@ -56,35 +58,29 @@ pub trait Reach {
             → length (bytes_in (sight self.old) ask.now) ≡ ask.now.touch }
         ensures same { self.new ≡ self.old };
 
-    /// Writes these bytes, as many as the ask touches, to their places.
-    fn write(&mut self, ask: &Ask, bytes: Bytes) -> Verdict
+    /// Writes these bytes, as many as the ask touches, to the places that were found of it.
+    fn write_at(&mut self, ask: &Ask, found: &Span, bytes: &[u8])
         requires at_hand { judges self.old ask.now }
-        requires bytes_at_hand { denial_in (sight self.old) ask.now ≡ None → touches self.old ask.now }
+        requires bytes_at_hand { touches self.old ask.now }
+        requires found { IsFound (sight self.old) ask.now found.now }
         requires touch { IsPacketAsk ask.now }
         requires kind { ask.now.kind ≡ Kind.Write }
-        requires count { length bytes ≡ ask.now.touch }
-        ensures denied { (d : Denial) → denial_in (sight self.old) ask.now ≡ Some d → result ≡ Verdict.Denied d }
-        ensures same { (d : Denial) → denial_in (sight self.old) ask.now ≡ Some d → self.new ≡ self.old }
-        ensures verdict { denial_in (sight self.old) ask.now ≡ None → result ≡ Verdict.Wrote bytes }
-        ensures wrote { denial_in (sight self.old) ask.now ≡ None → self.new ≡ written self.old ask.now bytes }
+        requires count { length bytes.now ≡ ask.now.touch }
+        ensures wrote { self.new ≡ written self.old ask.now bytes.now }
         ensures hand { (x : Ask) → judges self.old x → judges self.new x }
         ensures bytes_hand { (x : Ask) → touches self.old x → touches self.new x }
         ensures ends_hand { (i : Invalidation) → ends self.old i → ends self.new i }
-        ensures sees { denial_in (sight self.old) ask.now ≡ None
-            → sight self.new ≡ sight_after_write (sight self.old) ask.now bytes };
+        ensures sees { sight self.new ≡ sight_after_write (sight self.old) ask.now bytes.now };
 
-    /// Does an atomic on the eight bytes that the ask is for.
-    fn atomic(&mut self, ask: &Ask, op: AtomicOp) -> Verdict
+    /// Does an atomic on the eight bytes that were found of the ask: the number that they held, and what was put.
+    fn atomic_at(&mut self, ask: &Ask, found: &Span, op: AtomicOp) -> Verdict
         requires at_hand { judges self.old ask.now }
-        requires bytes_at_hand { denial_in (sight self.old) ask.now ≡ None → touches self.old ask.now }
+        requires bytes_at_hand { touches self.old ask.now }
+        requires found { IsFound (sight self.old) ask.now found.now }
         requires eight { IsAtomicAsk ask.now op }
-        ensures denied { (d : Denial) → denial_in (sight self.old) ask.now ≡ Some d → result ≡ Verdict.Denied d }
-        ensures same { (d : Denial) → denial_in (sight self.old) ask.now ≡ Some d → self.new ≡ self.old }
-        ensures verdict { denial_in (sight self.old) ask.now ≡ None →
-            let found = little_endian (bytes_in (sight self.old) ask.now) in
+        ensures verdict { let found = little_endian (bytes_in (sight self.old) ask.now) in
             result ≡ Verdict.Swapped found (number_after op found) }
-        ensures wrote { denial_in (sight self.old) ask.now ≡ None →
-            let found = little_endian (bytes_in (sight self.old) ask.now) in
+        ensures wrote { let found = little_endian (bytes_in (sight self.old) ask.now) in
             self.new ≡ written self.old ask.now (little_endian_bytes (number_after op found)) }
         ensures hand { (x : Ask) → judges self.old x → judges self.new x }
         ensures bytes_hand { (x : Ask) → touches self.old x → touches self.new x }

@@ -2,11 +2,12 @@
 use Rattle.std.specs.Prelude.{◌≡◌, ℕ, ◌<◌, ◌≤◌, ◌==◌, if◌then◌else◌, List, [], ◌∷◌, length, Option, None, Some}
 use Rattle.ca_keys.specs.declared.access.Ask.{Ask}
 use Rattle.ca_keys.specs.declared.access.Kind.TheVariants.{Write}
+use Rattle.ca_keys.specs.declared.place.Span.{Span}
 use Rattle.ca_base.specs.declared.limits.TheConstants.{MAX_PAYLOAD_BYTES}
 use Rattle.ca_base.specs.declared.request.PlacedReceive.{PlacedReceive}
 use Rattle.ca_base.specs.Sight.{Sight, first_denied}
 use Rattle.ca_base.specs.objects.QueuePair.{QueuePair}
-use Rattle.ca_grant.specs.Reaching.{AreAtHand}
+use Rattle.ca_grant.specs.Reaching.{AreAtHand, IsFound}
 use Rattle.ca_packet.specs.Packet.{Fields}
 use Rattle.ca_packet.specs.declared.reth.Reth.{Reth}
 use Rattle.ca_wire.specs.declared.syndrome.NakCode.TheVariants.{InvalidRequest}
@@ -23,6 +24,11 @@ asks_met ask = if ask.length == 0 then [] else ask ∷ []
 -- the ask of a WRITE packet: all bytes that are left, of which it touches its payload
 abbrev pub ask_of_write : QueuePair → WritePacket → Ask
 ask_of_write q w = packet_ask q w.target.key Write w.target.address w.target.left (length w.packet.now.payload)
+
+-- this was found of an access: nothing where it has no bytes
+abbrev pub IsFoundOf : Sight → Ask → Option Span → Type 0
+IsFoundOf s ask None = ask.length ≡ 0
+IsFoundOf s ask (Some span) = (0 < ask.length) × IsFound s ask span
 
 -- asks that are at hand, and none of them is denied
 pub record AreAllowed {S : Type 0} (sight : S → Sight) (judges touches : S → Ask → Type 0) (reach : S) (asks : List Ask) : Type 0 where

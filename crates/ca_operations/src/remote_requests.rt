@@ -1,7 +1,7 @@
 ghost use Rattle.std.specs.Prelude.{◌≡◌, ℕ, IfOk, None, false};
 ghost use Rattle.ca_keys.specs.Memory.{little_endian, little_endian_bytes};
 ghost use Rattle.ca_base.specs.Sight.{bytes_in};
-ghost use Rattle.ca_grant.specs.Reaching.{kind_of};
+ghost use Rattle.ca_grant.specs.Reaching.{IsFound, kind_of};
 ghost use Rattle.ca_base.specs.declared.limits.TheConstants.{ATOMIC_BYTES};
 ghost use Rattle.ca_memory.specs.Number.{number_after};
 ghost use Rattle.ca_packet.specs.Shapes.{IsAtomicKind};
@@ -16,10 +16,10 @@ ghost use Rattle.ca_operations.specs.Access.{read_effects};
 ghost use Rattle.ca_operations.specs.Atomics.{IsAtomicRequest, number_found, number_left};
 
 use crate::request::{Request, SharedReceive};
-use crate::write::{denied_access, deny};
+use crate::write::deny;
 use ca_answering::{packet_ask, pass, refuse_invalid, remote_mark};
 use ca_base::limits::ATOMIC_BYTES;
-use ca_base::{Ask, AtomicOp, Kind, Memory, Queued, Verdict};
+use ca_base::{Ask, AtomicOp, DeniedAsk, Kind, Memory, Queued, Span, Verdict};
 use ca_grant::Reach;
 use ca_model::{Marks, SPARE_MARKS};
 use ca_qpstate::QueuePart;
@@ -83,11 +83,22 @@ pub fn take_atomic<R: Reach>(
         return Ok(SharedReceive::Stays);
     };
     let ask = packet_ask(q, a.key, kind, a.address, ATOMIC_BYTES, ATOMIC_BYTES);
-    if let Some(denied) = denied_access(reach, &ask) {
-        deny(q, &denied, request.envelope, marks)?;
-        return Ok(SharedReceive::Stays);
-    }
-    place_atomic(q, reach, request, &ask, &a, marks)
+    let found = match reach.check(&ask) {
+        Ok(found) => found,
+        Err(denial) => {
+            deny(q, &DeniedAsk { ask, denial }, request.envelope, marks)?;
+            return Ok(SharedReceive::Stays);
+        }
+    };
+    place_atomic(q, reach, request, &AtomicAccess { ask, found, operands: a }, marks)
+}
+
+/// The access of an atomic that is not denied: its ask, the places of its eight bytes, and its operands.
+#[derive(Clone, Copy)]
+pub struct AtomicAccess {
+    pub ask: Ask,
+    pub found: Span,
+    pub operands: AtomicEth,
 }
 
 /// An atomic that is not denied acts. Its answer is queued before, and gets the number that was found, which is saved too.
@@ -95,39 +106,43 @@ fn place_atomic<R: Reach>(
     q: &mut QueuePart,
     reach: &mut R,
     request: &Request<'_>,
-    ask: &Ask,
-    a: &AtomicEth,
+    access: &AtomicAccess,
     marks: &mut Marks,
 ) -> Result<SharedReceive, Memory>
     requires step { CanStep q.old }
-    requires ask { ask.now ≡ arrivals.packet_ask q.old a.now.key ask.now.kind a.now.address ATOMIC_BYTES ATOMIC_BYTES }
-    requires atomic { IsAtomicRequest R.sight R.judges R.touches reach.old ask.now }
+    requires ask { access.now.ask ≡ arrivals.packet_ask q.old access.now.operands.key access.now.ask.kind
+        access.now.operands.address ATOMIC_BYTES ATOMIC_BYTES }
+    requires atomic { IsAtomicRequest R.sight R.judges R.touches reach.old access.now.ask }
+    requires found { IsFound (R.sight reach.old) access.now.ask access.now.found }
     ensures taken { IsTaken R.written R.revoked result (outcome_in (R.sight reach.old)
-        (rows.atomic_row (arrivals.with_flag false q.old) request.now.packet.now request.now.envelope ask.now.kind
-        a.now))
+        (rows.atomic_row (arrivals.with_flag false q.old) request.now.packet.now request.now.envelope
+        access.now.ask.kind access.now.operands))
         q.old q.new marks.old marks.new reach.old reach.new }
 {
     marks.reserve(SPARE_MARKS + 1)?;
     let psn = q.responder.expected;
     q.responder.answers.push(atomic_answer(psn, 0))?;
-    let verdict = act(reach, ask, a);
+    let verdict = act(reach, access);
     let found = number_found(&verdict);
     q.responder.answers.set_last(atomic_answer(psn, found));
     q.saved.keep(psn, found);
     pass(q, 1, true);
-    marks.push(remote_mark(ask, request.envelope, verdict));
+    marks.push(remote_mark(&access.ask, request.envelope, verdict));
     Ok(SharedReceive::Stays)
 }
 
 /// The atomic acts: the eight bytes are found, and what it makes of them is put.
-fn act<R: Reach>(reach: &mut R, ask: &Ask, a: &AtomicEth) -> Verdict
-    requires { IsAtomicRequest R.sight R.judges R.touches reach.old ask.now }
-    ensures verdict { let found = little_endian (bytes_in (R.sight reach.old) ask.now) in
-        result ≡ Verdict.Swapped found (number_left ask.now.kind a.now found) }
-    ensures wrote { reach.new ≡ R.written reach.old ask.now
-        (little_endian_bytes (number_left ask.now.kind a.now (little_endian (bytes_in (R.sight reach.old) ask.now)))) }
+fn act<R: Reach>(reach: &mut R, access: &AtomicAccess) -> Verdict
+    requires atomic { IsAtomicRequest R.sight R.judges R.touches reach.old access.now.ask }
+    requires found { IsFound (R.sight reach.old) access.now.ask access.now.found }
+    ensures verdict { let found = little_endian (bytes_in (R.sight reach.old) access.now.ask) in
+        result ≡ Verdict.Swapped found (number_left access.now.ask.kind access.now.operands found) }
+    ensures wrote { reach.new ≡ R.written reach.old access.now.ask
+        (little_endian_bytes (number_left access.now.ask.kind access.now.operands
+        (little_endian (bytes_in (R.sight reach.old) access.now.ask)))) }
 {
-    reach.atomic(ask, atomic_op(ask.kind, a))
+    let op = atomic_op(access.ask.kind, &access.operands);
+    reach.atomic_at(&access.ask, &access.found, op)
 }
 
 /// What an atomic does.

@@ -9,6 +9,7 @@ ghost use Rattle.ca_model.specs.machine.Arrivals as arrivals;
 ghost use Rattle.ca_model.specs.machine.CanStep.{CanStep};
 ghost use Rattle.ca_model.specs.machine.Completions as completions;
 ghost use Rattle.ca_model.specs.machine.Expected as rows;
+ghost use Rattle.ca_rows.specs.Asks.{MayBeFound};
 ghost use Rattle.ca_rows.specs.Made.{HasMade, IsMade};
 ghost use Rattle.ca_answering.specs.Flush.{CanFlush, left_to_flush};
 ghost use Rattle.ca_answering.specs.Numbers.{CanPass, without_ack_request, without_taken_receive};
@@ -27,7 +28,7 @@ use ca_grant::Reach;
 use ca_model::{Mark, Marks, Receiving, SPARE_MARKS};
 use ca_qpstate::QueuePart;
 use ca_rows::{
-    Received, Writes, cut_writes, first_denied, local_denial, receive_failure, receive_mark,
+    JudgedWrites, Received, cut_writes, judge_all, local_denial, receive_failure, receive_mark,
     reserve_for, write_all,
 };
 use ca_wire::{NakCode, Packet, Position};
@@ -102,16 +103,20 @@ fn receive_send<R: Reach>(
         return fail_receive(q, r, status, code, none, marks);
     }
     let asks = receive_asks(q, p, r.before, list);
-    if let Some(denied) = first_denied(reach, asks.as_slice()) {
-        let mut made = Vec::new(q.alloc());
-        made.push(local_denial(&denied))?;
-        let (status, code) = (WcStatus::LocalProtection, NakCode::RemoteOperationalError);
-        return fail_receive(q, r, status, code, made, marks);
-    }
+    let found = match judge_all(reach, asks.as_slice()) {
+        Ok(found) => found,
+        Err(denied) => {
+            let mut made = Vec::new(q.alloc());
+            made.push(local_denial(&denied))?;
+            let (status, code) = (WcStatus::LocalProtection, NakCode::RemoteOperationalError);
+            return fail_receive(q, r, status, code, made, marks);
+        }
+    };
     let writes = cut_writes(q.alloc(), asks.as_slice(), p.payload)?;
+    let judged = JudgedWrites { writes, found };
     match p.ieth {
-        None => place_send(q, reach, s, writes, marks),
-        Some(key) => place_and_end(q, reach, s, writes, Key(key), marks),
+        None => place_send(q, reach, s, judged, marks),
+        Some(key) => place_and_end(q, reach, s, judged, Key(key), marks),
     }
 }
 
@@ -172,11 +177,12 @@ fn place_send<R: Reach>(
     q: &mut QueuePart,
     reach: &mut R,
     s: SendPacket<'_>,
-    writes: Writes,
+    judged: JudgedWrites,
     marks: &mut Marks,
 ) -> Result<SharedReceive, Memory>
     requires step { CanStep q.old }
-    requires can { CanPlace R.sight R.judges R.touches R.ends reach.old q.old s writes }
+    requires can { CanPlace R.sight R.judges R.touches R.ends reach.old q.old s judged.writes }
+    requires found { MayBeFound (R.sight reach.old) judged.writes judged.found }
     requires no_key { s.packet.now.ieth ≡ None }
     ensures taken { IsTaken R.written R.revoked result (outcome_of_send (R.sight reach.old) q.old s.entry)
         q.old q.new marks.old marks.new reach.old reach.new }
@@ -184,7 +190,7 @@ fn place_send<R: Reach>(
     let shared = taken_shared(q, &s.receiving);
     marks.reserve(SEND_MARKS as u32 + SPARE_MARKS)?;
     queue_ack(q, s.packet)?;
-    write_all(reach, writes, marks);
+    write_all(reach, judged, marks);
     end_send(q, s, marks);
     Ok(shared)
 }
@@ -195,12 +201,13 @@ fn place_and_end<R: Reach>(
     q: &mut QueuePart,
     reach: &mut R,
     s: SendPacket<'_>,
-    writes: Writes,
+    judged: JudgedWrites,
     key: Key,
     marks: &mut Marks,
 ) -> Result<SharedReceive, Memory>
     requires step { CanStep q.old }
-    requires can { CanPlace R.sight R.judges R.touches R.ends reach.old q.old s writes }
+    requires can { CanPlace R.sight R.judges R.touches R.ends reach.old q.old s judged.writes }
+    requires found { MayBeFound (R.sight reach.old) judged.writes judged.found }
     requires key { s.packet.now.ieth ≡ Some key.0 }
     ensures taken { IsTaken R.written R.revoked result (outcome_of_send (R.sight reach.old) q.old s.entry)
         q.old q.new marks.old marks.new reach.old reach.new }
@@ -213,7 +220,7 @@ fn place_and_end<R: Reach>(
     reserve_for(flushed.as_slice(), SEND_MARKS, marks)?;
     let psn = q.responder.expected;
     queue_stand_in(&mut q.responder.answers, psn)?;
-    write_all(reach, writes, marks);
+    write_all(reach, judged, marks);
     if let Err(cause) = end_key(q, reach, key) {
         marks.push(refused_receive(q, r, cause));
         marks.append(flushed);

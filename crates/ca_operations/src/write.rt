@@ -1,4 +1,4 @@
-ghost use Rattle.std.specs.Prelude.{◌≡◌, ◌+◌, ◌<◌, ◌≤◌, ◌==◌, if◌then◌else◌, [], ◌∷◌, false, length};
+ghost use Rattle.std.specs.Prelude.{◌≡◌, ◌+◌, ◌<◌, ◌≤◌, ◌==◌, if◌then◌else◌, [], ◌∷◌, false, length, IfErr, IfOk, None, OnOk, Some};
 ghost use Rattle.ca_base.specs.Sight as sights;
 ghost use Rattle.ca_packet.specs.declared.shape.Shape.{Shape};
 ghost use Rattle.ca_grant.specs.Reaching.{AreAtHand, IsPacketAsk};
@@ -13,18 +13,25 @@ ghost use Rattle.ca_answering.specs.Numbers.{CanPass, without_ack_request};
 ghost use Rattle.ca_operations.specs.Receives.{CanTake};
 ghost use Rattle.ca_operations.specs.Requests.{IsValidRequest};
 ghost use Rattle.ca_operations.specs.Taking.{CanMeet, IsTaken, is_taken, outcome_in};
-ghost use Rattle.ca_operations.specs.Access.{AreAllowed, IsFitting, ask_of_write, asks_met};
+ghost use Rattle.ca_operations.specs.Access.{AreAllowed, IsFitting, IsFoundOf, ask_of_write, asks_met};
 
 use crate::receive::take_own;
 use crate::request::{Request, SharedReceive, shared_receive};
 use crate::target::{write_ask, write_reach};
 use ca_answering::{pass, queue_ack, refuse, refuse_invalid, remote_mark};
-use ca_base::{Ask, Bytes, DeniedAsk, Memory, Message, PlacedReceive, Verdict, WcOp};
+use ca_base::{Ask, Bytes, DeniedAsk, Memory, Message, PlacedReceive, Span, Verdict, WcOp};
 use ca_grant::Reach;
 use ca_model::{Marks, SPARE_MARKS, WriteReach};
 use ca_qpstate::QueuePart;
 use ca_rows::{Received, receive_mark};
 use ca_wire::{NakCode, Packet, Position};
+
+/// An ask that is not denied, with what was found of it; nothing where it has no bytes.
+#[derive(Clone, Copy)]
+pub struct JudgedAsk {
+    pub ask: Ask,
+    pub found: Option<Span>,
+}
 
 /// A WRITE packet, with where it stands in its message and what it reaches, and the index of its envelope for its mark.
 #[derive(Clone, Copy)]
@@ -61,31 +68,36 @@ pub fn take_write<R: Reach>(
         return Ok(SharedReceive::Stays);
     };
     let ask = write_ask(q, p, &target);
-    if let Some(denied) = denied_access(reach, &ask) {
-        deny(q, &denied, request.envelope, marks)?;
-        return Ok(SharedReceive::Stays);
-    }
+    let found = match judge_access(reach, &ask) {
+        Ok(found) => found,
+        Err(denied) => {
+            deny(q, &denied, request.envelope, marks)?;
+            return Ok(SharedReceive::Stays);
+        }
+    };
     let write = WritePacket {
         packet: p,
         envelope: request.envelope,
         position,
         target,
     };
-    place_write(q, reach, &write, &ask, next, marks)
+    place_write(q, reach, &write, &JudgedAsk { ask, found }, next, marks)
 }
 
-/// Whether an access is denied: one of no bytes meets no key.
-pub fn denied_access<R: Reach>(reach: &R, ask: &Ask) -> Option<DeniedAsk>
+/// Judges an access: what was found of it, or that it is denied. One of no bytes meets no key, and has nothing found.
+pub fn judge_access<R: Reach>(reach: &R, ask: &Ask) -> Result<Option<Span>, DeniedAsk>
     requires at_hand { AreAtHand R.sight R.judges R.touches reach.now (asks_met ask.now) }
     requires touch { 0 < ask.now.length → IsPacketAsk ask.now }
-    ensures { result ≡ sights.first_denied (R.sight reach.now) (asks_met ask.now) }
+    ensures denied { IfErr result (λ d. sights.first_denied (R.sight reach.now) (asks_met ask.now) ≡ Some d) }
+    ensures allowed { OnOk result (sights.first_denied (R.sight reach.now) (asks_met ask.now) ≡ None) }
+    ensures found { IfOk result (IsFoundOf (R.sight reach.now) ask.now) }
 {
     if ask.length == 0 {
-        return None;
+        return Ok(None);
     }
     match reach.check(ask) {
-        Some(denial) => Some(DeniedAsk { ask: *ask, denial }),
-        None => None,
+        Ok(found) => Ok(Some(found)),
+        Err(denial) => Err(DeniedAsk { ask: *ask, denial }),
     }
 }
 
@@ -114,14 +126,15 @@ fn place_write<R: Reach>(
     q: &mut QueuePart,
     reach: &mut R,
     w: &WritePacket<'_>,
-    ask: &Ask,
+    judged: &JudgedAsk,
     next: &Option<PlacedReceive>,
     marks: &mut Marks,
 ) -> Result<SharedReceive, Memory>
     requires step { CanStep q.old }
     requires fits { IsFitting q.old w.now next.now }
-    requires ask { ask.now ≡ ask_of_write q.old w.now }
-    requires allowed { AreAllowed R.sight R.judges R.touches reach.old (asks_met ask.now) }
+    requires ask { judged.now.ask ≡ ask_of_write q.old w.now }
+    requires allowed { AreAllowed R.sight R.judges R.touches reach.old (asks_met judged.now.ask) }
+    requires found { IsFoundOf (R.sight reach.old) judged.now.ask judged.now.found }
     ensures taken { IsTaken R.written R.revoked result (outcome_in (R.sight reach.old)
         (rows.write_row (arrivals.with_flag false q.old) w.now.packet.now w.now.envelope w.now.position next.now
         w.now.target))
@@ -131,23 +144,22 @@ fn place_write<R: Reach>(
     let bytes = Bytes::copy_of(q.alloc(), p.payload)?;
     marks.reserve(SPARE_MARKS + 2)?;
     queue_ack(q, p)?;
-    let verdict = write_bytes(reach, ask, bytes);
-    marks.push(remote_mark(ask, w.envelope, verdict));
+    write_bytes(reach, judged, bytes.as_slice());
+    marks.push(remote_mark(&judged.ask, w.envelope, Verdict::Wrote(bytes)));
     Ok(end_write(q, w, next, marks))
 }
 
 /// Writes bytes by an ask that is not denied. No bytes meet no key.
-fn write_bytes<R: Reach>(reach: &mut R, ask: &Ask, bytes: Bytes) -> Verdict
-    requires write { 0 < ask.now.length → IsWrite (ask.now, bytes) }
-    requires allowed { AreAllowed R.sight R.judges R.touches reach.old (asks_met ask.now) }
-    ensures verdict { result ≡ Verdict.Wrote bytes }
+fn write_bytes<R: Reach>(reach: &mut R, judged: &JudgedAsk, bytes: &[u8])
+    requires write { 0 < judged.now.ask.length → IsWrite (judged.now.ask, bytes.now) }
+    requires allowed { AreAllowed R.sight R.judges R.touches reach.old (asks_met judged.now.ask) }
+    requires found { IsFoundOf (R.sight reach.old) judged.now.ask judged.now.found }
     ensures wrote { reach.new ≡ written_all R.written reach.old
-        (if ask.now.length == 0 then [] else (ask.now, bytes) ∷ []) }
+        (if judged.now.ask.length == 0 then [] else (judged.now.ask, bytes.now) ∷ []) }
 {
-    if ask.length == 0 {
-        return Verdict::Wrote(bytes);
+    if let Some(found) = &judged.found {
+        reach.write_at(&judged.ask, found, bytes);
     }
-    reach.write(ask, bytes)
 }
 
 /// A WRITE packet took effect: it goes on, or ends, where immediate data complete a receive. The acknowledgement is

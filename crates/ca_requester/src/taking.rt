@@ -25,7 +25,7 @@ use ca_grant::Reach;
 use ca_model::{Marks, SPARE_MARKS};
 use ca_qpstate::QueuePart;
 use ca_rows::{
-    Asker, Writes, cut_writes, drop_packet, first_denied, list_asks, list_of, local_denial,
+    Asker, JudgedWrites, Writes, cut_writes, drop_packet, first_denied, list_asks, list_of, local_denial,
     write_all,
 };
 use ca_sending::{Failure, Outcome, complete_before, finished_count, make, push_finished};
@@ -299,7 +299,7 @@ fn place<R: Reach>(
     let count = finished_count(q, numbers.oldest) + writes.len() as u32;
     marks.reserve(count + SPARE_MARKS)?;
     push_finished(q, q.requester.oldest, taken.numbers.oldest, marks);
-    write_all(reach, writes, marks);
+    write_all(reach, JudgedWrites { writes, found: None }, marks);
     push_finished(q, taken.numbers.oldest, numbers.oldest, marks);
     q.requester = numbers;
     Ok(())

@@ -1,14 +1,15 @@
 -- Asks of a row: which may be handed on, what they touch, and the marks of what was read and written by them. Contracts
 -- cite it.
-use Rattle.std.specs.Prelude.{◌≡◌, ℕ, ◌+◌, ◌≤◌, List, [], ◌∷◌, ◌++◌, None, length}
+use Rattle.std.specs.Prelude.{◌≡◌, ℕ, ◌+◌, ◌≤◌, List, [], ◌∷◌, ◌++◌, Option, None, Some, length}
 use Rattle.std.specs.List.{AllByRecursion}
 use Rattle.ca_keys.specs.declared.access.Ask.{Ask}
 use Rattle.ca_keys.specs.declared.access.Kind.{Kind}
 use Rattle.ca_keys.specs.declared.access.Kind.TheVariants as kinds
+use Rattle.ca_keys.specs.declared.place.Span.{Span}
 use Rattle.ca_keys.specs.declared.verdict.Verdict.{Verdict}
 use Rattle.ca_keys.specs.declared.verdict.Verdict.TheVariants as verdicts
 use Rattle.ca_base.specs.Sight.{Invalidation, Sight, bytes_in, denial_in}
-use Rattle.ca_grant.specs.Reaching.{IsPacketAsk}
+use Rattle.ca_grant.specs.Reaching.{IsFound, IsPacketAsk}
 use Rattle.ca_model.specs.declared.mark.Mark.{Mark}
 use Rattle.ca_model.specs.declared.mark.Mark.TheVariants as marks
 
@@ -19,6 +20,12 @@ IsAskOf kind ask = IsPacketAsk ask × (ask.kind ≡ kind)
 -- the ask is allowed
 abbrev pub IsGranted : Sight → Ask → Type 0
 IsGranted s ask = denial_in s ask ≡ None
+
+-- this was found of the first of some asks, if there is one
+abbrev pub IsFoundFirst : Sight → List Ask → Option Span → Type 0
+IsFoundFirst s [] found = found ≡ None
+IsFoundFirst s (ask ∷ asks) None = ⊥
+IsFoundFirst s (ask ∷ asks) (Some span) = IsFound s ask span
 
 -- the bytes that the ask touches are at hand, if it is allowed
 abbrev pub AreBytesAtHand : Sight → (Ask → Type 0) → Ask → Type 0
@@ -83,6 +90,12 @@ abbrev pub CanWrite : {S : Type 0} (sight : S → Sight) (judges touches : S →
 CanWrite sight judges touches s [] = Unit {0}
 CanWrite sight judges touches s (x ∷ xs) =
     (judges s x.0 × touches s x.0 × IsGranted (sight s) x.0 × IsWrite x) × CanWrite sight judges touches s xs
+
+-- what may be known of the first of some accesses, where it was judged before
+abbrev pub MayBeFound : Sight → List (Ask × List ℕ) → Option Span → Type 0
+MayBeFound s xs None = Unit {0}
+MayBeFound s [] (Some span) = Unit {0}
+MayBeFound s (x ∷ xs) (Some span) = IsFound s x.0 span
 
 -- accesses that write by these asks, each with as many bytes as it touches
 pub record AreWritesFor (asks : List Ask) (writes : List (Ask × List ℕ)) : Type 0 where

@@ -21,7 +21,7 @@ mod reads;
 mod writes;
 
 pub use arrival::{Arrival, arrival_of};
-pub use asks::first_denied;
+pub use asks::{first_denied, judge_all};
 pub use completions::{
     Received, failure_mark, local_denial, push_success, receive_failure, receive_mark,
     send_completion,
@@ -34,4 +34,4 @@ pub use operations::{
 };
 pub use packets::{peer_number, psn_bits, spell_packet};
 pub use reads::{join, read_granted};
-pub use writes::{Writes, cut_writes, write_all};
+pub use writes::{JudgedWrites, Writes, cut_writes, write_all};

@@ -3,11 +3,12 @@ ghost use Rattle.std.specs.List.{AllByRecursion};
 ghost use Rattle.ca_keys.specs.declared.access.Kind.{Kind};
 ghost use Rattle.ca_model.specs.machine.Responses as responses;
 ghost use Rattle.std.specs.Vec.Iter.{into_iter_items};
-ghost use Rattle.ca_rows.specs.Asks.{AreWritesFor, CanWrite, IsAskOf, KeepsKeys, touched_by};
+ghost use Rattle.ca_grant.specs.Reaching.{IsFound, IsPacketAsk};
+ghost use Rattle.ca_rows.specs.Asks.{AreWritesFor, CanWrite, IsAskOf, IsGranted, KeepsKeys, MayBeFound, touched_by};
 ghost use Rattle.ca_rows.specs.Made.{AreAdded, written_all};
 
 use crate::reads::local_mark;
-use ca_base::{Ask, Bytes, Memory};
+use ca_base::{Ask, Bytes, Memory, Span, Verdict};
 use ca_grant::Reach;
 use ca_model::Marks;
 use std::alloc::Global;
@@ -46,6 +47,13 @@ impl Writes {
             None => self.rest.len(),
         }
     }
+}
+
+/// Accesses that write, none of which is denied, and what was found of the first, where it was judged before.
+#[derive(Drop)]
+pub struct JudgedWrites {
+    pub writes: Writes,
+    pub found: Option<Span>,
 }
 
 /// Cuts bytes for these asks in order, each as many as the ask touches. The asks touch no more bytes than there are.
@@ -106,26 +114,33 @@ fn push_writes(
     push_writes(alloc, rest, behind, writes)
 }
 
-/// Writes the bytes of each access to its places, and adds a mark for each, in the spare room. None of them is denied. It
-/// takes no memory.
+/// Writes the bytes of each access to its places, and adds a mark for each, in the spare room. An access that was judged
+/// before is not judged anew. It takes no memory.
 #[tactic(auto, using(crate::proofs::WriteLemmas::can_still))]
 #[inline(always)]
-pub fn write_all<R: Reach>(reach: &mut R, writes: Writes, marks: &mut Marks)
-    requires can { CanWrite R.sight R.judges R.touches reach.old writes }
-    requires room { length writes ≤ marks.old.room }
-    ensures wrote { reach.new ≡ written_all R.written reach.old writes }
-    ensures marks { AreAdded (responses.local_writes writes) marks.old marks.new }
+pub fn write_all<R: Reach>(reach: &mut R, judged: JudgedWrites, marks: &mut Marks)
+    requires can { CanWrite R.sight R.judges R.touches reach.old judged.writes }
+    requires found { MayBeFound (R.sight reach.old) judged.writes judged.found }
+    requires room { length judged.writes ≤ marks.old.room }
+    ensures wrote { reach.new ≡ written_all R.written reach.old judged.writes }
+    ensures marks { AreAdded (responses.local_writes judged.writes) marks.old marks.new }
     ensures keys { KeepsKeys R.sight R.ends reach.old reach.new }
 {
+    let JudgedWrites { writes, found } = judged;
     let Writes { first, rest } = writes;
     let Some((ask, bytes)) = first else {
         return write_rest(reach, rest.into_iter(), marks);
     };
-    let verdict = reach.write(&ask, bytes);
-    marks.push(local_mark(&ask, verdict));
+    let places = match found {
+        Some(span) => span,
+        None => find(reach, &ask),
+    };
+    reach.write_at(&ask, &places, bytes.as_slice());
+    marks.push(local_mark(&ask, Verdict::Wrote(bytes)));
     write_rest(reach, rest.into_iter(), marks)
 }
 
+/// Writes them, where none was judged before.
 #[tactic(auto, using(crate::proofs::WriteLemmas::can_still))]
 fn write_rest<R: Reach>(reach: &mut R, mut writes: IntoIter<(Ask, Bytes)>, marks: &mut Marks)
     requires can { CanWrite R.sight R.judges R.touches reach.old (into_iter_items writes) }
@@ -137,7 +152,22 @@ fn write_rest<R: Reach>(reach: &mut R, mut writes: IntoIter<(Ask, Bytes)>, marks
     let Some((ask, bytes)) = writes.next() else {
         return;
     };
-    let verdict = reach.write(&ask, bytes);
-    marks.push(local_mark(&ask, verdict));
+    let places = find(reach, &ask);
+    reach.write_at(&ask, &places, bytes.as_slice());
+    marks.push(local_mark(&ask, Verdict::Wrote(bytes)));
     write_rest(reach, writes, marks)
+}
+
+/// Where the bytes lie that an ask touches, which is not denied.
+#[inline(never)]
+fn find<R: Reach>(reach: &R, ask: &Ask) -> Span
+    requires at_hand { R.judges reach.now ask.now }
+    requires touch { IsPacketAsk ask.now }
+    requires allowed { IsGranted (R.sight reach.now) ask.now }
+    ensures { IsFound (R.sight reach.now) ask.now result }
+{
+    match reach.check(ask) {
+        Ok(found) => found,
+        Err(_) => unreachable!(),
+    }
 }

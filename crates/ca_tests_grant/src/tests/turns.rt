@@ -58,9 +58,11 @@ fn an_atomic_acts_on_the_last_eight_bytes(rt: HostRuntime) -> Result<(), Fail> {
     let mut reach = made.ok().ok_or("memory")?;
     let op = AtomicOp::FetchAdd { add: 7 };
     let (mut before, mut after) = (9, 9);
-    if let Verdict::Swapped { found, put } = reach.atomic(&LAST, op) {
-        before = found;
-        after = put;
+    if let Ok(places) = reach.check(&LAST) {
+        if let Verdict::Swapped { found, put } = reach.atomic_at(&LAST, &places, op) {
+            before = found;
+            after = put;
+        }
     }
     texts_are(
         &rt,

@@ -12,12 +12,12 @@ use Rattle.ca_operations.proofs.remote_requests.place_atomic.Goals as goal
 
 pub returns : goal.returns
 returns g c =
-    let found = little_endian (bytes_in (g.R.Reach.sight c.args.reach.now) c.args.ask.now) in
+    let found = little_endian (bytes_in (g.R.Reach.sight c.args.reach.now) c.args.access.now.ask) in
     let set = end-set c.args.q.now.responder.answers (Atomic c.args.q.now.responder.expected 0 false) (Atomic c.args.q.now.responder.expected found false) in
     let queue : c.pass.new.q ≡ after_atomic found c.args.q.now = grind (arith, common_steps) in
-    let marks : c.push-2.new.self.marks ≡ c.args.marks.now.marks ++ remote_mark c.args.ask.now c.args.request.now.envelope (Swapped found (number_left c.args.ask.now.kind c.args.a.now found)) ∷ [] = grind (arith, common_steps) in
+    let marks : c.push-2.new.self.marks ≡ c.args.marks.now.marks ++ remote_mark c.args.access.now.ask c.args.request.now.envelope (Swapped found (number_left c.args.access.now.ask.kind c.args.access.now.operands found)) ∷ [] = grind (arith, common_steps) in
     record {
       taken = atomic-placed g.R.Reach.written g.R.Reach.revoked (g.R.Reach.sight c.args.reach.now) c.args.q.now c.pass.new.q c.args.request.now.packet.now
-          c.args.request.now.envelope c.args.ask.now.kind c.args.a.now c.args.ask.now c.args.marks.now c.push-2.new.self c.args.reach.now c.act-verdict.new.reach
+          c.args.request.now.envelope c.args.access.now.ask.kind c.args.access.now.operands c.args.access.now.ask c.args.marks.now c.push-2.new.self c.args.reach.now c.act-verdict.new.reach
           c.requires.ask c.requires.atomic.allowed (record { queue = queue; marks = marks; room = omega (arith, c.in_ok-reserve.ensures.room, c.push-2.ensures.room) }) c.act-verdict.ensures.wrote;
     }

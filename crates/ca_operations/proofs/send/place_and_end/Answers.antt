@@ -27,7 +27,7 @@ returns g c =
     let q : QueuePair = queue_seen c.q.inside in
     let p = c.args.s.packet.now in
     let r = c.args.s.receiving in
-    let ws = c.args.writes in
+    let ws = c.args.judged.writes in
     let can = c.requires.can in
     let back : c.args.q.now ≡ q = sym c.q.view_is in
     record {
@@ -58,7 +58,7 @@ returns-in-Err g c =
     let q : QueuePair = queue_seen c.q.inside in
     let p = c.args.s.packet.now in
     let r = c.args.s.receiving in
-    let ws = c.args.writes in
+    let ws = c.args.judged.writes in
     let can = c.requires.can in
     let back : c.args.q.now ≡ q = sym c.q.view_is in
     record {
@@ -80,19 +80,19 @@ returns-in-Err g c =
           (c.in_ok-push_flush.ensures ∙ ap (λ (ms : List Mark). ms ++ flush_marks (left_to_flush c.flushed_behind.result c.args.q.now)) c.new-flushed.ensures.items
           ∙ ap flush_marks (c.flushed_behind.ensures.left c.args.q.now) ∙ ap (λ (x : QueuePair). flush_marks (with_message None (without_taken_receive r.taken x))) back)
           c.append.ensures.marks
-          (omega (arith, c.in_ok-reserve_for.ensures.room, c.write_all.ensures.marks.room, c.requires.can.few, marks-count c.args.writes, c.push.ensures.room, c.append.ensures.room))
+          (omega (arith, c.in_ok-reserve_for.ensures.room, c.write_all.ensures.marks.room, c.requires.can.few, marks-count c.args.judged.writes, c.push.ensures.room, c.append.ensures.room))
           (sym (c.write_all.ensures.keys.refusal (key_end q c.args.key)) ∙ c.in-Err.ensures.0)
           c.write_all.ensures.wrote c.in-Err.ensures.1.1);
     }
 
 pub push-requires : goal.push-requires
-push-requires g c = omega (arith, c.in_ok-reserve_for.ensures.room, c.write_all.ensures.marks.room, c.requires.can.few, marks-count c.args.writes)
+push-requires g c = omega (arith, c.in_ok-reserve_for.ensures.room, c.write_all.ensures.marks.room, c.requires.can.few, marks-count c.args.judged.writes)
 
 pub append-requires : goal.append-requires
-append-requires g c = omega (arith, c.in_ok-reserve_for.ensures.room, c.write_all.ensures.marks.room, c.requires.can.few, marks-count c.args.writes, c.push.ensures.room)
+append-requires g c = omega (arith, c.in_ok-reserve_for.ensures.room, c.write_all.ensures.marks.room, c.requires.can.few, marks-count c.args.judged.writes, c.push.ensures.room)
 
 pub push-requires-2 : goal.push-requires-2
-push-requires-2 g c = omega (arith, c.in_ok-reserve_for.ensures.room, c.write_all.ensures.marks.room, c.requires.can.few, marks-count c.args.writes)
+push-requires-2 g c = omega (arith, c.in_ok-reserve_for.ensures.room, c.write_all.ensures.marks.room, c.requires.can.few, marks-count c.args.judged.writes)
 
 pub end_send-requires-clause-room : goal.end_send-requires-clause-room
-end_send-requires-clause-room g c = omega (arith, c.in_ok-reserve_for.ensures.room, c.write_all.ensures.marks.room, c.requires.can.few, marks-count c.args.writes, c.push-2.ensures.room)
+end_send-requires-clause-room g c = omega (arith, c.in_ok-reserve_for.ensures.room, c.write_all.ensures.marks.room, c.requires.can.few, marks-count c.args.judged.writes, c.push-2.ensures.room)

@@ -20,7 +20,7 @@ end_send-requires-clause-fits g c =
     subst (λ (x : QueuePair). IsFitting x c.args.s) (sym c.in_ok-queue_ack.ensures) (record { most = c.requires.can.fitting.most; receive = c.requires.can.fitting.receive })
 
 pub end_send-requires-clause-room : goal.end_send-requires-clause-room
-end_send-requires-clause-room g c = omega (arith, c.in_ok-reserve.ensures.room, c.write_all.ensures.marks.room, c.requires.can.few, marks-count c.args.writes)
+end_send-requires-clause-room g c = omega (arith, c.in_ok-reserve.ensures.room, c.write_all.ensures.marks.room, c.requires.can.few, marks-count c.args.judged.writes)
 
 pub write_all-requires-clause-can : goal.write_all-requires-clause-can
 write_all-requires-clause-can g c = c.requires.can.can
@@ -34,7 +34,7 @@ returns g c =
     let q = c.args.q.now in
     let p = c.args.s.packet.now in
     let r = c.args.s.receiving in
-    let ws = c.args.writes in
+    let ws = c.args.judged.writes in
     let effects : Effects = after_send_packet (without_taken_receive r.taken (with_flag false q)) p c.args.s.position r in
     let same : after_send_packet (without_taken_receive r.taken (with_flag false c.queue_ack.new.q)) (without_ack_request p) c.args.s.position r ≡ effects =
     ap (λ (x : QueuePair). after_send_packet (without_taken_receive r.taken (with_flag false x)) (without_ack_request p) c.args.s.position r) c.in_ok-queue_ack.ensures

@@ -14,7 +14,8 @@ use Rattle.ca_model.specs.machine.Expected.{receive_asks, receive_failure_effect
 use Rattle.ca_model.specs.machine.Numbering.{list_asks}
 use Rattle.ca_model.specs.machine.Requester.{local_denial}
 use Rattle.ca_model.specs.machine.Responses.{writes_by}
-use Rattle.ca_rows.specs.Asks.{IsAskOf, IsGranted}
+use Rattle.ca_rows.proofs.WriteLemmas.{found-first}
+use Rattle.ca_rows.specs.Asks.{IsAskOf, IsFoundFirst, IsGranted}
 use Rattle.ca_answering.specs.Numbers.{without_taken_receive}
 use Rattle.ca_operations.specs.Sends.{outcome_of_send}
 use Rattle.ca_operations.specs.Taking.{does, outcome_in}
@@ -38,8 +39,8 @@ returns-then-exceeds_receive g c =
           refl c.fail_receive.ensures.made c.fail_receive.ensures.shared;
     }
 
-pub first_denied-requires : goal.first_denied-requires
-first_denied-requires g c =
+pub judge_all-requires : goal.judge_all-requires
+judge_all-requires g c =
     let q = c.args.q.now in
     let p = c.args.s.packet.now in
     let r = c.args.s.receiving in
@@ -52,9 +53,9 @@ first_denied-requires g c =
       packet = packet-asks kinds.Write c.as_slice.result.now (subst (λ (xs : List Ask). AllByRecursion (IsAskOf kinds.Write) xs) (sym c.as_slice.ensures.value) c.receive_asks-asks.ensures.asks.each);
     }
 
-pub returns-in-Some : goal.returns-in-Some
+pub returns-in-Err : goal.returns-in-Err
 unfolding outcome_of_send
-returns-in-Some g c =
+returns-in-Err g c =
     let q = c.args.q.now in
     let p = c.args.s.packet.now in
     let r = c.args.s.receiving in
@@ -64,13 +65,13 @@ returns-in-Some g c =
     let asks : c.as_slice.result.now ≡ receive_asks q p r =
     c.as_slice.ensures.value ∙ c.receive_asks-asks.ensures.value ∙ ap (λ (l : List Piece). list_asks q.queue q.domain kinds.Write r.before (length p.payload) l) c.as_slice-list.ensures.value in
     record {
-      taken = failed-taken g.R.Reach.written g.R.Reach.revoked (outcome_in (g.R.Reach.sight c.args.reach.now) (send_row (with_flag false q) p c.args.s.position r)) q c.fail_receive-in-Some.new.q r
-          c.push.new.self.items e c.fail_receive-in-Some.result c.args.marks.now c.fail_receive-in-Some.new.marks c.args.reach.now
-          (list-denied (g.R.Reach.sight c.args.reach.now) q p c.args.s.position r c.in-Some.denied r.taken short refl
-          (ap (λ (xs : List Ask). first_denied (g.R.Reach.sight c.args.reach.now) xs) (sym asks) ∙ sym c.in-Some.ensures.first)
+      taken = failed-taken g.R.Reach.written g.R.Reach.revoked (outcome_in (g.R.Reach.sight c.args.reach.now) (send_row (with_flag false q) p c.args.s.position r)) q c.fail_receive-in-Err.new.q r
+          c.push.new.self.items e c.fail_receive-in-Err.result c.args.marks.now c.fail_receive-in-Err.new.marks c.args.reach.now
+          (list-denied (g.R.Reach.sight c.args.reach.now) q p c.args.s.position r c.in-Err.denied r.taken short refl
+          (ap (λ (xs : List Ask). first_denied (g.R.Reach.sight c.args.reach.now) xs) (sym asks) ∙ c.in-Err.ensures.denied)
           ∙ ap (λ (ms : List Mark). does (failed q r ms e) None)
-          (sym (c.in_ok-push.ensures.items ∙ ap (λ (ms : List Mark). ms ++ c.local_denial.result ∷ []) c.new-made.ensures.items ∙ ap (λ (m : Mark). m ∷ []) c.local_denial.ensures)))
-          refl c.fail_receive-in-Some.ensures.made c.fail_receive-in-Some.ensures.shared;
+          (sym (c.in_ok-push-in-Err.ensures.items ∙ ap (λ (ms : List Mark). ms ++ c.local_denial.result ∷ []) c.new-made.ensures.items ∙ ap (λ (m : Mark). m ∷ []) c.local_denial.ensures)))
+          refl c.fail_receive-in-Err.ensures.made c.fail_receive-in-Err.ensures.shared;
     }
 
 pub place_send-requires-clause-can : goal.place_send-requires-clause-can
@@ -85,8 +86,8 @@ place_send-requires-clause-can g c =
     c.requires.receiving c.requires.payload
     (ap (λ (l : List Piece). nat_lt (list_length l) (r.before + length p.payload)) (sym c.as_slice-list.ensures.value) ∙ sym c.exceeds_receive.ensures ∙ c.if-exceeds_receive.false)
     c.requires.at_hand (again ∙ asks) c.as_slice-2.ensures.fits
-    (subst (λ (xs : List Ask). AllByRecursion (IsGranted (g.R.Reach.sight c.args.reach.now)) xs) (sym again) c.in_default.ensures.allowed)
-    (ap (λ (xs : List Ask). first_denied (g.R.Reach.sight c.args.reach.now) xs) again ∙ sym c.in_default.ensures.first)
+    (subst (λ (xs : List Ask). AllByRecursion (IsGranted (g.R.Reach.sight c.args.reach.now)) xs) (sym again) c.in-Ok.ensures.allowed)
+    (ap (λ (xs : List Ask). first_denied (g.R.Reach.sight c.args.reach.now) xs) again ∙ c.in-Ok.ensures.none)
     (c.in_ok-writes.ensures.value ∙ ap (λ (f : Fields). writes_by c.as_slice-2.result.now f.payload) c.p.view_is)
     c.in_ok-writes.ensures.writes
 
@@ -102,7 +103,19 @@ place_and_end-requires-clause-can g c =
     c.requires.receiving c.requires.payload
     (ap (λ (l : List Piece). nat_lt (list_length l) (r.before + length p.payload)) (sym c.as_slice-list.ensures.value) ∙ sym c.exceeds_receive.ensures ∙ c.if-exceeds_receive.false)
     c.requires.at_hand (again ∙ asks) c.as_slice-2.ensures.fits
-    (subst (λ (xs : List Ask). AllByRecursion (IsGranted (g.R.Reach.sight c.args.reach.now)) xs) (sym again) c.in_default.ensures.allowed)
-    (ap (λ (xs : List Ask). first_denied (g.R.Reach.sight c.args.reach.now) xs) again ∙ sym c.in_default.ensures.first)
+    (subst (λ (xs : List Ask). AllByRecursion (IsGranted (g.R.Reach.sight c.args.reach.now)) xs) (sym again) c.in-Ok.ensures.allowed)
+    (ap (λ (xs : List Ask). first_denied (g.R.Reach.sight c.args.reach.now) xs) again ∙ c.in-Ok.ensures.none)
     (c.in_ok-writes.ensures.value ∙ ap (λ (f : Fields). writes_by c.as_slice-2.result.now f.payload) c.p.view_is)
     c.in_ok-writes.ensures.writes
+
+pub place_send-requires-clause-found : goal.place_send-requires-clause-found
+place_send-requires-clause-found g c =
+    found-first (g.R.Reach.sight c.args.reach.now) c.as_slice-2.result.now c.args.s.packet.now.payload c.in-Ok.found c.in_ok-writes.writes
+    (subst (λ (xs : List Ask). IsFoundFirst (g.R.Reach.sight c.args.reach.now) xs c.in-Ok.found) (c.as_slice.ensures.value ∙ sym c.as_slice-2.ensures.value) c.in-Ok.ensures.found)
+    (c.in_ok-writes.ensures.value ∙ ap (λ (f : Fields). writes_by c.as_slice-2.result.now f.payload) c.p.view_is)
+
+pub place_and_end-requires-clause-found : goal.place_and_end-requires-clause-found
+place_and_end-requires-clause-found g c =
+    found-first (g.R.Reach.sight c.args.reach.now) c.as_slice-2.result.now c.args.s.packet.now.payload c.in-Ok.found c.in_ok-writes.writes
+    (subst (λ (xs : List Ask). IsFoundFirst (g.R.Reach.sight c.args.reach.now) xs c.in-Ok.found) (c.as_slice.ensures.value ∙ sym c.as_slice-2.ensures.value) c.in-Ok.ensures.found)
+    (c.in_ok-writes.ensures.value ∙ ap (λ (f : Fields). writes_by c.as_slice-2.result.now f.payload) c.p.view_is)
