@@ -50,7 +50,7 @@ impl Marks {
         ensures marks { self.new.marks ≡ self.old.marks ++ mark ∷ [] }
         ensures room { self.old.room ≤ self.new.room + 1 }
     {
-        self.items.push(mark).unwrap()
+        self.items.push_reserved(mark)
     }
 
     /// Adds marks at the end, in the spare room. It takes no memory.

@@ -1,4 +1,4 @@
-ghost use Rattle.std.specs.Prelude.{◌≡◌, ◌+◌, ◌<◌, ◌≤◌, IfOk, IfSome, Some, length, nat_lt, option_copied};
+ghost use Rattle.std.specs.Prelude.{◌≡◌, ◌+◌, ◌<◌, ◌≤◌, [], IfOk, IfSome, Some, length, nat_lt, option_copied};
 ghost use Rattle.std.specs.Option.{option_map};
 ghost use Rattle.ca_keys.specs.declared.access.Kind.{Kind};
 ghost use Rattle.ca_base.specs.declared.limits.TheConstants.{MAX_PAYLOAD_BYTES, MAX_PIECES};
@@ -17,7 +17,7 @@ use ca_base::limits::MAX_PIECES;
 use ca_base::{Ask, Kind, Memory, Message, Piece, PlacedReceive, RecvRequest};
 use ca_model::Receiving;
 use ca_qpstate::QueuePart;
-use ca_rows::{Asker, list_asks, list_length};
+use ca_rows::{Asker, fill_asks, list_length};
 use ca_srq::Srq;
 use ca_wire::Packet;
 
@@ -121,7 +121,6 @@ pub fn take_own(q: &mut QueuePart)
 }
 
 /// Where the bytes of a SEND packet go in a receive's list, behind so many that came before.
-#[inline(always)]
 pub fn receive_asks(
     q: &QueuePart,
     p: &Packet<'_>,
@@ -134,12 +133,33 @@ pub fn receive_asks(
         list.now }
     ensures asks { AreAsksFor Kind.Write (length p.now.payload) result.items }
 {
+    let mut asks = ArrayVec::new();
+    fill_receive_asks(q, p, before, list, &mut asks);
+    asks
+}
+
+/// Puts these asks into a list of the caller's, which is empty.
+#[inline(always)]
+pub fn fill_receive_asks(
+    q: &QueuePart,
+    p: &Packet<'_>,
+    before: u32,
+    list: &[Piece],
+    asks: &mut ArrayVec<Ask, MAX_PIECES>,
+)
+    requires empty { asks.old.items ≡ [] }
+    requires few { length list.now ≤ MAX_PIECES }
+    requires payload { length p.now.payload ≤ MAX_PAYLOAD_BYTES }
+    ensures value { asks.new.items ≡ list_asks q.now.queue q.now.domain Kind.Write before (length p.now.payload)
+        list.now }
+    ensures asks { AreAsksFor Kind.Write (length p.now.payload) asks.new.items }
+{
     let asker = Asker {
         queue: q.queue,
         domain: q.domain,
         kind: Kind::Write,
     };
-    list_asks(asker, before, p.payload.len() as u32, list)
+    fill_asks(asker, before, p.payload.len() as u32, list, asks);
 }
 
 /// Whether a SEND packet has more bytes than its receive has room for.

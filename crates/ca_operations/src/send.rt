@@ -18,9 +18,10 @@ ghost use Rattle.ca_operations.specs.Requests.{IsValidRequest};
 ghost use Rattle.ca_operations.specs.Taking.{CanMeet, IsTaken, MayEnd, is_taken, outcome_in};
 ghost use Rattle.ca_operations.specs.Sends.{CanPlace, IsEnding, IsFitting, key_end, outcome_of_send};
 
-use crate::receive::{exceeds_receive, receive_asks, receiving_of, take_own};
+use crate::receive::{exceeds_receive, fill_receive_asks, receiving_of, take_own};
 use crate::request::{Request, SharedReceive, shared_receive};
 use crate::stand_in::{queue_stand_in, replace_by_ack, replace_by_nak};
+use arrayvec::ArrayVec;
 use ca_answering::{FlushedReceives, pass, push_flush, queue_ack, queue_refusal, refuse_invalid};
 use ca_base::limits::MAX_PIECES;
 use ca_base::{Key, Memory, Message, OpRefusal, PlacedReceive, WcOp, WcStatus};
@@ -102,7 +103,8 @@ fn receive_send<R: Reach>(
         let (status, code) = (WcStatus::LocalLength, NakCode::InvalidRequest);
         return fail_receive(q, r, status, code, none, marks);
     }
-    let asks = receive_asks(q, p, r.before, list);
+    let mut asks = ArrayVec::new();
+    fill_receive_asks(q, p, r.before, list, &mut asks);
     let found = match judge_all(reach, asks.as_slice()) {
         Ok(found) => found,
         Err(denied) => {

@@ -108,6 +108,11 @@ row_by q shared p envelope shape next valid waits is =
     by true e = rw (valid, waits) refl
     by false e = row-without q shared p envelope shape valid e
 
+-- a packet lacks its receive exactly where none was found for it
+pub lacks_by : (t : Bool) (waiting next : Option PlacedReceive) → next ≡ receive_if t waiting → (t && is_none waiting) ≡ (t && is_none next)
+lacks_by true waiting next e = ap (λ (o : Option PlacedReceive). is_none o) (sym e)
+lacks_by false waiting next e = refl
+
 -- the row of a request with the expected PSN
 arrived-row : (q : QueuePair) (shared : Option SharedReceives) (p : Fields) (envelope : Option ℕ) (shape : Shape)
     → is_response p.opcode ≡ false → shape_of p.opcode ≡ Some shape → widened q.responder.expected p.psn ≡ q.responder.expected

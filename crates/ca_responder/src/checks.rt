@@ -157,6 +157,13 @@ pub fn lacks_receive(q: &QueuePart, srq: Option<&Srq>, request: &Request<'_>) ->
     takes_receive(request) && next_receive(q, srq).is_none()
 }
 
+/// Whether the packet takes a receive, and this, which was found for it, is none.
+pub fn is_missing(request: &Request<'_>, next: &Option<PlacedReceive>) -> bool
+    ensures { result ≡ (rows.takes_receive request.now.packet.now request.now.shape && is_none next.now) }
+{
+    takes_receive(request) && next.is_none()
+}
+
 /// Puts a copy of the receive that the packet takes, with its posting place, where it takes one.
 pub fn put_receive(
     q: &QueuePart,

@@ -12,7 +12,7 @@ ghost use Rattle.ca_model.specs.machine.CanStep.{CanStep};
 ghost use Rattle.ca_packet.specs.Packet.{IsWellFormed};
 ghost use Rattle.ca_rows.specs.Made.{IsMade};
 
-use crate::checks::{is_invalid, lacks_receive, put_receive};
+use crate::checks::{is_invalid, is_missing, put_receive};
 use crate::duplicates::{take_ahead, take_duplicate};
 use ca_answering::{queue_answer, refuse_invalid};
 use ca_base::{Memory, Queued};
@@ -74,13 +74,14 @@ fn take_shared(srq: &mut Srq, taken: SharedReceive)
 /// 2. no packet before it is missing: `take_ahead`;
 /// 3. it did not come before: `take_duplicate`;
 /// 4. it is no invalid request: `is_invalid`;
-/// 5. where it takes a receive, one waits, and else an RNR NAK is queued: `lacks_receive`;
+/// 5. where it takes a receive, one waits, and else an RNR NAK is queued: `put_receive` and `is_missing`;
 /// 6. a SEND fits its receive: `exceeds_receive`;
-/// 7. the receive's list is allowed: `first_denied`;
+/// 7. the receive's list is allowed: `judge_all`;
 /// 8. the key of a WRITE or an atomic allows it: `check` of `Reach`, in `take_write` and `take_atomic`;
 /// 9. its bytes are placed, the atomic acts, or the READ is queued: `write_all`, `place_write`, `act`, `take_read`;
 /// 10. a SEND ends the key that it names: `end_key`;
 /// 11. the expected PSN goes past it, and its message may end: `pass`, in `end_send` and `end_write`.
+#[tactic(auto, using(crate::proofs::WaitingLemmas::lacks_by))]
 fn take_request<R: Reach>(
     q: &mut QueuePart,
     srq: Option<&Srq>,
@@ -121,12 +122,12 @@ fn take_request<R: Reach>(
         refuse_invalid(q, marks)?;
         return Ok(SharedReceive::Stays);
     }
-    if lacks_receive(q, srq, &request) {
+    let mut next = None;
+    put_receive(q, srq, &request, &mut next)?;
+    if is_missing(&request, &next) {
         queue_rnr(q, marks)?;
         return Ok(SharedReceive::Stays);
     }
-    let mut next = None;
-    put_receive(q, srq, &request, &mut next)?;
     match shape {
         Shape::Send(position) => take_send(q, reach, &request, position, next, marks),
         Shape::Write(position) => take_write(q, reach, &request, position, &next, marks),

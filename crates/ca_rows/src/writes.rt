@@ -93,6 +93,9 @@ fn cut_rest(alloc: Global, asks: &[Ask], bytes: &[u8]) -> Result<Vec<(Ask, Bytes
     ensures value { IfOk result (λ writes. writes.items ≡ responses.writes_by asks.now bytes.now) }
 {
     let mut writes = Vec::new(alloc);
+    if asks.is_empty() {
+        return Ok(writes);
+    }
     push_writes(alloc, asks, bytes, &mut writes)?;
     Ok(writes)
 }

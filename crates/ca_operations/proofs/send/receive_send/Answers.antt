@@ -47,10 +47,10 @@ judge_all-requires g c =
     let short : is_too_long p r ≡ false =
     ap (λ (l : List Piece). nat_lt (list_length l) (r.before + length p.payload)) (sym c.as_slice-list.ensures.value) ∙ sym c.exceeds_receive.ensures ∙ c.if-exceeds_receive.false in
     let asks : c.as_slice.result.now ≡ receive_asks q p r =
-    c.as_slice.ensures.value ∙ c.receive_asks-asks.ensures.value ∙ ap (λ (l : List Piece). list_asks q.queue q.domain kinds.Write r.before (length p.payload) l) c.as_slice-list.ensures.value in
+    c.as_slice.ensures.value ∙ c.fill_receive_asks.ensures.value ∙ ap (λ (l : List Piece). list_asks q.queue q.domain kinds.Write r.before (length p.payload) l) c.as_slice-list.ensures.value in
     record {
       keys = subst (λ (xs : List Ask). AllByRecursion (g.R.Reach.judges c.args.reach.now) xs) (asks-of-row q p c.args.s.position r r.taken short refl ∙ sym asks) c.requires.at_hand.asks.keys;
-      packet = packet-asks kinds.Write c.as_slice.result.now (subst (λ (xs : List Ask). AllByRecursion (IsAskOf kinds.Write) xs) (sym c.as_slice.ensures.value) c.receive_asks-asks.ensures.asks.each);
+      packet = packet-asks kinds.Write c.as_slice.result.now (subst (λ (xs : List Ask). AllByRecursion (IsAskOf kinds.Write) xs) (sym c.as_slice.ensures.value) c.fill_receive_asks.ensures.asks.each);
     }
 
 pub returns-in-Err : goal.returns-in-Err
@@ -63,7 +63,7 @@ returns-in-Err g c =
     let short : is_too_long p r ≡ false =
     ap (λ (l : List Piece). nat_lt (list_length l) (r.before + length p.payload)) (sym c.as_slice-list.ensures.value) ∙ sym c.exceeds_receive.ensures ∙ c.if-exceeds_receive.false in
     let asks : c.as_slice.result.now ≡ receive_asks q p r =
-    c.as_slice.ensures.value ∙ c.receive_asks-asks.ensures.value ∙ ap (λ (l : List Piece). list_asks q.queue q.domain kinds.Write r.before (length p.payload) l) c.as_slice-list.ensures.value in
+    c.as_slice.ensures.value ∙ c.fill_receive_asks.ensures.value ∙ ap (λ (l : List Piece). list_asks q.queue q.domain kinds.Write r.before (length p.payload) l) c.as_slice-list.ensures.value in
     record {
       taken = failed-taken g.R.Reach.written g.R.Reach.revoked (outcome_in (g.R.Reach.sight c.args.reach.now) (send_row (with_flag false q) p c.args.s.position r)) q c.fail_receive-in-Err.new.q r
           c.push.new.self.items e c.fail_receive-in-Err.result c.args.marks.now c.fail_receive-in-Err.new.marks c.args.reach.now
@@ -80,7 +80,7 @@ place_send-requires-clause-can g c =
     let p = c.args.s.packet.now in
     let r = c.args.s.receiving in
     let asks : c.as_slice.result.now ≡ receive_asks q p r =
-    c.as_slice.ensures.value ∙ c.receive_asks-asks.ensures.value ∙ ap (λ (l : List Piece). list_asks q.queue q.domain kinds.Write r.before (length p.payload) l) c.as_slice-list.ensures.value in
+    c.as_slice.ensures.value ∙ c.fill_receive_asks.ensures.value ∙ ap (λ (l : List Piece). list_asks q.queue q.domain kinds.Write r.before (length p.payload) l) c.as_slice-list.ensures.value in
     let again : c.as_slice-2.result.now ≡ c.as_slice.result.now = c.as_slice-2.ensures.value ∙ sym c.as_slice.ensures.value in
     can-place g.R.Reach.sight g.R.Reach.judges g.R.Reach.touches g.R.Reach.ends c.args.reach.now q c.args.s c.as_slice-2.result.now c.in_ok-writes.writes
     c.requires.receiving c.requires.payload
@@ -97,7 +97,7 @@ place_and_end-requires-clause-can g c =
     let p = c.args.s.packet.now in
     let r = c.args.s.receiving in
     let asks : c.as_slice.result.now ≡ receive_asks q p r =
-    c.as_slice.ensures.value ∙ c.receive_asks-asks.ensures.value ∙ ap (λ (l : List Piece). list_asks q.queue q.domain kinds.Write r.before (length p.payload) l) c.as_slice-list.ensures.value in
+    c.as_slice.ensures.value ∙ c.fill_receive_asks.ensures.value ∙ ap (λ (l : List Piece). list_asks q.queue q.domain kinds.Write r.before (length p.payload) l) c.as_slice-list.ensures.value in
     let again : c.as_slice-2.result.now ≡ c.as_slice.result.now = c.as_slice-2.ensures.value ∙ sym c.as_slice.ensures.value in
     can-place g.R.Reach.sight g.R.Reach.judges g.R.Reach.touches g.R.Reach.ends c.args.reach.now q c.args.s c.as_slice-2.result.now c.in_ok-writes.writes
     c.requires.receiving c.requires.payload
