@@ -90,7 +90,17 @@ pub fn take_atomic<R: Reach>(
             return Ok(SharedReceive::Stays);
         }
     };
-    place_atomic(q, reach, request, &AtomicAccess { ask, found, operands: a }, marks)
+    place_atomic(
+        q,
+        reach,
+        request,
+        &AtomicAccess {
+            ask,
+            found,
+            operands: a,
+        },
+        marks,
+    )
 }
 
 /// The access of an atomic that is not denied: its ask, the places of its eight bytes, and its operands.

@@ -25,8 +25,8 @@ use ca_grant::Reach;
 use ca_model::{Marks, SPARE_MARKS};
 use ca_qpstate::QueuePart;
 use ca_rows::{
-    Asker, JudgedWrites, Writes, cut_writes, drop_packet, first_denied, list_asks, list_of, local_denial,
-    write_all,
+    Asker, JudgedWrites, Writes, cut_writes, drop_packet, first_denied, list_asks, list_of,
+    local_denial, write_all,
 };
 use ca_sending::{Failure, Outcome, complete_before, finished_count, make, push_finished};
 use ca_wire::opcode::ATOMIC_ACKNOWLEDGE;
@@ -299,7 +299,14 @@ fn place<R: Reach>(
     let count = finished_count(q, numbers.oldest) + writes.len() as u32;
     marks.reserve(count + SPARE_MARKS)?;
     push_finished(q, q.requester.oldest, taken.numbers.oldest, marks);
-    write_all(reach, JudgedWrites { writes, found: None }, marks);
+    write_all(
+        reach,
+        JudgedWrites {
+            writes,
+            found: None,
+        },
+        marks,
+    );
     push_finished(q, taken.numbers.oldest, numbers.oldest, marks);
     q.requester = numbers;
     Ok(())
