@@ -10,6 +10,11 @@ use Rattle.ca_bed_reach.specs.SmallLaws.{places-here, small-bytes}
 use Rattle.ca_bed_reach.specs.SmallReach.{sight_of}
 use Rattle.ca_bed_reach.proofs.small_reach.SmallReachReach.atomic_at.Goals as goal
 
+pub swap_at-number-requires-clause-fits : goal.swap_at-number-requires-clause-fits
+swap_at-number-requires-clause-fits c =
+    let P : List Run → Type 0 = λ rs. FitInBytes (length c.args.self.now.buffer) rs in
+    (subst P (sym c.requires.found.places) (places-here c.args.self.now c.args.ask.now c.requires.at_hand).0).0
+
 -- the eight bytes lie in one run
 one-run : (c : goal.After-number_put) → c.args.found.now.first ∷ [] ≡ runs_in (sight_of c.args.self.now) c.args.ask.now
 one-run c =
