@@ -22,12 +22,12 @@ use Rattle.ca_model.specs.declared.mark.Mark.TheVariants as marks
 use Rattle.ca_model.specs.declared.verb.Verb.TheVariants as verbs
 use Rattle.ca_model.specs.Entries.{EntryValue}
 use Rattle.ca_model.specs.Packets.{packet_of, begins_write, continues_write, asks_atomic, is_response}
-use Rattle.ca_model.specs.Past.{Past, Envelope, LatestWrite, ReadRequest, Posted, opening_past, life_of, life_eq, mtu_of, packet_at, remote_ask, is_send_success, each_entry}
+use Rattle.ca_model.specs.Past.{Past, Envelope, LatestWrite, ReadRequest, Posted, opening_past, present_incarnation, correspondent_eq, mtu_of, packet_at, remote_ask, is_send_success, each_entry}
 use Rattle.ca_model.specs.Requests.{is_local, psns_of, carried_bytes, request_packet}
 
 -- the source named the target with the target's present incarnation
 abbrev pub has_named : Past → QueueId → QueueId → Bool
-has_named past source target = option_map_or (λ n. life_eq n.peer (life_of past target)) (past.naming source) false
+has_named past source target = option_map_or (λ n. correspondent_eq n.peer (present_incarnation past target)) (past.naming source) false
 
 -- each of the two named the other with the other's present incarnation
 abbrev pub has_path : Past → QueueId → QueueId → Bool
@@ -76,7 +76,7 @@ abbrev pub is_of_request : Past → QueueId → QueueId → Option ℕ → List 
 is_of_request past source target None bytes = true
 is_of_request past source target (Some place) bytes =
     option_map_or (λ posted. option_map_or (is_packet_of past source target bytes posted) (packet_of bytes) false)
-    (slice_get (past.posted (life_of past source)) place) false
+    (slice_get (past.posted (present_incarnation past source)) place) false
 
 -- the write goes on where the latest one of its queue pair ended
 abbrev pub goes_on : Ask → LatestWrite → Bool
@@ -145,7 +145,7 @@ is_respond_of q event = false
 abbrev pub is_carried_by_request : Past → Ask → Option ℕ → Verdict → Bool
 is_carried_by_request past ask envelope verdict =
     is_respond_of ask.queue past.at_hand.event
-    && list_any (is_rest_of (mtu_of past ask.queue) ask envelope) (past.read_requests (life_of past ask.queue))
+    && list_any (is_rest_of (mtu_of past ask.queue) ask envelope) (past.read_requests (present_incarnation past ask.queue))
     && reads_at_most (mtu_of past ask.queue) verdict
 
 -- a remote access has its packet
@@ -162,7 +162,7 @@ response_arrived past q =
 -- the request of a completion has packets
 abbrev pub has_packets : Past → Completion → Bool
 has_packets past c =
-    option_map_or (λ posted. not (is_local posted.request.op)) (slice_get (past.posted (life_of past c.queue)) c.place) true
+    option_map_or (λ posted. not (is_local posted.request.op)) (slice_get (past.posted (present_incarnation past c.queue)) c.place) true
 
 -- A packet arrives as it was sent. It is sent with the next index of its target exactly where a path leads there, and
 -- is one of the request that it names. A remote access has its packet. A send that has packets completes with success

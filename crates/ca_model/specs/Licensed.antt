@@ -28,7 +28,7 @@ use Rattle.ca_model.specs.declared.verb.Verb.{Verb}
 use Rattle.ca_model.specs.declared.verb.Verb.TheVariants as verbs
 use Rattle.ca_model.specs.Entries.{EntryValue}
 use Rattle.ca_model.specs.Packets.{asks_invalidate}
-use Rattle.ca_model.specs.Past.{Past, Way, BindTo, FastRegistration, Answered, Posted, opening_past, key_slot_of, key_slot_eq, slot_beside, operation_at_hand, operation_performed, packet_at, after_mark, each_entry}
+use Rattle.ca_model.specs.Past.{Past, Way, BindTo, FastRegistration, Answered, Posted, opening_past, key_slot_of, key_slot_eq, region_key_slot, slot_beside, operation_at_hand, operation_performed, packet_at, after_mark, each_entry}
 
 -- the region's grant in force with this key, in this domain
 abbrev pub region_with : Past → DomainId → Key → Option Grant
@@ -43,7 +43,7 @@ may_hold region address count rights =
 
 -- the low byte that the next registration in a slot takes
 abbrev pub fresh_low : Past → Slot → ℕ
-fresh_low past slot = next_low (past.low (record { adapter = slot.domain.adapter; index = region_index slot }))
+fresh_low past slot = next_low (past.low (region_key_slot slot))
 
 -- the bytes of a slot's adapter that a registration names
 abbrev pub named_run : Slot → ℕ → ℕ → ℕ → Run

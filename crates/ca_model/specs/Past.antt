@@ -12,6 +12,7 @@ use Rattle.ca_base.specs.declared.completion.Completion.{Completion}
 use Rattle.ca_base.specs.declared.completion.WcOp.{WcOp}
 use Rattle.ca_base.specs.declared.completion.WcOp.TheVariants as operations
 use Rattle.ca_base.specs.declared.completion.WcStatus.TheVariants.{Success}
+use Rattle.ca_base.specs.declared.correspondent.Correspondent.{Correspondent}
 use Rattle.ca_keys.specs.declared.grant.Grant.{Grant}
 use Rattle.ca_keys.specs.declared.key.Key.{Key}
 use Rattle.ca_base.specs.declared.limits.TheConstants.{ATOMIC_BYTES}
@@ -28,7 +29,7 @@ use Rattle.ca_keys.specs.Equal.{key_eq, queue_eq, slot_eq}
 use Rattle.ca_base.specs.Equal.{operation_eq, status_eq}
 use Rattle.ca_base.specs.Grants.{next_low}
 use Rattle.ca_keys.specs.Memory.{ByteMap, runs_for, memory_after, little_endian_bytes}
-use Rattle.ca_keys.specs.Numbers.{index_of, low_of, queue_of, domain_of, window_index}
+use Rattle.ca_keys.specs.Numbers.{index_of, low_of, queue_of, domain_of, region_index, window_index}
 use Rattle.ca_packet.specs.Packet.{Fields}
 use Rattle.ca_model.specs.declared.answer.Answer.{Answer}
 use Rattle.ca_model.specs.declared.answer.Answer.TheVariants as answers
@@ -47,11 +48,6 @@ pub record KeySlot : Type 0 where
   pub adapter : ℕ
   pub index : ℕ
 
--- a queue pair in one of its incarnations
-pub record Life : Type 0 where
-  pub queue : QueueId
-  pub incarnation : ℕ
-
 -- how a key came into force: by a registration, by a fast registration, or by a bind to the region with this key
 pub data Way : Type 0 where
   Registration : Way
@@ -69,7 +65,7 @@ pub record LatestWrite : Type 0 where
 -- and whether its target was reset or destroyed since
 pub record Envelope : Type 0 where
   pub index : ℕ
-  pub source : Life
+  pub source : Correspondent
   pub request : Option ℕ
   pub bytes : List ℕ
   pub lost : Bool
@@ -90,26 +86,26 @@ pub record ReadRequest : Type 0 where
 
 -- an Rtr that succeeded: whose, the peer that it named, the PSN that it expects and the path MTU
 pub record Naming : Type 0 where
-  pub own : Life
-  pub peer : Life
+  pub own : Correspondent
+  pub peer : Correspondent
   pub psn : ℕ
   pub mtu : ℕ
 
 -- an Rts that succeeded: whose, and the PSN that it begins with
 pub record Start : Type 0 where
-  pub own : Life
+  pub own : Correspondent
   pub psn : ℕ
 
 -- an atomic that acted: of which posted request, and the number that it found
 pub record Acted : Type 0 where
-  pub own : Life
+  pub own : Correspondent
   pub place : ℕ
   pub found : ℕ
 
 -- an atomic that completed with success: of which posted request, the bytes that its event put into its list, and the
 -- numbers that the atomics of this request found before
 pub record Succeeded : Type 0 where
-  pub own : Life
+  pub own : Correspondent
   pub place : ℕ
   pub put : List ℕ
   pub found : List ℕ
@@ -152,8 +148,6 @@ pub record AtHand : Type 0 where
   pub completed : List Completion
 
 pub record Past : Type 0 where
-  -- how many entries there were
-  pub entries : ℕ
   -- the grants in force, the latest first
   pub grants : List Grant
   pub memory : ByteMap
@@ -172,12 +166,12 @@ pub record Past : Type 0 where
   pub latest_write : QueueId → Option LatestWrite
   -- by queue pair and incarnation: the posted send requests and receives by place, how many local operations were
   -- performed, the READ requests that arrived, the places of the latest send and receive that completed
-  pub posted : Life → List Posted
-  pub receives : Life → List RecvRequest
-  pub performed : Life → ℕ
-  pub read_requests : Life → List ReadRequest
-  pub last_send : Life → Option ℕ
-  pub last_receive : Life → Option ℕ
+  pub posted : Correspondent → List Posted
+  pub receives : Correspondent → List RecvRequest
+  pub performed : Correspondent → ℕ
+  pub read_requests : Correspondent → List ReadRequest
+  pub last_send : Correspondent → Option ℕ
+  pub last_receive : Correspondent → Option ℕ
   -- the receives of a shared receive queue by place, since it was created
   pub shared : Slot → List RecvRequest
   -- the completion queues of a queue pair, for sends and for receives, and the completions that wait in each
@@ -186,7 +180,7 @@ pub record Past : Type 0 where
   -- every Rtr, Rts and Inject that succeeded, every atomic that acted and every one that completed with success
   pub namings : List Naming
   pub starts : List Start
-  pub injected : List Life
+  pub injected : List Correspondent
   pub acted : List Acted
   pub succeeded : List Succeeded
   pub at_hand : AtHand
@@ -198,8 +192,8 @@ with_at eq f a v x = if eq a x then v else f x
 abbrev pub key_slot_eq : KeySlot → KeySlot → Bool
 key_slot_eq a b = (a.adapter == b.adapter) && (a.index == b.index)
 
-abbrev pub life_eq : Life → Life → Bool
-life_eq a b = queue_eq a.queue b.queue && (a.incarnation == b.incarnation)
+abbrev pub correspondent_eq : Correspondent → Correspondent → Bool
+correspondent_eq a b = queue_eq a.queue b.queue && (a.incarnation == b.incarnation)
 
 -- the key slot of an adapter's key
 abbrev pub key_slot : ℕ → Key → KeySlot
@@ -209,9 +203,12 @@ key_slot adapter key = record { adapter = adapter; index = index_of key }
 abbrev pub key_slot_of : Grant → KeySlot
 key_slot_of g = key_slot g.domain.adapter g.key
 
--- the key slot of the window in a slot
-abbrev pub window_slot : Slot → KeySlot
-window_slot s = record { adapter = s.domain.adapter; index = window_index s }
+-- the key slots of the region and of the window in a slot
+abbrev pub region_key_slot : Slot → KeySlot
+region_key_slot s = record { adapter = s.domain.adapter; index = region_index s }
+
+abbrev pub window_key_slot : Slot → KeySlot
+window_key_slot s = record { adapter = s.domain.adapter; index = window_index s }
 
 -- a slot of a queue pair's domain
 abbrev pub slot_beside : QueueId → ℕ → Slot
@@ -235,8 +232,8 @@ abbrev pub local_ask : QueueId → DomainId → Key → Kind → ℕ → ℕ →
 local_ask queue domain key kind address length = record (remote_ask queue domain key kind address length) { local = true }
 
 -- a queue pair in its present incarnation
-abbrev pub life_of : Past → QueueId → Life
-life_of past q = record { queue = q; incarnation = past.incarnation q }
+abbrev pub present_incarnation : Past → QueueId → Correspondent
+present_incarnation past q = record { queue = q; incarnation = past.incarnation q }
 
 -- the path MTU of a queue pair, 0 before its Rtr
 abbrev pub mtu_of : Past → QueueId → ℕ
@@ -267,7 +264,6 @@ no_event = events.RnrWake (record { adapter = 0; number = 0 })
 -- before any event, over these bytes
 abbrev pub opening_past : ByteMap → Past
 opening_past bytes = record {
-  entries = 0;
   grants = [];
   memory = bytes;
   low = λ k. 0;
@@ -304,14 +300,14 @@ injected_bytes (events.Verb by (verbs.Inject queue bytes)) = Some bytes
 injected_bytes event = None
 
 -- the latest envelope of a queue pair with this index
-abbrev pub envelope_at : Past → QueueId → ℕ → Option Envelope
-envelope_at past q index = find (λ e. e.index == index) (past.envelopes q)
+abbrev pub envelope_sent : Past → QueueId → ℕ → Option Envelope
+envelope_sent past q index = find (λ e. e.index == index) (past.envelopes q)
 
 -- the bytes of the packet that a mark names: of the latest envelope with its index, or without an index of the
 -- injection of its event
 abbrev pub packet_bytes_at : Past → QueueId → Option ℕ → Option (List ℕ)
 packet_bytes_at past q None = injected_bytes past.at_hand.event
-packet_bytes_at past q (Some index) = option_map (λ e. e.bytes) (envelope_at past q index)
+packet_bytes_at past q (Some index) = option_map (λ e. e.bytes) (envelope_sent past q index)
 
 -- the packet that a mark names
 abbrev pub packet_at : Past → QueueId → Option ℕ → Option Fields
@@ -323,7 +319,7 @@ local_operations posted = filter (λ p. is_local p.request.op) posted
 
 -- the local operation of a queue pair that is performed next: they are performed in posting order
 abbrev pub next_operation : Past → QueueId → Option Posted
-next_operation past q = slice_get (local_operations (past.posted (life_of past q))) (past.performed (life_of past q))
+next_operation past q = slice_get (local_operations (past.posted (present_incarnation past q))) (past.performed (present_incarnation past q))
 
 -- the local operation that the event at hand may perform: that of the queue pair whose request it is
 abbrev pub operation_at_hand : Past → Option Posted
@@ -362,9 +358,9 @@ after_change q (changes.Rtr peer incarnation psn mtu rnr_code) past = record pas
 }
   where
     named : Past → Naming
-    named p = record { own = life_of p q; peer = record { queue = peer; incarnation = incarnation }; psn = psn; mtu = mtu }
+    named p = record { own = present_incarnation p q; peer = record { queue = peer; incarnation = incarnation }; psn = psn; mtu = mtu }
 after_change q (changes.Rts psn retry rnr_retry reads) past =
-    record past { starts = record { own = life_of past q; psn = psn } ∷ past.starts }
+    record past { starts = record { own = present_incarnation past q; psn = psn } ∷ past.starts }
 after_change q changes.Sqd past = past
 after_change q changes.Resume past = past
 after_change q changes.Error past = past
@@ -372,23 +368,23 @@ after_change q changes.Error past = past
 -- what a request that was posted leaves: the byte that a bind of a type 1 window drew is the one after the last drawn
 abbrev pub after_post : QueueId → SendRequest → Option Key → Past → Past
 after_post q request None past = record past {
-  posted = with_at life_eq past.posted (life_of past q)
-      (past.posted (life_of past q) ++ record { request = request; drawn = None; first_psn = None } ∷ []);
+  posted = with_at correspondent_eq past.posted (present_incarnation past q)
+      (past.posted (present_incarnation past q) ++ record { request = request; drawn = None; first_psn = None } ∷ []);
 }
 after_post q request (Some key) past = record past {
-  posted = with_at life_eq past.posted (life_of past q)
-      (past.posted (life_of past q) ++ record { request = request; drawn = Some (byte past request.op); first_psn = None } ∷ []);
-  drawn = drawn_by request.op;
+  posted = with_at correspondent_eq past.posted (present_incarnation past q)
+      (past.posted (present_incarnation past q) ++ record { request = request; drawn = Some (byte past request.op); first_psn = None } ∷ []);
+  drawn = drawn_after request.op;
 }
   where
     byte : Past → SendOp → ℕ
-    byte p (ops.Bind1 window region address length rights) = next_low (p.drawn (window_slot (slot_beside q window)))
+    byte p (ops.Bind1 window region address length rights) = next_low (p.drawn (window_key_slot (slot_beside q window)))
     byte p op = 0
 
-    drawn_by : SendOp → KeySlot → ℕ
-    drawn_by (ops.Bind1 window region address length rights) =
-        with_at key_slot_eq past.drawn (window_slot (slot_beside q window)) (byte past (ops.Bind1 window region address length rights))
-    drawn_by op = past.drawn
+    drawn_after : SendOp → KeySlot → ℕ
+    drawn_after (ops.Bind1 window region address length rights) =
+        with_at key_slot_eq past.drawn (window_key_slot (slot_beside q window)) (byte past (ops.Bind1 window region address length rights))
+    drawn_after op = past.drawn
 
 -- what an answered verb leaves; a verb that was refused leaves nothing
 abbrev pub after_verb : Verb → Answer → Past → Past
@@ -419,7 +415,7 @@ after_verb (verbs.DestroyQp slot) answer past = past
 after_verb (verbs.PostSend slot request) (answers.Posted key) past = after_post (queue_of slot) request key past
 after_verb (verbs.PostSend slot request) answer past = past
 after_verb (verbs.PostRecv slot request) (answers.Posted key) past = record past {
-  receives = with_at life_eq past.receives (life_of past (queue_of slot)) (past.receives (life_of past (queue_of slot)) ++ request ∷ []);
+  receives = with_at correspondent_eq past.receives (present_incarnation past (queue_of slot)) (past.receives (present_incarnation past (queue_of slot)) ++ request ∷ []);
 }
 after_verb (verbs.PostRecv slot request) answer past = past
 after_verb (verbs.PostSrq slot request) (answers.Posted key) past =
@@ -430,7 +426,7 @@ after_verb (verbs.Poll slot n least) (answers.Polled completions) past =
 after_verb (verbs.Poll slot n least) answer past = past
 after_verb (verbs.Store adapter buffer offset bytes) answer past = past
 after_verb (verbs.Load adapter buffer offset length) answer past = past
-after_verb (verbs.Inject queue bytes) answers.Fine past = record past { injected = life_of past queue ∷ past.injected }
+after_verb (verbs.Inject queue bytes) answers.Fine past = record past { injected = present_incarnation past queue ∷ past.injected }
 after_verb (verbs.Inject queue bytes) answer past = past
 
 -- how a key comes into force in the event at hand: by the local operation that its request performs, or by a verb
@@ -467,9 +463,9 @@ latest_write_after ask verdict latest = latest
 -- the atomic that a Swapped mark tells of: it stems from the request that the Sent of its packet names
 abbrev pub acted_by : Past → QueueId → Option ℕ → ℕ → List Acted
 acted_by past q None found = []
-acted_by past q (Some index) found = option_map_or (λ e. by e.source e.request) (envelope_at past q index) []
+acted_by past q (Some index) found = option_map_or (λ e. by e.source e.request) (envelope_sent past q index) []
   where
-    by : Life → Option ℕ → List Acted
+    by : Correspondent → Option ℕ → List Acted
     by source None = []
     by source (Some place) = record { own = source; place = place; found = found } ∷ []
 
@@ -523,12 +519,12 @@ with_first_psn place psn (p ∷ ps) =
     first (Some n) = Some n
 
 -- posted requests after a packet of one of them was sent
-abbrev pub posted_after : Past → QueueId → Option ℕ → List ℕ → Life → List Posted
+abbrev pub posted_after : Past → QueueId → Option ℕ → List ℕ → Correspondent → List Posted
 posted_after past source None bytes = past.posted
 posted_after past source (Some place) bytes = option_map_or (λ p. at p.psn) (packet_of bytes) past.posted
   where
-    at : ℕ → Life → List Posted
-    at psn = with_at life_eq past.posted (life_of past source) (with_first_psn place psn (past.posted (life_of past source)))
+    at : ℕ → Correspondent → List Posted
+    at psn = with_at correspondent_eq past.posted (present_incarnation past source) (with_first_psn place psn (past.posted (present_incarnation past source)))
 
 -- what a packet that was sent leaves: an envelope where it has an index, and else the duty to be lost
 abbrev pub after_sent : QueueId → QueueId → Option ℕ → Option ℕ → List ℕ → Past → Past
@@ -542,7 +538,7 @@ after_sent source target index request bytes past = record past {
     envelopes_after None = past.envelopes
     envelopes_after (Some i) = with_at queue_eq past.envelopes target (record {
       index = i;
-      source = life_of past source;
+      source = present_incarnation past source;
       request = request;
       bytes = bytes;
       lost = false;
@@ -580,8 +576,8 @@ read_request_of envelope p = if asks_read p.opcode then option_map_or (λ r. req
 -- what a packet that arrived leaves
 abbrev pub after_arrival : QueueId → Option ℕ → Past → Past
 after_arrival target index past = record past {
-  read_requests = with_at life_eq past.read_requests (life_of past target)
-      (option_map_or (read_request_of index) (packet_at past target index) [] ++ past.read_requests (life_of past target));
+  read_requests = with_at correspondent_eq past.read_requests (present_incarnation past target)
+      (option_map_or (read_request_of index) (packet_at past target index) [] ++ past.read_requests (present_incarnation past target));
   at_hand = record past.at_hand { arrival = Some (record { target = target; index = index }) };
 }
 
@@ -594,18 +590,18 @@ abbrev pub is_send_success : Completion → Bool
 is_send_success c = not c.receive && status_eq c.status Success
 
 -- the numbers that the atomics of a posted request found so far
-abbrev pub found_of : Past → Life → ℕ → List ℕ
+abbrev pub found_of : Past → Correspondent → ℕ → List ℕ
 found_of past own place = by past.acted
   where
     by : List Acted → List ℕ
     by [] = []
-    by (a ∷ rest) = if life_eq a.own own && (a.place == place) then a.found ∷ by rest else by rest
+    by (a ∷ rest) = if correspondent_eq a.own own && (a.place == place) then a.found ∷ by rest else by rest
 
 -- what a completion leaves: it waits in the completion queue of its side
 abbrev pub after_done : Completion → Past → Past
 after_done c past = record past {
-  last_send = if c.receive then past.last_send else with_at life_eq past.last_send (life_of past c.queue) (Some c.place);
-  last_receive = if c.receive then with_at life_eq past.last_receive (life_of past c.queue) (Some c.place) else past.last_receive;
+  last_send = if c.receive then past.last_send else with_at correspondent_eq past.last_send (present_incarnation past c.queue) (Some c.place);
+  last_receive = if c.receive then with_at correspondent_eq past.last_receive (present_incarnation past c.queue) (Some c.place) else past.last_receive;
   waiting = with_at slot_eq past.waiting (cq c.receive) (past.waiting (cq c.receive) ++ c ∷ []);
   succeeded = if is_send_success c && is_atomic c.op then success ∷ past.succeeded else past.succeeded;
   at_hand = record past.at_hand { completed = past.at_hand.completed ++ c ∷ [] };
@@ -617,10 +613,10 @@ after_done c past = record past {
 
     success : Succeeded
     success = record {
-      own = life_of past c.queue;
+      own = present_incarnation past c.queue;
       place = c.place;
       put = past.at_hand.put_locally;
-      found = found_of past (life_of past c.queue) c.place;
+      found = found_of past (present_incarnation past c.queue) c.place;
     }
 
 -- what a mark leaves
@@ -671,12 +667,12 @@ operation_performed past =
 
 -- as an event ends: a local operation that it performed is done
 abbrev pub at_end : Past → Past
-at_end past = record past { entries = suc past.entries; performed = by past.at_hand.event }
+at_end past = record past { performed = by past.at_hand.event }
   where
-    by : Event → Life → ℕ
+    by : Event → Correspondent → ℕ
     by (events.Request queue lot) =
         if is_some (operation_performed past)
-        then with_at life_eq past.performed (life_of past queue) (suc (past.performed (life_of past queue)))
+        then with_at correspondent_eq past.performed (present_incarnation past queue) (suc (past.performed (present_incarnation past queue)))
         else past.performed
     by event = past.performed
 
