@@ -44,7 +44,7 @@ is_found_alone found put = false
 -- an atomic of a clean connection that completed with success acted exactly once before, and the number that it found
 -- was put into its list
 abbrev pub acted_before_success : Past → Succeeded → Bool
-acted_before_success past s = not (is_clean past s.own) || is_found_alone s.found s.put
+acted_before_success past s = not (is_clean past s.atomic.own) || is_found_alone s.atomic.found s.put
 
 -- of all that a history has left
 abbrev pub is_once : Past → Bool

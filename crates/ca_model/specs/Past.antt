@@ -1,6 +1,6 @@
 -- What the entries and marks so far have left, for the relations that look back. Each relation on a history says of
 -- each mark, or of each entry, what it must be, given this record. It knows no adapter. Contracts cite it.
-use Rattle.std.specs.Prelude.{ℕ, suc, ◌-◌, Bool, true, false, not, ◌&&◌, ◌||◌, ◌==◌, if◌then◌else◌, List, [], ◌∷◌, ◌++◌, length, drop, filter, find, slice_get, Option, None, Some, is_some}
+use Rattle.std.specs.Prelude.{ℕ, suc, ◌-◌, Bool, true, false, not, ◌&&◌, ◌||◌, ◌==◌, if◌then◌else◌, List, [], ◌∷◌, ◌++◌, length, drop, filter, find, map, slice_get, Option, None, Some, is_some}
 use Rattle.std.specs.List.{list_any}
 use Rattle.std.specs.Option.{option_map, option_map_or, option_and_then}
 use Rattle.ca_keys.specs.declared.access.Ask.{Ask}
@@ -41,7 +41,7 @@ use Rattle.ca_model.specs.declared.verb.Verb.{Verb}
 use Rattle.ca_model.specs.declared.verb.Verb.TheVariants as verbs
 use Rattle.ca_model.specs.Entries.{EntryValue}
 use Rattle.ca_model.specs.Packets.{packet_of, asks_read}
-use Rattle.ca_model.specs.Requests.{is_local}
+use Rattle.ca_model.specs.Requests.{is_local, operation_of}
 
 -- a key slot: the adapter, and the key index there
 pub record KeySlot : Type 0 where
@@ -102,13 +102,16 @@ pub record Acted : Type 0 where
   pub place : ℕ
   pub found : ℕ
 
--- an atomic that completed with success: of which posted request, the bytes that its event put into its list, and the
--- numbers that the atomics of this request found before
-pub record Succeeded : Type 0 where
+-- an atomic that completed with success: of which posted request, and the numbers that were found for it before
+pub record AtomicDone : Type 0 where
   pub own : Correspondent
   pub place : ℕ
-  pub put : List ℕ
   pub found : List ℕ
+
+-- the same, with the bytes that the event of its completion put into lists
+pub record Succeeded : Type 0 where
+  pub atomic : AtomicDone
+  pub put : List ℕ
 
 -- a packet that arrived: where, and by which index
 pub record Arrival : Type 0 where
@@ -145,7 +148,9 @@ pub record AtHand : Type 0 where
   pub sent : List (List ℕ)
   -- targets of packets that were sent without an index, and are not yet lost
   pub pathless : List QueueId
+  -- the completions, and among them the atomics that completed with success
   pub completed : List Completion
+  pub atomics : List AtomicDone
 
 pub record Past : Type 0 where
   -- the grants in force, the latest first
@@ -174,8 +179,9 @@ pub record Past : Type 0 where
   pub last_receive : Correspondent → Option ℕ
   -- the receives of a shared receive queue by place, since it was created
   pub shared : Slot → List RecvRequest
-  -- the completion queues of a queue pair, for sends and for receives, and the completions that wait in each
-  pub cqs : QueueId → Slot × Slot
+  -- the completion queues of a queue pair, for sends and for receives, once it is created, and the completions that wait
+  -- in each
+  pub cqs : QueueId → Option (Slot × Slot)
   pub waiting : Slot → List Completion
   -- every Rtr, Rts and Inject that succeeded, every atomic that acted and every one that completed with success
   pub namings : List Naming
@@ -255,6 +261,7 @@ nothing_at_hand event grants = record {
   sent = [];
   pathless = [];
   completed = [];
+  atomics = [];
 }
 
 -- an event that does nothing, for the record before the first
@@ -280,7 +287,7 @@ opening_past bytes = record {
   last_send = λ l. None;
   last_receive = λ l. None;
   shared = λ s. [];
-  cqs = λ q. (slot_beside q 0, slot_beside q 0);
+  cqs = λ q. None;
   waiting = λ s. [];
   namings = [];
   starts = [];
@@ -312,6 +319,10 @@ packet_bytes_at past q (Some index) = option_map (λ e. e.bytes) (envelope_sent 
 -- the packet that a mark names
 abbrev pub packet_at : Past → QueueId → Option ℕ → Option Fields
 packet_at past q index = option_and_then packet_of (packet_bytes_at past q index)
+
+-- the send request that was posted at a place of a queue pair in its present incarnation
+abbrev pub posted_at : Past → QueueId → ℕ → Option Posted
+posted_at past q place = slice_get (past.posted (present_incarnation past q)) place
 
 -- the local operations among posted requests, in order
 abbrev pub local_operations : List Posted → List Posted
@@ -404,7 +415,7 @@ after_verb (verbs.DestroySrq slot) answer past = past
 after_verb (verbs.CreateQp slot send_cq recv_cq send_depth recv_depth srq) (answers.Queue number incarnation) past =
     with_new_life (queue_of slot) (record past {
       cqs = with_at queue_eq past.cqs (queue_of slot)
-          (record { domain = slot.domain; slot = send_cq }, record { domain = slot.domain; slot = recv_cq });
+          (Some (record { domain = slot.domain; slot = send_cq }, record { domain = slot.domain; slot = recv_cq }));
     })
 after_verb (verbs.CreateQp slot send_cq recv_cq send_depth recv_depth srq) answer past = past
 after_verb (verbs.ModifyQp slot change) answers.Fine past = after_change (queue_of slot) change past
@@ -597,27 +608,39 @@ found_of past own place = by past.acted
     by [] = []
     by (a ∷ rest) = if correspondent_eq a.own own && (a.place == place) then a.found ∷ by rest else by rest
 
--- what a completion leaves: it waits in the completion queue of its side
+-- the atomic that a completion tells of as a success, by the posted request at its place
+abbrev pub atomic_done : Past → Completion → List AtomicDone
+atomic_done past c =
+    if is_send_success c && option_map_or (λ p. is_atomic (operation_of p.request.op)) (posted_at past c.queue c.place) false
+    then record {
+      own = present_incarnation past c.queue;
+      place = c.place;
+      found = found_of past (present_incarnation past c.queue) c.place;
+    } ∷ []
+    else []
+
+-- the completions that wait, after one was put into the completion queue of its side
+abbrev pub waiting_after : Past → Completion → Slot → List Completion
+waiting_after past c = option_map_or (λ cqs. put (side c.receive cqs)) (past.cqs c.queue) past.waiting
+  where
+    side : Bool → Slot × Slot → Slot
+    side true cqs = cqs.1
+    side false cqs = cqs.0
+
+    put : Slot → Slot → List Completion
+    put cq = with_at slot_eq past.waiting cq (past.waiting cq ++ c ∷ [])
+
+-- what a completion leaves: it waits in the completion queue of its side, if its queue pair was ever created
 abbrev pub after_done : Completion → Past → Past
 after_done c past = record past {
   last_send = if c.receive then past.last_send else with_at correspondent_eq past.last_send (present_incarnation past c.queue) (Some c.place);
   last_receive = if c.receive then with_at correspondent_eq past.last_receive (present_incarnation past c.queue) (Some c.place) else past.last_receive;
-  waiting = with_at slot_eq past.waiting (cq c.receive) (past.waiting (cq c.receive) ++ c ∷ []);
-  succeeded = if is_send_success c && is_atomic c.op then success ∷ past.succeeded else past.succeeded;
-  at_hand = record past.at_hand { completed = past.at_hand.completed ++ c ∷ [] };
+  waiting = waiting_after past c;
+  at_hand = record past.at_hand {
+    completed = past.at_hand.completed ++ c ∷ [];
+    atomics = past.at_hand.atomics ++ atomic_done past c;
+  };
 }
-  where
-    cq : Bool → Slot
-    cq true = (past.cqs c.queue).1
-    cq false = (past.cqs c.queue).0
-
-    success : Succeeded
-    success = record {
-      own = present_incarnation past c.queue;
-      place = c.place;
-      put = past.at_hand.put_locally;
-      found = found_of past (present_incarnation past c.queue) c.place;
-    }
 
 -- what a mark leaves
 abbrev pub after_mark : Mark → Past → Past
@@ -665,9 +688,13 @@ operation_performed past =
     if past.at_hand.used_list || is_some (slice_get past.at_hand.sent 0) || list_any is_failure past.at_hand.completed
     then None else operation_at_hand past
 
--- as an event ends: a local operation that it performed is done
+-- as an event ends: a local operation that it performed is done; of the atomics that completed with success all that
+-- the event put into lists counts
 abbrev pub at_end : Past → Past
-at_end past = record past { performed = by past.at_hand.event }
+at_end past = record past {
+  performed = by past.at_hand.event;
+  succeeded = map (λ a. record { atomic = a; put = past.at_hand.put_locally }) past.at_hand.atomics ++ past.succeeded;
+}
   where
     by : Event → Correspondent → ℕ
     by (events.Request queue lot) =
