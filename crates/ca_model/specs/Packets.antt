@@ -6,7 +6,7 @@ use Rattle.ca_keys.specs.declared.access.Kind.TheVariants as kinds
 use Rattle.ca_keys.specs.Equal.{kind_eq}
 use Rattle.ca_packet.specs.declared.atomic_eth.AtomicEth.{AtomicEth}
 use Rattle.ca_packet.specs.declared.shape.Operation.{Operation}
-use Rattle.ca_packet.specs.declared.shape.Operation.TheVariants.{Request}
+use Rattle.ca_packet.specs.declared.shape.Operation.TheVariants.{Request, ReadResponse}
 use Rattle.ca_packet.specs.declared.shape.Position.{Position}
 use Rattle.ca_packet.specs.declared.shape.Shape.{Shape}
 use Rattle.ca_packet.specs.declared.shape.Shape.TheVariants as shapes
@@ -51,6 +51,14 @@ asks_atomic kind opcode = by (shape_of opcode)
 -- a SEND with Invalidate, at its last packet, which carries an IETH
 abbrev pub asks_invalidate : ℕ → Bool
 asks_invalidate opcode = follows IETH opcode
+
+-- a READ Response
+abbrev pub answers_read : ℕ → Bool
+answers_read opcode = by (operation_of opcode)
+  where
+    by : Option Operation → Bool
+    by (Some (ReadResponse place)) = true
+    by operation = false
 
 -- a response: READ Response, Acknowledge or ATOMIC Acknowledge
 abbrev pub is_response : ℕ → Bool

@@ -71,11 +71,11 @@ pub record Envelope : Type 0 where
   pub lost : Bool
   pub cut : Bool
 
--- a posted send request, the byte that it drew, and the PSN of its first packet, once that is sent
+-- a posted send request, its place, and the byte that it drew
 pub record Posted : Type 0 where
+  pub place : ℕ
   pub request : SendRequest
   pub drawn : Option ℕ
-  pub first_psn : Option ℕ
 
 -- a READ request that arrived: by which envelope, and what it asks for
 pub record ReadRequest : Type 0 where
@@ -128,6 +128,18 @@ pub record RevokedKey : Type 0 where
   pub adapter : ℕ
   pub key : Key
 
+-- a packet that was sent: by whom, to whom, of which posted request, and its bytes
+pub record SentPacket : Type 0 where
+  pub source : QueueId
+  pub target : QueueId
+  pub request : Option ℕ
+  pub bytes : List ℕ
+
+-- the bytes that a READ of a queue pair gave
+pub record RemoteRead : Type 0 where
+  pub queue : QueueId
+  pub bytes : List ℕ
+
 -- what the marks so far of one event have left
 pub record AtHand : Type 0 where
   pub event : Event
@@ -142,10 +154,9 @@ pub record AtHand : Type 0 where
   pub used_list : Bool
   pub read_locally : List ℕ
   pub put_locally : List ℕ
-  -- the bytes that a READ gave
-  pub read_remotely : Option (List ℕ)
-  -- the packets that were sent
-  pub sent : List (List ℕ)
+  -- what READs gave, and the packets that were sent, in order
+  pub read_remotely : List RemoteRead
+  pub sent : List SentPacket
   -- targets of packets that were sent without an index, and are not yet lost
   pub pathless : List QueueId
   -- the completions, and among them the atomics that completed with success
@@ -257,7 +268,7 @@ nothing_at_hand event grants = record {
   used_list = false;
   read_locally = [];
   put_locally = [];
-  read_remotely = None;
+  read_remotely = [];
   sent = [];
   pathless = [];
   completed = [];
@@ -376,26 +387,33 @@ after_change q changes.Sqd past = past
 after_change q changes.Resume past = past
 after_change q changes.Error past = past
 
--- what a request that was posted leaves: the byte that a bind of a type 1 window drew is the one after the last drawn
+-- the byte that a posted request drew, where a key was answered: a bind of a type 1 window draws the byte after the last
+-- that its window drew
+abbrev pub drawn_at : Past → QueueId → SendOp → Option Key → Option ℕ
+drawn_at past q op None = None
+drawn_at past q (ops.Bind1 window region address length rights) (Some key) =
+    Some (next_low (past.drawn (window_key_slot (slot_beside q window))))
+drawn_at past q op (Some key) = Some 0
+
+-- the byte of each window's key slot that was drawn last, after this one was
+abbrev pub drawn_after : Past → QueueId → SendOp → Option ℕ → KeySlot → ℕ
+drawn_after past q (ops.Bind1 window region address length rights) (Some byte) =
+    with_at key_slot_eq past.drawn (window_key_slot (slot_beside q window)) byte
+drawn_after past q op byte = past.drawn
+
+-- what a request that was posted leaves
 abbrev pub after_post : QueueId → SendRequest → Option Key → Past → Past
-after_post q request None past = record past {
-  posted = with_at correspondent_eq past.posted (present_incarnation past q)
-      (past.posted (present_incarnation past q) ++ record { request = request; drawn = None; first_psn = None } ∷ []);
-}
-after_post q request (Some key) past = record past {
-  posted = with_at correspondent_eq past.posted (present_incarnation past q)
-      (past.posted (present_incarnation past q) ++ record { request = request; drawn = Some (byte past request.op); first_psn = None } ∷ []);
-  drawn = drawn_after request.op;
+after_post q request key past = record past {
+  posted = with_at correspondent_eq past.posted own (past.posted own ++ record {
+    place = length (past.posted own);
+    request = request;
+    drawn = drawn_at past q request.op key;
+  } ∷ []);
+  drawn = drawn_after past q request.op (drawn_at past q request.op key);
 }
   where
-    byte : Past → SendOp → ℕ
-    byte p (ops.Bind1 window region address length rights) = next_low (p.drawn (window_key_slot (slot_beside q window)))
-    byte p op = 0
-
-    drawn_after : SendOp → KeySlot → ℕ
-    drawn_after (ops.Bind1 window region address length rights) =
-        with_at key_slot_eq past.drawn (window_key_slot (slot_beside q window)) (byte past (ops.Bind1 window region address length rights))
-    drawn_after op = past.drawn
+    own : Correspondent
+    own = present_incarnation past q
 
 -- what an answered verb leaves; a verb that was refused leaves nothing
 abbrev pub after_verb : Verb → Answer → Past → Past
@@ -505,8 +523,12 @@ after_remote ask envelope verdict past = record past {
   memory = memory_after_access past ask verdict;
   latest_write = with_at queue_eq past.latest_write ask.queue (latest_write_after ask verdict (past.latest_write ask.queue));
   acted = acted_after past ask.queue envelope verdict;
-  at_hand = record past.at_hand { read_remotely = bytes_read verdict };
+  at_hand = record past.at_hand { read_remotely = past.at_hand.read_remotely ++ reads (bytes_read verdict) };
 }
+  where
+    reads : Option (List ℕ) → List RemoteRead
+    reads None = []
+    reads (Some bytes) = record { queue = ask.queue; bytes = bytes } ∷ []
 
 -- what a local access leaves
 abbrev pub after_local : Ask → Verdict → Past → Past
@@ -519,30 +541,14 @@ after_local ask verdict past = record past {
   };
 }
 
--- posted requests, of which the one at this place was first sent at this PSN
-abbrev pub with_first_psn : ℕ → ℕ → List Posted → List Posted
-with_first_psn place psn [] = []
-with_first_psn place psn (p ∷ ps) =
-    if place == 0 then record p { first_psn = first p.first_psn } ∷ ps else p ∷ with_first_psn (place - 1) psn ps
-  where
-    first : Option ℕ → Option ℕ
-    first None = Some psn
-    first (Some n) = Some n
-
--- posted requests after a packet of one of them was sent
-abbrev pub posted_after : Past → QueueId → Option ℕ → List ℕ → Correspondent → List Posted
-posted_after past source None bytes = past.posted
-posted_after past source (Some place) bytes = option_map_or (λ p. at p.psn) (packet_of bytes) past.posted
-  where
-    at : ℕ → Correspondent → List Posted
-    at psn = with_at correspondent_eq past.posted (present_incarnation past source) (with_first_psn place psn (past.posted (present_incarnation past source)))
-
 -- what a packet that was sent leaves: an envelope where it has an index, and else the duty to be lost
 abbrev pub after_sent : QueueId → QueueId → Option ℕ → Option ℕ → List ℕ → Past → Past
 after_sent source target index request bytes past = record past {
-  posted = posted_after past source request bytes;
   envelopes = envelopes_after index;
-  at_hand = record past.at_hand { sent = past.at_hand.sent ++ bytes ∷ []; pathless = pathless_after index };
+  at_hand = record past.at_hand {
+    sent = past.at_hand.sent ++ record { source = source; target = target; request = request; bytes = bytes } ∷ [];
+    pathless = pathless_after index;
+  };
 }
   where
     envelopes_after : Option ℕ → QueueId → List Envelope
