@@ -167,7 +167,8 @@ pub record Past : Type 0 where
   -- the grants in force, the latest first
   pub grants : List Grant
   pub memory : ByteMap
-  -- the low byte of each key slot, as it was granted last, and the byte of each window's key slot that was drawn last
+  -- the low byte of each region's key slot, as it was registered last, and the byte of each window's key slot that was
+  -- drawn last
   pub low : KeySlot → ℕ
   pub drawn : KeySlot → ℕ
   -- how the latest grant of a key slot came into force
@@ -656,7 +657,6 @@ after_mark (marks.Verb by verb answer) past =
     })
 after_mark (marks.Granted g) past = record past {
   grants = g ∷ past.grants;
-  low = with_at key_slot_eq past.low (key_slot_of g) (low_of g.key);
   way = with_at key_slot_eq past.way (key_slot_of g) (way_at_hand past);
   at_hand = record past.at_hand { granted = g ∷ past.at_hand.granted };
 }
@@ -683,31 +683,67 @@ abbrev pub after_marks : List Mark → Past → Past
 after_marks [] past = past
 after_marks (m ∷ ms) past = after_marks ms (after_mark m past)
 
--- a completion that tells that the local operation at hand failed
-abbrev pub is_failure : Completion → Bool
-is_failure c = not c.receive && not (status_eq c.status Success)
+-- the completion tells that this posted request of a queue pair failed
+abbrev pub is_failure_of : QueueId → Posted → Completion → Bool
+is_failure_of queue p c =
+    not c.receive && queue_eq c.queue queue && (c.place == p.place) && not (status_eq c.status Success)
 
 -- a local operation was performed in the event at hand: in a request's event in which nothing was sent and no list was
 -- used, unless a completion says that it failed
 abbrev pub operation_performed : Past → Option Posted
 operation_performed past =
-    if past.at_hand.used_list || is_some (slice_get past.at_hand.sent 0) || list_any is_failure past.at_hand.completed
-    then None else operation_at_hand past
+    if past.at_hand.used_list || is_some (slice_get past.at_hand.sent 0) then None else by past.at_hand.event
+  where
+    unless_failed : QueueId → Posted → Option Posted
+    unless_failed queue p = if list_any (is_failure_of queue p) past.at_hand.completed then None else Some p
 
--- as an event ends: a local operation that it performed is done; of the atomics that completed with success all that
--- the event put into lists counts
-abbrev pub at_end : Past → Past
-at_end past = record past {
-  performed = by past.at_hand.event;
-  succeeded = map (λ a. record { atomic = a; put = past.at_hand.put_locally }) past.at_hand.atomics ++ past.succeeded;
-}
+    by : Event → Option Posted
+    by (events.Request queue lot) = option_and_then (unless_failed queue) (next_operation past queue)
+    by event = None
+
+-- how many local operations were performed, as an event ends
+abbrev pub performed_at_end : Past → Correspondent → ℕ
+performed_at_end past = by past.at_hand.event
   where
     by : Event → Correspondent → ℕ
     by (events.Request queue lot) =
         if is_some (operation_performed past)
-        then with_at correspondent_eq past.performed (present_incarnation past queue) (suc (past.performed (present_incarnation past queue)))
+        then with_at correspondent_eq past.performed (present_incarnation past queue)
+        (suc (past.performed (present_incarnation past queue)))
         else past.performed
     by event = past.performed
+
+-- the low bytes of regions, as an event ends: a registration has that of the key that it was answered, and a fast
+-- registration that was performed the one that it asked for
+abbrev pub low_at_end : Past → KeySlot → ℕ
+low_at_end past = by past.at_hand.event
+  where
+    registered : Verb → Answer → KeySlot → ℕ
+    registered (verbs.RegMr slot buffer offset length rights) (answers.Key key) =
+        with_at key_slot_eq past.low (region_key_slot slot) (low_of key)
+    registered verb answer = past.low
+
+    fast_registered : QueueId → SendOp → KeySlot → ℕ
+    fast_registered queue (ops.FastReg region low buffer address length rights pages) =
+        with_at key_slot_eq past.low (region_key_slot (slot_beside queue region)) low
+    fast_registered queue op = past.low
+
+    by : Event → KeySlot → ℕ
+    by (events.Verb consumer verb) = option_map_or (λ a. registered a.verb a.answer) past.at_hand.answered past.low
+    by (events.Request queue lot) = option_map_or (λ p. fast_registered queue p.request.op) (operation_performed past) past.low
+    by event = past.low
+
+-- the atomics that completed with success, as an event ends: all that it put into lists counts
+abbrev pub succeeded_at_end : Past → List Succeeded
+succeeded_at_end past = map (λ a. record { atomic = a; put = past.at_hand.put_locally }) past.at_hand.atomics ++ past.succeeded
+
+-- as an event ends
+abbrev pub at_end : Past → Past
+at_end past = record past {
+  performed = performed_at_end past;
+  low = low_at_end past;
+  succeeded = succeeded_at_end past;
+}
 
 -- what an entry leaves
 abbrev pub after_entry : EntryValue → Past → Past
