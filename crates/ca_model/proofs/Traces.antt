@@ -1,4 +1,6 @@
 -- The histories of examples/traces: which relations each has, or that the machine runs it. For proofs only.
+mod CarriedAcknowledgementInARequest
+mod CarriedAcknowledgementToAnotherNumber
 mod CarriedAnotherIndex
 mod CarriedAnotherOpcode
 mod CarriedAnotherPayload
@@ -15,6 +17,7 @@ mod CarriedIndexWithoutAPath
 mod CarriedInjectedElsewhere
 mod CarriedNoSuchRequest
 mod CarriedPathWithoutAnIndex
+mod CarriedReadBehindThePacket
 mod CarriedReadFromNoMultipleOfThePathMtu
 mod CarriedReadOfAnEarlierIncarnation
 mod CarriedReadOfAnotherAddress
@@ -22,8 +25,11 @@ mod CarriedReadOfMoreThanThePathMtu
 mod CarriedReadOfNoRequest
 mod CarriedReadOutsideARespond
 mod CarriedReadWithoutAResponse
+mod CarriedRequestAsAResponse
 mod CarriedResponseOfOtherBytes
 mod CarriedSuccessWithoutAResponse
+mod CarriedTwoReadsInOneResponse
+mod CarriedTwoRequestsWithOnePsn
 mod CarriedWithoutAnIndexNotLost
 mod CarriedWriteByAnotherEnvelope
 mod CarriedWriteDoesNotGoOn
@@ -62,8 +68,12 @@ mod LicensedDeregisteredWithoutRevoked
 mod LicensedFastRegistrationUnderAnotherLowByte
 mod LicensedGrantWithoutARequest
 mod LicensedGrantedByABindThatFailed
+mod LicensedInvalidatedBesideAFailure
+mod LicensedInvalidatedKeyStillServes
 mod LicensedInvalidatedWithoutRevoked
+mod LicensedInvalidationCompletesElsewhere
 mod LicensedKeyWithoutAGrant
+mod LicensedLowByteOfAFastRegistrationWithoutAGrant
 mod LicensedOldLowByte
 mod LicensedOrdinaryRegionInvalidated
 mod LicensedOtherPlaces
@@ -85,20 +95,24 @@ mod LicensedType1WindowForAQueuePair
 mod LicensedType1WindowInvalidated
 mod LicensedType2WindowForAnyQueuePair
 mod LicensedWindowDeallocatedWithoutRevoked
+mod LicensedWindowInAnotherRegion
 mod LicensedWindowInNoRegion
 mod LicensedWindowOfAnotherQueuePairInvalidated
 mod LicensedWindowOfNoBytes
 mod LicensedWindowOutsideItsRegion
 mod LicensedWindowWithLocalWrite
 mod OnceActsTwice
+mod OnceCompletedAsASend
 mod OnceCompletesWithoutActing
 mod OncePutsAnotherNumberThanFound
+mod OncePutsMoreBehindItsCompletion
 mod OrderedAnotherId
 mod OrderedAnotherOperation
 mod OrderedCompletedTwice
 mod OrderedPolledAfterDestroyed
 mod OrderedPolledAfterReset
 mod OrderedPolledAnother
+mod OrderedPolledOfNoQueuePair
 mod OrderedPolledOutOfOrder
 mod OrderedPolledTwice
 mod OrderedReceivesOutOfOrder

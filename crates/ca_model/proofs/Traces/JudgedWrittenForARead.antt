@@ -57,7 +57,7 @@ history =
     ∷
     entry 16 0 (events.Deliver (q 1 256) 0) (marks.Arrived (q 1 256) (Some 0) ∷ [])
     ∷
-    entry 17 0 (events.Respond (q 1 256) lots.Pass) (marks.Remote (q 1 256) (d 1 0) (Some 0) (k 1) kinds.Read 4294967296 4 (verdicts.Wrote (0 ∷ 0 ∷ 0 ∷ 0 ∷ [])) ∷ marks.Sent (q 1 256) (q 0 256) (Some 0) None (16 ∷ 0 ∷ 255 ∷ 255 ∷ 0 ∷ 0 ∷ 1 ∷ 0 ∷ 0 ∷ 0 ∷ 0 ∷ 0 ∷ 31 ∷ 0 ∷ 0 ∷ 1 ∷ 0 ∷ 0 ∷ 0 ∷ 0 ∷ []) ∷ [])
+    entry 17 0 (events.Respond (q 1 256) lots.Pass) (marks.Remote (q 1 256) (d 1 0) (Some 0) (k 1) kinds.Read 4294967296 4 (verdicts.Wrote (0 ∷ 0 ∷ 0 ∷ 0 ∷ [])) ∷ [])
     ∷
     []
 
