@@ -1,5 +1,5 @@
 -- Carried: what stands behind each packet that is sent or arrives, and behind each remote access. Contracts cite it.
-use Rattle.std.specs.Prelude.{ℕ, ◌+◌, ◌-◌, ◌%◌, ◌^◌, Bool, true, false, not, ◌&&◌, ◌||◌, ◌==◌, nat_le, nat_lt, if◌then◌else◌, List, [], ◌∷◌, length, take, find, filter, sum_by, Option, None, Some, IsTrue}
+use Rattle.std.specs.Prelude.{ℕ, ◌+◌, ◌-◌, ◌%◌, ◌^◌, Bool, true, false, not, ◌&&◌, ◌||◌, ◌==◌, nat_le, nat_lt, if◌then◌else◌, List, [], ◌∷◌, length, take, find, filter, Option, None, Some, IsTrue}
 use Rattle.std.specs.List.{list_any, list_all}
 use Rattle.std.specs.Option.{option_map_or, option_eq}
 use Rattle.std.specs.Str.{bytes_eq}
@@ -22,7 +22,7 @@ use Rattle.ca_model.specs.declared.mark.Mark.TheVariants as marks
 use Rattle.ca_model.specs.declared.verb.Verb.TheVariants as verbs
 use Rattle.ca_model.specs.Entries.{EntryValue}
 use Rattle.ca_model.specs.Packets.{packet_of, begins_write, continues_write, asks_atomic, answers_read, is_response}
-use Rattle.ca_model.specs.Past.{Past, Envelope, LatestWrite, ReadRequest, Posted, RemoteRead, SentPacket, Start, opening_past, present_incarnation, correspondent_eq, mtu_of, packet_at, posted_at, remote_ask, is_send_success, each_entry}
+use Rattle.ca_model.specs.Past.{Past, Envelope, LatestWrite, ReadRequest, Posted, RemoteRead, SentPacket, Start, opening_past, present_incarnation, correspondent_eq, mtu_of, packet_at, posted_at, psns_before, start_of, remote_ask, is_send_success, each_entry}
 use Rattle.ca_model.specs.Requests.{is_local, psns_of, carried_bytes, request_packet}
 
 -- the source named the target with the target's present incarnation
@@ -57,15 +57,6 @@ has_arrived past target None = injects_at target past.at_hand.event
 abbrev pub is_respond_of : QueueId → Event → Bool
 is_respond_of q (events.Respond queue lot) = queue_eq queue q
 is_respond_of q event = false
-
--- the change to Ready to Send of a queue pair in its present incarnation
-abbrev pub start_of : Past → QueueId → Option Start
-start_of past q = find (λ s. correspondent_eq s.own (present_incarnation past q)) past.starts
-
--- how many PSNs the requests take that a queue pair posted before a place
-abbrev pub psns_before : Past → QueueId → ℕ → ℕ
-psns_before past q place =
-    sum_by (λ p. psns_of (mtu_of past q) p.request.op) (take place (past.posted (present_incarnation past q)))
 
 -- which packet of its request one at this PSN is: the first has the PSN behind those of the requests posted before it
 abbrev pub packet_index : Past → QueueId → ℕ → Start → ℕ → ℕ

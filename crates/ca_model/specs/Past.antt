@@ -1,7 +1,7 @@
 -- What the entries and marks so far have left, for the relations that look back. Each relation on a history says of
 -- each mark, or of each entry, what it must be, given this record. It knows no adapter. Contracts cite it.
-use Rattle.std.specs.Prelude.{ℕ, suc, ◌-◌, Bool, true, false, not, ◌&&◌, ◌||◌, ◌==◌, if◌then◌else◌, List, [], ◌∷◌, ◌++◌, length, drop, filter, find, map, slice_get, Option, None, Some, is_some}
-use Rattle.std.specs.List.{list_any}
+use Rattle.std.specs.Prelude.{ℕ, suc, ◌+◌, ◌-◌, nat_lt, Bool, true, false, not, ◌&&◌, ◌||◌, ◌==◌, if◌then◌else◌, List, [], ◌∷◌, ◌++◌, length, take, drop, filter, find, map, sum_by, slice_get, Option, None, Some, is_some}
+use Rattle.std.specs.List.{list_any, list_all}
 use Rattle.std.specs.Option.{option_map, option_map_or, option_and_then}
 use Rattle.ca_keys.specs.declared.access.Ask.{Ask}
 use Rattle.ca_keys.specs.declared.access.Kind.{Kind}
@@ -11,7 +11,8 @@ use Rattle.ca_base.specs.declared.change.Change.TheVariants as changes
 use Rattle.ca_base.specs.declared.completion.Completion.{Completion}
 use Rattle.ca_base.specs.declared.completion.WcOp.{WcOp}
 use Rattle.ca_base.specs.declared.completion.WcOp.TheVariants as operations
-use Rattle.ca_base.specs.declared.completion.WcStatus.TheVariants.{Success}
+use Rattle.ca_base.specs.declared.completion.WcStatus.{WcStatus}
+use Rattle.ca_base.specs.declared.completion.WcStatus.TheVariants.{Success, Flushed}
 use Rattle.ca_base.specs.declared.correspondent.Correspondent.{Correspondent}
 use Rattle.ca_keys.specs.declared.grant.Grant.{Grant}
 use Rattle.ca_keys.specs.declared.key.Key.{Key}
@@ -40,8 +41,9 @@ use Rattle.ca_model.specs.declared.mark.Mark.TheVariants as marks
 use Rattle.ca_model.specs.declared.verb.Verb.{Verb}
 use Rattle.ca_model.specs.declared.verb.Verb.TheVariants as verbs
 use Rattle.ca_model.specs.Entries.{EntryValue}
-use Rattle.ca_model.specs.Packets.{packet_of, asks_read}
-use Rattle.ca_model.specs.Requests.{is_local, operation_of}
+use Rattle.ca_model.specs.Packets.{packet_of, asks_read, begins_send, is_response, is_send}
+use Rattle.ca_model.specs.Progress.{Progress, after_response_packet, progress_from, with_retry}
+use Rattle.ca_model.specs.Requests.{is_local, operation_of, psns_of}
 
 -- a key slot: the adapter, and the key index there
 pub record KeySlot : Type 0 where
@@ -91,10 +93,12 @@ pub record Naming : Type 0 where
   pub psn : ℕ
   pub mtu : ℕ
 
--- an Rts that succeeded: whose, and the PSN that it begins with
+-- an Rts that succeeded: whose, the PSN that it begins with, the retry count and the RNR retry count
 pub record Start : Type 0 where
   pub own : Correspondent
   pub psn : ℕ
+  pub retry : ℕ
+  pub rnr_retry : ℕ
 
 -- an atomic that acted: of which posted request, and the number that it found
 pub record Acted : Type 0 where
@@ -112,6 +116,15 @@ pub record AtomicDone : Type 0 where
 pub record Succeeded : Type 0 where
   pub atomic : AtomicDone
   pub put : List ℕ
+
+-- What befell a queue pair: the change to Error, a remote access that was denied, a request that arrived and left no
+-- mark of its own, and a send or a receive that completed with this status.
+pub data Fault : Type 0 where
+  ErrorByVerb : Fault
+  DeniedAccess : Fault
+  Unmarked : Fault
+  SendFailed : WcStatus → Fault
+  ReceiveFailed : WcStatus → Fault
 
 -- a packet that arrived: where, and by which index
 pub record Arrival : Type 0 where
@@ -147,14 +160,19 @@ pub record AtHand : Type 0 where
   pub grants_before : List Grant
   pub answered : Option Answered
   pub arrival : Option Arrival
+  -- whether it was dropped, and the queue pair of a timer that fired
+  pub dropped : Bool
+  pub fired : Option QueueId
   -- the keys that came into force and those that were revoked
   pub granted : List Grant
   pub revoked : List RevokedKey
-  -- whether a list was used, the bytes that were read from it and those that were put into it
+  -- whether a list was used, what it was denied, the bytes that were read from it and those that were put into it
   pub used_list : Bool
+  pub denied_locally : List Ask
   pub read_locally : List ℕ
   pub put_locally : List ℕ
-  -- what READs gave, and the packets that were sent, in order
+  -- whether there was a remote access; what READs gave, and the packets that were sent, in order
+  pub used_remotely : Bool
   pub read_remotely : List RemoteRead
   pub sent : List SentPacket
   -- targets of packets that were sent without an index, and are not yet lost
@@ -189,8 +207,14 @@ pub record Past : Type 0 where
   pub read_requests : Correspondent → List ReadRequest
   pub last_send : Correspondent → Option ℕ
   pub last_receive : Correspondent → Option ℕ
-  -- the receives of a shared receive queue by place, since it was created
+  -- the shared receive queue of a queue pair, if it has one, and the receives of each by place, since it was created
+  pub srq : QueueId → Option Slot
   pub shared : Slot → List RecvRequest
+  -- how many bytes of the SEND in progress a queue pair has put into its receive's list
+  pub placed : QueueId → ℕ
+  -- by queue pair and incarnation: how far its sends are answered, and what befell it
+  pub progress : Correspondent → Progress
+  pub faults : Correspondent → List Fault
   -- the completion queues of a queue pair, for sends and for receives, once it is created, and the completions that wait
   -- in each
   pub cqs : QueueId → Option (Slot × Slot)
@@ -264,11 +288,15 @@ nothing_at_hand event grants = record {
   grants_before = grants;
   answered = None;
   arrival = None;
+  dropped = false;
+  fired = None;
   granted = [];
   revoked = [];
   used_list = false;
+  denied_locally = [];
   read_locally = [];
   put_locally = [];
+  used_remotely = false;
   read_remotely = [];
   sent = [];
   pathless = [];
@@ -298,7 +326,11 @@ opening_past bytes = record {
   read_requests = λ l. [];
   last_send = λ l. None;
   last_receive = λ l. None;
+  srq = λ q. None;
   shared = λ s. [];
+  placed = λ q. 0;
+  progress = λ l. progress_from 0;
+  faults = λ l. [];
   cqs = λ q. None;
   waiting = λ s. [];
   namings = [];
@@ -336,6 +368,15 @@ packet_at past q index = option_and_then packet_of (packet_bytes_at past q index
 abbrev pub posted_at : Past → QueueId → ℕ → Option Posted
 posted_at past q place = slice_get (past.posted (present_incarnation past q)) place
 
+-- the change to Ready to Send of a queue pair in its present incarnation
+abbrev pub start_of : Past → QueueId → Option Start
+start_of past q = find (λ s. correspondent_eq s.own (present_incarnation past q)) past.starts
+
+-- how many PSNs the requests take that a queue pair posted before a place
+abbrev pub psns_before : Past → QueueId → ℕ → ℕ
+psns_before past q place =
+    sum_by (λ p. psns_of (mtu_of past q) p.request.op) (take place (past.posted (present_incarnation past q)))
+
 -- the local operations among posted requests, in order
 abbrev pub local_operations : List Posted → List Posted
 local_operations posted = filter (λ p. is_local p.request.op) posted
@@ -371,6 +412,12 @@ with_queue_emptied q past = record past {
     map_cut [] = []
     map_cut (e ∷ es) = record e { cut = true } ∷ map_cut es
 
+-- something befell a queue pair in its present incarnation
+abbrev pub with_fault : QueueId → Fault → Past → Past
+with_fault q fault past = record past {
+  faults = with_at correspondent_eq past.faults (present_incarnation past q) (fault ∷ past.faults (present_incarnation past q));
+}
+
 -- what a change of a queue pair's state leaves
 abbrev pub after_change : QueueId → Change → Past → Past
 after_change q changes.Reset past = with_new_life q (with_queue_emptied q past)
@@ -382,11 +429,13 @@ after_change q (changes.Rtr peer incarnation psn mtu rnr_code) past = record pas
   where
     named : Past → Naming
     named p = record { own = present_incarnation p q; peer = record { queue = peer; incarnation = incarnation }; psn = psn; mtu = mtu }
-after_change q (changes.Rts psn retry rnr_retry reads) past =
-    record past { starts = record { own = present_incarnation past q; psn = psn } ∷ past.starts }
+after_change q (changes.Rts psn retry rnr_retry reads) past = record past {
+  starts = record { own = present_incarnation past q; psn = psn; retry = retry; rnr_retry = rnr_retry } ∷ past.starts;
+  progress = with_at correspondent_eq past.progress (present_incarnation past q) (progress_from psn);
+}
 after_change q changes.Sqd past = past
 after_change q changes.Resume past = past
-after_change q changes.Error past = past
+after_change q changes.Error past = with_fault q ErrorByVerb past
 
 -- the byte that a posted request drew, where a key was answered: a bind of a type 1 window draws the byte after the last
 -- that its window drew
@@ -435,6 +484,8 @@ after_verb (verbs.CreateQp slot send_cq recv_cq send_depth recv_depth srq) (answ
     with_new_life (queue_of slot) (record past {
       cqs = with_at queue_eq past.cqs (queue_of slot)
           (Some (record { domain = slot.domain; slot = send_cq }, record { domain = slot.domain; slot = recv_cq }));
+      srq = with_at queue_eq past.srq (queue_of slot) (option_map (λ srq. record { domain = slot.domain; slot = srq }) srq);
+      placed = with_at queue_eq past.placed (queue_of slot) 0;
     })
 after_verb (verbs.CreateQp slot send_cq recv_cq send_depth recv_depth srq) answer past = past
 after_verb (verbs.ModifyQp slot change) answers.Fine past = after_change (queue_of slot) change past
@@ -518,13 +569,21 @@ bytes_written verdict = None
 abbrev pub or_none : Option (List ℕ) → List ℕ
 or_none bytes = option_map_or (λ b. b) bytes []
 
+-- the access was denied
+abbrev pub is_denial : Verdict → Bool
+is_denial (verdicts.Denied denial) = true
+is_denial verdict = false
+
 -- what a remote access leaves
 abbrev pub after_remote : Ask → Option ℕ → Verdict → Past → Past
-after_remote ask envelope verdict past = record past {
+after_remote ask envelope verdict past = record (if is_denial verdict then with_fault ask.queue DeniedAccess past else past) {
   memory = memory_after_access past ask verdict;
   latest_write = with_at queue_eq past.latest_write ask.queue (latest_write_after ask verdict (past.latest_write ask.queue));
   acted = acted_after past ask.queue envelope verdict;
-  at_hand = record past.at_hand { read_remotely = past.at_hand.read_remotely ++ reads (bytes_read verdict) };
+  at_hand = record past.at_hand {
+    used_remotely = true;
+    read_remotely = past.at_hand.read_remotely ++ reads (bytes_read verdict);
+  };
 }
   where
     reads : Option (List ℕ) → List RemoteRead
@@ -537,6 +596,7 @@ after_local ask verdict past = record past {
   memory = memory_after_access past ask verdict;
   at_hand = record past.at_hand {
     used_list = true;
+    denied_locally = if is_denial verdict then ask ∷ past.at_hand.denied_locally else past.at_hand.denied_locally;
     read_locally = past.at_hand.read_locally ++ or_none (bytes_read verdict);
     put_locally = past.at_hand.put_locally ++ or_none (bytes_written verdict);
   };
@@ -637,9 +697,17 @@ waiting_after past c = option_map_or (λ cqs. put (side c.receive cqs)) (past.cq
     put : Slot → Slot → List Completion
     put cq = with_at slot_eq past.waiting cq (past.waiting cq ++ c ∷ [])
 
+-- what befell the queue pair of a completion; a flush and a success are no fault
+abbrev pub faults_of : Completion → List Fault
+faults_of c =
+    if status_eq c.status Success || status_eq c.status Flushed then []
+    else (if c.receive then ReceiveFailed c.status else SendFailed c.status) ∷ []
+
 -- what a completion leaves: it waits in the completion queue of its side, if its queue pair was ever created
 abbrev pub after_done : Completion → Past → Past
 after_done c past = record past {
+  faults = with_at correspondent_eq past.faults (present_incarnation past c.queue)
+      (faults_of c ++ past.faults (present_incarnation past c.queue));
   last_send = if c.receive then past.last_send else with_at correspondent_eq past.last_send (present_incarnation past c.queue) (Some c.place);
   last_receive = if c.receive then with_at correspondent_eq past.last_receive (present_incarnation past c.queue) (Some c.place) else past.last_receive;
   waiting = waiting_after past c;
@@ -675,8 +743,8 @@ after_mark (marks.Stored place bytes) past = record past {
 after_mark (marks.Sent source target index request bytes) past = after_sent source target index request bytes past
 after_mark (marks.Lost target index) past = after_lost target index past
 after_mark (marks.Arrived target index) past = after_arrival target index past
-after_mark (marks.Dropped target cause) past = past
-after_mark (marks.Timer queue silent) past = past
+after_mark (marks.Dropped target cause) past = record past { at_hand = record past.at_hand { dropped = true } }
+after_mark (marks.Timer queue silent) past = record past { at_hand = record past.at_hand { fired = Some queue } }
 after_mark (marks.Done queue completion cause) past = after_done completion past
 
 abbrev pub after_marks : List Mark → Past → Past
@@ -737,12 +805,83 @@ low_at_end past = by past.at_hand.event
 abbrev pub succeeded_at_end : Past → List Succeeded
 succeeded_at_end past = map (λ a. record { atomic = a; put = past.at_hand.put_locally }) past.at_hand.atomics ++ past.succeeded
 
+-- the packet that arrived at a queue pair in the event at hand, and was not dropped
+abbrev pub arrived_at_hand : Past → QueueId → Option Fields
+arrived_at_hand past q = option_and_then (λ a. if past.at_hand.dropped then None else at a) past.at_hand.arrival
+  where
+    at : Arrival → Option Fields
+    at a = if queue_eq a.target q then packet_at past q a.index else None
+
+-- how many bytes of its message a SEND packet that arrived finds in the receive's list
+abbrev pub bytes_before : Past → QueueId → Fields → ℕ
+bytes_before past q p = if begins_send p.opcode then 0 else past.placed q
+
+-- how many bytes of SENDs in progress are placed, as an event ends: a packet that put none has changed nothing
+abbrev pub placed_at_end : Past → QueueId → ℕ
+placed_at_end past = option_map_or (λ a. option_map_or (placed a.target) (arrived_at_hand past a.target) past.placed) past.at_hand.arrival past.placed
+  where
+    placed : QueueId → Fields → QueueId → ℕ
+    placed q p =
+        if is_send p.opcode && nat_lt 0 (length past.at_hand.put_locally)
+        then with_at queue_eq past.placed q (bytes_before past q p + length past.at_hand.put_locally)
+        else past.placed
+
+-- how far the sends of a queue pair are answered, with the timer that fired or the response that arrived in the event at
+-- hand
+abbrev pub progress_at_hand : Past → QueueId → Progress
+progress_at_hand past q =
+    if option_map_or (queue_eq q) past.at_hand.fired false then with_retry before
+    else option_map_or responded (arrived_at_hand past q) before
+  where
+    before : Progress
+    before = past.progress (present_incarnation past q)
+
+    from : Fields → Start → Progress
+    from p start =
+        after_response_packet (mtu_of past q) start.psn (map (λ p. p.request.op) (past.posted (present_incarnation past q))) p before
+
+    responded : Fields → Progress
+    responded p = if is_response p.opcode then option_map_or (from p) (start_of past q) before else before
+
+-- the progress of each queue pair, as an event ends
+abbrev pub progress_at_end : Past → Correspondent → Progress
+progress_at_end past = by past.at_hand.fired past.at_hand.arrival
+  where
+    at : QueueId → Correspondent → Progress
+    at q = with_at correspondent_eq past.progress (present_incarnation past q) (progress_at_hand past q)
+
+    by : Option QueueId → Option Arrival → Correspondent → Progress
+    by (Some q) arrival = at q
+    by None (Some a) = at a.target
+    by None None = past.progress
+
+-- a request arrived at a queue pair in the event at hand and left no mark of its own: it was not dropped, nothing was
+-- accessed, and nothing completed but flushes. So does an invalid one, which the queue pair's responder refuses.
+abbrev pub is_unmarked_at_hand : Past → QueueId → Bool
+is_unmarked_at_hand past q =
+    option_map_or (λ p. not (is_response p.opcode)) (arrived_at_hand past q) false
+    && not past.at_hand.used_remotely && not past.at_hand.used_list
+    && list_all (λ c. status_eq c.status Flushed) past.at_hand.completed
+
+-- what befell each queue pair, as an event ends
+abbrev pub faults_at_end : Past → Correspondent → List Fault
+faults_at_end past = option_map_or (λ a. unmarked a.target) past.at_hand.arrival past.faults
+  where
+    unmarked : QueueId → Correspondent → List Fault
+    unmarked q =
+        if is_unmarked_at_hand past q
+        then with_at correspondent_eq past.faults (present_incarnation past q) (Unmarked ∷ past.faults (present_incarnation past q))
+        else past.faults
+
 -- as an event ends
 abbrev pub at_end : Past → Past
 at_end past = record past {
   performed = performed_at_end past;
   low = low_at_end past;
   succeeded = succeeded_at_end past;
+  placed = placed_at_end past;
+  progress = progress_at_end past;
+  faults = faults_at_end past;
 }
 
 -- what an entry leaves
