@@ -22,7 +22,7 @@ use Rattle.ca_model.specs.declared.mark.Mark.TheVariants as marks
 use Rattle.ca_model.specs.declared.verb.Verb.TheVariants as verbs
 use Rattle.ca_model.specs.Entries.{EntryValue}
 use Rattle.ca_model.specs.Packets.{packet_of, begins_write, continues_write, asks_atomic, answers_read, is_response}
-use Rattle.ca_model.specs.Past.{Past, Envelope, LatestWrite, ReadRequest, Posted, RemoteRead, SentPacket, Start, opening_past, present_incarnation, correspondent_eq, mtu_of, packet_at, posted_at, psns_before, start_of, remote_ask, is_send_success, each_entry}
+use Rattle.ca_model.specs.Past.{Past, Envelope, LatestWrite, ReadRequest, Posted, RemoteRead, SentPacket, Start, opening_past, present_incarnation, correspondent_eq, mtu_of, packet_at, first_psn, posted_at, start_of, remote_ask, is_send_success, each_entry}
 use Rattle.ca_model.specs.Requests.{is_local, psns_of, carried_bytes, request_packet}
 
 -- the source named the target with the target's present incarnation
@@ -60,7 +60,7 @@ is_respond_of q event = false
 
 -- which packet of its request one at this PSN is: the first has the PSN behind those of the requests posted before it
 abbrev pub packet_index : Past → QueueId → ℕ → Start → ℕ → ℕ
-packet_index past q place start psn = (psn + 2 ^ 24 - (start.psn + psns_before past q place) % 2 ^ 24) % 2 ^ 24
+packet_index past q place start psn = (psn + 2 ^ 24 - first_psn past q start place % 2 ^ 24) % 2 ^ 24
 
 -- The bytes spell the packet of a posted request that stands at its PSN, and its payload is what the event read from the
 -- request's list.

@@ -28,7 +28,7 @@ use Rattle.ca_model.specs.declared.mark.Mark.TheVariants as marks
 use Rattle.ca_model.specs.Entries.{EntryValue}
 use Rattle.ca_model.specs.Once.{is_clean}
 use Rattle.ca_model.specs.Packets.{asks_invalidate, is_last_read_response, is_response, is_send}
-use Rattle.ca_model.specs.Past.{Past, Fault, DeniedAccess, Unmarked, ReceiveFailed, Posted, Start, opening_past, present_incarnation, mtu_of, posted_at, start_of, psns_before, progress_at_hand, arrived_at_hand, is_unmarked_at_hand, is_atomic, bytes_before, each_entry}
+use Rattle.ca_model.specs.Past.{Past, Fault, DeniedAccess, Unmarked, ReceiveFailed, Posted, Start, opening_past, present_incarnation, mtu_of, first_psn, posted_at, start_of, progress_at_hand, arrived_at_hand, is_unmarked_at_hand, is_atomic, bytes_before, each_entry}
 use Rattle.ca_model.specs.Progress.{Progress, Response, Refuses, Answers, response_in}
 use Rattle.ca_model.specs.Requests.{is_local, list_of, list_length, operation_of, psns_of, segment_bytes}
 
@@ -85,7 +85,7 @@ told_at_hand past c = by (arrived_at_hand past c.queue) (start_of past c.queue) 
   where
     -- the first PSN of the request, and the one of a packet, as whole numbers
     first : Start → ℕ
-    first start = start.psn + psns_before past c.queue c.place
+    first start = first_psn past c.queue start c.place
 
     psn : Fields → ℕ
     psn p = widened (past.progress (present_incarnation past c.queue)).una p.psn

@@ -16,7 +16,7 @@ use Rattle.ca_base.specs.declared.completion.WcStatus.TheVariants.{Success, Flus
 use Rattle.ca_base.specs.declared.correspondent.Correspondent.{Correspondent}
 use Rattle.ca_keys.specs.declared.grant.Grant.{Grant}
 use Rattle.ca_keys.specs.declared.key.Key.{Key}
-use Rattle.ca_base.specs.declared.limits.TheConstants.{ATOMIC_BYTES}
+use Rattle.ca_base.specs.declared.limits.TheConstants.{ATOMIC_BYTES, PSN_BASE}
 use Rattle.ca_keys.specs.declared.names.DomainId.{DomainId}
 use Rattle.ca_keys.specs.declared.names.QueueId.{QueueId}
 use Rattle.ca_keys.specs.declared.names.Slot.{Slot}
@@ -372,10 +372,15 @@ posted_at past q place = slice_get (past.posted (present_incarnation past q)) pl
 abbrev pub start_of : Past → QueueId → Option Start
 start_of past q = find (λ s. correspondent_eq s.own (present_incarnation past q)) past.starts
 
--- how many PSNs the requests take that a queue pair posted before a place
-abbrev pub psns_before : Past → QueueId → ℕ → ℕ
-psns_before past q place =
-    sum_by (λ p. psns_of (mtu_of past q) p.request.op) (take place (past.posted (present_incarnation past q)))
+-- the whole number of the PSN that a queue pair begins with; there are numbers before that of PSN 0
+abbrev pub whole_start : Start → ℕ
+whole_start start = PSN_BASE + start.psn
+
+-- the first PSN of the request that a queue pair posted at a place, a whole number: the one behind those of the requests
+-- that it posted before
+abbrev pub first_psn : Past → QueueId → Start → ℕ → ℕ
+first_psn past q start place =
+    whole_start start + sum_by (λ p. psns_of (mtu_of past q) p.request.op) (take place (past.posted (present_incarnation past q)))
 
 -- the local operations among posted requests, in order
 abbrev pub local_operations : List Posted → List Posted
@@ -412,11 +417,10 @@ with_queue_emptied q past = record past {
     map_cut [] = []
     map_cut (e ∷ es) = record e { cut = true } ∷ map_cut es
 
--- something befell a queue pair in its present incarnation
-abbrev pub with_fault : QueueId → Fault → Past → Past
-with_fault q fault past = record past {
-  faults = with_at correspondent_eq past.faults (present_incarnation past q) (fault ∷ past.faults (present_incarnation past q));
-}
+-- what befell each queue pair, with these for one in its present incarnation
+abbrev pub faults_after : Past → QueueId → List Fault → Correspondent → List Fault
+faults_after past q faults =
+    with_at correspondent_eq past.faults (present_incarnation past q) (faults ++ past.faults (present_incarnation past q))
 
 -- what a change of a queue pair's state leaves
 abbrev pub after_change : QueueId → Change → Past → Past
@@ -431,11 +435,11 @@ after_change q (changes.Rtr peer incarnation psn mtu rnr_code) past = record pas
     named p = record { own = present_incarnation p q; peer = record { queue = peer; incarnation = incarnation }; psn = psn; mtu = mtu }
 after_change q (changes.Rts psn retry rnr_retry reads) past = record past {
   starts = record { own = present_incarnation past q; psn = psn; retry = retry; rnr_retry = rnr_retry } ∷ past.starts;
-  progress = with_at correspondent_eq past.progress (present_incarnation past q) (progress_from psn);
+  progress = with_at correspondent_eq past.progress (present_incarnation past q) (progress_from (PSN_BASE + psn));
 }
 after_change q changes.Sqd past = past
 after_change q changes.Resume past = past
-after_change q changes.Error past = with_fault q ErrorByVerb past
+after_change q changes.Error past = record past { faults = faults_after past q (ErrorByVerb ∷ []) }
 
 -- the byte that a posted request drew, where a key was answered: a bind of a type 1 window draws the byte after the last
 -- that its window drew
@@ -576,7 +580,8 @@ is_denial verdict = false
 
 -- what a remote access leaves
 abbrev pub after_remote : Ask → Option ℕ → Verdict → Past → Past
-after_remote ask envelope verdict past = record (if is_denial verdict then with_fault ask.queue DeniedAccess past else past) {
+after_remote ask envelope verdict past = record past {
+  faults = faults_after past ask.queue (if is_denial verdict then DeniedAccess ∷ [] else []);
   memory = memory_after_access past ask verdict;
   latest_write = with_at queue_eq past.latest_write ask.queue (latest_write_after ask verdict (past.latest_write ask.queue));
   acted = acted_after past ask.queue envelope verdict;
@@ -706,8 +711,7 @@ faults_of c =
 -- what a completion leaves: it waits in the completion queue of its side, if its queue pair was ever created
 abbrev pub after_done : Completion → Past → Past
 after_done c past = record past {
-  faults = with_at correspondent_eq past.faults (present_incarnation past c.queue)
-      (faults_of c ++ past.faults (present_incarnation past c.queue));
+  faults = faults_after past c.queue (faults_of c);
   last_send = if c.receive then past.last_send else with_at correspondent_eq past.last_send (present_incarnation past c.queue) (Some c.place);
   last_receive = if c.receive then with_at correspondent_eq past.last_receive (present_incarnation past c.queue) (Some c.place) else past.last_receive;
   waiting = waiting_after past c;
@@ -838,7 +842,7 @@ progress_at_hand past q =
 
     from : Fields → Start → Progress
     from p start =
-        after_response_packet (mtu_of past q) start.psn (map (λ p. p.request.op) (past.posted (present_incarnation past q))) p before
+        after_response_packet (mtu_of past q) (whole_start start) (map (λ p. p.request.op) (past.posted (present_incarnation past q))) p before
 
     responded : Fields → Progress
     responded p = if is_response p.opcode then option_map_or (from p) (start_of past q) before else before
@@ -868,10 +872,7 @@ abbrev pub faults_at_end : Past → Correspondent → List Fault
 faults_at_end past = option_map_or (λ a. unmarked a.target) past.at_hand.arrival past.faults
   where
     unmarked : QueueId → Correspondent → List Fault
-    unmarked q =
-        if is_unmarked_at_hand past q
-        then with_at correspondent_eq past.faults (present_incarnation past q) (Unmarked ∷ past.faults (present_incarnation past q))
-        else past.faults
+    unmarked q = if is_unmarked_at_hand past q then faults_after past q (Unmarked ∷ []) else past.faults
 
 -- as an event ends
 abbrev pub at_end : Past → Past
