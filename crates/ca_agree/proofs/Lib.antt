@@ -1,0 +1,5 @@
+pub mod LeadsLemmas
+pub mod InnerLemmas
+pub mod FitLemmas
+pub mod VerbFitLemmas
+pub mod EventFitLemmas
