@@ -3,7 +3,8 @@ use Rattle.std.proofs.Common.{◌≡◌, ℕ, suc, ◌&&◌, ◌==◌, nat_lt, B
 use Rattle.std.specs.Option.{option_map_or}
 use Rattle.ca_agree.specs.Runs.{AreStamped, Comes, Leads}
 use Rattle.ca_agree.proofs.InnerLemmas.{AreInner, IsInner, IsInnerMark, arrival-inner, flush-inner, inner-append, invalidate-inner, operation-inner, packet-inner, respond-inner, timeout-inner}
-use Rattle.ca_agree.proofs.LeadsLemmas.{comes, leads-around, leads-queue, leads-row, leads-unless}
+use Rattle.ca_agree.proofs.LeadsLemmas.{leads-around, leads-queue, leads-row, leads-unless}
+use Rattle.ca_agree.proofs.PerformLemmas.{leads-perform}
 use Rattle.ca_base.specs.Configuration.{Configuration}
 use Rattle.ca_base.specs.declared.change.Change.TheVariants as changes
 use Rattle.ca_base.specs.declared.correspondent.Correspondent.{Correspondent}
@@ -108,92 +109,8 @@ fits-left : (c : Configuration) (w : World) (q : QueuePair) (peer : Corresponden
     → Leads w Turns (Row_plan c row (Leave_plan q (around_in w q (shared_of w q)) peer (w.mailbox peer.queue) lot))
 fits-left c w q peer lot row does =
     leads-row c w Turns (IsInner q) row (Leave_plan q (around_in w q (shared_of w q)) peer (w.mailbox peer.queue) lot) does
-    (λ e cs ws inner. plain-append e.marks (option_map_or (sent_marks q peer (w.mailbox peer.queue) lot) (packet_sent e) []) (plain e.marks inner.marks)
+    (λ e cs ws inner aside. plain-append e.marks (option_map_or (sent_marks q peer (w.mailbox peer.queue) lot) (packet_sent e) []) (plain e.marks inner.marks)
     (sent-plain q peer (w.mailbox peer.queue) lot e))
-
--- how an operation's plan may go on
-abbrev GoesOn : World → QueuePair → Finishing → Type 0
-GoesOn w q finish = (e : Effects) (cs : List Update) (ws : List Write) → IsInner q e → Leads w Turns (finish e cs ws)
-
-fits-named : (c : Configuration) (w : World) (d : DomainId) (key : Key) (k : Option PlacedRegion → Plan) → ((r : Option PlacedRegion) → Leads w Turns (k r)) → Leads w Turns (With_named c d key k)
-fits-named c w d key k more = (λ named. more (Some (record { slot = slot_of_key d key; region = w.region (slot_of_key d key) })), λ none. more None)
-
-fits-former : (w : World) (x : Window) (k : Option PlacedRegion → Plan) → ((r : Option PlacedRegion) → Leads w Turns (k r)) → Leads w Turns (With_former x k)
-fits-former w x k more = by x.binding
-  where
-    former : Option Binding → Plan
-    former None = k None
-    former (Some b) = Look (Region_of (region_under x b)) (λ region. k (Some (record { slot = region_under x b; region = region })))
-
-    by : (o : Option Binding) → Leads w Turns (former o)
-    by None = more None
-    by (Some b) = more (Some (record { slot = region_under x b; region = w.region (region_under x b) }))
-
-fits-bind1 : (c : Configuration) (w : World) (q : QueuePair) (n : Numbered) (window : ℕ) (key : Key) (address count : ℕ) (rights : Rights) (finish : Finishing)
-    → GoesOn w q finish → Leads w Turns (Bind1_plan c q n window key address count rights finish)
-fits-bind1 c w q n window key address count rights finish more =
-    fits-named c w q.domain key (λ named. With_former x (λ former. ending named former)) (λ named.
-    fits-former w x (λ former. ending named former) (λ former.
-    more (operation_effects q n q (bind1_marks q n window named address count rights x) (refusal named)) _ []
-    (operation-inner q q n (bind1_marks q n window named address count rights x) (refusal named) refl refl)))
-  where
-    x : Window
-    x = w.window (window_slot q window)
-
-    refusal : Option PlacedRegion → Option OpRefusal
-    refusal named = bind1_refusal n key named address count rights x
-
-    ending : Option PlacedRegion → Option PlacedRegion → Plan
-    ending named former = finish (operation_effects q n q (bind1_marks q n window named address count rights x) (refusal named))
-        (unless_none (refusal named) (bind1_changes (window_slot q window) (drawn_by n) x former named address count rights)) []
-
-fits-bind2 : (c : Configuration) (w : World) (q : QueuePair) (n : Numbered) (window : ℕ) (key : Key) (low address count : ℕ) (rights : Rights) (finish : Finishing)
-    → GoesOn w q finish → Leads w Turns (Bind2_plan c q n window key low address count rights finish)
-fits-bind2 c w q n window key low address count rights finish more =
-    fits-named c w q.domain key (λ named. With_former x (λ former. ending named)) (λ named.
-    fits-former w x (λ former. ending named) (λ former.
-    more (operation_effects q n (record q { windows = suc q.windows }) (bind2_marks q window low named address count rights) (refusal named)) _ []
-    (operation-inner q (record q { windows = suc q.windows }) n (bind2_marks q window low named address count rights) (refusal named) refl refl)))
-  where
-    x : Window
-    x = w.window (window_slot q window)
-
-    refusal : Option PlacedRegion → Option OpRefusal
-    refusal named = bind2_refusal key named address count rights x
-
-    ending : Option PlacedRegion → Plan
-    ending named = finish (operation_effects q n (record q { windows = suc q.windows }) (bind2_marks q window low named address count rights) (refusal named))
-        (unless_none (refusal named) (bind2_changes (window_slot q window) low q.queue x named address count rights)) []
-
-fits-fast : (c : Configuration) (w : World) (q : QueuePair) (n : Numbered) (region low buffer address count : ℕ) (rights : Rights) (pages : List ℕ) (finish : Finishing)
-    → GoesOn w q finish → Leads w Turns (Fast_plan c q n region low buffer address count rights pages finish)
-fits-fast c w q n region low buffer address count rights pages finish more =
-    more (operation_effects q n q (fast_marks q region low buffer address count rights pages) refusal)
-    (unless_none refusal (fast_changes q region low buffer address count rights pages r)) []
-    (operation-inner q q n (fast_marks q region low buffer address count rights pages) refusal refl refl)
-  where
-    r : Region
-    r = w.region (region_slot q region)
-
-    refusal : Option OpRefusal
-    refusal = fast_refusal c q region buffer address count rights pages r
-
-nothing-inner : (q : QueuePair) → IsInner q (queue_and_marks q [])
-nothing-inner q = record { incarnation = refl; peer = refl; marks = record {} }
-
-fits-perform : (c : Configuration) (w : World) (q : QueuePair) (n : Numbered) (finish : Finishing) (op : SendOp) → GoesOn w q finish → Leads w Turns (Perform_op c q n finish op)
-fits-perform c w q n finish (ops.Bind1 window key address count rights) more = fits-bind1 c w q n window key address count rights finish more
-fits-perform c w q n finish (ops.Bind2 window key low address count rights) more = fits-bind2 c w q n window key low address count rights finish more
-fits-perform c w q n finish (ops.FastReg region low buffer address count rights pages) more = fits-fast c w q n region low buffer address count rights pages finish more
-fits-perform c w q n finish (ops.LocalInv key) more = leads-row c w Turns (IsInner q) (invalidate_row q n key) finish (invalidate-inner q n key) more
-fits-perform c w q n finish (ops.Send list) more = more (queue_and_marks q []) [] [] (nothing-inner q)
-fits-perform c w q n finish (ops.SendImm imm list) more = more (queue_and_marks q []) [] [] (nothing-inner q)
-fits-perform c w q n finish (ops.SendInv key list) more = more (queue_and_marks q []) [] [] (nothing-inner q)
-fits-perform c w q n finish (ops.Write address key list) more = more (queue_and_marks q []) [] [] (nothing-inner q)
-fits-perform c w q n finish (ops.WriteImm address key imm list) more = more (queue_and_marks q []) [] [] (nothing-inner q)
-fits-perform c w q n finish (ops.Read address key list) more = more (queue_and_marks q []) [] [] (nothing-inner q)
-fits-perform c w q n finish (ops.CmpSwap address key compare swap list) more = more (queue_and_marks q []) [] [] (nothing-inner q)
-fits-perform c w q n finish (ops.FetchAdd address key add list) more = more (queue_and_marks q []) [] [] (nothing-inner q)
 
 pub fits-request : (c : Configuration) (w : World) (name : QueueId) (lot : Lot) → Leads w Turns (request_plan c name lot)
 fits-request c w name lot = leads-queue c w Turns name reasons.State (λ q. With_around q (λ a. Request_around c lot q a q.peer (turn_of q)))
@@ -201,8 +118,8 @@ fits-request c w name lot = leads-queue c w Turns name reasons.State (λ q. With
   where
     by : (q : QueuePair) (peer : Option Correspondent) (turn : RequestTurn) → Leads w Turns (Request_around c lot q (around_in w q (shared_of w q)) peer turn)
     by q peer (Waits reason) = record {}
-    by q peer (Performs n) = fits-perform c w q n (λ e changes writes. Finish (updates_of q (around_in w q (shared_of w q)) e ++ changes) writes e.marks) n.request.op
-        (λ e cs ws inner. plain e.marks inner.marks)
+    by q peer (Performs n) = leads-perform c w Turns q n (λ e changes writes. Finish (updates_of q (around_in w q (shared_of w q)) e ++ changes) writes e.marks) n.request.op
+        (λ e cs ws inner aside. plain e.marks inner.marks)
     by q None (Sends n) = record {}
     by q (Some peer) (Sends n) = fits-left c w q peer lot (packet_row q (has_room_for q peer (w.mailbox peer.queue)) n) (packet-inner q (has_room_for q peer (w.mailbox peer.queue)) n)
 
@@ -234,7 +151,7 @@ pub fits-arrive : (c : Configuration) (w : World) (P : World → List Mark → T
 fits-arrive c w P q bytes envelope pre ms more =
     leads-around w P q (λ a. Row_plan c (arrival_row bytes envelope (shared_in a) q) (finish a))
     (leads-row c w P (IsInner q) (arrival_row bytes envelope (shared_in a) q) (finish a) (arrival-inner bytes envelope (shared_in a) q)
-    (λ e cs ws inner. more _ e.marks (plain e.marks inner.marks)))
+    (λ e cs ws inner aside. more _ e.marks (plain e.marks inner.marks)))
   where
     a : Around
     a = around_in w q (shared_of w q)

@@ -22,7 +22,7 @@ use Rattle.ca_model.specs.declared.mark.Mark.{Mark}
 use Rattle.ca_model.specs.machine.Around.{Around, With_around, With_queue}
 use Rattle.ca_model.specs.machine.Plan.{Plan, Stuck, Look, Read, If, Finish, Update, ◌:=◌, Write, perform, unless_refused}
 use Rattle.ca_model.specs.machine.Row.{Ending, NotPossible, Does, Effects, Row, Row_plan, End_plan, With_grant, With_grants, With_bytes, With_writes, With_invalidation, first_denied_by, region_under, unless_none}
-use Rattle.ca_model.specs.machine.World.{World, Queue_of, Region_of, Srq_of, Window_of, get}
+use Rattle.ca_model.specs.machine.World.{World, Name, Queue_of, Region_of, Srq_of, Window_of, get}
 use Rattle.ca_laws_sound.proofs.WorldLemmas.{EndingDoes, RowDoes, around_in, shared_of}
 
 -- what a plan that leads somewhere comes to
@@ -85,10 +85,20 @@ leads-writes c w P (x ∷ xs) k more =
     leads-grant c w P x.0 (λ g. With_writes c xs (λ rest. k (record { runs = runs_by_grant x.0 g; bytes = x.1 } ∷ rest)))
     (λ g. leads-writes c w P xs _ (λ ws. more (record { runs = runs_by_grant x.0 g; bytes = x.1 } ∷ ws)))
 
+-- changes of windows and regions alone
+abbrev pub IsAsideName : Name → Type 0
+IsAsideName (Region_of s) = Unit {0}
+IsAsideName (Window_of s) = Unit {0}
+IsAsideName n = ⊥
+
+abbrev pub AreAside : List Update → Type 0
+AreAside [] = Unit {0}
+AreAside (x ∷ xs) = IsAsideName x.name × AreAside xs
+
 leads-invalidation : (c : Configuration) (w : World) (P : World → List Mark → Type 0) (i : Option Invalidation) (k : Option OpRefusal → List Update → Plan)
-    → ((r : Option OpRefusal) (cs : List Update) → Leads w P (k r cs)) → Leads w P (With_invalidation c i k)
-leads-invalidation c w P None k more = more None []
-leads-invalidation c w P (Some i) k more = (λ named. more _ _, λ none. (λ named. by (w.window slot).binding, λ none. more _ []))
+    → ((r : Option OpRefusal) (cs : List Update) → AreAside cs → Leads w P (k r cs)) → Leads w P (With_invalidation c i k)
+leads-invalidation c w P None k more = more None [] (record {})
+leads-invalidation c w P (Some i) k more = (λ named. more _ _ (record {}, record {}), λ none. (λ named. by (w.window slot).binding, λ none. more _ [] (record {})))
   where
     slot : Slot
     slot = slot_of_key i.domain i.key
@@ -100,17 +110,21 @@ leads-invalidation c w P (Some i) k more = (λ named. more _ _, λ none. (λ nam
         ((Window_of slot := without_binding (w.window slot)) ∷ (Region_of (region_under (w.window slot) b) := with_window_unbound region) ∷ []))
 
     by : (o : Option Binding) → Leads w P (plan o)
-    by None = more _ []
-    by (Some b) = more _ _
+    by None = more _ [] (record {})
+    by (Some b) = more _ _ (record {}, (record {}, record {}))
 
--- a row's plan leads where each of its endings does, whatever it changes beside
+pub unless-aside : (r : Option OpRefusal) (cs : List Update) → AreAside cs → AreAside (unless_none r cs)
+unless-aside None cs aside = aside
+unless-aside (Some r) cs aside = record {}
+
+-- a row's plan leads where each of its endings does, with what the end of its key changes
 pub leads-row : (c : Configuration) (w : World) (P : World → List Mark → Type 0) (E : Effects → Type 0) (row : Row) (finish : Effects → List Update → List Write → Plan) → RowDoes E row
-    → ((e : Effects) (cs : List Update) (ws : List Write) → E e → Leads w P (finish e cs ws)) → Leads w P (Row_plan c row finish)
+    → ((e : Effects) (cs : List Update) (ws : List Write) → E e → AreAside cs → Leads w P (finish e cs ws)) → Leads w P (Row_plan c row finish)
 leads-row c w P E row finish does more = leads-grants c w P row.asks _ (λ gs. by gs (first_denied_by row.asks gs))
   where
-    ending : (cs : List Update) (e : Ending) → EndingDoes E e → Leads w P (End_plan c finish cs e)
-    ending cs (NotPossible reason) does = record {}
-    ending cs (Does e) does = leads-writes c w P e.writes (λ writes. finish e cs writes) (λ ws. more e cs ws does)
+    ending : (cs : List Update) (e : Ending) → AreAside cs → EndingDoes E e → Leads w P (End_plan c finish cs e)
+    ending cs (NotPossible reason) aside does = record {}
+    ending cs (Does e) aside does = leads-writes c w P e.writes (λ writes. finish e cs writes) (λ ws. more e cs ws does aside)
 
     plan : List (Option Grant) → Option DeniedAsk → Plan
     plan gs (Some d) = End_plan c finish [] (row.denied d)
@@ -118,7 +132,7 @@ leads-row c w P E row finish does more = leads-grants c w P row.asks _ (λ gs. b
         End_plan c finish (unless_none refusal cs) (row.allowed bytes refusal)))
 
     by : (gs : List (Option Grant)) (d : Option DeniedAsk) → Leads w P (plan gs d)
-    by gs (Some d) = ending [] (row.denied d) (does.denied d)
+    by gs (Some d) = ending [] (row.denied d) (record {}) (does.denied d)
     by gs None = leads-bytes w P row.asks gs (λ bytes. With_invalidation c row.invalidation (λ refusal cs. End_plan c finish (unless_none refusal cs) (row.allowed bytes refusal)))
         (λ bytes. leads-invalidation c w P row.invalidation (λ refusal cs. End_plan c finish (unless_none refusal cs) (row.allowed bytes refusal))
-        (λ refusal cs. ending (unless_none refusal cs) (row.allowed bytes refusal) (does.allowed bytes refusal)))
+        (λ refusal cs aside. ending (unless_none refusal cs) (row.allowed bytes refusal) (unless-aside refusal cs aside) (does.allowed bytes refusal)))
