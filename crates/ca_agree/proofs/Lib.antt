@@ -4,3 +4,6 @@ pub mod PerformLemmas
 pub mod FitLemmas
 pub mod VerbFitLemmas
 pub mod EventFitLemmas
+pub mod PathLemmas
+pub mod PathTurnLemmas
+pub mod PathVerbLemmas
