@@ -7,3 +7,4 @@ pub mod EventFitLemmas
 pub mod PathLemmas
 pub mod PathTurnLemmas
 pub mod PathVerbLemmas
+pub mod PathChangeLemmas

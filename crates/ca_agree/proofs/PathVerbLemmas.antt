@@ -66,13 +66,13 @@ abbrev pub AgreesBy : Past → ℕ → Verb → World → List Mark → Type 0
 AgreesBy past by verb = Agrees past (events.Verb by verb)
 
 -- an answer that tells of no path, before marks that tell of none, with changes that keep paths
-agree-answer : (past r : Past) (w : World) (us : List Update) (ws : List Write) (ms : List Mark) → PathsAgree past w → SamePaths past r → AreInner ms → AreKept w us
+pub agree-answer : (past r : Past) (w : World) (us : List Update) (ws : List Write) (ms : List Mark) → PathsAgree past w → SamePaths past r → AreInner ms → AreKept w us
     → PathsAgree (after_marks ms r) (write_all ws (put_all us w))
 agree-answer past r w us ws ms agree same inner kept =
     agree-kept past (after_marks ms r) w (write_all ws (put_all us w)) (inner-past ms inner past r same) (kept-writes w ws (put_all us w) (kept-puts w w us kept (same-world w))) agree
 
 -- changes that keep paths, behind others
-agree-more : (p : Past) (v : World) (us : List Update) → PathsAgree p v → AreKept v us → PathsAgree p (put_all us v)
+pub agree-more : (p : Past) (v : World) (us : List Update) → PathsAgree p v → AreKept v us → PathsAgree p (put_all us v)
 agree-more p v us agree kept = agree-kept p p v (put_all us v) (same-past p) (kept-puts v v us kept (same-world v)) agree
 
 flush-marks-inner : (q : QueuePair) → AreInner (marks_of_flush q)
@@ -91,12 +91,12 @@ flushed-same q = by (state_eq q.state states.Error)
     by false = (refl, refl)
 
 -- a queue pair stands where another stood with this incarnation and this peer
-queue-kept : (w : World) (q p : QueuePair) → w.queue q.queue ≡ Present q → p.incarnation ≡ q.incarnation → p.peer ≡ q.peer
+pub queue-kept : (w : World) (q p : QueuePair) → w.queue q.queue ≡ Present q → p.incarnation ≡ q.incarnation → p.peer ≡ q.peer
     → (incarnation_of (Present p) ≡ incarnation_of (w.queue q.queue)) × (peer_in (Present p) ≡ peer_in (w.queue q.queue))
 queue-kept w q p is incarnation peer = (incarnation ∙ sym (ap incarnation_of is), peer ∙ sym (ap peer_in is))
 
 -- a queue pair that a verb names, which stands under its own name
-agrees-present : (c : Configuration) (w : World) (P : World → List Mark → Type 0) (call : Call) (s : Slot) (k : QueuePair → Plan) → IsSoundWorld c w → Leads w P (Refuse_plan call NoSuch)
+pub agrees-present : (c : Configuration) (w : World) (P : World → List Mark → Type 0) (call : Call) (s : Slot) (k : QueuePair → Plan) → IsSoundWorld c w → Leads w P (Refuse_plan call NoSuch)
     → ((q : QueuePair) → w.queue q.queue ≡ Present q → q.queue ≡ queue_of s → Leads w P (k q)) → Leads w P (With_present call s k)
 agrees-present c w P call s k sound refused more = by (w.queue (queue_of s)) refl (sound.things (Queue_of (queue_of s)))
   where
@@ -128,7 +128,7 @@ posted-agrees c past w by s request q drawn window more agree is kept = leads-un
         ∷ (Cq_of (send_cq_of q) := option_map (after_puts (completions_to q q.send_cq (marks_of_flush posted))) (w.cq (send_cq_of q)))
         ∷ more
 
-agrees-post_send : (c : Configuration) (past : Past) (w : World) (by : ℕ) (s : Slot) (request : SendRequest) → IsSoundWorld c w → PathsAgree past w
+pub agrees-post_send : (c : Configuration) (past : Past) (w : World) (by : ℕ) (s : Slot) (request : SendRequest) → IsSoundWorld c w → PathsAgree past w
     → Leads w (AgreesBy past by (verbs.PostSend s request)) (post_send_plan (call_of by (verbs.PostSend s request)) s request)
 agrees-post_send c past w by s request sound agree = agrees-present c w P call s (λ q. posting q request.op) sound agree (λ q is name. on q is request.op)
   where
@@ -167,7 +167,7 @@ agrees-post_send c past w by s request sound agree = agrees-present c w P call s
     on q is (ops.CmpSwap address key compare swap list) = plain q is
     on q is (ops.FetchAdd address key add list) = plain q is
 
-agrees-post_recv : (c : Configuration) (past : Past) (w : World) (by : ℕ) (s : Slot) (request : RecvRequest) → IsSoundWorld c w → PathsAgree past w
+pub agrees-post_recv : (c : Configuration) (past : Past) (w : World) (by : ℕ) (s : Slot) (request : RecvRequest) → IsSoundWorld c w → PathsAgree past w
     → Leads w (AgreesBy past by (verbs.PostRecv s request)) (post_recv_plan (call_of by (verbs.PostRecv s request)) s request)
 agrees-post_recv c past w by s request sound agree = agrees-present c w P call s _ sound agree (λ q is name. on q is)
   where

@@ -405,17 +405,17 @@ with_new_life q past = record past {
   naming = with_at queue_eq past.naming q None;
 }
 
+-- the envelope cannot be delivered any more: its target was reset or destroyed
+abbrev pub with_cut : Envelope → Envelope
+with_cut e = record e { cut = true }
+
 -- a queue pair that was reset or destroyed: its envelopes are cut, and its completions that wait are removed
 abbrev pub with_queue_emptied : QueueId → Past → Past
 with_queue_emptied q past = record past {
   naming = with_at queue_eq past.naming q None;
-  envelopes = with_at queue_eq past.envelopes q (map_cut (past.envelopes q));
+  envelopes = with_at queue_eq past.envelopes q (map with_cut (past.envelopes q));
   waiting = λ s. filter (λ c. not (queue_eq c.queue q)) (past.waiting s);
 }
-  where
-    map_cut : List Envelope → List Envelope
-    map_cut [] = []
-    map_cut (e ∷ es) = record e { cut = true } ∷ map_cut es
 
 -- what befell each queue pair, with these for one in its present incarnation
 abbrev pub faults_after : Past → QueueId → List Fault → Correspondent → List Fault
