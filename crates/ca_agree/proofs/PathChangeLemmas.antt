@@ -174,3 +174,95 @@ reset-agrees past w by s q a agree is name = agree-more r v (emptied_updates q a
             → peer_named (if b then None else if b then None else past.naming n) ≡ (if b then peer_named (r.naming place) else peer_named (past.naming n))
         named n true e = nobody
         named n false e = refl
+
+-- a queue pair names its peer
+rtr-agrees : (past : Past) (w : World) (by : ℕ) (s : Slot) (q : QueuePair) (peer : QueueId) (incarnation psn mtu rnr_code : ℕ) → PathsAgree past w → w.queue q.queue ≡ Present q → q.queue ≡ queue_of s
+    → PathsAgree (Behind past by (verbs.ModifyQp s (changes.Rtr peer incarnation psn mtu rnr_code)) answers.Fine)
+    (put_all ((Queue_of q.queue := Present (queue_after_change (changes.Rtr peer incarnation psn mtu rnr_code) q))
+    ∷ (Mailbox_of q.queue := with_peer q.incarnation (Some (record { queue = peer; incarnation = incarnation })) (w.mailbox q.queue)) ∷ []) w)
+rtr-agrees past w by s q peer incarnation psn mtu rnr_code agree is name =
+    subst (λ k. AgreeOnPaths r.incarnation r.naming r.envelopes (with_at queue_eq w.queue k slot) (with_at queue_eq w.mailbox k (box k))) (sym name) moved
+  where
+    r : Past
+    r = Behind past by (verbs.ModifyQp s (changes.Rtr peer incarnation psn mtu rnr_code)) answers.Fine
+
+    slot : QueueSlot
+    slot = Present (queue_after_change (changes.Rtr peer incarnation psn mtu rnr_code) q)
+
+    box : QueueId → Mailbox
+    box k = with_peer q.incarnation (Some (record { queue = peer; incarnation = incarnation })) (w.mailbox k)
+
+    place : QueueId
+    place = queue_of s
+
+    naming : Naming
+    naming = record {
+      own = record { queue = place; incarnation = past.incarnation place };
+      peer = record { queue = peer; incarnation = incarnation };
+      psn = psn;
+      mtu = mtu;
+    }
+
+    counts : q.incarnation ≡ past.incarnation place
+    counts = sym (ap incarnation_of is) ∙ agree.incarnations q.queue ∙ ap past.incarnation name
+
+    names : Some (record { queue = peer; incarnation = incarnation }) ≡ peer_named (r.naming place)
+    names = sym (ap peer_named (at-place past.naming place (Some naming)))
+
+    moved : AgreeOnPaths r.incarnation r.naming r.envelopes (with_at queue_eq w.queue place slot) (with_at queue_eq w.mailbox place (box place))
+    moved = replaced past r w place slot (box place) agree (λ n. counted n (queue_eq place n) refl) (λ n. named n (queue_eq place n) refl) (λ n. refl) counts names counts names refl
+      where
+        counted : (n : QueueId) (b : Bool) → queue_eq place n ≡ b → past.incarnation n ≡ (if b then past.incarnation place else past.incarnation n)
+        counted n true e = sym (ap past.incarnation (queue-path place n e))
+        counted n false e = refl
+
+        named : (n : QueueId) (b : Bool) → queue_eq place n ≡ b → peer_named (if b then Some naming else past.naming n) ≡ (if b then peer_named (r.naming place) else peer_named (past.naming n))
+        named n true e = names
+        named n false e = refl
+
+-- a change that leaves incarnation and peer, with what it flushes
+still-agrees : (past : Past) (w : World) (by : ℕ) (s : Slot) (change : state_change.Change) (q : QueuePair) (more : List Update) (ms : List Mark) → PathsAgree past w → w.queue q.queue ≡ Present q
+    → (queue_after_change change q).incarnation ≡ q.incarnation → (queue_after_change change q).peer ≡ q.peer → SamePaths past (Behind past by (verbs.ModifyQp s change) answers.Fine) → AreInner ms
+    → AreKept w more
+    → PathsAgree (after_marks ms (Behind past by (verbs.ModifyQp s change) answers.Fine)) (put_all ((Queue_of q.queue := Present (queue_after_change change q)) ∷ more) w)
+still-agrees past w by s change q more ms agree is incarnation peer same inner kept =
+    agree-answer past (Behind past by (verbs.ModifyQp s change) answers.Fine) w ((Queue_of q.queue := Present (queue_after_change change q)) ∷ more) [] ms agree same inner
+    (queue-kept w q (queue_after_change change q) is incarnation peer, kept)
+
+-- the plan of a change of a queue pair, by what it changes around it and what it flushes
+agrees-change : (w : World) (P : World → List Mark → Type 0) (call : Call) (q : QueuePair) (tests : List (Bool × Refusal)) (updates : Around → List Update) (ms : List Mark)
+    → ((r : Refusal) → Leads w P (Refuse_plan call r)) → P (put_all (updates (around_in w q (shared_of w q))) w) (answer_mark call answers.Fine ∷ ms)
+    → Leads w P (With_around q (λ a. Unless_plan call tests (Answer_plan call answers.Fine (updates a) ms)))
+agrees-change w P call q tests updates ms refused more = leads-around w P q (λ a. Unless_plan call tests (Answer_plan call answers.Fine (updates a) ms))
+    (leads-unless w P tests (Refuse_plan call) (Answer_plan call answers.Fine (updates (around_in w q (shared_of w q))) ms) refused more)
+
+agrees-modify : (c : Configuration) (past : Past) (w : World) (by : ℕ) (s : Slot) (change : state_change.Change) → IsSoundWorld c w → PathsAgree past w
+    → Leads w (AgreesBy past by (verbs.ModifyQp s change)) (modify_qp_plan c (call_of by (verbs.ModifyQp s change)) s change)
+agrees-modify c past w by s changes.Error sound agree = agrees-present c w (AgreesBy past by (verbs.ModifyQp s changes.Error)) (call_of by (verbs.ModifyQp s changes.Error)) s _ sound agree (λ q is name.
+    agrees-change w (AgreesBy past by (verbs.ModifyQp s changes.Error)) (call_of by (verbs.ModifyQp s changes.Error)) q (of_change_refusals (modify_refusals c q changes.Error))
+    (λ a. (Queue_of q.queue := Present (queue_after_change changes.Error q)) ∷ cq_updates q a (flush_marks q)) (flush_marks q) (λ r. agree)
+    (still-agrees past w by s changes.Error q (cq_updates q (around_in w q (shared_of w q)) (flush_marks q)) (flush_marks q) agree is refl refl (record { incarnation = refl; naming = refl; envelopes = refl }) (flush-inner q) (record {}, (record {}, record {}))))
+agrees-modify c past w by s changes.Reset sound agree = agrees-present c w (AgreesBy past by (verbs.ModifyQp s changes.Reset)) (call_of by (verbs.ModifyQp s changes.Reset)) s _ sound agree (λ q is name.
+    agrees-change w (AgreesBy past by (verbs.ModifyQp s changes.Reset)) (call_of by (verbs.ModifyQp s changes.Reset)) q (of_change_refusals (modify_refusals c q changes.Reset))
+    (λ a. (Queue_of q.queue := Present (queue_after_change changes.Reset q)) ∷ (Mailbox_of q.queue := emptied_mailbox (queue_after_change changes.Reset q).incarnation (w.mailbox q.queue)) ∷ emptied_updates q a) [] (λ r. agree)
+    (reset-agrees past w by s q (around_in w q (shared_of w q)) agree is name))
+agrees-modify c past w by s (changes.Rtr peer incarnation psn mtu rnr_code) sound agree = agrees-present c w (AgreesBy past by (verbs.ModifyQp s (changes.Rtr peer incarnation psn mtu rnr_code))) (call_of by (verbs.ModifyQp s (changes.Rtr peer incarnation psn mtu rnr_code))) s _ sound agree (λ q is name.
+    agrees-change w (AgreesBy past by (verbs.ModifyQp s (changes.Rtr peer incarnation psn mtu rnr_code))) (call_of by (verbs.ModifyQp s (changes.Rtr peer incarnation psn mtu rnr_code))) q (of_change_refusals (modify_refusals c q (changes.Rtr peer incarnation psn mtu rnr_code)))
+    (λ a. (Queue_of q.queue := Present (queue_after_change (changes.Rtr peer incarnation psn mtu rnr_code) q)) ∷ (Mailbox_of q.queue := with_peer q.incarnation (Some (record { queue = peer; incarnation = incarnation })) (w.mailbox q.queue)) ∷ []) [] (λ r. agree)
+    (rtr-agrees past w by s q peer incarnation psn mtu rnr_code agree is name))
+agrees-modify c past w by s changes.Init sound agree = agrees-present c w (AgreesBy past by (verbs.ModifyQp s changes.Init)) (call_of by (verbs.ModifyQp s changes.Init)) s _ sound agree (λ q is name.
+    agrees-change w (AgreesBy past by (verbs.ModifyQp s changes.Init)) (call_of by (verbs.ModifyQp s changes.Init)) q (of_change_refusals (modify_refusals c q changes.Init))
+    (λ a. (Queue_of q.queue := Present (queue_after_change changes.Init q)) ∷ []) [] (λ r. agree)
+    (still-agrees past w by s changes.Init q [] [] agree is refl refl (record { incarnation = refl; naming = refl; envelopes = refl }) (record {}) (record {})))
+agrees-modify c past w by s (changes.Rts psn retry rnr_retry reads) sound agree = agrees-present c w (AgreesBy past by (verbs.ModifyQp s (changes.Rts psn retry rnr_retry reads))) (call_of by (verbs.ModifyQp s (changes.Rts psn retry rnr_retry reads))) s _ sound agree (λ q is name.
+    agrees-change w (AgreesBy past by (verbs.ModifyQp s (changes.Rts psn retry rnr_retry reads))) (call_of by (verbs.ModifyQp s (changes.Rts psn retry rnr_retry reads))) q (of_change_refusals (modify_refusals c q (changes.Rts psn retry rnr_retry reads)))
+    (λ a. (Queue_of q.queue := Present (queue_after_change (changes.Rts psn retry rnr_retry reads) q)) ∷ []) [] (λ r. agree)
+    (still-agrees past w by s (changes.Rts psn retry rnr_retry reads) q [] [] agree is refl refl (record { incarnation = refl; naming = refl; envelopes = refl }) (record {}) (record {})))
+agrees-modify c past w by s changes.Sqd sound agree = agrees-present c w (AgreesBy past by (verbs.ModifyQp s changes.Sqd)) (call_of by (verbs.ModifyQp s changes.Sqd)) s _ sound agree (λ q is name.
+    agrees-change w (AgreesBy past by (verbs.ModifyQp s changes.Sqd)) (call_of by (verbs.ModifyQp s changes.Sqd)) q (of_change_refusals (modify_refusals c q changes.Sqd))
+    (λ a. (Queue_of q.queue := Present (queue_after_change changes.Sqd q)) ∷ []) [] (λ r. agree)
+    (still-agrees past w by s changes.Sqd q [] [] agree is refl refl (record { incarnation = refl; naming = refl; envelopes = refl }) (record {}) (record {})))
+agrees-modify c past w by s changes.Resume sound agree = agrees-present c w (AgreesBy past by (verbs.ModifyQp s changes.Resume)) (call_of by (verbs.ModifyQp s changes.Resume)) s _ sound agree (λ q is name.
+    agrees-change w (AgreesBy past by (verbs.ModifyQp s changes.Resume)) (call_of by (verbs.ModifyQp s changes.Resume)) q (of_change_refusals (modify_refusals c q changes.Resume))
+    (λ a. (Queue_of q.queue := Present (queue_after_change changes.Resume q)) ∷ []) [] (λ r. agree)
+    (still-agrees past w by s changes.Resume q [] [] agree is refl refl (record { incarnation = refl; naming = refl; envelopes = refl }) (record {}) (record {})))
