@@ -8,3 +8,4 @@ pub mod PathLemmas
 pub mod PathTurnLemmas
 pub mod PathVerbLemmas
 pub mod PathChangeLemmas
+pub mod PathEventLemmas

@@ -74,7 +74,7 @@ srq-kept v q a f = by q.srq a.shared
     by (Some srq) (Some slot) = (record {}, record {})
 
 -- the envelopes of a queue pair that were cut are as many, and so are those of the others
-cut-lengths : (name : QueueId) (p : Past) (n : QueueId) → length ((with_queue_emptied name p).envelopes n) ≡ length (p.envelopes n)
+pub cut-lengths : (name : QueueId) (p : Past) (n : QueueId) → length ((with_queue_emptied name p).envelopes n) ≡ length (p.envelopes n)
 cut-lengths name p n = by (queue_eq name n) refl
   where
     by : (b : Bool) → queue_eq name n ≡ b → length (if b then map with_cut (p.envelopes name) else p.envelopes n) ≡ length (p.envelopes n)
@@ -82,7 +82,7 @@ cut-lengths name p n = by (queue_eq name n) refl
     by false e = refl
 
 -- a queue pair takes another's place under one name: its slot, its mailbox, and what the past says of both
-replaced : (p r : Past) (w : World) (name : QueueId) (slot : QueueSlot) (box : Mailbox) → PathsAgree p w
+pub replaced : (p r : Past) (w : World) (name : QueueId) (slot : QueueSlot) (box : Mailbox) → PathsAgree p w
     → ((n : QueueId) → r.incarnation n ≡ (if queue_eq name n then r.incarnation name else p.incarnation n))
     → ((n : QueueId) → peer_named (r.naming n) ≡ (if queue_eq name n then peer_named (r.naming name) else peer_named (p.naming n)))
     → ((n : QueueId) → length (r.envelopes n) ≡ length (p.envelopes n))
@@ -118,11 +118,11 @@ replaced p r w name slot box agree incarnations namings lengths incarnation peer
     of-count n false e = agree.counts n
 
 -- the verb's answer, and the past behind it
-abbrev Behind : Past → ℕ → Verb → Answer → Past
+abbrev pub Behind : Past → ℕ → Verb → Answer → Past
 Behind past by verb answer = after_mark (answer_mark (call_of by verb) answer) (at_begin (events.Verb by verb) past)
 
 -- a function with another value at one of its places, there
-at-place : {A : Type 0} (f : QueueId → A) (name : QueueId) (x : A) → with_at queue_eq f name x name ≡ x
+pub at-place : {A : Type 0} (f : QueueId → A) (name : QueueId) (x : A) → with_at queue_eq f name x name ≡ x
 at-place f name x = ap (λ b. if b then x else f name) (queue-refl name)
 
 -- one that had the value already
@@ -236,7 +236,7 @@ agrees-change : (w : World) (P : World → List Mark → Type 0) (call : Call) (
 agrees-change w P call q tests updates ms refused more = leads-around w P q (λ a. Unless_plan call tests (Answer_plan call answers.Fine (updates a) ms))
     (leads-unless w P tests (Refuse_plan call) (Answer_plan call answers.Fine (updates (around_in w q (shared_of w q))) ms) refused more)
 
-agrees-modify : (c : Configuration) (past : Past) (w : World) (by : ℕ) (s : Slot) (change : state_change.Change) → IsSoundWorld c w → PathsAgree past w
+pub agrees-modify : (c : Configuration) (past : Past) (w : World) (by : ℕ) (s : Slot) (change : state_change.Change) → IsSoundWorld c w → PathsAgree past w
     → Leads w (AgreesBy past by (verbs.ModifyQp s change)) (modify_qp_plan c (call_of by (verbs.ModifyQp s change)) s change)
 agrees-modify c past w by s changes.Error sound agree = agrees-present c w (AgreesBy past by (verbs.ModifyQp s changes.Error)) (call_of by (verbs.ModifyQp s changes.Error)) s _ sound agree (λ q is name.
     agrees-change w (AgreesBy past by (verbs.ModifyQp s changes.Error)) (call_of by (verbs.ModifyQp s changes.Error)) q (of_change_refusals (modify_refusals c q changes.Error))
