@@ -30,7 +30,7 @@ pub event-fits : (c : Configuration) (event : Event) (w : World) → Comes (λ v
 event-fits c event w = comes w (λ v ms. FitTheEvent event ms) (plan c event) (fits-event c w event)
 
 -- the marks of a run, of which the first are these
-first-marks : (ms ns : List Mark) (r : Ran) (rest : List (List Mark)) → with_marks ms r ≡ Ok (ns ∷ rest) → (ms ≡ ns) × (r ≡ Ok rest)
+pub first-marks : (ms ns : List Mark) (r : Ran) (rest : List (List Mark)) → with_marks ms r ≡ Ok (ns ∷ rest) → (ms ≡ ns) × (r ≡ Ok rest)
 first-marks ms ns (Ok xs) rest e = search
 first-marks ms ns (Err stop) rest e = search
 

@@ -1,8 +1,8 @@
 -- Every event keeps the agreement on paths. For proofs only.
-use Rattle.std.proofs.Common.{◌≡◌, ℕ, suc, ◌-◌, ◌&&◌, ◌||◌, ◌==◌, not, nat_lt, is_none, Bool, true, false, if◌then◌else◌, List, [], ◌∷◌, ◌++◌, map, take, length, Option, None, Some, refl, sym, ap, subst, rules, ◌∙◌}
+use Rattle.std.proofs.Common.{◌≡◌, ℕ, suc, ◌-◌, ◌&&◌, ◌||◌, ◌==◌, not, nat_lt, is_none, Bool, true, false, if◌then◌else◌, List, [], ◌∷◌, ◌++◌, map, take, length, Option, None, Some, Ok, Err, refl, sym, ap, subst, rules, ◌∙◌}
 use Rattle.std.proofs.lemmas.List.{length-map}
 use Rattle.std.specs.Option.{option_map, option_map_or, option_and_then}
-use Rattle.ca_agree.specs.Agreement.{AgreeOnPaths, PathsAgree, peer_in, peer_named}
+use Rattle.ca_agree.specs.Agreement.{AgreeOnPaths, HoldsAlong, PathsAgree, peer_in, peer_named}
 use Rattle.ca_agree.specs.Runs.{Comes, Leads}
 use Rattle.ca_agree.proofs.InnerLemmas.{AreInner, flush-inner}
 use Rattle.ca_agree.proofs.LeadsLemmas.{comes, leads-around, leads-unless}
@@ -37,7 +37,7 @@ use Rattle.ca_keys.specs.Numbers.{key_at, queue_of, window_index}
 use Rattle.ca_keys.specs.declared.key.Key.{Key}
 use Rattle.ca_keys.specs.declared.names.QueueId.{QueueId}
 use Rattle.ca_keys.specs.declared.names.Slot.{Slot}
-use Rattle.ca_model.specs.Past.{with_at, Envelope, Naming, Past, after_mark, after_marks, at_begin, opening_past}
+use Rattle.ca_model.specs.Past.{with_at, Envelope, Naming, Past, after_mark, after_marks, after_entry, at_begin, opening_past}
 use Rattle.ca_model.specs.declared.answer.Answer.{Answer}
 use Rattle.ca_model.specs.declared.answer.Answer.TheVariants as answers
 use Rattle.ca_model.specs.declared.answer.Refusal.{Refusal}
@@ -53,10 +53,16 @@ use Rattle.ca_model.specs.machine.Completions.{flush_marks}
 use Rattle.ca_model.specs.machine.CompletionVerbs.{Poll_of, Take_plan, With_place, With_places, after_poll, poll_plan, receives_after_poll, slot_after_poll, source_of_completion}
 use Rattle.ca_model.specs.machine.Delivery.{Arrive}
 use Rattle.ca_model.specs.machine.HostVerbs.{inject_plan}
-use Rattle.ca_model.specs.machine.Plan.{Plan, If, Look, Stuck, Update, ◌:=◌, Write, put_all, unless_refused, write_all}
+use Rattle.ca_model.specs.machine.Plan.{Did, NotReady, Outcome, Plan, If, Look, Stuck, Update, ◌:=◌, Write, put_all, unless_refused, write_all}
 use Rattle.ca_model.specs.machine.PostingVerbs.{Posted_send, after_flush, marks_of_flush, post_recv_plan, post_recv_refusals, post_send_plan, post_send_refusals, with_send}
 use Rattle.ca_model.specs.machine.QueuePairVerbs.{Creation, With_present, With_shared, before_receives, beside, create_qp_plan, destroy_qp_plan, emptied_mailbox, emptied_updates, has_bad_depth, has_no_room, has_queues, left_updates, modify_qp_plan, new_queue, places_held, receive_reserve, receive_room, send_reserved, user_updates, without_queue}
-use Rattle.ca_model.specs.machine.Sound.{IsQueueOf, IsSoundWorld}
+use Rattle.ca_model.specs.machine.Sound.{AreLimited, CanBeMade, IsQueueOf, IsSoundWorld}
+use Rattle.ca_model.specs.machine.Frame.{Afterwards}
+use Rattle.ca_model.specs.machine.Run.{Follows, Ran, go_on, run_from}
+use Rattle.ca_model.specs.Entries.{EntryValue}
+use Rattle.ca_agree.proofs.EventFitLemmas.{first-marks}
+use Rattle.ca_laws_sound.proofs.SoundLemmas.{event-sound, opening-sound}
+use Rattle.std.specs.List.{AllByRecursion}
 use Rattle.ca_model.specs.machine.Step.{plan, step, verb_plan}
 use Rattle.ca_model.specs.machine.VerbAnswers.{Answer_plan, Call, Refuse_plan, Unless_plan, answer_mark, of_change_refusals}
 use Rattle.ca_model.specs.machine.World.{Cq_of, Domain_of, Mailbox_of, Queue_of, Srq_of, Window_of, World, opening_world}
@@ -412,3 +418,30 @@ event-agrees c past w event sound agree = comes w (Agrees past event) (plan c ev
 
 pub opening-agrees : (bytes : ByteMap) → PathsAgree (opening_past bytes) (opening_world bytes)
 opening-agrees bytes = record { incarnations = λ q. refl; peers = λ q. refl; owners = λ q. refl; accepted = λ q. refl; counts = λ q. refl }
+
+along : (c : Configuration) (n : ℕ) (es : List EntryValue) (past : Past) (w : World) → AreLimited c → AllByRecursion (λ e. CanBeMade e.event) es → IsSoundWorld c w → PathsAgree past w
+    → run_from c n w (map (λ e. e.event) es) ≡ Ok (map (λ e. e.marks) es) → HoldsAlong PathsAgree c past w es
+along c n [] past w limited made sound agree follows = agree
+along c n (e ∷ es) past w limited made sound agree follows = (agree, by (step c w e.event) (event-agrees c past w e.event sound agree) (event-sound c e.event w limited sound made.0) follows
+    (λ v whole next told. along c (suc n) es (after_entry e past) v limited made.1 whole next told))
+  where
+    Rest : Type 0
+    Rest = (v : World) → IsSoundWorld c v → PathsAgree (after_entry e past) v → run_from c (suc n) v (map (λ e. e.event) es) ≡ Ok (map (λ e. e.marks) es)
+        → HoldsAlong PathsAgree c (after_entry e past) v es
+
+    stopped : Ran → Bool
+    stopped (Ok told) = false
+    stopped (Err stop) = true
+
+    by : (o : Outcome) → Comes (λ v ms. PathsAgree (after_marks ms (at_begin e.event past)) v) o → Afterwards (IsSoundWorld c) o
+        → go_on n o (λ v. run_from c (suc n) v (map (λ e. e.event) es)) ≡ Ok (e.marks ∷ map (λ e. e.marks) es) → Rest
+        → Afterwards (λ v. HoldsAlong PathsAgree c (after_entry e past) v es) o
+    by (NotReady reason) agrees whole follows rest = record {}
+    by (Did v ms) agrees whole follows rest = at (first-marks ms e.marks (run_from c (suc n) v (map (λ e. e.event) es)) (map (λ e. e.marks) es) follows)
+      where
+        at : (ms ≡ e.marks) × (run_from c (suc n) v (map (λ e. e.event) es) ≡ Ok (map (λ e. e.marks) es)) → HoldsAlong PathsAgree c (after_entry e past) v es
+        at told = rest v whole (subst (λ xs. PathsAgree (after_marks xs (at_begin e.event past)) v) told.0 agrees) told.1
+
+pub paths-along : (c : Configuration) (bytes : ByteMap) (es : List EntryValue) → AreLimited c → AllByRecursion (λ e. CanBeMade e.event) es → Follows c bytes es
+    → HoldsAlong PathsAgree c (opening_past bytes) (opening_world bytes) es
+paths-along c bytes es limited made follows = along c 0 es (opening_past bytes) (opening_world bytes) limited made (opening-sound c bytes) (opening-agrees bytes) follows
