@@ -11,13 +11,13 @@ use Rattle.ca_model.specs.declared.mark.Mark.TheVariants as marks
 use Rattle.ca_model.specs.Carried.{is_carried_history}
 use Rattle.ca_model.specs.Entries.{EntryValue}
 use Rattle.ca_model.specs.Judged.{is_judged_history}
-use Rattle.ca_model.specs.Lawful.{IsLawful, grants_after, contents_after}
+use Rattle.ca_model.specs.Lawful.{HasRelations, grants_after, contents_after}
 use Rattle.ca_model.specs.Licensed.{is_licensed_history}
 use Rattle.ca_first_path.specs.declared.script.Script.{Script}
 use Rattle.ca_first_path.specs.ScriptHistory.{history, history_by, refusal, denial, grant, call_entry, set_up, Asks}
 use Rattle.ca_first_path.specs.Form.{queue, reg_mr, alloc_pd}
 use Rattle.ca_first_path.proofs.FormLaws.{one_packet, one_write, one_spelt, one_is_write}
-use Rattle.ca_first_path.proofs.Lawful.{lawful}
+use Rattle.ca_first_path.proofs.Lawful.{related}
 use Rattle.ca_packet.specs.declared.reth.Reth.{Reth}
 use Rattle.ca_packet.proofs.PacketLaws.{packet_again}
 
@@ -56,8 +56,8 @@ first-allowed = refl
 last-byte-allowed : denial first (at 0x1_0000_003f) ≡ None
 last-byte-allowed = refl
 
-first-lawful : IsLawful zeros (history first (at 0x1_0000_0000) (171 ∷ []))
-first-lawful = lawful packet_again first (at 0x1_0000_0000) (171 ∷ []) (first-asks rights)
+first-related : HasRelations zeros (history first (at 0x1_0000_0000) (171 ∷ []))
+first-related = related packet_again first (at 0x1_0000_0000) (171 ∷ []) (first-asks rights)
 
 first-in_force : grants_after (history first (at 0x1_0000_0000) (171 ∷ [])) ≡ grant first ∷ []
 first-in_force = refl
@@ -74,8 +74,8 @@ outside-denied = refl
 right-denied : denial (script local) (at 0x1_0000_0000) ≡ Some NoRight
 right-denied = refl
 
-denied-lawful : IsLawful zeros (history (script local) (at 0x1_0000_0000) (171 ∷ []))
-denied-lawful = lawful packet_again (script local) (at 0x1_0000_0000) (171 ∷ []) (first-asks local)
+denied-related : HasRelations zeros (history (script local) (at 0x1_0000_0000) (171 ∷ []))
+denied-related = related packet_again (script local) (at 0x1_0000_0000) (171 ∷ []) (first-asks local)
 
 denied-contents : contents_after zeros (history (script local) (at 0x1_0000_0000) (171 ∷ [])) (record { adapter = 0; buffer = 0; offset = 0 }) ≡ 0
 denied-contents = refl

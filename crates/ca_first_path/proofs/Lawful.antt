@@ -1,4 +1,4 @@
--- The history of a script is lawful.
+-- The history of a script has all relations on histories.
 use Rattle.std.proofs.Common.{◌≡◌, ℕ, ◌<◌, ◌==◌, nat_le, nat_lt, Bool, true, false, ◌&&◌, ◌||◌, List, [], ◌∷◌, length, Option, None, Some, is_none, Ok, refl, sym, ap, subst, arith, ◌∙◌}
 use Rattle.std.proofs.lemmas.Bool.Decides.{nat_tests}
 use Rattle.ca_keys.specs.declared.access.Denial.{Denial}
@@ -12,19 +12,20 @@ use Rattle.ca_model.specs.declared.answer.Refusal.{Refusal}
 use Rattle.std.specs.Option.{option_eq}
 use Rattle.std.specs.Str.{bytes_eq}
 use Rattle.ca_model.specs.Carried.{is_carried_history, asks_for}
+use Rattle.ca_model.specs.Caused.{is_caused_history}
 use Rattle.ca_model.specs.Past.{Past}
 use Rattle.ca_model.specs.Entries.{EntryValue}
 use Rattle.ca_model.specs.History.{IsHistory}
 use Rattle.ca_model.specs.Judged.{is_judged_history}
-use Rattle.ca_model.specs.Lawful.{IsLawful}
+use Rattle.ca_model.specs.Lawful.{HasRelations}
 use Rattle.ca_model.specs.Licensed.{is_licensed_history}
 use Rattle.ca_model.specs.Once.{is_once_history}
 use Rattle.ca_model.specs.Ordered.{is_ordered_history}
 use Rattle.ca_first_path.specs.declared.script.Script.{Script}
-use Rattle.ca_first_path.specs.ScriptHistory.{history_by, history, refusal, denial, ask, grants_after, grant, verdict, Asks, IsHistoryOf}
+use Rattle.ca_first_path.specs.ScriptHistory.{history_by, history, refusal, denial, ask, grants_after, grant, verdict, denial_nak, Asks, IsHistoryOf}
 use Rattle.ca_packet.specs.declared.reth.Reth.{Reth}
-use Rattle.ca_packet.specs.Decoding.{packet_in}
-use Rattle.ca_packet.specs.Packet.{Fields, Spells}
+use Rattle.ca_packet.specs.Decoding.{number_at, bth_at, front_at, reth_from, atomic_from, aeth_from, number_from, payload_at, payload_behind, body_in, packet_in}
+use Rattle.ca_packet.specs.Packet.{Fields, Spells, be_bytes, packet_bytes, spelling}
 use Rattle.ca_packet.specs.Table.{row_of}
 
 well_formed : (s : Script) (h : Reth) (b : List ℕ) (r : Option Refusal) (d : Option Denial) → IsHistory (history_by s h b r d)
@@ -102,6 +103,12 @@ ordered s h b None (Some d) = refl
 ordered s h b (Some r) None = refl
 ordered s h b (Some r) (Some d) = refl
 
+caused : (s : Script) (h : Reth) (b : List ℕ) (r : Option Refusal) (d : Option Denial) → is_caused_history zeros (history_by s h b r d) ≡ true
+caused s h b None None = refl
+caused s h b None (Some d) = refl
+caused s h b (Some r) None = refl
+caused s h b (Some r) (Some d) = refl
+
 bytes_themselves : (b : List ℕ) → bytes_eq b b ≡ true
 bytes_themselves [] = refl
 bytes_themselves (x ∷ xs) = both _ _ (nat_themselves x) (bytes_themselves xs)
@@ -119,7 +126,13 @@ asks_for_it past s h b None e =
 asks_for_it past s h b (Some d) e =
     rw (e.write.write.opcode, e.reth) (search (both, nat_themselves) depth 10)
 
+-- the NAK is read as it was spelled
+nak-again : packet_in (spelling denial_nak) ≡ Ok denial_nak
+unfolding row_of be_bytes packet_bytes number_at bth_at front_at reth_from atomic_from aeth_from number_from payload_at payload_behind body_in packet_in
+nak-again = refl
+
 carried : IsRead → (s : Script) (h : Reth) (b : List ℕ) (r : Option Refusal) (d : Option Denial) → Asks s h b → is_carried_history zeros (history_by s h b r d) ≡ true
+unfolding row_of
 carried read s h b None None e =
     let packet : packet_in s.packet ≡ Ok e.packet = read s.packet e.packet e.write.spelt in
     let asks : (past : Past) → asks_for past (ask h) (verdict b None) kinds.Write e.packet ≡ true = λ past. asks_for_it past s h b None e in
@@ -127,7 +140,7 @@ carried read s h b None None e =
 carried read s h b None (Some d) e =
     let packet : packet_in s.packet ≡ Ok e.packet = read s.packet e.packet e.write.spelt in
     let asks : (past : Past) → asks_for past (ask h) (verdict b (Some d)) kinds.Write e.packet ≡ true = λ past. asks_for_it past s h b (Some d) e in
-    rw packet (search (both, asks) depth 14)
+    rw (packet, nak-again) (search (both, asks, bytes_themselves) depth 14)
 carried read s h b (Some r) None e =
     let packet : packet_in s.packet ≡ Ok e.packet = read s.packet e.packet e.write.spelt in
     let asks : (past : Past) → asks_for past (ask h) (verdict b None) kinds.Write e.packet ≡ true = λ past. asks_for_it past s h b None e in
@@ -135,7 +148,7 @@ carried read s h b (Some r) None e =
 carried read s h b (Some r) (Some d) e =
     let packet : packet_in s.packet ≡ Ok e.packet = read s.packet e.packet e.write.spelt in
     let asks : (past : Past) → asks_for past (ask h) (verdict b (Some d)) kinds.Write e.packet ≡ true = λ past. asks_for_it past s h b (Some d) e in
-    rw packet (search (both, asks) depth 14)
+    rw (packet, nak-again) (search (both, asks, bytes_themselves) depth 14)
 
 -- the payload has as many bytes as are asked for, and some
 length-asked : (s : Script) (h : Reth) (b : List ℕ) → Asks s h b → length b ≡ h.length
@@ -144,16 +157,17 @@ length-asked s h b e = ap length (sym e.carried) ∙ sym (rw e.reth at e.write.w
 some-asked : (s : Script) (h : Reth) (b : List ℕ) → Asks s h b → 0 < length b
 some-asked s h b e = rw e.carried at e.write.write.some
 
--- The history of a script is lawful.
-pub lawful : IsRead → (s : Script) (h : Reth) (b : List ℕ) → Asks s h b → IsLawful zeros (history s h b)
-lawful read s h b e = record {
+-- The history of a script has all relations.
+pub related : IsRead → (s : Script) (h : Reth) (b : List ℕ) → Asks s h b → HasRelations zeros (history s h b)
+related read s h b e = record {
   well_formed = well_formed s h b (refusal s) (denial s h);
   judged = judged s h b (refusal s) (denial s h) refl refl (length-asked s h b e) (some-asked s h b e);
   licensed = licensed s h b (refusal s) (denial s h);
   carried = carried read s h b (refusal s) (denial s h) e;
   once = once s h b (refusal s) (denial s h);
   ordered = ordered s h b (refusal s) (denial s h);
+  caused = caused s h b (refusal s) (denial s h);
 }
 
-pub lawful-history : IsRead → (s : Script) (es : List EntryValue) → IsHistoryOf s es → IsLawful zeros es
-lawful-history read s es is = subst (IsLawful zeros) (sym is.entries) (lawful read s is.reth is.payload is.asks)
+pub related-history : IsRead → (s : Script) (es : List EntryValue) → IsHistoryOf s es → HasRelations zeros es
+related-history read s es is = subst (HasRelations zeros) (sym is.entries) (related read s is.reth is.payload is.asks)

@@ -2,7 +2,7 @@ ghost use Rattle.std.specs.Prelude.{IfOk, IfErr};
 ghost use Rattle.ca_first_path.specs.Form.{IsRefusal};
 ghost use Rattle.ca_first_path.specs.ScriptHistory.{HasHistory};
 ghost use Rattle.ca_keys.specs.Memory.{zeros};
-ghost use Rattle.ca_model.specs.Lawful.{IsLawful};
+ghost use Rattle.ca_model.specs.Lawful.{HasRelations};
 
 use crate::perform::perform;
 use crate::script::read_script;
@@ -15,7 +15,7 @@ use std::alloc::Global;
 /// differs from the form.
 pub fn history_of(alloc: Global, bytes: &[u8]) -> Result<History, ScriptError>
     ensures history { IfOk result (HasHistory bytes.now) }
-    ensures lawful { IfOk result (IsLawful zeros) }
+    ensures relations { IfOk result (HasRelations zeros) }
     ensures refused { IfErr result (IsRefusal bytes.now) }
 {
     reading();

@@ -1,6 +1,6 @@
 -- Carried: what stands behind each packet that is sent or arrives, and behind each remote access. Contracts cite it.
-use Rattle.std.specs.Prelude.{ℕ, ◌+◌, ◌-◌, ◌%◌, ◌^◌, Bool, true, false, not, ◌&&◌, ◌||◌, ◌==◌, nat_le, nat_lt, if◌then◌else◌, List, [], ◌∷◌, length, take, find, slice_get, Option, None, Some, IsTrue}
-use Rattle.std.specs.List.{list_any}
+use Rattle.std.specs.Prelude.{ℕ, ◌+◌, ◌-◌, ◌%◌, ◌^◌, Bool, true, false, not, ◌&&◌, ◌||◌, ◌==◌, nat_le, nat_lt, if◌then◌else◌, List, [], ◌∷◌, length, take, find, filter, Option, None, Some, IsTrue}
+use Rattle.std.specs.List.{list_any, list_all}
 use Rattle.std.specs.Option.{option_map_or, option_eq}
 use Rattle.std.specs.Str.{bytes_eq}
 use Rattle.ca_keys.specs.declared.access.Ask.{Ask}
@@ -21,13 +21,13 @@ use Rattle.ca_model.specs.declared.mark.Mark.{Mark}
 use Rattle.ca_model.specs.declared.mark.Mark.TheVariants as marks
 use Rattle.ca_model.specs.declared.verb.Verb.TheVariants as verbs
 use Rattle.ca_model.specs.Entries.{EntryValue}
-use Rattle.ca_model.specs.Packets.{packet_of, begins_write, continues_write, asks_atomic, is_response}
-use Rattle.ca_model.specs.Past.{Past, Envelope, LatestWrite, ReadRequest, Posted, opening_past, life_of, life_eq, mtu_of, packet_at, remote_ask, is_send_success, each_entry}
+use Rattle.ca_model.specs.Packets.{packet_of, begins_write, continues_write, asks_atomic, answers_read, is_response}
+use Rattle.ca_model.specs.Past.{Past, Envelope, LatestWrite, ReadRequest, Posted, RemoteRead, SentPacket, Start, opening_past, present_incarnation, correspondent_eq, mtu_of, packet_at, first_psn, posted_at, start_of, remote_ask, is_send_success, each_entry}
 use Rattle.ca_model.specs.Requests.{is_local, psns_of, carried_bytes, request_packet}
 
 -- the source named the target with the target's present incarnation
 abbrev pub has_named : Past → QueueId → QueueId → Bool
-has_named past source target = option_map_or (λ n. life_eq n.peer (life_of past target)) (past.naming source) false
+has_named past source target = option_map_or (λ n. correspondent_eq n.peer (present_incarnation past target)) (past.naming source) false
 
 -- each of the two named the other with the other's present incarnation
 abbrev pub has_path : Past → QueueId → QueueId → Bool
@@ -53,30 +53,47 @@ has_arrived past target (Some index) =
     option_map_or is_under_way (find (λ e. e.index == index) (take KEPT_ENVELOPES (past.envelopes target))) false
 has_arrived past target None = injects_at target past.at_hand.event
 
--- which packet of its request one at this PSN is: the first that was sent for the request is its first
-abbrev pub packet_index : ℕ → Posted → ℕ
-packet_index psn p = option_map_or (λ first. (psn + 2 ^ 24 - first) % 2 ^ 24) p.first_psn 0
+-- the event is a turn of this queue pair's responder
+abbrev pub is_respond_of : QueueId → Event → Bool
+is_respond_of q (events.Respond queue lot) = queue_eq queue q
+is_respond_of q event = false
 
--- the bytes spell the packet of the posted request that stands at its PSN, and its payload is what was read from the list
-abbrev pub is_packet_of : Past → QueueId → QueueId → List ℕ → Posted → Fields → Bool
-is_packet_of past source target bytes posted p =
-    nat_lt (packet_index p.psn posted) (psns_of mtu posted.request.op)
-    && (length payload == carried_bytes mtu posted.request.op (packet_index p.psn posted))
-    && option_map_or (λ f. bytes_eq bytes (spelling f))
-    (request_packet mtu posted.request (packet_index p.psn posted) target.number p.psn payload) false
+-- which packet of its request one at this PSN is: the first has the PSN behind those of the requests posted before it
+abbrev pub packet_index : Past → QueueId → ℕ → Start → ℕ → ℕ
+packet_index past q place start psn = (psn + 2 ^ 24 - first_psn past q start place % 2 ^ 24) % 2 ^ 24
+
+-- The bytes spell the packet of a posted request that stands at its PSN, and its payload is what the event read from the
+-- request's list.
+abbrev pub is_packet_of : Past → SentPacket → Posted → ℕ → ℕ → Bool
+is_packet_of past s posted psn index =
+    nat_lt index (psns_of mtu posted.request.op)
+    && (length past.at_hand.read_locally == carried_bytes mtu posted.request.op index)
+    && option_map_or (λ f. bytes_eq s.bytes (spelling f))
+    (request_packet mtu posted.request index s.target.number psn past.at_hand.read_locally) false
   where
     mtu : ℕ
-    mtu = mtu_of past source
+    mtu = mtu_of past s.source
 
-    payload : List ℕ
-    payload = past.at_hand.read_locally
+-- a packet of the request that was posted at a place: its queue pair was made ready to send, and the bytes are a packet
+-- of the request
+abbrev pub is_of_request : Past → SentPacket → ℕ → Bool
+is_of_request past s place = by (packet_of s.bytes) (start_of past s.source) (posted_at past s.source place)
+  where
+    by : Option Fields → Option Start → Option Posted → Bool
+    by (Some p) (Some start) (Some posted) = is_packet_of past s posted p.psn (packet_index past s.source place start p.psn)
+    by p start posted = false
 
--- a packet that names a request is one of the posted request's
-abbrev pub is_of_request : Past → QueueId → QueueId → Option ℕ → List ℕ → Bool
-is_of_request past source target None bytes = true
-is_of_request past source target (Some place) bytes =
-    option_map_or (λ posted. option_map_or (is_packet_of past source target bytes posted) (packet_of bytes) false)
-    (slice_get (past.posted (life_of past source)) place) false
+-- a packet of no request is a response to its target, which its queue pair's responder sent
+abbrev pub is_of_responder : Past → SentPacket → Bool
+is_of_responder past s =
+    is_respond_of s.source past.at_hand.event && option_map_or is_response_to (packet_of s.bytes) false
+  where
+    is_response_to : Fields → Bool
+    is_response_to p = is_response p.opcode && (p.queue == s.target.number) && bytes_eq s.bytes (spelling p)
+
+-- a packet that was sent is one of the request that it names, or a response
+abbrev pub has_its_cause : Past → SentPacket → Bool
+has_its_cause past s = option_map_or (is_of_request past s) s.request (is_of_responder past s)
 
 -- the write goes on where the latest one of its queue pair ended
 abbrev pub goes_on : Ask → LatestWrite → Bool
@@ -135,17 +152,12 @@ abbrev pub reads_at_most : ℕ → Verdict → Bool
 reads_at_most mtu (verdicts.Read bytes) = nat_le (length bytes) mtu
 reads_at_most mtu verdict = true
 
--- the event is a turn of this queue pair's responder
-abbrev pub is_respond_of : QueueId → Event → Bool
-is_respond_of q (events.Respond queue lot) = queue_eq queue q
-is_respond_of q event = false
-
 -- a read stands in a Respond of its queue pair, and asks for the rest of a READ request that arrived there in its present
 -- incarnation
 abbrev pub is_carried_by_request : Past → Ask → Option ℕ → Verdict → Bool
 is_carried_by_request past ask envelope verdict =
     is_respond_of ask.queue past.at_hand.event
-    && list_any (is_rest_of (mtu_of past ask.queue) ask envelope) (past.read_requests (life_of past ask.queue))
+    && list_any (is_rest_of (mtu_of past ask.queue) ask envelope) (past.read_requests (present_incarnation past ask.queue))
     && reads_at_most (mtu_of past ask.queue) verdict
 
 -- a remote access has its packet
@@ -162,30 +174,41 @@ response_arrived past q =
 -- the request of a completion has packets
 abbrev pub has_packets : Past → Completion → Bool
 has_packets past c =
-    option_map_or (λ posted. not (is_local posted.request.op)) (slice_get (past.posted (life_of past c.queue)) c.place) true
+    option_map_or (λ posted. not (is_local posted.request.op)) (posted_at past c.queue c.place) true
 
--- A packet arrives as it was sent. It is sent with the next index of its target exactly where a path leads there, and
--- is one of the request that it names. A remote access has its packet. A send that has packets completes with success
--- only as a response arrives.
+-- A packet arrives as it was sent. It is sent with the next index of its target exactly where a path leads there. A
+-- remote access has its packet. A send that has packets completes with success only as a response arrives.
 abbrev pub is_carried : Past → Mark → Bool
 is_carried past (marks.Arrived target index) = has_arrived past target index
 is_carried past (marks.Sent source target index request bytes) =
-    option_eq (λ m n. m == n) index (index_to past source target) && is_of_request past source target request bytes
+    option_eq (λ m n. m == n) index (index_to past source target)
 is_carried past (marks.Remote queue domain envelope key kind address count verdict) =
     is_carried_access past (remote_ask queue domain key kind address count) envelope verdict kind
 is_carried past (marks.Done queue completion cause) =
     not (is_send_success completion && has_packets past completion) || response_arrived past queue
 is_carried past mark = true
 
--- the payload of these bytes
-abbrev pub carries : List ℕ → List ℕ → Bool
-carries payload bytes = option_map_or (λ p. bytes_eq p.payload payload) (packet_of bytes) false
+-- a packet that was sent carries what a READ gave
+abbrev pub carries : RemoteRead → SentPacket → Bool
+carries r s = queue_eq r.queue s.source && option_map_or (λ p. bytes_eq p.payload r.bytes) (packet_of s.bytes) false
 
--- a packet that was sent without a path is lost in its own event, and what a READ gave is sent in its own event
+-- the READ responses among packets that were sent
+abbrev pub read_responses : List SentPacket → List SentPacket
+read_responses sent = filter (λ s. option_map_or (λ p. answers_read p.opcode) (packet_of s.bytes) false) sent
+
+-- each READ response carries what a READ of its own gave, in order
+abbrev pub are_carried : List RemoteRead → List SentPacket → Bool
+are_carried [] [] = true
+are_carried (r ∷ rs) (s ∷ ss) = carries r s && are_carried rs ss
+are_carried reads sent = false
+
+-- a packet that was sent without a path is lost in its own event; each one is a packet of the request that it names, or
+-- a response; and the READ responses of an event carry what its READs gave
 abbrev pub is_carried_at_end : Past → Bool
 is_carried_at_end past =
     is_empty past.at_hand.pathless
-    && option_map_or (λ payload. list_any (carries payload) past.at_hand.sent) past.at_hand.read_remotely true
+    && list_all (has_its_cause past) past.at_hand.sent
+    && are_carried past.at_hand.read_remotely (read_responses past.at_hand.sent)
   where
     is_empty : List QueueId → Bool
     is_empty [] = true

@@ -1,5 +1,5 @@
 -- Judged: what each access of a history must be, by the grants and the bytes before it. Contracts cite it.
-use Rattle.std.specs.Prelude.{ℕ, ◌+◌, ◌/◌, ◌%◌, nat_le, nat_lt, Bool, true, false, ◌&&◌, ◌||◌, ◌==◌, List, [], ◌∷◌, length, Option, None, Some, is_none, IsTrue}
+use Rattle.std.specs.Prelude.{ℕ, ◌%◌, nat_le, nat_lt, Bool, true, false, ◌&&◌, ◌||◌, ◌==◌, List, [], ◌∷◌, length, Option, None, Some, is_none, IsTrue}
 use Rattle.std.specs.Option.{option_eq, option_map_or}
 use Rattle.std.specs.Str.{bytes_eq}
 use Rattle.ca_keys.specs.declared.access.Ask.{Ask}
@@ -11,8 +11,9 @@ use Rattle.ca_keys.specs.declared.names.QueueId.{QueueId}
 use Rattle.ca_keys.specs.declared.verdict.Verdict.{Verdict}
 use Rattle.ca_keys.specs.declared.verdict.Verdict.TheVariants as verdicts
 use Rattle.ca_keys.specs.Allowed.{denial_of}
-use Rattle.ca_keys.specs.Equal.{kind_eq, denial_eq}
+use Rattle.ca_keys.specs.Equal.{kind_eq, denial_eq, domain_eq}
 use Rattle.ca_keys.specs.Memory.{ByteMap, places_count, runs_for, bytes_at, little_endian}
+use Rattle.ca_keys.specs.Numbers.{domain_of}
 use Rattle.ca_packet.specs.Packet.{Fields}
 use Rattle.ca_model.specs.declared.answer.Answer.{Answer}
 use Rattle.ca_model.specs.declared.answer.Answer.TheVariants as answers
@@ -33,8 +34,8 @@ abbrev pub held : Past → Ask → ℕ → List ℕ
 held past ask count = bytes_at past.memory (runs_for ask past.grants count)
 
 -- the bytes of one packet: at most as many as were judged, and none only where none were
-abbrev pub touches : Ask → List ℕ → Bool
-touches ask bytes = nat_le (length bytes) ask.length && ((ask.length == 0) || nat_lt 0 (length bytes))
+abbrev pub is_fitting_size : Ask → List ℕ → Bool
+is_fitting_size ask bytes = nat_le (length bytes) ask.length && ((ask.length == 0) || nat_lt 0 (length bytes))
 
 -- the packet is an atomic of the kind of the ask, and this number is what it puts where it found the other
 abbrev pub puts : Ask → ℕ → ℕ → Fields → Bool
@@ -47,17 +48,17 @@ puts ask found put p =
 abbrev pub is_verdict : Past → Ask → Option ℕ → Verdict → Bool
 is_verdict past ask envelope (verdicts.Denied denial) = option_eq denial_eq (denial_of ask past.grants) (Some denial)
 is_verdict past ask envelope (verdicts.Read bytes) =
-    is_allowed past ask && kind_eq ask.kind kinds.Read && touches ask bytes && bytes_eq bytes (held past ask (length bytes))
+    is_allowed past ask && kind_eq ask.kind kinds.Read && is_fitting_size ask bytes && bytes_eq bytes (held past ask (length bytes))
 is_verdict past ask envelope (verdicts.Wrote bytes) =
-    is_allowed past ask && kind_eq ask.kind kinds.Write && touches ask bytes
+    is_allowed past ask && kind_eq ask.kind kinds.Write && is_fitting_size ask bytes
 is_verdict past ask envelope (verdicts.Swapped found put) =
     is_allowed past ask && (ask.length == ATOMIC_BYTES) && (ask.address % ATOMIC_BYTES == 0)
     && (little_endian (held past ask ATOMIC_BYTES) == found)
     && option_map_or (puts ask found put) (packet_at past ask.queue envelope) false
 
--- the queue pair's number is one of this domain
+-- the queue pair is one of this domain; none has a number below 256
 abbrev pub is_of_domain : QueueId → DomainId → Bool
-is_of_domain q d = (d.adapter == q.adapter) && (q.number / 256 == d.domain + 1)
+is_of_domain q d = nat_le 256 q.number && domain_eq (domain_of q) d
 
 -- an access by a list is a read or a write, and no atomic
 abbrev pub is_read_or_write : Kind → Bool

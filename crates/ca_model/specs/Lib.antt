@@ -6,11 +6,13 @@ pub mod Marks
 pub mod MarksView
 pub mod Requests
 pub mod Packets
+pub mod Progress
 pub mod Past
 pub mod Judged
 pub mod Licensed
 pub mod Carried
 pub mod Once
 pub mod Ordered
+pub mod Caused
 pub mod Lawful
 pub mod machine

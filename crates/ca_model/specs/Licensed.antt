@@ -28,7 +28,7 @@ use Rattle.ca_model.specs.declared.verb.Verb.{Verb}
 use Rattle.ca_model.specs.declared.verb.Verb.TheVariants as verbs
 use Rattle.ca_model.specs.Entries.{EntryValue}
 use Rattle.ca_model.specs.Packets.{asks_invalidate}
-use Rattle.ca_model.specs.Past.{Past, Way, BindTo, FastRegistration, Answered, Posted, opening_past, key_slot_of, key_slot_eq, slot_beside, operation_at_hand, operation_performed, packet_at, after_mark, each_entry}
+use Rattle.ca_model.specs.Past.{Past, Way, BindTo, FastRegistration, Answered, Posted, opening_past, key_slot_of, key_slot_eq, region_key_slot, slot_beside, operation_at_hand, operation_performed, packet_at, posted_at, is_send_success, after_mark, each_entry}
 
 -- the region's grant in force with this key, in this domain
 abbrev pub region_with : Past → DomainId → Key → Option Grant
@@ -43,7 +43,7 @@ may_hold region address count rights =
 
 -- the low byte that the next registration in a slot takes
 abbrev pub fresh_low : Past → Slot → ℕ
-fresh_low past slot = next_low (past.low (record { adapter = slot.domain.adapter; index = region_index slot }))
+fresh_low past slot = next_low (past.low (region_key_slot slot))
 
 -- the bytes of a slot's adapter that a registration names
 abbrev pub named_run : Slot → ℕ → ℕ → ℕ → Run
@@ -102,9 +102,17 @@ lies_in window region =
     region.local && domain_eq region.domain window.domain && may_hold region window.address window.length window.rights
     && pointwise run_eq window.runs (runs_at region window.address window.length)
 
--- each window's grant in force lies in a region's grant in force
+-- a window's grant lies in the grant in force of the region with the key that its bind named
+abbrev pub lies_in_its_region : Past → Grant → Bool
+lies_in_its_region past w = by (past.way (key_slot_of w))
+  where
+    by : Way → Bool
+    by (BindTo region) = option_map_or (lies_in w) (region_with past w.domain region) false
+    by way = false
+
+-- each window's grant in force lies in that of its region
 abbrev pub windows_lie_in_regions : Past → Bool
-windows_lie_in_regions past = list_all (λ w. w.local || list_any (lies_in w) past.grants) past.grants
+windows_lie_in_regions past = list_all (λ w. w.local || lies_in_its_region past w) past.grants
 
 -- a bound window lies in this region
 abbrev pub has_bound_window : Past → Grant → Bool
@@ -195,17 +203,26 @@ is_effective past a = by a.verb a.answer
     by (verbs.DeallocMw slot) answers.Fine = slot_is_revoked past slot (window_index slot)
     by verb answer = true
 
+-- the request is no Local Invalidate, or its key was revoked in the event at hand
+abbrev pub invalidation_is_effective : Past → ℕ → SendOp → Bool
+invalidation_is_effective past adapter (ops.LocalInv key) = was_revoked past adapter key
+invalidation_is_effective past adapter op = true
+
 -- a Local Invalidate that was performed has ended its key
 abbrev pub operation_is_effective : Past → Posted → Bool
-operation_is_effective past p = by past.at_hand.event p.request.op
+operation_is_effective past p = by past.at_hand.event
   where
-    by : Event → SendOp → Bool
-    by (events.Request queue lot) (ops.LocalInv key) = was_revoked past queue.adapter key
-    by event op = true
+    by : Event → Bool
+    by (events.Request queue lot) = invalidation_is_effective past queue.adapter p.request.op
+    by event = true
 
--- a receive that completed with an invalidated key has ended it
+-- a receive that completed with an invalidated key has ended it, and so has a Local Invalidate that completed with
+-- success, in whichever event it did
 abbrev pub completion_is_effective : Past → Completion → Bool
-completion_is_effective past c = option_map_or (was_revoked past c.queue.adapter) c.invalidated true
+completion_is_effective past c =
+    option_map_or (was_revoked past c.queue.adapter) c.invalidated true
+    && (not (is_send_success c)
+    || option_map_or (λ p. invalidation_is_effective past c.queue.adapter p.request.op) (posted_at past c.queue c.place) true)
 
 -- nothing is in a list
 abbrev pub is_empty : {A : Type 0} → List A → Bool

@@ -3,33 +3,34 @@
 use Rattle.std.specs.Prelude.{ℕ, Bool, false, not, ◌&&◌, ◌||◌, ◌==◌, nat_le, List, [], ◌∷◌, IsTrue}
 use Rattle.std.specs.List.{list_any, list_all, count_by}
 use Rattle.std.specs.Str.{bytes_eq}
+use Rattle.ca_base.specs.declared.correspondent.Correspondent.{Correspondent}
 use Rattle.ca_keys.specs.Memory.{ByteMap, little_endian_bytes}
 use Rattle.ca_model.specs.Entries.{EntryValue}
-use Rattle.ca_model.specs.Past.{Past, Life, Naming, Acted, Succeeded, life_eq, opening_past, after_entries}
+use Rattle.ca_model.specs.Past.{Past, Naming, Acted, Succeeded, correspondent_eq, opening_past, after_entries}
 
 -- no Rts that succeeded began this queue pair at another PSN than the other one expects
-abbrev pub begins_as_expected : Past → Life → Naming → Bool
-begins_as_expected past own peer = list_all (λ s. not (life_eq s.own own) || (s.psn == peer.psn)) past.starts
+abbrev pub begins_as_expected : Past → Correspondent → Naming → Bool
+begins_as_expected past own peer = list_all (λ s. not (correspondent_eq s.own own) || (s.psn == peer.psn)) past.starts
 
 -- no packet was injected at the queue pair in this incarnation
-abbrev pub is_not_injected : Past → Life → Bool
-is_not_injected past own = not (list_any (life_eq own) past.injected)
+abbrev pub is_not_injected : Past → Correspondent → Bool
+is_not_injected past own = not (list_any (correspondent_eq own) past.injected)
 
 -- the two name each other with one path MTU, neither began at a PSN that the other does not expect, and no packet was
 -- injected at either
 abbrev pub is_clean_pair : Past → Naming → Naming → Bool
 is_clean_pair past a b =
-    life_eq a.peer b.own && life_eq b.peer a.own && (a.mtu == b.mtu)
+    correspondent_eq a.peer b.own && correspondent_eq b.peer a.own && (a.mtu == b.mtu)
     && begins_as_expected past a.own b && begins_as_expected past b.own a
     && is_not_injected past a.own && is_not_injected past b.own
 
 -- the queue pair in this incarnation is one end of a clean connection
-abbrev pub is_clean : Past → Life → Bool
-is_clean past own = list_any (λ a. life_eq a.own own && list_any (is_clean_pair past a) past.namings) past.namings
+abbrev pub is_clean : Past → Correspondent → Bool
+is_clean past own = list_any (λ a. correspondent_eq a.own own && list_any (is_clean_pair past a) past.namings) past.namings
 
 -- the atomics that acted for a posted request
-abbrev pub times_acted : Past → Life → ℕ → ℕ
-times_acted past own place = count_by (λ a. life_eq a.own own && (a.place == place)) past.acted
+abbrev pub times_acted : Past → Correspondent → ℕ → ℕ
+times_acted past own place = count_by (λ a. correspondent_eq a.own own && (a.place == place)) past.acted
 
 -- an atomic of a clean connection acts at most once
 abbrev pub acts_at_most_once : Past → Acted → Bool
@@ -43,7 +44,7 @@ is_found_alone found put = false
 -- an atomic of a clean connection that completed with success acted exactly once before, and the number that it found
 -- was put into its list
 abbrev pub acted_before_success : Past → Succeeded → Bool
-acted_before_success past s = not (is_clean past s.own) || is_found_alone s.found s.put
+acted_before_success past s = not (is_clean past s.atomic.own) || is_found_alone s.atomic.found s.put
 
 -- of all that a history has left
 abbrev pub is_once : Past → Bool

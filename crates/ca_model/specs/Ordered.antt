@@ -14,7 +14,7 @@ use Rattle.ca_model.specs.declared.mark.Mark.TheVariants as marks
 use Rattle.ca_model.specs.declared.verb.Verb.{Verb}
 use Rattle.ca_model.specs.declared.verb.Verb.TheVariants as verbs
 use Rattle.ca_model.specs.Entries.{EntryValue}
-use Rattle.ca_model.specs.Past.{Past, Posted, life_of, opening_past, each_entry}
+use Rattle.ca_model.specs.Past.{Past, Posted, present_incarnation, opening_past, each_entry}
 use Rattle.ca_model.specs.Requests.{operation_of}
 
 -- the place behind the latest one that completed
@@ -34,13 +34,13 @@ are_unsignalled posted from to = list_all (λ p. not p.request.signalled) (take 
 -- a send completes behind those that completed before it, with no signalled one left between
 abbrev pub is_send_in_order : Past → Completion → List Posted → Bool
 is_send_in_order past c posted =
-    nat_le (place_behind (past.last_send (life_of past c.queue))) c.place
+    nat_le (place_behind (past.last_send (present_incarnation past c.queue))) c.place
     && option_map_or (is_completion_of c) (slice_get posted c.place) false
-    && are_unsignalled posted (place_behind (past.last_send (life_of past c.queue))) c.place
+    && are_unsignalled posted (place_behind (past.last_send (present_incarnation past c.queue))) c.place
 
 -- a receive completes behind those that its queue pair completed before it
 abbrev pub is_receive_in_order : Past → Completion → Bool
-is_receive_in_order past c = nat_le (place_behind (past.last_receive (life_of past c.queue))) c.place
+is_receive_in_order past c = nat_le (place_behind (past.last_receive (present_incarnation past c.queue))) c.place
 
 -- what a poll gives is the front of what waits
 abbrev pub is_polled : Past → Verb → Answer → Bool
@@ -53,7 +53,7 @@ abbrev pub is_ordered : Past → Mark → Bool
 is_ordered past (marks.Verb by verb answer) = is_polled past verb answer
 is_ordered past (marks.Done queue completion cause) =
     if completion.receive then is_receive_in_order past completion
-    else is_send_in_order past completion (past.posted (life_of past completion.queue))
+    else is_send_in_order past completion (past.posted (present_incarnation past completion.queue))
 is_ordered past mark = true
 
 abbrev pub is_ordered_history : ByteMap → List EntryValue → Bool

@@ -6,13 +6,13 @@ use Rattle.ca_keys.specs.declared.access.Kind.TheVariants as kinds
 use Rattle.ca_keys.specs.Equal.{kind_eq}
 use Rattle.ca_packet.specs.declared.atomic_eth.AtomicEth.{AtomicEth}
 use Rattle.ca_packet.specs.declared.shape.Operation.{Operation}
-use Rattle.ca_packet.specs.declared.shape.Operation.TheVariants.{Request}
+use Rattle.ca_packet.specs.declared.shape.Operation.TheVariants.{Request, ReadResponse}
 use Rattle.ca_packet.specs.declared.shape.Position.{Position}
 use Rattle.ca_packet.specs.declared.shape.Shape.{Shape}
 use Rattle.ca_packet.specs.declared.shape.Shape.TheVariants as shapes
 use Rattle.ca_packet.specs.Decoding.{packet_in}
 use Rattle.ca_packet.specs.Packet.{Fields, follows}
-use Rattle.ca_packet.specs.Shapes.{begins}
+use Rattle.ca_packet.specs.Shapes.{begins, ends}
 use Rattle.ca_packet.specs.Table.{IETH, operation_of, shape_of}
 
 -- the packet that bytes spell, if they spell one
@@ -31,6 +31,18 @@ begins_write opcode = is_write begins (shape_of opcode)
 -- a packet that goes on with a WRITE
 abbrev pub continues_write : ℕ → Bool
 continues_write opcode = is_write (λ place. not (begins place)) (shape_of opcode)
+
+-- a packet of a SEND which stands in its message where the test says
+abbrev pub is_send_at : (Position → Bool) → Option Shape → Bool
+is_send_at stands (Some (shapes.Send place)) = stands place
+is_send_at stands shape = false
+
+-- a packet of a SEND, and one that begins one
+abbrev pub is_send : ℕ → Bool
+is_send opcode = is_send_at (λ place. true) (shape_of opcode)
+
+abbrev pub begins_send : ℕ → Bool
+begins_send opcode = is_send_at begins (shape_of opcode)
 
 -- a READ Request
 abbrev pub asks_read : ℕ → Bool
@@ -51,6 +63,22 @@ asks_atomic kind opcode = by (shape_of opcode)
 -- a SEND with Invalidate, at its last packet, which carries an IETH
 abbrev pub asks_invalidate : ℕ → Bool
 asks_invalidate opcode = follows IETH opcode
+
+-- a READ Response that ends its READ
+abbrev pub is_last_read_response : ℕ → Bool
+is_last_read_response opcode = by (operation_of opcode)
+  where
+    by : Option Operation → Bool
+    by (Some (ReadResponse place)) = ends place
+    by operation = false
+
+-- a READ Response
+abbrev pub answers_read : ℕ → Bool
+answers_read opcode = by (operation_of opcode)
+  where
+    by : Option Operation → Bool
+    by (Some (ReadResponse place)) = true
+    by operation = false
 
 -- a response: READ Response, Acknowledge or ATOMIC Acknowledge
 abbrev pub is_response : ℕ → Bool

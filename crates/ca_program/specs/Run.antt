@@ -3,7 +3,7 @@ use Rattle.std.specs.Prelude.{◌≡◌, ℕ, List, [], ◌∷◌, codes, Option
 use Rattle.ca_keys.specs.Memory.{zeros}
 use Rattle.ca_model.specs.Entries.{EntryValue}
 use Rattle.ca_first_path.specs.ScriptHistory.{HasHistory}
-use Rattle.ca_model.specs.Lawful.{IsLawful}
+use Rattle.ca_model.specs.Lawful.{HasRelations}
 use Rattle.ca_reading_fits.specs.Histories.{HistoryFits}
 use Rattle.ca_trace.specs.Trace.{text}
 
@@ -11,12 +11,12 @@ use Rattle.ca_trace.specs.Trace.{text}
 abbrev pub IsCommand : List (List ℕ) → Type 0
 IsCommand words = words ≡ codes "script" ∷ []
 
--- These bytes are a script, which has one history, and this history is lawful over an opening of zeros. The output is its
+-- These bytes are a script, which has one history, and this history has all relations over an opening of zeros. The output is its
 -- text, and the text of no other history that fits.
 pub record HasOutput (bytes output : List ℕ) : Type 0 where
   pub entries : List EntryValue
   pub history : HasHistory bytes entries
-  pub lawful : IsLawful zeros entries
+  pub relations : HasRelations zeros entries
   pub fits : HistoryFits entries
   pub whole : output ≡ text entries
   pub only : (others : List EntryValue) → HistoryFits others → output ≡ text others → others ≡ entries

@@ -23,7 +23,7 @@ pub fn run<S: Source, K: Sink>(
     source: &mut S,
     sink: &mut K,
 ) -> Status
-    // The script is read to its end, and the sink took the text of its one history, which is lawful.
+    // The script is read to its end, and the sink took the text of its one history, which has all relations.
     ensures fine { result ≡ Status.Fine
         → Ran (S.left source.old) (S.left source.new) (Appends (K.held sink.old) (K.held sink.new)) }
 

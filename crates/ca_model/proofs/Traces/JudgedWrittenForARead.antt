@@ -18,6 +18,7 @@ use Rattle.ca_model.specs.Licensed.{is_licensed_history}
 use Rattle.ca_model.specs.Carried.{is_carried_history}
 use Rattle.ca_model.specs.Once.{is_once_history}
 use Rattle.ca_model.specs.Ordered.{is_ordered_history}
+use Rattle.ca_model.specs.Caused.{is_caused_history}
 use Rattle.ca_model.specs.Judged.{is_judged_history}
 use Rattle.ca_model.proofs.Literals.{d, s, q, k, r, run, piece, list, request, grant, entry}
 
@@ -57,7 +58,7 @@ history =
     ∷
     entry 16 0 (events.Deliver (q 1 256) 0) (marks.Arrived (q 1 256) (Some 0) ∷ [])
     ∷
-    entry 17 0 (events.Respond (q 1 256) lots.Pass) (marks.Remote (q 1 256) (d 1 0) (Some 0) (k 1) kinds.Read 4294967296 4 (verdicts.Wrote (0 ∷ 0 ∷ 0 ∷ 0 ∷ [])) ∷ marks.Sent (q 1 256) (q 0 256) (Some 0) None (16 ∷ 0 ∷ 255 ∷ 255 ∷ 0 ∷ 0 ∷ 1 ∷ 0 ∷ 0 ∷ 0 ∷ 0 ∷ 0 ∷ 31 ∷ 0 ∷ 0 ∷ 1 ∷ 0 ∷ 0 ∷ 0 ∷ 0 ∷ []) ∷ [])
+    entry 17 0 (events.Respond (q 1 256) lots.Pass) (marks.Remote (q 1 256) (d 1 0) (Some 0) (k 1) kinds.Read 4294967296 4 (verdicts.Wrote (0 ∷ 0 ∷ 0 ∷ 0 ∷ [])) ∷ [])
     ∷
     []
 
@@ -76,6 +77,10 @@ once = refl
 ordered : is_ordered_history zeros history ≡ true
 unfolding row_of be_bytes packet_bytes number_at bth_at front_at reth_from atomic_from aeth_from number_from payload_at payload_behind body_in packet_in
 ordered = refl
+
+caused : is_caused_history zeros history ≡ true
+unfolding row_of be_bytes packet_bytes number_at bth_at front_at reth_from atomic_from aeth_from number_from payload_at payload_behind body_in packet_in
+caused = refl
 
 judged : is_judged_history zeros history ≡ false
 unfolding row_of be_bytes packet_bytes number_at bth_at front_at reth_from atomic_from aeth_from number_from payload_at payload_behind body_in packet_in

@@ -18,6 +18,7 @@ use Rattle.ca_model.specs.Judged.{is_judged_history}
 use Rattle.ca_model.specs.Carried.{is_carried_history}
 use Rattle.ca_model.specs.Once.{is_once_history}
 use Rattle.ca_model.specs.Ordered.{is_ordered_history}
+use Rattle.ca_model.specs.Caused.{is_caused_history}
 use Rattle.ca_model.specs.Licensed.{is_licensed_history}
 use Rattle.ca_model.proofs.Literals.{d, s, q, k, r, run, request, completion, grant, entry}
 
@@ -78,6 +79,10 @@ once = refl
 ordered : is_ordered_history zeros history ≡ true
 unfolding row_of be_bytes packet_bytes number_at bth_at front_at reth_from atomic_from aeth_from number_from payload_at payload_behind body_in packet_in
 ordered = refl
+
+caused : is_caused_history zeros history ≡ true
+unfolding row_of be_bytes packet_bytes number_at bth_at front_at reth_from atomic_from aeth_from number_from payload_at payload_behind body_in packet_in
+caused = refl
 
 licensed : is_licensed_history zeros history ≡ false
 unfolding row_of be_bytes packet_bytes number_at bth_at front_at reth_from atomic_from aeth_from number_from payload_at payload_behind body_in packet_in

@@ -21,6 +21,7 @@ use Rattle.ca_model.specs.Judged.{is_judged_history}
 use Rattle.ca_model.specs.Licensed.{is_licensed_history}
 use Rattle.ca_model.specs.Carried.{is_carried_history}
 use Rattle.ca_model.specs.Once.{is_once_history}
+use Rattle.ca_model.specs.Caused.{is_caused_history}
 use Rattle.ca_model.specs.Ordered.{is_ordered_history}
 use Rattle.ca_model.proofs.Literals.{d, s, q, k, r, run, piece, list, request, completion, grant, entry}
 
@@ -74,7 +75,7 @@ history =
     ∷
     entry 23 0 (events.Verb 0 (verbs.PostSend (s 0 0 0) (request 3 true false false (ops.Write 4294967296 (k 1) (list ((piece 1 4294967296 1) ∷ [])))))) (marks.Verb 0 (verbs.PostSend (s 0 0 0) (request 3 true false false (ops.Write 4294967296 (k 1) (list ((piece 1 4294967296 1) ∷ []))))) (answers.Refused refusals.QueueFull) ∷ [])
     ∷
-    entry 24 0 (events.Deliver (q 0 256) 1) (marks.Arrived (q 0 256) (Some 1) ∷ marks.Done (q 0 256) (completion (q 0 256) false 1 2 operations.Write statuses.Success 0 None None) None ∷ marks.Done (q 0 256) (completion (q 0 256) false 0 1 operations.Write statuses.Flushed 0 None None) None ∷ [])
+    entry 24 0 (events.Verb 0 (verbs.ModifyQp (s 0 0 0) changes.Error)) (marks.Verb 0 (verbs.ModifyQp (s 0 0 0) changes.Error) answers.Fine ∷ marks.Done (q 0 256) (completion (q 0 256) false 1 2 operations.Write statuses.Flushed 0 None None) None ∷ marks.Done (q 0 256) (completion (q 0 256) false 0 1 operations.Write statuses.Flushed 0 None None) None ∷ [])
     ∷
     []
 
@@ -93,6 +94,10 @@ carried = refl
 once : is_once_history zeros history ≡ true
 unfolding row_of be_bytes packet_bytes number_at bth_at front_at reth_from atomic_from aeth_from number_from payload_at payload_behind body_in packet_in
 once = refl
+
+caused : is_caused_history zeros history ≡ true
+unfolding row_of be_bytes packet_bytes number_at bth_at front_at reth_from atomic_from aeth_from number_from payload_at payload_behind body_in packet_in
+caused = refl
 
 ordered : is_ordered_history zeros history ≡ false
 unfolding row_of be_bytes packet_bytes number_at bth_at front_at reth_from atomic_from aeth_from number_from payload_at payload_behind body_in packet_in

@@ -7,7 +7,7 @@ returns-clause-output c =
     record {
       entries = c.in_ok-history.history;
       history = c.in_ok-history.ensures.history;
-      lawful = c.in_ok-history.ensures.lawful;
+      relations = c.in_ok-history.ensures.relations;
       fits = c.history_fits.ensures;
       whole = whole;
       only = λ others fit same. c.one_text.ensures others c.in_ok-history.history fit c.history_fits.ensures (sym same ∙ whole);

@@ -1,0 +1,57 @@
+-- The marks of every event fit it, and what the machine runs is a history. For proofs only.
+use Rattle.std.proofs.Common.{◌≡◌, ℕ, suc, Bool, true, false, List, [], ◌∷◌, map, Result, Ok, Err, refl, subst, ap, true≢false}
+use Rattle.ca_agree.specs.Runs.{AreStamped, Comes, Leads}
+use Rattle.ca_agree.proofs.FitLemmas.{fits-deliver, fits-request, fits-respond, fits-timeout, fits-wake}
+use Rattle.ca_agree.proofs.LeadsLemmas.{comes}
+use Rattle.ca_agree.proofs.VerbFitLemmas.{fits-refused, fits-verb}
+use Rattle.ca_base.specs.Configuration.{Configuration}
+use Rattle.ca_base.specs.declared.step.Reason.{Reason}
+use Rattle.ca_keys.specs.Memory.{ByteMap}
+use Rattle.ca_model.specs.Entries.{EntryValue}
+use Rattle.ca_model.specs.History.{FitTheEvent, IsHistory, IsHistoryFrom}
+use Rattle.ca_model.specs.declared.answer.Refusal.TheVariants.{NoSuch}
+use Rattle.ca_model.specs.declared.event.Event.{Event}
+use Rattle.ca_model.specs.declared.event.Event.TheVariants as events
+use Rattle.ca_model.specs.declared.mark.Mark.{Mark}
+use Rattle.ca_model.specs.machine.Plan.{Did, NotReady, Outcome}
+use Rattle.ca_model.specs.machine.Run.{Follows, Ran, go_on, run_from, with_marks}
+use Rattle.ca_model.specs.machine.Step.{plan, step}
+use Rattle.ca_model.specs.machine.World.{World, opening_world}
+
+fits-event : (c : Configuration) (w : World) (event : Event) → Leads w (λ v ms. FitTheEvent event ms) (plan c event)
+fits-event c w (events.Verb by verb) = (λ named. fits-verb c w (record { by = by; verb = verb }) verb, λ none. fits-refused w (record { by = by; verb = verb }) NoSuch)
+fits-event c w (events.Request queue lot) = fits-request c w queue lot
+fits-event c w (events.Deliver queue index) = fits-deliver c w queue index
+fits-event c w (events.Respond queue lot) = fits-respond c w queue lot
+fits-event c w (events.Timeout queue hasten) = fits-timeout c w queue hasten
+fits-event c w (events.RnrWake queue) = fits-wake c w queue
+
+pub event-fits : (c : Configuration) (event : Event) (w : World) → Comes (λ v ms. FitTheEvent event ms) (step c w event)
+event-fits c event w = comes w (λ v ms. FitTheEvent event ms) (plan c event) (fits-event c w event)
+
+-- the marks of a run, of which the first are these
+pub first-marks : (ms ns : List Mark) (r : Ran) (rest : List (List Mark)) → with_marks ms r ≡ Ok (ns ∷ rest) → (ms ≡ ns) × (r ≡ Ok rest)
+first-marks ms ns (Ok xs) rest e = search
+first-marks ms ns (Err stop) rest e = search
+
+run-fits : (c : Configuration) (n : ℕ) (w : World) (es : List EntryValue) → AreStamped n es → run_from c n w (map (λ e. e.event) es) ≡ Ok (map (λ e. e.marks) es) → IsHistoryFrom n es
+run-fits c n w [] stamped follows = record {}
+run-fits c n w (e ∷ es) stamped follows = by (step c w e.event) (event-fits c e.event w) follows (λ v. run-fits c (suc n) v es stamped.1)
+  where
+    Rest : Type 0
+    Rest = (v : World) → run_from c (suc n) v (map (λ e. e.event) es) ≡ Ok (map (λ e. e.marks) es) → IsHistoryFrom (suc n) es
+
+    stopped : Ran → Bool
+    stopped (Ok told) = false
+    stopped (Err stop) = true
+
+    by : (o : Outcome) → Comes (λ v ms. FitTheEvent e.event ms) o
+        → go_on n o (λ v. run_from c (suc n) v (map (λ e. e.event) es)) ≡ Ok (e.marks ∷ map (λ e. e.marks) es) → Rest → IsHistoryFrom n (e ∷ es)
+    by (NotReady reason) fits follows rest = absurd (true≢false (ap stopped follows))
+    by (Did v ms) fits follows rest = at (first-marks ms e.marks (run_from c (suc n) v (map (λ e. e.event) es)) (map (λ e. e.marks) es) follows)
+      where
+        at : (ms ≡ e.marks) × (run_from c (suc n) v (map (λ e. e.event) es) ≡ Ok (map (λ e. e.marks) es)) → IsHistoryFrom n (e ∷ es)
+        at told = (record { stamp = stamped.0; marks = subst (FitTheEvent e.event) told.0 fits }, rest v told.1)
+
+pub followed-is-history : (c : Configuration) (bytes : ByteMap) (es : List EntryValue) → AreStamped 0 es → Follows c bytes es → IsHistory es
+followed-is-history c bytes es stamped follows = run-fits c 0 (opening_world bytes) es stamped follows

@@ -1,0 +1,11 @@
+pub mod LeadsLemmas
+pub mod InnerLemmas
+pub mod PerformLemmas
+pub mod FitLemmas
+pub mod VerbFitLemmas
+pub mod EventFitLemmas
+pub mod PathLemmas
+pub mod PathTurnLemmas
+pub mod PathVerbLemmas
+pub mod PathChangeLemmas
+pub mod PathEventLemmas

@@ -1,0 +1,224 @@
+-- The marks of every verb's event fit it: the answer comes first, and what is flushed behind it. For proofs only.
+use Rattle.std.proofs.Common.{◌≡◌, ℕ, suc, ◌&&◌, ◌||◌, ◌==◌, not, nat_lt, is_none, Bool, true, false, if◌then◌else◌, List, [], ◌∷◌, ◌++◌, take, length, Option, None, Some, refl, rules}
+use Rattle.std.specs.Option.{option_map, option_map_or, option_and_then}
+use Rattle.ca_agree.specs.Runs.{Leads}
+use Rattle.ca_agree.proofs.FitLemmas.{fits-arrive, plain, plain-append}
+use Rattle.ca_agree.proofs.InnerLemmas.{flush-inner}
+use Rattle.ca_agree.proofs.LeadsLemmas.{leads-around, leads-unless}
+use Rattle.ca_base.specs.Configuration.{Configuration}
+use Rattle.ca_base.specs.declared.change.Change as state_change
+use Rattle.ca_base.specs.declared.change.Change.TheVariants as changes
+use Rattle.ca_base.specs.declared.change.Field.TheVariants as fields
+use Rattle.ca_base.specs.declared.change.State.TheVariants as states
+use Rattle.ca_base.specs.declared.completion.Completion.{Completion}
+use Rattle.ca_base.specs.declared.limits.TheConstants.{MAX_POLLED}
+use Rattle.ca_base.specs.declared.request.SendOp.{SendOp}
+use Rattle.ca_base.specs.declared.request.SendOp.TheVariants as ops
+use Rattle.ca_base.specs.declared.request.RecvRequest.{RecvRequest}
+use Rattle.ca_base.specs.declared.request.SendRequest.{SendRequest}
+use Rattle.ca_base.specs.declared.step.Reason.TheVariants as reasons
+use Rattle.ca_base.specs.objects.CompletionQueue.{CompletionQueue, after_polls, after_puts}
+use Rattle.ca_base.specs.objects.QueuePair.{QueuePair, QueueSlot, NoQueue, Present, recv_cq_of, send_cq_of}
+use Rattle.ca_base.specs.objects.StateTable.{modify_refusals, queue_after_change, state_eq}
+use Rattle.ca_base.specs.objects.WorkQueue.{with_item}
+use Rattle.ca_base.specs.objects.Mailbox.{with_peer}
+use Rattle.ca_base.specs.objects.Window.{Window, after_draw, byte_drawn}
+use Rattle.ca_keys.specs.Numbers.{key_at, queue_of, window_index}
+use Rattle.ca_keys.specs.declared.names.QueueId.{QueueId}
+use Rattle.ca_keys.specs.declared.names.Slot.{Slot}
+use Rattle.ca_model.specs.History.{ArePlain, FitTheEvent}
+use Rattle.ca_model.specs.declared.answer.Answer.{Answer}
+use Rattle.ca_model.specs.declared.answer.Answer.TheVariants as answers
+use Rattle.ca_model.specs.declared.answer.Refusal.{Refusal}
+use Rattle.ca_model.specs.declared.answer.Refusal.TheVariants.{NoSuch, OutOfRange}
+use Rattle.ca_model.specs.declared.event.Event.TheVariants as events
+use Rattle.ca_model.specs.declared.mark.Mark.{Mark}
+use Rattle.ca_model.specs.declared.mark.Mark.TheVariants as marks
+use Rattle.ca_model.specs.declared.verb.Verb.{Verb}
+use Rattle.ca_model.specs.declared.verb.Verb.TheVariants as verbs
+use Rattle.ca_model.specs.machine.Completions.{flush_marks}
+use Rattle.ca_model.specs.machine.CompletionVerbs.{Poll_of, Take_plan, With_place, With_places, poll_plan, source_of_completion}
+use Rattle.ca_model.specs.machine.Delivery.{Arrive}
+use Rattle.ca_model.specs.machine.HostVerbs.{inject_plan}
+use Rattle.ca_model.specs.machine.Plan.{Plan, If, Look, Stuck, Update, ◌:=◌}
+use Rattle.ca_model.specs.machine.PostingVerbs.{Posted_send, after_flush, marks_of_flush, post_recv_plan, post_recv_refusals, post_send_plan, post_send_refusals, with_send}
+use Rattle.ca_model.specs.machine.QueuePairVerbs.{With_present, beside, emptied_mailbox, emptied_updates, modify_qp_plan}
+use Rattle.ca_model.specs.machine.Step.{verb_plan}
+use Rattle.ca_model.specs.machine.VerbAnswers.{Answer_plan, Call, Refuse_plan, Unless_plan, answer_mark, of_change_refusals}
+use Rattle.ca_model.specs.machine.World.{Cq_of, Mailbox_of, Queue_of, Window_of, World}
+use Rattle.ca_model.specs.machine.Around.{Around, With_around, completions_to, cq_updates}
+use Rattle.ca_laws_sound.proofs.WorldLemmas.{around_in, shared_of}
+
+-- what holds of the marks of a call, whatever the world
+abbrev pub Answers : Call → World → List Mark → Type 0
+Answers call v ms = FitTheEvent (events.Verb call.by call.verb) ms
+
+flush-plain : (q : QueuePair) → ArePlain (marks_of_flush q)
+flush-plain q = by (state_eq q.state states.Error)
+  where
+    by : (b : Bool) → ArePlain (if b then flush_marks q else [])
+    by true = plain (flush_marks q) (flush-inner q)
+    by false = record {}
+
+fits-answer : (w : World) (call : Call) (answer : Answer) (cs : List Update) (ms : List Mark) → ArePlain ms → Leads w (Answers call) (Answer_plan call answer cs ms)
+fits-answer w call answer cs ms plain = ((refl, refl), plain)
+
+fits-if : (w : World) (call : Call) (test : Bool) (p q : Plan) → Leads w (Answers call) p → Leads w (Answers call) q → Leads w (Answers call) (If test p q)
+fits-if w call test p q one other = (λ is. one, λ is. other)
+
+pub fits-refused : (w : World) (call : Call) (r : Refusal) → Leads w (Answers call) (Refuse_plan call r)
+fits-refused w call r = ((refl, refl), record {})
+
+fits-unless : (w : World) (call : Call) (tests : List (Bool × Refusal)) (p : Plan) → Leads w (Answers call) p → Leads w (Answers call) (Unless_plan call tests p)
+fits-unless w call tests p more = leads-unless w (Answers call) tests (Refuse_plan call) p (fits-refused w call) more
+
+fits-present : (w : World) (call : Call) (s : Slot) (k : QueuePair → Plan) → ((q : QueuePair) → Leads w (Answers call) (k q)) → Leads w (Answers call) (With_present call s k)
+fits-present w call s k more = by (w.queue (queue_of s))
+  where
+    there : QueueSlot → Plan
+    there (NoQueue incarnation timers) = Refuse_plan call NoSuch
+    there (Present q) = k q
+
+    by : (slot : QueueSlot) → Leads w (Answers call) (there slot)
+    by (NoQueue incarnation timers) = fits-refused w call NoSuch
+    by (Present q) = more q
+
+fits-posted : (w : World) (call : Call) (q : QueuePair) (request : SendRequest) (drawn : Option ℕ) (window : Slot) (changes : List Update)
+    → Leads w (Answers call) (Posted_send call q request drawn window changes)
+fits-posted w call q request drawn window changes = fits-unless w call (post_send_refusals request q)
+    (Answer_plan call (answers.Posted (option_map (key_at (window_index window)) drawn))
+    ((Queue_of q.queue := Present (after_flush posted))
+    ∷ (Cq_of (send_cq_of q) := option_map (after_puts (completions_to q q.send_cq (marks_of_flush posted))) (w.cq (send_cq_of q)))
+    ∷ changes)
+    (marks_of_flush posted))
+    ((refl, refl), flush-plain posted)
+  where
+    posted : QueuePair
+    posted = with_send request drawn q
+
+fits-post_send : (c : Configuration) (w : World) (call : Call) (s : Slot) (request : SendRequest) → Leads w (Answers call) (post_send_plan call s request)
+fits-post_send c w call s request = fits-present w call s (λ q. posting q request.op) (λ q. by q request.op)
+  where
+    draws : QueuePair → Slot → Window → Plan
+    draws q window x = Unless_plan call ((x.kind == 0, NoSuch) ∷ []) (Posted_send call q request (byte_drawn x) window ((Window_of window := after_draw x) ∷ []))
+
+    posting : QueuePair → SendOp → Plan
+    posting q (ops.Bind1 window region address count rights) = Look (Window_of (beside s window)) (draws q (beside s window))
+    posting q op = Posted_send call q request None s []
+
+    by : (q : QueuePair) (op : SendOp) → Leads w (Answers call) (posting q op)
+    by q (ops.Bind1 window region address count rights) = fits-unless w call ((x.kind == 0, NoSuch) ∷ [])
+        (Posted_send call q request (byte_drawn x) (beside s window) ((Window_of (beside s window) := after_draw x) ∷ []))
+        (fits-posted w call q request (byte_drawn x) (beside s window) ((Window_of (beside s window) := after_draw x) ∷ []))
+      where
+        x : Window
+        x = w.window (beside s window)
+    by q (ops.Bind2 window region low address count rights) = fits-posted w call q request None s []
+    by q (ops.FastReg region low buffer address count rights pages) = fits-posted w call q request None s []
+    by q (ops.LocalInv key) = fits-posted w call q request None s []
+    by q (ops.Send list) = fits-posted w call q request None s []
+    by q (ops.SendImm imm list) = fits-posted w call q request None s []
+    by q (ops.SendInv key list) = fits-posted w call q request None s []
+    by q (ops.Write address key list) = fits-posted w call q request None s []
+    by q (ops.WriteImm address key imm list) = fits-posted w call q request None s []
+    by q (ops.Read address key list) = fits-posted w call q request None s []
+    by q (ops.CmpSwap address key compare swap list) = fits-posted w call q request None s []
+    by q (ops.FetchAdd address key add list) = fits-posted w call q request None s []
+
+with-place : (w : World) (call : Call) (s : Slot) (cq : CompletionQueue) (polled : List Completion) (x : Completion) (k : Update → Plan) → ((u : Update) → Leads w (Answers call) (k u))
+    → Leads w (Answers call) (With_place s cq polled x k)
+with-place w call s cq polled x k more = search rules
+
+with-places : (w : World) (call : Call) (s : Slot) (cq : CompletionQueue) (polled xs : List Completion) (k : List Update → Plan) → ((us : List Update) → Leads w (Answers call) (k us))
+    → Leads w (Answers call) (With_places s cq polled xs k)
+with-places w call s cq polled [] k more = more []
+with-places w call s cq polled (x ∷ xs) k more =
+    with-place w call s cq polled x (λ u. With_places s cq polled xs (λ us. k (u ∷ us))) (λ u. with-places w call s cq polled xs (λ us. k (u ∷ us)) (λ us. more (u ∷ us)))
+
+fits-poll : (w : World) (call : Call) (s : Slot) (n least : ℕ) → Leads w (Answers call) (poll_plan call s n least)
+fits-poll w call s n least = by (w.cq s)
+  where
+    ending : CompletionQueue → List Completion → List Update → Plan
+    ending cq polled us = Answer_plan call (answers.Polled polled) ((Cq_of s := Some (after_polls (length polled) cq)) ∷ us) []
+
+    taken : (cq : CompletionQueue) (polled : List Completion) → Leads w (Answers call) (Take_plan call s cq polled)
+    taken cq polled = with-places w call s cq polled polled (ending cq polled) (λ us. ((refl, refl), record {}))
+
+    by : (o : Option CompletionQueue) → Leads w (Answers call) (Poll_of call s n least o)
+    by None = fits-refused w call NoSuch
+    by (Some cq) = fits-unless w call (((n == 0) || nat_lt MAX_POLLED n || nat_lt n least, OutOfRange fields.Length) ∷ [])
+        (If (nat_lt (length cq.waiting) least) (Stuck reasons.Empty) (Take_plan call s cq (take n cq.waiting)))
+        (λ few. record {}, λ enough. taken cq (take n cq.waiting))
+
+fits-inject : (c : Configuration) (w : World) (call : Call) (q : QueueId) (bytes : List ℕ) → Leads w (Answers call) (inject_plan c call q bytes)
+fits-inject c w call q bytes = by (w.queue q)
+  where
+    arrives : QueueSlot → Plan
+    arrives (NoQueue incarnation timers) = Refuse_plan call NoSuch
+    arrives (Present p) = Arrive c p bytes None [] (answer_mark call answers.Fine ∷ [])
+
+    by : (s : QueueSlot) → Leads w (Answers call) (arrives s)
+    by (NoQueue incarnation timers) = fits-refused w call NoSuch
+    by (Present p) = fits-arrive c w (Answers call) p bytes None [] (answer_mark call answers.Fine ∷ []) (λ v ns plain. ((refl, refl), (record {}, plain)))
+
+-- a change of a queue pair, by what it changes and what it flushes
+fits-change : (w : World) (call : Call) (q : QueuePair) (tests : List (Bool × Refusal)) (updates : Around → List Update) (ms : List Mark) → ArePlain ms
+    → Leads w (Answers call) (With_around q (λ a. Unless_plan call tests (Answer_plan call answers.Fine (updates a) ms)))
+fits-change w call q tests updates ms plain = leads-around w (Answers call) q (λ a. Unless_plan call tests (Answer_plan call answers.Fine (updates a) ms))
+    (fits-unless w call tests (Answer_plan call answers.Fine (updates (around_in w q (shared_of w q))) ms) ((refl, refl), plain))
+
+fits-modify : (c : Configuration) (w : World) (call : Call) (s : Slot) (change : state_change.Change) → Leads w (Answers call) (modify_qp_plan c call s change)
+fits-modify c w call s changes.Error = fits-present w call s _ (λ q.
+    fits-change w call q (of_change_refusals (modify_refusals c q changes.Error)) (λ a. (Queue_of q.queue := Present (queue_after_change changes.Error q)) ∷ cq_updates q a (flush_marks q)) (flush_marks q) (plain (flush_marks q) (flush-inner q)))
+fits-modify c w call s changes.Reset = fits-present w call s _ (λ q.
+    fits-change w call q (of_change_refusals (modify_refusals c q changes.Reset)) (λ a. (Queue_of q.queue := Present (queue_after_change changes.Reset q)) ∷ (Mailbox_of q.queue := emptied_mailbox (queue_after_change changes.Reset q).incarnation (w.mailbox q.queue)) ∷ emptied_updates q a) [] (record {}))
+fits-modify c w call s changes.Init = fits-present w call s _ (λ q.
+    fits-change w call q (of_change_refusals (modify_refusals c q changes.Init)) (λ a. (Queue_of q.queue := Present (queue_after_change changes.Init q)) ∷ []) [] (record {}))
+fits-modify c w call s (changes.Rtr peer incarnation psn mtu rnr_code) = fits-present w call s _ (λ q.
+    fits-change w call q (of_change_refusals (modify_refusals c q (changes.Rtr peer incarnation psn mtu rnr_code))) (λ a. (Queue_of q.queue := Present (queue_after_change (changes.Rtr peer incarnation psn mtu rnr_code) q)) ∷ (Mailbox_of q.queue := with_peer q.incarnation (Some (record { queue = peer; incarnation = incarnation })) (w.mailbox q.queue)) ∷ []) [] (record {}))
+fits-modify c w call s (changes.Rts psn retry rnr_retry reads) = fits-present w call s _ (λ q.
+    fits-change w call q (of_change_refusals (modify_refusals c q (changes.Rts psn retry rnr_retry reads))) (λ a. (Queue_of q.queue := Present (queue_after_change (changes.Rts psn retry rnr_retry reads) q)) ∷ []) [] (record {}))
+fits-modify c w call s changes.Sqd = fits-present w call s _ (λ q.
+    fits-change w call q (of_change_refusals (modify_refusals c q changes.Sqd)) (λ a. (Queue_of q.queue := Present (queue_after_change changes.Sqd q)) ∷ []) [] (record {}))
+fits-modify c w call s changes.Resume = fits-present w call s _ (λ q.
+    fits-change w call q (of_change_refusals (modify_refusals c q changes.Resume)) (λ a. (Queue_of q.queue := Present (queue_after_change changes.Resume q)) ∷ []) [] (record {}))
+
+fits-post_recv : (w : World) (call : Call) (s : Slot) (request : RecvRequest) → Leads w (Answers call) (post_recv_plan call s request)
+fits-post_recv w call s request = fits-present w call s _ by
+  where
+    after : QueuePair → QueuePair
+    after q = record q { receives = option_map (with_item request) q.receives }
+
+    posted : QueuePair → Plan
+    posted q = Answer_plan call (answers.Posted None)
+        ((Queue_of q.queue := Present (after_flush (after q)))
+        ∷ (Cq_of (recv_cq_of q) := option_map (after_puts (completions_to q q.recv_cq (marks_of_flush (after q)))) (w.cq (recv_cq_of q)))
+        ∷ [])
+        (marks_of_flush (after q))
+
+    by : (q : QueuePair) → Leads w (Answers call) (Unless_plan call (post_recv_refusals request q) (posted q))
+    by q = fits-unless w call (post_recv_refusals request q) (posted q) ((refl, refl), flush-plain (after q))
+
+pub fits-verb : (c : Configuration) (w : World) (call : Call) (verb : Verb) → Leads w (Answers call) (verb_plan c call verb)
+fits-verb c w call (verbs.AllocPd domain) = search rules
+fits-verb c w call (verbs.DeallocPd domain) = search rules
+fits-verb c w call (verbs.RegMr slot buffer offset count rights) = search rules
+fits-verb c w call (verbs.AllocMr slot pages) = search rules
+fits-verb c w call (verbs.DeregMr slot) = search rules
+fits-verb c w call (verbs.AllocMw slot kind) = search rules
+fits-verb c w call (verbs.DeallocMw slot) = search rules
+fits-verb c w call (verbs.CreateCq slot capacity) = search rules
+fits-verb c w call (verbs.DestroyCq slot) = search rules
+fits-verb c w call (verbs.CreateSrq slot depth) = search rules
+fits-verb c w call (verbs.DestroySrq slot) = search rules
+fits-verb c w call (verbs.CreateQp slot send_cq recv_cq send_depth recv_depth srq) = search (rules, fits-unless)
+fits-verb c w call (verbs.ModifyQp slot change) = fits-modify c w call slot change
+fits-verb c w call (verbs.QueryQp slot) = search rules
+fits-verb c w call (verbs.DestroyQp slot) = search rules
+fits-verb c w call (verbs.PostSend slot request) = fits-post_send c w call slot request
+fits-verb c w call (verbs.PostRecv slot request) = fits-post_recv w call slot request
+fits-verb c w call (verbs.PostSrq slot request) = search rules
+fits-verb c w call (verbs.Poll slot n least) = fits-poll w call slot n least
+fits-verb c w call (verbs.Store adapter buffer offset bytes) = search rules
+fits-verb c w call (verbs.Load adapter buffer offset count) = search rules
+fits-verb c w call (verbs.Inject queue bytes) = fits-inject c w call queue bytes

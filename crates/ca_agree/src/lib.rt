@@ -1,0 +1,17 @@
+//! What the machine makes of histories: the marks of every event fit it, and the past that they tell agrees with the world.
+//!
+//! To the layers above it promises, as clauses of functions that do nothing, that the first mark of a verb's event is its
+//! answer and no other mark is one, that a completion is of the queue pair that its mark names, and that this holds of
+//! every list of entries whose marks are the machine's. And that what the marks of a history tell of paths agrees with the
+//! world at each moment: incarnations, the peers that were named, whom each mailbox accepts, and how many envelopes were
+//! sent to it. They hold of the machine's definitions, and no code is in them.
+//!
+//! Source: this profile's choice; a history is what the relations on histories speak of.
+#![tactic(auto)]
+
+mod laws;
+
+pub use laws::{
+    event_keeps_paths_agreed, event_marks_fit, histories_agree_on_paths, machine_makes_histories,
+    opening_agrees_on_paths,
+};

@@ -1,0 +1,70 @@
+-- The history of a trace, carried-two-reads-in-one-response, and what holds of it. For proofs only.
+use Rattle.std.proofs.Common.{◌≡◌, List, [], ◌∷◌, true, false, None, refl}
+use Rattle.ca_keys.specs.declared.access.Kind.TheVariants as kinds
+use Rattle.ca_base.specs.declared.change.Change.TheVariants as changes
+use Rattle.ca_base.specs.declared.lot.Lot.TheVariants as lots
+use Rattle.ca_keys.specs.declared.verdict.Verdict.TheVariants as verdicts
+use Rattle.ca_model.specs.declared.answer.Answer.TheVariants as answers
+use Rattle.ca_model.specs.declared.event.Event.TheVariants as events
+use Rattle.ca_model.specs.declared.mark.Mark.TheVariants as marks
+use Rattle.ca_model.specs.declared.verb.Verb.TheVariants as verbs
+use Rattle.ca_keys.specs.Memory.{zeros}
+use Rattle.ca_packet.specs.Decoding.{number_at, bth_at, front_at, reth_from, atomic_from, aeth_from, number_from, payload_at, payload_behind, body_in, packet_in}
+use Rattle.ca_packet.specs.Packet.{be_bytes, packet_bytes}
+use Rattle.ca_packet.specs.Table.{row_of}
+use Rattle.ca_model.specs.Entries.{EntryValue}
+use Rattle.ca_model.specs.Judged.{is_judged_history}
+use Rattle.ca_model.specs.Licensed.{is_licensed_history}
+use Rattle.ca_model.specs.Once.{is_once_history}
+use Rattle.ca_model.specs.Ordered.{is_ordered_history}
+use Rattle.ca_model.specs.Caused.{is_caused_history}
+use Rattle.ca_model.specs.Carried.{is_carried_history}
+use Rattle.ca_model.proofs.Literals.{d, s, q, k, r, run, place, grant, entry}
+
+abbrev history : List EntryValue
+history =
+    entry 0 0 (events.Verb 0 (verbs.AllocPd (d 0 0))) (marks.Verb 0 (verbs.AllocPd (d 0 0)) answers.Fine ∷ [])
+    ∷
+    entry 1 0 (events.Verb 0 (verbs.CreateCq (s 0 0 0) 8)) (marks.Verb 0 (verbs.CreateCq (s 0 0 0) 8) answers.Fine ∷ [])
+    ∷
+    entry 2 0 (events.Verb 0 (verbs.CreateQp (s 0 0 0) 0 0 4 4 None)) (marks.Verb 0 (verbs.CreateQp (s 0 0 0) 0 0 4 4 None) (answers.Queue 256 1) ∷ [])
+    ∷
+    entry 3 0 (events.Verb 0 (verbs.RegMr (s 0 0 0) 0 0 64 (r true true true false false))) (marks.Verb 0 (verbs.RegMr (s 0 0 0) 0 0 64 (r true true true false false)) (answers.Key (k 1)) ∷ marks.Granted (grant (k 1) (d 0 0) None true 4294967296 64 (r true true true false false) ((run 0 0 0 64) ∷ [])) ∷ [])
+    ∷
+    entry 4 0 (events.Verb 0 (verbs.ModifyQp (s 0 0 0) changes.Init)) (marks.Verb 0 (verbs.ModifyQp (s 0 0 0) changes.Init) answers.Fine ∷ [])
+    ∷
+    entry 5 0 (events.Verb 0 (verbs.ModifyQp (s 0 0 0) (changes.Rtr (q 0 257) 1 0 256 12))) (marks.Verb 0 (verbs.ModifyQp (s 0 0 0) (changes.Rtr (q 0 257) 1 0 256 12)) answers.Fine ∷ [])
+    ∷
+    entry 6 0 (events.Verb 0 (verbs.Store 0 0 0 (17 ∷ 34 ∷ []))) (marks.Verb 0 (verbs.Store 0 0 0 (17 ∷ 34 ∷ [])) answers.Fine ∷ marks.Stored (place 0 0 0) (17 ∷ 34 ∷ []) ∷ [])
+    ∷
+    entry 7 0 (events.Verb 0 (verbs.Inject (q 0 256) (12 ∷ 0 ∷ 255 ∷ 255 ∷ 0 ∷ 0 ∷ 1 ∷ 0 ∷ 0 ∷ 0 ∷ 0 ∷ 0 ∷ 0 ∷ 0 ∷ 0 ∷ 1 ∷ 0 ∷ 0 ∷ 0 ∷ 0 ∷ 0 ∷ 0 ∷ 0 ∷ 1 ∷ 0 ∷ 0 ∷ 0 ∷ 1 ∷ []))) (marks.Verb 0 (verbs.Inject (q 0 256) (12 ∷ 0 ∷ 255 ∷ 255 ∷ 0 ∷ 0 ∷ 1 ∷ 0 ∷ 0 ∷ 0 ∷ 0 ∷ 0 ∷ 0 ∷ 0 ∷ 0 ∷ 1 ∷ 0 ∷ 0 ∷ 0 ∷ 0 ∷ 0 ∷ 0 ∷ 0 ∷ 1 ∷ 0 ∷ 0 ∷ 0 ∷ 1 ∷ [])) answers.Fine ∷ marks.Arrived (q 0 256) None ∷ [])
+    ∷
+    entry 8 0 (events.Verb 0 (verbs.Inject (q 0 256) (12 ∷ 0 ∷ 255 ∷ 255 ∷ 0 ∷ 0 ∷ 1 ∷ 0 ∷ 0 ∷ 0 ∷ 0 ∷ 1 ∷ 0 ∷ 0 ∷ 0 ∷ 1 ∷ 0 ∷ 0 ∷ 0 ∷ 1 ∷ 0 ∷ 0 ∷ 0 ∷ 1 ∷ 0 ∷ 0 ∷ 0 ∷ 1 ∷ []))) (marks.Verb 0 (verbs.Inject (q 0 256) (12 ∷ 0 ∷ 255 ∷ 255 ∷ 0 ∷ 0 ∷ 1 ∷ 0 ∷ 0 ∷ 0 ∷ 0 ∷ 1 ∷ 0 ∷ 0 ∷ 0 ∷ 1 ∷ 0 ∷ 0 ∷ 0 ∷ 1 ∷ 0 ∷ 0 ∷ 0 ∷ 1 ∷ 0 ∷ 0 ∷ 0 ∷ 1 ∷ [])) answers.Fine ∷ marks.Arrived (q 0 256) None ∷ [])
+    ∷
+    entry 9 0 (events.Respond (q 0 256) lots.Pass) (marks.Remote (q 0 256) (d 0 0) None (k 1) kinds.Read 4294967296 1 (verdicts.Read (17 ∷ [])) ∷ marks.Remote (q 0 256) (d 0 0) None (k 1) kinds.Read 4294967297 1 (verdicts.Read (34 ∷ [])) ∷ marks.Sent (q 0 256) (q 0 257) None None (16 ∷ 48 ∷ 255 ∷ 255 ∷ 0 ∷ 0 ∷ 1 ∷ 1 ∷ 0 ∷ 0 ∷ 0 ∷ 1 ∷ 31 ∷ 0 ∷ 0 ∷ 2 ∷ 34 ∷ 0 ∷ 0 ∷ 0 ∷ []) ∷ marks.Lost (q 0 257) None ∷ [])
+    ∷
+    []
+
+judged : is_judged_history zeros history ≡ true
+unfolding row_of be_bytes packet_bytes number_at bth_at front_at reth_from atomic_from aeth_from number_from payload_at payload_behind body_in packet_in
+judged = refl
+
+licensed : is_licensed_history zeros history ≡ true
+unfolding row_of be_bytes packet_bytes number_at bth_at front_at reth_from atomic_from aeth_from number_from payload_at payload_behind body_in packet_in
+licensed = refl
+
+once : is_once_history zeros history ≡ true
+unfolding row_of be_bytes packet_bytes number_at bth_at front_at reth_from atomic_from aeth_from number_from payload_at payload_behind body_in packet_in
+once = refl
+
+ordered : is_ordered_history zeros history ≡ true
+unfolding row_of be_bytes packet_bytes number_at bth_at front_at reth_from atomic_from aeth_from number_from payload_at payload_behind body_in packet_in
+ordered = refl
+
+caused : is_caused_history zeros history ≡ true
+unfolding row_of be_bytes packet_bytes number_at bth_at front_at reth_from atomic_from aeth_from number_from payload_at payload_behind body_in packet_in
+caused = refl
+
+carried : is_carried_history zeros history ≡ false
+unfolding row_of be_bytes packet_bytes number_at bth_at front_at reth_from atomic_from aeth_from number_from payload_at payload_behind body_in packet_in
+carried = refl
