@@ -1,6 +1,7 @@
-ghost use Rattle.std.specs.Prelude.{◌≡◌};
+ghost use Rattle.std.specs.Prelude.{◌≡◌, ◌==◌, length, if◌then◌else◌, Ok, Err};
+ghost use Rattle.ca_script_words.specs.declared.cause.ScriptCause.TheVariants as causes;
 ghost use Rattle.ca_script_words.specs.Reading as reading;
-ghost use Rattle.ca_script_words.specs.Reading.{AnswersFrom};
+ghost use Rattle.ca_script_words.specs.Reading.{Answers, AnswersFrom};
 ghost use Rattle.std.specs.List.{filter};
 ghost use Rattle.ca_script_words.specs.Words.{is_word, words_of};
 
@@ -39,6 +40,17 @@ impl<'a> LineWords<'a> {
         ensures { AnswersFrom (λ w. w.now) result self.new (reading.first_word self.old) }
     {
         first_word(&mut self.parts)
+    }
+
+    /// Takes what is left, which has to be nothing. `Extra` comes exactly where a word is left.
+    pub fn expect_end(&mut self) -> Result<(), LineError>
+        ensures { Answers (λ x. x) result (if length self.old == 0 then Ok tt else Err causes.Extra) }
+    {
+        match self.take_word() {
+            Ok(_) => Err(LineError::Refused(ScriptCause::Extra)),
+            Err(LineError::Memory) => Err(LineError::Memory),
+            Err(LineError::Refused(_)) => Ok(()),
+        }
     }
 }
 

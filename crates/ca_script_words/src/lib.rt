@@ -21,7 +21,7 @@ pub use cause::ScriptCause;
 pub use cursor::LineWords;
 pub use flags::Flags;
 pub use line_error::LineError;
-pub use number::{is_consumer, is_number, number_within};
+pub use number::{consumer_number, is_consumer, is_number, number_within};
 pub use take::{
     take_buffer, take_domain, take_flags, take_hex, take_number, take_optional_u16, take_pages,
     take_pieces, take_queue, take_rights, take_slot, take_u8, take_u16, take_u32, take_u64,

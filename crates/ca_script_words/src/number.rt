@@ -1,4 +1,4 @@
-ghost use Rattle.std.specs.Prelude.{◌≡◌, ◌≤◌, IfOk};
+ghost use Rattle.std.specs.Prelude.{◌≡◌, ◌≤◌, drop, IfOk};
 ghost use Rattle.ca_script_words.specs.Reading.{Answers};
 ghost use Rattle.ca_script_words.specs.Words as words;
 
@@ -94,5 +94,16 @@ pub fn is_consumer(word: &[u8]) -> bool
     match word {
         [b'c', digits @ ..] => are_digits(10, digits),
         _ => false,
+    }
+}
+
+/// The number of a consumer, up to this one, where a word has the form of one.
+pub fn consumer_number(last: u64, word: &[u8]) -> Result<u64, LineError>
+    ensures value { Answers (λ x. x) result (words.limited 0 last (drop 1 word.now)) }
+    ensures last { IfOk result (λ n. n ≤ last) }
+{
+    match word {
+        [] => limited(0, last, word),
+        [_, digits @ ..] => limited(0, last, digits),
     }
 }
