@@ -1,7 +1,7 @@
 -- The setup of a script: one row for each setup line, which of them come too late, what each changes, and the limits of
 -- the whole. Contracts cite it.
-use Rattle.std.specs.Prelude.{ℕ, zero, suc, ◌-◌, ◌+◌, ◌==◌, nat_le, nat_lt, Bool, true, false, not, ◌&&◌, ◌||◌, if◌then◌else◌, List, [], ◌∷◌, ◌++◌, length, map, sum, sum_by, slice_set, Option, Some, None, Result, Ok, Err, codes}
-use Rattle.std.specs.List.{list_any, replicate}
+use Rattle.std.specs.Prelude.{ℕ, zero, suc, ◌-◌, ◌+◌, ◌==◌, nat_le, nat_lt, Bool, true, false, not, ◌&&◌, ◌||◌, if◌then◌else◌, List, [], ◌∷◌, ◌++◌, length, map, sum, sum_by, replicate, Option, Some, None, Result, Ok, Err, codes}
+use Rattle.std.specs.List.{list_any}
 use Rattle.std.specs.Str.{bytes_eq}
 use Rattle.ca_base.specs.Configuration.{Adapter, part_count}
 use Rattle.ca_base.specs.declared.limits.TheConstants.{MAX_ADAPTERS, MAX_DOMAINS, MAX_BUFFERS, MAX_BUFFER_BYTES, MAX_TOTAL_BYTES, MAX_REGIONS, MAX_WINDOWS, MAX_CQS, MAX_SRQS, MAX_QPS, MAX_PARTS, MAX_EVENTS}
@@ -34,8 +34,8 @@ buffer_row last = there last (λ a. Takes (Number 1 MAX_BUFFER_BYTES) (λ n. Mak
 unfoldable pub slots_row : ℕ → Row Setting
 slots_row last =
     there last (λ a. Takes (Number 1 MAX_DOMAINS) (λ domains. Takes (Number 0 MAX_REGIONS) (λ regions. Takes (Number 0 MAX_WINDOWS) (λ windows.
-      Takes (Number 0 MAX_CQS) (λ cqs. Takes (Number 0 MAX_SRQS) (λ srqs. Takes (Number 0 MAX_QPS) (λ qps.
-        Makes (settings.Slots a (record { domains = domains; regions = regions; windows = windows; cqs = cqs; srqs = srqs; qps = qps })))))))))
+    Takes (Number 0 MAX_CQS) (λ cqs. Takes (Number 0 MAX_SRQS) (λ srqs. Takes (Number 0 MAX_QPS) (λ qps.
+    Makes (settings.Slots a (record { domains = domains; regions = regions; windows = windows; cqs = cqs; srqs = srqs; qps = qps })))))))))
 
 unfoldable pub events_row : Row Setting
 events_row = Takes (Number 1 MAX_EVENTS) (λ n. Makes (settings.Events n))
@@ -146,8 +146,8 @@ with_slots c a = record {
 -- one adapter by its number
 abbrev pub with_adapter : ℕ → (Adapter → Adapter) → List Adapter → List Adapter
 with_adapter n change [] = []
-with_adapter zero change (a ∷ as) = change a ∷ as
-with_adapter (suc n) change (a ∷ as) = a ∷ with_adapter n change as
+with_adapter zero change (a ∷ rest) = change a ∷ rest
+with_adapter (suc n) change (a ∷ rest) = a ∷ with_adapter n change rest
 
 -- a line of listed weather more
 abbrev pub with_weather : WeatherLine → Weather → Weather
@@ -166,16 +166,17 @@ after_setting (settings.Listed line) s = record s { begun = true; weather = with
 -- ---- limits of the whole
 
 abbrev pub total_bytes : List Adapter → ℕ
-total_bytes as = sum_by (λ a. sum a.buffers) as
+total_bytes adapters = sum_by (λ a. sum a.buffers) adapters
 
 -- the adapter is there, and may have a buffer more
 abbrev pub has_buffer_left : ℕ → List Adapter → Bool
 has_buffer_left n [] = false
-has_buffer_left zero (a ∷ as) = nat_lt (length a.buffers) MAX_BUFFERS
-has_buffer_left (suc n) (a ∷ as) = has_buffer_left n as
+has_buffer_left zero (a ∷ rest) = nat_lt (length a.buffers) MAX_BUFFERS
+has_buffer_left (suc n) (a ∷ rest) = has_buffer_left n rest
 
--- the number of buffers of an adapter
+-- the number of adapters, of which their row lets pass no more, and the number of buffers of an adapter
 abbrev pub has_room_for : Setting → Setup → Bool
+has_room_for (settings.Adapters n) s = nat_le n MAX_ADAPTERS
 has_room_for (settings.Buffer a n) s = has_buffer_left a s.adapters
 has_room_for other s = true
 

@@ -43,10 +43,11 @@ pub(crate) fn opening(alloc: Global) -> ScriptSoFar
 pub(crate) fn script_of(draft: ScriptSoFar) -> Script
     ensures { script.script_value result ≡ script.value_of_draft (script.draft_of draft) }
 {
+    let ScriptSoFar { setup, consumers } = draft;
     Script {
-        config: draft.setup.config,
-        weather: draft.setup.weather,
-        consumers: Consumers::from(draft.consumers),
+        config: setup.config,
+        weather: setup.weather,
+        consumers: Consumers::from(consumers),
     }
 }
 
@@ -73,7 +74,12 @@ fn push_line(consumers: &mut [Lines], consumer: usize, line: Line) -> Result<(),
 }
 
 /// Adds a line behind those of its consumer.
-pub(crate) fn add_line(alloc: Global, consumers: &mut Vec<Lines>, consumer: usize, line: Line) -> Result<(), Memory>
+pub(crate) fn add_line(
+    alloc: Global,
+    consumers: &mut Vec<Lines>,
+    consumer: usize,
+    line: Line,
+) -> Result<(), Memory>
     ensures { OnOk result (consumers.new.items ≡ script.with_line consumer line consumers.old.items) }
 {
     pad(alloc, consumers, consumer)?;

@@ -45,19 +45,30 @@ fn whole_what(alloc: Global, words: &mut LineWords) -> Result<What, LineError>
 
 /// Reads a line by its words.
 #[tactic(auto, unfolding(crate::specs::Script::after_words))]
-fn read_words(alloc: Global, number: u32, so_far: &mut ScriptSoFar, line: &[u8]) -> Result<(), LineError>
+fn read_words(
+    alloc: Global,
+    number: u32,
+    so_far: &mut ScriptSoFar,
+    line: &[u8],
+) -> Result<(), LineError>
     ensures { Leaves result (script.draft_of so_far.new)
         (script.after_words number (script.draft_of so_far.old) (words_of line.now)) }
 {
     let mut words = LineWords::of(line);
     let name = match words.take_word() {
         Ok(name) => name,
-        Err(_) => return Ok(()),
+        Err(LineError::Refused(_)) => return Ok(()),
+        Err(LineError::Memory) => return Err(LineError::Memory),
     };
     if is_consumer(name) {
         let consumer = consumer_number(u64::from(MAX_CONSUMERS) - 1, name)?;
         let what = whole_what(alloc, &mut words)?;
-        add_line(alloc, &mut so_far.consumers, consumer as usize, Line { number, what })?;
+        add_line(
+            alloc,
+            &mut so_far.consumers,
+            consumer as usize,
+            Line { number, what },
+        )?;
         return Ok(());
     }
     if !is_setup_word(name) {
@@ -71,7 +82,12 @@ fn read_words(alloc: Global, number: u32, so_far: &mut ScriptSoFar, line: &[u8])
 
 /// Reads a line.
 #[tactic(auto, unfolding(crate::specs::Script::after_line))]
-pub(crate) fn read_line(alloc: Global, number: u32, so_far: &mut ScriptSoFar, line: &[u8]) -> Result<(), LineError>
+pub(crate) fn read_line(
+    alloc: Global,
+    number: u32,
+    so_far: &mut ScriptSoFar,
+    line: &[u8],
+) -> Result<(), LineError>
     ensures { Leaves result (script.draft_of so_far.new)
         (script.after_line number (script.draft_of so_far.old) line.now) }
 {

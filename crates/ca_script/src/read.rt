@@ -1,3 +1,4 @@
+ghost use Rattle.std.specs.Prelude.{◌≡◌};
 ghost use Rattle.ca_base.specs.declared.limits.TheConstants.{MAX_SCRIPT_BYTES};
 ghost use Rattle.ca_script.specs.Script as script;
 ghost use Rattle.ca_script.specs.Script.{IsReadingOf, LeavesLines};
@@ -11,6 +12,18 @@ use ca_reading_words::Pieces;
 use ca_script_words::{LineError, ScriptCause};
 use std::alloc::Global;
 
+/// The bytes of a line with its line feed; the last has none.
+#[tactic(auto, using(crate::proofs::LineLemmas::sizes))]
+fn size_of(line: &[u8], rest: &Pieces) -> usize
+    ensures { result ≡ script.size_of line.now rest.now }
+{
+    if rest.is_empty() {
+        line.len()
+    } else {
+        line.len() + 1
+    }
+}
+
 /// Reads all lines, from the first on.
 #[tactic(auto, using(crate::proofs::LineLemmas::going))]
 fn read_lines(alloc: Global, so_far: &mut ScriptSoFar, mut lines: Pieces) -> Result<(), ScriptError>
@@ -20,19 +33,21 @@ fn read_lines(alloc: Global, so_far: &mut ScriptSoFar, mut lines: Pieces) -> Res
     let mut number: u32 = 1;
     let mut room = MAX_SCRIPT_BYTES;
     while let Ok(line) = lines.take_word() {
-        let size = if lines.is_empty() {
-            line.len()
-        } else {
-            line.len() + 1
-        };
+        let size = size_of(line, &lines);
         if room < size {
             let cause = ScriptCause::TooLarge;
-            return Err(ScriptError::Refused { line: number, cause });
+            return Err(ScriptError::Refused {
+                line: number,
+                cause,
+            });
         }
         match read_line(alloc, number, so_far, line) {
             Ok(()) => {}
             Err(LineError::Refused(cause)) => {
-                return Err(ScriptError::Refused { line: number, cause });
+                return Err(ScriptError::Refused {
+                    line: number,
+                    cause,
+                });
             }
             Err(LineError::Memory) => return Err(ScriptError::Memory),
         }

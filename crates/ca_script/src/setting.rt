@@ -165,7 +165,7 @@ fn weather(last_adapter: u8, words: &mut LineWords) -> Result<Setting, LineError
 
 /// A setup line, by its first word.
 #[tactic(auto, unfolding(crate::specs::Setup::setup_lines))]
-pub(crate) fn setting(last_adapter: u8, words: &mut LineWords) -> Result<Setting, LineError>
+pub(crate) fn take_setting(last_adapter: u8, words: &mut LineWords) -> Result<Setting, LineError>
     ensures { AnswersFrom (λ x. x) result words.new (read_table (setup.setup_lines last_adapter) words.old) }
 {
     let name = words.take_word()?;

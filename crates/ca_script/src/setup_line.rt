@@ -1,4 +1,4 @@
-ghost use Rattle.std.specs.Prelude.{◌≡◌, ◌==◌, ◌+◌, ◌++◌, ◌∷◌, [], ◌×◌, true, length, IfOk, OnOk};
+ghost use Rattle.std.specs.Prelude.{◌≡◌, ◌==◌, ◌+◌, ◌++◌, ◌∷◌, [], true, length, IfOk, OnOk};
 ghost use Rattle.std.specs.List.{list_any};
 ghost use Rattle.ca_script.specs.Script as script;
 ghost use Rattle.ca_script.specs.Script.{Leaves};
@@ -8,9 +8,9 @@ ghost use Rattle.ca_script_words.specs.Reading.{Answers, field};
 ghost use Rattle.ca_script_words.specs.Words.{words_of, number};
 
 use crate::room::fits;
-use crate::setting::{Setting, setting};
+use crate::setting::{Setting, take_setting};
 use crate::setup::{SetupSoFar, add_buffer, plain_adapters, set_slots};
-use ca_base::limits::{MAX_PARTS, MAX_TOTAL_BYTES};
+use ca_base::limits::{MAX_ADAPTERS, MAX_PARTS, MAX_TOTAL_BYTES};
 use ca_base::{Memory, part_count};
 use ca_mailbox::{Weather, WeatherLine, WeatherList};
 use ca_reading_words::is_name;
@@ -18,7 +18,6 @@ use ca_script_words::{LineError, LineWords, ScriptCause, take_u8};
 use std::alloc::Global;
 
 /// Whether an adapter is among those that have their slots.
-#[tactic(auto, using(crate::proofs::LineLemmas::finding))]
 fn is_among(adapter: u8, slotted: &[u8]) -> bool
     ensures { result ≡ list_any (λ a. a == adapter) slotted.now }
 {
@@ -31,57 +30,66 @@ fn is_among(adapter: u8, slotted: &[u8]) -> bool
 }
 
 /// Whether the first word is the number of an adapter that has its slots.
-fn is_slotted(slotted: &[u8], words: &mut LineWords) -> bool
-    ensures { result ≡ setup.is_slotted slotted.now (field (number 0 255) words.old) }
+fn is_slotted(slotted: &[u8], words: &mut LineWords) -> Result<bool, Memory>
+    ensures { IfOk result (λ late. late ≡ setup.is_slotted slotted.now (field (number 0 255) words.old)) }
 {
     match take_u8(words) {
-        Ok(adapter) => is_among(adapter, slotted),
-        Err(_) => false,
+        Ok(adapter) => Ok(is_among(adapter, slotted)),
+        Err(LineError::Refused(_)) => Ok(false),
+        Err(LineError::Memory) => Err(Memory),
     }
 }
 
 /// Whether the first word is `seed`.
-fn is_seed(words: &mut LineWords) -> bool
-    ensures { result ≡ setup.is_seed words.old }
+fn is_seed(words: &mut LineWords) -> Result<bool, Memory>
+    ensures { IfOk result (λ late. late ≡ setup.is_seed words.old) }
 {
     match words.take_word() {
-        Ok(word) => is_name(word, "seed"),
-        Err(_) => false,
+        Ok(word) => Ok(is_name(word, "seed")),
+        Err(LineError::Refused(_)) => Ok(false),
+        Err(LineError::Memory) => Err(Memory),
     }
 }
 
 /// Whether a weather line stands beside seeded weather.
-fn is_other_weather(weather: &Weather, words: &mut LineWords) -> bool
-    ensures { result ≡ setup.is_other_weather weather.now words.old }
+fn is_other_weather(weather: &Weather, words: &mut LineWords) -> Result<bool, Memory>
+    ensures { IfOk result (λ late. late ≡ setup.is_other_weather weather.now words.old) }
 {
     match weather {
-        Weather::Calm => false,
+        Weather::Calm => Ok(false),
         Weather::Listed(_) => is_seed(words),
-        Weather::Seeded(_) => true,
+        Weather::Seeded(_) => Ok(true),
+    }
+}
+
+/// Whether a setup line of this name, with these words behind it, comes too late among the setup lines.
+#[tactic(auto, unfolding(crate::specs::Setup::is_late))]
+fn is_named_late(so_far: &SetupSoFar, name: &[u8], words: &mut LineWords) -> Result<bool, Memory>
+    ensures { IfOk result (λ late. late ≡ setup.is_late (script.setup_of so_far.now) (name.now ∷ words.old)) }
+{
+    if is_name(name, "adapters") {
+        Ok(so_far.begun)
+    } else if is_name(name, "slots") {
+        is_slotted(so_far.slotted.as_slice(), words)
+    } else if is_name(name, "events") {
+        Ok(so_far.limited)
+    } else if is_name(name, "weather") {
+        is_other_weather(&so_far.weather, words)
+    } else {
+        Ok(false)
     }
 }
 
 /// Whether a setup line comes too late among the setup lines.
 #[tactic(auto, unfolding(crate::specs::Setup::is_late))]
-fn is_late(so_far: &SetupSoFar, line: &[u8]) -> bool
-    ensures { result ≡ setup.is_late (script.setup_of so_far.now) (words_of line.now) }
+fn is_late(so_far: &SetupSoFar, line: &[u8]) -> Result<bool, Memory>
+    ensures { IfOk result (λ late. late ≡ setup.is_late (script.setup_of so_far.now) (words_of line.now)) }
 {
     let mut words = LineWords::of(line);
     match words.take_word() {
-        Ok(name) => {
-            if is_name(name, "adapters") {
-                so_far.begun
-            } else if is_name(name, "slots") {
-                is_slotted(so_far.slotted.as_slice(), &mut words)
-            } else if is_name(name, "events") {
-                so_far.limited
-            } else if is_name(name, "weather") {
-                is_other_weather(&so_far.weather, &mut words)
-            } else {
-                false
-            }
-        }
-        Err(_) => false,
+        Ok(name) => is_named_late(so_far, name, &mut words),
+        Err(LineError::Refused(_)) => Ok(false),
+        Err(LineError::Memory) => Err(Memory),
     }
 }
 
@@ -90,7 +98,7 @@ fn whole_setting(last_adapter: u8, line: &[u8]) -> Result<Setting, LineError>
     ensures { Answers (λ x. x) result (script.whole (read_table (setup.setup_lines last_adapter) (words_of line.now))) }
 {
     let mut words = LineWords::of(line);
-    let setting = setting(last_adapter, &mut words)?;
+    let setting = take_setting(last_adapter, &mut words)?;
     words.expect_end()?;
     Ok(setting)
 }
@@ -116,7 +124,12 @@ fn apply(alloc: Global, setting: Setting, so_far: &mut SetupSoFar) -> Result<boo
 {
     so_far.begun = true;
     match setting {
-        Setting::Adapters(count) => so_far.config.adapters = plain_adapters(count),
+        Setting::Adapters(count) => {
+            if usize::from(count) > MAX_ADAPTERS {
+                return Ok(false);
+            }
+            so_far.config.adapters = plain_adapters(count);
+        }
         Setting::Buffer(adapter, bytes) => {
             return Ok(add_buffer(so_far.config.adapters.as_mut_slice(), adapter, bytes));
         }
@@ -139,20 +152,26 @@ fn apply(alloc: Global, setting: Setting, so_far: &mut SetupSoFar) -> Result<boo
 fn is_within_limits(so_far: &SetupSoFar) -> bool
     ensures { result ≡ setup.is_within_limits (script.setup_of so_far.now) }
 {
-    fits(u64::from(MAX_TOTAL_BYTES), so_far.config.adapters.as_slice())
-        && part_count(&so_far.config) <= u64::from(MAX_PARTS)
+    fits(
+        u64::from(MAX_TOTAL_BYTES),
+        so_far.config.adapters.as_slice(),
+    ) && part_count(&so_far.config) <= u64::from(MAX_PARTS)
 }
 
 /// Reads a setup line.
 #[tactic(auto, unfolding(crate::specs::Script::after_setup_line))]
-pub(crate) fn read_setup_line(alloc: Global, so_far: &mut SetupSoFar, line: &[u8]) -> Result<(), LineError>
+pub(crate) fn read_setup_line(
+    alloc: Global,
+    so_far: &mut SetupSoFar,
+    line: &[u8],
+) -> Result<(), LineError>
     ensures { Leaves result (script.setup_of so_far.new)
         (script.after_setup_line (script.setup_of so_far.old) (words_of line.now)) }
 {
-    if is_late(so_far, line) {
+    if is_late(so_far, line)? {
         return Err(LineError::Refused(ScriptCause::SetupLate));
     }
-    let last_adapter = so_far.config.adapters.len() as u8 - 1;
+    let last_adapter = (so_far.config.adapters.len() as u8).saturating_sub(1);
     let setting = whole_setting(last_adapter, line)?;
     let room = apply(alloc, setting, so_far)?;
     if room && is_within_limits(so_far) {
