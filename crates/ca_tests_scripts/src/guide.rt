@@ -1,0 +1,3 @@
+/// The examples of docs/SCRIPTS.md, with a `~` between each two.
+pub(crate) const GUIDE: &str = "adapters 2
+";
