@@ -6,8 +6,8 @@
 //! Source: this profile's choice.
 #![tactic(auto)]
 
-mod generate;
 mod pair;
 mod requests;
+mod script;
 
-pub use generate::generate;
+pub use script::generate;

@@ -4,10 +4,10 @@ ghost use Rattle.ca_base.specs.declared.change.Change.TheVariants as changes;
 ghost use Rattle.ca_script_lines.specs.declared.what.What.TheVariants as whats;
 ghost use Rattle.ca_made.specs.Made as made;
 
-use ca_base::{Change, DomainId, QueueId, Rights, Slot};
+use ca_base::{Change, DomainId, Memory, QueueId, Rights, Slot};
 use ca_model::Verb;
 use ca_script::{Line, What};
-use std::alloc::{AllocError, Global};
+use std::alloc::Global;
 
 /// Object 0 of a domain.
 pub(crate) fn first_slot(adapter: u8, domain: u8) -> Slot
@@ -55,12 +55,7 @@ fn to_receive(adapter: u8, domain: u8) -> Change
 }
 
 /// The lines of one side of a pair, from this number on.
-pub(crate) fn pair(
-    alloc: Global,
-    number: u32,
-    adapter: u8,
-    domain: u8,
-) -> Result<Vec<Line>, AllocError>
+pub(crate) fn pair(alloc: Global, number: u32, adapter: u8, domain: u8) -> Result<Vec<Line>, Memory>
     requires adapter { adapter ≤ 1 }
     requires number { number < 4096 }
     ensures { IfOk result (λ lines. lines.items ≡ made.lines_from number (made.pair adapter domain)) }
@@ -87,7 +82,7 @@ pub(crate) fn pair(
         recv_depth: 4,
         srq: None,
     };
-    vec![in alloc;
+    Ok(vec![in alloc;
         line(
             number,
             Verb::AllocPd {
@@ -118,5 +113,5 @@ pub(crate) fn pair(
                 change: to_send
             }
         ),
-    ]
+    ]?)
 }

@@ -4,12 +4,11 @@ ghost use Rattle.ca_made.specs.Made as made;
 use crate::pair::{first_slot, line};
 use arrayvec::ArrayVec;
 use ca_base::limits::MAX_PIECES;
-use ca_base::{Key, Piece, SendOp, SendRequest};
+use ca_base::{Key, Memory, Piece, SendOp, SendRequest};
 use ca_model::Verb;
 use ca_script::Line;
 use rand_core::utils::NextWord;
 use rand_pcg::Pcg32;
-use std::alloc::AllocError;
 
 /// How many requests a consumer posts.
 const REQUESTS: u32 = 200;
@@ -110,7 +109,7 @@ pub(crate) fn add_requests(
     number: u32,
     seed: u64,
     domain: u8,
-) -> Result<(), AllocError>
+) -> Result<(), Memory>
     requires { number < 4096 }
     ensures { OnOk result (lines.new.items
         ≡ lines.old.items ++ made.lines_from number (made.requests domain 0 200 (made.generator seed domain))) }

@@ -4,5 +4,4 @@ ghost use Rattle.ca_script_laws.specs.Agreement.{VerbsAgree};
 /// It does nothing when it runs.
 pub fn a_verb_of_a_trace_is_a_line_of_a_script()
     ensures { VerbsAgree }
-{
-}
+{}
