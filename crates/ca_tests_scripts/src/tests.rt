@@ -77,7 +77,7 @@ fn a_script_has_at_most_1048576_bytes(rt: HostRuntime) -> Result<(), Fail> {
     says(&rt, "ok", less.as_slice())
 }
 
-/// The examples of the guide are read; each begins behind four blanks.
+/// The examples of docs/SCRIPTS.md are read.
 #[test]
 fn the_examples_of_the_guide_are_scripts(rt: HostRuntime) -> Result<(), Fail> {
     for example in GUIDE.split("~") {
