@@ -1,0 +1,5 @@
+pub mod Causes
+pub mod Reading
+pub mod Words
+pub mod Kinds
+pub mod CursorView
