@@ -85,7 +85,9 @@ fn cut_rest(alloc: Global, asks: &[Ask], bytes: &[u8]) -> Result<Vec<(Ask, Bytes
     ensures value { IfOk result (λ writes. writes.items ≡ responses.writes_by asks.now bytes.now) }
 {
     let mut writes = Vec::new(alloc);
-    push_writes(alloc, asks, bytes, &mut writes)?;
+    if !asks.is_empty() {
+        push_writes(alloc, asks, bytes, &mut writes)?;
+    }
     Ok(writes)
 }
 
@@ -123,7 +125,9 @@ pub fn write_all<R: Reach>(reach: &mut R, writes: Writes, marks: &mut Marks)
     };
     let verdict = reach.write(&ask, bytes);
     marks.push(local_mark(&ask, verdict));
-    write_rest(reach, rest.into_iter(), marks)
+    if !rest.is_empty() {
+        write_rest(reach, rest.into_iter(), marks);
+    }
 }
 
 #[tactic(auto, using(crate::proofs::WriteLemmas::can_still))]
