@@ -1,5 +1,5 @@
 -- What a response makes: the row of an acknowledgement that went on, and the request that an answer fits.
-use Rattle.std.proofs.Common.{◌≡◌, ℕ, ◌<◌, ◌^◌, refl, sym, ap, ◌∙◌, Bool, true, false, if◌then◌else◌, [], Option, None, Some}
+use Rattle.std.proofs.Common.{◌≡◌, ℕ, refl, subst, sym, ap, ◌∙◌, Bool, true, false, if◌then◌else◌, [], Option, None, Some}
 use Rattle.std.specs.Option.{option_and_then}
 use Rattle.ca_base.specs.declared.queue_numbers.RequesterNumbers.{RequesterNumbers}
 use Rattle.ca_base.specs.declared.completion.WcStatus.TheVariants.{BadResponse}
@@ -118,16 +118,28 @@ row-on q psn p a oldest o is on old fits =
     (fits ∙ ap (λ n. if_fits psn p q n) (old.has on) ∙ ap (λ x. if_fits psn p x (request_at psn x)) (is.progress.queue ∙ ap (λ u. (progress_to u q).queue) (is.on on))))
 
 -- the row of an answer that does not fit its request
-pub row_fails : (q : QueuePair) (psn : ℕ) (p : Fields) (a : Acknowledged) (oldest : Option Numbered) → IsAcknowledged psn q a → a.went_back ≡ false
-    → IsOldest psn q a oldest → None ≡ if_fits psn p q (if_has_psn psn oldest)
-    → fitting_row psn p (acknowledgement_below psn q) ≡ plain_row (Does (bad_answer_effects psn q))
-row_fails q psn p a oldest is on old fits = row-on q psn p a oldest None is on old fits
+pub row_fails : (q : QueuePair) (psn : ℕ) (p : Fields) (a : Acknowledged) (oldest o : Option Numbered) → IsAcknowledged psn q a → a.went_back ≡ false
+    → IsOldest psn q a oldest → o ≡ if_fits psn p q (if_has_psn psn oldest) → o ≡ None
+    → fitting_row psn p (acknowledgement_below psn q) ≡ plain_row (Does (bad_answer_effects a.until q))
+row_fails q psn p a oldest o is on old fits none =
+    row-on q psn p a oldest o is on old fits
+    ∙ ap (λ x. fitted psn p (progress_to psn q) x) none
+    ∙ ap (λ u. plain_row (Does (bad_answer_effects u q))) (sym (is.on on))
 
--- the row of an answer that fits its request
-pub row_fits : (q : QueuePair) (psn : ℕ) (p : Fields) (a : Acknowledged) (oldest : Option Numbered) (n : Numbered) → IsAcknowledged psn q a → a.went_back ≡ false
-    → IsOldest psn q a oldest → Some n ≡ if_fits psn p q (if_has_psn psn oldest)
-    → fitting_row psn p (acknowledgement_below psn q) ≡ answer_row psn p (progress_to psn q) n
-row_fits q psn p a oldest n is on old fits = row-on q psn p a oldest (Some n) is on old fits
+-- an answer that fits its request, the oldest unfinished one, with the row that it is
+pub record IsFit (q : QueuePair) (psn : ℕ) (p : Fields) (a : Acknowledged) (n : Numbered) (row : Row) : Type 0 where
+  pub progress : IsProgress psn q.requester (numbers_behind a q) q
+  pub until : a.until ≡ psn
+  pub is : row ≡ answer_row psn p (progress_to psn q) n
+
+pub is_fit : (q : QueuePair) (psn : ℕ) (p : Fields) (a : Acknowledged) (oldest o : Option Numbered) (n : Numbered) → IsAcknowledged psn q a → a.went_back ≡ false
+    → IsOldest psn q a oldest → o ≡ if_fits psn p q (if_has_psn psn oldest) → o ≡ Some n
+    → IsFit q psn p a n (fitting_row psn p (acknowledgement_below psn q))
+is_fit q psn p a oldest o n is on old fits some = record {
+  progress = subst (λ u. IsProgress u q.requester (numbers_behind a q) q) (is.on on) is.progress;
+  until = is.on on;
+  is = row-on q psn p a oldest o is on old fits ∙ ap (λ x. fitted psn p (progress_to psn q) x) some;
+}
 
 -- the oldest request, if it has a PSN and a response fits it
 pub fits_all : (psn : ℕ) (p : Fields) (q : QueuePair) (n : Numbered) → has_psn psn n ≡ true → fits_request psn p q n ≡ true
