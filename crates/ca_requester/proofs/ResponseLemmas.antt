@@ -127,14 +127,14 @@ row_fails q psn p a oldest o is on old fits none =
     ∙ ap (λ u. plain_row (Does (bad_answer_effects u q))) (sym (is.on on))
 
 -- an answer that fits its request, the oldest unfinished one, with the row that it is
-pub record IsFit (q : QueuePair) (psn : ℕ) (p : Fields) (a : Acknowledged) (n : Numbered) (row : Row) : Type 0 where
+pub record IsFitting (q : QueuePair) (psn : ℕ) (p : Fields) (a : Acknowledged) (n : Numbered) (row : Row) : Type 0 where
   pub progress : IsProgress psn q.requester (numbers_behind a q) q
   pub until : a.until ≡ psn
   pub is : row ≡ answer_row psn p (progress_to psn q) n
 
 pub is_fit : (q : QueuePair) (psn : ℕ) (p : Fields) (a : Acknowledged) (oldest o : Option Numbered) (n : Numbered) → IsAcknowledged psn q a → a.went_back ≡ false
     → IsOldest psn q a oldest → o ≡ if_fits psn p q (if_has_psn psn oldest) → o ≡ Some n
-    → IsFit q psn p a n (fitting_row psn p (acknowledgement_below psn q))
+    → IsFitting q psn p a n (fitting_row psn p (acknowledgement_below psn q))
 is_fit q psn p a oldest o n is on old fits some = record {
   progress = subst (λ u. IsProgress u q.requester (numbers_behind a q) q) (is.on on) is.progress;
   until = is.on on;

@@ -19,7 +19,7 @@ use Rattle.ca_model.specs.machine.Requester.{local_denial}
 use Rattle.ca_model.specs.machine.Responses.{answer_asks, answer_bytes, local_writes, writes_by}
 use Rattle.ca_model.specs.machine.Row.{Does, Effects, Ending, Row, ending_of}
 use Rattle.ca_packet.specs.Packet.{Fields}
-use Rattle.ca_requester.proofs.ResponseLemmas.{IsFit}
+use Rattle.ca_requester.proofs.ResponseLemmas.{IsFitting}
 use Rattle.ca_requester.specs.Progress.{IsProgress, numbers_behind}
 use Rattle.ca_requester.specs.declared.progress.Acknowledged.{Acknowledged}
 use Rattle.ca_requester.specs.Responses.{CanWriteBy, answer_effects, denied_effects}
@@ -111,19 +111,19 @@ asks-behind : (q : QueuePair) (psn : ℕ) (p : Fields) (n : Numbered) (numbers :
     → answer_asks psn p q n ≡ answer_asks psn p (progress_to psn q).queue n
 asks-behind q psn p n numbers progress = ap (λ x. answer_asks psn p x n) progress.queue
 
-pub row_asks : (q : QueuePair) (psn : ℕ) (p : Fields) (a : Acknowledged) (n : Numbered) (row : Row) → IsFit q psn p a n row
+pub row_asks : (q : QueuePair) (psn : ℕ) (p : Fields) (a : Acknowledged) (n : Numbered) (row : Row) → IsFitting q psn p a n row
     → answer_asks psn p q n ≡ row.asks
 row_asks q psn p a n row fit = asks-behind q psn p n (numbers_behind a q) fit.progress ∙ sym (ap (λ (r : Row). r.asks) fit.is)
 
 -- how the row of an answer ends, where its list is denied and where it is not
-pub ends_denied : (s : Sight) (q : QueuePair) (psn : ℕ) (p : Fields) (a : Acknowledged) (n : Numbered) (row : Row) (d : DeniedAsk) → IsFit q psn p a n row
+pub ends_denied : (s : Sight) (q : QueuePair) (psn : ℕ) (p : Fields) (a : Acknowledged) (n : Numbered) (row : Row) (d : DeniedAsk) → IsFitting q psn p a n row
     → first_denied s (answer_asks psn p q n) ≡ Some d → ending_of s row ≡ Does (denied_effects a.until d q)
 ends_denied s q psn p a n row d fit denied =
     ap (ending_of s) fit.is
     ∙ rw (sym (ap (first_denied s) (asks-behind q psn p n (numbers_behind a q) fit.progress)) ∙ denied) refl
     ∙ ap (λ u. Does (denied_effects u d q)) (sym fit.until)
 
-pub ends_allowed : (s : Sight) (q : QueuePair) (psn : ℕ) (p : Fields) (a : Acknowledged) (n : Numbered) (row : Row) → IsFit q psn p a n row
+pub ends_allowed : (s : Sight) (q : QueuePair) (psn : ℕ) (p : Fields) (a : Acknowledged) (n : Numbered) (row : Row) → IsFitting q psn p a n row
     → first_denied s (answer_asks psn p q n) ≡ None → ending_of s row ≡ Does (answer_effects a.until p (answer_asks psn p q n) q)
 ends_allowed s q psn p a n row fit none =
     ap (ending_of s) fit.is

@@ -159,7 +159,7 @@ pub(crate) fn oldest_below(q: &QueuePart, psn: u64) -> OldestBelow<'_>
 
 /// The PSN behind those that are acknowledged is acknowledged too, by an answer to the oldest unfinished request.
 #[inline(always)]
-pub(crate) fn with_answer(
+pub(crate) fn acknowledged_by_answer(
     q: &QueuePart,
     before: &Acknowledged,
     oldest: &Numbered<'_>,

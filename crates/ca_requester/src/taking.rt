@@ -15,7 +15,8 @@ ghost use Rattle.ca_rows.specs.Made.{IsMade, IsTaking};
 ghost use Rattle.ca_sending.specs.Numbering.{IsRequestOf};
 
 use crate::progress::{
-    Acknowledged, OldestBelow, acknowledged_below, numbers_after, oldest_below, with_answer,
+    Acknowledged, OldestBelow, acknowledged_below, acknowledged_by_answer, numbers_after,
+    oldest_below,
 };
 use crate::responses::{
     Arrival, arrival_of, fitting_request, on_bad_answer, on_implied_nak, on_nak, on_rnr_nak,
@@ -30,7 +31,9 @@ use ca_rows::{
     Asker, Writes, cut_writes, drop_packet, fill_asks, first_denied, list_of, local_denial,
     write_all,
 };
-use ca_sending::{Failure, Numbered, Outcome, complete_before, finished_count, make, push_finished};
+use ca_sending::{
+    Failure, Numbered, Outcome, complete_before, finished_count, make, push_finished,
+};
 use ca_wire::opcode::ATOMIC_ACKNOWLEDGE;
 use ca_wire::{NakCode, Packet};
 use std::alloc::Global;
@@ -260,7 +263,7 @@ fn take_answer<R: Reach>(
     };
     let taken = Taken {
         before: acknowledged,
-        after: with_answer(q, &acknowledged, &request),
+        after: acknowledged_by_answer(q, &acknowledged, &request),
     };
     let mut asks = ArrayVec::new();
     fill_answer_asks(q, p, psn, &request, &mut asks);

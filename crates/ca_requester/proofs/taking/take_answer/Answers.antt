@@ -17,7 +17,7 @@ returns-in_default g c =
 pub first_denied-requires : goal.first_denied-requires
 first_denied-requires g c =
     let fit = is_fit c.args.q.now c.args.psn c.args.p.now c.oldest_below-oldest.result.acknowledged c.oldest_below-oldest.result.oldest c.fitting_request.result c.in-Some.request
-        c.oldest_below-oldest.ensures.acknowledged c.if-acknowledged.false c.oldest_below-oldest.ensures.oldest c.fitting_request.ensures.value c.in-Some.is in
+    c.oldest_below-oldest.ensures.acknowledged c.if-acknowledged.false c.oldest_below-oldest.ensures.oldest c.fitting_request.ensures.value c.in-Some.is in
     can_judge g.R.Reach.judges c.args.reach.now kinds.Write (length (answer_bytes c.args.p.now)) c.as_slice.result.now _
     (c.as_slice.ensures.value ∙ c.fill_answer_asks.ensures.value ∙ row_asks c.args.q.now c.args.psn c.args.p.now c.oldest_below-oldest.result.acknowledged c.in-Some.request _ fit)
     c.requires.at_hand.keys (rw c.as_slice.ensures.value c.fill_answer_asks.ensures.asks)
@@ -25,7 +25,7 @@ first_denied-requires g c =
 pub place-requires-clause-at_hand : goal.place-requires-clause-at_hand
 place-requires-clause-at_hand g c =
     let fit = is_fit c.args.q.now c.args.psn c.args.p.now c.oldest_below-oldest.result.acknowledged c.oldest_below-oldest.result.oldest c.fitting_request.result c.in-Some.request
-        c.oldest_below-oldest.ensures.acknowledged c.if-acknowledged.false c.oldest_below-oldest.ensures.oldest c.fitting_request.ensures.value c.in-Some.is in
+    c.oldest_below-oldest.ensures.acknowledged c.if-acknowledged.false c.oldest_below-oldest.ensures.oldest c.fitting_request.ensures.value c.in-Some.is in
     can_write_by g.R.Reach.sight g.R.Reach.judges g.R.Reach.touches c.args.reach.now c.as_slice-in-None.result.now _
     (c.as_slice-in-None.ensures.value ∙ c.fill_answer_asks.ensures.value ∙ row_asks c.args.q.now c.args.psn c.args.p.now c.oldest_below-oldest.result.acknowledged c.in-Some.request _ fit)
     c.requires.at_hand (search rules) (search rules)
@@ -33,7 +33,7 @@ place-requires-clause-at_hand g c =
 pub returns-in-Some-first_denied : goal.returns-in-Some-first_denied
 returns-in-Some-first_denied g c =
     let fit = is_fit c.args.q.now c.args.psn c.args.p.now c.oldest_below-oldest.result.acknowledged c.oldest_below-oldest.result.oldest c.fitting_request.result c.in-Some.request
-        c.oldest_below-oldest.ensures.acknowledged c.if-acknowledged.false c.oldest_below-oldest.ensures.oldest c.fitting_request.ensures.value c.in-Some.is in
+    c.oldest_below-oldest.ensures.acknowledged c.if-acknowledged.false c.oldest_below-oldest.ensures.oldest c.fitting_request.ensures.value c.in-Some.is in
     taken_plain g.R.Reach.written c.deny.result _ _ c.args.q.now c.deny.new.q c.args.marks.now c.deny.new.marks c.args.reach.now
     (ends_denied (g.R.Reach.sight c.args.reach.now) c.args.q.now c.args.psn c.args.p.now c.oldest_below-oldest.result.acknowledged c.in-Some.request _ c.in-Some-first_denied.denied fit (search rules))
     refl c.deny.ensures
@@ -41,7 +41,7 @@ returns-in-Some-first_denied g c =
 pub returns-in-None : goal.returns-in-None
 returns-in-None g c =
     let fit = is_fit c.args.q.now c.args.psn c.args.p.now c.oldest_below-oldest.result.acknowledged c.oldest_below-oldest.result.oldest c.fitting_request.result c.in-Some.request
-        c.oldest_below-oldest.ensures.acknowledged c.if-acknowledged.false c.oldest_below-oldest.ensures.oldest c.fitting_request.ensures.value c.in-Some.is in
+    c.oldest_below-oldest.ensures.acknowledged c.if-acknowledged.false c.oldest_below-oldest.ensures.oldest c.fitting_request.ensures.value c.in-Some.is in
     let same = c.as_slice-in-None.ensures.value ∙ c.fill_answer_asks.ensures.value in
     taken_by g.R.Reach.written c.place.result _ _ c.args.q.now c.place.new.q c.args.marks.now c.place.new.marks c.args.reach.now c.place.new.reach
     (ends_allowed (g.R.Reach.sight c.args.reach.now) c.args.q.now c.args.psn c.args.p.now c.oldest_below-oldest.result.acknowledged c.in-Some.request _ fit (search rules))

@@ -1,7 +1,7 @@
 use Rattle.std.proofs.Common.{◌≡◌, ◌+◌, arith, ap, max, rules}
 use Rattle.ca_base.specs.objects.QueuePair.{QueuePair}
 use Rattle.ca_requester.proofs.ProgressLemmas.{answered_here, answered_past}
-use Rattle.ca_requester.proofs.progress.with_answer.Goals as goal
+use Rattle.ca_requester.proofs.progress.acknowledged_by_answer.Goals as goal
 
 pub returns-then-end-una : goal.returns-then-end-una
 returns-then-end-una c =
