@@ -1,6 +1,6 @@
 -- One more request that has begun: whether it is finished, and whether it waits for an answer.
-use Rattle.std.proofs.Common.{zero, subst, Option, IfSome, ◌≡◌, ℕ, suc, ◌+◌, ◌-◌, ◌≤◌, ◌<◌, nat_le, nat_lt, max, ◌&&◌, arith, refl, sym, ap, ◌∙◌, Bool, true, false, true≢false, if◌then◌else◌, List, [], ◌∷◌, ◌++◌, length, take, sum_by, None, Some}
-use Rattle.std.proofs.lemmas.Bool.{le-leb, le-ltb, lt-leb, ltb-false, ltb-true}
+use Rattle.std.proofs.Common.{zero, subst, Option, IfSome, ◌≡◌, ℕ, suc, ◌+◌, ◌-◌, ◌≤◌, ◌<◌, nat_le, nat_lt, max, ◌&&◌, arith, refl, sym, ap, ◌∙◌, Bool, true, false, true≢false, if◌then◌else◌, List, [], ◌∷◌, ◌++◌, find, length, take, sum_by, None, Some}
+use Rattle.std.proofs.lemmas.Bool.{le-leb, le-ltb, leb-false, lt-leb, lt-ltb, ltb-false, ltb-true}
 use Rattle.std.specs.List.{flat_map, prefix_len, take_while}
 use Rattle.std.proofs.lemmas.List.Sums.{sum_by-cons}
 use Rattle.ca_base.specs.declared.queue_numbers.RequesterNumbers.{RequesterNumbers}
@@ -13,13 +13,14 @@ use Rattle.ca_base.specs.objects.WorkQueue.{items_from}
 use Rattle.ca_model.specs.machine.Acknowledgements.{after_finished, finished_marks, first_unanswered, progress_to, with_requester}
 use Rattle.ca_model.specs.Requests.{psns_of}
 use Rattle.ca_model.specs.machine.Completions.{success_marks}
-use Rattle.ca_model.specs.machine.Numbering.{Numbered, begun_requests, is_answered_op, numbers_of, psn_end}
+use Rattle.ca_model.specs.machine.Numbering.{Numbered, begun_requests, has_psn, is_answered_op, numbers_of, psn_end}
 use Rattle.ca_model.specs.machine.CanStep.{CanStep}
+use Rattle.ca_requester.specs.declared.progress.Acknowledged.{Acknowledged}
 use Rattle.ca_requester.specs.declared.progress.Reached.{Reached}
-use Rattle.ca_requester.specs.Progress.{IsAcknowledged, IsProgress, IsReached, finished_from, finished_marks_from, numbers_with_una, reached_numbers, una_behind}
-use Rattle.ca_sending.proofs.NumberingLemmas.{start_within}
+use Rattle.ca_requester.specs.Progress.{IsAcknowledged, IsBegunAt, IsOldest, IsProgress, IsReached, finished_from, finished_marks_from, if_has_psn, numbers_behind, numbers_with_una, reached_numbers, una_behind}
+use Rattle.ca_sending.proofs.NumberingLemmas.{at_under, start_within}
 use Rattle.ca_sending.specs.Finished.{success_between, success_from}
-use Rattle.ca_sending.specs.Numbering.{AreNumbers, IsWithin, begun_from, numbers_from}
+use Rattle.ca_sending.specs.Numbering.{AreNumbers, IsNumbered, IsWithin, begun_from, numbers_from}
 
 -- a choice that is not made
 skips : (b : Bool) (x y : Option ℕ) → b ≡ false → y ≡ None → (if b then x else y) ≡ None
@@ -235,15 +236,15 @@ own_numbers q step = record {
 }
 
 -- numbers up to where an acknowledgement goes may be gone on with
-kept : (q : QueuePair) (from : RequesterNumbers) (psn : ℕ) (r : Reached) → AreNumbers q from → IsWithin r.posting r.first q
-    → (from.oldest ≤ q.requester.next → r.posting ≤ q.requester.next) → from.oldest ≤ r.posting
-    → AreNumbers q (reached_numbers psn r.posting r.first from)
-kept q from psn r are within begun later = by (nat_lt from.una psn)
+kept : (q : QueuePair) (from : RequesterNumbers) (psn place first : ℕ) → AreNumbers q from → IsWithin place first q
+    → (from.oldest ≤ q.requester.next → place ≤ q.requester.next) → from.oldest ≤ place
+    → AreNumbers q (reached_numbers psn place first from)
+kept q from psn place first are within begun later = by (nat_lt from.una psn)
   where
-    begun_now : r.posting ≤ from.next
+    begun_now : place ≤ from.next
     begun_now = omega (arith, are.next, begun (omega (arith, are.begun, are.next)))
 
-    by : (b : Bool) → AreNumbers q (record (if b then record from { una = psn; retries = 0; rnrs = 0 } else from) { oldest = r.posting; oldest_psn = r.first })
+    by : (b : Bool) → AreNumbers q (record (if b then record from { una = psn; retries = 0; rnrs = 0 } else from) { oldest = place; oldest_psn = first })
     by true = record {
       within = within;
       next = are.next;
@@ -262,24 +263,27 @@ kept q from psn r are within begun later = by (nat_lt from.una psn)
     }
 
 -- what is reached under a PSN is how far numbers go
-pub is_progress : (q : QueuePair) (from : RequesterNumbers) (psn una end : ℕ) (r : Reached) → AreNumbers q from
-    → IsReached from.oldest from.oldest_psn una end q r → una_behind una end r.back ≡ (numbers_with_una psn from).una
-    → IsProgress psn from (reached_numbers psn r.posting r.first from) q
-is_progress q from psn una end r are is grows = record {
-  may = kept q from psn r are is.within is.begun later;
+is_progress : (q : QueuePair) (from : RequesterNumbers) (psn una place first : ℕ) → AreNumbers q from
+    → place ≡ from.oldest + length (finished_from from.oldest from.oldest_psn una q)
+    → first ≡ from.oldest_psn + sum_by (λ n. n.count) (finished_from from.oldest from.oldest_psn una q)
+    → IsWithin place first q → (from.oldest ≤ q.requester.next → place ≤ q.requester.next) → una ≡ (numbers_with_una psn from).una
+    → IsProgress psn from (reached_numbers psn place first from) q
+is_progress q from psn una place first are at psns within begun grows = record {
+  may = kept q from psn place first are within begun later;
   later = later;
-  queue = progress_queue q from psn (una_behind una end r.back) r.posting r.first are.next grows is.posting is.at;
-  finished = progress_success q from psn (una_behind una end r.back) r.posting are.next grows is.posting;
+  queue = progress_queue q from psn una place first are.next grows at psns;
+  finished = progress_success q from psn una place are.next grows at;
 }
   where
-    later : from.oldest ≤ r.posting
-    later = omega (arith, is.posting)
+    later : from.oldest ≤ place
+    later = omega (arith, at)
 
 pub goes_on : (q : QueuePair) (psn : ℕ) (r : Reached) → CanStep q → IsReached q.requester.oldest q.requester.oldest_psn q.requester.una psn q r → r.back ≡ None
     → IsAcknowledged psn q (record { until = psn; went_back = false; posting = r.posting; first = r.first })
 goes_on q psn r step is e = record {
   makes = rw (sym is.back ∙ e) refl;
-  progress = is_progress q q.requester psn q.requester.una psn r (own_numbers q step) is (ap (una_behind q.requester.una psn) e ∙ grown_on psn q.requester);
+  progress = is_progress q q.requester psn (una_behind q.requester.una psn r.back) r.posting r.first (own_numbers q step) is.posting is.at is.within is.begun
+      (ap (una_behind q.requester.una psn) e ∙ grown_on psn q.requester);
   on = λ f. refl;
 }
 
@@ -287,13 +291,119 @@ pub goes_back : (q : QueuePair) (psn back : ℕ) (r : Reached) → CanStep q →
     → IsAcknowledged psn q (record { until = back; went_back = true; posting = r.posting; first = r.first })
 goes_back q psn back r step is e = record {
   makes = rw (sym is.back ∙ e) refl;
-  progress = is_progress q q.requester back q.requester.una psn r (own_numbers q step) is
+  progress = is_progress q q.requester back (una_behind q.requester.una psn r.back) r.posting r.first (own_numbers q step) is.posting is.at is.within is.begun
       (ap (una_behind q.requester.una psn) e ∙ grown_back back q.requester (subst P e is.behind).0);
   on = λ f. absurd (true≢false f);
 }
   where
     P : Option ℕ → Type 0
     P o = IfSome o (λ back. (q.requester.una ≤ back) × (q.requester.oldest_psn ≤ back))
+
+-- among requests that begin behind a PSN, none has it
+later-has-none : (psn mtu place first k : ℕ) (ps : List PostedSend) → psn < first → find (has_psn psn) (take k (numbers_of mtu place first ps)) ≡ None
+later-has-none psn mtu place first zero ps far = refl
+later-has-none psn mtu place first (suc k) [] far = refl
+later-has-none psn mtu place first (suc k) (p ∷ ps) far =
+    rw (lt-leb first psn far) (later-has-none psn mtu (suc place) (first + psns_of mtu p.request.op) k ps (omega (arith, far)))
+
+-- a request that ends behind a PSN and has it not begins behind it
+begins-later : (psn : ℕ) (n : Numbered) → psn < psn_end n → has_psn psn n ≡ false → psn < n.first
+begins-later psn n before e = by (nat_le n.first psn) refl
+  where
+    by : (b : Bool) → nat_le n.first psn ≡ b → psn < n.first
+    by true f = absurd (true≢false (sym (rw (f, lt-ltb psn (psn_end n) before) refl) ∙ e))
+    by false f = leb-false n.first psn f
+
+-- of those that have begun, the one at which an acknowledgement ends alone may have the PSN
+found-oldest : (q : QueuePair) (place first una psn : ℕ) (o : Option Numbered) → IsBegunAt place first q o → IfSome o (λ n. max una psn < psn_end n)
+    → if_has_psn psn o ≡ find (has_psn psn) (begun_from place first q)
+found-oldest q place first una psn None none ends = rw none refl
+found-oldest q place first una psn (Some n) at ends =
+    rw (begun-step q place first n at.1 at.0.before) (by (has_psn psn n) refl)
+  where
+    by : (b : Bool) → has_psn psn n ≡ b
+        → (if b then Some n else None) ≡ (if b then Some n else find (has_psn psn) (begun_from (suc place) (first + n.count) q))
+    by true e = refl
+    by false e = sym (later-has-none psn q.responder.mtu (suc place) (first + n.count) (q.requester.next - suc place) (items_from (suc place) q.sends)
+        (omega (arith, at.0.first, begins-later psn n (omega (arith, ends)) e)))
+
+pub oldest_on : (q : QueuePair) (psn : ℕ) (r : Reached) → CanStep q → IsReached q.requester.oldest q.requester.oldest_psn q.requester.una psn q r → r.back ≡ None
+    → IsOldest psn q (record { until = psn; went_back = false; posting = r.posting; first = r.first }) r.request
+oldest_on q psn r step is e = record {
+  at = is.request;
+  has = λ f.
+      found-oldest q r.posting r.first q.requester.una psn r.request is.request (is.ends e)
+      ∙ at_under q (reached_numbers psn r.posting r.first q.requester) psn (goes_on q psn r step is e).progress.may.next;
+}
+
+pub oldest_back : (q : QueuePair) (psn back : ℕ) (r : Reached) → IsReached q.requester.oldest q.requester.oldest_psn q.requester.una psn q r
+    → IsOldest psn q (record { until = back; went_back = true; posting = r.posting; first = r.first }) r.request
+oldest_back q psn back r is = record { at = is.request; has = λ f. absurd (true≢false f) }
+
+-- numbers behind one acknowledgement and another are those behind the latter
+twice : (psn place first next more : ℕ) (r : RequesterNumbers)
+    → reached_numbers (suc psn) next more (reached_numbers psn place first r) ≡ reached_numbers (suc psn) next more r
+twice psn place first next more r = by (nat_lt r.una psn) refl
+  where
+    by : (b : Bool) → nat_lt r.una psn ≡ b
+        → reached_numbers (suc psn) next more (record (if b then record r { una = psn; retries = 0; rnrs = 0 } else r) { oldest = place; oldest_psn = first })
+        ≡ reached_numbers (suc psn) next more r
+    by true e = rw (lt-ltb psn (suc psn) (omega arith), lt-ltb r.una (suc psn) (omega (arith, ltb-true r.una psn e))) refl
+    by false e = last (nat_lt r.una (suc psn))
+      where
+        last : (b : Bool)
+            → record (if b then record (record r { oldest = place; oldest_psn = first }) { una = suc psn; retries = 0; rnrs = 0 } else record r { oldest = place; oldest_psn = first }) { oldest = next; oldest_psn = more }
+            ≡ record (if b then record r { una = suc psn; retries = 0; rnrs = 0 } else r) { oldest = next; oldest_psn = more }
+        last true = refl
+        last false = refl
+
+-- `una` behind both
+grown-twice : (psn place first : ℕ) (r : RequesterNumbers) → max r.una (suc psn) ≡ (numbers_with_una (suc psn) (reached_numbers psn place first r)).una
+grown-twice psn place first r = omega (arith, grown_on psn r, grown_on (suc psn) (reached_numbers psn place first r))
+
+-- what an answer acknowledges, by how far that goes
+answered : (q : QueuePair) (a : Acknowledged) (until una place first : ℕ) → IsProgress a.until q.requester (numbers_behind a q) q
+    → until ≡ suc a.until → una ≡ max q.requester.una until
+    → place ≡ a.posting + length (finished_from a.posting a.first una q)
+    → first ≡ a.first + sum_by (λ n. n.count) (finished_from a.posting a.first una q)
+    → IsWithin place first q → place ≤ q.requester.next
+    → IsProgress (suc a.until) (numbers_behind a q) (reached_numbers until place first q.requester) q
+answered q a until una place first progress e grows at psns within begun =
+    rw (e, ← twice a.until a.posting a.first place first q.requester)
+    (is_progress q (numbers_behind a q) (suc a.until) una place first progress.may at psns within (λ le. begun)
+    (grows ∙ ap (max q.requester.una) e ∙ grown-twice a.until a.posting a.first q.requester))
+
+-- where its request has more answers to come
+pub answered_here : (q : QueuePair) (a : Acknowledged) (until una : ℕ) (n : Numbered) → IsProgress a.until q.requester (numbers_behind a q) q
+    → IsNumbered a.posting a.first q n → a.posting < q.requester.next → until ≡ suc a.until → una ≡ max q.requester.una until → una < psn_end n
+    → IsProgress (suc a.until) (numbers_behind a q) (reached_numbers until a.posting a.first q.requester) q
+answered_here q a until una n progress is before e grows above =
+    answered q a until una a.posting a.first progress e grows
+    (omega (arith, ap length none)) (omega (arith, ap (sum_by (λ (n : Numbered). n.count)) none)) progress.may.within (omega (arith, before))
+  where
+    none : finished_from a.posting a.first una q ≡ []
+    none = finished-none q a.posting a.first una n before is.before above
+
+-- and where it has not
+pub answered_past : (q : QueuePair) (a : Acknowledged) (until una next more : ℕ) (n : Numbered) (r : Reached) → IsProgress a.until q.requester (numbers_behind a q) q
+    → IsNumbered a.posting a.first q n → a.posting < q.requester.next → until ≡ suc a.until → una ≡ max q.requester.una until
+    → next ≡ suc a.posting → more ≡ psn_end n → more ≤ una → IsReached next more una una q r
+    → IsProgress (suc a.until) (numbers_behind a q) (reached_numbers until r.posting r.first q.requester) q
+answered_past q a until una next more n r progress is before e grows one on done reached =
+    answered q a until una r.posting r.first progress e grows
+    (reached.posting
+    ∙ ap (λ u. next + length (finished_from next more u q)) (sym alone)
+    ∙ sym (finished-places q a.posting next a.first more una n one behind before is.before (omega (arith, on, done))))
+    (reached.at
+    ∙ ap (λ u. more + sum_by (λ n. n.count) (finished_from next more u q)) (sym alone)
+    ∙ sym (finished-psns q a.posting next a.first more una n one behind before is.before (omega (arith, on, done))))
+    reached.within (reached.begun (omega (arith, before, one)))
+  where
+    alone : una ≡ una_behind una una r.back
+    alone = reached_alone una r.back (begun_from next more q) reached.back
+
+    behind : more ≡ a.first + n.count
+    behind = omega (arith, on, is.first)
 
 -- where none has begun from a place on, none is finished
 pub finished-past : (q : QueuePair) (place psn una : ℕ) → begun_from place psn q ≡ [] → finished_from place psn una q ≡ []

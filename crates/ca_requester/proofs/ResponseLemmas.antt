@@ -1,19 +1,18 @@
 -- What a response makes: the row of an acknowledgement that went on, and the request that an answer fits.
-use Rattle.std.proofs.Common.{◌≡◌, ℕ, ◌<◌, ◌^◌, refl, sym, ap, ◌∙◌, Bool, true, false, if◌then◌else◌, [], Option, None, Some}
+use Rattle.std.proofs.Common.{◌≡◌, ℕ, refl, subst, sym, ap, ◌∙◌, Bool, true, false, if◌then◌else◌, [], Option, None, Some}
 use Rattle.std.specs.Option.{option_and_then}
 use Rattle.ca_base.specs.declared.queue_numbers.RequesterNumbers.{RequesterNumbers}
 use Rattle.ca_base.specs.declared.completion.WcStatus.TheVariants.{BadResponse}
 use Rattle.ca_base.specs.objects.QueuePair.{QueuePair}
 use Rattle.ca_packet.specs.Packet.{Fields}
-use Rattle.ca_model.specs.machine.Acknowledgements.{acknowledgement_below, and_then, failure_effects, one_retry, progress_to, with_requester}
+use Rattle.ca_model.specs.machine.Acknowledgements.{acknowledgement_below, and_then, failure_effects, one_retry, progress_to}
 use Rattle.ca_model.specs.machine.Expected.{behind_marks}
-use Rattle.ca_model.specs.machine.Numbering.{Numbered, request_at}
+use Rattle.ca_model.specs.machine.Numbering.{Numbered, has_psn, request_at}
 use Rattle.ca_model.specs.machine.Responses.{answer_row, fits_request, fitting_row, unless_back}
 use Rattle.ca_model.specs.machine.Row.{Effects, Row, plain_row, Does}
-use Rattle.ca_requester.specs.Progress.{IsAcknowledged, IsProgress, acknowledgement_of, numbers_behind}
-use Rattle.ca_requester.specs.Responses.{IsFitting, IsResponse, fitting}
+use Rattle.ca_requester.specs.Progress.{IsAcknowledged, IsOldest, IsProgress, acknowledgement_of, if_has_psn, numbers_behind}
+use Rattle.ca_requester.specs.Responses.{bad_answer_effects, if_fits}
 use Rattle.ca_requester.specs.declared.progress.Acknowledged.{Acknowledged}
-use Rattle.ca_requester.specs.declared.responses.Response.TheVariants.{Ends, Answers}
 use Rattle.ca_sending.proofs.OutcomeLemmas.{is_ahead}
 use Rattle.ca_sending.specs.Finished.{IsAhead, success_between}
 use Rattle.ca_sending.specs.Outcome.{IsUnder, Makes, effects_behind, failure_of, numbers_of}
@@ -69,12 +68,23 @@ makes_on q psn a numbers f o is on e under = record {
       ∙ sym (ap (λ x. unless_back x f) (by-back q psn a false is on));
 }
 
+-- an answer that does not fit its request
+pub makes_bad : (q : QueuePair) (a : Acknowledged) (numbers : RequesterNumbers) (o : Outcome) → numbers ≡ numbers_behind a q
+    → IsProgress a.until q.requester (numbers_behind a q) q → o ≡ Fails (failure_of numbers BadResponse) → Makes (bad_answer_effects a.until q) q o
+makes_bad q a numbers o e progress fails = record {
+  ahead = ahead-of q a.until numbers (failure_effects BadResponse None) o (under-numbers q a numbers e progress) under;
+  effects = makes-then q a.until numbers (failure_effects BadResponse None) o (under-numbers q a numbers e progress) under;
+}
+  where
+    under : IsUnder numbers (failure_effects BadResponse None) o
+    under = rw fails (record { effects = λ q. refl; oldest = refl })
+
 -- the row of an answer, by the request that it fits
 abbrev fitted : ℕ → Fields → Effects → Option Numbered → Row
 fitted psn p e (Some n) = answer_row psn p e n
 fitted psn p e None = plain_row (Does (and_then e (failure_effects BadResponse None)))
 
-by-fitting : (psn : ℕ) (p : Fields) (e : Effects) → fitting_row psn p (record { effects = e; went_back = false }) ≡ fitted psn p e (fitting psn p e.queue)
+by-fitting : (psn : ℕ) (p : Fields) (e : Effects) → fitting_row psn p (record { effects = e; went_back = false }) ≡ fitted psn p e (if_fits psn p e.queue (request_at psn e.queue))
 by-fitting psn p e = by (request_at psn e.queue)
   where
     row : Option Numbered → Row
@@ -92,54 +102,53 @@ by-fitting psn p e = by (request_at psn e.queue)
     by None = refl
     by (Some n) = one n (fits_request psn p e.queue n)
 
--- an answer that is an implied NAK
-pub answer_back : (q : QueuePair) (psn : ℕ) (p : Fields) (a : Acknowledged) (o : Outcome) → IsAcknowledged psn q a → a.went_back ≡ true
-    → Makes (acknowledgement_of true a.until q).effects q o → IsResponse (Ends o) (fitting_row psn p (acknowledgement_below psn q)) p q
-answer_back q psn p a o is back makes = (
-  makes.ahead,
-  ap (λ x. plain_row (Does x)) makes.effects ∙ sym (ap (λ x. fitting_row psn p x) (by-back q psn a true is back)),
-)
+-- the row of an answer that is an implied NAK
+pub row_back : (q : QueuePair) (psn : ℕ) (p : Fields) (a : Acknowledged) → IsAcknowledged psn q a → a.went_back ≡ true
+    → fitting_row psn p (acknowledgement_below psn q) ≡ plain_row (Does (acknowledgement_of true a.until q).effects)
+row_back q psn p a is back = ap (λ x. fitting_row psn p x) (by-back q psn a true is back)
 
--- an answer that does not fit its request
-pub answer_fails : (q : QueuePair) (psn : ℕ) (p : Fields) (a : Acknowledged) (numbers : RequesterNumbers) (o : Outcome)
-    → IsAcknowledged psn q a → a.went_back ≡ false → numbers ≡ numbers_behind a q
-    → None ≡ fitting psn p (with_requester numbers q) → o ≡ Fails (failure_of numbers BadResponse)
-    → IsResponse (Ends o) (fitting_row psn p (acknowledgement_below psn q)) p q
-answer_fails q psn p a numbers o is on e none fails = (
-  ahead-of q a.until numbers (failure_effects BadResponse None) o progress under,
-  ap (λ x. plain_row (Does x)) (makes-then q a.until numbers (failure_effects BadResponse None) o progress under)
-      ∙ ap (λ x. fitted psn p (progress_to a.until q) x) (none ∙ ap (λ x. fitting psn p x) progress.queue)
-      ∙ sym (by-fitting psn p (progress_to a.until q))
-      ∙ sym (ap (λ x. fitting_row psn p x) (by-back q psn a false is on)),
-)
-  where
-    progress : IsProgress a.until q.requester numbers q
-    progress = under-numbers q a numbers e is.progress
+-- the row of another answer, by the request that it fits
+row-on : (q : QueuePair) (psn : ℕ) (p : Fields) (a : Acknowledged) (oldest o : Option Numbered) → IsAcknowledged psn q a → a.went_back ≡ false
+    → IsOldest psn q a oldest → o ≡ if_fits psn p q (if_has_psn psn oldest)
+    → fitting_row psn p (acknowledgement_below psn q) ≡ fitted psn p (progress_to psn q) o
+row-on q psn p a oldest o is on old fits =
+    ap (λ x. fitting_row psn p x) (by-back q psn a false is on ∙ ap (λ u. acknowledgement_of false u q) (is.on on))
+    ∙ by-fitting psn p (progress_to psn q)
+    ∙ sym (ap (λ x. fitted psn p (progress_to psn q) x)
+    (fits ∙ ap (λ n. if_fits psn p q n) (old.has on) ∙ ap (λ x. if_fits psn p x (request_at psn x)) (is.progress.queue ∙ ap (λ u. (progress_to u q).queue) (is.on on))))
 
-    under : IsUnder numbers (failure_effects BadResponse None) o
-    under = rw fails (record { effects = λ q. refl; oldest = refl })
+-- the row of an answer that does not fit its request
+pub row_fails : (q : QueuePair) (psn : ℕ) (p : Fields) (a : Acknowledged) (oldest o : Option Numbered) → IsAcknowledged psn q a → a.went_back ≡ false
+    → IsOldest psn q a oldest → o ≡ if_fits psn p q (if_has_psn psn oldest) → o ≡ None
+    → fitting_row psn p (acknowledgement_below psn q) ≡ plain_row (Does (bad_answer_effects a.until q))
+row_fails q psn p a oldest o is on old fits none =
+    row-on q psn p a oldest o is on old fits
+    ∙ ap (λ x. fitted psn p (progress_to psn q) x) none
+    ∙ ap (λ u. plain_row (Does (bad_answer_effects u q))) (sym (is.on on))
 
--- an answer that fits its request
-pub answer_fits : (q : QueuePair) (psn : ℕ) (p : Fields) (a : Acknowledged) (numbers : RequesterNumbers) (n : Numbered)
-    → IsAcknowledged psn q a → a.went_back ≡ false → numbers ≡ numbers_behind a q
-    → Some n ≡ fitting psn p (with_requester numbers q) → IsFitting psn p q n → psn < 2 ^ 62
-    → IsResponse (Answers (record { psn = psn; numbers = numbers; request = n })) (fitting_row psn p (acknowledgement_below psn q)) p q
-answer_fits q psn p a numbers n is on e some fits narrow = (
-  record { progress = progress; request = fits.request; narrow = narrow; fits = fits.fits },
-  ap (λ x. fitted psn p (progress_to psn q) x) (some ∙ ap (λ x. fitting psn p x) progress.queue)
-      ∙ sym (by-fitting psn p (progress_to psn q))
-      ∙ sym (ap (λ x. fitting_row psn p x) (by-back q psn a false is on ∙ ap (λ u. acknowledgement_of false u q) (is.on on))),
-)
-  where
-    progress : IsProgress psn q.requester numbers q
-    progress = rw (sym (is.on on)) (under-numbers q a numbers e is.progress)
+-- an answer that fits its request, the oldest unfinished one, with the row that it is
+pub record IsFitting (q : QueuePair) (psn : ℕ) (p : Fields) (a : Acknowledged) (n : Numbered) (row : Row) : Type 0 where
+  pub progress : IsProgress psn q.requester (numbers_behind a q) q
+  pub until : a.until ≡ psn
+  pub is : row ≡ answer_row psn p (progress_to psn q) n
 
--- the request that an answer fits, by what is found
-pub fits_none : (q : QueuePair) (psn : ℕ) (p : Fields) → request_at psn q ≡ None → None ≡ fitting psn p q
-fits_none q psn p e = rw e refl
+pub is_fit : (q : QueuePair) (psn : ℕ) (p : Fields) (a : Acknowledged) (oldest o : Option Numbered) (n : Numbered) → IsAcknowledged psn q a → a.went_back ≡ false
+    → IsOldest psn q a oldest → o ≡ if_fits psn p q (if_has_psn psn oldest) → o ≡ Some n
+    → IsFitting q psn p a n (fitting_row psn p (acknowledgement_below psn q))
+is_fit q psn p a oldest o n is on old fits some = record {
+  progress = subst (λ u. IsProgress u q.requester (numbers_behind a q) q) (is.on on) is.progress;
+  until = is.on on;
+  is = row-on q psn p a oldest o is on old fits ∙ ap (λ x. fitted psn p (progress_to psn q) x) some;
+}
 
-pub fits_not : (q : QueuePair) (psn : ℕ) (p : Fields) (n : Numbered) → request_at psn q ≡ Some n → fits_request psn p q n ≡ false → None ≡ fitting psn p q
-fits_not q psn p n e f = rw (e, f) refl
+-- the oldest request, if it has a PSN and a response fits it
+pub fits_all : (psn : ℕ) (p : Fields) (q : QueuePair) (n : Numbered) → has_psn psn n ≡ true → fits_request psn p q n ≡ true
+    → Some n ≡ if_fits psn p q (if_has_psn psn (Some n))
+fits_all psn p q n has fits = rw (has, fits) refl
 
-pub fits_all : (q : QueuePair) (psn : ℕ) (p : Fields) (n : Numbered) → request_at psn q ≡ Some n → fits_request psn p q n ≡ true → Some n ≡ fitting psn p q
-fits_all q psn p n e f = rw (e, f) refl
+pub fits_not : (psn : ℕ) (p : Fields) (q : QueuePair) (n : Numbered) → has_psn psn n ≡ true → fits_request psn p q n ≡ false
+    → None ≡ if_fits psn p q (if_has_psn psn (Some n))
+fits_not psn p q n has fits = rw (has, fits) refl
+
+pub has_not : (psn : ℕ) (p : Fields) (q : QueuePair) (n : Numbered) → has_psn psn n ≡ false → None ≡ if_fits psn p q (if_has_psn psn (Some n))
+has_not psn p q n has = rw has refl

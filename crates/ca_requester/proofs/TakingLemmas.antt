@@ -14,15 +14,15 @@ use Rattle.ca_model.specs.Marks.{MarkList}
 use Rattle.ca_model.specs.declared.marks.TheConstants.{SPARE_MARKS}
 use Rattle.ca_model.specs.machine.Acknowledgements.{failure_effects, progress_to, with_requester}
 use Rattle.ca_model.specs.machine.Expected.{behind_marks}
+use Rattle.ca_model.specs.machine.Numbering.{Numbered}
 use Rattle.ca_model.specs.machine.Requester.{local_denial}
 use Rattle.ca_model.specs.machine.Responses.{answer_asks, answer_bytes, local_writes, writes_by}
 use Rattle.ca_model.specs.machine.Row.{Does, Effects, Ending, Row, ending_of}
 use Rattle.ca_packet.specs.Packet.{Fields}
-use Rattle.ca_requester.specs.Progress.{IsProgress}
-use Rattle.ca_requester.specs.Responses.{CanWriteBy, IsAnswer, IsResponse, IsTakenAnswer, answer_effects, denied_effects}
-use Rattle.ca_requester.specs.declared.responses.Answer.{Answer}
-use Rattle.ca_requester.specs.declared.responses.Response.TheVariants.{Answers}
-use Rattle.ca_requester.specs.declared.taking.Taken.{Taken}
+use Rattle.ca_requester.proofs.ResponseLemmas.{IsFitting}
+use Rattle.ca_requester.specs.Progress.{IsProgress, numbers_behind}
+use Rattle.ca_requester.specs.declared.progress.Acknowledged.{Acknowledged}
+use Rattle.ca_requester.specs.Responses.{CanWriteBy, answer_effects, denied_effects}
 use Rattle.ca_rows.specs.Asks.{AreAsksFor, CanJudge, IsAskOf, IsGranted, asks_of}
 use Rattle.ca_rows.specs.Made.{AreAdded, HasMade, IsMade, IsTaking}
 use Rattle.ca_sending.proofs.FinishedLemmas.{added_behind, few_finished}
@@ -37,21 +37,21 @@ writes_count (x ∷ xs) = ap suc (writes_count xs)
 
 -- in the room that was reserved come the completions of what is finished before an answer, the marks of its bytes, and the
 -- completions of what is finished with it
-pub has_answered : (q after : QueuePair) (t : Taken) (p : Fields) (asks : List Ask) (numbers : RequesterNumbers) (psn : ℕ) (writes : List (Ask × List ℕ))
-    (old reserved one two new : MarkList) → IsTakenAnswer q t → psn ≡ suc t.psn → IsProgress psn t.numbers numbers q
+pub has_answered : (q after : QueuePair) (psn : ℕ) (p : Fields) (asks : List Ask) (before numbers : RequesterNumbers) (writes : List (Ask × List ℕ))
+    (old reserved one two new : MarkList) → IsProgress psn q.requester before q → IsProgress (suc psn) before numbers q
     → writes ≡ writes_by asks (answer_bytes p) → reserved.marks ≡ old.marks
     → numbers.oldest - q.requester.oldest + length writes + SPARE_MARKS ≤ reserved.room
-    → AreAdded (success_between q.requester.oldest t.numbers.oldest q) reserved one → AreAdded (local_writes writes) one two
-    → AreAdded (success_between t.numbers.oldest numbers.oldest q) two new → after ≡ with_requester numbers q
-    → HasMade (answer_effects t p asks q) after old new
-has_answered q after t p asks numbers psn writes old reserved one two new taken next progress cut same room a b c is = record {
-  queue = is ∙ progress.queue ∙ ap (λ n. (progress_to n (with_requester t.numbers q)).queue) next ∙ ap (λ x. (progress_to (suc t.psn) x).queue) taken.progress.queue;
+    → AreAdded (success_between q.requester.oldest before.oldest q) reserved one → AreAdded (local_writes writes) one two
+    → AreAdded (success_between before.oldest numbers.oldest q) two new → after ≡ with_requester numbers q
+    → HasMade (answer_effects psn p asks q) after old new
+has_answered q after psn p asks before numbers writes old reserved one two new below progress cut same room a b c is = record {
+  queue = is ∙ progress.queue ∙ ap (λ x. (progress_to (suc psn) x).queue) below.queue;
   marks =
       all.marks
-      ∙ ap (λ ms. ms ++ (success_between q.requester.oldest t.numbers.oldest q ++ (local_writes writes ++ success_between t.numbers.oldest numbers.oldest q))) same
-      ∙ ap (λ ms. old.marks ++ (ms ++ (local_writes writes ++ success_between t.numbers.oldest numbers.oldest q))) (sym taken.progress.finished)
-      ∙ ap (λ ms. old.marks ++ ((progress_to t.psn q).marks ++ (local_writes writes ++ ms))) behind
-      ∙ ap (λ xs. old.marks ++ ((progress_to t.psn q).marks ++ (local_writes xs ++ (progress_to (suc t.psn) (progress_to t.psn q).queue).marks))) cut;
+      ∙ ap (λ ms. ms ++ (success_between q.requester.oldest before.oldest q ++ (local_writes writes ++ success_between before.oldest numbers.oldest q))) same
+      ∙ ap (λ ms. old.marks ++ (ms ++ (local_writes writes ++ success_between before.oldest numbers.oldest q))) (sym below.finished)
+      ∙ ap (λ ms. old.marks ++ ((progress_to psn q).marks ++ (local_writes writes ++ ms))) behind
+      ∙ ap (λ xs. old.marks ++ ((progress_to psn q).marks ++ (local_writes xs ++ (progress_to (suc psn) (progress_to psn q).queue).marks))) cut;
   room = omega (
     arith,
     room,
@@ -59,18 +59,18 @@ has_answered q after t p asks numbers psn writes old reserved one two new taken 
     b.room,
     c.room,
     progress.later,
-    taken.progress.later,
+    below.later,
     writes_count writes,
-    few_finished q q.requester.oldest t.numbers.oldest,
-    few_finished q t.numbers.oldest numbers.oldest,
+    few_finished q q.requester.oldest before.oldest,
+    few_finished q before.oldest numbers.oldest,
   );
 }
   where
-    all : AreAdded (success_between q.requester.oldest t.numbers.oldest q ++ (local_writes writes ++ success_between t.numbers.oldest numbers.oldest q)) reserved new
+    all : AreAdded (success_between q.requester.oldest before.oldest q ++ (local_writes writes ++ success_between before.oldest numbers.oldest q)) reserved new
     all = added_behind {before = reserved} {between = one} {after = new} a (added_behind {before = one} {between = two} {after = new} b c)
 
-    behind : success_between t.numbers.oldest numbers.oldest q ≡ (progress_to (suc t.psn) (progress_to t.psn q).queue).marks
-    behind = sym progress.finished ∙ ap (λ n. (progress_to n (with_requester t.numbers q)).marks) next ∙ ap (λ x. (progress_to (suc t.psn) x).marks) taken.progress.queue
+    behind : success_between before.oldest numbers.oldest q ≡ (progress_to (suc psn) (progress_to psn q).queue).marks
+    behind = sym progress.finished ∙ ap (λ x. (progress_to (suc psn) x).marks) below.queue
 
 asks-count : (xs : List (Ask × List ℕ)) → length (asks_of xs) ≡ length xs
 asks-count [] = refl
@@ -81,20 +81,12 @@ pub few_writes : (asks : List Ask) (xs : List (Ask × List ℕ)) → asks_of xs 
 few_writes asks xs e few = omega (arith, ap length e, asks-count xs, few)
 
 -- the list of an answer's request is denied
-pub denied_makes : (q : QueuePair) (t : Taken) (d : DeniedAsk) → IsTakenAnswer q t
-    → effects_behind (local_denial d ∷ []) (Fails (failure_of t.numbers LocalProtection)) q ≡ denied_effects t d q
-denied_makes q t d taken =
-    ap (λ x. behind_marks (success_between q.requester.oldest t.numbers.oldest q) (behind_marks (local_denial d ∷ []) (failure_effects LocalProtection None x)))
-    taken.progress.queue
-    ∙ sym (ap (λ ms. behind_marks ms (behind_marks (local_denial d ∷ []) (failure_effects LocalProtection None (progress_to t.psn q).queue))) taken.progress.finished)
-
--- the asks of an answer, behind what it acknowledges
-asks-behind : (q : QueuePair) (p : Fields) (a : Answer) → IsAnswer p q a
-    → answer_asks a.psn p q a.request ≡ answer_asks a.psn p (progress_to a.psn q).queue a.request
-asks-behind q p a is = ap (λ x. answer_asks a.psn p x a.request) is.progress.queue
-
-pub row_asks : (q : QueuePair) (p : Fields) (a : Answer) (row : Row) → IsResponse (Answers a) row p q → answer_asks a.psn p q a.request ≡ row.asks
-row_asks q p a row is = asks-behind q p a is.0 ∙ ap (λ (r : Row). r.asks) is.1
+pub denied_makes : (q : QueuePair) (psn : ℕ) (numbers : RequesterNumbers) (d : DeniedAsk) → IsProgress psn q.requester numbers q
+    → effects_behind (local_denial d ∷ []) (Fails (failure_of numbers LocalProtection)) q ≡ denied_effects psn d q
+denied_makes q psn numbers d progress =
+    ap (λ x. behind_marks (success_between q.requester.oldest numbers.oldest q) (behind_marks (local_denial d ∷ []) (failure_effects LocalProtection None x)))
+    progress.queue
+    ∙ sym (ap (λ ms. behind_marks ms (behind_marks (local_denial d ∷ []) (failure_effects LocalProtection None (progress_to psn q).queue))) progress.finished)
 
 -- asks that may be handed on may be judged
 packet-asks : (kind : Kind) (asks : List Ask) → AllByRecursion (IsAskOf kind) asks → AllByRecursion IsPacketAsk asks
@@ -114,18 +106,30 @@ can_write_by sight judges touches reach asks rows same at none granted = record 
   granted = granted;
 }
 
--- how the row of an answer ends, where its list is denied and where it is not
-pub ends_denied : (s : Sight) (q : QueuePair) (p : Fields) (a : Answer) (row : Row) (d : DeniedAsk) → IsResponse (Answers a) row p q
-    → first_denied s (answer_asks a.psn p q a.request) ≡ Some d → ending_of s row ≡ Does (denied_effects (record { psn = a.psn; numbers = a.numbers }) d q)
-ends_denied s q p a row d is denied = sym (ap (ending_of s) is.1) ∙ rw (sym (ap (first_denied s) (asks-behind q p a is.0)) ∙ denied) refl
+-- the asks of an answer, behind what it acknowledges
+asks-behind : (q : QueuePair) (psn : ℕ) (p : Fields) (n : Numbered) (numbers : RequesterNumbers) → IsProgress psn q.requester numbers q
+    → answer_asks psn p q n ≡ answer_asks psn p (progress_to psn q).queue n
+asks-behind q psn p n numbers progress = ap (λ x. answer_asks psn p x n) progress.queue
 
-pub ends_allowed : (s : Sight) (q : QueuePair) (p : Fields) (a : Answer) (row : Row) → IsResponse (Answers a) row p q
-    → first_denied s (answer_asks a.psn p q a.request) ≡ None
-    → ending_of s row ≡ Does (answer_effects (record { psn = a.psn; numbers = a.numbers }) p (answer_asks a.psn p q a.request) q)
-ends_allowed s q p a row is none =
-    sym (ap (ending_of s) is.1)
-    ∙ rw (sym (ap (first_denied s) (asks-behind q p a is.0)) ∙ none) refl
-    ∙ ap (λ asks. Does (answer_effects (record { psn = a.psn; numbers = a.numbers }) p asks q)) (sym (asks-behind q p a is.0))
+pub row_asks : (q : QueuePair) (psn : ℕ) (p : Fields) (a : Acknowledged) (n : Numbered) (row : Row) → IsFitting q psn p a n row
+    → answer_asks psn p q n ≡ row.asks
+row_asks q psn p a n row fit = asks-behind q psn p n (numbers_behind a q) fit.progress ∙ sym (ap (λ (r : Row). r.asks) fit.is)
+
+-- how the row of an answer ends, where its list is denied and where it is not
+pub ends_denied : (s : Sight) (q : QueuePair) (psn : ℕ) (p : Fields) (a : Acknowledged) (n : Numbered) (row : Row) (d : DeniedAsk) → IsFitting q psn p a n row
+    → first_denied s (answer_asks psn p q n) ≡ Some d → ending_of s row ≡ Does (denied_effects a.until d q)
+ends_denied s q psn p a n row d fit denied =
+    ap (ending_of s) fit.is
+    ∙ rw (sym (ap (first_denied s) (asks-behind q psn p n (numbers_behind a q) fit.progress)) ∙ denied) refl
+    ∙ ap (λ u. Does (denied_effects u d q)) (sym fit.until)
+
+pub ends_allowed : (s : Sight) (q : QueuePair) (psn : ℕ) (p : Fields) (a : Acknowledged) (n : Numbered) (row : Row) → IsFitting q psn p a n row
+    → first_denied s (answer_asks psn p q n) ≡ None → ending_of s row ≡ Does (answer_effects a.until p (answer_asks psn p q n) q)
+ends_allowed s q psn p a n row fit none =
+    ap (ending_of s) fit.is
+    ∙ rw (sym (ap (first_denied s) (asks-behind q psn p n (numbers_behind a q) fit.progress)) ∙ none) refl
+    ∙ ap (λ asks. Does (answer_effects psn p asks q)) (sym (asks-behind q psn p n (numbers_behind a q) fit.progress))
+    ∙ ap (λ u. Does (answer_effects u p (answer_asks psn p q n) q)) (sym fit.until)
 
 -- what was made is what a packet's row ends with
 pub taken_plain : {S A E : Type 0} (written : S → Ask → List ℕ → S) (r : Result A E) (ending : Ending) (e : Effects) (q after : QueuePair) (old new : MarkList) (reach : S)

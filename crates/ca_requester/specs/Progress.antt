@@ -1,16 +1,16 @@
 -- How far an acknowledgement brings a requester. Contracts cite it.
-use Rattle.std.specs.Prelude.{◌≡◌, ℕ, ◌+◌, ◌≤◌, nat_le, nat_lt, max, Bool, true, false, if◌then◌else◌, List, length, sum_by, Option, IfSome, None, Some}
+use Rattle.std.specs.Prelude.{◌≡◌, ℕ, ◌+◌, ◌≤◌, ◌<◌, nat_le, nat_lt, max, Bool, true, false, if◌then◌else◌, List, [], length, sum_by, Option, IfSome, None, Some}
 use Rattle.std.specs.List.{flat_map, take_while}
 use Rattle.ca_base.specs.declared.queue_numbers.RequesterNumbers.{RequesterNumbers}
 use Rattle.ca_base.specs.objects.QueuePair.{QueuePair}
 use Rattle.ca_model.specs.declared.mark.Mark.{Mark}
 use Rattle.ca_model.specs.machine.Acknowledgements.{Acknowledgement, acknowledgement_below, and_then, first_unanswered, one_retry, progress_to, with_requester}
 use Rattle.ca_model.specs.machine.Completions.{success_marks}
-use Rattle.ca_model.specs.machine.Numbering.{Numbered, psn_end}
+use Rattle.ca_model.specs.machine.Numbering.{Numbered, has_psn, psn_end, request_at}
 use Rattle.ca_requester.specs.declared.progress.Acknowledged.{Acknowledged}
 use Rattle.ca_requester.specs.declared.progress.Reached.{Reached}
 use Rattle.ca_sending.specs.Finished.{success_between}
-use Rattle.ca_sending.specs.Numbering.{AreNumbers, IsWithin, begun_from}
+use Rattle.ca_sending.specs.Numbering.{AreNumbers, IsNumbered, IsWithin, begun_from}
 
 -- those of the requests from a posting place on that have begun and whose PSNs all lie below one
 abbrev pub finished_from : ℕ → ℕ → ℕ → QueuePair → List Numbered
@@ -25,6 +25,11 @@ abbrev pub una_behind : ℕ → ℕ → Option ℕ → ℕ
 una_behind una psn None = max una psn
 una_behind una psn (Some back) = back
 
+-- the request at a posting place, where it has begun
+abbrev pub IsBegunAt : ℕ → ℕ → QueuePair → Option Numbered → Type 0
+IsBegunAt posting psn q None = begun_from posting psn q ≡ []
+IsBegunAt posting psn q (Some n) = IsNumbered posting psn q n × (posting < q.requester.next)
+
 -- how far an acknowledgement of all below a PSN goes among the requests from a posting place on
 pub record IsReached (start first una psn : ℕ) (q : QueuePair) (r : Reached) : Type 0 where
   pub back : r.back ≡ first_unanswered una psn (begun_from start first q)
@@ -33,6 +38,8 @@ pub record IsReached (start first una psn : ℕ) (q : QueuePair) (r : Reached) :
   pub at : r.first ≡ first + sum_by (λ n. n.count) (finished_from start first (una_behind una psn r.back) q)
   pub within : IsWithin r.posting r.first q
   pub begun : start ≤ q.requester.next → r.posting ≤ q.requester.next
+  pub request : IsBegunAt r.posting r.first q r.request
+  pub ends : r.back ≡ None → IfSome r.request (λ n. max una psn < psn_end n)
 
 -- `una` grows to a PSN, if it is above it; where it grew, retries are counted anew
 abbrev pub numbers_with_una : ℕ → RequesterNumbers → RequesterNumbers
@@ -63,3 +70,14 @@ pub record IsAcknowledged (psn : ℕ) (q : QueuePair) (a : Acknowledged) : Type 
   pub makes : acknowledgement_below psn q ≡ acknowledgement_of a.went_back a.until q
   pub progress : IsProgress a.until q.requester (numbers_behind a q) q
   pub on : a.went_back ≡ false → a.until ≡ psn
+
+-- a request, if it has this PSN
+abbrev pub if_has_psn : ℕ → Option Numbered → Option Numbered
+if_has_psn psn None = None
+if_has_psn psn (Some n) = if has_psn psn n then Some n else None
+
+-- the oldest unfinished request behind an acknowledgement of all below a PSN, where it has begun; where nothing is gone
+-- back to, no other request has that PSN
+pub record IsOldest (psn : ℕ) (q : QueuePair) (a : Acknowledged) (oldest : Option Numbered) : Type 0 where
+  pub at : IsBegunAt a.posting a.first q oldest
+  pub has : a.went_back ≡ false → if_has_psn psn oldest ≡ request_at psn (with_requester (numbers_behind a q) q)

@@ -1,29 +1,23 @@
 -- What a response makes of a requester, before it is made, and the row that it is. Contracts cite it.
-use Rattle.std.specs.Prelude.{◌≡◌, ℕ, ◌^◌, ◌<◌, suc, true, if◌then◌else◌, List, [], ◌∷◌, ◌++◌, Option, None, Some}
+use Rattle.std.specs.Prelude.{◌≡◌, ℕ, ◌^◌, ◌<◌, suc, if◌then◌else◌, List, ◌∷◌, ◌++◌, Option, None, Some}
 use Rattle.std.specs.List.{AllByRecursion}
 use Rattle.std.specs.Option.{option_and_then}
 use Rattle.ca_keys.specs.declared.access.Ask.{Ask}
-use Rattle.ca_base.specs.declared.completion.WcStatus.TheVariants.{LocalProtection}
+use Rattle.ca_base.specs.declared.completion.WcStatus.TheVariants.{BadResponse, LocalProtection}
 use Rattle.ca_base.specs.declared.denied_ask.DeniedAsk.{DeniedAsk}
 use Rattle.ca_base.specs.objects.QueuePair.{QueuePair}
 use Rattle.ca_model.specs.machine.Acknowledgements.{acknowledgement_below, and_then, failure_effects, progress_to}
-use Rattle.ca_model.specs.machine.Numbering.{Numbered, request_at}
+use Rattle.ca_model.specs.machine.Numbering.{Numbered}
 use Rattle.ca_model.specs.machine.Requester.{local_denial}
-use Rattle.ca_model.specs.machine.Responses.{answer_bytes, answer_row, drop_effects, fits_request, fitting_row, local_writes, nak_effects, response_row, rnr_nak_effects, unless_back, writes_by}
+use Rattle.ca_model.specs.machine.Responses.{answer_bytes, drop_effects, fits_request, fitting_row, local_writes, nak_effects, response_row, rnr_nak_effects, unless_back, writes_by}
 use Rattle.ca_model.specs.machine.Row.{Effects, Row, plain_row, Does}
 use Rattle.ca_packet.specs.Packet.{Fields}
 use Rattle.ca_base.specs.Sight.{Sight}
 use Rattle.ca_rows.specs.Asks.{IsGranted}
 use Rattle.ca_requester.specs.declared.taking.Taken.{Taken}
-use Rattle.ca_requester.specs.declared.responses.Answer.{Answer}
 use Rattle.ca_requester.specs.declared.responses.Arrival.{Arrival}
 use Rattle.ca_requester.specs.declared.responses.Arrival.TheVariants.{Drops, Acks, RnrNaks, Naks, Fits}
-use Rattle.ca_requester.specs.declared.responses.Response.{Response}
-use Rattle.ca_requester.specs.declared.responses.Response.TheVariants.{Ends, Answers}
-use Rattle.ca_requester.specs.Progress.{IsProgress}
-use Rattle.ca_sending.specs.Numbering.{IsRequestOf}
-use Rattle.ca_sending.specs.Finished.{IsAhead}
-use Rattle.ca_sending.specs.Outcome.{effects_behind, numbers_of}
+use Rattle.ca_requester.specs.Progress.{IsProgress, numbers_behind}
 
 -- the row of a response, by what it says of its PSN
 abbrev pub row_of_arrival : Arrival → Fields → QueuePair → Row
@@ -44,41 +38,28 @@ pub record IsArrival (p : Fields) (q : QueuePair) (arrival : Arrival) : Type 0 w
   pub row : row_of_arrival arrival p q ≡ response_row p q
   pub narrow : IsNarrowArrival arrival
 
--- an answer that fits its request, under the numbers behind what it acknowledges
-pub record IsAnswer (p : Fields) (q : QueuePair) (a : Answer) : Type 0 where
-  pub progress : IsProgress a.psn q.requester a.numbers q
-  pub request : IsRequestOf a.psn q a.request
-  pub narrow : a.psn < 2 ^ 62
-  pub fits : fits_request a.psn p q a.request ≡ true
+-- a request, if the response fits it
+abbrev pub if_fits : ℕ → Fields → QueuePair → Option Numbered → Option Numbered
+if_fits psn p q n = option_and_then (λ n. if fits_request psn p q n then Some n else None) n
 
--- a response of which this is the row
-abbrev pub IsResponse : Response → Row → Fields → QueuePair → Type 0
-IsResponse (Ends o) row p q = IsAhead (numbers_of o).oldest q × (plain_row (Does (effects_behind [] o q)) ≡ row)
-IsResponse (Answers a) row p q = IsAnswer p q a × (answer_row a.psn p (progress_to a.psn q) a.request ≡ row)
-
--- the request of a PSN, where the response fits it
-abbrev pub fitting : ℕ → Fields → QueuePair → Option Numbered
-fitting psn p q = option_and_then (λ n. if fits_request psn p q n then Some n else None) (request_at psn q)
-
--- a request that a response fits
-pub record IsFitting (psn : ℕ) (p : Fields) (q : QueuePair) (n : Numbered) : Type 0 where
-  pub request : IsRequestOf psn q n
-  pub fits : fits_request psn p q n ≡ true
-
--- what is taken of an answer: the numbers behind what it acknowledges
+-- what is taken of an answer: all below its PSN is acknowledged, and then that PSN
 pub record IsTakenAnswer (q : QueuePair) (t : Taken) : Type 0 where
-  pub progress : IsProgress t.psn q.requester t.numbers q
-  pub narrow : t.psn < 2 ^ 62
+  pub before : IsProgress t.before.until q.requester (numbers_behind t.before q) q
+  pub after : IsProgress (suc t.before.until) (numbers_behind t.before q) (numbers_behind t.after q) q
+
+-- the answer does not fit: all below its PSN is acknowledged, and the request fails
+abbrev pub bad_answer_effects : ℕ → QueuePair → Effects
+bad_answer_effects psn q = and_then (progress_to psn q) (failure_effects BadResponse None)
 
 -- the list is denied: the request fails
-abbrev pub denied_effects : Taken → DeniedAsk → QueuePair → Effects
-denied_effects t d q = and_then (progress_to t.psn q) (λ q.
+abbrev pub denied_effects : ℕ → DeniedAsk → QueuePair → Effects
+denied_effects psn d q = and_then (progress_to psn q) (λ q.
     record (failure_effects LocalProtection None q) { marks = local_denial d ∷ (failure_effects LocalProtection None q).marks })
 
 -- the bytes go to the list by these asks, and all up to the answer's PSN is acknowledged
-abbrev pub answer_effects : Taken → Fields → List Ask → QueuePair → Effects
-answer_effects t p asks q = record (and_then (progress_to t.psn q) (λ q.
-    record (progress_to (suc t.psn) q) { marks = local_writes writes ++ (progress_to (suc t.psn) q).marks })) { writes = writes }
+abbrev pub answer_effects : ℕ → Fields → List Ask → QueuePair → Effects
+answer_effects psn p asks q = record (and_then (progress_to psn q) (λ q.
+    record (progress_to (suc psn) q) { marks = local_writes writes ++ (progress_to (suc psn) q).marks })) { writes = writes }
   where
     writes : List (Ask × List ℕ)
     writes = writes_by asks (answer_bytes p)

@@ -1,27 +1,28 @@
-ghost use Rattle.std.specs.Prelude.{◌≡◌, ◌+◌, ◌<◌, ◌^◌, ◌&&◌, max, nat_lt};
+ghost use Rattle.std.specs.Prelude.{◌≡◌, ◌+◌, ◌<◌, ◌^◌, ◌&&◌, max, nat_lt, suc};
 ghost use Rattle.ca_model.specs.machine.CanStep.{CanStep};
 ghost use Rattle.ca_model.specs.machine.Numbering.{is_answered_op, psn_end};
-ghost use Rattle.ca_requester.specs.Progress.{IsAcknowledged, IsProgress, IsReached, numbers_behind, numbers_with_una, reached_numbers};
-ghost use Rattle.ca_sending.specs.Numbering.{AreNumbers, IsWithin};
+ghost use Rattle.ca_requester.specs.Progress.{IsAcknowledged, IsOldest, IsProgress, IsReached, numbers_behind, numbers_with_una, reached_numbers};
+ghost use Rattle.ca_sending.specs.Numbering.{IsNumbered, IsWithin};
 
 use ca_base::RequesterNumbers;
 use ca_qpstate::QueuePart;
 use ca_rows::is_answered;
 use ca_sending::{Numbered, begun_at};
 
-/// Where the oldest unfinished request stands after an acknowledgement: its posting place, and the first PSN that it
-/// has or would get; and the PSN to which the requester goes back, if it does.
-#[derive(Clone, Copy)]
-pub(crate) struct Reached {
+/// Where the oldest unfinished request stands after an acknowledgement: its posting place, the first PSN that it has or
+/// would get, and that request, where it has begun; and the PSN to which the requester goes back, if it does.
+#[derive(Drop)]
+pub(crate) struct Reached<'a> {
     pub posting: u64,
     pub first: u64,
+    pub request: Option<Numbered<'a>>,
     pub back: Option<u64>,
 }
 
 /// How far an acknowledgement of all below a PSN goes among the requests from a posting place on that have begun: up to
 /// the first READ or atomic with a PSN from `una` on and below it, or up to the first that does not end below it.
 #[inline(always)]
-fn reached_by(q: &QueuePart, posting: u64, first: u64, una: u64, psn: u64) -> Reached
+fn reached_by(q: &QueuePart, posting: u64, first: u64, una: u64, psn: u64) -> Reached<'_>
     requires { IsWithin posting first q.now }
     ensures { IsReached posting first una psn q.now result }
 {
@@ -33,10 +34,16 @@ fn reached_by(q: &QueuePart, posting: u64, first: u64, una: u64, psn: u64) -> Re
                 posting,
                 first,
                 back: Some(una.max(n.first)),
+                request: Some(n),
             };
         }
         if n.end() > una.max(psn) {
-            break;
+            return Reached {
+                posting,
+                first,
+                back: None,
+                request: Some(n),
+            };
         }
         posting += 1;
         first += u64::from(n.count);
@@ -45,6 +52,7 @@ fn reached_by(q: &QueuePart, posting: u64, first: u64, una: u64, psn: u64) -> Re
         posting,
         first,
         back: None,
+        request: None,
     }
 }
 
@@ -74,16 +82,6 @@ fn numbers_at(numbers: RequesterNumbers, psn: u64, posting: u64, first: u64) -> 
     }
 }
 
-/// The numbers after all below a PSN is acknowledged, where nothing is gone back to. It takes no memory.
-pub(crate) fn numbers_past(q: &QueuePart, numbers: RequesterNumbers, psn: u64) -> RequesterNumbers
-    requires { AreNumbers q.now numbers }
-    ensures { IsProgress psn numbers result q.now }
-{
-    let una = with_una(numbers, psn).una;
-    let reached = reached_by(q, numbers.oldest, numbers.oldest_psn, una, una);
-    numbers_at(numbers, psn, reached.posting, reached.first)
-}
-
 /// How far an acknowledgement goes, whether it went back, and the oldest unfinished request before it did: its posting
 /// place, and the first PSN that it has or would get.
 #[derive(Clone, Copy)]
@@ -95,8 +93,8 @@ pub(crate) struct Acknowledged {
 }
 
 /// The numbers behind an acknowledgement, before it went back.
-pub(crate) fn numbers_after(q: &QueuePart, acknowledged: &Acknowledged) -> RequesterNumbers
-    ensures { result ≡ numbers_behind acknowledged.now q.now }
+pub(crate) fn numbers_after(q: &QueuePart, acknowledged: Acknowledged) -> RequesterNumbers
+    ensures { result ≡ numbers_behind acknowledged q.now }
 {
     numbers_at(
         q.requester,
@@ -113,6 +111,23 @@ pub(crate) fn acknowledged_below(q: &QueuePart, psn: u64) -> Acknowledged
     requires { CanStep q.now }
     ensures { IsAcknowledged psn q.now result }
 {
+    oldest_below(q, psn).acknowledged
+}
+
+/// An acknowledgement of all below a PSN, and the oldest unfinished request behind it, where that has begun.
+#[derive(Drop)]
+pub(crate) struct OldestBelow<'a> {
+    pub acknowledged: Acknowledged,
+    pub oldest: Option<Numbered<'a>>,
+}
+
+/// All below a PSN is acknowledged, as above; with the request at which that ends.
+#[inline(always)]
+pub(crate) fn oldest_below(q: &QueuePart, psn: u64) -> OldestBelow<'_>
+    requires { CanStep q.now }
+    ensures acknowledged { IsAcknowledged psn q.now result.acknowledged }
+    ensures oldest { IsOldest psn q.now result.acknowledged result.oldest }
+{
     let reached = reached_by(
         q,
         q.requester.oldest,
@@ -120,20 +135,57 @@ pub(crate) fn acknowledged_below(q: &QueuePart, psn: u64) -> Acknowledged
         q.requester.una,
         psn,
     );
-    let (posting, first) = (reached.posting, reached.first);
     match reached.back {
-        None => Acknowledged {
-            until: psn,
+        None => OldestBelow {
+            acknowledged: Acknowledged {
+                until: psn,
+                went_back: false,
+                posting: reached.posting,
+                first: reached.first,
+            },
+            oldest: reached.request,
+        },
+        Some(back) => OldestBelow {
+            acknowledged: Acknowledged {
+                until: back,
+                went_back: true,
+                posting: reached.posting,
+                first: reached.first,
+            },
+            oldest: reached.request,
+        },
+    }
+}
+
+/// The PSN behind those that are acknowledged is acknowledged too, by an answer to the oldest unfinished request.
+#[inline(always)]
+pub(crate) fn acknowledged_by_answer(
+    q: &QueuePart,
+    before: &Acknowledged,
+    oldest: &Numbered<'_>,
+) -> Acknowledged
+    requires progress { IsProgress before.now.until q.now.requester (numbers_behind before.now q.now) q.now }
+    requires oldest { IsNumbered before.now.posting before.now.first q.now oldest.now }
+    requires begun { before.now.posting < q.now.requester.next }
+    requires narrow { before.now.until < 2 ^ 62 }
+    ensures { IsProgress (suc before.now.until) (numbers_behind before.now q.now) (numbers_behind result q.now) q.now }
+{
+    let until = before.until + 1;
+    let una = q.requester.una.max(until);
+    if oldest.end() > una {
+        return Acknowledged {
+            until,
             went_back: false,
-            posting,
-            first,
-        },
-        Some(back) => Acknowledged {
-            until: back,
-            went_back: true,
-            posting,
-            first,
-        },
+            posting: before.posting,
+            first: before.first,
+        };
+    }
+    let reached = reached_by(q, before.posting + 1, oldest.end(), una, una);
+    Acknowledged {
+        until,
+        went_back: false,
+        posting: reached.posting,
+        first: reached.first,
     }
 }
 

@@ -1,12 +1,12 @@
-ghost use Rattle.std.specs.Prelude.{◌≡◌, ◌<◌, ◌^◌, true, None, Some, IfSome};
+ghost use Rattle.std.specs.Prelude.{◌≡◌, ◌<◌, ◌^◌, true, Some, IfSome};
 ghost use Rattle.std.specs.Option.{option_and_then};
-ghost use Rattle.ca_model.specs.machine.Acknowledgements.{acknowledgement_below, with_requester};
+ghost use Rattle.ca_model.specs.machine.Acknowledgements.{acknowledgement_below};
 ghost use Rattle.ca_model.specs.machine.CanStep.{CanStep};
 ghost use Rattle.ca_model.specs.machine.Responses as rows;
 ghost use Rattle.ca_wire.specs.Syndrome.{syndrome_in};
-ghost use Rattle.ca_requester.specs.Progress.{IsProgress, acknowledgement_of, numbers_behind};
-ghost use Rattle.ca_requester.specs.Responses.{IsArrival, IsFitting, IsResponse, fitting};
-ghost use Rattle.ca_sending.specs.Numbering.{AreNumbers, IsRequestOf};
+ghost use Rattle.ca_requester.specs.Progress.{IsProgress, acknowledgement_of, if_has_psn, numbers_behind};
+ghost use Rattle.ca_requester.specs.Responses.{IsArrival, bad_answer_effects, if_fits};
+ghost use Rattle.ca_sending.specs.Numbering.{IsRequestOf, IsSound};
 ghost use Rattle.ca_sending.specs.Outcome.{IsUnder, Makes, failure_of};
 ghost use Rattle.ca_sending.specs.declared.outcome.Outcome.TheVariants.{Fails};
 
@@ -17,7 +17,7 @@ use ca_model::Drop1;
 use ca_psn::widen;
 use ca_qpstate::QueuePart;
 use ca_rows::{is_atomic, is_read, list_length, list_of};
-use ca_sending::{Failure, Numbered, Outcome, is_sending, one_retry, request_under};
+use ca_sending::{Failure, Numbered, Outcome, is_sending, one_retry};
 use ca_wire::opcode::{
     ACKNOWLEDGE, ATOMIC_ACKNOWLEDGE, RDMA_READ_RESPONSE_LAST, RDMA_READ_RESPONSE_ONLY,
 };
@@ -36,23 +36,6 @@ pub(crate) enum Arrival {
     Naks(u64, NakCode),
     /// It answers the request at a PSN, if it fits it.
     Fits(u64),
-}
-
-/// What an answer makes of a requester, before it is made.
-#[derive(Drop)]
-pub(crate) enum Response<'a> {
-    /// It acknowledges, and then comes an outcome.
-    Ends(Outcome),
-    /// It acknowledges, and its bytes go to the list of its request.
-    Answers(Answer<'a>),
-}
-
-/// An answer to a request, with its PSN, under the numbers behind what it acknowledges.
-#[derive(Drop)]
-pub(crate) struct Answer<'a> {
-    pub psn: u64,
-    pub numbers: RequesterNumbers,
-    pub request: Numbered<'a>,
 }
 
 /// What a response says: it is dropped in the wrong state, or where its PSN is not outstanding. It takes no memory.
@@ -91,9 +74,9 @@ fn syndrome_of(p: &Packet<'_>) -> Option<Syndrome>
 }
 
 /// A READ or an atomic that was not answered is an implied NAK: one retry, and back to it.
-pub(crate) fn on_implied_nak(q: &QueuePart, acknowledged: &Acknowledged) -> Outcome
-    requires { IsProgress acknowledged.now.until q.now.requester (numbers_behind acknowledged.now q.now) q.now }
-    ensures { Makes (acknowledgement_of true acknowledged.now.until q.now).effects q.now result }
+pub(crate) fn on_implied_nak(q: &QueuePart, acknowledged: Acknowledged) -> Outcome
+    requires { IsProgress acknowledged.until q.now.requester (numbers_behind acknowledged q.now) q.now }
+    ensures { Makes (acknowledgement_of true acknowledged.until q.now).effects q.now result }
 {
     one_retry(numbers_after(q, acknowledged), acknowledged.until)
 }
@@ -105,9 +88,9 @@ pub(crate) fn on_rnr_nak(q: &QueuePart, psn: u64) -> Outcome
 {
     let acknowledged = acknowledged_below(q, psn);
     if acknowledged.went_back {
-        return on_implied_nak(q, &acknowledged);
+        return on_implied_nak(q, acknowledged);
     }
-    rnr_nak(numbers_after(q, &acknowledged), psn)
+    rnr_nak(numbers_after(q, acknowledged), psn)
 }
 
 /// A NAK of the request at a PSN.
@@ -117,9 +100,9 @@ pub(crate) fn on_nak(q: &QueuePart, psn: u64, code: NakCode) -> Outcome
 {
     let acknowledged = acknowledged_below(q, psn);
     if acknowledged.went_back {
-        return on_implied_nak(q, &acknowledged);
+        return on_implied_nak(q, acknowledged);
     }
-    nak(numbers_after(q, &acknowledged), psn, code)
+    nak(numbers_after(q, acknowledged), psn, code)
 }
 
 /// An RNR NAK: where the count is used up the request fails, and else it is sent again after a wake. A limit of 7 has no
@@ -166,43 +149,30 @@ fn failure(numbers: RequesterNumbers, status: WcStatus) -> Outcome
     })
 }
 
-/// An answer: an implied NAK, one that does not fit its request, or one whose bytes go to its list.
-#[inline(always)]
-pub(crate) fn answer_of<'a>(q: &'a QueuePart, p: &Packet<'_>, psn: u64) -> Response<'a>
-    requires step { CanStep q.now }
-    requires psn { psn < 2 ^ 62 }
-    ensures { IsResponse result (rows.fitting_row psn p.now (acknowledgement_below psn q.now)) p.now q.now }
+/// An answer that does not fit its request fails it.
+pub(crate) fn on_bad_answer(q: &QueuePart, acknowledged: Acknowledged) -> Outcome
+    requires { IsProgress acknowledged.until q.now.requester (numbers_behind acknowledged q.now) q.now }
+    ensures { Makes (bad_answer_effects acknowledged.until q.now) q.now result }
 {
-    let acknowledged = acknowledged_below(q, psn);
-    if acknowledged.went_back {
-        return Response::Ends(on_implied_nak(q, &acknowledged));
-    }
-    let numbers = numbers_after(q, &acknowledged);
-    match fitting_request(q, p, &numbers, psn) {
-        None => Response::Ends(failure(numbers, WcStatus::BadResponse)),
-        Some(request) => Response::Answers(Answer {
-            psn,
-            numbers,
-            request,
-        }),
-    }
+    failure(numbers_after(q, acknowledged), WcStatus::BadResponse)
 }
 
-/// The request of a PSN that has begun under these numbers, where the response fits it.
-#[tactic(auto, using(crate::proofs::ResponseLemmas::fits_none, crate::proofs::ResponseLemmas::fits_not, crate::proofs::ResponseLemmas::fits_all))]
+/// The oldest unfinished request, where it has a PSN and a response fits it.
+#[tactic(auto, using(crate::proofs::ResponseLemmas::fits_all, crate::proofs::ResponseLemmas::fits_not, crate::proofs::ResponseLemmas::has_not))]
 #[inline(always)]
-fn fitting_request<'a>(
+pub(crate) fn fitting_request<'a>(
     q: &'a QueuePart,
     p: &Packet<'_>,
-    numbers: &RequesterNumbers,
     psn: u64,
+    oldest: Option<Numbered<'a>>,
 ) -> Option<Numbered<'a>>
-    requires { AreNumbers q.now numbers.now }
-    ensures value { result ≡ fitting psn p.now (with_requester numbers.now q.now) }
-    ensures fits { IfSome result (λ n. IsFitting psn p.now q.now n) }
+    requires { IfSome oldest (λ n. IsSound q.now n) }
+    ensures value { result ≡ if_fits psn p.now q.now (if_has_psn psn oldest.entry) }
+    ensures oldest { IfSome result (λ n. oldest.entry ≡ Some n) }
+    ensures request { IfSome result (λ n. IsRequestOf psn q.now n) }
 {
-    match request_under(q, numbers, psn) {
-        Some(request) if fits(q, p, psn, &request) => Some(request),
+    match oldest {
+        Some(request) if request.has_psn(psn) && fits(q, p, psn, &request) => Some(request),
         _ => None,
     }
 }

@@ -1,4 +1,4 @@
-ghost use Rattle.std.specs.Prelude.{◌≡◌, ◌≤◌, ◌<◌, ◌^◌, suc, true, IfOk, length};
+ghost use Rattle.std.specs.Prelude.{◌≡◌, ◌≤◌, ◌<◌, ◌^◌, [], suc, true, IfOk, length};
 ghost use Rattle.ca_keys.specs.declared.access.Kind.{Kind};
 ghost use Rattle.ca_base.specs.declared.limits.TheConstants.{MAX_PAYLOAD_BYTES, MAX_PIECES};
 ghost use Rattle.ca_grant.specs.Reaching.{AreAtHand};
@@ -9,26 +9,31 @@ ghost use Rattle.ca_model.specs.machine.Responses as rows;
 ghost use Rattle.ca_model.specs.machine.Row.{Does, ending_of};
 ghost use Rattle.ca_packet.specs.Packet.{IsWellFormed};
 ghost use Rattle.ca_requester.specs.Progress.{IsProgress, acknowledgement_of, numbers_behind};
-ghost use Rattle.ca_requester.specs.Responses.{CanWriteBy, IsAnswer, IsTakenAnswer, answer_effects, denied_effects};
+ghost use Rattle.ca_requester.specs.Responses.{CanWriteBy, IsTakenAnswer, answer_effects, bad_answer_effects, denied_effects};
 ghost use Rattle.ca_rows.specs.Asks.{AreAsksFor, AreWritesFor};
 ghost use Rattle.ca_rows.specs.Made.{IsMade, IsTaking};
 ghost use Rattle.ca_sending.specs.Numbering.{IsRequestOf};
 
-use crate::progress::{Acknowledged, acknowledged_below, numbers_after, numbers_past};
+use crate::progress::{
+    Acknowledged, OldestBelow, acknowledged_below, acknowledged_by_answer, numbers_after,
+    oldest_below,
+};
 use crate::responses::{
-    Answer, Arrival, Response, answer_of, arrival_of, on_implied_nak, on_nak, on_rnr_nak,
+    Arrival, arrival_of, fitting_request, on_bad_answer, on_implied_nak, on_nak, on_rnr_nak,
 };
 use arrayvec::ArrayVec;
 use ca_base::limits::{ATOMIC_BYTES, MAX_PIECES};
-use ca_base::{Ask, DeniedAsk, Kind, Memory, RequesterNumbers, WcStatus};
+use ca_base::{Ask, DeniedAsk, Kind, Memory, WcStatus};
 use ca_grant::Reach;
 use ca_model::{Marks, SPARE_MARKS};
 use ca_qpstate::QueuePart;
 use ca_rows::{
-    Asker, JudgedWrites, Writes, cut_writes, drop_packet, first_denied, list_asks, list_of,
+    Asker, JudgedWrites, Writes, cut_writes, drop_packet, fill_asks, first_denied, list_of,
     local_denial, write_all,
 };
-use ca_sending::{Failure, Outcome, complete_before, finished_count, make, push_finished};
+use ca_sending::{
+    Failure, Numbered, Outcome, complete_before, finished_count, make, push_finished,
+};
 use ca_wire::opcode::ATOMIC_ACKNOWLEDGE;
 use ca_wire::{NakCode, Packet};
 use std::alloc::Global;
@@ -54,42 +59,56 @@ fn answer_asks(q: &QueuePart, p: &Packet<'_>, psn: u64) -> ArrayVec<Ask, MAX_PIE
     requires psn { psn < 2 ^ 62 }
     ensures { result.items ≡ (rows.fitting_row psn p.now (acknowledgement_below psn q.now)).asks }
 {
-    match answer_of(q, p, psn) {
-        Response::Answers(answer) => asks_for(q, p, &answer),
-        Response::Ends(_) => ArrayVec::new(),
+    let mut asks = ArrayVec::new();
+    let OldestBelow {
+        acknowledged,
+        oldest,
+    } = oldest_below(q, psn);
+    if acknowledged.went_back {
+        return asks;
     }
+    if let Some(request) = fitting_request(q, p, psn, oldest) {
+        fill_answer_asks(q, p, psn, &request, &mut asks);
+    }
+    asks
 }
 
-/// The asks for the places in its request's list to which an answer's bytes go.
+/// Puts the asks for the places in its request's list to which an answer's bytes go into a list that is empty.
 #[inline(always)]
-fn asks_for(q: &QueuePart, p: &Packet<'_>, answer: &Answer<'_>) -> ArrayVec<Ask, MAX_PIECES>
+fn fill_answer_asks(
+    q: &QueuePart,
+    p: &Packet<'_>,
+    psn: u64,
+    request: &Numbered<'_>,
+    asks: &mut ArrayVec<Ask, MAX_PIECES>,
+)
     requires packet { IsWellFormed p.now }
-    requires answer { IsAnswer p.now q.now answer.now }
-    ensures value { result.items ≡ rows.answer_asks answer.now.psn p.now q.now answer.now.request }
-    ensures asks { AreAsksFor Kind.Write (length (rows.answer_bytes p.now)) result.items }
+    requires request { IsRequestOf psn q.now request.now }
+    requires empty { asks.old.items ≡ [] }
+    ensures value { asks.new.items ≡ rows.answer_asks psn p.now q.now request.now }
+    ensures asks { AreAsksFor Kind.Write (length (rows.answer_bytes p.now)) asks.new.items }
 {
     let asker = Asker {
         queue: q.queue,
         domain: q.domain,
         kind: Kind::Write,
     };
-    let request = &answer.request;
-    list_asks(
+    fill_asks(
         asker,
-        bytes_before(q, answer),
+        bytes_before(q, psn, request),
         answer_length(p),
         list_of(request.op()),
-    )
+        asks,
+    );
 }
 
 /// Where an answer's bytes begin in its request's message.
 #[tactic(auto, using(ca_sending::proofs::NumberingLemmas::few_before))]
-fn bytes_before(q: &QueuePart, answer: &Answer<'_>) -> u32
-    requires { IsRequestOf answer.now.psn q.now answer.now.request }
-    ensures { result ≡ rows.segment_at answer.now.psn q.now answer.now.request }
+fn bytes_before(q: &QueuePart, psn: u64, request: &Numbered<'_>) -> u32
+    requires { IsRequestOf psn q.now request.now }
+    ensures { result ≡ rows.segment_at psn q.now request.now }
 {
-    let request = &answer.request;
-    (answer.psn - request.first) as u32 * u32::from(q.responder.mtu)
+    (psn - request.first) as u32 * u32::from(q.responder.mtu)
 }
 
 /// How many bytes an answer brings: its payload, or the eight of what an atomic found.
@@ -156,17 +175,17 @@ fn take_ack(q: &mut QueuePart, psn: u64, marks: &mut Marks) -> Result<(), Memory
 {
     let acknowledged = acknowledged_below(q, psn + 1);
     if acknowledged.went_back {
-        return take_implied_nak(q, &acknowledged, marks);
+        return take_implied_nak(q, acknowledged, marks);
     }
-    go_on(q, &acknowledged, marks)
+    go_on(q, acknowledged, marks)
 }
 
 /// The requests before the one that is the oldest now complete, and the requester goes on.
 #[tactic(auto, using(ca_sending::proofs::OutcomeLemmas::is_ahead))]
 #[inline(always)]
-fn go_on(q: &mut QueuePart, acknowledged: &Acknowledged, marks: &mut Marks) -> Result<(), Memory>
-    requires { IsProgress acknowledged.now.until q.old.requester (numbers_behind acknowledged.now q.old) q.old }
-    ensures { IsMade result (progress_to acknowledged.now.until q.old) q.old q.new marks.old marks.new }
+fn go_on(q: &mut QueuePart, acknowledged: Acknowledged, marks: &mut Marks) -> Result<(), Memory>
+    requires { IsProgress acknowledged.until q.old.requester (numbers_behind acknowledged q.old) q.old }
+    ensures { IsMade result (progress_to acknowledged.until q.old) q.old q.new marks.old marks.new }
 {
     complete_before(q, acknowledged.posting, marks)?;
     q.requester = numbers_after(q, acknowledged);
@@ -179,12 +198,12 @@ fn go_on(q: &mut QueuePart, acknowledged: &Acknowledged, marks: &mut Marks) -> R
 #[inline(never)]
 fn take_implied_nak(
     q: &mut QueuePart,
-    acknowledged: &Acknowledged,
+    acknowledged: Acknowledged,
     marks: &mut Marks,
 ) -> Result<(), Memory>
-    requires { IsProgress acknowledged.now.until q.old.requester (numbers_behind acknowledged.now q.old) q.old }
+    requires { IsProgress acknowledged.until q.old.requester (numbers_behind acknowledged q.old) q.old }
     ensures { IsMade result
-        (acknowledgement_of true acknowledged.now.until q.old).effects q.old q.new marks.old marks.new }
+        (acknowledgement_of true acknowledged.until q.old).effects q.old q.new marks.old marks.new }
 {
     let outcome = on_implied_nak(q, acknowledged);
     make(q, &outcome, None, marks)
@@ -232,27 +251,48 @@ fn take_answer<R: Reach>(
         (ending_of (R.sight reach.old) (rows.fitting_row psn p.now (acknowledgement_below psn q.old)))
         q.old q.new marks.old marks.new reach.old reach.new }
 {
-    match answer_of(q, p, psn) {
-        Response::Ends(outcome) => make(q, &outcome, None, marks),
-        Response::Answers(answer) => {
-            let asks = asks_for(q, p, &answer);
-            let taken = Taken {
-                psn: answer.psn,
-                numbers: answer.numbers,
-            };
-            match first_denied(reach, asks.as_slice()) {
-                Some(denied) => deny(q, taken, &denied, marks),
-                None => place(q, reach, p, taken, asks.as_slice(), marks),
-            }
-        }
+    let OldestBelow {
+        acknowledged,
+        oldest,
+    } = oldest_below(q, psn);
+    if acknowledged.went_back {
+        return take_implied_nak(q, acknowledged, marks);
+    }
+    let Some(request) = fitting_request(q, p, psn, oldest) else {
+        return take_bad_answer(q, acknowledged, marks);
+    };
+    let taken = Taken {
+        before: acknowledged,
+        after: acknowledged_by_answer(q, &acknowledged, &request),
+    };
+    let mut asks = ArrayVec::new();
+    fill_answer_asks(q, p, psn, &request, &mut asks);
+    match first_denied(reach, asks.as_slice()) {
+        Some(denied) => deny(q, acknowledged, &denied, marks),
+        None => place(q, reach, p, taken, asks.as_slice(), marks),
     }
 }
 
-/// The PSN of an answer, and the numbers behind what it acknowledges.
+/// The answer does not fit its request, which fails. It stands apart, since that is rare.
+#[cold]
+#[inline(never)]
+fn take_bad_answer(
+    q: &mut QueuePart,
+    acknowledged: Acknowledged,
+    marks: &mut Marks,
+) -> Result<(), Memory>
+    requires { IsProgress acknowledged.until q.old.requester (numbers_behind acknowledged q.old) q.old }
+    ensures { IsMade result (bad_answer_effects acknowledged.until q.old) q.old q.new marks.old marks.new }
+{
+    let outcome = on_bad_answer(q, acknowledged);
+    make(q, &outcome, None, marks)
+}
+
+/// What is acknowledged with an answer: all below its PSN, and then that PSN too.
 #[derive(Clone, Copy)]
 pub(crate) struct Taken {
-    pub psn: u64,
-    pub numbers: RequesterNumbers,
+    pub before: Acknowledged,
+    pub after: Acknowledged,
 }
 
 /// The list is denied: the request fails. It stands apart, since that is rare.
@@ -261,15 +301,15 @@ pub(crate) struct Taken {
 #[inline(never)]
 fn deny(
     q: &mut QueuePart,
-    taken: Taken,
+    acknowledged: Acknowledged,
     denied: &DeniedAsk,
     marks: &mut Marks,
 ) -> Result<(), Memory>
-    requires { IsTakenAnswer q.old taken }
-    ensures { IsMade result (denied_effects taken denied.now q.old) q.old q.new marks.old marks.new }
+    requires { IsProgress acknowledged.until q.old.requester (numbers_behind acknowledged q.old) q.old }
+    ensures { IsMade result (denied_effects acknowledged.until denied.now q.old) q.old q.new marks.old marks.new }
 {
     let failure = Outcome::Fails(Failure {
-        numbers: taken.numbers,
+        numbers: numbers_after(q, acknowledged),
         status: WcStatus::LocalProtection,
         cause: None,
     });
@@ -291,14 +331,13 @@ fn place<R: Reach>(
     requires at_hand { CanWriteBy R.sight R.judges R.touches reach.old asks.now }
     requires asks { AreAsksFor Kind.Write (length (rows.answer_bytes p.now)) asks.now }
     requires few { length asks.now ≤ MAX_PIECES }
-    ensures { IsTaking R.written result (Does (answer_effects taken p.now asks.now q.old))
+    ensures { IsTaking R.written result (Does (answer_effects taken.before.until p.now asks.now q.old))
         q.old q.new marks.old marks.new reach.old reach.new }
 {
     let writes = cut_answer(q.alloc(), p, asks)?;
-    let numbers = numbers_past(q, taken.numbers, taken.psn + 1);
-    let count = finished_count(q, numbers.oldest) + writes.len() as u32;
+    let count = finished_count(q, taken.after.posting) + writes.len() as u32;
     marks.reserve(count + SPARE_MARKS)?;
-    push_finished(q, q.requester.oldest, taken.numbers.oldest, marks);
+    push_finished(q, q.requester.oldest, taken.before.posting, marks);
     write_all(
         reach,
         JudgedWrites {
@@ -307,7 +346,7 @@ fn place<R: Reach>(
         },
         marks,
     );
-    push_finished(q, taken.numbers.oldest, numbers.oldest, marks);
-    q.requester = numbers;
+    push_finished(q, taken.before.posting, taken.after.posting, marks);
+    q.requester = numbers_after(q, taken.after);
     Ok(())
 }

@@ -93,10 +93,9 @@ fn cut_rest(alloc: Global, asks: &[Ask], bytes: &[u8]) -> Result<Vec<(Ask, Bytes
     ensures value { IfOk result (λ writes. writes.items ≡ responses.writes_by asks.now bytes.now) }
 {
     let mut writes = Vec::new(alloc);
-    if asks.is_empty() {
-        return Ok(writes);
+    if !asks.is_empty() {
+        push_writes(alloc, asks, bytes, &mut writes)?;
     }
-    push_writes(alloc, asks, bytes, &mut writes)?;
     Ok(writes)
 }
 
@@ -140,7 +139,9 @@ pub fn write_all<R: Reach>(reach: &mut R, judged: JudgedWrites, marks: &mut Mark
     };
     reach.write_at(&ask, &places, bytes.as_slice());
     marks.push(local_mark(&ask, Verdict::Wrote(bytes)));
-    write_rest(reach, rest.into_iter(), marks)
+    if !rest.is_empty() {
+        write_rest(reach, rest.into_iter(), marks);
+    }
 }
 
 /// Writes them, where none was judged before.

@@ -1,4 +1,4 @@
-ghost use Rattle.std.specs.Prelude.{◌≡◌, ◌-◌, ◌≤◌};
+ghost use Rattle.std.specs.Prelude.{◌≡◌, ◌-◌, ◌≤◌, ◌<◌};
 ghost use Rattle.ca_base.specs.declared.limits.TheConstants.{MAX_DEPTH};
 ghost use Rattle.ca_model.specs.machine.Invariants.{IsQueue};
 ghost use Rattle.ca_model.specs.machine.Row.{queue_and_marks};
@@ -21,20 +21,34 @@ pub fn finished_count(q: &QueuePart, end: u64) -> u32
 
 /// Adds the completions of the requests from a posting place on and before another, which succeeded, in the spare room. It
 /// takes no memory.
+#[inline(always)]
 pub fn push_finished(q: &QueuePart, posting: u64, end: u64, marks: &mut Marks)
     requires queue { IsQueue q.now }
     requires posted { q.now.sends.first ≤ posting }
     requires spare { end - posting ≤ marks.old.room }
     ensures { AreAdded (success_between posting end q.now) marks.old marks.new }
 {
-    if posting >= end {
-        return;
+    if posting < end {
+        push_finished_from(q, posting, end, marks);
     }
+}
+
+/// The same, where there are some.
+fn push_finished_from(q: &QueuePart, posting: u64, end: u64, marks: &mut Marks)
+    requires queue { IsQueue q.now }
+    requires posted { q.now.sends.first ≤ posting }
+    requires some { posting < end }
+    requires spare { end - posting ≤ marks.old.room }
+    ensures { AreAdded (success_between posting end q.now) marks.old marks.new }
+{
     let Some(posted) = q.sends.get(posting) else {
         return;
     };
     push_success(q.queue, posting, &posted.request, marks);
-    push_finished(q, posting + 1, end, marks)
+    if posting + 1 >= end {
+        return;
+    }
+    push_finished_from(q, posting + 1, end, marks)
 }
 
 /// The unfinished requests before a posting place complete.

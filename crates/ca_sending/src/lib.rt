@@ -22,7 +22,7 @@ mod turn;
 
 pub use finished::{complete_before, finished_count, push_finished};
 pub use local::{local_done, next_local};
-pub use numbering::{Numbered, begun_at, request_under};
+pub use numbering::{Numbered, begun_at};
 pub use outcome::{Failure, Outcome, make, one_retry};
 pub use sending::{next_asks, next_packet};
 pub use state::is_sending;

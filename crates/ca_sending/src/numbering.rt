@@ -1,10 +1,9 @@
-ghost use Rattle.std.specs.Prelude.{◌≡◌, ◌<◌, [], false, find, true, IfSome, IfNone};
-ghost use Rattle.ca_model.specs.machine.Acknowledgements.{with_requester};
+ghost use Rattle.std.specs.Prelude.{◌≡◌, ◌<◌, [], false, true, IfSome, IfNone};
 ghost use Rattle.ca_model.specs.machine.CanStep.{CanStep};
 ghost use Rattle.ca_model.specs.machine.Numbering as numbering;
-ghost use Rattle.ca_sending.specs.Numbering.{AreNumbers, BeginsFrom, GoesOnFrom, IsNext, IsNoNext, IsNoneFrom, IsNumbered, IsRequestOf, IsWithin, begun_from, numbers_from};
+ghost use Rattle.ca_sending.specs.Numbering.{BeginsFrom, GoesOnFrom, IsNext, IsNoNext, IsNoneFrom, IsNumbered, IsWithin, begun_from, numbers_from};
 
-use ca_base::{PostedSend, RequesterNumbers, SendOp, SendRequest};
+use ca_base::{PostedSend, SendOp, SendRequest};
 use ca_qpstate::QueuePart;
 use ca_rows::psns_of;
 use std::marker::Model;
@@ -111,33 +110,6 @@ pub fn begun_at(q: &QueuePart, posting: u64, first: u64) -> Option<Numbered<'_>>
         numbered_at(q, posting, first)
     } else {
         None
-    }
-}
-
-/// The request that has begun and has this PSN, under numbers that the queue pair may go on with. It takes no memory.
-#[tactic(auto, using(crate::proofs::NumberingLemmas::at_under))]
-pub fn request_under<'a>(
-    q: &'a QueuePart,
-    numbers: &RequesterNumbers,
-    psn: u64,
-) -> Option<Numbered<'a>>
-    requires { AreNumbers q.now numbers.now }
-    ensures value { result ≡ numbering.request_at psn (with_requester numbers.now q.now) }
-    ensures request { IfSome result (λ n. IsRequestOf psn q.now n) }
-{
-    find_psn(q, numbers.oldest, numbers.oldest_psn, psn)
-}
-
-/// The request that has this PSN, among those from a posting place on that have begun.
-fn find_psn(q: &QueuePart, posting: u64, first: u64, psn: u64) -> Option<Numbered<'_>>
-    requires { IsWithin posting first q.now }
-    ensures value { result ≡ find (numbering.has_psn psn) (begun_from posting first q.now) }
-    ensures request { IfSome result (λ n. IsRequestOf psn q.now n) }
-{
-    match begun_at(q, posting, first) {
-        None => None,
-        Some(n) if n.has_psn(psn) => Some(n),
-        Some(n) => find_psn(q, posting + 1, first + u64::from(n.count), psn),
     }
 }
 

@@ -29,6 +29,8 @@ returns-then-is_unanswered c =
           );
       within = search rules;
       begun = search rules;
+      request = (c.in-Some.ensures.some, c.in-Some.ensures.begun);
+      ends = λ e. cc;
     }
 
 pub loop-n-preserved : goal.loop-n-preserved
@@ -77,10 +79,12 @@ returns-then-end-max c = record {
       );
   within = search rules;
   begun = search rules;
+  request = (c.in-Some.ensures.some, c.in-Some.ensures.begun);
+  ends = λ e. search rules;
 }
 
-pub returns-in_default : goal.returns-in_default
-returns-in_default c = record {
+pub returns : goal.returns
+returns c = record {
   back = search rules;
   behind = tt;
   posting =
@@ -97,4 +101,6 @@ returns-in_default c = record {
       );
   within = search rules;
   begun = search rules;
+  request = search rules;
+  ends = λ e. tt;
 }

@@ -7,4 +7,5 @@ use Rattle.ca_requester.proofs.taking.deny.Goals as goal
 pub returns : goal.returns
 returns c =
     let P : Effects → Type 0 = λ e. IsMade c.make.result e c.args.q.now c.make.new.q c.args.marks.now c.make.new.marks in
-    subst P (denied_makes c.args.q.now c.args.taken c.args.denied.now c.requires) (rw (← c.local_denial.ensures) c.make.ensures)
+    subst P (denied_makes c.args.q.now c.args.acknowledged.until c.numbers_after.result c.args.denied.now (rw c.numbers_after.ensures c.requires))
+    (rw (← c.local_denial.ensures) c.make.ensures)
