@@ -1,0 +1,6 @@
+-- The names of buffers. Contracts cite it.
+use Rattle.std.specs.Prelude.{ℕ, ◌==◌, ◌&&◌, Bool}
+use Rattle.ca_held.specs.declared.part.BufferId.{BufferId}
+
+abbrev pub buffer_eq : BufferId → BufferId → Bool
+buffer_eq a b = (a.adapter == b.adapter) && (a.index == b.index)
