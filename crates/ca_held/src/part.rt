@@ -40,6 +40,42 @@ impl Model for ControlPart {
     ghost inverse = { λ d. record { allocated = d.allocated; objects = d.objects } };
 }
 
+impl ControlPart {
+    ghost use Rattle.std.specs.Prelude.{◌≡◌, ◌<◌};
+    ghost use Rattle.ca_base.specs.objects.Domain.{with_allocation, with_object, without_object};
+
+    /// Allocated, or not any more.
+    pub fn with_allocation(self, allocated: bool) -> ControlPart
+        ensures { result ≡ with_allocation allocated self }
+    {
+        ControlPart {
+            allocated,
+            objects: self.objects,
+        }
+    }
+
+    /// One object more.
+    pub fn with_object(self) -> ControlPart
+        requires { self.objects < u32.MAX }
+        ensures { result ≡ with_object self }
+    {
+        ControlPart {
+            allocated: self.allocated,
+            objects: self.objects + 1,
+        }
+    }
+
+    /// One object fewer.
+    pub fn without_object(self) -> ControlPart
+        ensures { result ≡ without_object self }
+    {
+        ControlPart {
+            allocated: self.allocated,
+            objects: self.objects.saturating_sub(1),
+        }
+    }
+}
+
 /// The slot of a queue pair. A vacant one keeps its incarnation and its count of timers.
 #[derive(Drop)]
 pub enum QueueSlot {
