@@ -11,6 +11,6 @@ mod answers;
 mod completion_queues;
 mod domains;
 
-pub use answers::{answer, refuse};
+pub use answers::Call;
 pub use completion_queues::{create_cq, destroy_cq};
 pub use domains::{alloc_pd, dealloc_pd};
