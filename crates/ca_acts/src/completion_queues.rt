@@ -34,11 +34,11 @@ pub fn create_cq(
     if capacity == 0 || capacity > MAX_CAPACITY {
         return Ok(call.refuse(Refusal::OutOfRange(Field::Capacity))?);
     }
-    let marks = call.answer(Answer::Fine, 0)?;
+    let ready = call.ready(0)?;
     let cq = Cq::create(call.alloc, capacity)?;
     *held.control_mut(slot.domain) = domain.with_object();
     *held.cq_mut(slot) = Some(cq);
-    Ok(marks)
+    Ok(ready.answer(Answer::Fine))
 }
 
 /// DestroyCq.
@@ -58,8 +58,8 @@ pub fn destroy_cq(
     if cq.in_use() {
         return Ok(call.refuse(Refusal::CqInUse)?);
     }
-    let marks = call.answer(Answer::Fine, 0)?;
+    let ready = call.ready(0)?;
     *held.control_mut(slot.domain) = domain.without_object();
     *held.cq_mut(slot) = None;
-    Ok(marks)
+    Ok(ready.answer(Answer::Fine))
 }

@@ -23,9 +23,9 @@ pub fn alloc_pd(
     if control.allocated {
         return Ok(call.refuse(Refusal::DomainTaken)?);
     }
-    let marks = call.answer(Answer::Fine, 0)?;
+    let ready = call.ready(0)?;
     *held.control_mut(domain) = control.with_allocation(true);
-    Ok(marks)
+    Ok(ready.answer(Answer::Fine))
 }
 
 /// DeallocPd.
@@ -45,7 +45,7 @@ pub fn dealloc_pd(
     if control.objects > 0 {
         return Ok(call.refuse(Refusal::DomainInUse)?);
     }
-    let marks = call.answer(Answer::Fine, 0)?;
+    let ready = call.ready(0)?;
     *held.control_mut(domain) = control.with_allocation(false);
-    Ok(marks)
+    Ok(ready.answer(Answer::Fine))
 }

@@ -9,8 +9,14 @@
 
 mod answers;
 mod completion_queues;
+mod depths;
 mod domains;
+mod regions;
+mod shared_receives;
 
 pub use answers::Call;
 pub use completion_queues::{create_cq, destroy_cq};
+pub use depths::is_no_depth;
 pub use domains::{alloc_pd, dealloc_pd};
+pub use regions::{alloc_mr, dereg_mr, reg_mr};
+pub use shared_receives::{create_srq, destroy_srq};

@@ -206,3 +206,11 @@ put_queue h name thing has = by (thing_under queue_eq name h.queues.things) refl
         → holding (option_map_or with_box o h) ≡ hold (holding h) (Queue_of name) (slot_of thing)
     by (Some b) is = there b
     by None is = absurd (true≢false (sym has ∙ ap is_some is))
+
+-- a thing that is put where it stands changes nothing
+pub same_region : (h : Holding) (s : Slot) (r : Region) → r ≡ h.world.region s → hold h (Region_of s) r ≡ h
+same_region h s r is = λ i. record h { world = record h.world { region = fun_ext (λ t. by t (slot_eq s t) refl) i } }
+  where
+    by : (t : Slot) (b : Bool) → slot_eq s t ≡ b → (if b then r else h.world.region t) ≡ h.world.region t
+    by t true same = is ∙ ap h.world.region (slot-path s t same)
+    by t false same = refl
