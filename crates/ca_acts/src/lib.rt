@@ -13,6 +13,7 @@ mod depths;
 mod domains;
 mod regions;
 mod shared_receives;
+mod windows;
 
 pub use answers::Call;
 pub use completion_queues::{create_cq, destroy_cq};
@@ -20,3 +21,4 @@ pub use depths::is_no_depth;
 pub use domains::{alloc_pd, dealloc_pd};
 pub use regions::{alloc_mr, dereg_mr, reg_mr};
 pub use shared_receives::{create_srq, destroy_srq};
+pub use windows::{alloc_mw, dealloc_mw};
