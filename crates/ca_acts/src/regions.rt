@@ -11,7 +11,7 @@ use ca_held::Held;
 use ca_model::{Answer, Mark, Marks, Refusal};
 
 /// RegMr, over a buffer of this length.
-#[tactic(auto, using(ca_held::proofs::HoldLemmas::put_region, ca_held::proofs::HoldLemmas::put_control, ca_held::proofs::HoldLemmas::same_region, crate::proofs::RefusalLemmas::region_refused))]
+#[tactic(auto, using(ca_held::proofs::HoldLemmas::put_region, ca_held::proofs::HoldLemmas::put_control, ca_held::proofs::HoldLemmas::kept_region, crate::proofs::RefusalLemmas::reg_refused))]
 pub fn reg_mr(
     call: &Call<'_>,
     held: &mut Held,
@@ -75,7 +75,7 @@ pub fn alloc_mr(
 }
 
 /// DeregMr: a key that was valid is revoked.
-#[tactic(auto, using(ca_held::proofs::HoldLemmas::put_region, ca_held::proofs::HoldLemmas::put_control, ca_held::proofs::HoldLemmas::same_region, crate::proofs::RefusalLemmas::region_refused))]
+#[tactic(auto, using(ca_held::proofs::HoldLemmas::put_region, ca_held::proofs::HoldLemmas::put_control, ca_held::proofs::HoldLemmas::kept_region, crate::proofs::RefusalLemmas::dereg_refused))]
 pub fn dereg_mr(call: &Call<'_>, held: &mut Held, slot: Slot) -> Result<Marks, StepError>
     requires suffices { Suffices held.old (dereg_mr_plan (call_of call.now) slot) }
     ensures act { Acts result (dereg_mr_plan (call_of call.now) slot) held.old held.new }

@@ -214,3 +214,7 @@ same_region h s r is = λ i. record h { world = record h.world { region = fun_ex
     by : (t : Slot) (b : Bool) → slot_eq s t ≡ b → (if b then r else h.world.region t) ≡ h.world.region t
     by t true same = is ∙ ap h.world.region (slot-path s t same)
     by t false same = refl
+
+pub kept_region : (h : Held) (s : Slot) (r : Region) → (holding h).has (Region_of s) ≡ true → r ≡ (holding h).world.region s
+    → holding (with_region h s r) ≡ holding h
+kept_region h s r has is = put_region h s r has ∙ same_region (holding h) s r is
