@@ -1,11 +1,15 @@
 -- What is held as a small world: vacant wherever nothing is held, beside a test of the names that are held. Contracts cite
 -- it.
-use Rattle.std.specs.Prelude.{ℕ, ◌&&◌, nat_lt, Bool, false, List, length, Option, None, Some, Box, is_some}
+use Rattle.std.specs.Prelude.{ℕ, ◌&&◌, nat_lt, Bool, false, List, [], ◌∷◌, length, Option, None, Some, Box, is_some}
 use Rattle.std.specs.Option.{option_map, option_map_or}
 use Rattle.ca_keys.specs.declared.names.DomainId.{DomainId}
 use Rattle.ca_keys.specs.declared.names.QueueId.{QueueId}
 use Rattle.ca_keys.specs.declared.names.Slot.{Slot}
 use Rattle.ca_keys.specs.declared.place.Place.{Place}
+use Rattle.ca_keys.specs.declared.place.Run.{Run}
+use Rattle.ca_keys.specs.Memory.{memory_after}
+use Rattle.ca_model.specs.machine.Frame.{AllPass}
+use Rattle.ca_model.specs.machine.Plan.{byte_names}
 use Rattle.ca_keys.specs.Equal.{domain_eq, queue_eq, slot_eq}
 use Rattle.ca_base.specs.objects.CompletionQueue.{CompletionQueue}
 use Rattle.ca_base.specs.objects.Domain.{Domain, free_domain}
@@ -101,3 +105,14 @@ with_window h name thing = record h { reached = record h.reached { windows = rec
 unfoldable pub with_region : Held → Slot → Region → Held
 with_region h name thing = record h { reached = record h.reached { regions = record h.reached.regions { things = with_thing slot_eq name thing h.reached.regions.things } } }
 
+-- other bytes in a buffer that is held
+unfoldable pub with_buffer : Held → BufferId → List ℕ → Held
+with_buffer h name thing = record h { reached = record h.reached { buffers = record h.reached.buffers { things = with_thing buffer_eq name thing h.reached.buffers.things } } }
+
+-- what is held, with other bytes at the places of a run
+abbrev pub with_bytes : Holding → Run → List ℕ → Holding
+with_bytes h r bytes = record h { world = record h.world { byte = memory_after h.world.byte (r ∷ []) bytes } }
+
+-- all places of a run are held
+abbrev pub IsRunHeld : Holding → Run → Type 0
+IsRunHeld h r = AllPass h.has (byte_names (r ∷ []))

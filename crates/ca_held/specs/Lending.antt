@@ -1,5 +1,5 @@
 -- What is held once a reference to a held thing has ended. Contracts cite it.
-use Rattle.std.specs.Prelude.{Option}
+use Rattle.std.specs.Prelude.{ℕ, List, Option}
 use Rattle.std.specs.Borrow.{Fml, MutBor, Lends}
 use Rattle.ca_keys.specs.declared.names.DomainId.{DomainId}
 use Rattle.ca_keys.specs.declared.names.QueueId.{QueueId}
@@ -14,7 +14,9 @@ use Rattle.ca_held.specs.declared.held.Held.{Held}
 use Rattle.std.specs.contracts.option.Option.{the_row as option_row}
 use Rattle.ca_cq.specs.contracts.cq.Cq.{the_row as cq_row}
 use Rattle.ca_held.specs.contracts.held.Held.{the_row as held_row}
-use Rattle.ca_held.specs.HeldView.{with_control, with_cq, with_mailbox, with_queue, with_region, with_srq, with_window}
+use Rattle.ca_held.specs.HeldView.{with_buffer, with_control, with_cq, with_mailbox, with_queue, with_region, with_srq, with_window}
+use Rattle.ca_memory.specs.contracts.buffer.Buffer.{the_row as buffer_row}
+use Rattle.ca_held.specs.declared.part.BufferId.{BufferId}
 use Rattle.ca_held.specs.declared.part.QueueSlot.{QueueSlot}
 use Rattle.ca_held.specs.contracts.part.QueueSlot.{the_row as queue_row}
 use Rattle.ca_held.specs.contracts.part.ControlPart.{the_row as control_row}
@@ -43,3 +45,6 @@ Lends_region s name r = Lends held_row region_row s r (with_region s.now name)
 
 abbrev pub Lends_queue : MutBor Held → QueueId → MutBor QueueSlot → Fml
 Lends_queue s name r = Lends held_row queue_row s r (with_queue s.now name)
+
+abbrev pub Lends_buffer : MutBor Held → BufferId → MutBor (List ℕ) → Fml
+Lends_buffer s name r = Lends held_row buffer_row s r (with_buffer s.now name)

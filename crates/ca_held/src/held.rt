@@ -1,5 +1,5 @@
 use crate::part::{BufferId, ControlPart, QueueSlot, SrqSlot};
-use ca_base::{DomainId, QueueId, Slot};
+use ca_base::{DomainId, Memory, QueueId, Run, Slot};
 use ca_cq::Cq;
 use ca_mailbox::Mailbox;
 use ca_memory::Buffer;
@@ -28,11 +28,14 @@ pub struct Reached {
 }
 
 impl Held {
-    ghost use Rattle.std.specs.Prelude.{◌≡◌, true};
+    ghost use Rattle.std.specs.Prelude.{◌≡◌, ◌<◌, ◌++◌, [], ◌∷◌, true, Some, length, IsTrue, OnErr, OnOk};
     ghost use Rattle.std.specs.Borrow.{sem};
     ghost use Rattle.ca_held.specs.Lending as lending;
     ghost use Rattle.ca_model.specs.machine.World.{Domain_of, Region_of, Window_of, Cq_of, Srq_of, Queue_of, Mailbox_of};
-    ghost use Rattle.ca_held.specs.HeldView.{holding};
+    ghost use Rattle.ca_held.specs.HeldView.{IsRunHeld, holding, with_bytes};
+    ghost use Rattle.ca_held.specs.Names.{buffer_eq};
+    ghost use Rattle.ca_keys.specs.Memory.{bytes_at};
+    ghost use Rattle.ca_shelf.specs.Shelved.{has_thing, thing_under};
     ghost use Rattle.ca_held.specs.Parts.{slot_of};
 
     /// A control that is held.
@@ -169,5 +172,41 @@ impl Held {
     {
         let slot = self.queues.at_mut(name);
         &mut **slot
+    }
+
+    /// Appends the bytes at the places of a run whose buffer is held, in order. `Memory` leaves `out` as it was.
+    #[tactic(auto, using(crate::proofs::ByteLemmas::run_has, crate::proofs::ByteLemmas::run_fits, crate::proofs::ByteLemmas::bytes_held))]
+    pub fn read_run(&self, at: &Run, out: &mut Vec<u8>) -> Result<(), Memory>
+        requires some { 0 < at.now.length }
+        requires run { IsRunHeld (holding self.now) at.now }
+        ensures bytes { OnOk result (out.new.items
+            ≡ out.old.items ++ bytes_at (holding self.now).world.byte (at.now ∷ [])) }
+        ensures err { OnErr result (out.new.items ≡ out.old.items) }
+    {
+        let name = BufferId::of(at);
+        self.reached.buffers.at(name).read(at, out)
+    }
+
+    /// Puts bytes to the places of a run whose buffer is held, in order. There are as many as the run has places.
+    #[tactic(auto, using(crate::proofs::ByteLemmas::run_has, crate::proofs::ByteLemmas::run_fits, crate::proofs::ByteLemmas::put_bytes))]
+    pub fn write_run(&mut self, at: &Run, bytes: &[u8])
+        requires some { 0 < at.now.length }
+        requires run { IsRunHeld (holding self.old) at.now }
+        requires count { length bytes.now ≡ at.now.length }
+        ensures { holding self.new ≡ with_bytes (holding self.old) at.now bytes.now }
+    {
+        let name = BufferId::of(at);
+        self.buffer_mut(name).write(at, bytes);
+    }
+
+    // A buffer that is held, to change.
+    #[tactic(auto, unfolding(crate::specs::HeldView::with_buffer))]
+    fn buffer_mut(&mut self, name: BufferId) -> &mut Buffer
+        requires { IsTrue (has_thing buffer_eq name self.old.reached.buffers.things) }
+        ensures* writes_back { sem 𝓛 (lending.Lends_buffer self.entry name result) }
+        ensures value { Some result.now ≡ thing_under buffer_eq name self.old.reached.buffers.things }
+    {
+        let reached = &mut self.reached;
+        reached.buffers.at_mut(name)
     }
 }

@@ -1,4 +1,4 @@
-use ca_base::{QueueId, Slot};
+use ca_base::Run;
 use ca_cq::Cq;
 use ca_mailbox::Mailbox;
 use ca_memory::Buffer;
@@ -103,6 +103,21 @@ impl Model for SrqSlot {
 pub struct BufferId {
     pub adapter: u8,
     pub index: u16,
+}
+
+impl BufferId {
+    ghost use Rattle.std.specs.Prelude.{◌≡◌};
+    ghost use Rattle.ca_held.specs.Names.{buffer_of_run};
+
+    /// The buffer of a run.
+    pub fn of(run: &Run) -> BufferId
+        ensures { result ≡ buffer_of_run run.now }
+    {
+        BufferId {
+            adapter: run.adapter,
+            index: run.buffer,
+        }
+    }
 }
 
 impl ShelfName for BufferId {
