@@ -31,7 +31,7 @@ pub fn store(
         return Ok(call.refuse(Refusal::OutsideBuffer)?);
     }
     let ready = call.ready(1)?;
-    let stored = bytes.clone()?;
+    let stored = Bytes::copy_of(call.alloc, bytes.as_slice())?;
     held.write_run(&at, stored.as_slice());
     let mut marks = ready.answer(Answer::Fine);
     marks.push(Mark::Stored {
