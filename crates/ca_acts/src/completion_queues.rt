@@ -43,11 +43,7 @@ pub fn create_cq(
 
 /// DestroyCq.
 #[tactic(auto, using(ca_held::proofs::HoldLemmas::put_cq, ca_held::proofs::HoldLemmas::put_control))]
-pub fn destroy_cq(
-    call: &Call<'_>,
-    held: &mut Held,
-    slot: Slot,
-) -> Result<Marks, StepError>
+pub fn destroy_cq(call: &Call<'_>, held: &mut Held, slot: Slot) -> Result<Marks, StepError>
     requires suffices { Suffices held.old (destroy_cq_plan (call_of call.now) slot) }
     ensures act { Acts result (destroy_cq_plan (call_of call.now) slot) held.old held.new }
 {

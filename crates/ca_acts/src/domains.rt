@@ -11,11 +11,7 @@ use std::alloc::Global;
 
 /// AllocPd.
 #[tactic(auto, using(ca_held::proofs::HoldLemmas::put_control))]
-pub fn alloc_pd(
-    call: &Call<'_>,
-    held: &mut Held,
-    domain: DomainId,
-) -> Result<Marks, StepError>
+pub fn alloc_pd(call: &Call<'_>, held: &mut Held, domain: DomainId) -> Result<Marks, StepError>
     requires suffices { Suffices held.old (alloc_pd_plan (call_of call.now) domain) }
     ensures act { Acts result (alloc_pd_plan (call_of call.now) domain) held.old held.new }
 {
@@ -30,11 +26,7 @@ pub fn alloc_pd(
 
 /// DeallocPd.
 #[tactic(auto, using(ca_held::proofs::HoldLemmas::put_control))]
-pub fn dealloc_pd(
-    call: &Call<'_>,
-    held: &mut Held,
-    domain: DomainId,
-) -> Result<Marks, StepError>
+pub fn dealloc_pd(call: &Call<'_>, held: &mut Held, domain: DomainId) -> Result<Marks, StepError>
     requires suffices { Suffices held.old (dealloc_pd_plan (call_of call.now) domain) }
     ensures act { Acts result (dealloc_pd_plan (call_of call.now) domain) held.old held.new }
 {

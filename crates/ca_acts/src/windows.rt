@@ -15,12 +15,7 @@ use ca_model::{Answer, Mark, Marks, Refusal};
 
 /// AllocMw.
 #[tactic(auto, using(ca_held::proofs::HoldLemmas::put_window, ca_held::proofs::HoldLemmas::put_control))]
-pub fn alloc_mw(
-    call: &Call<'_>,
-    held: &mut Held,
-    slot: Slot,
-    kind: u8,
-) -> Result<Marks, StepError>
+pub fn alloc_mw(call: &Call<'_>, held: &mut Held, slot: Slot, kind: u8) -> Result<Marks, StepError>
     requires suffices { Suffices held.old (alloc_mw_plan (call_of call.now) slot kind) }
     requires few { ((holding held.old).world.domain slot.domain).objects < u32.MAX }
     ensures act { Acts result (alloc_mw_plan (call_of call.now) slot kind) held.old held.new }

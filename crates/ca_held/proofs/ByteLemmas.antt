@@ -10,12 +10,11 @@ use Rattle.ca_keys.specs.declared.place.Run.{Run}
 use Rattle.ca_keys.specs.Memory.{bytes_at, is_in, memory_after}
 use Rattle.ca_memory.specs.Buffer.{IsInside, IsWrittenAt, memory_of}
 use Rattle.ca_model.specs.machine.Frame.{AllPass}
-use Rattle.ca_model.specs.machine.Plan.{byte_names}
 use Rattle.ca_model.specs.machine.World.{Name, Domain_of, Region_of, Window_of, Cq_of, Srq_of, Queue_of, Mailbox_of, Byte_at}
 use Rattle.ca_shelf.specs.Shelved.{has_thing, thing_under, with_thing}
 use Rattle.ca_held.specs.declared.held.Held.{Held}
 use Rattle.ca_held.specs.declared.part.BufferId.{BufferId}
-use Rattle.ca_held.specs.HeldView.{IsRunHeld, buffer_of, hold, holding, held_world, is_held_name, with_buffer, with_bytes}
+use Rattle.ca_held.specs.HeldView.{IsRunHeld, buffer_of, holding, held_world, is_held_name, with_buffer, with_bytes}
 use Rattle.ca_held.specs.Names.{buffer_eq, buffer_of_run}
 use Rattle.ca_held.proofs.HoldLemmas.{thing-with}
 

@@ -1,6 +1,6 @@
 -- What is held as a small world: vacant wherever nothing is held, beside a test of the names that are held. Contracts cite
 -- it.
-use Rattle.std.specs.Prelude.{ℕ, ◌&&◌, nat_lt, Bool, false, List, [], ◌∷◌, length, Option, None, Some, Box, is_some}
+use Rattle.std.specs.Prelude.{ℕ, nat_lt, Bool, false, List, [], ◌∷◌, length, Option, None, Box}
 use Rattle.std.specs.Option.{option_map, option_map_or}
 use Rattle.ca_keys.specs.declared.names.DomainId.{DomainId}
 use Rattle.ca_keys.specs.declared.names.QueueId.{QueueId}
@@ -14,13 +14,13 @@ use Rattle.ca_keys.specs.Equal.{domain_eq, queue_eq, slot_eq}
 use Rattle.ca_base.specs.objects.CompletionQueue.{CompletionQueue}
 use Rattle.ca_base.specs.objects.Domain.{Domain, free_domain}
 use Rattle.ca_base.specs.objects.Mailbox.{Mailbox, empty_mailbox}
-use Rattle.ca_base.specs.objects.QueuePair.{QueueSlot, vacant_queue}
+use Rattle.ca_base.specs.objects.QueuePair.{vacant_queue}
 use Rattle.ca_base.specs.objects.Region.{Region, vacant_region}
 use Rattle.ca_base.specs.objects.SharedReceives.{SrqSlot, vacant_srq}
 use Rattle.ca_base.specs.objects.Window.{Window, vacant_window}
 use Rattle.ca_memory.specs.Buffer.{memory_of}
 use Rattle.ca_model.specs.machine.World.{World, Name, Domain_of, Region_of, Window_of, Cq_of, Srq_of, Queue_of, Mailbox_of, Byte_at, Thing, put}
-use Rattle.ca_shelf.specs.Shelved.{Shelved, has_thing, thing_under, with_thing}
+use Rattle.ca_shelf.specs.Shelved.{has_thing, thing_under, with_thing}
 use Rattle.std.specs.declared.alloc.Global.{Global}
 use Rattle.ca_held.specs.declared.held.Held.{Held}
 use Rattle.ca_held.specs.declared.part.BufferId.{BufferId}

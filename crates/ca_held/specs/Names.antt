@@ -1,5 +1,5 @@
 -- The names of buffers. Contracts cite it.
-use Rattle.std.specs.Prelude.{ℕ, ◌==◌, ◌&&◌, Bool}
+use Rattle.std.specs.Prelude.{◌==◌, ◌&&◌, Bool}
 use Rattle.ca_keys.specs.declared.place.Run.{Run}
 use Rattle.ca_held.specs.declared.part.BufferId.{BufferId}
 

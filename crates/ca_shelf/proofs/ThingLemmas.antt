@@ -1,12 +1,11 @@
 -- The thing of a name is the one that stands where its name comes first. For proofs only.
-use Rattle.std.proofs.Common.{◌≡◌, refl, sym, ap, ◌<◌, ◌+◌, arith, ℕ, suc, nat_lt, not, Bool, true, false, List, [], ◌∷◌, Option, None, Some, is_some, if◌then◌else◌, length, slice_set, slice_index_or, true≢false}
+use Rattle.std.proofs.Common.{◌≡◌, refl, sym, ap, ◌+◌, arith, ℕ, suc, nat_lt, not, Bool, true, false, List, [], ◌∷◌, None, Some, is_some, length, true≢false}
 use Rattle.std.proofs.lemmas.Bool.Decides.{nat_tests}
 use Rattle.std.specs.Option.{option_map_or}
 use mathlib.Core.Bool.{cond}
 use Rattle.std.specs.List.{position, position_or_len}
 use Rattle.ca_shelf.specs.declared.shelf.Named.{Named}
 use Rattle.ca_shelf.specs.Found.{IsFound, IsAbsent}
-use Rattle.ca_shelf.specs.Shelved.{thing_under}
 
 module _ {N T : Type 0} (same : N → N → Bool) (name : N) where
   abbrev place : List (Named N T) → ℕ

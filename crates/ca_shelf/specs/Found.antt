@@ -1,5 +1,5 @@
 -- Where the thing of a name stands. For proofs only.
-use Rattle.std.specs.Prelude.{◌≡◌, ℕ, ◌<◌, Bool, List, Option, None, Some, length, slice_index_or, slice_set}
+use Rattle.std.specs.Prelude.{◌≡◌, ℕ, ◌<◌, Bool, List, None, Some, length, slice_index_or, slice_set}
 use Rattle.std.specs.List.{remove}
 use Rattle.ca_shelf.specs.declared.shelf.Named.{Named}
 use Rattle.ca_shelf.specs.Shelved.{thing_under, with_thing, without_thing}

@@ -1,5 +1,5 @@
 -- What a shelf is once a reference to a thing on it has ended. Contracts cite it.
-use Rattle.std.specs.Prelude.{ℕ, Bool}
+use Rattle.std.specs.Prelude.{Bool}
 use Rattle.std.specs.Borrow.{Fml, RattleType, MutBor, Lends}
 use Rattle.ca_shelf.specs.Shelved.{Shelved, with_thing}
 use Rattle.ca_shelf.specs.contracts.shelf.Shelf.{the_row}
