@@ -1,0 +1,73 @@
+ghost use Rattle.std.specs.Prelude.{◌≡◌, ◌<◌, ◌≤◌, ◌^◌, ◌+◌, [], ◌∷◌, IfOk};
+ghost use Rattle.ca_model.specs.machine.VerbAnswers.{answer_mark};
+ghost use Rattle.ca_model.specs.declared.answer.Answer.TheVariants as answers;
+ghost use Rattle.ca_acts.specs.Calls.{call_of, call_ready};
+
+use ca_base::Memory;
+use ca_model::{Answer, Mark, Marks, Refusal, Verb};
+use std::alloc::Global;
+
+/// Who calls which verb, and where what comes of it takes its memory.
+pub struct Call<'a> {
+    pub alloc: Global,
+    pub by: u32,
+    pub verb: &'a Verb,
+}
+
+/// A call with a copy of its verb, and room for its marks: what is made before anything changes.
+#[derive(Drop)]
+pub struct Ready {
+    pub by: u32,
+    pub verb: Verb,
+    pub marks: Marks,
+}
+
+impl Call<'_> {
+    /// The verb's copy, and room for its answer and so many marks more.
+    pub fn ready(&self, more: u32) -> Result<Ready, Memory>
+        requires { more < 2 ^ 16 }
+        ensures call { IfOk result (λ r. call_ready r ≡ call_of self.now) }
+        ensures marks { IfOk result (λ r. r.marks.marks ≡ []) }
+        ensures room { IfOk result (λ r. more < r.marks.room) }
+    {
+        let mut marks = Marks::empty(self.alloc);
+        marks.reserve(more + 1)?;
+        Ok(Ready {
+            by: self.by,
+            verb: self.verb.clone()?,
+            marks,
+        })
+    }
+
+    /// The mark of the verb's answer, where nothing changes.
+    pub fn answer(&self, answer: Answer) -> Result<Marks, Memory>
+        ensures { IfOk result (λ m. m.marks ≡ answer_mark (call_of self.now) answer ∷ []) }
+    {
+        Ok(self.ready(0)?.answer(answer))
+    }
+
+    /// The mark of the verb's refusal.
+    pub fn refuse(&self, refusal: Refusal) -> Result<Marks, Memory>
+        ensures { IfOk result (λ m. m.marks ≡ answer_mark (call_of self.now) (answers.Refused refusal) ∷ []) }
+    {
+        self.answer(Answer::Refused(refusal))
+    }
+}
+
+impl Ready {
+    /// The mark of the verb's answer, in the room that was made. It takes no memory.
+    pub fn answer(self, answer: Answer) -> Marks
+        requires empty { self.marks.marks ≡ [] }
+        requires room { 0 < self.marks.room }
+        ensures marks { result.marks ≡ answer_mark (call_ready self) answer ∷ [] }
+        ensures room { self.marks.room ≤ result.room + 1 }
+    {
+        let Ready {
+            by,
+            verb,
+            mut marks,
+        } = self;
+        marks.push(Mark::Verb { by, verb, answer });
+        marks
+    }
+}

@@ -1,0 +1,30 @@
+ghost use Rattle.std.specs.Prelude.{◌<◌};
+ghost use Rattle.ca_model.specs.machine.QueuePairVerbs.{query_qp_plan};
+ghost use Rattle.ca_acts.specs.Act.{Acts, Suffices};
+ghost use Rattle.ca_acts.specs.Calls.{call_of};
+
+use crate::answers::Call;
+use ca_base::{QueueId, Slot, StepError};
+use ca_held::{Held, QueueSlot};
+use ca_model::{Answer, Marks, Refusal};
+
+/// QueryQp: the receives are those of its own queue.
+pub fn query_qp(call: &Call<'_>, held: &Held, slot: Slot) -> Result<Marks, StepError>
+    requires small { slot.slot < 256 }
+    requires suffices { Suffices held.now (query_qp_plan (call_of call.now) slot) }
+    ensures act { Acts result (query_qp_plan (call_of call.now) slot) held.now held.now }
+{
+    let QueueSlot::Present(queue) = held.queue(QueueId::of_slot(slot)) else {
+        return Ok(call.refuse(Refusal::NoSuch)?);
+    };
+    let receives = match &queue.receives {
+        Some(receives) => receives.occupied(),
+        None => 0,
+    };
+    Ok(call.answer(Answer::Query {
+        state: queue.state,
+        incarnation: queue.incarnation,
+        sends: queue.sends.occupied(),
+        receives,
+    })?)
+}

@@ -1,0 +1,2 @@
+mod ByteLemmas
+pub mod HoldLemmas

@@ -1,0 +1,118 @@
+-- What is held as a small world: vacant wherever nothing is held, beside a test of the names that are held. Contracts cite
+-- it.
+use Rattle.std.specs.Prelude.{ℕ, nat_lt, Bool, false, List, [], ◌∷◌, length, Option, None, Box}
+use Rattle.std.specs.Option.{option_map, option_map_or}
+use Rattle.ca_keys.specs.declared.names.DomainId.{DomainId}
+use Rattle.ca_keys.specs.declared.names.QueueId.{QueueId}
+use Rattle.ca_keys.specs.declared.names.Slot.{Slot}
+use Rattle.ca_keys.specs.declared.place.Place.{Place}
+use Rattle.ca_keys.specs.declared.place.Run.{Run}
+use Rattle.ca_keys.specs.Memory.{memory_after}
+use Rattle.ca_model.specs.machine.Frame.{AllPass}
+use Rattle.ca_model.specs.machine.Plan.{byte_names}
+use Rattle.ca_keys.specs.Equal.{domain_eq, queue_eq, slot_eq}
+use Rattle.ca_base.specs.objects.CompletionQueue.{CompletionQueue}
+use Rattle.ca_base.specs.objects.Domain.{Domain, free_domain}
+use Rattle.ca_base.specs.objects.Mailbox.{Mailbox, empty_mailbox}
+use Rattle.ca_base.specs.objects.QueuePair.{vacant_queue}
+use Rattle.ca_base.specs.objects.Region.{Region, vacant_region}
+use Rattle.ca_base.specs.objects.SharedReceives.{SrqSlot, vacant_srq}
+use Rattle.ca_base.specs.objects.Window.{Window, vacant_window}
+use Rattle.ca_memory.specs.Buffer.{memory_of}
+use Rattle.ca_model.specs.machine.World.{World, Name, Domain_of, Region_of, Window_of, Cq_of, Srq_of, Queue_of, Mailbox_of, Byte_at, Thing, put}
+use Rattle.ca_shelf.specs.Shelved.{has_thing, thing_under, with_thing}
+use Rattle.std.specs.declared.alloc.Global.{Global}
+use Rattle.ca_held.specs.declared.held.Held.{Held}
+use Rattle.ca_held.specs.declared.part.BufferId.{BufferId}
+use Rattle.ca_held.specs.Names.{buffer_eq}
+use Rattle.ca_held.specs.declared.part.QueueSlot as held_slots
+use Rattle.ca_held.specs.Parts.{slot_of}
+
+-- a small world, and the names of what is held in it
+pub record Holding : Type 0 where
+  pub world : World
+  pub has : Name → Bool
+
+-- the same with another thing under a name
+abbrev pub hold : Holding → (n : Name) → Thing n → Holding
+hold h n v = record h { world = put h.world n v }
+
+-- what stands there, or else what is vacant
+abbrev pub or_vacant : {A : Type 0} → A → Option A → A
+or_vacant vacant o = option_map_or (λ v. v) o vacant
+
+-- the buffer of a place
+abbrev pub buffer_of : Place → BufferId
+buffer_of p = record { adapter = p.adapter; index = p.buffer }
+
+-- the things that are held, vacant where none is
+abbrev pub held_world : Held → World
+held_world h = record {
+  domain = λ d. or_vacant free_domain (thing_under domain_eq d h.controls.things);
+  region = λ s. or_vacant vacant_region (thing_under slot_eq s h.reached.regions.things);
+  window = λ s. or_vacant (vacant_window s) (thing_under slot_eq s h.reached.windows.things);
+  cq = λ s. or_vacant None (thing_under slot_eq s h.cqs.things);
+  srq = λ s. or_vacant vacant_srq (thing_under slot_eq s h.srqs.things);
+  queue = λ q. or_vacant vacant_queue (option_map (λ b. slot_of b.value) (thing_under queue_eq q h.queues.things));
+  mailbox = λ q. or_vacant empty_mailbox (thing_under queue_eq q h.mailboxes.things);
+  byte = λ p. option_map_or (λ bytes. memory_of bytes p) (thing_under buffer_eq (buffer_of p) h.reached.buffers.things) 0;
+}
+
+-- the thing of this name is held; a byte where its buffer is, and has it
+abbrev pub is_held_name : Held → Name → Bool
+is_held_name h (Domain_of d) = has_thing domain_eq d h.controls.things
+is_held_name h (Region_of s) = has_thing slot_eq s h.reached.regions.things
+is_held_name h (Window_of s) = has_thing slot_eq s h.reached.windows.things
+is_held_name h (Cq_of s) = has_thing slot_eq s h.cqs.things
+is_held_name h (Srq_of s) = has_thing slot_eq s h.srqs.things
+is_held_name h (Queue_of q) = has_thing queue_eq q h.queues.things
+is_held_name h (Mailbox_of q) = has_thing queue_eq q h.mailboxes.things
+is_held_name h (Byte_at p) =
+    option_map_or (λ bytes. nat_lt p.offset (length bytes)) (thing_under buffer_eq (buffer_of p) h.reached.buffers.things) false
+
+-- what is held
+unfoldable pub holding : Held → Holding
+holding h = record { world = held_world h; has = is_held_name h }
+
+-- another thing under the name of a control that is held
+unfoldable pub with_control : Held → DomainId → Domain → Held
+with_control h name thing = record h { controls = record h.controls { things = with_thing domain_eq name thing h.controls.things } }
+
+-- another thing under the name of a mailbox that is held
+unfoldable pub with_mailbox : Held → QueueId → Mailbox → Held
+with_mailbox h name thing = record h { mailboxes = record h.mailboxes { things = with_thing queue_eq name thing h.mailboxes.things } }
+
+-- another thing under the name of a cq that is held
+unfoldable pub with_cq : Held → Slot → Option CompletionQueue → Held
+with_cq h name thing = record h { cqs = record h.cqs { things = with_thing slot_eq name thing h.cqs.things } }
+
+-- another thing under the name of a srq that is held
+unfoldable pub with_srq : Held → Slot → SrqSlot → Held
+with_srq h name thing = record h { srqs = record h.srqs { things = with_thing slot_eq name thing h.srqs.things } }
+
+-- another thing under the name of a queue that is held
+unfoldable pub with_queue : Held → QueueId → held_slots.QueueSlot → Held
+with_queue h name thing = option_map_or (by h) (thing_under queue_eq name h.queues.things) h
+  where
+    by : Held → Box held_slots.QueueSlot Global → Held
+    by h b = record h { queues = record h.queues { things = with_thing queue_eq name (record b { value = thing }) h.queues.things } }
+
+-- another thing under the name of a window that is held
+unfoldable pub with_window : Held → Slot → Window → Held
+with_window h name thing = record h { reached = record h.reached { windows = record h.reached.windows { things = with_thing slot_eq name thing h.reached.windows.things } } }
+
+-- another thing under the name of a region that is held
+unfoldable pub with_region : Held → Slot → Region → Held
+with_region h name thing = record h { reached = record h.reached { regions = record h.reached.regions { things = with_thing slot_eq name thing h.reached.regions.things } } }
+
+-- other bytes in a buffer that is held
+unfoldable pub with_buffer : Held → BufferId → List ℕ → Held
+with_buffer h name thing = record h { reached = record h.reached { buffers = record h.reached.buffers { things = with_thing buffer_eq name thing h.reached.buffers.things } } }
+
+-- what is held, with other bytes at the places of a run
+abbrev pub with_bytes : Holding → Run → List ℕ → Holding
+with_bytes h r bytes = record h { world = record h.world { byte = memory_after h.world.byte (r ∷ []) bytes } }
+
+-- all places of a run are held
+abbrev pub IsRunHeld : Holding → Run → Type 0
+IsRunHeld h r = AllPass h.has (byte_names (r ∷ []))

@@ -1,0 +1,3 @@
+pub mod Shelved
+pub mod Lending
+pub mod Found
