@@ -51,19 +51,6 @@ success-more q place next end x before between after one le less there first res
     whole = ap (λ k. success_from q.queue place (take k (items_from place q.sends))) far
         ∙ ap (λ ps. success_from q.queue place (take (suc (end - suc place)) ps)) (items_step q.sends place x le (sym there))
 
--- nothing is finished between a place and an earlier one
-success-past : (q : QueuePair) (place end : ℕ) (before : MarkList) → end ≤ place → AreAdded (success_between place end q) before before
-success-past q place end before le =
-    let none : end - place ≡ 0 = omega arith in
-    rw none (record { marks = sym (append-nil before.marks); room = omega arith })
-
--- the last of the requests that are finished
-pub success-last : (q : QueuePair) (place next end : ℕ) (x : PostedSend) (before after : MarkList) → next ≡ suc place
-    → q.sends.first ≤ place → place < end → end ≤ next → Some x ≡ item_at place q.sends
-    → AreAdded (success_marks q.queue place x.request) before after → AreAdded (success_between place end q) before after
-success-last q place next end x before after one le less last there first =
-    success-more q place next end x before after after one le less there first (success-past q next end after last)
-
 -- nothing is finished between a place and itself
 pub nothing-between : (q : QueuePair) (place end : ℕ) → end ≡ place → success_between place end q ≡ []
 nothing-between q place end e =

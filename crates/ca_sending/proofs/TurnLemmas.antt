@@ -1,5 +1,5 @@
 -- What a requester's turn does, by its kind.
-use Rattle.std.proofs.Common.{◌≡◌, ℕ, ◌+◌, ◌-◌, ◌<◌, ◌≤◌, nat_lt, ◌||◌, min, max, arith, Bool, true, false, true≢false, refl, ap, ◌∙◌, if◌then◌else◌, List, [], ◌∷◌, ◌++◌, drop, map, length, suc, sum_by, take, Option, None, Some, Result, Ok, Err}
+use Rattle.std.proofs.Common.{◌≡◌, ℕ, ◌+◌, ◌-◌, ◌<◌, ◌≤◌, nat_lt, ◌||◌, min, max, arith, Bool, true, false, true≢false, refl, ap, ◌∙◌, if◌then◌else◌, List, [], ◌∷◌, ◌++◌, drop, map, length, suc, sum_by, take, None, Some, Result, Ok, Err}
 use Rattle.std.proofs.Math.Seq.{take-append_seam}
 use Rattle.std.proofs.lemmas.Bool.{le-ltb}
 use Rattle.std.proofs.lemmas.Option.{same_Some}

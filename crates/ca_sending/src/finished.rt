@@ -1,4 +1,4 @@
-ghost use Rattle.std.specs.Prelude.{◌≡◌, ◌-◌, ◌≤◌, ◌<◌};
+ghost use Rattle.std.specs.Prelude.{◌≡◌, ◌-◌, ◌≤◌};
 ghost use Rattle.ca_base.specs.declared.limits.TheConstants.{MAX_DEPTH};
 ghost use Rattle.ca_model.specs.machine.Invariants.{IsQueue};
 ghost use Rattle.ca_model.specs.machine.Row.{queue_and_marks};
@@ -33,21 +33,20 @@ pub fn push_finished(q: &QueuePart, posting: u64, end: u64, marks: &mut Marks)
     }
 }
 
-/// The same, where there are some.
+/// The same, for where there mostly are some.
 fn push_finished_from(q: &QueuePart, posting: u64, end: u64, marks: &mut Marks)
     requires queue { IsQueue q.now }
     requires posted { q.now.sends.first ≤ posting }
-    requires some { posting < end }
     requires spare { end - posting ≤ marks.old.room }
     ensures { AreAdded (success_between posting end q.now) marks.old marks.new }
 {
+    if posting >= end {
+        return;
+    }
     let Some(posted) = q.sends.get(posting) else {
         return;
     };
     push_success(q.queue, posting, &posted.request, marks);
-    if posting + 1 >= end {
-        return;
-    }
     push_finished_from(q, posting + 1, end, marks)
 }
 
@@ -59,6 +58,6 @@ pub fn complete_before(q: &QueuePart, end: u64, marks: &mut Marks) -> Result<(),
         q.now q.now marks.old marks.new }
 {
     marks.reserve(finished_count(q, end) + SPARE_MARKS)?;
-    push_finished(q, q.requester.oldest, end, marks);
+    push_finished_from(q, q.requester.oldest, end, marks);
     Ok(())
 }

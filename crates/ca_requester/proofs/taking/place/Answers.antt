@@ -1,4 +1,4 @@
-use Rattle.std.proofs.Common.{◌+◌, ◌≤◌, ap, arith, refl, rules, subst}
+use Rattle.std.proofs.Common.{◌≤◌, ap, arith, refl, rules, subst}
 use Rattle.ca_base.specs.objects.QueuePair.{QueuePair}
 use Rattle.ca_rows.specs.Made.{AreAdded}
 use Rattle.ca_sending.proofs.FinishedLemmas.{few_finished}

@@ -1,7 +1,7 @@
 use Rattle.std.proofs.Common.{◌≡◌, Some, None, rules, arith, ◌+◌, subst}
 use Rattle.ca_base.specs.objects.QueuePair.{QueuePair}
 use Rattle.ca_base.specs.objects.WorkQueue.{item_at}
-use Rattle.ca_sending.proofs.FinishedLemmas.{success-last, success-more, success-none}
+use Rattle.ca_sending.proofs.FinishedLemmas.{success-more, success-none}
 use Rattle.ca_sending.proofs.NumberingLemmas.{step_list}
 use Rattle.ca_sending.proofs.finished.+push_finished_from.Goals as goal
 
@@ -20,9 +20,3 @@ returns t c =
     let Q : QueuePair → Type 0 = λ q. Some c.in-Some.posted.now ≡ item_at c.args.posting q.sends in
     success-more c.args.q.now c.args.posting (c.args.posting + 1) c.args.end c.in-Some.posted.now c.args.marks.now c.push_success.new.marks c.push_finished_from.new.marks
     (omega arith) (search rules) (search rules) (subst Q c.q.view_is (search rules)) (search rules) c.push_finished_from.ensures
-
-pub returns-then-posting-end : goal.returns-then-posting-end
-returns-then-posting-end t c =
-    let Q : QueuePair → Type 0 = λ q. Some c.in-Some.posted.now ≡ item_at c.args.posting q.sends in
-    success-last c.args.q.now c.args.posting (c.args.posting + 1) c.args.end c.in-Some.posted.now c.args.marks.now c.push_success.new.marks
-    (omega arith) (search rules) (search rules) (search rules) (subst Q c.q.view_is (search rules)) (search rules)

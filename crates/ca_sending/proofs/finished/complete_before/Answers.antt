@@ -7,5 +7,5 @@ pub returns : goal.returns
 returns c = record {
   queue = search rules;
   marks = search rules;
-  room = omega (arith, c.in_ok-reserve.ensures.room, c.push_finished.ensures.room, few_finished c.args.q.now c.q.inside.requester.oldest c.args.end, ap (λ (q : QueuePair). q.requester.oldest) c.q.view_is);
+  room = omega (arith, c.in_ok-reserve.ensures.room, c.push_finished_from.ensures.room, few_finished c.args.q.now c.q.inside.requester.oldest c.args.end, ap (λ (q : QueuePair). q.requester.oldest) c.q.view_is);
 }
