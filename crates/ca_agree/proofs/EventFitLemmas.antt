@@ -1,11 +1,10 @@
 -- The marks of every event fit it, and what the machine runs is a history. For proofs only.
-use Rattle.std.proofs.Common.{◌≡◌, ℕ, suc, Bool, true, false, List, [], ◌∷◌, map, Result, Ok, Err, refl, subst, ap, true≢false}
+use Rattle.std.proofs.Common.{◌≡◌, ℕ, suc, Bool, true, false, List, [], ◌∷◌, map, Ok, Err, subst, ap, true≢false}
 use Rattle.ca_agree.specs.Runs.{AreStamped, Comes, Leads}
-use Rattle.ca_agree.proofs.FitLemmas.{fits-deliver, fits-request, fits-respond, fits-timeout, fits-wake}
-use Rattle.ca_agree.proofs.LeadsLemmas.{comes}
-use Rattle.ca_agree.proofs.VerbFitLemmas.{fits-refused, fits-verb}
+use Rattle.ca_agree.proofs.FitLemmas.{Silent_turns, Turns, fits-deliver, fits-request, fits-respond, fits-timeout, fits-wake, plain}
+use Rattle.ca_agree.proofs.LeadsLemmas.{comes, leads-weaker}
+use Rattle.ca_agree.proofs.VerbFitLemmas.{Answers, AreAnswered, fits-refused, fits-verb}
 use Rattle.ca_base.specs.Configuration.{Configuration}
-use Rattle.ca_base.specs.declared.step.Reason.{Reason}
 use Rattle.ca_keys.specs.Memory.{ByteMap}
 use Rattle.ca_model.specs.Entries.{EntryValue}
 use Rattle.ca_model.specs.History.{FitTheEvent, IsHistory, IsHistoryFrom}
@@ -13,18 +12,33 @@ use Rattle.ca_model.specs.declared.answer.Refusal.TheVariants.{NoSuch}
 use Rattle.ca_model.specs.declared.event.Event.{Event}
 use Rattle.ca_model.specs.declared.event.Event.TheVariants as events
 use Rattle.ca_model.specs.declared.mark.Mark.{Mark}
+use Rattle.ca_model.specs.declared.verb.Verb.{Verb}
+use Rattle.ca_model.specs.machine.Delivery.{deliver_plan}
+use Rattle.ca_model.specs.machine.Turns.{timeout_plan, wake_plan}
+use Rattle.ca_model.specs.machine.VerbAnswers.{Call}
 use Rattle.ca_model.specs.machine.Plan.{Did, NotReady, Outcome}
 use Rattle.ca_model.specs.machine.Run.{Follows, Ran, go_on, run_from, with_marks}
 use Rattle.ca_model.specs.machine.Step.{plan, step}
 use Rattle.ca_model.specs.machine.World.{World, opening_world}
 
+answered-fits : (call : Call) (ms : List Mark) → AreAnswered call ms → FitTheEvent (events.Verb call.by call.verb) ms
+answered-fits call [] answered = absurd answered
+answered-fits call (m ∷ ms) answered = (answered.0, plain ms answered.1)
+
+-- the marks of a verb's event
+pub verb-answered : (c : Configuration) (w : World) (by : ℕ) (verb : Verb) → Leads w (Answers (record { by = by; verb = verb })) (plan c (events.Verb by verb))
+verb-answered c w by verb = (λ named. fits-verb c w (record { by = by; verb = verb }) verb, λ none. fits-refused w (record { by = by; verb = verb }) NoSuch)
+
 fits-event : (c : Configuration) (w : World) (event : Event) → Leads w (λ v ms. FitTheEvent event ms) (plan c event)
-fits-event c w (events.Verb by verb) = (λ named. fits-verb c w (record { by = by; verb = verb }) verb, λ none. fits-refused w (record { by = by; verb = verb }) NoSuch)
+fits-event c w (events.Verb by verb) = leads-weaker w (Answers call) (λ v ms. FitTheEvent (events.Verb by verb) ms) (plan c (events.Verb by verb)) (λ v ms. answered-fits call ms) (verb-answered c w by verb)
+  where
+    call : Call
+    call = record { by = by; verb = verb }
 fits-event c w (events.Request queue lot) = fits-request c w queue lot
-fits-event c w (events.Deliver queue index) = fits-deliver c w queue index
+fits-event c w (events.Deliver queue index) = leads-weaker w Silent_turns Turns (deliver_plan c queue index) (λ v ms. plain ms) (fits-deliver c w queue index)
 fits-event c w (events.Respond queue lot) = fits-respond c w queue lot
-fits-event c w (events.Timeout queue hasten) = fits-timeout c w queue hasten
-fits-event c w (events.RnrWake queue) = fits-wake c w queue
+fits-event c w (events.Timeout queue hasten) = leads-weaker w Silent_turns Turns (timeout_plan c queue hasten) (λ v ms. plain ms) (fits-timeout c w queue hasten)
+fits-event c w (events.RnrWake queue) = leads-weaker w Silent_turns Turns (wake_plan c queue) (λ v ms. plain ms) (fits-wake c w queue)
 
 pub event-fits : (c : Configuration) (event : Event) (w : World) → Comes (λ v ms. FitTheEvent event ms) (step c w event)
 event-fits c event w = comes w (λ v ms. FitTheEvent event ms) (plan c event) (fits-event c w event)

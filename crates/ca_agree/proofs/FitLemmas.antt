@@ -1,63 +1,40 @@
 -- The marks of every event fit it, and what the machine runs is a history. For proofs only.
-use Rattle.std.proofs.Common.{◌≡◌, ℕ, suc, ◌&&◌, ◌==◌, nat_lt, Bool, true, false, if◌then◌else◌, List, [], ◌∷◌, ◌++◌, map, take, length, Option, None, Some, Result, Ok, Err, refl, ap, subst, rules}
+use Rattle.std.proofs.Common.{ℕ, ◌&&◌, Bool, true, false, if◌then◌else◌, List, [], ◌∷◌, ◌++◌, Option, None, Some, rules}
 use Rattle.std.specs.Option.{option_map_or}
-use Rattle.ca_agree.specs.Runs.{AreStamped, Comes, Leads}
-use Rattle.ca_agree.proofs.InnerLemmas.{AreInner, IsInner, IsInnerMark, arrival-inner, flush-inner, inner-append, invalidate-inner, operation-inner, packet-inner, respond-inner, timeout-inner}
+use Rattle.ca_agree.specs.Runs.{Leads}
+use Rattle.ca_agree.proofs.InnerLemmas.{AreInner, IsInner, IsInnerMark, arrival-inner, packet-inner, respond-inner, timeout-inner}
 use Rattle.ca_agree.proofs.LeadsLemmas.{leads-around, leads-queue, leads-row, leads-unless}
 use Rattle.ca_agree.proofs.PerformLemmas.{leads-perform}
 use Rattle.ca_base.specs.Configuration.{Configuration}
-use Rattle.ca_base.specs.declared.change.Change.TheVariants as changes
 use Rattle.ca_base.specs.declared.correspondent.Correspondent.{Correspondent}
 use Rattle.ca_base.specs.declared.lot.Lot.{Lot}
-use Rattle.ca_base.specs.declared.refusals.OpRefusal.{OpRefusal}
-use Rattle.ca_base.specs.declared.request.SendOp.{SendOp}
-use Rattle.ca_base.specs.declared.request.SendOp.TheVariants as ops
-use Rattle.ca_base.specs.declared.step.Reason.{Reason}
 use Rattle.ca_base.specs.declared.step.Reason.TheVariants as reasons
 use Rattle.ca_base.specs.declared.step.Sent.{Sent}
 use Rattle.ca_base.specs.declared.step.Sent.TheVariants.{Silent, Spelt}
 use Rattle.ca_base.specs.objects.Mailbox.{Mailbox, after_delivery, bytes_lent, is_lost}
 use Rattle.ca_base.specs.objects.QueuePair.{QueuePair, QueueSlot, NoQueue, Present}
-use Rattle.ca_base.specs.objects.Region.{Region}
-use Rattle.ca_base.specs.objects.Slices.{slot_of_key}
-use Rattle.ca_base.specs.objects.Window.{Binding, Window}
-use Rattle.ca_keys.specs.Memory.{ByteMap}
-use Rattle.ca_keys.specs.declared.key.Key.{Key}
-use Rattle.ca_keys.specs.declared.names.DomainId.{DomainId}
 use Rattle.ca_keys.specs.declared.names.QueueId.{QueueId}
-use Rattle.ca_keys.specs.declared.names.Slot.{Slot}
-use Rattle.ca_keys.specs.declared.rights.Rights.{Rights}
-use Rattle.ca_model.specs.Entries.{EntryValue}
-use Rattle.ca_model.specs.History.{ArePlain, FitTheEvent, IsEntry, IsHistory, IsHistoryFrom, IsPlain}
-use Rattle.ca_model.specs.declared.answer.Answer.{Answer}
-use Rattle.ca_model.specs.declared.answer.Answer.TheVariants as answers
-use Rattle.ca_model.specs.declared.answer.Refusal.TheVariants.{NoSuch}
-use Rattle.ca_model.specs.declared.event.Event.{Event}
-use Rattle.ca_model.specs.declared.event.Event.TheVariants as events
+use Rattle.ca_model.specs.History.{ArePlain, IsPlain}
 use Rattle.ca_model.specs.declared.mark.Mark.{Mark}
 use Rattle.ca_model.specs.declared.mark.Mark.TheVariants as marks
-use Rattle.ca_model.specs.declared.verb.Verb.{Verb}
-use Rattle.ca_model.specs.declared.verb.Verb.TheVariants as verbs
 use Rattle.ca_model.specs.machine.Around.{Around, With_around, shared_in, updates_of}
 use Rattle.ca_model.specs.machine.Delivery.{Arrive, arrival_row, deliver_plan}
-use Rattle.ca_model.specs.machine.HostVerbs.{inject_plan}
-use Rattle.ca_model.specs.machine.LocalOperations.{Bind1_plan, Bind2_plan, Fast_plan, Finishing, Perform_op, PlacedRegion, With_former, With_named, bind1_changes, bind1_marks, bind1_refusal, bind2_changes, bind2_marks, bind2_refusal, drawn_by, fast_changes, fast_marks, fast_refusal, invalidate_row, operation_effects, region_slot, window_slot}
-use Rattle.ca_model.specs.machine.Numbering.{Numbered}
-use Rattle.ca_model.specs.machine.Plan.{Plan, Stuck, Look, If, Finish, Update, ◌:=◌, Write, unless_refused}
+use Rattle.ca_model.specs.machine.Plan.{Plan, Stuck, Look, Finish, Update, ◌:=◌, Write, unless_refused}
 use Rattle.ca_model.specs.machine.Requester.{Performs, RequestTurn, Sends, Waits, packet_row, turn_of}
 use Rattle.ca_model.specs.machine.Respond.{respond_refusals, respond_row}
-use Rattle.ca_model.specs.machine.Row.{Effects, Row, Row_plan, queue_and_marks, region_under, unless_none}
-use Rattle.ca_model.specs.machine.Run.{Follows, Ran, go_on, run_from, run_over, with_marks}
-use Rattle.ca_model.specs.machine.Step.{plan, step, verb_plan}
+use Rattle.ca_model.specs.machine.Row.{Effects, Row, Row_plan}
 use Rattle.ca_model.specs.machine.Timers.{after_timeout, after_wake, timeout_refusals, wake_refusals}
 use Rattle.ca_model.specs.machine.Turns.{Fire, Leave_plan, Packet, Request_around, Respond_around, Timeout_around, With_receives, has_room_for, packet_sent, reaches_peer, request_plan, respond_plan, sent_marks, timeout_plan, wake_plan}
-use Rattle.ca_model.specs.machine.VerbAnswers.{Answer_plan, Call, Refuse_plan, answer_mark}
-use Rattle.ca_model.specs.machine.World.{Mailbox_of, Queue_of, Region_of, Window_of, World, opening_world}
+use Rattle.ca_model.specs.machine.World.{Mailbox_of, Queue_of, World}
 use Rattle.ca_laws_sound.proofs.WorldLemmas.{RowDoes, around_in, shared_of}
 
 -- what holds of a turn's marks, whatever the world
 abbrev pub Turns : World → List Mark → Type 0
 Turns v ms = ArePlain ms
+
+-- the same of a turn that sends nothing
+abbrev pub Silent_turns : World → List Mark → Type 0
+Silent_turns v ms = AreInner ms
 
 plain-mark : (m : Mark) → IsInnerMark m → IsPlain m
 plain-mark (marks.Verb by verb answer) inner = inner
@@ -131,27 +108,27 @@ fits-respond c w name lot = leads-queue c w Turns name reasons.State (λ q. With
     by q None = leads-unless w Turns (respond_refusals true q) Stuck (Stuck reasons.Empty) (λ r. record {}) (record {})
     by q (Some peer) = fits-left c w q peer lot (respond_row (has_room_for q peer (w.mailbox peer.queue)) q) (respond-inner (has_room_for q peer (w.mailbox peer.queue)) q)
 
-pub fits-timeout : (c : Configuration) (w : World) (name : QueueId) (hasten : Bool) → Leads w Turns (timeout_plan c name hasten)
+pub fits-timeout : (c : Configuration) (w : World) (name : QueueId) (hasten : Bool) → Leads w Silent_turns (timeout_plan c name hasten)
 fits-timeout c w name hasten =
-    leads-queue c w Turns name reasons.State (λ q. Look (Mailbox_of name) (λ own. With_around q (λ a. Timeout_around hasten q own a q.peer)))
-    (λ q is. leads-around w Turns q (λ a. Timeout_around hasten q (w.mailbox name) a q.peer) (by q q.peer))
+    leads-queue c w Silent_turns name reasons.State (λ q. Look (Mailbox_of name) (λ own. With_around q (λ a. Timeout_around hasten q own a q.peer)))
+    (λ q is. leads-around w Silent_turns q (λ a. Timeout_around hasten q (w.mailbox name) a q.peer) (by q q.peer))
   where
-    fire : (q : QueuePair) (silent : Bool) → Leads w Turns (Fire hasten q (around_in w q (shared_of w q)) silent)
-    fire q silent = leads-unless w Turns (timeout_refusals silent hasten q) Stuck
+    fire : (q : QueuePair) (silent : Bool) → Leads w Silent_turns (Fire hasten q (around_in w q (shared_of w q)) silent)
+    fire q silent = leads-unless w Silent_turns (timeout_refusals silent hasten q) Stuck
         (Finish (updates_of q (around_in w q (shared_of w q)) (after_timeout silent q)) [] (after_timeout silent q).marks) (λ r. record {})
-        (plain (after_timeout silent q).marks (timeout-inner q silent).marks)
+        (timeout-inner q silent).marks
 
-    by : (q : QueuePair) (peer : Option Correspondent) → Leads w Turns (Timeout_around hasten q (w.mailbox name) (around_in w q (shared_of w q)) peer)
-    by q None = leads-unless w Turns (timeout_refusals false hasten q) Stuck (Stuck reasons.Empty) (λ r. record {}) (record {})
+    by : (q : QueuePair) (peer : Option Correspondent) → Leads w Silent_turns (Timeout_around hasten q (w.mailbox name) (around_in w q (shared_of w q)) peer)
+    by q None = leads-unless w Silent_turns (timeout_refusals false hasten q) Stuck (Stuck reasons.Empty) (λ r. record {}) (record {})
     by q (Some peer) = fire q _
 
 -- a packet that arrives, behind marks that come first
 pub fits-arrive : (c : Configuration) (w : World) (P : World → List Mark → Type 0) (q : QueuePair) (bytes : List ℕ) (envelope : Option ℕ) (pre : List Update) (ms : List Mark)
-    → ((v : World) (ns : List Mark) → ArePlain ns → P v (ms ++ marks.Arrived q.queue envelope ∷ ns)) → Leads w P (Arrive c q bytes envelope pre ms)
+    → ((v : World) (ns : List Mark) → AreInner ns → P v (ms ++ marks.Arrived q.queue envelope ∷ ns)) → Leads w P (Arrive c q bytes envelope pre ms)
 fits-arrive c w P q bytes envelope pre ms more =
     leads-around w P q (λ a. Row_plan c (arrival_row bytes envelope (shared_in a) q) (finish a))
     (leads-row c w P (IsInner q) (arrival_row bytes envelope (shared_in a) q) (finish a) (arrival-inner bytes envelope (shared_in a) q)
-    (λ e cs ws inner aside. more _ e.marks (plain e.marks inner.marks)))
+    (λ e cs ws inner aside. more _ e.marks inner.marks))
   where
     a : Around
     a = around_in w q (shared_of w q)
@@ -159,7 +136,7 @@ fits-arrive c w P q bytes envelope pre ms more =
     finish : Around → Effects → List Update → List Write → Plan
     finish a e more writes = Finish (pre ++ (updates_of q a e ++ more)) writes (ms ++ marks.Arrived q.queue envelope ∷ e.marks)
 
-pub fits-deliver : (c : Configuration) (w : World) (name : QueueId) (index : ℕ) → Leads w Turns (deliver_plan c name index)
+pub fits-deliver : (c : Configuration) (w : World) (name : QueueId) (index : ℕ) → Leads w Silent_turns (deliver_plan c name index)
 fits-deliver c w name index = (λ has. lent (bytes_lent index (w.mailbox name)), λ none. record {})
   where
     m : Mailbox
@@ -173,16 +150,16 @@ fits-deliver c w name index = (λ has. lent (bytes_lent index (w.mailbox name)),
     under_way None = Stuck reasons.NotKept
     under_way (Some bytes) = Look (Queue_of name) (at bytes)
 
-    there : (bytes : List ℕ) (s : QueueSlot) → Leads w Turns (at bytes s)
+    there : (bytes : List ℕ) (s : QueueSlot) → Leads w Silent_turns (at bytes s)
     there bytes (NoQueue incarnation timers) = record {}
-    there bytes (Present q) = fits-arrive c w Turns q bytes (Some index) ((Mailbox_of name := after_delivery index m) ∷ []) [] (λ v ns plain. (record {}, plain))
+    there bytes (Present q) = fits-arrive c w Silent_turns q bytes (Some index) ((Mailbox_of name := after_delivery index m) ∷ []) [] (λ v ns inner. (record {}, inner))
 
-    lent : (o : Option (List ℕ)) → Leads w Turns (under_way o)
+    lent : (o : Option (List ℕ)) → Leads w Silent_turns (under_way o)
     lent None = record {}
     lent (Some bytes) = there bytes (w.queue name)
 
-pub fits-wake : (c : Configuration) (w : World) (name : QueueId) → Leads w Turns (wake_plan c name)
-fits-wake c w name = leads-queue c w Turns name reasons.State (λ q. waking q q.peer) (λ q is. by q q.peer)
+pub fits-wake : (c : Configuration) (w : World) (name : QueueId) → Leads w Silent_turns (wake_plan c name)
+fits-wake c w name = leads-queue c w Silent_turns name reasons.State (λ q. waking q q.peer) (λ q is. by q q.peer)
   where
     wakes : QueuePair → Bool → Plan
     wakes q empty = unless_refused (wake_refusals empty q) Stuck (Finish ((Queue_of q.queue := Present (after_wake q).queue) ∷ []) [] (after_wake q).marks)
@@ -192,13 +169,13 @@ fits-wake c w name = leads-queue c w Turns name reasons.State (λ q. waking q q.
     waking q (Some peer) = Look (Queue_of peer.queue) (λ slot. Look (Mailbox_of peer.queue) (λ m.
         With_receives slot (λ empty. wakes q (reaches_peer q peer m && empty))))
 
-    wake : (q : QueuePair) (empty : Bool) → Leads w Turns (wakes q empty)
-    wake q empty = leads-unless w Turns (wake_refusals empty q) Stuck (Finish ((Queue_of q.queue := Present (after_wake q).queue) ∷ []) [] (after_wake q).marks)
+    wake : (q : QueuePair) (empty : Bool) → Leads w Silent_turns (wakes q empty)
+    wake q empty = leads-unless w Silent_turns (wake_refusals empty q) Stuck (Finish ((Queue_of q.queue := Present (after_wake q).queue) ∷ []) [] (after_wake q).marks)
         (λ r. record {}) (record {})
 
-    receives : (slot : QueueSlot) (k : Bool → Plan) → ((b : Bool) → Leads w Turns (k b)) → Leads w Turns (With_receives slot k)
+    receives : (slot : QueueSlot) (k : Bool → Plan) → ((b : Bool) → Leads w Silent_turns (k b)) → Leads w Silent_turns (With_receives slot k)
     receives slot k more = search rules
 
-    by : (q : QueuePair) (peer : Option Correspondent) → Leads w Turns (waking q peer)
-    by q None = leads-unless w Turns (wake_refusals false q) Stuck (Stuck reasons.Empty) (λ r. record {}) (record {})
+    by : (q : QueuePair) (peer : Option Correspondent) → Leads w Silent_turns (waking q peer)
+    by q None = leads-unless w Silent_turns (wake_refusals false q) Stuck (Stuck reasons.Empty) (λ r. record {}) (record {})
     by q (Some peer) = receives (w.queue peer.queue) (λ empty. wakes q (reaches_peer q peer (w.mailbox peer.queue) && empty)) (λ empty. wake q _)

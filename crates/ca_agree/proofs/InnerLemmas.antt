@@ -62,22 +62,21 @@ use Rattle.ca_packet.specs.Shapes.{ends}
 use Rattle.ca_model.specs.machine.Completions.{receive_mark}
 use Rattle.ca_model.specs.machine.Expected.{with_window_gone}
 use Rattle.ca_model.specs.machine.LocalOperations.{invalidate_row}
-use Rattle.std.specs.List.{flat_map, take_while}
+use Rattle.std.specs.List.{flat_map}
 use Rattle.ca_base.specs.declared.completion.WcStatus.{WcStatus}
 use Rattle.ca_base.specs.declared.request.PostedSend.{PostedSend}
 use Rattle.ca_base.specs.declared.request.RecvRequest.{RecvRequest}
 use Rattle.ca_base.specs.declared.request.SendRequest.{SendRequest}
 use Rattle.ca_base.specs.objects.LocalRequest.{LocalMarks}
-use Rattle.ca_base.specs.objects.QueuePair.{in_error, without_answers}
 use Rattle.ca_base.specs.objects.WorkQueue.{WorkQueue, items_from}
 use Rattle.ca_keys.specs.declared.access.Ask.{Ask}
 use Rattle.ca_keys.specs.declared.grant.Grant.{Grant}
 use Rattle.ca_keys.specs.declared.names.QueueId.{QueueId}
 use Rattle.ca_model.specs.declared.mark.Mark.{Mark}
 use Rattle.ca_model.specs.declared.mark.Mark.TheVariants as marks
-use Rattle.ca_model.specs.machine.Acknowledgements.{finished_marks, finished_requests, without_oldest}
-use Rattle.ca_model.specs.machine.Completions.{failure_mark, flush_marks, flushed_message, flushed_receives, flushed_sends, receive_failure, success_marks}
-use Rattle.ca_model.specs.machine.LocalOperations.{local_marks, after_operation}
+use Rattle.ca_model.specs.machine.Acknowledgements.{finished_requests, without_oldest}
+use Rattle.ca_model.specs.machine.Completions.{failure_mark, flush_marks, flushed_message, flushed_receives, flushed_sends, success_marks}
+use Rattle.ca_model.specs.machine.LocalOperations.{local_marks}
 use Rattle.ca_model.specs.machine.Requester.{local_reads}
 use Rattle.ca_model.specs.machine.Timers.{after_timeout}
 use Rattle.ca_laws_sound.proofs.WorldLemmas.{EndingDoes, RowDoes}

@@ -22,7 +22,7 @@ use Rattle.ca_model.specs.declared.mark.Mark.{Mark}
 use Rattle.ca_model.specs.machine.Around.{Around, With_around, With_queue}
 use Rattle.ca_model.specs.machine.Plan.{Plan, Stuck, Look, Read, If, Finish, Update, ◌:=◌, Write, perform, unless_refused}
 use Rattle.ca_model.specs.machine.Row.{Ending, NotPossible, Does, Effects, Row, Row_plan, End_plan, With_grant, With_grants, With_bytes, With_writes, With_invalidation, first_denied_by, region_under, unless_none}
-use Rattle.ca_model.specs.machine.World.{World, Name, Queue_of, Region_of, Srq_of, Window_of, get}
+use Rattle.ca_model.specs.machine.World.{World, Name, Region_of, Srq_of, Window_of, get}
 use Rattle.ca_laws_sound.proofs.WorldLemmas.{EndingDoes, RowDoes, around_in, shared_of}
 
 -- what a plan that leads somewhere comes to
@@ -33,6 +33,14 @@ comes w P (Read runs k) leads = comes w P (k (bytes_at w.byte runs)) leads
 comes w P (If true p q) leads = comes w P p (leads.0 refl)
 comes w P (If false p q) leads = comes w P q (leads.1 refl)
 comes w P (Finish changes writes marks) leads = leads
+
+-- where a plan leads to one thing it leads to what follows
+pub leads-weaker : (w : World) (P Q : World → List Mark → Type 0) (p : Plan) → ((v : World) (ms : List Mark) → P v ms → Q v ms) → Leads w P p → Leads w Q p
+leads-weaker w P Q (Stuck reason) follows leads = record {}
+leads-weaker w P Q (Look n k) follows leads = leads-weaker w P Q (k (get w n)) follows leads
+leads-weaker w P Q (Read runs k) follows leads = leads-weaker w P Q (k (bytes_at w.byte runs)) follows leads
+leads-weaker w P Q (If test p q) follows leads = (λ is. leads-weaker w P Q p follows (leads.0 is), λ is. leads-weaker w P Q q follows (leads.1 is))
+leads-weaker w P Q (Finish changes writes marks) follows leads = follows _ marks leads
 
 pub leads-unless : {R : Type 0} (w : World) (P : World → List Mark → Type 0) (tests : List (Bool × R)) (refuse : R → Plan) (p : Plan) → ((r : R) → Leads w P (refuse r)) → Leads w P p
     → Leads w P (unless_refused tests refuse p)

@@ -9,3 +9,4 @@ pub mod PathTurnLemmas
 pub mod PathVerbLemmas
 pub mod PathChangeLemmas
 pub mod PathEventLemmas
+pub mod IndexLemmas

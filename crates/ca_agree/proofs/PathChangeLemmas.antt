@@ -1,64 +1,40 @@
 -- Changes of queue pairs keep the agreement on paths, and so does every event. For proofs only.
-use Rattle.std.proofs.Common.{◌≡◌, ℕ, suc, ◌&&◌, ◌||◌, ◌==◌, not, nat_lt, is_none, Bool, true, false, if◌then◌else◌, List, [], ◌∷◌, ◌++◌, map, take, length, Option, None, Some, refl, sym, ap, subst, rules, ◌∙◌}
+use Rattle.std.proofs.Common.{◌≡◌, ℕ, suc, Bool, true, false, if◌then◌else◌, List, [], ◌∷◌, map, length, Option, None, Some, refl, sym, ap, subst, ◌∙◌}
 use Rattle.std.proofs.lemmas.List.{length-map}
-use Rattle.std.specs.Option.{option_map, option_map_or, option_and_then}
+use Rattle.std.specs.Option.{option_map}
 use Rattle.ca_agree.specs.Agreement.{AgreeOnPaths, PathsAgree, peer_in, peer_named}
 use Rattle.ca_agree.specs.Runs.{Leads}
 use Rattle.ca_agree.proofs.InnerLemmas.{AreInner, flush-inner}
 use Rattle.ca_agree.proofs.LeadsLemmas.{leads-around, leads-unless}
-use Rattle.ca_agree.proofs.PathLemmas.{AreKept, KeepsPaths, SamePaths, agree-kept, begin-same, inner-past, kept-puts, kept-writes, same-past, same-world}
-use Rattle.ca_agree.proofs.PathTurnLemmas.{Agrees, agrees-arrive, agrees-deliver, agrees-request, agrees-respond, agrees-timeout, agrees-wake, found}
-use Rattle.ca_agree.proofs.PathVerbLemmas.{AgreesBy, agree-answer, agree-more, agrees-post_recv, agrees-post_send, agrees-present, call_of, queue-kept}
+use Rattle.ca_agree.proofs.PathLemmas.{AreKept, SamePaths}
+use Rattle.ca_agree.proofs.PathVerbLemmas.{AgreesBy, agree-answer, agree-more, agrees-present, call_of, queue-kept}
 use Rattle.ca_base.specs.Configuration.{Configuration}
 use Rattle.ca_base.specs.declared.change.Change as state_change
 use Rattle.ca_base.specs.declared.change.Change.TheVariants as changes
-use Rattle.ca_base.specs.declared.change.Field.TheVariants as fields
-use Rattle.ca_base.specs.declared.change.State.TheVariants as states
-use Rattle.ca_base.specs.declared.completion.Completion.{Completion}
-use Rattle.ca_base.specs.declared.correspondent.Correspondent.{Correspondent}
-use Rattle.ca_base.specs.declared.limits.TheConstants.{MAX_POLLED}
-use Rattle.ca_base.specs.declared.request.RecvRequest.{RecvRequest}
-use Rattle.ca_base.specs.declared.request.SendOp.{SendOp}
-use Rattle.ca_base.specs.declared.request.SendOp.TheVariants as ops
-use Rattle.ca_base.specs.declared.request.SendRequest.{SendRequest}
-use Rattle.ca_base.specs.declared.step.Reason.TheVariants as reasons
-use Rattle.ca_base.specs.objects.CompletionQueue.{CompletionQueue, after_polls, after_puts, after_reserve, without_completions}
-use Rattle.ca_base.specs.objects.Domain.{Domain, with_object, without_object}
 use Rattle.ca_base.specs.objects.Mailbox.{Mailbox, with_peer}
-use Rattle.ca_base.specs.objects.QueuePair.{QueuePair, QueueSlot, NoQueue, Present, incarnation_of, recv_cq_of, send_cq_of, srq_of, with_all_flushed}
+use Rattle.ca_base.specs.objects.QueuePair.{QueuePair, QueueSlot, Present, incarnation_of, srq_of}
 use Rattle.ca_base.specs.objects.SharedReceives.{SharedReceives, SrqSlot, after_receives_retire}
-use Rattle.ca_base.specs.objects.StateTable.{modify_refusals, queue_after_change, state_eq}
-use Rattle.ca_base.specs.objects.Window.{Window, after_draw, byte_drawn}
-use Rattle.ca_base.specs.objects.WorkQueue.{with_item}
+use Rattle.ca_base.specs.objects.StateTable.{modify_refusals, queue_after_change}
 use Rattle.ca_keys.specs.Equal.{queue_eq}
-use Rattle.ca_keys.specs.Numbers.{key_at, queue_of, window_index}
-use Rattle.ca_keys.specs.declared.key.Key.{Key}
+use Rattle.ca_keys.specs.Numbers.{queue_of}
 use Rattle.ca_keys.specs.declared.names.QueueId.{QueueId}
 use Rattle.ca_keys.specs.declared.names.Slot.{Slot}
-use Rattle.ca_model.specs.Past.{Envelope, Naming, Past, after_mark, after_marks, at_begin, with_at, with_cut, with_queue_emptied}
+use Rattle.ca_model.specs.Past.{Naming, Past, after_mark, after_marks, at_begin, with_at, with_cut, with_queue_emptied}
 use Rattle.ca_model.specs.declared.answer.Answer.{Answer}
 use Rattle.ca_model.specs.declared.answer.Answer.TheVariants as answers
 use Rattle.ca_model.specs.declared.answer.Refusal.{Refusal}
-use Rattle.ca_model.specs.declared.answer.Refusal.TheVariants.{NoSuch, OutOfRange, NoDomain, SlotTaken, CqTooSmall, WindowsBound}
-use Rattle.ca_model.specs.declared.event.Event.{Event}
 use Rattle.ca_model.specs.declared.event.Event.TheVariants as events
 use Rattle.ca_model.specs.declared.mark.Mark.{Mark}
-use Rattle.ca_model.specs.declared.mark.Mark.TheVariants as marks
 use Rattle.ca_model.specs.declared.verb.Verb.{Verb}
 use Rattle.ca_model.specs.declared.verb.Verb.TheVariants as verbs
-use Rattle.ca_model.specs.machine.Around.{Around, With_around, completions_to, cq_updates, srq_updates}
+use Rattle.ca_model.specs.machine.Around.{Around, With_around, cq_updates, srq_updates}
 use Rattle.ca_model.specs.machine.Completions.{flush_marks}
-use Rattle.ca_model.specs.machine.CompletionVerbs.{Poll_of, Take_plan, With_place, With_places, poll_plan, slot_after_poll}
-use Rattle.ca_model.specs.machine.Delivery.{Arrive}
-use Rattle.ca_model.specs.machine.HostVerbs.{inject_plan}
-use Rattle.ca_model.specs.machine.Plan.{Plan, If, Look, Stuck, Update, ◌:=◌, Write, put_all, unless_refused, write_all}
-use Rattle.ca_model.specs.machine.PostingVerbs.{Posted_send, after_flush, marks_of_flush, post_recv_plan, post_recv_refusals, post_send_plan, post_send_refusals, with_send}
-use Rattle.ca_model.specs.machine.QueuePairVerbs.{Creation, With_present, With_shared, before_receives, beside, create_qp_plan, destroy_qp_plan, emptied_mailbox, emptied_updates, has_bad_depth, has_no_room, has_queues, left_updates, modify_qp_plan, new_queue, places_held, receive_reserve, receive_room, send_reserved, user_updates, without_queue}
-use Rattle.ca_model.specs.machine.Sound.{IsQueueOf, IsSoundWorld}
-use Rattle.ca_model.specs.machine.Step.{plan, verb_plan}
+use Rattle.ca_model.specs.machine.Plan.{Update, ◌:=◌, put_all}
+use Rattle.ca_model.specs.machine.QueuePairVerbs.{emptied_mailbox, emptied_updates, modify_qp_plan, places_held}
+use Rattle.ca_model.specs.machine.Sound.{IsSoundWorld}
 use Rattle.ca_model.specs.machine.VerbAnswers.{Answer_plan, Call, Refuse_plan, Unless_plan, answer_mark, of_change_refusals}
-use Rattle.ca_model.specs.machine.World.{Cq_of, Domain_of, Mailbox_of, Queue_of, Srq_of, Window_of, World}
-use Rattle.ca_laws_sound.proofs.WorldLemmas.{around_in, is-there, shared_of}
+use Rattle.ca_model.specs.machine.World.{Mailbox_of, Queue_of, Srq_of, World}
+use Rattle.ca_laws_sound.proofs.WorldLemmas.{around_in, shared_of}
 use Rattle.ca_laws_sound.proofs.SettledLemmas.{queue-path, queue-refl}
 
 srq-kept : (v : World) (q : QueuePair) (a : Around) (f : SharedReceives → SharedReceives) → AreKept v (srq_updates q a f)

@@ -1,62 +1,44 @@
 -- Every event keeps the agreement on paths. For proofs only.
-use Rattle.std.proofs.Common.{◌≡◌, ℕ, suc, ◌-◌, ◌&&◌, ◌||◌, ◌==◌, not, nat_lt, is_none, Bool, true, false, if◌then◌else◌, List, [], ◌∷◌, ◌++◌, map, take, length, Option, None, Some, Ok, Err, refl, sym, ap, subst, rules, ◌∙◌}
-use Rattle.std.proofs.lemmas.List.{length-map}
-use Rattle.std.specs.Option.{option_map, option_map_or, option_and_then}
+use Rattle.std.proofs.Common.{◌≡◌, ℕ, suc, ◌-◌, ◌&&◌, ◌||◌, ◌==◌, not, nat_lt, is_none, Bool, true, false, if◌then◌else◌, List, [], ◌∷◌, map, take, length, Option, None, Some, Ok, Err, refl, sym, ap, subst, rules, ◌∙◌}
+use Rattle.std.specs.Option.{option_map, option_and_then}
 use Rattle.ca_agree.specs.Agreement.{AgreeOnPaths, HoldsAlong, PathsAgree, peer_in, peer_named}
 use Rattle.ca_agree.specs.Runs.{Comes, Leads}
-use Rattle.ca_agree.proofs.InnerLemmas.{AreInner, flush-inner}
 use Rattle.ca_agree.proofs.LeadsLemmas.{comes, leads-around, leads-unless}
-use Rattle.ca_agree.proofs.PathLemmas.{AreKept, IsKept, KeepsPaths, SamePaths, agree-kept, begin-same, inner-past, kept-puts, kept-writes, same-past, same-world}
+use Rattle.ca_agree.proofs.PathLemmas.{AreKept, IsKept}
 use Rattle.ca_agree.proofs.PathTurnLemmas.{Agrees, agrees-arrive, agrees-deliver, agrees-request, agrees-respond, agrees-timeout, agrees-wake, found}
 use Rattle.ca_agree.proofs.PathChangeLemmas.{agrees-modify, at-place, cut-lengths, replaced, Behind}
-use Rattle.ca_agree.proofs.PathVerbLemmas.{AgreesBy, agree-answer, agree-more, agrees-post_recv, agrees-post_send, agrees-present, call_of, queue-kept}
+use Rattle.ca_agree.proofs.PathVerbLemmas.{AgreesBy, agree-answer, agree-more, agrees-post_recv, agrees-post_send, agrees-present, call_of}
 use Rattle.ca_base.specs.Configuration.{Configuration}
-use Rattle.ca_base.specs.declared.change.Change as state_change
-use Rattle.ca_base.specs.declared.change.Change.TheVariants as changes
 use Rattle.ca_base.specs.declared.change.Field.TheVariants as fields
-use Rattle.ca_base.specs.declared.change.State.TheVariants as states
 use Rattle.ca_base.specs.declared.completion.Completion.{Completion}
-use Rattle.ca_base.specs.declared.correspondent.Correspondent.{Correspondent}
 use Rattle.ca_base.specs.declared.limits.TheConstants.{MAX_POLLED}
-use Rattle.ca_base.specs.declared.request.RecvRequest.{RecvRequest}
-use Rattle.ca_base.specs.declared.request.SendOp.{SendOp}
-use Rattle.ca_base.specs.declared.request.SendOp.TheVariants as ops
-use Rattle.ca_base.specs.declared.request.SendRequest.{SendRequest}
 use Rattle.ca_base.specs.declared.step.Reason.TheVariants as reasons
-use Rattle.ca_base.specs.objects.CompletionQueue.{CompletionQueue, after_polls, after_puts, after_reserve, without_completions}
+use Rattle.ca_base.specs.objects.CompletionQueue.{CompletionQueue, after_polls, after_reserve}
 use Rattle.ca_base.specs.objects.Domain.{Domain, with_object, without_object}
 use Rattle.ca_base.specs.objects.Mailbox.{Mailbox, with_peer}
-use Rattle.ca_base.specs.objects.QueuePair.{QueuePair, QueueSlot, NoQueue, Present, incarnation_of, is_present, recv_cq_of, send_cq_of, srq_of, with_all_flushed}
+use Rattle.ca_base.specs.objects.QueuePair.{QueuePair, QueueSlot, NoQueue, Present, incarnation_of, is_present, recv_cq_of, send_cq_of}
 use Rattle.ca_base.specs.objects.SharedReceives.{SharedReceives, SrqSlot, after_receives_retire}
-use Rattle.ca_base.specs.objects.StateTable.{modify_refusals, queue_after_change, state_eq}
-use Rattle.ca_base.specs.objects.Window.{Window, after_draw, byte_drawn}
-use Rattle.ca_base.specs.objects.WorkQueue.{after_retire, with_item}
+use Rattle.ca_base.specs.objects.WorkQueue.{after_retire}
 use Rattle.ca_keys.specs.Equal.{queue_eq}
 use Rattle.ca_keys.specs.Memory.{ByteMap}
-use Rattle.ca_keys.specs.Numbers.{key_at, queue_of, window_index}
-use Rattle.ca_keys.specs.declared.key.Key.{Key}
+use Rattle.ca_keys.specs.Numbers.{queue_of}
 use Rattle.ca_keys.specs.declared.names.QueueId.{QueueId}
 use Rattle.ca_keys.specs.declared.names.Slot.{Slot}
-use Rattle.ca_model.specs.Past.{with_at, Envelope, Naming, Past, after_mark, after_marks, after_entry, at_begin, opening_past}
-use Rattle.ca_model.specs.declared.answer.Answer.{Answer}
+use Rattle.ca_model.specs.Past.{with_at, Past, after_marks, after_entry, at_begin, opening_past}
 use Rattle.ca_model.specs.declared.answer.Answer.TheVariants as answers
-use Rattle.ca_model.specs.declared.answer.Refusal.{Refusal}
 use Rattle.ca_model.specs.declared.answer.Refusal.TheVariants.{NoSuch, OutOfRange, NoDomain, SlotTaken, CqTooSmall, WindowsBound}
 use Rattle.ca_model.specs.declared.event.Event.{Event}
 use Rattle.ca_model.specs.declared.event.Event.TheVariants as events
 use Rattle.ca_model.specs.declared.mark.Mark.{Mark}
-use Rattle.ca_model.specs.declared.mark.Mark.TheVariants as marks
 use Rattle.ca_model.specs.declared.verb.Verb.{Verb}
 use Rattle.ca_model.specs.declared.verb.Verb.TheVariants as verbs
-use Rattle.ca_model.specs.machine.Around.{Around, With_around, completions_to, cq_updates, srq_updates}
-use Rattle.ca_model.specs.machine.Completions.{flush_marks}
+use Rattle.ca_model.specs.machine.Around.{Around}
 use Rattle.ca_model.specs.machine.CompletionVerbs.{Poll_of, Take_plan, With_place, With_places, after_poll, poll_plan, receives_after_poll, slot_after_poll, source_of_completion}
 use Rattle.ca_model.specs.machine.Delivery.{Arrive}
 use Rattle.ca_model.specs.machine.HostVerbs.{inject_plan}
-use Rattle.ca_model.specs.machine.Plan.{Did, NotReady, Outcome, Plan, If, Look, Stuck, Update, ◌:=◌, Write, put_all, unless_refused, write_all}
-use Rattle.ca_model.specs.machine.PostingVerbs.{Posted_send, after_flush, marks_of_flush, post_recv_plan, post_recv_refusals, post_send_plan, post_send_refusals, with_send}
-use Rattle.ca_model.specs.machine.QueuePairVerbs.{Creation, With_present, With_shared, before_receives, beside, create_qp_plan, destroy_qp_plan, emptied_mailbox, emptied_updates, has_bad_depth, has_no_room, has_queues, left_updates, modify_qp_plan, new_queue, places_held, receive_reserve, receive_room, send_reserved, user_updates, without_queue}
-use Rattle.ca_model.specs.machine.Sound.{AreLimited, CanBeMade, IsQueueOf, IsSoundWorld}
+use Rattle.ca_model.specs.machine.Plan.{Did, NotReady, Outcome, Plan, If, Look, Stuck, Update, ◌:=◌, put_all}
+use Rattle.ca_model.specs.machine.QueuePairVerbs.{Creation, With_shared, before_receives, beside, create_qp_plan, destroy_qp_plan, emptied_mailbox, has_bad_depth, has_no_room, has_queues, left_updates, new_queue, places_held, receive_reserve, receive_room, send_reserved, user_updates, without_queue}
+use Rattle.ca_model.specs.machine.Sound.{AreLimited, CanBeMade, IsSoundWorld}
 use Rattle.ca_model.specs.machine.Frame.{Afterwards}
 use Rattle.ca_model.specs.machine.Run.{Follows, Ran, go_on, run_from}
 use Rattle.ca_model.specs.Entries.{EntryValue}
@@ -64,10 +46,10 @@ use Rattle.ca_agree.proofs.EventFitLemmas.{first-marks}
 use Rattle.ca_laws_sound.proofs.SoundLemmas.{event-sound, opening-sound}
 use Rattle.std.specs.List.{AllByRecursion}
 use Rattle.ca_model.specs.machine.Step.{plan, step, verb_plan}
-use Rattle.ca_model.specs.machine.VerbAnswers.{Answer_plan, Call, Refuse_plan, Unless_plan, answer_mark, of_change_refusals}
-use Rattle.ca_model.specs.machine.World.{Cq_of, Domain_of, Mailbox_of, Queue_of, Srq_of, Window_of, World, opening_world}
-use Rattle.ca_laws_sound.proofs.WorldLemmas.{around_in, is-there, shared_of}
-use Rattle.ca_laws_sound.proofs.SettledLemmas.{queue-path, queue-refl}
+use Rattle.ca_model.specs.machine.VerbAnswers.{Answer_plan, Call, Refuse_plan, Unless_plan, answer_mark}
+use Rattle.ca_model.specs.machine.World.{Cq_of, Domain_of, Mailbox_of, Queue_of, Srq_of, World, opening_world}
+use Rattle.ca_laws_sound.proofs.WorldLemmas.{around_in, shared_of}
+use Rattle.ca_laws_sound.proofs.SettledLemmas.{queue-path}
 
 -- a queue pair is made
 create-agrees : (past : Past) (w : World) (by : ℕ) (x : Creation) (domain : Domain) (send recv : CompletionQueue) (slot : Option SrqSlot) (shared : Option SharedReceives) (number : ℕ) → PathsAgree past w
@@ -160,10 +142,13 @@ agrees-create c past w by x agree =
     there send recv slot shared = Refuse_plan call NoSuch
 
     found-both : (send recv : CompletionQueue) (slot : Option SrqSlot) (shared : Option SharedReceives) → Leads w P (there (Some send) (Some recv) slot shared)
-    found-both send recv slot shared = (λ missing. agree, λ there. leads-unless w P ((has_bad_depth x, OutOfRange fields.Depth) ∷ (has_no_room x shared send recv, CqTooSmall) ∷ []) (Refuse_plan call)
-        (made send recv slot shared) (λ r. agree)
-        (create-agrees past w by x (with_object (w.domain x.slot.domain)) (send_reserved x send) (after_reserve (receive_reserve x) (receive_room x shared) (before_receives x send recv)) slot shared
-        place.number agree))
+    found-both send recv slot shared = (
+      λ missing. agree,
+      λ there. leads-unless w P ((has_bad_depth x, OutOfRange fields.Depth) ∷ (has_no_room x shared send recv, CqTooSmall) ∷ []) (Refuse_plan call)
+          (made send recv slot shared) (λ r. agree)
+          (create-agrees past w by x (with_object (w.domain x.slot.domain)) (send_reserved x send) (after_reserve (receive_reserve x) (receive_room x shared) (before_receives x send recv)) slot shared
+          place.number agree),
+    )
 
     both : (send recv : Option CompletionQueue) (slot : Option SrqSlot) (shared : Option SharedReceives) → Leads w P (there send recv slot shared)
     both None recv slot shared = agree
@@ -422,8 +407,11 @@ opening-agrees bytes = record { incarnations = λ q. refl; peers = λ q. refl; o
 along : (c : Configuration) (n : ℕ) (es : List EntryValue) (past : Past) (w : World) → AreLimited c → AllByRecursion (λ e. CanBeMade e.event) es → IsSoundWorld c w → PathsAgree past w
     → run_from c n w (map (λ e. e.event) es) ≡ Ok (map (λ e. e.marks) es) → HoldsAlong PathsAgree c past w es
 along c n [] past w limited made sound agree follows = agree
-along c n (e ∷ es) past w limited made sound agree follows = (agree, by (step c w e.event) (event-agrees c past w e.event sound agree) (event-sound c e.event w limited sound made.0) follows
-    (λ v whole next told. along c (suc n) es (after_entry e past) v limited made.1 whole next told))
+along c n (e ∷ es) past w limited made sound agree follows = (
+  agree,
+  by (step c w e.event) (event-agrees c past w e.event sound agree) (event-sound c e.event w limited sound made.0) follows
+      (λ v whole next told. along c (suc n) es (after_entry e past) v limited made.1 whole next told),
+)
   where
     Rest : Type 0
     Rest = (v : World) → IsSoundWorld c v → PathsAgree (after_entry e past) v → run_from c (suc n) v (map (λ e. e.event) es) ≡ Ok (map (λ e. e.marks) es)

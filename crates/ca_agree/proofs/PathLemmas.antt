@@ -1,21 +1,21 @@
 -- What keeps the agreement on paths: marks that tell of none, and changes that leave incarnations, peers and indices. For
 -- proofs only.
-use Rattle.std.proofs.Common.{◌≡◌, ℕ, suc, Bool, true, false, if◌then◌else◌, List, [], ◌∷◌, ◌++◌, length, Option, None, Some, refl, sym, ap, subst, ◌∙◌, ◌==◌}
-use Rattle.std.specs.Option.{option_map, option_map_or}
-use Rattle.ca_agree.specs.Agreement.{AgreeOnPaths, PathsAgree, peer_in, peer_named}
+use Rattle.std.proofs.Common.{◌≡◌, ℕ, Bool, true, false, if◌then◌else◌, List, [], ◌∷◌, ◌++◌, length, Option, None, Some, refl, sym, ap, ◌∙◌}
+use Rattle.std.specs.Option.{option_map}
+use Rattle.ca_agree.specs.Agreement.{PathsAgree, peer_in, peer_named}
 use Rattle.ca_agree.proofs.InnerLemmas.{AreInner, IsInner, IsInnerMark}
 use Rattle.ca_agree.proofs.LeadsLemmas.{AreAside, IsAsideName}
 use Rattle.ca_base.specs.objects.Mailbox.{Mailbox}
-use Rattle.ca_base.specs.objects.QueuePair.{QueuePair, QueueSlot, NoQueue, Present, incarnation_of, srq_of}
-use Rattle.ca_base.specs.objects.SharedReceives.{SharedReceives, SrqSlot, after_receive_take}
+use Rattle.ca_base.specs.objects.QueuePair.{QueuePair, Present, incarnation_of, srq_of}
+use Rattle.ca_base.specs.objects.SharedReceives.{SrqSlot, after_receive_take}
 use Rattle.ca_keys.specs.Equal.{queue_eq}
 use Rattle.ca_keys.specs.Memory.{memory_after}
 use Rattle.ca_keys.specs.declared.names.QueueId.{QueueId}
-use Rattle.ca_model.specs.Past.{Envelope, Past, after_mark, after_marks, at_begin, with_lost}
+use Rattle.ca_model.specs.Past.{Past, after_mark, after_marks, at_begin}
 use Rattle.ca_model.specs.declared.event.Event.{Event}
 use Rattle.ca_model.specs.declared.mark.Mark.{Mark}
 use Rattle.ca_model.specs.declared.mark.Mark.TheVariants as marks
-use Rattle.ca_model.specs.machine.Around.{Around, cq_updates, srq_updates, updates_of}
+use Rattle.ca_model.specs.machine.Around.{Around, srq_updates, updates_of}
 use Rattle.ca_model.specs.machine.Plan.{Update, ◌:=◌, Write, put_all, write_all}
 use Rattle.ca_model.specs.machine.Row.{Effects}
 use Rattle.ca_model.specs.machine.World.{World, Name, Domain_of, Region_of, Window_of, Cq_of, Srq_of, Queue_of, Mailbox_of, Byte_at, Thing, put}

@@ -1,11 +1,11 @@
 -- Turns keep the agreement on paths. For proofs only.
-use Rattle.std.proofs.Common.{◌≡◌, ℕ, suc, ◌&&◌, ◌==◌, Bool, true, false, if◌then◌else◌, List, [], ◌∷◌, ◌++◌, length, Option, None, Some, refl, sym, ap, subst, rules, ◌∙◌}
+use Rattle.std.proofs.Common.{◌≡◌, ℕ, suc, ◌&&◌, Bool, true, false, if◌then◌else◌, List, [], ◌∷◌, ◌++◌, length, Option, None, Some, refl, sym, ap, subst, rules, ◌∙◌}
 use Rattle.std.specs.Option.{option_map_or}
 use Rattle.ca_agree.specs.Agreement.{AgreeOnPaths, PathsAgree, peer_in, peer_named}
 use Rattle.ca_agree.specs.Runs.{Leads}
 use Rattle.ca_agree.proofs.InnerLemmas.{AreInner, IsInner, arrival-inner, packet-inner, respond-inner, timeout-inner}
 use Rattle.ca_agree.proofs.LeadsLemmas.{AreAside, leads-around, leads-queue, leads-row, leads-unless}
-use Rattle.ca_agree.proofs.PathLemmas.{AreKept, KeepsPaths, SamePaths, agree-kept, begin-same, inner-past, kept-append, kept-aside, kept-puts, kept-writes, marks-append, puts-append, same-past, same-world, turn-kept}
+use Rattle.ca_agree.proofs.PathLemmas.{AreKept, KeepsPaths, agree-kept, begin-same, inner-past, kept-append, kept-aside, kept-puts, kept-writes, marks-append, puts-append, same-past, same-world, turn-kept}
 use Rattle.ca_agree.proofs.PerformLemmas.{leads-perform}
 use Rattle.ca_base.specs.Configuration.{Configuration}
 use Rattle.ca_base.specs.declared.correspondent.Correspondent.{Correspondent}

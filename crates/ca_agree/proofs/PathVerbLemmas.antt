@@ -1,62 +1,41 @@
 -- Verbs keep the agreement on paths. For proofs only.
-use Rattle.std.proofs.Common.{◌≡◌, ℕ, suc, ◌&&◌, ◌||◌, ◌==◌, not, nat_lt, is_none, Bool, true, false, if◌then◌else◌, List, [], ◌∷◌, ◌++◌, take, length, Option, None, Some, refl, sym, ap, subst, rules, ◌∙◌}
-use Rattle.std.specs.Option.{option_map, option_map_or, option_and_then}
-use Rattle.ca_agree.specs.Agreement.{AgreeOnPaths, PathsAgree, peer_in, peer_named}
+use Rattle.std.proofs.Common.{◌≡◌, ℕ, ◌==◌, Bool, true, false, if◌then◌else◌, List, [], ◌∷◌, Option, None, refl, sym, ap, ◌∙◌}
+use Rattle.std.specs.Option.{option_map}
+use Rattle.ca_agree.specs.Agreement.{PathsAgree, peer_in}
 use Rattle.ca_agree.specs.Runs.{Leads}
 use Rattle.ca_agree.proofs.InnerLemmas.{AreInner, flush-inner}
-use Rattle.ca_agree.proofs.LeadsLemmas.{leads-around, leads-unless}
-use Rattle.ca_agree.proofs.PathLemmas.{AreKept, KeepsPaths, SamePaths, agree-kept, begin-same, inner-past, kept-puts, kept-writes, same-past, same-world}
-use Rattle.ca_agree.proofs.PathTurnLemmas.{Agrees, agrees-arrive, found}
+use Rattle.ca_agree.proofs.LeadsLemmas.{leads-unless}
+use Rattle.ca_agree.proofs.PathLemmas.{AreKept, SamePaths, agree-kept, inner-past, kept-puts, kept-writes, same-past, same-world}
+use Rattle.ca_agree.proofs.PathTurnLemmas.{Agrees}
 use Rattle.ca_base.specs.Configuration.{Configuration}
-use Rattle.ca_base.specs.declared.change.Change as state_change
-use Rattle.ca_base.specs.declared.change.Change.TheVariants as changes
-use Rattle.ca_base.specs.declared.change.Field.TheVariants as fields
 use Rattle.ca_base.specs.declared.change.State.TheVariants as states
-use Rattle.ca_base.specs.declared.completion.Completion.{Completion}
-use Rattle.ca_base.specs.declared.correspondent.Correspondent.{Correspondent}
-use Rattle.ca_base.specs.declared.limits.TheConstants.{MAX_POLLED}
 use Rattle.ca_base.specs.declared.request.RecvRequest.{RecvRequest}
 use Rattle.ca_base.specs.declared.request.SendOp.{SendOp}
 use Rattle.ca_base.specs.declared.request.SendOp.TheVariants as ops
 use Rattle.ca_base.specs.declared.request.SendRequest.{SendRequest}
-use Rattle.ca_base.specs.declared.step.Reason.TheVariants as reasons
-use Rattle.ca_base.specs.objects.CompletionQueue.{CompletionQueue, after_polls, after_puts, without_completions}
-use Rattle.ca_base.specs.objects.Domain.{Domain, with_object, without_object}
-use Rattle.ca_base.specs.objects.Mailbox.{Mailbox, with_peer}
-use Rattle.ca_base.specs.objects.QueuePair.{QueuePair, QueueSlot, NoQueue, Present, incarnation_of, recv_cq_of, send_cq_of, srq_of, with_all_flushed}
-use Rattle.ca_base.specs.objects.SharedReceives.{SharedReceives, SrqSlot, after_receives_retire}
-use Rattle.ca_base.specs.objects.StateTable.{modify_refusals, queue_after_change, state_eq}
+use Rattle.ca_base.specs.objects.CompletionQueue.{after_puts}
+use Rattle.ca_base.specs.objects.QueuePair.{QueuePair, QueueSlot, NoQueue, Present, incarnation_of, recv_cq_of, send_cq_of, with_all_flushed}
+use Rattle.ca_base.specs.objects.StateTable.{state_eq}
 use Rattle.ca_base.specs.objects.Window.{Window, after_draw, byte_drawn}
 use Rattle.ca_base.specs.objects.WorkQueue.{with_item}
-use Rattle.ca_keys.specs.Equal.{queue_eq}
 use Rattle.ca_keys.specs.Numbers.{key_at, queue_of, window_index}
-use Rattle.ca_keys.specs.declared.key.Key.{Key}
-use Rattle.ca_keys.specs.declared.names.QueueId.{QueueId}
 use Rattle.ca_keys.specs.declared.names.Slot.{Slot}
-use Rattle.ca_model.specs.Past.{Envelope, Naming, Past, after_mark, after_marks, at_begin, with_at}
-use Rattle.ca_model.specs.declared.answer.Answer.{Answer}
+use Rattle.ca_model.specs.Past.{Past, after_mark, after_marks, at_begin}
 use Rattle.ca_model.specs.declared.answer.Answer.TheVariants as answers
-use Rattle.ca_model.specs.declared.answer.Refusal.{Refusal}
-use Rattle.ca_model.specs.declared.answer.Refusal.TheVariants.{NoSuch, OutOfRange, NoDomain, SlotTaken, CqTooSmall, WindowsBound}
-use Rattle.ca_model.specs.declared.event.Event.{Event}
+use Rattle.ca_model.specs.declared.answer.Refusal.TheVariants.{NoSuch}
 use Rattle.ca_model.specs.declared.event.Event.TheVariants as events
 use Rattle.ca_model.specs.declared.mark.Mark.{Mark}
-use Rattle.ca_model.specs.declared.mark.Mark.TheVariants as marks
 use Rattle.ca_model.specs.declared.verb.Verb.{Verb}
 use Rattle.ca_model.specs.declared.verb.Verb.TheVariants as verbs
-use Rattle.ca_model.specs.machine.Around.{Around, With_around, completions_to, cq_updates, srq_updates}
+use Rattle.ca_model.specs.machine.Around.{completions_to}
 use Rattle.ca_model.specs.machine.Completions.{flush_marks}
-use Rattle.ca_model.specs.machine.CompletionVerbs.{Poll_of, Take_plan, With_place, With_places, poll_plan, slot_after_poll}
-use Rattle.ca_model.specs.machine.Delivery.{Arrive}
-use Rattle.ca_model.specs.machine.HostVerbs.{inject_plan}
-use Rattle.ca_model.specs.machine.Plan.{Plan, If, Look, Stuck, Update, ◌:=◌, Write, put_all, unless_refused, write_all}
+use Rattle.ca_model.specs.machine.Plan.{Plan, Look, Update, ◌:=◌, Write, put_all, write_all}
 use Rattle.ca_model.specs.machine.PostingVerbs.{Posted_send, after_flush, marks_of_flush, post_recv_plan, post_recv_refusals, post_send_plan, post_send_refusals, with_send}
-use Rattle.ca_model.specs.machine.QueuePairVerbs.{Creation, With_present, With_shared, beside, create_qp_plan, destroy_qp_plan, emptied_mailbox, emptied_updates, modify_qp_plan}
+use Rattle.ca_model.specs.machine.QueuePairVerbs.{With_present, beside}
 use Rattle.ca_model.specs.machine.Sound.{IsQueueOf, IsSoundWorld}
-use Rattle.ca_model.specs.machine.Step.{verb_plan}
-use Rattle.ca_model.specs.machine.VerbAnswers.{Answer_plan, Call, Refuse_plan, Unless_plan, answer_mark, of_change_refusals}
-use Rattle.ca_model.specs.machine.World.{Cq_of, Domain_of, Mailbox_of, Queue_of, Srq_of, Window_of, World}
-use Rattle.ca_laws_sound.proofs.WorldLemmas.{around_in, is-there, shared_of}
+use Rattle.ca_model.specs.machine.VerbAnswers.{Answer_plan, Call, Refuse_plan, Unless_plan, answer_mark}
+use Rattle.ca_model.specs.machine.World.{Cq_of, Queue_of, Window_of, World}
+use Rattle.ca_laws_sound.proofs.WorldLemmas.{is-there}
 
 -- the call of a verb, and what it leaves of the agreement
 abbrev pub call_of : ℕ → Verb → Call

@@ -1,60 +1,25 @@
 -- The plans of local operations lead where their effects do: they change windows and regions alone. For proofs only.
-use Rattle.std.proofs.Common.{◌≡◌, ℕ, suc, ◌&&◌, ◌==◌, nat_lt, Bool, true, false, if◌then◌else◌, List, [], ◌∷◌, ◌++◌, map, take, length, Option, None, Some, Result, Ok, Err, refl, ap, subst, rules}
-use Rattle.std.specs.Option.{option_map_or}
-use Rattle.ca_agree.specs.Runs.{AreStamped, Comes, Leads}
+use Rattle.std.proofs.Common.{ℕ, suc, ◌==◌, Bool, true, false, if◌then◌else◌, List, [], ◌∷◌, ◌++◌, Option, None, Some, refl}
+use Rattle.ca_agree.specs.Runs.{Leads}
 use Rattle.ca_base.specs.Configuration.{Configuration}
-use Rattle.ca_base.specs.declared.change.Change.TheVariants as changes
-use Rattle.ca_base.specs.declared.correspondent.Correspondent.{Correspondent}
-use Rattle.ca_base.specs.declared.lot.Lot.{Lot}
 use Rattle.ca_base.specs.declared.refusals.OpRefusal.{OpRefusal}
 use Rattle.ca_base.specs.declared.request.SendOp.{SendOp}
 use Rattle.ca_base.specs.declared.request.SendOp.TheVariants as ops
-use Rattle.ca_base.specs.declared.step.Reason.{Reason}
-use Rattle.ca_base.specs.declared.step.Reason.TheVariants as reasons
-use Rattle.ca_base.specs.declared.step.Sent.{Sent}
-use Rattle.ca_base.specs.declared.step.Sent.TheVariants.{Silent, Spelt}
-use Rattle.ca_base.specs.objects.Mailbox.{Mailbox, after_delivery, bytes_lent, is_lost}
-use Rattle.ca_base.specs.objects.QueuePair.{QueuePair, QueueSlot, NoQueue, Present}
+use Rattle.ca_base.specs.objects.QueuePair.{QueuePair}
 use Rattle.ca_base.specs.objects.Region.{Region}
 use Rattle.ca_base.specs.objects.Slices.{slot_of_key}
 use Rattle.ca_base.specs.objects.Window.{Binding, Window}
-use Rattle.ca_keys.specs.Memory.{ByteMap}
 use Rattle.ca_keys.specs.declared.key.Key.{Key}
 use Rattle.ca_keys.specs.declared.names.DomainId.{DomainId}
-use Rattle.ca_keys.specs.declared.names.QueueId.{QueueId}
-use Rattle.ca_keys.specs.declared.names.Slot.{Slot}
 use Rattle.ca_keys.specs.declared.rights.Rights.{Rights}
-use Rattle.ca_model.specs.Entries.{EntryValue}
-use Rattle.ca_model.specs.History.{ArePlain, FitTheEvent, IsEntry, IsHistory, IsHistoryFrom, IsPlain}
-use Rattle.ca_model.specs.declared.answer.Answer.{Answer}
-use Rattle.ca_model.specs.declared.answer.Answer.TheVariants as answers
-use Rattle.ca_model.specs.declared.answer.Refusal.TheVariants.{NoSuch}
-use Rattle.ca_model.specs.declared.event.Event.{Event}
-use Rattle.ca_model.specs.declared.event.Event.TheVariants as events
 use Rattle.ca_model.specs.declared.mark.Mark.{Mark}
-use Rattle.ca_model.specs.declared.mark.Mark.TheVariants as marks
-use Rattle.ca_model.specs.declared.verb.Verb.{Verb}
-use Rattle.ca_model.specs.declared.verb.Verb.TheVariants as verbs
-use Rattle.ca_model.specs.machine.Around.{Around, With_around, shared_in, updates_of}
-use Rattle.ca_model.specs.machine.Delivery.{Arrive, arrival_row, deliver_plan}
-use Rattle.ca_model.specs.machine.HostVerbs.{inject_plan}
 use Rattle.ca_model.specs.machine.LocalOperations.{Bind1_plan, Bind2_plan, Fast_plan, Finishing, Perform_op, PlacedRegion, With_former, With_named, bind1_changes, bind1_marks, bind1_refusal, bind2_changes, bind2_marks, bind2_refusal, drawn_by, fast_changes, fast_marks, fast_refusal, invalidate_row, operation_effects, region_slot, window_slot}
 use Rattle.ca_model.specs.machine.Numbering.{Numbered}
-use Rattle.ca_model.specs.machine.Plan.{Plan, Stuck, Look, If, Finish, Update, ◌:=◌, Write, unless_refused}
-use Rattle.ca_model.specs.machine.Requester.{Performs, RequestTurn, Sends, Waits, packet_row, turn_of}
-use Rattle.ca_model.specs.machine.Respond.{respond_refusals, respond_row}
-use Rattle.ca_model.specs.machine.Row.{Effects, Row, Row_plan, queue_and_marks, region_under, unless_none}
-use Rattle.ca_model.specs.machine.Run.{Follows, Ran, go_on, run_from, run_over, with_marks}
-use Rattle.ca_model.specs.machine.Step.{plan, step, verb_plan}
-use Rattle.ca_model.specs.machine.Timers.{after_timeout, after_wake, timeout_refusals, wake_refusals}
-use Rattle.ca_model.specs.machine.Turns.{Fire, Leave_plan, Packet, Request_around, Respond_around, Timeout_around, With_receives, has_room_for, packet_sent, reaches_peer, request_plan, respond_plan, sent_marks, timeout_plan, wake_plan}
-use Rattle.ca_model.specs.machine.VerbAnswers.{Answer_plan, Call, Refuse_plan, answer_mark}
-use Rattle.ca_model.specs.machine.World.{Mailbox_of, Queue_of, Region_of, Window_of, World, opening_world}
-use Rattle.ca_laws_sound.proofs.WorldLemmas.{RowDoes, around_in, shared_of}
+use Rattle.ca_model.specs.machine.Plan.{Plan, Look, Update, Write}
+use Rattle.ca_model.specs.machine.Row.{Effects, queue_and_marks, region_under, unless_none}
+use Rattle.ca_model.specs.machine.World.{Region_of, World}
 use Rattle.ca_agree.proofs.LeadsLemmas.{AreAside, leads-row, unless-aside}
 use Rattle.ca_agree.proofs.InnerLemmas.{IsInner, invalidate-inner, operation-inner}
-use Rattle.ca_base.specs.objects.Region.{with_window_bound, with_window_unbound}
-use Rattle.ca_keys.specs.Equal.{slot_eq}
 use Rattle.ca_model.specs.machine.LocalOperations.{former_updates, named_updates}
 
 aside-append : (xs ys : List Update) → AreAside xs → AreAside ys → AreAside (xs ++ ys)
@@ -162,4 +127,3 @@ leads-perform c w P q n finish (ops.WriteImm address key imm list) more = more (
 leads-perform c w P q n finish (ops.Read address key list) more = more (queue_and_marks q []) [] [] (nothing-inner q) (record {})
 leads-perform c w P q n finish (ops.CmpSwap address key compare swap list) more = more (queue_and_marks q []) [] [] (nothing-inner q) (record {})
 leads-perform c w P q n finish (ops.FetchAdd address key add list) more = more (queue_and_marks q []) [] [] (nothing-inner q) (record {})
-

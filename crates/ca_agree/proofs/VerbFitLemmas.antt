@@ -1,9 +1,9 @@
 -- The marks of every verb's event fit it: the answer comes first, and what is flushed behind it. For proofs only.
-use Rattle.std.proofs.Common.{◌≡◌, ℕ, suc, ◌&&◌, ◌||◌, ◌==◌, not, nat_lt, is_none, Bool, true, false, if◌then◌else◌, List, [], ◌∷◌, ◌++◌, take, length, Option, None, Some, refl, rules}
-use Rattle.std.specs.Option.{option_map, option_map_or, option_and_then}
+use Rattle.std.proofs.Common.{ℕ, ◌||◌, ◌==◌, nat_lt, Bool, true, false, if◌then◌else◌, List, [], ◌∷◌, take, length, Option, None, Some, refl, rules}
+use Rattle.std.specs.Option.{option_map}
 use Rattle.ca_agree.specs.Runs.{Leads}
-use Rattle.ca_agree.proofs.FitLemmas.{fits-arrive, plain, plain-append}
-use Rattle.ca_agree.proofs.InnerLemmas.{flush-inner}
+use Rattle.ca_agree.proofs.FitLemmas.{fits-arrive}
+use Rattle.ca_agree.proofs.InnerLemmas.{AreInner, flush-inner}
 use Rattle.ca_agree.proofs.LeadsLemmas.{leads-around, leads-unless}
 use Rattle.ca_base.specs.Configuration.{Configuration}
 use Rattle.ca_base.specs.declared.change.Change as state_change
@@ -26,18 +26,16 @@ use Rattle.ca_base.specs.objects.Window.{Window, after_draw, byte_drawn}
 use Rattle.ca_keys.specs.Numbers.{key_at, queue_of, window_index}
 use Rattle.ca_keys.specs.declared.names.QueueId.{QueueId}
 use Rattle.ca_keys.specs.declared.names.Slot.{Slot}
-use Rattle.ca_model.specs.History.{ArePlain, FitTheEvent}
+use Rattle.ca_model.specs.History.{IsAnswerTo}
 use Rattle.ca_model.specs.declared.answer.Answer.{Answer}
 use Rattle.ca_model.specs.declared.answer.Answer.TheVariants as answers
 use Rattle.ca_model.specs.declared.answer.Refusal.{Refusal}
 use Rattle.ca_model.specs.declared.answer.Refusal.TheVariants.{NoSuch, OutOfRange}
-use Rattle.ca_model.specs.declared.event.Event.TheVariants as events
 use Rattle.ca_model.specs.declared.mark.Mark.{Mark}
-use Rattle.ca_model.specs.declared.mark.Mark.TheVariants as marks
 use Rattle.ca_model.specs.declared.verb.Verb.{Verb}
 use Rattle.ca_model.specs.declared.verb.Verb.TheVariants as verbs
 use Rattle.ca_model.specs.machine.Completions.{flush_marks}
-use Rattle.ca_model.specs.machine.CompletionVerbs.{Poll_of, Take_plan, With_place, With_places, poll_plan, source_of_completion}
+use Rattle.ca_model.specs.machine.CompletionVerbs.{Poll_of, Take_plan, With_place, With_places, poll_plan}
 use Rattle.ca_model.specs.machine.Delivery.{Arrive}
 use Rattle.ca_model.specs.machine.HostVerbs.{inject_plan}
 use Rattle.ca_model.specs.machine.Plan.{Plan, If, Look, Stuck, Update, ◌:=◌}
@@ -49,18 +47,23 @@ use Rattle.ca_model.specs.machine.World.{Cq_of, Mailbox_of, Queue_of, Window_of,
 use Rattle.ca_model.specs.machine.Around.{Around, With_around, completions_to, cq_updates}
 use Rattle.ca_laws_sound.proofs.WorldLemmas.{around_in, shared_of}
 
--- what holds of the marks of a call, whatever the world
-abbrev pub Answers : Call → World → List Mark → Type 0
-Answers call v ms = FitTheEvent (events.Verb call.by call.verb) ms
+-- the marks of a call: its answer, and then marks that are no answers and tell of no packet that is sent
+abbrev pub AreAnswered : Call → List Mark → Type 0
+AreAnswered call [] = ⊥
+AreAnswered call (m ∷ ms) = IsAnswerTo call.by call.verb m × AreInner ms
 
-flush-plain : (q : QueuePair) → ArePlain (marks_of_flush q)
-flush-plain q = by (state_eq q.state states.Error)
+-- so are the marks of a call, whatever the world
+abbrev pub Answers : Call → World → List Mark → Type 0
+Answers call v ms = AreAnswered call ms
+
+flushed-inner : (q : QueuePair) → AreInner (marks_of_flush q)
+flushed-inner q = by (state_eq q.state states.Error)
   where
-    by : (b : Bool) → ArePlain (if b then flush_marks q else [])
-    by true = plain (flush_marks q) (flush-inner q)
+    by : (b : Bool) → AreInner (if b then flush_marks q else [])
+    by true = flush-inner q
     by false = record {}
 
-fits-answer : (w : World) (call : Call) (answer : Answer) (cs : List Update) (ms : List Mark) → ArePlain ms → Leads w (Answers call) (Answer_plan call answer cs ms)
+fits-answer : (w : World) (call : Call) (answer : Answer) (cs : List Update) (ms : List Mark) → AreInner ms → Leads w (Answers call) (Answer_plan call answer cs ms)
 fits-answer w call answer cs ms plain = ((refl, refl), plain)
 
 fits-if : (w : World) (call : Call) (test : Bool) (p q : Plan) → Leads w (Answers call) p → Leads w (Answers call) q → Leads w (Answers call) (If test p q)
@@ -91,7 +94,7 @@ fits-posted w call q request drawn window changes = fits-unless w call (post_sen
     ∷ (Cq_of (send_cq_of q) := option_map (after_puts (completions_to q q.send_cq (marks_of_flush posted))) (w.cq (send_cq_of q)))
     ∷ changes)
     (marks_of_flush posted))
-    ((refl, refl), flush-plain posted)
+    ((refl, refl), flushed-inner posted)
   where
     posted : QueuePair
     posted = with_send request drawn q
@@ -162,14 +165,14 @@ fits-inject c w call q bytes = by (w.queue q)
     by (Present p) = fits-arrive c w (Answers call) p bytes None [] (answer_mark call answers.Fine ∷ []) (λ v ns plain. ((refl, refl), (record {}, plain)))
 
 -- a change of a queue pair, by what it changes and what it flushes
-fits-change : (w : World) (call : Call) (q : QueuePair) (tests : List (Bool × Refusal)) (updates : Around → List Update) (ms : List Mark) → ArePlain ms
+fits-change : (w : World) (call : Call) (q : QueuePair) (tests : List (Bool × Refusal)) (updates : Around → List Update) (ms : List Mark) → AreInner ms
     → Leads w (Answers call) (With_around q (λ a. Unless_plan call tests (Answer_plan call answers.Fine (updates a) ms)))
 fits-change w call q tests updates ms plain = leads-around w (Answers call) q (λ a. Unless_plan call tests (Answer_plan call answers.Fine (updates a) ms))
     (fits-unless w call tests (Answer_plan call answers.Fine (updates (around_in w q (shared_of w q))) ms) ((refl, refl), plain))
 
 fits-modify : (c : Configuration) (w : World) (call : Call) (s : Slot) (change : state_change.Change) → Leads w (Answers call) (modify_qp_plan c call s change)
 fits-modify c w call s changes.Error = fits-present w call s _ (λ q.
-    fits-change w call q (of_change_refusals (modify_refusals c q changes.Error)) (λ a. (Queue_of q.queue := Present (queue_after_change changes.Error q)) ∷ cq_updates q a (flush_marks q)) (flush_marks q) (plain (flush_marks q) (flush-inner q)))
+    fits-change w call q (of_change_refusals (modify_refusals c q changes.Error)) (λ a. (Queue_of q.queue := Present (queue_after_change changes.Error q)) ∷ cq_updates q a (flush_marks q)) (flush_marks q) (flush-inner q))
 fits-modify c w call s changes.Reset = fits-present w call s _ (λ q.
     fits-change w call q (of_change_refusals (modify_refusals c q changes.Reset)) (λ a. (Queue_of q.queue := Present (queue_after_change changes.Reset q)) ∷ (Mailbox_of q.queue := emptied_mailbox (queue_after_change changes.Reset q).incarnation (w.mailbox q.queue)) ∷ emptied_updates q a) [] (record {}))
 fits-modify c w call s changes.Init = fits-present w call s _ (λ q.
@@ -197,7 +200,7 @@ fits-post_recv w call s request = fits-present w call s _ by
         (marks_of_flush (after q))
 
     by : (q : QueuePair) → Leads w (Answers call) (Unless_plan call (post_recv_refusals request q) (posted q))
-    by q = fits-unless w call (post_recv_refusals request q) (posted q) ((refl, refl), flush-plain (after q))
+    by q = fits-unless w call (post_recv_refusals request q) (posted q) ((refl, refl), flushed-inner (after q))
 
 pub fits-verb : (c : Configuration) (w : World) (call : Call) (verb : Verb) → Leads w (Answers call) (verb_plan c call verb)
 fits-verb c w call (verbs.AllocPd domain) = search rules

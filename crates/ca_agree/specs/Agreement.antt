@@ -25,11 +25,11 @@ peer_named naming = option_map (λ n. n.peer) naming
 -- alone, for this incarnation, and its next index is how many envelopes were ever sent to it.
 pub record AgreeOnPaths (incarnation : QueueId → ℕ) (naming : QueueId → Option Naming) (envelopes : QueueId → List Envelope) (queue : QueueId → QueueSlot) (mailbox : QueueId → Mailbox) : Type 0
   where
-  pub incarnations : (q : QueueId) → incarnation_of (queue q) ≡ incarnation q
-  pub peers : (q : QueueId) → peer_in (queue q) ≡ peer_named (naming q)
-  pub owners : (q : QueueId) → (mailbox q).incarnation ≡ incarnation q
-  pub accepted : (q : QueueId) → (mailbox q).peer ≡ peer_named (naming q)
-  pub counts : (q : QueueId) → (mailbox q).next ≡ length (envelopes q)
+    pub incarnations : (q : QueueId) → incarnation_of (queue q) ≡ incarnation q
+    pub peers : (q : QueueId) → peer_in (queue q) ≡ peer_named (naming q)
+    pub owners : (q : QueueId) → (mailbox q).incarnation ≡ incarnation q
+    pub accepted : (q : QueueId) → (mailbox q).peer ≡ peer_named (naming q)
+    pub counts : (q : QueueId) → (mailbox q).next ≡ length (envelopes q)
 
 -- what a past and a world say of paths
 abbrev pub PathsAgree : Past → World → Type 0

@@ -1,6 +1,7 @@
 ghost use Rattle.std.specs.List.{AllByRecursion};
 ghost use Rattle.std.specs.Prelude.{List};
 ghost use Rattle.ca_agree.specs.Agreement.{HoldsAlong, PathsAgree};
+ghost use Rattle.ca_agree.specs.Indices.{HaveTheirIndices};
 ghost use Rattle.ca_agree.specs.Runs.{AreStamped, Comes};
 ghost use Rattle.ca_base.specs.Configuration.{Configuration};
 ghost use Rattle.ca_keys.specs.Memory.{ByteMap};
@@ -40,7 +41,16 @@ pub fn event_keeps_paths_agreed()
 
 /// Past and world agree on paths at the beginning of a history that follows the machine, and after each of its entries.
 pub fn histories_agree_on_paths()
+    ensures { (c : Configuration) (bytes : ByteMap) (es : List EntryValue)
+        → AreLimited c → AllByRecursion (λ e. CanBeMade e.event) es → Follows c bytes es
+        → HoldsAlong PathsAgree c (opening_past bytes) (opening_world bytes) es }
+{}
+
+/// In a history that follows the machine each packet that is sent has the next index of its target exactly where a path
+/// leads there: where each of the two has named the other with the other's present incarnation. This is the part of
+/// Carried that speaks of indices.
+pub fn packets_have_their_indices()
     ensures { (c : Configuration) (bytes : ByteMap) (es : List EntryValue) → AreLimited c
         → AllByRecursion (λ e. CanBeMade e.event) es → Follows c bytes es
-        → HoldsAlong PathsAgree c (opening_past bytes) (opening_world bytes) es }
+        → HaveTheirIndices bytes es }
 {}

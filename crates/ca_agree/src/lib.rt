@@ -13,5 +13,5 @@ mod laws;
 
 pub use laws::{
     event_keeps_paths_agreed, event_marks_fit, histories_agree_on_paths, machine_makes_histories,
-    opening_agrees_on_paths,
+    opening_agrees_on_paths, packets_have_their_indices,
 };
