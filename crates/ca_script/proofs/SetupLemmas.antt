@@ -1,5 +1,5 @@
 -- One adapter among several.
-use Rattle.std.proofs.Common.{◌≡◌, ℕ, zero, suc, ◌+◌, ◌-◌, ◌<◌, ◌≤◌, Bool, true, false, ltb, List, [], ◌∷◌, ◌++◌, length, length-append, get_or, set, map, replicate, refl, sym, ap, ◌∙◌, arith}
+use Rattle.std.proofs.Common.{◌≡◌, ℕ, zero, suc, ◌+◌, ◌-◌, ◌<◌, ◌≤◌, false, ltb, List, [], ◌∷◌, ◌++◌, length, length-append, get_or, set, map, replicate, refl, sym, ap, ◌∙◌, arith}
 use Rattle.ca_base.specs.Configuration.{Adapter, adapter_of}
 use Rattle.ca_base.specs.declared.config.AdapterConfig.{AdapterConfig}
 use Rattle.ca_base.specs.declared.limits.TheConstants.{MAX_BUFFERS}

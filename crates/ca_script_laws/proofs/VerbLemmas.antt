@@ -1,21 +1,20 @@
 -- Each verb of a trace is read in a script as itself.
-use Rattle.std.proofs.Common.{◌≡◌, ℕ, ◌≤◌, Bool, true, false, eqb, not, ◌||◌, List, [], ◌∷◌, ◌++◌, length, Ok, decimal, refl, sym, ap, subst, ◌∙◌, arith, inl, inr}
+use Rattle.std.proofs.Common.{◌≡◌, ℕ, ◌≤◌, Bool, true, false, eqb, not, ◌||◌, [], length, Ok, decimal, refl, sym, subst, arith, inl, inr}
 use Rattle.std.proofs.lemmas.Bool.{cases_Bool, eqb-true, eq-eqb}
 use Rattle.ca_base.specs.declared.change.Change.{Change}
 use Rattle.ca_base.specs.declared.change.Change.TheVariants as changes
 use Rattle.ca_base.specs.declared.request.SendOp.{SendOp}
 use Rattle.ca_base.specs.declared.request.SendOp.TheVariants as ops
 use Rattle.ca_keys.specs.declared.names.Slot.{Slot}
-use Rattle.ca_model.specs.declared.verb.Verb.{Verb}
 use Rattle.ca_model.specs.declared.verb.Verb.TheVariants as verbs
-use Rattle.ca_trace_words.specs.Verbs.{change_words, operation_words, poll_words, verb_words}
+use Rattle.ca_trace_words.specs.Verbs.{change_words, operation_words, poll_words}
 use Rattle.ca_trace_words.specs.Words.{words}
 use Rattle.ca_reading_words.specs.Fits.{AllFit}
 use Rattle.ca_script_lines.specs.Grammar.{consumer_lines, object_lines, change_lines, work_lines, operations, local_operations, pd_row, unpd_row, reg_row, mr_row, dereg_row, mw_row, unmw_row, cq_row, uncq_row, srq_row, unsrq_row, qp_row, unqp_row, query_row, init_row, sqd_row, resume_row, error_row, reset_row, rtr_row, rts_row, post_row, recv_row, srecv_row, poll_row, wait_row, store_row, load_row, inject_row, send_row, send_imm_row, send_inv_row, write_row, write_imm_row, read_row, cmp_swap_row, fetch_add_row, bind1_row, bind2_row, fast_reg_row, local_inv_row}
 use Rattle.ca_script_words.specs.Words.{number}
 use Rattle.ca_script_lines.specs.Rows.{read_table}
 use Rattle.ca_script_lines.specs.declared.what.What.TheVariants as whats
-use Rattle.ca_script_laws.specs.Agreement.{VerbsAgree, is_sayable, names_pages}
+use Rattle.ca_script_laws.specs.Agreement.{VerbsAgree, names_pages}
 use Rattle.ca_script_laws.proofs.WordLemmas.{number_read, key_read, address_read, place_read, domain_read, queue_read, slot_read, optional_read, flags_read, rights_read, hex_read, pieces_read, pages_read}
 
 u8 : (n : ℕ) → n ≤ 255 → number 0 255 (decimal n) ≡ Ok n

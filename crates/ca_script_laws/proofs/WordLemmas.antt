@@ -1,16 +1,16 @@
 -- Each word of a trace is read in a script as what it stands for.
-use Rattle.std.proofs.Common.{◌≡◌, ℕ, zero, suc, ◌+◌, ◌*◌, ◌/◌, ◌%◌, ◌^◌, ◌<◌, ◌≤◌, Bool, true, false, cond, not, ◌&&◌, eqb, leb, ltb, List, [], ◌∷◌, ◌++◌, length, Option, Some, None, Result, Ok, Err, decimal, map, refl, sym, ap, ◌∙◌, arith, append_assoc, inl, inr}
-use Rattle.std.specs.Prelude.{codes, slice_index, IfSome}
+use Rattle.std.proofs.Common.{◌≡◌, ℕ, zero, suc, ◌/◌, ◌%◌, ◌<◌, ◌≤◌, Bool, true, false, ◌&&◌, eqb, leb, ltb, List, [], ◌∷◌, ◌++◌, length, Option, Some, None, Ok, decimal, map, refl, ap, ◌∙◌, arith, append_assoc, inl, inr}
+use Rattle.std.specs.Prelude.{slice_index, IfSome}
 use Rattle.std.specs.Char.{digit_value, is_digit}
 use Rattle.std.specs.Fmt.{digits}
 use Rattle.std.specs.Int.{w32, to_be_bytes}
 use Rattle.std.specs.List.{AllByRecursion, list_all}
 use Rattle.std.specs.Str.{bytes_eq}
-use Rattle.std.specs.Str.Parse.{AllDigits, IsNumeral, digits_value, digits_value_after}
-use Rattle.std.proofs.lemmas.Bool.{cases_Bool, eqb-true, ne_eqb, le-leb, leb-true, lt-ltb}
+use Rattle.std.specs.Str.Parse.{AllDigits, IsNumeral, digits_value}
+use Rattle.std.proofs.lemmas.Bool.{cases_Bool, ne_eqb, le-leb, lt-ltb}
 use Rattle.std.proofs.lemmas.Bool.Decides.{nat_tests}
 use Rattle.std.proofs.lemmas.Fmt.{digits_is_IsNumeral}
-use Rattle.hex.specs.Hex.{encode_lower, encode_with, lower_digits, IsBytes, decode_of}
+use Rattle.hex.specs.Hex.{encode_lower, encode_with, lower_digits, IsBytes}
 use Rattle.hex.proofs.HexLemmas.{decode_of-encode_lower}
 use Rattle.ca_keys.specs.declared.key.Key.{Key}
 use Rattle.ca_keys.specs.declared.names.DomainId.{DomainId}
@@ -23,13 +23,12 @@ use Rattle.ca_base.specs.Spelling.{piece_text}
 use Rattle.ca_trace_words.specs.Words.{led, joined, commas, flags_text}
 use Rattle.ca_trace_words.specs.Words as trace
 use Rattle.ca_reading_words.specs.Fits.{DomainFits, SlotFits, QueueFits, KeyFits, PieceFits}
-use Rattle.ca_reading_words.specs.Words.{pieces, key_in, value_in, address_in}
+use Rattle.ca_reading_words.specs.Words.{pieces, key_in}
 use Rattle.ca_reading_words.proofs.NumberLemmas.{decimal_digits, number_lacks, number_is_some}
-use Rattle.ca_reading_words.proofs.PieceLemmas.{lacks, all_lack, one_piece, first_piece, pieces_joined, lacks_append, digits_lack, more_digits}
+use Rattle.ca_reading_words.proofs.PieceLemmas.{lacks, all_lack, one_piece, first_piece, pieces_joined, lacks_append, digits_lack}
 use Rattle.ca_reading_words.proofs.WordLemmas.{key_again, piece_listed}
-use Rattle.ca_script_words.specs.Reading.{◌>>=◌, field, each}
-use Rattle.ca_script_words.specs.Words.{is_word, are_digits, is_hexadecimal, base_of, digits_of, is_number, value_of, limited, number, optional, are_numbers, in_adapter, domain, queue, slot, letter_at, flags, rights, hexadecimal, is_piece, piece, piece_list, page_list}
-use Rattle.ca_script_words.specs.declared.flags.Flags.{Flags}
+use Rattle.ca_script_words.specs.Reading.{each}
+use Rattle.ca_script_words.specs.Words.{is_word, is_hexadecimal, is_number, value_of, limited, number, optional, are_numbers, in_adapter, domain, queue, slot, flags, rights, hexadecimal, is_piece, piece, piece_list, page_list}
 use Rattle.ca_script_words.proofs.NumberLemmas.{value_in_is}
 
 -- ---- numbers

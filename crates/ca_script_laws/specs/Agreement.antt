@@ -1,5 +1,5 @@
 -- What both grammars have in common: the verbs, in the same words. Contracts cite it.
-use Rattle.std.specs.Prelude.{◌≡◌, ℕ, ◌==◌, Bool, true, not, ◌||◌, List, [], length, Ok}
+use Rattle.std.specs.Prelude.{◌≡◌, ◌==◌, Bool, true, not, ◌||◌, [], length, Ok}
 use Rattle.ca_base.specs.declared.request.SendOp.{SendOp}
 use Rattle.ca_base.specs.declared.request.SendOp.TheVariants as ops
 use Rattle.ca_model.specs.declared.verb.Verb.{Verb}

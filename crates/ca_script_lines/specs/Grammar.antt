@@ -1,16 +1,14 @@
 -- The grammar of consumer lines: one row for each word that may stand behind `cK`, in the order of the verbs, and one for
 -- each operation of a send request. Contracts cite it.
-use Rattle.std.specs.Prelude.{ℕ, List, [], ◌∷◌, Result, codes}
-use Rattle.ca_keys.specs.declared.names.Slot.{Slot}
+use Rattle.std.specs.Prelude.{ℕ, List, [], ◌∷◌, codes}
 use Rattle.ca_base.specs.declared.change.Change.{Change}
 use Rattle.ca_base.specs.declared.change.Change.TheVariants as changes
 use Rattle.ca_base.specs.declared.request.SendOp.{SendOp}
 use Rattle.ca_base.specs.declared.request.SendOp.TheVariants as ops
 use Rattle.ca_model.specs.declared.verb.Verb.{Verb}
 use Rattle.ca_model.specs.declared.verb.Verb.TheVariants as verbs
-use Rattle.ca_script_words.specs.Kinds.{Kind, Number, Optional, OfDomain, OfSlot, OfQueue, OfBuffer, Hex, OfFlags, OfRights, OfPieces, OfPages, u8, u16, u32, u64}
-use Rattle.ca_script_words.specs.declared.cause.ScriptCause.{ScriptCause}
-use Rattle.ca_script_lines.specs.Rows.{Words, Row, Takes, Makes, read_table, one_of}
+use Rattle.ca_script_words.specs.Kinds.{Kind, Optional, OfDomain, OfSlot, OfQueue, OfBuffer, Hex, OfFlags, OfRights, OfPieces, OfPages, u8, u16, u32, u64}
+use Rattle.ca_script_lines.specs.Rows.{Row, Takes, Makes, read_table, one_of}
 use Rattle.ca_script_lines.specs.declared.what.What.{What}
 use Rattle.ca_script_lines.specs.declared.what.What.TheVariants as whats
 

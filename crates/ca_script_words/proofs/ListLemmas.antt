@@ -1,5 +1,5 @@
 -- Lists that are read word by word.
-use Rattle.std.proofs.Common.{◌≡◌, ℕ, suc, ◌+◌, ◌-◌, ◌<◌, ◌≤◌, Bool, true, false, cond, eqb, leb, not, ◌&&◌, List, [], ◌∷◌, ◌++◌, length, Option, Some, None, Result, Ok, Err, refl, sym, ap, ◌∙◌, arith, append_assoc}
+use Rattle.std.proofs.Common.{◌≡◌, ℕ, suc, ◌-◌, ◌<◌, Bool, true, false, eqb, leb, List, [], ◌∷◌, ◌++◌, length, Some, None, Result, Ok, Err, refl, ap, arith, append_assoc}
 use Rattle.std.specs.List.{filter, list_all}
 use Rattle.ca_reading_words.specs.Words.{next_of}
 use Rattle.std.proofs.lemmas.Bool.{ne_eqb}

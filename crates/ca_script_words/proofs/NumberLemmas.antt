@@ -1,10 +1,10 @@
 -- What digits say, read up to a bound.
-use Rattle.std.proofs.Common.{◌≡◌, ℕ, ◌+◌, ◌*◌, ◌<◌, ◌≤◌, Bool, true, false, cond, leb, List, [], ◌∷◌, Option, Some, None, refl, sym, ap, ◌∙◌, arith, inl, inr}
+use Rattle.std.proofs.Common.{◌≡◌, ℕ, ◌+◌, ◌*◌, ◌<◌, ◌≤◌, cond, leb, List, [], ◌∷◌, Some, None, refl, arith, inl, inr}
 use Rattle.std.specs.Char.{digit_value}
 use Rattle.std.specs.Str.Parse.{digits_value, digits_value_after}
-use Rattle.std.proofs.lemmas.Bool.{cases_Bool, le-leb, leb-true, leb-false}
+use Rattle.std.proofs.lemmas.Bool.{cases_Bool, leb-true, leb-false}
 use Rattle.ca_reading_words.specs.Words.{value_after, value_in}
-use Rattle.ca_reading_words.proofs.NumberLemmas.{value_grows, value_read}
+use Rattle.ca_reading_words.proofs.NumberLemmas.{value_read}
 
 value_past : (base most n : ℕ) (ds : List ℕ) → 1 ≤ base → n ≤ most → most < digits_value_after base n ds → value_after base most n ds ≡ None
 value_past base most n [] low h past = absurd (omega (arith, h, past))

@@ -1,7 +1,5 @@
 -- Kinds: the kinds of word that a row of the grammar names, the value of each, and how it is read. Contracts cite it.
 use Rattle.std.specs.Prelude.{ℕ, List, Option, Result}
-use Rattle.std.specs.Int.{Width, w8, w16, w32, w64}
-use Rattle.ca_keys.specs.declared.key.Key.{Key}
 use Rattle.ca_keys.specs.declared.names.DomainId.{DomainId}
 use Rattle.ca_keys.specs.declared.names.QueueId.{QueueId}
 use Rattle.ca_keys.specs.declared.names.Slot.{Slot}
