@@ -34,7 +34,10 @@ pub(crate) fn bytes_of(alloc: Global, line: &[u8]) -> Result<Vec<u8>, AllocError
             state = 3;
         } else {
             state = 0;
-            push(&mut bytes, high * 16 + digit(c) % 16)?;
+            push(
+                &mut bytes,
+                high.wrapping_mul(16).wrapping_add(digit(c) % 16),
+            )?;
         }
     }
     Ok(bytes)

@@ -28,7 +28,7 @@ use Rattle.ca_reading_words.proofs.NumberLemmas.{decimal_digits, number_lacks, n
 use Rattle.ca_reading_words.proofs.PieceLemmas.{lacks, all_lack, one_piece, first_piece, pieces_joined, lacks_append, digits_lack}
 use Rattle.ca_reading_words.proofs.WordLemmas.{key_again, piece_listed}
 use Rattle.ca_script_words.specs.Reading.{each}
-use Rattle.ca_script_words.specs.Words.{is_word, is_hexadecimal, is_number, value_of, limited, number, optional, are_numbers, in_adapter, domain, queue, slot, flags, rights, hexadecimal, is_piece, piece, piece_list, page_list}
+use Rattle.ca_script_words.specs.Words.{is_word, is_hexadecimal, is_number, value_of, limited, number, optional, are_numbers, in_adapter, domain, queue, slot, flags, rights, hexadecimal, is_piece, piece, piece_list, page_list, is_consumer, are_digits}
 use Rattle.ca_script_words.proofs.NumberLemmas.{value_in_is}
 
 -- ---- numbers
@@ -367,3 +367,12 @@ unfolding page_list
 pages_read [] some h = absurd cc
 pages_read (p ∷ ps) some h =
     rw (pieces_joined 44 (decimal p) (map decimal ps) (number_lacks 44 p (omega arith) (omega (arith, h.0))) (pages_lack ps h.1), page_forms (p ∷ ps) h, each_page (p ∷ ps) h) refl
+
+-- ---- consumers
+
+pub decimal_consumer : (n : ℕ) → n ≤ 18446744073709551615 → is_consumer (99 ∷ decimal n) ≡ true
+unfolding is_consumer
+decimal_consumer n h = digits_only (decimal n) (decimal_digits n h) where
+  digits_only : (w : List ℕ) → IsNumeral 10 w → are_digits 10 w ≡ true
+  digits_only [] g = absurd (omega (arith, g.0))
+  digits_only (c ∷ cs) g = rw (some_word c cs, all_are 10 (c ∷ cs) g.1) refl

@@ -1,11 +1,13 @@
 -- What both grammars have in common: the verbs, in the same words. Contracts cite it.
-use Rattle.std.specs.Prelude.{◌≡◌, ◌==◌, Bool, true, not, ◌||◌, [], length, Ok}
+use Rattle.std.specs.Prelude.{◌≡◌, ℕ, ◌==◌, Bool, true, not, ◌||◌, [], length, Ok, ◌≤◌, drop}
 use Rattle.ca_base.specs.declared.request.SendOp.{SendOp}
 use Rattle.ca_base.specs.declared.request.SendOp.TheVariants as ops
 use Rattle.ca_model.specs.declared.verb.Verb.{Verb}
 use Rattle.ca_model.specs.declared.verb.Verb.TheVariants as verbs
-use Rattle.ca_trace_words.specs.Verbs.{verb_words}
-use Rattle.ca_trace_words.specs.Words.{words}
+use Rattle.ca_trace_words.specs.Verbs.{verb_words, call_words, call}
+use Rattle.ca_trace_words.specs.Words.{Lettered, word, words}
+use Rattle.std.specs.Int.{w32}
+use Rattle.ca_script_words.specs.Words.{words_of, is_consumer, limited}
 use Rattle.ca_reading_words.specs.Fits.{AllFit}
 use Rattle.ca_script_lines.specs.Grammar.{consumer_lines}
 use Rattle.ca_script_lines.specs.Rows.{read_table}
@@ -25,3 +27,12 @@ is_sayable other = true
 -- the words of a verb in a trace are those of a line of a script that says it
 abbrev pub VerbsAgree : Type 0
 VerbsAgree = (v : Verb) → AllFit (verb_words v) → is_sayable v ≡ true → read_table consumer_lines (words (verb_words v)) ≡ Ok (whats.Verb v, [])
+
+-- the line of a call in a trace, from its consumer on, is cut into its words again, of which the first names the consumer
+-- and the others say the verb
+abbrev pub LinesAgree : Type 0
+LinesAgree = (by : ℕ) (v : Verb) → AllFit (call_words by v) → by ≤ 63 → is_sayable v ≡ true →
+    (words_of (call by v) ≡ words (call_words by v))
+    × (is_consumer (word (Lettered 99 w32 by)) ≡ true)
+    × (limited 0 63 (drop 1 (word (Lettered 99 w32 by))) ≡ Ok by)
+    × (read_table consumer_lines (words (verb_words v)) ≡ Ok (whats.Verb v, []))
