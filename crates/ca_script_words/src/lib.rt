@@ -10,6 +10,7 @@
 mod cause;
 mod cursor;
 mod flags;
+mod front;
 mod hexadecimal;
 mod line_error;
 mod list;

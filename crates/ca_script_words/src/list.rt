@@ -1,4 +1,6 @@
-ghost use Rattle.std.specs.Prelude.{◌≡◌, ◌≤◌, nat_le, length};
+ghost use Rattle.std.specs.Prelude.{◌≡◌, ◌≤◌, ◌∷◌, [], false, nat_le, length, IfSome, Ok};
+ghost use Rattle.std.specs.Str.{bytes_eq};
+ghost use Rattle.ca_keys.specs.Spelling.{dash};
 ghost use Rattle.ca_base.specs.declared.limits.TheConstants.{MAX_PIECES};
 ghost use Rattle.std.specs.List.{list_all};
 ghost use Rattle.ca_reading_words.specs.Words.{pieces};
@@ -6,6 +8,7 @@ ghost use Rattle.ca_script_words.specs.Reading.{Answers, each};
 ghost use Rattle.ca_script_words.specs.Words as words;
 
 use crate::cause::ScriptCause;
+use crate::front::{number_before, number_to_end};
 use crate::line_error::LineError;
 use crate::name::{are_numbers, part};
 use crate::number::{is_number, limited};
@@ -97,13 +100,35 @@ fn all_pages(alloc: Global, mut parts: Pieces) -> Result<Vec<u16>, LineError>
     Ok(list)
 }
 
-/// The pieces of a request's list, or `-` for none.
+/// The piece that a list of one piece says, where its three numbers stand there and fit.
+#[inline(always)]
+#[tactic(auto, using(crate::proofs::FrontLemmas::lists))]
+fn fitting_piece(word: &[u8]) -> Option<Piece>
+    ensures { IfSome result (λ piece. bytes_eq word.now dash ≡ false → words.piece_list word.now ≡ Ok (piece ∷ [])) }
+{
+    let (key, rest) = number_before(b':', 0xFFFF_FFFF, word)?;
+    let (address, rest) = number_before(b':', u64::MAX, rest)?;
+    let length = number_to_end(0xFFFF_FFFF, rest)?;
+    Some(Piece {
+        address,
+        key: Key(key as u32),
+        length: length as u32,
+    })
+}
+
+/// The pieces of a request's list, or `-` for none. One piece that fits is read in one pass; else the words of the list
+/// are gone over for the first cause.
 #[tactic(auto, unfolding(crate::specs::Words::piece_list))]
 pub(crate) fn piece_list(word: &[u8]) -> Result<ArrayVec<Piece, MAX_PIECES>, LineError>
     ensures { Answers (λ list. list.items) result (words.piece_list word.now) }
 {
     if is_name(word, "-") {
         return Ok(ArrayVec::new());
+    }
+    if let Some(piece) = fitting_piece(word) {
+        let mut list = ArrayVec::new();
+        list.push(piece);
+        return Ok(list);
     }
     if !are_pieces(Pieces::of(b',', word)) {
         return Err(LineError::Refused(ScriptCause::BadNumber));

@@ -1,8 +1,9 @@
-ghost use Rattle.std.specs.Prelude.{◌≡◌, ◌≤◌, IfOk};
+ghost use Rattle.std.specs.Prelude.{◌≡◌, ◌≤◌, IfOk, IfSome, Ok};
 ghost use Rattle.ca_script_words.specs.Reading.{Answers, AnswersFrom, field};
 ghost use Rattle.ca_script_words.specs.Words as words;
 
 use crate::cause::ScriptCause;
+use crate::front::{number_before, number_to_end};
 use crate::line_error::LineError;
 use crate::number::{is_number, limited};
 use ca_base::{DomainId, QueueId, Slot};
@@ -79,11 +80,32 @@ pub(crate) fn buffer(word: &[u8]) -> Result<(u8, u16), LineError>
     Ok((adapter, buffer as u16))
 }
 
-/// An object of a domain.
+/// An object of a domain, where its three numbers stand there and fit.
+#[inline(always)]
+#[tactic(auto, using(crate::proofs::FrontLemmas::slots))]
+fn fitting_slot(word: &[u8]) -> Option<Slot>
+    ensures { IfSome result (λ slot. words.slot word.now ≡ Ok slot) }
+{
+    let (adapter, rest) = number_before(b'/', 255, word)?;
+    let (domain, rest) = number_before(b'/', 255, rest)?;
+    let slot = number_to_end(0xFFFF, rest)?;
+    Some(Slot {
+        domain: DomainId {
+            adapter: adapter as u8,
+            domain: domain as u8,
+        },
+        slot: slot as u16,
+    })
+}
+
+/// An object of a domain. Where it is one it is read in one pass; else its parts are gone over for the first cause.
 #[tactic(auto, unfolding(crate::specs::Words::slot))]
 pub(crate) fn slot(word: &[u8]) -> Result<Slot, LineError>
     ensures { Answers (λ x. x) result (words.slot word.now) }
 {
+    if let Some(slot) = fitting_slot(word) {
+        return Ok(slot);
+    }
     if !are_numbers(b'/', 3, word) {
         return Err(LineError::Refused(ScriptCause::BadName));
     }

@@ -3,6 +3,7 @@ ghost use Rattle.ca_script_words.specs.Reading.{Answers};
 ghost use Rattle.ca_script_words.specs.Words as words;
 
 use crate::cause::ScriptCause;
+use crate::front::number_to_end;
 use crate::line_error::LineError;
 use ca_reading_words::{Stop, address_in, u64_in};
 
@@ -24,7 +25,7 @@ fn are_digits(base: u32, word: &[u8]) -> bool
 }
 
 /// Whether the word begins with `0x`.
-fn is_hexadecimal(word: &[u8]) -> bool
+pub(crate) fn is_hexadecimal(word: &[u8]) -> bool
     ensures { result ≡ words.is_hexadecimal word.now }
 {
     word.len() >= 2 && word[0] == b'0' && word[1] == b'x'
@@ -73,12 +74,17 @@ pub(crate) fn limited(low: u64, high: u64, word: &[u8]) -> Result<u64, LineError
     }
 }
 
-/// A number within these limits.
-#[tactic(auto, unfolding(crate::specs::Words::number))]
+/// A number within these limits. Where it is one it is read in one pass; else its form is looked at for the cause.
+#[tactic(auto, unfolding(crate::specs::Words::number, crate::specs::Words::limited))]
 pub fn number_within(low: u64, high: u64, word: &[u8]) -> Result<u64, LineError>
     ensures value { Answers (λ x. x) result (words.number low high word.now) }
     ensures high { IfOk result (λ n. n ≤ high) }
 {
+    if let Some(n) = number_to_end(high, word)
+        && low <= n
+    {
+        return Ok(n);
+    }
     if is_number(word) {
         limited(low, high, word)
     } else {
