@@ -15,16 +15,16 @@ use ca_script_lines::{Line, What, take_what};
 use ca_script_words::{LineError, LineWords, ScriptCause, consumer_number, is_consumer};
 use std::alloc::Global;
 
-/// Whether each byte is a space or a printable character of ASCII.
+/// Whether each byte is a space or a printable character of ASCII. No byte ends the loop, so that several are looked at
+/// at once.
 fn is_text(line: &[u8]) -> bool
     ensures { result ≡ list_all script.is_text line.now }
 {
+    let mut all = true;
     for c in line {
-        if *c < 32 || *c > 126 {
-            return false;
-        }
+        all = all && 32 <= *c && *c <= 126;
     }
-    true
+    all
 }
 
 /// Whether a line is a comment.

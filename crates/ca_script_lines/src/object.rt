@@ -189,6 +189,7 @@ fn queue_line(alloc: Global, name: &[u8], words: &mut LineWords) -> Result<What,
 }
 
 /// What a consumer's line calls, by its name.
+#[inline(never)]
 #[tactic(auto, unfolding(crate::specs::Grammar::consumer_lines))]
 pub(crate) fn named_line(
     alloc: Global,

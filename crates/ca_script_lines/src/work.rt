@@ -15,7 +15,7 @@ use std::alloc::Global;
 
 /// A request of a send queue.
 #[tactic(auto, unfolding(crate::specs::Grammar::post_row))]
-fn post(alloc: Global, words: &mut LineWords) -> Result<What, LineError>
+pub(crate) fn post(alloc: Global, words: &mut LineWords) -> Result<What, LineError>
     ensures { AnswersFrom (λ x. x) result words.new (read_row grammar.post_row words.old) }
 {
     let slot = take_slot(words)?;

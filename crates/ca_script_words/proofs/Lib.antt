@@ -1,3 +1,4 @@
 pub mod NumberLemmas
 pub mod ListLemmas
 pub mod FrontLemmas
+pub mod LineLemmas

@@ -61,16 +61,3 @@ within_more ws rest w left h some = rw (next_is ws w rest h) (same_test (length 
 pub ruleset reading = (behind_more, behind_refused, behind_all, length_next)
 
 pub ruleset testing = (all_more, all_bad, all_none, count_more, count_over, count_none, within_more, length_next)
-
--- ---- words that are not empty
-
-pub skipped : (ws rest : List (List ℕ)) (w : List ℕ) → next_of ws ≡ Some (w, rest) → eqb (length w) 0 ≡ true → filter is_word rest ≡ filter is_word ws
-skipped ws rest w h e = rw (next_is ws w rest h, e) refl
-
-pub first_found : (ws rest : List (List ℕ)) (w : List ℕ) → next_of ws ≡ Some (w, rest) → eqb (length w) 0 ≡ false → first_word (filter is_word ws) ≡ Ok (w, filter is_word rest)
-first_found ws rest w h e = rw (next_is ws w rest h, e) refl
-
-pub none_found : (ws : List (List ℕ)) → next_of ws ≡ None → first_word (filter is_word ws) ≡ Err Missing
-none_found ws h = rw (next_none ws h) refl
-
-pub ruleset skipping = (skipped, first_found, none_found, length_next)

@@ -1,19 +1,18 @@
-ghost use Rattle.std.specs.Prelude.{◌≡◌, ◌==◌, length, if◌then◌else◌, Ok, Err};
+ghost use Rattle.std.specs.Prelude.{◌≡◌, ◌==◌, ◌≤◌, false, length, take, drop, slice_index, if◌then◌else◌, Ok, Err};
 ghost use Rattle.ca_script_words.specs.declared.cause.ScriptCause.TheVariants as causes;
 ghost use Rattle.ca_script_words.specs.Reading as reading;
 ghost use Rattle.ca_script_words.specs.Reading.{Answers, AnswersFrom};
-ghost use Rattle.std.specs.List.{filter};
-ghost use Rattle.ca_script_words.specs.Words.{is_word, words_of};
+ghost use Rattle.std.specs.List.{position_or_len};
+ghost use Rattle.ca_script_words.specs.Words.{words_of};
 
 use crate::cause::ScriptCause;
 use crate::line_error::LineError;
-use ca_reading_words::Pieces;
 use std::marker::Model;
 
 /// The words of a line, from the front. Contracts see them as a list.
 #[derive(Drop)]
 pub struct LineWords<'a> {
-    parts: Pieces<'a>,
+    text: &'a [u8],
 }
 
 impl<'a> Model for LineWords<'a> {
@@ -30,16 +29,21 @@ impl<'a> LineWords<'a> {
     pub fn of(line: &'a [u8]) -> LineWords<'a>
         ensures { result ≡ words_of line.now }
     {
-        LineWords {
-            parts: Pieces::of(b' ', line),
-        }
+        LineWords { text: line }
     }
 
     /// Takes the first word. `Missing` comes exactly where none is left.
+    #[tactic(auto, using(crate::proofs::LineLemmas::cutting))]
     pub fn take_word(&mut self) -> Result<&'a [u8], LineError>
         ensures { AnswersFrom (λ w. w.now) result self.new (reading.first_word self.old) }
     {
-        first_word(&mut self.parts)
+        let text = behind_spaces(self.text);
+        if text.is_empty() {
+            return Err(LineError::Refused(ScriptCause::Missing));
+        }
+        let (word, rest) = cut(text);
+        *self = LineWords::of(rest);
+        Ok(word)
     }
 
     /// Takes what is left, which has to be nothing. `Extra` comes exactly where a word is left.
@@ -54,16 +58,40 @@ impl<'a> LineWords<'a> {
     }
 }
 
-/// Takes the parts of a line up to the first that is not empty, and this one too.
-#[tactic(auto, using(crate::proofs::ListLemmas::skipping))]
-fn first_word<'a>(parts: &mut Pieces<'a>) -> Result<&'a [u8], LineError>
-    ensures { AnswersFrom (λ w. w.now) result (filter is_word parts.new)
-        (reading.first_word (filter is_word parts.old)) }
+/// What stands behind the spaces at the front of a text.
+#[inline(always)]
+fn behind_spaces(text: &[u8]) -> &[u8]
+    ensures words { words_of result.now ≡ words_of text.now }
+    ensures front { (slice_index result.now 0 == 32) ≡ false }
 {
-    while let Ok(word) = parts.take_word() {
-        if !word.is_empty() {
-            return Ok(word);
+    'spaces: for i in 0..text.len() {
+        if text[i] != b' ' {
+            return &text[i..];
         }
     }
-    Err(LineError::Refused(ScriptCause::Missing))
+    &text[text.len()..]
+}
+
+/// How many bytes stand before the first space of a text.
+#[inline(always)]
+fn word_length(text: &[u8]) -> usize
+    ensures place { result ≡ position_or_len (λ b. b == 32) text.now }
+    ensures within { result ≤ length text.now }
+{
+    'word: for i in 0..text.len() {
+        if text[i] == b' ' {
+            return i;
+        }
+    }
+    text.len()
+}
+
+/// What stands before the first space of a text, and what stands from there on.
+#[inline(always)]
+fn cut(text: &[u8]) -> (&[u8], &[u8])
+    ensures word { result.0.now ≡ take (position_or_len (λ b. b == 32) text.now) text.now }
+    ensures rest { result.1.now ≡ drop (position_or_len (λ b. b == 32) text.now) text.now }
+{
+    let length = word_length(text);
+    (&text[..length], &text[length..])
 }
