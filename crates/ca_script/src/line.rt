@@ -22,7 +22,7 @@ fn is_text(line: &[u8]) -> bool
 {
     let mut all = true;
     for c in line {
-        all = all && 32 <= *c && *c <= 126;
+        all &= 32 <= *c && *c <= 126;
     }
     all
 }
