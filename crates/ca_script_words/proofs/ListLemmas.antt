@@ -1,13 +1,11 @@
 -- Lists that are read word by word.
 use Rattle.std.proofs.Common.{◌≡◌, ℕ, suc, ◌-◌, ◌<◌, Bool, true, false, eqb, leb, List, [], ◌∷◌, ◌++◌, length, Some, None, Result, Ok, Err, refl, ap, arith, append_assoc}
-use Rattle.std.specs.List.{filter, list_all}
+use Rattle.std.specs.List.{list_all}
 use Rattle.ca_reading_words.specs.Words.{next_of}
 use Rattle.std.proofs.lemmas.Bool.{ne_eqb}
 use Rattle.std.proofs.lemmas.Bool.Decides.{nat_tests}
 use Rattle.ca_reading_words.proofs.ListLemmas.{next_is, next_none}
-use Rattle.ca_script_words.specs.Reading.{◌>>=◌, first_word, each}
-use Rattle.ca_script_words.specs.Words.{is_word}
-use Rattle.ca_script_words.specs.declared.cause.ScriptCause.TheVariants.{Missing}
+use Rattle.ca_script_words.specs.Reading.{◌>>=◌, each}
 use Rattle.ca_script_words.specs.declared.cause.ScriptCause.{ScriptCause}
 
 -- a list that was read, and what is read behind it

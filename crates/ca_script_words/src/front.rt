@@ -1,46 +1,34 @@
 ghost use Rattle.std.specs.Prelude.{◌≡◌, ◌<◌, ◌≤◌, ◌+◌, ◌*◌, ◌∷◌, true, length, IfSome};
-ghost use Rattle.std.specs.Char.{digit_value};
 ghost use Rattle.ca_script_words.specs.Front as front;
 ghost use Rattle.ca_script_words.specs.Front.{BeginsWith};
 ghost use Rattle.ca_script_words.specs.Words as words;
 
 use crate::number::is_hexadecimal;
 
-/// The value of a digit, from 0 for `0` to 35 for `z`, and 36 for any other byte.
-#[inline(always)]
-fn digit(c: u8) -> u8
-    ensures { result ≡ digit_value c }
-{
-    match c {
-        b'0'..=b'9' => c - b'0',
-        b'A'..=b'Z' => c - b'A' + 10,
-        b'a'..=b'z' => c - b'a' + 10,
-        _ => 36,
-    }
-}
-
 /// The number with one digit more, where it fits into 64 bits.
 #[inline(always)]
-fn with_digit(base: u64, n: u64, digit: u8) -> Option<u64>
+fn with_digit(base: u32, n: u64, digit: u32) -> Option<u64>
     ensures { IfSome result (λ m. m ≡ n * base + digit) }
 {
-    n.checked_mul(base)?.checked_add(u64::from(digit))
+    n.checked_mul(u64::from(base))?
+        .checked_add(u64::from(digit))
 }
 
 /// The number that the digits at the front of a text write, where there is one and it fits into 64 bits, and what
 /// stands behind them.
 #[inline(always)]
-fn digits_front(base: u8, text: &[u8]) -> Option<(u64, &[u8])>
+fn digits_front(base: u32, text: &[u8]) -> Option<(u64, &[u8])>
+    requires low { 2 ≤ base }
+    requires high { base ≤ 36 }
     ensures { IfSome result (λ x. ((x.0, x.1.now) ≡ front.digits_front base 0 text.now)
         × (length x.1.now < length text.now)) }
 {
     let mut n: u64 = 0;
     'digits: for i in 0..text.len() {
-        let digit = digit(text[i]);
-        if digit >= base {
-            return if i == 0 { None } else { Some((n, &text[i..])) };
+        match char::from(text[i]).to_digit(base) {
+            Some(digit) => n = with_digit(base, n, digit)?,
+            None => return if i == 0 { None } else { Some((n, &text[i..])) },
         }
-        n = with_digit(u64::from(base), n, digit)?;
     }
     if text.is_empty() {
         None
