@@ -1,8 +1,7 @@
 -- The line of a verb is cut into its words again.
-use Rattle.std.proofs.Common.{◌≡◌, ℕ, ◌+◌, ◌/◌, ◌%◌, ◌<◌, ◌≤◌, Bool, true, false, not, ◌&&◌, eqb, List, [], ◌∷◌, ◌++◌, length, length-append, Option, Some, None, Ok, decimal, map, refl, sym, ap, ◌∙◌, arith, inl, inr}
+use Rattle.std.proofs.Common.{◌≡◌, ℕ, ◌/◌, ◌%◌, ◌<◌, ◌≤◌, Bool, true, false, ◌&&◌, eqb, List, [], ◌∷◌, ◌++◌, length, length-append, Some, None, decimal, map, refl, ap, ◌∙◌, arith, inl, inr}
 use Rattle.std.specs.Int.{w32, to_be_bytes}
 use Rattle.std.specs.List.{filter, list_all}
-use Rattle.std.specs.Str.Parse.{IsNumeral}
 use Rattle.std.proofs.lemmas.Bool.{cases_Bool, ne_eqb}
 use Rattle.hex.specs.Hex.{encode_lower, encode_with, lower_digits}
 use Rattle.std.specs.Prelude.{slice_index}
@@ -13,19 +12,18 @@ use Rattle.ca_base.specs.declared.change.Change.TheVariants as changes
 use Rattle.ca_base.specs.declared.request.SendOp.{SendOp}
 use Rattle.ca_base.specs.declared.request.SendOp.TheVariants as ops
 use Rattle.ca_keys.specs.declared.names.Slot.{Slot}
-use Rattle.ca_keys.specs.declared.rights.Rights.{Rights}
 use Rattle.ca_keys.specs.Spelling.{address_text, rights_text}
 use Rattle.ca_model.specs.declared.verb.Verb.{Verb}
 use Rattle.ca_model.specs.declared.verb.Verb.TheVariants as verbs
 use Rattle.ca_trace_words.specs.Verbs.{change_words, operation_words, poll_words, verb_words, call_words, call}
-use Rattle.ca_trace_words.specs.Words.{Field, Fixed, Number, Lettered, Perhaps, InAdapter, OfDomain, OfSlot, OfQueue, OfKey, Address, Hex, OfRights, OfFlags, OfPieces, OfPages, word, words, joined, led, flags_text, hexadecimal, commas}
+use Rattle.ca_trace_words.specs.Words.{Field, Fixed, Number, Lettered, Perhaps, InAdapter, OfDomain, OfSlot, OfQueue, OfKey, Address, Hex, OfRights, OfFlags, OfPieces, OfPages, word, words, joined, led, flags_text, hexadecimal}
 use Rattle.ca_reading_names.proofs.NameLemmas.{field_plain}
-use Rattle.ca_reading_words.specs.Fits.{Fits, AllFit, most}
+use Rattle.ca_reading_words.specs.Fits.{Fits, AllFit}
 use Rattle.ca_reading_words.specs.Words.{pieces}
 use Rattle.ca_reading_words.proofs.NumberLemmas.{decimal_digits}
 use Rattle.ca_reading_words.proofs.PieceLemmas.{all_lack, pieces_joined, plain_lacks}
 use Rattle.ca_reading_words.proofs.WordLemmas.{most_small}
-use Rattle.ca_script_words.specs.Words.{is_word, words_of, is_consumer, limited}
+use Rattle.ca_script_words.specs.Words.{is_word, words_of}
 use Rattle.ca_script_laws.specs.Agreement.{LinesAgree}
 use Rattle.ca_script_laws.proofs.WordLemmas.{decimal_consumer, decimal_limited}
 use Rattle.ca_script_laws.proofs.VerbLemmas.{verb_said}
