@@ -43,8 +43,8 @@ use ca_wire::{NakCode, Packet, Position};
 /// The most marks of a SEND packet that is placed: those of its writes, of the key that it ends, and of its completion.
 const SEND_MARKS: usize = MAX_PIECES + 2;
 
-/// A SEND packet, with where it stands in its message and the receive of the message: how many bytes came into that before,
-/// and whether the packet takes it.
+/// A SEND packet, with where it stands in its message and the receive of the message: how many bytes came into that
+/// before, and whether the packet takes it.
 #[derive(Clone, Copy)]
 pub struct SendPacket<'a> {
     pub packet: &'a Packet<'a>,
@@ -219,9 +219,9 @@ fn deny_receive(
 ) -> Result<SharedReceive, Memory>
     requires step { CanStep q.old }
     requires takes { MayTake (receiving s.now) q.old }
-    ensures made { IsMade result (rows.behind_marks (requester.local_denial denied.now ∷ []) (rows.receive_failure_effects
-        (without_taken_receive s.now.taken (arrivals.with_flag false q.old)) s.now.receive.now WcStatus.LocalProtection None
-        NakCode.RemoteOperationalError)) q.old
+    ensures made { IsMade result (rows.behind_marks (requester.local_denial denied.now ∷ [])
+        (rows.receive_failure_effects (without_taken_receive s.now.taken (arrivals.with_flag false q.old))
+        s.now.receive.now WcStatus.LocalProtection None NakCode.RemoteOperationalError)) q.old
         q.new marks.old marks.new }
     ensures shared { IfOk result (λ shared. is_taken shared
         ≡ (if s.now.taken then arrivals.has_shared q.old else false)) }

@@ -11,7 +11,7 @@ use Rattle.ca_keys.specs.declared.place.Span.{Span}
 use Rattle.ca_base.specs.Sight.{Sight}
 use Rattle.ca_grant.specs.Reaching.{IsFound, sight_after_write}
 use Rattle.ca_model.specs.machine.Responses.{writes_by}
-use Rattle.ca_rows.specs.Asks.{CanWrite, IsAskOf, IsFoundFirst, IsGranted, IsWrite, MayBeFound, asks_of, touched_by}
+use Rattle.ca_rows.specs.Asks.{CanWrite, IsAskOf, IsFoundFirst, IsGranted, IsWrite, asks_of, touched_by}
 
 pub can_still : {S : Type 0} (sight : S → Sight) (judges touches : S → Ask → Type 0) (before after : S) (ask : Ask) (bytes : List ℕ)
     → ((x : Ask) → judges before x → judges after x) → ((x : Ask) → touches before x → touches after x)
@@ -46,16 +46,6 @@ can_write sight judges touches s asks xs keys bytes allowed same writes =
         → AllByRecursion (IsGranted (sight s)) (asks_of xs) → AllByRecursion IsWrite xs → CanWrite sight judges touches s xs
     by [] keys bytes allowed writes = record {}
     by (x ∷ xs) keys bytes allowed writes = ((keys.0, bytes.0, allowed.0, writes.0), by xs keys.1 bytes.1 allowed.1 writes.1)
-
--- what was found of the first ask is known of the first access that is cut for it
-pub found-first : (s : Sight) (asks : List Ask) (bytes : List ℕ) (found : Option Span) (xs : List (Ask × List ℕ)) → IsFoundFirst s asks found → xs ≡ writes_by asks bytes → MayBeFound s xs found
-found-first s asks bytes found xs is cut = subst (λ (xs : List (Ask × List ℕ)). MayBeFound s xs found) (sym cut) (by asks found is)
-  where
-    by : (asks : List Ask) (found : Option Span) → IsFoundFirst s asks found → MayBeFound s (writes_by asks bytes) found
-    by [] None is = record {}
-    by [] (Some span) is = record {}
-    by (ask ∷ asks) None is = record {}
-    by (ask ∷ asks) (Some span) is = is
 
 -- a list that begins with a longer one begins with its front
 pub still_begins : {A E : Type 0} (result : Result A E) (front longer all more : List Mark) → longer ≡ front ++ more

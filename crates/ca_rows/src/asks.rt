@@ -7,8 +7,8 @@ ghost use Rattle.ca_rows.specs.Asks.{CanJudge, IsGranted};
 use ca_base::{Ask, Denial, DeniedAsk, Span};
 use ca_grant::Reach;
 
-/// Judges an ask, by what `check` said of it, and those behind it: the first that is denied, or else what was found of this
-/// one. One access alone needs to be judged no more.
+/// Judges an ask, by what `check` said of it, and those behind it: the first that is denied, or else what was found of
+/// this one. One access alone needs to be judged no more.
 #[inline(always)]
 pub fn judge_all<'a, R: Reach>(
     reach: &R,

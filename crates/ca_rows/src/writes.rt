@@ -184,8 +184,8 @@ pub struct JudgedAsks<'a, 'f> {
     pub found: Option<&'f Span>,
 }
 
-/// Adds the marks of accesses that write these bytes by these asks, each as many as it touches, in the spare room. Memory
-/// is taken for the bytes of the marks alone.
+/// Adds the marks of accesses that write these bytes by these asks, each as many as it touches, in the spare room. Where
+/// memory for their bytes ends, the marks are as they were.
 #[inline(always)]
 pub fn push_writes(
     alloc: Global,
