@@ -1,14 +1,17 @@
 -- A SEND packet with its receive: when it may be placed, and what its row comes to.
-use Rattle.std.proofs.Common.{◌≡◌, ◌≤◌, ◌+◌, ℕ, suc, nat_lt, if◌then◌else◌, Bool, true, false, List, [], ◌∷◌, length, arith, refl, sym, ap, subst, ◌∙◌, Option, None, Some}
+use Rattle.std.proofs.Common.{◌≡◌, ◌≤◌, ◌+◌, ◌-◌, ℕ, suc, nat_lt, if◌then◌else◌, Bool, true, false, List, [], ◌∷◌, length, get_or, drop, take, true≢false, arith, refl, sym, ap, subst, ◌∙◌, Option, None, Some}
 use Rattle.std.proofs.lemmas.Bool.Decides.{nat_tests}
 use Rattle.std.specs.List.{AllByRecursion}
 use Rattle.std.specs.Prelude.{IfSome}
 use Rattle.ca_keys.specs.declared.access.Ask.{Ask}
 use Rattle.ca_keys.specs.declared.access.Kind.{Kind}
+use Rattle.ca_keys.specs.declared.access.Kind.TheVariants as kinds
 use Rattle.ca_grant.specs.Reaching.{IsPacketAsk}
 use Rattle.ca_base.specs.declared.completion.WcStatus.TheVariants.{LocalLength, LocalProtection, MemoryManagement}
 use Rattle.ca_base.specs.declared.denied_ask.DeniedAsk.{DeniedAsk}
-use Rattle.ca_base.specs.declared.limits.TheConstants.{MAX_MESSAGE_BYTES, MAX_PAYLOAD_BYTES, MAX_PIECES}
+use Rattle.ca_base.specs.declared.limits.TheConstants.{MAX_MESSAGE_BYTES, MAX_PIECES}
+use Rattle.ca_base.specs.declared.queue_numbers.Message.{Message}
+use Rattle.ca_base.specs.declared.queue_numbers.Message.TheVariants as messages
 use Rattle.ca_base.specs.declared.refusals.OpRefusal.{OpRefusal}
 use Rattle.ca_base.specs.declared.request.PlacedReceive.{PlacedReceive}
 use Rattle.ca_base.specs.Sight.{Invalidation, Sight, first_denied}
@@ -27,11 +30,12 @@ use Rattle.ca_model.specs.machine.Expected.{after_send_packet, behind_marks, inv
 use Rattle.ca_model.specs.machine.Requester.{local_denial}
 use Rattle.ca_model.specs.machine.Responses.{local_writes, writes_by}
 use Rattle.ca_model.specs.machine.Row.{Does, Effects, plain_row}
-use Rattle.ca_rows.specs.Asks.{AreWritesFor, CanWrite, IsAskOf, IsGranted, IsWrite, asks_of}
+use Rattle.ca_rows.specs.Asks.{AreAsksFor, CanJudge, IsAskOf, IsGranted}
+use Rattle.ca_rows.proofs.WriteLemmas.{behind-first, can_write, cut_are_writes, cut_asks}
 use Rattle.ca_answering.specs.Numbers.{with_ack_if_asked, without_ack_request, without_taken_receive}
-use Rattle.ca_operations.specs.Receives.{CanHold}
+use Rattle.ca_operations.specs.Receives.{CanHold, holds_receive}
 use Rattle.ca_operations.specs.Taking.{CanMeet, MayEnd, does, outcome_in}
-use Rattle.ca_operations.specs.Sends.{CanPlace, key_end}
+use Rattle.ca_operations.specs.Sends.{CanPlace, key_end, receiving}
 use Rattle.ca_operations.specs.declared.send.SendPacket.{SendPacket}
 
 -- the row of a SEND packet, by its receive
@@ -57,52 +61,37 @@ pub key-of-row : (q : QueuePair) (p : Fields) (position : Position) (r : Receivi
 key-of-row q p position r true e is = rw (e, is) refl
 key-of-row q p position r false e is = rw (e, is) refl
 
-can-of : {S : Type 0} (sight : S → Sight) (judges touches : S → Ask → Type 0) (s : S) (ws : List (Ask × List ℕ))
-    → AllByRecursion (judges s) (asks_of ws) → AllByRecursion (touches s) (asks_of ws) → AllByRecursion (IsGranted (sight s)) (asks_of ws)
-    → AllByRecursion IsWrite ws → CanWrite sight judges touches s ws
-can-of sight judges touches s [] keys bytes allowed writes = tt
-can-of sight judges touches s (w ∷ ws) keys bytes allowed writes =
-    ((keys.0, bytes.0, allowed.0, writes.0), can-of sight judges touches s ws keys.1 bytes.1 allowed.1 writes.1)
-
-as-many : (ws : List (Ask × List ℕ)) → length (asks_of ws) ≡ length ws
-as-many [] = refl
-as-many (w ∷ ws) = ap (λ n. suc n) (as-many ws)
-
 -- each write has one mark
-pub marks-count : (ws : List (Ask × List ℕ)) → length (local_writes ws) ≡ length ws
-marks-count [] = refl
-marks-count (w ∷ ws) = ap (λ n. suc n) (marks-count ws)
-
-few-writes : (ws : List (Ask × List ℕ)) (asks : List Ask) (n : ℕ) → asks_of ws ≡ asks → length asks ≤ n → length ws ≤ n
-few-writes ws asks n e le = omega (arith, as-many ws, ap length e, le)
+pub marks-count : (asks : List Ask) (bytes : List ℕ) → length (local_writes (writes_by asks bytes)) ≡ length asks
+marks-count [] bytes = refl
+marks-count (ask ∷ asks) bytes = ap (λ n. suc n) (marks-count asks (drop ask.touch bytes))
 
 most-of : (room bytes most : ℕ) → nat_lt room bytes ≡ false → room ≤ most → bytes ≤ most
 most-of room bytes most e le = grind (arith, nat_tests)
 
--- a packet that fits its receive, whose list is allowed, may be placed by the writes that were cut for it
-pub can-place : {S : Type 0} (sight : S → Sight) (judges touches : S → Ask → Type 0) (ends : S → Invalidation → Type 0) (reach : S) (q : QueuePair) (s : SendPacket)
-    (asks : List Ask) (ws : List (Ask × List ℕ))
-    → CanHold q s.receiving → length s.packet.now.payload ≤ MAX_PAYLOAD_BYTES → is_too_long s.packet.now s.receiving ≡ false
-    → CanMeet sight judges touches ends reach q (send_row (with_flag false q) s.packet.now s.position s.receiving)
-    → asks ≡ receive_asks q s.packet.now s.receiving → length asks ≤ MAX_PIECES
+-- a packet that fits its receive, whose list is allowed, may be placed by the asks for its bytes
+pub can-place : {S : Type 0} (sight : S → Sight) (judges touches : S → Ask → Type 0) (ends : S → Invalidation → Type 0) (reach : S) (q : QueuePair) (s : SendPacket) (asks : List Ask)
+    → CanHold q (receiving s) → is_too_long s.packet.now (receiving s) ≡ false
+    → CanMeet sight judges touches ends reach q (send_row (with_flag false q) s.packet.now s.position (receiving s))
+    → asks ≡ receive_asks q s.packet.now (receiving s) → length asks ≤ MAX_PIECES → AreAsksFor kinds.Write (length s.packet.now.payload) asks
     → AllByRecursion (IsGranted (sight reach)) asks → first_denied (sight reach) asks ≡ None
-    → ws ≡ writes_by asks s.packet.now.payload → AreWritesFor asks ws
-    → CanPlace sight judges touches ends reach q s ws
-can-place {S} sight judges touches ends reach q s asks ws hold payload fits can is few granted none cut writes =
-    let denied : first_denied (sight reach) (receive_asks q s.packet.now s.receiving) ≡ None = subst (λ (xs : List Ask). first_denied (sight reach) xs ≡ None) is none in
-    let row : (send_row (with_flag false q) s.packet.now s.position s.receiving).asks ≡ receive_asks q s.packet.now s.receiving = asks-of-row q s.packet.now s.position s.receiving s.receiving.taken fits refl in
-    let by : asks_of ws ≡ receive_asks q s.packet.now s.receiving = writes.by ∙ is in
+    → CanPlace sight judges touches ends reach q s asks
+can-place {S} sight judges touches ends reach q s asks hold fits can is few for granted none =
+    let p : Fields = s.packet.now in
+    let denied : first_denied (sight reach) (receive_asks q p (receiving s)) ≡ None = subst (λ (xs : List Ask). first_denied (sight reach) xs ≡ None) is none in
+    let row : (send_row (with_flag false q) p s.position (receiving s)).asks ≡ receive_asks q p (receiving s) = asks-of-row q p s.position (receiving s) s.taken fits refl in
     record {
-      fitting = record { most = most-of (list_length s.receiving.receive.receive.list.items) (s.receiving.before + length s.packet.now.payload) MAX_MESSAGE_BYTES fits hold.sound.bytes; receive = hold.waits };
+      fitting = record { most = most-of (list_length s.receive.now.receive.list.items) (s.before + length p.payload) MAX_MESSAGE_BYTES fits hold.sound.bytes; receive = hold.waits };
       fits = fits;
       none = denied;
-      cut = cut ∙ ap (λ (xs : List Ask). writes_by xs s.packet.now.payload) is;
-      can = can-of sight judges touches reach ws
-          (subst (λ (xs : List Ask). AllByRecursion (judges reach) xs) (row ∙ sym by) can.asks.keys)
-          (subst (λ (xs : List Ask). AllByRecursion (touches reach) xs) (row ∙ sym by) (can.asks.bytes (subst (λ (xs : List Ask). first_denied (sight reach) xs ≡ None) (sym row) denied)))
-          (subst (λ (xs : List Ask). AllByRecursion (IsGranted (sight reach)) xs) (sym writes.by) granted) writes.each;
-      few = few-writes ws asks MAX_PIECES writes.by few;
-      ended = subst (λ (i : Option Invalidation). IfSome i (MayEnd sight ends reach q)) (key-of-row q s.packet.now s.position s.receiving s.receiving.taken fits refl) can.ended;
+      asks_are = is;
+      enough = for.touched;
+      can = can_write sight judges touches reach asks (writes_by asks p.payload)
+          (subst (λ (xs : List Ask). AllByRecursion (judges reach) xs) (row ∙ sym is) can.asks.keys)
+          (subst (λ (xs : List Ask). AllByRecursion (touches reach) xs) (row ∙ sym is) (can.asks.bytes (subst (λ (xs : List Ask). first_denied (sight reach) xs ≡ None) (sym row) denied)))
+          granted (cut_asks asks p.payload) (cut_are_writes asks p.payload for.each for.touched);
+      few = few;
+      ended = subst (λ (i : Option Invalidation). IfSome i (MayEnd sight ends reach q)) (key-of-row q p s.position (receiving s) s.taken fits refl) can.ended;
     }
 
 -- effects that take the receive of a shared queue, where the packet takes a receive
@@ -197,3 +186,26 @@ acknowledged-end false q p Only r i = refl
 pub packet-asks : (kind : Kind) (asks : List Ask) → AllByRecursion (IsAskOf kind) asks → AllByRecursion IsPacketAsk asks
 packet-asks kind [] all = tt
 packet-asks kind (ask ∷ asks) all = (all.0.0, packet-asks kind asks all.1)
+
+-- the receive of a packet, where the message in progress holds one, and where it holds none
+pub receiving-held : (q : QueuePair) (next : Option PlacedReceive) (m : Option Message) → holds_receive m ≡ true → receiving_of q next m ≡ receiving_of q None m
+receiving-held q next (Some (messages.Send place receive count)) holds = refl
+receiving-held q next (Some (messages.Write key address left whole)) holds = absurd (true≢false (sym holds))
+receiving-held q next None holds = absurd (true≢false (sym holds))
+
+pub receiving-next : (q : QueuePair) (next : Option PlacedReceive) (m : Option Message) (r : PlacedReceive) → holds_receive m ≡ false → next ≡ Some r
+    → receiving_of q next m ≡ Some (record { receive = r; before = 0; taken = true })
+receiving-next q next (Some (messages.Send place receive count)) r holds is = absurd (true≢false holds)
+receiving-next q next (Some (messages.Write key address left whole)) r holds is = rw is refl
+receiving-next q next None r holds is = rw is refl
+
+-- some asks are the first and those behind it
+pub whole : (d : Ask) (asks : List Ask) → 1 ≤ length asks → get_or asks 0 d ∷ take (length asks - 1) (drop 1 asks) ≡ asks
+whole d [] some = grind (arith, some)
+whole d (ask ∷ asks) some = ap (λ (xs : List Ask). ask ∷ xs) (behind-first ask asks)
+
+pub judge-behind : {S : Type 0} (judges : S → Ask → Type 0) (reach : S) (asks : List Ask) → CanJudge judges reach asks
+    → CanJudge judges reach (take (length asks - 1) (drop 1 asks))
+judge-behind judges reach [] can = record { keys = record {}; packet = record {} }
+judge-behind judges reach (ask ∷ asks) can =
+    subst (λ (xs : List Ask). CanJudge judges reach xs) (sym (behind-first ask asks)) (record { keys = can.keys.1; packet = can.packet.1 })

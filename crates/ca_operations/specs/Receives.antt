@@ -1,6 +1,8 @@
 -- The receive that a packet takes, and when that waits in its queue. Contracts cite it.
 use Rattle.std.specs.Prelude.{◌≡◌, ℕ, ◌<◌, ◌≤◌, Bool, true, false, List, Option, None, Some, IfSome}
 use Rattle.ca_base.specs.declared.limits.TheConstants.{MAX_MESSAGE_BYTES, MAX_PAYLOAD_BYTES}
+use Rattle.ca_base.specs.declared.queue_numbers.Message.{Message}
+use Rattle.ca_base.specs.declared.queue_numbers.Message.TheVariants as messages
 use Rattle.ca_base.specs.declared.request.Piece.{Piece}
 use Rattle.ca_base.specs.objects.QueuePair.{QueuePair}
 use Rattle.ca_base.specs.declared.request.PlacedReceive.{PlacedReceive}
@@ -43,6 +45,11 @@ pub record CanHold (q : QueuePair) (r : Receiving) : Type 0 where
 pub record IsReceiving (q : QueuePair) (receiving found : Option Receiving) : Type 0 where
   pub value : found ≡ receiving
   pub can : IfSome found (CanHold q)
+
+-- the message in progress holds a receive
+abbrev pub holds_receive : Option Message → Bool
+holds_receive (Some (messages.Send place receive count)) = true
+holds_receive message = false
 
 -- the bytes of a packet, those before it and those of a list are no more than may be
 pub record AreCounted (count before : ℕ) (list : List Piece) : Type 0 where

@@ -1,4 +1,4 @@
-ghost use Rattle.std.specs.Prelude.{◌≡◌, ◌+◌, ◌<◌, ◌≤◌, [], IfOk, IfSome, Some, length, nat_lt, option_copied};
+ghost use Rattle.std.specs.Prelude.{◌≡◌, ◌+◌, ◌<◌, ◌≤◌, [], IfOk, IfSome, None, Some, length, nat_lt, option_copied};
 ghost use Rattle.std.specs.Option.{option_map};
 ghost use Rattle.ca_keys.specs.declared.access.Kind.{Kind};
 ghost use Rattle.ca_base.specs.declared.limits.TheConstants.{MAX_PAYLOAD_BYTES, MAX_PIECES};
@@ -9,7 +9,8 @@ ghost use Rattle.ca_model.specs.machine.Expected as rows;
 ghost use Rattle.ca_model.specs.machine.Invariants.{IsQueue, IsSharedReceives};
 ghost use Rattle.ca_model.specs.machine.Numbering.{list_asks};
 ghost use Rattle.ca_rows.specs.Asks.{AreAsksFor};
-ghost use Rattle.ca_operations.specs.Receives.{AreCounted, CanReceive, IsNext, IsReceiving};
+ghost use Rattle.ca_operations.specs.Receives.{AreCounted, IsNext, IsReceiving};
+ghost use Rattle.ca_operations.specs.Receives as receives;
 
 use arrayvec::ArrayVec;
 use ca_answering::next_posting;
@@ -76,12 +77,18 @@ pub fn find_receive(q: &QueuePart, srq: Option<&Srq>) -> Result<Option<PlacedRec
     }
 }
 
-/// The receive of a SEND packet: the next one where the message begins, and else that of the message in progress.
+/// Whether the message in progress holds a receive.
+pub fn holds_receive(q: &QueuePart) -> bool
+    ensures { result ≡ receives.holds_receive q.now.responder.message }
+{
+    matches!(q.responder.message, Some(Message::Send { .. }))
+}
+
+/// A copy of the receive of the message in progress, if it holds one.
 #[inline(always)]
-pub fn receiving_of(q: &QueuePart, next: Option<PlacedReceive>) -> Result<Option<Receiving>, Memory>
+pub fn receiving_of(q: &QueuePart) -> Result<Option<Receiving>, Memory>
     requires queue { IsQueue q.now }
-    requires next { CanReceive q.now next }
-    ensures { IfOk result (IsReceiving q.now (rows.receiving_of q.now next q.now.responder.message)) }
+    ensures { IfOk result (IsReceiving q.now (rows.receiving_of q.now None q.now.responder.message)) }
 {
     if let Some(
         Message::Send {
@@ -100,14 +107,7 @@ pub fn receiving_of(q: &QueuePart, next: Option<PlacedReceive>) -> Result<Option
             taken: false,
         }));
     }
-    match next {
-        Some(receive) => Ok(Some(Receiving {
-            receive,
-            before: 0,
-            taken: true,
-        })),
-        None => Ok(None),
-    }
+    Ok(None)
 }
 
 /// Takes the next receive of the queue pair's own, where it has one.

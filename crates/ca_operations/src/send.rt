@@ -1,7 +1,8 @@
-ghost use Rattle.std.specs.Prelude.{◌≡◌, ◌+◌, ◌≤◌, IfOk, None, Some, false, if◌then◌else◌, length};
+ghost use Rattle.std.specs.Prelude.{◌≡◌, ◌+◌, ◌≤◌, ◌∷◌, [], IfOk, IfSome, None, Some, false, true, if◌then◌else◌, length};
 ghost use Rattle.std.specs.Option.{option_map};
 ghost use Rattle.ca_base.specs.declared.completion.WcStatus.{WcStatus};
 ghost use Rattle.ca_base.specs.declared.limits.TheConstants.{MAX_PAYLOAD_BYTES};
+ghost use Rattle.ca_base.specs.declared.queue_numbers.Message.{Message};
 ghost use Rattle.ca_base.specs.objects.QueuePair.{QueuePair};
 ghost use Rattle.ca_packet.specs.declared.shape.Shape.{Shape};
 ghost use Rattle.ca_model.specs.declared.marks.TheConstants.{SPARE_MARKS};
@@ -9,117 +10,226 @@ ghost use Rattle.ca_model.specs.machine.Arrivals as arrivals;
 ghost use Rattle.ca_model.specs.machine.CanStep.{CanStep};
 ghost use Rattle.ca_model.specs.machine.Completions as completions;
 ghost use Rattle.ca_model.specs.machine.Expected as rows;
-ghost use Rattle.ca_rows.specs.Asks.{MayBeFound};
+ghost use Rattle.ca_model.specs.machine.Requester as requester;
+ghost use Rattle.ca_rows.specs.Asks.{IsFoundFirst};
 ghost use Rattle.ca_rows.specs.Made.{HasMade, IsMade};
 ghost use Rattle.ca_answering.specs.Flush.{CanFlush, left_to_flush};
 ghost use Rattle.ca_answering.specs.Numbers.{CanPass, without_ack_request, without_taken_receive};
+ghost use Rattle.ca_operations.specs.Receives as receives;
 ghost use Rattle.ca_operations.specs.Receives.{CanHold, MayTake};
 ghost use Rattle.ca_operations.specs.Requests.{IsValidRequest};
+ghost use Rattle.ca_wire.specs.declared.syndrome.NakCode.{NakCode};
 ghost use Rattle.ca_operations.specs.Taking.{CanMeet, IsTaken, MayEnd, is_taken, outcome_in};
-ghost use Rattle.ca_operations.specs.Sends.{CanPlace, IsEnding, IsFitting, key_end, outcome_of_send};
+ghost use Rattle.ca_operations.specs.Sends.{CanPlace, IsEnding, IsFitting, key_end, outcome_of_send, receiving};
 
-use crate::receive::{exceeds_receive, fill_receive_asks, receiving_of, take_own};
+use crate::receive::{exceeds_receive, fill_receive_asks, holds_receive, receiving_of, take_own};
 use crate::request::{Request, SharedReceive, shared_receive};
 use crate::stand_in::{queue_stand_in, replace_by_ack, replace_by_nak};
 use arrayvec::ArrayVec;
 use ca_answering::{FlushedReceives, pass, push_flush, queue_ack, queue_refusal, refuse_invalid};
 use ca_base::limits::MAX_PIECES;
-use ca_base::{Key, Memory, Message, OpRefusal, PlacedReceive, WcOp, WcStatus};
+use ca_base::{
+    DeniedAsk, Key, Memory, Message, OpRefusal, PlacedReceive, RecvRequest, WcOp, WcStatus,
+};
 use ca_grant::Reach;
-use ca_model::{Mark, Marks, Receiving, SPARE_MARKS};
+use ca_model::{Mark, Marks, SPARE_MARKS};
 use ca_qpstate::QueuePart;
 use ca_rows::{
-    JudgedWrites, Received, cut_writes, judge_all, local_denial, receive_failure, receive_mark,
-    reserve_for, write_all,
+    JudgedAsks, Received, judge_all, local_denial, push_writes, receive_failure, receive_mark,
+    reserve_for, write_judged,
 };
 use ca_wire::{NakCode, Packet, Position};
 
 /// The most marks of a SEND packet that is placed: those of its writes, of the key that it ends, and of its completion.
 const SEND_MARKS: usize = MAX_PIECES + 2;
 
-/// A SEND packet, with where it stands in its message and the receive of the message.
-#[derive(Drop)]
+/// A SEND packet, with where it stands in its message and the receive of the message: how many bytes came into that
+/// before, and whether the packet takes it.
+#[derive(Clone, Copy)]
 pub struct SendPacket<'a> {
     pub packet: &'a Packet<'a>,
     pub position: Position,
-    pub receiving: Receiving,
+    pub receive: &'a PlacedReceive,
+    pub before: u32,
+    pub taken: bool,
 }
 
 /// A SEND packet, which goes to the receive of its message: the next one, where it begins the message.
-#[inline(never)]
 pub fn take_send<R: Reach>(
     q: &mut QueuePart,
     reach: &mut R,
     request: &Request<'_>,
     position: Position,
-    next: Option<PlacedReceive>,
+    next: &Option<PlacedReceive>,
     marks: &mut Marks,
 ) -> Result<SharedReceive, Memory>
     requires step { CanStep q.old }
-    requires request { IsValidRequest q.old request.now next }
+    requires request { IsValidRequest q.old request.now next.now }
     requires shape { request.now.shape ≡ Shape.Send position }
     requires at_hand { CanMeet R.sight R.judges R.touches R.ends reach.old q.old
-        (rows.valid_row (arrivals.with_flag false q.old) request.now.packet.now request.now.envelope next
+        (rows.valid_row (arrivals.with_flag false q.old) request.now.packet.now request.now.envelope next.now
         request.now.shape) }
     ensures taken { IsTaken R.written R.revoked result (outcome_in (R.sight reach.old)
-        (rows.valid_row (arrivals.with_flag false q.old) request.now.packet.now request.now.envelope next
+        (rows.valid_row (arrivals.with_flag false q.old) request.now.packet.now request.now.envelope next.now
         request.now.shape))
         q.old q.new marks.old marks.new reach.old reach.new }
 {
-    let Some(receiving) = receiving_of(q, next)? else {
+    if holds_receive(q) {
+        return go_on(q, reach, request, position, next, marks);
+    }
+    let Some(receive) = next else {
         refuse_invalid(q, marks)?;
         return Ok(SharedReceive::Stays);
     };
     let send = SendPacket {
         packet: request.packet,
         position,
-        receiving,
+        receive,
+        before: 0,
+        taken: true,
     };
-    receive_send(q, reach, send, marks)
+    receive_send(q, reach, &send, marks)
+}
+
+/// A SEND packet that goes to the receive of the message in progress. It stands apart, since it copies that.
+#[inline(never)]
+fn go_on<R: Reach>(
+    q: &mut QueuePart,
+    reach: &mut R,
+    request: &Request<'_>,
+    position: Position,
+    next: &Option<PlacedReceive>,
+    marks: &mut Marks,
+) -> Result<SharedReceive, Memory>
+    requires step { CanStep q.old }
+    requires request { IsValidRequest q.old request.now next.now }
+    requires shape { request.now.shape ≡ Shape.Send position }
+    requires at_hand { CanMeet R.sight R.judges R.touches R.ends reach.old q.old
+        (rows.valid_row (arrivals.with_flag false q.old) request.now.packet.now request.now.envelope next.now
+        request.now.shape) }
+    requires holds { receives.holds_receive q.old.responder.message ≡ true }
+    ensures taken { IsTaken R.written R.revoked result (outcome_in (R.sight reach.old)
+        (rows.valid_row (arrivals.with_flag false q.old) request.now.packet.now request.now.envelope next.now
+        request.now.shape))
+        q.old q.new marks.old marks.new reach.old reach.new }
+{
+    let Some(r) = receiving_of(q)? else {
+        refuse_invalid(q, marks)?;
+        return Ok(SharedReceive::Stays);
+    };
+    let send = SendPacket {
+        packet: request.packet,
+        position,
+        receive: &r.receive,
+        before: r.before,
+        taken: r.taken,
+    };
+    receive_send(q, reach, &send, marks)
 }
 
 /// A SEND packet with its receive: it is too long for it, its list is denied, the end of its key is refused, or it is
 /// placed.
-#[inline(always)]
+#[inline(never)]
 fn receive_send<R: Reach>(
     q: &mut QueuePart,
     reach: &mut R,
-    s: SendPacket<'_>,
+    s: &SendPacket<'_>,
     marks: &mut Marks,
 ) -> Result<SharedReceive, Memory>
     requires step { CanStep q.old }
-    requires payload { length s.packet.now.payload ≤ MAX_PAYLOAD_BYTES }
-    requires receiving { CanHold q.old s.receiving }
+    requires payload { length s.now.packet.now.payload ≤ MAX_PAYLOAD_BYTES }
+    requires receiving { CanHold q.old (receiving s.now) }
     requires at_hand { CanMeet R.sight R.judges R.touches R.ends reach.old q.old
-        (rows.send_row (arrivals.with_flag false q.old) s.packet.now s.position s.receiving) }
-    ensures taken { IsTaken R.written R.revoked result (outcome_of_send (R.sight reach.old) q.old s.entry)
+        (rows.send_row (arrivals.with_flag false q.old) s.now.packet.now s.now.position (receiving s.now)) }
+    ensures taken { IsTaken R.written R.revoked result (outcome_of_send (R.sight reach.old) q.old s.now)
+        q.old q.new marks.old marks.new reach.old reach.new }
+{
+    let list = s.receive.receive.list.as_slice();
+    if exceeds_receive(s.packet, s.before, list) {
+        let none = Vec::new(q.alloc());
+        let (status, code) = (WcStatus::LocalLength, NakCode::InvalidRequest);
+        return fail_receive(q, s, status, code, none, marks);
+    }
+    let mut asks = ArrayVec::new();
+    fill_receive_asks(q, s.packet, s.before, list, &mut asks);
+    let asks = asks.as_slice();
+    let [ask, behind @ ..] = asks else {
+        return place_none(q, reach, s, marks);
+    };
+    let checked = reach.check(ask);
+    match judge_all(reach, ask, &checked, behind) {
+        Ok(found) => {
+            let found = Some(found);
+            place(q, reach, s, &JudgedAsks { asks, found }, marks)
+        }
+        Err(denied) => deny_receive(q, s, &denied, marks),
+    }
+}
+
+/// A SEND packet of no bytes is placed.
+#[inline(never)]
+fn place_none<R: Reach>(
+    q: &mut QueuePart,
+    reach: &mut R,
+    s: &SendPacket<'_>,
+    marks: &mut Marks,
+) -> Result<SharedReceive, Memory>
+    requires step { CanStep q.old }
+    requires can { CanPlace R.sight R.judges R.touches R.ends reach.old q.old s.now [] }
+    ensures taken { IsTaken R.written R.revoked result (outcome_of_send (R.sight reach.old) q.old s.now)
+        q.old q.new marks.old marks.new reach.old reach.new }
+{
+    let none = JudgedAsks {
+        asks: &[],
+        found: None,
+    };
+    place(q, reach, s, &none, marks)
+}
+
+/// A SEND packet whose list is allowed is placed, and may end a key.
+#[inline(always)]
+fn place<R: Reach>(
+    q: &mut QueuePart,
+    reach: &mut R,
+    s: &SendPacket<'_>,
+    judged: &JudgedAsks<'_, '_>,
+    marks: &mut Marks,
+) -> Result<SharedReceive, Memory>
+    requires step { CanStep q.old }
+    requires can { CanPlace R.sight R.judges R.touches R.ends reach.old q.old s.now judged.now.asks.now }
+    requires found { IfSome judged.now.found (λ f. IsFoundFirst (R.sight reach.old) judged.now.asks.now (Some f.now)) }
+    ensures taken { IsTaken R.written R.revoked result (outcome_of_send (R.sight reach.old) q.old s.now)
         q.old q.new marks.old marks.new reach.old reach.new }
 {
     let p = s.packet;
-    let r = &s.receiving;
-    let list = r.receive.receive.list.as_slice();
-    if exceeds_receive(p, r.before, list) {
-        let none = Vec::new(q.alloc());
-        let (status, code) = (WcStatus::LocalLength, NakCode::InvalidRequest);
-        return fail_receive(q, r, status, code, none, marks);
-    }
-    let mut asks = ArrayVec::new();
-    fill_receive_asks(q, p, r.before, list, &mut asks);
-    let found = match judge_all(reach, asks.as_slice()) {
-        Ok(found) => found,
-        Err(denied) => {
-            let mut made = Vec::new(q.alloc());
-            made.push(local_denial(&denied))?;
-            let (status, code) = (WcStatus::LocalProtection, NakCode::RemoteOperationalError);
-            return fail_receive(q, r, status, code, made, marks);
-        }
-    };
-    let writes = cut_writes(q.alloc(), asks.as_slice(), p.payload)?;
-    let judged = JudgedWrites { writes, found };
     match p.ieth {
         None => place_send(q, reach, s, judged, marks),
         Some(key) => place_and_end(q, reach, s, judged, Key(key), marks),
     }
+}
+
+/// The list of the receive is denied, and so it fails. It stands apart, since that is rare.
+#[cold]
+#[inline(never)]
+fn deny_receive(
+    q: &mut QueuePart,
+    s: &SendPacket<'_>,
+    denied: &DeniedAsk,
+    marks: &mut Marks,
+) -> Result<SharedReceive, Memory>
+    requires step { CanStep q.old }
+    requires takes { MayTake (receiving s.now) q.old }
+    ensures made { IsMade result (rows.behind_marks (requester.local_denial denied.now ∷ [])
+        (rows.receive_failure_effects (without_taken_receive s.now.taken (arrivals.with_flag false q.old))
+        s.now.receive.now WcStatus.LocalProtection None NakCode.RemoteOperationalError)) q.old
+        q.new marks.old marks.new }
+    ensures shared { IfOk result (λ shared. is_taken shared
+        ≡ (if s.now.taken then arrivals.has_shared q.old else false)) }
+{
+    let mut made = Vec::new(q.alloc());
+    made.push(local_denial(denied))?;
+    let (status, code) = (WcStatus::LocalProtection, NakCode::RemoteOperationalError);
+    fail_receive(q, s, status, code, made, marks)
 }
 
 /// The receive fails with this status, behind these marks; the packet is refused. It stands apart, since that is rare.
@@ -127,24 +237,25 @@ fn receive_send<R: Reach>(
 #[inline(never)]
 fn fail_receive(
     q: &mut QueuePart,
-    r: &Receiving,
+    s: &SendPacket<'_>,
     status: WcStatus,
     code: NakCode,
     mut made: Vec<Mark>,
     marks: &mut Marks,
 ) -> Result<SharedReceive, Memory>
     requires step { CanStep q.old }
-    requires takes { MayTake r.now q.old }
+    requires takes { MayTake (receiving s.now) q.old }
     requires few { length made.items ≤ 1 }
     ensures made { IsMade result (rows.behind_marks made.items (rows.receive_failure_effects
-        (without_taken_receive r.now.taken (arrivals.with_flag false q.old)) r.now.receive status None code)) q.old
+        (without_taken_receive s.now.taken (arrivals.with_flag false q.old)) s.now.receive.now status None code)) q.old
         q.new marks.old marks.new }
     ensures shared { IfOk result (λ shared. is_taken shared
-        ≡ (if r.now.taken then arrivals.has_shared q.old else false)) }
+        ≡ (if s.now.taken then arrivals.has_shared q.old else false)) }
 {
-    let shared = taken_shared(q, r);
-    made.push(receive_failure(q.queue, r.receive.place, &r.receive.receive, status, None))?;
-    push_flush(q, flushed_behind(r), &mut made)?;
+    let shared = taken_shared(q, s);
+    let receive = s.receive;
+    made.push(receive_failure(q.queue, receive.place, &receive.receive, status, None))?;
+    push_flush(q, flushed_behind(s), &mut made)?;
     reserve_for(made.as_slice(), 0, marks)?;
     queue_refusal(q, code)?;
     marks.append(made);
@@ -152,22 +263,22 @@ fn fail_receive(
 }
 
 /// What becomes of the next receive of the shared receive queue.
-fn taken_shared(q: &QueuePart, r: &Receiving) -> SharedReceive
-    ensures { is_taken result ≡ (if r.now.taken then arrivals.has_shared q.now else false) }
+fn taken_shared(q: &QueuePart, s: &SendPacket<'_>) -> SharedReceive
+    ensures { is_taken result ≡ (if s.now.taken then arrivals.has_shared q.now else false) }
 {
-    if r.taken {
+    if s.taken {
         return shared_receive(q);
     }
     SharedReceive::Stays
 }
 
 /// Which receives are flushed behind that of the packet.
-fn flushed_behind(r: &Receiving) -> FlushedReceives
+fn flushed_behind(s: &SendPacket<'_>) -> FlushedReceives
     ensures left { (q : QueuePair)
-        → left_to_flush result q ≡ arrivals.with_message None (without_taken_receive r.now.taken q) }
-    ensures waits { (q : QueuePair) → MayTake r.now q → CanFlush result q }
+        → left_to_flush result q ≡ arrivals.with_message None (without_taken_receive s.now.taken q) }
+    ensures waits { (q : QueuePair) → MayTake (receiving s.now) q → CanFlush result q }
 {
-    if r.taken {
+    if s.taken {
         return FlushedReceives::BehindNext;
     }
     FlushedReceives::Waiting
@@ -178,21 +289,27 @@ fn flushed_behind(r: &Receiving) -> FlushedReceives
 fn place_send<R: Reach>(
     q: &mut QueuePart,
     reach: &mut R,
-    s: SendPacket<'_>,
-    judged: JudgedWrites,
+    s: &SendPacket<'_>,
+    judged: &JudgedAsks<'_, '_>,
     marks: &mut Marks,
 ) -> Result<SharedReceive, Memory>
     requires step { CanStep q.old }
-    requires can { CanPlace R.sight R.judges R.touches R.ends reach.old q.old s judged.writes }
-    requires found { MayBeFound (R.sight reach.old) judged.writes judged.found }
-    requires no_key { s.packet.now.ieth ≡ None }
-    ensures taken { IsTaken R.written R.revoked result (outcome_of_send (R.sight reach.old) q.old s.entry)
+    requires can { CanPlace R.sight R.judges R.touches R.ends reach.old q.old s.now judged.now.asks.now }
+    requires found { IfSome judged.now.found (λ f. IsFoundFirst (R.sight reach.old) judged.now.asks.now (Some f.now)) }
+    requires no_key { s.now.packet.now.ieth ≡ None }
+    ensures taken { IsTaken R.written R.revoked result (outcome_of_send (R.sight reach.old) q.old s.now)
         q.old q.new marks.old marks.new reach.old reach.new }
 {
-    let shared = taken_shared(q, &s.receiving);
+    let p = s.packet;
+    let shared = taken_shared(q, s);
     marks.reserve(SEND_MARKS as u32 + SPARE_MARKS)?;
-    queue_ack(q, s.packet)?;
-    write_all(reach, judged, marks);
+    let count = marks.as_slice().len();
+    push_writes(q.alloc(), judged.asks, p.payload, marks)?;
+    if let Err(memory) = queue_ack(q, p) {
+        marks.truncate(count);
+        return Err(memory);
+    }
+    write_judged(reach, judged, p.payload);
     end_send(q, s, marks);
     Ok(shared)
 }
@@ -202,29 +319,33 @@ fn place_send<R: Reach>(
 fn place_and_end<R: Reach>(
     q: &mut QueuePart,
     reach: &mut R,
-    s: SendPacket<'_>,
-    judged: JudgedWrites,
+    s: &SendPacket<'_>,
+    judged: &JudgedAsks<'_, '_>,
     key: Key,
     marks: &mut Marks,
 ) -> Result<SharedReceive, Memory>
     requires step { CanStep q.old }
-    requires can { CanPlace R.sight R.judges R.touches R.ends reach.old q.old s judged.writes }
-    requires found { MayBeFound (R.sight reach.old) judged.writes judged.found }
-    requires key { s.packet.now.ieth ≡ Some key.0 }
-    ensures taken { IsTaken R.written R.revoked result (outcome_of_send (R.sight reach.old) q.old s.entry)
+    requires can { CanPlace R.sight R.judges R.touches R.ends reach.old q.old s.now judged.now.asks.now }
+    requires found { IfSome judged.now.found (λ f. IsFoundFirst (R.sight reach.old) judged.now.asks.now (Some f.now)) }
+    requires key { s.now.packet.now.ieth ≡ Some key.0 }
+    ensures taken { IsTaken R.written R.revoked result (outcome_of_send (R.sight reach.old) q.old s.now)
         q.old q.new marks.old marks.new reach.old reach.new }
 {
     let p = s.packet;
-    let r = &s.receiving;
-    let shared = taken_shared(q, r);
+    let shared = taken_shared(q, s);
     let mut flushed = Vec::new(q.alloc());
-    push_flush(q, flushed_behind(r), &mut flushed)?;
+    push_flush(q, flushed_behind(s), &mut flushed)?;
     reserve_for(flushed.as_slice(), SEND_MARKS, marks)?;
+    let count = marks.as_slice().len();
+    push_writes(q.alloc(), judged.asks, p.payload, marks)?;
     let psn = q.responder.expected;
-    queue_stand_in(&mut q.responder.answers, psn)?;
-    write_all(reach, judged, marks);
+    if let Err(memory) = queue_stand_in(&mut q.responder.answers, psn) {
+        marks.truncate(count);
+        return Err(memory);
+    }
+    write_judged(reach, judged, p.payload);
     if let Err(cause) = end_key(q, reach, key) {
-        marks.push(refused_receive(q, r, cause));
+        marks.push(refused_receive(q, s, cause));
         marks.append(flushed);
         replace_by_nak(&mut q.responder.answers, psn);
         q.responder.nak_sent = false;
@@ -241,14 +362,14 @@ fn place_and_end<R: Reach>(
 }
 
 /// The completion of a receive whose message's key was not ended.
-fn refused_receive(q: &QueuePart, r: &Receiving, cause: OpRefusal) -> Mark
-    ensures { result ≡ completions.receive_failure q.now.queue r.now.receive.place r.now.receive.receive
+fn refused_receive(q: &QueuePart, s: &SendPacket<'_>, cause: OpRefusal) -> Mark
+    ensures { result ≡ completions.receive_failure q.now.queue s.now.receive.now.place s.now.receive.now.receive
         WcStatus.MemoryManagement (Some cause) }
 {
     receive_failure(
         q.queue,
-        r.receive.place,
-        &r.receive.receive,
+        s.receive.place,
+        &s.receive.receive,
         WcStatus::MemoryManagement,
         Some(cause),
     )
@@ -265,48 +386,59 @@ fn end_key<R: Reach>(q: &mut QueuePart, reach: &mut R, key: Key) -> Result<(), O
 /// A SEND packet took effect: its receive is taken where the message begins with it, and the message goes on or ends.
 /// The acknowledgement is queued already.
 #[inline(always)]
-fn end_send(q: &mut QueuePart, s: SendPacket<'_>, marks: &mut Marks)
+fn end_send(q: &mut QueuePart, s: &SendPacket<'_>, marks: &mut Marks)
     requires numbers { CanPass q.old }
-    requires fits { IsFitting q.old s }
+    requires fits { IsFitting q.old s.now }
     requires room { SPARE_MARKS + 1 ≤ marks.old.room }
     ensures { HasMade (rows.after_send_packet
-        (without_taken_receive s.entry.receiving.taken (arrivals.with_flag false q.old))
-        (without_ack_request s.entry.packet.now) s.entry.position s.entry.receiving) q.new marks.old marks.new }
+        (without_taken_receive s.now.taken (arrivals.with_flag false q.old))
+        (without_ack_request s.now.packet.now) s.now.position (receiving s.now)) q.new marks.old marks.new }
 {
-    let SendPacket {
-        packet,
-        position,
-        receiving,
-    } = s;
-    take_receive(q, &receiving);
-    let bytes = receiving.before + packet.payload.len() as u32;
-    if !position.ends() {
-        let PlacedReceive { place, receive } = receiving.receive;
-        q.responder.message = Some(Message::Send {
-            place,
-            receive,
-            bytes,
-        });
+    take_receive(q, s);
+    let p = s.packet;
+    let bytes = s.before + p.payload.len() as u32;
+    if !s.position.ends() {
+        q.responder.message = Some(message_behind(s, bytes));
         pass(q, 1, false);
         return;
     }
     let received = Received {
         op: WcOp::Recv,
         bytes,
-        imm: packet.imm,
-        invalidated: ended_key(packet),
+        imm: p.imm,
+        invalidated: ended_key(p),
     };
-    marks.push(receive_mark(q.queue, &receiving.receive, received));
-    q.responder.message = None;
+    marks.push(receive_mark(q.queue, s.receive, received));
+    if q.responder.message.is_some() {
+        q.responder.message = None;
+    }
     pass(q, 1, true);
 }
 
-/// Takes the next receive of the queue pair's own, where the packet takes it.
-fn take_receive(q: &mut QueuePart, r: &Receiving)
-    requires { MayTake r.now q.old }
-    ensures { q.new ≡ without_taken_receive r.now.taken q.old }
+/// The message in progress behind a packet that does not end it, by so many bytes.
+#[inline(never)]
+fn message_behind(s: &SendPacket<'_>, bytes: u32) -> Message
+    ensures { result ≡ Message.Send s.now.receive.now.place s.now.receive.now.receive bytes }
 {
-    if r.taken {
+    let receive = &s.receive.receive;
+    let mut list = ArrayVec::new();
+    list.try_extend_from_slice(receive.list.as_slice()).unwrap();
+    Message::Send {
+        place: s.receive.place,
+        receive: RecvRequest {
+            id: receive.id,
+            list,
+        },
+        bytes,
+    }
+}
+
+/// Takes the next receive of the queue pair's own, where the packet takes it.
+fn take_receive(q: &mut QueuePart, s: &SendPacket<'_>)
+    requires { MayTake (receiving s.now) q.old }
+    ensures { q.new ≡ without_taken_receive s.now.taken q.old }
+{
+    if s.taken {
         take_own(q);
     }
 }

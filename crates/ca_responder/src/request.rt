@@ -78,7 +78,8 @@ fn take_shared(srq: &mut Srq, taken: SharedReceive)
 /// 6. a SEND fits its receive: `exceeds_receive`;
 /// 7. the receive's list is allowed: `judge_all`;
 /// 8. the key of a WRITE or an atomic allows it: `check` of `Reach`, in `take_write` and `take_atomic`;
-/// 9. its bytes are placed, the atomic acts, or the READ is queued: `write_all`, `place_write`, `act`, `take_read`;
+/// 9. its bytes are placed, the atomic acts, or the READ is queued: `write_judged`, `place_write`, `act`,
+///    `take_read`;
 /// 10. a SEND ends the key that it names: `end_key`;
 /// 11. the expected PSN goes past it, and its message may end: `pass`, in `end_send` and `end_write`.
 #[tactic(auto, using(crate::proofs::WaitingLemmas::lacks_by))]
@@ -129,7 +130,7 @@ fn take_request<R: Reach>(
         return Ok(SharedReceive::Stays);
     }
     match shape {
-        Shape::Send(position) => take_send(q, reach, &request, position, next, marks),
+        Shape::Send(position) => take_send(q, reach, &request, position, &next, marks),
         Shape::Write(position) => take_write(q, reach, &request, position, &next, marks),
         Shape::Read => take_read(q, &request, marks),
         Shape::Atomic(kind) => take_atomic(q, reach, &request, kind, marks),

@@ -1,29 +1,37 @@
-ghost use Rattle.std.specs.Prelude.{◌≡◌, IfErr, IfNone, IfOk, None, OnOk, Some};
+ghost use Rattle.std.specs.Prelude.{◌≡◌, ◌∷◌, IfErr, IfNone, IfOk, None, OnOk, Some};
 ghost use Rattle.std.specs.List.{AllByRecursion};
 ghost use Rattle.ca_base.specs.Sight as sights;
-ghost use Rattle.ca_rows.specs.Asks.{CanJudge, IsFoundFirst, IsGranted};
+ghost use Rattle.ca_grant.specs.Reaching.{IsFound};
+ghost use Rattle.ca_rows.specs.Asks.{CanJudge, IsGranted};
 
-use ca_base::{Ask, DeniedAsk, Span};
+use ca_base::{Ask, Denial, DeniedAsk, Span};
 use ca_grant::Reach;
 
-/// Judges asks: the first that is denied, or else what was found of the first, if there is one. One access alone needs to
-/// be judged no more.
+/// Judges an ask, by what `check` said of it, and those behind it: the first that is denied, or else what was found of
+/// this one. One access alone needs to be judged no more.
 #[inline(always)]
-pub fn judge_all<R: Reach>(reach: &R, asks: &[Ask]) -> Result<Option<Span>, DeniedAsk>
-    requires { CanJudge R.judges reach.now asks.now }
-    ensures denied { IfErr result (λ d. sights.first_denied (R.sight reach.now) asks.now ≡ Some d) }
-    ensures none { OnOk result (sights.first_denied (R.sight reach.now) asks.now ≡ None) }
-    ensures allowed { OnOk result (AllByRecursion (IsGranted (R.sight reach.now)) asks.now) }
-    ensures found { IfOk result (IsFoundFirst (R.sight reach.now) asks.now) }
+pub fn judge_all<'a, R: Reach>(
+    reach: &R,
+    ask: &Ask,
+    checked: &'a Result<Span, Denial>,
+    behind: &[Ask],
+) -> Result<&'a Span, DeniedAsk>
+    requires judges { CanJudge R.judges reach.now behind.now }
+    requires denied { IfErr checked.now (λ d. sights.denial_in (R.sight reach.now) ask.now ≡ Some d) }
+    requires found { IfOk checked.now (IsFound (R.sight reach.now) ask.now) }
+    ensures denied { IfErr result (λ d. sights.first_denied (R.sight reach.now) (ask.now ∷ behind.now) ≡ Some d) }
+    ensures none { OnOk result (sights.first_denied (R.sight reach.now) (ask.now ∷ behind.now) ≡ None) }
+    ensures allowed { OnOk result (AllByRecursion (IsGranted (R.sight reach.now)) (ask.now ∷ behind.now)) }
+    ensures found { IfOk result (λ f. IsFound (R.sight reach.now) ask.now f.now) }
 {
-    let [ask, rest @ ..] = asks else {
-        return Ok(None);
-    };
-    match reach.check(ask) {
-        Err(denial) => Err(DeniedAsk { ask: *ask, denial }),
-        Ok(found) => match first_denied(reach, rest) {
+    match checked {
+        Err(denial) => Err(DeniedAsk {
+            ask: *ask,
+            denial: *denial,
+        }),
+        Ok(found) => match first_denied(reach, behind) {
             Some(denied) => Err(denied),
-            None => Ok(Some(found)),
+            None => Ok(found),
         },
     }
 }

@@ -1,5 +1,0 @@
-use Rattle.std.proofs.Common.{length}
-use Rattle.ca_rows.proofs.writes.+push_writes.Given as goal
-
-abbrev pub decreases-push_writes : goal.decreases-push_writes
-decreases-push_writes l = length l.asks.now
