@@ -1,12 +1,10 @@
 -- A SEND packet with its receive: when it may be placed, and what its row comes to.
-use Rattle.std.proofs.Common.{◌≡◌, ◌≤◌, ◌+◌, ◌-◌, ℕ, suc, nat_lt, if◌then◌else◌, Bool, true, false, List, [], ◌∷◌, length, get_or, drop, take, true≢false, arith, refl, sym, ap, subst, ◌∙◌, Option, None, Some}
+use Rattle.std.proofs.Common.{◌≡◌, ◌≤◌, ◌+◌, ◌-◌, ℕ, nat_lt, if◌then◌else◌, Bool, true, false, List, [], ◌∷◌, length, true≢false, arith, refl, sym, subst, ◌∙◌, Option, None, Some}
 use Rattle.std.proofs.lemmas.Bool.Decides.{nat_tests}
 use Rattle.std.specs.List.{AllByRecursion}
 use Rattle.std.specs.Prelude.{IfSome}
 use Rattle.ca_keys.specs.declared.access.Ask.{Ask}
-use Rattle.ca_keys.specs.declared.access.Kind.{Kind}
 use Rattle.ca_keys.specs.declared.access.Kind.TheVariants as kinds
-use Rattle.ca_grant.specs.Reaching.{IsPacketAsk}
 use Rattle.ca_base.specs.declared.completion.WcStatus.TheVariants.{LocalLength, LocalProtection, MemoryManagement}
 use Rattle.ca_base.specs.declared.denied_ask.DeniedAsk.{DeniedAsk}
 use Rattle.ca_base.specs.declared.limits.TheConstants.{MAX_MESSAGE_BYTES, MAX_PIECES}
@@ -30,8 +28,8 @@ use Rattle.ca_model.specs.machine.Expected.{after_send_packet, behind_marks, inv
 use Rattle.ca_model.specs.machine.Requester.{local_denial}
 use Rattle.ca_model.specs.machine.Responses.{local_writes, writes_by}
 use Rattle.ca_model.specs.machine.Row.{Does, Effects, plain_row}
-use Rattle.ca_rows.specs.Asks.{AreAsksFor, CanJudge, IsAskOf, IsGranted}
-use Rattle.ca_rows.proofs.WriteLemmas.{behind-first, can_write, cut_are_writes, cut_asks}
+use Rattle.ca_rows.specs.Asks.{AreAsksFor, IsGranted}
+use Rattle.ca_rows.proofs.WriteLemmas.{can_write}
 use Rattle.ca_answering.specs.Numbers.{with_ack_if_asked, without_ack_request, without_taken_receive}
 use Rattle.ca_operations.specs.Receives.{CanHold, holds_receive}
 use Rattle.ca_operations.specs.Taking.{CanMeet, MayEnd, does, outcome_in}
@@ -61,11 +59,6 @@ pub key-of-row : (q : QueuePair) (p : Fields) (position : Position) (r : Receivi
 key-of-row q p position r true e is = rw (e, is) refl
 key-of-row q p position r false e is = rw (e, is) refl
 
--- each write has one mark
-pub marks-count : (asks : List Ask) (bytes : List ℕ) → length (local_writes (writes_by asks bytes)) ≡ length asks
-marks-count [] bytes = refl
-marks-count (ask ∷ asks) bytes = ap (λ n. suc n) (marks-count asks (drop ask.touch bytes))
-
 most-of : (room bytes most : ℕ) → nat_lt room bytes ≡ false → room ≤ most → bytes ≤ most
 most-of room bytes most e le = grind (arith, nat_tests)
 
@@ -86,10 +79,10 @@ can-place {S} sight judges touches ends reach q s asks hold fits can is few for 
       none = denied;
       asks_are = is;
       enough = for.touched;
-      can = can_write sight judges touches reach asks (writes_by asks p.payload)
+      can = can_write sight judges touches reach asks p.payload
           (subst (λ (xs : List Ask). AllByRecursion (judges reach) xs) (row ∙ sym is) can.asks.keys)
           (subst (λ (xs : List Ask). AllByRecursion (touches reach) xs) (row ∙ sym is) (can.asks.bytes (subst (λ (xs : List Ask). first_denied (sight reach) xs ≡ None) (sym row) denied)))
-          granted (cut_asks asks p.payload) (cut_are_writes asks p.payload for.each for.touched);
+          granted for;
       few = few;
       ended = subst (λ (i : Option Invalidation). IfSome i (MayEnd sight ends reach q)) (key-of-row q p s.position (receiving s) s.taken fits refl) can.ended;
     }
@@ -182,11 +175,6 @@ acknowledged-end false q p Middle r i = refl
 acknowledged-end false q p Last r i = refl
 acknowledged-end false q p Only r i = refl
 
--- asks that may be handed on are asks of a packet
-pub packet-asks : (kind : Kind) (asks : List Ask) → AllByRecursion (IsAskOf kind) asks → AllByRecursion IsPacketAsk asks
-packet-asks kind [] all = tt
-packet-asks kind (ask ∷ asks) all = (all.0.0, packet-asks kind asks all.1)
-
 -- the receive of a packet, where the message in progress holds one, and where it holds none
 pub receiving-held : (q : QueuePair) (next : Option PlacedReceive) (m : Option Message) → holds_receive m ≡ true → receiving_of q next m ≡ receiving_of q None m
 receiving-held q next (Some (messages.Send place receive count)) holds = refl
@@ -198,14 +186,3 @@ pub receiving-next : (q : QueuePair) (next : Option PlacedReceive) (m : Option M
 receiving-next q next (Some (messages.Send place receive count)) r holds is = absurd (true≢false holds)
 receiving-next q next (Some (messages.Write key address left whole)) r holds is = rw is refl
 receiving-next q next None r holds is = rw is refl
-
--- some asks are the first and those behind it
-pub whole : (d : Ask) (asks : List Ask) → 1 ≤ length asks → get_or asks 0 d ∷ take (length asks - 1) (drop 1 asks) ≡ asks
-whole d [] some = grind (arith, some)
-whole d (ask ∷ asks) some = ap (λ (xs : List Ask). ask ∷ xs) (behind-first ask asks)
-
-pub judge-behind : {S : Type 0} (judges : S → Ask → Type 0) (reach : S) (asks : List Ask) → CanJudge judges reach asks
-    → CanJudge judges reach (take (length asks - 1) (drop 1 asks))
-judge-behind judges reach [] can = record { keys = record {}; packet = record {} }
-judge-behind judges reach (ask ∷ asks) can =
-    subst (λ (xs : List Ask). CanJudge judges reach xs) (sym (behind-first ask asks)) (record { keys = can.keys.1; packet = can.packet.1 })

@@ -197,7 +197,7 @@ fn place<R: Reach>(
 ) -> Result<SharedReceive, Memory>
     requires step { CanStep q.old }
     requires can { CanPlace R.sight R.judges R.touches R.ends reach.old q.old s.now judged.now.asks.now }
-    requires found { IfSome judged.now.found (λ f. IsFoundFirst (R.sight reach.old) judged.now.asks.now (Some f.now)) }
+    requires found { IfSome judged.now.found (λ f. IsFoundFirst (R.sight reach.old) judged.now.asks.now f.now) }
     ensures taken { IsTaken R.written R.revoked result (outcome_of_send (R.sight reach.old) q.old s.now)
         q.old q.new marks.old marks.new reach.old reach.new }
 {
@@ -295,7 +295,7 @@ fn place_send<R: Reach>(
 ) -> Result<SharedReceive, Memory>
     requires step { CanStep q.old }
     requires can { CanPlace R.sight R.judges R.touches R.ends reach.old q.old s.now judged.now.asks.now }
-    requires found { IfSome judged.now.found (λ f. IsFoundFirst (R.sight reach.old) judged.now.asks.now (Some f.now)) }
+    requires found { IfSome judged.now.found (λ f. IsFoundFirst (R.sight reach.old) judged.now.asks.now f.now) }
     requires no_key { s.now.packet.now.ieth ≡ None }
     ensures taken { IsTaken R.written R.revoked result (outcome_of_send (R.sight reach.old) q.old s.now)
         q.old q.new marks.old marks.new reach.old reach.new }
@@ -326,7 +326,7 @@ fn place_and_end<R: Reach>(
 ) -> Result<SharedReceive, Memory>
     requires step { CanStep q.old }
     requires can { CanPlace R.sight R.judges R.touches R.ends reach.old q.old s.now judged.now.asks.now }
-    requires found { IfSome judged.now.found (λ f. IsFoundFirst (R.sight reach.old) judged.now.asks.now (Some f.now)) }
+    requires found { IfSome judged.now.found (λ f. IsFoundFirst (R.sight reach.old) judged.now.asks.now f.now) }
     requires key { s.now.packet.now.ieth ≡ Some key.0 }
     ensures taken { IsTaken R.written R.revoked result (outcome_of_send (R.sight reach.old) q.old s.now)
         q.old q.new marks.old marks.new reach.old reach.new }

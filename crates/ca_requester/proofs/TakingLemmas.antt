@@ -1,16 +1,17 @@
 -- What comes of an answer: the marks of what is finished before it, of its bytes, and of what is finished behind it.
-use Rattle.std.proofs.Common.{◌≡◌, ℕ, ◌+◌, ◌-◌, ◌≤◌, suc, refl, sym, ap, ◌∙◌, arith, List, [], ◌∷◌, ◌++◌, length, None, Some, Result, Ok, Err}
+use Rattle.std.proofs.Common.{◌≡◌, ℕ, ◌+◌, ◌-◌, ◌≤◌, suc, refl, sym, ap, subst, ◌∙◌, arith, List, [], ◌∷◌, ◌++◌, length, None, Some, Result, Ok, Err}
 use Rattle.std.specs.List.{AllByRecursion}
 use Rattle.ca_keys.specs.declared.access.Ask.{Ask}
-use Rattle.ca_keys.specs.declared.access.Kind.{Kind}
+use Rattle.ca_keys.specs.declared.access.Kind.TheVariants as kinds
 use Rattle.ca_base.specs.Sight.{Sight, first_denied}
 use Rattle.ca_base.specs.declared.completion.WcStatus.TheVariants.{LocalProtection}
 use Rattle.ca_base.specs.declared.denied_ask.DeniedAsk.{DeniedAsk}
 use Rattle.ca_base.specs.declared.limits.TheConstants.{MAX_PIECES}
 use Rattle.ca_base.specs.declared.queue_numbers.RequesterNumbers.{RequesterNumbers}
 use Rattle.ca_base.specs.objects.QueuePair.{QueuePair}
-use Rattle.ca_grant.specs.Reaching.{AreAtHand, IsPacketAsk}
+use Rattle.ca_grant.specs.Reaching.{AreAtHand}
 use Rattle.ca_model.specs.Marks.{MarkList}
+use Rattle.ca_model.specs.declared.mark.Mark.{Mark}
 use Rattle.ca_model.specs.declared.marks.TheConstants.{SPARE_MARKS}
 use Rattle.ca_model.specs.machine.Acknowledgements.{failure_effects, progress_to, with_requester}
 use Rattle.ca_model.specs.machine.Expected.{behind_marks}
@@ -23,35 +24,30 @@ use Rattle.ca_requester.proofs.ResponseLemmas.{IsFitting}
 use Rattle.ca_requester.specs.Progress.{IsProgress, numbers_behind}
 use Rattle.ca_requester.specs.declared.progress.Acknowledged.{Acknowledged}
 use Rattle.ca_requester.specs.Responses.{CanWriteBy, answer_effects, denied_effects}
-use Rattle.ca_rows.specs.Asks.{AreAsksFor, CanJudge, IsAskOf, IsGranted, asks_of}
+use Rattle.ca_rows.specs.Asks.{AreAsksFor, IsGranted}
+use Rattle.ca_rows.proofs.WriteLemmas.{can_write, marks-count}
 use Rattle.ca_rows.specs.Made.{AreAdded, HasMade, IsMade, IsTaking}
 use Rattle.ca_sending.proofs.FinishedLemmas.{added_behind, few_finished}
 use Rattle.ca_sending.specs.Finished.{success_between}
 use Rattle.ca_sending.specs.Outcome.{effects_behind, failure_of}
 use Rattle.ca_sending.specs.declared.outcome.Outcome.TheVariants.{Fails}
 
--- a mark for each access
-pub writes_count : (xs : List (Ask × List ℕ)) → length (local_writes xs) ≡ length xs
-writes_count [] = refl
-writes_count (x ∷ xs) = ap suc (writes_count xs)
-
 -- in the room that was reserved come the completions of what is finished before an answer, the marks of its bytes, and the
 -- completions of what is finished with it
-pub has_answered : (q after : QueuePair) (psn : ℕ) (p : Fields) (asks : List Ask) (before numbers : RequesterNumbers) (writes : List (Ask × List ℕ))
+pub has_answered : (q after : QueuePair) (psn : ℕ) (bytes : List ℕ) (asks : List Ask) (before numbers : RequesterNumbers)
     (old reserved one two new : MarkList) → IsProgress psn q.requester before q → IsProgress (suc psn) before numbers q
-    → writes ≡ writes_by asks (answer_bytes p) → reserved.marks ≡ old.marks
-    → numbers.oldest - q.requester.oldest + length writes + SPARE_MARKS ≤ reserved.room
-    → AreAdded (success_between q.requester.oldest before.oldest q) reserved one → AreAdded (local_writes writes) one two
+    → reserved.marks ≡ old.marks
+    → numbers.oldest - q.requester.oldest + length asks + SPARE_MARKS ≤ reserved.room
+    → AreAdded (success_between q.requester.oldest before.oldest q) reserved one → AreAdded (local_writes (writes_by asks bytes)) one two
     → AreAdded (success_between before.oldest numbers.oldest q) two new → after ≡ with_requester numbers q
-    → HasMade (answer_effects psn p asks q) after old new
-has_answered q after psn p asks before numbers writes old reserved one two new below progress cut same room a b c is = record {
+    → HasMade (answer_effects psn bytes asks q) after old new
+has_answered q after psn bytes asks before numbers old reserved one two new below progress same room a b c is = record {
   queue = is ∙ progress.queue ∙ ap (λ x. (progress_to (suc psn) x).queue) below.queue;
   marks =
       all.marks
-      ∙ ap (λ ms. ms ++ (success_between q.requester.oldest before.oldest q ++ (local_writes writes ++ success_between before.oldest numbers.oldest q))) same
-      ∙ ap (λ ms. old.marks ++ (ms ++ (local_writes writes ++ success_between before.oldest numbers.oldest q))) (sym below.finished)
-      ∙ ap (λ ms. old.marks ++ ((progress_to psn q).marks ++ (local_writes writes ++ ms))) behind
-      ∙ ap (λ xs. old.marks ++ ((progress_to psn q).marks ++ (local_writes xs ++ (progress_to (suc psn) (progress_to psn q).queue).marks))) cut;
+      ∙ ap (λ ms. ms ++ (success_between q.requester.oldest before.oldest q ++ (written ++ success_between before.oldest numbers.oldest q))) same
+      ∙ ap (λ ms. old.marks ++ (ms ++ (written ++ success_between before.oldest numbers.oldest q))) (sym below.finished)
+      ∙ ap (λ ms. old.marks ++ ((progress_to psn q).marks ++ (written ++ ms))) behind;
   room = omega (
     arith,
     room,
@@ -60,25 +56,20 @@ has_answered q after psn p asks before numbers writes old reserved one two new b
     c.room,
     progress.later,
     below.later,
-    writes_count writes,
+    marks-count asks bytes,
     few_finished q q.requester.oldest before.oldest,
     few_finished q before.oldest numbers.oldest,
   );
 }
   where
-    all : AreAdded (success_between q.requester.oldest before.oldest q ++ (local_writes writes ++ success_between before.oldest numbers.oldest q)) reserved new
+    written : List Mark
+    written = local_writes (writes_by asks bytes)
+
+    all : AreAdded (success_between q.requester.oldest before.oldest q ++ (written ++ success_between before.oldest numbers.oldest q)) reserved new
     all = added_behind {before = reserved} {between = one} {after = new} a (added_behind {before = one} {between = two} {after = new} b c)
 
     behind : success_between before.oldest numbers.oldest q ≡ (progress_to (suc psn) (progress_to psn q).queue).marks
     behind = sym progress.finished ∙ ap (λ x. (progress_to (suc psn) x).marks) below.queue
-
-asks-count : (xs : List (Ask × List ℕ)) → length (asks_of xs) ≡ length xs
-asks-count [] = refl
-asks-count (x ∷ xs) = ap suc (asks-count xs)
-
--- the accesses of few asks are few
-pub few_writes : (asks : List Ask) (xs : List (Ask × List ℕ)) → asks_of xs ≡ asks → length asks ≤ MAX_PIECES → length xs ≤ MAX_PIECES
-few_writes asks xs e few = omega (arith, ap length e, asks-count xs, few)
 
 -- the list of an answer's request is denied
 pub denied_makes : (q : QueuePair) (psn : ℕ) (numbers : RequesterNumbers) (d : DeniedAsk) → IsProgress psn q.requester numbers q
@@ -88,23 +79,19 @@ denied_makes q psn numbers d progress =
     progress.queue
     ∙ sym (ap (λ ms. behind_marks ms (behind_marks (local_denial d ∷ []) (failure_effects LocalProtection None (progress_to psn q).queue))) progress.finished)
 
--- asks that may be handed on may be judged
-packet-asks : (kind : Kind) (asks : List Ask) → AllByRecursion (IsAskOf kind) asks → AllByRecursion IsPacketAsk asks
-packet-asks kind [] all = tt
-packet-asks kind (ask ∷ asks) all = (all.0.0, packet-asks kind asks all.1)
-
-pub can_judge : {S : Type 0} (judges : S → Ask → Type 0) (reach : S) (kind : Kind) (most : ℕ) (asks rows : List Ask) → asks ≡ rows
-    → AllByRecursion (judges reach) rows → AreAsksFor kind most asks → CanJudge judges reach asks
-can_judge judges reach kind most asks rows same keys are = record { keys = rw same keys; packet = packet-asks kind asks are.each }
-
-pub can_write_by : {S : Type 0} (sight : S → Sight) (judges touches : S → Ask → Type 0) (reach : S) (asks rows : List Ask) → asks ≡ rows
-    → AreAtHand sight judges touches reach rows → first_denied (sight reach) asks ≡ None → AllByRecursion (IsGranted (sight reach)) asks
-    → CanWriteBy sight judges touches reach asks
-can_write_by sight judges touches reach asks rows same at none granted = record {
-  keys = rw same at.keys;
-  bytes = rw same (at.bytes (ap (first_denied (sight reach)) (sym same) ∙ none));
-  granted = granted;
-}
+-- the bytes of an answer may be written by its asks
+pub can_write_by : {S : Type 0} (sight : S → Sight) (judges touches : S → Ask → Type 0) (reach : S) (asks rows : List Ask) (bytes : List ℕ) (p : Fields)
+    → asks ≡ rows → bytes ≡ answer_bytes p → AreAtHand sight judges touches reach rows → AreAsksFor kinds.Write (length (answer_bytes p)) asks
+    → length asks ≤ MAX_PIECES → first_denied (sight reach) asks ≡ None → AllByRecursion (IsGranted (sight reach)) asks
+    → CanWriteBy sight judges touches reach asks bytes
+can_write_by sight judges touches reach asks rows bytes p same is at are few none granted =
+    let here : AreAsksFor kinds.Write (length bytes) asks = subst (λ (bs : List ℕ). AreAsksFor kinds.Write (length bs) asks) (sym is) are in
+    record {
+      few = few;
+      enough = here.touched;
+      can = can_write sight judges touches reach asks bytes (subst (AllByRecursion (judges reach)) (sym same) at.keys)
+          (subst (AllByRecursion (touches reach)) (sym same) (at.bytes (ap (first_denied (sight reach)) (sym same) ∙ none))) granted here;
+    }
 
 -- the asks of an answer, behind what it acknowledges
 asks-behind : (q : QueuePair) (psn : ℕ) (p : Fields) (n : Numbered) (numbers : RequesterNumbers) → IsProgress psn q.requester numbers q
@@ -116,20 +103,22 @@ pub row_asks : (q : QueuePair) (psn : ℕ) (p : Fields) (a : Acknowledged) (n : 
 row_asks q psn p a n row fit = asks-behind q psn p n (numbers_behind a q) fit.progress ∙ sym (ap (λ (r : Row). r.asks) fit.is)
 
 -- how the row of an answer ends, where its list is denied and where it is not
-pub ends_denied : (s : Sight) (q : QueuePair) (psn : ℕ) (p : Fields) (a : Acknowledged) (n : Numbered) (row : Row) (d : DeniedAsk) → IsFitting q psn p a n row
-    → first_denied s (answer_asks psn p q n) ≡ Some d → ending_of s row ≡ Does (denied_effects a.until d q)
-ends_denied s q psn p a n row d fit denied =
+pub ends_denied : (s : Sight) (q : QueuePair) (psn : ℕ) (p : Fields) (a : Acknowledged) (n : Numbered) (row : Row) (asks : List Ask) (d : DeniedAsk)
+    → IsFitting q psn p a n row → asks ≡ answer_asks psn p q n → first_denied s asks ≡ Some d → ending_of s row ≡ Does (denied_effects a.until d q)
+ends_denied s q psn p a n row asks d fit same denied =
     ap (ending_of s) fit.is
-    ∙ rw (sym (ap (first_denied s) (asks-behind q psn p n (numbers_behind a q) fit.progress)) ∙ denied) refl
+    ∙ rw (sym (ap (first_denied s) (same ∙ asks-behind q psn p n (numbers_behind a q) fit.progress)) ∙ denied) refl
     ∙ ap (λ u. Does (denied_effects u d q)) (sym fit.until)
 
-pub ends_allowed : (s : Sight) (q : QueuePair) (psn : ℕ) (p : Fields) (a : Acknowledged) (n : Numbered) (row : Row) → IsFitting q psn p a n row
-    → first_denied s (answer_asks psn p q n) ≡ None → ending_of s row ≡ Does (answer_effects a.until p (answer_asks psn p q n) q)
-ends_allowed s q psn p a n row fit none =
+pub ends_allowed : (s : Sight) (q : QueuePair) (psn : ℕ) (p : Fields) (a : Acknowledged) (n : Numbered) (row : Row) (asks : List Ask) (bytes : List ℕ)
+    → IsFitting q psn p a n row → asks ≡ answer_asks psn p q n → bytes ≡ answer_bytes p → first_denied s asks ≡ None
+    → ending_of s row ≡ Does (answer_effects a.until bytes asks q)
+ends_allowed s q psn p a n row asks bytes fit same is none =
     ap (ending_of s) fit.is
-    ∙ rw (sym (ap (first_denied s) (asks-behind q psn p n (numbers_behind a q) fit.progress)) ∙ none) refl
-    ∙ ap (λ asks. Does (answer_effects psn p asks q)) (sym (asks-behind q psn p n (numbers_behind a q) fit.progress))
-    ∙ ap (λ u. Does (answer_effects u p (answer_asks psn p q n) q)) (sym fit.until)
+    ∙ rw (sym (ap (first_denied s) (same ∙ asks-behind q psn p n (numbers_behind a q) fit.progress)) ∙ none) refl
+    ∙ ap (λ (xs : List Ask). Does (answer_effects psn (answer_bytes p) xs q)) (sym (same ∙ asks-behind q psn p n (numbers_behind a q) fit.progress))
+    ∙ ap (λ (bs : List ℕ). Does (answer_effects psn bs asks q)) (sym is)
+    ∙ ap (λ u. Does (answer_effects u bytes asks q)) (sym fit.until)
 
 -- what was made is what a packet's row ends with
 pub taken_plain : {S A E : Type 0} (written : S → Ask → List ℕ → S) (r : Result A E) (ending : Ending) (e : Effects) (q after : QueuePair) (old new : MarkList) (reach : S)

@@ -1,19 +1,19 @@
 -- What a response makes of a requester, before it is made, and the row that it is. Contracts cite it.
-use Rattle.std.specs.Prelude.{◌≡◌, ℕ, ◌^◌, ◌<◌, suc, if◌then◌else◌, List, ◌∷◌, ◌++◌, Option, None, Some}
-use Rattle.std.specs.List.{AllByRecursion}
+use Rattle.std.specs.Prelude.{◌≡◌, ℕ, ◌^◌, ◌<◌, ◌≤◌, suc, if◌then◌else◌, List, ◌∷◌, ◌++◌, length, Option, None, Some}
 use Rattle.std.specs.Option.{option_and_then}
 use Rattle.ca_keys.specs.declared.access.Ask.{Ask}
 use Rattle.ca_base.specs.declared.completion.WcStatus.TheVariants.{BadResponse, LocalProtection}
 use Rattle.ca_base.specs.declared.denied_ask.DeniedAsk.{DeniedAsk}
+use Rattle.ca_base.specs.declared.limits.TheConstants.{MAX_PIECES}
 use Rattle.ca_base.specs.objects.QueuePair.{QueuePair}
 use Rattle.ca_model.specs.machine.Acknowledgements.{acknowledgement_below, and_then, failure_effects, progress_to}
 use Rattle.ca_model.specs.machine.Numbering.{Numbered}
 use Rattle.ca_model.specs.machine.Requester.{local_denial}
-use Rattle.ca_model.specs.machine.Responses.{answer_bytes, drop_effects, fits_request, fitting_row, local_writes, nak_effects, response_row, rnr_nak_effects, unless_back, writes_by}
+use Rattle.ca_model.specs.machine.Responses.{drop_effects, fits_request, fitting_row, local_writes, nak_effects, response_row, rnr_nak_effects, unless_back, writes_by}
 use Rattle.ca_model.specs.machine.Row.{Effects, Row, plain_row, Does}
 use Rattle.ca_packet.specs.Packet.{Fields}
 use Rattle.ca_base.specs.Sight.{Sight}
-use Rattle.ca_rows.specs.Asks.{IsGranted}
+use Rattle.ca_rows.specs.Asks.{CanWrite, touched_by}
 use Rattle.ca_requester.specs.declared.taking.Taken.{Taken}
 use Rattle.ca_requester.specs.declared.responses.Arrival.{Arrival}
 use Rattle.ca_requester.specs.declared.responses.Arrival.TheVariants.{Drops, Acks, RnrNaks, Naks, Fits}
@@ -56,16 +56,17 @@ abbrev pub denied_effects : ℕ → DeniedAsk → QueuePair → Effects
 denied_effects psn d q = and_then (progress_to psn q) (λ q.
     record (failure_effects LocalProtection None q) { marks = local_denial d ∷ (failure_effects LocalProtection None q).marks })
 
--- the bytes go to the list by these asks, and all up to the answer's PSN is acknowledged
-abbrev pub answer_effects : ℕ → Fields → List Ask → QueuePair → Effects
-answer_effects psn p asks q = record (and_then (progress_to psn q) (λ q.
+-- these bytes go to the list by these asks, and all up to the answer's PSN is acknowledged
+abbrev pub answer_effects : ℕ → List ℕ → List Ask → QueuePair → Effects
+answer_effects psn bytes asks q = record (and_then (progress_to psn q) (λ q.
     record (progress_to (suc psn) q) { marks = local_writes writes ++ (progress_to (suc psn) q).marks })) { writes = writes }
   where
     writes : List (Ask × List ℕ)
-    writes = writes_by asks (answer_bytes p)
+    writes = writes_by asks bytes
 
--- the bytes that these asks touch may be written: they and the parts of their keys are at hand, and none is denied
-pub record CanWriteBy {S : Type 0} (sight : S → Sight) (judges touches : S → Ask → Type 0) (reach : S) (asks : List Ask) : Type 0 where
-  pub keys : AllByRecursion (judges reach) asks
-  pub bytes : AllByRecursion (touches reach) asks
-  pub granted : AllByRecursion (IsGranted (sight reach)) asks
+-- these bytes may be written by these asks: the asks are few, touch no more than there are, and are at hand, and none is
+-- denied
+pub record CanWriteBy {S : Type 0} (sight : S → Sight) (judges touches : S → Ask → Type 0) (reach : S) (asks : List Ask) (bytes : List ℕ) : Type 0 where
+  pub few : length asks ≤ MAX_PIECES
+  pub enough : touched_by asks ≤ length bytes
+  pub can : CanWrite sight judges touches reach (writes_by asks bytes)

@@ -1,6 +1,7 @@
-ghost use Rattle.std.specs.Prelude.{◌≡◌, ◌≤◌, ◌<◌, ◌^◌, [], suc, true, IfOk, length};
+ghost use Rattle.std.specs.Prelude.{◌≡◌, ◌≤◌, ◌<◌, ◌^◌, [], suc, true, IfSome, length, option_map_or};
 ghost use Rattle.ca_keys.specs.declared.access.Kind.{Kind};
-ghost use Rattle.ca_base.specs.declared.limits.TheConstants.{MAX_PAYLOAD_BYTES, MAX_PIECES};
+ghost use Rattle.ca_keys.specs.Memory.{little_endian_bytes};
+ghost use Rattle.ca_base.specs.declared.limits.TheConstants.{MAX_PAYLOAD_BYTES};
 ghost use Rattle.ca_grant.specs.Reaching.{AreAtHand};
 ghost use Rattle.ca_model.specs.Packets.{is_response};
 ghost use Rattle.ca_model.specs.machine.Acknowledgements.{acknowledgement_below, progress_to};
@@ -10,7 +11,7 @@ ghost use Rattle.ca_model.specs.machine.Row.{Does, ending_of};
 ghost use Rattle.ca_packet.specs.Packet.{IsWellFormed};
 ghost use Rattle.ca_requester.specs.Progress.{IsProgress, acknowledgement_of, numbers_behind};
 ghost use Rattle.ca_requester.specs.Responses.{CanWriteBy, IsTakenAnswer, answer_effects, bad_answer_effects, denied_effects};
-ghost use Rattle.ca_rows.specs.Asks.{AreAsksFor, AreWritesFor};
+ghost use Rattle.ca_rows.specs.Asks.{AreAsksFor, IsFoundFirst};
 ghost use Rattle.ca_rows.specs.Made.{IsMade, IsTaking};
 ghost use Rattle.ca_sending.specs.Numbering.{IsRequestOf};
 
@@ -28,15 +29,14 @@ use ca_grant::Reach;
 use ca_model::{Marks, SPARE_MARKS};
 use ca_qpstate::QueuePart;
 use ca_rows::{
-    Asker, JudgedWrites, Writes, cut_writes, drop_packet, fill_asks, first_denied, list_of,
-    local_denial, write_all,
+    Asker, JudgedAsks, drop_packet, fill_asks, judge_all, list_of, local_denial, push_writes,
+    write_judged,
 };
 use ca_sending::{
     Failure, Numbered, Outcome, complete_before, finished_count, make, push_finished,
 };
 use ca_wire::opcode::ATOMIC_ACKNOWLEDGE;
 use ca_wire::{NakCode, Packet};
-use std::alloc::Global;
 
 /// The asks that `on_response` may make, in order; it makes no other. It takes no memory.
 pub fn response_asks(q: &QueuePart, p: &Packet<'_>) -> ArrayVec<Ask, MAX_PIECES>
@@ -124,18 +124,17 @@ fn answer_length(p: &Packet<'_>) -> u32
     }
 }
 
-/// The bytes that an answer brings, cut for the asks to which they go.
+/// The bytes that an answer brings: its payload, or those of the number that an atomic found.
 #[inline(always)]
-fn cut_answer(alloc: Global, p: &Packet<'_>, asks: &[Ask]) -> Result<Writes, Memory>
-    requires { AreAsksFor Kind.Write (length (rows.answer_bytes p.now)) asks.now }
-    ensures value { IfOk result (λ writes. writes ≡ rows.writes_by asks.now (rows.answer_bytes p.now)) }
-    ensures writes { IfOk result (λ writes. AreWritesFor asks.now writes) }
+fn answer_bytes<'a>(p: &Packet<'a>, found: &'a [u8]) -> &'a [u8]
+    requires { found.now ≡ little_endian_bytes (option_map_or (λ n. n) p.now.«result» 0) }
+    ensures { result.now ≡ rows.answer_bytes p.now }
 {
     if p.opcode == ATOMIC_ACKNOWLEDGE {
-        let found = p.result.unwrap_or(0).to_le_bytes();
-        return cut_writes(alloc, asks, &found);
+        found
+    } else {
+        p.payload
     }
-    cut_writes(alloc, asks, p.payload)
 }
 
 /// Takes a response that arrived: what it acknowledges completes, an answer's bytes go to the list of their request,
@@ -267,9 +266,19 @@ fn take_answer<R: Reach>(
     };
     let mut asks = ArrayVec::new();
     fill_answer_asks(q, p, psn, &request, &mut asks);
-    match first_denied(reach, asks.as_slice()) {
-        Some(denied) => deny(q, acknowledged, &denied, marks),
-        None => place(q, reach, p, taken, asks.as_slice(), marks),
+    let asks = asks.as_slice();
+    let result = p.result.unwrap_or(0).to_le_bytes();
+    let bytes = answer_bytes(p, &result);
+    let [ask, behind @ ..] = asks else {
+        return place_none(q, reach, bytes, taken, marks);
+    };
+    let checked = reach.check(ask);
+    match judge_all(reach, ask, &checked, behind) {
+        Ok(found) => {
+            let found = Some(found);
+            place(q, reach, bytes, taken, &JudgedAsks { asks, found }, marks)
+        }
+        Err(denied) => deny(q, acknowledged, &denied, marks),
     }
 }
 
@@ -316,36 +325,52 @@ fn deny(
     make(q, &failure, Some(local_denial(denied)), marks)
 }
 
+/// The answer has no bytes. It stands apart, since that is rare.
+#[cold]
+#[inline(never)]
+fn place_none<R: Reach>(
+    q: &mut QueuePart,
+    reach: &mut R,
+    bytes: &[u8],
+    taken: Taken,
+    marks: &mut Marks,
+) -> Result<(), Memory>
+    requires taken { IsTakenAnswer q.old taken }
+    ensures { IsTaking R.written result (Does (answer_effects taken.before.until bytes.now [] q.old))
+        q.old q.new marks.old marks.new reach.old reach.new }
+{
+    let none = JudgedAsks {
+        asks: &[],
+        found: None,
+    };
+    place(q, reach, bytes, taken, &none, marks)
+}
+
 /// The bytes go to the list, and all up to the answer's PSN is acknowledged.
-#[tactic(auto, using(ca_rows::proofs::WriteLemmas::can_write, crate::proofs::TakingLemmas::few_writes))]
 #[inline(always)]
 fn place<R: Reach>(
     q: &mut QueuePart,
     reach: &mut R,
-    p: &Packet<'_>,
+    bytes: &[u8],
     taken: Taken,
-    asks: &[Ask],
+    judged: &JudgedAsks<'_, '_>,
     marks: &mut Marks,
 ) -> Result<(), Memory>
     requires taken { IsTakenAnswer q.old taken }
-    requires at_hand { CanWriteBy R.sight R.judges R.touches reach.old asks.now }
-    requires asks { AreAsksFor Kind.Write (length (rows.answer_bytes p.now)) asks.now }
-    requires few { length asks.now ≤ MAX_PIECES }
-    ensures { IsTaking R.written result (Does (answer_effects taken.before.until p.now asks.now q.old))
+    requires can { CanWriteBy R.sight R.judges R.touches reach.old judged.now.asks.now bytes.now }
+    requires found { IfSome judged.now.found (λ f. IsFoundFirst (R.sight reach.old) judged.now.asks.now f.now) }
+    ensures { IsTaking R.written result (Does (answer_effects taken.before.until bytes.now judged.now.asks.now q.old))
         q.old q.new marks.old marks.new reach.old reach.new }
 {
-    let writes = cut_answer(q.alloc(), p, asks)?;
-    let count = finished_count(q, taken.after.posting) + writes.len() as u32;
+    let count = finished_count(q, taken.after.posting) + judged.asks.len() as u32;
     marks.reserve(count + SPARE_MARKS)?;
+    let before = marks.as_slice().len();
     push_finished(q, q.requester.oldest, taken.before.posting, marks);
-    write_all(
-        reach,
-        JudgedWrites {
-            writes,
-            found: None,
-        },
-        marks,
-    );
+    if let Err(memory) = push_writes(q.alloc(), judged.asks, bytes, marks) {
+        marks.truncate(before);
+        return Err(memory);
+    }
+    write_judged(reach, judged, bytes);
     push_finished(q, taken.before.posting, taken.after.posting, marks);
     q.requester = numbers_after(q, taken.after);
     Ok(())

@@ -1,3 +1,4 @@
+pub mod AskLemmas
 pub mod ListLemmas
 pub mod QueueLemmas
 pub mod FlushLemmas

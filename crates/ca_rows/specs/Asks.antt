@@ -1,6 +1,6 @@
 -- Asks of a row: which may be handed on, what they touch, and the marks of what was read and written by them. Contracts
 -- cite it.
-use Rattle.std.specs.Prelude.{◌≡◌, ℕ, ◌+◌, ◌≤◌, List, [], ◌∷◌, ◌++◌, Option, None, Some, length}
+use Rattle.std.specs.Prelude.{◌≡◌, ℕ, ◌+◌, ◌≤◌, List, [], ◌∷◌, ◌++◌, None, length}
 use Rattle.std.specs.List.{AllByRecursion}
 use Rattle.ca_keys.specs.declared.access.Ask.{Ask}
 use Rattle.ca_keys.specs.declared.access.Kind.{Kind}
@@ -21,11 +21,10 @@ IsAskOf kind ask = IsPacketAsk ask × (ask.kind ≡ kind)
 abbrev pub IsGranted : Sight → Ask → Type 0
 IsGranted s ask = denial_in s ask ≡ None
 
--- this was found of the first of some asks, if there is one
-abbrev pub IsFoundFirst : Sight → List Ask → Option Span → Type 0
-IsFoundFirst s [] found = found ≡ None
-IsFoundFirst s (ask ∷ asks) None = ⊥
-IsFoundFirst s (ask ∷ asks) (Some span) = IsFound s ask span
+-- this was found of the first of some asks
+abbrev pub IsFoundFirst : Sight → List Ask → Span → Type 0
+IsFoundFirst s [] span = ⊥
+IsFoundFirst s (ask ∷ asks) span = IsFound s ask span
 
 -- the bytes that the ask touches are at hand, if it is allowed
 abbrev pub AreBytesAtHand : Sight → (Ask → Type 0) → Ask → Type 0
@@ -80,27 +79,11 @@ pub record IsWrite (x : Ask × List ℕ) : Type 0 where
   pub ask : IsAskOf kinds.Write x.0
   pub count : length x.1 ≡ x.0.touch
 
--- the asks of accesses
-abbrev pub asks_of : List (Ask × List ℕ) → List Ask
-asks_of [] = []
-asks_of (x ∷ xs) = x.0 ∷ asks_of xs
-
 -- accesses that write: the parts of their keys and their bytes are at hand, and none is denied
 abbrev pub CanWrite : {S : Type 0} (sight : S → Sight) (judges touches : S → Ask → Type 0) (s : S) → List (Ask × List ℕ) → Type 0
 CanWrite sight judges touches s [] = Unit {0}
 CanWrite sight judges touches s (x ∷ xs) =
     (judges s x.0 × touches s x.0 × IsGranted (sight s) x.0 × IsWrite x) × CanWrite sight judges touches s xs
-
--- what may be known of the first of some accesses, where it was judged before
-abbrev pub MayBeFound : Sight → List (Ask × List ℕ) → Option Span → Type 0
-MayBeFound s xs None = Unit {0}
-MayBeFound s [] (Some span) = Unit {0}
-MayBeFound s (x ∷ xs) (Some span) = IsFound s x.0 span
-
--- accesses that write by these asks, each with as many bytes as it touches
-pub record AreWritesFor (asks : List Ask) (writes : List (Ask × List ℕ)) : Type 0 where
-  pub each : AllByRecursion IsWrite writes
-  pub by : asks_of writes ≡ asks
 
 -- what is known of the keys that may end stays as it was
 pub record KeepsKeys {S : Type 0} (sight : S → Sight) (may_end : S → Invalidation → Type 0) (before after : S) : Type 0 where

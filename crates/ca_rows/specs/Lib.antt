@@ -3,4 +3,3 @@ pub mod Asks
 pub mod Made
 pub mod Flush
 pub mod Reading
-pub mod Writes

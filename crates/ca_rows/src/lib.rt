@@ -34,6 +34,4 @@ pub use operations::{
 };
 pub use packets::{peer_number, psn_bits, spell_packet};
 pub use reads::{join, read_granted};
-pub use writes::{
-    JudgedAsks, JudgedWrites, Writes, cut_writes, push_writes, write_all, write_judged,
-};
+pub use writes::{JudgedAsks, push_writes, write_judged};

@@ -19,7 +19,7 @@ use Rattle.ca_qpstate.specs.Seen.{queue_seen}
 use Rattle.ca_operations.specs.Sends.{key_end, outcome_of_send, receiving}
 use Rattle.ca_operations.specs.Taking.{HasTaken, is_taken, outcome_in}
 use Rattle.ca_operations.proofs.EndLemmas.{ended-taken, refused-taken}
-use Rattle.ca_operations.proofs.SendLemmas.{marks-count}
+use Rattle.ca_rows.proofs.WriteLemmas.{marks-count}
 use Rattle.ca_operations.proofs.StandInLemmas.{are_until}
 use Rattle.ca_operations.proofs.send.place_and_end.Goals as goal
 

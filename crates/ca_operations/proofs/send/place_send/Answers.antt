@@ -11,7 +11,8 @@ use Rattle.ca_model.specs.machine.Row.{Effects}
 use Rattle.ca_answering.specs.Numbers.{CanPass, without_ack_request, without_taken_receive}
 use Rattle.ca_operations.specs.Sends.{IsFitting, outcome_of_send, receiving}
 use Rattle.ca_operations.proofs.OutcomeLemmas.{taken-as}
-use Rattle.ca_operations.proofs.SendLemmas.{acknowledged-send, marks-count, placed, sent}
+use Rattle.ca_rows.proofs.WriteLemmas.{marks-count}
+use Rattle.ca_operations.proofs.SendLemmas.{acknowledged-send, placed, sent}
 use Rattle.ca_operations.proofs.send.place_send.Goals as goal
 
 pub end_send-requires-clause-numbers : goal.end_send-requires-clause-numbers

@@ -12,12 +12,13 @@ use Rattle.ca_model.specs.machine.Arrivals.{with_flag}
 use Rattle.ca_model.specs.machine.Expected.{receive_asks, receive_failure_effects, send_row}
 use Rattle.ca_model.specs.machine.Numbering.{list_asks}
 use Rattle.ca_model.specs.machine.Requester.{local_denial}
-use Rattle.ca_rows.specs.Asks.{AreAsksFor, IsAskOf, IsGranted}
+use Rattle.ca_rows.specs.Asks.{AreAsksFor, IsGranted}
+use Rattle.ca_rows.proofs.AskLemmas.{can-judge, judge-behind, whole}
 use Rattle.ca_answering.specs.Numbers.{without_taken_receive}
 use Rattle.ca_operations.specs.Sends.{outcome_of_send, receiving}
 use Rattle.ca_operations.specs.Taking.{does, outcome_in}
 use Rattle.ca_operations.proofs.EndLemmas.{failed-taken}
-use Rattle.ca_operations.proofs.SendLemmas.{asks-of-row, can-place, failed, is_too_long, judge-behind, list-denied, packet-asks, too-long, whole}
+use Rattle.ca_operations.proofs.SendLemmas.{asks-of-row, can-place, failed, is_too_long, list-denied, too-long}
 use Rattle.ca_operations.proofs.send.receive_send.Goals as goal
 
 pub returns-then-exceeds_receive : goal.returns-then-exceeds_receive
@@ -47,10 +48,10 @@ judge_all-requires-clause-judges g c =
     ap (λ (l : List Piece). nat_lt (list_length l) (r.before + length p.payload)) (sym c.as_slice-list.ensures.value) ∙ sym c.exceeds_receive.ensures ∙ c.if-exceeds_receive.false in
     let asks : c.as_slice-asks.result.now ≡ receive_asks q p r =
     c.as_slice-asks.ensures.value ∙ c.fill_receive_asks.ensures.value ∙ ap (λ (l : List Piece). list_asks q.queue q.domain kinds.Write r.before (length p.payload) l) c.as_slice-list.ensures.value in
-    judge-behind g.R.Reach.judges c.args.reach.now c.as_slice-asks.result.now (record {
-      keys = subst (λ (xs : List Ask). AllByRecursion (g.R.Reach.judges c.args.reach.now) xs) (asks-of-row q p s.position r r.taken short refl ∙ sym asks) c.requires.at_hand.asks.keys;
-      packet = packet-asks kinds.Write c.as_slice-asks.result.now (subst (λ (xs : List Ask). AllByRecursion (IsAskOf kinds.Write) xs) (sym c.as_slice-asks.ensures.value) c.fill_receive_asks.ensures.asks.each);
-    })
+    judge-behind g.R.Reach.judges c.args.reach.now c.as_slice-asks.result.now
+    (can-judge g.R.Reach.judges c.args.reach.now kinds.Write (length p.payload) c.as_slice-asks.result.now
+    (subst (λ (xs : List Ask). AllByRecursion (g.R.Reach.judges c.args.reach.now) xs) (asks-of-row q p s.position r r.taken short refl ∙ sym asks) c.requires.at_hand.asks.keys)
+    (subst (λ (xs : List Ask). AreAsksFor kinds.Write (length p.payload) xs) (sym c.as_slice-asks.ensures.value) c.fill_receive_asks.ensures.asks))
 
 pub place-requires-clause-can : goal.place-requires-clause-can
 place-requires-clause-can g c =

@@ -1,9 +1,14 @@
-use Rattle.std.proofs.Common.{◌∙◌, ap, length, rules, sym, refl}
+use Rattle.std.specs.List.{AllByRecursion}
+use Rattle.std.proofs.Common.{◌≡◌, ◌∙◌, List, None, Some, ap, length, subst, sym, refl}
+use Rattle.ca_keys.specs.declared.access.Ask.{Ask}
 use Rattle.ca_keys.specs.declared.access.Kind.TheVariants as kinds
-use Rattle.ca_model.specs.machine.Responses.{answer_bytes}
+use Rattle.ca_base.specs.Sight.{first_denied}
+use Rattle.ca_model.specs.machine.Responses.{answer_asks, answer_bytes}
 use Rattle.ca_model.specs.machine.Row.{ending_of}
+use Rattle.ca_rows.proofs.AskLemmas.{can-judge, judge-behind, whole}
+use Rattle.ca_rows.specs.Asks.{AreAsksFor, IsGranted}
 use Rattle.ca_requester.proofs.ResponseLemmas.{is_fit, row_fails}
-use Rattle.ca_requester.proofs.TakingLemmas.{can_judge, can_write_by, ends_allowed, ends_denied, row_asks, taken_by, taken_plain}
+use Rattle.ca_requester.proofs.TakingLemmas.{can_write_by, ends_allowed, ends_denied, row_asks, taken_by, taken_plain}
 use Rattle.ca_requester.proofs.taking.take_answer.Goals as goal
 
 pub returns-in_default : goal.returns-in_default
@@ -14,35 +19,48 @@ returns-in_default g c =
     c.oldest_below-oldest.ensures.acknowledged c.if-acknowledged.false c.oldest_below-oldest.ensures.oldest c.fitting_request.ensures.value c.in_default.is))
     refl c.take_bad_answer.ensures
 
-pub first_denied-requires : goal.first_denied-requires
-first_denied-requires g c =
+pub judge_all-requires-clause-judges : goal.judge_all-requires-clause-judges
+judge_all-requires-clause-judges g c =
     let fit = is_fit c.args.q.now c.args.psn c.args.p.now c.oldest_below-oldest.result.acknowledged c.oldest_below-oldest.result.oldest c.fitting_request.result c.in-Some.request
     c.oldest_below-oldest.ensures.acknowledged c.if-acknowledged.false c.oldest_below-oldest.ensures.oldest c.fitting_request.ensures.value c.in-Some.is in
-    can_judge g.R.Reach.judges c.args.reach.now kinds.Write (length (answer_bytes c.args.p.now)) c.as_slice.result.now _
-    (c.as_slice.ensures.value ∙ c.fill_answer_asks.ensures.value ∙ row_asks c.args.q.now c.args.psn c.args.p.now c.oldest_below-oldest.result.acknowledged c.in-Some.request _ fit)
-    c.requires.at_hand.keys (rw c.as_slice.ensures.value c.fill_answer_asks.ensures.asks)
+    let asks = c.as_slice-asks.result.now in
+    let same : asks ≡ answer_asks c.args.psn c.args.p.now c.args.q.now c.in-Some.request = c.as_slice-asks.ensures.value ∙ c.fill_answer_asks.ensures.value in
+    judge-behind g.R.Reach.judges c.args.reach.now asks
+    (can-judge g.R.Reach.judges c.args.reach.now kinds.Write (length (answer_bytes c.args.p.now)) asks
+    (subst (λ (xs : List Ask). AllByRecursion (g.R.Reach.judges c.args.reach.now) xs) (sym (same ∙ row_asks c.args.q.now c.args.psn c.args.p.now c.oldest_below-oldest.result.acknowledged c.in-Some.request _ fit)) c.requires.at_hand.keys)
+    (subst (λ (xs : List Ask). AreAsksFor kinds.Write (length (answer_bytes c.args.p.now)) xs) (sym c.as_slice-asks.ensures.value) c.fill_answer_asks.ensures.asks))
 
-pub place-requires-clause-at_hand : goal.place-requires-clause-at_hand
-place-requires-clause-at_hand g c =
+pub place-requires-clause-can : goal.place-requires-clause-can
+place-requires-clause-can g c =
     let fit = is_fit c.args.q.now c.args.psn c.args.p.now c.oldest_below-oldest.result.acknowledged c.oldest_below-oldest.result.oldest c.fitting_request.result c.in-Some.request
     c.oldest_below-oldest.ensures.acknowledged c.if-acknowledged.false c.oldest_below-oldest.ensures.oldest c.fitting_request.ensures.value c.in-Some.is in
-    can_write_by g.R.Reach.sight g.R.Reach.judges g.R.Reach.touches c.args.reach.now c.as_slice-in-None.result.now _
-    (c.as_slice-in-None.ensures.value ∙ c.fill_answer_asks.ensures.value ∙ row_asks c.args.q.now c.args.psn c.args.p.now c.oldest_below-oldest.result.acknowledged c.in-Some.request _ fit)
-    c.requires.at_hand (search rules) (search rules)
+    let asks = c.as_slice-asks.result.now in
+    let same : asks ≡ answer_asks c.args.psn c.args.p.now c.args.q.now c.in-Some.request = c.as_slice-asks.ensures.value ∙ c.fill_answer_asks.ensures.value in
+    can_write_by g.R.Reach.sight g.R.Reach.judges g.R.Reach.touches c.args.reach.now asks _ c.answer_bytes-bytes.result.now c.args.p.now
+    (same ∙ row_asks c.args.q.now c.args.psn c.args.p.now c.oldest_below-oldest.result.acknowledged c.in-Some.request _ fit) c.answer_bytes-bytes.ensures c.requires.at_hand
+    (subst (λ (xs : List Ask). AreAsksFor kinds.Write (length (answer_bytes c.args.p.now)) xs) (sym c.as_slice-asks.ensures.value) c.fill_answer_asks.ensures.asks) c.as_slice-asks.ensures.fits
+    (subst (λ (xs : List Ask). first_denied (g.R.Reach.sight c.args.reach.now) xs ≡ None) (whole _ asks c.in-len1-up.len_at_least) c.in-Ok.ensures.none)
+    (subst (λ (xs : List Ask). AllByRecursion (IsGranted (g.R.Reach.sight c.args.reach.now)) xs) (whole _ asks c.in-len1-up.len_at_least) c.in-Ok.ensures.allowed)
 
-pub returns-in-Some-first_denied : goal.returns-in-Some-first_denied
-returns-in-Some-first_denied g c =
+pub returns-in-Err : goal.returns-in-Err
+returns-in-Err g c =
     let fit = is_fit c.args.q.now c.args.psn c.args.p.now c.oldest_below-oldest.result.acknowledged c.oldest_below-oldest.result.oldest c.fitting_request.result c.in-Some.request
     c.oldest_below-oldest.ensures.acknowledged c.if-acknowledged.false c.oldest_below-oldest.ensures.oldest c.fitting_request.ensures.value c.in-Some.is in
+    let asks = c.as_slice-asks.result.now in
+    let same : asks ≡ answer_asks c.args.psn c.args.p.now c.args.q.now c.in-Some.request = c.as_slice-asks.ensures.value ∙ c.fill_answer_asks.ensures.value in
     taken_plain g.R.Reach.written c.deny.result _ _ c.args.q.now c.deny.new.q c.args.marks.now c.deny.new.marks c.args.reach.now
-    (ends_denied (g.R.Reach.sight c.args.reach.now) c.args.q.now c.args.psn c.args.p.now c.oldest_below-oldest.result.acknowledged c.in-Some.request _ c.in-Some-first_denied.denied fit (search rules))
+    (ends_denied (g.R.Reach.sight c.args.reach.now) c.args.q.now c.args.psn c.args.p.now c.oldest_below-oldest.result.acknowledged c.in-Some.request _ asks c.in-Err.denied fit same
+    (subst (λ (xs : List Ask). first_denied (g.R.Reach.sight c.args.reach.now) xs ≡ Some c.in-Err.denied) (whole _ asks c.in-len1-up.len_at_least) c.in-Err.ensures.denied))
     refl c.deny.ensures
 
-pub returns-in-None : goal.returns-in-None
-returns-in-None g c =
+pub returns-in-Ok : goal.returns-in-Ok
+returns-in-Ok g c =
     let fit = is_fit c.args.q.now c.args.psn c.args.p.now c.oldest_below-oldest.result.acknowledged c.oldest_below-oldest.result.oldest c.fitting_request.result c.in-Some.request
     c.oldest_below-oldest.ensures.acknowledged c.if-acknowledged.false c.oldest_below-oldest.ensures.oldest c.fitting_request.ensures.value c.in-Some.is in
-    let same = c.as_slice-in-None.ensures.value ∙ c.fill_answer_asks.ensures.value in
+    let asks = c.as_slice-asks.result.now in
+    let same : asks ≡ answer_asks c.args.psn c.args.p.now c.args.q.now c.in-Some.request = c.as_slice-asks.ensures.value ∙ c.fill_answer_asks.ensures.value in
     taken_by g.R.Reach.written c.place.result _ _ c.args.q.now c.place.new.q c.args.marks.now c.place.new.marks c.args.reach.now c.place.new.reach
-    (ends_allowed (g.R.Reach.sight c.args.reach.now) c.args.q.now c.args.psn c.args.p.now c.oldest_below-oldest.result.acknowledged c.in-Some.request _ fit (search rules))
-    (rw (sym same) c.place.ensures)
+    (ends_allowed (g.R.Reach.sight c.args.reach.now) c.args.q.now c.args.psn c.args.p.now c.oldest_below-oldest.result.acknowledged c.in-Some.request _ asks c.answer_bytes-bytes.result.now
+    fit same c.answer_bytes-bytes.ensures
+    (subst (λ (xs : List Ask). first_denied (g.R.Reach.sight c.args.reach.now) xs ≡ None) (whole _ asks c.in-len1-up.len_at_least) c.in-Ok.ensures.none))
+    c.place.ensures
