@@ -1,5 +1,5 @@
 -- What comes of an answer: the marks of what is finished before it, of its bytes, and of what is finished behind it.
-use Rattle.std.proofs.Common.{◌≡◌, ℕ, ◌+◌, ◌-◌, ◌≤◌, suc, refl, sym, ap, subst, ◌∙◌, arith, List, [], ◌∷◌, ◌++◌, length, None, Some, Result, Ok, Err}
+use Rattle.std.proofs.Common.{◌≡◌, ℕ, ◌+◌, ◌-◌, ◌≤◌, ◌<◌, get_or, suc, refl, sym, ap, subst, ◌∙◌, arith, List, [], ◌∷◌, ◌++◌, length, None, Some, Result, Ok, Err}
 use Rattle.std.specs.List.{AllByRecursion}
 use Rattle.ca_keys.specs.declared.access.Ask.{Ask}
 use Rattle.ca_keys.specs.declared.access.Kind.TheVariants as kinds
@@ -25,6 +25,7 @@ use Rattle.ca_requester.specs.Progress.{IsProgress, numbers_behind}
 use Rattle.ca_requester.specs.declared.progress.Acknowledged.{Acknowledged}
 use Rattle.ca_requester.specs.Responses.{CanWriteBy, answer_effects, denied_effects}
 use Rattle.ca_rows.specs.Asks.{AreAsksFor, IsGranted}
+use Rattle.ca_rows.proofs.AskLemmas.{whole}
 use Rattle.ca_rows.proofs.WriteLemmas.{can_write, marks-count}
 use Rattle.ca_rows.specs.Made.{AreAdded, HasMade, IsMade, IsTaking}
 use Rattle.ca_sending.proofs.FinishedLemmas.{added_behind, few_finished}
@@ -79,19 +80,26 @@ denied_makes q psn numbers d progress =
     progress.queue
     ∙ sym (ap (λ ms. behind_marks ms (behind_marks (local_denial d ∷ []) (failure_effects LocalProtection None (progress_to psn q).queue))) progress.finished)
 
--- the bytes of an answer may be written by its asks
-pub can_write_by : {S : Type 0} (sight : S → Sight) (judges touches : S → Ask → Type 0) (reach : S) (asks rows : List Ask) (bytes : List ℕ) (p : Fields)
-    → asks ≡ rows → bytes ≡ answer_bytes p → AreAtHand sight judges touches reach rows → AreAsksFor kinds.Write (length (answer_bytes p)) asks
+-- what holds of all of some asks holds of the first
+pub at-first : (P : Ask → Type 0) (d : Ask) (asks : List Ask) → 1 ≤ length asks → AllByRecursion P asks → P (get_or asks 0 d)
+at-first P d asks some all = (subst (λ (xs : List Ask). AllByRecursion P xs) (sym (whole d asks some)) all).0
+
+-- fewer asks than one are none
+pub none-below : (asks : List Ask) → length asks < 1 → asks ≡ []
+none-below [] few = refl
+none-below (ask ∷ asks) few = grind (arith, few)
+
+-- bytes may be written by the asks of a row, which are at hand and allowed
+pub can_write_by : {S : Type 0} (sight : S → Sight) (judges touches : S → Ask → Type 0) (reach : S) (asks rows : List Ask) (bytes : List ℕ)
+    → asks ≡ rows → AreAtHand sight judges touches reach rows → AreAsksFor kinds.Write (length bytes) asks
     → length asks ≤ MAX_PIECES → first_denied (sight reach) asks ≡ None → AllByRecursion (IsGranted (sight reach)) asks
     → CanWriteBy sight judges touches reach asks bytes
-can_write_by sight judges touches reach asks rows bytes p same is at are few none granted =
-    let here : AreAsksFor kinds.Write (length bytes) asks = subst (λ (bs : List ℕ). AreAsksFor kinds.Write (length bs) asks) (sym is) are in
-    record {
-      few = few;
-      enough = here.touched;
-      can = can_write sight judges touches reach asks bytes (subst (AllByRecursion (judges reach)) (sym same) at.keys)
-          (subst (AllByRecursion (touches reach)) (sym same) (at.bytes (ap (first_denied (sight reach)) (sym same) ∙ none))) granted here;
-    }
+can_write_by sight judges touches reach asks rows bytes same at are few none granted = record {
+  few = few;
+  enough = are.touched;
+  can = can_write sight judges touches reach asks bytes (subst (AllByRecursion (judges reach)) (sym same) at.keys)
+      (subst (AllByRecursion (touches reach)) (sym same) (at.bytes (ap (first_denied (sight reach)) (sym same) ∙ none))) granted are;
+}
 
 -- the asks of an answer, behind what it acknowledges
 asks-behind : (q : QueuePair) (psn : ℕ) (p : Fields) (n : Numbered) (numbers : RequesterNumbers) → IsProgress psn q.requester numbers q
@@ -110,15 +118,14 @@ ends_denied s q psn p a n row asks d fit same denied =
     ∙ rw (sym (ap (first_denied s) (same ∙ asks-behind q psn p n (numbers_behind a q) fit.progress)) ∙ denied) refl
     ∙ ap (λ u. Does (denied_effects u d q)) (sym fit.until)
 
-pub ends_allowed : (s : Sight) (q : QueuePair) (psn : ℕ) (p : Fields) (a : Acknowledged) (n : Numbered) (row : Row) (asks : List Ask) (bytes : List ℕ)
-    → IsFitting q psn p a n row → asks ≡ answer_asks psn p q n → bytes ≡ answer_bytes p → first_denied s asks ≡ None
-    → ending_of s row ≡ Does (answer_effects a.until bytes asks q)
-ends_allowed s q psn p a n row asks bytes fit same is none =
+pub ends_allowed : (s : Sight) (q : QueuePair) (psn : ℕ) (p : Fields) (a : Acknowledged) (n : Numbered) (row : Row) (asks : List Ask)
+    → IsFitting q psn p a n row → asks ≡ answer_asks psn p q n → first_denied s asks ≡ None
+    → ending_of s row ≡ Does (answer_effects a.until (answer_bytes p) asks q)
+ends_allowed s q psn p a n row asks fit same none =
     ap (ending_of s) fit.is
     ∙ rw (sym (ap (first_denied s) (same ∙ asks-behind q psn p n (numbers_behind a q) fit.progress)) ∙ none) refl
     ∙ ap (λ (xs : List Ask). Does (answer_effects psn (answer_bytes p) xs q)) (sym (same ∙ asks-behind q psn p n (numbers_behind a q) fit.progress))
-    ∙ ap (λ (bs : List ℕ). Does (answer_effects psn bs asks q)) (sym is)
-    ∙ ap (λ u. Does (answer_effects u bytes asks q)) (sym fit.until)
+    ∙ ap (λ u. Does (answer_effects u (answer_bytes p) asks q)) (sym fit.until)
 
 -- what was made is what a packet's row ends with
 pub taken_plain : {S A E : Type 0} (written : S → Ask → List ℕ → S) (r : Result A E) (ending : Ending) (e : Effects) (q after : QueuePair) (old new : MarkList) (reach : S)

@@ -1,6 +1,5 @@
-ghost use Rattle.std.specs.Prelude.{◌≡◌, ◌≤◌, ◌<◌, ◌^◌, [], suc, true, IfSome, length, option_map_or};
+ghost use Rattle.std.specs.Prelude.{◌≡◌, ◌≤◌, ◌<◌, ◌^◌, [], suc, true, IfSome, length};
 ghost use Rattle.ca_keys.specs.declared.access.Kind.{Kind};
-ghost use Rattle.ca_keys.specs.Memory.{little_endian_bytes};
 ghost use Rattle.ca_base.specs.declared.limits.TheConstants.{MAX_PAYLOAD_BYTES};
 ghost use Rattle.ca_grant.specs.Reaching.{AreAtHand};
 ghost use Rattle.ca_model.specs.Packets.{is_response};
@@ -121,19 +120,6 @@ fn answer_length(p: &Packet<'_>) -> u32
         ATOMIC_BYTES
     } else {
         p.payload.len() as u32
-    }
-}
-
-/// The bytes that an answer brings: its payload, or those of the number that an atomic found.
-#[inline(always)]
-fn answer_bytes<'a>(p: &Packet<'a>, found: &'a [u8]) -> &'a [u8]
-    requires { found.now ≡ little_endian_bytes (option_map_or (λ n. n) p.now.«result» 0) }
-    ensures { result.now ≡ rows.answer_bytes p.now }
-{
-    if p.opcode == ATOMIC_ACKNOWLEDGE {
-        found
-    } else {
-        p.payload
     }
 }
 
@@ -267,16 +253,14 @@ fn take_answer<R: Reach>(
     let mut asks = ArrayVec::new();
     fill_answer_asks(q, p, psn, &request, &mut asks);
     let asks = asks.as_slice();
-    let result = p.result.unwrap_or(0).to_le_bytes();
-    let bytes = answer_bytes(p, &result);
     let [ask, behind @ ..] = asks else {
-        return place_none(q, reach, bytes, taken, marks);
+        return place_none(q, reach, taken, marks);
     };
     let checked = reach.check(ask);
     match judge_all(reach, ask, &checked, behind) {
         Ok(found) => {
             let found = Some(found);
-            place(q, reach, bytes, taken, &JudgedAsks { asks, found }, marks)
+            place(q, reach, p, taken, &JudgedAsks { asks, found }, marks)
         }
         Err(denied) => deny(q, acknowledged, &denied, marks),
     }
@@ -331,24 +315,47 @@ fn deny(
 fn place_none<R: Reach>(
     q: &mut QueuePart,
     reach: &mut R,
-    bytes: &[u8],
     taken: Taken,
     marks: &mut Marks,
 ) -> Result<(), Memory>
     requires taken { IsTakenAnswer q.old taken }
-    ensures { IsTaking R.written result (Does (answer_effects taken.before.until bytes.now [] q.old))
+    ensures { IsTaking R.written result (Does (answer_effects taken.before.until [] [] q.old))
         q.old q.new marks.old marks.new reach.old reach.new }
 {
     let none = JudgedAsks {
         asks: &[],
         found: None,
     };
-    place(q, reach, bytes, taken, &none, marks)
+    place_bytes(q, reach, &[], taken, &none, marks)
 }
 
-/// The bytes go to the list, and all up to the answer's PSN is acknowledged.
+/// The answer's bytes go to the list: its payload, or those of the number that an atomic found.
 #[inline(always)]
 fn place<R: Reach>(
+    q: &mut QueuePart,
+    reach: &mut R,
+    p: &Packet<'_>,
+    taken: Taken,
+    judged: &JudgedAsks<'_, '_>,
+    marks: &mut Marks,
+) -> Result<(), Memory>
+    requires taken { IsTakenAnswer q.old taken }
+    requires can { CanWriteBy R.sight R.judges R.touches reach.old judged.now.asks.now (rows.answer_bytes p.now) }
+    requires found { IfSome judged.now.found (λ f. IsFoundFirst (R.sight reach.old) judged.now.asks.now f.now) }
+    ensures { IsTaking R.written result
+        (Does (answer_effects taken.before.until (rows.answer_bytes p.now) judged.now.asks.now q.old))
+        q.old q.new marks.old marks.new reach.old reach.new }
+{
+    if p.opcode == ATOMIC_ACKNOWLEDGE {
+        let found = p.result.unwrap_or(0).to_le_bytes();
+        return place_bytes(q, reach, &found, taken, judged, marks);
+    }
+    place_bytes(q, reach, p.payload, taken, judged, marks)
+}
+
+/// These bytes go to the list, and all up to the answer's PSN is acknowledged.
+#[inline(always)]
+fn place_bytes<R: Reach>(
     q: &mut QueuePart,
     reach: &mut R,
     bytes: &[u8],

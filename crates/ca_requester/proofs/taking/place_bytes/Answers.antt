@@ -6,7 +6,7 @@ use Rattle.ca_sending.proofs.FinishedLemmas.{few_finished}
 use Rattle.ca_sending.specs.Finished.{success_between}
 use Rattle.ca_requester.proofs.TakingLemmas.{has_answered}
 use Rattle.ca_requester.specs.Progress.{numbers_behind}
-use Rattle.ca_requester.proofs.taking.place.Goals as goal
+use Rattle.ca_requester.proofs.taking.place_bytes.Goals as goal
 
 pub push_writes-requires-clause-room : goal.push_writes-requires-clause-room
 push_writes-requires-clause-room g c =
@@ -30,7 +30,7 @@ push_finished-requires-2-clause-spare g c =
       c.in_ok-reserve.ensures.room,
       c.finished_count.ensures.value,
       c.push_finished.ensures.room,
-      c.in_ok-push_writes.ensures.added.room,
+      c.in_default.ensures.added.room,
       marks-count c.args.judged.now.asks.now c.args.bytes.now,
       later,
       below,
@@ -46,6 +46,6 @@ returns g c =
           c.args.marks.now c.reserve.new.self c.push_finished.new.marks c.push_writes.new.marks c.push_finished-2.new.marks
           c.requires.taken.before c.requires.taken.after c.reserve.ensures.same
           (omega (arith, c.in_ok-reserve.ensures.room, c.finished_count.ensures.value))
-          (subst P c.q.view_is c.push_finished.ensures) c.in_ok-push_writes.ensures.added c.push_finished-2.ensures (rw (c.numbers_after-q-inside.ensures, ← c.q.view_is) refl),
+          (subst P c.q.view_is c.push_finished.ensures) c.in_default.ensures.added c.push_finished-2.ensures (rw (c.numbers_after-q-inside.ensures, ← c.q.view_is) refl),
       c.write_judged.ensures.wrote,
     )
