@@ -12,7 +12,9 @@ use ca_held::Held;
 use ca_model::{Answer, Marks, Refusal};
 use std::alloc::Global;
 
-/// CreateCq.
+/// CreateCq: a completion queue for `capacity` completions, with none in it. Refused, in this order: NoDomain, SlotTaken,
+/// OutOfRange where `capacity` is not from 1 to `MAX_CAPACITY`. `Memory` leaves all as it was.
+/// Source: InfiniBand Architecture Specification Volume 1, the chapter on the verbs, Create Completion Queue.
 #[tactic(auto, using(ca_held::proofs::HoldLemmas::put_cq, ca_held::proofs::HoldLemmas::put_control))]
 pub fn create_cq(
     call: &Call<'_>,
@@ -41,7 +43,9 @@ pub fn create_cq(
     Ok(ready.answer(Answer::Fine))
 }
 
-/// DestroyCq.
+/// DestroyCq: the slot is vacant again. Refused, in this order: NoSuch where it was vacant, CqInUse where a queue pair uses
+/// the completion queue. `Memory` leaves all as it was.
+/// Source: InfiniBand Architecture Specification Volume 1, the chapter on the verbs, Destroy Completion Queue.
 #[tactic(auto, using(ca_held::proofs::HoldLemmas::put_cq, ca_held::proofs::HoldLemmas::put_control))]
 pub fn destroy_cq(call: &Call<'_>, held: &mut Held, slot: Slot) -> Result<Marks, StepError>
     requires suffices { Suffices held.old (destroy_cq_plan (call_of call.now) slot) }

@@ -9,7 +9,9 @@ use ca_held::Held;
 use ca_model::{Answer, Marks, Refusal};
 use std::alloc::Global;
 
-/// AllocPd.
+/// AllocPd: the protection domain is allocated, with no objects. Refused, in this order: DomainTaken where it is allocated.
+/// `Memory` leaves all as it was.
+/// Source: InfiniBand Architecture Specification Volume 1, the chapter on the verbs, Allocate Protection Domain.
 #[tactic(auto, using(ca_held::proofs::HoldLemmas::put_control))]
 pub fn alloc_pd(call: &Call<'_>, held: &mut Held, domain: DomainId) -> Result<Marks, StepError>
     requires suffices { Suffices held.old (alloc_pd_plan (call_of call.now) domain) }
@@ -24,7 +26,9 @@ pub fn alloc_pd(call: &Call<'_>, held: &mut Held, domain: DomainId) -> Result<Ma
     Ok(ready.answer(Answer::Fine))
 }
 
-/// DeallocPd.
+/// DeallocPd: the protection domain is free again. Refused, in this order: NoDomain where it is not allocated, DomainInUse
+/// where it has an object. `Memory` leaves all as it was.
+/// Source: InfiniBand Architecture Specification Volume 1, the chapter on the verbs, Deallocate Protection Domain.
 #[tactic(auto, using(ca_held::proofs::HoldLemmas::put_control))]
 pub fn dealloc_pd(call: &Call<'_>, held: &mut Held, domain: DomainId) -> Result<Marks, StepError>
     requires suffices { Suffices held.old (dealloc_pd_plan (call_of call.now) domain) }

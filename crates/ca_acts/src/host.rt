@@ -12,7 +12,9 @@ use ca_base::{Bytes, Field, Place, Run, StepError};
 use ca_held::Held;
 use ca_model::{Answer, Mark, Marks, Refusal};
 
-/// Store, to a buffer of this length.
+/// Store: the host writes its own memory, from the first place of `at` on, in a buffer of `buffer_length` bytes. Refused,
+/// in this order: OutOfRange where it is no byte or more than `MAX_STORE_BYTES`, OutsideBuffer. `Memory` leaves all as it
+/// was. This profile's own verb.
 pub fn store(
     call: &Call<'_>,
     held: &mut Held,
@@ -45,7 +47,8 @@ pub fn store(
     Ok(marks)
 }
 
-/// Load, of a buffer of this length.
+/// Load: the host reads its own memory, from the first place of `at` on, in a buffer of `buffer_length` bytes. Refused as a
+/// Store. It changes nothing. This profile's own verb.
 pub fn load(
     call: &Call<'_>,
     held: &mut Held,

@@ -11,7 +11,9 @@ use ca_base::{Memory, RecvRequest, Slot, StepError};
 use ca_held::Held;
 use ca_model::{Answer, Marks, Refusal, list_length};
 
-/// PostSrq.
+/// PostSrq: a receive waits in the shared receive queue behind the others. Refused, in this order: NoSuch where the slot is
+/// vacant, TooLong where the list has more than `MAX_MESSAGE_BYTES`, QueueFull. `Memory` leaves all as it was.
+/// Source: InfiniBand Architecture Specification Volume 1, the chapter on the verbs, Post Receive Request.
 #[tactic(auto, using(ca_held::proofs::HoldLemmas::put_srq))]
 pub fn post_srq(
     call: &Call<'_>,

@@ -8,7 +8,9 @@ use ca_base::{QueueId, Slot, StepError};
 use ca_held::{Held, QueueSlot};
 use ca_model::{Answer, Marks, Refusal};
 
-/// QueryQp: the receives are those of its own queue.
+/// QueryQp: the state of a queue pair, its incarnation, and how many places its send queue and its own receive queue
+/// occupy, none with a shared receive queue. Refused: NoSuch where the slot is vacant. It changes nothing.
+/// Source: InfiniBand Architecture Specification Volume 1, the chapter on the verbs, Query Queue Pair.
 pub fn query_qp(call: &Call<'_>, held: &Held, slot: Slot) -> Result<Marks, StepError>
     requires small { slot.slot < 256 }
     requires suffices { Suffices held.now (query_qp_plan (call_of call.now) slot) }

@@ -10,7 +10,10 @@ use ca_base::{Field, Rights, Run, Slot, StepError};
 use ca_held::Held;
 use ca_model::{Answer, Mark, Marks, Refusal};
 
-/// RegMr, over a buffer of this length.
+/// RegMr: registers the bytes of `at`, which lie in a buffer of `buffer_length` bytes, as a memory region with these rights,
+/// and answers its key. Refused, in this order: NoDomain, SlotTaken, and then as `Region::register` says. `Memory` leaves
+/// all as it was.
+/// Source: InfiniBand Architecture Specification Volume 1, the chapter on the verbs, Register Memory Region.
 #[tactic(auto, using(ca_held::proofs::HoldLemmas::put_region, ca_held::proofs::HoldLemmas::put_control, ca_held::proofs::HoldLemmas::kept_region, crate::proofs::RefusalLemmas::reg_refused))]
 pub fn reg_mr(
     call: &Call<'_>,
@@ -46,7 +49,9 @@ pub fn reg_mr(
     }
 }
 
-/// AllocMr.
+/// AllocMr: a region of so many pages, free for fast registration. Refused, in this order: NoDomain, SlotTaken, OutOfRange
+/// where it has no pages or more than `MAX_PAGES`. `Memory` leaves all as it was.
+/// Source: InfiniBand Architecture Specification Volume 1, the chapter on the verbs, Allocate L_Key.
 #[tactic(auto, using(ca_held::proofs::HoldLemmas::put_region, ca_held::proofs::HoldLemmas::put_control))]
 pub fn alloc_mr(
     call: &Call<'_>,
@@ -74,7 +79,9 @@ pub fn alloc_mr(
     Ok(ready.answer(Answer::Fine))
 }
 
-/// DeregMr: a key that was valid is revoked.
+/// DeregMr: the slot is vacant again, and a key that was valid is revoked. Refused, in this order, as
+/// `Region::deregister` says: NoSuch, WindowsBound. `Memory` leaves all as it was.
+/// Source: InfiniBand Architecture Specification Volume 1, the chapter on the verbs, Deregister Memory Region.
 #[tactic(auto, using(ca_held::proofs::HoldLemmas::put_region, ca_held::proofs::HoldLemmas::put_control, ca_held::proofs::HoldLemmas::kept_region, crate::proofs::RefusalLemmas::dereg_refused))]
 pub fn dereg_mr(call: &Call<'_>, held: &mut Held, slot: Slot) -> Result<Marks, StepError>
     requires suffices { Suffices held.old (dereg_mr_plan (call_of call.now) slot) }

@@ -11,7 +11,9 @@ use ca_held::Held;
 use ca_model::{Answer, Marks, Refusal};
 use ca_srq::Srq;
 
-/// CreateSrq.
+/// CreateSrq: a shared receive queue for `depth` receives, with none in it. Refused, in this order: NoDomain, SlotTaken,
+/// OutOfRange where `depth` is not from 1 to `MAX_DEPTH`. `Memory` leaves all as it was.
+/// Source: InfiniBand Architecture Specification Volume 1, the chapter on the verbs, Create Shared Receive Queue.
 #[tactic(auto, using(ca_held::proofs::HoldLemmas::put_srq, ca_held::proofs::HoldLemmas::put_control))]
 pub fn create_srq(
     call: &Call<'_>,
@@ -40,7 +42,9 @@ pub fn create_srq(
     Ok(ready.answer(Answer::Fine))
 }
 
-/// DestroySrq.
+/// DestroySrq: the slot is vacant again. Refused, in this order: NoSuch where it was vacant, SrqInUse where a queue pair
+/// uses it. Receives that wait go with it. `Memory` leaves all as it was.
+/// Source: InfiniBand Architecture Specification Volume 1, the chapter on the verbs, Destroy Shared Receive Queue.
 #[tactic(auto, using(ca_held::proofs::HoldLemmas::put_srq, ca_held::proofs::HoldLemmas::put_control))]
 pub fn destroy_srq(call: &Call<'_>, held: &mut Held, slot: Slot) -> Result<Marks, StepError>
     requires suffices { Suffices held.old (destroy_srq_plan (call_of call.now) slot) }

@@ -13,7 +13,9 @@ use ca_base::{Field, QueueId, Slot, StepError};
 use ca_held::{Held, QueueSlot};
 use ca_model::{Answer, Mark, Marks, Refusal};
 
-/// AllocMw.
+/// AllocMw: a memory window of type 1 or 2, which is bound to no region. Refused, in this order: NoDomain, SlotTaken,
+/// OutOfRange where `kind` is neither 1 nor 2. `Memory` leaves all as it was.
+/// Source: InfiniBand Architecture Specification Volume 1, the chapter on the verbs, Allocate Memory Window.
 #[tactic(auto, using(ca_held::proofs::HoldLemmas::put_window, ca_held::proofs::HoldLemmas::put_control))]
 pub fn alloc_mw(call: &Call<'_>, held: &mut Held, slot: Slot, kind: u8) -> Result<Marks, StepError>
     requires suffices { Suffices held.old (alloc_mw_plan (call_of call.now) slot kind) }
@@ -36,7 +38,9 @@ pub fn alloc_mw(call: &Call<'_>, held: &mut Held, slot: Slot, kind: u8) -> Resul
     Ok(ready.answer(Answer::Fine))
 }
 
-/// DeallocMw: a key that was in force is revoked.
+/// DeallocMw: the slot is vacant again, and a key that was in force is revoked; the region and the queue pair of its bind
+/// have one window fewer. Refused: NoSuch where the slot is vacant. `Memory` leaves all as it was.
+/// Source: InfiniBand Architecture Specification Volume 1, the chapter on the verbs, Deallocate Memory Window.
 #[tactic(auto, using(ca_held::proofs::HoldLemmas::put_window, ca_held::proofs::HoldLemmas::put_control, ca_held::proofs::HoldLemmas::put_region))]
 pub fn dealloc_mw(call: &Call<'_>, held: &mut Held, slot: Slot) -> Result<Marks, StepError>
     requires suffices { Suffices held.old (dealloc_mw_plan (call_of call.now) slot) }

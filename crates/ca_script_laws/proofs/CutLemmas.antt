@@ -1,5 +1,5 @@
 -- The line of a verb is cut into its words again.
-use Rattle.std.proofs.Common.{◌≡◌, ℕ, ◌/◌, ◌%◌, ◌<◌, ◌≤◌, Bool, true, false, ◌&&◌, eqb, List, [], ◌∷◌, ◌++◌, length, length-append, Some, None, decimal, map, refl, ap, ◌∙◌, arith, inl, inr}
+use Rattle.std.proofs.Common.{◌≡◌, ℕ, ◌/◌, ◌%◌, ◌-◌, ◌<◌, ◌≤◌, Bool, true, false, ◌&&◌, eqb, List, [], ◌∷◌, ◌++◌, length, length-append, Some, None, decimal, map, refl, ap, ◌∙◌, arith, inl, inr}
 use Rattle.std.specs.Int.{w32, to_be_bytes}
 use Rattle.std.specs.List.{filter, list_all}
 use Rattle.std.proofs.lemmas.Bool.{cases_Bool, ne_eqb}
@@ -11,6 +11,7 @@ use Rattle.ca_base.specs.declared.change.Change.{Change}
 use Rattle.ca_base.specs.declared.change.Change.TheVariants as changes
 use Rattle.ca_base.specs.declared.request.SendOp.{SendOp}
 use Rattle.ca_base.specs.declared.request.SendOp.TheVariants as ops
+use Rattle.ca_base.specs.declared.limits.TheConstants.{MAX_CONSUMERS}
 use Rattle.ca_keys.specs.declared.names.Slot.{Slot}
 use Rattle.ca_keys.specs.Spelling.{address_text, rights_text}
 use Rattle.ca_model.specs.declared.verb.Verb.{Verb}
@@ -230,6 +231,6 @@ pub line_said : LinesAgree
 line_said by v fits few said = (
   words_again by v fits,
   decimal_consumer by (omega arith),
-  decimal_limited by 63 few (omega arith),
+  decimal_limited by (MAX_CONSUMERS - 1) few (omega arith),
   verb_said v fits.1 said,
 )

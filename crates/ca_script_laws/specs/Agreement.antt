@@ -1,5 +1,6 @@
 -- What both grammars have in common: the verbs, in the same words. Contracts cite it.
-use Rattle.std.specs.Prelude.{◌≡◌, ℕ, ◌==◌, Bool, true, not, ◌||◌, [], length, Ok, ◌≤◌, drop}
+use Rattle.std.specs.Prelude.{◌≡◌, ℕ, ◌==◌, Bool, true, not, ◌||◌, [], length, Ok, ◌≤◌, ◌-◌, drop}
+use Rattle.ca_base.specs.declared.limits.TheConstants.{MAX_CONSUMERS}
 use Rattle.ca_base.specs.declared.request.SendOp.{SendOp}
 use Rattle.ca_base.specs.declared.request.SendOp.TheVariants as ops
 use Rattle.ca_model.specs.declared.verb.Verb.{Verb}
@@ -31,8 +32,8 @@ VerbsAgree = (v : Verb) → AllFit (verb_words v) → is_sayable v ≡ true → 
 -- the line of a call in a trace, from its consumer on, is cut into its words again, of which the first names the consumer
 -- and the others say the verb
 abbrev pub LinesAgree : Type 0
-LinesAgree = (by : ℕ) (v : Verb) → AllFit (call_words by v) → by ≤ 63 → is_sayable v ≡ true →
+LinesAgree = (by : ℕ) (v : Verb) → AllFit (call_words by v) → by ≤ MAX_CONSUMERS - 1 → is_sayable v ≡ true →
     (words_of (call by v) ≡ words (call_words by v))
     × (is_consumer (word (Lettered 99 w32 by)) ≡ true)
-    × (limited 0 63 (drop 1 (word (Lettered 99 w32 by))) ≡ Ok by)
+    × (limited 0 (MAX_CONSUMERS - 1) (drop 1 (word (Lettered 99 w32 by))) ≡ Ok by)
     × (read_table consumer_lines (words (verb_words v)) ≡ Ok (whats.Verb v, []))
