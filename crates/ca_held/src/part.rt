@@ -121,9 +121,11 @@ impl BufferId {
 }
 
 impl ShelfName for BufferId {
-    ghost use Rattle.ca_held.specs.Names.{buffer_eq};
+    ghost use Rattle.ca_held.specs.Names.{buffer_eq, buffer_path};
 
     ghost same = { buffer_eq };
+
+    ghost path = { buffer_path };
 
     fn is(&self, other: &BufferId) -> bool {
         *self == *other
