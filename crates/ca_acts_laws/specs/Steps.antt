@@ -16,8 +16,8 @@ Shows w h = SameWhere h.has h.world w
 abbrev pub LeavesUnheld : Holding → World → World → Type 0
 LeavesUnheld h w v = (n : Name) → h.has n ≡ false → get v n ≡ get w n
 
--- an act is the step that has this outcome in a world: its marks, with what is held shown by the new world, or the reason
--- why it is not possible; want of memory leaves all as it was
+-- an act is the step that has this outcome in a world: its marks, with what is held shown by the new world, or the
+-- reason why it is not possible; want of memory leaves all as it was
 abbrev pub IsStepOf : Result MarkList StepError → Outcome → World → Holding → Holding → Type 0
 IsStepOf (Ok m) (Did v ms) w old new =
     (m.marks ≡ ms) × Shows v new × (new.has ≡ old.has) × (new.parts ≡ old.parts) × LeavesUnheld old w v

@@ -11,9 +11,9 @@ ghost use Rattle.ca_held.specs.HeldView.{Holding};
 ghost use Rattle.ca_acts.specs.Act.{IsAct};
 ghost use Rattle.ca_acts_laws.specs.Steps.{IsStepOf, Shows};
 
-/// Where a world shows all that is held, and all that an event touches is held, an act of the event is its step in that
-/// world: its marks or its reason are the step's, what is held afterwards is shown by the world after the step, the names
-/// held stay, and so does everything else.
+/// Where a world shows all that is held, and all that an event touches is held, an act of the event is its step in
+/// that world: its marks or its reason are the step's, what is held afterwards is shown by the world after the step,
+/// the names held stay, and so does everything else.
 pub fn act_is_step()
     ensures { (c : Configuration) (event : Event) (result : Result MarkList StepError) (old new : Holding) (w : World)
         → Shows w old → AllPass old.has (touches old.world (plan c event))

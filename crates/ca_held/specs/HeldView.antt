@@ -59,7 +59,8 @@ held_world h = record {
   srq = λ s. or_vacant vacant_srq (thing_under slot_eq s h.srqs.things);
   queue = λ q. or_vacant vacant_queue (option_map (λ b. slot_of b.value) (thing_under queue_eq q h.queues.things));
   mailbox = λ q. or_vacant empty_mailbox (thing_under queue_eq q h.mailboxes.things);
-  byte = λ p. option_map_or (λ bytes. memory_of bytes p) (thing_under buffer_eq (buffer_of p) h.reached.buffers.things) 0;
+  byte = λ p. option_map_or (λ bytes. memory_of bytes p)
+      (thing_under buffer_eq (buffer_of p) h.reached.buffers.things) 0;
 }
 
 -- the thing of this name is held; a byte where its buffer is, and has it

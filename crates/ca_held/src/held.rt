@@ -30,10 +30,12 @@ pub struct Reached {
 }
 
 impl Held {
-    ghost use Rattle.std.specs.Prelude.{◌≡◌, ◌+◌, ◌<◌, ◌≤◌, ◌++◌, [], ◌∷◌, true, false, Some, is_some, length, IfSome, IsTrue, OnErr, OnOk};
+    ghost use Rattle.std.specs.Prelude.{◌≡◌, ◌+◌, ◌<◌, ◌≤◌, ◌++◌, [], ◌∷◌, true, false, Some, is_some, length};
+    ghost use Rattle.std.specs.Prelude.{IfSome, IsTrue, OnErr, OnOk};
     ghost use Rattle.std.specs.Borrow.{sem};
     ghost use Rattle.ca_held.specs.Lending as lending;
-    ghost use Rattle.ca_model.specs.machine.World.{Domain_of, Region_of, Window_of, Cq_of, Srq_of, Queue_of, Mailbox_of};
+    ghost use Rattle.ca_model.specs.machine.World.{Domain_of, Region_of, Window_of, Cq_of, Srq_of};
+    ghost use Rattle.ca_model.specs.machine.World.{Queue_of, Mailbox_of};
     ghost use Rattle.ca_held.specs.HeldView.{IsRunHeld, holding, room_for, with_bytes};
     ghost use Rattle.ca_held.specs.Taking.{is_of_kind, nothing_held, with_part, without_part};
     ghost use Rattle.ca_model.specs.declared.part_name.PartName.{PartName};
@@ -121,8 +123,8 @@ impl Held {
         }
     }
 
-    /// Takes the part of a name, as the small world had it. None comes exactly where it is not held. It takes no memory,
-    /// and no part is copied.
+    /// Takes the part of a name, as the small world had it. None comes exactly where it is not held. It takes no
+    /// memory, and no part is copied.
     #[tactic(auto, using(crate::proofs::TakingLemmas::removing))]
     pub fn remove(&mut self, name: PartName) -> Option<Part>
         ensures there { is_some result ≡ (holding self.old).parts name }

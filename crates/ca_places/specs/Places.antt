@@ -1,5 +1,6 @@
 -- The row of all parts of a fabric, and the place of each part in it. Contracts cite it.
-use Rattle.std.specs.Prelude.{ℕ, ◌+◌, ◌*◌, ◌%◌, if◌then◌else◌, suc, length, map, take, sum_by, List, [], ◌∷◌, ◌++◌, Option, None}
+use Rattle.std.specs.Prelude.{ℕ, suc, ◌+◌, ◌*◌, ◌%◌, if◌then◌else◌, Option, None}
+use Rattle.std.specs.Prelude.{List, [], ◌∷◌, ◌++◌, length, map, take, sum_by}
 use Rattle.std.specs.List.{flat_map, range_with_len}
 use Rattle.std.specs.Option.{option_map}
 use Rattle.ca_keys.specs.declared.names.DomainId.{DomainId}
@@ -15,8 +16,8 @@ use Rattle.ca_model.specs.machine.Parts.{is_configured_part}
 abbrev pub parts_of_kind : (Slot → PartName) → DomainId → ℕ → List PartName
 parts_of_kind name d n = map (λ slot. name (record { domain = d; slot = slot })) (range_with_len 0 n)
 
--- the parts of a domain: its control part, queue pairs, mailboxes, completion queues, shared receive queues, windows and
--- regions
+-- the parts of a domain: its control part, queue pairs, mailboxes, completion queues, shared receive queues, windows
+-- and regions
 abbrev pub parts_of_domain : Adapter → DomainId → List PartName
 parts_of_domain a d =
     names.Control d
@@ -80,5 +81,6 @@ place_at p a = (domain_of_part p).domain * domain_parts a + place_in_domain a p
 abbrev pub place_of : Configuration → PartName → Option ℕ
 place_of c p =
     if is_configured_part c p
-    then option_map (λ a. parts_before c (domain_of_part p).adapter + place_at p a) (adapter_at c (domain_of_part p).adapter)
+    then option_map (λ a. parts_before c (domain_of_part p).adapter + place_at p a)
+    (adapter_at c (domain_of_part p).adapter)
     else None

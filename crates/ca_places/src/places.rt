@@ -10,9 +10,10 @@ use ca_base::limits::{MAX_ADAPTERS, MAX_BUFFERS};
 use ca_base::{AdapterSettings, DomainId, Settings, slot_of_queue};
 use ca_model::PartName;
 
-/// The place of a part in the row of all parts, from 0 on: adapter by adapter, in each the parts of its domains, then its
-/// buffers; in each domain the control part, then queue pairs, mailboxes, completion queues, shared receive queues,
-/// windows and regions, by slot. None comes exactly where the name lies outside the configured slices. It takes no memory.
+/// The place of a part in the row of all parts, from 0 on: adapter by adapter, in each the parts of its domains, then
+/// its buffers; in each domain the control part, then queue pairs, mailboxes, completion queues, shared receive queues,
+/// windows and regions, by slot. None comes exactly where the name lies outside the configured slices. It takes no
+/// memory.
 #[tactic(auto, using(crate::proofs::PlaceLemmas::adapters_before))]
 pub fn place(settings: &Settings, name: &PartName) -> Option<u32>
     ensures { result ≡ row.place_of (configuration_in settings.now) name.now }

@@ -5,5 +5,7 @@ use Rattle.ca_shelf.specs.Shelved.{Shelved, with_thing}
 use Rattle.ca_shelf.specs.contracts.shelf.Shelf.{the_row}
 
 -- the thing of this name is the last value behind the reference
-abbrev pub LendsThing : (N T : RattleType) → Ghosts N.Denot → MutBor (Shelved N.Denot T.Denot) → N.Denot → MutBor T.Denot → Fml
-LendsThing N T names s name r = Lends (the_row N T names) T s r (λ v. record s.now { things = with_thing names.same name v s.now.things })
+abbrev pub LendsThing : (N T : RattleType) → Ghosts N.Denot → MutBor (Shelved N.Denot T.Denot) → N.Denot
+    → MutBor T.Denot → Fml
+LendsThing N T names s name r =
+    Lends (the_row N T names) T s r (λ v. record s.now { things = with_thing names.same name v s.now.things })

@@ -10,7 +10,10 @@ pub domain_path : (a b : DomainId) → domain_eq a b ≡ true → a ≡ b
 domain_path a b same = by (and_parts (a.adapter == b.adapter) (a.domain == b.domain) same)
   where
     by : ((a.adapter == b.adapter) ≡ true) × ((a.domain == b.domain) ≡ true) → a ≡ b
-    by parts = λ i. record { adapter = eqb-true a.adapter b.adapter parts.0 i; domain = eqb-true a.domain b.domain parts.1 i }
+    by parts = λ i. record {
+      adapter = eqb-true a.adapter b.adapter parts.0 i;
+      domain = eqb-true a.domain b.domain parts.1 i;
+    }
 
 pub slot_path : (a b : Slot) → slot_eq a b ≡ true → a ≡ b
 slot_path a b same = by (and_parts (domain_eq a.domain b.domain) (a.slot == b.slot) same)
@@ -22,4 +25,7 @@ pub queue_path : (a b : QueueId) → queue_eq a b ≡ true → a ≡ b
 queue_path a b same = by (and_parts (a.adapter == b.adapter) (a.number == b.number) same)
   where
     by : ((a.adapter == b.adapter) ≡ true) × ((a.number == b.number) ≡ true) → a ≡ b
-    by parts = λ i. record { adapter = eqb-true a.adapter b.adapter parts.0 i; number = eqb-true a.number b.number parts.1 i }
+    by parts = λ i. record {
+      adapter = eqb-true a.adapter b.adapter parts.0 i;
+      number = eqb-true a.number b.number parts.1 i;
+    }
