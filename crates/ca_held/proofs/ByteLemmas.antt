@@ -1,7 +1,7 @@
 -- The bytes of buffers that are held, and a write to a run of one. For proofs only.
 use Rattle.std.proofs.Common.{◌≡◌, ◌∙◌, refl, sym, ap, ap₂, arith, ℕ, zero, suc, ◌+◌, ◌-◌, ◌<◌, ◌≤◌, ◌==◌, ◌&&◌, nat_le, nat_lt, Bool, true, false, List, [], ◌∷◌, ◌++◌, map, Option, None, Some, is_some, length, slice_index_or, if◌then◌else◌, true≢false}
 use Rattle.std.proofs.Math.Path.{fun_ext}
-use Rattle.std.proofs.lemmas.Bool.{and_parts, eqb-true, ltb-true}
+use Rattle.std.proofs.lemmas.Bool.{ltb-true}
 use Rattle.std.proofs.lemmas.Bool.Decides.{nat_tests}
 use Rattle.std.specs.List.{range_with_len}
 use Rattle.std.specs.Option.{option_map_or}
@@ -9,20 +9,16 @@ use Rattle.ca_keys.specs.declared.place.Place.{Place}
 use Rattle.ca_keys.specs.declared.place.Run.{Run}
 use Rattle.ca_keys.specs.Memory.{bytes_at, is_in, memory_after}
 use Rattle.ca_memory.specs.Buffer.{IsInside, IsWrittenAt, memory_of}
+use Rattle.ca_model.specs.declared.part_name.PartName.{PartName}
+use Rattle.ca_model.specs.declared.part_name.PartName.TheVariants as names
 use Rattle.ca_model.specs.machine.Frame.{AllPass}
 use Rattle.ca_model.specs.machine.World.{Name, Domain_of, Region_of, Window_of, Cq_of, Srq_of, Queue_of, Mailbox_of, Byte_at}
 use Rattle.ca_shelf.specs.Shelved.{has_thing, thing_under, with_thing}
 use Rattle.ca_held.specs.declared.held.Held.{Held}
 use Rattle.ca_held.specs.declared.part.BufferId.{BufferId}
-use Rattle.ca_held.specs.HeldView.{IsRunHeld, buffer_of, holding, held_world, is_held_name, with_buffer, with_bytes}
-use Rattle.ca_held.specs.Names.{buffer_eq, buffer_of_run}
-use Rattle.ca_held.proofs.HoldLemmas.{thing-with}
-
-buffer-path : (a b : BufferId) → buffer_eq a b ≡ true → a ≡ b
-buffer-path a b same = by (and_parts (a.adapter == b.adapter) (a.index == b.index) same)
-  where
-    by : ((a.adapter == b.adapter) ≡ true) × ((a.index == b.index) ≡ true) → a ≡ b
-    by parts = λ i. record { adapter = eqb-true a.adapter b.adapter parts.0 i; index = eqb-true a.index b.index parts.1 i }
+use Rattle.ca_held.specs.HeldView.{IsRunHeld, buffer_of, holding, held_world, is_held_name, is_held_part, with_buffer, with_bytes}
+use Rattle.ca_held.specs.Names.{buffer_eq, buffer_of_run, buffer_path}
+use Rattle.ca_held.proofs.HoldLemmas.{has-with, thing-with}
 
 place_in : Run → ℕ → Place
 place_in r at = record { adapter = r.adapter; buffer = r.buffer; offset = at }
@@ -74,15 +70,26 @@ pub put_bytes : (h : Held) (r : Run) (written old new : List ℕ) → Some old �
 unfolding holding with_buffer
 put_bytes h r written old new is put same = λ i. record {
   world = record (held_world h) { byte = fun_ext (λ p. at p (buffer_eq (buffer_of_run r) (buffer_of p)) refl) i };
-  has = fun_ext names i;
+  has = fun_ext kept i;
+  parts = fun_ext parts i;
 }
   where
+    parts : (p : PartName) → is_held_part (with_buffer h (buffer_of_run r) new) p ≡ is_held_part h p
+    parts (names.Control m) = refl
+    parts (names.Region m) = refl
+    parts (names.Window m) = refl
+    parts (names.Cq m) = refl
+    parts (names.Srq m) = refl
+    parts (names.Queue m) = refl
+    parts (names.Mailbox m) = refl
+    parts (names.Buffer a x) = has-with buffer_eq buffer_path h.reached.buffers.things (buffer_of_run r) (record { adapter = a; index = x }) new (sym (ap is_some is))
+
     things : (name : BufferId) → thing_under buffer_eq name (with_thing buffer_eq (buffer_of_run r) new h.reached.buffers.things)
         ≡ (if buffer_eq (buffer_of_run r) name then Some new else thing_under buffer_eq name h.reached.buffers.things)
-    things name = thing-with buffer_eq buffer-path h.reached.buffers.things (buffer_of_run r) name new (sym (ap is_some is))
+    things name = thing-with buffer_eq buffer_path h.reached.buffers.things (buffer_of_run r) name new (sym (ap is_some is))
 
     here : (p : Place) → buffer_eq (buffer_of_run r) (buffer_of p) ≡ true → Some old ≡ thing_under buffer_eq (buffer_of p) h.reached.buffers.things
-    here p e = is ∙ ap (λ b. thing_under buffer_eq b h.reached.buffers.things) (buffer-path (buffer_of_run r) (buffer_of p) e)
+    here p e = is ∙ ap (λ b. thing_under buffer_eq b h.reached.buffers.things) (buffer_path (buffer_of_run r) (buffer_of p) e)
 
     outside : (p : Place) → buffer_eq (buffer_of_run r) (buffer_of p) ≡ false → is_in r p ≡ false
     outside p e = apart (r.adapter == p.adapter) refl e
@@ -99,20 +106,20 @@ put_bytes h r written old new is put same = λ i. record {
         → option_map_or (λ xs. memory_of xs p) (thing_under buffer_eq (buffer_of p) (with_thing buffer_eq (buffer_of_run r) new h.reached.buffers.things)) 0
         ≡ memory_after (held_world h).byte (r ∷ []) written p
     at p true e = ap (λ o. option_map_or (λ xs. memory_of xs p) o 0) (things (buffer_of p) ∙ ap (λ b. if b then Some new else thing_under buffer_eq (buffer_of p) h.reached.buffers.things) e)
-        ∙ put p (ap (λ b. b.adapter) (sym (buffer-path (buffer_of_run r) (buffer_of p) e))) (ap (λ b. b.index) (sym (buffer-path (buffer_of_run r) (buffer_of p) e)))
+        ∙ put p (ap (λ b. b.adapter) (sym (buffer_path (buffer_of_run r) (buffer_of p) e))) (ap (λ b. b.index) (sym (buffer_path (buffer_of_run r) (buffer_of p) e)))
         ∙ ap (λ o. if is_in r p then slice_index_or written (p.offset - r.offset) 0 else option_map_or (λ xs. memory_of xs p) o 0) (here p e)
     at p false e = ap (λ o. option_map_or (λ xs. memory_of xs p) o 0) (things (buffer_of p) ∙ ap (λ b. if b then Some new else thing_under buffer_eq (buffer_of p) h.reached.buffers.things) e)
         ∙ sym (ap (λ b. if b then slice_index_or written (p.offset - r.offset) 0 else (held_world h).byte p) (outside p e))
 
-    names : (n : Name) → is_held_name (with_buffer h (buffer_of_run r) new) n ≡ is_held_name h n
-    names (Domain_of m) = refl
-    names (Region_of m) = refl
-    names (Window_of m) = refl
-    names (Cq_of m) = refl
-    names (Srq_of m) = refl
-    names (Queue_of m) = refl
-    names (Mailbox_of m) = refl
-    names (Byte_at p) = by (buffer_eq (buffer_of_run r) (buffer_of p)) refl
+    kept : (n : Name) → is_held_name (with_buffer h (buffer_of_run r) new) n ≡ is_held_name h n
+    kept (Domain_of m) = refl
+    kept (Region_of m) = refl
+    kept (Window_of m) = refl
+    kept (Cq_of m) = refl
+    kept (Srq_of m) = refl
+    kept (Queue_of m) = refl
+    kept (Mailbox_of m) = refl
+    kept (Byte_at p) = by (buffer_eq (buffer_of_run r) (buffer_of p)) refl
       where
         by : (b : Bool) → buffer_eq (buffer_of_run r) (buffer_of p) ≡ b
             → option_map_or (λ bytes. nat_lt p.offset (length bytes)) (thing_under buffer_eq (buffer_of p) (with_thing buffer_eq (buffer_of_run r) new h.reached.buffers.things)) false
@@ -120,3 +127,7 @@ put_bytes h r written old new is put same = λ i. record {
         by true e = ap (λ o. option_map_or (λ bytes. nat_lt p.offset (length bytes)) o false) (things (buffer_of p) ∙ ap (λ b. if b then Some new else thing_under buffer_eq (buffer_of p) h.reached.buffers.things) e)
             ∙ ap (nat_lt p.offset) same ∙ ap (λ o. option_map_or (λ bytes. nat_lt p.offset (length bytes)) o false) (here p e)
         by false e = ap (λ o. option_map_or (λ bytes. nat_lt p.offset (length bytes)) o false) (things (buffer_of p) ∙ ap (λ b. if b then Some new else thing_under buffer_eq (buffer_of p) h.reached.buffers.things) e)
+
+pub ruleset reading = (run_has, run_fits, bytes_held)
+
+pub ruleset writing = (run_has, run_fits, put_bytes)

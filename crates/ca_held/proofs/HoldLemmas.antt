@@ -15,12 +15,14 @@ use Rattle.ca_base.specs.objects.Region.{Region, vacant_region}
 use Rattle.ca_base.specs.objects.SharedReceives.{SrqSlot, vacant_srq}
 use Rattle.ca_base.specs.objects.Window.{Window, vacant_window}
 use Rattle.ca_model.specs.machine.World.{Name, Domain_of, Region_of, Window_of, Cq_of, Srq_of, Queue_of, Mailbox_of, Byte_at}
+use Rattle.ca_model.specs.declared.part_name.PartName.{PartName}
+use Rattle.ca_model.specs.declared.part_name.PartName.TheVariants as names
 use Rattle.ca_model.proofs.ThingLemmas.{domain-path, queue-path, slot-path}
 use Rattle.ca_shelf.specs.declared.shelf.Named.{Named}
 use Rattle.ca_shelf.specs.Shelved.{has_thing, thing_under, with_thing}
 use Rattle.ca_held.specs.declared.held.Held.{Held}
 use Rattle.ca_held.specs.declared.part.QueueSlot.{QueueSlot}
-use Rattle.ca_held.specs.HeldView.{Holding, hold, holding, held_world, is_held_name, or_vacant, with_control, with_cq, with_mailbox, with_queue, with_region, with_srq, with_window}
+use Rattle.ca_held.specs.HeldView.{Holding, hold, holding, held_world, is_held_name, is_held_part, or_vacant, with_control, with_cq, with_mailbox, with_queue, with_region, with_srq, with_window}
 use Rattle.ca_held.specs.Parts.{slot_of}
 
 module _ {N T : Type 0} (same : N → N → Bool) (path : (a b : N) → same a b ≡ true → a ≡ b) where
@@ -80,103 +82,169 @@ pub put_control : (h : Held) (name : DomainId) (thing : Domain) → (holding h).
 unfolding holding with_control
 put_control h name thing has = λ i. record {
   world = record (held_world h) { domain = fun_ext (λ m. plain-with domain_eq domain-path (λ d. free_domain) h.controls.things name m thing has) i };
-  has = fun_ext names i;
+  has = fun_ext kept i;
+  parts = fun_ext parts i;
 }
   where
-    names : (n : Name) → is_held_name (with_control h name thing) n ≡ is_held_name h n
-    names (Domain_of m) = has-with domain_eq domain-path h.controls.things name m thing has
-    names (Region_of m) = refl
-    names (Window_of m) = refl
-    names (Cq_of m) = refl
-    names (Srq_of m) = refl
-    names (Queue_of m) = refl
-    names (Mailbox_of m) = refl
-    names (Byte_at m) = refl
+    kept : (n : Name) → is_held_name (with_control h name thing) n ≡ is_held_name h n
+    kept (Domain_of m) = has-with domain_eq domain-path h.controls.things name m thing has
+    kept (Region_of m) = refl
+    kept (Window_of m) = refl
+    kept (Cq_of m) = refl
+    kept (Srq_of m) = refl
+    kept (Queue_of m) = refl
+    kept (Mailbox_of m) = refl
+    kept (Byte_at m) = refl
+
+    parts : (p : PartName) → is_held_part (with_control h name thing) p ≡ is_held_part h p
+    parts (names.Control m) = has-with domain_eq domain-path h.controls.things name m thing has
+    parts (names.Region m) = refl
+    parts (names.Window m) = refl
+    parts (names.Cq m) = refl
+    parts (names.Srq m) = refl
+    parts (names.Queue m) = refl
+    parts (names.Mailbox m) = refl
+    parts (names.Buffer a x) = refl
 
 pub put_mailbox : (h : Held) (name : QueueId) (thing : Mailbox) → (holding h).has (Mailbox_of name) ≡ true → holding (with_mailbox h name thing) ≡ hold (holding h) (Mailbox_of name) thing
 unfolding holding with_mailbox
 put_mailbox h name thing has = λ i. record {
   world = record (held_world h) { mailbox = fun_ext (λ m. plain-with queue_eq queue-path (λ q. empty_mailbox) h.mailboxes.things name m thing has) i };
-  has = fun_ext names i;
+  has = fun_ext kept i;
+  parts = fun_ext parts i;
 }
   where
-    names : (n : Name) → is_held_name (with_mailbox h name thing) n ≡ is_held_name h n
-    names (Domain_of m) = refl
-    names (Region_of m) = refl
-    names (Window_of m) = refl
-    names (Cq_of m) = refl
-    names (Srq_of m) = refl
-    names (Queue_of m) = refl
-    names (Mailbox_of m) = has-with queue_eq queue-path h.mailboxes.things name m thing has
-    names (Byte_at m) = refl
+    kept : (n : Name) → is_held_name (with_mailbox h name thing) n ≡ is_held_name h n
+    kept (Domain_of m) = refl
+    kept (Region_of m) = refl
+    kept (Window_of m) = refl
+    kept (Cq_of m) = refl
+    kept (Srq_of m) = refl
+    kept (Queue_of m) = refl
+    kept (Mailbox_of m) = has-with queue_eq queue-path h.mailboxes.things name m thing has
+    kept (Byte_at m) = refl
+
+    parts : (p : PartName) → is_held_part (with_mailbox h name thing) p ≡ is_held_part h p
+    parts (names.Control m) = refl
+    parts (names.Region m) = refl
+    parts (names.Window m) = refl
+    parts (names.Cq m) = refl
+    parts (names.Srq m) = refl
+    parts (names.Queue m) = refl
+    parts (names.Mailbox m) = has-with queue_eq queue-path h.mailboxes.things name m thing has
+    parts (names.Buffer a x) = refl
 
 pub put_cq : (h : Held) (name : Slot) (thing : Option CompletionQueue) → (holding h).has (Cq_of name) ≡ true → holding (with_cq h name thing) ≡ hold (holding h) (Cq_of name) thing
 unfolding holding with_cq
 put_cq h name thing has = λ i. record {
   world = record (held_world h) { cq = fun_ext (λ m. plain-with slot_eq slot-path (λ s. None) h.cqs.things name m thing has) i };
-  has = fun_ext names i;
+  has = fun_ext kept i;
+  parts = fun_ext parts i;
 }
   where
-    names : (n : Name) → is_held_name (with_cq h name thing) n ≡ is_held_name h n
-    names (Domain_of m) = refl
-    names (Region_of m) = refl
-    names (Window_of m) = refl
-    names (Cq_of m) = has-with slot_eq slot-path h.cqs.things name m thing has
-    names (Srq_of m) = refl
-    names (Queue_of m) = refl
-    names (Mailbox_of m) = refl
-    names (Byte_at m) = refl
+    kept : (n : Name) → is_held_name (with_cq h name thing) n ≡ is_held_name h n
+    kept (Domain_of m) = refl
+    kept (Region_of m) = refl
+    kept (Window_of m) = refl
+    kept (Cq_of m) = has-with slot_eq slot-path h.cqs.things name m thing has
+    kept (Srq_of m) = refl
+    kept (Queue_of m) = refl
+    kept (Mailbox_of m) = refl
+    kept (Byte_at m) = refl
+
+    parts : (p : PartName) → is_held_part (with_cq h name thing) p ≡ is_held_part h p
+    parts (names.Control m) = refl
+    parts (names.Region m) = refl
+    parts (names.Window m) = refl
+    parts (names.Cq m) = has-with slot_eq slot-path h.cqs.things name m thing has
+    parts (names.Srq m) = refl
+    parts (names.Queue m) = refl
+    parts (names.Mailbox m) = refl
+    parts (names.Buffer a x) = refl
 
 pub put_srq : (h : Held) (name : Slot) (thing : SrqSlot) → (holding h).has (Srq_of name) ≡ true → holding (with_srq h name thing) ≡ hold (holding h) (Srq_of name) thing
 unfolding holding with_srq
 put_srq h name thing has = λ i. record {
   world = record (held_world h) { srq = fun_ext (λ m. plain-with slot_eq slot-path (λ s. vacant_srq) h.srqs.things name m thing has) i };
-  has = fun_ext names i;
+  has = fun_ext kept i;
+  parts = fun_ext parts i;
 }
   where
-    names : (n : Name) → is_held_name (with_srq h name thing) n ≡ is_held_name h n
-    names (Domain_of m) = refl
-    names (Region_of m) = refl
-    names (Window_of m) = refl
-    names (Cq_of m) = refl
-    names (Srq_of m) = has-with slot_eq slot-path h.srqs.things name m thing has
-    names (Queue_of m) = refl
-    names (Mailbox_of m) = refl
-    names (Byte_at m) = refl
+    kept : (n : Name) → is_held_name (with_srq h name thing) n ≡ is_held_name h n
+    kept (Domain_of m) = refl
+    kept (Region_of m) = refl
+    kept (Window_of m) = refl
+    kept (Cq_of m) = refl
+    kept (Srq_of m) = has-with slot_eq slot-path h.srqs.things name m thing has
+    kept (Queue_of m) = refl
+    kept (Mailbox_of m) = refl
+    kept (Byte_at m) = refl
+
+    parts : (p : PartName) → is_held_part (with_srq h name thing) p ≡ is_held_part h p
+    parts (names.Control m) = refl
+    parts (names.Region m) = refl
+    parts (names.Window m) = refl
+    parts (names.Cq m) = refl
+    parts (names.Srq m) = has-with slot_eq slot-path h.srqs.things name m thing has
+    parts (names.Queue m) = refl
+    parts (names.Mailbox m) = refl
+    parts (names.Buffer a x) = refl
 
 pub put_window : (h : Held) (name : Slot) (thing : Window) → (holding h).has (Window_of name) ≡ true → holding (with_window h name thing) ≡ hold (holding h) (Window_of name) thing
 unfolding holding with_window
 put_window h name thing has = λ i. record {
   world = record (held_world h) { window = fun_ext (λ m. plain-with slot_eq slot-path (vacant_window) h.reached.windows.things name m thing has) i };
-  has = fun_ext names i;
+  has = fun_ext kept i;
+  parts = fun_ext parts i;
 }
   where
-    names : (n : Name) → is_held_name (with_window h name thing) n ≡ is_held_name h n
-    names (Domain_of m) = refl
-    names (Region_of m) = refl
-    names (Window_of m) = has-with slot_eq slot-path h.reached.windows.things name m thing has
-    names (Cq_of m) = refl
-    names (Srq_of m) = refl
-    names (Queue_of m) = refl
-    names (Mailbox_of m) = refl
-    names (Byte_at m) = refl
+    kept : (n : Name) → is_held_name (with_window h name thing) n ≡ is_held_name h n
+    kept (Domain_of m) = refl
+    kept (Region_of m) = refl
+    kept (Window_of m) = has-with slot_eq slot-path h.reached.windows.things name m thing has
+    kept (Cq_of m) = refl
+    kept (Srq_of m) = refl
+    kept (Queue_of m) = refl
+    kept (Mailbox_of m) = refl
+    kept (Byte_at m) = refl
+
+    parts : (p : PartName) → is_held_part (with_window h name thing) p ≡ is_held_part h p
+    parts (names.Control m) = refl
+    parts (names.Region m) = refl
+    parts (names.Window m) = has-with slot_eq slot-path h.reached.windows.things name m thing has
+    parts (names.Cq m) = refl
+    parts (names.Srq m) = refl
+    parts (names.Queue m) = refl
+    parts (names.Mailbox m) = refl
+    parts (names.Buffer a x) = refl
 
 pub put_region : (h : Held) (name : Slot) (thing : Region) → (holding h).has (Region_of name) ≡ true → holding (with_region h name thing) ≡ hold (holding h) (Region_of name) thing
 unfolding holding with_region
 put_region h name thing has = λ i. record {
   world = record (held_world h) { region = fun_ext (λ m. plain-with slot_eq slot-path (λ s. vacant_region) h.reached.regions.things name m thing has) i };
-  has = fun_ext names i;
+  has = fun_ext kept i;
+  parts = fun_ext parts i;
 }
   where
-    names : (n : Name) → is_held_name (with_region h name thing) n ≡ is_held_name h n
-    names (Domain_of m) = refl
-    names (Region_of m) = has-with slot_eq slot-path h.reached.regions.things name m thing has
-    names (Window_of m) = refl
-    names (Cq_of m) = refl
-    names (Srq_of m) = refl
-    names (Queue_of m) = refl
-    names (Mailbox_of m) = refl
-    names (Byte_at m) = refl
+    kept : (n : Name) → is_held_name (with_region h name thing) n ≡ is_held_name h n
+    kept (Domain_of m) = refl
+    kept (Region_of m) = has-with slot_eq slot-path h.reached.regions.things name m thing has
+    kept (Window_of m) = refl
+    kept (Cq_of m) = refl
+    kept (Srq_of m) = refl
+    kept (Queue_of m) = refl
+    kept (Mailbox_of m) = refl
+    kept (Byte_at m) = refl
+
+    parts : (p : PartName) → is_held_part (with_region h name thing) p ≡ is_held_part h p
+    parts (names.Control m) = refl
+    parts (names.Region m) = has-with slot_eq slot-path h.reached.regions.things name m thing has
+    parts (names.Window m) = refl
+    parts (names.Cq m) = refl
+    parts (names.Srq m) = refl
+    parts (names.Queue m) = refl
+    parts (names.Mailbox m) = refl
+    parts (names.Buffer a x) = refl
 
 pub put_queue : (h : Held) (name : QueueId) (thing : QueueSlot) → (holding h).has (Queue_of name) ≡ true
     → holding (with_queue h name thing) ≡ hold (holding h) (Queue_of name) (slot_of thing)
@@ -186,20 +254,31 @@ put_queue h name thing has = by (thing_under queue_eq name h.queues.things) refl
     with_box : Box QueueSlot Global → Held
     with_box b = record h { queues = record h.queues { things = with_thing queue_eq name (record b { value = thing }) h.queues.things } }
 
-    names : (b : Box QueueSlot Global) (n : Name) → is_held_name (with_box b) n ≡ is_held_name h n
-    names b (Domain_of m) = refl
-    names b (Region_of m) = refl
-    names b (Window_of m) = refl
-    names b (Cq_of m) = refl
-    names b (Srq_of m) = refl
-    names b (Queue_of m) = has-with queue_eq queue-path h.queues.things name m (record b { value = thing }) has
-    names b (Mailbox_of m) = refl
-    names b (Byte_at m) = refl
+    kept : (b : Box QueueSlot Global) (n : Name) → is_held_name (with_box b) n ≡ is_held_name h n
+    kept b (Domain_of m) = refl
+    kept b (Region_of m) = refl
+    kept b (Window_of m) = refl
+    kept b (Cq_of m) = refl
+    kept b (Srq_of m) = refl
+    kept b (Queue_of m) = has-with queue_eq queue-path h.queues.things name m (record b { value = thing }) has
+    kept b (Mailbox_of m) = refl
+    kept b (Byte_at m) = refl
+
+    parts : (b : Box QueueSlot Global) (p : PartName) → is_held_part (with_box b) p ≡ is_held_part h p
+    parts b (names.Control m) = refl
+    parts b (names.Region m) = refl
+    parts b (names.Window m) = refl
+    parts b (names.Cq m) = refl
+    parts b (names.Srq m) = refl
+    parts b (names.Queue m) = has-with queue_eq queue-path h.queues.things name m (record b { value = thing }) has
+    parts b (names.Mailbox m) = refl
+    parts b (names.Buffer a x) = refl
 
     there : (b : Box QueueSlot Global) → holding (with_box b) ≡ hold (holding h) (Queue_of name) (slot_of thing)
     there b = λ i. record {
       world = record (held_world h) { queue = fun_ext (λ m. or-with queue_eq queue-path (λ x. slot_of x.value) (λ q. vacant_queue) h.queues.things name m (record b { value = thing }) has) i };
-      has = fun_ext (names b) i;
+      has = fun_ext (kept b) i;
+      parts = fun_ext (parts b) i;
     }
 
     by : (o : Option (Box QueueSlot Global)) → thing_under queue_eq name h.queues.things ≡ o

@@ -1,2 +1,3 @@
 mod ByteLemmas
 pub mod HoldLemmas
+mod TakingLemmas

@@ -1,5 +1,5 @@
--- What is held as a small world: vacant wherever nothing is held, beside a test of the names that are held. Contracts cite
--- it.
+-- What is held as a small world: vacant wherever nothing is held, beside tests of the names and of the parts that are
+-- held. Contracts cite it.
 use Rattle.std.specs.Prelude.{ℕ, nat_lt, Bool, false, List, [], ◌∷◌, length, Option, None, Box}
 use Rattle.std.specs.Option.{option_map, option_map_or}
 use Rattle.ca_keys.specs.declared.names.DomainId.{DomainId}
@@ -19,7 +19,10 @@ use Rattle.ca_base.specs.objects.Region.{Region, vacant_region}
 use Rattle.ca_base.specs.objects.SharedReceives.{SrqSlot, vacant_srq}
 use Rattle.ca_base.specs.objects.Window.{Window, vacant_window}
 use Rattle.ca_memory.specs.Buffer.{memory_of}
-use Rattle.ca_model.specs.machine.World.{World, Name, Domain_of, Region_of, Window_of, Cq_of, Srq_of, Queue_of, Mailbox_of, Byte_at, Thing, put}
+use Rattle.ca_model.specs.declared.part_name.PartName.{PartName}
+use Rattle.ca_model.specs.declared.part_name.PartName.TheVariants as names
+use Rattle.ca_model.specs.machine.World.{World, Name, Thing, put}
+use Rattle.ca_model.specs.machine.World.{Domain_of, Region_of, Window_of, Cq_of, Srq_of, Queue_of, Mailbox_of, Byte_at}
 use Rattle.ca_shelf.specs.Shelved.{has_thing, thing_under, with_thing}
 use Rattle.std.specs.declared.alloc.Global.{Global}
 use Rattle.ca_held.specs.declared.held.Held.{Held}
@@ -28,10 +31,11 @@ use Rattle.ca_held.specs.Names.{buffer_eq}
 use Rattle.ca_held.specs.declared.part.QueueSlot as held_slots
 use Rattle.ca_held.specs.Parts.{slot_of}
 
--- a small world, and the names of what is held in it
+-- a small world, and which of its things, and which parts, are held
 pub record Holding : Type 0 where
   pub world : World
   pub has : Name → Bool
+  pub parts : PartName → Bool
 
 -- the same with another thing under a name
 abbrev pub hold : Holding → (n : Name) → Thing n → Holding
@@ -55,7 +59,8 @@ held_world h = record {
   srq = λ s. or_vacant vacant_srq (thing_under slot_eq s h.srqs.things);
   queue = λ q. or_vacant vacant_queue (option_map (λ b. slot_of b.value) (thing_under queue_eq q h.queues.things));
   mailbox = λ q. or_vacant empty_mailbox (thing_under queue_eq q h.mailboxes.things);
-  byte = λ p. option_map_or (λ bytes. memory_of bytes p) (thing_under buffer_eq (buffer_of p) h.reached.buffers.things) 0;
+  byte = λ p. option_map_or (λ bytes. memory_of bytes p)
+      (thing_under buffer_eq (buffer_of p) h.reached.buffers.things) 0;
 }
 
 -- the thing of this name is held; a byte where its buffer is, and has it
@@ -68,46 +73,97 @@ is_held_name h (Srq_of s) = has_thing slot_eq s h.srqs.things
 is_held_name h (Queue_of q) = has_thing queue_eq q h.queues.things
 is_held_name h (Mailbox_of q) = has_thing queue_eq q h.mailboxes.things
 is_held_name h (Byte_at p) =
-    option_map_or (λ bytes. nat_lt p.offset (length bytes)) (thing_under buffer_eq (buffer_of p) h.reached.buffers.things) false
+    option_map_or (λ bytes. nat_lt p.offset (length bytes))
+    (thing_under buffer_eq (buffer_of p) h.reached.buffers.things) false
+
+-- the part of this name is held
+abbrev pub is_held_part : Held → PartName → Bool
+is_held_part h (names.Control d) = has_thing domain_eq d h.controls.things
+is_held_part h (names.Region s) = has_thing slot_eq s h.reached.regions.things
+is_held_part h (names.Window s) = has_thing slot_eq s h.reached.windows.things
+is_held_part h (names.Cq s) = has_thing slot_eq s h.cqs.things
+is_held_part h (names.Srq s) = has_thing slot_eq s h.srqs.things
+is_held_part h (names.Queue q) = has_thing queue_eq q h.queues.things
+is_held_part h (names.Mailbox q) = has_thing queue_eq q h.mailboxes.things
+is_held_part h (names.Buffer adapter index) =
+    has_thing buffer_eq (record { adapter = adapter; index = index }) h.reached.buffers.things
 
 -- what is held
 unfoldable pub holding : Held → Holding
-holding h = record { world = held_world h; has = is_held_name h }
+holding h = record { world = held_world h; has = is_held_name h; parts = is_held_part h }
 
--- another thing under the name of a control that is held
+-- room for so many parts more of this one's kind
+abbrev pub room_for : Held → PartName → ℕ
+room_for h (names.Control d) = h.controls.room
+room_for h (names.Region s) = h.reached.regions.room
+room_for h (names.Window s) = h.reached.windows.room
+room_for h (names.Cq s) = h.cqs.room
+room_for h (names.Srq s) = h.srqs.room
+room_for h (names.Queue q) = h.queues.room
+room_for h (names.Mailbox q) = h.mailboxes.room
+room_for h (names.Buffer adapter index) = h.reached.buffers.room
+
+-- another thing under the name of a protection domain that is held
 unfoldable pub with_control : Held → DomainId → Domain → Held
-with_control h name thing = record h { controls = record h.controls { things = with_thing domain_eq name thing h.controls.things } }
+with_control h name thing =
+    record h { controls = record h.controls { things = with_thing domain_eq name thing h.controls.things } }
 
 -- another thing under the name of a mailbox that is held
 unfoldable pub with_mailbox : Held → QueueId → Mailbox → Held
-with_mailbox h name thing = record h { mailboxes = record h.mailboxes { things = with_thing queue_eq name thing h.mailboxes.things } }
+with_mailbox h name thing =
+    record h { mailboxes = record h.mailboxes { things = with_thing queue_eq name thing h.mailboxes.things } }
 
--- another thing under the name of a cq that is held
+-- another thing under the name of a completion queue that is held
 unfoldable pub with_cq : Held → Slot → Option CompletionQueue → Held
 with_cq h name thing = record h { cqs = record h.cqs { things = with_thing slot_eq name thing h.cqs.things } }
 
--- another thing under the name of a srq that is held
+-- another thing under the name of a shared receive queue that is held
 unfoldable pub with_srq : Held → Slot → SrqSlot → Held
 with_srq h name thing = record h { srqs = record h.srqs { things = with_thing slot_eq name thing h.srqs.things } }
 
--- another thing under the name of a queue that is held
+-- another thing under the name of a queue pair that is held
 unfoldable pub with_queue : Held → QueueId → held_slots.QueueSlot → Held
 with_queue h name thing = option_map_or (by h) (thing_under queue_eq name h.queues.things) h
   where
     by : Held → Box held_slots.QueueSlot Global → Held
-    by h b = record h { queues = record h.queues { things = with_thing queue_eq name (record b { value = thing }) h.queues.things } }
+    by h b = record h {
+      queues = record h.queues {
+        things = with_thing queue_eq name (record b { value = thing }) h.queues.things;
+      };
+    }
 
 -- another thing under the name of a window that is held
 unfoldable pub with_window : Held → Slot → Window → Held
-with_window h name thing = record h { reached = record h.reached { windows = record h.reached.windows { things = with_thing slot_eq name thing h.reached.windows.things } } }
+with_window h name thing =
+    record h {
+      reached = record h.reached {
+        windows = record h.reached.windows {
+          things = with_thing slot_eq name thing h.reached.windows.things;
+        };
+      };
+    }
 
 -- another thing under the name of a region that is held
 unfoldable pub with_region : Held → Slot → Region → Held
-with_region h name thing = record h { reached = record h.reached { regions = record h.reached.regions { things = with_thing slot_eq name thing h.reached.regions.things } } }
+with_region h name thing =
+    record h {
+      reached = record h.reached {
+        regions = record h.reached.regions {
+          things = with_thing slot_eq name thing h.reached.regions.things;
+        };
+      };
+    }
 
 -- other bytes in a buffer that is held
 unfoldable pub with_buffer : Held → BufferId → List ℕ → Held
-with_buffer h name thing = record h { reached = record h.reached { buffers = record h.reached.buffers { things = with_thing buffer_eq name thing h.reached.buffers.things } } }
+with_buffer h name thing =
+    record h {
+      reached = record h.reached {
+        buffers = record h.reached.buffers {
+          things = with_thing buffer_eq name thing h.reached.buffers.things;
+        };
+      };
+    }
 
 -- what is held, with other bytes at the places of a run
 abbrev pub with_bytes : Holding → Run → List ℕ → Holding

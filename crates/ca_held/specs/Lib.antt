@@ -1,4 +1,5 @@
 pub mod Names
 pub mod Parts
 pub mod HeldView
+pub mod Taking
 pub mod Lending

@@ -9,8 +9,8 @@ use ca_srq::Srq;
 use ca_window::Window;
 use std::marker::Model;
 
-/// A part of a fabric: what is taken and given back as one. A queue pair's part stands in a box, so that a part moves as
-/// few bytes.
+/// A part of a fabric: what is taken and given back as one. A queue pair's part stands in a box, so that a part moves
+/// as few bytes.
 #[derive(Drop)]
 pub enum Part {
     Control(ControlPart),
@@ -121,9 +121,11 @@ impl BufferId {
 }
 
 impl ShelfName for BufferId {
-    ghost use Rattle.ca_held.specs.Names.{buffer_eq};
+    ghost use Rattle.ca_held.specs.Names.{buffer_eq, buffer_path};
 
     ghost same = { buffer_eq };
+
+    ghost path = { buffer_path };
 
     fn is(&self, other: &BufferId) -> bool {
         *self == *other

@@ -1,1 +1,1 @@
-mod ThingLemmas
+pub mod ThingLemmas

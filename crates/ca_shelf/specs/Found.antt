@@ -9,7 +9,8 @@ module _ {N T : Type 0} (same : N → N → Bool) (name : N) where
   pub record IsFound (xs : List (Named N T)) (i : ℕ) : Type 0 where
     pub within : i < length xs
     pub thing : (d : Named N T) → thing_under same name xs ≡ Some (slice_index_or xs i d).thing
-    pub changed : (d : Named N T) (v : T) → with_thing same name v xs ≡ slice_set xs i (record (slice_index_or xs i d) { thing = v })
+    pub changed : (d : Named N T) (v : T)
+        → with_thing same name v xs ≡ slice_set xs i (record (slice_index_or xs i d) { thing = v })
     pub gone : without_thing same name xs ≡ remove xs i
 
   -- there is none

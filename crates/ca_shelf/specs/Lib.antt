@@ -1,3 +1,4 @@
 pub mod Shelved
 pub mod Lending
 pub mod Found
+pub mod Paths

@@ -1,5 +1,5 @@
 -- Things under names, in order, and what becomes of them. Contracts cite it.
-use Rattle.std.specs.Prelude.{ℕ, Bool, if◌then◌else◌, List, [], ◌∷◌, Option, None, Some, is_some}
+use Rattle.std.specs.Prelude.{◌≡◌, ℕ, Bool, true, false, if◌then◌else◌, List, [], ◌∷◌, Option, None, Some, is_some}
 use Rattle.ca_shelf.specs.declared.shelf.Named.{Named}
 
 -- the things with their names, and the room for more
@@ -26,3 +26,12 @@ module _ {N T : Type 0} (same : N → N → Bool) (name : N) where
   abbrev pub without_thing : List (Named N T) → List (Named N T)
   without_thing [] = []
   without_thing (x ∷ xs) = if same x.name name then xs else x ∷ without_thing xs
+
+  -- it is the name of one thing at most
+  abbrev pub StandsOnce : List (Named N T) → Type 0
+  StandsOnce [] = Unit {0}
+  StandsOnce (x ∷ xs) = (same x.name name ≡ true → has_thing xs ≡ false) × StandsOnce xs
+
+-- each name is that of one thing at most
+pub record AreDistinct {N T : Type 0} (same : N → N → Bool) (xs : List (Named N T)) : Type 0 where
+  pub once : (name : N) → StandsOnce same name xs

@@ -15,13 +15,13 @@ pub struct Named<N, T> {
 
 /// A few things under names, each name once. Contracts see them in the order in which they were added.
 #[derive(Drop)]
-pub struct Shelf<N, T> {
+pub struct Shelf<N: ShelfName, T> {
     items: Vec<Named<N, T>>,
 }
 
-impl<N, T> Model for Shelf<N, T> {
+impl<N: ShelfName, T> Model for Shelf<N, T> {
     ghost use Rattle.std.specs.Prelude.{◌-◌};
-    ghost use Rattle.ca_shelf.specs.Shelved.{Shelved};
+    ghost use Rattle.ca_shelf.specs.Shelved.{AreDistinct, Shelved};
 
     ghost Value = { Shelved N T };
 
@@ -29,10 +29,13 @@ impl<N, T> Model for Shelf<N, T> {
     ghost use Rattle.std.specs.Vec.{vec_capacity};
 
     ghost view = { λ s. record { things = s.items.items; room = vec_capacity s.items - vec_len s.items } };
+
+    ghost invariant = { λ s. AreDistinct N.same s.items.items };
 }
 
 impl<N: ShelfName, T> Shelf<N, T> {
-    ghost use Rattle.std.specs.Prelude.{◌≡◌, ◌+◌, ◌-◌, ◌<◌, ◌≤◌, [], ◌∷◌, ◌++◌, true, is_some, Some, OnOk, OnErr, IsTrue, option_copied};
+    ghost use Rattle.std.specs.Prelude.{◌≡◌, ◌+◌, ◌-◌, ◌<◌, ◌≤◌, [], ◌∷◌, ◌++◌, true, false, is_some, Some};
+    ghost use Rattle.std.specs.Prelude.{OnOk, OnErr, IsTrue, option_copied};
     ghost use Rattle.std.specs.Borrow.{sem};
     ghost use Rattle.ca_shelf.specs.Shelved.{has_thing, thing_under, without_thing};
     ghost use Rattle.ca_shelf.specs.Lending.{LendsThing};
@@ -86,7 +89,7 @@ impl<N: ShelfName, T> Shelf<N, T> {
     /// The thing of a name that is there, to write to.
     pub fn at_mut(&mut self, name: N) -> &mut T
         requires { IsTrue (has_thing N.same name self.old.things) }
-        ensures* writes_back { sem 𝓛 (LendsThing N.row T.row N.same self.entry name result) }
+        ensures* writes_back { sem 𝓛 (LendsThing N.row T.row N.ShelfName self.entry name result) }
         ensures value { Some result.now ≡ thing_under N.same name self.old.things }
     {
         match position(self.items.as_slice(), name) {
@@ -100,17 +103,20 @@ impl<N: ShelfName, T> Shelf<N, T> {
 
     /// Puts a thing behind the others, in the spare room, under a name that has none. It takes no memory.
     pub fn add(&mut self, name: N, thing: T)
-        requires { 0 < self.old.room }
+        requires room { 0 < self.old.room }
+        requires free { has_thing N.same name self.old.things ≡ false }
         ensures things { self.new.things ≡ self.old.things ++ record { name = name; thing = thing } ∷ [] }
         ensures room { self.old.room ≤ self.new.room + 1 }
     {
         self.items.push(Named { name, thing }).unwrap()
     }
 
+    #[tactic(auto, using(crate::proofs::ThingLemmas::taken_distinct, crate::proofs::ThingLemmas::taken_gone))]
     /// Takes the thing of a name. None comes exactly where there is none. It takes no memory.
     pub fn remove(&mut self, name: N) -> Option<T>
         ensures thing { result ≡ thing_under N.same name self.old.things }
         ensures things { self.new.things ≡ without_thing N.same name self.old.things }
+        ensures gone { has_thing N.same name self.new.things ≡ false }
         ensures room { self.old.room ≤ self.new.room }
     {
         let i = position(self.items.as_slice(), name)?;

@@ -2,10 +2,13 @@ use ca_keys::{DomainId, QueueId, Slot};
 
 /// What names things on a shelf.
 pub trait ShelfName: Copy {
-    ghost use Rattle.std.specs.Prelude.{◌≡◌, Bool};
+    ghost use Rattle.std.specs.Prelude.{◌≡◌, Bool, true};
 
     // the names are the same
     ghost same: { Self → Self → Bool };
+
+    // names that are the same are one
+    ghost path: { (a b : Self) → same a b ≡ true → a ≡ b };
 
     /// Whether the names are the same.
     fn is(&self, other: &Self) -> bool
@@ -14,8 +17,11 @@ pub trait ShelfName: Copy {
 
 impl ShelfName for DomainId {
     ghost use Rattle.ca_keys.specs.Equal.{domain_eq};
+    ghost use Rattle.ca_shelf.specs.Paths.{domain_path};
 
     ghost same = { domain_eq };
+
+    ghost path = { domain_path };
 
     fn is(&self, other: &DomainId) -> bool {
         *self == *other
@@ -24,8 +30,11 @@ impl ShelfName for DomainId {
 
 impl ShelfName for Slot {
     ghost use Rattle.ca_keys.specs.Equal.{slot_eq};
+    ghost use Rattle.ca_shelf.specs.Paths.{slot_path};
 
     ghost same = { slot_eq };
+
+    ghost path = { slot_path };
 
     fn is(&self, other: &Slot) -> bool {
         *self == *other
@@ -34,8 +43,11 @@ impl ShelfName for Slot {
 
 impl ShelfName for QueueId {
     ghost use Rattle.ca_keys.specs.Equal.{queue_eq};
+    ghost use Rattle.ca_shelf.specs.Paths.{queue_path};
 
     ghost same = { queue_eq };
+
+    ghost path = { queue_path };
 
     fn is(&self, other: &QueueId) -> bool {
         *self == *other

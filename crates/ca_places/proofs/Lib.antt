@@ -1,0 +1,3 @@
+mod AmongLemmas
+mod NumberLemmas
+mod PlaceLemmas
