@@ -1,0 +1,3 @@
+mod ReservationLemmas
+mod CreateLemmas
+mod DepartureLemmas

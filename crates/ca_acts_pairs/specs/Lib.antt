@@ -1,0 +1,4 @@
+pub mod Reservations
+pub mod Made
+pub mod Names
+pub mod Departures
