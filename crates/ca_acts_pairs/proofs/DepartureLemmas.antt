@@ -15,7 +15,13 @@ use Rattle.ca_model.specs.Past.{with_at}
 use Rattle.ca_srq.specs.Taken.{stands_once}
 use Rattle.ca_acts_pairs.specs.declared.departure.Departure.{Departure}
 use Rattle.ca_acts_pairs.specs.declared.departure.Departure.TheVariants.{Reset, Destruction}
-use Rattle.ca_acts_pairs.specs.Departures.{AreFew, StandOnce, departed}
+use Rattle.ca_acts.specs.Binders.{changed_by}
+use Rattle.ca_base.specs.objects.SharedReceives.{SrqSlot}
+use Rattle.ca_held.specs.HeldView.{Holding, hold}
+use Rattle.ca_model.specs.machine.Plan.{◌:=◌}
+use Rattle.ca_model.specs.machine.World.{Srq_of}
+use Rattle.ca_acts_pairs.specs.declared.around.Around.{Around}
+use Rattle.ca_acts_pairs.specs.Departures.{AreFew, StandOnce, cq_updates, departed, departure_updates, places_left, places_of, shared_after}
 
 -- what passes one test and then another
 filter-both : {A : Type 0} (f g h : A → Bool) → ((x : A) → (f x && g x) ≡ h x) → (xs : List A) → filter g (filter f xs) ≡ filter h xs
@@ -116,11 +122,24 @@ pub next-place : (places : List ℕ) (i place : ℕ) (s new old : SharedReceives
     → StandOnce (drop i places) s.taken → after_receives_retire (drop i places) s ≡ old
     → (stands_once place s.taken ≡ true → new ≡ after_receive_retire place s)
     → StandOnce (drop (suc i) places) new.taken × (after_receives_retire (drop (suc i) places) new ≡ old)
-next-place places i place s new old is once left freed = (subst (λ v. StandOnce (drop (suc i) places) v.taken) (sym now) now-once.1,
-    ap (after_receives_retire (drop (suc i) places)) now ∙ subst (λ xs. after_receives_retire xs s ≡ old) is left)
+next-place places i place s new old is once left freed = (
+  subst (λ v. StandOnce (drop (suc i) places) v.taken) (sym now) now-once.1,
+  ap (after_receives_retire (drop (suc i) places)) now ∙ subst (λ xs. after_receives_retire xs s ≡ old) is left,
+)
   where
     now-once : StandOnce (place ∷ drop (suc i) places) s.taken
     now-once = subst (λ xs. StandOnce xs s.taken) is once
 
     now : new ≡ after_receive_retire place s
     now = freed now-once.0
+
+-- both completion queues, and then the shared receive queue
+pub all_left : (d : Departure) (a : Around) (h mid new : Holding) (s : Slot) (was now : SrqSlot) (places : List ℕ) → a.srq ≡ Some s
+    → mid ≡ changed_by (cq_updates d a h.world) h → places ≡ option_map_or (receives_of a.queue) (h.world.cq a.recv) []
+    → was ≡ mid.world.srq s → now ≡ shared_after d (places ++ places_left a.in_use) was → new ≡ hold mid (Srq_of s) now
+    → new ≡ changed_by (departure_updates d a h.world) h
+all_left d a h mid new s was now places there left taken before after last = last
+    ∙ ap (hold mid (Srq_of s)) (after ∙ ap (shared_after d (places ++ places_left a.in_use)) before
+    ∙ ap (λ xs. shared_after d (xs ++ places_left a.in_use) (mid.world.srq s)) taken)
+    ∙ ap (λ m. hold m (Srq_of s) (shared_after d (places_of a h.world) (m.world.srq s))) left
+    ∙ sym (ap (λ o. changed_by (cq_updates d a h.world ++ option_map_or (λ t. (Srq_of t := shared_after d (places_of a h.world) (h.world.srq t)) ∷ []) o []) h) there)

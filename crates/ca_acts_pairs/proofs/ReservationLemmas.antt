@@ -49,7 +49,7 @@ undone who room (Some q) new = ap Some (release-undoes who room q new)
 
 pub released : (h : Holding) (s : Slot) (who : Reserve) (room : ℕ) → IfSome (h.world.cq s) (λ q. is_new_side who q ≡ true)
     → hold (hold h (Cq_of s) (option_map (after_reserve who room) (h.world.cq s))) (Cq_of s)
-        (option_map (after_release who) ((hold h (Cq_of s) (option_map (after_reserve who room) (h.world.cq s))).world.cq s))
+    (option_map (after_release who) ((hold h (Cq_of s) (option_map (after_reserve who room) (h.world.cq s))).world.cq s))
     ≡ h
 released h s who room new = cq-twice h s (option_map (after_reserve who room) (h.world.cq s)) _
     ∙ same-cq h s _ (ap (option_map (after_release who)) (cq-there h s (option_map (after_reserve who room) (h.world.cq s))) ∙ undone who room (h.world.cq s) new)

@@ -37,10 +37,10 @@ made_updates x room w =
     (Domain_of x.slot.domain := with_object (w.domain x.slot.domain))
     ∷ (Queue_of (queue_of x.slot) := Present (new_queue x (w.queue (queue_of x.slot))))
     ∷ (Mailbox_of (queue_of x.slot)
-        := with_peer (suc (incarnation_of (w.queue (queue_of x.slot)))) None (w.mailbox (queue_of x.slot)))
+    := with_peer (suc (incarnation_of (w.queue (queue_of x.slot)))) None (w.mailbox (queue_of x.slot)))
     ∷ (Cq_of (beside x.slot x.send_cq) := option_map (send_reserved x) (w.cq (beside x.slot x.send_cq)))
     ∷ (Cq_of (beside x.slot x.recv_cq) := option_map (after_reserve (receive_reserve x) room)
-        ((with_sends_reserved x w).cq (beside x.slot x.recv_cq)))
+    ((with_sends_reserved x w).cq (beside x.slot x.recv_cq)))
     ∷ user_updates x (shared_slot x w)
 
 -- the queue pair is made

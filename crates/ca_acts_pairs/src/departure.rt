@@ -35,17 +35,18 @@ pub(crate) fn depart(held: &mut Held, around: &Around, departure: Departure)
 {
     let places = leave_both(held, around, departure);
     if let Some(srq) = around.srq {
-        leave_shared(held.srq_mut(srq), places.as_slice(), around.in_use, departure);
+        leave_shared(
+            held.srq_mut(srq),
+            places.as_slice(),
+            around.in_use,
+            departure,
+        );
     }
 }
 
 /// It leaves both completion queues, which may be one. Gives the places of its receives that completed, in order.
 #[tactic(auto, using(crate::proofs::DepartureLemmas::again, crate::proofs::DepartureLemmas::elsewhere, crate::proofs::DepartureLemmas::few_again))]
-fn leave_both(
-    held: &mut Held,
-    around: &Around,
-    departure: Departure,
-) -> ArrayVec<u64, MAX_DEPTH>
+fn leave_both(held: &mut Held, around: &Around, departure: Departure) -> ArrayVec<u64, MAX_DEPTH>
     requires held { is_around_held around.now (holding held.old) ≡ true }
     requires can { CanDepart around.now (holding held.old).world }
     ensures places { result.items

@@ -8,10 +8,17 @@
 #![tactic(auto)]
 
 mod around;
+mod change;
 mod create;
 mod creation;
 mod departure;
+mod destroy;
+mod flush;
+mod mailbox;
+mod modify;
 mod reservations;
 
 pub use create::create_qp;
 pub use creation::Creation;
+pub use destroy::destroy_qp;
+pub use modify::modify_qp;

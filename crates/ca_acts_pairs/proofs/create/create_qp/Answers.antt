@@ -12,6 +12,6 @@ use Rattle.ca_acts_pairs.proofs.create.create_qp.Goals as goal
 
 pub returns : goal.returns
 returns c = let is : perform (holding c.args.held.now).world (create_qp_plan (configuration_in c.args.settings.now) (call_of c.args.call.now) c.args.creation.now)
-                ≡ made (call_of c.args.call.now) c.args.creation.now c.in-Some-receive_room.room (holding c.args.held.now).world
-            = grind (arith, common_steps, made_outcome)
+    ≡ made (call_of c.args.call.now) c.args.creation.now c.in-Some-receive_room.room (holding c.args.held.now).world
+    = grind (arith, common_steps, made_outcome)
     in record { act = subst (λ o. IsAct c.make.result o (holding c.args.held.now) (holding c.make.new.held)) (sym is) c.make.ensures }
