@@ -1,11 +1,11 @@
 -- What CreateQp comes to, by what is held. For proofs only.
-use Rattle.std.proofs.Common.{◌≡◌, ◌∙◌, refl, sym, ap, ℕ, ◌==◌, ◌||◌, ◌&&◌, Bool, true, false, not, List, [], ◌∷◌, Option, None, Some, is_some, if◌then◌else◌, true≢false}
+use Rattle.std.proofs.Common.{◌≡◌, ◌∙◌, refl, sym, ap, ℕ, ◌==◌, ◌||◌, ◌&&◌, Bool, true, false, not, [], ◌∷◌, Option, None, Some, if◌then◌else◌, true≢false}
 use Rattle.std.specs.Option.{option_map_or}
 use Rattle.ca_base.specs.Configuration.{Configuration}
 use Rattle.ca_base.specs.declared.change.Field.TheVariants as fields
 use Rattle.ca_base.specs.objects.CompletionQueue.{CompletionQueue}
 use Rattle.ca_base.specs.objects.QueuePair.{is_present}
-use Rattle.ca_base.specs.objects.SharedReceives.{SharedReceives, SrqSlot}
+use Rattle.ca_base.specs.objects.SharedReceives.{SharedReceives}
 use Rattle.ca_held.specs.HeldView.{Holding}
 use Rattle.ca_keys.specs.Numbers.{queue_of}
 use Rattle.ca_model.proofs.ThingLemmas.{domain-refl}
@@ -13,11 +13,11 @@ use Rattle.ca_model.specs.declared.answer.Answer.TheVariants as answers
 use Rattle.ca_model.specs.declared.answer.Refusal.{Refusal}
 use Rattle.ca_model.specs.declared.answer.Refusal.TheVariants as refusals
 use Rattle.ca_model.specs.machine.Frame.{AllPass}
-use Rattle.ca_model.specs.machine.Plan.{Did, Outcome, Plan, perform, touches}
-use Rattle.ca_model.specs.machine.QueuePairVerbs.{Creation, With_shared, before_receives, beside, create_qp_plan, has_bad_depth, has_queues, send_reserved}
+use Rattle.ca_model.specs.machine.Plan.{Did, Outcome, perform, touches}
+use Rattle.ca_model.specs.machine.QueuePairVerbs.{Creation, before_receives, beside, create_qp_plan, has_bad_depth, has_queues, send_reserved}
 use Rattle.ca_model.specs.machine.VerbAnswers.{Call, answer_mark}
-use Rattle.ca_model.specs.machine.World.{Cq_of, Domain_of, Mailbox_of, Queue_of, World}
-use Rattle.ca_acts_pairs.specs.Made.{is_shared_held, made, room_found, shared_slot}
+use Rattle.ca_model.specs.machine.World.{Cq_of, World}
+use Rattle.ca_acts_pairs.specs.Made.{is_shared_held, outcome_of_creation, room_found}
 use Rattle.ca_acts_pairs.specs.Reservations.{has_room_for, has_too_little, with_sends_reserved}
 
 -- what comes of a verb that is refused
@@ -81,7 +81,7 @@ module _ (c : Configuration) (call : Call) (w : World) where
     sized_outcome x room =
         if has_bad_depth x then refused w call (refusals.OutOfRange fields.Depth)
         else if has_too_little x room send recv then refused w call refusals.CqTooSmall
-        else made call x room w
+        else outcome_of_creation call x room w
 
     abbrev found_outcome : Creation → Option ℕ → Outcome
     found_outcome x found = option_map_or (sized_outcome x) found (refused w call refusals.NoSuch)
@@ -121,7 +121,7 @@ module _ (c : Configuration) (call : Call) (w : World) where
       → is_present (w.queue (queue_of x.slot)) ≡ false → has_queues c x ≡ true
       → w.cq (beside x.slot x.send_cq) ≡ Some send → w.cq (beside x.slot x.recv_cq) ≡ Some recv → room_found x w ≡ Some room
       → has_bad_depth x ≡ false → has_too_little x room send recv ≡ false
-      → perform w (create_qp_plan c call x) ≡ made call x room w
+      → perform w (create_qp_plan c call x) ≡ outcome_of_creation call x room w
   made_outcome x send recv room allocated vacant queues s r found depth little =
       sized x send recv room allocated vacant queues s r found ∙ rw (depth, little) refl
 

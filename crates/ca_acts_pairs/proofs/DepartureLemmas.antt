@@ -1,11 +1,8 @@
 -- Leaving a completion queue twice is leaving it once, and places are freed one after another. For proofs only.
-use Rattle.std.proofs.Common.{◌≡◌, ◌∙◌, refl, sym, subst, ap, ap₂, ℕ, suc, ◌≤◌, ◌==◌, ◌&&◌, Bool, true, false, not, List, [], ◌∷◌, ◌++◌, drop, filter, length, map, Option, None, Some, if◌then◌else◌, true≢false, arith}
+use Rattle.std.proofs.Common.{◌≡◌, ◌∙◌, refl, sym, subst, ap, ap₂, ℕ, suc, ◌==◌, ◌&&◌, Bool, true, false, not, List, [], ◌∷◌, ◌++◌, drop, filter, map, Option, None, Some, if◌then◌else◌, arith}
 use Rattle.std.specs.Option.{option_map, option_map_or}
-use Rattle.ca_base.specs.declared.completion.Completion.{Completion}
-use Rattle.ca_base.specs.declared.limits.TheConstants.{MAX_DEPTH}
-use Rattle.ca_base.specs.declared.reserve.Reservation.{Reservation}
 use Rattle.ca_base.specs.declared.reserve.Reserve.TheVariants.{Sends, Receives}
-use Rattle.ca_base.specs.objects.CompletionQueue.{CompletionQueue, after_release, is_for_sends, is_same_side, receives_of, user_of, without_completions, without_reservations}
+use Rattle.ca_base.specs.objects.CompletionQueue.{CompletionQueue, after_release, is_for_sends, is_same_side, receives_of, user_of, without_reservations}
 use Rattle.ca_base.specs.objects.SharedReceives.{SharedReceives, after_receive_retire, after_receives_retire}
 use Rattle.ca_keys.specs.declared.names.QueueId.{QueueId}
 use Rattle.ca_keys.specs.declared.names.Slot.{Slot}
@@ -21,7 +18,7 @@ use Rattle.ca_held.specs.HeldView.{Holding, hold}
 use Rattle.ca_model.specs.machine.Plan.{◌:=◌}
 use Rattle.ca_model.specs.machine.World.{Srq_of}
 use Rattle.ca_acts_pairs.specs.declared.around.Around.{Around}
-use Rattle.ca_acts_pairs.specs.Departures.{AreFew, StandOnce, cq_updates, departed, departure_updates, places_left, places_of, shared_after}
+use Rattle.ca_acts_pairs.specs.Departures.{AreFew, StandOnce, cq_updates, after_departure, departure_updates, places_left, places_of, shared_after}
 
 -- what passes one test and then another
 filter-both : {A : Type 0} (f g h : A → Bool) → ((x : A) → (f x && g x) ≡ h x) → (xs : List A) → filter g (filter f xs) ≡ filter h xs
@@ -46,14 +43,14 @@ both_released queue v = ap (λ rs. record v { reservations = rs }) (filter-both 
     by true false = refl
     by false b = refl
 
-departed-twice : (d : Departure) (queue : QueueId) (v : CompletionQueue) → departed d queue (departed d queue v) ≡ departed d queue v
-departed-twice Reset queue v = ap (λ cs. record v { waiting = cs }) (filter-both (λ c. not (queue_eq c.queue queue)) (λ c. not (queue_eq c.queue queue))
+departure-twice : (d : Departure) (queue : QueueId) (v : CompletionQueue) → after_departure d queue (after_departure d queue v) ≡ after_departure d queue v
+departure-twice Reset queue v = ap (λ cs. record v { waiting = cs }) (filter-both (λ c. not (queue_eq c.queue queue)) (λ c. not (queue_eq c.queue queue))
     (λ c. not (queue_eq c.queue queue)) (λ c. twice (not (queue_eq c.queue queue))) v.waiting)
   where
     twice : (b : Bool) → (b && b) ≡ b
     twice true = refl
     twice false = refl
-departed-twice Destruction queue v = ap₂ (λ cs rs. record v { waiting = cs; reservations = rs })
+departure-twice Destruction queue v = ap₂ (λ cs rs. record v { waiting = cs; reservations = rs })
     (filter-both (λ c. not (queue_eq c.queue queue)) (λ c. not (queue_eq c.queue queue)) (λ c. not (queue_eq c.queue queue)) (λ c. twice (not (queue_eq c.queue queue))) v.waiting)
     (filter-both (λ r. not (queue_eq (user_of r.who) queue)) (λ r. not (queue_eq (user_of r.who) queue)) (λ r. not (queue_eq (user_of r.who) queue)) (λ r. twice (not (queue_eq (user_of r.who) queue))) v.reservations)
   where
@@ -61,7 +58,7 @@ departed-twice Destruction queue v = ap₂ (λ cs rs. record v { waiting = cs; r
     twice true = refl
     twice false = refl
 
-no-receives : (d : Departure) (queue : QueueId) (v : CompletionQueue) → receives_of queue (departed d queue v) ≡ []
+no-receives : (d : Departure) (queue : QueueId) (v : CompletionQueue) → receives_of queue (after_departure d queue v) ≡ []
 no-receives d queue v = by d
   where
     never : (r b : Bool) → (not b && (r && b)) ≡ false
@@ -73,35 +70,35 @@ no-receives d queue v = by d
     none = ap (map (λ c. c.place)) (filter-both (λ c. not (queue_eq c.queue queue)) (λ c. c.receive && queue_eq c.queue queue) (λ c. false)
         (λ c. never c.receive (queue_eq c.queue queue)) v.waiting ∙ filter-none v.waiting)
 
-    by : (d : Departure) → receives_of queue (departed d queue v) ≡ []
+    by : (d : Departure) → receives_of queue (after_departure d queue v) ≡ []
     by Reset = none
     by Destruction = none
 
 -- a slot that may be the one that was left first
 pub again : (d : Departure) (queue : QueueId) (cq : Slot → Option CompletionQueue) (s t : Slot)
-    → option_map (departed d queue) (with_at slot_eq cq s (option_map (departed d queue) (cq s)) t) ≡ option_map (departed d queue) (cq t)
+    → option_map (after_departure d queue) (with_at slot_eq cq s (option_map (after_departure d queue) (cq s)) t) ≡ option_map (after_departure d queue) (cq t)
 again d queue cq s t = by (slot_eq s t) refl
   where
-    twice : (o : Option CompletionQueue) → option_map (departed d queue) (option_map (departed d queue) o) ≡ option_map (departed d queue) o
+    twice : (o : Option CompletionQueue) → option_map (after_departure d queue) (option_map (after_departure d queue) o) ≡ option_map (after_departure d queue) o
     twice None = refl
-    twice (Some v) = ap Some (departed-twice d queue v)
+    twice (Some v) = ap Some (departure-twice d queue v)
 
-    by : (b : Bool) → slot_eq s t ≡ b → option_map (departed d queue) (if b then option_map (departed d queue) (cq s) else cq t) ≡ option_map (departed d queue) (cq t)
-    by true same = twice (cq s) ∙ ap (λ n. option_map (departed d queue) (cq n)) (slot-path s t same)
+    by : (b : Bool) → slot_eq s t ≡ b → option_map (after_departure d queue) (if b then option_map (after_departure d queue) (cq s) else cq t) ≡ option_map (after_departure d queue) (cq t)
+    by true same = twice (cq s) ∙ ap (λ n. option_map (after_departure d queue) (cq n)) (slot-path s t same)
     by false same = refl
 
 pub elsewhere : (cq : Slot → Option CompletionQueue) (s t : Slot) (v : Option CompletionQueue) → slot_eq s t ≡ false → with_at slot_eq cq s v t ≡ cq t
 elsewhere cq s t v other = ap (λ b. if b then v else cq t) other
 
 pub few_again : (d : Departure) (queue : QueueId) (cq : Slot → Option CompletionQueue) (s t : Slot) → AreFew queue (cq t)
-    → AreFew queue (with_at slot_eq cq s (option_map (departed d queue) (cq s)) t)
+    → AreFew queue (with_at slot_eq cq s (option_map (after_departure d queue) (cq s)) t)
 few_again d queue cq s t few = by (slot_eq s t)
   where
-    none : (o : Option CompletionQueue) → AreFew queue (option_map (departed d queue) o)
+    none : (o : Option CompletionQueue) → AreFew queue (option_map (after_departure d queue) o)
     none None = record {}
     none (Some v) = rw (no-receives d queue v) (omega arith)
 
-    by : (b : Bool) → AreFew queue (if b then option_map (departed d queue) (cq s) else cq t)
+    by : (b : Bool) → AreFew queue (if b then option_map (after_departure d queue) (cq s) else cq t)
     by true = none (cq s)
     by false = few
 

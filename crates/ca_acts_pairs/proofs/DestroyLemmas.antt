@@ -1,5 +1,5 @@
 -- What DestroyQp comes to, by what is held. For proofs only.
-use Rattle.std.proofs.Common.{◌≡◌, ◌∙◌, refl, sym, subst, ap, ℕ, nat_lt, Bool, true, false, List, [], ◌∷◌, Ok, Option, None, Some, if◌then◌else◌}
+use Rattle.std.proofs.Common.{◌≡◌, ◌∙◌, refl, sym, subst, ap, ℕ, nat_lt, true, false, [], ◌∷◌, Ok, Option, None, Some, if◌then◌else◌}
 use Rattle.ca_base.specs.objects.Domain.{without_object}
 use Rattle.ca_base.specs.objects.QueuePair.{NoQueue, Present, QueuePair}
 use Rattle.ca_acts.specs.Act.{IsAct}

@@ -1,5 +1,5 @@
 -- Completions that are put into two completion queues, which may be one. For proofs only.
-use Rattle.std.proofs.Common.{◌≡◌, ◌∙◌, sym, subst, ap, Bool, true, false, List, Option}
+use Rattle.std.proofs.Common.{◌≡◌, ◌∙◌, sym, subst, ap, true, false, List, Option}
 use Rattle.std.specs.Option.{option_map}
 use Rattle.ca_acts.specs.Binders.{changed_by}
 use Rattle.ca_acts.specs.Room.{FitIn}
@@ -9,7 +9,6 @@ use Rattle.ca_held.specs.HeldView.{Holding, hold}
 use Rattle.ca_keys.specs.declared.names.Slot.{Slot}
 use Rattle.ca_keys.specs.Equal.{slot_eq}
 use Rattle.ca_model.proofs.ThingLemmas.{slot-path}
-use Rattle.ca_model.specs.Past.{with_at}
 use Rattle.ca_model.specs.machine.World.{Cq_of}
 use Rattle.ca_acts_pairs.specs.declared.around.Around.{Around}
 use Rattle.ca_acts_pairs.specs.Changed.{flush_updates}

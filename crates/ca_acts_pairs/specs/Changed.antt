@@ -46,7 +46,9 @@ abbrev pub around_updates : Around → ℕ → Change → List Completion → Li
 around_updates a own changes.Error sends receives w = flush_updates a sends receives w
 around_updates a own changes.Reset sends receives w = reset_updates a own w
 around_updates a own (changes.Rtr peer incarnation psn mtu rnr_code) sends receives w =
-    (Mailbox_of a.queue := with_peer own (Some (record { queue = peer; incarnation = incarnation })) (w.mailbox a.queue)) ∷ []
+    (Mailbox_of a.queue
+    := with_peer own (Some (record { queue = peer; incarnation = incarnation })) (w.mailbox a.queue))
+    ∷ []
 around_updates a own change sends receives w = []
 
 -- what completes by a change

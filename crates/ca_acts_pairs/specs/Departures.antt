@@ -1,12 +1,11 @@
 -- What a queue pair leaves around it when it is reset or destroyed. Contracts cite it.
-use Rattle.std.specs.Prelude.{◌≡◌, ℕ, ◌-◌, ◌==◌, ◌&&◌, ◌≤◌, Bool, true, not, List, [], ◌∷◌, ◌++◌, filter, length, Option, None, Some, IfSome}
+use Rattle.std.specs.Prelude.{◌≡◌, ℕ, ◌-◌, ◌==◌, ◌&&◌, ◌≤◌, Bool, true, not, List, [], ◌∷◌, ◌++◌, filter, length, Option, IfSome}
 use Rattle.std.specs.Option.{option_map, option_map_or}
 use Rattle.ca_base.specs.declared.limits.TheConstants.{MAX_DEPTH}
 use Rattle.ca_base.specs.objects.CompletionQueue.{CompletionQueue, receives_of, without_completions, without_reservations}
 use Rattle.ca_base.specs.objects.SharedReceives.{SrqSlot, after_receives_retire}
 use Rattle.ca_held.specs.HeldView.{Holding}
 use Rattle.ca_keys.specs.declared.names.QueueId.{QueueId}
-use Rattle.ca_keys.specs.declared.names.Slot.{Slot}
 use Rattle.ca_model.specs.machine.Plan.{Update, ◌:=◌}
 use Rattle.ca_model.specs.machine.World.{Cq_of, Srq_of, World}
 use Rattle.ca_srq.specs.Taken.{stands_once}
@@ -15,19 +14,19 @@ use Rattle.ca_acts_pairs.specs.declared.departure.Departure.{Departure}
 use Rattle.ca_acts_pairs.specs.declared.departure.Departure.TheVariants.{Reset, Destruction}
 
 -- where it is gone, what it reserved is free again
-abbrev pub released : Departure → QueueId → CompletionQueue → CompletionQueue
-released Reset queue q = q
-released Destruction queue q = without_reservations queue q
+abbrev pub without_reservations_at : Departure → QueueId → CompletionQueue → CompletionQueue
+without_reservations_at Reset queue q = q
+without_reservations_at Destruction queue q = without_reservations queue q
 
 -- a completion queue that it left
-abbrev pub departed : Departure → QueueId → CompletionQueue → CompletionQueue
-departed d queue q = released d queue (without_completions queue q)
+abbrev pub after_departure : Departure → QueueId → CompletionQueue → CompletionQueue
+after_departure d queue q = without_reservations_at d queue (without_completions queue q)
 
 -- both completion queues
 abbrev pub cq_updates : Departure → Around → World → List Update
 cq_updates d a w =
-    (Cq_of a.send := option_map (departed d a.queue) (w.cq a.send))
-    ∷ (Cq_of a.recv := option_map (departed d a.queue) (w.cq a.recv))
+    (Cq_of a.send := option_map (after_departure d a.queue) (w.cq a.send))
+    ∷ (Cq_of a.recv := option_map (after_departure d a.queue) (w.cq a.recv))
     ∷ []
 
 -- the place that its message in progress holds
@@ -45,7 +44,10 @@ users_after Destruction users = users - 1
 
 -- a shared receive queue with these places free
 abbrev pub shared_after : Departure → List ℕ → SrqSlot → SrqSlot
-shared_after d places slot = record { srq = option_map (after_receives_retire places) slot.srq; users = users_after d slot.users }
+shared_after d places slot = record {
+  srq = option_map (after_receives_retire places) slot.srq;
+  users = users_after d slot.users;
+}
 
 abbrev pub shared_updates : Departure → Around → World → List Update
 shared_updates d a w = option_map_or (λ s. (Srq_of s := shared_after d (places_of a w) (w.srq s)) ∷ []) a.srq []

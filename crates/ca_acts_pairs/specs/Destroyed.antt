@@ -1,5 +1,5 @@
 -- What the end of a queue pair changes, of what is held. Contracts cite it.
-use Rattle.std.specs.Prelude.{List, [], ◌∷◌}
+use Rattle.std.specs.Prelude.{List, ◌∷◌}
 use Rattle.ca_base.specs.objects.Domain.{without_object}
 use Rattle.ca_base.specs.objects.QueuePair.{NoQueue, QueuePair}
 use Rattle.ca_keys.specs.declared.names.Slot.{Slot}

@@ -23,7 +23,8 @@ shared_slot x w = option_map (λ srq. w.srq (beside x.slot srq)) x.srq
 abbrev pub is_shared_held : Creation → Holding → Bool
 is_shared_held x h = option_map_or (λ srq. h.has (Srq_of (beside x.slot srq))) x.srq true
 
--- the room that its receives reserve: that of its own queue, or of the shared receive queue that it names, if it is there
+-- the room that its receives reserve: that of its own queue, or of the shared receive queue that it names, if it is
+-- there
 abbrev pub room_found : Creation → World → Option ℕ
 room_found x w = by x.srq
   where
@@ -44,6 +45,6 @@ made_updates x room w =
     ∷ user_updates x (shared_slot x w)
 
 -- the queue pair is made
-abbrev pub made : Call → Creation → ℕ → World → Outcome
-made call x room w = Did (put_all (made_updates x room w) w)
+abbrev pub outcome_of_creation : Call → Creation → ℕ → World → Outcome
+outcome_of_creation call x room w = Did (put_all (made_updates x room w) w)
     (answer_mark call (answers.Queue (queue_of x.slot).number (suc (incarnation_of (w.queue (queue_of x.slot))))) ∷ [])

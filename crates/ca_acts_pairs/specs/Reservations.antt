@@ -4,7 +4,7 @@ use Rattle.std.specs.Option.{option_map, option_map_or}
 use Rattle.ca_base.specs.declared.reserve.Reserve.{Reserve}
 use Rattle.ca_base.specs.declared.reserve.Reserve.TheVariants.{Sends}
 use Rattle.ca_base.specs.objects.CompletionQueue.{CompletionQueue, after_reserve, is_too_small}
-use Rattle.ca_held.specs.HeldView.{Holding, hold}
+use Rattle.ca_held.specs.HeldView.{Holding}
 use Rattle.ca_keys.specs.Numbers.{queue_of}
 use Rattle.ca_model.specs.machine.QueuePairVerbs.{Creation, before_receives, beside, receive_reserve, send_reserved}
 use Rattle.ca_model.specs.machine.World.{Cq_of, World, put}
@@ -16,11 +16,13 @@ fits who room cq = option_map_or (λ q. not (is_too_small who room q)) cq true
 -- a completion queue has no room for the reservations, of which that for receives has this room
 abbrev pub has_too_little : Creation → ℕ → CompletionQueue → CompletionQueue → Bool
 has_too_little x room send recv =
-    is_too_small (Sends (queue_of x.slot)) x.send_depth send || is_too_small (receive_reserve x) room (before_receives x send recv)
+    is_too_small (Sends (queue_of x.slot)) x.send_depth send
+    || is_too_small (receive_reserve x) room (before_receives x send recv)
 
 -- the world once the sends have reserved
 abbrev pub with_sends_reserved : Creation → World → World
-with_sends_reserved x w = put w (Cq_of (beside x.slot x.send_cq)) (option_map (send_reserved x) (w.cq (beside x.slot x.send_cq)))
+with_sends_reserved x w =
+    put w (Cq_of (beside x.slot x.send_cq)) (option_map (send_reserved x) (w.cq (beside x.slot x.send_cq)))
 
 -- both completion queues have room
 abbrev pub has_room_for : Creation → ℕ → World → Bool

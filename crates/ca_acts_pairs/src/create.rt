@@ -11,7 +11,7 @@ ghost use Rattle.ca_held.specs.Parts.{slot_of};
 ghost use Rattle.ca_keys.specs.Numbers.{queue_of};
 ghost use Rattle.ca_model.specs.machine.QueuePairVerbs.{beside, create_qp_plan, new_queue, user_updates};
 ghost use Rattle.ca_model.specs.machine.World.{Cq_of, Domain_of, Mailbox_of, Queue_of};
-ghost use Rattle.ca_acts_pairs.specs.Made.{is_shared_held, made, room_found, shared_slot};
+ghost use Rattle.ca_acts_pairs.specs.Made.{is_shared_held, outcome_of_creation, room_found, shared_slot};
 ghost use Rattle.ca_acts_pairs.specs.Reservations.{has_room_for};
 
 use crate::creation::Creation;
@@ -23,7 +23,9 @@ use ca_model::{Answer, Marks, Refusal};
 use ca_qpstate::QueuePart;
 use std::alloc::Global;
 
-/// CreateQp: the queue pair begins in Reset, with the slot's next incarnation and its count of timers.
+/// CreateQp: the queue pair begins in Reset, with the slot's next incarnation and its count of timers, and reserves for
+/// its sends and its receives. The refusals in order are `NoDomain`, `SlotTaken`, `NoSuch` where a queue that it names
+/// is not there, `OutOfRange` of the depth, and `CqTooSmall`. Nothing changes at a refusal or without memory.
 #[tactic(auto, using(crate::proofs::CreateLemmas::queues_held, crate::proofs::CreateLemmas::no_send, crate::proofs::CreateLemmas::no_recv, crate::proofs::CreateLemmas::no_shared, crate::proofs::CreateLemmas::sized, crate::proofs::CreateLemmas::has_room))]
 pub fn create_qp(
     call: &Call<'_>,
@@ -105,8 +107,8 @@ fn make(
     requires incarnation { incarnation_of ((holding held.old).world.queue (queue_of creation.now.slot)) < u32.MAX }
     requires new { IfSome ((holding held.old).world.cq (beside creation.now.slot creation.now.send_cq))
         (λ q. is_new_side (Sends (queue_of creation.now.slot)) q ≡ true) }
-    ensures { IsAct result (made (call_of call.now) creation.now room (holding held.old).world) (holding held.old)
-        (holding held.new) }
+    ensures { IsAct result (outcome_of_creation (call_of call.now) creation.now room (holding held.old).world)
+        (holding held.old) (holding held.new) }
 {
     let name = QueueId::of_slot(creation.slot);
     let domain = *held.control(creation.slot.domain);
@@ -157,7 +159,8 @@ fn part_at_start(alloc: Global, slot: &QueueSlot, creation: &Creation) -> Result
 fn add_user(held: &mut Held, creation: &Creation)
     requires shared { is_shared_held creation.now (holding held.old) ≡ true }
     requires users { IfSome (shared_slot creation.now (holding held.old).world) (λ s. s.users < u32.MAX) }
-    ensures { holding held.new ≡ changed_by (user_updates creation.now (shared_slot creation.now (holding held.old).world))
+    ensures { holding held.new
+        ≡ changed_by (user_updates creation.now (shared_slot creation.now (holding held.old).world))
         (holding held.old) }
 {
     if let Some(srq) = creation.srq {

@@ -2,8 +2,8 @@ use ca_acts::is_no_depth;
 use ca_base::{QueueId, Reserve, Settings, Slot};
 use std::marker::Model;
 
-/// What a queue pair is made of: its slot, the slots of its completion queues and of its shared receive queue in the same
-/// domain, and the depths of its own queues. With a shared receive queue the depth of receives is 0.
+/// What a queue pair is made of: its slot, the slots of its completion queues and of its shared receive queue in the
+/// same domain, and the depths of its own queues. With a shared receive queue the depth of receives is 0.
 #[derive(Clone, Copy)]
 pub struct Creation {
     pub slot: Slot,

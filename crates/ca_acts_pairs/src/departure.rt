@@ -6,7 +6,7 @@ ghost use Rattle.ca_base.specs.objects.CompletionQueue.{receives_of};
 ghost use Rattle.ca_base.specs.objects.SharedReceives.{after_receives_retire};
 ghost use Rattle.ca_held.specs.HeldView.{hold, holding};
 ghost use Rattle.ca_model.specs.machine.World.{Cq_of};
-ghost use Rattle.ca_acts_pairs.specs.Departures.{CanDepart, StandOnce, cq_updates, departed, departure_updates, is_around_held, places_left, released, shared_after, users_after};
+ghost use Rattle.ca_acts_pairs.specs.Departures.{CanDepart, StandOnce, cq_updates, after_departure, departure_updates, is_around_held, places_left, without_reservations_at, shared_after, users_after};
 
 use crate::around::Around;
 use arrayvec::ArrayVec;
@@ -76,7 +76,7 @@ fn leave_one(
     ensures places { result.items ≡ option_map_or (receives_of queue) ((holding held.old).world.cq slot) [] }
     ensures held { holding held.new
         ≡ hold (holding held.old) (Cq_of slot)
-        (option_map (departed departure queue) ((holding held.old).world.cq slot)) }
+        (option_map (after_departure departure queue) ((holding held.old).world.cq slot)) }
 {
     let cq = held.cq_mut(slot);
     match cq {
@@ -92,7 +92,7 @@ fn leave_one(
 /// Its reservations end, where it is gone.
 #[tactic(auto, using(crate::proofs::DepartureLemmas::both_released))]
 fn release(cq: &mut Cq, queue: QueueId, departure: Departure)
-    ensures { cq.new ≡ released departure queue cq.old }
+    ensures { cq.new ≡ without_reservations_at departure queue cq.old }
 {
     if let Departure::Destruction = departure {
         cq.release(Reserve::Sends(queue));

@@ -19,8 +19,9 @@ use ca_base::{DomainId, QueueId, Slot, StepError};
 use ca_held::{Held, QueueSlot};
 use ca_model::{Answer, Marks, Refusal};
 
-/// DestroyQp: its completions are removed, its reservations end, its mailbox accepts nobody, and the places that it holds
-/// in a shared receive queue are free. The slot keeps the incarnation and the count of timers.
+/// DestroyQp: its completions are removed, its reservations end, its mailbox accepts nobody, and the places that it
+/// holds in a shared receive queue are free. The slot keeps the incarnation and the count of timers. The refusals in
+/// order are `NoSuch` and `WindowsBound`; nothing changes at a refusal or without memory.
 #[tactic(auto, using(crate::proofs::DestroyLemmas::destroy_held, crate::proofs::DestroyLemmas::none_there, crate::proofs::DestroyLemmas::destroy_refused))]
 pub fn destroy_qp(call: &Call<'_>, held: &mut Held, slot: Slot) -> Result<Marks, StepError>
     requires small { slot.slot < 256 }

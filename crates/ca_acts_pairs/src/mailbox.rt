@@ -12,7 +12,8 @@ use ca_held::Held;
 pub(crate) fn close(held: &mut Held, name: QueueId, incarnation: u32)
     requires { (holding held.old).has (Mailbox_of name) ≡ true }
     ensures { holding held.new
-        ≡ hold (holding held.old) (Mailbox_of name) (emptied_mailbox incarnation ((holding held.old).world.mailbox name)) }
+        ≡ hold (holding held.old) (Mailbox_of name)
+        (emptied_mailbox incarnation ((holding held.old).world.mailbox name)) }
 {
     let mailbox = held.mailbox_mut(name);
     mailbox.clear();

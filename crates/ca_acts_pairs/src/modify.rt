@@ -21,9 +21,10 @@ use ca_held::{Held, QueueSlot};
 use ca_model::{Answer, Marks, Refusal};
 use ca_qpstate::QueuePart;
 
-/// ModifyQp: the change of the state table, and what it does around the queue pair. Rtr has its mailbox accept the peer;
-/// Error completes all that is posted as Flushed; Reset removes its completions, clears its mailbox, which then accepts
-/// nobody, and frees the places that it holds in a shared receive queue.
+/// ModifyQp: the change of the state table, and what it does around the queue pair. Rtr has its mailbox accept the
+/// peer; Error completes all that is posted as Flushed; Reset removes its completions, clears its mailbox, which then
+/// accepts nobody, and frees the places that it holds in a shared receive queue. The refusals in order are `NoSuch` and
+/// those of the state table; nothing changes at a refusal or without memory.
 #[tactic(auto, using(crate::proofs::ModifyLemmas::none_there, crate::proofs::ModifyLemmas::modify_held))]
 pub fn modify_qp(
     call: &Call<'_>,

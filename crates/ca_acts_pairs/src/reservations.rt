@@ -60,7 +60,8 @@ fn reserve_in(held: &mut Held, slot: Slot, who: Reserve, room: u16) -> Result<()
     requires held { (holding held.old).has (Cq_of slot) ≡ true }
     requires room { fits who room ((holding held.old).world.cq slot) ≡ true }
     ensures ok { OnOk result (holding held.new
-        ≡ hold (holding held.old) (Cq_of slot) (option_map (after_reserve who room) ((holding held.old).world.cq slot))) }
+        ≡ hold (holding held.old) (Cq_of slot)
+        (option_map (after_reserve who room) ((holding held.old).world.cq slot))) }
     ensures err { OnErr result (holding held.new ≡ holding held.old) }
 {
     let cq = held.cq_mut(slot);

@@ -1,4 +1,4 @@
-use Rattle.std.proofs.Common.{rules, ◌≡◌}
+use Rattle.std.proofs.Common.{rules}
 use Rattle.ca_held.proofs.HoldLemmas.{put_srq}
 use Rattle.ca_held.specs.HeldView.{holding}
 use Rattle.ca_acts_pairs.proofs.DepartureLemmas.{all_left}

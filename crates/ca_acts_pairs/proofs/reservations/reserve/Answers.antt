@@ -1,5 +1,4 @@
-use Rattle.std.proofs.Common.{rules, ◌≡◌, true, IfSome}
-use Rattle.ca_cq.specs.Room.{is_new_side}
+use Rattle.std.proofs.Common.{rules}
 use Rattle.ca_held.specs.HeldView.{holding}
 use Rattle.ca_acts_pairs.proofs.ReservationLemmas.{both-reserved, given-back}
 use Rattle.ca_acts_pairs.proofs.reservations.reserve.Goals as goal
