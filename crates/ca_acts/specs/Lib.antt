@@ -1,3 +1,4 @@
 pub mod Act
 pub mod Calls
 pub mod Binders
+pub mod Room

@@ -9,6 +9,7 @@
 
 mod answers;
 mod completion_queues;
+mod completions;
 mod depths;
 mod domains;
 mod host;
@@ -18,8 +19,9 @@ mod regions;
 mod shared_receives;
 mod windows;
 
-pub use answers::Call;
+pub use answers::{Call, Ready};
 pub use completion_queues::{create_cq, destroy_cq};
+pub use completions::{completions_to, put_completions};
 pub use depths::is_no_depth;
 pub use domains::{alloc_pd, dealloc_pd};
 pub use host::{load, store};

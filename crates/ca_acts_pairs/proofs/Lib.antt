@@ -1,0 +1,6 @@
+mod ReservationLemmas
+mod CreateLemmas
+mod DepartureLemmas
+mod DestroyLemmas
+mod FlushLemmas
+mod ModifyLemmas

@@ -1,0 +1,6 @@
+pub mod Reservations
+pub mod Made
+pub mod Names
+pub mod Departures
+pub mod Destroyed
+pub mod Changed

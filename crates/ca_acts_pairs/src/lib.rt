@@ -1,0 +1,24 @@
+//! Acts on queue pairs: what CreateQp, ModifyQp and DestroyQp do with the parts in hand.
+//!
+//! To the layers above it promises that each act is the plan of its verb, carried out in the small world of what is
+//! held: the same marks and changes, and where memory ends, none.
+//!
+//! Source: InfiniBand Architecture Specification Volume 1, the chapter on the software transport interface, sections on
+//! queue pairs and their states, and the chapter on its verbs; the order of refusals is this profile's choice.
+#![tactic(auto)]
+
+mod around;
+mod change;
+mod create;
+mod creation;
+mod departure;
+mod destroy;
+mod flush;
+mod mailbox;
+mod modify;
+mod reservations;
+
+pub use create::create_qp;
+pub use creation::Creation;
+pub use destroy::destroy_qp;
+pub use modify::modify_qp;
