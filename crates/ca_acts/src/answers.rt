@@ -1,4 +1,4 @@
-ghost use Rattle.std.specs.Prelude.{◌≡◌, ◌<◌, ◌≤◌, ◌^◌, ◌+◌, [], ◌∷◌, IfOk};
+ghost use Rattle.std.specs.Prelude.{◌≡◌, ◌<◌, ◌≤◌, ◌^◌, ◌+◌, [], ◌∷◌, length, IfOk};
 ghost use Rattle.ca_model.specs.machine.VerbAnswers.{answer_mark};
 ghost use Rattle.ca_model.specs.declared.answer.Answer.TheVariants as answers;
 ghost use Rattle.ca_acts.specs.Calls.{call_of, call_ready};
@@ -32,6 +32,24 @@ impl Call<'_> {
     {
         let mut marks = Marks::empty(self.alloc);
         marks.reserve(more + 1)?;
+        Ok(Ready {
+            by: self.by,
+            verb: self.verb.clone()?,
+            marks,
+        })
+    }
+
+    /// The verb's copy, and room for its answer and these marks, which were made before.
+    pub fn ready_for(&self, made: &[Mark]) -> Result<Ready, Memory>
+        ensures call { IfOk result (λ r. call_ready r ≡ call_of self.now) }
+        ensures marks { IfOk result (λ r. r.marks.marks ≡ []) }
+        ensures room { IfOk result (λ r. length made.now < r.marks.room) }
+    {
+        let Ok(count) = u32::try_from(made.len() + 1) else {
+            return Err(Memory);
+        };
+        let mut marks = Marks::empty(self.alloc);
+        marks.reserve(count)?;
         Ok(Ready {
             by: self.by,
             verb: self.verb.clone()?,

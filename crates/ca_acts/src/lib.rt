@@ -18,7 +18,7 @@ mod regions;
 mod shared_receives;
 mod windows;
 
-pub use answers::Call;
+pub use answers::{Call, Ready};
 pub use completion_queues::{create_cq, destroy_cq};
 pub use depths::is_no_depth;
 pub use domains::{alloc_pd, dealloc_pd};
