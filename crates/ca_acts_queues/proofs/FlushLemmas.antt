@@ -1,5 +1,5 @@
 -- One more request is posted where all is flushed. For proofs only.
-use Rattle.std.proofs.Common.{◌≡◌, ℕ, zero, suc, ◌+◌, ◌-◌, ◌≤◌, true, arith, refl, sym, ap, ◌∙◌, List, [], ◌∷◌, ◌++◌, append_assoc, drop, length, Option, None, Some}
+use Rattle.std.proofs.Common.{◌≡◌, ℕ, suc, ◌+◌, ◌-◌, ◌≤◌, true, arith, refl, sym, ap, ◌∙◌, List, [], ◌∷◌, ◌++◌, append_assoc, length, Option, None, Some}
 use Rattle.std.specs.Option.{option_map_or}
 use Rattle.std.proofs.lemmas.List.{drop-append-le, length-drop}
 use Rattle.ca_base.specs.declared.completion.WcStatus.TheVariants.{Flushed}
@@ -55,8 +55,8 @@ receive_flushed request q own flushed made error is low high a b =
 
     same : receives ++ last ≡ flushed_receives q.queue own.next_taken (items_from own.next_taken (with_item request own))
     same = sym (ap (flushed_receives q.queue own.next_taken) (items-more own own.next_taken request low high)
-      ∙ receives-more q.queue own.next_taken (items_from own.next_taken own) request
-      ∙ ap (λ n. receives ++ receive_failure q.queue n request Flushed None ∷ []) (items-end own own.next_taken low high))
+        ∙ receives-more q.queue own.next_taken (items_from own.next_taken own) request
+        ∙ ap (λ n. receives ++ receive_failure q.queue n request Flushed None ∷ []) (items-end own own.next_taken low high))
 
 sends-more : (queue : QueueId) (place : ℕ) (ps : List PostedSend) (x : PostedSend)
     → flushed_sends queue place (ps ++ x ∷ []) ≡ flushed_sends queue place ps ++ failure_mark queue (place + length ps) x.request Flushed None ∷ []
@@ -96,5 +96,5 @@ send_flushed request drawn q sent one made error low high a b c =
 
     same : flushed_sends q.queue q.requester.oldest (items_from q.requester.oldest (with_item posted q.sends)) ≡ sends ++ last
     same = ap (flushed_sends q.queue q.requester.oldest) (items-more q.sends q.requester.oldest posted low high)
-      ∙ sends-more q.queue q.requester.oldest (items_from q.requester.oldest q.sends) posted
-      ∙ ap (λ n. sends ++ failure_mark q.queue n request Flushed None ∷ []) (items-end q.sends q.requester.oldest low high)
+        ∙ sends-more q.queue q.requester.oldest (items_from q.requester.oldest q.sends) posted
+        ∙ ap (λ n. sends ++ failure_mark q.queue n request Flushed None ∷ []) (items-end q.sends q.requester.oldest low high)

@@ -126,17 +126,17 @@ recv_acts h one two call s request q m flushed done is own first flush completes
 
     performs : perform h.world (post_recv_plan call s request) ≡ perform h.world (recv_done call request q (h.world.cq cq))
     performs = present-performs h.world call s (recv_body call request) q is
-      ∙ unless-passed h.world call (recv_done call request q (h.world.cq cq)) (post_recv_refusals request q) first
+        ∙ unless-passed h.world call (recv_done call request q (h.world.cq cq)) (post_recv_refusals request q) first
 
     after : QueueSlot
     after = Present (after_flush (with_receive request q))
 
     world : two ≡ hold (hold h (Queue_of q.queue) after) (Cq_of cq) (option_map (after_puts (completions_to q q.recv_cq (marks_of_flush (with_receive request q)))) (h.world.cq cq))
     world = put
-      ∙ ap (λ x. hold x (Cq_of cq) (option_map (after_puts done) (x.world.cq cq))) posted
-      ∙ ap (λ o. hold (hold h (Queue_of (queue_of s)) (slot_with (λ p. after_flush (with_receive request p)) o)) (Cq_of cq) (option_map (after_puts done) (h.world.cq cq))) is
-      ∙ ap (λ n. hold (hold h (Queue_of n) after) (Cq_of cq) (option_map (after_puts done) (h.world.cq cq))) (sym own)
-      ∙ ap (λ cs. hold (hold h (Queue_of q.queue) after) (Cq_of cq) (option_map (after_puts cs) (h.world.cq cq))) (completes ∙ ap (completions_to q q.recv_cq) flush)
+        ∙ ap (λ x. hold x (Cq_of cq) (option_map (after_puts done) (x.world.cq cq))) posted
+        ∙ ap (λ o. hold (hold h (Queue_of (queue_of s)) (slot_with (λ p. after_flush (with_receive request p)) o)) (Cq_of cq) (option_map (after_puts done) (h.world.cq cq))) is
+        ∙ ap (λ n. hold (hold h (Queue_of n) after) (Cq_of cq) (option_map (after_puts done) (h.world.cq cq))) (sym own)
+        ∙ ap (λ cs. hold (hold h (Queue_of q.queue) after) (Cq_of cq) (option_map (after_puts cs) (h.world.cq cq))) (completes ∙ ap (completions_to q q.recv_cq) flush)
 
 -- of four tests none holds, so the last one does not
 last-fails : {R : Type 0} (a b c d : Bool) (x y z v : R) → first_of ((a, x) ∷ (b, y) ∷ (c, z) ∷ (d, v) ∷ []) ≡ None → d ≡ false
@@ -284,9 +284,9 @@ send_acts h drawn one two call s request q m flushed done o byte is own window t
 
     performs : perform h.world (post_send_plan call s request) ≡ perform h.world (send_end h.world call s request q o)
     performs = send-performs h.world call s request q is
-      ∙ ap (λ x. perform h.world (send_body call s request x q)) (sym window)
-      ∙ send-body-performs h.world call s request q o there
-      ∙ unless-passed h.world call (send_end h.world call s request q o) (post_send_refusals request q) first
+        ∙ ap (λ x. perform h.world (send_body call s request x q)) (sym window)
+        ∙ send-body-performs h.world call s request q o there
+        ∙ unless-passed h.world call (send_end h.world call s request q o) (post_send_refusals request q) first
 
     after : Option ℕ → QueuePair → QueuePair
     after b p = after_flush (with_send request b p)
@@ -297,12 +297,12 @@ send_acts h drawn one two call s request q m flushed done o byte is own window t
     world : two ≡ after_send h q (after (byte_for h.world o) q)
         (option_map (after_puts (completions_to q q.send_cq (marks_of_flush (with_send request (byte_for h.world o) q)))) (h.world.cq cq)) o
     world = put
-      ∙ ap (λ x. hold x (Cq_of cq) (option_map (after_puts done) (x.world.cq cq))) posted
-      ∙ ap (λ x. hold (hold x (Queue_of (queue_of s)) (slot_with (after byte) (x.world.queue (queue_of s)))) (Cq_of cq) (option_map (after_puts done) (x.world.cq cq))) draws
-      ∙ ap (λ p. hold (hold moved (Queue_of (queue_of s)) (slot_with (after byte) p)) (Cq_of cq) (option_map (after_puts done) (h.world.cq cq))) is
-      ∙ ap (λ n. hold (hold moved (Queue_of n) (Present (after byte q))) (Cq_of cq) (option_map (after_puts done) (h.world.cq cq))) (sym own)
-      ∙ ap (λ b. hold (hold moved (Queue_of q.queue) (Present (after b q))) (Cq_of cq) (option_map (after_puts done) (h.world.cq cq))) drew
-      ∙ ap (λ cs. hold (hold moved (Queue_of q.queue) (Present (after (byte_for h.world o) q))) (Cq_of cq) (option_map (after_puts cs) (h.world.cq cq))) (completes ∙ ap (completions_to q q.send_cq) flush)
+        ∙ ap (λ x. hold x (Cq_of cq) (option_map (after_puts done) (x.world.cq cq))) posted
+        ∙ ap (λ x. hold (hold x (Queue_of (queue_of s)) (slot_with (after byte) (x.world.queue (queue_of s)))) (Cq_of cq) (option_map (after_puts done) (x.world.cq cq))) draws
+        ∙ ap (λ p. hold (hold moved (Queue_of (queue_of s)) (slot_with (after byte) p)) (Cq_of cq) (option_map (after_puts done) (h.world.cq cq))) is
+        ∙ ap (λ n. hold (hold moved (Queue_of n) (Present (after byte q))) (Cq_of cq) (option_map (after_puts done) (h.world.cq cq))) (sym own)
+        ∙ ap (λ b. hold (hold moved (Queue_of q.queue) (Present (after b q))) (Cq_of cq) (option_map (after_puts done) (h.world.cq cq))) drew
+        ∙ ap (λ cs. hold (hold moved (Queue_of q.queue) (Present (after (byte_for h.world o) q))) (Cq_of cq) (option_map (after_puts cs) (h.world.cq cq))) (completes ∙ ap (completions_to q q.send_cq) flush)
 
 -- a send request that is not refused has a place, and what it completes fits
 pub send_has_place : (request : SendRequest) (q : QueuePair) → first_of (post_send_refusals request q) ≡ None → is_full q.sends ≡ false

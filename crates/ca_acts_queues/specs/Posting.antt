@@ -1,5 +1,5 @@
 -- Posting: what it asks of what is held, and what it makes of a queue pair's slot. Contracts cite it.
-use Rattle.std.specs.Prelude.{◌≡◌, ℕ, false, suc, ◌+◌, ◌^◌, ◌≤◌, ◌<◌, List, length, Option, None, Some, IfSome}
+use Rattle.std.specs.Prelude.{◌≡◌, false, suc, ◌+◌, ◌^◌, ◌≤◌, ◌<◌, List, length, Option, None, Some, IfSome}
 use Rattle.std.specs.Option.{option_map}
 use Rattle.ca_base.specs.declared.completion.Completion.{Completion}
 use Rattle.ca_base.specs.declared.request.RecvRequest.{RecvRequest}

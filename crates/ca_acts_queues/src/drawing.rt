@@ -36,7 +36,7 @@ pub(crate) fn draw(held: &mut Held, window: Option<Slot>) -> Option<u8>
     requires { IfSome window (λ x. (holding held.old).has (Window_of x) ≡ true) }
     ensures byte { result ≡ drawing.byte_for (holding held.old).world window }
     ensures drawn { holding held.new ≡ record (holding held.old) {
-        world = record (holding held.old).world { window = drawing.windows_after (holding held.old).world window };
+      world = record (holding held.old).world { window = drawing.windows_after (holding held.old).world window };
     } }
 {
     match window {

@@ -1,4 +1,4 @@
-use Rattle.std.proofs.Common.{rules, arith, ◌≡◌}
+use Rattle.std.proofs.Common.{rules, arith}
 use Rattle.std.proofs.lemmas.Grind.{common_steps}
 use Rattle.ca_acts_queues.proofs.FlushLemmas.{send_flushed}
 use Rattle.ca_acts_queues.proofs.flushes.flushed_with_send.Goals as goal

@@ -13,6 +13,6 @@ returns c =
     let is : (holding c.args.held.now).world.queue (queue_of c.args.slot) ≡ Present c.in-Present.queue = search rules in
     record {
       act = recv_acts (holding c.args.held.now) (holding c.post_in.new.held) (holding c.put_completions.new.held) (call_of c.args.call.now) c.args.slot
-        c.args.request.now c.in-Present.queue c.append.new.self c.in_ok-flushed.flushed.items c.in_ok-completions.completions.items
-        is (subst (IsQueueOf (queue_of c.args.slot)) is c.requires.queue).0 (search rules) (search rules) (search rules) (search rules) (search rules) (search rules);
+          c.args.request.now c.in-Present.queue c.append.new.self c.in_ok-flushed.flushed.items c.in_ok-completions.completions.items
+          is (subst (IsQueueOf (queue_of c.args.slot)) is c.requires.queue).0 (search rules) (search rules) (search rules) (search rules) (search rules) (search rules);
     }
