@@ -1,0 +1,98 @@
+ghost use Rattle.std.specs.Prelude.{◌≡◌, ◌<◌, true, false, IfOk, IfSome};
+ghost use Rattle.ca_base.specs.objects.WorkQueue.{is_full};
+ghost use Rattle.ca_keys.specs.Numbers.{queue_of};
+ghost use Rattle.ca_held.specs.HeldView.{hold, holding};
+ghost use Rattle.ca_model.specs.machine.PostingVerbs.{after_flush, post_send_plan, with_send};
+ghost use Rattle.ca_model.specs.machine.Sound.{IsQueueOf};
+ghost use Rattle.ca_model.specs.machine.World.{Queue_of};
+ghost use Rattle.ca_acts.specs.Act.{Acts, Suffices};
+ghost use Rattle.ca_acts.specs.Calls.{call_of};
+ghost use Rattle.ca_acts_queues.specs.Drawing as drawing;
+ghost use Rattle.ca_acts_queues.specs.Posting.{CanPostSend, FitsSend, IfPresent, slot_with};
+
+use crate::drawing::{draw, is_no_window, key_for, window_of_bind};
+use crate::flushes::{flush_in_error, flushed_with_send};
+use crate::refusals::send_refusal;
+use ca_acts::{Call, completions_to, put_completions};
+use ca_base::{Memory, PostedSend, QueueId, SendRequest, Slot, StepError};
+use ca_held::{Held, QueueSlot};
+use ca_model::{Answer, Marks, Refusal};
+use ca_qpstate::QueuePart;
+
+/// PostSend: a request is posted to a queue pair's send queue. The refusals in order are `NoSuch` of the queue pair and of
+/// the window of a bind, `OutOfRange` of an atomic's list, `TooLong`, `QueueState` but in Ready to Send, Send Queue Drain
+/// and Error, and `QueueFull`. Only then a bind of a type 1 window draws its byte, and its key is the answer. In Error all
+/// that is unfinished is flushed at once. `Memory` leaves all as it was.
+#[tactic(auto, using(crate::proofs::PostingLemmas::send_refused, crate::proofs::PostingLemmas::send_absent, crate::proofs::PostingLemmas::send_no_window, crate::proofs::PostingLemmas::send_window_held, crate::proofs::PostingLemmas::send_cq_held, crate::proofs::PostingLemmas::send_acts, crate::proofs::PostingLemmas::send_has_place, crate::proofs::PostingLemmas::send_fits))]
+pub fn post_send(
+    call: &Call<'_>,
+    held: &mut Held,
+    slot: Slot,
+    request: &SendRequest,
+) -> Result<Marks, StepError>
+    requires small { slot.slot < 256 }
+    requires window { IfSome (drawing.window_of_bind slot request.now.op) (λ x. x.slot < 32768) }
+    requires suffices { Suffices held.old (post_send_plan (call_of call.now) slot request.now) }
+    requires queue { IsQueueOf (queue_of slot) ((holding held.old).world.queue (queue_of slot)) }
+    requires next { IfPresent ((holding held.old).world.queue (queue_of slot)) CanPostSend }
+    requires fits { IfPresent ((holding held.old).world.queue (queue_of slot))
+        (FitsSend (holding held.old).world slot request.now) }
+    ensures act { Acts result (post_send_plan (call_of call.now) slot request.now) held.old held.new }
+{
+    let name = QueueId::of_slot(slot);
+    let QueueSlot::Present(queue) = held.queue(name) else {
+        return Ok(call.refuse(Refusal::NoSuch)?);
+    };
+    let window = window_of_bind(slot, &request.op);
+    if is_no_window(held, window) {
+        return Ok(call.refuse(Refusal::NoSuch)?);
+    }
+    if let Some(refusal) = send_refusal(queue, request) {
+        return Ok(call.refuse(refusal)?);
+    }
+    let flushed = flushed_with_send(call.alloc, queue, request)?;
+    let completions = completions_to(call.alloc, queue, queue.send_cq, flushed.as_slice())?;
+    let cq = Slot {
+        domain: queue.domain,
+        slot: queue.send_cq,
+    };
+    let ready = call.ready_for(flushed.as_slice())?;
+    let request = copy_of(request)?;
+    let drawn = draw(held, window);
+    post_in(held, name, PostedSend { request, drawn });
+    put_completions(held, cq, completions.as_slice());
+    let mut marks = ready.answer(Answer::Posted(key_for(window, drawn)));
+    marks.append(flushed);
+    Ok(marks)
+}
+
+/// A request is posted to a queue pair that is held.
+#[tactic(auto, using(ca_held::proofs::HoldLemmas::put_queue))]
+fn post_in(held: &mut Held, name: QueueId, posted: PostedSend)
+    requires held { (holding held.old).has (Queue_of name) ≡ true }
+    requires next { IfPresent ((holding held.old).world.queue name) CanPostSend }
+    requires room { IfPresent ((holding held.old).world.queue name) (λ q. is_full q.sends ≡ false) }
+    ensures { holding held.new ≡ hold (holding held.old) (Queue_of name)
+        (slot_with (λ q. after_flush (with_send posted.request posted.drawn q)) ((holding held.old).world.queue name)) }
+{
+    if let QueueSlot::Present(queue) = held.queue_mut(name) {
+        post_to(queue, posted);
+    }
+}
+
+/// A request is posted to a queue pair, and flushed at once in Error.
+fn post_to(queue: &mut QueuePart, posted: PostedSend)
+    requires next { CanPostSend queue.old }
+    requires room { is_full queue.old.sends ≡ false }
+    ensures { queue.new ≡ after_flush (with_send posted.request posted.drawn queue.old) }
+{
+    let _ = queue.sends.post(posted);
+    flush_in_error(queue);
+}
+
+/// A request's copy.
+fn copy_of(request: &SendRequest) -> Result<SendRequest, Memory>
+    ensures { IfOk result (λ copy. copy ≡ request.now) }
+{
+    Ok(request.clone()?)
+}
