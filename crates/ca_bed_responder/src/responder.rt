@@ -4,7 +4,7 @@ ghost use Rattle.std.specs.Option.{option_map};
 ghost use Rattle.ca_keys.specs.Numbers.{domain_of};
 ghost use Rattle.ca_keys.specs.Refusals.{first_of};
 ghost use Rattle.ca_keys.specs.Numbers.{is_window_key};
-ghost use Rattle.ca_base.specs.objects.Slices as slices;
+ghost use Rattle.ca_base.specs.objects.Slices.{slot_of_key};
 ghost use Rattle.ca_model.specs.Packets as packets;
 ghost use Rattle.ca_model.specs.machine.Delivery.{arrival_drops, packet_arrived};
 ghost use Rattle.ca_model.specs.machine.Invariants.{IsQueue, IsReceive, IsSharedReceives};
@@ -19,8 +19,8 @@ ghost use Rattle.ca_packet.specs.Packet.{IsWellFormed, Spells};
 
 use ca_base::limits::{MAX_DEPTH, MAX_PAYLOAD_BYTES};
 use ca_base::{
-    Ask, DomainId, Key, Kind, Memory, QueueId, RecvRequest, Rights, Sent, StepError,
-    first_address, slot_of_key,
+    Ask, DomainId, Key, Kind, Memory, QueueId, RecvRequest, Rights, Sent, Slot, StepError,
+    first_address,
 };
 use ca_bed_reach::SmallReach;
 use ca_bed_requester::{Bed, FAR, are_here, is_narrow, is_short};
@@ -42,12 +42,25 @@ pub struct Responder {
     pub posted: u32,
 }
 
+// The slot that a key names, at a domain's adapter.
+fn slot_named(domain: DomainId, key: Key) -> Slot
+    ensures { result ≡ slot_of_key domain key }
+{
+    Slot {
+        domain: DomainId {
+            adapter: domain.adapter,
+            domain: (key.index() / 0x10000) as u8,
+        },
+        slot: (key.index() % 0x8000) as u16,
+    }
+}
+
 // Whether a key names the window or the region that is reached.
 fn names_part(reach: &SmallReach, domain: DomainId, key: Key) -> bool
     ensures { IsTrue result
-        → slices.slot_of_key domain key ≡ (if is_window_key key then reach.now.window.slot else reach.now.slot) }
+        → slot_of_key domain key ≡ (if is_window_key key then reach.now.window.slot else reach.now.slot) }
 {
-    let named = slot_of_key(domain, key);
+    let named = slot_named(domain, key);
     if key.names_window() {
         named == reach.window.slot()
     } else {
