@@ -1,13 +1,11 @@
 -- Posting: what it asks of what is held, and what it makes of a queue pair's slot. Contracts cite it.
-use Rattle.std.specs.Prelude.{◌≡◌, false, suc, ◌+◌, ◌^◌, ◌≤◌, ◌<◌, List, length, Option, None, Some, IfSome}
+use Rattle.std.specs.Prelude.{◌≡◌, false, suc, ◌^◌, ◌<◌, None, IfSome}
 use Rattle.std.specs.Option.{option_map}
 use Rattle.ca_acts.specs.Room.{FitIn}
-use Rattle.ca_base.specs.declared.completion.Completion.{Completion}
 use Rattle.ca_base.specs.declared.request.RecvRequest.{RecvRequest}
 use Rattle.ca_base.specs.declared.request.SendRequest.{SendRequest}
 use Rattle.ca_keys.specs.declared.names.Slot.{Slot}
 use Rattle.ca_keys.specs.Refusals.{first_of}
-use Rattle.ca_base.specs.objects.CompletionQueue.{CompletionQueue}
 use Rattle.ca_base.specs.objects.QueuePair.{QueuePair, QueueSlot, NoQueue, Present, recv_cq_of, send_cq_of}
 use Rattle.ca_base.specs.objects.WorkQueue.{next_place, with_item}
 use Rattle.ca_model.specs.machine.Around.{completions_to}
