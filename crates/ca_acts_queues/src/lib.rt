@@ -10,11 +10,13 @@
 mod completions;
 mod drawing;
 mod flushes;
+mod polls;
 mod receives;
 mod refusals;
 mod sends;
 mod states;
 
 pub use completions::completions_to;
+pub use polls::poll;
 pub use receives::post_recv;
 pub use sends::post_send;
