@@ -1,3 +1,4 @@
 mod CompletionLemmas
 mod FlushLemmas
+mod PollLemmas
 mod PostingLemmas

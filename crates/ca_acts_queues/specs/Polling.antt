@@ -1,16 +1,18 @@
 -- Polling: the places that completions free, one after another, and what that asks of what is held. Contracts cite it.
-use Rattle.std.specs.Prelude.{◌≡◌, ℕ, true, suc, ◌^◌, ◌<◌, List, [], ◌∷◌, Option, None, Some, IfSome, is_some, map}
+use Rattle.std.specs.Prelude.{◌≡◌, ℕ, Bool, true, false, suc, ◌^◌, ◌<◌, List, [], ◌∷◌, Option, None, Some, IfSome, is_some, map}
 use Rattle.std.specs.Option.{option_and_then, option_map}
 use Rattle.ca_base.specs.declared.completion.Completion.{Completion}
 use Rattle.ca_keys.specs.declared.names.QueueId.{QueueId}
 use Rattle.ca_keys.specs.declared.names.Slot.{Slot}
 use Rattle.ca_base.specs.objects.CompletionQueue.{CompletionQueue, source_in}
-use Rattle.ca_base.specs.objects.QueuePair.{QueueSlot}
+use Rattle.ca_base.specs.objects.QueuePair.{QueuePair, QueueSlot}
+use Rattle.ca_base.specs.objects.WorkQueue.{WorkQueue, after_retire}
+use Rattle.ca_base.specs.declared.request.RecvRequest.{RecvRequest}
 use Rattle.ca_base.specs.objects.SharedReceives.{after_receive_retire}
 use Rattle.ca_srq.specs.Taken.{stands_once}
-use Rattle.ca_model.specs.machine.CompletionVerbs.{slot_after_poll, source_of_completion}
+use Rattle.ca_model.specs.machine.CompletionVerbs.{source_of_completion}
 use Rattle.ca_model.specs.machine.World.{World, Name, Queue_of, Srq_of, put}
-use Rattle.ca_acts_queues.specs.Posting.{IfPresent}
+use Rattle.ca_acts_queues.specs.Posting.{IfPresent, slot_with}
 
 -- a shared receive queue of the domain of a slot
 abbrev pub shared_at : Slot → ℕ → Slot
@@ -25,16 +27,33 @@ abbrev pub place_of : Slot → Option ℕ → Completion → Name
 place_of s None c = Queue_of c.queue
 place_of s (Some srq) c = Srq_of (shared_at s srq)
 
+-- a queue pair in which the places up to that of a completion are free
+abbrev pub place_freed : Completion → QueuePair → QueuePair
+place_freed c p = by c.receive
+  where
+    by : Bool → QueuePair
+    by true = record p { receives = option_map (after_retire c.place) p.receives }
+    by false = record p { sends = after_retire c.place p.sends }
+
+-- what a completion frees in a queue pair is below the end of its type
+abbrev pub CanRetire : Completion → QueuePair → Type 0
+CanRetire c q = by c.receive q.receives
+  where
+    by : Bool → Option (WorkQueue RecvRequest) → Type 0
+    by true None = Unit {0}
+    by true (Some r) = suc c.place < 2 ^ 64
+    by false r = suc c.place < 2 ^ 64
+
 -- a world after it is freed
 abbrev pub freed_of : Slot → Option ℕ → Completion → World → World
-freed_of s None c w = put w (Queue_of c.queue) (slot_after_poll c.queue (c ∷ []) (w.queue c.queue))
+freed_of s None c w = put w (Queue_of c.queue) (slot_with (place_freed c) (w.queue c.queue))
 freed_of s (Some srq) c w = put w (Srq_of (shared_at s srq)) (record (w.srq (shared_at s srq)) {
   srq = option_map (after_receive_retire c.place) (w.srq (shared_at s srq)).srq;
 })
 
 -- it can be freed: a place of a queue pair is below the end of its type; one of a shared receive queue stands there once
 abbrev pub CanFreeOf : Slot → Option ℕ → Completion → World → Type 0
-CanFreeOf s None c w = IfPresent (w.queue c.queue) (λ q. (c.receive ≡ true → is_some q.receives ≡ true) → suc c.place < 2 ^ 64)
+CanFreeOf s None c w = IfPresent (w.queue c.queue) (CanRetire c)
 CanFreeOf s (Some srq) c w = IfSome (w.srq (shared_at s srq)).srq (λ z. stands_once c.place z.taken ≡ true)
 
 -- the same of completions, one after another

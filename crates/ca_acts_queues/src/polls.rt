@@ -12,8 +12,8 @@ ghost use Rattle.ca_base.specs.objects.SharedReceives.{after_receive_retire};
 ghost use Rattle.ca_srq.specs.Taken.{stands_once};
 ghost use Rattle.ca_acts.specs.Act.{Acts, Suffices};
 ghost use Rattle.ca_acts.specs.Calls.{call_of};
-ghost use Rattle.ca_acts_queues.specs.Posting.{IfPresent};
-ghost use Rattle.ca_acts_queues.specs.Polling.{CanFreeAll, CanFreeOf, IsApart, freed_all, freed_of, place_of, places_of, source_at};
+ghost use Rattle.ca_acts_queues.specs.Posting.{IfPresent, slot_with};
+ghost use Rattle.ca_acts_queues.specs.Polling.{CanFreeAll, CanFreeOf, CanRetire, IsApart, place_freed, freed_all, freed_of, place_of, places_of, source_at};
 
 use ca_acts::Call;
 use ca_base::limits::MAX_POLLED;
@@ -27,6 +27,7 @@ use std::alloc::Global;
 /// Poll: the first completions are taken, at most so many, and the places that they stand for are free again. The refusals
 /// in order are `NoSuch` and `OutOfRange` where none, more than `MAX_POLLED` or fewer than at least are asked for. It is not
 /// possible, `Empty`, while fewer wait than at least are asked for. `Memory` leaves all as it was.
+#[tactic(auto, using(crate::proofs::PollLemmas::one_taken))]
 pub fn poll(
     call: &Call<'_>,
     held: &mut Held,
@@ -59,6 +60,7 @@ pub fn poll(
 }
 
 /// A copy of the first completions, as many as are asked for or as wait.
+#[tactic(auto, using(crate::proofs::PollLemmas::one_listed))]
 fn first_completions(alloc: Global, cq: &Cq, n: u8) -> Result<Completions, Memory>
     requires { n ≤ MAX_POLLED }
     ensures { IfOk result (λ list. list ≡ take n cq.now.waiting) }
@@ -86,6 +88,7 @@ fn take_first(held: &mut Held, slot: Slot, count: u8)
 }
 
 /// The first completions are taken, so many.
+#[tactic(auto, using(crate::proofs::PollLemmas::one_taken))]
 fn take_from(cq: &mut Cq, count: u8)
     ensures { cq.new ≡ after_polls count cq.old }
 {
@@ -95,6 +98,7 @@ fn take_from(cq: &mut Cq, count: u8)
 }
 
 /// What completions free is freed, one after another.
+#[tactic(auto, using(crate::proofs::PollLemmas::freed_keeps))]
 fn free_all(held: &mut Held, slot: Slot, completions: &[Completion])
     requires cq { (holding held.old).has (Cq_of slot) ≡ true }
     requires held { AllPass (holding held.old).has
@@ -171,11 +175,9 @@ fn free_in_shared(held: &mut Held, slot: Slot, place: u64)
 #[tactic(auto, using(ca_held::proofs::HoldLemmas::put_queue))]
 fn free_in_queue(held: &mut Held, completion: &Completion)
     requires held { (holding held.old).has (Queue_of completion.now.queue) ≡ true }
-    requires place { IfPresent ((holding held.old).world.queue completion.now.queue)
-        (λ q. (completion.now.receive ≡ true → is_some q.receives ≡ true) → suc completion.now.place < 2 ^ 64) }
+    requires place { IfPresent ((holding held.old).world.queue completion.now.queue) (CanRetire completion.now) }
     ensures { holding held.new ≡ hold (holding held.old) (Queue_of completion.now.queue)
-        (machine.slot_after_poll completion.now.queue (completion.now ∷ [])
-        ((holding held.old).world.queue completion.now.queue)) }
+        (slot_with (place_freed completion.now) ((holding held.old).world.queue completion.now.queue)) }
 {
     if let QueueSlot::Present(queue) = held.queue_mut(completion.queue) {
         retire(queue, completion);
@@ -183,10 +185,9 @@ fn free_in_queue(held: &mut Held, completion: &Completion)
 }
 
 /// The places of a queue pair up to that of a completion of it are free again.
-#[tactic(auto, using(ca_model::proofs::ThingLemmas::queue_refl))]
 fn retire(queue: &mut QueuePart, completion: &Completion)
-    requires { (completion.now.receive ≡ true → is_some queue.old.receives ≡ true) → suc completion.now.place < 2 ^ 64 }
-    ensures { queue.new ≡ machine.after_poll completion.now.queue (completion.now ∷ []) queue.old }
+    requires { CanRetire completion.now queue.old }
+    ensures { queue.new ≡ place_freed completion.now queue.old }
 {
     if !completion.receive {
         queue.sends.retire(completion.place);
