@@ -1,4 +1,5 @@
 mod CompletionLemmas
 mod FlushLemmas
+mod FreedLemmas
 mod PollLemmas
 mod PostingLemmas

@@ -1,23 +1,32 @@
--- What completions free, one after another, is what the plan of a poll changes. For proofs only.
-use Rattle.std.proofs.Common.{◌≡◌, ◌==◌, ◌∙◌, ◌+◌, refl, sym, subst, ap, ap₂, ℕ, Bool, true, false, List, [], ◌∷◌, ◌++◌, Option, None, Some, drop, is_some, length, map, slice_get, take, if◌then◌else◌, true≢false}
-use Rattle.std.proofs.lemmas.Bool.{eq-eqb, eqb-true}
-use Rattle.std.specs.Option.{option_eq, option_map}
+-- What the plan of a poll does, once what its completions free was freed, one after another. For proofs only.
+use Rattle.std.proofs.Common.{◌≡◌, ◌==◌, ◌||◌, ◌∙◌, ◌+◌, ◌<◌, ◌≤◌, refl, sym, subst, ap, ap₂, arith, ℕ, nat_lt, Bool, true, false, List, [], ◌∷◌, ◌++◌, Option, None, Some, IfSome, Ok, drop, length, slice_get, take, if◌then◌else◌}
+use Rattle.std.proofs.lemmas.Bool.Decides.{nat_tests}
+use Rattle.std.proofs.lemmas.List.{length-take}
+use Rattle.std.specs.Option.{option_map}
+use Rattle.ca_base.specs.declared.change.Field.TheVariants as fields
 use Rattle.ca_base.specs.declared.completion.Completion.{Completion}
+use Rattle.ca_base.specs.declared.limits.TheConstants.{MAX_POLLED}
+use Rattle.ca_base.specs.declared.step.Reason.TheVariants as reasons
 use Rattle.ca_keys.specs.declared.names.QueueId.{QueueId}
 use Rattle.ca_keys.specs.declared.names.Slot.{Slot}
-use Rattle.ca_keys.specs.Equal.{queue_eq, slot_eq}
-use Rattle.ca_base.specs.objects.CompletionQueue.{CompletionQueue, source_in}
-use Rattle.ca_base.specs.objects.QueuePair.{QueuePair, QueueSlot, NoQueue, Present}
-use Rattle.ca_base.specs.objects.SharedReceives.{SharedReceives, SrqSlot, after_receive_retire}
-use Rattle.ca_base.specs.objects.WorkQueue.{after_retire}
+use Rattle.ca_base.specs.objects.CompletionQueue.{CompletionQueue, after_polls}
+use Rattle.ca_base.specs.objects.QueuePair.{QueueSlot}
+use Rattle.ca_base.specs.objects.SharedReceives.{SrqSlot}
 use Rattle.ca_cq.proofs.Parts.{drop-next, take-at, take-more}
-use Rattle.ca_model.specs.machine.CompletionVerbs.{With_place, With_places, after_poll, receives_after_poll, slot_after_poll, source_of_completion}
+use Rattle.ca_model.specs.Marks.{MarkList}
+use Rattle.ca_model.specs.declared.answer.Answer.TheVariants as answers
+use Rattle.ca_model.specs.declared.answer.Refusal.TheVariants as refusals
+use Rattle.ca_model.specs.machine.CompletionVerbs.{Poll_of, Take_plan, With_places, poll_plan, receives_after_poll, slot_after_poll, source_of_completion}
 use Rattle.ca_model.specs.machine.Frame.{AllPass, name_eq}
-use Rattle.ca_model.specs.machine.Plan.{Outcome, Plan, Update, perform, put_all, touches, ◌:=◌}
-use Rattle.ca_model.specs.machine.World.{Name, Queue_of, Srq_of, World, get}
-use Rattle.ca_model.proofs.ThingLemmas.{is_named_in, queue-path, slot-path}
-use Rattle.ca_acts_queues.specs.Polling.{IsApart, freed_of, place_freed, place_of, places_of, shared_at}
-use Rattle.ca_acts_queues.specs.Posting.{IfPresent, slot_with}
+use Rattle.ca_model.specs.machine.Plan.{Did, If, Look, Outcome, Plan, Stuck, Update, perform, put_all, touches, ◌:=◌}
+use Rattle.ca_model.specs.machine.VerbAnswers.{Answer_plan, Call, Refuse_plan, answer_mark}
+use Rattle.ca_model.specs.machine.World.{Cq_of, Name, Queue_of, Srq_of, Thing, World, get, put}
+use Rattle.ca_model.proofs.RestLemmas.{put-leaves}
+use Rattle.ca_model.proofs.ThingLemmas.{is_named_in, name-path, put-names, put-there, same-worlds, updates_by}
+use Rattle.ca_held.specs.HeldView.{Holding, hold}
+use Rattle.ca_acts.specs.Act.{IsAct}
+use Rattle.ca_acts_queues.specs.Polling.{CanFreeAll, IsApart, freed_all, freed_of, place_of, places_of, shared_at}
+use Rattle.ca_acts_queues.proofs.FreedLemmas.{cqs-freed, queue-freed, rest-freed, shared-freed, shared_after}
 
 pub one_taken : (k : ℕ) (cs : List Completion) → drop 1 (drop k cs) ≡ drop (k + 1) cs
 one_taken k cs = drop-next k cs
@@ -30,52 +39,156 @@ pub freed_keeps : (s : Slot) (o : Option ℕ) (c : Completion) (w : World) → (
 freed_keeps s None c w = refl
 freed_keeps s (Some srq) c w = refl
 
--- a completion of this queue pair
-poll-here : (q : QueueId) (c : Completion) (cs : List Completion) (x : QueueSlot) → queue_eq c.queue q ≡ true
-    → slot_after_poll q (c ∷ cs) x ≡ slot_after_poll q cs (slot_with (place_freed c) x)
-poll-here q c cs (NoQueue incarnation timers) here = refl
-poll-here q c cs (Present p) here = ap (λ b. Present (after_poll q cs (if b then place_freed c p else p))) here
+-- what completions that are taken free, as the plan has it: each frees all that its queue pair or its shared receive queue
+-- has among those that were polled
+module _ (w : World) (s : Slot) (cq : CompletionQueue) (polled : List Completion) where
+  places-perform : (f : (n : Name) → Thing n) → ((q : QueueId) → f (Queue_of q) ≡ slot_after_poll q polled (w.queue q))
+      → ((srq : ℕ) → f (Srq_of (shared_at s srq)) ≡ shared_after cq srq polled (w.srq (shared_at s srq)))
+      → (cs : List Completion) (k : List Update → Plan) → perform w (With_places s cq polled cs k) ≡ perform w (k (updates_by f (places_of s (Some cq) cs)))
+  places-perform f queues shared [] k = refl
+  places-perform f queues shared (c ∷ cs) k = by (places-perform f queues shared cs) (source_of_completion cq c)
+    where
+      on : Update → Plan
+      on u = With_places s cq polled cs (λ us. k (u ∷ us))
 
--- one of another
-poll-elsewhere : (q : QueueId) (c : Completion) (cs : List Completion) (x : QueueSlot) → queue_eq c.queue q ≡ false
-    → slot_after_poll q (c ∷ cs) x ≡ slot_after_poll q cs x
-poll-elsewhere q c cs (NoQueue incarnation timers) other = refl
-poll-elsewhere q c cs (Present p) other = ap (λ b. Present (after_poll q cs (if b then place_freed c p else p))) other
+      plan : Option ℕ → Plan
+      plan None = Look (Queue_of c.queue) (λ slot. on (Queue_of c.queue := slot_after_poll c.queue polled slot))
+      plan (Some srq) = Look (Srq_of (shared_at s srq)) (λ slot. on (Srq_of (shared_at s srq) := record slot { srq = option_map (receives_after_poll cq srq polled) slot.srq }))
 
-poll-none : (q : QueueId) (x : QueueSlot) → slot_after_poll q [] x ≡ x
-poll-none q (NoQueue incarnation timers) = refl
-poll-none q (Present p) = refl
+      others : List Update
+      others = updates_by f (places_of s (Some cq) cs)
 
--- a completion that has a source is of a receive, and its queue pair reserved for that source
-shared-receive : (cq : CompletionQueue) (c : Completion) (srq : ℕ) → source_of_completion cq c ≡ Some srq → (c.receive ≡ true) × (source_in cq.reservations c.queue ≡ Some srq)
-shared-receive cq c srq is = by c.receive is
+      by : ((k : List Update → Plan) → perform w (With_places s cq polled cs k) ≡ perform w (k (updates_by f (places_of s (Some cq) cs))))
+          → (o : Option ℕ) → perform w (plan o) ≡ perform w (k ((place_of s o c := f (place_of s o c)) ∷ others))
+      by again None = again (λ us. k ((Queue_of c.queue := slot_after_poll c.queue polled (w.queue c.queue)) ∷ us))
+          ∙ ap (λ (x : QueueSlot). perform w (k ((Queue_of c.queue := x) ∷ others))) (sym (queues c.queue))
+      by again (Some srq) = again (λ us. k ((Srq_of (shared_at s srq) := shared_after cq srq polled (w.srq (shared_at s srq))) ∷ us))
+          ∙ ap (λ (x : SrqSlot). perform w (k ((Srq_of (shared_at s srq) := x) ∷ others))) (sym (shared srq))
+
+  places-touched : (has : Name → Bool) (cs : List Completion) (k : List Update → Plan) → AllPass has (touches w (With_places s cq polled cs k)) → AllPass has (places_of s (Some cq) cs)
+  places-touched has [] k all = record {}
+  places-touched has (c ∷ cs) k all = by (places-touched has cs) (source_of_completion cq c) all
+    where
+      on : Update → Plan
+      on u = With_places s cq polled cs (λ us. k (u ∷ us))
+
+      plan : Option ℕ → Plan
+      plan None = Look (Queue_of c.queue) (λ slot. on (Queue_of c.queue := slot_after_poll c.queue polled slot))
+      plan (Some srq) = Look (Srq_of (shared_at s srq)) (λ slot. on (Srq_of (shared_at s srq) := record slot { srq = option_map (receives_after_poll cq srq polled) slot.srq }))
+
+      by : ((k : List Update → Plan) → AllPass has (touches w (With_places s cq polled cs k)) → AllPass has (places_of s (Some cq) cs))
+          → (o : Option ℕ) → AllPass has (touches w (plan o)) → AllPass has (place_of s o c ∷ places_of s (Some cq) cs)
+      by again None all = (all.0, again (λ us. k ((Queue_of c.queue := slot_after_poll c.queue polled (w.queue c.queue)) ∷ us)) all.1)
+      by again (Some srq) all = (all.0, again (λ us. k ((Srq_of (shared_at s srq) := shared_after cq srq polled (w.srq (shared_at s srq))) ∷ us)) all.1)
+
+  -- the completion queue without those that were polled
+  abbrev left : Option CompletionQueue
+  left = Some (after_polls (length polled) cq)
+
+  -- the world after the poll
+  abbrev polled_world : World
+  polled_world = put (freed_all s (Some cq) polled w) (Cq_of s) left
+
+  poll-world : put_all (updates_by (get polled_world) (places_of s (Some cq) polled)) (put w (Cq_of s) left) ≡ polled_world
+  poll-world = same-worlds (put_all (updates_by (get polled_world) (places_of s (Some cq) polled)) (put w (Cq_of s) left)) polled_world
+      (λ n. put-names (get polled_world) (places_of s (Some cq) polled) (put w (Cq_of s) left) n ∙ by n (is_named_in (places_of s (Some cq) polled) n) refl)
+    where
+      rest : (n : Name) (b : Bool) → name_eq (Cq_of s) n ≡ b → is_named_in (places_of s (Some cq) polled) n ≡ false → get (put w (Cq_of s) left) n ≡ get polled_world n
+      rest n true is other = subst (λ m. get (put w (Cq_of s) left) m ≡ get polled_world m) (name-path (Cq_of s) n is)
+          (put-there w (Cq_of s) left ∙ sym (put-there (freed_all s (Some cq) polled w) (Cq_of s) left))
+      rest n false is other = put-leaves w (Cq_of s) left n is ∙ sym (rest-freed s cq polled w n other)
+          ∙ sym (put-leaves (freed_all s (Some cq) polled w) (Cq_of s) left n is)
+
+      by : (n : Name) (b : Bool) → is_named_in (places_of s (Some cq) polled) n ≡ b → (if b then get polled_world n else get (put w (Cq_of s) left) n) ≡ get polled_world n
+      by n true is = refl
+      by n false is = rest n (name_eq (Cq_of s) n) refl is
+
+  take-performs : (call : Call) → ((q : QueueId) → IsApart cq q (w.queue q))
+      → perform w (Take_plan call s cq polled) ≡ Did polled_world (answer_mark call (answers.Polled polled) ∷ [])
+  take-performs call apart =
+      places-perform (get polled_world) (λ q. queue-freed s cq polled w q (apart q)) (λ srq. shared-freed s cq polled w srq) polled
+      (λ changes. Answer_plan call (answers.Polled polled) ((Cq_of s := left) ∷ changes) [])
+      ∙ ap (λ v. Did v (answer_mark call (answers.Polled polled) ∷ [])) poll-world
+
+-- as many are asked for as may be, and as many wait as are asked for at least
+record CanPoll (n least : ℕ) (cq : CompletionQueue) : Type 0 where
+  pub some : 0 < n
+  pub few : n ≤ MAX_POLLED
+  pub within : least ≤ n
+  pub waiting : least ≤ length (take n cq.waiting)
+
+poll-is : (call : Call) (s : Slot) (n least : ℕ) (cq : CompletionQueue) → CanPoll n least cq
+    → Poll_of call s n least (Some cq)
+    ≡ If false (Refuse_plan call (refusals.OutOfRange fields.Length)) (If false (Stuck reasons.Empty) (Take_plan call s cq (take n cq.waiting)))
+poll-is call s n least cq can = ap₂ (λ a b. If a (Refuse_plan call (refusals.OutOfRange fields.Length)) (If b (Stuck reasons.Empty) (Take_plan call s cq (take n cq.waiting)))) range enough
   where
-    by : (b : Bool) → (if b then source_in cq.reservations c.queue else None) ≡ Some srq → (b ≡ true) × (source_in cq.reservations c.queue ≡ Some srq)
-    by true is = (refl, is)
-    by false is = absurd (true≢false (sym (ap is_some is)))
+    none : (n == 0) ≡ false
+    none = let e = can.some in grind (arith, nat_tests, e)
 
--- it frees nothing in its queue pair
-shared-frees-none : (cq : CompletionQueue) (c : Completion) (srq : ℕ) (x : QueueSlot) → source_of_completion cq c ≡ Some srq → IsApart cq c.queue x → slot_with (place_freed c) x ≡ x
-shared-frees-none cq c srq (NoQueue incarnation timers) is apart = refl
-shared-frees-none cq c srq (Present p) is apart =
-    ap (λ b. Present (freed b)) there.0
-    ∙ ap (λ o. Present (record p { receives = option_map (after_retire c.place) o })) none
-    ∙ sym (ap (λ o. Present (record p { receives = o })) none)
+    many : nat_lt MAX_POLLED n ≡ false
+    many = let e = can.few in grind (arith, nat_tests, e)
+
+    fewer : nat_lt n least ≡ false
+    fewer = let e = can.within in grind (arith, nat_tests, e)
+
+    range : ((n == 0) || nat_lt MAX_POLLED n || nat_lt n least) ≡ false
+    range = rw (none, many, fewer) refl
+
+    all : least ≤ length cq.waiting
+    all = let e = length-take n cq.waiting in let l = can.waiting in grind (arith, e, l)
+
+    enough : nat_lt (length cq.waiting) least ≡ false
+    enough = grind (arith, nat_tests, all)
+
+can-poll : (n least count : ℕ) (cq : CompletionQueue) (polled listed : List Completion) → 0 < n → n ≤ MAX_POLLED → least ≤ n → least ≤ count → count ≡ length listed → listed ≡ polled
+    → polled ≡ take n cq.waiting → CanPoll n least cq
+can-poll n least count cq polled listed some few within enough counts same took = record {
+  some = some;
+  few = few;
+  within = within;
+  waiting = subst (λ x. least ≤ x) (counts ∙ ap length (same ∙ took)) enough;
+}
+
+pub poll_places_held : (has : Name → Bool) (w : World) (call : Call) (s : Slot) (n least count : ℕ) (cq : CompletionQueue) (polled listed : List Completion)
+    → w.cq s ≡ Some cq → 0 < n → n ≤ MAX_POLLED → least ≤ n → least ≤ count → count ≡ length listed → listed ≡ polled → polled ≡ take n cq.waiting
+    → AllPass has (touches w (poll_plan call s n least)) → AllPass has (places_of s (w.cq s) listed)
+poll_places_held has w call s n least count cq polled listed is some few within enough counts same took all =
+    subst (λ o. AllPass has (places_of s o listed)) (sym is) (subst (λ cs. AllPass has (places_of s (Some cq) cs)) (sym (same ∙ took))
+    (places-touched w s cq (take n cq.waiting) has (take n cq.waiting)
+    (λ changes. Answer_plan call (answers.Polled (take n cq.waiting)) ((Cq_of s := Some (after_polls (length (take n cq.waiting)) cq)) ∷ changes) [])
+    (subst (λ p. AllPass has (touches w p)) (poll-is call s n least cq (can-poll n least count cq polled listed some few within enough counts same took))
+    (subst (λ o. AllPass has (touches w (Poll_of call s n least o))) is all.1))))
+
+pub poll_can_free : (w : World) (s : Slot) (n : ℕ) (cq : CompletionQueue) (polled listed : List Completion) → w.cq s ≡ Some cq → listed ≡ polled → polled ≡ take n cq.waiting
+    → IfSome (w.cq s) (λ v. CanFreeAll s (w.cq s) (take n v.waiting) w) → CanFreeAll s (w.cq s) listed w
+poll_can_free w s n cq polled listed is same took can =
+    subst (λ cs. CanFreeAll s (w.cq s) cs w) (sym (same ∙ took)) (subst (λ o. IfSome o (λ v. CanFreeAll s (w.cq s) (take n v.waiting) w)) is can)
+
+-- what completions free was freed, and they were taken: the plan is carried out
+pub poll_acts : (h one two : Holding) (call : Call) (s : Slot) (n least count : ℕ) (cq : CompletionQueue) (polled listed : List Completion) (m : MarkList)
+    → h.world.cq s ≡ Some cq → IfSome (h.world.cq s) (λ v. (q : QueueId) → IsApart v q (h.world.queue q))
+    → 0 < n → n ≤ MAX_POLLED → least ≤ n → least ≤ count → count ≡ length listed → listed ≡ polled → polled ≡ take n cq.waiting
+    → one ≡ record h { world = freed_all s (h.world.cq s) listed h.world }
+    → two ≡ hold one (Cq_of s) (option_map (after_polls count) (one.world.cq s))
+    → m.marks ≡ answer_mark call (answers.Polled polled) ∷ []
+    → IsAct (Ok m) (perform h.world (poll_plan call s n least)) h two
+poll_acts h one two call s n least count cq polled listed m is apart some few within enough counts same took frees takes marks =
+    subst (λ x. IsAct (Ok m) x h two) (sym performs) (marks, world)
   where
-    there : (c.receive ≡ true) × (source_in cq.reservations c.queue ≡ Some srq)
-    there = shared-receive cq c srq is
+    performs : perform h.world (poll_plan call s n least) ≡ Did (polled_world h.world s cq polled) (answer_mark call (answers.Polled polled) ∷ [])
+    performs = ap (λ o. perform h.world (Poll_of call s n least o)) is
+        ∙ ap (perform h.world) (poll-is call s n least cq (can-poll n least count cq polled listed some few within enough counts same took))
+        ∙ ap (λ cs. perform h.world (Take_plan call s cq cs)) (sym took)
+        ∙ take-performs h.world s cq polled call (subst (λ o. IfSome o (λ v. (q : QueueId) → IsApart v q (h.world.queue q))) is apart)
 
-    none : p.receives ≡ None
-    none = apart (ap is_some there.1)
+    after : List Completion → Option CompletionQueue → World
+    after cs o = freed_all s o cs h.world
 
-    freed : Bool → QueuePair
-    freed true = record p { receives = option_map (after_retire c.place) p.receives }
-    freed false = record p { sends = after_retire c.place p.sends }
-
-poll-shared : (cq : CompletionQueue) (q : QueueId) (c : Completion) (cs : List Completion) (srq : ℕ) (x : QueueSlot) → source_of_completion cq c ≡ Some srq → IsApart cq q x
-    → slot_after_poll q (c ∷ cs) x ≡ slot_after_poll q cs x
-poll-shared cq q c cs srq x is apart = by (queue_eq c.queue q) refl
-  where
-    by : (b : Bool) → queue_eq c.queue q ≡ b → slot_after_poll q (c ∷ cs) x ≡ slot_after_poll q cs x
-    by true here = poll-here q c cs x here ∙ ap (slot_after_poll q cs) (shared-frees-none cq c srq x is (subst (λ n. IsApart cq n x) (sym (queue-path c.queue q here)) apart))
-    by false other = poll-elsewhere q c cs x other
+    world : two ≡ record h { world = polled_world h.world s cq polled }
+    world = takes
+        ∙ ap (λ x. hold x (Cq_of s) (option_map (after_polls count) (x.world.cq s))) frees
+        ∙ ap (λ cs. hold (record h { world = after cs (h.world.cq s) }) (Cq_of s) (option_map (after_polls count) ((after cs (h.world.cq s)).cq s))) same
+        ∙ ap (λ o. hold (record h { world = after polled o }) (Cq_of s) (option_map (after_polls count) ((after polled o).cq s))) is
+        ∙ ap (λ f. hold (record h { world = after polled (Some cq) }) (Cq_of s) (option_map (after_polls count) (f s))) (cqs-freed s (Some cq) polled h.world)
+        ∙ ap (λ o. hold (record h { world = after polled (Some cq) }) (Cq_of s) (option_map (after_polls count) o)) is
+        ∙ ap (λ k. hold (record h { world = after polled (Some cq) }) (Cq_of s) (Some (after_polls k cq))) (counts ∙ ap length same)

@@ -27,7 +27,7 @@ use std::alloc::Global;
 /// Poll: the first completions are taken, at most so many, and the places that they stand for are free again. The refusals
 /// in order are `NoSuch` and `OutOfRange` where none, more than `MAX_POLLED` or fewer than at least are asked for. It is not
 /// possible, `Empty`, while fewer wait than at least are asked for. `Memory` leaves all as it was.
-#[tactic(auto, using(crate::proofs::PollLemmas::one_taken))]
+#[tactic(auto, using(crate::proofs::PollLemmas::poll_places_held, crate::proofs::PollLemmas::poll_can_free, crate::proofs::PollLemmas::poll_acts))]
 pub fn poll(
     call: &Call<'_>,
     held: &mut Held,
@@ -49,13 +49,14 @@ pub fn poll(
         return Ok(call.refuse(Refusal::OutOfRange(Field::Length))?);
     }
     let polled = first_completions(call.alloc, cq, n)?;
-    let count = polled.as_slice().len() as u8;
+    let completions = polled.as_slice();
+    let count = completions.len() as u8;
     if count < least {
         return Err(StepError::NotReady(Reason::Empty));
     }
     let ready = call.ready(0)?;
+    free_all(held, slot, completions);
     take_first(held, slot, count);
-    free_all(held, slot, polled.as_slice());
     Ok(ready.answer(Answer::Polled(polled)))
 }
 
