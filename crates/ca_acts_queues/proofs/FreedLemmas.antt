@@ -3,21 +3,20 @@ use Rattle.std.proofs.Common.{◌≡◌, ◌==◌, ◌&&◌, ◌∙◌, refl, sy
 use Rattle.std.proofs.lemmas.Bool.{eqb-true}
 use Rattle.std.specs.Option.{option_eq, option_map}
 use Rattle.ca_base.specs.declared.completion.Completion.{Completion}
-use Rattle.ca_base.specs.declared.request.RecvRequest.{RecvRequest}
 use Rattle.ca_keys.specs.declared.names.QueueId.{QueueId}
 use Rattle.ca_keys.specs.declared.names.Slot.{Slot}
-use Rattle.ca_keys.specs.Equal.{queue_eq, slot_eq}
+use Rattle.ca_keys.specs.Equal.{queue_eq}
 use Rattle.ca_base.specs.objects.CompletionQueue.{CompletionQueue, source_in}
 use Rattle.ca_base.specs.objects.QueuePair.{QueuePair, QueueSlot, NoQueue, Present}
 use Rattle.ca_base.specs.objects.SharedReceives.{SharedReceives, SrqSlot, after_receive_retire}
-use Rattle.ca_base.specs.objects.WorkQueue.{WorkQueue, after_retire}
+use Rattle.ca_base.specs.objects.WorkQueue.{after_retire}
 use Rattle.ca_model.specs.machine.CompletionVerbs.{after_poll, receives_after_poll, slot_after_poll, source_of_completion}
 use Rattle.ca_model.specs.machine.Frame.{name_eq}
 use Rattle.ca_model.specs.machine.World.{Name, Queue_of, Srq_of, World, get}
 use Rattle.ca_model.proofs.RestLemmas.{put-leaves}
 use Rattle.ca_model.proofs.ThingLemmas.{domain-refl, is_named_in, queue-path}
 use Rattle.ca_acts_queues.specs.Polling.{IsApart, freed_all, freed_of, place_freed, place_of, places_of, shared_at, source_at}
-use Rattle.ca_acts_queues.specs.Posting.{IfPresent, slot_with}
+use Rattle.ca_acts_queues.specs.Posting.{slot_with}
 
 -- a completion of this queue pair
 poll-here : (q : QueueId) (c : Completion) (cs : List Completion) (x : QueueSlot) → queue_eq c.queue q ≡ true

@@ -18,7 +18,7 @@ use Rattle.ca_model.specs.declared.answer.Answer.TheVariants as answers
 use Rattle.ca_model.specs.declared.answer.Refusal.TheVariants as refusals
 use Rattle.ca_model.specs.machine.CompletionVerbs.{Poll_of, Take_plan, With_places, poll_plan, receives_after_poll, slot_after_poll, source_of_completion}
 use Rattle.ca_model.specs.machine.Frame.{AllPass, name_eq}
-use Rattle.ca_model.specs.machine.Plan.{Did, If, Look, Outcome, Plan, Stuck, Update, perform, put_all, touches, ◌:=◌}
+use Rattle.ca_model.specs.machine.Plan.{Did, If, Look, Plan, Stuck, Update, perform, put_all, touches, ◌:=◌}
 use Rattle.ca_model.specs.machine.VerbAnswers.{Answer_plan, Call, Refuse_plan, answer_mark}
 use Rattle.ca_model.specs.machine.World.{Cq_of, Name, Queue_of, Srq_of, Thing, World, get, put}
 use Rattle.ca_model.proofs.RestLemmas.{put-leaves}
