@@ -115,7 +115,7 @@ abbrev pub shared_after : CompletionQueue → ℕ → List Completion → SrqSlo
 shared_after cq srq cs x = record x { srq = option_map (receives_after_poll cq srq cs) x.srq }
 
 -- the same after one of its places was freed
-abbrev shared_freed : Completion → SrqSlot → SrqSlot
+abbrev pub shared_freed : Completion → SrqSlot → SrqSlot
 shared_freed c x = record x { srq = option_map (after_receive_retire c.place) x.srq }
 
 shared-none : (cq : CompletionQueue) (srq : ℕ) (x : SrqSlot) → shared_after cq srq [] x ≡ x
@@ -139,6 +139,17 @@ shared-step cq srq c cs x b is = by x.srq b is
     by (Some z) true is = ap (λ b. record x { srq = Some (receives_after_poll cq srq cs (if b then after_receive_retire c.place z else z)) }) is
     by (Some z) false is = ap (λ b. record x { srq = Some (receives_after_poll cq srq cs (if b then after_receive_retire c.place z else z)) }) is
 
+-- a place of one shared receive queue of a domain is free again: what stands in the slot of another, or of the same
+pub shared-place : (s : Slot) (c : Completion) (w : World) (t u : ℕ) (b : Bool) → (t == u) ≡ b
+    → (freed_of s (Some t) c w).srq (shared_at s u) ≡ (if b then shared_freed c (w.srq (shared_at s u)) else w.srq (shared_at s u))
+shared-place s c w t u b e = ap (λ d. if d && (t == u) then shared_freed c (w.srq (shared_at s t)) else w.srq (shared_at s u)) (domain-refl s.domain)
+    ∙ ap (λ d. if d then shared_freed c (w.srq (shared_at s t)) else w.srq (shared_at s u)) e ∙ same b e
+  where
+    same : (b : Bool) → (t == u) ≡ b
+        → (if b then shared_freed c (w.srq (shared_at s t)) else w.srq (shared_at s u)) ≡ (if b then shared_freed c (w.srq (shared_at s u)) else w.srq (shared_at s u))
+    same true e = ap (λ n. shared_freed c (w.srq (shared_at s n))) (eqb-true t u e)
+    same false e = refl
+
 -- a shared receive queue's slot, once completions were freed, one after another
 pub shared-freed : (s : Slot) (cq : CompletionQueue) (cs : List Completion) (w : World) (srq : ℕ)
     → (freed_all s (Some cq) cs w).srq (shared_at s srq) ≡ shared_after cq srq cs (w.srq (shared_at s srq))
@@ -148,19 +159,11 @@ shared-freed s cq (c ∷ cs) w srq = by (λ v. shared-freed s cq cs v srq) (sour
     at : Slot
     at = shared_at s srq
 
-    there : (t : ℕ) (b : Bool) → (t == srq) ≡ b → (freed_of s (Some t) c w).srq at ≡ (if b then shared_freed c (w.srq at) else w.srq at)
-    there t b e = ap (λ d. if d && (t == srq) then shared_freed c (w.srq (shared_at s t)) else w.srq at) (domain-refl s.domain)
-        ∙ ap (λ d. if d then shared_freed c (w.srq (shared_at s t)) else w.srq at) e ∙ same b e
-      where
-        same : (b : Bool) → (t == srq) ≡ b → (if b then shared_freed c (w.srq (shared_at s t)) else w.srq at) ≡ (if b then shared_freed c (w.srq at) else w.srq at)
-        same true e = ap (λ n. shared_freed c (w.srq (shared_at s n))) (eqb-true t srq e)
-        same false e = refl
-
     by : ((v : World) → (freed_all s (Some cq) cs v).srq at ≡ shared_after cq srq cs (v.srq at))
         → (o : Option ℕ) → source_of_completion cq c ≡ o → (freed_all s (Some cq) cs (freed_of s o c w)).srq at ≡ shared_after cq srq (c ∷ cs) (w.srq at)
     by again None is = again (freed_of s None c w)
         ∙ sym (shared-step cq srq c cs (w.srq at) false (ap (λ o. option_eq (λ a b. a == b) o (Some srq)) is))
-    by again (Some t) is = again (freed_of s (Some t) c w) ∙ ap (shared_after cq srq cs) (there t (t == srq) refl)
+    by again (Some t) is = again (freed_of s (Some t) c w) ∙ ap (shared_after cq srq cs) (shared-place s c w t srq (t == srq) refl)
         ∙ sym (shared-step cq srq c cs (w.srq at) (t == srq) (ap (λ o. option_eq (λ a b. a == b) o (Some srq)) is))
 
 -- all things stay under other names

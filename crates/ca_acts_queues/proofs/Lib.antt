@@ -1,5 +1,6 @@
 mod CompletionLemmas
 mod FlushLemmas
+mod FreeableLemmas
 mod FreedLemmas
 mod PollLemmas
 mod PostingLemmas

@@ -25,7 +25,8 @@ use Rattle.ca_model.proofs.RestLemmas.{put-leaves}
 use Rattle.ca_model.proofs.ThingLemmas.{is_named_in, name-path, put-names, put-there, same-worlds, updates_by}
 use Rattle.ca_held.specs.HeldView.{Holding, hold}
 use Rattle.ca_acts.specs.Act.{IsAct}
-use Rattle.ca_acts_queues.specs.Polling.{CanFreeAll, IsApart, freed_all, freed_of, place_of, places_of, shared_at}
+use Rattle.ca_acts_queues.specs.Polling.{AreApart, AreOfOwnPlaces, CanFreeAll, CanFreeEach, freed_all, freed_of, place_of, places_of, shared_at}
+use Rattle.ca_acts_queues.proofs.FreeableLemmas.{taken-free}
 use Rattle.ca_acts_queues.proofs.FreedLemmas.{cqs-freed, queue-freed, rest-freed, shared-freed, shared_after}
 
 pub one_taken : (k : ℕ) (cs : List Completion) → drop 1 (drop k cs) ≡ drop (k + 1) cs
@@ -103,7 +104,7 @@ module _ (w : World) (s : Slot) (cq : CompletionQueue) (polled : List Completion
       by n true is = refl
       by n false is = rest n (name_eq (Cq_of s) n) refl is
 
-  take-performs : (call : Call) → ((q : QueueId) → IsApart cq q (w.queue q))
+  take-performs : (call : Call) → AreApart w cq
       → perform w (Take_plan call s cq polled) ≡ Did polled_world (answer_mark call (answers.Polled polled) ∷ [])
   take-performs call apart =
       places-perform (get polled_world) (λ q. queue-freed s cq polled w q (apart q)) (λ srq. shared-freed s cq polled w srq) polled
@@ -160,13 +161,14 @@ poll_places_held has w call s n least count cq polled listed is some few within 
     (subst (λ o. AllPass has (touches w (Poll_of call s n least o))) is all.1))))
 
 pub poll_can_free : (w : World) (s : Slot) (n : ℕ) (cq : CompletionQueue) (polled listed : List Completion) → w.cq s ≡ Some cq → listed ≡ polled → polled ≡ take n cq.waiting
-    → IfSome (w.cq s) (λ v. CanFreeAll s (w.cq s) (take n v.waiting) w) → CanFreeAll s (w.cq s) listed w
-poll_can_free w s n cq polled listed is same took can =
-    subst (λ cs. CanFreeAll s (w.cq s) cs w) (sym (same ∙ took)) (subst (λ o. IfSome o (λ v. CanFreeAll s (w.cq s) (take n v.waiting) w)) is can)
+    → IfSome (w.cq s) (CanFreeEach s w) → IfSome (w.cq s) AreOfOwnPlaces → CanFreeAll s (w.cq s) listed w
+poll_can_free w s n cq polled listed is same took each own =
+    subst (λ cs. CanFreeAll s (w.cq s) cs w) (sym (same ∙ took)) (subst (λ o. CanFreeAll s o (take n cq.waiting) w) (sym is)
+    (taken-free s cq n cq.waiting w (subst (λ o. IfSome o (CanFreeEach s w)) is each) (subst (λ o. IfSome o AreOfOwnPlaces) is own)))
 
 -- what completions free was freed, and they were taken: the plan is carried out
 pub poll_acts : (h one two : Holding) (call : Call) (s : Slot) (n least count : ℕ) (cq : CompletionQueue) (polled listed : List Completion) (m : MarkList)
-    → h.world.cq s ≡ Some cq → IfSome (h.world.cq s) (λ v. (q : QueueId) → IsApart v q (h.world.queue q))
+    → h.world.cq s ≡ Some cq → IfSome (h.world.cq s) (AreApart h.world)
     → 0 < n → n ≤ MAX_POLLED → least ≤ n → least ≤ count → count ≡ length listed → listed ≡ polled → polled ≡ take n cq.waiting
     → one ≡ record h { world = freed_all s (h.world.cq s) listed h.world }
     → two ≡ hold one (Cq_of s) (option_map (after_polls count) (one.world.cq s))
@@ -179,7 +181,7 @@ poll_acts h one two call s n least count cq polled listed m is apart some few wi
     performs = ap (λ o. perform h.world (Poll_of call s n least o)) is
         ∙ ap (perform h.world) (poll-is call s n least cq (can-poll n least count cq polled listed some few within enough counts same took))
         ∙ ap (λ cs. perform h.world (Take_plan call s cq cs)) (sym took)
-        ∙ take-performs h.world s cq polled call (subst (λ o. IfSome o (λ v. (q : QueueId) → IsApart v q (h.world.queue q))) is apart)
+        ∙ take-performs h.world s cq polled call (subst (λ o. IfSome o (AreApart h.world)) is apart)
 
     after : List Completion → Option CompletionQueue → World
     after cs o = freed_all s o cs h.world

@@ -1,6 +1,7 @@
 -- Polling: the places that completions free, one after another, and what that asks of what is held. Contracts cite it.
-use Rattle.std.specs.Prelude.{◌≡◌, ℕ, Bool, true, false, suc, ◌^◌, ◌<◌, List, [], ◌∷◌, Option, None, Some, IfSome, is_some, map}
-use Rattle.std.specs.Option.{option_and_then, option_map}
+use Rattle.std.specs.Prelude.{◌≡◌, ◌==◌, ℕ, Bool, true, false, suc, ◌^◌, ◌<◌, List, [], ◌∷◌, Option, None, Some, IfSome, filter, is_some, map}
+use Rattle.std.specs.List.{AllByRecursion, IsDistinct}
+use Rattle.std.specs.Option.{option_and_then, option_eq, option_map}
 use Rattle.ca_base.specs.declared.completion.Completion.{Completion}
 use Rattle.ca_keys.specs.declared.names.QueueId.{QueueId}
 use Rattle.ca_keys.specs.declared.names.Slot.{Slot}
@@ -68,6 +69,21 @@ CanFreeAll s cq (c ∷ cs) w = CanFreeOf s (source_at cq c) c w × CanFreeAll s 
 abbrev pub places_of : Slot → Option CompletionQueue → List Completion → List Name
 places_of s cq cs = map (λ c. place_of s (source_at cq c) c) cs
 
+-- the places of a shared receive queue for which these completions stand
+abbrev pub places_from : CompletionQueue → ℕ → List Completion → List ℕ
+places_from cq srq cs = map (λ c. c.place) (filter (λ c. option_eq (λ a b. a == b) (Some srq) (source_of_completion cq c)) cs)
+
+-- what each completion that waits stands for can be freed
+abbrev pub CanFreeEach : Slot → World → CompletionQueue → Type 0
+CanFreeEach s w cq = AllByRecursion (λ c. CanFreeOf s (source_of_completion cq c) c w) cq.waiting
+
+-- no two completions that wait stand for one place of a shared receive queue
+abbrev pub AreOfOwnPlaces : CompletionQueue → Type 0
+AreOfOwnPlaces cq = (srq : ℕ) → IsDistinct (λ a b. a == b) (places_from cq srq cq.waiting)
+
 -- a queue pair that reserved here for a shared receive queue has no receives of its own
 abbrev pub IsApart : CompletionQueue → QueueId → QueueSlot → Type 0
 IsApart cq q slot = is_some (source_in cq.reservations q) ≡ true → IfPresent slot (λ p. p.receives ≡ None)
+
+abbrev pub AreApart : World → CompletionQueue → Type 0
+AreApart w cq = (q : QueueId) → IsApart cq q (w.queue q)

@@ -13,7 +13,7 @@ ghost use Rattle.ca_srq.specs.Taken.{stands_once};
 ghost use Rattle.ca_acts.specs.Act.{Acts, Suffices};
 ghost use Rattle.ca_acts.specs.Calls.{call_of};
 ghost use Rattle.ca_acts_queues.specs.Posting.{IfPresent, slot_with};
-ghost use Rattle.ca_acts_queues.specs.Polling.{CanFreeAll, CanFreeOf, CanRetire, IsApart, place_freed, freed_all, freed_of, place_of, places_of, source_at};
+ghost use Rattle.ca_acts_queues.specs.Polling.{AreApart, AreOfOwnPlaces, CanFreeAll, CanFreeEach, CanFreeOf, CanRetire, place_freed, freed_all, freed_of, place_of, places_of, source_at};
 
 use ca_acts::Call;
 use ca_base::limits::MAX_POLLED;
@@ -36,10 +36,9 @@ pub fn poll(
     least: u8,
 ) -> Result<Marks, StepError>
     requires suffices { Suffices held.old (poll_plan (call_of call.now) slot n least) }
-    requires places { IfSome ((holding held.old).world.cq slot) (λ cq. CanFreeAll slot ((holding held.old).world.cq slot)
-        (take n cq.waiting) (holding held.old).world) }
-    requires apart { IfSome ((holding held.old).world.cq slot)
-        (λ cq. (q : QueueId) → IsApart cq q ((holding held.old).world.queue q)) }
+    requires places { IfSome ((holding held.old).world.cq slot) (CanFreeEach slot (holding held.old).world) }
+    requires once { IfSome ((holding held.old).world.cq slot) AreOfOwnPlaces }
+    requires apart { IfSome ((holding held.old).world.cq slot) (AreApart (holding held.old).world) }
     ensures act { Acts result (poll_plan (call_of call.now) slot n least) held.old held.new }
 {
     let Some(cq) = held.cq(slot) else {
