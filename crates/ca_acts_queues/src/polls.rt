@@ -105,7 +105,7 @@ fn free_all(held: &mut Held, slot: Slot, completions: &[Completion])
         (places_of slot ((holding held.old).world.cq slot) completions.now) }
     requires places { CanFreeAll slot ((holding held.old).world.cq slot) completions.now (holding held.old).world }
     ensures { holding held.new ≡ record (holding held.old) {
-        world = freed_all slot ((holding held.old).world.cq slot) completions.now (holding held.old).world;
+      world = freed_all slot ((holding held.old).world.cq slot) completions.now (holding held.old).world;
     } }
 {
     for completion in completions {
@@ -141,7 +141,7 @@ fn free_place(held: &mut Held, slot: Slot, source: Option<u16>, completion: &Com
     requires held { (holding held.old).has (place_of slot source completion.now) ≡ true }
     requires place { CanFreeOf slot source completion.now (holding held.old).world }
     ensures { holding held.new ≡ record (holding held.old) {
-        world = freed_of slot source completion.now (holding held.old).world;
+      world = freed_of slot source completion.now (holding held.old).world;
     } }
 {
     match source {
@@ -163,7 +163,7 @@ fn free_in_shared(held: &mut Held, slot: Slot, place: u64)
     requires held { (holding held.old).has (Srq_of slot) ≡ true }
     requires once { IfSome ((holding held.old).world.srq slot).srq (λ z. stands_once place z.taken ≡ true) }
     ensures { holding held.new ≡ hold (holding held.old) (Srq_of slot) (record ((holding held.old).world.srq slot) {
-        srq = option_map (after_receive_retire place) ((holding held.old).world.srq slot).srq;
+      srq = option_map (after_receive_retire place) ((holding held.old).world.srq slot).srq;
     }) }
 {
     if let Some(srq) = &mut held.srq_mut(slot).srq {

@@ -13,8 +13,8 @@ free_all-requires-clause-held c =
     let within : c.args.least ≤ c.args.n = search rules in
     let enough : c.args.least ≤ length c.as_slice-completions.result.now = search rules in
     poll_places_held (holding c.args.held.now).has (holding c.args.held.now).world (call_of c.args.call.now) c.args.slot c.args.n c.args.least
-        (length c.as_slice-completions.result.now) c.in-Some.cq c.in_ok-polled.polled c.as_slice-completions.result.now
-        is some few within enough refl (search rules) (search rules) c.requires.suffices
+    (length c.as_slice-completions.result.now) c.in-Some.cq c.in_ok-polled.polled c.as_slice-completions.result.now
+    is some few within enough refl (search rules) (search rules) c.requires.suffices
 
 pub returns : goal.returns
 returns c =
