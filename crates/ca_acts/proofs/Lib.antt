@@ -1,1 +1,1 @@
-mod RefusalLemmas
+pub mod RefusalLemmas

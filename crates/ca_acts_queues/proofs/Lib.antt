@@ -4,3 +4,5 @@ mod FreeableLemmas
 mod FreedLemmas
 mod PollLemmas
 mod PostingLemmas
+mod ReceiveLemmas
+mod SendLemmas
