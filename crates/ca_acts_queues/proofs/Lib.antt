@@ -6,3 +6,4 @@ mod PollLemmas
 mod PostingLemmas
 mod ReceiveLemmas
 mod SendLemmas
+mod TakingLemmas

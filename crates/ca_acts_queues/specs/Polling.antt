@@ -52,26 +52,29 @@ freed_of s (Some srq) c w = put w (Srq_of (shared_at s srq)) (record (w.srq (sha
   srq = option_map (after_receive_retire c.place) (w.srq (shared_at s srq)).srq;
 })
 
--- it can be freed: a place of a queue pair is below the end of its type; one of a shared receive queue stands there once
+-- it can be freed: in a queue pair it is below the end of its type, in a shared receive queue it stands once
 abbrev pub CanFreeOf : Slot → Option ℕ → Completion → World → Type 0
 CanFreeOf s None c w = IfPresent (w.queue c.queue) (CanRetire c)
 CanFreeOf s (Some srq) c w = IfSome (w.srq (shared_at s srq)).srq (λ z. stands_once c.place z.taken ≡ true)
 
--- the same of completions, one after another
+-- a world after what completions stand for was freed, one after another
 abbrev pub freed_all : Slot → Option CompletionQueue → List Completion → World → World
 freed_all s cq [] w = w
 freed_all s cq (c ∷ cs) w = freed_all s cq cs (freed_of s (source_at cq c) c w)
 
+-- it can be freed, one after another
 abbrev pub CanFreeAll : Slot → Option CompletionQueue → List Completion → World → Type 0
 CanFreeAll s cq [] w = Unit {0}
 CanFreeAll s cq (c ∷ cs) w = CanFreeOf s (source_at cq c) c w × CanFreeAll s cq cs (freed_of s (source_at cq c) c w)
 
+-- the things in which they free something
 abbrev pub places_of : Slot → Option CompletionQueue → List Completion → List Name
 places_of s cq cs = map (λ c. place_of s (source_at cq c) c) cs
 
 -- the places of a shared receive queue for which these completions stand
 abbrev pub places_from : CompletionQueue → ℕ → List Completion → List ℕ
-places_from cq srq cs = map (λ c. c.place) (filter (λ c. option_eq (λ a b. a == b) (Some srq) (source_of_completion cq c)) cs)
+places_from cq srq cs =
+    map (λ c. c.place) (filter (λ c. option_eq (λ a b. a == b) (Some srq) (source_of_completion cq c)) cs)
 
 -- what each completion that waits stands for can be freed
 abbrev pub CanFreeEach : Slot → World → CompletionQueue → Type 0
@@ -85,5 +88,6 @@ AreOfOwnPlaces cq = (srq : ℕ) → IsDistinct (λ a b. a == b) (places_from cq 
 abbrev pub IsApart : CompletionQueue → QueueId → QueueSlot → Type 0
 IsApart cq q slot = is_some (source_in cq.reservations q) ≡ true → IfPresent slot (λ p. p.receives ≡ None)
 
+-- the same of all queue pairs
 abbrev pub AreApart : World → CompletionQueue → Type 0
 AreApart w cq = (q : QueueId) → IsApart cq q (w.queue q)

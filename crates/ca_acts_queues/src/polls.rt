@@ -1,8 +1,7 @@
-ghost use Rattle.std.specs.Prelude.{◌≡◌, ◌≤◌, ◌<◌, ◌^◌, suc, true, None, [], ◌∷◌, IfOk, IfSome, is_some, length, take};
+ghost use Rattle.std.specs.Prelude.{◌≡◌, ◌≤◌, true, IfOk, IfSome, take};
 ghost use Rattle.std.specs.Option.{option_map};
 ghost use Rattle.ca_base.specs.declared.limits.TheConstants.{MAX_POLLED};
 ghost use Rattle.ca_base.specs.objects.CompletionQueue.{after_polls};
-ghost use Rattle.ca_keys.specs.declared.names.QueueId.{QueueId};
 ghost use Rattle.ca_held.specs.HeldView.{hold, holding};
 ghost use Rattle.ca_model.specs.machine.CompletionVerbs.{poll_plan};
 ghost use Rattle.ca_model.specs.machine.Frame.{AllPass};
@@ -13,7 +12,8 @@ ghost use Rattle.ca_srq.specs.Taken.{stands_once};
 ghost use Rattle.ca_acts.specs.Act.{Acts, Suffices};
 ghost use Rattle.ca_acts.specs.Calls.{call_of};
 ghost use Rattle.ca_acts_queues.specs.Posting.{IfPresent, slot_with};
-ghost use Rattle.ca_acts_queues.specs.Polling.{AreApart, AreOfOwnPlaces, CanFreeAll, CanFreeEach, CanFreeOf, CanRetire, place_freed, freed_all, freed_of, place_of, places_of, source_at};
+ghost use Rattle.ca_acts_queues.specs.Polling.{AreApart, AreOfOwnPlaces, CanFreeAll, CanFreeEach, CanFreeOf, CanRetire};
+ghost use Rattle.ca_acts_queues.specs.Polling.{freed_all, freed_of, place_freed, place_of, places_of, source_at};
 
 use ca_acts::Call;
 use ca_base::limits::MAX_POLLED;
@@ -24,9 +24,9 @@ use ca_model::{Answer, Completions, Marks, Refusal};
 use ca_qpstate::QueuePart;
 use std::alloc::Global;
 
-/// Poll: the first completions are taken, at most so many, and the places that they stand for are free again. The refusals
-/// in order are `NoSuch` and `OutOfRange` where none, more than `MAX_POLLED` or fewer than at least are asked for. It is not
-/// possible, `Empty`, while fewer wait than at least are asked for. `Memory` leaves all as it was.
+/// Poll: the first completions are taken, at most so many, and the places that they stand for are free again. Refusals in
+/// order are `NoSuch`, and `OutOfRange` where none, more than `MAX_POLLED` or fewer than at least are asked for. It is
+/// not possible, `Empty`, while fewer wait than at least are asked for. `Memory` leaves all as it was.
 #[tactic(auto, using(crate::proofs::PollLemmas::poll_places_held, crate::proofs::PollLemmas::poll_can_free, crate::proofs::PollLemmas::poll_acts))]
 pub fn poll(
     call: &Call<'_>,

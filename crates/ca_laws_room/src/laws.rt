@@ -1,4 +1,5 @@
-ghost use Rattle.std.specs.Prelude.{◌≡◌, ◌==◌, ℕ, ◌+◌, ◌≤◌, ◌<◌, true, List, ◌∷◌, ◌++◌, None, Some, filter, is_some, length, map};
+ghost use Rattle.std.specs.Prelude.{◌≡◌, ◌==◌, ℕ, ◌+◌, ◌≤◌, ◌<◌, true, List, ◌∷◌, ◌++◌, Some};
+ghost use Rattle.std.specs.Prelude.{filter, is_some, length, map};
 ghost use Rattle.std.specs.List.{AllByRecursion, IsDistinct};
 ghost use Rattle.std.specs.Option.{option_eq};
 ghost use Rattle.ca_base.specs.Configuration.{Configuration};
@@ -68,8 +69,8 @@ pub fn waiting_receives_stand_once()
         → stands_once x.place z.taken ≡ true) v.waiting }
 {}
 
-/// Where completions of receives wait that were taken of one shared receive queue, no two of them stand for one place of it,
-/// so that `Srq::retire` frees the places one after another.
+/// Where completions of receives wait that were taken of one shared receive queue, no two stand for one place of it, so
+/// that `Srq::retire` frees the places one after another.
 pub fn waiting_receives_stand_apart()
     ensures { (c : Configuration) (w : World) (s : Slot) (v : CompletionQueue) (srq : ℕ) → IsSoundWorld c w → HasRoom w
         → w.cq s ≡ Some v → IsDistinct (λ a b. a == b) (map (λ x. x.place)
