@@ -1,2 +1,2 @@
-mod RefusalLemmas
+pub mod RefusalLemmas
 mod CompletionLemmas

@@ -1,6 +1,6 @@
--- The first refusal of a region answers a verb. For proofs only.
-use Rattle.std.proofs.Common.{◌≡◌, ◌∙◌, sym, ap, ap₂, ℕ, Bool, true, false, not, List, [], ◌∷◌, Some, Ok, is_some, if◌then◌else◌, true≢false}
-use Rattle.std.specs.Option.{option_map_or}
+-- The first refusal that holds answers a verb, and that of a region. For proofs only.
+use Rattle.std.proofs.Common.{◌≡◌, ◌∙◌, refl, sym, ap, ap₂, ℕ, Bool, true, false, not, List, [], ◌∷◌, None, Some, Ok, is_some, if◌then◌else◌, true≢false}
+use Rattle.std.specs.Option.{option_map, option_map_or}
 use Rattle.std.specs.Result.{result_ok}
 use Rattle.ca_keys.specs.Refusals.{first_of}
 use Rattle.ca_base.specs.declared.refusals.RegionError.{RegionError}
@@ -21,27 +21,53 @@ use Rattle.ca_keys.specs.declared.names.Slot.{Slot}
 use Rattle.ca_keys.specs.declared.place.Run.{Run}
 use Rattle.ca_keys.specs.declared.rights.Rights.{Rights}
 
--- what comes of a verb that a region refuses
-refused_by : World → Call → RegionError → Outcome
-refused_by w call e = Did w (answer_mark call (answers.Refused (option_map_or (λ r. r) (result_ok (refusal_of_region e)) refusals.NoSuch)) ∷ [])
-
-first-refused : (w : World) (call : Call) (p : Plan) (tests : List (Bool × RegionError)) (e : RegionError) → first_of tests ≡ Some e
-    → perform w (Unless_plan call (of_region_refusals tests) p) ≡ refused_by w call e
-unfolding refused_by
-first-refused w call p [] e is = absurd (true≢false (sym (ap is_some is)))
-first-refused w call p (t ∷ ts) e is = by t.0 is (first-refused w call p ts e)
+-- the first refusal that holds answers the verb; where none holds, the plan goes on
+pub unless-refused : (w : World) (call : Call) (p : Plan) (tests : List (Bool × Refusal)) (r : Refusal) → first_of tests ≡ Some r
+    → perform w (Unless_plan call tests p) ≡ Did w (answer_mark call (answers.Refused r) ∷ [])
+unless-refused w call p [] r is = absurd (true≢false (sym (ap is_some is)))
+unless-refused w call p (t ∷ ts) r is = by t.0 is (unless-refused w call p ts r)
   where
-    by : (b : Bool) → (if b then Some t.1 else first_of ts) ≡ Some e → (first_of ts ≡ Some e → perform w (Unless_plan call (of_region_refusals ts) p) ≡ refused_by w call e)
-        → (if b then refused_by w call t.1 else perform w (Unless_plan call (of_region_refusals ts) p)) ≡ refused_by w call e
-    by true is again = ap (λ o. option_map_or (refused_by w call) o (refused_by w call e)) is
+    refused : Refusal → Outcome
+    refused x = Did w (answer_mark call (answers.Refused x) ∷ [])
+
+    by : (b : Bool) → (if b then Some t.1 else first_of ts) ≡ Some r → (first_of ts ≡ Some r → perform w (Unless_plan call ts p) ≡ refused r)
+        → (if b then refused t.1 else perform w (Unless_plan call ts p)) ≡ refused r
+    by true is again = ap (λ o. option_map_or refused o (refused r)) is
     by false is again = again is
+
+pub unless-passed : (w : World) (call : Call) (p : Plan) (tests : List (Bool × Refusal)) → first_of tests ≡ None
+    → perform w (Unless_plan call tests p) ≡ perform w p
+unless-passed w call p [] is = refl
+unless-passed w call p (t ∷ ts) is = by t.0 is (unless-passed w call p ts)
+  where
+    refused : Outcome
+    refused = Did w (answer_mark call (answers.Refused t.1) ∷ [])
+
+    by : (b : Bool) → (if b then Some t.1 else first_of ts) ≡ None → (first_of ts ≡ None → perform w (Unless_plan call ts p) ≡ perform w p)
+        → (if b then refused else perform w (Unless_plan call ts p)) ≡ perform w p
+    by true is again = absurd (true≢false (ap is_some is))
+    by false is again = again is
+
+-- the first refusal of a region, as a verb's
+refusal_by : RegionError → Refusal
+refusal_by e = option_map_or (λ r. r) (result_ok (refusal_of_region e)) refusals.NoSuch
+
+first-of-region : (tests : List (Bool × RegionError)) → first_of (of_region_refusals tests) ≡ option_map refusal_by (first_of tests)
+unfolding refusal_by
+first-of-region [] = refl
+first-of-region (t ∷ ts) = by t.0 (first-of-region ts)
+  where
+    by : (b : Bool) → first_of (of_region_refusals ts) ≡ option_map refusal_by (first_of ts)
+        → (if b then Some (refusal_by t.1) else first_of (of_region_refusals ts)) ≡ option_map refusal_by (if b then Some t.1 else first_of ts)
+    by true again = refl
+    by false again = again
 
 pub region_refused : (w : World) (call : Call) (p : Plan) (tests : List (Bool × RegionError)) (e : RegionError) (r : Refusal) → first_of tests ≡ Some e
     → Ok r ≡ refusal_of_region e
     → perform w (Unless_plan call (of_region_refusals tests) p) ≡ Did w (answer_mark call (answers.Refused r) ∷ [])
-unfolding refused_by
-region_refused w call p tests e r first is = first-refused w call p tests e first
-    ∙ ap (λ x. Did w (answer_mark call (answers.Refused (option_map_or (λ y. y) (result_ok x) refusals.NoSuch)) ∷ [])) (sym is)
+unfolding refusal_by
+region_refused w call p tests e r first is = unless-refused w call p (of_region_refusals tests) r
+    (first-of-region tests ∙ ap (option_map refusal_by) first ∙ ap (λ x. Some (option_map_or (λ y. y) (result_ok x) refusals.NoSuch)) (sym is))
 
 -- DeregMr, and RegMr of a vacant slot in a domain that is allocated
 pub dereg_refused : (w : World) (call : Call) (s : Slot) (e : RegionError) (r : Refusal) → first_of (deregistration_refusals (w.region s)) ≡ Some e

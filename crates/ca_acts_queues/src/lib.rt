@@ -9,10 +9,12 @@
 
 mod drawing;
 mod flushes;
+mod polls;
 mod receives;
 mod refusals;
 mod sends;
 mod states;
 
+pub use polls::poll;
 pub use receives::post_recv;
 pub use sends::post_send;

@@ -21,7 +21,7 @@ use ca_qpstate::QueuePart;
 /// PostRecv: a receive is posted to a queue pair's own receive queue. The refusals in order are `NoSuch`, `HasSrq`,
 /// `TooLong`, `QueueState` in Reset, and `QueueFull`. In Error all that is unfinished is flushed at once, this receive
 /// last. `Memory` leaves all as it was. That a receive is posted in Error is this profile's choice.
-#[tactic(auto, using(crate::proofs::PostingLemmas::recv_refused, crate::proofs::PostingLemmas::recv_absent, crate::proofs::PostingLemmas::recv_held, crate::proofs::PostingLemmas::recv_acts, crate::proofs::PostingLemmas::recv_has_place, crate::proofs::PostingLemmas::recv_fits))]
+#[tactic(auto, using(crate::proofs::ReceiveLemmas::recv_refused, crate::proofs::ReceiveLemmas::recv_absent, crate::proofs::ReceiveLemmas::recv_held, crate::proofs::ReceiveLemmas::recv_acts, crate::proofs::ReceiveLemmas::recv_has_place, crate::proofs::ReceiveLemmas::recv_fits))]
 pub fn post_recv(
     call: &Call<'_>,
     held: &mut Held,

@@ -148,7 +148,7 @@ apart-passing p D holds n place (y ∷ ys) held all none =
     by false e rest = rest
 
 -- places of completions that pass a test: each is held by its queue pair, and of one queue pair none stands twice
-distinct-passing : (p : Completion → Bool) (D : QueueId → Type 0) (holds : ℕ → QueueId) (xs : List Completion)
+pub distinct-passing : (p : Completion → Bool) (D : QueueId → Type 0) (holds : ℕ → QueueId) (xs : List Completion)
     → AllByRecursion (λ x. p x ≡ true → (x.receive ≡ true) × D x.queue × (holds x.place ≡ x.queue)) xs
     → ((n : QueueId) → D n → AreDistinct (places_of_side n true xs)) → AreDistinct (map (λ c. c.place) (filter p xs))
 distinct-passing p D holds [] all each = record {}

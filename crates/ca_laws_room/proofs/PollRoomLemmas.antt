@@ -295,8 +295,21 @@ source-takes uses depths s (r ∷ rs) n t due is = by (queue_eq (user_of r.who) 
     by true e is rest = at r.who r.room (queue-path (user_of r.who) n e) due.0 is rest
     by false e is rest = rest is
 
+-- a queue pair that takes its receives of a shared receive queue has none of its own
+pub takes-none : (c : Configuration) (w : World) (s : Slot) (t : ℕ) (n : QueueId) (q : QueuePair) → IsSoundWorld c w → w.queue n ≡ Present q
+    → TakesFrom s t (use_of (w.queue n)) → q.receives ≡ None
+takes-none c w s t n q sound is from = none q.receives ((sound-queue c w n q sound is).source ∙ own q.srq refl (ap is_some (subst (λ z. TakesFrom s t (use_of z)) is from).1))
+  where
+    own : (o : Option ℕ) → q.srq ≡ o → is_some (option_map (srq_of q) o) ≡ true → is_none q.srq ≡ false
+    own None e has = absurd (true≢false (sym has))
+    own (Some t) e has = ap is_none e
+
+    none : (o : Option (WorkQueue RecvRequest)) → is_some o ≡ false → o ≡ None
+    none None e = refl
+    none (Some r) e = absurd (true≢false e)
+
 -- a completion that has a source is of a receive
-source-receive : (cq : CompletionQueue) (c : Completion) (t : ℕ) → source_of_completion cq c ≡ Some t → (c.receive ≡ true) × (source_in cq.reservations c.queue ≡ Some t)
+pub source-receive : (cq : CompletionQueue) (c : Completion) (t : ℕ) → source_of_completion cq c ≡ Some t → (c.receive ≡ true) × (source_in cq.reservations c.queue ≡ Some t)
 source-receive cq c t is = by c.receive refl is
   where
     by : (b : Bool) → c.receive ≡ b → (if b then source_in cq.reservations c.queue else None) ≡ Some t → (c.receive ≡ true) × (source_in cq.reservations c.queue ≡ Some t)
@@ -456,17 +469,6 @@ polled-room c w s cq xs rest taken = subst (λ f. HaveRoom v.queue f v.srq) (sym
         → AllByRecursion (λ c. queue_eq c.queue n ≡ true → (c.receive ≡ true) × (q.receives ≡ None)) xs
     not-freed n q is all = all-map (λ c. frees_queue cq n c ≡ false) (λ c. queue_eq c.queue n ≡ true → (c.receive ≡ true) × (q.receives ≡ None)) one xs all
       where
-        own : (o : Option ℕ) → q.srq ≡ o → is_some (option_map (srq_of q) o) ≡ true → is_none q.srq ≡ false
-        own None e has = absurd (true≢false (sym has))
-        own (Some t) e has = ap is_none e
-
-        none : (o : Option (WorkQueue RecvRequest)) → is_some o ≡ false → o ≡ None
-        none None e = refl
-        none (Some r) e = absurd (true≢false e)
-
-        takes : (t : ℕ) → TakesFrom s t (use_of (w.queue n)) → q.receives ≡ None
-        takes t from = none q.receives ((sound-queue c w n q taken.at.sound is).source ∙ own q.srq refl (ap is_some (subst (λ z. TakesFrom s t (use_of z)) is from).1))
-
         one : (x : Completion) → frees_queue cq n x ≡ false → queue_eq x.queue n ≡ true → (x.receive ≡ true) × (q.receives ≡ None)
         one x e same = at (source_of_completion cq x) refl
           where
@@ -474,7 +476,7 @@ polled-room c w s cq xs rest taken = subst (λ f. HaveRoom v.queue f v.srq) (sym
             at None f = absurd (true≢false (sym (ap₂ (λ a b. is_none a && b) f same) ∙ e))
             at (Some t) f = (
               (source-receive cq x t f).0,
-              takes t (subst (λ m. TakesFrom s t (use_of (w.queue m))) (queue-path x.queue n same)
+              takes-none c w s t n q taken.at.sound is (subst (λ m. TakesFrom s t (use_of (w.queue m))) (queue-path x.queue n same)
                   (source-takes (λ n. use_of (w.queue n)) (λ t. depth_of (w.srq t)) s cq.reservations x.queue t (at-due c w s cq taken.at) (source-receive cq x t f).1)),
             )
 

@@ -1,5 +1,7 @@
-ghost use Rattle.std.specs.Prelude.{◌≡◌, ℕ, ◌+◌, ◌≤◌, ◌<◌, true, List, ◌∷◌, ◌++◌, length, Some, is_some};
-ghost use Rattle.std.specs.List.{AllByRecursion};
+ghost use Rattle.std.specs.Prelude.{◌≡◌, ◌==◌, ℕ, ◌+◌, ◌≤◌, ◌<◌, true, List, ◌∷◌, ◌++◌, Some};
+ghost use Rattle.std.specs.Prelude.{filter, is_some, length, map};
+ghost use Rattle.std.specs.List.{AllByRecursion, IsDistinct};
+ghost use Rattle.std.specs.Option.{option_eq};
 ghost use Rattle.ca_base.specs.Configuration.{Configuration};
 ghost use Rattle.ca_base.specs.declared.completion.Completion.{Completion};
 ghost use Rattle.ca_base.specs.declared.limits.TheConstants.{MAX_DEPTH};
@@ -16,6 +18,7 @@ ghost use Rattle.ca_cq.specs.Room.{is_new_side};
 ghost use Rattle.ca_laws_room.specs.Room.{HasRoom, HasSide, rooms_of};
 ghost use Rattle.ca_model.specs.declared.event.Event.{Event};
 ghost use Rattle.ca_model.specs.declared.mark.Mark.{Mark};
+ghost use Rattle.ca_model.specs.machine.CompletionVerbs.{source_of_completion};
 ghost use Rattle.ca_model.specs.machine.Frame.{Afterwards};
 ghost use Rattle.ca_model.specs.machine.Plan.{Did};
 ghost use Rattle.ca_model.specs.machine.Sound.{AreLimited, CanBeMade, IsSoundWorld};
@@ -64,6 +67,22 @@ pub fn waiting_receives_stand_once()
         → IsSoundWorld c w → HasRoom w → w.cq s ≡ Some v → (w.srq (record s { slot = srq })).srq ≡ Some z
         → AllByRecursion (λ x. x.receive ≡ true → source_in v.reservations x.queue ≡ Some srq
         → stands_once x.place z.taken ≡ true) v.waiting }
+{}
+
+/// Where completions of receives wait that were taken of one shared receive queue, no two stand for one place of it, so
+/// that `Srq::retire` frees the places one after another.
+pub fn waiting_receives_stand_apart()
+    ensures { (c : Configuration) (w : World) (s : Slot) (v : CompletionQueue) (srq : ℕ) → IsSoundWorld c w → HasRoom w
+        → w.cq s ≡ Some v → IsDistinct (λ a b. a == b) (map (λ x. x.place)
+        (filter (λ x. option_eq (λ a b. a == b) (Some srq) (source_of_completion v x)) v.waiting)) }
+{}
+
+/// A queue pair that reserved in a completion queue for a shared receive queue has no receives of its own. So what
+/// completes there of its receives frees places of the shared receive queue alone.
+pub fn sharing_queues_have_no_receives()
+    ensures { (c : Configuration) (w : World) (s : Slot) (v : CompletionQueue) (queue : QueueId) (q : QueuePair)
+        → IsSoundWorld c w → HasRoom w → w.cq s ≡ Some v → w.queue queue ≡ Present q
+        → is_some (source_in v.reservations queue) ≡ true → q.receives ≡ None }
 {}
 
 /// Where a slot has no queue pair, neither of its sides has a reservation in any completion queue. So the sides of a new

@@ -11,6 +11,6 @@ mod laws;
 
 pub use laws::{
     completion_queues_hold_what_waits, completions_of_an_event_fit, event_keeps_room,
-    opening_world_has_room, queues_in_use_are_there, vacant_slots_reserve_nothing,
-    waiting_receives_stand_once,
+    opening_world_has_room, queues_in_use_are_there, sharing_queues_have_no_receives,
+    vacant_slots_reserve_nothing, waiting_receives_stand_apart, waiting_receives_stand_once,
 };

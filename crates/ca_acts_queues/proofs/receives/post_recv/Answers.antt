@@ -5,7 +5,7 @@ use Rattle.ca_keys.specs.Numbers.{queue_of}
 use Rattle.ca_held.specs.HeldView.{holding}
 use Rattle.ca_model.specs.machine.Sound.{IsQueueOf}
 use Rattle.ca_acts.specs.Calls.{call_of}
-use Rattle.ca_acts_queues.proofs.PostingLemmas.{recv_acts}
+use Rattle.ca_acts_queues.proofs.ReceiveLemmas.{recv_acts}
 use Rattle.ca_acts_queues.proofs.receives.post_recv.Goals as goal
 
 pub returns : goal.returns

@@ -1,0 +1,30 @@
+use Rattle.std.proofs.Common.{rules, ◌≡◌, ◌≤◌, ◌<◌, refl, length, Some}
+use Rattle.ca_base.specs.declared.limits.TheConstants.{MAX_POLLED}
+use Rattle.ca_held.specs.HeldView.{holding}
+use Rattle.ca_acts.specs.Calls.{call_of}
+use Rattle.ca_acts_queues.proofs.PollLemmas.{poll_acts, poll_places_held}
+use Rattle.ca_acts_queues.proofs.polls.poll.Goals as goal
+
+pub free_all-requires-clause-held : goal.free_all-requires-clause-held
+free_all-requires-clause-held c =
+    let is : (holding c.args.held.now).world.cq c.args.slot ≡ Some c.in-Some.cq = search rules in
+    let some : 0 < c.args.n = search rules in
+    let few : c.args.n ≤ MAX_POLLED = search rules in
+    let within : c.args.least ≤ c.args.n = search rules in
+    let enough : c.args.least ≤ length c.as_slice-completions.result.now = search rules in
+    poll_places_held (holding c.args.held.now).has (holding c.args.held.now).world (call_of c.args.call.now) c.args.slot c.args.n c.args.least
+    (length c.as_slice-completions.result.now) c.in-Some.cq c.in_ok-polled.polled c.as_slice-completions.result.now
+    is some few within enough refl (search rules) (search rules) c.requires.suffices
+
+pub returns : goal.returns
+returns c =
+    let is : (holding c.args.held.now).world.cq c.args.slot ≡ Some c.in-Some.cq = search rules in
+    let some : 0 < c.args.n = search rules in
+    let few : c.args.n ≤ MAX_POLLED = search rules in
+    let within : c.args.least ≤ c.args.n = search rules in
+    let enough : c.args.least ≤ length c.as_slice-completions.result.now = search rules in
+    record {
+      act = poll_acts (holding c.args.held.now) (holding c.free_all.new.held) (holding c.take_first.new.held) (call_of c.args.call.now) c.args.slot c.args.n c.args.least
+          (length c.as_slice-completions.result.now) c.in-Some.cq c.in_ok-polled.polled c.as_slice-completions.result.now c.answer.result
+          is c.requires.apart some few within enough refl (search rules) (search rules) (search rules) (search rules) (search rules);
+    }
