@@ -1,5 +1,5 @@
 -- What a requester's turn needs, by what was found of it. For proofs only.
-use Rattle.std.proofs.Common.{◌≡◌, ◌∙◌, refl, sym, ap, subst, Bool, true, false, List, [], ◌∷◌, ◌×◌, Option, None, Some, if◌then◌else◌, true≢false, ℕ}
+use Rattle.std.proofs.Common.{◌≡◌, ◌∙◌, refl, sym, ap, subst, Bool, true, false, List, [], ◌∷◌, Option, None, Some, if◌then◌else◌, true≢false, ℕ}
 use Rattle.std.proofs.lemmas.Option.{none-some}
 use Rattle.std.specs.Option.{option_map, option_map_or}
 use Rattle.ca_base.specs.Configuration.{Configuration}
@@ -16,6 +16,7 @@ use Rattle.ca_model.specs.machine.Numbering.{Numbered}
 use Rattle.ca_model.specs.machine.Parts.{Enough, Needs, Part, operation_needs, part, request_needs, row_needs, where_some}
 use Rattle.ca_model.specs.machine.Requester.{Performs, RequestTurn, Sends, Waits, is_too_much, next_request, packet_row, turn_of, turn_refusals}
 use Rattle.ca_model.specs.machine.Row.{Does, Effects, Ending, NotPossible, Row, plain_row}
+use Rattle.ca_needs.specs.Next.{is_full}
 use Rattle.ca_sending.specs.declared.turn.Found.{Found}
 use Rattle.ca_sending.specs.Turn.{IsWaiting, SendsFound, is_performing, operation_in, turn_row}
 
@@ -40,11 +41,6 @@ sends_some c q f p s peer = rw (s.turn, peer) refl
 pub sends_no_key : (q : QueuePair) (f : Found) → SendsFound q f → None ≡ (turn_row q true).invalidation
 sends_no_key q f s = rw (s.turn, s.sending.fits) refl
 
--- the turn waits: a packet would be too much, or there is nothing to send
-pub is_full : Reason → Bool
-is_full reasons.Outstanding = true
-is_full reason = false
-
 reason_of : Ending → Reason
 reason_of (NotPossible reason) = reason
 reason_of (Does e) = reasons.Empty
@@ -62,7 +58,6 @@ is_waiting (Waits reason) = true
 is_waiting t = false
 
 not-full : (q : QueuePair) (reason : Reason) → first_of (turn_refusals q) ≡ Some reason → is_full reason ≡ false
-unfolding is_full
 not-full q reason is = by _ _ _ _ is
   where
     full : Option Reason → Bool
@@ -76,7 +71,7 @@ not-full q reason is = by _ _ _ _ is
     by false false false false is = absurd (none-some reason is)
 
 waits-of : (q : QueuePair) (reason : Reason) → turn_of q ≡ Waits reason → is_full reason ≡ false
-unfolding is_full reason_in is_waiting
+unfolding reason_in is_waiting
 waits-of q reason is = by (first_of (turn_refusals q)) refl (next_request q) is
   where
     turn : Option Reason → Option Numbered → RequestTurn
@@ -116,17 +111,16 @@ module _ (c : Configuration) (q : QueuePair) (reason : Reason) (w : IsWaiting q 
       by false m = absurd (true≢false (let does : is_possible ((packet_row q true n).allowed [] None) ≡ true = rw m refl in
           sym does ∙ ap (λ row. is_possible (row.allowed [] None)) (sym same ∙ w.row true)))
 
-pub waits_full : (c : Configuration) (q : QueuePair) → IsWaiting q reasons.Outstanding → request_needs c q (turn_of q) ≡ where_some (λ p. part (names.Mailbox p.queue)) q.peer
-unfolding is_full
-waits_full c q w = by (turn_of q) refl
+pub waits_full : (c : Configuration) (q : QueuePair) (reason : Reason) → IsWaiting q reason → is_full reason ≡ true
+    → request_needs c q (turn_of q) ≡ where_some (λ p. part (names.Mailbox p.queue)) q.peer
+waits_full c q reason w full = by (turn_of q) refl
   where
     by : (t : RequestTurn) → turn_of q ≡ t → request_needs c q t ≡ where_some (λ p. part (names.Mailbox p.queue)) q.peer
-    by (Waits r) e = absurd (true≢false (ap is_full (sym (waits-or c q reasons.Outstanding w r e)) ∙ waits-of q r e))
-    by (Performs n) e = absurd (performs-not c q reasons.Outstanding w n e)
-    by (Sends n) e = rw (sends-much c q reasons.Outstanding w n e).0 refl
+    by (Waits r) e = absurd (true≢false (sym full ∙ ap is_full (sym (waits-or c q reason w r e)) ∙ waits-of q r e))
+    by (Performs n) e = absurd (performs-not c q reason w n e)
+    by (Sends n) e = rw (sends-much c q reason w n e).0 refl
 
 pub waits_other : (c : Configuration) (q : QueuePair) (reason : Reason) → IsWaiting q reason → is_full reason ≡ false → request_needs c q (turn_of q) ≡ Enough
-unfolding is_full
 waits_other c q reason w other = by (turn_of q) refl
   where
     by : (t : RequestTurn) → turn_of q ≡ t → request_needs c q t ≡ Enough

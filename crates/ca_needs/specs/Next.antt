@@ -1,5 +1,7 @@
 -- Which part is needed next beside those in hand. Contracts cite it.
-use Rattle.std.specs.Prelude.{◌≡◌, Option, None, Some, IfNone, IfSome}
+use Rattle.std.specs.Prelude.{◌≡◌, Bool, true, false, Option, None, Some}
+use Rattle.ca_base.specs.declared.step.Reason.{Reason}
+use Rattle.ca_base.specs.declared.step.Reason.TheVariants as reasons
 use Rattle.ca_base.specs.objects.QueuePair.{NoQueue, Present, QueuePair, QueueSlot}
 use Rattle.ca_base.specs.objects.SharedReceives.{SharedReceives}
 use Rattle.ca_held.specs.declared.held.Held.{Held}
@@ -22,3 +24,8 @@ IsNextAround h q None = (more : Option SharedReceives → Needs)
 abbrev pub IfPresent : (QueuePair → Type 0) → QueueSlot → Type 0
 IfPresent P (NoQueue incarnation timers) = Unit {0}
 IfPresent P (Present q) = P q
+
+-- a turn waits because too much would be outstanding
+abbrev pub is_full : Reason → Bool
+is_full reasons.Outstanding = true
+is_full reason = false

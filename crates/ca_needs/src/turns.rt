@@ -9,6 +9,7 @@ ghost use Rattle.ca_model.specs.machine.Parts.{Part, event_needs, operation_need
 ghost use Rattle.ca_model.specs.machine.Requester.{turn_of};
 ghost use Rattle.ca_model.specs.machine.Respond.{respond_row};
 ghost use Rattle.ca_sending.specs.Turn.{IsWaiting, SendsFound};
+ghost use Rattle.ca_needs.specs.Next as next;
 ghost use Rattle.ca_needs.specs.Next.{IfPresent, next_of};
 
 use crate::around::{around, beside, peer};
@@ -194,17 +195,18 @@ fn waiting(held: &Held, q: &QueuePart, reason: Reason) -> Option<PartName>
     requires { IsWaiting q.now reason }
     ensures { (c : Configuration) → result ≡ next_of held.now (request_needs c q.now (turn_of q.now)) }
 {
-    match reason {
-        Reason::Outstanding => match q.peer {
-            Some((peer, _)) => missing(held, PartName::Mailbox(peer)),
-            None => None,
-        },
-        Reason::Empty
-        | Reason::State
-        | Reason::NoRoom
-        | Reason::Fence
-        | Reason::RnrWait
-        | Reason::NotKept
-        | Reason::NotDue => None,
+    if !is_full(reason) {
+        return None;
     }
+    match q.peer {
+        Some((peer, _)) => missing(held, PartName::Mailbox(peer)),
+        None => None,
+    }
+}
+
+/// Whether a turn waits because too much would be outstanding.
+fn is_full(reason: Reason) -> bool
+    ensures { result ≡ next.is_full reason }
+{
+    matches!(reason, Reason::Outstanding)
 }
