@@ -9,7 +9,7 @@ ghost use Rattle.ca_model.specs.machine.Delivery.{arrival_row};
 ghost use Rattle.ca_model.specs.machine.Invariants.{IsSharedReceives};
 ghost use Rattle.ca_model.specs.machine.Parts.{Part, arrival_needs, event_needs, present_needs, row_needs};
 ghost use Rattle.ca_model.specs.machine.Seen.{shared_receives};
-ghost use Rattle.ca_needs.specs.Next.{IfPresent, next_of};
+ghost use Rattle.ca_needs.specs.Next.{IfPresent, IsNextAround, next_of};
 
 use crate::around::{around, beside};
 use crate::keys::row;
@@ -38,11 +38,20 @@ pub(crate) fn arrival(
     if let Some(name) = around(held, q) {
         return Some(name);
     }
-    let srq = match q.srq {
+    let srq = receives(held, q);
+    arrived(settings, held, q, srq, bytes)
+}
+
+/// The shared receives of a queue pair around which nothing is missing.
+#[tactic(auto, using(crate::proofs::HasLemmas::holds, crate::proofs::ReadyLemmas::around_srq))]
+fn receives<'a>(held: &'a Held, q: &QueuePart) -> Option<&'a Srq>
+    requires { IsNextAround held.now q.now None }
+    ensures { option_copied result ≡ shared_receives (holding held.now).world q.now }
+{
+    match q.srq {
         Some(srq) => held.srq(beside(q, srq)).srq.as_ref(),
         None => None,
-    };
-    arrived(settings, held, q, srq, bytes)
+    }
 }
 
 /// What the row asks for that bytes which arrive meet, and the key that it ends.
