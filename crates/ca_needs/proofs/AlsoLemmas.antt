@@ -1,7 +1,7 @@
 -- What is needed next of what is needed first and what else. For proofs only.
 use Rattle.std.proofs.Common.{◌≡◌, ◌∙◌, refl, sym, ap, arith, ℕ, zero, suc, ◌+◌, ◌<◌, drop, take, slice_get, Bool, true, false, List, [], ◌∷◌, Option, None, Some, if◌then◌else◌}
 use Rattle.std.proofs.lemmas.Option.{none-some}
-use Rattle.std.specs.Option.{option_and_then, option_map, option_map_or}
+use Rattle.std.specs.Option.{option_and_then, option_map_or}
 use Rattle.ca_base.specs.declared.completion.Completion.{Completion}
 use Rattle.ca_base.specs.objects.CompletionQueue.{CompletionQueue}
 use Rattle.ca_keys.specs.declared.names.Slot.{Slot}
@@ -14,7 +14,7 @@ use Rattle.ca_model.specs.declared.part_name.PartName.TheVariants as names
 use Rattle.ca_base.specs.Configuration.{Configuration}
 use Rattle.ca_model.specs.machine.Parts.{By, Enough, Needs, Part, also, asks_needs, buffer_needs, ending_needs, next_part, part, part_of, place_part, places_needs, row_needs, where_some}
 use Rattle.ca_model.specs.machine.Row.{Row}
-use Rattle.ca_model.specs.machine.World.{Name, Thing, World, get}
+use Rattle.ca_model.specs.machine.World.{World, get}
 
 pub also_none : (held : PartName → Bool) (w : World) (a b : Needs) → next_part held w a ≡ None → next_part held w (also a b) ≡ next_part held w b
 also_none held w Enough b is = refl

@@ -1,6 +1,5 @@
 -- A part that is held has its thing. For proofs only.
 use Rattle.std.proofs.Common.{◌≡◌, true}
-use Rattle.ca_keys.specs.declared.names.DomainId.{DomainId}
 use Rattle.ca_keys.specs.declared.names.QueueId.{QueueId}
 use Rattle.ca_keys.specs.declared.names.Slot.{Slot}
 use Rattle.ca_model.specs.declared.part_name.PartName.TheVariants as names

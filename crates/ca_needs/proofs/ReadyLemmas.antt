@@ -6,7 +6,6 @@ use Rattle.std.specs.Option.{option_and_then, option_map}
 use Rattle.ca_keys.specs.declared.names.Slot.{Slot}
 use Rattle.ca_base.specs.Configuration.{Configuration}
 use Rattle.ca_base.specs.objects.QueuePair.{QueuePair, recv_cq_of, send_cq_of, srq_of}
-use Rattle.ca_base.specs.objects.SharedReceives.{SharedReceives}
 use Rattle.ca_base.specs.objects.Slices.{has_slot}
 use Rattle.ca_laws_sound.proofs.VerbLemmas.{queue-slot}
 use Rattle.ca_held.specs.declared.held.Held.{Held}

@@ -1,7 +1,7 @@
 -- What a requester's turn needs, by what was found of it. For proofs only.
-use Rattle.std.proofs.Common.{◌≡◌, ◌∙◌, refl, sym, ap, subst, Bool, true, false, List, [], ◌∷◌, Option, None, Some, if◌then◌else◌, true≢false, ℕ}
+use Rattle.std.proofs.Common.{◌≡◌, ◌∙◌, refl, sym, ap, subst, Bool, true, false, [], ◌∷◌, Option, None, Some, if◌then◌else◌, true≢false, ℕ}
 use Rattle.std.proofs.lemmas.Option.{none-some}
-use Rattle.std.specs.Option.{option_map, option_map_or}
+use Rattle.std.specs.Option.{option_map_or}
 use Rattle.ca_base.specs.Configuration.{Configuration}
 use Rattle.ca_base.specs.declared.correspondent.Correspondent.{Correspondent}
 use Rattle.ca_base.specs.declared.request.SendRequest.{SendRequest}
@@ -10,12 +10,11 @@ use Rattle.ca_base.specs.declared.step.Reason.TheVariants as reasons
 use Rattle.ca_base.specs.objects.QueuePair.{QueuePair}
 use Rattle.ca_keys.specs.Refusals.{first_of}
 use Rattle.ca_model.specs.Requests.{is_local}
-use Rattle.ca_model.specs.declared.part_name.PartName.{PartName}
 use Rattle.ca_model.specs.declared.part_name.PartName.TheVariants as names
 use Rattle.ca_model.specs.machine.Numbering.{Numbered}
-use Rattle.ca_model.specs.machine.Parts.{Enough, Needs, Part, operation_needs, part, request_needs, row_needs, where_some}
+use Rattle.ca_model.specs.machine.Parts.{Enough, Part, operation_needs, part, request_needs, row_needs, where_some}
 use Rattle.ca_model.specs.machine.Requester.{Performs, RequestTurn, Sends, Waits, is_too_much, next_request, packet_row, turn_of, turn_refusals}
-use Rattle.ca_model.specs.machine.Row.{Does, Effects, Ending, NotPossible, Row, plain_row}
+use Rattle.ca_model.specs.machine.Row.{Does, Ending, NotPossible, plain_row}
 use Rattle.ca_needs.specs.Next.{is_full}
 use Rattle.ca_sending.specs.declared.turn.Found.{Found}
 use Rattle.ca_sending.specs.Turn.{IsWaiting, SendsFound, is_performing, operation_in, turn_row}
@@ -106,8 +105,11 @@ module _ (c : Configuration) (q : QueuePair) (reason : Reason) (w : IsWaiting q 
       same = rw e refl
 
       by : (b : Bool) → is_too_much q n ≡ b → (is_too_much q n ≡ true) × (reasons.Outstanding ≡ reason)
-      by true m = (m, (let plain : packet_row q true n ≡ plain_row (NotPossible reasons.Outstanding) = rw m refl in
-          ap (λ row. reason_of (row.allowed [] None)) (sym plain ∙ sym same ∙ w.row true)))
+      by true m = (
+        m,
+        (let plain : packet_row q true n ≡ plain_row (NotPossible reasons.Outstanding) = rw m refl in
+            ap (λ row. reason_of (row.allowed [] None)) (sym plain ∙ sym same ∙ w.row true)),
+      )
       by false m = absurd (true≢false (let does : is_possible ((packet_row q true n).allowed [] None) ≡ true = rw m refl in
           sym does ∙ ap (λ row. is_possible (row.allowed [] None)) (sym same ∙ w.row true)))
 

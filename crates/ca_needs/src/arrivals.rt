@@ -102,7 +102,12 @@ fn arrival_at(settings: &Settings, held: &Held, queue: QueueId, bytes: &[u8]) ->
 
 /// Deliver: the mailbox, and where its envelope is kept, the queue pair and what the packet needs.
 #[tactic(auto, using(crate::proofs::HasLemmas::holds))]
-pub(crate) fn deliver(settings: &Settings, held: &Held, queue: QueueId, index: u64) -> Option<PartName>
+pub(crate) fn deliver(
+    settings: &Settings,
+    held: &Held,
+    queue: QueueId,
+    index: u64,
+) -> Option<PartName>
     requires step { IfPresent CanStep ((holding held.now).world.queue queue) }
     requires shared { (s : Slot) → IfSome ((holding held.now).world.srq s).srq IsSharedReceives }
     ensures { result ≡ next_of held.now (event_needs (configuration_in settings.now) (events.Deliver queue index)) }
@@ -122,7 +127,12 @@ pub(crate) fn deliver(settings: &Settings, held: &Held, queue: QueueId, index: u
 
 /// Inject: the queue pair, its mailbox, and what the packet needs.
 #[tactic(auto, using(crate::proofs::HasLemmas::holds, crate::proofs::ReadyLemmas::shared_up))]
-pub(crate) fn inject(settings: &Settings, held: &Held, queue: QueueId, bytes: &[u8]) -> Option<PartName>
+pub(crate) fn inject(
+    settings: &Settings,
+    held: &Held,
+    queue: QueueId,
+    bytes: &[u8],
+) -> Option<PartName>
     requires step { IfPresent CanStep ((holding held.now).world.queue queue) }
     requires shared { (s : Slot) → IfSome ((holding held.now).world.srq s).srq IsSharedReceives }
     ensures { result ≡ next_of held.now (present_needs queue

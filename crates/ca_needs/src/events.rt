@@ -3,6 +3,7 @@ ghost use Rattle.ca_keys.specs.declared.names.QueueId.{QueueId};
 ghost use Rattle.ca_keys.specs.declared.names.Slot.{Slot};
 ghost use Rattle.ca_base.specs.Configuration.{configuration_in};
 ghost use Rattle.ca_held.specs.HeldView.{holding};
+ghost use Rattle.ca_model.specs.declared.part_name.PartName.TheVariants as names;
 ghost use Rattle.ca_model.specs.machine.CanStep.{CanStep};
 ghost use Rattle.ca_model.specs.machine.Invariants.{IsSharedReceives};
 ghost use Rattle.ca_model.specs.machine.Parts as machine;
@@ -14,16 +15,16 @@ use crate::arrivals::{deliver, inject};
 use crate::missing::{missing, missing_of};
 use crate::named::is_named;
 use crate::turns::{request, respond, rnr_wake, timeout};
-use crate::verbs::{create_qp, dealloc_mw, destroy_qp, modify_qp, poll, post_recv, post_send, queues};
+use crate::verbs::{create_qp, dealloc_mw, destroy_qp, modify_qp, poll, post_recv, post_send};
 use ca_base::{DomainId, QueueId, Settings};
 use ca_held::Held;
 use ca_model::{Event, PartName, Verb};
 
-/// The next part that an event needs beside those in hand, by the machine's table of parts and what the parts in hand show.
-/// None comes exactly where they suffice. It takes no memory.
+/// The next part that an event needs beside those in hand, by the machine's table of parts and what the parts in hand
+/// show. None comes exactly where they suffice. It takes no memory.
 ///
-/// The caller shows that the configuration is within its limits, and that the queue pairs and the shared receive queues in
-/// hand can come up.
+/// The caller shows that the configuration is within its limits, and that the queue pairs and the shared receive queues
+/// in hand can come up.
 pub fn next_part(settings: &Settings, event: &Event, held: &Held) -> Option<PartName>
     requires limits { AreLimited (configuration_in settings.now) }
     requires queues { (q : QueueId) → IfPresent CanStep ((holding held.now).world.queue q) }
@@ -75,10 +76,7 @@ fn verb_part(settings: &Settings, held: &Held, verb: &Verb) -> Option<PartName>
             recv_cq,
             srq,
             ..
-        } => match create_qp(held, *slot) {
-            Some(name) => Some(name),
-            None => queues(settings, held, *slot, *send_cq, *recv_cq, *srq),
-        },
+        } => create_qp(settings, held, *slot, *send_cq, *recv_cq, *srq),
         Verb::ModifyQp { slot, .. } => modify_qp(held, *slot),
         Verb::QueryQp { slot } => missing(held, PartName::Queue(QueueId::of_slot(*slot))),
         Verb::DestroyQp { slot } => destroy_qp(settings, held, *slot),
@@ -87,25 +85,25 @@ fn verb_part(settings: &Settings, held: &Held, verb: &Verb) -> Option<PartName>
         Verb::PostSrq { slot, .. } => missing(held, PartName::Srq(*slot)),
         Verb::Poll { slot, n, .. } => poll(held, *slot, *n),
         Verb::Store {
-            adapter, buffer, ..
-        } => missing(
-            held,
-            PartName::Buffer {
-                adapter: *adapter,
-                index: *buffer,
-            },
-        ),
+            adapter,
+            buffer,
+            ..
+        } => bytes_of(held, *adapter, *buffer),
         Verb::Load {
-            adapter, buffer, ..
-        } => missing(
-            held,
-            PartName::Buffer {
-                adapter: *adapter,
-                index: *buffer,
-            },
-        ),
+            adapter,
+            buffer,
+            ..
+        } => bytes_of(held, *adapter, *buffer),
         Verb::Inject { queue, bytes } => inject(settings, held, *queue, bytes.as_slice()),
     }
+}
+
+/// A buffer's part.
+fn bytes_of(held: &Held, adapter: u8, index: u16) -> Option<PartName>
+    ensures { result ≡ machine.next_part (holding held.now).parts (holding held.now).world
+        (machine.part (names.Buffer adapter index)) }
+{
+    missing(held, PartName::Buffer { adapter, index })
 }
 
 /// An object of a domain: the domain, and the object's part.

@@ -5,8 +5,8 @@ ghost use Rattle.ca_model.specs.machine.Step as machine;
 use ca_base::{DomainId, SendOp, Settings, Slot};
 use ca_model::Verb;
 
-/// Whether each name of a verb lies in the configured slices, but for the queues of a queue pair that is made. A verb of
-/// which this does not hold answers NoSuch, and looks at nothing.
+/// Whether each name of a verb lies in the configured slices, but for the queues of a queue pair that is made. A verb
+/// of which this does not hold answers NoSuch, and looks at nothing. Source: this profile's choice.
 pub fn is_named(settings: &Settings, verb: &Verb) -> bool
     ensures { result ≡ machine.is_named (configuration_in settings.now) verb.now }
 {
@@ -35,10 +35,14 @@ pub fn is_named(settings: &Settings, verb: &Verb) -> bool
         Verb::PostSrq { slot, .. } => settings.has_srq(*slot),
         Verb::Poll { slot, .. } => settings.has_cq(*slot),
         Verb::Store {
-            adapter, buffer, ..
+            adapter,
+            buffer,
+            ..
         } => has_buffer(settings, *adapter, *buffer),
         Verb::Load {
-            adapter, buffer, ..
+            adapter,
+            buffer,
+            ..
         } => has_buffer(settings, *adapter, *buffer),
         Verb::Inject { queue, .. } => settings.has_queue(*queue),
     }

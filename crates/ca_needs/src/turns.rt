@@ -178,10 +178,10 @@ fn packet(settings: &Settings, held: &Held, q: &QueuePart, found: &Found) -> Opt
     requires { SendsFound q.now found.now }
     ensures { result ≡ next_of held.now (request_needs (configuration_in settings.now) q.now (turn_of q.now)) }
 {
-    let Some((peer, _)) = q.peer else {
+    let Some((receiver, _)) = q.peer else {
         return None;
     };
-    let mailbox = PartName::Mailbox(peer);
+    let mailbox = PartName::Mailbox(receiver);
     if !held.has(&mailbox) {
         return Some(mailbox);
     }

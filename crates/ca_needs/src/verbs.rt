@@ -145,8 +145,43 @@ pub(crate) fn post_recv(held: &Held, slot: Slot) -> Option<PartName>
     }
 }
 
+/// CreateQp: the domain, the queue pair, and its mailbox; then its queues.
+pub(crate) fn create_qp(
+    settings: &Settings,
+    held: &Held,
+    slot: Slot,
+    send_cq: u16,
+    recv_cq: u16,
+    srq: Option<u16>,
+) -> Option<PartName>
+    requires { slot.slot < 256 }
+    ensures { (send_depth recv_depth : ℕ) → result ≡ next_of held.now (verb_needs (configuration_in settings.now)
+        (verbs.CreateQp slot send_cq recv_cq send_depth recv_depth srq)) }
+{
+    match creation(held, slot) {
+        Some(name) => Some(name),
+        None => queues(settings, held, slot, send_cq, recv_cq, srq),
+    }
+}
+
+/// The domain, the queue pair, and its mailbox.
+fn creation(held: &Held, slot: Slot) -> Option<PartName>
+    requires { slot.slot < 256 }
+    ensures some { (more : Needs) → IfSome result (λ name. next_of held.now (Part (names.Control slot.domain)
+        (Part (names.Queue (queue_of slot)) (Part (names.Mailbox (queue_of slot)) more))) ≡ Some name) }
+    ensures none { IfNone result ((more : Needs) → next_of held.now (Part (names.Control slot.domain)
+        (Part (names.Queue (queue_of slot)) (Part (names.Mailbox (queue_of slot)) more))) ≡ next_of held.now more) }
+{
+    let queue = QueueId::of_slot(slot);
+    let control = PartName::Control(slot.domain);
+    if !held.has(&control) {
+        return Some(control);
+    }
+    missing_of(held, PartName::Queue(queue), PartName::Mailbox(queue))
+}
+
 /// The queues of a queue pair that is made, where they are configured.
-pub(crate) fn queues(
+fn queues(
     settings: &Settings,
     held: &Held,
     slot: Slot,
@@ -155,7 +190,14 @@ pub(crate) fn queues(
     srq: Option<u16>,
 ) -> Option<PartName>
     ensures { (send_depth recv_depth : ℕ) → result ≡ next_of held.now (queues_needs (configuration_in settings.now)
-        (record { slot = slot; send_cq = send_cq; recv_cq = recv_cq; send_depth = send_depth; recv_depth = recv_depth; srq = srq })) }
+        (record {
+          slot = slot;
+          send_cq = send_cq;
+          recv_cq = recv_cq;
+          send_depth = send_depth;
+          recv_depth = recv_depth;
+          srq = srq;
+        })) }
 {
     if !has_queues(settings, slot, send_cq, recv_cq, srq) {
         return None;
@@ -172,15 +214,16 @@ pub(crate) fn queues(
 }
 
 /// Whether the queues of a queue pair that is made are configured.
-fn has_queues(
-    settings: &Settings,
-    slot: Slot,
-    send_cq: u16,
-    recv_cq: u16,
-    srq: Option<u16>,
-) -> bool
+fn has_queues(settings: &Settings, slot: Slot, send_cq: u16, recv_cq: u16, srq: Option<u16>) -> bool
     ensures { (send_depth recv_depth : ℕ) → result ≡ machine.has_queues (configuration_in settings.now)
-        (record { slot = slot; send_cq = send_cq; recv_cq = recv_cq; send_depth = send_depth; recv_depth = recv_depth; srq = srq }) }
+        (record {
+          slot = slot;
+          send_cq = send_cq;
+          recv_cq = recv_cq;
+          send_depth = send_depth;
+          recv_depth = recv_depth;
+          srq = srq;
+        }) }
 {
     if !settings.has_cq(sibling(slot, send_cq)) || !settings.has_cq(sibling(slot, recv_cq)) {
         return false;
@@ -199,22 +242,6 @@ fn sibling(slot: Slot, number: u16) -> Slot
         domain: slot.domain,
         slot: number,
     }
-}
-
-/// CreateQp: the domain, the queue pair, and its mailbox; its queues are needed next.
-pub(crate) fn create_qp(held: &Held, slot: Slot) -> Option<PartName>
-    requires { slot.slot < 256 }
-    ensures some { (more : Needs) → IfSome result (λ name. next_of held.now (Part (names.Control slot.domain)
-        (Part (names.Queue (queue_of slot)) (Part (names.Mailbox (queue_of slot)) more))) ≡ Some name) }
-    ensures none { IfNone result ((more : Needs) → next_of held.now (Part (names.Control slot.domain)
-        (Part (names.Queue (queue_of slot)) (Part (names.Mailbox (queue_of slot)) more))) ≡ next_of held.now more) }
-{
-    let queue = QueueId::of_slot(slot);
-    let control = PartName::Control(slot.domain);
-    if !held.has(&control) {
-        return Some(control);
-    }
-    missing_of(held, PartName::Queue(queue), PartName::Mailbox(queue))
 }
 
 /// Poll: the completion queue, and for each completion that is taken its shared receive queue, or else its queue pair.

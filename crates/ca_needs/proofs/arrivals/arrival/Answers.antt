@@ -1,4 +1,4 @@
-use Rattle.std.proofs.Common.{rules, ◌≡◌, ◌∙◌, sym, ap, Option, option_copied}
+use Rattle.std.proofs.Common.{◌∙◌, sym, ap, Option}
 use Rattle.ca_base.specs.Configuration.{configuration_in}
 use Rattle.ca_base.specs.objects.SharedReceives.{SharedReceives}
 use Rattle.ca_model.specs.machine.Delivery.{arrival_row}

@@ -14,7 +14,7 @@ returns-in-Ok-Response c = λ envelope.
     let q = c.args.q.now in
     let response : IsResponseOf c.args.bytes.now q p = search rules in
     let met : arrival_row c.args.bytes.now envelope (option_copied c.args.srq) q ≡ response_row p q =
-        response.row envelope (option_copied c.args.srq) in
+    response.row envelope (option_copied c.args.srq) in
     let asks : c.as_slice.result.now ≡ (response_row p q).asks = search rules in
     c.row.ensures (response_row p q) asks (response_no_key p q)
     ∙ ap (λ row. next_of c.args.held.now (row_needs (configuration_in c.args.settings.now) row)) (sym met)

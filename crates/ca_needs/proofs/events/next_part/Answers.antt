@@ -1,4 +1,4 @@
-use Rattle.std.proofs.Common.{◌≡◌, ◌∙◌, sym, ap}
+use Rattle.std.proofs.Common.{◌∙◌, sym, ap}
 use Rattle.ca_base.specs.Configuration.{configuration_in}
 use Rattle.ca_model.specs.machine.Parts.{event_needs}
 use Rattle.ca_needs.specs.Next.{next_of}
