@@ -1,7 +1,7 @@
 //! Which part of a fabric an event needs next, beside those in hand.
 //!
 //! To the layers above it promises that the part which is named is the one that the machine's table of parts names, by
-//! what the parts in hand show; so that naming and taking one after another comes to an end, and then all that the event
+//! what the parts in hand show. So naming and taking one after another comes to an end, and then all that the event
 //! touches is in hand.
 //!
 //! Source: this profile's choice.
