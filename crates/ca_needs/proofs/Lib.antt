@@ -1,0 +1,5 @@
+mod AlsoLemmas
+mod HasLemmas
+mod KeyLemmas
+mod ReadyLemmas
+mod TurnLemmas
