@@ -1,0 +1,68 @@
+-- The order of a script follows the machine. For proofs only.
+use Rattle.std.proofs.Common.{◌≡◌, suc, true, List, [], ◌∷◌, ◌++◌, map, reverse, Ok, refl, ap, ◌∙◌, sym}
+use Rattle.std.proofs.lemmas.List.{append-nil, append_assoc, reverse-append}
+use Rattle.ca_keys.specs.Memory.{zeros}
+use Rattle.ca_model.specs.Entries.{EntryValue}
+use Rattle.ca_model.specs.declared.event.Event.{Event}
+use Rattle.ca_model.specs.machine.Plan.{Outcome, NotReady, Did}
+use Rattle.ca_model.specs.machine.Run.{Follows, Ran, go_on, run_from, with_marks}
+use Rattle.ca_model.specs.machine.Step.{step}
+use Rattle.ca_model.specs.machine.World.{opening_world}
+use Rattle.ca_script.specs.Script.{ScriptValue}
+use Rattle.ca_order.specs.Order.{Stage, ending, made, most_rounds, opening_stage, order, with_entry, with_lines}
+use Rattle.ca_order.proofs.KeepLemmas.{IsKept, kept-rounds, kept-visit}
+
+-- the events of a past, the latest first, before others
+abbrev events_onto : List EntryValue → List Event → List Event
+events_onto [] rest = rest
+events_onto (e ∷ past) rest = events_onto past (e.event ∷ rest)
+
+-- the marks of a past before those of what comes
+abbrev marks_onto : List EntryValue → Ran → Ran
+marks_onto [] rest = rest
+marks_onto (e ∷ past) rest = marks_onto past (with_marks e.marks rest)
+
+-- the entries so far ran, and what comes runs on from the world that they left
+abbrev RanTo : ScriptValue → Stage → Type 0
+RanTo s g = (rest : List Event)
+    → run_from s.config 0 (opening_world zeros) (events_onto g.past rest) ≡ marks_onto g.past (run_from s.config g.count g.world rest)
+
+ran-made : (s : ScriptValue) (event : Event) (done : Stage → Stage) → ((g : Stage) → RanTo s g → RanTo s (done g)) → (g : Stage) → RanTo s g → RanTo s (made s event done g)
+ran-made s event done also g ran = by (step s.config g.world event) refl
+  where
+    by : (o : Outcome) → step s.config g.world event ≡ o → RanTo s (with_entry event o done g)
+    by (NotReady reason) is = ran
+    by (Did w ms) is = also
+        (record g { world = w; past = record { stamp = g.count; pass = 0; event = event; marks = ms } ∷ g.past; count = suc g.count; happened = true })
+        (λ rest. ran (event ∷ rest) ∙ ap (λ o. marks_onto g.past (go_on g.count o (λ v. run_from s.config (suc g.count) v rest))) is)
+
+ran-kept : (s : ScriptValue) → IsKept s (RanTo s)
+ran-kept s = record {
+  makes = λ event g ran. ran-made s event (λ h. h) (λ h there. there) g ran;
+  calls = λ event k rest g ran. ran-made s event (with_lines k rest) (λ h there. there) g ran;
+  passes = λ k rest g ran. ran;
+}
+
+-- an entry behind those before it
+reverse-onto : (e : EntryValue) (past rest : List EntryValue) → reverse past ++ (e ∷ rest) ≡ reverse (e ∷ past) ++ rest
+reverse-onto e past rest = sym (ap (λ es. es ++ rest) (reverse-append (e ∷ []) past) ∙ append_assoc (reverse past) (e ∷ []) rest)
+
+events-in-order : (past rest : List EntryValue) → events_onto past (map (λ e. e.event) rest) ≡ map (λ e. e.event) (reverse past ++ rest)
+events-in-order [] rest = refl
+events-in-order (e ∷ past) rest = events-in-order past (e ∷ rest) ∙ ap (map (λ x. x.event)) (reverse-onto e past rest)
+
+marks-in-order : (past rest : List EntryValue) → marks_onto past (Ok (map (λ e. e.marks) rest)) ≡ Ok (map (λ e. e.marks) (reverse past ++ rest))
+marks-in-order [] rest = refl
+marks-in-order (e ∷ past) rest = marks-in-order past (e ∷ rest) ∙ ap (λ es. Ok (map (λ x. x.marks) es)) (reverse-onto e past rest)
+
+-- what ran to a stage, the latest first, follows the machine in order
+follows : (s : ScriptValue) (g : Stage) → RanTo s g → Follows s.config zeros (reverse g.past)
+follows s g ran =
+    let same : reverse g.past ++ [] ≡ reverse g.past = append-nil (reverse g.past)
+    in ap (run_from s.config 0 (opening_world zeros)) (sym (events-in-order g.past [] ∙ ap (map (λ e. e.event)) same))
+    ∙ ran []
+    ∙ marks-in-order g.past []
+    ∙ ap (λ es. Ok (map (λ e. e.marks) es)) same
+
+pub order-follows : (s : ScriptValue) → Follows s.config zeros (order s)
+order-follows s = follows s (ending s) (kept-rounds s (RanTo s) (λ g ran. ran) (kept-visit s (RanTo s) (ran-kept s)) (most_rounds s) (opening_stage s) (λ rest. refl))

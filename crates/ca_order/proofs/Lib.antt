@@ -1,0 +1,4 @@
+pub mod KeepLemmas
+pub mod FollowLemmas
+pub mod EndLemmas
+pub mod QuietLemmas

@@ -1,0 +1,4 @@
+pub mod Visits
+pub mod Order
+pub mod OfScript
+pub mod Summary
