@@ -8,8 +8,9 @@ use Rattle.ca_acts_queues.proofs.polls.free_all.Given as goal
 abbrev pub invariant-loop-completion : goal.invariant-loop-completion
 invariant-loop-completion l =
     ((holding l.held).has ≡ (holding l.initial.held).has)
+    × (((holding l.held).parts ≡ (holding l.initial.held).parts)
     × (((holding l.held).world.cq ≡ (holding l.initial.held).world.cq)
     × ((freed_all l.slot ((holding l.initial.held).world.cq l.slot) (drop l.completion-index l.completions) (holding l.held).world
     ≡ freed_all l.slot ((holding l.initial.held).world.cq l.slot) l.completions (holding l.initial.held).world)
     × (CanFreeAll l.slot ((holding l.initial.held).world.cq l.slot) (drop l.completion-index l.completions) (holding l.held).world
-    × AllPass (holding l.initial.held).has (places_of l.slot ((holding l.initial.held).world.cq l.slot) (drop l.completion-index l.completions)))))
+    × AllPass (holding l.initial.held).has (places_of l.slot ((holding l.initial.held).world.cq l.slot) (drop l.completion-index l.completions))))))
