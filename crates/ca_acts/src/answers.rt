@@ -8,6 +8,7 @@ use ca_model::{Answer, Mark, Marks, Refusal, Verb};
 use std::alloc::Global;
 
 /// Who calls which verb, and where what comes of it takes its memory.
+#[derive(Clone, Copy)]
 pub struct Call<'a> {
     pub alloc: Global,
     pub by: u32,

@@ -1,1 +1,1 @@
-mod StepLemmas
+pub mod StepLemmas

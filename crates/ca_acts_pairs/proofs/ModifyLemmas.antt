@@ -92,12 +92,12 @@ module _ (c : Configuration) (call : Call) (w : World) (s : Slot) where
       → first_of (modify_refusals c q change) ≡ Some r → perform w (modify_qp_plan c call s change) ≡ refused w call (refusal_of_change r)
   modify_refused change q r there first = settled-by change q.srq q there ∙ first-some w call (accepted q change) (modify_refusals c q change) r first
 
-  abbrev out : QueuePair → Change → QueueId → Outcome
+  abbrev pub out : QueuePair → Change → QueueId → Outcome
   out q change n = Did (put_all (changed_updates n q change w) w) (answer_mark call answers.Fine ∷ marks_of_change q change)
 
-  done : (change : Change) (q : QueuePair) → w.queue (queue_of s) ≡ Present q → first_of (modify_refusals c q change) ≡ None
+  pub modify_done : (change : Change) (q : QueuePair) → w.queue (queue_of s) ≡ Present q → first_of (modify_refusals c q change) ≡ None
       → perform w (modify_qp_plan c call s change) ≡ out q change q.queue
-  done change q there none = settled-by change q.srq q there ∙ first-none w call (accepted q change) (modify_refusals c q change) none
+  modify_done change q there none = settled-by change q.srq q there ∙ first-none w call (accepted q change) (modify_refusals c q change) none
 
 -- what is held
 pub record IsAllHeld (s : Slot) (q : QueuePair) (h : Holding) : Type 0 where
@@ -172,7 +172,7 @@ pub modify_acts : (c : Configuration) (call : Call) (s : Slot) (change : Change)
     → IsAct (Ok m) (perform h.world (modify_qp_plan c call s change)) h new
 modify_acts c call s change h mid new m q sends receives there named none is-sends is-receives is-mid is-new marks =
     subst (λ o. IsAct (Ok m) o h new)
-    (sym (done c call h.world s change q there none ∙ ap (out c call h.world s q change) named)) (
+    (sym (modify_done c call h.world s change q there none ∙ ap (out c call h.world s q change) named)) (
       marks,
       is-new ∙ ap (λ v. changed_by (around_updates (names_around q) q.incarnation change sends receives v.world) v) changed
           ∙ together (queue_of s) (slot_after change (Present q)) h (names_around q) q.incarnation sends receives change

@@ -1,10 +1,10 @@
-ghost use Rattle.std.specs.Prelude.{◌≡◌, ◌<◌, true, IfOk, IfSome};
+ghost use Rattle.std.specs.Prelude.{◌≡◌, ◌<◌, true, false, IfOk, IfSome};
 ghost use Rattle.ca_acts.specs.Act.{Acts, IsAct, Suffices};
 ghost use Rattle.ca_acts.specs.Binders.{changed_by};
 ghost use Rattle.ca_acts.specs.Calls.{call_of};
 ghost use Rattle.ca_base.specs.Configuration.{configuration_in};
 ghost use Rattle.ca_base.specs.declared.reserve.Reserve.TheVariants.{Sends};
-ghost use Rattle.ca_base.specs.objects.QueuePair.{incarnation_of};
+ghost use Rattle.ca_base.specs.objects.QueuePair.{incarnation_of, is_present};
 ghost use Rattle.ca_cq.specs.Room.{is_new_side};
 ghost use Rattle.ca_held.specs.HeldView.{holding};
 ghost use Rattle.ca_held.specs.Parts.{slot_of};
@@ -39,7 +39,8 @@ pub fn create_qp(
     requires few { ((holding held.old).world.domain creation.now.slot.domain).objects < u32.MAX }
     requires users { IfSome (shared_slot creation.now (holding held.old).world) (λ s. s.users < u32.MAX) }
     requires incarnation { incarnation_of ((holding held.old).world.queue (queue_of creation.now.slot)) < u32.MAX }
-    requires new { IfSome ((holding held.old).world.cq (beside creation.now.slot creation.now.send_cq))
+    requires new { is_present ((holding held.old).world.queue (queue_of creation.now.slot)) ≡ false
+        → IfSome ((holding held.old).world.cq (beside creation.now.slot creation.now.send_cq))
         (λ q. is_new_side (Sends (queue_of creation.now.slot)) q ≡ true) }
     ensures act { Acts result (create_qp_plan (configuration_in settings.now) (call_of call.now) creation.now)
         held.old held.new }

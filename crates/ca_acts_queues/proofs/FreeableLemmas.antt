@@ -8,7 +8,7 @@ use Rattle.ca_base.specs.declared.request.RecvRequest.{RecvRequest}
 use Rattle.ca_keys.specs.declared.names.Slot.{Slot}
 use Rattle.ca_keys.specs.Equal.{queue_eq}
 use Rattle.ca_base.specs.objects.CompletionQueue.{CompletionQueue}
-use Rattle.ca_base.specs.objects.QueuePair.{QueuePair, QueueSlot, NoQueue, Present}
+use Rattle.ca_base.specs.objects.QueuePair.{QueuePair, QueueSlot, NoQueue, Present, queue_in}
 use Rattle.ca_base.specs.objects.SharedReceives.{SharedReceives, SrqSlot, after_receive_retire}
 use Rattle.ca_base.specs.objects.WorkQueue.{WorkQueue, after_retire}
 use Rattle.ca_srq.specs.Taken.{stands_once}
@@ -16,8 +16,8 @@ use Rattle.ca_model.specs.machine.CompletionVerbs.{source_of_completion}
 use Rattle.ca_model.specs.machine.World.{World}
 use Rattle.ca_model.proofs.ThingLemmas.{queue-path}
 use Rattle.ca_acts_queues.proofs.FreedLemmas.{shared-place, shared_freed}
-use Rattle.ca_acts_queues.specs.Polling.{CanFreeAll, CanFreeOf, CanRetire, freed_of, place_freed, places_from, shared_at}
-use Rattle.ca_acts_queues.specs.Posting.{IfPresent, slot_with}
+use Rattle.ca_acts_queues.specs.Polling.{CanFreeAll, CanFreeOf, CanRetire, after_freeing, with_places_free, places_from, shared_at}
+use Rattle.ca_acts_queues.specs.Posting.{slot_with}
 
 -- without another place, a place stands among others as often as before
 same-count : (x y : ℕ) (ps : List ℕ) → (x == y) ≡ false → filter (λ p. p == y) (filter (λ p. not (p == x)) ps) ≡ filter (λ p. p == y) ps
@@ -42,7 +42,7 @@ once-kept c x z apart can = by z.srq can
     by (Some v) can = ap (λ ps. length ps == 1) (same-count c.place x.place v.taken apart) ∙ can
 
 -- a queue pair in which places were freed has sends, and has or lacks receives, as before
-retire-kept : (c x : Completion) (p : QueuePair) → CanRetire x p → CanRetire x (place_freed c p)
+retire-kept : (c x : Completion) (p : QueuePair) → CanRetire x p → CanRetire x (with_places_free c p)
 retire-kept c x p can = by c.receive
   where
     freed : Bool → QueuePair
@@ -59,22 +59,22 @@ retire-kept c x p can = by c.receive
     by true = own x.receive p.receives can
     by false = can
 
-queue-kept : (c x : Completion) (z : QueueSlot) → IfPresent z (CanRetire x) → IfPresent (slot_with (place_freed c) z) (CanRetire x)
+queue-kept : (c x : Completion) (z : QueueSlot) → IfSome (queue_in z) (CanRetire x) → IfSome (queue_in (slot_with (with_places_free c) z)) (CanRetire x)
 queue-kept c x (NoQueue incarnation timers) can = can
 queue-kept c x (Present p) can = retire-kept c x p can
 
 -- what another completion stands for, after places of a queue pair were freed
-kept-by-queue : (s : Slot) (c x : Completion) (w : World) (o : Option ℕ) → CanFreeOf s o x w → CanFreeOf s o x (freed_of s None c w)
+kept-by-queue : (s : Slot) (c x : Completion) (w : World) (o : Option ℕ) → CanFreeOf s o x w → CanFreeOf s o x (after_freeing s None c w)
 kept-by-queue s c x w (Some u) can = can
 kept-by-queue s c x w None can = by (queue_eq c.queue x.queue) refl
   where
-    by : (b : Bool) → queue_eq c.queue x.queue ≡ b → IfPresent (if b then slot_with (place_freed c) (w.queue c.queue) else w.queue x.queue) (CanRetire x)
-    by true e = queue-kept c x (w.queue c.queue) (subst (λ n. IfPresent (w.queue n) (CanRetire x)) (sym (queue-path c.queue x.queue e)) can)
+    by : (b : Bool) → queue_eq c.queue x.queue ≡ b → IfSome (queue_in (if b then slot_with (with_places_free c) (w.queue c.queue) else w.queue x.queue)) (CanRetire x)
+    by true e = queue-kept c x (w.queue c.queue) (subst (λ n. IfSome (queue_in (w.queue n)) (CanRetire x)) (sym (queue-path c.queue x.queue e)) can)
     by false e = can
 
 -- and after a place of a shared receive queue was freed, which is not its own
 kept-by-shared : (s : Slot) (c x : Completion) (w : World) (t : ℕ) (o : Option ℕ) → (option_eq (λ a b. a == b) (Some t) o ≡ true → (c.place == x.place) ≡ false)
-    → CanFreeOf s o x w → CanFreeOf s o x (freed_of s (Some t) c w)
+    → CanFreeOf s o x w → CanFreeOf s o x (after_freeing s (Some t) c w)
 kept-by-shared s c x w t None apart can = can
 kept-by-shared s c x w t (Some u) apart can =
     subst (λ z. IfSome z.srq (λ v. stands_once x.place v.taken ≡ true)) (sym (shared-place s c w t u (t == u) refl)) (by (t == u) apart)
@@ -88,24 +88,24 @@ module _ (s : Slot) (cq : CompletionQueue) where
   abbrev CanFree : World → Completion → Type 0
   CanFree w x = CanFreeOf s (source_of_completion cq x) x w
 
-  all-kept-by-queue : (c : Completion) (w : World) (xs : List Completion) → AllByRecursion (CanFree w) xs → AllByRecursion (CanFree (freed_of s None c w)) xs
+  all-kept-by-queue : (c : Completion) (w : World) (xs : List Completion) → AllByRecursion (CanFree w) xs → AllByRecursion (CanFree (after_freeing s None c w)) xs
   all-kept-by-queue c w [] all = record {}
   all-kept-by-queue c w (x ∷ xs) all = (kept-by-queue s c x w (source_of_completion cq x) all.0, all-kept-by-queue c w xs all.1)
 
   all-kept-by-shared : (c : Completion) (w : World) (t : ℕ) (xs : List Completion) → AllByRecursion (λ p. (c.place == p) ≡ false) (places_from cq t xs)
-      → AllByRecursion (CanFree w) xs → AllByRecursion (CanFree (freed_of s (Some t) c w)) xs
+      → AllByRecursion (CanFree w) xs → AllByRecursion (CanFree (after_freeing s (Some t) c w)) xs
   all-kept-by-shared c w t [] apart all = record {}
   all-kept-by-shared c w t (x ∷ xs) apart all =
       by (option_eq (λ a b. a == b) (Some t) (source_of_completion cq x)) refl apart (λ behind. all-kept-by-shared c w t xs behind all.1)
     where
-      one : (option_eq (λ a b. a == b) (Some t) (source_of_completion cq x) ≡ true → (c.place == x.place) ≡ false) → CanFree (freed_of s (Some t) c w) x
+      one : (option_eq (λ a b. a == b) (Some t) (source_of_completion cq x) ≡ true → (c.place == x.place) ≡ false) → CanFree (after_freeing s (Some t) c w) x
       one apart = kept-by-shared s c x w t (source_of_completion cq x) apart all.0
 
       by : (b : Bool) → option_eq (λ a b. a == b) (Some t) (source_of_completion cq x) ≡ b
           → AllByRecursion (λ p. (c.place == p) ≡ false) (map (λ c. c.place) (if b then x ∷ filter (λ c. option_eq (λ a b. a == b) (Some t) (source_of_completion cq c)) xs
           else filter (λ c. option_eq (λ a b. a == b) (Some t) (source_of_completion cq c)) xs))
-          → (AllByRecursion (λ p. (c.place == p) ≡ false) (places_from cq t xs) → AllByRecursion (CanFree (freed_of s (Some t) c w)) xs)
-          → AllByRecursion (CanFree (freed_of s (Some t) c w)) (x ∷ xs)
+          → (AllByRecursion (λ p. (c.place == p) ≡ false) (places_from cq t xs) → AllByRecursion (CanFree (after_freeing s (Some t) c w)) xs)
+          → AllByRecursion (CanFree (after_freeing s (Some t) c w)) (x ∷ xs)
       by true e apart again = (one (λ is. apart.0), again apart.1)
       by false e apart again = (one (λ is. absurd (true≢false (sym is ∙ e))), again apart)
 
@@ -132,10 +132,10 @@ module _ (s : Slot) (cq : CompletionQueue) where
       by false e all = absurd (true≢false (sym e))
 
   kept : (c : Completion) (cs : List Completion) (w : World) → ((t : ℕ) → IsDistinct (λ a b. a == b) (places_from cq t (c ∷ cs))) → AllByRecursion (CanFree w) cs
-      → AllByRecursion (CanFree (freed_of s (source_of_completion cq c) c w)) cs
+      → AllByRecursion (CanFree (after_freeing s (source_of_completion cq c) c w)) cs
   kept c cs w own all = by (source_of_completion cq c) refl
     where
-      by : (o : Option ℕ) → source_of_completion cq c ≡ o → AllByRecursion (CanFree (freed_of s o c w)) cs
+      by : (o : Option ℕ) → source_of_completion cq c ≡ o → AllByRecursion (CanFree (after_freeing s o c w)) cs
       by None is = all-kept-by-queue c w cs all
       by (Some t) is = all-kept-by-shared c w t cs (distinct-head t c cs is (own t)) all
 
@@ -145,4 +145,4 @@ module _ (s : Slot) (cq : CompletionQueue) where
   taken-free zero cs w all own = record {}
   taken-free (suc n) [] w all own = record {}
   taken-free (suc n) (c ∷ cs) w all own =
-      (all.0, taken-free n cs (freed_of s (source_of_completion cq c) c w) (kept c cs w own all.1) (λ t. distinct-tail t c cs (own t)))
+      (all.0, taken-free n cs (after_freeing s (source_of_completion cq c) c w) (kept c cs w own all.1) (λ t. distinct-tail t c cs (own t)))

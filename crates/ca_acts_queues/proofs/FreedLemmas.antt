@@ -15,20 +15,20 @@ use Rattle.ca_model.specs.machine.Frame.{name_eq}
 use Rattle.ca_model.specs.machine.World.{Name, Queue_of, Srq_of, World, get}
 use Rattle.ca_model.proofs.RestLemmas.{put-leaves}
 use Rattle.ca_model.proofs.ThingLemmas.{domain-refl, is_named_in, queue-path}
-use Rattle.ca_acts_queues.specs.Polling.{IsApart, freed_all, freed_of, place_freed, place_of, places_of, shared_at, source_at}
+use Rattle.ca_acts_queues.specs.Polling.{IsApart, after_freeing_all, after_freeing, with_places_free, place_of, places_of, shared_at, source_at}
 use Rattle.ca_acts_queues.specs.Posting.{slot_with}
 
 -- a completion of this queue pair
 poll-here : (q : QueueId) (c : Completion) (cs : List Completion) (x : QueueSlot) → queue_eq c.queue q ≡ true
-    → slot_after_poll q (c ∷ cs) x ≡ slot_after_poll q cs (slot_with (place_freed c) x)
+    → slot_after_poll q (c ∷ cs) x ≡ slot_after_poll q cs (slot_with (with_places_free c) x)
 poll-here q c cs (NoQueue incarnation timers) here = refl
-poll-here q c cs (Present p) here = ap (λ b. Present (after_poll q cs (if b then place_freed c p else p))) here
+poll-here q c cs (Present p) here = ap (λ b. Present (after_poll q cs (if b then with_places_free c p else p))) here
 
 -- one of another
 poll-elsewhere : (q : QueueId) (c : Completion) (cs : List Completion) (x : QueueSlot) → queue_eq c.queue q ≡ false
     → slot_after_poll q (c ∷ cs) x ≡ slot_after_poll q cs x
 poll-elsewhere q c cs (NoQueue incarnation timers) other = refl
-poll-elsewhere q c cs (Present p) other = ap (λ b. Present (after_poll q cs (if b then place_freed c p else p))) other
+poll-elsewhere q c cs (Present p) other = ap (λ b. Present (after_poll q cs (if b then with_places_free c p else p))) other
 
 poll-none : (q : QueueId) (x : QueueSlot) → slot_after_poll q [] x ≡ x
 poll-none q (NoQueue incarnation timers) = refl
@@ -43,7 +43,7 @@ shared-receive cq c srq is = by c.receive is
     by false is = absurd (true≢false (sym (ap is_some is)))
 
 -- it frees nothing in its queue pair
-shared-frees-none : (cq : CompletionQueue) (c : Completion) (srq : ℕ) (x : QueueSlot) → source_of_completion cq c ≡ Some srq → IsApart cq c.queue x → slot_with (place_freed c) x ≡ x
+shared-frees-none : (cq : CompletionQueue) (c : Completion) (srq : ℕ) (x : QueueSlot) → source_of_completion cq c ≡ Some srq → IsApart cq c.queue x → slot_with (with_places_free c) x ≡ x
 shared-frees-none cq c srq (NoQueue incarnation timers) is apart = refl
 shared-frees-none cq c srq (Present p) is apart =
     ap (λ b. Present (freed b)) there.0
@@ -69,7 +69,7 @@ poll-shared cq q c cs srq x is apart = by (queue_eq c.queue q) refl
     by false other = poll-elsewhere q c cs x other
 
 -- a queue pair without receives of its own stays so
-apart-stays : (cq : CompletionQueue) (q : QueueId) (c : Completion) (x : QueueSlot) → IsApart cq q x → IsApart cq q (slot_with (place_freed c) x)
+apart-stays : (cq : CompletionQueue) (q : QueueId) (c : Completion) (x : QueueSlot) → IsApart cq q x → IsApart cq q (slot_with (with_places_free c) x)
 apart-stays cq q c (NoQueue incarnation timers) apart = apart
 apart-stays cq q c (Present p) apart = λ is. by c.receive (apart is)
   where
@@ -83,15 +83,15 @@ apart-stays cq q c (Present p) apart = λ is. by c.receive (apart is)
 
 -- a queue pair's slot, once completions were freed, one after another
 pub queue-freed : (s : Slot) (cq : CompletionQueue) (cs : List Completion) (w : World) (q : QueueId) → IsApart cq q (w.queue q)
-    → (freed_all s (Some cq) cs w).queue q ≡ slot_after_poll q cs (w.queue q)
+    → (after_freeing_all s (Some cq) cs w).queue q ≡ slot_after_poll q cs (w.queue q)
 queue-freed s cq [] w q apart = sym (poll-none q (w.queue q))
 queue-freed s cq (c ∷ cs) w q apart = by (λ v. queue-freed s cq cs v q) (source_of_completion cq c) refl
   where
     after : QueueSlot → QueueSlot
-    after x = slot_with (place_freed c) x
+    after x = slot_with (with_places_free c) x
 
     freed : World
-    freed = freed_of s None c w
+    freed = after_freeing s None c w
 
     here : queue_eq c.queue q ≡ true → freed.queue q ≡ after (w.queue q)
     here e = ap (λ b. if b then after (w.queue c.queue) else w.queue q) e ∙ ap (λ n. after (w.queue n)) (queue-path c.queue q e)
@@ -99,16 +99,16 @@ queue-freed s cq (c ∷ cs) w q apart = by (λ v. queue-freed s cq cs v q) (sour
     elsewhere : queue_eq c.queue q ≡ false → freed.queue q ≡ w.queue q
     elsewhere e = ap (λ b. if b then after (w.queue c.queue) else w.queue q) e
 
-    own : ((v : World) → IsApart cq q (v.queue q) → (freed_all s (Some cq) cs v).queue q ≡ slot_after_poll q cs (v.queue q))
-        → (b : Bool) → queue_eq c.queue q ≡ b → (freed_all s (Some cq) cs freed).queue q ≡ slot_after_poll q (c ∷ cs) (w.queue q)
+    own : ((v : World) → IsApart cq q (v.queue q) → (after_freeing_all s (Some cq) cs v).queue q ≡ slot_after_poll q cs (v.queue q))
+        → (b : Bool) → queue_eq c.queue q ≡ b → (after_freeing_all s (Some cq) cs freed).queue q ≡ slot_after_poll q (c ∷ cs) (w.queue q)
     own again true e = again freed (subst (IsApart cq q) (sym (here e)) (apart-stays cq q c (w.queue q) apart))
         ∙ ap (slot_after_poll q cs) (here e) ∙ sym (poll-here q c cs (w.queue q) e)
     own again false e = again freed (subst (IsApart cq q) (sym (elsewhere e)) apart) ∙ ap (slot_after_poll q cs) (elsewhere e) ∙ sym (poll-elsewhere q c cs (w.queue q) e)
 
-    by : ((v : World) → IsApart cq q (v.queue q) → (freed_all s (Some cq) cs v).queue q ≡ slot_after_poll q cs (v.queue q))
-        → (o : Option ℕ) → source_of_completion cq c ≡ o → (freed_all s (Some cq) cs (freed_of s o c w)).queue q ≡ slot_after_poll q (c ∷ cs) (w.queue q)
+    by : ((v : World) → IsApart cq q (v.queue q) → (after_freeing_all s (Some cq) cs v).queue q ≡ slot_after_poll q cs (v.queue q))
+        → (o : Option ℕ) → source_of_completion cq c ≡ o → (after_freeing_all s (Some cq) cs (after_freeing s o c w)).queue q ≡ slot_after_poll q (c ∷ cs) (w.queue q)
     by again None is = own again (queue_eq c.queue q) refl
-    by again (Some srq) is = again (freed_of s (Some srq) c w) apart ∙ sym (poll-shared cq q c cs srq (w.queue q) is apart)
+    by again (Some srq) is = again (after_freeing s (Some srq) c w) apart ∙ sym (poll-shared cq q c cs srq (w.queue q) is apart)
 
 -- a shared receive queue's slot after its receives among these were polled
 abbrev pub shared_after : CompletionQueue → ℕ → List Completion → SrqSlot → SrqSlot
@@ -141,7 +141,7 @@ shared-step cq srq c cs x b is = by x.srq b is
 
 -- a place of one shared receive queue of a domain is free again: what stands in the slot of another, or of the same
 pub shared-place : (s : Slot) (c : Completion) (w : World) (t u : ℕ) (b : Bool) → (t == u) ≡ b
-    → (freed_of s (Some t) c w).srq (shared_at s u) ≡ (if b then shared_freed c (w.srq (shared_at s u)) else w.srq (shared_at s u))
+    → (after_freeing s (Some t) c w).srq (shared_at s u) ≡ (if b then shared_freed c (w.srq (shared_at s u)) else w.srq (shared_at s u))
 shared-place s c w t u b e = ap (λ d. if d && (t == u) then shared_freed c (w.srq (shared_at s t)) else w.srq (shared_at s u)) (domain-refl s.domain)
     ∙ ap (λ d. if d then shared_freed c (w.srq (shared_at s t)) else w.srq (shared_at s u)) e ∙ same b e
   where
@@ -152,41 +152,41 @@ shared-place s c w t u b e = ap (λ d. if d && (t == u) then shared_freed c (w.s
 
 -- a shared receive queue's slot, once completions were freed, one after another
 pub shared-freed : (s : Slot) (cq : CompletionQueue) (cs : List Completion) (w : World) (srq : ℕ)
-    → (freed_all s (Some cq) cs w).srq (shared_at s srq) ≡ shared_after cq srq cs (w.srq (shared_at s srq))
+    → (after_freeing_all s (Some cq) cs w).srq (shared_at s srq) ≡ shared_after cq srq cs (w.srq (shared_at s srq))
 shared-freed s cq [] w srq = sym (shared-none cq srq (w.srq (shared_at s srq)))
 shared-freed s cq (c ∷ cs) w srq = by (λ v. shared-freed s cq cs v srq) (source_of_completion cq c) refl
   where
     at : Slot
     at = shared_at s srq
 
-    by : ((v : World) → (freed_all s (Some cq) cs v).srq at ≡ shared_after cq srq cs (v.srq at))
-        → (o : Option ℕ) → source_of_completion cq c ≡ o → (freed_all s (Some cq) cs (freed_of s o c w)).srq at ≡ shared_after cq srq (c ∷ cs) (w.srq at)
-    by again None is = again (freed_of s None c w)
+    by : ((v : World) → (after_freeing_all s (Some cq) cs v).srq at ≡ shared_after cq srq cs (v.srq at))
+        → (o : Option ℕ) → source_of_completion cq c ≡ o → (after_freeing_all s (Some cq) cs (after_freeing s o c w)).srq at ≡ shared_after cq srq (c ∷ cs) (w.srq at)
+    by again None is = again (after_freeing s None c w)
         ∙ sym (shared-step cq srq c cs (w.srq at) false (ap (λ o. option_eq (λ a b. a == b) o (Some srq)) is))
-    by again (Some t) is = again (freed_of s (Some t) c w) ∙ ap (shared_after cq srq cs) (shared-place s c w t srq (t == srq) refl)
+    by again (Some t) is = again (after_freeing s (Some t) c w) ∙ ap (shared_after cq srq cs) (shared-place s c w t srq (t == srq) refl)
         ∙ sym (shared-step cq srq c cs (w.srq at) (t == srq) (ap (λ o. option_eq (λ a b. a == b) o (Some srq)) is))
 
 -- all things stay under other names
 pub rest-freed : (s : Slot) (cq : CompletionQueue) (cs : List Completion) (w : World) (n : Name) → is_named_in (places_of s (Some cq) cs) n ≡ false
-    → get (freed_all s (Some cq) cs w) n ≡ get w n
+    → get (after_freeing_all s (Some cq) cs w) n ≡ get w n
 rest-freed s cq [] w n other = refl
 rest-freed s cq (c ∷ cs) w n other = by (λ v. rest-freed s cq cs v n) (source_of_completion cq c) (is_named_in (places_of s (Some cq) cs) n) refl other
   where
-    one : (o : Option ℕ) → name_eq (place_of s o c) n ≡ false → get (freed_of s o c w) n ≡ get w n
-    one None e = put-leaves w (Queue_of c.queue) (slot_with (place_freed c) (w.queue c.queue)) n e
+    one : (o : Option ℕ) → name_eq (place_of s o c) n ≡ false → get (after_freeing s o c w) n ≡ get w n
+    one None e = put-leaves w (Queue_of c.queue) (slot_with (with_places_free c) (w.queue c.queue)) n e
     one (Some t) e = put-leaves w (Srq_of (shared_at s t)) (shared_freed c (w.srq (shared_at s t))) n e
 
-    by : ((v : World) → is_named_in (places_of s (Some cq) cs) n ≡ false → get (freed_all s (Some cq) cs v) n ≡ get v n)
+    by : ((v : World) → is_named_in (places_of s (Some cq) cs) n ≡ false → get (after_freeing_all s (Some cq) cs v) n ≡ get v n)
         → (o : Option ℕ) (b : Bool) → is_named_in (places_of s (Some cq) cs) n ≡ b → (if b then true else name_eq (place_of s o c) n) ≡ false
-        → get (freed_all s (Some cq) cs (freed_of s o c w)) n ≡ get w n
+        → get (after_freeing_all s (Some cq) cs (after_freeing s o c w)) n ≡ get w n
     by again o true is e = absurd (true≢false e)
-    by again o false is e = again (freed_of s o c w) is ∙ one o e
+    by again o false is e = again (after_freeing s o c w) is ∙ one o e
 
 -- completion queues stay
-pub cqs-freed : (s : Slot) (o : Option CompletionQueue) (cs : List Completion) (w : World) → (freed_all s o cs w).cq ≡ w.cq
+pub cqs-freed : (s : Slot) (o : Option CompletionQueue) (cs : List Completion) (w : World) → (after_freeing_all s o cs w).cq ≡ w.cq
 cqs-freed s o [] w = refl
-cqs-freed s o (c ∷ cs) w = cqs-freed s o cs (freed_of s (source_at o c) c w) ∙ one (source_at o c)
+cqs-freed s o (c ∷ cs) w = cqs-freed s o cs (after_freeing s (source_at o c) c w) ∙ one (source_at o c)
   where
-    one : (o : Option ℕ) → (freed_of s o c w).cq ≡ w.cq
+    one : (o : Option ℕ) → (after_freeing s o c w).cq ≡ w.cq
     one None = refl
     one (Some t) = refl

@@ -3,6 +3,6 @@ mod FreeableLemmas
 mod FreedLemmas
 mod PollLemmas
 mod PostingLemmas
-mod ReceiveLemmas
-mod SendLemmas
+pub mod ReceiveLemmas
+pub mod SendLemmas
 mod TakingLemmas

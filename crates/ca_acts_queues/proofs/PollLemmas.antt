@@ -20,7 +20,7 @@ use Rattle.ca_model.specs.machine.VerbAnswers.{Answer_plan, Call, Refuse_plan, a
 use Rattle.ca_model.specs.machine.World.{Cq_of, Name, World}
 use Rattle.ca_held.specs.HeldView.{Holding, hold}
 use Rattle.ca_acts.specs.Act.{IsAct}
-use Rattle.ca_acts_queues.specs.Polling.{AreApart, AreOfOwnPlaces, CanFreeAll, CanFreeEach, freed_all, freed_of, places_of}
+use Rattle.ca_acts_queues.specs.Polling.{AreApart, AreOfOwnPlaces, CanFreeAll, CanFreeEach, after_freeing_all, after_freeing, places_of}
 use Rattle.ca_acts_queues.proofs.FreeableLemmas.{taken-free}
 use Rattle.ca_acts_queues.proofs.TakingLemmas.{places-touched, polled_world, take-performs}
 use Rattle.ca_acts_queues.proofs.FreedLemmas.{cqs-freed}
@@ -32,7 +32,7 @@ pub one_listed : (k : ℕ) (cs : List Completion) (c : Completion) → slice_get
 one_listed k cs c is = ap (λ xs. take k cs ++ xs) (sym (take-at k cs c is)) ∙ sym (take-more k cs)
 
 -- what is freed leaves completion queues
-pub freed_keeps : (s : Slot) (o : Option ℕ) (c : Completion) (w : World) → (freed_of s o c w).cq ≡ w.cq
+pub freed_keeps : (s : Slot) (o : Option ℕ) (c : Completion) (w : World) → (after_freeing s o c w).cq ≡ w.cq
 freed_keeps s None c w = refl
 freed_keeps s (Some srq) c w = refl
 
@@ -95,7 +95,7 @@ poll_can_free w s n cq polled listed is same took each own =
 pub poll_acts : (h one two : Holding) (call : Call) (s : Slot) (n least count : ℕ) (cq : CompletionQueue) (polled listed : List Completion) (m : MarkList)
     → h.world.cq s ≡ Some cq → IfSome (h.world.cq s) (AreApart h.world)
     → 0 < n → n ≤ MAX_POLLED → least ≤ n → least ≤ count → count ≡ length listed → listed ≡ polled → polled ≡ take n cq.waiting
-    → one ≡ record h { world = freed_all s (h.world.cq s) listed h.world }
+    → one ≡ record h { world = after_freeing_all s (h.world.cq s) listed h.world }
     → two ≡ hold one (Cq_of s) (option_map (after_polls count) (one.world.cq s))
     → m.marks ≡ answer_mark call (answers.Polled polled) ∷ []
     → IsAct (Ok m) (perform h.world (poll_plan call s n least)) h two
@@ -109,7 +109,7 @@ poll_acts h one two call s n least count cq polled listed m is apart some few wi
         ∙ take-performs h.world s cq polled call (subst (λ o. IfSome o (AreApart h.world)) is apart)
 
     after : List Completion → Option CompletionQueue → World
-    after cs o = freed_all s o cs h.world
+    after cs o = after_freeing_all s o cs h.world
 
     world : two ≡ record h { world = polled_world h.world s cq polled }
     world = takes

@@ -1,12 +1,12 @@
 -- What the plan of PostRecv does. For proofs only.
-use Rattle.std.proofs.Common.{◌≡◌, ◌∙◌, sym, subst, ap, ℕ, Bool, true, false, List, [], ◌∷◌, Option, None, Some, Ok, nat_lt, is_none}
+use Rattle.std.proofs.Common.{◌≡◌, ◌∙◌, sym, subst, ap, ℕ, Bool, true, false, List, [], ◌∷◌, Option, None, Some, Ok, nat_lt, is_none, IfSome}
 use Rattle.std.specs.Option.{option_map, option_map_or}
 use Rattle.ca_keys.specs.Refusals.{first_of}
 use Rattle.ca_keys.specs.Numbers.{queue_of}
 use Rattle.ca_keys.specs.declared.names.Slot.{Slot}
 use Rattle.ca_base.specs.declared.request.RecvRequest.{RecvRequest}
 use Rattle.ca_base.specs.objects.CompletionQueue.{CompletionQueue, after_puts}
-use Rattle.ca_base.specs.objects.QueuePair.{QueuePair, QueueSlot, NoQueue, Present, recv_cq_of}
+use Rattle.ca_base.specs.objects.QueuePair.{QueuePair, QueueSlot, NoQueue, Present, recv_cq_of, queue_in}
 use Rattle.ca_base.specs.objects.WorkQueue.{is_full}
 use Rattle.ca_model.specs.declared.answer.Answer.TheVariants as answers
 use Rattle.ca_model.specs.declared.answer.Refusal.{Refusal}
@@ -27,7 +27,7 @@ use Rattle.ca_base.specs.objects.StateTable.{state_eq}
 use Rattle.ca_held.specs.HeldView.{Holding, hold}
 use Rattle.ca_acts.specs.Act.{IsAct}
 use Rattle.ca_acts.specs.Room.{FitIn}
-use Rattle.ca_acts_queues.specs.Posting.{FitsReceive, IfPresent, slot_with, with_receive}
+use Rattle.ca_acts_queues.specs.Posting.{FitsReceive, slot_with, with_receive}
 use Rattle.ca_acts.proofs.RefusalLemmas.{unless-passed, unless-refused}
 use Rattle.ca_acts_queues.proofs.PostingLemmas.{absent-performs, last-fails, present-performs}
 
@@ -57,6 +57,14 @@ pub recv_held : (has : Name → Bool) (w : World) (call : Call) (s : Slot) (requ
     → AllPass has (touches w (post_recv_plan call s request)) → has (Cq_of (recv_cq_of q)) ≡ true
 recv_held has w call s request q is all = (rw is at all).1.0
 
+-- how a receive ends that no refusal meets
+pub recv_ends : (w : World) (call : Call) (s : Slot) (request : RecvRequest) (q : QueuePair) → w.queue (queue_of s) ≡ Present q
+    → first_of (post_recv_refusals request q) ≡ None
+    → perform w (post_recv_plan call s request) ≡ perform w (recv_done call request q (w.cq (recv_cq_of q)))
+recv_ends w call s request q is first =
+    present-performs w call s (recv_body call request) q is
+    ∙ unless-passed w call (recv_done call request q (w.cq (recv_cq_of q))) (post_recv_refusals request q) first
+
 -- a receive is posted, and its completions are put: the plan is carried out
 pub recv_acts : (h one two : Holding) (call : Call) (s : Slot) (request : RecvRequest) (q : QueuePair) (m : MarkList) (flushed : List Mark) (done : List Completion)
     → h.world.queue (queue_of s) ≡ Present q → q.queue ≡ queue_of s → first_of (post_recv_refusals request q) ≡ None
@@ -66,14 +74,10 @@ pub recv_acts : (h one two : Holding) (call : Call) (s : Slot) (request : RecvRe
     → m.marks ≡ answer_mark call (answers.Posted None) ∷ flushed
     → IsAct (Ok m) (perform h.world (post_recv_plan call s request)) h two
 recv_acts h one two call s request q m flushed done is own first flush completes posted put marks =
-    subst (λ o. IsAct (Ok m) o h two) (sym performs) (marks ∙ ap (λ ms. answer_mark call (answers.Posted None) ∷ ms) flush, world)
+    subst (λ o. IsAct (Ok m) o h two) (sym (recv_ends h.world call s request q is first)) (marks ∙ ap (λ ms. answer_mark call (answers.Posted None) ∷ ms) flush, world)
   where
     cq : Slot
     cq = recv_cq_of q
-
-    performs : perform h.world (post_recv_plan call s request) ≡ perform h.world (recv_done call request q (h.world.cq cq))
-    performs = present-performs h.world call s (recv_body call request) q is
-        ∙ unless-passed h.world call (recv_done call request q (h.world.cq cq)) (post_recv_refusals request q) first
 
     after : QueueSlot
     after = Present (after_flush (with_receive request q))
@@ -92,8 +96,8 @@ recv_has_place request q first =
     refusals.HasSrq refusals.TooLong refusals.QueueState refusals.QueueFull first
 
 pub recv_fits : (w : World) (s : Slot) (request : RecvRequest) (q : QueuePair) (flushed : List Mark) (done : List Completion) → w.queue (queue_of s) ≡ Present q
-    → IfPresent (w.queue (queue_of s)) (FitsReceive w request) → first_of (post_recv_refusals request q) ≡ None
+    → IfSome (queue_in (w.queue (queue_of s))) (FitsReceive w request) → first_of (post_recv_refusals request q) ≡ None
     → flushed ≡ marks_of_flush (with_receive request q) → done ≡ completions_to q q.recv_cq flushed
     → FitIn (w.cq (recv_cq_of q)) done
 recv_fits w s request q flushed done is fits first flush completes =
-    subst (FitIn (w.cq (recv_cq_of q))) (sym (completes ∙ ap (completions_to q q.recv_cq) flush)) (subst (λ o. IfPresent o (FitsReceive w request)) is fits first)
+    subst (FitIn (w.cq (recv_cq_of q))) (sym (completes ∙ ap (completions_to q q.recv_cq) flush)) (subst (λ o. IfSome (queue_in o) (FitsReceive w request)) is fits first)

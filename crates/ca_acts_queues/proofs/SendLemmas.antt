@@ -8,7 +8,7 @@ use Rattle.ca_base.specs.declared.request.SendOp.{SendOp}
 use Rattle.ca_base.specs.declared.request.SendOp.TheVariants as ops
 use Rattle.ca_base.specs.declared.request.SendRequest.{SendRequest}
 use Rattle.ca_base.specs.objects.CompletionQueue.{CompletionQueue, after_puts}
-use Rattle.ca_base.specs.objects.QueuePair.{QueuePair, NoQueue, Present, send_cq_of}
+use Rattle.ca_base.specs.objects.QueuePair.{QueuePair, NoQueue, Present, send_cq_of, queue_in}
 use Rattle.ca_base.specs.objects.Window.{after_draw, byte_drawn}
 use Rattle.ca_base.specs.objects.WorkQueue.{is_full}
 use Rattle.ca_model.specs.declared.answer.Answer.TheVariants as answers
@@ -33,7 +33,7 @@ use Rattle.ca_base.specs.objects.StateTable.{is_among}
 use Rattle.ca_held.specs.HeldView.{Holding, hold}
 use Rattle.ca_acts.specs.Act.{IsAct}
 use Rattle.ca_acts.specs.Room.{FitIn}
-use Rattle.ca_acts_queues.specs.Posting.{FitsSend, IfPresent, slot_with}
+use Rattle.ca_acts_queues.specs.Posting.{FitsSend, slot_with}
 use Rattle.ca_acts_queues.specs.Drawing.{byte_for, is_no_window, key_for, window_of_bind, windows_after, world_after_send}
 use Rattle.ca_acts.proofs.RefusalLemmas.{unless-passed, unless-refused}
 use Rattle.ca_acts_queues.proofs.PostingLemmas.{absent-performs, last-fails, present-performs, present-touches}
@@ -131,6 +131,16 @@ send_refused w call s request q r is there first =
     ∙ send-body-performs w call s request q (window_of_bind s request.op) there
     ∙ unless-refused w call (send_end w call s request q (window_of_bind s request.op)) (post_send_refusals request q) r first
 
+-- where none does
+pub send_ends : (w : World) (call : Call) (s : Slot) (request : SendRequest) (q : QueuePair) (o : Option Slot) → w.queue (queue_of s) ≡ Present q
+    → o ≡ window_of_bind s request.op → is_no_window w o ≡ false → first_of (post_send_refusals request q) ≡ None
+    → perform w (post_send_plan call s request) ≡ perform w (send_end w call s request q o)
+send_ends w call s request q o is window there first =
+    send-performs w call s request q is
+    ∙ ap (λ x. perform w (send_body call s request x q)) (sym window)
+    ∙ send-body-performs w call s request q o there
+    ∙ unless-passed w call (send_end w call s request q o) (post_send_refusals request q) first
+
 -- what is held, with another queue pair and another completion queue, after the draw
 abbrev pub after_send : Holding → QueuePair → QueuePair → Option CompletionQueue → Option Slot → Holding
 after_send h q after cq window = record h { world = world_after_send h.world q after cq window }
@@ -155,17 +165,11 @@ pub send_acts : (h drawn one two : Holding) (call : Call) (s : Slot) (request : 
     → m.marks ≡ answer_mark call (answers.Posted (key_for o byte)) ∷ flushed
     → IsAct (Ok m) (perform h.world (post_send_plan call s request)) h two
 send_acts h drawn one two call s request q m flushed done o byte is own window there first drew flush completes draws posted put marks =
-    subst (λ x. IsAct (Ok m) x h two) (sym performs) (send-end-acts h two call s request q m o world
+    subst (λ x. IsAct (Ok m) x h two) (sym (send_ends h.world call s request q o is window there first)) (send-end-acts h two call s request q m o world
     (marks ∙ ap (λ b. answer_mark call (answers.Posted (key_for o b)) ∷ flushed) drew ∙ ap (λ ms. answer_mark call (answers.Posted (key_for o (byte_for h.world o))) ∷ ms) flush))
   where
     cq : Slot
     cq = send_cq_of q
-
-    performs : perform h.world (post_send_plan call s request) ≡ perform h.world (send_end h.world call s request q o)
-    performs = send-performs h.world call s request q is
-        ∙ ap (λ x. perform h.world (send_body call s request x q)) (sym window)
-        ∙ send-body-performs h.world call s request q o there
-        ∙ unless-passed h.world call (send_end h.world call s request q o) (post_send_refusals request q) first
 
     after : Option ℕ → QueuePair → QueuePair
     after b p = after_flush (with_send request b p)
@@ -191,8 +195,8 @@ send_has_place request q first =
     (refusals.OutOfRange fields.List) refusals.TooLong refusals.QueueState refusals.QueueFull first
 
 pub send_fits : (w : World) (s : Slot) (request : SendRequest) (q : QueuePair) (flushed : List Mark) (done : List Completion) → w.queue (queue_of s) ≡ Present q
-    → IfPresent (w.queue (queue_of s)) (FitsSend w s request) → is_no_window w (window_of_bind s request.op) ≡ false → first_of (post_send_refusals request q) ≡ None
+    → IfSome (queue_in (w.queue (queue_of s))) (FitsSend w s request) → is_no_window w (window_of_bind s request.op) ≡ false → first_of (post_send_refusals request q) ≡ None
     → flushed ≡ marks_of_flush (with_send request (byte_for w (window_of_bind s request.op)) q) → done ≡ completions_to q q.send_cq flushed
     → FitIn (w.cq (send_cq_of q)) done
 send_fits w s request q flushed done is fits there first flush completes =
-    subst (FitIn (w.cq (send_cq_of q))) (sym (completes ∙ ap (completions_to q q.send_cq) flush)) (subst (λ o. IfPresent o (FitsSend w s request)) is fits there first)
+    subst (FitIn (w.cq (send_cq_of q))) (sym (completes ∙ ap (completions_to q q.send_cq) flush)) (subst (λ o. IfSome (queue_in o) (FitsSend w s request)) is fits there first)

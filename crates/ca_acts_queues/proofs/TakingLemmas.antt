@@ -15,7 +15,7 @@ use Rattle.ca_model.specs.machine.VerbAnswers.{Answer_plan, Call, answer_mark}
 use Rattle.ca_model.specs.machine.World.{Cq_of, Name, Queue_of, Srq_of, Thing, World, get, put}
 use Rattle.ca_model.proofs.RestLemmas.{put-leaves}
 use Rattle.ca_model.proofs.ThingLemmas.{is_named_in, name-path, put-names, put-there, same-worlds, updates_by}
-use Rattle.ca_acts_queues.specs.Polling.{AreApart, freed_all, place_of, places_of, shared_at}
+use Rattle.ca_acts_queues.specs.Polling.{AreApart, after_freeing_all, place_of, places_of, shared_at}
 use Rattle.ca_acts_queues.proofs.FreedLemmas.{queue-freed, rest-freed, shared-freed, shared_after}
 
 -- what completions that are taken free, as the plan has it: each frees all that its queue pair or its shared receive queue
@@ -66,7 +66,7 @@ module _ (w : World) (s : Slot) (cq : CompletionQueue) (polled : List Completion
 
   -- the world after the poll
   abbrev pub polled_world : World
-  polled_world = put (freed_all s (Some cq) polled w) (Cq_of s) left
+  polled_world = put (after_freeing_all s (Some cq) polled w) (Cq_of s) left
 
   poll-world : put_all (updates_by (get polled_world) (places_of s (Some cq) polled)) (put w (Cq_of s) left) ≡ polled_world
   poll-world = same-worlds (put_all (updates_by (get polled_world) (places_of s (Some cq) polled)) (put w (Cq_of s) left)) polled_world
@@ -74,9 +74,9 @@ module _ (w : World) (s : Slot) (cq : CompletionQueue) (polled : List Completion
     where
       rest : (n : Name) (b : Bool) → name_eq (Cq_of s) n ≡ b → is_named_in (places_of s (Some cq) polled) n ≡ false → get (put w (Cq_of s) left) n ≡ get polled_world n
       rest n true is other = subst (λ m. get (put w (Cq_of s) left) m ≡ get polled_world m) (name-path (Cq_of s) n is)
-          (put-there w (Cq_of s) left ∙ sym (put-there (freed_all s (Some cq) polled w) (Cq_of s) left))
+          (put-there w (Cq_of s) left ∙ sym (put-there (after_freeing_all s (Some cq) polled w) (Cq_of s) left))
       rest n false is other = put-leaves w (Cq_of s) left n is ∙ sym (rest-freed s cq polled w n other)
-          ∙ sym (put-leaves (freed_all s (Some cq) polled w) (Cq_of s) left n is)
+          ∙ sym (put-leaves (after_freeing_all s (Some cq) polled w) (Cq_of s) left n is)
 
       by : (n : Name) (b : Bool) → is_named_in (places_of s (Some cq) polled) n ≡ b → (if b then get polled_world n else get (put w (Cq_of s) left) n) ≡ get polled_world n
       by n true is = refl

@@ -6,14 +6,14 @@ use Rattle.ca_base.specs.declared.completion.Completion.{Completion}
 use Rattle.ca_keys.specs.declared.names.QueueId.{QueueId}
 use Rattle.ca_keys.specs.declared.names.Slot.{Slot}
 use Rattle.ca_base.specs.objects.CompletionQueue.{CompletionQueue, source_in}
-use Rattle.ca_base.specs.objects.QueuePair.{QueuePair, QueueSlot}
+use Rattle.ca_base.specs.objects.QueuePair.{QueuePair, QueueSlot, queue_in}
 use Rattle.ca_base.specs.objects.WorkQueue.{WorkQueue, after_retire}
 use Rattle.ca_base.specs.declared.request.RecvRequest.{RecvRequest}
 use Rattle.ca_base.specs.objects.SharedReceives.{after_receive_retire}
 use Rattle.ca_srq.specs.Taken.{stands_once}
 use Rattle.ca_model.specs.machine.CompletionVerbs.{source_of_completion}
 use Rattle.ca_model.specs.machine.World.{World, Name, Queue_of, Srq_of, put}
-use Rattle.ca_acts_queues.specs.Posting.{IfPresent, slot_with}
+use Rattle.ca_acts_queues.specs.Posting.{slot_with}
 
 -- a shared receive queue of the domain of a slot
 abbrev pub shared_at : Slot → ℕ → Slot
@@ -29,8 +29,8 @@ place_of s None c = Queue_of c.queue
 place_of s (Some srq) c = Srq_of (shared_at s srq)
 
 -- a queue pair in which the places up to that of a completion are free
-abbrev pub place_freed : Completion → QueuePair → QueuePair
-place_freed c p = by c.receive
+abbrev pub with_places_free : Completion → QueuePair → QueuePair
+with_places_free c p = by c.receive
   where
     by : Bool → QueuePair
     by true = record p { receives = option_map (after_retire c.place) p.receives }
@@ -46,26 +46,26 @@ CanRetire c q = by c.receive q.receives
     by false r = suc c.place < 2 ^ 64
 
 -- a world after it is freed
-abbrev pub freed_of : Slot → Option ℕ → Completion → World → World
-freed_of s None c w = put w (Queue_of c.queue) (slot_with (place_freed c) (w.queue c.queue))
-freed_of s (Some srq) c w = put w (Srq_of (shared_at s srq)) (record (w.srq (shared_at s srq)) {
+abbrev pub after_freeing : Slot → Option ℕ → Completion → World → World
+after_freeing s None c w = put w (Queue_of c.queue) (slot_with (with_places_free c) (w.queue c.queue))
+after_freeing s (Some srq) c w = put w (Srq_of (shared_at s srq)) (record (w.srq (shared_at s srq)) {
   srq = option_map (after_receive_retire c.place) (w.srq (shared_at s srq)).srq;
 })
 
 -- it can be freed: in a queue pair it is below the end of its type, in a shared receive queue it stands once
 abbrev pub CanFreeOf : Slot → Option ℕ → Completion → World → Type 0
-CanFreeOf s None c w = IfPresent (w.queue c.queue) (CanRetire c)
+CanFreeOf s None c w = IfSome (queue_in (w.queue c.queue)) (CanRetire c)
 CanFreeOf s (Some srq) c w = IfSome (w.srq (shared_at s srq)).srq (λ z. stands_once c.place z.taken ≡ true)
 
 -- a world after what completions stand for was freed, one after another
-abbrev pub freed_all : Slot → Option CompletionQueue → List Completion → World → World
-freed_all s cq [] w = w
-freed_all s cq (c ∷ cs) w = freed_all s cq cs (freed_of s (source_at cq c) c w)
+abbrev pub after_freeing_all : Slot → Option CompletionQueue → List Completion → World → World
+after_freeing_all s cq [] w = w
+after_freeing_all s cq (c ∷ cs) w = after_freeing_all s cq cs (after_freeing s (source_at cq c) c w)
 
 -- it can be freed, one after another
 abbrev pub CanFreeAll : Slot → Option CompletionQueue → List Completion → World → Type 0
 CanFreeAll s cq [] w = Unit {0}
-CanFreeAll s cq (c ∷ cs) w = CanFreeOf s (source_at cq c) c w × CanFreeAll s cq cs (freed_of s (source_at cq c) c w)
+CanFreeAll s cq (c ∷ cs) w = CanFreeOf s (source_at cq c) c w × CanFreeAll s cq cs (after_freeing s (source_at cq c) c w)
 
 -- the things in which they free something
 abbrev pub places_of : Slot → Option CompletionQueue → List Completion → List Name
@@ -86,7 +86,7 @@ AreOfOwnPlaces cq = (srq : ℕ) → IsDistinct (λ a b. a == b) (places_from cq 
 
 -- a queue pair that reserved here for a shared receive queue has no receives of its own
 abbrev pub IsApart : CompletionQueue → QueueId → QueueSlot → Type 0
-IsApart cq q slot = is_some (source_in cq.reservations q) ≡ true → IfPresent slot (λ p. p.receives ≡ None)
+IsApart cq q slot = is_some (source_in cq.reservations q) ≡ true → IfSome (queue_in slot) (λ p. p.receives ≡ None)
 
 -- the same of all queue pairs
 abbrev pub AreApart : World → CompletionQueue → Type 0

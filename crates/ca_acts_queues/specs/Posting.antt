@@ -22,11 +22,6 @@ abbrev pub slot_with : (QueuePair → QueuePair) → QueueSlot → QueueSlot
 slot_with f (NoQueue incarnation timers) = NoQueue incarnation timers
 slot_with f (Present q) = Present (f q)
 
--- this holds of the queue pair in a slot, where there is one
-abbrev pub IfPresent : QueueSlot → (QueuePair → Type 0) → Type 0
-IfPresent (NoQueue incarnation timers) P = Unit {0}
-IfPresent (Present q) P = P q
-
 -- one more receive has a posting place
 abbrev pub CanPostReceive : QueuePair → Type 0
 CanPostReceive q = IfSome q.receives (λ r. suc (next_place r) < 2 ^ 64)

@@ -2,6 +2,7 @@ ghost use Rattle.std.specs.Prelude.{◌≡◌, ◌≤◌, true, IfOk, IfSome, ta
 ghost use Rattle.std.specs.Option.{option_map};
 ghost use Rattle.ca_base.specs.declared.limits.TheConstants.{MAX_POLLED};
 ghost use Rattle.ca_base.specs.objects.CompletionQueue.{after_polls};
+ghost use Rattle.ca_base.specs.objects.QueuePair.{queue_in};
 ghost use Rattle.ca_held.specs.HeldView.{hold, holding};
 ghost use Rattle.ca_model.specs.machine.CompletionVerbs.{poll_plan};
 ghost use Rattle.ca_model.specs.machine.Frame.{AllPass};
@@ -11,9 +12,9 @@ ghost use Rattle.ca_base.specs.objects.SharedReceives.{after_receive_retire};
 ghost use Rattle.ca_srq.specs.Taken.{stands_once};
 ghost use Rattle.ca_acts.specs.Act.{Acts, Suffices};
 ghost use Rattle.ca_acts.specs.Calls.{call_of};
-ghost use Rattle.ca_acts_queues.specs.Posting.{IfPresent, slot_with};
+ghost use Rattle.ca_acts_queues.specs.Posting.{slot_with};
 ghost use Rattle.ca_acts_queues.specs.Polling.{AreApart, AreOfOwnPlaces, CanFreeAll, CanFreeEach, CanFreeOf, CanRetire};
-ghost use Rattle.ca_acts_queues.specs.Polling.{freed_all, freed_of, place_freed, place_of, places_of, source_at};
+ghost use Rattle.ca_acts_queues.specs.Polling.{after_freeing_all, after_freeing, with_places_free, place_of, places_of, source_at};
 
 use ca_acts::Call;
 use ca_base::limits::MAX_POLLED;
@@ -105,7 +106,7 @@ fn free_all(held: &mut Held, slot: Slot, completions: &[Completion])
         (places_of slot ((holding held.old).world.cq slot) completions.now) }
     requires places { CanFreeAll slot ((holding held.old).world.cq slot) completions.now (holding held.old).world }
     ensures { holding held.new ≡ record (holding held.old) {
-      world = freed_all slot ((holding held.old).world.cq slot) completions.now (holding held.old).world;
+      world = after_freeing_all slot ((holding held.old).world.cq slot) completions.now (holding held.old).world;
     } }
 {
     for completion in completions {
@@ -141,7 +142,7 @@ fn free_place(held: &mut Held, slot: Slot, source: Option<u16>, completion: &Com
     requires held { (holding held.old).has (place_of slot source completion.now) ≡ true }
     requires place { CanFreeOf slot source completion.now (holding held.old).world }
     ensures { holding held.new ≡ record (holding held.old) {
-      world = freed_of slot source completion.now (holding held.old).world;
+      world = after_freeing slot source completion.now (holding held.old).world;
     } }
 {
     match source {
@@ -175,9 +176,9 @@ fn free_in_shared(held: &mut Held, slot: Slot, place: u64)
 #[tactic(auto, using(ca_held::proofs::HoldLemmas::put_queue))]
 fn free_in_queue(held: &mut Held, completion: &Completion)
     requires held { (holding held.old).has (Queue_of completion.now.queue) ≡ true }
-    requires place { IfPresent ((holding held.old).world.queue completion.now.queue) (CanRetire completion.now) }
+    requires place { IfSome (queue_in ((holding held.old).world.queue completion.now.queue)) (CanRetire completion.now) }
     ensures { holding held.new ≡ hold (holding held.old) (Queue_of completion.now.queue)
-        (slot_with (place_freed completion.now) ((holding held.old).world.queue completion.now.queue)) }
+        (slot_with (with_places_free completion.now) ((holding held.old).world.queue completion.now.queue)) }
 {
     if let QueueSlot::Present(queue) = held.queue_mut(completion.queue) {
         retire(queue, completion);
@@ -187,7 +188,7 @@ fn free_in_queue(held: &mut Held, completion: &Completion)
 /// The places of a queue pair up to that of a completion of it are free again.
 fn retire(queue: &mut QueuePart, completion: &Completion)
     requires { CanRetire completion.now queue.old }
-    ensures { queue.new ≡ place_freed completion.now queue.old }
+    ensures { queue.new ≡ with_places_free completion.now queue.old }
 {
     if !completion.receive {
         queue.sends.retire(completion.place);

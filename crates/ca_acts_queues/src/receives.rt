@@ -1,6 +1,7 @@
-ghost use Rattle.std.specs.Prelude.{◌≡◌, ◌<◌, true, false, IfOk};
+ghost use Rattle.std.specs.Prelude.{◌≡◌, ◌<◌, true, false, IfOk, IfSome};
 ghost use Rattle.std.specs.Option.{option_map_or};
 ghost use Rattle.ca_base.specs.objects.WorkQueue.{is_full};
+ghost use Rattle.ca_base.specs.objects.QueuePair.{queue_in};
 ghost use Rattle.ca_keys.specs.Numbers.{queue_of};
 ghost use Rattle.ca_held.specs.HeldView.{hold, holding};
 ghost use Rattle.ca_model.specs.machine.PostingVerbs.{after_flush, post_recv_plan};
@@ -8,7 +9,7 @@ ghost use Rattle.ca_model.specs.machine.Sound.{IsQueueOf};
 ghost use Rattle.ca_model.specs.machine.World.{Queue_of};
 ghost use Rattle.ca_acts.specs.Act.{Acts, Suffices};
 ghost use Rattle.ca_acts.specs.Calls.{call_of};
-ghost use Rattle.ca_acts_queues.specs.Posting.{CanPostReceive, FitsReceive, IfPresent, slot_with, with_receive};
+ghost use Rattle.ca_acts_queues.specs.Posting.{CanPostReceive, FitsReceive, slot_with, with_receive};
 
 use crate::flushes::{flush_in_error, flushed_with_receive};
 use crate::refusals::recv_refusal;
@@ -31,8 +32,8 @@ pub fn post_recv(
     requires small { slot.slot < 256 }
     requires suffices { Suffices held.old (post_recv_plan (call_of call.now) slot request.now) }
     requires queue { IsQueueOf (queue_of slot) ((holding held.old).world.queue (queue_of slot)) }
-    requires next { IfPresent ((holding held.old).world.queue (queue_of slot)) CanPostReceive }
-    requires fits { IfPresent ((holding held.old).world.queue (queue_of slot))
+    requires next { IfSome (queue_in ((holding held.old).world.queue (queue_of slot))) CanPostReceive }
+    requires fits { IfSome (queue_in ((holding held.old).world.queue (queue_of slot)))
         (FitsReceive (holding held.old).world request.now) }
     ensures act { Acts result (post_recv_plan (call_of call.now) slot request.now) held.old held.new }
 {
@@ -62,8 +63,8 @@ pub fn post_recv(
 #[tactic(auto, using(ca_held::proofs::HoldLemmas::put_queue))]
 fn post_in(held: &mut Held, name: QueueId, receive: RecvRequest)
     requires held { (holding held.old).has (Queue_of name) ≡ true }
-    requires next { IfPresent ((holding held.old).world.queue name) CanPostReceive }
-    requires room { IfPresent ((holding held.old).world.queue name)
+    requires next { IfSome (queue_in ((holding held.old).world.queue name)) CanPostReceive }
+    requires room { IfSome (queue_in ((holding held.old).world.queue name))
         (λ q. option_map_or is_full q.receives false ≡ false) }
     ensures { holding held.new ≡ hold (holding held.old) (Queue_of name)
         (slot_with (λ q. after_flush (with_receive receive q)) ((holding held.old).world.queue name)) }

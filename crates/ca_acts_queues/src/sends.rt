@@ -1,5 +1,6 @@
 ghost use Rattle.std.specs.Prelude.{◌≡◌, ◌<◌, true, false, IfOk, IfSome};
 ghost use Rattle.ca_base.specs.objects.WorkQueue.{is_full};
+ghost use Rattle.ca_base.specs.objects.QueuePair.{queue_in};
 ghost use Rattle.ca_keys.specs.Numbers.{queue_of};
 ghost use Rattle.ca_held.specs.HeldView.{hold, holding};
 ghost use Rattle.ca_model.specs.machine.PostingVerbs.{after_flush, post_send_plan, with_send};
@@ -8,7 +9,7 @@ ghost use Rattle.ca_model.specs.machine.World.{Queue_of};
 ghost use Rattle.ca_acts.specs.Act.{Acts, Suffices};
 ghost use Rattle.ca_acts.specs.Calls.{call_of};
 ghost use Rattle.ca_acts_queues.specs.Drawing as drawing;
-ghost use Rattle.ca_acts_queues.specs.Posting.{CanPostSend, FitsSend, IfPresent, slot_with};
+ghost use Rattle.ca_acts_queues.specs.Posting.{CanPostSend, FitsSend, slot_with};
 
 use crate::drawing::{draw, is_no_window, key_for, window_of_bind};
 use crate::flushes::{flush_in_error, flushed_with_send};
@@ -34,8 +35,8 @@ pub fn post_send(
     requires window { IfSome (drawing.window_of_bind slot request.now.op) (λ x. x.slot < 32768) }
     requires suffices { Suffices held.old (post_send_plan (call_of call.now) slot request.now) }
     requires queue { IsQueueOf (queue_of slot) ((holding held.old).world.queue (queue_of slot)) }
-    requires next { IfPresent ((holding held.old).world.queue (queue_of slot)) CanPostSend }
-    requires fits { IfPresent ((holding held.old).world.queue (queue_of slot))
+    requires next { IfSome (queue_in ((holding held.old).world.queue (queue_of slot))) CanPostSend }
+    requires fits { IfSome (queue_in ((holding held.old).world.queue (queue_of slot)))
         (FitsSend (holding held.old).world slot request.now) }
     ensures act { Acts result (post_send_plan (call_of call.now) slot request.now) held.old held.new }
 {
@@ -70,8 +71,8 @@ pub fn post_send(
 #[tactic(auto, using(ca_held::proofs::HoldLemmas::put_queue))]
 fn post_in(held: &mut Held, name: QueueId, posted: PostedSend)
     requires held { (holding held.old).has (Queue_of name) ≡ true }
-    requires next { IfPresent ((holding held.old).world.queue name) CanPostSend }
-    requires room { IfPresent ((holding held.old).world.queue name) (λ q. is_full q.sends ≡ false) }
+    requires next { IfSome (queue_in ((holding held.old).world.queue name)) CanPostSend }
+    requires room { IfSome (queue_in ((holding held.old).world.queue name)) (λ q. is_full q.sends ≡ false) }
     ensures { holding held.new ≡ hold (holding held.old) (Queue_of name)
         (slot_with (λ q. after_flush (with_send posted.request posted.drawn q)) ((holding held.old).world.queue name)) }
 {

@@ -1,5 +1,5 @@
 mod AlsoLemmas
 mod HasLemmas
 mod KeyLemmas
-mod ReadyLemmas
+pub mod ReadyLemmas
 mod TurnLemmas

@@ -15,7 +15,7 @@ use Rattle.ca_model.specs.machine.Numbering.{Numbered}
 use Rattle.ca_model.specs.machine.Parts.{Enough, Part, operation_needs, part, request_needs, row_needs, where_some}
 use Rattle.ca_model.specs.machine.Requester.{Performs, RequestTurn, Sends, Waits, is_too_much, next_request, packet_row, turn_of, turn_refusals}
 use Rattle.ca_model.specs.machine.Row.{Does, Ending, NotPossible, plain_row}
-use Rattle.ca_needs.specs.Next.{is_full}
+use Rattle.ca_needs.specs.Next.{waits_for_answers}
 use Rattle.ca_sending.specs.declared.turn.Found.{Found}
 use Rattle.ca_sending.specs.Turn.{IsWaiting, SendsFound, is_performing, operation_in, turn_row}
 
@@ -56,20 +56,20 @@ is_waiting : RequestTurn → Bool
 is_waiting (Waits reason) = true
 is_waiting t = false
 
-not-full : (q : QueuePair) (reason : Reason) → first_of (turn_refusals q) ≡ Some reason → is_full reason ≡ false
+not-full : (q : QueuePair) (reason : Reason) → first_of (turn_refusals q) ≡ Some reason → waits_for_answers reason ≡ false
 not-full q reason is = by _ _ _ _ is
   where
     full : Option Reason → Bool
-    full o = option_map_or is_full o false
+    full o = option_map_or waits_for_answers o false
 
-    by : (a b c d : Bool) → first_of ((a, reasons.State) ∷ (b, reasons.RnrWait) ∷ (c, reasons.Empty) ∷ (d, reasons.Fence) ∷ []) ≡ Some reason → is_full reason ≡ false
+    by : (a b c d : Bool) → first_of ((a, reasons.State) ∷ (b, reasons.RnrWait) ∷ (c, reasons.Empty) ∷ (d, reasons.Fence) ∷ []) ≡ Some reason → waits_for_answers reason ≡ false
     by true b c d is = ap full (sym is)
     by false true c d is = ap full (sym is)
     by false false true d is = ap full (sym is)
     by false false false true is = ap full (sym is)
     by false false false false is = absurd (none-some reason is)
 
-waits-of : (q : QueuePair) (reason : Reason) → turn_of q ≡ Waits reason → is_full reason ≡ false
+waits-of : (q : QueuePair) (reason : Reason) → turn_of q ≡ Waits reason → waits_for_answers reason ≡ false
 unfolding reason_in is_waiting
 waits-of q reason is = by (first_of (turn_refusals q)) refl (next_request q) is
   where
@@ -82,9 +82,9 @@ waits-of q reason is = by (first_of (turn_refusals q)) refl (next_request q) is
     local true n = refl
     local false n = refl
 
-    by : (o : Option Reason) → first_of (turn_refusals q) ≡ o → (n : Option Numbered) → turn o n ≡ Waits reason → is_full reason ≡ false
-    by (Some r) e n is = subst (λ x. is_full x ≡ false) (ap reason_in is) (not-full q r e)
-    by None e None is = ap (λ t. is_full (reason_in t)) (sym is)
+    by : (o : Option Reason) → first_of (turn_refusals q) ≡ o → (n : Option Numbered) → turn o n ≡ Waits reason → waits_for_answers reason ≡ false
+    by (Some r) e n is = subst (λ x. waits_for_answers x ≡ false) (ap reason_in is) (not-full q r e)
+    by None e None is = ap (λ t. waits_for_answers (reason_in t)) (sym is)
     by None e (Some n) is = absurd (true≢false (sym (ap is_waiting is) ∙ local (is_local n.request.op) n))
 
 module _ (c : Configuration) (q : QueuePair) (reason : Reason) (w : IsWaiting q reason) where
@@ -113,19 +113,19 @@ module _ (c : Configuration) (q : QueuePair) (reason : Reason) (w : IsWaiting q 
       by false m = absurd (true≢false (let does : is_possible ((packet_row q true n).allowed [] None) ≡ true = rw m refl in
           sym does ∙ ap (λ row. is_possible (row.allowed [] None)) (sym same ∙ w.row true)))
 
-pub waits_full : (c : Configuration) (q : QueuePair) (reason : Reason) → IsWaiting q reason → is_full reason ≡ true
+pub waits_full : (c : Configuration) (q : QueuePair) (reason : Reason) → IsWaiting q reason → waits_for_answers reason ≡ true
     → request_needs c q (turn_of q) ≡ where_some (λ p. part (names.Mailbox p.queue)) q.peer
 waits_full c q reason w full = by (turn_of q) refl
   where
     by : (t : RequestTurn) → turn_of q ≡ t → request_needs c q t ≡ where_some (λ p. part (names.Mailbox p.queue)) q.peer
-    by (Waits r) e = absurd (true≢false (sym full ∙ ap is_full (sym (waits-or c q reason w r e)) ∙ waits-of q r e))
+    by (Waits r) e = absurd (true≢false (sym full ∙ ap waits_for_answers (sym (waits-or c q reason w r e)) ∙ waits-of q r e))
     by (Performs n) e = absurd (performs-not c q reason w n e)
     by (Sends n) e = rw (sends-much c q reason w n e).0 refl
 
-pub waits_other : (c : Configuration) (q : QueuePair) (reason : Reason) → IsWaiting q reason → is_full reason ≡ false → request_needs c q (turn_of q) ≡ Enough
+pub waits_other : (c : Configuration) (q : QueuePair) (reason : Reason) → IsWaiting q reason → waits_for_answers reason ≡ false → request_needs c q (turn_of q) ≡ Enough
 waits_other c q reason w other = by (turn_of q) refl
   where
     by : (t : RequestTurn) → turn_of q ≡ t → request_needs c q t ≡ Enough
     by (Waits r) e = refl
     by (Performs n) e = absurd (performs-not c q reason w n e)
-    by (Sends n) e = absurd (true≢false (ap is_full (sends-much c q reason w n e).1 ∙ other))
+    by (Sends n) e = absurd (true≢false (ap waits_for_answers (sends-much c q reason w n e).1 ∙ other))

@@ -2,7 +2,7 @@
 use Rattle.std.specs.Prelude.{◌≡◌, Bool, true, false, Option, None, Some}
 use Rattle.ca_base.specs.declared.step.Reason.{Reason}
 use Rattle.ca_base.specs.declared.step.Reason.TheVariants as reasons
-use Rattle.ca_base.specs.objects.QueuePair.{NoQueue, Present, QueuePair, QueueSlot}
+use Rattle.ca_base.specs.objects.QueuePair.{QueuePair}
 use Rattle.ca_base.specs.objects.SharedReceives.{SharedReceives}
 use Rattle.ca_held.specs.declared.held.Held.{Held}
 use Rattle.ca_held.specs.HeldView.{holding}
@@ -20,12 +20,7 @@ IsNextAround h q (Some p) = (more : Option SharedReceives → Needs) → next_of
 IsNextAround h q None = (more : Option SharedReceives → Needs)
     → next_of h (around_needs q more) ≡ next_of h (more (shared_receives (holding h).world q))
 
--- what holds of a queue pair, if it is there
-abbrev pub IfPresent : (QueuePair → Type 0) → QueueSlot → Type 0
-IfPresent P (NoQueue incarnation timers) = Unit {0}
-IfPresent P (Present q) = P q
-
 -- a turn waits because too much would be outstanding
-abbrev pub is_full : Reason → Bool
-is_full reasons.Outstanding = true
-is_full reason = false
+abbrev pub waits_for_answers : Reason → Bool
+waits_for_answers reasons.Outstanding = true
+waits_for_answers reason = false

@@ -1,4 +1,5 @@
 ghost use Rattle.std.specs.Prelude.{◌≡◌, ℕ, IfSome, None, Option, option_copied};
+ghost use Rattle.ca_base.specs.objects.QueuePair.{queue_in};
 ghost use Rattle.ca_keys.specs.declared.names.Slot.{Slot};
 ghost use Rattle.ca_model.specs.declared.event.Event.TheVariants as events;
 ghost use Rattle.ca_model.specs.declared.part_name.PartName.TheVariants as names;
@@ -9,7 +10,7 @@ ghost use Rattle.ca_model.specs.machine.Delivery.{arrival_row};
 ghost use Rattle.ca_model.specs.machine.Invariants.{IsSharedReceives};
 ghost use Rattle.ca_model.specs.machine.Parts.{Part, arrival_needs, event_needs, present_needs, row_needs};
 ghost use Rattle.ca_model.specs.machine.Seen.{shared_receives};
-ghost use Rattle.ca_needs.specs.Next.{IfPresent, IsNextAround, next_of};
+ghost use Rattle.ca_needs.specs.Next.{IsNextAround, next_of};
 
 use crate::around::{around, beside};
 use crate::keys::row;
@@ -85,7 +86,7 @@ fn arrived(
 /// What bytes that arrive at a queue pair need with it.
 #[tactic(auto, using(crate::proofs::HasLemmas::holds, crate::proofs::ReadyLemmas::shared_up))]
 fn arrival_at(settings: &Settings, held: &Held, queue: QueueId, bytes: &[u8]) -> Option<PartName>
-    requires step { IfPresent CanStep ((holding held.now).world.queue queue) }
+    requires step { IfSome (queue_in ((holding held.now).world.queue queue)) CanStep }
     requires shared { (s : Slot) → IfSome ((holding held.now).world.srq s).srq IsSharedReceives }
     ensures { (envelope : Option ℕ) → result ≡ next_of held.now
         (present_needs queue (arrival_needs (configuration_in settings.now) envelope bytes.now)) }
@@ -108,7 +109,7 @@ pub(crate) fn deliver(
     queue: QueueId,
     index: u64,
 ) -> Option<PartName>
-    requires step { IfPresent CanStep ((holding held.now).world.queue queue) }
+    requires step { IfSome (queue_in ((holding held.now).world.queue queue)) CanStep }
     requires shared { (s : Slot) → IfSome ((holding held.now).world.srq s).srq IsSharedReceives }
     ensures { result ≡ next_of held.now (event_needs (configuration_in settings.now) (events.Deliver queue index)) }
 {
@@ -133,7 +134,7 @@ pub(crate) fn inject(
     queue: QueueId,
     bytes: &[u8],
 ) -> Option<PartName>
-    requires step { IfPresent CanStep ((holding held.now).world.queue queue) }
+    requires step { IfSome (queue_in ((holding held.now).world.queue queue)) CanStep }
     requires shared { (s : Slot) → IfSome ((holding held.now).world.srq s).srq IsSharedReceives }
     ensures { result ≡ next_of held.now (present_needs queue
         (λ q. Part (names.Mailbox queue) (arrival_needs (configuration_in settings.now) None bytes.now q))) }

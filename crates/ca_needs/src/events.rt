@@ -1,4 +1,5 @@
 ghost use Rattle.std.specs.Prelude.{◌≡◌, true, IfSome};
+ghost use Rattle.ca_base.specs.objects.QueuePair.{queue_in};
 ghost use Rattle.ca_keys.specs.declared.names.QueueId.{QueueId};
 ghost use Rattle.ca_keys.specs.declared.names.Slot.{Slot};
 ghost use Rattle.ca_base.specs.Configuration.{configuration_in};
@@ -9,7 +10,6 @@ ghost use Rattle.ca_model.specs.machine.Invariants.{IsSharedReceives};
 ghost use Rattle.ca_model.specs.machine.Parts as machine;
 ghost use Rattle.ca_model.specs.machine.Sound.{AreLimited};
 ghost use Rattle.ca_model.specs.machine.Step.{is_named};
-ghost use Rattle.ca_needs.specs.Next.{IfPresent};
 
 use crate::arrivals::{deliver, inject};
 use crate::missing::{missing, missing_of};
@@ -27,7 +27,7 @@ use ca_model::{Event, PartName, Verb};
 /// in hand can come up.
 pub fn next_part(settings: &Settings, event: &Event, held: &Held) -> Option<PartName>
     requires limits { AreLimited (configuration_in settings.now) }
-    requires queues { (q : QueueId) → IfPresent CanStep ((holding held.now).world.queue q) }
+    requires queues { (q : QueueId) → IfSome (queue_in ((holding held.now).world.queue q)) CanStep }
     requires shared { (s : Slot) → IfSome ((holding held.now).world.srq s).srq IsSharedReceives }
     ensures { result ≡ machine.next_part (holding held.now).parts (holding held.now).world
         (machine.event_needs (configuration_in settings.now) event.now) }
@@ -53,7 +53,7 @@ pub fn next_part(settings: &Settings, event: &Event, held: &Held) -> Option<Part
 fn verb_part(settings: &Settings, held: &Held, verb: &Verb) -> Option<PartName>
     requires limits { AreLimited (configuration_in settings.now) }
     requires named { is_named (configuration_in settings.now) verb.now ≡ true }
-    requires queues { (q : QueueId) → IfPresent CanStep ((holding held.now).world.queue q) }
+    requires queues { (q : QueueId) → IfSome (queue_in ((holding held.now).world.queue q)) CanStep }
     requires shared { (s : Slot) → IfSome ((holding held.now).world.srq s).srq IsSharedReceives }
     ensures { result ≡ machine.next_part (holding held.now).parts (holding held.now).world
         (machine.verb_needs (configuration_in settings.now) verb.now) }

@@ -1,6 +1,7 @@
-ghost use Rattle.std.specs.Prelude.{◌≡◌, Bool, true};
+ghost use Rattle.std.specs.Prelude.{◌≡◌, Bool, true, IfSome};
 ghost use Rattle.ca_base.specs.Configuration.{Configuration, configuration_in};
 ghost use Rattle.ca_base.specs.declared.lot.Lot.{Lot};
+ghost use Rattle.ca_base.specs.objects.QueuePair.{queue_in};
 ghost use Rattle.ca_held.specs.HeldView.{holding};
 ghost use Rattle.ca_model.specs.declared.event.Event.TheVariants as events;
 ghost use Rattle.ca_model.specs.declared.part_name.PartName.TheVariants as names;
@@ -10,7 +11,7 @@ ghost use Rattle.ca_model.specs.machine.Requester.{turn_of};
 ghost use Rattle.ca_model.specs.machine.Respond.{respond_row};
 ghost use Rattle.ca_sending.specs.Turn.{IsWaiting, SendsFound};
 ghost use Rattle.ca_needs.specs.Next as next;
-ghost use Rattle.ca_needs.specs.Next.{IfPresent, next_of};
+ghost use Rattle.ca_needs.specs.Next.{next_of};
 
 use crate::around::{around, beside, peer};
 use crate::keys::{bind, ending, row};
@@ -123,7 +124,7 @@ fn response(settings: &Settings, held: &Held, q: &QueuePart) -> Option<PartName>
 /// Request: the queue pair, what stands around it, and what its turn needs.
 #[tactic(auto, using(crate::proofs::HasLemmas::holds))]
 pub(crate) fn request(settings: &Settings, held: &Held, queue: QueueId) -> Option<PartName>
-    requires { IfPresent CanStep ((holding held.now).world.queue queue) }
+    requires { IfSome (queue_in ((holding held.now).world.queue queue)) CanStep }
     ensures { (lot : Lot) → result
         ≡ next_of held.now (event_needs (configuration_in settings.now) (events.Request queue lot)) }
 {
@@ -195,7 +196,7 @@ fn waiting(held: &Held, q: &QueuePart, reason: Reason) -> Option<PartName>
     requires { IsWaiting q.now reason }
     ensures { (c : Configuration) → result ≡ next_of held.now (request_needs c q.now (turn_of q.now)) }
 {
-    if !is_full(reason) {
+    if !waits_for_answers(reason) {
         return None;
     }
     match q.peer {
@@ -205,8 +206,8 @@ fn waiting(held: &Held, q: &QueuePart, reason: Reason) -> Option<PartName>
 }
 
 /// Whether a turn waits because too much would be outstanding.
-fn is_full(reason: Reason) -> bool
-    ensures { result ≡ next.is_full reason }
+fn waits_for_answers(reason: Reason) -> bool
+    ensures { result ≡ next.waits_for_answers reason }
 {
     matches!(reason, Reason::Outstanding)
 }

@@ -15,7 +15,7 @@ use Rattle.ca_script_lines.specs.declared.what.What.TheVariants as whats
 use Rattle.ca_turns.specs.Turns.{event_of}
 use Rattle.ca_order.proofs.KeepLemmas.{ByVisits, kept-pass}
 use Rattle.ca_order.specs.Visits.{Visit, Consumer, Engine, round_of, timer_pass_of}
-use Rattle.ca_order.specs.Order.{Stage, after_line, calm, ending, first_of_pass, is_full, lines_of, made, most_rounds, opening_stage, pass, rounds, visit, with_entry, with_lines, worked}
+use Rattle.ca_order.specs.Order.{Stage, after_line, at_round, ending, after_first, has_no_event_left, lines_of, after_event, most_rounds, opening_stage, after_pass, after_rounds, after_visit, after_outcome, with_lines_left, after_round}
 
 -- ---- what is left
 
@@ -55,31 +55,31 @@ fewer-lines (suc k) (x ∷ xs) line rest has = omega (
 record Moved (s : ScriptValue) (g h : Stage) : Type 0 where
   happened : h.happened ≡ true
   no_more : chances s h ≤ chances s g
-  fewer : is_full s g ≡ false → chances s h < chances s g
+  fewer : has_no_event_left s g ≡ false → chances s h < chances s g
 
 -- a stage is left as it is, or moved
 abbrev Visited : ScriptValue → Stage → Stage → Type 0
 Visited s g h = (h ≡ g) ⊎ Moved s g h
 
-made-visited : (s : ScriptValue) (event : Event) (g : Stage) → Visited s g (made s event (λ h. h) g)
+made-visited : (s : ScriptValue) (event : Event) (g : Stage) → Visited s g (after_event s event (λ h. h) g)
 made-visited s event g = by (step s.config g.world event)
   where
-    by : (o : Outcome) → Visited s g (with_entry event o (λ h. h) g)
+    by : (o : Outcome) → Visited s g (after_outcome event o (λ h. h) g)
     by (NotReady reason) = inl refl
     by (Did w ms) = inr (record { happened = refl; no_more = omega arith; fewer = λ room. grind (arith, nat_tests) })
 
 called-visited : (s : ScriptValue) (event : Event) (k : ℕ) (line : Line) (rest : List Line) (g : Stage) → lines_of k g.left ≡ line ∷ rest
-    → Visited s g (made s event (with_lines k rest) g)
+    → Visited s g (after_event s event (with_lines_left k rest) g)
 called-visited s event k line rest g has = by (step s.config g.world event)
   where
     one : suc (lines_left (slice_set g.left k rest)) ≡ lines_left g.left
     one = fewer-lines k g.left line rest has
 
-    by : (o : Outcome) → Visited s g (with_entry event o (with_lines k rest) g)
+    by : (o : Outcome) → Visited s g (after_outcome event o (with_lines_left k rest) g)
     by (NotReady reason) = inl refl
     by (Did w ms) = inr (record { happened = refl; no_more = omega (arith, one); fewer = λ room. omega (arith, one) })
 
-passed-visited : (s : ScriptValue) (k : ℕ) (line : Line) (rest : List Line) (g : Stage) → lines_of k g.left ≡ line ∷ rest → Moved s g (with_lines k rest g)
+passed-visited : (s : ScriptValue) (k : ℕ) (line : Line) (rest : List Line) (g : Stage) → lines_of k g.left ≡ line ∷ rest → Moved s g (with_lines_left k rest g)
 passed-visited s k line rest g has = record { happened = refl; no_more = omega (arith, one); fewer = λ room. omega (arith, one) }
   where
     one : suc (lines_left (slice_set g.left k rest)) ≡ lines_left g.left
@@ -89,23 +89,23 @@ line-visited : (s : ScriptValue) (k : ℕ) (lines : List Line) (g : Stage) → l
 line-visited s k [] g has = inl refl
 line-visited s k (line ∷ rest) g has = by line.what
   where
-    at : (b : Bool) → Visited s g (if b then with_lines k rest g else g)
+    at : (b : Bool) → Visited s g (if b then with_lines_left k rest g else g)
     at true = inr (passed-visited s k line rest g has)
     at false = inl refl
 
     done : What → Stage
-    done (whats.Verb verb) = made s (events.Verb k verb) (with_lines k rest) g
-    done (whats.At t) = if nat_le t g.count then with_lines k rest g else g
+    done (whats.Verb verb) = after_event s (events.Verb k verb) (with_lines_left k rest) g
+    done (whats.At t) = if nat_le t g.count then with_lines_left k rest g else g
 
     by : (what : What) → Visited s g (done what)
     by (whats.Verb verb) = called-visited s (events.Verb k verb) k line rest g has
     by (whats.At t) = at (nat_le t g.count)
 
-visit-visited : (s : ScriptValue) (v : Visit) (g : Stage) → Visited s g (visit s v g)
+visit-visited : (s : ScriptValue) (v : Visit) (g : Stage) → Visited s g (after_visit s v g)
 visit-visited s (Consumer k) g = line-visited s k (lines_of k g.left) g refl
 visit-visited s (Engine turn) g = by (event_of s.weather g.world turn)
   where
-    by : (o : Option Event) → Visited s g (option_map_or (λ event. made s event (λ h. h) g) o g)
+    by : (o : Option Event) → Visited s g (option_map_or (λ event. after_event s event (λ h. h) g) o g)
     by None = inl refl
     by (Some event) = made-visited s event g
 
@@ -114,7 +114,7 @@ visit-visited s (Engine turn) g = by (event_of s.weather g.world turn)
 -- no visit changes the stage
 abbrev pub StillAll : ScriptValue → Stage → List Visit → Type 0
 StillAll s g [] = ⊤
-StillAll s g (v ∷ vs) = (visit s v g ≡ g) × StillAll s g vs
+StillAll s g (v ∷ vs) = (after_visit s v g ≡ g) × StillAll s g vs
 
 -- a stage is left as it is, since each visit does that, or moved
 abbrev Passed : ScriptValue → List Visit → Stage → Stage → Type 0
@@ -127,88 +127,88 @@ Lower s bound h = (h.happened ≡ true) × (chances s h < bound)
 lower-kept : (s : ScriptValue) (bound : ℕ) → ByVisits s (Lower s bound)
 lower-kept s bound v g lower = by (visit-visited s v g)
   where
-    by : Visited s g (visit s v g) → Lower s bound (visit s v g)
+    by : Visited s g (after_visit s v g) → Lower s bound (after_visit s v g)
     by (inl same) = subst (Lower s bound) (sym same) lower
     by (inr moved) = (moved.happened, omega (arith, moved.no_more, lower.1))
 
 moved-by : (s : ScriptValue) (g h : Stage) → Lower s (chances s g) h → Moved s g h
 moved-by s g h lower = record { happened = lower.0; no_more = omega (arith, lower.1); fewer = λ room. lower.1 }
 
-pass-passed : (s : ScriptValue) (vs : List Visit) (g : Stage) → is_full s g ≡ false → Passed s vs g (pass s vs g)
+pass-passed : (s : ScriptValue) (vs : List Visit) (g : Stage) → has_no_event_left s g ≡ false → Passed s vs g (after_pass s vs g)
 pass-passed s [] g room = inl (refl, record {})
-pass-passed s (v ∷ vs) g room = subst (λ b. Passed s (v ∷ vs) g (if b then g else pass s vs (visit s v g))) (sym room)
+pass-passed s (v ∷ vs) g room = subst (λ b. Passed s (v ∷ vs) g (if b then g else after_pass s vs (after_visit s v g))) (sym room)
     (by (pass-passed s vs g room) (visit-visited s v g))
   where
-    still : visit s v g ≡ g → Passed s vs g (pass s vs g) → Passed s (v ∷ vs) g (pass s vs (visit s v g))
-    still same (inl (left, others)) = inl (ap (pass s vs) same ∙ left, (same, others))
-    still same (inr moved) = inr (subst (λ h. Moved s g (pass s vs h)) (sym same) moved)
+    still : after_visit s v g ≡ g → Passed s vs g (after_pass s vs g) → Passed s (v ∷ vs) g (after_pass s vs (after_visit s v g))
+    still same (inl (left, others)) = inl (ap (after_pass s vs) same ∙ left, (same, others))
+    still same (inr moved) = inr (subst (λ h. Moved s g (after_pass s vs h)) (sym same) moved)
 
-    by : Passed s vs g (pass s vs g) → Visited s g (visit s v g) → Passed s (v ∷ vs) g (pass s vs (visit s v g))
+    by : Passed s vs g (after_pass s vs g) → Visited s g (after_visit s v g) → Passed s (v ∷ vs) g (after_pass s vs (after_visit s v g))
     by rest (inl same) = still same rest
-    by rest (inr moved) = inr (moved-by s g (pass s vs (visit s v g))
-        (kept-pass s (Lower s (chances s g)) (lower-kept s (chances s g)) vs (visit s v g) (moved.happened, moved.fewer room)))
+    by rest (inr moved) = inr (moved-by s g (after_pass s vs (after_visit s v g))
+        (kept-pass s (Lower s (chances s g)) (lower-kept s (chances s g)) vs (after_visit s v g) (moved.happened, moved.fewer room)))
 
-first-passed : (s : ScriptValue) (vs : List Visit) (g : Stage) → g.happened ≡ false → Passed s vs g (first_of_pass s vs g)
+first-passed : (s : ScriptValue) (vs : List Visit) (g : Stage) → g.happened ≡ false → Passed s vs g (after_first s vs g)
 first-passed s [] g none = inl (refl, record {})
 first-passed s (v ∷ vs) g none = by (first-passed s vs g none) (visit-visited s v g)
   where
     after : Bool → Stage → Stage
-    after b h = if b then h else first_of_pass s vs h
+    after b h = if b then h else after_first s vs h
 
-    goes_on : visit s v g ≡ g → after (visit s v g).happened (visit s v g) ≡ first_of_pass s vs g
+    goes_on : after_visit s v g ≡ g → after (after_visit s v g).happened (after_visit s v g) ≡ after_first s vs g
     goes_on same = ap (λ h. after h.happened h) same ∙ ap (λ b. after b g) none
 
-    still : visit s v g ≡ g → Passed s vs g (first_of_pass s vs g) → Passed s (v ∷ vs) g (after (visit s v g).happened (visit s v g))
+    still : after_visit s v g ≡ g → Passed s vs g (after_first s vs g) → Passed s (v ∷ vs) g (after (after_visit s v g).happened (after_visit s v g))
     still same (inl (left, others)) = inl (goes_on same ∙ left, (same, others))
     still same (inr moved) = inr (subst (Moved s g) (sym (goes_on same)) moved)
 
-    by : Passed s vs g (first_of_pass s vs g) → Visited s g (visit s v g) → Passed s (v ∷ vs) g (after (visit s v g).happened (visit s v g))
+    by : Passed s vs g (after_first s vs g) → Visited s g (after_visit s v g) → Passed s (v ∷ vs) g (after (after_visit s v g).happened (after_visit s v g))
     by rest (inl same) = still same rest
-    by rest (inr moved) = inr (subst (λ b. Moved s g (after b (visit s v g))) (sym moved.happened) moved)
+    by rest (inr moved) = inr (subst (λ b. Moved s g (after b (after_visit s v g))) (sym moved.happened) moved)
 
 -- nothing happened in a round and in the timer pass behind it, since nothing could; or the stage moved
 abbrev Worked : ScriptValue → Stage → Stage → Type 0
-Worked s g h = ((h ≡ calm g) × (StillAll s (calm g) (round_of s) × StillAll s (calm g) (timer_pass_of s))) ⊎ Moved s (calm g) h
+Worked s g h = ((h ≡ at_round g) × (StillAll s (at_round g) (round_of s) × StillAll s (at_round g) (timer_pass_of s))) ⊎ Moved s (at_round g) h
 
-worked-worked : (s : ScriptValue) (g : Stage) → is_full s g ≡ false → Worked s g (worked s g)
-worked-worked s g room = by (pass-passed s (round_of s) (calm g) room)
+worked-worked : (s : ScriptValue) (g : Stage) → has_no_event_left s g ≡ false → Worked s g (after_round s g)
+worked-worked s g room = by (pass-passed s (round_of s) (at_round g) room)
   where
     after : Stage → Stage
-    after h = if h.happened then h else first_of_pass s (timer_pass_of s) h
+    after h = if h.happened then h else after_first s (timer_pass_of s) h
 
-    timers : Passed s (timer_pass_of s) (calm g) (first_of_pass s (timer_pass_of s) (calm g))
-    timers = first-passed s (timer_pass_of s) (calm g) refl
+    timers : Passed s (timer_pass_of s) (at_round g) (after_first s (timer_pass_of s) (at_round g))
+    timers = first-passed s (timer_pass_of s) (at_round g) refl
 
-    still : pass s (round_of s) (calm g) ≡ calm g → StillAll s (calm g) (round_of s)
-        → Passed s (timer_pass_of s) (calm g) (first_of_pass s (timer_pass_of s) (calm g)) → Worked s g (after (pass s (round_of s) (calm g)))
+    still : after_pass s (round_of s) (at_round g) ≡ at_round g → StillAll s (at_round g) (round_of s)
+        → Passed s (timer_pass_of s) (at_round g) (after_first s (timer_pass_of s) (at_round g)) → Worked s g (after (after_pass s (round_of s) (at_round g)))
     still same round (inl (left, others)) = inl (ap after same ∙ left, (round, others))
-    still same round (inr moved) = inr (subst (Moved s (calm g)) (sym (ap after same)) moved)
+    still same round (inr moved) = inr (subst (Moved s (at_round g)) (sym (ap after same)) moved)
 
-    by : Passed s (round_of s) (calm g) (pass s (round_of s) (calm g)) → Worked s g (after (pass s (round_of s) (calm g)))
+    by : Passed s (round_of s) (at_round g) (after_pass s (round_of s) (at_round g)) → Worked s g (after (after_pass s (round_of s) (at_round g)))
     by (inl (same, round)) = still same round timers
-    by (inr moved) = inr (subst (λ b. Moved s (calm g) (if b then pass s (round_of s) (calm g) else first_of_pass s (timer_pass_of s) (pass s (round_of s) (calm g))))
+    by (inr moved) = inr (subst (λ b. Moved s (at_round g) (if b then after_pass s (round_of s) (at_round g) else after_first s (timer_pass_of s) (after_pass s (round_of s) (at_round g))))
         (sym moved.happened) moved)
 
 -- ---- the end
 
 -- as many events as the script allows were made, or no visit changes the stage
 abbrev pub Ended : ScriptValue → Stage → Type 0
-Ended s g = (is_full s g ≡ true) ⊎ (StillAll s g (round_of s) × StillAll s g (timer_pass_of s))
+Ended s g = (has_no_event_left s g ≡ true) ⊎ (StillAll s g (round_of s) × StillAll s g (timer_pass_of s))
 
-rounds-end : (s : ScriptValue) (n : ℕ) (g : Stage) → chances s g < n → Ended s (rounds s n g)
+rounds-end : (s : ScriptValue) (n : ℕ) (g : Stage) → chances s g < n → Ended s (after_rounds s n g)
 rounds-end s zero g few = absurd (omega (arith, few))
-rounds-end s (suc n) g few = full (λ fewer. rounds-end s n (worked s g) fewer) (is_full s g) refl
+rounds-end s (suc n) g few = full (λ fewer. rounds-end s n (after_round s g) fewer) (has_no_event_left s g) refl
   where
     after : Bool → Stage → Stage
-    after b h = if b then rounds s n h else h
+    after b h = if b then after_rounds s n h else h
 
-    by : (chances s (worked s g) < n → Ended s (rounds s n (worked s g))) → Worked s g (worked s g) → is_full s g ≡ false
-        → Ended s (after (worked s g).happened (worked s g))
+    by : (chances s (after_round s g) < n → Ended s (after_rounds s n (after_round s g))) → Worked s g (after_round s g) → has_no_event_left s g ≡ false
+        → Ended s (after (after_round s g).happened (after_round s g))
     by rest (inl (same, still)) room = inr (subst (λ h. StillAll s (after h.happened h) (round_of s) × StillAll s (after h.happened h) (timer_pass_of s)) (sym same) still)
-    by rest (inr moved) room = subst (λ b. Ended s (after b (worked s g))) (sym moved.happened) (rest (omega (arith, moved.fewer room, few)))
+    by rest (inr moved) room = subst (λ b. Ended s (after b (after_round s g))) (sym moved.happened) (rest (omega (arith, moved.fewer room, few)))
 
-    full : (chances s (worked s g) < n → Ended s (rounds s n (worked s g))) → (b : Bool) → is_full s g ≡ b
-        → Ended s (if b then g else after (worked s g).happened (worked s g))
+    full : (chances s (after_round s g) < n → Ended s (after_rounds s n (after_round s g))) → (b : Bool) → has_no_event_left s g ≡ b
+        → Ended s (if b then g else after (after_round s g).happened (after_round s g))
     full rest true is = inl is
     full rest false is = by rest (worked-worked s g is) is
 

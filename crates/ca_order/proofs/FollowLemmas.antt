@@ -9,7 +9,7 @@ use Rattle.ca_model.specs.machine.Run.{Follows, Ran, go_on, run_from, with_marks
 use Rattle.ca_model.specs.machine.Step.{step}
 use Rattle.ca_model.specs.machine.World.{opening_world}
 use Rattle.ca_script.specs.Script.{ScriptValue}
-use Rattle.ca_order.specs.Order.{Stage, ending, made, most_rounds, opening_stage, order, with_entry, with_lines}
+use Rattle.ca_order.specs.Order.{Stage, ending, after_event, most_rounds, opening_stage, order, after_outcome, with_lines_left}
 use Rattle.ca_order.proofs.KeepLemmas.{IsKept, kept-rounds, kept-visit}
 
 -- the events of a past, the latest first, before others
@@ -27,10 +27,10 @@ abbrev RanTo : ScriptValue → Stage → Type 0
 RanTo s g = (rest : List Event)
     → run_from s.config 0 (opening_world zeros) (events_onto g.past rest) ≡ marks_onto g.past (run_from s.config g.count g.world rest)
 
-ran-made : (s : ScriptValue) (event : Event) (done : Stage → Stage) → ((g : Stage) → RanTo s g → RanTo s (done g)) → (g : Stage) → RanTo s g → RanTo s (made s event done g)
+ran-made : (s : ScriptValue) (event : Event) (done : Stage → Stage) → ((g : Stage) → RanTo s g → RanTo s (done g)) → (g : Stage) → RanTo s g → RanTo s (after_event s event done g)
 ran-made s event done also g ran = by (step s.config g.world event) refl
   where
-    by : (o : Outcome) → step s.config g.world event ≡ o → RanTo s (with_entry event o done g)
+    by : (o : Outcome) → step s.config g.world event ≡ o → RanTo s (after_outcome event o done g)
     by (NotReady reason) is = ran
     by (Did w ms) is = also
         (record g { world = w; past = record { stamp = g.count; pass = 0; event = event; marks = ms } ∷ g.past; count = suc g.count; happened = true })
@@ -39,7 +39,7 @@ ran-made s event done also g ran = by (step s.config g.world event) refl
 ran-kept : (s : ScriptValue) → IsKept s (RanTo s)
 ran-kept s = record {
   makes = λ event g ran. ran-made s event (λ h. h) (λ h there. there) g ran;
-  calls = λ event k rest g ran. ran-made s event (with_lines k rest) (λ h there. there) g ran;
+  calls = λ event k rest g ran. ran-made s event (with_lines_left k rest) (λ h there. there) g ran;
   passes = λ k rest g ran. ran;
 }
 

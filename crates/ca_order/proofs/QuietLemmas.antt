@@ -15,8 +15,8 @@ use Rattle.ca_turns.specs.Turns.{event_of}
 use Rattle.ca_turns.specs.declared.turn.Turn.{Turn}
 use Rattle.ca_turns.specs.declared.turn.Turn.TheVariants as turns
 use Rattle.ca_order.specs.Visits.{Visit, Consumer, Engine, all_queues, numbers_below}
-use Rattle.ca_order.specs.Order.{Stage, after_line, ending, lines_of, made, visit, with_entry, with_lines}
-use Rattle.ca_order.specs.OfScript.{HasEnded, did, is_passed, lines_at, may_go_on, may_turn}
+use Rattle.ca_order.specs.Order.{Stage, after_line, ending, lines_of, after_event, after_visit, after_outcome, with_lines_left}
+use Rattle.ca_order.specs.OfScript.{HasEnded, is_possible, is_passed, lines_at, may_go_on, may_turn}
 use Rattle.ca_order.proofs.EndLemmas.{Ended, StillAll, fewer-lines, lines_left, order-ends}
 
 -- neither of two is so
@@ -30,14 +30,14 @@ no-more n same = omega (arith, same)
 
 -- ---- one visit
 
-made-still : (event : Event) (done : Stage → Stage) (g : Stage) → ((h : Stage) → (done h).count ≡ h.count) → (o : Outcome) → with_entry event o done g ≡ g → did o ≡ false
+made-still : (event : Event) (done : Stage → Stage) (g : Stage) → ((h : Stage) → (done h).count ≡ h.count) → (o : Outcome) → after_outcome event o done g ≡ g → is_possible o ≡ false
 made-still event done g counts (NotReady reason) same = refl
 made-still event done g counts (Did w ms) same = absurd (no-more g.count (sym (counts _) ∙ ap (λ h. h.count) same))
 
-turn-still : (s : ScriptValue) (turn : Turn) (g : Stage) → visit s (Engine turn) g ≡ g → may_turn s g.world turn ≡ false
+turn-still : (s : ScriptValue) (turn : Turn) (g : Stage) → after_visit s (Engine turn) g ≡ g → may_turn s g.world turn ≡ false
 turn-still s turn g same = by (event_of s.weather g.world turn) same
   where
-    by : (o : Option Event) → option_map_or (λ event. made s event (λ h. h) g) o g ≡ g → option_map_or (λ event. did (step s.config g.world event)) o false ≡ false
+    by : (o : Option Event) → option_map_or (λ event. after_event s event (λ h. h) g) o g ≡ g → option_map_or (λ event. is_possible (step s.config g.world event)) o false ≡ false
     by None same = refl
     by (Some event) same = made-still event (λ h. h) g (λ h. refl) (step s.config g.world event) same
 
@@ -47,20 +47,20 @@ line-still s k [] g has same = refl
 line-still s k (line ∷ rest) g has same = by line.what same
   where
     done : What → Stage
-    done (whats.Verb verb) = made s (events.Verb k verb) (with_lines k rest) g
-    done (whats.At t) = if nat_le t g.count then with_lines k rest g else g
+    done (whats.Verb verb) = after_event s (events.Verb k verb) (with_lines_left k rest) g
+    done (whats.At t) = if nat_le t g.count then with_lines_left k rest g else g
 
     goes : What → List Line → Bool
-    goes (whats.Verb verb) others = did (step s.config g.world (events.Verb k verb))
+    goes (whats.Verb verb) others = is_possible (step s.config g.world (events.Verb k verb))
     goes (whats.At t) others = false
 
     -- the line is passed, or stands first
-    at : (t : ℕ) (b : Bool) → (if b then with_lines k rest g else g) ≡ g → may_go_on s g.world k (if b then lines_at g.count rest else (record line { what = whats.At t }) ∷ rest) ≡ false
+    at : (t : ℕ) (b : Bool) → (if b then with_lines_left k rest g else g) ≡ g → may_go_on s g.world k (if b then lines_at g.count rest else (record line { what = whats.At t }) ∷ rest) ≡ false
     at t true same = absurd (no-more (lines_left g.left) (ap suc (sym (ap (λ h. lines_left h.left) same)) ∙ fewer-lines k g.left line rest has))
     at t false same = refl
 
     by : (what : What) → done what ≡ g → may_go_on s g.world k (if is_passed g.count what then lines_at g.count rest else (record line { what = what }) ∷ rest) ≡ false
-    by (whats.Verb verb) same = made-still (events.Verb k verb) (with_lines k rest) g (λ h. refl) (step s.config g.world (events.Verb k verb)) same
+    by (whats.Verb verb) same = made-still (events.Verb k verb) (with_lines_left k rest) g (λ h. refl) (step s.config g.world (events.Verb k verb)) same
     by (whats.At t) same = at t (nat_le t g.count) same
 
 -- ---- all visits

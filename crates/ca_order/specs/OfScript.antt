@@ -22,17 +22,17 @@ use Rattle.ca_turns.specs.Turns.{event_of, hasten_at, lot_at}
 use Rattle.ca_turns.specs.declared.turn.Turn.{Turn}
 use Rattle.ca_turns.specs.declared.turn.Turn.TheVariants as turns
 use Rattle.ca_order.specs.Visits.{all_queues, numbers_below}
-use Rattle.ca_order.specs.Order.{Stage, is_full, lines_of}
+use Rattle.ca_order.specs.Order.{Stage, has_no_event_left, lines_of}
 
 -- ---- what is possible
 
-abbrev pub did : Outcome → Bool
-did (NotReady reason) = false
-did (Did w ms) = true
+abbrev pub is_possible : Outcome → Bool
+is_possible (NotReady reason) = false
+is_possible (Did w ms) = true
 
 -- a turn is possible, with the weather's word
 abbrev pub may_turn : ScriptValue → World → Turn → Bool
-may_turn s w turn = option_map_or (λ event. did (step s.config w event)) (event_of s.weather w turn) false
+may_turn s w turn = option_map_or (λ event. is_possible (step s.config w event)) (event_of s.weather w turn) false
 
 -- an engine can work at some queue pair: what is due can be delivered, or a response or a request can be sent
 abbrev pub may_work : ScriptValue → World → Bool
@@ -74,7 +74,7 @@ may_go_on s w k [] = false
 may_go_on s w k (line ∷ rest) = by line.what
   where
     by : What → Bool
-    by (whats.Verb verb) = did (step s.config w (events.Verb k verb))
+    by (whats.Verb verb) = is_possible (step s.config w (events.Verb k verb))
     by (whats.At t) = false
 
 -- the next verb of some consumer is possible, after so many entries and with these lines left
@@ -84,14 +84,14 @@ may_call s w count left =
 
 -- ---- a history of the script
 
--- what the entries so far have reached
-pub record Reached : Type 0 where
+-- how far the entries so far come: the world, their number, and the lines that are left of each consumer
+pub record Reach : Type 0 where
   pub world : World
   pub count : ℕ
   pub left : List (List Line)
 
-abbrev pub opening_reached : ScriptValue → Reached
-opening_reached s = record { world = opening_world zeros; count = 0; left = s.consumers }
+abbrev pub opening_reach : ScriptValue → Reach
+opening_reach s = record { world = opening_world zeros; count = 0; left = s.consumers }
 
 abbrev pub lot_eq : Lot → Lot → Bool
 lot_eq Pass Pass = true
@@ -101,12 +101,12 @@ lot_eq (Hold a) (Hold b) = a == b
 lot_eq a b = false
 
 -- no engine can work, and no consumer go on: timers may fire
-abbrev pub is_idle : ScriptValue → Reached → Bool
+abbrev pub is_idle : ScriptValue → Reach → Bool
 is_idle s g = not (may_work s g.world || may_call s g.world g.count g.left)
 
 -- An event may stand here: a verb where its consumer's next line calls one; what is sent, with the weather's lot; a
 -- delivery of what is due; a timer as the weather hastens it, and a wake, only where all is idle.
-abbrev pub may_stand : ScriptValue → Reached → Event → Bool
+abbrev pub may_stand : ScriptValue → Reach → Event → Bool
 may_stand s g (events.Verb by verb) = is_call (lines_at g.count (lines_of by g.left))
 may_stand s g (events.Request q lot) = lot_eq lot (lot_at s.weather g.world q)
 may_stand s g (events.Respond q lot) = lot_eq lot (lot_at s.weather g.world q)
@@ -115,7 +115,7 @@ may_stand s g (events.Timeout q hasten) = bool_eq hasten (hasten_at s.weather g.
 may_stand s g (events.RnrWake q) = is_idle s g
 
 -- the lines that are left after an event
-abbrev pub left_after : Reached → Event → List (List Line)
+abbrev pub left_after : Reach → Event → List (List Line)
 left_after g (events.Verb by verb) = slice_set g.left by (drop 1 (lines_at g.count (lines_of by g.left)))
 left_after g (events.Request q lot) = g.left
 left_after g (events.Respond q lot) = g.left
@@ -123,21 +123,21 @@ left_after g (events.Deliver q index) = g.left
 left_after g (events.Timeout q hasten) = g.left
 left_after g (events.RnrWake q) = g.left
 
--- what is reached by an event, if it is possible
-abbrev pub reached_by : Reached → Event → Outcome → (Reached → Option Reached) → Option Reached
-reached_by g event (NotReady reason) rest = None
-reached_by g event (Did w ms) rest = rest (record { world = w; count = suc g.count; left = left_after g event })
+-- how far an event leads, if it is possible
+abbrev pub reach_by : Reach → Event → Outcome → (Reach → Option Reach) → Option Reach
+reach_by g event (NotReady reason) rest = None
+reach_by g event (Did w ms) rest = rest (record { world = w; count = suc g.count; left = left_after g event })
 
--- what entries reach; None where one of them may not stand
-abbrev pub reached_from : ScriptValue → Reached → List EntryValue → Option Reached
-reached_from s g [] = Some g
-reached_from s g (e ∷ es) =
+-- how far entries lead; None where one of them may not stand
+abbrev pub reach_from : ScriptValue → Reach → List EntryValue → Option Reach
+reach_from s g [] = Some g
+reach_from s g (e ∷ es) =
     if may_stand s g e.event
-    then reached_by g e.event (step s.config g.world e.event) (λ h. reached_from s h es)
+    then reach_by g e.event (step s.config g.world e.event) (λ h. reach_from s h es)
     else None
 
-abbrev pub reached : ScriptValue → List EntryValue → Option Reached
-reached s es = reached_from s (opening_reached s) es
+abbrev pub reach : ScriptValue → List EntryValue → Option Reach
+reach s es = reach_from s (opening_reach s) es
 
 -- the verbs that a consumer called in entries
 abbrev pub calls_by : ℕ → List EntryValue → List Verb
@@ -165,9 +165,9 @@ verbs_in lines = flat_map (λ line. by line.what) lines
 
 -- The history is one of the script: each consumer called the verbs of its lines in order, up to where it came, and nobody
 -- else called one; and each event may stand where it stands.
-pub record IsOfScript (s : ScriptValue) (es : List EntryValue) (end : Reached) : Type 0 where
+pub record IsOfScript (s : ScriptValue) (es : List EntryValue) (end : Reach) : Type 0 where
   pub calls : (k : ℕ) → calls_by k es ≡ take (length (calls_by k es)) (verbs_in (lines_of k s.consumers))
-  pub stand : reached s es ≡ Some end
+  pub stand : reach s es ≡ Some end
 
 -- ---- how a script ends
 
@@ -191,7 +191,7 @@ stalled_from count k (lines ∷ more) = stalled_at k (lines_at count lines) (sta
 -- the end of a script's order: as many events as it allows were made, or all is quiet and no consumer can go on
 abbrev pub HasEnded : ScriptValue → Stage → Type 0
 HasEnded s g =
-    (is_full s g ≡ true) ⊎ ((is_quiet s g.world ≡ true) × (may_call s g.world g.count g.left ≡ false))
+    (has_no_event_left s g ≡ true) ⊎ ((is_quiet s g.world ≡ true) × (may_call s g.world g.count g.left ≡ false))
 
 abbrev pub status_of : ScriptValue → Stage → Status
 status_of s g = if nat_le s.config.events g.count then BudgetSpent g.count else stalled_from g.count 0 g.left

@@ -30,12 +30,12 @@ abbrev pub opening_stage : ScriptValue → Stage
 opening_stage s = record { world = opening_world zeros; past = []; count = 0; left = s.consumers; happened = false }
 
 -- a round begins
-abbrev pub calm : Stage → Stage
-calm g = record g { happened = false }
+abbrev pub at_round : Stage → Stage
+at_round g = record g { happened = false }
 
 -- so many events were made as the script allows
-abbrev pub is_full : ScriptValue → Stage → Bool
-is_full s g = nat_le s.config.events g.count
+abbrev pub has_no_event_left : ScriptValue → Stage → Bool
+has_no_event_left s g = nat_le s.config.events g.count
 
 -- ---- one visit
 
@@ -44,9 +44,9 @@ abbrev pub lines_of : ℕ → List (List Line) → List Line
 lines_of k left = option_map_or (λ lines. lines) (slice_get left k) []
 
 -- an event was made
-abbrev pub with_entry : Event → Outcome → (Stage → Stage) → Stage → Stage
-with_entry event (NotReady reason) done g = g
-with_entry event (Did w ms) done g = done (record g {
+abbrev pub after_outcome : Event → Outcome → (Stage → Stage) → Stage → Stage
+after_outcome event (NotReady reason) done g = g
+after_outcome event (Did w ms) done g = done (record g {
   world = w;
   past = record { stamp = g.count; pass = 0; event = event; marks = ms } ∷ g.past;
   count = suc g.count;
@@ -54,12 +54,12 @@ with_entry event (Did w ms) done g = done (record g {
 })
 
 -- an event is made, where it is possible
-abbrev pub made : ScriptValue → Event → (Stage → Stage) → Stage → Stage
-made s event done g = with_entry event (step s.config g.world event) done g
+abbrev pub after_event : ScriptValue → Event → (Stage → Stage) → Stage → Stage
+after_event s event done g = after_outcome event (step s.config g.world event) done g
 
 -- the consumer's first line is done
-abbrev pub with_lines : ℕ → List Line → Stage → Stage
-with_lines k lines g = record g { left = slice_set g.left k lines; happened = true }
+abbrev pub with_lines_left : ℕ → List Line → Stage → Stage
+with_lines_left k lines g = record g { left = slice_set g.left k lines; happened = true }
 
 -- a consumer calls its next verb, if that is possible, or passes the clock for which it waits
 abbrev pub after_line : ScriptValue → ℕ → List Line → Stage → Stage
@@ -67,19 +67,19 @@ after_line s k [] g = g
 after_line s k (line ∷ rest) g = by line.what
   where
     by : What → Stage
-    by (whats.Verb verb) = made s (events.Verb k verb) (with_lines k rest) g
-    by (whats.At t) = if nat_le t g.count then with_lines k rest g else g
+    by (whats.Verb verb) = after_event s (events.Verb k verb) (with_lines_left k rest) g
+    by (whats.At t) = if nat_le t g.count then with_lines_left k rest g else g
 
-abbrev pub visit : ScriptValue → Visit → Stage → Stage
-visit s (Consumer k) g = after_line s k (lines_of k g.left) g
-visit s (Engine turn) g = option_map_or (λ event. made s event (λ h. h) g) (event_of s.weather g.world turn) g
+abbrev pub after_visit : ScriptValue → Visit → Stage → Stage
+after_visit s (Consumer k) g = after_line s k (lines_of k g.left) g
+after_visit s (Engine turn) g = option_map_or (λ event. after_event s event (λ h. h) g) (event_of s.weather g.world turn) g
 
 -- ---- rounds
 
 -- all visits, until no more events may be made
-abbrev pub pass : ScriptValue → List Visit → Stage → Stage
-pass s [] g = g
-pass s (v ∷ vs) g = if is_full s g then g else pass s vs (visit s v g)
+abbrev pub after_pass : ScriptValue → List Visit → Stage → Stage
+after_pass s [] g = g
+after_pass s (v ∷ vs) g = if has_no_event_left s g then g else after_pass s vs (after_visit s v g)
 
 -- a stage, or what comes else where nothing happened in it
 abbrev pub or_else : Stage → (Stage → Stage) → Stage
@@ -90,18 +90,18 @@ abbrev pub and_again : Stage → (Stage → Stage) → Stage
 and_again g rest = if g.happened then rest g else g
 
 -- the first visit in which something happens
-abbrev pub first_of_pass : ScriptValue → List Visit → Stage → Stage
-first_of_pass s [] g = g
-first_of_pass s (v ∷ vs) g = or_else (visit s v g) (λ h. first_of_pass s vs h)
+abbrev pub after_first : ScriptValue → List Visit → Stage → Stage
+after_first s [] g = g
+after_first s (v ∷ vs) g = or_else (after_visit s v g) (λ h. after_first s vs h)
 
 -- a round, and a timer pass where nothing happened in it
-abbrev pub worked : ScriptValue → Stage → Stage
-worked s g = or_else (pass s (round_of s) (calm g)) (λ h. first_of_pass s (timer_pass_of s) h)
+abbrev pub after_round : ScriptValue → Stage → Stage
+after_round s g = or_else (after_pass s (round_of s) (at_round g)) (λ h. after_first s (timer_pass_of s) h)
 
 -- rounds, until one in which nothing happens, or until no more events may be made
-abbrev pub rounds : ScriptValue → ℕ → Stage → Stage
-rounds s zero g = g
-rounds s (suc n) g = if is_full s g then g else and_again (worked s g) (λ h. rounds s n h)
+abbrev pub after_rounds : ScriptValue → ℕ → Stage → Stage
+after_rounds s zero g = g
+after_rounds s (suc n) g = if has_no_event_left s g then g else and_again (after_round s g) (λ h. after_rounds s n h)
 
 -- more rounds than there can be: each makes an event or passes a line, but for the last
 abbrev pub most_rounds : ScriptValue → ℕ
@@ -109,7 +109,7 @@ most_rounds s = suc (s.config.events + sum_by (λ lines. length lines) s.consume
 
 -- how far the script comes
 abbrev pub ending : ScriptValue → Stage
-ending s = rounds s (most_rounds s) (opening_stage s)
+ending s = after_rounds s (most_rounds s) (opening_stage s)
 
 -- the order of a script
 abbrev pub order : ScriptValue → List EntryValue
