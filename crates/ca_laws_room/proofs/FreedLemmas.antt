@@ -48,8 +48,8 @@ front-ascends : (low high : ℕ) (xs ys : List ℕ) → Ascend low high (xs ++ y
 front-ascends low high [] ys up = ascend-bounds low high ys up
 front-ascends low high (x ∷ xs) ys up = (up.0, front-ascends (suc x) high xs ys up.1)
 
-taken-once : (place : ℕ) (s : SharedReceives) → Ascend 0 s.next (s.taken ++ map (λ r. r.place) s.waiting) → is_in place s.taken ≡ true → stands_once place s.taken ≡ true
-taken-once place s up among = eq-eqb (length (filter (λ p. p == place) s.taken)) 1 (once-ascending place 0 s.next s.taken (front-ascends 0 s.next s.taken (map (λ r. r.place) s.waiting) up) among)
+pub taken-once : (place next : ℕ) (taken more : List ℕ) → Ascend 0 next (taken ++ more) → is_in place taken ≡ true → stands_once place taken ≡ true
+taken-once place next taken more up among = eq-eqb (length (filter (λ p. p == place) taken)) 1 (once-ascending place 0 next taken (front-ascends 0 next taken more up) among)
 
 -- the place of each completion of a receive that waits, taken of this shared receive queue, stands there once
 pub freed-once : (c : Configuration) (w : World) (s : Slot) (v : CompletionQueue) (t : ℕ) (z : SharedReceives) → IsSoundWorld c w → HasRoom w → w.cq s ≡ Some v
@@ -68,7 +68,7 @@ freed-once c w s v t z sound room there is = all-map (λ x. (n : QueueId) → is
     up = subst (λ o. IfSome o (λ q. Ascend 0 q.next (q.taken ++ map (λ r. r.place) q.waiting))) is (room.sequence T)
 
     taken : (place : ℕ) → is_in place (taken_in (w.srq T)) ≡ true → stands_once place z.taken ≡ true
-    taken place among = taken-once place z up (subst (λ o. is_in place (option_map_or (λ q. q.taken) o []) ≡ true) is among)
+    taken place among = taken-once place z.next z.taken (map (λ r. r.place) z.waiting) up (subst (λ o. is_in place (option_map_or (λ q. q.taken) o []) ≡ true) is among)
 
     one : (x : Completion) → ((n : QueueId) → is_of n true x ≡ true → is_in x.place (places_of_side n true v.waiting) ≡ true)
         → x.receive ≡ true → source_in v.reservations x.queue ≡ Some t → stands_once x.place z.taken ≡ true

@@ -124,7 +124,8 @@ filter-fewer x (z ∷ zs) is = by (z == x) is (filter-fewer x zs)
     by true is rest = omega (arith, filter-few (λ p. not (p == x)) zs)
     by false is rest = omega (arith, rest is)
 
-still-in : (x : ℕ) (ys zs : List ℕ) → is_in x zs ≡ false → AllByRecursion (λ z. is_in z ys ≡ true) zs → AllByRecursion (λ z. is_in z (filter (λ p. not (p == x)) ys) ≡ true) zs
+-- elements of another list are among it still where one that is none of them is removed
+pub still-in : (x : ℕ) (ys zs : List ℕ) → is_in x zs ≡ false → AllByRecursion (λ z. is_in z ys ≡ true) zs → AllByRecursion (λ z. is_in z (filter (λ p. not (p == x)) ys) ≡ true) zs
 still-in x ys [] apart all = record {}
 still-in x ys (z ∷ zs) apart all = (
   in-filter z x ys (or_parts (z == x) (is_in x zs) apart).0 all.0,

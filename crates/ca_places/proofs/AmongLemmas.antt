@@ -210,7 +210,7 @@ module _ (c : Configuration) where
       by true at = refl
       by false at = absurd (none-some n at)
 
-  place-at : (p : PartName) (n : ℕ) → AreLimited c → place_of c p ≡ Some n → IsAt (all_parts c) 0 p n
+  pub place-at : (p : PartName) (n : ℕ) → AreLimited c → place_of c p ≡ Some n → IsAt (all_parts c) 0 p n
   place-at p n limited at = at-place (all_parts c) 0 p n
       (all-numbered c limited ∙ ap (λ k. map Some (range_with_len 0 k)) (sym (from-length 0 c.adapters))) (all-among p (configured p n at)) at
 

@@ -1,3 +1,3 @@
-mod AmongLemmas
-mod NumberLemmas
+pub mod AmongLemmas
+pub mod NumberLemmas
 mod PlaceLemmas

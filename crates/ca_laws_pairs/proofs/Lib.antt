@@ -1,0 +1,3 @@
+mod DepartLemmas
+mod FlushLemmas
+pub mod HeldLemmas
