@@ -1,0 +1,5 @@
+mod AddedLemmas
+pub mod ContentsLemmas
+mod FitLemmas
+mod RowLemmas
+pub mod WorldLemmas
