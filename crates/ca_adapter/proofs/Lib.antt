@@ -1,0 +1,4 @@
+pub mod WorldLemmas
+pub mod ReadyLemmas
+mod PollLemmas
+mod FitLemmas

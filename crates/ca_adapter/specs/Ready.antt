@@ -1,0 +1,53 @@
+-- What whoever acts shows of the parts in hand: they are those of a world that comes up, and they suffice for the event.
+-- Contracts cite it.
+use Rattle.std.specs.Prelude.{◌≡◌, ℕ, Bool, true, false, not, List, length, None}
+use Rattle.ca_acts.specs.Calls.{call_of}
+use Rattle.ca_acts.specs.declared.answers.Call.{Call}
+use Rattle.ca_base.specs.Configuration.{Configuration, configuration_in}
+use Rattle.ca_base.specs.declared.settings.Settings.{Settings}
+use Rattle.ca_held.specs.declared.held.Held.{Held}
+use Rattle.ca_held.specs.HeldView.{holding}
+use Rattle.ca_keys.specs.declared.place.Place.{Place}
+use Rattle.ca_laws_names.specs.Placed.{is_configured}
+use Rattle.ca_model.specs.declared.event.Event.{Event}
+use Rattle.ca_model.specs.declared.event.Event.TheVariants as events
+use Rattle.ca_model.specs.declared.verb.Verb.{Verb}
+use Rattle.ca_model.specs.declared.verb.Verb.TheVariants as verbs
+use Rattle.ca_model.specs.declared.part_name.PartName.TheVariants as names
+use Rattle.ca_model.specs.machine.Parts.{ShowsHeld, event_needs, next_part}
+use Rattle.ca_model.specs.machine.HostVerbs.{store_plan}
+use Rattle.ca_model.specs.machine.Plan.{Plan}
+use Rattle.ca_model.specs.machine.Step.{bytes_of_buffer, run_of}
+use Rattle.ca_model.specs.machine.World.{World, Byte_at}
+use Rattle.ca_worlds.specs.Worlds.{IsWorldAfter}
+
+-- The parts in hand are those of a world to which so many events lead; a buffer in hand has all bytes that the
+-- configuration gives it.
+pub record ArePartsOfWorld (c : Configuration) (h : Held) : Type 0 where
+  pub count : ℕ
+  pub world : World
+  pub after : IsWorldAfter c count world
+  pub shows : ShowsHeld (holding h).parts (holding h).world world
+  pub whole : (p : Place) → (holding h).parts (names.Buffer p.adapter p.buffer) ≡ true → is_configured c (Byte_at p) ≡ true
+      → (holding h).has (Byte_at p) ≡ true
+
+-- An event can be acted with the parts in hand: they are those of a world, and none that it needs is missing.
+pub record IsReady (c : Configuration) (event : Event) (h : Held) : Type 0 where
+  pub parts : ArePartsOfWorld c h
+  pub next : next_part (holding h).parts (holding h).world (event_needs c event) ≡ None
+
+-- an Inject, which is no verb of the standard: a packet arrives
+abbrev pub is_injection : Verb → Bool
+is_injection (verbs.Inject queue bytes) = true
+is_injection verb = false
+
+-- a verb that is no Inject
+abbrev pub is_transport : Event → Bool
+is_transport (events.Verb by verb) = not (is_injection verb)
+is_transport event = false
+
+-- a Store of these bytes from a place on, in a buffer as it is configured
+abbrev pub stored_plan : Settings → Call → Place → List ℕ → Plan
+stored_plan s call p bytes =
+    store_plan (call_of call) (run_of p.adapter p.buffer p.offset (length bytes))
+    (bytes_of_buffer (configuration_in s) p.adapter p.buffer) bytes
