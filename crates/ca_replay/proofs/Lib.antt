@@ -1,0 +1,7 @@
+mod PartLemmas
+mod RowLemmas
+mod TogetherLemmas
+mod GatherLemmas
+mod MadeLemmas
+mod ActLemmas
+mod OpenLemmas

@@ -1,0 +1,16 @@
+use Rattle.std.proofs.Common.{◌∙◌, ap, sym}
+use Rattle.ca_model.specs.machine.Parts.{is_held}
+use Rattle.ca_replay.proofs.ActLemmas.{acted, configured_names, ready_now}
+use Rattle.ca_replay.proofs.hand.act_in_hand.Goals as goal
+
+pub act-result-requires-clause-ready : goal.act-result-requires-clause-ready
+act-result-requires-clause-ready c = ready_now _ _ _ _ _ _ c.requires.world c.gather.ensures.together c.gather.ensures.next
+
+pub give_back-requires-clause-configured : goal.give_back-requires-clause-configured
+give_back-requires-clause-configured c = λ p held. configured_names _ _ _ _ _ c.requires.world c.gather.ensures.together p (c.gather.ensures.names p ∙ sym (ap (λ names. is_held names p) c.as_slice.ensures.value) ∙ held)
+
+pub give_back-requires-clause-places : goal.give_back-requires-clause-places
+give_back-requires-clause-places c = (c.gather.ensures.together c.requires.world.world c.requires.world.together).places
+
+pub returns-clause-step : goal.returns-clause-step
+returns-clause-step c = λ w start. acted _ c.args.event.now _ _ _ _ _ _ c.act-result.result (c.gather.ensures.together w start) c.act-result.ensures.act c.act-result.ensures.step c.give_back.ensures.together

@@ -1,0 +1,13 @@
+//! All parts of a fabric on one thread: one event after another.
+//!
+//! To the layers above it promises that the row of all parts stands for a world of the machine, and that an event on it is
+//! the machine's step there: the marks, and the row of the world after it; or the reason why it is not possible, and the
+//! row as it was.
+//!
+//! Source: this profile's choice.
+#![tactic(auto)]
+
+mod hand;
+mod row;
+
+pub use row::Row;

@@ -1,0 +1,81 @@
+ghost use Rattle.std.specs.Prelude.{◌≡◌, ◌-◌, ◌<◌, ◌^◌, true, IfOk};
+ghost use Rattle.ca_adapter.specs.Ready.{is_transport};
+ghost use Rattle.ca_base.specs.Configuration.{Configuration, configuration_of};
+ghost use Rattle.ca_model.specs.machine.Sound.{AreLimited};
+ghost use Rattle.ca_model.specs.machine.Step.{step};
+ghost use Rattle.ca_model.specs.machine.World.{World, opening_world};
+ghost use Rattle.ca_opening.specs.Opening.{FitContents, opening_bytes};
+ghost use Rattle.ca_replay.specs.Rows.{IsMade, IsRow, IsRowOf, count_after};
+
+use crate::hand::{MAX_IN_HAND, act_in_hand};
+use ca_adapter::lists_fit;
+use ca_base::{Memory, Settings, StepError};
+use ca_held::{Held, Part};
+use ca_model::{Event, Marks, Opening, PartName};
+use ca_opening::parts;
+use std::alloc::Global;
+
+/// All parts of a fabric, each at its place, and how many events were made on them. The hand, and the names of what is in
+/// it, keep their room from event to event.
+#[derive(Drop)]
+pub struct Row {
+    pub settings: Settings,
+    pub parts: Vec<Part>,
+    pub held: Held,
+    pub names: Vec<PartName>,
+    pub count: u32,
+}
+
+impl Row {
+    /// The parts before the first event. The contents are the bytes of each buffer in rising adapter and buffer, each of
+    /// the configured length.
+    pub fn open(alloc: Global, opening: &Opening) -> Result<Row, Memory>
+        requires limited { AreLimited (configuration_of opening.now.config) }
+        requires contents { FitContents (configuration_of opening.now.config) opening.now.contents }
+        ensures world { IfOk result (IsRowOf (configuration_of opening.now.config)
+            (opening_world (opening_bytes (configuration_of opening.now.config) opening.now.contents))) }
+        ensures row { IfOk result (λ row. IsRow row) }
+    {
+        Ok(Row {
+            settings: Settings::of(&opening.config),
+            parts: parts(alloc, opening)?,
+            held: Held::empty(alloc),
+            names: Vec::new(alloc),
+            count: 0,
+        })
+    }
+
+    /// Makes an event, which is a verb and no Inject: its parts are taken in hand, one after another, the event is acted,
+    /// and they are given back to their places. NotReady and `Memory` leave all as it was. One event more may come, of
+    /// fewer than 2^32 - 1.
+    pub fn make(&mut self, alloc: Global, event: &Event) -> Result<Marks, StepError>
+        requires row { IsRow self.old }
+        requires few { self.old.count < 2 ^ 32 - 2 }
+        requires transport { is_transport event.now ≡ true }
+        ensures step { (c : Configuration) (w : World) → IsRowOf c w self.old
+            → IsMade result (step c w event.now) w (λ v. IsRowOf c v self.new) }
+        ensures row { IsRow self.new }
+        ensures count { self.new.count ≡ count_after result self.old.count }
+    {
+        lists_fit(event);
+        self.held.reserve(MAX_IN_HAND)?;
+        self.names.clear();
+        if self.names.reserve(usize::from(MAX_IN_HAND)).is_err() {
+            return Err(StepError::Memory);
+        }
+        match act_in_hand(
+            alloc,
+            &self.settings,
+            event,
+            &mut self.parts,
+            &mut self.held,
+            &mut self.names,
+        ) {
+            Ok(marks) => {
+                self.count += 1;
+                Ok(marks)
+            }
+            Err(error) => Err(error),
+        }
+    }
+}
