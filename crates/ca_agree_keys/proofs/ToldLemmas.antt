@@ -1,0 +1,163 @@
+-- What marks leave of grants in force and of memory. For proofs only.
+use Rattle.std.proofs.Common.{◌≡◌, ℕ, ◌+◌, ◌-◌, ◌≤◌, arith, ◌==◌, nat_le, min, Bool, true, false, if◌then◌else◌, List, [], ◌∷◌, ◌++◌, length, map, take, drop, sum_by, Option, None, Some, IfSome, refl, sym, ap, subst, ◌∙◌, length-drop}
+use Rattle.std.proofs.lemmas.List.{length-take-le}
+use Rattle.std.proofs.lemmas.List.Sums.{sum_by-cons}
+use Rattle.std.specs.Option.{option_map_or}
+use Rattle.ca_agree.proofs.PathLemmas.{marks-append}
+use Rattle.ca_agree_keys.proofs.CalmLemmas.{AreCalm, IsCalm, IsCalmMark}
+use Rattle.ca_agree_keys.proofs.SightLemmas.{after_asked}
+use Rattle.ca_agree_keys.proofs.SlotLemmas.{without_key}
+use Rattle.ca_keys.specs.Allowed.{fits, grant_for}
+use Rattle.ca_keys.specs.Memory.{ByteMap, cut, memory_after, runs_at, runs_for}
+use Rattle.ca_keys.specs.declared.access.Ask.{Ask}
+use Rattle.ca_keys.specs.declared.access.Kind.{Kind}
+use Rattle.ca_keys.specs.declared.grant.Grant.{Grant}
+use Rattle.ca_keys.specs.declared.key.Key.{Key}
+use Rattle.ca_keys.specs.declared.names.DomainId.{DomainId}
+use Rattle.ca_keys.specs.declared.names.QueueId.{QueueId}
+use Rattle.ca_keys.specs.declared.place.Run.{Run}
+use Rattle.ca_keys.specs.declared.verdict.Verdict.TheVariants as verdicts
+use Rattle.ca_base.specs.declared.refusals.OpRefusal.{OpRefusal}
+use Rattle.ca_base.specs.declared.request.Piece.{Piece}
+use Rattle.ca_base.specs.Sight.{Invalidation, runs_by_grant}
+use Rattle.ca_base.specs.objects.QueuePair.{QueuePair}
+use Rattle.ca_laws_sound.proofs.WorldLemmas.{EndingDoes}
+use Rattle.ca_model.specs.Past.{Past, after_mark, after_marks}
+use Rattle.ca_model.specs.declared.mark.Mark.{Mark}
+use Rattle.ca_model.specs.declared.mark.Mark.TheVariants as marks
+use Rattle.ca_model.specs.machine.Numbering.{cut_list, piece_ask, piece_part}
+use Rattle.ca_model.specs.machine.Responses.{local_writes, writes_by}
+use Rattle.ca_model.specs.machine.Row.{Does, Effects, Row, plain_row}
+use Rattle.ca_base.specs.declared.denied_ask.DeniedAsk.{DeniedAsk}
+
+-- a past with these grants in force and this memory
+pub record At (g : List Grant) (m : ByteMap) (p : Past) : Type 0 where
+  pub grants : p.grants ≡ g
+  pub memory : p.memory ≡ m
+
+-- marks that lead from some grants and some memory to others
+abbrev pub Leaves : List Grant → ByteMap → List Mark → List Grant → ByteMap → Type 0
+Leaves g m ms h n = (p : Past) → At g m p → At h n (after_marks ms p)
+
+pub leaves-append : (g h k : List Grant) (m n o : ByteMap) (ms ns : List Mark) → Leaves g m ms h n → Leaves h n ns k o → Leaves g m (ms ++ ns) k o
+leaves-append g h k m n o ms ns one other = λ p at. subst (At k o) (sym (marks-append ms ns p)) (other (after_marks ms p) (one p at))
+
+calm-mark : (g : List Grant) (m : ByteMap) (x : Mark) → IsCalmMark x → (p : Past) → At g m p → At g m (after_mark x p)
+calm-mark g m (marks.Verb by verb answer) calm p at = absurd calm
+calm-mark g m (marks.Granted x) calm p at = absurd calm
+calm-mark g m (marks.Revoked adapter key) calm p at = absurd calm
+calm-mark g m (marks.Stored place bytes) calm p at = absurd calm
+calm-mark g m (marks.Remote queue domain envelope key kind address count (verdicts.Denied denial)) calm p at = record { grants = at.grants; memory = at.memory }
+calm-mark g m (marks.Remote queue domain envelope key kind address count (verdicts.Read bytes)) calm p at = record { grants = at.grants; memory = at.memory }
+calm-mark g m (marks.Remote queue domain envelope key kind address count (verdicts.Wrote bytes)) calm p at = absurd calm
+calm-mark g m (marks.Remote queue domain envelope key kind address count (verdicts.Swapped found put)) calm p at = absurd calm
+calm-mark g m (marks.Local queue domain key kind address count (verdicts.Denied denial)) calm p at = record { grants = at.grants; memory = at.memory }
+calm-mark g m (marks.Local queue domain key kind address count (verdicts.Read bytes)) calm p at = record { grants = at.grants; memory = at.memory }
+calm-mark g m (marks.Local queue domain key kind address count (verdicts.Wrote bytes)) calm p at = absurd calm
+calm-mark g m (marks.Local queue domain key kind address count (verdicts.Swapped found put)) calm p at = absurd calm
+calm-mark g m (marks.Sent source target index request bytes) calm p at = record { grants = at.grants; memory = at.memory }
+calm-mark g m (marks.Lost target None) calm p at = record { grants = at.grants; memory = at.memory }
+calm-mark g m (marks.Lost target (Some index)) calm p at = record { grants = at.grants; memory = at.memory }
+calm-mark g m (marks.Arrived target index) calm p at = record { grants = at.grants; memory = at.memory }
+calm-mark g m (marks.Dropped target cause) calm p at = record { grants = at.grants; memory = at.memory }
+calm-mark g m (marks.Timer queue silent) calm p at = record { grants = at.grants; memory = at.memory }
+calm-mark g m (marks.Done queue x cause) calm p at = record { grants = at.grants; memory = at.memory }
+
+pub leaves-calm : (g : List Grant) (m : ByteMap) (ms : List Mark) → AreCalm ms → Leaves g m ms g m
+leaves-calm g m [] calm = λ p at. at
+leaves-calm g m (x ∷ ms) calm = λ p at. leaves-calm g m ms calm.1 (after_mark x p) (calm-mark g m x calm.0 p at)
+
+pub leaves-revoked : (g : List Grant) (m : ByteMap) (adapter : ℕ) (key : Key) → Leaves g m (marks.Revoked adapter key ∷ []) (without_key adapter key g) m
+leaves-revoked g m adapter key = λ p at. record { grants = ap (without_key adapter key) at.grants; memory = at.memory }
+
+pub leaves-granted : (g : List Grant) (m : ByteMap) (x : Grant) → Leaves g m (marks.Granted x ∷ []) (x ∷ g) m
+leaves-granted g m x = λ p at. record { grants = ap (λ (gs : List Grant). x ∷ gs) at.grants; memory = at.memory }
+
+-- the grant that an ask goes by is the same for any number of bytes that it touches
+pub touch-alike : (ask : Ask) (touch : ℕ) (gs : List Grant) → grant_for (record ask { touch = touch }) gs ≡ grant_for ask gs
+touch-alike ask touch [] = refl
+touch-alike ask touch (g ∷ gs) = ap (λ o. if fits ask g then Some g else o) (touch-alike ask touch gs)
+
+sum-more : (p : Piece) (ps : List Piece) → sum_by (λ p. p.length) (p ∷ ps) ≡ p.length + sum_by (λ p. p.length) ps
+sum-more p ps = sum_by-cons (λ (p : Piece). p.length) p ps
+
+-- pieces of a list, cut to so many bytes, have no more bytes
+cut-most : (skip count : ℕ) (ps : List Piece) → sum_by (λ p. p.length) (cut_list skip count ps) ≤ count
+cut-most skip count [] = omega arith
+cut-most skip count (p ∷ ps) = by (nat_le p.length skip) (count == 0) (cut-most (skip - p.length) count ps) (cut-most 0 (count - (p.length - skip)) ps)
+  where
+    pieces : Bool → Bool → List Piece
+    pieces b z =
+        if b then cut_list (skip - p.length) count ps
+        else if z then []
+        else piece_part p skip (min count (p.length - skip)) ∷ cut_list 0 (count - (p.length - skip)) ps
+
+    by : (b z : Bool) → sum_by (λ p. p.length) (cut_list (skip - p.length) count ps) ≤ count
+        → sum_by (λ p. p.length) (cut_list 0 (count - (p.length - skip)) ps) ≤ count - (p.length - skip) → sum_by (λ p. p.length) (pieces b z) ≤ count
+    by true z rest more = rest
+    by false true rest more = omega arith
+    by false false rest more = omega (arith, more, sum-more (piece_part p skip (min count (p.length - skip))) (cut_list 0 (count - (p.length - skip)) ps))
+
+-- bytes that are written by pieces of a list
+pieces-written : (g : List Grant) (queue : QueueId) (domain : DomainId) (kind : Kind) (ps : List Piece) (bytes : List ℕ) (m : ByteMap) → sum_by (λ p. p.length) ps ≤ length bytes
+    → Leaves g m (local_writes (writes_by (map (piece_ask queue domain kind) ps) bytes)) g (after_asked g (writes_by (map (piece_ask queue domain kind) ps) bytes) m)
+pieces-written g queue domain kind [] bytes m most = λ p at. at
+pieces-written g queue domain kind (x ∷ ps) bytes m most = λ p at. pieces-written g queue domain kind ps (drop x.length bytes) after (omega (arith, most, length-drop x.length bytes, sum-more x ps)) (after_mark mark p) (record {
+  grants = at.grants;
+  memory = λ i. memory_after (at.memory i) (runs_for ask (at.grants i) (whole i)) (take x.length bytes);
+})
+  where
+    ask : Ask
+    ask = piece_ask queue domain kind x
+
+    mark : Mark
+    mark = marks.Local ask.queue ask.domain ask.key ask.kind ask.address ask.length (verdicts.Wrote (take x.length bytes))
+
+    whole : length (take x.length bytes) ≡ x.length
+    whole = length-take-le x.length bytes (omega (arith, most, sum-more x ps))
+
+    after : ByteMap
+    after = memory_after m (runs_by_grant ask (grant_for ask g)) (take x.length bytes)
+
+pub list-written : (g : List Grant) (queue : QueueId) (domain : DomainId) (kind : Kind) (skip : ℕ) (ps : List Piece) (bytes : List ℕ) (m : ByteMap)
+    → Leaves g m (local_writes (writes_by (map (piece_ask queue domain kind) (cut_list skip (length bytes) ps)) bytes)) g
+    (after_asked g (writes_by (map (piece_ask queue domain kind) (cut_list skip (length bytes) ps)) bytes) m)
+list-written g queue domain kind skip ps bytes m = pieces-written g queue domain kind (cut_list skip (length bytes) ps) bytes m (cut-most skip (length bytes) ps)
+
+-- no bytes of runs are no runs
+cut-none : (skip : ℕ) (rs : List Run) → cut skip 0 rs ≡ []
+cut-none skip [] = refl
+cut-none skip (r ∷ rs) = by (nat_le r.length skip) (cut-none (skip - r.length) rs)
+  where
+    by : (b : Bool) → cut (skip - r.length) 0 rs ≡ [] → (if b then cut (skip - r.length) 0 rs else []) ≡ []
+    by true rest = rest
+    by false rest = refl
+
+pub none-written : (ask : Ask) (g : List Grant) (m : ByteMap) (bytes : List ℕ) → length bytes ≡ 0 → memory_after m (runs_for ask g (length bytes)) bytes ≡ m
+none-written ask g m bytes none = ap (λ n. memory_after m (runs_for ask g n) bytes) none ∙ by (grant_for ask g)
+  where
+    by : (o : Option Grant) → memory_after m (option_map_or (λ x. runs_at x ask.address 0) o []) bytes ≡ m
+    by None = refl
+    by (Some x) = ap (λ rs. memory_after m rs bytes) (cut-none (ask.address - x.address) x.runs)
+
+-- effects whose marks tell of what they write, and lead to these grants
+abbrev pub IsTold : List Grant → List Grant → Effects → Type 0
+IsTold g h e = (m : ByteMap) → Leaves g m e.marks h (after_asked g e.writes m)
+
+pub told-calm : (g : List Grant) (e : Effects) → IsCalm e → IsTold g g e
+told-calm g e calm = λ m. subst (λ xs. Leaves g m e.marks g (after_asked g xs m)) (sym calm.writes) (leaves-calm g m e.marks calm.marks)
+
+-- the grants in force when a row has ended its key, or was refused
+abbrev pub ended : Option Invalidation → Option OpRefusal → List Grant → List Grant
+ended None refusal g = g
+ended (Some i) None g = without_key i.queue.adapter i.key g
+ended (Some i) (Some cause) g = g
+
+-- a row of a queue pair whose effects are told
+pub record RowTold (g : List Grant) (queue : QueueId) (domain : DomainId) (row : Row) : Type 0 where
+  pub own : IfSome row.invalidation (λ i. (i.queue ≡ queue) × (i.domain ≡ domain))
+  pub denied : (d : DeniedAsk) → EndingDoes (IsTold g g) (row.denied d)
+  pub allowed : (bytes : List (List ℕ)) (refusal : Option OpRefusal) → EndingDoes (IsTold g (ended row.invalidation refusal g)) (row.allowed bytes refusal)
+
+pub plain-told : (g : List Grant) (q : QueuePair) (e : Effects) → IsCalm e → RowTold g q.queue q.domain (plain_row (Does e))
+plain-told g q e calm = record { own = record {}; denied = λ d. told-calm g e calm; allowed = λ bytes refusal. told-calm g e calm }
