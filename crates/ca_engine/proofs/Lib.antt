@@ -1,0 +1,3 @@
+pub mod OfferLemmas
+pub mod EngineLemmas
+pub mod QuietLemmas

@@ -1,0 +1,3 @@
+pub mod VisitLemmas
+pub mod OfferedLemmas
+pub mod LoopLemmas
