@@ -11,14 +11,14 @@ use Rattle.ca_replay.proofs.row.Row.open.Goals as goal
 pub returns : goal.returns
 returns c =
     let opened : IsRowOf (configuration_of c.args.opening.now.config)
-        (opening_world (opening_bytes (configuration_of c.args.opening.now.config) c.args.opening.now.contents))
-        (record { settings = c.of.result; parts = c.in_ok-parts.field-0; held = c.empty.result; names = c.new.result; count = 0 }) = record {
-  settings = c.of.ensures;
-  after = opening-after (configuration_of c.args.opening.now.config) (opening_bytes (configuration_of c.args.opening.now.config) c.args.opening.now.contents) c.requires.limited;
-  together = subst (AreTogether (configuration_of c.args.opening.now.config)
-      (opening_world (opening_bytes (configuration_of c.args.opening.now.config) c.args.opening.now.contents)) c.in_ok-parts.field-0.items)
-      (sym c.empty.ensures)
-      (opens (configuration_of c.args.opening.now.config) c.args.opening.now.contents c.requires.limited c.requires.contents c.in_ok-parts.field-0.items c.in_ok-parts.ensures.count c.in_ok-parts.ensures.each);
-  empty = λ p. ap (λ h. h.parts p) c.empty.ensures;
-} in
+    (opening_world (opening_bytes (configuration_of c.args.opening.now.config) c.args.opening.now.contents))
+    (record { settings = c.of.result; parts = c.in_ok-parts.field-0; held = c.empty.result; names = c.new.result; count = 0 }) = record {
+      settings = c.of.ensures;
+      after = opening-after (configuration_of c.args.opening.now.config) (opening_bytes (configuration_of c.args.opening.now.config) c.args.opening.now.contents) c.requires.limited;
+      together = subst (AreTogether (configuration_of c.args.opening.now.config)
+          (opening_world (opening_bytes (configuration_of c.args.opening.now.config) c.args.opening.now.contents)) c.in_ok-parts.field-0.items)
+          (sym c.empty.ensures)
+          (opens (configuration_of c.args.opening.now.config) c.args.opening.now.contents c.requires.limited c.requires.contents c.in_ok-parts.field-0.items c.in_ok-parts.ensures.count c.in_ok-parts.ensures.each);
+      empty = λ p. ap (λ h. h.parts p) c.empty.ensures;
+    } in
     record { world = opened; row = row_is _ _ _ opened }
