@@ -113,7 +113,7 @@ pub const MAX_RNR_CODE: u8 = 31;
 pub const ATOMIC_BYTES: u32 = 8;
 
 /// The most parts that an event holds.
-pub const MAX_HELD_PARTS: usize = 32;
+pub const MAX_HELD_PARTS: u8 = 32;
 
 /// The most passes over one row of parts: how many numbers the first pass has, and its share.
 pub const MAX_PASSES: u64 = 4_294_967_296;

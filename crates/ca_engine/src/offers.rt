@@ -7,19 +7,9 @@ ghost use Rattle.ca_engine.specs.Offers.{offers_of_round, offers_of_timers, time
 ghost use Rattle.ca_engine.specs.declared.offer.Offer.TheVariants as variants;
 
 use crate::offer::Offer;
-use ca_base::{AdapterConfig, Config, DomainId, Memory, QueueId};
+use ca_base::{AdapterConfig, Config, DomainId, Memory, QueueId, Slot};
 use ca_turns::Turn;
 use std::alloc::Global;
-
-/// The queue pair in a slot of a domain.
-fn queue_at(domain: DomainId, slot: u16) -> QueueId
-    ensures { result ≡ queue_of (record { domain = domain; slot = slot }) }
-{
-    QueueId {
-        adapter: domain.adapter,
-        number: (u32::from(domain.domain) + 1) * 256 + u32::from(slot),
-    }
-}
 
 /// Adds the queue pairs of a domain with so many slots.
 fn add_queues_of_domain(
@@ -31,7 +21,7 @@ fn add_queues_of_domain(
         ++ map (λ s. queue_of (record { domain = domain; slot = s })) (numbers_below slots)) }
 {
     for slot in 0..slots {
-        queues.push(queue_at(domain, slot))?;
+        queues.push(QueueId::of_slot(Slot { domain, slot }))?;
     }
     Ok(())
 }

@@ -48,9 +48,8 @@ pub struct QueueId {
 impl QueueId {
     ghost use Rattle.ca_keys.specs.Numbers.{queue_of, domain_of};
 
-    /// The queue pair that stands in a slot, which is one of at most 256 of its domain.
+    /// The queue pair that stands in a slot.
     pub fn of_slot(slot: Slot) -> QueueId
-        requires { slot.slot < 256 }
         ensures { result ≡ queue_of slot }
     {
         QueueId {

@@ -12,15 +12,12 @@ ghost use Rattle.ca_adapter.specs.Ready.{is_transport};
 ghost use Rattle.ca_model.specs.machine.Step.{step};
 
 use ca_adapter::act;
-use ca_base::{Settings, StepError};
+use ca_base::{MAX_HELD_PARTS, Settings, StepError};
 use ca_held::{ControlPart, Held, Part};
 use ca_model::{Event, Marks, PartName};
 use ca_needs::next_part;
 use ca_places::place;
 use std::alloc::Global;
-
-/// The most parts that are in hand at once.
-pub(crate) const MAX_IN_HAND: u8 = 32;
 
 /// What stands at the place of a part that is in hand.
 const BLANK: Part = Part::Control(ControlPart {
@@ -40,8 +37,8 @@ pub(crate) fn act_in_hand(
     requires world { IsOfWorld (configuration_in settings.now) parts.old.items held.old }
     requires empty { IsEmpty (holding held.old) }
     requires none { names.old.items ≡ [] }
-    requires room { (p : PartName) → MAX_IN_HAND ≤ room_for held.old p }
-    requires names { MAX_IN_HAND ≤ vec_capacity names.old }
+    requires room { (p : PartName) → MAX_HELD_PARTS ≤ room_for held.old p }
+    requires names { MAX_HELD_PARTS ≤ vec_capacity names.old }
     requires transport { is_transport event.now ≡ true }
     ensures step { (w : World) → AreTogether (configuration_in settings.now) w parts.old.items (holding held.old)
         → IsMade result (step (configuration_in settings.now) w event.now) w
@@ -65,8 +62,8 @@ pub(crate) fn gather(
     requires world { IsOfWorld (configuration_in settings.now) parts.old.items held.old }
     requires empty { IsEmpty (holding held.old) }
     requires none { names.old.items ≡ [] }
-    requires room { (p : PartName) → MAX_IN_HAND ≤ room_for held.old p }
-    requires names { MAX_IN_HAND ≤ vec_capacity names.old }
+    requires room { (p : PartName) → MAX_HELD_PARTS ≤ room_for held.old p }
+    requires names { MAX_HELD_PARTS ≤ vec_capacity names.old }
     ensures together { (w : World) → AreTogether (configuration_in settings.now) w parts.old.items (holding held.old)
         → AreTogether (configuration_in settings.now) w parts.new.items (holding held.new) }
     ensures next { machine.next_part (holding held.new).parts (holding held.new).world
@@ -74,7 +71,7 @@ pub(crate) fn gather(
     ensures names { (p : PartName) → (holding held.new).parts p ≡ machine.is_held names.new.items p }
     ensures apart { AreApart names.new.items }
 {
-    for _ in 0..MAX_IN_HAND {
+    for _ in 0..MAX_HELD_PARTS {
         let Some(name) = next_part(settings, event, held) else {
             return;
         };

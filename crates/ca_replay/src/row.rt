@@ -7,7 +7,7 @@ ghost use Rattle.ca_model.specs.machine.World.{World, opening_world};
 ghost use Rattle.ca_opening.specs.Opening.{FitContents, opening_bytes};
 ghost use Rattle.ca_replay.specs.Rows.{IsMade, IsRow, IsRowOf, count_after};
 
-use crate::hand::{MAX_IN_HAND, act_in_hand};
+use crate::hand::act_in_hand;
 use ca_adapter::lists_fit;
 use ca_base::{Memory, Settings, StepError};
 use ca_held::{Held, Part};
@@ -46,8 +46,8 @@ impl Row {
     }
 
     /// Makes an event, which is a verb and no Inject: its parts are taken in hand, one after another, the event is acted,
-    /// and they are given back to their places. NotReady and `Memory` leave all as it was. One event more may come, of
-    /// fewer than 2^32 - 1.
+    /// and they are given back to their places. NotReady and `Memory` leave all as it was. Fewer
+    /// than 2^32 - 2 events were made before.
     pub fn make(&mut self, alloc: Global, event: &Event) -> Result<Marks, StepError>
         requires row { IsRow self.old }
         requires few { self.old.count < 2 ^ 32 - 2 }
@@ -58,9 +58,9 @@ impl Row {
         ensures count { self.new.count ≡ count_after result self.old.count }
     {
         lists_fit(event);
-        self.held.reserve(MAX_IN_HAND)?;
+        self.held.reserve(MAX_HELD_PARTS)?;
         self.names.clear();
-        if self.names.reserve(usize::from(MAX_IN_HAND)).is_err() {
+        if self.names.reserve(usize::from(MAX_HELD_PARTS)).is_err() {
             return Err(StepError::Memory);
         }
         match act_in_hand(
