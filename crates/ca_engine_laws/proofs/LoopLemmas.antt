@@ -1,20 +1,23 @@
 -- The loop makes the order, offer by offer. For proofs only.
-use Rattle.std.proofs.Common.{◌≡◌, inl, inr, ℕ, zero, suc, ◌+◌, ◌≤◌, ◌||◌, not, Bool, true, false, if◌then◌else◌, List, [], ◌∷◌, map, Option, None, Some, refl, sym, ap, ◌∙◌, subst, arith, true≢false}
+use Rattle.std.proofs.Common.{◌≡◌, inl, inr, ℕ, zero, suc, ◌+◌, ◌*◌, ◌<◌, ◌≤◌, ◌||◌, not, Bool, true, false, if◌then◌else◌, List, [], ◌∷◌, length, map, Option, None, Some, refl, sym, ap, ◌∙◌, subst, arith, true≢false}
 use Rattle.std.specs.Bool.{⊤}
+use Rattle.std.proofs.Math.Nat.{suc-mul}
 use Rattle.std.proofs.lemmas.Bool.Decides.{nat_tests}
+use Rattle.std.proofs.lemmas.List.{length-map}
+use Rattle.std.proofs.lemmas.Nat.{mul-le}
 use Rattle.ca_engine.specs.Engine.{EngineValue, at_next, clock_after, engine_after, is_still, offer_of}
-use Rattle.ca_engine.specs.Offers.{offers_of_timers}
+use Rattle.ca_engine.specs.Offers.{offers_of_round, offers_of_timers}
 use Rattle.ca_engine.specs.declared.offer.Offer.{Offer}
 use Rattle.ca_engine.specs.declared.outcome.Outcome.TheVariants as outcomes
 use Rattle.ca_engine.specs.declared.pass.Pass.{Pass}
 use Rattle.ca_engine.specs.declared.pass.Pass.TheVariants as passes
 use Rattle.ca_order.specs.Visits.{Visit, Consumer, Engine, round_of, timer_pass_of}
 use Rattle.ca_order.specs.Order.{Stage, and_again, at_round, ending, after_first, has_no_event_left, most_rounds, opening_stage, or_else, after_pass, after_rounds, after_visit, after_round}
-use Rattle.ca_order.proofs.EndLemmas.{Ended, StillAll, order-ends}
+use Rattle.ca_order.proofs.EndLemmas.{Ended, StillAll, chances, lines_left, order-ends}
 use Rattle.ca_script.specs.Script.{ScriptValue}
-use Rattle.ca_engine_laws.specs.Loop.{Work, has_ended, is_at_end, opening_work, outcome_of_nothing, work_after, work_after_all, work_after_visit, is_quiet_offer}
+use Rattle.ca_engine_laws.specs.Loop.{Work, has_ended, is_at_end, most_offers, opening_work, outcome_of_nothing, work_after, work_after_all, work_after_visit, is_quiet_offer}
 use Rattle.ca_engine_laws.proofs.OfferedLemmas.{no-timers, offer_for, round-offered, timer-pass-offered}
-use Rattle.ca_engine_laws.proofs.VisitLemmas.{Comes, at, comes-visit}
+use Rattle.ca_engine_laws.proofs.VisitLemmas.{Comes, at, comes-visit, fewer-chances}
 
 -- ---- rounds do not look at what happened before
 
@@ -85,20 +88,47 @@ Fits_at s Begins g = ⊤
 Fits_at s (In_round v vs b clock) g = b ≡ false → IsCalm s clock g
 Fits_at s (In_timers vs clock) g = IsCalm s clock g
 
--- the work stands somewhere, and comes from there as far as this
-record Stands (s : ScriptValue) (f : ℕ) (target : Stage) (w : Work) : Type 0 where
+-- ---- how many offers are left at most
+
+-- the offers of a round and of a timer pass
+abbrev lap : ScriptValue → ℕ
+lap s = length (round_of s) + length (timer_pass_of s)
+
+-- those behind a round in which something happened, or nothing, with so many events and lines that can come still
+abbrev left_behind : ScriptValue → Bool → ℕ → ℕ
+left_behind s true c = suc c * lap s
+left_behind s false c = length (timer_pass_of s) + c * lap s
+
+-- those from where the engine stands
+abbrev left_at : ScriptValue → State → Stage → ℕ
+left_at s Begins g = suc (chances s g) * lap s
+left_at s (In_round v vs b clock) g = suc (length vs) + left_behind s b (chances s g)
+left_at s (In_timers vs clock) g = length vs + chances s g * lap s
+
+-- one event or line fewer is one round and timer pass fewer
+laps-fewer : (s : ScriptValue) (c d : ℕ) → c < d → suc c * lap s ≤ d * lap s
+laps-fewer s c d fewer = mul-le (suc c) (lap s) d (lap s) (omega (arith, fewer)) (omega arith)
+
+behind-fewer : (s : ScriptValue) (b : Bool) (c d : ℕ) → c < d → suc c * lap s ≤ left_behind s b d
+behind-fewer s true c d fewer = omega (arith, laps-fewer s c d fewer, suc-mul d (lap s))
+behind-fewer s false c d fewer = omega (arith, laps-fewer s c d fewer)
+
+-- The work stands somewhere, with no more than so many offers left, and comes from there as far as this.
+record Stands (s : ScriptValue) (f n : ℕ) (target : Stage) (w : Work) : Type 0 where
   state : State
   is : w.engine ≡ engine_at s state
   fits : Fits_at s state w.stage
+  few : left_at s state w.stage ≤ n
   same : at_round (rest_at s f state w.stage) ≡ target
 
 -- ---- one offer further
 
-enters-round : (s : ScriptValue) (f : ℕ) (vs : List Visit) (b : Bool) (clock : Option ℕ) (g : Stage) → (b ≡ false → IsCalm s clock g)
-    → Stands s f (at_round (behind s f (after_pass s vs (at b g)))) (record { engine = at_next (engine s passes.Round (map offer_for vs) b clock); stage = g })
-enters-round s f (v ∷ vs) b clock g fits = record { state = In_round v vs b clock; is = refl; fits = fits; same = refl }
-enters-round s f [] true clock g fits = record { state = Begins; is = refl; fits = record {}; same = sym (rounds-calm s f true g) }
-enters-round s f [] false clock g fits = record { state = In_timers (timer_pass_of s) clock; is = refl; fits = fits refl; same = refl }
+enters-round : (s : ScriptValue) (f n : ℕ) (vs : List Visit) (b : Bool) (clock : Option ℕ) (g : Stage) → (b ≡ false → IsCalm s clock g)
+    → length vs + left_behind s b (chances s g) ≤ n
+    → Stands s f n (at_round (behind s f (after_pass s vs (at b g)))) (record { engine = at_next (engine s passes.Round (map offer_for vs) b clock); stage = g })
+enters-round s f n (v ∷ vs) b clock g fits few = record { state = In_round v vs b clock; is = refl; fits = fits; few = few; same = refl }
+enters-round s f n [] true clock g fits few = record { state = Begins; is = refl; fits = record {}; few = omega (arith, few); same = sym (rounds-calm s f true g) }
+enters-round s f n [] false clock g fits few = record { state = In_timers (timer_pass_of s) clock; is = refl; fits = fits refl; few = omega (arith, few); same = refl }
 
 still-so : (b still : Bool) → (b ≡ false → still ≡ true) → (b || not still) ≡ b
 still-so true still is = refl
@@ -143,10 +173,11 @@ work-visit : (s : ScriptValue) (v : Visit) (left : List Offer) (p : Pass) (b : B
 work-visit s (Consumer k) left p b clock g = refl
 work-visit s (Engine turn) left p b clock g = refl
 
-round-step : (s : ScriptValue) (f : ℕ) (v : Visit) (vs : List Visit) (b : Bool) (clock : Option ℕ) (g : Stage) → has_no_event_left s g ≡ false → (b ≡ false → IsCalm s clock g)
-    → Stands s f (at_round (rest_at s f (In_round v vs b clock) g)) (work_after s (work_at s (In_round v vs b clock) g))
-round-step s f v vs b clock g room fits =
-    subst (Stands s f (at_round (rest_at s f (In_round v vs b clock) g))) (work-visit s v (map offer_for vs) passes.Round b clock g) (by (comes-visit s v g))
+round-step : (s : ScriptValue) (f n : ℕ) (v : Visit) (vs : List Visit) (b : Bool) (clock : Option ℕ) (g : Stage) → has_no_event_left s g ≡ false → (b ≡ false → IsCalm s clock g)
+    → length vs + left_behind s b (chances s g) ≤ n
+    → Stands s f n (at_round (rest_at s f (In_round v vs b clock) g)) (work_after s (work_at s (In_round v vs b clock) g))
+round-step s f n v vs b clock g room fits few =
+    subst (Stands s f n (at_round (rest_at s f (In_round v vs b clock) g))) (work-visit s v (map offer_for vs) passes.Round b clock g) (by (comes-visit s v g))
   where
     after : Bool → Stage → Work
     after hap h = record { engine = engine_after (engine_at s (In_round v vs b clock)) (if hap then outcomes.Did else outcome_of_nothing v g); stage = h }
@@ -160,29 +191,30 @@ round-step s f v vs b clock g room fits =
     moved : (h : Stage) → after_visit s v (at b g) ≡ h → at_round (behind s f (after_pass s vs h)) ≡ target
     moved h is = ap (λ p. at_round (behind s f p)) (sym (pass-on s v vs b g h room is))
 
-    nothing : ((a : Bool) → after_visit s v (at a g) ≡ at a g) → Stands s f target (after false (at_round g))
+    nothing : ((a : Bool) → after_visit s v (at a g) ≡ at a g) → Stands s f n target (after false (at_round g))
     nothing is =
-        subst (λ hap. Stands s f target (on hap (clock_after clock (outcome_of_nothing v g)) (at_round g)))
+        subst (λ hap. Stands s f n target (on hap (clock_after clock (outcome_of_nothing v g)) (at_round g)))
         (sym (still-so b (is_still (offer_for v) clock (outcome_of_nothing v g)) (λ none. nothing-still v g clock (fits none).1)))
-        (subst (λ t. Stands s f t (on b (clock_after clock (outcome_of_nothing v g)) (at_round g))) (moved (at b g) (is b))
-        (enters-round s f vs b (clock_after clock (outcome_of_nothing v g)) (at_round g) (λ none. (room, clock-nothing v g clock (fits none).1))))
+        (subst (λ t. Stands s f n t (on b (clock_after clock (outcome_of_nothing v g)) (at_round g))) (moved (at b g) (is b))
+        (enters-round s f n vs b (clock_after clock (outcome_of_nothing v g)) (at_round g) (λ none. (room, clock-nothing v g clock (fits none).1)) few))
 
-    something : (h : Stage) → h.happened ≡ true → after_visit s v (at b g) ≡ h → Stands s f target (after true h)
-    something h happened is =
-        subst (λ hap. Stands s f target (on hap clock h)) (sym (or-true b))
-        (subst (λ t. Stands s f t (on true clock h)) (ap (λ x. at_round (behind s f (after_pass s vs x))) (sym (at-true h happened)) ∙ moved h is)
-        (enters-round s f vs true clock h (λ none. absurd (true≢false none))))
+    something : (h : Stage) → h.happened ≡ true → after_visit s v (at b g) ≡ h → chances s h < chances s g → Stands s f n target (after true h)
+    something h happened is fewer =
+        subst (λ hap. Stands s f n target (on hap clock h)) (sym (or-true b))
+        (subst (λ t. Stands s f n t (on true clock h)) (ap (λ x. at_round (behind s f (after_pass s vs x))) (sym (at-true h happened)) ∙ moved h is)
+        (enters-round s f n vs true clock h (λ none. absurd (true≢false none)) (omega (arith, few, behind-fewer s b (chances s h) (chances s g) fewer))))
 
-    by : Comes (λ a. after_visit s v (at a g)) g → Stands s f target (after (after_visit s v (at_round g)).happened (after_visit s v (at_round g)))
-    by (inl none) = subst (λ (h : Stage). Stands s f target (after h.happened h)) (sym (none false)) (nothing none)
+    by : Comes (λ a. after_visit s v (at a g)) g → Stands s f n target (after (after_visit s v (at_round g)).happened (after_visit s v (at_round g)))
+    by (inl none) = subst (λ (h : Stage). Stands s f n target (after h.happened h)) (sym (none false)) (nothing none)
     by (inr happens) =
-        subst (λ (h : Stage). Stands s f target (after h.happened h)) (sym (happens.same false))
-        (subst (λ hap. Stands s f target (after hap happens.after)) (sym happens.happened) (something happens.after happens.happened (happens.same b)))
+        subst (λ (h : Stage). Stands s f n target (after h.happened h)) (sym (happens.same false))
+        (subst (λ hap. Stands s f n target (after hap happens.after)) (sym happens.happened) (something happens.after happens.happened (happens.same b) (fewer-chances s v g happens room)))
 
-timers-step : (s : ScriptValue) (f : ℕ) (v : Visit) (vs : List Visit) (clock : Option ℕ) (g : Stage) → IsCalm s clock g
-    → Stands s f (at_round (rest_at s f (In_timers (v ∷ vs) clock) g)) (work_after s (work_at s (In_timers (v ∷ vs) clock) g))
-timers-step s f v vs clock g fits =
-    subst (Stands s f (at_round (rest_at s f (In_timers (v ∷ vs) clock) g))) (work-visit s v (map offer_for vs) passes.Timers false clock g) (by (comes-visit s v g))
+timers-step : (s : ScriptValue) (f n : ℕ) (v : Visit) (vs : List Visit) (clock : Option ℕ) (g : Stage) → IsCalm s clock g
+    → length vs + chances s g * lap s ≤ n
+    → Stands s f n (at_round (rest_at s f (In_timers (v ∷ vs) clock) g)) (work_after s (work_at s (In_timers (v ∷ vs) clock) g))
+timers-step s f n v vs clock g fits few =
+    subst (Stands s f n (at_round (rest_at s f (In_timers (v ∷ vs) clock) g))) (work-visit s v (map offer_for vs) passes.Timers false clock g) (by (comes-visit s v g))
   where
     after : Bool → Stage → Work
     after hap h = record { engine = engine_after (engine_at s (In_timers (v ∷ vs) clock)) (if hap then outcomes.Did else outcome_of_nothing v g); stage = h }
@@ -197,33 +229,35 @@ timers-step s f v vs clock g fits =
     rest : Stage → Stage
     rest h = behind_timers s f (or_else h (λ x. after_first s vs x))
 
-    nothing : ((a : Bool) → after_visit s v (at a g) ≡ at a g) → Stands s f target (after false (at_round g))
+    nothing : ((a : Bool) → after_visit s v (at a g) ≡ at a g) → Stands s f n target (after false (at_round g))
     nothing is =
-        subst (λ hap. Stands s f target (on hap (clock_after clock (outcome_of_nothing v g)) (at_round g)))
+        subst (λ hap. Stands s f n target (on hap (clock_after clock (outcome_of_nothing v g)) (at_round g)))
         (sym (ap not (nothing-still v g clock fits.1)))
         (record {
           state = In_timers vs (clock_after clock (outcome_of_nothing v g));
           is = refl;
           fits = (fits.0, clock-nothing v g clock fits.1);
+          few = few;
           same = ap (λ h. at_round (rest h)) (sym (is false));
         })
 
-    something : (h : Stage) → h.happened ≡ true → after_visit s v (at false g) ≡ h → Stands s f target (after true h)
-    something h happened is = record {
+    something : (h : Stage) → h.happened ≡ true → after_visit s v (at false g) ≡ h → chances s h < chances s g → Stands s f n target (after true h)
+    something h happened is fewer = record {
       state = Begins;
       is = refl;
       fits = record {};
+      few = omega (arith, few, laps-fewer s (chances s h) (chances s g) fewer);
       same =
           ap (λ b. at_round (if b then after_rounds s f h else h)) (sym happened)
           ∙ ap (λ b. at_round (behind_timers s f (if b then h else after_first s vs h))) (sym happened)
           ∙ ap (λ x. at_round (rest x)) (sym is);
     }
 
-    by : Comes (λ a. after_visit s v (at a g)) g → Stands s f target (after (after_visit s v (at_round g)).happened (after_visit s v (at_round g)))
-    by (inl none) = subst (λ (h : Stage). Stands s f target (after h.happened h)) (sym (none false)) (nothing none)
+    by : Comes (λ a. after_visit s v (at a g)) g → Stands s f n target (after (after_visit s v (at_round g)).happened (after_visit s v (at_round g)))
+    by (inl none) = subst (λ (h : Stage). Stands s f n target (after h.happened h)) (sym (none false)) (nothing none)
     by (inr happens) =
-        subst (λ (h : Stage). Stands s f target (after h.happened h)) (sym (happens.same false))
-        (subst (λ hap. Stands s f target (after hap happens.after)) (sym happens.happened) (something happens.after happens.happened (happens.same false)))
+        subst (λ (h : Stage). Stands s f n target (after h.happened h)) (sym (happens.same false))
+        (subst (λ hap. Stands s f n target (after hap happens.after)) (sym happens.happened) (something happens.after happens.happened (happens.same false) (fewer-chances s v g happens fits.0)))
 
 -- ---- the loop's end
 
@@ -268,27 +302,33 @@ at-end s f state g fits ended = by (has_no_event_left s g) refl ended
 
 -- ---- the whole loop
 
-record Goes (s : ScriptValue) (n : ℕ) (target : Stage) (w : Work) : Type 0 where
+-- One offer further the work stands somewhere, with fuel for so many offers, and no more than so many are left.
+record Goes (s : ScriptValue) (n m : ℕ) (target : Stage) (w : Work) : Type 0 where
   fuel : ℕ
   enough : n ≤ fuel
-  stands : Stands s fuel target w
+  stands : Stands s fuel m target w
 
-begins : (s : ScriptValue) (f : ℕ) (us : List Visit) (g : Stage) → has_no_event_left s g ≡ false → is_quiet_offer (offer_of (engine s passes.Round (map offer_for us) false None)) ≡ false
-    → Stands s f (at_round (behind s f (after_pass s us (at false g)))) (work_after s (record { engine = engine s passes.Round (map offer_for us) false None; stage = g }))
-begins s f [] g room is = absurd (true≢false is)
-begins s f (v ∷ vs) g room is = round-step s f v vs false None g room (λ none. (room, record {}))
+begins : (s : ScriptValue) (f m : ℕ) (us : List Visit) (g : Stage) → has_no_event_left s g ≡ false → is_quiet_offer (offer_of (engine s passes.Round (map offer_for us) false None)) ≡ false
+    → length us + left_behind s false (chances s g) ≤ suc m
+    → Stands s f m (at_round (behind s f (after_pass s us (at false g)))) (work_after s (record { engine = engine s passes.Round (map offer_for us) false None; stage = g }))
+begins s f m [] g room is few = absurd (true≢false is)
+begins s f m (v ∷ vs) g room is few = round-step s f m v vs false None g room (λ none. (room, record {})) (omega (arith, few))
 
-goes : (s : ScriptValue) (n f : ℕ) (state : State) (g : Stage) → suc n ≤ f → Fits_at s state g → has_no_event_left s g ≡ false → is_quiet_offer (offer_of (engine_at s state)) ≡ false
-    → Goes s n (at_round (rest_at s f state g)) (work_after s (work_at s state g))
-goes s n zero Begins g few fits room is = absurd (omega (arith, few))
-goes s n (suc f) Begins g few fits room is = record {
+goes : (s : ScriptValue) (n m f : ℕ) (state : State) (g : Stage) → suc n ≤ f → Fits_at s state g → left_at s state g ≤ suc m
+    → has_no_event_left s g ≡ false → is_quiet_offer (offer_of (engine_at s state)) ≡ false
+    → Goes s n m (at_round (rest_at s f state g)) (work_after s (work_at s state g))
+goes s n m zero Begins g enough fits few room is = absurd (omega (arith, enough))
+goes s n m (suc f) Begins g enough fits few room is = record {
   fuel = f;
-  enough = omega (arith, few);
-  stands = subst (λ t. Stands s f t (work_after s (work_at s Begins g))) (ap at_round (sym (rounds-on s f g room))) (begins s f (round_of s) g room is);
+  enough = omega (arith, enough);
+  stands = subst (λ t. Stands s f m t (work_after s (work_at s Begins g))) (ap at_round (sym (rounds-on s f g room)))
+      (begins s f m (round_of s) g room is (omega (arith, few, suc-mul (chances s g) (lap s))));
 }
-goes s n f (In_round v vs b clock) g few fits room is = record { fuel = f; enough = omega (arith, few); stands = round-step s f v vs b clock g room fits }
-goes s n f (In_timers [] clock) g few fits room is = absurd (true≢false is)
-goes s n f (In_timers (v ∷ vs) clock) g few fits room is = record { fuel = f; enough = omega (arith, few); stands = timers-step s f v vs clock g fits }
+goes s n m f (In_round v vs b clock) g enough fits few room is =
+    record { fuel = f; enough = omega (arith, enough); stands = round-step s f m v vs b clock g room fits (omega (arith, few)) }
+goes s n m f (In_timers [] clock) g enough fits few room is = absurd (true≢false is)
+goes s n m f (In_timers (v ∷ vs) clock) g enough fits few room is =
+    record { fuel = f; enough = omega (arith, enough); stands = timers-step s f m v vs clock g fits (omega (arith, few)) }
 
 -- so many offers make as much as comes from where the engine stands
 abbrev Makes : ScriptValue → ℕ → Type 0
@@ -301,8 +341,8 @@ makes-more s n makes f state g few fits ended = by (has_ended s (work_at s state
     w : Work
     w = work_after s (work_at s state g)
 
-    on : (v : Work) → Goes s n (at_round (rest_at s f state g)) v → has_ended s (work_after_all s n v) ≡ true → at_round (work_after_all s n v).stage ≡ at_round (rest_at s f state g)
-    on v one ended =
+    on : (m : ℕ) (v : Work) → Goes s n m (at_round (rest_at s f state g)) v → has_ended s (work_after_all s n v) ≡ true → at_round (work_after_all s n v).stage ≡ at_round (rest_at s f state g)
+    on m v one ended =
         let same : v ≡ work_at s one.stands.state v.stage = ap (λ e. record { engine = e; stage = v.stage }) one.stands.is in
         ap (λ (u : Work). at_round (work_after_all s n u).stage) same
         ∙ makes one.fuel one.stands.state v.stage one.enough one.stands.fits (subst (λ u. has_ended s (work_after_all s n u) ≡ true) same ended)
@@ -313,11 +353,52 @@ makes-more s n makes f state g few fits ended = by (has_ended s (work_at s state
     by true is ended = at-end s f state g fits is
     by false is ended =
         let both : (has_no_event_left s g ≡ false) × (is_quiet_offer (offer_of (engine_at s state)) ≡ false) = or-false (has_no_event_left s g) (is_quiet_offer (offer_of (engine_at s state))) is
-        in on w (goes s n f state g few fits both.0 both.1) ended
+        in on (left_at s state g) w (goes s n (left_at s state g) f state g few fits (omega arith) both.0 both.1) ended
 
 makes : (s : ScriptValue) (n : ℕ) → Makes s n
 makes s zero = λ f state g few fits ended. at-end s f state g fits ended
 makes s (suc n) = makes-more s n (makes s n)
+
+-- ---- the loop ends
+
+-- the loop has ended, wherever the engine stands with no more than so many offers left
+abbrev Ends : ScriptValue → ℕ → Type 0
+Ends s n = (state : State) (g : Stage) → left_at s state g ≤ n → Fits_at s state g → has_ended s (work_after_all s n (work_at s state g)) ≡ true
+
+-- with nobody to visit Quiet is offered
+none-offered : (s : ScriptValue) (us : List Visit) → length us ≤ 0 → is_quiet_offer (offer_of (engine s passes.Round (map offer_for us) false None)) ≡ true
+none-offered s [] none = refl
+none-offered s (v ∷ vs) none = absurd (omega (arith, none))
+
+-- with no offer left the loop has ended
+ends-none : (s : ScriptValue) → Ends s zero
+ends-none s Begins g few fits =
+    ap (λ b. has_no_event_left s g || b) (none-offered s (round_of s) (omega (arith, few, suc-mul (chances s g) (lap s))))
+    ∙ or-true (has_no_event_left s g)
+ends-none s (In_round v vs b clock) g few fits = absurd (omega (arith, few))
+ends-none s (In_timers [] clock) g few fits = or-true (has_no_event_left s g)
+ends-none s (In_timers (v ∷ vs) clock) g few fits = absurd (omega (arith, few))
+
+ends-more : (s : ScriptValue) (n : ℕ) → Ends s n → Ends s (suc n)
+ends-more s n ends state g few fits = by (has_ended s (work_at s state g)) refl
+  where
+    w : Work
+    w = work_after s (work_at s state g)
+
+    on : (v : Work) → Goes s n n (at_round (rest_at s (suc n) state g)) v → has_ended s (work_after_all s n v) ≡ true
+    on v one =
+        let same : v ≡ work_at s one.stands.state v.stage = ap (λ e. record { engine = e; stage = v.stage }) one.stands.is in
+        subst (λ u. has_ended s (work_after_all s n u) ≡ true) (sym same) (ends one.stands.state v.stage one.stands.few one.stands.fits)
+
+    by : (b : Bool) → has_ended s (work_at s state g) ≡ b → has_ended s (if b then work_at s state g else work_after_all s n w) ≡ true
+    by true is = is
+    by false is =
+        let both : (has_no_event_left s g ≡ false) × (is_quiet_offer (offer_of (engine_at s state)) ≡ false) = or-false (has_no_event_left s g) (is_quiet_offer (offer_of (engine_at s state))) is
+        in on w (goes s n n (suc n) state g (omega arith) fits few both.0 both.1)
+
+ends : (s : ScriptValue) (n : ℕ) → Ends s n
+ends s zero = ends-none s
+ends s (suc n) = ends-more s n (ends s n)
 
 -- ---- more rounds make nothing behind the end
 
@@ -365,11 +446,9 @@ more-rounds s (suc n) m g ended =
     by more false true ended = more ended
     by more false false ended = refl
 
-pub loop-made : (s : ScriptValue) (n : ℕ) → has_ended s (work_after_all s n (opening_work s)) ≡ true → at_round (work_after_all s n (opening_work s)).stage ≡ at_round (ending s)
-loop-made s n ended =
-    ap (λ (w : Work). at_round (work_after_all s n w).stage) opens
-    ∙ makes s n (most_rounds s + n) Begins (opening_stage s) (omega arith) (record {}) (subst (λ w. has_ended s (work_after_all s n w) ≡ true) opens ended)
-    ∙ more-rounds s (most_rounds s) n (opening_stage s) (order-ends s)
+-- the loop begins before the first round
+loop-opens : (s : ScriptValue) → opening_work s ≡ work_at s Begins (opening_stage s)
+loop-opens s = ap (λ round. lists round (offers_of_timers s.config)) (round-offered s) ∙ ap (lists (map offer_for (round_of s))) (timer-pass-offered s)
   where
     lists : List Offer → List Offer → Work
     lists round timers = record {
@@ -377,5 +456,24 @@ loop-made s n ended =
       stage = opening_stage s;
     }
 
-    opens : opening_work s ≡ work_at s Begins (opening_stage s)
-    opens = ap (λ round. lists round (offers_of_timers s.config)) (round-offered s) ∙ ap (lists (map offer_for (round_of s))) (timer-pass-offered s)
+pub loop-ends : (s : ScriptValue) (n : ℕ) → most_offers s ≤ n → has_ended s (work_after_all s n (opening_work s)) ≡ true
+loop-ends s n enough = subst (λ w. has_ended s (work_after_all s n w) ≡ true) (sym (loop-opens s)) (ends s n Begins (opening_stage s) few (record {}))
+  where
+    offered : lap s ≡ length (offers_of_round s.config (length s.consumers)) + length (offers_of_timers s.config)
+    offered = omega (
+      arith,
+      ap (λ (xs : List Offer). length xs) (round-offered s) ∙ length-map (round_of s) offer_for,
+      ap (λ (xs : List Offer). length xs) (timer-pass-offered s) ∙ length-map (timer_pass_of s) offer_for,
+    )
+
+    all : chances s (opening_stage s) ≡ s.config.events + lines_left s.consumers
+    all = omega arith
+
+    few : suc (chances s (opening_stage s)) * lap s ≤ n
+    few = subst (λ (k : ℕ). suc k * lap s ≤ n) (sym all) (subst (λ (k : ℕ). most_rounds s * k ≤ n) (sym offered) enough)
+
+pub loop-made : (s : ScriptValue) (n : ℕ) → has_ended s (work_after_all s n (opening_work s)) ≡ true → at_round (work_after_all s n (opening_work s)).stage ≡ at_round (ending s)
+loop-made s n ended =
+    ap (λ (w : Work). at_round (work_after_all s n w).stage) (loop-opens s)
+    ∙ makes s n (most_rounds s + n) Begins (opening_stage s) (omega arith) (record {}) (subst (λ w. has_ended s (work_after_all s n w) ≡ true) (loop-opens s) ended)
+    ∙ more-rounds s (most_rounds s) n (opening_stage s) (order-ends s)

@@ -1,5 +1,5 @@
 -- What comes of a visit does not depend on what happened before it. For proofs only.
-use Rattle.std.proofs.Common.{◌≡◌, ◌⊎◌, ℕ, suc, inl, inr, Bool, true, false, if◌then◌else◌, List, [], ◌∷◌, Option, None, Some, nat_le, refl, sym, ap, ◌∙◌, arith}
+use Rattle.std.proofs.Common.{◌≡◌, ◌⊎◌, ℕ, suc, ◌<◌, inl, inr, Bool, true, false, if◌then◌else◌, List, [], ◌∷◌, Option, None, Some, nat_le, refl, sym, ap, ◌∙◌, subst, arith}
 use Rattle.std.specs.Option.{option_map_or}
 use Rattle.ca_model.specs.declared.event.Event.{Event}
 use Rattle.ca_model.specs.declared.event.Event.TheVariants as events
@@ -11,8 +11,8 @@ use Rattle.ca_script_lines.specs.declared.what.What.{What}
 use Rattle.ca_script_lines.specs.declared.what.What.TheVariants as whats
 use Rattle.ca_turns.specs.Turns.{event_of}
 use Rattle.ca_order.specs.Visits.{Visit, Consumer, Engine}
-use Rattle.ca_order.proofs.EndLemmas.{fewer-lines, lines_left}
-use Rattle.ca_order.specs.Order.{Stage, after_line, lines_of, after_event, after_visit, after_outcome, with_lines_left}
+use Rattle.ca_order.proofs.EndLemmas.{Visited, chances, fewer-lines, lines_left, visit-visited}
+use Rattle.ca_order.specs.Order.{Stage, after_line, has_no_event_left, lines_of, after_event, after_visit, after_outcome, with_lines_left}
 
 -- a stage, where something happened before or not
 abbrev pub at : Bool → Stage → Stage
@@ -73,3 +73,11 @@ comes-visit s (Engine turn) g = by (event_of s.weather g.world turn)
     by : (o : Option Event) → Comes (λ b. option_map_or (λ event. after_event s event (λ h. h) (at b g)) o (at b g)) g
     by None = inl (λ b. refl)
     by (Some event) = comes-entry event (λ h. h) g (λ h is. is) (λ h. refl) (step s.config g.world event)
+
+-- where something happens fewer events and lines can come still
+pub fewer-chances : (s : ScriptValue) (v : Visit) (g : Stage) (h : Happens (λ b. after_visit s v (at b g)) g) → has_no_event_left s g ≡ false → chances s h.after < chances s g
+fewer-chances s v g h room = by (visit-visited s v g)
+  where
+    by : Visited s g (after_visit s v g) → chances s h.after < chances s g
+    by (inl same) = absurd (h.differs g.happened (sym (h.same g.happened) ∙ same))
+    by (inr moved) = subst (λ (x : Stage). chances s x < chances s g) (h.same g.happened) (moved.fewer room)

@@ -1,11 +1,12 @@
 -- A loop that takes what an engine offers, makes it where it is possible, and tells what came of it. Contracts cite it.
-use Rattle.std.specs.Prelude.{ℕ, zero, suc, ◌||◌, Bool, true, false, if◌then◌else◌, List, [], ◌∷◌, length, Option, None, Some}
+use Rattle.std.specs.Prelude.{ℕ, zero, suc, ◌+◌, ◌*◌, ◌||◌, Bool, true, false, if◌then◌else◌, List, [], ◌∷◌, length, Option, None, Some}
 use Rattle.ca_engine.specs.Engine.{EngineValue, engine_after, offer_of, opening_engine}
+use Rattle.ca_engine.specs.Offers.{offers_of_round, offers_of_timers}
 use Rattle.ca_engine.specs.declared.offer.Offer.{Offer}
 use Rattle.ca_engine.specs.declared.offer.Offer.TheVariants as offers
 use Rattle.ca_engine.specs.declared.outcome.Outcome.{Outcome}
 use Rattle.ca_engine.specs.declared.outcome.Outcome.TheVariants as outcomes
-use Rattle.ca_order.specs.Order.{Stage, at_round, has_no_event_left, lines_of, opening_stage, after_visit}
+use Rattle.ca_order.specs.Order.{Stage, at_round, has_no_event_left, lines_of, most_rounds, opening_stage, after_visit}
 use Rattle.ca_order.specs.Visits.{Visit, Consumer, Engine}
 use Rattle.ca_script.specs.Script.{ScriptValue}
 use Rattle.ca_script_lines.specs.declared.Line.{Line}
@@ -71,3 +72,8 @@ has_ended s w = has_no_event_left s w.stage || is_quiet_offer (offer_of w.engine
 abbrev pub work_after_all : ScriptValue → ℕ → Work → Work
 work_after_all s zero w = w
 work_after_all s (suc n) w = if has_ended s w then w else work_after_all s n (work_after s w)
+
+-- more offers than there can be: those of a round and of a timer pass, for each round that there can be
+abbrev pub most_offers : ScriptValue → ℕ
+most_offers s =
+    most_rounds s * (length (offers_of_round s.config (length s.consumers)) + length (offers_of_timers s.config))

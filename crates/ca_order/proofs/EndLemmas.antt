@@ -24,11 +24,11 @@ abbrev pub lines_left : List (List Line) → ℕ
 lines_left left = sum_by (λ lines. length lines) left
 
 -- how many events and lines there can be still
-abbrev chances : ScriptValue → Stage → ℕ
+abbrev pub chances : ScriptValue → Stage → ℕ
 chances s g = (s.config.events - g.count) + lines_left g.left
 
 -- a list that begins with a line has one
-abbrev starts : List Line → Bool
+abbrev pub starts : List Line → Bool
 starts [] = false
 starts (line ∷ rest) = true
 
@@ -52,13 +52,13 @@ fewer-lines (suc k) (x ∷ xs) line rest has = omega (
 -- ---- a visit does something, or nothing
 
 -- From one stage to another something happened. No more chances are left, and fewer where the first was not full.
-record Moved (s : ScriptValue) (g h : Stage) : Type 0 where
-  happened : h.happened ≡ true
-  no_more : chances s h ≤ chances s g
-  fewer : has_no_event_left s g ≡ false → chances s h < chances s g
+pub record Moved (s : ScriptValue) (g h : Stage) : Type 0 where
+  pub happened : h.happened ≡ true
+  pub no_more : chances s h ≤ chances s g
+  pub fewer : has_no_event_left s g ≡ false → chances s h < chances s g
 
 -- a stage is left as it is, or moved
-abbrev Visited : ScriptValue → Stage → Stage → Type 0
+abbrev pub Visited : ScriptValue → Stage → Stage → Type 0
 Visited s g h = (h ≡ g) ⊎ Moved s g h
 
 made-visited : (s : ScriptValue) (event : Event) (g : Stage) → Visited s g (after_event s event (λ h. h) g)
@@ -101,7 +101,7 @@ line-visited s k (line ∷ rest) g has = by line.what
     by (whats.Verb verb) = called-visited s (events.Verb k verb) k line rest g has
     by (whats.At t) = at (nat_le t g.count)
 
-visit-visited : (s : ScriptValue) (v : Visit) (g : Stage) → Visited s g (after_visit s v g)
+pub visit-visited : (s : ScriptValue) (v : Visit) (g : Stage) → Visited s g (after_visit s v g)
 visit-visited s (Consumer k) g = line-visited s k (lines_of k g.left) g refl
 visit-visited s (Engine turn) g = by (event_of s.weather g.world turn)
   where
@@ -117,7 +117,7 @@ StillAll s g [] = ⊤
 StillAll s g (v ∷ vs) = (after_visit s v g ≡ g) × StillAll s g vs
 
 -- a stage is left as it is, since each visit does that, or moved
-abbrev Passed : ScriptValue → List Visit → Stage → Stage → Type 0
+abbrev pub Passed : ScriptValue → List Visit → Stage → Stage → Type 0
 Passed s vs g h = ((h ≡ g) × StillAll s g vs) ⊎ Moved s g h
 
 -- something has happened, and fewer chances than so many are left
@@ -134,7 +134,7 @@ lower-kept s bound v g lower = by (visit-visited s v g)
 moved-by : (s : ScriptValue) (g h : Stage) → Lower s (chances s g) h → Moved s g h
 moved-by s g h lower = record { happened = lower.0; no_more = omega (arith, lower.1); fewer = λ room. lower.1 }
 
-pass-passed : (s : ScriptValue) (vs : List Visit) (g : Stage) → has_no_event_left s g ≡ false → Passed s vs g (after_pass s vs g)
+pub pass-passed : (s : ScriptValue) (vs : List Visit) (g : Stage) → has_no_event_left s g ≡ false → Passed s vs g (after_pass s vs g)
 pass-passed s [] g room = inl (refl, record {})
 pass-passed s (v ∷ vs) g room = subst (λ b. Passed s (v ∷ vs) g (if b then g else after_pass s vs (after_visit s v g))) (sym room)
     (by (pass-passed s vs g room) (visit-visited s v g))

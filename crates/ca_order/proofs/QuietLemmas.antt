@@ -14,9 +14,9 @@ use Rattle.ca_script_lines.specs.declared.what.What.TheVariants as whats
 use Rattle.ca_turns.specs.Turns.{event_of}
 use Rattle.ca_turns.specs.declared.turn.Turn.{Turn}
 use Rattle.ca_turns.specs.declared.turn.Turn.TheVariants as turns
-use Rattle.ca_order.specs.Visits.{Visit, Consumer, Engine, all_queues, numbers_below}
+use Rattle.ca_order.specs.Visits.{Visit, Consumer, Engine, all_queues, numbers_below, round_of}
 use Rattle.ca_order.specs.Order.{Stage, after_line, ending, lines_of, after_event, after_visit, after_outcome, with_lines_left}
-use Rattle.ca_order.specs.OfScript.{HasEnded, is_possible, is_passed, lines_at, may_go_on, may_turn}
+use Rattle.ca_order.specs.OfScript.{HasEnded, is_possible, is_passed, lines_at, may_call, may_go_on, may_turn, may_work}
 use Rattle.ca_order.proofs.EndLemmas.{Ended, StillAll, fewer-lines, lines_left, order-ends}
 
 -- neither of two is so
@@ -93,18 +93,18 @@ calls-still : (s : ScriptValue) (g : Stage) (ks : List ℕ) → StillAll s g (ma
 calls-still s g [] still = refl
 calls-still s g (k ∷ ks) still = or-false _ _ (line-still s k (lines_of k g.left) g refl still.0) (calls-still s g ks still.1)
 
+-- where no visit of a round changes a stage no engine can work there, and no consumer can go on
+pub round-idle : (s : ScriptValue) (g : Stage) → StillAll s g (round_of s) → (may_work s g.world ≡ false) × (may_call s g.world g.count g.left ≡ false)
+round-idle s g round =
+    let parts : StillAll s g (map Consumer (numbers_below (length s.consumers))) × StillAll s g (flat_map (λ q. Engine (turns.Due q) ∷ Engine (turns.Respond q) ∷ Engine (turns.Request q) ∷ []) (all_queues s.config)) =
+    still-append s g (map Consumer (numbers_below (length s.consumers))) _ round
+    in (work-still s g (all_queues s.config) parts.1, calls-still s g (numbers_below (length s.consumers)) parts.0)
+
 pub order-ended : (s : ScriptValue) → HasEnded s (ending s)
 order-ended s = by (order-ends s)
   where
-    consumers : List Visit
-    consumers = map Consumer (numbers_below (length s.consumers))
-
     by : Ended s (ending s) → HasEnded s (ending s)
     by (inl is) = inl is
     by (inr (round, timers)) =
-        let parts : StillAll s (ending s) consumers × StillAll s (ending s) (flat_map (λ q. Engine (turns.Due q) ∷ Engine (turns.Respond q) ∷ Engine (turns.Request q) ∷ []) (all_queues s.config)) =
-        still-append s (ending s) consumers _ round
-        in inr (
-          ap not (or-false _ _ (work-still s (ending s) (all_queues s.config) parts.1) (fire-still s (ending s) (all_queues s.config) timers)),
-          calls-still s (ending s) (numbers_below (length s.consumers)) parts.0,
-        )
+        let idle : (may_work s (ending s).world ≡ false) × (may_call s (ending s).world (ending s).count (ending s).left ≡ false) = round-idle s (ending s) round
+        in inr (ap not (or-false _ _ idle.0 (fire-still s (ending s) (all_queues s.config) timers)), idle.1)

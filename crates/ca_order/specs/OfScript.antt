@@ -1,5 +1,5 @@
 -- What it is that a history is one of a script, that a world is quiet, and how a script ends. Contracts cite it.
-use Rattle.std.specs.Prelude.{◌≡◌, ◌⊎◌, ℕ, suc, ◌==◌, ◌&&◌, ◌||◌, not, Bool, true, false, if◌then◌else◌, nat_le, List, [], ◌∷◌, length, take, drop, slice_set, Option, None, Some}
+use Rattle.std.specs.Prelude.{◌≡◌, ◌⊎◌, ℕ, suc, ◌<◌, ◌≤◌, ◌==◌, ◌&&◌, ◌||◌, not, Bool, true, false, if◌then◌else◌, nat_le, List, [], ◌∷◌, length, take, drop, slice_set, Option, None, Some}
 use Rattle.std.specs.List.{flat_map, list_any}
 use Rattle.std.specs.Option.{option_eq, option_map_or}
 use Rattle.ca_base.specs.declared.lot.Lot.{Lot}
@@ -169,6 +169,13 @@ pub record IsOfScript (s : ScriptValue) (es : List EntryValue) (end : Reach) : T
   pub calls : (k : ℕ) → calls_by k es ≡ take (length (calls_by k es)) (verbs_in (lines_of k s.consumers))
   pub stand : reach s es ≡ Some end
 
+-- The history is one of the script, and leads to this stage: to its world, after as many entries, and with the same lines
+-- left of each consumer, once it passed what it may pass.
+pub record LeadsTo (s : ScriptValue) (es : List EntryValue) (g : Stage) : Type 0 where
+  pub left : List (List Line)
+  pub of_script : IsOfScript s es (record { world = g.world; count = g.count; left = left })
+  pub same : (k : ℕ) → lines_at g.count (lines_of k left) ≡ lines_at g.count (lines_of k g.left)
+
 -- ---- how a script ends
 
 -- Fine; or a consumer stands before the line of this number, which is not possible though all is quiet; or all events that
@@ -188,10 +195,31 @@ abbrev pub stalled_from : ℕ → ℕ → List (List Line) → Status
 stalled_from count k [] = Fine
 stalled_from count k (lines ∷ more) = stalled_at k (lines_at count lines) (stalled_from count (suc k) more)
 
+-- all is quiet, and no consumer can go on
+abbrev pub IsQuietEnd : ScriptValue → Stage → Type 0
+IsQuietEnd s g = (is_quiet s g.world ≡ true) × (may_call s g.world g.count g.left ≡ false)
+
 -- the end of a script's order: as many events as it allows were made, or all is quiet and no consumer can go on
 abbrev pub HasEnded : ScriptValue → Stage → Type 0
-HasEnded s g =
-    (has_no_event_left s g ≡ true) ⊎ ((is_quiet s g.world ≡ true) × (may_call s g.world g.count g.left ≡ false))
+HasEnded s g = (has_no_event_left s g ≡ true) ⊎ IsQuietEnd s g
 
 abbrev pub status_of : ScriptValue → Stage → Status
 status_of s g = if nat_le s.config.events g.count then BudgetSpent g.count else stalled_from g.count 0 g.left
+
+-- Each consumer before this one is at its end, once it passed what it may pass after so many entries; and this one stands
+-- before the line of this number.
+pub record IsStalledAt (count : ℕ) (left : List (List Line)) (k number : ℕ) : Type 0 where
+  pub before : (j : ℕ) → j < k → lines_at count (lines_of j left) ≡ []
+  pub line : Line
+  pub rest : List Line
+  pub stands : lines_at count (lines_of k left) ≡ line ∷ rest
+  pub is : line.number ≡ number
+
+-- What a status says of a stage. Fine: fewer events were made than the script allows, all is quiet, and each consumer is
+-- at its end. Stalled: so too, but this consumer is the first that is not at its end, and no consumer can go on.
+-- BudgetSpent: so many events were made, and these are as many as the script allows.
+abbrev pub HasStatus : ScriptValue → Stage → Status → Type 0
+HasStatus s g Fine =
+    (g.count < s.config.events) × IsQuietEnd s g × ((k : ℕ) → lines_at g.count (lines_of k g.left) ≡ [])
+HasStatus s g (Stalled k number) = (g.count < s.config.events) × IsQuietEnd s g × IsStalledAt g.count g.left k number
+HasStatus s g (BudgetSpent n) = (g.count ≡ n) × (s.config.events ≤ n)

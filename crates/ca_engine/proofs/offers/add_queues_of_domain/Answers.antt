@@ -8,6 +8,6 @@ use Rattle.ca_engine.proofs.offers.add_queues_of_domain.Goals as goal
 pub loop-slot-preserved : goal.loop-slot-preserved
 loop-slot-preserved c =
     let f : ℕ → QueueId = λ s. queue_of (record { domain = c.args.domain; slot = s })
-    in added c.args.queues.now.items (map f (numbers_below c.loop-slot.slot)) c.loop-slot.queues.items (c.queue_at.result ∷ []) _ _
+    in added c.args.queues.now.items (map f (numbers_below c.loop-slot.slot)) c.loop-slot.queues.items (c.of_slot.result ∷ []) _ _
     c.in_ok-push.ensures.items c.loop-slot.invariant
-    (map_more f c.loop-slot.slot ∙ ap (λ q. map f (numbers_below c.loop-slot.slot) ++ q ∷ []) (sym c.queue_at.ensures))
+    (map_more f c.loop-slot.slot ∙ ap (λ q. map f (numbers_below c.loop-slot.slot) ++ q ∷ []) (sym c.of_slot.ensures))

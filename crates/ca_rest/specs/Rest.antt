@@ -1,0 +1,74 @@
+-- A queue pair at rest, and what holds of queue pairs and mailboxes that come up. Contracts cite it.
+use Rattle.std.specs.Prelude.{◌≡◌, ◌⊎◌, ℕ, ◌≤◌, ◌<◌, ◌&&◌, Bool, true, false, List, [], ◌∷◌, Option, None, Some, is_none}
+use Rattle.std.specs.Option.{option_and_then}
+use Rattle.ca_base.specs.declared.change.State.TheVariants as states
+use Rattle.ca_base.specs.declared.correspondent.Correspondent.{Correspondent}
+use Rattle.ca_base.specs.declared.limits.TheConstants.{MAX_RETRY}
+use Rattle.ca_base.specs.objects.QueuePair.{QueuePair, QueueSlot, NoQueue, Present, queue_in}
+use Rattle.ca_keys.specs.declared.names.QueueId.{QueueId}
+use Rattle.ca_model.specs.Requests.{is_local}
+use Rattle.ca_model.specs.machine.Arrivals.{next_receive}
+use Rattle.ca_model.specs.machine.Invariants.{is_sending}
+use Rattle.ca_model.specs.machine.Numbering.{Numbered, begun_requests, psn_end, unfinished_requests}
+use Rattle.ca_model.specs.machine.Seen.{shared_receives}
+use Rattle.ca_model.specs.machine.Turns.{reaches_peer}
+use Rattle.ca_model.specs.machine.World.{World}
+
+-- ---- at rest
+
+-- nothing that is posted is unfinished
+abbrev pub AllFinished : QueuePair → Type 0
+AllFinished q = unfinished_requests q ≡ []
+
+-- the queue pair is drained: no request that has begun is unfinished, and in Sqd none begins
+pub record IsDrained (q : QueuePair) : Type 0 where
+  pub state : q.state ≡ states.Sqd
+  pub begun : begun_requests q ≡ []
+
+-- the queue pair of a slot has no receive to take
+abbrev pub has_no_receive : World → QueueSlot → Bool
+has_no_receive w slot = by (queue_in slot)
+  where
+    by : Option QueuePair → Bool
+    by None = true
+    by (Some p) = is_none (next_receive p (shared_receives w p))
+
+-- each of the two named the other, and the peer has no receive to take
+abbrev pub lacks_receive : World → QueuePair → Option Correspondent → Bool
+lacks_receive w q None = false
+lacks_receive w q (Some peer) =
+    reaches_peer q peer (w.mailbox peer.queue) && has_no_receive w (w.queue peer.queue)
+
+-- the queue pair waits after an RNR NAK, without a limit, for a receive that its connected peer does not have
+pub record AwaitsReceive (w : World) (q : QueuePair) : Type 0 where
+  pub waiting : q.requester.waiting ≡ true
+  pub limit : q.requester.rnr_retry ≡ MAX_RETRY
+  pub peer : lacks_receive w q q.peer ≡ true
+
+-- at rest: nothing is unfinished; or it is drained; or it waits for a receive
+abbrev pub IsAtRest : World → QueuePair → Type 0
+IsAtRest w q = AllFinished q ⊎ (IsDrained q ⊎ AwaitsReceive w q)
+
+-- ---- what comes up
+
+-- the first of the requests that have begun and are not finished is no local operation, and has a PSN from `una` on
+abbrev pub IsAnswerable : ℕ → List Numbered → Type 0
+IsAnswerable una [] = Unit {0}
+IsAnswerable una (n ∷ ns) = (una < psn_end n) × (is_local n.request.op ≡ false)
+
+-- A queue pair as it comes up: requests are unfinished in Rts and Sqd alone, where the PSNs of the first one begin no later
+-- than at `una`, and where some READ or atomic may be outstanding.
+pub record IsSteadyQueue (q : QueuePair) : Type 0 where
+  pub unfinished : is_sending q.state ≡ false → unfinished_requests q ≡ []
+  pub oldest : is_sending q.state ≡ true → q.requester.oldest_psn ≤ q.requester.una
+  pub begun : IsAnswerable q.requester.una (begun_requests q)
+  pub reads : is_sending q.state ≡ true → 0 < q.requester.reads
+
+abbrev pub IsSteadySlot : QueueSlot → Type 0
+IsSteadySlot (NoQueue incarnation timers) = Unit {0}
+IsSteadySlot (Present q) = IsSteadyQueue q
+
+-- a world in which all queue pairs are so, and each mailbox accepts the peer that its queue pair named, and nobody else
+pub record IsSteadyWorld (w : World) : Type 0 where
+  pub queues : (q : QueueId) → IsSteadySlot (w.queue q)
+  pub accepted : (q : QueueId) → (w.mailbox q).peer ≡ option_and_then (λ p. p.peer) (queue_in (w.queue q))
