@@ -13,7 +13,8 @@ use Rattle.ca_agree_keys.proofs.KeyEventLemmas.{event-keys-agree, opening-keys-a
 use Rattle.ca_agree_keys.proofs.KeyTurnLemmas.{IsUp}
 use Rattle.ca_agree_keys.proofs.PassLemmas.{arrival-passes, invalidate-passes, packet-passes, respond-passes}
 use Rattle.ca_agree_keys.proofs.SightLemmas.{grant-seen}
-use Rattle.ca_agree_keys.proofs.SilentLemmas.{AreSilent, failure-silent, success-silent, timeout-silent}
+use Rattle.ca_agree_keys.proofs.PlainLemmas.{failure-plain, success-plain, timeout-plain}
+use Rattle.ca_agree_keys.proofs.SilentLemmas.{AreSilent, plain-silent}
 use Rattle.ca_agree_keys.proofs.SilentVerbLemmas.{IsNoInjection, silent-verb}
 use Rattle.ca_agree_keys.specs.Denials.{AreDeniedRightly, has_right_denial}
 use Rattle.ca_agree_keys.specs.InForce.{KeysAgree}
@@ -54,6 +55,7 @@ use Rattle.ca_model.specs.declared.mark.Mark.{Mark}
 use Rattle.ca_model.specs.declared.mark.Mark.TheVariants as marks
 use Rattle.ca_model.specs.declared.verb.Verb.{Verb}
 use Rattle.ca_model.specs.declared.verb.Verb.TheVariants as verbs
+use Rattle.ca_model.specs.machine.Acknowledgements.{failure_effects}
 use Rattle.ca_model.specs.machine.Around.{Around, With_around, shared_in, updates_of}
 use Rattle.ca_model.specs.machine.Completions.{success_marks}
 use Rattle.ca_model.specs.machine.Delivery.{Arrive, arrival_row, deliver_plan}
@@ -146,8 +148,8 @@ local-silent q m ns silent = by m.revoked m.granted
     by (Some key) (Some g) = (record {}, (record {}, silent))
 
 operation-silent : (q after : QueuePair) (n : Numbered) (m : LocalMarks) (refusal : Option OpRefusal) → AreSilent (operation_effects q n after m refusal).marks
-operation-silent q after n m (Some cause) = (failure-silent MemoryManagement (Some cause) q).marks
-operation-silent q after n m None = local-silent q m (success_marks q.queue n.place n.request) (success-silent q.queue n.place n.request)
+operation-silent q after n m (Some cause) = plain-silent (failure_effects MemoryManagement (Some cause) q).marks (failure-plain MemoryManagement (Some cause) q).marks
+operation-silent q after n m None = local-silent q m (success_marks q.queue n.place n.request) (plain-silent (success_marks q.queue n.place n.request) (success-plain q.queue n.place n.request))
 
 -- how an operation's plan may go on
 abbrev GoesOn : World → (World → List Mark → Type 0) → List Grant → Finishing → Type 0
@@ -242,7 +244,7 @@ right-timeout c past event w name hasten =
     fire : (q : QueuePair) (silent : Bool) → Leads w (Right past event) (Fire hasten q (around_in w q (shared_of w q)) silent)
     fire q silent = leads-unless w (Right past event) (timeout_refusals silent hasten q) Stuck
         (Finish (updates_of q (around_in w q (shared_of w q)) (after_timeout silent q)) [] (after_timeout silent q).marks) (λ r. record {})
-        (silent-pass (after_timeout silent q).marks (timeout-silent q silent).marks (at_begin event past))
+        (silent-pass (after_timeout silent q).marks (plain-silent (after_timeout silent q).marks (timeout-plain q silent).marks) (at_begin event past))
 
     by : (q : QueuePair) (peer : Option Correspondent) → Leads w (Right past event) (Timeout_around hasten q (w.mailbox name) (around_in w q (shared_of w q)) peer)
     by q None = leads-unless w (Right past event) (timeout_refusals false hasten q) Stuck (Stuck reasons.Empty) (λ r. record {}) (record {})

@@ -3,7 +3,8 @@ use Rattle.std.proofs.Common.{◌≡◌, ℕ, Bool, true, false, ◌&&◌, ◌==
 use Rattle.std.specs.List.{AllByRecursion}
 use Rattle.std.specs.Option.{option_eq}
 use Rattle.ca_agree_keys.proofs.CalmLemmas.{AreCalm}
-use Rattle.ca_agree_keys.proofs.SilentLemmas.{AreSilent, IsSilent, IsSilentMark}
+use Rattle.ca_agree_keys.proofs.PlainLemmas.{IsPlainEffects}
+use Rattle.ca_agree_keys.proofs.SilentLemmas.{AreSilent, IsSilentMark, plain-silent}
 use Rattle.ca_agree_keys.proofs.ToldLemmas.{leaves-calm, touch-alike}
 use Rattle.ca_agree_keys.specs.Denials.{has_right_denial, is_right_denial}
 use Rattle.ca_keys.specs.Allowed.{denial_of, denial_under, grant_for}
@@ -185,8 +186,8 @@ pub record RowPasses (s : Sight) (g : List Grant) (row : Row) : Type 0 where
   pub denied : (d : DeniedAsk) → first_denied s row.asks ≡ Some d → EndingDoes (λ e. Passes g e.marks) (row.denied d)
   pub allowed : first_denied s row.asks ≡ None → (bytes : List (List ℕ)) (refusal : Option OpRefusal) → EndingDoes (λ e. Passes g e.marks) (row.allowed bytes refusal)
 
-pub silent-passes : (g : List Grant) (e : Effects) → IsSilent e → Passes g e.marks
-silent-passes g e silent = λ p at. silent-pass e.marks silent.marks p
+pub silent-passes : (g : List Grant) (e : Effects) → IsPlainEffects e → Passes g e.marks
+silent-passes g e plain = λ p at. silent-pass e.marks (plain-silent e.marks plain.marks) p
 
-pub plain-passes : (s : Sight) (g : List Grant) (e : Effects) → IsSilent e → RowPasses s g (plain_row (Does e))
+pub plain-passes : (s : Sight) (g : List Grant) (e : Effects) → IsPlainEffects e → RowPasses s g (plain_row (Does e))
 plain-passes s g e silent = record { denied = λ d is. silent-passes g e silent; allowed = λ is bytes refusal. silent-passes g e silent }

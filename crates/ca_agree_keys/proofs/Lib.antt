@@ -1,6 +1,7 @@
 pub mod SlotLemmas
 pub mod SightLemmas
 pub mod ChangeLemmas
+pub mod PlainLemmas
 pub mod CalmLemmas
 pub mod ToldLemmas
 pub mod RowLemmas

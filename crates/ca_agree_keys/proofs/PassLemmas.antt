@@ -71,8 +71,9 @@ use Rattle.ca_base.specs.declared.request.Piece.{Piece}
 use Rattle.ca_model.specs.machine.Requester.{index_of_packet}
 use Rattle.ca_model.specs.machine.Respond.{response_length}
 use Rattle.ca_base.specs.declared.limits.TheConstants.{ATOMIC_BYTES}
-use Rattle.ca_agree_keys.proofs.CalmLemmas.{AreCalm, below-calm}
-use Rattle.ca_agree_keys.proofs.SilentLemmas.{AreSilent, IsSilent, acknowledge-silent, ahead-silent, below-silent, silent-append, silent-then, drop-silent, duplicate-silent, failure-silent, flush-silent, progress-silent, receive-silent, refusal-silent, success-silent, took-silent}
+use Rattle.ca_agree_keys.proofs.CalmLemmas.{AreCalm, marks-calm}
+use Rattle.ca_agree_keys.proofs.PlainLemmas.{IsPlainEffects, acknowledge-plain, ahead-plain, below-plain, drop-plain, duplicate-plain, failure-plain, flush-plain, plain-then, progress-plain, receive-plain, refusal-plain, success-plain, took-plain}
+use Rattle.ca_agree_keys.proofs.SilentLemmas.{AreSilent, plain-silent, silent-append}
 use Rattle.ca_agree_keys.proofs.DenialLemmas.{Passes, RowPasses, Sees, calm-keeps, local-denied, local-read, local-written, none-denied, passes-append, plain-passes, remote-allowed, remote-denied, silent-pass, silent-passes, written-keeps}
 use Rattle.ca_base.specs.Sight.{Sight, first_denied}
 use Rattle.ca_keys.specs.Allowed.{denial_of}
@@ -84,23 +85,23 @@ both : {a : Bool} → a ≡ true → (a && true) ≡ true
 both {a} one = ap (λ b. b && true) one
 
 -- what an answer brings
-answer-passes : (s : Sight) (g : List Grant) (psn : ℕ) (p : Fields) (before : Effects) (n : Numbered) → Sees s g → IsSilent before → AreCalm before.marks → RowPasses s g (answer_row psn p before n)
+answer-passes : (s : Sight) (g : List Grant) (psn : ℕ) (p : Fields) (before : Effects) (n : Numbered) → Sees s g → IsPlainEffects before → AreCalm before.marks → RowPasses s g (answer_row psn p before n)
 answer-passes s g psn p before n sees silent calm = record {
   denied = λ d is. passes-append g before.marks (local_denial d ∷ (failure_effects LocalProtection None before.queue).marks) (silent-passes g before silent) (calm-keeps before.marks calm)
       (passes-append g (local_denial d ∷ []) (failure_effects LocalProtection None before.queue).marks
       (local-denied s g before.queue.queue before.queue.domain kinds.Write (segment_at psn before.queue n) (length (answer_bytes p)) (list_of n.request.op) d sees is) (λ r. refl)
-      (silent-passes g (failure_effects LocalProtection None before.queue) (failure-silent LocalProtection None before.queue)));
+      (silent-passes g (failure_effects LocalProtection None before.queue) (failure-plain LocalProtection None before.queue)));
   allowed = λ is bytes refusal. passes-append g before.marks _ (silent-passes g before silent) (calm-keeps before.marks calm)
       (passes-append g (local_writes (writes_by (answer_asks psn p before.queue n) (answer_bytes p))) (progress_to (suc psn) before.queue).marks
       (local-written g before.queue.queue before.queue.domain kinds.Write (pieces n) (answer_bytes p) (none-denied s g (answer_asks psn p before.queue n) sees is))
       (written-keeps before.queue.queue before.queue.domain kinds.Write (pieces n) (answer_bytes p))
-      (silent-passes g (progress_to (suc psn) before.queue) (progress-silent (suc psn) before.queue)));
+      (silent-passes g (progress_to (suc psn) before.queue) (progress-plain (suc psn) before.queue)));
 }
   where
     pieces : Numbered → List Piece
     pieces n = cut_list (segment_at psn before.queue n) (length (answer_bytes p)) (list_of n.request.op)
 
-fitting-passes : (s : Sight) (g : List Grant) (psn : ℕ) (p : Fields) (a : Acknowledgement) → Sees s g → IsSilent a.effects → AreCalm a.effects.marks → RowPasses s g (fitting_row psn p a)
+fitting-passes : (s : Sight) (g : List Grant) (psn : ℕ) (p : Fields) (a : Acknowledgement) → Sees s g → IsPlainEffects a.effects → AreCalm a.effects.marks → RowPasses s g (fitting_row psn p a)
 fitting-passes s g psn p a sees inner calm = back a.went_back
   where
     bad : Row
@@ -112,7 +113,7 @@ fitting-passes s g psn p a sees inner calm = back a.went_back
 
     is_bad : RowPasses s g bad
     is_bad = plain-passes s g (and_then a.effects (failure_effects BadResponse None))
-        (silent-then a.effects (failure_effects BadResponse None) inner (failure-silent BadResponse None a.effects.queue))
+        (plain-then a.effects (failure_effects BadResponse None) inner (failure-plain BadResponse None a.effects.queue))
 
     fits : (n : Numbered) (b : Bool) → RowPasses s g (if b then answer_row psn p a.effects n else bad)
     fits n true = answer-passes s g psn p a.effects n sees inner calm
@@ -134,17 +135,17 @@ response-passes s g p q sees = by (is_among (states.Rts ∷ states.Sqd ∷ []) q
 
     opcode : (b : Bool) → RowPasses s g (if b then plain_row (Does (acknowledge_row psn (option_and_then (λ a. syndrome_in a.syndrome) p.aeth) q))
         else fitting_row psn p (acknowledgement_below psn q))
-    opcode true = plain-passes s g _ (acknowledge-silent psn (option_and_then (λ a. syndrome_in a.syndrome) p.aeth) q)
-    opcode false = fitting-passes s g psn p (acknowledgement_below psn q) sees (below-silent psn q) (below-calm psn q).marks
+    opcode true = plain-passes s g _ (acknowledge-plain psn (option_and_then (λ a. syndrome_in a.syndrome) p.aeth) q)
+    opcode false = fitting-passes s g psn p (acknowledgement_below psn q) sees (below-plain psn q) (marks-calm (acknowledgement_below psn q).effects.marks (below-plain psn q).marks)
 
     there : (b : Bool) → RowPasses s g (if not b then plain_row (Does (drop_effects q drops.Stale)) else outstanding_row psn p q)
     there true = opcode (p.opcode == ACKNOWLEDGE)
-    there false = plain-passes s g (drop_effects q drops.Stale) (drop-silent q drops.Stale)
+    there false = plain-passes s g (drop_effects q drops.Stale) (drop-plain q drops.Stale)
 
     by : (b : Bool) → RowPasses s g (if not b then plain_row (Does (drop_effects q drops.State))
         else if not (is_outstanding_at psn q) then plain_row (Does (drop_effects q drops.Stale)) else outstanding_row psn p q)
     by true = there (is_outstanding_at psn q)
-    by false = plain-passes s g (drop_effects q drops.State) (drop-silent q drops.State)
+    by false = plain-passes s g (drop_effects q drops.State) (drop-plain q drops.State)
 
 took-passes : (g : List Grant) (p : QueuePair) (b : Bool) (e : Effects) → Passes g e.marks → Passes g (if b then with_shared_receive p e else e).marks
 took-passes g p true e told = told
@@ -201,16 +202,16 @@ send-passes s g before p place r sees = by (nat_lt (list_length r.receive.receiv
     revoked (Some i) = (record {}, record {})
 
     ending : (refusal : Option OpRefusal) → AreSilent (end refusal).marks
-    ending (Some cause) = (receive-silent q r.receive MemoryManagement (Some cause) RemoteOperationalError).marks
+    ending (Some cause) = plain-silent (end (Some cause)).marks (receive-plain q r.receive MemoryManagement (Some cause) RemoteOperationalError).marks
     ending None = silent-append (revoked_marks q (invalidation_of q p)) (after_send_packet (with_window_gone (invalidation_of q p) q) p place r).marks (revoked (invalidation_of q p))
         (packet (with_window_gone (invalidation_of q p) q))
 
     by : (b : Bool) → RowPasses s g (row_of b)
-    by true = plain-passes s g (took (receive_failure_effects q r.receive LocalLength None InvalidRequest)) (took-silent q r.taken _ (receive-silent q r.receive LocalLength None InvalidRequest))
+    by true = plain-passes s g (took (receive_failure_effects q r.receive LocalLength None InvalidRequest)) (took-plain q r.taken _ (receive-plain q r.receive LocalLength None InvalidRequest))
     by false = record {
       denied = λ d is. took-passes g q r.taken (refused d) (passes-append g (local_denial d ∷ []) (receive_failure_effects q r.receive LocalProtection None RemoteOperationalError).marks
           (local-denied s g q.queue q.domain kinds.Write r.before (length p.payload) r.receive.receive.list.items d sees is) (λ r. refl)
-          (silent-passes g (receive_failure_effects q r.receive LocalProtection None RemoteOperationalError) (receive-silent q r.receive LocalProtection None RemoteOperationalError)));
+          (silent-passes g (receive_failure_effects q r.receive LocalProtection None RemoteOperationalError) (receive-plain q r.receive LocalProtection None RemoteOperationalError)));
       allowed = λ is bytes refusal. took-passes g q r.taken (record (behind_marks (local_writes writes) (end refusal)) { writes = writes })
           (passes-append g (local_writes writes) (end refusal).marks (wrote is) (written-keeps q.queue q.domain kinds.Write pieces p.payload)
           (λ past at. silent-pass (end refusal).marks (ending refusal) past));
@@ -222,7 +223,7 @@ write-passes : (s : Sight) (g : List Grant) (q : QueuePair) (p : Fields) (envelo
 write-passes s g q p envelope place next r sees = record {
   denied = λ d is. passes-append g (remote_mark d.ask envelope (verdicts.Denied d.denial) ∷ []) (refusal_effects RemoteAccessError q).marks
       (remote-denied s g q.queue q.domain r.key kinds.Write r.address r.left (length p.payload) (r.left == 0) envelope d sees is) (λ r. refl)
-      (silent-passes g (refusal_effects RemoteAccessError q) (refusal-silent RemoteAccessError q));
+      (silent-passes g (refusal_effects RemoteAccessError q) (refusal-plain RemoteAccessError q));
   allowed = λ is bytes refusal. passes-append g (mark ∷ []) (after_write_packet q p place r next).marks (told is) (λ r. refl) (λ past at. silent-pass (after_write_packet q p place r next).marks (packet (ends place)) past);
 }
   where
@@ -254,13 +255,13 @@ atomic-passes : (s : Sight) (g : List Grant) (q : QueuePair) (p : Fields) (envel
 atomic-passes s g q p envelope kind a sees = record {
   denied = λ d is. passes-append g (remote_mark d.ask envelope (verdicts.Denied d.denial) ∷ []) (refusal_effects RemoteAccessError q).marks
       (remote-denied s g q.queue q.domain a.key kind a.address ATOMIC_BYTES ATOMIC_BYTES false envelope d sees is) (λ r. refl)
-      (silent-passes g (refusal_effects RemoteAccessError q) (refusal-silent RemoteAccessError q));
+      (silent-passes g (refusal_effects RemoteAccessError q) (refusal-plain RemoteAccessError q));
   allowed = λ is bytes refusal past at. both (ap is_none (ap (denial_of (remote_ask q.queue q.domain a.key kind a.address ATOMIC_BYTES)) at
       ∙ (none-denied s g (packet_ask q a.key kind a.address ATOMIC_BYTES ATOMIC_BYTES ∷ []) sees is).0));
 }
 
 refused-passes : (s : Sight) (g : List Grant) (code : NakCode) (q : QueuePair) → RowPasses s g (plain_row (Does (refusal_effects code q)))
-refused-passes s g code q = plain-passes s g (refusal_effects code q) (refusal-silent code q)
+refused-passes s g code q = plain-passes s g (refusal_effects code q) (refusal-plain code q)
 
 valid-passes : (s : Sight) (g : List Grant) (q : QueuePair) (p : Fields) (envelope : Option ℕ) (next : Option PlacedReceive) (shape : Shape) → Sees s g → RowPasses s g (valid_row q p envelope next shape)
 valid-passes s g q p envelope next (shapes.Send place) sees = by q.responder.message
@@ -326,14 +327,14 @@ request-passes : (s : Sight) (g : List Grant) (p : Fields) (envelope : Option �
 request-passes s g p envelope shared shape q sees = by (widened q.responder.expected p.psn)
   where
     before : (psn : ℕ) (b : Bool) → RowPasses s g (if b then plain_row (Does (duplicate_effects psn p envelope shape q)) else expected_row q shared p envelope shape)
-    before psn true = plain-passes s g _ (duplicate-silent psn p envelope shape q)
+    before psn true = plain-passes s g _ (duplicate-plain psn p envelope shape q)
     before psn false = expected-passes s g q shared p envelope shape sees
 
     ahead : (psn : ℕ) (b : Bool) → RowPasses s g (
         if b then plain_row (Does (ahead_effects q))
         else if nat_lt psn q.responder.expected then plain_row (Does (duplicate_effects psn p envelope shape q))
         else expected_row q shared p envelope shape)
-    ahead psn true = plain-passes s g _ (ahead-silent q)
+    ahead psn true = plain-passes s g _ (ahead-plain q)
     ahead psn false = before psn (nat_lt psn q.responder.expected)
 
     by : (psn : ℕ) → RowPasses s g (
@@ -351,7 +352,7 @@ arrival-passes s g bytes envelope shared q sees = by (packet_in bytes)
 
     requests : (p : Fields) (o : Option Shape) → RowPasses s g (shaped p o)
     requests p (Some shape) = request-passes s g p envelope shared shape q sees
-    requests p None = plain-passes s g (drop_effects q drops.State) (drop-silent q drops.State)
+    requests p None = plain-passes s g (drop_effects q drops.State) (drop-plain q drops.State)
 
     kinds : (p : Fields) (b : Bool) → RowPasses s g (if b then response_row p q else shaped p (shape_of p.opcode))
     kinds p true = response-passes s g p q sees
@@ -362,7 +363,7 @@ arrival-passes s g bytes envelope shared q sees = by (packet_in bytes)
     dropped p None = packet_arrived p envelope shared q
 
     unless : (p : Fields) (o : Option Drop1) → RowPasses s g (dropped p o)
-    unless p (Some cause) = plain-passes s g (drop_effects q cause) (drop-silent q cause)
+    unless p (Some cause) = plain-passes s g (drop_effects q cause) (drop-plain q cause)
     unless p None = kinds p (is_response p.opcode)
 
     row : Result Fields WireError → Row
@@ -370,7 +371,7 @@ arrival-passes s g bytes envelope shared q sees = by (packet_in bytes)
     row (Ok p) = dropped p (first_of (arrival_drops q p))
 
     by : (r : Result Fields WireError) → RowPasses s g (row r)
-    by (Err error) = plain-passes s g (drop_effects q (drops.Wire error)) (drop-silent q (drops.Wire error))
+    by (Err error) = plain-passes s g (drop_effects q (drops.Wire error)) (drop-plain q (drops.Wire error))
     by (Ok p) = unless p (first_of (arrival_drops q p))
 
 pub respond-passes : (s : Sight) (g : List Grant) (room : Bool) (q : QueuePair) → Sees s g → RowPasses s g (respond_row room q)
@@ -381,7 +382,7 @@ respond-passes s g room q sees = by (first_of (respond_refusals room q)) (slice_
     front None None = plain_row (NotPossible reasons.Empty)
     front None (Some answer) = answer_turn q answer
 
-    silent : (e : Effects) → IsSilent e → RowPasses s g (plain_row (Does e))
+    silent : (e : Effects) → IsPlainEffects e → RowPasses s g (plain_row (Does e))
     silent e inner = plain-passes s g e inner
 
     turn : (a : Queued) → RowPasses s g (answer_turn q a)
@@ -390,7 +391,7 @@ respond-passes s g room q sees = by (first_of (respond_refusals room q)) (slice_
     turn (queued.Nak psn code) = silent _ (record { writes = refl; marks = record {} })
     turn (queued.Read psn key address part first envelope duplicate) = record {
       denied = λ d is. passes-append g (remote_mark d.ask envelope (verdicts.Denied d.denial) ∷ []) (flush_marks q)
-          (remote-denied s g q.queue q.domain key kinds.Read address part (response_length q r) (part == 0) envelope d sees is) (λ p. refl) (λ past at. silent-pass (flush_marks q) (flush-silent q) past);
+          (remote-denied s g q.queue q.domain key kinds.Read address part (response_length q r) (part == 0) envelope d sees is) (λ p. refl) (λ past at. silent-pass (flush_marks q) (plain-silent (flush_marks q) (flush-plain q)) past);
       allowed = λ is bytes refusal past at. both (ap is_none (ap (denial_of (remote_ask q.queue q.domain key kinds.Read address part)) at
           ∙ remote-allowed s g q.queue q.domain key kinds.Read address part (response_length q r) sees is));
     }
@@ -426,7 +427,7 @@ packet-passes s g q room n sees = by (is_too_much q n)
     denied d true z is = record {}
     denied d false true is = passes-append g (local_denial d ∷ []) (failure_effects LocalProtection None q).marks
         (local-denied s g q.queue q.domain kinds.Read (index_of_packet q n * q.responder.mtu) (carried_bytes q.responder.mtu n.request.op (index_of_packet q n)) (list_of n.request.op) d sees is) (λ p. refl)
-        (silent-passes g (failure_effects LocalProtection None q) (failure-silent LocalProtection None q))
+        (silent-passes g (failure_effects LocalProtection None q) (failure-plain LocalProtection None q))
     denied d false false is = record {}
 
     allowed : (bytes : List (List ℕ)) (z : Bool) → first_denied s (packet_asks q n) ≡ None → EndingDoes (λ e. Passes g e.marks) (if not z then NotPossible reasons.NoRoom else Does (sent_packet q n bytes))
@@ -445,5 +446,5 @@ invalidate-passes s g q n key = record { denied = λ d is p at. refl; allowed = 
     i = Some (record { queue = q.queue; domain = q.domain; key = key })
 
     by : (refusal : Option OpRefusal) → Passes g (operation_effects q n (with_window_gone i q) (record { revoked = Some key; granted = None }) refusal).marks
-    by (Some cause) = silent-passes g (failure_effects MemoryManagement (Some cause) q) (failure-silent MemoryManagement (Some cause) q)
-    by None = λ p at. silent-pass (local_marks q (record { revoked = Some key; granted = None }) ++ success_marks q.queue n.place n.request) (record {}, success-silent q.queue n.place n.request) p
+    by (Some cause) = silent-passes g (failure_effects MemoryManagement (Some cause) q) (failure-plain MemoryManagement (Some cause) q)
+    by None = λ p at. silent-pass (local_marks q (record { revoked = Some key; granted = None }) ++ success_marks q.queue n.place n.request) (record {}, plain-silent (success_marks q.queue n.place n.request) (success-plain q.queue n.place n.request)) p

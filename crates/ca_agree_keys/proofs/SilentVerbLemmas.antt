@@ -2,7 +2,8 @@
 use Rattle.std.proofs.Common.{not, ℕ, ◌||◌, ◌==◌, nat_lt, Bool, true, false, if◌then◌else◌, List, [], ◌∷◌, take, length, Option, None, Some, rules}
 use Rattle.std.specs.Option.{option_map, option_map_or}
 use Rattle.ca_agree.specs.Runs.{Leads}
-use Rattle.ca_agree_keys.proofs.SilentLemmas.{AreSilent, flush-silent}
+use Rattle.ca_agree_keys.proofs.PlainLemmas.{flush-plain}
+use Rattle.ca_agree_keys.proofs.SilentLemmas.{AreSilent, plain-silent}
 use Rattle.ca_agree.proofs.LeadsLemmas.{leads-around, leads-unless}
 use Rattle.ca_base.specs.Configuration.{Configuration}
 use Rattle.ca_base.specs.declared.change.Change as state_change
@@ -57,7 +58,7 @@ flushed-silent : (q : QueuePair) → AreSilent (marks_of_flush q)
 flushed-silent q = by (state_eq q.state states.Error)
   where
     by : (b : Bool) → AreSilent (if b then flush_marks q else [])
-    by true = flush-silent q
+    by true = plain-silent (flush_marks q) (flush-plain q)
     by false = record {}
 
 silent-refused : (w : World) (call : Call) (r : Refusal) → Leads w (Answers call) (Refuse_plan call r)
@@ -152,7 +153,7 @@ silent-change w call q tests updates ms plain = leads-around w (Answers call) q 
 
 silent-modify : (c : Configuration) (w : World) (call : Call) (s : Slot) (change : state_change.Change) → Leads w (Answers call) (modify_qp_plan c call s change)
 silent-modify c w call s changes.Error = silent-present w call s _ (λ q.
-    silent-change w call q (of_change_refusals (modify_refusals c q changes.Error)) (λ a. (Queue_of q.queue := Present (queue_after_change changes.Error q)) ∷ cq_updates q a (flush_marks q)) (flush_marks q) (flush-silent q))
+    silent-change w call q (of_change_refusals (modify_refusals c q changes.Error)) (λ a. (Queue_of q.queue := Present (queue_after_change changes.Error q)) ∷ cq_updates q a (flush_marks q)) (flush_marks q) (plain-silent (flush_marks q) (flush-plain q)))
 silent-modify c w call s changes.Reset = silent-present w call s _ (λ q.
     silent-change w call q (of_change_refusals (modify_refusals c q changes.Reset)) (λ a. (Queue_of q.queue := Present (queue_after_change changes.Reset q)) ∷ (Mailbox_of q.queue := emptied_mailbox (queue_after_change changes.Reset q).incarnation (w.mailbox q.queue)) ∷ emptied_updates q a) [] (record {}))
 silent-modify c w call s changes.Init = silent-present w call s _ (λ q.

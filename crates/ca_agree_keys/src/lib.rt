@@ -14,6 +14,6 @@
 mod laws;
 
 pub use laws::{
-    asks_meet_what_is_in_force, event_keeps_keys_agreed, histories_agree_on_keys,
-    opening_agrees_on_keys,
+    accesses_are_denied_rightly, asks_meet_what_is_in_force, event_keeps_keys_agreed,
+    histories_agree_on_keys, opening_agrees_on_keys,
 };
