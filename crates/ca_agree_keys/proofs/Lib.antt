@@ -12,8 +12,3 @@ pub mod KeyOperationLemmas
 pub mod KeyVerbLemmas
 pub mod KeyQueueLemmas
 pub mod KeyEventLemmas
-pub mod SilentLemmas
-pub mod DenialLemmas
-pub mod PassLemmas
-pub mod SilentVerbLemmas
-pub mod DenialEventLemmas
