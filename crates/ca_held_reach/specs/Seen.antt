@@ -45,6 +45,10 @@ byte_in buffers p = option_map_or (λ bytes. memory_of bytes p) (thing_under buf
 abbrev pub slot_under : Window → Binding → Slot
 slot_under w b = record { domain = w.slot.domain; slot = b.region }
 
+-- the region in which a window is bound, if it is bound and the region is in hand
+abbrev pub found_under : List (Named Slot Region) → Window → Option Region
+found_under regions w = option_and_then (λ b. thing_under slot_eq (slot_under w b) regions) w.binding
+
 -- the grant for which a window stands, over that of the region in which it is bound
 abbrev pub grant_of_window : (Slot → Region) → Window → Option Grant
 grant_of_window region w =

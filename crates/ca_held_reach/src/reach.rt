@@ -1,4 +1,5 @@
-ghost use Rattle.std.specs.Prelude.{◌≡◌, ◌%◌, ◌≤◌, ◌+◌, [], ◌∷◌, ◌++◌, None, Some, IfErr, IfOk, OnErr, OnOk, IfSome, IsErr, IsTrue, is_some, length, true, false};
+ghost use Rattle.std.specs.Prelude.{◌≡◌, ◌<◌, ◌%◌, ◌≤◌, ◌+◌, [], ◌∷◌, ◌++◌, None, Some, IfErr, IfOk, OnErr, OnOk, IfSome, IsErr, IsTrue, is_some, length, true, false};
+ghost use Rattle.std.specs.Option.{option_copied};
 ghost use Rattle.ca_keys.specs.Allowed.{denial_of};
 ghost use Rattle.ca_keys.specs.Memory.{bytes_at, little_endian, little_endian_bytes, places_count, runs_for};
 ghost use Rattle.ca_keys.specs.Numbers.{domain_of, is_window_key};
@@ -23,6 +24,8 @@ use ca_base::{
 };
 use ca_grant::{Reach, judge};
 use ca_memory::number_put;
+use ca_region::Region;
+use ca_window::Window;
 use std::alloc::Global;
 
 impl Reached {
@@ -93,8 +96,7 @@ impl Reached {
         judge(None, Some(region), ask)
     }
 
-    // The ask judged by the window in a slot, over the region in which it is bound.
-    #[tactic(auto, using(crate::proofs::JudgeLemmas::by_window))]
+    // The ask judged by the window in a slot.
     fn judge_by_window(&self, slot: Slot, ask: &Ask) -> Result<Span, Denial>
         requires here { at_hand.CanJudge self.now ask.now }
         requires packet { IsPacketAsk ask.now }
@@ -109,24 +111,46 @@ impl Reached {
         ensures whole { IfOk result (λ span. ask.now.address % ATOMIC_BYTES ≡ 0 → ask.now.touch ≤ ATOMIC_BYTES
             → span.second ≡ None) }
     {
-        let Some(window) = self.windows.get(slot) else {
-            return Err(Denial::NoGrant);
-        };
-        let Some(under) = window.region() else {
-            return Err(Denial::NoGrant);
-        };
+        match self.windows.get(slot) {
+            None => Err(Denial::NoGrant),
+            Some(window) => self.judge_by_bound(window, ask),
+        }
+    }
+
+    // The ask judged by a window, over the region in which it is bound.
+    fn judge_by_bound(&self, window: &Window, ask: &Ask) -> Result<Span, Denial>
+        requires packet { IsPacketAsk ask.now }
+        requires adapter { window.now.slot.domain.adapter ≡ ask.now.domain.adapter }
+        requires lies { IfSome window.now.binding
+            (λ b. at_hand.LiesInValid b (seen.region_in self.now (seen.slot_under window.now b))) }
+        ensures denied { let grant = seen.grant_of_window (seen.region_in self.now) window.now in
+            IfErr result (λ d. denial_of ask.now (list_of_grant grant) ≡ Some d) }
+        ensures allowed { let grant = seen.grant_of_window (seen.region_in self.now) window.now in
+            OnOk result (denial_of ask.now (list_of_grant grant) ≡ None) }
+        ensures places { let grant = seen.grant_of_window (seen.region_in self.now) window.now in
+            IfOk result (λ span. runs_of_span span ≡ runs_for ask.now (list_of_grant grant) ask.now.touch) }
+        ensures count { IfOk result (λ span. places_count (runs_of_span span) ≡ ask.now.touch) }
+        ensures whole { IfOk result (λ span. ask.now.address % ATOMIC_BYTES ≡ 0 → ask.now.touch ≤ ATOMIC_BYTES
+            → span.second ≡ None) }
+    {
+        let region = self.region_under(window);
+        judge(Some(window), region, ask)
+    }
+
+    // The region in which a window is bound, if it is in hand.
+    fn region_under(&self, window: &Window) -> Option<&Region>
+        ensures { option_copied result ≡ seen.found_under self.now.regions.things window.now }
+    {
         let under = Slot {
             domain: window.slot().domain,
-            slot: under,
+            slot: window.region()?,
         };
-        let Some(region) = self.regions.get(under) else {
-            return Err(Denial::NoGrant);
-        };
-        judge(Some(window), Some(region), ask)
+        self.regions.get(under)
     }
 }
 
 // The bytes that the buffer of a run holds at its places, behind what is there.
+#[tactic(auto, using(crate::specs::Laws::bytes_seen))]
 fn read_run(reached: &Reached, at: &Run, out: &mut Vec<u8>) -> Result<(), Memory>
     requires { at_hand.IsRunAtHand reached.now.buffers.things at.now }
     ensures bytes { OnOk result (out.new.items
