@@ -3,7 +3,8 @@ use Rattle.std.proofs.Common.{◌≡◌, ap₂, ◌++◌, map, nat_lt, ℕ, ◌+
 use Rattle.std.proofs.Math.Path.{fun_ext}
 use Rattle.std.proofs.lemmas.Bool.{and_parts}
 use Rattle.std.proofs.lemmas.Bool.Decides.{nat_tests}
-use Rattle.std.proofs.lemmas.List.{length-take, length-take-le, length-drop}
+use Rattle.std.proofs.lemmas.List.{length-map, length-take-le, length-drop}
+use Rattle.std.proofs.lemmas.List.FromFn.{length-range_with_len}
 use Rattle.std.proofs.lemmas.List.Sums.{sum_by-cons}
 use Rattle.std.specs.Prelude.{slice_index_or}
 use Rattle.std.specs.List.{range_with_len}
@@ -12,7 +13,7 @@ use Rattle.ca_keys.specs.declared.access.Ask.{Ask}
 use Rattle.ca_keys.specs.declared.grant.Grant.{Grant}
 use Rattle.ca_keys.specs.declared.place.Place.{Place}
 use Rattle.ca_keys.specs.declared.place.Run.{Run}
-use Rattle.ca_keys.specs.Memory.{ByteMap, bytes_at, cut, is_in, memory_after, places_count, run_part, runs_at}
+use Rattle.ca_keys.specs.Memory.{ByteMap, bytes_at, cut, is_in, memory_after, places_count, places_of, run_part, runs_at}
 use Rattle.ca_base.specs.Sight.{Invalidation, runs_in}
 use Rattle.ca_grant.specs.Reaching.{sight_after_write}
 use Rattle.ca_grant.specs.Access.{memory_of_buffer}
@@ -54,6 +55,17 @@ module _ {N T : Type 0} (same : N → N → Bool) (path : (a b : N) → same a b
       by true is there again = rw (← path x.name n is) (first (same x.name m) refl)
       by false is there again = behind (same n m) refl is (again there)
 
+  -- a thing that is put where it stands changes nothing
+  pub same_thing : (xs : List (Named N T)) (n : N) (v : T) → Some v ≡ thing_under same n xs → with_thing same n v xs ≡ xs
+  same_thing [] n v is = refl
+  same_thing (x ∷ xs) n v is = by (same x.name n) is (same_thing xs n v)
+    where
+      by : (b : Bool) → Some v ≡ (if b then Some x.thing else thing_under same n xs)
+          → (Some v ≡ thing_under same n xs → with_thing same n v xs ≡ xs)
+          → (if b then record x { thing = v } ∷ xs else x ∷ with_thing same n v xs) ≡ x ∷ xs
+      by true is again = let e : v ≡ x.thing = cc in ap (λ v. record x { thing = v } ∷ xs) e
+      by false is again = ap (λ xs. x ∷ xs) (again is)
+
   -- the same names are there
   pub has-with : (xs : List (Named N T)) (n m : N) (v : T) → has_thing same n xs ≡ true → has_thing same m (with_thing same n v xs) ≡ has_thing same m xs
   has-with xs n m v has = ap is_some (thing-with xs n m v has) ∙ by (same n m) refl
@@ -62,7 +74,7 @@ module _ {N T : Type 0} (same : N → N → Bool) (path : (a b : N) → same a b
       by true is = rw (← path n m is) (sym has)
       by false is = refl
 
--- an ask has at most as many places as bytes that it touches
+-- what is cut has at most so many places as bytes that it touches
 cut-at-most : (rs : List Run) (from count : ℕ) → places_count (cut from count rs) ≤ count
 cut-at-most [] from count = omega arith
 cut-at-most (r ∷ rs) from count =
@@ -76,6 +88,7 @@ cut-at-most (r ∷ rs) from count =
     by false false later here =
         omega (arith, sum_by-cons (λ (r : Run). r.length) (run_part r from (min count (r.length - from))) (cut 0 (count - (r.length - from)) rs), here)
 
+-- an ask has at most as many places as bytes that it touches
 places-at-most : (ask : Ask) (o : Option Grant) → places_count (option_map_or (λ g. runs_at g ask.address ask.touch) o []) ≤ ask.touch
 places-at-most ask None = omega arith
 places-at-most ask (Some g) = cut-at-most g.runs (ask.address - g.address) ask.touch
@@ -205,6 +218,18 @@ runs-stay before after same (x ∷ xs) here =
     (subst P (sym (same (buffer_of_run x))) (as-length (x.offset + x.length) (thing_under buffer_eq (buffer_of_run x) before) here.0)),
     runs-stay before after same xs here.1)
 
+-- a run stays at hand after other bytes, as many, were put in a buffer
+pub run_stays : (things : List (Named BufferId (List ℕ))) (x : Run) (old new : List ℕ) → Some old ≡ thing_under buffer_eq (buffer_of_run x) things
+    → length new ≡ length old → (y : Run) → IsRunAtHand things y → IsRunAtHand (with_thing buffer_eq (buffer_of_run x) new things) y
+run_stays things x old new is same y there =
+    (runs-stay things (with_thing buffer_eq (buffer_of_run x) new things) (lengths-kept things x old new is same) (y ∷ []) (there, tt)).0
+
+-- runs stay at hand where each does
+pub each_stays : (before after : List (Named BufferId (List ℕ))) → ((x : Run) → IsRunAtHand before x → IsRunAtHand after x)
+    → (rs : List Run) → AreRunsAtHand before rs → AreRunsAtHand after rs
+each_stays before after stays [] here = tt
+each_stays before after stays (x ∷ xs) here = (stays x here.0, each_stays before after stays xs here.1)
+
 -- the first run of runs has its bytes, and so have the others
 enough-first : (x : Run) (xs : List Run) (written : List ℕ) → places_count (x ∷ xs) ≤ length written → x.length ≤ length written
 enough-first x xs written enough = omega (arith, enough, sum_by-cons (λ (r : Run). r.length) x xs)
@@ -254,3 +279,13 @@ write_leaves_bytes r ask bytes here count other there =
 -- where keys end that are at hand, they stay so after a write
 pub write_leaves_ends : (r : Reached) (ask : Ask) (bytes : List ℕ) (i : Invalidation) → CanEnd r i → CanEnd (after_write_by r ask bytes) i
 write_leaves_ends r ask bytes i can = record { fit = can.fit; under = can.under }
+
+-- runs have as many bytes as places
+places-count : (rs : List Run) → length (places_of rs) ≡ places_count rs
+places-count [] = refl
+places-count (r ∷ rs) =
+    let total : places_count (r ∷ rs) ≡ r.length + places_count rs = sum_by-cons (λ (r : Run). r.length) r rs in
+    simp (length-append, length-map, length-range_with_len) (omega (arith, places-count rs))
+
+pub bytes_count : (m : ByteMap) (rs : List Run) → length (bytes_at m rs) ≡ places_count rs
+bytes_count m rs = length-map (places_of rs) m ∙ places-count rs

@@ -1,14 +1,14 @@
 ghost use Rattle.std.specs.Prelude.{◌≡◌, ◌<◌, ◌%◌, ◌≤◌, ◌+◌, [], ◌∷◌, ◌++◌, None, Some, IfErr, IfOk, OnErr, OnOk, IfSome, IsErr, IsTrue, is_some, length, true, false};
-ghost use Rattle.std.specs.Option.{option_copied};
+ghost use Rattle.std.specs.Option.{option_copied, option_map};
 ghost use Rattle.ca_keys.specs.Allowed.{denial_of};
 ghost use Rattle.ca_keys.specs.Memory.{bytes_at, little_endian, little_endian_bytes, places_count, runs_for};
 ghost use Rattle.ca_keys.specs.Numbers.{domain_of, is_window_key};
 ghost use Rattle.ca_base.specs.declared.limits.TheConstants.{ATOMIC_BYTES};
 ghost use Rattle.ca_base.specs.Sight.{bytes_in, denial_in};
 ghost use Rattle.ca_base.specs.objects.LocalRequest.{region_refusal, unnamed_refusal, window_refusal};
-ghost use Rattle.ca_base.specs.objects.Region.{after_region_invalidation, grant_of_region};
+ghost use Rattle.ca_base.specs.objects.Region.{after_region_invalidation, grant_of_region, with_window_unbound};
 ghost use Rattle.ca_base.specs.objects.Slices.{is_key_of, slot_of_key};
-ghost use Rattle.ca_base.specs.objects.Window.{count_without};
+ghost use Rattle.ca_base.specs.objects.Window.{count_without, without_binding};
 ghost use Rattle.ca_grant.specs.KeySlot.{list_of_grant};
 ghost use Rattle.ca_grant.specs.Reaching.{IsFound, IsPacketAsk, invalidation_by};
 ghost use Rattle.ca_memory.specs.Number.{number_after};
@@ -141,12 +141,18 @@ impl Reached {
     fn region_under(&self, window: &Window) -> Option<&Region>
         ensures { option_copied result ≡ seen.found_under self.now.regions.things window.now }
     {
-        let under = Slot {
-            domain: window.slot().domain,
-            slot: window.region()?,
-        };
-        self.regions.get(under)
+        self.regions.get(slot_under(window)?)
     }
+}
+
+// The slot of the region in which a window is bound, if it is.
+fn slot_under(window: &Window) -> Option<Slot>
+    ensures { result ≡ option_map (seen.slot_under window.now) window.now.binding }
+{
+    Some(Slot {
+        domain: window.slot().domain,
+        slot: window.region()?,
+    })
 }
 
 // The bytes that the buffer of a run holds at its places, behind what is there.
@@ -187,11 +193,14 @@ fn length_of(span: &Span) -> usize
 }
 
 // Puts bytes to the places of a run, in its own buffer.
+#[tactic(auto, using(crate::specs::Laws::run_stays))]
 fn write_run(reached: &mut Reached, at: &Run, bytes: &[u8])
     requires here { at_hand.IsRunAtHand reached.old.buffers.things at.now }
     requires count { length bytes.now ≡ at.now.length }
-    ensures { reached.new ≡ changed.put_buffers reached.old
+    ensures put { reached.new ≡ changed.put_buffers reached.old
         (changed.with_run at.now bytes.now reached.old.buffers.things) }
+    ensures stay { (x : Run) → at_hand.IsRunAtHand reached.old.buffers.things x
+        → at_hand.IsRunAtHand reached.new.buffers.things x }
 {
     reached.buffers.at_mut(BufferId::of(at)).write(at, bytes);
 }
@@ -200,8 +209,10 @@ fn write_run(reached: &mut Reached, at: &Run, bytes: &[u8])
 fn write_span(reached: &mut Reached, span: &Span, bytes: &[u8])
     requires here { at_hand.AreRunsAtHand reached.old.buffers.things (runs_of_span span.now) }
     requires count { length bytes.now ≡ places_count (runs_of_span span.now) }
-    ensures { reached.new ≡ changed.put_buffers reached.old
+    ensures put { reached.new ≡ changed.put_buffers reached.old
         (changed.with_runs (runs_of_span span.now) bytes.now reached.old.buffers.things) }
+    ensures stay { (x : Run) → at_hand.IsRunAtHand reached.old.buffers.things x
+        → at_hand.IsRunAtHand reached.new.buffers.things x }
 {
     let (front, rest) = bytes.split_at(span.first.length as usize);
     write_run(reached, &span.first, front);
@@ -211,12 +222,15 @@ fn write_span(reached: &mut Reached, span: &Span, bytes: &[u8])
 }
 
 // The number that the eight bytes of a run hold, and what an atomic puts there.
+#[tactic(auto, using(crate::specs::Laws::run_stays))]
 fn swap_at(reached: &mut Reached, at: &Run, op: AtomicOp) -> u64
     requires here { at_hand.IsRunAtHand reached.old.buffers.things at.now }
     requires eight { at.now.length ≡ ATOMIC_BYTES }
     ensures found { result ≡ little_endian (bytes_at (seen.byte_in reached.old.buffers.things) (at.now ∷ [])) }
     ensures put { reached.new ≡ changed.put_buffers reached.old
         (changed.with_run at.now (little_endian_bytes (number_after op result)) reached.old.buffers.things) }
+    ensures stay { (x : Run) → at_hand.IsRunAtHand reached.old.buffers.things x
+        → at_hand.IsRunAtHand reached.new.buffers.things x }
 {
     reached.buffers.at_mut(BufferId::of(at)).swap(at.offset, op)
 }
@@ -249,7 +263,28 @@ fn refuse_unnamed(key: Key, queue: QueueId, windows: &mut WindowCount) -> Result
     }
 }
 
+// Ends the key of a region.
+fn end_region(
+    region: &mut Region,
+    key: Key,
+    queue: QueueId,
+    windows: &mut WindowCount,
+) -> Result<(), OpRefusal>
+    requires region { is_window_key key ≡ false }
+    ensures accepted { OnOk result (region_refusal key region.old ≡ None) }
+    ensures refused { IfErr result (λ e. region_refusal key region.old ≡ Some e) }
+    ensures ended { OnOk result (region.new ≡ after_region_invalidation region.old) }
+    ensures err { OnErr result (region.new ≡ region.old) }
+    ensures count { windows.new ≡ windows.old }
+{
+    match ca_localops::invalidate(None, Some(region), windows, key, queue) {
+        Ok(_) => Ok(()),
+        Err(refusal) => Err(refusal),
+    }
+}
+
 // Ends the key of the region in a slot.
+#[tactic(auto, using(crate::specs::Laws::same_thing))]
 fn end_region_key(
     reached: &mut Reached,
     slot: Slot,
@@ -262,21 +297,64 @@ fn end_region_key(
     ensures refused { IfErr result (λ e. region_refusal key (seen.region_in reached.old slot) ≡ Some e) }
     ensures ended { OnOk result (reached.new ≡ changed.put_region reached.old slot
         (after_region_invalidation (seen.region_in reached.old slot))) }
-    ensures count { OnOk result (windows.new ≡ windows.old) }
     ensures err { OnErr result (reached.new ≡ reached.old) }
-    ensures err_count { OnErr result (windows.new ≡ windows.old) }
+    ensures count { windows.new ≡ windows.old }
 {
     if !reached.regions.has(slot) {
         return Err(OpRefusal::Region(RegionError::NotValid));
     }
-    let region = reached.regions.at_mut(slot);
-    match ca_localops::invalidate(None, Some(region), windows, key, queue) {
+    end_region(reached.regions.at_mut(slot), key, queue, windows)
+}
+
+// Ends the key of a window, with the region in which it is bound.
+fn end_window(
+    window: &mut Window,
+    region: &mut Region,
+    key: Key,
+    queue: QueueId,
+    windows: &mut WindowCount,
+) -> Result<(), OpRefusal>
+    requires window { is_window_key key ≡ true }
+    requires region { 0 < region.old.bound }
+    requires counted { window_refusal key queue window.old ≡ None → 0 < windows.old.count }
+    ensures accepted { OnOk result (window_refusal key queue window.old ≡ None) }
+    ensures refused { IfErr result (λ e. window_refusal key queue window.old ≡ Some e) }
+    ensures window { OnOk result (window.new ≡ without_binding window.old) }
+    ensures region { OnOk result (region.new ≡ with_window_unbound region.old) }
+    ensures count { OnOk result (windows.new ≡ count_without key windows.old) }
+    ensures err_window { OnErr result (window.new ≡ window.old) }
+    ensures err_region { OnErr result (region.new ≡ region.old) }
+    ensures err_count { OnErr result (windows.new ≡ windows.old) }
+{
+    match ca_localops::invalidate(Some(window), Some(region), windows, key, queue) {
         Ok(_) => Ok(()),
         Err(refusal) => Err(refusal),
     }
 }
 
+// The key of a window that is not bound is not ended.
+#[tactic(auto, using(crate::proofs::EndLemmas::unbound_refused))]
+fn refuse_unbound(
+    window: &mut Window,
+    key: Key,
+    queue: QueueId,
+    windows: &mut WindowCount,
+) -> Result<(), OpRefusal>
+    requires window { is_window_key key ≡ true }
+    requires unbound { window.old.binding ≡ None }
+    ensures err { IsErr result }
+    ensures refused { IfErr result (λ e. window_refusal key queue window.old ≡ Some e) }
+    ensures same { window.new ≡ window.old }
+    ensures count { windows.new ≡ windows.old }
+{
+    match ca_localops::invalidate(Some(window), None, windows, key, queue) {
+        Ok(_) => unreachable!(),
+        Err(refusal) => Err(refusal),
+    }
+}
+
 // Ends the key of the window in a slot, which leaves the region in which it is bound.
+#[tactic(auto, using(crate::specs::Laws::same_thing, crate::proofs::EndLemmas::ended))]
 fn end_window_key(
     reached: &mut Reached,
     slot: Slot,
@@ -299,15 +377,13 @@ fn end_window_key(
     if !reached.windows.has(slot) {
         return Err(OpRefusal::Window(WindowError::NoWindow));
     }
-    let window = reached.windows.at_mut(slot);
-    let home = window.slot().domain;
-    let region = match window.region() {
-        None => None,
-        Some(slot) => Some(reached.regions.at_mut(Slot { domain: home, slot })),
-    };
-    match ca_localops::invalidate(Some(window), region, windows, key, queue) {
-        Ok(_) => Ok(()),
-        Err(refusal) => Err(refusal),
+    match slot_under(reached.windows.at(slot)) {
+        None => refuse_unbound(reached.windows.at_mut(slot), key, queue, windows),
+        Some(under) => {
+            let window = reached.windows.at_mut(slot);
+            let region = reached.regions.at_mut(under);
+            end_window(window, region, key, queue, windows)
+        }
     }
 }
 
