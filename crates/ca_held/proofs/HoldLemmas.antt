@@ -24,7 +24,7 @@ use Rattle.ca_held.specs.declared.held.Held.{Held}
 use Rattle.ca_held.specs.declared.part.QueueSlot.{QueueSlot}
 use Rattle.ca_held.specs.HeldView.{Holding, hold, holding, held_world, is_held_name, is_held_part, with_control, with_cq, with_mailbox, with_queue, with_region, with_srq, with_window}
 use Rattle.ca_held.specs.Parts.{slot_of}
-use Rattle.ca_held_reach.specs.Laws.{has-with, thing-with}
+use Rattle.ca_held_reach.specs.Laws.{has-with, plain-with, thing-with}
 use Rattle.ca_held_reach.specs.Seen.{or_vacant}
 
 module _ {N T : Type 0} (same : N → N → Bool) (path : (a b : N) → same a b ≡ true → a ≡ b) where
@@ -35,14 +35,6 @@ module _ {N T : Type 0} (same : N → N → Bool) (path : (a b : N) → same a b
   or-with f vacant xs n m v has = ap (λ o. or_vacant (vacant m) (option_map f o)) (thing-with same path xs n m v has) ∙ by (same n m)
     where
       by : (b : Bool) → or_vacant (vacant m) (option_map f (if b then Some v else thing_under same m xs)) ≡ (if b then f v else or_vacant (vacant m) (option_map f (thing_under same m xs)))
-      by true = refl
-      by false = refl
-
-  pub plain-with : (vacant : N → T) (xs : List (Named N T)) (n m : N) (v : T) → has_thing same n xs ≡ true
-      → or_vacant (vacant m) (thing_under same m (with_thing same n v xs)) ≡ (if same n m then v else or_vacant (vacant m) (thing_under same m xs))
-  plain-with vacant xs n m v has = ap (or_vacant (vacant m)) (thing-with same path xs n m v has) ∙ by (same n m)
-    where
-      by : (b : Bool) → or_vacant (vacant m) (if b then Some v else thing_under same m xs) ≡ (if b then v else or_vacant (vacant m) (thing_under same m xs))
       by true = refl
       by false = refl
 

@@ -1,5 +1,5 @@
 -- The end of a window's key, over the parts in hand. For proofs only.
-use Rattle.std.proofs.Common.{◌≡◌, ◌∙◌, ◌<◌, refl, sym, ap, subst, arith, ℕ, Bool, true, List, Option, None, Some, IfSome, IsSomeAnd, is_some}
+use Rattle.std.proofs.Common.{◌≡◌, ◌<◌, refl, sym, ap, subst, arith, true, Option, None, Some, IfSome, IsSomeAnd, is_some}
 use Rattle.std.proofs.lemmas.Bool.Decides.{nat_tests}
 use Rattle.std.specs.Option.{option_map}
 use Rattle.ca_keys.specs.declared.key.Key.{Key}

@@ -1,16 +1,16 @@
 -- Parts in hand that fit each other are as the key check wants them. For proofs only.
-use Rattle.std.proofs.Common.{ℕ, ◌+◌, ◌<◌, ◌≤◌, ◌≡◌, ◌∙◌, refl, sym, ap, subst, Bool, List, Option, None, Some, IfSome}
+use Rattle.std.proofs.Common.{ℕ, ◌+◌, ◌<◌, ◌≤◌, ◌≡◌, ◌∙◌, refl, sym, ap, subst, List, Option, None, Some, IfSome}
 use Rattle.std.specs.Option.{option_and_then, option_map}
 use Rattle.ca_keys.specs.declared.access.Ask.{Ask}
 use Rattle.ca_keys.specs.declared.grant.Grant.{Grant}
 use Rattle.ca_keys.specs.declared.names.Slot.{Slot}
 use Rattle.ca_base.specs.objects.Region.{Region, grant_of_region, vacant_region}
 use Rattle.ca_base.specs.objects.Window.{Binding, Window, grant_of_binding}
-use Rattle.ca_grant.specs.Parts.{IsOfAdapter, LiesWithin, grant_of_bound}
+use Rattle.ca_grant.specs.Parts.{IsOfAdapter, LiesWithin}
 use Rattle.ca_keys.specs.Equal.{slot_eq}
 use Rattle.ca_shelf.specs.declared.shelf.Named.{Named}
 use Rattle.ca_shelf.specs.Shelved.{thing_under}
-use Rattle.ca_held_reach.specs.AtHand.{FitTogether, LiesInValid}
+use Rattle.ca_held_reach.specs.AtHand.{LiesInValid}
 use Rattle.ca_held_reach.specs.Seen.{or_vacant, slot_under}
 
 -- a grant of a slot's domain is of its adapter

@@ -1,2 +1,3 @@
 mod EndLemmas
+pub mod GrantLemmas
 mod JudgeLemmas

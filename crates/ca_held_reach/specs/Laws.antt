@@ -1,9 +1,8 @@
 -- That what is seen after a write is what memory is after it. For proofs only: it may be skipped.
 use Rattle.std.proofs.Common.{◌≡◌, ap₂, ◌++◌, map, nat_lt, ℕ, ◌+◌, ◌-◌, ◌≤◌, ◌==◌, ◌&&◌, nat_le, min, Bool, true, false, if◌then◌else◌, List, [], ◌∷◌, length, take, drop, Option, None, Some, refl, sym, ap, ◌∙◌, subst, arith, length-append, eq-eqb, is_some, true≢false, IsSomeAnd}
 use Rattle.std.proofs.Math.Path.{fun_ext}
-use Rattle.std.proofs.lemmas.Bool.{and_parts}
 use Rattle.std.proofs.lemmas.Bool.Decides.{nat_tests}
-use Rattle.std.proofs.lemmas.List.{length-map, length-take-le, length-drop}
+use Rattle.std.proofs.lemmas.List.{length-map, length-drop}
 use Rattle.std.proofs.lemmas.List.FromFn.{length-range_with_len}
 use Rattle.std.proofs.lemmas.List.Sums.{sum_by-cons}
 use Rattle.std.specs.Prelude.{slice_index_or}
@@ -24,7 +23,7 @@ use Rattle.ca_shelf.specs.Shelved.{has_thing, thing_under, with_thing}
 use Rattle.ca_held_reach.specs.declared.reached.BufferId.{BufferId}
 use Rattle.ca_held_reach.specs.declared.reached.Reached.{Reached}
 use Rattle.ca_held_reach.specs.AtHand.{AreRunsAtHand, CanEnd, HasBytesAtHand, IsRunAtHand}
-use Rattle.ca_held_reach.specs.Changed.{after_write_by, put_buffers, with_run, with_runs}
+use Rattle.ca_held_reach.specs.Changed.{after_write_by, with_run, with_runs}
 use Rattle.ca_held_reach.specs.Names.{buffer_eq, buffer_of, buffer_of_run, buffer_path}
 use Rattle.ca_held_reach.specs.Seen.{byte_in, or_vacant, sight_of}
 
@@ -54,6 +53,15 @@ module _ {N T : Type 0} (same : N → N → Bool) (path : (a b : N) → same a b
           ≡ (if same n m then Some v else if same x.name m then Some x.thing else thing_under same m xs)
       by true is there again = rw (← path x.name n is) (first (same x.name m) refl)
       by false is there again = behind (same n m) refl is (again there)
+
+  -- what stands there, or else what is vacant
+  pub plain-with : (vacant : N → T) (xs : List (Named N T)) (n m : N) (v : T) → has_thing same n xs ≡ true
+      → or_vacant (vacant m) (thing_under same m (with_thing same n v xs)) ≡ (if same n m then v else or_vacant (vacant m) (thing_under same m xs))
+  plain-with vacant xs n m v has = ap (or_vacant (vacant m)) (thing-with xs n m v has) ∙ by (same n m)
+    where
+      by : (b : Bool) → or_vacant (vacant m) (if b then Some v else thing_under same m xs) ≡ (if b then v else or_vacant (vacant m) (thing_under same m xs))
+      by true = refl
+      by false = refl
 
   -- a thing that is put where it stands changes nothing
   pub same_thing : (xs : List (Named N T)) (n : N) (v : T) → Some v ≡ thing_under same n xs → with_thing same n v xs ≡ xs
@@ -92,7 +100,6 @@ cut-at-most (r ∷ rs) from count =
 places-at-most : (ask : Ask) (o : Option Grant) → places_count (option_map_or (λ g. runs_at g ask.address ask.touch) o []) ≤ ask.touch
 places-at-most ask None = omega arith
 places-at-most ask (Some g) = cut-at-most g.runs (ask.address - g.address) ask.touch
-
 
 -- the buffer of a run that is at hand
 pub run_has : (things : List (Named BufferId (List ℕ))) (x : Run) → IsRunAtHand things x → has_thing buffer_eq (buffer_of_run x) things ≡ true
@@ -213,10 +220,11 @@ runs-stay : (before after : List (Named BufferId (List ℕ)))
     → (rs : List Run) → AreRunsAtHand before rs → AreRunsAtHand after rs
 runs-stay before after same [] here = tt
 runs-stay before after same (x ∷ xs) here =
-    let P : Option ℕ → Type 0 = λ o. IsSomeAnd o (λ k. x.offset + x.length ≤ k) in
-    (of-length (x.offset + x.length) (thing_under buffer_eq (buffer_of_run x) after)
-    (subst P (sym (same (buffer_of_run x))) (as-length (x.offset + x.length) (thing_under buffer_eq (buffer_of_run x) before) here.0)),
-    runs-stay before after same xs here.1)
+    let P : Option ℕ → Type 0 = λ o. IsSomeAnd o (λ k. x.offset + x.length ≤ k) in (
+      of-length (x.offset + x.length) (thing_under buffer_eq (buffer_of_run x) after)
+          (subst P (sym (same (buffer_of_run x))) (as-length (x.offset + x.length) (thing_under buffer_eq (buffer_of_run x) before) here.0)),
+      runs-stay before after same xs here.1,
+    )
 
 -- a run stays at hand after other bytes, as many, were put in a buffer
 pub run_stays : (things : List (Named BufferId (List ℕ))) (x : Run) (old new : List ℕ) → Some old ≡ thing_under buffer_eq (buffer_of_run x) things

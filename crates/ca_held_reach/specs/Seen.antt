@@ -1,12 +1,10 @@
 -- What is seen of keys and memory by the windows, the regions and the buffers in hand. Contracts cite it.
-use Rattle.std.specs.Prelude.{ℕ, not, if◌then◌else◌, List, [], Option, None, Some}
+use Rattle.std.specs.Prelude.{ℕ, not, if◌then◌else◌, List, Option, None, Some}
 use Rattle.std.specs.Option.{option_and_then, option_map, option_map_or}
-use Rattle.ca_keys.specs.declared.access.Ask.{Ask}
 use Rattle.ca_keys.specs.declared.grant.Grant.{Grant}
 use Rattle.ca_keys.specs.declared.key.Key.{Key}
 use Rattle.ca_keys.specs.declared.names.DomainId.{DomainId}
 use Rattle.ca_keys.specs.declared.names.Slot.{Slot}
-use Rattle.ca_keys.specs.declared.place.Run.{Run}
 use Rattle.ca_keys.specs.Allowed.{grant_for}
 use Rattle.ca_keys.specs.Equal.{slot_eq}
 use Rattle.ca_keys.specs.Memory.{ByteMap}

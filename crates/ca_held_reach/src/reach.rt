@@ -19,8 +19,8 @@ ghost use Rattle.ca_held_reach.specs.Seen as seen;
 
 use crate::reached::{BufferId, Reached};
 use ca_base::{
-    Ask, AtomicOp, Bytes, Denial, DomainId, Key, Memory, OpRefusal, QueueId, RegionError, Run, Slot, Span,
-    Verdict, WindowCount, WindowError, slot_of_key,
+    Ask, AtomicOp, Bytes, Denial, DomainId, Key, Memory, OpRefusal, QueueId, RegionError, Run,
+    Slot, Span, Verdict, WindowCount, WindowError, slot_of_key,
 };
 use ca_grant::{Reach, judge};
 use ca_memory::number_put;
