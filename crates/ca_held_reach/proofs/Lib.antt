@@ -1,3 +1,3 @@
-mod EndLemmas
+pub mod EndLemmas
 pub mod GrantLemmas
 mod JudgeLemmas
