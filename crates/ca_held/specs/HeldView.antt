@@ -5,7 +5,6 @@ use Rattle.std.specs.Option.{option_map, option_map_or}
 use Rattle.ca_keys.specs.declared.names.DomainId.{DomainId}
 use Rattle.ca_keys.specs.declared.names.QueueId.{QueueId}
 use Rattle.ca_keys.specs.declared.names.Slot.{Slot}
-use Rattle.ca_keys.specs.declared.place.Place.{Place}
 use Rattle.ca_keys.specs.declared.place.Run.{Run}
 use Rattle.ca_keys.specs.Memory.{memory_after}
 use Rattle.ca_model.specs.machine.Frame.{AllPass}
@@ -15,10 +14,9 @@ use Rattle.ca_base.specs.objects.CompletionQueue.{CompletionQueue}
 use Rattle.ca_base.specs.objects.Domain.{Domain, free_domain}
 use Rattle.ca_base.specs.objects.Mailbox.{Mailbox, empty_mailbox}
 use Rattle.ca_base.specs.objects.QueuePair.{vacant_queue}
-use Rattle.ca_base.specs.objects.Region.{Region, vacant_region}
+use Rattle.ca_base.specs.objects.Region.{Region}
 use Rattle.ca_base.specs.objects.SharedReceives.{SrqSlot, vacant_srq}
-use Rattle.ca_base.specs.objects.Window.{Window, vacant_window}
-use Rattle.ca_memory.specs.Buffer.{memory_of}
+use Rattle.ca_base.specs.objects.Window.{Window}
 use Rattle.ca_model.specs.declared.part_name.PartName.{PartName}
 use Rattle.ca_model.specs.declared.part_name.PartName.TheVariants as names
 use Rattle.ca_model.specs.machine.World.{World, Name, Thing, put}

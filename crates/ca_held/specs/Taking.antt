@@ -1,5 +1,5 @@
 -- What is held with one part more, and with one fewer. Contracts cite it.
-use Rattle.std.specs.Prelude.{ℕ, nat_lt, Bool, true, false, if◌then◌else◌, length, None}
+use Rattle.std.specs.Prelude.{nat_lt, Bool, true, false, if◌then◌else◌, length, None}
 use Rattle.ca_base.specs.objects.Domain.{free_domain}
 use Rattle.ca_base.specs.objects.Mailbox.{empty_mailbox}
 use Rattle.ca_base.specs.objects.QueuePair.{vacant_queue}

@@ -1,6 +1,5 @@
 -- Parts in hand of a world that comes up are as the calls of Reach ask for. For proofs only.
-use Rattle.std.proofs.Common.{◌≡◌, ◌∙◌, ◌⊎◌, inl, inr, refl, sym, ap, subst, arith, ℕ, ◌+◌, ◌-◌, ◌<◌, ◌≤◌, ◌==◌, nat_le, min, Bool, true, false, not, ◌&&◌, if◌then◌else◌, List, [], ◌∷◌, ◌++◌, map, Option, None, Some, IfSome, IsSomeAnd, is_some, length}
-use Rattle.std.proofs.lemmas.Bool.{eqb-false, leb-false}
+use Rattle.std.proofs.Common.{◌≡◌, ◌∙◌, ◌⊎◌, inl, inr, refl, sym, ap, subst, arith, ℕ, ◌+◌, ◌-◌, ◌<◌, ◌≤◌, ◌==◌, nat_le, min, Bool, true, false, if◌then◌else◌, List, [], ◌∷◌, ◌++◌, map, Option, None, Some, IfSome, IsSomeAnd, is_some, length}
 use Rattle.std.proofs.lemmas.Bool.Decides.{nat_tests}
 use Rattle.std.specs.List.{AllByRecursion}
 use Rattle.std.specs.Option.{option_map_or}
@@ -26,12 +25,12 @@ use Rattle.ca_model.specs.machine.Parts.{ShowsHeld}
 use Rattle.ca_model.specs.machine.Plan.{byte_names}
 use Rattle.ca_model.specs.machine.Sound.{IsSoundState, IsSoundWorld}
 use Rattle.ca_model.specs.machine.World.{Byte_at, Name, Region_of, Window_of, World}
-use Rattle.ca_shelf.specs.Shelved.{has_thing, thing_under}
+use Rattle.ca_shelf.specs.Shelved.{thing_under}
 use Rattle.ca_held_reach.specs.AtHand.{AreRunsAtHand, CanEnd, FitTogether, HasBytesAtHand, IsCounting, IsRunAtHand, LiesInValid}
 use Rattle.ca_held_reach.specs.Names.{buffer_eq, buffer_of_run}
 use Rattle.ca_held_reach.specs.Seen.{or_vacant, region_in, sight_of, slot_under, window_in}
 use Rattle.ca_held.specs.declared.held.Held.{Held}
-use Rattle.ca_held.specs.HeldView.{held_world, holding, is_held_name, is_held_part}
+use Rattle.ca_held.specs.HeldView.{holding, is_held_part}
 use Rattle.ca_held.proofs.ByteLemmas.{run_fits, run_has}
 use Rattle.ca_reach_laws.specs.Ties.{IsVacantOutside}
 use Rattle.ca_reach_laws.proofs.SightLemmas.{region-or, window-or}
@@ -131,9 +130,10 @@ run-at-hand h x some all = by (thing_under buffer_eq (buffer_of_run x) h.reached
 
 pub runs-at-hand : (h : Held) (rs : List Run) → AllByRecursion (λ r. 0 < r.length) rs → AllPass (holding h).has (byte_names rs) → AreRunsAtHand h.reached.buffers.things rs
 runs-at-hand h [] some all = tt
-runs-at-hand h (x ∷ xs) some all =
-    (run-at-hand h x some.0 (first-pass (holding h).has (run_places x) (places_of xs) all),
-    runs-at-hand h xs some.1 (rest-pass (holding h).has (run_places x) (places_of xs) all))
+runs-at-hand h (x ∷ xs) some all = (
+  run-at-hand h x some.0 (first-pass (holding h).has (run_places x) (places_of xs) all),
+  runs-at-hand h xs some.1 (rest-pass (holding h).has (run_places x) (places_of xs) all),
+)
 
 -- where all bytes are held that an ask touches, they are at hand
 pub bytes-at-hand : (h : Held) (ask : Ask) → AllPass (holding h).has (byte_names (runs_in (sight_of h.reached) ask)) → HasBytesAtHand h.reached ask

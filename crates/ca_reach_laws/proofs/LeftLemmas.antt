@@ -2,7 +2,6 @@
 -- only.
 use Rattle.std.proofs.Common.{◌≡◌, ◌∙◌, refl, sym, ap, subst, ℕ, nat_lt, Bool, true, false, not, ◌&&◌, if◌then◌else◌, List, [], ◌∷◌, Option, None, Some, IfSome, is_some, length}
 use Rattle.std.proofs.Math.Path.{fun_ext}
-use Rattle.std.specs.List.{AllByRecursion}
 use Rattle.std.specs.Option.{option_map, option_map_or}
 use Rattle.ca_keys.specs.declared.access.Ask.{Ask}
 use Rattle.ca_keys.specs.declared.names.Slot.{Slot}
@@ -13,15 +12,15 @@ use Rattle.ca_keys.specs.Numbers.{is_window_key}
 use Rattle.ca_base.specs.Configuration.{Configuration}
 use Rattle.ca_base.specs.Sight.{Invalidation, runs_in}
 use Rattle.ca_base.specs.objects.LocalRequest.{region_refusal, unnamed_refusal, window_refusal}
-use Rattle.ca_base.specs.objects.Region.{Region, after_region_invalidation, vacant_region, with_window_unbound}
+use Rattle.ca_base.specs.objects.Region.{after_region_invalidation, vacant_region, with_window_unbound}
 use Rattle.ca_base.specs.objects.Slices.{has_slot, is_key_of, names_region, names_window, slot_of_key}
-use Rattle.ca_base.specs.objects.Window.{Binding, Window, vacant_window, without_binding}
+use Rattle.ca_base.specs.objects.Window.{Binding, vacant_window, without_binding}
 use Rattle.ca_model.specs.declared.part_name.PartName.{PartName}
 use Rattle.ca_model.specs.declared.part_name.PartName.TheVariants as names
 use Rattle.ca_model.specs.machine.Plan.{Update, Write, put_all, write_all, ◌:=◌}
 use Rattle.ca_model.specs.machine.Row.{region_under}
 use Rattle.ca_model.specs.machine.Seen.{ending_changes, writes_in}
-use Rattle.ca_model.specs.machine.World.{Name, Domain_of, Region_of, Window_of, Cq_of, Srq_of, Queue_of, Mailbox_of, Byte_at, World, put}
+use Rattle.ca_model.specs.machine.World.{Name, Domain_of, Region_of, Window_of, Cq_of, Srq_of, Queue_of, Mailbox_of, Byte_at, World}
 use Rattle.ca_rows.specs.Made.{written_all}
 use Rattle.ca_shelf.specs.declared.shelf.Named.{Named}
 use Rattle.ca_shelf.specs.Shelved.{has_thing, thing_under}
@@ -32,7 +31,7 @@ use Rattle.ca_held_reach.specs.Changed.{after_end_of, after_write_by, put_buffer
 use Rattle.ca_held_reach.specs.Changed as changed
 use Rattle.ca_held_reach.specs.Laws.{few-places, runs-lengths, runs-seen, write_leaves_bytes, write_leaves_ends}
 use Rattle.ca_held_reach.specs.Names.{buffer_eq, buffer_of}
-use Rattle.ca_held_reach.specs.Seen.{byte_in, or_vacant, region_in, sight_of, slot_under, window_in}
+use Rattle.ca_held_reach.specs.Seen.{byte_in, sight_of, slot_under}
 use Rattle.ca_held_reach.proofs.EndLemmas.{counting_has, ended_under, unbound_refused}
 use Rattle.ca_held_reach.proofs.GrantLemmas.{region_held, window_held}
 use Rattle.ca_held.specs.declared.held.Held.{Held}
@@ -225,7 +224,7 @@ over-bytes c w i m = by (names_region c i.domain i.key) (names_window c i.domain
     by false false o = refl
 
 kept-bytes : (c : Configuration) (w : World) (i : Invalidation) → (put_all (ending_changes c w i) w).byte ≡ w.byte
-kept-bytes c w i = sym (ap (λ (v : World). v.byte) (over-bytes c w i w.byte))
+kept-bytes c w i = ap (λ (v : World). v.byte) (over-bytes c w i w.byte)
 
 -- what writes and then the end of a key leave is what the machine's changes and then its writes leave
 pub both-held : (c : Configuration) (h : Held) (xs : List (Ask × List ℕ)) (i : Invalidation) → IsVacantOutside c (holding h).world

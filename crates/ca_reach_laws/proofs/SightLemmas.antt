@@ -1,7 +1,7 @@
 -- What is seen by the parts in hand is what the machine sees in their small world. For proofs only.
-use Rattle.std.proofs.Common.{◌≡◌, ◌∙◌, ◌⊎◌, inl, inr, refl, sym, ap, Bool, true, false, not, ◌&&◌, if◌then◌else◌, List, [], ◌∷◌, Option, None, Some, is_some}
+use Rattle.std.proofs.Common.{◌≡◌, ◌∙◌, ◌⊎◌, inl, inr, refl, sym, ap, Bool, true, false, not, ◌&&◌, ◌||◌, if◌then◌else◌, Option, None, Some, is_some}
 use Rattle.std.proofs.Math.Path.{fun_ext}
-use Rattle.std.specs.Option.{option_and_then, option_map, option_map_or}
+use Rattle.std.specs.Option.{option_and_then, option_map}
 use Rattle.ca_keys.specs.declared.access.Ask.{Ask}
 use Rattle.ca_keys.specs.declared.grant.Grant.{Grant}
 use Rattle.ca_keys.specs.declared.names.Slot.{Slot}
@@ -9,14 +9,12 @@ use Rattle.ca_keys.specs.Allowed.{fits, grant_for}
 use Rattle.ca_keys.specs.Equal.{domain_eq, key_eq, slot_eq}
 use Rattle.ca_keys.specs.Numbers.{is_window_key}
 use Rattle.ca_base.specs.Configuration.{Configuration}
-use Rattle.ca_base.specs.declared.refusals.OpRefusal.{OpRefusal}
 use Rattle.ca_base.specs.Sight.{Invalidation}
 use Rattle.ca_base.specs.objects.LocalRequest.{region_refusal, unnamed_refusal, window_refusal}
 use Rattle.ca_base.specs.objects.Region.{FastRegistered, Free, NoRegion, Region, RegionState, Registered, grant_in_state, grant_of_region, vacant_region}
 use Rattle.ca_base.specs.objects.Slices.{has_slot, is_key_of, slot_of_key}
 use Rattle.ca_base.specs.objects.Window.{Binding, Window, grant_of_binding, vacant_window}
 use Rattle.ca_grant.specs.KeySlot.{list_of_grant}
-use Rattle.ca_model.specs.declared.part_name.PartName.TheVariants as names
 use Rattle.ca_model.specs.machine.Parts.{ShowsHeld}
 use Rattle.ca_model.specs.machine.Row.{grant_if_fitting, grant_over, region_under}
 use Rattle.ca_model.specs.machine.Seen.{grant_in, refusal_in, sight_in}
@@ -24,7 +22,7 @@ use Rattle.ca_model.specs.machine.World.{Region_of, Window_of, World}
 use Rattle.ca_shelf.specs.Shelved.{has_thing, thing_under}
 use Rattle.ca_held_reach.specs.Seen.{grant_named, grant_of_window, or_vacant, refusal_named, region_in, sight_of, slot_under, window_in}
 use Rattle.ca_held.specs.declared.held.Held.{Held}
-use Rattle.ca_held.specs.HeldView.{held_world, holding, is_held_part}
+use Rattle.ca_held.specs.HeldView.{held_world, holding}
 use Rattle.ca_reach_laws.specs.Ties.{IsVacantOutside}
 
 absent : {A : Type 0} (vacant : A) (o : Option A) → is_some o ≡ false → or_vacant vacant o ≡ vacant
@@ -91,7 +89,7 @@ local-none ask w f (Some b) local = by (f b)
     unfit : (g : Grant) → g.local ≡ false → fits ask g ≡ false
     unfit g remote = each (key_eq g.key ask.key) (domain_eq g.domain ask.domain)
       where
-        each : (x y : Bool) → (x && y && (if not ask.local then true else g.local)) ≡ false
+        each : (x y : Bool) → (x && y && (not ask.local || g.local)) ≡ false
         each x y = rw (local, remote) (both x y)
           where
             both : (x y : Bool) → (x && y && false) ≡ false

@@ -55,7 +55,8 @@ pub fn ends_held_are_at_hand()
 pub fn writes_are_the_machines()
     ensures { (h : Held) (writes : List (Ask × List ℕ)) → CanWrite h.reached writes
         → holding (with_reached h (written_all after_write_by h.reached writes)) ≡ record (holding h) {
-        world = write_all (writes_in (sight_of h.reached) writes) (holding h).world } }
+          world = write_all (writes_in (sight_of h.reached) writes) (holding h).world;
+        } }
 {}
 
 /// What the end of a key leaves of the parts in hand, where it is not refused, is what the machine's changes leave of
@@ -64,7 +65,8 @@ pub fn end_is_the_machines()
     ensures { (c : Configuration) (h : Held) (i : Invalidation) → IsVacantOutside c (holding h).world
         → CanEnd h.reached i → (sight_of h.reached).refusal i ≡ None
         → holding (with_reached h (after_end_of h.reached i)) ≡ record (holding h) {
-        world = put_all (ending_changes c (holding h).world i) (holding h).world } }
+          world = put_all (ending_changes c (holding h).world i) (holding h).world;
+        } }
 {}
 
 /// The same of writes and then the end of a key: the machine changes first, and then writes.
@@ -73,6 +75,7 @@ pub fn writes_and_end_are_the_machines()
         → IsVacantOutside c (holding h).world → CanWrite h.reached writes → CanEnd h.reached i
         → (sight_of h.reached).refusal i ≡ None
         → holding (with_reached h (after_end_of (written_all after_write_by h.reached writes) i)) ≡ record (holding h) {
-        world = write_all (writes_in (sight_of h.reached) writes)
-        (put_all (ending_changes c (holding h).world i) (holding h).world) } }
+          world = write_all (writes_in (sight_of h.reached) writes)
+              (put_all (ending_changes c (holding h).world i) (holding h).world);
+        } }
 {}
