@@ -1,0 +1,22 @@
+-- What a step of a queue pair that is held makes of what is held. Contracts cite it.
+use Rattle.std.specs.Prelude.{◌≡◌, Bool, true, Option, None, Some, Result, Ok, Err, is_none}
+use Rattle.std.specs.Option.{option_map_or}
+use Rattle.ca_base.specs.declared.step.Reason.{Reason}
+use Rattle.ca_base.specs.declared.step.StepError.{StepError}
+use Rattle.ca_base.specs.declared.step.StepError.TheVariants as steps
+use Rattle.ca_base.specs.objects.QueuePair.{QueuePair, Present, queue_in}
+use Rattle.ca_held.specs.HeldView.{Holding, hold}
+use Rattle.ca_keys.specs.declared.names.QueueId.{QueueId}
+use Rattle.ca_model.specs.machine.Arrivals.{next_receive}
+use Rattle.ca_model.specs.machine.Seen.{shared_receives}
+use Rattle.ca_model.specs.machine.World.{Queue_of, World}
+
+-- the queue pair of a name has stepped to this one, where no reason stands against it; or nothing has changed
+abbrev pub HasStepped : {A : Type 0} → QueueId → Result A StepError → Option Reason → QueuePair → Holding → Holding → Type 0
+HasStepped name (Ok done) refusal q old new = (refusal ≡ None) × (new ≡ hold old (Queue_of name) (Present q))
+HasStepped name (Err (steps.NotReady reason)) refusal q old new = (refusal ≡ Some reason) × (new ≡ old)
+HasStepped name (Err steps.Memory) refusal q old new = new ≡ old
+
+-- the queue pair of a name has no receive to take in a world; none is there in a vacant slot
+abbrev pub has_no_receive : World → QueueId → Bool
+has_no_receive w name = option_map_or (λ q. is_none (next_receive q (shared_receives w q))) (queue_in (w.queue name)) true
