@@ -1,5 +1,6 @@
 -- A turn of a queue pair that is held: what it looks at is held, what completes fits, and what is changed. For proofs only.
-use Rattle.std.proofs.Common.{◌≡◌, ◌∙◌, refl, sym, subst, ap, ℕ, Bool, true, false, List, [], ◌∷◌, Option, None, Some, IfSome, if◌then◌else◌}
+use Rattle.std.proofs.Common.{◌≡◌, ◌∙◌, refl, sym, subst, ap, ℕ, Bool, true, false, List, [], ◌∷◌, Option, None, Some, Result, Ok, Err, IfSome, is_none, if◌then◌else◌}
+use Rattle.std.proofs.Math.Path.{fun_ext}
 use Rattle.std.specs.Option.{option_map}
 use Rattle.ca_acts.specs.Act.{Suffices}
 use Rattle.ca_acts.specs.Binders.{changed_by}
@@ -10,22 +11,27 @@ use Rattle.ca_acts.proofs.DoneLemmas.{of-queue}
 use Rattle.ca_base.specs.Configuration.{Configuration}
 use Rattle.ca_base.specs.declared.completion.Completion.{Completion}
 use Rattle.ca_base.specs.declared.step.Reason.{Reason}
+use Rattle.ca_base.specs.declared.step.StepError.{StepError}
+use Rattle.ca_base.specs.declared.step.StepError.TheVariants as steps
 use Rattle.ca_base.specs.objects.CompletionQueue.{CompletionQueue, after_puts}
-use Rattle.ca_base.specs.objects.QueuePair.{NoQueue, Present, QueuePair, QueueSlot, recv_cq_of, send_cq_of, srq_of}
+use Rattle.ca_base.specs.objects.QueuePair.{NoQueue, Present, QueuePair, QueueSlot, queue_in, recv_cq_of, send_cq_of, srq_of}
 use Rattle.ca_base.specs.objects.Slices.{has_queue}
 use Rattle.ca_base.specs.objects.SharedReceives.{SrqSlot, after_receive_take}
 use Rattle.ca_held.specs.HeldView.{Holding, hold}
 use Rattle.ca_keys.specs.declared.names.QueueId.{QueueId}
 use Rattle.ca_keys.specs.declared.names.Slot.{Slot}
-use Rattle.ca_keys.specs.Equal.{slot_eq}
+use Rattle.ca_keys.specs.Equal.{queue_eq, slot_eq}
 use Rattle.ca_model.proofs.PerformLemmas.{around_at}
-use Rattle.ca_model.proofs.ThingLemmas.{slot-path, slot-refl}
+use Rattle.ca_model.proofs.ThingLemmas.{queue-path, slot-path, slot-refl}
+use Rattle.ca_model.specs.Marks.{MarkList}
 use Rattle.ca_model.specs.declared.mark.Mark.{Mark}
 use Rattle.ca_model.specs.machine.Around.{Around, With_around, With_queue, completions_to, cq_updates, srq_updates, updates_of}
 use Rattle.ca_model.specs.machine.Frame.{AllPass}
 use Rattle.ca_model.specs.machine.Plan.{Did, Look, Plan, Stuck, put_all, touches, ◌:=◌}
 use Rattle.ca_model.specs.machine.Row.{Effects}
 use Rattle.ca_model.specs.machine.World.{Cq_of, Queue_of, Srq_of, World}
+use Rattle.ca_requester.specs.Timers.{IsStep}
+use Rattle.ca_acts_turns.specs.Stepped.{HasStepped}
 use Rattle.ca_model.specs.Past.{with_at}
 
 module _ (h : Holding) (c : Configuration) (name : QueueId) (reason : Reason) (k : QueuePair → Plan) where
@@ -146,3 +152,40 @@ module _ (q : QueuePair) (name : QueueId) (e : Effects) (h mid : Holding) (o : O
   pub receives-fit : FitsDone h.world (Did after seen) → FitIn (mid.world.cq (recv_slot o)) (completions_by o o.recv ms)
   receives-fit fits = subst (λ n. FitIn (mid.world.cq (record { domain = o.domain; slot = n })) (completions_by o n ms)) (sym (ap (λ x. x.recv) outlets))
       (there q.recv_cq FitIn (fits-recv h.world after q e.marks seen (turned-cqs h.world q e) fits))
+
+-- what a name has already is put there
+pub same-queue : (h : Holding) (name : QueueId) (s : QueueSlot) → h.world.queue name ≡ s → hold h (Queue_of name) s ≡ h
+same-queue h name s there = λ i. record h { world = record h.world { queue = fun_ext (λ m. by m (queue_eq name m) refl) i } }
+  where
+    by : (m : QueueId) (b : Bool) → queue_eq name m ≡ b → (if b then s else h.world.queue m) ≡ h.world.queue m
+    by m true is = sym there ∙ ap h.world.queue (queue-path name m is)
+    by m false is = refl
+
+module _ (h new : Holding) (name : QueueId) (q now : QueuePair) (there : Present q ≡ h.world.queue name) (put : new ≡ hold h (Queue_of name) (Present now)) where
+  moved : (e : Effects) → now ≡ e.queue → new ≡ hold h (Queue_of name) (Present e.queue)
+  moved e same = put ∙ ap (λ x. hold h (Queue_of name) (Present x)) same
+
+  unmoved : now ≡ q → new ≡ h
+  unmoved same = put ∙ ap (λ x. hold h (Queue_of name) (Present x)) same ∙ same-queue h name (Present q) (sym there)
+
+  -- a step was made, or nothing has changed
+  told : (P : QueuePair → Type 0) → P q → (x : QueuePair) → h.world.queue name ≡ Present x → P x
+  told P is x here = subst (λ s. IfSome (queue_in s) P) (there ∙ here) is
+
+  pub has-stepped : {A : Type 0} (result : Result A StepError) (refusal : QueuePair → Option Reason) (e : QueuePair → Effects) (before made : MarkList)
+      → IsStep result (refusal q) (e q) q now before made → (x : QueuePair) → h.world.queue name ≡ Present x → HasStepped name result (refusal x) (e x).queue h new
+  has-stepped result refusal e before made step = told (λ x. HasStepped name result (refusal x) (e x).queue h new) (by result step)
+    where
+      by : {A : Type 0} (result : Result A StepError) → IsStep result (refusal q) (e q) q now before made → HasStepped name result (refusal q) (e q).queue h new
+      by (Ok done) step = (step.0, moved (e q) step.1.queue)
+      by (Err (steps.NotReady reason)) step = (step.0, unmoved step.1.queue)
+      by (Err steps.Memory) step = unmoved step.1.queue
+
+-- no receive is there to take
+pub none_received : {A B : Type 0} (f : A → B) (o : Option A) → is_none (option_map f o) ≡ is_none o
+none_received f None = refl
+none_received f (Some a) = refl
+
+-- what holds of the queue pair in a slot
+pub of-present : (P : QueuePair → Type 0) (s : QueueSlot) (q : QueuePair) → s ≡ Present q → IfSome (queue_in s) P → P q
+of-present P s q there is = subst (λ s. IfSome (queue_in s) P) there is
