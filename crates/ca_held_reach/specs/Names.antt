@@ -1,8 +1,9 @@
 -- The names of buffers. Contracts cite it.
 use Rattle.std.specs.Prelude.{◌≡◌, ◌==◌, ◌&&◌, Bool, true}
 use Rattle.std.proofs.lemmas.Bool.{and_parts, eqb-true}
+use Rattle.ca_keys.specs.declared.place.Place.{Place}
 use Rattle.ca_keys.specs.declared.place.Run.{Run}
-use Rattle.ca_held.specs.declared.part.BufferId.{BufferId}
+use Rattle.ca_held_reach.specs.declared.reached.BufferId.{BufferId}
 
 abbrev pub buffer_eq : BufferId → BufferId → Bool
 buffer_eq a b = (a.adapter == b.adapter) && (a.index == b.index)
@@ -10,6 +11,10 @@ buffer_eq a b = (a.adapter == b.adapter) && (a.index == b.index)
 -- the buffer of a run
 abbrev pub buffer_of_run : Run → BufferId
 buffer_of_run r = record { adapter = r.adapter; index = r.buffer }
+
+-- the buffer of a place
+abbrev pub buffer_of : Place → BufferId
+buffer_of p = record { adapter = p.adapter; index = p.buffer }
 
 -- names of buffers that are the same are one
 pub buffer_path : (a b : BufferId) → buffer_eq a b ≡ true → a ≡ b
