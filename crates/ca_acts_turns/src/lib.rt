@@ -7,6 +7,7 @@
 //! of the reliable connection; who may take which turn when is this profile's choice.
 #![tactic(auto)]
 
+mod respond;
 mod timers;
 
 pub use timers::{rnr_wake, timeout};
