@@ -37,7 +37,7 @@ use Rattle.ca_held_reach.proofs.GrantLemmas.{region_held, window_held}
 use Rattle.ca_held.specs.declared.held.Held.{Held}
 use Rattle.ca_held.specs.HeldView.{Holding, hold, holding, held_world, is_held_name, is_held_part, with_region, with_window}
 use Rattle.ca_held.proofs.HoldLemmas.{put_region, put_window}
-use Rattle.ca_reach_laws.specs.Ties.{CanWrite, IsVacantOutside, with_reached}
+use Rattle.ca_reach_laws.specs.Ties.{AreWritesAtHand, IsVacantOutside, with_reached}
 
 -- other bytes in buffers, as many as they had
 buffers-held : (h : Held) (buffers : List (Named BufferId (List ℕ))) (m : ByteMap) → byte_in buffers ≡ m
@@ -91,7 +91,7 @@ same-writes r buffers [] = refl
 same-writes r buffers (x ∷ xs) = ap (λ (ws : List Write). record { runs = runs_in (sight_of r) x.0; bytes = x.1 } ∷ ws) (same-writes r buffers xs)
 
 -- writes stay possible after one
-stay : (r : Reached) (x : Ask × List ℕ) → CanWrite r (x ∷ []) → (xs : List (Ask × List ℕ)) → CanWrite r xs → CanWrite (after_write_by r x.0 x.1) xs
+stay : (r : Reached) (x : Ask × List ℕ) → AreWritesAtHand r (x ∷ []) → (xs : List (Ask × List ℕ)) → AreWritesAtHand r xs → AreWritesAtHand (after_write_by r x.0 x.1) xs
 stay r x can [] all = tt
 stay r x can (y ∷ ys) all = ((write_leaves_bytes r x.0 x.1 can.0.0 can.0.1 y.0 all.0.0, all.0.1), stay r x can ys all.1)
 
@@ -106,7 +106,7 @@ one-held h x here count =
     (runs-lengths runs h.reached.buffers.things x.1 here (few-places h.reached x.0 x.1 count))
 
 -- what writes by asks leave is what the machine's writes leave
-pub writes-held : (h : Held) (xs : List (Ask × List ℕ)) → CanWrite h.reached xs
+pub writes-held : (h : Held) (xs : List (Ask × List ℕ)) → AreWritesAtHand h.reached xs
     → holding (with_reached h (written_all after_write_by h.reached xs))
     ≡ record (holding h) { world = write_all (writes_in (sight_of h.reached) xs) (holding h).world }
 writes-held h [] can = refl
@@ -228,7 +228,7 @@ kept-bytes c w i = ap (λ (v : World). v.byte) (over-bytes c w i w.byte)
 
 -- what writes and then the end of a key leave is what the machine's changes and then its writes leave
 pub both-held : (c : Configuration) (h : Held) (xs : List (Ask × List ℕ)) (i : Invalidation) → IsVacantOutside c (holding h).world
-    → CanWrite h.reached xs → CanEnd h.reached i → (sight_of h.reached).refusal i ≡ None
+    → AreWritesAtHand h.reached xs → CanEnd h.reached i → (sight_of h.reached).refusal i ≡ None
     → holding (with_reached h (after_end_of (written_all after_write_by h.reached xs) i))
     ≡ record (holding h) { world = write_all (writes_in (sight_of h.reached) xs) (put_all (ending_changes c (holding h).world i) (holding h).world) }
 both-held c h xs i out can end accepted =

@@ -22,5 +22,5 @@ pub record IsVacantOutside (c : Configuration) (w : World) : Type 0 where
   pub windows : (s : Slot) → has_slot c (λ a. a.windows) s ≡ false → w.window s ≡ vacant_window s
 
 -- writes of which the places are at hand, with as many bytes as each ask touches
-abbrev pub CanWrite : Reached → List (Ask × List ℕ) → Type 0
-CanWrite r writes = AllByRecursion (λ x. HasBytesAtHand r x.0 × (length x.1 ≡ x.0.touch)) writes
+abbrev pub AreWritesAtHand : Reached → List (Ask × List ℕ) → Type 0
+AreWritesAtHand r writes = AllByRecursion (λ x. HasBytesAtHand r x.0 × (length x.1 ≡ x.0.touch)) writes
