@@ -1,3 +1,4 @@
 pub mod TurnLemmas
 mod TimerLemmas
 mod ReachLemmas
+mod LeaveLemmas

@@ -187,15 +187,18 @@ module _ (c : Configuration) (h : Holding) (name : QueueId) (hasten : Bool) wher
 
     module _ (mid : Holding) (o : Outlets) (ms : List Mark) (none : first_of (timeout_refusals silent hasten q) ≡ None)
         (stepped : mid ≡ hold h (Queue_of name) (Present (after_timeout silent q).queue)) (outlets : o ≡ outlets_of q) (marks : ms ≡ (after_timeout silent q).marks) where
+      abbrev after : World
+      after = put_all (updates_of q (around_at h.world q) (after_timeout silent q)) h.world
+
       fits-so : FitsDone h.world (perform h.world (timeout_plan c name hasten))
           → FitsDone h.world (Did (put_all (updates_of q (around_at h.world q) (after_timeout silent q)) h.world) (after_timeout silent q).marks)
       fits-so fits = subst (FitsDone h.world) (timeout_fires none) fits
 
       pub timeout_sends : FitsDone h.world (perform h.world (timeout_plan c name hasten)) → FitIn (mid.world.cq (send_slot o)) (completions_by o o.send ms)
-      timeout_sends fits = sends-fit q name (after_timeout silent q) h mid o ms (after_timeout silent q).marks stepped outlets marks (fits-so fits)
+      timeout_sends fits = sends-fit q name (after_timeout silent q) h mid o ms (after_timeout silent q).marks after stepped outlets marks refl (fits-so fits)
 
       pub timeout_receives : FitsDone h.world (perform h.world (timeout_plan c name hasten)) → FitIn (mid.world.cq (recv_slot o)) (completions_by o o.recv ms)
-      timeout_receives fits = receives-fit q name (after_timeout silent q) h mid o ms (after_timeout silent q).marks stepped outlets marks (fits-so fits)
+      timeout_receives fits = receives-fit q name (after_timeout silent q) h mid o ms (after_timeout silent q).marks after stepped outlets marks refl (fits-so fits)
 
       pub timeout_acts : (new : Holding) (m : MarkList) → m.marks ≡ ms → new ≡ changed_by (done_updates o ms mid.world) mid
           → IsAct (Ok m) (perform h.world (timeout_plan c name hasten)) h new

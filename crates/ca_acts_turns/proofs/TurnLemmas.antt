@@ -1,7 +1,7 @@
 -- A turn of a queue pair that is held: what it looks at is held, what completes fits, and what is changed. For proofs only.
-use Rattle.std.proofs.Common.{◌≡◌, ◌∙◌, refl, sym, subst, ap, ℕ, Bool, true, false, List, [], ◌∷◌, Option, None, Some, Result, Ok, Err, IfSome, is_none, if◌then◌else◌}
+use Rattle.std.proofs.Common.{◌≡◌, ◌∙◌, refl, sym, subst, ap, ℕ, Bool, true, false, List, [], ◌∷◌, ◌++◌, Option, None, Some, Result, Ok, Err, IfSome, is_none, if◌then◌else◌}
 use Rattle.std.proofs.Math.Path.{fun_ext}
-use Rattle.std.specs.Option.{option_map}
+use Rattle.std.specs.Option.{option_map, option_map_or}
 use Rattle.ca_acts.specs.Act.{Suffices}
 use Rattle.ca_acts.specs.Binders.{changed_by}
 use Rattle.ca_acts.specs.declared.done.Outlets.{Outlets}
@@ -10,10 +10,15 @@ use Rattle.ca_acts.specs.Room.{FitIn, FitsDone}
 use Rattle.ca_acts.proofs.DoneLemmas.{of-queue}
 use Rattle.ca_base.specs.Configuration.{Configuration}
 use Rattle.ca_base.specs.declared.completion.Completion.{Completion}
+use Rattle.ca_base.specs.declared.correspondent.Correspondent.{Correspondent}
+use Rattle.ca_base.specs.declared.lot.Lot.{Lot}
+use Rattle.ca_base.specs.declared.step.Sent.{Sent}
+use Rattle.ca_base.specs.declared.step.Sent.TheVariants.{Silent, Spelt}
 use Rattle.ca_base.specs.declared.step.Reason.{Reason}
 use Rattle.ca_base.specs.declared.step.StepError.{StepError}
 use Rattle.ca_base.specs.declared.step.StepError.TheVariants as steps
 use Rattle.ca_base.specs.objects.CompletionQueue.{CompletionQueue, after_puts}
+use Rattle.ca_base.specs.objects.Mailbox.{Mailbox, after_send}
 use Rattle.ca_base.specs.objects.QueuePair.{NoQueue, Present, QueuePair, QueueSlot, queue_in, recv_cq_of, send_cq_of, srq_of}
 use Rattle.ca_base.specs.objects.Slices.{has_queue}
 use Rattle.ca_base.specs.objects.SharedReceives.{SrqSlot, after_receive_take}
@@ -27,11 +32,12 @@ use Rattle.ca_model.specs.Marks.{MarkList}
 use Rattle.ca_model.specs.declared.mark.Mark.{Mark}
 use Rattle.ca_model.specs.machine.Around.{Around, With_around, With_queue, completions_to, cq_updates, srq_updates, updates_of}
 use Rattle.ca_model.specs.machine.Frame.{AllPass}
-use Rattle.ca_model.specs.machine.Plan.{Did, Look, Plan, Stuck, put_all, touches, ◌:=◌}
+use Rattle.ca_model.specs.machine.Plan.{Did, Look, Plan, Stuck, Update, put_all, touches, ◌:=◌}
 use Rattle.ca_model.specs.machine.Row.{Effects}
-use Rattle.ca_model.specs.machine.World.{Cq_of, Queue_of, Srq_of, World}
+use Rattle.ca_model.specs.machine.Turns.{Packet, packet_sent, reaches_peer, sent_marks, sent_updates}
+use Rattle.ca_model.specs.machine.World.{Cq_of, Mailbox_of, Queue_of, Srq_of, World, put}
 use Rattle.ca_requester.specs.Timers.{IsStep}
-use Rattle.ca_acts_turns.specs.Stepped.{HasStepped}
+use Rattle.ca_acts_turns.specs.Stepped.{HasStepped, packet_of}
 use Rattle.ca_model.specs.Past.{with_at}
 
 module _ (h : Holding) (c : Configuration) (name : QueueId) (reason : Reason) (k : QueuePair → Plan) where
@@ -133,11 +139,8 @@ turned-cqs w q e = by e.takes_shared (around_at w q).shared q.srq
     by true (Some slot) (Some srq) = refl
 
 -- what a turn completes fits in the completion queues once the queue pair has stepped, where its outcome fits
-module _ (q : QueuePair) (name : QueueId) (e : Effects) (h mid : Holding) (o : Outlets) (ms seen : List Mark) (stepped : mid ≡ hold h (Queue_of name) (Present e.queue))
-    (outlets : o ≡ outlets_of q) (marks : ms ≡ e.marks) where
-  abbrev pub after : World
-  after = put_all (updates_of q (around_at h.world q) e) h.world
-
+module _ (q : QueuePair) (name : QueueId) (e : Effects) (h mid : Holding) (o : Outlets) (ms seen : List Mark) (v : World) (stepped : mid ≡ hold h (Queue_of name) (Present e.queue))
+    (outlets : o ≡ outlets_of q) (marks : ms ≡ e.marks) (puts : v.cq ≡ (put_all (updates_of q (around_at h.world q) e) h.world).cq) where
   there : (n : ℕ) (P : Option CompletionQueue → List Completion → Type 0) → P (h.world.cq (record { domain = q.domain; slot = n })) (completions_to q n e.marks)
       → P (mid.world.cq (record { domain = o.domain; slot = n })) (completions_by o n ms)
   there n P fit = subst (λ m. P (m.world.cq (record { domain = o.domain; slot = n })) (completions_by o n ms)) (sym stepped)
@@ -145,13 +148,13 @@ module _ (q : QueuePair) (name : QueueId) (e : Effects) (h mid : Holding) (o : O
       (subst (λ xs. P (h.world.cq (record { domain = q.domain; slot = n })) (completions_by (outlets_of q) n xs)) (sym marks)
       (subst (λ cs. P (h.world.cq (record { domain = q.domain; slot = n })) cs) (sym (of-queue q n e.marks)) fit)))
 
-  pub sends-fit : FitsDone h.world (Did after seen) → FitIn (mid.world.cq (send_slot o)) (completions_by o o.send ms)
+  pub sends-fit : FitsDone h.world (Did v seen) → FitIn (mid.world.cq (send_slot o)) (completions_by o o.send ms)
   sends-fit fits = subst (λ n. FitIn (mid.world.cq (record { domain = o.domain; slot = n })) (completions_by o n ms)) (sym (ap (λ x. x.send) outlets))
-      (there q.send_cq FitIn (fits-send h.world after q e.marks seen (turned-cqs h.world q e) fits))
+      (there q.send_cq FitIn (fits-send h.world v q e.marks seen (puts ∙ turned-cqs h.world q e) fits))
 
-  pub receives-fit : FitsDone h.world (Did after seen) → FitIn (mid.world.cq (recv_slot o)) (completions_by o o.recv ms)
+  pub receives-fit : FitsDone h.world (Did v seen) → FitIn (mid.world.cq (recv_slot o)) (completions_by o o.recv ms)
   receives-fit fits = subst (λ n. FitIn (mid.world.cq (record { domain = o.domain; slot = n })) (completions_by o n ms)) (sym (ap (λ x. x.recv) outlets))
-      (there q.recv_cq FitIn (fits-recv h.world after q e.marks seen (turned-cqs h.world q e) fits))
+      (there q.recv_cq FitIn (fits-recv h.world v q e.marks seen (puts ∙ turned-cqs h.world q e) fits))
 
 -- what a name has already is put there
 pub same-queue : (h : Holding) (name : QueueId) (s : QueueSlot) → h.world.queue name ≡ s → hold h (Queue_of name) s ≡ h
@@ -189,3 +192,54 @@ none_received f (Some a) = refl
 -- what holds of the queue pair in a slot
 pub of-present : (P : QueuePair → Type 0) (s : QueueSlot) (q : QueuePair) → s ≡ Present q → IfSome (queue_in s) P → P q
 of-present P s q there is = subst (λ s. IfSome (queue_in s) P) there is
+
+-- all changes are made, one list after another
+pub puts-append : (xs ys : List Update) (u : World) → put_all (xs ++ ys) u ≡ put_all ys (put_all xs u)
+puts-append [] ys u = refl
+puts-append (x ∷ xs) ys u = puts-append xs ys (put u x.name x.thing)
+
+-- a turn is done: the queue pair has stepped, its completion queues have what completed, and its packet has left
+module _ (q : QueuePair) (name : QueueId) (e : Effects) (p : Correspondent) (lot : Lot) (h mid done new : Holding) (o : Outlets) (ms : List Mark) (sent : Sent) (bytes : List ℕ)
+    (named : q.queue ≡ name) (outlets : o ≡ outlets_of q) (marks : ms ≡ e.marks) (is-sent : sent ≡ e.sent) (spelt : bytes ≡ e.spelt) (no-take : e.takes_shared ≡ false)
+    (first : mid ≡ hold h (Queue_of name) (Present e.queue)) (second : done ≡ changed_by (done_updates o ms mid.world) mid) where
+  abbrev pub own_mail : Mailbox
+  own_mail = h.world.mailbox p.queue
+
+  packet-is : packet_of sent bytes ≡ packet_sent e
+  packet-is = ap (λ s. packet_of s bytes) is-sent ∙ ap (packet_of e.sent) spelt ∙ by e.sent
+    where
+      by : (s : Sent) → packet_of s e.spelt ≡ packet_sent (record e { sent = s })
+      by Silent = refl
+      by (Spelt request) = refl
+
+  at-done : done ≡ changed_by (updates_of q (around_at h.world q) e) h
+  at-done = turned q name e h mid done o ms named outlets marks no-take first second
+
+  pub mail-kept : done.world.mailbox ≡ h.world.mailbox
+  mail-kept = ap (λ x. x.world.mailbox) second ∙ ap (λ x. x.world.mailbox) first
+
+  pub gone : new ≡ changed_by (option_map_or (sent_updates q p (done.world.mailbox p.queue) lot) (packet_of sent bytes) []) done
+      → new ≡ changed_by (updates_of q (around_at h.world q) e ++ option_map_or (sent_updates q p own_mail lot) (packet_sent e) []) h
+  gone third = third ∙ ap (λ f. changed_by (option_map_or (sent_updates q p (f p.queue) lot) (packet_of sent bytes) []) done) mail-kept
+      ∙ ap (λ x. changed_by (option_map_or (sent_updates q p own_mail lot) x []) done) packet-is
+      ∙ ap (changed_by (option_map_or (sent_updates q p own_mail lot) (packet_sent e) [])) at-done
+      ∙ ap (λ w. record h { world = w }) (sym (puts-append (updates_of q (around_at h.world q) e) (option_map_or (sent_updates q p own_mail lot) (packet_sent e) []) h.world))
+
+  pub marks-gone : (made : List Mark) → made ≡ ms ++ option_map_or (sent_marks q p (done.world.mailbox p.queue) lot) (packet_of sent bytes) []
+      → made ≡ e.marks ++ option_map_or (sent_marks q p own_mail lot) (packet_sent e) []
+  marks-gone made is = is ∙ ap (λ f. ms ++ option_map_or (sent_marks q p (f p.queue) lot) (packet_of sent bytes) []) mail-kept
+      ∙ ap (λ x. ms ++ option_map_or (sent_marks q p own_mail lot) x []) packet-is
+      ∙ ap (λ xs. xs ++ option_map_or (sent_marks q p own_mail lot) (packet_sent e) []) marks
+
+-- a packet that leaves changes no completion queue
+pub mail-aside : (q : QueuePair) (p : Correspondent) (m : Mailbox) (lot : Lot) (x : Option Packet) (us : List Update) (w : World)
+    → (put_all (us ++ option_map_or (sent_updates q p m lot) x []) w).cq ≡ (put_all us w).cq
+mail-aside q p m lot x us w = ap (λ v. v.cq) (puts-append us (option_map_or (sent_updates q p m lot) x []) w) ∙ by x
+  where
+    path : (b : Bool) (y : Packet) → (put_all (if b then (Mailbox_of p.queue := after_send lot y.bytes m) ∷ [] else []) (put_all us w)).cq ≡ (put_all us w).cq
+    path true y = refl
+    path false y = refl
+
+    by : (x : Option Packet) → (put_all (option_map_or (sent_updates q p m lot) x []) (put_all us w)).cq ≡ (put_all us w).cq
+    by None = refl
+    by (Some y) = path (reaches_peer q p m) y

@@ -7,6 +7,7 @@
 //! of the reliable connection; who may take which turn when is this profile's choice.
 #![tactic(auto)]
 
+mod leave;
 mod respond;
 mod timers;
 
