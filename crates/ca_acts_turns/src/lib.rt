@@ -11,4 +11,5 @@ mod leave;
 mod respond;
 mod timers;
 
+pub use respond::respond;
 pub use timers::{rnr_wake, timeout};

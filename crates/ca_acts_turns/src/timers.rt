@@ -108,7 +108,7 @@ fn is_silent(held: &Held, q: &QueuePart, peer: Correspondent) -> bool
 }
 
 /// Whether a path leads from a queue pair to its peer: the peer's mailbox, which is held, accepts it.
-fn reaches_peer(held: &Held, q: &QueuePart, peer: Correspondent) -> bool
+pub(crate) fn reaches_peer(held: &Held, q: &QueuePart, peer: Correspondent) -> bool
     requires { (holding held.now).has (Mailbox_of peer.queue) ≡ true }
     ensures { result ≡ turns.reaches_peer q.now peer ((holding held.now).world.mailbox peer.queue) }
 {
@@ -117,7 +117,7 @@ fn reaches_peer(held: &Held, q: &QueuePart, peer: Correspondent) -> bool
 }
 
 /// The peer of a queue pair, with its incarnation.
-fn peer_of(q: &QueuePart) -> Option<Correspondent>
+pub(crate) fn peer_of(q: &QueuePart) -> Option<Correspondent>
     ensures { result ≡ q.now.peer }
 {
     match q.peer {
