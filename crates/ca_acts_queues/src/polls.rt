@@ -64,10 +64,12 @@ fn polled_in(marks: &Marks) -> &[Completion]
     ensures { result.now ≡ polled_of marks.now.marks }
 {
     match marks.as_slice().first() {
-        Some(Mark::Verb {
-            answer: Answer::Polled(polled),
-            ..
-        }) => polled.as_slice(),
+        Some(
+            Mark::Verb {
+                answer: Answer::Polled(polled),
+                ..
+            },
+        ) => polled.as_slice(),
         _ => &[],
     }
 }
