@@ -1,22 +1,16 @@
 -- A packet that goes to the peer's mailbox, or is lost. For proofs only.
-use Rattle.std.proofs.Common.{◌≡◌, ◌∙◌, refl, sym, ap, subst, ℕ, Bool, true, false, ◌&&◌, ◌||◌, IsTrue, if◌then◌else◌, List, [], ◌∷◌, ◌++◌, Option, None, Some, is_none, append_assoc, true≢false}
-use Rattle.std.proofs.lemmas.List.{append-nil}
+use Rattle.std.proofs.Common.{◌≡◌, ◌∙◌, refl, sym, ap, subst, ℕ, Bool, true, false, ◌&&◌, IsTrue, if◌then◌else◌, List, true≢false}
 use Rattle.std.proofs.Math.Path.{fun_ext}
-use Rattle.std.specs.Option.{option_map_or}
 use Rattle.ca_acts.specs.Binders.{changed_by}
 use Rattle.ca_base.specs.declared.correspondent.Correspondent.{Correspondent}
 use Rattle.ca_base.specs.declared.lot.Lot.{Lot}
-use Rattle.ca_base.specs.objects.Mailbox.{Mailbox, after_send, has_room, is_lost, passes}
-use Rattle.ca_base.specs.objects.QueuePair.{QueuePair, correspondent_of}
+use Rattle.ca_base.specs.objects.Mailbox.{Mailbox, after_send, has_room, passes}
 use Rattle.ca_held.specs.HeldView.{Holding, hold}
 use Rattle.ca_keys.specs.declared.names.QueueId.{QueueId}
 use Rattle.ca_keys.specs.Equal.{queue_eq}
 use Rattle.ca_model.proofs.ThingLemmas.{queue-path}
-use Rattle.ca_model.specs.declared.mark.Mark.{Mark}
-use Rattle.ca_model.specs.declared.mark.Mark.TheVariants as marks
-use Rattle.ca_model.specs.machine.Turns.{Packet, sent_marks, sent_updates}
 use Rattle.ca_model.specs.machine.World.{Mailbox_of}
-use Rattle.ca_acts_turns.specs.Stepped.{HasRoomFor, index_of_mail, mail_updates}
+use Rattle.ca_acts_turns.specs.Stepped.{HasRoomFor, mail_updates}
 
 same-mailbox : (h : Holding) (name : QueueId) (m : Mailbox) → m ≡ h.world.mailbox name → hold h (Mailbox_of name) m ≡ h
 same-mailbox h name m is = λ i. record h { world = record h.world { mailbox = fun_ext (λ n. by n (queue_eq name n) refl) i } }

@@ -9,8 +9,7 @@ use Rattle.ca_base.specs.objects.QueuePair.{Present, QueuePair, queue_in}
 use Rattle.ca_held.specs.declared.held.Held.{Held}
 use Rattle.ca_held.specs.declared.part.QueueSlot.{QueueSlot}
 use Rattle.ca_held.specs.declared.part.QueueSlot.TheVariants as slots
-use Rattle.ca_held.specs.HeldView.{Holding, hold, holding, with_queue}
-use Rattle.ca_held.specs.Parts.{slot_of}
+use Rattle.ca_held.specs.HeldView.{hold, holding, with_queue}
 use Rattle.ca_held.proofs.HoldLemmas.{put_queue}
 use Rattle.ca_held_reach.specs.declared.reached.Reached.{Reached}
 use Rattle.ca_held_reach.specs.Changed.{after_write_by}

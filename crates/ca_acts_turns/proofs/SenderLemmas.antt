@@ -1,56 +1,41 @@
 -- What a turn that sends comes to, by what is held: its row writes nothing, takes no receive, and ends no key. For proofs only.
-use Rattle.std.proofs.Common.{◌≡◌, ◌∙◌, refl, sym, subst, ap, ℕ, ◌≤◌, Bool, true, false, not, ◌||◌, List, [], ◌∷◌, ◌++◌, Ok, Err, Option, None, Some, slice_get, is_none, is_some, if◌then◌else◌, true≢false}
-use Rattle.std.specs.Option.{option_map_or}
+use Rattle.std.proofs.Common.{◌≡◌, ◌∙◌, refl, sym, subst, ap, ℕ, ◌≤◌, false, List, [], ◌++◌, map, Ok, Err, Option, None, Some}
+use Rattle.std.specs.Option.{option_and_then, option_map_or}
 use Rattle.ca_acts.specs.Act.{IsAct}
 use Rattle.ca_acts.specs.Binders.{changed_by}
 use Rattle.ca_acts.specs.declared.done.Outlets.{Outlets}
 use Rattle.ca_acts.specs.Outlets.{completions_by, done_updates, outlets_of, recv_slot, send_slot}
 use Rattle.ca_acts.specs.Room.{FitIn, FitsDone}
 use Rattle.ca_base.specs.Configuration.{Configuration}
-use Rattle.ca_base.specs.declared.change.State.TheVariants as states
 use Rattle.ca_base.specs.declared.correspondent.Correspondent.{Correspondent}
 use Rattle.ca_base.specs.declared.denied_ask.DeniedAsk.{DeniedAsk}
 use Rattle.ca_base.specs.declared.lot.Lot.{Lot}
-use Rattle.ca_base.specs.declared.queue_numbers.Queued.{Queued}
-use Rattle.ca_base.specs.declared.queue_numbers.Queued.TheVariants as queued
 use Rattle.ca_base.specs.declared.refusals.OpRefusal.{OpRefusal}
-use Rattle.ca_base.specs.declared.step.Reason.{Reason}
-use Rattle.ca_base.specs.declared.step.Reason.TheVariants as reasons
 use Rattle.ca_base.specs.declared.step.Sent.{Sent}
 use Rattle.ca_base.specs.declared.step.StepError.{StepError}
 use Rattle.ca_base.specs.declared.step.StepError.TheVariants as steps
-use Rattle.ca_base.specs.Sight.{Sight, first_denied}
-use Rattle.ca_base.specs.objects.Mailbox.{has_room, passes}
-use Rattle.ca_base.specs.objects.QueuePair.{NoQueue, Present, QueuePair, recv_cq_of, send_cq_of}
-use Rattle.ca_base.specs.objects.Slices.{has_queue}
-use Rattle.ca_base.specs.objects.StateTable.{is_among}
-use Rattle.ca_grant.specs.Reaching.{AreAtHand}
+use Rattle.ca_base.specs.Sight.{Sight, bytes_in, first_denied}
+use Rattle.ca_base.specs.objects.QueuePair.{Present, QueuePair}
 use Rattle.ca_held.specs.declared.held.Held.{Held}
 use Rattle.ca_held.specs.HeldView.{Holding, hold, holding}
-use Rattle.ca_held_reach.specs.AtHand.{CanJudge, HasBytesAtHand}
 use Rattle.ca_held_reach.specs.Changed.{after_write_by}
 use Rattle.ca_held_reach.specs.Seen.{sight_of}
 use Rattle.ca_keys.specs.declared.names.QueueId.{QueueId}
-use Rattle.ca_keys.specs.Refusals.{first_of}
-use Rattle.ca_model.proofs.PerformLemmas.{around-performs, around_at, queue-performs}
+use Rattle.ca_model.proofs.PerformLemmas.{around_at}
 use Rattle.ca_model.specs.Marks.{MarkList}
 use Rattle.ca_model.specs.declared.mark.Mark.{Mark}
 use Rattle.ca_model.specs.declared.marks.TheConstants.{SPARE_MARKS}
-use Rattle.ca_model.specs.machine.Around.{Around, With_around, updates_of}
-use Rattle.ca_model.specs.machine.Frame.{AllPass}
-use Rattle.ca_model.specs.machine.Plan.{Did, Look, NotReady, Outcome, Plan, Stuck, Update, Write, perform, put_all, touches}
-use Rattle.ca_model.specs.machine.Respond.{ReadLeft, answer_turn, read_row, respond_refusals, respond_row}
+use Rattle.ca_model.specs.machine.Around.{updates_of}
+use Rattle.ca_model.specs.machine.Plan.{Did, NotReady, Outcome, Plan, Update, Write, perform, put_all}
 use Rattle.ca_model.specs.machine.Row.{Does, Effects, Ending, NotPossible, Row, Row_plan, ending_of, unless_none}
 use Rattle.ca_model.specs.machine.Seen.{ending_changes, perform_ending, refusal_in, row_changes, sight_in, writes_in}
-use Rattle.ca_model.specs.machine.Turns.{Leave_plan, Respond_around, has_room_for, packet_sent, respond_plan, sent_marks, sent_updates}
-use Rattle.ca_model.specs.machine.World.{Cq_of, Mailbox_of, Queue_of, World}
+use Rattle.ca_model.specs.machine.Turns.{Leave_plan, packet_sent, sent_marks, sent_updates}
+use Rattle.ca_model.specs.machine.World.{Queue_of, World}
 use Rattle.ca_reach_laws.specs.Ties.{IsVacantOutside, with_reached}
-use Rattle.ca_reach_laws.proofs.RowLemmas.{row-seen, rows-at-hand}
-use Rattle.ca_reach_laws.proofs.SightLemmas.{vacant-outside}
+use Rattle.ca_reach_laws.proofs.RowLemmas.{row-seen}
 use Rattle.ca_rows.specs.Made.{IsUnable, written_all}
-use Rattle.ca_acts_turns.specs.Shown.{AreShown}
-use Rattle.ca_acts_turns.specs.Stepped.{HasRoomFor, HasTurned, packet_of}
-use Rattle.ca_acts_turns.proofs.TurnLemmas.{IsAroundHeld, around-held, gone, mail-aside, marks-gone, receives-fit, sends-fit, with-queue-held, with-queue-rest}
+use Rattle.ca_acts_turns.specs.Stepped.{HasTurned, packet_of}
+use Rattle.ca_acts_turns.proofs.TurnLemmas.{gone, mail-aside, marks-gone, receives-fit, sends-fit}
 
 -- a row that writes nothing, takes no receive, and ends no key
 pub record IsQuiet (row : Row) : Type 0 where
@@ -68,9 +53,13 @@ quiet-ending e x quiet is = subst Quietly is quiet
 pub quiet-row : (row : Row) → row.invalidation ≡ None → ((d : DeniedAsk) → Quietly (row.denied d)) → ((bytes : List (List ℕ)) (refusal : Option OpRefusal) → Quietly (row.allowed bytes refusal)) → IsQuiet row
 quiet-row row key denied allowed = record { key = key; ends = λ s e is. quiet-ending e (ending_of s row) (by s (first_denied s row.asks)) is }
   where
+    ending : Sight → Option DeniedAsk → Ending
+    ending s (Some d) = row.denied d
+    ending s None = row.allowed (map (bytes_in s) row.asks) (option_and_then s.refusal row.invalidation)
+
     by : (s : Sight) (o : Option DeniedAsk) → Quietly (ending s o)
     by s (Some d) = denied d
-    by s None = allowed _ _
+    by s None = allowed (map (bytes_in s) row.asks) (option_and_then s.refusal row.invalidation)
 
 -- the row changes no key
 no-changes : (c : Configuration) (w : World) (row : Row) → row.invalidation ≡ None → row_changes c w row ≡ []

@@ -1,6 +1,5 @@
 -- What a timer and a wake come to, by what is held. For proofs only.
-use Rattle.std.proofs.Common.{◌≡◌, ◌∙◌, refl, sym, subst, ap, ℕ, suc, Bool, true, false, not, ◌&&◌, ◌||◌, ◌==◌, nat_le, List, [], ◌∷◌, ◌++◌, Ok, Err, Option, None, Some, IfSome, is_none, is_some, if◌then◌else◌, true≢false}
-use Rattle.std.proofs.lemmas.List.{append-nil}
+use Rattle.std.proofs.Common.{◌≡◌, ◌∙◌, refl, sym, subst, ap, ℕ, suc, Bool, true, false, not, ◌&&◌, ◌||◌, ◌==◌, nat_le, List, [], ◌∷◌, Ok, Err, Option, None, Some, IfSome, is_none, is_some, if◌then◌else◌, true≢false}
 use Rattle.std.specs.Option.{option_map_or}
 use Rattle.ca_acts.specs.Act.{IsAct}
 use Rattle.ca_acts.specs.Binders.{changed_by}
@@ -26,7 +25,7 @@ use Rattle.ca_keys.specs.Refusals.{first_of}
 use Rattle.ca_model.proofs.PerformLemmas.{around-performs, around_at, queue-performs}
 use Rattle.ca_model.specs.Marks.{MarkList}
 use Rattle.ca_model.specs.declared.mark.Mark.{Mark}
-use Rattle.ca_model.specs.machine.Acknowledgements.{failure_effects, one_retry, with_cursor, with_requester}
+use Rattle.ca_model.specs.machine.Acknowledgements.{failure_effects, with_cursor, with_requester}
 use Rattle.ca_model.specs.machine.Arrivals.{next_receive}
 use Rattle.ca_model.specs.machine.Around.{With_around, updates_of}
 use Rattle.ca_model.specs.machine.CanStep.{CanStep}
@@ -34,7 +33,7 @@ use Rattle.ca_model.specs.machine.Frame.{AllPass}
 use Rattle.ca_model.specs.machine.Invariants.{is_connected, is_sending}
 use Rattle.ca_model.specs.machine.Plan.{Did, Finish, Look, NotReady, Outcome, Plan, Stuck, perform, put_all, touches, unless_refused, ◌:=◌}
 use Rattle.ca_model.specs.machine.Requester.{is_outstanding}
-use Rattle.ca_model.specs.machine.Row.{Effects, queue_and_marks}
+use Rattle.ca_model.specs.machine.Row.{queue_and_marks}
 use Rattle.ca_model.specs.machine.Seen.{shared_receives}
 use Rattle.ca_model.specs.machine.Timers.{after_timeout, after_wake, timeout_refusals, wake_refusals}
 use Rattle.ca_model.specs.machine.Turns.{Fire, Timeout_around, With_receives, is_silent, reaches_peer, timeout_plan, wake_plan}

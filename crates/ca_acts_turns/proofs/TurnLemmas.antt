@@ -2,7 +2,6 @@
 use Rattle.std.proofs.Common.{◌≡◌, ◌∙◌, refl, sym, subst, ap, ℕ, Bool, true, false, List, [], ◌∷◌, ◌++◌, Option, None, Some, Result, Ok, Err, IfSome, is_none, if◌then◌else◌}
 use Rattle.std.proofs.Math.Path.{fun_ext}
 use Rattle.std.specs.Option.{option_map, option_map_or}
-use Rattle.ca_acts.specs.Act.{Suffices}
 use Rattle.ca_acts.specs.Binders.{changed_by}
 use Rattle.ca_acts.specs.declared.done.Outlets.{Outlets}
 use Rattle.ca_acts.specs.Outlets.{completions_by, done_updates, outlets_of, recv_slot, send_slot}
@@ -192,6 +191,9 @@ none_received f (Some a) = refl
 -- what holds of the queue pair in a slot
 pub of-present : (P : QueuePair → Type 0) (s : QueueSlot) (q : QueuePair) → s ≡ Present q → IfSome (queue_in s) P → P q
 of-present P s q there is = subst (λ s. IfSome (queue_in s) P) there is
+
+pub at-present : (P : QueuePair → Type 0) (s : QueueSlot) (q : QueuePair) → s ≡ Present q → P q → IfSome (queue_in s) P
+at-present P s q there is = subst (λ s. IfSome (queue_in s) P) (sym there) is
 
 -- all changes are made, one list after another
 pub puts-append : (xs ys : List Update) (u : World) → put_all (xs ++ ys) u ≡ put_all ys (put_all xs u)

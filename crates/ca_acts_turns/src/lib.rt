@@ -7,9 +7,9 @@
 //! of the reliable connection; who may take which turn when is this profile's choice.
 #![tactic(auto)]
 
+mod answering;
 mod leave;
-mod respond;
 mod timers;
 
-pub use respond::respond;
+pub use answering::respond;
 pub use timers::{rnr_wake, timeout};

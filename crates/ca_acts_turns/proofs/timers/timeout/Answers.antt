@@ -3,7 +3,6 @@ use Rattle.ca_base.specs.Configuration.{configuration_in}
 use Rattle.ca_base.specs.objects.QueuePair.{Present}
 use Rattle.ca_held.specs.HeldView.{holding}
 use Rattle.ca_held.specs.Parts.{slot_of}
-use Rattle.ca_model.specs.declared.mark.Mark.{Mark}
 use Rattle.ca_model.specs.machine.Timers.{after_timeout}
 use Rattle.ca_acts_turns.proofs.TimerLemmas.{timeout_acts, timeout_receives, timeout_sends, timeout_unready}
 use Rattle.ca_acts_turns.proofs.TurnLemmas.{of-present}

@@ -65,7 +65,9 @@ pub fn respond(
     let room = has_room_for(held, q, peer);
     let mut marks = Marks::empty(alloc);
     let mut bytes = Vec::new(alloc);
-    let copy = Vec::with_capacity(alloc, most_of(q))?;
+    let Ok(copy) = Vec::with_capacity(alloc, most_of(q)) else {
+        return Err(StepError::Memory);
+    };
     match answer(held, queue, room, &mut marks, &mut bytes) {
         Ok(sent) => {
             put_done(held, &to, marks.as_slice());

@@ -1,7 +1,7 @@
 use Rattle.std.proofs.Common.{◌∙◌, sym}
 use Rattle.ca_model.specs.machine.Respond.{respond_row}
 use Rattle.ca_acts_turns.proofs.ReachLemmas.{has-turned}
-use Rattle.ca_acts_turns.proofs.respond.answer.Goals as goal
+use Rattle.ca_acts_turns.proofs.answering.answer.Goals as goal
 
 pub returns-clause-turned : goal.returns-clause-turned
 returns-clause-turned c = has-turned c.args.held.now c.args.queue c.at_mut-slot.result.now c.in-Present.q c.next_response.new.q c.next_response.new.reach
