@@ -1,5 +1,5 @@
 -- What completes where a request is posted or a queue pair is changed fits in its completion queue. For proofs only.
-use Rattle.std.proofs.Common.{◌≡◌, ◌∙◌, refl, sym, ap, subst, ℕ, Bool, true, false, List, [], ◌∷◌, Option, None, Some, IfSome, if◌then◌else◌, true≢false}
+use Rattle.std.proofs.Common.{◌≡◌, ◌∙◌, refl, sym, ap, subst, ℕ, true, false, List, ◌∷◌, Option, None, Some, IfSome}
 use Rattle.std.specs.List.{AllByRecursion}
 use Rattle.std.specs.Option.{option_map}
 use Rattle.ca_acts.specs.Room.{FitIn}
@@ -10,8 +10,6 @@ use Rattle.ca_acts_queues.specs.Posting.{FitsReceive, FitsSend, with_receive}
 use Rattle.ca_adapter.proofs.ReadyLemmas.{needs_held, verb_named}
 use Rattle.ca_adapter.specs.Ready.{ArePartsOfWorld, IsReady}
 use Rattle.ca_base.specs.Configuration.{Configuration}
-use Rattle.ca_base.specs.declared.change.Change.{Change}
-use Rattle.ca_base.specs.declared.change.Change.TheVariants as changes
 use Rattle.ca_base.specs.declared.completion.Completion.{Completion}
 use Rattle.ca_base.specs.declared.request.RecvRequest.{RecvRequest}
 use Rattle.ca_base.specs.declared.request.SendOp.{SendOp}
@@ -19,31 +17,25 @@ use Rattle.ca_base.specs.declared.request.SendOp.TheVariants as ops
 use Rattle.ca_base.specs.declared.request.SendRequest.{SendRequest}
 use Rattle.ca_base.specs.objects.CompletionQueue.{CompletionQueue, after_puts}
 use Rattle.ca_base.specs.objects.QueuePair.{NoQueue, Present, QueuePair, QueueSlot, queue_in, recv_cq_of, send_cq_of}
-use Rattle.ca_base.specs.objects.StateTable.{modify_refusals}
 use Rattle.ca_held.specs.declared.held.Held.{Held}
 use Rattle.ca_held.specs.HeldView.{holding}
-use Rattle.ca_keys.specs.Equal.{slot_eq}
 use Rattle.ca_keys.specs.declared.names.Slot.{Slot}
 use Rattle.ca_keys.specs.Numbers.{queue_of}
 use Rattle.ca_keys.specs.Refusals.{first_of}
 use Rattle.ca_laws_room.proofs.EventRoomLemmas.{together-fit}
 use Rattle.ca_laws_room.specs.Room.{HasRoom}
-use Rattle.ca_model.proofs.RestLemmas.{put-leaves}
-use Rattle.ca_model.proofs.ThingLemmas.{put-there, slot-path}
+use Rattle.ca_model.proofs.ThingLemmas.{put-there}
 use Rattle.ca_model.specs.declared.event.Event.{Event}
 use Rattle.ca_model.specs.declared.event.Event.TheVariants as events
 use Rattle.ca_model.specs.declared.mark.Mark.{Mark}
 use Rattle.ca_model.specs.declared.part_name.PartName.TheVariants as names
-use Rattle.ca_model.specs.declared.verb.Verb.{Verb}
 use Rattle.ca_model.specs.declared.verb.Verb.TheVariants as verbs
 use Rattle.ca_model.specs.machine.Around.{completions_to}
-use Rattle.ca_model.specs.machine.Completions.{flush_marks}
-use Rattle.ca_model.specs.machine.Parts.{Enough, Needs, Part, drawing_needs, emptying_needs, listed, part, present_needs}
-use Rattle.ca_model.specs.machine.Plan.{Did, perform, put_all}
-use Rattle.ca_model.specs.machine.PostingVerbs.{after_flush, marks_of_flush, post_recv_refusals, post_send_refusals, with_send}
+use Rattle.ca_model.specs.machine.Parts.{Enough, Needs, Part, drawing_needs, listed, part}
+use Rattle.ca_model.specs.machine.Plan.{Did, perform}
+use Rattle.ca_model.specs.machine.PostingVerbs.{marks_of_flush, post_recv_refusals, post_send_refusals, with_send}
 use Rattle.ca_model.specs.machine.Sound.{AreLimited, CanBeMade, IsSoundWorld}
 use Rattle.ca_model.specs.machine.Step.{is_named, step}
-use Rattle.ca_model.specs.machine.VerbAnswers.{Call}
 use Rattle.ca_model.specs.machine.World.{World, Cq_of, Queue_of, Window_of, put}
 
 -- what an event puts into a completion queue fits there

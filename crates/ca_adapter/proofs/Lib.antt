@@ -2,3 +2,4 @@ pub mod WorldLemmas
 pub mod ReadyLemmas
 mod PollLemmas
 mod FitLemmas
+mod TurnLemmas

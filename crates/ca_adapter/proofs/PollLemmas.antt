@@ -1,5 +1,5 @@
 -- What a poll asks of the parts in hand, from what its caller shows of them. For proofs only.
-use Rattle.std.proofs.Common.{◌≡◌, ◌==◌, refl, sym, ap, subst, ℕ, suc, ◌<◌, ◌^◌, Bool, true, false, List, [], ◌∷◌, Option, None, Some, IfSome, is_some, if◌then◌else◌, true≢false}
+use Rattle.std.proofs.Common.{◌≡◌, refl, sym, ℕ, suc, ◌<◌, ◌^◌, Bool, true, false, List, [], ◌∷◌, Option, None, Some, IfSome, is_some, if◌then◌else◌, true≢false}
 use Rattle.std.specs.List.{AllByRecursion}
 use Rattle.ca_acts_queues.specs.Polling.{AreApart, AreOfOwnPlaces, CanFreeEach, CanFreeOf, CanRetire, IsApart, shared_at}
 use Rattle.ca_adapter.proofs.WorldLemmas.{cq-is, queue-is, srq-is}
@@ -8,7 +8,7 @@ use Rattle.ca_base.specs.Configuration.{Configuration}
 use Rattle.ca_base.specs.declared.completion.Completion.{Completion}
 use Rattle.ca_base.specs.declared.request.RecvRequest.{RecvRequest}
 use Rattle.ca_base.specs.objects.CompletionQueue.{CompletionQueue, source_in}
-use Rattle.ca_base.specs.objects.QueuePair.{NoQueue, Present, QueuePair, QueueSlot, queue_in}
+use Rattle.ca_base.specs.objects.QueuePair.{NoQueue, Present, QueueSlot, queue_in}
 use Rattle.ca_base.specs.objects.SharedReceives.{SharedReceives}
 use Rattle.ca_base.specs.objects.WorkQueue.{WorkQueue}
 use Rattle.ca_held.specs.declared.held.Held.{Held}

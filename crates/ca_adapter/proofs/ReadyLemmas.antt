@@ -1,9 +1,9 @@
 -- What each act of a verb asks of the parts in hand, from what its caller shows of them. For proofs only.
-use Rattle.std.proofs.Common.{Result, ◌≡◌, ◌∙◌, refl, sym, ap, subst, ℕ, suc, zero, ◌<◌, ◌-◌, ◌^◌, ◌&&◌, nat_lt, arith, Bool, true, false, List, [], ◌∷◌, length, Option, None, Some, IfSome, is_some, if◌then◌else◌, slice_get, true≢false}
+use Rattle.std.proofs.Common.{Result, ◌≡◌, ◌∙◌, refl, sym, ap, subst, ℕ, suc, zero, ◌<◌, ◌-◌, ◌^◌, ◌&&◌, nat_lt, arith, Bool, true, false, List, [], ◌∷◌, Option, None, Some, IfSome, if◌then◌else◌, slice_get, true≢false}
 use Rattle.std.proofs.lemmas.Bool.{and_parts, ltb-true}
 use Rattle.std.specs.List.{AllByRecursion}
 use Rattle.std.specs.Option.{option_map, option_map_or}
-use Rattle.ca_acts.specs.Act.{Acts, IsAct, Suffices}
+use Rattle.ca_acts.specs.Act.{Acts, Suffices}
 use Rattle.ca_acts_laws.proofs.StepLemmas.{act-steps}
 use Rattle.ca_acts_laws.specs.Steps.{IsStepOf, Shows}
 use Rattle.ca_acts_pairs.specs.Changed.{CanChange}
@@ -13,7 +13,7 @@ use Rattle.ca_acts_pairs.specs.Names.{names_around}
 use Rattle.ca_acts_queues.specs.Drawing.{window_of_bind}
 use Rattle.ca_acts_queues.specs.Posting.{CanPostReceive, CanPostSend}
 use Rattle.ca_adapter.proofs.WorldLemmas.{cq-is, has-thing, queue-is, shown, sound-thing, within}
-use Rattle.ca_adapter.specs.Ready.{ArePartsOfWorld, IsReady, stored_plan}
+use Rattle.ca_adapter.specs.Ready.{ArePartsOfWorld, IsReady}
 use Rattle.ca_base.specs.Configuration.{Adapter, Configuration}
 use Rattle.ca_base.specs.declared.change.Change.{Change}
 use Rattle.ca_base.specs.declared.limits.TheConstants.{MAX_WINDOWS}
@@ -23,7 +23,7 @@ use Rattle.ca_base.specs.declared.request.SendRequest.{SendRequest}
 use Rattle.ca_base.specs.declared.step.StepError.{StepError}
 use Rattle.ca_base.specs.declared.reserve.Reserve.TheVariants.{Sends}
 use Rattle.ca_base.specs.objects.CompletionQueue.{CompletionQueue}
-use Rattle.ca_base.specs.objects.QueuePair.{NoQueue, Present, QueuePair, QueueSlot, incarnation_of, is_present, queue_in}
+use Rattle.ca_base.specs.objects.QueuePair.{NoQueue, Present, QueueSlot, incarnation_of, is_present, queue_in}
 use Rattle.ca_base.specs.objects.Slices.{adapter_at, has_domain, has_slot}
 use Rattle.ca_base.specs.objects.Window.{Binding, Window}
 use Rattle.ca_cq.specs.Room.{is_new_side}
@@ -50,7 +50,6 @@ use Rattle.ca_model.specs.declared.event.Event.{Event}
 use Rattle.ca_model.specs.declared.event.Event.TheVariants as events
 use Rattle.ca_model.specs.declared.verb.Verb.{Verb}
 use Rattle.ca_model.specs.declared.verb.Verb.TheVariants as verbs
-use Rattle.ca_model.specs.declared.part_name.PartName.{PartName}
 use Rattle.ca_model.specs.declared.part_name.PartName.TheVariants as names
 use Rattle.ca_model.specs.machine.CanStep.{CanStep}
 use Rattle.ca_model.specs.machine.Invariants.{IsSharedReceives}
@@ -59,10 +58,10 @@ use Rattle.ca_model.specs.machine.Parts.{Enough, Needs, Part, event_needs, liste
 use Rattle.ca_model.specs.machine.Plan.{Did, perform, touches}
 use Rattle.ca_model.specs.machine.QueuePairVerbs.{Creation, beside}
 use Rattle.ca_model.specs.machine.Row.{region_under}
-use Rattle.ca_model.specs.machine.Sound.{AreLimited, CanBeMade, IsLimitedAdapter, IsQueueOf}
+use Rattle.ca_model.specs.machine.Sound.{CanBeMade, IsLimitedAdapter, IsQueueOf}
 use Rattle.ca_model.specs.machine.Step.{has_named_slot, is_named, plan, step, verb_plan}
 use Rattle.ca_model.specs.machine.VerbAnswers.{Call, answer_mark}
-use Rattle.ca_model.specs.machine.World.{World, Name, Domain_of, Region_of, Window_of, Cq_of, Srq_of, Queue_of}
+use Rattle.ca_model.specs.machine.World.{World, Name, Domain_of, Region_of, Window_of, Srq_of, Queue_of}
 use Rattle.ca_needs.proofs.ReadyLemmas as slots
 
 -- ---- what is in hand suffices

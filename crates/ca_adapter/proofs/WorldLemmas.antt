@@ -11,7 +11,7 @@ use Rattle.ca_base.specs.objects.Region.{vacant_region}
 use Rattle.ca_base.specs.objects.SharedReceives.{SrqSlot, vacant_srq}
 use Rattle.ca_base.specs.objects.Window.{vacant_window}
 use Rattle.ca_held.specs.declared.held.Held.{Held}
-use Rattle.ca_held.specs.HeldView.{held_world, holding, is_held_name, is_held_part}
+use Rattle.ca_held.specs.HeldView.{holding}
 use Rattle.ca_held.specs.Parts.{slot_of}
 use Rattle.ca_keys.specs.declared.names.QueueId.{QueueId}
 use Rattle.ca_keys.specs.declared.names.Slot.{Slot}

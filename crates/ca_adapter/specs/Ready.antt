@@ -41,10 +41,14 @@ abbrev pub is_injection : Verb → Bool
 is_injection (verbs.Inject queue bytes) = true
 is_injection verb = false
 
--- a verb that is no Inject
-abbrev pub is_transport : Event → Bool
-is_transport (events.Verb by verb) = not (is_injection verb)
-is_transport event = false
+-- an event that takes no packet and sends none of a request: a verb that is no Inject, an answer, a timer or a wake
+abbrev pub is_acted : Event → Bool
+is_acted (events.Verb by verb) = not (is_injection verb)
+is_acted (events.Request queue lot) = false
+is_acted (events.Deliver queue index) = false
+is_acted (events.Respond queue lot) = true
+is_acted (events.Timeout queue hasten) = true
+is_acted (events.RnrWake queue) = true
 
 -- a Store of these bytes from a place on, in a buffer as it is configured
 abbrev pub stored_plan : Settings → Call → Place → List ℕ → Plan

@@ -1,27 +1,30 @@
-ghost use Rattle.std.specs.Prelude.{◌≡◌, true};
+ghost use Rattle.std.specs.Prelude.{◌≡◌, true, false};
 ghost use Rattle.ca_acts.specs.Act.{Acts};
 ghost use Rattle.ca_acts_laws.specs.Steps.{IsStepOf, Shows};
-ghost use Rattle.ca_adapter.specs.Ready.{IsReady, is_transport};
+ghost use Rattle.ca_adapter.specs.Ready.{IsReady, is_acted, is_injection};
 ghost use Rattle.ca_base.specs.Configuration.{configuration_in};
 ghost use Rattle.ca_held.specs.HeldView.{holding};
+ghost use Rattle.ca_model.specs.declared.event.Event.TheVariants as events;
 ghost use Rattle.ca_model.specs.machine.Step as machine;
 ghost use Rattle.ca_model.specs.machine.World.{World};
 
-use crate::lists::lists_fit;
+use crate::lists::verb_fits;
 use crate::verbs::act_verb;
 use ca_acts::Call;
+use ca_acts_turns::{respond, rnr_wake, timeout};
 use ca_base::{Settings, StepError};
 use ca_held::Held;
-use ca_model::{Event, Marks, Refusal};
+use ca_model::{Event, Marks, Refusal, Verb};
 use ca_needs::is_named;
 use std::alloc::Global;
 
-/// Acts an event. A verb answers `NoSuch` where one of its names is not configured; else the answer is what the act of the verb
-/// says, with its refusals in order. NotReady comes from a Poll alone. `Memory` leaves all as it was.
+/// Acts an event. A verb answers `NoSuch` where one of its names is not configured; else the answer is what the act of the
+/// verb says, with its refusals in order. A turn that is not possible answers NotReady with its first reason, and of the
+/// verbs a Poll alone does. `Memory` leaves all as it was.
 ///
-/// The caller shows that the parts in hand suffice (`IsReady`), and that the event is a verb and no Inject.
-#[tactic(auto, using(crate::proofs::ReadyLemmas::verb_unnamed, crate::proofs::ReadyLemmas::verb_named, crate::proofs::ReadyLemmas::act_stepped))]
-#[inline(never)]
+/// The caller shows that the parts in hand suffice (`IsReady`), and that the event takes no packet and sends none of a
+/// request.
+#[tactic(auto, using(crate::proofs::ReadyLemmas::act_stepped))]
 pub fn act(
     alloc: Global,
     settings: &Settings,
@@ -29,21 +32,51 @@ pub fn act(
     held: &mut Held,
 ) -> Result<Marks, StepError>
     requires ready { IsReady (configuration_in settings.now) event.now held.old }
-    requires transport { is_transport event.now ≡ true }
+    requires acted { is_acted event.now ≡ true }
     ensures act { Acts result (machine.plan (configuration_in settings.now) event.now) held.old held.new }
     ensures step { (w : World) → Shows w (holding held.old)
         → IsStepOf result (machine.step (configuration_in settings.now) w event.now) w
         (holding held.old) (holding held.new) }
 {
-    let Event::Verb { by, verb } = event else {
-        unreachable!()
-    };
-    lists_fit(event);
-    let call = Call {
-        alloc,
-        by: *by,
-        verb,
-    };
+    act_held(alloc, settings, event, held)
+}
+
+/// The same, by what the event is.
+#[tactic(auto, using(crate::proofs::TurnLemmas::turn_parts, crate::proofs::TurnLemmas::turn_steps, crate::proofs::TurnLemmas::turn_mail))]
+fn act_held(
+    alloc: Global,
+    settings: &Settings,
+    event: &Event,
+    held: &mut Held,
+) -> Result<Marks, StepError>
+    requires ready { IsReady (configuration_in settings.now) event.now held.old }
+    requires acted { is_acted event.now ≡ true }
+    ensures act { Acts result (machine.plan (configuration_in settings.now) event.now) held.old held.new }
+{
+    match event {
+        Event::Verb { by, verb } => act_call(alloc, settings, held, *by, verb),
+        Event::Respond { queue, lot } => respond(alloc, settings, held, *queue, *lot),
+        Event::Timeout { queue, hasten } => timeout(alloc, settings, held, *queue, *hasten),
+        Event::RnrWake { queue } => rnr_wake(alloc, settings, held, *queue),
+        Event::Request { .. } | Event::Deliver { .. } => unreachable!(),
+    }
+}
+
+/// A verb.
+#[tactic(auto, using(crate::proofs::ReadyLemmas::verb_unnamed, crate::proofs::ReadyLemmas::verb_named))]
+fn act_call(
+    alloc: Global,
+    settings: &Settings,
+    held: &mut Held,
+    by: u32,
+    verb: &Verb,
+) -> Result<Marks, StepError>
+    requires ready { IsReady (configuration_in settings.now) (events.Verb by verb.now) held.old }
+    requires acted { is_injection verb.now ≡ false }
+    ensures act { Acts result (machine.plan (configuration_in settings.now) (events.Verb by verb.now)) held.old held.new }
+{
+    verb_fits(verb);
+    let call = Call { alloc, by, verb };
     if !is_named(settings, verb) {
         return Ok(call.refuse(Refusal::NoSuch)?);
     }

@@ -17,7 +17,7 @@ pub fn lists_fit(event: &Event)
 }
 
 /// The same of a verb.
-fn verb_fits(verb: &Verb)
+pub(crate) fn verb_fits(verb: &Verb)
     ensures { HasFewPieces verb.now }
 {
     match verb {

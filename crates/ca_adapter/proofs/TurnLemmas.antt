@@ -1,0 +1,82 @@
+-- What the act of a turn asks of the parts in hand, from what its caller shows of them. For proofs only.
+use Rattle.std.proofs.Common.{◌≡◌, ◌∙◌, refl, sym, ap, subst, suc, ◌<◌, ◌^◌, arith, Bool, true, false, Some, IfSome, is_some, true≢false}
+use Rattle.ca_acts.specs.Act.{Suffices}
+use Rattle.ca_acts.specs.Room.{FitsDone}
+use Rattle.ca_acts_turns.specs.Shown.{AreShown}
+use Rattle.ca_adapter.proofs.ReadyLemmas.{queues_can_step, ready-suffices}
+use Rattle.ca_adapter.proofs.WorldLemmas.{shown, sound-thing, vacant-there, within}
+use Rattle.ca_adapter.specs.Ready.{ArePartsOfWorld, IsReady}
+use Rattle.ca_base.specs.Configuration.{Configuration}
+use Rattle.ca_base.specs.objects.CompletionQueue.{CompletionQueue}
+use Rattle.ca_base.specs.objects.QueuePair.{NoQueue, Present, QueueSlot, queue_in}
+use Rattle.ca_held.specs.declared.held.Held.{Held}
+use Rattle.ca_held.specs.HeldView.{holding}
+use Rattle.ca_keys.specs.declared.names.QueueId.{QueueId}
+use Rattle.ca_keys.specs.declared.names.Slot.{Slot}
+use Rattle.ca_laws_room.proofs.EventRoomLemmas.{together-fit}
+use Rattle.ca_model.proofs.FrameLemmas.{event-agrees}
+use Rattle.ca_model.specs.declared.event.Event.{Event}
+use Rattle.ca_model.specs.declared.part_name.PartName.TheVariants as names
+use Rattle.ca_model.specs.machine.CanStep.{CanStep}
+use Rattle.ca_model.specs.machine.Frame.{SameOutcomeWhere}
+use Rattle.ca_model.specs.machine.Plan.{Did, NotReady, Outcome, perform}
+use Rattle.ca_model.specs.machine.Sound.{CanBeMade, IsQueueOf}
+use Rattle.ca_model.specs.machine.Step.{plan, step}
+use Rattle.ca_model.specs.machine.World.{Cq_of, Mailbox_of, Queue_of, Region_of, Window_of}
+
+has-cq : (h : Held) (s : Slot) → (holding h).parts (names.Cq s) ≡ true → (holding h).has (Cq_of s) ≡ true
+unfolding holding
+has-cq h s held = held
+
+module _ (c : Configuration) (event : Event) (h : Held) (ready : IsReady c event h) where
+  are : ArePartsOfWorld c h
+  are = ready.parts
+
+  pub turn_suffices : Suffices h (plan c event)
+  turn_suffices = ready-suffices c event h ready
+
+  pub turn_parts : AreShown c h
+  turn_parts = record {
+    world = are.world;
+    sound = are.after.sound;
+    bound = are.after.counted;
+    outside = record { regions = λ s no. are.after.placed.vacant (Region_of s) no; windows = λ s no. are.after.placed.vacant (Window_of s) no };
+    shows = are.shows;
+  }
+
+  pub turn_steps : (q : QueueId) → IfSome (queue_in ((holding h).world.queue q)) CanStep
+  turn_steps q = queues_can_step c h are q
+
+  pub turn_named : (n : QueueId) → IfSome (queue_in ((holding h).world.queue n)) (λ q. q.queue ≡ n)
+  turn_named n = by ((holding h).world.queue n) (sound-thing c h are (Queue_of n))
+    where
+      by : (s : QueueSlot) → IsQueueOf n s → IfSome (queue_in s) (λ q. q.queue ≡ n)
+      by (NoQueue incarnation timers) of = record {}
+      by (Present q) of = of.0
+
+  pub turn_mail : (n : QueueId) → suc ((holding h).world.mailbox n).next < 2 ^ 64
+  turn_mail n = omega (arith, (within c h are (Mailbox_of n)).0, are.after.few)
+
+  -- a completion queue that is there is held
+  cq-held : (s : Slot) (q : CompletionQueue) → (holding h).world.cq s ≡ Some q → (holding h).parts (names.Cq s) ≡ true
+  cq-held s q there = by ((holding h).parts (names.Cq s)) refl
+    where
+      by : (b : Bool) → (holding h).parts (names.Cq s) ≡ b → b ≡ true
+      by true e = refl
+      by false e = absurd (true≢false (sym (ap is_some there) ∙ ap is_some (vacant-there h (Cq_of s) e)))
+
+  pub turn_fits : CanBeMade event → FitsDone (holding h).world (perform (holding h).world (plan c event))
+  turn_fits made = by (perform (holding h).world (plan c event)) (step c are.world event) refl
+      (event-agrees (holding h).has c event (holding h).world are.world (shown c h are) (ready-suffices c event h ready))
+    where
+      by : (a b : Outcome) → step c are.world event ≡ b → SameOutcomeWhere (holding h).has a b → FitsDone (holding h).world a
+      by (NotReady reason) b is same = record {}
+      by (Did v ms) (NotReady reason) is same = absurd same
+      by (Did v ms) (Did u ns) is same = λ s q put there puts.
+          let held : (holding h).parts (names.Cq s) ≡ true = cq-held s q there
+          in together-fit c event are.world u ns s q put are.after.limited are.after.sound are.after.room made is
+          (sym (same.1 (Cq_of s) (has-cq h s held)) ∙ puts)
+
+-- what is in hand is ready for the event that it is
+pub of-event : {c : Configuration} {event e : Event} {h : Held} → event ≡ e → IsReady c event h → IsReady c e h
+of-event {c} {event} {e} {h} is ready = subst (λ x. IsReady c x h) is ready
