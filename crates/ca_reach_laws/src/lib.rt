@@ -12,7 +12,7 @@ mod laws;
 
 pub use laws::{
     bytes_held_are_at_hand, end_is_the_machines, ends_held_are_at_hand, held_parts_fit,
-    held_world_is_vacant_outside, rows_held_are_at_hand, rows_leave_what_the_machine_leaves,
-    rows_perform_as_seen, sight_is_the_machines, writes_and_end_are_the_machines,
-    writes_are_the_machines,
+    held_world_is_vacant_outside, rows_held_are_at_hand, rows_held_hold_what_comes_behind,
+    rows_leave_what_the_machine_leaves, rows_perform_as_seen, sight_is_the_machines,
+    writes_and_end_are_the_machines, writes_are_the_machines, writes_held_are_at_hand,
 };
