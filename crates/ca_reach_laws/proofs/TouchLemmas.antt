@@ -1,5 +1,5 @@
 -- What a row's plan touches behind its looks: what comes behind it with the row's ending. For proofs only.
-use Rattle.std.proofs.Common.{◌≡◌, ◌∙◌, refl, sym, ap, subst, ℕ, Bool, true, false, if◌then◌else◌, List, [], ◌∷◌, map, Option, None, Some}
+use Rattle.std.proofs.Common.{◌≡◌, subst, ℕ, Bool, true, false, if◌then◌else◌, List, [], ◌∷◌, map, Option, None, Some}
 use Rattle.std.specs.Option.{option_and_then, option_map_or}
 use Rattle.ca_keys.specs.declared.access.Ask.{Ask}
 use Rattle.ca_keys.specs.declared.grant.Grant.{Grant}
@@ -11,10 +11,10 @@ use Rattle.ca_base.specs.Sight.{Invalidation, bytes_in, first_denied, runs_by_gr
 use Rattle.ca_base.specs.objects.LocalRequest.{region_refusal, unnamed_refusal, window_refusal}
 use Rattle.ca_base.specs.objects.Region.{after_region_invalidation, with_window_unbound}
 use Rattle.ca_base.specs.objects.Slices.{names_region, names_window, slot_of_key}
-use Rattle.ca_base.specs.objects.Window.{Binding, Window, without_binding}
+use Rattle.ca_base.specs.objects.Window.{Binding, without_binding}
 use Rattle.ca_model.specs.machine.Frame.{AllPass}
 use Rattle.ca_model.specs.machine.Plan.{Look, Plan, Update, Write, byte_names, touches, ◌:=◌}
-use Rattle.ca_model.specs.machine.Row.{Does, Effects, Ending, End_plan, NotPossible, Row, Row_plan, With_bytes, With_invalidation, With_writes, ending_of, first_denied_by, region_under, unless_none}
+use Rattle.ca_model.specs.machine.Row.{Does, Effects, Ending, End_plan, Row, Row_plan, With_bytes, With_invalidation, With_writes, ending_of, first_denied_by, region_under, unless_none}
 use Rattle.ca_model.specs.machine.Seen.{ending_changes, grant_in, refusal_in, row_changes, sight_in, writes_in}
 use Rattle.ca_model.specs.machine.World.{Name, Region_of, Window_of, World}
 use Rattle.ca_reach_laws.proofs.RowLemmas.{behind-pass, denied-same, grant-passes, grants-pass}

@@ -25,7 +25,8 @@ ghost use Rattle.ca_held_reach.specs.Changed.{after_end_of, after_write_by};
 ghost use Rattle.ca_held_reach.specs.Seen.{region_in, sight_of, window_in};
 ghost use Rattle.ca_reach_laws.specs.Ties.{AreWritesAtHand, IsVacantOutside, with_reached};
 
-/// Where a world that shows the parts in hand is vacant outside the configured slices, so is the small world of the parts.
+/// Where a world that shows the parts in hand is vacant outside the configured slices, so is the small world of these
+/// parts.
 pub fn held_world_is_vacant_outside()
     ensures { (c : Configuration) (h : Held) (w : World) → IsVacantOutside c w
         → ShowsHeld (holding h).parts (holding h).world w → IsVacantOutside c (holding h).world }
@@ -52,7 +53,8 @@ pub fn bytes_held_are_at_hand()
 
 /// Where all is held that the plan of a row touches, the asks of the row may be handed on.
 pub fn rows_held_are_at_hand()
-    ensures { (c : Configuration) (h : Held) (w : World) (row : Row) (finish : Effects → List Update → List Write → Plan)
+    ensures { (c : Configuration) (h : Held) (w : World) (row : Row)
+        (finish : Effects → List Update → List Write → Plan)
         → IsSoundWorld c w → IsBoundWorld w → IsVacantOutside c w → ShowsHeld (holding h).parts (holding h).world w
         → AllPass (holding h).has (touches (holding h).world (Row_plan c row finish))
         → AreAtHand sight_of CanJudge HasBytesAtHand h.reached row.asks }
@@ -61,14 +63,16 @@ pub fn rows_held_are_at_hand()
 /// Where all is held that the plan of a row touches, and the row does something, all is held that comes behind the row:
 /// what its changes and its writes touch is among it.
 pub fn rows_held_hold_what_comes_behind()
-    ensures { (c : Configuration) (h : Held) (row : Row) (finish : Effects → List Update → List Write → Plan) (e : Effects)
+    ensures { (c : Configuration) (h : Held) (row : Row)
+        (finish : Effects → List Update → List Write → Plan) (e : Effects)
         → AllPass (holding h).has (touches (holding h).world (Row_plan c row finish))
         → ending_of (sight_in c (holding h).world) row ≡ Does e
         → AllPass (holding h).has (touches (holding h).world
         (finish e (row_changes c (holding h).world row) (writes_in (sight_in c (holding h).world) e.writes))) }
 {}
 
-/// Where all bytes are held that are written, or bytes are cut for asks of which the bytes are at hand, writes are at hand.
+/// Where all bytes are held that are written, or bytes are cut for asks of which the bytes are at hand, writes are at
+/// hand.
 pub fn writes_held_are_at_hand()
     ensures held { (h : Held) (writes : List (Ask × List ℕ))
         → AllPass (holding h).has (names_written (writes_in (sight_of h.reached) writes))
