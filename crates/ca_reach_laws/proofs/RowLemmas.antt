@@ -36,16 +36,16 @@ use Rattle.ca_reach_laws.proofs.FitLemmas.{bytes-at-hand, parts-fit}
 use Rattle.ca_reach_laws.proofs.LeftLemmas.{both-held, writes-held}
 use Rattle.ca_reach_laws.proofs.SightLemmas.{sights-agree, vacant-outside}
 
-front-pass : (test : Name → Bool) (xs ys : List Name) → AllPass test (xs ++ ys) → AllPass test xs
+pub front-pass : (test : Name → Bool) (xs ys : List Name) → AllPass test (xs ++ ys) → AllPass test xs
 front-pass test [] ys all = tt
 front-pass test (x ∷ xs) ys all = (all.0, front-pass test xs ys all.1)
 
-behind-pass : (test : Name → Bool) (xs ys : List Name) → AllPass test (xs ++ ys) → AllPass test ys
+pub behind-pass : (test : Name → Bool) (xs ys : List Name) → AllPass test (xs ++ ys) → AllPass test ys
 behind-pass test [] ys all = all
 behind-pass test (x ∷ xs) ys all = behind-pass test xs ys all.1
 
 -- behind the looks for the grant of an ask
-grant-passes : (test : Name → Bool) (c : Configuration) (w : World) (ask : Ask) (k : Option Grant → Plan)
+pub grant-passes : (test : Name → Bool) (c : Configuration) (w : World) (ask : Ask) (k : Option Grant → Plan)
     → AllPass test (touches w (With_grant c ask k)) → AllPass test (touches w (k (grant_in c w ask)))
 grant-passes test c w ask k = by (names_region c ask.domain ask.key) (asks_window c ask)
   where
@@ -73,7 +73,7 @@ grant-passes test c w ask k = by (names_region c ask.domain ask.key) (asks_windo
     by false true all = bound (w.window slot).binding all.1
     by false false all = all
 
-grants-pass : (test : Name → Bool) (c : Configuration) (w : World) (asks : List Ask) (k : List (Option Grant) → Plan)
+pub grants-pass : (test : Name → Bool) (c : Configuration) (w : World) (asks : List Ask) (k : List (Option Grant) → Plan)
     → AllPass test (touches w (With_grants c asks k)) → AllPass test (touches w (k (map (grant_in c w) asks)))
 grants-pass test c w [] k all = all
 grants-pass test c w (ask ∷ asks) k all =
@@ -89,7 +89,7 @@ bytes-pass test c w (ask ∷ asks) k all = (
   bytes-pass test c w asks _ (behind-pass test (byte_names (runs_in (sight_in c w) ask)) _ all),
 )
 
-denied-same : (c : Configuration) (w : World) (asks : List Ask) → first_denied_by asks (map (grant_in c w) asks) ≡ first_denied (sight_in c w) asks
+pub denied-same : (c : Configuration) (w : World) (asks : List Ask) → first_denied_by asks (map (grant_in c w) asks) ≡ first_denied (sight_in c w) asks
 denied-same c w [] = refl
 denied-same c w (ask ∷ asks) = ap (or_denied ask (denial_in (sight_in c w) ask)) (denied-same c w asks)
 

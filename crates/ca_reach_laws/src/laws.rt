@@ -1,4 +1,5 @@
-ghost use Rattle.std.specs.Prelude.{◌≡◌, ℕ, List, None, IfSome};
+ghost use Rattle.std.specs.Prelude.{◌≡◌, ◌≤◌, ℕ, List, None, IfSome, length};
+ghost use Rattle.std.specs.List.{AllByRecursion};
 ghost use Rattle.ca_keys.specs.declared.access.Ask.{Ask};
 ghost use Rattle.ca_base.specs.Configuration.{Configuration};
 ghost use Rattle.ca_base.specs.Sight.{Invalidation, runs_in};
@@ -7,21 +8,25 @@ ghost use Rattle.ca_laws_windows.specs.Bindings.{IsBoundWorld};
 ghost use Rattle.ca_model.specs.machine.Frame.{AllPass};
 ghost use Rattle.ca_model.specs.machine.Held.{IsEndHeld};
 ghost use Rattle.ca_model.specs.machine.Parts.{ShowsHeld};
-ghost use Rattle.ca_model.specs.machine.Plan.{Plan, Update, Write, byte_names, perform, put_all, touches, write_all};
-ghost use Rattle.ca_model.specs.machine.Row.{Effects, Row, Row_plan, ending_of};
+ghost use Rattle.ca_model.specs.machine.Plan.{Plan, Update, Write, byte_names, names_written, perform, put_all, touches, write_all};
+ghost use Rattle.ca_model.specs.machine.Responses.{writes_by};
+ghost use Rattle.ca_model.specs.machine.Row.{Does, Effects, Row, Row_plan, ending_of};
 ghost use Rattle.ca_model.specs.machine.Seen.{ending_changes, perform_ending, row_changes, sight_in, writes_in};
 ghost use Rattle.ca_model.specs.machine.Sound.{IsSoundWorld};
 ghost use Rattle.ca_model.specs.machine.World.{World};
 ghost use Rattle.ca_operations.specs.Taking.{ended_by, without_key};
+ghost use Rattle.ca_rows.specs.Asks.{touched_by};
 ghost use Rattle.ca_rows.specs.Made.{written_all};
 ghost use Rattle.ca_held.specs.HeldView.{holding};
 ghost use Rattle.ca_held.specs.declared.held.Held.{Held};
+ghost use Rattle.ca_held_reach.specs.declared.reached.Reached.{Reached};
 ghost use Rattle.ca_held_reach.specs.AtHand.{CanEnd, CanJudge, FitTogether, HasBytesAtHand};
 ghost use Rattle.ca_held_reach.specs.Changed.{after_end_of, after_write_by};
 ghost use Rattle.ca_held_reach.specs.Seen.{region_in, sight_of, window_in};
 ghost use Rattle.ca_reach_laws.specs.Ties.{AreWritesAtHand, IsVacantOutside, with_reached};
 
-/// Where a world that shows the parts in hand is vacant outside the configured slices, so is the small world of the parts.
+/// Where a world that shows the parts in hand is vacant outside the configured slices, so is the small world of these
+/// parts.
 pub fn held_world_is_vacant_outside()
     ensures { (c : Configuration) (h : Held) (w : World) → IsVacantOutside c w
         → ShowsHeld (holding h).parts (holding h).world w → IsVacantOutside c (holding h).world }
@@ -48,10 +53,32 @@ pub fn bytes_held_are_at_hand()
 
 /// Where all is held that the plan of a row touches, the asks of the row may be handed on.
 pub fn rows_held_are_at_hand()
-    ensures { (c : Configuration) (h : Held) (w : World) (row : Row) (finish : Effects → List Update → List Write → Plan)
+    ensures { (c : Configuration) (h : Held) (w : World) (row : Row)
+        (finish : Effects → List Update → List Write → Plan)
         → IsSoundWorld c w → IsBoundWorld w → IsVacantOutside c w → ShowsHeld (holding h).parts (holding h).world w
         → AllPass (holding h).has (touches (holding h).world (Row_plan c row finish))
         → AreAtHand sight_of CanJudge HasBytesAtHand h.reached row.asks }
+{}
+
+/// Where all is held that the plan of a row touches, and the row does something, all is held that comes behind the row:
+/// what its changes and its writes touch is among it.
+pub fn rows_held_hold_what_comes_behind()
+    ensures { (c : Configuration) (h : Held) (row : Row)
+        (finish : Effects → List Update → List Write → Plan) (e : Effects)
+        → AllPass (holding h).has (touches (holding h).world (Row_plan c row finish))
+        → ending_of (sight_in c (holding h).world) row ≡ Does e
+        → AllPass (holding h).has (touches (holding h).world
+        (finish e (row_changes c (holding h).world row) (writes_in (sight_in c (holding h).world) e.writes))) }
+{}
+
+/// Where all bytes are held that are written, or bytes are cut for asks of which the bytes are at hand, writes are at
+/// hand.
+pub fn writes_held_are_at_hand()
+    ensures held { (h : Held) (writes : List (Ask × List ℕ))
+        → AllPass (holding h).has (names_written (writes_in (sight_of h.reached) writes))
+        → AllByRecursion (λ x. length x.1 ≡ x.0.touch) writes → AreWritesAtHand h.reached writes }
+    ensures cut { (r : Reached) (asks : List Ask) (bytes : List ℕ) → AllByRecursion (HasBytesAtHand r) asks
+        → touched_by asks ≤ length bytes → AreWritesAtHand r (writes_by asks bytes) }
 {}
 
 /// The plan of a row does in the small world of the parts in hand what the row does by what is seen of them.
