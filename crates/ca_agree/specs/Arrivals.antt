@@ -7,8 +7,8 @@ use Rattle.ca_model.specs.Past.{Past, each_entry, opening_past}
 use Rattle.ca_model.specs.declared.mark.Mark.{Mark}
 use Rattle.ca_model.specs.declared.mark.Mark.TheVariants as marks
 
--- a packet that arrives by an index is among the latest that were sent, not lost, and its queue pair was neither reset nor
--- destroyed since; one without an index is injected by its event
+-- a packet that arrives by an index is among the latest that were sent, not lost, and its queue pair was neither
+-- reset nor destroyed since; one without an index is injected by its event
 abbrev pub arrives_as_sent : Past → Mark → Bool
 arrives_as_sent past (marks.Arrived target index) = has_arrived past target index
 arrives_as_sent past mark = true
