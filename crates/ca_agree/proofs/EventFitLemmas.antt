@@ -1,14 +1,14 @@
 -- The marks of every event fit it, and what the machine runs is a history. For proofs only.
-use Rattle.std.proofs.Common.{◌≡◌, ℕ, suc, Bool, true, false, List, [], ◌∷◌, map, Ok, Err, subst, ap, true≢false}
+use Rattle.std.proofs.Common.{refl, ◌≡◌, ℕ, suc, Bool, true, false, List, [], ◌∷◌, map, Ok, Err, subst, ap, true≢false}
 use Rattle.ca_agree.specs.Runs.{AreStamped, Comes, Leads}
-use Rattle.ca_agree.proofs.FitLemmas.{Silent_turns, Turns, fits-deliver, fits-request, fits-respond, fits-timeout, fits-wake, plain}
+use Rattle.ca_agree.proofs.InnerLemmas.{own-inner}
+use Rattle.ca_agree.proofs.FitLemmas.{Own_turns, Silent_turns, Turns, fits-deliver, fits-request, fits-respond, fits-timeout, fits-wake, plain}
 use Rattle.ca_agree.proofs.LeadsLemmas.{comes, leads-weaker}
-use Rattle.ca_agree.proofs.VerbFitLemmas.{Answers, AreAnswered, fits-refused, fits-verb}
+use Rattle.ca_agree.proofs.VerbFitLemmas.{Answers, AreAnswered, fits-verb}
 use Rattle.ca_base.specs.Configuration.{Configuration}
 use Rattle.ca_keys.specs.Memory.{ByteMap}
 use Rattle.ca_model.specs.Entries.{EntryValue}
 use Rattle.ca_model.specs.History.{FitTheEvent, IsHistory, IsHistoryFrom}
-use Rattle.ca_model.specs.declared.answer.Refusal.TheVariants.{NoSuch}
 use Rattle.ca_model.specs.declared.event.Event.{Event}
 use Rattle.ca_model.specs.declared.event.Event.TheVariants as events
 use Rattle.ca_model.specs.declared.mark.Mark.{Mark}
@@ -27,7 +27,7 @@ answered-fits call (m ∷ ms) answered = (answered.0, plain ms answered.1)
 
 -- the marks of a verb's event
 pub verb-answered : (c : Configuration) (w : World) (by : ℕ) (verb : Verb) → Leads w (Answers (record { by = by; verb = verb })) (plan c (events.Verb by verb))
-verb-answered c w by verb = (λ named. fits-verb c w (record { by = by; verb = verb }) verb, λ none. fits-refused w (record { by = by; verb = verb }) NoSuch)
+verb-answered c w by verb = (λ named. fits-verb c w (record { by = by; verb = verb }) verb, λ none. ((refl, refl), record {}))
 
 fits-event : (c : Configuration) (w : World) (event : Event) → Leads w (λ v ms. FitTheEvent event ms) (plan c event)
 fits-event c w (events.Verb by verb) = leads-weaker w (Answers call) (λ v ms. FitTheEvent (events.Verb by verb) ms) (plan c (events.Verb by verb)) (λ v ms. answered-fits call ms) (verb-answered c w by verb)
@@ -37,8 +37,8 @@ fits-event c w (events.Verb by verb) = leads-weaker w (Answers call) (λ v ms. F
 fits-event c w (events.Request queue lot) = fits-request c w queue lot
 fits-event c w (events.Deliver queue index) = leads-weaker w Silent_turns Turns (deliver_plan c queue index) (λ v ms. plain ms) (fits-deliver c w queue index)
 fits-event c w (events.Respond queue lot) = fits-respond c w queue lot
-fits-event c w (events.Timeout queue hasten) = leads-weaker w Silent_turns Turns (timeout_plan c queue hasten) (λ v ms. plain ms) (fits-timeout c w queue hasten)
-fits-event c w (events.RnrWake queue) = leads-weaker w Silent_turns Turns (wake_plan c queue) (λ v ms. plain ms) (fits-wake c w queue)
+fits-event c w (events.Timeout queue hasten) = leads-weaker w Own_turns Turns (timeout_plan c queue hasten) (λ v ms own. plain ms (own-inner ms own)) (fits-timeout c w queue hasten)
+fits-event c w (events.RnrWake queue) = leads-weaker w Own_turns Turns (wake_plan c queue) (λ v ms own. plain ms (own-inner ms own)) (fits-wake c w queue)
 
 pub event-fits : (c : Configuration) (event : Event) (w : World) → Comes (λ v ms. FitTheEvent event ms) (step c w event)
 event-fits c event w = comes w (λ v ms. FitTheEvent event ms) (plan c event) (fits-event c w event)

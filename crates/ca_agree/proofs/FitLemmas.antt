@@ -2,7 +2,7 @@
 use Rattle.std.proofs.Common.{ℕ, ◌&&◌, Bool, true, false, if◌then◌else◌, List, [], ◌∷◌, ◌++◌, Option, None, Some, rules}
 use Rattle.std.specs.Option.{option_map_or}
 use Rattle.ca_agree.specs.Runs.{Leads}
-use Rattle.ca_agree.proofs.InnerLemmas.{AreInner, IsInner, IsInnerMark, arrival-inner, packet-inner, respond-inner, timeout-inner}
+use Rattle.ca_agree.proofs.InnerLemmas.{AreOwn, own-inner, AreInner, IsInner, IsInnerMark, arrival-inner, packet-inner, respond-inner, timeout-inner}
 use Rattle.ca_agree.proofs.LeadsLemmas.{leads-around, leads-queue, leads-row, leads-unless}
 use Rattle.ca_agree.proofs.PerformLemmas.{leads-perform}
 use Rattle.ca_base.specs.Configuration.{Configuration}
@@ -35,6 +35,10 @@ Turns v ms = ArePlain ms
 -- the same of a turn that sends nothing
 abbrev pub Silent_turns : World → List Mark → Type 0
 Silent_turns v ms = AreInner ms
+
+-- and no packet arrives
+abbrev pub Own_turns : World → List Mark → Type 0
+Own_turns v ms = AreOwn ms
 
 plain-mark : (m : Mark) → IsInnerMark m → IsPlain m
 plain-mark (marks.Verb by verb answer) inner = inner
@@ -86,7 +90,7 @@ fits-left : (c : Configuration) (w : World) (q : QueuePair) (peer : Corresponden
     → Leads w Turns (Row_plan c row (Leave_plan q (around_in w q (shared_of w q)) peer (w.mailbox peer.queue) lot))
 fits-left c w q peer lot row does =
     leads-row c w Turns (IsInner q) row (Leave_plan q (around_in w q (shared_of w q)) peer (w.mailbox peer.queue) lot) does
-    (λ e cs ws inner aside. plain-append e.marks (option_map_or (sent_marks q peer (w.mailbox peer.queue) lot) (packet_sent e) []) (plain e.marks inner.marks)
+    (λ e cs ws inner aside. plain-append e.marks (option_map_or (sent_marks q peer (w.mailbox peer.queue) lot) (packet_sent e) []) (plain e.marks (own-inner e.marks inner.marks))
     (sent-plain q peer (w.mailbox peer.queue) lot e))
 
 pub fits-request : (c : Configuration) (w : World) (name : QueueId) (lot : Lot) → Leads w Turns (request_plan c name lot)
@@ -96,7 +100,7 @@ fits-request c w name lot = leads-queue c w Turns name reasons.State (λ q. With
     by : (q : QueuePair) (peer : Option Correspondent) (turn : RequestTurn) → Leads w Turns (Request_around c lot q (around_in w q (shared_of w q)) peer turn)
     by q peer (Waits reason) = record {}
     by q peer (Performs n) = leads-perform c w Turns q n (λ e changes writes. Finish (updates_of q (around_in w q (shared_of w q)) e ++ changes) writes e.marks) n.request.op
-        (λ e cs ws inner aside. plain e.marks inner.marks)
+        (λ e cs ws inner aside. plain e.marks (own-inner e.marks inner.marks))
     by q None (Sends n) = record {}
     by q (Some peer) (Sends n) = fits-left c w q peer lot (packet_row q (has_room_for q peer (w.mailbox peer.queue)) n) (packet-inner q (has_room_for q peer (w.mailbox peer.queue)) n)
 
@@ -108,23 +112,23 @@ fits-respond c w name lot = leads-queue c w Turns name reasons.State (λ q. With
     by q None = leads-unless w Turns (respond_refusals true q) Stuck (Stuck reasons.Empty) (λ r. record {}) (record {})
     by q (Some peer) = fits-left c w q peer lot (respond_row (has_room_for q peer (w.mailbox peer.queue)) q) (respond-inner (has_room_for q peer (w.mailbox peer.queue)) q)
 
-pub fits-timeout : (c : Configuration) (w : World) (name : QueueId) (hasten : Bool) → Leads w Silent_turns (timeout_plan c name hasten)
+pub fits-timeout : (c : Configuration) (w : World) (name : QueueId) (hasten : Bool) → Leads w Own_turns (timeout_plan c name hasten)
 fits-timeout c w name hasten =
-    leads-queue c w Silent_turns name reasons.State (λ q. Look (Mailbox_of name) (λ own. With_around q (λ a. Timeout_around hasten q own a q.peer)))
-    (λ q is. leads-around w Silent_turns q (λ a. Timeout_around hasten q (w.mailbox name) a q.peer) (by q q.peer))
+    leads-queue c w Own_turns name reasons.State (λ q. Look (Mailbox_of name) (λ own. With_around q (λ a. Timeout_around hasten q own a q.peer)))
+    (λ q is. leads-around w Own_turns q (λ a. Timeout_around hasten q (w.mailbox name) a q.peer) (by q q.peer))
   where
-    fire : (q : QueuePair) (silent : Bool) → Leads w Silent_turns (Fire hasten q (around_in w q (shared_of w q)) silent)
-    fire q silent = leads-unless w Silent_turns (timeout_refusals silent hasten q) Stuck
+    fire : (q : QueuePair) (silent : Bool) → Leads w Own_turns (Fire hasten q (around_in w q (shared_of w q)) silent)
+    fire q silent = leads-unless w Own_turns (timeout_refusals silent hasten q) Stuck
         (Finish (updates_of q (around_in w q (shared_of w q)) (after_timeout silent q)) [] (after_timeout silent q).marks) (λ r. record {})
         (timeout-inner q silent).marks
 
-    by : (q : QueuePair) (peer : Option Correspondent) → Leads w Silent_turns (Timeout_around hasten q (w.mailbox name) (around_in w q (shared_of w q)) peer)
-    by q None = leads-unless w Silent_turns (timeout_refusals false hasten q) Stuck (Stuck reasons.Empty) (λ r. record {}) (record {})
+    by : (q : QueuePair) (peer : Option Correspondent) → Leads w Own_turns (Timeout_around hasten q (w.mailbox name) (around_in w q (shared_of w q)) peer)
+    by q None = leads-unless w Own_turns (timeout_refusals false hasten q) Stuck (Stuck reasons.Empty) (λ r. record {}) (record {})
     by q (Some peer) = fire q _
 
 -- a packet that arrives, behind marks that come first
 pub fits-arrive : (c : Configuration) (w : World) (P : World → List Mark → Type 0) (q : QueuePair) (bytes : List ℕ) (envelope : Option ℕ) (pre : List Update) (ms : List Mark)
-    → ((v : World) (ns : List Mark) → AreInner ns → P v (ms ++ marks.Arrived q.queue envelope ∷ ns)) → Leads w P (Arrive c q bytes envelope pre ms)
+    → ((v : World) (ns : List Mark) → AreOwn ns → P v (ms ++ marks.Arrived q.queue envelope ∷ ns)) → Leads w P (Arrive c q bytes envelope pre ms)
 fits-arrive c w P q bytes envelope pre ms more =
     leads-around w P q (λ a. Row_plan c (arrival_row bytes envelope (shared_in a) q) (finish a))
     (leads-row c w P (IsInner q) (arrival_row bytes envelope (shared_in a) q) (finish a) (arrival-inner bytes envelope (shared_in a) q)
@@ -152,14 +156,14 @@ fits-deliver c w name index = (λ has. lent (bytes_lent index (w.mailbox name)),
 
     there : (bytes : List ℕ) (s : QueueSlot) → Leads w Silent_turns (at bytes s)
     there bytes (NoQueue incarnation timers) = record {}
-    there bytes (Present q) = fits-arrive c w Silent_turns q bytes (Some index) ((Mailbox_of name := after_delivery index m) ∷ []) [] (λ v ns inner. (record {}, inner))
+    there bytes (Present q) = fits-arrive c w Silent_turns q bytes (Some index) ((Mailbox_of name := after_delivery index m) ∷ []) [] (λ v ns own. (record {}, own-inner ns own))
 
     lent : (o : Option (List ℕ)) → Leads w Silent_turns (under_way o)
     lent None = record {}
     lent (Some bytes) = there bytes (w.queue name)
 
-pub fits-wake : (c : Configuration) (w : World) (name : QueueId) → Leads w Silent_turns (wake_plan c name)
-fits-wake c w name = leads-queue c w Silent_turns name reasons.State (λ q. waking q q.peer) (λ q is. by q q.peer)
+pub fits-wake : (c : Configuration) (w : World) (name : QueueId) → Leads w Own_turns (wake_plan c name)
+fits-wake c w name = leads-queue c w Own_turns name reasons.State (λ q. waking q q.peer) (λ q is. by q q.peer)
   where
     wakes : QueuePair → Bool → Plan
     wakes q empty = unless_refused (wake_refusals empty q) Stuck (Finish ((Queue_of q.queue := Present (after_wake q).queue) ∷ []) [] (after_wake q).marks)
@@ -169,13 +173,13 @@ fits-wake c w name = leads-queue c w Silent_turns name reasons.State (λ q. waki
     waking q (Some peer) = Look (Queue_of peer.queue) (λ slot. Look (Mailbox_of peer.queue) (λ m.
         With_receives slot (λ empty. wakes q (reaches_peer q peer m && empty))))
 
-    wake : (q : QueuePair) (empty : Bool) → Leads w Silent_turns (wakes q empty)
-    wake q empty = leads-unless w Silent_turns (wake_refusals empty q) Stuck (Finish ((Queue_of q.queue := Present (after_wake q).queue) ∷ []) [] (after_wake q).marks)
+    wake : (q : QueuePair) (empty : Bool) → Leads w Own_turns (wakes q empty)
+    wake q empty = leads-unless w Own_turns (wake_refusals empty q) Stuck (Finish ((Queue_of q.queue := Present (after_wake q).queue) ∷ []) [] (after_wake q).marks)
         (λ r. record {}) (record {})
 
-    receives : (slot : QueueSlot) (k : Bool → Plan) → ((b : Bool) → Leads w Silent_turns (k b)) → Leads w Silent_turns (With_receives slot k)
+    receives : (slot : QueueSlot) (k : Bool → Plan) → ((b : Bool) → Leads w Own_turns (k b)) → Leads w Own_turns (With_receives slot k)
     receives slot k more = search rules
 
-    by : (q : QueuePair) (peer : Option Correspondent) → Leads w Silent_turns (waking q peer)
-    by q None = leads-unless w Silent_turns (wake_refusals false q) Stuck (Stuck reasons.Empty) (λ r. record {}) (record {})
+    by : (q : QueuePair) (peer : Option Correspondent) → Leads w Own_turns (waking q peer)
+    by q None = leads-unless w Own_turns (wake_refusals false q) Stuck (Stuck reasons.Empty) (λ r. record {}) (record {})
     by q (Some peer) = receives (w.queue peer.queue) (λ empty. wakes q (reaches_peer q peer (w.mailbox peer.queue) && empty)) (λ empty. wake q _)

@@ -6,14 +6,14 @@ use Rattle.ca_agree.specs.Runs.{Comes, Leads}
 use Rattle.ca_agree.specs.Indices.{HaveTheirIndices, has_its_index}
 use Rattle.ca_model.specs.Carried.{has_path, index_to}
 use Rattle.std.proofs.lemmas.Bool.Decides.{nat_tests}
-use Rattle.ca_agree.proofs.InnerLemmas.{AreInner, IsInner, IsInnerMark, packet-inner, respond-inner}
+use Rattle.ca_agree.proofs.InnerLemmas.{own-inner, AreInner, IsInner, IsInnerMark, packet-inner, respond-inner}
 use Rattle.ca_agree.proofs.LeadsLemmas.{comes, leads-weaker, leads-around, leads-queue, leads-row, leads-unless}
 use Rattle.ca_agree.proofs.PathLemmas.{agree-kept, begin-same, inner-past, same-world}
 use Rattle.ca_agree.proofs.PerformLemmas.{leads-perform}
 use Rattle.ca_agree.proofs.PathTurnLemmas.{found}
 use Rattle.ca_agree.proofs.PathEventLemmas.{event-agrees, opening-agrees}
 use Rattle.ca_agree.proofs.EventFitLemmas.{first-marks, verb-answered}
-use Rattle.ca_agree.proofs.FitLemmas.{Silent_turns, fits-deliver, fits-timeout, fits-wake}
+use Rattle.ca_agree.proofs.FitLemmas.{Own_turns, Silent_turns, fits-deliver, fits-timeout, fits-wake}
 use Rattle.ca_agree.proofs.VerbFitLemmas.{Answers, AreAnswered}
 use Rattle.ca_laws_sound.proofs.SoundLemmas.{event-sound, opening-sound}
 use Rattle.ca_keys.specs.Memory.{ByteMap}
@@ -147,9 +147,9 @@ indexed-left : (c : Configuration) (past : Past) (event : Event) (w : World) (q 
     → q.peer ≡ Some peer → RowDoes (IsInner q) row → Leads w (Indexed past event) (Row_plan c row (Leave_plan q (around_in w q (shared_of w q)) peer (w.mailbox peer.queue) lot))
 indexed-left c past event w q peer lot row agree is names does =
     leads-row c w (Indexed past event) (IsInner q) row (Leave_plan q (around_in w q (shared_of w q)) peer (w.mailbox peer.queue) lot) does
-    (λ e cs ws inner aside. behind-inner e.marks (option_map_or (sent_marks q peer (w.mailbox peer.queue) lot) (packet_sent e) []) (at_begin event past) inner.marks
+    (λ e cs ws inner aside. behind-inner e.marks (option_map_or (sent_marks q peer (w.mailbox peer.queue) lot) (packet_sent e) []) (at_begin event past) (own-inner e.marks inner.marks)
     (sent-indexed (after_marks e.marks (at_begin event past)) w q peer lot e
-    (agree-kept past (after_marks e.marks (at_begin event past)) w w (inner-past e.marks inner.marks past (at_begin event past) (begin-same past event)) (same-world w) agree) is names))
+    (agree-kept past (after_marks e.marks (at_begin event past)) w w (inner-past e.marks (own-inner e.marks inner.marks) past (at_begin event past) (begin-same past event)) (same-world w) agree) is names))
 
 indexed-request : (c : Configuration) (past : Past) (event : Event) (w : World) (name : QueueId) (lot : Lot) → IsSoundWorld c w → PathsAgree past w → Leads w (Indexed past event) (request_plan c name lot)
 indexed-request c past event w name lot sound agree = leads-queue c w (Indexed past event) name reasons.State (λ q. With_around q (λ a. Request_around c lot q a q.peer (turn_of q)))
@@ -159,7 +159,7 @@ indexed-request c past event w name lot sound agree = leads-queue c w (Indexed p
         → Leads w (Indexed past event) (Request_around c lot q (around_in w q (shared_of w q)) peer turn)
     by q is peer names (Waits reason) = record {}
     by q is peer names (Performs n) = leads-perform c w (Indexed past event) q n (λ e changes writes. Finish (updates_of q (around_in w q (shared_of w q)) e ++ changes) writes e.marks) n.request.op
-        (λ e cs ws inner aside. inner-indexed e.marks (at_begin event past) inner.marks)
+        (λ e cs ws inner aside. inner-indexed e.marks (at_begin event past) (own-inner e.marks inner.marks))
     by q is None names (Sends n) = record {}
     by q is (Some peer) names (Sends n) = indexed-left c past event w q peer lot (packet_row q (has_room_for q peer (w.mailbox peer.queue)) n) agree is names
         (packet-inner q (has_room_for q peer (w.mailbox peer.queue)) n)
@@ -192,6 +192,10 @@ answered-indexed call p (marks.Done queue x cause ∷ ms) answered = absurd answ
 silent-indexed : (past : Past) (event : Event) (w : World) (p : Plan) → Leads w Silent_turns p → Leads w (Indexed past event) p
 silent-indexed past event w p leads = leads-weaker w Silent_turns (Indexed past event) p (λ v ms inner. inner-indexed ms (at_begin event past) inner) leads
 
+-- marks of rows are silent
+own-silent : (w : World) (p : Plan) → Leads w Own_turns p → Leads w Silent_turns p
+own-silent w p leads = leads-weaker w Own_turns Silent_turns p (λ v ms. own-inner ms) leads
+
 indexed-event : (c : Configuration) (past : Past) (w : World) (event : Event) → IsSoundWorld c w → PathsAgree past w → Leads w (Indexed past event) (plan c event)
 indexed-event c past w (events.Verb by verb) sound agree = leads-weaker w (Answers call) (Indexed past (events.Verb by verb)) (plan c (events.Verb by verb))
     (λ v ms answered. answered-indexed call (at_begin (events.Verb by verb) past) ms answered) (verb-answered c w by verb)
@@ -201,8 +205,8 @@ indexed-event c past w (events.Verb by verb) sound agree = leads-weaker w (Answe
 indexed-event c past w (events.Request queue lot) sound agree = indexed-request c past (events.Request queue lot) w queue lot sound agree
 indexed-event c past w (events.Respond queue lot) sound agree = indexed-respond c past (events.Respond queue lot) w queue lot sound agree
 indexed-event c past w (events.Deliver queue index) sound agree = silent-indexed past (events.Deliver queue index) w (deliver_plan c queue index) (fits-deliver c w queue index)
-indexed-event c past w (events.Timeout queue hasten) sound agree = silent-indexed past (events.Timeout queue hasten) w (timeout_plan c queue hasten) (fits-timeout c w queue hasten)
-indexed-event c past w (events.RnrWake queue) sound agree = silent-indexed past (events.RnrWake queue) w (wake_plan c queue) (fits-wake c w queue)
+indexed-event c past w (events.Timeout queue hasten) sound agree = silent-indexed past (events.Timeout queue hasten) w (timeout_plan c queue hasten) (own-silent w (timeout_plan c queue hasten) (fits-timeout c w queue hasten))
+indexed-event c past w (events.RnrWake queue) sound agree = silent-indexed past (events.RnrWake queue) w (wake_plan c queue) (own-silent w (wake_plan c queue) (fits-wake c w queue))
 
 event-indexed : (c : Configuration) (past : Past) (w : World) (event : Event) → IsSoundWorld c w → PathsAgree past w → Comes (λ v ms. each_mark has_its_index (at_begin event past) ms ≡ true) (step c w event)
 event-indexed c past w event sound agree = comes w (Indexed past event) (plan c event) (indexed-event c past w event sound agree)

@@ -81,7 +81,7 @@ use Rattle.ca_model.specs.machine.Requester.{local_reads}
 use Rattle.ca_model.specs.machine.Timers.{after_timeout}
 use Rattle.ca_laws_sound.proofs.WorldLemmas.{EndingDoes, RowDoes}
 
--- a mark of a row: no answer, no packet that is sent or lost, and a completion of the queue pair that it names
+-- a mark of an event: no answer, no packet that is sent or lost, and a completion of the queue pair that it names
 abbrev pub IsInnerMark : Mark → Type 0
 IsInnerMark (marks.Verb by verb answer) = ⊥
 IsInnerMark (marks.Sent source target index request bytes) = ⊥
@@ -93,13 +93,40 @@ abbrev pub AreInner : List Mark → Type 0
 AreInner [] = Unit {0}
 AreInner (m ∷ ms) = IsInnerMark m × AreInner ms
 
+-- a mark of a row: such a mark, and none of a packet that arrives
+abbrev pub IsOwnMark : Mark → Type 0
+IsOwnMark (marks.Arrived target index) = ⊥
+IsOwnMark m = IsInnerMark m
+
+abbrev pub AreOwn : List Mark → Type 0
+AreOwn [] = Unit {0}
+AreOwn (m ∷ ms) = IsOwnMark m × AreOwn ms
+
+own-one : (m : Mark) → IsOwnMark m → IsInnerMark m
+own-one (marks.Verb by verb answer) own = own
+own-one (marks.Granted g) own = own
+own-one (marks.Revoked adapter key) own = own
+own-one (marks.Stored place bytes) own = own
+own-one (marks.Remote queue domain envelope key kind address count verdict) own = own
+own-one (marks.Local queue domain key kind address count verdict) own = own
+own-one (marks.Sent source target index request bytes) own = own
+own-one (marks.Lost target index) own = own
+own-one (marks.Arrived target index) own = absurd own
+own-one (marks.Dropped target cause) own = own
+own-one (marks.Timer queue silent) own = own
+own-one (marks.Done queue x cause) own = own
+
+pub own-inner : (ms : List Mark) → AreOwn ms → AreInner ms
+own-inner [] own = own
+own-inner (m ∷ ms) own = (own-one m own.0, own-inner ms own.1)
+
 -- effects with such marks, which leave the incarnation and the peer
 pub record IsInner (q : QueuePair) (e : Effects) : Type 0 where
   pub incarnation : e.queue.incarnation ≡ q.incarnation
   pub peer : e.queue.peer ≡ q.peer
-  pub marks : AreInner e.marks
+  pub marks : AreOwn e.marks
 
-pub inner-append : (ms ns : List Mark) → AreInner ms → AreInner ns → AreInner (ms ++ ns)
+pub inner-append : (ms ns : List Mark) → AreOwn ms → AreOwn ns → AreOwn (ms ++ ns)
 inner-append [] ns one other = other
 inner-append (m ∷ ms) ns one other = (one.0, inner-append ms ns one.1 other)
 
@@ -115,33 +142,33 @@ inner-then q e f one other = record {
 }
 
 -- marks before those of effects
-inner-behind : (q : QueuePair) (e : Effects) (ms : List Mark) → AreInner ms → IsInner q e → IsInner q (behind_marks ms e)
+inner-behind : (q : QueuePair) (e : Effects) (ms : List Mark) → AreOwn ms → IsInner q e → IsInner q (behind_marks ms e)
 inner-behind q e ms own inner = record { incarnation = inner.incarnation; peer = inner.peer; marks = inner-append ms e.marks own inner.marks }
 
 -- effects with other writes, or of a queue pair that was the same in incarnation and peer
 inner-from : (q p : QueuePair) (e : Effects) → p.incarnation ≡ q.incarnation → p.peer ≡ q.peer → IsInner p e → IsInner q e
 inner-from q p e incarnation peer inner = record { incarnation = inner.incarnation ∙ incarnation; peer = inner.peer ∙ peer; marks = inner.marks }
 
-sends-inner : (queue : QueueId) (place : ℕ) (ps : List PostedSend) → AreInner (flushed_sends queue place ps)
+sends-inner : (queue : QueueId) (place : ℕ) (ps : List PostedSend) → AreOwn (flushed_sends queue place ps)
 sends-inner queue place [] = record {}
 sends-inner queue place (p ∷ ps) = (refl, sends-inner queue (suc place) ps)
 
-receives-inner : (queue : QueueId) (place : ℕ) (rs : List RecvRequest) → AreInner (flushed_receives queue place rs)
+receives-inner : (queue : QueueId) (place : ℕ) (rs : List RecvRequest) → AreOwn (flushed_receives queue place rs)
 receives-inner queue place [] = record {}
 receives-inner queue place (r ∷ rs) = (refl, receives-inner queue (suc place) rs)
 
-pub flush-inner : (q : QueuePair) → AreInner (flush_marks q)
+pub flush-inner : (q : QueuePair) → AreOwn (flush_marks q)
 flush-inner q =
     inner-append (flushed_sends q.queue q.requester.oldest (items_from q.requester.oldest q.sends) ++ flushed_message q.queue q.responder.message) _
     (inner-append (flushed_sends q.queue q.requester.oldest (items_from q.requester.oldest q.sends)) (flushed_message q.queue q.responder.message)
     (sends-inner q.queue q.requester.oldest (items_from q.requester.oldest q.sends)) (message q.responder.message)) (own q.receives)
   where
-    message : (m : Option Message) → AreInner (flushed_message q.queue m)
+    message : (m : Option Message) → AreOwn (flushed_message q.queue m)
     message None = record {}
     message (Some (messages.Write key address left count)) = record {}
     message (Some (messages.Send place receive bytes)) = (refl, record {})
 
-    own : (o : Option (WorkQueue RecvRequest)) → AreInner (option_map_or (λ r. flushed_receives q.queue r.next_taken (items_from r.next_taken r)) o [])
+    own : (o : Option (WorkQueue RecvRequest)) → AreOwn (option_map_or (λ r. flushed_receives q.queue r.next_taken (items_from r.next_taken r)) o [])
     own None = record {}
     own (Some r) = receives-inner q.queue r.next_taken (items_from r.next_taken r)
 
@@ -152,18 +179,18 @@ failure-inner status cause q = record { incarnation = refl; peer = refl; marks =
     told [] = flush_marks q
     told (p ∷ ps) = failure_mark q.queue q.requester.oldest p.request status cause ∷ flush_marks (without_oldest q)
 
-    by : (ps : List PostedSend) → AreInner (told ps)
+    by : (ps : List PostedSend) → AreOwn (told ps)
     by [] = flush-inner q
     by (p ∷ ps) = (refl, flush-inner (without_oldest q))
 
-success-inner : (queue : QueueId) (place : ℕ) (request : SendRequest) → AreInner (success_marks queue place request)
+success-inner : (queue : QueueId) (place : ℕ) (request : SendRequest) → AreOwn (success_marks queue place request)
 success-inner queue place request = by request.signalled
   where
-    by : (b : Bool) → AreInner (if b then success_marks queue place (record request { signalled = true }) else [])
+    by : (b : Bool) → AreOwn (if b then success_marks queue place (record request { signalled = true }) else [])
     by true = (refl, record {})
     by false = record {}
 
-finished-inner : (queue : QueueId) (ns : List Numbered) → AreInner (flat_map (λ n. success_marks queue n.place n.request) ns)
+finished-inner : (queue : QueueId) (ns : List Numbered) → AreOwn (flat_map (λ n. success_marks queue n.place n.request) ns)
 finished-inner queue [] = record {}
 finished-inner queue (n ∷ ns) = inner-append (success_marks queue n.place n.request) _ (success-inner queue n.place n.request) (finished-inner queue ns)
 
@@ -240,11 +267,11 @@ acknowledge-inner psn (Some (Nak code)) q =
     back-inner q (acknowledgement_below psn q) (nak_effects psn code) (below-inner psn q) (nak-inner psn code (acknowledgement_below psn q).effects.queue)
 acknowledge-inner psn None q = drop-inner q drops.Stale
 
-writes-inner : (xs : List (Ask × List ℕ)) → AreInner (local_writes xs)
+writes-inner : (xs : List (Ask × List ℕ)) → AreOwn (local_writes xs)
 writes-inner [] = record {}
 writes-inner (x ∷ xs) = (record {}, writes-inner xs)
 
-reads-inner : (asks : List Ask) (bytes : List (List ℕ)) → AreInner (local_reads asks bytes)
+reads-inner : (asks : List Ask) (bytes : List (List ℕ)) → AreOwn (local_reads asks bytes)
 reads-inner [] bytes = record {}
 reads-inner (ask ∷ asks) [] = record {}
 reads-inner (ask ∷ asks) (b ∷ bs) = (record {}, reads-inner asks bs)
@@ -324,7 +351,7 @@ took-inner : (q p : QueuePair) (b : Bool) (e : Effects) → IsInner q e → IsIn
 took-inner q p true e inner = record { incarnation = inner.incarnation; peer = inner.peer; marks = inner.marks }
 took-inner q p false e inner = inner
 
-revoked-inner : (q : QueuePair) (i : Option Invalidation) → AreInner (revoked_marks q i)
+revoked-inner : (q : QueuePair) (i : Option Invalidation) → AreOwn (revoked_marks q i)
 revoked-inner q None = record {}
 revoked-inner q (Some i) = (record {}, record {})
 
@@ -650,14 +677,14 @@ packet-inner q room n = by (is_too_much q n)
     by false = record { denied = λ d. denied d (is_outstanding q) room; allowed = λ bytes refusal. allowed bytes room }
 
 -- what a local operation granted and revoked
-local-inner : (q : QueuePair) (m : LocalMarks) → AreInner (local_marks q m)
+local-inner : (q : QueuePair) (m : LocalMarks) → AreOwn (local_marks q m)
 local-inner q m = inner-append (option_map_or (λ key. marks.Revoked q.queue.adapter key ∷ []) m.revoked []) _ (revoked m.revoked) (granted m.granted)
   where
-    revoked : (o : Option Key) → AreInner (option_map_or (λ key. marks.Revoked q.queue.adapter key ∷ []) o [])
+    revoked : (o : Option Key) → AreOwn (option_map_or (λ key. marks.Revoked q.queue.adapter key ∷ []) o [])
     revoked None = record {}
     revoked (Some key) = (record {}, record {})
 
-    granted : (o : Option Grant) → AreInner (option_map_or (λ g. marks.Granted g ∷ []) o [])
+    granted : (o : Option Grant) → AreOwn (option_map_or (λ g. marks.Granted g ∷ []) o [])
     granted None = record {}
     granted (Some g) = (record {}, record {})
 

@@ -12,3 +12,4 @@ pub mod PathChangeLemmas
 pub mod PathEventLemmas
 pub mod MailSentLemmas
 pub mod IndexLemmas
+pub mod ArrivalLemmas

@@ -5,7 +5,7 @@ use Rattle.std.specs.Option.{option_map}
 use Rattle.ca_agree.specs.Agreement.{AgreeOnPaths, AreLatest, AreNumbered, PathsAgree, peer_in, peer_named}
 use Rattle.ca_agree.proofs.MailLemmas.{cut-latest, cut-numbered, peer-latest}
 use Rattle.ca_agree.specs.Runs.{Leads}
-use Rattle.ca_agree.proofs.InnerLemmas.{AreInner, flush-inner}
+use Rattle.ca_agree.proofs.InnerLemmas.{own-inner, AreInner, flush-inner}
 use Rattle.ca_agree.proofs.LeadsLemmas.{leads-around, leads-unless}
 use Rattle.ca_agree.proofs.PathLemmas.{AreKept, SamePaths}
 use Rattle.ca_agree.proofs.PathVerbLemmas.{AgreesBy, agree-answer, agree-more, agrees-present, call_of, queue-kept}
@@ -222,7 +222,7 @@ pub agrees-modify : (c : Configuration) (past : Past) (w : World) (by : ℕ) (s 
 agrees-modify c past w by s changes.Error sound agree = agrees-present c w (AgreesBy past by (verbs.ModifyQp s changes.Error)) (call_of by (verbs.ModifyQp s changes.Error)) s _ sound agree (λ q is name.
     agrees-change w (AgreesBy past by (verbs.ModifyQp s changes.Error)) (call_of by (verbs.ModifyQp s changes.Error)) q (of_change_refusals (modify_refusals c q changes.Error))
     (λ a. (Queue_of q.queue := Present (queue_after_change changes.Error q)) ∷ cq_updates q a (flush_marks q)) (flush_marks q) (λ r. agree)
-    (still-agrees past w by s changes.Error q (cq_updates q (around_in w q (shared_of w q)) (flush_marks q)) (flush_marks q) agree is refl refl (record { incarnation = refl; naming = refl; envelopes = refl }) (flush-inner q) (record {}, (record {}, record {}))))
+    (still-agrees past w by s changes.Error q (cq_updates q (around_in w q (shared_of w q)) (flush_marks q)) (flush_marks q) agree is refl refl (record { incarnation = refl; naming = refl; envelopes = refl }) (own-inner (flush_marks q) (flush-inner q)) (record {}, (record {}, record {}))))
 agrees-modify c past w by s changes.Reset sound agree = agrees-present c w (AgreesBy past by (verbs.ModifyQp s changes.Reset)) (call_of by (verbs.ModifyQp s changes.Reset)) s _ sound agree (λ q is name.
     agrees-change w (AgreesBy past by (verbs.ModifyQp s changes.Reset)) (call_of by (verbs.ModifyQp s changes.Reset)) q (of_change_refusals (modify_refusals c q changes.Reset))
     (λ a. (Queue_of q.queue := Present (queue_after_change changes.Reset q)) ∷ (Mailbox_of q.queue := emptied_mailbox (queue_after_change changes.Reset q).incarnation (w.mailbox q.queue)) ∷ emptied_updates q a) [] (λ r. agree)

@@ -4,7 +4,7 @@ use Rattle.std.specs.Option.{option_map_or}
 use Rattle.ca_agree.specs.Agreement.{AgreeOnPaths, AreLatest, AreNumbered, PathsAgree, peer_in, peer_named}
 use Rattle.ca_agree.proofs.MailLemmas.{delivered-latest, lost-one, sent-latest}
 use Rattle.ca_agree.specs.Runs.{Leads}
-use Rattle.ca_agree.proofs.InnerLemmas.{AreInner, IsInner, arrival-inner, packet-inner, respond-inner, timeout-inner}
+use Rattle.ca_agree.proofs.InnerLemmas.{own-inner, AreInner, IsInner, arrival-inner, packet-inner, respond-inner, timeout-inner}
 use Rattle.ca_agree.proofs.LeadsLemmas.{AreAside, leads-around, leads-queue, leads-row, leads-unless}
 use Rattle.ca_agree.proofs.PathLemmas.{AreKept, KeepsPaths, agree-kept, begin-same, inner-past, kept-append, kept-aside, kept-puts, kept-writes, marks-append, puts-append, same-past, same-world, turn-kept}
 use Rattle.ca_agree.proofs.PerformLemmas.{leads-perform}
@@ -174,9 +174,9 @@ agrees-left c past event w q peer lot row agree is does =
         → PathsAgree (after_marks (tells e) (after_marks e.marks (at_begin event past))) (put_all (sends e) (put_all cs (put_all (updates_of q a e) w)))
     sent e cs inner aside = agree-sent (after_marks e.marks (at_begin event past)) (put_all cs (put_all (updates_of q a e) w)) q peer m lot e
         (agree-kept past (after_marks e.marks (at_begin event past)) w (put_all cs (put_all (updates_of q a e) w))
-        (inner-past e.marks inner.marks past (at_begin event past) (begin-same past event)) (kept e cs inner aside) agree)
+        (inner-past e.marks (own-inner e.marks inner.marks) past (at_begin event past) (begin-same past event)) (kept e cs inner aside) agree)
         (sym ((kept e cs inner aside).owners peer.queue)) (sym ((kept e cs inner aside).accepted peer.queue)) (sym ((kept e cs inner aside).counts peer.queue))
-        (subst (λ f. AreLatest m.envelopes (f peer.queue)) (sym (inner-past e.marks inner.marks past (at_begin event past) (begin-same past event)).envelopes) (agree.latest peer.queue))
+        (subst (λ f. AreLatest m.envelopes (f peer.queue)) (sym (inner-past e.marks (own-inner e.marks inner.marks) past (at_begin event past) (begin-same past event)).envelopes) (agree.latest peer.queue))
 
     -- the same over the changes and the marks as they stand in the plan
     placed : (e : Effects) (cs : List Update) → put_all (sends e) (put_all cs (put_all (updates_of q a e) w)) ≡ put_all (updates_of q a e ++ (cs ++ sends e)) w
@@ -200,7 +200,7 @@ agrees-request c past event w name lot sound agree = leads-queue c w (Agrees pas
     by : (q : QueuePair) → w.queue q.queue ≡ Present q → (peer : Option Correspondent) (turn : RequestTurn) → Leads w (Agrees past event) (Request_around c lot q (around_in w q (shared_of w q)) peer turn)
     by q is peer (Waits reason) = record {}
     by q is peer (Performs n) = leads-perform c w (Agrees past event) q n (λ e changes writes. Finish (updates_of q (around_in w q (shared_of w q)) e ++ changes) writes e.marks) n.request.op
-        (λ e cs ws inner aside. agree-inner past event w (updates_of q (around_in w q (shared_of w q)) e ++ cs) ws e.marks agree inner.marks
+        (λ e cs ws inner aside. agree-inner past event w (updates_of q (around_in w q (shared_of w q)) e ++ cs) ws e.marks agree (own-inner e.marks inner.marks)
         (kept-append w (updates_of q (around_in w q (shared_of w q)) e) cs (turn-kept w q (around_in w q (shared_of w q)) e is inner) (kept-aside w cs aside)))
     by q is None (Sends n) = record {}
     by q is (Some peer) (Sends n) = agrees-left c past event w q peer lot (packet_row q (has_room_for q peer (w.mailbox peer.queue)) n) agree is
@@ -224,7 +224,7 @@ agrees-timeout c past event w name hasten sound agree =
     fire : (q : QueuePair) → w.queue q.queue ≡ Present q → (silent : Bool) → Leads w (Agrees past event) (Fire hasten q (around_in w q (shared_of w q)) silent)
     fire q is silent = leads-unless w (Agrees past event) (timeout_refusals silent hasten q) Stuck
         (Finish (updates_of q (around_in w q (shared_of w q)) (after_timeout silent q)) [] (after_timeout silent q).marks) (λ r. record {})
-        (agree-inner past event w (updates_of q (around_in w q (shared_of w q)) (after_timeout silent q)) [] (after_timeout silent q).marks agree (timeout-inner q silent).marks
+        (agree-inner past event w (updates_of q (around_in w q (shared_of w q)) (after_timeout silent q)) [] (after_timeout silent q).marks agree (own-inner (after_timeout silent q).marks (timeout-inner q silent).marks)
         (turn-kept w q (around_in w q (shared_of w q)) (after_timeout silent q) is (timeout-inner q silent)))
 
     by : (q : QueuePair) → w.queue q.queue ≡ Present q → (peer : Option Correspondent) → Leads w (Agrees past event) (Timeout_around hasten q (w.mailbox name) (around_in w q (shared_of w q)) peer)
@@ -238,7 +238,7 @@ agrees-arrive c w P q bytes envelope pre ms is more =
     leads-around w P q (λ a. Row_plan c (arrival_row bytes envelope (shared_in a) q) (finish a))
     (leads-row c w P (IsInner q) (arrival_row bytes envelope (shared_in a) q) (finish a) (arrival-inner bytes envelope (shared_in a) q)
     (λ e cs ws inner aside. more (updates_of q a e ++ cs) ws (marks.Arrived q.queue envelope ∷ e.marks)
-    (kept-append w (updates_of q a e) cs (turn-kept w q a e is inner) (kept-aside w cs aside)) (record {}, inner.marks)))
+    (kept-append w (updates_of q a e) cs (turn-kept w q a e is inner) (kept-aside w cs aside)) (record {}, own-inner e.marks inner.marks)))
   where
     a : Around
     a = around_in w q (shared_of w q)

@@ -3,7 +3,7 @@ use Rattle.std.proofs.Common.{◌≡◌, ℕ, ◌==◌, Bool, true, false, if◌
 use Rattle.std.specs.Option.{option_map}
 use Rattle.ca_agree.specs.Agreement.{PathsAgree, peer_in}
 use Rattle.ca_agree.specs.Runs.{Leads}
-use Rattle.ca_agree.proofs.InnerLemmas.{AreInner, flush-inner}
+use Rattle.ca_agree.proofs.InnerLemmas.{own-inner, AreInner, flush-inner}
 use Rattle.ca_agree.proofs.LeadsLemmas.{leads-unless}
 use Rattle.ca_agree.proofs.PathLemmas.{AreKept, SamePaths, agree-kept, inner-past, kept-puts, kept-writes, same-past, same-world}
 use Rattle.ca_agree.proofs.PathTurnLemmas.{Agrees}
@@ -58,7 +58,7 @@ flush-marks-inner : (q : QueuePair) → AreInner (marks_of_flush q)
 flush-marks-inner q = by (state_eq q.state states.Error)
   where
     by : (b : Bool) → AreInner (if b then flush_marks q else [])
-    by true = flush-inner q
+    by true = own-inner (flush_marks q) (flush-inner q)
     by false = record {}
 
 -- a queue pair that is flushed at once, if it is in Error

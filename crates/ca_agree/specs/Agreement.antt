@@ -28,8 +28,8 @@ abbrev pub AreNumbered : List Envelope → Type 0
 AreNumbered [] = Unit {0}
 AreNumbered (e ∷ es) = (e.index ≡ length es) × AreNumbered es
 
--- An envelope of a mailbox is one that was sent: it has its bytes, it is lost exactly where its lot says so, and its target
--- was neither reset nor destroyed since.
+-- An envelope of a mailbox is one that was sent: it has its bytes, it is lost exactly where its lot says so, and its
+-- target was neither reset nor destroyed since.
 pub record IsMailOf (m : MailEnvelope) (e : Envelope) : Type 0 where
   pub bytes : e.bytes ≡ m.bytes
   pub lost : e.lost ≡ is_lost m.lot

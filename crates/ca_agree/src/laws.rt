@@ -1,6 +1,7 @@
 ghost use Rattle.std.specs.List.{AllByRecursion};
 ghost use Rattle.std.specs.Prelude.{◌≡◌, ℕ, List, Some};
 ghost use Rattle.ca_agree.specs.Agreement.{HoldsAlong, PathsAgree, WereSent};
+ghost use Rattle.ca_agree.specs.Arrivals.{DoArriveAsSent};
 ghost use Rattle.ca_agree.specs.Indices.{HaveTheirIndices};
 ghost use Rattle.ca_agree.specs.Runs.{AreStamped, Comes};
 ghost use Rattle.ca_base.specs.Configuration.{Configuration};
@@ -48,9 +49,9 @@ pub fn histories_agree_on_paths()
         → HoldsAlong PathsAgree c (opening_past bytes) (opening_world bytes) es }
 {}
 
-/// Where past and world agree on paths, what can be delivered to a queue pair by an index was sent to it with this index:
-/// by an envelope among the latest that are kept, which is not lost, and since then the queue pair was neither reset nor
-/// destroyed.
+/// Where past and world agree on paths, what can be delivered to a queue pair by an index was sent to it with this
+/// index: by an envelope among the latest that are kept, which is not lost, and since then the queue pair was neither
+/// reset nor destroyed.
 pub fn deliverable_bytes_were_sent()
     ensures { (c : Configuration) (past : Past) (w : World) (q : QueueId) (index : ℕ) (arrived : List ℕ)
         → IsSoundWorld c w → PathsAgree past w → bytes_lent index (w.mailbox q) ≡ Some arrived
@@ -64,4 +65,13 @@ pub fn packets_have_their_indices()
     ensures { (c : Configuration) (bytes : ByteMap) (es : List EntryValue) → AreLimited c
         → AllByRecursion (λ e. CanBeMade e.event) es → Follows c bytes es
         → HaveTheirIndices bytes es }
+{}
+
+/// In a history that follows the machine each packet that arrives by an index is among the latest 256 that were sent
+/// to its queue pair, is not lost, and the queue pair was neither reset nor destroyed since; one without an index is
+/// injected by its event. This is the part of Carried that speaks of arrivals.
+pub fn packets_arrive_as_sent()
+    ensures { (c : Configuration) (bytes : ByteMap) (es : List EntryValue) → AreLimited c
+        → AllByRecursion (λ e. CanBeMade e.event) es → Follows c bytes es
+        → DoArriveAsSent bytes es }
 {}

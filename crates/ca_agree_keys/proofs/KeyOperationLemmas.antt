@@ -5,14 +5,13 @@ use Rattle.std.specs.Option.{option_map, option_map_or}
 use Rattle.ca_agree.specs.Runs.{Leads}
 use Rattle.ca_agree_keys.proofs.CalmLemmas.{marks-calm, plain-calm}
 use Rattle.ca_agree_keys.proofs.PlainLemmas.{failure-plain, success-plain}
-use Rattle.ca_agree_keys.proofs.ChangeLemmas.{region-small, window-small}
+use Rattle.ca_agree_keys.proofs.ChangeLemmas.{region-small, window-small, grants-same}
 use Rattle.ca_agree_keys.proofs.EndLemmas.{region-granted, window-ended, window-granted, without_window}
 use Rattle.ca_agree_keys.proofs.FrameLemmas.{Ends}
 use Rattle.ca_agree_keys.proofs.KeyTurnLemmas.{IsUp, leads-own, own-adapter}
 use Rattle.ca_agree_keys.proofs.RowLemmas.{invalidate-told}
 use Rattle.ca_agree_keys.proofs.SightLemmas.{after_asked, after_writes}
 use Rattle.ca_agree_keys.proofs.SlotLemmas.{at-region, at-window, same-agrees, without_key}
-use Rattle.ca_agree_keys.proofs.ChangeLemmas.{grants-same}
 use Rattle.ca_agree_keys.proofs.ToldLemmas.{IsTold, Leaves, leaves-append, leaves-calm, leaves-granted, leaves-revoked, told-calm}
 use Rattle.ca_agree_keys.specs.InForce.{AgreeOnGrants, grant_over_regions}
 use Rattle.ca_base.specs.Configuration.{Configuration}

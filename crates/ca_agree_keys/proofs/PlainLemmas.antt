@@ -14,7 +14,7 @@ use Rattle.ca_wire.specs.declared.syndrome.Syndrome.TheVariants.{Ack, Nak, RnrNa
 use Rattle.ca_wire.specs.Syndrome.{nak_code}
 use Rattle.ca_model.specs.declared.mark.Drop1.{Drop1}
 use Rattle.ca_model.specs.declared.mark.Drop1.TheVariants as drops
-use Rattle.ca_model.specs.machine.Acknowledgements.{Acknowledgement, acknowledgement_below, and_then, failure_effects, first_unanswered, one_retry, progress_to, with_cursor, with_requester, with_una}
+use Rattle.ca_model.specs.machine.Acknowledgements.{Acknowledgement, acknowledgement_below, and_then, failure_effects, first_unanswered, one_retry, progress_to, with_cursor, with_requester, with_una, finished_requests, without_oldest}
 use Rattle.ca_model.specs.machine.Numbering.{Numbered, begun_requests}
 use Rattle.ca_model.specs.machine.Responses.{acknowledge_row, drop_effects, nak_effects, rnr_nak_effects, unless_back}
 use Rattle.ca_model.specs.machine.Row.{Effects, queue_and_marks}
@@ -39,7 +39,6 @@ use Rattle.ca_base.specs.objects.WorkQueue.{WorkQueue, items_from}
 use Rattle.ca_keys.specs.declared.names.QueueId.{QueueId}
 use Rattle.ca_model.specs.declared.mark.Mark.{Mark}
 use Rattle.ca_model.specs.declared.mark.Mark.TheVariants as marks
-use Rattle.ca_model.specs.machine.Acknowledgements.{finished_requests, without_oldest}
 use Rattle.ca_model.specs.machine.Completions.{failure_mark, flush_marks, flushed_message, flushed_receives, flushed_sends, success_marks}
 use Rattle.ca_model.specs.machine.Timers.{after_timeout}
 

@@ -32,13 +32,13 @@ use Rattle.ca_psn.specs.Psn.{widened}
 use Rattle.ca_packet.specs.declared.atomic_eth.AtomicEth.{AtomicEth}
 use Rattle.ca_packet.specs.declared.reth.Reth.{Reth}
 use Rattle.ca_packet.specs.declared.shape.Position.{Position}
-use Rattle.ca_model.specs.Packets.{is_response}
-use Rattle.ca_model.specs.Requests.{list_length}
-use Rattle.ca_model.specs.machine.Arrivals.{next_receive, refusal_effects, with_flag, with_receive_taken, with_message}
+use Rattle.ca_model.specs.Packets.{is_response, number_put}
+use Rattle.ca_model.specs.Requests.{list_length, list_of}
+use Rattle.ca_model.specs.machine.Arrivals.{next_receive, refusal_effects, with_flag, with_receive_taken, with_message, packet_ask, remote_mark}
 use Rattle.ca_model.specs.machine.Duplicates.{ahead_effects, duplicate_effects, request_row}
 use Rattle.ca_model.specs.declared.receiving.Receiving.{Receiving}
 use Rattle.ca_model.specs.declared.write_reach.WriteReach.{WriteReach}
-use Rattle.ca_model.specs.machine.Expected.{after_send_packet, atomic_row, behind_marks, expected_row, invalidation_of, is_invalid, read_queued, receive_asks, receive_failure_effects, receiving_of, revoked_marks, rnr_effects, send_row, takes_receive, valid_row, with_shared_receive, with_window_gone, write_reach, write_row, message_left, queue_after_packet}
+use Rattle.ca_model.specs.machine.Expected.{after_send_packet, atomic_row, behind_marks, expected_row, invalidation_of, is_invalid, read_queued, receive_asks, receive_failure_effects, receiving_of, revoked_marks, rnr_effects, send_row, takes_receive, valid_row, with_shared_receive, with_window_gone, write_reach, write_row, message_left, queue_after_packet, after_write_packet, fits_left, fits_write, continues, fits_payload, is_misaligned, has_no_place}
 use Rattle.ca_packet.specs.declared.shape.Shape.{Shape}
 use Rattle.ca_packet.specs.declared.shape.Shape.TheVariants as shapes
 use Rattle.ca_packet.specs.Table.{shape_of}
@@ -50,29 +50,21 @@ use Rattle.ca_packet.specs.Decoding.{packet_in}
 use Rattle.ca_model.specs.machine.Delivery.{arrival_drops, arrival_row, packet_arrived}
 use Rattle.ca_model.specs.declared.read_left.ReadLeft.{ReadLeft}
 use Rattle.ca_model.specs.machine.Respond.{answer_turn, respond_refusals, response_ask, respond_row}
-use Rattle.ca_model.specs.machine.LocalOperations.{invalidate_row, operation_effects}
+use Rattle.ca_model.specs.machine.LocalOperations.{invalidate_row, operation_effects, local_marks}
 use Rattle.ca_base.specs.declared.completion.WcOp.TheVariants as operations
 use Rattle.ca_base.specs.declared.queue_numbers.Message.{Message}
 use Rattle.ca_base.specs.declared.queue_numbers.Message.TheVariants as messages
 use Rattle.ca_packet.specs.Shapes.{ends}
-use Rattle.ca_model.specs.machine.Completions.{receive_mark}
-use Rattle.ca_model.specs.machine.Expected.{with_window_gone}
-use Rattle.ca_model.specs.machine.LocalOperations.{invalidate_row}
+use Rattle.ca_model.specs.machine.Completions.{receive_mark, flush_marks, success_marks}
 use Rattle.std.specs.List.{flat_map}
 use Rattle.ca_keys.specs.declared.access.Ask.{Ask}
 use Rattle.ca_keys.specs.declared.grant.Grant.{Grant}
 use Rattle.ca_model.specs.declared.mark.Mark.{Mark}
-use Rattle.ca_model.specs.machine.Completions.{flush_marks, success_marks}
-use Rattle.ca_model.specs.machine.LocalOperations.{local_marks}
 use Rattle.ca_laws_sound.proofs.WorldLemmas.{EndingDoes}
 use Rattle.ca_keys.specs.declared.verdict.Verdict.TheVariants as verdicts
 use Rattle.ca_keys.specs.Memory.{ByteMap, memory_after, runs_at, runs_for, little_endian, little_endian_bytes}
 use Rattle.std.proofs.lemmas.Bool.Decides.{nat_tests}
 use Rattle.ca_model.specs.Past.{Past, after_mark}
-use Rattle.ca_model.specs.Packets.{number_put}
-use Rattle.ca_model.specs.machine.Arrivals.{packet_ask, remote_mark}
-use Rattle.ca_model.specs.machine.Expected.{after_write_packet, fits_left, fits_write, continues, fits_payload, is_misaligned, has_no_place}
-use Rattle.ca_model.specs.Requests.{list_of}
 use Rattle.ca_base.specs.declared.limits.TheConstants.{ATOMIC_BYTES, MAX_MESSAGE_BYTES}
 use Rattle.ca_agree_keys.proofs.SightLemmas.{after_asked}
 use Rattle.ca_agree_keys.proofs.CalmLemmas.{AreCalm, IsCalm, calm-then, denied-calm, marks-calm, plain-calm, reads-calm, took-calm}

@@ -1,5 +1,5 @@
 -- In every event each mark is judged rightly, and so in every history that follows the machine. For proofs only.
-use Rattle.std.proofs.Common.{◌≡◌, ℕ, suc, Bool, true, false, ◌&&◌, if◌then◌else◌, List, [], ◌∷◌, ◌++◌, map, Option, None, Some, Ok, Err, refl, sym, ap, subst, rules, true≢false}
+use Rattle.std.proofs.Common.{◌≡◌, ℕ, suc, Bool, true, false, ◌&&◌, if◌then◌else◌, List, [], ◌∷◌, ◌++◌, map, Option, None, Some, Ok, Err, refl, sym, ap, subst, rules, true≢false, nat_le, ◌==◌, ◌<◌, ◌∙◌}
 use Rattle.std.specs.List.{AllByRecursion}
 use Rattle.std.specs.Option.{option_and_then, option_map, option_map_or}
 use Rattle.std.specs.Str.{bytes_eq}
@@ -10,10 +10,10 @@ use Rattle.ca_agree.proofs.PathVerbLemmas.{call_of}
 use Rattle.ca_agree.specs.Runs.{Comes, Leads}
 use Rattle.ca_judged.proofs.JudgeLemmas.{Judges, RowJudged, Sees, both-true, bytes-refl, plain-judged}
 use Rattle.ca_agree_keys.proofs.KeyEventLemmas.{event-keys-agree, opening-keys-agree}
-use Rattle.ca_agree_keys.proofs.KeyTurnLemmas.{IsUp}
+use Rattle.ca_agree_keys.proofs.KeyTurnLemmas.{IsUp, found}
 use Rattle.ca_judged.proofs.JudgeRowLemmas.{Arrives, arrival-judged, packet-judged, respond-judged, some-mtu}
 use Rattle.ca_agree_keys.proofs.SightLemmas.{grant-seen}
-use Rattle.ca_agree_keys.proofs.PlainLemmas.{timeout-plain}
+use Rattle.ca_agree_keys.proofs.PlainLemmas.{timeout-plain, ArePlainMarks}
 use Rattle.ca_judged.proofs.JudgeVerbLemmas.{Answers, IsQuietVerb, quiet-judged, quiet-verb, refused-loaded}
 use Rattle.ca_agree_keys.specs.InForce.{KeysAgree}
 use Rattle.ca_base.specs.Configuration.{Configuration}
@@ -21,18 +21,18 @@ use Rattle.ca_base.specs.declared.correspondent.Correspondent.{Correspondent}
 use Rattle.ca_base.specs.declared.lot.Lot.{Lot}
 use Rattle.ca_base.specs.declared.step.Reason.TheVariants as reasons
 use Rattle.ca_base.specs.objects.Mailbox.{Mailbox, after_delivery, bytes_lent, is_lost}
-use Rattle.ca_base.specs.objects.QueuePair.{QueuePair, QueueSlot, NoQueue, Present}
-use Rattle.ca_keys.specs.Memory.{ByteMap}
+use Rattle.ca_base.specs.objects.QueuePair.{QueuePair, QueueSlot, NoQueue, Present, is_present}
+use Rattle.ca_keys.specs.Memory.{ByteMap, bytes_at}
 use Rattle.ca_keys.specs.declared.names.DomainId.{DomainId}
 use Rattle.ca_keys.specs.declared.names.QueueId.{QueueId}
 use Rattle.ca_laws_names.proofs.PlacedLemmas.{event-placed, opening-placed}
 use Rattle.ca_laws_names.specs.Placed.{IsPlacedWorld}
 use Rattle.ca_laws_sound.proofs.SoundLemmas.{event-sound, opening-sound}
-use Rattle.ca_laws_sound.proofs.WorldLemmas.{around_in, shared_of}
+use Rattle.ca_laws_sound.proofs.WorldLemmas.{around_in, shared_of, IsThere}
 use Rattle.ca_laws_windows.proofs.WindowEventLemmas.{event-bound, opening-bound}
 use Rattle.ca_laws_windows.specs.Bindings.{IsBoundWorld}
 use Rattle.ca_model.specs.Entries.{EntryValue}
-use Rattle.ca_model.specs.Past.{Envelope, Past, after_entry, after_mark, after_marks, at_begin, each_entry, each_mark, opening_past}
+use Rattle.ca_model.specs.Past.{Envelope, Past, after_entry, after_mark, after_marks, at_begin, each_entry, each_mark, opening_past, packet_at}
 use Rattle.ca_model.specs.declared.answer.Answer.TheVariants as answers
 use Rattle.ca_model.specs.declared.answer.Refusal.TheVariants.{NoSuch}
 use Rattle.ca_model.specs.declared.event.Event.{Event}
@@ -44,7 +44,7 @@ use Rattle.ca_model.specs.declared.verb.Verb.TheVariants as verbs
 use Rattle.ca_model.specs.machine.Around.{Around, With_around, shared_in, updates_of}
 use Rattle.ca_model.specs.machine.Delivery.{Arrive, arrival_row, deliver_plan}
 use Rattle.ca_model.specs.machine.Frame.{Afterwards}
-use Rattle.ca_model.specs.machine.HostVerbs.{inject_plan}
+use Rattle.ca_model.specs.machine.HostVerbs.{inject_plan, host_refusals, load_plan}
 use Rattle.ca_model.specs.machine.Plan.{Did, NotReady, Outcome, Plan, Stuck, Look, Read, Finish, Update, ◌:=◌, Write, unless_refused}
 use Rattle.ca_model.specs.machine.Requester.{Performs, RequestTurn, Sends, Waits, packet_row, turn_of}
 use Rattle.ca_model.specs.machine.Respond.{respond_refusals, respond_row}
@@ -52,33 +52,24 @@ use Rattle.ca_model.specs.machine.Row.{Effects, Row, Row_plan}
 use Rattle.ca_model.specs.machine.Run.{Follows, Ran, go_on, run_from}
 use Rattle.ca_model.specs.machine.Seen.{sight_in}
 use Rattle.ca_model.specs.machine.Sound.{AreLimited, CanBeMade, IsQueueOf, IsSoundWorld}
-use Rattle.ca_model.specs.machine.Step.{plan, step, verb_plan}
+use Rattle.ca_model.specs.machine.Step.{plan, step, verb_plan, bytes_of_buffer, run_of}
 use Rattle.ca_model.specs.machine.Timers.{after_timeout, after_wake, timeout_refusals, wake_refusals}
 use Rattle.ca_model.specs.machine.Turns.{Fire, Leave_plan, Packet, Request_around, Respond_around, Timeout_around, With_receives, has_room_for, packet_sent, reaches_peer, request_plan, respond_plan, sent_marks, timeout_plan, wake_plan}
 use Rattle.ca_model.specs.machine.VerbAnswers.{Answer_plan, Call, Refuse_plan, answer_mark}
 use Rattle.ca_model.specs.machine.World.{Mailbox_of, Queue_of, World, opening_world}
-use Rattle.std.proofs.Common.{nat_le, ◌==◌, ◌<◌, ◌∙◌}
 use Rattle.std.proofs.lemmas.Bool.{and_parts, eq-eqb}
 use Rattle.ca_agree.proofs.MailSentLemmas.{lent-sent}
 use Rattle.ca_agree.proofs.PathEventLemmas.{event-agrees, opening-agrees}
 use Rattle.ca_agree.specs.Agreement.{PathsAgree, WereSent}
-use Rattle.ca_agree_keys.proofs.KeyTurnLemmas.{found}
-use Rattle.ca_agree_keys.proofs.PlainLemmas.{ArePlainMarks}
 use Rattle.ca_agree_keys.proofs.ToldLemmas.{At}
-use Rattle.ca_base.specs.objects.QueuePair.{is_present}
 use Rattle.ca_base.specs.objects.Slices.{has_queue, has_slot, slot_of_queue}
 use Rattle.ca_judged.proofs.JudgeOperationLemmas.{leads-judged, leads-perform}
 use Rattle.ca_judged.proofs.WholeLemmas.{agreed-whole}
 use Rattle.ca_keys.specs.Equal.{domain_eq}
-use Rattle.ca_keys.specs.Memory.{bytes_at}
 use Rattle.ca_keys.specs.Numbers.{domain_of}
 use Rattle.ca_keys.specs.declared.place.Run.{Run}
-use Rattle.ca_laws_sound.proofs.WorldLemmas.{IsThere}
 use Rattle.ca_model.specs.Judged.{Judged, is_judged, is_loaded, is_of_domain}
 use Rattle.ca_model.specs.Packets.{packet_of}
-use Rattle.ca_model.specs.Past.{packet_at}
-use Rattle.ca_model.specs.machine.HostVerbs.{host_refusals, load_plan}
-use Rattle.ca_model.specs.machine.Step.{bytes_of_buffer, run_of}
 
 -- what holds of the marks of an event
 abbrev Right : Past → Event → World → List Mark → Type 0

@@ -1,6 +1,6 @@
 -- A local operation grants what is whole, and its other marks are judged whatever came before. For proofs only.
-use Rattle.std.proofs.Common.{◌∙◌, length, ◌≡◌, ℕ, suc, Bool, true, false, if◌then◌else◌, List, [], ◌∷◌, ◌++◌, map, Option, None, Some, refl, sym, ap, subst, true≢false}
-use Rattle.std.specs.Option.{option_and_then, option_map_or}
+use Rattle.std.proofs.Common.{◌∙◌, length, ◌≡◌, ℕ, suc, Bool, true, false, if◌then◌else◌, List, [], ◌∷◌, ◌++◌, map, Option, None, Some, refl, sym, ap, subst, true≢false, IfSome, ◌==◌, not, is_some}
+use Rattle.std.specs.Option.{option_and_then, option_map_or, option_map}
 use Rattle.ca_agree.proofs.LeadsLemmas.{comes}
 use Rattle.ca_agree.specs.Runs.{Comes, Leads}
 use Rattle.ca_judged.proofs.JudgeLemmas.{Judges, RowJudged, both-true, plain-judged}
@@ -14,9 +14,9 @@ use Rattle.ca_base.specs.declared.denied_ask.DeniedAsk.{DeniedAsk}
 use Rattle.ca_base.specs.declared.refusals.OpRefusal.{OpRefusal}
 use Rattle.ca_base.specs.declared.request.SendOp.{SendOp}
 use Rattle.ca_base.specs.declared.request.SendOp.TheVariants as ops
-use Rattle.ca_base.specs.objects.LocalRequest.{LocalMarks}
+use Rattle.ca_base.specs.objects.LocalRequest.{LocalMarks, bind1_request_refusals, bind2_request_refusals, fast_request_refusals, of_window}
 use Rattle.ca_base.specs.objects.QueuePair.{QueuePair}
-use Rattle.ca_base.specs.objects.Window.{Binding, Window}
+use Rattle.ca_base.specs.objects.Window.{Binding, Window, binding_refusals, is_within}
 use Rattle.ca_keys.specs.declared.grant.Grant.{Grant}
 use Rattle.ca_keys.specs.declared.key.Key.{Key}
 use Rattle.ca_keys.specs.declared.names.DomainId.{DomainId}
@@ -29,14 +29,13 @@ use Rattle.ca_model.specs.declared.mark.Mark.{Mark}
 use Rattle.ca_model.specs.declared.mark.Mark.TheVariants as marks
 use Rattle.ca_model.specs.machine.Acknowledgements.{failure_effects}
 use Rattle.ca_model.specs.machine.Completions.{success_marks}
-use Rattle.ca_model.specs.machine.LocalOperations.{Bind1_plan, Bind2_plan, Finishing, Perform_op, PlacedRegion, With_former, With_named, bind1_changes, bind1_marks, bind1_refusal, bind2_changes, bind2_marks, bind2_refusal, drawn_by, fast_marks, fast_refusal, invalidate_row, operation_effects, region_slot, window_slot}
+use Rattle.ca_model.specs.machine.LocalOperations.{Bind1_plan, Bind2_plan, Finishing, Perform_op, PlacedRegion, With_former, With_named, bind1_changes, bind1_marks, bind1_refusal, bind2_changes, bind2_marks, bind2_refusal, drawn_by, fast_marks, fast_refusal, invalidate_row, operation_effects, region_slot, window_slot, bind_grant, view_named}
 use Rattle.ca_model.specs.machine.Numbering.{Numbered}
 use Rattle.ca_model.specs.machine.Plan.{Plan, Look, Update, Write}
 use Rattle.ca_model.specs.machine.Row.{Ending, NotPossible, Does, Effects, Row, Row_plan, queue_and_marks, region_under, unless_none}
 use Rattle.ca_model.specs.machine.Seen.{ending_changes, perform_ending, refusal_in, sight_in, writes_in}
 use Rattle.ca_model.specs.machine.Sound.{IsSoundWorld}
 use Rattle.ca_model.specs.machine.World.{Region_of, World}
-use Rattle.std.proofs.Common.{IfSome, ◌==◌, not, is_some}
 use Rattle.std.proofs.lemmas.Bool.{eq-eqb, eqb-true, not-false, or_parts}
 use Rattle.ca_judged.proofs.WholeLemmas.{IsWhole, part-whole, region-whole, some-path}
 use Rattle.ca_keys.specs.Memory.{places_count}
@@ -45,14 +44,9 @@ use Rattle.ca_laws_sound.proofs.RegionLemmas.{sound-fast}
 use Rattle.ca_laws_sound.proofs.TurnLemmas.{all-fail}
 use Rattle.ca_laws_windows.proofs.WindowBindLemmas.{IsInside, named-within}
 use Rattle.ca_model.specs.Judged.{is_judged}
-use Rattle.std.specs.Option.{option_map}
-use Rattle.ca_base.specs.objects.LocalRequest.{bind1_request_refusals, bind2_request_refusals, fast_request_refusals, of_window}
 use Rattle.ca_base.specs.objects.Region.{Region, grant_of_region, pages_needed}
 use Rattle.ca_base.specs.objects.Slices.{buffer_length, slot_of_key}
-use Rattle.ca_base.specs.objects.Window.{binding_refusals, is_within}
 use Rattle.ca_base.specs.Grants.{grant_of_bind, grant_of_fast_registration}
-use Rattle.ca_model.specs.machine.LocalOperations.{bind_grant, view_named}
-use Rattle.ca_model.specs.machine.Acknowledgements.{failure_effects}
 use Rattle.ca_keys.specs.Refusals.{AllFail}
 
 -- a row's plan leads on with marks that are judged

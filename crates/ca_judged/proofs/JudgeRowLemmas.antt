@@ -2,15 +2,14 @@
 use Rattle.std.proofs.Common.{rules, nat_le, ◌%◌, ◌||◌, true≢false, find, sym, subst, arith, ◌<◌, min, map, ◌≡◌, ◌*◌, ℕ, suc, ◌+◌, nat_lt, Bool, true, false, List, [], ◌∷◌, ◌++◌, length, Option, None, Some, ap, ◌&&◌, not, is_none, ◌==◌, if◌then◌else◌, refl, slice_get, Result, Ok, Err, ◌∙◌}
 use Rattle.std.specs.Option.{option_and_then, option_eq, option_map, option_map_or}
 use Rattle.std.specs.Result.{result_ok}
-use Rattle.std.specs.List.{flat_map}
-use Rattle.std.specs.List.{AllByRecursion}
+use Rattle.std.specs.List.{flat_map, AllByRecursion}
 use Rattle.ca_base.specs.declared.change.State.TheVariants as states
-use Rattle.ca_base.specs.declared.completion.WcStatus.TheVariants.{BadResponse, LocalProtection, LocalLength, MemoryManagement, Success}
+use Rattle.ca_base.specs.declared.completion.WcStatus.TheVariants.{BadResponse, LocalProtection, LocalLength, MemoryManagement, Success, RetryExceeded}
 use Rattle.ca_base.specs.declared.refusals.OpRefusal.{OpRefusal}
 use Rattle.ca_base.specs.declared.denied_ask.DeniedAsk.{DeniedAsk}
-use Rattle.ca_base.specs.Sight.{Invalidation}
+use Rattle.ca_base.specs.Sight.{Invalidation, Sight, first_denied, bytes_in}
 use Rattle.ca_base.specs.objects.QueuePair.{QueuePair}
-use Rattle.ca_base.specs.objects.StateTable.{is_among}
+use Rattle.ca_base.specs.objects.StateTable.{is_among, is_path_mtu}
 use Rattle.ca_wire.specs.declared.syndrome.NakCode.{NakCode}
 use Rattle.ca_wire.specs.declared.syndrome.NakCode.TheVariants.{InvalidRequest, RemoteOperationalError, RemoteAccessError}
 use Rattle.ca_packet.specs.declared.opcode.TheConstants.{ACKNOWLEDGE}
@@ -18,9 +17,9 @@ use Rattle.ca_packet.specs.Packet.{Fields}
 use Rattle.ca_wire.specs.Syndrome.{syndrome_in}
 use Rattle.ca_model.specs.declared.mark.Drop1.{Drop1}
 use Rattle.ca_model.specs.declared.mark.Drop1.TheVariants as drops
-use Rattle.ca_model.specs.machine.Acknowledgements.{Acknowledgement, acknowledgement_below, and_then, failure_effects, progress_to}
-use Rattle.ca_model.specs.machine.Numbering.{Numbered, request_at}
-use Rattle.ca_model.specs.machine.Requester.{local_denial, denied_list_effects, is_outstanding, is_too_much, packet_asks, packet_row, sent_packet}
+use Rattle.ca_model.specs.machine.Acknowledgements.{Acknowledgement, acknowledgement_below, and_then, failure_effects, progress_to, first_unanswered, one_retry, with_cursor, with_requester, with_una}
+use Rattle.ca_model.specs.machine.Numbering.{Numbered, request_at, cut_list, begun_requests}
+use Rattle.ca_model.specs.machine.Requester.{local_denial, denied_list_effects, is_outstanding, is_too_much, packet_asks, packet_row, sent_packet, index_of_packet}
 use Rattle.ca_model.specs.machine.Responses.{acknowledge_row, answer_asks, answer_bytes, answer_row, drop_effects, fits_request, fitting_row, is_outstanding_at, local_writes, outstanding_row, response_psn, response_row, segment_at, writes_by}
 use Rattle.ca_model.specs.machine.Row.{NotPossible, Does, Effects, Row, plain_row, queue_and_marks}
 use Rattle.ca_keys.specs.declared.access.Kind.{Kind}
@@ -34,13 +33,13 @@ use Rattle.ca_psn.specs.Psn.{widened}
 use Rattle.ca_packet.specs.declared.atomic_eth.AtomicEth.{AtomicEth}
 use Rattle.ca_packet.specs.declared.reth.Reth.{Reth}
 use Rattle.ca_packet.specs.declared.shape.Position.{Position}
-use Rattle.ca_model.specs.Packets.{is_response}
-use Rattle.ca_model.specs.Requests.{list_length}
-use Rattle.ca_model.specs.machine.Arrivals.{next_receive, refusal_effects, with_flag, with_receive_taken, with_message}
+use Rattle.ca_model.specs.Packets.{is_response, asks_atomic, number_put, packet_of}
+use Rattle.ca_model.specs.Requests.{list_length, carried_bytes, list_of}
+use Rattle.ca_model.specs.machine.Arrivals.{next_receive, refusal_effects, with_flag, with_receive_taken, with_message, packet_ask, remote_mark}
 use Rattle.ca_model.specs.machine.Duplicates.{ahead_effects, duplicate_effects, request_row}
 use Rattle.ca_model.specs.declared.receiving.Receiving.{Receiving}
 use Rattle.ca_model.specs.declared.write_reach.WriteReach.{WriteReach}
-use Rattle.ca_model.specs.machine.Expected.{after_send_packet, atomic_row, behind_marks, expected_row, invalidation_of, is_invalid, read_queued, receive_asks, receive_failure_effects, receiving_of, revoked_marks, rnr_effects, send_row, takes_receive, valid_row, with_shared_receive, with_window_gone, write_reach, write_row, message_left, queue_after_packet}
+use Rattle.ca_model.specs.machine.Expected.{after_send_packet, atomic_row, behind_marks, expected_row, invalidation_of, is_invalid, read_queued, receive_asks, receive_failure_effects, receiving_of, revoked_marks, rnr_effects, send_row, takes_receive, valid_row, with_shared_receive, with_window_gone, write_reach, write_row, message_left, queue_after_packet, after_write_packet, continues, fits_left, fits_payload, fits_position, fits_write, has_no_place, is_misaligned}
 use Rattle.ca_packet.specs.declared.shape.Shape.{Shape}
 use Rattle.ca_packet.specs.declared.shape.Shape.TheVariants as shapes
 use Rattle.ca_packet.specs.Table.{shape_of}
@@ -51,32 +50,22 @@ use Rattle.ca_packet.specs.declared.wire_error.WireError.{WireError}
 use Rattle.ca_packet.specs.Decoding.{packet_in}
 use Rattle.ca_model.specs.machine.Delivery.{arrival_drops, arrival_row, packet_arrived}
 use Rattle.ca_model.specs.declared.read_left.ReadLeft.{ReadLeft}
-use Rattle.ca_model.specs.machine.Respond.{answer_turn, respond_refusals, respond_row}
+use Rattle.ca_model.specs.machine.Respond.{answer_turn, respond_refusals, respond_row, response_ask, response_length}
 use Rattle.ca_model.specs.machine.LocalOperations.{invalidate_row, operation_effects}
 use Rattle.ca_base.specs.declared.completion.WcOp.TheVariants as operations
 use Rattle.ca_base.specs.declared.queue_numbers.Message.{Message}
 use Rattle.ca_base.specs.declared.queue_numbers.Message.TheVariants as messages
 use Rattle.ca_packet.specs.Shapes.{ends}
-use Rattle.ca_model.specs.machine.Completions.{receive_mark}
-use Rattle.ca_model.specs.machine.Expected.{with_window_gone}
-use Rattle.ca_model.specs.machine.LocalOperations.{invalidate_row}
+use Rattle.ca_model.specs.machine.Completions.{receive_mark, flush_marks, success_marks}
 use Rattle.ca_keys.specs.declared.access.Ask.{Ask}
 use Rattle.ca_keys.specs.declared.grant.Grant.{Grant}
 use Rattle.ca_model.specs.declared.mark.Mark.{Mark}
-use Rattle.ca_model.specs.machine.Completions.{flush_marks, success_marks}
 use Rattle.ca_laws_sound.proofs.WorldLemmas.{EndingDoes}
 use Rattle.ca_keys.specs.declared.verdict.Verdict.TheVariants as verdicts
-use Rattle.ca_model.specs.machine.Arrivals.{packet_ask, remote_mark}
-use Rattle.ca_model.specs.machine.Expected.{after_write_packet}
-use Rattle.ca_model.specs.Requests.{carried_bytes, list_of}
 use Rattle.ca_base.specs.declared.request.Piece.{Piece}
-use Rattle.ca_model.specs.machine.Requester.{index_of_packet}
-use Rattle.ca_model.specs.machine.Respond.{response_ask, response_length}
-use Rattle.ca_base.specs.declared.limits.TheConstants.{ATOMIC_BYTES}
-use Rattle.ca_base.specs.Sight.{Sight, first_denied}
+use Rattle.ca_base.specs.declared.limits.TheConstants.{ATOMIC_BYTES, MAX_MESSAGE_BYTES}
 use Rattle.ca_keys.specs.Allowed.{denial_of}
-use Rattle.ca_model.specs.Past.{remote_ask}
-use Rattle.ca_model.specs.machine.Numbering.{cut_list}
+use Rattle.ca_model.specs.Past.{remote_ask, Past, each_mark, packet_at}
 use Rattle.std.proofs.lemmas.Bool.{eq-eqb, eqb-true, not-false}
 use Rattle.std.proofs.lemmas.List.{append-nil}
 use Rattle.std.specs.Str.{bytes_eq}
@@ -85,19 +74,10 @@ use Rattle.ca_agree_keys.proofs.CalmLemmas.{marks-calm}
 use Rattle.ca_agree_keys.proofs.PlainLemmas.{ArePlainMarks, IsPlainEffects, acknowledge-plain, ahead-plain, below-plain, drop-plain, duplicate-plain, failure-plain, flush-plain, plain-then, progress-plain, receive-plain, refusal-plain, success-plain, took-plain}
 use Rattle.ca_agree_keys.proofs.ToldLemmas.{At, touch-alike}
 use Rattle.ca_judged.proofs.JudgeLemmas.{Judges, RowJudged, Sees, With, both-true, calm-keeps, effects-judged, judges-append, list-read, list-written, local-denied, none-denied, none-read, plain-judged, plain-row, read-right, remote-allowed, remote-denied, row-weaker, seen-bytes, written-keeps}
-use Rattle.ca_base.specs.Sight.{bytes_in}
-use Rattle.ca_base.specs.objects.StateTable.{is_path_mtu}
 use Rattle.ca_keys.specs.Equal.{kind_eq}
 use Rattle.ca_keys.specs.Memory.{ByteMap, bytes_at, little_endian, runs_at, runs_for}
 use Rattle.ca_keys.specs.declared.names.QueueId.{QueueId}
-use Rattle.ca_base.specs.declared.limits.TheConstants.{MAX_MESSAGE_BYTES}
 use Rattle.ca_model.specs.Judged.{held, is_fitting_size, is_judged, is_of_domain, puts}
-use Rattle.ca_model.specs.Packets.{asks_atomic, number_put, packet_of}
-use Rattle.ca_model.specs.Past.{Past, each_mark, packet_at}
-use Rattle.ca_model.specs.machine.Acknowledgements.{first_unanswered, one_retry, with_cursor, with_requester, with_una}
-use Rattle.ca_base.specs.declared.completion.WcStatus.TheVariants.{RetryExceeded}
-use Rattle.ca_model.specs.machine.Expected.{continues, fits_left, fits_payload, fits_position, fits_write, has_no_place, is_misaligned}
-use Rattle.ca_model.specs.machine.Numbering.{begun_requests}
 use Rattle.ca_packet.specs.declared.shape.Position.TheVariants.{First, Middle, Last, Only}
 use Rattle.ca_packet.specs.Table.{Row as OpcodeRow, request_shape, row_of, table}
 
