@@ -138,12 +138,7 @@ fn push_poll(marks: &mut Vec<Mark>, by: u32, slot: Slot, n: u8, least: u8, answe
 
 /// Adds the mark of an answer, in room that is there.
 #[inline(never)]
-fn push_answer(
-    marks: &mut Vec<Mark>,
-    by: u32,
-    verb: &Verb,
-    answer: Answer,
-) -> Result<(), Memory>
+fn push_answer(marks: &mut Vec<Mark>, by: u32, verb: &Verb, answer: Answer) -> Result<(), Memory>
     requires { vec_len marks.old < vec_capacity marks.old }
     ensures { OnOk result (marks.new.items ≡ marks.old.items
         ++ answer_mark (record { by = by; verb = verb.now }) answer ∷ []) }

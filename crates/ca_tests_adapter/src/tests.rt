@@ -255,6 +255,12 @@ fn a_long_store_is_refused(rt: HostRuntime) {
         assert!(rt; false, "a fabric");
         return;
     };
-    store_answers(&rt, alloc, &mut row, 4097, "-> refused out-of-range:length\n");
+    store_answers(
+        &rt,
+        alloc,
+        &mut row,
+        4097,
+        "-> refused out-of-range:length\n",
+    );
     store_answers(&rt, alloc, &mut row, 4096, "0000\n");
 }
