@@ -28,7 +28,7 @@ use ca_qpstate::QueuePart;
 /// the window of a bind, `OutOfRange` of an atomic's list, `TooLong`, `QueueState` but in Ready to Send, Send Queue Drain
 /// and Error, and `QueueFull`. Only then a bind of a type 1 window draws its byte, and its key is the answer. In Error all
 /// that is unfinished is flushed at once. `Memory` leaves all as it was.
-#[tactic(auto, using(crate::proofs::SendLemmas::send_refused, crate::proofs::SendLemmas::send_absent, crate::proofs::SendLemmas::send_no_window, crate::proofs::SendLemmas::send_window_held, crate::proofs::SendLemmas::send_cq_held, crate::proofs::SendLemmas::send_acts, crate::proofs::SendLemmas::send_quietly_acts, crate::proofs::SendLemmas::send_has_place, crate::proofs::SendLemmas::send_fits))]
+#[tactic(auto, using(crate::proofs::SendLemmas::send_refused, crate::proofs::SendLemmas::send_absent, crate::proofs::SendLemmas::send_no_window, crate::proofs::SendLemmas::send_window_held, crate::proofs::SendLemmas::send_quietly_acts, crate::proofs::SendLemmas::send_has_place))]
 pub fn post_send(
     call: &Call<'_>,
     held: &mut Held,

@@ -1,11 +1,10 @@
-use Rattle.std.proofs.Common.{rules, ◌≡◌, Ok, refl, subst, sym}
+use Rattle.std.proofs.Common.{rules, ◌≡◌, subst}
 use Rattle.ca_base.specs.objects.QueuePair.{Present}
 use Rattle.ca_keys.specs.Numbers.{queue_of}
 use Rattle.ca_held.specs.HeldView.{holding}
 use Rattle.ca_model.specs.machine.Sound.{IsQueueOf}
-use Rattle.ca_acts.specs.Act.{IsAct}
 use Rattle.ca_acts.specs.Calls.{call_of}
-use Rattle.ca_acts_queues.proofs.SendLemmas.{send_acts, send_refused}
+use Rattle.ca_acts_queues.proofs.SendLemmas.{send_acts}
 use Rattle.ca_acts_queues.proofs.sends.post_loudly.Goals as goal
 
 pub returns : goal.returns
