@@ -143,6 +143,33 @@ fn follows<R: Abort + AllocGlobal>(rt: &R, setup: &str, trace: &str) {
     goes_on(rt, alloc, &mut row, trace);
 }
 
+/// Whether too few completions wait for a poll. Where it wants memory it is made again.
+fn is_empty(alloc: Global, row: &mut Row, event: &Event) -> bool
+    requires { IsRow row.old }
+    ensures { IsRow row.new }
+{
+    if row.count >= MOST_ENTRIES || !is_transport(event) {
+        return false;
+    }
+    match row.make(alloc, event) {
+        Err(StepError::NotReady(Reason::Empty)) => true,
+        Err(StepError::Memory) => is_empty_again(alloc, row, event),
+        _ => false,
+    }
+}
+
+/// The same, once more.
+fn is_empty_again(alloc: Global, row: &mut Row, event: &Event) -> bool
+    requires { IsRow row.old }
+    ensures { IsRow row.new }
+{
+    if row.count >= MOST_ENTRIES || !is_transport(event) {
+        return false;
+    }
+    let outcome = row.make(alloc, event);
+    matches!(outcome, Err(StepError::NotReady(Reason::Empty)))
+}
+
 /// A poll of the first completion queue for at least so many completions is not possible yet.
 fn waits_for(rt: &impl Abort, alloc: Global, row: &mut Row, least: u8)
     requires { IsRow row.old }
@@ -159,14 +186,7 @@ fn waits_for(rt: &impl Abort, alloc: Global, row: &mut Row, least: u8)
         by: 0,
         verb: Verb::Poll { slot, n: 16, least },
     };
-    if row.count >= MOST_ENTRIES {
-        return;
-    }
-    let outcome = match row.make(alloc, &event) {
-        Err(StepError::Memory) => row.make(alloc, &event),
-        outcome => outcome,
-    };
-    let waits = matches!(outcome, Err(StepError::NotReady(Reason::Empty)));
+    let waits = is_empty(alloc, row, &event);
     assert!(rt; waits, "a poll for at least {least} completions");
 }
 
