@@ -101,8 +101,8 @@ fn polls(alloc: Global, row: &mut Row, count: u8) -> Option<u32>
     Some(sum)
 }
 
-/// Posts so many WRITEs to a queue pair that sends, brings it to Error, where each is flushed, and polls the completions,
-/// one by one; how many came.
+/// Posts so many WRITEs to a queue pair that sends, brings it to Error, where each is flushed, and polls the
+/// completions, one by one; how many came.
 fn work(alloc: Global, count: u8) -> Option<u32> {
     let mut row = row(alloc)?;
     posts(alloc, &mut row, count)?;

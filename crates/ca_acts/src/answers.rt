@@ -61,8 +61,8 @@ impl Call<'_> {
         })
     }
 
-    /// The mark of the verb's answer, where that is known before anything changes. Posts of sends and polls, which come most
-    /// often, are copied where they come to lie.
+    /// The mark of the verb's answer, where that is known before anything changes. Posts of sends and polls, which come
+    /// most often, are copied where they come to lie.
     #[inline(always)]
     pub fn answer(&self, answer: Answer) -> Result<Marks, Memory>
         ensures { IfOk result (λ m. m.marks ≡ answer_mark (call_of self.now) answer ∷ []) }

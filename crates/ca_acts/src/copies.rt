@@ -4,8 +4,8 @@ use arrayvec::ArrayVec;
 use ca_base::limits::MAX_PIECES;
 use ca_base::{Memory, Piece, SendOp, SendRequest};
 
-/// A copy of a send request. SENDs, WRITEs and READs, which are most of what is posted, are copied by themselves: a copy of
-/// any operation first makes place for each kind of it.
+/// A copy of a send request. SENDs, WRITEs and READs, which are most of what is posted, are copied by themselves: a copy
+/// of any operation first makes place for each kind of it.
 #[inline(always)]
 pub fn copy_of_send(request: &SendRequest) -> Result<SendRequest, Memory>
     ensures { IfOk result (λ copy. copy ≡ request.now) }

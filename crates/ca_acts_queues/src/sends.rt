@@ -61,8 +61,8 @@ pub fn post_send(
     post_loudly(call, held, slot, request)
 }
 
-/// A request that is not refused is posted: the byte of its window is drawn, and what completes at once is put. `Memory`
-/// leaves all as it was.
+/// A request that is not refused is posted: the byte of its window is drawn, and what completes at once is put.
+/// `Memory` leaves all as it was.
 #[inline(never)]
 #[tactic(auto, using(crate::proofs::SendLemmas::send_absent, crate::proofs::SendLemmas::send_window_held, crate::proofs::SendLemmas::send_cq_held, crate::proofs::SendLemmas::send_acts, crate::proofs::SendLemmas::send_has_place, crate::proofs::SendLemmas::send_fits))]
 fn post_loudly(
@@ -103,7 +103,8 @@ fn post_loudly(
     Ok(marks)
 }
 
-/// A request that draws no byte is posted to a queue pair that is held and flushes nothing. `Memory` leaves all as it was.
+/// A request that draws no byte is posted to a queue pair that is held and flushes nothing. `Memory` leaves all as it
+/// was.
 #[inline(always)]
 #[tactic(auto, using(ca_held::proofs::HoldLemmas::put_queue, crate::proofs::PostingLemmas::queue_held_same))]
 fn post_quietly(
