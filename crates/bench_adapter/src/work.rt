@@ -34,9 +34,9 @@ fn write() -> Option<SendRequest> {
     })
 }
 
-/// Posts a WRITE.
+/// Posts a WRITE, and lets its marks go; how many requests the queue pair took. None comes also where it is refused.
 #[inline(never)]
-fn post_one(alloc: Global, row: &mut Row, request: SendRequest) -> Option<Marks>
+fn post_one(alloc: Global, row: &mut Row, request: SendRequest) -> Option<u32>
     requires { IsRow row.old }
     ensures { IsRow row.new }
 {
@@ -44,12 +44,18 @@ fn post_one(alloc: Global, row: &mut Row, request: SendRequest) -> Option<Marks>
         slot: SLOT,
         request,
     };
-    call(alloc, row, verb)
+    let marks = call(alloc, row, verb)?;
+    let posted = match answer_of(&marks) {
+        Some(Answer::Posted(_)) => Some(1),
+        _ => None,
+    };
+    let_go(marks);
+    posted
 }
 
-/// Polls one completion.
+/// Polls one completion, and lets the marks go; how many completions came. None comes also where it is refused.
 #[inline(never)]
-fn poll_one(alloc: Global, row: &mut Row) -> Option<Marks>
+fn poll_one(alloc: Global, row: &mut Row) -> Option<u32>
     requires { IsRow row.old }
     ensures { IsRow row.new }
 {
@@ -58,29 +64,18 @@ fn poll_one(alloc: Global, row: &mut Row) -> Option<Marks>
         n: 1,
         least: 1,
     };
-    call(alloc, row, verb)
+    let marks = call(alloc, row, verb)?;
+    let polled = match answer_of(&marks) {
+        Some(Answer::Polled(completions)) => Some(completions.as_slice().len() as u32),
+        _ => None,
+    };
+    let_go(marks);
+    polled
 }
 
 /// Lets marks go.
 #[inline(never)]
-fn let_go(marks: Marks) {}
-
-/// How many requests a post took: one, or none where it was refused. Its marks are let go.
-fn posted(marks: Marks) -> Option<u32> {
-    let posted = matches!(answer_of(&marks), Some(Answer::Posted(_)));
-    let_go(marks);
-    if posted { Some(1) } else { None }
-}
-
-/// How many completions a poll took, none where it was refused. Its marks are let go.
-fn polled(marks: Marks) -> Option<u32> {
-    let polled = match answer_of(&marks) {
-        Some(Answer::Polled(completions)) => completions.as_slice().len() as u32,
-        _ => 0,
-    };
-    let_go(marks);
-    if polled == 1 { Some(1) } else { None }
-}
+fn let_go(_marks: Marks) {}
 
 /// Posts so many WRITEs to a queue pair that sends; how many it took.
 fn posts(alloc: Global, row: &mut Row, count: u8) -> Option<u32>
@@ -89,8 +84,7 @@ fn posts(alloc: Global, row: &mut Row, count: u8) -> Option<u32>
 {
     let mut sum: u32 = 0;
     for _ in 0..count {
-        let marks = post_one(alloc, row, write()?)?;
-        sum = sum.saturating_add(posted(marks)?);
+        sum = sum.saturating_add(post_one(alloc, row, write()?)?);
     }
     Some(sum)
 }
@@ -102,14 +96,13 @@ fn polls(alloc: Global, row: &mut Row, count: u8) -> Option<u32>
 {
     let mut sum: u32 = 0;
     for _ in 0..count {
-        let marks = poll_one(alloc, row)?;
-        sum = sum.saturating_add(polled(marks)?);
+        sum = sum.saturating_add(poll_one(alloc, row)?);
     }
     Some(sum)
 }
 
-/// Posts so many WRITEs to a queue pair that sends, brings it to Error, where each is flushed, and polls the completions,
-/// one by one; how many came.
+/// Posts so many WRITEs to a queue pair that sends, brings it to Error, where each is flushed, and polls the
+/// completions, one by one; how many came.
 fn work(alloc: Global, count: u8) -> Option<u32> {
     let mut row = row(alloc)?;
     posts(alloc, &mut row, count)?;

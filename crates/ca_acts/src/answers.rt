@@ -5,6 +5,7 @@ ghost use Rattle.ca_model.specs.declared.answer.Answer.TheVariants as answers;
 ghost use Rattle.ca_model.specs.declared.verb.Verb.TheVariants as verbs;
 ghost use Rattle.ca_acts.specs.Calls.{call_of, call_ready};
 
+use crate::copies::copy_of_send;
 use ca_base::{Memory, SendRequest, Slot};
 use ca_model::{Answer, Mark, Marks, Refusal, Verb};
 use std::alloc::Global;
@@ -60,8 +61,8 @@ impl Call<'_> {
         })
     }
 
-    /// The mark of the verb's answer, where that is known before anything changes. Posts of sends and polls, which come most
-    /// often, are copied where they come to lie.
+    /// The mark of the verb's answer, where that is known before anything changes. Posts of sends and polls, which come
+    /// most often, are copied where they come to lie.
     #[inline(always)]
     pub fn answer(&self, answer: Answer) -> Result<Marks, Memory>
         ensures { IfOk result (λ m. m.marks ≡ answer_mark (call_of self.now) answer ∷ []) }
@@ -116,8 +117,10 @@ fn push_post(
     ensures { OnOk result (marks.new.items ≡ marks.old.items
         ++ answer_mark (record { by = by; verb = verbs.PostSend slot request.now }) answer ∷ []) }
 {
-    let request = request.clone()?;
-    let verb = Verb::PostSend { slot, request };
+    let verb = Verb::PostSend {
+        slot,
+        request: copy_of_send(request)?,
+    };
     marks.push_reserved(Mark::Verb { by, verb, answer });
     Ok(())
 }

@@ -10,6 +10,7 @@
 mod answers;
 mod completion_queues;
 mod completions;
+mod copies;
 mod depths;
 mod domains;
 mod done;
@@ -23,6 +24,7 @@ mod windows;
 pub use answers::{Call, Ready};
 pub use completion_queues::{create_cq, destroy_cq};
 pub use completions::{completions_to, put_completions};
+pub use copies::copy_of_send;
 pub use depths::is_no_depth;
 pub use domains::{alloc_pd, dealloc_pd};
 pub use done::{Outlets, put_done};

@@ -60,6 +60,7 @@ pub fn poll(
 }
 
 /// The completions of which the mark of a poll tells.
+#[inline(always)]
 fn polled_in(marks: &Marks) -> &[Completion]
     ensures { result.now ≡ polled_of marks.now.marks }
 {
@@ -105,6 +106,7 @@ fn take_first(held: &mut Held, slot: Slot, count: u8)
 
 /// The first completions are taken, so many.
 #[tactic(auto, using(crate::proofs::PollLemmas::one_taken))]
+#[inline(always)]
 fn take_from(cq: &mut Cq, count: u8)
     ensures { cq.new ≡ after_polls count cq.old }
 {

@@ -2,8 +2,9 @@ ghost use Rattle.std.specs.Prelude.{◌≡◌, ◌<◌, [], ◌∷◌, true, fal
 ghost use Rattle.ca_base.specs.objects.WorkQueue.{is_full};
 ghost use Rattle.ca_base.specs.objects.QueuePair.{queue_in};
 ghost use Rattle.ca_keys.specs.Numbers.{queue_of};
+ghost use Rattle.ca_keys.specs.Refusals.{first_of};
 ghost use Rattle.ca_held.specs.HeldView.{hold, holding};
-ghost use Rattle.ca_model.specs.machine.PostingVerbs.{after_flush, post_send_plan, with_send};
+ghost use Rattle.ca_model.specs.machine.PostingVerbs.{after_flush, post_send_plan, post_send_refusals, with_send};
 ghost use Rattle.ca_model.specs.declared.answer.Answer.TheVariants as answers;
 ghost use Rattle.ca_model.specs.machine.Sound.{IsQueueOf};
 ghost use Rattle.ca_model.specs.machine.VerbAnswers.{answer_mark};
@@ -17,7 +18,7 @@ use crate::drawing::{draw, is_no_window, key_for, window_of_bind};
 use crate::flushes::{flush_in_error, flushed_with_send};
 use crate::refusals::send_refusal;
 use crate::states::is_error;
-use ca_acts::{Call, completions_to, put_completions};
+use ca_acts::{Call, completions_to, copy_of_send, put_completions};
 use ca_base::{Memory, PostedSend, QueueId, SendRequest, Slot, StepError};
 use ca_held::{Held, QueueSlot};
 use ca_model::{Answer, Marks, Refusal};
@@ -27,7 +28,7 @@ use ca_qpstate::QueuePart;
 /// the window of a bind, `OutOfRange` of an atomic's list, `TooLong`, `QueueState` but in Ready to Send, Send Queue Drain
 /// and Error, and `QueueFull`. Only then a bind of a type 1 window draws its byte, and its key is the answer. In Error all
 /// that is unfinished is flushed at once. `Memory` leaves all as it was.
-#[tactic(auto, using(crate::proofs::SendLemmas::send_refused, crate::proofs::SendLemmas::send_absent, crate::proofs::SendLemmas::send_no_window, crate::proofs::SendLemmas::send_window_held, crate::proofs::SendLemmas::send_cq_held, crate::proofs::SendLemmas::send_acts, crate::proofs::SendLemmas::send_quietly_acts, crate::proofs::SendLemmas::send_has_place, crate::proofs::SendLemmas::send_fits))]
+#[tactic(auto, using(crate::proofs::SendLemmas::send_refused, crate::proofs::SendLemmas::send_absent, crate::proofs::SendLemmas::send_no_window, crate::proofs::SendLemmas::send_window_held, crate::proofs::SendLemmas::send_quietly_acts, crate::proofs::SendLemmas::send_has_place))]
 pub fn post_send(
     call: &Call<'_>,
     held: &mut Held,
@@ -57,6 +58,35 @@ pub fn post_send(
     if window.is_none() && !is_error(queue.state) {
         return Ok(post_quietly(call, held, name, request)?);
     }
+    post_loudly(call, held, slot, request)
+}
+
+/// A request that is not refused is posted: the byte of its window is drawn, and what completes at once is put.
+/// `Memory` leaves all as it was.
+#[inline(never)]
+#[tactic(auto, using(crate::proofs::SendLemmas::send_absent, crate::proofs::SendLemmas::send_window_held, crate::proofs::SendLemmas::send_cq_held, crate::proofs::SendLemmas::send_acts, crate::proofs::SendLemmas::send_has_place, crate::proofs::SendLemmas::send_fits))]
+fn post_loudly(
+    call: &Call<'_>,
+    held: &mut Held,
+    slot: Slot,
+    request: &SendRequest,
+) -> Result<Marks, StepError>
+    requires window { IfSome (drawing.window_of_bind slot request.now.op) (λ x. x.slot < 32768) }
+    requires suffices { Suffices held.old (post_send_plan (call_of call.now) slot request.now) }
+    requires queue { IsQueueOf (queue_of slot) ((holding held.old).world.queue (queue_of slot)) }
+    requires next { IfSome (queue_in ((holding held.old).world.queue (queue_of slot))) CanPostSend }
+    requires fits { IfSome (queue_in ((holding held.old).world.queue (queue_of slot)))
+        (FitsSend (holding held.old).world slot request.now) }
+    requires there { drawing.is_no_window (holding held.old).world (drawing.window_of_bind slot request.now.op) ≡ false }
+    requires accepted { IfSome (queue_in ((holding held.old).world.queue (queue_of slot)))
+        (λ q. first_of (post_send_refusals request.now q) ≡ None) }
+    ensures act { Acts result (post_send_plan (call_of call.now) slot request.now) held.old held.new }
+{
+    let name = QueueId::of_slot(slot);
+    let QueueSlot::Present(queue) = held.queue(name) else {
+        return Ok(call.refuse(Refusal::NoSuch)?);
+    };
+    let window = window_of_bind(slot, &request.op);
     let flushed = flushed_with_send(call.alloc, queue, request)?;
     let completions = completions_to(call.alloc, queue, queue.send_cq, flushed.as_slice())?;
     let cq = Slot {
@@ -64,7 +94,7 @@ pub fn post_send(
         slot: queue.send_cq,
     };
     let ready = call.ready_for(flushed.as_slice())?;
-    let request = copy_of(request)?;
+    let request = copy_of_send(request)?;
     let drawn = draw(held, window);
     post_in(held, name, PostedSend { request, drawn });
     put_completions(held, cq, completions.as_slice());
@@ -73,7 +103,8 @@ pub fn post_send(
     Ok(marks)
 }
 
-/// A request that draws no byte is posted to a queue pair that is held and flushes nothing. `Memory` leaves all as it was.
+/// A request that draws no byte is posted to a queue pair that is held and flushes nothing. `Memory` leaves all as it
+/// was.
 #[inline(always)]
 #[tactic(auto, using(ca_held::proofs::HoldLemmas::put_queue, crate::proofs::PostingLemmas::queue_held_same))]
 fn post_quietly(
@@ -104,7 +135,7 @@ fn post_copy(queue: &mut QueuePart, request: &SendRequest) -> Result<(), Memory>
     ensures ok { OnOk result (queue.new ≡ after_flush (with_send request.now None queue.old)) }
     ensures err { OnErr result (queue.new ≡ queue.old) }
 {
-    let request = copy_of(request)?;
+    let request = copy_of_send(request)?;
     post_to(
         queue,
         PostedSend {
@@ -138,11 +169,4 @@ fn post_to(queue: &mut QueuePart, posted: PostedSend)
 {
     let _ = queue.sends.post(posted);
     flush_in_error(queue);
-}
-
-/// A request's copy.
-fn copy_of(request: &SendRequest) -> Result<SendRequest, Memory>
-    ensures { IfOk result (λ copy. copy ≡ request.now) }
-{
-    Ok(request.clone()?)
 }

@@ -53,17 +53,17 @@ fn is_transport(event: &Event) -> bool
 }
 
 /// Makes an event. Where it wants memory it is made again, which shows that the parts stayed as they were.
-fn made(alloc: Global, row: &mut Row, event: &Event) -> Option<Marks>
+fn made(alloc: Global, row: &mut Row, event: &Event) -> Result<Marks, StepError>
     requires { IsRow row.old }
     ensures { IsRow row.new }
 {
     if row.count >= MOST_ENTRIES || !is_transport(event) {
-        return None;
+        return Err(StepError::Memory);
     }
     match row.make(alloc, event) {
-        Ok(marks) => Some(marks),
-        Err(StepError::Memory) => row.make(alloc, event).ok(),
-        Err(StepError::NotReady(_)) => None,
+        Ok(marks) => Ok(marks),
+        Err(StepError::Memory) => row.make(alloc, event),
+        Err(StepError::NotReady(reason)) => Err(StepError::NotReady(reason)),
     }
 }
 
@@ -73,7 +73,7 @@ fn is_made(rt: &impl Abort, alloc: Global, row: &mut Row, entry: Entry)
     ensures { IsRow row.new }
 {
     let want = text_of(alloc, &entry);
-    let Some(marks) = made(alloc, row, &entry.event) else {
+    let Ok(marks) = made(alloc, row, &entry.event) else {
         assert!(rt; false, "the event is possible");
         return;
     };
@@ -159,13 +159,7 @@ fn waits_for(rt: &impl Abort, alloc: Global, row: &mut Row, least: u8)
         by: 0,
         verb: Verb::Poll { slot, n: 16, least },
     };
-    if row.count >= MOST_ENTRIES {
-        return;
-    }
-    let outcome = match row.make(alloc, &event) {
-        Err(StepError::Memory) => row.make(alloc, &event),
-        outcome => outcome,
-    };
+    let outcome = made(alloc, row, &event);
     let waits = matches!(outcome, Err(StepError::NotReady(Reason::Empty)));
     assert!(rt; waits, "a poll for at least {least} completions");
 }
@@ -194,7 +188,7 @@ fn store_answers(rt: &impl Abort, alloc: Global, row: &mut Row, count: usize, wo
         bytes,
     };
     let event = Event::Verb { by: 0, verb };
-    let Some(marks) = made(alloc, row, &event) else {
+    let Ok(marks) = made(alloc, row, &event) else {
         assert!(rt; false, "the store is possible");
         return;
     };

@@ -5,7 +5,8 @@ slots 0 2 2 2 3 2 3\n\
 ";
 
 /// Verbs that are refused at the edge of each rule, and beside it those that are not, with the answers and marks that the
-/// rules ask for: first names outside the configured slices, then no domain, then vacant slots, and then verb by verb.
+/// rules ask for: first names outside the configured slices, then no domain, then vacant slots, and then verb by verb. What
+/// is refused while a window is bound is not among them: a bind is done in a turn.
 pub(super) const REFUSALS: &str = "\
 @0 p0 c0 pd 0/2 -> refused no-such\n\
 @1 p0 c0 unpd 0/2 -> refused no-such\n\
