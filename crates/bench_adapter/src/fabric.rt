@@ -4,7 +4,7 @@ ghost use Rattle.ca_replay.specs.Rows.{IsRow};
 
 use arrayvec::ArrayVec;
 use ca_base::{AdapterConfig, Bytes, Change, Config, DomainId, QueueId, Slot};
-use ca_model::{Contents, Event, Marks, Opening, Verb};
+use ca_model::{Answer, Contents, Event, Mark, Marks, Opening, Verb};
 use ca_opening::{fit_contents, is_limited};
 use ca_replay::Row;
 use std::alloc::Global;
@@ -20,10 +20,30 @@ pub const SLOT: Slot = Slot {
     slot: 0,
 };
 
+/// The change that has the queue pair take packets. Its peer is the second queue pair's slot.
+const READY_TO_RECEIVE: Change = Change::Rtr {
+    peer: QueueId {
+        adapter: 0,
+        number: 257,
+    },
+    incarnation: 1,
+    psn: 0,
+    mtu: 4096,
+    rnr_code: 12,
+};
+
+/// The change that has the queue pair send.
+const READY_TO_SEND: Change = Change::Rts {
+    psn: 0,
+    retry: 7,
+    rnr_retry: 7,
+    reads: 16,
+};
+
 /// More events than this are not made on one row.
 const MOST_EVENTS: u32 = 10_000;
 
-/// One adapter of one domain, with one queue pair and its completion queue, for at most so many events.
+/// One adapter of one domain, with one completion queue and two queue pairs, for at most so many events.
 fn opening(alloc: Global) -> Option<Opening> {
     let mut adapters = ArrayVec::new();
     let adapter = AdapterConfig {
@@ -33,7 +53,7 @@ fn opening(alloc: Global) -> Option<Opening> {
         windows: 1,
         cqs: 1,
         srqs: 1,
-        qps: 1,
+        qps: 2,
     };
     adapters.try_push(adapter).ok()?;
     Some(Opening {
@@ -58,8 +78,8 @@ pub fn call(alloc: Global, row: &mut Row, verb: Verb) -> Option<Marks>
     row.make(alloc, &event).ok()
 }
 
-/// The row of an adapter with a queue pair that sends, or one in Error.
-pub fn row(alloc: Global, last: Change) -> Option<Row>
+/// The row of an adapter with a queue pair that sends.
+pub fn row(alloc: Global) -> Option<Row>
     ensures { IfSome result (λ row. IsRow row) }
 {
     let opening = opening(alloc)?;
@@ -88,32 +108,28 @@ pub fn row(alloc: Global, last: Change) -> Option<Row>
             srq: None,
         },
     )?;
-    let [first, second] = changes();
-    change_state(alloc, &mut row, first)?;
-    change_state(alloc, &mut row, second)?;
-    change_state(alloc, &mut row, last)?;
+    change_state(alloc, &mut row, Change::Init)?;
+    change_state(alloc, &mut row, READY_TO_RECEIVE)?;
+    change_state(alloc, &mut row, READY_TO_SEND)?;
     Some(row)
 }
 
-/// Changes the state of the queue pair.
-fn change_state(alloc: Global, row: &mut Row, change: Change) -> Option<Marks>
+/// Changes the state of the queue pair. None comes also where that is refused.
+pub fn change_state(alloc: Global, row: &mut Row, change: Change) -> Option<Marks>
     requires { IsRow row.old }
     ensures { IsRow row.new }
 {
-    call(alloc, row, Verb::ModifyQp { slot: SLOT, change })
+    let marks = call(alloc, row, Verb::ModifyQp { slot: SLOT, change })?;
+    match answer_of(&marks) {
+        Some(Answer::Fine) => Some(marks),
+        _ => None,
+    }
 }
 
-/// The changes that bring the queue pair up to where it takes packets. It is its own peer.
-fn changes() -> [Change; 2] {
-    let ready_to_receive = Change::Rtr {
-        peer: QueueId {
-            adapter: 0,
-            number: 256,
-        },
-        incarnation: 1,
-        psn: 0,
-        mtu: 4096,
-        rnr_code: 12,
-    };
-    [Change::Init, ready_to_receive]
+/// What a verb answered.
+pub fn answer_of(marks: &Marks) -> Option<&Answer> {
+    match marks.as_slice().first() {
+        Some(Mark::Verb { answer, .. }) => Some(answer),
+        _ => None,
+    }
 }

@@ -1,9 +1,9 @@
 ghost use Rattle.ca_replay.specs.Rows.{IsRow};
 
-use crate::fabric::{SLOT, call, row};
+use crate::fabric::{SLOT, answer_of, call, change_state, row};
 use arrayvec::ArrayVec;
 use ca_base::{Change, Key, Piece, SendOp, SendRequest};
-use ca_model::Verb;
+use ca_model::{Answer, Marks, Verb};
 use ca_replay::Row;
 use std::alloc::Global;
 use std::env;
@@ -15,14 +15,6 @@ const PIECE: Piece = Piece {
     address: 0x1_0000_0008,
     key: Key(1),
     length: 8,
-};
-
-/// The change that has the queue pair send.
-const READY_TO_SEND: Change = Change::Rts {
-    psn: 0,
-    retry: 7,
-    rnr_retry: 7,
-    reads: 16,
 };
 
 /// A WRITE of the eight bytes.
@@ -42,23 +34,22 @@ fn write() -> Option<SendRequest> {
     })
 }
 
-/// Posts a WRITE; how many marks that made, which are let go.
+/// Posts a WRITE.
 #[inline(never)]
-fn post(alloc: Global, row: &mut Row) -> Option<usize>
+fn post_one(alloc: Global, row: &mut Row, request: SendRequest) -> Option<Marks>
     requires { IsRow row.old }
     ensures { IsRow row.new }
 {
     let verb = Verb::PostSend {
         slot: SLOT,
-        request: write()?,
+        request,
     };
-    let marks = call(alloc, row, verb)?;
-    Some(marks.as_slice().len())
+    call(alloc, row, verb)
 }
 
-/// Polls one completion; how many marks that made, which are let go.
+/// Polls one completion.
 #[inline(never)]
-fn poll(alloc: Global, row: &mut Row) -> Option<usize>
+fn poll_one(alloc: Global, row: &mut Row) -> Option<Marks>
     requires { IsRow row.old }
     ensures { IsRow row.new }
 {
@@ -67,57 +58,78 @@ fn poll(alloc: Global, row: &mut Row) -> Option<usize>
         n: 1,
         least: 1,
     };
-    let marks = call(alloc, row, verb)?;
-    Some(marks.as_slice().len())
+    call(alloc, row, verb)
 }
 
-/// Posts so many WRITEs to a queue pair that sends; how many marks that made.
-fn posts(alloc: Global, count: u8) -> Option<usize> {
-    let mut row = row(alloc, READY_TO_SEND)?;
-    let mut sum: usize = 0;
+/// Lets marks go.
+#[inline(never)]
+fn let_go(marks: Marks) {}
+
+/// How many requests a post took: one, or none where it was refused. Its marks are let go.
+fn posted(marks: Marks) -> Option<u32> {
+    let posted = matches!(answer_of(&marks), Some(Answer::Posted(_)));
+    let_go(marks);
+    if posted { Some(1) } else { None }
+}
+
+/// How many completions a poll took, none where it was refused. Its marks are let go.
+fn polled(marks: Marks) -> Option<u32> {
+    let polled = match answer_of(&marks) {
+        Some(Answer::Polled(completions)) => completions.as_slice().len() as u32,
+        _ => 0,
+    };
+    let_go(marks);
+    if polled == 1 { Some(1) } else { None }
+}
+
+/// Posts so many WRITEs to a queue pair that sends; how many it took.
+fn posts(alloc: Global, row: &mut Row, count: u8) -> Option<u32>
+    requires { IsRow row.old }
+    ensures { IsRow row.new }
+{
+    let mut sum: u32 = 0;
     for _ in 0..count {
-        sum = sum.saturating_add(post(alloc, &mut row)?);
+        let marks = post_one(alloc, row, write()?)?;
+        sum = sum.saturating_add(posted(marks)?);
     }
     Some(sum)
 }
 
-/// Posts so many WRITEs to a queue pair in Error, which flushes each, and polls each completion; how many marks that made.
-fn polls(alloc: Global, count: u8) -> Option<usize> {
-    let mut row = row(alloc, Change::Error)?;
-    let mut sum: usize = 0;
+/// Polls so many completions, one by one; how many came.
+fn polls(alloc: Global, row: &mut Row, count: u8) -> Option<u32>
+    requires { IsRow row.old }
+    ensures { IsRow row.new }
+{
+    let mut sum: u32 = 0;
     for _ in 0..count {
-        sum = sum.saturating_add(post(alloc, &mut row)?);
-        sum = sum.saturating_add(poll(alloc, &mut row)?);
+        let marks = poll_one(alloc, row)?;
+        sum = sum.saturating_add(polled(marks)?);
     }
     Some(sum)
 }
 
-/// Does what the word names, so many times; how many marks that made.
-fn sum_named(alloc: Global, word: &str, count: u8) -> Option<usize> {
-    match word {
-        "posts" => posts(alloc, count),
-        "polls" => polls(alloc, count),
-        _ => None,
-    }
+/// Posts so many WRITEs to a queue pair that sends, brings it to Error, where each is flushed, and polls the completions,
+/// one by one; how many came.
+fn work(alloc: Global, count: u8) -> Option<u32> {
+    let mut row = row(alloc)?;
+    posts(alloc, &mut row, count)?;
+    change_state(alloc, &mut row, Change::Error)?;
+    polls(alloc, &mut row, count)
 }
 
-/// Does what the first word names as often as the second says, at most 255 times, and prints how many marks that made.
-/// `posts` posts WRITEs; `polls` posts them in Error, and polls what completes at once.
+/// Does the work for as many WRITEs as the first word says, at most 255, and prints how many completions came.
 pub fn start<R: Env + Print + AllocGlobal>(rt: &R) -> ExitCode {
     let Ok(mut args) = env::args(rt) else {
         return ExitCode::from(2);
     };
     let _ = args.next();
-    let Some(word) = args.next() else {
-        return ExitCode::from(2);
-    };
     let Some(count) = args.next() else {
         return ExitCode::from(2);
     };
     let Ok(count) = count.as_str().parse::<u8>() else {
         return ExitCode::from(2);
     };
-    match sum_named(rt.alloc(), word.as_str(), count) {
+    match work(rt.alloc(), count) {
         Some(sum) if println!(rt; "{sum}").is_ok() => ExitCode::from(0),
         Some(_) => ExitCode::from(3),
         None => ExitCode::from(2),

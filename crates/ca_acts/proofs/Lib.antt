@@ -1,2 +1,3 @@
 pub mod RefusalLemmas
 mod CompletionLemmas
+pub mod DoneLemmas

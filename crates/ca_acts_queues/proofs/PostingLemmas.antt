@@ -1,15 +1,21 @@
 -- What a plan does that posts to a queue pair which is there, or is not. For proofs only.
-use Rattle.std.proofs.Common.{◌≡◌, refl, ap, ℕ, Bool, true, false, [], ◌∷◌, None, is_some, true≢false}
+use Rattle.std.proofs.Common.{◌≡◌, ◌∙◌, refl, ap, ℕ, Bool, true, false, [], ◌∷◌, Option, None, Some, is_some, true≢false}
+use Rattle.std.specs.Option.{option_map}
+use Rattle.std.proofs.lemmas.List.{append-nil}
 use Rattle.ca_keys.specs.Refusals.{first_of}
 use Rattle.ca_keys.specs.Numbers.{queue_of}
+use Rattle.ca_keys.specs.declared.names.QueueId.{QueueId}
 use Rattle.ca_keys.specs.declared.names.Slot.{Slot}
+use Rattle.ca_base.specs.objects.CompletionQueue.{CompletionQueue, after_puts}
 use Rattle.ca_base.specs.objects.QueuePair.{QueuePair, QueueSlot, NoQueue, Present}
 use Rattle.ca_model.specs.declared.answer.Answer.TheVariants as answers
 use Rattle.ca_model.specs.declared.answer.Refusal.TheVariants as refusals
 use Rattle.ca_model.specs.machine.Plan.{Did, Plan, perform, touches}
 use Rattle.ca_model.specs.machine.QueuePairVerbs.{With_present}
 use Rattle.ca_model.specs.machine.VerbAnswers.{Call, Refuse_plan, answer_mark}
-use Rattle.ca_model.specs.machine.World.{Queue_of, World}
+use Rattle.ca_model.specs.machine.World.{Cq_of, Queue_of, World}
+use Rattle.ca_model.proofs.ThingLemmas.{put-same}
+use Rattle.ca_held.specs.HeldView.{Holding, hold}
 
 -- a queue pair that a verb names is looked at
 pub present-performs : (w : World) (call : Call) (s : Slot) (k : QueuePair → Plan) (q : QueuePair) → w.queue (queue_of s) ≡ Present q
@@ -39,3 +45,15 @@ last-fails false true c d x y z v is = absurd (true≢false (ap is_some is))
 last-fails false false true d x y z v is = absurd (true≢false (ap is_some is))
 last-fails false false false true x y z v is = absurd (true≢false (ap is_some is))
 last-fails false false false false x y z v is = refl
+
+-- a queue pair that is held as it was leaves what is held
+pub queue_held_same : (h : Holding) (n : QueueId) → hold h (Queue_of n) (h.world.queue n) ≡ h
+queue_held_same h n = ap (λ w. record h { world = w }) (put-same h.world (Queue_of n))
+
+-- so does a completion queue into which nothing is put
+pub cq-held-same : (h : Holding) (s : Slot) → hold h (Cq_of s) (option_map (after_puts []) (h.world.cq s)) ≡ h
+cq-held-same h s = ap (hold h (Cq_of s)) (by (h.world.cq s)) ∙ ap (λ w. record h { world = w }) (put-same h.world (Cq_of s))
+  where
+    by : (o : Option CompletionQueue) → option_map (after_puts []) o ≡ o
+    by None = refl
+    by (Some q) = ap (λ xs. Some (record q { waiting = xs })) (append-nil q.waiting)

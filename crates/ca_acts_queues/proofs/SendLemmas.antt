@@ -29,14 +29,14 @@ use Rattle.ca_base.specs.declared.completion.Completion.{Completion}
 use Rattle.ca_base.specs.declared.change.Field.TheVariants as fields
 use Rattle.ca_base.specs.declared.change.State.TheVariants as states
 use Rattle.ca_base.specs.declared.limits.TheConstants.{ATOMIC_BYTES, MAX_MESSAGE_BYTES}
-use Rattle.ca_base.specs.objects.StateTable.{is_among}
+use Rattle.ca_base.specs.objects.StateTable.{is_among, state_eq}
 use Rattle.ca_held.specs.HeldView.{Holding, hold}
 use Rattle.ca_acts.specs.Act.{IsAct}
 use Rattle.ca_acts.specs.Room.{FitIn}
 use Rattle.ca_acts_queues.specs.Posting.{FitsSend, slot_with}
 use Rattle.ca_acts_queues.specs.Drawing.{byte_for, is_no_window, key_for, window_of_bind, windows_after, world_after_send}
 use Rattle.ca_acts.proofs.RefusalLemmas.{unless-passed, unless-refused}
-use Rattle.ca_acts_queues.proofs.PostingLemmas.{absent-performs, last-fails, present-performs, present-touches}
+use Rattle.ca_acts_queues.proofs.PostingLemmas.{absent-performs, cq-held-same, last-fails, present-performs, present-touches}
 
 -- what a send request does at a queue pair that is there: it looks at the window whose byte it draws, and is posted
 abbrev pub send_body : Call → Slot → SendRequest → Option Slot → QueuePair → Plan
@@ -186,6 +186,20 @@ send_acts h drawn one two call s request q m flushed done o byte is own window t
         ∙ ap (λ n. hold (hold moved (Queue_of n) (Present (after byte q))) (Cq_of cq) (option_map (after_puts done) (h.world.cq cq))) (sym own)
         ∙ ap (λ b. hold (hold moved (Queue_of q.queue) (Present (after b q))) (Cq_of cq) (option_map (after_puts done) (h.world.cq cq))) drew
         ∙ ap (λ cs. hold (hold moved (Queue_of q.queue) (Present (after (byte_for h.world o) q))) (Cq_of cq) (option_map (after_puts cs) (h.world.cq cq))) (completes ∙ ap (completions_to q q.send_cq) flush)
+
+-- where no byte is drawn and nothing is flushed, the request is posted, and that is all
+pub send_quietly_acts : (h new : Holding) (call : Call) (s : Slot) (request : SendRequest) (q : QueuePair) (m : MarkList)
+    → h.world.queue (queue_of s) ≡ Present q → q.queue ≡ queue_of s → window_of_bind s request.op ≡ None
+    → first_of (post_send_refusals request q) ≡ None → state_eq q.state states.Error ≡ false
+    → new ≡ hold h (Queue_of (queue_of s)) (slot_with (λ p. after_flush (with_send request None p)) (h.world.queue (queue_of s)))
+    → m.marks ≡ answer_mark call (answers.Posted None) ∷ []
+    → IsAct (Ok m) (perform h.world (post_send_plan call s request)) h new
+send_quietly_acts h new call s request q m is own window first quiet posted marks =
+    send_acts h h new new call s request q m [] [] None None is own (sym window) refl first refl flush refl refl posted
+    (sym (cq-held-same new (send_cq_of q))) marks
+  where
+    flush : [] ≡ marks_of_flush (with_send request None q)
+    flush = rw quiet refl
 
 -- a send request that is not refused has a place, and what it completes fits
 pub send_has_place : (request : SendRequest) (q : QueuePair) → first_of (post_send_refusals request q) ≡ None → is_full q.sends ≡ false

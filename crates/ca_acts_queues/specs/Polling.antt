@@ -11,6 +11,9 @@ use Rattle.ca_base.specs.objects.WorkQueue.{WorkQueue, after_retire}
 use Rattle.ca_base.specs.declared.request.RecvRequest.{RecvRequest}
 use Rattle.ca_base.specs.objects.SharedReceives.{after_receive_retire}
 use Rattle.ca_srq.specs.Taken.{stands_once}
+use Rattle.ca_model.specs.declared.answer.Answer.TheVariants as answers
+use Rattle.ca_model.specs.declared.mark.Mark.{Mark}
+use Rattle.ca_model.specs.declared.mark.Mark.TheVariants as marks
 use Rattle.ca_model.specs.machine.CompletionVerbs.{source_of_completion}
 use Rattle.ca_model.specs.machine.World.{World, Name, Queue_of, Srq_of, put}
 use Rattle.ca_acts_queues.specs.Posting.{slot_with}
@@ -91,3 +94,8 @@ IsApart cq q slot = is_some (source_in cq.reservations q) ≡ true → IfSome (q
 -- the same of all queue pairs
 abbrev pub AreApart : World → CompletionQueue → Type 0
 AreApart w cq = (q : QueueId) → IsApart cq q (w.queue q)
+
+-- the completions of which the mark of a poll tells
+abbrev pub polled_of : List Mark → List Completion
+polled_of (marks.Verb by verb (answers.Polled polled) ∷ rest) = polled
+polled_of ms = []

@@ -14,14 +14,14 @@ ghost use Rattle.ca_acts.specs.Act.{Acts, Suffices};
 ghost use Rattle.ca_acts.specs.Calls.{call_of};
 ghost use Rattle.ca_acts_queues.specs.Posting.{slot_with};
 ghost use Rattle.ca_acts_queues.specs.Polling.{AreApart, AreOfOwnPlaces, CanFreeAll, CanFreeEach, CanFreeOf, CanRetire};
-ghost use Rattle.ca_acts_queues.specs.Polling.{after_freeing_all, after_freeing, with_places_free, place_of, places_of, source_at};
+ghost use Rattle.ca_acts_queues.specs.Polling.{after_freeing_all, after_freeing, with_places_free, place_of, places_of, polled_of, source_at};
 
 use ca_acts::Call;
 use ca_base::limits::MAX_POLLED;
 use ca_base::{Completion, Field, Memory, Reason, Slot, StepError};
 use ca_cq::Cq;
 use ca_held::{Held, QueueSlot};
-use ca_model::{Answer, Completions, Marks, Refusal};
+use ca_model::{Answer, Completions, Mark, Marks, Refusal};
 use ca_qpstate::QueuePart;
 use std::alloc::Global;
 
@@ -49,15 +49,29 @@ pub fn poll(
         return Ok(call.refuse(Refusal::OutOfRange(Field::Length))?);
     }
     let polled = first_completions(call.alloc, cq, n)?;
-    let completions = polled.as_slice();
-    let count = completions.len() as u8;
+    let count = polled.as_slice().len() as u8;
     if count < least {
         return Err(StepError::NotReady(Reason::Empty));
     }
-    let ready = call.ready(0)?;
-    free_all(held, slot, completions);
+    let marks = call.answer(Answer::Polled(polled))?;
+    free_all(held, slot, polled_in(&marks));
     take_first(held, slot, count);
-    Ok(ready.answer(Answer::Polled(polled)))
+    Ok(marks)
+}
+
+/// The completions of which the mark of a poll tells.
+fn polled_in(marks: &Marks) -> &[Completion]
+    ensures { result.now ≡ polled_of marks.now.marks }
+{
+    match marks.as_slice().first() {
+        Some(
+            Mark::Verb {
+                answer: Answer::Polled(polled),
+                ..
+            },
+        ) => polled.as_slice(),
+        _ => &[],
+    }
 }
 
 /// A copy of the first completions, as many as are asked for or as wait.
@@ -78,6 +92,7 @@ fn first_completions(alloc: Global, cq: &Cq, n: u8) -> Result<Completions, Memor
 
 /// The first completions are taken from a completion queue that is held.
 #[tactic(auto, using(ca_held::proofs::HoldLemmas::put_cq))]
+#[inline(always)]
 fn take_first(held: &mut Held, slot: Slot, count: u8)
     requires { (holding held.old).has (Cq_of slot) ≡ true }
     ensures { holding held.new ≡ hold (holding held.old) (Cq_of slot)
@@ -100,6 +115,7 @@ fn take_from(cq: &mut Cq, count: u8)
 
 /// What completions free is freed, one after another.
 #[tactic(auto, using(crate::proofs::PollLemmas::freed_keeps))]
+#[inline(always)]
 fn free_all(held: &mut Held, slot: Slot, completions: &[Completion])
     requires cq { (holding held.old).has (Cq_of slot) ≡ true }
     requires held { AllPass (holding held.old).has

@@ -1,10 +1,12 @@
-ghost use Rattle.std.specs.Prelude.{◌≡◌, ◌<◌, true, false, IfOk, IfSome};
+ghost use Rattle.std.specs.Prelude.{◌≡◌, ◌<◌, [], ◌∷◌, true, false, None, IfOk, IfSome, OnErr, OnOk};
 ghost use Rattle.ca_base.specs.objects.WorkQueue.{is_full};
 ghost use Rattle.ca_base.specs.objects.QueuePair.{queue_in};
 ghost use Rattle.ca_keys.specs.Numbers.{queue_of};
 ghost use Rattle.ca_held.specs.HeldView.{hold, holding};
 ghost use Rattle.ca_model.specs.machine.PostingVerbs.{after_flush, post_send_plan, with_send};
+ghost use Rattle.ca_model.specs.declared.answer.Answer.TheVariants as answers;
 ghost use Rattle.ca_model.specs.machine.Sound.{IsQueueOf};
+ghost use Rattle.ca_model.specs.machine.VerbAnswers.{answer_mark};
 ghost use Rattle.ca_model.specs.machine.World.{Queue_of};
 ghost use Rattle.ca_acts.specs.Act.{Acts, Suffices};
 ghost use Rattle.ca_acts.specs.Calls.{call_of};
@@ -14,6 +16,7 @@ ghost use Rattle.ca_acts_queues.specs.Posting.{CanPostSend, FitsSend, slot_with}
 use crate::drawing::{draw, is_no_window, key_for, window_of_bind};
 use crate::flushes::{flush_in_error, flushed_with_send};
 use crate::refusals::send_refusal;
+use crate::states::is_error;
 use ca_acts::{Call, completions_to, put_completions};
 use ca_base::{Memory, PostedSend, QueueId, SendRequest, Slot, StepError};
 use ca_held::{Held, QueueSlot};
@@ -24,7 +27,7 @@ use ca_qpstate::QueuePart;
 /// the window of a bind, `OutOfRange` of an atomic's list, `TooLong`, `QueueState` but in Ready to Send, Send Queue Drain
 /// and Error, and `QueueFull`. Only then a bind of a type 1 window draws its byte, and its key is the answer. In Error all
 /// that is unfinished is flushed at once. `Memory` leaves all as it was.
-#[tactic(auto, using(crate::proofs::SendLemmas::send_refused, crate::proofs::SendLemmas::send_absent, crate::proofs::SendLemmas::send_no_window, crate::proofs::SendLemmas::send_window_held, crate::proofs::SendLemmas::send_cq_held, crate::proofs::SendLemmas::send_acts, crate::proofs::SendLemmas::send_has_place, crate::proofs::SendLemmas::send_fits))]
+#[tactic(auto, using(crate::proofs::SendLemmas::send_refused, crate::proofs::SendLemmas::send_absent, crate::proofs::SendLemmas::send_no_window, crate::proofs::SendLemmas::send_window_held, crate::proofs::SendLemmas::send_cq_held, crate::proofs::SendLemmas::send_acts, crate::proofs::SendLemmas::send_quietly_acts, crate::proofs::SendLemmas::send_has_place, crate::proofs::SendLemmas::send_fits))]
 pub fn post_send(
     call: &Call<'_>,
     held: &mut Held,
@@ -51,6 +54,9 @@ pub fn post_send(
     if let Some(refusal) = send_refusal(queue, request) {
         return Ok(call.refuse(refusal)?);
     }
+    if window.is_none() && !is_error(queue.state) {
+        return Ok(post_quietly(call, held, name, request)?);
+    }
     let flushed = flushed_with_send(call.alloc, queue, request)?;
     let completions = completions_to(call.alloc, queue, queue.send_cq, flushed.as_slice())?;
     let cq = Slot {
@@ -65,6 +71,48 @@ pub fn post_send(
     let mut marks = ready.answer(Answer::Posted(key_for(window, drawn)));
     marks.append(flushed);
     Ok(marks)
+}
+
+/// A request that draws no byte is posted to a queue pair that is held and flushes nothing. `Memory` leaves all as it was.
+#[inline(always)]
+#[tactic(auto, using(ca_held::proofs::HoldLemmas::put_queue, crate::proofs::PostingLemmas::queue_held_same))]
+fn post_quietly(
+    call: &Call<'_>,
+    held: &mut Held,
+    name: QueueId,
+    request: &SendRequest,
+) -> Result<Marks, Memory>
+    requires held { (holding held.old).has (Queue_of name) ≡ true }
+    requires next { IfSome (queue_in ((holding held.old).world.queue name)) CanPostSend }
+    requires room { IfSome (queue_in ((holding held.old).world.queue name)) (λ q. is_full q.sends ≡ false) }
+    ensures marks { IfOk result (λ m. m.marks ≡ answer_mark (call_of call.now) (answers.Posted None) ∷ []) }
+    ensures ok { OnOk result (holding held.new ≡ hold (holding held.old) (Queue_of name)
+        (slot_with (λ q. after_flush (with_send request.now None q)) ((holding held.old).world.queue name))) }
+    ensures err { OnErr result (holding held.new ≡ holding held.old) }
+{
+    let marks = call.answer(Answer::Posted(None))?;
+    if let QueueSlot::Present(queue) = held.queue_mut(name) {
+        post_copy(queue, request)?;
+    }
+    Ok(marks)
+}
+
+/// The copy of a request that draws no byte is posted to a queue pair.
+fn post_copy(queue: &mut QueuePart, request: &SendRequest) -> Result<(), Memory>
+    requires next { CanPostSend queue.old }
+    requires room { is_full queue.old.sends ≡ false }
+    ensures ok { OnOk result (queue.new ≡ after_flush (with_send request.now None queue.old)) }
+    ensures err { OnErr result (queue.new ≡ queue.old) }
+{
+    let request = copy_of(request)?;
+    post_to(
+        queue,
+        PostedSend {
+            request,
+            drawn: None,
+        },
+    );
+    Ok(())
 }
 
 /// A request is posted to a queue pair that is held.
@@ -82,6 +130,7 @@ fn post_in(held: &mut Held, name: QueueId, posted: PostedSend)
 }
 
 /// A request is posted to a queue pair, and flushed at once in Error.
+#[inline(always)]
 fn post_to(queue: &mut QueuePart, posted: PostedSend)
     requires next { CanPostSend queue.old }
     requires room { is_full queue.old.sends ≡ false }

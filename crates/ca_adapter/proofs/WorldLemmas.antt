@@ -11,13 +11,14 @@ use Rattle.ca_base.specs.objects.Region.{vacant_region}
 use Rattle.ca_base.specs.objects.SharedReceives.{SrqSlot, vacant_srq}
 use Rattle.ca_base.specs.objects.Window.{vacant_window}
 use Rattle.ca_held.specs.declared.held.Held.{Held}
-use Rattle.ca_held.specs.HeldView.{buffer_of, held_world, holding, is_held_name, is_held_part, or_vacant}
+use Rattle.ca_held.specs.HeldView.{held_world, holding, is_held_name, is_held_part}
 use Rattle.ca_held.specs.Parts.{slot_of}
 use Rattle.ca_keys.specs.declared.names.QueueId.{QueueId}
 use Rattle.ca_keys.specs.declared.names.Slot.{Slot}
 use Rattle.ca_model.specs.declared.part_name.PartName.TheVariants as names
 use Rattle.ca_keys.specs.Equal.{domain_eq, queue_eq, slot_eq}
-use Rattle.ca_held.specs.Names.{buffer_eq}
+use Rattle.ca_held_reach.specs.Names.{buffer_eq, buffer_of}
+use Rattle.ca_held_reach.specs.Seen.{or_vacant}
 use Rattle.ca_laws_names.specs.Placed.{is_configured}
 use Rattle.ca_laws_numbers.specs.Raised.{IsThingWithin, IsWorldWithin}
 use Rattle.ca_memory.specs.Buffer.{memory_of}

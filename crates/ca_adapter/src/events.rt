@@ -21,6 +21,7 @@ use std::alloc::Global;
 ///
 /// The caller shows that the parts in hand suffice (`IsReady`), and that the event is a verb and no Inject.
 #[tactic(auto, using(crate::proofs::ReadyLemmas::verb_unnamed, crate::proofs::ReadyLemmas::verb_named, crate::proofs::ReadyLemmas::act_stepped))]
+#[inline(never)]
 pub fn act(
     alloc: Global,
     settings: &Settings,

@@ -18,6 +18,7 @@ use ca_held::Held;
 use ca_model::{Marks, Refusal, Verb};
 
 /// A verb whose names are configured: the act of each.
+#[inline(always)]
 pub(crate) fn act_verb(
     call: &Call<'_>,
     settings: &Settings,

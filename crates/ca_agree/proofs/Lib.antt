@@ -4,9 +4,11 @@ pub mod PerformLemmas
 pub mod FitLemmas
 pub mod VerbFitLemmas
 pub mod EventFitLemmas
+pub mod MailLemmas
 pub mod PathLemmas
 pub mod PathTurnLemmas
 pub mod PathVerbLemmas
 pub mod PathChangeLemmas
 pub mod PathEventLemmas
+pub mod MailSentLemmas
 pub mod IndexLemmas

@@ -2,7 +2,8 @@
 use Rattle.std.proofs.Common.{◌≡◌, ℕ, suc, Bool, true, false, if◌then◌else◌, List, [], ◌∷◌, map, length, Option, None, Some, refl, sym, ap, subst, ◌∙◌}
 use Rattle.std.proofs.lemmas.List.{length-map}
 use Rattle.std.specs.Option.{option_map}
-use Rattle.ca_agree.specs.Agreement.{AgreeOnPaths, PathsAgree, peer_in, peer_named}
+use Rattle.ca_agree.specs.Agreement.{AgreeOnPaths, AreLatest, AreNumbered, PathsAgree, peer_in, peer_named}
+use Rattle.ca_agree.proofs.MailLemmas.{cut-latest, cut-numbered, peer-latest}
 use Rattle.ca_agree.specs.Runs.{Leads}
 use Rattle.ca_agree.proofs.InnerLemmas.{AreInner, flush-inner}
 use Rattle.ca_agree.proofs.LeadsLemmas.{leads-around, leads-unless}
@@ -63,14 +64,17 @@ pub replaced : (p r : Past) (w : World) (name : QueueId) (slot : QueueSlot) (box
     → ((n : QueueId) → peer_named (r.naming n) ≡ (if queue_eq name n then peer_named (r.naming name) else peer_named (p.naming n)))
     → ((n : QueueId) → length (r.envelopes n) ≡ length (p.envelopes n))
     → incarnation_of slot ≡ r.incarnation name → peer_in slot ≡ peer_named (r.naming name) → box.incarnation ≡ r.incarnation name → box.peer ≡ peer_named (r.naming name)
-    → box.next ≡ (w.mailbox name).next
+    → box.next ≡ (w.mailbox name).next → ((n : QueueId) → AreNumbered (r.envelopes n))
+    → ((n : QueueId) → AreLatest (if queue_eq name n then box else w.mailbox n).envelopes (r.envelopes n))
     → AgreeOnPaths r.incarnation r.naming r.envelopes (with_at queue_eq w.queue name slot) (with_at queue_eq w.mailbox name box)
-replaced p r w name slot box agree incarnations namings lengths incarnation peer owner accepts next = record {
+replaced p r w name slot box agree incarnations namings lengths incarnation peer owner accepts next numbered latest = record {
   incarnations = λ n. of-incarnation n (queue_eq name n) refl ∙ sym (incarnations n);
   peers = λ n. of-peer n (queue_eq name n) refl ∙ sym (namings n);
   owners = λ n. of-owner n (queue_eq name n) refl ∙ sym (incarnations n);
   accepted = λ n. of-accepted n (queue_eq name n) refl ∙ sym (namings n);
   counts = λ n. of-count n (queue_eq name n) refl ∙ sym (lengths n);
+  numbered = numbered;
+  latest = latest;
 }
   where
     of-incarnation : (n : QueueId) (b : Bool) → queue_eq name n ≡ b → incarnation_of (if b then slot else w.queue n) ≡ (if b then r.incarnation name else p.incarnation n)
@@ -140,7 +144,7 @@ reset-agrees past w by s q a agree is name = agree-more r v (emptied_updates q a
 
     moved : AgreeOnPaths r.incarnation r.naming r.envelopes (with_at queue_eq w.queue place slot) (with_at queue_eq w.mailbox place (box place))
     moved = replaced past r w place slot (box place) agree (λ n. counted n (queue_eq place n) refl) (λ n. named n (queue_eq place n) refl) (cut-lengths place past)
-        incarnation nobody incarnation nobody refl
+        incarnation nobody incarnation nobody refl (cut-numbered place past w agree) (cut-latest place past w (queue_after_change changes.Reset q).incarnation (w.mailbox place) agree)
       where
         counted : (n : QueueId) (b : Bool) → queue_eq place n ≡ b → (if b then suc (past.incarnation place) else past.incarnation n) ≡ (if b then r.incarnation place else past.incarnation n)
         counted n true e = sym (at-place past.incarnation place (suc (past.incarnation place)))
@@ -186,7 +190,8 @@ rtr-agrees past w by s q peer incarnation psn mtu rnr_code agree is name =
     names = sym (ap peer_named (at-place past.naming place (Some naming)))
 
     moved : AgreeOnPaths r.incarnation r.naming r.envelopes (with_at queue_eq w.queue place slot) (with_at queue_eq w.mailbox place (box place))
-    moved = replaced past r w place slot (box place) agree (λ n. counted n (queue_eq place n) refl) (λ n. named n (queue_eq place n) refl) (λ n. refl) counts names counts names refl
+    moved = replaced past r w place slot (box place) agree (λ n. counted n (queue_eq place n) refl) (λ n. named n (queue_eq place n) refl) (λ n. refl) counts names counts names refl agree.numbered
+        (peer-latest place past w q.incarnation (Some (record { queue = peer; incarnation = incarnation })) agree)
       where
         counted : (n : QueueId) (b : Bool) → queue_eq place n ≡ b → past.incarnation n ≡ (if b then past.incarnation place else past.incarnation n)
         counted n true e = sym (ap past.incarnation (queue-path place n e))

@@ -6,6 +6,7 @@ use Rattle.ca_agree.specs.Runs.{Comes, Leads}
 use Rattle.ca_agree.proofs.LeadsLemmas.{comes, leads-around, leads-unless}
 use Rattle.ca_agree.proofs.PathLemmas.{AreKept, IsKept}
 use Rattle.ca_agree.proofs.PathTurnLemmas.{Agrees, agrees-arrive, agrees-deliver, agrees-request, agrees-respond, agrees-timeout, agrees-wake, found}
+use Rattle.ca_agree.proofs.MailLemmas.{cut-latest, cut-numbered, peer-latest}
 use Rattle.ca_agree.proofs.PathChangeLemmas.{agrees-modify, at-place, cut-lengths, replaced, Behind}
 use Rattle.ca_agree.proofs.PathVerbLemmas.{AgreesBy, agree-answer, agree-more, agrees-post_recv, agrees-post_send, agrees-present, call_of}
 use Rattle.ca_base.specs.Configuration.{Configuration}
@@ -92,7 +93,7 @@ create-agrees past w by x domain send recv slot shared number agree = agree-more
 
     moved : AgreeOnPaths r.incarnation r.naming r.envelopes (with_at queue_eq w.queue place (Present made)) (with_at queue_eq w.mailbox place (with_peer made.incarnation None (w.mailbox place)))
     moved = replaced past r w place (Present made) (with_peer made.incarnation None (w.mailbox place)) agree (λ n. counted n (queue_eq place n) refl) (λ n. named n (queue_eq place n) refl) (λ n. refl)
-        incarnation nobody incarnation nobody refl
+        incarnation nobody incarnation nobody refl agree.numbered (peer-latest place past w made.incarnation None agree)
       where
         counted : (n : QueueId) (b : Bool) → queue_eq place n ≡ b → (if b then suc (past.incarnation place) else past.incarnation n) ≡ (if b then r.incarnation place else past.incarnation n)
         counted n true e = sym (at-place past.incarnation place (suc (past.incarnation place)))
@@ -211,6 +212,7 @@ destroy-agrees past w by s domain q a agree is name =
 
     moved : AgreeOnPaths r.incarnation r.naming r.envelopes (with_at queue_eq w.queue place slot) (with_at queue_eq w.mailbox place (box place))
     moved = replaced past r w place slot (box place) agree (λ n. counted n (queue_eq place n) refl) (λ n. named n (queue_eq place n) refl) (cut-lengths place past) incarnation nobody incarnation nobody refl
+        (cut-numbered place past w agree) (cut-latest place past w q.incarnation (w.mailbox place) agree)
       where
         counted : (n : QueueId) (b : Bool) → queue_eq place n ≡ b → past.incarnation n ≡ (if b then past.incarnation place else past.incarnation n)
         counted n true e = sym (ap past.incarnation (queue-path place n e))
@@ -402,7 +404,7 @@ pub event-agrees : (c : Configuration) (past : Past) (w : World) (event : Event)
 event-agrees c past w event sound agree = comes w (Agrees past event) (plan c event) (agrees-event c past w event sound agree)
 
 pub opening-agrees : (bytes : ByteMap) → PathsAgree (opening_past bytes) (opening_world bytes)
-opening-agrees bytes = record { incarnations = λ q. refl; peers = λ q. refl; owners = λ q. refl; accepted = λ q. refl; counts = λ q. refl }
+opening-agrees bytes = record { incarnations = λ q. refl; peers = λ q. refl; owners = λ q. refl; accepted = λ q. refl; counts = λ q. refl; numbered = λ q. record {}; latest = λ q. record {} }
 
 along : (c : Configuration) (n : ℕ) (es : List EntryValue) (past : Past) (w : World) → AreLimited c → AllByRecursion (λ e. CanBeMade e.event) es → IsSoundWorld c w → PathsAgree past w
     → run_from c n w (map (λ e. e.event) es) ≡ Ok (map (λ e. e.marks) es) → HoldsAlong PathsAgree c past w es

@@ -1,8 +1,8 @@
 -- What keeps the agreement on paths: marks that tell of none, and changes that leave incarnations, peers and indices. For
 -- proofs only.
-use Rattle.std.proofs.Common.{◌≡◌, ℕ, Bool, true, false, if◌then◌else◌, List, [], ◌∷◌, ◌++◌, length, Option, None, Some, refl, sym, ap, ◌∙◌}
+use Rattle.std.proofs.Common.{◌≡◌, ℕ, Bool, true, false, if◌then◌else◌, List, [], ◌∷◌, ◌++◌, length, Option, None, Some, refl, sym, ap, subst, ◌∙◌}
 use Rattle.std.specs.Option.{option_map}
-use Rattle.ca_agree.specs.Agreement.{PathsAgree, peer_in, peer_named}
+use Rattle.ca_agree.specs.Agreement.{AreLatest, AreNumbered, PathsAgree, peer_in, peer_named}
 use Rattle.ca_agree.proofs.InnerLemmas.{AreInner, IsInner, IsInnerMark}
 use Rattle.ca_agree.proofs.LeadsLemmas.{AreAside, IsAsideName}
 use Rattle.ca_base.specs.objects.Mailbox.{Mailbox}
@@ -11,7 +11,7 @@ use Rattle.ca_base.specs.objects.SharedReceives.{SrqSlot, after_receive_take}
 use Rattle.ca_keys.specs.Equal.{queue_eq}
 use Rattle.ca_keys.specs.Memory.{memory_after}
 use Rattle.ca_keys.specs.declared.names.QueueId.{QueueId}
-use Rattle.ca_model.specs.Past.{Past, after_mark, after_marks, at_begin}
+use Rattle.ca_model.specs.Past.{Envelope, Past, after_mark, after_marks, at_begin}
 use Rattle.ca_model.specs.declared.event.Event.{Event}
 use Rattle.ca_model.specs.declared.mark.Mark.{Mark}
 use Rattle.ca_model.specs.declared.mark.Mark.TheVariants as marks
@@ -53,21 +53,23 @@ pub marks-append : (ms ns : List Mark) (p : Past) → after_marks (ms ++ ns) p �
 marks-append [] ns p = refl
 marks-append (m ∷ ms) ns p = marks-append ms ns (after_mark m p)
 
--- a world with the incarnations, peers and indices of another
+-- a world with the incarnations, peers and indices of another, whose mailboxes keep what theirs keep
 pub record KeepsPaths (w v : World) : Type 0 where
   pub incarnations : (n : QueueId) → incarnation_of (v.queue n) ≡ incarnation_of (w.queue n)
   pub peers : (n : QueueId) → peer_in (v.queue n) ≡ peer_in (w.queue n)
   pub owners : (n : QueueId) → (v.mailbox n).incarnation ≡ (w.mailbox n).incarnation
   pub accepted : (n : QueueId) → (v.mailbox n).peer ≡ (w.mailbox n).peer
   pub counts : (n : QueueId) → (v.mailbox n).next ≡ (w.mailbox n).next
+  pub mail : (n : QueueId) (es : List Envelope) → AreLatest (w.mailbox n).envelopes es → AreLatest (v.mailbox n).envelopes es
 
 pub same-world : (w : World) → KeepsPaths w w
-same-world w = record { incarnations = λ n. refl; peers = λ n. refl; owners = λ n. refl; accepted = λ n. refl; counts = λ n. refl }
+same-world w = record { incarnations = λ n. refl; peers = λ n. refl; owners = λ n. refl; accepted = λ n. refl; counts = λ n. refl; mail = λ n es latest. latest }
 
 -- a change that leaves them
 abbrev pub IsKept : World → (n : Name) → Thing n → Type 0
 IsKept w (Queue_of q) s = (incarnation_of s ≡ incarnation_of (w.queue q)) × (peer_in s ≡ peer_in (w.queue q))
 IsKept w (Mailbox_of q) m = (m.incarnation ≡ (w.mailbox q).incarnation) × (m.peer ≡ (w.mailbox q).peer) × (m.next ≡ (w.mailbox q).next)
+    × ((es : List Envelope) → AreLatest (w.mailbox q).envelopes es → AreLatest m.envelopes es)
 IsKept w n x = Unit {0}
 
 abbrev pub AreKept : World → List Update → Type 0
@@ -87,6 +89,7 @@ kept-put w v (Queue_of q) x kept keeps = record {
   owners = keeps.owners;
   accepted = keeps.accepted;
   counts = keeps.counts;
+  mail = keeps.mail;
 }
 kept-put w v (Mailbox_of q) x kept keeps = record {
   incarnations = keeps.incarnations;
@@ -94,13 +97,18 @@ kept-put w v (Mailbox_of q) x kept keeps = record {
   owners = λ n. viewed (λ (m : Mailbox). m.incarnation) w.mailbox v.mailbox q x kept.0 keeps.owners n (queue_eq q n) refl;
   accepted = λ n. viewed (λ (m : Mailbox). m.peer) w.mailbox v.mailbox q x kept.1 keeps.accepted n (queue_eq q n) refl;
   counts = λ n. viewed (λ (m : Mailbox). m.next) w.mailbox v.mailbox q x kept.2 keeps.counts n (queue_eq q n) refl;
+  mail = λ n es. at n es (queue_eq q n) refl;
 }
-kept-put w v (Domain_of d) x kept keeps = record { incarnations = keeps.incarnations; peers = keeps.peers; owners = keeps.owners; accepted = keeps.accepted; counts = keeps.counts }
-kept-put w v (Region_of s) x kept keeps = record { incarnations = keeps.incarnations; peers = keeps.peers; owners = keeps.owners; accepted = keeps.accepted; counts = keeps.counts }
-kept-put w v (Window_of s) x kept keeps = record { incarnations = keeps.incarnations; peers = keeps.peers; owners = keeps.owners; accepted = keeps.accepted; counts = keeps.counts }
-kept-put w v (Cq_of s) x kept keeps = record { incarnations = keeps.incarnations; peers = keeps.peers; owners = keeps.owners; accepted = keeps.accepted; counts = keeps.counts }
-kept-put w v (Srq_of s) x kept keeps = record { incarnations = keeps.incarnations; peers = keeps.peers; owners = keeps.owners; accepted = keeps.accepted; counts = keeps.counts }
-kept-put w v (Byte_at p) x kept keeps = record { incarnations = keeps.incarnations; peers = keeps.peers; owners = keeps.owners; accepted = keeps.accepted; counts = keeps.counts }
+  where
+    at : (n : QueueId) (es : List Envelope) (b : Bool) → queue_eq q n ≡ b → AreLatest (w.mailbox n).envelopes es → AreLatest (if b then x else v.mailbox n).envelopes es
+    at n es true e latest = kept.3 es (subst (λ k. AreLatest (w.mailbox k).envelopes es) (sym (queue-path q n e)) latest)
+    at n es false e latest = keeps.mail n es latest
+kept-put w v (Domain_of d) x kept keeps = record { incarnations = keeps.incarnations; peers = keeps.peers; owners = keeps.owners; accepted = keeps.accepted; counts = keeps.counts; mail = keeps.mail }
+kept-put w v (Region_of s) x kept keeps = record { incarnations = keeps.incarnations; peers = keeps.peers; owners = keeps.owners; accepted = keeps.accepted; counts = keeps.counts; mail = keeps.mail }
+kept-put w v (Window_of s) x kept keeps = record { incarnations = keeps.incarnations; peers = keeps.peers; owners = keeps.owners; accepted = keeps.accepted; counts = keeps.counts; mail = keeps.mail }
+kept-put w v (Cq_of s) x kept keeps = record { incarnations = keeps.incarnations; peers = keeps.peers; owners = keeps.owners; accepted = keeps.accepted; counts = keeps.counts; mail = keeps.mail }
+kept-put w v (Srq_of s) x kept keeps = record { incarnations = keeps.incarnations; peers = keeps.peers; owners = keeps.owners; accepted = keeps.accepted; counts = keeps.counts; mail = keeps.mail }
+kept-put w v (Byte_at p) x kept keeps = record { incarnations = keeps.incarnations; peers = keeps.peers; owners = keeps.owners; accepted = keeps.accepted; counts = keeps.counts; mail = keeps.mail }
 
 pub kept-puts : (w v : World) (us : List Update) → AreKept w us → KeepsPaths w v → KeepsPaths w (put_all us v)
 kept-puts w v [] kept keeps = keeps
@@ -108,7 +116,7 @@ kept-puts w v (u ∷ us) kept keeps = kept-puts w (put v u.name u.thing) us kept
 
 pub kept-writes : (w : World) (ws : List Write) (v : World) → KeepsPaths w v → KeepsPaths w (write_all ws v)
 kept-writes w [] v keeps = keeps
-kept-writes w (x ∷ xs) v keeps = kept-writes w xs (record v { byte = memory_after v.byte x.runs x.bytes }) (record { incarnations = keeps.incarnations; peers = keeps.peers; owners = keeps.owners; accepted = keeps.accepted; counts = keeps.counts })
+kept-writes w (x ∷ xs) v keeps = kept-writes w xs (record v { byte = memory_after v.byte x.runs x.bytes }) (record { incarnations = keeps.incarnations; peers = keeps.peers; owners = keeps.owners; accepted = keeps.accepted; counts = keeps.counts; mail = keeps.mail })
 
 pub kept-append : (w : World) (us vs : List Update) → AreKept w us → AreKept w vs → AreKept w (us ++ vs)
 kept-append w [] vs one other = other
@@ -160,6 +168,8 @@ agree-kept p r w v same keeps agree = record {
   owners = λ n. keeps.owners n ∙ agree.owners n ∙ ap (λ f. f n) (sym same.incarnation);
   accepted = λ n. keeps.accepted n ∙ agree.accepted n ∙ ap (λ f. peer_named (f n)) (sym same.naming);
   counts = λ n. keeps.counts n ∙ agree.counts n ∙ ap (λ f. length (f n)) (sym same.envelopes);
+  numbered = λ n. subst (λ f. AreNumbered (f n)) (sym same.envelopes) (agree.numbered n);
+  latest = λ n. keeps.mail n (r.envelopes n) (subst (λ f. AreLatest (w.mailbox n).envelopes (f n)) (sym same.envelopes) (agree.latest n));
 }
 
 pub begin-same : (p : Past) (event : Event) → SamePaths p (at_begin event p)

@@ -1,7 +1,8 @@
 -- Turns keep the agreement on paths. For proofs only.
 use Rattle.std.proofs.Common.{◌≡◌, ℕ, suc, ◌&&◌, Bool, true, false, if◌then◌else◌, List, [], ◌∷◌, ◌++◌, length, Option, None, Some, refl, sym, ap, subst, rules, ◌∙◌}
 use Rattle.std.specs.Option.{option_map_or}
-use Rattle.ca_agree.specs.Agreement.{AgreeOnPaths, PathsAgree, peer_in, peer_named}
+use Rattle.ca_agree.specs.Agreement.{AgreeOnPaths, AreLatest, AreNumbered, PathsAgree, peer_in, peer_named}
+use Rattle.ca_agree.proofs.MailLemmas.{delivered-latest, lost-one, sent-latest}
 use Rattle.ca_agree.specs.Runs.{Leads}
 use Rattle.ca_agree.proofs.InnerLemmas.{AreInner, IsInner, arrival-inner, packet-inner, respond-inner, timeout-inner}
 use Rattle.ca_agree.proofs.LeadsLemmas.{AreAside, leads-around, leads-queue, leads-row, leads-unless}
@@ -13,11 +14,11 @@ use Rattle.ca_base.specs.declared.lot.Lot.{Lot}
 use Rattle.ca_base.specs.declared.step.Reason.TheVariants as reasons
 use Rattle.ca_base.specs.declared.step.Sent.{Sent}
 use Rattle.ca_base.specs.declared.step.Sent.TheVariants.{Silent, Spelt}
-use Rattle.ca_base.specs.objects.Mailbox.{Mailbox, after_delivery, after_send, bytes_lent, is_lost}
+use Rattle.ca_base.specs.objects.Mailbox.{Mailbox, after_delivery, after_send, bytes_lent, is_lost, later_than}
 use Rattle.ca_base.specs.objects.QueuePair.{QueuePair, QueueSlot, NoQueue, Present, incarnation_of}
 use Rattle.ca_keys.specs.Equal.{queue_eq}
 use Rattle.ca_keys.specs.declared.names.QueueId.{QueueId}
-use Rattle.ca_model.specs.Past.{Envelope, Past, after_marks, at_begin, with_at, with_lost}
+use Rattle.ca_model.specs.Past.{Envelope, Past, after_marks, at_begin, present_incarnation, with_at, with_lost}
 use Rattle.ca_model.specs.declared.event.Event.{Event}
 use Rattle.ca_model.specs.declared.mark.Mark.{Mark}
 use Rattle.ca_model.specs.declared.mark.Mark.TheVariants as marks
@@ -31,7 +32,7 @@ use Rattle.ca_model.specs.machine.Sound.{IsQueueOf, IsSoundWorld}
 use Rattle.ca_model.specs.machine.Timers.{after_timeout, after_wake, timeout_refusals, wake_refusals}
 use Rattle.ca_model.specs.machine.Turns.{Fire, Leave_plan, Packet, Request_around, Respond_around, Timeout_around, With_receives, has_room_for, packet_sent, reaches_peer, request_plan, respond_plan, sent_marks, sent_updates, timeout_plan, wake_plan}
 use Rattle.ca_model.specs.machine.World.{Mailbox_of, Queue_of, World}
-use Rattle.ca_laws_sound.proofs.SettledLemmas.{queue-path}
+use Rattle.ca_laws_sound.proofs.SettledLemmas.{queue-path, queue-refl}
 use Rattle.ca_laws_sound.proofs.WorldLemmas.{RowDoes, around_in, is-there, shared_of}
 
 -- what an event that ends so leaves of the agreement
@@ -45,19 +46,17 @@ agree-inner past event w us ws ms agree inner kept =
     agree-kept past (after_marks ms (at_begin event past)) w (write_all ws (put_all us w)) (inner-past ms inner past (at_begin event past) (begin-same past event))
     (kept-writes w ws (put_all us w) (kept-puts w w us kept (same-world w))) agree
 
-lost-length : (index : ℕ) (es : List Envelope) → length (with_lost index es) ≡ length es
-lost-length index [] = refl
-lost-length index (e ∷ es) = ap suc (lost-length index es)
-
 -- one envelope more, on both sides
 one-more : (p : Past) (v : World) (target : QueueId) (m : Mailbox) (es : List Envelope) → PathsAgree p v → m.incarnation ≡ (v.mailbox target).incarnation → m.peer ≡ (v.mailbox target).peer
-    → m.next ≡ length es → AgreeOnPaths p.incarnation p.naming (with_at queue_eq p.envelopes target es) v.queue (with_at queue_eq v.mailbox target m)
-one-more p v target m es agree incarnation peer next = record {
+    → m.next ≡ length es → AreNumbered es → AreLatest m.envelopes es → AgreeOnPaths p.incarnation p.naming (with_at queue_eq p.envelopes target es) v.queue (with_at queue_eq v.mailbox target m)
+one-more p v target m es agree incarnation peer next numbered latest = record {
   incarnations = agree.incarnations;
   peers = agree.peers;
   owners = λ n. owner n (queue_eq target n) refl;
   accepted = λ n. accepts n (queue_eq target n) refl;
   counts = λ n. count n (queue_eq target n);
+  numbered = λ n. numbers n (queue_eq target n);
+  latest = λ n. keeps n (queue_eq target n);
 }
   where
     owner : (n : QueueId) (b : Bool) → queue_eq target n ≡ b → (if b then m else v.mailbox n).incarnation ≡ p.incarnation n
@@ -72,11 +71,19 @@ one-more p v target m es agree incarnation peer next = record {
     count n true = next
     count n false = agree.counts n
 
+    numbers : (n : QueueId) (b : Bool) → AreNumbered (if b then es else p.envelopes n)
+    numbers n true = numbered
+    numbers n false = agree.numbered n
+
+    keeps : (n : QueueId) (b : Bool) → AreLatest (if b then m else v.mailbox n).envelopes (if b then es else p.envelopes n)
+    keeps n true = latest
+    keeps n false = agree.latest n
+
 -- a packet that is sent, after what keeps paths
 agree-sent : (p : Past) (v : World) (q : QueuePair) (peer : Correspondent) (m : Mailbox) (lot : Lot) (e : Effects) → PathsAgree p v → m.incarnation ≡ (v.mailbox peer.queue).incarnation
-    → m.peer ≡ (v.mailbox peer.queue).peer → m.next ≡ (v.mailbox peer.queue).next
+    → m.peer ≡ (v.mailbox peer.queue).peer → m.next ≡ (v.mailbox peer.queue).next → AreLatest m.envelopes (p.envelopes peer.queue)
     → PathsAgree (after_marks (option_map_or (sent_marks q peer m lot) (packet_sent e) []) p) (put_all (option_map_or (sent_updates q peer m lot) (packet_sent e) []) v)
-agree-sent p v q peer m lot e agree incarnation named next = by e.sent
+agree-sent p v q peer m lot e agree incarnation named next latest = by e.sent
   where
     packet : Sent → Option Packet
     packet Silent = None
@@ -90,33 +97,53 @@ agree-sent p v q peer m lot e agree incarnation named next = by e.sent
     changed : Packet → Bool → List Update
     changed x b = if b then (Mailbox_of peer.queue := after_send lot x.bytes m) ∷ [] else []
 
-    more : (x : Packet) → PathsAgree (after_marks (marks.Sent q.queue peer.queue (Some m.next) x.request x.bytes ∷ []) p) (put_all ((Mailbox_of peer.queue := after_send lot x.bytes m) ∷ []) v)
-    more x = one-more p v peer.queue (after_send lot x.bytes m) _ agree incarnation named (ap suc (next ∙ agree.counts peer.queue))
+    sent : Packet → Bool → List Envelope
+    sent x l = record {
+      index = m.next;
+      source = present_incarnation p q.queue;
+      request = x.request;
+      bytes = x.bytes;
+      lost = l;
+      cut = false;
+    } ∷ p.envelopes peer.queue
 
-    lost : (x : Packet) (b : Bool) → PathsAgree (after_marks (if b then marks.Lost peer.queue (Some m.next) ∷ [] else []) (after_marks (marks.Sent q.queue peer.queue (Some m.next) x.request x.bytes ∷ []) p))
+    boxes : Packet → QueueId → Mailbox
+    boxes x = with_at queue_eq v.mailbox peer.queue (after_send lot x.bytes m)
+
+    more : (x : Packet) (l : Bool) → is_lost lot ≡ l → AgreeOnPaths p.incarnation p.naming (with_at queue_eq p.envelopes peer.queue (sent x l)) v.queue (boxes x)
+    more x l is = one-more p v peer.queue (after_send lot x.bytes m) (sent x l) agree incarnation named (ap suc (next ∙ agree.counts peer.queue))
+        (next ∙ agree.counts peer.queue, agree.numbered peer.queue) (sent-latest lot x.bytes m (sent x l) (record { bytes = refl; lost = sym is; uncut = refl }, latest))
+
+    lost : (x : Packet) (b : Bool) → is_lost lot ≡ b → PathsAgree (after_marks (if b then marks.Lost peer.queue (Some m.next) ∷ [] else []) (after_marks (marks.Sent q.queue peer.queue (Some m.next) x.request x.bytes ∷ []) p))
         (put_all ((Mailbox_of peer.queue := after_send lot x.bytes m) ∷ []) v)
-    lost x false = more x
-    lost x true = record {
-      incarnations = (more x).incarnations;
-      peers = (more x).peers;
-      owners = (more x).owners;
-      accepted = (more x).accepted;
-      counts = λ n. count n (queue_eq peer.queue n) refl;
+    lost x false is = more x false is
+    lost x true is = record {
+      incarnations = gone.incarnations;
+      peers = gone.peers;
+      owners = gone.owners;
+      accepted = gone.accepted;
+      counts = λ n. gone.counts n ∙ ap length (same n (queue_eq peer.queue n));
+      numbered = λ n. subst AreNumbered (same n (queue_eq peer.queue n)) (gone.numbered n);
+      latest = λ n. subst (AreLatest (boxes x n).envelopes) (same n (queue_eq peer.queue n)) (gone.latest n);
     }
       where
-        sent : QueueId → List Envelope
-        sent = (after_marks (marks.Sent q.queue peer.queue (Some m.next) x.request x.bytes ∷ []) p).envelopes
+        gone : AgreeOnPaths p.incarnation p.naming (with_at queue_eq p.envelopes peer.queue (sent x true)) v.queue (boxes x)
+        gone = more x true is
 
-        boxes : QueueId → Mailbox
-        boxes = with_at queue_eq v.mailbox peer.queue (after_send lot x.bytes m)
+        before : QueueId → List Envelope
+        before = with_at queue_eq p.envelopes peer.queue (sent x false)
 
-        count : (n : QueueId) (b : Bool) → queue_eq peer.queue n ≡ b → (boxes n).next ≡ length (if b then with_lost m.next (sent peer.queue) else sent n)
-        count n true e = (more x).counts n ∙ ap (λ k. length (sent k)) (sym (queue-path peer.queue n e)) ∙ sym (lost-length m.next (sent peer.queue))
-        count n false e = (more x).counts n
+        there : with_lost m.next (before peer.queue) ≡ sent x true
+        there = ap (λ b. with_lost m.next (if b then sent x false else p.envelopes peer.queue)) (queue-refl peer.queue)
+            ∙ lost-one m.next _ (p.envelopes peer.queue) refl (next ∙ agree.counts peer.queue) (agree.numbered peer.queue)
+
+        same : (n : QueueId) (b : Bool) → (if b then sent x true else p.envelopes n) ≡ (if b then with_lost m.next (before peer.queue) else if b then sent x false else p.envelopes n)
+        same n true = sym there
+        same n false = refl
 
     reach : (x : Packet) (b : Bool) → PathsAgree (after_marks (told x b) p) (put_all (changed x b) v)
-    reach x true = lost x (is_lost lot)
-    reach x false = record { incarnations = agree.incarnations; peers = agree.peers; owners = agree.owners; accepted = agree.accepted; counts = agree.counts }
+    reach x true = lost x (is_lost lot) refl
+    reach x false = record { incarnations = agree.incarnations; peers = agree.peers; owners = agree.owners; accepted = agree.accepted; counts = agree.counts; numbered = agree.numbered; latest = agree.latest }
 
     by : (s : Sent) → PathsAgree (after_marks (option_map_or (sent_marks q peer m lot) (packet s) []) p) (put_all (option_map_or (sent_updates q peer m lot) (packet s) []) v)
     by Silent = agree
@@ -149,6 +176,7 @@ agrees-left c past event w q peer lot row agree is does =
         (agree-kept past (after_marks e.marks (at_begin event past)) w (put_all cs (put_all (updates_of q a e) w))
         (inner-past e.marks inner.marks past (at_begin event past) (begin-same past event)) (kept e cs inner aside) agree)
         (sym ((kept e cs inner aside).owners peer.queue)) (sym ((kept e cs inner aside).accepted peer.queue)) (sym ((kept e cs inner aside).counts peer.queue))
+        (subst (λ f. AreLatest m.envelopes (f peer.queue)) (sym (inner-past e.marks inner.marks past (at_begin event past) (begin-same past event)).envelopes) (agree.latest peer.queue))
 
     -- the same over the changes and the marks as they stand in the plan
     placed : (e : Effects) (cs : List Update) → put_all (sends e) (put_all cs (put_all (updates_of q a e) w)) ≡ put_all (updates_of q a e ++ (cs ++ sends e)) w
@@ -235,7 +263,7 @@ agrees-deliver c past event w name index sound agree = (λ has. lent (bytes_lent
     there : (bytes : List ℕ) (s : QueueSlot) → w.queue name ≡ s → Leads w (Agrees past event) (at bytes s)
     there bytes (NoQueue incarnation timers) is = record {}
     there bytes (Present q) is = agrees-arrive c w (Agrees past event) q bytes (Some index) ((Mailbox_of name := after_delivery index m) ∷ []) [] (found c w name q sound is)
-        (λ us ws ns kept inner. agree-inner past event w ((Mailbox_of name := after_delivery index m) ∷ us) ws ns agree inner ((refl, refl, refl), kept))
+        (λ us ws ns kept inner. agree-inner past event w ((Mailbox_of name := after_delivery index m) ∷ us) ws ns agree inner ((refl, refl, refl, λ es latest. delivered-latest (later_than index m) m.envelopes es latest), kept))
 
     lent : (o : Option (List ℕ)) → Leads w (Agrees past event) (under_way o)
     lent None = record {}

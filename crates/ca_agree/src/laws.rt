@@ -1,10 +1,12 @@
 ghost use Rattle.std.specs.List.{AllByRecursion};
-ghost use Rattle.std.specs.Prelude.{List};
-ghost use Rattle.ca_agree.specs.Agreement.{HoldsAlong, PathsAgree};
+ghost use Rattle.std.specs.Prelude.{◌≡◌, ℕ, List, Some};
+ghost use Rattle.ca_agree.specs.Agreement.{HoldsAlong, PathsAgree, WereSent};
 ghost use Rattle.ca_agree.specs.Indices.{HaveTheirIndices};
 ghost use Rattle.ca_agree.specs.Runs.{AreStamped, Comes};
 ghost use Rattle.ca_base.specs.Configuration.{Configuration};
+ghost use Rattle.ca_base.specs.objects.Mailbox.{bytes_lent};
 ghost use Rattle.ca_keys.specs.Memory.{ByteMap};
+ghost use Rattle.ca_keys.specs.declared.names.QueueId.{QueueId};
 ghost use Rattle.ca_model.specs.Entries.{EntryValue};
 ghost use Rattle.ca_model.specs.History.{FitTheEvent, IsHistory};
 ghost use Rattle.ca_model.specs.Past.{Past, after_marks, at_begin, opening_past};
@@ -44,6 +46,15 @@ pub fn histories_agree_on_paths()
     ensures { (c : Configuration) (bytes : ByteMap) (es : List EntryValue)
         → AreLimited c → AllByRecursion (λ e. CanBeMade e.event) es → Follows c bytes es
         → HoldsAlong PathsAgree c (opening_past bytes) (opening_world bytes) es }
+{}
+
+/// Where past and world agree on paths, what can be delivered to a queue pair by an index was sent to it with this index:
+/// by an envelope among the latest that are kept, which is not lost, and since then the queue pair was neither reset nor
+/// destroyed.
+pub fn deliverable_bytes_were_sent()
+    ensures { (c : Configuration) (past : Past) (w : World) (q : QueueId) (index : ℕ) (arrived : List ℕ)
+        → IsSoundWorld c w → PathsAgree past w → bytes_lent index (w.mailbox q) ≡ Some arrived
+        → WereSent past q index arrived }
 {}
 
 /// In a history that follows the machine each packet that is sent has the next index of its target exactly where a path

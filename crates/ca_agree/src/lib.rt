@@ -3,8 +3,9 @@
 //! To the layers above it promises, as clauses of functions that do nothing, that the first mark of a verb's event is its
 //! answer and no other mark is one, that a completion is of the queue pair that its mark names, and that this holds of
 //! every list of entries whose marks are the machine's. And that what the marks of a history tell of paths agrees with the
-//! world at each moment: incarnations, the peers that were named, whom each mailbox accepts, and how many envelopes were
-//! sent to it. They hold of the machine's definitions, and no code is in them.
+//! world at each moment: incarnations, the peers that were named, whom each mailbox accepts, how many envelopes were sent
+//! to it, and that those which it keeps are the latest of them. So what can be delivered was sent, with the same bytes.
+//! They hold of the machine's definitions, and no code is in them.
 //!
 //! Source: this profile's choice; a history is what the relations on histories speak of.
 #![tactic(auto)]
@@ -12,6 +13,7 @@
 mod laws;
 
 pub use laws::{
-    event_keeps_paths_agreed, event_marks_fit, histories_agree_on_paths, machine_makes_histories,
-    opening_agrees_on_paths, packets_have_their_indices,
+    deliverable_bytes_were_sent, event_keeps_paths_agreed, event_marks_fit,
+    histories_agree_on_paths, machine_makes_histories, opening_agrees_on_paths,
+    packets_have_their_indices,
 };

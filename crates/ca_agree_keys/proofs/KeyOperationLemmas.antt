@@ -3,7 +3,8 @@ use Rattle.std.proofs.Common.{◌≡◌, ℕ, suc, ◌<◌, Bool, true, false, n
 use Rattle.std.proofs.lemmas.Bool.{not-false}
 use Rattle.std.specs.Option.{option_map, option_map_or}
 use Rattle.ca_agree.specs.Runs.{Leads}
-use Rattle.ca_agree_keys.proofs.CalmLemmas.{failure-calm, success-calm}
+use Rattle.ca_agree_keys.proofs.CalmLemmas.{marks-calm, plain-calm}
+use Rattle.ca_agree_keys.proofs.PlainLemmas.{failure-plain, success-plain}
 use Rattle.ca_agree_keys.proofs.ChangeLemmas.{region-small, window-small}
 use Rattle.ca_agree_keys.proofs.EndLemmas.{region-granted, window-ended, window-granted, without_window}
 use Rattle.ca_agree_keys.proofs.FrameLemmas.{Ends}
@@ -63,10 +64,10 @@ record Made (w : World) (q : QueuePair) (g : List Grant) (m : LocalMarks) (cs : 
 operation-leads : (w : World) (P : World → List Mark → Type 0) (q after : QueuePair) (g : List Grant) (n : Numbered) (m : LocalMarks) (refusal : Option OpRefusal) (cs : List Update) (finish : Finishing)
     → AgreeOnGrants g w.region w.window → Goes w P g finish → (refusal ≡ None → Made w q g m cs) → Leads w P (finish (operation_effects q n after m refusal) (unless_none refusal cs) [])
 operation-leads w P q after g n m (Some cause) cs finish agree more made =
-    more (failure_effects MemoryManagement (Some cause) q) [] [] g (told-calm g (failure_effects MemoryManagement (Some cause) q) (failure-calm MemoryManagement (Some cause) q)) (record { keys = agree; bytes = refl }) (λ k. refl)
+    more (failure_effects MemoryManagement (Some cause) q) [] [] g (told-calm g (failure_effects MemoryManagement (Some cause) q) (plain-calm _ (failure-plain MemoryManagement (Some cause) q))) (record { keys = agree; bytes = refl }) (λ k. refl)
 operation-leads w P q after g n m None cs finish agree more made = more (operation_effects q n after m None) cs [] done.grants
     (λ k. leaves-append g done.grants done.grants k k k (local_marks q m) (success_marks q.queue n.place n.request) (done.leaves k)
-    (leaves-calm done.grants k (success_marks q.queue n.place n.request) (success-calm q.queue n.place n.request)))
+    (leaves-calm done.grants k (success_marks q.queue n.place n.request) (marks-calm (success_marks q.queue n.place n.request) (success-plain q.queue n.place n.request))))
     done.ends (λ k. refl)
   where
     done : Made w q g m cs

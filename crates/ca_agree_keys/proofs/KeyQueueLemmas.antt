@@ -35,7 +35,8 @@ use Rattle.ca_model.specs.declared.answer.Refusal.{Refusal}
 use Rattle.ca_model.specs.machine.Completions.{flush_marks}
 use Rattle.ca_agree.proofs.PathChangeLemmas.{Behind}
 use Rattle.ca_agree.proofs.PathVerbLemmas.{agrees-present, call_of}
-use Rattle.ca_agree_keys.proofs.CalmLemmas.{flush-calm}
+use Rattle.ca_agree_keys.proofs.CalmLemmas.{marks-calm}
+use Rattle.ca_agree_keys.proofs.PlainLemmas.{flush-plain}
 use Rattle.ca_agree_keys.proofs.FrameLemmas.{AreLoose, IsLooseName}
 use Rattle.ca_agree_keys.proofs.KeyTurnLemmas.{IsUp, agree-calm}
 use Rattle.ca_agree_keys.proofs.KeyVerbLemmas.{AgreesBy}
@@ -230,7 +231,7 @@ pub agrees-modify : (c : Configuration) (past : Past) (w : World) (by : ℕ) (s 
 agrees-modify c past w by s changes.Error up = agrees-present c w (AgreesBy past by (verbs.ModifyQp s changes.Error)) (call_of by (verbs.ModifyQp s changes.Error)) s _ up.sound up.agree (λ q is name.
     agrees-change w (AgreesBy past by (verbs.ModifyQp s changes.Error)) (call_of by (verbs.ModifyQp s changes.Error)) q (of_change_refusals (modify_refusals c q changes.Error))
     (λ a. (Queue_of q.queue := Present (queue_after_change changes.Error q)) ∷ cq_updates q a (flush_marks q)) (flush_marks q) (λ r. up.agree)
-    (agree-calm past (Behind past by (verbs.ModifyQp s changes.Error) answers.Fine) w ((Queue_of q.queue := Present (queue_after_change changes.Error q)) ∷ cq_updates q (around_in w q (shared_of w q)) (flush_marks q)) (flush_marks q) up.agree (record { grants = refl; memory = refl }) (record {}, (record {}, (record {}, record {}))) (flush-calm q)))
+    (agree-calm past (Behind past by (verbs.ModifyQp s changes.Error) answers.Fine) w ((Queue_of q.queue := Present (queue_after_change changes.Error q)) ∷ cq_updates q (around_in w q (shared_of w q)) (flush_marks q)) (flush_marks q) up.agree (record { grants = refl; memory = refl }) (record {}, (record {}, (record {}, record {}))) (marks-calm (flush_marks q) (flush-plain q))))
 agrees-modify c past w by s changes.Reset up = agrees-present c w (AgreesBy past by (verbs.ModifyQp s changes.Reset)) (call_of by (verbs.ModifyQp s changes.Reset)) s _ up.sound up.agree (λ q is name.
     agrees-change w (AgreesBy past by (verbs.ModifyQp s changes.Reset)) (call_of by (verbs.ModifyQp s changes.Reset)) q (of_change_refusals (modify_refusals c q changes.Reset))
     (λ a. (Queue_of q.queue := Present (queue_after_change changes.Reset q)) ∷ (Mailbox_of q.queue := emptied_mailbox (queue_after_change changes.Reset q).incarnation (w.mailbox q.queue)) ∷ emptied_updates q a) [] (λ r. up.agree)

@@ -3,7 +3,8 @@ use Rattle.std.proofs.Common.{◌≡◌, ℕ, ◌&&◌, Bool, true, false, if◌
 use Rattle.std.specs.Option.{option_map_or}
 use Rattle.ca_agree.specs.Runs.{Leads}
 use Rattle.ca_agree.proofs.LeadsLemmas.{leads-around, leads-queue, leads-unless}
-use Rattle.ca_agree_keys.proofs.CalmLemmas.{AreCalm, timeout-calm}
+use Rattle.ca_agree_keys.proofs.CalmLemmas.{AreCalm, marks-calm}
+use Rattle.ca_agree_keys.proofs.PlainLemmas.{timeout-plain}
 use Rattle.ca_agree_keys.proofs.EndLemmas.{key-ended}
 use Rattle.ca_agree_keys.proofs.FrameLemmas.{AreLoose, Ends, ends-agreed, leads-told, loose-before, loose-behind, loose-puts, same-keys, same-then, turn-loose}
 use Rattle.ca_agree_keys.proofs.RowLemmas.{arrival-told, respond-told}
@@ -138,7 +139,7 @@ agrees-timeout c past event w name hasten up =
     fire q silent = leads-unless w (Agrees past event) (timeout_refusals silent hasten q) Stuck
         (Finish (updates_of q (around_in w q (shared_of w q)) (after_timeout silent q)) [] (after_timeout silent q).marks) (λ r. record {})
         (agree-calm past (at_begin event past) w (updates_of q (around_in w q (shared_of w q)) (after_timeout silent q)) (after_timeout silent q).marks up.agree (at-begin past event)
-        (turn-loose q (around_in w q (shared_of w q)) (after_timeout silent q)) (timeout-calm q silent).marks)
+        (turn-loose q (around_in w q (shared_of w q)) (after_timeout silent q)) (marks-calm (after_timeout silent q).marks (timeout-plain q silent).marks))
 
     by : (q : QueuePair) (peer : Option Correspondent) → Leads w (Agrees past event) (Timeout_around hasten q (w.mailbox name) (around_in w q (shared_of w q)) peer)
     by q None = leads-unless w (Agrees past event) (timeout_refusals false hasten q) Stuck (Stuck reasons.Empty) (λ r. record {}) (record {})

@@ -6,7 +6,8 @@ use Rattle.ca_agree.specs.Runs.{Leads}
 use Rattle.ca_agree.proofs.LeadsLemmas.{leads-unless}
 use Rattle.ca_agree.proofs.PathChangeLemmas.{Behind}
 use Rattle.ca_agree.proofs.PathVerbLemmas.{agrees-present, call_of}
-use Rattle.ca_agree_keys.proofs.CalmLemmas.{AreCalm, flush-calm}
+use Rattle.ca_agree_keys.proofs.CalmLemmas.{AreCalm, marks-calm}
+use Rattle.ca_agree_keys.proofs.PlainLemmas.{flush-plain}
 use Rattle.ca_agree_keys.proofs.ChangeLemmas.{grants-same}
 use Rattle.ca_agree_keys.proofs.EndLemmas.{region-ended, region-granted, region-kept, window-ended}
 use Rattle.ca_agree_keys.proofs.FrameLemmas.{Ends, ends-agreed, loose-before}
@@ -241,7 +242,7 @@ flushed-calm : (q : QueuePair) → AreCalm (marks_of_flush q)
 flushed-calm q = by (state_eq q.state states.Error)
   where
     by : (b : Bool) → AreCalm (if b then flush_marks q else [])
-    by true = flush-calm q
+    by true = marks-calm (flush_marks q) (flush-plain q)
     by false = record {}
 
 -- the past behind a verb's answer has the grants and the memory of before

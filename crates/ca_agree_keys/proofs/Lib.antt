@@ -1,6 +1,7 @@
 pub mod SlotLemmas
 pub mod SightLemmas
 pub mod ChangeLemmas
+pub mod PlainLemmas
 pub mod CalmLemmas
 pub mod ToldLemmas
 pub mod RowLemmas
@@ -11,8 +12,3 @@ pub mod KeyOperationLemmas
 pub mod KeyVerbLemmas
 pub mod KeyQueueLemmas
 pub mod KeyEventLemmas
-pub mod SilentLemmas
-pub mod DenialLemmas
-pub mod PassLemmas
-pub mod SilentVerbLemmas
-pub mod DenialEventLemmas

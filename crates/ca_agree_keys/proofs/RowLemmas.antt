@@ -75,7 +75,8 @@ use Rattle.ca_model.specs.machine.Expected.{after_write_packet, fits_left, fits_
 use Rattle.ca_model.specs.Requests.{list_of}
 use Rattle.ca_base.specs.declared.limits.TheConstants.{ATOMIC_BYTES, MAX_MESSAGE_BYTES}
 use Rattle.ca_agree_keys.proofs.SightLemmas.{after_asked}
-use Rattle.ca_agree_keys.proofs.CalmLemmas.{AreCalm, IsCalm, acknowledge-calm, ahead-calm, below-calm, calm-then, denied-calm, drop-calm, duplicate-calm, failure-calm, flush-calm, progress-calm, reads-calm, receive-calm, refusal-calm, success-calm, took-calm}
+use Rattle.ca_agree_keys.proofs.CalmLemmas.{AreCalm, IsCalm, calm-then, denied-calm, marks-calm, plain-calm, reads-calm, took-calm}
+use Rattle.ca_agree_keys.proofs.PlainLemmas.{acknowledge-plain, ahead-plain, below-plain, drop-plain, duplicate-plain, failure-plain, flush-plain, progress-plain, receive-plain, refusal-plain, success-plain}
 use Rattle.ca_agree_keys.proofs.ToldLemmas.{At, IsTold, Leaves, RowTold, ended, leaves-append, leaves-calm, leaves-revoked, list-written, none-written, plain-told, told-calm, touch-alike}
 
 -- what an answer brings
@@ -87,7 +88,7 @@ answer-told g q psn p before n calm = record {
   allowed = λ bytes refusal m. leaves-append g g g m m _ before.marks _ (leaves-calm g m before.marks calm.marks)
       (leaves-append g g g m _ _ (local_writes (writes_by (answer_asks psn p before.queue n) (answer_bytes p))) _
       (list-written g before.queue.queue before.queue.domain kinds.Write (segment_at psn before.queue n) (list_of n.request.op) (answer_bytes p) m)
-      (leaves-calm g _ (progress_to (suc psn) before.queue).marks (progress-calm (suc psn) before.queue).marks));
+      (leaves-calm g _ (progress_to (suc psn) before.queue).marks (marks-calm (progress_to (suc psn) before.queue).marks (progress-plain (suc psn) before.queue).marks)));
 }
 
 fitting-told : (g : List Grant) (q : QueuePair) (psn : ℕ) (p : Fields) (a : Acknowledgement) → IsCalm a.effects → RowTold g q.queue q.domain (fitting_row psn p a)
@@ -102,7 +103,7 @@ fitting-told g q psn p a inner = back a.went_back
 
     is_bad : RowTold g q.queue q.domain bad
     is_bad = plain-told g q (and_then a.effects (failure_effects BadResponse None))
-        (calm-then a.effects (failure_effects BadResponse None) inner (failure-calm BadResponse None a.effects.queue))
+        (calm-then a.effects (failure_effects BadResponse None) inner (plain-calm _ (failure-plain BadResponse None a.effects.queue)))
 
     fits : (n : Numbered) (b : Bool) → RowTold g q.queue q.domain (if b then answer_row psn p a.effects n else bad)
     fits n true = answer-told g q psn p a.effects n inner
@@ -124,17 +125,17 @@ response-told g p q = by (is_among (states.Rts ∷ states.Sqd ∷ []) q.state)
 
     opcode : (b : Bool) → RowTold g q.queue q.domain (if b then plain_row (Does (acknowledge_row psn (option_and_then (λ a. syndrome_in a.syndrome) p.aeth) q))
         else fitting_row psn p (acknowledgement_below psn q))
-    opcode true = plain-told g q _ (acknowledge-calm psn (option_and_then (λ a. syndrome_in a.syndrome) p.aeth) q)
-    opcode false = fitting-told g q psn p (acknowledgement_below psn q) (below-calm psn q)
+    opcode true = plain-told g q _ (plain-calm _ (acknowledge-plain psn (option_and_then (λ a. syndrome_in a.syndrome) p.aeth) q))
+    opcode false = fitting-told g q psn p (acknowledgement_below psn q) (plain-calm _ (below-plain psn q))
 
     there : (b : Bool) → RowTold g q.queue q.domain (if not b then plain_row (Does (drop_effects q drops.Stale)) else outstanding_row psn p q)
     there true = opcode (p.opcode == ACKNOWLEDGE)
-    there false = plain-told g q (drop_effects q drops.Stale) (drop-calm q drops.Stale)
+    there false = plain-told g q (drop_effects q drops.Stale) (plain-calm _ (drop-plain q drops.Stale))
 
     by : (b : Bool) → RowTold g q.queue q.domain (if not b then plain_row (Does (drop_effects q drops.State))
         else if not (is_outstanding_at psn q) then plain_row (Does (drop_effects q drops.Stale)) else outstanding_row psn p q)
     by true = there (is_outstanding_at psn q)
-    by false = plain-told g q (drop_effects q drops.State) (drop-calm q drops.State)
+    by false = plain-told g q (drop_effects q drops.State) (plain-calm _ (drop-plain q drops.State))
 
 -- the key that a SEND ends
 revoked-told : (g : List Grant) (m : ByteMap) (q : QueuePair) (o : Option ℕ)
@@ -202,7 +203,7 @@ send-told g before p place r = by (nat_lt (list_length r.receive.receive.list.it
         (packet (with_window_gone (invalidation_of q p) q))))
     placed (Some cause) = λ m. subst (λ h. Leaves g m (local_writes writes ++ (end (Some cause)).marks) h (after_asked g writes m)) (refused-same g (invalidation_of q p) cause)
         (leaves-append g g g m _ _ (local_writes writes) (end (Some cause)).marks (wrote m)
-        (leaves-calm g (after_asked g writes m) (end (Some cause)).marks (receive-calm q r.receive MemoryManagement (Some cause) RemoteOperationalError).marks))
+        (leaves-calm g (after_asked g writes m) (end (Some cause)).marks (marks-calm (end (Some cause)).marks (receive-plain q r.receive MemoryManagement (Some cause) RemoteOperationalError).marks)))
 
     own : (o : Option ℕ) (taken : Bool) → IfSome {T = Invalidation} (option_map (λ key. record {
       queue = (if taken then with_receive_taken before else before).queue;
@@ -214,10 +215,10 @@ send-told g before p place r = by (nat_lt (list_length r.receive.receive.list.it
     own (Some key) false = (refl, refl)
 
     by : (b : Bool) → RowTold g before.queue before.domain (row_of b)
-    by true = plain-told g before _ (took-calm q r.taken _ (receive-calm q r.receive LocalLength None InvalidRequest))
+    by true = plain-told g before _ (took-calm q r.taken _ (plain-calm _ (receive-plain q r.receive LocalLength None InvalidRequest)))
     by false = record {
       own = own p.ieth r.taken;
-      denied = λ d. told-calm g (took (refused d)) (took-calm q r.taken (refused d) (record { writes = refl; marks = (record {}, (receive-calm q r.receive LocalProtection None RemoteOperationalError).marks) }));
+      denied = λ d. told-calm g (took (refused d)) (took-calm q r.taken (refused d) (record { writes = refl; marks = (record {}, (plain-calm _ (receive-plain q r.receive LocalProtection None RemoteOperationalError)).marks) }));
       allowed = λ bytes refusal. took-told g (ended (invalidation_of q p) refusal g) q r.taken _ (placed refusal);
     }
 
@@ -226,7 +227,7 @@ write-told : (g : List Grant) (q : QueuePair) (p : Fields) (envelope : Option �
     → ((r.left == 0) ≡ true → length p.payload ≡ 0) → RowTold g q.queue q.domain (write_row q p envelope place next r)
 write-told g q p envelope place next r empty = record {
   own = record {};
-  denied = λ d m. leaves-calm g m (remote_mark d.ask envelope (verdicts.Denied d.denial) ∷ flush_marks q) (record {}, flush-calm q);
+  denied = λ d m. leaves-calm g m (remote_mark d.ask envelope (verdicts.Denied d.denial) ∷ flush_marks q) (record {}, marks-calm (flush_marks q) (flush-plain q));
   allowed = λ bytes refusal m past at. leaves-calm g _ (after_write_packet q p place r next).marks (packet (ends place)) (after_mark mark past)
       (record { grants = at.grants; memory = written m past at (r.left == 0) refl });
 }
@@ -265,7 +266,7 @@ write-told g q p envelope place next r empty = record {
 atomic-told : (g : List Grant) (q : QueuePair) (p : Fields) (envelope : Option ℕ) (kind : Kind) (a : AtomicEth) → RowTold g q.queue q.domain (atomic_row q p envelope kind a)
 atomic-told g q p envelope kind a = record {
   own = record {};
-  denied = λ d m. leaves-calm g m (remote_mark d.ask envelope (verdicts.Denied d.denial) ∷ flush_marks q) (record {}, flush-calm q);
+  denied = λ d m. leaves-calm g m (remote_mark d.ask envelope (verdicts.Denied d.denial) ∷ flush_marks q) (record {}, marks-calm (flush_marks q) (flush-plain q));
   allowed = λ bytes refusal m past at. record {
     grants = at.grants;
     memory = λ i. memory_after (at.memory i) (runs_for (packet_ask q a.key kind a.address ATOMIC_BYTES ATOMIC_BYTES) (at.grants i) ATOMIC_BYTES) (little_endian_bytes (put (found bytes)));
@@ -279,7 +280,7 @@ atomic-told g q p envelope kind a = record {
     put n = option_map_or (λ x. x) (number_put kind a n) 0
 
 refused-told : (g : List Grant) (code : NakCode) (q : QueuePair) → RowTold g q.queue q.domain (plain_row (Does (refusal_effects code q)))
-refused-told g code q = plain-told g q (refusal_effects code q) (refusal-calm code q)
+refused-told g code q = plain-told g q (refusal_effects code q) (plain-calm _ (refusal-plain code q))
 
 -- a WRITE that leaves no byte brings none
 brings-none : (count : ℕ) (place : Position) (r : WriteReach) → fits_left count place r ≡ true → (r.left == 0) ≡ true → count ≡ 0
@@ -363,14 +364,14 @@ request-told : (g : List Grant) (p : Fields) (envelope : Option ℕ) (shared : O
 request-told g p envelope shared shape q = by (widened q.responder.expected p.psn)
   where
     before : (psn : ℕ) (b : Bool) → RowTold g q.queue q.domain (if b then plain_row (Does (duplicate_effects psn p envelope shape q)) else expected_row q shared p envelope shape)
-    before psn true = plain-told g q _ (duplicate-calm psn p envelope shape q)
+    before psn true = plain-told g q _ (plain-calm _ (duplicate-plain psn p envelope shape q))
     before psn false = expected-told g q shared p envelope shape
 
     ahead : (psn : ℕ) (b : Bool) → RowTold g q.queue q.domain (
         if b then plain_row (Does (ahead_effects q))
         else if nat_lt psn q.responder.expected then plain_row (Does (duplicate_effects psn p envelope shape q))
         else expected_row q shared p envelope shape)
-    ahead psn true = plain-told g q _ (ahead-calm q)
+    ahead psn true = plain-told g q _ (plain-calm _ (ahead-plain q))
     ahead psn false = before psn (nat_lt psn q.responder.expected)
 
     by : (psn : ℕ) → RowTold g q.queue q.domain (
@@ -388,7 +389,7 @@ arrival-told g bytes envelope shared q = by (packet_in bytes)
 
     requests : (p : Fields) (o : Option Shape) → RowTold g q.queue q.domain (shaped p o)
     requests p (Some shape) = request-told g p envelope shared shape q
-    requests p None = plain-told g q (drop_effects q drops.State) (drop-calm q drops.State)
+    requests p None = plain-told g q (drop_effects q drops.State) (plain-calm _ (drop-plain q drops.State))
 
     kinds : (p : Fields) (b : Bool) → RowTold g q.queue q.domain (if b then response_row p q else shaped p (shape_of p.opcode))
     kinds p true = response-told g p q
@@ -399,7 +400,7 @@ arrival-told g bytes envelope shared q = by (packet_in bytes)
     dropped p None = packet_arrived p envelope shared q
 
     unless : (p : Fields) (o : Option Drop1) → RowTold g q.queue q.domain (dropped p o)
-    unless p (Some cause) = plain-told g q (drop_effects q cause) (drop-calm q cause)
+    unless p (Some cause) = plain-told g q (drop_effects q cause) (plain-calm _ (drop-plain q cause))
     unless p None = kinds p (is_response p.opcode)
 
     row : Result Fields WireError → Row
@@ -407,7 +408,7 @@ arrival-told g bytes envelope shared q = by (packet_in bytes)
     row (Ok p) = dropped p (first_of (arrival_drops q p))
 
     by : (r : Result Fields WireError) → RowTold g q.queue q.domain (row r)
-    by (Err error) = plain-told g q (drop_effects q (drops.Wire error)) (drop-calm q (drops.Wire error))
+    by (Err error) = plain-told g q (drop_effects q (drops.Wire error)) (plain-calm _ (drop-plain q (drops.Wire error)))
     by (Ok p) = unless p (first_of (arrival_drops q p))
 
 pub respond-told : (g : List Grant) (room : Bool) (q : QueuePair) → RowTold g q.queue q.domain (respond_row room q)
@@ -427,7 +428,7 @@ respond-told g room q = by (first_of (respond_refusals room q)) (slice_get q.res
     turn (queued.Nak psn code) = silent _ (record { writes = refl; marks = record {} })
     turn (queued.Read psn key address part first envelope duplicate) = record {
       own = record {};
-      denied = λ d m. leaves-calm g m (remote_mark d.ask envelope (verdicts.Denied d.denial) ∷ flush_marks q) (record {}, flush-calm q);
+      denied = λ d m. leaves-calm g m (remote_mark d.ask envelope (verdicts.Denied d.denial) ∷ flush_marks q) (record {}, marks-calm (flush_marks q) (flush-plain q));
       allowed = λ bytes refusal m. leaves-calm g m (remote_mark (response_ask q r) envelope (verdicts.Read (flat_map (λ b. b) bytes)) ∷ []) (record {}, record {});
     }
       where
@@ -475,7 +476,7 @@ invalidate-told g q n key = record { own = (refl, refl); denied = λ d m p at. a
     i = Some (record { queue = q.queue; domain = q.domain; key = key })
 
     by : (refusal : Option OpRefusal) → IsTold g (ended i refusal g) (operation_effects q n (with_window_gone i q) (record { revoked = Some key; granted = None }) refusal)
-    by (Some cause) = told-calm g (failure_effects MemoryManagement (Some cause) q) (failure-calm MemoryManagement (Some cause) q)
+    by (Some cause) = told-calm g (failure_effects MemoryManagement (Some cause) q) (plain-calm _ (failure-plain MemoryManagement (Some cause) q))
     by None = λ m. leaves-append g (ended i None g) (ended i None g) m m m (local_marks q (record { revoked = Some key; granted = None })) (success_marks q.queue n.place n.request)
         (leaves-revoked g m q.queue.adapter key)
-        (leaves-calm (ended i None g) m (success_marks q.queue n.place n.request) (success-calm q.queue n.place n.request))
+        (leaves-calm (ended i None g) m (success_marks q.queue n.place n.request) (marks-calm (success_marks q.queue n.place n.request) (success-plain q.queue n.place n.request)))

@@ -82,7 +82,7 @@ sum-more : (p : Piece) (ps : List Piece) → sum_by (λ p. p.length) (p ∷ ps) 
 sum-more p ps = sum_by-cons (λ (p : Piece). p.length) p ps
 
 -- pieces of a list, cut to so many bytes, have no more bytes
-cut-most : (skip count : ℕ) (ps : List Piece) → sum_by (λ p. p.length) (cut_list skip count ps) ≤ count
+pub cut-most : (skip count : ℕ) (ps : List Piece) → sum_by (λ p. p.length) (cut_list skip count ps) ≤ count
 cut-most skip count [] = omega arith
 cut-most skip count (p ∷ ps) = by (nat_le p.length skip) (count == 0) (cut-most (skip - p.length) count ps) (cut-most 0 (count - (p.length - skip)) ps)
   where

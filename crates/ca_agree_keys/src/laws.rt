@@ -2,7 +2,6 @@ ghost use Rattle.std.specs.List.{AllByRecursion};
 ghost use Rattle.std.specs.Prelude.{◌≡◌, List};
 ghost use Rattle.ca_agree.specs.Agreement.{HoldsAlong};
 ghost use Rattle.ca_agree.specs.Runs.{Comes};
-ghost use Rattle.ca_agree_keys.specs.Denials.{AreDeniedRightly};
 ghost use Rattle.ca_agree_keys.specs.InForce.{KeysAgree};
 ghost use Rattle.ca_base.specs.Configuration.{Configuration};
 ghost use Rattle.ca_base.specs.Sight.{bytes_in, denial_in};
@@ -51,12 +50,4 @@ pub fn asks_meet_what_is_in_force()
     ensures bytes { (c : Configuration) (past : Past) (w : World) (ask : Ask) → IsSoundWorld c w → IsPlacedWorld c w
         → KeysAgree past w
         → bytes_in (sight_in c w) ask ≡ bytes_at past.memory (runs_for ask past.grants ask.touch) }
-{}
-
-/// In a history that follows the machine each access is denied exactly where the grants in force do not allow it, and for
-/// the first part of the key check that fails. This is the part of Judged that speaks of keys.
-pub fn accesses_are_denied_rightly()
-    ensures { (c : Configuration) (bytes : ByteMap) (es : List EntryValue) → AreLimited c
-        → AllByRecursion (λ e. CanBeMade e.event) es → Follows c bytes es
-        → AreDeniedRightly bytes es }
 {}

@@ -15,10 +15,10 @@ use Rattle.ca_model.specs.machine.Frame.{AllPass}
 use Rattle.ca_model.specs.machine.World.{Name, Domain_of, Region_of, Window_of, Cq_of, Srq_of, Queue_of, Mailbox_of, Byte_at}
 use Rattle.ca_shelf.specs.Shelved.{has_thing, thing_under, with_thing}
 use Rattle.ca_held.specs.declared.held.Held.{Held}
-use Rattle.ca_held.specs.declared.part.BufferId.{BufferId}
-use Rattle.ca_held.specs.HeldView.{IsRunHeld, buffer_of, holding, held_world, is_held_name, is_held_part, with_buffer, with_bytes}
-use Rattle.ca_held.specs.Names.{buffer_eq, buffer_of_run, buffer_path}
-use Rattle.ca_held.proofs.HoldLemmas.{has-with, thing-with}
+use Rattle.ca_held_reach.specs.declared.reached.BufferId.{BufferId}
+use Rattle.ca_held.specs.HeldView.{IsRunHeld, holding, held_world, is_held_name, is_held_part, with_buffer, with_bytes}
+use Rattle.ca_held_reach.specs.Laws.{has-with, thing-with}
+use Rattle.ca_held_reach.specs.Names.{buffer_eq, buffer_of, buffer_of_run, buffer_path}
 
 place_in : Run → ℕ → Place
 place_in r at = record { adapter = r.adapter; buffer = r.buffer; offset = at }

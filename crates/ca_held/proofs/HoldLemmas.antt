@@ -1,5 +1,5 @@
 -- Changing a held thing changes the thing of its name in the small world, and nothing else. For proofs only.
-use Rattle.std.proofs.Common.{◌≡◌, ◌∙◌, refl, sym, ap, Bool, true, false, List, [], ◌∷◌, Option, None, Some, Box, is_some, if◌then◌else◌, true≢false}
+use Rattle.std.proofs.Common.{◌≡◌, ◌∙◌, refl, sym, ap, Bool, true, false, List, Option, None, Some, Box, is_some, if◌then◌else◌, true≢false}
 use Rattle.std.proofs.Math.Path.{fun_ext}
 use Rattle.std.specs.Option.{option_map, option_map_or}
 use Rattle.std.specs.declared.alloc.Global.{Global}
@@ -22,59 +22,19 @@ use Rattle.ca_shelf.specs.declared.shelf.Named.{Named}
 use Rattle.ca_shelf.specs.Shelved.{has_thing, thing_under, with_thing}
 use Rattle.ca_held.specs.declared.held.Held.{Held}
 use Rattle.ca_held.specs.declared.part.QueueSlot.{QueueSlot}
-use Rattle.ca_held.specs.HeldView.{Holding, hold, holding, held_world, is_held_name, is_held_part, or_vacant, with_control, with_cq, with_mailbox, with_queue, with_region, with_srq, with_window}
+use Rattle.ca_held.specs.HeldView.{Holding, hold, holding, held_world, is_held_name, is_held_part, with_control, with_cq, with_mailbox, with_queue, with_region, with_srq, with_window}
 use Rattle.ca_held.specs.Parts.{slot_of}
+use Rattle.ca_held_reach.specs.Laws.{has-with, plain-with, thing-with}
+use Rattle.ca_held_reach.specs.Seen.{or_vacant}
 
 module _ {N T : Type 0} (same : N → N → Bool) (path : (a b : N) → same a b ≡ true → a ≡ b) where
-  -- what stands under a name after another thing was put under one
-  pub thing-with : (xs : List (Named N T)) (n m : N) (v : T) → has_thing same n xs ≡ true
-      → thing_under same m (with_thing same n v xs) ≡ (if same n m then Some v else thing_under same m xs)
-  thing-with [] n m v has = absurd (true≢false (sym has))
-  thing-with (x ∷ xs) n m v has = by (same x.name n) refl has (thing-with xs n m v)
-    where
-      behind : (b : Bool) → same n m ≡ b → same x.name n ≡ false
-          → thing_under same m (with_thing same n v xs) ≡ (if same n m then Some v else thing_under same m xs)
-          → (if same x.name m then Some x.thing else thing_under same m (with_thing same n v xs))
-          ≡ (if same n m then Some v else if same x.name m then Some x.thing else thing_under same m xs)
-      behind true is other again = let p : same x.name m ≡ false = ap (same x.name) (sym (path n m is)) ∙ other in rw (p, again, is) refl
-      behind false is other again = rw (again, is) refl
-
-      first : (b : Bool) → same x.name m ≡ b
-          → (if same x.name m then Some v else thing_under same m xs)
-          ≡ (if same x.name m then Some v else if same x.name m then Some x.thing else thing_under same m xs)
-      first true is = rw is refl
-      first false is = rw is refl
-
-      by : (b : Bool) → same x.name n ≡ b → is_some (if b then Some x.thing else thing_under same n xs) ≡ true
-          → (has_thing same n xs ≡ true → thing_under same m (with_thing same n v xs) ≡ (if same n m then Some v else thing_under same m xs))
-          → thing_under same m (if b then record x { thing = v } ∷ xs else x ∷ with_thing same n v xs)
-          ≡ (if same n m then Some v else if same x.name m then Some x.thing else thing_under same m xs)
-      by true is there again = rw (← path x.name n is) (first (same x.name m) refl)
-      by false is there again = behind (same n m) refl is (again there)
-
-  -- the same names are there
-  pub has-with : (xs : List (Named N T)) (n m : N) (v : T) → has_thing same n xs ≡ true → has_thing same m (with_thing same n v xs) ≡ has_thing same m xs
-  has-with xs n m v has = ap is_some (thing-with xs n m v has) ∙ by (same n m) refl
-    where
-      by : (b : Bool) → same n m ≡ b → is_some (if b then Some v else thing_under same m xs) ≡ has_thing same m xs
-      by true is = rw (← path n m is) (sym has)
-      by false is = refl
-
   -- what stands there, or else what is vacant
   pub or-with : {A : Type 0} (f : T → A) (vacant : N → A) (xs : List (Named N T)) (n m : N) (v : T) → has_thing same n xs ≡ true
       → or_vacant (vacant m) (option_map f (thing_under same m (with_thing same n v xs)))
       ≡ (if same n m then f v else or_vacant (vacant m) (option_map f (thing_under same m xs)))
-  or-with f vacant xs n m v has = ap (λ o. or_vacant (vacant m) (option_map f o)) (thing-with xs n m v has) ∙ by (same n m)
+  or-with f vacant xs n m v has = ap (λ o. or_vacant (vacant m) (option_map f o)) (thing-with same path xs n m v has) ∙ by (same n m)
     where
       by : (b : Bool) → or_vacant (vacant m) (option_map f (if b then Some v else thing_under same m xs)) ≡ (if b then f v else or_vacant (vacant m) (option_map f (thing_under same m xs)))
-      by true = refl
-      by false = refl
-
-  pub plain-with : (vacant : N → T) (xs : List (Named N T)) (n m : N) (v : T) → has_thing same n xs ≡ true
-      → or_vacant (vacant m) (thing_under same m (with_thing same n v xs)) ≡ (if same n m then v else or_vacant (vacant m) (thing_under same m xs))
-  plain-with vacant xs n m v has = ap (or_vacant (vacant m)) (thing-with xs n m v has) ∙ by (same n m)
-    where
-      by : (b : Bool) → or_vacant (vacant m) (if b then Some v else thing_under same m xs) ≡ (if b then v else or_vacant (vacant m) (thing_under same m xs))
       by true = refl
       by false = refl
 

@@ -1,3 +1,3 @@
-mod ByteLemmas
+pub mod ByteLemmas
 pub mod HoldLemmas
 mod TakingLemmas

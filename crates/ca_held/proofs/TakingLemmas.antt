@@ -6,7 +6,6 @@ use Rattle.std.specs.declared.alloc.Global.{Global}
 use Rattle.ca_keys.specs.declared.names.DomainId.{DomainId}
 use Rattle.ca_keys.specs.declared.names.QueueId.{QueueId}
 use Rattle.ca_keys.specs.declared.names.Slot.{Slot}
-use Rattle.ca_keys.specs.declared.place.Place.{Place}
 use Rattle.ca_keys.specs.Equal.{domain_eq, queue_eq, slot_eq}
 use Rattle.ca_base.specs.objects.CompletionQueue.{CompletionQueue}
 use Rattle.ca_base.specs.objects.Domain.{Domain, free_domain}
@@ -25,11 +24,12 @@ use Rattle.ca_model.proofs.ThingLemmas.{domain-path, queue-path, slot-path}
 use Rattle.ca_shelf.specs.declared.shelf.Named.{Named}
 use Rattle.ca_shelf.specs.Shelved.{Shelved, has_thing, thing_under, without_thing}
 use Rattle.ca_held.specs.declared.held.Held.{Held}
-use Rattle.ca_held.specs.declared.part.BufferId.{BufferId}
+use Rattle.ca_held_reach.specs.declared.reached.BufferId.{BufferId}
 use Rattle.ca_held.specs.declared.part.Part.TheVariants as parts
 use Rattle.ca_held.specs.declared.part.QueueSlot.{QueueSlot}
-use Rattle.ca_held.specs.HeldView.{Holding, buffer_of, holding, held_world, is_held_name, is_held_part, or_vacant}
-use Rattle.ca_held.specs.Names.{buffer_eq, buffer_path}
+use Rattle.ca_held.specs.HeldView.{Holding, holding, held_world, is_held_name, is_held_part}
+use Rattle.ca_held_reach.specs.Names.{buffer_eq, buffer_of, buffer_path}
+use Rattle.ca_held_reach.specs.Seen.{or_vacant}
 use Rattle.ca_held.specs.Parts.{slot_of}
 use Rattle.ca_held.specs.Taking.{has_in, with_part, with_places, without_part}
 

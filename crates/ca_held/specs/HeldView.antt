@@ -5,7 +5,6 @@ use Rattle.std.specs.Option.{option_map, option_map_or}
 use Rattle.ca_keys.specs.declared.names.DomainId.{DomainId}
 use Rattle.ca_keys.specs.declared.names.QueueId.{QueueId}
 use Rattle.ca_keys.specs.declared.names.Slot.{Slot}
-use Rattle.ca_keys.specs.declared.place.Place.{Place}
 use Rattle.ca_keys.specs.declared.place.Run.{Run}
 use Rattle.ca_keys.specs.Memory.{memory_after}
 use Rattle.ca_model.specs.machine.Frame.{AllPass}
@@ -15,10 +14,9 @@ use Rattle.ca_base.specs.objects.CompletionQueue.{CompletionQueue}
 use Rattle.ca_base.specs.objects.Domain.{Domain, free_domain}
 use Rattle.ca_base.specs.objects.Mailbox.{Mailbox, empty_mailbox}
 use Rattle.ca_base.specs.objects.QueuePair.{vacant_queue}
-use Rattle.ca_base.specs.objects.Region.{Region, vacant_region}
+use Rattle.ca_base.specs.objects.Region.{Region}
 use Rattle.ca_base.specs.objects.SharedReceives.{SrqSlot, vacant_srq}
-use Rattle.ca_base.specs.objects.Window.{Window, vacant_window}
-use Rattle.ca_memory.specs.Buffer.{memory_of}
+use Rattle.ca_base.specs.objects.Window.{Window}
 use Rattle.ca_model.specs.declared.part_name.PartName.{PartName}
 use Rattle.ca_model.specs.declared.part_name.PartName.TheVariants as names
 use Rattle.ca_model.specs.machine.World.{World, Name, Thing, put}
@@ -26,8 +24,9 @@ use Rattle.ca_model.specs.machine.World.{Domain_of, Region_of, Window_of, Cq_of,
 use Rattle.ca_shelf.specs.Shelved.{has_thing, thing_under, with_thing}
 use Rattle.std.specs.declared.alloc.Global.{Global}
 use Rattle.ca_held.specs.declared.held.Held.{Held}
-use Rattle.ca_held.specs.declared.part.BufferId.{BufferId}
-use Rattle.ca_held.specs.Names.{buffer_eq}
+use Rattle.ca_held_reach.specs.declared.reached.BufferId.{BufferId}
+use Rattle.ca_held_reach.specs.Names.{buffer_eq, buffer_of}
+use Rattle.ca_held_reach.specs.Seen.{byte_in, or_vacant, region_in, window_in}
 use Rattle.ca_held.specs.declared.part.QueueSlot as held_slots
 use Rattle.ca_held.specs.Parts.{slot_of}
 
@@ -41,26 +40,17 @@ pub record Holding : Type 0 where
 abbrev pub hold : Holding → (n : Name) → Thing n → Holding
 hold h n v = record h { world = put h.world n v }
 
--- what stands there, or else what is vacant
-abbrev pub or_vacant : {A : Type 0} → A → Option A → A
-or_vacant vacant o = option_map_or (λ v. v) o vacant
-
--- the buffer of a place
-abbrev pub buffer_of : Place → BufferId
-buffer_of p = record { adapter = p.adapter; index = p.buffer }
-
 -- the things that are held, vacant where none is
 abbrev pub held_world : Held → World
 held_world h = record {
   domain = λ d. or_vacant free_domain (thing_under domain_eq d h.controls.things);
-  region = λ s. or_vacant vacant_region (thing_under slot_eq s h.reached.regions.things);
-  window = λ s. or_vacant (vacant_window s) (thing_under slot_eq s h.reached.windows.things);
+  region = region_in h.reached;
+  window = window_in h.reached;
   cq = λ s. or_vacant None (thing_under slot_eq s h.cqs.things);
   srq = λ s. or_vacant vacant_srq (thing_under slot_eq s h.srqs.things);
   queue = λ q. or_vacant vacant_queue (option_map (λ b. slot_of b.value) (thing_under queue_eq q h.queues.things));
   mailbox = λ q. or_vacant empty_mailbox (thing_under queue_eq q h.mailboxes.things);
-  byte = λ p. option_map_or (λ bytes. memory_of bytes p)
-      (thing_under buffer_eq (buffer_of p) h.reached.buffers.things) 0;
+  byte = byte_in h.reached.buffers.things;
 }
 
 -- the thing of this name is held; a byte where its buffer is, and has it

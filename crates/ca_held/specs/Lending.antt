@@ -17,7 +17,7 @@ use Rattle.ca_held.specs.contracts.held.Held.{the_row as held_row}
 use Rattle.ca_held.specs.HeldView.{with_buffer, with_control, with_cq, with_mailbox, with_queue}
 use Rattle.ca_held.specs.HeldView.{with_region, with_srq, with_window}
 use Rattle.ca_memory.specs.contracts.buffer.Buffer.{the_row as buffer_row}
-use Rattle.ca_held.specs.declared.part.BufferId.{BufferId}
+use Rattle.ca_held_reach.specs.declared.reached.BufferId.{BufferId}
 use Rattle.ca_held.specs.declared.part.QueueSlot.{QueueSlot}
 use Rattle.ca_held.specs.contracts.part.QueueSlot.{the_row as queue_row}
 use Rattle.ca_held.specs.contracts.part.ControlPart.{the_row as control_row}

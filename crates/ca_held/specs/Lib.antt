@@ -1,4 +1,3 @@
-pub mod Names
 pub mod Parts
 pub mod HeldView
 pub mod Taking

@@ -1,5 +1,5 @@
 -- What is held with one part more, and with one fewer. Contracts cite it.
-use Rattle.std.specs.Prelude.{ℕ, nat_lt, Bool, true, false, if◌then◌else◌, length, None}
+use Rattle.std.specs.Prelude.{nat_lt, Bool, true, false, if◌then◌else◌, length, None}
 use Rattle.ca_base.specs.objects.Domain.{free_domain}
 use Rattle.ca_base.specs.objects.Mailbox.{empty_mailbox}
 use Rattle.ca_base.specs.objects.QueuePair.{vacant_queue}
@@ -13,11 +13,11 @@ use Rattle.ca_model.specs.declared.part_name.PartName.TheVariants as names
 use Rattle.ca_model.specs.machine.Parts.{part_eq, part_of}
 use Rattle.ca_model.specs.machine.World.{World, Name, opening_world, put}
 use Rattle.ca_model.specs.machine.World.{Domain_of, Region_of, Window_of, Cq_of, Srq_of, Queue_of, Mailbox_of, Byte_at}
-use Rattle.ca_held.specs.declared.part.BufferId.{BufferId}
+use Rattle.ca_held_reach.specs.declared.reached.BufferId.{BufferId}
 use Rattle.ca_held.specs.declared.part.Part.{Part}
 use Rattle.ca_held.specs.declared.part.Part.TheVariants as parts
-use Rattle.ca_held.specs.HeldView.{Holding, buffer_of}
-use Rattle.ca_held.specs.Names.{buffer_eq}
+use Rattle.ca_held.specs.HeldView.{Holding}
+use Rattle.ca_held_reach.specs.Names.{buffer_eq, buffer_of}
 use Rattle.ca_held.specs.Parts.{slot_of}
 
 -- nothing is held

@@ -1,6 +1,7 @@
-use crate::part::{BufferId, ControlPart, Part, QueueSlot, SrqSlot};
+use crate::part::{ControlPart, Part, QueueSlot, SrqSlot};
 use ca_base::{DomainId, Memory, QueueId, Run, Slot};
 use ca_cq::Cq;
+use ca_held_reach::{BufferId, Reached};
 use ca_mailbox::Mailbox;
 use ca_memory::Buffer;
 use ca_model::PartName;
@@ -21,14 +22,6 @@ pub struct Held {
     pub reached: Reached,
 }
 
-/// What keys and asks reach: windows, regions, and buffers.
-#[derive(Drop)]
-pub struct Reached {
-    pub windows: Shelf<Slot, Window>,
-    pub regions: Shelf<Slot, Region>,
-    pub buffers: Shelf<BufferId, Buffer>,
-}
-
 impl Held {
     ghost use Rattle.std.specs.Prelude.{◌≡◌, ◌+◌, ◌<◌, ◌≤◌, ◌++◌, [], ◌∷◌, true, false, Some, is_some, length};
     ghost use Rattle.std.specs.Prelude.{IfSome, IsTrue, OnErr, OnOk};
@@ -39,7 +32,7 @@ impl Held {
     ghost use Rattle.ca_held.specs.HeldView.{IsRunHeld, holding, room_for, with_bytes};
     ghost use Rattle.ca_held.specs.Taking.{is_of_kind, nothing_held, with_part, without_part};
     ghost use Rattle.ca_model.specs.declared.part_name.PartName.{PartName};
-    ghost use Rattle.ca_held.specs.Names.{buffer_eq};
+    ghost use Rattle.ca_held_reach.specs.Names.{buffer_eq};
     ghost use Rattle.ca_keys.specs.Memory.{bytes_at};
     ghost use Rattle.ca_shelf.specs.Shelved.{has_thing, thing_under};
     ghost use Rattle.ca_held.specs.Parts.{slot_of};

@@ -11,5 +11,5 @@
 mod held;
 mod part;
 
-pub use held::{Held, Reached};
-pub use part::{BufferId, ControlPart, Part, QueueSlot, SrqSlot};
+pub use held::Held;
+pub use part::{ControlPart, Part, QueueSlot, SrqSlot};

@@ -1,10 +1,8 @@
-use ca_base::Run;
 use ca_cq::Cq;
 use ca_mailbox::Mailbox;
 use ca_memory::Buffer;
 use ca_qpstate::QueuePart;
 use ca_region::Region;
-use ca_shelf::ShelfName;
 use ca_srq::Srq;
 use ca_window::Window;
 use std::marker::Model;
@@ -96,38 +94,4 @@ impl Model for SrqSlot {
     ghost Value = { SrqSlot };
 
     ghost view = { λ s. record { srq = s.srq; users = s.users } };
-}
-
-/// The name of a buffer: its adapter, and its number there.
-#[derive(Clone, Copy, PartialEq, Eq)]
-pub struct BufferId {
-    pub adapter: u8,
-    pub index: u16,
-}
-
-impl BufferId {
-    ghost use Rattle.std.specs.Prelude.{◌≡◌};
-    ghost use Rattle.ca_held.specs.Names.{buffer_of_run};
-
-    /// The buffer of a run.
-    pub fn of(run: &Run) -> BufferId
-        ensures { result ≡ buffer_of_run run.now }
-    {
-        BufferId {
-            adapter: run.adapter,
-            index: run.buffer,
-        }
-    }
-}
-
-impl ShelfName for BufferId {
-    ghost use Rattle.ca_held.specs.Names.{buffer_eq, buffer_path};
-
-    ghost same = { buffer_eq };
-
-    ghost path = { buffer_path };
-
-    fn is(&self, other: &BufferId) -> bool {
-        *self == *other
-    }
 }

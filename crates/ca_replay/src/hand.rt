@@ -1,6 +1,7 @@
 ghost use Rattle.std.specs.Prelude.{◌≡◌, ◌<◌, ◌≤◌, true, false, [], None, is_some};
 ghost use Rattle.std.specs.Vec.{vec_capacity};
 ghost use Rattle.ca_base.specs.Configuration.{Configuration, configuration_in};
+ghost use Rattle.ca_base.specs.declared.limits.TheConstants.{MAX_HELD_PARTS};
 ghost use Rattle.ca_held.specs.HeldView.{holding, room_for};
 ghost use Rattle.ca_model.specs.declared.part_name.PartName.{PartName};
 ghost use Rattle.ca_model.specs.machine.Parts as machine;
@@ -12,7 +13,8 @@ ghost use Rattle.ca_adapter.specs.Ready.{is_transport};
 ghost use Rattle.ca_model.specs.machine.Step.{step};
 
 use ca_adapter::act;
-use ca_base::{MAX_HELD_PARTS, Settings, StepError};
+use ca_base::limits::MAX_HELD_PARTS;
+use ca_base::{Settings, StepError};
 use ca_held::{ControlPart, Held, Part};
 use ca_model::{Event, Marks, PartName};
 use ca_needs::next_part;

@@ -9,6 +9,7 @@ ghost use Rattle.ca_replay.specs.Rows.{IsMade, IsRow, IsRowOf, count_after};
 
 use crate::hand::act_in_hand;
 use ca_adapter::lists_fit;
+use ca_base::limits::MAX_HELD_PARTS;
 use ca_base::{Memory, Settings, StepError};
 use ca_held::{Held, Part};
 use ca_model::{Event, Marks, Opening, PartName};

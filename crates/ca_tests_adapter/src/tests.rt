@@ -2,9 +2,10 @@ ghost use Rattle.std.specs.Prelude.{◌≡◌, IfSome};
 ghost use Rattle.ca_adapter.specs.Ready as ready;
 ghost use Rattle.ca_replay.specs.Rows.{IsRow};
 
+mod refusals;
 mod rows;
 
-use ca_base::{Bytes, Config, Memory, StepError};
+use ca_base::{Bytes, Config, DomainId, Memory, Reason, Slot, StepError};
 use ca_model::{Contents, Entry, Event, Marks, Opening, Verb};
 use ca_opening::{fit_contents, is_limited};
 use ca_reading::{TraceError, TraceReader};
@@ -113,12 +114,10 @@ fn begun(alloc: Global, setup: &str) -> Option<Row>
 }
 
 /// Each entry of a trace of verbs is made as it stands there.
-fn follows<R: Abort + AllocGlobal>(rt: &R, setup: &str, trace: &str) {
-    let alloc = rt.alloc();
-    let Some(mut row) = begun(alloc, setup) else {
-        assert!(rt; false, "a fabric");
-        return;
-    };
+fn goes_on(rt: &impl Abort, alloc: Global, row: &mut Row, trace: &str)
+    requires { IsRow row.old }
+    ensures { IsRow row.new }
+{
     let mut reader = TraceReader::start();
     for line in trace.lines() {
         let read = match reader.line(alloc, line.as_bytes()) {
@@ -126,12 +125,88 @@ fn follows<R: Abort + AllocGlobal>(rt: &R, setup: &str, trace: &str) {
             read => read,
         };
         match read {
-            Ok(Some(entry)) => is_made(rt, alloc, &mut row, entry),
+            Ok(Some(entry)) => is_made(rt, alloc, row, entry),
             Ok(None) => {}
             Err(_) => assert!(rt; false, "the trace is read: {line}"),
         }
     }
     assert!(rt; reader.finish().is_ok(), "the trace ends");
+}
+
+/// So it is on the fabric of a setup.
+fn follows<R: Abort + AllocGlobal>(rt: &R, setup: &str, trace: &str) {
+    let alloc = rt.alloc();
+    let Some(mut row) = begun(alloc, setup) else {
+        assert!(rt; false, "a fabric");
+        return;
+    };
+    goes_on(rt, alloc, &mut row, trace);
+}
+
+/// A poll of the first completion queue for at least so many completions is not possible yet.
+fn waits_for(rt: &impl Abort, alloc: Global, row: &mut Row, least: u8)
+    requires { IsRow row.old }
+    ensures { IsRow row.new }
+{
+    let slot = Slot {
+        domain: DomainId {
+            adapter: 0,
+            domain: 0,
+        },
+        slot: 0,
+    };
+    let event = Event::Verb {
+        by: 0,
+        verb: Verb::Poll { slot, n: 16, least },
+    };
+    if row.count >= MOST_ENTRIES {
+        return;
+    }
+    let outcome = match row.make(alloc, &event) {
+        Err(StepError::Memory) => row.make(alloc, &event),
+        outcome => outcome,
+    };
+    let waits = matches!(outcome, Err(StepError::NotReady(Reason::Empty)));
+    assert!(rt; waits, "a poll for at least {least} completions");
+}
+
+/// So many zeros.
+fn zeros_of(alloc: Global, count: usize) -> Option<Bytes> {
+    match vec![in alloc; 0u8; count] {
+        Ok(bytes) => Some(Bytes::from(bytes)),
+        Err(_) => None,
+    }
+}
+
+/// A store of so many zeros at the beginning of the first buffer is answered with these words.
+fn store_answers(rt: &impl Abort, alloc: Global, row: &mut Row, count: usize, words: &str)
+    requires { IsRow row.old }
+    ensures { IsRow row.new }
+{
+    let zeros = zeros_of(alloc, count);
+    let Some(bytes) = zeros.or(zeros_of(alloc, count)) else {
+        return;
+    };
+    let verb = Verb::Store {
+        adapter: 0,
+        buffer: 0,
+        offset: 0,
+        bytes,
+    };
+    let event = Event::Verb { by: 0, verb };
+    let Some(marks) = made(alloc, row, &event) else {
+        assert!(rt; false, "the store is possible");
+        return;
+    };
+    let entry = Entry {
+        stamp: 0,
+        pass: 0,
+        event,
+        marks,
+    };
+    let text = text_of(alloc, &entry);
+    let answers = text.as_slice().ends_with(words.as_bytes());
+    assert!(rt; answers, "a store of {count} bytes");
 }
 
 #[test]
@@ -151,4 +226,41 @@ fn queue_pairs_come_to_ready_to_send_as_reckoned(rt: HostRuntime) {
 #[test]
 fn domains_and_queue_pairs_end_as_reckoned(rt: HostRuntime) {
     follows(&rt, rows::ENDS_SETUP, rows::ENDS);
+}
+
+#[test]
+fn each_refusal_comes_at_its_edge(rt: HostRuntime) {
+    follows(&rt, refusals::SETUP, refusals::REFUSALS);
+}
+
+#[test]
+fn a_poll_waits_for_as_many_as_it_asks_for(rt: HostRuntime) {
+    let alloc = rt.alloc();
+    let Some(mut row) = begun(alloc, refusals::SETUP) else {
+        assert!(rt; false, "a fabric");
+        return;
+    };
+    goes_on(&rt, alloc, &mut row, refusals::ONE_COMPLETION);
+    waits_for(&rt, alloc, &mut row, 2);
+    waits_for(&rt, alloc, &mut row, 16);
+    goes_on(&rt, alloc, &mut row, refusals::IT_IS_POLLED);
+    waits_for(&rt, alloc, &mut row, 1);
+    goes_on(&rt, alloc, &mut row, refusals::NOTHING_WAITS);
+}
+
+#[test]
+fn a_long_store_is_refused(rt: HostRuntime) {
+    let alloc = rt.alloc();
+    let Some(mut row) = begun(alloc, refusals::LARGE_BUFFER) else {
+        assert!(rt; false, "a fabric");
+        return;
+    };
+    store_answers(
+        &rt,
+        alloc,
+        &mut row,
+        4097,
+        "-> refused out-of-range:length\n",
+    );
+    store_answers(&rt, alloc, &mut row, 4096, "0000\n");
 }

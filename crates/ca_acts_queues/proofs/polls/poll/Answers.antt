@@ -1,4 +1,4 @@
-use Rattle.std.proofs.Common.{rules, ◌≡◌, ◌≤◌, ◌<◌, refl, length, Some}
+use Rattle.std.proofs.Common.{rules, ◌≡◌, ◌∙◌, ◌≤◌, ◌<◌, ap, sym, length, Some}
 use Rattle.ca_base.specs.declared.limits.TheConstants.{MAX_POLLED}
 use Rattle.ca_held.specs.HeldView.{holding}
 use Rattle.ca_acts.specs.Calls.{call_of}
@@ -11,10 +11,12 @@ free_all-requires-clause-held c =
     let some : 0 < c.args.n = search rules in
     let few : c.args.n ≤ MAX_POLLED = search rules in
     let within : c.args.least ≤ c.args.n = search rules in
-    let enough : c.args.least ≤ length c.as_slice-completions.result.now = search rules in
+    let enough : c.args.least ≤ length c.as_slice.result.now = search rules in
+    let read : c.as_slice.result.now ≡ c.in_ok-polled.polled = search rules in
+    let same : c.polled_in.result.now ≡ c.in_ok-polled.polled = search rules in
     poll_places_held (holding c.args.held.now).has (holding c.args.held.now).world (call_of c.args.call.now) c.args.slot c.args.n c.args.least
-    (length c.as_slice-completions.result.now) c.in-Some.cq c.in_ok-polled.polled c.as_slice-completions.result.now
-    is some few within enough refl (search rules) (search rules) c.requires.suffices
+    (length c.as_slice.result.now) c.in-Some.cq c.in_ok-polled.polled c.polled_in.result.now
+    is some few within enough (ap length (read ∙ sym same)) same (search rules) c.requires.suffices
 
 pub returns : goal.returns
 returns c =
@@ -22,9 +24,11 @@ returns c =
     let some : 0 < c.args.n = search rules in
     let few : c.args.n ≤ MAX_POLLED = search rules in
     let within : c.args.least ≤ c.args.n = search rules in
-    let enough : c.args.least ≤ length c.as_slice-completions.result.now = search rules in
+    let enough : c.args.least ≤ length c.as_slice.result.now = search rules in
+    let read : c.as_slice.result.now ≡ c.in_ok-polled.polled = search rules in
+    let same : c.polled_in.result.now ≡ c.in_ok-polled.polled = search rules in
     record {
       act = poll_acts (holding c.args.held.now) (holding c.free_all.new.held) (holding c.take_first.new.held) (call_of c.args.call.now) c.args.slot c.args.n c.args.least
-          (length c.as_slice-completions.result.now) c.in-Some.cq c.in_ok-polled.polled c.as_slice-completions.result.now c.answer.result
-          is c.requires.apart some few within enough refl (search rules) (search rules) (search rules) (search rules) (search rules);
+          (length c.as_slice.result.now) c.in-Some.cq c.in_ok-polled.polled c.polled_in.result.now c.in_ok-marks.marks
+          is c.requires.apart some few within enough (ap length (read ∙ sym same)) same (search rules) (search rules) (search rules) (search rules);
     }

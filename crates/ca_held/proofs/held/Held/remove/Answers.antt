@@ -1,4 +1,4 @@
-use Rattle.std.proofs.Common.{◌∙◌, sym, ap, is_some}
+use Rattle.std.proofs.Common.{ap, is_some}
 use Rattle.ca_held.specs.HeldView.{holding}
 use Rattle.ca_held.proofs.held.Held.remove.Goals.{in-Control+in_ok-remove-in-Control, in-Queue+in_ok-remove-in-Queue, in-Mailbox+in_ok-remove-in-Mailbox, in-Cq+in_ok-remove-in-Cq, in-Srq+in_ok-remove-in-Srq, in-Window+in_ok-remove-in-Window, in-Region+in_ok-remove-in-Region, in-Buffer+in_ok-remove-in-Buffer}
 use Rattle.ca_held.proofs.held.Held.remove.Goals as goal

@@ -1,5 +1,5 @@
 use Rattle.std.proofs.Common.{ap, ◌∙◌}
-use Rattle.ca_held.specs.Names.{buffer_eq}
+use Rattle.ca_held_reach.specs.Names.{buffer_eq}
 use Rattle.ca_held.proofs.ByteLemmas.{put_bytes}
 use Rattle.ca_shelf.specs.Shelved.{thing_under}
 use Rattle.ca_held.proofs.held.Held.write_run.Goals as goal

@@ -1,0 +1,3 @@
+pub mod TurnLemmas
+mod TimerLemmas
+mod ReachLemmas

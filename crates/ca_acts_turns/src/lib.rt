@@ -1,0 +1,13 @@
+//! Acts on turns: what the timer and the wake of a queue pair do with the parts in hand.
+//!
+//! To the layers above it promises that each act is the plan of its event, carried out in the small world of what is held:
+//! the same marks and changes, the same reason where the turn is not possible, and where memory ends, none.
+//!
+//! Source: InfiniBand Architecture Specification Volume 1, the chapter on the transport layer, sections on the requester
+//! of the reliable connection; who may take which turn when is this profile's choice.
+#![tactic(auto)]
+
+mod respond;
+mod timers;
+
+pub use timers::{rnr_wake, timeout};

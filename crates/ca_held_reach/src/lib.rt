@@ -1,0 +1,14 @@
+//! What keys and asks reach of the parts in hand: windows, regions and buffers on shelves, and that they meet `Reach`.
+//!
+//! To the layers above it promises that an ask is judged by the part that its key names, vacant where it is not in hand;
+//! that bytes are read from and written to the buffer of their run; and that the end of a key is that of its part, with
+//! the region in which its window is bound. So engines over `Reach` act on the parts in hand.
+//!
+//! Source: InfiniBand Architecture Specification Volume 1, the chapter on the software transport interface, sections on
+//! memory regions and windows; that an event has a few parts in hand is this profile's choice.
+#![tactic(auto)]
+
+mod reach;
+mod reached;
+
+pub use reached::{BufferId, Reached};

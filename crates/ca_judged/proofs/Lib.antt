@@ -1,0 +1,6 @@
+pub mod WholeLemmas
+pub mod JudgeLemmas
+pub mod JudgeRowLemmas
+pub mod JudgeVerbLemmas
+pub mod JudgeOperationLemmas
+pub mod JudgeEventLemmas

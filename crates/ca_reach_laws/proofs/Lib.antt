@@ -1,0 +1,4 @@
+pub mod SightLemmas
+pub mod FitLemmas
+pub mod LeftLemmas
+pub mod RowLemmas
