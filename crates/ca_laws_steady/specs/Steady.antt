@@ -13,9 +13,9 @@ abbrev pub EndsBehind : ℕ → List Numbered → Type 0
 EndsBehind una [] = Unit {0}
 EndsBehind una (n ∷ ns) = una < psn_end n
 
--- A queue pair as it comes up. Requests are unfinished in Rts and Sqd alone. There the PSNs of the first of them begin no
--- later than at `una`, and a READ or an atomic may be outstanding. None that has begun and is unfinished is a local
--- operation, and the first of these has a PSN from `una` on.
+-- A queue pair as it comes up. Requests are unfinished in Rts and Sqd alone. There the PSNs of the first of them
+-- begin no later than at `una`, and a READ or an atomic may be outstanding. None that has begun and is unfinished
+-- is a local operation, and the first of these has a PSN from `una` on.
 pub record IsSteadyQueue (q : QueuePair) : Type 0 where
   pub unfinished : is_sending q.state ≡ false → unfinished_requests q ≡ []
   pub oldest : is_sending q.state ≡ true → q.requester.oldest_psn ≤ q.requester.una
