@@ -1,5 +1,5 @@
-//! Laws: who takes what an engine offers, makes it where it is possible, and tells what came of it, comes to an end, and
-//! makes the order of the script.
+//! Laws: who takes what an engine offers, makes it where it is possible, and tells what came of it, comes to an
+//! end, and makes the order of the script.
 //!
 //! They hold of the machine's definitions, and no code is in them.
 //!

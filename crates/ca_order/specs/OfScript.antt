@@ -163,14 +163,14 @@ verbs_in lines = flat_map (λ line. by line.what) lines
     by (whats.Verb verb) = verb ∷ []
     by (whats.At t) = []
 
--- The history is one of the script: each consumer called the verbs of its lines in order, up to where it came, and nobody
--- else called one; and each event may stand where it stands.
+-- The history is one of the script: each consumer called the verbs of its lines in order, up to where it came, and
+-- nobody else called one; and each event may stand where it stands.
 pub record IsOfScript (s : ScriptValue) (es : List EntryValue) (end : Reach) : Type 0 where
   pub calls : (k : ℕ) → calls_by k es ≡ take (length (calls_by k es)) (verbs_in (lines_of k s.consumers))
   pub stand : reach s es ≡ Some end
 
--- The history is one of the script, and leads to this stage: to its world, after as many entries, and with the same lines
--- left of each consumer, once it passed what it may pass.
+-- The history is one of the script, and leads to this stage: to its world, after as many entries, and with the same
+-- lines left of each consumer, once it passed what it may pass.
 pub record LeadsTo (s : ScriptValue) (es : List EntryValue) (g : Stage) : Type 0 where
   pub left : List (List Line)
   pub of_script : IsOfScript s es (record { world = g.world; count = g.count; left = left })
@@ -178,8 +178,8 @@ pub record LeadsTo (s : ScriptValue) (es : List EntryValue) (g : Stage) : Type 0
 
 -- ---- how a script ends
 
--- Fine; or a consumer stands before the line of this number, which is not possible though all is quiet; or all events that
--- the script allows were made
+-- Fine; or a consumer stands before the line of this number, which is not possible though all is quiet; or all
+-- events that the script allows were made
 pub data Status : Type 0 where
   Fine : Status
   Stalled : ℕ → ℕ → Status
@@ -206,8 +206,8 @@ HasEnded s g = (has_no_event_left s g ≡ true) ⊎ IsQuietEnd s g
 abbrev pub status_of : ScriptValue → Stage → Status
 status_of s g = if nat_le s.config.events g.count then BudgetSpent g.count else stalled_from g.count 0 g.left
 
--- Each consumer before this one is at its end, once it passed what it may pass after so many entries; and this one stands
--- before the line of this number.
+-- Each consumer before this one is at its end, once it passed what it may pass after so many entries; and this one
+-- stands before the line of this number.
 pub record IsStalledAt (count : ℕ) (left : List (List Line)) (k number : ℕ) : Type 0 where
   pub before : (j : ℕ) → j < k → lines_at count (lines_of j left) ≡ []
   pub line : Line
@@ -215,9 +215,9 @@ pub record IsStalledAt (count : ℕ) (left : List (List Line)) (k number : ℕ) 
   pub stands : lines_at count (lines_of k left) ≡ line ∷ rest
   pub is : line.number ≡ number
 
--- What a status says of a stage. Fine: fewer events were made than the script allows, all is quiet, and each consumer is
--- at its end. Stalled: so too, but this consumer is the first that is not at its end, and no consumer can go on.
--- BudgetSpent: so many events were made, and these are as many as the script allows.
+-- What a status says of a stage. Fine: fewer events were made than the script allows, all is quiet, and each
+-- consumer is at its end. Stalled: so too, but this consumer is the first that is not at its end, and no consumer
+-- can go on. BudgetSpent: so many events were made, and these are as many as the script allows.
 abbrev pub HasStatus : ScriptValue → Stage → Status → Type 0
 HasStatus s g Fine =
     (g.count < s.config.events) × IsQuietEnd s g × ((k : ℕ) → lines_at g.count (lines_of k g.left) ≡ [])

@@ -1,8 +1,8 @@
 //! What it is that a history is one of a script, and the order in which a script is worked.
 //!
-//! To the layers above it promises that the order of a script is a history of it, that where the order ends before all
-//! events that the script allows are made, all is quiet, and that its status says how it ended. They hold of the machine's
-//! definitions, and no code is in them.
+//! To the layers above it promises that the order of a script is a history of it, that where the order ends before
+//! all events that the script allows are made, all is quiet, and that its status says how it ended. They hold of
+//! the machine's definitions, and no code is in them.
 //!
 //! Source: this profile's choice; the standard says nothing of the order in which channel adapters work.
 #![tactic(auto)]

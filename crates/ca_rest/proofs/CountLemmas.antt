@@ -17,6 +17,7 @@ use Rattle.ca_base.specs.objects.StateTable.{is_path_mtu, state_eq}
 use Rattle.ca_base.specs.objects.WorkQueue.{items_from}
 use Rattle.ca_keys.specs.Refusals.{first_of}
 use Rattle.ca_laws_numbers.proofs.NumberLemmas.{segments-few}
+use Rattle.ca_laws_steady.proofs.SendLemmas.{psns-some}
 use Rattle.ca_laws_sound.proofs.NumberingLemmas.{IsShort, next-short}
 use Rattle.ca_laws_sound.proofs.TurnLemmas.{turn_from}
 use Rattle.ca_model.specs.Requests.{is_local, list_length, list_of, psns_of}
@@ -38,21 +39,6 @@ not-above : (a b : ℕ) → b ≤ a → nat_lt a b ≡ false
 not-above a b few = grind (arith, nat_tests, few)
 
 -- ---- what is outstanding with one packet
-
--- a request that has packets takes a PSN
-psns-some : (mtu : ℕ) (op : SendOp) → is_local op ≡ false → 0 < psns_of mtu op
-psns-some mtu (ops.Send list) is = omega arith
-psns-some mtu (ops.SendImm imm list) is = omega arith
-psns-some mtu (ops.SendInv key list) is = omega arith
-psns-some mtu (ops.Write address key list) is = omega arith
-psns-some mtu (ops.WriteImm address key imm list) is = omega arith
-psns-some mtu (ops.Read address key list) is = omega arith
-psns-some mtu (ops.CmpSwap address key compare swap list) is = omega arith
-psns-some mtu (ops.FetchAdd address key add list) is = omega arith
-psns-some mtu (ops.Bind1 window region address length rights) is = absurd (true≢false is)
-psns-some mtu (ops.Bind2 window region low address length rights) is = absurd (true≢false is)
-psns-some mtu (ops.FastReg region low buffer address length rights pages) is = absurd (true≢false is)
-psns-some mtu (ops.LocalInv key) is = absurd (true≢false is)
 
 -- a READ takes at most 4096
 read-few : (mtu : ℕ) (op : SendOp) → is_path_mtu mtu ≡ true → list_length (list_of op) ≤ MAX_MESSAGE_BYTES → is_read op ≡ true → psns_of mtu op ≤ 4096

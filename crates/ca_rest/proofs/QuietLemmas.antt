@@ -20,7 +20,8 @@ use Rattle.ca_model.specs.machine.World.{Queue_of, World}
 use Rattle.ca_order.specs.OfScript.{is_possible, is_quiet, may_fire, may_turn, may_work}
 use Rattle.ca_order.specs.Visits.{all_queues, numbers_below, queues_from, queues_of_adapter}
 use Rattle.ca_rest.proofs.RestLemmas.{IsStill, rests}
-use Rattle.ca_rest.specs.Rest.{IsAtRest, IsSteadyWorld}
+use Rattle.ca_laws_steady.specs.Steady.{IsSteadyWorld}
+use Rattle.ca_rest.specs.Rest.{AcceptsPeers, IsAtRest}
 use Rattle.ca_script.specs.Script.{ScriptValue}
 use Rattle.ca_turns.specs.Turns.{hasten_at, lot_at}
 use Rattle.ca_turns.specs.declared.turn.Turn.TheVariants as turns
@@ -110,7 +111,7 @@ not-true : (b : Bool) → not b ≡ true → b ≡ false
 not-true false is = refl
 not-true true is = absurd (true≢false (sym is))
 
-module _ (s : ScriptValue) (w : World) (sound : IsSoundWorld s.config w) (placed : IsPlacedWorld s.config w) (steady : IsSteadyWorld w) (quiet : is_quiet s w ≡ true) where
+module _ (s : ScriptValue) (w : World) (sound : IsSoundWorld s.config w) (placed : IsPlacedWorld s.config w) (steady : IsSteadyWorld w) (accepted : AcceptsPeers w) (quiet : is_quiet s w ≡ true) where
   none : (may_work s w || may_fire s w) ≡ false
   none = not-true (may_work s w || may_fire s w) quiet
 
@@ -151,4 +152,4 @@ module _ (s : ScriptValue) (w : World) (sound : IsSoundWorld s.config w) (placed
       by false is = absurd (clash (sym there ∙ placed.vacant (Queue_of name) is))
 
   pub quiet-rests : (name : QueueId) (q : QueuePair) → w.queue name ≡ Present q → IsAtRest w q
-  quiet-rests = rests s.config w (lot_at s.weather w) (hasten_at s.weather w) (record { sound = sound; steady = steady; placed = configured; still = still })
+  quiet-rests = rests s.config w (lot_at s.weather w) (hasten_at s.weather w) (record { sound = sound; steady = steady; accepted = accepted; placed = configured; still = still })

@@ -32,7 +32,8 @@ use Rattle.ca_rest.proofs.DueLemmas.{IsDue, deliver-happens, undelivered-due}
 use Rattle.ca_rest.proofs.HappensLemmas.{Happens}
 use Rattle.ca_rest.proofs.TurnLemmas.{request-happens, respond-happens}
 use Rattle.ca_rest.proofs.WaitLemmas.{timeout-happens, wake-happens}
-use Rattle.ca_rest.specs.Rest.{AwaitsReceive, IsAtRest, IsAnswerable, IsDrained, IsSteadyQueue, IsSteadySlot, IsSteadyWorld, lacks_receive}
+use Rattle.ca_laws_steady.specs.Steady.{EndsBehind, IsSteadyQueue, IsSteadySlot, IsSteadyWorld}
+use Rattle.ca_rest.specs.Rest.{AcceptsPeers, AwaitsReceive, IsAtRest, IsDrained, lacks_receive}
 
 -- no turn of a queue pair is possible, with these words of the weather
 pub record IsStill (c : Configuration) (w : World) (lot : Lot) (hasten : Bool) (name : QueueId) : Type 0 where
@@ -46,6 +47,7 @@ pub record IsStill (c : Configuration) (w : World) (lot : Lot) (hasten : Bool) (
 pub record IsStillWorld (c : Configuration) (w : World) (lot : QueueId → Lot) (hasten : QueueId → Bool) : Type 0 where
   pub sound : IsSoundWorld c w
   pub steady : IsSteadyWorld w
+  pub accepted : AcceptsPeers w
   pub placed : (name : QueueId) (q : QueuePair) → w.queue name ≡ Present q → has_queue c name ≡ true
   pub still : (name : QueueId) → has_queue c name ≡ true → IsStill c w (lot name) (hasten name) name
 
@@ -104,7 +106,7 @@ module _ (c : Configuration) (w : World) (lot : QueueId → Lot) (hasten : Queue
       by is = is.2
 
   steady-queue : (name : QueueId) (q : QueuePair) → w.queue name ≡ Present q → IsSteadyQueue q
-  steady-queue name q there = subst IsSteadySlot there (x.steady.queues name)
+  steady-queue name q there = subst IsSteadySlot there (x.steady name)
 
   still-queue : (name : QueueId) (q : QueuePair) → w.queue name ≡ Present q → IsStill c w (lot name) (hasten name) name
   still-queue name q there = x.still name (x.placed name q there)
@@ -134,11 +136,11 @@ module _ (c : Configuration) (w : World) (lot : QueueId → Lot) (hasten : Queue
 
       by : (slot : QueueSlot) → w.queue peer.queue ≡ slot → (o : Option Correspondent) → (w.mailbox peer.queue).peer ≡ o → option_map_or sends o false ≡ true → IsReached w peer.queue
       by slot there None accepts is = absurd (true≢false (sym is))
-      by (NoQueue incarnation timers) there (Some p) accepts is = absurd (none (sym accepts ∙ x.steady.accepted peer.queue ∙ ap peer_of there))
+      by (NoQueue incarnation timers) there (Some p) accepts is = absurd (none (sym accepts ∙ x.accepted peer.queue ∙ ap peer_of there))
         where
           none : Some p ≡ None → ⊥
           none e = cc
-      by (Present own) there (Some p) accepts is = record { queue = own; there = there; peer = p; named = sym (sym accepts ∙ x.steady.accepted peer.queue ∙ ap peer_of there) }
+      by (Present own) there (Some p) accepts is = record { queue = own; there = there; peer = p; named = sym (sym accepts ∙ x.accepted peer.queue ∙ ap peer_of there) }
 
   -- there is room for whatever a queue pair sends
   roomy : (q : QueuePair) (peer : Correspondent) → has_room_for q peer (w.mailbox peer.queue) ≡ true
@@ -234,8 +236,8 @@ module _ (c : Configuration) (w : World) (lot : QueueId → Lot) (hasten : Queue
 
         goes : (ms : List Numbered) → begun_requests q ≡ n ∷ ms → ⊥
         goes ms begun =
-            let first : IsAnswerable q.requester.una (n ∷ ms) = subst (IsAnswerable q.requester.una) begun (steady-queue name q there).begun
-            in let high : q.requester.cursor < psn_end n = omega (arith, first.0, una-cursor)
+            let first : EndsBehind q.requester.una (n ∷ ms) = subst (EndsBehind q.requester.una) begun (steady-queue name q there).ends
+            in let high : q.requester.cursor < psn_end n = omega (arith, first, una-cursor)
             in not-next (goes-on q n ms begun (within high) sends calm) (λ is. high)
           where
             within : q.requester.cursor < psn_end n → has_psn q.requester.cursor n ≡ true

@@ -1,15 +1,13 @@
--- A queue pair at rest, and what holds of queue pairs and mailboxes that come up. Contracts cite it.
-use Rattle.std.specs.Prelude.{◌≡◌, ◌⊎◌, ℕ, ◌≤◌, ◌<◌, ◌&&◌, Bool, true, false, List, [], ◌∷◌, Option, None, Some, is_none}
+-- A queue pair at rest, and whom mailboxes accept. Contracts cite it.
+use Rattle.std.specs.Prelude.{◌≡◌, ◌⊎◌, ◌&&◌, Bool, true, false, [], Option, None, Some, is_none}
 use Rattle.std.specs.Option.{option_and_then}
 use Rattle.ca_base.specs.declared.change.State.TheVariants as states
 use Rattle.ca_base.specs.declared.correspondent.Correspondent.{Correspondent}
 use Rattle.ca_base.specs.declared.limits.TheConstants.{MAX_RETRY}
-use Rattle.ca_base.specs.objects.QueuePair.{QueuePair, QueueSlot, NoQueue, Present, queue_in}
+use Rattle.ca_base.specs.objects.QueuePair.{QueuePair, QueueSlot, queue_in}
 use Rattle.ca_keys.specs.declared.names.QueueId.{QueueId}
-use Rattle.ca_model.specs.Requests.{is_local}
 use Rattle.ca_model.specs.machine.Arrivals.{next_receive}
-use Rattle.ca_model.specs.machine.Invariants.{is_sending}
-use Rattle.ca_model.specs.machine.Numbering.{Numbered, begun_requests, psn_end, unfinished_requests}
+use Rattle.ca_model.specs.machine.Numbering.{begun_requests, unfinished_requests}
 use Rattle.ca_model.specs.machine.Seen.{shared_receives}
 use Rattle.ca_model.specs.machine.Turns.{reaches_peer}
 use Rattle.ca_model.specs.machine.World.{World}
@@ -51,24 +49,6 @@ IsAtRest w q = AllFinished q ⊎ (IsDrained q ⊎ AwaitsReceive w q)
 
 -- ---- what comes up
 
--- the first of the requests that have begun and are not finished is no local operation, and has a PSN from `una` on
-abbrev pub IsAnswerable : ℕ → List Numbered → Type 0
-IsAnswerable una [] = Unit {0}
-IsAnswerable una (n ∷ ns) = (una < psn_end n) × (is_local n.request.op ≡ false)
-
--- A queue pair as it comes up: requests are unfinished in Rts and Sqd alone, where the PSNs of the first one begin no later
--- than at `una`, and where some READ or atomic may be outstanding.
-pub record IsSteadyQueue (q : QueuePair) : Type 0 where
-  pub unfinished : is_sending q.state ≡ false → unfinished_requests q ≡ []
-  pub oldest : is_sending q.state ≡ true → q.requester.oldest_psn ≤ q.requester.una
-  pub begun : IsAnswerable q.requester.una (begun_requests q)
-  pub reads : is_sending q.state ≡ true → 0 < q.requester.reads
-
-abbrev pub IsSteadySlot : QueueSlot → Type 0
-IsSteadySlot (NoQueue incarnation timers) = Unit {0}
-IsSteadySlot (Present q) = IsSteadyQueue q
-
--- a world in which all queue pairs are so, and each mailbox accepts the peer that its queue pair named, and nobody else
-pub record IsSteadyWorld (w : World) : Type 0 where
-  pub queues : (q : QueueId) → IsSteadySlot (w.queue q)
-  pub accepted : (q : QueueId) → (w.mailbox q).peer ≡ option_and_then (λ p. p.peer) (queue_in (w.queue q))
+-- each mailbox accepts the peer that its queue pair named, and nobody else
+abbrev pub AcceptsPeers : World → Type 0
+AcceptsPeers w = (q : QueueId) → (w.mailbox q).peer ≡ option_and_then (λ p. p.peer) (queue_in (w.queue q))

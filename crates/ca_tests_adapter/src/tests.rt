@@ -39,16 +39,17 @@ fn text_of(alloc: Global, entry: &Entry) -> Vec<u8> {
 /// More entries than this are not made.
 const MOST_ENTRIES: u32 = 1000;
 
-/// Whether an event is a verb, and no Inject.
-fn is_transport(event: &Event) -> bool
-    ensures { result ≡ ready.is_transport event.now }
+/// Whether an event takes no packet and sends none of a request.
+fn is_acted(event: &Event) -> bool
+    ensures { result ≡ ready.is_acted event.now }
 {
     match event {
         Event::Verb { verb, .. } => match verb {
             Verb::Inject { .. } => false,
             _ => true,
         },
-        _ => false,
+        Event::Request { .. } | Event::Deliver { .. } => false,
+        Event::Respond { .. } | Event::Timeout { .. } | Event::RnrWake { .. } => true,
     }
 }
 
@@ -57,7 +58,7 @@ fn made(alloc: Global, row: &mut Row, event: &Event) -> Result<Marks, StepError>
     requires { IsRow row.old }
     ensures { IsRow row.new }
 {
-    if row.count >= MOST_ENTRIES || !is_transport(event) {
+    if row.count >= MOST_ENTRIES || !is_acted(event) {
         return Err(StepError::Memory);
     }
     match row.make(alloc, event) {
