@@ -4,8 +4,9 @@ ghost use Rattle.ca_replay.specs.Rows.{IsRow};
 
 mod refusals;
 mod rows;
+mod turns;
 
-use ca_base::{Bytes, Config, DomainId, Memory, Reason, Slot, StepError};
+use ca_base::{Bytes, Config, DomainId, Lot, Memory, QueueId, Reason, Slot, StepError};
 use ca_model::{Contents, Entry, Event, Marks, Opening, Verb};
 use ca_opening::{fit_contents, is_limited};
 use ca_reading::{TraceError, TraceReader};
@@ -165,6 +166,35 @@ fn waits_for(rt: &impl Abort, alloc: Global, row: &mut Row, least: u8)
     assert!(rt; waits, "a poll for at least {least} completions");
 }
 
+/// A turn is not possible, for one of two reasons: the queue pair's state, or that there is nothing to do.
+fn is_refused(rt: &impl Abort, alloc: Global, row: &mut Row, turn: &Event, state: bool)
+    requires { IsRow row.old }
+    ensures { IsRow row.new }
+{
+    let outcome = made(alloc, row, turn);
+    let as_told = if state {
+        matches!(outcome, Err(StepError::NotReady(Reason::State)))
+    } else {
+        matches!(outcome, Err(StepError::NotReady(Reason::Empty)))
+    };
+    assert!(rt; as_told, "a turn");
+}
+
+/// No turn of this queue pair is possible: the answer for one of these reasons, and the timer and the wake for one.
+fn no_turns(rt: &impl Abort, alloc: Global, row: &mut Row, number: u32, answer: bool, others: bool)
+    requires { IsRow row.old }
+    ensures { IsRow row.new }
+{
+    let queue = QueueId { adapter: 0, number };
+    let lot = Lot::Pass;
+    is_refused(rt, alloc, row, &Event::Respond { queue, lot }, answer);
+    let hasten = true;
+    is_refused(rt, alloc, row, &Event::Timeout { queue, hasten }, others);
+    let hasten = false;
+    is_refused(rt, alloc, row, &Event::Timeout { queue, hasten }, others);
+    is_refused(rt, alloc, row, &Event::RnrWake { queue }, others);
+}
+
 /// So many zeros.
 fn zeros_of(alloc: Global, count: usize) -> Option<Bytes> {
     match vec![in alloc; 0u8; count] {
@@ -241,6 +271,25 @@ fn a_poll_waits_for_as_many_as_it_asks_for(rt: HostRuntime) {
     goes_on(&rt, alloc, &mut row, refusals::IT_IS_POLLED);
     waits_for(&rt, alloc, &mut row, 1);
     goes_on(&rt, alloc, &mut row, refusals::NOTHING_WAITS);
+}
+
+#[test]
+fn turns_that_are_not_possible_say_why(rt: HostRuntime) {
+    let alloc = rt.alloc();
+    let Some(mut row) = begun(alloc, refusals::SETUP) else {
+        assert!(rt; false, "a fabric");
+        return;
+    };
+    no_turns(&rt, alloc, &mut row, 259, true, true);
+    no_turns(&rt, alloc, &mut row, 256, true, true);
+    goes_on(&rt, alloc, &mut row, turns::ONE_QUEUE_PAIR);
+    no_turns(&rt, alloc, &mut row, 256, true, true);
+    goes_on(&rt, alloc, &mut row, turns::IT_RECEIVES);
+    no_turns(&rt, alloc, &mut row, 256, false, true);
+    goes_on(&rt, alloc, &mut row, turns::IT_SENDS);
+    no_turns(&rt, alloc, &mut row, 256, false, false);
+    goes_on(&rt, alloc, &mut row, turns::NO_PEER);
+    no_turns(&rt, alloc, &mut row, 257, false, true);
 }
 
 #[test]
