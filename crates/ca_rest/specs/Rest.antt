@@ -1,5 +1,5 @@
 -- A queue pair at rest, and whom mailboxes accept. Contracts cite it.
-use Rattle.std.specs.Prelude.{◌≡◌, ◌⊎◌, ◌&&◌, Bool, true, false, [], Option, None, Some, is_none}
+use Rattle.std.specs.Prelude.{List, ◌≡◌, ◌⊎◌, ◌&&◌, Bool, true, false, [], Option, None, Some, is_none}
 use Rattle.std.specs.List.{AllByRecursion}
 use Rattle.std.specs.Option.{option_and_then}
 use Rattle.ca_base.specs.declared.change.State.TheVariants as states
