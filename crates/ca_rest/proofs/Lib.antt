@@ -5,3 +5,4 @@ pub mod CountLemmas
 pub mod WaitLemmas
 pub mod RestLemmas
 pub mod QuietLemmas
+pub mod ScriptLemmas

@@ -1,5 +1,6 @@
 -- A queue pair at rest, and whom mailboxes accept. Contracts cite it.
-use Rattle.std.specs.Prelude.{◌≡◌, ◌⊎◌, ◌&&◌, Bool, true, false, [], Option, None, Some, is_none}
+use Rattle.std.specs.Prelude.{List, ◌≡◌, ◌⊎◌, ◌&&◌, Bool, true, false, [], Option, None, Some, is_none}
+use Rattle.std.specs.List.{AllByRecursion}
 use Rattle.std.specs.Option.{option_and_then}
 use Rattle.ca_base.specs.declared.change.State.TheVariants as states
 use Rattle.ca_base.specs.declared.correspondent.Correspondent.{Correspondent}
@@ -9,8 +10,12 @@ use Rattle.ca_keys.specs.declared.names.QueueId.{QueueId}
 use Rattle.ca_model.specs.machine.Arrivals.{next_receive}
 use Rattle.ca_model.specs.machine.Numbering.{begun_requests, unfinished_requests}
 use Rattle.ca_model.specs.machine.Seen.{shared_receives}
+use Rattle.ca_model.specs.machine.Sound.{HasFewPieces}
 use Rattle.ca_model.specs.machine.Turns.{reaches_peer}
 use Rattle.ca_model.specs.machine.World.{World}
+use Rattle.ca_script_lines.specs.declared.Line.{Line}
+use Rattle.ca_script_lines.specs.declared.what.What.{What}
+use Rattle.ca_script_lines.specs.declared.what.What.TheVariants as whats
 
 -- ---- at rest
 
@@ -52,3 +57,12 @@ IsAtRest w q = AllFinished q ⊎ (IsDrained q ⊎ AwaitsReceive w q)
 -- each mailbox accepts the peer that its queue pair named, and nobody else
 abbrev pub AcceptsPeers : World → Type 0
 AcceptsPeers w = (q : QueueId) → (w.mailbox q).peer ≡ option_and_then (λ p. p.peer) (queue_in (w.queue q))
+
+-- a line's verb can be made: the list of a request that it posts has as few pieces as its type allows
+abbrev pub IsCallable : What → Type 0
+IsCallable (whats.Verb verb) = HasFewPieces verb
+IsCallable (whats.At t) = Unit {0}
+
+-- so of all lines of consumers
+abbrev pub AreCallable : List (List Line) → Type 0
+AreCallable left = AllByRecursion (λ lines. AllByRecursion (λ line. IsCallable line.what) lines) left
