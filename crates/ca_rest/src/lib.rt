@@ -9,4 +9,4 @@
 
 mod laws;
 
-pub use laws::{quiet_queue_pairs_are_at_rest, scripts_come_to_rest};
+pub use laws::{quiet_queue_pairs_are_at_rest, scripts_come_to_rest, texts_mean_limited_scripts};
