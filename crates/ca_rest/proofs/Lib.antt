@@ -6,3 +6,4 @@ pub mod WaitLemmas
 pub mod RestLemmas
 pub mod QuietLemmas
 pub mod ScriptLemmas
+pub mod TextLemmas

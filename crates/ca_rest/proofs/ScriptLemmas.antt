@@ -1,6 +1,5 @@
 -- Where a script's order ends before all its events are made, each queue pair is at rest. For proofs only.
-use Rattle.std.proofs.Common.{◌≡◌, ℕ, zero, suc, ◌<◌, inl, inr, Bool, true, false, if◌then◌else◌, nat_le, List, [], ◌∷◌, slice_set, Option, None, Some, sym, ◌∙◌, arith}
-use Rattle.std.proofs.lemmas.Bool.Decides.{nat_tests}
+use Rattle.std.proofs.Common.{◌≡◌, ℕ, zero, suc, Bool, true, false, if◌then◌else◌, nat_le, List, [], ◌∷◌, slice_set, Ok, Option, None, Some, sym, ◌∙◌}
 use Rattle.std.specs.List.{AllByRecursion}
 use Rattle.std.specs.Option.{option_map, option_map_or}
 use Rattle.ca_agree.proofs.PathEventLemmas.{event-agrees, opening-agrees}
@@ -26,13 +25,14 @@ use Rattle.ca_model.specs.machine.Sound.{AreLimited, CanBeMade, IsSoundWorld}
 use Rattle.ca_model.specs.machine.Step.{step}
 use Rattle.ca_model.specs.machine.World.{World}
 use Rattle.ca_order.proofs.KeepLemmas.{kept-rounds}
-use Rattle.ca_order.proofs.QuietLemmas.{order-ended}
-use Rattle.ca_order.specs.OfScript.{HasEnded}
+use Rattle.ca_order.proofs.StatusLemmas.{order-status}
+use Rattle.ca_order.specs.OfScript.{BudgetSpent, Fine, HasStatus, IsQuietEnd, Stalled, Status, status_of}
 use Rattle.ca_order.specs.Order.{Stage, after_event, after_line, after_outcome, after_visit, ending, lines_of, most_rounds, opening_stage, with_lines_left}
 use Rattle.ca_order.specs.Visits.{Consumer, Engine, Visit}
 use Rattle.ca_rest.proofs.QuietLemmas.{quiet-rests}
-use Rattle.ca_rest.specs.Rest.{AcceptsPeers, AreCallable, IsAtRest, IsCallable}
-use Rattle.ca_script.specs.Script.{ScriptValue}
+use Rattle.ca_rest.proofs.TextLemmas.{text-callable, text-limited}
+use Rattle.ca_rest.specs.Rest.{AcceptsPeers, AreCallable, IsAtRest, IsCallable, IsQuietStatus}
+use Rattle.ca_script.specs.Script.{ScriptValue, script_of}
 use Rattle.ca_script_lines.specs.declared.Line.{Line}
 use Rattle.ca_script_lines.specs.declared.what.What.{What}
 use Rattle.ca_script_lines.specs.declared.what.What.TheVariants as whats
@@ -134,10 +134,21 @@ ending-up s limited callable = kept-rounds s (IsUp s) (λ g up. record { world =
   lines = callable;
 })
 
-pub script-rests : (s : ScriptValue) → AreLimited s.config → AreCallable s.consumers → (ending s).count < s.config.events → (name : QueueId) (q : QueuePair) → (ending s).world.queue name ≡ Present q
-    → IsAtRest (ending s).world q
-script-rests s limited callable few name q there = by (order-ended s) (ending-up s limited callable)
+pub script-rests : (s : ScriptValue) → AreLimited s.config → AreCallable s.consumers → IsQuietStatus (status_of s (ending s)) → (name : QueueId) (q : QueuePair)
+    → (ending s).world.queue name ≡ Present q → IsAtRest (ending s).world q
+script-rests s limited callable ended name q there = by (status_of s (ending s)) ended (order-status s)
   where
-    by : HasEnded s (ending s) → IsUp s (ending s) → IsAtRest (ending s).world q
-    by (inl full) up = absurd (grind (arith, nat_tests, full, few))
-    by (inr (quiet, calls)) up = quiet-rests s (ending s).world up.world.sound up.world.placed up.world.steady (accepts s.config (ending s).world up.world) quiet name q there
+    up : IsUp s (ending s)
+    up = ending-up s limited callable
+
+    rests : IsQuietEnd s (ending s) → IsAtRest (ending s).world q
+    rests end = quiet-rests s (ending s).world up.world.sound up.world.placed up.world.steady (accepts s.config (ending s).world up.world) end.0 name q there
+
+    by : (status : Status) → IsQuietStatus status → HasStatus s (ending s) status → IsAtRest (ending s).world q
+    by Fine ended has = rests has.1
+    by (Stalled k number) ended has = rests has.1
+    by (BudgetSpent n) ended has = absurd ended
+
+pub text-rests : (text : List ℕ) (s : ScriptValue) → script_of text ≡ Ok s → IsQuietStatus (status_of s (ending s)) → (name : QueueId) (q : QueuePair)
+    → (ending s).world.queue name ≡ Present q → IsAtRest (ending s).world q
+text-rests text s reads ended name q there = script-rests s (text-limited text s reads) (text-callable text s reads) ended name q there

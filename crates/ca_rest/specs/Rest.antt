@@ -13,6 +13,7 @@ use Rattle.ca_model.specs.machine.Seen.{shared_receives}
 use Rattle.ca_model.specs.machine.Sound.{HasFewPieces}
 use Rattle.ca_model.specs.machine.Turns.{reaches_peer}
 use Rattle.ca_model.specs.machine.World.{World}
+use Rattle.ca_order.specs.OfScript.{BudgetSpent, Fine, Stalled, Status}
 use Rattle.ca_script_lines.specs.declared.Line.{Line}
 use Rattle.ca_script_lines.specs.declared.what.What.{What}
 use Rattle.ca_script_lines.specs.declared.what.What.TheVariants as whats
@@ -66,3 +67,9 @@ IsCallable (whats.At t) = Unit {0}
 -- so of all lines of consumers
 abbrev pub AreCallable : List (List Line) → Type 0
 AreCallable left = AllByRecursion (λ lines. AllByRecursion (λ line. IsCallable line.what) lines) left
+
+-- a script's order ended for another cause than that all its events were made: it is fine, or a consumer stalled
+abbrev pub IsQuietStatus : Status → Type 0
+IsQuietStatus Fine = Unit {0}
+IsQuietStatus (Stalled k number) = Unit {0}
+IsQuietStatus (BudgetSpent n) = ⊥
