@@ -24,6 +24,7 @@ use std::alloc::Global;
 ///
 /// The caller shows that the parts in hand suffice (`IsReady`), and that the event takes no packet and sends none of a
 /// request.
+#[inline(never)]
 #[tactic(auto, using(crate::proofs::ReadyLemmas::act_stepped))]
 pub fn act(
     alloc: Global,
@@ -63,6 +64,7 @@ fn act_held(
 }
 
 /// A verb.
+#[inline(always)]
 #[tactic(auto, using(crate::proofs::ReadyLemmas::verb_unnamed, crate::proofs::ReadyLemmas::verb_named))]
 fn act_call(
     alloc: Global,
