@@ -1,2 +1,4 @@
 pub mod Rows
 pub mod Hand
+pub mod Replays
+pub mod Replaying

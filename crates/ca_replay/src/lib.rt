@@ -7,7 +7,9 @@
 //! Source: this profile's choice.
 #![tactic(auto)]
 
+mod events;
 mod hand;
 mod row;
 
+pub use events::{ReplayError, replay};
 pub use row::Row;

@@ -1,7 +1,7 @@
 ghost use Rattle.std.specs.Prelude.{◌≡◌, ◌-◌, ◌<◌, ◌^◌, true, IfOk};
 ghost use Rattle.ca_adapter.specs.Ready.{is_acted};
 ghost use Rattle.ca_base.specs.Configuration.{Configuration, configuration_of};
-ghost use Rattle.ca_model.specs.machine.Sound.{AreLimited};
+ghost use Rattle.ca_model.specs.machine.Sound.{AreLimited, CanBeMade};
 ghost use Rattle.ca_model.specs.machine.Step.{step};
 ghost use Rattle.ca_model.specs.machine.World.{World, opening_world};
 ghost use Rattle.ca_opening.specs.Opening.{FitContents, opening_bytes};
@@ -36,6 +36,7 @@ impl Row {
         ensures world { IfOk result (IsRowOf (configuration_of opening.now.config)
             (opening_world (opening_bytes (configuration_of opening.now.config) opening.now.contents))) }
         ensures row { IfOk result (λ row. IsRow row) }
+        ensures count { IfOk result (λ row. row.count ≡ 0) }
     {
         Ok(Row {
             settings: Settings::of(&opening.config),
@@ -56,6 +57,7 @@ impl Row {
         ensures step { (c : Configuration) (w : World) → IsRowOf c w self.old
             → IsMade result (step c w event.now) w (λ v. IsRowOf c v self.new) }
         ensures row { IsRow self.new }
+        ensures made { CanBeMade event.now }
         ensures count { self.new.count ≡ count_after result self.old.count }
     {
         lists_fit(event);

@@ -1,7 +1,7 @@
-ghost use Rattle.std.specs.Prelude.{◌≡◌, IfSome};
-ghost use Rattle.ca_adapter.specs.Ready as ready;
+ghost use Rattle.std.specs.Prelude.{IfSome};
 ghost use Rattle.ca_replay.specs.Rows.{IsRow};
 
+mod events;
 mod refusals;
 mod rows;
 mod turns;
@@ -40,26 +40,12 @@ fn text_of(alloc: Global, entry: &Entry) -> Vec<u8> {
 /// More entries than this are not made.
 const MOST_ENTRIES: u32 = 1000;
 
-/// Whether an event takes no packet and sends none of a request.
-fn is_acted(event: &Event) -> bool
-    ensures { result ≡ ready.is_acted event.now }
-{
-    match event {
-        Event::Verb { verb, .. } => match verb {
-            Verb::Inject { .. } => false,
-            _ => true,
-        },
-        Event::Request { .. } | Event::Deliver { .. } => false,
-        Event::Respond { .. } | Event::Timeout { .. } | Event::RnrWake { .. } => true,
-    }
-}
-
 /// Makes an event. Where it wants memory it is made again, which shows that the parts stayed as they were.
 fn made(alloc: Global, row: &mut Row, event: &Event) -> Result<Marks, StepError>
     requires { IsRow row.old }
     ensures { IsRow row.new }
 {
-    if row.count >= MOST_ENTRIES || !is_acted(event) {
+    if row.count >= MOST_ENTRIES {
         return Err(StepError::Memory);
     }
     match row.make(alloc, event) {
@@ -251,6 +237,21 @@ fn queue_pairs_come_to_ready_to_send_as_reckoned(rt: HostRuntime) {
 #[test]
 fn domains_and_queue_pairs_end_as_reckoned(rt: HostRuntime) {
     follows(&rt, rows::ENDS_SETUP, rows::ENDS);
+}
+
+#[test]
+fn packets_come_and_go_as_reckoned(rt: HostRuntime) {
+    follows(&rt, events::USE_SETUP, events::USE);
+}
+
+#[test]
+fn windows_are_bound_as_reckoned(rt: HostRuntime) {
+    follows(&rt, events::BINDS_SETUP, events::BINDS);
+}
+
+#[test]
+fn a_packet_ends_a_key_as_reckoned(rt: HostRuntime) {
+    follows(&rt, events::ENDS_SETUP, events::ENDS);
 }
 
 #[test]

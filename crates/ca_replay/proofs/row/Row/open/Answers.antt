@@ -21,4 +21,4 @@ returns c =
           (opens (configuration_of c.args.opening.now.config) c.args.opening.now.contents c.requires.limited c.requires.contents c.in_ok-parts.field-0.items c.in_ok-parts.ensures.count c.in_ok-parts.ensures.each);
       empty = λ p. ap (λ h. h.parts p) c.empty.ensures;
     } in
-    record { world = opened; row = row_is _ _ _ opened }
+    record { world = opened; row = row_is _ _ _ opened; count = refl }

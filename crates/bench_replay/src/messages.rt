@@ -1,0 +1,120 @@
+ghost use Rattle.ca_replay.specs.Rows.{IsRow};
+
+use crate::fabric::BUFFER;
+use crate::kinds::{deliver_request, deliver_response, poll, post, post_receive, request, respond};
+use arrayvec::ArrayVec;
+use ca_base::limits::MAX_PIECES;
+use ca_base::{Key, Piece, RecvRequest, SendOp, SendRequest};
+use ca_replay::Row;
+use std::alloc::Global;
+
+/// Where both regions begin.
+const BASE: u64 = 0x1_0000_0000;
+
+/// The key of the region that is read, and that of the one that is written.
+const SOURCE: Key = Key(0x001);
+const TARGET: Key = Key(0x101);
+
+/// What a message is.
+#[derive(Clone, Copy)]
+pub enum Message {
+    Write,
+    Atomic,
+    Send,
+    /// A WRITE of a whole buffer.
+    Large,
+}
+
+/// A list of one piece.
+fn list(key: Key, length: u32) -> Option<ArrayVec<Piece, MAX_PIECES>> {
+    let mut list = ArrayVec::new();
+    list.try_push(Piece {
+        address: BASE,
+        key,
+        length,
+    })
+    .ok()?;
+    Some(list)
+}
+
+/// A request of the message.
+fn request_of(message: Message) -> Option<SendRequest> {
+    let op = match message {
+        Message::Write => SendOp::Write {
+            address: BASE,
+            key: TARGET,
+            list: list(SOURCE, 8)?,
+        },
+        Message::Atomic => SendOp::FetchAdd {
+            address: BASE,
+            key: TARGET,
+            add: 1,
+            list: list(SOURCE, 8)?,
+        },
+        Message::Send => SendOp::Send {
+            list: list(SOURCE, 8)?,
+        },
+        Message::Large => SendOp::Write {
+            address: BASE,
+            key: TARGET,
+            list: list(SOURCE, BUFFER)?,
+        },
+    };
+    Some(SendRequest {
+        id: 1,
+        signalled: true,
+        fence: false,
+        solicited: false,
+        op,
+    })
+}
+
+/// How many packets a message has.
+pub fn packets_of(message: Message) -> u32 {
+    match message {
+        Message::Large => BUFFER / 4096,
+        _ => 1,
+    }
+}
+
+/// A packet goes to the second queue pair of a connection and is taken there, `at` packets after the first.
+fn send_packet(alloc: Global, row: &mut Row, first: u16, at: u64) -> Option<()>
+    requires { IsRow row.old }
+    ensures { IsRow row.new }
+{
+    request(alloc, row, first)?;
+    deliver_request(alloc, row, first.saturating_add(1), at)
+}
+
+/// A message goes from the first queue pair of a connection to the second, is answered and polled; this is its number.
+pub fn exchange(
+    alloc: Global,
+    row: &mut Row,
+    message: Message,
+    first: u16,
+    number: u32,
+) -> Option<()>
+    requires { IsRow row.old }
+    ensures { IsRow row.new }
+{
+    let second = first.saturating_add(1);
+    let packets = packets_of(message);
+    if let Message::Send = message {
+        let receive = RecvRequest {
+            id: 1,
+            list: list(TARGET, 8)?,
+        };
+        post_receive(alloc, row, second, receive)?;
+    }
+    post(alloc, row, first, request_of(message)?)?;
+    let from = u64::from(number).saturating_mul(u64::from(packets));
+    for at in 0..packets {
+        send_packet(alloc, row, first, from.saturating_add(u64::from(at)))?;
+    }
+    respond(alloc, row, second)?;
+    deliver_response(alloc, row, first, u64::from(number))?;
+    if let Message::Send = message {
+        poll(alloc, row, 1)?;
+    }
+    poll(alloc, row, 0)
+}

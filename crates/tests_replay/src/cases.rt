@@ -1,0 +1,61 @@
+use crate::case::Case;
+use crate::work::Stop;
+use ca_reading::{TraceError, TraceReader};
+use std::alloc::Global;
+
+/// Whether the trace of a case begins with this line. No line of a script does so.
+fn begins_trace(line: &[u8]) -> bool {
+    line.first() == Some(&b'@') || line.starts_with(b"end ")
+}
+
+/// Reads cases line by line, and replays each at the last line of its trace.
+#[derive(Drop)]
+pub(crate) struct Cases {
+    case: Case,
+    reader: Option<TraceReader>,
+}
+
+impl Cases {
+    pub(crate) fn start(alloc: Global) -> Cases {
+        Cases {
+            case: Case::empty(alloc),
+            reader: None,
+        }
+    }
+
+    /// Takes the next line; what a case that ends here gives is added.
+    pub(crate) fn line(
+        &mut self,
+        alloc: Global,
+        line: &[u8],
+        out: &mut Vec<u8>,
+    ) -> Result<(), Stop> {
+        if self.reader.is_none() && !begins_trace(line) {
+            self.case.script.extend_from_slice(line)?;
+            self.case.script.push(b'\n')?;
+            return Ok(());
+        }
+        let mut reader = self.reader.take().unwrap_or(TraceReader::start());
+        match reader.line(alloc, line) {
+            Ok(Some(entry)) => self.case.events.push(entry.event)?,
+            Ok(None) => {}
+            Err(TraceError::Refused(line)) => return Err(Stop::Trace(line)),
+            Err(TraceError::Memory) => return Err(Stop::Memory),
+        }
+        if reader.finish().is_err() {
+            self.reader = Some(reader);
+            return Ok(());
+        }
+        let case = std::mem::replace(&mut self.case, Case::empty(alloc));
+        case.replay(alloc, out)
+    }
+}
+
+/// Replays each case of a text, and gives the traces of what they do, one behind the other.
+pub(crate) fn replay_cases(alloc: Global, text: &[u8], out: &mut Vec<u8>) -> Result<(), Stop> {
+    let mut cases = Cases::start(alloc);
+    for line in text.split(|c| *c == b'\n') {
+        cases.line(alloc, line, out)?;
+    }
+    Ok(())
+}

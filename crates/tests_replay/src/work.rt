@@ -1,0 +1,71 @@
+use crate::cases::replay_cases;
+use ca_base::Memory;
+use ca_outside::{StdSink, StdSource, read_up_to, write_all};
+use ca_script::ScriptCause;
+use std::alloc::{AllocError, AllocFailed};
+use std::io;
+use std::process::ExitCode;
+
+/// The most bytes that are read.
+const MOST: usize = 268_435_456;
+
+/// Why no more is replayed.
+#[derive(Drop)]
+pub(crate) enum Stop {
+    /// This line of a script is refused.
+    Script(u32, ScriptCause),
+    /// This line of a trace is.
+    Trace(u32),
+    /// The fabric or the events are beyond their limits.
+    Limits,
+    Memory,
+}
+
+impl From<Memory> for Stop {
+    fn from(_: Memory) -> Stop {
+        Stop::Memory
+    }
+}
+
+impl From<AllocError> for Stop {
+    fn from(_: AllocError) -> Stop {
+        Stop::Memory
+    }
+}
+
+impl<T: Drop> From<AllocFailed<T>> for Stop {
+    fn from(_: AllocFailed<T>) -> Stop {
+        Stop::Memory
+    }
+}
+
+/// Tells why no more is replayed.
+fn tell<R: Eprint>(rt: &R, stop: Stop) -> io::Result<()> {
+    match stop {
+        Stop::Script(line, cause) => eprintln!(rt; "script: line {line}: {cause}"),
+        Stop::Trace(line) => eprintln!(rt; "trace: line {line}"),
+        Stop::Limits => eprintln!(rt; "beyond the limits"),
+        Stop::Memory => eprintln!(rt; "memory"),
+    }
+}
+
+/// Replays the cases of standard input. It ends with 1 where one of them cannot be read.
+pub(crate) fn start<R: Input + Print + Eprint + AllocGlobal>(rt: &R) -> ExitCode {
+    let alloc = rt.alloc();
+    let mut source = StdSource::over(rt.reader());
+    let Ok(text) = read_up_to(alloc, &mut source, MOST) else {
+        return ExitCode::from(3);
+    };
+    let mut out = Vec::new(alloc);
+    let ended = replay_cases(alloc, text.as_slice(), &mut out);
+    if write_all(&mut StdSink::over(io::writer(rt)), out.as_slice()).is_err() {
+        return ExitCode::from(4);
+    }
+    match ended {
+        Ok(()) => ExitCode::from(0),
+        Err(stop) => {
+            let _ = tell(rt, stop);
+            ExitCode::from(1)
+        }
+    }
+}
