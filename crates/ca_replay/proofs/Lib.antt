@@ -6,3 +6,4 @@ mod MadeLemmas
 mod ActLemmas
 mod OpenLemmas
 mod ReplayLemmas
+mod LookLemmas

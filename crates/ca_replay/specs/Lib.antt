@@ -2,3 +2,4 @@ pub mod Rows
 pub mod Hand
 pub mod Replays
 pub mod Replaying
+pub mod Looks

@@ -9,6 +9,7 @@
 
 mod events;
 mod hand;
+mod looks;
 mod row;
 
 pub use events::{ReplayError, replay};
