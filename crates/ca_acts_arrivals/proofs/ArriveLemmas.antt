@@ -1,6 +1,8 @@
 -- What is held once bytes arrived, completions were put and a delivery was counted is what the plan leaves. For proofs only.
-use Rattle.std.proofs.Common.{◌≡◌, ◌∙◌, refl, sym, subst, ap, ℕ, Bool, true, false, if◌then◌else◌, List, [], ◌∷◌, ◌++◌, Option, None, Some, Result, Ok, Err, IfSome}
+use Rattle.std.proofs.Common.{◌≡◌, ◌∙◌, refl, sym, subst, ap, ℕ, Bool, true, false, if◌then◌else◌, List, [], ◌∷◌, ◌++◌, Option, None, Some, Result, Ok, Err, IfSome, append_assoc}
+use Rattle.std.proofs.lemmas.Result.{err_from_is_err_and}
 use Rattle.std.specs.Option.{option_map}
+use Rattle.std.specs.Result.{IsErrAnd}
 use Rattle.ca_acts.specs.Act.{IsAct}
 use Rattle.ca_acts.specs.Binders.{changed_by}
 use Rattle.ca_acts.specs.declared.done.Outlets.{Outlets}
@@ -19,7 +21,7 @@ use Rattle.ca_base.specs.Sight.{Invalidation, Sight}
 use Rattle.ca_base.specs.objects.CompletionQueue.{CompletionQueue, after_puts}
 use Rattle.ca_base.specs.objects.Mailbox.{Mailbox}
 use Rattle.ca_base.specs.objects.QueuePair.{Present, QueuePair, QueueSlot, recv_cq_of, send_cq_of, srq_of}
-use Rattle.ca_base.specs.objects.SharedReceives.{SharedReceives, SrqSlot, after_receive_take}
+use Rattle.ca_base.specs.objects.SharedReceives.{SrqSlot, after_receive_take}
 use Rattle.ca_held.specs.declared.held.Held.{Held}
 use Rattle.ca_held.specs.HeldView.{Holding, hold, holding}
 use Rattle.ca_held_reach.specs.AtHand.{CanEnd}
@@ -152,14 +154,6 @@ module _ (c : Configuration) (h : Held) (name : QueueId) (q : QueuePair) (bytes 
   pub arrive-performs : perform w arrival ≡ perform_ending w s (finish (around_at w q)) (row_changes c w row) (ending_of s row)
   arrive-performs = around-performs w q (λ a. Row_plan c (arrival_row bytes envelope (shared_in a) q) (finish a)) ∙ row-seen c h row (finish (around_at w q)) outside
 
-  -- memory ended
-  pub arrive-ends : (new : Holding) → new ≡ holding h → IsAct (Err steps.Memory) (perform w arrival) (holding h) new
-  arrive-ends new same = by (perform w arrival)
-    where
-      by : (out : Outcome) → IsAct (Err steps.Memory) out (holding h) new
-      by (NotReady reason) = same
-      by (Did v ms) = same
-
   module _ (all : AllPass (holding h).has (touches w arrival)) where
     pub around : IsAroundHeld (holding h) q (Row_plan c row (finish (around_at w q)))
     around = around-held (holding h) q (λ a. Row_plan c (arrival_row bytes envelope (shared_in a) q) (finish a)) all
@@ -281,9 +275,82 @@ module _ (c : Configuration) (h : Held) (name : QueueId) (q : QueuePair) (bytes 
           arrive-acts new m counted made = subst (λ out. IsAct (Ok m) out (holding h) new) (sym performed) (
             made ∙ marked,
             counted ∙ ap (changed_by (mail_put name mail)) done-is ∙ ap (λ v. record (holding h) { world = v }) (
-            sym (puts-append (cq_updates q (around_at w q) e.marks) (mail_put name mail) (put_all own (by_keys w)))
-            ∙ sym (puts-append own (cq_updates q (around_at w q) e.marks ++ mail_put name mail) (by_keys w))
-            ∙ sym (aside-first (changes_around name q w e mail) rc ws w (changes-aside name q w e mail) (row-by-key c w row))
-            ∙ ap by_keys (in-order name q w e mail is-named)
-            ∙ sym left-is),
+                sym (puts-append (cq_updates q (around_at w q) e.marks) (mail_put name mail) (put_all own (by_keys w)))
+                ∙ sym (puts-append own (cq_updates q (around_at w q) e.marks ++ mail_put name mail) (by_keys w))
+                ∙ sym (aside-first (changes_around name q w e mail) rc ws w (changes-aside name q w e mail) (row-by-key c w row))
+                ∙ ap by_keys (in-order name q w e mail is-named)
+                ∙ sym left-is),
           )
+
+-- What is known as bytes are to arrive: the plan comes to their arrival, all that this touches is held, and they may meet the queue pair
+pub record IsToArrive (c : Configuration) (h : Held) (name : QueueId) (q : QueuePair) (bytes : List ℕ) (envelope : Option ℕ) (mail : Option Mailbox) (front : List Mark) (plan : Plan) : Type 0 where
+  pub outside : IsVacantOutside c (holding h).world
+  pub comes : perform (holding h).world plan ≡ perform (holding h).world (Arrive c q bytes envelope (mail_put name mail) front)
+  pub touched : AllPass (holding h).has (touches (holding h).world (Arrive c q bytes envelope (mail_put name mail) front))
+  pub can : CanArrive h bytes envelope q
+  pub named : q.queue ≡ name
+  pub quiet : (o : Outlets) (n : ℕ) (ms : List Mark) → completions_by o n (front ++ marks.Arrived q.queue envelope ∷ ms) ≡ completions_by o n ms
+
+-- bytes arrived, with these effects of their row
+record IsDone (name : QueueId) (ending : Ending) (ended : Option Invalidation) (q : QueuePair) (h : Held) (mid : Holding) (before made : MarkList) : Type 0 where
+  effects : Effects
+  does : ending ≡ Does effects
+  marks : made.marks ≡ before.marks ++ effects.marks
+  put : mid ≡ with_effects name q effects ended h
+
+arrived-ok : (name : QueueId) (ending : Ending) (ended : Option Invalidation) (q : QueuePair) (h : Held) (mid : Holding) (before made : MarkList) (result : Unit {0})
+    → HasArrived name (Ok result) ending ended q h mid before made → IsDone name ending ended q h mid before made
+arrived-ok name (Does e) ended q h mid before made result arrived = record { effects = e; does = refl; marks = arrived.0; put = arrived.1 }
+arrived-ok name (NotPossible reason) ended q h mid before made result arrived = absurd arrived
+
+module _ (c : Configuration) (h : Held) (name : QueueId) (q : QueuePair) (bytes : List ℕ) (envelope : Option ℕ) (mail : Option Mailbox) (front : List Mark) (plan : Plan)
+    (ready : IsToArrive c h name q bytes envelope mail front plan) where
+  -- memory ended
+  pub ends_unchanged : (new : Holding) (before made : MarkList) (memory : Memory)
+      → HasArrived name (Err memory) (outcome_of h bytes envelope q).ending (outcome_of h bytes envelope q).ended q h new before made
+      → (result : Result MarkList StepError) → IsErrAnd result (λ e. e ≡ steps.Memory) → IsAct result (perform (holding h).world plan) (holding h) new
+  ends_unchanged new before made memory same result failed = let p = err_from_is_err_and result failed
+      in subst (λ r. IsAct r (perform (holding h).world plan) (holding h) new) (sym (p.1 ∙ ap Err p.2)) (by (perform (holding h).world plan))
+    where
+      by : (out : Outcome) → IsAct (Err steps.Memory) out (holding h) new
+      by (NotReady reason) = same
+      by (Did v ms) = same
+
+  module _ (mid : Holding) (before made : MarkList) (result : Unit {0}) (first : before.marks ≡ front ++ marks.Arrived q.queue envelope ∷ [])
+      (arrived : HasArrived name (Ok result) (outcome_of h bytes envelope q).ending (outcome_of h bytes envelope q).ended q h mid before made)
+      (o : Outlets) (outlets : o ≡ outlets_of q) (ms : List Mark) (is-ms : ms ≡ made.marks) where
+    is-done : IsDone name (outcome_of h bytes envelope q).ending (outcome_of h bytes envelope q).ended q h mid before made
+    is-done = arrived-ok name (outcome_of h bytes envelope q).ending (outcome_of h bytes envelope q).ended q h mid before made result arrived
+
+    marked : ms ≡ front ++ marks.Arrived q.queue envelope ∷ is-done.effects.marks
+    marked = is-ms ∙ is-done.marks ∙ ap (λ xs. xs ++ is-done.effects.marks) first ∙ append_assoc front (marks.Arrived q.queue envelope ∷ []) is-done.effects.marks
+
+    has-same : mid.has ≡ (holding h).has
+    has-same = arrive-has c h name q bytes envelope mail front ready.outside ready.touched ready.can is-done.effects is-done.does ready.named ready.quiet mid is-done.put o outlets ms marked
+
+    pub send_held : mid.has (Cq_of (send_slot o)) ≡ true
+    send_held = subst (λ f. f (Cq_of (send_slot o)) ≡ true) (sym has-same)
+        (subst (λ o. (holding h).has (Cq_of (send_slot o)) ≡ true) (sym outlets) (around c h name q bytes envelope mail front ready.outside ready.touched).send)
+
+    pub recv_held : mid.has (Cq_of (recv_slot o)) ≡ true
+    recv_held = subst (λ f. f (Cq_of (recv_slot o)) ≡ true) (sym has-same)
+        (subst (λ o. (holding h).has (Cq_of (recv_slot o)) ≡ true) (sym outlets) (around c h name q bytes envelope mail front ready.outside ready.touched).recv)
+
+    pub sends_fit : FitsDone (holding h).world (perform (holding h).world plan) → FitIn (mid.world.cq (send_slot o)) (completions_by o o.send ms)
+    sends_fit fits = arrive-sends c h name q bytes envelope mail front ready.outside ready.touched ready.can is-done.effects is-done.does ready.named ready.quiet mid is-done.put o outlets ms marked
+        (subst (FitsDone (holding h).world) ready.comes fits)
+
+    pub receives_fit : FitsDone (holding h).world (perform (holding h).world plan) → FitIn (mid.world.cq (recv_slot o)) (completions_by o o.recv ms)
+    receives_fit fits = arrive-receives c h name q bytes envelope mail front ready.outside ready.touched ready.can is-done.effects is-done.does ready.named ready.quiet mid is-done.put o outlets ms marked
+        (subst (FitsDone (holding h).world) ready.comes fits)
+
+    module _ (done : Holding) (putting : done ≡ changed_by (done_updates o ms mid.world) mid) where
+      pub mail_same : done.world.mailbox ≡ (holding h).world.mailbox
+      mail_same = arrive-mail c h name q bytes envelope mail front ready.outside ready.touched ready.can is-done.effects is-done.does ready.named ready.quiet mid is-done.put o outlets ms marked done putting
+
+      pub all_held : done.has ≡ (holding h).has
+      all_held = arrive-still c h name q bytes envelope mail front ready.outside ready.touched ready.can is-done.effects is-done.does ready.named ready.quiet mid is-done.put o outlets ms marked done putting
+
+      pub acts : (new : Holding) → new ≡ changed_by (mail_put name mail) done → IsAct (Ok made) (perform (holding h).world plan) (holding h) new
+      acts new counted = subst (λ out. IsAct (Ok made) out (holding h) new) (sym ready.comes)
+          (arrive-acts c h name q bytes envelope mail front ready.outside ready.touched ready.can is-done.effects is-done.does ready.named ready.quiet mid is-done.put o outlets ms marked done putting new made counted (sym is-ms))

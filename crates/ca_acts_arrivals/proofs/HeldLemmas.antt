@@ -1,10 +1,11 @@
 -- What is held after bytes arrived at a queue pair that is held. For proofs only.
-use Rattle.std.proofs.Common.{◌≡◌, ◌∙◌, refl, sym, subst, ap, ℕ, Bool, true, false, if◌then◌else◌, List, [], ◌∷◌, Option, None, Some, Result, Ok, Err, IfSome, Box, is_some, true≢false}
+use Rattle.std.proofs.Common.{◌≡◌, ◌∙◌, refl, sym, subst, ap, ℕ, Bool, true, false, if◌then◌else◌, List, [], ◌∷◌, Option, None, Some, Result, Ok, Err, IfSome, IsTrue, Box, is_some, true≢false}
 use Rattle.std.specs.Box.{with_value}
 use Rattle.std.specs.Option.{option_and_then, option_map, option_map_or}
 use Rattle.std.specs.declared.alloc.Global.{Global}
 use Rattle.ca_acts.specs.Binders.{changed_by}
-use Rattle.ca_acts_arrivals.specs.Arrived.{HasArrived, shared_on, shared_updates, with_shared}
+use Rattle.ca_acts_arrivals.specs.Arrived.{CanArrive, HasArrived, outcome_of, shared_on, shared_updates, with_shared}
+use Rattle.ca_base.specs.objects.Mailbox.{Mailbox, empty_mailbox}
 use Rattle.ca_base.specs.objects.QueuePair.{Present, QueuePair, queue_in, srq_of}
 use Rattle.ca_base.specs.objects.SharedReceives.{SharedReceives, SrqSlot, after_receive_take, vacant_srq}
 use Rattle.ca_held.specs.declared.held.Held.{Held}
@@ -12,8 +13,9 @@ use Rattle.ca_held.specs.declared.part.QueueSlot.{QueueSlot}
 use Rattle.ca_held.specs.declared.part.QueueSlot.TheVariants as slots
 use Rattle.ca_held.specs.HeldView.{Holding, hold, holding, with_queue, with_srq}
 use Rattle.ca_held.proofs.HoldLemmas.{put_queue, put_srq}
+use Rattle.ca_held_reach.specs.AtHand.{CanEnd, CanJudge, HasBytesAtHand}
 use Rattle.ca_held_reach.specs.Changed.{after_end_of, after_write_by}
-use Rattle.ca_held_reach.specs.Seen.{or_vacant}
+use Rattle.ca_held_reach.specs.Seen.{or_vacant, sight_of}
 use Rattle.ca_held_reach.specs.declared.reached.Reached.{Reached}
 use Rattle.ca_keys.specs.declared.memory.Memory.{Memory}
 use Rattle.ca_keys.specs.declared.names.QueueId.{QueueId}
@@ -22,14 +24,16 @@ use Rattle.ca_keys.specs.Equal.{queue_eq, slot_eq}
 use Rattle.ca_model.proofs.ThingLemmas.{put-same}
 use Rattle.ca_model.specs.Marks.{MarkList}
 use Rattle.ca_model.specs.machine.Around.{srq_updates}
+use Rattle.ca_model.specs.machine.Delivery.{arrival_row}
+use Rattle.ca_model.specs.machine.Invariants.{IsSharedReceives}
 use Rattle.ca_model.specs.machine.Plan.{Update, ◌:=◌}
 use Rattle.ca_model.specs.machine.Row.{Does, Effects, Ending, NotPossible, queue_and_marks}
 use Rattle.ca_model.specs.machine.Seen.{shared_receives}
 use Rattle.ca_model.specs.machine.World.{Queue_of, Srq_of, World}
 use Rattle.ca_operations.specs.Taking as Taking
-use Rattle.ca_operations.specs.Taking.{IsArrival, Outcome}
+use Rattle.ca_operations.specs.Taking.{CanMeet, IsArrival, Outcome, outcome_in}
 use Rattle.ca_reach_laws.specs.Ties.{with_reached}
-use Rattle.ca_shelf.specs.Shelved.{Shelved, thing_under, with_thing}
+use Rattle.ca_shelf.specs.Shelved.{Shelved, has_thing, thing_under, with_thing}
 use Rattle.ca_acts_turns.proofs.TurnLemmas.{same-queue}
 
 -- the shared receives on the shelf are those of the small world
@@ -93,16 +97,37 @@ put-taken h q e x is = ap (λ x. changed_by (put_shared q x h.world) h) is ∙ b
     by false None = refl
     by false (Some srq) = same (srq_of q srq)
 
+module _ (h : Held) (name : QueueId) (b : Box QueueSlot Global) (q : QueuePair) (there : thing_under queue_eq name h.queues.things ≡ Some b) (is : b.value ≡ slots.Present q) where
+  pub here : (holding h).world.queue name ≡ Present q
+  unfolding holding
+  here = rw (there, is) refl
+
+-- a mailbox that is held
+pub mail-here : (h : Held) (name : QueueId) (m : Mailbox) → Some m ≡ thing_under queue_eq name h.mailboxes.things → (holding h).world.mailbox name ≡ m
+unfolding holding
+mail-here h name m there = ap (or_vacant empty_mailbox) (sym there)
+
+-- what holds of one value that is there holds of the other
+pub at-same : {A : Type 0} (P : A → Type 0) (o : Option A) (a b : A) → o ≡ Some a → o ≡ Some b → P a → P b
+at-same P o a b one other is = subst (λ o. IfSome o P) (sym one ∙ other) is
+
+module _ (h : Held) (bytes : List ℕ) (envelope : Option ℕ) (q : QueuePair) (can : CanArrive h bytes envelope q) where
+  pub can_find : IfSome q.srq (λ srq. IsTrue (has_thing slot_eq (srq_of q srq) h.srqs.things))
+  unfolding holding
+  can_find = can.there
+
+  pub can_share : IfSome (shared_on h.srqs q) IsSharedReceives
+  can_share = subst (λ o. IfSome o IsSharedReceives) (sym (on-shelf h q)) can.shared
+
+  pub can_meet : CanMeet sight_of CanJudge HasBytesAtHand CanEnd h.reached q (arrival_row bytes envelope (shared_on h.srqs q) q)
+  can_meet = subst (λ o. CanMeet sight_of CanJudge HasBytesAtHand CanEnd h.reached q (arrival_row bytes envelope o q)) (sym (on-shelf h q)) can.at_hand
+
 module _ (h : Held) (name : QueueId) (b : Box QueueSlot Global) (q now : QueuePair) (r : Reached) (s : Shelved Slot SrqSlot)
     (there : thing_under queue_eq name h.queues.things ≡ Some b) (is : b.value ≡ slots.Present q)
     (held : IfSome q.srq (λ srq. (holding h).has (Srq_of (srq_of q srq)) ≡ true)) (shelf : s ≡ with_shared q (shared_on s q) h.srqs) where
   -- another queue pair in the slot, other parts that keys reach, and other shared receives
   abbrev pub arrived : Held
   arrived = record h { queues = record h.queues { things = with_thing queue_eq name (with_value b (slots.Present now)) h.queues.things }; srqs = s; reached = r }
-
-  pub here : (holding h).world.queue name ≡ Present q
-  unfolding holding
-  here = rw (there, is) refl
 
   -- the same, but for the shared receives
   abbrev stepped : Held
@@ -141,8 +166,8 @@ module _ (h : Held) (name : QueueId) (b : Box QueueSlot Global) (q now : QueuePa
       ∙ ap (λ x. changed_by ((Queue_of name := Present x) ∷ shared_updates q (holding h).world e) (holding (with_reached h r))) queue
 
   unchanged : now ≡ q → r ≡ h.reached → shared_on s q ≡ shared_on h.srqs q → holding arrived ≡ holding h
-  unchanged same kept is = at-effects (queue_and_marks q []) same is
-      ∙ ap (λ r. hold (holding (with_reached h r)) (Queue_of name) (Present q)) kept ∙ same-queue (holding h) name (Present q) here
+  unchanged same kept left-same = at-effects (queue_and_marks q []) same left-same
+      ∙ ap (λ r. hold (holding (with_reached h r)) (Queue_of name) (Present q)) kept ∙ same-queue (holding h) name (Present q) (here h name b q there is)
 
   has-arrived-so : (result : Result (Unit {0}) Memory) (o : Outcome) (before made : MarkList)
       → IsArrival after_write_by after_end_of result o q now before made h.reached r (shared_on h.srqs q) (shared_on s q)
@@ -159,11 +184,22 @@ module _ (h : Held) (name : QueueId) (b : Box QueueSlot Global) (q now : QueuePa
       )
       by (NotPossible reason) arrival = arrival
 
-  pub has-arrived : (result : Result (Unit {0}) Memory) (out : QueuePair → Outcome) (before made : MarkList)
-      → IsArrival after_write_by after_end_of result (out q) q now before made h.reached r (shared_on h.srqs q) (shared_on s q)
-      → (x : QueuePair) → (holding h).world.queue name ≡ Present x → HasArrived name result (out x).ending (out x).ended x h (holding arrived) before made
-  has-arrived result out before made arrival x at = subst (λ o. case o) (ap queue_in (sym here ∙ at)) (has-arrived-so result (out q) before made arrival)
+  pub has_arrived : (result : Result (Unit {0}) Memory) (out : Option SharedReceives → QueuePair → Outcome) (before made : MarkList)
+      → IsArrival after_write_by after_end_of result (out (shared_on h.srqs q) q) q now before made h.reached r (shared_on h.srqs q) (shared_on s q)
+      → (x : QueuePair) → (holding h).world.queue name ≡ Present x
+      → HasArrived name result (out (shared_receives (holding h).world x) x).ending (out (shared_receives (holding h).world x) x).ended x h (holding arrived) before made
+  has_arrived result out before made arrival x at = subst (λ o. case o) (ap queue_in (sym (here h name b q there is) ∙ at))
+      (subst (λ o. HasArrived name result (out o q).ending (out o q).ended q h (holding arrived) before made) (on-shelf h q)
+      (has-arrived-so result (out (shared_on h.srqs q) q) before made arrival))
     where
       case : Option QueuePair → Type 0
       case None = ⊥
-      case (Some x) = HasArrived name result (out x).ending (out x).ended x h (holding arrived) before made
+      case (Some x) = HasArrived name result (out (shared_receives (holding h).world x) x).ending (out (shared_receives (holding h).world x) x).ended x h (holding arrived) before made
+
+  pub has_lent : (result : Result (Unit {0}) Memory) (envelope : Option ℕ) (o : Option (List ℕ)) (lent : List ℕ) (before made : MarkList) → o ≡ Some lent
+      → IsArrival after_write_by after_end_of result (outcome_in (sight_of h.reached) (arrival_row lent envelope (shared_on h.srqs q) q)) q now before made h.reached r (shared_on h.srqs q) (shared_on s q)
+      → (x : QueuePair) (bytes : List ℕ) → (holding h).world.queue name ≡ Present x → o ≡ Some bytes
+      → HasArrived name result (outcome_of h bytes envelope x).ending (outcome_of h bytes envelope x).ended x h (holding arrived) before made
+  has_lent result envelope o lent before made is arrival x bytes at other =
+      at-same (λ bytes. HasArrived name result (outcome_of h bytes envelope x).ending (outcome_of h bytes envelope x).ended x h (holding arrived) before made) o lent bytes is other
+      (has_arrived result (λ o q. outcome_in (sight_of h.reached) (arrival_row lent envelope o q)) before made arrival x at)

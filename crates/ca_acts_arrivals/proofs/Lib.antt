@@ -6,3 +6,4 @@ mod HeldLemmas
 mod PlanLemmas
 mod ReadyLemmas
 mod ArriveLemmas
+mod DeliverLemmas

@@ -1,5 +1,5 @@
 -- The plans of a delivery and of an injection, where bytes arrive, and where none do. For proofs only.
-use Rattle.std.proofs.Common.{◌≡◌, ◌∙◌, refl, sym, subst, ap, ℕ, Bool, true, false, if◌then◌else◌, List, [], ◌∷◌, Option, None, Some}
+use Rattle.std.proofs.Common.{◌≡◌, ◌∙◌, subst, ap, ℕ, true, false, if◌then◌else◌, List, [], ◌∷◌, Option, None, Some}
 use Rattle.ca_acts_arrivals.proofs.ArriveLemmas.{mail_put}
 use Rattle.ca_base.specs.Configuration.{Configuration}
 use Rattle.ca_base.specs.declared.step.Reason.TheVariants as reasons
@@ -10,11 +10,10 @@ use Rattle.ca_held.specs.HeldView.{Holding}
 use Rattle.ca_keys.specs.declared.names.QueueId.{QueueId}
 use Rattle.ca_model.specs.declared.answer.Answer.TheVariants as answers
 use Rattle.ca_model.specs.declared.answer.Refusal.TheVariants.{NoSuch}
-use Rattle.ca_model.specs.declared.mark.Mark.{Mark}
 use Rattle.ca_model.specs.machine.Delivery.{Arrive, deliver_plan}
 use Rattle.ca_model.specs.machine.Frame.{AllPass}
 use Rattle.ca_model.specs.machine.HostVerbs.{inject_plan}
-use Rattle.ca_model.specs.machine.Plan.{Did, Look, NotReady, Outcome, Plan, Stuck, perform, touches}
+use Rattle.ca_model.specs.machine.Plan.{Did, Look, NotReady, Plan, Stuck, perform, touches}
 use Rattle.ca_model.specs.machine.VerbAnswers.{Call, Refuse_plan, answer_mark}
 use Rattle.ca_model.specs.machine.World.{Mailbox_of, Queue_of, World}
 

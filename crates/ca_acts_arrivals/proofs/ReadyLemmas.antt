@@ -1,17 +1,17 @@
 -- Bytes may meet the queue pair that is held: what its row asks for and ends is at hand. For proofs only.
-use Rattle.std.proofs.Common.{◌≡◌, ◌∙◌, refl, sym, subst, ap, ℕ, ◌<◌, Bool, true, false, if◌then◌else◌, List, Option, None, Some, IfSome}
+use Rattle.std.proofs.Common.{◌≡◌, ◌∙◌, refl, sym, subst, ap, ℕ, Bool, true, false, if◌then◌else◌, List, Option, None, Some, IfSome}
 use Rattle.std.specs.Option.{option_and_then, option_map}
 use Rattle.ca_acts_arrivals.specs.Arrived.{CanArrive}
-use Rattle.ca_acts_arrivals.proofs.RowLemmas.{IsArrivalRow, IsOwn, arrival-fills}
+use Rattle.ca_acts_arrivals.proofs.RowLemmas.{IsOwn, arrival-fills}
 use Rattle.ca_acts_turns.specs.Shown.{AreShown}
 use Rattle.ca_base.specs.Configuration.{Configuration}
 use Rattle.ca_base.specs.declared.refusals.OpRefusal.{OpRefusal}
 use Rattle.ca_base.specs.Sight.{Invalidation}
 use Rattle.ca_base.specs.objects.LocalRequest.{region_refusal, unnamed_refusal, window_refusal}
-use Rattle.ca_base.specs.objects.QueuePair.{Present, QueuePair, QueueSlot, srq_of}
-use Rattle.ca_base.specs.objects.SharedReceives.{SharedReceives, SrqSlot}
+use Rattle.ca_base.specs.objects.QueuePair.{Present, QueuePair, srq_of}
+use Rattle.ca_base.specs.objects.SharedReceives.{SrqSlot}
 use Rattle.ca_base.specs.objects.Slices.{names_region, names_window, slot_of_key}
-use Rattle.ca_grant.specs.Reaching.{AreAtHand, invalidation_by}
+use Rattle.ca_grant.specs.Reaching.{AreAtHand}
 use Rattle.ca_held.specs.declared.held.Held.{Held}
 use Rattle.ca_held.specs.HeldView.{holding}
 use Rattle.ca_held_reach.specs.AtHand.{CanEnd, CanJudge, HasBytesAtHand}
@@ -28,7 +28,7 @@ use Rattle.ca_model.specs.machine.Held.{IsEndHeld}
 use Rattle.ca_model.specs.machine.Invariants.{IsSharedReceives}
 use Rattle.ca_model.specs.machine.Parts.{next_part, row_needs}
 use Rattle.ca_model.specs.machine.Row.{Row}
-use Rattle.ca_model.specs.machine.Seen.{refusal_in, shared_receives, sight_in}
+use Rattle.ca_model.specs.machine.Seen.{refusal_in, shared_receives}
 use Rattle.ca_model.specs.machine.Sound.{IsQueueOf}
 use Rattle.ca_model.specs.machine.World.{Queue_of, Region_of, Srq_of, Window_of, World}
 use Rattle.ca_operations.specs.Taking.{MayEnd}

@@ -7,12 +7,10 @@ ghost use Rattle.ca_base.specs.Configuration.{configuration_in};
 ghost use Rattle.ca_base.specs.objects.Mailbox.{bytes_lent};
 ghost use Rattle.ca_base.specs.objects.QueuePair.{Present, QueuePair, is_present, queue_in};
 ghost use Rattle.ca_held.specs.HeldView.{holding};
-ghost use Rattle.ca_keys.specs.declared.names.Slot.{Slot};
 ghost use Rattle.ca_mailbox.specs.Counting.{is_countable};
 ghost use Rattle.ca_model.specs.declared.event.Event.TheVariants as events;
 ghost use Rattle.ca_model.specs.machine.CanStep.{CanStep};
 ghost use Rattle.ca_model.specs.machine.Delivery.{deliver_plan};
-ghost use Rattle.ca_model.specs.machine.Invariants.{IsSharedReceives};
 ghost use Rattle.ca_model.specs.machine.Parts.{event_needs, next_part};
 ghost use Rattle.ca_model.specs.machine.Plan.{perform};
 ghost use Rattle.ca_model.specs.machine.World.{Mailbox_of, Queue_of};
@@ -39,8 +37,6 @@ pub fn deliver(
     requires needs { next_part (holding held.old).parts (holding held.old).world
         (event_needs (configuration_in settings.now) (events.Deliver queue index)) ≡ None }
     requires step { IfSome (queue_in ((holding held.old).world.queue queue)) CanStep }
-    requires named { IfSome (queue_in ((holding held.old).world.queue queue)) (λ q. q.queue ≡ queue) }
-    requires shared { (s : Slot) → IfSome ((holding held.old).world.srq s).srq IsSharedReceives }
     requires count { IfSome (bytes_lent index ((holding held.old).world.mailbox queue))
         (λ bytes. IsTrue (is_countable index ((holding held.old).world.mailbox queue))) }
     requires fits { FitsDone (holding held.old).world
@@ -71,12 +67,7 @@ pub fn deliver(
 
 /// The bytes of an envelope, which its mailbox lends, arrive at the queue pair of that mailbox; both are held.
 #[tactic(auto, unfolding(ca_held::specs::HeldView::holding))]
-fn take_lent(
-    held: &mut Held,
-    queue: QueueId,
-    index: u64,
-    marks: &mut Marks,
-) -> Result<(), Memory>
+fn take_lent(held: &mut Held, queue: QueueId, index: u64, marks: &mut Marks) -> Result<(), Memory>
     requires mailbox { (holding held.old).has (Mailbox_of queue) ≡ true }
     requires held { (holding held.old).has (Queue_of queue) ≡ true }
     requires lent { IsSome (bytes_lent index ((holding held.old).world.mailbox queue)) }

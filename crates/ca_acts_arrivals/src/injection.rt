@@ -6,13 +6,13 @@ ghost use Rattle.ca_acts_arrivals.specs.Arrived.{CanArrive, HasArrived, outcome_
 ghost use Rattle.ca_acts_turns.specs.Shown.{AreShown};
 ghost use Rattle.ca_base.specs.Configuration.{configuration_in};
 ghost use Rattle.ca_base.specs.objects.QueuePair.{Present, QueuePair, is_present, queue_in};
+ghost use Rattle.ca_base.specs.objects.Slices.{has_queue};
 ghost use Rattle.ca_held.specs.HeldView.{holding};
-ghost use Rattle.ca_keys.specs.declared.names.Slot.{Slot};
+ghost use Rattle.ca_model.specs.declared.event.Event.TheVariants as events;
 ghost use Rattle.ca_model.specs.declared.verb.Verb.TheVariants as verbs;
 ghost use Rattle.ca_model.specs.machine.CanStep.{CanStep};
 ghost use Rattle.ca_model.specs.machine.HostVerbs.{inject_plan};
-ghost use Rattle.ca_model.specs.machine.Invariants.{IsSharedReceives};
-ghost use Rattle.ca_model.specs.machine.Parts.{next_part, verb_needs};
+ghost use Rattle.ca_model.specs.machine.Parts.{event_needs, next_part};
 ghost use Rattle.ca_model.specs.machine.Plan.{perform};
 ghost use Rattle.ca_model.specs.machine.World.{Queue_of};
 
@@ -34,10 +34,9 @@ pub fn inject(
     requires suffices { Suffices held.old (inject_plan (configuration_in settings.now) (call_of call.now) queue bytes.now) }
     requires parts { AreShown (configuration_in settings.now) held.old }
     requires needs { next_part (holding held.old).parts (holding held.old).world
-        (verb_needs (configuration_in settings.now) (verbs.Inject queue bytes.now)) ≡ None }
+        (event_needs (configuration_in settings.now) (events.Verb call.now.by (verbs.Inject queue bytes.now))) ≡ None }
+    requires named { has_queue (configuration_in settings.now) queue ≡ true }
     requires step { IfSome (queue_in ((holding held.old).world.queue queue)) CanStep }
-    requires named { IfSome (queue_in ((holding held.old).world.queue queue)) (λ q. q.queue ≡ queue) }
-    requires shared { (s : Slot) → IfSome ((holding held.old).world.srq s).srq IsSharedReceives }
     requires fits { FitsDone (holding held.old).world (perform (holding held.old).world
         (inject_plan (configuration_in settings.now) (call_of call.now) queue bytes.now)) }
     ensures act { Acts result (inject_plan (configuration_in settings.now) (call_of call.now) queue bytes.now)

@@ -1,4 +1,4 @@
-use Rattle.std.proofs.Common.{◌≡◌, ◌∙◌, None, Option, Some, ap, refl, sym}
+use Rattle.std.proofs.Common.{◌∙◌, None, Option, Some, ap, refl, sym}
 use Rattle.ca_base.specs.objects.QueuePair.{srq_of}
 use Rattle.ca_base.specs.objects.SharedReceives.{SharedReceives}
 use Rattle.ca_held.specs.contracts.part.SrqSlot.{the_view}
