@@ -26,3 +26,12 @@ rnr_wake-requires-clause-suffices c = turn_suffices (configuration_in c.args.set
 
 pub rnr_wake-requires-clause-named : goal.rnr_wake-requires-clause-named
 rnr_wake-requires-clause-named c = turn_named (configuration_in c.args.settings.now) (events.RnrWake c.in-RnrWake.queue) c.args.held.now (of-event c.in-RnrWake.is c.requires.ready) c.in-RnrWake.queue
+
+pub deliver-requires-clause-suffices : goal.deliver-requires-clause-suffices
+deliver-requires-clause-suffices c = turn_suffices (configuration_in c.args.settings.now) (events.Deliver c.in-Deliver.queue c.in-Deliver.index) c.args.held.now (of-event c.in-Deliver.is c.requires.ready)
+
+pub deliver-requires-clause-needs : goal.deliver-requires-clause-needs
+deliver-requires-clause-needs c = (of-event {e = events.Deliver c.in-Deliver.queue c.in-Deliver.index} c.in-Deliver.is c.requires.ready).next
+
+pub deliver-requires-clause-fits : goal.deliver-requires-clause-fits
+deliver-requires-clause-fits c = turn_fits (configuration_in c.args.settings.now) (events.Deliver c.in-Deliver.queue c.in-Deliver.index) c.args.held.now (of-event c.in-Deliver.is c.requires.ready) (record {})
