@@ -21,7 +21,7 @@ use Rattle.ca_model.proofs.FrameLemmas.{event-agrees}
 use Rattle.ca_model.specs.declared.event.Event.{Event}
 use Rattle.ca_model.specs.declared.part_name.PartName.TheVariants as names
 use Rattle.ca_model.specs.declared.event.Event.TheVariants as events
-use Rattle.ca_model.specs.declared.verb.Verb.TheVariants as verbs
+use Rattle.ca_model.specs.declared.verb.Verb.{Verb}
 use Rattle.ca_model.specs.machine.CanStep.{CanStep}
 use Rattle.ca_model.specs.machine.Frame.{SameOutcomeWhere}
 use Rattle.ca_model.specs.machine.Plan.{Did, NotReady, Outcome, perform}
@@ -95,9 +95,9 @@ module _ (c : Configuration) (event : Event) (h : Held) (ready : IsReady c event
 pub of-event : {c : Configuration} {event e : Event} {h : Held} → event ≡ e → IsReady c event h → IsReady c e h
 of-event {c} {event} {e} {h} is ready = subst (λ x. IsReady c x h) is ready
 
--- what an Inject completes fits, where its queue pair is configured
-pub inject_fits : (c : Configuration) (by : ℕ) (queue : QueueId) (bytes : List ℕ) (h : Held) → IsReady c (events.Verb by (verbs.Inject queue bytes)) h
-    → is_named c (verbs.Inject queue bytes) ≡ true
-    → FitsDone (holding h).world (perform (holding h).world (verb_plan c (record { by = by; verb = verbs.Inject queue bytes }) (verbs.Inject queue bytes)))
-inject_fits c by queue bytes h ready named = subst (FitsDone (holding h).world) (verb_named c by (verbs.Inject queue bytes) (holding h).world named)
-    (turn_fits c (events.Verb by (verbs.Inject queue bytes)) h ready (record {}))
+-- what a verb completes fits, where its names are configured
+pub verb_fits : (c : Configuration) (by : ℕ) (verb v : Verb) (h : Held) → verb ≡ v → IsReady c (events.Verb by verb) h → CanBeMade (events.Verb by verb)
+    → is_named c verb ≡ true → FitsDone (holding h).world (perform (holding h).world (verb_plan c (record { by = by; verb = verb }) v))
+verb_fits c by verb v h is ready made named =
+    subst (λ x. FitsDone (holding h).world (perform (holding h).world (verb_plan c (record { by = by; verb = verb }) x))) is
+    (subst (FitsDone (holding h).world) (verb_named c by verb (holding h).world named) (turn_fits c (events.Verb by verb) h ready made))

@@ -43,7 +43,7 @@ pub fn act(
 }
 
 /// The same, by what the event is.
-#[tactic(auto, using(crate::proofs::TurnLemmas::turn_parts, crate::proofs::TurnLemmas::turn_steps, crate::proofs::TurnLemmas::turn_mail, crate::proofs::TurnLemmas::turn_counts))]
+#[tactic(auto, using(crate::proofs::TurnLemmas::turn_parts, crate::proofs::TurnLemmas::turn_steps, crate::proofs::TurnLemmas::turn_mail))]
 fn act_held(
     alloc: Global,
     settings: &Settings,
