@@ -184,22 +184,22 @@ module _ (h : Held) (name : QueueId) (b : Box QueueSlot Global) (q now : QueuePa
       )
       by (NotPossible reason) arrival = arrival
 
-  pub has_arrived : (result : Result (Unit {0}) Memory) (out : Option SharedReceives → QueuePair → Outcome) (before made : MarkList)
-      → IsArrival after_write_by after_end_of result (out (shared_on h.srqs q) q) q now before made h.reached r (shared_on h.srqs q) (shared_on s q)
+  pub has_arrived : (result : Result (Unit {0}) Memory) (out : Option SharedReceives → QueuePair → Outcome) (before : QueuePair → MarkList) (made : MarkList)
+      → IsArrival after_write_by after_end_of result (out (shared_on h.srqs q) q) q now (before q) made h.reached r (shared_on h.srqs q) (shared_on s q)
       → (x : QueuePair) → (holding h).world.queue name ≡ Present x
-      → HasArrived name result (out (shared_receives (holding h).world x) x).ending (out (shared_receives (holding h).world x) x).ended x h (holding arrived) before made
+      → HasArrived name result (out (shared_receives (holding h).world x) x).ending (out (shared_receives (holding h).world x) x).ended x h (holding arrived) (before x) made
   has_arrived result out before made arrival x at = subst (λ o. case o) (ap queue_in (sym (here h name b q there is) ∙ at))
-      (subst (λ o. HasArrived name result (out o q).ending (out o q).ended q h (holding arrived) before made) (on-shelf h q)
-      (has-arrived-so result (out (shared_on h.srqs q) q) before made arrival))
+      (subst (λ o. HasArrived name result (out o q).ending (out o q).ended q h (holding arrived) (before q) made) (on-shelf h q)
+      (has-arrived-so result (out (shared_on h.srqs q) q) (before q) made arrival))
     where
       case : Option QueuePair → Type 0
       case None = ⊥
-      case (Some x) = HasArrived name result (out (shared_receives (holding h).world x) x).ending (out (shared_receives (holding h).world x) x).ended x h (holding arrived) before made
+      case (Some x) = HasArrived name result (out (shared_receives (holding h).world x) x).ending (out (shared_receives (holding h).world x) x).ended x h (holding arrived) (before x) made
 
-  pub has_lent : (result : Result (Unit {0}) Memory) (envelope : Option ℕ) (o : Option (List ℕ)) (lent : List ℕ) (before made : MarkList) → o ≡ Some lent
-      → IsArrival after_write_by after_end_of result (outcome_in (sight_of h.reached) (arrival_row lent envelope (shared_on h.srqs q) q)) q now before made h.reached r (shared_on h.srqs q) (shared_on s q)
+  pub has_lent : (result : Result (Unit {0}) Memory) (envelope : Option ℕ) (o : Option (List ℕ)) (lent : List ℕ) (before : QueuePair → MarkList) (made : MarkList) → o ≡ Some lent
+      → IsArrival after_write_by after_end_of result (outcome_in (sight_of h.reached) (arrival_row lent envelope (shared_on h.srqs q) q)) q now (before q) made h.reached r (shared_on h.srqs q) (shared_on s q)
       → (x : QueuePair) (bytes : List ℕ) → (holding h).world.queue name ≡ Present x → o ≡ Some bytes
-      → HasArrived name result (outcome_of h bytes envelope x).ending (outcome_of h bytes envelope x).ended x h (holding arrived) before made
+      → HasArrived name result (outcome_of h bytes envelope x).ending (outcome_of h bytes envelope x).ended x h (holding arrived) (before x) made
   has_lent result envelope o lent before made is arrival x bytes at other =
-      at-same (λ bytes. HasArrived name result (outcome_of h bytes envelope x).ending (outcome_of h bytes envelope x).ended x h (holding arrived) before made) o lent bytes is other
+      at-same (λ bytes. HasArrived name result (outcome_of h bytes envelope x).ending (outcome_of h bytes envelope x).ended x h (holding arrived) (before x) made) o lent bytes is other
       (has_arrived result (λ o q. outcome_in (sight_of h.reached) (arrival_row lent envelope o q)) before made arrival x at)

@@ -15,6 +15,7 @@ use Rattle.ca_keys.specs.declared.names.Slot.{Slot}
 use Rattle.ca_keys.specs.Equal.{slot_eq}
 use Rattle.ca_base.specs.Sight.{Invalidation}
 use Rattle.ca_model.specs.Marks.{MarkList}
+use Rattle.ca_model.specs.declared.mark.Mark.TheVariants as marks
 use Rattle.ca_model.specs.machine.Around.{srq_updates}
 use Rattle.ca_model.specs.machine.CanStep.{CanStep}
 use Rattle.ca_model.specs.machine.Delivery.{arrival_row}
@@ -72,6 +73,10 @@ outcome_of h bytes envelope q = outcome_in (sight_of h.reached) (arrival_row byt
 abbrev pub with_effects : QueueId → QueuePair → Effects → Option Invalidation → Held → Holding
 with_effects name q e ended h = changed_by ((Queue_of name := Present e.queue) ∷ shared_updates q (holding h).world e)
     (holding (with_reached h (without_key after_end_of ended (written_all after_write_by h.reached e.writes))))
+
+-- marks, and that of bytes which arrive at a queue pair behind them
+abbrev pub told : QueuePair → Option ℕ → MarkList → MarkList
+told q envelope m = record m { marks = m.marks ++ marks.Arrived q.queue envelope ∷ [] }
 
 -- bytes arrived at the queue pair of a name, as their row comes out; or memory ended, and nothing has changed
 abbrev pub HasArrived : QueueId → Result (Unit {0}) Memory → Ending → Option Invalidation → QueuePair → Held → Holding → MarkList → MarkList → Type 0

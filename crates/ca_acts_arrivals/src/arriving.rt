@@ -1,5 +1,5 @@
-ghost use Rattle.std.specs.Prelude.{◌≡◌, IfSome, IsTrue};
-ghost use Rattle.ca_acts_arrivals.specs.Arrived.{shared_on, with_shared};
+ghost use Rattle.std.specs.Prelude.{◌≡◌, ◌<◌, false, IfSome, IsTrue};
+ghost use Rattle.ca_acts_arrivals.specs.Arrived.{shared_on, told, with_shared};
 ghost use Rattle.ca_base.specs.objects.QueuePair.{srq_of};
 ghost use Rattle.ca_held_reach.specs.AtHand.{CanEnd, CanJudge, HasBytesAtHand};
 ghost use Rattle.ca_held_reach.specs.Changed.{after_end_of, after_write_by};
@@ -12,12 +12,11 @@ ghost use Rattle.ca_model.specs.machine.Invariants.{IsSharedReceives};
 ghost use Rattle.ca_operations.specs.Taking.{CanMeet, IsArrival, outcome_in};
 ghost use Rattle.ca_packet.specs.Packet.{IsWellFormed};
 ghost use Rattle.ca_shelf.specs.Shelved.{has_thing};
-ghost use Rattle.std.specs.Prelude.{false};
 
 use ca_base::{Memory, Slot};
 use ca_held::SrqSlot;
 use ca_held_reach::Reached;
-use ca_model::Marks;
+use ca_model::{Mark, Marks};
 use ca_qpstate::QueuePart;
 use ca_requester::on_response;
 use ca_responder::on_request;
@@ -32,9 +31,45 @@ pub(crate) struct Incoming<'a> {
     pub(crate) envelope: Option<u64>,
 }
 
-/// Bytes arrive at a queue pair, whose shared receive queue stands on a shelf, where it has one. They are read once: they
-/// are dropped, or their packet is taken by its engine. `Memory` changes nothing.
+/// Bytes arrive at a queue pair, whose shared receive queue stands on a shelf, where it has one. That they arrived is told
+/// first, and then what comes of it. `Memory` changes nothing but the marks.
 pub(crate) fn arrive(
+    q: &mut QueuePart,
+    srqs: &mut Shelf<Slot, SrqSlot>,
+    reach: &mut Reached,
+    incoming: &Incoming<'_>,
+    marks: &mut Marks,
+) -> Result<(), Memory>
+    requires step { CanStep q.old }
+    requires there { IfSome q.old.srq (λ srq. IsTrue (has_thing slot_eq (srq_of q.old srq) srqs.old.things)) }
+    requires shared { IfSome (shared_on srqs.old q.old) IsSharedReceives }
+    requires at_hand { CanMeet sight_of CanJudge HasBytesAtHand CanEnd reach.old q.old
+        (arrival_row incoming.now.bytes.now incoming.now.envelope (shared_on srqs.old q.old) q.old) }
+    requires room { 0 < marks.old.room }
+    ensures arrival { IsArrival after_write_by after_end_of result (outcome_in (sight_of reach.old)
+        (arrival_row incoming.now.bytes.now incoming.now.envelope (shared_on srqs.old q.old) q.old))
+        q.old q.new (told q.old incoming.now.envelope marks.old) marks.new
+        reach.old reach.new (shared_on srqs.old q.old) (shared_on srqs.new q.old) }
+    ensures shelf { srqs.new ≡ with_shared q.old (shared_on srqs.new q.old) srqs.old }
+{
+    tell(q, incoming, marks);
+    meet(q, srqs, reach, incoming, marks)
+}
+
+/// Tells that bytes arrived at a queue pair, in the spare room.
+fn tell(q: &QueuePart, incoming: &Incoming<'_>, marks: &mut Marks)
+    requires { 0 < marks.old.room }
+    ensures { marks.new.marks ≡ (told q.now incoming.now.envelope marks.old).marks }
+{
+    marks.push(Mark::Arrived {
+        target: q.queue,
+        index: incoming.envelope,
+    });
+}
+
+/// Bytes meet a queue pair. They are read once: they are dropped, or their packet is taken by its engine. `Memory` changes
+/// nothing.
+fn meet(
     q: &mut QueuePart,
     srqs: &mut Shelf<Slot, SrqSlot>,
     reach: &mut Reached,

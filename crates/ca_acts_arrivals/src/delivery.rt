@@ -1,12 +1,12 @@
-ghost use Rattle.std.specs.Prelude.{◌≡◌, ℕ, List, Option, Some, true, IfSome, IsSome, IsTrue, None};
+ghost use Rattle.std.specs.Prelude.{◌≡◌, ◌<◌, ℕ, List, Option, Some, true, IfSome, IsSome, IsTrue, None};
 ghost use Rattle.ca_acts.specs.Act.{Acts, Suffices};
 ghost use Rattle.ca_acts.specs.Room.{FitsDone};
-ghost use Rattle.ca_acts_arrivals.specs.Arrived.{CanArrive, HasArrived, outcome_of};
+ghost use Rattle.ca_acts_arrivals.specs.Arrived.{CanArrive, HasArrived, outcome_of, told};
 ghost use Rattle.ca_acts_turns.specs.Shown.{AreShown};
 ghost use Rattle.ca_base.specs.Configuration.{configuration_in};
-ghost use Rattle.ca_base.specs.objects.Mailbox.{bytes_lent};
+ghost use Rattle.ca_base.specs.objects.Mailbox.{after_delivery, bytes_lent};
 ghost use Rattle.ca_base.specs.objects.QueuePair.{Present, QueuePair, is_present, queue_in};
-ghost use Rattle.ca_held.specs.HeldView.{holding};
+ghost use Rattle.ca_held.specs.HeldView.{hold, holding};
 ghost use Rattle.ca_mailbox.specs.Counting.{is_countable};
 ghost use Rattle.ca_model.specs.declared.event.Event.TheVariants as events;
 ghost use Rattle.ca_model.specs.machine.CanStep.{CanStep};
@@ -19,7 +19,7 @@ use crate::arriving::{Incoming, arrive};
 use ca_acts::{Outlets, put_done};
 use ca_base::{Memory, QueueId, Reason, Settings, StepError};
 use ca_held::{Held, QueueSlot};
-use ca_model::{Mark, Marks};
+use ca_model::Marks;
 use std::alloc::Global;
 
 /// Deliver: the envelope of an index in a queue pair's mailbox is delivered, and counted as delivered once more. `NotKept`
@@ -55,14 +55,21 @@ pub fn deliver(
     let to = Outlets::of(q);
     let mut marks = Marks::empty(alloc);
     marks.reserve(1)?;
-    marks.push(Mark::Arrived {
-        target: queue,
-        index: Some(index),
-    });
     take_lent(held, queue, index, &mut marks)?;
     put_done(held, &to, marks.as_slice());
-    held.mailbox_mut(queue).count(index);
+    count(held, queue, index);
     Ok(marks)
+}
+
+/// A delivery of an envelope is counted in its mailbox, which is held.
+#[tactic(auto, using(ca_held::proofs::HoldLemmas::put_mailbox))]
+fn count(held: &mut Held, queue: QueueId, index: u64)
+    requires held { (holding held.old).has (Mailbox_of queue) ≡ true }
+    requires left { IsTrue (is_countable index ((holding held.old).world.mailbox queue)) }
+    ensures { holding held.new ≡ hold (holding held.old) (Mailbox_of queue)
+        (after_delivery index ((holding held.old).world.mailbox queue)) }
+{
+    held.mailbox_mut(queue).count(index);
 }
 
 /// The bytes of an envelope, which its mailbox lends, arrive at the queue pair of that mailbox; both are held.
@@ -70,6 +77,7 @@ pub fn deliver(
 fn take_lent(held: &mut Held, queue: QueueId, index: u64, marks: &mut Marks) -> Result<(), Memory>
     requires mailbox { (holding held.old).has (Mailbox_of queue) ≡ true }
     requires held { (holding held.old).has (Queue_of queue) ≡ true }
+    requires room { 0 < marks.old.room }
     requires lent { IsSome (bytes_lent index ((holding held.old).world.mailbox queue)) }
     requires there { is_present ((holding held.old).world.queue queue) ≡ true }
     requires can { (q : QueuePair) (bytes : List ℕ) → (holding held.old).world.queue queue ≡ Present q
@@ -77,7 +85,7 @@ fn take_lent(held: &mut Held, queue: QueueId, index: u64, marks: &mut Marks) -> 
     ensures { (q : QueuePair) (bytes : List ℕ) → (holding held.old).world.queue queue ≡ Present q
         → bytes_lent index ((holding held.old).world.mailbox queue) ≡ Some bytes
         → HasArrived queue result (outcome_of held.old bytes (Some index) q).ending
-        (outcome_of held.old bytes (Some index) q).ended q held.old (holding held.new) marks.old marks.new }
+        (outcome_of held.old bytes (Some index) q).ended q held.old (holding held.new) (told q (Some index) marks.old) marks.new }
 {
     let Ok(bytes) = held.mailboxes.at(queue).lend(index) else {
         unreachable!()

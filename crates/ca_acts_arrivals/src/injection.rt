@@ -1,8 +1,8 @@
-ghost use Rattle.std.specs.Prelude.{◌≡◌, ℕ, List, Option, true, IfSome, None};
+ghost use Rattle.std.specs.Prelude.{◌≡◌, ◌<◌, ℕ, List, Option, true, IfSome, None};
 ghost use Rattle.ca_acts.specs.Act.{Acts, Suffices};
 ghost use Rattle.ca_acts.specs.Calls.{call_of};
 ghost use Rattle.ca_acts.specs.Room.{FitsDone};
-ghost use Rattle.ca_acts_arrivals.specs.Arrived.{CanArrive, HasArrived, outcome_of};
+ghost use Rattle.ca_acts_arrivals.specs.Arrived.{CanArrive, HasArrived, outcome_of, told};
 ghost use Rattle.ca_acts_turns.specs.Shown.{AreShown};
 ghost use Rattle.ca_base.specs.Configuration.{configuration_in};
 ghost use Rattle.ca_base.specs.objects.QueuePair.{Present, QueuePair, is_present, queue_in};
@@ -20,7 +20,7 @@ use crate::arriving::{Incoming, arrive};
 use ca_acts::{Call, Outlets, put_done};
 use ca_base::{Bytes, Memory, QueueId, Settings, StepError};
 use ca_held::{Held, QueueSlot};
-use ca_model::{Answer, Mark, Marks, Refusal};
+use ca_model::{Answer, Marks, Refusal};
 
 /// Inject: bytes arrive at a queue pair at once, as a packet that no envelope carried. Refused with `NoSuch` where there is
 /// no queue pair. `Memory` leaves all as it was. This profile's own verb.
@@ -48,10 +48,6 @@ pub fn inject(
     let to = Outlets::of(q);
     let ready = call.ready(1)?;
     let mut marks = ready.answer(Answer::Fine);
-    marks.push(Mark::Arrived {
-        target: queue,
-        index: None,
-    });
     take_given(held, queue, bytes.as_slice(), &mut marks)?;
     put_done(held, &to, marks.as_slice());
     Ok(marks)
@@ -67,11 +63,12 @@ fn take_given(
 ) -> Result<(), Memory>
     requires held { (holding held.old).has (Queue_of queue) ≡ true }
     requires there { is_present ((holding held.old).world.queue queue) ≡ true }
+    requires room { 0 < marks.old.room }
     requires can { (q : QueuePair) → (holding held.old).world.queue queue ≡ Present q
         → CanArrive held.old bytes.now None q }
     ensures { (q : QueuePair) → (holding held.old).world.queue queue ≡ Present q
         → HasArrived queue result (outcome_of held.old bytes.now None q).ending
-        (outcome_of held.old bytes.now None q).ended q held.old (holding held.new) marks.old marks.new }
+        (outcome_of held.old bytes.now None q).ended q held.old (holding held.new) (told q None marks.old) marks.new }
 {
     let slot = held.queues.at_mut(queue);
     let QueueSlot::Present(q) = &mut **slot else {

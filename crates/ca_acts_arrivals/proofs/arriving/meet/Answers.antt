@@ -4,7 +4,7 @@ use Rattle.ca_rows.specs.Arrival.{IsResponseOf}
 use Rattle.ca_acts_arrivals.specs.Arrived.{shared_on}
 use Rattle.ca_acts_arrivals.proofs.MeetLemmas.{response_arrived}
 use Rattle.ca_acts_arrivals.proofs.ShelfLemmas.{shelf_same}
-use Rattle.ca_acts_arrivals.proofs.arriving.arrive.Goals as goal
+use Rattle.ca_acts_arrivals.proofs.arriving.meet.Goals as goal
 
 pub returns-in-Ok-Response-clause-arrival : goal.returns-in-Ok-Response-clause-arrival
 returns-in-Ok-Response-clause-arrival c =
