@@ -1,10 +1,10 @@
 -- Which posted request a place of a send queue is, and which begins next. For proofs only.
-use Rattle.std.proofs.Common.{◌≡◌, ℕ, zero, suc, ◌+◌, ◌-◌, ◌≤◌, ◌&&◌, nat_lt, Bool, true, false, if◌then◌else◌, List, [], ◌∷◌, ◌++◌, length, take, drop, Option, None, Some, is_none, is_some, slice_get, refl, sym, ap, subst, ◌∙◌, arith, true≢false}
-use Rattle.std.proofs.lemmas.Bool.{ltb-false}
+use Rattle.std.proofs.Common.{◌≡◌, ℕ, zero, suc, ◌+◌, ◌-◌, ◌≤◌, ◌&&◌, nat_lt, Bool, true, false, if◌then◌else◌, List, [], ◌∷◌, ◌++◌, length, take, drop, Option, None, Some, is_none, is_some, slice_get, refl, sym, ap, ap₂, subst, ◌∙◌, arith, true≢false, ◌||◌}
+use Rattle.std.proofs.lemmas.Bool.{ltb-false, or_parts}
 use Rattle.std.proofs.lemmas.List.Elements.{filter-append}
 use Rattle.std.proofs.lemmas.Option.{same_Some, slice_get-map}
-use Rattle.std.specs.List.{AllByRecursion, filter}
-use Rattle.std.specs.Option.{option_map, option_or}
+use Rattle.std.specs.List.{AllByRecursion, filter, list_any}
+use Rattle.std.specs.Option.{option_map, option_or, option_map_or}
 use Rattle.std.specs.Prelude.{find}
 use Rattle.ca_agree_posts.proofs.GoingLemmas.{numbers-at}
 use Rattle.ca_agree_posts.specs.Posts.{AgreeOnSends, AreInPlace, as_posted}
@@ -21,8 +21,8 @@ use Rattle.ca_laws_steady.proofs.RowLemmas.{IsKept}
 use Rattle.ca_model.specs.Past.{Posted, local_operations}
 use Rattle.ca_model.specs.Requests.{is_local}
 use Rattle.ca_model.specs.machine.Invariants.{is_sending}
-use Rattle.ca_model.specs.machine.Numbering.{Numbered, begun_requests, has_psn, next_to_begin, numbers_of, request_at, unfinished_requests}
-use Rattle.ca_model.specs.machine.Requester.{Performs, RequestTurn, Sends, Waits, begins, next_request, turn_of, turn_refusals}
+use Rattle.ca_model.specs.machine.Numbering.{Numbered, begun_requests, has_psn, is_answered_op, next_to_begin, numbers_of, request_at, unfinished_requests}
+use Rattle.ca_model.specs.machine.Requester.{Performs, RequestTurn, Sends, Waits, begins, is_fenced, next_request, turn_of, turn_refusals}
 use Rattle.ca_laws_sound.proofs.TurnLemmas.{sending-parts}
 
 -- ---- lists
@@ -176,6 +176,7 @@ pub record IsPerformed (q : QueuePair) (n : Numbered) : Type 0 where
   pub item : IsNextItem q n
   pub local : is_local n.request.op ≡ true
   pub sending : is_sending q.state ≡ true
+  pub alone : q.requester.next ≡ q.requester.oldest
 
 pub performs : (q : QueuePair) (n : Numbered) → IsKept q → q.requester.oldest ≤ q.requester.next → turn_of q ≡ Performs n → IsPerformed q n
 performs q n k begun turn = by (first_of (turn_refusals q)) refl (next_request q) refl turn
@@ -186,6 +187,7 @@ performs q n k begun turn = by (first_of (turn_refusals q)) refl (next_request q
       item = next-item q n k begun (local-next q n k there local);
       local = local;
       sending = (sending-parts q none).0;
+      alone = omega (arith, begun, ltb-false q.requester.oldest q.requester.next (unfenced (request_at q.requester.cursor q) refl there (next_to_begin q) refl (local-next q n k there local) (sending-parts q none).1));
     }
       where
         same : m ≡ n
@@ -196,6 +198,18 @@ performs q n k begun turn = by (first_of (turn_refusals q)) refl (next_request q
 
         local : is_local n.request.op ≡ true
         local = subst (λ x. is_local x.request.op ≡ true) same e
+
+        waits : Numbered → Bool
+        waits n =
+            (is_local n.request.op && nat_lt q.requester.oldest q.requester.next)
+            || (n.request.fence && list_any (λ m. is_answered_op m.request.op) (begun_requests q))
+
+        unfenced : (o : Option Numbered) → request_at q.requester.cursor q ≡ o → option_or o (next_to_begin q) ≡ Some n → (x : Option Numbered) → next_to_begin q ≡ x → x ≡ Some n → is_fenced q ≡ false
+            → nat_lt q.requester.oldest q.requester.next ≡ false
+        unfenced (Some m) at is x next same free = absurd (true≢false (sym local ∙ find-all (λ y. is_local y.request.op ≡ false) (has_psn q.requester.cursor) (begun_requests q) n k.is.packets (at ∙ is)))
+        unfenced None at is x next same free = ap (λ b. b && nat_lt q.requester.oldest q.requester.next) (sym local)
+            ∙ (or_parts (is_local n.request.op && nat_lt q.requester.oldest q.requester.next) (n.request.fence && list_any (λ m. is_answered_op m.request.op) (begun_requests q))
+            (ap₂ (λ o y. (is_none o && is_some y) && option_map_or waits y false) (sym at) (sym (next ∙ same)) ∙ free)).0
 
     by : (r : Option Reason) → first_of (turn_refusals q) ≡ r → (o : Option Numbered) → next_request q ≡ o → from r o ≡ Performs n → IsPerformed q n
     by (Some reason) none o is turn = absurd (true≢false (sym (ap (λ t. is_some (performed_in t)) turn)))

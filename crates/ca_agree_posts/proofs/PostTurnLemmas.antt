@@ -334,12 +334,12 @@ packet-is q peer m lot room n k begun turn = by (is_too_much q n)
 -- ---- a local operation
 
 -- changes of no queue pair, which leave the bytes that windows drew
-abbrev IsDrawn : World → (n : Name) → Thing n → Type 0
+abbrev pub IsDrawn : World → (n : Name) → Thing n → Type 0
 IsDrawn w (Queue_of q) x = ⊥
 IsDrawn w (Window_of s) x = x.drawn ≡ (w.window s).drawn
 IsDrawn w n x = Unit {0}
 
-abbrev AreDrawn : World → List Update → Type 0
+abbrev pub AreDrawn : World → List Update → Type 0
 AreDrawn w [] = Unit {0}
 AreDrawn w (x ∷ xs) = IsDrawn w x.name x.thing × AreDrawn w xs
 
@@ -367,9 +367,14 @@ pub record IsLike (q p : QueuePair) : Type 0 where
   pub sends : p.sends ≡ q.sends
   pub state : p.state ≡ q.state
 
+-- what an operation revokes, where it is a Local Invalidate
+abbrev pub Revokes : SendOp → LocalMarks → Type 0
+Revokes (ops.LocalInv key) m = m.revoked ≡ Some key
+Revokes op m = Unit {0}
+
 -- how an operation's plan goes on
-abbrev OperationGoes : World → (World → List Mark → Type 0) → QueuePair → Numbered → Finishing → Type 0
-OperationGoes w P q n finish = (after : QueuePair) (m : LocalMarks) (refusal : Option OpRefusal) (cs : List Update) → IsLike q after → AreDrawn w cs → Leads w P (finish (operation_effects q n after m refusal) cs [])
+abbrev pub OperationGoes : World → (World → List Mark → Type 0) → QueuePair → Numbered → SendOp → Finishing → Type 0
+OperationGoes w P q n op finish = (after : QueuePair) (m : LocalMarks) (refusal : Option OpRefusal) (cs : List Update) → IsLike q after → Revokes op m → AreDrawn w cs → Leads w P (finish (operation_effects q n after m refusal) cs [])
 
 leads-named : (c : Configuration) (w : World) (P : World → List Mark → Type 0) (d : DomainId) (key : Key) (k : Option PlacedRegion → Plan) → ((r : Option PlacedRegion) → Leads w P (k r)) → Leads w P (With_named c d key k)
 leads-named c w P d key k more = (λ named. more (Some _), λ none. more None)
@@ -418,10 +423,10 @@ leads-invalidation c w P i k more = (λ named. more _ _ (record {}, record {}), 
     by None = more _ [] (record {})
     by (Some b) = more _ _ (refl, (record {}, record {}))
 
-leads-perform : (c : Configuration) (w : World) (P : World → List Mark → Type 0) (q : QueuePair) (n : Numbered) (finish : Finishing) (op : SendOp) → is_local op ≡ true → OperationGoes w P q n finish → Leads w P (Perform_op c q n finish op)
+pub leads-perform : (c : Configuration) (w : World) (P : World → List Mark → Type 0) (q : QueuePair) (n : Numbered) (finish : Finishing) (op : SendOp) → is_local op ≡ true → OperationGoes w P q n op finish → Leads w P (Perform_op c q n finish op)
 leads-perform c w P q n finish (ops.Bind1 window key address count rights) local more =
     leads-named c w P q.domain key (λ named. With_former x (λ former. ending named former)) (λ named. leads-former w P x (λ former. ending named former) (λ former.
-    more q (bind1_marks q n window named address count rights x) (refusal named) (unless_none (refusal named) (bind1_changes (window_slot q window) (drawn_by n) x former named address count rights)) (like-same q)
+    more q (bind1_marks q n window named address count rights x) (refusal named) (unless_none (refusal named) (bind1_changes (window_slot q window) (drawn_by n) x former named address count rights)) (like-same q) (record {})
     (unless-kept w (refusal named) (bind1_changes (window_slot q window) (drawn_by n) x former named address count rights)
     (bound (count == 0) named, drawn-append w (former_updates former) (if count == 0 then [] else named_updates former named) (former-kept w former) (regions named former (count == 0))))))
   where
@@ -445,7 +450,7 @@ leads-perform c w P q n finish (ops.Bind1 window key address count rights) local
 leads-perform c w P q n finish (ops.Bind2 window key low address count rights) local more =
     leads-named c w P q.domain key (λ named. With_former x (λ former. ending named)) (λ named. leads-former w P x (λ former. ending named) (λ former.
     more (record q { windows = suc q.windows }) (bind2_marks q window low named address count rights) (refusal named)
-    (unless_none (refusal named) (bind2_changes (window_slot q window) low q.queue x named address count rights)) (record { queue = refl; sends = refl; state = refl })
+    (unless_none (refusal named) (bind2_changes (window_slot q window) low q.queue x named address count rights)) (record { queue = refl; sends = refl; state = refl }) (record {})
     (unless-kept w (refusal named) (bind2_changes (window_slot q window) low q.queue x named address count rights) (refl, named-kept w None named))))
   where
     x : Window
@@ -458,7 +463,7 @@ leads-perform c w P q n finish (ops.Bind2 window key low address count rights) l
     ending named = finish (operation_effects q n (record q { windows = suc q.windows }) (bind2_marks q window low named address count rights) (refusal named))
         (unless_none (refusal named) (bind2_changes (window_slot q window) low q.queue x named address count rights)) []
 leads-perform c w P q n finish (ops.FastReg region low buffer address count rights pages) local more =
-    more q (fast_marks q region low buffer address count rights pages) refusal (unless_none refusal (fast_changes q region low buffer address count rights pages r)) (like-same q)
+    more q (fast_marks q region low buffer address count rights pages) refusal (unless_none refusal (fast_changes q region low buffer address count rights pages r)) (like-same q) (record {})
     (unless-kept w refusal (fast_changes q region low buffer address count rights pages r) (record {}, record {}))
   where
     r : Region
@@ -479,8 +484,8 @@ leads-perform c w P q n finish (ops.LocalInv key) local more = leads-invalidatio
 
     written : (r : Option OpRefusal) (cs : List Update) → AreDrawn w cs
         → Leads w P (With_writes c (operation_effects q n (with_window_gone (Some gone) q) m r).writes (λ ws. finish (operation_effects q n (with_window_gone (Some gone) q) m r) cs ws))
-    written None cs kept = more (with_window_gone (Some gone) q) m None cs like kept
-    written (Some cause) cs kept = more (with_window_gone (Some gone) q) m (Some cause) cs like kept
+    written None cs kept = more (with_window_gone (Some gone) q) m None cs like refl kept
+    written (Some cause) cs kept = more (with_window_gone (Some gone) q) m (Some cause) cs like refl kept
 leads-perform c w P q n finish (ops.Send list) local more = absurd (true≢false (sym local))
 leads-perform c w P q n finish (ops.SendImm imm list) local more = absurd (true≢false (sym local))
 leads-perform c w P q n finish (ops.SendInv key list) local more = absurd (true≢false (sym local))
@@ -491,7 +496,7 @@ leads-perform c w P q n finish (ops.CmpSwap address key compare swap list) local
 leads-perform c w P q n finish (ops.FetchAdd address key add list) local more = absurd (true≢false (sym local))
 
 -- what a past of this event leaves, where its turn performed the local operation that began next
-abbrev Performing : Past → QueueId → Lot → QueuePair → Numbered → LocalMarks → Past
+abbrev pub Performing : Past → QueueId → Lot → QueuePair → Numbered → LocalMarks → Past
 Performing past name lot q n m = after_marks (local_marks q m ++ success_marks q.queue n.place n.request) (at_begin (events.Request name lot) past)
 
 end-false : (a : Bool) → (a && false) ≡ false
@@ -499,7 +504,7 @@ end-false true = refl
 end-false false = refl
 
 -- a success is no failure of the operation
-performed-some : (past : Past) (name : QueueId) (lot : Lot) (q : QueuePair) (n : Numbered) (m : LocalMarks) (p : Posted) → next_operation past name ≡ Some p
+pub performed-some : (past : Past) (name : QueueId) (lot : Lot) (q : QueuePair) (n : Numbered) (m : LocalMarks) (p : Posted) → next_operation past name ≡ Some p
     → operation_performed (Performing past name lot q n m) ≡ Some p
 performed-some past name lot q n m p next = by m.revoked m.granted n.request.signalled
   where
@@ -773,7 +778,7 @@ posts-request c past w name lot up = leads-queue c w P name reasons.State (λ q.
     by : (q : QueuePair) → IsThere w q → q.queue ≡ name → (peer : Option Correspondent) (turn : RequestTurn) → turn_of q ≡ turn → Leads w P (Request_around c lot q (around_in w q (shared_of w q)) peer turn)
     by q there own peer (Waits reason) is = record {}
     by q there own peer (Performs n) is = leads-perform c w P q n (λ e changes writes. Finish (updates_of q (around_in w q (shared_of w q)) e ++ changes) writes e.marks) n.request.op does.local
-        (λ after m refusal cs like kept. ends q there own n does after m refusal cs like kept)
+        (λ after m refusal cs like revokes kept. ends q there own n does after m refusal cs like kept)
       where
         does : IsPerformed q n
         does = performs q n (there-kept w q up.steady there) there.sound.requester.begun is

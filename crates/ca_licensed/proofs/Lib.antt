@@ -1,0 +1,3 @@
+pub mod EffectLemmas
+pub mod AnswerLemmas
+pub mod SuccessLemmas
