@@ -101,7 +101,7 @@ pub record IsLeft (name : QueueId) (sends : WorkQueue PostedSend) (ended : Optio
 left-same : (name : QueueId) (sends : WorkQueue PostedSend) (ended : Option Key) (p : Past) → IsLeft name sends ended p p
 left-same name sends ended p = record { answered = refl; granted = refl; revoked = λ none. refl; gone = λ adapter key was. was; completed = λ all. all }
 
-all-more : {A : Type 0} (P : A → Type 0) (xs : List A) (x : A) → AllByRecursion P xs → P x → AllByRecursion P (xs ++ (x ∷ []))
+pub all-more : {A : Type 0} (P : A → Type 0) (xs : List A) (x : A) → AllByRecursion P xs → P x → AllByRecursion P (xs ++ (x ∷ []))
 all-more P [] x all one = (one, record {})
 all-more P (y ∷ ys) x all one = (all.0, all-more P ys x all.1 one)
 
@@ -138,7 +138,7 @@ pub record Tells (name : QueueId) (sends : WorkQueue PostedSend) (ended : Option
   pub marks : AreOf name sends ended ms
   pub gone : (p : Past) → IfSome ended (λ key. was_revoked (after_marks ms p) name.adapter key ≡ true)
 
-key-refl : (key : Key) → key_eq key key ≡ true
+pub key-refl : (key : Key) → key_eq key key ≡ true
 key-refl key = eq-eqb key.0 key.0 refl
 
 pub tells : (name : QueueId) (sends : WorkQueue PostedSend) (ended : Option Key) (ms : List Mark) → TellOf name sends ended ms → Tells name sends ended ms
