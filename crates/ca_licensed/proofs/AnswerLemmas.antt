@@ -1,6 +1,6 @@
 -- The marks of every verb but Inject and those that end or grant keys: an answer that asks for no effect, and flushes. For
 -- proofs only.
-use Rattle.std.proofs.Common.{◌≡◌, refl, arith, not, ℕ, suc, ◌++◌, ◌||◌, ◌==◌, nat_lt, Bool, true, false, if◌then◌else◌, List, [], ◌∷◌, take, length, Option, None, Some, rules}
+use Rattle.std.proofs.Common.{◌≡◌, refl, ℕ, suc, ◌++◌, ◌||◌, ◌==◌, nat_lt, Bool, true, false, if◌then◌else◌, List, [], ◌∷◌, take, length, Option, None, Some, rules}
 use Rattle.std.specs.Option.{option_map, option_map_or}
 use Rattle.ca_agree.specs.Runs.{Leads}
 use Rattle.ca_agree.proofs.LeadsLemmas.{leads-around, leads-unless}
@@ -29,7 +29,7 @@ use Rattle.ca_keys.specs.declared.names.Slot.{Slot}
 use Rattle.ca_model.specs.declared.answer.Answer.TheVariants as answers
 use Rattle.ca_model.specs.declared.answer.Answer.{Answer}
 use Rattle.ca_model.specs.declared.answer.Refusal.{Refusal}
-use Rattle.ca_model.specs.declared.answer.Refusal.TheVariants.{NoDomain, NoSuch, OutOfRange, SlotTaken}
+use Rattle.ca_model.specs.declared.answer.Refusal.TheVariants.{NoSuch, OutOfRange}
 use Rattle.ca_model.specs.declared.mark.Mark.{Mark}
 use Rattle.ca_model.specs.declared.mark.Mark.TheVariants as marks
 use Rattle.ca_model.specs.declared.verb.Verb.{Verb}
@@ -39,15 +39,14 @@ use Rattle.ca_model.specs.machine.CompletionVerbs.{Poll_of, Take_plan, With_plac
 use Rattle.ca_model.specs.machine.Plan.{Plan, If, Look, Stuck, Update, ◌:=◌}
 use Rattle.ca_model.specs.machine.PostingVerbs.{Posted_send, after_flush, marks_of_flush, post_recv_plan, post_recv_refusals, post_send_plan, post_send_refusals, with_send}
 use Rattle.ca_model.specs.machine.QueuePairVerbs.{With_present, beside, emptied_mailbox, emptied_updates, modify_qp_plan}
-use Rattle.ca_model.specs.machine.Step.{bytes_of_buffer, run_of, verb_plan}
-use Rattle.ca_model.specs.machine.VerbAnswers.{Answer_plan, Call, Refuse_plan, Unless_plan, of_change_refusals, of_region_refusals}
-use Rattle.ca_model.specs.machine.World.{Cq_of, Domain_of, Mailbox_of, Queue_of, Region_of, Window_of, World}
+use Rattle.ca_model.specs.machine.Step.{verb_plan}
+use Rattle.ca_model.specs.machine.VerbAnswers.{Answer_plan, Call, Refuse_plan, Unless_plan, of_change_refusals}
+use Rattle.ca_model.specs.machine.World.{Cq_of, Mailbox_of, Queue_of, Window_of, World}
 use Rattle.ca_model.specs.machine.Around.{Around, With_around, completions_to, cq_updates}
 use Rattle.ca_laws_sound.proofs.WorldLemmas.{around_in, shared_of}
 use Rattle.ca_base.specs.declared.queue_numbers.Message.{Message}
 use Rattle.ca_base.specs.declared.queue_numbers.Message.TheVariants as messages
 use Rattle.ca_base.specs.declared.request.PostedSend.{PostedSend}
-use Rattle.ca_keys.specs.declared.names.QueueId.{QueueId}
 use Rattle.ca_model.specs.Licensed.{is_effective}
 use Rattle.ca_model.specs.Past.{Past, after_verb, is_send_success}
 

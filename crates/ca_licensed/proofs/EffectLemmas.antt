@@ -1,13 +1,12 @@
 -- What marks leave of successes and of their effects. For proofs only.
-use Rattle.std.proofs.Common.{◌≡◌, ℕ, Bool, true, false, ◌&&◌, ◌||◌, ◌==◌, not, if◌then◌else◌, List, [], ◌∷◌, ◌++◌, Option, None, Some, IfSome, is_some, slice_get, refl, sym, ap, ap₂, subst, ◌∙◌, true≢false}
+use Rattle.std.proofs.Common.{◌≡◌, ℕ, Bool, true, false, ◌&&◌, ◌||◌, not, if◌then◌else◌, List, [], ◌∷◌, ◌++◌, Option, None, Some, IfSome, is_some, slice_get, refl, sym, ap, ap₂, subst, ◌∙◌, true≢false}
 use Rattle.std.proofs.lemmas.Bool.{eq-eqb}
 use Rattle.std.specs.List.{AllByRecursion, list_all, list_any}
 use Rattle.std.specs.Option.{option_and_then, option_map_or}
-use Rattle.ca_agree.specs.Agreement.{PathsAgree}
-use Rattle.ca_agree_posts.proofs.GoingLemmas.{AreKeyless, EndKey, IsKeyless, IsOwnDone, IsPacketAt, TellOf}
+use Rattle.ca_agree_posts.proofs.GoingLemmas.{AreKeyless, EndKey, IsKeyless, IsOwnDone, TellOf}
 use Rattle.ca_agree_posts.proofs.PlaceLemmas.{IsPostedAt, item-posted}
 use Rattle.ca_agree_posts.proofs.PostLemmas.{IsNoRequest, SamePosts}
-use Rattle.ca_agree_posts.specs.Posts.{AgreeInSlot, AgreeOnSends, PostsAgree, as_posted, life}
+use Rattle.ca_agree_posts.specs.Posts.{AgreeInSlot, PostsAgree, life}
 use Rattle.ca_base.specs.declared.completion.Completion.{Completion}
 use Rattle.ca_base.specs.declared.request.PostedSend.{PostedSend}
 use Rattle.ca_base.specs.declared.request.SendOp.{SendOp}

@@ -1,3 +1,5 @@
 pub mod EffectLemmas
 pub mod AnswerLemmas
 pub mod SuccessLemmas
+pub mod PerformedLemmas
+pub mod EffectEventLemmas

@@ -1,29 +1,24 @@
 -- Every event has its effects as it ends, and so has every history that follows the machine. For proofs only.
-use Rattle.std.proofs.Common.{◌≡◌, ℕ, suc, ◌<◌, ◌==◌, ◌&&◌, ◌||◌, Bool, true, false, not, if◌then◌else◌, List, [], ◌∷◌, ◌++◌, map, Option, None, Some, Ok, Err, IfSome, is_none, is_some, slice_get, find, refl, sym, ap, ap₂, subst, ◌∙◌, arith, rules, true≢false}
-use Rattle.std.proofs.lemmas.Bool.{and_parts, eq-eqb, eqb-true, ltb-false}
+use Rattle.std.proofs.Common.{◌≡◌, ℕ, ◌<◌, ◌==◌, ◌&&◌, ◌||◌, Bool, true, false, not, if◌then◌else◌, List, [], ◌∷◌, ◌++◌, Option, None, Some, IfSome, is_some, refl, sym, ap, ap₂, subst, ◌∙◌, arith, rules, true≢false}
+use Rattle.std.proofs.lemmas.Bool.{eq-eqb}
 use Rattle.std.proofs.lemmas.Bool.Decides.{nat_tests}
 use Rattle.std.proofs.lemmas.Option.{same_Some}
-use Rattle.std.specs.List.{AllByRecursion, list_all, list_any}
+use Rattle.std.specs.List.{AllByRecursion, list_all}
 use Rattle.std.specs.Option.{option_and_then, option_map, option_map_or}
-use Rattle.ca_agree.proofs.EventFitLemmas.{first-marks}
-use Rattle.ca_agree.proofs.LeadsLemmas.{comes, leads-around, leads-queue, leads-unless, leads-weaker}
+use Rattle.ca_agree.proofs.LeadsLemmas.{leads-around, leads-queue, leads-unless, leads-weaker}
 use Rattle.ca_agree.proofs.PathChangeLemmas.{Behind}
 use Rattle.ca_agree.proofs.PathLemmas.{marks-append}
 use Rattle.ca_agree.proofs.PathVerbLemmas.{call_of}
-use Rattle.ca_agree.specs.Runs.{Comes, Leads}
-use Rattle.ca_agree_keys.proofs.ChangeLemmas.{at-region-slot, at-window-slot, region-small, window-small}
-use Rattle.ca_agree_keys.proofs.KeyEventLemmas.{event-keys-agree, opening-keys-agree}
+use Rattle.ca_agree.specs.Runs.{Leads}
+use Rattle.ca_agree_keys.proofs.ChangeLemmas.{at-region-slot, at-window-slot}
 use Rattle.ca_agree_keys.proofs.KeyTurnLemmas.{IsUp, found}
 use Rattle.ca_agree_keys.proofs.SightLemmas.{over}
-use Rattle.ca_agree_keys.proofs.SlotLemmas.{key-slot-refl}
-use Rattle.ca_agree_keys.specs.InForce.{KeysAgree, grant_in_force, grant_over_regions}
-use Rattle.ca_agree_posts.proofs.GoingLemmas.{Goes, arrival-goes, failure-goes, respond-goes, timeout-goes, flush-keyless}
-use Rattle.ca_agree_posts.proofs.PostEventLemmas.{event-posts-agree, opening-posts-agree}
+use Rattle.ca_agree_keys.specs.InForce.{grant_in_force, grant_over_regions}
+use Rattle.ca_agree_posts.proofs.GoingLemmas.{arrival-goes, respond-goes, timeout-goes}
 use Rattle.ca_agree_posts.proofs.PostLemmas.{AreNoAnswers, IsNoRequest, SamePosts, answers-append, keyless-no, leads-goes, no-answers, same-posts, tells-no}
 use Rattle.ca_agree_posts.proofs.PostTurnLemmas.{IsPosted, sent-quiet}
 use Rattle.ca_agree_posts.specs.Posts.{PostsAgree}
 use Rattle.ca_base.specs.Configuration.{Configuration}
-use Rattle.ca_base.specs.Sight.{Invalidation}
 use Rattle.ca_base.specs.declared.completion.Completion.{Completion}
 use Rattle.ca_base.specs.declared.correspondent.Correspondent.{Correspondent}
 use Rattle.ca_base.specs.declared.lot.Lot.{Lot}
@@ -33,25 +28,17 @@ use Rattle.ca_base.specs.objects.Mailbox.{Mailbox, after_delivery, bytes_lent, i
 use Rattle.ca_base.specs.objects.QueuePair.{QueuePair, QueueSlot, NoQueue, Present}
 use Rattle.ca_base.specs.objects.WorkQueue.{WorkQueue}
 use Rattle.ca_grant.specs.KeySlot.{HaveSlotsApart, is_at_slot_of}
-use Rattle.ca_keys.specs.Memory.{ByteMap}
 use Rattle.ca_keys.specs.declared.grant.Grant.{Grant}
 use Rattle.ca_keys.specs.declared.key.Key.{Key}
 use Rattle.ca_keys.specs.declared.names.QueueId.{QueueId}
 use Rattle.ca_keys.specs.declared.names.Slot.{Slot}
-use Rattle.ca_laws_names.proofs.PlacedLemmas.{event-placed, opening-placed}
-use Rattle.ca_laws_sound.proofs.SoundLemmas.{event-sound, opening-sound}
 use Rattle.ca_laws_sound.proofs.WorldLemmas.{IsThere, around_in, shared_of}
-use Rattle.ca_laws_steady.proofs.EventLemmas.{event-steady, opening-steady}
 use Rattle.ca_laws_steady.proofs.TurnLemmas.{there-kept}
 use Rattle.ca_laws_steady.specs.Steady.{IsSteadyWorld}
-use Rattle.ca_laws_windows.proofs.WindowEventLemmas.{event-bound, opening-bound}
-use Rattle.ca_laws_windows.specs.Bindings.{IsBoundWorld}
-use Rattle.ca_laws_names.specs.Placed.{IsPlacedWorld}
 use Rattle.ca_licensed.proofs.AnswerLemmas.{Answers, AreAnswered, AreFlushes, IsFlush, quiet-verb, refused-fine, IsQuietVerb}
 use Rattle.ca_licensed.proofs.EffectLemmas.{AreOf, IsLeft, Tells, all-effective, both-true, effective, keyless-of, left-by, not-performed, of-append, tells, all-more, key-refl}
-use Rattle.ca_model.specs.Entries.{EntryValue}
 use Rattle.ca_model.specs.Licensed.{completion_is_effective, grants_by_performing, is_effective, operation_is_effective, is_effective_at_end, is_of_slot, was_revoked, invalidation_is_effective}
-use Rattle.ca_model.specs.Past.{KeySlot, Past, after_entry, after_mark, after_marks, at_begin, at_end, each_entry, each_mark, is_send_success, key_slot_eq, key_slot_of, opening_past, operation_performed, region_key_slot, window_key_slot, after_verb, posted_at}
+use Rattle.ca_model.specs.Past.{KeySlot, Past, after_mark, after_marks, at_begin, key_slot_eq, key_slot_of, operation_performed, region_key_slot, window_key_slot, after_verb, posted_at}
 use Rattle.ca_model.specs.declared.answer.Answer.TheVariants as answers
 use Rattle.ca_model.specs.declared.answer.Refusal.TheVariants.{NoSuch, NoDomain, SlotTaken}
 use Rattle.ca_model.specs.declared.event.Event.{Event}
@@ -62,18 +49,15 @@ use Rattle.ca_model.specs.declared.verb.Verb.{Verb}
 use Rattle.ca_model.specs.declared.verb.Verb.TheVariants as verbs
 use Rattle.ca_model.specs.machine.Around.{Around, With_around, shared_in, updates_of}
 use Rattle.ca_model.specs.machine.Delivery.{Arrive, arrival_row, deliver_plan}
-use Rattle.ca_model.specs.machine.Frame.{Afterwards}
 use Rattle.ca_model.specs.machine.HostVerbs.{inject_plan}
-use Rattle.ca_model.specs.machine.Plan.{Plan, Did, NotReady, Outcome, Stuck, Look, Finish, Update, ◌:=◌, Write, unless_refused}
+use Rattle.ca_model.specs.machine.Plan.{Plan, Stuck, Look, Finish, Update, ◌:=◌, Write, unless_refused}
 use Rattle.ca_model.specs.machine.Respond.{respond_refusals, respond_row}
 use Rattle.ca_model.specs.machine.Row.{Effects, Row_plan, grant_over, region_under}
-use Rattle.ca_model.specs.machine.Run.{Follows, Ran, go_on, run_from}
-use Rattle.ca_model.specs.machine.Sound.{AreLimited, CanBeMade, IsSoundWorld}
-use Rattle.ca_model.specs.machine.Step.{is_named, plan, step, verb_plan}
+use Rattle.ca_model.specs.machine.Step.{verb_plan}
 use Rattle.ca_model.specs.machine.Timers.{after_timeout, after_wake, timeout_refusals, wake_refusals}
 use Rattle.ca_model.specs.machine.Turns.{Fire, Leave_plan, Packet, Respond_around, Timeout_around, With_receives, has_room_for, packet_sent, reaches_peer, respond_plan, sent_marks, timeout_plan, wake_plan}
 use Rattle.ca_model.specs.machine.VerbAnswers.{Call, Refuse_plan, answer_mark, Answer_plan, of_region_refusals}
-use Rattle.ca_model.specs.machine.World.{Mailbox_of, Queue_of, World, opening_world, Domain_of, Region_of, Window_of}
+use Rattle.ca_model.specs.machine.World.{Mailbox_of, Queue_of, World, Domain_of, Region_of, Window_of}
 use Rattle.ca_model.specs.declared.answer.Refusal.{Refusal}
 use Rattle.ca_keys.specs.declared.place.Run.{Run}
 use Rattle.ca_keys.specs.declared.rights.Rights.{Rights}
@@ -125,7 +109,7 @@ turn-effective w q event ended ms p turn begins nothing fine agree is quiet told
     ended-so : (operation_performed r ≡ None) × (grants_by_performing r ≡ true)
     ended-so = not-performed r event turn (same.event ∙ begins)
 
-sent-of : (name : QueueId) (sends : WorkQueue PostedSend) (ended : Option Key) (q : QueuePair) (peer : Correspondent) (m : Mailbox) (lot : Lot) (o : Option Packet) → AreOf name sends ended (option_map_or (sent_marks q peer m lot) o [])
+pub sent-of : (name : QueueId) (sends : WorkQueue PostedSend) (ended : Option Key) (q : QueuePair) (peer : Correspondent) (m : Mailbox) (lot : Lot) (o : Option Packet) → AreOf name sends ended (option_map_or (sent_marks q peer m lot) o [])
 sent-of name sends ended q peer m lot None = record {}
 sent-of name sends ended q peer m lot (Some x) = by (reaches_peer q peer m) (is_lost lot)
   where
@@ -136,7 +120,7 @@ sent-of name sends ended q peer m lot (Some x) = by (reaches_peer q peer m) (is_
     by true false = (record {}, record {})
     by false z = (record {}, (record {}, record {}))
 
-effects-respond : (c : Configuration) (past : Past) (w : World) (name : QueueId) (lot : Lot) → IsPosted c past w → Leads w (Effective past (events.Respond name lot)) (respond_plan c name lot)
+pub effects-respond : (c : Configuration) (past : Past) (w : World) (name : QueueId) (lot : Lot) → IsPosted c past w → Leads w (Effective past (events.Respond name lot)) (respond_plan c name lot)
 effects-respond c past w name lot up = leads-queue c w P name reasons.State (λ q. With_around q (λ a. Respond_around c lot q a q.peer))
     (λ q is. leads-around w P q (λ a. Respond_around c lot q a q.peer) (by q (found c w name q up.sound is) q.peer))
   where
@@ -153,7 +137,7 @@ effects-respond c past w name lot up = leads-queue c w P name reasons.State (λ 
         (tells-then q.queue q.sends (option_map (λ i. i.key) i) e.marks (option_map_or (sent_marks q peer (w.mailbox peer.queue) lot) (packet_sent e) [])
         (tells q.queue q.sends (option_map (λ i. i.key) i) e.marks goes.marks) (sent-of q.queue q.sends (option_map (λ i. i.key) i) q peer (w.mailbox peer.queue) lot (packet_sent e))))
 
-effects-timeout : (c : Configuration) (past : Past) (w : World) (name : QueueId) (hasten : Bool) → IsPosted c past w → Leads w (Effective past (events.Timeout name hasten)) (timeout_plan c name hasten)
+pub effects-timeout : (c : Configuration) (past : Past) (w : World) (name : QueueId) (hasten : Bool) → IsPosted c past w → Leads w (Effective past (events.Timeout name hasten)) (timeout_plan c name hasten)
 effects-timeout c past w name hasten up =
     leads-queue c w P name reasons.State (λ q. Look (Mailbox_of name) (λ own. With_around q (λ a. Timeout_around hasten q own a q.peer)))
     (λ q is. leads-around w P q (λ a. Timeout_around hasten q (w.mailbox name) a q.peer) (by q (found c w name q up.sound is) q.peer))
@@ -190,7 +174,7 @@ effects-arrive c w P q bytes envelope pre ms steady there more =
     behind : (e : Effects) (ended : Option Key) → Tells q.queue q.sends ended e.marks → Tells q.queue q.sends ended (marks.Arrived q.queue envelope ∷ e.marks)
     behind e ended told = record { marks = (record {}, told.marks); gone = λ p. told.gone (after_mark (marks.Arrived q.queue envelope) p) }
 
-effects-deliver : (c : Configuration) (past : Past) (w : World) (name : QueueId) (index : ℕ) → IsPosted c past w → Leads w (Effective past (events.Deliver name index)) (deliver_plan c name index)
+pub effects-deliver : (c : Configuration) (past : Past) (w : World) (name : QueueId) (index : ℕ) → IsPosted c past w → Leads w (Effective past (events.Deliver name index)) (deliver_plan c name index)
 effects-deliver c past w name index up = (λ has. lent (bytes_lent index (w.mailbox name)), λ none. record {})
   where
     P : World → List Mark → Type 0
@@ -216,7 +200,7 @@ effects-deliver c past w name index up = (λ has. lent (bytes_lent index (w.mail
     lent None = record {}
     lent (Some bytes) = there bytes (w.queue name) refl
 
-effects-wake : (c : Configuration) (past : Past) (w : World) (name : QueueId) → Leads w (Effective past (events.RnrWake name)) (wake_plan c name)
+pub effects-wake : (c : Configuration) (past : Past) (w : World) (name : QueueId) → Leads w (Effective past (events.RnrWake name)) (wake_plan c name)
 effects-wake c past w name = leads-queue c w P name reasons.State (λ q. waking q q.peer) (λ q is. by q q.peer)
   where
     P : World → List Mark → Type 0
@@ -311,22 +295,22 @@ answered-effective past by verb v (marks.Dropped target cause ∷ ms) all = absu
 answered-effective past by verb v (marks.Timer queue silently ∷ ms) all = absurd all
 answered-effective past by verb v (marks.Done queue x cause ∷ ms) all = absurd all
 
-effects-refused : (past : Past) (w : World) (by : ℕ) (verb : Verb) → Leads w (Effective past (events.Verb by verb)) (Refuse_plan (call_of by verb) NoSuch)
+pub effects-refused : (past : Past) (w : World) (by : ℕ) (verb : Verb) → Leads w (Effective past (events.Verb by verb)) (Refuse_plan (call_of by verb) NoSuch)
 effects-refused past w by verb = answered-effective past by verb w (marks.Verb by verb (answers.Refused NoSuch) ∷ []) (refused-fine verb NoSuch, record {})
 
 effects-refuses : (past : Past) (w : World) (by : ℕ) (verb : Verb) (r : Refusal) → Leads w (Effective past (events.Verb by verb)) (Refuse_plan (call_of by verb) r)
 effects-refuses past w by verb r = answered-effective past by verb w (marks.Verb by verb (answers.Refused r) ∷ []) (refused-fine verb r, record {})
 
-effects-quiet : (c : Configuration) (past : Past) (w : World) (by : ℕ) (verb : Verb) → IsQuietVerb verb → Leads w (Effective past (events.Verb by verb)) (verb_plan c (call_of by verb) verb)
+pub effects-quiet : (c : Configuration) (past : Past) (w : World) (by : ℕ) (verb : Verb) → IsQuietVerb verb → Leads w (Effective past (events.Verb by verb)) (verb_plan c (call_of by verb) verb)
 effects-quiet c past w by verb quiet = leads-weaker w (Answers (call_of by verb)) (Effective past (events.Verb by verb)) (verb_plan c (call_of by verb) verb)
     (λ v ms all. answered-effective past by verb v ms all) (quiet-verb c w by verb quiet)
 
 -- a key that was revoked just now
-revoked-here : (adapter : ℕ) (key other : Key) → key ≡ other → (((adapter == adapter) && key_eq key other) || false) ≡ true
+pub revoked-here : (adapter : ℕ) (key other : Key) → key ≡ other → (((adapter == adapter) && key_eq key other) || false) ≡ true
 revoked-here adapter key other same = ap₂ (λ a b. (a && b) || false) (eq-eqb adapter adapter refl) (ap (λ x. key_eq x other) same ∙ key-refl other)
 
 -- a registration grants its key
-effects-reg_mr : (past : Past) (w : World) (by : ℕ) (s : Slot) (buffer offset count bytes : ℕ) (at : Run) (rights : Rights)
+pub effects-reg_mr : (past : Past) (w : World) (by : ℕ) (s : Slot) (buffer offset count bytes : ℕ) (at : Run) (rights : Rights)
     → Leads w (Effective past (events.Verb by (verbs.RegMr s buffer offset count rights))) (reg_mr_plan (call_of by (verbs.RegMr s buffer offset count rights)) s at bytes rights)
 effects-reg_mr past w by s buffer offset count bytes at rights = leads-unless w P ((not (w.domain s.domain).allocated, NoDomain) ∷ (not (is_vacant_region region), SlotTaken) ∷ of_region_refusals (registration_refusals at bytes rights))
     (Refuse_plan call) (Answer_plan call (answers.Key h.key) ((Domain_of s.domain := with_object (w.domain s.domain)) ∷ (Region_of s := after_registration s at rights region) ∷ []) (marks.Granted h ∷ []))
@@ -379,7 +363,7 @@ slot-revoked r gs s index k place apart gone = by gs (in-force gs k apart)
             here = grind (arith, nat_tests, e)
 
 -- a deregistration ends its key
-effects-dereg_mr : (c : Configuration) (past : Past) (w : World) (by : ℕ) (s : Slot) → IsUp c past w → s.slot < 0x8000
+pub effects-dereg_mr : (c : Configuration) (past : Past) (w : World) (by : ℕ) (s : Slot) → IsUp c past w → s.slot < 0x8000
     → Leads w (Effective past (events.Verb by (verbs.DeregMr s))) (dereg_mr_plan (call_of by (verbs.DeregMr s)) s)
 effects-dereg_mr c past w by s up small = leads-unless w P (of_region_refusals (deregistration_refusals region)) (Refuse_plan call)
     (Answer_plan call answers.Fine changed (told (grant_of_region region))) (effects-refuses past w by (verbs.DeregMr s)) (gone (grant_of_region region) refl)
@@ -411,7 +395,7 @@ effects-dereg_mr c past w by s up small = leads-unless w P (of_region_refusals (
         (λ g in-slot. revoked-here s.domain.adapter h.key g.key (ap (λ (x : Grant). x.key) (same_Some h g (sym (stands ∙ is) ∙ in-slot))))) refl refl refl
 
 -- a deallocation ends its key
-effects-dealloc_mw : (c : Configuration) (past : Past) (w : World) (by : ℕ) (s : Slot) → IsUp c past w → s.slot < 0x8000
+pub effects-dealloc_mw : (c : Configuration) (past : Past) (w : World) (by : ℕ) (s : Slot) → IsUp c past w → s.slot < 0x8000
     → Leads w (Effective past (events.Verb by (verbs.DeallocMw s))) (dealloc_mw_plan (call_of by (verbs.DeallocMw s)) s)
 effects-dealloc_mw c past w by s up small = leads-unless w P ((window.kind == 0, NoSuch) ∷ []) (Refuse_plan call) (plan-of window.binding) (effects-refuses past w by (verbs.DeallocMw s)) (at window.binding refl)
   where
@@ -467,7 +451,7 @@ effects-dealloc_mw c past w by s up small = leads-unless w P ((window.kind == 0,
         (λ g in-slot. absurd (true≢false (sym (ap is_some (sym (stands ∙ ap (option_and_then (λ b. grant_over window b (w.region (region_under window b)))) is) ∙ in-slot)))))) refl refl refl
     at (Some b) is = binder b is b.queue
 
-effects-inject : (c : Configuration) (past : Past) (w : World) (by : ℕ) (q : QueueId) (bytes : List ℕ) → IsPosted c past w
+pub effects-inject : (c : Configuration) (past : Past) (w : World) (by : ℕ) (q : QueueId) (bytes : List ℕ) → IsPosted c past w
     → Leads w (Effective past (events.Verb by (verbs.Inject q bytes))) (inject_plan c (call_of by (verbs.Inject q bytes)) q bytes)
 effects-inject c past w by q bytes up = at (w.queue q) refl
   where
