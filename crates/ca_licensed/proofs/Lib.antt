@@ -3,3 +3,4 @@ pub mod AnswerLemmas
 pub mod SuccessLemmas
 pub mod PerformedLemmas
 pub mod EffectEventLemmas
+pub mod AloneLemmas

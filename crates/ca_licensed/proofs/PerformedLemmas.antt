@@ -86,11 +86,11 @@ still-effective past w name lot q v ms agree is quiet of none =
 
 -- ---- a packet of a request
 
-record IsSentPacket (q : QueuePair) (peer : Correspondent) (m : Mailbox) (lot : Lot) (e : Effects) : Type 0 where
-  packet : IsPacket q peer m lot e
-  keyless : AreKeyless q.queue q.sends None e.marks
+pub record IsSentPacket (q : QueuePair) (peer : Correspondent) (m : Mailbox) (lot : Lot) (e : Effects) : Type 0 where
+  pub packet : IsPacket q peer m lot e
+  pub keyless : AreKeyless q.queue q.sends None e.marks
 
-packet-sent : (q : QueuePair) (peer : Correspondent) (m : Mailbox) (lot : Lot) (room : Bool) (n : Numbered) → RowDoes (IsPacket q peer m lot) (packet_row q room n) → RowDoes (IsSentPacket q peer m lot) (packet_row q room n)
+pub packet-sent : (q : QueuePair) (peer : Correspondent) (m : Mailbox) (lot : Lot) (room : Bool) (n : Numbered) → RowDoes (IsPacket q peer m lot) (packet_row q room n) → RowDoes (IsSentPacket q peer m lot) (packet_row q room n)
 packet-sent q peer m lot room n = by (is_too_much q n)
   where
     row : Row

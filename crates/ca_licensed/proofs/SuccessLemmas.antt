@@ -157,7 +157,7 @@ effects-timeout c past w name hasten up =
     by q there (Some peer) = fire q there _
 
 -- a packet that arrives, behind marks that come first
-effects-arrive : (c : Configuration) (w : World) (P : World → List Mark → Type 0) (q : QueuePair) (bytes : List ℕ) (envelope : Option ℕ) (pre : List Update) (ms : List Mark) → IsSteadyWorld w → IsThere w q
+pub effects-arrive : (c : Configuration) (w : World) (P : World → List Mark → Type 0) (q : QueuePair) (bytes : List ℕ) (envelope : Option ℕ) (pre : List Update) (ms : List Mark) → IsSteadyWorld w → IsThere w q
     → ((v : World) (ended : Option Key) (ns : List Mark) → AreNoAnswers ns → Tells q.queue q.sends ended ns → P v (ms ++ ns)) → Leads w P (Arrive c q bytes envelope pre ms)
 effects-arrive c w P q bytes envelope pre ms steady there more =
     leads-around w P q (λ a. Row_plan c (arrival_row bytes envelope (shared_in a) q) (finish a))

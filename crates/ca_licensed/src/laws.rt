@@ -2,6 +2,7 @@ ghost use Rattle.std.specs.List.{AllByRecursion};
 ghost use Rattle.std.specs.Prelude.{List};
 ghost use Rattle.ca_base.specs.Configuration.{Configuration};
 ghost use Rattle.ca_keys.specs.Memory.{ByteMap};
+ghost use Rattle.ca_licensed.specs.Alone.{AreAlone};
 ghost use Rattle.ca_licensed.specs.Effects.{HaveTheirEffects};
 ghost use Rattle.ca_model.specs.Entries.{EntryValue};
 ghost use Rattle.ca_model.specs.machine.Run.{Follows};
@@ -16,4 +17,11 @@ pub fn successes_have_their_effects()
     ensures { (c : Configuration) (bytes : ByteMap) (es : List EntryValue) → AreLimited c
         → AllByRecursion (λ e. CanBeMade e.event) es → Follows c bytes es
         → HaveTheirEffects bytes es }
+{}
+
+/// In a history that follows the machine each key comes into force where no other grant in force has its key slot. This
+/// is the part of Licensed that speaks of key slots.
+pub fn grants_stand_alone()
+    ensures { (c : Configuration) (bytes : ByteMap) (es : List EntryValue)
+        → AreLimited c → AllByRecursion (λ e. CanBeMade e.event) es → Follows c bytes es → AreAlone bytes es }
 {}
