@@ -1,5 +1,5 @@
 -- Turns and packets keep the agreement on posted requests. For proofs only.
-use Rattle.std.proofs.Common.{◌≡◌, ℕ, suc, ◌+◌, ◌<◌, ◌≤◌, ◌==◌, ◌&&◌, ◌||◌, Bool, true, false, not, if◌then◌else◌, List, [], ◌∷◌, ◌++◌, length, map, take, drop, Option, None, Some, is_some, slice_get, refl, sym, ap, ap₂, subst, ◌∙◌, arith, rules, true≢false}
+use Rattle.std.proofs.Common.{IfSome, ◌≡◌, ℕ, suc, ◌+◌, ◌<◌, ◌≤◌, ◌==◌, ◌&&◌, ◌||◌, Bool, true, false, not, if◌then◌else◌, List, [], ◌∷◌, ◌++◌, length, map, take, drop, Option, None, Some, is_some, slice_get, refl, sym, ap, ap₂, subst, ◌∙◌, arith, rules, true≢false}
 use Rattle.std.proofs.lemmas.Bool.Decides.{nat_tests}
 use Rattle.std.specs.List.{list_any}
 use Rattle.std.specs.Option.{option_and_then, option_map, option_map_or}
@@ -24,15 +24,15 @@ use Rattle.ca_base.specs.declared.refusals.OpRefusal.{OpRefusal}
 use Rattle.ca_base.specs.declared.request.SendOp.{SendOp}
 use Rattle.ca_base.specs.declared.request.SendOp.TheVariants as ops
 use Rattle.ca_base.specs.declared.step.Reason.TheVariants as reasons
-use Rattle.ca_base.specs.objects.LocalRequest.{LocalMarks}
+use Rattle.ca_base.specs.objects.LocalRequest.{LocalMarks, region_refusal, unnamed_refusal, window_refusal}
 use Rattle.ca_base.specs.objects.Mailbox.{Mailbox, after_delivery, after_send, bytes_lent, is_lost}
 use Rattle.ca_base.specs.objects.CompletionQueue.{after_puts}
 use Rattle.ca_base.specs.objects.WorkQueue.{next_place}
 use Rattle.ca_base.specs.objects.QueuePair.{QueuePair, QueueSlot, NoQueue, Present, recv_cq_of, send_cq_of}
 use Rattle.ca_base.specs.objects.Region.{Region, with_window_unbound}
 use Rattle.ca_base.specs.objects.LocalRequest.{window_refusal}
-use Rattle.ca_base.specs.objects.Slices.{slot_of_key}
-use Rattle.ca_base.specs.objects.Window.{Binding, Window, after_binding, without_binding}
+use Rattle.ca_base.specs.objects.Slices.{slot_of_key, names_window}
+use Rattle.ca_base.specs.objects.Window.{Binding, Window, after_binding, without_binding, bound_key}
 use Rattle.ca_keys.specs.Equal.{queue_eq}
 use Rattle.ca_keys.specs.declared.grant.Grant.{Grant}
 use Rattle.ca_keys.specs.declared.key.Key.{Key}
@@ -62,7 +62,7 @@ use Rattle.ca_model.specs.machine.Plan.{Plan, Stuck, Look, Finish, Update, ◌:=
 use Rattle.ca_model.specs.machine.Requester.{Performs, RequestTurn, Sends, Waits, begins, denied_list_effects, is_outstanding, is_too_much, local_denial, next_request, packet_asks, packet_row, sent_packet, turn_of, turn_refusals}
 use Rattle.ca_model.specs.machine.Respond.{respond_refusals, respond_row}
 use Rattle.ca_model.specs.machine.Row.{Does, Effects, NotPossible, Row, Row_plan, With_invalidation, With_writes, plain_row, region_under, unless_none}
-use Rattle.ca_model.specs.machine.Seen.{ending_changes}
+use Rattle.ca_model.specs.machine.Seen.{ending_changes, refusal_in}
 use Rattle.ca_model.specs.machine.Sound.{IsQueueOf, IsSoundWorld}
 use Rattle.ca_model.specs.machine.Timers.{after_timeout, after_wake, timeout_refusals, wake_refusals}
 use Rattle.ca_model.specs.machine.Turns.{Fire, Leave_plan, Packet, Request_around, Respond_around, Timeout_around, With_receives, has_room_for, packet_sent, reaches_peer, request_plan, respond_plan, sent_marks, sent_updates, timeout_plan, wake_plan}
@@ -373,8 +373,8 @@ Revokes (ops.LocalInv key) m = m.revoked ≡ Some key
 Revokes op m = Unit {0}
 
 -- how an operation's plan goes on
-abbrev pub OperationGoes : World → (World → List Mark → Type 0) → QueuePair → Numbered → SendOp → Finishing → Type 0
-OperationGoes w P q n op finish = (after : QueuePair) (m : LocalMarks) (refusal : Option OpRefusal) (cs : List Update) → IsLike q after → Revokes op m → AreDrawn w cs → Leads w P (finish (operation_effects q n after m refusal) cs [])
+abbrev pub OperationGoes : (Key → Type 0) → World → (World → List Mark → Type 0) → QueuePair → Numbered → SendOp → Finishing → Type 0
+OperationGoes R w P q n op finish = (after : QueuePair) (m : LocalMarks) (refusal : Option OpRefusal) (cs : List Update) → IsLike q after → Revokes op m → (refusal ≡ None → IfSome m.revoked R) → AreDrawn w cs → Leads w P (finish (operation_effects q n after m refusal) cs [])
 
 leads-named : (c : Configuration) (w : World) (P : World → List Mark → Type 0) (d : DomainId) (key : Key) (k : Option PlacedRegion → Plan) → ((r : Option PlacedRegion) → Leads w P (k r)) → Leads w P (With_named c d key k)
 leads-named c w P d key k more = (λ named. more (Some _), λ none. more None)
@@ -407,8 +407,14 @@ like-same q = record { queue = refl; sends = refl; state = refl }
 
 -- an invalidation leaves the bytes that windows drew
 leads-invalidation : (c : Configuration) (w : World) (P : World → List Mark → Type 0) (i : Invalidation) (k : Option OpRefusal → List Update → Plan)
-    → ((r : Option OpRefusal) (cs : List Update) → AreDrawn w cs → Leads w P (k r cs)) → Leads w P (With_invalidation c (Some i) k)
-leads-invalidation c w P i k more = (λ named. more _ _ (record {}, record {}), λ none. (λ named. by (w.window slot).binding, λ none. more _ [] (record {})))
+    → ((r : Option OpRefusal) (cs : List Update) → (r ≡ None → refusal_in c w i ≡ None) → AreDrawn w cs → Leads w P (k r cs)) → Leads w P (With_invalidation c (Some i) k)
+leads-invalidation c w P i k more = (
+  λ named. more (region_refusal i.key (w.region slot)) _ (λ is. ap (λ b. pick b (names_window c i.domain i.key)) named ∙ is) (record {}, record {}),
+  λ none. (
+    λ named. by (ap₂ pick none named) (w.window slot).binding,
+    λ other. more (Some (unnamed_refusal i.key)) [] (λ is. ap₂ pick none other ∙ is) (record {}),
+  ),
+)
   where
     slot : Slot
     slot = slot_of_key i.domain i.key
@@ -419,14 +425,24 @@ leads-invalidation c w P i k more = (λ named. more _ _ (record {}, record {}), 
         k (window_refusal i.key i.queue (w.window slot))
         ((Window_of slot := without_binding (w.window slot)) ∷ (Region_of (region_under (w.window slot) b) := with_window_unbound region) ∷ []))
 
-    by : (o : Option Binding) → Leads w P (plan o)
-    by None = more _ [] (record {})
-    by (Some b) = more _ _ (refl, (record {}, record {}))
+    pick : Bool → Bool → Option OpRefusal
+    pick r y = if r then region_refusal i.key (w.region slot) else if y then window_refusal i.key i.queue (w.window slot) else Some (unnamed_refusal i.key)
 
-pub leads-perform : (c : Configuration) (w : World) (P : World → List Mark → Type 0) (q : QueuePair) (n : Numbered) (finish : Finishing) (op : SendOp) → is_local op ≡ true → OperationGoes w P q n op finish → Leads w P (Perform_op c q n finish op)
-leads-perform c w P q n finish (ops.Bind1 window key address count rights) local more =
+    by : refusal_in c w i ≡ window_refusal i.key i.queue (w.window slot) → (o : Option Binding) → Leads w P (plan o)
+    by same None = more (window_refusal i.key i.queue (w.window slot)) [] (λ is. same ∙ is) (record {})
+    by same (Some b) = more (window_refusal i.key i.queue (w.window slot)) _ (λ is. same ∙ is) (refl, (record {}, record {}))
+
+-- a property of the key that an operation would end: of the key of the window that is bound, and of the key that is named
+abbrev pub EndsSuch : (Key → Type 0) → Configuration → World → QueuePair → SendOp → Type 0
+EndsSuch R c w q (ops.Bind1 window key address count rights) = IfSome (bound_key (w.window (window_slot q window))) R
+EndsSuch R c w q (ops.LocalInv key) = refusal_in c w (record { queue = q.queue; domain = q.domain; key = key }) ≡ None → R key
+EndsSuch R c w q op = Unit {0}
+
+pub leads-perform : (R : Key → Type 0) (c : Configuration) (w : World) (P : World → List Mark → Type 0) (q : QueuePair) (n : Numbered) (finish : Finishing) (op : SendOp) → is_local op ≡ true → EndsSuch R c w q op
+    → OperationGoes R w P q n op finish → Leads w P (Perform_op c q n finish op)
+leads-perform R c w P q n finish (ops.Bind1 window key address count rights) local such more =
     leads-named c w P q.domain key (λ named. With_former x (λ former. ending named former)) (λ named. leads-former w P x (λ former. ending named former) (λ former.
-    more q (bind1_marks q n window named address count rights x) (refusal named) (unless_none (refusal named) (bind1_changes (window_slot q window) (drawn_by n) x former named address count rights)) (like-same q) (record {})
+    more q (bind1_marks q n window named address count rights x) (refusal named) (unless_none (refusal named) (bind1_changes (window_slot q window) (drawn_by n) x former named address count rights)) (like-same q) (record {}) (λ is. such)
     (unless-kept w (refusal named) (bind1_changes (window_slot q window) (drawn_by n) x former named address count rights)
     (bound (count == 0) named, drawn-append w (former_updates former) (if count == 0 then [] else named_updates former named) (former-kept w former) (regions named former (count == 0))))))
   where
@@ -447,10 +463,10 @@ leads-perform c w P q n finish (ops.Bind1 window key address count rights) local
     ending : Option PlacedRegion → Option PlacedRegion → Plan
     ending named former = finish (operation_effects q n q (bind1_marks q n window named address count rights x) (refusal named))
         (unless_none (refusal named) (bind1_changes (window_slot q window) (drawn_by n) x former named address count rights)) []
-leads-perform c w P q n finish (ops.Bind2 window key low address count rights) local more =
+leads-perform R c w P q n finish (ops.Bind2 window key low address count rights) local such more =
     leads-named c w P q.domain key (λ named. With_former x (λ former. ending named)) (λ named. leads-former w P x (λ former. ending named) (λ former.
     more (record q { windows = suc q.windows }) (bind2_marks q window low named address count rights) (refusal named)
-    (unless_none (refusal named) (bind2_changes (window_slot q window) low q.queue x named address count rights)) (record { queue = refl; sends = refl; state = refl }) (record {})
+    (unless_none (refusal named) (bind2_changes (window_slot q window) low q.queue x named address count rights)) (record { queue = refl; sends = refl; state = refl }) (record {}) (λ is. record {})
     (unless-kept w (refusal named) (bind2_changes (window_slot q window) low q.queue x named address count rights) (refl, named-kept w None named))))
   where
     x : Window
@@ -462,8 +478,8 @@ leads-perform c w P q n finish (ops.Bind2 window key low address count rights) l
     ending : Option PlacedRegion → Plan
     ending named = finish (operation_effects q n (record q { windows = suc q.windows }) (bind2_marks q window low named address count rights) (refusal named))
         (unless_none (refusal named) (bind2_changes (window_slot q window) low q.queue x named address count rights)) []
-leads-perform c w P q n finish (ops.FastReg region low buffer address count rights pages) local more =
-    more q (fast_marks q region low buffer address count rights pages) refusal (unless_none refusal (fast_changes q region low buffer address count rights pages r)) (like-same q) (record {})
+leads-perform R c w P q n finish (ops.FastReg region low buffer address count rights pages) local such more =
+    more q (fast_marks q region low buffer address count rights pages) refusal (unless_none refusal (fast_changes q region low buffer address count rights pages r)) (like-same q) (record {}) (λ is. record {})
     (unless-kept w refusal (fast_changes q region low buffer address count rights pages r) (record {}, record {}))
   where
     r : Region
@@ -471,7 +487,7 @@ leads-perform c w P q n finish (ops.FastReg region low buffer address count righ
 
     refusal : Option OpRefusal
     refusal = fast_refusal c q region buffer address count rights pages r
-leads-perform c w P q n finish (ops.LocalInv key) local more = leads-invalidation c w P gone (λ r cs. With_writes c (operation_effects q n (with_window_gone (Some gone) q) m r).writes (λ ws. finish (operation_effects q n (with_window_gone (Some gone) q) m r) (unless_none r cs) ws)) (λ r cs kept. written r (unless_none r cs) (unless-kept w r cs kept))
+leads-perform R c w P q n finish (ops.LocalInv key) local such more = leads-invalidation c w P gone (λ r cs. With_writes c (operation_effects q n (with_window_gone (Some gone) q) m r).writes (λ ws. finish (operation_effects q n (with_window_gone (Some gone) q) m r) (unless_none r cs) ws)) (λ r cs own kept. written r (unless_none r cs) own (unless-kept w r cs kept))
   where
     gone : Invalidation
     gone = record { queue = q.queue; domain = q.domain; key = key }
@@ -482,18 +498,37 @@ leads-perform c w P q n finish (ops.LocalInv key) local more = leads-invalidatio
     like : IsLike q (with_window_gone (Some gone) q)
     like = record { queue = refl; sends = refl; state = refl }
 
-    written : (r : Option OpRefusal) (cs : List Update) → AreDrawn w cs
+    written : (r : Option OpRefusal) (cs : List Update) → (r ≡ None → refusal_in c w gone ≡ None) → AreDrawn w cs
         → Leads w P (With_writes c (operation_effects q n (with_window_gone (Some gone) q) m r).writes (λ ws. finish (operation_effects q n (with_window_gone (Some gone) q) m r) cs ws))
-    written None cs kept = more (with_window_gone (Some gone) q) m None cs like refl kept
-    written (Some cause) cs kept = more (with_window_gone (Some gone) q) m (Some cause) cs like refl kept
-leads-perform c w P q n finish (ops.Send list) local more = absurd (true≢false (sym local))
-leads-perform c w P q n finish (ops.SendImm imm list) local more = absurd (true≢false (sym local))
-leads-perform c w P q n finish (ops.SendInv key list) local more = absurd (true≢false (sym local))
-leads-perform c w P q n finish (ops.Write address key list) local more = absurd (true≢false (sym local))
-leads-perform c w P q n finish (ops.WriteImm address key imm list) local more = absurd (true≢false (sym local))
-leads-perform c w P q n finish (ops.Read address key list) local more = absurd (true≢false (sym local))
-leads-perform c w P q n finish (ops.CmpSwap address key compare swap list) local more = absurd (true≢false (sym local))
-leads-perform c w P q n finish (ops.FetchAdd address key add list) local more = absurd (true≢false (sym local))
+    written None cs own kept = more (with_window_gone (Some gone) q) m None cs like refl (λ is. such (own is)) kept
+    written (Some cause) cs own kept = more (with_window_gone (Some gone) q) m (Some cause) cs like refl (λ is. such (own is)) kept
+leads-perform R c w P q n finish (ops.Send list) local such more = absurd (true≢false (sym local))
+leads-perform R c w P q n finish (ops.SendImm imm list) local such more = absurd (true≢false (sym local))
+leads-perform R c w P q n finish (ops.SendInv key list) local such more = absurd (true≢false (sym local))
+leads-perform R c w P q n finish (ops.Write address key list) local such more = absurd (true≢false (sym local))
+leads-perform R c w P q n finish (ops.WriteImm address key imm list) local such more = absurd (true≢false (sym local))
+leads-perform R c w P q n finish (ops.Read address key list) local such more = absurd (true≢false (sym local))
+leads-perform R c w P q n finish (ops.CmpSwap address key compare swap list) local such more = absurd (true≢false (sym local))
+leads-perform R c w P q n finish (ops.FetchAdd address key add list) local such more = absurd (true≢false (sym local))
+
+-- nothing is asked of the key
+pub any-such : (c : Configuration) (w : World) (q : QueuePair) (op : SendOp) → EndsSuch (λ key. Unit {0}) c w q op
+any-such c w q (ops.Bind1 window key address count rights) = by (bound_key (w.window (window_slot q window)))
+  where
+    by : (o : Option Key) → IfSome o (λ key. Unit {0})
+    by None = record {}
+    by (Some key) = record {}
+any-such c w q (ops.LocalInv key) = λ is. record {}
+any-such c w q (ops.Bind2 window key low address count rights) = record {}
+any-such c w q (ops.FastReg region low buffer address count rights pages) = record {}
+any-such c w q (ops.Send list) = record {}
+any-such c w q (ops.SendImm imm list) = record {}
+any-such c w q (ops.SendInv key list) = record {}
+any-such c w q (ops.Write address key list) = record {}
+any-such c w q (ops.WriteImm address key imm list) = record {}
+any-such c w q (ops.Read address key list) = record {}
+any-such c w q (ops.CmpSwap address key compare swap list) = record {}
+any-such c w q (ops.FetchAdd address key add list) = record {}
 
 -- what a past of this event leaves, where its turn performed the local operation that began next
 abbrev pub Performing : Past → QueueId → Lot → QueuePair → Numbered → LocalMarks → Past
@@ -777,8 +812,8 @@ posts-request c past w name lot up = leads-queue c w P name reasons.State (λ q.
 
     by : (q : QueuePair) → IsThere w q → q.queue ≡ name → (peer : Option Correspondent) (turn : RequestTurn) → turn_of q ≡ turn → Leads w P (Request_around c lot q (around_in w q (shared_of w q)) peer turn)
     by q there own peer (Waits reason) is = record {}
-    by q there own peer (Performs n) is = leads-perform c w P q n (λ e changes writes. Finish (updates_of q (around_in w q (shared_of w q)) e ++ changes) writes e.marks) n.request.op does.local
-        (λ after m refusal cs like revokes kept. ends q there own n does after m refusal cs like kept)
+    by q there own peer (Performs n) is = leads-perform (λ key. Unit {0}) c w P q n (λ e changes writes. Finish (updates_of q (around_in w q (shared_of w q)) e ++ changes) writes e.marks) n.request.op does.local (any-such c w q n.request.op)
+        (λ after m refusal cs like revokes gone kept. ends q there own n does after m refusal cs like kept)
       where
         does : IsPerformed q n
         does = performs q n (there-kept w q up.steady there) there.sound.requester.begun is

@@ -9,7 +9,7 @@ use Rattle.ca_agree_keys.proofs.KeyTurnLemmas.{IsUp, found}
 use Rattle.ca_agree_keys.specs.InForce.{KeysAgree}
 use Rattle.ca_agree_posts.proofs.GoingLemmas.{respond-goes, timeout-goes, failure-goes}
 use Rattle.ca_agree_posts.proofs.PostLemmas.{leads-goes, leads-ends}
-use Rattle.ca_agree_posts.proofs.PostTurnLemmas.{leads-perform, packet-is}
+use Rattle.ca_agree_posts.proofs.PostTurnLemmas.{any-such, leads-perform, packet-is}
 use Rattle.ca_base.specs.Configuration.{Configuration}
 use Rattle.ca_base.specs.declared.correspondent.Correspondent.{Correspondent}
 use Rattle.ca_base.specs.declared.lot.Lot.{Lot}
@@ -290,8 +290,8 @@ last-request c w name lot sound steady = leads-queue c w Last name reasons.State
 
     by : (q : QueuePair) → IsThere w q → (peer : Option Correspondent) (turn : RequestTurn) → turn_of q ≡ turn → Leads w Last (Request_around c lot q (around_in w q (shared_of w q)) peer turn)
     by q there peer (Waits reason) is = record {}
-    by q there peer (Performs n) is = leads-perform c w Last q n (λ e changes writes. Finish (updates_of q (around_in w q (shared_of w q)) e ++ changes) writes e.marks) n.request.op
-        (performs q n (there-kept w q steady there) there.sound.requester.begun is).local (λ after m refusal cs like revokes kept. ends q n after m refusal)
+    by q there peer (Performs n) is = leads-perform (λ key. Unit {0}) c w Last q n (λ e changes writes. Finish (updates_of q (around_in w q (shared_of w q)) e ++ changes) writes e.marks) n.request.op
+        (performs q n (there-kept w q steady there) there.sound.requester.begun is).local (any-such c w q n.request.op) (λ after m refusal cs like revokes gone kept. ends q n after m refusal)
     by q there None (Sends n) is = record {}
     by q there (Some peer) (Sends n) is = leads-ends c w Last (λ ended. IsSentPacket q peer m lot) (packet_row q (has_room_for q peer m) n) (Leave_plan q (around_in w q (shared_of w q)) peer m lot) packets.denied packets.allowed
         (λ e i ws sent more. of-last q.queue q.sends None (e.marks ++ option_map_or (sent_marks q peer m lot) (packet_sent e) [])

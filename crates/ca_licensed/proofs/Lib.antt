@@ -4,3 +4,4 @@ pub mod SuccessLemmas
 pub mod PerformedLemmas
 pub mod EffectEventLemmas
 pub mod AloneLemmas
+pub mod EndingLemmas

@@ -10,7 +10,7 @@ use Rattle.ca_agree_keys.proofs.KeyTurnLemmas.{found}
 use Rattle.ca_agree_posts.proofs.GoingLemmas.{AreKeyless, denied-goes, failure-goes, flush-keyless, reads-keyless}
 use Rattle.ca_agree_posts.proofs.PlaceLemmas.{IsPerformed, performs}
 use Rattle.ca_agree_posts.proofs.PostLemmas.{AreNoAnswers, IsNoAnswer, SamePosts, answers-append, keyless-no, leads-ends, no-answers, same-posts}
-use Rattle.ca_agree_posts.proofs.PostTurnLemmas.{IsNextOperation, IsPacket, IsPosted, Revokes, leads-perform, next-posted, packet-is, performed-some, sent-quiet, used-none}
+use Rattle.ca_agree_posts.proofs.PostTurnLemmas.{any-such, IsNextOperation, IsPacket, IsPosted, Revokes, leads-perform, next-posted, packet-is, performed-some, sent-quiet, used-none}
 use Rattle.ca_agree_posts.specs.Posts.{PostsAgree, life}
 use Rattle.ca_base.specs.Configuration.{Configuration}
 use Rattle.ca_base.specs.declared.completion.Completion.{Completion}
@@ -313,8 +313,8 @@ effects-request c past w name lot up = leads-queue c w P name reasons.State (λ 
 
     by : (q : QueuePair) → IsThere w q → q.queue ≡ name → (peer : Option Correspondent) (turn : RequestTurn) → turn_of q ≡ turn → Leads w P (Request_around c lot q (around_in w q (shared_of w q)) peer turn)
     by q there own peer (Waits reason) is = record {}
-    by q there own peer (Performs n) is = leads-perform c w P q n (λ e changes writes. Finish (updates_of q (around_in w q (shared_of w q)) e ++ changes) writes e.marks) n.request.op does.local
-        (λ after m refusal cs like revokes kept. ends q there own n does after m refusal w revokes)
+    by q there own peer (Performs n) is = leads-perform (λ key. Unit {0}) c w P q n (λ e changes writes. Finish (updates_of q (around_in w q (shared_of w q)) e ++ changes) writes e.marks) n.request.op does.local (any-such c w q n.request.op)
+        (λ after m refusal cs like revokes gone kept. ends q there own n does after m refusal w revokes)
       where
         does : IsPerformed q n
         does = performs q n (there-kept w q up.steady there) there.sound.requester.begun is

@@ -4,6 +4,7 @@ ghost use Rattle.ca_base.specs.Configuration.{Configuration};
 ghost use Rattle.ca_keys.specs.Memory.{ByteMap};
 ghost use Rattle.ca_licensed.specs.Alone.{AreAlone};
 ghost use Rattle.ca_licensed.specs.Effects.{HaveTheirEffects};
+ghost use Rattle.ca_licensed.specs.Ends.{DoEndInForce};
 ghost use Rattle.ca_model.specs.Entries.{EntryValue};
 ghost use Rattle.ca_model.specs.machine.Run.{Follows};
 ghost use Rattle.ca_model.specs.machine.Sound.{AreLimited, CanBeMade};
@@ -24,4 +25,13 @@ pub fn successes_have_their_effects()
 pub fn grants_stand_alone()
     ensures { (c : Configuration) (bytes : ByteMap) (es : List EntryValue)
         → AreLimited c → AllByRecursion (λ e. CanBeMade e.event) es → Follows c bytes es → AreAlone bytes es }
+{}
+
+/// In a history that follows the machine each key that ends is that of a grant in force: one that a verb ends, one that a
+/// bind or a Local Invalidate of a requester's turn ends, and one that a SEND with Invalidate ends. This is the part of
+/// Licensed that says that keys which end were in force.
+pub fn keys_end_in_force()
+    ensures { (c : Configuration) (bytes : ByteMap) (es : List EntryValue)
+        → AreLimited c
+        → AllByRecursion (λ e. CanBeMade e.event) es → Follows c bytes es → DoEndInForce bytes es }
 {}
