@@ -19,16 +19,16 @@ pub fn opening_agrees_on_posts()
     ensures { (bytes : ByteMap) → PostsAgree (opening_past bytes) (opening_world bytes) }
 {}
 
-/// Every event in a sound world of steady queue pairs keeps the agreement on posted requests: its marks leave a past that
-/// agrees with the world that the event leaves.
+/// Every event in a sound world of steady queue pairs keeps the agreement on posted requests: its marks leave a past
+/// that agrees with the world that the event leaves.
 pub fn event_keeps_posts_agreed()
     ensures { (c : Configuration) (past : Past) (w : World) (event : Event) → AreLimited c → IsSoundWorld c w
         → IsSteadyWorld w → PostsAgree past w
         → Comes (λ v ms. PostsAgree (at_end (after_marks ms (at_begin event past))) v) (step c w event) }
 {}
 
-/// Past and world agree on posted requests at the beginning of a history that follows the machine, and after each of its
-/// entries.
+/// Past and world agree on posted requests at the beginning of a history that follows the machine, and after each of
+/// its entries.
 pub fn histories_agree_on_posts()
     ensures { (c : Configuration) (bytes : ByteMap) (es : List EntryValue)
         → AreLimited c → AllByRecursion (λ e. CanBeMade e.event) es → Follows c bytes es
