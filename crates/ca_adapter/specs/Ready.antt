@@ -1,6 +1,6 @@
 -- What whoever acts shows of the parts in hand: they are those of a world that comes up, and they suffice for the event.
 -- Contracts cite it.
-use Rattle.std.specs.Prelude.{◌≡◌, ℕ, Bool, true, false, not, List, length, None}
+use Rattle.std.specs.Prelude.{◌≡◌, ℕ, true, List, length, None}
 use Rattle.ca_acts.specs.Calls.{call_of}
 use Rattle.ca_acts.specs.declared.answers.Call.{Call}
 use Rattle.ca_base.specs.Configuration.{Configuration, configuration_in}
@@ -10,9 +10,6 @@ use Rattle.ca_held.specs.HeldView.{holding}
 use Rattle.ca_keys.specs.declared.place.Place.{Place}
 use Rattle.ca_laws_names.specs.Placed.{is_configured}
 use Rattle.ca_model.specs.declared.event.Event.{Event}
-use Rattle.ca_model.specs.declared.event.Event.TheVariants as events
-use Rattle.ca_model.specs.declared.verb.Verb.{Verb}
-use Rattle.ca_model.specs.declared.verb.Verb.TheVariants as verbs
 use Rattle.ca_model.specs.declared.part_name.PartName.TheVariants as names
 use Rattle.ca_model.specs.machine.Parts.{ShowsHeld, event_needs, next_part}
 use Rattle.ca_model.specs.machine.HostVerbs.{store_plan}

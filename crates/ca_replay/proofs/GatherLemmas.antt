@@ -1,5 +1,5 @@
 -- The parts of an event come to an end, and then none is missing. For proofs only.
-use Rattle.std.proofs.Common.{Vec, ◌≡◌, ◌∙◌, refl, sym, ap, subst, ℕ, zero, suc, ◌+◌, ◌-◌, ◌<◌, ◌≤◌, ◌||◌, ◌⊎◌, inl, inr, arith, Bool, true, false, List, [], ◌∷◌, ◌++◌, length, Option, None, Some, is_some, if◌then◌else◌, true≢false}
+use Rattle.std.proofs.Common.{Vec, ◌≡◌, ◌∙◌, refl, sym, ap, subst, ℕ, suc, ◌+◌, ◌≤◌, ◌||◌, inl, inr, arith, Bool, true, false, List, [], ◌∷◌, ◌++◌, length, Option, None, Some, is_some, if◌then◌else◌, true≢false}
 use Rattle.std.specs.List.{AllByRecursion}
 use Rattle.ca_adapter.specs.Ready.{ArePartsOfWorld}
 use Rattle.ca_base.specs.Configuration.{Configuration}

@@ -13,7 +13,7 @@ use Rattle.ca_model.specs.declared.part_name.PartName.{PartName}
 use Rattle.ca_model.specs.declared.part_name.PartName.TheVariants as names
 use Rattle.ca_model.specs.machine.World.{World, Queue_of, Mailbox_of}
 use Rattle.ca_replay.specs.Looks.{IsMailboxIn, IsQueueIn, mail_in, slot_in}
-use Rattle.ca_replay.specs.Rows.{IsPartIn, IsRowOf, IsThere, part_at}
+use Rattle.ca_replay.specs.Rows.{IsRowOf, IsThere, part_at}
 use Rattle.ca_replay.specs.declared.row.Row.{Row}
 
 -- the first of two, by a test that holds

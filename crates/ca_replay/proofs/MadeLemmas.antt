@@ -1,5 +1,5 @@
 -- What an event makes of a row, from what it makes of its parts. For proofs only.
-use Rattle.std.proofs.Common.{◌≡◌, ◌∙◌, refl, sym, ap, subst, ℕ, suc, ◌+◌, ◌<◌, ◌-◌, ◌^◌, arith, Result, Ok, Err}
+use Rattle.std.proofs.Common.{◌≡◌, ◌∙◌, sym, ap, subst, ℕ, suc, ◌+◌, ◌<◌, ◌-◌, ◌^◌, arith, Result, Ok, Err}
 use Rattle.ca_base.specs.Configuration.{Configuration, configuration_in}
 use Rattle.ca_base.specs.declared.step.StepError.{StepError}
 use Rattle.ca_base.specs.declared.step.StepError.TheVariants as steps

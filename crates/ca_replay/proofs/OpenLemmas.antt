@@ -1,5 +1,5 @@
 -- The row of the parts before the first event. For proofs only.
-use Rattle.std.proofs.Common.{◌≡◌, ◌∙◌, refl, sym, ap, subst, ℕ, zero, suc, ◌<◌, ◌+◌, nat_lt, arith, inl, inr, Bool, true, false, List, [], ◌∷◌, length, map, Option, None, Some, IfSome, is_some, slice_get, take, drop, if◌then◌else◌, true≢false}
+use Rattle.std.proofs.Common.{◌≡◌, ◌∙◌, refl, sym, ap, subst, ℕ, zero, suc, ◌<◌, nat_lt, arith, inl, inr, Bool, true, false, List, [], ◌∷◌, length, map, Option, None, Some, IfSome, is_some, slice_get, take, drop, true≢false}
 use Rattle.std.proofs.lemmas.Bool.Decides.{nat_tests}
 use Rattle.std.proofs.lemmas.Option.{slice_get_within}
 use Rattle.std.specs.List.{range_with_len}
@@ -8,23 +8,21 @@ use Rattle.ca_base.specs.Configuration.{Adapter, Configuration, part_count}
 use Rattle.ca_base.specs.objects.Slices.{adapter_at, buffer_length}
 use Rattle.ca_held.specs.declared.part.Part.{Part}
 use Rattle.ca_held.specs.declared.part.Part.TheVariants as parts
-use Rattle.ca_held.specs.HeldView.{Holding}
 use Rattle.ca_held.specs.Taking.{has_in, nothing_held}
 use Rattle.ca_keys.specs.declared.place.Place.{Place}
 use Rattle.ca_laws_names.specs.Placed.{is_configured}
 use Rattle.ca_model.specs.declared.part_name.PartName.{PartName}
-use Rattle.ca_model.specs.declared.part_name.PartName.TheVariants as names
 use Rattle.ca_model.specs.machine.Parts.{IsAmong, is_configured_part, part_of}
 use Rattle.ca_model.specs.machine.Sound.{AreLimited}
 use Rattle.ca_model.specs.machine.Step.{bytes_of_buffer}
-use Rattle.ca_model.specs.machine.World.{World, Byte_at, opening_world}
+use Rattle.ca_model.specs.machine.World.{Byte_at, opening_world}
 use Rattle.ca_opening.proofs.ContentsLemmas.{IsPartOf, get-map, part-of}
 use Rattle.ca_opening.proofs.WorldLemmas.{opening-kind, opening-thing}
 use Rattle.ca_opening.specs.Opening.{FitContents, IsOpeningPart, buffers_before, contents_from, opening_bytes}
 use Rattle.ca_places.proofs.AmongLemmas.{all-among, place-below}
 use Rattle.ca_places.proofs.NumberLemmas.{all-numbered}
 use Rattle.ca_places.specs.Places.{all_parts, place_of}
-use Rattle.ca_replay.specs.Rows.{AreTogether, IsPartIn, IsThere, part_at}
+use Rattle.ca_replay.specs.Rows.{AreTogether, IsThere}
 
 -- what is numbered has a number
 numbered : (f : PartName → Option ℕ) (p : PartName) (xs : List PartName) (ns : List ℕ) → map f xs ≡ map Some ns → IsAmong xs p → is_some (f p) ≡ true

@@ -1,9 +1,8 @@
 -- A part in a world: its things, and those of other parts. For proofs only.
-use Rattle.std.proofs.Common.{◌≡◌, ◌∙◌, refl, sym, ap, subst, ℕ, ◌==◌, ◌&&◌, Bool, true, false, List, if◌then◌else◌, true≢false}
+use Rattle.std.proofs.Common.{◌≡◌, refl, sym, ap, subst, ◌==◌, Bool, true, false, if◌then◌else◌, true≢false}
 use Rattle.std.proofs.lemmas.Bool.{and_from, and_parts, eq-eqb, eqb-true}
 use Rattle.ca_held.specs.declared.part.Part.{Part}
 use Rattle.ca_held.specs.declared.part.Part.TheVariants as parts
-use Rattle.ca_held_reach.specs.Names.{buffer_eq, buffer_of}
 use Rattle.ca_held.specs.Taking.{is_of_kind, world_with, world_without}
 use Rattle.ca_model.proofs.ThingLemmas.{domain-path, domain-refl, queue-path, queue-refl, slot-path, slot-refl}
 use Rattle.ca_model.specs.declared.part_name.PartName.{PartName}

@@ -55,10 +55,10 @@ runs-on c w n events row new all event rest m so count step-made = by (step c so
       world = v;
       of = made.1;
       runs = so.runs ∙ ap (marks_before (marks_of_each all)) (
-        ap (λ o. go_on row.count o (λ v. run_from c (suc row.count) v rest)) is
-        ∙ ap (λ xs. with_marks xs (run_from c (suc row.count) v rest)) (sym made.0)
-        ∙ ap (λ k. with_marks m.marks (run_from c k v rest)) (sym count)
-      ) ∙ sym (before-one all m (run_from c new.count v rest));
+          ap (λ o. go_on row.count o (λ v. run_from c (suc row.count) v rest)) is
+          ∙ ap (λ xs. with_marks xs (run_from c (suc row.count) v rest)) (sym made.0)
+          ∙ ap (λ k. with_marks m.marks (run_from c k v rest)) (sym count)
+          ) ∙ sym (before-one all m (run_from c new.count v rest));
     }
 
 -- the event to come

@@ -1,5 +1,5 @@
 -- Places in a row of parts. For proofs only.
-use Rattle.std.proofs.Common.{◌≡◌, ◌∙◌, refl, sym, ap, subst, ℕ, zero, suc, ◌<◌, ◌==◌, arith, Bool, true, false, List, [], ◌∷◌, length, Option, None, Some, is_some, if◌then◌else◌, slice_get, slice_set, true≢false}
+use Rattle.std.proofs.Common.{◌≡◌, ◌∙◌, refl, sym, ap, subst, ℕ, zero, suc, ◌<◌, ◌==◌, arith, Bool, true, false, List, [], ◌∷◌, length, Option, None, Some, is_some, slice_get, slice_set, true≢false}
 use Rattle.std.proofs.lemmas.Bool.{eq-eqb, eqb-true}
 use Rattle.std.proofs.lemmas.Option.{slice_get_within}
 use Rattle.std.specs.Option.{option_and_then}
@@ -7,7 +7,7 @@ use Rattle.ca_base.specs.Configuration.{Configuration}
 use Rattle.ca_held.specs.declared.part.Part.{Part}
 use Rattle.ca_laws_parts.proofs.NeedsLemmas.{part-refl}
 use Rattle.ca_model.specs.declared.part_name.PartName.{PartName}
-use Rattle.ca_model.specs.machine.Parts.{is_configured_part, part_eq}
+use Rattle.ca_model.specs.machine.Parts.{part_eq}
 use Rattle.ca_model.specs.machine.Sound.{AreLimited}
 use Rattle.ca_places.proofs.AmongLemmas.{place-apart}
 use Rattle.ca_places.specs.Places.{place_of}

@@ -1,23 +1,17 @@
 -- The row and the hand stand for one world, whatever is taken in hand, acted, and given back. For proofs only.
-use Rattle.std.proofs.Common.{◌≡◌, ◌∙◌, refl, sym, ap, subst, ℕ, suc, Bool, true, false, List, Option, None, Some, Result, Ok, Err, if◌then◌else◌, true≢false}
-use Rattle.ca_acts.specs.Act.{IsAct}
-use Rattle.ca_acts_laws.specs.Steps.{IsStepOf, LeavesUnheld, Shows}
+use Rattle.std.proofs.Common.{◌≡◌, ◌∙◌, refl, sym, ap, subst, Bool, true, false, List, Option, None, Some, if◌then◌else◌, true≢false}
+use Rattle.ca_acts_laws.specs.Steps.{LeavesUnheld, Shows}
 use Rattle.ca_adapter.proofs.WorldLemmas.{part-of-held}
 use Rattle.ca_base.specs.Configuration.{Configuration}
-use Rattle.ca_base.specs.declared.step.StepError.{StepError}
-use Rattle.ca_base.specs.declared.step.StepError.TheVariants as steps
 use Rattle.ca_held.specs.declared.held.Held.{Held}
 use Rattle.ca_held.specs.declared.part.Part.{Part}
 use Rattle.ca_held.specs.HeldView.{Holding, holding}
-use Rattle.ca_held.specs.Taking.{has_in, is_of_kind, with_part, without_part, world_with, world_without}
+use Rattle.ca_held.specs.Taking.{has_in, world_with, world_without}
 use Rattle.ca_keys.specs.declared.place.Place.{Place}
 use Rattle.ca_laws_names.specs.Placed.{is_configured}
 use Rattle.ca_laws_parts.proofs.NeedsLemmas.{part-refl}
-use Rattle.ca_model.specs.Marks.{MarkList}
 use Rattle.ca_model.specs.declared.part_name.PartName.{PartName}
-use Rattle.ca_model.specs.declared.part_name.PartName.TheVariants as names
 use Rattle.ca_model.specs.machine.Parts.{is_configured_part, part_eq, part_of}
-use Rattle.ca_model.specs.machine.Plan.{Did, NotReady, Outcome}
 use Rattle.ca_model.specs.machine.World.{World, Name, Byte_at, get}
 use Rattle.ca_replay.proofs.PartLemmas.{other-with, other-without, part-apart, part-path}
 use Rattle.ca_replay.specs.Hand.{IsGiven, IsTaken}

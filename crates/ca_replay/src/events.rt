@@ -38,11 +38,7 @@ impl From<Memory> for ReplayError {
 /// Makes events one after another on the parts of an opening, and gives the marks of each: what the machine runs. It ends
 /// at the first event that is not possible, with its place and its reason. The contents are the bytes of each buffer in
 /// rising adapter and buffer, each of the configured length.
-pub fn replay(
-    alloc: Global,
-    opening: &Opening,
-    events: &[Event],
-) -> Result<Vec<Marks>, ReplayError>
+pub fn replay(alloc: Global, opening: &Opening, events: &[Event]) -> Result<Vec<Marks>, ReplayError>
     requires limited { AreLimited (configuration_of opening.now.config) }
     requires contents { FitContents (configuration_of opening.now.config) opening.now.contents }
     requires few { length events.now < 2 ^ 32 - 1 }

@@ -51,7 +51,7 @@ impl Row {
     pub fn make(&mut self, alloc: Global, event: &Event) -> Result<Marks, StepError>
         requires row { IsRow self.old }
         requires few { self.old.count < 2 ^ 32 - 2 }
-            ensures step { (c : Configuration) (w : World) → IsRowOf c w self.old
+        ensures step { (c : Configuration) (w : World) → IsRowOf c w self.old
             → IsMade result (step c w event.now) w (λ v. IsRowOf c v self.new) }
         ensures row { IsRow self.new }
         ensures made { CanBeMade event.now }

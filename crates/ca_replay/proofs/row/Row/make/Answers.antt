@@ -1,4 +1,4 @@
-use Rattle.std.proofs.Common.{◌≡◌, refl, arith, Err, Ok}
+use Rattle.std.proofs.Common.{refl, arith, Err, Ok}
 use Rattle.ca_base.specs.Configuration.{configuration_in}
 use Rattle.ca_model.specs.machine.Step.{step}
 use Rattle.ca_replay.proofs.MadeLemmas.{one_more, row_left, row_made_by}

@@ -1,4 +1,4 @@
-use Rattle.std.proofs.Common.{◌≡◌, refl, sym, ap, subst}
+use Rattle.std.proofs.Common.{refl, sym, ap, subst}
 use Rattle.ca_base.specs.Configuration.{configuration_of}
 use Rattle.ca_opening.specs.Opening.{opening_bytes}
 use Rattle.ca_replay.proofs.OpenLemmas.{opens}
