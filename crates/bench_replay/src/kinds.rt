@@ -26,12 +26,7 @@ pub fn post(alloc: Global, row: &mut Row, number: u16, request: SendRequest) -> 
 
 /// A receive is posted.
 #[inline(never)]
-pub fn post_receive(
-    alloc: Global,
-    row: &mut Row,
-    number: u16,
-    request: RecvRequest,
-) -> Option<()>
+pub fn post_receive(alloc: Global, row: &mut Row, number: u16, request: RecvRequest) -> Option<()>
     requires { IsRow row.old }
     ensures { IsRow row.new }
 {

@@ -13,6 +13,7 @@ const BASE: u64 = 0x1_0000_0000;
 
 /// The key of the region that is read, and that of the one that is written.
 const SOURCE: Key = Key(0x001);
+
 const TARGET: Key = Key(0x101);
 
 /// What a message is.

@@ -10,13 +10,7 @@ use std::time::{Clock, Instant};
 use std::{env, io};
 
 /// So many rounds, in each of which every connection has a message. None comes where an event is not possible.
-fn rounds(
-    alloc: Global,
-    row: &mut Row,
-    message: Message,
-    connections: u8,
-    count: u32,
-) -> Option<()>
+fn rounds(alloc: Global, row: &mut Row, message: Message, connections: u8, count: u32) -> Option<()>
     requires { IsRow row.old }
     ensures { IsRow row.new }
 {
