@@ -113,13 +113,21 @@ pub fn row(alloc: Global, connections: u8) -> Option<Row>
     }
     let mut row = Row::open(alloc, &opening).ok()?;
     call(alloc, &mut row, Verb::AllocPd { domain: DOMAIN })?;
-    for number in 0..2u16 {
-        own(alloc, &mut row, number)?;
-    }
-    for number in 0..u16::from(connections) {
-        connect(alloc, &mut row, number * 2)?;
-    }
+    own(alloc, &mut row, 0)?;
+    own(alloc, &mut row, 1)?;
+    connect_all(alloc, &mut row, connections)?;
     Some(row)
+}
+
+/// So many connections.
+fn connect_all(alloc: Global, row: &mut Row, connections: u8) -> Option<()>
+    requires { IsRow row.old }
+    ensures { IsRow row.new }
+{
+    for connection in 0..connections {
+        connect(alloc, row, u16::from(connection) * 2)?;
+    }
+    Some(())
 }
 
 /// The region and the completion queue of a number.

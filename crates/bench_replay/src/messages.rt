@@ -87,6 +87,43 @@ fn send_packet(alloc: Global, row: &mut Row, first: u16, at: u64) -> Option<()>
     deliver_request(alloc, row, first.saturating_add(1), at)
 }
 
+/// The receive of a SEND is posted.
+fn expect(alloc: Global, row: &mut Row, message: Message, number: u16) -> Option<()>
+    requires { IsRow row.old }
+    ensures { IsRow row.new }
+{
+    let Message::Send = message else {
+        return Some(());
+    };
+    let receive = RecvRequest {
+        id: 1,
+        list: list(TARGET, 8)?,
+    };
+    post_receive(alloc, row, number, receive)
+}
+
+/// The completion of the receive of a SEND is polled.
+fn poll_received(alloc: Global, row: &mut Row, message: Message) -> Option<()>
+    requires { IsRow row.old }
+    ensures { IsRow row.new }
+{
+    match message {
+        Message::Send => poll(alloc, row, 1),
+        _ => Some(()),
+    }
+}
+
+/// So many packets go, of which the first has this index.
+fn send_packets(alloc: Global, row: &mut Row, first: u16, from: u64, packets: u32) -> Option<()>
+    requires { IsRow row.old }
+    ensures { IsRow row.new }
+{
+    for at in 0..packets {
+        send_packet(alloc, row, first, from.saturating_add(u64::from(at)))?;
+    }
+    Some(())
+}
+
 /// A message goes from the first queue pair of a connection to the second, is answered and polled; this is its number.
 pub fn exchange(
     alloc: Global,
@@ -100,22 +137,12 @@ pub fn exchange(
 {
     let second = first.saturating_add(1);
     let packets = packets_of(message);
-    if let Message::Send = message {
-        let receive = RecvRequest {
-            id: 1,
-            list: list(TARGET, 8)?,
-        };
-        post_receive(alloc, row, second, receive)?;
-    }
+    expect(alloc, row, message, second)?;
     post(alloc, row, first, request_of(message)?)?;
     let from = u64::from(number).saturating_mul(u64::from(packets));
-    for at in 0..packets {
-        send_packet(alloc, row, first, from.saturating_add(u64::from(at)))?;
-    }
+    send_packets(alloc, row, first, from, packets)?;
     respond(alloc, row, second)?;
     deliver_response(alloc, row, first, u64::from(number))?;
-    if let Message::Send = message {
-        poll(alloc, row, 1)?;
-    }
+    poll_received(alloc, row, message)?;
     poll(alloc, row, 0)
 }
