@@ -5,3 +5,4 @@ pub mod PostTurnLemmas
 pub mod PostVerbLemmas
 pub mod PostQueueLemmas
 pub mod PostEventLemmas
+pub mod OperationLemmas
