@@ -1,1 +1,3 @@
 pub mod WayLemmas
+pub mod WayVerbLemmas
+pub mod WayQueueLemmas
