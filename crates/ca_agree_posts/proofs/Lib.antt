@@ -6,3 +6,5 @@ pub mod PostVerbLemmas
 pub mod PostQueueLemmas
 pub mod PostEventLemmas
 pub mod OperationLemmas
+pub mod GrantLemmas
+pub mod FailureLemmas

@@ -1,8 +1,7 @@
 -- What keeps the agreement on ways: marks that grant nothing, and changes of windows and regions that leave bindings and
 -- grants, or end them. For proofs only.
 use Rattle.std.proofs.Common.{◌≡◌, ℕ, ◌<◌, Bool, true, false, if◌then◌else◌, List, [], ◌∷◌, ◌++◌, Option, None, Some, is_some, refl, sym, ap, ap₂, subst, ◌∙◌, true≢false}
-use Rattle.std.specs.Option.{option_map, option_map_or}
-use Rattle.ca_agree_keys.proofs.ChangeLemmas.{none-granted}
+use Rattle.std.specs.Option.{option_map_or}
 use Rattle.ca_agree_keys.proofs.SlotLemmas.{region-kind, region-slots, window-kind, window-slots}
 use Rattle.ca_agree_keys.specs.InForce.{is_window_slot, slot_at}
 use Rattle.ca_agree_posts.proofs.GoingLemmas.{AreKeyless, EndKey, IsKeyless, TellOf}

@@ -1,7 +1,6 @@
 -- Verbs on regions, on windows and of posting keep the agreement on ways. For proofs only.
-use Rattle.std.proofs.Common.{◌≡◌, ℕ, ◌<◌, ◌||◌, ◌==◌, not, nat_lt, arith, Bool, true, false, if◌then◌else◌, List, [], ◌∷◌, ◌++◌, ◌-◌, length, Option, None, Some, is_some, refl, sym, ap, subst, true≢false, ◌∙◌}
-use Rattle.std.proofs.lemmas.Bool.{ltb-false}
-use Rattle.std.specs.Option.{option_and_then, option_map, option_map_or}
+use Rattle.std.proofs.Common.{◌≡◌, ℕ, ◌<◌, ◌||◌, ◌==◌, not, nat_lt, arith, Bool, true, false, if◌then◌else◌, List, [], ◌∷◌, ◌++◌, ◌-◌, Option, None, Some, is_some, refl, sym, ap, subst, true≢false}
+use Rattle.std.specs.Option.{option_map, option_map_or}
 use Rattle.ca_agree.specs.Runs.{Leads}
 use Rattle.ca_agree.proofs.LeadsLemmas.{leads-unless}
 use Rattle.ca_agree.proofs.PathChangeLemmas.{Behind}
@@ -26,16 +25,12 @@ use Rattle.ca_base.specs.objects.Window.{Binding, Window, after_deallocation, af
 use Rattle.ca_base.specs.objects.WorkQueue.{with_item}
 use Rattle.ca_keys.specs.Equal.{slot_eq}
 use Rattle.ca_keys.specs.Numbers.{key_at, window_index}
-use Rattle.ca_keys.specs.Memory.{memory_after}
-use Rattle.ca_keys.specs.Refusals.{AllFail}
 use Rattle.ca_keys.specs.declared.grant.Grant.{Grant}
 use Rattle.ca_keys.specs.declared.names.QueueId.{QueueId}
 use Rattle.ca_keys.specs.declared.names.Slot.{Slot}
 use Rattle.ca_keys.specs.declared.place.Run.{Run}
 use Rattle.ca_keys.specs.declared.rights.Rights.{Rights}
-use Rattle.ca_laws_sound.proofs.SettledLemmas.{slot-path}
-use Rattle.ca_laws_windows.proofs.WindowWorldLemmas.{unbound-grants}
-use Rattle.ca_model.specs.Past.{KeySlot, Past, after_marks, at_begin, with_at}
+use Rattle.ca_model.specs.Past.{Past, after_marks, with_at}
 use Rattle.ca_model.specs.declared.answer.Answer.TheVariants as answers
 use Rattle.ca_model.specs.declared.answer.Refusal.TheVariants.{NoDomain, NoSuch, OutOfRange, SlotTaken}
 use Rattle.ca_model.specs.declared.event.Event.TheVariants as events
@@ -45,14 +40,12 @@ use Rattle.ca_model.specs.declared.verb.Verb.{Verb}
 use Rattle.ca_model.specs.declared.verb.Verb.TheVariants as verbs
 use Rattle.ca_model.specs.machine.Around.{completions_to}
 use Rattle.ca_model.specs.machine.Completions.{flush_marks}
-use Rattle.ca_model.specs.machine.Delivery.{Arrive}
-use Rattle.ca_model.specs.machine.HostVerbs.{inject_plan}
-use Rattle.ca_model.specs.machine.Plan.{Plan, Look, Update, ◌:=◌, put_all, unless_refused, write_all}
+use Rattle.ca_model.specs.machine.Plan.{Plan, Look, Update, ◌:=◌, put_all, write_all}
 use Rattle.ca_model.specs.machine.PostingVerbs.{Posted_send, after_flush, marks_of_flush, post_recv_plan, post_recv_refusals, post_send_plan, post_send_refusals, with_send}
 use Rattle.ca_model.specs.machine.QueuePairVerbs.{beside}
 use Rattle.ca_model.specs.machine.RegionVerbs.{alloc_mr_plan, dereg_mr_plan, reg_mr_plan}
-use Rattle.ca_model.specs.machine.Row.{grant_over, region_under}
-use Rattle.ca_model.specs.machine.VerbAnswers.{Answer_plan, Call, Refuse_plan, Unless_plan, answer_mark, of_region_refusals}
+use Rattle.ca_model.specs.machine.Row.{region_under}
+use Rattle.ca_model.specs.machine.VerbAnswers.{Answer_plan, Call, Refuse_plan, Unless_plan, of_region_refusals}
 use Rattle.ca_model.specs.machine.WindowVerbs.{With_binder, alloc_mw_plan, dealloc_mw_plan, queue_updates}
 use Rattle.ca_model.specs.machine.World.{Cq_of, Domain_of, Queue_of, Region_of, Window_of, World}
 use Rattle.ca_agree_keys.proofs.ChangeLemmas.{none-granted}
@@ -67,7 +60,7 @@ use Rattle.ca_keys.specs.Numbers.{low_of, region_index}
 use Rattle.ca_laws_names.specs.Placed.{IsPlacedWorld}
 use Rattle.ca_laws_steady.specs.Steady.{IsSteadyWorld}
 use Rattle.ca_laws_windows.specs.Bindings.{IsBoundWorld}
-use Rattle.ca_model.specs.Past.{Registration, at_end, key_slot_of, key_slot_eq, low_at_end, region_key_slot}
+use Rattle.ca_model.specs.Past.{Registration, at_end, key_slot_eq, low_at_end, region_key_slot}
 use Rattle.ca_model.specs.machine.Sound.{AreLimited, IsSoundWorld}
 use Rattle.ca_model.specs.machine.Plan.{Write}
 

@@ -22,8 +22,8 @@ use Rattle.ca_keys.specs.declared.names.Slot.{Slot}
 use Rattle.ca_keys.specs.declared.rights.Rights.{Rights}
 use Rattle.ca_laws_sound.proofs.TurnLemmas.{all-fail}
 use Rattle.ca_laws_sound.proofs.WorldLemmas.{IsThere}
-use Rattle.ca_licensed.proofs.EffectLemmas.{both-true}
-use Rattle.ca_licensed.proofs.GrantLemmas.{IsSeen, grant-refl, names-one, region-found, region-seen}
+use Rattle.ca_agree_posts.proofs.GrantLemmas.{both-true}
+use Rattle.ca_agree_posts.proofs.GrantLemmas.{IsSeen, grant-refl, names-one, region-found, region-seen}
 use Rattle.ca_model.specs.Licensed.{is_grant_of_bind, is_grant_of_operation, may_hold, region_with}
 use Rattle.ca_model.specs.Past.{Past, Posted}
 use Rattle.ca_model.specs.machine.LocalOperations.{bind_grant, drawn_by, region_slot, view_named, window_slot}

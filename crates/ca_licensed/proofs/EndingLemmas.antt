@@ -26,7 +26,8 @@ use Rattle.ca_laws_sound.proofs.WorldLemmas.{IsThere, around_in, shared_of, RowD
 use Rattle.ca_laws_steady.proofs.TurnLemmas.{there-kept}
 use Rattle.ca_laws_steady.specs.Steady.{IsSteadyWorld}
 use Rattle.ca_licensed.proofs.AnswerLemmas.{Answers, AreAnswered, AreFlushes, quiet-verb, IsQuietVerb}
-use Rattle.ca_licensed.proofs.EffectLemmas.{AreOf, both-true, key-refl, IsOf}
+use Rattle.ca_agree_posts.proofs.GrantLemmas.{both-true, key-refl}
+use Rattle.ca_licensed.proofs.EffectLemmas.{AreOf, IsOf}
 use Rattle.ca_model.specs.Licensed.{grant_with}
 use Rattle.ca_agree_keys.proofs.EndLemmas.{region-of}
 use Rattle.ca_agree_keys.proofs.ChangeLemmas.{StandsOver, stands-over, at-region-slot, at-window-slot, region-small, window-small}
@@ -89,7 +90,7 @@ use Rattle.ca_laws_sound.proofs.SoundLemmas.{event-sound, opening-sound}
 use Rattle.ca_laws_steady.proofs.EventLemmas.{event-steady, opening-steady}
 use Rattle.ca_laws_windows.proofs.WindowEventLemmas.{event-bound, opening-bound}
 use Rattle.ca_laws_windows.specs.Bindings.{IsBoundWorld}
-use Rattle.ca_licensed.proofs.PerformedLemmas.{IsSentPacket, packet-sent}
+use Rattle.ca_agree_posts.proofs.FailureLemmas.{IsSentPacket, packet-sent}
 use Rattle.ca_model.specs.Entries.{EntryValue}
 use Rattle.ca_model.specs.machine.Frame.{Afterwards}
 use Rattle.ca_model.specs.machine.Run.{Follows, Ran, go_on, run_from}

@@ -5,5 +5,4 @@ pub mod PerformedLemmas
 pub mod EffectEventLemmas
 pub mod AloneLemmas
 pub mod EndingLemmas
-pub mod GrantLemmas
 pub mod AskedLemmas

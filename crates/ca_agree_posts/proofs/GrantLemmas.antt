@@ -28,7 +28,6 @@ use Rattle.ca_keys.specs.declared.place.Run.{Run}
 use Rattle.ca_keys.specs.declared.rights.Rights.{Rights}
 use Rattle.ca_laws_sound.proofs.SettledLemmas.{domain-refl, queue-refl}
 use Rattle.ca_laws_windows.proofs.WindowBindLemmas.{named-region}
-use Rattle.ca_licensed.proofs.EffectLemmas.{both-true, key-refl}
 use Rattle.ca_model.specs.Licensed.{may_hold}
 use Rattle.ca_model.specs.Past.{KeySlot, key_slot_eq, key_slot_of, region_key_slot}
 use Rattle.ca_model.specs.machine.LocalOperations.{view_named}
@@ -36,6 +35,13 @@ use Rattle.ca_model.specs.machine.Sound.{AreLimited, IsSoundState, IsSoundWorld}
 use Rattle.ca_model.specs.machine.World.{Region_of, World}
 
 -- ---- equal grants
+
+pub both-true : (a b : Bool) → a ≡ true → b ≡ true → (a && b) ≡ true
+both-true true b one other = other
+both-true false b one other = one
+
+pub key-refl : (key : Key) → key_eq key key ≡ true
+key-refl key = eq-eqb key.0 key.0 refl
 
 same-bool : (b : Bool) → bool_eq b b ≡ true
 same-bool true = refl
