@@ -78,7 +78,7 @@ found-by test k (g ∷ gs) r is passes only = by (key_slot_eq (key_slot_of g) k)
     by false e is rest false t = rest is
 
 -- a region's grant in force is found by its key in its domain
-is-local : (c : Configuration) (s : Slot) (low : ℕ) (state : RegionState) (h : Grant) → IsSoundState c s low state → grant_in_state state ≡ Some h → h.local ≡ true
+pub is-local : (c : Configuration) (s : Slot) (low : ℕ) (state : RegionState) (h : Grant) → IsSoundState c s low state → grant_in_state state ≡ Some h → h.local ≡ true
 is-local c s low NoRegion h sound is = absurd (true≢false (sym (ap is_some is)))
 is-local c s low (Free pages) h sound is = absurd (true≢false (sym (ap is_some is)))
 is-local c s low (Registered g) h sound is = ap (λ (x : Grant). x.local) (sym (same_Some g h is)) ∙ sound.local

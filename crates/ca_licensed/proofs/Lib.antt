@@ -6,3 +6,4 @@ pub mod EffectEventLemmas
 pub mod AloneLemmas
 pub mod EndingLemmas
 pub mod AskedLemmas
+pub mod BoundLemmas
