@@ -1,15 +1,49 @@
--- Each key that ends was in force, in every history that follows the machine. For proofs only.
+-- Each key that ends was in force, and each grant is what its event asked for, in every history that follows the machine.
+-- For proofs only.
 use Rattle.std.proofs.Common.{◌≡◌, ℕ, ◌&&◌, Bool, true, false, not, if◌then◌else◌, List, [], ◌∷◌, ◌++◌, Option, None, Some, refl, ap, subst, ◌∙◌, rules, true≢false, suc, map, Ok, Err, find, is_some, is_none, ◌==◌, ◌<◌, IfSome, sym, ap₂, arith}
+use Rattle.std.proofs.Common.{subst₂}
+use Rattle.std.proofs.lemmas.Bool.{ltb-false}
+use Rattle.ca_agree_keys.proofs.EndLemmas.{window-ended}
+use Rattle.ca_agree_keys.proofs.KeyVerbLemmas.{leads-unless-all}
+use Rattle.ca_agree_keys.proofs.SlotLemmas.{at-region, at-window, key-slot-refl, region-kind, slot-at-region, without_key}
+use Rattle.ca_agree_keys.specs.InForce.{AgreeOnGrants, grant_in_force}
+use Rattle.ca_agree_posts.proofs.GrantLemmas.{found-by, grant-refl}
+use Rattle.ca_agree_posts.proofs.OperationLemmas.{done_by, leads-done}
+use Rattle.ca_agree_posts.proofs.PlaceLemmas.{IsPerformed}
+use Rattle.ca_agree_posts.proofs.PostEventLemmas.{event-posts-agree, opening-posts-agree}
+use Rattle.ca_agree_posts.proofs.PostTurnLemmas.{IsNextOperation, next-posted}
+use Rattle.ca_agree_posts.specs.Posts.{PostsAgree}
+use Rattle.ca_agree_ways.proofs.WayEventLemmas.{event-ways-agree, opening-ways-agree}
+use Rattle.ca_agree_ways.specs.Ways.{WaysAgree}
+use Rattle.ca_base.specs.Grants.{grant_of_registration, next_low, registration_refusals}
+use Rattle.ca_base.specs.objects.Domain.{with_object}
+use Rattle.ca_base.specs.objects.Region.{after_registration, is_vacant_region}
+use Rattle.ca_base.specs.objects.Slices.{has_slot}
+use Rattle.ca_base.specs.objects.Window.{without_binding}
+use Rattle.ca_keys.specs.Equal.{grant_eq, slot_eq}
+use Rattle.ca_keys.specs.Numbers.{index_of, key_at, region_index, window_index}
+use Rattle.ca_keys.specs.declared.place.Run.{Run}
+use Rattle.ca_keys.specs.declared.rights.Rights.{Rights}
+use Rattle.ca_licensed.proofs.AskedLemmas.{operation-asked}
+use Rattle.ca_licensed.proofs.BoundLemmas.{IsAgreed, none-bound}
+use Rattle.ca_licensed.specs.Asked.{AreAsAsked, is_granted_as_asked}
+use Rattle.ca_licensed.specs.Ends.{is_unbound}
+use Rattle.ca_model.specs.Licensed.{is_grant_at_hand, is_grant_of_operation, is_grant_of_verb}
+use Rattle.ca_model.specs.Past.{KeySlot, Posted, at_end, key_slot, key_slot_eq, key_slot_of, next_operation, operation_at_hand, with_at}
+use Rattle.ca_model.specs.declared.answer.Refusal.TheVariants.{NoDomain, SlotTaken}
+use Rattle.ca_model.specs.machine.RegionVerbs.{reg_mr_plan}
+use Rattle.ca_model.specs.machine.Sound.{IsQueueOf}
+use Rattle.ca_model.specs.machine.Step.{bytes_of_buffer, has_buffer, run_of}
 use Rattle.std.specs.List.{AllByRecursion}
 use Rattle.std.specs.Option.{option_map, option_map_or}
 use Rattle.ca_agree.proofs.LeadsLemmas.{leads-around, leads-queue, leads-unless, leads-weaker, comes}
 use Rattle.ca_agree.proofs.PathVerbLemmas.{call_of}
 use Rattle.ca_agree.specs.Runs.{Leads, Comes}
-use Rattle.ca_agree_keys.proofs.KeyTurnLemmas.{IsUp, found, own-adapter}
+use Rattle.ca_agree_keys.proofs.KeyTurnLemmas.{found, own-adapter}
 use Rattle.ca_agree_keys.specs.InForce.{KeysAgree}
 use Rattle.ca_agree_posts.proofs.GoingLemmas.{respond-goes, timeout-goes, failure-goes, IsKeyless, TellOf, EndKey, AreKeyless, arrival-goes}
 use Rattle.ca_agree_posts.proofs.PostLemmas.{leads-goes, leads-ends}
-use Rattle.ca_agree_posts.proofs.PostTurnLemmas.{leads-perform, packet-is, EndsSuch}
+use Rattle.ca_agree_posts.proofs.PostTurnLemmas.{packet-is}
 use Rattle.ca_base.specs.Configuration.{Configuration}
 use Rattle.ca_base.specs.declared.correspondent.Correspondent.{Correspondent}
 use Rattle.ca_base.specs.declared.lot.Lot.{Lot}
@@ -98,39 +132,67 @@ use Rattle.ca_licensed.specs.Ends.{DoEndInForce, ends_in_force}
 
 -- ---- keys in force
 
-find-some : (test other : Grant → Bool) (gs : List Grant) (h : Grant) → find test gs ≡ Some h → other h ≡ true → is_some (find other gs) ≡ true
-find-some test other [] h is passes = absurd (true≢false (sym (ap is_some is)))
-find-some test other (g ∷ gs) h is passes = by (test g) is (find-some test other gs h) (other g) refl
-  where
-    by : (b : Bool) → (if b then Some g else find test gs) ≡ Some h → (find test gs ≡ Some h → other h ≡ true → is_some (find other gs) ≡ true) → (z : Bool) → other g ≡ z
-        → is_some (if z then Some g else find other gs) ≡ true
-    by b is rest true e = refl
-    by true is rest false e = absurd (true≢false (sym (ap other (same_Some g h is) ∙ passes) ∙ e))
-    by false is rest false e = rest is passes
+-- a grant is what its event asked for, and a key that ends is one in force
+abbrev is_fit : Past → Mark → Bool
+is_fit past (marks.Granted g) = is_grant_at_hand past g
+is_fit past (marks.Revoked adapter key) = option_map_or (is_unbound past) (grant_with past adapter key) false
+is_fit past mark = true
 
--- the key is one of a grant in force, at this adapter
+-- the key is one of a grant in force at this adapter, and not of a region with a bound window
 abbrev IsInForce : Past → ℕ → Key → Type 0
-IsInForce past adapter key = is_some (grant_with past adapter key) ≡ true
+IsInForce past adapter key = option_map_or (is_unbound past) (grant_with past adapter key) false ≡ true
+
+same-in-force : (past p : Past) (adapter : ℕ) (key : Key) → p.grants ≡ past.grants → p.way ≡ past.way → IsInForce past adapter key → IsInForce p adapter key
+same-in-force past p adapter key grants ways there =
+    subst₂ (λ gs ks. option_map_or (is_unbound (record past { grants = gs; way = ks })) (find (λ g. (g.domain.adapter == adapter) && key_eq g.key key) gs) false ≡ true) (sym grants) (sym ways) there
 
 own-key : (adapter : ℕ) (h : Grant) → h.domain.adapter ≡ adapter → ((h.domain.adapter == adapter) && key_eq h.key h.key) ≡ true
 own-key adapter h is = both-true _ _ (eq-eqb h.domain.adapter adapter is) (key-refl h.key)
 
-region-in-force : (c : Configuration) (past : Past) (w : World) (s : Slot) (h : Grant) → IsUp c past w → s.slot < 0x8000 → grant_of_region (w.region s) ≡ Some h → IsInForce past s.domain.adapter h.key
-region-in-force c past w s h up small is = find-some _ _ past.grants h (up.agree.keys.same (region_key_slot s) ∙ at-region-slot w.region w.window s small ∙ is)
-    (own-key s.domain.adapter h (ap (λ (d : DomainId). d.adapter) (region-of c s (w.region s).low (w.region s).state h (up.sound.things (Region_of s)) is).1))
+-- grants with this key, at this adapter, stand in its key slot
+key-slots : (adapter : ℕ) (key : Key) (g : Grant) → ((g.domain.adapter == adapter) && key_eq g.key key) ≡ true → key_slot_of g ≡ key_slot adapter key
+key-slots adapter key g same = λ i. record { adapter = eqb-true g.domain.adapter adapter parts.0 i; index = index_of (record { 0 = eqb-true g.key.0 key.0 parts.1 i }) }
+  where
+    parts : ((g.domain.adapter == adapter) ≡ true) × (key_eq g.key key ≡ true)
+    parts = and_parts (g.domain.adapter == adapter) (key_eq g.key key) same
 
-window-in-force : (c : Configuration) (past : Past) (w : World) (s : Slot) (b : Binding) → IsUp c past w → s.slot < 0x8000 → (w.window s).binding ≡ Some b → IsInForce past s.domain.adapter (key_of_window (w.window s))
-window-in-force c past w s b up small is = find-some _ _ past.grants (grant_of_binding (w.window s) b over.region) (up.agree.keys.same (window_key_slot s) ∙ at-window-slot w.region w.window s small ∙ over.stands)
-    (own-key s.domain.adapter (grant_of_binding (w.window s) b over.region) (ap (λ (t : Slot). t.domain.adapter) (up.sound.things (Window_of s)).0))
+-- the grant of a key slot is found by its key
+grant-found : (gs : List Grant) (k : KeySlot) (h : Grant) (adapter : ℕ) → grant_in_force k gs ≡ Some h → k ≡ key_slot adapter h.key → h.domain.adapter ≡ adapter → find (λ g. (g.domain.adapter == adapter) && key_eq g.key h.key) gs ≡ Some h
+grant-found gs k h adapter is place own = found-by (λ g. (g.domain.adapter == adapter) && key_eq g.key h.key) k gs h is (own-key adapter h own)
+    (λ g same. ap₂ key_slot_eq (key-slots adapter h.key g same) place ∙ key-slot-refl (key_slot adapter h.key))
+
+region-in-force : (c : Configuration) (past : Past) (w : World) (s : Slot) (h : Grant) → IsAgreed c past w → s.slot < 0x8000 → grant_of_region (w.region s) ≡ Some h → (w.region s).bound ≡ 0 → IsInForce past s.domain.adapter h.key
+region-in-force c past w s h up small is none = ap (λ o. option_map_or (is_unbound past) o false)
+    (grant-found past.grants (region_key_slot s) h s.domain.adapter (up.agree.keys.same (region_key_slot s) ∙ at-region-slot w.region w.window s small ∙ is)
+    (sym (at-region h s (w.region s).low own.0 own.1) ∙ ap (λ a. key_slot a h.key) (ap (λ (d : DomainId). d.adapter) own.1)) (ap (λ (d : DomainId). d.adapter) own.1))
+    ∙ ap (λ b. not (h.local && b)) (none-bound c past w s h up small is none) ∙ never h.local
+  where
+    own : (h.key ≡ key_at (region_index s) (w.region s).low) × (h.domain ≡ s.domain)
+    own = region-of c s (w.region s).low (w.region s).state h (up.sound.things (Region_of s)) is
+
+    never : (b : Bool) → not (b && false) ≡ true
+    never true = refl
+    never false = refl
+
+window-in-force : (c : Configuration) (past : Past) (w : World) (s : Slot) (b : Binding) → IsAgreed c past w → s.slot < 0x8000 → (w.window s).binding ≡ Some b → IsInForce past s.domain.adapter (key_of_window (w.window s))
+window-in-force c past w s b up small is = ap (λ o. option_map_or (is_unbound past) o false)
+    (grant-found past.grants (window_key_slot s) h s.domain.adapter (up.agree.keys.same (window_key_slot s) ∙ at-window-slot w.region w.window s small ∙ over.stands)
+    (sym (at-window h s (w.window s).low (ap (λ (t : Slot). key_at (window_index t) (w.window s).low) own) (ap (λ (t : Slot). t.domain) own)) ∙ ap (λ (t : Slot). key_slot t.domain.adapter h.key) own) (ap (λ (t : Slot). t.domain.adapter) own))
   where
     over : StandsOver w s b
     over = stands-over w s b up.bound is
+
+    h : Grant
+    h = grant_of_binding (w.window s) b over.region
+
+    own : (w.window s).slot ≡ s
+    own = (up.sound.things (Window_of s)).0
 
 key-path : (a b : Key) → key_eq a b ≡ true → a ≡ b
 key-path a b same = λ i. record { 0 = eqb-true a.0 b.0 same i }
 
 -- an invalidation that is not refused names a key in force
-refusal-in-force : (c : Configuration) (past : Past) (w : World) (i : Invalidation) → IsUp c past w → refusal_in c w i ≡ None → IsInForce past i.domain.adapter i.key
+refusal-in-force : (c : Configuration) (past : Past) (w : World) (i : Invalidation) → IsAgreed c past w → refusal_in c w i ≡ None → IsInForce past i.domain.adapter i.key
 refusal-in-force c past w i up none = by (names_region c i.domain i.key) (names_window c i.domain i.key) none
   where
     slot : Slot
@@ -139,16 +201,16 @@ refusal-in-force c past w i up none = by (names_region c i.domain i.key) (names_
     small : slot.slot < 0x8000
     small = omega arith
 
-    region : (o : Option Grant) → grant_of_region (w.region slot) ≡ o → is_none o ≡ false → has_other_key i.key o ≡ false → IsInForce past i.domain.adapter i.key
-    region None is some same = absurd (true≢false some)
-    region (Some h) is some same = subst (IsInForce past i.domain.adapter) (key-path h.key i.key (not-false (key_eq h.key i.key) same)) (region-in-force c past w slot h up small is)
+    region : (o : Option Grant) → grant_of_region (w.region slot) ≡ o → is_none o ≡ false → has_other_key i.key o ≡ false → (w.region slot).bound ≡ 0 → IsInForce past i.domain.adapter i.key
+    region None is some same none = absurd (true≢false some)
+    region (Some h) is some same none = subst (IsInForce past i.domain.adapter) (key-path h.key i.key (not-false (key_eq h.key i.key) same)) (region-in-force c past w slot h up small is none)
 
     window : (o : Option Binding) → (w.window slot).binding ≡ o → is_none o ≡ false → not (key_eq (key_of_window (w.window slot)) i.key) ≡ false → IsInForce past i.domain.adapter i.key
     window None is some same = absurd (true≢false some)
     window (Some b) is some same = subst (IsInForce past i.domain.adapter) (key-path (key_of_window (w.window slot)) i.key (not-false (key_eq (key_of_window (w.window slot)) i.key) same)) (window-in-force c past w slot b up small is)
 
     of-region-key : region_refusal i.key (w.region slot) ≡ None → IsInForce past i.domain.adapter i.key
-    of-region-key e = region (grant_of_region (w.region slot)) refl fails.0 fails.1.0
+    of-region-key e = region (grant_of_region (w.region slot)) refl fails.0 fails.1.0 (omega (arith, ltb-false 0 (w.region slot).bound fails.1.1.1.0))
       where
         fails : AllFail (of_region (region_invalidation_refusals i.key (w.region slot)))
         fails = all-fail (of_region (region_invalidation_refusals i.key (w.region slot))) e
@@ -168,18 +230,18 @@ refusal-in-force c past w i up none = by (names_region c i.domain i.key) (names_
 
 -- marks that end no key
 abbrev AreEndless : List Mark → Type 0
-AreEndless ms = (p : Past) → each_mark ends_in_force p ms ≡ true
+AreEndless ms = (p : Past) → each_mark is_fit p ms ≡ true
 
-each-append : (ms ns : List Mark) (p : Past) → each_mark ends_in_force p ms ≡ true → AreEndless ns → each_mark ends_in_force p (ms ++ ns) ≡ true
+each-append : (ms ns : List Mark) (p : Past) → each_mark is_fit p ms ≡ true → AreEndless ns → each_mark is_fit p (ms ++ ns) ≡ true
 each-append [] ns p one other = other p
-each-append (m ∷ ms) ns p one other = both-true _ _ (and_parts (ends_in_force p m) (each_mark ends_in_force (after_mark m p) ms) one).0
-    (each-append ms ns (after_mark m p) (and_parts (ends_in_force p m) (each_mark ends_in_force (after_mark m p) ms) one).1 other)
+each-append (m ∷ ms) ns p one other = both-true _ _ (and_parts (is_fit p m) (each_mark is_fit (after_mark m p) ms) one).0
+    (each-append ms ns (after_mark m p) (and_parts (is_fit p m) (each_mark is_fit (after_mark m p) ms) one).1 other)
 
 of-endless : (name : QueueId) (sends : WorkQueue PostedSend) (ms : List Mark) → AreOf name sends None ms → AreEndless ms
 of-endless name sends [] all p = refl
 of-endless name sends (m ∷ ms) all p = both-true _ _ (by m all.0) (of-endless name sends ms all.1 (after_mark m p))
   where
-    by : (m : Mark) → IsOf name sends None m → ends_in_force p m ≡ true
+    by : (m : Mark) → IsOf name sends None m → is_fit p m ≡ true
     by (marks.Verb consumer verb answer) one = absurd one
     by (marks.Granted g) one = absurd one
     by (marks.Revoked adapter key) one = absurd (true≢false (sym (ap is_some one)))
@@ -197,7 +259,7 @@ keyless-endless : (name : QueueId) (sends : WorkQueue PostedSend) (ended : Optio
 keyless-endless name sends ended [] all p = refl
 keyless-endless name sends ended (m ∷ ms) all p = both-true _ _ (by m all.0) (keyless-endless name sends ended ms all.1 (after_mark m p))
   where
-    by : (m : Mark) → IsKeyless name sends ended m → ends_in_force p m ≡ true
+    by : (m : Mark) → IsKeyless name sends ended m → is_fit p m ≡ true
     by (marks.Verb consumer verb answer) one = absurd one
     by (marks.Granted g) one = absurd one
     by (marks.Revoked adapter key) one = absurd one
@@ -212,13 +274,13 @@ keyless-endless name sends ended (m ∷ ms) all p = both-true _ _ (by m all.0) (
     by (marks.Dropped target cause) one = refl
 
 -- a row's marks end a key in force
-tells-in-force : (name : QueueId) (sends : WorkQueue PostedSend) (ended : Option Key) (ms : List Mark) → TellOf name sends ended ms → (p : Past) → IfSome ended (IsInForce p name.adapter) → each_mark ends_in_force p ms ≡ true
+tells-in-force : (name : QueueId) (sends : WorkQueue PostedSend) (ended : Option Key) (ms : List Mark) → TellOf name sends ended ms → (p : Past) → IfSome ended (IsInForce p name.adapter) → each_mark is_fit p ms ≡ true
 tells-in-force name sends None ms all p there = keyless-endless name sends None ms all p
 tells-in-force name sends (Some key) ms all p there = by ms all p there
   where
-    by : (ms : List Mark) → EndKey name sends key ms → (p : Past) → IsInForce p name.adapter key → each_mark ends_in_force p ms ≡ true
+    by : (ms : List Mark) → EndKey name sends key ms → (p : Past) → IsInForce p name.adapter key → each_mark is_fit p ms ≡ true
     by [] all p there = absurd all
-    by (marks.Revoked adapter k ∷ ms) all p there = both-true _ _ (ap₂ (λ a x. is_some (grant_with p a x)) all.0 all.1 ∙ there) (keyless-endless name sends (Some key) ms all.2 (after_mark (marks.Revoked adapter k) p))
+    by (marks.Revoked adapter k ∷ ms) all p there = both-true _ _ (ap₂ (λ a x. option_map_or (is_unbound p) (grant_with p a x) false) all.0 all.1 ∙ there) (keyless-endless name sends (Some key) ms all.2 (after_mark (marks.Revoked adapter k) p))
     by (marks.Verb consumer verb answer ∷ ms) all p there = absurd all.0
     by (marks.Granted g ∷ ms) all p there = absurd all.0
     by (marks.Sent source target index request bytes ∷ ms) all p there = absurd all.0
@@ -264,19 +326,19 @@ answered-endless (marks.Dropped target cause ∷ ms) all p = absurd all
 -- ---- events
 
 abbrev Ends : Past → Event → World → List Mark → Type 0
-Ends past event v ms = each_mark ends_in_force (at_begin event past) ms ≡ true
+Ends past event v ms = each_mark is_fit (at_begin event past) ms ≡ true
 
 -- the key that a row ends, by what it names
-row-in-force : (c : Configuration) (past : Past) (w : World) (q : QueuePair) (row : Row) (i : Option Invalidation) (p : Past) → IsUp c past w → IsThere w q → p.grants ≡ past.grants
+row-in-force : (c : Configuration) (past : Past) (w : World) (q : QueuePair) (row : Row) (i : Option Invalidation) (p : Past) → IsAgreed c past w → IsThere w q → p.grants ≡ past.grants → p.way ≡ past.way
     → IfSome row.invalidation (λ i. (i.queue ≡ q.queue) × (i.domain ≡ q.domain)) → IfSome i (λ i. (row.invalidation ≡ Some i) × (refusal_in c w i ≡ None)) → IfSome (option_map (λ i. i.key) i) (IsInForce p q.queue.adapter)
-row-in-force c past w q row None p up there same own is = record {}
-row-in-force c past w q row (Some i) p up there same own is = subst (λ gs. is_some (find (λ g. (g.domain.adapter == q.queue.adapter) && key_eq g.key i.key) gs) ≡ true) (sym same)
+row-in-force c past w q row None p up there same ways own is = record {}
+row-in-force c past w q row (Some i) p up there same ways own is = same-in-force past p q.queue.adapter i.key same ways
     (subst (λ a. IsInForce past a i.key) (ap (λ (d : DomainId). d.adapter) (subst (λ o. IfSome o (λ i. (i.queue ≡ q.queue) × (i.domain ≡ q.domain))) is.0 own).1 ∙ own-adapter w q there) (refusal-in-force c past w i up is.1))
 
 ends-sent : (q : QueuePair) (peer : Correspondent) (m : Mailbox) (lot : Lot) (o : Option Packet) → AreEndless (option_map_or (sent_marks q peer m lot) o [])
 ends-sent q peer m lot o = of-endless q.queue q.sends (option_map_or (sent_marks q peer m lot) o []) (sent-of q.queue q.sends None q peer m lot o)
 
-ends-respond : (c : Configuration) (past : Past) (w : World) (name : QueueId) (lot : Lot) → IsUp c past w → Leads w (Ends past (events.Respond name lot)) (respond_plan c name lot)
+ends-respond : (c : Configuration) (past : Past) (w : World) (name : QueueId) (lot : Lot) → IsAgreed c past w → Leads w (Ends past (events.Respond name lot)) (respond_plan c name lot)
 ends-respond c past w name lot up = leads-queue c w P name reasons.State (λ q. With_around q (λ a. Respond_around c lot q a q.peer))
     (λ q is. leads-around w P q (λ a. Respond_around c lot q a q.peer) (by q (found c w name q up.sound is) q.peer))
   where
@@ -289,7 +351,7 @@ ends-respond c past w name lot up = leads-queue c w P name reasons.State (λ q. 
         (respond-goes (has_room_for q peer (w.mailbox peer.queue)) q)
         (λ e i ws goes is. each-append e.marks (option_map_or (sent_marks q peer (w.mailbox peer.queue) lot) (packet_sent e) []) (at_begin (events.Respond name lot) past)
         (tells-in-force q.queue q.sends (option_map (λ i. i.key) i) e.marks goes.marks (at_begin (events.Respond name lot) past)
-        (row-in-force c past w q row i (at_begin (events.Respond name lot) past) up there refl (respond-told past.grants (has_room_for q peer (w.mailbox peer.queue)) q).own is))
+        (row-in-force c past w q row i (at_begin (events.Respond name lot) past) up there refl refl (respond-told past.grants (has_room_for q peer (w.mailbox peer.queue)) q).own is))
         (ends-sent q peer (w.mailbox peer.queue) lot (packet_sent e)))
       where
         row : Row
@@ -312,14 +374,14 @@ ends-timeout c past w name hasten = leads-queue c w P name reasons.State (λ q. 
     by q (Some peer) = fire q _
 
 -- a packet that arrives, behind marks that come first
-ends-arrive : (c : Configuration) (past p : Past) (w : World) (P : World → List Mark → Type 0) (q : QueuePair) (bytes : List ℕ) (envelope : Option ℕ) (pre : List Update) (ms : List Mark) → IsUp c past w → IsSteadyWorld w → IsThere w q
-    → p.grants ≡ past.grants → ((v : World) (ns : List Mark) → each_mark ends_in_force p ns ≡ true → P v (ms ++ ns)) → Leads w P (Arrive c q bytes envelope pre ms)
-ends-arrive c past p w P q bytes envelope pre ms up steady there same more =
+ends-arrive : (c : Configuration) (past p : Past) (w : World) (P : World → List Mark → Type 0) (q : QueuePair) (bytes : List ℕ) (envelope : Option ℕ) (pre : List Update) (ms : List Mark) → IsAgreed c past w → IsSteadyWorld w → IsThere w q
+    → p.grants ≡ past.grants → p.way ≡ past.way → ((v : World) (ns : List Mark) → each_mark is_fit p ns ≡ true → P v (ms ++ ns)) → Leads w P (Arrive c q bytes envelope pre ms)
+ends-arrive c past p w P q bytes envelope pre ms up steady there same ways more =
     leads-around w P q (λ a. Row_plan c (arrival_row bytes envelope (shared_in a) q) (finish a))
     (leads-goes c w P q (arrival_row bytes envelope (shared_in a) q) (finish a) (arrival-goes bytes envelope (shared_in a) q (there-kept w q steady there))
     (λ e i ws goes is. more _ (marks.Arrived q.queue envelope ∷ e.marks) (both-true true _ refl
     (tells-in-force q.queue q.sends (option_map (λ i. i.key) i) e.marks goes.marks (after_mark (marks.Arrived q.queue envelope) p)
-    (row-in-force c past w q (arrival_row bytes envelope (shared_in a) q) i (after_mark (marks.Arrived q.queue envelope) p) up there same (arrival-told past.grants bytes envelope (shared_in a) q).own is)))))
+    (row-in-force c past w q (arrival_row bytes envelope (shared_in a) q) i (after_mark (marks.Arrived q.queue envelope) p) up there same ways (arrival-told past.grants bytes envelope (shared_in a) q).own is)))))
   where
     a : Around
     a = around_in w q (shared_of w q)
@@ -327,7 +389,7 @@ ends-arrive c past p w P q bytes envelope pre ms up steady there same more =
     finish : Around → Effects → List Update → List Write → Plan
     finish a e more writes = Finish (pre ++ (updates_of q a e ++ more)) writes (ms ++ marks.Arrived q.queue envelope ∷ e.marks)
 
-ends-deliver : (c : Configuration) (past : Past) (w : World) (name : QueueId) (index : ℕ) → IsUp c past w → IsSteadyWorld w → Leads w (Ends past (events.Deliver name index)) (deliver_plan c name index)
+ends-deliver : (c : Configuration) (past : Past) (w : World) (name : QueueId) (index : ℕ) → IsAgreed c past w → IsSteadyWorld w → Leads w (Ends past (events.Deliver name index)) (deliver_plan c name index)
 ends-deliver c past w name index up steady = (λ has. lent (bytes_lent index (w.mailbox name)), λ none. record {})
   where
     Q : World → List Mark → Type 0
@@ -346,7 +408,7 @@ ends-deliver c past w name index up steady = (λ has. lent (bytes_lent index (w.
 
     there : (bytes : List ℕ) (s : QueueSlot) → w.queue name ≡ s → Leads w Q (at bytes s)
     there bytes (NoQueue incarnation timers) is = record {}
-    there bytes (Present q) is = ends-arrive c past (at_begin (events.Deliver name index) past) w Q q bytes (Some index) ((Mailbox_of name := after_delivery index m) ∷ []) [] up steady (found c w name q up.sound is) refl
+    there bytes (Present q) is = ends-arrive c past (at_begin (events.Deliver name index) past) w Q q bytes (Some index) ((Mailbox_of name := after_delivery index m) ∷ []) [] up steady (found c w name q up.sound is) refl refl
         (λ v ns right. right)
 
     lent : (o : Option (List ℕ)) → Leads w Q (under_way o)
@@ -374,9 +436,10 @@ ends-wake c past w name = leads-queue c w (Ends past (events.RnrWake name)) name
     by q None = leads-unless w (Ends past (events.RnrWake name)) (wake_refusals false q) Stuck (Stuck reasons.Empty) (λ r. record {}) (record {})
     by q (Some peer) = receives (w.queue peer.queue) (λ empty. wakes q (reaches_peer q peer (w.mailbox peer.queue) && empty)) (λ empty. wake q _)
 
--- the keys that an operation would end are in force
-such-in-force : (c : Configuration) (past : Past) (w : World) (q : QueuePair) (op : SendOp) → IsUp c past w → IsThere w q → has_named_slot c q.domain op ≡ true → EndsSuch (IsInForce past q.queue.adapter) c w q op
-such-in-force c past w q (ops.Bind1 window key address count rights) up there has = by (w.window (window_slot q window)).binding refl
+-- the key that an operation ends is in force
+ended-in-force : (c : Configuration) (past : Past) (w : World) (q : QueuePair) (n : Numbered) (op : SendOp) → IsAgreed c past w → IsThere w q → has_named_slot c q.domain op ≡ true → (done_by c w q n op).refusal ≡ None
+    → IfSome (done_by c w q n op).marks.revoked (IsInForce past q.queue.adapter)
+ended-in-force c past w q n (ops.Bind1 window key address count rights) up there has none = by (w.window (window_slot q window)).binding refl
   where
     x : Window
     x = w.window (window_slot q window)
@@ -384,22 +447,64 @@ such-in-force c past w q (ops.Bind1 window key address count rights) up there ha
     by : (o : Option Binding) → x.binding ≡ o → IfSome (option_map (λ b. key_of_window x) o) (IsInForce past q.queue.adapter)
     by None is = record {}
     by (Some b) is = subst (λ a. IsInForce past a (key_of_window x)) (own-adapter w q there) (window-in-force c past w (window_slot q window) b up (window-small c (window_slot q window) up.limited has) is)
-such-in-force c past w q (ops.LocalInv key) up there has = λ none. subst (λ a. IsInForce past a key) (own-adapter w q there) (refusal-in-force c past w (record { queue = q.queue; domain = q.domain; key = key }) up none)
-such-in-force c past w q (ops.Bind2 window key low address count rights) up there has = record {}
-such-in-force c past w q (ops.FastReg region low buffer address count rights pages) up there has = record {}
-such-in-force c past w q (ops.Send list) up there has = record {}
-such-in-force c past w q (ops.SendImm imm list) up there has = record {}
-such-in-force c past w q (ops.SendInv key list) up there has = record {}
-such-in-force c past w q (ops.Write address key list) up there has = record {}
-such-in-force c past w q (ops.WriteImm address key imm list) up there has = record {}
-such-in-force c past w q (ops.Read address key list) up there has = record {}
-such-in-force c past w q (ops.CmpSwap address key compare swap list) up there has = record {}
-such-in-force c past w q (ops.FetchAdd address key add list) up there has = record {}
+ended-in-force c past w q n (ops.LocalInv key) up there has none = subst (λ a. IsInForce past a key) (own-adapter w q there) (refusal-in-force c past w (record { queue = q.queue; domain = q.domain; key = key }) up none)
+ended-in-force c past w q n (ops.Bind2 window key low address count rights) up there has none = record {}
+ended-in-force c past w q n (ops.FastReg region low buffer address count rights pages) up there has none = record {}
+ended-in-force c past w q n (ops.Send list) up there has none = record {}
+ended-in-force c past w q n (ops.SendImm imm list) up there has none = record {}
+ended-in-force c past w q n (ops.SendInv key list) up there has none = record {}
+ended-in-force c past w q n (ops.Write address key list) up there has none = record {}
+ended-in-force c past w q n (ops.WriteImm address key imm list) up there has none = record {}
+ended-in-force c past w q n (ops.Read address key list) up there has none = record {}
+ended-in-force c past w q n (ops.CmpSwap address key compare swap list) up there has none = record {}
+ended-in-force c past w q n (ops.FetchAdd address key add list) up there has none = record {}
 
-ends-request : (c : Configuration) (past : Past) (w : World) (name : QueueId) (lot : Lot) → IsUp c past w → IsSteadyWorld w → Leads w (Ends past (events.Request name lot)) (request_plan c name lot)
+abbrev ended_by : QueuePair → Option Key → List Mark
+ended_by q k = option_map_or (λ key. marks.Revoked q.queue.adapter key ∷ []) k []
+
+-- what an operation grants, behind the end of a key, is what it asked for
+asked-after : (c : Configuration) (past : Past) (w : World) (q : QueuePair) (start : Past) (n : Numbered) (op : SendOp) → IsAgreed c past w → IsThere w q → has_named_slot c q.domain op ≡ true → start.grants ≡ past.grants
+    → (done_by c w q n op).refusal ≡ None → (k : Option Key) → (done_by c w q n op).marks.revoked ≡ k
+    → IfSome (done_by c w q n op).marks.granted (λ g. is_grant_of_operation (after_marks (ended_by q k) start) g q.queue (record { place = n.place; request = record n.request { op = op }; drawn = n.drawn }) ≡ true)
+asked-after c past w q start n op up there has same none None is = operation-asked c start w q w.window n op up.sound there (subst (λ gs. AgreeOnGrants gs w.region w.window) (sym same) up.agree.keys) none
+asked-after c past w q start n (ops.Bind1 window key address count rights) up there has same none (Some k) is = by x.binding refl is
+  where
+    slot : Slot
+    slot = window_slot q window
+
+    x : Window
+    x = w.window slot
+
+    windows : Slot → Window
+    windows = with_at slot_eq w.window slot (without_binding x)
+
+    op : SendOp
+    op = ops.Bind1 window key address count rights
+
+    by : (o : Option Binding) → x.binding ≡ o → option_map (λ b. key_of_window x) o ≡ Some k
+        → IfSome (done_by c w q n op).marks.granted (λ g. is_grant_of_operation (after_mark (marks.Revoked q.queue.adapter k) start) g q.queue (record { place = n.place; request = record n.request { op = op }; drawn = n.drawn }) ≡ true)
+    by None was e = absurd (true≢false (sym (ap is_some e)))
+    by (Some b) was e = operation-asked c (after_mark (marks.Revoked q.queue.adapter k) start) w q windows n op up.sound there
+        (subst (λ gs. AgreeOnGrants (without_key q.queue.adapter k gs) w.region windows) (sym same)
+        (subst (λ y. AgreeOnGrants (without_key q.queue.adapter y past.grants) w.region windows) (same_Some (key_of_window x) k e)
+        (subst (λ a. AgreeOnGrants (without_key a (key_of_window x) past.grants) w.region windows) (own-adapter w q there)
+        (window-ended c w past.grants slot (without_binding x) (Some b) up.sound up.bound up.agree.keys (window-small c slot up.limited has) was refl)))) none
+asked-after c past w q start n (ops.LocalInv key) up there has same none (Some k) is = record {}
+asked-after c past w q start n (ops.Bind2 window key low address count rights) up there has same none (Some k) is = absurd (true≢false (sym (ap is_some is)))
+asked-after c past w q start n (ops.FastReg region low buffer address count rights pages) up there has same none (Some k) is = absurd (true≢false (sym (ap is_some is)))
+asked-after c past w q start n (ops.Send list) up there has same none (Some k) is = absurd (true≢false (sym (ap is_some is)))
+asked-after c past w q start n (ops.SendImm imm list) up there has same none (Some k) is = absurd (true≢false (sym (ap is_some is)))
+asked-after c past w q start n (ops.SendInv key list) up there has same none (Some k) is = absurd (true≢false (sym (ap is_some is)))
+asked-after c past w q start n (ops.Write address key list) up there has same none (Some k) is = absurd (true≢false (sym (ap is_some is)))
+asked-after c past w q start n (ops.WriteImm address key imm list) up there has same none (Some k) is = absurd (true≢false (sym (ap is_some is)))
+asked-after c past w q start n (ops.Read address key list) up there has same none (Some k) is = absurd (true≢false (sym (ap is_some is)))
+asked-after c past w q start n (ops.CmpSwap address key compare swap list) up there has same none (Some k) is = absurd (true≢false (sym (ap is_some is)))
+asked-after c past w q start n (ops.FetchAdd address key add list) up there has same none (Some k) is = absurd (true≢false (sym (ap is_some is)))
+
+ends-request : (c : Configuration) (past : Past) (w : World) (name : QueueId) (lot : Lot) → IsAgreed c past w → IsSteadyWorld w → Leads w (Ends past (events.Request name lot)) (request_plan c name lot)
 ends-request c past w name lot up steady = (
   λ has. (leads-queue c w P name reasons.State (λ q. With_around q (λ a. Request_around c lot q a q.peer (turn_of q)))
-      (λ q is. leads-around w P q (λ a. Request_around c lot q a q.peer (turn_of q)) (by q (found c w name q up.sound is) q.peer (turn_of q) refl
+      (λ q is. leads-around w P q (λ a. Request_around c lot q a q.peer (turn_of q)) (by q (found c w name q up.sound is) (subst (IsQueueOf name) is (up.sound.things (Queue_of name))).0 q.peer (turn_of q) refl
       (turn-named c w q (placed-here c w name q (record { sound = up.sound; placed = up.placed }) is has))))).0 has,
   λ none. record {},
 )
@@ -410,28 +515,63 @@ ends-request c past w name lot up steady = (
     start : Past
     start = at_begin (events.Request name lot) past
 
-    performed : (q : QueuePair) (n : Numbered) (k : Option Key) (g : Option Grant) (b : Bool) → IfSome k (IsInForce past q.queue.adapter)
-        → each_mark ends_in_force start ((option_map_or (λ key. marks.Revoked q.queue.adapter key ∷ []) k [] ++ option_map_or (λ g. marks.Granted g ∷ []) g [])
+    performed : (q : QueuePair) (n : Numbered) (k : Option Key) (g : Option Grant) (b : Bool) → IfSome k (IsInForce past q.queue.adapter) → IfSome g (λ g. is_grant_at_hand (after_marks (ended_by q k) start) g ≡ true)
+        → each_mark is_fit start ((ended_by q k ++ option_map_or (λ g. marks.Granted g ∷ []) g [])
         ++ (if b then success_marks q.queue n.place (record n.request { signalled = true }) else [])) ≡ true
-    performed q n None None true there = refl
-    performed q n None None false there = refl
-    performed q n None (Some g) true there = refl
-    performed q n None (Some g) false there = refl
-    performed q n (Some k) None true there = both-true _ _ there refl
-    performed q n (Some k) None false there = both-true _ _ there refl
-    performed q n (Some k) (Some g) true there = both-true _ _ there refl
-    performed q n (Some k) (Some g) false there = both-true _ _ there refl
+    performed q n None None true there asked = refl
+    performed q n None None false there asked = refl
+    performed q n None (Some g) true there asked = both-true _ _ asked refl
+    performed q n None (Some g) false there asked = both-true _ _ asked refl
+    performed q n (Some k) None true there asked = both-true _ _ there refl
+    performed q n (Some k) None false there asked = both-true _ _ there refl
+    performed q n (Some k) (Some g) true there asked = both-true _ _ there (both-true _ _ asked refl)
+    performed q n (Some k) (Some g) false there asked = both-true _ _ there (both-true _ _ asked refl)
 
-    ends : (q : QueuePair) (n : Numbered) (after : QueuePair) (m : LocalMarks) (refusal : Option OpRefusal) → (refusal ≡ None → IfSome m.revoked (IsInForce past q.queue.adapter)) → each_mark ends_in_force start (operation_effects q n after m refusal).marks ≡ true
-    ends q n after m None gone = performed q n m.revoked m.granted n.request.signalled (gone refl)
-    ends q n after m (Some cause) gone = keyless-endless q.queue q.sends None _ (failure-goes MemoryManagement (Some cause) q refl).marks start
+    -- what is granted was asked for
+    grants : (q : QueuePair) → IsThere w q → q.queue ≡ name → (n : Numbered) → IsPerformed q n → (p : Past) (g : Option Grant) → p.at_hand.event ≡ events.Request name lot → next_operation p name ≡ next_operation past name
+        → IfSome g (λ g. is_grant_of_operation p g q.queue (record { place = n.place; request = n.request; drawn = n.drawn }) ≡ true) → IfSome g (λ g. is_grant_at_hand p g ≡ true)
+    grants q there own n does p None event same asked = record {}
+    grants q there own n does p (Some g) event same asked = ap (at p) event
+        ∙ ap (λ o. option_map_or (is_grant_of_operation p g name) o false) (operation p event ∙ same ∙ subst (λ k. next_operation past k ≡ Some next.posted) own next.is)
+        ∙ ap (is_grant_of_operation p g name) (λ i. record { place = next.place i; request = next.request i; drawn = next.drawn i })
+        ∙ ap (λ k. is_grant_of_operation p g k (record { place = n.place; request = n.request; drawn = n.drawn })) (sym own) ∙ asked
+      where
+        next : IsNextOperation past q n
+        next = next-posted past w q n up.posts there.present does
 
-    by : (q : QueuePair) → IsThere w q → (peer : Option Correspondent) (turn : RequestTurn) → turn_of q ≡ turn → IsNamedTurn c q turn → Leads w P (Request_around c lot q (around_in w q (shared_of w q)) peer turn)
-    by q there peer (Waits reason) is named = record {}
-    by q there peer (Performs n) is named = leads-perform (IsInForce past q.queue.adapter) c w P q n (λ e changes writes. Finish (updates_of q (around_in w q (shared_of w q)) e ++ changes) writes e.marks) n.request.op
-        (performs q n (there-kept w q steady there) there.sound.requester.begun is).local (such-in-force c past w q n.request.op up there named) (λ after m refusal cs like revokes gone kept. ends q n after m refusal gone)
-    by q there None (Sends n) is named = record {}
-    by q there (Some peer) (Sends n) is named = leads-ends c w P (λ ended. IsSentPacket q peer m lot) (packet_row q (has_room_for q peer m) n) (Leave_plan q (around_in w q (shared_of w q)) peer m lot) packets.denied packets.allowed
+        at : Past → Event → Bool
+        at p (events.Verb by' verb) = option_map_or (is_grant_of_verb p g) p.at_hand.answered false
+        at p (events.Request queue lot) = option_map_or (is_grant_of_operation p g queue) (operation_at_hand p) false
+        at p event = false
+
+        operation : (p : Past) → p.at_hand.event ≡ events.Request name lot → operation_at_hand p ≡ next_operation p name
+        operation p event = ap (of p) event
+          where
+            of : Past → Event → Option Posted
+            of p (events.Request queue lot) = next_operation p queue
+            of p event = None
+
+    next-kept : (q : QueuePair) (k : Option Key) → (next_operation (after_marks (ended_by q k) start) name ≡ next_operation past name) × ((after_marks (ended_by q k) start).at_hand.event ≡ events.Request name lot)
+    next-kept q None = (refl, refl)
+    next-kept q (Some k) = (refl, refl)
+
+    ends : (q : QueuePair) → IsThere w q → q.queue ≡ name → (n : Numbered) → IsPerformed q n → (after : QueuePair) (m : LocalMarks) (refusal : Option OpRefusal) → (refusal ≡ None → IfSome m.revoked (IsInForce past q.queue.adapter))
+        → (refusal ≡ None → IfSome m.granted (λ g. is_grant_of_operation (after_marks (ended_by q m.revoked) start) g q.queue (record { place = n.place; request = n.request; drawn = n.drawn }) ≡ true))
+        → each_mark is_fit start (operation_effects q n after m refusal).marks ≡ true
+    ends q there own n does after m None gone asked = performed q n m.revoked m.granted n.request.signalled (gone refl)
+        (grants q there own n does (after_marks (ended_by q m.revoked) start) m.granted (next-kept q m.revoked).1 (next-kept q m.revoked).0 (asked refl))
+    ends q there own n does after m (Some cause) gone asked = keyless-endless q.queue q.sends None _ (failure-goes MemoryManagement (Some cause) q refl).marks start
+
+    by : (q : QueuePair) → IsThere w q → q.queue ≡ name → (peer : Option Correspondent) (turn : RequestTurn) → turn_of q ≡ turn → IsNamedTurn c q turn → Leads w P (Request_around c lot q (around_in w q (shared_of w q)) peer turn)
+    by q there own peer (Waits reason) is named = record {}
+    by q there own peer (Performs n) is named = leads-done c w P q n (λ e changes writes. Finish (updates_of q (around_in w q (shared_of w q)) e ++ changes) writes e.marks) n.request.op does.local
+        (ends q there own n does (done_by c w q n n.request.op).after (done_by c w q n n.request.op).marks (done_by c w q n n.request.op).refusal
+        (λ none. ended-in-force c past w q n n.request.op up there named none) (λ none. asked-after c past w q start n n.request.op up there named refl none (done_by c w q n n.request.op).marks.revoked refl))
+      where
+        does : IsPerformed q n
+        does = performs q n (there-kept w q steady there) there.sound.requester.begun is
+    by q there own None (Sends n) is named = record {}
+    by q there own (Some peer) (Sends n) is named = leads-ends c w P (λ ended. IsSentPacket q peer m lot) (packet_row q (has_room_for q peer m) n) (Leave_plan q (around_in w q (shared_of w q)) peer m lot) packets.denied packets.allowed
         (λ e i ws sent more. each-append e.marks (option_map_or (sent_marks q peer m lot) (packet_sent e) []) start (keyless-endless q.queue q.sends None e.marks sent.keyless start) (ends-sent q peer m lot (packet_sent e)))
       where
         m : Mailbox
@@ -440,7 +580,7 @@ ends-request c past w name lot up steady = (
         packets : RowDoes (IsSentPacket q peer m lot) (packet_row q (has_room_for q peer m) n)
         packets = packet-sent q peer m lot (has_room_for q peer m) n (packet-is q peer m lot (has_room_for q peer m) n (there-kept w q steady there) there.sound.requester.begun is)
 
-ends-inject : (c : Configuration) (past : Past) (w : World) (by : ℕ) (q : QueueId) (bytes : List ℕ) → IsUp c past w → IsSteadyWorld w → Leads w (Ends past (events.Verb by (verbs.Inject q bytes))) (inject_plan c (call_of by (verbs.Inject q bytes)) q bytes)
+ends-inject : (c : Configuration) (past : Past) (w : World) (by : ℕ) (q : QueueId) (bytes : List ℕ) → IsAgreed c past w → IsSteadyWorld w → Leads w (Ends past (events.Verb by (verbs.Inject q bytes))) (inject_plan c (call_of by (verbs.Inject q bytes)) q bytes)
 ends-inject c past w by q bytes up steady = at (w.queue q) refl
   where
     call : Call
@@ -455,20 +595,42 @@ ends-inject c past w by q bytes up steady = at (w.queue q) refl
 
     at : (s : QueueSlot) → w.queue q ≡ s → Leads w P (arrives s)
     at (NoQueue incarnation timers) is = refl
-    at (Present p) is = ends-arrive c past (Behind past by (verbs.Inject q bytes) answers.Fine) w P p bytes None [] (answer_mark call answers.Fine ∷ []) up steady (found c w q p up.sound is) refl
+    at (Present p) is = ends-arrive c past (Behind past by (verbs.Inject q bytes) answers.Fine) w P p bytes None [] (answer_mark call answers.Fine ∷ []) up steady (found c w q p up.sound is) refl refl
         (λ v ns right. both-true true _ refl right)
 
-ends-dereg_mr : (c : Configuration) (past : Past) (w : World) (by : ℕ) (s : Slot) → IsUp c past w → s.slot < 0x8000 → Leads w (Ends past (events.Verb by (verbs.DeregMr s))) (dereg_mr_plan (call_of by (verbs.DeregMr s)) s)
-ends-dereg_mr c past w by s up small = leads-unless w (Ends past (events.Verb by (verbs.DeregMr s))) (of_region_refusals (deregistration_refusals (w.region s))) (Refuse_plan (call_of by (verbs.DeregMr s)))
+ends-dereg_mr : (c : Configuration) (past : Past) (w : World) (by : ℕ) (s : Slot) → IsAgreed c past w → s.slot < 0x8000 → Leads w (Ends past (events.Verb by (verbs.DeregMr s))) (dereg_mr_plan (call_of by (verbs.DeregMr s)) s)
+ends-dereg_mr c past w by s up small = leads-unless-all w (Ends past (events.Verb by (verbs.DeregMr s))) (of_region_refusals (deregistration_refusals (w.region s))) (Refuse_plan (call_of by (verbs.DeregMr s)))
     (Answer_plan (call_of by (verbs.DeregMr s)) answers.Fine ((Domain_of s.domain := without_object (w.domain s.domain)) ∷ (Region_of s := after_deregistration (w.region s)) ∷ [])
-    (option_map_or (λ g. marks.Revoked s.domain.adapter g.key ∷ []) (grant_of_region (w.region s)) [])) (λ r. refl) (told (grant_of_region (w.region s)) refl)
+    (option_map_or (λ g. marks.Revoked s.domain.adapter g.key ∷ []) (grant_of_region (w.region s)) [])) (λ r. refl) (λ fails. told (grant_of_region (w.region s)) refl (omega (arith, ltb-false 0 (w.region s).bound fails.1.0)))
   where
-    told : (o : Option Grant) → grant_of_region (w.region s) ≡ o
-        → each_mark ends_in_force (at_begin (events.Verb by (verbs.DeregMr s)) past) (marks.Verb by (verbs.DeregMr s) answers.Fine ∷ option_map_or (λ g. marks.Revoked s.domain.adapter g.key ∷ []) o []) ≡ true
-    told None is = refl
-    told (Some g) is = both-true true _ refl (both-true _ true (region-in-force c past w s g up small is) refl)
+    told : (o : Option Grant) → grant_of_region (w.region s) ≡ o → (w.region s).bound ≡ 0
+        → each_mark is_fit (at_begin (events.Verb by (verbs.DeregMr s)) past) (marks.Verb by (verbs.DeregMr s) answers.Fine ∷ option_map_or (λ g. marks.Revoked s.domain.adapter g.key ∷ []) o []) ≡ true
+    told None is none = refl
+    told (Some g) is none = both-true true _ refl (both-true _ true (region-in-force c past w s g up small is none) refl)
 
-ends-dealloc_mw : (c : Configuration) (past : Past) (w : World) (by : ℕ) (s : Slot) → IsUp c past w → s.slot < 0x8000 → Leads w (Ends past (events.Verb by (verbs.DeallocMw s))) (dealloc_mw_plan (call_of by (verbs.DeallocMw s)) s)
+ends-reg_mr : (c : Configuration) (past : Past) (w : World) (by : ℕ) (s : Slot) (buffer offset count bytes : ℕ) (rights : Rights) → IsAgreed c past w → s.slot < 0x8000
+    → Leads w (Ends past (events.Verb by (verbs.RegMr s buffer offset count rights))) (reg_mr_plan (call_of by (verbs.RegMr s buffer offset count rights)) s (run_of s.domain.adapter buffer offset count) bytes rights)
+ends-reg_mr c past w by s buffer offset count bytes rights up small = leads-unless w P
+    ((not (w.domain s.domain).allocated, NoDomain) ∷ (not (is_vacant_region (w.region s)), SlotTaken) ∷ of_region_refusals (registration_refusals at bytes rights)) (Refuse_plan call)
+    (Answer_plan call (answers.Key h.key) ((Domain_of s.domain := with_object (w.domain s.domain)) ∷ (Region_of s := after_registration s at rights (w.region s)) ∷ []) (marks.Granted h ∷ []))
+    (λ r. refl) (both-true true _ refl (both-true _ true (both-true _ _ (ap (λ low. grant_eq h (grant_of_registration s at rights (next_low low))) fresh ∙ grant-refl h) (key-refl h.key)) refl))
+  where
+    P : World → List Mark → Type 0
+    P = Ends past (events.Verb by (verbs.RegMr s buffer offset count rights))
+
+    call : Call
+    call = call_of by (verbs.RegMr s buffer offset count rights)
+
+    at : Run
+    at = run_of s.domain.adapter buffer offset count
+
+    h : Grant
+    h = grant_of_registration s at rights (next_low (w.region s).low)
+
+    fresh : past.low (region_key_slot s) ≡ (w.region s).low
+    fresh = up.ways.low (region_key_slot s) (region-kind s (region_key_slot s) small (key-slot-refl (region_key_slot s))) ∙ ap (λ t. (w.region t).low) (slot-at-region s small)
+
+ends-dealloc_mw : (c : Configuration) (past : Past) (w : World) (by : ℕ) (s : Slot) → IsAgreed c past w → s.slot < 0x8000 → Leads w (Ends past (events.Verb by (verbs.DeallocMw s))) (dealloc_mw_plan (call_of by (verbs.DeallocMw s)) s)
 ends-dealloc_mw c past w by s up small = leads-unless w P ((window.kind == 0, NoSuch) ∷ []) (Refuse_plan call) (plan-of window.binding) (λ r. refl) (at window.binding refl)
   where
     P : World → List Mark → Type 0
@@ -493,7 +655,7 @@ ends-dealloc_mw c past w by s up small = leads-unless w P ((window.kind == 0, No
     plan-of (Some b) = Look (Region_of (region_under window b)) (λ region. With_binder b.queue (λ more.
         Answer_plan call answers.Fine (changed ++ (Region_of (region_under window b) := with_window_unbound region) ∷ more) (marks.Revoked s.domain.adapter (key_of_window window) ∷ [])))
 
-    ends : (b : Binding) → window.binding ≡ Some b → each_mark ends_in_force (at_begin (events.Verb by (verbs.DeallocMw s)) past) (marks.Verb by (verbs.DeallocMw s) answers.Fine ∷ marks.Revoked s.domain.adapter (key_of_window window) ∷ []) ≡ true
+    ends : (b : Binding) → window.binding ≡ Some b → each_mark is_fit (at_begin (events.Verb by (verbs.DeallocMw s)) past) (marks.Verb by (verbs.DeallocMw s) answers.Fine ∷ marks.Revoked s.domain.adapter (key_of_window window) ∷ []) ≡ true
     ends b is = both-true true _ refl (both-true _ true (window-in-force c past w s b up small is) refl)
 
     queued : (b : Binding) → window.binding ≡ Some b → (q : QueueId) (slot : QueueSlot) → Leads w P (end b (queue_updates q slot))
@@ -512,8 +674,9 @@ ends-quiet : (c : Configuration) (past : Past) (w : World) (by : ℕ) (verb : Ve
 ends-quiet c past w by verb quiet = leads-weaker w (Answers (call_of by verb)) (Ends past (events.Verb by verb)) (verb_plan c (call_of by verb) verb)
     (λ v ms all. answered-endless ms all (at_begin (events.Verb by verb) past)) (quiet-verb c w by verb quiet)
 
-ends-verb : (c : Configuration) (past : Past) (w : World) (by : ℕ) (verb : Verb) → IsUp c past w → IsSteadyWorld w → is_named c verb ≡ true → Leads w (Ends past (events.Verb by verb)) (verb_plan c (call_of by verb) verb)
-ends-verb c past w by (verbs.RegMr slot buffer offset count rights) up steady named = search rules
+ends-verb : (c : Configuration) (past : Past) (w : World) (by : ℕ) (verb : Verb) → IsAgreed c past w → IsSteadyWorld w → is_named c verb ≡ true → Leads w (Ends past (events.Verb by verb)) (verb_plan c (call_of by verb) verb)
+ends-verb c past w by (verbs.RegMr slot buffer offset count rights) up steady named = ends-reg_mr c past w by slot buffer offset count (bytes_of_buffer c slot.domain.adapter buffer) rights up
+    (region-small c slot up.limited (and_parts (has_slot c (λ a. a.regions) slot) (has_buffer c slot.domain.adapter buffer) named).0)
 ends-verb c past w by (verbs.DeregMr slot) up steady named = ends-dereg_mr c past w by slot up (region-small c slot up.limited named)
 ends-verb c past w by (verbs.DeallocMw slot) up steady named = ends-dealloc_mw c past w by slot up (window-small c slot up.limited named)
 ends-verb c past w by (verbs.Store adapter buffer offset bytes) up steady named = search rules
@@ -536,7 +699,7 @@ ends-verb c past w by (verbs.PostSrq slot request) up steady named = ends-quiet 
 ends-verb c past w by (verbs.Poll slot n least) up steady named = ends-quiet c past w by (verbs.Poll slot n least) (record {})
 ends-verb c past w by (verbs.Load adapter buffer offset count) up steady named = ends-quiet c past w by (verbs.Load adapter buffer offset count) (record {})
 
-ends-event : (c : Configuration) (past : Past) (w : World) (event : Event) → IsUp c past w → IsSteadyWorld w → Leads w (Ends past event) (plan c event)
+ends-event : (c : Configuration) (past : Past) (w : World) (event : Event) → IsAgreed c past w → IsSteadyWorld w → Leads w (Ends past event) (plan c event)
 ends-event c past w (events.Verb by verb) up steady = (λ named. ends-verb c past w by verb up steady named, λ none. refl)
 ends-event c past w (events.Request queue lot) up steady = ends-request c past w queue lot up steady
 ends-event c past w (events.Deliver queue index) up steady = ends-deliver c past w queue index up steady
@@ -544,16 +707,18 @@ ends-event c past w (events.Respond queue lot) up steady = ends-respond c past w
 ends-event c past w (events.Timeout queue hasten) up steady = ends-timeout c past w queue hasten
 ends-event c past w (events.RnrWake queue) up steady = ends-wake c past w queue
 
-along : (c : Configuration) (n : ℕ) (es : List EntryValue) (past : Past) (w : World) → AllByRecursion (λ e. CanBeMade e.event) es → IsUp c past w → IsSteadyWorld w
-    → run_from c n w (map (λ e. e.event) es) ≡ Ok (map (λ e. e.marks) es) → each_entry ends_in_force (λ past. true) past es ≡ true
-along c n [] past w made up steady follows = refl
-along c n (e ∷ es) past w made up steady follows =
-    by (step c w e.event) (comes w (Ends past e.event) (plan c e.event) (ends-event c past w e.event up steady)) (event-keys-agree c past w e.event up.limited up.sound up.placed up.bound up.agree)
-    (event-sound c e.event w up.limited up.sound made.0) (event-steady c e.event w up.sound steady) (event-placed c e.event w up.limited up.sound up.placed) (event-bound c e.event w up.sound up.bound) follows
-    (λ v next calm told. along c (suc n) es (after_entry e past) v made.1 next calm told)
+along : (c : Configuration) (n : ℕ) (es : List EntryValue) (past : Past) (w : World) → AllByRecursion (λ e. CanBeMade e.event) es → IsAgreed c past w
+    → run_from c n w (map (λ e. e.event) es) ≡ Ok (map (λ e. e.marks) es) → each_entry is_fit (λ past. true) past es ≡ true
+along c n [] past w made up follows = refl
+along c n (e ∷ es) past w made up follows =
+    by (step c w e.event) (comes w (Ends past e.event) (plan c e.event) (ends-event c past w e.event up up.steady)) (event-keys-agree c past w e.event up.limited up.sound up.placed up.bound up.agree)
+    (event-posts-agree c past w e.event up.limited up.sound up.steady up.posts)
+    (event-ways-agree c past w e.event (record { limited = up.limited; sound = up.sound; steady = up.steady; placed = up.placed; bound = up.bound; posts = up.posts; agree = up.ways }))
+    (event-sound c e.event w up.limited up.sound made.0) (event-steady c e.event w up.sound up.steady) (event-placed c e.event w up.limited up.sound up.placed) (event-bound c e.event w up.sound up.bound) follows
+    (λ v next told. along c (suc n) es (after_entry e past) v made.1 next told)
   where
     Rest : Type 0
-    Rest = (v : World) → IsUp c (after_entry e past) v → IsSteadyWorld v → run_from c (suc n) v (map (λ e. e.event) es) ≡ Ok (map (λ e. e.marks) es) → each_entry ends_in_force (λ past. true) (after_entry e past) es ≡ true
+    Rest = (v : World) → IsAgreed c (after_entry e past) v → run_from c (suc n) v (map (λ e. e.event) es) ≡ Ok (map (λ e. e.marks) es) → each_entry is_fit (λ past. true) (after_entry e past) es ≡ true
 
     stopped : Ran → Bool
     stopped (Ok told) = false
@@ -562,16 +727,62 @@ along c n (e ∷ es) past w made up steady follows =
     same : (v : World) → KeysAgree (after_marks e.marks (at_begin e.event past)) v → KeysAgree (after_entry e past) v
     same v agree = agree
 
-    by : (o : Outcome) → Comes (Ends past e.event) o → Comes (λ v ms. KeysAgree (after_marks ms (at_begin e.event past)) v) o → Afterwards (IsSoundWorld c) o → Afterwards IsSteadyWorld o → Afterwards (IsPlacedWorld c) o
+    by : (o : Outcome) → Comes (Ends past e.event) o → Comes (λ v ms. KeysAgree (after_marks ms (at_begin e.event past)) v) o → Comes (λ v ms. PostsAgree (at_end (after_marks ms (at_begin e.event past))) v) o
+        → Comes (λ v ms. WaysAgree (at_end (after_marks ms (at_begin e.event past))) v) o → Afterwards (IsSoundWorld c) o → Afterwards IsSteadyWorld o → Afterwards (IsPlacedWorld c) o
         → Afterwards IsBoundWorld o → go_on n o (λ v. run_from c (suc n) v (map (λ e. e.event) es)) ≡ Ok (e.marks ∷ map (λ e. e.marks) es) → Rest
-        → each_entry ends_in_force (λ past. true) past (e ∷ es) ≡ true
-    by (NotReady reason) last keys sound steady placed bound follows rest = absurd (true≢false (ap stopped follows))
-    by (Did v ms) last keys sound steady placed bound follows rest = at (first-marks ms e.marks (run_from c (suc n) v (map (λ e. e.event) es)) (map (λ e. e.marks) es) follows)
+        → each_entry is_fit (λ past. true) past (e ∷ es) ≡ true
+    by (NotReady reason) last keys posts ways sound steady placed bound follows rest = absurd (true≢false (ap stopped follows))
+    by (Did v ms) last keys posts ways sound steady placed bound follows rest = at (first-marks ms e.marks (run_from c (suc n) v (map (λ e. e.event) es)) (map (λ e. e.marks) es) follows)
       where
-        at : (ms ≡ e.marks) × (run_from c (suc n) v (map (λ e. e.event) es) ≡ Ok (map (λ e. e.marks) es)) → each_entry ends_in_force (λ past. true) past (e ∷ es) ≡ true
-        at told = both-true _ _ (both-true _ true (subst (λ xs. each_mark ends_in_force (at_begin e.event past) xs ≡ true) told.0 last) refl)
-            (rest v (record { limited = up.limited; sound = sound; placed = placed; bound = bound; agree = same v (subst (λ xs. KeysAgree (after_marks xs (at_begin e.event past)) v) told.0 keys) }) steady told.1)
+        at : (ms ≡ e.marks) × (run_from c (suc n) v (map (λ e. e.event) es) ≡ Ok (map (λ e. e.marks) es)) → each_entry is_fit (λ past. true) past (e ∷ es) ≡ true
+        at told = both-true _ _ (both-true _ true (subst (λ xs. each_mark is_fit (at_begin e.event past) xs ≡ true) told.0 last) refl)
+            (rest v (record {
+              limited = up.limited;
+              sound = sound;
+              steady = steady;
+              placed = placed;
+              bound = bound;
+              agree = same v (subst (λ xs. KeysAgree (after_marks xs (at_begin e.event past)) v) told.0 keys);
+              posts = subst (λ xs. PostsAgree (at_end (after_marks xs (at_begin e.event past))) v) told.0 posts;
+              ways = subst (λ xs. WaysAgree (at_end (after_marks xs (at_begin e.event past))) v) told.0 ways;
+            }) told.1)
+
+fit-along : (c : Configuration) (bytes : ByteMap) (es : List EntryValue) → AreLimited c → AllByRecursion (λ e. CanBeMade e.event) es → Follows c bytes es → each_entry is_fit (λ past. true) (opening_past bytes) es ≡ true
+fit-along c bytes es limited made follows = along c 0 es (opening_past bytes) (opening_world bytes) made (record {
+  limited = limited;
+  sound = opening-sound c bytes;
+  steady = opening-steady bytes;
+  placed = opening-placed c bytes;
+  bound = opening-bound bytes;
+  agree = opening-keys-agree bytes;
+  posts = opening-posts-agree bytes;
+  ways = opening-ways-agree bytes;
+}) follows
+
+-- ---- the tests apart
+
+weaker-marks : (f g : Past → Mark → Bool) → ((p : Past) (m : Mark) → f p m ≡ true → g p m ≡ true) → (ms : List Mark) (p : Past) → each_mark f p ms ≡ true → each_mark g p ms ≡ true
+weaker-marks f g weaker [] p all = refl
+weaker-marks f g weaker (m ∷ ms) p all = both-true _ _ (weaker p m (and_parts (f p m) (each_mark f (after_mark m p) ms) all).0) (weaker-marks f g weaker ms (after_mark m p) (and_parts (f p m) (each_mark f (after_mark m p) ms) all).1)
+
+pub weaker-entries : (f g : Past → Mark → Bool) → ((p : Past) (m : Mark) → f p m ≡ true → g p m ≡ true) → (es : List EntryValue) (p : Past) → each_entry f (λ past. true) p es ≡ true → each_entry g (λ past. true) p es ≡ true
+weaker-entries f g weaker [] p all = refl
+weaker-entries f g weaker (e ∷ es) p all = both-true _ _ (both-true _ true (weaker-marks f g weaker e.marks (at_begin e.event p) (and_parts (each_mark f (at_begin e.event p) e.marks) true parts.0).0) refl)
+    (weaker-entries f g weaker es (after_entry e p) parts.1)
+  where
+    parts : ((each_mark f (at_begin e.event p) e.marks && true) ≡ true) × (each_entry f (λ past. true) (after_entry e p) es ≡ true)
+    parts = and_parts (each_mark f (at_begin e.event p) e.marks && true) (each_entry f (λ past. true) (after_entry e p) es) all
 
 pub ends-along : (c : Configuration) (bytes : ByteMap) (es : List EntryValue) → AreLimited c → AllByRecursion (λ e. CanBeMade e.event) es → Follows c bytes es → DoEndInForce bytes es
-ends-along c bytes es limited made follows = along c 0 es (opening_past bytes) (opening_world bytes) made
-    (record { limited = limited; sound = opening-sound c bytes; placed = opening-placed c bytes; bound = opening-bound bytes; agree = opening-keys-agree bytes }) (opening-steady bytes) follows
+ends-along c bytes es limited made follows = weaker-entries is_fit ends_in_force by es (opening_past bytes) (fit-along c bytes es limited made follows)
+  where
+    by : (p : Past) (m : Mark) → is_fit p m ≡ true → ends_in_force p m ≡ true
+    by p (marks.Revoked adapter key) fit = fit
+    by p m fit = refl
+
+pub asked-along : (c : Configuration) (bytes : ByteMap) (es : List EntryValue) → AreLimited c → AllByRecursion (λ e. CanBeMade e.event) es → Follows c bytes es → AreAsAsked bytes es
+asked-along c bytes es limited made follows = weaker-entries is_fit is_granted_as_asked by es (opening_past bytes) (fit-along c bytes es limited made follows)
+  where
+    by : (p : Past) (m : Mark) → is_fit p m ≡ true → is_granted_as_asked p m ≡ true
+    by p (marks.Granted g) fit = fit
+    by p m fit = refl

@@ -1,3 +1,4 @@
 pub mod Effects
 pub mod Alone
 pub mod Ends
+pub mod Asked

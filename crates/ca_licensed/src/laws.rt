@@ -3,6 +3,7 @@ ghost use Rattle.std.specs.Prelude.{List};
 ghost use Rattle.ca_base.specs.Configuration.{Configuration};
 ghost use Rattle.ca_keys.specs.Memory.{ByteMap};
 ghost use Rattle.ca_licensed.specs.Alone.{AreAlone};
+ghost use Rattle.ca_licensed.specs.Asked.{AreAsAsked};
 ghost use Rattle.ca_licensed.specs.Effects.{HaveTheirEffects};
 ghost use Rattle.ca_licensed.specs.Ends.{DoEndInForce};
 ghost use Rattle.ca_model.specs.Entries.{EntryValue};
@@ -27,9 +28,19 @@ pub fn grants_stand_alone()
         → AreLimited c → AllByRecursion (λ e. CanBeMade e.event) es → Follows c bytes es → AreAlone bytes es }
 {}
 
+/// In a history that follows the machine each grant is what its event asked for: a registration's, under the next low
+/// byte of its slot and the key that it was answered; and that of a fast registration or of a bind which the
+/// requester's turn performs, over the range that the request names, within its region and its rights. This is the
+/// part of Licensed that speaks of what is granted.
+pub fn grants_are_as_asked()
+    ensures { (c : Configuration) (bytes : ByteMap) (es : List EntryValue)
+        → AreLimited c
+        → AllByRecursion (λ e. CanBeMade e.event) es → Follows c bytes es → AreAsAsked bytes es }
+{}
+
 /// In a history that follows the machine each key that ends is that of a grant in force: one that a verb ends, one
-/// that a bind or a Local Invalidate of a requester's turn ends, and one that a SEND with Invalidate ends. This is
-/// the part of Licensed that says that keys which end were in force.
+/// that a bind or a Local Invalidate of a requester's turn ends, and one that a SEND with Invalidate ends; and a
+/// region whose key ends has no bound window. This is the part of Licensed that says that keys which end were in force.
 pub fn keys_end_in_force()
     ensures { (c : Configuration) (bytes : ByteMap) (es : List EntryValue)
         → AreLimited c
