@@ -50,7 +50,7 @@ same-bool false = refl
 rights-refl : (r : Rights) → rights_eq r r ≡ true
 rights-refl r = both-true _ _ (both-true _ _ (both-true _ _ (both-true _ _ (same-bool r.local_write) (same-bool r.remote_read)) (same-bool r.remote_write)) (same-bool r.remote_atomic)) (same-bool r.window_bind)
 
-runs-refl : (rs : List Run) → pointwise run_eq rs rs ≡ true
+pub runs-refl : (rs : List Run) → pointwise run_eq rs rs ≡ true
 runs-refl [] = refl
 runs-refl (r ∷ rs) = both-true _ _ (both-true _ _ (both-true _ _ (both-true _ _ (eq-eqb r.adapter r.adapter refl) (eq-eqb r.buffer r.buffer refl)) (eq-eqb r.offset r.offset refl)) (eq-eqb r.length r.length refl)) (runs-refl rs)
 
@@ -84,7 +84,7 @@ is-local c s low (Free pages) h sound is = absurd (true≢false (sym (ap is_some
 is-local c s low (Registered g) h sound is = ap (λ (x : Grant). x.local) (sym (same_Some g h is)) ∙ sound.local
 is-local c s low (FastRegistered pages g) h sound is = ap (λ (x : Grant). x.local) (sym (same_Some g h is)) ∙ sound.local
 
-slots-alike : (g r : Grant) (key : Key) (d : DomainId) → (g.local && key_eq g.key key && domain_eq g.domain d) ≡ true → (r.local && key_eq r.key key && domain_eq r.domain d) ≡ true → key_slot_eq (key_slot_of g) (key_slot_of r) ≡ true
+pub slots-alike : (g r : Grant) (key : Key) (d : DomainId) → (g.local && key_eq g.key key && domain_eq g.domain d) ≡ true → (r.local && key_eq r.key key && domain_eq r.domain d) ≡ true → key_slot_eq (key_slot_of g) (key_slot_of r) ≡ true
 slots-alike g r key d one other = both-true _ _
     (eq-eqb _ _ (eqb-true g.domain.adapter d.adapter (and_parts (g.domain.adapter == d.adapter) (g.domain.domain == d.domain) (and_parts (g.local && key_eq g.key key) (domain_eq g.domain d) one).1).0
     ∙ sym (eqb-true r.domain.adapter d.adapter (and_parts (r.domain.adapter == d.adapter) (r.domain.domain == d.domain) (and_parts (r.local && key_eq r.key key) (domain_eq r.domain d) other).1).0)))

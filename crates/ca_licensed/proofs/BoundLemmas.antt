@@ -44,7 +44,7 @@ pub record IsAgreed (c : Configuration) (past : Past) (w : World) : Type 0 where
   pub posts : PostsAgree past w
   pub ways : WaysAgree past w
 
-slots-turned : (k l : KeySlot) → key_slot_eq k l ≡ false → key_slot_eq l k ≡ false
+pub slots-turned : (k l : KeySlot) → key_slot_eq k l ≡ false → key_slot_eq l k ≡ false
 slots-turned k l other = by (key_slot_eq l k) refl
   where
     by : (b : Bool) → key_slot_eq l k ≡ b → b ≡ false
@@ -52,7 +52,7 @@ slots-turned k l other = by (key_slot_eq l k) refl
     by false e = refl
 
 -- each grant is found in its own key slot
-each-found : (gs : List Grant) → HaveSlotsApart gs → AllByRecursion (λ g. grant_in_force (key_slot_of g) gs ≡ Some g) gs
+pub each-found : (gs : List Grant) → HaveSlotsApart gs → AllByRecursion (λ g. grant_in_force (key_slot_of g) gs ≡ Some g) gs
 each-found [] apart = record {}
 each-found (g ∷ gs) apart = (ap (λ b. if b then Some g else grant_in_force (key_slot_of g) gs) (key-slot-refl (key_slot_of g)), more gs apart.0 (each-found gs apart.1))
   where

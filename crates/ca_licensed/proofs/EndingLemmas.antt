@@ -133,7 +133,7 @@ use Rattle.ca_licensed.specs.Ends.{DoEndInForce, ends_in_force}
 -- ---- keys in force
 
 -- a grant is what its event asked for, and a key that ends is one in force
-abbrev is_fit : Past → Mark → Bool
+abbrev pub is_fit : Past → Mark → Bool
 is_fit past (marks.Granted g) = is_grant_at_hand past g
 is_fit past (marks.Revoked adapter key) = option_map_or (is_unbound past) (grant_with past adapter key) false
 is_fit past mark = true
@@ -150,7 +150,7 @@ own-key : (adapter : ℕ) (h : Grant) → h.domain.adapter ≡ adapter → ((h.d
 own-key adapter h is = both-true _ _ (eq-eqb h.domain.adapter adapter is) (key-refl h.key)
 
 -- grants with this key, at this adapter, stand in its key slot
-key-slots : (adapter : ℕ) (key : Key) (g : Grant) → ((g.domain.adapter == adapter) && key_eq g.key key) ≡ true → key_slot_of g ≡ key_slot adapter key
+pub key-slots : (adapter : ℕ) (key : Key) (g : Grant) → ((g.domain.adapter == adapter) && key_eq g.key key) ≡ true → key_slot_of g ≡ key_slot adapter key
 key-slots adapter key g same = λ i. record { adapter = eqb-true g.domain.adapter adapter parts.0 i; index = index_of (record { 0 = eqb-true g.key.0 key.0 parts.1 i }) }
   where
     parts : ((g.domain.adapter == adapter) ≡ true) × (key_eq g.key key ≡ true)
@@ -747,7 +747,7 @@ along c n (e ∷ es) past w made up follows =
               ways = subst (λ xs. WaysAgree (at_end (after_marks xs (at_begin e.event past))) v) told.0 ways;
             }) told.1)
 
-fit-along : (c : Configuration) (bytes : ByteMap) (es : List EntryValue) → AreLimited c → AllByRecursion (λ e. CanBeMade e.event) es → Follows c bytes es → each_entry is_fit (λ past. true) (opening_past bytes) es ≡ true
+pub fit-along : (c : Configuration) (bytes : ByteMap) (es : List EntryValue) → AreLimited c → AllByRecursion (λ e. CanBeMade e.event) es → Follows c bytes es → each_entry is_fit (λ past. true) (opening_past bytes) es ≡ true
 fit-along c bytes es limited made follows = along c 0 es (opening_past bytes) (opening_world bytes) made (record {
   limited = limited;
   sound = opening-sound c bytes;

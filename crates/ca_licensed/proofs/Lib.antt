@@ -7,3 +7,4 @@ pub mod AloneLemmas
 pub mod EndingLemmas
 pub mod AskedLemmas
 pub mod BoundLemmas
+pub mod LieLemmas

@@ -2,3 +2,4 @@ pub mod Effects
 pub mod Alone
 pub mod Ends
 pub mod Asked
+pub mod Lie

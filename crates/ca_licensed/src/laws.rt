@@ -6,6 +6,7 @@ ghost use Rattle.ca_licensed.specs.Alone.{AreAlone};
 ghost use Rattle.ca_licensed.specs.Asked.{AreAsAsked};
 ghost use Rattle.ca_licensed.specs.Effects.{HaveTheirEffects};
 ghost use Rattle.ca_licensed.specs.Ends.{DoEndInForce};
+ghost use Rattle.ca_licensed.specs.Lie.{DoWindowsLie};
 ghost use Rattle.ca_model.specs.Entries.{EntryValue};
 ghost use Rattle.ca_model.specs.machine.Run.{Follows};
 ghost use Rattle.ca_model.specs.machine.Sound.{AreLimited, CanBeMade};
@@ -45,4 +46,13 @@ pub fn keys_end_in_force()
     ensures { (c : Configuration) (bytes : ByteMap) (es : List EntryValue)
         → AreLimited c
         → AllByRecursion (λ e. CanBeMade e.event) es → Follows c bytes es → DoEndInForce bytes es }
+{}
+
+/// In a history that follows the machine, wherever a key comes into force or ends, the grant of each window that is
+/// then in force lies in the grant in force of the region with the key that its bind named: within its range, its
+/// rights and its bytes. This is the part of Licensed that speaks of windows and regions.
+pub fn windows_lie_in_their_regions()
+    ensures { (c : Configuration) (bytes : ByteMap) (es : List EntryValue)
+        → AreLimited c
+        → AllByRecursion (λ e. CanBeMade e.event) es → Follows c bytes es → DoWindowsLie bytes es }
 {}

@@ -14,4 +14,6 @@
 
 mod laws;
 
-pub use laws::{grants_are_as_asked, grants_stand_alone, keys_end_in_force, successes_have_their_effects};
+pub use laws::{
+    grants_are_as_asked, grants_stand_alone, keys_end_in_force, successes_have_their_effects, windows_lie_in_their_regions,
+};
