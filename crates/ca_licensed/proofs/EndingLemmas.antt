@@ -1,6 +1,27 @@
 -- Each key that ends was in force, and each grant is what its event asked for, in every history that follows the machine.
 -- For proofs only.
 use Rattle.std.proofs.Common.{◌≡◌, ℕ, ◌&&◌, Bool, true, false, not, if◌then◌else◌, List, [], ◌∷◌, ◌++◌, Option, None, Some, refl, ap, subst, ◌∙◌, rules, true≢false, suc, map, Ok, Err, find, is_some, is_none, ◌==◌, ◌<◌, IfSome, sym, ap₂, arith}
+use Rattle.std.specs.Option.{option_eq}
+use Rattle.std.proofs.Common.{◌/◌, ◌||◌, slice_get}
+use Rattle.ca_agree_posts.proofs.GrantLemmas.{is-local}
+use Rattle.ca_agree_posts.proofs.OperationLemmas.{named_in}
+use Rattle.ca_base.specs.declared.step.Reason.{Reason}
+use Rattle.ca_base.specs.declared.queue_numbers.Queued.{Queued}
+use Rattle.ca_base.specs.declared.queue_numbers.Queued.TheVariants as queued
+use Rattle.ca_base.specs.objects.LocalRequest.{bind1_request_refusals}
+use Rattle.ca_base.specs.objects.Region.{is_fast_registered}
+use Rattle.ca_base.specs.objects.Slices.{is_key_of}
+use Rattle.ca_base.specs.objects.Window.{is_of_other_queue}
+use Rattle.ca_keys.specs.Equal.{domain_eq, queue_eq}
+use Rattle.ca_keys.specs.Numbers.{is_window_key}
+use Rattle.ca_keys.specs.Refusals.{first_of}
+use Rattle.ca_laws_sound.proofs.SettledLemmas.{domain-refl, queue-path, queue-refl}
+use Rattle.ca_licensed.specs.Ended.{ends_as_event_may}
+use Rattle.ca_model.specs.Licensed.{ends_by_operation, is_fast, is_of_slot, may_invalidate}
+use Rattle.ca_model.specs.machine.Invariants.{IsBinding}
+use Rattle.ca_model.specs.machine.LocalOperations.{view_named}
+use Rattle.ca_model.specs.machine.Respond.{answer_turn}
+use Rattle.ca_model.specs.machine.Row.{NotPossible, plain_row}
 use Rattle.std.proofs.Common.{subst₂}
 use Rattle.std.proofs.lemmas.Bool.{ltb-false}
 use Rattle.ca_agree_keys.proofs.EndLemmas.{window-ended}
@@ -132,19 +153,30 @@ use Rattle.ca_licensed.specs.Ends.{DoEndInForce, ends_in_force}
 
 -- ---- keys in force
 
+-- the grant ends as its event may, and is not that of a region with a bound window
+abbrev pub is_well_ended : Past → Grant → Bool
+is_well_ended past g = is_unbound past g && ends_as_event_may past g
+
 -- a grant is what its event asked for, and a key that ends is one in force
 abbrev pub is_fit : Past → Mark → Bool
 is_fit past (marks.Granted g) = is_grant_at_hand past g
-is_fit past (marks.Revoked adapter key) = option_map_or (is_unbound past) (grant_with past adapter key) false
+is_fit past (marks.Revoked adapter key) = option_map_or (is_well_ended past) (grant_with past adapter key) false
 is_fit past mark = true
 
--- the key is one of a grant in force at this adapter, and not of a region with a bound window
+-- the key is one of a grant in force at this adapter, which ends as its event may
 abbrev IsInForce : Past → ℕ → Key → Type 0
-IsInForce past adapter key = option_map_or (is_unbound past) (grant_with past adapter key) false ≡ true
+IsInForce past adapter key = option_map_or (is_well_ended past) (grant_with past adapter key) false ≡ true
 
-same-in-force : (past p : Past) (adapter : ℕ) (key : Key) → p.grants ≡ past.grants → p.way ≡ past.way → IsInForce past adapter key → IsInForce p adapter key
-same-in-force past p adapter key grants ways there =
-    subst₂ (λ gs ks. option_map_or (is_unbound (record past { grants = gs; way = ks })) (find (λ g. (g.domain.adapter == adapter) && key_eq g.key key) gs) false ≡ true) (sym grants) (sym ways) there
+-- the grant in force with a key, at this adapter
+record IsFound (past : Past) (adapter : ℕ) (key : Key) : Type 0 where
+  grant : Grant
+  found : grant_with past adapter key ≡ Some grant
+  unbound : is_unbound past grant ≡ true
+
+found-ends : (past p : Past) (adapter : ℕ) (key : Key) → p.grants ≡ past.grants → p.way ≡ past.way → (f : IsFound past adapter key) → ends_as_event_may p f.grant ≡ true → IsInForce p adapter key
+found-ends past p adapter key grants ways f ends = ap (λ o. option_map_or (is_well_ended p) o false)
+    (subst (λ gs. find (λ g. (g.domain.adapter == adapter) && key_eq g.key key) gs ≡ Some f.grant) (sym grants) f.found)
+    ∙ both-true _ _ (subst₂ (λ gs ks. is_unbound (record past { grants = gs; way = ks }) f.grant ≡ true) (sym grants) (sym ways) f.unbound) ends
 
 own-key : (adapter : ℕ) (h : Grant) → h.domain.adapter ≡ adapter → ((h.domain.adapter == adapter) && key_eq h.key h.key) ≡ true
 own-key adapter h is = both-true _ _ (eq-eqb h.domain.adapter adapter is) (key-refl h.key)
@@ -161,39 +193,66 @@ grant-found : (gs : List Grant) (k : KeySlot) (h : Grant) (adapter : ℕ) → gr
 grant-found gs k h adapter is place own = found-by (λ g. (g.domain.adapter == adapter) && key_eq g.key h.key) k gs h is (own-key adapter h own)
     (λ g same. ap₂ key_slot_eq (key-slots adapter h.key g same) place ∙ key-slot-refl (key_slot adapter h.key))
 
-region-in-force : (c : Configuration) (past : Past) (w : World) (s : Slot) (h : Grant) → IsAgreed c past w → s.slot < 0x8000 → grant_of_region (w.region s) ≡ Some h → (w.region s).bound ≡ 0 → IsInForce past s.domain.adapter h.key
-region-in-force c past w s h up small is none = ap (λ o. option_map_or (is_unbound past) o false)
-    (grant-found past.grants (region_key_slot s) h s.domain.adapter (up.agree.keys.same (region_key_slot s) ∙ at-region-slot w.region w.window s small ∙ is)
-    (sym (at-region h s (w.region s).low own.0 own.1) ∙ ap (λ a. key_slot a h.key) (ap (λ (d : DomainId). d.adapter) own.1)) (ap (λ (d : DomainId). d.adapter) own.1))
-    ∙ ap (λ b. not (h.local && b)) (none-bound c past w s h up small is none) ∙ never h.local
+-- a region's grant, and a window's
+record IsFoundIn (past : Past) (s : Slot) (index : ℕ) (h : Grant) : Type 0 where
+  found : grant_with past s.domain.adapter h.key ≡ Some h
+  unbound : is_unbound past h ≡ true
+  slot : is_of_slot s index h ≡ true
+
+never : (b : Bool) → not (b && false) ≡ true
+never true = refl
+never false = refl
+
+region-found-in : (c : Configuration) (past : Past) (w : World) (s : Slot) (h : Grant) → IsAgreed c past w → s.slot < 0x8000 → grant_of_region (w.region s) ≡ Some h → (w.region s).bound ≡ 0 → IsFoundIn past s (region_index s) h
+region-found-in c past w s h up small is none = record {
+  found = grant-found past.grants (region_key_slot s) h s.domain.adapter (up.agree.keys.same (region_key_slot s) ∙ at-region-slot w.region w.window s small ∙ is)
+        (sym (at-region h s (w.region s).low own.0 own.1) ∙ ap (λ a. key_slot a h.key) (ap (λ (d : DomainId). d.adapter) own.1)) (ap (λ (d : DomainId). d.adapter) own.1);
+  unbound = ap (λ b. not (h.local && b)) (none-bound c past w s h up small is none) ∙ never h.local;
+  slot = both-true _ _ (subst (λ d. domain_eq d s.domain ≡ true) (sym own.1) (domain-refl s.domain)) (eq-eqb _ _ (ap (λ (k : KeySlot). k.index) (at-region h s (w.region s).low own.0 own.1)));
+}
   where
     own : (h.key ≡ key_at (region_index s) (w.region s).low) × (h.domain ≡ s.domain)
     own = region-of c s (w.region s).low (w.region s).state h (up.sound.things (Region_of s)) is
 
-    never : (b : Bool) → not (b && false) ≡ true
-    never true = refl
-    never false = refl
-
-window-in-force : (c : Configuration) (past : Past) (w : World) (s : Slot) (b : Binding) → IsAgreed c past w → s.slot < 0x8000 → (w.window s).binding ≡ Some b → IsInForce past s.domain.adapter (key_of_window (w.window s))
-window-in-force c past w s b up small is = ap (λ o. option_map_or (is_unbound past) o false)
-    (grant-found past.grants (window_key_slot s) h s.domain.adapter (up.agree.keys.same (window_key_slot s) ∙ at-window-slot w.region w.window s small ∙ over.stands)
-    (sym (at-window h s (w.window s).low (ap (λ (t : Slot). key_at (window_index t) (w.window s).low) own) (ap (λ (t : Slot). t.domain) own)) ∙ ap (λ (t : Slot). key_slot t.domain.adapter h.key) own) (ap (λ (t : Slot). t.domain.adapter) own))
+window-found-in : (c : Configuration) (past : Past) (w : World) (s : Slot) (b : Binding) → IsAgreed c past w → s.slot < 0x8000 → (w.window s).binding ≡ Some b
+    → (over : StandsOver w s b) → IsFoundIn past s (window_index s) (grant_of_binding (w.window s) b over.region)
+window-found-in c past w s b up small is over = record {
+  found = grant-found past.grants (window_key_slot s) h s.domain.adapter (up.agree.keys.same (window_key_slot s) ∙ at-window-slot w.region w.window s small ∙ over.stands)
+        (sym place ∙ ap (λ (t : Slot). key_slot t.domain.adapter h.key) own) (ap (λ (t : Slot). t.domain.adapter) own);
+  unbound = refl;
+  slot = both-true _ _ (subst (λ d. domain_eq d s.domain ≡ true) (ap (λ (t : Slot). t.domain) (sym own)) (domain-refl s.domain)) (eq-eqb _ _ (ap (λ (k : KeySlot). k.index) place));
+}
   where
-    over : StandsOver w s b
-    over = stands-over w s b up.bound is
-
     h : Grant
     h = grant_of_binding (w.window s) b over.region
 
     own : (w.window s).slot ≡ s
     own = (up.sound.things (Window_of s)).0
 
+    place : key_slot_of h ≡ window_key_slot s
+    place = at-window h s (w.window s).low (ap (λ (t : Slot). key_at (window_index t) (w.window s).low) own) (ap (λ (t : Slot). t.domain) own)
+
 key-path : (a b : Key) → key_eq a b ≡ true → a ≡ b
 key-path a b same = λ i. record { 0 = eqb-true a.0 b.0 same i }
 
--- an invalidation that is not refused names a key in force
-refusal-in-force : (c : Configuration) (past : Past) (w : World) (i : Invalidation) → IsAgreed c past w → refusal_in c w i ≡ None → IsInForce past i.domain.adapter i.key
-refusal-in-force c past w i up none = by (names_region c i.domain i.key) (names_window c i.domain i.key) none
+-- the key of an invalidation is in force, and its queue pair may invalidate the grant
+record MayEnd (past : Past) (i : Invalidation) : Type 0 where
+  own : IsFound past i.domain.adapter i.key
+  key : key_eq i.key own.grant.key ≡ true
+  domain : domain_eq own.grant.domain i.domain ≡ true
+  may : may_invalidate past i.queue own.grant ≡ true
+
+or-left : (a b : Bool) → a ≡ true → (a || b) ≡ true
+or-left true b e = refl
+or-left false b e = absurd (true≢false (sym e))
+
+or-right : (a b : Bool) → b ≡ true → (a || b) ≡ true
+or-right true b e = refl
+or-right false b e = e
+
+-- an invalidation that is not refused names such a key
+refusal-may-end : (c : Configuration) (past : Past) (w : World) (i : Invalidation) → IsAgreed c past w → refusal_in c w i ≡ None → MayEnd past i
+refusal-may-end c past w i up none = by (names_region c i.domain i.key) refl (names_window c i.domain i.key) refl none
   where
     slot : Slot
     slot = slot_of_key i.domain i.key
@@ -201,30 +260,73 @@ refusal-in-force c past w i up none = by (names_region c i.domain i.key) (names_
     small : slot.slot < 0x8000
     small = omega arith
 
-    region : (o : Option Grant) → grant_of_region (w.region slot) ≡ o → is_none o ≡ false → has_other_key i.key o ≡ false → (w.region slot).bound ≡ 0 → IsInForce past i.domain.adapter i.key
-    region None is some same none = absurd (true≢false some)
-    region (Some h) is some same none = subst (IsInForce past i.domain.adapter) (key-path h.key i.key (not-false (key_eq h.key i.key) same)) (region-in-force c past w slot h up small is none)
+    beside : is_key_of i.domain i.key ≡ true → slot.domain ≡ i.domain
+    beside of-domain = λ j. record { adapter = i.domain.adapter; domain = eqb-true (index_of i.key / 0x10000) i.domain.domain of-domain j }
 
-    window : (o : Option Binding) → (w.window slot).binding ≡ o → is_none o ≡ false → not (key_eq (key_of_window (w.window slot)) i.key) ≡ false → IsInForce past i.domain.adapter i.key
-    window None is some same = absurd (true≢false some)
-    window (Some b) is some same = subst (IsInForce past i.domain.adapter) (key-path (key_of_window (w.window slot)) i.key (not-false (key_eq (key_of_window (w.window slot)) i.key) same)) (window-in-force c past w slot b up small is)
+    region-may : slot.domain ≡ i.domain → (h : Grant) → grant_of_region (w.region slot) ≡ Some h → h.key ≡ i.key → is_fast_registered (w.region slot).state ≡ true → (w.region slot).bound ≡ 0 → MayEnd past i
+    region-may domain h is key fast unbound = record {
+      own = record { grant = h; found = subst (λ k. grant_with past i.domain.adapter k ≡ Some h) key there.found; unbound = there.unbound };
+      key = eq-eqb i.key.0 h.key.0 (ap (λ (k : Key). k.0) (sym key));
+      domain = subst (λ d. domain_eq d i.domain ≡ true) (sym (own.1 ∙ domain)) (domain-refl i.domain);
+      may = or-left _ _ (both-true _ _ (both-true _ _ (is-local c slot (w.region slot).low (w.region slot).state h (up.sound.things (Region_of slot)) is) way) (ap not (none-bound c past w slot h up small is unbound)));
+    }
+      where
+        there : IsFoundIn past slot (region_index slot) h
+        there = region-found-in c past w slot h up small is unbound
 
-    of-region-key : region_refusal i.key (w.region slot) ≡ None → IsInForce past i.domain.adapter i.key
-    of-region-key e = region (grant_of_region (w.region slot)) refl fails.0 fails.1.0 (omega (arith, ltb-false 0 (w.region slot).bound fails.1.1.1.0))
+        own : (h.key ≡ key_at (region_index slot) (w.region slot).low) × (h.domain ≡ slot.domain)
+        own = region-of c slot (w.region slot).low (w.region slot).state h (up.sound.things (Region_of slot)) is
+
+        way : is_fast (past.way (key_slot_of h)) ≡ true
+        way = ap is_fast (ap past.way (at-region h slot (w.region slot).low own.0 own.1)
+            ∙ up.ways.fast (region_key_slot slot) (region-kind slot (region_key_slot slot) small (key-slot-refl (region_key_slot slot))) (subst (λ t. is_fast_registered (w.region t).state ≡ true) (sym (slot-at-region slot small)) fast))
+
+    region : slot.domain ≡ i.domain → (o : Option Grant) → grant_of_region (w.region slot) ≡ o → is_none o ≡ false → has_other_key i.key o ≡ false → is_fast_registered (w.region slot).state ≡ true → (w.region slot).bound ≡ 0 → MayEnd past i
+    region domain None is some same fast none = absurd (true≢false some)
+    region domain (Some h) is some same fast none = region-may domain h is (key-path h.key i.key (not-false (key_eq h.key i.key) same)) fast none
+
+    queue-may : (o : Option QueueId) → not (option_map_or (queue_eq i.queue) o false) ≡ false → option_eq queue_eq o (Some i.queue) ≡ true
+    queue-may None e = absurd (true≢false e)
+    queue-may (Some q) e = subst (λ p. queue_eq p i.queue ≡ true) (queue-path i.queue q (not-false (queue_eq i.queue q) e)) (queue-refl i.queue)
+
+    window-may : slot.domain ≡ i.domain → (b : Binding) → (w.window slot).binding ≡ Some b → key_of_window (w.window slot) ≡ i.key → option_eq queue_eq b.queue (Some i.queue) ≡ true → MayEnd past i
+    window-may domain b is key queue = record {
+      own = record { grant = h; found = subst (λ k. grant_with past i.domain.adapter k ≡ Some h) key there.found; unbound = there.unbound };
+      key = eq-eqb i.key.0 h.key.0 (ap (λ (k : Key). k.0) (sym key));
+      domain = subst (λ d. domain_eq d i.domain ≡ true) (sym (ap (λ (t : Slot). t.domain) (up.sound.things (Window_of slot)).0 ∙ domain)) (domain-refl i.domain);
+      may = queue;
+    }
+      where
+        over : StandsOver w slot b
+        over = stands-over w slot b up.bound is
+
+        h : Grant
+        h = grant_of_binding (w.window slot) b over.region
+
+        there : IsFoundIn past slot (window_index slot) h
+        there = window-found-in c past w slot b up small is over
+
+    window : slot.domain ≡ i.domain → (o : Option Binding) → (w.window slot).binding ≡ o → is_none o ≡ false → not (key_eq (key_of_window (w.window slot)) i.key) ≡ false → is_of_other_queue i.queue o ≡ false → MayEnd past i
+    window domain None is some same other = absurd (true≢false some)
+    window domain (Some b) is some same other = window-may domain b is (key-path (key_of_window (w.window slot)) i.key (not-false (key_eq (key_of_window (w.window slot)) i.key) same)) (queue-may b.queue other)
+
+    of-region-key : slot.domain ≡ i.domain → region_refusal i.key (w.region slot) ≡ None → MayEnd past i
+    of-region-key domain e = region domain (grant_of_region (w.region slot)) refl fails.0 fails.1.0 (not-false (is_fast_registered (w.region slot).state) fails.1.1.0) (omega (arith, ltb-false 0 (w.region slot).bound fails.1.1.1.0))
       where
         fails : AllFail (of_region (region_invalidation_refusals i.key (w.region slot)))
         fails = all-fail (of_region (region_invalidation_refusals i.key (w.region slot))) e
 
-    of-window-key : window_refusal i.key i.queue (w.window slot) ≡ None → IsInForce past i.domain.adapter i.key
-    of-window-key e = window (w.window slot).binding refl fails.1.1.0 fails.1.1.1.0
+    of-window-key : slot.domain ≡ i.domain → window_refusal i.key i.queue (w.window slot) ≡ None → MayEnd past i
+    of-window-key domain e = window domain (w.window slot).binding refl fails.1.1.0 fails.1.1.1.0 fails.1.1.1.1.0
       where
         fails : AllFail (of_window (window_invalidation_refusals i.key i.queue (w.window slot)))
         fails = all-fail (of_window (window_invalidation_refusals i.key i.queue (w.window slot))) e
 
-    by : (r y : Bool) → (if r then region_refusal i.key (w.region slot) else if y then window_refusal i.key i.queue (w.window slot) else Some (unnamed_refusal i.key)) ≡ None → IsInForce past i.domain.adapter i.key
-    by true y e = of-region-key e
-    by false true e = of-window-key e
-    by false false e = absurd (true≢false (ap is_some e))
+    by : (r : Bool) → names_region c i.domain i.key ≡ r → (y : Bool) → names_window c i.domain i.key ≡ y
+        → (if r then region_refusal i.key (w.region slot) else if y then window_refusal i.key i.queue (w.window slot) else Some (unnamed_refusal i.key)) ≡ None → MayEnd past i
+    by true has y e none = of-region-key (beside (and_parts (not (is_window_key i.key)) (is_key_of i.domain i.key) (and_parts (not (is_window_key i.key) && is_key_of i.domain i.key) (has_slot c (λ a. a.regions) slot) has).0).1) none
+    by false has true e none = of-window-key (beside (and_parts (is_window_key i.key) (is_key_of i.domain i.key) (and_parts (is_window_key i.key && is_key_of i.domain i.key) (has_slot c (λ a. a.windows) slot) e).0).1) none
+    by false has false e none = absurd (true≢false (ap is_some none))
 
 -- ---- marks
 
@@ -280,7 +382,7 @@ tells-in-force name sends (Some key) ms all p there = by ms all p there
   where
     by : (ms : List Mark) → EndKey name sends key ms → (p : Past) → IsInForce p name.adapter key → each_mark is_fit p ms ≡ true
     by [] all p there = absurd all
-    by (marks.Revoked adapter k ∷ ms) all p there = both-true _ _ (ap₂ (λ a x. option_map_or (is_unbound p) (grant_with p a x) false) all.0 all.1 ∙ there) (keyless-endless name sends (Some key) ms all.2 (after_mark (marks.Revoked adapter k) p))
+    by (marks.Revoked adapter k ∷ ms) all p there = both-true _ _ (ap₂ (λ a x. option_map_or (is_well_ended p) (grant_with p a x) false) all.0 all.1 ∙ there) (keyless-endless name sends (Some key) ms all.2 (after_mark (marks.Revoked adapter k) p))
     by (marks.Verb consumer verb answer ∷ ms) all p there = absurd all.0
     by (marks.Granted g ∷ ms) all p there = absurd all.0
     by (marks.Sent source target index request bytes ∷ ms) all p there = absurd all.0
@@ -330,13 +432,36 @@ Ends past event v ms = each_mark is_fit (at_begin event past) ms ≡ true
 
 -- the key that a row ends, by what it names
 row-in-force : (c : Configuration) (past : Past) (w : World) (q : QueuePair) (row : Row) (i : Option Invalidation) (p : Past) → IsAgreed c past w → IsThere w q → p.grants ≡ past.grants → p.way ≡ past.way
+    → ((i : Invalidation) → row.invalidation ≡ Some i → (may : MayEnd past i) → ends_as_event_may p may.own.grant ≡ true)
     → IfSome row.invalidation (λ i. (i.queue ≡ q.queue) × (i.domain ≡ q.domain)) → IfSome i (λ i. (row.invalidation ≡ Some i) × (refusal_in c w i ≡ None)) → IfSome (option_map (λ i. i.key) i) (IsInForce p q.queue.adapter)
-row-in-force c past w q row None p up there same ways own is = record {}
-row-in-force c past w q row (Some i) p up there same ways own is = same-in-force past p q.queue.adapter i.key same ways
-    (subst (λ a. IsInForce past a i.key) (ap (λ (d : DomainId). d.adapter) (subst (λ o. IfSome o (λ i. (i.queue ≡ q.queue) × (i.domain ≡ q.domain))) is.0 own).1 ∙ own-adapter w q there) (refusal-in-force c past w i up is.1))
+row-in-force c past w q row None p up there same ways ends own is = record {}
+row-in-force c past w q row (Some i) p up there same ways ends own is =
+    subst (λ a. IsInForce p a i.key) (ap (λ (d : DomainId). d.adapter) (subst (λ o. IfSome o (λ i. (i.queue ≡ q.queue) × (i.domain ≡ q.domain))) is.0 own).1 ∙ own-adapter w q there)
+    (found-ends past p i.domain.adapter i.key same ways may.own (ends i is.0 may))
+  where
+    may : MayEnd past i
+    may = refusal-may-end c past w i up is.1
 
 ends-sent : (q : QueuePair) (peer : Correspondent) (m : Mailbox) (lot : Lot) (o : Option Packet) → AreEndless (option_map_or (sent_marks q peer m lot) o [])
 ends-sent q peer m lot o = of-endless q.queue q.sends (option_map_or (sent_marks q peer m lot) o []) (sent-of q.queue q.sends None q peer m lot o)
+
+-- a responder's turn ends no key
+respond-none : (room : Bool) (q : QueuePair) → (respond_row room q).invalidation ≡ None
+respond-none room q = by (first_of (respond_refusals room q)) (slice_get q.responder.answers 0)
+  where
+    row : Option Reason → Option Queued → Row
+    row (Some reason) answer = plain_row (NotPossible reason)
+    row None None = plain_row (NotPossible reasons.Empty)
+    row None (Some answer) = answer_turn q answer
+
+    by : (r : Option Reason) (o : Option Queued) → (row r o).invalidation ≡ None
+    by (Some reason) answer = refl
+    by None None = refl
+    by None (Some (queued.Ack psn)) = refl
+    by None (Some (queued.Rnr psn)) = refl
+    by None (Some (queued.Nak psn code)) = refl
+    by None (Some (queued.Read psn key address left first envelope duplicate)) = refl
+    by None (Some (queued.Atomic psn found duplicate)) = refl
 
 ends-respond : (c : Configuration) (past : Past) (w : World) (name : QueueId) (lot : Lot) → IsAgreed c past w → Leads w (Ends past (events.Respond name lot)) (respond_plan c name lot)
 ends-respond c past w name lot up = leads-queue c w P name reasons.State (λ q. With_around q (λ a. Respond_around c lot q a q.peer))
@@ -351,7 +476,8 @@ ends-respond c past w name lot up = leads-queue c w P name reasons.State (λ q. 
         (respond-goes (has_room_for q peer (w.mailbox peer.queue)) q)
         (λ e i ws goes is. each-append e.marks (option_map_or (sent_marks q peer (w.mailbox peer.queue) lot) (packet_sent e) []) (at_begin (events.Respond name lot) past)
         (tells-in-force q.queue q.sends (option_map (λ i. i.key) i) e.marks goes.marks (at_begin (events.Respond name lot) past)
-        (row-in-force c past w q row i (at_begin (events.Respond name lot) past) up there refl refl (respond-told past.grants (has_room_for q peer (w.mailbox peer.queue)) q).own is))
+        (row-in-force c past w q row i (at_begin (events.Respond name lot) past) up there refl refl
+        (λ i of may. absurd (true≢false (sym (ap is_some (sym (respond-none (has_room_for q peer (w.mailbox peer.queue)) q) ∙ of))))) (respond-told past.grants (has_room_for q peer (w.mailbox peer.queue)) q).own is))
         (ends-sent q peer (w.mailbox peer.queue) lot (packet_sent e)))
       where
         row : Row
@@ -381,7 +507,7 @@ ends-arrive c past p w P q bytes envelope pre ms up steady there same ways more 
     (leads-goes c w P q (arrival_row bytes envelope (shared_in a) q) (finish a) (arrival-goes bytes envelope (shared_in a) q (there-kept w q steady there))
     (λ e i ws goes is. more _ (marks.Arrived q.queue envelope ∷ e.marks) (both-true true _ refl
     (tells-in-force q.queue q.sends (option_map (λ i. i.key) i) e.marks goes.marks (after_mark (marks.Arrived q.queue envelope) p)
-    (row-in-force c past w q (arrival_row bytes envelope (shared_in a) q) i (after_mark (marks.Arrived q.queue envelope) p) up there same ways (arrival-told past.grants bytes envelope (shared_in a) q).own is)))))
+    (row-in-force c past w q (arrival_row bytes envelope (shared_in a) q) i (after_mark (marks.Arrived q.queue envelope) p) up there same ways (λ i of may. or-right _ _ refl) (arrival-told past.grants bytes envelope (shared_in a) q).own is)))))
   where
     a : Around
     a = around_in w q (shared_of w q)
@@ -436,28 +562,68 @@ ends-wake c past w name = leads-queue c w (Ends past (events.RnrWake name)) name
     by q None = leads-unless w (Ends past (events.RnrWake name)) (wake_refusals false q) Stuck (Stuck reasons.Empty) (λ r. record {}) (record {})
     by q (Some peer) = receives (w.queue peer.queue) (λ empty. wakes q (reaches_peer q peer (w.mailbox peer.queue) && empty)) (λ empty. wake q _)
 
--- the key that an operation ends is in force
-ended-in-force : (c : Configuration) (past : Past) (w : World) (q : QueuePair) (n : Numbered) (op : SendOp) → IsAgreed c past w → IsThere w q → has_named_slot c q.domain op ≡ true → (done_by c w q n op).refusal ≡ None
-    → IfSome (done_by c w q n op).marks.revoked (IsInForce past q.queue.adapter)
-ended-in-force c past w q n (ops.Bind1 window key address count rights) up there has none = by (w.window (window_slot q window)).binding refl
-  where
-    x : Window
-    x = w.window (window_slot q window)
+-- the key that an operation ends is in force, and the operation may end it
+record IsEndedBy (past p : Past) (q : QueuePair) (n : Numbered) (op : SendOp) (key : Key) : Type 0 where
+  own : IsFound past q.queue.adapter key
+  may : ends_by_operation p own.grant q.queue (record { place = n.place; request = record n.request { op = op }; drawn = n.drawn }) ≡ true
 
-    by : (o : Option Binding) → x.binding ≡ o → IfSome (option_map (λ b. key_of_window x) o) (IsInForce past q.queue.adapter)
+ended-in-force : (c : Configuration) (past p : Past) (w : World) (q : QueuePair) (n : Numbered) (op : SendOp) → IsAgreed c past w → IsThere w q → has_named_slot c q.domain op ≡ true → p.grants ≡ past.grants → p.way ≡ past.way
+    → (done_by c w q n op).refusal ≡ None → IfSome (done_by c w q n op).marks.revoked (IsEndedBy past p q n op)
+ended-in-force c past p w q n (ops.Bind1 window key address count rights) up there has same ways none = by (w.window slot).binding refl
+  where
+    slot : Slot
+    slot = window_slot q window
+
+    x : Window
+    x = w.window slot
+
+    fails : AllFail (bind1_request_refusals n.drawn (view_named key (named_in c w q key)) address count rights x)
+    fails = all-fail (bind1_request_refusals n.drawn (view_named key (named_in c w q key)) address count rights x) none
+
+    -- a window of type 1 is bound through no queue pair
+    lone : (b : Binding) → x.binding ≡ Some b → is_none b.queue ≡ true
+    lone b is = at b.queue (subst (λ o. IfSome o (IsBinding x.kind)) is (up.sound.things (Window_of slot)).1.binding).queue
+      where
+        one : x.kind ≡ 1
+        one = eqb-true x.kind 1 (not-false (x.kind == 1) fails.1.1.0)
+
+        at : (o : Option QueueId) → IfSome o (λ q. x.kind ≡ 2) → is_none o ≡ true
+        at None two = refl
+        at (Some q) two = absurd (true≢false (ap (λ k. k == 1) (sym one ∙ two)))
+
+    by : (o : Option Binding) → x.binding ≡ o → IfSome (option_map (λ b. key_of_window x) o) (IsEndedBy past p q n (ops.Bind1 window key address count rights))
     by None is = record {}
-    by (Some b) is = subst (λ a. IsInForce past a (key_of_window x)) (own-adapter w q there) (window-in-force c past w (window_slot q window) b up (window-small c (window_slot q window) up.limited has) is)
-ended-in-force c past w q n (ops.LocalInv key) up there has none = subst (λ a. IsInForce past a key) (own-adapter w q there) (refusal-in-force c past w (record { queue = q.queue; domain = q.domain; key = key }) up none)
-ended-in-force c past w q n (ops.Bind2 window key low address count rights) up there has none = record {}
-ended-in-force c past w q n (ops.FastReg region low buffer address count rights pages) up there has none = record {}
-ended-in-force c past w q n (ops.Send list) up there has none = record {}
-ended-in-force c past w q n (ops.SendImm imm list) up there has none = record {}
-ended-in-force c past w q n (ops.SendInv key list) up there has none = record {}
-ended-in-force c past w q n (ops.Write address key list) up there has none = record {}
-ended-in-force c past w q n (ops.WriteImm address key imm list) up there has none = record {}
-ended-in-force c past w q n (ops.Read address key list) up there has none = record {}
-ended-in-force c past w q n (ops.CmpSwap address key compare swap list) up there has none = record {}
-ended-in-force c past w q n (ops.FetchAdd address key add list) up there has none = record {}
+    by (Some b) is = record {
+      own = record { grant = h; found = subst (λ a. grant_with past a (key_of_window x) ≡ Some h) (own-adapter w q there) here.found; unbound = here.unbound };
+      may = both-true _ _ (subst (λ d. is_of_slot (record { domain = d; slot = window }) (window_index (record { domain = d; slot = window })) h ≡ true) there.domain here.slot) (lone b is);
+    }
+      where
+        over : StandsOver w slot b
+        over = stands-over w slot b up.bound is
+
+        h : Grant
+        h = grant_of_binding x b over.region
+
+        here : IsFoundIn past slot (window_index slot) h
+        here = window-found-in c past w slot b up (window-small c slot up.limited has) is over
+ended-in-force c past p w q n (ops.LocalInv key) up there has same ways none = record {
+  own = record { grant = may.own.grant; found = subst (λ a. grant_with past a key ≡ Some may.own.grant) (own-adapter w q there) may.own.found; unbound = may.own.unbound };
+  may = both-true _ _ (both-true _ _ may.key (subst (λ d. domain_eq may.own.grant.domain d ≡ true) there.domain may.domain))
+      (subst₂ (λ gs ks. may_invalidate (record past { grants = gs; way = ks }) q.queue may.own.grant ≡ true) (sym same) (sym ways) may.may);
+}
+  where
+    may : MayEnd past (record { queue = q.queue; domain = q.domain; key = key })
+    may = refusal-may-end c past w (record { queue = q.queue; domain = q.domain; key = key }) up none
+ended-in-force c past p w q n (ops.Bind2 window key low address count rights) up there has same ways none = record {}
+ended-in-force c past p w q n (ops.FastReg region low buffer address count rights pages) up there has same ways none = record {}
+ended-in-force c past p w q n (ops.Send list) up there has same ways none = record {}
+ended-in-force c past p w q n (ops.SendImm imm list) up there has same ways none = record {}
+ended-in-force c past p w q n (ops.SendInv key list) up there has same ways none = record {}
+ended-in-force c past p w q n (ops.Write address key list) up there has same ways none = record {}
+ended-in-force c past p w q n (ops.WriteImm address key imm list) up there has same ways none = record {}
+ended-in-force c past p w q n (ops.Read address key list) up there has same ways none = record {}
+ended-in-force c past p w q n (ops.CmpSwap address key compare swap list) up there has same ways none = record {}
+ended-in-force c past p w q n (ops.FetchAdd address key add list) up there has same ways none = record {}
 
 abbrev ended_by : QueuePair → Option Key → List Mark
 ended_by q k = option_map_or (λ key. marks.Revoked q.queue.adapter key ∷ []) k []
@@ -515,7 +681,7 @@ ends-request c past w name lot up steady = (
     start : Past
     start = at_begin (events.Request name lot) past
 
-    performed : (q : QueuePair) (n : Numbered) (k : Option Key) (g : Option Grant) (b : Bool) → IfSome k (IsInForce past q.queue.adapter) → IfSome g (λ g. is_grant_at_hand (after_marks (ended_by q k) start) g ≡ true)
+    performed : (q : QueuePair) (n : Numbered) (k : Option Key) (g : Option Grant) (b : Bool) → IfSome k (IsInForce start q.queue.adapter) → IfSome g (λ g. is_grant_at_hand (after_marks (ended_by q k) start) g ≡ true)
         → each_mark is_fit start ((ended_by q k ++ option_map_or (λ g. marks.Granted g ∷ []) g [])
         ++ (if b then success_marks q.queue n.place (record n.request { signalled = true }) else [])) ≡ true
     performed q n None None true there asked = refl
@@ -551,14 +717,24 @@ ends-request c past w name lot up steady = (
             of p (events.Request queue lot) = next_operation p queue
             of p event = None
 
+    ended : (q : QueuePair) → IsThere w q → q.queue ≡ name → (n : Numbered) → IsPerformed q n → (k : Option Key) → IfSome k (IsEndedBy past start q n n.request.op) → IfSome k (IsInForce start q.queue.adapter)
+    ended q there own n does None by-it = record {}
+    ended q there own n does (Some k) by-it = found-ends past start q.queue.adapter k refl refl by-it.own (or-left _ false (or-left _ false
+        (ap (λ o. option_map_or (ends_by_operation start by-it.own.grant name) o false) (subst (λ k. next_operation past k ≡ Some next.posted) own next.is)
+        ∙ ap (ends_by_operation start by-it.own.grant name) (λ i. record { place = next.place i; request = next.request i; drawn = next.drawn i })
+        ∙ ap (λ k. ends_by_operation start by-it.own.grant k (record { place = n.place; request = n.request; drawn = n.drawn })) (sym own) ∙ by-it.may)))
+      where
+        next : IsNextOperation past q n
+        next = next-posted past w q n up.posts there.present does
+
     next-kept : (q : QueuePair) (k : Option Key) → (next_operation (after_marks (ended_by q k) start) name ≡ next_operation past name) × ((after_marks (ended_by q k) start).at_hand.event ≡ events.Request name lot)
     next-kept q None = (refl, refl)
     next-kept q (Some k) = (refl, refl)
 
-    ends : (q : QueuePair) → IsThere w q → q.queue ≡ name → (n : Numbered) → IsPerformed q n → (after : QueuePair) (m : LocalMarks) (refusal : Option OpRefusal) → (refusal ≡ None → IfSome m.revoked (IsInForce past q.queue.adapter))
+    ends : (q : QueuePair) → IsThere w q → q.queue ≡ name → (n : Numbered) → IsPerformed q n → (after : QueuePair) (m : LocalMarks) (refusal : Option OpRefusal) → (refusal ≡ None → IfSome m.revoked (IsEndedBy past start q n n.request.op))
         → (refusal ≡ None → IfSome m.granted (λ g. is_grant_of_operation (after_marks (ended_by q m.revoked) start) g q.queue (record { place = n.place; request = n.request; drawn = n.drawn }) ≡ true))
         → each_mark is_fit start (operation_effects q n after m refusal).marks ≡ true
-    ends q there own n does after m None gone asked = performed q n m.revoked m.granted n.request.signalled (gone refl)
+    ends q there own n does after m None gone asked = performed q n m.revoked m.granted n.request.signalled (ended q there own n does m.revoked (gone refl))
         (grants q there own n does (after_marks (ended_by q m.revoked) start) m.granted (next-kept q m.revoked).1 (next-kept q m.revoked).0 (asked refl))
     ends q there own n does after m (Some cause) gone asked = keyless-endless q.queue q.sends None _ (failure-goes MemoryManagement (Some cause) q refl).marks start
 
@@ -566,7 +742,7 @@ ends-request c past w name lot up steady = (
     by q there own peer (Waits reason) is named = record {}
     by q there own peer (Performs n) is named = leads-done c w P q n (λ e changes writes. Finish (updates_of q (around_in w q (shared_of w q)) e ++ changes) writes e.marks) n.request.op does.local
         (ends q there own n does (done_by c w q n n.request.op).after (done_by c w q n n.request.op).marks (done_by c w q n n.request.op).refusal
-        (λ none. ended-in-force c past w q n n.request.op up there named none) (λ none. asked-after c past w q start n n.request.op up there named refl none (done_by c w q n n.request.op).marks.revoked refl))
+        (λ none. ended-in-force c past start w q n n.request.op up there named refl refl none) (λ none. asked-after c past w q start n n.request.op up there named refl none (done_by c w q n n.request.op).marks.revoked refl))
       where
         does : IsPerformed q n
         does = performs q n (there-kept w q steady there) there.sound.requester.begun is
@@ -603,10 +779,14 @@ ends-dereg_mr c past w by s up small = leads-unless-all w (Ends past (events.Ver
     (Answer_plan (call_of by (verbs.DeregMr s)) answers.Fine ((Domain_of s.domain := without_object (w.domain s.domain)) ∷ (Region_of s := after_deregistration (w.region s)) ∷ [])
     (option_map_or (λ g. marks.Revoked s.domain.adapter g.key ∷ []) (grant_of_region (w.region s)) [])) (λ r. refl) (λ fails. told (grant_of_region (w.region s)) refl (omega (arith, ltb-false 0 (w.region s).bound fails.1.0)))
   where
+    here : (g : Grant) → grant_of_region (w.region s) ≡ Some g → (w.region s).bound ≡ 0 → IsFoundIn past s (region_index s) g
+    here g is none = region-found-in c past w s g up small is none
+
     told : (o : Option Grant) → grant_of_region (w.region s) ≡ o → (w.region s).bound ≡ 0
         → each_mark is_fit (at_begin (events.Verb by (verbs.DeregMr s)) past) (marks.Verb by (verbs.DeregMr s) answers.Fine ∷ option_map_or (λ g. marks.Revoked s.domain.adapter g.key ∷ []) o []) ≡ true
     told None is none = refl
-    told (Some g) is none = both-true true _ refl (both-true _ true (region-in-force c past w s g up small is none) refl)
+    told (Some g) is none = both-true true _ refl (both-true _ true (found-ends past (Behind past by (verbs.DeregMr s) answers.Fine) s.domain.adapter g.key refl refl
+        (record { grant = g; found = (here g is none).found; unbound = (here g is none).unbound }) (or-left _ false (or-left _ false (here g is none).slot))) refl)
 
 ends-reg_mr : (c : Configuration) (past : Past) (w : World) (by : ℕ) (s : Slot) (buffer offset count bytes : ℕ) (rights : Rights) → IsAgreed c past w → s.slot < 0x8000
     → Leads w (Ends past (events.Verb by (verbs.RegMr s buffer offset count rights))) (reg_mr_plan (call_of by (verbs.RegMr s buffer offset count rights)) s (run_of s.domain.adapter buffer offset count) bytes rights)
@@ -655,8 +835,15 @@ ends-dealloc_mw c past w by s up small = leads-unless w P ((window.kind == 0, No
     plan-of (Some b) = Look (Region_of (region_under window b)) (λ region. With_binder b.queue (λ more.
         Answer_plan call answers.Fine (changed ++ (Region_of (region_under window b) := with_window_unbound region) ∷ more) (marks.Revoked s.domain.adapter (key_of_window window) ∷ [])))
 
+    over : (b : Binding) → window.binding ≡ Some b → StandsOver w s b
+    over b is = stands-over w s b up.bound is
+
+    here : (b : Binding) (is : window.binding ≡ Some b) → IsFoundIn past s (window_index s) (grant_of_binding window b (over b is).region)
+    here b is = window-found-in c past w s b up small is (over b is)
+
     ends : (b : Binding) → window.binding ≡ Some b → each_mark is_fit (at_begin (events.Verb by (verbs.DeallocMw s)) past) (marks.Verb by (verbs.DeallocMw s) answers.Fine ∷ marks.Revoked s.domain.adapter (key_of_window window) ∷ []) ≡ true
-    ends b is = both-true true _ refl (both-true _ true (window-in-force c past w s b up small is) refl)
+    ends b is = both-true true _ refl (both-true _ true (found-ends past (Behind past by (verbs.DeallocMw s) answers.Fine) s.domain.adapter (key_of_window window) refl refl
+        (record { grant = grant_of_binding window b (over b is).region; found = (here b is).found; unbound = (here b is).unbound }) (or-left _ false (or-left _ false (here b is).slot))) refl)
 
     queued : (b : Binding) → window.binding ≡ Some b → (q : QueueId) (slot : QueueSlot) → Leads w P (end b (queue_updates q slot))
     queued b is q (NoQueue incarnation timers) = ends b is
@@ -776,8 +963,12 @@ weaker-entries f g weaker (e ∷ es) p all = both-true _ _ (both-true _ true (we
 pub ends-along : (c : Configuration) (bytes : ByteMap) (es : List EntryValue) → AreLimited c → AllByRecursion (λ e. CanBeMade e.event) es → Follows c bytes es → DoEndInForce bytes es
 ends-along c bytes es limited made follows = weaker-entries is_fit ends_in_force by es (opening_past bytes) (fit-along c bytes es limited made follows)
   where
+    each : (p : Past) (o : Option Grant) → option_map_or (is_well_ended p) o false ≡ true → option_map_or (is_unbound p) o false ≡ true
+    each p None fit = fit
+    each p (Some g) fit = (and_parts (is_unbound p g) (ends_as_event_may p g) fit).0
+
     by : (p : Past) (m : Mark) → is_fit p m ≡ true → ends_in_force p m ≡ true
-    by p (marks.Revoked adapter key) fit = fit
+    by p (marks.Revoked adapter key) fit = each p (grant_with p adapter key) fit
     by p m fit = refl
 
 pub asked-along : (c : Configuration) (bytes : ByteMap) (es : List EntryValue) → AreLimited c → AllByRecursion (λ e. CanBeMade e.event) es → Follows c bytes es → AreAsAsked bytes es

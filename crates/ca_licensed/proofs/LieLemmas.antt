@@ -31,7 +31,8 @@ use Rattle.ca_base.specs.Configuration.{Configuration}
 use Rattle.ca_keys.specs.Memory.{ByteMap}
 use Rattle.ca_keys.specs.Numbers.{queue_of}
 use Rattle.ca_licensed.proofs.AloneLemmas.{alone-along}
-use Rattle.ca_licensed.proofs.EndingLemmas.{fit-along, is_fit, key-slots}
+use Rattle.ca_licensed.proofs.EndingLemmas.{fit-along, is_fit, is_well_ended, key-slots}
+use Rattle.ca_licensed.specs.Ended.{ends_as_event_may}
 use Rattle.ca_model.specs.Past.{after_change, opening_past}
 use Rattle.ca_model.specs.machine.Run.{Follows}
 use Rattle.ca_model.specs.machine.Sound.{AreLimited, CanBeMade}
@@ -471,7 +472,14 @@ laid-same p r grants ways laid = record {
 
 laid-one : (m : Mark) (p : Past) → IsLaid p → is_fit p m ≡ true → is_granted_alone p m ≡ true → IsLaid (after_mark m p) × (leaves_windows_lying p m ≡ true)
 laid-one (marks.Granted g) p laid fit alone = (laid-granted p g laid fit alone, (laid-granted p g laid fit alone).lie)
-laid-one (marks.Revoked adapter key) p laid fit alone = (laid-revoked p adapter key laid fit, (laid-revoked p adapter key laid fit).lie)
+laid-one (marks.Revoked adapter key) p laid fit alone = by (laid-revoked p adapter key laid (each (grant_with p adapter key) fit))
+  where
+    each : (o : Option Grant) → option_map_or (is_well_ended p) o false ≡ true → option_map_or (is_unbound p) o false ≡ true
+    each None fit = fit
+    each (Some g) fit = (and_parts (is_unbound p g) (ends_as_event_may p g) fit).0
+
+    by : IsLaid (after_mark (marks.Revoked adapter key) p) → IsLaid (after_mark (marks.Revoked adapter key) p) × (leaves_windows_lying p (marks.Revoked adapter key) ≡ true)
+    by next = (next, next.lie)
 laid-one (marks.Verb consumer verb answer) p laid fit alone = (laid-same p _ (verb-kept verb answer _).0 (verb-kept verb answer _).1 laid, refl)
 laid-one (marks.Sent source target index request bytes) p laid fit alone = (record { lie = laid.lie; apart = laid.apart }, refl)
 laid-one (marks.Lost target None) p laid fit alone = (record { lie = laid.lie; apart = laid.apart }, refl)

@@ -3,3 +3,4 @@ pub mod Alone
 pub mod Ends
 pub mod Asked
 pub mod Lie
+pub mod Ended
