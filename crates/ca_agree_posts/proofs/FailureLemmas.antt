@@ -1,57 +1,40 @@
 -- A packet of a request tells of no key, and a local operation that failed was not performed. For proofs only.
-use Rattle.std.proofs.Common.{◌≡◌, ℕ, zero, suc, ◌-◌, ◌≤◌, ◌==◌, ◌&&◌, ◌||◌, nat_lt, Bool, true, false, not, if◌then◌else◌, List, [], ◌∷◌, ◌++◌, drop, Option, None, Some, is_some, slice_get, refl, sym, ap, ap₂, subst, ◌∙◌, true≢false}
+use Rattle.std.proofs.Common.{◌≡◌, ℕ, zero, suc, ◌-◌, ◌==◌, ◌&&◌, ◌||◌, nat_lt, Bool, true, false, not, if◌then◌else◌, List, [], ◌∷◌, ◌++◌, drop, Option, None, Some, is_some, slice_get, refl, sym, ap, ap₂, subst, ◌∙◌, true≢false}
 use Rattle.std.proofs.lemmas.Bool.{eq-eqb}
 use Rattle.std.proofs.lemmas.Option.{same_Some}
-use Rattle.std.specs.List.{AllByRecursion, list_all, list_any}
-use Rattle.std.specs.Option.{option_and_then, option_map_or}
-use Rattle.ca_agree.proofs.LeadsLemmas.{leads-around, leads-queue}
-use Rattle.ca_agree.specs.Runs.{Leads}
-use Rattle.ca_agree_keys.proofs.KeyTurnLemmas.{found}
+use Rattle.std.specs.List.{list_any}
+use Rattle.std.specs.Option.{option_and_then}
 use Rattle.ca_agree_posts.proofs.GoingLemmas.{AreKeyless, denied-goes, failure-goes, flush-keyless, reads-keyless}
-use Rattle.ca_agree_posts.proofs.PlaceLemmas.{IsPerformed, performs}
-use Rattle.ca_agree_posts.proofs.PostLemmas.{AreNoAnswers, IsNoAnswer, SamePosts, answers-append, keyless-no, leads-ends, no-answers, same-posts}
-use Rattle.ca_agree_posts.proofs.PostTurnLemmas.{any-such, IsNextOperation, IsPacket, IsPosted, Revokes, leads-perform, next-posted, packet-is, performed-some, sent-quiet, used-none}
+use Rattle.ca_agree_posts.proofs.PlaceLemmas.{IsPerformed}
+use Rattle.ca_agree_posts.proofs.PostLemmas.{AreNoAnswers, IsNoAnswer, SamePosts, keyless-no, no-answers, same-posts}
+use Rattle.ca_agree_posts.proofs.PostTurnLemmas.{IsNextOperation, IsPacket}
 use Rattle.ca_agree_posts.specs.Posts.{PostsAgree, life}
-use Rattle.ca_base.specs.Configuration.{Configuration}
 use Rattle.ca_base.specs.declared.completion.Completion.{Completion}
-use Rattle.ca_base.specs.declared.completion.WcStatus.TheVariants.{MemoryManagement, Success}
+use Rattle.ca_base.specs.declared.completion.WcStatus.TheVariants.{MemoryManagement}
 use Rattle.ca_base.specs.declared.correspondent.Correspondent.{Correspondent}
 use Rattle.ca_base.specs.declared.denied_ask.DeniedAsk.{DeniedAsk}
 use Rattle.ca_base.specs.declared.lot.Lot.{Lot}
 use Rattle.ca_base.specs.declared.refusals.OpRefusal.{OpRefusal}
 use Rattle.ca_base.specs.declared.request.PostedSend.{PostedSend}
-use Rattle.ca_base.specs.declared.request.SendOp.{SendOp}
-use Rattle.ca_base.specs.declared.request.SendOp.TheVariants as ops
 use Rattle.ca_base.specs.declared.step.Reason.TheVariants as reasons
-use Rattle.ca_base.specs.objects.LocalRequest.{LocalMarks}
 use Rattle.ca_base.specs.objects.Mailbox.{Mailbox}
 use Rattle.ca_base.specs.objects.QueuePair.{QueuePair, Present}
 use Rattle.ca_base.specs.objects.WorkQueue.{item_at}
-use Rattle.ca_keys.specs.Equal.{key_eq, queue_eq}
-use Rattle.ca_keys.specs.declared.grant.Grant.{Grant}
-use Rattle.ca_keys.specs.declared.key.Key.{Key}
+use Rattle.ca_keys.specs.Equal.{queue_eq}
 use Rattle.ca_keys.specs.declared.names.QueueId.{QueueId}
 use Rattle.ca_laws_sound.proofs.SettledLemmas.{queue-refl}
-use Rattle.ca_laws_sound.proofs.WorldLemmas.{EndingDoes, IsThere, RowDoes, around_in, shared_of}
-use Rattle.ca_laws_steady.proofs.TurnLemmas.{there-kept}
-use Rattle.ca_agree_posts.proofs.GrantLemmas.{both-true}
-use Rattle.ca_model.specs.Licensed.{completion_is_effective, grants_by_performing, invalidation_is_effective, is_effective, is_effective_at_end, is_empty, operation_is_effective}
-use Rattle.ca_model.specs.Past.{Past, Posted, RevokedKey, after_mark, after_marks, at_begin, is_failure_of, local_operations, next_operation, operation_performed, posted_at, present_incarnation}
+use Rattle.ca_laws_sound.proofs.WorldLemmas.{EndingDoes, RowDoes}
+use Rattle.ca_model.specs.Past.{Past, Posted, after_mark, after_marks, at_begin, is_failure_of, local_operations, next_operation, operation_performed}
 use Rattle.ca_model.specs.declared.event.Event.{Event}
 use Rattle.ca_model.specs.declared.event.Event.TheVariants as events
 use Rattle.ca_model.specs.declared.mark.Mark.{Mark}
 use Rattle.ca_model.specs.declared.mark.Mark.TheVariants as marks
 use Rattle.ca_model.specs.machine.Acknowledgements.{failure_effects, without_oldest}
-use Rattle.ca_model.specs.machine.Around.{Around, With_around, updates_of}
-use Rattle.ca_model.specs.machine.Completions.{bytes_of_success, failure_mark, flush_marks, send_completion, success_marks}
-use Rattle.ca_model.specs.machine.LocalOperations.{local_marks, operation_effects}
+use Rattle.ca_model.specs.machine.Completions.{failure_mark, flush_marks}
 use Rattle.ca_model.specs.machine.Numbering.{Numbered}
-use Rattle.ca_model.specs.machine.Plan.{Finish}
-use Rattle.ca_model.specs.machine.Requester.{Performs, RequestTurn, Sends, Waits, denied_list_effects, is_outstanding, is_too_much, packet_asks, packet_row, sent_packet, turn_of}
+use Rattle.ca_model.specs.machine.Requester.{denied_list_effects, is_outstanding, is_too_much, packet_asks, packet_row, sent_packet}
 use Rattle.ca_model.specs.machine.Row.{Does, Effects, NotPossible, Row, plain_row}
-use Rattle.ca_model.specs.machine.Sound.{IsQueueOf}
-use Rattle.ca_model.specs.machine.Turns.{Leave_plan, Request_around, has_room_for, packet_sent, request_plan, sent_marks}
-use Rattle.ca_model.specs.machine.World.{Queue_of, World}
+use Rattle.ca_model.specs.machine.World.{World}
 
 -- ---- a packet of a request, which tells of no key
 

@@ -1,19 +1,18 @@
 -- Grants that are equal, and the region's grant in force that a key names in a domain. For proofs only.
-use Rattle.std.proofs.Common.{◌≡◌, ℕ, ◌+◌, ◌<◌, ◌==◌, ◌&&◌, ◌||◌, nat_le, Bool, true, false, not, if◌then◌else◌, List, [], ◌∷◌, find, Option, None, Some, is_none, is_some, refl, sym, ap, ap₂, subst, ◌∙◌, true≢false, arith}
+use Rattle.std.proofs.Common.{◌≡◌, ℕ, ◌+◌, ◌<◌, ◌==◌, ◌&&◌, ◌||◌, nat_le, Bool, true, false, not, if◌then◌else◌, List, [], ◌∷◌, find, Option, None, Some, is_some, refl, sym, ap, subst, ◌∙◌, true≢false}
 use Rattle.std.proofs.lemmas.Bool.{and_parts, eq-eqb, eqb-true, not-false}
-use Rattle.std.proofs.lemmas.Bool.Decides.{nat_tests}
 use Rattle.std.proofs.lemmas.Option.{same_Some}
 use Rattle.std.specs.Cmp.Lexicographic.{pointwise}
 use Rattle.std.specs.Option.{option_eq, option_map}
-use Rattle.ca_agree_keys.proofs.ChangeLemmas.{at-region-slot, region-small}
+use Rattle.ca_agree_keys.proofs.ChangeLemmas.{at-region-slot}
 use Rattle.ca_agree_keys.proofs.EndLemmas.{region-of}
 use Rattle.ca_agree_keys.proofs.SlotLemmas.{at-region}
 use Rattle.ca_agree_keys.specs.InForce.{AgreeOnGrants, grant_in_force}
 use Rattle.ca_agree_posts.proofs.OperationLemmas.{named_if}
 use Rattle.ca_base.specs.Configuration.{Configuration}
-use Rattle.ca_base.specs.objects.LocalRequest.{of_window, view_by_key}
+use Rattle.ca_base.specs.objects.LocalRequest.{of_window}
 use Rattle.ca_base.specs.objects.QueuePair.{QueuePair}
-use Rattle.ca_base.specs.objects.Region.{Region, RegionState, NoRegion, Free, Registered, FastRegistered, grant_in_state, grant_of_region, has_other_key, view_of_grant}
+use Rattle.ca_base.specs.objects.Region.{RegionState, NoRegion, Free, Registered, FastRegistered, grant_in_state, grant_of_region, has_other_key, view_of_grant}
 use Rattle.ca_base.specs.objects.Slices.{names_region, slot_of_key}
 use Rattle.ca_base.specs.objects.Window.{Window, binding_refusals, is_within}
 use Rattle.ca_keys.specs.Equal.{bool_eq, domain_eq, grant_eq, key_eq, queue_eq, rights_eq, run_eq}
@@ -31,7 +30,7 @@ use Rattle.ca_laws_windows.proofs.WindowBindLemmas.{named-region}
 use Rattle.ca_model.specs.Licensed.{may_hold}
 use Rattle.ca_model.specs.Past.{KeySlot, key_slot_eq, key_slot_of, region_key_slot}
 use Rattle.ca_model.specs.machine.LocalOperations.{view_named}
-use Rattle.ca_model.specs.machine.Sound.{AreLimited, IsSoundState, IsSoundWorld}
+use Rattle.ca_model.specs.machine.Sound.{IsSoundState, IsSoundWorld}
 use Rattle.ca_model.specs.machine.World.{Region_of, World}
 
 -- ---- equal grants

@@ -1,6 +1,6 @@
 -- What a local operation of a requester's turn does in a world: what it tells, what refuses it, and what it changes. For
 -- proofs only.
-use Rattle.std.proofs.Common.{◌≡◌, suc, Bool, true, false, if◌then◌else◌, List, [], ◌∷◌, Option, None, Some, refl, sym, subst, true≢false}
+use Rattle.std.proofs.Common.{◌≡◌, suc, Bool, true, false, if◌then◌else◌, List, [], Option, None, Some, sym, subst, true≢false}
 use Rattle.std.specs.Option.{option_map}
 use Rattle.ca_agree.proofs.LeadsLemmas.{comes}
 use Rattle.ca_agree.specs.Runs.{Comes, Leads}

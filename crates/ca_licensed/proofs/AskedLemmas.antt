@@ -1,5 +1,5 @@
 -- What a local operation grants is what it asked for. For proofs only.
-use Rattle.std.proofs.Common.{◌≡◌, ℕ, ◌<◌, ◌==◌, ◌&&◌, Bool, true, false, not, if◌then◌else◌, [], find, Option, None, Some, IfSome, is_none, refl, sym, ap, subst, ◌∙◌, true≢false, arith}
+use Rattle.std.proofs.Common.{◌≡◌, ℕ, ◌<◌, ◌==◌, ◌&&◌, Bool, true, false, not, if◌then◌else◌, [], Option, None, Some, IfSome, is_none, refl, sym, ap, subst, ◌∙◌, true≢false, arith}
 use Rattle.std.specs.Option.{option_and_then, option_map, option_map_or}
 use Rattle.ca_agree_keys.specs.InForce.{AgreeOnGrants}
 use Rattle.ca_agree_posts.proofs.OperationLemmas.{done_by, named_in, named_if}
@@ -12,7 +12,7 @@ use Rattle.ca_base.specs.objects.QueuePair.{QueuePair}
 use Rattle.ca_base.specs.objects.Region.{grant_of_region}
 use Rattle.ca_base.specs.objects.Slices.{names_region, slot_of_key, slot_of_queue}
 use Rattle.ca_base.specs.objects.Window.{Window, binding_refusals}
-use Rattle.ca_keys.specs.Equal.{domain_eq, grant_eq, key_eq}
+use Rattle.ca_keys.specs.Equal.{grant_eq}
 use Rattle.ca_keys.specs.Refusals.{AllFail}
 use Rattle.ca_keys.specs.declared.grant.Grant.{Grant}
 use Rattle.ca_keys.specs.declared.key.Key.{Key}
@@ -24,9 +24,9 @@ use Rattle.ca_laws_sound.proofs.TurnLemmas.{all-fail}
 use Rattle.ca_laws_sound.proofs.WorldLemmas.{IsThere}
 use Rattle.ca_agree_posts.proofs.GrantLemmas.{both-true}
 use Rattle.ca_agree_posts.proofs.GrantLemmas.{IsSeen, grant-refl, names-one, region-found, region-seen}
-use Rattle.ca_model.specs.Licensed.{is_grant_of_bind, is_grant_of_operation, may_hold, region_with}
-use Rattle.ca_model.specs.Past.{Past, Posted}
-use Rattle.ca_model.specs.machine.LocalOperations.{bind_grant, drawn_by, region_slot, view_named, window_slot}
+use Rattle.ca_model.specs.Licensed.{is_grant_of_bind, is_grant_of_operation, may_hold}
+use Rattle.ca_model.specs.Past.{Past}
+use Rattle.ca_model.specs.machine.LocalOperations.{bind_grant, region_slot, view_named, window_slot}
 use Rattle.ca_model.specs.machine.Numbering.{Numbered}
 use Rattle.ca_model.specs.machine.Sound.{IsSoundWorld}
 use Rattle.ca_model.specs.machine.World.{World}

@@ -1,20 +1,18 @@
 -- A region in which the world counts no window has none bound in what marks tell. For proofs only.
-use Rattle.std.proofs.Common.{◌≡◌, ℕ, ◌<◌, ◌==◌, ◌&&◌, ◌||◌, Bool, true, false, not, if◌then◌else◌, List, [], ◌∷◌, Option, None, Some, IfSome, is_some, refl, sym, ap, ap₂, subst, ◌∙◌, true≢false, arith}
-use Rattle.std.proofs.lemmas.Bool.{eq-eqb, eqb-true}
-use Rattle.std.proofs.lemmas.Bool.Decides.{nat_tests}
-use Rattle.std.proofs.lemmas.Option.{same_Some}
+use Rattle.std.proofs.Common.{◌≡◌, ◌<◌, ◌==◌, ◌&&◌, ◌||◌, Bool, true, false, not, if◌then◌else◌, List, [], ◌∷◌, Option, None, Some, IfSome, is_some, refl, sym, ap, ap₂, subst, ◌∙◌, true≢false}
+use Rattle.std.proofs.lemmas.Bool.{eqb-true}
 use Rattle.std.specs.List.{AllByRecursion, list_any}
 use Rattle.std.specs.Option.{option_and_then, option_map_or}
 use Rattle.ca_agree_keys.proofs.ChangeLemmas.{StandsOver, none-counted, region-small, stands-over}
 use Rattle.ca_agree_keys.proofs.EndLemmas.{region-of}
 use Rattle.ca_agree_keys.proofs.SlotLemmas.{at-region, key-slot-path, key-slot-refl, slot-at-region}
-use Rattle.ca_agree_keys.specs.InForce.{KeysAgree, grant_at, grant_in_force, grant_over_regions, is_window_slot, slot_at}
+use Rattle.ca_agree_keys.specs.InForce.{KeysAgree, grant_in_force, grant_over_regions, is_window_slot, slot_at}
 use Rattle.ca_agree_posts.proofs.GrantLemmas.{is-local}
 use Rattle.ca_agree_posts.specs.Posts.{PostsAgree}
 use Rattle.ca_agree_ways.specs.Ways.{WaysAgree}
 use Rattle.ca_base.specs.Configuration.{Configuration}
 use Rattle.ca_base.specs.objects.Region.{grant_of_region}
-use Rattle.ca_base.specs.objects.Window.{Binding, Window, grant_of_binding}
+use Rattle.ca_base.specs.objects.Window.{Binding, Window}
 use Rattle.ca_grant.specs.KeySlot.{HaveSlotsApart, is_at_slot_of}
 use Rattle.ca_keys.specs.Equal.{key_eq, slot_eq}
 use Rattle.ca_keys.specs.Numbers.{index_of, key_at, region_index}
@@ -26,9 +24,9 @@ use Rattle.ca_keys.specs.declared.names.Slot.{Slot}
 use Rattle.ca_laws_names.specs.Placed.{IsPlacedBinding, IsPlacedWorld}
 use Rattle.ca_laws_sound.proofs.SettledLemmas.{slot-refl}
 use Rattle.ca_laws_steady.specs.Steady.{IsSteadyWorld}
-use Rattle.ca_laws_windows.specs.Bindings.{IsBoundWorld, is_bound_in}
+use Rattle.ca_laws_windows.specs.Bindings.{IsBoundWorld}
 use Rattle.ca_model.specs.Licensed.{has_bound_window}
-use Rattle.ca_model.specs.Past.{BindTo, FastRegistration, KeySlot, Past, Registration, Way, key_slot_eq, key_slot_of, region_key_slot}
+use Rattle.ca_model.specs.Past.{BindTo, KeySlot, Past, Way, key_slot_eq, key_slot_of, region_key_slot}
 use Rattle.ca_model.specs.machine.Row.{grant_over, region_under}
 use Rattle.ca_model.specs.machine.Sound.{AreLimited, IsSoundWorld}
 use Rattle.ca_model.specs.machine.World.{Region_of, Window_of, World}

@@ -16,7 +16,7 @@ use Rattle.ca_keys.specs.Equal.{domain_eq, queue_eq}
 use Rattle.ca_keys.specs.Numbers.{is_window_key}
 use Rattle.ca_keys.specs.Refusals.{first_of}
 use Rattle.ca_laws_sound.proofs.SettledLemmas.{domain-refl, queue-path, queue-refl}
-use Rattle.ca_licensed.specs.Ended.{ends_as_event_may}
+use Rattle.ca_licensed.specs.Ended.{DoEndAsAsked, ends_as_asked, ends_as_event_may}
 use Rattle.ca_model.specs.Licensed.{ends_by_operation, is_fast, is_of_slot, may_invalidate}
 use Rattle.ca_model.specs.machine.Invariants.{IsBinding}
 use Rattle.ca_model.specs.machine.LocalOperations.{view_named}
@@ -206,7 +206,7 @@ never false = refl
 region-found-in : (c : Configuration) (past : Past) (w : World) (s : Slot) (h : Grant) → IsAgreed c past w → s.slot < 0x8000 → grant_of_region (w.region s) ≡ Some h → (w.region s).bound ≡ 0 → IsFoundIn past s (region_index s) h
 region-found-in c past w s h up small is none = record {
   found = grant-found past.grants (region_key_slot s) h s.domain.adapter (up.agree.keys.same (region_key_slot s) ∙ at-region-slot w.region w.window s small ∙ is)
-        (sym (at-region h s (w.region s).low own.0 own.1) ∙ ap (λ a. key_slot a h.key) (ap (λ (d : DomainId). d.adapter) own.1)) (ap (λ (d : DomainId). d.adapter) own.1);
+      (sym (at-region h s (w.region s).low own.0 own.1) ∙ ap (λ a. key_slot a h.key) (ap (λ (d : DomainId). d.adapter) own.1)) (ap (λ (d : DomainId). d.adapter) own.1);
   unbound = ap (λ b. not (h.local && b)) (none-bound c past w s h up small is none) ∙ never h.local;
   slot = both-true _ _ (subst (λ d. domain_eq d s.domain ≡ true) (sym own.1) (domain-refl s.domain)) (eq-eqb _ _ (ap (λ (k : KeySlot). k.index) (at-region h s (w.region s).low own.0 own.1)));
 }
@@ -218,7 +218,7 @@ window-found-in : (c : Configuration) (past : Past) (w : World) (s : Slot) (b : 
     → (over : StandsOver w s b) → IsFoundIn past s (window_index s) (grant_of_binding (w.window s) b over.region)
 window-found-in c past w s b up small is over = record {
   found = grant-found past.grants (window_key_slot s) h s.domain.adapter (up.agree.keys.same (window_key_slot s) ∙ at-window-slot w.region w.window s small ∙ over.stands)
-        (sym place ∙ ap (λ (t : Slot). key_slot t.domain.adapter h.key) own) (ap (λ (t : Slot). t.domain.adapter) own);
+      (sym place ∙ ap (λ (t : Slot). key_slot t.domain.adapter h.key) own) (ap (λ (t : Slot). t.domain.adapter) own);
   unbound = refl;
   slot = both-true _ _ (subst (λ d. domain_eq d s.domain ≡ true) (ap (λ (t : Slot). t.domain) (sym own)) (domain-refl s.domain)) (eq-eqb _ _ (ap (λ (k : KeySlot). k.index) place));
 }
@@ -976,4 +976,15 @@ asked-along c bytes es limited made follows = weaker-entries is_fit is_granted_a
   where
     by : (p : Past) (m : Mark) → is_fit p m ≡ true → is_granted_as_asked p m ≡ true
     by p (marks.Granted g) fit = fit
+    by p m fit = refl
+
+pub ended-along : (c : Configuration) (bytes : ByteMap) (es : List EntryValue) → AreLimited c → AllByRecursion (λ e. CanBeMade e.event) es → Follows c bytes es → DoEndAsAsked bytes es
+ended-along c bytes es limited made follows = weaker-entries is_fit ends_as_asked by es (opening_past bytes) (fit-along c bytes es limited made follows)
+  where
+    each : (p : Past) (o : Option Grant) → option_map_or (is_well_ended p) o false ≡ true → option_map_or (ends_as_event_may p) o false ≡ true
+    each p None fit = fit
+    each p (Some g) fit = (and_parts (is_unbound p g) (ends_as_event_may p g) fit).1
+
+    by : (p : Past) (m : Mark) → is_fit p m ≡ true → ends_as_asked p m ≡ true
+    by p (marks.Revoked adapter key) fit = each p (grant_with p adapter key) fit
     by p m fit = refl

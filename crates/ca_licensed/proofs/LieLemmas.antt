@@ -1,15 +1,15 @@
 -- Each window's grant in force lies in that of its region, where each grant is what its event asked for and alone in its
 -- key slot, and no region with a bound window ends. For proofs only.
-use Rattle.std.proofs.Common.{◌≡◌, ℕ, ◌<◌, ◌==◌, ◌&&◌, ◌||◌, Bool, true, false, not, if◌then◌else◌, List, [], ◌∷◌, find, filter, Option, None, Some, IfSome, is_some, refl, sym, ap, ap₂, subst, subst₂, ◌∙◌, true≢false}
-use Rattle.std.proofs.lemmas.Bool.{and_parts, eq-eqb, eqb-true, not-false}
+use Rattle.std.proofs.Common.{◌≡◌, ℕ, ◌==◌, ◌&&◌, ◌||◌, Bool, true, false, not, if◌then◌else◌, List, [], ◌∷◌, find, filter, Option, None, Some, is_some, refl, sym, ap, ap₂, subst, subst₂, ◌∙◌, true≢false}
+use Rattle.std.proofs.lemmas.Bool.{and_parts, eq-eqb, eqb-true}
 use Rattle.std.proofs.lemmas.Option.{same_Some}
 use Rattle.std.specs.Cmp.Lexicographic.{pointwise}
 use Rattle.std.specs.List.{AllByRecursion, list_all, list_any}
 use Rattle.std.specs.Option.{option_eq, option_map_or}
-use Rattle.ca_agree_keys.proofs.SlotLemmas.{key-slot-path, key-slot-refl}
+use Rattle.ca_agree_keys.proofs.SlotLemmas.{key-slot-refl}
 use Rattle.ca_agree_keys.specs.InForce.{grant_in_force}
 use Rattle.ca_agree_posts.proofs.GrantLemmas.{both-true, runs-refl, slots-alike}
-use Rattle.ca_base.specs.Grants.{grant_of_bind, grant_of_fast_registration, grant_of_registration}
+use Rattle.ca_base.specs.Grants.{grant_of_bind}
 use Rattle.ca_base.specs.declared.change.Change as state_change
 use Rattle.ca_base.specs.declared.change.Change.TheVariants as changes
 use Rattle.ca_base.specs.declared.request.SendOp.{SendOp}

@@ -5,6 +5,7 @@ ghost use Rattle.ca_keys.specs.Memory.{ByteMap};
 ghost use Rattle.ca_licensed.specs.Alone.{AreAlone};
 ghost use Rattle.ca_licensed.specs.Asked.{AreAsAsked};
 ghost use Rattle.ca_licensed.specs.Effects.{HaveTheirEffects};
+ghost use Rattle.ca_licensed.specs.Ended.{DoEndAsAsked};
 ghost use Rattle.ca_licensed.specs.Ends.{DoEndInForce};
 ghost use Rattle.ca_licensed.specs.Lie.{DoWindowsLie};
 ghost use Rattle.ca_model.specs.Entries.{EntryValue};
@@ -55,4 +56,15 @@ pub fn windows_lie_in_their_regions()
     ensures { (c : Configuration) (bytes : ByteMap) (es : List EntryValue)
         → AreLimited c
         → AllByRecursion (λ e. CanBeMade e.event) es → Follows c bytes es → DoWindowsLie bytes es }
+{}
+
+/// In a history that follows the machine each key that ends, in an event in which no packet arrives, is that of a
+/// grant in force which the event may end: a deregistration or a deallocation that of its slot; a bind that of its type
+/// 1 window; and a Local Invalidate the key that it names, of its queue pair's domain, of a region that was
+/// fast-registered and has no bound window, or of a type 2 window that is bound through its queue pair. This is the
+/// part of Licensed that speaks of what ends a key, but for packets.
+pub fn keys_end_as_asked()
+    ensures { (c : Configuration) (bytes : ByteMap) (es : List EntryValue)
+        → AreLimited c
+        → AllByRecursion (λ e. CanBeMade e.event) es → Follows c bytes es → DoEndAsAsked bytes es }
 {}
