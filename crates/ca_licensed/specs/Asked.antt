@@ -1,4 +1,5 @@
--- Grants and what asked for them: the part of Licensed that says that each grant is what its event asked for. Laws cite it.
+-- Grants and what asked for them: the part of Licensed that says that each grant is what its event asked for. Laws cite
+-- it.
 use Rattle.std.specs.Prelude.{Bool, true, IsTrue, List}
 use Rattle.ca_keys.specs.Memory.{ByteMap}
 use Rattle.ca_model.specs.Entries.{EntryValue}

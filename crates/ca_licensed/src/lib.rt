@@ -2,8 +2,8 @@
 //! machine.
 //!
 //! To the layers above it promises, as clauses of functions that do nothing, that in every history which follows the
-//! machine over a limited configuration, with events that can be made, each grant is what its event asked for, and comes
-//! into force where no other grant in force has its key slot; that each key which ends was in force, is no key of a
+//! machine over a limited configuration, with events that can be made, each grant is what its event asked for, and
+//! comes into force where no other grant in force has its key slot; that each key which ends was in force, is no key of a
 //! region with a bound window, and ends as its event may, where no packet arrives in this; that wherever a key comes
 //! into force or ends each window lies in its region; that each success has its effect in the event that tells of it:
 //! a registration its grant, a deregistration, a deallocation and an invalidation the end of their key; and that a
