@@ -3,6 +3,7 @@ use Rattle.std.proofs.Common.{◌≡◌, ◌<◌, ◌==◌, ◌&&◌, ◌||◌, 
 use Rattle.std.proofs.lemmas.Bool.{eqb-true}
 use Rattle.std.specs.List.{AllByRecursion, list_any}
 use Rattle.std.specs.Option.{option_and_then, option_map_or}
+use Rattle.ca_agree.specs.Agreement.{PathsAgree}
 use Rattle.ca_agree_keys.proofs.ChangeLemmas.{StandsOver, none-counted, region-small, stands-over}
 use Rattle.ca_agree_keys.proofs.EndLemmas.{region-of}
 use Rattle.ca_agree_keys.proofs.SlotLemmas.{at-region, key-slot-path, key-slot-refl, slot-at-region}
@@ -39,6 +40,7 @@ pub record IsAgreed (c : Configuration) (past : Past) (w : World) : Type 0 where
   pub placed : IsPlacedWorld c w
   pub bound : IsBoundWorld w
   pub agree : KeysAgree past w
+  pub paths : PathsAgree past w
   pub posts : PostsAgree past w
   pub ways : WaysAgree past w
 

@@ -1,6 +1,16 @@
 -- Each key that ends was in force, and each grant is what its event asked for, in every history that follows the machine.
 -- For proofs only.
 use Rattle.std.proofs.Common.{◌≡◌, ℕ, ◌&&◌, Bool, true, false, not, if◌then◌else◌, List, [], ◌∷◌, ◌++◌, Option, None, Some, refl, ap, subst, ◌∙◌, rules, true≢false, suc, map, Ok, Err, find, is_some, is_none, ◌==◌, ◌<◌, IfSome, sym, ap₂, arith}
+use Rattle.std.specs.Option.{option_and_then}
+use Rattle.std.specs.Result.{result_ok}
+use Rattle.ca_agree.proofs.MailSentLemmas.{lent-sent}
+use Rattle.ca_agree.proofs.PathEventLemmas.{event-agrees, opening-agrees}
+use Rattle.ca_agree.specs.Agreement.{PathsAgree}
+use Rattle.ca_base.specs.objects.SharedReceives.{SharedReceives}
+use Rattle.ca_licensed.proofs.ArrivalLemmas.{IsNaming, arrival-named, ieth-asks}
+use Rattle.ca_model.specs.Licensed.{ends_by_packet}
+use Rattle.ca_model.specs.Packets.{packet_of}
+use Rattle.ca_model.specs.Past.{packet_at, packet_bytes_at}
 use Rattle.std.specs.Option.{option_eq}
 use Rattle.std.proofs.Common.{◌/◌, ◌||◌, slice_get}
 use Rattle.ca_agree_posts.proofs.GrantLemmas.{is-local}
@@ -16,7 +26,8 @@ use Rattle.ca_keys.specs.Equal.{domain_eq, queue_eq}
 use Rattle.ca_keys.specs.Numbers.{is_window_key}
 use Rattle.ca_keys.specs.Refusals.{first_of}
 use Rattle.ca_laws_sound.proofs.SettledLemmas.{domain-refl, queue-path, queue-refl}
-use Rattle.ca_licensed.specs.Ended.{DoEndAsAsked, ends_as_asked, ends_as_event_may}
+use Rattle.ca_licensed.specs.Ended.{DoEndAsAsked, ends_as_asked}
+use Rattle.ca_model.specs.Licensed.{ends_at_hand}
 use Rattle.ca_model.specs.Licensed.{ends_by_operation, is_fast, is_of_slot, may_invalidate}
 use Rattle.ca_model.specs.machine.Invariants.{IsBinding}
 use Rattle.ca_model.specs.machine.LocalOperations.{view_named}
@@ -155,7 +166,7 @@ use Rattle.ca_licensed.specs.Ends.{DoEndInForce, ends_in_force}
 
 -- the grant ends as its event may, and is not that of a region with a bound window
 abbrev pub is_well_ended : Past → Grant → Bool
-is_well_ended past g = is_unbound past g && ends_as_event_may past g
+is_well_ended past g = is_unbound past g && ends_at_hand past g
 
 -- a grant is what its event asked for, and a key that ends is one in force
 abbrev pub is_fit : Past → Mark → Bool
@@ -173,7 +184,7 @@ record IsFound (past : Past) (adapter : ℕ) (key : Key) : Type 0 where
   found : grant_with past adapter key ≡ Some grant
   unbound : is_unbound past grant ≡ true
 
-found-ends : (past p : Past) (adapter : ℕ) (key : Key) → p.grants ≡ past.grants → p.way ≡ past.way → (f : IsFound past adapter key) → ends_as_event_may p f.grant ≡ true → IsInForce p adapter key
+found-ends : (past p : Past) (adapter : ℕ) (key : Key) → p.grants ≡ past.grants → p.way ≡ past.way → (f : IsFound past adapter key) → ends_at_hand p f.grant ≡ true → IsInForce p adapter key
 found-ends past p adapter key grants ways f ends = ap (λ o. option_map_or (is_well_ended p) o false)
     (subst (λ gs. find (λ g. (g.domain.adapter == adapter) && key_eq g.key key) gs ≡ Some f.grant) (sym grants) f.found)
     ∙ both-true _ _ (subst₂ (λ gs ks. is_unbound (record past { grants = gs; way = ks }) f.grant ≡ true) (sym grants) (sym ways) f.unbound) ends
@@ -432,7 +443,7 @@ Ends past event v ms = each_mark is_fit (at_begin event past) ms ≡ true
 
 -- the key that a row ends, by what it names
 row-in-force : (c : Configuration) (past : Past) (w : World) (q : QueuePair) (row : Row) (i : Option Invalidation) (p : Past) → IsAgreed c past w → IsThere w q → p.grants ≡ past.grants → p.way ≡ past.way
-    → ((i : Invalidation) → row.invalidation ≡ Some i → (may : MayEnd past i) → ends_as_event_may p may.own.grant ≡ true)
+    → ((i : Invalidation) → row.invalidation ≡ Some i → (may : MayEnd past i) → ends_at_hand p may.own.grant ≡ true)
     → IfSome row.invalidation (λ i. (i.queue ≡ q.queue) × (i.domain ≡ q.domain)) → IfSome i (λ i. (row.invalidation ≡ Some i) × (refusal_in c w i ≡ None)) → IfSome (option_map (λ i. i.key) i) (IsInForce p q.queue.adapter)
 row-in-force c past w q row None p up there same ways ends own is = record {}
 row-in-force c past w q row (Some i) p up there same ways ends own is =
@@ -499,24 +510,50 @@ ends-timeout c past w name hasten = leads-queue c w P name reasons.State (λ q. 
     by q None = leads-unless w P (timeout_refusals false hasten q) Stuck (Stuck reasons.Empty) (λ r. record {}) (record {})
     by q (Some peer) = fire q _
 
+-- the packet at hand ends the grant of the key that it names
+packet-ends : (c : Configuration) (past p : Past) (w : World) (q : QueuePair) (bytes : List ℕ) (envelope : Option ℕ) (shared : Option SharedReceives) (i : Invalidation) → IsThere w q → p.grants ≡ past.grants → p.way ≡ past.way
+    → p.at_hand.arrival ≡ Some (record { target = q.queue; index = envelope }) → packet_bytes_at p q.queue envelope ≡ Some bytes → (arrival_row bytes envelope shared q).invalidation ≡ Some i → i.queue ≡ q.queue → i.domain ≡ q.domain
+    → (may : MayEnd past i) → ends_at_hand p may.own.grant ≡ true
+packet-ends c past p w q bytes envelope shared i there grants ways arrived lent ends queue domain may = or-right _ _
+    (ap (λ o. option_map_or (λ a. option_map_or (ends_by_packet p g a.target) (packet_at p a.target a.index) false) o false) arrived
+    ∙ ap (λ o. option_map_or (ends_by_packet p g q.queue) (option_and_then packet_of o) false) lent
+    ∙ ap (λ r. option_map_or (ends_by_packet p g q.queue) (result_ok r) false) naming.is
+    ∙ both-true _ _ (both-true _ _ (both-true _ _ (ieth-asks bytes naming.fields i.key.0 naming.is naming.key) named) (subst (λ d. domain_eq g.domain d ≡ true) (domain ∙ there.domain) may.domain))
+    (subst (λ k. may_invalidate p k g ≡ true) queue (subst₂ (λ gs ks. may_invalidate (record past { grants = gs; way = ks }) i.queue g ≡ true) (sym grants) (sym ways) may.may)))
+  where
+    g : Grant
+    g = may.own.grant
+
+    naming : IsNaming bytes i
+    naming = arrival-named bytes envelope shared q i ends
+
+    named : option_eq (λ m n. m == n) naming.fields.ieth (Some g.key.0) ≡ true
+    named = ap (λ o. option_eq (λ m n. m == n) o (Some g.key.0)) naming.key ∙ may.key
+
 -- a packet that arrives, behind marks that come first
 ends-arrive : (c : Configuration) (past p : Past) (w : World) (P : World → List Mark → Type 0) (q : QueuePair) (bytes : List ℕ) (envelope : Option ℕ) (pre : List Update) (ms : List Mark) → IsAgreed c past w → IsSteadyWorld w → IsThere w q
-    → p.grants ≡ past.grants → p.way ≡ past.way → ((v : World) (ns : List Mark) → each_mark is_fit p ns ≡ true → P v (ms ++ ns)) → Leads w P (Arrive c q bytes envelope pre ms)
-ends-arrive c past p w P q bytes envelope pre ms up steady there same ways more =
+    → p.grants ≡ past.grants → p.way ≡ past.way → packet_bytes_at (after_mark (marks.Arrived q.queue envelope) p) q.queue envelope ≡ Some bytes
+    → ((v : World) (ns : List Mark) → each_mark is_fit p ns ≡ true → P v (ms ++ ns)) → Leads w P (Arrive c q bytes envelope pre ms)
+ends-arrive c past p w P q bytes envelope pre ms up steady there same ways lent more =
     leads-around w P q (λ a. Row_plan c (arrival_row bytes envelope (shared_in a) q) (finish a))
     (leads-goes c w P q (arrival_row bytes envelope (shared_in a) q) (finish a) (arrival-goes bytes envelope (shared_in a) q (there-kept w q steady there))
     (λ e i ws goes is. more _ (marks.Arrived q.queue envelope ∷ e.marks) (both-true true _ refl
     (tells-in-force q.queue q.sends (option_map (λ i. i.key) i) e.marks goes.marks (after_mark (marks.Arrived q.queue envelope) p)
-    (row-in-force c past w q (arrival_row bytes envelope (shared_in a) q) i (after_mark (marks.Arrived q.queue envelope) p) up there same ways (λ i of may. or-right _ _ refl) (arrival-told past.grants bytes envelope (shared_in a) q).own is)))))
+    (row-in-force c past w q (arrival_row bytes envelope (shared_in a) q) i (after_mark (marks.Arrived q.queue envelope) p) up there same ways
+    (λ i of may. packet-ends c past (after_mark (marks.Arrived q.queue envelope) p) w q bytes envelope (shared_in a) i there same ways refl lent of (own i of).0 (own i of).1 may)
+    (arrival-told past.grants bytes envelope (shared_in a) q).own is)))))
   where
     a : Around
     a = around_in w q (shared_of w q)
+
+    own : (i : Invalidation) → (arrival_row bytes envelope (shared_in a) q).invalidation ≡ Some i → (i.queue ≡ q.queue) × (i.domain ≡ q.domain)
+    own i of = subst (λ o. IfSome o (λ i. (i.queue ≡ q.queue) × (i.domain ≡ q.domain))) of (arrival-told past.grants bytes envelope (shared_in a) q).own
 
     finish : Around → Effects → List Update → List Write → Plan
     finish a e more writes = Finish (pre ++ (updates_of q a e ++ more)) writes (ms ++ marks.Arrived q.queue envelope ∷ e.marks)
 
 ends-deliver : (c : Configuration) (past : Past) (w : World) (name : QueueId) (index : ℕ) → IsAgreed c past w → IsSteadyWorld w → Leads w (Ends past (events.Deliver name index)) (deliver_plan c name index)
-ends-deliver c past w name index up steady = (λ has. lent (bytes_lent index (w.mailbox name)), λ none. record {})
+ends-deliver c past w name index up steady = (λ has. lent (bytes_lent index (w.mailbox name)) refl, λ none. record {})
   where
     Q : World → List Mark → Type 0
     Q = Ends past (events.Deliver name index)
@@ -532,14 +569,18 @@ ends-deliver c past w name index up steady = (λ has. lent (bytes_lent index (w.
     under_way None = Stuck reasons.NotKept
     under_way (Some bytes) = Look (Queue_of name) (at bytes)
 
-    there : (bytes : List ℕ) (s : QueueSlot) → w.queue name ≡ s → Leads w Q (at bytes s)
-    there bytes (NoQueue incarnation timers) is = record {}
-    there bytes (Present q) is = ends-arrive c past (at_begin (events.Deliver name index) past) w Q q bytes (Some index) ((Mailbox_of name := after_delivery index m) ∷ []) [] up steady (found c w name q up.sound is) refl refl
+    sent : (bytes : List ℕ) → bytes_lent index (w.mailbox name) ≡ Some bytes → packet_bytes_at past name (Some index) ≡ Some bytes
+    sent bytes is = ap (option_map (λ e. e.bytes)) (lent-sent c past w name index bytes up.sound up.paths is).sent ∙ ap Some (lent-sent c past w name index bytes up.sound up.paths is).bytes
+
+    there : (bytes : List ℕ) → bytes_lent index (w.mailbox name) ≡ Some bytes → (s : QueueSlot) → w.queue name ≡ s → Leads w Q (at bytes s)
+    there bytes is (NoQueue incarnation timers) here = record {}
+    there bytes is (Present q) here = ends-arrive c past (at_begin (events.Deliver name index) past) w Q q bytes (Some index) ((Mailbox_of name := after_delivery index m) ∷ []) [] up steady (found c w name q up.sound here) refl refl
+        (subst (λ k. packet_bytes_at past k (Some index) ≡ Some bytes) (sym (subst (IsQueueOf name) here (up.sound.things (Queue_of name))).0) (sent bytes is))
         (λ v ns right. right)
 
-    lent : (o : Option (List ℕ)) → Leads w Q (under_way o)
-    lent None = record {}
-    lent (Some bytes) = there bytes (w.queue name) refl
+    lent : (o : Option (List ℕ)) → bytes_lent index (w.mailbox name) ≡ o → Leads w Q (under_way o)
+    lent None is = record {}
+    lent (Some bytes) is = there bytes is (w.queue name) refl
 
 ends-wake : (c : Configuration) (past : Past) (w : World) (name : QueueId) → Leads w (Ends past (events.RnrWake name)) (wake_plan c name)
 ends-wake c past w name = leads-queue c w (Ends past (events.RnrWake name)) name reasons.State (λ q. waking q q.peer) (λ q is. by q q.peer)
@@ -719,7 +760,7 @@ ends-request c past w name lot up steady = (
 
     ended : (q : QueuePair) → IsThere w q → q.queue ≡ name → (n : Numbered) → IsPerformed q n → (k : Option Key) → IfSome k (IsEndedBy past start q n n.request.op) → IfSome k (IsInForce start q.queue.adapter)
     ended q there own n does None by-it = record {}
-    ended q there own n does (Some k) by-it = found-ends past start q.queue.adapter k refl refl by-it.own (or-left _ false (or-left _ false
+    ended q there own n does (Some k) by-it = found-ends past start q.queue.adapter k refl refl by-it.own (or-left _ false (
         (ap (λ o. option_map_or (ends_by_operation start by-it.own.grant name) o false) (subst (λ k. next_operation past k ≡ Some next.posted) own next.is)
         ∙ ap (ends_by_operation start by-it.own.grant name) (λ i. record { place = next.place i; request = next.request i; drawn = next.drawn i })
         ∙ ap (λ k. ends_by_operation start by-it.own.grant k (record { place = n.place; request = n.request; drawn = n.drawn })) (sym own) ∙ by-it.may)))
@@ -771,7 +812,7 @@ ends-inject c past w by q bytes up steady = at (w.queue q) refl
 
     at : (s : QueueSlot) → w.queue q ≡ s → Leads w P (arrives s)
     at (NoQueue incarnation timers) is = refl
-    at (Present p) is = ends-arrive c past (Behind past by (verbs.Inject q bytes) answers.Fine) w P p bytes None [] (answer_mark call answers.Fine ∷ []) up steady (found c w q p up.sound is) refl refl
+    at (Present p) is = ends-arrive c past (Behind past by (verbs.Inject q bytes) answers.Fine) w P p bytes None [] (answer_mark call answers.Fine ∷ []) up steady (found c w q p up.sound is) refl refl refl
         (λ v ns right. both-true true _ refl right)
 
 ends-dereg_mr : (c : Configuration) (past : Past) (w : World) (by : ℕ) (s : Slot) → IsAgreed c past w → s.slot < 0x8000 → Leads w (Ends past (events.Verb by (verbs.DeregMr s))) (dereg_mr_plan (call_of by (verbs.DeregMr s)) s)
@@ -786,7 +827,7 @@ ends-dereg_mr c past w by s up small = leads-unless-all w (Ends past (events.Ver
         → each_mark is_fit (at_begin (events.Verb by (verbs.DeregMr s)) past) (marks.Verb by (verbs.DeregMr s) answers.Fine ∷ option_map_or (λ g. marks.Revoked s.domain.adapter g.key ∷ []) o []) ≡ true
     told None is none = refl
     told (Some g) is none = both-true true _ refl (both-true _ true (found-ends past (Behind past by (verbs.DeregMr s) answers.Fine) s.domain.adapter g.key refl refl
-        (record { grant = g; found = (here g is none).found; unbound = (here g is none).unbound }) (or-left _ false (or-left _ false (here g is none).slot))) refl)
+        (record { grant = g; found = (here g is none).found; unbound = (here g is none).unbound }) (or-left _ false ((here g is none).slot))) refl)
 
 ends-reg_mr : (c : Configuration) (past : Past) (w : World) (by : ℕ) (s : Slot) (buffer offset count bytes : ℕ) (rights : Rights) → IsAgreed c past w → s.slot < 0x8000
     → Leads w (Ends past (events.Verb by (verbs.RegMr s buffer offset count rights))) (reg_mr_plan (call_of by (verbs.RegMr s buffer offset count rights)) s (run_of s.domain.adapter buffer offset count) bytes rights)
@@ -843,7 +884,7 @@ ends-dealloc_mw c past w by s up small = leads-unless w P ((window.kind == 0, No
 
     ends : (b : Binding) → window.binding ≡ Some b → each_mark is_fit (at_begin (events.Verb by (verbs.DeallocMw s)) past) (marks.Verb by (verbs.DeallocMw s) answers.Fine ∷ marks.Revoked s.domain.adapter (key_of_window window) ∷ []) ≡ true
     ends b is = both-true true _ refl (both-true _ true (found-ends past (Behind past by (verbs.DeallocMw s) answers.Fine) s.domain.adapter (key_of_window window) refl refl
-        (record { grant = grant_of_binding window b (over b is).region; found = (here b is).found; unbound = (here b is).unbound }) (or-left _ false (or-left _ false (here b is).slot))) refl)
+        (record { grant = grant_of_binding window b (over b is).region; found = (here b is).found; unbound = (here b is).unbound }) (or-left _ false ((here b is).slot))) refl)
 
     queued : (b : Binding) → window.binding ≡ Some b → (q : QueueId) (slot : QueueSlot) → Leads w P (end b (queue_updates q slot))
     queued b is q (NoQueue incarnation timers) = ends b is
@@ -899,7 +940,7 @@ along : (c : Configuration) (n : ℕ) (es : List EntryValue) (past : Past) (w : 
 along c n [] past w made up follows = refl
 along c n (e ∷ es) past w made up follows =
     by (step c w e.event) (comes w (Ends past e.event) (plan c e.event) (ends-event c past w e.event up up.steady)) (event-keys-agree c past w e.event up.limited up.sound up.placed up.bound up.agree)
-    (event-posts-agree c past w e.event up.limited up.sound up.steady up.posts)
+    (event-agrees c past w e.event up.sound up.paths) (event-posts-agree c past w e.event up.limited up.sound up.steady up.posts)
     (event-ways-agree c past w e.event (record { limited = up.limited; sound = up.sound; steady = up.steady; placed = up.placed; bound = up.bound; posts = up.posts; agree = up.ways }))
     (event-sound c e.event w up.limited up.sound made.0) (event-steady c e.event w up.sound up.steady) (event-placed c e.event w up.limited up.sound up.placed) (event-bound c e.event w up.sound up.bound) follows
     (λ v next told. along c (suc n) es (after_entry e past) v made.1 next told)
@@ -911,15 +952,18 @@ along c n (e ∷ es) past w made up follows =
     stopped (Ok told) = false
     stopped (Err stop) = true
 
+    same-paths : (v : World) → PathsAgree (after_marks e.marks (at_begin e.event past)) v → PathsAgree (after_entry e past) v
+    same-paths v agree = agree
+
     same : (v : World) → KeysAgree (after_marks e.marks (at_begin e.event past)) v → KeysAgree (after_entry e past) v
     same v agree = agree
 
-    by : (o : Outcome) → Comes (Ends past e.event) o → Comes (λ v ms. KeysAgree (after_marks ms (at_begin e.event past)) v) o → Comes (λ v ms. PostsAgree (at_end (after_marks ms (at_begin e.event past))) v) o
+    by : (o : Outcome) → Comes (Ends past e.event) o → Comes (λ v ms. KeysAgree (after_marks ms (at_begin e.event past)) v) o → Comes (λ v ms. PathsAgree (after_marks ms (at_begin e.event past)) v) o → Comes (λ v ms. PostsAgree (at_end (after_marks ms (at_begin e.event past))) v) o
         → Comes (λ v ms. WaysAgree (at_end (after_marks ms (at_begin e.event past))) v) o → Afterwards (IsSoundWorld c) o → Afterwards IsSteadyWorld o → Afterwards (IsPlacedWorld c) o
         → Afterwards IsBoundWorld o → go_on n o (λ v. run_from c (suc n) v (map (λ e. e.event) es)) ≡ Ok (e.marks ∷ map (λ e. e.marks) es) → Rest
         → each_entry is_fit (λ past. true) past (e ∷ es) ≡ true
-    by (NotReady reason) last keys posts ways sound steady placed bound follows rest = absurd (true≢false (ap stopped follows))
-    by (Did v ms) last keys posts ways sound steady placed bound follows rest = at (first-marks ms e.marks (run_from c (suc n) v (map (λ e. e.event) es)) (map (λ e. e.marks) es) follows)
+    by (NotReady reason) last keys paths posts ways sound steady placed bound follows rest = absurd (true≢false (ap stopped follows))
+    by (Did v ms) last keys paths posts ways sound steady placed bound follows rest = at (first-marks ms e.marks (run_from c (suc n) v (map (λ e. e.event) es)) (map (λ e. e.marks) es) follows)
       where
         at : (ms ≡ e.marks) × (run_from c (suc n) v (map (λ e. e.event) es) ≡ Ok (map (λ e. e.marks) es)) → each_entry is_fit (λ past. true) past (e ∷ es) ≡ true
         at told = both-true _ _ (both-true _ true (subst (λ xs. each_mark is_fit (at_begin e.event past) xs ≡ true) told.0 last) refl)
@@ -930,6 +974,7 @@ along c n (e ∷ es) past w made up follows =
               placed = placed;
               bound = bound;
               agree = same v (subst (λ xs. KeysAgree (after_marks xs (at_begin e.event past)) v) told.0 keys);
+              paths = same-paths v (subst (λ xs. PathsAgree (after_marks xs (at_begin e.event past)) v) told.0 paths);
               posts = subst (λ xs. PostsAgree (at_end (after_marks xs (at_begin e.event past))) v) told.0 posts;
               ways = subst (λ xs. WaysAgree (at_end (after_marks xs (at_begin e.event past))) v) told.0 ways;
             }) told.1)
@@ -942,6 +987,7 @@ fit-along c bytes es limited made follows = along c 0 es (opening_past bytes) (o
   placed = opening-placed c bytes;
   bound = opening-bound bytes;
   agree = opening-keys-agree bytes;
+  paths = opening-agrees bytes;
   posts = opening-posts-agree bytes;
   ways = opening-ways-agree bytes;
 }) follows
@@ -965,7 +1011,7 @@ ends-along c bytes es limited made follows = weaker-entries is_fit ends_in_force
   where
     each : (p : Past) (o : Option Grant) → option_map_or (is_well_ended p) o false ≡ true → option_map_or (is_unbound p) o false ≡ true
     each p None fit = fit
-    each p (Some g) fit = (and_parts (is_unbound p g) (ends_as_event_may p g) fit).0
+    each p (Some g) fit = (and_parts (is_unbound p g) (ends_at_hand p g) fit).0
 
     by : (p : Past) (m : Mark) → is_fit p m ≡ true → ends_in_force p m ≡ true
     by p (marks.Revoked adapter key) fit = each p (grant_with p adapter key) fit
@@ -981,9 +1027,9 @@ asked-along c bytes es limited made follows = weaker-entries is_fit is_granted_a
 pub ended-along : (c : Configuration) (bytes : ByteMap) (es : List EntryValue) → AreLimited c → AllByRecursion (λ e. CanBeMade e.event) es → Follows c bytes es → DoEndAsAsked bytes es
 ended-along c bytes es limited made follows = weaker-entries is_fit ends_as_asked by es (opening_past bytes) (fit-along c bytes es limited made follows)
   where
-    each : (p : Past) (o : Option Grant) → option_map_or (is_well_ended p) o false ≡ true → option_map_or (ends_as_event_may p) o false ≡ true
+    each : (p : Past) (o : Option Grant) → option_map_or (is_well_ended p) o false ≡ true → option_map_or (ends_at_hand p) o false ≡ true
     each p None fit = fit
-    each p (Some g) fit = (and_parts (is_unbound p g) (ends_as_event_may p g) fit).1
+    each p (Some g) fit = (and_parts (is_unbound p g) (ends_at_hand p g) fit).1
 
     by : (p : Past) (m : Mark) → is_fit p m ≡ true → ends_as_asked p m ≡ true
     by p (marks.Revoked adapter key) fit = each p (grant_with p adapter key) fit

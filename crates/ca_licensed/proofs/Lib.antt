@@ -8,3 +8,4 @@ pub mod EndingLemmas
 pub mod AskedLemmas
 pub mod BoundLemmas
 pub mod LieLemmas
+pub mod ArrivalLemmas

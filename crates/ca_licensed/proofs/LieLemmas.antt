@@ -32,7 +32,7 @@ use Rattle.ca_keys.specs.Memory.{ByteMap}
 use Rattle.ca_keys.specs.Numbers.{queue_of}
 use Rattle.ca_licensed.proofs.AloneLemmas.{alone-along}
 use Rattle.ca_licensed.proofs.EndingLemmas.{fit-along, is_fit, is_well_ended, key-slots}
-use Rattle.ca_licensed.specs.Ended.{ends_as_event_may}
+use Rattle.ca_model.specs.Licensed.{ends_at_hand}
 use Rattle.ca_model.specs.Past.{after_change, opening_past}
 use Rattle.ca_model.specs.machine.Run.{Follows}
 use Rattle.ca_model.specs.machine.Sound.{AreLimited, CanBeMade}
@@ -476,7 +476,7 @@ laid-one (marks.Revoked adapter key) p laid fit alone = by (laid-revoked p adapt
   where
     each : (o : Option Grant) → option_map_or (is_well_ended p) o false ≡ true → option_map_or (is_unbound p) o false ≡ true
     each None fit = fit
-    each (Some g) fit = (and_parts (is_unbound p g) (ends_as_event_may p g) fit).0
+    each (Some g) fit = (and_parts (is_unbound p g) (ends_at_hand p g) fit).0
 
     by : IsLaid (after_mark (marks.Revoked adapter key) p) → IsLaid (after_mark (marks.Revoked adapter key) p) × (leaves_windows_lying p (marks.Revoked adapter key) ≡ true)
     by next = (next, next.lie)
