@@ -9,3 +9,4 @@ pub mod AskedLemmas
 pub mod BoundLemmas
 pub mod LieLemmas
 pub mod ArrivalLemmas
+pub mod LicensedLemmas

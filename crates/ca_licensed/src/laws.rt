@@ -9,6 +9,7 @@ ghost use Rattle.ca_licensed.specs.Ended.{DoEndAsAsked};
 ghost use Rattle.ca_licensed.specs.Ends.{DoEndInForce};
 ghost use Rattle.ca_licensed.specs.Lie.{DoWindowsLie};
 ghost use Rattle.ca_model.specs.Entries.{EntryValue};
+ghost use Rattle.ca_model.specs.Licensed.{Licensed};
 ghost use Rattle.ca_model.specs.machine.Run.{Follows};
 ghost use Rattle.ca_model.specs.machine.Sound.{AreLimited, CanBeMade};
 
@@ -58,13 +59,22 @@ pub fn windows_lie_in_their_regions()
         → AllByRecursion (λ e. CanBeMade e.event) es → Follows c bytes es → DoWindowsLie bytes es }
 {}
 
-/// In a history that follows the machine each key that ends, in an event in which no packet arrives, is that of a
-/// grant in force which the event may end: a deregistration or a deallocation that of its slot; a bind that of its type
-/// 1 window; and a Local Invalidate the key that it names, of its queue pair's domain, of a region that was
-/// fast-registered and has no bound window, or of a type 2 window that is bound through its queue pair. This is the
-/// part of Licensed that speaks of what ends a key, but for packets.
+/// In a history that follows the machine each key that ends is that of a grant in force which its event ends: a
+/// deregistration or a deallocation that of its slot; a bind that of its type 1 window; and a Local Invalidate, or the
+/// last packet of a SEND with Invalidate that arrives, the key that it names, of its queue pair's domain, of a region
+/// that was fast-registered and has no bound window, or of a type 2 window that is bound through its queue pair. This
+/// is the part of Licensed that speaks of what ends a key.
 pub fn keys_end_as_asked()
     ensures { (c : Configuration) (bytes : ByteMap) (es : List EntryValue)
         → AreLimited c
         → AllByRecursion (λ e. CanBeMade e.event) es → Follows c bytes es → DoEndAsAsked bytes es }
+{}
+
+/// Every history that follows the machine is licensed: each grant is what its event asked for, alone in its key slot;
+/// each key that ends is that of a grant in force which its event ends; wherever a key comes into force or ends each
+/// window lies in its region; and each success has its effect in the event that tells of it.
+pub fn machine_is_licensed()
+    ensures { (c : Configuration) (bytes : ByteMap) (es : List EntryValue)
+        → AreLimited c
+        → AllByRecursion (λ e. CanBeMade e.event) es → Follows c bytes es → Licensed bytes es }
 {}
