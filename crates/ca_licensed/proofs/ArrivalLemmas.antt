@@ -1,5 +1,5 @@
 -- The key that a packet which arrives may end is the one that it names, and the packet asks for its end. For proofs only.
-use Rattle.std.proofs.Common.{◌≡◌, ℕ, ◌+◌, ◌==◌, ◌&&◌, nat_le, nat_lt, Bool, true, false, not, if◌then◌else◌, List, [], ◌∷◌, length, sum_by, Option, None, Some, IfSome, is_some, is_none, Ok, Err, Result, refl, sym, ap, subst, ◌∙◌, true≢false}
+use Rattle.std.proofs.Common.{◌≡◌, ℕ, ◌+◌, ◌==◌, ◌&&◌, nat_lt, Bool, true, false, not, if◌then◌else◌, List, [], ◌∷◌, length, sum_by, Option, None, Some, IfSome, is_some, is_none, Ok, Err, Result, refl, sym, ap, subst, ◌∙◌, true≢false}
 use Rattle.std.specs.Int.{w32, w64}
 use Rattle.std.specs.Option.{ok_or, option_and_then, option_map, option_map_or}
 use Rattle.ca_packet.specs.declared.shape.Position.{Position}
@@ -46,18 +46,17 @@ use Rattle.ca_packet.specs.declared.shape.Shape.TheVariants as shapes
 use Rattle.ca_base.specs.declared.change.State.TheVariants as states
 use Rattle.ca_model.specs.declared.mark.Drop1.TheVariants as drops
 use Rattle.ca_base.specs.Sight.{Invalidation}
-use Rattle.ca_base.specs.declared.completion.WcStatus.TheVariants.{BadResponse, LocalLength}
+use Rattle.ca_base.specs.declared.completion.WcStatus.TheVariants.{BadResponse}
 use Rattle.ca_base.specs.declared.request.PlacedReceive.{PlacedReceive}
 use Rattle.ca_base.specs.objects.QueuePair.{QueuePair}
 use Rattle.ca_base.specs.objects.SharedReceives.{SharedReceives}
-use Rattle.ca_keys.specs.declared.key.Key.{Key}
 use Rattle.ca_keys.specs.Refusals.{first_of}
 use Rattle.ca_model.specs.declared.receiving.Receiving.{Receiving}
 use Rattle.ca_model.specs.declared.write_reach.WriteReach.{WriteReach}
 use Rattle.ca_model.specs.machine.Delivery.{arrival_row, packet_arrived}
 use Rattle.ca_model.specs.machine.Expected.{atomic_row, expected_row, invalidation_of, receiving_of, send_row, valid_row, write_reach, write_row}
 use Rattle.ca_model.specs.machine.Responses.{response_row}
-use Rattle.ca_model.specs.machine.Row.{Ending, Row, plain_row}
+use Rattle.ca_model.specs.machine.Row.{Row, plain_row}
 use Rattle.ca_packet.specs.Decoding.{bth_at, body_in, fields_from, headers_at, packet_in, payload_behind, part_at, number_from, aeth_from, atomic_from, reth_from, ◌>>=◌}
 use Rattle.ca_packet.specs.Packet.{Fields, follows}
 use Rattle.ca_packet.specs.Table.{AETH, AtomicAckETH, AtomicETH, IETH, ImmDt, RETH, Row as TableRow, has, row_of, size_of}

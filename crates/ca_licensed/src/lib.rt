@@ -16,6 +16,6 @@
 mod laws;
 
 pub use laws::{
-    grants_are_as_asked, grants_stand_alone, keys_end_as_asked, keys_end_in_force, machine_is_licensed,
-    successes_have_their_effects, windows_lie_in_their_regions,
+    grants_are_as_asked, grants_stand_alone, keys_end_as_asked, keys_end_in_force,
+    machine_is_licensed, successes_have_their_effects, windows_lie_in_their_regions,
 };
