@@ -5,3 +5,6 @@ pub mod PostTurnLemmas
 pub mod PostVerbLemmas
 pub mod PostQueueLemmas
 pub mod PostEventLemmas
+pub mod OperationLemmas
+pub mod GrantLemmas
+pub mod FailureLemmas

@@ -27,7 +27,8 @@ use Rattle.ca_laws_sound.proofs.WorldLemmas.{IsThere, around_in, shared_of, RowD
 use Rattle.ca_laws_steady.proofs.TurnLemmas.{there-kept}
 use Rattle.ca_laws_steady.specs.Steady.{IsSteadyWorld}
 use Rattle.ca_licensed.proofs.AnswerLemmas.{Answers, AreAnswered, AreFlushes, quiet-verb, IsQuietVerb}
-use Rattle.ca_licensed.proofs.EffectLemmas.{AreOf, both-true, keyless-of, of-append, tells}
+use Rattle.ca_agree_posts.proofs.GrantLemmas.{both-true}
+use Rattle.ca_licensed.proofs.EffectLemmas.{AreOf, keyless-of, of-append, tells}
 use Rattle.ca_model.specs.Past.{Past, after_mark, after_marks, at_begin, key_slot_eq, key_slot_of, after_entry, each_entry, each_mark, opening_past}
 use Rattle.ca_model.specs.declared.answer.Answer.TheVariants as answers
 use Rattle.ca_model.specs.declared.answer.Refusal.TheVariants.{NoSuch}
@@ -69,7 +70,7 @@ use Rattle.ca_laws_sound.proofs.SoundLemmas.{event-sound, opening-sound}
 use Rattle.ca_laws_steady.proofs.EventLemmas.{event-steady, opening-steady}
 use Rattle.ca_laws_windows.proofs.WindowEventLemmas.{event-bound, opening-bound}
 use Rattle.ca_laws_windows.specs.Bindings.{IsBoundWorld}
-use Rattle.ca_licensed.proofs.PerformedLemmas.{IsSentPacket, packet-sent}
+use Rattle.ca_agree_posts.proofs.FailureLemmas.{IsSentPacket, packet-sent}
 use Rattle.ca_model.specs.Entries.{EntryValue}
 use Rattle.ca_model.specs.machine.Frame.{Afterwards}
 use Rattle.ca_model.specs.machine.Run.{Follows, Ran, go_on, run_from}

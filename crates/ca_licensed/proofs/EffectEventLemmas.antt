@@ -21,7 +21,7 @@ use Rattle.ca_laws_steady.proofs.EventLemmas.{event-steady, opening-steady}
 use Rattle.ca_laws_steady.specs.Steady.{IsSteadyWorld}
 use Rattle.ca_laws_windows.proofs.WindowEventLemmas.{event-bound, opening-bound}
 use Rattle.ca_laws_windows.specs.Bindings.{IsBoundWorld}
-use Rattle.ca_licensed.proofs.EffectLemmas.{both-true}
+use Rattle.ca_agree_posts.proofs.GrantLemmas.{both-true}
 use Rattle.ca_licensed.proofs.PerformedLemmas.{effects-request}
 use Rattle.ca_licensed.proofs.SuccessLemmas.{Effective, effects-dealloc_mw, effects-deliver, effects-dereg_mr, effects-inject, effects-quiet, effects-refused, effects-reg_mr, effects-respond, effects-timeout, effects-wake}
 use Rattle.ca_licensed.specs.Effects.{HaveTheirEffects}

@@ -3,6 +3,7 @@ use Rattle.std.proofs.Common.{◌≡◌, ℕ, Bool, true, false, ◌&&◌, ◌||
 use Rattle.std.proofs.lemmas.Bool.{eq-eqb}
 use Rattle.std.specs.List.{AllByRecursion, list_all, list_any}
 use Rattle.std.specs.Option.{option_and_then, option_map_or}
+use Rattle.ca_agree_posts.proofs.GrantLemmas.{both-true, key-refl}
 use Rattle.ca_agree_posts.proofs.GoingLemmas.{AreKeyless, EndKey, IsKeyless, IsOwnDone, TellOf}
 use Rattle.ca_agree_posts.proofs.PlaceLemmas.{IsPostedAt, item-posted}
 use Rattle.ca_agree_posts.proofs.PostLemmas.{IsNoRequest, SamePosts}
@@ -24,10 +25,6 @@ use Rattle.ca_model.specs.declared.event.Event.TheVariants as events
 use Rattle.ca_model.specs.declared.mark.Mark.{Mark}
 use Rattle.ca_model.specs.declared.mark.Mark.TheVariants as marks
 use Rattle.ca_model.specs.machine.World.{World}
-
-pub both-true : (a b : Bool) → a ≡ true → b ≡ true → (a && b) ≡ true
-both-true true b one other = other
-both-true false b one other = one
 
 either-true : (a b : Bool) → b ≡ true → (a || b) ≡ true
 either-true true b other = refl
@@ -136,9 +133,6 @@ left-by name sends ended ms all p = left-all name sends ended ms all p p (left-s
 pub record Tells (name : QueueId) (sends : WorkQueue PostedSend) (ended : Option Key) (ms : List Mark) : Type 0 where
   pub marks : AreOf name sends ended ms
   pub gone : (p : Past) → IfSome ended (λ key. was_revoked (after_marks ms p) name.adapter key ≡ true)
-
-pub key-refl : (key : Key) → key_eq key key ≡ true
-key-refl key = eq-eqb key.0 key.0 refl
 
 pub tells : (name : QueueId) (sends : WorkQueue PostedSend) (ended : Option Key) (ms : List Mark) → TellOf name sends ended ms → Tells name sends ended ms
 tells name sends None ms all = record { marks = keyless-of name sends None ms all; gone = λ p. record {} }

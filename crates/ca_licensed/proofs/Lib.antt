@@ -5,3 +5,8 @@ pub mod PerformedLemmas
 pub mod EffectEventLemmas
 pub mod AloneLemmas
 pub mod EndingLemmas
+pub mod AskedLemmas
+pub mod BoundLemmas
+pub mod LieLemmas
+pub mod ArrivalLemmas
+pub mod LicensedLemmas

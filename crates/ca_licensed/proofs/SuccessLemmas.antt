@@ -36,7 +36,8 @@ use Rattle.ca_laws_sound.proofs.WorldLemmas.{IsThere, around_in, shared_of}
 use Rattle.ca_laws_steady.proofs.TurnLemmas.{there-kept}
 use Rattle.ca_laws_steady.specs.Steady.{IsSteadyWorld}
 use Rattle.ca_licensed.proofs.AnswerLemmas.{Answers, AreAnswered, AreFlushes, IsFlush, quiet-verb, refused-fine, IsQuietVerb}
-use Rattle.ca_licensed.proofs.EffectLemmas.{AreOf, IsLeft, Tells, all-effective, both-true, effective, keyless-of, left-by, not-performed, of-append, tells, all-more, key-refl}
+use Rattle.ca_agree_posts.proofs.GrantLemmas.{both-true, key-refl}
+use Rattle.ca_licensed.proofs.EffectLemmas.{AreOf, IsLeft, Tells, all-effective, effective, keyless-of, left-by, not-performed, of-append, tells, all-more}
 use Rattle.ca_model.specs.Licensed.{completion_is_effective, grants_by_performing, is_effective, operation_is_effective, is_effective_at_end, is_of_slot, was_revoked, invalidation_is_effective}
 use Rattle.ca_model.specs.Past.{KeySlot, Past, after_mark, after_marks, at_begin, key_slot_eq, key_slot_of, operation_performed, region_key_slot, window_key_slot, after_verb, posted_at}
 use Rattle.ca_model.specs.declared.answer.Answer.TheVariants as answers
