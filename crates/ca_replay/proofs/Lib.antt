@@ -5,5 +5,4 @@ mod GatherLemmas
 mod MadeLemmas
 mod ActLemmas
 mod OpenLemmas
-mod ReplayLemmas
 mod LookLemmas

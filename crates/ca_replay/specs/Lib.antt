@@ -1,5 +1,3 @@
 pub mod Rows
 pub mod Hand
-pub mod Replays
-pub mod Replaying
 pub mod Looks

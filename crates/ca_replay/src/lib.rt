@@ -7,10 +7,8 @@
 //! Source: this profile's choice.
 #![tactic(auto)]
 
-mod events;
 mod hand;
 mod looks;
 mod row;
 
-pub use events::{ReplayError, replay};
 pub use row::Row;
