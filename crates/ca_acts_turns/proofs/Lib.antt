@@ -1,6 +1,7 @@
 pub mod TurnLemmas
-mod TimerLemmas
+pub mod TimerLemmas
 mod ReachLemmas
 mod LeaveLemmas
 mod SenderLemmas
-mod RespondLemmas
+mod RowLemmas
+mod TakingLemmas

@@ -60,7 +60,7 @@ passed-performs w (t ∷ ts) p is = by t.0 is (passed-performs w ts p)
     by false is again = again is
 
 -- a queue pair with no peer does not send
-not-sending : (q : QueuePair) → CanStep q → q.peer ≡ None → is_sending q.state ≡ false
+pub not-sending : (q : QueuePair) → CanStep q → q.peer ≡ None → is_sending q.state ≡ false
 not-sending q can none = by q.state can.queue.connected
   where
     absent : is_some q.peer ≡ true → ⊥

@@ -3,16 +3,13 @@ use Rattle.std.specs.Prelude.{◌≡◌, ℕ, ◌≤◌, Bool, true, if◌then�
 use Rattle.std.specs.Option.{option_map_or}
 use Rattle.ca_base.specs.declared.correspondent.Correspondent.{Correspondent}
 use Rattle.ca_base.specs.declared.lot.Lot.{Lot}
-use Rattle.ca_base.specs.declared.change.State.TheVariants as states
 use Rattle.ca_base.specs.declared.step.Reason.{Reason}
-use Rattle.ca_base.specs.declared.step.Reason.TheVariants as reasons
 use Rattle.ca_base.specs.declared.step.Sent.{Sent}
 use Rattle.ca_base.specs.declared.step.Sent.TheVariants.{Silent, Spelt}
 use Rattle.ca_base.specs.declared.step.StepError.{StepError}
 use Rattle.ca_base.specs.declared.step.StepError.TheVariants as steps
 use Rattle.ca_base.specs.objects.Mailbox.{Mailbox, after_send, has_room, passes}
 use Rattle.ca_base.specs.objects.QueuePair.{QueuePair, Present, queue_in}
-use Rattle.ca_base.specs.objects.StateTable.{is_among}
 use Rattle.ca_held.specs.declared.held.Held.{Held}
 use Rattle.ca_held.specs.HeldView.{Holding, hold, holding}
 use Rattle.ca_held_reach.specs.Changed.{after_write_by}
@@ -65,7 +62,3 @@ mail_updates from to m lot bytes = if passes from to.incarnation m then (Mailbox
 -- the index that a packet gets there
 abbrev pub index_of_mail : Correspondent → Correspondent → Mailbox → Option ℕ
 index_of_mail from to m = if passes from to.incarnation m then Some m.next else None
-
--- why a queue pair with no peer does not answer
-abbrev pub reason_alone : QueuePair → Reason
-reason_alone q = if is_among (states.Reset ∷ states.Init ∷ []) q.state then reasons.State else reasons.Empty

@@ -1,4 +1,4 @@
-//! Acts on turns: what the timer and the wake of a queue pair do with the parts in hand.
+//! Acts on turns: what a queue pair's engines send, and what its timer and its wake do, with the parts in hand.
 //!
 //! To the layers above it promises that each act is the plan of its event, carried out in the small world of what is held:
 //! the same marks and changes, the same reason where the turn is not possible, and where memory ends, none.
@@ -9,7 +9,10 @@
 
 mod answering;
 mod leave;
+mod requesting;
+mod sending;
 mod timers;
 
 pub use answering::respond;
+pub use requesting::send_packet;
 pub use timers::{rnr_wake, timeout};

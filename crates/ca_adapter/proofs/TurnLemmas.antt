@@ -1,27 +1,32 @@
 -- What the act of a turn asks of the parts in hand, from what its caller shows of them. For proofs only.
-use Rattle.std.proofs.Common.{◌≡◌, ◌∙◌, refl, sym, ap, subst, suc, ◌<◌, ◌^◌, arith, Bool, true, false, Some, IfSome, is_some, true≢false}
+use Rattle.std.proofs.Common.{◌≡◌, ◌∙◌, refl, sym, ap, subst, suc, ◌<◌, ◌^◌, arith, ℕ, Bool, true, false, List, Option, None, Some, IfSome, IsTrue, is_some, true≢false}
 use Rattle.ca_acts.specs.Act.{Suffices}
 use Rattle.ca_acts.specs.Room.{FitsDone}
 use Rattle.ca_acts_turns.specs.Shown.{AreShown}
-use Rattle.ca_adapter.proofs.ReadyLemmas.{queues_can_step, ready-suffices}
+use Rattle.ca_adapter.proofs.ReadyLemmas.{queues_can_step, ready-suffices, verb_named}
 use Rattle.ca_adapter.proofs.WorldLemmas.{shown, sound-thing, vacant-there, within}
 use Rattle.ca_adapter.specs.Ready.{ArePartsOfWorld, IsReady}
 use Rattle.ca_base.specs.Configuration.{Configuration}
 use Rattle.ca_base.specs.objects.CompletionQueue.{CompletionQueue}
+use Rattle.ca_base.specs.objects.Mailbox.{bytes_lent}
 use Rattle.ca_base.specs.objects.QueuePair.{NoQueue, Present, QueueSlot, queue_in}
 use Rattle.ca_held.specs.declared.held.Held.{Held}
 use Rattle.ca_held.specs.HeldView.{holding}
 use Rattle.ca_keys.specs.declared.names.QueueId.{QueueId}
 use Rattle.ca_keys.specs.declared.names.Slot.{Slot}
+use Rattle.ca_laws_numbers.proofs.LimitLemmas.{lent-countable}
 use Rattle.ca_laws_room.proofs.EventRoomLemmas.{together-fit}
+use Rattle.ca_mailbox.specs.Counting.{is_countable}
 use Rattle.ca_model.proofs.FrameLemmas.{event-agrees}
 use Rattle.ca_model.specs.declared.event.Event.{Event}
 use Rattle.ca_model.specs.declared.part_name.PartName.TheVariants as names
+use Rattle.ca_model.specs.declared.event.Event.TheVariants as events
+use Rattle.ca_model.specs.declared.verb.Verb.{Verb}
 use Rattle.ca_model.specs.machine.CanStep.{CanStep}
 use Rattle.ca_model.specs.machine.Frame.{SameOutcomeWhere}
 use Rattle.ca_model.specs.machine.Plan.{Did, NotReady, Outcome, perform}
 use Rattle.ca_model.specs.machine.Sound.{CanBeMade, IsQueueOf}
-use Rattle.ca_model.specs.machine.Step.{plan, step}
+use Rattle.ca_model.specs.machine.Step.{is_named, plan, step, verb_plan}
 use Rattle.ca_model.specs.machine.World.{Cq_of, Mailbox_of, Queue_of, Region_of, Window_of}
 
 has-cq : (h : Held) (s : Slot) → (holding h).parts (names.Cq s) ≡ true → (holding h).has (Cq_of s) ≡ true
@@ -57,6 +62,15 @@ module _ (c : Configuration) (event : Event) (h : Held) (ready : IsReady c event
   pub turn_mail : (n : QueueId) → suc ((holding h).world.mailbox n).next < 2 ^ 64
   turn_mail n = omega (arith, (within c h are (Mailbox_of n)).0, are.after.few)
 
+  pub turn_counts : (n : QueueId) (index : ℕ)
+      → IfSome (bytes_lent index ((holding h).world.mailbox n)) (λ bytes. IsTrue (is_countable index ((holding h).world.mailbox n)))
+  turn_counts n index = by (bytes_lent index ((holding h).world.mailbox n)) refl
+    where
+      by : (o : Option (List ℕ)) → bytes_lent index ((holding h).world.mailbox n) ≡ o
+          → IfSome o (λ bytes. IsTrue (is_countable index ((holding h).world.mailbox n)))
+      by None lent = record {}
+      by (Some bytes) lent = lent-countable are.count index ((holding h).world.mailbox n) bytes are.after.few (within c h are (Mailbox_of n)).1 lent
+
   -- a completion queue that is there is held
   cq-held : (s : Slot) (q : CompletionQueue) → (holding h).world.cq s ≡ Some q → (holding h).parts (names.Cq s) ≡ true
   cq-held s q there = by ((holding h).parts (names.Cq s)) refl
@@ -80,3 +94,10 @@ module _ (c : Configuration) (event : Event) (h : Held) (ready : IsReady c event
 -- what is in hand is ready for the event that it is
 pub of-event : {c : Configuration} {event e : Event} {h : Held} → event ≡ e → IsReady c event h → IsReady c e h
 of-event {c} {event} {e} {h} is ready = subst (λ x. IsReady c x h) is ready
+
+-- what a verb completes fits, where its names are configured
+pub verb_fits : (c : Configuration) (by : ℕ) (verb v : Verb) (h : Held) → verb ≡ v → IsReady c (events.Verb by verb) h → CanBeMade (events.Verb by verb)
+    → is_named c verb ≡ true → FitsDone (holding h).world (perform (holding h).world (verb_plan c (record { by = by; verb = verb }) v))
+verb_fits c by verb v h is ready made named =
+    subst (λ x. FitsDone (holding h).world (perform (holding h).world (verb_plan c (record { by = by; verb = verb }) x))) is
+    (subst (FitsDone (holding h).world) (verb_named c by verb (holding h).world named) (turn_fits c (events.Verb by verb) h ready made))

@@ -36,16 +36,11 @@ pub record IsReady (c : Configuration) (event : Event) (h : Held) : Type 0 where
   pub parts : ArePartsOfWorld c h
   pub next : next_part (holding h).parts (holding h).world (event_needs c event) ≡ None
 
--- an Inject, which is no verb of the standard: a packet arrives
-abbrev pub is_injection : Verb → Bool
-is_injection (verbs.Inject queue bytes) = true
-is_injection verb = false
-
--- an event that takes no packet and sends none of a request: a verb that is no Inject, an answer, a timer or a wake
+-- an event that is no turn of a requester
 abbrev pub is_acted : Event → Bool
-is_acted (events.Verb by verb) = not (is_injection verb)
+is_acted (events.Verb by verb) = true
 is_acted (events.Request queue lot) = false
-is_acted (events.Deliver queue index) = false
+is_acted (events.Deliver queue index) = true
 is_acted (events.Respond queue lot) = true
 is_acted (events.Timeout queue hasten) = true
 is_acted (events.RnrWake queue) = true

@@ -1,7 +1,7 @@
 ghost use Rattle.std.specs.Prelude.{◌≡◌, true, false};
 ghost use Rattle.ca_acts.specs.Act.{Acts};
 ghost use Rattle.ca_acts_laws.specs.Steps.{IsStepOf, Shows};
-ghost use Rattle.ca_adapter.specs.Ready.{IsReady, is_acted, is_injection};
+ghost use Rattle.ca_adapter.specs.Ready.{IsReady, is_acted};
 ghost use Rattle.ca_base.specs.Configuration.{configuration_in};
 ghost use Rattle.ca_held.specs.HeldView.{holding};
 ghost use Rattle.ca_model.specs.declared.event.Event.TheVariants as events;
@@ -11,6 +11,7 @@ ghost use Rattle.ca_model.specs.machine.World.{World};
 use crate::lists::verb_fits;
 use crate::verbs::act_verb;
 use ca_acts::Call;
+use ca_acts_arrivals::deliver;
 use ca_acts_turns::{respond, rnr_wake, timeout};
 use ca_base::{Settings, StepError};
 use ca_held::Held;
@@ -22,8 +23,7 @@ use std::alloc::Global;
 /// verb says, with its refusals in order. A turn that is not possible answers NotReady with its first reason, and of the
 /// verbs a Poll alone does. `Memory` leaves all as it was.
 ///
-/// The caller shows that the parts in hand suffice (`IsReady`), and that the event takes no packet and sends none of a
-/// request.
+/// The caller shows that the parts in hand suffice (`IsReady`), and that the event is no turn of a requester.
 #[inline(never)]
 #[tactic(auto, using(crate::proofs::ReadyLemmas::act_stepped))]
 pub fn act(
@@ -56,10 +56,11 @@ fn act_held(
 {
     match event {
         Event::Verb { by, verb } => act_call(alloc, settings, held, *by, verb),
+        Event::Deliver { queue, index } => deliver(alloc, settings, held, *queue, *index),
         Event::Respond { queue, lot } => respond(alloc, settings, held, *queue, *lot),
         Event::Timeout { queue, hasten } => timeout(alloc, settings, held, *queue, *hasten),
         Event::RnrWake { queue } => rnr_wake(alloc, settings, held, *queue),
-        Event::Request { .. } | Event::Deliver { .. } => unreachable!(),
+        Event::Request { .. } => unreachable!(),
     }
 }
 
@@ -74,7 +75,6 @@ fn act_call(
     verb: &Verb,
 ) -> Result<Marks, StepError>
     requires ready { IsReady (configuration_in settings.now) (events.Verb by verb.now) held.old }
-    requires acted { is_injection verb.now ≡ false }
     ensures act { Acts result (machine.plan (configuration_in settings.now) (events.Verb by verb.now)) held.old held.new }
 {
     verb_fits(verb);

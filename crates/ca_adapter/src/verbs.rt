@@ -1,7 +1,7 @@
 ghost use Rattle.std.specs.Prelude.{◌≡◌, true, false};
 ghost use Rattle.ca_acts.specs.Act.{Acts, Suffices};
 ghost use Rattle.ca_acts.specs.Calls.{call_of};
-ghost use Rattle.ca_adapter.specs.Ready.{IsReady, is_injection, stored_plan};
+ghost use Rattle.ca_adapter.specs.Ready.{IsReady, stored_plan};
 ghost use Rattle.ca_base.specs.Configuration.{configuration_in};
 ghost use Rattle.ca_model.specs.declared.event.Event.TheVariants as events;
 ghost use Rattle.ca_model.specs.machine.Sound.{CanBeMade};
@@ -11,6 +11,7 @@ use ca_acts::{
     Call, alloc_mr, alloc_mw, alloc_pd, create_cq, create_srq, dealloc_mw, dealloc_pd, dereg_mr,
     destroy_cq, destroy_srq, load, post_srq, query_qp, reg_mr, store,
 };
+use ca_acts_arrivals::inject;
 use ca_acts_pairs::{Creation, create_qp, destroy_qp, modify_qp};
 use ca_acts_queues::{poll, post_recv, post_send};
 use ca_base::{Bytes, Field, Place, Run, Settings, StepError};
@@ -27,7 +28,6 @@ pub(crate) fn act_verb(
     requires ready { IsReady (configuration_in settings.now) (events.Verb call.now.by call.now.verb.now) held.old }
     requires made { CanBeMade (events.Verb call.now.by call.now.verb.now) }
     requires named { machine.is_named (configuration_in settings.now) call.now.verb.now ≡ true }
-    requires transport { is_injection call.now.verb.now ≡ false }
     ensures { Acts result (machine.verb_plan (configuration_in settings.now) (call_of call.now) call.now.verb.now)
         held.old held.new }
 {
@@ -109,7 +109,7 @@ pub(crate) fn act_verb(
             };
             load(call, held, at, length_of(settings, &at))
         }
-        Verb::Inject { .. } => unreachable!(),
+        Verb::Inject { queue, bytes } => inject(call, settings, held, *queue, bytes),
     }
 }
 

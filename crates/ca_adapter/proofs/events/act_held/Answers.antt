@@ -1,6 +1,6 @@
 use Rattle.ca_base.specs.Configuration.{configuration_in}
 use Rattle.ca_model.specs.declared.event.Event.TheVariants as events
-use Rattle.ca_adapter.proofs.TurnLemmas.{of-event, turn_fits, turn_named, turn_suffices}
+use Rattle.ca_adapter.proofs.TurnLemmas.{of-event, turn_counts, turn_fits, turn_named, turn_suffices}
 use Rattle.ca_adapter.proofs.events.act_held.Goals as goal
 
 pub respond-requires-clause-suffices : goal.respond-requires-clause-suffices
@@ -26,3 +26,15 @@ rnr_wake-requires-clause-suffices c = turn_suffices (configuration_in c.args.set
 
 pub rnr_wake-requires-clause-named : goal.rnr_wake-requires-clause-named
 rnr_wake-requires-clause-named c = turn_named (configuration_in c.args.settings.now) (events.RnrWake c.in-RnrWake.queue) c.args.held.now (of-event c.in-RnrWake.is c.requires.ready) c.in-RnrWake.queue
+
+pub deliver-requires-clause-suffices : goal.deliver-requires-clause-suffices
+deliver-requires-clause-suffices c = turn_suffices (configuration_in c.args.settings.now) (events.Deliver c.in-Deliver.queue c.in-Deliver.index) c.args.held.now (of-event c.in-Deliver.is c.requires.ready)
+
+pub deliver-requires-clause-needs : goal.deliver-requires-clause-needs
+deliver-requires-clause-needs c = (of-event {e = events.Deliver c.in-Deliver.queue c.in-Deliver.index} c.in-Deliver.is c.requires.ready).next
+
+pub deliver-requires-clause-count : goal.deliver-requires-clause-count
+deliver-requires-clause-count c = turn_counts (configuration_in c.args.settings.now) c.args.event.now c.args.held.now c.requires.ready c.in-Deliver.queue c.in-Deliver.index
+
+pub deliver-requires-clause-fits : goal.deliver-requires-clause-fits
+deliver-requires-clause-fits c = turn_fits (configuration_in c.args.settings.now) (events.Deliver c.in-Deliver.queue c.in-Deliver.index) c.args.held.now (of-event c.in-Deliver.is c.requires.ready) (record {})

@@ -7,6 +7,7 @@ use Rattle.ca_model.specs.machine.Step.{run_of}
 use Rattle.ca_adapter.proofs.FitLemmas.{receive_fits_held, send_fits_held}
 use Rattle.ca_adapter.proofs.PollLemmas.{waiting_are_apart, waiting_are_of_own_places, waiting_can_be_freed}
 use Rattle.ca_adapter.proofs.ReadyLemmas.{change_can_be_made, end_can_be_made, incarnation_rises, objects_rise, of_verb, queue_is_sound, receive_place_rises, send_place_rises, shared_place_rises, side_is_new, slot_and_small, slot_is_small, users_rise, window_is_counted, window_is_small}
+use Rattle.ca_adapter.proofs.TurnLemmas.{turn_parts, turn_steps, verb_fits}
 use Rattle.ca_adapter.proofs.verbs.act_verb.Goals as goal
 
 pub alloc_pd-requires : goal.alloc_pd-requires
@@ -188,3 +189,21 @@ load-requires c = record {
       (run_of c.in-Load.adapter c.in-Load.buffer c.in-Load.offset c.in-Load.length) n))
       (sym c.length_of-in-Load.ensures) (of_verb c.in-Load.is c.requires.ready c.requires.made c.requires.named).suffices;
 }
+
+pub inject-requires-clause-suffices : goal.inject-requires-clause-suffices
+inject-requires-clause-suffices c = (of_verb c.in-Inject.is c.requires.ready c.requires.made c.requires.named).suffices
+
+pub inject-requires-clause-parts : goal.inject-requires-clause-parts
+inject-requires-clause-parts c = turn_parts _ _ _ c.requires.ready
+
+pub inject-requires-clause-needs : goal.inject-requires-clause-needs
+inject-requires-clause-needs c = (of_verb c.in-Inject.is c.requires.ready c.requires.made c.requires.named).ready.next
+
+pub inject-requires-clause-named : goal.inject-requires-clause-named
+inject-requires-clause-named c = (of_verb c.in-Inject.is c.requires.ready c.requires.made c.requires.named).named
+
+pub inject-requires-clause-step : goal.inject-requires-clause-step
+inject-requires-clause-step c = turn_steps _ _ _ c.requires.ready c.in-Inject.queue
+
+pub inject-requires-clause-fits : goal.inject-requires-clause-fits
+inject-requires-clause-fits c = verb_fits _ _ _ _ _ c.in-Inject.is c.requires.ready c.requires.made c.requires.named

@@ -1,0 +1,9 @@
+mod RowLemmas
+mod AsideLemmas
+mod ShelfLemmas
+mod MeetLemmas
+mod HeldLemmas
+mod PlanLemmas
+mod ReadyLemmas
+mod ArriveLemmas
+mod DeliverLemmas
