@@ -1,5 +1,4 @@
-ghost use Rattle.std.specs.Prelude.{◌≡◌, false, IfSome};
-ghost use Rattle.ca_adapter.specs.Ready.{is_injection};
+ghost use Rattle.std.specs.Prelude.{IfSome};
 ghost use Rattle.ca_replay.specs.Rows.{IsRow};
 
 use arrayvec::ArrayVec;
@@ -67,8 +66,7 @@ fn opening(alloc: Global) -> Option<Opening> {
 
 /// Makes a verb on the row. None comes where that is not possible.
 pub fn call(alloc: Global, row: &mut Row, verb: Verb) -> Option<Marks>
-    requires row { IsRow row.old }
-    requires transport { is_injection verb ≡ false }
+    requires { IsRow row.old }
     ensures { IsRow row.new }
 {
     let event = Event::Verb { by: 0, verb };

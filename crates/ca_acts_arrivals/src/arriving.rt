@@ -31,8 +31,8 @@ pub(crate) struct Incoming<'a> {
     pub(crate) envelope: Option<u64>,
 }
 
-/// Bytes arrive at a queue pair, whose shared receive queue stands on a shelf, where it has one. That they arrived is told
-/// first, and then what comes of it. `Memory` changes nothing but the marks.
+/// Bytes arrive at a queue pair, whose shared receive queue stands on a shelf, where it has one. That they arrived is
+/// told first, and then what comes of it. `Memory` changes nothing but the marks.
 pub(crate) fn arrive(
     q: &mut QueuePart,
     srqs: &mut Shelf<Slot, SrqSlot>,
@@ -67,8 +67,8 @@ fn tell(q: &QueuePart, incoming: &Incoming<'_>, marks: &mut Marks)
     });
 }
 
-/// Bytes meet a queue pair. They are read once: they are dropped, or their packet is taken by its engine. `Memory` changes
-/// nothing.
+/// Bytes meet a queue pair. They are read once: they are dropped, or their packet is taken by its engine. `Memory`
+/// changes nothing.
 fn meet(
     q: &mut QueuePart,
     srqs: &mut Shelf<Slot, SrqSlot>,

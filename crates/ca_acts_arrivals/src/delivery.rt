@@ -22,9 +22,9 @@ use ca_held::{Held, QueueSlot};
 use ca_model::Marks;
 use std::alloc::Global;
 
-/// Deliver: the envelope of an index in a queue pair's mailbox is delivered, and counted as delivered once more. `NotKept`
-/// where there is no queue pair, or the envelope is not one of the last that are kept, or was lost. `Memory` leaves all as
-/// it was.
+/// Deliver: the envelope of an index in a queue pair's mailbox is delivered, and counted as delivered once more.
+/// `NotKept` where there is no queue pair, or the envelope is not one of the last that are kept, or was lost. `Memory`
+/// leaves all as it was.
 pub fn deliver(
     alloc: Global,
     settings: &Settings,
@@ -81,11 +81,13 @@ fn take_lent(held: &mut Held, queue: QueueId, index: u64, marks: &mut Marks) -> 
     requires lent { IsSome (bytes_lent index ((holding held.old).world.mailbox queue)) }
     requires there { is_present ((holding held.old).world.queue queue) ≡ true }
     requires can { (q : QueuePair) (bytes : List ℕ) → (holding held.old).world.queue queue ≡ Present q
-        → bytes_lent index ((holding held.old).world.mailbox queue) ≡ Some bytes → CanArrive held.old bytes (Some index) q }
+        → bytes_lent index ((holding held.old).world.mailbox queue) ≡ Some bytes
+        → CanArrive held.old bytes (Some index) q }
     ensures { (q : QueuePair) (bytes : List ℕ) → (holding held.old).world.queue queue ≡ Present q
         → bytes_lent index ((holding held.old).world.mailbox queue) ≡ Some bytes
         → HasArrived queue result (outcome_of held.old bytes (Some index) q).ending
-        (outcome_of held.old bytes (Some index) q).ended q held.old (holding held.new) (told q (Some index) marks.old) marks.new }
+        (outcome_of held.old bytes (Some index) q).ended q held.old (holding held.new)
+        (told q (Some index) marks.old) marks.new }
 {
     let Ok(bytes) = held.mailboxes.at(queue).lend(index) else {
         unreachable!()

@@ -22,8 +22,8 @@ use ca_base::{Bytes, Memory, QueueId, Settings, StepError};
 use ca_held::{Held, QueueSlot};
 use ca_model::{Answer, Marks, Refusal};
 
-/// Inject: bytes arrive at a queue pair at once, as a packet that no envelope carried. Refused with `NoSuch` where there is
-/// no queue pair. `Memory` leaves all as it was. This profile's own verb.
+/// Inject: bytes arrive at a queue pair at once, as a packet that no envelope carried. Refused with `NoSuch` where there
+/// is no queue pair. `Memory` leaves all as it was. This profile's own verb.
 pub fn inject(
     call: &Call<'_>,
     settings: &Settings,
@@ -31,7 +31,8 @@ pub fn inject(
     queue: QueueId,
     bytes: &Bytes,
 ) -> Result<Marks, StepError>
-    requires suffices { Suffices held.old (inject_plan (configuration_in settings.now) (call_of call.now) queue bytes.now) }
+    requires suffices { Suffices held.old
+        (inject_plan (configuration_in settings.now) (call_of call.now) queue bytes.now) }
     requires parts { AreShown (configuration_in settings.now) held.old }
     requires needs { next_part (holding held.old).parts (holding held.old).world
         (event_needs (configuration_in settings.now) (events.Verb call.now.by (verbs.Inject queue bytes.now))) ≡ None }

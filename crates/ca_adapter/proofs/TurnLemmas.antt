@@ -1,5 +1,5 @@
 -- What the act of a turn asks of the parts in hand, from what its caller shows of them. For proofs only.
-use Rattle.std.proofs.Common.{◌≡◌, ◌∙◌, refl, sym, ap, subst, suc, ◌<◌, ◌^◌, arith, ℕ, Bool, true, false, List, Option, None, Some, IfSome, IsTrue, is_some, true≢false}
+use Rattle.std.proofs.Common.{◌≡◌, ◌∙◌, refl, sym, ap, subst, suc, ◌<◌, ◌-◌, ◌^◌, arith, ℕ, Bool, true, false, List, Option, None, Some, IfSome, IsTrue, is_some, true≢false}
 use Rattle.ca_acts.specs.Act.{Suffices}
 use Rattle.ca_acts.specs.Room.{FitsDone}
 use Rattle.ca_acts_turns.specs.Shown.{AreShown}
@@ -15,6 +15,7 @@ use Rattle.ca_held.specs.HeldView.{holding}
 use Rattle.ca_keys.specs.declared.names.QueueId.{QueueId}
 use Rattle.ca_keys.specs.declared.names.Slot.{Slot}
 use Rattle.ca_laws_numbers.proofs.LimitLemmas.{lent-countable}
+use Rattle.ca_laws_numbers.specs.Raised.{IsSlotWithin}
 use Rattle.ca_laws_room.proofs.EventRoomLemmas.{together-fit}
 use Rattle.ca_mailbox.specs.Counting.{is_countable}
 use Rattle.ca_model.proofs.FrameLemmas.{event-agrees}
@@ -61,6 +62,16 @@ module _ (c : Configuration) (event : Event) (h : Held) (ready : IsReady c event
 
   pub turn_mail : (n : QueueId) → suc ((holding h).world.mailbox n).next < 2 ^ 64
   turn_mail n = omega (arith, (within c h are (Mailbox_of n)).0, are.after.few)
+
+  pub turn_windows : (n : QueueId) → IfSome (queue_in ((holding h).world.queue n)) (λ q. q.windows < 2 ^ 32 - 1)
+  turn_windows n = by ((holding h).world.queue n) (within c h are (Queue_of n))
+    where
+      by : (s : QueueSlot) → IsSlotWithin are.count s → IfSome (queue_in s) (λ q. q.windows < 2 ^ 32 - 1)
+      by (NoQueue incarnation timers) small = record {}
+      by (Present q) small = omega (arith, small.windows, are.after.few)
+
+  pub turn_bound : (s : Slot) → ((holding h).world.region s).bound < 2 ^ 32 - 1
+  turn_bound s = omega (arith, within c h are (Region_of s), are.after.few)
 
   pub turn_counts : (n : QueueId) (index : ℕ)
       → IfSome (bytes_lent index ((holding h).world.mailbox n)) (λ bytes. IsTrue (is_countable index ((holding h).world.mailbox n)))

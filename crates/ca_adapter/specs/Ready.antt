@@ -36,15 +36,6 @@ pub record IsReady (c : Configuration) (event : Event) (h : Held) : Type 0 where
   pub parts : ArePartsOfWorld c h
   pub next : next_part (holding h).parts (holding h).world (event_needs c event) ≡ None
 
--- an event that is no turn of a requester
-abbrev pub is_acted : Event → Bool
-is_acted (events.Verb by verb) = true
-is_acted (events.Request queue lot) = false
-is_acted (events.Deliver queue index) = true
-is_acted (events.Respond queue lot) = true
-is_acted (events.Timeout queue hasten) = true
-is_acted (events.RnrWake queue) = true
-
 -- a Store of these bytes from a place on, in a buffer as it is configured
 abbrev pub stored_plan : Settings → Call → Place → List ℕ → Plan
 stored_plan s call p bytes =

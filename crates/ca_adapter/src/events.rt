@@ -1,7 +1,7 @@
 ghost use Rattle.std.specs.Prelude.{◌≡◌, true, false};
 ghost use Rattle.ca_acts.specs.Act.{Acts};
 ghost use Rattle.ca_acts_laws.specs.Steps.{IsStepOf, Shows};
-ghost use Rattle.ca_adapter.specs.Ready.{IsReady, is_acted};
+ghost use Rattle.ca_adapter.specs.Ready.{IsReady};
 ghost use Rattle.ca_base.specs.Configuration.{configuration_in};
 ghost use Rattle.ca_held.specs.HeldView.{holding};
 ghost use Rattle.ca_model.specs.declared.event.Event.TheVariants as events;
@@ -12,6 +12,7 @@ use crate::lists::verb_fits;
 use crate::verbs::act_verb;
 use ca_acts::Call;
 use ca_acts_arrivals::deliver;
+use ca_acts_requests::request;
 use ca_acts_turns::{respond, rnr_wake, timeout};
 use ca_base::{Settings, StepError};
 use ca_held::Held;
@@ -23,7 +24,7 @@ use std::alloc::Global;
 /// verb says, with its refusals in order. A turn that is not possible answers NotReady with its first reason, and of the
 /// verbs a Poll alone does. `Memory` leaves all as it was.
 ///
-/// The caller shows that the parts in hand suffice (`IsReady`), and that the event is no turn of a requester.
+/// The caller shows that the parts in hand suffice (`IsReady`).
 #[inline(never)]
 #[tactic(auto, using(crate::proofs::ReadyLemmas::act_stepped))]
 pub fn act(
@@ -33,7 +34,6 @@ pub fn act(
     held: &mut Held,
 ) -> Result<Marks, StepError>
     requires ready { IsReady (configuration_in settings.now) event.now held.old }
-    requires acted { is_acted event.now ≡ true }
     ensures act { Acts result (machine.plan (configuration_in settings.now) event.now) held.old held.new }
     ensures step { (w : World) → Shows w (holding held.old)
         → IsStepOf result (machine.step (configuration_in settings.now) w event.now) w
@@ -51,16 +51,15 @@ fn act_held(
     held: &mut Held,
 ) -> Result<Marks, StepError>
     requires ready { IsReady (configuration_in settings.now) event.now held.old }
-    requires acted { is_acted event.now ≡ true }
     ensures act { Acts result (machine.plan (configuration_in settings.now) event.now) held.old held.new }
 {
     match event {
         Event::Verb { by, verb } => act_call(alloc, settings, held, *by, verb),
+        Event::Request { queue, lot } => request(alloc, settings, held, *queue, *lot),
         Event::Deliver { queue, index } => deliver(alloc, settings, held, *queue, *index),
         Event::Respond { queue, lot } => respond(alloc, settings, held, *queue, *lot),
         Event::Timeout { queue, hasten } => timeout(alloc, settings, held, *queue, *hasten),
         Event::RnrWake { queue } => rnr_wake(alloc, settings, held, *queue),
-        Event::Request { .. } => unreachable!(),
     }
 }
 

@@ -9,7 +9,6 @@ ghost use Rattle.ca_model.specs.machine.World.{World};
 ghost use Rattle.ca_model.specs.machine.Sound.{AreLimited};
 ghost use Rattle.ca_replay.specs.Hand.{AreApart, HasPlaces, IsGiven, IsOfKind, IsOfWorld, IsTaken};
 ghost use Rattle.ca_replay.specs.Rows.{AreTogether, IsEmpty, IsMade, part_at};
-ghost use Rattle.ca_adapter.specs.Ready.{is_acted};
 ghost use Rattle.ca_model.specs.machine.Step.{step};
 
 use ca_adapter::act;
@@ -41,7 +40,6 @@ pub(crate) fn act_in_hand(
     requires none { names.old.items ≡ [] }
     requires room { (p : PartName) → MAX_HELD_PARTS ≤ room_for held.old p }
     requires names { MAX_HELD_PARTS ≤ vec_capacity names.old }
-    requires acted { is_acted event.now ≡ true }
     ensures step { (w : World) → AreTogether (configuration_in settings.now) w parts.old.items (holding held.old)
         → IsMade result (step (configuration_in settings.now) w event.now) w
         (λ v. AreTogether (configuration_in settings.now) v parts.new.items (holding held.new)) }

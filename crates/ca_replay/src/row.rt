@@ -1,5 +1,4 @@
 ghost use Rattle.std.specs.Prelude.{◌≡◌, ◌-◌, ◌<◌, ◌^◌, true, IfOk};
-ghost use Rattle.ca_adapter.specs.Ready.{is_acted};
 ghost use Rattle.ca_base.specs.Configuration.{Configuration, configuration_of};
 ghost use Rattle.ca_model.specs.machine.Sound.{AreLimited, CanBeMade};
 ghost use Rattle.ca_model.specs.machine.Step.{step};
@@ -47,14 +46,12 @@ impl Row {
         })
     }
 
-    /// Makes an event that takes no packet and sends none of a request: its parts are taken in hand, one after another,
-    /// the event is acted, and they are given back to their places. NotReady and `Memory` leave all as it was. Fewer
-    /// than 2^32 - 2 events were made before.
+    /// Makes an event: its parts are taken in hand, one after another, the event is acted, and they are given back to
+    /// their places. NotReady and `Memory` leave all as it was. Fewer than 2^32 - 2 events were made before.
     pub fn make(&mut self, alloc: Global, event: &Event) -> Result<Marks, StepError>
         requires row { IsRow self.old }
         requires few { self.old.count < 2 ^ 32 - 2 }
-        requires acted { is_acted event.now ≡ true }
-        ensures step { (c : Configuration) (w : World) → IsRowOf c w self.old
+            ensures step { (c : Configuration) (w : World) → IsRowOf c w self.old
             → IsMade result (step c w event.now) w (λ v. IsRowOf c v self.new) }
         ensures row { IsRow self.new }
         ensures made { CanBeMade event.now }

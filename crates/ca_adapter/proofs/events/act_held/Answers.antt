@@ -1,6 +1,6 @@
 use Rattle.ca_base.specs.Configuration.{configuration_in}
 use Rattle.ca_model.specs.declared.event.Event.TheVariants as events
-use Rattle.ca_adapter.proofs.TurnLemmas.{of-event, turn_counts, turn_fits, turn_named, turn_suffices}
+use Rattle.ca_adapter.proofs.TurnLemmas.{of-event, turn_bound, turn_counts, turn_fits, turn_named, turn_suffices, turn_windows}
 use Rattle.ca_adapter.proofs.events.act_held.Goals as goal
 
 pub respond-requires-clause-suffices : goal.respond-requires-clause-suffices
@@ -38,3 +38,18 @@ deliver-requires-clause-count c = turn_counts (configuration_in c.args.settings.
 
 pub deliver-requires-clause-fits : goal.deliver-requires-clause-fits
 deliver-requires-clause-fits c = turn_fits (configuration_in c.args.settings.now) (events.Deliver c.in-Deliver.queue c.in-Deliver.index) c.args.held.now (of-event c.in-Deliver.is c.requires.ready) (record {})
+
+pub request-requires-clause-suffices : goal.request-requires-clause-suffices
+request-requires-clause-suffices c = turn_suffices (configuration_in c.args.settings.now) (events.Request c.in-Request.queue c.in-Request.lot) c.args.held.now (of-event c.in-Request.is c.requires.ready)
+
+pub request-requires-clause-named : goal.request-requires-clause-named
+request-requires-clause-named c = turn_named (configuration_in c.args.settings.now) (events.Request c.in-Request.queue c.in-Request.lot) c.args.held.now (of-event c.in-Request.is c.requires.ready) c.in-Request.queue
+
+pub request-requires-clause-few : goal.request-requires-clause-few
+request-requires-clause-few c = turn_windows (configuration_in c.args.settings.now) (events.Request c.in-Request.queue c.in-Request.lot) c.args.held.now (of-event c.in-Request.is c.requires.ready) c.in-Request.queue
+
+pub request-requires-clause-room : goal.request-requires-clause-room
+request-requires-clause-room c = turn_bound (configuration_in c.args.settings.now) (events.Request c.in-Request.queue c.in-Request.lot) c.args.held.now (of-event c.in-Request.is c.requires.ready)
+
+pub request-requires-clause-fits : goal.request-requires-clause-fits
+request-requires-clause-fits c = turn_fits (configuration_in c.args.settings.now) (events.Request c.in-Request.queue c.in-Request.lot) c.args.held.now (of-event c.in-Request.is c.requires.ready) (record {})

@@ -1,0 +1,4 @@
+pub mod Local
+pub mod Parts
+pub mod Site
+pub mod Made
