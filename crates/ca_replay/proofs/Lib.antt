@@ -5,4 +5,5 @@ mod GatherLemmas
 mod MadeLemmas
 mod ActLemmas
 mod OpenLemmas
+mod ReplayLemmas
 mod LookLemmas

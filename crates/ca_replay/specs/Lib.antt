@@ -1,3 +1,5 @@
 pub mod Rows
 pub mod Hand
+pub mod Replays
+pub mod Replaying
 pub mod Looks

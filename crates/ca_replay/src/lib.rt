@@ -7,8 +7,10 @@
 //! Source: this profile's choice.
 #![tactic(auto)]
 
+mod events;
 mod hand;
 mod looks;
 mod row;
 
+pub use events::{ReplayError, replay};
 pub use row::Row;
