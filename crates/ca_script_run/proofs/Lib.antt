@@ -1,0 +1,3 @@
+mod EventLemmas
+mod LineLemmas
+mod VisitLemmas

@@ -8,5 +8,7 @@
 //! Source: this profile's choice; the standard says nothing of the order in which channel adapters work.
 #![tactic(auto)]
 
+mod events;
+mod progress;
 mod turns;
-
+mod visits;
