@@ -3,8 +3,8 @@ use Rattle.ca_model.specs.machine.Parts.{is_held}
 use Rattle.ca_replay.proofs.ActLemmas.{acted, configured_names, ready_now}
 use Rattle.ca_replay.proofs.hand.act_in_hand.Goals as goal
 
-pub act-result-requires-clause-ready : goal.act-result-requires-clause-ready
-act-result-requires-clause-ready c = ready_now _ _ _ _ _ _ c.requires.world c.gather.ensures.together c.gather.ensures.next
+pub act-result-requires : goal.act-result-requires
+act-result-requires c = record { ready = ready_now _ _ _ _ _ _ c.requires.world c.gather.ensures.together c.gather.ensures.next }
 
 pub give_back-requires-clause-configured : goal.give_back-requires-clause-configured
 give_back-requires-clause-configured c = λ p held. configured_names _ _ _ _ _ c.requires.world c.gather.ensures.together p (c.gather.ensures.names p ∙ sym (ap (λ names. is_held names p) c.as_slice.ensures.value) ∙ held)
