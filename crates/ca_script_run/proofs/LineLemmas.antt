@@ -12,17 +12,17 @@ first-behind (suc n) (x ∷ xs) = first-behind n xs
 -- a consumer that is not there has no line left
 pub behind_nobody : (consumers : List (List Line)) (done : List ℕ) (k : ℕ) → slice_get consumers k ≡ None
     → slice_get (lines_of k (lines_behind consumers done)) 0 ≡ None
-behind_nobody [] done k no = refl
-behind_nobody (c ∷ cs) [] k no = refl
-behind_nobody (c ∷ cs) (d ∷ ds) zero no = absurd (true≢false (ap is_some no))
-behind_nobody (c ∷ cs) (d ∷ ds) (suc k) no = behind_nobody cs ds k no
+behind_nobody [] done k none = refl
+behind_nobody (c ∷ cs) [] k none = refl
+behind_nobody (c ∷ cs) (d ∷ ds) zero none = absurd (true≢false (ap is_some none))
+behind_nobody (c ∷ cs) (d ∷ ds) (suc k) none = behind_nobody cs ds k none
 
 pub behind_nothing : (consumers : List (List Line)) (done : List ℕ) (k : ℕ) → slice_get done k ≡ None
     → slice_get (lines_of k (lines_behind consumers done)) 0 ≡ None
-behind_nothing [] done k no = refl
-behind_nothing (c ∷ cs) [] k no = refl
-behind_nothing (c ∷ cs) (d ∷ ds) zero no = absurd (true≢false (ap is_some no))
-behind_nothing (c ∷ cs) (d ∷ ds) (suc k) no = behind_nothing cs ds k no
+behind_nothing [] done k none = refl
+behind_nothing (c ∷ cs) [] k none = refl
+behind_nothing (c ∷ cs) (d ∷ ds) zero none = absurd (true≢false (ap is_some none))
+behind_nothing (c ∷ cs) (d ∷ ds) (suc k) none = behind_nothing cs ds k none
 
 -- the line behind those that a consumer has done
 pub behind_some : (consumers : List (List Line)) (done : List ℕ) (k : ℕ) (lines : List Line) (n : ℕ) → slice_get consumers k ≡ Some lines → slice_get done k ≡ Some n

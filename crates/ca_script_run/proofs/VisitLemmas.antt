@@ -24,7 +24,7 @@ use Rattle.ca_script_run.specs.declared.progress.Progress.{Progress}
 use Rattle.ca_turns.specs.Turns.{event_of}
 use Rattle.ca_turns.specs.declared.turn.Turn.{Turn}
 
-did : Outcome → Bool
+abbrev did : Outcome → Bool
 did outcomes.Did = true
 did (outcomes.NotReady now) = false
 did outcomes.Busy = false
@@ -99,14 +99,20 @@ module _ (s : ScriptValue) (g : Stage) (k : ℕ) (line : Line) (rest : List Line
       ap (λ xs. slice_set xs k rest) left ∙ line_passed s.consumers done k line rest (sym (ap (lines_of k) left) ∙ stands) ∙ ap (lines_behind s.consumers) (sym is)
 
   module _ (verb : Verb) (verb_is : line.what ≡ whats.Verb verb) (p : Progress) where
-    pub verb_called : (after : Vec ℕ) → IsTried s (events.Verb k verb) g p (Ok outcomes.Did) → after.items ≡ slice_set p.done.items k (slice_index p.done.items k + 1)
+    -- the event calls a copy of the verb
+    as-verb : (copy : Verb) (outcome : Outcome) → copy ≡ verb → IsTried s (events.Verb k copy) g p (Ok outcome) → IsTried s (events.Verb k verb) g p (Ok outcome)
+    as-verb copy outcome same tried = subst (λ v. IsTried s (events.Verb k v) g p (Ok outcome)) same tried
+
+    pub verb_called : (copy : Verb) (outcome : Outcome) (after : Vec ℕ) → copy ≡ verb → outcome ≡ outcomes.Did → IsTried s (events.Verb k copy) g p (Ok outcome)
+        → after.items ≡ slice_set p.done.items k (slice_index p.done.items k + 1)
         → IsVisited s (visits.Consumer k) g (record p { done = after }) (Ok outcomes.Did)
-    verb_called after tried is = what-is (record p { done = after }) outcomes.Did (whats.Verb verb) verb_is (by (step s.config g.world (events.Verb k verb)) tried)
+    verb_called copy outcome after same has tried is =
+        what-is (record p { done = after }) outcomes.Did (whats.Verb verb) verb_is (by (step s.config g.world (events.Verb k verb)) (as-verb copy outcome same tried))
       where
-        by : (o : plans.Outcome) → IsAt s (after_outcome (events.Verb k verb) o (λ h. h) (at_round g)) p × (outcomes.Did ≡ told_of g (after_outcome (events.Verb k verb) o (λ h. h) (at_round g)))
+        by : (o : plans.Outcome) → IsAt s (after_outcome (events.Verb k verb) o (λ h. h) (at_round g)) p × (outcome ≡ told_of g (after_outcome (events.Verb k verb) o (λ h. h) (at_round g)))
             → IsAt s (after_outcome (events.Verb k verb) o (with_lines_left k rest) (at_round g)) (record p { done = after })
             × (outcomes.Did ≡ (if (after_outcome (events.Verb k verb) o (with_lines_left k rest) (at_round g)).happened then outcomes.Did else outcomes.NotReady g.count))
-        by (plans.NotReady reason) tried = absurd (true≢false (ap did tried.1))
+        by (plans.NotReady reason) tried = absurd (true≢false (ap did (sym has ∙ tried.1)))
         by (plans.Did w ms) tried = (record {
           row = tried.0.row;
           count = tried.0.count;
@@ -115,8 +121,10 @@ module _ (s : ScriptValue) (g : Stage) (k : ℕ) (line : Line) (rest : List Line
           left = left-behind p.done.items after.items tried.0.left is;
         }, refl)
 
-    pub verb_waits : (outcome : Outcome) → (outcome ≡ outcomes.Did → ⊥) → IsTried s (events.Verb k verb) g p (Ok outcome) → IsVisited s (visits.Consumer k) g p (Ok outcome)
-    verb_waits outcome not_did tried = what-is p outcome (whats.Verb verb) verb_is (by (step s.config g.world (events.Verb k verb)) tried)
+    pub verb_waits : (copy : Verb) (outcome : Outcome) → copy ≡ verb → (outcome ≡ outcomes.Did → ⊥) → IsTried s (events.Verb k copy) g p (Ok outcome)
+        → IsVisited s (visits.Consumer k) g p (Ok outcome)
+    verb_waits copy outcome same not_did tried =
+        what-is p outcome (whats.Verb verb) verb_is (by (step s.config g.world (events.Verb k verb)) (as-verb copy outcome same tried))
       where
         by : (o : plans.Outcome) → IsAt s (after_outcome (events.Verb k verb) o (λ h. h) (at_round g)) p × (outcome ≡ told_of g (after_outcome (events.Verb k verb) o (λ h. h) (at_round g)))
             → IsAt s (after_outcome (events.Verb k verb) o (with_lines_left k rest) (at_round g)) p

@@ -17,7 +17,8 @@ pub(crate) fn make(
 ) -> Result<Outcome, Memory>
     requires under_way { IsUnderWay progress.old }
     requires few { progress.old.row.count < 2 ^ 32 - 2 }
-    ensures { (s : ScriptValue) (g : Stage) → IsAt s g progress.old → IsTried s event g progress.new result }
+    ensures tried { (s : ScriptValue) (g : Stage) → IsAt s g progress.old → IsTried s event g progress.new result }
+    ensures done { progress.new.done ≡ progress.old.done }
 {
     let stamp = u64::from(progress.row.count);
     match progress.row.make(alloc, &event) {

@@ -66,7 +66,15 @@ fn next_line<'a>(script: &'a Script, done: &[usize], consumer: u32) -> Option<&'
 {
     let lines = script.consumers.as_slice().get(consumer as usize)?;
     let passed = done.get(consumer as usize)?;
-    lines.as_slice().get(*passed)
+    line_at(lines.as_slice(), *passed)
+}
+
+/// The line at a place.
+fn line_at(lines: &[Line], place: usize) -> Option<&Line>
+    ensures line { option_copied result ≡ slice_get lines.now place }
+    ensures few { IfSome result (λ _. place < 2 ^ 64 - 1) }
+{
+    lines.get(place)
 }
 
 /// A consumer calls its next verb, where that is possible.
