@@ -1,3 +1,5 @@
 mod EventLemmas
 mod LineLemmas
 mod VisitLemmas
+mod OpenLemmas
+mod WorkLemmas

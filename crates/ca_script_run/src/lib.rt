@@ -12,3 +12,7 @@ mod events;
 mod progress;
 mod turns;
 mod visits;
+mod work;
+
+pub use progress::Progress;
+pub use work::work_script;
