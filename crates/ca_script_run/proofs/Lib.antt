@@ -3,3 +3,4 @@ mod LineLemmas
 mod VisitLemmas
 mod OpenLemmas
 mod WorkLemmas
+mod StatusLemmas

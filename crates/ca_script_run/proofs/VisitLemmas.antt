@@ -30,10 +30,6 @@ did (outcomes.NotReady now) = false
 did outcomes.Busy = false
 did outcomes.Ended = false
 
--- it is of the stage at a round's begin, too
-at-begin : (s : ScriptValue) (g : Stage) (p : Progress) → IsAt s g p → IsAt s (at_round g) p
-at-begin s g p at = record { row = at.row; count = at.count; numbered = at.numbered; past = at.past; left = at.left }
-
 -- ---- engines
 
 module _ (s : ScriptValue) (g : Stage) (turn : Turn) (p : Progress) where
@@ -47,26 +43,12 @@ module _ (s : ScriptValue) (g : Stage) (turn : Turn) (p : Progress) where
   engine_tried event (Ok outcome) is tried = subst (Engine_visited outcome) is tried
   engine_tried event (Err error) is tried = record {}
 
-  pub engine_idle : (now : ℕ) → None ≡ event_of s.weather g.world turn → IsAt s g p → now ≡ p.row.count
-      → IsVisited s (visits.Engine turn) g p (Ok (outcomes.NotReady now))
-  engine_idle now is at clock = subst (Engine_visited (outcomes.NotReady now)) is (at-begin s g p at, ap outcomes.NotReady (clock ∙ at.count))
-
 -- ---- consumers
 
 abbrev Consumer_visited : ScriptValue → ℕ → Stage → Progress → Outcome → List Line → Type 0
 Consumer_visited s k g p outcome lines =
     IsAt s (after_line s k lines (at_round g)) p
     × (outcome ≡ (if (after_line s k lines (at_round g)).happened then outcomes.Did else if is_none_left lines then outcomes.Ended else outcomes.NotReady g.count))
-
--- no line is the first
-none-first : (lines : List Line) → slice_get lines 0 ≡ None → [] ≡ lines
-none-first [] none = refl
-none-first (x ∷ xs) none = absurd (true≢false (ap is_some none))
-
-pub consumer_ended : (s : ScriptValue) (g : Stage) (p : Progress) (k : ℕ) → IsAt s g p → slice_get (lines_of k (lines_behind s.consumers p.done.items)) 0 ≡ None
-    → IsVisited s (visits.Consumer k) g p (Ok outcomes.Ended)
-consumer_ended s g p k at none =
-    subst (Consumer_visited s k g p outcomes.Ended) (none-first (lines_of k g.left) (ap (λ left. slice_get (lines_of k left) 0) at.left ∙ none)) (at-begin s g p at, refl)
 
 -- the lines before which a consumer stands
 pub record Stands (s : ScriptValue) (g : Stage) (k : ℕ) (line : Line) : Type 0 where
@@ -151,15 +133,3 @@ module _ (s : ScriptValue) (g : Stage) (k : ℕ) (line : Line) (rest : List Line
           left = left-behind p.done.items after.items at.left is;
         }, refl)
         by false e = absurd (true≢false (sym e))
-
-    pub clock_awaited : (now : ℕ) → p.row.count < t → now ≡ p.row.count → IsVisited s (visits.Consumer k) g p (Ok (outcomes.NotReady now))
-    clock_awaited now early clock = what-is p (outcomes.NotReady now) (whats.At t) at_is (by (nat_le t g.count) awaited)
-      where
-        awaited : nat_le t g.count ≡ false
-        awaited = let lt : g.count < t = omega (arith, early, at.count) in grind (arith, nat_tests)
-
-        by : (b : Bool) → b ≡ false
-            → IsAt s (if b then with_lines_left k rest (at_round g) else at_round g) p
-            × (outcomes.NotReady now ≡ (if (if b then with_lines_left k rest (at_round g) else at_round g).happened then outcomes.Did else outcomes.NotReady g.count))
-        by true e = absurd (true≢false e)
-        by false e = (at-begin s g p at, ap outcomes.NotReady (clock ∙ at.count))

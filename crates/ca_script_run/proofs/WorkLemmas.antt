@@ -7,7 +7,8 @@ use Rattle.ca_engine.specs.declared.offer.Offer.TheVariants as offers
 use Rattle.ca_engine.specs.declared.outcome.Outcome.{Outcome}
 use Rattle.ca_engine_laws.proofs.LoopLemmas.{loop-ends, loop-made}
 use Rattle.ca_engine_laws.specs.Loop.{Work, has_ended, is_quiet_offer, most_offers, opening_work, outcome_of, visit_of, work_after, work_after_all, work_after_visit}
-use Rattle.ca_order.specs.Order.{after_visit, at_round, has_no_event_left, order}
+use Rattle.ca_order.specs.OfScript.{status_of}
+use Rattle.ca_order.specs.Order.{after_visit, at_round, ending, has_no_event_left, order}
 use Rattle.ca_order.specs.Visits.{Visit}
 use Rattle.ca_order.specs.Visits as visits
 use Rattle.ca_script.specs.Script.{ScriptValue}
@@ -18,14 +19,15 @@ use Rattle.ca_script_run.specs.declared.progress.Progress.{Progress}
 -- one offer more, where the loop has not ended
 stepped : (s : ScriptValue) (n : ℕ) (w : Work) → has_ended s (work_after_all s n w) ≡ false → work_after_all s (suc n) w ≡ work_after s (work_after_all s n w)
 stepped s zero w on = ap (λ b. if b then w else work_after s w) on
-stepped s (suc n) w on = by (has_ended s w) refl
+stepped s (suc n) w on = by (λ still. stepped s n (work_after s w) still) (has_ended s w) refl
   where
-    by : (b : Bool) → has_ended s w ≡ b → work_after_all s (suc (suc n)) w ≡ work_after s (work_after_all s (suc n) w)
-    by true is = absurd (true≢false (sym is ∙ sym (ap (has_ended s) (ap (λ b. if b then w else work_after_all s n (work_after s w)) is)) ∙ on))
-    by false is =
+    by : (has_ended s (work_after_all s n (work_after s w)) ≡ false → work_after_all s (suc n) (work_after s w) ≡ work_after s (work_after_all s n (work_after s w)))
+        → (b : Bool) → has_ended s w ≡ b → work_after_all s (suc (suc n)) w ≡ work_after s (work_after_all s (suc n) w)
+    by again true is = absurd (true≢false (sym is ∙ sym (ap (has_ended s) (ap (λ b. if b then w else work_after_all s n (work_after s w)) is)) ∙ on))
+    by again false is =
         let same : work_after_all s (suc n) w ≡ work_after_all s n (work_after s w) = ap (λ b. if b then w else work_after_all s n (work_after s w)) is in
         ap (λ b. if b then w else work_after_all s (suc n) (work_after s w)) is
-        ∙ stepped s n (work_after s w) (sym (ap (has_ended s) same) ∙ on)
+        ∙ again (sym (ap (has_ended s) same) ∙ on)
         ∙ sym (ap (work_after s) same)
 
 -- the visit that is offered is made
@@ -50,31 +52,6 @@ under_way s w e p is = record { script = s; stage = w.stage; at = is.at }
 module _ (s : ScriptValue) (n : ℕ) (e : EngineValue) (p : Progress) (working : IsWorking s (work_at s n) e p) where
   abbrev now : Work
   now = work_at s n
-
-  -- as many events were made as the script allows
-  pub ended_full : s.config.events ≤ p.row.count → IsWorked s p
-  ended_full all = record {
-    offers = n;
-    ended = ap (λ b. b || is_quiet_offer (offer_of now.engine)) full;
-    at = working.at;
-  }
-    where
-      full : has_no_event_left s now.stage ≡ true
-      full = let le : s.config.events ≤ now.stage.count = omega (arith, all, working.at.count) in grind (arith, nat_tests)
-
-  -- Quiet was offered
-  pub ended_quiet : (offer : Offer) (q : Progress) → offer ≡ offer_of e → IsOffered s offer now.stage q (Ok None) → IsWorked s q
-  ended_quiet (offers.Consumer k) q is offered = absurd offered
-  ended_quiet (offers.Turn turn) q is offered = absurd offered
-  ended_quiet offers.Quiet q is offered = record {
-    offers = n;
-    ended = ap (λ offer. has_no_event_left s now.stage || is_quiet_offer offer) (sym (is ∙ ap offer_of working.engine)) ∙ by (has_no_event_left s now.stage);
-    at = offered;
-  }
-    where
-      by : (b : Bool) → (b || true) ≡ true
-      by true = refl
-      by false = refl
 
   -- no more offers can be made
   pub ended_all : most_offers s ≤ n → IsWorked s p
@@ -115,3 +92,6 @@ module _ (s : ScriptValue) (n : ℕ) (e : EngineValue) (p : Progress) (working :
 -- what is kept at the end is the order
 pub worked_order : (s : ScriptValue) (p : Progress) → IsWorked s p → p.history ≡ order s
 worked_order s p is = is.at.past ∙ ap (λ g. reverse g.past) (loop-made s is.offers is.ended)
+
+pub worked_status : (s : ScriptValue) (p : Progress) (is : IsWorked s p) → status_of s (work_at s is.offers).stage ≡ status_of s (ending s)
+worked_status s p is = ap (status_of s) (loop-made s is.offers is.ended)

@@ -10,9 +10,11 @@
 
 mod events;
 mod progress;
+mod status;
 mod turns;
 mod visits;
 mod work;
 
 pub use progress::Progress;
-pub use work::work_script;
+pub use status::Status;
+pub use work::{Worked, work_script};

@@ -2,12 +2,15 @@ ghost use Rattle.std.specs.Prelude.{◌≡◌, ◌-◌, ◌<◌, ◌^◌, IfOk, 
 ghost use Rattle.ca_base.specs.Configuration.{configuration_of};
 ghost use Rattle.ca_engine_laws.specs.Loop.{opening_work};
 ghost use Rattle.ca_model.specs.machine.Sound.{AreLimited};
-ghost use Rattle.ca_order.specs.Order.{Stage, opening_stage, order};
+ghost use Rattle.ca_order.specs.OfScript as machine;
+ghost use Rattle.ca_order.specs.Order.{Stage, ending, opening_stage, order};
 ghost use Rattle.ca_script.specs.Script.{script_value};
 ghost use Rattle.ca_script_run.specs.Progress.{IsAt, IsUnderWay};
+ghost use Rattle.ca_script_run.specs.Statuses.{status_value};
 ghost use Rattle.ca_script_run.specs.Working.{IsOffered, IsWorkable, IsWorked, IsWorking};
 
 use crate::progress::Progress;
+use crate::status::{Status, status_of};
 use crate::visits::{visit_consumer, visit_engine};
 use ca_base::Memory;
 use ca_engine::{Engine, Offer, Outcome};
@@ -17,16 +20,29 @@ use ca_replay::Row;
 use ca_script::Script;
 use std::alloc::Global;
 
-/// Works a script in its order, from buffers of zeros to its end, and gives the history that comes of it.
-pub fn work_script(alloc: Global, script: Script) -> Result<History, Memory>
+/// What came of a script: its history, and how it ended.
+#[derive(Drop)]
+pub struct Worked {
+    pub history: History,
+    pub status: Status,
+}
+
+/// Works a script in its order, from buffers of zeros to its end. `Memory` is its only refusal.
+pub fn work_script(alloc: Global, script: Script) -> Result<Worked, Memory>
     requires { IsWorkable (script_value script) }
-    ensures { IfOk result (λ history. history ≡ order (script_value script)) }
+    ensures history { IfOk result (λ worked. worked.history ≡ order (script_value script)) }
+    ensures status { IfOk result (λ worked. status_value worked.status
+        ≡ machine.status_of (script_value script) (ending (script_value script))) }
 {
     let consumers = script.consumers.as_slice().len() as u32;
     let mut engine = Engine::new(alloc, &script.config, consumers)?;
     let (script, mut progress) = open(alloc, script)?;
     work_on(alloc, &script, &mut engine, &mut progress)?;
-    Ok(progress.history)
+    let status = status_of(&script, &progress);
+    Ok(Worked {
+        history: progress.history,
+        status,
+    })
 }
 
 /// What is kept of a script before the first round, and the script.
