@@ -1,9 +1,8 @@
 -- An event that is tried on what is kept does what it does of the stage. For proofs only.
-use Rattle.std.proofs.Common.{◌≡◌, ◌∙◌, refl, sym, ap, subst, ℕ, suc, List, [], ◌∷◌, ◌++◌, length, reverse, Ok, Err}
+use Rattle.std.proofs.Common.{◌≡◌, ◌∙◌, refl, sym, ap, subst, ℕ, suc, List, [], ◌∷◌, ◌++◌, length, Ok, Err}
 use Rattle.std.proofs.lemmas.List.{length-reverse, reverse-append}
 use Rattle.ca_agree.proofs.EventFitLemmas.{event-fits}
 use Rattle.ca_agree.specs.Runs.{Comes}
-use Rattle.ca_base.specs.Configuration.{configuration_in}
 use Rattle.ca_base.specs.declared.step.Reason.{Reason}
 use Rattle.ca_base.specs.declared.step.StepError.TheVariants as steps
 use Rattle.ca_engine.specs.declared.outcome.Outcome.TheVariants as outcomes
@@ -51,14 +50,17 @@ module _ (s : ScriptValue) (g : Stage) (p : Progress) (at : IsAt s g p) (event :
           → IsAt s (after_outcome event o (λ h. h) (at_round g)) (record p { row = row; history = history })
           × (outcomes.Did ≡ told_of g (after_outcome event o (λ h. h) (at_round g)))
       by (NotReady reason) made = absurd made
-      by (Did v ms) made = (record {
-        row = made.1;
-        count = count ∙ ap suc at.count;
-        numbered = ap suc at.numbered;
-        past = added ∙ (λ i. at.past i ++ record { stamp = (numbered ∙ at.count) i; pass = 0; event = event; marks = made.0 i } ∷ [])
-            ∙ sym (reverse-append (record { stamp = g.count; pass = 0; event = event; marks = ms } ∷ []) g.past);
-        left = at.left;
-      }, refl)
+      by (Did v ms) made = (
+        record {
+          row = made.1;
+          count = count ∙ ap suc at.count;
+          numbered = ap suc at.numbered;
+          past = added ∙ (λ i. at.past i ++ record { stamp = (numbered ∙ at.count) i; pass = 0; event = event; marks = made.0 i } ∷ [])
+              ∙ sym (reverse-append (record { stamp = g.count; pass = 0; event = event; marks = ms } ∷ []) g.past);
+          left = at.left;
+        },
+        refl,
+      )
 
   -- it was not possible
   pub tried_in_vain : (reason : Reason) (stamp : ℕ)
@@ -70,10 +72,13 @@ module _ (s : ScriptValue) (g : Stage) (p : Progress) (at : IsAt s g p) (event :
           → IsAt s (after_outcome event o (λ h. h) (at_round g)) (record p { row = row })
           × (outcomes.NotReady stamp ≡ told_of g (after_outcome event o (λ h. h) (at_round g)))
       by (Did v ms) made = absurd made
-      by (NotReady why) made = (record {
-        row = made.1;
-        count = count ∙ at.count;
-        numbered = at.numbered;
-        past = at.past;
-        left = at.left;
-      }, ap outcomes.NotReady (numbered ∙ at.count))
+      by (NotReady why) made = (
+        record {
+          row = made.1;
+          count = count ∙ at.count;
+          numbered = at.numbered;
+          past = at.past;
+          left = at.left;
+        },
+        ap outcomes.NotReady (numbered ∙ at.count),
+      )

@@ -1,5 +1,5 @@
 -- What is kept before the first round. For proofs only.
-use Rattle.std.proofs.Common.{◌≡◌, ◌∙◌, refl, sym, ap, subst, ℕ, zero, suc, List, [], ◌∷◌, length, replicate}
+use Rattle.std.proofs.Common.{◌≡◌, ◌∙◌, refl, sym, ap, subst, List, [], ◌∷◌, length, replicate}
 use Rattle.ca_keys.specs.Memory.{ByteMap, zeros}
 use Rattle.ca_model.specs.machine.World.{opening_world}
 use Rattle.ca_order.specs.Order.{opening_stage}

@@ -1,5 +1,5 @@
 -- A visit on what is kept is the visit of the stage. For proofs only.
-use Rattle.std.proofs.Common.{◌≡◌, ◌∙◌, refl, sym, ap, subst, ℕ, ◌+◌, ◌≤◌, ◌<◌, arith, Bool, true, false, true≢false, if◌then◌else◌, nat_le, List, [], ◌∷◌, Option, None, Some, Ok, Err, Result, slice_get, slice_index, slice_set, is_some}
+use Rattle.std.proofs.Common.{◌≡◌, ◌∙◌, refl, sym, ap, subst, ℕ, ◌+◌, ◌≤◌, arith, Bool, true, false, true≢false, if◌then◌else◌, nat_le, List, [], ◌∷◌, Option, None, Some, Ok, Err, Result, slice_get, slice_index, slice_set, is_some}
 use Rattle.std.specs.Global.{Vec}
 use Rattle.std.specs.Option.{option_map_or}
 use Rattle.std.proofs.lemmas.Bool.Decides.{nat_tests}
@@ -95,13 +95,16 @@ module _ (s : ScriptValue) (g : Stage) (k : ℕ) (line : Line) (rest : List Line
             → IsAt s (after_outcome (events.Verb k verb) o (with_lines_left k rest) (at_round g)) (record p { done = after })
             × (outcomes.Did ≡ (if (after_outcome (events.Verb k verb) o (with_lines_left k rest) (at_round g)).happened then outcomes.Did else outcomes.NotReady g.count))
         by (plans.NotReady reason) tried = absurd (true≢false (ap did (sym has ∙ tried.1)))
-        by (plans.Did w ms) tried = (record {
-          row = tried.0.row;
-          count = tried.0.count;
-          numbered = tried.0.numbered;
-          past = tried.0.past;
-          left = left-behind p.done.items after.items tried.0.left is;
-        }, refl)
+        by (plans.Did w ms) tried = (
+          record {
+            row = tried.0.row;
+            count = tried.0.count;
+            numbered = tried.0.numbered;
+            past = tried.0.past;
+            left = left-behind p.done.items after.items tried.0.left is;
+          },
+          refl,
+        )
 
     pub verb_waits : (copy : Verb) (outcome : Outcome) → copy ≡ verb → (outcome ≡ outcomes.Did → ⊥) → IsTried s (events.Verb k copy) g p (Ok outcome)
         → IsVisited s (visits.Consumer k) g p (Ok outcome)
@@ -125,11 +128,14 @@ module _ (s : ScriptValue) (g : Stage) (k : ℕ) (line : Line) (rest : List Line
         by : (b : Bool) → b ≡ true
             → IsAt s (if b then with_lines_left k rest (at_round g) else at_round g) (record p { done = after })
             × (outcomes.Did ≡ (if (if b then with_lines_left k rest (at_round g) else at_round g).happened then outcomes.Did else outcomes.NotReady g.count))
-        by true e = (record {
-          row = at.row;
-          count = at.count;
-          numbered = at.numbered;
-          past = at.past;
-          left = left-behind p.done.items after.items at.left is;
-        }, refl)
+        by true e = (
+          record {
+            row = at.row;
+            count = at.count;
+            numbered = at.numbered;
+            past = at.past;
+            left = left-behind p.done.items after.items at.left is;
+          },
+          refl,
+        )
         by false e = absurd (true≢false (sym e))

@@ -1,19 +1,19 @@
 -- A loop over what an engine offers, on what is kept of a script, is the loop of its stages. For proofs only.
-use Rattle.std.proofs.Common.{◌≡◌, ◌∙◌, refl, sym, ap, subst, ℕ, zero, suc, ◌+◌, ◌≤◌, ◌<◌, ◌^◌, arith, ◌||◌, Bool, true, false, true≢false, if◌then◌else◌, nat_le, List, [], ◌∷◌, reverse, Option, None, Some, Ok, is_some, slice_get, unwrap_or}
+use Rattle.std.proofs.Common.{◌≡◌, ◌∙◌, refl, sym, ap, subst, ℕ, zero, suc, ◌+◌, ◌≤◌, ◌<◌, arith, ◌||◌, Bool, true, false, true≢false, if◌then◌else◌, List, [], ◌∷◌, reverse, Option, None, Some, Ok, is_some, slice_get, unwrap_or}
 use Rattle.std.proofs.lemmas.Bool.Decides.{nat_tests}
 use Rattle.ca_engine.specs.Engine.{EngineValue, engine_after, offer_of}
 use Rattle.ca_engine.specs.declared.offer.Offer.{Offer}
 use Rattle.ca_engine.specs.declared.offer.Offer.TheVariants as offers
 use Rattle.ca_engine.specs.declared.outcome.Outcome.{Outcome}
 use Rattle.ca_engine_laws.proofs.LoopLemmas.{loop-ends, loop-made}
-use Rattle.ca_engine_laws.specs.Loop.{Work, has_ended, is_quiet_offer, most_offers, opening_work, outcome_of, visit_of, work_after, work_after_all, work_after_visit}
+use Rattle.ca_engine_laws.specs.Loop.{Work, has_ended, is_quiet_offer, most_offers, opening_work, visit_of, work_after, work_after_all, work_after_visit}
 use Rattle.ca_order.specs.OfScript.{status_of}
-use Rattle.ca_order.specs.Order.{after_visit, at_round, ending, has_no_event_left, order}
+use Rattle.ca_order.specs.Order.{ending, has_no_event_left, order}
 use Rattle.ca_order.specs.Visits.{Visit}
 use Rattle.ca_order.specs.Visits as visits
 use Rattle.ca_script.specs.Script.{ScriptValue}
 use Rattle.ca_script_run.specs.Progress.{IsUnderWay, IsVisited}
-use Rattle.ca_script_run.specs.Working.{IsOffered, IsWorkable, IsWorked, IsWorking, work_at}
+use Rattle.ca_script_run.specs.Working.{IsOffered, IsWorked, IsWorking, work_at}
 use Rattle.ca_script_run.specs.declared.progress.Progress.{Progress}
 
 -- one offer more, where the loop has not ended

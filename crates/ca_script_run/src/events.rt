@@ -10,11 +10,7 @@ use ca_model::{Entry, Event};
 use std::alloc::Global;
 
 /// Makes an event where it is possible, and adds its entry.
-pub(crate) fn make(
-    alloc: Global,
-    event: Event,
-    progress: &mut Progress,
-) -> Result<Outcome, Memory>
+pub(crate) fn make(alloc: Global, event: Event, progress: &mut Progress) -> Result<Outcome, Memory>
     requires under_way { IsUnderWay progress.old }
     requires few { progress.old.row.count < 2 ^ 32 - 2 }
     ensures tried { (s : ScriptValue) (g : Stage) → IsAt s g progress.old → IsTried s event g progress.new result }

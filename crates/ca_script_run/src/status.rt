@@ -30,11 +30,7 @@ pub(crate) fn status_of(script: &Script, progress: &Progress) -> Status
     if script.config.events <= count {
         Status::BudgetSpent(count)
     } else {
-        stalled(
-            script.consumers.as_slice(),
-            progress.done.as_slice(),
-            count,
-        )
+        stalled(script.consumers.as_slice(), progress.done.as_slice(), count)
     }
 }
 

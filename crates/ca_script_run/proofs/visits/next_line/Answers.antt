@@ -1,4 +1,4 @@
-use Rattle.std.proofs.Common.{◌≡◌, ◌∙◌, ap, refl, sym, Some, None, slice_get}
+use Rattle.std.proofs.Common.{◌∙◌, ap, refl, sym, slice_get}
 use Rattle.std.proofs.lemmas.Option.{slice_get_past, slice_get_read}
 use Rattle.std.specs.Option.{option_copied}
 use Rattle.ca_script_run.proofs.LineLemmas.{behind_nobody, behind_nothing, behind_some}
