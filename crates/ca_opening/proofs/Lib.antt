@@ -3,3 +3,4 @@ pub mod ContentsLemmas
 mod FitLemmas
 mod RowLemmas
 pub mod WorldLemmas
+mod ZeroLemmas

@@ -14,7 +14,9 @@ mod laws;
 mod limits;
 mod row;
 mod slots;
+mod zeros;
 
 pub use laws::{opening_parts_are_of_their_kinds, opening_parts_are_the_opening_world};
 pub use limits::{fit_contents, is_limited};
 pub use row::parts;
+pub use zeros::zero_contents;

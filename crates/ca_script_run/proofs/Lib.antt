@@ -1,0 +1,6 @@
+mod EventLemmas
+mod LineLemmas
+mod VisitLemmas
+mod OpenLemmas
+mod WorkLemmas
+mod StatusLemmas

@@ -1,0 +1,97 @@
+-- A loop over what an engine offers, on what is kept of a script, is the loop of its stages. For proofs only.
+use Rattle.std.proofs.Common.{◌≡◌, ◌∙◌, refl, sym, ap, subst, ℕ, zero, suc, ◌+◌, ◌≤◌, ◌<◌, arith, ◌||◌, Bool, true, false, true≢false, if◌then◌else◌, List, [], ◌∷◌, reverse, Option, None, Some, Ok, is_some, slice_get, unwrap_or}
+use Rattle.std.proofs.lemmas.Bool.Decides.{nat_tests}
+use Rattle.ca_engine.specs.Engine.{EngineValue, engine_after, offer_of}
+use Rattle.ca_engine.specs.declared.offer.Offer.{Offer}
+use Rattle.ca_engine.specs.declared.offer.Offer.TheVariants as offers
+use Rattle.ca_engine.specs.declared.outcome.Outcome.{Outcome}
+use Rattle.ca_engine_laws.proofs.LoopLemmas.{loop-ends, loop-made}
+use Rattle.ca_engine_laws.specs.Loop.{Work, has_ended, is_quiet_offer, most_offers, opening_work, visit_of, work_after, work_after_all, work_after_visit}
+use Rattle.ca_order.specs.OfScript.{status_of}
+use Rattle.ca_order.specs.Order.{ending, has_no_event_left, order}
+use Rattle.ca_order.specs.Visits.{Visit}
+use Rattle.ca_order.specs.Visits as visits
+use Rattle.ca_script.specs.Script.{ScriptValue}
+use Rattle.ca_script_run.specs.Progress.{IsUnderWay, IsVisited}
+use Rattle.ca_script_run.specs.Working.{IsOffered, IsWorked, IsWorking, work_at}
+use Rattle.ca_script_run.specs.declared.progress.Progress.{Progress}
+
+-- one offer more, where the loop has not ended
+stepped : (s : ScriptValue) (n : ℕ) (w : Work) → has_ended s (work_after_all s n w) ≡ false → work_after_all s (suc n) w ≡ work_after s (work_after_all s n w)
+stepped s zero w on = ap (λ b. if b then w else work_after s w) on
+stepped s (suc n) w on = by (λ still. stepped s n (work_after s w) still) (has_ended s w) refl
+  where
+    by : (has_ended s (work_after_all s n (work_after s w)) ≡ false → work_after_all s (suc n) (work_after s w) ≡ work_after s (work_after_all s n (work_after s w)))
+        → (b : Bool) → has_ended s w ≡ b → work_after_all s (suc (suc n)) w ≡ work_after s (work_after_all s (suc n) w)
+    by again true is = absurd (true≢false (sym is ∙ sym (ap (has_ended s) (ap (λ b. if b then w else work_after_all s n (work_after s w)) is)) ∙ on))
+    by again false is =
+        let same : work_after_all s (suc n) w ≡ work_after_all s n (work_after s w) = ap (λ b. if b then w else work_after_all s n (work_after s w)) is in
+        ap (λ b. if b then w else work_after_all s (suc n) (work_after s w)) is
+        ∙ again (sym (ap (has_ended s) same) ∙ on)
+        ∙ sym (ap (work_after s) same)
+
+-- the visit that is offered is made
+turned : (s : ScriptValue) (w : Work) (left : List Offer) (v : Visit) → visit_of (unwrap_or (slice_get left 0) offers.Quiet) ≡ Some v
+    → work_after s (record { engine = record w.engine { left = left }; stage = w.stage }) ≡ work_after_visit s v (record { engine = record w.engine { left = left }; stage = w.stage })
+turned s w [] v is = absurd (true≢false (sym (ap is_some is)))
+turned s w (offers.Consumer k ∷ rest) v is = ap (λ u. work_after_visit s (given u) (record { engine = record w.engine { left = offers.Consumer k ∷ rest }; stage = w.stage })) is
+  where
+    given : Option Visit → Visit
+    given None = v
+    given (Some u) = u
+turned s w (offers.Turn turn ∷ rest) v is = ap (λ u. work_after_visit s (given u) (record { engine = record w.engine { left = offers.Turn turn ∷ rest }; stage = w.stage })) is
+  where
+    given : Option Visit → Visit
+    given None = v
+    given (Some u) = u
+turned s w (offers.Quiet ∷ rest) v is = absurd (true≢false (sym (ap is_some is)))
+
+pub under_way : (s : ScriptValue) (w : Work) (e : EngineValue) (p : Progress) → IsWorking s w e p → IsUnderWay p
+under_way s w e p is = record { script = s; stage = w.stage; at = is.at }
+
+module _ (s : ScriptValue) (n : ℕ) (e : EngineValue) (p : Progress) (working : IsWorking s (work_at s n) e p) where
+  abbrev now : Work
+  now = work_at s n
+
+  -- no more offers can be made
+  pub ended_all : most_offers s ≤ n → IsWorked s p
+  ended_all enough = record { offers = n; ended = loop-ends s n enough; at = working.at }
+
+  visited : (offer : Offer) (v : Visit) (q : Progress) (outcome : Outcome) (next : EngineValue) → offer ≡ offer_of e → visit_of offer ≡ Some v → is_quiet_offer offer ≡ false
+      → IsVisited s v now.stage q (Ok outcome) → next ≡ engine_after e outcome → p.row.count < s.config.events → IsWorking s (work_at s (suc n)) next q
+  visited offer v q outcome next is visits calls made told few = subst (λ w. IsWorking s w next q) (sym same) (record {
+    engine = told ∙ (λ i. engine_after (working.engine i) (made.1 i));
+    at = made.0;
+  })
+    where
+      here : offer ≡ offer_of now.engine
+      here = is ∙ ap offer_of working.engine
+
+      room : has_no_event_left s now.stage ≡ false
+      room = let lt : now.stage.count < s.config.events = omega (arith, few, working.at.count) in grind (arith, nat_tests)
+
+      on : has_ended s now ≡ false
+      on = ap (λ b. b || is_quiet_offer (offer_of now.engine)) room ∙ ap is_quiet_offer (sym here) ∙ calls
+
+      same : work_at s (suc n) ≡ work_after_visit s v now
+      same = stepped s n (opening_work s) on ∙ turned s now now.engine.left v (ap visit_of (sym here) ∙ visits)
+
+  -- the loop goes on
+  pub goes_on : (offer : Offer) (q : Progress) (outcome : Outcome) (next : EngineValue) → offer ≡ offer_of e → IsOffered s offer now.stage q (Ok (Some outcome))
+      → next ≡ engine_after e outcome → p.row.count < s.config.events → IsWorking s (work_at s (n + 1)) next q
+  goes_on offer q outcome next is offered told few = subst (λ k. IsWorking s (work_at s k) next q) (one n) (by offer is offered)
+    where
+      one : (n : ℕ) → suc n ≡ n + 1
+      one n = omega arith
+
+      by : (offer : Offer) → offer ≡ offer_of e → IsOffered s offer now.stage q (Ok (Some outcome)) → IsWorking s (work_at s (suc n)) next q
+      by (offers.Consumer k) is offered = visited (offers.Consumer k) (visits.Consumer k) q outcome next is refl refl offered told few
+      by (offers.Turn turn) is offered = visited (offers.Turn turn) (visits.Engine turn) q outcome next is refl refl offered told few
+      by offers.Quiet is offered = absurd offered
+
+-- what is kept at the end is the order
+pub worked_order : (s : ScriptValue) (p : Progress) → IsWorked s p → p.history ≡ order s
+worked_order s p is = is.at.past ∙ ap (λ g. reverse g.past) (loop-made s is.offers is.ended)
+
+pub worked_status : (s : ScriptValue) (p : Progress) (is : IsWorked s p) → status_of s (work_at s is.offers).stage ≡ status_of s (ending s)
+worked_status s p is = ap (status_of s) (loop-made s is.offers is.ended)

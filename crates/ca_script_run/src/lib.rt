@@ -1,0 +1,20 @@
+//! A script worked on one thread, in its order: whoever is next is offered by the engine, and what is possible is made on
+//! the row of all parts.
+//!
+//! To the layers above it promises that what comes of a script is its order, entry by entry, and how it ended its
+//! status. So it follows the machine, each of its events has the weather's word, and where it ended before all events
+//! that the script allows were made, all is quiet.
+//!
+//! Source: this profile's choice; the standard says nothing of the order in which channel adapters work.
+#![tactic(auto)]
+
+mod events;
+mod progress;
+mod status;
+mod turns;
+mod visits;
+mod work;
+
+pub use progress::Progress;
+pub use status::Status;
+pub use work::{Worked, work_script};

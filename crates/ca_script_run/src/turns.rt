@@ -1,0 +1,88 @@
+ghost use Rattle.std.specs.Prelude.{◌≡◌};
+ghost use Rattle.ca_base.specs.Configuration.{Configuration};
+ghost use Rattle.ca_base.specs.objects.Mailbox.{due};
+ghost use Rattle.ca_base.specs.objects.QueuePair.{Present};
+ghost use Rattle.ca_model.specs.machine.World.{World};
+ghost use Rattle.ca_replay.specs.Rows.{IsRowOf};
+ghost use Rattle.ca_turns.specs.Turns as turns;
+
+use ca_base::{Lot, QueueId};
+use ca_held::QueueSlot;
+use ca_mailbox::Weather;
+use ca_model::Event;
+use ca_qpstate::QueuePart;
+use ca_replay::Row;
+use ca_turns::Turn;
+
+/// The event that a turn is now on a row, under a weather; none where nothing is due.
+pub(crate) fn event_of(row: &Row, weather: &Weather, turn: Turn) -> Option<Event>
+    ensures { (c : Configuration) (w : World) → IsRowOf c w row.now → result ≡ turns.event_of weather.now w turn }
+{
+    match turn {
+        Turn::Request(queue) => Some(Event::Request {
+            queue,
+            lot: lot_at(row, weather, queue),
+        }),
+        Turn::Due(queue) => match due_at(row, queue) {
+            Some(index) => Some(Event::Deliver { queue, index }),
+            None => None,
+        },
+        Turn::Deliver(queue, index) => Some(Event::Deliver { queue, index }),
+        Turn::Respond(queue) => Some(Event::Respond {
+            queue,
+            lot: lot_at(row, weather, queue),
+        }),
+        Turn::Timeout(queue) => Some(Event::Timeout {
+            queue,
+            hasten: hasten_at(row, weather, queue),
+        }),
+        Turn::RnrWake(queue) => Some(Event::RnrWake { queue }),
+    }
+}
+
+/// The index of the envelope that is due in a mailbox.
+fn due_at(row: &Row, queue: QueueId) -> Option<u64>
+    ensures { (c : Configuration) (w : World) → IsRowOf c w row.now → result ≡ due (w.mailbox queue) }
+{
+    match row.mailbox(queue) {
+        Some(mailbox) => mailbox.due(),
+        None => None,
+    }
+}
+
+/// The lot of what a queue pair sends next.
+fn lot_at(row: &Row, weather: &Weather, queue: QueueId) -> Lot
+    ensures { (c : Configuration) (w : World) → IsRowOf c w row.now → result ≡ turns.lot_at weather.now w queue }
+{
+    match row.queue(queue) {
+        Some(QueueSlot::Present(q)) => lot_to(row, weather, queue, q),
+        _ => Lot::Pass,
+    }
+}
+
+/// The lot of what this queue pair sends next: the weather's, where a path leads to its peer.
+fn lot_to(row: &Row, weather: &Weather, queue: QueueId, q: &QueuePart) -> Lot
+    ensures { (c : Configuration) (w : World) → IsRowOf c w row.now → w.queue queue ≡ Present q.now
+        → result ≡ turns.lot_at weather.now w queue }
+{
+    let Some((peer, incarnation)) = q.peer else {
+        return Lot::Pass;
+    };
+    match row.mailbox(peer) {
+        Some(mailbox) if mailbox.passes((q.queue, q.incarnation), incarnation) => {
+            weather.lot(peer, mailbox.next_index())
+        }
+        _ => Lot::Pass,
+    }
+}
+
+/// Whether the weather hastens a queue pair's next timer.
+fn hasten_at(row: &Row, weather: &Weather, queue: QueueId) -> bool
+    ensures { (c : Configuration) (w : World) → IsRowOf c w row.now → result ≡ turns.hasten_at weather.now w queue }
+{
+    match row.queue(queue) {
+        Some(QueueSlot::Present(q)) => weather.hasten(queue, q.requester.timers),
+        Some(QueueSlot::Vacant { timers, .. }) => weather.hasten(queue, *timers),
+        None => weather.hasten(queue, 0),
+    }
+}

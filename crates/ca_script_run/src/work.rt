@@ -1,0 +1,123 @@
+ghost use Rattle.std.specs.Prelude.{◌≡◌, ◌-◌, ◌<◌, ◌^◌, IfOk, OnOk};
+ghost use Rattle.ca_base.specs.Configuration.{configuration_of};
+ghost use Rattle.ca_engine_laws.specs.Loop.{opening_work};
+ghost use Rattle.ca_model.specs.machine.Sound.{AreLimited};
+ghost use Rattle.ca_order.specs.OfScript as machine;
+ghost use Rattle.ca_order.specs.Order.{Stage, ending, opening_stage, order};
+ghost use Rattle.ca_script.specs.Script.{script_value};
+ghost use Rattle.ca_script_run.specs.Progress.{IsAt, IsUnderWay};
+ghost use Rattle.ca_script_run.specs.Statuses.{status_value};
+ghost use Rattle.ca_script_run.specs.Working.{IsOffered, IsWorkable, IsWorked, IsWorking};
+
+use crate::progress::Progress;
+use crate::status::{Status, status_of};
+use crate::visits::{visit_consumer, visit_engine};
+use ca_base::Memory;
+use ca_engine::{Engine, Offer, Outcome};
+use ca_model::{History, Opening};
+use ca_opening::zero_contents;
+use ca_replay::Row;
+use ca_script::Script;
+use std::alloc::Global;
+
+/// What came of a script: its history, and how it ended.
+#[derive(Drop)]
+pub struct Worked {
+    pub history: History,
+    pub status: Status,
+}
+
+/// Works a script in its order, from buffers of zeros to its end. `Memory` is its only refusal.
+pub fn work_script(alloc: Global, script: Script) -> Result<Worked, Memory>
+    requires { IsWorkable (script_value script) }
+    ensures history { IfOk result (λ worked. worked.history ≡ order (script_value script)) }
+    ensures status { IfOk result (λ worked. status_value worked.status
+        ≡ machine.status_of (script_value script) (ending (script_value script))) }
+{
+    let consumers = script.consumers.as_slice().len() as u32;
+    let mut engine = Engine::new(alloc, &script.config, consumers)?;
+    let (script, mut progress) = open(alloc, script)?;
+    work_on(alloc, &script, &mut engine, &mut progress)?;
+    let status = status_of(&script, &progress);
+    Ok(Worked {
+        history: progress.history,
+        status,
+    })
+}
+
+/// What is kept of a script before the first round, and the script.
+fn open(alloc: Global, script: Script) -> Result<(Script, Progress), Memory>
+    requires { AreLimited (configuration_of script.config) }
+    ensures script { IfOk result (λ opened. script_value opened.0 ≡ script_value script) }
+    ensures progress { IfOk result
+        (λ opened. IsAt (script_value script) (opening_stage (script_value script)) opened.1) }
+{
+    let Script {
+        config,
+        weather,
+        consumers,
+    } = script;
+    let contents = zero_contents(alloc, &config)?;
+    let opening = Opening { config, contents };
+    let row = Row::open(alloc, &opening)?;
+    let progress = Progress {
+        row,
+        done: vec![in alloc; 0; consumers.as_slice().len()]?,
+        history: History::empty(alloc),
+    };
+    let Opening {
+        config,
+        contents: _,
+    } = opening;
+    let script = Script {
+        config,
+        weather,
+        consumers,
+    };
+    Ok((script, progress))
+}
+
+/// Takes what an engine offers, until as many events were made as the script allows, or Quiet is offered.
+fn work_on(
+    alloc: Global,
+    script: &Script,
+    engine: &mut Engine,
+    progress: &mut Progress,
+) -> Result<(), Memory>
+    requires workable { IsWorkable (script_value script.now) }
+    requires begins { IsWorking (script_value script.now) (opening_work (script_value script.now))
+        engine.old progress.old }
+    ensures { OnOk result (IsWorked (script_value script.now) progress.new) }
+{
+    for _ in 0..u64::MAX {
+        if script.config.events <= progress.row.count {
+            return Ok(());
+        }
+        match visit(alloc, script, engine.next(), progress)? {
+            Some(outcome) => engine.tell(outcome),
+            None => return Ok(()),
+        }
+    }
+    Ok(())
+}
+
+/// Visits whoever is offered. None comes where Quiet is.
+fn visit(
+    alloc: Global,
+    script: &Script,
+    offer: Offer,
+    progress: &mut Progress,
+) -> Result<Option<Outcome>, Memory>
+    requires under_way { IsUnderWay progress.old }
+    requires few { progress.old.row.count < 2 ^ 32 - 2 }
+    ensures { (g : Stage) → IsAt (script_value script.now) g progress.old
+        → IsOffered (script_value script.now) offer g progress.new result }
+{
+    match offer {
+        Offer::Consumer(consumer) => {
+            Ok(Some(visit_consumer(alloc, script, consumer, progress)?))
+        }
+        Offer::Turn(turn) => Ok(Some(visit_engine(alloc, script, turn, progress)?)),
+        Offer::Quiet => Ok(None),
+    }
+}
