@@ -11,9 +11,11 @@ use Rattle.ca_base.specs.declared.step.StepError.{StepError}
 use Rattle.ca_base.specs.declared.step.StepError.TheVariants as steps
 use Rattle.ca_judged.proofs.JudgeEventLemmas.{judged-along}
 use Rattle.ca_keys.specs.Memory.{ByteMap}
+use Rattle.ca_licensed.proofs.LicensedLemmas.{licensed-along}
 use Rattle.ca_model.specs.Entries.{EntryValue}
 use Rattle.ca_model.specs.History.{IsHistory}
 use Rattle.ca_model.specs.Judged.{Judged}
+use Rattle.ca_model.specs.Licensed.{Licensed}
 use Rattle.ca_model.specs.Marks.{MarkList}
 use Rattle.ca_model.specs.declared.event.Event.{Event}
 use Rattle.ca_model.specs.declared.mark.Mark.{Mark}
@@ -226,3 +228,10 @@ pub is_judged : (c : Configuration) (bytes : ByteMap) (events : List Event) (res
 is_judged c bytes events (Ok all) limited is made =
     judged-along c bytes (history_of events all.items) limited (history_made events all.items made) (history_follows c bytes events all is)
 is_judged c bytes events (Err error) limited is made = record {}
+
+-- and licensed
+pub is_licensed : (c : Configuration) (bytes : ByteMap) (events : List Event) (result : Result (Vec MarkList) ReplayError) → AreLimited c → IsReplay result (run_over c bytes events)
+    → OnOk result (AllByRecursion CanBeMade events) → IfOk result (λ all. Licensed bytes (history_of events all.items))
+is_licensed c bytes events (Ok all) limited is made =
+    licensed-along c bytes (history_of events all.items) limited (history_made events all.items made) (history_follows c bytes events all is)
+is_licensed c bytes events (Err error) limited is made = record {}

@@ -2,7 +2,7 @@ use Rattle.std.proofs.Common.{arith}
 use Rattle.ca_base.specs.Configuration.{configuration_of}
 use Rattle.ca_model.specs.machine.World.{opening_world}
 use Rattle.ca_opening.specs.Opening.{opening_bytes}
-use Rattle.ca_replay.proofs.ReplayLemmas.{from_opening, is_judged, makes_history}
+use Rattle.ca_replay.proofs.ReplayLemmas.{from_opening, is_judged, is_licensed, makes_history}
 use Rattle.ca_replay.proofs.events.replay.Goals as goal
 
 pub make_all-requires-clause-few : goal.make_all-requires-clause-few
@@ -26,6 +26,16 @@ returns-clause-history c = makes_history (configuration_of c.args.opening.now.co
 
 pub returns-clause-judged : goal.returns-clause-judged
 returns-clause-judged c = is_judged (configuration_of c.args.opening.now.config)
+    (opening_bytes (configuration_of c.args.opening.now.config) c.args.opening.now.contents) c.args.events.now c.make_all.result c.requires.limited
+    (from_opening (configuration_of c.args.opening.now.config)
+    (opening_bytes (configuration_of c.args.opening.now.config) c.args.opening.now.contents) c.in_ok-row.row c.args.events.now c.make_all.result
+    c.in_ok-row.ensures.count
+    (c.make_all.ensures.run (configuration_of c.args.opening.now.config)
+    (opening_world (opening_bytes (configuration_of c.args.opening.now.config) c.args.opening.now.contents)) c.in_ok-row.ensures.world))
+    c.make_all.ensures.made
+
+pub returns-clause-licensed : goal.returns-clause-licensed
+returns-clause-licensed c = is_licensed (configuration_of c.args.opening.now.config)
     (opening_bytes (configuration_of c.args.opening.now.config) c.args.opening.now.contents) c.args.events.now c.make_all.result c.requires.limited
     (from_opening (configuration_of c.args.opening.now.config)
     (opening_bytes (configuration_of c.args.opening.now.config) c.args.opening.now.contents) c.in_ok-row.row c.args.events.now c.make_all.result
