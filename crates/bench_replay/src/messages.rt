@@ -8,13 +8,18 @@ use ca_base::{Key, Piece, RecvRequest, SendOp, SendRequest};
 use ca_replay::Row;
 use std::alloc::Global;
 
-/// Where both regions begin.
-const BASE: u64 = 0x1_0000_0000;
+/// Where the region begins that is read, and the one that is written.
+const SOURCE_BASE: u64 = 0x1_0000_0000;
+
+const TARGET_BASE: u64 = 0x2_0000_0000;
 
 /// The key of the region that is read, and that of the one that is written.
 const SOURCE: Key = Key(0x001);
 
 const TARGET: Key = Key(0x101);
+
+/// How many packets of a message go to one answer.
+const PACKETS_OF_ANSWER: u32 = 32;
 
 /// What a message is.
 #[derive(Clone, Copy)]
@@ -27,10 +32,10 @@ pub enum Message {
 }
 
 /// A list of one piece.
-fn list(key: Key, length: u32) -> Option<ArrayVec<Piece, MAX_PIECES>> {
+fn list(address: u64, key: Key, length: u32) -> Option<ArrayVec<Piece, MAX_PIECES>> {
     let mut list = ArrayVec::new();
     list.try_push(Piece {
-        address: BASE,
+        address,
         key,
         length,
     })
@@ -42,23 +47,23 @@ fn list(key: Key, length: u32) -> Option<ArrayVec<Piece, MAX_PIECES>> {
 fn request_of(message: Message) -> Option<SendRequest> {
     let op = match message {
         Message::Write => SendOp::Write {
-            address: BASE,
+            address: TARGET_BASE,
             key: TARGET,
-            list: list(SOURCE, 8)?,
+            list: list(SOURCE_BASE, SOURCE, 8)?,
         },
         Message::Atomic => SendOp::FetchAdd {
-            address: BASE,
+            address: TARGET_BASE,
             key: TARGET,
             add: 1,
-            list: list(SOURCE, 8)?,
+            list: list(SOURCE_BASE, SOURCE, 8)?,
         },
         Message::Send => SendOp::Send {
-            list: list(SOURCE, 8)?,
+            list: list(SOURCE_BASE, SOURCE, 8)?,
         },
         Message::Large => SendOp::Write {
-            address: BASE,
+            address: TARGET_BASE,
             key: TARGET,
-            list: list(SOURCE, BUFFER)?,
+            list: list(SOURCE_BASE, SOURCE, BUFFER)?,
         },
     };
     Some(SendRequest {
@@ -70,11 +75,11 @@ fn request_of(message: Message) -> Option<SendRequest> {
     })
 }
 
-/// How many packets a message has.
-pub fn packets_of(message: Message) -> u32 {
+/// How many answers a message has, and how many packets go to each.
+pub fn answers_of(message: Message) -> (u32, u32) {
     match message {
-        Message::Large => BUFFER / 4096,
-        _ => 1,
+        Message::Large => (BUFFER / 4096 / PACKETS_OF_ANSWER, PACKETS_OF_ANSWER),
+        _ => (1, 1),
     }
 }
 
@@ -97,7 +102,7 @@ fn expect(alloc: Global, row: &mut Row, message: Message, number: u16) -> Option
     };
     let receive = RecvRequest {
         id: 1,
-        list: list(TARGET, 8)?,
+        list: list(TARGET_BASE, TARGET, 8)?,
     };
     post_receive(alloc, row, number, receive)
 }
@@ -113,13 +118,34 @@ fn poll_received(alloc: Global, row: &mut Row, message: Message) -> Option<()>
     }
 }
 
-/// So many packets go, of which the first has this index.
-fn send_packets(alloc: Global, row: &mut Row, first: u16, from: u64, packets: u32) -> Option<()>
+/// So many packets go, of which the first has the index of as many answers, and are answered.
+fn send_answered(alloc: Global, row: &mut Row, first: u16, answer: u64, packets: u32) -> Option<()>
     requires { IsRow row.old }
     ensures { IsRow row.new }
 {
+    let from = answer.saturating_mul(u64::from(packets));
     for at in 0..packets {
         send_packet(alloc, row, first, from.saturating_add(u64::from(at)))?;
+    }
+    respond(alloc, row, first.saturating_add(1))?;
+    deliver_response(alloc, row, first, answer)
+}
+
+/// All packets of a message go, and are answered; this is its number.
+fn send_all(alloc: Global, row: &mut Row, message: Message, first: u16, number: u32) -> Option<()>
+    requires { IsRow row.old }
+    ensures { IsRow row.new }
+{
+    let (answers, packets) = answers_of(message);
+    let from = u64::from(number).saturating_mul(u64::from(answers));
+    for answer in 0..answers {
+        send_answered(
+            alloc,
+            row,
+            first,
+            from.saturating_add(u64::from(answer)),
+            packets,
+        )?;
     }
     Some(())
 }
@@ -135,14 +161,9 @@ pub fn exchange(
     requires { IsRow row.old }
     ensures { IsRow row.new }
 {
-    let second = first.saturating_add(1);
-    let packets = packets_of(message);
-    expect(alloc, row, message, second)?;
+    expect(alloc, row, message, first.saturating_add(1))?;
     post(alloc, row, first, request_of(message)?)?;
-    let from = u64::from(number).saturating_mul(u64::from(packets));
-    send_packets(alloc, row, first, from, packets)?;
-    respond(alloc, row, second)?;
-    deliver_response(alloc, row, first, u64::from(number))?;
+    send_all(alloc, row, message, first, number)?;
     poll_received(alloc, row, message)?;
     poll(alloc, row, 0)
 }
