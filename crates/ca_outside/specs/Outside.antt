@@ -1,5 +1,5 @@
 -- What a read and a write do to the bytes of the outside, and how faults are counted. Contracts cite all of it.
-use Rattle.std.specs.Prelude.{◌≡◌, ◌+◌, ◌-◌, ◌^◌, ◌<◌, ◌≤◌, ◌⊎◌, ℕ, min, ◌==◌, ◌&&◌, nat_lt, Bool, List, length, take, Option, Result, OnErr}
+use Rattle.std.specs.Prelude.{◌≡◌, ◌+◌, ◌-◌, ◌^◌, ◌<◌, ◌≤◌, ◌⊎◌, ℕ, min, ◌==◌, ◌&&◌, nat_lt, Bool, List, length, take, Option, Result, OnErr, OnOk}
 use Rattle.std.specs.List.{list_any}
 use Rattle.std.specs.Io.KnownBytes.{Consumes, Appends}
 
@@ -15,10 +15,11 @@ next_count count = min (count + 1) last_count
 abbrev pub Rose : ℕ → ℕ → Type 0
 Rose before now = (before < now) ⊎ ((before ≡ last_count) × (now ≡ last_count))
 
--- A call fails only where the count of faults rose in it, and the count never falls.
+-- A call fails only where the count of faults rose in it, and one that ends well leaves the count; it never falls.
 pub record HasCause {T E : Type 0} (before now : ℕ) (result : Result T E) : Type 0 where
   pub never_falls : before ≤ now
   pub failed : OnErr result (Rose before now)
+  pub kept : OnOk result (now ≡ before)
 
 -- The call of this number is one of those that fail.
 abbrev pub is_failing_call : List ℕ → ℕ → Bool

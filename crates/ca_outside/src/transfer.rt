@@ -52,6 +52,8 @@ pub fn read_up_to<S: Source>(
     ensures loses { LosesAtMost (limit + 1) (S.left source.old) (S.left source.new) }
     ensures failed { IsErrOf result ReadStop.Failed → Rose (S.faults source.old) (S.faults source.new) }
     ensures never_falls { S.faults source.old ≤ S.faults source.new }
+    ensures kept { OnOk result (S.faults source.new ≡ S.faults source.old) }
+    ensures memory { IsErrOf result ReadStop.Memory → S.faults source.new ≡ S.faults source.old }
 {
     let mut bytes = Vec::new(alloc);
     let mut chunk = [0u8; CHUNK];

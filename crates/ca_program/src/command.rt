@@ -1,6 +1,5 @@
-use crate::run::run;
-use crate::status::{Status, exit_code, status_line};
 use ca_outside::{StdSink, StdSource};
+use ca_run::{Status, exit_code, run, status_line};
 use std::io::ErrorKind;
 use std::process::ExitCode;
 use std::rt::Env;

@@ -77,12 +77,12 @@ up-made s event done limited can also g up = by (step s.config g.world event) (e
     by (Did w ms) world = also _ (record { world = world; lines = up.lines })
 
 -- a consumer's lines, and those of all where its first is done
-lines-callable : (k : ℕ) (left : List (List Line)) → AreCallable left → AllByRecursion (λ line. IsCallable line.what) (lines_of k left)
+pub lines-callable : (k : ℕ) (left : List (List Line)) → AreCallable left → AllByRecursion (λ line. IsCallable line.what) (lines_of k left)
 lines-callable k [] all = record {}
 lines-callable zero (x ∷ xs) all = all.0
 lines-callable (suc k) (x ∷ xs) all = lines-callable k xs all.1
 
-set-callable : (k : ℕ) (left : List (List Line)) (rest : List Line) → AreCallable left → AllByRecursion (λ line. IsCallable line.what) rest → AreCallable (slice_set left k rest)
+pub set-callable : (k : ℕ) (left : List (List Line)) (rest : List Line) → AreCallable left → AllByRecursion (λ line. IsCallable line.what) rest → AreCallable (slice_set left k rest)
 set-callable k [] rest all some = record {}
 set-callable zero (x ∷ xs) rest all some = (some, all.1)
 set-callable (suc k) (x ∷ xs) rest all some = (all.0, set-callable k xs rest all.1 some)

@@ -30,19 +30,19 @@ use Rattle.ca_script_words.specs.declared.cause.ScriptCause.TheVariants as cause
 -- ---- what a reader gives
 
 -- what holds of a value, if there is one
-abbrev Gives : {Y E : Type 0} → (Y → Type 0) → Result Y E → Type 0
+abbrev pub Gives : {Y E : Type 0} → (Y → Type 0) → Result Y E → Type 0
 Gives P (Ok x) = P x
 Gives P (Err cause) = Unit {0}
 
-gives-any : {Y : Type 0} (r : Result Y ScriptCause) → Gives (λ x. Unit {0}) r
+pub gives-any : {Y : Type 0} (r : Result Y ScriptCause) → Gives (λ x. Unit {0}) r
 gives-any (Ok x) = record {}
 gives-any (Err cause) = record {}
 
-gives-then : {A B : Type 0} (P : A → Type 0) (Q : B → Type 0) (r : Result A ScriptCause) (f : A → Result B ScriptCause) → Gives P r → ((x : A) → P x → Gives Q (f x)) → Gives Q (r >>= f)
+pub gives-then : {A B : Type 0} (P : A → Type 0) (Q : B → Type 0) (r : Result A ScriptCause) (f : A → Result B ScriptCause) → Gives P r → ((x : A) → P x → Gives Q (f x)) → Gives Q (r >>= f)
 gives-then P Q (Ok x) f gives next = next x gives
 gives-then P Q (Err cause) f gives next = record {}
 
-gives-if : {Y E : Type 0} (P : Y → Type 0) (b : Bool) (r s : Result Y E) → Gives P r → Gives P s → Gives P (if b then r else s)
+pub gives-if : {Y E : Type 0} (P : Y → Type 0) (b : Bool) (r s : Result Y E) → Gives P r → Gives P s → Gives P (if b then r else s)
 gives-if P true r s one other = one
 gives-if P false r s one other = other
 

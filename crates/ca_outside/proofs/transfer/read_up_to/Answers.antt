@@ -15,5 +15,5 @@ pub loop-chunk-preserved : goal.loop-chunk-preserved
 loop-chunk-preserved g c = record {
   came = grind (arith, common_steps);
   bounded = grind (arith, common_steps) steps 400000;
-  never_falls = grind (arith, common_steps);
+  kept = grind (arith, common_steps);
 }

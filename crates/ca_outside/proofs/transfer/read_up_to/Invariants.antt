@@ -1,5 +1,5 @@
 -- What came so far is what was left, up to what is left now.
-use Rattle.std.proofs.Common.{◌+◌, ◌-◌, ◌≤◌, length, vec_len}
+use Rattle.std.proofs.Common.{◌≡◌, ◌+◌, ◌-◌, ◌≤◌, length, vec_len}
 use Rattle.std.specs.Io.KnownBytes.{Consumes}
 use Rattle.ca_outside.proofs.transfer.read_up_to.Given as goal
 
@@ -7,7 +7,7 @@ abbrev pub invariant-loop-chunk : goal.invariant-loop-chunk
 invariant-loop-chunk g l = record {
   came : Consumes (g.S.Source.left l.initial.source) (g.S.Source.left l.source) l.bytes.items;
   bounded : length l.bytes.items ≤ l.limit + 1;
-  never_falls : g.S.Source.faults l.initial.source ≤ g.S.Source.faults l.source;
+  kept : g.S.Source.faults l.source ≡ g.S.Source.faults l.initial.source;
 }
 
 abbrev pub decreases-loop-chunk : goal.decreases-loop-chunk

@@ -1,3 +1,0 @@
-pub mod Limit
-pub mod OneWord
-pub mod RunLaws

@@ -1,0 +1,28 @@
+-- What the bytes that were read say of all the bytes that the source had. For proofs only.
+use Rattle.std.proofs.Common.{◌≡◌, ℕ, ◌≤◌, List, [], length, Option, None, Some, IfSome, Ok, sym, arith}
+use Rattle.ca_base.specs.declared.limits.TheConstants.{MAX_SCRIPT_BYTES}
+use Rattle.ca_order.specs.OfScript.{Status}
+use Rattle.ca_run.specs.Run.{HasOutput, Ran}
+use Rattle.ca_script.specs.Script.{ScriptValue, script_of}
+
+-- what a text that means a script is long at most
+abbrev pub AreLimited : Type 0
+AreLimited = (text : List ℕ) (s : ScriptValue) → script_of text ≡ Ok s → length text ≤ MAX_SCRIPT_BYTES
+
+read-whole : (left left' : Option (List ℕ)) (bytes : List ℕ) (limit : ℕ) → length bytes ≤ limit
+    → IfSome left (λ all. length bytes ≤ limit → bytes ≡ all) → IfSome left (λ _. length bytes ≤ limit → left' ≡ Some [])
+    → IfSome left (λ all. (all ≡ bytes) × (left' ≡ Some []))
+read-whole None left' bytes limit few all end = tt
+read-whole (Some left) left' bytes limit few all end = (sym (all few), end few)
+
+pub ran : (left left' : Option (List ℕ)) (bytes output : List ℕ) (ended : Status) (Appended : List ℕ → Type 0) (limit : ℕ) → MAX_SCRIPT_BYTES ≤ limit → AreLimited
+    → HasOutput bytes output ended → Appended output
+    → IfSome left (λ all. length bytes ≤ limit → bytes ≡ all) → IfSome left (λ _. length bytes ≤ limit → left' ≡ Some [])
+    → Ran left left' ended Appended
+ran left left' bytes output ended Appended limit enough limited worked appended all end = record {
+  bytes = bytes;
+  read = read-whole left left' bytes limit (omega (arith, limited bytes worked.script worked.means, enough)) all end;
+  output = output;
+  worked = worked;
+  appended = appended;
+}

@@ -1,0 +1,4 @@
+pub mod SizeLemmas
+pub mod OfferLemmas
+pub mod FrontLemmas
+pub mod LawfulLemmas
