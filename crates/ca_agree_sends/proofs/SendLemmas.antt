@@ -22,14 +22,14 @@ use Rattle.ca_base.specs.declared.refusals.OpRefusal.{OpRefusal}
 use Rattle.ca_base.specs.declared.request.PostedSend.{PostedSend}
 use Rattle.ca_base.specs.declared.request.RecvRequest.{RecvRequest}
 use Rattle.ca_base.specs.declared.request.SendRequest.{SendRequest}
-use Rattle.ca_base.specs.objects.QueuePair.{QueuePair, in_error}
+use Rattle.ca_base.specs.objects.QueuePair.{QueuePair}
 use Rattle.ca_base.specs.objects.WorkQueue.{WorkQueue, item_at, items_from, next_place}
 use Rattle.ca_keys.specs.declared.names.QueueId.{QueueId}
 use Rattle.ca_laws_sound.proofs.NumberingLemmas.{Numbers, all-taken, are-numbers, length-numbers, take-numbers}
 use Rattle.ca_laws_sound.proofs.RequesterLemmas.{finished-count}
 use Rattle.ca_model.specs.Ordered.{is_completion_of}
 use Rattle.ca_model.specs.Past.{Posted}
-use Rattle.ca_model.specs.Requests.{operation_of}
+use Rattle.ca_model.specs.Requests.{operation_of, psns_of}
 use Rattle.ca_model.specs.declared.mark.Mark.{Mark}
 use Rattle.ca_model.specs.declared.mark.Mark.TheVariants as marks
 use Rattle.ca_model.specs.machine.Acknowledgements.{after_finished, failure_effects, finished_marks, finished_requests, progress_to, with_requester, with_una, without_oldest}
@@ -37,21 +37,26 @@ use Rattle.ca_model.specs.machine.Completions.{bytes_of_success, failure_mark, f
 use Rattle.ca_model.specs.machine.Numbering.{Numbered, begun_requests, numbers_of, psn_end, unfinished_requests}
 use Rattle.ca_model.specs.machine.Row.{Effects, queue_and_marks}
 
--- what occupies a send queue was posted
-pub record HasSends (ps : List Posted) (sends : WorkQueue PostedSend) : Type 0 where
+-- what occupies a send queue was posted, and what is unfinished occupies it
+pub record IsReady (ps : List Posted) (sends : WorkQueue PostedSend) (oldest : ℕ) : Type 0 where
   pub at : (place : ℕ) (x : PostedSend) → item_at place sends ≡ Some x → IsPostedAt ps place x
-
--- what is unfinished occupies the send queue
-pub record IsInQueue (q : QueuePair) : Type 0 where
-  pub first : q.sends.first ≤ q.requester.oldest
-  pub last : q.requester.oldest ≤ next_place q.sends
+  pub first : sends.first ≤ oldest
+  pub last : oldest ≤ next_place sends
 
 -- effects that leave the sends, and whose marks complete those that are finished by them
-pub record Completes (ps : List Posted) (q : QueuePair) (e : Effects) : Type 0 where
-  pub queue : e.queue.queue ≡ q.queue
-  pub sends : e.queue.sends ≡ q.sends
-  pub within : IsInQueue e.queue
-  pub marks : Complete q.queue ps q.requester.oldest e.marks e.queue.requester.oldest
+pub record Completes (ps : List Posted) (name : QueueId) (of : WorkQueue PostedSend) (oldest : ℕ) (e : Effects) : Type 0 where
+  pub queue : e.queue.queue ≡ name
+  pub sends : e.queue.sends ≡ of
+  pub low : oldest ≤ e.queue.requester.oldest
+  pub high : e.queue.requester.oldest ≤ next_place of
+  pub marks : Complete name ps oldest e.marks e.queue.requester.oldest
+
+-- the same of a queue pair
+abbrev pub IsReadyQueue : List Posted → QueuePair → Type 0
+IsReadyQueue ps q = IsReady ps q.sends q.requester.oldest
+
+abbrev pub CompletesOf : List Posted → QueuePair → Effects → Type 0
+CompletesOf ps q e = Completes ps q.queue q.sends q.requester.oldest e
 
 -- ---- one completion
 
@@ -89,12 +94,12 @@ or-signalled a b e = ap (λ z. z || b) e
 abbrev pub AreItems : WorkQueue PostedSend → List Numbered → Type 0
 AreItems sends ns = AllByRecursion (λ n. item_at n.place sends ≡ Some (record { request = n.request; drawn = n.drawn })) ns
 
-flushed-complete : (ps : List Posted) (name : QueueId) (sends : WorkQueue PostedSend) (mtu psn place : ℕ) (xs : List PostedSend) (to : ℕ) → HasSends ps sends → AreItems sends (numbers_of mtu place psn xs) → place + length xs ≡ to
+flushed-complete : (ps : List Posted) (name : QueueId) (sends : WorkQueue PostedSend) (mtu psn place : ℕ) (xs : List PostedSend) (to : ℕ) → ((place : ℕ) (x : PostedSend) → item_at place sends ≡ Some x → IsPostedAt ps place x) → AreItems sends (numbers_of mtu place psn xs) → place + length xs ≡ to
     → Complete name ps place (flushed_sends name place xs) to
 flushed-complete ps name sends mtu psn place [] to has items end = (omega (arith, end), λ i p low high is. absurd (omega (arith, low, high, end)))
 flushed-complete ps name sends mtu psn place (x ∷ xs) to has items end = (
-  next-send ps name place x Flushed 0 (has.at place x items.0) (or-failed x.request.signalled false refl),
-  flushed-complete ps name sends mtu _ (suc place) xs to has items.1 (omega (arith, end)),
+  next-send ps name place x Flushed 0 (has place x items.0) (or-failed x.request.signalled false refl),
+  flushed-complete ps name sends mtu (psn + psns_of mtu x.request.op) (suc place) xs to has items.1 (omega (arith, end)),
 )
 
 -- flushed receives tell of no send
@@ -105,12 +110,12 @@ receives-complete name ps n queue place (r ∷ rs) = receives-complete name ps n
 unfinished-items : (q : QueuePair) → q.sends.first ≤ q.requester.oldest → AreItems q.sends (unfinished_requests q)
 unfinished-items q first = numbers-at q.responder.mtu q.requester.oldest q.requester.oldest_psn q.sends (items_from q.requester.oldest q.sends) first refl
 
-pub flush-complete : (ps : List Posted) (q : QueuePair) → HasSends ps q.sends → IsInQueue q → Complete q.queue ps q.requester.oldest (flush_marks q) (next_place q.sends)
-flush-complete ps q has within =
+pub flush-complete : (ps : List Posted) (q : QueuePair) → IsReadyQueue ps q → Complete q.queue ps q.requester.oldest (flush_marks q) (next_place q.sends)
+flush-complete ps q ready =
     complete-append q.queue ps q.requester.oldest (sends ++ flushed_message q.queue q.responder.message) (next_place q.sends) _ (next_place q.sends)
     (complete-append q.queue ps q.requester.oldest sends (next_place q.sends) (flushed_message q.queue q.responder.message) (next_place q.sends)
-    (flushed-complete ps q.queue q.sends q.responder.mtu q.requester.oldest_psn q.requester.oldest (items_from q.requester.oldest q.sends) (next_place q.sends) has (unfinished-items q within.first)
-    (omega (arith, within.first, within.last, length-drop (q.requester.oldest - q.sends.first) q.sends.items))) (message q.responder.message)) (own q.receives)
+    (flushed-complete ps q.queue q.sends q.responder.mtu q.requester.oldest_psn q.requester.oldest (items_from q.requester.oldest q.sends) (next_place q.sends) ready.at (unfinished-items q ready.first)
+    (omega (arith, ready.first, ready.last, length-drop (q.requester.oldest - q.sends.first) q.sends.items))) (message q.responder.message)) (own q.receives)
   where
     sends : List Mark
     sends = flushed_sends q.queue q.requester.oldest (items_from q.requester.oldest q.sends)
@@ -126,16 +131,13 @@ flush-complete ps q has within =
 
 -- ---- a failure
 
--- in Error nothing is unfinished
-pub error-within : (q : QueuePair) → IsInQueue (in_error q)
-error-within q = record { first = omega arith; last = omega arith }
-
-pub failure-completes : (ps : List Posted) (status : WcStatus) (cause : Option OpRefusal) (q : QueuePair) → status_eq status Success ≡ false → HasSends ps q.sends → IsInQueue q → Completes ps q (failure_effects status cause q)
-failure-completes ps status cause q fails has within = record {
+pub failure-completes : (ps : List Posted) (status : WcStatus) (cause : Option OpRefusal) (q : QueuePair) → status_eq status Success ≡ false → IsReadyQueue ps q → CompletesOf ps q (failure_effects status cause q)
+failure-completes ps status cause q fails ready = record {
   queue = refl;
   sends = refl;
-  within = record { first = omega arith; last = omega arith };
-  marks = by (items_from q.requester.oldest q.sends) (unfinished-items q within.first) (omega (arith, within.first, within.last, length-drop (q.requester.oldest - q.sends.first) q.sends.items));
+  low = ready.last;
+  high = omega arith;
+  marks = by (items_from q.requester.oldest q.sends) (unfinished-items q ready.first) (omega (arith, ready.first, ready.last, length-drop (q.requester.oldest - q.sends.first) q.sends.items));
 }
   where
     told : List PostedSend → List Mark
@@ -144,10 +146,10 @@ failure-completes ps status cause q fails has within = record {
 
     by : (xs : List PostedSend) → AreItems q.sends (numbers_of q.responder.mtu q.requester.oldest q.requester.oldest_psn xs) → q.requester.oldest + length xs ≡ next_place q.sends
         → Complete q.queue ps q.requester.oldest (told xs) (next_place q.sends)
-    by [] items end = flush-complete ps q has within
+    by [] items end = flush-complete ps q ready
     by (x ∷ xs) items end = (
-      next-send ps q.queue q.requester.oldest x status 0 (has.at q.requester.oldest x items.0) (or-failed x.request.signalled (status_eq status Success) fails),
-      flush-complete ps (without_oldest q) has (record { first = omega (arith, within.first); last = omega (arith, end) }),
+      next-send ps q.queue q.requester.oldest x status 0 (ready.at q.requester.oldest x items.0) (or-failed x.request.signalled (status_eq status Success) fails),
+      flush-complete ps (without_oldest q) (record { at = ready.at; first = omega (arith, ready.first); last = omega (arith, end) }),
     )
 
 -- ---- progress
@@ -165,29 +167,27 @@ success-complete ps name n at = by n.request.signalled refl
         one : (place : ℕ) (p : Posted) → place ≡ n.place → slice_get ps place ≡ Some p → p.request.signalled ≡ false
         one place p here is = ap (λ (y : Posted). y.request.signalled) (same_Some p at.posted (sym is ∙ ap (slice_get ps) here ∙ at.is)) ∙ ap (λ (y : PostedSend). y.request.signalled) at.same ∙ e
 
-finished-complete : (ps : List Posted) (name : QueueId) (sends : WorkQueue PostedSend) (mtu psn place : ℕ) (ns : List Numbered) (to : ℕ) → HasSends ps sends → Numbers mtu place psn ns → AreItems sends ns → place + length ns ≡ to
+finished-complete : (ps : List Posted) (name : QueueId) (sends : WorkQueue PostedSend) (mtu psn place : ℕ) (ns : List Numbered) (to : ℕ) → ((place : ℕ) (x : PostedSend) → item_at place sends ≡ Some x → IsPostedAt ps place x) → Numbers mtu place psn ns → AreItems sends ns → place + length ns ≡ to
     → Complete name ps place (flat_map (λ n. success_marks name n.place n.request) ns) to
 finished-complete ps name sends mtu psn place [] to has numbers items end = (omega (arith, end), λ i p low high is. absurd (omega (arith, low, high, end)))
 finished-complete ps name sends mtu psn place (n ∷ ns) to has numbers items end =
     complete-append name ps place (success_marks name n.place n.request) (suc place) _ to
-    (subst (λ k. Complete name ps k (success_marks name n.place n.request) (suc k)) numbers.0.0 (success-complete ps name n (has.at n.place _ items.0)))
-    (finished-complete ps name sends mtu _ (suc place) ns to has numbers.1 items.1 (omega (arith, end)))
+    (subst (λ k. Complete name ps k (success_marks name n.place n.request) (suc k)) numbers.0.0 (success-complete ps name n (has n.place _ items.0)))
+    (finished-complete ps name sends mtu (psn + n.count) (suc place) ns to has numbers.1 items.1 (omega (arith, end)))
 
 -- all that is finished completes
-after-finished : (ps : List Posted) (q : QueuePair) → HasSends ps q.sends → IsInQueue q → Completes ps q (queue_and_marks (after_finished q) (finished_marks q))
-after-finished ps q has within = record {
+after-finished : (ps : List Posted) (q : QueuePair) → IsReadyQueue ps q → CompletesOf ps q (queue_and_marks (after_finished q) (finished_marks q))
+after-finished ps q ready = record {
   queue = refl;
   sends = refl;
-  within = record {
-    first = omega (arith, within.first);
-    last = omega (arith, within.first, within.last, few);
-  };
-  marks = finished-complete ps q.queue q.sends q.responder.mtu q.requester.oldest_psn q.requester.oldest (finished_requests q) _ has
+  low = omega arith;
+  high = omega (arith, ready.first, ready.last, few);
+  marks = finished-complete ps q.queue q.sends q.responder.mtu q.requester.oldest_psn q.requester.oldest (finished_requests q) _ ready.at
       (take-numbers q.responder.mtu (prefix_len (λ n. nat_le (psn_end n) q.requester.una) (begun_requests q)) q.requester.oldest q.requester.oldest_psn (begun_requests q)
       (take-numbers q.responder.mtu (q.requester.next - q.requester.oldest) q.requester.oldest q.requester.oldest_psn (unfinished_requests q)
       (are-numbers q.responder.mtu q.requester.oldest q.requester.oldest_psn (items_from q.requester.oldest q.sends))))
       (all-taken _ (prefix_len (λ n. nat_le (psn_end n) q.requester.una) (begun_requests q)) (begun_requests q)
-      (all-taken _ (q.requester.next - q.requester.oldest) (unfinished_requests q) (unfinished-items q within.first))) refl;
+      (all-taken _ (q.requester.next - q.requester.oldest) (unfinished_requests q) (unfinished-items q ready.first))) refl;
 }
   where
     few : length (finished_requests q) ≤ length q.sends.items - (q.requester.oldest - q.sends.first)
@@ -199,15 +199,12 @@ after-finished ps q has within = record {
       length-drop (q.requester.oldest - q.sends.first) q.sends.items,
     )
 
-pub progress-completes : (ps : List Posted) (psn : ℕ) (q : QueuePair) → HasSends ps q.sends → IsInQueue q → Completes ps q (progress_to psn q)
-progress-completes ps psn q has within = by (nat_lt q.requester.una psn)
+pub progress-completes : (ps : List Posted) (psn : ℕ) (q : QueuePair) → IsReadyQueue ps q → CompletesOf ps q (progress_to psn q)
+progress-completes ps psn q ready = by (nat_lt q.requester.una psn)
   where
     moved : Bool → QueuePair
     moved b = if b then with_requester (record q.requester { una = psn; retries = 0; rnrs = 0 }) q else q
 
-    by : (b : Bool) → Completes ps q (queue_and_marks (after_finished (moved b)) (finished_marks (moved b)))
-    by true = record { queue = done.queue; sends = done.sends; within = done.within; marks = done.marks }
-      where
-        done : Completes ps (moved true) (queue_and_marks (after_finished (moved true)) (finished_marks (moved true)))
-        done = after-finished ps (moved true) has (record { first = within.first; last = within.last })
-    by false = after-finished ps q has within
+    by : (b : Bool) → CompletesOf ps q (queue_and_marks (after_finished (moved b)) (finished_marks (moved b)))
+    by true = after-finished ps (moved true) ready
+    by false = after-finished ps q ready
