@@ -1,3 +1,4 @@
 pub mod CompleteLemmas
 pub mod SendLemmas
 pub mod RowLemmas
+pub mod TurnLemmas

@@ -1,9 +1,8 @@
 -- Each row completes the sends of its queue pair in order. For proofs only.
 use Rattle.std.proofs.Common.{◌≡◌, ℕ, zero, suc, ◌+◌, ◌-◌, ◌≤◌, ◌==◌, ◌&&◌, Bool, true, false, not, nat_le, nat_lt, if◌then◌else◌, List, [], ◌∷◌, ◌++◌, length, Option, None, Some, is_none, Result, Ok, Err, slice_get, refl, ap, sym, subst, ◌∙◌, arith}
 use Rattle.std.specs.Option.{option_and_then, option_map, option_map_or}
-use Rattle.ca_agree_posts.proofs.PlaceLemmas.{IsPostedAt}
 use Rattle.ca_agree_sends.proofs.CompleteLemmas.{Complete, complete-append, none-between}
-use Rattle.ca_agree_sends.proofs.SendLemmas.{Completes, CompletesOf, IsReady, IsReadyQueue, failure-completes, flush-complete, progress-completes}
+use Rattle.ca_agree_sends.proofs.SendLemmas.{CompletesOf, IsReadyQueue, IsRequestAt, failure-completes, flush-complete, progress-completes}
 use Rattle.ca_base.specs.declared.change.State.TheVariants as states
 use Rattle.ca_base.specs.declared.completion.WcOp.TheVariants as operations
 use Rattle.ca_base.specs.declared.completion.WcStatus.{WcStatus}
@@ -115,7 +114,7 @@ behind-none ps q ms e none does = record {
 
 pub ready-after : (ps : List Posted) (q : QueuePair) (e : Effects) → IsReadyQueue ps q → CompletesOf ps q e → IsReadyQueue ps e.queue
 ready-after ps q e ready does = record {
-  at = subst (λ s. (place : ℕ) (x : PostedSend) → item_at place s ≡ Some x → IsPostedAt ps place x) (sym does.sends) ready.at;
+  at = subst (λ s. (place : ℕ) (x : PostedSend) → item_at place s ≡ Some x → IsRequestAt ps place x.request) (sym does.sends) ready.at;
   first = omega (arith, ap (λ (s : WorkQueue PostedSend). s.first) does.sends, ready.first, does.low);
   last = omega (arith, ap next_place does.sends, does.high);
 }

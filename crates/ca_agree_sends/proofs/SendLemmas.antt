@@ -9,8 +9,6 @@ use Rattle.std.specs.Option.{option_map_or}
 use Rattle.std.specs.Prelude.{flat_map}
 use Rattle.ca_agree_posts.proofs.GoingLemmas.{numbers-at}
 use Rattle.ca_agree_posts.proofs.GrantLemmas.{both-true}
-use Rattle.ca_agree_posts.proofs.PlaceLemmas.{IsPostedAt}
-use Rattle.ca_agree_posts.specs.Posts.{as_posted}
 use Rattle.ca_agree_sends.proofs.CompleteLemmas.{ByTest, Complete, IsNextSend, complete-append, complete-earlier, none-between}
 use Rattle.ca_agree_sends.specs.Completed.{AreUnsignalled}
 use Rattle.ca_base.specs.Equal.{operation_eq, operation_number, status_eq}
@@ -37,9 +35,15 @@ use Rattle.ca_model.specs.machine.Completions.{bytes_of_success, failure_mark, f
 use Rattle.ca_model.specs.machine.Numbering.{Numbered, begun_requests, numbers_of, psn_end, unfinished_requests}
 use Rattle.ca_model.specs.machine.Row.{Effects, queue_and_marks}
 
+-- a request that was posted at a place
+pub record IsRequestAt (ps : List Posted) (place : ℕ) (request : SendRequest) : Type 0 where
+  pub posted : Posted
+  pub is : slice_get ps place ≡ Some posted
+  pub same : posted.request ≡ request
+
 -- what occupies a send queue was posted, and what is unfinished occupies it
 pub record IsReady (ps : List Posted) (sends : WorkQueue PostedSend) (oldest : ℕ) : Type 0 where
-  pub at : (place : ℕ) (x : PostedSend) → item_at place sends ≡ Some x → IsPostedAt ps place x
+  pub at : (place : ℕ) (x : PostedSend) → item_at place sends ≡ Some x → IsRequestAt ps place x.request
   pub first : sends.first ≤ oldest
   pub last : oldest ≤ next_place sends
 
@@ -61,10 +65,10 @@ CompletesOf ps q e = Completes ps q.queue q.sends q.requester.oldest e
 -- ---- one completion
 
 -- a completion is of the request that was posted at its place
-completion-is : (ps : List Posted) (name : QueueId) (place : ℕ) (x : PostedSend) (status : WcStatus) (count : ℕ) → IsPostedAt ps place x → (x.request.signalled || not (status_eq status Success)) ≡ true
+completion-is : (ps : List Posted) (name : QueueId) (place : ℕ) (x : PostedSend) (status : WcStatus) (count : ℕ) → IsRequestAt ps place x.request → (x.request.signalled || not (status_eq status Success)) ≡ true
     → option_map_or (is_completion_of (send_completion name place x.request status count)) (slice_get ps place) false ≡ true
 completion-is ps name place x status count at fits = ap (λ o. option_map_or (is_completion_of (send_completion name place x.request status count)) o false) at.is
-    ∙ ap of (ap (λ (y : PostedSend). y.request) at.same) ∙ both-true _ _ (both-true (x.request.id == x.request.id) _ (same x.request.id) (same (operation_number (operation_of x.request.op)))) fits
+    ∙ ap of at.same ∙ both-true _ _ (both-true (x.request.id == x.request.id) _ (same x.request.id) (same (operation_number (operation_of x.request.op)))) fits
   where
     same : (n : ℕ) → (n == n) ≡ true
     same n = grind (arith, nat_tests)
@@ -72,7 +76,7 @@ completion-is ps name place x status count at fits = ap (λ o. option_map_or (is
     of : SendRequest → Bool
     of r = (x.request.id == r.id) && operation_eq (operation_of x.request.op) (operation_of r.op) && (r.signalled || not (status_eq status Success))
 
-next-send : (ps : List Posted) (name : QueueId) (place : ℕ) (x : PostedSend) (status : WcStatus) (count : ℕ) → IsPostedAt ps place x → (x.request.signalled || not (status_eq status Success)) ≡ true
+next-send : (ps : List Posted) (name : QueueId) (place : ℕ) (x : PostedSend) (status : WcStatus) (count : ℕ) → IsRequestAt ps place x.request → (x.request.signalled || not (status_eq status Success)) ≡ true
     → IsNextSend name ps place (send_completion name place x.request status count)
 next-send ps name place x status count at fits = record {
   queue = refl;
@@ -94,7 +98,7 @@ or-signalled a b e = ap (λ z. z || b) e
 abbrev pub AreItems : WorkQueue PostedSend → List Numbered → Type 0
 AreItems sends ns = AllByRecursion (λ n. item_at n.place sends ≡ Some (record { request = n.request; drawn = n.drawn })) ns
 
-flushed-complete : (ps : List Posted) (name : QueueId) (sends : WorkQueue PostedSend) (mtu psn place : ℕ) (xs : List PostedSend) (to : ℕ) → ((place : ℕ) (x : PostedSend) → item_at place sends ≡ Some x → IsPostedAt ps place x) → AreItems sends (numbers_of mtu place psn xs) → place + length xs ≡ to
+flushed-complete : (ps : List Posted) (name : QueueId) (sends : WorkQueue PostedSend) (mtu psn place : ℕ) (xs : List PostedSend) (to : ℕ) → ((place : ℕ) (x : PostedSend) → item_at place sends ≡ Some x → IsRequestAt ps place x.request) → AreItems sends (numbers_of mtu place psn xs) → place + length xs ≡ to
     → Complete name ps place (flushed_sends name place xs) to
 flushed-complete ps name sends mtu psn place [] to has items end = (omega (arith, end), λ i p low high is. absurd (omega (arith, low, high, end)))
 flushed-complete ps name sends mtu psn place (x ∷ xs) to has items end = (
@@ -154,7 +158,7 @@ failure-completes ps status cause q fails ready = record {
 
 -- ---- progress
 
-success-complete : (ps : List Posted) (name : QueueId) (n : Numbered) → IsPostedAt ps n.place (record { request = n.request; drawn = n.drawn }) → Complete name ps n.place (success_marks name n.place n.request) (suc n.place)
+pub success-complete : (ps : List Posted) (name : QueueId) (n : Numbered) → IsRequestAt ps n.place n.request → Complete name ps n.place (success_marks name n.place n.request) (suc n.place)
 success-complete ps name n at = by n.request.signalled refl
   where
     told : Bool → List Mark
@@ -165,9 +169,9 @@ success-complete ps name n at = by n.request.signalled refl
     by false e = (omega arith, λ place p low high is. one place p (omega (arith, low, high)) is)
       where
         one : (place : ℕ) (p : Posted) → place ≡ n.place → slice_get ps place ≡ Some p → p.request.signalled ≡ false
-        one place p here is = ap (λ (y : Posted). y.request.signalled) (same_Some p at.posted (sym is ∙ ap (slice_get ps) here ∙ at.is)) ∙ ap (λ (y : PostedSend). y.request.signalled) at.same ∙ e
+        one place p here is = ap (λ (y : Posted). y.request.signalled) (same_Some p at.posted (sym is ∙ ap (slice_get ps) here ∙ at.is)) ∙ ap (λ (y : SendRequest). y.signalled) at.same ∙ e
 
-finished-complete : (ps : List Posted) (name : QueueId) (sends : WorkQueue PostedSend) (mtu psn place : ℕ) (ns : List Numbered) (to : ℕ) → ((place : ℕ) (x : PostedSend) → item_at place sends ≡ Some x → IsPostedAt ps place x) → Numbers mtu place psn ns → AreItems sends ns → place + length ns ≡ to
+finished-complete : (ps : List Posted) (name : QueueId) (sends : WorkQueue PostedSend) (mtu psn place : ℕ) (ns : List Numbered) (to : ℕ) → ((place : ℕ) (x : PostedSend) → item_at place sends ≡ Some x → IsRequestAt ps place x.request) → Numbers mtu place psn ns → AreItems sends ns → place + length ns ≡ to
     → Complete name ps place (flat_map (λ n. success_marks name n.place n.request) ns) to
 finished-complete ps name sends mtu psn place [] to has numbers items end = (omega (arith, end), λ i p low high is. absurd (omega (arith, low, high, end)))
 finished-complete ps name sends mtu psn place (n ∷ ns) to has numbers items end =
