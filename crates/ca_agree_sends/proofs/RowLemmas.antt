@@ -1,6 +1,6 @@
 -- Each row completes the sends of its queue pair in order. For proofs only.
-use Rattle.std.proofs.Common.{◌≡◌, ℕ, zero, suc, ◌+◌, ◌-◌, ◌≤◌, ◌==◌, ◌&&◌, Bool, true, false, not, nat_le, nat_lt, if◌then◌else◌, List, [], ◌∷◌, ◌++◌, length, Option, None, Some, is_none, Result, Ok, Err, slice_get, refl, ap, sym, subst, ◌∙◌, arith}
-use Rattle.std.specs.Option.{option_and_then, option_map, option_map_or}
+use Rattle.std.proofs.Common.{◌≡◌, ℕ, suc, ◌+◌, ◌==◌, ◌&&◌, Bool, true, false, not, nat_le, nat_lt, if◌then◌else◌, List, [], ◌∷◌, ◌++◌, length, Option, None, Some, is_none, Result, Ok, Err, slice_get, refl, ap, sym, subst, ◌∙◌, arith}
+use Rattle.std.specs.Option.{option_and_then, option_map_or}
 use Rattle.ca_agree_sends.proofs.CompleteLemmas.{Complete, complete-append, none-between}
 use Rattle.ca_agree_sends.proofs.SendLemmas.{CompletesOf, IsReadyQueue, IsRequestAt, failure-completes, flush-complete, progress-completes}
 use Rattle.ca_base.specs.declared.change.State.TheVariants as states
@@ -9,7 +9,6 @@ use Rattle.ca_base.specs.declared.completion.WcStatus.{WcStatus}
 use Rattle.ca_base.specs.declared.completion.WcStatus.TheVariants.{BadResponse, LocalLength, LocalProtection, MemoryManagement, RemoteAccess, RemoteInvalidRequest, RemoteOperation, RetryExceeded, RnrRetryExceeded, Success}
 use Rattle.ca_base.specs.declared.denied_ask.DeniedAsk.{DeniedAsk}
 use Rattle.ca_base.specs.declared.limits.TheConstants.{MAX_DUPLICATES, MAX_RETRY}
-use Rattle.ca_base.specs.declared.queue_numbers.Message.TheVariants as messages
 use Rattle.ca_base.specs.declared.queue_numbers.Queued.{Queued}
 use Rattle.ca_base.specs.declared.queue_numbers.Queued.TheVariants as queued
 use Rattle.ca_base.specs.declared.refusals.OpRefusal.{OpRefusal}
@@ -19,7 +18,7 @@ use Rattle.ca_base.specs.declared.step.Reason.{Reason}
 use Rattle.ca_base.specs.declared.step.Reason.TheVariants as reasons
 use Rattle.ca_base.specs.Sight.{Invalidation}
 use Rattle.ca_base.specs.objects.Answers.{duplicate_count}
-use Rattle.ca_base.specs.objects.QueuePair.{QueuePair, in_error}
+use Rattle.ca_base.specs.objects.QueuePair.{QueuePair}
 use Rattle.ca_base.specs.objects.Saved.{saved_at}
 use Rattle.ca_base.specs.objects.SharedReceives.{SharedReceives}
 use Rattle.ca_base.specs.objects.StateTable.{is_among}
@@ -46,7 +45,7 @@ use Rattle.ca_model.specs.machine.Delivery.{arrival_drops, arrival_row, packet_a
 use Rattle.ca_model.specs.machine.Duplicates.{ack_again, ahead_effects, atomic_again, duplicate_effects, read_again, request_row}
 use Rattle.ca_model.specs.machine.Expected.{after_send_packet, after_write_packet, atomic_row, behind_marks, invalidation_of, is_invalid, queue_after_packet, read_queued, receive_asks, receive_failure_effects, receiving_of, revoked_marks, rnr_effects, send_row, takes_receive, valid_row, with_shared_receive, with_window_gone, write_reach, write_row}
 use Rattle.ca_model.specs.machine.Numbering.{Numbered, begun_requests, request_at}
-use Rattle.ca_model.specs.machine.Requester.{begins, denied_list_effects, end_of_packet, is_outstanding, is_too_much, local_denial, local_reads, packet_asks, packet_row, sent_packet}
+use Rattle.ca_model.specs.machine.Requester.{denied_list_effects, is_outstanding, is_too_much, local_denial, local_reads, packet_asks, packet_row, sent_packet}
 use Rattle.ca_model.specs.machine.Respond.{answer_turn, is_last_response, respond_refusals, respond_row, rest_of, with_front, without_front}
 use Rattle.ca_model.specs.machine.Responses.{acknowledge_row, answer_asks, answer_bytes, answer_row, drop_effects, fits_request, fitting_row, is_outstanding_at, local_writes, nak_effects, response_psn, response_row, rnr_nak_effects, unless_back, writes_by}
 use Rattle.ca_model.specs.machine.Row.{Does, Effects, NotPossible, Row, plain_row, queue_and_marks}

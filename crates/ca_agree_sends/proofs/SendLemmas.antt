@@ -1,6 +1,6 @@
 -- What completes the sends of a queue pair in order: the flush of all, a failure, and all that an acknowledgement
 -- finishes. For proofs only.
-use Rattle.std.proofs.Common.{◌≡◌, ℕ, zero, suc, ◌+◌, ◌-◌, ◌<◌, ◌≤◌, ◌==◌, ◌&&◌, ◌||◌, nat_le, nat_lt, Bool, true, false, not, if◌then◌else◌, List, [], ◌∷◌, ◌++◌, length, take, drop, Option, None, Some, slice_get, refl, sym, ap, ap₂, subst, ◌∙◌, arith, true≢false, length-drop}
+use Rattle.std.proofs.Common.{◌≡◌, ℕ, suc, ◌+◌, ◌-◌, ◌≤◌, ◌==◌, ◌&&◌, ◌||◌, nat_le, nat_lt, Bool, true, false, not, if◌then◌else◌, List, [], ◌∷◌, ◌++◌, length, Option, None, Some, slice_get, refl, sym, ap, subst, ◌∙◌, arith, length-drop}
 use Rattle.std.proofs.lemmas.Bool.Decides.{nat_tests}
 use Rattle.std.proofs.lemmas.List.{length-take}
 use Rattle.std.proofs.lemmas.Option.{same_Some}
@@ -9,8 +9,7 @@ use Rattle.std.specs.Option.{option_map_or}
 use Rattle.std.specs.Prelude.{flat_map}
 use Rattle.ca_agree_posts.proofs.GoingLemmas.{numbers-at}
 use Rattle.ca_agree_posts.proofs.GrantLemmas.{both-true}
-use Rattle.ca_agree_sends.proofs.CompleteLemmas.{ByTest, Complete, IsNextSend, complete-append, complete-earlier, none-between}
-use Rattle.ca_agree_sends.specs.Completed.{AreUnsignalled}
+use Rattle.ca_agree_sends.proofs.CompleteLemmas.{Complete, IsNextSend, complete-append, none-between}
 use Rattle.ca_base.specs.Equal.{operation_eq, operation_number, status_eq}
 use Rattle.ca_base.specs.declared.completion.WcStatus.{WcStatus}
 use Rattle.ca_base.specs.declared.completion.WcStatus.TheVariants.{Flushed, Success}
@@ -24,13 +23,12 @@ use Rattle.ca_base.specs.objects.QueuePair.{QueuePair}
 use Rattle.ca_base.specs.objects.WorkQueue.{WorkQueue, item_at, items_from, next_place}
 use Rattle.ca_keys.specs.declared.names.QueueId.{QueueId}
 use Rattle.ca_laws_sound.proofs.NumberingLemmas.{Numbers, all-taken, are-numbers, length-numbers, take-numbers}
-use Rattle.ca_laws_sound.proofs.RequesterLemmas.{finished-count}
 use Rattle.ca_model.specs.Ordered.{is_completion_of}
 use Rattle.ca_model.specs.Past.{Posted}
 use Rattle.ca_model.specs.Requests.{operation_of, psns_of}
 use Rattle.ca_model.specs.declared.mark.Mark.{Mark}
 use Rattle.ca_model.specs.declared.mark.Mark.TheVariants as marks
-use Rattle.ca_model.specs.machine.Acknowledgements.{after_finished, failure_effects, finished_marks, finished_requests, progress_to, with_requester, with_una, without_oldest}
+use Rattle.ca_model.specs.machine.Acknowledgements.{after_finished, failure_effects, finished_marks, finished_requests, progress_to, with_requester, without_oldest}
 use Rattle.ca_model.specs.machine.Completions.{bytes_of_success, failure_mark, flush_marks, flushed_message, flushed_receives, flushed_sends, send_completion, success_marks}
 use Rattle.ca_model.specs.machine.Numbering.{Numbered, begun_requests, numbers_of, psn_end, unfinished_requests}
 use Rattle.ca_model.specs.machine.Row.{Effects, queue_and_marks}

@@ -1,5 +1,5 @@
 -- Turns and packets complete sends in order, and keep the agreement on those that completed. For proofs only.
-use Rattle.std.proofs.Common.{◌≡◌, ℕ, suc, ◌+◌, ◌<◌, ◌≤◌, ◌==◌, ◌&&◌, Bool, true, false, if◌then◌else◌, List, [], ◌∷◌, ◌++◌, Option, None, Some, refl, sym, ap, subst, ◌∙◌, arith, rules}
+use Rattle.std.proofs.Common.{◌≡◌, ℕ, suc, ◌<◌, ◌&&◌, Bool, true, false, if◌then◌else◌, List, [], ◌∷◌, ◌++◌, Option, None, Some, refl, sym, ap, subst, ◌∙◌, arith, rules}
 use Rattle.std.specs.Option.{option_map, option_map_or}
 use Rattle.ca_agree.proofs.LeadsLemmas.{AreAside, IsAsideName, leads-around, leads-queue, leads-row, leads-unless}
 use Rattle.ca_agree.proofs.PathLemmas.{puts-append}
@@ -8,7 +8,7 @@ use Rattle.ca_agree_keys.proofs.KeyTurnLemmas.{found}
 use Rattle.ca_agree_posts.proofs.PlaceLemmas.{IsPerformed, IsPostedAt, item-posted, performs}
 use Rattle.ca_agree_posts.proofs.PostTurnLemmas.{AreDrawn, IsDrawn, IsPosted, any-such, leads-perform}
 use Rattle.ca_agree_posts.specs.Posts.{AgreeInSlot, AgreeOnSends, life}
-use Rattle.ca_agree_sends.proofs.CompleteLemmas.{Complete, complete-append, none-between, turned}
+use Rattle.ca_agree_sends.proofs.CompleteLemmas.{Complete, complete-append, turned}
 use Rattle.ca_agree_sends.proofs.RowLemmas.{TellOfNone, arrival-completes, none-told, respond-completes, sent-completes, timeout-completes, wake-completes}
 use Rattle.ca_agree_sends.proofs.SendLemmas.{CompletesOf, IsReadyQueue, IsRequestAt, failure-completes, success-complete}
 use Rattle.ca_agree_sends.specs.Completed.{AgreeOnCompleted, CompletedAgree, CompletedInSlot, StandBefore}
@@ -154,7 +154,7 @@ sent-away q peer m lot (Some x) = by (reaches_peer q peer m)
 -- ---- a queue pair whose sends complete
 
 -- the queue pairs behind the change of one
-queues-left : (w : World) (name : QueueId) (s : QueueSlot) (pre us : List Update) (ws : List Write) → AreAway pre → AreAway us
+pub queues-left : (w : World) (name : QueueId) (s : QueueSlot) (pre us : List Update) (ws : List Write) → AreAway pre → AreAway us
     → (write_all ws (put_all (pre ++ (Queue_of name := s) ∷ us) w)).queue ≡ with_at queue_eq w.queue name s
 queues-left w name s pre us ws before behind = writes-away ws _ ∙ ap (λ (v : World). v.queue) (puts-append pre ((Queue_of name := s) ∷ us) w)
     ∙ puts-away us (put (put_all pre w) (Queue_of name) s) behind ∙ ap (λ f. with_at queue_eq f name s) (puts-away pre w before)
