@@ -1,14 +1,15 @@
 -- Marks that complete the sends of one queue pair in order pass the test, and keep the agreement on the sends that
 -- completed. For proofs only.
-use Rattle.std.proofs.Common.{◌≡◌, ℕ, zero, suc, ◌-◌, ◌<◌, ◌≤◌, ◌&&◌, nat_le, nat_lt, Bool, true, false, not, if◌then◌else◌, List, [], ◌∷◌, ◌++◌, take, drop, None, Some, slice_get, refl, sym, ap, subst, ◌∙◌, arith}
+use Rattle.std.proofs.Common.{◌≡◌, ℕ, zero, suc, ◌-◌, ◌<◌, ◌≤◌, ◌&&◌, nat_le, nat_lt, Bool, true, false, not, if◌then◌else◌, List, [], ◌∷◌, ◌++◌, take, drop, None, Some, is_some, slice_get, refl, sym, ap, subst, ◌∙◌, arith, true≢false}
 use Rattle.std.proofs.lemmas.Bool.Decides.{nat_tests}
-use Rattle.std.proofs.lemmas.Bool.{ltb-true, ltb-false}
+use Rattle.std.proofs.lemmas.Bool.{and_parts, ltb-false, ltb-true, not-true}
+use Rattle.std.proofs.lemmas.Option.{same_Some}
 use Rattle.std.specs.List.{list_all}
 use Rattle.std.specs.Option.{option_map_or}
 use Rattle.ca_agree_posts.proofs.GrantLemmas.{both-true}
 use Rattle.ca_agree_posts.proofs.PostTurnLemmas.{later-life, life-refl, other-life}
 use Rattle.ca_agree_posts.specs.Posts.{life}
-use Rattle.ca_agree_sends.specs.Completed.{AgreeOnCompleted, AreUnsignalled, CompletedInSlot, StandBefore}
+use Rattle.ca_agree_sends.specs.Completed.{AgreeOnCompleted, CompletedInSlot, StandBefore}
 use Rattle.ca_agree_sends.specs.InOrder.{completes_in_order}
 use Rattle.ca_base.specs.declared.completion.Completion.{Completion}
 use Rattle.ca_base.specs.declared.correspondent.Correspondent.{Correspondent}
@@ -20,6 +21,45 @@ use Rattle.ca_model.specs.Ordered.{are_unsignalled, is_completion_of, is_send_in
 use Rattle.ca_model.specs.Past.{Past, Posted, after_mark, after_marks, correspondent_eq, each_mark, present_incarnation, with_at}
 use Rattle.ca_model.specs.declared.mark.Mark.{Mark}
 use Rattle.ca_model.specs.declared.mark.Mark.TheVariants as marks
+
+-- ---- requests of which none is signalled
+
+-- no posted request from one place on and before another is signalled, place by place
+abbrev pub AreUnsignalled : List Posted → ℕ → ℕ → Type 0
+AreUnsignalled ps from to = (place : ℕ) (p : Posted) → from ≤ place → place < to → slice_get ps place ≡ Some p → p.request.signalled ≡ false
+
+-- where that is so, the test of Ordered holds
+unsignalled-test : (ps : List Posted) (n : ℕ) → ((place : ℕ) (p : Posted) → place < n → slice_get ps place ≡ Some p → p.request.signalled ≡ false) → list_all (λ p. not p.request.signalled) (take n ps) ≡ true
+unsignalled-test ps zero all = refl
+unsignalled-test [] (suc n) all = refl
+unsignalled-test (p ∷ ps) (suc n) all = both-true (not p.request.signalled) _ (ap not (all 0 p (omega arith) refl)) (unsignalled-test ps n (λ place q less is. all (suc place) q (omega (arith, less)) is))
+
+pub between-test : (ps : List Posted) (from to : ℕ) → AreUnsignalled ps from to → are_unsignalled ps from to ≡ true
+between-test ps zero to none = unsignalled-test ps (to - 0) (λ place p less is. none place p (omega arith) (omega (arith, less)) is)
+between-test [] (suc from) to none = empty (to - suc from)
+  where
+    empty : (n : ℕ) → list_all (λ (p : Posted). not p.request.signalled) (take n []) ≡ true
+    empty zero = refl
+    empty (suc n) = refl
+between-test (q ∷ ps) (suc from) zero none = ap (λ n. list_all (λ (p : Posted). not p.request.signalled) (take n (drop from ps))) {x = 0 - suc from} {y = 0} (omega arith)
+between-test (q ∷ ps) (suc from) (suc to) none = ap (λ n. list_all (λ (p : Posted). not p.request.signalled) (take n (drop from ps))) {x = suc to - suc from} {y = to - from} (omega arith)
+    ∙ between-test ps from to (λ place p low high is. none (suc place) p (omega (arith, low)) (omega (arith, high)) is)
+
+-- and the other way: what the test says of each place
+none-signalled : (ps : List Posted) (n place : ℕ) (p : Posted) → list_all (λ p. not p.request.signalled) (take n ps) ≡ true → place < n → slice_get ps place ≡ Some p → p.request.signalled ≡ false
+none-signalled ps zero place p none less is = absurd (omega (arith, less))
+none-signalled [] (suc n) place p none less is = absurd (true≢false (sym (ap is_some is)))
+none-signalled (q ∷ ps) (suc n) zero p none less is =
+    ap (λ (y : Posted). y.request.signalled) (sym (same_Some q p is)) ∙ not-true q.request.signalled (and_parts (not q.request.signalled) _ none).0
+none-signalled (q ∷ ps) (suc n) (suc place) p none less is = none-signalled ps n place p (and_parts (not q.request.signalled) _ none).1 (omega (arith, less)) is
+
+pub test-between : (ps : List Posted) (from to : ℕ) → are_unsignalled ps from to ≡ true → AreUnsignalled ps from to
+test-between ps zero to none place p low high is = none-signalled ps (to - 0) place p none (omega (arith, high)) is
+test-between [] (suc from) to none place p low high is = absurd (true≢false (sym (ap is_some is)))
+test-between (q ∷ ps) (suc from) to none zero p low high is = absurd (omega (arith, low))
+test-between (q ∷ ps) (suc from) zero none (suc place) p low high is = absurd (omega (arith, high))
+test-between (q ∷ ps) (suc from) (suc to) none (suc place) p low high is = test-between ps from to
+    (ap (λ n. list_all (λ (p : Posted). not p.request.signalled) (take n (drop from ps))) {x = to - from} {y = suc to - suc from} (omega arith) ∙ none) place p (omega (arith, low)) (omega (arith, high)) is
 
 -- ---- marks
 
@@ -100,23 +140,6 @@ complete-append name ps a (marks.Timer queue silent ∷ ms) b ns c one other = c
 
 -- ---- the test
 
--- requests of which none is signalled
-unsignalled-test : (ps : List Posted) (n : ℕ) → ((place : ℕ) (p : Posted) → place < n → slice_get ps place ≡ Some p → p.request.signalled ≡ false) → list_all (λ p. not p.request.signalled) (take n ps) ≡ true
-unsignalled-test ps zero all = refl
-unsignalled-test [] (suc n) all = refl
-unsignalled-test (p ∷ ps) (suc n) all = both-true (not p.request.signalled) _ (ap not (all 0 p (omega arith) refl)) (unsignalled-test ps n (λ place q less is. all (suc place) q (omega (arith, less)) is))
-
-pub between-test : (ps : List Posted) (from to : ℕ) → AreUnsignalled ps from to → are_unsignalled ps from to ≡ true
-between-test ps zero to none = unsignalled-test ps (to - 0) (λ place p less is. none place p (omega arith) (omega (arith, less)) is)
-between-test [] (suc from) to none = empty (to - suc from)
-  where
-    empty : (n : ℕ) → list_all (λ (p : Posted). not p.request.signalled) (take n []) ≡ true
-    empty zero = refl
-    empty (suc n) = refl
-between-test (q ∷ ps) (suc from) zero none = ap (λ n. list_all (λ (p : Posted). not p.request.signalled) (take n (drop from ps))) {x = 0 - suc from} {y = 0} (omega arith)
-between-test (q ∷ ps) (suc from) (suc to) none = ap (λ n. list_all (λ (p : Posted). not p.request.signalled) (take n (drop from ps))) {x = suc to - suc from} {y = to - from} (omega arith)
-    ∙ between-test ps from to (λ place p low high is. none (suc place) p (omega (arith, low)) (omega (arith, high)) is)
-
 -- what such marks leave of a past: they pass, and the latest send that completed in this life is one of them
 pub record HaveCompleted (name : QueueId) (ps : List Posted) (to : ℕ) (p : Past) (ms : List Mark) : Type 0 where
   pub passed : each_mark completes_in_order p ms ≡ true
@@ -180,7 +203,7 @@ have-completed name ps from [] to p posted last all = record {
   passed = refl;
   incarnation = refl;
   posted = refl;
-  own = record { before = omega (arith, last, all.0); between = subst (λ n. AreUnsignalled ps n to) (sym last) all.1 };
+  own = record { before = omega (arith, last, all.0); between = ap (λ n. are_unsignalled ps n to) last ∙ between-test ps from to all.1 };
   others = λ l other. refl;
 }
 have-completed name ps from (marks.Verb by verb answer ∷ ms) to p posted last all = absurd all
@@ -248,7 +271,7 @@ turned p f name from q ms others later own all = (
 
     done : HaveCompleted name ps q.requester.oldest p ms
     done = have-completed name ps (place_behind (p.last_send (present_incarnation p name))) ms q.requester.oldest p refl refl
-        (complete-earlier name ps (place_behind (p.last_send (present_incarnation p name))) from ms q.requester.oldest own.before own.between all)
+        (complete-earlier name ps (place_behind (p.last_send (present_incarnation p name))) from ms q.requester.oldest own.before (test-between ps _ from own.between) all)
 
     at : (n : QueueId) (b : Bool) → queue_eq name n ≡ b → CompletedInSlot (p.posted (life n (p.incarnation n))) (r.last_send (life n (p.incarnation n))) (if b then Present q else f n)
     at n true e = subst (λ m. StandBefore (p.posted (life m (p.incarnation m))) (r.last_send (life m (p.incarnation m))) q.requester.oldest) (queue-path name n e) done.own

@@ -12,11 +12,11 @@ use Rattle.ca_agree.specs.Runs.{Leads}
 use Rattle.ca_agree_keys.proofs.KeyTurnLemmas.{found}
 use Rattle.ca_agree_posts.proofs.PostTurnLemmas.{life-refl, other-life}
 use Rattle.ca_agree_posts.specs.Posts.{AgreeInSlot, life}
-use Rattle.ca_agree_sends.proofs.CompleteLemmas.{Complete, none-between}
+use Rattle.ca_agree_sends.proofs.CompleteLemmas.{Complete, between-test, none-between, test-between}
 use Rattle.ca_agree_sends.proofs.SendLemmas.{IsReadyQueue, IsRequestAt, flush-complete}
 use Rattle.ca_agree_sends.proofs.TurnLemmas.{AreAway, IsMet, Sends_of, order-arrive, order-left, order-turn, ready-there}
 use Rattle.ca_agree_sends.proofs.VerbLemmas.{AreKept, IsKept, OrderingBy, order-kept}
-use Rattle.ca_agree_sends.specs.Completed.{AreUnsignalled, CompletedAgree, CompletedInSlot, StandBefore}
+use Rattle.ca_agree_sends.specs.Completed.{CompletedAgree, CompletedInSlot, StandBefore}
 use Rattle.ca_base.specs.Configuration.{Configuration}
 use Rattle.ca_base.specs.declared.change.Field.TheVariants as fields
 use Rattle.ca_base.specs.declared.change.State.TheVariants as states
@@ -41,7 +41,7 @@ use Rattle.ca_keys.specs.declared.grant.Grant.{Grant}
 use Rattle.ca_keys.specs.declared.names.QueueId.{QueueId}
 use Rattle.ca_keys.specs.declared.names.Slot.{Slot}
 use Rattle.ca_laws_sound.proofs.WorldLemmas.{IsThere}
-use Rattle.ca_model.specs.Ordered.{place_behind}
+use Rattle.ca_model.specs.Ordered.{are_unsignalled, place_behind}
 use Rattle.ca_model.specs.Past.{Past, Posted, correspondent_eq, drawn_at, present_incarnation, with_at}
 use Rattle.ca_model.specs.declared.answer.Answer.{Answer}
 use Rattle.ca_model.specs.declared.answer.Answer.TheVariants as answers
@@ -65,6 +65,7 @@ use Rattle.ca_model.specs.machine.World.{Cq_of, Domain_of, Queue_of, Region_of, 
 
 -- ---- a send request is posted
 
+-- an element of a list and one more is one of the list, or the one
 at-end : {A P : Type 0} (xs : List A) (y : A) (i : ℕ) (z : A) → slice_get (xs ++ (y ∷ [])) i ≡ Some z → (slice_get xs i ≡ Some z → P) → (i ≡ length xs → y ≡ z → P) → P
 at-end [] y zero z is one other = other refl (same_Some y z is)
 at-end [] y (suc i) z is one other = absurd (true≢false (sym (ap is_some is)))
@@ -97,8 +98,9 @@ more-sends ps x y sends same count has place z = by (nat_lt place sends.first) r
         before : IsRequestAt ps place z.request → IsRequestAt (ps ++ (x ∷ [])) place z.request
         before at = record { posted = at.posted; is = get-within ps (x ∷ []) place (slice_get_within ps place at.posted at.is) ∙ at.is; same = at.same }
 
-more-between : (ps : List Posted) (x : Posted) (from to : ℕ) → to ≤ length ps → AreUnsignalled ps from to → AreUnsignalled (ps ++ (x ∷ [])) from to
-more-between ps x from to few none place p low high is = none place p low high (sym (get-within ps (x ∷ []) place (omega (arith, few, high))) ∙ is)
+more-between : (ps : List Posted) (x : Posted) (from to : ℕ) → to ≤ length ps → are_unsignalled ps from to ≡ true → are_unsignalled (ps ++ (x ∷ [])) from to ≡ true
+more-between ps x from to few none = between-test (ps ++ (x ∷ [])) from to
+    (λ place p low high is. test-between ps from to none place p low high (sym (get-within ps (x ∷ []) place (omega (arith, few, high))) ∙ is))
 
 -- a queue pair in Error flushes what is posted at once
 flush-completes : (ps : List Posted) (q : QueuePair) → IsReadyQueue ps q → Complete q.queue ps q.requester.oldest (marks_of_flush q) (after_flush q).requester.oldest

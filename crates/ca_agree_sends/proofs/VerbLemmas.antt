@@ -103,7 +103,7 @@ new-life past w name p pre us agree fresh before behind = subst (AgreeOnComplete
     ours n true e = subst (λ m. StandBefore (past.posted (life m (suc (past.incarnation name)))) (past.last_send (life m (suc (past.incarnation name)))) p.requester.oldest) (queue-path name n e)
         (subst (λ o. StandBefore (past.posted (life name (suc (past.incarnation name)))) o p.requester.oldest) (sym none)
         (subst (StandBefore (past.posted (life name (suc (past.incarnation name)))) None) (sym fresh)
-        (record { before = omega arith; between = none-between (past.posted (life name (suc (past.incarnation name)))) 0 })))
+        (record { before = omega arith; between = refl })))
     ours n false e = agree.sends n
 
     less : (n : QueueId) (i : ℕ) (b : Bool) → queue_eq name n ≡ b → (if b then suc (past.incarnation name) else past.incarnation n) < i → past.incarnation n < i

@@ -1,23 +1,18 @@
 -- What the past of a history and the world of the machine say alike of the sends that completed: they stand before all
 -- that are unfinished. Laws cite it.
-use Rattle.std.specs.Prelude.{◌≡◌, ℕ, ◌≤◌, ◌<◌, false, List, Option, None, Some, slice_get}
+use Rattle.std.specs.Prelude.{◌≡◌, ℕ, ◌≤◌, ◌<◌, true, List, Option, None}
 use Rattle.ca_agree_posts.specs.Posts.{life}
 use Rattle.ca_base.specs.declared.correspondent.Correspondent.{Correspondent}
 use Rattle.ca_base.specs.objects.QueuePair.{QueueSlot, NoQueue, Present}
 use Rattle.ca_keys.specs.declared.names.QueueId.{QueueId}
-use Rattle.ca_model.specs.Ordered.{place_behind}
+use Rattle.ca_model.specs.Ordered.{are_unsignalled, place_behind}
 use Rattle.ca_model.specs.Past.{Past, Posted}
 use Rattle.ca_model.specs.machine.World.{World}
-
--- no posted request from one place on and before another is signalled
-abbrev pub AreUnsignalled : List Posted → ℕ → ℕ → Type 0
-AreUnsignalled posted from to =
-    (place : ℕ) (p : Posted) → from ≤ place → place < to → slice_get posted place ≡ Some p → p.request.signalled ≡ false
 
 -- The latest send that completed stands before the oldest that is unfinished, and none between the two is signalled.
 pub record StandBefore (posted : List Posted) (last : Option ℕ) (oldest : ℕ) : Type 0 where
   pub before : place_behind last ≤ oldest
-  pub between : AreUnsignalled posted (place_behind last) oldest
+  pub between : are_unsignalled posted (place_behind last) oldest ≡ true
 
 -- the same of what stands in a slot
 abbrev pub CompletedInSlot : List Posted → Option ℕ → QueueSlot → Type 0
