@@ -4,6 +4,7 @@ pub mod StepLemmas
 pub mod OperationLemmas
 pub mod TurnLemmas
 pub mod PostingLemmas
+pub mod PlanLemmas
 pub mod WaitLemmas
 pub mod PollVerbLemmas
 pub mod PollEventLemmas

@@ -1,15 +1,16 @@
 -- Verbs on completion queues and on queue pairs keep the agreement on completions that wait, and a poll gives the front of
 -- them. For proofs only.
-use Rattle.std.proofs.Common.{◌≡◌, ℕ, suc, ◌-◌, ◌≤◌, ◌<◌, ◌==◌, ◌&&◌, ◌||◌, nat_lt, not, is_none, Bool, true, false, if◌then◌else◌, List, [], ◌∷◌, filter, length, take, drop, Option, None, Some, IfSome, refl, sym, ap, subst, ◌∙◌, arith, true≢false}
+use Rattle.std.proofs.Common.{◌≡◌, ℕ, suc, ◌-◌, ◌≤◌, ◌<◌, ◌==◌, ◌&&◌, nat_lt, not, Bool, true, false, if◌then◌else◌, List, [], ◌∷◌, filter, length, take, drop, Option, None, Some, IfSome, refl, sym, ap, subst, ◌∙◌, arith, true≢false}
 use Rattle.std.proofs.lemmas.Bool.{eq-eqb, eqb-true}
 use Rattle.std.proofs.lemmas.List.{length-take, take_min}
 use Rattle.std.specs.Cmp.Lexicographic.{pointwise}
 use Rattle.std.specs.List.{AllByRecursion}
-use Rattle.std.specs.Option.{option_and_then, option_eq, option_map}
+use Rattle.std.specs.Option.{option_eq, option_map}
 use Rattle.ca_agree.proofs.LeadsLemmas.{leads-around, leads-weaker}
 use Rattle.ca_agree.proofs.PathVerbLemmas.{call_of}
 use Rattle.ca_agree.specs.Runs.{Leads}
 use Rattle.ca_agree_polls.proofs.FlushedLemmas.{contra}
+use Rattle.ca_agree_polls.proofs.PlanLemmas.{AreFreed, IsFreed, created, leads-create, leads-poll}
 use Rattle.ca_agree_polls.proofs.PostingLemmas.{leads-dealloc, leads-modify, leads-post_recv, leads-post_send, leads-present}
 use Rattle.ca_agree_polls.proofs.SideLemmas.{filter-whole}
 use Rattle.ca_agree_polls.proofs.TurnLemmas.{IsTurn, leads-tests, turns-arrive}
@@ -21,14 +22,13 @@ use Rattle.ca_base.specs.declared.change.Change as state_change
 use Rattle.ca_base.specs.declared.change.Change.TheVariants as changes
 use Rattle.ca_base.specs.declared.change.Field.TheVariants as fields
 use Rattle.ca_base.specs.declared.completion.Completion.{Completion}
-use Rattle.ca_base.specs.declared.limits.TheConstants.{MAX_PIECES, MAX_POLLED}
+use Rattle.ca_base.specs.declared.limits.TheConstants.{MAX_PIECES}
 use Rattle.ca_base.specs.declared.request.RecvRequest.{RecvRequest}
 use Rattle.ca_base.specs.declared.request.SendRequest.{SendRequest}
-use Rattle.ca_base.specs.declared.step.Reason.TheVariants as reasons
 use Rattle.ca_base.specs.objects.CompletionQueue.{CompletionQueue, after_polls, after_reserve, empty_cq, without_completions}
-use Rattle.ca_base.specs.objects.Domain.{Domain, with_object, without_object}
-use Rattle.ca_base.specs.objects.Mailbox.{Mailbox, with_peer}
-use Rattle.ca_base.specs.objects.QueuePair.{QueuePair, QueueSlot, NoQueue, Present, is_present, recv_cq_of, send_cq_of, srq_of}
+use Rattle.ca_base.specs.objects.Domain.{with_object, without_object}
+use Rattle.ca_base.specs.objects.Mailbox.{with_peer}
+use Rattle.ca_base.specs.objects.QueuePair.{QueuePair, QueueSlot, NoQueue, Present, recv_cq_of, send_cq_of, srq_of}
 use Rattle.ca_base.specs.objects.SharedReceives.{SharedReceives, SrqSlot, after_receives_retire}
 use Rattle.ca_base.specs.objects.StateTable.{is_reset, queue_after_change}
 use Rattle.ca_base.specs.objects.WorkQueue.{WorkQueue, after_retire, next_place}
@@ -45,20 +45,20 @@ use Rattle.ca_model.specs.Past.{Past, after_change, at_begin, with_at}
 use Rattle.ca_model.specs.Requests.{list_of}
 use Rattle.ca_model.specs.declared.answer.Answer.TheVariants as answers
 use Rattle.ca_model.specs.declared.answer.Refusal.{Refusal}
-use Rattle.ca_model.specs.declared.answer.Refusal.TheVariants.{CqInUse, CqTooSmall, NoDomain, NoSuch, OutOfRange, SlotTaken, WindowsBound}
+use Rattle.ca_model.specs.declared.answer.Refusal.TheVariants.{CqInUse, NoDomain, NoSuch, OutOfRange, SlotTaken, WindowsBound}
 use Rattle.ca_model.specs.declared.event.Event.TheVariants as events
 use Rattle.ca_model.specs.declared.mark.Mark.{Mark}
 use Rattle.ca_model.specs.declared.mark.Mark.TheVariants as marks
 use Rattle.ca_model.specs.declared.verb.Verb.{Verb}
 use Rattle.ca_model.specs.declared.verb.Verb.TheVariants as verbs
 use Rattle.ca_model.specs.machine.Around.{Around}
-use Rattle.ca_model.specs.machine.CompletionVerbs.{Poll_of, Take_plan, With_place, With_places, after_poll, create_cq_plan, destroy_cq_plan, poll_plan, receives_after_poll, slot_after_poll, source_of_completion}
+use Rattle.ca_model.specs.machine.CompletionVerbs.{after_poll, create_cq_plan, destroy_cq_plan, poll_plan, slot_after_poll}
 use Rattle.ca_model.specs.machine.Delivery.{Arrive}
 use Rattle.ca_model.specs.machine.HostVerbs.{inject_plan}
 use Rattle.ca_model.specs.machine.Invariants.{IsQueue}
-use Rattle.ca_model.specs.machine.Plan.{Plan, If, Look, Stuck, Update, ◌:=◌, put_all}
+use Rattle.ca_model.specs.machine.Plan.{Plan, Update, ◌:=◌, put_all}
 use Rattle.ca_model.specs.machine.PostingVerbs.{post_recv_plan, post_send_plan}
-use Rattle.ca_model.specs.machine.QueuePairVerbs.{Creation, With_shared, before_receives, beside, create_qp_plan, destroy_qp_plan, emptied_mailbox, emptied_updates, has_bad_depth, has_no_room, has_queues, left_updates, modify_qp_plan, new_queue, places_held, receive_reserve, receive_room, send_reserved, user_updates, without_queue}
+use Rattle.ca_model.specs.machine.QueuePairVerbs.{Creation, before_receives, beside, create_qp_plan, destroy_qp_plan, emptied_mailbox, emptied_updates, left_updates, modify_qp_plan, new_queue, places_held, receive_reserve, receive_room, send_reserved, without_queue}
 use Rattle.ca_model.specs.machine.Sound.{IsFinished, IsQueueOf, IsSettled, IsSoundWorld, side_of}
 use Rattle.ca_model.specs.machine.VerbAnswers.{Answer_plan, Call, Refuse_plan, Unless_plan, answer_mark}
 use Rattle.ca_model.specs.machine.WindowVerbs.{dealloc_mw_plan}
@@ -110,17 +110,11 @@ polls-destroy_cq past w by s agree = (λ is. refused NoSuch, λ there. (λ is. r
 
 -- ---- a queue pair is made
 
-made-polls : (past : Past) (w : World) (by : ℕ) (x : Creation) (domain : Domain) (m : Mailbox) (send recv : CompletionQueue) (slot : Option SrqSlot) (shared : Option SharedReceives) (number : ℕ) → PollsAgree past w
+made-polls : (past : Past) (w : World) (by : ℕ) (x : Creation) (send recv : CompletionQueue) (shared : Option SharedReceives) → PollsAgree past w
     → w.cq (beside x.slot x.send_cq) ≡ Some send → w.cq (beside x.slot x.recv_cq) ≡ Some recv
-    → PollsBy past by (verbs.CreateQp x.slot x.send_cq x.recv_cq x.send_depth x.recv_depth x.srq)
-    (put_all ((Domain_of x.slot.domain := domain)
-    ∷ (Queue_of (queue_of x.slot) := Present (new_queue x (w.queue (queue_of x.slot))))
-    ∷ (Mailbox_of (queue_of x.slot) := m)
-    ∷ (Cq_of (beside x.slot x.send_cq) := Some (send_reserved x send))
-    ∷ (Cq_of (beside x.slot x.recv_cq) := Some (after_reserve (receive_reserve x) (receive_room x shared) (before_receives x send recv)))
-    ∷ user_updates x slot) w)
-    (answer_mark (call_of by (verbs.CreateQp x.slot x.send_cq x.recv_cq x.send_depth x.recv_depth x.srq)) (answers.Queue number (new_queue x (w.queue (queue_of x.slot))).incarnation) ∷ [])
-made-polls past w by x domain m send recv slot shared number agree sends receives = users x.srq slot
+    → PollsBy past by (verbs.CreateQp x.slot x.send_cq x.recv_cq x.send_depth x.recv_depth x.srq) (put_all (created w x send recv shared) w)
+    (answer_mark (call_of by (verbs.CreateQp x.slot x.send_cq x.recv_cq x.send_depth x.recv_depth x.srq)) (answers.Queue (queue_of x.slot).number (new_queue x (w.queue (queue_of x.slot))).incarnation) ∷ [])
+made-polls past w by x send recv shared agree sends receives = users x.srq
   where
     place : QueueId
     place = queue_of x.slot
@@ -135,7 +129,7 @@ made-polls past w by x domain m send recv slot shared number agree sends receive
     s2 = beside x.slot x.recv_cq
 
     v : World
-    v = put_all ((Domain_of x.slot.domain := domain) ∷ (Queue_of place := Present q) ∷ (Mailbox_of place := m) ∷ (Cq_of s1 := Some (send_reserved x send))
+    v = put_all ((Domain_of x.slot.domain := with_object (w.domain x.slot.domain)) ∷ (Queue_of place := Present q) ∷ (Mailbox_of place := with_peer q.incarnation None (w.mailbox place)) ∷ (Cq_of s1 := Some (send_reserved x send))
         ∷ (Cq_of s2 := Some (after_reserve (receive_reserve x) (receive_room x shared) (before_receives x send recv))) ∷ []) w
 
     updates : Option ℕ → Option SrqSlot → List Update
@@ -165,7 +159,7 @@ made-polls past w by x domain m send recv slot shared number agree sends receive
 
     more : (us : List Update) → (put_all us v).queue ≡ v.queue → (put_all us v).cq ≡ v.cq
         → PollsBy past by (verbs.CreateQp x.slot x.send_cq x.recv_cq x.send_depth x.recv_depth x.srq) (put_all us v)
-        (answer_mark (call_of by (verbs.CreateQp x.slot x.send_cq x.recv_cq x.send_depth x.recv_depth x.srq)) (answers.Queue number q.incarnation) ∷ [])
+        (answer_mark (call_of by (verbs.CreateQp x.slot x.send_cq x.recv_cq x.send_depth x.recv_depth x.srq)) (answers.Queue place.number q.incarnation) ∷ [])
     more us queue cq = record {
       agree = record {
         sides = λ n. subst (λ f. HasSides (with_at queue_eq past.cqs place (Some (sides_of q)) n) (f n)) (sym queue) (sided n (queue_eq place n));
@@ -175,76 +169,17 @@ made-polls past w by x domain m send recv slot shared number agree sends receive
       right = refl;
     }
 
-    users : (o : Option ℕ) (t : Option SrqSlot) → PollsBy past by (verbs.CreateQp x.slot x.send_cq x.recv_cq x.send_depth x.recv_depth x.srq) (put_all (updates o t) v)
-        (answer_mark (call_of by (verbs.CreateQp x.slot x.send_cq x.recv_cq x.send_depth x.recv_depth x.srq)) (answers.Queue number q.incarnation) ∷ [])
-    users None t = more [] refl refl
-    users (Some srq) None = more [] refl refl
-    users (Some srq) (Some slot) = more (updates (Some srq) (Some slot)) refl refl
+    users : (o : Option ℕ) → PollsBy past by (verbs.CreateQp x.slot x.send_cq x.recv_cq x.send_depth x.recv_depth x.srq) (put_all (updates o (option_map (λ srq. w.srq (beside x.slot srq)) o)) v)
+        (answer_mark (call_of by (verbs.CreateQp x.slot x.send_cq x.recv_cq x.send_depth x.recv_depth x.srq)) (answers.Queue place.number q.incarnation) ∷ [])
+    users None = more [] refl refl
+    users (Some srq) = more (updates (Some srq) (Some (w.srq (beside x.slot srq)))) refl refl
 
 pub polls-create : (c : Configuration) (past : Past) (w : World) (by : ℕ) (x : Creation) → PollsAgree past w
     → Leads w (PollsBy past by (verbs.CreateQp x.slot x.send_cq x.recv_cq x.send_depth x.recv_depth x.srq))
     (create_qp_plan c (call_of by (verbs.CreateQp x.slot x.send_cq x.recv_cq x.send_depth x.recv_depth x.srq)) x)
-polls-create c past w by x agree =
-    leads-tests w P ((not (w.domain x.slot.domain).allocated, NoDomain) ∷ (is_present (w.queue place), SlotTaken) ∷ []) (Refuse_plan call)
-    (If (has_queues c x) (Look (Cq_of (beside x.slot x.send_cq)) (λ send. Look (Cq_of (beside x.slot x.recv_cq)) (λ recv.
-    With_shared x (λ shared. there send recv shared (option_and_then (λ s. s.srq) shared))))) (Refuse_plan call NoSuch)) refused
-    (λ fails. (λ has. sharing x.srq, λ none. refused NoSuch))
-  where
-    call : Call
-    call = call_of by (verbs.CreateQp x.slot x.send_cq x.recv_cq x.send_depth x.recv_depth x.srq)
-
-    P : World → List Mark → Type 0
-    P = PollsBy past by (verbs.CreateQp x.slot x.send_cq x.recv_cq x.send_depth x.recv_depth x.srq)
-
-    place : QueueId
-    place = queue_of x.slot
-
-    q : QueuePair
-    q = new_queue x (w.queue place)
-
-    refused : (r : Refusal) → P w (answer_mark call (answers.Refused r) ∷ [])
-    refused r = record { agree = agree; right = refl }
-
-    made : CompletionQueue → CompletionQueue → Option SrqSlot → Option SharedReceives → Plan
-    made send recv slot shared = Answer_plan call (answers.Queue place.number q.incarnation)
-        ((Domain_of x.slot.domain := with_object (w.domain x.slot.domain))
-        ∷ (Queue_of place := Present q)
-        ∷ (Mailbox_of place := with_peer q.incarnation None (w.mailbox place))
-        ∷ (Cq_of (beside x.slot x.send_cq) := Some (send_reserved x send))
-        ∷ (Cq_of (beside x.slot x.recv_cq) := Some (after_reserve (receive_reserve x) (receive_room x shared) (before_receives x send recv)))
-        ∷ user_updates x slot)
-        []
-
-    sized : CompletionQueue → CompletionQueue → Option SrqSlot → Option SharedReceives → Plan
-    sized send recv slot shared =
-        Unless_plan call ((has_bad_depth x, OutOfRange fields.Depth) ∷ (has_no_room x shared send recv, CqTooSmall) ∷ []) (made send recv slot shared)
-
-    there : Option CompletionQueue → Option CompletionQueue → Option SrqSlot → Option SharedReceives → Plan
-    there (Some send) (Some recv) slot shared = If (is_none shared && not (is_none x.srq)) (Refuse_plan call NoSuch) (sized send recv slot shared)
-    there send recv slot shared = Refuse_plan call NoSuch
-
-    found-both : (send recv : CompletionQueue) (slot : Option SrqSlot) (shared : Option SharedReceives) → w.cq (beside x.slot x.send_cq) ≡ Some send → w.cq (beside x.slot x.recv_cq) ≡ Some recv
-        → Leads w P (there (Some send) (Some recv) slot shared)
-    found-both send recv slot shared sends receives = (
-      λ missing. refused NoSuch,
-      λ there. leads-tests w P ((has_bad_depth x, OutOfRange fields.Depth) ∷ (has_no_room x shared send recv, CqTooSmall) ∷ []) (Refuse_plan call)
-          (made send recv slot shared) refused (λ fails.
-          made-polls past w by x (with_object (w.domain x.slot.domain)) (with_peer q.incarnation None (w.mailbox place)) send recv slot shared place.number agree sends receives),
-    )
-
-    both : (send recv : Option CompletionQueue) (slot : Option SrqSlot) (shared : Option SharedReceives) → w.cq (beside x.slot x.send_cq) ≡ send → w.cq (beside x.slot x.recv_cq) ≡ recv
-        → Leads w P (there send recv slot shared)
-    both None recv slot shared sends receives = refused NoSuch
-    both (Some send) None slot shared sends receives = refused NoSuch
-    both (Some send) (Some recv) slot shared sends receives = found-both send recv slot shared sends receives
-
-    looking : Option ℕ → Plan
-    looking None = there (w.cq (beside x.slot x.send_cq)) (w.cq (beside x.slot x.recv_cq)) None None
-    looking (Some srq) = Look (Srq_of (beside x.slot srq)) (λ slot. there (w.cq (beside x.slot x.send_cq)) (w.cq (beside x.slot x.recv_cq)) (Some slot) slot.srq)
-
-    sharing : (o : Option ℕ) → Leads w P (looking o)
-    sharing None = both (w.cq (beside x.slot x.send_cq)) (w.cq (beside x.slot x.recv_cq)) None None refl refl
-    sharing (Some srq) = both (w.cq (beside x.slot x.send_cq)) (w.cq (beside x.slot x.recv_cq)) (Some (w.srq (beside x.slot srq))) (w.srq (beside x.slot srq)).srq refl refl
+polls-create c past w by x agree = leads-create c w (PollsBy past by (verbs.CreateQp x.slot x.send_cq x.recv_cq x.send_depth x.recv_depth x.srq))
+    (call_of by (verbs.CreateQp x.slot x.send_cq x.recv_cq x.send_depth x.recv_depth x.srq)) x (λ r. record { agree = agree; right = refl })
+    (λ send recv shared sends receives. made-polls past w by x send recv shared agree sends receives)
 
 -- ---- a queue pair is emptied
 
@@ -510,27 +445,21 @@ polled-kept c w s name xs sound all = by (w.queue name) refl (sound.things (Queu
         same : IsPolled p (after_poll name xs p) → sides_of (after_poll name xs p) ≡ sides_of p
         same goes = λ i. (record { domain = goes.later.domain i; slot = goes.later.send_cq i }, record { domain = goes.later.domain i; slot = goes.later.recv_cq i })
 
-with-place : (c : Configuration) (w : World) (P : World → List Mark → Type 0) (s : Slot) (cq : CompletionQueue) (polled : List Completion) (x : Completion) (k : Update → Plan) → IsSoundWorld c w
-    → AllByRecursion (λ x. IsSettled s (w.queue x.queue) x) polled → ((u : Update) → IsKept w u.name u.thing → Leads w P (k u)) → Leads w P (With_place s cq polled x k)
-with-place c w P s cq polled x k sound settled more = by (source_of_completion cq x)
+-- what a poll frees
+freed-kept : (c : Configuration) (w : World) (s : Slot) (cq : CompletionQueue) (polled : List Completion) (us : List Update) → IsSoundWorld c w → AllByRecursion (λ x. IsSettled s (w.queue x.queue) x) polled
+    → AreFreed w cq polled us → AreKept w us
+freed-kept c w s cq polled [] sound all freed = record {}
+freed-kept c w s cq polled (u ∷ us) sound all freed = (one u.name u.thing freed.0, freed-kept c w s cq polled us sound all freed.1)
   where
-    shared : ℕ → Slot
-    shared srq = record { domain = s.domain; slot = srq }
-
-    placing : Option ℕ → Plan
-    placing None = Look (Queue_of x.queue) (λ slot. k (Queue_of x.queue := slot_after_poll x.queue polled slot))
-    placing (Some srq) = Look (Srq_of (shared srq)) (λ slot.
-        k (Srq_of (shared srq) := record slot { srq = option_map (receives_after_poll cq srq polled) slot.srq }))
-
-    by : (o : Option ℕ) → Leads w P (placing o)
-    by None = more (Queue_of x.queue := slot_after_poll x.queue polled (w.queue x.queue)) (polled-kept c w s x.queue polled sound settled)
-    by (Some srq) = more _ (record {})
-
-with-places : (c : Configuration) (w : World) (P : World → List Mark → Type 0) (s : Slot) (cq : CompletionQueue) (polled xs : List Completion) (k : List Update → Plan) → IsSoundWorld c w
-    → AllByRecursion (λ x. IsSettled s (w.queue x.queue) x) polled → ((us : List Update) → AreKept w us → Leads w P (k us)) → Leads w P (With_places s cq polled xs k)
-with-places c w P s cq polled [] k sound settled more = more [] (record {})
-with-places c w P s cq polled (x ∷ xs) k sound settled more = with-place c w P s cq polled x (λ u. With_places s cq polled xs (λ us. k (u ∷ us))) sound settled
-    (λ u kept. with-places c w P s cq polled xs (λ us. k (u ∷ us)) sound settled (λ us rest. more (u ∷ us) (kept, rest)))
+    one : (n : Name) (x : Thing n) → IsFreed w cq polled n x → IsKept w n x
+    one (Queue_of q) x is = subst (IsKept w (Queue_of q)) (sym is) (polled-kept c w s q polled sound all)
+    one (Srq_of t) x is = record {}
+    one (Domain_of d) x is = is
+    one (Region_of t) x is = is
+    one (Window_of t) x is = is
+    one (Cq_of t) x is = is
+    one (Mailbox_of q) x is = is
+    one (Byte_at p) x is = is
 
 -- a completion equals itself
 bool-refl : (b : Bool) → bool_eq b b ≡ true
@@ -555,7 +484,9 @@ all-refl (x ∷ xs) = both-true (completion_eq x x) (pointwise completion_eq xs 
 
 pub polls-poll : (c : Configuration) (past : Past) (w : World) (by : ℕ) (s : Slot) (n least : ℕ) → IsSoundWorld c w → PollsAgree past w
     → Leads w (PollsBy past by (verbs.Poll s n least)) (poll_plan (call_of by (verbs.Poll s n least)) s n least)
-polls-poll c past w by s n least sound agree = at (w.cq s) (agree.waits s) (sound.settled s)
+polls-poll c past w by s n least sound agree = leads-poll w P call s n least (λ r. record { agree = agree; right = refl }) (λ cq us is freed.
+    done cq us (subst (λ o. IfSome o (λ y. past.waiting s ≡ y.waiting)) is (agree.waits s))
+    (kept-puts w (put w (Cq_of s) (Some (after_polls (length (take n cq.waiting)) cq))) us (freed-kept c w s cq (take n cq.waiting) us sound (settled cq is) freed) (record { sides = λ m o has. has; flushed = λ m f. f })))
   where
     call : Call
     call = call_of by (verbs.Poll s n least)
@@ -563,11 +494,8 @@ polls-poll c past w by s n least sound agree = at (w.cq s) (agree.waits s) (soun
     P : World → List Mark → Type 0
     P = PollsBy past by (verbs.Poll s n least)
 
-    refused : (r : Refusal) → P w (answer_mark call (answers.Refused r) ∷ [])
-    refused r = record { agree = agree; right = refl }
-
-    ending : CompletionQueue → List Completion → List Update → Plan
-    ending cq polled us = Answer_plan call (answers.Polled polled) ((Cq_of s := Some (after_polls (length polled) cq)) ∷ us) []
+    settled : (cq : CompletionQueue) → w.cq s ≡ Some cq → AllByRecursion (λ x. IsSettled s (w.queue x.queue) x) (take n cq.waiting)
+    settled cq is = all-taken (λ x. IsSettled s (w.queue x.queue) x) n cq.waiting (subst (λ o. IfSome o (λ v. AllByRecursion (λ x. IsSettled s (w.queue x.queue) x) v.waiting)) is (sound.settled s))
 
     -- what is given is the front of what waits
     front : (cq : CompletionQueue) → past.waiting s ≡ cq.waiting → pointwise completion_eq (take n cq.waiting) (take (length (take n cq.waiting)) (past.waiting s)) ≡ true
@@ -589,16 +517,6 @@ polls-poll c past w by s n least sound agree = at (w.cq s) (agree.waits s) (soun
       };
       right = both-true _ true (front cq is) refl;
     }
-
-    taken : (cq : CompletionQueue) → past.waiting s ≡ cq.waiting → AllByRecursion (λ x. IsSettled s (w.queue x.queue) x) cq.waiting → Leads w P (Take_plan call s cq (take n cq.waiting))
-    taken cq is settled = with-places c w P s cq (take n cq.waiting) (take n cq.waiting) (ending cq (take n cq.waiting)) sound (all-taken (λ x. IsSettled s (w.queue x.queue) x) n cq.waiting settled)
-        (λ us kept. done cq us is (kept-puts w (put w (Cq_of s) (Some (after_polls (length (take n cq.waiting)) cq))) us kept (record { sides = λ m o has. has; flushed = λ m f. f })))
-
-    at : (o : Option CompletionQueue) → IfSome o (λ y. past.waiting s ≡ y.waiting) → IfSome o (λ v. AllByRecursion (λ x. IsSettled s (w.queue x.queue) x) v.waiting) → Leads w P (Poll_of call s n least o)
-    at None is settled = refused NoSuch
-    at (Some cq) is settled = leads-tests w P (((n == 0) || nat_lt MAX_POLLED n || nat_lt n least, OutOfRange fields.Length) ∷ []) (Refuse_plan call)
-        (If (nat_lt (length cq.waiting) least) (Stuck reasons.Empty) (Take_plan call s cq (take n cq.waiting))) refused
-        (λ fails. (λ few. record {}, λ enough. taken cq is settled))
 
 -- ---- what goes on
 

@@ -1,10 +1,11 @@
 -- Verbs keep the agreement on receives. For proofs only.
-use Rattle.std.proofs.Common.{◌≡◌, ℕ, suc, ◌-◌, ◌≤◌, ◌<◌, ◌==◌, ◌&&◌, ◌||◌, nat_lt, not, is_none, is_some, Bool, true, false, if◌then◌else◌, List, [], ◌∷◌, ◌++◌, length, map, take, Option, None, Some, IfSome, refl, sym, ap, subst, ◌∙◌, arith, true≢false}
+use Rattle.std.proofs.Common.{◌≡◌, ℕ, suc, ◌-◌, ◌≤◌, ◌<◌, ◌==◌, nat_lt, is_some, Bool, true, false, if◌then◌else◌, List, [], ◌∷◌, ◌++◌, length, map, take, Option, None, Some, IfSome, refl, sym, ap, subst, ◌∙◌, arith, true≢false}
 use Rattle.std.proofs.lemmas.List.{append_assoc, map-append}
-use Rattle.std.specs.Option.{option_and_then, option_eq, option_map}
+use Rattle.std.specs.Option.{option_eq, option_map}
 use Rattle.ca_agree.proofs.LeadsLemmas.{leads-around, leads-weaker}
 use Rattle.ca_agree.proofs.PathVerbLemmas.{call_of}
 use Rattle.ca_agree.specs.Runs.{Leads}
+use Rattle.ca_agree_polls.proofs.PlanLemmas.{AreFreed, IsFreed, created, leads-create, leads-poll}
 use Rattle.ca_agree_polls.proofs.PostingLemmas.{leads-dealloc, leads-modify, leads-post_recv, leads-post_send, leads-present}
 use Rattle.ca_agree_polls.proofs.TurnLemmas.{IsTurn, leads-tests, turns-arrive}
 use Rattle.ca_agree_receives.proofs.ReceiveLemmas.{KeepsShared, Receives, ascend-next, ascend-tail, low_of, places_of, slot-kept, turn-receives}
@@ -14,15 +15,14 @@ use Rattle.ca_base.specs.declared.change.Change as state_change
 use Rattle.ca_base.specs.declared.change.Change.TheVariants as changes
 use Rattle.ca_base.specs.declared.change.Field.TheVariants as fields
 use Rattle.ca_base.specs.declared.completion.Completion.{Completion}
-use Rattle.ca_base.specs.declared.limits.TheConstants.{MAX_MESSAGE_BYTES, MAX_PIECES, MAX_POLLED}
+use Rattle.ca_base.specs.declared.limits.TheConstants.{MAX_MESSAGE_BYTES, MAX_PIECES}
 use Rattle.ca_base.specs.declared.request.PlacedReceive.{PlacedReceive}
 use Rattle.ca_base.specs.declared.request.RecvRequest.{RecvRequest}
 use Rattle.ca_base.specs.declared.request.SendRequest.{SendRequest}
-use Rattle.ca_base.specs.declared.step.Reason.TheVariants as reasons
 use Rattle.ca_base.specs.objects.CompletionQueue.{CompletionQueue, after_polls, after_reserve, without_completions}
-use Rattle.ca_base.specs.objects.Domain.{Domain, with_object, without_object}
-use Rattle.ca_base.specs.objects.Mailbox.{Mailbox, with_peer}
-use Rattle.ca_base.specs.objects.QueuePair.{QueuePair, QueueSlot, NoQueue, Present, is_present, recv_cq_of, send_cq_of, srq_of}
+use Rattle.ca_base.specs.objects.Domain.{with_object, without_object}
+use Rattle.ca_base.specs.objects.Mailbox.{with_peer}
+use Rattle.ca_base.specs.objects.QueuePair.{QueuePair, QueueSlot, NoQueue, Present, recv_cq_of, send_cq_of, srq_of}
 use Rattle.ca_base.specs.objects.SharedReceives.{SharedReceives, SrqSlot, after_receive_post, after_receive_retire, after_receives_retire, empty_receives, is_full_of_receives}
 use Rattle.ca_base.specs.objects.StateTable.{is_reset, queue_after_change}
 use Rattle.ca_base.specs.objects.WorkQueue.{WorkQueue, after_retire}
@@ -39,20 +39,20 @@ use Rattle.ca_model.specs.Past.{Past, after_change, at_begin, with_at}
 use Rattle.ca_model.specs.Requests.{list_length, list_of}
 use Rattle.ca_model.specs.declared.answer.Answer.TheVariants as answers
 use Rattle.ca_model.specs.declared.answer.Refusal.{Refusal}
-use Rattle.ca_model.specs.declared.answer.Refusal.TheVariants.{CqTooSmall, NoDomain, NoSuch, OutOfRange, QueueFull, SlotTaken, SrqInUse, TooLong, WindowsBound}
+use Rattle.ca_model.specs.declared.answer.Refusal.TheVariants.{NoDomain, NoSuch, OutOfRange, QueueFull, SlotTaken, SrqInUse, TooLong, WindowsBound}
 use Rattle.ca_model.specs.declared.event.Event.TheVariants as events
 use Rattle.ca_model.specs.declared.mark.Mark.{Mark}
 use Rattle.ca_model.specs.declared.mark.Mark.TheVariants as marks
 use Rattle.ca_model.specs.declared.verb.Verb.{Verb}
 use Rattle.ca_model.specs.declared.verb.Verb.TheVariants as verbs
 use Rattle.ca_model.specs.machine.Around.{Around}
-use Rattle.ca_model.specs.machine.CompletionVerbs.{Poll_of, Take_plan, With_place, With_places, after_poll, create_srq_plan, destroy_srq_plan, poll_plan, receives_after_poll, slot_after_poll, source_of_completion}
+use Rattle.ca_model.specs.machine.CompletionVerbs.{after_poll, create_srq_plan, destroy_srq_plan, poll_plan, receives_after_poll, slot_after_poll, source_of_completion}
 use Rattle.ca_model.specs.machine.Delivery.{Arrive}
 use Rattle.ca_model.specs.machine.HostVerbs.{inject_plan}
 use Rattle.ca_model.specs.machine.Places.{Ascend, first_held, places_in_use}
-use Rattle.ca_model.specs.machine.Plan.{Plan, If, Look, Stuck, Update, ◌:=◌, put_all}
+use Rattle.ca_model.specs.machine.Plan.{Plan, Update, ◌:=◌, put_all}
 use Rattle.ca_model.specs.machine.PostingVerbs.{post_recv_plan, post_send_plan, post_srq_plan}
-use Rattle.ca_model.specs.machine.QueuePairVerbs.{Creation, With_shared, before_receives, beside, create_qp_plan, destroy_qp_plan, emptied_mailbox, emptied_updates, has_bad_depth, has_no_room, has_queues, left_updates, modify_qp_plan, new_queue, places_held, receive_reserve, receive_room, send_reserved, user_updates, without_queue}
+use Rattle.ca_model.specs.machine.QueuePairVerbs.{Creation, before_receives, beside, create_qp_plan, destroy_qp_plan, emptied_mailbox, emptied_updates, left_updates, modify_qp_plan, new_queue, places_held, receive_reserve, receive_room, send_reserved, without_queue}
 use Rattle.ca_model.specs.machine.Sound.{IsQueueOf, IsSoundWorld}
 use Rattle.ca_model.specs.machine.VerbAnswers.{Answer_plan, Call, Refuse_plan, Unless_plan, answer_mark}
 use Rattle.ca_model.specs.machine.WindowVerbs.{dealloc_mw_plan}
@@ -208,16 +208,10 @@ new-life past w place q srq room agree keeps none = record { receives = λ n. at
 
 -- ---- CreateQp
 
-made-receives : (past : Past) (w : World) (by : ℕ) (x : Creation) (domain : Domain) (m : Mailbox) (send recv : CompletionQueue) (number : ℕ) → HasRoom w → ReceivesAgree past w
-    → ReceivesBy past by (verbs.CreateQp x.slot x.send_cq x.recv_cq x.send_depth x.recv_depth x.srq)
-    (put_all ((Domain_of x.slot.domain := domain)
-    ∷ (Queue_of (queue_of x.slot) := Present (new_queue x (w.queue (queue_of x.slot))))
-    ∷ (Mailbox_of (queue_of x.slot) := m)
-    ∷ (Cq_of (beside x.slot x.send_cq) := Some send)
-    ∷ (Cq_of (beside x.slot x.recv_cq) := Some recv)
-    ∷ user_updates x (option_map (λ srq. w.srq (beside x.slot srq)) x.srq)) w)
-    (answer_mark (call_of by (verbs.CreateQp x.slot x.send_cq x.recv_cq x.send_depth x.recv_depth x.srq)) (answers.Queue number (new_queue x (w.queue (queue_of x.slot))).incarnation) ∷ [])
-made-receives past w by x domain m send recv number room agree = users x.srq
+made-receives : (past : Past) (w : World) (by : ℕ) (x : Creation) (send recv : CompletionQueue) (shared : Option SharedReceives) → HasRoom w → ReceivesAgree past w
+    → ReceivesBy past by (verbs.CreateQp x.slot x.send_cq x.recv_cq x.send_depth x.recv_depth x.srq) (put_all (created w x send recv shared) w)
+    (answer_mark (call_of by (verbs.CreateQp x.slot x.send_cq x.recv_cq x.send_depth x.recv_depth x.srq)) (answers.Queue (queue_of x.slot).number (new_queue x (w.queue (queue_of x.slot))).incarnation) ∷ [])
+made-receives past w by x send recv shared room agree = users x.srq
   where
     place : QueueId
     place = queue_of x.slot
@@ -226,8 +220,9 @@ made-receives past w by x domain m send recv number room agree = users x.srq
     q = new_queue x (w.queue place)
 
     v : World
-    v = put_all ((Domain_of x.slot.domain := domain) ∷ (Queue_of place := Present q) ∷ (Mailbox_of place := m) ∷ (Cq_of (beside x.slot x.send_cq) := Some send)
-        ∷ (Cq_of (beside x.slot x.recv_cq) := Some recv) ∷ []) w
+    v = put_all ((Domain_of x.slot.domain := with_object (w.domain x.slot.domain)) ∷ (Queue_of place := Present q) ∷ (Mailbox_of place := with_peer q.incarnation None (w.mailbox place))
+        ∷ (Cq_of (beside x.slot x.send_cq) := Some (send_reserved x send))
+        ∷ (Cq_of (beside x.slot x.recv_cq) := Some (after_reserve (receive_reserve x) (receive_room x shared) (before_receives x send recv))) ∷ []) w
 
     updates : Option ℕ → Option SrqSlot → List Update
     updates (Some srq) (Some slot) = (Srq_of (beside x.slot srq) := record slot { users = suc slot.users }) ∷ []
@@ -235,7 +230,7 @@ made-receives past w by x domain m send recv number room agree = users x.srq
 
     P : World → Type 0
     P u = ReceivesBy past by (verbs.CreateQp x.slot x.send_cq x.recv_cq x.send_depth x.recv_depth x.srq) u
-        (answer_mark (call_of by (verbs.CreateQp x.slot x.send_cq x.recv_cq x.send_depth x.recv_depth x.srq)) (answers.Queue number q.incarnation) ∷ [])
+        (answer_mark (call_of by (verbs.CreateQp x.slot x.send_cq x.recv_cq x.send_depth x.recv_depth x.srq)) (answers.Queue place.number q.incarnation) ∷ [])
 
     at : (srq : ℕ) (t : Slot) (b : Bool) → slot_eq (beside x.slot srq) t ≡ b → (low : ℕ) (places : List ℕ) → AscendTo low places (w.srq t)
         → AscendTo low places (if b then record (w.srq (beside x.slot srq)) { users = suc (w.srq (beside x.slot srq)).users } else w.srq t)
@@ -253,66 +248,9 @@ made-receives past w by x domain m send recv number room agree = users x.srq
 pub receives-create : (c : Configuration) (past : Past) (w : World) (by : ℕ) (x : Creation) → HasRoom w → ReceivesAgree past w
     → Leads w (ReceivesBy past by (verbs.CreateQp x.slot x.send_cq x.recv_cq x.send_depth x.recv_depth x.srq))
     (create_qp_plan c (call_of by (verbs.CreateQp x.slot x.send_cq x.recv_cq x.send_depth x.recv_depth x.srq)) x)
-receives-create c past w by x room agree =
-    leads-tests w P ((not (w.domain x.slot.domain).allocated, NoDomain) ∷ (is_present (w.queue place), SlotTaken) ∷ []) (Refuse_plan call)
-    (If (has_queues c x) (Look (Cq_of (beside x.slot x.send_cq)) (λ send. Look (Cq_of (beside x.slot x.recv_cq)) (λ recv.
-    With_shared x (λ shared. there send recv shared (option_and_then (λ s. s.srq) shared))))) (Refuse_plan call NoSuch)) refused
-    (λ fails. (λ has. sharing x.srq refl, λ none. refused NoSuch))
-  where
-    call : Call
-    call = call_of by (verbs.CreateQp x.slot x.send_cq x.recv_cq x.send_depth x.recv_depth x.srq)
-
-    P : World → List Mark → Type 0
-    P = ReceivesBy past by (verbs.CreateQp x.slot x.send_cq x.recv_cq x.send_depth x.recv_depth x.srq)
-
-    place : QueueId
-    place = queue_of x.slot
-
-    q : QueuePair
-    q = new_queue x (w.queue place)
-
-    refused : (r : Refusal) → P w (answer_mark call (answers.Refused r) ∷ [])
-    refused r = record { agree = agree; right = refl }
-
-    made : CompletionQueue → CompletionQueue → Option SrqSlot → Option SharedReceives → Plan
-    made send recv slot shared = Answer_plan call (answers.Queue place.number q.incarnation)
-        ((Domain_of x.slot.domain := with_object (w.domain x.slot.domain))
-        ∷ (Queue_of place := Present q)
-        ∷ (Mailbox_of place := with_peer q.incarnation None (w.mailbox place))
-        ∷ (Cq_of (beside x.slot x.send_cq) := Some (send_reserved x send))
-        ∷ (Cq_of (beside x.slot x.recv_cq) := Some (after_reserve (receive_reserve x) (receive_room x shared) (before_receives x send recv)))
-        ∷ user_updates x slot)
-        []
-
-    sized : CompletionQueue → CompletionQueue → Option SrqSlot → Option SharedReceives → Plan
-    sized send recv slot shared =
-        Unless_plan call ((has_bad_depth x, OutOfRange fields.Depth) ∷ (has_no_room x shared send recv, CqTooSmall) ∷ []) (made send recv slot shared)
-
-    there : Option CompletionQueue → Option CompletionQueue → Option SrqSlot → Option SharedReceives → Plan
-    there (Some send) (Some recv) slot shared = If (is_none shared && not (is_none x.srq)) (Refuse_plan call NoSuch) (sized send recv slot shared)
-    there send recv slot shared = Refuse_plan call NoSuch
-
-    found-both : (send recv : CompletionQueue) (slot : Option SrqSlot) (shared : Option SharedReceives) → option_map (λ srq. w.srq (beside x.slot srq)) x.srq ≡ slot → Leads w P (there (Some send) (Some recv) slot shared)
-    found-both send recv slot shared is = (
-      λ missing. refused NoSuch,
-      λ there. leads-tests w P ((has_bad_depth x, OutOfRange fields.Depth) ∷ (has_no_room x shared send recv, CqTooSmall) ∷ []) (Refuse_plan call)
-          (made send recv slot shared) refused (λ fails. subst (λ o. Leads w P (made send recv o shared)) is
-          (made-receives past w by x (with_object (w.domain x.slot.domain)) (with_peer q.incarnation None (w.mailbox place)) (send_reserved x send)
-          (after_reserve (receive_reserve x) (receive_room x shared) (before_receives x send recv)) place.number room agree)),
-    )
-
-    both : (send recv : Option CompletionQueue) (slot : Option SrqSlot) (shared : Option SharedReceives) → option_map (λ srq. w.srq (beside x.slot srq)) x.srq ≡ slot → Leads w P (there send recv slot shared)
-    both None recv slot shared is = refused NoSuch
-    both (Some send) None slot shared is = refused NoSuch
-    both (Some send) (Some recv) slot shared is = found-both send recv slot shared is
-
-    looking : Option ℕ → Plan
-    looking None = there (w.cq (beside x.slot x.send_cq)) (w.cq (beside x.slot x.recv_cq)) None None
-    looking (Some srq) = Look (Srq_of (beside x.slot srq)) (λ slot. there (w.cq (beside x.slot x.send_cq)) (w.cq (beside x.slot x.recv_cq)) (Some slot) slot.srq)
-
-    sharing : (o : Option ℕ) → x.srq ≡ o → Leads w P (looking o)
-    sharing None is = both (w.cq (beside x.slot x.send_cq)) (w.cq (beside x.slot x.recv_cq)) None None (ap (option_map (λ srq. w.srq (beside x.slot srq))) is)
-    sharing (Some srq) is = both (w.cq (beside x.slot x.send_cq)) (w.cq (beside x.slot x.recv_cq)) (Some (w.srq (beside x.slot srq))) (w.srq (beside x.slot srq)).srq (ap (option_map (λ srq. w.srq (beside x.slot srq))) is)
+receives-create c past w by x room agree = leads-create c w (ReceivesBy past by (verbs.CreateQp x.slot x.send_cq x.recv_cq x.send_depth x.recv_depth x.srq))
+    (call_of by (verbs.CreateQp x.slot x.send_cq x.recv_cq x.send_depth x.recv_depth x.srq)) x (λ r. record { agree = agree; right = refl })
+    (λ send recv shared sends receives. made-receives past w by x send recv shared room agree)
 
 -- ---- a queue pair is emptied
 
@@ -523,68 +461,39 @@ kept-puts : (w v : World) (us : List Update) → AreKept w us → KeepsBehind w 
 kept-puts w v [] kept keeps = keeps
 kept-puts w v (u ∷ us) kept keeps = kept-puts w (put v u.name u.thing) us kept.1 (kept-put w v u.name u.thing kept.0 keeps)
 
-with-place : (w : World) (P : World → List Mark → Type 0) (s : Slot) (cq : CompletionQueue) (polled : List Completion) (x : Completion) (k : Update → Plan)
-    → ((u : Update) → IsKept w u.name u.thing → Leads w P (k u)) → Leads w P (With_place s cq polled x k)
-with-place w P s cq polled x k more = by (source_of_completion cq x)
+-- what a poll frees
+freed-kept : (w : World) (cq : CompletionQueue) (polled : List Completion) (us : List Update) → AreFreed w cq polled us → AreKept w us
+freed-kept w cq polled [] freed = record {}
+freed-kept w cq polled (u ∷ us) freed = (one u.name u.thing freed.0, freed-kept w cq polled us freed.1)
   where
-    shared : ℕ → Slot
-    shared srq = record { domain = s.domain; slot = srq }
+    queue : (q : QueueId) (slot : QueueSlot) (low : ℕ) (srq : Slot → SrqSlot) → AgreeOnSlot low srq slot → AgreeOnSlot low srq (slot_after_poll q polled slot)
+    queue q (NoQueue incarnation timers) low srq was = record {}
+    queue q (Present p) low srq was = polled-behind low srq q polled p was
 
-    placing : Option ℕ → Plan
-    placing None = Look (Queue_of x.queue) (λ slot. k (Queue_of x.queue := slot_after_poll x.queue polled slot))
-    placing (Some srq) = Look (Srq_of (shared srq)) (λ slot.
-        k (Srq_of (shared srq) := record slot { srq = option_map (receives_after_poll cq srq polled) slot.srq }))
-
-    queue : (slot : QueueSlot) (low : ℕ) (srq : Slot → SrqSlot) → AgreeOnSlot low srq slot → AgreeOnSlot low srq (slot_after_poll x.queue polled slot)
-    queue (NoQueue incarnation timers) low srq was = record {}
-    queue (Present p) low srq was = polled-behind low srq x.queue polled p was
-
-    by : (o : Option ℕ) → Leads w P (placing o)
-    by None = more (Queue_of x.queue := slot_after_poll x.queue polled (w.queue x.queue)) (λ low srq was. queue (w.queue x.queue) low srq was)
-    by (Some srq) = more (Srq_of (shared srq) := record (w.srq (shared srq)) { srq = option_map (receives_after_poll cq srq polled) (w.srq (shared srq)).srq })
-        (λ low places was. retired-keeps (receives_after_poll cq srq polled) (w.srq (shared srq)) (record (w.srq (shared srq)) { srq = option_map (receives_after_poll cq srq polled) (w.srq (shared srq)).srq }) low places (polled-waits cq srq polled) refl was)
-
-with-places : (w : World) (P : World → List Mark → Type 0) (s : Slot) (cq : CompletionQueue) (polled xs : List Completion) (k : List Update → Plan)
-    → ((us : List Update) → AreKept w us → Leads w P (k us)) → Leads w P (With_places s cq polled xs k)
-with-places w P s cq polled [] k more = more [] (record {})
-with-places w P s cq polled (x ∷ xs) k more = with-place w P s cq polled x (λ u. With_places s cq polled xs (λ us. k (u ∷ us)))
-    (λ u kept. with-places w P s cq polled xs (λ us. k (u ∷ us)) (λ us rest. more (u ∷ us) (kept, rest)))
+    one : (n : Name) (x : Thing n) → IsFreed w cq polled n x → IsKept w n x
+    one (Queue_of q) x is = λ low srq was. subst (AgreeOnSlot low srq) (sym is) (queue q (w.queue q) low srq was)
+    one (Srq_of s) x is = λ low places was. retired-keeps (receives_after_poll cq is.srq polled) (w.srq s) x low places (polled-waits cq is.srq polled) (ap (λ (y : SrqSlot). y.srq) is.is) was
+    one (Domain_of d) x is = is
+    one (Region_of t) x is = is
+    one (Window_of t) x is = is
+    one (Cq_of t) x is = is
+    one (Mailbox_of q) x is = is
+    one (Byte_at p) x is = is
 
 pub receives-poll : (past : Past) (w : World) (by : ℕ) (s : Slot) (n least : ℕ) → ReceivesAgree past w
     → Leads w (ReceivesBy past by (verbs.Poll s n least)) (poll_plan (call_of by (verbs.Poll s n least)) s n least)
-receives-poll past w by s n least agree = at (w.cq s)
+receives-poll past w by s n least agree = leads-poll w (ReceivesBy past by (verbs.Poll s n least)) (call_of by (verbs.Poll s n least)) s n least (λ r. record { agree = agree; right = refl }) (λ cq us is freed.
+    done cq (take n cq.waiting) us (kept-puts w (put w (Cq_of s) (Some (after_polls (length (take n cq.waiting)) cq))) us (freed-kept w cq (take n cq.waiting) us freed) (record { queue = λ m low srq was. was; shared = λ t low places was. was })))
   where
-    call : Call
-    call = call_of by (verbs.Poll s n least)
-
-    P : World → List Mark → Type 0
-    P = ReceivesBy past by (verbs.Poll s n least)
-
-    refused : (r : Refusal) → P w (answer_mark call (answers.Refused r) ∷ [])
-    refused r = record { agree = agree; right = refl }
-
-    ending : CompletionQueue → List Completion → List Update → Plan
-    ending cq polled us = Answer_plan call (answers.Polled polled) ((Cq_of s := Some (after_polls (length polled) cq)) ∷ us) []
-
     done : (cq : CompletionQueue) (polled : List Completion) (us : List Update) → KeepsBehind w (put_all us (put w (Cq_of s) (Some (after_polls (length polled) cq))))
-        → P (put_all us (put w (Cq_of s) (Some (after_polls (length polled) cq)))) (answer_mark call (answers.Polled polled) ∷ [])
+        → ReceivesBy past by (verbs.Poll s n least) (put_all us (put w (Cq_of s) (Some (after_polls (length polled) cq)))) (answer_mark (call_of by (verbs.Poll s n least)) (answers.Polled polled) ∷ [])
     done cq polled us keeps = record {
       agree = record {
-        receives = λ n. keeps.queue n (low_of past n) _ (slot-kept (low_of past n) w.srq (put_all us (put w (Cq_of s) (Some (after_polls (length polled) cq)))).srq (w.queue n) keeps.shared (agree.receives n));
+        receives = λ m. keeps.queue m (low_of past m) _ (slot-kept (low_of past m) w.srq (put_all us (put w (Cq_of s) (Some (after_polls (length polled) cq)))).srq (w.queue m) keeps.shared (agree.receives m));
         later = agree.later;
       };
       right = refl;
     }
-
-    taken : (cq : CompletionQueue) (polled : List Completion) → Leads w P (Take_plan call s cq polled)
-    taken cq polled = with-places w P s cq polled polled (ending cq polled) (λ us kept.
-        done cq polled us (kept-puts w (put w (Cq_of s) (Some (after_polls (length polled) cq))) us kept (record { queue = λ n low srq was. was; shared = λ t low places was. was })))
-
-    at : (o : Option CompletionQueue) → Leads w P (Poll_of call s n least o)
-    at None = refused NoSuch
-    at (Some cq) = leads-tests w P (((n == 0) || nat_lt MAX_POLLED n || nat_lt n least, OutOfRange fields.Length) ∷ []) (Refuse_plan call)
-        (If (nat_lt (length cq.waiting) least) (Stuck reasons.Empty) (Take_plan call s cq (take n cq.waiting))) refused
-        (λ fails. (λ few. record {}, λ enough. taken cq (take n cq.waiting)))
 
 -- ---- what goes on
 

@@ -23,9 +23,9 @@ life_of q incarnation = record { queue = q; incarnation = incarnation }
 abbrev pub AscendTo : ℕ → List ℕ → SrqSlot → Type 0
 AscendTo low places slot = IfSome slot.srq (λ s. Ascend low s.next (places ++ map (λ r. r.place) s.waiting))
 
--- What a queue pair has completed lies before this place. With receives of its own: so does nothing that it holds, or
--- else takes next. With a shared receive queue: the receive that it holds, and behind it all that wait there, ascend from
--- this place on.
+-- The receives of a queue pair that have not completed lie from this place on: of its own, the one that it holds, or else
+-- the one that it takes next; of a shared receive queue, the one that it holds, and behind it all that wait there, in
+-- order.
 pub record AreBehind (low : ℕ) (srq : Slot → SrqSlot) (q : QueuePair) : Type 0 where
   pub own : IfSome q.receives (λ r. low ≤ first_held r q.responder.message)
   pub shared : IfSome q.srq (λ t. AscendTo low (places_in_use q.responder.message) (srq (srq_of q t)))
