@@ -15,7 +15,7 @@ use Rattle.ca_agree_polls.proofs.PostingLemmas.{leads-dealloc, leads-modify, lea
 use Rattle.ca_agree_polls.proofs.SideLemmas.{filter-whole}
 use Rattle.ca_agree_polls.proofs.TurnLemmas.{IsTurn, leads-tests, turns-arrive}
 use Rattle.ca_agree_polls.proofs.WaitLemmas.{Polls, both-true, turn-polls}
-use Rattle.ca_agree_polls.specs.Polls.{AgreeOnPolls, HasSides, IsFlushedInError, IsFlushedSlot, PollsAgree, sides_of}
+use Rattle.ca_agree_polls.specs.Polls.{AgreeOnPolls, HasCompletionQueues, IsFlushedInError, IsFlushedSlot, PollsAgree, sides_of}
 use Rattle.ca_base.specs.Configuration.{Configuration}
 use Rattle.ca_base.specs.Equal.{completion_eq, operation_number, status_number}
 use Rattle.ca_base.specs.declared.change.Change as state_change
@@ -71,7 +71,7 @@ PollsBy past by verb = Polls past (events.Verb by verb)
 -- worlds that have the same queue pairs and completion queues
 pub same-polls : (past : Past) (w v : World) → PollsAgree past w → v.queue ≡ w.queue → v.cq ≡ w.cq → AgreeOnPolls past.cqs past.waiting v.queue v.cq
 same-polls past w v agree queue cq = record {
-  sides = λ n. subst (λ f. HasSides (past.cqs n) (f n)) (sym queue) (agree.sides n);
+  sides = λ n. subst (λ f. HasCompletionQueues (past.cqs n) (f n)) (sym queue) (agree.sides n);
   flushed = λ n. subst (λ f. IsFlushedSlot (f n)) (sym queue) (agree.flushed n);
   waits = λ s. subst (λ f. IfSome (f s) (λ x. past.waiting s ≡ x.waiting)) (sym cq) (agree.waits s);
 }
@@ -136,7 +136,7 @@ made-polls past w by x send recv shared agree sends receives = users x.srq
     updates (Some srq) (Some slot) = (Srq_of (beside x.slot srq) := record slot { users = suc slot.users }) ∷ []
     updates srq slot = []
 
-    sided : (n : QueueId) (b : Bool) → HasSides (if b then Some (sides_of q) else past.cqs n) (if b then Present q else w.queue n)
+    sided : (n : QueueId) (b : Bool) → HasCompletionQueues (if b then Some (sides_of q) else past.cqs n) (if b then Present q else w.queue n)
     sided n true = refl
     sided n false = agree.sides n
 
@@ -162,7 +162,7 @@ made-polls past w by x send recv shared agree sends receives = users x.srq
         (answer_mark (call_of by (verbs.CreateQp x.slot x.send_cq x.recv_cq x.send_depth x.recv_depth x.srq)) (answers.Queue place.number q.incarnation) ∷ [])
     more us queue cq = record {
       agree = record {
-        sides = λ n. subst (λ f. HasSides (with_at queue_eq past.cqs place (Some (sides_of q)) n) (f n)) (sym queue) (sided n (queue_eq place n));
+        sides = λ n. subst (λ f. HasCompletionQueues (with_at queue_eq past.cqs place (Some (sides_of q)) n) (f n)) (sym queue) (sided n (queue_eq place n));
         flushed = λ n. subst (λ f. IsFlushedSlot (f n)) (sym queue) (flushes n (queue_eq place n));
         waits = λ t. subst (λ f. IfSome (f t) (λ y. past.waiting t ≡ y.waiting)) (sym cq) (waiting t (slot_eq s2 t) refl (slot_eq s1 t) refl);
       };
@@ -225,17 +225,17 @@ emptied-waits c past w q f sound agree there same t = by (slot_eq (recv_cq_of q)
 
 -- the agreement behind it, with another value in the slot
 emptied-polls : (c : Configuration) (past : Past) (w v : World) (q : QueuePair) (slot : QueueSlot) (name : QueueId) (f : CompletionQueue → CompletionQueue) → IsSoundWorld c w → PollsAgree past w → IsThere w q → q.queue ≡ name
-    → ((y : CompletionQueue) → (f y).waiting ≡ filter (of_others q.queue) y.waiting) → HasSides (past.cqs q.queue) slot → IsFlushedSlot slot
+    → ((y : CompletionQueue) → (f y).waiting ≡ filter (of_others q.queue) y.waiting) → HasCompletionQueues (past.cqs q.queue) slot → IsFlushedSlot slot
     → v.queue ≡ with_at queue_eq w.queue q.queue slot → v.cq ≡ with_at slot_eq (with_at slot_eq w.cq (send_cq_of q) (option_map f (w.cq (send_cq_of q)))) (recv_cq_of q) (option_map f (w.cq (recv_cq_of q)))
     → AgreeOnPolls past.cqs (λ s. filter (of_others name) (past.waiting s)) v.queue v.cq
 emptied-polls c past w v q slot name f sound agree there own same sided flush queue cq = subst (λ n. AgreeOnPolls past.cqs (λ s. filter (of_others n) (past.waiting s)) v.queue v.cq) own (record {
-  sides = λ n. subst (λ g. HasSides (past.cqs n) (g n)) (sym queue) (at n (queue_eq q.queue n) refl);
+  sides = λ n. subst (λ g. HasCompletionQueues (past.cqs n) (g n)) (sym queue) (at n (queue_eq q.queue n) refl);
   flushed = λ n. subst (λ g. IsFlushedSlot (g n)) (sym queue) (flushes n (queue_eq q.queue n));
   waits = λ t. subst (λ g. IfSome (g t) (λ y. filter (of_others q.queue) (past.waiting t) ≡ y.waiting)) (sym cq) (emptied-waits c past w q f sound agree there same t);
 })
   where
-    at : (n : QueueId) (b : Bool) → queue_eq q.queue n ≡ b → HasSides (past.cqs n) (if b then slot else w.queue n)
-    at n true e = subst (λ k. HasSides (past.cqs k) slot) (queue-path q.queue n e) sided
+    at : (n : QueueId) (b : Bool) → queue_eq q.queue n ≡ b → HasCompletionQueues (past.cqs n) (if b then slot else w.queue n)
+    at n true e = subst (λ k. HasCompletionQueues (past.cqs k) slot) (queue-path q.queue n e) sided
     at n false e = agree.sides n
 
     flushes : (n : QueueId) (b : Bool) → IsFlushedSlot (if b then slot else w.queue n)
@@ -285,8 +285,8 @@ polls-modify c past w by s change sound agree = leads-modify c w (PollsBy past b
     updates q (Some srq) (Some slot) = (Srq_of (srq_of q srq) := record slot { srq = option_map (after_receives_retire (places_held q (a q))) slot.srq }) ∷ []
     updates q srq slot = []
 
-    told : (q : QueuePair) → IsThere w q → HasSides (past.cqs q.queue) (Present q)
-    told q there = subst (HasSides (past.cqs q.queue)) there.present (agree.sides q.queue)
+    told : (q : QueuePair) → IsThere w q → HasCompletionQueues (past.cqs q.queue) (Present q)
+    told q there = subst (HasCompletionQueues (past.cqs q.queue)) there.present (agree.sides q.queue)
 
     done : (q : QueuePair) (us : List Update) → IsThere w q → q.queue ≡ queue_of s → (put_all us (put_all (before q) w)).queue ≡ (put_all (before q) w).queue → (put_all us (put_all (before q) w)).cq ≡ (put_all (before q) w).cq
         → AgreeOnPolls past.cqs (λ t. filter (of_others (queue_of s)) (past.waiting t)) (put_all us (put_all (before q) w)).queue (put_all us (put_all (before q) w)).cq
@@ -391,7 +391,7 @@ freed-flushed name (x ∷ xs) p s all flushed = on (queue_eq x.queue name) refl 
 
 -- a change of what a poll frees
 abbrev IsKept : World → (n : Name) → Thing n → Type 0
-IsKept w (Queue_of q) slot = ((o : Option (Slot × Slot)) → HasSides o (w.queue q) → HasSides o slot) × (IsFlushedSlot (w.queue q) → IsFlushedSlot slot)
+IsKept w (Queue_of q) slot = ((o : Option (Slot × Slot)) → HasCompletionQueues o (w.queue q) → HasCompletionQueues o slot) × (IsFlushedSlot (w.queue q) → IsFlushedSlot slot)
 IsKept w (Srq_of s) slot = Unit {0}
 IsKept w n x = ⊥
 
@@ -401,14 +401,14 @@ AreKept w (u ∷ us) = IsKept w u.name u.thing × AreKept w us
 
 -- a world whose queue pairs have the completion queues of another's, and are flushed as they are
 record KeepsSides (w v : World) : Type 0 where
-  sides : (n : QueueId) (o : Option (Slot × Slot)) → HasSides o (w.queue n) → HasSides o (v.queue n)
+  sides : (n : QueueId) (o : Option (Slot × Slot)) → HasCompletionQueues o (w.queue n) → HasCompletionQueues o (v.queue n)
   flushed : (n : QueueId) → IsFlushedSlot (w.queue n) → IsFlushedSlot (v.queue n)
 
 kept-put : (w v : World) (n : Name) (x : Thing n) → IsKept w n x → KeepsSides w v → KeepsSides w (put v n x) × ((put v n x).cq ≡ v.cq)
 kept-put w v (Queue_of q) x kept keeps = (record { sides = λ n o. sided n o (queue_eq q n) refl; flushed = λ n. flushes n (queue_eq q n) refl }, refl)
   where
-    sided : (n : QueueId) (o : Option (Slot × Slot)) (b : Bool) → queue_eq q n ≡ b → HasSides o (w.queue n) → HasSides o (if b then x else v.queue n)
-    sided n o true e has = kept.0 o (subst (λ m. HasSides o (w.queue m)) (sym (queue-path q n e)) has)
+    sided : (n : QueueId) (o : Option (Slot × Slot)) (b : Bool) → queue_eq q n ≡ b → HasCompletionQueues o (w.queue n) → HasCompletionQueues o (if b then x else v.queue n)
+    sided n o true e has = kept.0 o (subst (λ m. HasCompletionQueues o (w.queue m)) (sym (queue-path q n e)) has)
     sided n o false e has = keeps.sides n o has
 
     flushes : (n : QueueId) (b : Bool) → queue_eq q n ≡ b → IsFlushedSlot (w.queue n) → IsFlushedSlot (if b then x else v.queue n)
@@ -435,7 +435,7 @@ polled-kept : (c : Configuration) (w : World) (s : Slot) (name : QueueId) (xs : 
     → IsKept w (Queue_of name) (slot_after_poll name xs (w.queue name))
 polled-kept c w s name xs sound all = by (w.queue name) refl (sound.things (Queue_of name))
   where
-    by : (slot : QueueSlot) → w.queue name ≡ slot → IsQueueOf name slot → ((o : Option (Slot × Slot)) → HasSides o slot → HasSides o (slot_after_poll name xs slot)) × (IsFlushedSlot slot → IsFlushedSlot (slot_after_poll name xs slot))
+    by : (slot : QueueSlot) → w.queue name ≡ slot → IsQueueOf name slot → ((o : Option (Slot × Slot)) → HasCompletionQueues o slot → HasCompletionQueues o (slot_after_poll name xs slot)) × (IsFlushedSlot slot → IsFlushedSlot (slot_after_poll name xs slot))
     by (NoQueue incarnation timers) is one = (λ o has. has, λ f. f)
     by (Present p) is one = (
       λ o has. has ∙ ap Some (sym (same (polled name xs p one.2 (all-finished w s name p xs is all)))),

@@ -8,7 +8,7 @@ use Rattle.std.specs.Option.{option_map, option_map_or}
 use Rattle.ca_agree.proofs.PathLemmas.{marks-append}
 use Rattle.ca_agree_polls.proofs.SideLemmas.{AreOf, IsOf, goes_to, side_in}
 use Rattle.ca_agree_polls.proofs.TurnLemmas.{IsTurn}
-use Rattle.ca_agree_polls.specs.Polls.{HasSides, IsFlushedSlot, PollsAgree, is_poll_in_order, sides_of}
+use Rattle.ca_agree_polls.specs.Polls.{HasCompletionQueues, IsFlushedSlot, PollsAgree, is_poll_in_order, sides_of}
 use Rattle.ca_base.specs.declared.completion.Completion.{Completion}
 use Rattle.ca_base.specs.objects.CompletionQueue.{CompletionQueue, after_puts}
 use Rattle.ca_base.specs.objects.QueuePair.{QueuePair, Present}
@@ -143,8 +143,8 @@ turn-polls past event w v front ms agree cqs waits right turn = subst (Polls pas
     q : QueuePair
     q = turn.q
 
-    told : HasSides (past.cqs q.queue) (Present q) × IsFlushedSlot (Present q)
-    told = (subst (HasSides (past.cqs q.queue)) turn.there.present (agree.sides q.queue), subst IsFlushedSlot turn.there.present (agree.flushed q.queue))
+    told : HasCompletionQueues (past.cqs q.queue) (Present q) × IsFlushedSlot (Present q)
+    told = (subst (HasCompletionQueues (past.cqs q.queue)) turn.there.present (agree.sides q.queue), subst IsFlushedSlot turn.there.present (agree.flushed q.queue))
 
     put : HasPut (sides_of q) (completions_in turn.rest) p (after_marks turn.rest p)
     put = marks-put q.queue (sides_of q) turn.rest p turn.of (ap (λ f. f q.queue) cqs ∙ told.0)
@@ -158,9 +158,9 @@ turn-polls past event w v front ms agree cqs waits right turn = subst (Polls pas
       record { domain = turn.later.domain i; slot = turn.later.recv_cq i },
     )
 
-    sides : (n : QueueId) (b : Bool) → queue_eq q.queue n ≡ b → HasSides (r.cqs n) (if b then Present turn.e.queue else w.queue n)
+    sides : (n : QueueId) (b : Bool) → queue_eq q.queue n ≡ b → HasCompletionQueues (r.cqs n) (if b then Present turn.e.queue else w.queue n)
     sides n true e = ap (λ f. f n) (put.cqs ∙ cqs) ∙ ap past.cqs (sym (queue-path q.queue n e)) ∙ told.0 ∙ ap Some (sym kept)
-    sides n false e = subst (λ f. HasSides (f n) (w.queue n)) (sym (put.cqs ∙ cqs)) (agree.sides n)
+    sides n false e = subst (λ f. HasCompletionQueues (f n) (w.queue n)) (sym (put.cqs ∙ cqs)) (agree.sides n)
 
     flushes : (n : QueueId) (b : Bool) → IsFlushedSlot (if b then Present turn.e.queue else w.queue n)
     flushes n true = turn.flushed told.1
@@ -173,7 +173,7 @@ turn-polls past event w v front ms agree cqs waits right turn = subst (Polls pas
 
     after : PollsAgree r v
     after = record {
-      sides = λ n. subst (λ f. HasSides (r.cqs n) (f n)) (sym turn.queue) (sides n (queue_eq q.queue n) refl);
+      sides = λ n. subst (λ f. HasCompletionQueues (r.cqs n) (f n)) (sym turn.queue) (sides n (queue_eq q.queue n) refl);
       flushed = λ n. subst (λ f. IsFlushedSlot (f n)) (sym turn.queue) (flushes n (queue_eq q.queue n));
       waits = λ s. subst (λ o. IfSome o (λ x. r.waiting s ≡ x.waiting)) (sym (turn.cq told.1 s)) (waiting s (w.cq s) (agree.waits s));
     }

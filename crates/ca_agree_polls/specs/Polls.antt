@@ -22,9 +22,9 @@ abbrev pub sides_of : QueuePair → Slot × Slot
 sides_of q = (send_cq_of q, recv_cq_of q)
 
 -- the queue pair in a slot has the completion queues that were told
-abbrev pub HasSides : Option (Slot × Slot) → QueueSlot → Type 0
-HasSides sides (NoQueue incarnation timers) = Unit {0}
-HasSides sides (Present q) = sides ≡ Some (sides_of q)
+abbrev pub HasCompletionQueues : Option (Slot × Slot) → QueueSlot → Type 0
+HasCompletionQueues sides (NoQueue incarnation timers) = Unit {0}
+HasCompletionQueues sides (Present q) = sides ≡ Some (sides_of q)
 
 -- In Error all that was posted is flushed: no send is unfinished, and no receive waits or is in use. So what is posted
 -- then completes alone, in the one completion queue of its side.
@@ -40,7 +40,7 @@ IsFlushedSlot (Present q) = IsFlushedInError q
 -- each completion queue that is there wait the completions that wait by what was told, in order.
 pub record AgreeOnPolls (cqs : QueueId → Option (Slot × Slot)) (waiting : Slot → List Completion) (queue : QueueId → QueueSlot) (cq : Slot → Option CompletionQueue) : Type 0
   where
-    pub sides : (q : QueueId) → HasSides (cqs q) (queue q)
+    pub sides : (q : QueueId) → HasCompletionQueues (cqs q) (queue q)
     pub flushed : (q : QueueId) → IsFlushedSlot (queue q)
     pub waits : (s : Slot) → IfSome (cq s) (λ v. waiting s ≡ v.waiting)
 
