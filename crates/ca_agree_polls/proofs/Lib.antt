@@ -1,0 +1,10 @@
+pub mod FlushedLemmas
+pub mod SideLemmas
+pub mod StepLemmas
+pub mod OperationLemmas
+pub mod TurnLemmas
+pub mod PostingLemmas
+pub mod PlanLemmas
+pub mod WaitLemmas
+pub mod PollVerbLemmas
+pub mod PollEventLemmas

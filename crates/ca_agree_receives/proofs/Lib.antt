@@ -1,0 +1,3 @@
+pub mod ReceiveLemmas
+pub mod ReceiveVerbLemmas
+pub mod ReceiveEventLemmas
