@@ -5,6 +5,7 @@ use Rattle.ca_model.specs.Entries.{EntryValue}
 use Rattle.ca_model.specs.History.{IsHistory}
 use Rattle.ca_model.specs.Judged.{Judged}
 use Rattle.ca_model.specs.Licensed.{Licensed}
+use Rattle.ca_model.specs.Ordered.{Ordered}
 use Rattle.ca_model.specs.machine.Run.{Follows}
 use Rattle.ca_order.specs.OfScript.{HasStatus, LeadsTo, Status}
 use Rattle.ca_order.specs.Order.{ending, order}
@@ -16,13 +17,14 @@ use Rattle.ca_trace.specs.Trace.{text}
 abbrev pub IsCommand : List (List ℕ) → Type 0
 IsCommand words = words ≡ codes "script" ∷ []
 
--- A history of a script over buffers of zeros is lawful: it follows the machine, is a history, is judged and licensed;
--- and it is one of the script, and leads to where the order of the script ends.
+-- A history of a script over buffers of zeros is lawful: it follows the machine, is a history, is judged, licensed and
+-- ordered; and it is one of the script, and leads to where the order of the script ends.
 pub record IsLawfulOrder (s : ScriptValue) (es : List EntryValue) : Type 0 where
   pub follows : Follows s.config zeros es
   pub history : IsHistory es
   pub judged : Judged zeros es
   pub licensed : Licensed zeros es
+  pub ordered : Ordered zeros es
   pub of_script : LeadsTo s es (ending s)
 
 -- These bytes mean a script, whose order ended so. The output is the text of this order, and the text of no other

@@ -13,6 +13,7 @@ use Rattle.ca_model.specs.Entries.{EntryValue}
 use Rattle.ca_model.specs.History.{IsHistory}
 use Rattle.ca_model.specs.Judged.{Judged}
 use Rattle.ca_model.specs.Licensed.{Licensed}
+use Rattle.ca_model.specs.Ordered.{Ordered}
 use Rattle.ca_model.specs.declared.event.Event.{Event}
 use Rattle.ca_model.specs.declared.event.Event.TheVariants as events
 use Rattle.ca_model.specs.machine.Plan.{Did, NotReady, Outcome}
@@ -22,6 +23,7 @@ use Rattle.ca_order.proofs.FollowLemmas.{order-follows}
 use Rattle.ca_order.proofs.KeepLemmas.{kept-rounds}
 use Rattle.ca_order.specs.Order.{Stage, after_event, after_line, after_outcome, after_visit, ending, lines_of, most_rounds, opening_stage, order, with_lines_left}
 use Rattle.ca_order.specs.Visits.{Consumer, Engine, Visit}
+use Rattle.ca_ordered.proofs.OrderedLemmas.{ordered-along}
 use Rattle.ca_rest.proofs.ScriptLemmas.{lines-callable, set-callable}
 use Rattle.ca_rest.proofs.TextLemmas.{text-callable, text-limited}
 use Rattle.ca_rest.specs.Rest.{AreCallable, IsCallable}
@@ -127,3 +129,6 @@ order-judged text s reads = judged-along s.config zeros (order s) (text-limited 
 
 pub order-licensed : (text : List ℕ) (s : ScriptValue) → script_of text ≡ Ok s → Licensed zeros (order s)
 order-licensed text s reads = licensed-along s.config zeros (order s) (text-limited text s reads) (order-made text s reads) (order-follows s)
+
+pub order-ordered : (text : List ℕ) (s : ScriptValue) → script_of text ≡ Ok s → Ordered zeros (order s)
+order-ordered text s reads = ordered-along s.config zeros (order s) (text-limited text s reads) (order-made text s reads) (order-follows s)

@@ -5,6 +5,7 @@ ghost use Rattle.ca_keys.specs.Memory.{zeros};
 ghost use Rattle.ca_model.specs.History.{IsHistory};
 ghost use Rattle.ca_model.specs.Judged.{Judged};
 ghost use Rattle.ca_model.specs.Licensed.{Licensed};
+ghost use Rattle.ca_model.specs.Ordered.{Ordered};
 ghost use Rattle.ca_order.specs.Order.{order};
 ghost use Rattle.ca_script.specs.Script.{ScriptValue, script_of};
 
@@ -24,9 +25,10 @@ pub fn long_texts_are_refused_by_their_fronts()
         → script_of (front ++ more) ≡ script_of front }
 {}
 
-/// The order of a script that a text means is a history, is judged, and is licensed, over buffers of zeros.
+/// The order of a script that a text means is a history, is judged, licensed and ordered, over buffers of zeros.
 pub fn orders_of_texts_are_lawful()
     ensures history { (text : List ℕ) (s : ScriptValue) → script_of text ≡ Ok s → IsHistory (order s) }
     ensures judged { (text : List ℕ) (s : ScriptValue) → script_of text ≡ Ok s → Judged zeros (order s) }
     ensures licensed { (text : List ℕ) (s : ScriptValue) → script_of text ≡ Ok s → Licensed zeros (order s) }
+    ensures ordered { (text : List ℕ) (s : ScriptValue) → script_of text ≡ Ok s → Ordered zeros (order s) }
 {}
