@@ -1,5 +1,6 @@
 mod EventLemmas
 mod LineLemmas
+mod VacantLemmas
 mod VisitLemmas
 mod OpenLemmas
 mod WorkLemmas

@@ -1,9 +1,11 @@
-ghost use Rattle.std.specs.Prelude.{◌≡◌};
+ghost use Rattle.std.specs.Option.{option_copied};
+ghost use Rattle.std.specs.Prelude.{◌≡◌, true, false};
 ghost use Rattle.ca_base.specs.Configuration.{Configuration};
 ghost use Rattle.ca_base.specs.objects.Mailbox.{due};
 ghost use Rattle.ca_base.specs.objects.QueuePair.{Present};
 ghost use Rattle.ca_model.specs.machine.World.{World};
 ghost use Rattle.ca_replay.specs.Rows.{IsRowOf};
+ghost use Rattle.ca_script_run.specs.Vacant.{HasNoQueue, IsInVain};
 ghost use Rattle.ca_turns.specs.Turns as turns;
 
 use ca_base::{Lot, QueueId};
@@ -13,6 +15,27 @@ use ca_model::Event;
 use ca_qpstate::QueuePart;
 use ca_replay::Row;
 use ca_turns::Turn;
+
+/// Whether a turn is one of a slot in which no queue pair is, so that it is not possible.
+pub(crate) fn is_vacant(row: &Row, turn: Turn) -> bool
+    ensures { result ≡ true → (c : Configuration) (w : World) → IsRowOf c w row.now → IsInVain c w turn }
+{
+    match turn {
+        Turn::Request(queue) | Turn::Respond(queue) | Turn::Timeout(queue) | Turn::RnrWake(queue) =>
+            !is_present(row.queue(queue)),
+        Turn::Due(_) | Turn::Deliver(_, _) => false,
+    }
+}
+
+/// Whether a queue pair is in a slot.
+fn is_present(slot: Option<&QueueSlot>) -> bool
+    ensures { result ≡ false → HasNoQueue (option_copied slot.entry) }
+{
+    match slot {
+        Some(QueueSlot::Present(_)) => true,
+        Some(QueueSlot::Vacant { .. }) | None => false,
+    }
+}
 
 /// The event that a turn is now on a row, under a weather; none where nothing is due.
 pub(crate) fn event_of(row: &Row, weather: &Weather, turn: Turn) -> Option<Event>
