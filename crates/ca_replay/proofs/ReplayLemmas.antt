@@ -9,13 +9,9 @@ use Rattle.ca_base.specs.Configuration.{Configuration}
 use Rattle.ca_base.specs.declared.step.Reason.{Reason}
 use Rattle.ca_base.specs.declared.step.StepError.{StepError}
 use Rattle.ca_base.specs.declared.step.StepError.TheVariants as steps
-use Rattle.ca_judged.proofs.JudgeEventLemmas.{judged-along}
 use Rattle.ca_keys.specs.Memory.{ByteMap}
-use Rattle.ca_licensed.proofs.LicensedLemmas.{licensed-along}
 use Rattle.ca_model.specs.Entries.{EntryValue}
 use Rattle.ca_model.specs.History.{IsHistory}
-use Rattle.ca_model.specs.Judged.{Judged}
-use Rattle.ca_model.specs.Licensed.{Licensed}
 use Rattle.ca_model.specs.Marks.{MarkList}
 use Rattle.ca_model.specs.declared.event.Event.{Event}
 use Rattle.ca_model.specs.declared.mark.Mark.{Mark}
@@ -217,21 +213,17 @@ pub from_opening : (c : Configuration) (bytes : ByteMap) (row : Row) (events : L
     → IsReplay result (run_from c row.count (opening_world bytes) events) → IsReplay result (run_over c bytes events)
 from_opening c bytes row events result zero is = subst (λ n. IsReplay result (run_from c n (opening_world bytes) events)) zero is
 
--- what was replayed is a history, and judged
+-- what was replayed is a history
 pub makes_history : (c : Configuration) (bytes : ByteMap) (events : List Event) (result : Result (Vec MarkList) ReplayError) → IsReplay result (run_over c bytes events)
     → IfOk result (λ all. IsHistory (history_of events all.items))
 makes_history c bytes events (Ok all) is = followed-is-history c bytes (history_of events all.items) (history_stamped events all.items) (history_follows c bytes events all is)
 makes_history c bytes events (Err error) is = record {}
 
-pub is_judged : (c : Configuration) (bytes : ByteMap) (events : List Event) (result : Result (Vec MarkList) ReplayError) → AreLimited c → IsReplay result (run_over c bytes events)
-    → OnOk result (AllByRecursion CanBeMade events) → IfOk result (λ all. Judged bytes (history_of events all.items))
-is_judged c bytes events (Ok all) limited is made =
-    judged-along c bytes (history_of events all.items) limited (history_made events all.items made) (history_follows c bytes events all is)
-is_judged c bytes events (Err error) limited is made = record {}
+-- and has each relation that every history has which follows the machine
+abbrev pub HasLaw : (ByteMap → List EntryValue → Type 0) → Type 0
+HasLaw Is = (c : Configuration) (bytes : ByteMap) (es : List EntryValue) → AreLimited c → AllByRecursion (λ e. CanBeMade e.event) es → Follows c bytes es → Is bytes es
 
--- and licensed
-pub is_licensed : (c : Configuration) (bytes : ByteMap) (events : List Event) (result : Result (Vec MarkList) ReplayError) → AreLimited c → IsReplay result (run_over c bytes events)
-    → OnOk result (AllByRecursion CanBeMade events) → IfOk result (λ all. Licensed bytes (history_of events all.items))
-is_licensed c bytes events (Ok all) limited is made =
-    licensed-along c bytes (history_of events all.items) limited (history_made events all.items made) (history_follows c bytes events all is)
-is_licensed c bytes events (Err error) limited is made = record {}
+pub is_lawful : (Is : ByteMap → List EntryValue → Type 0) → HasLaw Is → (c : Configuration) (bytes : ByteMap) (events : List Event) (result : Result (Vec MarkList) ReplayError) → AreLimited c
+    → IsReplay result (run_over c bytes events) → OnOk result (AllByRecursion CanBeMade events) → IfOk result (λ all. Is bytes (history_of events all.items))
+is_lawful Is law c bytes events (Ok all) limited is made = law c bytes (history_of events all.items) limited (history_made events all.items made) (history_follows c bytes events all is)
+is_lawful Is law c bytes events (Err error) limited is made = record {}

@@ -4,6 +4,7 @@ ghost use Rattle.ca_base.specs.Configuration.{Configuration, configuration_of};
 ghost use Rattle.ca_model.specs.History.{IsHistory};
 ghost use Rattle.ca_model.specs.Judged.{Judged};
 ghost use Rattle.ca_model.specs.Licensed.{Licensed};
+ghost use Rattle.ca_model.specs.Ordered.{Ordered};
 ghost use Rattle.ca_model.specs.machine.Run.{run_from, run_over};
 ghost use Rattle.ca_model.specs.machine.Sound.{AreLimited, CanBeMade};
 ghost use Rattle.ca_model.specs.machine.World.{World};
@@ -50,6 +51,8 @@ pub fn replay(alloc: Global, opening: &Opening, events: &[Event]) -> Result<Vec<
         IfOk result (λ all. Judged (opening_bytes c opening.now.contents) (history_of events.now all.items)) }
     ensures licensed { let c = configuration_of opening.now.config in
         IfOk result (λ all. Licensed (opening_bytes c opening.now.contents) (history_of events.now all.items)) }
+    ensures ordered { let c = configuration_of opening.now.config in
+        IfOk result (λ all. Ordered (opening_bytes c opening.now.contents) (history_of events.now all.items)) }
 {
     let mut row = Row::open(alloc, opening)?;
     make_all(alloc, &mut row, events)

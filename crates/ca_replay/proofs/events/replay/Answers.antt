@@ -1,8 +1,14 @@
 use Rattle.std.proofs.Common.{arith}
 use Rattle.ca_base.specs.Configuration.{configuration_of}
+use Rattle.ca_judged.proofs.JudgeEventLemmas.{judged-along}
+use Rattle.ca_licensed.proofs.LicensedLemmas.{licensed-along}
+use Rattle.ca_model.specs.Judged.{Judged}
+use Rattle.ca_model.specs.Licensed.{Licensed}
+use Rattle.ca_model.specs.Ordered.{Ordered}
 use Rattle.ca_model.specs.machine.World.{opening_world}
 use Rattle.ca_opening.specs.Opening.{opening_bytes}
-use Rattle.ca_replay.proofs.ReplayLemmas.{from_opening, is_judged, is_licensed, makes_history}
+use Rattle.ca_ordered.proofs.OrderedLemmas.{ordered-along}
+use Rattle.ca_replay.proofs.ReplayLemmas.{from_opening, is_lawful, makes_history}
 use Rattle.ca_replay.proofs.events.replay.Goals as goal
 
 pub make_all-requires-clause-few : goal.make_all-requires-clause-few
@@ -25,7 +31,7 @@ returns-clause-history c = makes_history (configuration_of c.args.opening.now.co
     (opening_world (opening_bytes (configuration_of c.args.opening.now.config) c.args.opening.now.contents)) c.in_ok-row.ensures.world))
 
 pub returns-clause-judged : goal.returns-clause-judged
-returns-clause-judged c = is_judged (configuration_of c.args.opening.now.config)
+returns-clause-judged c = is_lawful Judged judged-along (configuration_of c.args.opening.now.config)
     (opening_bytes (configuration_of c.args.opening.now.config) c.args.opening.now.contents) c.args.events.now c.make_all.result c.requires.limited
     (from_opening (configuration_of c.args.opening.now.config)
     (opening_bytes (configuration_of c.args.opening.now.config) c.args.opening.now.contents) c.in_ok-row.row c.args.events.now c.make_all.result
@@ -35,7 +41,17 @@ returns-clause-judged c = is_judged (configuration_of c.args.opening.now.config)
     c.make_all.ensures.made
 
 pub returns-clause-licensed : goal.returns-clause-licensed
-returns-clause-licensed c = is_licensed (configuration_of c.args.opening.now.config)
+returns-clause-licensed c = is_lawful Licensed licensed-along (configuration_of c.args.opening.now.config)
+    (opening_bytes (configuration_of c.args.opening.now.config) c.args.opening.now.contents) c.args.events.now c.make_all.result c.requires.limited
+    (from_opening (configuration_of c.args.opening.now.config)
+    (opening_bytes (configuration_of c.args.opening.now.config) c.args.opening.now.contents) c.in_ok-row.row c.args.events.now c.make_all.result
+    c.in_ok-row.ensures.count
+    (c.make_all.ensures.run (configuration_of c.args.opening.now.config)
+    (opening_world (opening_bytes (configuration_of c.args.opening.now.config) c.args.opening.now.contents)) c.in_ok-row.ensures.world))
+    c.make_all.ensures.made
+
+pub returns-clause-ordered : goal.returns-clause-ordered
+returns-clause-ordered c = is_lawful Ordered ordered-along (configuration_of c.args.opening.now.config)
     (opening_bytes (configuration_of c.args.opening.now.config) c.args.opening.now.contents) c.args.events.now c.make_all.result c.requires.limited
     (from_opening (configuration_of c.args.opening.now.config)
     (opening_bytes (configuration_of c.args.opening.now.config) c.args.opening.now.contents) c.in_ok-row.row c.args.events.now c.make_all.result
