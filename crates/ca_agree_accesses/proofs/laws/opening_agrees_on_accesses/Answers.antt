@@ -1,0 +1,6 @@
+use Rattle.ca_agree_accesses.proofs.DecodedLemmas.{write-reth}
+use Rattle.ca_agree_accesses.proofs.QuietLemmas.{timeout-quiet}
+use Rattle.ca_agree_accesses.proofs.laws.opening_agrees_on_accesses.Goals as goal
+
+pub returns : goal.returns
+returns c bytes q = record {}
