@@ -1,2 +1,3 @@
 mod DecodedLemmas
 mod QuietLemmas
+mod EndLemmas

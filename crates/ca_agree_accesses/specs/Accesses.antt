@@ -7,8 +7,9 @@ use Rattle.ca_base.specs.declared.correspondent.Correspondent.{Correspondent}
 use Rattle.ca_base.specs.declared.queue_numbers.Message.{Message}
 use Rattle.ca_base.specs.declared.queue_numbers.Queued.{Queued}
 use Rattle.ca_base.specs.objects.QueuePair.{NoQueue, Present, QueuePair, QueueSlot}
-use Rattle.ca_base.specs.objects.Region.{Region, grant_of_region}
+use Rattle.ca_base.specs.objects.Region.{grant_of_region}
 use Rattle.ca_keys.specs.Equal.{key_eq}
+use Rattle.ca_keys.specs.declared.grant.Grant.{Grant}
 use Rattle.ca_keys.specs.declared.key.Key.{Key}
 use Rattle.ca_keys.specs.declared.names.QueueId.{QueueId}
 use Rattle.ca_keys.specs.declared.names.Slot.{Slot}
@@ -71,10 +72,10 @@ AgreeOnAccesses lives latest naming requests queue =
 abbrev pub AccessesAgree : Past → World → Type 0
 AccessesAgree past w = AgreeOnAccesses past.incarnation past.latest_write past.naming past.read_requests w.queue
 
--- the grant of each region ends where addresses end, or before
-abbrev pub EndWithin : (Slot → Region) → Type 0
-EndWithin region = (s : Slot) → IfSome (grant_of_region (region s)) (λ g. g.address + g.length ≤ 2 ^ 64)
+-- a grant ends where addresses end, or before
+abbrev pub IsEnded : Option Grant → Type 0
+IsEnded grant = IfSome grant (λ g. g.address + g.length ≤ 2 ^ 64)
 
--- a world in which they do
+-- a world in which the grant of each region does
 abbrev pub IsEndedWorld : World → Type 0
-IsEndedWorld w = EndWithin w.region
+IsEndedWorld w = (s : Slot) → IsEnded (grant_of_region (w.region s))
