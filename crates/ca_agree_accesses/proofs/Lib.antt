@@ -1,3 +1,5 @@
 mod DecodedLemmas
 mod QuietLemmas
 mod EndLemmas
+mod CarryLemmas
+mod AccessRowLemmas

@@ -1,4 +1,6 @@
 use Rattle.ca_agree_accesses.proofs.DecodedLemmas.{write-reth}
+use Rattle.ca_agree_accesses.proofs.AccessRowLemmas.{arrival-carried}
+use Rattle.ca_agree_accesses.proofs.CarryLemmas.{leaves-remote}
 use Rattle.ca_agree_accesses.proofs.EndLemmas.{one-denied}
 use Rattle.ca_agree_accesses.proofs.QuietLemmas.{timeout-quiet}
 use Rattle.ca_agree_accesses.proofs.laws.opening_agrees_on_accesses.Goals as goal
