@@ -3,3 +3,4 @@ mod QuietLemmas
 mod EndLemmas
 mod CarryLemmas
 mod AccessRowLemmas
+mod RespondLemmas
