@@ -4,3 +4,4 @@ mod EndLemmas
 mod CarryLemmas
 mod AccessRowLemmas
 mod RespondLemmas
+mod TurnLemmas

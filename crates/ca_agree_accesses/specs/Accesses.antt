@@ -58,15 +58,11 @@ abbrev pub AgreeInSlot : Option LatestWrite → Option Naming → List ReadReque
 AgreeInSlot latest naming requests (NoQueue incarnation timers) = Unit {0}
 AgreeInSlot latest naming requests (Present q) = AgreeOnResponder latest naming requests q
 
--- a queue pair in an incarnation
-abbrev pub life : QueueId → ℕ → Correspondent
-life q incarnation = record { queue = q; incarnation = incarnation }
-
 -- the queue pair in each slot agrees with what its latest write and its present incarnation have left
 abbrev pub AgreeOnAccesses : (QueueId → ℕ) → (QueueId → Option LatestWrite) → (QueueId → Option Naming)
     → (Correspondent → List ReadRequest) → (QueueId → QueueSlot) → Type 0
 AgreeOnAccesses lives latest naming requests queue =
-    (q : QueueId) → AgreeInSlot (latest q) (naming q) (requests (life q (lives q))) (queue q)
+    (q : QueueId) → AgreeInSlot (latest q) (naming q) (requests (record { queue = q; incarnation = lives q })) (queue q)
 
 -- what a past and a world say of remote accesses in progress
 abbrev pub AccessesAgree : Past → World → Type 0
