@@ -5,3 +5,4 @@ mod CarryLemmas
 mod AccessRowLemmas
 mod RespondLemmas
 mod TurnLemmas
+mod ArrivalLemmas

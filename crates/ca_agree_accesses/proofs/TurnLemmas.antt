@@ -125,7 +125,7 @@ pub kept-safe : (w : World) (us : List Update) → AreSafe us → AreKept w us
 kept-safe w [] safe = record {}
 kept-safe w (u ∷ us) safe = (safe-one w u.name u.thing safe.0, kept-safe w us safe.1)
 
-srq-kept : (w : World) (q : QueuePair) (a : Around) (b : Bool) → AreKept w (if b then srq_updates q a after_receive_take else [])
+pub srq-kept : (w : World) (q : QueuePair) (a : Around) (b : Bool) → AreKept w (if b then srq_updates q a after_receive_take else [])
 srq-kept w q a false = record {}
 srq-kept w q a true = by q.srq a.shared
   where
