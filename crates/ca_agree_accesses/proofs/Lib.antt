@@ -6,3 +6,4 @@ mod AccessRowLemmas
 mod RespondLemmas
 mod TurnLemmas
 mod ArrivalLemmas
+mod VerbLemmas
