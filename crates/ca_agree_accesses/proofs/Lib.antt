@@ -7,3 +7,4 @@ mod RespondLemmas
 mod TurnLemmas
 mod ArrivalLemmas
 mod VerbLemmas
+mod ChangeLemmas

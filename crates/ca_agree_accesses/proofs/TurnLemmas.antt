@@ -190,7 +190,7 @@ all-asked-more : (mtu : ℕ) (rs ss : List ReadRequest) → ((test : ReadRequest
 all-asked-more mtu rs ss more [] all = record {}
 all-asked-more mtu rs ss more (x ∷ xs) all = (asked-more mtu rs ss more x all.0, all-asked-more mtu rs ss more xs all.1)
 
-slot-grown : (s : QueueSlot) (a b : Option LatestWrite) (m n : Option Naming) (rs ss : List ReadRequest) → b ≡ a → n ≡ m → ((test : ReadRequest → Bool) → list_any test rs ≡ true → list_any test ss ≡ true) → AgreeInSlot a m rs s → AgreeInSlot b n ss s
+pub slot-grown : (s : QueueSlot) (a b : Option LatestWrite) (m n : Option Naming) (rs ss : List ReadRequest) → b ≡ a → n ≡ m → ((test : ReadRequest → Bool) → list_any test rs ≡ true → list_any test ss ≡ true) → AgreeInSlot a m rs s → AgreeInSlot b n ss s
 slot-grown (NoQueue incarnation timers) a b m n rs ss latest naming more agree = record {}
 slot-grown (Present q) a b m n rs ss latest naming more agree = record {
   write = subst (GoesOn q.responder.message) (sym latest) agree.write;

@@ -70,7 +70,7 @@ abbrev pub RightBy : Past → ℕ → Verb → World → List Mark → Type 0
 RightBy past by verb = Right past (events.Verb by verb)
 
 -- an answer that tells of no access, before marks that tell of none, with changes that keep the agreement
-right-answer : (c : Configuration) (past : Past) (w : World) (by : ℕ) (verb : Verb) (answer : Answer) (us : List Update) (ms : List Mark) → IsMet c past w → Grows past (Behind past by verb answer) → AreUnheard ms → AreKept w us
+pub right-answer : (c : Configuration) (past : Past) (w : World) (by : ℕ) (verb : Verb) (answer : Answer) (us : List Update) (ms : List Mark) → IsMet c past w → Grows past (Behind past by verb answer) → AreUnheard ms → AreKept w us
     → RightBy past by verb (put_all us w) (answer_mark (call_of by verb) answer ∷ ms)
 right-answer c past w by verb answer us ms met grows unheard kept = (
   both-true true _ refl (passes-unheard ms unheard (Behind past by verb answer)),
@@ -85,7 +85,7 @@ right-answer c past w by verb answer us ms met grows unheard kept = (
     keeps = kept-puts w w us kept (same-world w met.ended)
 
 -- changes that keep the agreement, behind others
-agree-more : (p : Past) (v : World) (us : List Update) → AccessesAgree p v → IsEndedWorld v → AreKept v us → AccessesAgree p (put_all us v) × IsEndedWorld (put_all us v)
+pub agree-more : (p : Past) (v : World) (us : List Update) → AccessesAgree p v → IsEndedWorld v → AreKept v us → AccessesAgree p (put_all us v) × IsEndedWorld (put_all us v)
 agree-more p v us agree ended kept = (agree-kept p p v (put_all us v) (same-past p) keeps agree, keeps.ended)
   where
     keeps : KeepsAccesses v (put_all us v)
@@ -128,7 +128,7 @@ buffer-few (a ∷ xs) zero buffer all has = by (slice_get a.buffers buffer) refl
 buffer-few (a ∷ xs) (suc i) buffer all has = buffer-few xs i buffer all.1 has
 
 -- a registration ends where addresses end, or before
-right-reg_mr : (c : Configuration) (past : Past) (w : World) (by : ℕ) (s : Slot) (buffer offset count : ℕ) (rights : Rights) → IsMet c past w → has_buffer c s.domain.adapter buffer ≡ true
+pub right-reg_mr : (c : Configuration) (past : Past) (w : World) (by : ℕ) (s : Slot) (buffer offset count : ℕ) (rights : Rights) → IsMet c past w → has_buffer c s.domain.adapter buffer ≡ true
     → Leads w (RightBy past by (verbs.RegMr s buffer offset count rights)) (reg_mr_plan (call_of by (verbs.RegMr s buffer offset count rights)) s (run_of s.domain.adapter buffer offset count) (bytes_of_buffer c s.domain.adapter buffer) rights)
 right-reg_mr c past w by s buffer offset count rights met has = leads-unless-all w P
     ((not domain.allocated, NoDomain) ∷ (not (is_vacant_region region), SlotTaken) ∷ of_region_refusals (registration_refusals at bytes rights)) (Refuse_plan call)
@@ -161,7 +161,7 @@ right-reg_mr c past w by s buffer offset count rights met has = leads-unless-all
     few : (bytes ≤ MAX_BUFFER_BYTES) × (buffer < MAX_BUFFERS)
     few = buffer-few c.adapters s.domain.adapter buffer met.limited.adapters has
 
-right-alloc_mr : (c : Configuration) (past : Past) (w : World) (by : ℕ) (s : Slot) (pages : ℕ) → IsMet c past w → Leads w (RightBy past by (verbs.AllocMr s pages)) (alloc_mr_plan (call_of by (verbs.AllocMr s pages)) s pages)
+pub right-alloc_mr : (c : Configuration) (past : Past) (w : World) (by : ℕ) (s : Slot) (pages : ℕ) → IsMet c past w → Leads w (RightBy past by (verbs.AllocMr s pages)) (alloc_mr_plan (call_of by (verbs.AllocMr s pages)) s pages)
 right-alloc_mr c past w by s pages met = leads-unless w P
     ((not domain.allocated, NoDomain) ∷ (not (is_vacant_region (w.region s)), SlotTaken) ∷ ((pages == 0) || nat_lt MAX_PAGES pages, OutOfRange fields.Pages) ∷ []) (Refuse_plan call)
     (Answer_plan call answers.Fine us []) (λ r. (refl, (met.agree, met.ended)))
@@ -179,7 +179,7 @@ right-alloc_mr c past w by s pages met = leads-unless w P
     us : List Update
     us = (Domain_of s.domain := with_object domain) ∷ (Region_of s := after_allocation pages (w.region s)) ∷ []
 
-right-dereg_mr : (c : Configuration) (past : Past) (w : World) (by : ℕ) (s : Slot) → IsMet c past w → Leads w (RightBy past by (verbs.DeregMr s)) (dereg_mr_plan (call_of by (verbs.DeregMr s)) s)
+pub right-dereg_mr : (c : Configuration) (past : Past) (w : World) (by : ℕ) (s : Slot) → IsMet c past w → Leads w (RightBy past by (verbs.DeregMr s)) (dereg_mr_plan (call_of by (verbs.DeregMr s)) s)
 right-dereg_mr c past w by s met = leads-unless w P (of_region_refusals (deregistration_refusals (w.region s))) (Refuse_plan call)
     (Answer_plan call answers.Fine us (told (grant_of_region (w.region s)))) (λ r. (refl, (met.agree, met.ended)))
     (right-answer c past w by (verbs.DeregMr s) answers.Fine us (told (grant_of_region (w.region s))) met (record { incarnation = refl; naming = refl; latest = λ n. refl; requests = λ l test any. any }) (ends (grant_of_region (w.region s))) (record {}, (record {}, record {})))
@@ -200,7 +200,7 @@ right-dereg_mr c past w by s met = leads-unless w P (of_region_refusals (deregis
     ends None = record {}
     ends (Some g) = (record {}, record {})
 
-right-dealloc_mw : (c : Configuration) (past : Past) (w : World) (by : ℕ) (s : Slot) → IsMet c past w → Leads w (RightBy past by (verbs.DeallocMw s)) (dealloc_mw_plan (call_of by (verbs.DeallocMw s)) s)
+pub right-dealloc_mw : (c : Configuration) (past : Past) (w : World) (by : ℕ) (s : Slot) → IsMet c past w → Leads w (RightBy past by (verbs.DeallocMw s)) (dealloc_mw_plan (call_of by (verbs.DeallocMw s)) s)
 right-dealloc_mw c past w by s met = leads-unless w P ((x.kind == 0, NoSuch) ∷ []) (Refuse_plan call) (plan x.binding) (λ r. (refl, (met.agree, met.ended))) (at x.binding)
   where
     P : World → List Mark → Type 0
@@ -262,7 +262,7 @@ posted-right c past w by s request q drawn window more met is kept = leads-unles
         ∷ (Cq_of (send_cq_of q) := option_map (after_puts (completions_to q q.send_cq (marks_of_flush posted))) (w.cq (send_cq_of q)))
         ∷ more
 
-right-post_send : (c : Configuration) (past : Past) (w : World) (by : ℕ) (s : Slot) (request : SendRequest) → IsMet c past w
+pub right-post_send : (c : Configuration) (past : Past) (w : World) (by : ℕ) (s : Slot) (request : SendRequest) → IsMet c past w
     → Leads w (RightBy past by (verbs.PostSend s request)) (post_send_plan (call_of by (verbs.PostSend s request)) s request)
 right-post_send c past w by s request met = agrees-present c w P call s (λ q. posting q request.op) met.sound (refl, (met.agree, met.ended)) (λ q is name. on q is request.op)
   where
@@ -301,7 +301,7 @@ right-post_send c past w by s request met = agrees-present c w P call s (λ q. p
     on q is (ops.CmpSwap address key compare swap list) = plain q is
     on q is (ops.FetchAdd address key add list) = plain q is
 
-right-post_recv : (c : Configuration) (past : Past) (w : World) (by : ℕ) (s : Slot) (request : RecvRequest) → IsMet c past w
+pub right-post_recv : (c : Configuration) (past : Past) (w : World) (by : ℕ) (s : Slot) (request : RecvRequest) → IsMet c past w
     → Leads w (RightBy past by (verbs.PostRecv s request)) (post_recv_plan (call_of by (verbs.PostRecv s request)) s request)
 right-post_recv c past w by s request met = agrees-present c w P call s _ met.sound (refl, (met.agree, met.ended)) (λ q is name. on q is)
   where
@@ -373,7 +373,7 @@ with-places w P s cq polled [] k more = more [] (record {})
 with-places w P s cq polled (x ∷ xs) k more = with-place w P s cq polled x (λ u. With_places s cq polled xs (λ us. k (u ∷ us)))
     (λ u kept. with-places w P s cq polled xs (λ us. k (u ∷ us)) (λ us rest. more (u ∷ us) (kept, rest)))
 
-right-poll : (c : Configuration) (past : Past) (w : World) (by : ℕ) (s : Slot) (n least : ℕ) → IsMet c past w
+pub right-poll : (c : Configuration) (past : Past) (w : World) (by : ℕ) (s : Slot) (n least : ℕ) → IsMet c past w
     → Leads w (RightBy past by (verbs.Poll s n least)) (poll_plan (call_of by (verbs.Poll s n least)) s n least)
 right-poll c past w by s n least met = at (w.cq s)
   where

@@ -1,4 +1,5 @@
 use Rattle.ca_agree_accesses.proofs.DecodedLemmas.{write-reth}
+use Rattle.ca_agree_accesses.proofs.ChangeLemmas.{right-destroy}
 use Rattle.ca_agree_accesses.proofs.VerbLemmas.{RightBy}
 use Rattle.ca_agree_accesses.proofs.ArrivalLemmas.{right-inject}
 use Rattle.ca_agree_accesses.proofs.TurnLemmas.{right-wake}
