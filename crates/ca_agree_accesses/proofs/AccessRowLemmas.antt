@@ -18,7 +18,6 @@ use Rattle.ca_base.specs.declared.completion.WcStatus.TheVariants.{Success}
 use Rattle.ca_base.specs.declared.limits.TheConstants.{ATOMIC_BYTES, MAX_MESSAGE_BYTES}
 use Rattle.ca_base.specs.declared.queue_numbers.Message.{Message}
 use Rattle.ca_base.specs.declared.request.PlacedReceive.{PlacedReceive}
-use Rattle.ca_base.specs.objects.Mailbox.{passes}
 use Rattle.ca_base.specs.objects.QueuePair.{QueuePair}
 use Rattle.ca_base.specs.objects.Saved.{after_save}
 use Rattle.ca_base.specs.objects.SharedReceives.{SharedReceives}
@@ -35,7 +34,7 @@ use Rattle.ca_keys.specs.declared.names.QueueId.{QueueId}
 use Rattle.ca_keys.specs.declared.verdict.Verdict.{Verdict}
 use Rattle.ca_laws_sound.proofs.WorldLemmas.{RowDoes}
 use Rattle.ca_laws_windows.specs.Bindings.{IsBoundWorld}
-use Rattle.ca_model.specs.Carried.{arrived_so, asks_for, carries, goes_on, names_all, names_atomic, names_write, writes_payload}
+use Rattle.ca_model.specs.Carried.{arrived_so, asks_for, goes_on, names_all, names_atomic, names_write, writes_payload}
 use Rattle.ca_model.specs.Packets.{asks_atomic, continues_write, is_response, is_write, number_put, packet_of}
 use Rattle.ca_model.specs.Past.{LatestWrite, Past, ReadRequest, latest_write_after, packet_at, remote_ask}
 use Rattle.ca_model.specs.declared.mark.Drop1.{Drop1}

@@ -1,5 +1,5 @@
 -- Packets that arrive keep the agreement on accesses, and each access that they make is asked for. For proofs only.
-use Rattle.std.proofs.Common.{Bool, List, None, Ok, Option, Some, [], ap, arith, eq-eqb, false, if◌then◌else◌, length, nat_lt, option_map, refl, subst, sym, true, ℕ, ◌%◌, ◌++◌, ◌+◌, ◌-◌, ◌==◌, ◌^◌, ◌||◌, ◌∙◌, ◌∷◌, ◌≡◌}
+use Rattle.std.proofs.Common.{Bool, List, None, Ok, Option, Some, [], ap, arith, eq-eqb, false, if◌then◌else◌, nat_lt, option_map, refl, subst, sym, true, ℕ, ◌%◌, ◌++◌, ◌+◌, ◌-◌, ◌==◌, ◌^◌, ◌||◌, ◌∙◌, ◌∷◌, ◌≡◌}
 use Rattle.std.proofs.Math.Nat.{zero-mod}
 use Rattle.std.proofs.lemmas.Bool.{le-leb}
 use Rattle.std.proofs.lemmas.Bool.Decides.{nat_tests}
@@ -19,11 +19,10 @@ use Rattle.ca_agree_accesses.proofs.CarryLemmas.{Carries, IsCarried, is_accessed
 use Rattle.ca_agree_accesses.proofs.EndLemmas.{AreSafe, leads-seen}
 use Rattle.ca_agree_accesses.proofs.TurnLemmas.{Grows, IsMet, Right, agree-at, agree-kept, grows-then, kept-append, kept-safe, requests_of, same-world, srq-kept, turn-agrees, unheard-grows}
 use Rattle.ca_agree_accesses.specs.Accesses.{AccessesAgree, AgreeOnAccesses, AgreeOnResponder, IsEnded, IsEndedWorld, is_left_of}
-use Rattle.ca_agree_keys.proofs.ToldLemmas.{ended}
 use Rattle.ca_base.specs.Configuration.{Configuration}
 use Rattle.ca_base.specs.declared.correspondent.Correspondent.{Correspondent}
 use Rattle.ca_base.specs.objects.CompletionQueue.{after_puts}
-use Rattle.ca_base.specs.objects.Mailbox.{Mailbox, after_delivery, bytes_lent, passes}
+use Rattle.ca_base.specs.objects.Mailbox.{Mailbox, after_delivery, bytes_lent}
 use Rattle.ca_base.specs.objects.QueuePair.{NoQueue, Present, QueuePair, QueueSlot, recv_cq_of, send_cq_of}
 use Rattle.ca_base.specs.objects.Region.{grant_of_region}
 use Rattle.ca_base.specs.objects.SharedReceives.{after_receive_take}
@@ -34,7 +33,6 @@ use Rattle.ca_keys.specs.declared.names.QueueId.{QueueId}
 use Rattle.ca_keys.specs.declared.names.Slot.{Slot}
 use Rattle.ca_laws_sound.proofs.SettledLemmas.{queue-refl}
 use Rattle.ca_laws_sound.proofs.WorldLemmas.{around_in, shared_of}
-use Rattle.ca_model.specs.Carried.{carries}
 use Rattle.ca_model.specs.Packets.{packet_of}
 use Rattle.ca_model.specs.Past.{Envelope, Past, ReadRequest, after_mark, after_marks, at_begin, correspondent_eq, each_mark, packet_at, present_incarnation, read_request_of}
 use Rattle.ca_model.specs.declared.answer.Refusal.TheVariants.{NoSuch}

@@ -8,7 +8,6 @@ use Rattle.ca_agree_accesses.proofs.QuietLemmas.{AreUnheard, IsQuiet, IsUnheardM
 use Rattle.ca_agree_accesses.specs.Accesses.{GoesOn, IsAsked}
 use Rattle.ca_agree_accesses.specs.Asked.{has_its_packet, has_its_request}
 use Rattle.ca_base.specs.declared.correspondent.Correspondent.{Correspondent}
-use Rattle.ca_base.specs.objects.Mailbox.{passes}
 use Rattle.ca_base.specs.objects.QueuePair.{QueuePair}
 use Rattle.ca_judged.proofs.JudgeLemmas.{both-true}
 use Rattle.ca_keys.specs.Equal.{queue_eq}

@@ -88,8 +88,11 @@ init-only states.Error e = absurd (true≢false e)
 reset-right : (c : Configuration) (past : Past) (w : World) (by : ℕ) (s : Slot) (q : QueuePair) (a : Around) → IsMet c past w → q.queue ≡ queue_of s
     → RightBy past by (verbs.ModifyQp s changes.Reset) (put_all ((Queue_of q.queue := Present (queue_after_change changes.Reset q))
     ∷ (Mailbox_of q.queue := emptied_mailbox (queue_after_change changes.Reset q).incarnation (w.mailbox q.queue)) ∷ emptied_updates q a) w) (answer_mark (call_of by (verbs.ModifyQp s changes.Reset)) answers.Fine ∷ [])
-reset-right c past w by s q a met name = (refl, agree-more r v (emptied_updates q a) (subst (λ k. AgreeOnAccesses r.incarnation r.latest_write r.naming r.read_requests (with_at queue_eq w.queue k slot)) (sym name) moved) met.ended
-    (record {}, (record {}, srq-changed v q a (after_receives_retire (places_held q a)))))
+reset-right c past w by s q a met name = (
+  refl,
+  agree-more r v (emptied_updates q a) (subst (λ k. AgreeOnAccesses r.incarnation r.latest_write r.naming r.read_requests (with_at queue_eq w.queue k slot)) (sym name) moved) met.ended
+      (record {}, (record {}, srq-changed v q a (after_receives_retire (places_held q a)))),
+)
   where
     r : Past
     r = Behind past by (verbs.ModifyQp s changes.Reset) answers.Fine

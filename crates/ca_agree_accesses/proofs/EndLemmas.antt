@@ -219,10 +219,13 @@ leads-bind2 c w P l rs q n window key low address count rights finish ended more
 fast-safe : (c : Configuration) (q : QueuePair) (region low buffer address count : ℕ) (rights : Rights) (pages : List ℕ) (r : Region) (refusal : Option OpRefusal)
     → fast_refusal c q region buffer address count rights pages r ≡ refusal → AreSafe (unless_none refusal (fast_changes q region low buffer address count rights pages r))
 fast-safe c q region low buffer address count rights pages r (Some refusal) e = record {}
-fast-safe c q region low buffer address count rights pages r None e = (ltb-false (2 ^ 64) (address + count) (or_parts (count == 0) (nat_lt (2 ^ 64) (address + count))
-    (or_parts ((count == 0) || nat_lt (2 ^ 64) (address + count)) (nat_lt (option_map_or (λ n. n) (free_pages r.state) 0) (length pages))
-    (or_parts ((count == 0) || nat_lt (2 ^ 64) (address + count) || nat_lt (option_map_or (λ n. n) (free_pages r.state) 0) (length pages)) (has_repeat pages)
-    (or_parts ((count == 0) || nat_lt (2 ^ 64) (address + count) || nat_lt (option_map_or (λ n. n) (free_pages r.state) 0) (length pages) || has_repeat pages) (not (length pages == pages_needed address count)) fails.1.1.0).0).0).0).1, record {})
+fast-safe c q region low buffer address count rights pages r None e = (
+  ltb-false (2 ^ 64) (address + count) (or_parts (count == 0) (nat_lt (2 ^ 64) (address + count))
+      (or_parts ((count == 0) || nat_lt (2 ^ 64) (address + count)) (nat_lt (option_map_or (λ n. n) (free_pages r.state) 0) (length pages))
+      (or_parts ((count == 0) || nat_lt (2 ^ 64) (address + count) || nat_lt (option_map_or (λ n. n) (free_pages r.state) 0) (length pages)) (has_repeat pages)
+      (or_parts ((count == 0) || nat_lt (2 ^ 64) (address + count) || nat_lt (option_map_or (λ n. n) (free_pages r.state) 0) (length pages) || has_repeat pages) (not (length pages == pages_needed address count)) fails.1.1.0).0).0).0).1,
+  record {},
+)
   where
     fails : AllFail (fast_request_refusals (region_slot q region) buffer (buffer_length c q.domain.adapter buffer) address count rights pages r)
     fails = all-fail (fast_request_refusals (region_slot q region) buffer (buffer_length c q.domain.adapter buffer) address count rights pages r) e

@@ -1,10 +1,11 @@
-mod DecodedLemmas
-mod QuietLemmas
-mod EndLemmas
-mod CarryLemmas
-mod AccessRowLemmas
-mod RespondLemmas
-mod TurnLemmas
-mod ArrivalLemmas
-mod VerbLemmas
-mod ChangeLemmas
+pub mod DecodedLemmas
+pub mod QuietLemmas
+pub mod EndLemmas
+pub mod CarryLemmas
+pub mod AccessRowLemmas
+pub mod RespondLemmas
+pub mod TurnLemmas
+pub mod ArrivalLemmas
+pub mod VerbLemmas
+pub mod ChangeLemmas
+pub mod EventLemmas

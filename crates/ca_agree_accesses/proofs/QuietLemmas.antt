@@ -43,7 +43,6 @@ use Rattle.ca_model.specs.machine.Row.{Does, Effects, NotPossible, Row, plain_ro
 use Rattle.ca_model.specs.machine.Timers.{after_timeout}
 use Rattle.ca_packet.specs.Packet.{Fields, plain}
 use Rattle.ca_packet.specs.Shapes.{ends}
-use Rattle.ca_packet.specs.Table.{has}
 use Rattle.ca_packet.specs.declared.opcode.TheConstants.{ACKNOWLEDGE}
 use Rattle.ca_packet.specs.declared.reth.Reth.{Reth}
 use Rattle.ca_packet.specs.declared.shape.Position.{Position}

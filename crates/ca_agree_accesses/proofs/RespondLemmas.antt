@@ -15,7 +15,6 @@ use Rattle.ca_agree_keys.proofs.PlainLemmas.{flush-plain}
 use Rattle.ca_base.specs.Sight.{Sight, bytes_in, runs_by_grant}
 use Rattle.ca_base.specs.declared.queue_numbers.Queued.{Queued}
 use Rattle.ca_base.specs.declared.step.Reason.{Reason}
-use Rattle.ca_base.specs.objects.Mailbox.{passes}
 use Rattle.ca_base.specs.objects.QueuePair.{QueuePair, in_error, without_answers}
 use Rattle.ca_judged.proofs.JudgeLemmas.{both-true}
 use Rattle.ca_judged.proofs.WholeLemmas.{bytes-count}
@@ -181,9 +180,18 @@ module _ (s : Sight) (l : Option LatestWrite) (rs : List ReadRequest) (q : Queue
 
       kept : (b : Bool) → is_last_response q r ≡ b → ((left b).responder.mtu ≡ q.responder.mtu) × (GoesOn (left b).responder.message l × AllByRecursion (IsAsked q.responder.mtu rs) (left b).responder.answers)
       kept true e = (refl, (write, all-dropped 1 q.responder.answers reads))
-      kept false e = (refl, (write, (any-follows (is_left_of q.responder.mtu r.key r.address r.left r.envelope)
-          (is_left_of q.responder.mtu r.key ((r.address + response_length q r) % 2 ^ 64) (r.left - response_length q r) r.envelope) rs
-          (λ request is. one-left q.responder.mtu r.key r.address r.left r.envelope request e is) of, all-dropped 1 q.responder.answers reads)))
+      kept false e = (
+        refl,
+        (
+          write,
+          (
+            any-follows (is_left_of q.responder.mtu r.key r.address r.left r.envelope)
+                (is_left_of q.responder.mtu r.key ((r.address + response_length q r) % 2 ^ 64) (r.left - response_length q r) r.envelope) rs
+                (λ request is. one-left q.responder.mtu r.key r.address r.left r.envelope request e is) of,
+            all-dropped 1 q.responder.answers reads,
+          ),
+        ),
+      )
 
       gives : (bytes : List ℕ) → length bytes ≤ q.responder.mtu → Carries I q rs (read_answer q r bytes)
       gives bytes few = λ x at. record {

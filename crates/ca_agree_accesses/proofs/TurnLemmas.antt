@@ -30,7 +30,6 @@ use Rattle.ca_keys.specs.declared.names.Slot.{Slot}
 use Rattle.ca_laws_sound.proofs.SettledLemmas.{queue-path, queue-refl}
 use Rattle.ca_laws_sound.proofs.WorldLemmas.{around_in, shared_of}
 use Rattle.ca_laws_windows.specs.Bindings.{IsBoundWorld}
-use Rattle.ca_model.specs.Carried.{carries}
 use Rattle.ca_model.specs.Past.{LatestWrite, Naming, Past, ReadRequest, after_marks, at_begin, each_mark, mtu_of, present_incarnation}
 use Rattle.ca_model.specs.declared.event.Event.{Event}
 use Rattle.ca_model.specs.declared.mark.Mark.{Mark}
@@ -323,8 +322,14 @@ right-left c past event w q peer lot row I met is at sees = leads-seen c w (Righ
             ((Cq_of (send_cq_of q) := option_map (after_puts (completions_to q q.send_cq e.marks)) a.send)
             ∷ (Cq_of (recv_cq_of q) := option_map (after_puts (completions_to q q.recv_cq e.marks)) a.recv)
             ∷ ((if e.takes_shared then srq_updates q a after_receive_take else []) ++ (cs ++ sends e))) ws is met.agree met.ended carried
-            (λ u. (record {}, (record {}, kept-append u (if e.takes_shared then srq_updates q a after_receive_take else []) (cs ++ sends e) (srq-kept u q a e.takes_shared)
-            (kept-append u cs (sends e) (kept-safe u cs safe) (sent-kept u q peer m lot (packet_sent e))))))
+            (λ u. (
+              record {},
+              (
+                record {},
+                kept-append u (if e.takes_shared then srq_updates q a after_receive_take else []) (cs ++ sends e) (srq-kept u q a e.takes_shared)
+                    (kept-append u cs (sends e) (kept-safe u cs safe) (sent-kept u q peer m lot (packet_sent e))),
+              ),
+            ))
 
 -- effects that tell of no access end an event
 right-quiet : (c : Configuration) (past : Past) (event : Event) (w : World) (q : QueuePair) (e : Effects) (cs : List Update) (ws : List Write) → IsMet c past w → w.queue q.queue ≡ Present q

@@ -1,12 +1,12 @@
 -- Remote accesses and the packets that ask for them: the parts of Carried that speak of accesses. Laws cite it.
-use Rattle.std.specs.List.{list_any}
-use Rattle.std.specs.Prelude.{Bool, IsTrue, List, Option, true, ℕ, ◌&&◌}
+use Rattle.std.specs.List.{AllByRecursion, list_any}
+use Rattle.std.specs.Prelude.{Bool, IsTrue, List, Option, true, ℕ, ◌&&◌, ◌<◌, ◌^◌}
 use Rattle.ca_agree_accesses.specs.Accesses.{is_left_of}
 use Rattle.ca_keys.specs.Memory.{ByteMap}
 use Rattle.ca_keys.specs.declared.access.Ask.{Ask}
 use Rattle.ca_keys.specs.declared.access.Kind.{Kind}
 use Rattle.ca_keys.specs.declared.verdict.Verdict.{Verdict}
-use Rattle.ca_model.specs.Carried.{is_carried_by_arrival, is_respond_of, reads_at_most}
+use Rattle.ca_model.specs.Carried.{is_carried_access, is_carried_by_arrival, is_respond_of, reads_at_most}
 use Rattle.ca_model.specs.Entries.{EntryValue}
 use Rattle.ca_model.specs.Past.{Past, each_entry, mtu_of, opening_past, present_incarnation, remote_ask}
 use Rattle.ca_model.specs.declared.mark.Mark.{Mark}
@@ -48,3 +48,22 @@ has_its_request past mark = true
 -- each READ of a history does so, over these bytes
 abbrev pub HaveTheirRequests : ByteMap → List EntryValue → Type 0
 HaveTheirRequests bytes es = IsTrue (each_entry has_its_request (λ past. true) (opening_past bytes) es)
+
+-- an access by an address that is one
+abbrev pub HasAddress : Mark → Type 0
+HasAddress (marks.Remote queue domain envelope key kind address count verdict) = address < 2 ^ 64
+HasAddress mark = Unit {0}
+
+-- the remote accesses of a history have addresses below 2^64, as the type of a mark has them
+abbrev pub HaveAddresses : List EntryValue → Type 0
+HaveAddresses es = AllByRecursion (λ e. AllByRecursion HasAddress e.marks) es
+
+-- a remote access has its packet, or its request, as Carried has it
+abbrev pub is_carried_remote : Past → Mark → Bool
+is_carried_remote past (marks.Remote queue domain envelope key kind address count verdict) =
+    is_carried_access past (remote_ask queue domain key kind address count) envelope verdict kind
+is_carried_remote past mark = true
+
+-- each remote access of a history does so, over these bytes
+abbrev pub AreCarriedAccesses : ByteMap → List EntryValue → Type 0
+AreCarriedAccesses bytes es = IsTrue (each_entry is_carried_remote (λ past. true) (opening_past bytes) es)
