@@ -1,2 +1,4 @@
 pub mod NumberLemmas
 pub mod MoveLemmas
+pub mod PerformLemmas
+pub mod StartTurnLemmas

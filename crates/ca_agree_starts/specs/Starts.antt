@@ -30,9 +30,9 @@ pub record AgreeOnStart (start : Option Start) (posted : List Posted) (q : Queue
   pub begun : is_sending q.state ≡ true → HasBegun start posted q
 
 -- the same of what stands in a slot
-abbrev pub AgreeInSlot : Option Start → List Posted → QueueSlot → Type 0
-AgreeInSlot start posted (NoQueue incarnation timers) = Unit {0}
-AgreeInSlot start posted (Present q) = AgreeOnStart start posted q
+abbrev pub StartsInSlot : Option Start → List Posted → QueueSlot → Type 0
+StartsInSlot start posted (NoQueue incarnation timers) = Unit {0}
+StartsInSlot start posted (Present q) = AgreeOnStart start posted q
 
 -- the change to Ready to Send of a queue pair in an incarnation, the latest first
 abbrev pub start_in : List Start → Correspondent → Option Start
@@ -40,7 +40,7 @@ start_in starts own = find (λ s. correspondent_eq s.own own) starts
 
 -- the queue pair in each slot agrees with its start and with what was posted, in its present incarnation
 abbrev pub AgreeOnStarts : (QueueId → ℕ) → List Start → (Correspondent → List Posted) → (QueueId → QueueSlot) → Type 0
-AgreeOnStarts lives starts posted queue = (q : QueueId) → AgreeInSlot (start_in starts (life q (lives q))) (posted (life q (lives q))) (queue q)
+AgreeOnStarts lives starts posted queue = (q : QueueId) → StartsInSlot (start_in starts (life q (lives q))) (posted (life q (lives q))) (queue q)
 
 -- what a past and a world say of PSNs
 abbrev pub StartsAgree : Past → World → Type 0
