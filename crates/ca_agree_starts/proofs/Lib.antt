@@ -2,3 +2,4 @@ pub mod NumberLemmas
 pub mod MoveLemmas
 pub mod PerformLemmas
 pub mod StartTurnLemmas
+pub mod StartVerbLemmas
