@@ -3,3 +3,4 @@ pub mod MoveLemmas
 pub mod PerformLemmas
 pub mod StartTurnLemmas
 pub mod StartVerbLemmas
+pub mod StartChangeLemmas

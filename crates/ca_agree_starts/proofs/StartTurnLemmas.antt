@@ -70,7 +70,7 @@ use Rattle.ca_model.specs.declared.verb.Verb.TheVariants as verbs
 abbrev pub IsKeptSlot : QueueSlot → QueueSlot → Type 0
 IsKeptSlot s t = (start : Option Start) (posted : List Posted) → StartsInSlot start posted s → StartsInSlot start posted t
 
-begun-same : (start : Option Start) (posted : List Posted) (q p : QueuePair) → p.requester ≡ q.requester → p.responder.mtu ≡ q.responder.mtu → HasBegun start posted q → HasBegun start posted p
+pub begun-same : (start : Option Start) (posted : List Posted) (q p : QueuePair) → p.requester ≡ q.requester → p.responder.mtu ≡ q.responder.mtu → HasBegun start posted q → HasBegun start posted p
 begun-same None posted q p requester mtu begun = begun
 begun-same (Some start) posted q p requester mtu begun = ap (λ (r : RequesterNumbers). r.oldest_psn) requester ∙ begun ∙ (λ i. whole_start start + psns_before (sym mtu i) posted (sym requester i).oldest)
 

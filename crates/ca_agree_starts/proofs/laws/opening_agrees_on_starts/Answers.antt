@@ -1,4 +1,5 @@
 use Rattle.ca_agree_starts.proofs.NumberLemmas.{finished-sum}
+use Rattle.ca_agree_starts.proofs.StartChangeLemmas.{starts-create}
 use Rattle.ca_agree_starts.proofs.StartVerbLemmas.{AgreesBy}
 use Rattle.ca_agree_starts.proofs.StartTurnLemmas.{starts-inject}
 use Rattle.ca_agree_starts.proofs.MoveLemmas.{moved-then}
