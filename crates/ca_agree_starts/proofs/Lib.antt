@@ -4,3 +4,4 @@ pub mod PerformLemmas
 pub mod StartTurnLemmas
 pub mod StartVerbLemmas
 pub mod StartChangeLemmas
+pub mod StartEventLemmas

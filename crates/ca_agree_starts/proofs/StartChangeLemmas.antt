@@ -138,7 +138,7 @@ reset-starts : (c : Configuration) (past : Past) (w : World) (by : ℕ) (s : Slo
     ∷ (Mailbox_of q.queue := emptied_mailbox (queue_after_change changes.Reset q).incarnation (w.mailbox q.queue)) ∷ emptied_updates q a) w) (answer_mark (call_of by (verbs.ModifyQp s changes.Reset)) answers.Fine ∷ [])
 reset-starts c past w by s q a met name =
     agree-more r v (emptied_updates q a) (subst (λ k. AgreeOnStarts r.incarnation r.starts r.posted (with_at queue_eq w.queue k slot)) (sym name) moved)
-        (record {}, (record {}, srq-changed v q a (after_receives_retire (places_held q a))))
+    (record {}, (record {}, srq-changed v q a (after_receives_retire (places_held q a))))
   where
     r : Past
     r = Behind past by (verbs.ModifyQp s changes.Reset) answers.Fine
@@ -230,6 +230,7 @@ starts-modify c past w by s changes.Resume met = agrees-present c w (AgreesBy pa
     changes-start w (AgreesBy past by (verbs.ModifyQp s changes.Resume)) (call_of by (verbs.ModifyQp s changes.Resume)) q (of_change_refusals (modify_refusals c q changes.Resume))
     (λ a. (Queue_of q.queue := Present (queue_after_change changes.Resume q)) ∷ []) [] (λ r. met.agree)
     (λ fails. still-starts c past w by s changes.Resume q [] [] met is (λ start posted agree. record { fresh = λ so. absurd (true≢false (sym so)); begun = λ so. begun-same start posted q (queue_after_change changes.Resume q) refl refl (agree.begun (sqd-only q.state fails.0)) }) (record { incarnation = refl; starts = refl; posted = refl }) (record {}) (record {})))
+
 -- ---- queue pairs that are made and destroyed
 
 create-starts : (c : Configuration) (past : Past) (w : World) (by : ℕ) (x : Creation) (domain : Domain) (send recv : CompletionQueue) (slot : Option SrqSlot) (number : ℕ) → IsReady c past w

@@ -57,7 +57,6 @@ use Rattle.ca_model.specs.machine.Timers.{after_timeout, after_wake, timeout_ref
 use Rattle.ca_model.specs.machine.Turns.{Fire, Leave_plan, Packet, Request_around, Respond_around, Timeout_around, With_receives, has_room_for, packet_sent, reaches_peer, request_plan, respond_plan, sent_marks, sent_updates, timeout_plan, wake_plan}
 use Rattle.ca_model.specs.machine.VerbAnswers.{Call, Refuse_plan, answer_mark}
 use Rattle.ca_model.specs.machine.World.{Byte_at, Cq_of, Domain_of, Mailbox_of, Name, Queue_of, Region_of, Srq_of, Thing, Window_of, World, put}
-use Rattle.ca_packet.specs.Table.{has}
 use Rattle.ca_model.specs.declared.answer.Answer.TheVariants as answers
 use Rattle.ca_model.specs.declared.event.Event.TheVariants as events
 use Rattle.ca_model.specs.declared.mark.Mark.TheVariants as marks
@@ -286,8 +285,14 @@ starts-left c past event w q peer lot row ready there does = leads-row c w (Agre
     ∷ (Cq_of (recv_cq_of q) := option_map (after_puts (completions_to q q.recv_cq e.marks)) a.recv)
     ∷ ((if e.takes_shared then srq_updates q a after_receive_take else []) ++ (cs ++ sends e))) ws ready there.present there.sound.requester.finished goes.1
     (same-marks (e.marks ++ tells e) (answers-append e.marks (tells e) goes.0 (sent-quiet q peer m lot (packet_sent e))) past (at_begin event past) (begin-same past event))
-    (λ u. (record {}, (record {}, kept-append u (if e.takes_shared then srq_updates q a after_receive_take else []) (cs ++ sends e) (srq-kept u q a e.takes_shared)
-    (kept-append u cs (sends e) (kept-aside u cs aside) (sent-kept u q peer m lot (packet_sent e)))))))
+    (λ u. (
+      record {},
+      (
+        record {},
+        kept-append u (if e.takes_shared then srq_updates q a after_receive_take else []) (cs ++ sends e) (srq-kept u q a e.takes_shared)
+            (kept-append u cs (sends e) (kept-aside u cs aside) (sent-kept u q peer m lot (packet_sent e))),
+      ),
+    )))
   where
     a : Around
     a = around_in w q (shared_of w q)

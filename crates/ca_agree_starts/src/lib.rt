@@ -3,4 +3,4 @@
 
 mod laws;
 
-pub use laws::{opening_agrees_on_starts};
+pub use laws::{event_keeps_starts_agreed, histories_agree_on_starts, opening_agrees_on_starts};
