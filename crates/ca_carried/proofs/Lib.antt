@@ -1,0 +1,3 @@
+pub mod FailingLemmas
+pub mod AnsweredLemmas
+pub mod AnsweredEventLemmas
