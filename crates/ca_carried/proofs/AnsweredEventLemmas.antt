@@ -23,7 +23,7 @@ use Rattle.ca_base.specs.objects.LocalRequest.{LocalMarks}
 use Rattle.ca_base.specs.objects.Mailbox.{Mailbox, is_lost, passes}
 use Rattle.ca_base.specs.objects.QueuePair.{QueuePair}
 use Rattle.ca_carried.proofs.AnsweredLemmas.{Answered, IsNoTurn, IsReady, Still, failing-pass, passes-append, still-event}
-use Rattle.ca_carried.proofs.FailingLemmas.{Fails, failure-failing, packet-failing, respond-failing}
+use Rattle.ca_carried.proofs.FailingLemmas.{Fails, Loosens, failure-failing, loose, packet-failing, respond-loose}
 use Rattle.ca_carried.specs.Answered.{HaveTheirResponses, is_answered}
 use Rattle.ca_judged.proofs.JudgeLemmas.{both-true}
 use Rattle.ca_keys.specs.Memory.{ByteMap}
@@ -31,7 +31,7 @@ use Rattle.ca_keys.specs.declared.grant.Grant.{Grant}
 use Rattle.ca_keys.specs.declared.key.Key.{Key}
 use Rattle.ca_keys.specs.declared.names.QueueId.{QueueId}
 use Rattle.ca_laws_sound.proofs.SoundLemmas.{event-sound, opening-sound}
-use Rattle.ca_laws_sound.proofs.WorldLemmas.{IsThere, RowDoes, around_in, shared_of}
+use Rattle.ca_laws_sound.proofs.WorldLemmas.{EndingDoes, IsThere, RowDoes, around_in, shared_of}
 use Rattle.ca_laws_steady.proofs.EventLemmas.{event-steady, opening-steady}
 use Rattle.ca_laws_steady.proofs.TurnLemmas.{there-kept}
 use Rattle.ca_laws_steady.specs.Steady.{IsSteadyWorld}
@@ -50,7 +50,7 @@ use Rattle.ca_model.specs.machine.Numbering.{Numbered}
 use Rattle.ca_model.specs.machine.Plan.{Did, Finish, NotReady, Outcome, Stuck}
 use Rattle.ca_model.specs.machine.Requester.{Performs, RequestTurn, Sends, Waits, packet_row, turn_of}
 use Rattle.ca_model.specs.machine.Respond.{respond_refusals, respond_row}
-use Rattle.ca_model.specs.machine.Row.{Row, Row_plan}
+use Rattle.ca_model.specs.machine.Row.{Does, Ending, NotPossible, Row, Row_plan}
 use Rattle.ca_model.specs.machine.Run.{Follows, Ran, go_on, run_from}
 use Rattle.ca_model.specs.machine.Sound.{AreLimited, CanBeMade, IsSoundWorld}
 use Rattle.ca_model.specs.machine.Step.{plan, step}
@@ -76,10 +76,17 @@ sent-pass q peer m lot (Some x) r = by (reaches_peer q peer m) (is_lost lot)
     by true false = refl
     by false c = refl
 
+loose-ending : (e : Ending) → EndingDoes Fails e → EndingDoes Loosens e
+loose-ending (NotPossible reason) fails = record {}
+loose-ending (Does e) fails = loose e.marks fails
+
+loose-row : (row : Row) → RowDoes Fails row → RowDoes Loosens row
+loose-row row does = record { denied = λ d. loose-ending (row.denied d) (does.denied d); allowed = λ bytes refusal. loose-ending (row.allowed bytes refusal) (does.allowed bytes refusal) }
+
 -- a turn's row, and what it sends
-left-passes : (c : Configuration) (past : Past) (event : Event) (w : World) (q : QueuePair) (peer : Correspondent) (lot : Lot) (row : Row) → RowDoes Fails row
+left-passes : (c : Configuration) (past : Past) (event : Event) (w : World) (q : QueuePair) (peer : Correspondent) (lot : Lot) (row : Row) → RowDoes Loosens row
     → Leads w (Passes past event) (Row_plan c row (Leave_plan q (around_in w q (shared_of w q)) peer (w.mailbox peer.queue) lot))
-left-passes c past event w q peer lot row does = leads-row c w (Passes past event) Fails row (Leave_plan q (around_in w q (shared_of w q)) peer (w.mailbox peer.queue) lot) does
+left-passes c past event w q peer lot row does = leads-row c w (Passes past event) Loosens row (Leave_plan q (around_in w q (shared_of w q)) peer (w.mailbox peer.queue) lot) does
     (λ e cs ws fails aside. passes-append e.marks (option_map_or (sent_marks q peer (w.mailbox peer.queue) lot) (packet_sent e) []) (at_begin event past) fails
     (sent-pass q peer (w.mailbox peer.queue) lot (packet_sent e)))
 
@@ -92,7 +99,7 @@ pass-respond c past event w name lot = leads-queue c w P name reasons.State (λ 
 
     by : (q : QueuePair) → (peer : Option Correspondent) → Leads w P (Respond_around c lot q (around_in w q (shared_of w q)) peer)
     by q None = leads-unless w P (respond_refusals true q) Stuck (Stuck reasons.Empty) (λ r. record {}) (record {})
-    by q (Some peer) = left-passes c past event w q peer lot (respond_row (has_room_for q peer (w.mailbox peer.queue)) q) (respond-failing (has_room_for q peer (w.mailbox peer.queue)) q)
+    by q (Some peer) = left-passes c past event w q peer lot (respond_row (has_room_for q peer (w.mailbox peer.queue)) q) (respond-loose (has_room_for q peer (w.mailbox peer.queue)) q)
 
 -- the success of a local operation has no packets
 local-passes : (past : Past) (event : Event) (q after : QueuePair) (n : Numbered) (m : LocalMarks) (refusal : Option OpRefusal)
@@ -142,7 +149,7 @@ pass-request c past event w name lot ready = leads-queue c w P name reasons.Stat
         local = ap (λ i. option_map_or (λ posted. not (is_local posted.request.op)) (posted_at past q.queue i) true) performed.item.place
             ∙ ap (λ o. option_map_or (λ (posted : Posted). not (is_local posted.request.op)) o true) at.is ∙ ap (λ (x : PostedSend). not (is_local x.request.op)) at.same ∙ ap not performed.local
     by q there None (Sends n) is = record {}
-    by q there (Some peer) (Sends n) is = left-passes c past event w q peer lot (packet_row q (has_room_for q peer (w.mailbox peer.queue)) n) (packet-failing q (has_room_for q peer (w.mailbox peer.queue)) n)
+    by q there (Some peer) (Sends n) is = left-passes c past event w q peer lot (packet_row q (has_room_for q peer (w.mailbox peer.queue)) n) (loose-row (packet_row q (has_room_for q peer (w.mailbox peer.queue)) n) (packet-failing q (has_room_for q peer (w.mailbox peer.queue)) n))
 
 still-passes : (c : Configuration) (past : Past) (w : World) (event : Event) → IsReady c past w → IsNoTurn event → Leads w (Passes past event) (plan c event)
 still-passes c past w event ready none = leads-weaker w (Still past event) (Passes past event) (plan c event) (λ v ms still. still.0) (still-event c past w event ready none)

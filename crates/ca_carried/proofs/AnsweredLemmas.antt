@@ -1,7 +1,8 @@
 -- Sends that have packets complete with success only as responses arrive: the marks of each event, and which tell of no
 -- packet. For proofs only.
-use Rattle.std.proofs.Common.{Bool, List, None, Option, Some, [], ap, false, not, option_map, refl, rules, subst, sym, true, ℕ, ◌&&◌, ◌++◌, ◌||◌, ◌∙◌, ◌∷◌, ◌≡◌}
+use Rattle.std.proofs.Common.{Bool, Err, List, None, Ok, Option, Result, Some, [], ap, false, if◌then◌else◌, not, option_map, refl, rules, subst, sym, true, true≢false, ℕ, ◌&&◌, ◌++◌, ◌||◌, ◌∙◌, ◌∷◌, ◌≡◌}
 use Rattle.std.specs.Option.{option_and_then, option_map_or}
+use Rattle.std.specs.Result.{result_ok}
 use Rattle.ca_agree.proofs.InnerLemmas.{AreOwn, IsInner, IsOwnMark, arrival-inner}
 use Rattle.ca_agree.proofs.LeadsLemmas.{leads-around, leads-queue, leads-row, leads-unless, leads-weaker}
 use Rattle.ca_agree.proofs.MailSentLemmas.{lent-sent}
@@ -9,6 +10,7 @@ use Rattle.ca_agree.proofs.PathChangeLemmas.{Behind}
 use Rattle.ca_agree.proofs.PathVerbLemmas.{call_of}
 use Rattle.ca_agree.specs.Agreement.{PathsAgree, WereSent}
 use Rattle.ca_agree.specs.Runs.{Leads}
+use Rattle.ca_agree_accesses.proofs.QuietLemmas.{AreUnheard, IsQuiet, IsUnheardMark, response-quiet}
 use Rattle.ca_agree_keys.proofs.KeyTurnLemmas.{found}
 use Rattle.ca_agree_keys.proofs.ToldLemmas.{ended}
 use Rattle.ca_agree_posts.proofs.GoingLemmas.{AreKeyless, EndKey, Goes, IsKeyless, RowGoes, TellOf, arrival-goes, key_gone}
@@ -22,10 +24,11 @@ use Rattle.ca_base.specs.objects.QueuePair.{NoQueue, Present, QueuePair, QueueSl
 use Rattle.ca_base.specs.objects.Region.{after_deregistration, deregistration_refusals, grant_of_region}
 use Rattle.ca_base.specs.objects.SharedReceives.{SharedReceives}
 use Rattle.ca_base.specs.objects.WorkQueue.{WorkQueue}
-use Rattle.ca_carried.proofs.FailingLemmas.{AreFailing, Fails, IsFailing, arrival-failing, is_answer, timeout-failing}
+use Rattle.ca_carried.proofs.FailingLemmas.{AreFailing, AreLoose, Fails, IsFailing, IsLoose, arrival-failing, is_answer, loose, timeout-failing}
 use Rattle.ca_carried.specs.Answered.{is_answered}
 use Rattle.ca_judged.proofs.JudgeLemmas.{both-true}
 use Rattle.ca_keys.specs.Equal.{queue_eq}
+use Rattle.ca_keys.specs.Refusals.{first_of}
 use Rattle.ca_keys.specs.declared.grant.Grant.{Grant}
 use Rattle.ca_keys.specs.declared.key.Key.{Key}
 use Rattle.ca_keys.specs.declared.names.QueueId.{QueueId}
@@ -37,36 +40,45 @@ use Rattle.ca_laws_steady.specs.Steady.{IsSteadyWorld}
 use Rattle.ca_licensed.proofs.AnswerLemmas.{Answers, AreAnswered, AreFlushes, IsQuietVerb, quiet-verb}
 use Rattle.ca_licensed.proofs.EffectLemmas.{tells}
 use Rattle.ca_model.specs.Carried.{has_packets, response_arrived}
-use Rattle.ca_model.specs.Packets.{packet_of}
-use Rattle.ca_model.specs.Past.{Envelope, Past, after_mark, at_begin, each_mark, is_send_success, packet_at}
+use Rattle.ca_model.specs.Packets.{is_response, packet_of}
+use Rattle.ca_model.specs.Past.{Envelope, Past, after_mark, at_begin, bytes_read, each_mark, is_send_success, packet_at}
 use Rattle.ca_model.specs.declared.answer.Refusal.TheVariants.{NoSuch}
 use Rattle.ca_model.specs.declared.event.Event.{Event}
+use Rattle.ca_model.specs.declared.mark.Drop1.{Drop1}
 use Rattle.ca_model.specs.declared.mark.Mark.{Mark}
 use Rattle.ca_model.specs.declared.verb.Verb.{Verb}
 use Rattle.ca_model.specs.machine.Around.{Around, With_around, shared_in, updates_of}
-use Rattle.ca_model.specs.machine.Delivery.{Arrive, arrival_row, deliver_plan}
+use Rattle.ca_model.specs.machine.Delivery.{Arrive, arrival_drops, arrival_row, deliver_plan, packet_arrived}
+use Rattle.ca_model.specs.machine.Duplicates.{request_row}
 use Rattle.ca_model.specs.machine.HostVerbs.{inject_plan}
 use Rattle.ca_model.specs.machine.Plan.{Finish, Look, Plan, Stuck, Update, Write, put_all, unless_refused, write_all, ◌:=◌}
 use Rattle.ca_model.specs.machine.RegionVerbs.{dereg_mr_plan}
-use Rattle.ca_model.specs.machine.Row.{Does, Effects, Ending, NotPossible, Row, Row_plan}
+use Rattle.ca_model.specs.machine.Responses.{drop_effects, response_row}
+use Rattle.ca_model.specs.machine.Row.{Does, Effects, Ending, NotPossible, Row, Row_plan, plain_row}
 use Rattle.ca_model.specs.machine.Sound.{IsQueueOf, IsSoundWorld}
 use Rattle.ca_model.specs.machine.Step.{plan, verb_plan}
 use Rattle.ca_model.specs.machine.Timers.{after_timeout, after_wake, timeout_refusals, wake_refusals}
 use Rattle.ca_model.specs.machine.Turns.{Fire, Timeout_around, With_receives, reaches_peer, timeout_plan, wake_plan}
 use Rattle.ca_model.specs.machine.VerbAnswers.{Answer_plan, Call, Refuse_plan, answer_mark, of_region_refusals}
 use Rattle.ca_model.specs.machine.World.{Domain_of, Mailbox_of, Queue_of, Region_of, World}
-use Rattle.ca_packet.specs.Table.{has}
+use Rattle.ca_packet.specs.Decoding.{packet_in}
+use Rattle.ca_packet.specs.Packet.{Fields}
+use Rattle.ca_packet.specs.Table.{has, shape_of}
+use Rattle.ca_packet.specs.declared.shape.Shape.{Shape}
+use Rattle.ca_packet.specs.declared.wire_error.WireError.{WireError}
 use Rattle.ca_model.specs.declared.answer.Answer.TheVariants as answers
+use Rattle.ca_model.specs.declared.mark.Drop1.TheVariants as drops
 use Rattle.ca_model.specs.declared.event.Event.TheVariants as events
 use Rattle.ca_model.specs.declared.mark.Mark.TheVariants as marks
 use Rattle.ca_base.specs.declared.step.Reason.TheVariants as reasons
 use Rattle.ca_keys.specs.Spelling.{rights_text as rights}
 use Rattle.ca_model.specs.declared.verb.Verb.TheVariants as verbs
 
--- a mark of no packet that is sent or lost
+-- a mark of no packet that is sent or lost, and of no remote read
 abbrev pub IsUnsent : Mark → Type 0
 IsUnsent (marks.Sent source target index request bytes) = ⊥
 IsUnsent (marks.Lost target index) = ⊥
+IsUnsent (marks.Remote queue domain envelope key kind address count verdict) = bytes_read verdict ≡ None
 IsUnsent m = Unit {0}
 
 abbrev pub AreUnsent : List Mark → Type 0
@@ -81,32 +93,49 @@ unsent-append (m ∷ ms) ns one other = (one.0, unsent-append ms ns one.1 other)
 abbrev pub Answered : Past → List Mark → Type 0
 Answered p ms = each_mark is_answered p ms ≡ true
 
-one-passes : (m : Mark) → IsFailing m → (p : Past) → (is_answered p m ≡ true) × IsUnsent m
-one-passes (marks.Verb by verb answer) fails p = (refl, record {})
-one-passes (marks.Granted g) fails p = (refl, record {})
-one-passes (marks.Revoked adapter key) fails p = (refl, record {})
-one-passes (marks.Stored place bytes) fails p = (refl, record {})
-one-passes (marks.Remote queue domain envelope key kind address count verdict) fails p = (refl, record {})
-one-passes (marks.Local queue domain key kind address count verdict) fails p = (refl, record {})
+one-passes : (m : Mark) → IsLoose m → (p : Past) → is_answered p m ≡ true
+one-passes (marks.Verb by verb answer) fails p = refl
+one-passes (marks.Granted g) fails p = refl
+one-passes (marks.Revoked adapter key) fails p = refl
+one-passes (marks.Stored place bytes) fails p = refl
+one-passes (marks.Remote queue domain envelope key kind address count verdict) fails p = refl
+one-passes (marks.Local queue domain key kind address count verdict) fails p = refl
 one-passes (marks.Sent source target index request bytes) fails p = absurd fails
 one-passes (marks.Lost target index) fails p = absurd fails
-one-passes (marks.Arrived target index) fails p = (refl, record {})
-one-passes (marks.Dropped target cause) fails p = (refl, record {})
-one-passes (marks.Timer queue silent) fails p = (refl, record {})
-one-passes (marks.Done queue x cause) fails p = (ap (λ b. not (b && has_packets p x) || response_arrived p queue) fails, record {})
+one-passes (marks.Arrived target index) fails p = refl
+one-passes (marks.Dropped target cause) fails p = refl
+one-passes (marks.Timer queue silent) fails p = refl
+one-passes (marks.Done queue x cause) fails p = ap (λ b. not (b && has_packets p x) || response_arrived p queue) fails
+
+one-unsent : (m : Mark) → IsFailing m → IsUnsent m
+one-unsent (marks.Verb by verb answer) fails = record {}
+one-unsent (marks.Granted g) fails = record {}
+one-unsent (marks.Revoked adapter key) fails = record {}
+one-unsent (marks.Stored place bytes) fails = record {}
+one-unsent (marks.Remote queue domain envelope key kind address count verdict) fails = fails
+one-unsent (marks.Local queue domain key kind address count verdict) fails = record {}
+one-unsent (marks.Sent source target index request bytes) fails = fails
+one-unsent (marks.Lost target index) fails = fails
+one-unsent (marks.Arrived target index) fails = record {}
+one-unsent (marks.Dropped target cause) fails = record {}
+one-unsent (marks.Timer queue silent) fails = record {}
+one-unsent (marks.Done queue x cause) fails = record {}
+
+loose-pass : (ms : List Mark) → AreLoose ms → (p : Past) → Answered p ms
+loose-pass [] fails p = refl
+loose-pass (m ∷ ms) fails p = both-true (is_answered p m) _ (one-passes m fails.0 p) (loose-pass ms fails.1 (after_mark m p))
 
 pub failing-pass : (ms : List Mark) → AreFailing ms → (p : Past) → Answered p ms
-failing-pass [] fails p = refl
-failing-pass (m ∷ ms) fails p = both-true (is_answered p m) _ (one-passes m fails.0 p).0 (failing-pass ms fails.1 (after_mark m p))
+failing-pass ms fails p = loose-pass ms (loose ms fails) p
 
-pub failing-unsent : (ms : List Mark) → AreFailing ms → (p : Past) → AreUnsent ms
-failing-unsent [] fails p = record {}
-failing-unsent (m ∷ ms) fails p = ((one-passes m fails.0 p).1, failing-unsent ms fails.1 p)
+pub failing-unsent : (ms : List Mark) → AreFailing ms → AreUnsent ms
+failing-unsent [] fails = record {}
+failing-unsent (m ∷ ms) fails = (one-unsent m fails.0, failing-unsent ms fails.1)
 
 -- such marks, and others that pass wherever
-pub passes-append : (ms ns : List Mark) (p : Past) → AreFailing ms → ((r : Past) → Answered r ns) → Answered p (ms ++ ns)
+pub passes-append : (ms ns : List Mark) (p : Past) → AreLoose ms → ((r : Past) → Answered r ns) → Answered p (ms ++ ns)
 passes-append [] ns p fails others = others p
-passes-append (m ∷ ms) ns p fails others = both-true (is_answered p m) _ (one-passes m fails.0 p).0 (passes-append ms ns (after_mark m p) fails.1 others)
+passes-append (m ∷ ms) ns p fails others = both-true (is_answered p m) _ (one-passes m fails.0 p) (passes-append ms ns (after_mark m p) fails.1 others)
 
 -- ---- behind a response
 
@@ -116,6 +145,7 @@ IsBehind name (marks.Verb by verb answer) = ⊥
 IsBehind name (marks.Sent source target index request bytes) = ⊥
 IsBehind name (marks.Lost target index) = ⊥
 IsBehind name (marks.Arrived target index) = ⊥
+IsBehind name (marks.Remote queue domain envelope key kind address count verdict) = ⊥
 IsBehind name (marks.Done queue x cause) = queue ≡ name
 IsBehind name m = Unit {0}
 
@@ -123,42 +153,42 @@ abbrev pub AreBehind : QueueId → List Mark → Type 0
 AreBehind name [] = Unit {0}
 AreBehind name (m ∷ ms) = IsBehind name m × AreBehind name ms
 
-behind-one : (name : QueueId) (sends : WorkQueue PostedSend) (ended : Option Key) (m : Mark) → IsKeyless name sends ended m → IsOwnMark m → IsBehind name m
-behind-one name sends ended (marks.Verb by verb answer) one own = one
-behind-one name sends ended (marks.Granted g) one own = record {}
-behind-one name sends ended (marks.Revoked adapter key) one own = record {}
-behind-one name sends ended (marks.Stored place bytes) one own = record {}
-behind-one name sends ended (marks.Remote queue domain envelope key kind address count verdict) one own = record {}
-behind-one name sends ended (marks.Local queue domain key kind address count verdict) one own = record {}
-behind-one name sends ended (marks.Sent source target index request bytes) one own = one
-behind-one name sends ended (marks.Lost target index) one own = one
-behind-one name sends ended (marks.Arrived target index) one own = one
-behind-one name sends ended (marks.Dropped target cause) one own = record {}
-behind-one name sends ended (marks.Timer queue silent) one own = record {}
-behind-one name sends ended (marks.Done queue x cause) one own = sym own ∙ one.queue
+behind-one : (name : QueueId) (sends : WorkQueue PostedSend) (ended : Option Key) (m : Mark) → IsKeyless name sends ended m → IsOwnMark m → IsUnheardMark m → IsBehind name m
+behind-one name sends ended (marks.Verb by verb answer) one own unheard = one
+behind-one name sends ended (marks.Granted g) one own unheard = record {}
+behind-one name sends ended (marks.Revoked adapter key) one own unheard = record {}
+behind-one name sends ended (marks.Stored place bytes) one own unheard = record {}
+behind-one name sends ended (marks.Remote queue domain envelope key kind address count verdict) one own unheard = unheard
+behind-one name sends ended (marks.Local queue domain key kind address count verdict) one own unheard = record {}
+behind-one name sends ended (marks.Sent source target index request bytes) one own unheard = one
+behind-one name sends ended (marks.Lost target index) one own unheard = one
+behind-one name sends ended (marks.Arrived target index) one own unheard = one
+behind-one name sends ended (marks.Dropped target cause) one own unheard = record {}
+behind-one name sends ended (marks.Timer queue silent) one own unheard = record {}
+behind-one name sends ended (marks.Done queue x cause) one own unheard = sym own ∙ one.queue
 
-keyless-behind : (name : QueueId) (sends : WorkQueue PostedSend) (ended : Option Key) (ms : List Mark) → AreKeyless name sends ended ms → AreOwn ms → AreBehind name ms
-keyless-behind name sends ended [] all own = record {}
-keyless-behind name sends ended (m ∷ ms) all own = (behind-one name sends ended m all.0 own.0, keyless-behind name sends ended ms all.1 own.1)
+keyless-behind : (name : QueueId) (sends : WorkQueue PostedSend) (ended : Option Key) (ms : List Mark) → AreKeyless name sends ended ms → AreOwn ms → AreUnheard ms → AreBehind name ms
+keyless-behind name sends ended [] all own unheard = record {}
+keyless-behind name sends ended (m ∷ ms) all own unheard = (behind-one name sends ended m all.0 own.0 unheard.0, keyless-behind name sends ended ms all.1 own.1 unheard.1)
 
-tells-behind : (name : QueueId) (sends : WorkQueue PostedSend) (ended : Option Key) (ms : List Mark) → TellOf name sends ended ms → AreOwn ms → AreBehind name ms
-tells-behind name sends None ms all own = keyless-behind name sends None ms all own
-tells-behind name sends (Some key) ms all own = by ms all own
+tells-behind : (name : QueueId) (sends : WorkQueue PostedSend) (ended : Option Key) (ms : List Mark) → TellOf name sends ended ms → AreOwn ms → AreUnheard ms → AreBehind name ms
+tells-behind name sends None ms all own unheard = keyless-behind name sends None ms all own unheard
+tells-behind name sends (Some key) ms all own unheard = by ms all own unheard
   where
-    by : (ms : List Mark) → EndKey name sends key ms → AreOwn ms → AreBehind name ms
-    by [] all own = absurd all
-    by (marks.Revoked adapter k ∷ ms) all own = (record {}, keyless-behind name sends (Some key) ms all.2 own.1)
-    by (marks.Verb consumer verb answer ∷ ms) all own = absurd all.0
-    by (marks.Granted g ∷ ms) all own = absurd all.0
-    by (marks.Sent source target index request bytes ∷ ms) all own = absurd all.0
-    by (marks.Lost target index ∷ ms) all own = absurd all.0
-    by (marks.Arrived target index ∷ ms) all own = absurd all.0
-    by (marks.Timer queue silent ∷ ms) all own = absurd all.0
-    by (marks.Done queue x cause ∷ ms) all own = (behind-one name sends None (marks.Done queue x cause) all.0 own.0, by ms all.1 own.1)
-    by (marks.Stored place bytes ∷ ms) all own = (record {}, by ms all.1 own.1)
-    by (marks.Remote queue domain envelope k kind address count verdict ∷ ms) all own = (record {}, by ms all.1 own.1)
-    by (marks.Local queue domain k kind address count verdict ∷ ms) all own = (record {}, by ms all.1 own.1)
-    by (marks.Dropped target cause ∷ ms) all own = (record {}, by ms all.1 own.1)
+    by : (ms : List Mark) → EndKey name sends key ms → AreOwn ms → AreUnheard ms → AreBehind name ms
+    by [] all own unheard = absurd all
+    by (marks.Revoked adapter k ∷ ms) all own unheard = (record {}, keyless-behind name sends (Some key) ms all.2 own.1 unheard.1)
+    by (marks.Verb consumer verb answer ∷ ms) all own unheard = absurd all.0
+    by (marks.Granted g ∷ ms) all own unheard = absurd all.0
+    by (marks.Sent source target index request bytes ∷ ms) all own unheard = absurd all.0
+    by (marks.Lost target index ∷ ms) all own unheard = absurd all.0
+    by (marks.Arrived target index ∷ ms) all own unheard = absurd all.0
+    by (marks.Timer queue silent ∷ ms) all own unheard = absurd all.0
+    by (marks.Done queue x cause ∷ ms) all own unheard = (behind-one name sends None (marks.Done queue x cause) all.0 own.0 (record {}), by ms all.1 own.1 unheard.1)
+    by (marks.Stored place bytes ∷ ms) all own unheard = (record {}, by ms all.1 own.1 unheard.1)
+    by (marks.Remote queue domain envelope k kind address count verdict ∷ ms) all own unheard = absurd unheard.0
+    by (marks.Local queue domain k kind address count verdict ∷ ms) all own unheard = (record {}, by ms all.1 own.1 unheard.1)
+    by (marks.Dropped target cause ∷ ms) all own unheard = (record {}, by ms all.1 own.1 unheard.1)
 
 or-true : (b : Bool) → (b || true) ≡ true
 or-true true = refl
@@ -170,7 +200,7 @@ one-behind name (marks.Verb by verb answer) one p arrived = absurd one
 one-behind name (marks.Granted g) one p arrived = (refl, arrived, record {})
 one-behind name (marks.Revoked adapter key) one p arrived = (refl, arrived, record {})
 one-behind name (marks.Stored place bytes) one p arrived = (refl, arrived, record {})
-one-behind name (marks.Remote queue domain envelope key kind address count verdict) one p arrived = (refl, arrived, record {})
+one-behind name (marks.Remote queue domain envelope key kind address count verdict) one p arrived = absurd one
 one-behind name (marks.Local queue domain key kind address count verdict) one p arrived = (refl, arrived, record {})
 one-behind name (marks.Sent source target index request bytes) one p arrived = absurd one
 one-behind name (marks.Lost target index) one p arrived = absurd one
@@ -193,20 +223,59 @@ behind-unsent name (m ∷ ms) all p arrived = ((one-behind name m all.0 p arrive
 
 -- ---- arrivals
 
+abbrev Unheard : Effects → Type 0
+Unheard e = AreUnheard e.marks
+
+-- a response makes no remote access
+arrival-unheard : (bytes : List ℕ) (envelope : Option ℕ) (shared : Option SharedReceives) (q : QueuePair) → is_answer (packet_of bytes) ≡ true → RowDoes Unheard (arrival_row bytes envelope shared q)
+arrival-unheard bytes envelope shared q response = by (packet_in bytes) response
+  where
+    unless : Fields → Option Drop1 → Row
+    unless p (Some cause) = plain_row (Does (drop_effects q cause))
+    unless p None = packet_arrived p envelope shared q
+
+    row : Result Fields WireError → Row
+    row (Err error) = plain_row (Does (drop_effects q (drops.Wire error)))
+    row (Ok p) = unless p (first_of (arrival_drops q p))
+
+    shaped : Fields → Option Shape → Row
+    shaped p (Some shape) = request_row p envelope shared shape q
+    shaped p None = plain_row (Does (drop_effects q drops.State))
+
+    weaker : (e : Ending) → EndingDoes (IsQuiet None [] q) e → EndingDoes Unheard e
+    weaker (NotPossible reason) quiet = record {}
+    weaker (Does e) quiet = quiet.marks
+
+    taken : (p : Fields) (b : Bool) → b ≡ true → RowDoes Unheard (if b then response_row p q else shaped p (shape_of p.opcode))
+    taken p true is = record {
+      denied = λ d. weaker ((response_row p q).denied d) ((response-quiet None [] p q).denied d);
+      allowed = λ bs refusal. weaker ((response_row p q).allowed bs refusal) ((response-quiet None [] p q).allowed bs refusal);
+    }
+    taken p false is = absurd (true≢false (sym is))
+
+    of_packet : (p : Fields) → is_response p.opcode ≡ true → (o : Option Drop1) → RowDoes Unheard (unless p o)
+    of_packet p is (Some cause) = record { denied = λ d. (record {}, record {}); allowed = λ bs refusal. (record {}, record {}) }
+    of_packet p is None = taken p (is_response p.opcode) is
+
+    by : (o : Result Fields WireError) → is_answer (result_ok o) ≡ true → RowDoes Unheard (row o)
+    by (Err error) is = absurd (true≢false (sym is))
+    by (Ok p) is = of_packet p is (first_of (arrival_drops q p))
+
 -- what bytes that arrive tell, by whether they are a response
 pub record Tells (q : QueuePair) (b : Bool) (e : Effects) : Type 0 where
   pub response : b ≡ true → AreBehind q.queue e.marks
   pub request : b ≡ false → AreFailing e.marks
 
-join-ending : (q : QueuePair) (b : Bool) (ended : Option Key) (e : Ending) → EndingDoes (Goes q ended) e → EndingDoes (IsInner q) e → (b ≡ false → EndingDoes Fails e) → EndingDoes (Tells q b) e
-join-ending q b ended (NotPossible reason) goes inner fails = record {}
-join-ending q b ended (Does e) goes inner fails = record { response = λ is. tells-behind q.queue q.sends ended e.marks goes.marks inner.marks; request = fails }
+join-ending : (q : QueuePair) (b : Bool) (ended : Option Key) (e : Ending) → EndingDoes (Goes q ended) e → EndingDoes (IsInner q) e → (b ≡ true → EndingDoes Unheard e) → (b ≡ false → EndingDoes Fails e) → EndingDoes (Tells q b) e
+join-ending q b ended (NotPossible reason) goes inner quiet fails = record {}
+join-ending q b ended (Does e) goes inner quiet fails = record { response = λ is. tells-behind q.queue q.sends ended e.marks goes.marks inner.marks (quiet is); request = fails }
 
 arrival-tells : (bytes : List ℕ) (envelope : Option ℕ) (shared : Option SharedReceives) (q : QueuePair) → IsKept q → RowDoes (Tells q (is_answer (packet_of bytes))) (arrival_row bytes envelope shared q)
 arrival-tells bytes envelope shared q kept = record {
-  denied = λ d. join-ending q (is_answer (packet_of bytes)) None (row.denied d) (goes.denied d) (inner.denied d) (λ none. (arrival-failing bytes envelope shared q none).denied d);
+  denied = λ d. join-ending q (is_answer (packet_of bytes)) None (row.denied d) (goes.denied d) (inner.denied d) (λ is. (arrival-unheard bytes envelope shared q is).denied d)
+      (λ none. (arrival-failing bytes envelope shared q none).denied d);
   allowed = λ bs refusal. join-ending q (is_answer (packet_of bytes)) (key_gone row.invalidation refusal) (row.allowed bs refusal) (goes.allowed bs refusal) (inner.allowed bs refusal)
-      (λ none. (arrival-failing bytes envelope shared q none).allowed bs refusal);
+      (λ is. (arrival-unheard bytes envelope shared q is).allowed bs refusal) (λ none. (arrival-failing bytes envelope shared q none).allowed bs refusal);
 }
   where
     row : Row
@@ -230,7 +299,7 @@ abbrev pub Still : Past → Event → World → List Mark → Type 0
 Still past event v ms = Answered (at_begin event past) ms × AreUnsent ms
 
 failing-still : (past : Past) (event : Event) (ms : List Mark) → AreFailing ms → Answered (at_begin event past) ms × AreUnsent ms
-failing-still past event ms fails = (failing-pass ms fails (at_begin event past), failing-unsent ms fails past)
+failing-still past event ms fails = (failing-pass ms fails (at_begin event past), failing-unsent ms fails)
 
 still-arrive : (c : Configuration) (x : Past) (w : World) (P : World → List Mark → Type 0) (q : QueuePair) (bytes : List ℕ) (envelope : Option ℕ) (pre : List Update) (ms : List Mark) → IsSteadyWorld w → IsThere w q
     → packet_at x q.queue envelope ≡ packet_of bytes → ((v : World) (ns : List Mark) → Answered x ns → AreUnsent ns → P v (ms ++ ns)) → Leads w P (Arrive c q bytes envelope pre ms)
@@ -255,7 +324,7 @@ still-arrive c x w P q bytes envelope pre ms steady there packet more = leads-ar
       where
         arrived : response_arrived y q.queue ≡ true
         arrived = both-true (queue_eq q.queue q.queue) _ (queue-refl q.queue) (ap is_answer packet ∙ is)
-    by e tells false is = (failing-pass e.marks (tells.request is) y, failing-unsent e.marks (tells.request is) y)
+    by e tells false is = (failing-pass e.marks (tells.request is) y, failing-unsent e.marks (tells.request is))
 
 lent-packet : (past : Past) (q : QueueId) (index : ℕ) (bytes : List ℕ) → WereSent past q index bytes → packet_at past q (Some index) ≡ packet_of bytes
 lent-packet past q index bytes was = ap (λ o. option_and_then packet_of (option_map (λ (e : Envelope). e.bytes) o)) was.sent ∙ ap packet_of was.bytes

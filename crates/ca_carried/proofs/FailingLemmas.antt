@@ -26,7 +26,7 @@ use Rattle.ca_keys.specs.Refusals.{first_of}
 use Rattle.ca_keys.specs.declared.access.Ask.{Ask}
 use Rattle.ca_laws_sound.proofs.WorldLemmas.{EndingDoes, RowDoes}
 use Rattle.ca_model.specs.Packets.{is_response, packet_of}
-use Rattle.ca_model.specs.Past.{is_send_success}
+use Rattle.ca_model.specs.Past.{bytes_read, is_send_success}
 use Rattle.ca_model.specs.Requests.{list_length, segments}
 use Rattle.ca_model.specs.declared.mark.Drop1.{Drop1}
 use Rattle.ca_model.specs.declared.mark.Mark.{Mark}
@@ -65,9 +65,21 @@ use Rattle.ca_base.specs.declared.step.Reason.TheVariants as reasons
 use Rattle.ca_packet.specs.declared.shape.Shape.TheVariants as shapes
 
 -- a mark of no packet that is sent or lost, and of no send that completes with success
+abbrev pub IsLoose : Mark → Type 0
+IsLoose (marks.Sent source target index request bytes) = ⊥
+IsLoose (marks.Lost target index) = ⊥
+IsLoose (marks.Done queue x cause) = is_send_success x ≡ false
+IsLoose m = Unit {0}
+
+abbrev pub AreLoose : List Mark → Type 0
+AreLoose [] = Unit {0}
+AreLoose (m ∷ ms) = IsLoose m × AreLoose ms
+
+-- the same, and of no remote read
 abbrev pub IsFailing : Mark → Type 0
 IsFailing (marks.Sent source target index request bytes) = ⊥
 IsFailing (marks.Lost target index) = ⊥
+IsFailing (marks.Remote queue domain envelope key kind address count verdict) = bytes_read verdict ≡ None
 IsFailing (marks.Done queue x cause) = is_send_success x ≡ false
 IsFailing m = Unit {0}
 
@@ -75,8 +87,29 @@ abbrev pub AreFailing : List Mark → Type 0
 AreFailing [] = Unit {0}
 AreFailing (m ∷ ms) = IsFailing m × AreFailing ms
 
+loose-one : (m : Mark) → IsFailing m → IsLoose m
+loose-one (marks.Verb by verb answer) one = one
+loose-one (marks.Granted g) one = one
+loose-one (marks.Revoked adapter key) one = one
+loose-one (marks.Stored place bytes) one = one
+loose-one (marks.Remote queue domain envelope key kind address count verdict) one = record {}
+loose-one (marks.Local queue domain key kind address count verdict) one = one
+loose-one (marks.Sent source target index request bytes) one = one
+loose-one (marks.Lost target index) one = one
+loose-one (marks.Arrived target index) one = one
+loose-one (marks.Dropped target cause) one = one
+loose-one (marks.Timer queue silent) one = one
+loose-one (marks.Done queue x cause) one = one
+
+pub loose : (ms : List Mark) → AreFailing ms → AreLoose ms
+loose [] all = record {}
+loose (m ∷ ms) all = (loose-one m all.0, loose ms all.1)
+
 abbrev pub Fails : Effects → Type 0
 Fails e = AreFailing e.marks
+
+abbrev pub Loosens : Effects → Type 0
+Loosens e = AreLoose e.marks
 
 pub failing-append : (ms ns : List Mark) → AreFailing ms → AreFailing ns → AreFailing (ms ++ ns)
 failing-append [] ns one other = other
@@ -230,8 +263,8 @@ sends-failing before p place r = of r.taken
 
 write-failing : (q : QueuePair) (p : Fields) (envelope : Option ℕ) (place : Position) (next : Option PlacedReceive) (r : WriteReach) → RowDoes Fails (write_row q p envelope place next r)
 write-failing q p envelope place next r = record {
-  denied = λ d. (record {}, flush-failing q);
-  allowed = λ bytes refusal. (record {}, wrote);
+  denied = λ d. (refl, flush-failing q);
+  allowed = λ bytes refusal. (refl, wrote);
 }
   where
     done : QueuePair → QueuePair
@@ -285,7 +318,7 @@ valid-failing q p envelope next (shapes.Atomic kind) = by p.atomic
     row None = plain_row (Does (refusal_effects InvalidRequest q))
 
     by : (o : Option AtomicEth) → RowDoes Fails (row o)
-    by (Some a) = record { denied = λ d. (record {}, flush-failing q); allowed = λ bytes refusal. (record {}, record {}) }
+    by (Some a) = record { denied = λ d. (refl, flush-failing q); allowed = λ bytes refusal. (refl, record {}) }
     by None = plain _ (flush-failing q)
 
 requests-failing : (p : Fields) (envelope : Option ℕ) (shared : Option SharedReceives) (shape : Shape) (q : QueuePair) → RowDoes Fails (request_row p envelope shared shape q)
@@ -342,25 +375,25 @@ arrival-failing bytes envelope shared q none = by (packet_in bytes) none
 
 -- ---- turns
 
-pub respond-failing : (room : Bool) (q : QueuePair) → RowDoes Fails (respond_row room q)
-respond-failing room q = by (first_of (respond_refusals room q)) (slice_get q.responder.answers 0)
+pub respond-loose : (room : Bool) (q : QueuePair) → RowDoes Loosens (respond_row room q)
+respond-loose room q = by (first_of (respond_refusals room q)) (slice_get q.responder.answers 0)
   where
     row : Option Reason → Option Queued → Row
     row (Some reason) answer = plain_row (NotPossible reason)
     row None None = plain_row (NotPossible reasons.Empty)
     row None (Some answer) = answer_turn q answer
 
-    turn : (a : Queued) → RowDoes Fails (answer_turn q a)
-    turn (queued.Ack psn) = plain _ (record {})
-    turn (queued.Rnr psn) = plain _ (record {})
-    turn (queued.Nak psn code) = plain _ (record {})
+    turn : (a : Queued) → RowDoes Loosens (answer_turn q a)
+    turn (queued.Ack psn) = record { denied = λ d. record {}; allowed = λ bytes refusal. record {} }
+    turn (queued.Rnr psn) = record { denied = λ d. record {}; allowed = λ bytes refusal. record {} }
+    turn (queued.Nak psn code) = record { denied = λ d. record {}; allowed = λ bytes refusal. record {} }
     turn (queued.Read psn key address left first envelope duplicate) = record {
-      denied = λ d. (record {}, flush-failing q);
+      denied = λ d. (record {}, loose (flush_marks q) (flush-failing q));
       allowed = λ bytes refusal. (record {}, record {});
     }
-    turn (queued.Atomic psn found duplicate) = plain _ (record {})
+    turn (queued.Atomic psn found duplicate) = record { denied = λ d. record {}; allowed = λ bytes refusal. record {} }
 
-    by : (r : Option Reason) (o : Option Queued) → RowDoes Fails (row r o)
+    by : (r : Option Reason) (o : Option Queued) → RowDoes Loosens (row r o)
     by (Some reason) answer = record { denied = λ d. record {}; allowed = λ bytes refusal. record {} }
     by None None = record { denied = λ d. record {}; allowed = λ bytes refusal. record {} }
     by None (Some answer) = turn answer
