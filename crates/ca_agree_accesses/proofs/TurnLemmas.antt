@@ -374,7 +374,7 @@ named : (c : Configuration) (w : World) (name : QueueId) (q : QueuePair) → IsS
 named c w name q sound is = (subst (IsQueueOf name) is (sound.things (Queue_of name))).0
 
 -- the path MTU that a queue pair with a peer was told is its own
-told-mtu : (past : Past) (w : World) (q : QueuePair) (peer : Correspondent) → PathsAgree past w → AccessesAgree past w → w.queue q.queue ≡ Present q → q.peer ≡ Some peer → mtu_of past q.queue ≡ q.responder.mtu
+pub told-mtu : (past : Past) (w : World) (q : QueuePair) (peer : Correspondent) → PathsAgree past w → AccessesAgree past w → w.queue q.queue ≡ Present q → q.peer ≡ Some peer → mtu_of past q.queue ≡ q.responder.mtu
 told-mtu past w q peer paths agree is names = by (past.naming q.queue) (sym (paths.peers q.queue) ∙ ap peer_in is ∙ names) (agree-at past w q agree is).mtu
   where
     by : (o : Option Naming) → peer_named o ≡ Some peer → IfSome o (λ n. n.mtu ≡ q.responder.mtu) → option_map_or (λ n. n.mtu) o 0 ≡ q.responder.mtu

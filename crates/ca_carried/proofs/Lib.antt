@@ -1,3 +1,6 @@
 pub mod FailingLemmas
 pub mod AnsweredLemmas
 pub mod AnsweredEventLemmas
+pub mod SpeltLemmas
+pub mod EndLemmas
+pub mod RespondEndLemmas
