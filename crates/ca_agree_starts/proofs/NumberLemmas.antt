@@ -95,14 +95,14 @@ finished-sum posted q linked low = ap (λ i. psns_before q.responder.mtu posted 
     take-take (suc k) (suc m) (x ∷ xs) le = ap (λ t. x ∷ t) (take-take k m xs (omega (arith, le)))
 
 -- what stands behind so many
-get-drop : {A : Type 0} (n : ℕ) (xs : List A) (i j : ℕ) → j ≡ n + i → slice_get (drop n xs) i ≡ slice_get xs j
+pub get-drop : {A : Type 0} (n : ℕ) (xs : List A) (i j : ℕ) → j ≡ n + i → slice_get (drop n xs) i ≡ slice_get xs j
 get-drop zero xs i j is = ap (slice_get xs) {x = i} {y = j} (omega (arith, is))
 get-drop (suc n) [] i zero is = absurd (omega (arith, is))
 get-drop (suc n) [] i (suc j) is = refl
 get-drop (suc n) (x ∷ xs) i zero is = absurd (omega (arith, is))
 get-drop (suc n) (x ∷ xs) i (suc j) is = get-drop n xs i j (omega (arith, is))
 
-posted-some : (o : Option Posted) (x : PostedSend) → option_map as_posted o ≡ Some x → (p : Posted) × (o ≡ Some p) × (as_posted p ≡ x)
+pub posted-some : (o : Option Posted) (x : PostedSend) → option_map as_posted o ≡ Some x → (p : Posted) × (o ≡ Some p) × (as_posted p ≡ x)
 posted-some None x is = absurd (true≢false (sym (ap is_some is)))
 posted-some (Some p) x is = (p, refl, same_Some (as_posted p) x is)
 

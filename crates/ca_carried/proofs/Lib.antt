@@ -4,3 +4,4 @@ pub mod AnsweredEventLemmas
 pub mod SpeltLemmas
 pub mod EndLemmas
 pub mod RespondEndLemmas
+pub mod NumberedLemmas
