@@ -5,3 +5,4 @@ pub mod SpeltLemmas
 pub mod EndLemmas
 pub mod RespondEndLemmas
 pub mod NumberedLemmas
+pub mod RequestEndLemmas

@@ -11,7 +11,7 @@ use Rattle.ca_agree.specs.Runs.{Leads}
 use Rattle.ca_agree_accesses.proofs.TurnLemmas.{told-mtu}
 use Rattle.ca_agree_accesses.specs.Accesses.{AccessesAgree, IsEndedWorld}
 use Rattle.ca_agree_accesses.specs.Asked.{has_its_request, is_asked_by_request}
-use Rattle.ca_agree_keys.proofs.KeyTurnLemmas.{found}
+use Rattle.ca_agree_keys.proofs.KeyTurnLemmas.{IsUp, found}
 use Rattle.ca_agree_keys.proofs.ToldLemmas.{ended}
 use Rattle.ca_agree_starts.specs.Starts.{StartsAgree}
 use Rattle.ca_base.specs.Configuration.{Configuration}
@@ -34,7 +34,6 @@ use Rattle.ca_keys.specs.declared.key.Key.{Key}
 use Rattle.ca_keys.specs.declared.names.QueueId.{QueueId}
 use Rattle.ca_laws_sound.proofs.SettledLemmas.{queue-refl}
 use Rattle.ca_laws_sound.proofs.WorldLemmas.{IsThere, RowDoes, around_in, shared_of}
-use Rattle.ca_laws_windows.specs.Bindings.{IsBoundWorld}
 use Rattle.ca_model.specs.Carried.{are_carried, has_its_cause, is_carried_at_end, is_respond_of, reads_at_most}
 use Rattle.ca_model.specs.Packets.{answers_read, is_response, packet_of}
 use Rattle.ca_model.specs.Past.{Past, RemoteRead, after_mark, after_marks, at_begin, each_mark, mtu_of, remote_ask}
@@ -87,10 +86,10 @@ pub record IsAnswer1 (number : ℕ) (f : Fields) : Type 0 where
   pub response : is_response f.opcode ≡ true
   pub queue : f.queue ≡ number
 
-small-path : (mtu : ℕ) → is_path_mtu mtu ≡ true → mtu ≤ 4096
+pub small-path : (mtu : ℕ) → is_path_mtu mtu ≡ true → mtu ≤ 4096
 small-path mtu e = grind (arith, nat_tests, e)
 
-small-psn : (psn : ℕ) → psn_bits psn < 2 ^ 24
+pub small-psn : (psn : ℕ) → psn_bits psn < 2 ^ 24
 small-psn psn = omega arith
 
 small-nak : (code : NakCode) → syndrome_byte (Nak code) < 2 ^ 8
@@ -269,7 +268,7 @@ module _ (past : Past) (name : QueueId) (lot hurry : Lot) (q : QueuePair) (peer 
 -- a world that comes up, and a past that agrees with it
 pub record IsWhole (c : Configuration) (past : Past) (w : World) : Type 0 where
   pub ready : IsReady c past w
-  pub bound : IsBoundWorld w
+  pub up : IsUp c past w
   pub ended : IsEndedWorld w
   pub accesses : AccessesAgree past w
   pub starts : StartsAgree past w

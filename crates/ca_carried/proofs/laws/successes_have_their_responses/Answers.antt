@@ -1,3 +1,4 @@
+use Rattle.ca_carried.proofs.RequestEndLemmas.{ends-request}
 use Rattle.ca_carried.proofs.NumberedLemmas.{packet-index}
 use Rattle.ca_carried.proofs.RespondEndLemmas.{ends-respond}
 use Rattle.ca_carried.proofs.EndLemmas.{sent-end}
