@@ -6,3 +6,4 @@ pub mod EndLemmas
 pub mod RespondEndLemmas
 pub mod NumberedLemmas
 pub mod RequestEndLemmas
+pub mod EndEventLemmas
