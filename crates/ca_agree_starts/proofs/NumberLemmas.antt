@@ -34,7 +34,7 @@ behind-none : (n : ℕ) → n ≡ 0 + n
 behind-none n = omega arith
 
 -- where none was posted
-none-before : (mtu place : ℕ) → psns_before mtu [] place ≡ 0
+pub none-before : (mtu place : ℕ) → psns_before mtu [] place ≡ 0
 none-before mtu zero = refl
 none-before mtu (suc place) = refl
 

@@ -1,5 +1,5 @@
 -- Queue pairs that are made, changed and destroyed keep the agreement on PSNs. For proofs only.
-use Rattle.std.proofs.Common.{Bool, List, None, Option, Some, [], ap, arith, false, if◌then◌else◌, is_none, nat_lt, not, option_map, refl, subst, subst₂, suc, sym, true, true≢false, zero, ℕ, ◌&&◌, ◌-◌, ◌∙◌, ◌∷◌, ◌≡◌}
+use Rattle.std.proofs.Common.{Bool, List, None, Option, Some, [], ap, arith, false, if◌then◌else◌, is_none, nat_lt, not, option_map, refl, subst, subst₂, suc, sym, true, true≢false, ℕ, ◌&&◌, ◌-◌, ◌∙◌, ◌∷◌, ◌≡◌}
 use Rattle.std.specs.Option.{option_and_then}
 use Rattle.ca_agree.proofs.InnerLemmas.{flush-inner}
 use Rattle.ca_agree.proofs.LeadsLemmas.{leads-around, leads-unless}
@@ -10,9 +10,10 @@ use Rattle.ca_agree_keys.proofs.KeyVerbLemmas.{leads-unless-all}
 use Rattle.ca_agree_posts.proofs.PostLemmas.{AreNoAnswers}
 use Rattle.ca_agree_posts.proofs.PostTurnLemmas.{life-refl, other-life}
 use Rattle.ca_agree_posts.specs.Posts.{PostsAgree, life}
+use Rattle.ca_agree_starts.proofs.NumberLemmas.{none-before}
 use Rattle.ca_agree_starts.proofs.StartTurnLemmas.{AreKept, IsKeptSlot, IsReady, SameStarts, begun-same, own-no, posted_of, start-at}
 use Rattle.ca_agree_starts.proofs.StartVerbLemmas.{AgreesBy, agree-more, starts-answer}
-use Rattle.ca_agree_starts.specs.Starts.{AgreeOnStarts, StartsAgree, StartsInSlot, psns_before, start_in}
+use Rattle.ca_agree_starts.specs.Starts.{AgreeOnStarts, StartsAgree, StartsInSlot, start_in}
 use Rattle.ca_base.specs.Configuration.{Configuration}
 use Rattle.ca_base.specs.declared.change.State.{State}
 use Rattle.ca_base.specs.objects.CompletionQueue.{CompletionQueue, after_reserve}
@@ -46,10 +47,6 @@ use Rattle.ca_base.specs.declared.change.Field.TheVariants as fields
 use Rattle.ca_base.specs.declared.change.Change as state_change
 use Rattle.ca_base.specs.declared.change.State.TheVariants as states
 use Rattle.ca_model.specs.declared.verb.Verb.TheVariants as verbs
-
-make-none : (mtu place : ℕ) → psns_before mtu [] place ≡ 0
-make-none mtu zero = refl
-make-none mtu (suc place) = refl
 
 -- a queue pair takes another's place under one name, and the past tells the same of the others
 replaced : (past r : Past) (w : World) (place : QueueId) (slot : QueueSlot) → StartsAgree past w
@@ -177,7 +174,7 @@ rts-starts c past w by s q psn retry rnr_retry reads met is name fresh = subst (
     own : StartsInSlot (start_of r place) (posted_of r place) slot
     own = subst₂ (λ o ps. StartsInSlot o ps slot) (sym (ap (λ b. if b then Some begins else start_of past place) (life-refl (present_incarnation past place)))) (sym nothing) (record {
       fresh = λ not. absurd (true≢false (sym not));
-      begun = λ so. omega (arith, make-none q.responder.mtu q.requester.oldest);
+      begun = λ so. omega (arith, none-before q.responder.mtu q.requester.oldest);
     })
 
     moved : AgreeOnStarts r.incarnation r.starts r.posted (with_at queue_eq w.queue place slot)

@@ -19,7 +19,7 @@ use Rattle.ca_base.specs.Configuration.{Configuration}
 use Rattle.ca_base.specs.declared.correspondent.Correspondent.{Correspondent}
 use Rattle.ca_base.specs.declared.request.PostedSend.{PostedSend}
 use Rattle.ca_base.specs.objects.Domain.{without_object}
-use Rattle.ca_base.specs.objects.Mailbox.{Mailbox, after_delivery, bytes_lent, passes}
+use Rattle.ca_base.specs.objects.Mailbox.{Mailbox, after_delivery, bytes_lent}
 use Rattle.ca_base.specs.objects.QueuePair.{NoQueue, Present, QueuePair, QueueSlot}
 use Rattle.ca_base.specs.objects.Region.{after_deregistration, deregistration_refusals, grant_of_region}
 use Rattle.ca_base.specs.objects.SharedReceives.{SharedReceives}
@@ -63,7 +63,7 @@ use Rattle.ca_model.specs.machine.VerbAnswers.{Answer_plan, Call, Refuse_plan, a
 use Rattle.ca_model.specs.machine.World.{Domain_of, Mailbox_of, Queue_of, Region_of, World}
 use Rattle.ca_packet.specs.Decoding.{packet_in}
 use Rattle.ca_packet.specs.Packet.{Fields}
-use Rattle.ca_packet.specs.Table.{has, shape_of}
+use Rattle.ca_packet.specs.Table.{shape_of}
 use Rattle.ca_packet.specs.declared.shape.Shape.{Shape}
 use Rattle.ca_packet.specs.declared.wire_error.WireError.{WireError}
 use Rattle.ca_model.specs.declared.answer.Answer.TheVariants as answers

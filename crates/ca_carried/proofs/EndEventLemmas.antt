@@ -16,7 +16,6 @@ use Rattle.ca_agree_accesses.specs.Accesses.{AccessesAgree, IsEndedWorld}
 use Rattle.ca_agree_accesses.specs.Asked.{HaveAddresses, has_its_request, is_carried_remote}
 use Rattle.ca_agree_keys.proofs.KeyEventLemmas.{event-keys-agree, opening-keys-agree}
 use Rattle.ca_agree_keys.proofs.KeyTurnLemmas.{IsUp}
-use Rattle.ca_agree_keys.proofs.ToldLemmas.{ended}
 use Rattle.ca_agree_keys.specs.InForce.{KeysAgree}
 use Rattle.ca_agree_posts.proofs.PostEventLemmas.{event-posts-agree, opening-posts-agree}
 use Rattle.ca_agree_posts.specs.Posts.{PostsAgree}
@@ -26,7 +25,7 @@ use Rattle.ca_base.specs.Configuration.{Configuration}
 use Rattle.ca_carried.proofs.AnsweredEventLemmas.{answered-along}
 use Rattle.ca_carried.proofs.AnsweredLemmas.{IsNoTurn, IsReady, Still, still-event}
 use Rattle.ca_carried.proofs.RequestEndLemmas.{ends-request, unsent-ends}
-use Rattle.ca_carried.proofs.RespondEndLemmas.{Ending1, Ends, IsWhole, ends-respond}
+use Rattle.ca_carried.proofs.RespondEndLemmas.{EndsSo, Ends, IsWhole, ends-respond}
 use Rattle.ca_carried.specs.Answered.{is_answered}
 use Rattle.ca_carried.specs.Ended.{HaveTheirCauses}
 use Rattle.ca_judged.proofs.JudgeLemmas.{both-true}
@@ -55,10 +54,10 @@ use Rattle.ca_packet.specs.Shapes.{ends}
 use Rattle.ca_model.specs.declared.event.Event.TheVariants as events
 use Rattle.ca_model.specs.declared.mark.Mark.TheVariants as marks
 
-still-ends : (c : Configuration) (past : Past) (w : World) (event : Event) → IsReady c past w → IsNoTurn event → Leads w (Ending1 past event) (plan c event)
-still-ends c past w event ready none = leads-weaker w (Still past event) (Ending1 past event) (plan c event) (λ v ms still. unsent-ends past event ms still.1) (still-event c past w event ready none)
+still-ends : (c : Configuration) (past : Past) (w : World) (event : Event) → IsReady c past w → IsNoTurn event → Leads w (EndsSo past event) (plan c event)
+still-ends c past w event ready none = leads-weaker w (Still past event) (EndsSo past event) (plan c event) (λ v ms still. unsent-ends past event ms still.1) (still-event c past w event ready none)
 
-ends-event : (c : Configuration) (past : Past) (w : World) (event : Event) → IsWhole c past w → Leads w (Ending1 past event) (plan c event)
+ends-event : (c : Configuration) (past : Past) (w : World) (event : Event) → IsWhole c past w → Leads w (EndsSo past event) (plan c event)
 ends-event c past w (events.Verb by verb) whole = still-ends c past w (events.Verb by verb) whole.ready (record {})
 ends-event c past w (events.Request queue lot) whole = ends-request c past w queue lot whole
 ends-event c past w (events.Respond queue lot) whole = ends-respond c past w queue lot whole
@@ -74,7 +73,7 @@ along : (c : Configuration) (n : ℕ) (es : List EntryValue) (past : Past) (w : 
     → run_from c n w (map (λ e. e.event) es) ≡ Ok (map (λ e. e.marks) es) → each_entry (λ past mark. true) is_carried_at_end past es ≡ true
 along c n [] past w made whole asked follows = refl
 along c n (e ∷ es) past w made whole asked follows =
-    by (step c w e.event) (comes w (Ending1 past e.event) (plan c e.event) (ends-event c past w e.event whole)) (event-agrees c past w e.event ready.sound ready.paths)
+    by (step c w e.event) (comes w (EndsSo past e.event) (plan c e.event) (ends-event c past w e.event whole)) (event-agrees c past w e.event ready.sound ready.paths)
     (event-posts-agree c past w e.event up.limited ready.sound ready.steady ready.posts) (event-keys-agree c past w e.event up.limited up.sound up.placed up.bound up.agree)
     (event-accesses-agree c past w e.event up.limited up.sound up.bound whole.ended ready.paths whole.accesses) (event-starts-agree c past w e.event ready.sound ready.steady ready.posts whole.starts)
     (event-sound c e.event w up.limited ready.sound made.0) (event-steady c e.event w ready.sound ready.steady) (event-placed c e.event w up.limited up.sound up.placed) (event-bound c e.event w up.sound up.bound) follows
@@ -99,7 +98,7 @@ along c n (e ∷ es) past w made whole asked follows =
     same : (v : World) → KeysAgree (after_marks e.marks (at_begin e.event past)) v → KeysAgree (after_entry e past) v
     same v agree = agree
 
-    by : (o : Outcome) → Comes (Ending1 past e.event) o → Comes (λ v ms. PathsAgree (after_marks ms (at_begin e.event past)) v) o → Comes (λ v ms. PostsAgree (at_end (after_marks ms (at_begin e.event past))) v) o
+    by : (o : Outcome) → Comes (EndsSo past e.event) o → Comes (λ v ms. PathsAgree (after_marks ms (at_begin e.event past)) v) o → Comes (λ v ms. PostsAgree (at_end (after_marks ms (at_begin e.event past))) v) o
         → Comes (λ v ms. KeysAgree (after_marks ms (at_begin e.event past)) v) o → Comes (λ v ms. AccessesAgree (after_marks ms (at_begin e.event past)) v × IsEndedWorld v) o
         → Comes (λ v ms. StartsAgree (after_marks ms (at_begin e.event past)) v) o → Afterwards (IsSoundWorld c) o → Afterwards IsSteadyWorld o → Afterwards (IsPlacedWorld c) o → Afterwards IsBoundWorld o
         → go_on n o (λ v. run_from c (suc n) v (map (λ e. e.event) es)) ≡ Ok (e.marks ∷ map (λ e. e.marks) es) → Rest → each_entry (λ past mark. true) is_carried_at_end past (e ∷ es) ≡ true

@@ -13,7 +13,6 @@ use Rattle.ca_base.specs.declared.limits.TheConstants.{MAX_MESSAGE_BYTES}
 use Rattle.ca_base.specs.declared.request.PostedSend.{PostedSend}
 use Rattle.ca_base.specs.declared.request.SendOp.{SendOp}
 use Rattle.ca_base.specs.declared.step.Reason.{Reason}
-use Rattle.ca_base.specs.objects.Mailbox.{passes}
 use Rattle.ca_base.specs.objects.QueuePair.{QueuePair}
 use Rattle.ca_base.specs.objects.StateTable.{is_path_mtu}
 use Rattle.ca_base.specs.objects.WorkQueue.{items_from}
@@ -202,7 +201,7 @@ sends-turn q n sound steady turn = by (first_of (turn_refusals q)) refl (next_re
     by None none (Some m) is turn = found m (sending-parts q none).0 is (is_local m.request.op) refl turn
 
 -- the request as it was posted
-pub record IsPosted1 (posted : List Posted) (base : ℕ) (q : QueuePair) (n : Numbered) : Type 0 where
+pub record WasPosted (posted : List Posted) (base : ℕ) (q : QueuePair) (n : Numbered) : Type 0 where
   pub at : IsPostedAt posted n.place (record { request = n.request; drawn = n.drawn })
   pub first : n.first ≡ base + psns_before q.responder.mtu posted n.place
   pub count : n.count ≡ psns_of q.responder.mtu n.request.op
@@ -218,7 +217,7 @@ all-dropped P zero ps all = all
 all-dropped P (suc k) [] all = record {}
 all-dropped P (suc k) (p ∷ ps) all = all-dropped P k ps all.1
 
-pub posted-so : (posted : List Posted) (base : ℕ) (q : QueuePair) (n : Numbered) → IsQueue q → Linked posted q.sends → Stands base posted q → IsSending q n → IsPosted1 posted base q n
+pub posted-so : (posted : List Posted) (base : ℕ) (q : QueuePair) (n : Numbered) → IsQueue q → Linked posted q.sends → Stands base posted q → IsSending q n → WasPosted posted base q n
 posted-so posted base q n sound linked stands sends = record {
   at = subst (λ i. IsPostedAt posted i (record { request = n.request; drawn = n.drawn })) (sym here.at) (found (posted-some (slice_get posted (oldest + sends.index)) x
       (ap (option_map as_posted) (sym (get-drop oldest posted sends.index (oldest + sends.index) refl)) ∙ sym (slice_get-map as_posted (drop oldest posted) sends.index)
@@ -228,8 +227,12 @@ posted-so posted base q n sound linked stands sends = record {
       ∙ (λ i. stands i + numbers-sum q.responder.mtu oldest q.requester.oldest_psn sends.index (drop oldest posted) i)
       ∙ omega (arith, before-more q.responder.mtu posted oldest sends.index, ap (psns_before q.responder.mtu posted) here.at);
   count = here.count;
-  few = omega (arith, here.count, psns-few q.responder.mtu n.request.op sound.responder.mtu
-      (all-get IsSend (items_from oldest q.sends) sends.index x (all-dropped IsSend (oldest - q.sends.first) q.sends.items sound.sends.items) here.item).bytes);
+  few = omega (
+    arith,
+    here.count,
+    psns-few q.responder.mtu n.request.op sound.responder.mtu
+        (all-get IsSend (items_from oldest q.sends) sends.index x (all-dropped IsSend (oldest - q.sends.first) q.sends.items sound.sends.items) here.item).bytes,
+  );
 }
   where
     oldest : ℕ

@@ -36,8 +36,8 @@ use Rattle.ca_base.specs.objects.QueuePair.{QueuePair}
 use Rattle.ca_carried.proofs.AnsweredLemmas.{AreUnsent, failing-unsent, unsent-append}
 use Rattle.ca_carried.proofs.EndLemmas.{IsBare, bare-begin, bare-end, bare-marks, sent-end, sent_by}
 use Rattle.ca_carried.proofs.FailingLemmas.{failure-failing, reads-failing}
-use Rattle.ca_carried.proofs.NumberedLemmas.{IsPosted1, IsSending, packet-index, posted-so, sends-turn}
-use Rattle.ca_carried.proofs.RespondEndLemmas.{Ending1, Ends, IsWhole, small-path, small-psn}
+use Rattle.ca_carried.proofs.NumberedLemmas.{WasPosted, IsSending, packet-index, posted-so, sends-turn}
+use Rattle.ca_carried.proofs.RespondEndLemmas.{EndsSo, Ends, IsWhole, small-path, small-psn}
 use Rattle.ca_carried.proofs.SpeltLemmas.{IsSpelt, shortened, spelt-again}
 use Rattle.ca_judged.proofs.JudgeLemmas.{Sees, both-true, bytes-refl, none-denied, seen-bytes}
 use Rattle.ca_judged.proofs.WholeLemmas.{agreed-whole, bytes-count, reached}
@@ -359,7 +359,7 @@ module _ (past : Past) (event : Event) (s : Sight) (lot : Lot) (q : QueuePair) (
   again : packet_of x.bytes ≡ Some (shortened spelt.fields)
   again = ap packet_of bytes ∙ spelt-again spelt.fields spelt.spelt
 
-  such : (start : Start) → IsPosted1 (posted_of past q.queue) (whole_start start) q n → start_of past q.queue ≡ Some start → has_its_cause r (sent_by q peer x) ≡ true
+  such : (start : Start) → WasPosted (posted_of past q.queue) (whole_start start) q n → start_of past q.queue ≡ Some start → has_its_cause r (sent_by q peer x) ≡ true
   such start posted is = (λ i. caused (again i) (starts i) (places i))
       ∙ (λ i. is_such (size i) (request i) (index i) (sym number i) (spelt.place i) (left.read i) x.bytes)
       ∙ both-true _ _ (both-true _ _ (lt-ltb (index_of_packet q n) (psns_of q.responder.mtu n.request.op) (omega (arith, sends.low, sends.high, posted.count)))
@@ -426,11 +426,11 @@ sees c past w up = record {
 }
 
 -- what effects of a turn tell
-abbrev pub Tells1 : Past → Event → QueuePair → Correspondent → Mailbox → Lot → Effects → Type 0
-Tells1 past event q peer m lot e = Ends past event (e.marks ++ option_map_or (sent_marks q peer m lot) (packet_sent e) [])
+abbrev pub TellsWhole : Past → Event → QueuePair → Correspondent → Mailbox → Lot → Effects → Type 0
+TellsWhole past event q peer m lot e = Ends past event (e.marks ++ option_map_or (sent_marks q peer m lot) (packet_sent e) [])
 
 packet-ends : (c : Configuration) (past : Past) (event : Event) (w : World) (q : QueuePair) (peer : Correspondent) (m : Mailbox) (lot : Lot) (room : Bool) (n : Numbered) → IsWhole c past w → IsThere w q → q.peer ≡ Some peer → turn_of q ≡ Sends n
-    → RowSees (sight_in c w) (Tells1 past event q peer m lot) (packet_row q room n)
+    → RowSees (sight_in c w) (TellsWhole past event q peer m lot) (packet_row q room n)
 packet-ends c past event w q peer m lot room n whole there names turn = by (is_too_much q n)
   where
     s : Sight
@@ -445,7 +445,7 @@ packet-ends c past event w q peer m lot room n whole there names turn = by (is_t
     }
 
     E : Effects → Type 0
-    E = Tells1 past event q peer m lot
+    E = TellsWhole past event q peer m lot
 
     sending : IsSending q n
     sending = sends-turn q n there.sound (there-kept w q whole.ready.steady there).is turn
@@ -486,7 +486,7 @@ packet-ends c past event w q peer m lot room n whole there names turn = by (is_t
       allowed = λ is refusal. possible (not room) reasons.NoRoom (sent_packet q n (map (bytes_in s) (packet_asks q n))) (sent is);
     }
 
-pub ends-request : (c : Configuration) (past : Past) (w : World) (name : QueueId) (lot : Lot) → IsWhole c past w → Leads w (Ending1 past (events.Request name lot)) (request_plan c name lot)
+pub ends-request : (c : Configuration) (past : Past) (w : World) (name : QueueId) (lot : Lot) → IsWhole c past w → Leads w (EndsSo past (events.Request name lot)) (request_plan c name lot)
 ends-request c past w name lot whole = leads-queue c w P name reasons.State (λ q. With_around q (λ a. Request_around c lot q a q.peer (turn_of q)))
     (λ q is. leads-around w P q (λ a. Request_around c lot q a q.peer (turn_of q)) (by q (found c w name q whole.ready.sound is) q.peer refl (turn_of q) refl))
   where
@@ -494,13 +494,13 @@ ends-request c past w name lot whole = leads-queue c w P name reasons.State (λ 
     event = events.Request name lot
 
     P : World → List Mark → Type 0
-    P = Ending1 past event
+    P = EndsSo past event
 
     by : (q : QueuePair) → IsThere w q → (peer : Option Correspondent) → q.peer ≡ peer → (turn : RequestTurn) → turn_of q ≡ turn → Leads w P (Request_around c lot q (around_in w q (shared_of w q)) peer turn)
     by q there peer names (Waits reason) is = record {}
     by q there peer names (Performs n) is = leads-local c w P (λ e. AreUnsent e.marks) q n (λ e changes writes. Finish (updates_of q (around_in w q (shared_of w q)) e ++ changes) writes e.marks) n.request.op
         (λ after m refusal alike. operation-unsent q after n m refusal) (record {}) (λ e cs ws unsent aside. unsent-ends past event e.marks unsent)
     by q there None names (Sends n) is = record {}
-    by q there (Some peer) names (Sends n) is = leads-seen c w P (Tells1 past event q peer (w.mailbox peer.queue) lot) (packet_row q (has_room_for q peer (w.mailbox peer.queue)) n)
+    by q there (Some peer) names (Sends n) is = leads-seen c w P (TellsWhole past event q peer (w.mailbox peer.queue) lot) (packet_row q (has_room_for q peer (w.mailbox peer.queue)) n)
         (Leave_plan q (around_in w q (shared_of w q)) peer (w.mailbox peer.queue) lot) whole.ended
         (packet-ends c past event w q peer (w.mailbox peer.queue) lot (has_room_for q peer (w.mailbox peer.queue)) n whole there names is) (λ e cs ws told safe. told)

@@ -12,7 +12,6 @@ use Rattle.ca_agree_accesses.proofs.TurnLemmas.{told-mtu}
 use Rattle.ca_agree_accesses.specs.Accesses.{AccessesAgree, IsEndedWorld}
 use Rattle.ca_agree_accesses.specs.Asked.{has_its_request, is_asked_by_request}
 use Rattle.ca_agree_keys.proofs.KeyTurnLemmas.{IsUp, found}
-use Rattle.ca_agree_keys.proofs.ToldLemmas.{ended}
 use Rattle.ca_agree_starts.specs.Starts.{StartsAgree}
 use Rattle.ca_base.specs.Configuration.{Configuration}
 use Rattle.ca_base.specs.declared.correspondent.Correspondent.{Correspondent}
@@ -77,11 +76,11 @@ abbrev pub Ends : Past → Event → List Mark → Type 0
 Ends past event ms = each_mark has_its_request (at_begin event past) ms ≡ true → is_carried_at_end (after_marks ms (at_begin event past)) ≡ true
 
 -- the same, whatever the world
-abbrev pub Ending1 : Past → Event → World → List Mark → Type 0
-Ending1 past event v ms = Ends past event ms
+abbrev pub EndsSo : Past → Event → World → List Mark → Type 0
+EndsSo past event v ms = Ends past event ms
 
 -- a packet that can be spelt, and is a response for this queue pair
-pub record IsAnswer1 (number : ℕ) (f : Fields) : Type 0 where
+pub record IsResponseTo (number : ℕ) (f : Fields) : Type 0 where
   pub spelt : IsSpelt f
   pub response : is_response f.opcode ≡ true
   pub queue : f.queue ≡ number
@@ -98,7 +97,7 @@ small-nak InvalidRequest = omega arith
 small-nak RemoteAccessError = omega arith
 small-nak RemoteOperationalError = omega arith
 
-acknowledges : (s : Syndrome) (queue psn msn : ℕ) → queue < 2 ^ 24 → psn < 2 ^ 24 → msn < 2 ^ 24 → syndrome_byte s < 2 ^ 8 → IsAnswer1 queue (acknowledge s queue psn msn)
+acknowledges : (s : Syndrome) (queue psn msn : ℕ) → queue < 2 ^ 24 → psn < 2 ^ 24 → msn < 2 ^ 24 → syndrome_byte s < 2 ^ 8 → IsResponseTo queue (acknowledge s queue psn msn)
 unfolding row_of
 acknowledges s queue psn msn number place messages byte = record {
   spelt = record { well = acknowledge_fits s queue psn msn number place messages; pkey = omega arith; syndrome = byte };
@@ -106,7 +105,7 @@ acknowledges s queue psn msn number place messages byte = record {
   queue = refl;
 }
 
-answers-atomic : (found queue psn msn : ℕ) → queue < 2 ^ 24 → psn < 2 ^ 24 → msn < 2 ^ 24 → IsAnswer1 queue (atomic_acknowledge found queue psn msn)
+answers-atomic : (found queue psn msn : ℕ) → queue < 2 ^ 24 → psn < 2 ^ 24 → msn < 2 ^ 24 → IsResponseTo queue (atomic_acknowledge found queue psn msn)
 unfolding row_of
 answers-atomic found queue psn msn number place messages = record {
   spelt = record { well = atomic_acknowledge_fits found queue psn msn number place messages; pkey = omega arith; syndrome = omega arith };
@@ -115,7 +114,7 @@ answers-atomic found queue psn msn number place messages = record {
 }
 
 answers-reading : (segment : Segment) (queue psn msn : ℕ) (payload : List ℕ) → queue < 2 ^ 24 → psn < 2 ^ 24 → msn < 2 ^ 24 → length payload ≤ MAX_PAYLOAD_BYTES
-    → IsAnswer1 queue (read_response segment queue psn msn payload) × (answers_read (read_response segment queue psn msn payload).opcode ≡ true)
+    → IsResponseTo queue (read_response segment queue psn msn payload) × (answers_read (read_response segment queue psn msn payload).opcode ≡ true)
 unfolding row_of
 answers-reading segment queue psn msn payload number place messages few = (
   record {
@@ -148,7 +147,7 @@ atomic-no found queue psn msn = refl
 
 -- ---- a responder's turn
 
-module _ (past : Past) (name : QueueId) (lot hurry : Lot) (q : QueuePair) (peer : Correspondent) (m : Mailbox) (own : queue_eq name q.queue ≡ true) (names : q.peer ≡ Some peer) (sound : IsQueue q) (mtu : mtu_of past q.queue ≡ q.responder.mtu) where
+module _ (past : Past) (name : QueueId) (lot : Lot) (q : QueuePair) (peer : Correspondent) (m : Mailbox) (own : queue_eq name q.queue ≡ true) (names : q.peer ≡ Some peer) (sound : IsQueue q) (mtu : mtu_of past q.queue ≡ q.responder.mtu) where
   abbrev pub event : Event
   event = events.Respond name lot
 
@@ -166,7 +165,7 @@ module _ (past : Past) (name : QueueId) (lot hurry : Lot) (q : QueuePair) (peer 
   abbrev pub packet : Fields → Packet
   packet f = record { request = None; bytes = spelling f }
 
-  cause : (f : Fields) (r : Past) → IsAnswer1 (peer_number q) f → r.at_hand.event ≡ event → has_its_cause r (sent_by q peer (packet f)) ≡ true
+  cause : (f : Fields) (r : Past) → IsResponseTo (peer_number q) f → r.at_hand.event ≡ event → has_its_cause r (sent_by q peer (packet f)) ≡ true
   cause f r answer at = both-true (is_respond_of q.queue r.at_hand.event) _ (ap (is_respond_of q.queue) at ∙ own) (ap (λ o. option_map_or is_response_to o false) (spelt-again f answer.spelt)
       ∙ both-true (is_response f.opcode && (f.queue == peer.queue.number)) _ (both-true (is_response f.opcode) _ answer.response (eq-eqb f.queue peer.queue.number (answer.queue ∙ number)))
       (ap (bytes_eq (spelling f)) (spelling-same f) ∙ bytes-refl (spelling f)))
@@ -175,13 +174,13 @@ module _ (past : Past) (name : QueueId) (lot hurry : Lot) (q : QueuePair) (peer 
       is_response_to p = is_response p.opcode && (p.queue == peer.queue.number) && bytes_eq (spelling f) (spelling p)
 
   -- which packets are READ responses
-  asked : (f : Fields) → IsAnswer1 (peer_number q) f → option_map_or (λ p. answers_read p.opcode) (packet_of (spelling f)) false ≡ answers_read f.opcode
+  asked : (f : Fields) → IsResponseTo (peer_number q) f → option_map_or (λ p. answers_read p.opcode) (packet_of (spelling f)) false ≡ answers_read f.opcode
   asked f answer = ap (λ o. option_map_or (λ (p : Fields). answers_read p.opcode) o false) (spelt-again f answer.spelt)
 
   -- a response that answers no READ, behind marks that read nothing
-  plainly : (f : Fields) (ms : List Mark) → IsAnswer1 (peer_number q) f → answers_read f.opcode ≡ false → AreUnsent ms → is_carried_at_end (after_marks (ms ++ sent_marks q peer m hurry (packet f)) (at_begin event past)) ≡ true
-  plainly f ms answer none unsent = ap is_carried_at_end (marks-append ms (sent_marks q peer m hurry (packet f)) (at_begin event past))
-      ∙ sent-end q peer m hurry (packet f) r bare.pathless bare.sent (cause f r answer bare.of)
+  plainly : (f : Fields) (ms : List Mark) → IsResponseTo (peer_number q) f → answers_read f.opcode ≡ false → AreUnsent ms → is_carried_at_end (after_marks (ms ++ sent_marks q peer m lot (packet f)) (at_begin event past)) ≡ true
+  plainly f ms answer none unsent = ap is_carried_at_end (marks-append ms (sent_marks q peer m lot (packet f)) (at_begin event past))
+      ∙ sent-end q peer m lot (packet f) r bare.pathless bare.sent (cause f r answer bare.of)
       (ap₂ (λ rs b. are_carried rs (if b then sent_by q peer (packet f) ∷ [] else [])) bare.reads (asked f answer ∙ none))
     where
       r : Past
@@ -192,8 +191,8 @@ module _ (past : Past) (name : QueueId) (lot hurry : Lot) (q : QueuePair) (peer 
 
   -- a READ response, behind the mark of its READ
   reading : (segment : Segment) (psn : ℕ) (key : Key) (address count : ℕ) (envelope : Option ℕ) (payload : List ℕ)
-      → Ends past event (marks.Remote q.queue q.domain envelope key kinds.Read address count (verdicts.Read payload) ∷ sent_marks q peer m hurry (packet (read_response segment (peer_number q) (psn_bits psn) q.responder.msn payload)))
-  reading segment psn key address count envelope payload told = sent-end q peer m hurry (packet f) r refl refl (cause f r answer.0 refl)
+      → Ends past event (marks.Remote q.queue q.domain envelope key kinds.Read address count (verdicts.Read payload) ∷ sent_marks q peer m lot (packet (read_response segment (peer_number q) (psn_bits psn) q.responder.msn payload)))
+  reading segment psn key address count envelope payload told = sent-end q peer m lot (packet f) r refl refl (cause f r answer.0 refl)
       (ap (λ b. are_carried (gave ∷ []) (if b then sent_by q peer (packet f) ∷ [] else [])) (asked f answer.0 ∙ answer.1) ∙ both-true _ true
       (both-true (queue_eq q.queue q.queue) _ (queue-refl q.queue) (ap (λ o. option_map_or (λ (p : Fields). bytes_eq p.payload payload) o false) (spelt-again f answer.0.spelt) ∙ bytes-refl payload)) refl)
     where
@@ -215,29 +214,29 @@ module _ (past : Past) (name : QueueId) (lot hurry : Lot) (q : QueuePair) (peer 
       most : length payload ≤ MAX_PAYLOAD_BYTES
       most = omega (arith, leb-true (length payload) (mtu_of past q.queue) few, mtu, small-path q.responder.mtu sound.responder.mtu)
 
-      answer : IsAnswer1 (peer_number q) f × (answers_read f.opcode ≡ true)
+      answer : IsResponseTo (peer_number q) f × (answers_read f.opcode ≡ true)
       answer = answers-reading segment (peer_number q) (psn_bits psn) q.responder.msn payload small (small-psn psn) sound.responder.msn most
 
   -- what effects tell, with the packet that they send
   abbrev pub Tell : Effects → Type 0
-  Tell e = Ends past event (e.marks ++ option_map_or (sent_marks q peer m hurry) (packet_sent e) [])
+  Tell e = Ends past event (e.marks ++ option_map_or (sent_marks q peer m lot) (packet_sent e) [])
 
-  acknowledging : (s : Syndrome) (psn : ℕ) (ms : List Mark) → syndrome_byte s < 2 ^ 8 → AreUnsent ms → Ends past event (ms ++ sent_marks q peer m hurry (packet (acknowledge s (peer_number q) (psn_bits psn) q.responder.msn)))
+  acknowledging : (s : Syndrome) (psn : ℕ) (ms : List Mark) → syndrome_byte s < 2 ^ 8 → AreUnsent ms → Ends past event (ms ++ sent_marks q peer m lot (packet (acknowledge s (peer_number q) (psn_bits psn) q.responder.msn)))
   acknowledging s psn ms byte unsent = λ told. plainly (acknowledge s (peer_number q) (psn_bits psn) q.responder.msn) ms
       (acknowledges s (peer_number q) (psn_bits psn) q.responder.msn small (small-psn psn) sound.responder.msn byte) (acknowledge-no s (peer_number q) (psn_bits psn) q.responder.msn) unsent
 
   turn : (a : Queued) → RowDoes Tell (answer_turn q a)
   turn (queued.Ack psn) = record { denied = λ d. tell; allowed = λ bytes refusal. tell }
     where
-      tell : Ends past event (sent_marks q peer m hurry (packet (acknowledge (Ack UNLIMITED_CREDITS) (peer_number q) (psn_bits psn) q.responder.msn)))
+      tell : Ends past event (sent_marks q peer m lot (packet (acknowledge (Ack UNLIMITED_CREDITS) (peer_number q) (psn_bits psn) q.responder.msn)))
       tell = acknowledging (Ack UNLIMITED_CREDITS) psn [] (omega arith) (record {})
   turn (queued.Rnr psn) = record { denied = λ d. tell; allowed = λ bytes refusal. tell }
     where
-      tell : Ends past event (sent_marks q peer m hurry (packet (acknowledge (RnrNak q.responder.rnr_code) (peer_number q) (psn_bits psn) q.responder.msn)))
+      tell : Ends past event (sent_marks q peer m lot (packet (acknowledge (RnrNak q.responder.rnr_code) (peer_number q) (psn_bits psn) q.responder.msn)))
       tell = acknowledging (RnrNak q.responder.rnr_code) psn [] (omega (arith, sound.responder.rnr_code)) (record {})
   turn (queued.Nak psn code) = record { denied = λ d. tell; allowed = λ bytes refusal. tell }
     where
-      tell : Ends past event (sent_marks q peer m hurry (packet (acknowledge (Nak (nak_of code)) (peer_number q) (psn_bits psn) q.responder.msn)))
+      tell : Ends past event (sent_marks q peer m lot (packet (acknowledge (Nak (nak_of code)) (peer_number q) (psn_bits psn) q.responder.msn)))
       tell = acknowledging (Nak (nak_of code)) psn [] (small-nak (nak_of code)) (record {})
   turn (queued.Read psn key address left first envelope duplicate) = record {
     denied = λ d. acknowledging (Nak RemoteAccessError) psn (remote_mark d.ask envelope (verdicts.Denied d.denial) ∷ flush_marks q) (small-nak RemoteAccessError) (refl, failing-unsent (flush_marks q) (flush-failing q));
@@ -248,7 +247,7 @@ module _ (past : Past) (name : QueueId) (lot hurry : Lot) (q : QueuePair) (peer 
       r = record { psn = psn; key = key; address = address; left = left; first = first; envelope = envelope; duplicate = duplicate }
   turn (queued.Atomic psn found duplicate) = record { denied = λ d. tell; allowed = λ bytes refusal. tell }
     where
-      tell : Ends past event (sent_marks q peer m hurry (packet (atomic_acknowledge found (peer_number q) (psn_bits psn) q.responder.msn)))
+      tell : Ends past event (sent_marks q peer m lot (packet (atomic_acknowledge found (peer_number q) (psn_bits psn) q.responder.msn)))
       tell = λ told. plainly (atomic_acknowledge found (peer_number q) (psn_bits psn) q.responder.msn) []
           (answers-atomic found (peer_number q) (psn_bits psn) q.responder.msn small (small-psn psn) sound.responder.msn) (atomic-no found (peer_number q) (psn_bits psn) q.responder.msn) (record {})
 
@@ -273,21 +272,21 @@ pub record IsWhole (c : Configuration) (past : Past) (w : World) : Type 0 where
   pub accesses : AccessesAgree past w
   pub starts : StartsAgree past w
 
-pub ends-respond : (c : Configuration) (past : Past) (w : World) (name : QueueId) (lot : Lot) → IsWhole c past w → Leads w (Ending1 past (events.Respond name lot)) (respond_plan c name lot)
+pub ends-respond : (c : Configuration) (past : Past) (w : World) (name : QueueId) (lot : Lot) → IsWhole c past w → Leads w (EndsSo past (events.Respond name lot)) (respond_plan c name lot)
 ends-respond c past w name lot whole = leads-queue c w P name reasons.State (λ q. With_around q (λ a. Respond_around c lot q a q.peer))
     (λ q is. leads-around w P q (λ a. Respond_around c lot q a q.peer) (by q (found c w name q whole.ready.sound is) (is-own q is) q.peer refl))
   where
     P : World → List Mark → Type 0
-    P = Ending1 past (events.Respond name lot)
+    P = EndsSo past (events.Respond name lot)
 
     is-own : (q : QueuePair) → w.queue name ≡ Present q → queue_eq name q.queue ≡ true
     is-own q is = subst (λ k. queue_eq name k ≡ true) (sym (subst (IsQueueOf name) is (whole.ready.sound.things (Queue_of name))).0) (queue-refl name)
 
     by : (q : QueuePair) → IsThere w q → queue_eq name q.queue ≡ true → (peer : Option Correspondent) → q.peer ≡ peer → Leads w P (Respond_around c lot q (around_in w q (shared_of w q)) peer)
     by q there own None names = leads-unless w P (respond_refusals true q) Stuck (Stuck reasons.Empty) (λ r. record {}) (record {})
-    by q there own (Some peer) names = leads-row c w P (Tell past name lot lot q peer (w.mailbox peer.queue) own names there.sound mtu) (respond_row (has_room_for q peer (w.mailbox peer.queue)) q)
+    by q there own (Some peer) names = leads-row c w P (Tell past name lot q peer (w.mailbox peer.queue) own names there.sound mtu) (respond_row (has_room_for q peer (w.mailbox peer.queue)) q)
         (Leave_plan q (around_in w q (shared_of w q)) peer (w.mailbox peer.queue) lot)
-        (respond-tells past name lot lot q peer (w.mailbox peer.queue) own names there.sound mtu (has_room_for q peer (w.mailbox peer.queue))) (λ e cs ws told aside. told)
+        (respond-tells past name lot q peer (w.mailbox peer.queue) own names there.sound mtu (has_room_for q peer (w.mailbox peer.queue))) (λ e cs ws told aside. told)
       where
         mtu : mtu_of past q.queue ≡ q.responder.mtu
         mtu = told-mtu past w q peer whole.ready.paths whole.accesses there.present names
