@@ -4,6 +4,7 @@ ghost use Rattle.ca_agree_accesses.specs.Asked.{HaveAddresses};
 ghost use Rattle.ca_base.specs.Configuration.{Configuration};
 ghost use Rattle.ca_carried.specs.Answered.{HaveTheirResponses};
 ghost use Rattle.ca_carried.specs.Ended.{HaveTheirCauses};
+ghost use Rattle.ca_carried.specs.Modulo.{CarriedModulo};
 ghost use Rattle.ca_keys.specs.Memory.{ByteMap};
 ghost use Rattle.ca_model.specs.Carried.{Carried};
 ghost use Rattle.ca_model.specs.Entries.{EntryValue};
@@ -35,4 +36,12 @@ pub fn machine_is_carried()
     ensures { (c : Configuration) (bytes : ByteMap) (es : List EntryValue)
         → AreLimited c → AllByRecursion (λ e. CanBeMade e.event) es → Follows c bytes es → HaveAddresses es
         → Carried bytes es }
+{}
+
+/// Every history that follows the machine is carried but that the addresses of its remote reads count modulo 2^64: they
+/// are those of the packets that arrived, and where a packet is of such numbers as no bytes can be, an address need not be
+/// below 2^64.
+pub fn machine_is_carried_modulo()
+    ensures { (c : Configuration) (bytes : ByteMap) (es : List EntryValue)
+        → AreLimited c → AllByRecursion (λ e. CanBeMade e.event) es → Follows c bytes es → CarriedModulo bytes es }
 {}
