@@ -1,0 +1,11 @@
+pub mod DecodedLemmas
+pub mod QuietLemmas
+pub mod EndLemmas
+pub mod CarryLemmas
+pub mod AccessRowLemmas
+pub mod RespondLemmas
+pub mod TurnLemmas
+pub mod ArrivalLemmas
+pub mod VerbLemmas
+pub mod ChangeLemmas
+pub mod EventLemmas

@@ -1,0 +1,7 @@
+pub mod NumberLemmas
+pub mod MoveLemmas
+pub mod PerformLemmas
+pub mod StartTurnLemmas
+pub mod StartVerbLemmas
+pub mod StartChangeLemmas
+pub mod StartEventLemmas

@@ -1,0 +1,47 @@
+ghost use Rattle.std.specs.List.{AllByRecursion};
+ghost use Rattle.std.specs.Prelude.{List};
+ghost use Rattle.ca_agree_accesses.specs.Asked.{HaveAddresses};
+ghost use Rattle.ca_base.specs.Configuration.{Configuration};
+ghost use Rattle.ca_carried.specs.Answered.{HaveTheirResponses};
+ghost use Rattle.ca_carried.specs.Ended.{HaveTheirCauses};
+ghost use Rattle.ca_carried.specs.Modulo.{CarriedModulo};
+ghost use Rattle.ca_keys.specs.Memory.{ByteMap};
+ghost use Rattle.ca_model.specs.Carried.{Carried};
+ghost use Rattle.ca_model.specs.Entries.{EntryValue};
+ghost use Rattle.ca_model.specs.machine.Run.{Follows};
+ghost use Rattle.ca_model.specs.machine.Sound.{AreLimited, CanBeMade};
+
+/// In a history that follows the machine a send that has packets completes with success only in an event in which a
+/// response arrived at its queue pair. This is the part of Carried that speaks of completions.
+pub fn successes_have_their_responses()
+    ensures { (c : Configuration) (bytes : ByteMap) (es : List EntryValue) → AreLimited c
+        → AllByRecursion (λ e. CanBeMade e.event) es → Follows c bytes es
+        → HaveTheirResponses bytes es }
+{}
+
+/// In a history that follows the machine each event ends so: a packet that was sent without a path is lost; each packet
+/// that was sent is the one of the request that it names which has its PSN, and its payload is what the event read from
+/// the request's list, or, where it names none, a response of the responder's turn; and each READ response carries what
+/// a READ of its own event gave. This is the part of Carried that speaks of how events end.
+pub fn events_end_with_their_causes()
+    ensures { (c : Configuration) (bytes : ByteMap) (es : List EntryValue) → AreLimited c
+        → AllByRecursion (λ e. CanBeMade e.event) es → Follows c bytes es
+        → HaveTheirCauses bytes es }
+{}
+
+/// Every history that follows the machine, and whose accesses have addresses below 2^64, is carried: each packet that
+/// arrives was sent, each one that is sent has its index and its cause, each remote access its packet or its request, and
+/// each success of a send that has packets its response.
+pub fn machine_is_carried()
+    ensures { (c : Configuration) (bytes : ByteMap) (es : List EntryValue)
+        → AreLimited c → AllByRecursion (λ e. CanBeMade e.event) es → Follows c bytes es → HaveAddresses es
+        → Carried bytes es }
+{}
+
+/// Every history that follows the machine is carried but that the addresses of its remote reads count modulo 2^64: they
+/// are those of the packets that arrived, and where a packet is of such numbers as no bytes can be, an address need not be
+/// below 2^64.
+pub fn machine_is_carried_modulo()
+    ensures { (c : Configuration) (bytes : ByteMap) (es : List EntryValue)
+        → AreLimited c → AllByRecursion (λ e. CanBeMade e.event) es → Follows c bytes es → CarriedModulo bytes es }
+{}
