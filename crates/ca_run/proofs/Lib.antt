@@ -1,2 +1,3 @@
 pub mod OneWord
 pub mod ReadLemmas
+pub mod FitLemmas

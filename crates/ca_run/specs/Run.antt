@@ -1,6 +1,7 @@
 -- What a run of the program did, by its status. Contracts cite it.
 use Rattle.std.specs.Prelude.{◌≡◌, ℕ, List, [], ◌∷◌, codes, Option, Some, IfSome, Ok}
 use Rattle.ca_keys.specs.Memory.{zeros}
+use Rattle.ca_model.specs.Carried.{Carried}
 use Rattle.ca_model.specs.Entries.{EntryValue}
 use Rattle.ca_model.specs.History.{IsHistory}
 use Rattle.ca_model.specs.Judged.{Judged}
@@ -17,13 +18,14 @@ use Rattle.ca_trace.specs.Trace.{text}
 abbrev pub IsCommand : List (List ℕ) → Type 0
 IsCommand words = words ≡ codes "script" ∷ []
 
--- A history of a script over buffers of zeros is lawful: it follows the machine, is a history, is judged, licensed and
--- ordered; and it is one of the script, and leads to where the order of the script ends.
+-- A history of a script over buffers of zeros is lawful: it follows the machine, is a history, is judged, licensed,
+-- carried and ordered; and it is one of the script, and leads to where the order of the script ends.
 pub record IsLawfulOrder (s : ScriptValue) (es : List EntryValue) : Type 0 where
   pub follows : Follows s.config zeros es
   pub history : IsHistory es
   pub judged : Judged zeros es
   pub licensed : Licensed zeros es
+  pub carried : Carried zeros es
   pub ordered : Ordered zeros es
   pub of_script : LeadsTo s es (ending s)
 

@@ -5,10 +5,13 @@ use Rattle.std.specs.List.{AllByRecursion}
 use Rattle.std.specs.Option.{option_map, option_map_or}
 use Rattle.ca_agree.proofs.EventFitLemmas.{followed-is-history}
 use Rattle.ca_agree.specs.Runs.{AreStamped}
+use Rattle.ca_agree_accesses.specs.Asked.{HaveAddresses}
 use Rattle.ca_base.specs.objects.Mailbox.{due}
+use Rattle.ca_carried.proofs.EndEventLemmas.{whole-along}
 use Rattle.ca_judged.proofs.JudgeEventLemmas.{judged-along}
 use Rattle.ca_keys.specs.Memory.{zeros}
 use Rattle.ca_licensed.proofs.LicensedLemmas.{licensed-along}
+use Rattle.ca_model.specs.Carried.{Carried}
 use Rattle.ca_model.specs.Entries.{EntryValue}
 use Rattle.ca_model.specs.History.{IsHistory}
 use Rattle.ca_model.specs.Judged.{Judged}
@@ -132,3 +135,6 @@ order-licensed text s reads = licensed-along s.config zeros (order s) (text-limi
 
 pub order-ordered : (text : List ℕ) (s : ScriptValue) → script_of text ≡ Ok s → Ordered zeros (order s)
 order-ordered text s reads = ordered-along s.config zeros (order s) (text-limited text s reads) (order-made text s reads) (order-follows s)
+
+pub order-carried : (text : List ℕ) (s : ScriptValue) → script_of text ≡ Ok s → HaveAddresses (order s) → Carried zeros (order s)
+order-carried text s reads have = whole-along s.config zeros (order s) (text-limited text s reads) (order-made text s reads) (order-follows s) have
