@@ -1,0 +1,12 @@
+pub mod StoryLemmas
+pub mod PassLemmas
+pub mod AskLemmas
+pub mod SuchLemmas
+pub mod OldestLemmas
+pub mod ResponseStoryLemmas
+pub mod RequestStoryLemmas
+pub mod EndLemmas
+pub mod TurnLemmas
+pub mod VerbLemmas
+pub mod PostingLemmas
+pub mod EventLemmas

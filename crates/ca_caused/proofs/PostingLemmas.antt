@@ -1,0 +1,307 @@
+-- Posts, polls and the verbs that end keys: what completes by them has its cause, and queue pairs in Error keep their
+-- faults. For proofs only.
+use Rattle.std.proofs.Common.{◌≡◌, ℕ, ◌-◌, ◌==◌, ◌||◌, nat_lt, Bool, true, false, if◌then◌else◌, List, [], ◌∷◌, ◌++◌, length, take, Option, None, Some, refl, sym, ap, subst, ◌∙◌, true≢false, IfSome}
+use Rattle.std.specs.Option.{option_map, option_map_or}
+use Rattle.ca_agree.proofs.LeadsLemmas.{leads-unless}
+use Rattle.ca_agree.proofs.PathChangeLemmas.{Behind}
+use Rattle.ca_agree.proofs.PathVerbLemmas.{agrees-present, call_of}
+use Rattle.ca_agree.specs.Runs.{Leads}
+use Rattle.ca_agree_keys.proofs.KeyTurnLemmas.{found}
+use Rattle.ca_agree_posts.specs.Posts.{life}
+use Rattle.ca_base.specs.Configuration.{Configuration}
+use Rattle.ca_base.specs.declared.change.Field.TheVariants as fields
+use Rattle.ca_base.specs.declared.change.State.TheVariants as states
+use Rattle.ca_base.specs.declared.completion.Completion.{Completion}
+use Rattle.ca_base.specs.declared.limits.TheConstants.{MAX_POLLED}
+use Rattle.ca_base.specs.declared.request.RecvRequest.{RecvRequest}
+use Rattle.ca_base.specs.declared.request.SendOp.{SendOp}
+use Rattle.ca_base.specs.declared.request.SendOp.TheVariants as ops
+use Rattle.ca_base.specs.declared.request.SendRequest.{SendRequest}
+use Rattle.ca_base.specs.declared.step.Reason.TheVariants as reasons
+use Rattle.ca_base.specs.objects.CompletionQueue.{CompletionQueue, after_polls, after_puts}
+use Rattle.ca_base.specs.objects.Domain.{without_object}
+use Rattle.ca_base.specs.objects.QueuePair.{QueuePair, QueueSlot, NoQueue, Present, recv_cq_of, send_cq_of, with_all_flushed}
+use Rattle.ca_base.specs.objects.Region.{Region, after_deregistration, deregistration_refusals, grant_of_region, with_window_unbound}
+use Rattle.ca_base.specs.objects.StateTable.{state_eq}
+use Rattle.ca_base.specs.objects.Window.{Binding, Window, after_deallocation, after_draw, byte_drawn, key_of_window}
+use Rattle.ca_base.specs.objects.WorkQueue.{after_retire, with_item}
+use Rattle.ca_keys.specs.Equal.{queue_eq}
+use Rattle.ca_keys.specs.Numbers.{key_at, queue_of, window_index}
+use Rattle.ca_keys.specs.declared.grant.Grant.{Grant}
+use Rattle.ca_keys.specs.declared.names.QueueId.{QueueId}
+use Rattle.ca_keys.specs.declared.names.Slot.{Slot}
+use Rattle.ca_laws_sound.proofs.WorldLemmas.{IsThere}
+use Rattle.ca_model.specs.Past.{Past}
+use Rattle.ca_model.specs.declared.answer.Answer.{Answer}
+use Rattle.ca_model.specs.declared.answer.Answer.TheVariants as answers
+use Rattle.ca_model.specs.declared.answer.Refusal.TheVariants.{NoSuch, OutOfRange}
+use Rattle.ca_model.specs.declared.mark.Mark.{Mark}
+use Rattle.ca_model.specs.declared.mark.Mark.TheVariants as marks
+use Rattle.ca_model.specs.declared.verb.Verb.TheVariants as verbs
+use Rattle.ca_model.specs.machine.Around.{completions_to}
+use Rattle.ca_model.specs.machine.CompletionVerbs.{Poll_of, Take_plan, With_place, With_places, after_poll, poll_plan, receives_after_poll, slot_after_poll, source_of_completion}
+use Rattle.ca_model.specs.machine.Completions.{flush_marks}
+use Rattle.ca_model.specs.machine.Delivery.{Arrive}
+use Rattle.ca_model.specs.machine.HostVerbs.{inject_plan}
+use Rattle.ca_model.specs.machine.Plan.{Plan, If, Look, Stuck, Update, ◌:=◌, put_all}
+use Rattle.ca_model.specs.machine.PostingVerbs.{Posted_send, after_flush, marks_of_flush, post_recv_plan, post_recv_refusals, post_send_plan, post_send_refusals, with_send}
+use Rattle.ca_model.specs.machine.QueuePairVerbs.{beside}
+use Rattle.ca_model.specs.machine.RegionVerbs.{dereg_mr_plan}
+use Rattle.ca_model.specs.machine.Row.{region_under}
+use Rattle.ca_model.specs.machine.VerbAnswers.{Answer_plan, Call, Refuse_plan, Unless_plan, answer_mark, of_region_refusals}
+use Rattle.ca_model.specs.machine.WindowVerbs.{With_binder, dealloc_mw_plan, queue_updates}
+use Rattle.ca_model.specs.machine.World.{Cq_of, Domain_of, Queue_of, Region_of, Srq_of, Window_of, World}
+use Rattle.ca_agree_sends.proofs.TurnLemmas.{AreAway}
+use Rattle.ca_caused.proofs.EndLemmas.{Passes, left-agrees}
+use Rattle.ca_caused.proofs.PassLemmas.{Left, faults_of_queue, left-passed, passed-none}
+use Rattle.ca_caused.proofs.TurnLemmas.{IsMet, arrival-met, cause-arrive, faulty-there}
+use Rattle.ca_caused.proofs.VerbLemmas.{AreKept, CausingBy, IsKept, cause-kept, flushed-left}
+use Rattle.ca_caused.specs.Faults.{FaultsAgree, FaultsInSlot, is_faulty}
+use Rattle.ca_model.specs.Past.{Fault, after_mark}
+use Rattle.ca_model.specs.machine.Completions.{flush_marks}
+use Rattle.ca_keys.specs.Equal.{queue_eq}
+use Rattle.ca_agree_posts.specs.Posts.{life}
+
+-- a queue pair in Error flushes what is posted at once
+flushes-posted : (past r : Past) (w : World) (q p : QueuePair) (us : List Update) → r.at_hand.arrival ≡ None → r.incarnation ≡ past.incarnation → r.faults ≡ past.faults → FaultsAgree past w → IsThere w q → p.queue ≡ q.queue → p.state ≡ q.state → AreAway us
+    → Passes r (put_all ((Queue_of q.queue := Present (after_flush p)) ∷ us) w) (marks_of_flush p)
+flushes-posted past r w q p us alone lives faults agree there own same away = left-agrees r w q.queue (after_flush p) [] us [] (marks_of_flush p)
+    (λ n other. subst (λ i. FaultsInSlot (r.faults (life n (i n))) (w.queue n)) (sym lives) (subst (λ f. FaultsInSlot (f (life n (past.incarnation n))) (w.queue n)) (sym faults) (agree.slots n)))
+    (subst (λ o. IfSome o (λ a. a.target ≡ q.queue)) (sym alone) (record {})) (by (state_eq p.state states.Error) refl) (record {}) away
+  where
+    faulty : state_eq p.state states.Error ≡ true → is_faulty (faults_of_queue r q.queue) ≡ true
+    faulty error = ap (λ i. is_faulty (r.faults (life q.queue (i q.queue)))) lives ∙ ap (λ f. is_faulty (f (life q.queue (past.incarnation q.queue)))) faults
+        ∙ faulty-there past w q agree there (ap (λ s. state_eq s states.Error) (sym same) ∙ error)
+
+    by : (b : Bool) → state_eq p.state states.Error ≡ b → Left q.queue (if b then with_all_flushed p else p) r (if b then flush_marks p else [])
+    by true error = flushed-left q.queue p (with_all_flushed p) r own (faulty error)
+    by false well = left-passed q.queue p r [] (passed-none q.queue r) (λ error. absurd (true≢false (sym error ∙ well)))
+
+posted-causes : (c : Configuration) (past : Past) (w : World) (by : ℕ) (s : Slot) (request : SendRequest) (q : QueuePair) (drawn : Option ℕ) (window : Slot) (more : List Update) → IsMet c past w → IsThere w q → AreAway more
+    → Leads w (CausingBy past by (verbs.PostSend s request)) (Posted_send (call_of by (verbs.PostSend s request)) q request drawn window more)
+posted-causes c past w by s request q drawn window more met there away = leads-unless w (CausingBy past by (verbs.PostSend s request)) (post_send_refusals request q) (Refuse_plan call)
+    (Answer_plan call answer ((Queue_of q.queue := Present (after_flush posted)) ∷ us) (marks_of_flush posted)) (λ r. (refl, met.agree))
+    (flushes-posted past (Behind past by (verbs.PostSend s request) answer) w q posted us refl refl refl met.agree there refl refl (record {}, away))
+  where
+    call : Call
+    call = call_of by (verbs.PostSend s request)
+
+    answer : Answer
+    answer = answers.Posted (option_map (key_at (window_index window)) drawn)
+
+    posted : QueuePair
+    posted = with_send request drawn q
+
+    us : List Update
+    us = (Cq_of (send_cq_of q) := option_map (after_puts (completions_to q q.send_cq (marks_of_flush posted))) (w.cq (send_cq_of q))) ∷ more
+
+pub cause-post_send : (c : Configuration) (past : Past) (w : World) (by : ℕ) (s : Slot) (request : SendRequest) → IsMet c past w
+    → Leads w (CausingBy past by (verbs.PostSend s request)) (post_send_plan (call_of by (verbs.PostSend s request)) s request)
+cause-post_send c past w by s request met = agrees-present c w P call s (λ q. posting q request.op) met.posted.sound (refl, met.agree) (λ q is own. on q (found c w q.queue q met.posted.sound is) own request.op)
+  where
+    P : World → List Mark → Type 0
+    P = CausingBy past by (verbs.PostSend s request)
+
+    call : Call
+    call = call_of by (verbs.PostSend s request)
+
+    draws : QueuePair → Slot → Window → Plan
+    draws q window x = Unless_plan call ((x.kind == 0, NoSuch) ∷ []) (Posted_send call q request (byte_drawn x) window ((Window_of window := after_draw x) ∷ []))
+
+    posting : QueuePair → SendOp → Plan
+    posting q (ops.Bind1 window region address count rights) = Look (Window_of (beside s window)) (draws q (beside s window))
+    posting q op = Posted_send call q request None s []
+
+    plain : (q : QueuePair) → IsThere w q → q.queue ≡ queue_of s → Leads w P (Posted_send call q request None s [])
+    plain q there own = posted-causes c past w by s request q None s [] met there (record {})
+
+    on : (q : QueuePair) → IsThere w q → q.queue ≡ queue_of s → (op : SendOp) → Leads w P (posting q op)
+    on q there own (ops.Bind1 window region address count rights) = leads-unless w P ((x.kind == 0, NoSuch) ∷ []) (Refuse_plan call)
+        (Posted_send call q request (byte_drawn x) (beside s window) ((Window_of (beside s window) := after_draw x) ∷ [])) (λ r. (refl, met.agree))
+        (posted-causes c past w by s request q (byte_drawn x) (beside s window) ((Window_of (beside s window) := after_draw x) ∷ []) met there (record {}, record {}))
+      where
+        x : Window
+        x = w.window (beside s window)
+    on q there own (ops.Bind2 window region low address count rights) = plain q there own
+    on q there own (ops.FastReg region low buffer address length rights pages) = plain q there own
+    on q there own (ops.LocalInv key) = plain q there own
+    on q there own (ops.Send list) = plain q there own
+    on q there own (ops.SendImm imm list) = plain q there own
+    on q there own (ops.SendInv key list) = plain q there own
+    on q there own (ops.Write address key list) = plain q there own
+    on q there own (ops.WriteImm address key imm list) = plain q there own
+    on q there own (ops.Read address key list) = plain q there own
+    on q there own (ops.CmpSwap address key compare swap list) = plain q there own
+    on q there own (ops.FetchAdd address key add list) = plain q there own
+
+-- ---- PostRecv
+
+pub cause-post_recv : (c : Configuration) (past : Past) (w : World) (by : ℕ) (s : Slot) (request : RecvRequest) → IsMet c past w
+    → Leads w (CausingBy past by (verbs.PostRecv s request)) (post_recv_plan (call_of by (verbs.PostRecv s request)) s request)
+cause-post_recv c past w by s request met = agrees-present c w P call s _ met.posted.sound (refl, met.agree) (λ q is name. on q (found c w q.queue q met.posted.sound is))
+  where
+    P : World → List Mark → Type 0
+    P = CausingBy past by (verbs.PostRecv s request)
+
+    call : Call
+    call = call_of by (verbs.PostRecv s request)
+
+    after : QueuePair → QueuePair
+    after q = record q { receives = option_map (with_item request) q.receives }
+
+    us : QueuePair → List Update
+    us q = (Cq_of (recv_cq_of q) := option_map (after_puts (completions_to q q.recv_cq (marks_of_flush (after q)))) (w.cq (recv_cq_of q))) ∷ []
+
+    on : (q : QueuePair) → IsThere w q
+        → Leads w P (Unless_plan call (post_recv_refusals request q) (Answer_plan call (answers.Posted None) ((Queue_of q.queue := Present (after_flush (after q))) ∷ us q) (marks_of_flush (after q))))
+    on q there = leads-unless w P (post_recv_refusals request q) (Refuse_plan call)
+        (Answer_plan call (answers.Posted None) ((Queue_of q.queue := Present (after_flush (after q))) ∷ us q) (marks_of_flush (after q))) (λ r. (refl, met.agree))
+        (flushes-posted past (Behind past by (verbs.PostRecv s request) (answers.Posted None)) w q (after q) (us q) refl refl refl met.agree there refl refl (record {}, record {}))
+
+-- ---- the verbs that end keys
+
+pub cause-dereg_mr : (past : Past) (w : World) (by : ℕ) (s : Slot) → FaultsAgree past w → Leads w (CausingBy past by (verbs.DeregMr s)) (dereg_mr_plan (call_of by (verbs.DeregMr s)) s)
+cause-dereg_mr past w by s agree = leads-unless w (CausingBy past by (verbs.DeregMr s)) (of_region_refusals (deregistration_refusals region)) (Refuse_plan call)
+    (Answer_plan call answers.Fine changed (told (grant_of_region region))) (λ r. (refl, agree)) (passes (grant_of_region region))
+  where
+    call : Call
+    call = call_of by (verbs.DeregMr s)
+
+    region : Region
+    region = w.region s
+
+    changed : List Update
+    changed = (Domain_of s.domain := without_object (w.domain s.domain)) ∷ (Region_of s := after_deregistration region) ∷ []
+
+    told : Option Grant → List Mark
+    told o = option_map_or (λ g. marks.Revoked s.domain.adapter g.key ∷ []) o []
+
+    passes : (o : Option Grant) → CausingBy past by (verbs.DeregMr s) (put_all changed w) (answer_mark call answers.Fine ∷ told o)
+    passes None = (refl, agree)
+    passes (Some g) = (refl, agree)
+
+pub cause-dealloc_mw : (past : Past) (w : World) (by : ℕ) (s : Slot) → FaultsAgree past w → Leads w (CausingBy past by (verbs.DeallocMw s)) (dealloc_mw_plan (call_of by (verbs.DeallocMw s)) s)
+cause-dealloc_mw past w by s agree = leads-unless w P ((window.kind == 0, NoSuch) ∷ []) (Refuse_plan call) (plan window.binding) (λ r. (refl, agree)) (at window.binding)
+  where
+    P : World → List Mark → Type 0
+    P = CausingBy past by (verbs.DeallocMw s)
+
+    call : Call
+    call = call_of by (verbs.DeallocMw s)
+
+    window : Window
+    window = w.window s
+
+    changed : List Update
+    changed = (Domain_of s.domain := without_object (w.domain s.domain)) ∷ (Window_of s := after_deallocation window) ∷ []
+
+    end : Binding → List Update → Plan
+    end b more = Answer_plan call answers.Fine
+        (changed ++ (Region_of (region_under window b) := with_window_unbound (w.region (region_under window b))) ∷ more)
+        (marks.Revoked s.domain.adapter (key_of_window window) ∷ [])
+
+    plan : Option Binding → Plan
+    plan None = Answer_plan call answers.Fine changed []
+    plan (Some b) = Look (Region_of (region_under window b)) (λ region. With_binder b.queue (λ more.
+        Answer_plan call answers.Fine (changed ++ (Region_of (region_under window b) := with_window_unbound region) ∷ more) (marks.Revoked s.domain.adapter (key_of_window window) ∷ [])))
+
+    ends : (b : Binding) (more : List Update) → AreKept w more → Leads w P (end b more)
+    ends b more kept = (refl, cause-kept past w (changed ++ (Region_of (region_under window b) := with_window_unbound (w.region (region_under window b))) ∷ more) agree (record {}, (record {}, (record {}, kept))))
+
+    queued : (b : Binding) (q : QueueId) (slot : QueueSlot) → w.queue q ≡ slot → Leads w P (end b (queue_updates q slot))
+    queued b q (NoQueue incarnation timers) is = ends b [] (record {})
+    queued b q (Present p) is = ends b ((Queue_of q := Present (record p { windows = p.windows - 1 })) ∷ []) (λ fs was. subst (FaultsInSlot fs) is was, record {})
+
+    binder : (b : Binding) (o : Option QueueId) → Leads w P (With_binder o (end b))
+    binder b None = ends b [] (record {})
+    binder b (Some q) = queued b q (w.queue q) refl
+
+    at : (o : Option Binding) → Leads w P (plan o)
+    at None = (refl, agree)
+    at (Some b) = binder b b.queue
+
+-- ---- Poll
+
+-- a poll frees places, and leaves states
+polled-state : (name : QueueId) (xs : List Completion) (p : QueuePair) → (after_poll name xs p).state ≡ p.state
+polled-state name [] p = refl
+polled-state name (x ∷ xs) p = polled-state name xs (if queue_eq x.queue name then freed x.receive else p) ∙ by (queue_eq x.queue name) x.receive
+  where
+    freed : Bool → QueuePair
+    freed true = record p { receives = option_map (after_retire x.place) p.receives }
+    freed false = record p { sends = after_retire x.place p.sends }
+
+    by : (b r : Bool) → (if b then freed r else p).state ≡ p.state
+    by true true = refl
+    by true false = refl
+    by false r = refl
+
+polled-kept : (name : QueueId) (polled : List Completion) (slot : QueueSlot) (fs : List Fault) → FaultsInSlot fs slot → FaultsInSlot fs (slot_after_poll name polled slot)
+polled-kept name polled (NoQueue incarnation timers) fs was = record {}
+polled-kept name polled (Present p) fs was = λ error. was (ap (λ s. state_eq s states.Error) (sym (polled-state name polled p)) ∙ error)
+
+with-place : (w : World) (P : World → List Mark → Type 0) (s : Slot) (cq : CompletionQueue) (polled : List Completion) (x : Completion) (k : Update → Plan) → ((u : Update) → IsKept w u.name u.thing → Leads w P (k u)) → Leads w P (With_place s cq polled x k)
+with-place w P s cq polled x k more = by (source_of_completion cq x)
+  where
+    shared : ℕ → Slot
+    shared srq = record { domain = s.domain; slot = srq }
+
+    placing : Option ℕ → Plan
+    placing None = Look (Queue_of x.queue) (λ slot. k (Queue_of x.queue := slot_after_poll x.queue polled slot))
+    placing (Some srq) = Look (Srq_of (shared srq)) (λ slot.
+        k (Srq_of (shared srq) := record slot { srq = option_map (receives_after_poll cq srq polled) slot.srq }))
+
+    by : (o : Option ℕ) → Leads w P (placing o)
+    by None = more (Queue_of x.queue := slot_after_poll x.queue polled (w.queue x.queue)) (polled-kept x.queue polled (w.queue x.queue))
+    by (Some srq) = more _ (record {})
+
+with-places : (w : World) (P : World → List Mark → Type 0) (s : Slot) (cq : CompletionQueue) (polled xs : List Completion) (k : List Update → Plan) → ((us : List Update) → AreKept w us → Leads w P (k us)) → Leads w P (With_places s cq polled xs k)
+with-places w P s cq polled [] k more = more [] (record {})
+with-places w P s cq polled (x ∷ xs) k more = with-place w P s cq polled x (λ u. With_places s cq polled xs (λ us. k (u ∷ us)))
+    (λ u kept. with-places w P s cq polled xs (λ us. k (u ∷ us)) (λ us rest. more (u ∷ us) (kept, rest)))
+
+pub cause-poll : (past : Past) (w : World) (by : ℕ) (s : Slot) (n least : ℕ) → FaultsAgree past w
+    → Leads w (CausingBy past by (verbs.Poll s n least)) (poll_plan (call_of by (verbs.Poll s n least)) s n least)
+cause-poll past w by s n least agree = at (w.cq s)
+  where
+    call : Call
+    call = call_of by (verbs.Poll s n least)
+
+    P : World → List Mark → Type 0
+    P = CausingBy past by (verbs.Poll s n least)
+
+    ending : CompletionQueue → List Completion → List Update → Plan
+    ending cq polled us = Answer_plan call (answers.Polled polled) ((Cq_of s := Some (after_polls (length polled) cq)) ∷ us) []
+
+    taken : (cq : CompletionQueue) (polled : List Completion) → Leads w P (Take_plan call s cq polled)
+    taken cq polled = with-places w P s cq polled polled (ending cq polled) (λ us kept. (refl, cause-kept past w ((Cq_of s := Some (after_polls (length polled) cq)) ∷ us) agree (record {}, kept)))
+
+    at : (o : Option CompletionQueue) → Leads w P (Poll_of call s n least o)
+    at None = (refl, agree)
+    at (Some cq) = leads-unless w P (((n == 0) || nat_lt MAX_POLLED n || nat_lt n least, OutOfRange fields.Length) ∷ []) (Refuse_plan call)
+        (If (nat_lt (length cq.waiting) least) (Stuck reasons.Empty) (Take_plan call s cq (take n cq.waiting))) (λ r. (refl, agree))
+        (λ few. record {}, λ enough. taken cq (take n cq.waiting))
+
+-- ---- Inject
+
+pub cause-inject : (c : Configuration) (past : Past) (w : World) (by : ℕ) (q : QueueId) (bytes : List ℕ) → IsMet c past w
+    → Leads w (CausingBy past by (verbs.Inject q bytes)) (inject_plan c (call_of by (verbs.Inject q bytes)) q bytes)
+cause-inject c past w by q bytes met = at (w.queue q) refl
+  where
+    call : Call
+    call = call_of by (verbs.Inject q bytes)
+
+    P : World → List Mark → Type 0
+    P = CausingBy past by (verbs.Inject q bytes)
+
+    arrives : QueueSlot → Plan
+    arrives (NoQueue incarnation timers) = Refuse_plan call NoSuch
+    arrives (Present p) = Arrive c p bytes None [] (answer_mark call answers.Fine ∷ [])
+
+    at : (s : QueueSlot) → w.queue q ≡ s → Leads w P (arrives s)
+    at (NoQueue incarnation timers) is = (refl, met.agree)
+    at (Present p) is = cause-arrive c past r w P p bytes None [] (answer_mark call answers.Fine ∷ []) met (found c w q p met.posted.sound is) refl refl
+        (arrival-met past r p None bytes refl refl refl refl refl refl refl) refl (record {}) (λ v ns passes. passes)
+      where
+        r : Past
+        r = after_mark (marks.Arrived p.queue None) (Behind past by (verbs.Inject q bytes) answers.Fine)

@@ -1,0 +1,9 @@
+//! What histories that follow the machine tell of completions that are no success: each has its cause.
+#![tactic(auto)]
+
+mod laws;
+
+pub use laws::{
+    completions_have_their_causes, event_keeps_faults_agreed, histories_agree_on_faults,
+    opening_agrees_on_faults,
+};
