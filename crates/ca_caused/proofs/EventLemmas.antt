@@ -13,7 +13,7 @@ use Rattle.ca_agree_posts.specs.Posts.{PostsAgree}
 use Rattle.ca_caused.proofs.PostingLemmas.{cause-dealloc_mw, cause-dereg_mr, cause-inject, cause-poll, cause-post_recv, cause-post_send}
 use Rattle.ca_caused.proofs.TurnLemmas.{IsMet, Causing, cause-deliver, cause-request, cause-respond, cause-timeout, cause-wake}
 use Rattle.ca_caused.proofs.VerbLemmas.{CausingBy, cause-create, cause-destroy, cause-modify}
-use Rattle.ca_caused.specs.Faults.{FaultsAgree}
+use Rattle.ca_caused.specs.Explained.{CausesAgree}
 use Rattle.ca_agree.proofs.PathEventLemmas.{event-agrees, opening-agrees}
 use Rattle.ca_agree.specs.Agreement.{PathsAgree}
 use Rattle.ca_caused.specs.Causes.{DoCompleteWithCauses, completes_with_cause}
@@ -106,27 +106,27 @@ event-causes : (c : Configuration) (past : Past) (w : World) (event : Event) →
 event-causes c past w event met = comes w (Causing past event) (plan c event) (cause-event c past w event met)
 
 -- the event's marks leave a past that agrees with the world that it leaves
-pub event-faults-agree : (c : Configuration) (past : Past) (w : World) (event : Event) → IsSoundWorld c w → IsSteadyWorld w → PostsAgree past w → PathsAgree past w → FaultsAgree past w
-    → Comes (λ v ms. FaultsAgree (at_end (after_marks ms (at_begin event past))) v) (step c w event)
-event-faults-agree c past w event sound steady posts paths agree = comes w P (plan c event)
+pub event-causes-agree : (c : Configuration) (past : Past) (w : World) (event : Event) → IsSoundWorld c w → IsSteadyWorld w → PostsAgree past w → PathsAgree past w → CausesAgree past w
+    → Comes (λ v ms. CausesAgree (at_end (after_marks ms (at_begin event past))) v) (step c w event)
+event-causes-agree c past w event sound steady posts paths agree = comes w P (plan c event)
     (leads-weaker w (Causing past event) P (plan c event) (λ v ms passes. passes.1) (cause-event c past w event (record { posted = record { sound = sound; steady = steady; agree = posts }; paths = paths; agree = agree })))
   where
     P : World → List Mark → Type 0
-    P v ms = FaultsAgree (at_end (after_marks ms (at_begin event past))) v
+    P v ms = CausesAgree (at_end (after_marks ms (at_begin event past))) v
 
-pub opening-faults-agree : (bytes : ByteMap) → FaultsAgree (opening_past bytes) (opening_world bytes)
-opening-faults-agree bytes = record { slots = λ q. record {} }
+pub opening-causes-agree : (bytes : ByteMap) → CausesAgree (opening_past bytes) (opening_world bytes)
+opening-causes-agree bytes = record { slots = λ q. record {} }
 
 opening-met : (c : Configuration) (bytes : ByteMap) → IsMet c (opening_past bytes) (opening_world bytes)
 opening-met c bytes = record {
   posted = record { sound = opening-sound c bytes; steady = opening-steady bytes; agree = opening-posts-agree bytes };
   paths = opening-agrees bytes;
-  agree = opening-faults-agree bytes;
+  agree = opening-causes-agree bytes;
 }
 
 -- what holds along a history from a past and a world on
 record HoldAlong (c : Configuration) (past : Past) (w : World) (es : List EntryValue) : Type 0 where
-  agree : HoldsAlong FaultsAgree c past w es
+  agree : HoldsAlong CausesAgree c past w es
   passed : each_entry completes_with_cause (λ p. true) past es ≡ true
 
 along : (c : Configuration) (n : ℕ) (es : List EntryValue) (past : Past) (w : World) → AreLimited c → AllByRecursion (λ e. CanBeMade e.event) es → IsMet c past w
@@ -156,18 +156,18 @@ along c n (e ∷ es) past w limited made met follows =
         at told = joined (rest v (record {
           posted = record { sound = sound; steady = steady; agree = subst (λ xs. PostsAgree (at_end (after_marks xs (at_begin e.event past))) v) told.0 posts };
           paths = subst (λ xs. PathsAgree (after_marks xs (at_begin e.event past)) v) told.0 paths;
-          agree = subst (λ xs. FaultsAgree (at_end (after_marks xs (at_begin e.event past))) v) told.0 causes.1;
+          agree = subst (λ xs. CausesAgree (at_end (after_marks xs (at_begin e.event past))) v) told.0 causes.1;
         }) told.1)
           where
             joined : HoldAlong c (after_entry e past) v es → HoldAlong c past w (e ∷ es)
             joined more = record {
-              agree = (met.agree, subst (Afterwards (λ x. HoldsAlong FaultsAgree c (after_entry e past) x es)) (sym is) more.agree);
+              agree = (met.agree, subst (Afterwards (λ x. HoldsAlong CausesAgree c (after_entry e past) x es)) (sym is) more.agree);
               passed = both-true _ _ (both-true _ true (subst (λ xs. each_mark completes_with_cause (at_begin e.event past) xs ≡ true) told.0 causes.0) refl) more.passed;
             }
 
-pub faults-along : (c : Configuration) (bytes : ByteMap) (es : List EntryValue) → AreLimited c → AllByRecursion (λ e. CanBeMade e.event) es → Follows c bytes es
-    → HoldsAlong FaultsAgree c (opening_past bytes) (opening_world bytes) es
-faults-along c bytes es limited made follows = (along c 0 es (opening_past bytes) (opening_world bytes) limited made (opening-met c bytes) follows).agree
+pub causes-along : (c : Configuration) (bytes : ByteMap) (es : List EntryValue) → AreLimited c → AllByRecursion (λ e. CanBeMade e.event) es → Follows c bytes es
+    → HoldsAlong CausesAgree c (opening_past bytes) (opening_world bytes) es
+causes-along c bytes es limited made follows = (along c 0 es (opening_past bytes) (opening_world bytes) limited made (opening-met c bytes) follows).agree
 
 pub complete-with-causes : (c : Configuration) (bytes : ByteMap) (es : List EntryValue) → AreLimited c → AllByRecursion (λ e. CanBeMade e.event) es → Follows c bytes es → DoCompleteWithCauses bytes es
 complete-with-causes c bytes es limited made follows = (along c 0 es (opening_past bytes) (opening_world bytes) limited made (opening-met c bytes) follows).passed

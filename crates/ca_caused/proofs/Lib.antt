@@ -1,10 +1,11 @@
+pub mod KnownLemmas
+pub mod OldestLemmas
 pub mod StoryLemmas
-pub mod PassLemmas
 pub mod AskLemmas
 pub mod SuchLemmas
-pub mod OldestLemmas
 pub mod ResponseStoryLemmas
 pub mod RequestStoryLemmas
+pub mod PassLemmas
 pub mod EndLemmas
 pub mod TurnLemmas
 pub mod VerbLemmas

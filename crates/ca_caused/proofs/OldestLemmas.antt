@@ -19,6 +19,14 @@ use Rattle.ca_agree_sends.proofs.SendLemmas.{IsReadyQueue, IsRequestAt, progress
 use Rattle.ca_base.specs.declared.request.PostedSend.{PostedSend}
 use Rattle.ca_base.specs.objects.QueuePair.{QueuePair}
 use Rattle.ca_base.specs.objects.WorkQueue.{WorkQueue, item_at, items_from}
+use Rattle.std.proofs.lemmas.List.Sums.{sum_by-cons}
+use Rattle.std.specs.List.{AllByRecursion, prefix_len}
+use Rattle.ca_base.specs.declared.request.SendRequest.{SendRequest}
+use Rattle.ca_caused.proofs.KnownLemmas.{IsOn, Known, first_at}
+use Rattle.ca_laws_sound.proofs.NumberingLemmas.{Numbers, all-taken, are-numbers, take-numbers}
+use Rattle.ca_model.specs.Progress.{Progress, progress_from, raised}
+use Rattle.ca_model.specs.machine.Acknowledgements.{after_finished, finished_requests, with_requester}
+use Rattle.ca_model.specs.machine.Numbering.{begun_requests, psn_end, unfinished_requests}
 use Rattle.ca_laws_sound.proofs.RequesterLemmas.{progress-after, progress-good}
 use Rattle.ca_laws_steady.proofs.SameLemmas.{progress-steady}
 use Rattle.ca_laws_steady.specs.Steady.{EndsBehind, IsSteadyQueue}
@@ -29,11 +37,13 @@ use Rattle.ca_model.specs.machine.Invariants.{IsQueue, is_sending}
 use Rattle.ca_model.specs.machine.Numbering.{Numbered, has_psn, numbers_of, request_at}
 
 -- a queue pair as it comes up, whose requests were posted
-pub record IsUp (ps : List Posted) (x : QueuePair) : Type 0 where
-  pub ready : IsReadyQueue ps x
+pub record IsUp (k : Known) (g : Progress) (x : QueuePair) : Type 0 where
+  pub ready : IsReadyQueue k.posted x
   pub sound : IsQueue x
   pub steady : IsSteadyQueue x
   pub sending : is_sending x.state ≡ true
+  pub known : k.sending ≡ true
+  pub on : IsOn k g x
 
 -- the oldest unfinished request: it was posted
 pub record IsFirst (ps : List Posted) (x : QueuePair) (y : PostedSend) : Type 0 where
@@ -57,8 +67,8 @@ first-posted : (ps : List Posted) (oldest : ℕ) (sends : WorkQueue PostedSend) 
 first-posted ps oldest sends y rest at low is = at oldest y (numbers-at 0 oldest 0 sends (y ∷ rest) low is).0
 
 -- where something is outstanding, the oldest unfinished request is there
-pub has-oldest : (ps : List Posted) (x : QueuePair) → IsUp ps x → x.requester.una < x.requester.cursor → HasOldest ps x
-has-oldest ps x up less = by (items_from x.requester.oldest x.sends) refl (x.requester.next - x.requester.oldest) refl up.steady.ends (up.sound.begun up.sending)
+pub has-oldest : (k : Known) (g : Progress) (x : QueuePair) → IsUp k g x → x.requester.una < x.requester.cursor → HasOldest k.posted x
+has-oldest k g x up less = by (items_from x.requester.oldest x.sends) refl (x.requester.next - x.requester.oldest) refl up.steady.ends (up.sound.begun up.sending)
   where
     ns : List PostedSend → List Numbered
     ns items = numbers_of x.responder.mtu x.requester.oldest x.requester.oldest_psn items
@@ -66,31 +76,87 @@ has-oldest ps x up less = by (items_from x.requester.oldest x.sends) refl (x.req
     low : x.requester.oldest_psn ≤ x.requester.una
     low = up.steady.oldest up.sending
 
-    by : (items : List PostedSend) → items_from x.requester.oldest x.sends ≡ items → (k : ℕ) → x.requester.next - x.requester.oldest ≡ k → EndsBehind x.requester.una (take k (ns items))
-        → x.requester.cursor ≤ x.requester.oldest_psn + sum_by (λ n. n.count) (take k (ns items)) → HasOldest ps x
+    by : (items : List PostedSend) → items_from x.requester.oldest x.sends ≡ items → (j : ℕ) → x.requester.next - x.requester.oldest ≡ j → EndsBehind x.requester.una (take j (ns items))
+        → x.requester.cursor ≤ x.requester.oldest_psn + sum_by (λ n. n.count) (take j (ns items)) → HasOldest k.posted x
     by items is zero some ends end = absurd (omega (arith, low, less, end))
-    by [] is (suc k) some ends end = absurd (omega (arith, low, less, end))
-    by (y ∷ rest) is (suc k) some ends end = record {
+    by [] is (suc j) some ends end = absurd (omega (arith, low, less, end))
+    by (y ∷ rest) is (suc j) some ends end = record {
       item = y;
       is = record {
-        first = record { rest = rest; items = is; posted = first-posted ps x.requester.oldest x.sends y rest up.ready.at up.ready.first is };
+        first = record { rest = rest; items = is; posted = first-posted k.posted x.requester.oldest x.sends y rest up.ready.at up.ready.first is };
         low = low;
         high = ends;
         begun = omega (arith, some);
       };
     }
 
+-- ---- progress
+
+pub sum-take : (f : Posted → ℕ) (xs : List Posted) (i : ℕ) (x : Posted) → slice_get xs i ≡ Some x → sum_by f (take (suc i) xs) ≡ sum_by f (take i xs) + f x
+sum-take f [] i x is = absurd (true≢false (sym (ap is_some is)))
+sum-take f (y ∷ ys) zero x is = omega (arith, sum_by-cons f y [], ap f (same_Some y x is))
+sum-take f (y ∷ ys) (suc i) x is = omega (arith, sum_by-cons f y (take (suc i) ys), sum_by-cons f y (take i ys), sum-take f ys i x is)
+
+-- the requests of these numbers occupy a send queue
+abbrev AreItems : WorkQueue PostedSend → List Numbered → Type 0
+AreItems sends ns = AllByRecursion (λ n. item_at n.place sends ≡ Some (record { request = n.request; drawn = n.drawn })) ns
+
+-- behind numbered requests the first PSN is the one behind theirs
+first-behind : (k : Known) (sends : WorkQueue PostedSend) (place psn : ℕ) (ns : List Numbered) → ((place : ℕ) (x : PostedSend) → item_at place sends ≡ Some x → IsRequestAt k.posted place x.request) → Numbers k.mtu place psn ns → AreItems sends ns
+    → first_at k place ≡ psn → first_at k (place + length ns) ≡ psn + sum_by (λ n. n.count) ns
+first-behind k sends place psn [] has numbers items at = ap (first_at k) {x = place + 0} {y = place} (omega arith) ∙ at ∙ omega arith
+first-behind k sends place psn (n ∷ ns) has numbers items at = ap (first_at k) {x = place + suc (length ns)} {y = suc place + length ns} (omega arith)
+    ∙ first-behind k sends (suc place) (psn + n.count) ns has numbers.1 items.1 next ∙ omega (arith, sum_by-cons (λ (n : Numbered). n.count) n ns)
+  where
+    here : IsRequestAt k.posted place n.request
+    here = has place (record { request = n.request; drawn = n.drawn }) (ap (λ i. item_at i sends) (sym numbers.0.0) ∙ items.0)
+
+    next : first_at k (suc place) ≡ psn + n.count
+    next = omega (arith, at, sum-take (λ p. psns_of k.mtu p.request.op) k.posted place here.posted here.is, ap (λ (r : SendRequest). psns_of k.mtu r.op) here.same, numbers.0.2)
+
+-- what is finished leaves the first PSN of what is not
+finished-on : (k : Known) (g : Progress) (q : QueuePair) → IsReadyQueue k.posted q → IsOn k g q → IsOn k g (after_finished q)
+finished-on k g q ready is = record {
+  una = is.una;
+  retries = is.retries;
+  rnrs = is.rnrs;
+  retry = is.retry;
+  rnr_retry = is.rnr_retry;
+  mtu = is.mtu;
+  first = first-behind k q.sends q.requester.oldest q.requester.oldest_psn (finished_requests q) ready.at (subst (λ m. Numbers m q.requester.oldest q.requester.oldest_psn (finished_requests q)) is.mtu
+      (take-numbers q.responder.mtu (prefix_len (λ n. nat_le (psn_end n) q.requester.una) (begun_requests q)) q.requester.oldest q.requester.oldest_psn (begun_requests q)
+      (take-numbers q.responder.mtu (q.requester.next - q.requester.oldest) q.requester.oldest q.requester.oldest_psn (unfinished_requests q)
+      (are-numbers q.responder.mtu q.requester.oldest q.requester.oldest_psn (items_from q.requester.oldest q.sends)))))
+      (all-taken _ (prefix_len (λ n. nat_le (psn_end n) q.requester.una) (begun_requests q)) (begun_requests q)
+      (all-taken _ (q.requester.next - q.requester.oldest) (unfinished_requests q) (numbers-at q.responder.mtu q.requester.oldest q.requester.oldest_psn q.sends (items_from q.requester.oldest q.sends) ready.first refl)))
+      is.first;
+  patience = is.patience;
+}
+
+pub progress-on : (k : Known) (g : Progress) (psn : ℕ) (q : QueuePair) → IsReadyQueue k.posted q → IsOn k g q → IsOn k (raised psn g) (progress_to psn q).queue
+progress-on k g psn q ready is = by (nat_lt q.requester.una psn) (ap (λ u. nat_lt u psn) (sym is.una))
+  where
+    moved : Bool → QueuePair
+    moved b = if b then with_requester (record q.requester { una = psn; retries = 0; rnrs = 0 }) q else q
+
+    by : (b : Bool) → nat_lt g.una psn ≡ b → IsOn k (raised psn g) (after_finished (moved b))
+    by true e = subst (λ h. IsOn k h (after_finished (moved true))) (ap (λ b. if b then progress_from psn else g) (sym e)) (finished-on k (progress_from psn) (moved true) (record { at = ready.at; first = ready.first; last = ready.last })
+        (record { una = refl; retries = refl; rnrs = refl; retry = is.retry; rnr_retry = is.rnr_retry; mtu = is.mtu; first = is.first; patience = λ few. omega arith }))
+    by false e = subst (λ h. IsOn k h (after_finished q)) (ap (λ b. if b then progress_from psn else g) (sym e)) (finished-on k g q ready is)
+
 -- progress keeps it up
-pub progress-up : (ps : List Posted) (psn : ℕ) (q : QueuePair) → IsUp ps q → psn ≤ q.requester.cursor → IsUp ps (progress_to psn q).queue
-progress-up ps psn q up most = record {
-  ready = ready-after ps q (progress_to psn q) up.ready (progress-completes ps psn q up.ready);
+pub progress-up : (k : Known) (g : Progress) (psn : ℕ) (q : QueuePair) → IsUp k g q → psn ≤ q.requester.cursor → IsUp k (raised psn g) (progress_to psn q).queue
+progress-up k g psn q up most = record {
+  ready = ready-after k.posted q (progress_to psn q) up.ready (progress-completes k.posted psn q up.ready);
   sound = (progress-good psn q up.sound most).sound;
   steady = progress-steady psn q up.ready.first up.steady;
   sending = ap is_sending (progress-after psn q).state ∙ up.sending;
+  known = up.known;
+  on = progress-on k g psn q up.ready up.on;
 }
 
 -- the number of the oldest
-abbrev number-oldest : QueuePair → PostedSend → Numbered
+abbrev pub number-oldest : QueuePair → PostedSend → Numbered
 number-oldest x y = record { place = x.requester.oldest; request = y.request; drawn = y.drawn; first = x.requester.oldest_psn; count = psns_of x.responder.mtu y.request.op }
 
 -- it has the first PSN that is neither acknowledged nor answered
@@ -153,36 +219,36 @@ performed-first ps q n ready does = record {
 }
 
 -- the request of a packet where nothing is outstanding
-pub sent-first : (ps : List Posted) (q : QueuePair) (n : Numbered) → IsUp ps q → q.requester.cursor ≤ q.requester.una → next_request q ≡ Some n → IsTheFirst ps q n
-sent-first ps q n up none next = by (items_from q.requester.oldest q.sends) refl (q.requester.next - q.requester.oldest) refl up.steady.ends
+pub sent-first : (k : Known) (g : Progress) (q : QueuePair) (n : Numbered) → IsUp k g q → q.requester.cursor ≤ q.requester.una → next_request q ≡ Some n → IsTheFirst k.posted q n
+sent-first k g q n up none next = by (items_from q.requester.oldest q.sends) refl (q.requester.next - q.requester.oldest) refl up.steady.ends
   where
     ns : List PostedSend → List Numbered
     ns items = numbers_of q.responder.mtu q.requester.oldest q.requester.oldest_psn items
 
     begun : ℕ → List PostedSend → List Numbered
-    begun k items = take k (ns items)
+    begun j items = take j (ns items)
 
     -- of what has begun nothing is found: it is the next to begin
-    begins : (items : List PostedSend) → items_from q.requester.oldest q.sends ≡ items → (k : ℕ) → q.requester.next - q.requester.oldest ≡ k → find (has_psn q.requester.cursor) (begun k items) ≡ None → slice_get (ns items) k ≡ Some n
-    begins items are k some at = by_request (request_at q.requester.cursor q) refl next
+    begins : (items : List PostedSend) → items_from q.requester.oldest q.sends ≡ items → (j : ℕ) → q.requester.next - q.requester.oldest ≡ j → find (has_psn q.requester.cursor) (begun j items) ≡ None → slice_get (ns items) j ≡ Some n
+    begins items are j some at = by_request (request_at q.requester.cursor q) refl next
       where
-        by_request : (o : Option Numbered) → request_at q.requester.cursor q ≡ o → option_or o (next_to_begin q) ≡ Some n → slice_get (ns items) k ≡ Some n
-        by_request None is next = ap (λ xs. slice_get (ns xs) k) (sym are) ∙ ap (slice_get (ns (items_from q.requester.oldest q.sends))) (sym some) ∙ next
-        by_request (Some m) is next = absurd (true≢false (ap is_some (sym is ∙ ap₂ (λ j xs. find (has_psn q.requester.cursor) (begun j xs)) some are ∙ at)))
+        by_request : (o : Option Numbered) → request_at q.requester.cursor q ≡ o → option_or o (next_to_begin q) ≡ Some n → slice_get (ns items) j ≡ Some n
+        by_request None is next = ap (λ xs. slice_get (ns xs) j) (sym are) ∙ ap (slice_get (ns (items_from q.requester.oldest q.sends))) (sym some) ∙ next
+        by_request (Some m) is next = absurd (true≢false (ap is_some (sym is ∙ ap₂ (λ i xs. find (has_psn q.requester.cursor) (begun i xs)) some are ∙ at)))
 
-    by : (items : List PostedSend) → items_from q.requester.oldest q.sends ≡ items → (k : ℕ) → q.requester.next - q.requester.oldest ≡ k → EndsBehind q.requester.una (begun k items) → IsTheFirst ps q n
+    by : (items : List PostedSend) → items_from q.requester.oldest q.sends ≡ items → (j : ℕ) → q.requester.next - q.requester.oldest ≡ j → EndsBehind q.requester.una (begun j items) → IsTheFirst k.posted q n
     by [] are zero some ends = absurd (true≢false (sym (ap is_some (begins [] are zero some refl))))
-    by [] are (suc k) some ends = absurd (true≢false (sym (ap is_some (begins [] are (suc k) some refl))))
+    by [] are (suc j) some ends = absurd (true≢false (sym (ap is_some (begins [] are (suc j) some refl))))
     by (y ∷ rest) are zero some ends = record {
       item = y;
-      first = record { rest = rest; items = are; posted = first-posted ps q.requester.oldest q.sends y rest up.ready.at up.ready.first are };
+      first = record { rest = rest; items = are; posted = first-posted k.posted q.requester.oldest q.sends y rest up.ready.at up.ready.first are };
       same = ap (λ (m : Numbered). m.request) (sym (same_Some _ n (begins (y ∷ rest) are zero some refl)));
     }
-    by (y ∷ rest) are (suc k) some ends = record { item = y; first = old.first; same = found (request_at q.requester.cursor q) refl next }
+    by (y ∷ rest) are (suc j) some ends = record { item = y; first = old.first; same = found (request_at q.requester.cursor q) refl next }
       where
-        old : IsOldest ps q y
+        old : IsOldest k.posted q y
         old = record {
-          first = record { rest = rest; items = are; posted = first-posted ps q.requester.oldest q.sends y rest up.ready.at up.ready.first are };
+          first = record { rest = rest; items = are; posted = first-posted k.posted q.requester.oldest q.sends y rest up.ready.at up.ready.first are };
           low = up.steady.oldest up.sending;
           high = ends;
           begun = omega (arith, some);
@@ -192,8 +258,8 @@ sent-first ps q n up none next = by (items_from q.requester.oldest q.sends) refl
         here = omega (arith, none, up.sound.requester.outstanding)
 
         found : (o : Option Numbered) → request_at q.requester.cursor q ≡ o → option_or o (next_to_begin q) ≡ Some n → n.request ≡ y.request
-        found (Some m) is next = request-oldest ps q y q.requester.cursor old here n (is ∙ next)
-        found None is next = absurd (true≢false (ap is_some (sym (oldest-found ps q y q.requester.cursor old here) ∙ is)))
+        found (Some m) is next = request-oldest k.posted q y q.requester.cursor old here n (is ∙ next)
+        found None is next = absurd (true≢false (ap is_some (sym (oldest-found k.posted q y q.requester.cursor old here) ∙ is)))
 
 -- ---- turns
 

@@ -1,13 +1,12 @@
 -- Posts, polls and the verbs that end keys: what completes by them has its cause, and queue pairs in Error keep their
 -- faults. For proofs only.
-use Rattle.std.proofs.Common.{◌≡◌, ℕ, ◌-◌, ◌==◌, ◌||◌, nat_lt, Bool, true, false, if◌then◌else◌, List, [], ◌∷◌, ◌++◌, length, take, Option, None, Some, refl, sym, ap, subst, ◌∙◌, true≢false, IfSome}
+use Rattle.std.proofs.Common.{◌≡◌, ℕ, ◌-◌, ◌==◌, ◌||◌, nat_lt, Bool, true, false, if◌then◌else◌, List, [], ◌∷◌, ◌++◌, length, take, Option, None, Some, refl, sym, ap, subst, ◌∙◌, true≢false}
 use Rattle.std.specs.Option.{option_map, option_map_or}
 use Rattle.ca_agree.proofs.LeadsLemmas.{leads-unless}
 use Rattle.ca_agree.proofs.PathChangeLemmas.{Behind}
 use Rattle.ca_agree.proofs.PathVerbLemmas.{agrees-present, call_of}
 use Rattle.ca_agree.specs.Runs.{Leads}
 use Rattle.ca_agree_keys.proofs.KeyTurnLemmas.{found}
-use Rattle.ca_agree_posts.specs.Posts.{life}
 use Rattle.ca_base.specs.Configuration.{Configuration}
 use Rattle.ca_base.specs.declared.change.Field.TheVariants as fields
 use Rattle.ca_base.specs.declared.change.State.TheVariants as states
@@ -52,36 +51,84 @@ use Rattle.ca_model.specs.machine.VerbAnswers.{Answer_plan, Call, Refuse_plan, U
 use Rattle.ca_model.specs.machine.WindowVerbs.{With_binder, dealloc_mw_plan, queue_updates}
 use Rattle.ca_model.specs.machine.World.{Cq_of, Domain_of, Queue_of, Region_of, Srq_of, Window_of, World}
 use Rattle.ca_agree_sends.proofs.TurnLemmas.{AreAway}
-use Rattle.ca_caused.proofs.EndLemmas.{Passes, left-agrees}
-use Rattle.ca_caused.proofs.PassLemmas.{Left, faults_of_queue, left-passed, passed-none}
-use Rattle.ca_caused.proofs.TurnLemmas.{IsMet, arrival-met, cause-arrive, faulty-there}
-use Rattle.ca_caused.proofs.VerbLemmas.{AreKept, CausingBy, IsKept, cause-kept, flushed-left}
-use Rattle.ca_caused.specs.Faults.{FaultsAgree, FaultsInSlot, is_faulty}
-use Rattle.ca_model.specs.Past.{Fault, after_mark}
+use Rattle.ca_caused.proofs.EndLemmas.{Passes, flush-agrees, slots-agree}
+use Rattle.ca_caused.proofs.TurnLemmas.{IsMet, arrival-met, cause-arrive, was-there}
+use Rattle.ca_caused.proofs.VerbLemmas.{AreKept, CausingBy, IsKept, cause-kept, still-followed}
+use Rattle.ca_caused.specs.Explained.{CausesAgree, ExplainedInSlot, IsExplained, IsFollowed, Lore, lore_of}
+use Rattle.ca_model.specs.Past.{after_mark}
 use Rattle.ca_model.specs.machine.Completions.{flush_marks}
 use Rattle.ca_keys.specs.Equal.{queue_eq}
-use Rattle.ca_agree_posts.specs.Posts.{life}
+use Rattle.std.proofs.Common.{ap₂, zero, suc, ◌+◌, ◌≤◌, ◌∙◌, length, take, sum_by, arith, sym, true≢false}
+use Rattle.ca_agree_posts.proofs.PostTurnLemmas.{life-refl, other-life}
+use Rattle.ca_agree_posts.specs.Posts.{AgreeInSlot}
+use Rattle.ca_base.specs.declared.change.State.{State}
+use Rattle.ca_base.specs.declared.limits.TheConstants.{MAX_RETRY}
+use Rattle.ca_base.specs.declared.queue_numbers.RequesterNumbers.{RequesterNumbers}
+use Rattle.ca_base.specs.objects.WorkQueue.{next_place}
+use Rattle.ca_model.specs.Past.{Posted, at_end, correspondent_eq, drawn_at, present_incarnation, whole_start, with_at}
+use Rattle.ca_model.specs.Requests.{psns_of}
+use Rattle.ca_model.specs.machine.Invariants.{is_connected, is_fresh, is_sending}
 
--- a queue pair in Error flushes what is posted at once
-flushes-posted : (past r : Past) (w : World) (q p : QueuePair) (us : List Update) → r.at_hand.arrival ≡ None → r.incarnation ≡ past.incarnation → r.faults ≡ past.faults → FaultsAgree past w → IsThere w q → p.queue ≡ q.queue → p.state ≡ q.state → AreAway us
+in-error : (t : State) → state_eq t states.Error ≡ true → t ≡ states.Error
+in-error states.Reset e = absurd (true≢false (sym e))
+in-error states.Init e = absurd (true≢false (sym e))
+in-error states.Rtr e = absurd (true≢false (sym e))
+in-error states.Rts e = absurd (true≢false (sym e))
+in-error states.Sqd e = absurd (true≢false (sym e))
+in-error states.Error e = refl
+
+-- a queue pair in Error flushes what is posted at once; else it is explained as it was
+flushes-posted : (r : Past) (w : World) (q p : QueuePair) (us : List Update) → ((n : QueueId) → queue_eq q.queue n ≡ false → ExplainedInSlot (lore_of r n) (w.queue n)) → r.at_hand.fired ≡ None → r.at_hand.arrival ≡ None → IsExplained (lore_of r q.queue) p
+    → (CausesAgree (at_end r) (put_all ((Queue_of q.queue := Present p) ∷ us) w)) → p.queue ≡ q.queue → AreAway us
     → Passes r (put_all ((Queue_of q.queue := Present (after_flush p)) ∷ us) w) (marks_of_flush p)
-flushes-posted past r w q p us alone lives faults agree there own same away = left-agrees r w q.queue (after_flush p) [] us [] (marks_of_flush p)
-    (λ n other. subst (λ i. FaultsInSlot (r.faults (life n (i n))) (w.queue n)) (sym lives) (subst (λ f. FaultsInSlot (f (life n (past.incarnation n))) (w.queue n)) (sym faults) (agree.slots n)))
-    (subst (λ o. IfSome o (λ a. a.target ≡ q.queue)) (sym alone) (record {})) (by (state_eq p.state states.Error) refl) (record {}) away
+flushes-posted r w q p us others fired arrival is well own away = by (state_eq p.state states.Error) refl
   where
-    faulty : state_eq p.state states.Error ≡ true → is_faulty (faults_of_queue r q.queue) ≡ true
-    faulty error = ap (λ i. is_faulty (r.faults (life q.queue (i q.queue)))) lives ∙ ap (λ f. is_faulty (f (life q.queue (past.incarnation q.queue)))) faults
-        ∙ faulty-there past w q agree there (ap (λ s. state_eq s states.Error) (sym same) ∙ error)
+    by : (b : Bool) → state_eq p.state states.Error ≡ b → Passes r (put_all ((Queue_of q.queue := Present (if b then with_all_flushed p else p)) ∷ us) w) (if b then flush_marks p else [])
+    by true error = flush-agrees r w q (with_all_flushed p) us others fired arrival (is.error error) p own (in-error p.state error) away
+    by false none = (refl, well)
 
-    by : (b : Bool) → state_eq p.state states.Error ≡ b → Left q.queue (if b then with_all_flushed p else p) r (if b then flush_marks p else [])
-    by true error = flushed-left q.queue p (with_all_flushed p) r own (faulty error)
-    by false well = left-passed q.queue p r [] (passed-none q.queue r) (λ error. absurd (true≢false (sym error ∙ well)))
+take-within : {A : Type 0} (xs ys : List A) (i : ℕ) → i ≤ length xs → take i (xs ++ ys) ≡ take i xs
+take-within xs ys zero less = refl
+take-within [] ys (suc i) less = absurd (omega (arith, less))
+take-within (x ∷ xs) ys (suc i) less = ap (λ zs. x ∷ zs) (take-within xs ys i (omega (arith, less)))
 
-posted-causes : (c : Configuration) (past : Past) (w : World) (by : ℕ) (s : Slot) (request : SendRequest) (q : QueuePair) (drawn : Option ℕ) (window : Slot) (more : List Update) → IsMet c past w → IsThere w q → AreAway more
+-- one more is posted behind all that are there
+more-posted : (l : Lore) (x : Posted) (q p : QueuePair) → q.requester.oldest ≤ length l.posted → p.requester ≡ q.requester → p.responder.mtu ≡ q.responder.mtu → p.state ≡ q.state → IsExplained l q → IsExplained (record l { posted = l.posted ++ (x ∷ []) }) p
+more-posted l x q p few requester mtu state is = record {
+  error = λ e. is.error (ap (λ s. state_eq s states.Error) (sym state) ∙ e);
+  fresh = λ e. subst (λ (r : RequesterNumbers). (r.oldest ≡ 0) × (r.rnrs ≡ 0)) (sym requester) (is.fresh (ap is_fresh (sym state) ∙ e));
+  mtu = λ e. is.mtu (ap is_connected (sym state) ∙ e) ∙ sym mtu;
+  sends = λ e. by (is.sends (ap is_sending (sym state) ∙ e));
+}
+  where
+    by : IsFollowed l q → IsFollowed (record l { posted = l.posted ++ (x ∷ []) }) p
+    by so = record {
+      begin = so.begin;
+      is = so.is;
+      retry = so.retry ∙ ap (λ r. r.retry) (sym requester);
+      rnr_retry = so.rnr_retry ∙ ap (λ r. r.rnr_retry) (sym requester);
+      first = ap₂ (λ m i. whole_start so.begin + sum_by (λ p. psns_of m p.request.op) (take i (l.posted ++ (x ∷ [])))) mtu (ap (λ r. r.oldest) requester)
+          ∙ ap (λ ps. whole_start so.begin + sum_by (λ p. psns_of q.responder.mtu p.request.op) ps) (take-within l.posted (x ∷ []) q.requester.oldest few) ∙ so.first ∙ ap (λ r. r.oldest_psn) (sym requester);
+      una = ap (λ r. r.una) requester ∙ so.una;
+      retries = ap (λ r. r.retries) requester ∙ so.retries;
+      rnrs = ap (λ r. r.rnrs) requester ∙ so.rnrs;
+      patience = subst (λ r. nat_lt r.rnr_retry MAX_RETRY ≡ true → r.rnrs ≤ r.rnr_retry) (sym requester) so.patience;
+    }
+
+-- a queue pair of which nothing is changed that is explained
+pub like-explained : (l : Lore) (q p : QueuePair) → p.requester ≡ q.requester → p.responder.mtu ≡ q.responder.mtu → p.state ≡ q.state → IsExplained l q → IsExplained l p
+like-explained l q p requester mtu state is = record {
+  error = λ e. is.error (ap (λ s. state_eq s states.Error) (sym state) ∙ e);
+  fresh = λ e. subst (λ (r : RequesterNumbers). (r.oldest ≡ 0) × (r.rnrs ≡ 0)) (sym requester) (is.fresh (ap is_fresh (sym state) ∙ e));
+  mtu = λ e. is.mtu (ap is_connected (sym state) ∙ e) ∙ sym mtu;
+  sends = λ e. still-followed l q p requester mtu (is.sends (ap is_sending (sym state) ∙ e));
+}
+
+posted-causes : (c : Configuration) (past : Past) (w : World) (by : ℕ) (s : Slot) (request : SendRequest) (q : QueuePair) (drawn : Option ℕ) (window : Slot) (more : List Update) → IsMet c past w → IsThere w q → q.queue ≡ queue_of s → AreAway more
     → Leads w (CausingBy past by (verbs.PostSend s request)) (Posted_send (call_of by (verbs.PostSend s request)) q request drawn window more)
-posted-causes c past w by s request q drawn window more met there away = leads-unless w (CausingBy past by (verbs.PostSend s request)) (post_send_refusals request q) (Refuse_plan call)
+posted-causes c past w by s request q drawn window more met there own away = leads-unless w (CausingBy past by (verbs.PostSend s request)) (post_send_refusals request q) (Refuse_plan call)
     (Answer_plan call answer ((Queue_of q.queue := Present (after_flush posted)) ∷ us) (marks_of_flush posted)) (λ r. (refl, met.agree))
-    (flushes-posted past (Behind past by (verbs.PostSend s request) answer) w q posted us refl refl refl met.agree there refl refl (record {}, away))
+    (flushes-posted r w q posted us others refl refl explained (slots-agree (at_end r) w q.queue (Present posted) [] us [] others explained (record {}) (record {}, away)) refl (record {}, away))
   where
     call : Call
     call = call_of by (verbs.PostSend s request)
@@ -94,6 +141,32 @@ posted-causes c past w by s request q drawn window more met there away = leads-u
 
     us : List Update
     us = (Cq_of (send_cq_of q) := option_map (after_puts (completions_to q q.send_cq (marks_of_flush posted))) (w.cq (send_cq_of q))) ∷ more
+
+    r : Past
+    r = Behind past by (verbs.PostSend s request) answer
+
+    -- what is posted to a queue pair
+    asked : QueueId → Posted
+    asked n = record {
+      place = length (past.posted (present_incarnation past n));
+      request = request;
+      drawn = drawn_at past (queue_of s) request.op (option_map (key_at (window_index window)) drawn);
+    }
+
+    grown : QueueId → List Posted
+    grown n = past.posted (present_incarnation past n) ++ (asked n ∷ [])
+
+    others : (n : QueueId) → queue_eq q.queue n ≡ false → ExplainedInSlot (lore_of r n) (w.queue n)
+    others n other = subst (λ ps. ExplainedInSlot (record (lore_of past n) { posted = ps }) (w.queue n)) (sym (ap (λ b. if b then grown (queue_of s) else past.posted (present_incarnation past n))
+        (ap (λ m. correspondent_eq (present_incarnation past m) (present_incarnation past n)) (sym own) ∙ other-life q.queue n (past.incarnation q.queue) (past.incarnation n) other))) (met.agree.slots n)
+
+    count : next_place q.sends ≡ length (past.posted (present_incarnation past q.queue))
+    count = (subst (AgreeInSlot (past.posted (present_incarnation past q.queue)) (past.performed (present_incarnation past q.queue))) there.present (met.posted.agree.sends q.queue)).count
+
+    explained : IsExplained (lore_of r q.queue) posted
+    explained = subst (λ ps. IsExplained (record (lore_of past q.queue) { posted = ps }) posted) (sym (ap (λ n. with_at correspondent_eq past.posted (present_incarnation past n) (grown n) (present_incarnation past q.queue)) (sym own)
+        ∙ ap (λ b. if b then grown q.queue else past.posted (present_incarnation past q.queue)) (life-refl (present_incarnation past q.queue))))
+        (more-posted (lore_of past q.queue) (asked q.queue) q posted (omega (arith, count, there.sound.requester.begun, there.sound.requester.waiting)) refl refl refl (was-there past w q met.agree there))
 
 pub cause-post_send : (c : Configuration) (past : Past) (w : World) (by : ℕ) (s : Slot) (request : SendRequest) → IsMet c past w
     → Leads w (CausingBy past by (verbs.PostSend s request)) (post_send_plan (call_of by (verbs.PostSend s request)) s request)
@@ -113,12 +186,12 @@ cause-post_send c past w by s request met = agrees-present c w P call s (λ q. p
     posting q op = Posted_send call q request None s []
 
     plain : (q : QueuePair) → IsThere w q → q.queue ≡ queue_of s → Leads w P (Posted_send call q request None s [])
-    plain q there own = posted-causes c past w by s request q None s [] met there (record {})
+    plain q there own = posted-causes c past w by s request q None s [] met there own (record {})
 
     on : (q : QueuePair) → IsThere w q → q.queue ≡ queue_of s → (op : SendOp) → Leads w P (posting q op)
     on q there own (ops.Bind1 window region address count rights) = leads-unless w P ((x.kind == 0, NoSuch) ∷ []) (Refuse_plan call)
         (Posted_send call q request (byte_drawn x) (beside s window) ((Window_of (beside s window) := after_draw x) ∷ [])) (λ r. (refl, met.agree))
-        (posted-causes c past w by s request q (byte_drawn x) (beside s window) ((Window_of (beside s window) := after_draw x) ∷ []) met there (record {}, record {}))
+        (posted-causes c past w by s request q (byte_drawn x) (beside s window) ((Window_of (beside s window) := after_draw x) ∷ []) met there own (record {}, record {}))
       where
         x : Window
         x = w.window (beside s window)
@@ -149,6 +222,9 @@ cause-post_recv c past w by s request met = agrees-present c w P call s _ met.po
     after : QueuePair → QueuePair
     after q = record q { receives = option_map (with_item request) q.receives }
 
+    explained : (q : QueuePair) → IsThere w q → IsExplained (lore_of past q.queue) (after q)
+    explained q there = like-explained (lore_of past q.queue) q (after q) refl refl refl (was-there past w q met.agree there)
+
     us : QueuePair → List Update
     us q = (Cq_of (recv_cq_of q) := option_map (after_puts (completions_to q q.recv_cq (marks_of_flush (after q)))) (w.cq (recv_cq_of q))) ∷ []
 
@@ -156,11 +232,12 @@ cause-post_recv c past w by s request met = agrees-present c w P call s _ met.po
         → Leads w P (Unless_plan call (post_recv_refusals request q) (Answer_plan call (answers.Posted None) ((Queue_of q.queue := Present (after_flush (after q))) ∷ us q) (marks_of_flush (after q))))
     on q there = leads-unless w P (post_recv_refusals request q) (Refuse_plan call)
         (Answer_plan call (answers.Posted None) ((Queue_of q.queue := Present (after_flush (after q))) ∷ us q) (marks_of_flush (after q))) (λ r. (refl, met.agree))
-        (flushes-posted past (Behind past by (verbs.PostRecv s request) (answers.Posted None)) w q (after q) (us q) refl refl refl met.agree there refl refl (record {}, record {}))
+        (flushes-posted (Behind past by (verbs.PostRecv s request) (answers.Posted None)) w q (after q) (us q) (λ n other. met.agree.slots n) refl refl (explained q there)
+        (slots-agree (at_end (Behind past by (verbs.PostRecv s request) (answers.Posted None))) w q.queue (Present (after q)) [] (us q) [] (λ n other. met.agree.slots n) (explained q there) (record {}) (record {}, record {})) refl (record {}, record {}))
 
 -- ---- the verbs that end keys
 
-pub cause-dereg_mr : (past : Past) (w : World) (by : ℕ) (s : Slot) → FaultsAgree past w → Leads w (CausingBy past by (verbs.DeregMr s)) (dereg_mr_plan (call_of by (verbs.DeregMr s)) s)
+pub cause-dereg_mr : (past : Past) (w : World) (by : ℕ) (s : Slot) → CausesAgree past w → Leads w (CausingBy past by (verbs.DeregMr s)) (dereg_mr_plan (call_of by (verbs.DeregMr s)) s)
 cause-dereg_mr past w by s agree = leads-unless w (CausingBy past by (verbs.DeregMr s)) (of_region_refusals (deregistration_refusals region)) (Refuse_plan call)
     (Answer_plan call answers.Fine changed (told (grant_of_region region))) (λ r. (refl, agree)) (passes (grant_of_region region))
   where
@@ -180,7 +257,7 @@ cause-dereg_mr past w by s agree = leads-unless w (CausingBy past by (verbs.Dere
     passes None = (refl, agree)
     passes (Some g) = (refl, agree)
 
-pub cause-dealloc_mw : (past : Past) (w : World) (by : ℕ) (s : Slot) → FaultsAgree past w → Leads w (CausingBy past by (verbs.DeallocMw s)) (dealloc_mw_plan (call_of by (verbs.DeallocMw s)) s)
+pub cause-dealloc_mw : (past : Past) (w : World) (by : ℕ) (s : Slot) → CausesAgree past w → Leads w (CausingBy past by (verbs.DeallocMw s)) (dealloc_mw_plan (call_of by (verbs.DeallocMw s)) s)
 cause-dealloc_mw past w by s agree = leads-unless w P ((window.kind == 0, NoSuch) ∷ []) (Refuse_plan call) (plan window.binding) (λ r. (refl, agree)) (at window.binding)
   where
     P : World → List Mark → Type 0
@@ -210,7 +287,7 @@ cause-dealloc_mw past w by s agree = leads-unless w P ((window.kind == 0, NoSuch
 
     queued : (b : Binding) (q : QueueId) (slot : QueueSlot) → w.queue q ≡ slot → Leads w P (end b (queue_updates q slot))
     queued b q (NoQueue incarnation timers) is = ends b [] (record {})
-    queued b q (Present p) is = ends b ((Queue_of q := Present (record p { windows = p.windows - 1 })) ∷ []) (λ fs was. subst (FaultsInSlot fs) is was, record {})
+    queued b q (Present p) is = ends b ((Queue_of q := Present (record p { windows = p.windows - 1 })) ∷ []) (λ fs was. like-explained fs p (record p { windows = p.windows - 1 }) refl refl refl (subst (ExplainedInSlot fs) is was), record {})
 
     binder : (b : Binding) (o : Option QueueId) → Leads w P (With_binder o (end b))
     binder b None = ends b [] (record {})
@@ -222,23 +299,31 @@ cause-dealloc_mw past w by s agree = leads-unless w P ((window.kind == 0, NoSuch
 
 -- ---- Poll
 
--- a poll frees places, and leaves states
-polled-state : (name : QueueId) (xs : List Completion) (p : QueuePair) → (after_poll name xs p).state ≡ p.state
-polled-state name [] p = refl
-polled-state name (x ∷ xs) p = polled-state name xs (if queue_eq x.queue name then freed x.receive else p) ∙ by (queue_eq x.queue name) x.receive
+-- a poll frees places, and leaves what is explained
+record IsPolled (q p : QueuePair) : Type 0 where
+  requester : p.requester ≡ q.requester
+  mtu : p.responder.mtu ≡ q.responder.mtu
+  state : p.state ≡ q.state
+
+polled-like : (name : QueueId) (xs : List Completion) (q p : QueuePair) → IsPolled q p → IsPolled q (after_poll name xs p)
+polled-like name [] q p is = is
+polled-like name (x ∷ xs) q p is = polled-like name xs q (if queue_eq x.queue name then freed x.receive else p) (by (queue_eq x.queue name) x.receive)
   where
     freed : Bool → QueuePair
     freed true = record p { receives = option_map (after_retire x.place) p.receives }
     freed false = record p { sends = after_retire x.place p.sends }
 
-    by : (b r : Bool) → (if b then freed r else p).state ≡ p.state
-    by true true = refl
-    by true false = refl
-    by false r = refl
+    by : (b r : Bool) → IsPolled q (if b then freed r else p)
+    by true true = record { requester = is.requester; mtu = is.mtu; state = is.state }
+    by true false = record { requester = is.requester; mtu = is.mtu; state = is.state }
+    by false r = is
 
-polled-kept : (name : QueueId) (polled : List Completion) (slot : QueueSlot) (fs : List Fault) → FaultsInSlot fs slot → FaultsInSlot fs (slot_after_poll name polled slot)
+polled-kept : (name : QueueId) (polled : List Completion) (slot : QueueSlot) (fs : Lore) → ExplainedInSlot fs slot → ExplainedInSlot fs (slot_after_poll name polled slot)
 polled-kept name polled (NoQueue incarnation timers) fs was = record {}
-polled-kept name polled (Present p) fs was = λ error. was (ap (λ s. state_eq s states.Error) (sym (polled-state name polled p)) ∙ error)
+polled-kept name polled (Present p) fs was = by (polled-like name polled p p (record { requester = refl; mtu = refl; state = refl }))
+  where
+    by : IsPolled p (after_poll name polled p) → IsExplained fs (after_poll name polled p)
+    by is = like-explained fs p (after_poll name polled p) is.requester is.mtu is.state was
 
 with-place : (w : World) (P : World → List Mark → Type 0) (s : Slot) (cq : CompletionQueue) (polled : List Completion) (x : Completion) (k : Update → Plan) → ((u : Update) → IsKept w u.name u.thing → Leads w P (k u)) → Leads w P (With_place s cq polled x k)
 with-place w P s cq polled x k more = by (source_of_completion cq x)
@@ -260,7 +345,7 @@ with-places w P s cq polled [] k more = more [] (record {})
 with-places w P s cq polled (x ∷ xs) k more = with-place w P s cq polled x (λ u. With_places s cq polled xs (λ us. k (u ∷ us)))
     (λ u kept. with-places w P s cq polled xs (λ us. k (u ∷ us)) (λ us rest. more (u ∷ us) (kept, rest)))
 
-pub cause-poll : (past : Past) (w : World) (by : ℕ) (s : Slot) (n least : ℕ) → FaultsAgree past w
+pub cause-poll : (past : Past) (w : World) (by : ℕ) (s : Slot) (n least : ℕ) → CausesAgree past w
     → Leads w (CausingBy past by (verbs.Poll s n least)) (poll_plan (call_of by (verbs.Poll s n least)) s n least)
 cause-poll past w by s n least agree = at (w.cq s)
   where
@@ -300,8 +385,8 @@ cause-inject c past w by q bytes met = at (w.queue q) refl
 
     at : (s : QueueSlot) → w.queue q ≡ s → Leads w P (arrives s)
     at (NoQueue incarnation timers) is = (refl, met.agree)
-    at (Present p) is = cause-arrive c past r w P p bytes None [] (answer_mark call answers.Fine ∷ []) met (found c w q p met.posted.sound is) refl refl
-        (arrival-met past r p None bytes refl refl refl refl refl refl refl) refl (record {}) (λ v ns passes. passes)
+    at (Present p) is = cause-arrive c past r w P p bytes None [] (answer_mark call answers.Fine ∷ []) met (found c w q p met.posted.sound is) met.agree refl
+        (arrival-met r p None bytes refl refl refl refl refl refl refl) (record {}) refl (record {}) (λ v ns passes. passes)
       where
         r : Past
         r = after_mark (marks.Arrived p.queue None) (Behind past by (verbs.Inject q bytes) answers.Fine)

@@ -1,10 +1,9 @@
 -- The story of an event, told of one queue pair alone: its marks go on calmly, a packet is dropped, a send or a receive
 -- fails and all is flushed, or all is flushed. For proofs only.
-use Rattle.std.proofs.Common.{◌≡◌, ℕ, suc, true, false, List, [], ◌∷◌, ◌++◌, Option, None, Some, is_some, refl}
+use Rattle.std.proofs.Common.{◌≡◌, ℕ, suc, true, false, ◌+◌, ◌-◌, ◌<◌, ◌≤◌, nat_lt, List, [], ◌∷◌, ◌++◌, Option, None, Some, is_some, refl}
 use Rattle.std.specs.List.{list_any}
 use Rattle.std.specs.Option.{option_map_or}
 use Rattle.ca_agree_sends.proofs.SendLemmas.{IsRequestAt}
-use Rattle.ca_base.specs.declared.change.State.{State}
 use Rattle.ca_base.specs.declared.completion.Completion.{Completion}
 use Rattle.ca_base.specs.declared.completion.WcStatus.{WcStatus}
 use Rattle.ca_base.specs.declared.completion.WcStatus.TheVariants as statuses
@@ -24,20 +23,20 @@ use Rattle.ca_keys.specs.declared.names.QueueId.{QueueId}
 use Rattle.ca_keys.specs.declared.verdict.Verdict.TheVariants as verdicts
 use Rattle.ca_model.specs.Caused.{is_by_piece}
 use Rattle.ca_model.specs.Packets.{asks_invalidate, is_response}
-use Rattle.ca_model.specs.Past.{Posted}
 use Rattle.ca_model.specs.Requests.{is_local, list_of}
+use Rattle.ca_base.specs.declared.change.State.TheVariants as states
+use Rattle.ca_base.specs.declared.limits.TheConstants.{MAX_RETRY}
+use Rattle.ca_caused.proofs.KnownLemmas.{Arrives, IsOn, IsResponse, Known, Occasion, first_at, fits_at, is_fired, progress_after}
+use Rattle.ca_model.specs.Progress.{Answers, Progress, Refuses, Response}
+use Rattle.ca_model.specs.Requests.{psns_of}
+use Rattle.ca_model.specs.machine.Invariants.{is_fresh, is_sending}
+use Rattle.ca_wire.specs.declared.syndrome.NakCode.TheVariants.{InvalidRequest, RemoteAccessError, RemoteOperationalError}
 use Rattle.ca_model.specs.declared.mark.Drop1.{Drop1}
 use Rattle.ca_model.specs.declared.mark.Mark.{Mark}
 use Rattle.ca_model.specs.declared.mark.Mark.TheVariants as marks
 use Rattle.ca_model.specs.machine.Completions.{failure_mark, flush_marks, flushed_message, flushed_receives, flushed_sends}
 use Rattle.ca_model.specs.machine.Requester.{local_denial}
 use Rattle.ca_packet.specs.Packet.{Fields}
-
--- what happens to a queue pair: a packet arrives, its timer fires, or it has a turn
-pub data Occasion : Type 0 where
-  Arrives : Fields → Occasion
-  Fires : Occasion
-  Turns : Occasion
 
 -- ---- marks
 
@@ -107,16 +106,38 @@ abbrev pub IsDeniedBy : QueueId → PostedSend → Option DeniedAsk → Type 0
 IsDeniedBy name item None = ⊥
 IsDeniedBy name item (Some d) = (d.ask.queue ≡ name) × (list_any (is_by_piece d.ask) (list_of item.request.op) ≡ true)
 
+-- a response arrived that says this, at a PSN of the request at a place
+pub record IsTold (k : Known) (o : Occasion) (place : ℕ) (item : PostedSend) (response : Response) : Type 0 where
+  pub packet : Fields
+  pub psn : ℕ
+  pub sending : k.sending ≡ true
+  pub arrives : o ≡ Arrives packet
+  pub is : IsResponse k packet response psn
+  pub low : first_at k place ≤ psn
+  pub high : psn < first_at k place + psns_of k.mtu item.request.op
+
+-- an answer arrived that does not fit it
+pub record IsMisfit (k : Known) (o : Occasion) (place : ℕ) (item : PostedSend) : Type 0 where
+  pub told : IsTold k o place item Answers
+  pub misfit : fits_at k.mtu item.request.op told.packet (told.psn - first_at k place) ≡ false
+
 -- why a send fails with a status
-abbrev pub WhySend : QueueId → PostedSend → Option DeniedAsk → Option OpRefusal → WcStatus → Type 0
-WhySend name item denial cause statuses.Success = ⊥
-WhySend name item denial cause statuses.Flushed = ⊥
-WhySend name item denial cause statuses.LocalProtection = IsDeniedBy name item denial
-WhySend name item denial cause statuses.MemoryManagement = (is_some cause ≡ true) × (is_local item.request.op ≡ true)
-WhySend name item denial cause status = Unit {0}
+abbrev pub WhySend : Known → Occasion → QueueId → ℕ → PostedSend → Option DeniedAsk → Option OpRefusal → WcStatus → Type 0
+WhySend k o name place item denial cause statuses.Success = ⊥
+WhySend k o name place item denial cause statuses.Flushed = ⊥
+WhySend k o name place item denial cause statuses.LocalLength = ⊥
+WhySend k o name place item denial cause statuses.LocalProtection = IsDeniedBy name item denial
+WhySend k o name place item denial cause statuses.MemoryManagement = (is_some cause ≡ true) × (is_local item.request.op ≡ true)
+WhySend k o name place item denial cause statuses.RemoteInvalidRequest = IsTold k o place item (Refuses InvalidRequest)
+WhySend k o name place item denial cause statuses.RemoteAccess = IsTold k o place item (Refuses RemoteAccessError)
+WhySend k o name place item denial cause statuses.RemoteOperation = IsTold k o place item (Refuses RemoteOperationalError)
+WhySend k o name place item denial cause statuses.RetryExceeded = (k.sending ≡ true) × ((progress_after k o).retries ≡ suc k.retry)
+WhySend k o name place item denial cause statuses.RnrRetryExceeded =
+    (k.sending ≡ true) × (nat_lt k.rnr_retry MAX_RETRY ≡ true) × ((progress_after k o).rnrs ≡ suc k.rnr_retry)
+WhySend k o name place item denial cause statuses.BadResponse = IsMisfit k o place item
 
 -- a send fails, behind calm marks and the denial of its list: the oldest that is unfinished, and the rest is flushed
-pub record Failing (ps : List Posted) (o : Occasion) (name : QueueId) (ms : List Mark) : Type 0 where
+pub record Failing (k : Known) (o : Occasion) (name : QueueId) (ms : List Mark) : Type 0 where
   pub before : List Mark
   pub denial : Option DeniedAsk
   pub place : ℕ
@@ -125,9 +146,9 @@ pub record Failing (ps : List Posted) (o : Occasion) (name : QueueId) (ms : List
   pub cause : Option OpRefusal
   pub behind : List Mark
   pub calm : AreCalm name before
-  pub posted : IsRequestAt ps place item.request
+  pub posted : IsRequestAt k.posted place item.request
   pub flushes : AreFlushes name behind
-  pub why : WhySend name item denial cause status
+  pub why : WhySend k o name place item denial cause status
   pub told : ms ≡ before ++ (denials denial ++ (failure_mark name place item.request status cause ∷ behind))
 
 -- why a receive fails with a status, by the packet that arrived
@@ -135,7 +156,9 @@ abbrev pub WhyReceive : Fields → Option OpRefusal → WcStatus → Type 0
 WhyReceive p cause statuses.Success = ⊥
 WhyReceive p cause statuses.Flushed = ⊥
 WhyReceive p cause statuses.MemoryManagement = (is_some cause ≡ true) × (asks_invalidate p.opcode ≡ true)
-WhyReceive p cause status = Unit {0}
+WhyReceive p cause statuses.LocalLength = Unit {0}
+WhyReceive p cause statuses.LocalProtection = Unit {0}
+WhyReceive p cause status = ⊥
 
 -- a receive fails, in the same way
 pub record Refusing (o : Occasion) (name : QueueId) (ms : List Mark) : Type 0 where
@@ -173,15 +196,23 @@ pub record Invalid (o : Occasion) (name : QueueId) (ms : List Mark) : Type 0 whe
   pub request : is_response packet.opcode ≡ false
   pub flushes : AreFlushes name ms
 
--- a queue pair in a state goes on, or a send of it fails; this one stands in its place then
-pub data Onward (ps : List Posted) (o : Occasion) (name : QueueId) (state : State) (p : QueuePair) (ms : List Mark) : Type 0 where
-  goes : AreCalm name ms → p.state ≡ state → Onward ps o name state p ms
-  fails : Failing ps o name ms → Onward ps o name state p ms
+-- a queue pair in a state goes on: with the progress that the event leaves, where it sends, and with the oldest place and
+-- the RNR NAKs that it had, where nothing was sent yet
+pub record GoesOn (k : Known) (g : Progress) (q : QueuePair) (p : QueuePair) : Type 0 where
+  pub state : p.state ≡ q.state
+  pub mtu : p.responder.mtu ≡ q.responder.mtu
+  pub fresh : is_fresh q.state ≡ true → (p.requester.oldest ≡ q.requester.oldest) × (p.requester.rnrs ≡ q.requester.rnrs)
+  pub sends : is_sending q.state ≡ true → IsOn k g p
 
--- what becomes of a queue pair
-pub data Story (ps : List Posted) (o : Occasion) (name : QueueId) (state : State) (p : QueuePair) (ms : List Mark) : Type 0 where
-  on : Onward ps o name state p ms → Story ps o name state p ms
-  drops : (cause : Drop1) → ms ≡ marks.Dropped name cause ∷ [] → p.state ≡ state → Story ps o name state p ms
-  refuses : Refusing o name ms → Story ps o name state p ms
-  denies : Denying name ms → Story ps o name state p ms
-  invalid : Invalid o name ms → Story ps o name state p ms
+-- it goes on, or a send of it fails; this one stands in its place then
+pub data Onward (k : Known) (o : Occasion) (g : Progress) (q p : QueuePair) (ms : List Mark) : Type 0 where
+  goes : AreCalm q.queue ms → GoesOn k g q p → Onward k o g q p ms
+  fails : p.state ≡ states.Error → Failing k o q.queue ms → Onward k o g q p ms
+
+-- what becomes of a queue pair, and what its progress is where it goes on
+pub data Story (k : Known) (o : Occasion) (q p : QueuePair) (ms : List Mark) : Type 0 where
+  on : Onward k o (progress_after k o) q p ms → Story k o q p ms
+  drops : (cause : Drop1) → is_fired o ≡ false → ms ≡ marks.Dropped q.queue cause ∷ [] → GoesOn k k.before q p → Story k o q p ms
+  refuses : p.state ≡ states.Error → Refusing o q.queue ms → Story k o q p ms
+  denies : p.state ≡ states.Error → Denying q.queue ms → Story k o q p ms
+  invalid : p.state ≡ states.Error → Invalid o q.queue ms → Story k o q p ms

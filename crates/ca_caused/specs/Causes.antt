@@ -1,24 +1,47 @@
 -- Causes of completions: the part of Caused that is told of each status without the link between two queue pairs. Laws
 -- cite it.
-use Rattle.std.specs.Prelude.{Bool, true, if◌then◌else◌, IsTrue, List, Option}
+use Rattle.std.specs.Prelude.{suc, ◌==◌, ◌&&◌, nat_lt, Bool, true, false, not, if◌then◌else◌, IsTrue, List, Option}
+use Rattle.std.specs.Option.{option_map_or}
+use Rattle.ca_base.specs.declared.limits.TheConstants.{MAX_RETRY}
+use Rattle.ca_wire.specs.declared.syndrome.NakCode.TheVariants.{InvalidRequest, RemoteAccessError, RemoteOperationalError}
+use Rattle.ca_model.specs.Progress.{Response, Answers}
 use Rattle.ca_base.specs.declared.completion.Completion.{Completion}
 use Rattle.ca_base.specs.declared.completion.WcStatus.{WcStatus}
 use Rattle.ca_base.specs.declared.completion.WcStatus.TheVariants as statuses
 use Rattle.ca_base.specs.declared.refusals.OpRefusal.{OpRefusal}
 use Rattle.ca_keys.specs.Memory.{ByteMap}
-use Rattle.ca_model.specs.Caused.{is_denied_list, is_refused_operation, may_be_in_error}
+use Rattle.ca_model.specs.Caused.{is_denied_list, is_fitting_answer, is_refused_by, is_refused_operation, may_be_in_error, told_at_hand, with_limits}
 use Rattle.ca_model.specs.Entries.{EntryValue}
-use Rattle.ca_model.specs.Past.{Past, each_entry, opening_past}
+use Rattle.ca_model.specs.Past.{Past, each_entry, opening_past, posted_at}
 use Rattle.ca_model.specs.declared.mark.Mark.{Mark}
 use Rattle.ca_model.specs.declared.mark.Mark.TheVariants as marks
 
--- The causes that these statuses have: the list of a send is denied, a local operation or an invalidation is refused, and
--- the queue pair is in Error. Nothing is said of the others.
+-- an answer arrived that does not fit the request of a send completion
+abbrev pub is_misfit : Past → Completion → Bool
+is_misfit past c =
+    not c.receive
+    && option_map_or (λ t. is_answer t.response && option_map_or (λ p. not (is_fitting_answer past c.queue p t)) (posted_at past c.queue c.place) false)
+    (told_at_hand past c) false
+  where
+    is_answer : Response → Bool
+    is_answer Answers = true
+    is_answer response = false
+
+-- The cause of each status, as Caused has it, but for what is told of clean connections, and for the lists of receives:
+-- nothing is said of a receive that is too short or denied.
 abbrev pub has_own_cause : Past → Completion → Option OpRefusal → WcStatus → Bool
+has_own_cause past c cause statuses.Success = true
+has_own_cause past c cause statuses.LocalLength = true
 has_own_cause past c cause statuses.LocalProtection = if c.receive then true else is_denied_list past c
 has_own_cause past c cause statuses.MemoryManagement = is_refused_operation past c cause
+has_own_cause past c cause statuses.RemoteInvalidRequest = is_refused_by InvalidRequest past c
+has_own_cause past c cause statuses.RemoteAccess = is_refused_by RemoteAccessError past c
+has_own_cause past c cause statuses.RemoteOperation = is_refused_by RemoteOperationalError past c
+has_own_cause past c cause statuses.RetryExceeded = with_limits (λ start g. g.retries == suc start.retry) past c
+has_own_cause past c cause statuses.RnrRetryExceeded =
+    with_limits (λ start g. nat_lt start.rnr_retry MAX_RETRY && (g.rnrs == suc start.rnr_retry)) past c
+has_own_cause past c cause statuses.BadResponse = is_misfit past c
 has_own_cause past c cause statuses.Flushed = may_be_in_error past c.queue
-has_own_cause past c cause status = true
 
 -- a completion has the cause of its status
 abbrev pub completes_with_cause : Past → Mark → Bool

@@ -5,7 +5,7 @@ ghost use Rattle.ca_agree.specs.Runs.{Comes};
 ghost use Rattle.ca_agree_posts.specs.Posts.{PostsAgree};
 ghost use Rattle.ca_base.specs.Configuration.{Configuration};
 ghost use Rattle.ca_caused.specs.Causes.{DoCompleteWithCauses};
-ghost use Rattle.ca_caused.specs.Faults.{FaultsAgree};
+ghost use Rattle.ca_caused.specs.Explained.{CausesAgree};
 ghost use Rattle.ca_keys.specs.Memory.{ByteMap};
 ghost use Rattle.ca_laws_steady.specs.Steady.{IsSteadyWorld};
 ghost use Rattle.ca_model.specs.Entries.{EntryValue};
@@ -16,29 +16,29 @@ ghost use Rattle.ca_model.specs.machine.Sound.{AreLimited, CanBeMade, IsSoundWor
 ghost use Rattle.ca_model.specs.machine.Step.{step};
 ghost use Rattle.ca_model.specs.machine.World.{World, opening_world};
 
-/// Before the first event, past and world agree on what befell queue pairs.
-pub fn opening_agrees_on_faults()
-    ensures { (bytes : ByteMap) → FaultsAgree (opening_past bytes) (opening_world bytes) }
+/// Before the first event, past and world agree on why queue pairs are as they are.
+pub fn opening_agrees_on_causes()
+    ensures { (bytes : ByteMap) → CausesAgree (opening_past bytes) (opening_world bytes) }
 {}
 
 /// Every event in a sound world of steady queue pairs, with a past that agrees on posted requests and on paths, keeps the
-/// agreement on faults: each queue pair that the event leaves in Error has a fault in the past that its marks leave.
-pub fn event_keeps_faults_agreed()
+/// agreement on causes: the past that its marks leave tells why each queue pair that it leaves is as it is.
+pub fn event_keeps_causes_agreed()
     ensures { (c : Configuration) (past : Past) (w : World) (event : Event) → IsSoundWorld c w
-        → IsSteadyWorld w → PostsAgree past w → PathsAgree past w → FaultsAgree past w
-        → Comes (λ v ms. FaultsAgree (at_end (after_marks ms (at_begin event past))) v) (step c w event) }
+        → IsSteadyWorld w → PostsAgree past w → PathsAgree past w → CausesAgree past w
+        → Comes (λ v ms. CausesAgree (at_end (after_marks ms (at_begin event past))) v) (step c w event) }
 {}
 
-/// Past and world agree on faults at the beginning of a history that follows the machine, and after each of its entries.
-pub fn histories_agree_on_faults()
+/// Past and world agree on causes at the beginning of a history that follows the machine, and after each of its entries:
+/// something befell each queue pair in Error, and the past knows how far the sends of each that sends are answered.
+pub fn histories_agree_on_causes()
     ensures { (c : Configuration) (bytes : ByteMap) (es : List EntryValue)
         → AreLimited c → AllByRecursion (λ e. CanBeMade e.event) es → Follows c bytes es
-        → HoldsAlong FaultsAgree c (opening_past bytes) (opening_world bytes) es }
+        → HoldsAlong CausesAgree c (opening_past bytes) (opening_world bytes) es }
 {}
 
-/// In a history that follows the machine each completion that is no success has the cause of its status: a refusal by
-/// name of a local operation or of an invalidation, a denied access by the list of its send, or a queue pair in Error.
-/// This is a part of Caused.
+/// In a history that follows the machine each completion that is no success has the cause of its status, as Caused has
+/// it, but for what is told of clean connections, and for receives that are too short or denied.
 pub fn completions_have_their_causes()
     ensures { (c : Configuration) (bytes : ByteMap) (es : List EntryValue) → AreLimited c
         → AllByRecursion (λ e. CanBeMade e.event) es → Follows c bytes es

@@ -4,6 +4,6 @@
 mod laws;
 
 pub use laws::{
-    completions_have_their_causes, event_keeps_faults_agreed, histories_agree_on_faults,
-    opening_agrees_on_faults,
+    completions_have_their_causes, event_keeps_causes_agreed, histories_agree_on_causes,
+    opening_agrees_on_causes,
 };
