@@ -30,7 +30,7 @@ use Rattle.ca_laws_sound.proofs.SettledLemmas.{queue-refl}
 use Rattle.ca_keys.specs.declared.verdict.Verdict.TheVariants as verdicts
 use Rattle.ca_model.specs.machine.Requester.{local_denial}
 use Rattle.ca_model.specs.Caused.{is_by_piece, is_denied_list, may_be_in_error}
-use Rattle.ca_model.specs.Packets.{asks_invalidate, is_response}
+use Rattle.ca_model.specs.Packets.{asks_invalidate, is_response, is_send}
 use Rattle.ca_model.specs.Past.{Fault, Past, Posted, DeniedAccess, ReceiveFailed, SendFailed, after_mark, after_marks, arrived_at_hand, correspondent_eq, each_mark, faults_after, faults_of, is_unmarked_at_hand, nothing_at_hand, opening_past, posted_at, present_incarnation}
 use Rattle.ca_model.specs.Requests.{is_local, list_of}
 use Rattle.ca_model.specs.declared.mark.Mark.{Mark}
@@ -312,18 +312,18 @@ failed-send k o name place item denial cause statuses.RetryExceeded why = refl
 failed-send k o name place item denial cause statuses.RnrRetryExceeded why = refl
 failed-send k o name place item denial cause statuses.BadResponse why = refl
 
-failed-receive : (p : Fields) (cause : Option OpRefusal) (status : WcStatus) → WhyReceive p cause status → (status_eq status statuses.Success || status_eq status statuses.Flushed) ≡ false
-failed-receive p cause statuses.Success why = absurd why
-failed-receive p cause statuses.Flushed why = absurd why
-failed-receive p cause statuses.LocalLength why = refl
-failed-receive p cause statuses.LocalProtection why = refl
-failed-receive p cause statuses.MemoryManagement why = refl
-failed-receive p cause statuses.RemoteInvalidRequest why = absurd why
-failed-receive p cause statuses.RemoteAccess why = absurd why
-failed-receive p cause statuses.RemoteOperation why = absurd why
-failed-receive p cause statuses.RetryExceeded why = absurd why
-failed-receive p cause statuses.RnrRetryExceeded why = absurd why
-failed-receive p cause statuses.BadResponse why = absurd why
+failed-receive : (p : Fields) (name : QueueId) (denial : Option DeniedAsk) (cause : Option OpRefusal) (status : WcStatus) → WhyReceive p name denial cause status → (status_eq status statuses.Success || status_eq status statuses.Flushed) ≡ false
+failed-receive p name denial cause statuses.Success why = absurd why
+failed-receive p name denial cause statuses.Flushed why = absurd why
+failed-receive p name denial cause statuses.LocalLength why = refl
+failed-receive p name denial cause statuses.LocalProtection why = refl
+failed-receive p name denial cause statuses.MemoryManagement why = refl
+failed-receive p name denial cause statuses.RemoteInvalidRequest why = absurd why
+failed-receive p name denial cause statuses.RemoteAccess why = absurd why
+failed-receive p name denial cause statuses.RemoteOperation why = absurd why
+failed-receive p name denial cause statuses.RetryExceeded why = absurd why
+failed-receive p name denial cause statuses.RnrRetryExceeded why = absurd why
+failed-receive p name denial cause statuses.BadResponse why = absurd why
 
 -- ---- responses
 
@@ -507,27 +507,41 @@ caused-send k o name r s place item denial cause statuses.BadResponse same met a
     is_answer response = false
 
 -- a receive that fails, by the packet that arrived
-caused-receive : (name : QueueId) (r s : Past) (p : Fields) (x : Completion) (cause : Option OpRefusal) (status : WcStatus) → bare s ≡ bare r → arrived_at_hand r name ≡ Some p → x.queue ≡ name → x.receive ≡ true → WhyReceive p cause status
-    → has_own_cause s x cause status ≡ true
-caused-receive name r s p x cause statuses.MemoryManagement same arrived own receive why = both-true (is_some cause) _ why.0 (ap by receive
-    ∙ ap (λ n. asks (arrived_at_hand s n)) own ∙ ap (λ t. asks (arrived_at_hand t name)) {x = bare s} {y = bare r} same ∙ ap asks arrived ∙ why.1)
+caused-receive : (name : QueueId) (r s : Past) (p : Fields) (x : Completion) (denial : Option DeniedAsk) (cause : Option OpRefusal) (status : WcStatus) → bare s ≡ bare r → arrived_at_hand r name ≡ Some p → x.queue ≡ name → x.receive ≡ true
+    → WhyReceive p name denial cause status → has_own_cause (after_marks (denials denial) s) x cause status ≡ true
+caused-receive name r s p x denial cause statuses.MemoryManagement same arrived own receive why = both-true (is_some cause) _ why.0 (ap by receive
+    ∙ ap (λ n. asks (arrived_at_hand z n)) own ∙ ap (λ t. asks (arrived_at_hand t name)) {x = bare z} {y = bare r} (denial-same denial r s same) ∙ ap asks arrived ∙ why.1)
   where
+    z : Past
+    z = after_marks (denials denial) s
+
     asks : Option Fields → Bool
     asks o = option_map_or (λ (p : Fields). asks_invalidate p.opcode) o false
 
     by : Bool → Bool
-    by true = asks (arrived_at_hand s x.queue)
-    by false = option_map_or (λ (p : Posted). is_local p.request.op) (posted_at s x.queue x.place) false
-caused-receive name r s p x cause statuses.LocalProtection same arrived own receive why = ap (λ b. if b then true else is_denied_list s x) receive
-caused-receive name r s p x cause statuses.Success same arrived own receive why = absurd why
-caused-receive name r s p x cause statuses.Flushed same arrived own receive why = absurd why
-caused-receive name r s p x cause statuses.LocalLength same arrived own receive why = refl
-caused-receive name r s p x cause statuses.RemoteInvalidRequest same arrived own receive why = absurd why
-caused-receive name r s p x cause statuses.RemoteAccess same arrived own receive why = absurd why
-caused-receive name r s p x cause statuses.RemoteOperation same arrived own receive why = absurd why
-caused-receive name r s p x cause statuses.RetryExceeded same arrived own receive why = absurd why
-caused-receive name r s p x cause statuses.RnrRetryExceeded same arrived own receive why = absurd why
-caused-receive name r s p x cause statuses.BadResponse same arrived own receive why = absurd why
+    by true = asks (arrived_at_hand z x.queue)
+    by false = option_map_or (λ (p : Posted). is_local p.request.op) (posted_at z x.queue x.place) false
+caused-receive name r s p x denial cause statuses.LocalLength same arrived own receive why = both-true x.receive _ receive
+    (ap (λ n. sends (arrived_at_hand z n)) own ∙ ap (λ t. sends (arrived_at_hand t name)) {x = bare z} {y = bare r} (denial-same denial r s same) ∙ ap sends arrived ∙ why)
+  where
+    z : Past
+    z = after_marks (denials denial) s
+
+    sends : Option Fields → Bool
+    sends o = option_map_or (λ (p : Fields). is_send p.opcode) o false
+caused-receive name r s p x None cause statuses.LocalProtection same arrived own receive why = absurd why
+caused-receive name r s p x (Some d) cause statuses.LocalProtection same arrived own receive why = ap (λ b. if b then denied x.queue else is_denied_list (after_mark (local_denial d) s) x) receive ∙ ap denied own ∙ or-left (queue_eq d.ask.queue name) _ why
+  where
+    denied : QueueId → Bool
+    denied n = list_any (λ ask. queue_eq ask.queue n) (after_mark (local_denial d) s).at_hand.denied_locally
+caused-receive name r s p x denial cause statuses.Success same arrived own receive why = absurd why
+caused-receive name r s p x denial cause statuses.Flushed same arrived own receive why = absurd why
+caused-receive name r s p x denial cause statuses.RemoteInvalidRequest same arrived own receive why = absurd why
+caused-receive name r s p x denial cause statuses.RemoteAccess same arrived own receive why = absurd why
+caused-receive name r s p x denial cause statuses.RemoteOperation same arrived own receive why = absurd why
+caused-receive name r s p x denial cause statuses.RetryExceeded same arrived own receive why = absurd why
+caused-receive name r s p x denial cause statuses.RnrRetryExceeded same arrived own receive why = absurd why
+caused-receive name r s p x denial cause statuses.BadResponse same arrived own receive why = absurd why
 
 -- ---- stories
 
@@ -645,8 +659,8 @@ story-leaves k o q p ms r met known error (on (fails in_error f)) = by (passed-f
     by : Passed q.queue (after_marks (denials f.denial) (after_marks f.before r)) last × (may_be_in_error (after_marks last (after_marks (denials f.denial) (after_marks f.before r))) q.queue ≡ true) → Leaves k q p r ms
     by rest = subst (Leaves k q p r) (sym f.told) (denial-error k q p r f.before f.denial last in_error f.calm rest.0 rest.1)
 story-leaves k o q p ms r met known error (refuses in_error f) = by (passed-failure q.queue q.queue f.completion f.cause f.behind (after_marks (denials f.denial) (after_marks f.before r)) f.queue
-    (failed-receive f.packet f.cause f.completion.status f.why)
-    (caused-receive q.queue r (after_marks (denials f.denial) (after_marks f.before r)) f.packet f.completion f.cause f.completion.status (denial-same f.denial r (after_marks f.before r) front.same) (at (subst (IsOccasion r q.queue) f.arrives met.occasion)) f.queue f.receive f.why) f.flushes)
+    (failed-receive f.packet q.queue f.denial f.cause f.completion.status f.why)
+    (caused-receive q.queue r (after_marks f.before r) f.packet f.completion f.denial f.cause f.completion.status front.same (at (subst (IsOccasion r q.queue) f.arrives met.occasion)) f.queue f.receive f.why) f.flushes)
   where
     front : Passed q.queue r f.before
     front = passed-calm q.queue f.before r f.calm

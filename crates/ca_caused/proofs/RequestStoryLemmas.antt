@@ -1,6 +1,7 @@
 -- The stories of requests that arrive, of turns and of timers. For proofs only.
 use Rattle.std.proofs.Common.{◌≡◌, ℕ, suc, ◌+◌, ◌==◌, ◌&&◌, ◌<◌, Bool, true, false, not, nat_le, nat_lt, if◌then◌else◌, List, [], ◌∷◌, ◌++◌, length, Option, None, Some, is_none, is_some, Result, Ok, Err, slice_get, refl, ap, sym, subst, ◌∙◌, arith, true≢false}
 use Rattle.std.proofs.lemmas.Bool.Decides.{nat_tests}
+use Rattle.std.proofs.lemmas.Bool.{and_parts}
 use Rattle.std.specs.Option.{option_map}
 use Rattle.ca_base.specs.declared.completion.WcOp.TheVariants as operations
 use Rattle.ca_base.specs.declared.completion.WcStatus.TheVariants.{LocalLength, LocalProtection, MemoryManagement, Success}
@@ -84,7 +85,7 @@ use Rattle.ca_packet.specs.declared.wire_error.WireError.{WireError}
 use Rattle.ca_psn.specs.Psn.{widened}
 use Rattle.ca_wire.specs.declared.syndrome.NakCode.{NakCode}
 use Rattle.ca_wire.specs.declared.syndrome.NakCode.TheVariants.{InvalidRequest, RemoteOperationalError}
-use Rattle.ca_model.specs.Packets.{is_response}
+use Rattle.ca_model.specs.Packets.{is_response, is_send, is_send_at}
 
 -- ---- marks
 
@@ -167,7 +168,7 @@ duplicate-story k o psn p envelope shape q quiet = cond-story k o q (nat_le MAX_
 abbrev pub HasIeth : Fields → Type 0
 HasIeth p = (k : ℕ) → p.ieth ≡ Some k → asks_invalidate p.opcode ≡ true
 
-receive-failed : (k : Known) (packet : Fields) (q : QueuePair) (r : PlacedReceive) (status : WcStatus) (cause : Option OpRefusal) (code : NakCode) (before : List Mark) (denial : Option DeniedAsk) → AreCalm q.queue before → WhyReceive packet cause status
+receive-failed : (k : Known) (packet : Fields) (q : QueuePair) (r : PlacedReceive) (status : WcStatus) (cause : Option OpRefusal) (code : NakCode) (before : List Mark) (denial : Option DeniedAsk) → AreCalm q.queue before → WhyReceive packet q.queue denial cause status
     → Story k (Arrives packet) q (receive_failure_effects q r status cause code).queue (before ++ (denials denial ++ (receive_failure_effects q r status cause code).marks))
 receive-failed k packet q r status cause code before denial calm why = refuses refl (record {
   before = before;
@@ -189,8 +190,8 @@ revoked-calm : (name : QueueId) (q : QueuePair) (o : Option Invalidation) → Ar
 revoked-calm name q None = record {}
 revoked-calm name q (Some i) = (record {}, record {})
 
-send-story : (k : Known) (before : QueuePair) (p : Fields) (place : Position) (r : Receiving) → IsQuiet k (Arrives p) before → HasIeth p → RowStory k (Arrives p) before (send_row before p place r)
-send-story k before p place r quiet asks = of r.taken
+send-story : (k : Known) (before : QueuePair) (p : Fields) (place : Position) (r : Receiving) → IsQuiet k (Arrives p) before → is_send p.opcode ≡ true → HasIeth p → RowStory k (Arrives p) before (send_row before p place r)
+send-story k before p place r quiet sends asks = of r.taken
   where
     o : Occasion
     o = Arrives p
@@ -249,10 +250,13 @@ send-story k before p place r quiet asks = of r.taken
     quiet-from true = quiet-as k o before (with_receive_taken before) quiet refl refl refl
     quiet-from false = quiet
 
+    owned : (b : Bool) (d : DeniedAsk) → ((test : Ask → Bool) → list_all test (receive_asks (from b) p r) ≡ true → test d.ask ≡ true) → queue_eq d.ask.queue (from b).queue ≡ true
+    owned b d among = (and_parts (queue_eq d.ask.queue (from b).queue) _ (among (is_by_list (from b).queue r.receive.receive.list.items) (asked-by (from b).queue (from b).domain kinds.Write r.before (length p.payload) r.receive.receive.list.items))).0
+
     by : (b long : Bool) → RowStory k o before (row_of b long)
-    by b true = plain k o before _ (taken b _ (receive-failed k p (from b) r.receive LocalLength None InvalidRequest [] None (record {}) (record {})))
+    by b true = plain k o before _ (taken b _ (receive-failed k p (from b) r.receive LocalLength None InvalidRequest [] None (record {}) sends))
     by b false = record {
-      denied = λ d among. taken b _ (receive-failed k p (from b) r.receive LocalProtection None RemoteOperationalError [] (Some d) (record {}) (record {}));
+      denied = λ d among. taken b _ (receive-failed k p (from b) r.receive LocalProtection None RemoteOperationalError [] (Some d) (record {}) (owned b d among));
       allowed = λ bytes refusal named. taken b _ (placed (from b) refusal (quiet-from b) named);
     }
 
@@ -319,17 +323,17 @@ atomic-story k q p envelope kind a quiet = record {
 
 -- ---- requests
 
-valid-story : (k : Known) (q : QueuePair) (p : Fields) (envelope : Option ℕ) (next : Option PlacedReceive) (shape : Shape) → IsQuiet k (Arrives p) q → is_response p.opcode ≡ false → HasIeth p → RowStory k (Arrives p) q (valid_row q p envelope next shape)
-valid-story k q p envelope next (shapes.Send place) quiet request asks = by (receiving_of q next q.responder.message)
+valid-story : (k : Known) (q : QueuePair) (p : Fields) (envelope : Option ℕ) (next : Option PlacedReceive) (shape : Shape) → IsQuiet k (Arrives p) q → shape_of p.opcode ≡ Some shape → is_response p.opcode ≡ false → HasIeth p → RowStory k (Arrives p) q (valid_row q p envelope next shape)
+valid-story k q p envelope next (shapes.Send place) quiet shaped request asks = by (receiving_of q next q.responder.message)
   where
     row : Option Receiving → Row
     row (Some r) = send_row q p place r
     row None = plain_row (Does (refusal_effects InvalidRequest q))
 
     by : (r : Option Receiving) → RowStory k (Arrives p) q (row r)
-    by (Some r) = send-story k q p place r quiet asks
+    by (Some r) = send-story k q p place r quiet (ap (is_send_at (λ place. true)) shaped) asks
     by None = plain k (Arrives p) q _ (refused k p InvalidRequest q request)
-valid-story k q p envelope next (shapes.Write place) quiet request asks = by (write_reach q p)
+valid-story k q p envelope next (shapes.Write place) quiet shaped request asks = by (write_reach q p)
   where
     row : Option WriteReach → Row
     row (Some r) = write_row q p envelope place next r
@@ -338,7 +342,7 @@ valid-story k q p envelope next (shapes.Write place) quiet request asks = by (wr
     by : (r : Option WriteReach) → RowStory k (Arrives p) q (row r)
     by (Some r) = write-story k q p envelope place next r quiet
     by None = plain k (Arrives p) q _ (refused k p InvalidRequest q request)
-valid-story k q p envelope next shapes.Read quiet request asks = by p.reth
+valid-story k q p envelope next shapes.Read quiet shaped request asks = by p.reth
   where
     row : Option Reth → Row
     row (Some h) = plain_row (Does (read_queued q p envelope h))
@@ -347,7 +351,7 @@ valid-story k q p envelope next shapes.Read quiet request asks = by p.reth
     by : (h : Option Reth) → RowStory k (Arrives p) q (row h)
     by (Some h) = plain k (Arrives p) q (read_queued q p envelope h) (still k (Arrives p) q _ quiet refl refl refl)
     by None = plain k (Arrives p) q _ (refused k p InvalidRequest q request)
-valid-story k q p envelope next (shapes.Atomic kind) quiet request asks = by p.atomic
+valid-story k q p envelope next (shapes.Atomic kind) quiet shaped request asks = by p.atomic
   where
     row : Option AtomicEth → Row
     row (Some a) = atomic_row q p envelope kind a
@@ -368,12 +372,12 @@ rows-as k o q f row name state mtu requester does = record {
     ending (NotPossible reason) does = record {}
     ending (Does e) does = story-as k o q f e.queue e.marks name state mtu requester does
 
-request-story : (k : Known) (p : Fields) (envelope : Option ℕ) (shared : Option SharedReceives) (shape : Shape) (q : QueuePair) → (is_sending q.state ≡ true → IsOn k k.before q) → is_response p.opcode ≡ false → HasIeth p → RowStory k (Arrives p) q (request_row p envelope shared shape q)
-request-story k p envelope shared shape q was request asks = cond-row k o q (nat_lt q.responder.expected psn) _ _ (λ ahead. plain k o q _ (ahead-story k o q quiet))
+request-story : (k : Known) (p : Fields) (envelope : Option ℕ) (shared : Option SharedReceives) (shape : Shape) (q : QueuePair) → (is_sending q.state ≡ true → IsOn k k.before q) → shape_of p.opcode ≡ Some shape → is_response p.opcode ≡ false → HasIeth p → RowStory k (Arrives p) q (request_row p envelope shared shape q)
+request-story k p envelope shared shape q was shaped request asks = cond-row k o q (nat_lt q.responder.expected psn) _ _ (λ ahead. plain k o q _ (ahead-story k o q quiet))
     (λ none. cond-row k o q (nat_lt psn q.responder.expected) _ _ (λ again. plain k o q _ (duplicate-story k o psn p envelope shape q quiet))
     (λ none. rows-as k o q f (expected_row q shared p envelope shape) refl refl refl refl (cond-row k o f (is_invalid f p shape) _ _ (λ invalid. plain k o f _ (refused k p InvalidRequest f request))
     (λ none. cond-row k o f (takes_receive p shape && is_none (next_receive f shared)) _ _ (λ none. plain k o f (rnr_effects f) (still k o f _ (quiet-as k o q f quiet refl refl refl) refl refl refl))
-    (λ none. valid-story k f p envelope (next_receive f shared) shape (quiet-as k o q f quiet refl refl refl) request asks)))))
+    (λ none. valid-story k f p envelope (next_receive f shared) shape (quiet-as k o q f quiet refl refl refl) shaped request asks)))))
   where
     o : Occasion
     o = Arrives p
@@ -395,7 +399,7 @@ occasion_of (Ok p) = Arrives p
 occasion_of (Err error) = Turns
 
 packet-story : (k : Known) (p : Fields) (envelope : Option ℕ) (shared : Option SharedReceives) (q : QueuePair) → (is_among (states.Rts ∷ states.Sqd ∷ []) q.state ≡ true → IsUp k k.before q × IsListed k q) → HasIeth p → RowStory k (Arrives p) q (packet_arrived p envelope shared q)
-packet-story k p envelope shared q up asks = cond-row k (Arrives p) q (is_response p.opcode) _ _ (λ is. response-story k p q is up) (λ request. by request (shape_of p.opcode))
+packet-story k p envelope shared q up asks = cond-row k (Arrives p) q (is_response p.opcode) _ _ (λ is. response-story k p q is up) (λ request. by request (shape_of p.opcode) refl)
   where
     row : Option Shape → Row
     row (Some shape) = request_row p envelope shared shape q
@@ -404,9 +408,9 @@ packet-story k p envelope shared q up asks = cond-row k (Arrives p) q (is_respon
     was : is_sending q.state ≡ true → IsOn k k.before q
     was sending = (up sending).0.on
 
-    by : is_response p.opcode ≡ false → (s : Option Shape) → RowStory k (Arrives p) q (row s)
-    by request (Some shape) = request-story k p envelope shared shape q was request asks
-    by request None = plain k (Arrives p) q _ (dropped k (Arrives p) q drop_causes.State refl was)
+    by : is_response p.opcode ≡ false → (s : Option Shape) → shape_of p.opcode ≡ s → RowStory k (Arrives p) q (row s)
+    by request (Some shape) shaped = request-story k p envelope shared shape q was shaped request asks
+    by request None shaped = plain k (Arrives p) q _ (dropped k (Arrives p) q drop_causes.State refl was)
 
 pub arrival-story : (k : Known) (bytes : List ℕ) (envelope : Option ℕ) (shared : Option SharedReceives) (q : QueuePair) → (is_among (states.Rts ∷ states.Sqd ∷ []) q.state ≡ true → IsUp k k.before q × IsListed k q) → RowStory k (occasion_of (packet_in bytes)) q (arrival_row bytes envelope shared q)
 arrival-story k bytes envelope shared q up = by (packet_in bytes) refl

@@ -15,6 +15,7 @@ use Rattle.ca_base.specs.declared.request.PostedSend.{PostedSend}
 use Rattle.ca_base.specs.declared.request.RecvRequest.{RecvRequest}
 use Rattle.ca_base.specs.objects.QueuePair.{QueuePair}
 use Rattle.ca_base.specs.objects.WorkQueue.{WorkQueue, items_from}
+use Rattle.ca_keys.specs.Equal.{queue_eq}
 use Rattle.ca_keys.specs.declared.access.Kind.{Kind}
 use Rattle.ca_keys.specs.declared.access.Denial.{Denial}
 use Rattle.ca_keys.specs.declared.key.Key.{Key}
@@ -22,7 +23,7 @@ use Rattle.ca_keys.specs.declared.names.DomainId.{DomainId}
 use Rattle.ca_keys.specs.declared.names.QueueId.{QueueId}
 use Rattle.ca_keys.specs.declared.verdict.Verdict.TheVariants as verdicts
 use Rattle.ca_model.specs.Caused.{is_by_piece}
-use Rattle.ca_model.specs.Packets.{asks_invalidate, is_response}
+use Rattle.ca_model.specs.Packets.{asks_invalidate, is_response, is_send}
 use Rattle.ca_model.specs.Requests.{is_local, list_of}
 use Rattle.ca_base.specs.declared.change.State.TheVariants as states
 use Rattle.ca_base.specs.declared.limits.TheConstants.{MAX_RETRY}
@@ -151,14 +152,17 @@ pub record Failing (k : Known) (o : Occasion) (name : QueueId) (ms : List Mark) 
   pub why : WhySend k o name place item denial cause status
   pub told : ms ≡ before ++ (denials denial ++ (failure_mark name place item.request status cause ∷ behind))
 
+-- an ask of this queue pair was denied
+abbrev pub IsOwnDenial : QueueId → Option DeniedAsk → Type 0
+IsOwnDenial name None = ⊥
+IsOwnDenial name (Some d) = queue_eq d.ask.queue name ≡ true
+
 -- why a receive fails with a status, by the packet that arrived
-abbrev pub WhyReceive : Fields → Option OpRefusal → WcStatus → Type 0
-WhyReceive p cause statuses.Success = ⊥
-WhyReceive p cause statuses.Flushed = ⊥
-WhyReceive p cause statuses.MemoryManagement = (is_some cause ≡ true) × (asks_invalidate p.opcode ≡ true)
-WhyReceive p cause statuses.LocalLength = Unit {0}
-WhyReceive p cause statuses.LocalProtection = Unit {0}
-WhyReceive p cause status = ⊥
+abbrev pub WhyReceive : Fields → QueueId → Option DeniedAsk → Option OpRefusal → WcStatus → Type 0
+WhyReceive p name denial cause statuses.LocalLength = is_send p.opcode ≡ true
+WhyReceive p name denial cause statuses.LocalProtection = IsOwnDenial name denial
+WhyReceive p name denial cause statuses.MemoryManagement = (is_some cause ≡ true) × (asks_invalidate p.opcode ≡ true)
+WhyReceive p name denial cause status = ⊥
 
 -- a receive fails, in the same way
 pub record Refusing (o : Occasion) (name : QueueId) (ms : List Mark) : Type 0 where
@@ -173,7 +177,7 @@ pub record Refusing (o : Occasion) (name : QueueId) (ms : List Mark) : Type 0 wh
   pub receive : completion.receive ≡ true
   pub queue : completion.queue ≡ name
   pub flushes : AreFlushes name behind
-  pub why : WhyReceive packet cause completion.status
+  pub why : WhyReceive packet name denial cause completion.status
   pub told : ms ≡ before ++ (denials denial ++ (marks.Done name completion cause ∷ behind))
 
 -- a remote access is denied, and all is flushed

@@ -1,6 +1,7 @@
 -- Causes of completions: the part of Caused that is told of each status without the link between two queue pairs. Laws
 -- cite it.
 use Rattle.std.specs.Prelude.{suc, ◌==◌, ◌&&◌, nat_lt, Bool, true, false, not, if◌then◌else◌, IsTrue, List, Option}
+use Rattle.std.specs.List.{list_any}
 use Rattle.std.specs.Option.{option_map_or}
 use Rattle.ca_base.specs.declared.limits.TheConstants.{MAX_RETRY}
 use Rattle.ca_wire.specs.declared.syndrome.NakCode.TheVariants.{InvalidRequest, RemoteAccessError, RemoteOperationalError}
@@ -9,10 +10,12 @@ use Rattle.ca_base.specs.declared.completion.Completion.{Completion}
 use Rattle.ca_base.specs.declared.completion.WcStatus.{WcStatus}
 use Rattle.ca_base.specs.declared.completion.WcStatus.TheVariants as statuses
 use Rattle.ca_base.specs.declared.refusals.OpRefusal.{OpRefusal}
+use Rattle.ca_keys.specs.Equal.{queue_eq}
 use Rattle.ca_keys.specs.Memory.{ByteMap}
+use Rattle.ca_model.specs.Packets.{is_send}
 use Rattle.ca_model.specs.Caused.{is_denied_list, is_fitting_answer, is_refused_by, is_refused_operation, may_be_in_error, told_at_hand, with_limits}
 use Rattle.ca_model.specs.Entries.{EntryValue}
-use Rattle.ca_model.specs.Past.{Past, each_entry, opening_past, posted_at}
+use Rattle.ca_model.specs.Past.{Past, arrived_at_hand, each_entry, opening_past, posted_at}
 use Rattle.ca_model.specs.declared.mark.Mark.{Mark}
 use Rattle.ca_model.specs.declared.mark.Mark.TheVariants as marks
 
@@ -28,11 +31,14 @@ is_misfit past c =
     is_answer response = false
 
 -- The cause of each status, as Caused has it, but for what is told of clean connections, and for the lists of receives:
--- nothing is said of a receive that is too short or denied.
+-- of a receive that is too short it says that a SEND arrived, and of one that is denied, that the event at hand was denied
+-- an access by a list of its queue pair.
 abbrev pub has_own_cause : Past → Completion → Option OpRefusal → WcStatus → Bool
 has_own_cause past c cause statuses.Success = true
-has_own_cause past c cause statuses.LocalLength = true
-has_own_cause past c cause statuses.LocalProtection = if c.receive then true else is_denied_list past c
+has_own_cause past c cause statuses.LocalLength =
+    c.receive && option_map_or (λ p. is_send p.opcode) (arrived_at_hand past c.queue) false
+has_own_cause past c cause statuses.LocalProtection =
+    if c.receive then list_any (λ ask. queue_eq ask.queue c.queue) past.at_hand.denied_locally else is_denied_list past c
 has_own_cause past c cause statuses.MemoryManagement = is_refused_operation past c cause
 has_own_cause past c cause statuses.RemoteInvalidRequest = is_refused_by InvalidRequest past c
 has_own_cause past c cause statuses.RemoteAccess = is_refused_by RemoteAccessError past c

@@ -38,7 +38,7 @@ pub fn histories_agree_on_causes()
 {}
 
 /// In a history that follows the machine each completion that is no success has the cause of its status, as Caused has
-/// it, but for what is told of clean connections, and for receives that are too short or denied.
+/// it, but for what is told of clean connections and of the lists of receives.
 pub fn completions_have_their_causes()
     ensures { (c : Configuration) (bytes : ByteMap) (es : List EntryValue) → AreLimited c
         → AllByRecursion (λ e. CanBeMade e.event) es → Follows c bytes es

@@ -1,4 +1,14 @@
 //! What histories that follow the machine tell of completions that are no success: each has its cause.
+//!
+//! To the layers above it promises, as clauses of functions that do nothing, that before the first event and after each
+//! event something befell each queue pair in Error, and the past knows how far the sends of each that sends are
+//! answered: up to which PSN, with how many retries and RNR NAKs since then, and which PSN its oldest unfinished request
+//! begins with; and that in such a history each completion that is no success has the cause of its status. They hold of
+//! the machine's definitions, and no code is in them.
+//!
+//! Source: InfiniBand Architecture Specification Volume 1, the chapter on the software transport interface, section on
+//! completion return status, and the chapter on the transport layer, section on errors of requesters and responders; a
+//! history is what the relations on histories speak of.
 #![tactic(auto)]
 
 mod laws;
