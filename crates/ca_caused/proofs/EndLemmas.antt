@@ -1,6 +1,5 @@
 -- What the end of an event adds to faults, and what a story leaves of the agreement. For proofs only.
 use Rattle.std.proofs.Common.{◌≡◌, ◌&&◌, Bool, true, false, not, if◌then◌else◌, List, [], ◌∷◌, ◌++◌, Option, None, Some, IfSome, is_some, refl, ap, ap₂, sym, subst, ◌∙◌, true≢false}
-use Rattle.std.proofs.lemmas.Bool.{and_parts}
 use Rattle.std.specs.List.{list_all}
 use Rattle.std.specs.Option.{option_map_or}
 use Rattle.ca_base.specs.Equal.{status_eq}
@@ -15,7 +14,7 @@ use Rattle.ca_base.specs.declared.correspondent.Correspondent.{Correspondent}
 use Rattle.ca_base.specs.objects.QueuePair.{QueuePair, Present}
 use Rattle.ca_caused.proofs.PassLemmas.{IsTied, KeepsFaults, Leaves, either, faults_of_queue, kept, or-left}
 use Rattle.ca_caused.specs.Causes.{completes_with_cause}
-use Rattle.ca_caused.specs.Explained.{AreExplained, CausesAgree, ExplainedInSlot, IsExplained, IsFollowed, Lore, is_faulty, lore_of}
+use Rattle.ca_caused.specs.Explained.{AreExplained, CausesAgree, ExplainedInSlot, IsExplained, IsFollowed, QueuePast, is_faulty, queue_past}
 use Rattle.ca_keys.specs.Equal.{queue_eq}
 use Rattle.ca_keys.specs.declared.names.QueueId.{QueueId}
 use Rattle.ca_laws_sound.proofs.SettledLemmas.{queue-path}
@@ -29,7 +28,7 @@ use Rattle.ca_base.specs.declared.change.State.{State}
 use Rattle.ca_caused.proofs.KnownLemmas.{IsOn, Known}
 use Rattle.ca_base.specs.objects.QueuePair.{QueueSlot}
 use Rattle.ca_base.specs.objects.StateTable.{state_eq}
-use Rattle.ca_caused.proofs.PassLemmas.{Passed, keeps-bare, passed-flushes}
+use Rattle.ca_caused.proofs.PassLemmas.{Passed, each-append, keeps-bare, passed-flushes}
 use Rattle.ca_caused.proofs.StoryLemmas.{AreFlushes, flush-flushes}
 use Rattle.ca_model.specs.machine.Completions.{flush_marks}
 use Rattle.ca_base.specs.declared.change.State.TheVariants as states
@@ -107,7 +106,7 @@ others-end s name l at other = by s.at_hand.arrival at
 -- ---- what is known
 
 -- what a past knows of a queue pair, by what it tells
-abbrev pub known_of : Lore → QueuePair → Known
+abbrev pub known_of : QueuePast → QueuePair → Known
 known_of l q = record {
   posted = l.posted;
   begin = option_map_or whole_start l.start 0;
@@ -118,7 +117,7 @@ known_of l q = record {
   rnr_retry = q.requester.rnr_retry;
 }
 
-pub followed-on : (l : Lore) (q : QueuePair) → IsFollowed l q → IsOn (known_of l q) l.progress q
+pub followed-on : (l : QueuePast) (q : QueuePair) → IsFollowed l q → IsOn (known_of l q) l.progress q
 followed-on l q is = record {
   una = is.una;
   retries = is.retries;
@@ -138,7 +137,7 @@ sending-connected states.Rts e = refl
 sending-connected states.Sqd e = refl
 sending-connected states.Error e = absurd (true≢false (sym e))
 
-pub followed-tied : (r : Past) (q : QueuePair) → IsExplained (lore_of r q.queue) q → is_sending q.state ≡ true → IsTied (known_of (lore_of r q.queue) q) q.queue r
+pub followed-tied : (r : Past) (q : QueuePair) → IsExplained (queue_past r q.queue) q → is_sending q.state ≡ true → IsTied (known_of (queue_past r q.queue) q) q.queue r
 followed-tied r q is sending = record {
   begin = so.begin;
   start = so.is;
@@ -149,7 +148,7 @@ followed-tied r q is sending = record {
   progress = refl;
 }
   where
-    so : IsFollowed (lore_of r q.queue) q
+    so : IsFollowed (queue_past r q.queue) q
     so = is.sends sending
 
 -- ---- progress at the end
@@ -187,13 +186,13 @@ abbrev pub Passes : Past → World → List Mark → Type 0
 Passes r v ms = (each_mark completes_with_cause r ms ≡ true) × CausesAgree (at_end (after_marks ms r)) v
 
 -- what is told of two alike
-lore-path : (a b : Lore) → a.faults ≡ b.faults → a.posted ≡ b.posted → a.naming ≡ b.naming → a.start ≡ b.start → a.progress ≡ b.progress → a ≡ b
-lore-path a b f p n s g = ap (λ x. record a { faults = x }) f ∙ ap (λ x. record a { faults = b.faults; posted = x }) p ∙ ap (λ x. record a { faults = b.faults; posted = b.posted; naming = x }) n
+queue-past-path : (a b : QueuePast) → a.faults ≡ b.faults → a.posted ≡ b.posted → a.naming ≡ b.naming → a.start ≡ b.start → a.progress ≡ b.progress → a ≡ b
+queue-past-path a b f p n s g = ap (λ x. record a { faults = x }) f ∙ ap (λ x. record a { faults = b.faults; posted = x }) p ∙ ap (λ x. record a { faults = b.faults; posted = b.posted; naming = x }) n
     ∙ ap (λ x. record a { faults = b.faults; posted = b.posted; naming = b.naming; start = x }) s ∙ ap (λ x. record b { progress = x }) g
 
 -- a queue pair behind its marks, as the past tells of it at the end
-pub explained-end : (r : Past) (q p : QueuePair) (ms : List Mark) → IsExplained (lore_of r q.queue) q → IfSome r.at_hand.fired (λ n. n ≡ q.queue) → IfSome r.at_hand.arrival (λ a. a.target ≡ q.queue)
-    → Leaves (known_of (lore_of r q.queue) q) q p r ms → IsExplained (lore_of (at_end (after_marks ms r)) q.queue) p
+pub explained-end : (r : Past) (q p : QueuePair) (ms : List Mark) → IsExplained (queue_past r q.queue) q → IfSome r.at_hand.fired (λ n. n ≡ q.queue) → IfSome r.at_hand.arrival (λ a. a.target ≡ q.queue)
+    → Leaves (known_of (queue_past r q.queue) q) q p r ms → IsExplained (queue_past (at_end (after_marks ms r)) q.queue) p
 explained-end r q p ms was fires arrives leaves = record {
   error = λ error. faulty-end s q.queue (leaves.left.error error);
   fresh = λ fresh. at_fresh (leaves.goes.fresh fresh) fresh;
@@ -204,8 +203,8 @@ explained-end r q p ms was fires arrives leaves = record {
     s : Past
     s = after_marks ms r
 
-    l : Lore
-    l = lore_of r q.queue
+    l : QueuePast
+    l = queue_past r q.queue
 
     same : kept s ≡ kept r
     same = leaves.goes.same
@@ -216,7 +215,7 @@ explained-end r q p ms was fires arrives leaves = record {
     at_mtu : (p.responder.mtu ≡ q.responder.mtu) × (p.state ≡ q.state) → is_connected p.state ≡ true → option_map_or (λ n. n.mtu) (s.naming q.queue) 0 ≡ p.responder.mtu
     at_mtu alike connected = ap (λ (t : Past). option_map_or (λ (n : Naming). n.mtu) (t.naming q.queue) 0) {x = kept s} {y = kept r} same ∙ was.mtu (ap is_connected (sym alike.1) ∙ connected) ∙ sym alike.0
 
-    at_sends : IsOn (known_of l q) (progress_at_hand s q.queue) p × (is_sending q.state ≡ true) → IsFollowed (lore_of (at_end s) q.queue) p
+    at_sends : IsOn (known_of l q) (progress_at_hand s q.queue) p × (is_sending q.state ≡ true) → IsFollowed (queue_past (at_end s) q.queue) p
     at_sends so = record {
       begin = begun.begin;
       is = ap (λ t. start_of t q.queue) {x = kept s} {y = kept r} same ∙ begun.is;
@@ -239,8 +238,8 @@ explained-end r q p ms was fires arrives leaves = record {
 
 -- what is told of another queue pair
 pub others-told : (r : Past) (name n : QueueId) (ms : List Mark) → queue_eq name n ≡ false → IfSome r.at_hand.fired (λ m. m ≡ name) → IfSome r.at_hand.arrival (λ a. a.target ≡ name) → kept (after_marks ms r) ≡ kept r → KeepsFaults name r (after_marks ms r)
-    → lore_of (at_end (after_marks ms r)) n ≡ lore_of r n
-others-told r name n ms other fires arrives same keeps = lore-path (lore_of (at_end s) n) (lore_of r n)
+    → queue_past (at_end (after_marks ms r)) n ≡ queue_past r n
+others-told r name n ms other fires arrives same keeps = queue-past-path (queue_past (at_end s) n) (queue_past r n)
     (others-end s name (life n (s.incarnation n)) (subst (λ t. IfSome t.at_hand.arrival (λ a. a.target ≡ name)) {x = kept r} {y = kept s} (sym same) arrives) (other-life name n (s.incarnation name) (s.incarnation n) other)
     ∙ keeps.others (life n (s.incarnation n)) (other-life name n (r.incarnation name) (s.incarnation n) other) ∙ ap (λ i. r.faults (life n (i n))) keeps.incarnation)
     (ap (λ (t : Past). t.posted (present_incarnation t n)) {x = kept s} {y = kept r} same)
@@ -253,17 +252,17 @@ others-told r name n ms other fires arrives same keeps = lore-path (lore_of (at_
     s = after_marks ms r
 
 -- A slot is explained by what the past tells at the end; the others are told of as they were.
-pub slots-agree : (t : Past) (w : World) (name : QueueId) (x : QueueSlot) (pre us : List Update) (ws : List Write) → ((n : QueueId) → queue_eq name n ≡ false → ExplainedInSlot (lore_of t n) (w.queue n)) → ExplainedInSlot (lore_of t name) x
+pub slots-agree : (t : Past) (w : World) (name : QueueId) (x : QueueSlot) (pre us : List Update) (ws : List Write) → ((n : QueueId) → queue_eq name n ≡ false → ExplainedInSlot (queue_past t n) (w.queue n)) → ExplainedInSlot (queue_past t name) x
     → AreAway pre → AreAway us → CausesAgree t (write_all ws (put_all (pre ++ (Queue_of name := x) ∷ us) w))
-slots-agree t w name x pre us ws others own before behind = subst (AreExplained (lore_of t)) (sym (queues-left w name x pre us ws before behind)) (record { slots = λ n. slot n (queue_eq name n) refl })
+slots-agree t w name x pre us ws others own before behind = subst (AreExplained (queue_past t)) (sym (queues-left w name x pre us ws before behind)) (record { slots = λ n. slot n (queue_eq name n) refl })
   where
-    slot : (n : QueueId) (b : Bool) → queue_eq name n ≡ b → ExplainedInSlot (lore_of t n) (if b then x else w.queue n)
-    slot n true e = subst (λ m. ExplainedInSlot (lore_of t m) x) (queue-path name n e) own
+    slot : (n : QueueId) (b : Bool) → queue_eq name n ≡ b → ExplainedInSlot (queue_past t n) (if b then x else w.queue n)
+    slot n true e = subst (λ m. ExplainedInSlot (queue_past t m) x) (queue-path name n e) own
     slot n false e = others n e
 
 -- The marks of a story pass, and keep the agreement.
-pub left-agrees : (r : Past) (w : World) (q p : QueuePair) (pre us : List Update) (ws : List Write) (ms : List Mark) → ((n : QueueId) → queue_eq q.queue n ≡ false → ExplainedInSlot (lore_of r n) (w.queue n)) → IsExplained (lore_of r q.queue) q
-    → IfSome r.at_hand.fired (λ n. n ≡ q.queue) → IfSome r.at_hand.arrival (λ a. a.target ≡ q.queue) → Leaves (known_of (lore_of r q.queue) q) q p r ms → AreAway pre → AreAway us
+pub left-agrees : (r : Past) (w : World) (q p : QueuePair) (pre us : List Update) (ws : List Write) (ms : List Mark) → ((n : QueueId) → queue_eq q.queue n ≡ false → ExplainedInSlot (queue_past r n) (w.queue n)) → IsExplained (queue_past r q.queue) q
+    → IfSome r.at_hand.fired (λ n. n ≡ q.queue) → IfSome r.at_hand.arrival (λ a. a.target ≡ q.queue) → Leaves (known_of (queue_past r q.queue) q) q p r ms → AreAway pre → AreAway us
     → Passes r (write_all ws (put_all (pre ++ (Queue_of q.queue := Present p) ∷ us) w)) ms
 left-agrees r w q p pre us ws ms others was fires arrives leaves before behind = (
   leaves.left.passes,
@@ -310,10 +309,6 @@ sent-so r (marks.Stored place bytes ∷ ms) sent = absurd sent
 sent-so r (marks.Arrived target index ∷ ms) sent = absurd sent
 sent-so r (marks.Dropped target cause ∷ ms) sent = absurd sent
 sent-so r (marks.Timer queue silent ∷ ms) sent = absurd sent
-
-pub each-append : (ms ns : List Mark) (r : Past) → each_mark completes_with_cause r ms ≡ true → each_mark completes_with_cause (after_marks ms r) ns ≡ true → each_mark completes_with_cause r (ms ++ ns) ≡ true
-each-append [] ns r one other = other
-each-append (m ∷ ms) ns r one other = both-true (completes_with_cause r m) _ (and_parts (completes_with_cause r m) _ one).0 (each-append ms ns (after_mark m r) (and_parts (completes_with_cause r m) _ one).1 other)
 
 -- the progress with an event in which no packet arrived
 abbrev alone_of : Past → QueueId → Progress
@@ -368,7 +363,7 @@ leaves-sent k q p r ms ns alone leaves sent = record {
 
 -- ---- queue pairs in Error and in Reset
 
-pub explained-error : (l : Lore) (p : QueuePair) → p.state ≡ states.Error → is_faulty l.faults ≡ true → IsExplained l p
+pub explained-error : (l : QueuePast) (p : QueuePair) → p.state ≡ states.Error → is_faulty l.faults ≡ true → IsExplained l p
 explained-error l p error faulty = record {
   error = λ is. faulty;
   fresh = λ is. absurd (true≢false (sym is ∙ ap is_fresh error));
@@ -376,7 +371,7 @@ explained-error l p error faulty = record {
   sends = λ is. absurd (true≢false (sym is ∙ ap is_sending error));
 }
 
-pub explained-idle : (l : Lore) (p : QueuePair) → state_eq p.state states.Error ≡ false → is_connected p.state ≡ false → is_sending p.state ≡ false → (p.requester.oldest ≡ 0) × (p.requester.rnrs ≡ 0) → IsExplained l p
+pub explained-idle : (l : QueuePast) (p : QueuePair) → state_eq p.state states.Error ≡ false → is_connected p.state ≡ false → is_sending p.state ≡ false → (p.requester.oldest ≡ 0) × (p.requester.rnrs ≡ 0) → IsExplained l p
 explained-idle l p well unconnected idle fresh = record {
   error = λ is. absurd (true≢false (sym is ∙ well));
   fresh = λ is. fresh;
@@ -385,7 +380,7 @@ explained-idle l p well unconnected idle fresh = record {
 }
 
 -- All that is posted to a queue pair in Error is flushed.
-pub flush-agrees : (r : Past) (w : World) (q p : QueuePair) (us : List Update) → ((n : QueueId) → queue_eq q.queue n ≡ false → ExplainedInSlot (lore_of r n) (w.queue n)) → r.at_hand.fired ≡ None → r.at_hand.arrival ≡ None
+pub flush-agrees : (r : Past) (w : World) (q p : QueuePair) (us : List Update) → ((n : QueueId) → queue_eq q.queue n ≡ false → ExplainedInSlot (queue_past r n) (w.queue n)) → r.at_hand.fired ≡ None → r.at_hand.arrival ≡ None
     → is_faulty (faults_of_queue r q.queue) ≡ true → (f : QueuePair) → f.queue ≡ q.queue → p.state ≡ states.Error → AreAway us → Passes r (put_all ((Queue_of q.queue := Present p) ∷ us) w) (flush_marks f)
 flush-agrees r w q p us others fired arrival faulty f own error away = by (passed-flushes q.queue (flush_marks f) r (subst (λ n. AreFlushes n (flush_marks f)) own (flush-flushes f)) (or-left _ _ faulty))
   where
@@ -405,5 +400,5 @@ flush-agrees r w q p us others fired arrival faulty f own error away = by (passe
       passed.0.passes,
       slots-agree (at_end s) w q.queue (Present p) [] us []
           (λ n other. subst (λ l. ExplainedInSlot l (w.queue n)) (sym (others-told r q.queue n (flush_marks f) other (none_fired r.at_hand.fired fired) (none_arrived r.at_hand.arrival arrival) (keeps-bare r s passed.0.same) passed.0.keeps)) (others n other))
-          (explained-error (lore_of (at_end s) q.queue) p error (faulty-end s q.queue passed.1)) (record {}) away,
+          (explained-error (queue_past (at_end s) q.queue) p error (faulty-end s q.queue passed.1)) (record {}) away,
     )

@@ -180,16 +180,17 @@ pub passed-calm : (name : QueueId) (ms : List Mark) (r : Past) → AreCalm name 
 passed-calm name [] r calm = passed-none name r
 passed-calm name (m ∷ ms) r calm = passed-one name r m ms (calm-pass name m r calm.0) (calm-keeps name m r calm.0) (calm-bare name m r calm.0) (passed-calm name ms (after_mark m r) calm.1)
 
+-- marks that pass, behind others
+pub each-append : (ms ns : List Mark) (r : Past) → each_mark completes_with_cause r ms ≡ true → each_mark completes_with_cause (after_marks ms r) ns ≡ true → each_mark completes_with_cause r (ms ++ ns) ≡ true
+each-append [] ns r one other = other
+each-append (m ∷ ms) ns r one other = both-true (completes_with_cause r m) _ (and_parts (completes_with_cause r m) _ one).0 (each-append ms ns (after_mark m r) (and_parts (completes_with_cause r m) _ one).1 other)
+
 pub passed-append : (name : QueueId) (ms ns : List Mark) (r : Past) → Passed name r ms → Passed name (after_marks ms r) ns → Passed name r (ms ++ ns)
 passed-append name ms ns r one other = record {
-  passes = by ms r one.passes other.passes;
+  passes = each-append ms ns r one.passes other.passes;
   keeps = subst (KeepsFaults name r) (sym (marks-append ms ns r)) (keeps-then name r (after_marks ms r) (after_marks ns (after_marks ms r)) one.keeps other.keeps);
   same = ap bare (marks-append ms ns r) ∙ other.same ∙ one.same;
 }
-  where
-    by : (ms : List Mark) (r : Past) → each_mark completes_with_cause r ms ≡ true → each_mark completes_with_cause (after_marks ms r) ns ≡ true → each_mark completes_with_cause r (ms ++ ns) ≡ true
-    by [] r one other = other
-    by (m ∷ ms) r one other = both-true (completes_with_cause r m) _ (and_parts (completes_with_cause r m) _ one).0 (by ms (after_mark m r) (and_parts (completes_with_cause r m) _ one).1 other)
 
 -- ---- flushes
 

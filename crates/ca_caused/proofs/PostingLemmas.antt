@@ -54,7 +54,7 @@ use Rattle.ca_agree_sends.proofs.TurnLemmas.{AreAway}
 use Rattle.ca_caused.proofs.EndLemmas.{Passes, flush-agrees, slots-agree}
 use Rattle.ca_caused.proofs.TurnLemmas.{IsMet, arrival-met, cause-arrive, was-there}
 use Rattle.ca_caused.proofs.VerbLemmas.{AreKept, CausingBy, IsKept, cause-kept, still-followed}
-use Rattle.ca_caused.specs.Explained.{CausesAgree, ExplainedInSlot, IsExplained, IsFollowed, Lore, lore_of}
+use Rattle.ca_caused.specs.Explained.{CausesAgree, ExplainedInSlot, IsExplained, IsFollowed, QueuePast, queue_past}
 use Rattle.ca_model.specs.Past.{after_mark}
 use Rattle.ca_model.specs.machine.Completions.{flush_marks}
 use Rattle.ca_keys.specs.Equal.{queue_eq}
@@ -78,7 +78,7 @@ in-error states.Sqd e = absurd (true≢false (sym e))
 in-error states.Error e = refl
 
 -- a queue pair in Error flushes what is posted at once; else it is explained as it was
-flushes-posted : (r : Past) (w : World) (q p : QueuePair) (us : List Update) → ((n : QueueId) → queue_eq q.queue n ≡ false → ExplainedInSlot (lore_of r n) (w.queue n)) → r.at_hand.fired ≡ None → r.at_hand.arrival ≡ None → IsExplained (lore_of r q.queue) p
+flushes-posted : (r : Past) (w : World) (q p : QueuePair) (us : List Update) → ((n : QueueId) → queue_eq q.queue n ≡ false → ExplainedInSlot (queue_past r n) (w.queue n)) → r.at_hand.fired ≡ None → r.at_hand.arrival ≡ None → IsExplained (queue_past r q.queue) p
     → (CausesAgree (at_end r) (put_all ((Queue_of q.queue := Present p) ∷ us) w)) → p.queue ≡ q.queue → AreAway us
     → Passes r (put_all ((Queue_of q.queue := Present (after_flush p)) ∷ us) w) (marks_of_flush p)
 flushes-posted r w q p us others fired arrival is well own away = by (state_eq p.state states.Error) refl
@@ -93,7 +93,7 @@ take-within [] ys (suc i) less = absurd (omega (arith, less))
 take-within (x ∷ xs) ys (suc i) less = ap (λ zs. x ∷ zs) (take-within xs ys i (omega (arith, less)))
 
 -- one more is posted behind all that are there
-more-posted : (l : Lore) (x : Posted) (q p : QueuePair) → q.requester.oldest ≤ length l.posted → p.requester ≡ q.requester → p.responder.mtu ≡ q.responder.mtu → p.state ≡ q.state → IsExplained l q → IsExplained (record l { posted = l.posted ++ (x ∷ []) }) p
+more-posted : (l : QueuePast) (x : Posted) (q p : QueuePair) → q.requester.oldest ≤ length l.posted → p.requester ≡ q.requester → p.responder.mtu ≡ q.responder.mtu → p.state ≡ q.state → IsExplained l q → IsExplained (record l { posted = l.posted ++ (x ∷ []) }) p
 more-posted l x q p few requester mtu state is = record {
   error = λ e. is.error (ap (λ s. state_eq s states.Error) (sym state) ∙ e);
   fresh = λ e. subst (λ (r : RequesterNumbers). (r.oldest ≡ 0) × (r.rnrs ≡ 0)) (sym requester) (is.fresh (ap is_fresh (sym state) ∙ e));
@@ -116,7 +116,7 @@ more-posted l x q p few requester mtu state is = record {
     }
 
 -- a queue pair of which nothing is changed that is explained
-pub like-explained : (l : Lore) (q p : QueuePair) → p.requester ≡ q.requester → p.responder.mtu ≡ q.responder.mtu → p.state ≡ q.state → IsExplained l q → IsExplained l p
+pub like-explained : (l : QueuePast) (q p : QueuePair) → p.requester ≡ q.requester → p.responder.mtu ≡ q.responder.mtu → p.state ≡ q.state → IsExplained l q → IsExplained l p
 like-explained l q p requester mtu state is = record {
   error = λ e. is.error (ap (λ s. state_eq s states.Error) (sym state) ∙ e);
   fresh = λ e. subst (λ (r : RequesterNumbers). (r.oldest ≡ 0) × (r.rnrs ≡ 0)) (sym requester) (is.fresh (ap is_fresh (sym state) ∙ e));
@@ -156,17 +156,17 @@ posted-causes c past w by s request q drawn window more met there own away = lea
     grown : QueueId → List Posted
     grown n = past.posted (present_incarnation past n) ++ (asked n ∷ [])
 
-    others : (n : QueueId) → queue_eq q.queue n ≡ false → ExplainedInSlot (lore_of r n) (w.queue n)
-    others n other = subst (λ ps. ExplainedInSlot (record (lore_of past n) { posted = ps }) (w.queue n)) (sym (ap (λ b. if b then grown (queue_of s) else past.posted (present_incarnation past n))
+    others : (n : QueueId) → queue_eq q.queue n ≡ false → ExplainedInSlot (queue_past r n) (w.queue n)
+    others n other = subst (λ ps. ExplainedInSlot (record (queue_past past n) { posted = ps }) (w.queue n)) (sym (ap (λ b. if b then grown (queue_of s) else past.posted (present_incarnation past n))
         (ap (λ m. correspondent_eq (present_incarnation past m) (present_incarnation past n)) (sym own) ∙ other-life q.queue n (past.incarnation q.queue) (past.incarnation n) other))) (met.agree.slots n)
 
     count : next_place q.sends ≡ length (past.posted (present_incarnation past q.queue))
     count = (subst (AgreeInSlot (past.posted (present_incarnation past q.queue)) (past.performed (present_incarnation past q.queue))) there.present (met.posted.agree.sends q.queue)).count
 
-    explained : IsExplained (lore_of r q.queue) posted
-    explained = subst (λ ps. IsExplained (record (lore_of past q.queue) { posted = ps }) posted) (sym (ap (λ n. with_at correspondent_eq past.posted (present_incarnation past n) (grown n) (present_incarnation past q.queue)) (sym own)
+    explained : IsExplained (queue_past r q.queue) posted
+    explained = subst (λ ps. IsExplained (record (queue_past past q.queue) { posted = ps }) posted) (sym (ap (λ n. with_at correspondent_eq past.posted (present_incarnation past n) (grown n) (present_incarnation past q.queue)) (sym own)
         ∙ ap (λ b. if b then grown q.queue else past.posted (present_incarnation past q.queue)) (life-refl (present_incarnation past q.queue))))
-        (more-posted (lore_of past q.queue) (asked q.queue) q posted (omega (arith, count, there.sound.requester.begun, there.sound.requester.waiting)) refl refl refl (was-there past w q met.agree there))
+        (more-posted (queue_past past q.queue) (asked q.queue) q posted (omega (arith, count, there.sound.requester.begun, there.sound.requester.waiting)) refl refl refl (was-there past w q met.agree there))
 
 pub cause-post_send : (c : Configuration) (past : Past) (w : World) (by : ℕ) (s : Slot) (request : SendRequest) → IsMet c past w
     → Leads w (CausingBy past by (verbs.PostSend s request)) (post_send_plan (call_of by (verbs.PostSend s request)) s request)
@@ -222,8 +222,8 @@ cause-post_recv c past w by s request met = agrees-present c w P call s _ met.po
     after : QueuePair → QueuePair
     after q = record q { receives = option_map (with_item request) q.receives }
 
-    explained : (q : QueuePair) → IsThere w q → IsExplained (lore_of past q.queue) (after q)
-    explained q there = like-explained (lore_of past q.queue) q (after q) refl refl refl (was-there past w q met.agree there)
+    explained : (q : QueuePair) → IsThere w q → IsExplained (queue_past past q.queue) (after q)
+    explained q there = like-explained (queue_past past q.queue) q (after q) refl refl refl (was-there past w q met.agree there)
 
     us : QueuePair → List Update
     us q = (Cq_of (recv_cq_of q) := option_map (after_puts (completions_to q q.recv_cq (marks_of_flush (after q)))) (w.cq (recv_cq_of q))) ∷ []
@@ -318,7 +318,7 @@ polled-like name (x ∷ xs) q p is = polled-like name xs q (if queue_eq x.queue 
     by true false = record { requester = is.requester; mtu = is.mtu; state = is.state }
     by false r = is
 
-polled-kept : (name : QueueId) (polled : List Completion) (slot : QueueSlot) (fs : Lore) → ExplainedInSlot fs slot → ExplainedInSlot fs (slot_after_poll name polled slot)
+polled-kept : (name : QueueId) (polled : List Completion) (slot : QueueSlot) (fs : QueuePast) → ExplainedInSlot fs slot → ExplainedInSlot fs (slot_after_poll name polled slot)
 polled-kept name polled (NoQueue incarnation timers) fs was = record {}
 polled-kept name polled (Present p) fs was = by (polled-like name polled p p (record { requester = refl; mtu = refl; state = refl }))
   where

@@ -19,7 +19,7 @@ use Rattle.ca_caused.proofs.RequestStoryLemmas.{arrival-story, occasion_of, resp
 use Rattle.ca_caused.proofs.ResponseStoryLemmas.{OnwardOf, RowStory, StoryOf, denied-by, failed}
 use Rattle.ca_caused.proofs.StoryLemmas.{AreCalm, calm-append, goes, on}
 use Rattle.ca_caused.proofs.SuchLemmas.{leads-such}
-use Rattle.ca_caused.specs.Explained.{CausesAgree, ExplainedInSlot, IsExplained, lore_of}
+use Rattle.ca_caused.specs.Explained.{CausesAgree, ExplainedInSlot, IsExplained, queue_past}
 use Rattle.ca_keys.specs.Refusals.{AllFail}
 use Rattle.ca_laws_sound.proofs.SettledLemmas.{queue-refl}
 use Rattle.ca_model.specs.Packets.{packet_of}
@@ -154,24 +154,24 @@ sent-away q peer m lot (Some x) = by (reaches_peer q peer m)
 
 -- what is known of it
 abbrev pub Known_of : Past → QueuePair → Known
-Known_of past q = known_of (lore_of past q.queue) q
+Known_of past q = known_of (queue_past past q.queue) q
 
-pub was-there : (past : Past) (w : World) (q : QueuePair) → CausesAgree past w → IsThere w q → IsExplained (lore_of past q.queue) q
-was-there past w q agree there = subst (ExplainedInSlot (lore_of past q.queue)) there.present (agree.slots q.queue)
+pub was-there : (past : Past) (w : World) (q : QueuePair) → CausesAgree past w → IsThere w q → IsExplained (queue_past past q.queue) q
+was-there past w q agree there = subst (ExplainedInSlot (queue_past past q.queue)) there.present (agree.slots q.queue)
 
 -- it is up where it sends
-up-there : (c : Configuration) (past : Past) (w : World) (q : QueuePair) → IsMet c past w → IsThere w q → is_sending q.state ≡ true → IsUp (Known_of past q) (lore_of past q.queue).progress q
+up-there : (c : Configuration) (past : Past) (w : World) (q : QueuePair) → IsMet c past w → IsThere w q → is_sending q.state ≡ true → IsUp (Known_of past q) (queue_past past q.queue).progress q
 up-there c past w q met there sending = record {
   ready = ready-there c past w q met.posted there;
   sound = there.sound;
   steady = (there-kept w q met.posted.steady there).is;
   sending = sending;
   known = sending;
-  on = followed-on (lore_of past q.queue) q ((was-there past w q met.agree there).sends sending);
+  on = followed-on (queue_past past q.queue) q ((was-there past w q met.agree there).sends sending);
 }
 
-on-there : (past : Past) (w : World) (q : QueuePair) → CausesAgree past w → IsThere w q → is_sending q.state ≡ true → IsOn (Known_of past q) (lore_of past q.queue).progress q
-on-there past w q agree there sending = followed-on (lore_of past q.queue) q ((was-there past w q agree there).sends sending)
+on-there : (past : Past) (w : World) (q : QueuePair) → CausesAgree past w → IsThere w q → is_sending q.state ≡ true → IsOn (Known_of past q) (queue_past past q.queue).progress q
+on-there past w q agree there sending = followed-on (queue_past past q.queue) q ((was-there past w q agree there).sends sending)
 
 drop-map : {A B : Type 0} (f : A → B) (i : ℕ) (xs : List A) → drop i (map f xs) ≡ map f (drop i xs)
 drop-map f zero xs = refl
@@ -229,7 +229,7 @@ story-agrees : (r : Past) (w : World) (q : QueuePair) (o : Occasion) (e : Effect
 story-agrees r w q o e pre us ws agree there occurs fires arrives story before behind = left-agrees r w q e.queue pre us ws e.marks (λ n other. agree.slots n) was fires arrives
     (story-leaves (Known_of r q) o q e.queue e.marks r (record { posted = refl; occasion = occurs; sends = followed-tied r q was }) refl was.error story) before behind
   where
-    was : IsExplained (lore_of r q.queue) q
+    was : IsExplained (queue_past r q.queue) q
     was = was-there r w q agree there
 
 -- ---- the responder's turn, timers and arrivals
@@ -257,7 +257,7 @@ cause-leave c past event w q peer lot row met there does = leads-such c w (Causi
     (record {}) (away-append (cq_updates q a e.marks ++ (if e.takes_shared then srq_updates q a after_receive_take else [])) (cs ++ option_map_or (sent_updates q peer m lot) (packet_sent e) []) (turn-away q a e)
     (away-append cs (option_map_or (sent_updates q peer m lot) (packet_sent e) []) (aside-away cs aside) (sent-away q peer m lot (packet_sent e)))))
   where
-    was : IsExplained (lore_of past q.queue) q
+    was : IsExplained (queue_past past q.queue) q
     was = was-there past w q met.agree there
 
     a : Around
@@ -304,10 +304,10 @@ cause-timeout c past w name hasten met =
         start : Past
         start = at_begin (events.Timeout name hasten) past
 
-        up : is_sending q.state ≡ true → IsUp (Known_of past q) (lore_of past q.queue).progress counted
+        up : is_sending q.state ≡ true → IsUp (Known_of past q) (queue_past past q.queue).progress counted
         up sending = record { ready = record { at = was.ready.at; first = was.ready.first; last = was.ready.last }; sound = timed-queue q was.sound; known = sending; on = record { una = was.on.una; retries = was.on.retries; rnrs = was.on.rnrs; retry = was.on.retry; rnr_retry = was.on.rnr_retry; mtu = was.on.mtu; first = was.on.first; patience = was.on.patience }; steady = record { unfinished = was.steady.unfinished; oldest = was.steady.oldest; reads = was.steady.reads; ends = was.steady.ends; packets = was.steady.packets }; sending = sending }
           where
-            was : IsUp (Known_of past q) (lore_of past q.queue).progress q
+            was : IsUp (Known_of past q) (queue_past past q.queue).progress q
             was = up-there c past w q met there sending
 
         fired : Passes (after_mark (marks.Timer q.queue silent) start) (put_all (updates_of q a e) w) f.marks → P (put_all (updates_of q a e) w) e.marks
@@ -594,7 +594,7 @@ cause-request c past w name lot met = leads-queue c w P name reasons.State (λ q
         d = done_by c w q n n.request.op
     by q there None (Sends n) is = record {}
     by q there (Some peer) (Sends n) is = cause-leave c past (events.Request name lot) w q peer lot (packet_row q (has_room_for q peer (w.mailbox peer.queue)) n) met there
-        (sent-story (Known_of past q) q (has_room_for q peer (w.mailbox peer.queue)) n (λ d none listed. denied-story (Known_of past q) (lore_of past q.queue).progress q n d (up-there c past w q met there sent.sending) sent.next none listed) (on-there past w q met.agree there sent.sending) sent.sending)
+        (sent-story (Known_of past q) q (has_room_for q peer (w.mailbox peer.queue)) n (λ d none listed. denied-story (Known_of past q) (queue_past past q.queue).progress q n d (up-there c past w q met there sent.sending) sent.next none listed) (on-there past w q met.agree there sent.sending) sent.sending)
       where
         sent : IsSentTurn q n
         sent = sends-next q n is

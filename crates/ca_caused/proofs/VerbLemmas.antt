@@ -17,7 +17,7 @@ use Rattle.ca_base.specs.declared.change.State.TheVariants as states
 use Rattle.ca_base.specs.objects.StateTable.{state_eq}
 use Rattle.ca_model.specs.Past.{ErrorByVerb}
 use Rattle.ca_laws_sound.proofs.WorldLemmas.{IsThere}
-use Rattle.ca_caused.specs.Explained.{AreExplained, CausesAgree, ExplainedInSlot, IsExplained, IsFollowed, Lore, is_faulty, lore_of}
+use Rattle.ca_caused.specs.Explained.{AreExplained, CausesAgree, ExplainedInSlot, IsExplained, IsFollowed, QueuePast, is_faulty, queue_past}
 use Rattle.ca_base.specs.Configuration.{Configuration}
 use Rattle.ca_base.specs.declared.change.Change as state_change
 use Rattle.ca_base.specs.declared.change.Change.TheVariants as changes
@@ -70,11 +70,11 @@ CausingBy past by verb = Causing past (events.Verb by verb)
 
 -- a world whose queue pairs have the sends of another's
 pub record KeepsSlots (w v : World) : Type 0 where
-  pub slots : (n : QueueId) (fs : Lore) → ExplainedInSlot fs (w.queue n) → ExplainedInSlot fs (v.queue n)
+  pub slots : (n : QueueId) (fs : QueuePast) → ExplainedInSlot fs (w.queue n) → ExplainedInSlot fs (v.queue n)
 
 -- a change that leaves them
 abbrev pub IsKept : World → (n : Name) → Thing n → Type 0
-IsKept w (Queue_of q) s = (fs : Lore) → ExplainedInSlot fs (w.queue q) → ExplainedInSlot fs s
+IsKept w (Queue_of q) s = (fs : QueuePast) → ExplainedInSlot fs (w.queue q) → ExplainedInSlot fs s
 IsKept w n x = Unit {0}
 
 abbrev pub AreKept : World → List Update → Type 0
@@ -84,7 +84,7 @@ AreKept w (x ∷ xs) = IsKept w x.name x.thing × AreKept w xs
 kept-put : (w v : World) (n : Name) (x : Thing n) → IsKept w n x → KeepsSlots w v → KeepsSlots w (put v n x)
 kept-put w v (Queue_of q) x kept keeps = record { slots = λ n fs. at n fs (queue_eq q n) refl }
   where
-    at : (n : QueueId) (fs : Lore) (b : Bool) → queue_eq q n ≡ b → ExplainedInSlot fs (w.queue n) → ExplainedInSlot fs (if b then x else v.queue n)
+    at : (n : QueueId) (fs : QueuePast) (b : Bool) → queue_eq q n ≡ b → ExplainedInSlot fs (w.queue n) → ExplainedInSlot fs (if b then x else v.queue n)
     at n fs true e was = kept fs (subst (λ m. ExplainedInSlot fs (w.queue m)) (sym (queue-path q n e)) was)
     at n fs false e was = keeps.slots n fs was
 kept-put w v (Window_of s) x kept keeps = record { slots = keeps.slots }
@@ -108,7 +108,7 @@ cause-kept r w us agree kept = by (kept-puts w w us kept (record { slots = λ n 
 -- ---- a queue pair begins a life, in Reset
 
 -- what is told of each queue pair where one begins a life
-abbrev born : Past → QueueId → (QueueId → Option Naming) → QueueId → Lore
+abbrev born : Past → QueueId → (QueueId → Option Naming) → QueueId → QueuePast
 born past name naming n = record {
   faults = past.faults (life n (with_at queue_eq past.incarnation name (suc (past.incarnation name)) n));
   posted = past.posted (life n (with_at queue_eq past.incarnation name (suc (past.incarnation name)) n));
@@ -122,7 +122,7 @@ new-life : (past : Past) (w : World) (name : QueueId) (naming : QueueId → Opti
 new-life past w name naming p pre us agree same reset fresh before behind = subst (AreExplained (born past name naming))
     (sym (queues-left w name (Present p) pre us [] before behind)) (record { slots = λ n. ours n (queue_eq name n) refl (same n) })
   where
-    told : (n : QueueId) → Bool → Option Naming → Lore
+    told : (n : QueueId) → Bool → Option Naming → QueuePast
     told n b x = record {
       faults = past.faults (life n (if b then suc (past.incarnation name) else past.incarnation n));
       posted = past.posted (life n (if b then suc (past.incarnation name) else past.incarnation n));
@@ -262,7 +262,7 @@ from-sqd states.Sqd e = (refl, refl)
 from-sqd states.Error e = absurd (true≢false e)
 
 -- a queue pair that sends in another state
-pub still-followed : (l : Lore) (q p : QueuePair) → p.requester ≡ q.requester → p.responder.mtu ≡ q.responder.mtu → IsFollowed l q → IsFollowed l p
+pub still-followed : (l : QueuePast) (q p : QueuePair) → p.requester ≡ q.requester → p.responder.mtu ≡ q.responder.mtu → IsFollowed l q → IsFollowed l p
 still-followed l q p requester mtu is = record {
   begin = is.begin;
   is = is.is;
@@ -279,7 +279,7 @@ still-followed l q p requester mtu is = record {
 error-agrees : (past : Past) (w : World) (by : ℕ) (s : Slot) (q : QueuePair) (us : List Update) → CausesAgree past w → q.queue ≡ queue_of s → AreAway us
     → Passes (Behind past by (verbs.ModifyQp s changes.Error) answers.Fine) (put_all ((Queue_of q.queue := Present (queue_after_change changes.Error q)) ∷ us) w) (flush_marks q)
 error-agrees past w by s q us agree own away = flush-agrees (Behind past by (verbs.ModifyQp s changes.Error) answers.Fine) w q (queue_after_change changes.Error q) us
-    (λ n other. subst (λ fs. ExplainedInSlot (record (lore_of past n) { faults = fs }) (w.queue n)) (sym (faults-other past (queue_of s) q.queue (ErrorByVerb ∷ []) (life n (past.incarnation n)) (sym own) (other-life q.queue n (past.incarnation q.queue) (past.incarnation n) other))) (agree.slots n))
+    (λ n other. subst (λ fs. ExplainedInSlot (record (queue_past past n) { faults = fs }) (w.queue n)) (sym (faults-other past (queue_of s) q.queue (ErrorByVerb ∷ []) (life n (past.incarnation n)) (sym own) (other-life q.queue n (past.incarnation q.queue) (past.incarnation n) other))) (agree.slots n))
     refl refl (ap is_faulty (faults-own past (queue_of s) q.queue (ErrorByVerb ∷ []) (sym own))) q refl refl away
 
 -- an Rtr names the peer and the path MTU
@@ -287,7 +287,7 @@ rtr-agrees : (past : Past) (w : World) (by : ℕ) (s : Slot) (q : QueuePair) (pe
     → CausesAgree (at_end (Behind past by (verbs.ModifyQp s (changes.Rtr peer incarnation psn mtu rnr_code)) answers.Fine)) (put_all ((Queue_of q.queue := Present (queue_after_change (changes.Rtr peer incarnation psn mtu rnr_code) q)) ∷ us) w)
 rtr-agrees past w by s q peer incarnation psn mtu rnr_code us agree there own fresh away = slots-agree (at_end (Behind past by (verbs.ModifyQp s (changes.Rtr peer incarnation psn mtu rnr_code)) answers.Fine)) w q.queue
     (Present (queue_after_change (changes.Rtr peer incarnation psn mtu rnr_code) q)) [] us []
-    (λ n other. subst (λ x. ExplainedInSlot (record (lore_of past n) { naming = x }) (w.queue n)) (sym (ap (λ b. if b then Some (named past) else past.naming n) (ap (λ m. queue_eq m n) (sym own) ∙ other))) (agree.slots n))
+    (λ n other. subst (λ x. ExplainedInSlot (record (queue_past past n) { naming = x }) (w.queue n)) (sym (ap (λ b. if b then Some (named past) else past.naming n) (ap (λ m. queue_eq m n) (sym own) ∙ other))) (agree.slots n))
     (record {
       error = λ is. absurd (true≢false (sym is));
       fresh = λ is. (was-there past w q agree there).fresh fresh;
@@ -323,27 +323,27 @@ rts-agrees past w by s q psn retry rnr_retry reads agree there own states_are = 
     r : Past
     r = at_end (Behind past by (verbs.ModifyQp s (changes.Rts psn retry rnr_retry reads)) answers.Fine)
 
-    was : IsExplained (lore_of past q.queue) q
+    was : IsExplained (queue_past past q.queue) q
     was = was-there past w q agree there
 
     begin : Start
     begin = record { own = present_incarnation past (queue_of s); psn = psn; retry = retry; rnr_retry = rnr_retry }
 
-    told : QueueId → Bool → Lore
-    told n b = record (lore_of past n) { start = if b then Some begin else start_of past n; progress = if b then progress_from (PSN_BASE + psn) else past.progress (present_incarnation past n) }
+    told : QueueId → Bool → QueuePast
+    told n b = record (queue_past past n) { start = if b then Some begin else start_of past n; progress = if b then progress_from (PSN_BASE + psn) else past.progress (present_incarnation past n) }
 
 -- a change between Rts and Sqd
-moved-agrees : (past r : Past) (w : World) (q p : QueuePair) → CausesAgree past w → IsThere w q → ((n : QueueId) → lore_of r n ≡ lore_of past n) → (is_sending q.state ≡ true) × (is_connected q.state ≡ true) → p.requester ≡ q.requester → p.responder.mtu ≡ q.responder.mtu
+moved-agrees : (past r : Past) (w : World) (q p : QueuePair) → CausesAgree past w → IsThere w q → ((n : QueueId) → queue_past r n ≡ queue_past past n) → (is_sending q.state ≡ true) × (is_connected q.state ≡ true) → p.requester ≡ q.requester → p.responder.mtu ≡ q.responder.mtu
     → state_eq p.state states.Error ≡ false → is_fresh p.state ≡ false → CausesAgree r (put_all ((Queue_of q.queue := Present p) ∷ []) w)
 moved-agrees past r w q p agree there same states_are requester mtu well begun = slots-agree r w q.queue (Present p) [] [] [] (λ n other. subst (λ l. ExplainedInSlot l (w.queue n)) (sym (same n)) (agree.slots n))
     (subst (λ l. IsExplained l p) (sym (same q.queue)) (record {
       error = λ is. absurd (true≢false (sym is ∙ well));
       fresh = λ is. absurd (true≢false (sym is ∙ begun));
       mtu = λ is. was.mtu states_are.1 ∙ sym mtu;
-      sends = λ is. still-followed (lore_of past q.queue) q p requester mtu (was.sends states_are.0);
+      sends = λ is. still-followed (queue_past past q.queue) q p requester mtu (was.sends states_are.0);
     })) (record {}) (record {})
   where
-    was : IsExplained (lore_of past q.queue) q
+    was : IsExplained (queue_past past q.queue) q
     was = was-there past w q agree there
 
 pub cause-modify : (c : Configuration) (past : Past) (w : World) (by : ℕ) (s : Slot) (change : state_change.Change) → IsMet c past w
@@ -376,7 +376,7 @@ cause-modify c past w by s changes.Init met = agrees-present c w (CausingBy past
     (λ fails. (
       refl,
       slots-agree (at_end (Behind past by (verbs.ModifyQp s changes.Init) answers.Fine)) w q.queue (Present (queue_after_change changes.Init q)) [] [] [] (λ n other. met.agree.slots n)
-          (explained-idle (lore_of past q.queue) (queue_after_change changes.Init q) refl refl refl ((was-there past w q met.agree (found c w q.queue q met.posted.sound is)).fresh (from-reset q.state fails.0))) (record {}) (record {}),
+          (explained-idle (queue_past past q.queue) (queue_after_change changes.Init q) refl refl refl ((was-there past w q met.agree (found c w q.queue q met.posted.sound is)).fresh (from-reset q.state fails.0))) (record {}) (record {}),
     )))
 cause-modify c past w by s (changes.Rts psn retry rnr_retry reads) met = agrees-present c w (CausingBy past by (verbs.ModifyQp s (changes.Rts psn retry rnr_retry reads))) (call_of by (verbs.ModifyQp s (changes.Rts psn retry rnr_retry reads))) s _ met.posted.sound (refl, met.agree) (λ q is name.
     cause-change c w (CausingBy past by (verbs.ModifyQp s (changes.Rts psn retry rnr_retry reads))) (call_of by (verbs.ModifyQp s (changes.Rts psn retry rnr_retry reads))) q (changes.Rts psn retry rnr_retry reads)
@@ -400,7 +400,7 @@ cause-destroy c past w by s met = agrees-present c w P call s _ met.posted.sound
     (leads-unless w P ((nat_lt 0 q.windows, WindowsBound) ∷ []) (Refuse_plan call) (ending q (around_in w q (shared_of w q))) (λ r. (refl, met.agree)) (
       refl,
       slots-agree (at_end (Behind past by (verbs.DestroyQp s) answers.Fine)) w q.queue (NoQueue q.incarnation q.requester.timers) ((Domain_of s.domain := without_object (w.domain s.domain)) ∷ []) (rest q (around_in w q (shared_of w q))) []
-          (λ n other. subst (λ x. ExplainedInSlot (record (lore_of past n) { naming = x }) (w.queue n)) (sym (named-none past (queue_of s) n (ap (λ m. queue_eq m n) (sym name) ∙ other))) (met.agree.slots n)) (record {})
+          (λ n other. subst (λ x. ExplainedInSlot (record (queue_past past n) { naming = x }) (w.queue n)) (sym (named-none past (queue_of s) n (ap (λ m. queue_eq m n) (sym name) ∙ other))) (met.agree.slots n)) (record {})
           (record {}, record {}) (record {}, (record {}, (record {}, left q (around_in w q (shared_of w q)) q.srq (around_in w q (shared_of w q)).shared))),
     )))
   where

@@ -14,15 +14,15 @@ use Rattle.ca_model.specs.machine.Invariants.{is_connected, is_fresh, is_sending
 use Rattle.ca_model.specs.machine.World.{World}
 
 -- what a past tells of a queue pair in its present incarnation
-pub record Lore : Type 0 where
+pub record QueuePast : Type 0 where
   pub faults : List Fault
   pub posted : List Posted
   pub naming : Option Naming
   pub start : Option Start
   pub progress : Progress
 
-abbrev pub lore_of : Past → QueueId → Lore
-lore_of past q = record {
+abbrev pub queue_past : Past → QueueId → QueuePast
+queue_past past q = record {
   faults = past.faults (present_incarnation past q);
   posted = past.posted (present_incarnation past q);
   naming = past.naming q;
@@ -37,7 +37,7 @@ is_faulty faults = is_some (slice_get faults 0)
 -- A queue pair that sends began with an Rts that the past tells of, with its limits of retries. The first PSN of its
 -- oldest unfinished request is the one behind those of the requests that were posted before, and its progress is the one
 -- that the past tells. It has no more RNR NAKs than it bears, unless it bears them without end.
-pub record IsFollowed (l : Lore) (q : QueuePair) : Type 0 where
+pub record IsFollowed (l : QueuePast) (q : QueuePair) : Type 0 where
   pub begin : Start
   pub is : l.start ≡ Some begin
   pub retry : begin.retry ≡ q.requester.retry
@@ -50,21 +50,21 @@ pub record IsFollowed (l : Lore) (q : QueuePair) : Type 0 where
 
 -- In Error a queue pair has its faults; before Rts it finished nothing; from its Rtr on it has that path MTU; and one that
 -- sends is followed.
-pub record IsExplained (l : Lore) (q : QueuePair) : Type 0 where
+pub record IsExplained (l : QueuePast) (q : QueuePair) : Type 0 where
   pub error : state_eq q.state states.Error ≡ true → is_faulty l.faults ≡ true
   pub fresh : is_fresh q.state ≡ true → (q.requester.oldest ≡ 0) × (q.requester.rnrs ≡ 0)
   pub mtu : is_connected q.state ≡ true → option_map_or (λ n. n.mtu) l.naming 0 ≡ q.responder.mtu
   pub sends : is_sending q.state ≡ true → IsFollowed l q
 
 -- the same of what stands in a slot
-abbrev pub ExplainedInSlot : Lore → QueueSlot → Type 0
+abbrev pub ExplainedInSlot : QueuePast → QueueSlot → Type 0
 ExplainedInSlot l (NoQueue incarnation timers) = Unit {0}
 ExplainedInSlot l (Present q) = IsExplained l q
 
 -- Each queue pair is explained by what is told of its present incarnation.
-pub record AreExplained (lore : QueueId → Lore) (queue : QueueId → QueueSlot) : Type 0 where
-  pub slots : (q : QueueId) → ExplainedInSlot (lore q) (queue q)
+pub record AreExplained (pasts : QueueId → QueuePast) (queue : QueueId → QueueSlot) : Type 0 where
+  pub slots : (q : QueueId) → ExplainedInSlot (pasts q) (queue q)
 
 -- what a past and a world say of it
 abbrev pub CausesAgree : Past → World → Type 0
-CausesAgree past w = AreExplained (lore_of past) w.queue
+CausesAgree past w = AreExplained (queue_past past) w.queue
