@@ -11,3 +11,4 @@ pub mod TurnLemmas
 pub mod VerbLemmas
 pub mod PostingLemmas
 pub mod EventLemmas
+pub mod RestLemmas

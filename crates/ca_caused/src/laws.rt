@@ -6,8 +6,10 @@ ghost use Rattle.ca_agree_posts.specs.Posts.{PostsAgree};
 ghost use Rattle.ca_base.specs.Configuration.{Configuration};
 ghost use Rattle.ca_caused.specs.Causes.{DoCompleteWithCauses};
 ghost use Rattle.ca_caused.specs.Explained.{CausesAgree};
+ghost use Rattle.ca_caused.specs.Rest.{DoHaveTheRest};
 ghost use Rattle.ca_keys.specs.Memory.{ByteMap};
 ghost use Rattle.ca_laws_steady.specs.Steady.{IsSteadyWorld};
+ghost use Rattle.ca_model.specs.Caused.{Caused};
 ghost use Rattle.ca_model.specs.Entries.{EntryValue};
 ghost use Rattle.ca_model.specs.Past.{Past, after_marks, at_begin, at_end, opening_past};
 ghost use Rattle.ca_model.specs.declared.event.Event.{Event};
@@ -43,4 +45,11 @@ pub fn completions_have_their_causes()
     ensures { (c : Configuration) (bytes : ByteMap) (es : List EntryValue) → AreLimited c
         → AllByRecursion (λ e. CanBeMade e.event) es → Follows c bytes es
         → DoCompleteWithCauses bytes es }
+{}
+
+/// A history is Caused where each completion has the cause that is told without the link, and the rest: of a receive its
+/// list, and on a clean connection what befell the peer. It is so of any history, whatever its marks are.
+pub fn causes_and_rest_are_caused()
+    ensures { (bytes : ByteMap) (es : List EntryValue) → DoCompleteWithCauses bytes es → DoHaveTheRest bytes es
+        → Caused bytes es }
 {}
