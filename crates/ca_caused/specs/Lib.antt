@@ -1,0 +1,3 @@
+pub mod Causes
+pub mod Explained
+pub mod Rest
