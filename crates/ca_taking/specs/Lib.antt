@@ -1,0 +1,5 @@
+pub mod Asking
+pub mod Holding
+pub mod Taking
+pub mod Giving
+pub mod Amid
