@@ -1,0 +1,2 @@
+pub mod ActedLemmas
+pub mod ReceiptLemmas

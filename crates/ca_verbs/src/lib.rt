@@ -1,0 +1,21 @@
+//! The fabric: adapters that threads share, and the passes of their callers.
+//!
+//! To the layers above it promises that each call that answers a receipt is one step of the machine after the entries
+//! before it, in every schedule, and stands in its pass once; and that each other answer has its cause: a part that another
+//! pass had taken, an event that was not possible after the entries that a look of the call counted, or a history that is
+//! full.
+//!
+//! Source: this profile's choice. The standard leaves open how an adapter orders what its consumers do at once.
+#![tactic(auto)]
+
+mod acting;
+mod fabric;
+mod marking;
+mod pass;
+mod try_error;
+mod trying;
+mod verbs;
+
+pub use fabric::Fabric;
+pub use pass::{Pass, Receipt};
+pub use try_error::TryError;
