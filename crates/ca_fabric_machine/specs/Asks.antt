@@ -36,7 +36,7 @@ abbrev pub turn_parts : Configuration → Turn → Needs
 turn_parts c (turns.Request q) = also (event_needs c (events.Request q Pass)) (turn_needs c q peer_mail)
 turn_parts c (turns.Due q) = if has_queue c q then By (Mailbox_of q) (due_needs c q) else Enough
 turn_parts c (turns.Deliver q index) = event_needs c (events.Deliver q index)
-turn_parts c (turns.Respond q) = event_needs c (events.Respond q Pass)
+turn_parts c (turns.Respond q) = also (event_needs c (events.Respond q Pass)) (turn_needs c q peer_mail)
 turn_parts c (turns.Timeout q) = event_needs c (events.Timeout q false)
 turn_parts c (turns.RnrWake q) = event_needs c (events.RnrWake q)
 

@@ -105,7 +105,9 @@ asked-configured c w (asks.Turn turn weather) limited sound fits = of turn
         (parts-configured c w (events.Request q Pass) limited sound fits) (mail-configured c w q fits))
     of (turns.Due q) = due-configured c w q limited sound fits
     of (turns.Deliver q index) = parts-configured c w (events.Deliver q index) limited sound fits
-    of (turns.Respond q) = parts-configured c w (events.Respond q Pass) limited sound fits
+    of (turns.Respond q) = subst (AllByRecursion (λ p. is_configured_part c p ≡ true)) (sym (listed-also w (event_needs c (events.Respond q Pass)) (turn_needs c q peer_mail)))
+        (append-all (λ p. is_configured_part c p ≡ true) (listed w (event_needs c (events.Respond q Pass))) (listed w (turn_needs c q peer_mail))
+        (parts-configured c w (events.Respond q Pass) limited sound fits) (mail-configured c w q fits))
     of (turns.Timeout q) = parts-configured c w (events.Timeout q false) limited sound fits
     of (turns.RnrWake q) = parts-configured c w (events.RnrWake q) limited sound fits
 
@@ -156,7 +158,13 @@ few-asked c w (asks.Turn turn weather) sound = of turn
     )
     of (turns.Due q) = omega (arith, few-due c w q sound)
     of (turns.Deliver q index) = omega (arith, few-event c w (events.Deliver q index) sound)
-    of (turns.Respond q) = omega (arith, few-event c w (events.Respond q Pass) sound)
+    of (turns.Respond q) = omega (
+      arith,
+      ap length (listed-also w (event_needs c (events.Respond q Pass)) (turn_needs c q peer_mail)),
+      length-append (listed w (event_needs c (events.Respond q Pass))) (listed w (turn_needs c q peer_mail)),
+      few-event c w (events.Respond q Pass) sound,
+      few-mail c w q,
+    )
     of (turns.Timeout q) = omega (arith, few-event c w (events.Timeout q false) sound)
     of (turns.RnrWake q) = omega (arith, few-event c w (events.RnrWake q) sound)
 
@@ -197,7 +205,8 @@ module _ (c : Configuration) (held : PartName → Bool) (w : World) where
   turn-enough weather (turns.Deliver q index) event is none =
       subst (λ x. next_part held w (event_needs c x) ≡ None) (some-same (events.Deliver q index) event is) none
   turn-enough weather (turns.Respond q) event is none =
-      let here : next_part held w (event_needs c (events.Respond q (lot_at weather w q))) ≡ None = none in
+      let here : next_part held w (event_needs c (events.Respond q (lot_at weather w q))) ≡ None =
+      none-first held w (event_needs c (events.Respond q Pass)) (turn_needs c q peer_mail) none in
       subst (λ x. next_part held w (event_needs c x) ≡ None) (some-same (events.Respond q (lot_at weather w q)) event is) here
   turn-enough weather (turns.Timeout q) event is none =
       let here : next_part held w (event_needs c (events.Timeout q (hasten_at weather w q))) ≡ None = none in

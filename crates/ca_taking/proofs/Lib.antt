@@ -2,7 +2,7 @@ pub mod PartLemmas
 pub mod CountLemmas
 pub mod HandLemmas
 pub mod SeenLemmas
-mod NextLemmas
+pub mod NextLemmas
 mod GiveLemmas
 pub mod UnpackLemmas
 mod TakeLemmas

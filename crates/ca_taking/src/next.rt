@@ -49,13 +49,7 @@ fn turn_part(settings: &Settings, turn: Turn, held: &Held) -> Option<PartName>
             let event = Event::Deliver { queue, index };
             next_part(settings, &event, held)
         }
-        Turn::Respond(queue) => {
-            let event = Event::Respond {
-                queue,
-                lot: Lot::Pass,
-            };
-            next_part(settings, &event, held)
-        }
+        Turn::Respond(queue) => respond_part(settings, held, queue),
         Turn::Timeout(queue) => {
             let event = Event::Timeout {
                 queue,
@@ -79,6 +73,24 @@ fn request_part(settings: &Settings, held: &Held, queue: QueueId) -> Option<Part
         (turn_parts (configuration_in settings.now) (turns.Request queue)) }
 {
     let event = Event::Request {
+        queue,
+        lot: Lot::Pass,
+    };
+    match next_part(settings, &event, held) {
+        Some(name) => Some(name),
+        None => mail_part(settings, held, queue),
+    }
+}
+
+/// What a response needs: the same.
+fn respond_part(settings: &Settings, held: &Held, queue: QueueId) -> Option<PartName>
+    requires limits { AreLimited (configuration_in settings.now) }
+    requires queues { (q : QueueId) → IfSome (queue_in ((holding held.now).world.queue q)) CanStep }
+    requires shared { (s : Slot) → IfSome ((holding held.now).world.srq s).srq IsSharedReceives }
+    ensures { result ≡ machine.next_part (holding held.now).parts (holding held.now).world
+        (turn_parts (configuration_in settings.now) (turns.Respond queue)) }
+{
+    let event = Event::Respond {
         queue,
         lot: Lot::Pass,
     };

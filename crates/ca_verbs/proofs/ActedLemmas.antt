@@ -1,6 +1,6 @@
 -- An event that is acted with the parts in hand is one step of the machine after every list for which they stand. For proofs
 -- only.
-use Rattle.std.proofs.Common.{◌≡◌, ◌∙◌, refl, sym, ap, subst, ℕ, suc, ◌+◌, ◌<◌, ◌≤◌, ◌-◌, ◌^◌, arith, Bool, true, false, List, [], ◌∷◌, ◌++◌, length, None, Some, Result, Ok, Err, true≢false}
+use Rattle.std.proofs.Common.{◌≡◌, ◌∙◌, refl, sym, ap, subst, ℕ, suc, ◌+◌, ◌<◌, ◌≤◌, ◌-◌, ◌^◌, arith, Bool, true, false, List, [], ◌∷◌, ◌++◌, length, Option, None, Some, Result, Ok, Err, true≢false}
 use Rattle.ca_acts.specs.Act.{Acts, IsAct}
 use Rattle.ca_acts_laws.specs.Steps.{IsStepOf, LeavesUnheld, Shows}
 use Rattle.ca_adapter.proofs.WorldLemmas.{part-of-held}
@@ -9,6 +9,7 @@ use Rattle.ca_base.specs.Configuration.{configuration_in}
 use Rattle.ca_base.specs.declared.limits.TheConstants.{LATE_STAMP}
 use Rattle.ca_base.specs.declared.settings.Settings.{Settings}
 use Rattle.ca_base.specs.declared.step.Reason.{Reason}
+use Rattle.ca_base.specs.declared.step.Reason.TheVariants as reasons
 use Rattle.ca_base.specs.declared.step.StepError.{StepError}
 use Rattle.ca_base.specs.declared.step.StepError.TheVariants as steps
 use Rattle.ca_fabric_machine.specs.After.{IsStep, IsUp, next_world, world_after, world_left}
@@ -17,9 +18,10 @@ use Rattle.ca_fabric_machine.specs.Hands.{at, is_shown}
 use Rattle.ca_fabric_machine.specs.Laws.{none-needed}
 use Rattle.ca_fabric_machine.specs.Meanings.{CanFollow, StandsFor, next_of}
 use Rattle.ca_fabric_machine.specs.Places.{event-enough}
-use Rattle.ca_fabric_machine.specs.Steps.{from-more, up-before}
+use Rattle.ca_fabric_machine.specs.Steps.{from-more, up-before, up-world}
 use Rattle.ca_fabric_machine.specs.Values.{IsPartIn, PartValue, has_byte, thing_in}
 use Rattle.ca_fabric_machine.specs.declared.asked.Asked.{Asked}
+use Rattle.ca_fabric_machine.specs.declared.asked.Asked.TheVariants as asks
 use Rattle.ca_fabric_machine.specs.declared.asked.Told.{Told}
 use Rattle.ca_held.specs.declared.held.Held.{Held}
 use Rattle.ca_held.specs.HeldView.{Holding, holding}
@@ -49,7 +51,11 @@ use Rattle.ca_taking.specs.declared.in_hand.InHand.{InHand}
 use Rattle.ca_taking.specs.Taking.{IsSeen, SameRecord, TookAll, WasStopped}
 use Rattle.ca_taking.specs.declared.take_error.TakeError.{TakeError}
 use Rattle.ca_taking.specs.declared.take_error.TakeError.TheVariants as takes
-use Rattle.ca_verbs.specs.Tried.{IsEventOf, IsMade, WasNotMade, WasNotReady, error_of, refusal_of, told_of}
+use Rattle.ca_mailbox.specs.declared.weather.Weather.{Weather}
+use Rattle.ca_turns.specs.Turns.{event_of}
+use Rattle.ca_turns.specs.declared.turn.Turn.{Turn}
+use Rattle.ca_verbs.proofs.TurnLemmas.{turn-same}
+use Rattle.ca_verbs.specs.Tried.{IsEventOf, IsMade, IsNotPossible, WasNotMade, WasNotReady, error_of, refusal_of, told_of}
 
 -- the parts in hand after the event show the world after it
 shows-after : (h k : Held) (w v u : World) → ShowsHeld (holding h).parts (holding h).world w → Shows v (holding k) → (holding k).has ≡ (holding h).has → LeavesUnheld (holding h) w v
@@ -197,10 +203,9 @@ module _ (key : Settings) (asked : Asked) (n : ℕ) (first v : Known) (h : Held)
     log = took.seen.log;
     length_is = took.seen.length_is;
     up = took.seen.up;
-    event = event;
-    asked_is = is_event took.seen.log took.seen.up took.seen.stand;
-    says = says (step (configuration_in key) (world_after (configuration_in key) took.seen.log) event) refl
-        (acts (world_after (configuration_in key) took.seen.log) (λ o has. shows-of took.seen.log took.seen.up took.seen.stand o (part-of-held h o has)));
+    says = subst (λ o. IsNotPossible (configuration_in key) (world_after (configuration_in key) took.seen.log) o reason) (sym (is_event took.seen.log took.seen.up took.seen.stand))
+        (says (step (configuration_in key) (world_after (configuration_in key) took.seen.log) event) refl
+        (acts (world_after (configuration_in key) took.seen.log) (λ o has. shows-of took.seen.log took.seen.up took.seen.stand o (part-of-held h o has))));
     refused = refused ∙ took.refused;
   }
     where
@@ -260,3 +265,37 @@ stopped-as key asked (takes.Full n) old mid new was notes refused = record {
   };
   refused = refused ∙ was.refused;
 }
+
+-- ---- turns
+
+module _ (key : Settings) (turn : Turn) (weather : Weather) (n : ℕ) (first v : Known) (h : Held) (names : List PartName) (holds : IsHolding (configuration_in key) (holding h) names v.hand)
+    (took : TookAll key (asks.Turn turn weather) n first v) where
+  -- the event that a turn is by what is held is the one that it is in each world for which the parts in hand stand
+  turn-in : (log : List Told) → IsUp (configuration_in key) log → AllStand (StandsFor key log) v.hand → event_of weather (holding h).world turn ≡ event_of weather (world_after (configuration_in key) log) turn
+  turn-in log up stand = turn-same (configuration_in key) h (world_after (configuration_in key) log)
+      (seen-world key (length log) h names v.hand (record { log = log; length_is = refl; up = up; stand = stand }) holds)
+      (up-world (configuration_in key) log up).placed weather turn
+      (ap (λ f. next_part f (world_after (configuration_in key) log) (asked_needs (configuration_in key) (asks.Turn turn weather))) (λ i p. held-shown (configuration_in key) (holding h) names v.hand up.limited holds p i)
+      ∙ none-needed key log v.hand stand up (asks.Turn turn weather) took.all)
+
+  pub turn-event : (event : Event) (o : Option Event) → o ≡ event_of weather (holding h).world turn → o ≡ Some event → IsEventOf key (asks.Turn turn weather) event v.hand
+  turn-event event o is some log up stand = sym (turn-in log up stand) ∙ sym is ∙ some
+
+  pub none-due : (new : Known) (o : Option Event) → o ≡ event_of weather (holding h).world turn → o ≡ None → new.notes ≡ v.notes → new.refused ≡ v.refused
+      → WasNotReady key (asks.Turn turn weather) n reasons.Empty first new
+  none-due new o is none notes refused = record {
+    under = took.under;
+    hand = v.hand;
+    noted = record {
+      between = took.noted.between;
+      noted = notes ∙ took.noted.noted;
+      later = took.noted.later;
+      read = took.noted.read;
+    };
+    log = took.seen.log;
+    length_is = took.seen.length_is;
+    up = took.seen.up;
+    says = subst (λ e. IsNotPossible (configuration_in key) (world_after (configuration_in key) took.seen.log) e reasons.Empty)
+        (sym (sym (turn-in took.seen.log took.seen.up took.seen.stand) ∙ sym is ∙ none)) refl;
+    refused = refused ∙ took.refused;
+  }

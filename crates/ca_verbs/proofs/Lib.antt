@@ -1,2 +1,4 @@
 pub mod ActedLemmas
 pub mod ReceiptLemmas
+pub mod StartLemmas
+pub mod TurnLemmas

@@ -1,3 +1,4 @@
 pub mod Tried
 pub mod Kept
 pub mod Passes
+pub mod Starting

@@ -1,8 +1,9 @@
 -- What a try leaves of a pass: its entry, or why there is none. Contracts cite it.
-use Rattle.std.specs.Prelude.{◌≡◌, ◌<◌, ◌≤◌, ℕ, List, [], ◌∷◌, ◌++◌, length, Some}
-use Rattle.ca_base.specs.Configuration.{configuration_in}
+use Rattle.std.specs.Prelude.{◌≡◌, ◌<◌, ◌≤◌, ℕ, List, [], ◌∷◌, ◌++◌, length, Option, None, Some}
+use Rattle.ca_base.specs.Configuration.{Configuration, configuration_in}
 use Rattle.ca_base.specs.declared.settings.Settings.{Settings}
 use Rattle.ca_base.specs.declared.step.Reason.{Reason}
+use Rattle.ca_base.specs.declared.step.Reason.TheVariants as reasons
 use Rattle.ca_base.specs.declared.step.StepError.{StepError}
 use Rattle.ca_base.specs.declared.step.StepError.TheVariants as steps
 use Rattle.ca_fabric_machine.specs.After.{IsUp, world_after}
@@ -15,6 +16,7 @@ use Rattle.ca_model.specs.declared.event.Event.{Event}
 use Rattle.ca_model.specs.declared.mark.Mark.{Mark}
 use Rattle.ca_model.specs.machine.Plan.{NotReady}
 use Rattle.ca_model.specs.machine.Step.{step}
+use Rattle.ca_model.specs.machine.World.{World}
 use Rattle.ca_parts.specs.Hands.{AllStand}
 use Rattle.ca_parts.specs.Lists.{EachFollows, Has}
 use Rattle.ca_taking.specs.Holding.{Known}
@@ -47,8 +49,13 @@ pub record IsMade (key : Settings) (e : Told) (stamp : ℕ) (old new : Known) : 
   pub share : new.share ≡ old.share
   pub refused : new.refused ≡ old.refused
 
--- After the first n entries, which are a list of the machine, the event that was asked for was not possible for this
--- reason; n was read by a look of this call.
+-- what is asked for is not possible in a world, for this reason: the event that it is there; or it is none, since nothing is due
+abbrev pub IsNotPossible : Configuration → World → Option Event → Reason → Type 0
+IsNotPossible c w None reason = reason ≡ reasons.Empty
+IsNotPossible c w (Some event) reason = step c w event ≡ NotReady reason
+
+-- After the first n entries, which are a list of the machine, what was asked for was not possible, for this reason; n was
+-- read by a look of this call.
 pub record WasNotReady (key : Settings) (asked : Asked) (n : ℕ) (reason : Reason) (old new : Known) : Type 0 where
   pub under : n < key.events
   pub hand : List (ℕ × PartValue)
@@ -56,9 +63,7 @@ pub record WasNotReady (key : Settings) (asked : Asked) (n : ℕ) (reason : Reas
   pub log : List Told
   pub length_is : length log ≡ n
   pub up : IsUp (configuration_in key) log
-  pub event : Event
-  pub asked_is : event_asked (world_after (configuration_in key) log) asked ≡ Some event
-  pub says : step (configuration_in key) (world_after (configuration_in key) log) event ≡ NotReady reason
+  pub says : IsNotPossible (configuration_in key) (world_after (configuration_in key) log) (event_asked (world_after (configuration_in key) log) asked) reason
   pub refused : new.refused ≡ old.refused
 
 -- why no entry was made; of want of memory nothing more is said

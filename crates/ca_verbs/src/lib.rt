@@ -10,12 +10,19 @@
 
 mod acting;
 mod fabric;
+mod joining;
+mod limits;
 mod marking;
 mod pass;
+mod passes;
+mod start_error;
+mod starting;
 mod try_error;
+mod turning;
 mod trying;
 mod verbs;
 
 pub use fabric::Fabric;
 pub use pass::{Pass, Receipt};
+pub use start_error::StartError;
 pub use try_error::TryError;

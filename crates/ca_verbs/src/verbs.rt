@@ -1,6 +1,7 @@
 ghost use Rattle.std.specs.Prelude.{◌≡◌, [], IfErr, IfOk, OnErr, OnOk};
 ghost use Rattle.ca_fabric_machine.specs.declared.asked.Asked.TheVariants as asks;
 ghost use Rattle.ca_held.specs.HeldView.{holding};
+ghost use Rattle.ca_model.specs.declared.event.Event as model;
 ghost use Rattle.ca_model.specs.declared.event.Event.TheVariants as events;
 ghost use Rattle.ca_taking.specs.Taking.{SameRecord};
 ghost use Rattle.ca_verbs.specs.Passes.{HasRoom, IsOf, IsReceipt, known_of, latest_of, settings_in};
@@ -9,10 +10,12 @@ ghost use Rattle.ca_verbs.specs.Tried.{WasNotMade};
 use crate::fabric::Fabric;
 use crate::pass::{Pass, Receipt};
 use crate::try_error::TryError;
-use crate::trying::try_event;
+use crate::trying::{try_event, try_turn_event};
 use ca_base::Memory;
+use ca_mailbox::Weather;
 use ca_model::{Entry, Event, Verb};
 use ca_taking::{Ask, MAX_ASKED_PARTS};
+use ca_turns::Turn;
 
 impl Pass {
     /// Makes room for a call.
@@ -66,6 +69,48 @@ impl Fabric {
             &mut pass.out,
         ) {
             Ok(made) => {
+                let stamp = made.stamp;
+                pass.latest = Some(pass.entries.len());
+                pass.entries.push_reserved(Entry {
+                    stamp,
+                    pass: number,
+                    event,
+                    marks: made.marks,
+                });
+                Ok(Receipt { stamp })
+            }
+            Err(error) => Err(error),
+        }
+    }
+
+    /// Makes a turn of a queue pair's engine once, under a weather, which says the lot of what is sent and whether a timer
+    /// is hastened: by the world after the entries before this one. `NotReady` says that it is not possible after so many
+    /// entries; a `Due` where nothing is due, as `Empty`. It waits for nobody.
+    pub fn try_turn(&self, pass: &mut Pass, turn: Turn, w: &Weather) -> Result<Receipt, TryError>
+        requires of { IsOf self.now pass.old }
+        ensures of { IsOf self.now pass.new }
+        ensures made { IfOk result (λ r. (event : model.Event) × IsReceipt (settings_in self.now) (asks.Turn turn w.now) event r
+            pass.old pass.new) }
+        ensures not_made { IfErr result (λ e. WasNotMade (settings_in self.now) (asks.Turn turn w.now) e
+            (known_of pass.old) (known_of pass.new)) }
+        ensures same { OnErr result (SameRecord (known_of pass.old) (known_of pass.new)
+            × (latest_of pass.new ≡ latest_of pass.old)) }
+    {
+        let number = pass.parts.number();
+        if pass.make_room().is_err() {
+            return Err(TryError::Memory);
+        }
+        match try_turn_event(
+            self.alloc,
+            &self.parts,
+            &mut pass.parts,
+            turn,
+            w,
+            &mut pass.held,
+            &mut pass.names,
+            &mut pass.out,
+        ) {
+            Ok((event, made)) => {
                 let stamp = made.stamp;
                 pass.latest = Some(pass.entries.len());
                 pass.entries.push_reserved(Entry {
