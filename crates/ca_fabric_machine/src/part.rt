@@ -1,9 +1,8 @@
+use crate::asked::{Asked, Told};
 use ca_base::Settings;
 use ca_held::Part;
 use ca_parts::Machine;
 use std::marker::Model;
-
-use crate::asked::{Asked, Told};
 
 /// A part of a fabric, as threads share it. Contracts see the things that stand in it.
 #[derive(Drop)]

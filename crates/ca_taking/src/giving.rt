@@ -22,7 +22,12 @@ use ca_parts::{PartPass, Parts, Turn1};
 use ca_places::place;
 
 /// Takes all parts of these names out of what is held, in order, with their places.
-pub fn unpack(settings: &Settings, held: &mut Held, names: &[PartName], out: &mut Vec<InHand<SharedPart>>)
+pub fn unpack(
+    settings: &Settings,
+    held: &mut Held,
+    names: &[PartName],
+    out: &mut Vec<InHand<SharedPart>>,
+)
     requires limits { AreLimited (configuration_in settings.now) }
     requires named { (p : PartName) → (holding held.old).parts p ≡ machine.is_held names.now p }
     requires apart { AreApart names.now }

@@ -11,11 +11,14 @@ use Rattle.ca_model.specs.declared.mark.Mark.{Mark}
 use Rattle.ca_model.specs.declared.part_name.PartName.{PartName}
 use Rattle.ca_parts.specs.Rows.{IsPassOf, settings_of, view_of}
 use Rattle.ca_taking.specs.Holding.{Known}
+use Rattle.ca_taking.specs.Taking.{SameRecord}
 use Rattle.ca_taking.specs.declared.taking.TheConstants.{MAX_ASKED_PARTS}
-use Rattle.ca_verbs.specs.Tried.{IsMade, told_of}
+use Rattle.ca_verbs.specs.Tried.{IsMade, WasNotMade, told_of}
 use Rattle.ca_verbs.specs.declared.fabric.Fabric.{Fabric}
 use Rattle.ca_verbs.specs.declared.pass.Pass.{Pass}
 use Rattle.ca_verbs.specs.declared.pass.Receipt.{Receipt}
+use Rattle.ca_verbs.specs.declared.try_error.TryError.{TryError}
+use Rattle.ca_verbs.specs.declared.try_error.TryError.TheVariants as errors
 
 -- the settings that the fabric was started with
 abbrev pub settings_in : Fabric → Settings
@@ -50,3 +53,22 @@ pub record HasRoom (p : Pass) : Type 0 where
   pub held : (name : PartName) → MAX_ASKED_PARTS ≤ room_for p.held name
   pub names : MAX_ASKED_PARTS ≤ vec_capacity p.names
   pub out : MAX_ASKED_PARTS ≤ vec_capacity p.out
+
+-- an answer that does not say that a part was taken
+abbrev pub IsNoBusy : TryError → Type 0
+IsNoBusy (errors.Busy name) = ⊥
+IsNoBusy e = Unit {0}
+
+-- A call that is tried again while its answer is Busy was made: before its last try the pass has the share and the entries
+-- that it had.
+pub record WasMade (key : Settings) (asked : Asked) (event : Event) (r : Receipt) (old new : Pass) : Type 0 where
+  pub last : Pass
+  pub same : SameRecord (known_of old) (known_of last)
+  pub made : IsReceipt key asked event r last new
+
+-- The same of one that was refused: its last answer is not Busy, and has its cause.
+pub record WasRefused (key : Settings) (asked : Asked) (e : TryError) (old new : Pass) : Type 0 where
+  pub last : Pass
+  pub same : SameRecord (known_of old) (known_of last)
+  pub not_busy : IsNoBusy e
+  pub cause : WasNotMade key asked e (known_of last) (known_of new)

@@ -2,7 +2,6 @@ ghost use Rattle.std.specs.Prelude.{◌≡◌};
 ghost use Rattle.ca_base.specs.Configuration.{configuration_in, part_count as count_of};
 ghost use Rattle.ca_model.specs.machine.Sound.{AreLimited};
 ghost use Rattle.ca_parts.specs.Rows.{part_count, settings_of};
-
 ghost use Rattle.ca_verbs.specs.Kept.{limited_prop};
 
 use ca_fabric_machine::SharedPart;

@@ -18,9 +18,10 @@ mod passes;
 mod start_error;
 mod starting;
 mod try_error;
-mod turning;
 mod trying;
+mod turning;
 mod verbs;
+mod waiting;
 
 pub use fabric::Fabric;
 pub use pass::{Pass, Receipt};
