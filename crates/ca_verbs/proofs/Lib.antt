@@ -2,3 +2,5 @@ pub mod ActedLemmas
 pub mod ReceiptLemmas
 pub mod StartLemmas
 pub mod TurnLemmas
+mod PlacingLemmas
+mod CloseLemmas

@@ -9,12 +9,15 @@
 #![tactic(auto)]
 
 mod acting;
+mod close_error;
+mod closing;
 mod fabric;
 mod joining;
 mod limits;
 mod marking;
 mod pass;
 mod passes;
+mod placing;
 mod start_error;
 mod starting;
 mod try_error;
@@ -23,6 +26,7 @@ mod turning;
 mod verbs;
 mod waiting;
 
+pub use close_error::CloseError;
 pub use fabric::Fabric;
 pub use pass::{Pass, Receipt};
 pub use start_error::StartError;
