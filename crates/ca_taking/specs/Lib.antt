@@ -1,0 +1,6 @@
+pub mod Hands
+pub mod Asking
+pub mod Holding
+pub mod Taking
+pub mod Giving
+pub mod Amid

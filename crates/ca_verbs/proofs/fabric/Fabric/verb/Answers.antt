@@ -1,0 +1,30 @@
+use Rattle.std.proofs.Common.{subst}
+use Rattle.ca_fabric_machine.specs.declared.asked.Asked.TheVariants as asks
+use Rattle.ca_model.specs.declared.event.Event.TheVariants as events
+use Rattle.ca_verbs.specs.Passes.{known_of, settings_in}
+use Rattle.ca_verbs.specs.Tried.{WasNotMade}
+use Rattle.ca_verbs.proofs.fabric.Fabric.verb.Goals as goal
+
+pub returns-in-Err-HistoryFull-clause-refused : goal.returns-in-Err-HistoryFull-clause-refused
+returns-in-Err-HistoryFull-clause-refused g c = record {
+  last = c.loop.pass;
+  same = c.loop.invariant.same;
+  not_busy = record {};
+  cause = subst (λ e. WasNotMade (settings_in c.args.self.now) (asks.Event (events.Verb c.args.by c.args.v.now)) e (known_of c.loop.pass) (known_of c.try_verb.new.pass)) c.in-Err-HistoryFull.field-0-is c.in-Err-HistoryFull.ensures.not_made;
+}
+
+pub returns-in-Err-NotReady-clause-refused : goal.returns-in-Err-NotReady-clause-refused
+returns-in-Err-NotReady-clause-refused g c = record {
+  last = c.loop.pass;
+  same = c.loop.invariant.same;
+  not_busy = record {};
+  cause = subst (λ e. WasNotMade (settings_in c.args.self.now) (asks.Event (events.Verb c.args.by c.args.v.now)) e (known_of c.loop.pass) (known_of c.try_verb.new.pass)) c.in-Err-NotReady.field-0-is c.in-Err-NotReady.ensures.not_made;
+}
+
+pub returns-in-Err-Memory-clause-refused : goal.returns-in-Err-Memory-clause-refused
+returns-in-Err-Memory-clause-refused g c = record {
+  last = c.loop.pass;
+  same = c.loop.invariant.same;
+  not_busy = record {};
+  cause = subst (λ e. WasNotMade (settings_in c.args.self.now) (asks.Event (events.Verb c.args.by c.args.v.now)) e (known_of c.loop.pass) (known_of c.try_verb.new.pass)) c.in-Err-Memory.field-0-is c.in-Err-Memory.ensures.not_made;
+}

@@ -1,0 +1,9 @@
+use Rattle.ca_taking.specs.Taking.{SameRecord}
+use Rattle.ca_verbs.specs.Passes.{IsOf, known_of}
+use Rattle.ca_verbs.proofs.fabric.Fabric.verb.Given as goal
+
+abbrev pub invariant-loop : goal.invariant-loop
+invariant-loop g l = record {
+  of : IsOf l.self l.pass;
+  same : SameRecord (known_of l.fn.pass) (known_of l.pass);
+}

@@ -1,0 +1,38 @@
+-- The history that is left where a fabric is closed. Contracts cite it.
+use Rattle.std.specs.Prelude.{◌≡◌, ◌≤◌, ℕ, suc, List, [], ◌∷◌, length, map, take, Option, Some, slice_get, Ok}
+use Rattle.ca_base.specs.Configuration.{configuration_in}
+use Rattle.ca_base.specs.declared.settings.Settings.{Settings}
+use Rattle.ca_fabric_machine.specs.After.{IsUp}
+use Rattle.ca_fabric_machine.specs.Meanings.{StandsFor}
+use Rattle.ca_fabric_machine.specs.Values.{PartValue}
+use Rattle.ca_fabric_machine.specs.declared.asked.Told.{Told}
+use Rattle.ca_model.specs.declared.entry.Entry.{Entry}
+use Rattle.ca_model.specs.machine.Run.{run}
+use Rattle.ca_parts.specs.Hands.{AllStand}
+use Rattle.ca_parts.specs.Lists.{Has}
+use Rattle.ca_taking.specs.Holding.{Known}
+use Rattle.ca_verbs.specs.Kept.{Kept, kept_of}
+
+-- a list of entries with its stamps, of which the first is this
+abbrev pub stamped_from : ℕ → List Told → List Kept
+stamped_from n [] = []
+stamped_from n (t ∷ ts) = (n, t.event, t.marks) ∷ stamped_from (suc n) ts
+
+-- The history of all passes: all entries in the order of their stamps, from 0 on. It is one of the machine, which runs its
+-- events with its marks; each entry of the pass that was left stands in it at its stamp, and each note is true of it.
+pub record IsHistoryOf (key : Settings) (v : Known) (j : List Entry) : Type 0 where
+  pub log : List Told
+  pub up : IsUp (configuration_in key) log
+  pub kept : kept_of j ≡ stamped_from 0 log
+  pub runs : run (configuration_in key) (map (λ e. e.event) j) ≡ Ok (map (λ e. e.marks.marks) j)
+  pub receipts : (m : ℕ) (e : Told) → Has (m, e) v.entries → slice_get log m ≡ Some e
+  pub notes : (m : ℕ) (hand : List (ℕ × PartValue)) → Has (m, hand) v.notes → (m ≤ length log) × AllStand (StandsFor key (take m log)) hand
+
+-- the stamps of entries
+abbrev pub stamps_of : List Entry → List ℕ
+stamps_of entries = map (λ e. e.stamp) entries
+
+-- there is an entry at this place
+pub record IsFilled (slots : List (Option Entry)) (m : ℕ) : Type 0 where
+  pub entry : Entry
+  pub there : slice_get slots m ≡ Some (Some entry)

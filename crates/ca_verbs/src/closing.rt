@@ -1,0 +1,53 @@
+ghost use Rattle.std.specs.Prelude.{◌≡◌, ◌<◌, IfErr, IfOk};
+ghost use Rattle.ca_base.specs.declared.limits.TheConstants.{MAX_PASSES};
+ghost use Rattle.ca_verbs.specs.Closed.{IsCauseOf, IsPassOut};
+ghost use Rattle.ca_verbs.specs.Closing.{IsHistoryOf};
+ghost use Rattle.ca_verbs.specs.Passes.{IsOf, known_of, settings_in};
+
+use crate::close_error::CloseError;
+use crate::fabric::Fabric;
+use crate::pass::Pass;
+use crate::placing::{collect, place_all, places};
+use ca_base::limits::MAX_PASSES;
+use ca_model::Entry;
+
+/// The most entries of a history.
+const MAX_ENTRIES: usize = 4_294_967_294;
+
+impl Fabric {
+    /// Ends the fabric: the entries of all passes in the order of their stamps, from 0 on. `PassOut` comes exactly where the
+    /// share of the pass is below 2^32; `Memory` is the other refusal. Either gives both back as they were.
+    pub fn close(self, pass: Pass) -> Result<Vec<Entry>, CloseError>
+        requires of { IsOf self pass }
+        ensures out { (known_of pass).share < MAX_PASSES → IsPassOut result }
+        ensures cause { IfErr result (λ e. IsCauseOf self pass e) }
+        ensures history { IfOk result (λ j. IsHistoryOf (settings_in self) (known_of pass) j.items) }
+    {
+        if pass.parts.share() != MAX_PASSES {
+            return Err(CloseError::PassOut(self, pass));
+        }
+        let count = pass.entries.len();
+        if count > MAX_ENTRIES {
+            return Err(CloseError::Memory(self, pass));
+        }
+        let Ok((mut slots, mut out)) = places(self.alloc, count) else {
+            return Err(CloseError::Memory(self, pass));
+        };
+        let Fabric { parts, alloc: _ } = self;
+        let Pass {
+            parts: token,
+            held: _held,
+            names: _names,
+            out: _out,
+            mut entries,
+            latest: _,
+        } = pass;
+        let Ok((_values, clock)) = parts.close(token) else {
+            unreachable!()
+        };
+        place_all(&mut entries, &mut slots);
+        slots.truncate(clock as usize);
+        collect(slots, &mut out);
+        Ok(out)
+    }
+}
