@@ -1,0 +1,3 @@
+pub mod KeepLemmas
+pub mod FoundLemmas
+pub mod RequestRowLemmas

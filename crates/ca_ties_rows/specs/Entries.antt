@@ -1,0 +1,53 @@
+-- Which packet stands for which entry of a link: a request packet, and a response. Contracts cite it.
+use Rattle.std.specs.Prelude.{◌≡◌, ℕ, ◌%◌, ◌^◌, true, Option, None, Some, IfSome}
+use Rattle.std.specs.Option.{option_and_then}
+use Rattle.ca_connection.specs.Layout.{Direction, Work, bytes_left, is_atomic, is_data, is_read}
+use Rattle.ca_connection.specs.Link.{NakReason, RequestPacket, Response, number_of}
+use Rattle.ca_connection.specs.Link.NakReason.{ReceiverNotReady}
+use Rattle.ca_connection.specs.Link.Response.{Ack, Nak, Data, Found}
+use Rattle.ca_model.specs.Packets.{answers_read}
+use Rattle.ca_packet.specs.Packet.{Fields}
+use Rattle.ca_packet.specs.declared.opcode.TheConstants.{ACKNOWLEDGE, ATOMIC_ACKNOWLEDGE}
+use Rattle.ca_packet.specs.declared.shape.Shape.{Shape}
+use Rattle.ca_packet.specs.declared.shape.Shape.TheVariants as shapes
+use Rattle.ca_wire.specs.Syndrome.{syndrome_in}
+use Rattle.ca_wire.specs.declared.syndrome.Syndrome.{Syndrome}
+use Rattle.ca_wire.specs.declared.syndrome.Syndrome.TheVariants as syndromes
+use Rattle.ca_ties_rows.specs.Sides.{reason_of}
+
+-- a packet of this shape is one of a request that does this
+abbrev pub IsShapeOf : Work → Shape → Type 0
+IsShapeOf work (shapes.Send position) = is_data work ≡ true
+IsShapeOf work (shapes.Write position) = is_data work ≡ true
+IsShapeOf work shapes.Read = is_read work ≡ true
+IsShapeOf work (shapes.Atomic kind) = is_atomic work ≡ true
+
+-- The packet is the one with this number, of the request at this place: its PSN is the number's, its shape is of the request's
+-- kind, and a READ asks for the bytes that are left.
+pub record RequestEntry (d : Direction) (x : RequestPacket) (shape : Shape) (p : Fields) : Type 0 where
+  pub psn : p.psn ≡ x.number % 2 ^ 24
+  pub kind : IsShapeOf (d.work x.place) shape
+  pub asks : is_read (d.work x.place) ≡ true → IfSome p.reth (λ h. h.length ≡ bytes_left d x.place x.number)
+
+-- the syndrome of a packet, if it has one
+abbrev pub syndrome_of : Fields → Option Syndrome
+syndrome_of p = option_and_then (λ a. syndrome_in a.syndrome) p.aeth
+
+-- a syndrome that a packet which was not accepted for this reason is answered with
+abbrev pub Tells : NakReason → Option Syndrome → Type 0
+Tells code None = Unit {0}
+Tells code (Some (syndromes.Ack credits)) = ⊥
+Tells code (Some (syndromes.RnrNak timer)) = code ≡ ReceiverNotReady
+Tells code (Some (syndromes.Nak c)) = code ≡ reason_of c
+
+-- what a packet says that stands for a response
+abbrev pub Says : Response → Fields → Type 0
+Says (Ack n) p = p.opcode ≡ ACKNOWLEDGE
+Says (Nak code n) p = (p.opcode ≡ ACKNOWLEDGE) × Tells code (syndrome_of p)
+Says (Data n left) p = answers_read p.opcode ≡ true
+Says (Found n found) p = (p.opcode ≡ ATOMIC_ACKNOWLEDGE) × IfSome p.«result» (λ value. value ≡ found % 2 ^ 64)
+
+-- The packet is the one of this response: its PSN is that of the response's number, and it says the same.
+pub record ResponseEntry (a : Response) (p : Fields) : Type 0 where
+  pub psn : p.psn ≡ number_of a % 2 ^ 24
+  pub says : Says a p

@@ -1,0 +1,54 @@
+-- What a row of the machine is as a move of a link. Contracts cite it.
+use Rattle.std.specs.Prelude.{◌≡◌, ℕ, true, if◌then◌else◌, List, [], ◌∷◌, ◌++◌, Option}
+use Rattle.ca_base.specs.declared.denied_ask.DeniedAsk.{DeniedAsk}
+use Rattle.ca_base.specs.declared.refusals.OpRefusal.{OpRefusal}
+use Rattle.ca_connection.specs.Layout.{Direction, Work, is_atomic}
+use Rattle.ca_connection.specs.Link.{AtomicCompletion, Requester, RequestPacket, Responder, Response}
+use Rattle.ca_connection.specs.Moves.{Reception, Receives, Takes}
+use Rattle.ca_connection.specs.Moves.Reception.{Accepted, Neither, Rejected}
+use Rattle.ca_model.specs.declared.mark.Mark.{Mark}
+use Rattle.ca_model.specs.declared.mark.Mark.TheVariants as marks
+use Rattle.ca_keys.specs.declared.verdict.Verdict.TheVariants as verdicts
+use Rattle.ca_model.specs.machine.Invariants.{is_sending}
+use Rattle.ca_model.specs.machine.Row.{Does, Effects, Ending, NotPossible, Row}
+use Rattle.ca_ties_rows.specs.Sides.{IsLaid, requester_in, responder_in}
+
+-- an ending that does something does such a thing
+abbrev pub EndingLeads : (Effects → Type 0) → Ending → Type 0
+EndingLeads P (NotPossible reason) = Unit {0}
+EndingLeads P (Does e) = P e
+
+-- whatever is denied or allowed, and whichever bytes are read, the row does such a thing, or nothing
+pub record RowLeads (P : Effects → Type 0) (row : Row) : Type 0 where
+  pub denied : (d : DeniedAsk) → EndingLeads P (row.denied d)
+  pub allowed : (bytes : List (List ℕ)) (refusal : Option OpRefusal) → EndingLeads P (row.allowed bytes refusal)
+
+-- the number that an atomic found, if this is its mark
+abbrev pub number_found : Mark → List ℕ
+number_found (marks.Remote queue domain envelope key kind address length (verdicts.Swapped found put)) = found ∷ []
+number_found m = []
+
+-- the numbers that atomics found, by their marks
+abbrev pub numbers_found : List Mark → List ℕ
+numbers_found [] = []
+numbers_found (m ∷ ms) = number_found m ++ numbers_found ms
+
+-- what an accepted packet of an atomic found
+abbrev pub found_in : Work → Reception → List ℕ
+found_in work Neither = []
+found_in work (Rejected code) = []
+found_in work (Accepted found) = if is_atomic work then found ∷ [] else []
+
+-- The responder receives the packet, which it takes for number w, as a link's does; the marks of atomics tell of what it
+-- found, and of nothing else.
+pub record ReceivesIn (d : Direction) (x : RequestPacket) (w : ℕ) (r : Responder) (e : Effects) : Type 0 where
+  pub reception : Reception
+  pub receives : Receives d x w r (responder_in e.queue) reception
+  pub found : numbers_found e.marks ≡ found_in (d.work x.place) reception
+  pub mtu : e.queue.responder.mtu ≡ d.mtu
+
+-- The requester takes the response, for number w, as a link's does, and while requests are sent they lie as before.
+pub record TakesIn (d : Direction) (a : Response) (w : ℕ) (r : Requester) (e : Effects) : Type 0 where
+  pub completion : Option AtomicCompletion
+  pub takes : Takes d a w r (requester_in e.queue) completion
+  pub laid : is_sending e.queue.state ≡ true → IsLaid d e.queue
