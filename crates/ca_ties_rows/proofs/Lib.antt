@@ -1,3 +1,6 @@
 pub mod KeepLemmas
 pub mod FoundLemmas
 pub mod RequestRowLemmas
+pub mod LayLemmas
+pub mod WalkLemmas
+pub mod ResponseRowLemmas
