@@ -4,3 +4,4 @@ pub mod RequestRowLemmas
 pub mod LayLemmas
 pub mod WalkLemmas
 pub mod ResponseRowLemmas
+pub mod PacketRowLemmas

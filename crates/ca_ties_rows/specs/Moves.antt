@@ -1,17 +1,20 @@
 -- What a row of the machine is as a move of a link. Contracts cite it.
-use Rattle.std.specs.Prelude.{◌≡◌, ℕ, true, if◌then◌else◌, List, [], ◌∷◌, ◌++◌, Option}
+use Rattle.std.specs.Prelude.{◌≡◌, ℕ, ◌+◌, ◌≤◌, true, if◌then◌else◌, List, [], ◌∷◌, ◌++◌, map, Option, None, Some}
 use Rattle.ca_base.specs.declared.denied_ask.DeniedAsk.{DeniedAsk}
 use Rattle.ca_base.specs.declared.refusals.OpRefusal.{OpRefusal}
-use Rattle.ca_connection.specs.Layout.{Direction, Work, is_atomic}
-use Rattle.ca_connection.specs.Link.{AtomicCompletion, Requester, RequestPacket, Responder, Response}
-use Rattle.ca_connection.specs.Moves.{Reception, Receives, Takes}
+use Rattle.ca_base.specs.declared.step.Sent.{Sent}
+use Rattle.ca_base.specs.declared.step.Sent.TheVariants.{Silent, Spelt}
+use Rattle.ca_connection.specs.Layout.{Direction, HasNumber, Work, is_atomic, span}
+use Rattle.ca_connection.specs.Limits.{greatest_span, most_outstanding}
+use Rattle.ca_connection.specs.Link.{AtomicCompletion, Rejection, Requester, RequestPacket, Responder, Response}
+use Rattle.ca_connection.specs.Moves.{Reception, Receives, Responds, Takes}
 use Rattle.ca_connection.specs.Moves.Reception.{Accepted, Neither, Rejected}
 use Rattle.ca_model.specs.declared.mark.Mark.{Mark}
 use Rattle.ca_model.specs.declared.mark.Mark.TheVariants as marks
 use Rattle.ca_keys.specs.declared.verdict.Verdict.TheVariants as verdicts
 use Rattle.ca_model.specs.machine.Invariants.{is_sending}
 use Rattle.ca_model.specs.machine.Row.{Does, Effects, Ending, NotPossible, Row}
-use Rattle.ca_ties_rows.specs.Sides.{IsLaid, requester_in, responder_in}
+use Rattle.ca_ties_rows.specs.Sides.{IsLaid, kept_result, requester_in, responder_in, said}
 
 -- an ending that does something does such a thing
 abbrev pub EndingLeads : (Effects → Type 0) → Ending → Type 0
@@ -52,3 +55,35 @@ pub record TakesIn (d : Direction) (a : Response) (w : ℕ) (r : Requester) (e :
   pub completion : Option AtomicCompletion
   pub takes : Takes d a w r (requester_in e.queue) completion
   pub laid : is_sending e.queue.state ≡ true → IsLaid d e.queue
+
+-- Nothing of the requester's numbers changes, and while requests are sent they lie as before.
+pub record StaysIn (d : Direction) (r : Requester) (e : Effects) : Type 0 where
+  pub requester : requester_in e.queue ≡ r
+  pub laid : is_sending e.queue.state ≡ true → IsLaid d e.queue
+
+-- The requester sends the packet at its cursor, of the request at this place, as a link's may.
+pub record SendsIn (d : Direction) (r : Requester) (place : ℕ) (e : Effects) : Type 0 where
+  pub number : HasNumber d place r.cursor
+  pub room : r.cursor + span d place r.cursor ≤ r.una + most_outstanding
+  pub few : span d place r.cursor ≤ greatest_span
+  pub una : e.queue.requester.una ≡ r.una
+  pub cursor : e.queue.requester.cursor ≡ r.cursor + span d place r.cursor
+  pub laid : is_sending e.queue.state ≡ true → IsLaid d e.queue
+
+-- A turn of the requester sends a packet of a request, or fails silently.
+abbrev pub IsRequestTurn : Direction → Requester → Effects → Type 0
+IsRequestTurn d r e = by e.sent
+  where
+    by : Sent → Type 0
+    by (Spelt (Some place)) = SendsIn d r place e
+    by (Spelt None) = ⊥
+    by Silent = StaysIn d r e
+
+-- The responder sends a response, as a link's may: the front of its response queue, or a NAK of a READ that is denied.
+pub record RespondsIn (d : Direction) (r : Responder) (e : Effects) : Type 0 where
+  pub response : Response
+  pub rejection : Option Rejection
+  pub responds : Responds d r response (map said e.queue.responder.answers) rejection
+  pub expected : e.queue.responder.expected ≡ r.expected
+  pub results : map kept_result e.queue.saved ≡ r.results
+  pub mtu : e.queue.responder.mtu ≡ d.mtu

@@ -1,6 +1,4 @@
 use Rattle.ca_ties_rows.proofs.RequestRowLemmas.{request-row}
-use Rattle.ca_ties_rows.proofs.WalkLemmas.{acknowledgement-stops}
-use Rattle.ca_ties_rows.proofs.ResponseRowLemmas.{Acknowledged}
 use Rattle.ca_ties_rows.proofs.responder.request_row_is_received.Goals as goal
 
 pub returns : goal.returns
