@@ -5,3 +5,4 @@ pub mod LayLemmas
 pub mod WalkLemmas
 pub mod ResponseRowLemmas
 pub mod PacketRowLemmas
+pub mod RespondRowLemmas

@@ -5,4 +5,4 @@ mod requester;
 mod responder;
 
 pub use requester::{packet_row_is_sent, response_row_is_taken};
-pub use responder::request_row_is_received;
+pub use responder::{request_row_is_received, respond_row_is_responded};
