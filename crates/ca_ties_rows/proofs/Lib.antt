@@ -6,3 +6,4 @@ pub mod WalkLemmas
 pub mod ResponseRowLemmas
 pub mod PacketRowLemmas
 pub mod RespondRowLemmas
+pub mod ForgetLemmas

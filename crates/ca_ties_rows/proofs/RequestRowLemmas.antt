@@ -75,7 +75,7 @@ Leads d x w q row = RowLeads (ReceivesIn d x w (responder_in q)) row
 pub plain : (P : Effects → Type 0) (e : Effects) → P e → RowLeads P (plain_row (Does e))
 plain P e does = record { denied = λ d. does; allowed = λ bytes refusal. does }
 
-cond-row : (P : Effects → Type 0) (b : Bool) (r s : Row) → RowLeads P r → RowLeads P s → RowLeads P (if b then r else s)
+pub cond-row : (P : Effects → Type 0) (b : Bool) (r s : Row) → RowLeads P r → RowLeads P s → RowLeads P (if b then r else s)
 cond-row P true r s one other = one
 cond-row P false r s one other = other
 

@@ -7,7 +7,7 @@ use Rattle.ca_base.specs.declared.step.Sent.TheVariants.{Silent, Spelt}
 use Rattle.ca_connection.specs.Layout.{Direction, HasNumber, Work, is_atomic, span}
 use Rattle.ca_connection.specs.Limits.{greatest_span, most_outstanding}
 use Rattle.ca_connection.specs.Link.{AtomicCompletion, Rejection, Requester, RequestPacket, Responder, Response}
-use Rattle.ca_connection.specs.Moves.{Reception, Receives, Responds, Takes}
+use Rattle.ca_connection.specs.Moves.{Keeps, Reception, Receives, Responds, Takes}
 use Rattle.ca_connection.specs.Moves.Reception.{Accepted, Neither, Rejected}
 use Rattle.ca_model.specs.declared.mark.Mark.{Mark}
 use Rattle.ca_model.specs.declared.mark.Mark.TheVariants as marks
@@ -87,3 +87,17 @@ pub record RespondsIn (d : Direction) (r : Responder) (e : Effects) : Type 0 whe
   pub expected : e.queue.responder.expected ≡ r.expected
   pub results : map kept_result e.queue.saved ≡ r.results
   pub mtu : e.queue.responder.mtu ≡ d.mtu
+
+-- The responder stays, or some of its response queue goes, as a link's may.
+pub record ForgetsIn (d : Direction) (r : Responder) (e : Effects) : Type 0 where
+  pub expected : e.queue.responder.expected ≡ r.expected
+  pub queue : Keeps r.queue (map said e.queue.responder.answers)
+  pub results : map kept_result e.queue.saved ≡ r.results
+  pub mtu : e.queue.responder.mtu ≡ d.mtu
+
+-- The requester stays, or its cursor goes back, as a link's may; while requests are sent they lie as before.
+pub record GoesBackIn (d : Direction) (r : Requester) (e : Effects) : Type 0 where
+  pub una : e.queue.requester.una ≡ r.una
+  pub low : r.una ≤ e.queue.requester.cursor
+  pub high : e.queue.requester.cursor ≤ r.cursor
+  pub laid : is_sending e.queue.state ≡ true → IsLaid d e.queue
