@@ -7,3 +7,4 @@ pub mod ResponseRowLemmas
 pub mod PacketRowLemmas
 pub mod RespondRowLemmas
 pub mod ForgetLemmas
+pub mod StayLemmas
