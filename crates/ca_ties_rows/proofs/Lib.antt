@@ -8,3 +8,4 @@ pub mod PacketRowLemmas
 pub mod RespondRowLemmas
 pub mod ForgetLemmas
 pub mod StayLemmas
+pub mod DecodeLemmas

@@ -1,12 +1,14 @@
 -- Which packet stands for which entry of a link: a request packet, and a response. Contracts cite it.
-use Rattle.std.specs.Prelude.{◌≡◌, ℕ, ◌%◌, ◌^◌, true, Option, None, Some, IfSome}
+use Rattle.std.specs.Prelude.{◌≡◌, ℕ, ◌%◌, ◌^◌, true, false, List, Option, None, Some, IfSome, Ok}
 use Rattle.std.specs.Option.{option_and_then}
 use Rattle.ca_connection.specs.Layout.{Direction, Work, bytes_left, is_atomic, is_data, is_read}
 use Rattle.ca_connection.specs.Link.{NakReason, RequestPacket, Response, number_of}
 use Rattle.ca_connection.specs.Link.NakReason.{ReceiverNotReady}
 use Rattle.ca_connection.specs.Link.Response.{Ack, Nak, Data, Found}
-use Rattle.ca_model.specs.Packets.{answers_read}
+use Rattle.ca_model.specs.Packets.{answers_read, is_response}
+use Rattle.ca_packet.specs.Decoding.{packet_in}
 use Rattle.ca_packet.specs.Packet.{Fields}
+use Rattle.ca_packet.specs.Table.{shape_of}
 use Rattle.ca_packet.specs.declared.opcode.TheConstants.{ACKNOWLEDGE, ATOMIC_ACKNOWLEDGE}
 use Rattle.ca_packet.specs.declared.shape.Shape.{Shape}
 use Rattle.ca_packet.specs.declared.shape.Shape.TheVariants as shapes
@@ -51,3 +53,28 @@ Says (Found n found) p = (p.opcode ≡ ATOMIC_ACKNOWLEDGE) × IfSome p.«result�
 pub record ResponseEntry (a : Response) (p : Fields) : Type 0 where
   pub psn : p.psn ≡ number_of a % 2 ^ 24
   pub says : Says a p
+
+-- a packet is a request of this entry, of some shape
+pub record IsRequestOf (d : Direction) (x : RequestPacket) (p : Fields) : Type 0 where
+  pub shape : Shape
+  pub is : shape_of p.opcode ≡ Some shape
+  pub entry : RequestEntry d x shape p
+
+-- what bytes decode to, if they are a packet
+abbrev pub IfPacket : List ℕ → (Fields → Type 0) → Type 0
+IfPacket bytes P = (p : Fields) → packet_in bytes ≡ Ok p → P p
+
+-- the bytes are those of the entry of a link, if they are a packet: of a request packet
+abbrev pub SpellsRequest : Direction → RequestPacket → List ℕ → Type 0
+SpellsRequest d x bytes = IfPacket bytes (IsRequestOf d x)
+
+-- of a response
+abbrev pub SpellsResponse : Response → List ℕ → Type 0
+SpellsResponse a bytes = IfPacket bytes (λ p. (is_response p.opcode ≡ true) × ResponseEntry a p)
+
+-- of the connection's other direction: a response where this one's requests arrive, and a request where its responses do
+abbrev pub SpellsSomeResponse : List ℕ → Type 0
+SpellsSomeResponse bytes = IfPacket bytes (λ p. is_response p.opcode ≡ true)
+
+abbrev pub SpellsSomeRequest : List ℕ → Type 0
+SpellsSomeRequest bytes = IfPacket bytes (λ p. is_response p.opcode ≡ false)
