@@ -9,3 +9,4 @@ pub mod RespondRowLemmas
 pub mod ForgetLemmas
 pub mod StayLemmas
 pub mod DecodeLemmas
+pub mod SpellLemmas
