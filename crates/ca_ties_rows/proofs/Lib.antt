@@ -10,3 +10,4 @@ pub mod ForgetLemmas
 pub mod StayLemmas
 pub mod DecodeLemmas
 pub mod SpellLemmas
+pub mod EntryLemmas

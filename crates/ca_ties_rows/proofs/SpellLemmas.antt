@@ -59,7 +59,7 @@ reth-length h rest fits =
     ap (λ (t : List ℕ). (reth_from t).length) regrouped
     ∙ rw (drop_at a (b ++ (c ++ rest)) 8 (wide64.len h.address), drop_at b (c ++ rest) 4 (wide32.len h.key.0), take_at c rest 4 (wide32.len h.length), wide32.again h.length fits) refl
 
-read-decoded : (h : Reth) (queue psn : ℕ) (p : Fields) → h.length < 2 ^ 32 → Decoded (read_request h queue psn) p → IfSome p.reth (λ r. r.length ≡ h.length)
+pub read-decoded : (h : Reth) (queue psn : ℕ) (p : Fields) → h.length < 2 ^ 32 → Decoded (read_request h queue psn) p → IfSome p.reth (λ r. r.length ≡ h.length)
 unfolding row_of
 read-decoded h queue psn p fits dec =
     let f = read_request h queue psn in
@@ -67,7 +67,7 @@ read-decoded h queue psn p fits dec =
     let there : p.reth ≡ Some (reth_from (behind_bth f)) = dec.reth ∙ ap (λ (hs : List Header). (headers_at hs (behind_bth f)).0.reth) (sym headers) in
     subst (λ o. IfSome o (λ r. r.length ≡ h.length)) (sym there) (ap (λ (t : List ℕ). (reth_from t).length) (append_assoc (reth_bytes h) [] []) ∙ reth-length h [] fits)
 
-aeth-decoded : (s : Syndrome) (queue psn msn : ℕ) (p : Fields) → FitsSyndrome s → msn < 2 ^ 24 → Decoded (acknowledge s queue psn msn) p → syndrome_of p ≡ Some s
+pub aeth-decoded : (s : Syndrome) (queue psn msn : ℕ) (p : Fields) → FitsSyndrome s → msn < 2 ^ 24 → Decoded (acknowledge s queue psn msn) p → syndrome_of p ≡ Some s
 unfolding row_of
 aeth-decoded s queue psn msn p fits below dec =
     let f = acknowledge s queue psn msn in
@@ -77,7 +77,7 @@ aeth-decoded s queue psn msn p fits below dec =
     let again : aeth_from (behind_bth f) ≡ a = ap aeth_from (append_assoc (aeth_bytes a) [] []) ∙ aeth_header.again a [] (syndrome-byte s fits, below) in
     ap (λ o. option_and_then (λ (a : Aeth). syndrome_in a.syndrome) o) (there ∙ ap (λ x. Some x) again) ∙ received s fits
 
-result-decoded : (found queue psn msn : ℕ) (p : Fields) → Decoded (atomic_acknowledge found queue psn msn) p → IfSome p.«result» (λ n. n ≡ found % 2 ^ 64)
+pub result-decoded : (found queue psn msn : ℕ) (p : Fields) → Decoded (atomic_acknowledge found queue psn msn) p → IfSome p.«result» (λ n. n ≡ found % 2 ^ 64)
 unfolding row_of number_from
 result-decoded found queue psn msn p dec =
     let f = atomic_acknowledge found queue psn msn in
@@ -88,5 +88,3 @@ result-decoded found queue psn msn p dec =
         append_assoc (aeth_bytes a) (be_bytes w64 found ++ []) [] ∙ ap (λ t. aeth_bytes a ++ t) (append_assoc (be_bytes w64 found) [] []) ∙ ap (λ t. aeth_bytes a ++ (t ++ [])) (low-bytes found) in
     let dropped : drop 4 (behind_bth f) ≡ be_bytes w64 (found % 2 ^ 64) ++ [] = ap (drop 4) parts ∙ drop_at (aeth_bytes a) (be_bytes w64 (found % 2 ^ 64) ++ []) 4 (aeth_header.len a) in
     subst (λ o. IfSome o (λ n. n ≡ found % 2 ^ 64)) (sym there) (ap (number_from w64) dropped ∙ ap (λ (x : ℕ × List ℕ). x.0) (number_again w64 (2 ^ 64) wide64 (found % 2 ^ 64) [] (omega arith)))
-pub pub_one : ℕ
-pub_one = 1
