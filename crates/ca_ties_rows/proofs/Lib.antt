@@ -4,10 +4,10 @@ pub mod RequestRowLemmas
 pub mod LayLemmas
 pub mod WalkLemmas
 pub mod ResponseRowLemmas
+pub mod DecodeLemmas
+pub mod SpellLemmas
+pub mod EntryLemmas
 pub mod PacketRowLemmas
 pub mod RespondRowLemmas
 pub mod ForgetLemmas
 pub mod StayLemmas
-pub mod DecodeLemmas
-pub mod SpellLemmas
-pub mod EntryLemmas

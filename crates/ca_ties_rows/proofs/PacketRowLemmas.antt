@@ -3,7 +3,7 @@ use Rattle.std.proofs.Common.{◌≡◌, ℕ, zero, suc, ◌+◌, ◌-◌, ◌*�
 use Rattle.std.proofs.lemmas.Bool.{eqb-true, ltb-false, ltb-true, or_parts}
 use Rattle.std.proofs.lemmas.List.{length-take}
 use Rattle.std.proofs.lemmas.Option.{slice_get_within}
-use Rattle.std.specs.List.{find, sum_by}
+use Rattle.std.specs.List.{find, flat_map, sum_by}
 use Rattle.std.specs.Option.{option_or}
 use Rattle.ca_base.specs.declared.completion.WcStatus.TheVariants.{LocalProtection}
 use Rattle.ca_base.specs.declared.denied_ask.DeniedAsk.{DeniedAsk}
@@ -26,6 +26,7 @@ use Rattle.ca_model.specs.machine.Invariants.{IsList, IsQueue, is_sending}
 use Rattle.ca_model.specs.machine.Numbering.{Numbered, begun_requests, has_psn, is_read as is_read_op, next_to_begin, psn_end, request_at, unfinished_requests}
 use Rattle.ca_model.specs.machine.Requester.{Sends, answers_between, begins, denied_list_effects, end_of_packet, is_outstanding, is_too_much, next_request, packet_asks, packet_row, packets_between, sent_packet, turn_of, turn_refusals}
 use Rattle.ca_model.specs.machine.Row.{Does, Effects, Ending, NotPossible, Row, plain_row}
+use Rattle.ca_ties_rows.proofs.EntryLemmas.{request-spelt}
 use Rattle.ca_ties_rows.proofs.LayLemmas.{Lie, LiesAt, all-lie, begun-lie, lie-end, psns-of-work, read-of-work, unfinished-lie}
 use Rattle.ca_ties_rows.proofs.ResponseRowLemmas.{IsRequestAt, request-found}
 use Rattle.ca_ties_rows.specs.Moves.{EndingLeads, IsRequestTurn, RowLeads, SendsIn}
@@ -157,14 +158,15 @@ packet-room q n is = omega (arith, ltb-false MAX_OUTSTANDING_PSNS (end_of_packet
     first_false true b c e = e
     first_false false b c e = refl
 
-sent-sends : (d : Direction) (q : QueuePair) (n : Numbered) (bytes : List (List ℕ)) → IsQueue q → IsLaid d q → list_length (list_of n.request.op) ≤ MAX_MESSAGE_BYTES → is_too_much q n ≡ false
+sent-sends : (d : Direction) (q : QueuePair) (n : Numbered) (bytes : List (List ℕ)) → IsQueue q → IsLaid d q → list_length (list_of n.request.op) ≤ MAX_MESSAGE_BYTES → is_local n.request.op ≡ false → is_too_much q n ≡ false
     → IsRequestAt d q.requester.cursor n → IsRequestTurn d (requester_in q) (sent_packet q n bytes)
-sent-sends d q n bytes s laid short room has = record {
+sent-sends d q n bytes s laid short packet room has = record {
   number = has.number;
   room = omega (arith, packet-room q n room, span_is);
   few = few-psns d q.requester.cursor n wide short has;
   una = refl;
   cursor = span_is;
+  spells = request-spelt d q n (flat_map (λ b. b) bytes) s laid.mtu short packet has;
   laid = λ e. record { mtu = laid.mtu; begin = laid.begin; work = laid.work; passed = laid.passed };
 }
   where
@@ -204,7 +206,7 @@ packet-row d q room n s laid turn = by (is_too_much q n) refl (sends-parts (firs
     by true e parts = record { denied = λ a. record {}; allowed = λ bytes refusal. record {} }
     by false e parts = record {
       denied = λ a. denied a (is_outstanding q) room;
-      allowed = λ bytes refusal. allowed bytes (sent-sends d q n bytes s (laid sending) short e (next-at d q n s sending (laid sending) parts.2 parts.1)) room;
+      allowed = λ bytes refusal. allowed bytes (sent-sends d q n bytes s (laid sending) short parts.2 e (next-at d q n s sending (laid sending) parts.2 parts.1)) room;
     }
       where
         sending : is_sending q.state ≡ true

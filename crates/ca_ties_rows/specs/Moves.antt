@@ -14,6 +14,7 @@ use Rattle.ca_model.specs.declared.mark.Mark.TheVariants as marks
 use Rattle.ca_keys.specs.declared.verdict.Verdict.TheVariants as verdicts
 use Rattle.ca_model.specs.machine.Invariants.{is_sending}
 use Rattle.ca_model.specs.machine.Row.{Does, Effects, Ending, NotPossible, Row}
+use Rattle.ca_ties_rows.specs.Entries.{SpellsRequest, SpellsResponse}
 use Rattle.ca_ties_rows.specs.Sides.{IsLaid, kept_result, requester_in, responder_in, said}
 
 -- an ending that does something does such a thing
@@ -61,13 +62,14 @@ pub record StaysIn (d : Direction) (r : Requester) (e : Effects) : Type 0 where
   pub requester : requester_in e.queue ≡ r
   pub laid : is_sending e.queue.state ≡ true → IsLaid d e.queue
 
--- The requester sends the packet at its cursor, of the request at this place, as a link's may.
+-- The requester sends the packet at its cursor, of the request at this place, as a link's may, and spells this packet.
 pub record SendsIn (d : Direction) (r : Requester) (place : ℕ) (e : Effects) : Type 0 where
   pub number : HasNumber d place r.cursor
   pub room : r.cursor + span d place r.cursor ≤ r.una + most_outstanding
   pub few : span d place r.cursor ≤ greatest_span
   pub una : e.queue.requester.una ≡ r.una
   pub cursor : e.queue.requester.cursor ≡ r.cursor + span d place r.cursor
+  pub spells : SpellsRequest d (record { number = r.cursor; place = place }) e.spelt
   pub laid : is_sending e.queue.state ≡ true → IsLaid d e.queue
 
 -- A turn of the requester sends a packet of a request, or fails silently.
@@ -79,11 +81,13 @@ IsRequestTurn d r e = by e.sent
     by (Spelt None) = ⊥
     by Silent = StaysIn d r e
 
--- The responder sends a response, as a link's may: the front of its response queue, or a NAK of a READ that is denied.
+-- The responder sends a response, as a link's may, and spells it: the front of its response queue, or a NAK of a READ that is
+-- denied.
 pub record RespondsIn (d : Direction) (r : Responder) (e : Effects) : Type 0 where
   pub response : Response
   pub rejection : Option Rejection
   pub responds : Responds d r response (map said e.queue.responder.answers) rejection
+  pub spells : SpellsResponse response e.spelt
   pub expected : e.queue.responder.expected ≡ r.expected
   pub results : map kept_result e.queue.saved ≡ r.results
   pub mtu : e.queue.responder.mtu ≡ d.mtu

@@ -5,6 +5,7 @@ ghost use Rattle.ca_connection.specs.Layout.{Direction};
 ghost use Rattle.ca_connection.specs.Link.{Link, RequestPacket};
 ghost use Rattle.ca_connection.specs.Moves.{Reached};
 ghost use Rattle.ca_model.specs.machine.Duplicates.{request_row};
+ghost use Rattle.ca_model.specs.machine.Invariants.{IsQueue};
 ghost use Rattle.ca_model.specs.machine.Respond.{respond_row};
 ghost use Rattle.ca_packet.specs.Packet.{Fields};
 ghost use Rattle.ca_packet.specs.declared.shape.Shape.{Shape};
@@ -25,7 +26,7 @@ pub fn request_row_is_received()
 /// The response that a turn of the responder sends is one that a link's responder may send, where that link's responder
 /// is the queue pair's.
 pub fn respond_row_is_responded()
-    ensures { (d : Direction) (l : Link) (room : Bool) (q : QueuePair) → Reached d l
+    ensures { (d : Direction) (l : Link) (room : Bool) (q : QueuePair) → IsQueue q → Reached d l
         → l.responder ≡ responder_in q → q.responder.mtu ≡ d.mtu
         → RowLeads (RespondsIn d (responder_in q)) (respond_row room q) }
 {}

@@ -1,4 +1,3 @@
-use Rattle.ca_ties_rows.proofs.EntryLemmas.{read-spelt}
 use Rattle.ca_ties_rows.proofs.DecodeLemmas.{decoded}
 use Rattle.ca_ties_rows.proofs.StayLemmas.{Stays}
 use Rattle.ca_ties_rows.proofs.ForgetLemmas.{response-forgets}
