@@ -188,7 +188,7 @@ atomic-acknowledge-is : operation_of ATOMIC_ACKNOWLEDGE ≡ Some AtomicAcknowled
 unfolding row_of
 atomic-acknowledge-is = refl
 
-abbrev answers : Option Operation → Bool
+abbrev pub answers : Option Operation → Bool
 answers (Some (Request shape)) = false
 answers (Some operation) = true
 answers None = false

@@ -156,7 +156,7 @@ fitting-forgets w p q a after = by a.went_back refl
     by true e = plain (λ e. Forgets q e.queue) a.effects after.forgets
     by false e = at (request_at w a.effects.queue) e
 
-drop-forgets : (q : QueuePair) (cause : Drop1) → RowLeads (λ e. Forgets q e.queue) (plain_row (Does (drop_effects q cause)))
+pub drop-forgets : (q : QueuePair) (cause : Drop1) → RowLeads (λ e. Forgets q e.queue) (plain_row (Does (drop_effects q cause)))
 drop-forgets q cause = plain (λ e. Forgets q e.queue) (drop_effects q cause) (stays (same q))
 
 pub response-forgets : (p : Fields) (q : QueuePair) → RowLeads (λ e. Forgets q e.queue) (response_row p q)

@@ -11,3 +11,4 @@ pub mod PacketRowLemmas
 pub mod RespondRowLemmas
 pub mod ForgetLemmas
 pub mod StayLemmas
+pub mod ArrivalLemmas

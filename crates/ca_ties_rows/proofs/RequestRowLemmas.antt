@@ -104,7 +104,7 @@ dropped : (d : Direction) (x : RequestPacket) (w : ℕ) (q : QueuePair) (e : Eff
     → ReceivesIn d x w (responder_in q) e
 dropped d x w q e left none = received d x w (responder_in q) e q.responder.expected q.responder.answers q.saved Neither (responder_in q) left refl refl refl packet_drop none
 
-drop-does : (d : Direction) (x : RequestPacket) (w : ℕ) (q : QueuePair) (cause : Drop1) → q.responder.mtu ≡ d.mtu → ReceivesIn d x w (responder_in q) (drop_effects q cause)
+pub drop-does : (d : Direction) (x : RequestPacket) (w : ℕ) (q : QueuePair) (cause : Drop1) → q.responder.mtu ≡ d.mtu → ReceivesIn d x w (responder_in q) (drop_effects q cause)
 drop-does d x w q cause mtu = dropped d x w q (drop_effects q cause) (record { expected = refl; answers = refl; saved = refl; mtu = mtu }) refl
 
 code-back : (code : NakCode) → nak_of (nak_code code) ≡ code

@@ -74,7 +74,7 @@ cond-stays : (q : QueuePair) (b : Bool) (x y : Effects) → Stays q x.queue → 
 cond-stays q true x y one other = one
 cond-stays q false x y one other = other
 
-drop-stays : (q : QueuePair) (cause : Drop1) → Stays q (drop_effects q cause).queue
+pub drop-stays : (q : QueuePair) (cause : Drop1) → Stays q (drop_effects q cause).queue
 drop-stays q cause = still refl refl refl refl
 
 send-packet-stays : (q : QueuePair) (p : Fields) (place : Position) (r : Receiving) → Stays q (after_send_packet q p place r).queue

@@ -1,8 +1,10 @@
 //! What the rows of the machine are as moves of a link.
 #![tactic(auto)]
 
+mod arrival;
 mod requester;
 mod responder;
 
+pub use arrival::{arriving_request_is_received, arriving_response_is_taken, other_request_stays, other_response_forgets};
 pub use requester::{packet_row_is_sent, response_row_is_taken};
 pub use responder::{request_row_is_received, respond_row_is_responded};
