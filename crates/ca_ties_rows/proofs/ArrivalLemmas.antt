@@ -114,7 +114,7 @@ response-taken d a bytes envelope shared q s laid spells = arrival-leads P bytes
     of_packet p is = response-arrived P p envelope shared q is.0
         (subst (λ n. RowLeads (TakesIn d a (widened q.requester.una n) (requester_in q)) (response_row p q)) is.1.psn (response-row d a p q s laid is.1))
 
-weaker : (P Q : Effects → Type 0) (row : Row) → ((e : Effects) → P e → Q e) → RowLeads P row → RowLeads Q row
+pub weaker : (P Q : Effects → Type 0) (row : Row) → ((e : Effects) → P e → Q e) → RowLeads P row → RowLeads Q row
 weaker P Q row follows leads = record { denied = λ d. by (row.denied d) (leads.denied d); allowed = λ bytes refusal. by (row.allowed bytes refusal) (leads.allowed bytes refusal) }
   where
     by : (e : Ending) → EndingLeads P e → EndingLeads Q e

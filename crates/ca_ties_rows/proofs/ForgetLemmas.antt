@@ -47,7 +47,7 @@ pub data Forgets (q p : QueuePair) : Type 0 where
 same : (q : QueuePair) → IsSameResponder q q
 same q = record { responder = refl; saved = refl }
 
-failure-forgets : (q p : QueuePair) (status : WcStatus) (cause : Option OpRefusal) → IsSameResponder q p → Forgets q (failure_effects status cause p).queue
+pub failure-forgets : (q p : QueuePair) (status : WcStatus) (cause : Option OpRefusal) → IsSameResponder q p → Forgets q (failure_effects status cause p).queue
 failure-forgets q p status cause s = emptied (ap (λ r. r.expected) s.responder) refl (ap (λ r. r.mtu) s.responder) s.saved
 
 pub forgets-in : (d : Direction) (q : QueuePair) (e : Effects) → q.responder.mtu ≡ d.mtu → Forgets q e.queue → ForgetsIn d (responder_in q) e

@@ -123,7 +123,7 @@ begun-lie d q laid = take-lie d (q.requester.next - q.requester.oldest) q.reques
 
 -- ---- without those that are finished
 
-drop-work : (d : Direction) (k place at : ℕ) (ps : List PostedSend) → at ≡ place + k → IsWork d place ps → IsWork d at (drop k ps)
+pub drop-work : (d : Direction) (k place at : ℕ) (ps : List PostedSend) → at ≡ place + k → IsWork d place ps → IsWork d at (drop k ps)
 drop-work d zero place at ps e work = subst (λ n. IsWork d n ps) (let f : place ≡ at = omega (arith, e) in f) work
 drop-work d (suc k) place at [] e work = record {}
 drop-work d (suc k) place at (p ∷ ps) e work = drop-work d k (suc place) at ps (omega (arith, e)) work.1

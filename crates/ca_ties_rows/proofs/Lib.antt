@@ -12,3 +12,5 @@ pub mod RespondRowLemmas
 pub mod ForgetLemmas
 pub mod StayLemmas
 pub mod ArrivalLemmas
+pub mod OperationLemmas
+pub mod TurnLemmas

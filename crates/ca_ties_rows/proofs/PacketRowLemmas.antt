@@ -49,7 +49,7 @@ none-found d at place (n ∷ ns) there low none = by (λ low none. none-found d 
     by more true ea false eb is = omega (arith, more (omega (arith, ltb-false at (psn_end n) eb, end)) is, ap (first d) (let e : place + suc (length ns) ≡ suc place + length ns = omega arith in e))
     by more false ea b eb is = absurd (true≢false (sym (le-leb n.first at (omega (arith, low, begin))) ∙ ea))
 
-got-place : (d : Direction) (place i : ℕ) (ns : List Numbered) → Lie d place ns → IfSome (slice_get ns i) (λ n. n.place ≡ place + i)
+pub got-place : (d : Direction) (place i : ℕ) (ns : List Numbered) → Lie d place ns → IfSome (slice_get ns i) (λ n. n.place ≡ place + i)
 got-place d place i [] there = record {}
 got-place d place zero (n ∷ ns) there = omega (arith, there.0.0)
 got-place d place (suc i) (n ∷ ns) there = by (slice_get ns i) (got-place d (suc place) i ns there.1)
