@@ -14,3 +14,4 @@ pub mod StayLemmas
 pub mod ArrivalLemmas
 pub mod OperationLemmas
 pub mod TurnLemmas
+pub mod LinkLemmas

@@ -1,3 +1,4 @@
 pub mod Sides
 pub mod Entries
 pub mod Moves
+pub mod Links
