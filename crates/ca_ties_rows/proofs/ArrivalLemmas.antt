@@ -1,13 +1,11 @@
 -- Bytes that arrive: of this direction, or of the other one.
-use Rattle.std.proofs.Common.{◌≡◌, ℕ, ◌%◌, ◌^◌, Bool, true, false, if◌then◌else◌, List, [], Option, None, Some, Result, Ok, Err, refl, ap, sym, subst, ◌∙◌, true≢false, is_some}
+use Rattle.std.proofs.Common.{◌≡◌, ℕ, ◌%◌, ◌^◌, true, false, if◌then◌else◌, List, [], Option, None, Some, Result, Ok, Err, refl, ap, sym, subst, ◌∙◌, true≢false, is_some}
 use Rattle.std.proofs.lemmas.Option.{same_Some}
 use Rattle.ca_keys.specs.Refusals.{first_of}
 use Rattle.ca_base.specs.objects.QueuePair.{QueuePair}
 use Rattle.ca_base.specs.objects.SharedReceives.{SharedReceives}
 use Rattle.ca_connection.specs.Layout.{Direction}
 use Rattle.ca_connection.specs.Link.{RequestPacket, Response, number_of}
-use Rattle.ca_connection.specs.Moves.Reception.{Neither}
-use Rattle.ca_connection.specs.Moves.Receives.{drop as packet_drop}
 use Rattle.ca_connection.specs.Moves.Takes.{drop as response_drop}
 use Rattle.ca_model.specs.Packets.{is_response}
 use Rattle.ca_model.specs.declared.mark.Drop1.{Drop1}

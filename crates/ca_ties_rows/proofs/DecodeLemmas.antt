@@ -1,26 +1,17 @@
 -- What the bytes that spell a packet decode to, if they decode: its opcode, its PSN, and the headers of its opcode.
-use Rattle.std.proofs.Common.{◌≡◌, ℕ, ◌+◌, ◌-◌, ◌*◌, ◌/◌, ◌%◌, ◌^◌, ◌<◌, ◌≤◌, Bool, true, false, List, [], ◌∷◌, ◌++◌, drop, length, replicate, Option, None, Some, Result, Ok, refl, ap, sym, subst, ◌∙◌, arith, append_assoc}
-use Rattle.std.proofs.lemmas.List.{drop_at, take_at}
-use Rattle.std.proofs.lemmas.Option.{same_Some}
-use Rattle.std.specs.Int.{Width, byte_len, from_be_bytes, w32, w64}
+use Rattle.std.proofs.Common.{◌≡◌, ℕ, List, ◌++◌, length, replicate, Some, Ok, ap, sym, ◌∙◌, arith}
 use Rattle.std.specs.List.{flat_map}
 use Rattle.std.specs.Option.{ok_or}
 use Rattle.std.specs.Prelude.{sum_by}
 use Rattle.ca_packet.proofs.AllHeaders.{known_row}
 use Rattle.ca_packet.proofs.BthLaws.{bth_again}
-use Rattle.ca_packet.proofs.HeaderLaws.{FitsAeth, aeth_header}
-use Rattle.ca_packet.proofs.NumberLaws.{number_again, wide32, wide64}
 use Rattle.ca_packet.proofs.PacketLaws.{after_body, after_bth, after_row, with_headers}
 use Rattle.ca_packet.proofs.Steps.{bind_ok, ok_is}
-use Rattle.ca_packet.specs.Decoding.{bth_at, body_in, fields_from, headers_at, number_at, number_from, packet_in, payload_behind, reth_from, ◌>>=◌}
-use Rattle.ca_packet.specs.Packet.{Fields, FitsBth, Ignored, aeth_bytes, be_bytes, bth_bytes, bth_of, canonical, header_bytes, packet_bytes, pad_count, reth_bytes, spelling}
-use Rattle.ca_packet.specs.Table.{AETH, AtomicAckETH, Header, RETH, Row, headers_of, row_of, size_of}
-use Rattle.ca_packet.specs.declared.aeth.Aeth.{Aeth}
+use Rattle.ca_packet.specs.Decoding.{bth_at, body_in, fields_from, headers_at, packet_in, payload_behind}
+use Rattle.ca_packet.specs.Packet.{Fields, FitsBth, Ignored, bth_of, canonical, header_bytes, packet_bytes, pad_count, spelling}
+use Rattle.ca_packet.specs.Table.{Row, headers_of, row_of, size_of}
 use Rattle.ca_packet.specs.declared.bth.Bth.{Bth}
 use Rattle.ca_packet.specs.declared.headers.Headers.{Headers}
-use Rattle.ca_packet.specs.declared.opcode.TheConstants.{ACKNOWLEDGE, ATOMIC_ACKNOWLEDGE, RDMA_READ_REQUEST}
-use Rattle.ca_packet.specs.declared.reth.Reth.{Reth}
-use Rattle.ca_packet.specs.declared.wire_error.WireError.{WireError}
 use Rattle.ca_packet.specs.declared.wire_error.WireError.TheVariants.{Opcode}
 
 -- what stands behind the base transport header of a packet's spelling

@@ -1,28 +1,23 @@
 -- The packets that requester and responder spell stand for the entries of a link.
-use Rattle.std.proofs.Common.{◌≡◌, ℕ, ◌+◌, ◌-◌, ◌*◌, ◌%◌, ◌^◌, ◌<◌, ◌≤◌, Bool, true, false, List, [], Option, None, Some, IfSome, Ok, refl, ap, ap₂, sym, subst, ◌∙◌, arith, true≢false, length, is_some}
-use Rattle.std.proofs.lemmas.Option.{same_Some}
-use Rattle.std.specs.List.{flat_map}
+use Rattle.std.proofs.Common.{◌≡◌, ℕ, ◌-◌, ◌*◌, ◌%◌, ◌^◌, ◌<◌, ◌≤◌, Bool, true, false, List, [], Option, None, Some, IfSome, Ok, refl, ap, ap₂, sym, subst, ◌∙◌, arith, true≢false, is_some}
 use Rattle.std.specs.Option.{option_map, option_map_or}
 use Rattle.ca_base.specs.declared.limits.TheConstants.{MAX_MESSAGE_BYTES}
 use Rattle.ca_base.specs.declared.correspondent.Correspondent.{Correspondent}
 use Rattle.ca_base.specs.declared.request.SendOp.{SendOp}
 use Rattle.ca_base.specs.declared.request.SendOp.TheVariants as ops
 use Rattle.ca_base.specs.objects.QueuePair.{QueuePair}
-use Rattle.ca_connection.specs.Layout.{Direction, bytes_left, bytes_of, first, is_atomic, is_data, is_read}
-use Rattle.ca_connection.specs.Link.{NakReason, RequestPacket, Response, number_of}
+use Rattle.ca_connection.specs.Layout.{Direction, bytes_left, bytes_of, is_atomic, is_data, is_read}
+use Rattle.ca_connection.specs.Link.{NakReason, RequestPacket}
 use Rattle.ca_connection.specs.Link.Response.{Ack, Nak, Data, Found}
-use Rattle.ca_connection.specs.Link.NakReason.{ReceiverNotReady}
 use Rattle.ca_keys.specs.declared.access.Kind.TheVariants.{CmpSwap, FetchAdd}
-use Rattle.ca_keys.specs.declared.key.Key.{Key}
 use Rattle.ca_model.specs.Packets.{answers_read, is_response}
 use Rattle.ca_model.specs.Requests.{is_local, list_length, list_of, request_packet, reth_behind, segment}
 use Rattle.ca_model.specs.machine.Invariants.{IsQueue}
 use Rattle.ca_model.specs.machine.Numbering.{Numbered}
 use Rattle.ca_model.specs.machine.Requester.{index_of_packet, peer_number, psn_bits, spelt_packet}
-use Rattle.ca_packet.proofs.AllHeaders.{some_row}
 use Rattle.ca_packet.proofs.TableRows.{row_orderly}
 use Rattle.ca_packet.specs.Decoding.{packet_in}
-use Rattle.ca_packet.specs.Packet.{Fields, FitsBth, bth_of, pad_count, spelling}
+use Rattle.ca_packet.specs.Packet.{Fields, FitsBth, bth_of, spelling}
 use Rattle.ca_packet.specs.Table.{Row, operation_of, request_shape, row_of, shape_of}
 use Rattle.ca_packet.specs.declared.opcode.TheConstants.{ACKNOWLEDGE, ATOMIC_ACKNOWLEDGE, CMP_SWAP, FETCH_ADD, RDMA_READ_REQUEST}
 use Rattle.ca_packet.specs.declared.packet.TheConstants.{DEFAULT_PKEY}
@@ -32,11 +27,10 @@ use Rattle.ca_packet.specs.declared.shape.Operation.TheVariants.{Request, ReadRe
 use Rattle.ca_packet.specs.declared.shape.Shape.{Shape}
 use Rattle.ca_packet.specs.declared.shape.Shape.TheVariants as shapes
 use Rattle.ca_ties_rows.proofs.DecodeLemmas.{Decoded, decoded}
-use Rattle.ca_ties_rows.proofs.LayLemmas.{LiesAt}
 use Rattle.ca_ties_rows.proofs.ResponseRowLemmas.{IsRequestAt}
 use Rattle.ca_ties_rows.proofs.SpellLemmas.{aeth-decoded, read-decoded, result-decoded}
-use Rattle.ca_ties_rows.specs.Entries.{IsRequestOf, IsShapeOf, RequestEntry, ResponseEntry, Says, SpellsRequest, SpellsResponse, Tells, syndrome_of}
-use Rattle.ca_ties_rows.specs.Sides.{reason_of, work_of}
+use Rattle.ca_ties_rows.specs.Entries.{IsRequestOf, IsShapeOf, SpellsRequest, SpellsResponse, Tells}
+use Rattle.ca_ties_rows.specs.Sides.{work_of}
 use Rattle.ca_wire.proofs.OperationLaws.{read_response_is, send_is, write_is}
 use Rattle.ca_wire.specs.Builders.{acknowledge, atomic_acknowledge, cmp_swap, fetch_add, read_request, read_response, send_packet, write_packet}
 use Rattle.ca_wire.specs.Segment.{position_of}
@@ -44,9 +38,7 @@ use Rattle.ca_wire.specs.Syndrome.{FitsSyndrome}
 use Rattle.ca_wire.specs.declared.requests.SendKind.{SendKind}
 use Rattle.ca_wire.specs.declared.requests.SendKind.TheVariants.{Plain, WithImmediate, WithInvalidate}
 use Rattle.ca_wire.specs.declared.segment.Segment.{Segment}
-use Rattle.ca_wire.specs.declared.syndrome.NakCode.{NakCode}
 use Rattle.ca_wire.specs.declared.syndrome.Syndrome.{Syndrome}
-use Rattle.ca_wire.specs.declared.syndrome.Syndrome.TheVariants as syndromes
 
 -- an opcode of which the table has an operation has eight bits
 known-opcode : (opcode : ℕ) (o : Operation) → operation_of opcode ≡ Some o → opcode < 2 ^ 8

@@ -1,5 +1,5 @@
 -- The requests of a queue pair lie as those of the direction do, also once some are finished.
-use Rattle.std.proofs.Common.{◌≡◌, ℕ, zero, suc, ◌+◌, ◌-◌, ◌≤◌, ◌<◌, Bool, true, false, nat_le, nat_lt, if◌then◌else◌, List, [], ◌∷◌, length, drop, take, refl, ap, sym, subst, ◌∙◌, arith}
+use Rattle.std.proofs.Common.{◌≡◌, ℕ, zero, suc, ◌+◌, ◌-◌, ◌≤◌, Bool, true, false, nat_le, nat_lt, if◌then◌else◌, List, [], ◌∷◌, length, drop, take, refl, ap, sym, subst, ◌∙◌, arith}
 use Rattle.std.proofs.lemmas.Bool.{leb-true, ltb-true}
 use Rattle.std.proofs.lemmas.List.{drop-drop}
 use Rattle.std.proofs.lemmas.List.Sums.{sum_by-cons}
@@ -9,7 +9,7 @@ use Rattle.ca_base.specs.declared.request.SendOp.{SendOp}
 use Rattle.ca_base.specs.declared.request.SendOp.TheVariants as ops
 use Rattle.ca_base.specs.objects.QueuePair.{QueuePair}
 use Rattle.ca_base.specs.objects.WorkQueue.{items_from}
-use Rattle.ca_connection.specs.Layout.{Direction, Work, first, is_answered, is_atomic, is_read, psns}
+use Rattle.ca_connection.specs.Layout.{Direction, first, is_answered, is_atomic, is_read, psns}
 use Rattle.ca_laws_sound.proofs.NumberingLemmas.{count_sum}
 use Rattle.ca_model.specs.Requests.{psns_of}
 use Rattle.ca_model.specs.machine.Acknowledgements.{after_finished, finished_requests, with_requester, with_una}
@@ -141,9 +141,12 @@ ended-below d una place (n ∷ ns) there low = by (λ low. ended-below d una (su
 
     by : (first d (suc place) ≤ una → first d (suc place + length (take k ns)) ≤ una) → (b : Bool) → nat_le (psn_end n) una ≡ b
         → first d (place + length (take (if b then 1 + k else 0) (n ∷ ns))) ≤ una
-    by more true e = omega (arith, more (omega (arith, there.0.1.end, ap (λ m. first d (suc m)) there.0.0, leb-true (psn_end n) una e)),
-        ap (first d) (let f : suc place + length (take k ns) ≡ place + suc (length (take k ns)) = omega arith in f),
-        ap (λ j. first d (place + length (take j (n ∷ ns)))) (let f : 1 + k ≡ suc k = omega arith in f))
+    by more true e = omega (
+      arith,
+      more (omega (arith, there.0.1.end, ap (λ m. first d (suc m)) there.0.0, leb-true (psn_end n) una e)),
+      ap (first d) (let f : suc place + length (take k ns) ≡ place + suc (length (take k ns)) = omega arith in f),
+      ap (λ j. first d (place + length (take j (n ∷ ns)))) (let f : 1 + k ≡ suc k = omega arith in f),
+    )
     by more false e = omega (arith, low, ap (first d) (let f : place + 0 ≡ place = omega arith in f))
 
 pub laid-finished : (d : Direction) (q : QueuePair) → q.sends.first ≤ q.requester.oldest → IsLaid d q → IsLaid d (after_finished q)
@@ -161,8 +164,12 @@ laid-finished d q low laid = record {
     items = drop-drop count (q.requester.oldest - q.sends.first) q.sends.items ∙ ap (λ i. drop i q.sends.items) (omega (arith, low))
 
     end : q.requester.oldest_psn + count_sum (finished_requests q) ≡ first d (q.requester.oldest + count)
-    end = omega (arith, laid.begin, lie-end d q.requester.oldest (finished_requests q)
-        (take-lie d (prefix_len (λ n. nat_le (psn_end n) q.requester.una) (begun_requests q)) q.requester.oldest (begun_requests q) (begun-lie d q laid)))
+    end = omega (
+      arith,
+      laid.begin,
+      lie-end d q.requester.oldest (finished_requests q)
+          (take-lie d (prefix_len (λ n. nat_le (psn_end n) q.requester.una) (begun_requests q)) q.requester.oldest (begun_requests q) (begun-lie d q laid)),
+    )
 
 pub laid-una : (d : Direction) (psn : ℕ) (q : QueuePair) → IsLaid d q → IsLaid d (with_una psn q)
 laid-una d psn q laid = by (nat_lt q.requester.una psn) refl

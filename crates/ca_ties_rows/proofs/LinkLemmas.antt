@@ -1,19 +1,18 @@
 -- What rows do is a move of a link: it leads to another link.
-use Rattle.std.proofs.Common.{◌≡◌, ℕ, ◌+◌, ◌≤◌, ◌%◌, ◌^◌, ◌==◌, Bool, true, false, if◌then◌else◌, List, [], ◌∷◌, ◌++◌, map, slice_get, Option, None, Some, refl, ap, ap₂, sym, subst, ◌∙◌, true≢false, arith}
+use Rattle.std.proofs.Common.{◌≡◌, ℕ, ◌+◌, ◌%◌, ◌^◌, ◌==◌, Bool, true, false, if◌then◌else◌, List, [], ◌∷◌, ◌++◌, map, Some, refl, ap, ap₂, sym, ◌∙◌}
 use Rattle.std.proofs.lemmas.Bool.{eqb-true}
 use Rattle.ca_base.specs.objects.QueuePair.{QueuePair}
 use Rattle.ca_connection.proofs.OnceLemmas.{law-request-near, law-response-near}
-use Rattle.ca_connection.proofs.MoveLemmas.{reached-sound}
 use Rattle.ca_connection.specs.Layout.{Direction, is_atomic, span}
-use Rattle.ca_connection.specs.Link.{Acceptance, AtomicCompletion, Link, Rejection, RequestPacket, Requester, Responder, Response, SavedResult, number_of}
-use Rattle.ca_connection.specs.Moves.{Keeps, MayArrive, MayBeTaken, Move, Reached, Receives, Reception, Responds, Takes, acceptances_after, after_arrival, after_request, after_response, with_one}
-use Rattle.ca_connection.specs.Moves.Move.{arrive, clear_requests, clear_responses, forget, go_back, other_request, other_response, respond as move_respond, respond_nowhere, send as move_send, send_nowhere, take as move_take}
+use Rattle.ca_connection.specs.Link.{Acceptance, Link, RequestPacket, Responder, Response, number_of}
+use Rattle.ca_connection.specs.Moves.{MayArrive, MayBeTaken, Reached, Reception, acceptances_after, after_arrival, after_request, after_response, with_one}
+use Rattle.ca_connection.specs.Moves.Move.{arrive, forget, go_back, respond as move_respond, respond_nowhere, send as move_send, send_nowhere, take as move_take}
 use Rattle.ca_connection.specs.Moves.Reached.{move}
 use Rattle.ca_connection.specs.Moves.Reception.{Neither, Rejected, Accepted}
 use Rattle.ca_model.specs.machine.Row.{Effects}
 use Rattle.ca_psn.specs.Psn.{widened}
 use Rattle.ca_ties_rows.specs.Links.{IsReceived, IsTaken, LeadsTo, found_at}
-use Rattle.ca_ties_rows.specs.Moves.{ForgetsIn, GoesBackIn, ReceivesIn, RespondsIn, SendsIn, StaysIn, TakesIn, found_in, numbers_found}
+use Rattle.ca_ties_rows.specs.Moves.{ForgetsIn, GoesBackIn, ReceivesIn, RespondsIn, SendsIn, TakesIn, found_in}
 use Rattle.ca_ties_rows.specs.Sides.{kept_result, requester_in, responder_in, said}
 use Rattle.ca_ties_rows.proofs.KeepLemmas.{keeps-all}
 
@@ -37,30 +36,36 @@ found-grows d w place at (Accepted found) before is = by (place == at) refl
 
 pub received-moves : (d : Direction) (l : Link) (k : ℕ) (x : RequestPacket) (e : Effects) → Reached d l → MayArrive l k x
     → ReceivesIn d x (widened l.responder.expected (x.number % 2 ^ 24)) l.responder e → (widened l.responder.expected (x.number % 2 ^ 24) ≡ x.number) × IsReceived d l x (responder_in e.queue) e
-received-moves d l k x e reached may does = ((law-request-near d l k x reached may).exact, record {
-  link = after_arrival l x (widened l.responder.expected (x.number % 2 ^ 24)) (responder_in e.queue) does.reception;
-  reached = move reached (arrive k x (responder_in e.queue) does.reception may does.receives);
-  requester_is = refl;
-  responder_is = refl;
-  requests_are = refl;
-  responses_are = refl;
-  completions = refl;
-  found = λ place is. found-grows d (widened l.responder.expected (x.number % 2 ^ 24)) x.place place does.reception l.acceptances is
-      ∙ ap (λ ns. (if x.place == place then ns else []) ++ found_at place l.acceptances) (sym does.found);
-})
+received-moves d l k x e reached may does = (
+  (law-request-near d l k x reached may).exact,
+  record {
+    link = after_arrival l x (widened l.responder.expected (x.number % 2 ^ 24)) (responder_in e.queue) does.reception;
+    reached = move reached (arrive k x (responder_in e.queue) does.reception may does.receives);
+    requester_is = refl;
+    responder_is = refl;
+    requests_are = refl;
+    responses_are = refl;
+    completions = refl;
+    found = λ place is. found-grows d (widened l.responder.expected (x.number % 2 ^ 24)) x.place place does.reception l.acceptances is
+        ∙ ap (λ ns. (if x.place == place then ns else []) ++ found_at place l.acceptances) (sym does.found);
+  },
+)
 
 pub taken-moves : (d : Direction) (l : Link) (k : ℕ) (a : Response) (e : Effects) → Reached d l → MayBeTaken l k a
     → (does : TakesIn d a (widened l.requester.una (number_of a % 2 ^ 24)) l.requester e) → (widened l.requester.una (number_of a % 2 ^ 24) ≡ number_of a) × IsTaken d l (requester_in e.queue) does.completion
-taken-moves d l k a e reached may does = ((law-response-near d l k a reached may).exact, record {
-  link = record l { requester = requester_in e.queue; completions = with_one does.completion l.completions };
-  reached = move reached (move_take k a (requester_in e.queue) does.completion may does.takes);
-  requester_is = refl;
-  responder_is = refl;
-  requests_are = refl;
-  responses_are = refl;
-  acceptances = refl;
-  completions = refl;
-})
+taken-moves d l k a e reached may does = (
+  (law-response-near d l k a reached may).exact,
+  record {
+    link = record l { requester = requester_in e.queue; completions = with_one does.completion l.completions };
+    reached = move reached (move_take k a (requester_in e.queue) does.completion may does.takes);
+    requester_is = refl;
+    responder_is = refl;
+    requests_are = refl;
+    responses_are = refl;
+    acceptances = refl;
+    completions = refl;
+  },
+)
 
 -- a requester by its two numbers
 requester-is : (p : QueuePair) (una cursor : ℕ) → p.requester.una ≡ una → p.requester.cursor ≡ cursor → record { una = una; cursor = cursor } ≡ requester_in p

@@ -1,5 +1,5 @@
 -- A local operation, which takes no number, leaves the requester's numbers.
-use Rattle.std.proofs.Common.{◌≡◌, ℕ, suc, ◌+◌, ◌-◌, ◌≤◌, ◌<◌, ◌&&◌, ◌||◌, Bool, true, false, nat_lt, if◌then◌else◌, List, [], drop, Option, None, Some, IfSome, is_none, is_some, slice_get, refl, ap, ap₂, sym, subst, ◌∙◌, arith, true≢false}
+use Rattle.std.proofs.Common.{◌≡◌, ℕ, suc, ◌+◌, ◌-◌, ◌≤◌, ◌&&◌, ◌||◌, Bool, true, false, nat_lt, if◌then◌else◌, drop, Option, None, Some, IfSome, is_none, is_some, refl, ap, ap₂, sym, subst, ◌∙◌, arith, true≢false}
 use Rattle.std.proofs.lemmas.Bool.{ltb-false, or_parts}
 use Rattle.std.proofs.lemmas.List.{drop-drop}
 use Rattle.std.proofs.lemmas.Option.{same_Some}
@@ -10,22 +10,19 @@ use Rattle.ca_base.specs.declared.refusals.OpRefusal.{OpRefusal}
 use Rattle.ca_base.specs.declared.request.SendOp.{SendOp}
 use Rattle.ca_base.specs.declared.request.SendOp.TheVariants as ops
 use Rattle.ca_base.specs.declared.step.Reason.{Reason}
-use Rattle.ca_base.specs.declared.step.Reason.TheVariants as reasons
 use Rattle.ca_base.specs.objects.LocalRequest.{LocalMarks}
 use Rattle.ca_base.specs.objects.QueuePair.{QueuePair}
 use Rattle.ca_base.specs.objects.WorkQueue.{items_from}
-use Rattle.ca_connection.specs.Layout.{Direction, Work, first, psns}
+use Rattle.ca_connection.specs.Layout.{Direction, first, psns}
 use Rattle.ca_connection.specs.Layout.Work.{Local}
 use Rattle.ca_keys.specs.Refusals.{first_of}
 use Rattle.ca_laws_sound.proofs.NumberingLemmas.{all-got}
 use Rattle.ca_laws_sound.proofs.TurnLemmas.{NoReason, sending-parts, turn_from}
 use Rattle.ca_model.specs.Requests.{is_local}
-use Rattle.ca_model.specs.machine.Acknowledgements.{failure_effects}
 use Rattle.ca_model.specs.machine.Invariants.{IsQueue, is_sending}
 use Rattle.ca_model.specs.machine.LocalOperations.{after_operation, operation_effects}
 use Rattle.ca_model.specs.machine.Numbering.{Numbered, begun_requests, is_answered_op, next_to_begin, request_at, unfinished_requests}
-use Rattle.ca_model.specs.machine.Requester.{Performs, RequestTurn, Sends, Waits, begins, is_fenced, next_request, turn_of, turn_refusals}
-use Rattle.ca_model.specs.machine.Row.{Effects}
+use Rattle.ca_model.specs.machine.Requester.{Performs, RequestTurn, Sends, Waits, is_fenced, next_request, turn_of, turn_refusals}
 use Rattle.ca_ties_rows.proofs.ForgetLemmas.{Forgets, failure-forgets, stays}
 use Rattle.ca_ties_rows.proofs.LayLemmas.{LiesAt, all-lie, drop-work, unfinished-lie}
 use Rattle.ca_ties_rows.proofs.PacketRowLemmas.{got-place}

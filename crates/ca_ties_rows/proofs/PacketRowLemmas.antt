@@ -1,11 +1,10 @@
 -- The turn of the requester: the packet that it sends is the one at its cursor, as a link's requester sends it.
-use Rattle.std.proofs.Common.{◌≡◌, ℕ, zero, suc, ◌+◌, ◌-◌, ◌*◌, ◌≤◌, ◌<◌, ◌==◌, ◌&&◌, ◌||◌, max, Bool, true, false, nat_le, nat_lt, not, if◌then◌else◌, List, [], ◌∷◌, length, take, Option, None, Some, IfSome, is_some, slice_get, refl, ap, sym, subst, ◌∙◌, arith, true≢false, lt-ltb, le-leb}
-use Rattle.std.proofs.lemmas.Bool.{eqb-true, ltb-false, ltb-true, or_parts}
+use Rattle.std.proofs.Common.{◌≡◌, ℕ, zero, suc, ◌+◌, ◌-◌, ◌≤◌, ◌<◌, ◌==◌, ◌&&◌, ◌||◌, max, Bool, true, false, nat_le, nat_lt, not, if◌then◌else◌, List, [], ◌∷◌, length, Option, None, Some, IfSome, is_some, slice_get, refl, ap, sym, subst, ◌∙◌, arith, true≢false, le-leb}
+use Rattle.std.proofs.lemmas.Bool.{eqb-true, ltb-false}
 use Rattle.std.proofs.lemmas.List.{length-take}
 use Rattle.std.proofs.lemmas.Option.{slice_get_within}
 use Rattle.std.specs.List.{find, flat_map, sum_by}
 use Rattle.std.specs.Option.{option_or}
-use Rattle.ca_base.specs.declared.completion.WcStatus.TheVariants.{LocalProtection}
 use Rattle.ca_base.specs.declared.denied_ask.DeniedAsk.{DeniedAsk}
 use Rattle.ca_base.specs.declared.limits.TheConstants.{MAX_MESSAGE_BYTES, MAX_OUTSTANDING_PACKETS, MAX_OUTSTANDING_PSNS, MIN_PATH_MTU}
 use Rattle.ca_base.specs.declared.request.SendOp.{SendOp}
@@ -14,22 +13,21 @@ use Rattle.ca_base.specs.declared.step.Reason.TheVariants as reasons
 use Rattle.ca_base.specs.objects.QueuePair.{QueuePair}
 use Rattle.ca_base.specs.objects.StateTable.{is_path_mtu}
 use Rattle.ca_connection.proofs.LayoutLemmas.{segments-most, span-is_read, span-not_read, span-read}
-use Rattle.ca_connection.specs.Layout.{Direction, HasNumber, bytes_left, bytes_of, first, is_read, psns, segments, span}
+use Rattle.ca_connection.specs.Layout.{Direction, bytes_left, bytes_of, first, is_read, psns, span}
 use Rattle.ca_connection.specs.Limits.{greatest_span}
 use Rattle.ca_keys.specs.Refusals.{first_of}
 use Rattle.ca_laws_sound.proofs.NumberingLemmas.{all-got, next-short}
 use Rattle.ca_laws_sound.proofs.TurnLemmas.{sending-parts, sends-parts}
 use Rattle.ca_laws_steady.proofs.SendLemmas.{psns-some}
 use Rattle.ca_model.specs.Requests.{is_local, list_length, list_of}
-use Rattle.ca_model.specs.machine.Acknowledgements.{failure_effects}
 use Rattle.ca_model.specs.machine.Invariants.{IsList, IsQueue, is_sending}
 use Rattle.ca_model.specs.machine.Numbering.{Numbered, begun_requests, has_psn, is_read as is_read_op, next_to_begin, psn_end, request_at, unfinished_requests}
-use Rattle.ca_model.specs.machine.Requester.{Sends, answers_between, begins, denied_list_effects, end_of_packet, is_outstanding, is_too_much, next_request, packet_asks, packet_row, packets_between, sent_packet, turn_of, turn_refusals}
-use Rattle.ca_model.specs.machine.Row.{Does, Effects, Ending, NotPossible, Row, plain_row}
+use Rattle.ca_model.specs.machine.Requester.{Sends, answers_between, denied_list_effects, end_of_packet, is_outstanding, is_too_much, next_request, packet_asks, packet_row, packets_between, sent_packet, turn_of, turn_refusals}
+use Rattle.ca_model.specs.machine.Row.{Does, NotPossible, Row, plain_row}
 use Rattle.ca_ties_rows.proofs.EntryLemmas.{request-spelt}
 use Rattle.ca_ties_rows.proofs.LayLemmas.{Lie, LiesAt, all-lie, begun-lie, lie-end, psns-of-work, read-of-work, unfinished-lie}
 use Rattle.ca_ties_rows.proofs.ResponseRowLemmas.{IsRequestAt, request-found}
-use Rattle.ca_ties_rows.specs.Moves.{EndingLeads, IsRequestTurn, RowLeads, SendsIn}
+use Rattle.ca_ties_rows.specs.Moves.{EndingLeads, IsRequestTurn, RowLeads}
 use Rattle.ca_ties_rows.specs.Sides.{IsLaid, requester_in, work_of}
 
 -- where no request has a PSN from the first on, it lies behind them all
@@ -149,10 +147,13 @@ few-psns d w n wide short has = by (is_read (d.work n.place)) refl
 
 -- the packet leaves no more outstanding than may be
 packet-room : (q : QueuePair) (n : Numbered) → is_too_much q n ≡ false → end_of_packet q n ≤ q.requester.una + MAX_OUTSTANDING_PSNS
-packet-room q n is = omega (arith, ltb-false MAX_OUTSTANDING_PSNS (end_of_packet q n - q.requester.una)
-    (first_false (nat_lt MAX_OUTSTANDING_PSNS (end_of_packet q n - q.requester.una))
-    (nat_lt MAX_OUTSTANDING_PACKETS (sum_by (packets_between q.requester.una (end_of_packet q n)) (unfinished_requests q)))
-    (nat_lt q.requester.reads (sum_by (answers_between q.requester.una (end_of_packet q n)) (unfinished_requests q))) is))
+packet-room q n is = omega (
+  arith,
+  ltb-false MAX_OUTSTANDING_PSNS (end_of_packet q n - q.requester.una)
+      (first_false (nat_lt MAX_OUTSTANDING_PSNS (end_of_packet q n - q.requester.una))
+      (nat_lt MAX_OUTSTANDING_PACKETS (sum_by (packets_between q.requester.una (end_of_packet q n)) (unfinished_requests q)))
+      (nat_lt q.requester.reads (sum_by (answers_between q.requester.una (end_of_packet q n)) (unfinished_requests q))) is),
+)
   where
     first_false : (a b c : Bool) → (a || b || c) ≡ false → a ≡ false
     first_false true b c e = e

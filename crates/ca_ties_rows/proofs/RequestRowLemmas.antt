@@ -1,5 +1,5 @@
 -- The rows of the responder: what each makes of a packet, a link's responder may make of it.
-use Rattle.std.proofs.Common.{◌≡◌, ℕ, suc, ◌+◌, ◌-◌, ◌≤◌, ◌<◌, ◌==◌, ◌&&◌, ◌||◌, Bool, true, false, nat_le, nat_lt, not, if◌then◌else◌, List, [], ◌∷◌, ◌++◌, length, map, take, Option, None, Some, IfSome, is_none, refl, ap, sym, subst, ◌∙◌, arith}
+use Rattle.std.proofs.Common.{◌≡◌, ℕ, ◌+◌, ◌-◌, ◌≤◌, ◌<◌, ◌==◌, ◌&&◌, Bool, true, false, nat_le, nat_lt, if◌then◌else◌, List, [], ◌∷◌, ◌++◌, length, map, take, Option, None, Some, IfSome, is_none, refl, ap, sym, subst, ◌∙◌, arith}
 use Rattle.std.proofs.lemmas.Bool.{leb-true, ltb-false, ltb-true, eqb-true}
 use Rattle.std.proofs.lemmas.List.{map-append}
 use Rattle.std.specs.List.{Contains, flat_map}
@@ -9,13 +9,10 @@ use Rattle.ca_keys.specs.declared.access.Ask.{Ask}
 use Rattle.ca_keys.specs.declared.access.Kind.{Kind}
 use Rattle.ca_keys.specs.declared.access.Kind.TheVariants as kinds
 use Rattle.ca_keys.specs.declared.verdict.Verdict.TheVariants as verdicts
-use Rattle.ca_base.specs.Sight.{Invalidation}
 use Rattle.ca_base.specs.declared.completion.WcOp.TheVariants as operations
 use Rattle.ca_base.specs.declared.completion.WcStatus.{WcStatus}
 use Rattle.ca_base.specs.declared.completion.WcStatus.TheVariants.{Success, LocalLength, LocalProtection, MemoryManagement}
-use Rattle.ca_base.specs.declared.denied_ask.DeniedAsk.{DeniedAsk}
 use Rattle.ca_base.specs.declared.limits.TheConstants.{ATOMIC_BYTES, MAX_DUPLICATES, SAVED_RESULTS}
-use Rattle.ca_base.specs.declared.queue_numbers.Message.{Message}
 use Rattle.ca_base.specs.declared.queue_numbers.Message.TheVariants as messages
 use Rattle.ca_base.specs.declared.queue_numbers.Queued.{Queued}
 use Rattle.ca_base.specs.declared.queue_numbers.Queued.TheVariants as queued
@@ -30,7 +27,7 @@ use Rattle.ca_connection.proofs.LayoutLemmas.{span-is_read}
 use Rattle.ca_connection.proofs.ListLemmas.{contains-head, contains-more}
 use Rattle.ca_connection.specs.Layout.{Direction, Work, bytes_left, is_atomic, is_data, is_read, segments, span}
 use Rattle.ca_connection.specs.Layout.Work.{Local, Send, Write, Read, Atomic}
-use Rattle.ca_connection.specs.Link.{NakReason, RequestPacket, Responder, Response, SavedResult}
+use Rattle.ca_connection.specs.Link.{RequestPacket, Responder, Response}
 use Rattle.ca_connection.specs.Link.NakReason.{PsnSequenceError as SequenceReason, ReceiverNotReady}
 use Rattle.ca_connection.specs.Link.Response.{Ack, Nak, Data, Found}
 use Rattle.ca_connection.specs.Moves.{Keeps, Reception, Receives, responder_at, with_response}
@@ -45,12 +42,12 @@ use Rattle.ca_model.specs.declared.mark.Mark.{Mark}
 use Rattle.ca_model.specs.declared.receiving.Receiving.{Receiving}
 use Rattle.ca_model.specs.declared.write_reach.WriteReach.{WriteReach}
 use Rattle.ca_model.specs.machine.Arrivals.{next_receive, packet_ask, refusal_effects, remote_mark, with_answer, with_flag, with_message, with_receive_taken}
-use Rattle.ca_model.specs.machine.Completions.{flush_marks, receive_failure, receive_mark}
+use Rattle.ca_model.specs.machine.Completions.{receive_failure, receive_mark}
 use Rattle.ca_model.specs.machine.Duplicates.{ack_again, ahead_effects, answer_again, atomic_again, duplicate_effects, read_again, request_row}
 use Rattle.ca_model.specs.machine.Expected.{after_send_packet, after_write_packet, atomic_row, behind_marks, expected_row, invalidation_of, is_invalid, message_left, queue_after_packet, read_queued, receive_asks, receive_failure_effects, receiving_of, revoked_marks, rnr_effects, send_row, takes_receive, valid_row, with_shared_receive, with_window_gone, write_reach, write_row}
 use Rattle.ca_model.specs.machine.Requester.{local_denial}
 use Rattle.ca_model.specs.machine.Responses.{drop_effects, local_writes, writes_by}
-use Rattle.ca_model.specs.machine.Row.{Does, Effects, Ending, Row, plain_row, queue_and_marks}
+use Rattle.ca_model.specs.machine.Row.{Does, Effects, Row, plain_row, queue_and_marks}
 use Rattle.ca_packet.specs.Packet.{Fields}
 use Rattle.ca_packet.specs.Shapes.{ends}
 use Rattle.ca_packet.specs.declared.atomic_eth.AtomicEth.{AtomicEth}
@@ -61,7 +58,7 @@ use Rattle.ca_packet.specs.declared.shape.Shape.TheVariants as shapes
 use Rattle.ca_psn.specs.Psn.{widened}
 use Rattle.ca_ties_rows.proofs.FoundLemmas.{flush-none, found-behind, revoked-none, writes-none}
 use Rattle.ca_ties_rows.proofs.KeepLemmas.{keeps-all, keeps-filter, keeps-take}
-use Rattle.ca_ties_rows.specs.Entries.{IsShapeOf, RequestEntry}
+use Rattle.ca_ties_rows.specs.Entries.{RequestEntry}
 use Rattle.ca_ties_rows.specs.Moves.{ReceivesIn, RowLeads, found_in, numbers_found}
 use Rattle.ca_ties_rows.specs.Sides.{kept_result, reason_of, responder_in, said}
 use Rattle.ca_wire.specs.Syndrome.{nak_code}

@@ -1,25 +1,24 @@
 -- The turn of the responder: the response that it sends is one that a link's responder may send.
-use Rattle.std.proofs.Common.{◌≡◌, ℕ, suc, ◌+◌, ◌-◌, ◌≤◌, ◌<◌, ◌==◌, min, Bool, true, false, nat_le, nat_lt, if◌then◌else◌, List, [], ◌∷◌, drop, map, Option, None, Some, slice_get, refl, ap, ap₂, sym, subst, ◌∙◌, arith, lt-ltb}
+use Rattle.std.proofs.Common.{◌≡◌, ℕ, suc, ◌+◌, ◌-◌, Bool, true, false, nat_lt, if◌then◌else◌, List, [], ◌∷◌, drop, map, Option, None, Some, slice_get, refl, ap, ap₂, sym, subst, ◌∙◌, arith, lt-ltb}
 use Rattle.std.proofs.lemmas.Bool.{leb-false, leb-true, ltb-true}
 use Rattle.std.specs.List.{flat_map}
-use Rattle.ca_base.specs.declared.denied_ask.DeniedAsk.{DeniedAsk}
 use Rattle.ca_base.specs.declared.queue_numbers.Queued.{Queued}
 use Rattle.ca_base.specs.declared.queue_numbers.Queued.TheVariants as queued
 use Rattle.ca_base.specs.declared.step.Reason.{Reason}
 use Rattle.ca_base.specs.declared.step.Reason.TheVariants as reasons
-use Rattle.ca_base.specs.objects.QueuePair.{QueuePair, in_error, without_answers}
+use Rattle.ca_base.specs.objects.QueuePair.{QueuePair}
 use Rattle.ca_connection.proofs.MoveLemmas.{reached-sound}
-use Rattle.ca_connection.specs.Invariant.{Holds, QueueFact, ReadsFrom}
-use Rattle.ca_connection.specs.Layout.{Direction, HasNumber}
-use Rattle.ca_connection.specs.Link.{Link, Rejection, Responder, Response}
+use Rattle.ca_connection.specs.Invariant.{QueueFact, ReadsFrom}
+use Rattle.ca_connection.specs.Layout.{Direction}
+use Rattle.ca_connection.specs.Link.{Link, Responder, Response}
 use Rattle.ca_connection.specs.Link.NakReason.{ReceiverNotReady, RemoteAccessError}
-use Rattle.ca_connection.specs.Link.Response.{Ack, Nak, Data, Found}
+use Rattle.ca_connection.specs.Link.Response.{Nak, Data}
 use Rattle.ca_connection.specs.Moves.{Reached, Responds, rest_of as rest_of_link}
 use Rattle.ca_connection.specs.Moves.Responds.{front, deny}
 use Rattle.ca_keys.specs.Refusals.{first_of}
 use Rattle.ca_model.specs.declared.read_left.ReadLeft.{ReadLeft}
 use Rattle.ca_model.specs.machine.Respond.{answer_turn, is_last_response, nak_of, read_answer, read_row, respond_refusals, respond_row, response_segment, rest_of, with_front, without_front}
-use Rattle.ca_model.specs.machine.Row.{Does, Effects, NotPossible, Row, plain_row}
+use Rattle.ca_model.specs.machine.Row.{Effects, NotPossible, Row, plain_row}
 use Rattle.ca_model.specs.machine.Invariants.{IsQueue}
 use Rattle.ca_model.specs.machine.Requester.{peer_number}
 use Rattle.ca_ties_rows.proofs.EntryLemmas.{ack-spelt, found-spelt, nak-spelt, peer-fits, read-spelt}

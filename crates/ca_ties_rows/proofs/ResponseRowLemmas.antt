@@ -1,19 +1,15 @@
 -- The rows of the requester: what each makes of a response, a link's requester may make of it.
-use Rattle.std.proofs.Common.{◌≡◌, ℕ, suc, ◌+◌, ◌-◌, ◌≤◌, ◌<◌, ◌==◌, ◌&&◌, Bool, true, false, nat_le, nat_lt, not, if◌then◌else◌, List, [], ◌∷◌, ◌++◌, length, Option, None, Some, IfSome, refl, ap, sym, subst, ◌∙◌, arith, true≢false}
+use Rattle.std.proofs.Common.{◌≡◌, ℕ, suc, ◌+◌, ◌≤◌, ◌<◌, ◌==◌, ◌&&◌, Bool, true, false, nat_le, nat_lt, not, if◌then◌else◌, List, [], ◌∷◌, length, Option, None, Some, IfSome, refl, ap, sym, subst, ◌∙◌, arith, true≢false}
 use Rattle.std.proofs.lemmas.Bool.{and_parts, eqb-true, leb-true, ltb-false, ltb-true}
 use Rattle.std.specs.List.{find}
-use Rattle.std.specs.Option.{option_and_then}
-use Rattle.ca_keys.specs.declared.access.Ask.{Ask}
-use Rattle.ca_base.specs.declared.change.State.TheVariants as states
 use Rattle.ca_base.specs.declared.completion.WcStatus.{WcStatus}
 use Rattle.ca_base.specs.declared.completion.WcStatus.TheVariants.{BadResponse, LocalProtection, RemoteAccess, RemoteInvalidRequest, RemoteOperation, RetryExceeded, RnrRetryExceeded}
-use Rattle.ca_base.specs.declared.denied_ask.DeniedAsk.{DeniedAsk}
 use Rattle.ca_base.specs.declared.limits.TheConstants.{MAX_RETRY}
 use Rattle.ca_base.specs.declared.refusals.OpRefusal.{OpRefusal}
 use Rattle.ca_base.specs.objects.QueuePair.{QueuePair}
 use Rattle.ca_connection.specs.Acknowledge.{PassesNone}
-use Rattle.ca_connection.specs.Layout.{Direction, HasNumber, first, is_atomic, is_read}
-use Rattle.ca_connection.specs.Link.{AtomicCompletion, NakReason, Requester, Response, gain, number_of}
+use Rattle.ca_connection.specs.Layout.{Direction, HasNumber, is_atomic, is_read}
+use Rattle.ca_connection.specs.Link.{AtomicCompletion, Requester, Response, gain}
 use Rattle.ca_connection.specs.Link.Response.{Ack, Nak, Data, Found}
 use Rattle.ca_connection.specs.Moves.{Takes}
 use Rattle.ca_connection.specs.Moves.Takes.{drop as response_drop, acknowledge, read as response_read, atomic as response_atomic}
@@ -21,21 +17,20 @@ use Rattle.ca_laws_sound.proofs.NumberingLemmas.{all-found}
 use Rattle.ca_model.specs.Packets.{answers_read}
 use Rattle.ca_model.specs.declared.mark.Drop1.{Drop1}
 use Rattle.ca_model.specs.declared.mark.Drop1.TheVariants as drops
-use Rattle.ca_model.specs.machine.Acknowledgements.{Acknowledgement, acknowledgement_below, after_finished, and_then, failure_effects, first_unanswered, one_retry, progress_to, with_cursor, with_requester, with_una}
-use Rattle.ca_model.specs.machine.Invariants.{IsQueue, begun_end, is_sending}
+use Rattle.ca_model.specs.machine.Acknowledgements.{Acknowledgement, acknowledgement_below, and_then, failure_effects, first_unanswered, one_retry, progress_to, with_cursor, with_requester, with_una}
+use Rattle.ca_model.specs.machine.Invariants.{IsQueue, is_sending}
 use Rattle.ca_model.specs.machine.Numbering.{Numbered, begun_requests, has_psn, is_atomic_op, is_read as is_read_op, psn_end, request_at}
-use Rattle.ca_model.specs.machine.Requester.{local_denial}
-use Rattle.ca_model.specs.machine.Responses.{acknowledge_row, answer_asks, answer_bytes, answer_row, drop_effects, ends_read, fits_request, fitting_row, is_outstanding_at, local_writes, nak_effects, outstanding_row, response_psn, response_row, rnr_nak_effects, segment_length, unless_back, writes_by}
+use Rattle.ca_model.specs.machine.Responses.{acknowledge_row, answer_row, drop_effects, ends_read, fits_request, fitting_row, is_outstanding_at, nak_effects, outstanding_row, response_psn, response_row, rnr_nak_effects, segment_length, unless_back}
 use Rattle.ca_model.specs.machine.Row.{Does, Effects, Row, plain_row, queue_and_marks}
 use Rattle.ca_packet.specs.Packet.{Fields}
 use Rattle.ca_packet.specs.Table.{row_of}
 use Rattle.ca_packet.specs.declared.opcode.TheConstants.{ACKNOWLEDGE, ATOMIC_ACKNOWLEDGE}
 use Rattle.ca_ties_rows.proofs.LayLemmas.{LiesAt, all-lie, atomic-of-work, begun-lie, laid-finished, laid-una, read-of-work}
 use Rattle.ca_ties_rows.proofs.RequestRowLemmas.{plain}
-use Rattle.ca_ties_rows.proofs.WalkLemmas.{IsStop, Stops, acknowledgement-stops}
+use Rattle.ca_ties_rows.proofs.WalkLemmas.{Stops, acknowledgement-stops}
 use Rattle.ca_ties_rows.specs.Entries.{ResponseEntry, Says, Tells, syndrome_of}
 use Rattle.ca_ties_rows.specs.Moves.{RowLeads, TakesIn}
-use Rattle.ca_ties_rows.specs.Sides.{IsLaid, reason_of, requester_in}
+use Rattle.ca_ties_rows.specs.Sides.{IsLaid, requester_in}
 use Rattle.ca_wire.specs.declared.syndrome.NakCode.{NakCode}
 use Rattle.ca_wire.specs.declared.syndrome.NakCode.TheVariants as codes
 use Rattle.ca_wire.specs.declared.syndrome.Syndrome.{Syndrome}

@@ -1,21 +1,15 @@
 -- The packets that both sides spell are those of their entries, where they decode.
-use Rattle.std.proofs.Common.{◌≡◌, ℕ, ◌+◌, ◌-◌, ◌*◌, ◌/◌, ◌%◌, ◌^◌, ◌<◌, ◌≤◌, ◌==◌, Bool, true, false, List, [], ◌∷◌, ◌++◌, drop, length, replicate, Option, None, Some, IfSome, Ok, refl, ap, sym, subst, ◌∙◌, arith, append_assoc, true≢false}
+use Rattle.std.proofs.Common.{◌≡◌, ℕ, ◌/◌, ◌%◌, ◌^◌, ◌<◌, List, [], ◌∷◌, ◌++◌, drop, Some, IfSome, refl, ap, sym, subst, ◌∙◌, arith, append_assoc}
 use Rattle.std.proofs.lemmas.List.{drop_at, take_at}
 use Rattle.std.proofs.lemmas.Option.{same_Some}
-use Rattle.std.specs.Int.{Width, byte_len, from_be_bytes, w32, w64}
-use Rattle.std.specs.Option.{option_and_then, option_map, option_map_or}
-use Rattle.ca_base.specs.declared.request.SendOp.{SendOp}
-use Rattle.ca_base.specs.declared.request.SendOp.TheVariants as ops
-use Rattle.ca_connection.specs.Layout.{Direction, bytes_left, is_atomic, is_data, is_read}
-use Rattle.ca_connection.specs.Link.{NakReason, RequestPacket, Response, number_of}
-use Rattle.ca_connection.specs.Link.Response.{Ack, Nak, Data, Found}
+use Rattle.std.specs.Int.{w32, w64}
+use Rattle.std.specs.Option.{option_and_then}
 use Rattle.ca_packet.proofs.HeaderLaws.{aeth_header}
 use Rattle.ca_packet.proofs.NumberLaws.{number_again, wide32, wide64}
-use Rattle.ca_packet.specs.Decoding.{aeth_from, headers_at, number_at, number_from, packet_in, reth_from}
-use Rattle.ca_packet.specs.Packet.{Fields, FitsBth, aeth_bytes, be_bytes, bth_of, reth_bytes, spelling}
-use Rattle.ca_packet.specs.Table.{AETH, AtomicAckETH, Header, RETH, Row, headers_of, operation_of, row_of, shape_of}
+use Rattle.ca_packet.specs.Decoding.{aeth_from, headers_at, number_at, number_from, reth_from}
+use Rattle.ca_packet.specs.Packet.{Fields, aeth_bytes, be_bytes, reth_bytes}
+use Rattle.ca_packet.specs.Table.{AETH, AtomicAckETH, Header, RETH, Row, row_of}
 use Rattle.ca_packet.specs.declared.aeth.Aeth.{Aeth}
-use Rattle.ca_packet.specs.declared.opcode.TheConstants.{ACKNOWLEDGE, ATOMIC_ACKNOWLEDGE, CMP_SWAP, FETCH_ADD, RDMA_READ_REQUEST}
 use Rattle.ca_packet.specs.declared.reth.Reth.{Reth}
 use Rattle.ca_ties_rows.specs.Entries.{syndrome_of}
 use Rattle.ca_wire.proofs.SyndromeLaws.{received}
@@ -24,7 +18,7 @@ use Rattle.ca_wire.specs.Syndrome.{FitsSyndrome, syndrome_byte, syndrome_in}
 use Rattle.ca_wire.specs.declared.syndrome.Syndrome.{Syndrome}
 use Rattle.ca_wire.specs.declared.syndrome.Syndrome.TheVariants as syndromes
 use Rattle.ca_wire.specs.declared.syndrome.NakCode.TheVariants as codes
-use Rattle.ca_ties_rows.proofs.DecodeLemmas.{Decoded, behind_bth, decoded}
+use Rattle.ca_ties_rows.proofs.DecodeLemmas.{Decoded, behind_bth}
 
 -- eight bytes of a number are those of what is left of it modulo 2^64
 low-bytes : (n : ℕ) → be_bytes w64 n ≡ be_bytes w64 (n % 2 ^ 64)
@@ -85,6 +79,6 @@ result-decoded found queue psn msn p dec =
     let headers : AETH ∷ AtomicAckETH ∷ [] ≡ dec.row.headers = ap (λ (r : Row). r.headers) (same_Some _ _ dec.known) in
     let there : p.«result» ≡ Some (number_from w64 (drop 4 (behind_bth f))) = dec.«result» ∙ ap (λ (hs : List Header). (headers_at hs (behind_bth f)).0.«result») (sym headers) in
     let parts : behind_bth f ≡ aeth_bytes a ++ (be_bytes w64 (found % 2 ^ 64) ++ []) =
-        append_assoc (aeth_bytes a) (be_bytes w64 found ++ []) [] ∙ ap (λ t. aeth_bytes a ++ t) (append_assoc (be_bytes w64 found) [] []) ∙ ap (λ t. aeth_bytes a ++ (t ++ [])) (low-bytes found) in
+    append_assoc (aeth_bytes a) (be_bytes w64 found ++ []) [] ∙ ap (λ t. aeth_bytes a ++ t) (append_assoc (be_bytes w64 found) [] []) ∙ ap (λ t. aeth_bytes a ++ (t ++ [])) (low-bytes found) in
     let dropped : drop 4 (behind_bth f) ≡ be_bytes w64 (found % 2 ^ 64) ++ [] = ap (drop 4) parts ∙ drop_at (aeth_bytes a) (be_bytes w64 (found % 2 ^ 64) ++ []) 4 (aeth_header.len a) in
     subst (λ o. IfSome o (λ n. n ≡ found % 2 ^ 64)) (sym there) (ap (number_from w64) dropped ∙ ap (λ (x : ℕ × List ℕ). x.0) (number_again w64 (2 ^ 64) wide64 (found % 2 ^ 64) [] (omega arith)))

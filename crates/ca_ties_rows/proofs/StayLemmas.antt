@@ -1,12 +1,8 @@
 -- What the responder's rows, timers and wakes leave of the requester: its numbers stay, or the cursor goes back.
-use Rattle.std.proofs.Common.{◌≡◌, ℕ, suc, ◌==◌, ◌&&◌, ◌≤◌, Bool, true, false, nat_le, nat_lt, not, if◌then◌else◌, List, [], ◌∷◌, ◌++◌, length, Option, None, Some, is_none, slice_get, refl, ap, ap₂, sym, subst, ◌∙◌, true≢false, arith, ◌+◌}
-use Rattle.std.specs.List.{flat_map}
+use Rattle.std.proofs.Common.{◌≡◌, ℕ, suc, ◌==◌, ◌&&◌, ◌≤◌, Bool, true, false, nat_le, nat_lt, if◌then◌else◌, [], ◌∷◌, length, Option, None, Some, is_none, slice_get, refl, ap, ap₂, sym, subst, ◌∙◌, true≢false, arith, ◌+◌}
 use Rattle.std.specs.Option.{option_map_or}
-use Rattle.ca_keys.specs.Memory.{little_endian}
 use Rattle.ca_keys.specs.Refusals.{first_of}
-use Rattle.ca_keys.specs.declared.access.Kind.{Kind}
-use Rattle.ca_base.specs.declared.completion.WcStatus.{WcStatus}
-use Rattle.ca_base.specs.declared.completion.WcStatus.TheVariants.{LocalLength, LocalProtection, MemoryManagement, RetryExceeded, Success}
+use Rattle.ca_base.specs.declared.completion.WcStatus.TheVariants.{MemoryManagement, RetryExceeded, Success}
 use Rattle.ca_base.specs.declared.completion.WcOp.TheVariants as operations
 use Rattle.ca_base.specs.declared.limits.TheConstants.{MAX_DUPLICATES}
 use Rattle.ca_base.specs.declared.queue_numbers.Queued.{Queued}
@@ -23,16 +19,15 @@ use Rattle.ca_base.specs.objects.WorkQueue.{items_from}
 use Rattle.ca_base.specs.declared.queue_numbers.RequesterNumbers.{RequesterNumbers}
 use Rattle.ca_connection.specs.Layout.{Direction, first}
 use Rattle.ca_model.specs.declared.mark.Mark.TheVariants as marks
-use Rattle.ca_connection.specs.Link.{Requester}
 use Rattle.ca_model.specs.Requests.{list_length, segments}
 use Rattle.ca_model.specs.declared.mark.Drop1.{Drop1}
 use Rattle.ca_model.specs.declared.mark.Drop1.TheVariants as drops
 use Rattle.ca_model.specs.declared.read_left.ReadLeft.{ReadLeft}
 use Rattle.ca_model.specs.declared.receiving.Receiving.{Receiving}
 use Rattle.ca_model.specs.declared.write_reach.WriteReach.{WriteReach}
-use Rattle.ca_model.specs.machine.Acknowledgements.{failure_effects, one_retry, with_cursor, with_requester}
-use Rattle.ca_model.specs.machine.Arrivals.{next_receive, refusal_effects, with_answer, with_flag, with_message, with_receive_taken}
-use Rattle.ca_model.specs.machine.Duplicates.{ack_again, ahead_effects, answer_again, atomic_again, duplicate_effects, read_again, request_row}
+use Rattle.ca_model.specs.machine.Acknowledgements.{failure_effects, with_cursor, with_requester}
+use Rattle.ca_model.specs.machine.Arrivals.{next_receive, refusal_effects, with_flag, with_message, with_receive_taken}
+use Rattle.ca_model.specs.machine.Duplicates.{ack_again, ahead_effects, atomic_again, duplicate_effects, read_again, request_row}
 use Rattle.ca_model.specs.machine.Expected.{after_send_packet, after_write_packet, atomic_row, behind_marks, expected_row, invalidation_of, is_invalid, queue_after_packet, read_queued, receive_failure_effects, receiving_of, revoked_marks, rnr_effects, send_row, takes_receive, valid_row, with_shared_receive, with_window_gone, write_reach, write_row}
 use Rattle.ca_model.specs.machine.Invariants.{is_sending}
 use Rattle.ca_model.specs.machine.Respond.{answer_turn, is_last_response, read_row, respond_refusals, respond_row, rest_of, with_front, without_front}

@@ -1,11 +1,10 @@
 -- The walk over the begun requests finds the first number of a READ or an atomic that was not answered.
 use Rattle.std.proofs.Common.{◌≡◌, ℕ, suc, ◌+◌, ◌≤◌, ◌<◌, ◌⊎◌, inl, inr, ◌&&◌, max, Bool, true, false, nat_lt, if◌then◌else◌, List, [], ◌∷◌, length, Option, None, Some, refl, ap, sym, ◌∙◌, true≢false, arith, lt-ltb}
-use Rattle.std.proofs.lemmas.Bool.{ltb-true, and_parts}
+use Rattle.std.proofs.lemmas.Bool.{ltb-true}
 use Rattle.ca_connection.proofs.LayoutLemmas.{names-one}
 use Rattle.ca_connection.proofs.NumberLemmas.{cases-lt}
 use Rattle.ca_connection.specs.Acknowledge.{PassesNone}
 use Rattle.ca_connection.specs.Layout.{Direction, HasNumber, first, is_answered}
-use Rattle.ca_laws_sound.proofs.NumberingLemmas.{count_sum}
 use Rattle.ca_base.specs.objects.QueuePair.{QueuePair}
 use Rattle.ca_model.specs.machine.Acknowledgements.{first_unanswered}
 use Rattle.ca_model.specs.machine.Invariants.{begun_end}

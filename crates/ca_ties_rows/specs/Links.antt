@@ -1,5 +1,5 @@
 -- What a row of the machine makes of a link: a move leads to another one. Contracts cite it.
-use Rattle.std.specs.Prelude.{◌≡◌, ℕ, ◌==◌, true, if◌then◌else◌, List, [], ◌∷◌, ◌++◌, Option, Some}
+use Rattle.std.specs.Prelude.{◌≡◌, ℕ, ◌==◌, true, if◌then◌else◌, List, [], ◌∷◌, ◌++◌, Option}
 use Rattle.ca_connection.specs.Layout.{Direction, is_atomic}
 use Rattle.ca_connection.specs.Link.{Acceptance, AtomicCompletion, Link, RequestPacket, Requester, Responder, Response}
 use Rattle.ca_connection.specs.Moves.{Reached, with_one}

@@ -1,6 +1,3 @@
-use Rattle.ca_ties_rows.proofs.DecodeLemmas.{decoded}
-use Rattle.ca_ties_rows.proofs.StayLemmas.{Stays}
-use Rattle.ca_ties_rows.proofs.ForgetLemmas.{response-forgets}
 use Rattle.ca_ties_rows.proofs.RespondRowLemmas.{respond-leads}
 use Rattle.ca_ties_rows.proofs.responder.respond_row_is_responded.Goals as goal
 
