@@ -1,4 +1,13 @@
-//! What the rows of the machine are as moves of a link.
+//! Why what the machine does at a queue pair is a move of a link: each row of its responder and its requester, each packet
+//! that they spell, and each turn, timer, wake and local operation.
+//!
+//! To the layers above it promises, as clauses of functions that do nothing, that whatever a row makes of a packet, a link's
+//! side may make of it, whichever keys, bytes and refusals it meets; that the bytes of a packet that is sent decode, if
+//! they decode, to the packet of the link; that the connection's other direction leaves the side, or empties its response
+//! queue; and that each of these leads from a link that moves lead to to another one. They hold of the machine's
+//! definitions, and no code is in them.
+//!
+//! Source: InfiniBand Architecture Specification Volume 1, the chapter on transport services (reliable connection).
 #![tactic(auto)]
 
 mod arrival;
