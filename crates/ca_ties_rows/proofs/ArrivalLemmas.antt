@@ -1,5 +1,5 @@
 -- Bytes that arrive: of this direction, or of the other one.
-use Rattle.std.proofs.Common.{◌≡◌, ℕ, ◌%◌, ◌^◌, true, false, if◌then◌else◌, List, [], Option, None, Some, Result, Ok, Err, refl, ap, sym, subst, ◌∙◌, true≢false, is_some}
+use Rattle.std.proofs.Common.{◌≡◌, inl, ℕ, ◌%◌, ◌^◌, Bool, true, false, if◌then◌else◌, List, [], Option, None, Some, Result, Ok, Err, refl, ap, sym, subst, ◌∙◌, true≢false, is_some}
 use Rattle.std.proofs.lemmas.Option.{same_Some}
 use Rattle.ca_keys.specs.Refusals.{first_of}
 use Rattle.ca_base.specs.objects.QueuePair.{QueuePair}
@@ -24,12 +24,12 @@ use Rattle.ca_packet.specs.declared.shape.Shape.{Shape}
 use Rattle.ca_packet.specs.declared.wire_error.WireError.{WireError}
 use Rattle.ca_psn.specs.Psn.{widened}
 use Rattle.ca_ties_rows.proofs.EntryLemmas.{answers}
-use Rattle.ca_ties_rows.proofs.ForgetLemmas.{Forgets, drop-forgets, forgets-in, response-forgets}
+use Rattle.ca_ties_rows.proofs.ForgetLemmas.{Forgets, drop-forgets, forgets-in, forgets-state, response-forgets}
 use Rattle.ca_ties_rows.proofs.RequestRowLemmas.{drop-does, plain, request-row}
 use Rattle.ca_ties_rows.proofs.ResponseRowLemmas.{response-row}
-use Rattle.ca_ties_rows.proofs.StayLemmas.{Stays, drop-stays, request-stays, stays-in}
+use Rattle.ca_ties_rows.proofs.StayLemmas.{Stays, drop-stays, request-stays, stays-in, stays-state}
 use Rattle.ca_ties_rows.specs.Entries.{IsRequestOf, ResponseEntry, SpellsRequest, SpellsResponse, SpellsSomeRequest, SpellsSomeResponse}
-use Rattle.ca_ties_rows.specs.Moves.{EndingLeads, ForgetsIn, ReceivesIn, RowLeads, StaysIn, TakesIn}
+use Rattle.ca_ties_rows.specs.Moves.{EndingLeads, ForgetsIn, LeavesState, ReceivesIn, RowLeads, StaysIn, TakesIn}
 use Rattle.ca_ties_rows.specs.Sides.{IsLaid, requester_in, responder_in}
 
 -- bytes are dropped, or they are a packet
@@ -130,3 +130,13 @@ pub other-request-stays : (d : Direction) (bytes : List ℕ) (envelope : Option 
 other-request-stays d bytes envelope shared q laid spells = weaker (λ e. Stays q e.queue) (StaysIn d (requester_in q)) (arrival_row bytes envelope shared q) (λ e does. stays-in d q e laid does)
     (arrival-leads (λ e. Stays q e.queue) bytes envelope shared q (λ cause. drop-stays q cause)
     (λ p is. request-arrived (λ e. Stays q e.queue) p envelope shared q (spells p is) (drop-stays q drops.State) (λ shape e. request-stays p envelope shared shape q)))
+
+-- whatever arrives, the queue pair stays in its state or moves to Error
+pub arrival-state : (bytes : List ℕ) (envelope : Option ℕ) (shared : Option SharedReceives) (q : QueuePair) → RowLeads (LeavesState q.state) (arrival_row bytes envelope shared q)
+arrival-state bytes envelope shared q = arrival-leads (LeavesState q.state) bytes envelope shared q (λ cause. inl refl) (λ p is. by p (is_response p.opcode) refl)
+  where
+    by : (p : Fields) (b : Bool) → is_response p.opcode ≡ b → RowLeads (LeavesState q.state) (packet_arrived p envelope shared q)
+    by p true is = response-arrived (LeavesState q.state) p envelope shared q is
+        (weaker (λ e. Forgets q e.queue) (LeavesState q.state) (response_row p q) (λ e does. forgets-state q e does) (response-forgets p q))
+    by p false is = request-arrived (LeavesState q.state) p envelope shared q is (inl refl)
+        (λ shape e. weaker (λ e. Stays q e.queue) (LeavesState q.state) (request_row p envelope shared shape q) (λ e does. stays-state q e does) (request-stays p envelope shared shape q))

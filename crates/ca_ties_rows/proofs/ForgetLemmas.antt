@@ -1,5 +1,6 @@
 -- What the requester's rows leave of the responder: all of it, or its response queue is emptied.
-use Rattle.std.proofs.Common.{◌≡◌, ℕ, suc, ◌==◌, ◌&&◌, Bool, true, false, nat_le, nat_lt, not, if◌then◌else◌, [], map, Option, None, Some, refl, ap, sym, subst, ◌∙◌, true≢false}
+use Rattle.std.proofs.Common.{◌≡◌, inl, inr, ℕ, suc, ◌==◌, ◌&&◌, Bool, true, false, nat_le, nat_lt, not, if◌then◌else◌, [], map, Option, None, Some, refl, ap, sym, subst, ◌∙◌, true≢false}
+use Rattle.ca_base.specs.declared.change.State.TheVariants as states
 use Rattle.ca_base.specs.declared.completion.WcStatus.{WcStatus}
 use Rattle.ca_base.specs.declared.completion.WcStatus.TheVariants.{BadResponse, LocalProtection, RemoteAccess, RemoteInvalidRequest, RemoteOperation, RetryExceeded, RnrRetryExceeded}
 use Rattle.ca_base.specs.declared.limits.TheConstants.{MAX_RETRY}
@@ -23,7 +24,7 @@ use Rattle.ca_packet.specs.declared.opcode.TheConstants.{ACKNOWLEDGE}
 use Rattle.ca_ties_rows.proofs.KeepLemmas.{keeps-all, keeps-nothing}
 use Rattle.ca_ties_rows.proofs.RequestRowLemmas.{cond-row, plain}
 use Rattle.ca_ties_rows.specs.Entries.{syndrome_of}
-use Rattle.ca_ties_rows.specs.Moves.{EndingLeads, ForgetsIn, RowLeads}
+use Rattle.ca_ties_rows.specs.Moves.{EndingLeads, ForgetsIn, LeavesState, RowLeads}
 use Rattle.ca_ties_rows.specs.Sides.{kept_result, responder_in, said}
 use Rattle.ca_wire.specs.declared.syndrome.NakCode.{NakCode}
 use Rattle.ca_wire.specs.declared.syndrome.NakCode.TheVariants as codes
@@ -34,17 +35,18 @@ use Rattle.ca_wire.specs.declared.syndrome.Syndrome.TheVariants as syndromes
 pub record IsSameResponder (q p : QueuePair) : Type 0 where
   pub responder : p.responder ≡ q.responder
   pub saved : p.saved ≡ q.saved
+  pub state : p.state ≡ q.state
 
 -- or the response queue is empty, and all that is asked of the rest is the same
 pub data Forgets (q p : QueuePair) : Type 0 where
   stays : IsSameResponder q p → Forgets q p
-  emptied : p.responder.expected ≡ q.responder.expected → p.responder.answers ≡ [] → p.responder.mtu ≡ q.responder.mtu → p.saved ≡ q.saved → Forgets q p
+  emptied : p.responder.expected ≡ q.responder.expected → p.responder.answers ≡ [] → p.responder.mtu ≡ q.responder.mtu → p.saved ≡ q.saved → p.state ≡ states.Error → Forgets q p
 
 same : (q : QueuePair) → IsSameResponder q q
-same q = record { responder = refl; saved = refl }
+same q = record { responder = refl; saved = refl; state = refl }
 
 pub failure-forgets : (q p : QueuePair) (status : WcStatus) (cause : Option OpRefusal) → IsSameResponder q p → Forgets q (failure_effects status cause p).queue
-failure-forgets q p status cause s = emptied (ap (λ r. r.expected) s.responder) refl (ap (λ r. r.mtu) s.responder) s.saved
+failure-forgets q p status cause s = emptied (ap (λ r. r.expected) s.responder) refl (ap (λ r. r.mtu) s.responder) s.saved refl
 
 pub forgets-in : (d : Direction) (q : QueuePair) (e : Effects) → q.responder.mtu ≡ d.mtu → Forgets q e.queue → ForgetsIn d (responder_in q) e
 forgets-in d q e mtu (stays s) = record {
@@ -53,7 +55,7 @@ forgets-in d q e mtu (stays s) = record {
   results = ap (map kept_result) s.saved;
   mtu = ap (λ r. r.mtu) s.responder ∙ mtu;
 }
-forgets-in d q e mtu (emptied expected answers width saved) = record {
+forgets-in d q e mtu (emptied expected answers width saved error) = record {
   expected = expected;
   queue = subst (λ xs. Keeps (map said q.responder.answers) (map said xs)) (sym answers) (keeps-nothing (map said q.responder.answers));
   results = ap (map kept_result) saved;
@@ -64,11 +66,15 @@ una-same : (psn : ℕ) (q : QueuePair) → IsSameResponder q (with_una psn q)
 una-same psn q = by (nat_lt q.requester.una psn)
   where
     by : (b : Bool) → IsSameResponder q (if b then with_requester (record q.requester { una = psn; retries = 0; rnrs = 0 }) q else q)
-    by true = record { responder = refl; saved = refl }
-    by false = record { responder = refl; saved = refl }
+    by true = record { responder = refl; saved = refl; state = refl }
+    by false = record { responder = refl; saved = refl; state = refl }
 
 progress-same : (psn : ℕ) (q p : QueuePair) → IsSameResponder q p → IsSameResponder q (progress_to psn p).queue
-progress-same psn q p s = record { responder = (una-same psn p).responder ∙ s.responder; saved = (una-same psn p).saved ∙ s.saved }
+progress-same psn q p s = record {
+  responder = (una-same psn p).responder ∙ s.responder;
+  saved = (una-same psn p).saved ∙ s.saved;
+  state = (una-same psn p).state ∙ s.state;
+}
 
 retry-forgets : (psn : ℕ) (q p : QueuePair) → IsSameResponder q p → Forgets q (one_retry psn p).queue
 retry-forgets psn q p s = by (nat_le p.requester.retry p.requester.retries)
@@ -77,8 +83,8 @@ retry-forgets psn q p s = by (nat_le p.requester.retry p.requester.retries)
     counted = with_requester (record p.requester { retries = suc p.requester.retries }) p
 
     by : (b : Bool) → Forgets q (if b then failure_effects RetryExceeded None counted else queue_and_marks (with_cursor psn counted) []).queue
-    by true = failure-forgets q counted RetryExceeded None (record { responder = s.responder; saved = s.saved })
-    by false = stays (record { responder = s.responder; saved = s.saved })
+    by true = failure-forgets q counted RetryExceeded None (record { responder = s.responder; saved = s.saved; state = s.state })
+    by false = stays (record { responder = s.responder; saved = s.saved; state = s.state })
 
 record AckForgets (q : QueuePair) (a : Acknowledgement) : Type 0 where
   forgets : Forgets q a.effects.queue
@@ -110,8 +116,8 @@ rnr-forgets w q p s = by (nat_lt p.requester.rnr_retry MAX_RETRY && nat_le p.req
 
     by : (b : Bool) → Forgets q (if b then failure_effects RnrRetryExceeded None counted
         else queue_and_marks (with_requester (record counted.requester { cursor = w; waiting = true }) p) []).queue
-    by true = failure-forgets q counted RnrRetryExceeded None (record { responder = s.responder; saved = s.saved })
-    by false = stays (record { responder = s.responder; saved = s.saved })
+    by true = failure-forgets q counted RnrRetryExceeded None (record { responder = s.responder; saved = s.saved; state = s.state })
+    by false = stays (record { responder = s.responder; saved = s.saved; state = s.state })
 
 nak-forgets : (w : ℕ) (code : NakCode) (q p : QueuePair) → IsSameResponder q p → Forgets q (nak_effects w code p).queue
 nak-forgets w codes.PsnSequenceError q p s = retry-forgets w q p s
@@ -172,14 +178,18 @@ cond-ending P false x y one other = other
 pub packet-forgets : (q : QueuePair) (room : Bool) (n : Numbered) → RowLeads (λ e. Forgets q e.queue) (packet_row q room n)
 packet-forgets q room n = cond-row P (is_too_much q n) _ _ (record { denied = λ d. record {}; allowed = λ bytes refusal. record {} }) (record {
   denied = λ d. cond-ending P (is_outstanding q) (NotPossible reasons.Outstanding) _ (record {}) (cond-ending P (not room) (NotPossible reasons.NoRoom) (Does (denied_list_effects q d)) (record {}) (failure-forgets q q LocalProtection None (same q)));
-  allowed = λ bytes refusal. cond-ending P (not room) (NotPossible reasons.NoRoom) (Does (sent_packet q n bytes)) (record {}) (stays (record { responder = refl; saved = refl }));
+  allowed = λ bytes refusal. cond-ending P (not room) (NotPossible reasons.NoRoom) (Does (sent_packet q n bytes)) (record {}) (stays (record { responder = refl; saved = refl; state = refl }));
 })
   where
     P : Effects → Type 0
     P e = Forgets q e.queue
 
 pub timeout-forgets : (silent : Bool) (q : QueuePair) → Forgets q (after_timeout silent q).queue
-timeout-forgets silent q = retry-forgets q.requester.una q (with_requester (record q.requester { timers = suc q.requester.timers }) q) (record { responder = refl; saved = refl })
+timeout-forgets silent q = retry-forgets q.requester.una q (with_requester (record q.requester { timers = suc q.requester.timers }) q) (record { responder = refl; saved = refl; state = refl })
 
 pub wake-forgets : (q : QueuePair) → Forgets q (after_wake q).queue
-wake-forgets q = stays (record { responder = refl; saved = refl })
+wake-forgets q = stays (record { responder = refl; saved = refl; state = refl })
+
+pub forgets-state : (q : QueuePair) (e : Effects) → Forgets q e.queue → LeavesState q.state e
+forgets-state q e (stays s) = inl s.state
+forgets-state q e (emptied expected answers mtu saved state) = inr state

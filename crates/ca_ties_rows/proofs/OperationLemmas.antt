@@ -129,5 +129,5 @@ operation-stays d q n windows m None s laid turn = by (lone d q n s laid turn)
         }
 
 pub operation-forgets : (q : QueuePair) (n : Numbered) (windows : ℕ) (m : LocalMarks) (refusal : Option OpRefusal) → Forgets q (operation_effects q n (record q { windows = windows }) m refusal).queue
-operation-forgets q n windows m (Some cause) = failure-forgets q q MemoryManagement (Some cause) (record { responder = refl; saved = refl })
-operation-forgets q n windows m None = stays (record { responder = refl; saved = refl })
+operation-forgets q n windows m (Some cause) = failure-forgets q q MemoryManagement (Some cause) (record { responder = refl; saved = refl; state = refl })
+operation-forgets q n windows m None = stays (record { responder = refl; saved = refl; state = refl })

@@ -1,7 +1,8 @@
 -- What the responder's rows, timers and wakes leave of the requester: its numbers stay, or the cursor goes back.
-use Rattle.std.proofs.Common.{◌≡◌, ℕ, suc, ◌==◌, ◌&&◌, ◌≤◌, Bool, true, false, nat_le, nat_lt, if◌then◌else◌, [], ◌∷◌, length, Option, None, Some, is_none, slice_get, refl, ap, ap₂, sym, subst, ◌∙◌, true≢false, arith, ◌+◌}
+use Rattle.std.proofs.Common.{◌≡◌, inl, inr, ℕ, suc, ◌==◌, ◌&&◌, ◌≤◌, Bool, true, false, nat_le, nat_lt, if◌then◌else◌, [], ◌∷◌, length, Option, None, Some, is_none, slice_get, refl, ap, ap₂, sym, subst, ◌∙◌, true≢false, arith, ◌+◌}
 use Rattle.std.specs.Option.{option_map_or}
 use Rattle.ca_keys.specs.Refusals.{first_of}
+use Rattle.ca_base.specs.declared.change.State.TheVariants as states
 use Rattle.ca_base.specs.declared.completion.WcStatus.TheVariants.{MemoryManagement, RetryExceeded, Success}
 use Rattle.ca_base.specs.declared.completion.WcOp.TheVariants as operations
 use Rattle.ca_base.specs.declared.limits.TheConstants.{MAX_DUPLICATES}
@@ -44,7 +45,7 @@ use Rattle.ca_packet.specs.declared.shape.Shape.{Shape}
 use Rattle.ca_packet.specs.declared.shape.Shape.TheVariants as shapes
 use Rattle.ca_psn.specs.Psn.{widened}
 use Rattle.ca_ties_rows.proofs.RequestRowLemmas.{cond-row, plain}
-use Rattle.ca_ties_rows.specs.Moves.{EndingLeads, GoesBackIn, RowLeads, StaysIn}
+use Rattle.ca_ties_rows.specs.Moves.{EndingLeads, GoesBackIn, LeavesState, RowLeads, StaysIn}
 use Rattle.ca_ties_rows.specs.Sides.{IsLaid, IsWork, requester_in}
 use Rattle.ca_wire.specs.declared.syndrome.NakCode.{NakCode}
 use Rattle.ca_wire.specs.declared.syndrome.NakCode.TheVariants.{InvalidRequest, RemoteAccessError, RemoteOperationalError}
@@ -52,7 +53,7 @@ use Rattle.ca_wire.specs.declared.syndrome.NakCode.TheVariants.{InvalidRequest, 
 -- the requester is as it was, or the queue pair sends no more and `una` and the cursor stand where they stood
 pub data Stays (q p : QueuePair) : Type 0 where
   still : p.requester ≡ q.requester → p.sends ≡ q.sends → p.state ≡ q.state → p.responder.mtu ≡ q.responder.mtu → Stays q p
-  ended : p.requester.una ≡ q.requester.una → p.requester.cursor ≡ q.requester.cursor → is_sending p.state ≡ false → Stays q p
+  ended : p.requester.una ≡ q.requester.una → p.requester.cursor ≡ q.requester.cursor → p.state ≡ states.Error → Stays q p
 
 abbrev Leaves : QueuePair → Row → Type 0
 Leaves q row = RowLeads (λ e. Stays q e.queue) row
@@ -266,9 +267,9 @@ stays-in d q e laid (still requester sends state mtu) = record {
           (subst (λ s. IsWork d q.requester.oldest (items_from q.requester.oldest s)) (sym sends) l.work);
       passed = subst (λ (r : RequesterNumbers). r.oldest_psn ≤ r.una) (sym requester) l.passed;
     }
-stays-in d q e laid (ended una cursor none) = record {
+stays-in d q e laid (ended una cursor error) = record {
   requester = ap₂ (λ a b. record { una = a; cursor = b }) una cursor;
-  laid = λ sending. absurd (true≢false (sym sending ∙ none));
+  laid = λ sending. absurd (true≢false (sym sending ∙ ap is_sending error));
 }
 
 -- ---- timers and wakes
@@ -288,3 +289,7 @@ timeout-goes-back d silent q laid low = by (nat_le q.requester.retry q.requester
 
 pub wake-stays : (d : Direction) (q : QueuePair) → (is_sending q.state ≡ true → IsLaid d q) → StaysIn d (requester_in q) (after_wake q)
 wake-stays d q laid = record { requester = refl; laid = λ e. let l = laid e in record { mtu = l.mtu; begin = l.begin; work = l.work; passed = l.passed } }
+
+pub stays-state : (q : QueuePair) (e : Effects) → Stays q e.queue → LeavesState q.state e
+stays-state q e (still requester sends state mtu) = inl state
+stays-state q e (ended una cursor state) = inr state

@@ -11,10 +11,10 @@ use Rattle.ca_model.specs.machine.Requester.{packet_row}
 use Rattle.ca_model.specs.machine.Respond.{respond_row}
 use Rattle.ca_model.specs.machine.Timers.{after_timeout, after_wake}
 use Rattle.ca_ties_rows.proofs.ArrivalLemmas.{weaker}
-use Rattle.ca_ties_rows.proofs.ForgetLemmas.{Forgets, forgets-in, packet-forgets, timeout-forgets, wake-forgets}
+use Rattle.ca_ties_rows.proofs.ForgetLemmas.{Forgets, forgets-in, forgets-state, packet-forgets, timeout-forgets, wake-forgets}
 use Rattle.ca_ties_rows.proofs.OperationLemmas.{operation-forgets}
-use Rattle.ca_ties_rows.proofs.StayLemmas.{Stays, respond-stays, stays-in, timeout-goes-back}
-use Rattle.ca_ties_rows.specs.Moves.{ForgetsIn, GoesBackIn, RowLeads, StaysIn}
+use Rattle.ca_ties_rows.proofs.StayLemmas.{Stays, respond-stays, stays-in, stays-state, timeout-goes-back}
+use Rattle.ca_ties_rows.specs.Moves.{ForgetsIn, GoesBackIn, LeavesState, RowLeads, StaysIn}
 use Rattle.ca_ties_rows.specs.Sides.{IsLaid, requester_in, responder_in}
 
 pub packet-row-forgets : (d : Direction) (q : QueuePair) (room : Bool) (n : Numbered) → q.responder.mtu ≡ d.mtu → RowLeads (ForgetsIn d (responder_in q)) (packet_row q room n)
@@ -35,3 +35,19 @@ wake-responder d q mtu = forgets-in d q (after_wake q) mtu (wake-forgets q)
 pub operation-responder : (d : Direction) (q : QueuePair) (n : Numbered) (windows : ℕ) (m : LocalMarks) (refusal : Option OpRefusal) → q.responder.mtu ≡ d.mtu
     → ForgetsIn d (responder_in q) (operation_effects q n (record q { windows = windows }) m refusal)
 operation-responder d q n windows m refusal mtu = forgets-in d q (operation_effects q n (record q { windows = windows }) m refusal) mtu (operation-forgets q n windows m refusal)
+
+-- each of these stays in its state, or moves to Error
+pub packet-state : (q : QueuePair) (room : Bool) (n : Numbered) → RowLeads (LeavesState q.state) (packet_row q room n)
+packet-state q room n = weaker (λ e. Forgets q e.queue) (LeavesState q.state) (packet_row q room n) (λ e does. forgets-state q e does) (packet-forgets q room n)
+
+pub respond-state : (q : QueuePair) (room : Bool) → RowLeads (LeavesState q.state) (respond_row room q)
+respond-state q room = weaker (λ e. Stays q e.queue) (LeavesState q.state) (respond_row room q) (λ e does. stays-state q e does) (respond-stays room q)
+
+pub timeout-state : (silent : Bool) (q : QueuePair) → LeavesState q.state (after_timeout silent q)
+timeout-state silent q = forgets-state q (after_timeout silent q) (timeout-forgets silent q)
+
+pub wake-state : (q : QueuePair) → LeavesState q.state (after_wake q)
+wake-state q = forgets-state q (after_wake q) (wake-forgets q)
+
+pub operation-state : (q : QueuePair) (n : Numbered) (windows : ℕ) (m : LocalMarks) (refusal : Option OpRefusal) → LeavesState q.state (operation_effects q n (record q { windows = windows }) m refusal)
+operation-state q n windows m refusal = forgets-state q (operation_effects q n (record q { windows = windows }) m refusal) (operation-forgets q n windows m refusal)

@@ -1,5 +1,7 @@
 -- What a row of the machine is as a move of a link. Contracts cite it.
-use Rattle.std.specs.Prelude.{◌≡◌, ℕ, ◌+◌, ◌≤◌, true, if◌then◌else◌, List, [], ◌∷◌, ◌++◌, map, Option, None, Some}
+use Rattle.std.specs.Prelude.{◌≡◌, ◌⊎◌, ℕ, ◌+◌, ◌≤◌, true, if◌then◌else◌, List, [], ◌∷◌, ◌++◌, map, Option, None, Some}
+use Rattle.ca_base.specs.declared.change.State.{State}
+use Rattle.ca_base.specs.declared.change.State.TheVariants as states
 use Rattle.ca_base.specs.declared.denied_ask.DeniedAsk.{DeniedAsk}
 use Rattle.ca_base.specs.declared.refusals.OpRefusal.{OpRefusal}
 use Rattle.ca_base.specs.declared.step.Sent.{Sent}
@@ -105,3 +107,7 @@ pub record GoesBackIn (d : Direction) (r : Requester) (e : Effects) : Type 0 whe
   pub low : r.una ≤ e.queue.requester.cursor
   pub high : e.queue.requester.cursor ≤ r.cursor
   pub laid : is_sending e.queue.state ≡ true → IsLaid d e.queue
+
+-- The queue pair stays in its state, or moves to Error.
+abbrev pub LeavesState : State → Effects → Type 0
+LeavesState before e = (e.queue.state ≡ before) ⊎ (e.queue.state ≡ states.Error)

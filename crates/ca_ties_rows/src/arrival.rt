@@ -7,7 +7,7 @@ ghost use Rattle.ca_model.specs.machine.Delivery.{arrival_row};
 ghost use Rattle.ca_model.specs.machine.Invariants.{IsQueue, is_sending};
 ghost use Rattle.ca_psn.specs.Psn.{widened};
 ghost use Rattle.ca_ties_rows.specs.Entries.{SpellsRequest, SpellsResponse, SpellsSomeRequest, SpellsSomeResponse};
-ghost use Rattle.ca_ties_rows.specs.Moves.{ForgetsIn, ReceivesIn, RowLeads, StaysIn, TakesIn};
+ghost use Rattle.ca_ties_rows.specs.Moves.{ForgetsIn, LeavesState, ReceivesIn, RowLeads, StaysIn, TakesIn};
 ghost use Rattle.ca_ties_rows.specs.Sides.{IsLaid, requester_in, responder_in};
 
 /// Bytes of a request packet that arrive are received as a link's responder may receive this packet, for the number that
@@ -41,4 +41,10 @@ pub fn other_request_stays()
     ensures { (d : Direction) (bytes : List ℕ) (envelope : Option ℕ) (shared : Option SharedReceives)
         (q : QueuePair) → (is_sending q.state ≡ true → IsLaid d q) → SpellsSomeRequest bytes
         → RowLeads (StaysIn d (requester_in q)) (arrival_row bytes envelope shared q) }
+{}
+
+/// Whatever arrives, the queue pair stays in its state or moves to Error.
+pub fn arrival_leaves_state()
+    ensures { (bytes : List ℕ) (envelope : Option ℕ) (shared : Option SharedReceives) (q : QueuePair)
+        → RowLeads (LeavesState q.state) (arrival_row bytes envelope shared q) }
 {}

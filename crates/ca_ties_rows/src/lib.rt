@@ -17,8 +17,8 @@ mod responder;
 mod turns;
 
 pub use arrival::{
-    arriving_request_is_received, arriving_response_is_taken, other_request_stays,
-    other_response_forgets,
+    arrival_leaves_state, arriving_request_is_received, arriving_response_is_taken,
+    other_request_stays, other_response_forgets,
 };
 pub use links::{
     loss_moves, received_request_moves, sent_request_moves, sent_response_moves,
@@ -27,5 +27,6 @@ pub use links::{
 pub use requester::{packet_row_is_sent, response_row_is_taken};
 pub use responder::{request_row_is_received, respond_row_is_responded};
 pub use turns::{
-    operation_stays, packet_row_forgets, respond_row_stays, timeout_goes_back, wake_stays,
+    operation_stays, packet_row_forgets, respond_row_stays, timeout_goes_back, turns_leave_state,
+    wake_stays,
 };

@@ -9,7 +9,7 @@ ghost use Rattle.ca_model.specs.machine.Numbering.{Numbered};
 ghost use Rattle.ca_model.specs.machine.Requester.{Performs, packet_row, turn_of};
 ghost use Rattle.ca_model.specs.machine.Respond.{respond_row};
 ghost use Rattle.ca_model.specs.machine.Timers.{after_timeout, after_wake};
-ghost use Rattle.ca_ties_rows.specs.Moves.{ForgetsIn, GoesBackIn, RowLeads, StaysIn};
+ghost use Rattle.ca_ties_rows.specs.Moves.{ForgetsIn, GoesBackIn, LeavesState, RowLeads, StaysIn};
 ghost use Rattle.ca_ties_rows.specs.Sides.{IsLaid, requester_in, responder_in};
 
 /// A turn of the requester leaves the responder, or empties its response queue where it fails.
@@ -49,4 +49,15 @@ pub fn operation_stays()
     ensures responder { (d : Direction) (q : QueuePair) (n : Numbered) (windows : ℕ) (m : LocalMarks)
         (refusal : Option OpRefusal) → q.responder.mtu ≡ d.mtu
         → ForgetsIn d (responder_in q) (operation_effects q n (record q { windows = windows }) m refusal) }
+{}
+
+/// After a turn, a timer, a wake and a local operation the queue pair stays in its state, or moves to Error.
+pub fn turns_leave_state()
+    ensures request { (q : QueuePair) (room : Bool) (n : Numbered)
+        → RowLeads (LeavesState q.state) (packet_row q room n) }
+    ensures respond { (q : QueuePair) (room : Bool) → RowLeads (LeavesState q.state) (respond_row room q) }
+    ensures timeout { (silent : Bool) (q : QueuePair) → LeavesState q.state (after_timeout silent q) }
+    ensures wake { (q : QueuePair) → LeavesState q.state (after_wake q) }
+    ensures operation { (q : QueuePair) (n : Numbered) (windows : ℕ) (m : LocalMarks) (refusal : Option OpRefusal)
+        → LeavesState q.state (operation_effects q n (record q { windows = windows }) m refusal) }
 {}
