@@ -132,11 +132,11 @@ other-request-stays d bytes envelope shared q laid spells = weaker (λ e. Stays 
     (λ p is. request-arrived (λ e. Stays q e.queue) p envelope shared q (spells p is) (drop-stays q drops.State) (λ shape e. request-stays p envelope shared shape q)))
 
 -- whatever arrives, the queue pair stays in its state or moves to Error
-pub arrival-state : (bytes : List ℕ) (envelope : Option ℕ) (shared : Option SharedReceives) (q : QueuePair) → RowLeads (LeavesState q.state) (arrival_row bytes envelope shared q)
-arrival-state bytes envelope shared q = arrival-leads (LeavesState q.state) bytes envelope shared q (λ cause. inl refl) (λ p is. by p (is_response p.opcode) refl)
+pub arrival-state : (bytes : List ℕ) (envelope : Option ℕ) (shared : Option SharedReceives) (q : QueuePair) → RowLeads (LeavesState q) (arrival_row bytes envelope shared q)
+arrival-state bytes envelope shared q = arrival-leads (LeavesState q) bytes envelope shared q (λ cause. (inl refl, refl)) (λ p is. by p (is_response p.opcode) refl)
   where
-    by : (p : Fields) (b : Bool) → is_response p.opcode ≡ b → RowLeads (LeavesState q.state) (packet_arrived p envelope shared q)
-    by p true is = response-arrived (LeavesState q.state) p envelope shared q is
-        (weaker (λ e. Forgets q e.queue) (LeavesState q.state) (response_row p q) (λ e does. forgets-state q e does) (response-forgets p q))
-    by p false is = request-arrived (LeavesState q.state) p envelope shared q is (inl refl)
-        (λ shape e. weaker (λ e. Stays q e.queue) (LeavesState q.state) (request_row p envelope shared shape q) (λ e does. stays-state q e does) (request-stays p envelope shared shape q))
+    by : (p : Fields) (b : Bool) → is_response p.opcode ≡ b → RowLeads (LeavesState q) (packet_arrived p envelope shared q)
+    by p true is = response-arrived (LeavesState q) p envelope shared q is
+        (weaker (λ e. Forgets q e.queue) (LeavesState q) (response_row p q) (λ e does. forgets-state q e does) (response-forgets p q))
+    by p false is = request-arrived (LeavesState q) p envelope shared q is (inl refl, refl)
+        (λ shape e. weaker (λ e. Stays q e.queue) (LeavesState q) (request_row p envelope shared shape q) (λ e does. stays-state q e does) (request-stays p envelope shared shape q))

@@ -190,6 +190,6 @@ timeout-forgets silent q = retry-forgets q.requester.una q (with_requester (reco
 pub wake-forgets : (q : QueuePair) → Forgets q (after_wake q).queue
 wake-forgets q = stays (record { responder = refl; saved = refl; state = refl })
 
-pub forgets-state : (q : QueuePair) (e : Effects) → Forgets q e.queue → LeavesState q.state e
-forgets-state q e (stays s) = inl s.state
-forgets-state q e (emptied expected answers mtu saved state) = inr state
+pub forgets-state : (q : QueuePair) (e : Effects) → Forgets q e.queue → LeavesState q e
+forgets-state q e (stays s) = (inl s.state, ap (λ r. r.mtu) s.responder)
+forgets-state q e (emptied expected answers mtu saved state) = (inr state, mtu)

@@ -53,7 +53,7 @@ use Rattle.ca_wire.specs.declared.syndrome.NakCode.TheVariants.{InvalidRequest, 
 -- the requester is as it was, or the queue pair sends no more and `una` and the cursor stand where they stood
 pub data Stays (q p : QueuePair) : Type 0 where
   still : p.requester ≡ q.requester → p.sends ≡ q.sends → p.state ≡ q.state → p.responder.mtu ≡ q.responder.mtu → Stays q p
-  ended : p.requester.una ≡ q.requester.una → p.requester.cursor ≡ q.requester.cursor → p.state ≡ states.Error → Stays q p
+  ended : p.requester.una ≡ q.requester.una → p.requester.cursor ≡ q.requester.cursor → p.state ≡ states.Error → p.responder.mtu ≡ q.responder.mtu → Stays q p
 
 abbrev Leaves : QueuePair → Row → Type 0
 Leaves q row = RowLeads (λ e. Stays q e.queue) row
@@ -61,10 +61,10 @@ Leaves q row = RowLeads (λ e. Stays q e.queue) row
 -- what was there before stays, where the requester's part of it is the same
 from : (q t p : QueuePair) → t.requester ≡ q.requester → t.sends ≡ q.sends → t.state ≡ q.state → t.responder.mtu ≡ q.responder.mtu → Stays t p → Stays q p
 from q t p requester sends state mtu (still a b c x) = still (a ∙ requester) (b ∙ sends) (c ∙ state) (x ∙ mtu)
-from q t p requester sends state mtu (ended una cursor e) = ended (una ∙ ap (λ r. r.una) requester) (cursor ∙ ap (λ r. r.cursor) requester) e
+from q t p requester sends state mtu (ended una cursor e x) = ended (una ∙ ap (λ r. r.una) requester) (cursor ∙ ap (λ r. r.cursor) requester) e (x ∙ mtu)
 
 refusal-stays : (q : QueuePair) (code : NakCode) → Stays q (refusal_effects code q).queue
-refusal-stays q code = ended refl refl refl
+refusal-stays q code = ended refl refl refl refl
 
 cond-stays : (q : QueuePair) (b : Bool) (x y : Effects) → Stays q x.queue → Stays q y.queue → Stays q (if b then x else y).queue
 cond-stays q true x y one other = one
@@ -94,8 +94,8 @@ send-stays before p place r = cond-row (λ e. Stays before e.queue) (nat_lt (lis
     took-stays b e stays = cond-stays before r.taken (with_shared_receive (q b) e) e stays stays
 
     refusal : (code : NakCode) (b : Bool) → Stays before (refusal_effects code (with_message None (q b))).queue
-    refusal code true = ended refl refl refl
-    refusal code false = ended refl refl refl
+    refusal code true = ended refl refl refl refl
+    refusal code false = ended refl refl refl refl
 
     ended_by : Bool → Option OpRefusal → Effects
     ended_by b (Some cause) = receive_failure_effects (q b) r.receive MemoryManagement (Some cause) RemoteOperationalError
@@ -175,7 +175,7 @@ row-from q t row requester sends state mtu does = record {
     by (Does e) leads = from q t e.queue requester sends state mtu leads
 
 expected-stays : (before : QueuePair) (p : Fields) (envelope : Option ℕ) (shared : Option SharedReceives) (shape : Shape) → Leaves before (expected_row before shared p envelope shape)
-expected-stays before p envelope shared shape = cond-row P (is_invalid q p shape) _ _ (plain P (refusal_effects InvalidRequest q) (ended refl refl refl))
+expected-stays before p envelope shared shape = cond-row P (is_invalid q p shape) _ _ (plain P (refusal_effects InvalidRequest q) (ended refl refl refl refl))
     (cond-row P (takes_receive p shape && is_none (next_receive q shared)) _ _ (plain P (rnr_effects q) (still refl refl refl refl))
     (row-from before q (valid_row q p envelope (next_receive q shared) shape) refl refl refl refl (valid-stays q p envelope (next_receive q shared) shape)))
   where
@@ -224,7 +224,7 @@ request-stays p envelope shared shape q = cond-row P (nat_lt q.responder.expecte
 -- ---- the responder's turn
 
 read-turn-stays : (q : QueuePair) (r : ReadLeft) → Leaves q (read_row q r)
-read-turn-stays q r = record { denied = λ d. ended refl refl refl; allowed = λ bytes refusal. by (is_last_response q r) }
+read-turn-stays q r = record { denied = λ d. ended refl refl refl refl; allowed = λ bytes refusal. by (is_last_response q r) }
   where
     by : (b : Bool) → Stays q (if b then without_front q else with_front (rest_of q r) q)
     by true = still refl refl refl refl
@@ -267,7 +267,7 @@ stays-in d q e laid (still requester sends state mtu) = record {
           (subst (λ s. IsWork d q.requester.oldest (items_from q.requester.oldest s)) (sym sends) l.work);
       passed = subst (λ (r : RequesterNumbers). r.oldest_psn ≤ r.una) (sym requester) l.passed;
     }
-stays-in d q e laid (ended una cursor error) = record {
+stays-in d q e laid (ended una cursor error mtu) = record {
   requester = ap₂ (λ a b. record { una = a; cursor = b }) una cursor;
   laid = λ sending. absurd (true≢false (sym sending ∙ ap is_sending error));
 }
@@ -290,6 +290,6 @@ timeout-goes-back d silent q laid low = by (nat_le q.requester.retry q.requester
 pub wake-stays : (d : Direction) (q : QueuePair) → (is_sending q.state ≡ true → IsLaid d q) → StaysIn d (requester_in q) (after_wake q)
 wake-stays d q laid = record { requester = refl; laid = λ e. let l = laid e in record { mtu = l.mtu; begin = l.begin; work = l.work; passed = l.passed } }
 
-pub stays-state : (q : QueuePair) (e : Effects) → Stays q e.queue → LeavesState q.state e
-stays-state q e (still requester sends state mtu) = inl state
-stays-state q e (ended una cursor state) = inr state
+pub stays-state : (q : QueuePair) (e : Effects) → Stays q e.queue → LeavesState q e
+stays-state q e (still requester sends state mtu) = (inl state, mtu)
+stays-state q e (ended una cursor state mtu) = (inr state, mtu)

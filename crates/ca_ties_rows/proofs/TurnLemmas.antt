@@ -37,17 +37,17 @@ pub operation-responder : (d : Direction) (q : QueuePair) (n : Numbered) (window
 operation-responder d q n windows m refusal mtu = forgets-in d q (operation_effects q n (record q { windows = windows }) m refusal) mtu (operation-forgets q n windows m refusal)
 
 -- each of these stays in its state, or moves to Error
-pub packet-state : (q : QueuePair) (room : Bool) (n : Numbered) → RowLeads (LeavesState q.state) (packet_row q room n)
-packet-state q room n = weaker (λ e. Forgets q e.queue) (LeavesState q.state) (packet_row q room n) (λ e does. forgets-state q e does) (packet-forgets q room n)
+pub packet-state : (q : QueuePair) (room : Bool) (n : Numbered) → RowLeads (LeavesState q) (packet_row q room n)
+packet-state q room n = weaker (λ e. Forgets q e.queue) (LeavesState q) (packet_row q room n) (λ e does. forgets-state q e does) (packet-forgets q room n)
 
-pub respond-state : (q : QueuePair) (room : Bool) → RowLeads (LeavesState q.state) (respond_row room q)
-respond-state q room = weaker (λ e. Stays q e.queue) (LeavesState q.state) (respond_row room q) (λ e does. stays-state q e does) (respond-stays room q)
+pub respond-state : (q : QueuePair) (room : Bool) → RowLeads (LeavesState q) (respond_row room q)
+respond-state q room = weaker (λ e. Stays q e.queue) (LeavesState q) (respond_row room q) (λ e does. stays-state q e does) (respond-stays room q)
 
-pub timeout-state : (silent : Bool) (q : QueuePair) → LeavesState q.state (after_timeout silent q)
+pub timeout-state : (silent : Bool) (q : QueuePair) → LeavesState q (after_timeout silent q)
 timeout-state silent q = forgets-state q (after_timeout silent q) (timeout-forgets silent q)
 
-pub wake-state : (q : QueuePair) → LeavesState q.state (after_wake q)
+pub wake-state : (q : QueuePair) → LeavesState q (after_wake q)
 wake-state q = forgets-state q (after_wake q) (wake-forgets q)
 
-pub operation-state : (q : QueuePair) (n : Numbered) (windows : ℕ) (m : LocalMarks) (refusal : Option OpRefusal) → LeavesState q.state (operation_effects q n (record q { windows = windows }) m refusal)
+pub operation-state : (q : QueuePair) (n : Numbered) (windows : ℕ) (m : LocalMarks) (refusal : Option OpRefusal) → LeavesState q (operation_effects q n (record q { windows = windows }) m refusal)
 operation-state q n windows m refusal = forgets-state q (operation_effects q n (record q { windows = windows }) m refusal) (operation-forgets q n windows m refusal)

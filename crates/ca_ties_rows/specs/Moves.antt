@@ -1,9 +1,9 @@
 -- What a row of the machine is as a move of a link. Contracts cite it.
 use Rattle.std.specs.Prelude.{◌≡◌, ◌⊎◌, ℕ, ◌+◌, ◌≤◌, true, if◌then◌else◌, List, [], ◌∷◌, ◌++◌, map, Option, None, Some}
-use Rattle.ca_base.specs.declared.change.State.{State}
 use Rattle.ca_base.specs.declared.change.State.TheVariants as states
 use Rattle.ca_base.specs.declared.denied_ask.DeniedAsk.{DeniedAsk}
 use Rattle.ca_base.specs.declared.refusals.OpRefusal.{OpRefusal}
+use Rattle.ca_base.specs.objects.QueuePair.{QueuePair}
 use Rattle.ca_base.specs.declared.step.Sent.{Sent}
 use Rattle.ca_base.specs.declared.step.Sent.TheVariants.{Silent, Spelt}
 use Rattle.ca_connection.specs.Layout.{Direction, HasNumber, Work, is_atomic, span}
@@ -108,6 +108,6 @@ pub record GoesBackIn (d : Direction) (r : Requester) (e : Effects) : Type 0 whe
   pub high : e.queue.requester.cursor ≤ r.cursor
   pub laid : is_sending e.queue.state ≡ true → IsLaid d e.queue
 
--- The queue pair stays in its state, or moves to Error.
-abbrev pub LeavesState : State → Effects → Type 0
-LeavesState before e = (e.queue.state ≡ before) ⊎ (e.queue.state ≡ states.Error)
+-- The queue pair stays in its state, or moves to Error; it keeps its path MTU.
+abbrev pub LeavesState : QueuePair → Effects → Type 0
+LeavesState q e = ((e.queue.state ≡ q.state) ⊎ (e.queue.state ≡ states.Error)) × (e.queue.responder.mtu ≡ q.responder.mtu)

@@ -43,8 +43,8 @@ pub fn other_request_stays()
         → RowLeads (StaysIn d (requester_in q)) (arrival_row bytes envelope shared q) }
 {}
 
-/// Whatever arrives, the queue pair stays in its state or moves to Error.
+/// Whatever arrives, the queue pair stays in its state or moves to Error, and keeps its path MTU.
 pub fn arrival_leaves_state()
     ensures { (bytes : List ℕ) (envelope : Option ℕ) (shared : Option SharedReceives) (q : QueuePair)
-        → RowLeads (LeavesState q.state) (arrival_row bytes envelope shared q) }
+        → RowLeads (LeavesState q) (arrival_row bytes envelope shared q) }
 {}

@@ -51,13 +51,13 @@ pub fn operation_stays()
         → ForgetsIn d (responder_in q) (operation_effects q n (record q { windows = windows }) m refusal) }
 {}
 
-/// After a turn, a timer, a wake and a local operation the queue pair stays in its state, or moves to Error.
+/// After a turn, a timer, a wake and a local operation the queue pair stays in its state, or moves to Error, and keeps its path MTU.
 pub fn turns_leave_state()
     ensures request { (q : QueuePair) (room : Bool) (n : Numbered)
-        → RowLeads (LeavesState q.state) (packet_row q room n) }
-    ensures respond { (q : QueuePair) (room : Bool) → RowLeads (LeavesState q.state) (respond_row room q) }
-    ensures timeout { (silent : Bool) (q : QueuePair) → LeavesState q.state (after_timeout silent q) }
-    ensures wake { (q : QueuePair) → LeavesState q.state (after_wake q) }
+        → RowLeads (LeavesState q) (packet_row q room n) }
+    ensures respond { (q : QueuePair) (room : Bool) → RowLeads (LeavesState q) (respond_row room q) }
+    ensures timeout { (silent : Bool) (q : QueuePair) → LeavesState q (after_timeout silent q) }
+    ensures wake { (q : QueuePair) → LeavesState q (after_wake q) }
     ensures operation { (q : QueuePair) (n : Numbered) (windows : ℕ) (m : LocalMarks) (refusal : Option OpRefusal)
-        → LeavesState q.state (operation_effects q n (record q { windows = windows }) m refusal) }
+        → LeavesState q (operation_effects q n (record q { windows = windows }) m refusal) }
 {}
