@@ -1,1 +1,4 @@
 pub mod DeliverWalk
+pub mod EntryLemmas
+pub mod DeliverLemmas
+pub mod DeliverTies

@@ -78,11 +78,12 @@ pub record TiedAfter (d : Direction) (s r : Correspondent) (l : Link) (acted : �
   pub tied : IsTied d s r v link
   pub found : (place : ℕ) → is_atomic (d.work place) ≡ true → found_at place link.acceptances ≡ acted place ++ found_at place l.acceptances
 
--- the numbers that a delivery by an index found at the atomic of a place: where it is the packet of that request that was delivered, those
--- of the marks
+-- the numbers found at the atomic of a place, where this entry was delivered and the marks tell of these
+abbrev pub found_by : Option (Option RequestPacket) → List ℕ → ℕ → List ℕ
+found_by (Some (Some x)) numbers place = if x.place == place then numbers else []
+found_by entry numbers place = []
+
+-- the same of a delivery by an index to a queue pair: only the packet of the request at this place finds them
 abbrev pub found_by_delivery : Correspondent → World → Link → QueueId → ℕ → List Mark → ℕ → List ℕ
-found_by_delivery r w l name index ms place = if queue_eq name r.queue then by (slice_get l.requests (later_than index (w.mailbox name))) else []
-  where
-    by : Option (Option RequestPacket) → List ℕ
-    by (Some (Some x)) = if x.place == place then numbers_found ms else []
-    by x = []
+found_by_delivery r w l name index ms place =
+    if queue_eq name r.queue then found_by (slice_get l.requests (later_than index (w.mailbox name))) (numbers_found ms) place else []

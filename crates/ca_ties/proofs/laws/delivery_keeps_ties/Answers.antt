@@ -1,5 +1,5 @@
-use Rattle.ca_ties.proofs.DeliverWalk.{leads-deliver}
+use Rattle.ca_ties.proofs.DeliverTies.{deliver-ties}
 use Rattle.ca_ties.proofs.laws.delivery_keeps_ties.Goals as goal
 
 pub returns : goal.returns
-returns c = ?
+returns c = deliver-ties
