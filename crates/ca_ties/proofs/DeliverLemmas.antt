@@ -56,16 +56,16 @@ delivered-inner index q m bytes shared e x = ends-do (IsInner q) (arrival_row by
 delivered-state : (index : ℕ) (q : QueuePair) (m : Mailbox) (bytes : List ℕ) (shared : Option SharedReceives) (e : Effects) → Delivered index q m bytes shared e → LeavesState q e
 delivered-state index q m bytes shared e x = ends-do (LeavesState q) (arrival_row bytes (Some index) shared q) e x.ends (arrival-state bytes (Some index) shared q)
 
-before-after : (life : Correspondent) (q p : QueuePair) → p.incarnation ≡ q.incarnation → p.peer ≡ q.peer → IsBefore life (Present q) → IsBefore life (Present p)
+pub before-after : (life : Correspondent) (q p : QueuePair) → p.incarnation ≡ q.incarnation → p.peer ≡ q.peer → IsBefore life (Present q) → IsBefore life (Present p)
 before-after life q p incarnation peer (sooner less) = sooner (omega (arith, less, incarnation))
 before-after life q p incarnation peer (unnamed t is same none) =
     unnamed p refl (incarnation ∙ ap (λ (x : QueuePair). x.incarnation) (present-same q t is) ∙ same) (peer ∙ ap (λ (x : QueuePair). x.peer) (present-same q t is) ∙ none)
 
-over-after : (life : Correspondent) (q p : QueuePair) → p.incarnation ≡ q.incarnation → IsOver life (Present q) → IsOver life (Present p)
+pub over-after : (life : Correspondent) (q p : QueuePair) → p.incarnation ≡ q.incarnation → IsOver life (Present q) → IsOver life (Present p)
 over-after life q p incarnation (later more) = later (omega (arith, more, incarnation))
 over-after life q p incarnation (vacant none same) = absurd (true≢false none)
 
-paired-after : (d : Direction) (life peer : Correspondent) (q p t : QueuePair) → p.incarnation ≡ q.incarnation → p.peer ≡ q.peer → p.responder.mtu ≡ d.mtu → IsPaired d life peer (Present q) t → IsPaired d life peer (Present p) p
+pub paired-after : (d : Direction) (life peer : Correspondent) (q p t : QueuePair) → p.incarnation ≡ q.incarnation → p.peer ≡ q.peer → p.responder.mtu ≡ d.mtu → IsPaired d life peer (Present q) t → IsPaired d life peer (Present p) p
 paired-after d life peer q p t incarnation same mtu paired = record {
   present = refl;
   incarnation = incarnation ∙ ap (λ (x : QueuePair). x.incarnation) (present-same q t paired.present) ∙ paired.incarnation;
@@ -77,7 +77,7 @@ none-found : (requests : List (Option RequestPacket)) (k : ℕ) (numbers : List 
 none-found requests k numbers place none = ap (λ xs. found_by (slice_get xs k) numbers place) none
 
 -- nothing of the link changes
-receiver-same : (d : Direction) (s r : Correspondent) (l : Link) (acted : ℕ → List ℕ) (slot : QueueSlot) (m : Mailbox) → Reached d l → ((place : ℕ) → acted place ≡ []) → ReceiverTie d s r slot m l.responder l.requests
+pub receiver-same : (d : Direction) (s r : Correspondent) (l : Link) (acted : ℕ → List ℕ) (slot : QueueSlot) (m : Mailbox) → Reached d l → ((place : ℕ) → acted place ≡ []) → ReceiverTie d s r slot m l.responder l.requests
     → ReceiverStep d s r l acted slot m
 receiver-same d s r l acted slot m reached none tie = record {
   link = l;
@@ -181,15 +181,15 @@ is-rtr states.Sqd = false
 is-rtr states.Error = false
 
 -- where the queue pair is ready to receive, or sends, it was and did before
-before-rtr : (q : QueuePair) (e : Effects) → LeavesState q e → e.queue.state ≡ states.Rtr → q.state ≡ states.Rtr
+pub before-rtr : (q : QueuePair) (e : Effects) → LeavesState q e → e.queue.state ≡ states.Rtr → q.state ≡ states.Rtr
 before-rtr q e (inl same, mtu) is = sym same ∙ is
 before-rtr q e (inr error, mtu) is = absurd (true≢false (ap is-rtr (sym is ∙ error)))
 
-before-sending : (q : QueuePair) (e : Effects) → LeavesState q e → is_sending e.queue.state ≡ true → is_sending q.state ≡ true
+pub before-sending : (q : QueuePair) (e : Effects) → LeavesState q e → is_sending e.queue.state ≡ true → is_sending q.state ≡ true
 before-sending q e (inl same, mtu) is = ap is_sending (sym same) ∙ is
 before-sending q e (inr error, mtu) is = absurd (true≢false (sym is ∙ ap is_sending error))
 
-sender-same : (d : Direction) (s r : Correspondent) (l : Link) (slot : QueueSlot) (m : Mailbox) → Reached d l → SenderTie d s r slot m l.requester l.responses → SenderStep d s r l slot m
+pub sender-same : (d : Direction) (s r : Correspondent) (l : Link) (slot : QueueSlot) (m : Mailbox) → Reached d l → SenderTie d s r slot m l.requester l.responses → SenderStep d s r l slot m
 sender-same d s r l slot m reached tie = record { link = l; reached = reached; responder_is = refl; requests_are = refl; acceptances = refl; tie = tie }
 
 pub sender-step : (d : Direction) (s r : Correspondent) (l : Link) (index : ℕ) (q : QueuePair) (m : Mailbox) (bytes : List ℕ) (shared : Option SharedReceives) (e : Effects)

@@ -48,10 +48,10 @@ other-name name a b apart is = by (queue_eq name a) refl
     by true e = sym (queue-refl b) ∙ ap (λ n. queue_eq n b) (sym (queue-path name b is) ∙ queue-path name a e) ∙ apart
     by false e = refl
 
-receiver-at : (d : Direction) (s r : Correspondent) (l : Link) (slot other : QueueSlot) (m box : Mailbox) → other ≡ slot → box ≡ m → ReceiverTie d s r slot m l.responder l.requests → ReceiverTie d s r other box l.responder l.requests
+pub receiver-at : (d : Direction) (s r : Correspondent) (l : Link) (slot other : QueueSlot) (m box : Mailbox) → other ≡ slot → box ≡ m → ReceiverTie d s r slot m l.responder l.requests → ReceiverTie d s r other box l.responder l.requests
 receiver-at d s r l slot other m box a b tie = subst (λ x. ReceiverTie d s r x box l.responder l.requests) (sym a) (subst (λ x. ReceiverTie d s r slot x l.responder l.requests) (sym b) tie)
 
-sender-at : (d : Direction) (s r : Correspondent) (l : Link) (slot other : QueueSlot) (m box : Mailbox) → other ≡ slot → box ≡ m → SenderTie d s r slot m l.requester l.responses → SenderTie d s r other box l.requester l.responses
+pub sender-at : (d : Direction) (s r : Correspondent) (l : Link) (slot other : QueueSlot) (m box : Mailbox) → other ≡ slot → box ≡ m → SenderTie d s r slot m l.requester l.responses → SenderTie d s r other box l.requester l.responses
 sender-at d s r l slot other m box a b tie = subst (λ x. SenderTie d s r x box l.requester l.responses) (sym a) (subst (λ x. SenderTie d s r slot x l.requester l.responses) (sym b) tie)
 
 pub deliver-ties : (d : Direction) (s r : Correspondent) (c : Configuration) (w : World) (l : Link) (name : QueueId) (index : ℕ) → IsSoundWorld c w → IsTied d s r w l

@@ -2,3 +2,4 @@ pub mod DeliverWalk
 pub mod EntryLemmas
 pub mod DeliverLemmas
 pub mod DeliverTies
+pub mod QuietLemmas
