@@ -3,3 +3,4 @@ pub mod EntryLemmas
 pub mod DeliverLemmas
 pub mod DeliverTies
 pub mod QuietLemmas
+pub mod TimerLemmas
