@@ -29,7 +29,7 @@ use Rattle.ca_packet.specs.declared.shape.Shape.TheVariants as shapes
 use Rattle.ca_ties_rows.proofs.DecodeLemmas.{Decoded, decoded}
 use Rattle.ca_ties_rows.proofs.ResponseRowLemmas.{IsRequestAt}
 use Rattle.ca_ties_rows.proofs.SpellLemmas.{aeth-decoded, read-decoded, result-decoded}
-use Rattle.ca_ties_rows.specs.Entries.{IsRequestOf, IsShapeOf, SpellsRequest, SpellsResponse, Tells}
+use Rattle.ca_ties_rows.specs.Entries.{IsRequestOf, IsShapeOf, SpellsRequest, SpellsResponse, SpellsSomeRequest, SpellsSomeResponse, Tells}
 use Rattle.ca_ties_rows.specs.Sides.{work_of}
 use Rattle.ca_wire.proofs.OperationLaws.{read_response_is, send_is, write_is}
 use Rattle.ca_wire.specs.Builders.{acknowledge, atomic_acknowledge, cmp_swap, fetch_add, read_request, read_response, send_packet, write_packet}
@@ -170,6 +170,51 @@ request-spelt d q n payload s mtu short packet has p is = by n.request.op refl
     by (ops.FastReg region low buffer address count rights pages) e = absurd (true≢false (ap is_local (sym e) ∙ packet))
     by (ops.LocalInv key) e = absurd (true≢false (ap is_local (sym e) ∙ packet))
 
+abbrev pub answers : Option Operation → Bool
+answers (Some (Request shape)) = false
+answers (Some operation) = true
+answers None = false
+
+-- the same, whatever the direction: what is sent of a request is no response
+no-response : (f p : Fields) (shape : Shape) → Decoded f p → operation_of f.opcode ≡ Some (Request shape) → is_response p.opcode ≡ false
+no-response f p shape dec is = ap is_response dec.opcode ∙ ap answers is
+
+pub request-is-no-response : (q : QueuePair) (n : Numbered) (payload : List ℕ) → IsQueue q → is_local n.request.op ≡ false → SpellsSomeRequest (spelt_packet q n payload)
+request-is-no-response q n payload s packet p is = by n.request.op refl
+  where
+    index : ℕ
+    index = index_of_packet q n
+
+    fields : SendOp → Option Fields
+    fields op = request_packet q.responder.mtu (record n.request { op = op }) index (peer_number q) (psn_bits q.requester.cursor) payload
+
+    bytes : (op : SendOp) → n.request.op ≡ op → packet_in (option_map_or spelling (fields op) []) ≡ Ok p
+    bytes op e = subst (λ o. packet_in (option_map_or spelling (fields o) []) ≡ Ok p) e is
+
+    one : (f : Fields) (shape : Shape) → operation_of f.opcode ≡ Some (Request shape) → f.pkey ≡ DEFAULT_PKEY → f.queue ≡ peer_number q → f.psn ≡ psn_bits q.requester.cursor → packet_in (spelling f) ≡ Ok p → is_response p.opcode ≡ false
+    one f shape op pkey queue psn is = no-response f p shape (decoded f p (bth-fits f (Request shape) op pkey (omega (arith, queue, peer-fits q s)) (omega (arith, psn))) is) op
+
+    send : (kind : SendKind) (seg : Segment) → packet_in (spelling (send_packet kind seg n.request.solicited (peer_number q) (psn_bits q.requester.cursor) payload)) ≡ Ok p → is_response p.opcode ≡ false
+    send kind seg is = one (send_packet kind seg n.request.solicited (peer_number q) (psn_bits q.requester.cursor) payload) (shapes.Send (position_of seg)) (send_is kind (position_of seg)) refl refl refl is
+
+    write : (seg : Segment) (reth : Reth) (imm : Option ℕ) → packet_in (spelling (write_packet seg reth imm n.request.solicited (peer_number q) (psn_bits q.requester.cursor) payload)) ≡ Ok p → is_response p.opcode ≡ false
+    write seg reth imm is = one (write_packet seg reth imm n.request.solicited (peer_number q) (psn_bits q.requester.cursor) payload) (shapes.Write (position_of seg)) (write_is imm (position_of seg)) refl refl refl is
+
+    by : (op : SendOp) → n.request.op ≡ op → is_response p.opcode ≡ false
+    by (ops.Send list) e = send Plain (segment q.responder.mtu (list_length list.items) index) (bytes (ops.Send list) e)
+    by (ops.SendImm imm list) e = send (WithImmediate imm) (segment q.responder.mtu (list_length list.items) index) (bytes (ops.SendImm imm list) e)
+    by (ops.SendInv key list) e = send (WithInvalidate key) (segment q.responder.mtu (list_length list.items) index) (bytes (ops.SendInv key list) e)
+    by (ops.Write address key list) e = write (segment q.responder.mtu (list_length list.items) index) (record { address = address; key = key; length = list_length list.items }) None (bytes (ops.Write address key list) e)
+    by (ops.WriteImm address key imm list) e = write (segment q.responder.mtu (list_length list.items) index) (record { address = address; key = key; length = list_length list.items }) (Some imm) (bytes (ops.WriteImm address key imm list) e)
+    by (ops.Read address key list) e = one (read_request (reth_behind (index * q.responder.mtu) address key (list_length list.items)) (peer_number q) (psn_bits q.requester.cursor)) shapes.Read read-request-is refl refl refl (bytes (ops.Read address key list) e)
+    by (ops.CmpSwap address key compare swap list) e =
+        one (cmp_swap (record { address = address; key = key; swap = swap; compare = compare }) (peer_number q) (psn_bits q.requester.cursor)) (shapes.Atomic CmpSwap) cmp-swap-is refl refl refl (bytes (ops.CmpSwap address key compare swap list) e)
+    by (ops.FetchAdd address key add list) e = one (fetch_add address key add (peer_number q) (psn_bits q.requester.cursor)) (shapes.Atomic FetchAdd) fetch-add-is refl refl refl (bytes (ops.FetchAdd address key add list) e)
+    by (ops.Bind1 window region address count rights) e = absurd (true≢false (ap is_local (sym e) ∙ packet))
+    by (ops.Bind2 window region low address count rights) e = absurd (true≢false (ap is_local (sym e) ∙ packet))
+    by (ops.FastReg region low buffer address count rights pages) e = absurd (true≢false (ap is_local (sym e) ∙ packet))
+    by (ops.LocalInv key) e = absurd (true≢false (ap is_local (sym e) ∙ packet))
+
 -- ---- responses
 
 acknowledge-is : operation_of ACKNOWLEDGE ≡ Some Acknowledge
@@ -180,10 +225,6 @@ atomic-acknowledge-is : operation_of ATOMIC_ACKNOWLEDGE ≡ Some AtomicAcknowled
 unfolding row_of
 atomic-acknowledge-is = refl
 
-abbrev pub answers : Option Operation → Bool
-answers (Some (Request shape)) = false
-answers (Some operation) = true
-answers None = false
 
 -- a packet of an answer is a response
 response-is : (f p : Fields) (o : Operation) → Decoded f p → operation_of f.opcode ≡ Some o → answers (Some o) ≡ true → is_response p.opcode ≡ true
@@ -236,3 +277,7 @@ read-spelt seg left queue psn msn payload fits p is =
 
     dec : Decoded f p
     dec = decoded f p (bth-fits f (ReadResponse (position_of seg)) (read_response_is (position_of seg)) refl fits (omega arith)) is
+
+-- an Acknowledge packet is a response, whatever it says
+pub acknowledge-is-response : (s : Syndrome) (queue psn msn : ℕ) → queue < 2 ^ 24 → SpellsSomeResponse (spelling (acknowledge s queue (psn_bits psn) msn))
+acknowledge-is-response s queue psn msn fits p is = response-is (acknowledge s queue (psn_bits psn) msn) p Acknowledge (acknowledge-decoded s queue psn msn p fits is) acknowledge-is refl

@@ -170,7 +170,7 @@ response-forgets p q = cond-row (λ e. Forgets q e.queue) (not (is_sending q.sta
     w : ℕ
     w = response_psn q p
 
-cond-ending : (P : Effects → Type 0) (b : Bool) (x y : Ending) → EndingLeads P x → EndingLeads P y → EndingLeads P (if b then x else y)
+pub cond-ending : (P : Effects → Type 0) (b : Bool) (x y : Ending) → EndingLeads P x → EndingLeads P y → EndingLeads P (if b then x else y)
 cond-ending P true x y one other = one
 cond-ending P false x y one other = other
 

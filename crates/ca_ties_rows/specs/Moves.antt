@@ -16,7 +16,7 @@ use Rattle.ca_model.specs.declared.mark.Mark.TheVariants as marks
 use Rattle.ca_keys.specs.declared.verdict.Verdict.TheVariants as verdicts
 use Rattle.ca_model.specs.machine.Invariants.{is_sending}
 use Rattle.ca_model.specs.machine.Row.{Does, Effects, Ending, NotPossible, Row}
-use Rattle.ca_ties_rows.specs.Entries.{SpellsRequest, SpellsResponse}
+use Rattle.ca_ties_rows.specs.Entries.{SpellsRequest, SpellsResponse, SpellsSomeRequest, SpellsSomeResponse}
 use Rattle.ca_ties_rows.specs.Sides.{IsLaid, kept_result, requester_in, responder_in, said}
 
 -- an ending that does something does such a thing
@@ -111,3 +111,17 @@ pub record GoesBackIn (d : Direction) (r : Requester) (e : Effects) : Type 0 whe
 -- The queue pair stays in its state, or moves to Error; it keeps its path MTU.
 abbrev pub LeavesState : QueuePair → Effects → Type 0
 LeavesState q e = ((e.queue.state ≡ q.state) ⊎ (e.queue.state ≡ states.Error)) × (e.queue.responder.mtu ≡ q.responder.mtu)
+
+-- What a turn of the requester sends is a packet of a request, and no response; or it sends nothing.
+abbrev pub SendsRequests : Effects → Type 0
+SendsRequests e = by e.sent
+  where
+    by : Sent → Type 0
+    by (Spelt (Some place)) = SpellsSomeRequest e.spelt
+    by (Spelt None) = ⊥
+    by Silent = Unit {0}
+
+-- What a turn of the responder sends is a response.
+pub record SendsResponses (e : Effects) : Type 0 where
+  pub sent : e.sent ≡ Spelt None
+  pub spells : SpellsSomeResponse e.spelt

@@ -6,10 +6,10 @@ ghost use Rattle.ca_connection.specs.Layout.{Direction};
 ghost use Rattle.ca_model.specs.machine.Invariants.{IsQueue, is_sending};
 ghost use Rattle.ca_model.specs.machine.LocalOperations.{operation_effects};
 ghost use Rattle.ca_model.specs.machine.Numbering.{Numbered};
-ghost use Rattle.ca_model.specs.machine.Requester.{Performs, packet_row, turn_of};
+ghost use Rattle.ca_model.specs.machine.Requester.{Performs, Sends, packet_row, turn_of};
 ghost use Rattle.ca_model.specs.machine.Respond.{respond_row};
 ghost use Rattle.ca_model.specs.machine.Timers.{after_timeout, after_wake};
-ghost use Rattle.ca_ties_rows.specs.Moves.{ForgetsIn, GoesBackIn, LeavesState, RowLeads, StaysIn};
+ghost use Rattle.ca_ties_rows.specs.Moves.{ForgetsIn, GoesBackIn, LeavesState, RowLeads, SendsRequests, SendsResponses, StaysIn};
 ghost use Rattle.ca_ties_rows.specs.Sides.{IsLaid, requester_in, responder_in};
 
 /// A turn of the requester leaves the responder, or empties its response queue where it fails.
@@ -60,4 +60,12 @@ pub fn turns_leave_state()
     ensures wake { (q : QueuePair) → LeavesState q (after_wake q) }
     ensures operation { (q : QueuePair) (n : Numbered) (windows : ℕ) (m : LocalMarks) (refusal : Option OpRefusal)
         → LeavesState q (operation_effects q n (record q { windows = windows }) m refusal) }
+{}
+
+/// Whatever the direction, what a turn of the requester sends decodes, if it decodes, to a packet that is no response, and
+/// what a turn of the responder sends to a response.
+pub fn turns_send_their_packets()
+    ensures request { (q : QueuePair) (room : Bool) (n : Numbered) → IsQueue q → turn_of q ≡ Sends n
+        → RowLeads SendsRequests (packet_row q room n) }
+    ensures respond { (q : QueuePair) (room : Bool) → IsQueue q → RowLeads SendsResponses (respond_row room q) }
 {}
