@@ -74,14 +74,15 @@ pub record SendsIn (d : Direction) (r : Requester) (place : ℕ) (e : Effects) :
   pub spells : SpellsRequest d (record { number = r.cursor; place = place }) e.spelt
   pub laid : is_sending e.queue.state ≡ true → IsLaid d e.queue
 
+-- a turn of the requester by what it sends: a packet of a request; or nothing, where it fails
+abbrev pub RequestTurnBy : Direction → Requester → Effects → Sent → Type 0
+RequestTurnBy d r e (Spelt (Some place)) = SendsIn d r place e
+RequestTurnBy d r e (Spelt None) = ⊥
+RequestTurnBy d r e Silent = StaysIn d r e
+
 -- A turn of the requester sends a packet of a request, or fails silently.
 abbrev pub IsRequestTurn : Direction → Requester → Effects → Type 0
-IsRequestTurn d r e = by e.sent
-  where
-    by : Sent → Type 0
-    by (Spelt (Some place)) = SendsIn d r place e
-    by (Spelt None) = ⊥
-    by Silent = StaysIn d r e
+IsRequestTurn d r e = RequestTurnBy d r e e.sent
 
 -- The responder sends a response, as a link's may, and spells it: the front of its response queue, or a NAK of a READ that is
 -- denied.
@@ -112,14 +113,15 @@ pub record GoesBackIn (d : Direction) (r : Requester) (e : Effects) : Type 0 whe
 abbrev pub LeavesState : QueuePair → Effects → Type 0
 LeavesState q e = ((e.queue.state ≡ q.state) ⊎ (e.queue.state ≡ states.Error)) × (e.queue.responder.mtu ≡ q.responder.mtu)
 
+-- what a turn of the requester sends, by whether it sends
+abbrev pub SendsRequestsBy : Effects → Sent → Type 0
+SendsRequestsBy e (Spelt (Some place)) = SpellsSomeRequest e.spelt
+SendsRequestsBy e (Spelt None) = ⊥
+SendsRequestsBy e Silent = Unit {0}
+
 -- What a turn of the requester sends is a packet of a request, and no response; or it sends nothing.
 abbrev pub SendsRequests : Effects → Type 0
-SendsRequests e = by e.sent
-  where
-    by : Sent → Type 0
-    by (Spelt (Some place)) = SpellsSomeRequest e.spelt
-    by (Spelt None) = ⊥
-    by Silent = Unit {0}
+SendsRequests e = SendsRequestsBy e e.sent
 
 -- What a turn of the responder sends is a response.
 pub record SendsResponses (e : Effects) : Type 0 where
