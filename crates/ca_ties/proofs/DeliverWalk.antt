@@ -82,7 +82,7 @@ pub has-aside : (queues : QueueId → QueueSlot) (boxes : QueueId → Mailbox) (
 has-aside queues boxes [] v aside has = has
 has-aside queues boxes (u ∷ us) v aside has = has-aside queues boxes us (put v u.name u.thing) aside.1 (aside-one queues boxes v u.name u.thing aside.0 has)
 
-puts-append : (us vs : List Update) (w : World) → put_all (us ++ vs) w ≡ put_all vs (put_all us w)
+pub puts-append : (us vs : List Update) (w : World) → put_all (us ++ vs) w ≡ put_all vs (put_all us w)
 puts-append [] vs w = refl
 puts-append (u ∷ us) vs w = puts-append us vs (put w u.name u.thing)
 

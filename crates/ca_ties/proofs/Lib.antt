@@ -4,3 +4,4 @@ pub mod DeliverLemmas
 pub mod DeliverTies
 pub mod QuietLemmas
 pub mod TimerLemmas
+pub mod SendLemmas

@@ -1,6 +1,7 @@
 -- When a world and a link say the same of one direction of a connection: of the life that sends and the life that receives.
 -- Laws cite it.
 use Rattle.std.specs.Prelude.{◌≡◌, ◌≢◌, ℕ, ◌<◌, ◌==◌, ◌++◌, Bool, true, false, if◌then◌else◌, List, [], ◌∷◌, Option, None, Some, slice_get}
+use Rattle.ca_agree.specs.Agreement.{peer_in}
 use Rattle.ca_base.specs.declared.change.State.TheVariants as states
 use Rattle.ca_base.specs.declared.correspondent.Correspondent.{Correspondent}
 use Rattle.ca_base.specs.declared.mail_envelope.MailEnvelope.{MailEnvelope}
@@ -87,3 +88,8 @@ found_by entry numbers place = []
 abbrev pub found_by_delivery : Correspondent → World → Link → QueueId → ℕ → List Mark → ℕ → List ℕ
 found_by_delivery r w l name index ms place =
     if queue_eq name r.queue then found_by (slice_get l.requests (later_than index (w.mailbox name))) (numbers_found ms) place else []
+
+-- Each mailbox accepts the peer that its queue pair has named, for the incarnation that stands there.
+pub record MailFollows (w : World) : Type 0 where
+  pub owners : (n : QueueId) → (w.mailbox n).incarnation ≡ incarnation_of (w.queue n)
+  pub peers : (n : QueueId) → (w.mailbox n).peer ≡ peer_in (w.queue n)
