@@ -5,3 +5,4 @@ pub mod DeliverTies
 pub mod QuietLemmas
 pub mod TimerLemmas
 pub mod SendLemmas
+pub mod SentTies
