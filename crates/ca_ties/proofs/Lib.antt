@@ -6,3 +6,5 @@ pub mod QuietLemmas
 pub mod TimerLemmas
 pub mod SendLemmas
 pub mod SentTies
+pub mod RespondTies
+pub mod TurnTies

@@ -38,11 +38,11 @@ use Rattle.ca_ties_rows.specs.Sides.{IsLaid, requester_in, responder_in}
 
 -- ---- links that moves lead to
 
-stay : (d : Direction) (l : Link) → Reached d l → LeadsTo d l l.requester l.responder l.requests l.responses
+pub stay : (d : Direction) (l : Link) → Reached d l → LeadsTo d l l.requester l.responder l.requests l.responses
 stay d l reached = record { link = l; reached = reached; requester_is = refl; responder_is = refl; requests_are = refl; responses_are = refl; acceptances = refl; completions = refl }
 
 -- a packet of the other direction takes a place, where a path leads there
-one-response : (d : Direction) (l : Link) (b : Bool) (requester : Requester) (responder : Responder) (requests : List (Option RequestPacket)) (responses : List (Option Response)) → LeadsTo d l requester responder requests responses
+pub one-response : (d : Direction) (l : Link) (b : Bool) (requester : Requester) (responder : Responder) (requests : List (Option RequestPacket)) (responses : List (Option Response)) → LeadsTo d l requester responder requests responses
     → LeadsTo d l requester responder requests (if b then None ∷ responses else responses)
 one-response d l false requester responder requests responses to = to
 one-response d l true requester responder requests responses to = record {
@@ -56,7 +56,7 @@ one-response d l true requester responder requests responses to = record {
   completions = to.completions;
 }
 
-one-request : (d : Direction) (l : Link) (b : Bool) (requester : Requester) (responder : Responder) (requests : List (Option RequestPacket)) (responses : List (Option Response)) → LeadsTo d l requester responder requests responses
+pub one-request : (d : Direction) (l : Link) (b : Bool) (requester : Requester) (responder : Responder) (requests : List (Option RequestPacket)) (responses : List (Option Response)) → LeadsTo d l requester responder requests responses
     → LeadsTo d l requester responder (if b then None ∷ requests else requests) responses
 one-request d l false requester responder requests responses to = to
 one-request d l true requester responder requests responses to = record {
@@ -71,7 +71,7 @@ one-request d l true requester responder requests responses to = record {
 }
 
 -- both ends say what that link says
-assembled : (d : Direction) (s r : Correspondent) (v : World) (l : Link) (requester : Requester) (responder : Responder) (requests : List (Option RequestPacket)) (responses : List (Option Response)) → queue_eq s.queue r.queue ≡ false
+pub assembled : (d : Direction) (s r : Correspondent) (v : World) (l : Link) (requester : Requester) (responder : Responder) (requests : List (Option RequestPacket)) (responses : List (Option Response)) → queue_eq s.queue r.queue ≡ false
     → LeadsTo d l requester responder requests responses → SenderTie d s r (v.queue s.queue) (v.mailbox s.queue) requester responses → ReceiverTie d s r (v.queue r.queue) (v.mailbox r.queue) responder requests
     → TiedAfter d s r l (λ place. []) v
 assembled d s r v l requester responder requests responses apart to sender receiver = record {
@@ -100,14 +100,14 @@ pub record IsSent (w v : World) (name : QueueId) (q : QueuePair) (p : Correspond
   pub queue : v.queue ≡ with_at queue_eq w.queue name (Present e.queue)
   pub mailbox : v.mailbox ≡ boxes_after w q p lot (Some (record { request = request; bytes = bytes }))
 
-slot-here : (w v : World) (name n : QueueId) (q : QueuePair) (p : Correspondent) (lot : Lot) (bytes : List ℕ) (e : Effects) → IsSent w v name q p lot bytes e → queue_eq name n ≡ true → v.queue n ≡ Present e.queue
+pub slot-here : (w v : World) (name n : QueueId) (q : QueuePair) (p : Correspondent) (lot : Lot) (bytes : List ℕ) (e : Effects) → IsSent w v name q p lot bytes e → queue_eq name n ≡ true → v.queue n ≡ Present e.queue
 slot-here w v name n q p lot bytes e x is = ap (λ (f : QueueId → QueueSlot). f n) x.queue ∙ ap (λ b. if b then Present e.queue else w.queue n) is
 
-slot-else : (w v : World) (name n : QueueId) (q : QueuePair) (p : Correspondent) (lot : Lot) (bytes : List ℕ) (e : Effects) → IsSent w v name q p lot bytes e → queue_eq name n ≡ false → v.queue n ≡ w.queue n
+pub slot-else : (w v : World) (name n : QueueId) (q : QueuePair) (p : Correspondent) (lot : Lot) (bytes : List ℕ) (e : Effects) → IsSent w v name q p lot bytes e → queue_eq name n ≡ false → v.queue n ≡ w.queue n
 slot-else w v name n q p lot bytes e x is = ap (λ (f : QueueId → QueueSlot). f n) x.queue ∙ ap (λ b. if b then Present e.queue else w.queue n) is
 
 -- the mailbox of the peer, and every other
-box-here : (w v : World) (name n : QueueId) (q : QueuePair) (p : Correspondent) (lot : Lot) (bytes : List ℕ) (e : Effects) → IsSent w v name q p lot bytes e → queue_eq p.queue n ≡ true
+pub box-here : (w v : World) (name n : QueueId) (q : QueuePair) (p : Correspondent) (lot : Lot) (bytes : List ℕ) (e : Effects) → IsSent w v name q p lot bytes e → queue_eq p.queue n ≡ true
     → v.mailbox n ≡ (if reaches_peer q p (w.mailbox p.queue) then after_send lot bytes (w.mailbox n) else w.mailbox n)
 box-here w v name n q p lot bytes e x is = ap (λ (f : QueueId → Mailbox). f n) x.mailbox ∙ by (reaches_peer q p (w.mailbox p.queue))
   where
@@ -115,7 +115,7 @@ box-here w v name n q p lot bytes e x is = ap (λ (f : QueueId → Mailbox). f n
     by true = ap (λ b. if b then after_send lot bytes (w.mailbox p.queue) else w.mailbox n) is ∙ ap (λ k. after_send lot bytes (w.mailbox k)) (queue-path p.queue n is)
     by false = refl
 
-box-else : (w v : World) (name n : QueueId) (q : QueuePair) (p : Correspondent) (lot : Lot) (bytes : List ℕ) (e : Effects) → IsSent w v name q p lot bytes e → queue_eq p.queue n ≡ false → v.mailbox n ≡ w.mailbox n
+pub box-else : (w v : World) (name n : QueueId) (q : QueuePair) (p : Correspondent) (lot : Lot) (bytes : List ℕ) (e : Effects) → IsSent w v name q p lot bytes e → queue_eq p.queue n ≡ false → v.mailbox n ≡ w.mailbox n
 box-else w v name n q p lot bytes e x is = ap (λ (f : QueueId → Mailbox). f n) x.mailbox ∙ by (reaches_peer q p (w.mailbox p.queue))
   where
     by : (b : Bool) → (if b then with_at queue_eq w.mailbox p.queue (after_send lot bytes (w.mailbox p.queue)) else w.mailbox) n ≡ w.mailbox n
@@ -123,17 +123,17 @@ box-else w v name n q p lot bytes e x is = ap (λ (f : QueueId → Mailbox). f n
     by false = refl
 
 -- a path leads to the peer's life where it is there, and has named the life that sends
-path-leads : (w : World) (q : QueuePair) (p : Correspondent) → MailFollows w → reaches_peer q p (w.mailbox p.queue) ≡ true → (incarnation_of (w.queue p.queue) ≡ p.incarnation) × (peer_in (w.queue p.queue) ≡ Some (correspondent_of q))
+pub path-leads : (w : World) (q : QueuePair) (p : Correspondent) → MailFollows w → reaches_peer q p (w.mailbox p.queue) ≡ true → (incarnation_of (w.queue p.queue) ≡ p.incarnation) × (peer_in (w.queue p.queue) ≡ Some (correspondent_of q))
 path-leads w q p follows is = let parts = reaches-parts q p (w.mailbox p.queue) is in (sym (follows.owners p.queue) ∙ parts.0, sym (follows.peers p.queue) ∙ parts.1)
 
 -- the same of a life that stands there
-path-to : (d : Direction) (w : World) (q t : QueuePair) (life own : Correspondent) → MailFollows w → correspondent_of q ≡ own → IsPaired d life own (w.queue life.queue) t → reaches_peer q life (w.mailbox life.queue) ≡ true
+pub path-to : (d : Direction) (w : World) (q t : QueuePair) (life own : Correspondent) → MailFollows w → correspondent_of q ≡ own → IsPaired d life own (w.queue life.queue) t → reaches_peer q life (w.mailbox life.queue) ≡ true
 path-to d w q t life own follows same paired = reaches-back q life (w.mailbox life.queue)
     (follows.owners life.queue ∙ ap incarnation_of paired.present ∙ paired.incarnation)
     (follows.peers life.queue ∙ ap peer_in paired.present ∙ paired.names ∙ ap (λ x. Some x) (sym same))
 
 -- what another life sends reaches no mailbox of a life that stands
-foreign-box : (d : Direction) (w v : World) (name : QueueId) (q : QueuePair) (p : Correspondent) (lot : Lot) (bytes : List ℕ) (e : Effects) (life other : Correspondent) → IsSent w v name q p lot bytes e → (correspondent_of q ≡ other → ⊥)
+pub foreign-box : (d : Direction) (w v : World) (name : QueueId) (q : QueuePair) (p : Correspondent) (lot : Lot) (bytes : List ℕ) (e : Effects) (life other : Correspondent) → IsSent w v name q p lot bytes e → (correspondent_of q ≡ other → ⊥)
     → (t : QueuePair) → IsPaired d life other (w.queue life.queue) t → v.mailbox life.queue ≡ w.mailbox life.queue
 foreign-box d w v name q p lot bytes e life other x strange t paired = by (queue_eq p.queue life.queue) refl
   where
@@ -149,26 +149,26 @@ foreign-box d w v name q p lot bytes e life other x strange t paired = by (queue
     by false is = box-else w v name life.queue q p lot bytes e x is
 
 -- who has not come, or is over, is not who sends
-not-before : (w : World) (name : QueueId) (q : QueuePair) (p life : Correspondent) → q.peer ≡ Some p → IsBefore life (Present q) → correspondent_of q ≡ life → ⊥
+pub not-before : (w : World) (name : QueueId) (q : QueuePair) (p life : Correspondent) → q.peer ≡ Some p → IsBefore life (Present q) → correspondent_of q ≡ life → ⊥
 not-before w name q p life names (sooner less) same = omega (arith, less, ap (λ (x : Correspondent). x.incarnation) same)
 not-before w name q p life names (unnamed t is own none) same = true≢false (sym (ap is_some (sym (ap (λ (x : QueuePair). x.peer) (present-same q t is) ∙ none) ∙ names)))
 
-not-over : (w : World) (name : QueueId) (q : QueuePair) (life : Correspondent) → IsOver life (Present q) → correspondent_of q ≡ life → ⊥
+pub not-over : (w : World) (name : QueueId) (q : QueuePair) (life : Correspondent) → IsOver life (Present q) → correspondent_of q ≡ life → ⊥
 not-over w name q life (later more) same = omega (arith, more, ap (λ (x : Correspondent). x.incarnation) same)
 not-over w name q life (vacant none own) same = true≢false none
 
 -- who stands is who sends
-is-life : (d : Direction) (w : World) (name : QueueId) (q t : QueuePair) (life other : Correspondent) → IsFoundAt w name q → queue_eq name life.queue ≡ true → IsPaired d life other (Present q) t → correspondent_of q ≡ life
+pub is-life : (d : Direction) (w : World) (name : QueueId) (q t : QueuePair) (life other : Correspondent) → IsFoundAt w name q → queue_eq name life.queue ≡ true → IsPaired d life other (Present q) t → correspondent_of q ≡ life
 is-life d w name q t life other there here paired = ap₂ (λ a b. record { queue = a; incarnation = b }) (there.named ∙ queue-path name life.queue here)
     (ap (λ (x : QueuePair). x.incarnation) (present-same q t paired.present) ∙ paired.incarnation)
 
-is-peer : (d : Direction) (q t : QueuePair) (p life other : Correspondent) → q.peer ≡ Some p → IsPaired d life other (Present q) t → p ≡ other
+pub is-peer : (d : Direction) (q t : QueuePair) (p life other : Correspondent) → q.peer ≡ Some p → IsPaired d life other (Present q) t → p ≡ other
 is-peer d q t p life other names paired = same_Some p other (sym names ∙ ap (λ (x : QueuePair). x.peer) (present-same q t paired.present) ∙ paired.names)
 
-apart-back : (a b : QueueId) → queue_eq a b ≡ false → queue_eq b a ≡ false
+pub apart-back : (a b : QueueId) → queue_eq a b ≡ false → queue_eq b a ≡ false
 apart-back a b apart = other-name b a b apart (queue-refl b)
 
-mtu-of : (d : Direction) (q t : QueuePair) (life other : Correspondent) → IsPaired d life other (Present q) t → q.responder.mtu ≡ d.mtu
+pub mtu-of : (d : Direction) (q t : QueuePair) (life other : Correspondent) → IsPaired d life other (Present q) t → q.responder.mtu ≡ d.mtu
 mtu-of d q t life other paired = ap (λ (x : QueuePair). x.responder.mtu) (present-same q t paired.present) ∙ paired.mtu
 
 -- ---- a request

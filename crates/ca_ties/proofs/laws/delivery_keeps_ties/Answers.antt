@@ -1,4 +1,4 @@
-use Rattle.ca_ties.proofs.SentTies.{request-ties}
+use Rattle.ca_ties.proofs.TurnTies.{respond-ties}
 use Rattle.ca_ties.proofs.DeliverTies.{deliver-ties}
 use Rattle.ca_ties.proofs.laws.delivery_keeps_ties.Goals as goal
 
