@@ -1,12 +1,12 @@
 -- A delivery keeps the receiver's tie, and the sender's.
-use Rattle.std.proofs.Common.{◌≡◌, ℕ, ◌<◌, ◌==◌, ◌++◌, ◌⊎◌, inl, inr, ◌%◌, ◌^◌, Bool, true, false, if◌then◌else◌, List, [], ◌∷◌, Option, None, Some, is_some, slice_get, refl, ap, sym, subst, ◌∙◌, arith, true≢false}
+use Rattle.std.proofs.Common.{◌≡◌, ℕ, ◌==◌, ◌++◌, inl, inr, ◌%◌, ◌^◌, Bool, true, false, if◌then◌else◌, List, [], Option, None, Some, slice_get, refl, ap, sym, subst, ◌∙◌, arith, true≢false}
 use Rattle.std.proofs.lemmas.Option.{same_Some}
 use Rattle.ca_agree.proofs.InnerLemmas.{IsInner, arrival-inner}
 use Rattle.ca_base.specs.declared.change.State.{State}
 use Rattle.ca_base.specs.declared.change.State.TheVariants as states
 use Rattle.ca_base.specs.declared.correspondent.Correspondent.{Correspondent}
 use Rattle.ca_base.specs.objects.Mailbox.{Mailbox, after_delivery, later_than}
-use Rattle.ca_base.specs.objects.QueuePair.{QueuePair, QueueSlot, Present, incarnation_of, is_present, queue_in}
+use Rattle.ca_base.specs.objects.QueuePair.{QueuePair, QueueSlot, Present, queue_in}
 use Rattle.ca_base.specs.objects.SharedReceives.{SharedReceives}
 use Rattle.ca_connection.specs.Layout.{Direction, is_atomic}
 use Rattle.ca_connection.specs.Link.{Link, RequestPacket, Requester, Responder, Response, number_of, opening}
@@ -28,7 +28,7 @@ use Rattle.ca_ties_rows.proofs.LinkLemmas.{forgotten-moves, received-moves, take
 use Rattle.ca_ties_rows.specs.Entries.{SpellsRequest, SpellsResponse, SpellsSomeRequest, SpellsSomeResponse}
 use Rattle.ca_ties_rows.specs.Links.{IsReceived, IsTaken, LeadsTo, found_at}
 use Rattle.ca_ties_rows.specs.Moves.{ForgetsIn, LeavesState, ReceivesIn, StaysIn, TakesIn, numbers_found}
-use Rattle.ca_ties_rows.specs.Sides.{IsLaid, requester_in, responder_in}
+use Rattle.ca_ties_rows.specs.Sides.{requester_in, responder_in}
 
 pub present-same : (p q : QueuePair) → Present p ≡ Present q → p ≡ q
 present-same p q is = same_Some p q (ap queue_in is)

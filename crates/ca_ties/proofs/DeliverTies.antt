@@ -1,27 +1,26 @@
 -- A delivery keeps a world tied to a link.
-use Rattle.std.proofs.Common.{◌≡◌, ℕ, ◌==◌, ◌++◌, Bool, true, false, if◌then◌else◌, List, [], Option, Some, slice_get, refl, ap, sym, subst, ◌∙◌, true≢false}
+use Rattle.std.proofs.Common.{◌≡◌, ℕ, ◌++◌, Bool, true, false, if◌then◌else◌, List, [], Option, slice_get, refl, ap, sym, subst, ◌∙◌}
 use Rattle.ca_agree.proofs.LeadsLemmas.{comes}
-use Rattle.ca_agree.specs.Runs.{Comes, Leads}
+use Rattle.ca_agree.specs.Runs.{Comes}
 use Rattle.ca_base.specs.Configuration.{Configuration}
 use Rattle.ca_base.specs.declared.correspondent.Correspondent.{Correspondent}
-use Rattle.ca_base.specs.objects.Mailbox.{Mailbox, after_delivery, bytes_lent, later_than}
+use Rattle.ca_base.specs.objects.Mailbox.{Mailbox, after_delivery, later_than}
 use Rattle.ca_base.specs.objects.QueuePair.{QueuePair, QueueSlot, Present}
 use Rattle.ca_base.specs.objects.SharedReceives.{SharedReceives}
-use Rattle.ca_connection.specs.Layout.{Direction, is_atomic}
+use Rattle.ca_connection.specs.Layout.{Direction}
 use Rattle.ca_connection.specs.Link.{Link}
 use Rattle.ca_keys.specs.Equal.{queue_eq}
 use Rattle.ca_keys.specs.declared.names.QueueId.{QueueId}
 use Rattle.ca_laws_sound.proofs.SettledLemmas.{queue-path, queue-refl}
 use Rattle.ca_model.specs.declared.event.Event.TheVariants as events
 use Rattle.ca_model.specs.declared.mark.Mark.{Mark}
-use Rattle.ca_model.specs.machine.Delivery.{arrival_row, deliver_plan}
-use Rattle.ca_model.specs.machine.Invariants.{IsMailbox, IsQueue}
+use Rattle.ca_model.specs.machine.Delivery.{deliver_plan}
 use Rattle.ca_model.specs.machine.Row.{Effects}
 use Rattle.ca_model.specs.machine.Sound.{IsSoundWorld}
 use Rattle.ca_model.specs.machine.Step.{step}
 use Rattle.ca_model.specs.machine.World.{Mailbox_of, World}
 use Rattle.ca_ties.proofs.DeliverLemmas.{Delivered, ReceiverStep, SenderStep, receiver-step, sender-step}
-use Rattle.ca_ties.proofs.DeliverWalk.{Changes, Ends, leads-deliver}
+use Rattle.ca_ties.proofs.DeliverWalk.{Changes, leads-deliver}
 use Rattle.ca_ties.proofs.EntryLemmas.{lent-envelope}
 use Rattle.ca_ties.specs.Ties.{IsTied, ReceiverTie, SenderTie, TiedAfter, found_by, found_by_delivery}
 use Rattle.ca_ties_rows.specs.Links.{found_at}

@@ -1,9 +1,7 @@
 -- A delivery as one change of a queue pair and its mailbox, by an ending of the row that the bytes meet.
-use Rattle.std.proofs.Common.{◌≡◌, ℕ, Bool, true, false, if◌then◌else◌, List, [], ◌∷◌, ◌++◌, Option, None, Some, refl, ap, sym, subst, ◌∙◌}
+use Rattle.std.proofs.Common.{◌≡◌, ℕ, Bool, true, false, if◌then◌else◌, List, [], ◌∷◌, ◌++◌, Option, None, Some, refl, sym, subst}
 use Rattle.std.specs.Option.{option_map}
-use Rattle.ca_agree.proofs.InnerLemmas.{IsInner, arrival-inner}
 use Rattle.ca_agree.proofs.LeadsLemmas.{AreAside, IsAsideName, leads-around, leads-row}
-use Rattle.ca_agree.proofs.PathTurnLemmas.{found as stands-there}
 use Rattle.ca_agree.specs.Runs.{Leads}
 use Rattle.ca_base.specs.Configuration.{Configuration}
 use Rattle.ca_base.specs.declared.denied_ask.DeniedAsk.{DeniedAsk}
@@ -111,7 +109,7 @@ Changes w name slot m v = Has (with_at queue_eq w.queue name slot) (with_at queu
 -- a delivery changes the queue pair by an ending of its row, and counts in the mailbox
 pub leads-deliver : (c : Configuration) (w : World) (P : World → List Mark → Type 0) (name : QueueId) (index : ℕ) → IsSoundWorld c w
     → ((q : QueuePair) (bytes : List ℕ) (shared : Option SharedReceives) (e : Effects) (v : World) (ms : List Mark) → w.queue name ≡ Present q → IsQueue q → bytes_lent index (w.mailbox name) ≡ Some bytes
-        → Ends (arrival_row bytes (Some index) shared q) e → Changes w name (Present e.queue) (after_delivery index (w.mailbox name)) v → numbers_found ms ≡ numbers_found e.marks → P v ms)
+    → Ends (arrival_row bytes (Some index) shared q) e → Changes w name (Present e.queue) (after_delivery index (w.mailbox name)) v → numbers_found ms ≡ numbers_found e.marks → P v ms)
     → Leads w P (deliver_plan c name index)
 leads-deliver c w P name index sound more = (λ has. lent (bytes_lent index m) refl, λ none. record {})
   where

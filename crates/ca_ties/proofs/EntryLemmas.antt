@@ -1,10 +1,10 @@
 -- The envelopes of a mailbox and the entries of a link.
-use Rattle.std.proofs.Common.{◌≡◌, ℕ, zero, suc, ◌+◌, ◌-◌, ◌≤◌, ◌<◌, ◌==◌, arith, Bool, true, false, nat_lt, if◌then◌else◌, List, [], ◌∷◌, length, take, Option, None, Some, is_some, slice_get, refl, ap, sym, subst, ◌∙◌, true≢false}
+use Rattle.std.proofs.Common.{◌≡◌, ℕ, zero, suc, ◌-◌, ◌<◌, ◌==◌, arith, Bool, true, false, nat_lt, if◌then◌else◌, List, [], ◌∷◌, Option, None, Some, is_some, slice_get, refl, ap, sym, subst, true≢false}
 use Rattle.std.proofs.lemmas.Option.{same_Some, slice_get_within}
 use Rattle.std.specs.Option.{option_and_then}
 use Rattle.ca_base.specs.declared.limits.TheConstants.{KEPT_ENVELOPES}
 use Rattle.ca_base.specs.declared.mail_envelope.MailEnvelope.{MailEnvelope}
-use Rattle.ca_base.specs.objects.Mailbox.{Mailbox, bytes_lent, envelope_at, is_lost, later_than, with_delivery}
+use Rattle.ca_base.specs.objects.Mailbox.{Mailbox, bytes_lent, is_lost, later_than, with_delivery}
 use Rattle.ca_model.specs.machine.Invariants.{IsMailbox}
 use Rattle.ca_ties.specs.Ties.{AreEntries}
 

@@ -7,4 +7,6 @@ pub mod TimerLemmas
 pub mod SendLemmas
 pub mod SentTies
 pub mod RespondTies
+pub mod PerformTies
 pub mod TurnTies
+pub mod FollowLemmas

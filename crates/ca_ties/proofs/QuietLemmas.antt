@@ -1,11 +1,11 @@
 -- A turn that sends nothing keeps a world tied: a timer, a wake, a local operation.
-use Rattle.std.proofs.Common.{◌≡◌, ℕ, ◌++◌, ◌≤◌, ◌⊎◌, inl, inr, Bool, true, false, if◌then◌else◌, List, [], ◌∷◌, Option, None, Some, refl, ap, sym, subst, ◌∙◌, arith, true≢false}
+use Rattle.std.proofs.Common.{◌≡◌, ℕ, Bool, true, false, if◌then◌else◌, List, [], refl, ap, sym, subst, ◌∙◌, true≢false}
 use Rattle.ca_base.specs.declared.change.State.TheVariants as states
 use Rattle.ca_base.specs.declared.correspondent.Correspondent.{Correspondent}
 use Rattle.ca_base.specs.objects.Mailbox.{Mailbox}
 use Rattle.ca_base.specs.objects.QueuePair.{QueuePair, QueueSlot, Present}
-use Rattle.ca_connection.specs.Layout.{Direction, is_atomic}
-use Rattle.ca_connection.specs.Link.{Link, Requester, Responder, opening}
+use Rattle.ca_connection.specs.Layout.{Direction}
+use Rattle.ca_connection.specs.Link.{Link, Requester, opening}
 use Rattle.ca_connection.specs.Moves.{Reached}
 use Rattle.ca_keys.specs.Equal.{queue_eq}
 use Rattle.ca_keys.specs.declared.names.QueueId.{QueueId}

@@ -1,8 +1,7 @@
 -- A turn that sends a packet: which mailbox gets it, and what the two ends of a direction say of it.
-use Rattle.std.proofs.Common.{◌≡◌, ℕ, zero, suc, ◌-◌, ◌<◌, ◌==◌, ◌&&◌, arith, Bool, true, false, if◌then◌else◌, List, [], ◌∷◌, ◌++◌, take, Option, None, Some, is_some, refl, ap, ap₂, sym, subst, ◌∙◌, true≢false}
+use Rattle.std.proofs.Common.{◌≡◌, ℕ, zero, suc, ◌-◌, ◌==◌, ◌&&◌, arith, Bool, true, false, if◌then◌else◌, List, [], ◌∷◌, ◌++◌, take, Option, None, Some, is_some, refl, ap, ap₂, sym, subst, ◌∙◌, true≢false}
 use Rattle.std.proofs.lemmas.Bool.{and_parts, eqb-true}
 use Rattle.std.proofs.lemmas.Bool.Decides.{nat_tests}
-use Rattle.std.proofs.lemmas.Option.{same_Some}
 use Rattle.std.specs.Option.{option_map_or}
 use Rattle.ca_agree.proofs.LeadsLemmas.{AreAside, leads-row}
 use Rattle.ca_agree.specs.Agreement.{peer_in}
@@ -12,8 +11,6 @@ use Rattle.ca_base.specs.declared.correspondent.Correspondent.{Correspondent}
 use Rattle.ca_base.specs.declared.limits.TheConstants.{KEPT_ENVELOPES}
 use Rattle.ca_base.specs.declared.lot.Lot.{Lot}
 use Rattle.ca_base.specs.declared.mail_envelope.MailEnvelope.{MailEnvelope}
-use Rattle.ca_base.specs.declared.step.Sent.{Sent}
-use Rattle.ca_base.specs.declared.step.Sent.TheVariants.{Silent, Spelt}
 use Rattle.ca_base.specs.objects.Mailbox.{Mailbox, after_send}
 use Rattle.ca_base.specs.objects.QueuePair.{QueuePair, QueueSlot, NoQueue, Present, correspondent_of, incarnation_of, is_present}
 use Rattle.ca_connection.specs.Layout.{Direction}
@@ -25,12 +22,12 @@ use Rattle.ca_laws_sound.proofs.WorldLemmas.{around_in, shared_of}
 use Rattle.ca_model.specs.Past.{with_at}
 use Rattle.ca_model.specs.declared.mark.Mark.{Mark}
 use Rattle.ca_model.specs.machine.Around.{Around, updates_of}
-use Rattle.ca_model.specs.machine.Plan.{Finish, Plan, Update, ◌:=◌, Write, put_all, write_all}
+use Rattle.ca_model.specs.machine.Plan.{Update, ◌:=◌, Write, put_all, write_all}
 use Rattle.ca_model.specs.machine.Row.{Effects, Row, Row_plan}
 use Rattle.ca_model.specs.machine.Turns.{Leave_plan, Packet, packet_sent, reaches_peer, sent_marks, sent_updates}
-use Rattle.ca_model.specs.machine.World.{Mailbox_of, World, put}
+use Rattle.ca_model.specs.machine.World.{Mailbox_of, World}
 use Rattle.ca_ties.proofs.DeliverWalk.{Ends, Has, has-aside, has-turn, has-writes, puts-append, row-ends}
-use Rattle.ca_ties.specs.Ties.{AreEntries, IsBefore, IsOver, IsPaired, MailFollows, ReceiverTie, SenderTie}
+use Rattle.ca_ties.specs.Ties.{AreEntries, IsBefore, IsOver, IsPaired, ReceiverTie, SenderTie}
 use Rattle.ca_ties.specs.Ties.IsBefore.{sooner, unnamed}
 use Rattle.ca_ties.specs.Ties.IsOver.{later, vacant}
 use Rattle.ca_ties.specs.Ties.ReceiverTie.{before as receiver_before, standing as receiver_standing, gone as receiver_gone}

@@ -1,13 +1,12 @@
 -- A turn that sends a packet keeps a world tied: a move at the end that sends, and one more entry at the other.
-use Rattle.std.proofs.Common.{◌≡◌, ℕ, ◌<◌, arith, Bool, true, false, if◌then◌else◌, List, [], ◌∷◌, ◌++◌, Option, None, Some, is_some, refl, ap, ap₂, sym, subst, ◌∙◌, true≢false}
+use Rattle.std.proofs.Common.{◌≡◌, ℕ, arith, Bool, true, false, if◌then◌else◌, List, [], ◌∷◌, Option, None, Some, is_some, refl, ap, ap₂, sym, subst, ◌∙◌, true≢false}
 use Rattle.std.proofs.lemmas.Option.{same_Some}
 use Rattle.ca_agree.specs.Agreement.{peer_in}
 use Rattle.ca_base.specs.declared.correspondent.Correspondent.{Correspondent}
 use Rattle.ca_base.specs.declared.lot.Lot.{Lot}
-use Rattle.ca_base.specs.declared.step.Sent.TheVariants.{Silent, Spelt}
 use Rattle.ca_base.specs.objects.Mailbox.{Mailbox, after_send}
-use Rattle.ca_base.specs.objects.QueuePair.{QueuePair, QueueSlot, NoQueue, Present, correspondent_of, incarnation_of}
-use Rattle.ca_connection.specs.Layout.{Direction, is_atomic}
+use Rattle.ca_base.specs.objects.QueuePair.{QueuePair, QueueSlot, Present, correspondent_of, incarnation_of}
+use Rattle.ca_connection.specs.Layout.{Direction}
 use Rattle.ca_connection.specs.Link.{Link, RequestPacket, Requester, Responder, Response}
 use Rattle.ca_connection.specs.Moves.{Reached}
 use Rattle.ca_connection.specs.Moves.Move.{other_request, other_response}
@@ -18,22 +17,21 @@ use Rattle.ca_laws_sound.proofs.SettledLemmas.{queue-path, queue-refl}
 use Rattle.ca_model.specs.Past.{with_at}
 use Rattle.ca_model.specs.machine.Invariants.{is_sending}
 use Rattle.ca_model.specs.machine.Row.{Effects}
-use Rattle.ca_model.specs.machine.Turns.{Packet, reaches_peer}
+use Rattle.ca_model.specs.machine.Turns.{reaches_peer}
 use Rattle.ca_model.specs.machine.World.{World}
 use Rattle.ca_ties.proofs.DeliverLemmas.{before-after, before-rtr, over-after, paired-after, present-same}
 use Rattle.ca_ties.proofs.DeliverTies.{other-name}
-use Rattle.ca_ties.proofs.DeliverWalk.{Has}
-use Rattle.ca_ties.proofs.SendLemmas.{Spells, boxed-receiver, boxed-sender, boxes_after, grown-receiver, grown-sender, nowhere-receiver, nowhere-sender, reaches-back, reaches-parts}
+use Rattle.ca_ties.proofs.SendLemmas.{boxed-receiver, boxed-sender, boxes_after, grown-receiver, grown-sender, nowhere-receiver, reaches-back, reaches-parts}
 use Rattle.ca_ties.proofs.TimerLemmas.{IsFoundAt}
 use Rattle.ca_ties.specs.Ties.{IsBefore, IsOver, IsPaired, IsTied, MailFollows, ReceiverTie, RequesterTie, SenderTie, TiedAfter}
 use Rattle.ca_ties.specs.Ties.IsBefore.{sooner, unnamed}
 use Rattle.ca_ties.specs.Ties.IsOver.{later, vacant}
 use Rattle.ca_ties.specs.Ties.ReceiverTie.{before as receiver_before, standing as receiver_standing, gone as receiver_gone}
 use Rattle.ca_ties.specs.Ties.SenderTie.{before as sender_before, standing as sender_standing, gone as sender_gone}
-use Rattle.ca_ties_rows.proofs.LinkLemmas.{forgotten-moves, responded-moves, responded-nowhere-moves, sent-moves, sent-nowhere-moves}
-use Rattle.ca_ties_rows.specs.Entries.{SpellsRequest, SpellsResponse, SpellsSomeRequest, SpellsSomeResponse}
+use Rattle.ca_ties_rows.proofs.LinkLemmas.{forgotten-moves, sent-moves, sent-nowhere-moves}
+use Rattle.ca_ties_rows.specs.Entries.{SpellsSomeRequest}
 use Rattle.ca_ties_rows.specs.Links.{LeadsTo, found_at}
-use Rattle.ca_ties_rows.specs.Moves.{ForgetsIn, LeavesState, RespondsIn, SendsIn, SendsResponses, StaysIn}
+use Rattle.ca_ties_rows.specs.Moves.{ForgetsIn, LeavesState, SendsIn}
 use Rattle.ca_ties_rows.specs.Sides.{IsLaid, requester_in, responder_in}
 
 -- ---- links that moves lead to

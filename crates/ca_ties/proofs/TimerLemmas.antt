@@ -1,13 +1,12 @@
 -- Timers and wakes keep a world tied to a link.
-use Rattle.std.proofs.Common.{◌≡◌, ℕ, ◌&&◌, rules, Bool, true, false, List, [], ◌∷◌, Option, None, Some, refl, ap, sym, subst, ◌∙◌, arith}
+use Rattle.std.proofs.Common.{◌≡◌, ◌&&◌, rules, Bool, false, List, [], ◌∷◌, Option, None, Some, refl, subst, arith}
 use Rattle.ca_agree.proofs.InnerLemmas.{timeout-inner}
 use Rattle.ca_agree.proofs.LeadsLemmas.{comes, leads-around, leads-queue, leads-unless}
 use Rattle.ca_agree.specs.Runs.{Comes, Leads}
 use Rattle.ca_base.specs.Configuration.{Configuration}
 use Rattle.ca_base.specs.declared.correspondent.Correspondent.{Correspondent}
 use Rattle.ca_base.specs.declared.step.Reason.TheVariants as reasons
-use Rattle.ca_base.specs.objects.Mailbox.{Mailbox}
-use Rattle.ca_base.specs.objects.QueuePair.{QueuePair, QueueSlot, NoQueue, Present, queue_in, srq_of}
+use Rattle.ca_base.specs.objects.QueuePair.{QueuePair, QueueSlot, Present}
 use Rattle.ca_connection.specs.Layout.{Direction}
 use Rattle.ca_connection.specs.Link.{Link}
 use Rattle.ca_keys.specs.Equal.{queue_eq}
@@ -16,17 +15,16 @@ use Rattle.ca_laws_sound.proofs.WorldLemmas.{around_in, shared_of}
 use Rattle.ca_model.specs.Past.{with_at}
 use Rattle.ca_model.specs.declared.event.Event.TheVariants as events
 use Rattle.ca_model.specs.declared.mark.Mark.{Mark}
-use Rattle.ca_model.specs.machine.Arrivals.{next_receive}
 use Rattle.ca_model.specs.machine.Around.{With_around, updates_of}
-use Rattle.ca_model.specs.machine.Invariants.{IsQueue, is_sending}
+use Rattle.ca_model.specs.machine.Invariants.{IsQueue}
 use Rattle.ca_model.specs.machine.Plan.{Finish, Look, Plan, Stuck, ◌:=◌, put_all, unless_refused}
 use Rattle.ca_model.specs.machine.Sound.{IsQueueOf, IsSoundWorld}
 use Rattle.ca_model.specs.machine.Step.{step}
 use Rattle.ca_model.specs.machine.Timers.{after_timeout, after_wake, timeout_refusals, wake_refusals}
 use Rattle.ca_model.specs.machine.Turns.{Fire, Timeout_around, With_receives, reaches_peer, timeout_plan, wake_plan}
-use Rattle.ca_model.specs.machine.World.{Mailbox_of, Queue_of, Srq_of, World, put}
+use Rattle.ca_model.specs.machine.World.{Mailbox_of, Queue_of, World, put}
 use Rattle.ca_ties.proofs.DeliverWalk.{Has, has-turn}
-use Rattle.ca_ties.proofs.QuietLemmas.{IsQuiet, Turned, quiet-ties}
+use Rattle.ca_ties.proofs.QuietLemmas.{IsQuiet, quiet-ties}
 use Rattle.ca_ties.specs.Ties.{IsTied, TiedAfter}
 use Rattle.ca_ties_rows.proofs.StayLemmas.{wake-stays}
 use Rattle.ca_ties_rows.proofs.TurnLemmas.{timeout-requester, timeout-responder, timeout-state, wake-responder, wake-state}

@@ -1,6 +1,6 @@
 -- When a world and a link say the same of one direction of a connection: of the life that sends and the life that receives.
 -- Laws cite it.
-use Rattle.std.specs.Prelude.{◌≡◌, ◌≢◌, ℕ, ◌<◌, ◌==◌, ◌++◌, Bool, true, false, if◌then◌else◌, List, [], ◌∷◌, Option, None, Some, slice_get}
+use Rattle.std.specs.Prelude.{◌≡◌, ℕ, ◌<◌, ◌==◌, ◌++◌, true, false, if◌then◌else◌, List, [], ◌∷◌, Option, None, Some, slice_get}
 use Rattle.ca_agree.specs.Agreement.{peer_in}
 use Rattle.ca_base.specs.declared.change.State.TheVariants as states
 use Rattle.ca_base.specs.declared.correspondent.Correspondent.{Correspondent}

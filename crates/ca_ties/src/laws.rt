@@ -1,21 +1,55 @@
-ghost use Rattle.std.specs.Prelude.{ℕ};
+ghost use Rattle.std.specs.Prelude.{ℕ, Bool, []};
+ghost use Rattle.ca_agree.specs.Agreement.{PathsAgree};
 ghost use Rattle.ca_agree.specs.Runs.{Comes};
 ghost use Rattle.ca_base.specs.Configuration.{Configuration};
 ghost use Rattle.ca_base.specs.declared.correspondent.Correspondent.{Correspondent};
+ghost use Rattle.ca_base.specs.declared.lot.Lot.{Lot};
 ghost use Rattle.ca_connection.specs.Layout.{Direction};
 ghost use Rattle.ca_connection.specs.Link.{Link};
 ghost use Rattle.ca_keys.specs.declared.names.QueueId.{QueueId};
+ghost use Rattle.ca_model.specs.Past.{Past};
 ghost use Rattle.ca_model.specs.declared.event.Event.TheVariants as events;
 ghost use Rattle.ca_model.specs.machine.Sound.{IsSoundWorld};
 ghost use Rattle.ca_model.specs.machine.Step.{step};
 ghost use Rattle.ca_model.specs.machine.World.{World};
-ghost use Rattle.ca_ties.specs.Ties.{IsTied, TiedAfter, found_by_delivery};
+ghost use Rattle.ca_ties.specs.Ties.{IsTied, MailFollows, TiedAfter, found_by_delivery};
 
-/// A delivery of any envelope to any queue pair is a move of the link that a world is tied to, or none: a link says the
-/// same of the direction afterwards.
+/// A delivery of any envelope to any queue pair, in a sound world that is tied to a link, leaves a world that is tied to a
+/// link to which moves lead; and the numbers that atomics found grew by those that the marks tell of, where the packet of
+/// such a request was delivered.
 pub fn delivery_keeps_ties()
     ensures { (d : Direction) (s r : Correspondent) (c : Configuration) (w : World) (l : Link) (name : QueueId)
         (index : ℕ) → IsSoundWorld c w → IsTied d s r w l
         → Comes (λ v ms. TiedAfter d s r l (found_by_delivery r w l name index ms) v)
         (step c w (events.Deliver name index)) }
+{}
+
+/// A turn of the requester of any queue pair keeps a world tied to a link, where each mailbox accepts the peer that its
+/// queue pair named: it sends a packet, where a path leads or where none does, performs a local operation, or fails.
+pub fn request_keeps_ties()
+    ensures { (d : Direction) (s r : Correspondent) (c : Configuration) (w : World) (l : Link) (name : QueueId)
+        (lot : Lot) → IsSoundWorld c w → MailFollows w → IsTied d s r w l
+        → Comes (λ v ms. TiedAfter d s r l (λ place. []) v) (step c w (events.Request name lot)) }
+{}
+
+/// A turn of the responder of any queue pair does so too.
+pub fn respond_keeps_ties()
+    ensures { (d : Direction) (s r : Correspondent) (c : Configuration) (w : World) (l : Link) (name : QueueId)
+        (lot : Lot) → IsSoundWorld c w → MailFollows w → IsTied d s r w l
+        → Comes (λ v ms. TiedAfter d s r l (λ place. []) v) (step c w (events.Respond name lot)) }
+{}
+
+/// A timer of any queue pair, and a wake, keep a world tied to a link.
+pub fn timers_keep_ties()
+    ensures timeout { (d : Direction) (s r : Correspondent) (c : Configuration) (w : World) (l : Link)
+        (name : QueueId) (hasten : Bool) → IsSoundWorld c w → IsTied d s r w l
+        → Comes (λ v ms. TiedAfter d s r l (λ place. []) v) (step c w (events.Timeout name hasten)) }
+    ensures wake { (d : Direction) (s r : Correspondent) (c : Configuration) (w : World) (l : Link) (name : QueueId)
+        → IsSoundWorld c w → IsTied d s r w l
+        → Comes (λ v ms. TiedAfter d s r l (λ place. []) v) (step c w (events.RnrWake name)) }
+{}
+
+/// Where past and world agree on paths, each mailbox accepts the peer that its queue pair named, for its incarnation.
+pub fn mail_follows_paths()
+    ensures { (past : Past) (w : World) → PathsAgree past w → MailFollows w }
 {}

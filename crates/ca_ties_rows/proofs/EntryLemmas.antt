@@ -225,7 +225,6 @@ atomic-acknowledge-is : operation_of ATOMIC_ACKNOWLEDGE ≡ Some AtomicAcknowled
 unfolding row_of
 atomic-acknowledge-is = refl
 
-
 -- a packet of an answer is a response
 response-is : (f p : Fields) (o : Operation) → Decoded f p → operation_of f.opcode ≡ Some o → answers (Some o) ≡ true → is_response p.opcode ≡ true
 response-is f p o dec is is_so = ap is_response dec.opcode ∙ ap answers is ∙ is_so

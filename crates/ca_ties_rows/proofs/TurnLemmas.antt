@@ -12,7 +12,7 @@ use Rattle.ca_ties_rows.proofs.RequestRowLemmas.{cond-row, plain}
 use Rattle.ca_wire.specs.declared.syndrome.NakCode.TheVariants as codes
 use Rattle.ca_wire.specs.declared.syndrome.Syndrome.TheVariants as syndromes
 use Rattle.ca_wire.specs.declared.syndrome.TheConstants.{UNLIMITED_CREDITS}
-use Rattle.std.proofs.Common.{slice_get, nat_le, not, List, None, Some, refl, ◌≡◌, ℕ, Bool, Option, true}
+use Rattle.std.proofs.Common.{slice_get, nat_le, not, None, Some, refl, ◌≡◌, ℕ, Bool, Option, true}
 use Rattle.ca_base.specs.declared.refusals.OpRefusal.{OpRefusal}
 use Rattle.ca_base.specs.objects.LocalRequest.{LocalMarks}
 use Rattle.ca_base.specs.objects.QueuePair.{QueuePair}

@@ -1,4 +1,3 @@
-use Rattle.ca_ties.proofs.TurnTies.{respond-ties}
 use Rattle.ca_ties.proofs.DeliverTies.{deliver-ties}
 use Rattle.ca_ties.proofs.laws.delivery_keeps_ties.Goals as goal
 
