@@ -10,3 +10,4 @@ pub mod RespondTies
 pub mod PerformTies
 pub mod TurnTies
 pub mod FollowLemmas
+pub mod OpeningLemmas

@@ -1,18 +1,29 @@
-ghost use Rattle.std.specs.Prelude.{ℕ, Bool, []};
+ghost use Rattle.std.specs.Prelude.{◌≡◌, ◌<◌, ◌≤◌, ℕ, Bool, [], false};
 ghost use Rattle.ca_agree.specs.Agreement.{PathsAgree};
 ghost use Rattle.ca_agree.specs.Runs.{Comes};
 ghost use Rattle.ca_base.specs.Configuration.{Configuration};
 ghost use Rattle.ca_base.specs.declared.correspondent.Correspondent.{Correspondent};
+ghost use Rattle.ca_base.specs.declared.limits.TheConstants.{MIN_PATH_MTU};
 ghost use Rattle.ca_base.specs.declared.lot.Lot.{Lot};
 ghost use Rattle.ca_connection.specs.Layout.{Direction};
-ghost use Rattle.ca_connection.specs.Link.{Link};
+ghost use Rattle.ca_connection.specs.Link.{Link, opening};
+ghost use Rattle.ca_keys.specs.Equal.{queue_eq};
+ghost use Rattle.ca_keys.specs.Memory.{ByteMap};
 ghost use Rattle.ca_keys.specs.declared.names.QueueId.{QueueId};
 ghost use Rattle.ca_model.specs.Past.{Past};
 ghost use Rattle.ca_model.specs.declared.event.Event.TheVariants as events;
 ghost use Rattle.ca_model.specs.machine.Sound.{IsSoundWorld};
 ghost use Rattle.ca_model.specs.machine.Step.{step};
-ghost use Rattle.ca_model.specs.machine.World.{World};
+ghost use Rattle.ca_model.specs.machine.World.{World, opening_world};
 ghost use Rattle.ca_ties.specs.Ties.{IsTied, MailFollows, TiedAfter, found_by_delivery};
+
+/// Before the first event a world is tied to the link before the first packet, for any two lives of different queue pairs
+/// that are to come.
+pub fn opening_is_tied()
+    ensures { (d : Direction) (s r : Correspondent) (bytes : ByteMap) → MIN_PATH_MTU ≤ d.mtu
+        → queue_eq s.queue r.queue ≡ false → 0 < s.incarnation → 0 < r.incarnation
+        → IsTied d s r (opening_world bytes) (opening d) }
+{}
 
 /// A delivery of any envelope to any queue pair, in a sound world that is tied to a link, leaves a world that is tied to a
 /// link to which moves lead; and the numbers that atomics found grew by those that the marks tell of, where the packet of
