@@ -11,3 +11,4 @@ pub mod PerformTies
 pub mod TurnTies
 pub mod FollowLemmas
 pub mod OpeningLemmas
+pub mod EndLemmas

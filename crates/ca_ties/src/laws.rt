@@ -2,6 +2,7 @@ ghost use Rattle.std.specs.Prelude.{◌≡◌, ◌<◌, ◌≤◌, ℕ, Bool, []
 ghost use Rattle.ca_agree.specs.Agreement.{PathsAgree};
 ghost use Rattle.ca_agree.specs.Runs.{Comes};
 ghost use Rattle.ca_base.specs.Configuration.{Configuration};
+ghost use Rattle.ca_base.specs.declared.change.Change.TheVariants as changes;
 ghost use Rattle.ca_base.specs.declared.correspondent.Correspondent.{Correspondent};
 ghost use Rattle.ca_base.specs.declared.limits.TheConstants.{MIN_PATH_MTU};
 ghost use Rattle.ca_base.specs.declared.lot.Lot.{Lot};
@@ -10,8 +11,10 @@ ghost use Rattle.ca_connection.specs.Link.{Link, opening};
 ghost use Rattle.ca_keys.specs.Equal.{queue_eq};
 ghost use Rattle.ca_keys.specs.Memory.{ByteMap};
 ghost use Rattle.ca_keys.specs.declared.names.QueueId.{QueueId};
+ghost use Rattle.ca_keys.specs.declared.names.Slot.{Slot};
 ghost use Rattle.ca_model.specs.Past.{Past};
 ghost use Rattle.ca_model.specs.declared.event.Event.TheVariants as events;
+ghost use Rattle.ca_model.specs.declared.verb.Verb.TheVariants as verbs;
 ghost use Rattle.ca_model.specs.machine.Sound.{IsSoundWorld};
 ghost use Rattle.ca_model.specs.machine.Step.{step};
 ghost use Rattle.ca_model.specs.machine.World.{World, opening_world};
@@ -63,4 +66,15 @@ pub fn timers_keep_ties()
 /// Where past and world agree on paths, each mailbox accepts the peer that its queue pair named, for its incarnation.
 pub fn mail_follows_paths()
     ensures { (past : Past) (w : World) → PathsAgree past w → MailFollows w }
+{}
+
+/// ModifyQp to Error, and to Reset, of any queue pair keep a world tied to a link: the response queue is emptied; or a life
+/// ends, and its mailbox is emptied.
+pub fn ends_keep_ties()
+    ensures { (d : Direction) (s r : Correspondent) (c : Configuration) (w : World) (l : Link) (by : ℕ) (slot : Slot)
+        → IsSoundWorld c w → IsTied d s r w l
+        → Comes (λ v ms. TiedAfter d s r l (λ place. []) v)
+        (step c w (events.Verb by (verbs.ModifyQp slot changes.Error)))
+        × Comes (λ v ms. TiedAfter d s r l (λ place. []) v)
+        (step c w (events.Verb by (verbs.ModifyQp slot changes.Reset))) }
 {}
