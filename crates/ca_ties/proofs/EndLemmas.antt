@@ -1,5 +1,5 @@
 -- A queue pair whose life ends, and one that is made, keep a world tied: a mailbox is emptied, and its entries are gone.
-use Rattle.std.proofs.Common.{◌≡◌, ℕ, map, suc, ◌<◌, ◌⊎◌, inl, inr, arith, Bool, true, false, nat_lt, if◌then◌else◌, List, [], ◌∷◌, ◌++◌, Option, None, Some, refl, ap, sym, subst, ◌∙◌, true≢false}
+use Rattle.std.proofs.Common.{◌≡◌, ℕ, map, suc, ◌<◌, ◌⊎◌, inl, inr, arith, Bool, true, false, nat_lt, List, [], ◌∷◌, Option, None, Some, refl, ap, sym, subst, true≢false}
 use Rattle.std.proofs.lemmas.Bool.{ltb-false, ltb-true}
 use Rattle.std.specs.Option.{option_map}
 use Rattle.ca_agree.proofs.LeadsLemmas.{comes, leads-around, leads-unless}
@@ -8,11 +8,11 @@ use Rattle.ca_base.specs.Configuration.{Configuration}
 use Rattle.ca_base.specs.declared.change.Change.TheVariants as changes
 use Rattle.ca_base.specs.declared.correspondent.Correspondent.{Correspondent}
 use Rattle.ca_base.specs.objects.Mailbox.{Mailbox}
-use Rattle.ca_base.specs.objects.QueuePair.{QueuePair, QueueSlot, NoQueue, Present, after_reset, incarnation_of, srq_of}
+use Rattle.ca_base.specs.objects.QueuePair.{QueuePair, QueueSlot, NoQueue, Present, after_reset, srq_of}
 use Rattle.ca_base.specs.objects.SharedReceives.{SharedReceives, SrqSlot, after_receives_retire}
 use Rattle.ca_base.specs.objects.StateTable.{modify_refusals, queue_after_change}
 use Rattle.ca_connection.specs.Layout.{Direction}
-use Rattle.ca_connection.specs.Link.{Link, RequestPacket, Response}
+use Rattle.ca_connection.specs.Link.{Link}
 use Rattle.ca_connection.specs.Moves.Move.{clear_requests, clear_responses}
 use Rattle.ca_connection.specs.Moves.Reached.{move}
 use Rattle.ca_keys.specs.Equal.{queue_eq}
@@ -29,12 +29,12 @@ use Rattle.ca_model.specs.declared.mark.Mark.{Mark}
 use Rattle.ca_model.specs.declared.verb.Verb.TheVariants as verbs
 use Rattle.ca_model.specs.machine.Around.{Around, With_around, cq_updates, srq_updates}
 use Rattle.ca_model.specs.machine.Completions.{flush_marks}
-use Rattle.ca_model.specs.machine.Plan.{Finish, Look, Plan, Update, ◌:=◌, put_all}
-use Rattle.ca_model.specs.machine.QueuePairVerbs.{With_present, emptied_mailbox, emptied_updates, modify_qp_plan, places_held}
+use Rattle.ca_model.specs.machine.Plan.{Look, Plan, Update, ◌:=◌, put_all}
+use Rattle.ca_model.specs.machine.QueuePairVerbs.{emptied_mailbox, emptied_updates, places_held}
 use Rattle.ca_model.specs.machine.Row.{queue_and_marks}
 use Rattle.ca_model.specs.machine.Sound.{IsSoundWorld}
 use Rattle.ca_model.specs.machine.Step.{step, plan}
-use Rattle.ca_model.specs.machine.VerbAnswers.{Answer_plan, Call, Refuse_plan, Unless_plan, answer_mark, of_change_refusals}
+use Rattle.ca_model.specs.machine.VerbAnswers.{Answer_plan, Call, Refuse_plan, Unless_plan, of_change_refusals}
 use Rattle.ca_model.specs.machine.World.{Mailbox_of, Queue_of, Srq_of, World}
 use Rattle.ca_ties.proofs.DeliverLemmas.{present-same}
 use Rattle.ca_ties.proofs.DeliverTies.{other-name, receiver-at, sender-at, stands-changed, stands-still}
@@ -42,7 +42,7 @@ use Rattle.ca_ties.proofs.DeliverWalk.{Changes, Has}
 use Rattle.ca_ties.proofs.QuietLemmas.{IsQuiet, joined-neither, quiet-ties}
 use Rattle.ca_ties.proofs.SentTies.{assembled, stay}
 use Rattle.ca_ties.proofs.TimerLemmas.{IsFoundAt, found-at}
-use Rattle.ca_ties.specs.Ties.{IsBefore, IsOver, IsPaired, IsTied, ReceiverTie, SenderTie, TiedAfter}
+use Rattle.ca_ties.specs.Ties.{IsBefore, IsOver, IsTied, ReceiverTie, SenderTie, TiedAfter}
 use Rattle.ca_ties.specs.Ties.IsBefore.{sooner, unnamed}
 use Rattle.ca_ties.specs.Ties.IsOver.{later, vacant}
 use Rattle.ca_ties.specs.Ties.ReceiverTie.{before as receiver_before, standing as receiver_standing, gone as receiver_gone}

@@ -12,3 +12,4 @@ pub mod TurnTies
 pub mod FollowLemmas
 pub mod OpeningLemmas
 pub mod EndLemmas
+pub mod DestroyLemmas

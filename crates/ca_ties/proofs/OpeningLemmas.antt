@@ -1,5 +1,5 @@
 -- Before the first event a world is tied to the link before the first packet.
-use Rattle.std.proofs.Common.{◌≡◌, ℕ, ◌<◌, ◌≤◌, false, refl}
+use Rattle.std.proofs.Common.{◌≡◌, ◌<◌, ◌≤◌, false, refl}
 use Rattle.ca_base.specs.declared.correspondent.Correspondent.{Correspondent}
 use Rattle.ca_base.specs.declared.limits.TheConstants.{MIN_PATH_MTU}
 use Rattle.ca_connection.specs.Layout.{Direction}

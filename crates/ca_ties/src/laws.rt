@@ -78,3 +78,10 @@ pub fn ends_keep_ties()
         × Comes (λ v ms. TiedAfter d s r l (λ place. []) v)
         (step c w (events.Verb by (verbs.ModifyQp slot changes.Reset))) }
 {}
+
+/// DestroyQp of any queue pair does so too: a life ends, and its mailbox is emptied.
+pub fn destroy_keeps_ties()
+    ensures { (d : Direction) (s r : Correspondent) (c : Configuration) (w : World) (l : Link) (by : ℕ) (slot : Slot)
+        → IsSoundWorld c w → IsTied d s r w l
+        → Comes (λ v ms. TiedAfter d s r l (λ place. []) v) (step c w (events.Verb by (verbs.DestroyQp slot))) }
+{}
