@@ -13,3 +13,4 @@ pub mod FollowLemmas
 pub mod OpeningLemmas
 pub mod EndLemmas
 pub mod DestroyLemmas
+pub mod AsideLemmas

@@ -13,6 +13,8 @@ use Rattle.ca_connection.specs.Moves.{Reached}
 use Rattle.ca_keys.specs.Equal.{queue_eq}
 use Rattle.ca_keys.specs.declared.names.QueueId.{QueueId}
 use Rattle.ca_model.specs.declared.mark.Mark.{Mark}
+use Rattle.ca_model.specs.declared.verb.Verb.{Verb}
+use Rattle.ca_model.specs.declared.verb.Verb.TheVariants as verbs
 use Rattle.ca_model.specs.machine.Invariants.{is_sending}
 use Rattle.ca_model.specs.machine.World.{World}
 use Rattle.ca_ties_rows.specs.Entries.{SpellsRequest, SpellsResponse, SpellsSomeRequest, SpellsSomeResponse}
@@ -93,3 +95,15 @@ found_by_delivery r w l name index ms place =
 pub record MailFollows (w : World) : Type 0 where
   pub owners : (n : QueueId) → (w.mailbox n).incarnation ≡ incarnation_of (w.queue n)
   pub peers : (n : QueueId) → (w.mailbox n).peer ≡ peer_in (w.queue n)
+
+-- the verbs that change no queue pair and no mailbox
+abbrev pub LeavesPairs : Verb → Type 0
+LeavesPairs (verbs.CreateQp slot send_cq recv_cq send_depth recv_depth srq) = ⊥
+LeavesPairs (verbs.ModifyQp slot change) = ⊥
+LeavesPairs (verbs.DestroyQp slot) = ⊥
+LeavesPairs (verbs.PostSend slot request) = ⊥
+LeavesPairs (verbs.PostRecv slot request) = ⊥
+LeavesPairs (verbs.Poll slot n least) = ⊥
+LeavesPairs (verbs.DeallocMw slot) = ⊥
+LeavesPairs (verbs.Inject queue bytes) = ⊥
+LeavesPairs verb = Unit {0}

@@ -14,11 +14,12 @@ ghost use Rattle.ca_keys.specs.declared.names.QueueId.{QueueId};
 ghost use Rattle.ca_keys.specs.declared.names.Slot.{Slot};
 ghost use Rattle.ca_model.specs.Past.{Past};
 ghost use Rattle.ca_model.specs.declared.event.Event.TheVariants as events;
+ghost use Rattle.ca_model.specs.declared.verb.Verb.{Verb};
 ghost use Rattle.ca_model.specs.declared.verb.Verb.TheVariants as verbs;
 ghost use Rattle.ca_model.specs.machine.Sound.{IsSoundWorld};
 ghost use Rattle.ca_model.specs.machine.Step.{step};
 ghost use Rattle.ca_model.specs.machine.World.{World, opening_world};
-ghost use Rattle.ca_ties.specs.Ties.{IsTied, MailFollows, TiedAfter, found_by_delivery};
+ghost use Rattle.ca_ties.specs.Ties.{IsTied, LeavesPairs, MailFollows, TiedAfter, found_by_delivery};
 
 /// Before the first event a world is tied to the link before the first packet, for any two lives of different queue pairs
 /// that are to come.
@@ -84,4 +85,11 @@ pub fn destroy_keeps_ties()
     ensures { (d : Direction) (s r : Correspondent) (c : Configuration) (w : World) (l : Link) (by : ℕ) (slot : Slot)
         → IsSoundWorld c w → IsTied d s r w l
         → Comes (λ v ms. TiedAfter d s r l (λ place. []) v) (step c w (events.Verb by (verbs.DestroyQp slot))) }
+{}
+
+/// The verbs that change no queue pair and no mailbox keep a world tied to a link.
+pub fn other_verbs_keep_ties()
+    ensures { (d : Direction) (s r : Correspondent) (c : Configuration) (w : World) (l : Link) (by : ℕ) (verb : Verb)
+        → LeavesPairs verb → IsTied d s r w l
+        → Comes (λ v ms. TiedAfter d s r l (λ place. []) v) (step c w (events.Verb by verb)) }
 {}

@@ -11,6 +11,6 @@
 mod laws;
 
 pub use laws::{
-    delivery_keeps_ties, destroy_keeps_ties, ends_keep_ties, mail_follows_paths, opening_is_tied,
+    delivery_keeps_ties, destroy_keeps_ties, ends_keep_ties, mail_follows_paths, other_verbs_keep_ties, opening_is_tied,
     request_keeps_ties, respond_keeps_ties, timers_keep_ties,
 };
