@@ -14,3 +14,4 @@ pub mod OpeningLemmas
 pub mod EndLemmas
 pub mod DestroyLemmas
 pub mod AsideLemmas
+pub mod CreateLemmas

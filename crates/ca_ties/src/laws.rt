@@ -1,4 +1,4 @@
-ghost use Rattle.std.specs.Prelude.{◌≡◌, ◌<◌, ◌≤◌, ℕ, Bool, [], false};
+ghost use Rattle.std.specs.Prelude.{◌≡◌, ◌<◌, ◌≤◌, ℕ, Bool, Option, [], false};
 ghost use Rattle.ca_agree.specs.Agreement.{PathsAgree};
 ghost use Rattle.ca_agree.specs.Runs.{Comes};
 ghost use Rattle.ca_base.specs.Configuration.{Configuration};
@@ -92,4 +92,12 @@ pub fn other_verbs_keep_ties()
     ensures { (d : Direction) (s r : Correspondent) (c : Configuration) (w : World) (l : Link) (by : ℕ) (verb : Verb)
         → LeavesPairs verb → IsTied d s r w l
         → Comes (λ v ms. TiedAfter d s r l (λ place. []) v) (step c w (events.Verb by verb)) }
+{}
+
+/// CreateQp keeps a world tied to a link: a life comes that has no peer yet.
+pub fn create_keeps_ties()
+    ensures { (d : Direction) (s r : Correspondent) (c : Configuration) (w : World) (l : Link) (by : ℕ) (slot : Slot)
+        (send_cq recv_cq send_depth recv_depth : ℕ) (srq : Option ℕ) → IsTied d s r w l
+        → Comes (λ v ms. TiedAfter d s r l (λ place. []) v)
+        (step c w (events.Verb by (verbs.CreateQp slot send_cq recv_cq send_depth recv_depth srq))) }
 {}
