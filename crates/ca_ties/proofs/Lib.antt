@@ -1,0 +1,17 @@
+pub mod DeliverWalk
+pub mod EntryLemmas
+pub mod DeliverLemmas
+pub mod DeliverTies
+pub mod QuietLemmas
+pub mod TimerLemmas
+pub mod SendLemmas
+pub mod SentTies
+pub mod RespondTies
+pub mod PerformTies
+pub mod TurnTies
+pub mod FollowLemmas
+pub mod OpeningLemmas
+pub mod EndLemmas
+pub mod DestroyLemmas
+pub mod AsideLemmas
+pub mod CreateLemmas

@@ -1,0 +1,4 @@
+pub mod Sides
+pub mod Entries
+pub mod Moves
+pub mod Links
