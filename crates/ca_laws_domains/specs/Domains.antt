@@ -1,0 +1,49 @@
+-- Whose things are: the domain of each thing of a world by its name, and what a group's event may look at. Laws cite it.
+use Rattle.std.specs.Prelude.{◌≡◌, true, Option, None, Some, IfSome}
+use Rattle.ca_base.specs.objects.QueuePair.{NoQueue, Present, QueueSlot}
+use Rattle.ca_isolation.specs.Groups.{Group}
+use Rattle.ca_keys.specs.Numbers.{domain_of}
+use Rattle.ca_keys.specs.declared.names.DomainId.{DomainId}
+use Rattle.ca_keys.specs.declared.names.Slot.{Slot}
+use Rattle.ca_model.specs.declared.event.Event.{Event}
+use Rattle.ca_model.specs.declared.event.Event.TheVariants as events
+use Rattle.ca_model.specs.declared.part_name.PartName.{PartName}
+use Rattle.ca_model.specs.declared.part_name.PartName.TheVariants as names
+use Rattle.ca_model.specs.machine.Parts.{part_of}
+use Rattle.ca_model.specs.machine.World.{Name, World}
+
+-- the domain of a part; a buffer is of no domain
+abbrev pub part_domain : PartName → Option DomainId
+part_domain (names.Control d) = Some d
+part_domain (names.Region s) = Some s.domain
+part_domain (names.Window s) = Some s.domain
+part_domain (names.Cq s) = Some s.domain
+part_domain (names.Srq s) = Some s.domain
+part_domain (names.Queue q) = Some (domain_of q)
+part_domain (names.Mailbox q) = Some (domain_of q)
+part_domain (names.Buffer adapter index) = None
+
+-- the part is of the group, or of nobody
+abbrev pub IsPartOf : Group → PartName → Type 0
+IsPartOf group p = IfSome (part_domain p) (λ d. group d ≡ true)
+
+-- the thing of this name is of the group, or of nobody: bytes are
+abbrev pub IsThingOf : Group → Name → Type 0
+IsThingOf group n = IsPartOf group (part_of n)
+
+-- the peer of a queue pair is of the group
+abbrev pub IsPeerOf : Group → QueueSlot → Type 0
+IsPeerOf group (NoQueue incarnation timers) = Unit {0}
+IsPeerOf group (Present q) = IfSome q.peer (λ p. group (domain_of p.queue) ≡ true)
+
+-- the peer of the queue pair whose turn it is, where the turn looks at it, is of the group
+abbrev pub LooksWithin : Group → World → Event → Type 0
+LooksWithin group w (events.Request queue lot) = IsPeerOf group (w.queue queue)
+LooksWithin group w (events.Respond queue lot) = IsPeerOf group (w.queue queue)
+LooksWithin group w (events.Timeout queue hasten) = IsPeerOf group (w.queue queue)
+LooksWithin group w (events.RnrWake queue) = IsPeerOf group (w.queue queue)
+LooksWithin group w event = Unit {0}
+
+-- the queue pair through which a window is bound is of the window's domain
+abbrev pub AreBoundBeside : World → Type 0
+AreBoundBeside w = (s : Slot) → IfSome (w.window s).binding (λ b. IfSome b.queue (λ q. domain_of q ≡ s.domain))

@@ -1,0 +1,13 @@
+//! Events keep to their domains: what an event of a group of domains touches is of the group.
+//!
+//! To the layers above it promises, as clauses of functions that do nothing, that an event touches things of its own domain
+//! alone, but for the peer of the queue pair whose turn it is; and that the queue pair through which a window is bound is of
+//! the window's domain. They hold of the machine's definitions, and no code is in them.
+//!
+//! Source: InfiniBand Architecture Specification Volume 1, the chapter on the software transport interface: protection
+//! domains.
+#![tactic(auto)]
+
+mod laws;
+
+pub use laws::{event_keeps_windows_beside, event_touches_its_domain, opening_world_binds_beside};
