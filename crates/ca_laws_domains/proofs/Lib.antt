@@ -1,3 +1,6 @@
 pub mod RowLemmas
 pub mod TableLemmas
 pub mod TouchLemmas
+pub mod BesideTurnLemmas
+pub mod BesideVerbLemmas
+pub mod BesideEventLemmas
