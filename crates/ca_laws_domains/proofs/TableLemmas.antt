@@ -1,6 +1,6 @@
 -- The parts that a group's event needs are of the group: a walk over the table of parts. For proofs only.
-use Rattle.std.proofs.Common.{◌≡◌, ◌∙◌, ℕ, zero, suc, ◌+◌, ◌*◌, ◌<◌, ◌≤◌, ◌-◌, ◌/◌, ◌==◌, ◌&&◌, nat_lt, arith, Bool, true, false, not, List, [], ◌∷◌, min, take, Option, None, Some, IfSome, ap, subst, sym, if◌then◌else◌, refl, true≢false}
-use Rattle.std.proofs.lemmas.Bool.{and_parts, eqb-true}
+use Rattle.std.proofs.Common.{◌≡◌, ◌∙◌, ℕ, zero, suc, ◌+◌, ◌*◌, ◌<◌, ◌≤◌, ◌-◌, ◌/◌, ◌==◌, ◌&&◌, nat_le, nat_lt, arith, Bool, true, false, not, List, [], ◌∷◌, min, take, Option, None, Some, IfSome, ap, subst, sym, if◌then◌else◌, refl, true≢false}
+use Rattle.std.proofs.lemmas.Bool.{and_parts, eqb-true, le-ltb, leb-true}
 use Rattle.std.specs.List.{AllByRecursion}
 use Rattle.std.specs.Option.{option_and_then, option_map, option_map_or}
 use Rattle.ca_base.specs.Configuration.{Configuration}
@@ -17,7 +17,7 @@ use Rattle.ca_base.specs.objects.Region.{grant_of_region}
 use Rattle.ca_base.specs.objects.SharedReceives.{SharedReceives}
 use Rattle.ca_base.specs.objects.Slices.{has_queue, has_slot, is_key_of, names_region, names_window, slot_of_key, slot_of_queue}
 use Rattle.ca_base.specs.objects.Window.{Binding, Window}
-use Rattle.ca_isolation.specs.Groups.{Group, is_of}
+use Rattle.ca_isolation.specs.Groups.{Group, domain_of_queue}
 use Rattle.ca_keys.specs.Equal.{slot_eq}
 use Rattle.ca_keys.specs.Numbers.{domain_of, index_of, is_window_key, queue_of}
 use Rattle.ca_keys.specs.declared.access.Ask.{Ask}
@@ -28,7 +28,7 @@ use Rattle.ca_keys.specs.declared.names.QueueId.{QueueId}
 use Rattle.ca_keys.specs.declared.names.Slot.{Slot}
 use Rattle.ca_keys.specs.declared.place.Run.{Run}
 use Rattle.ca_laws_domains.proofs.RowLemmas.{AreAsksOf, IsRowOf, arrival-of, packet-of, respond-of}
-use Rattle.ca_laws_domains.specs.Domains.{AreBoundBeside, IsPartOf, IsPeerOf, LooksWithin}
+use Rattle.ca_laws_domains.specs.Domains.{AreBoundBeside, IsEventOf, IsPartOf, IsPeerOf, LooksWithin}
 use Rattle.ca_laws_parts.proofs.NeedsLemmas.{listed-also}
 use Rattle.ca_laws_sound.proofs.SettledLemmas.{append-all, slot-path}
 use Rattle.ca_laws_sound.proofs.VerbLemmas.{queue-slot}
@@ -167,10 +167,19 @@ around-of g w q more has each = (has, (has, by q.srq))
     by None = each None
     by (Some srq) = (has, each _)
 
+-- the number of a configured slot is of a domain, which is of the group
+number-of : (c : Configuration) (g : Group) (q : QueueId) → has_queue c q ≡ true → IfSome (domain_of_queue q) (Has g) → Has g (domain_of q)
+number-of c g q has = by (nat_lt q.number 256) (le-ltb q.number 256 (leb-true 256 q.number (and_parts (nat_le 256 q.number) (has_slot c (λ a. a.qps) (slot_of_queue q)) has).0))
+  where
+    by : (b : Bool) → b ≡ false → IfSome (if b then None else Some (domain_of q)) (Has g) → Has g (domain_of q)
+    by true is = absurd (true≢false is)
+    by false is = λ one. one
+
 -- a queue pair of the group that is there, under its name
 pub record IsOwn (g : Group) (w : World) (name : QueueId) (q : QueuePair) : Type 0 where
   pub there : w.queue name ≡ Present q
   pub number : Has g (domain_of q.queue)
+  pub called : Has g (domain_of name)
   pub domain : Has g q.domain
 
 -- a queue pair whose number is of the group
@@ -186,6 +195,7 @@ present-of c g w name more sound has each = (has, by (w.queue name) refl)
     own q is one = each q (record {
       there = is;
       number = subst (λ (x : QueueId). Has g (domain_of x)) (sym one.0) has;
+      called = has;
       domain = subst (Has g) (sym one.1) has;
     })
 
@@ -193,13 +203,13 @@ present-of c g w name more sound has each = (has, by (w.queue name) refl)
     by (NoQueue incarnation timers) is = record {}
     by (Present q) is = own q is (subst (IsQueueOf name) is (sound.things (Queue_of name)))
 
-turn-of : (c : Configuration) (g : Group) (w : World) (name : QueueId) (more : QueuePair → Needs) → IsSoundWorld c w → Has g (domain_of name)
+turn-of : (c : Configuration) (g : Group) (w : World) (name : QueueId) (more : QueuePair → Needs) → IsSoundWorld c w → IfSome (domain_of_queue name) (Has g)
     → ((q : QueuePair) → IsOwn g w name q → NeedsOf g w (more q)) → NeedsOf g w (turn_needs c name more)
-turn-of c g w name more sound has each = by (has_queue c name)
+turn-of c g w name more sound one each = by (has_queue c name) refl
   where
-    by : (b : Bool) → NeedsOf g w (if b then present_needs name more else Enough)
-    by true = present-of c g w name more sound has each
-    by false = record {}
+    by : (b : Bool) → has_queue c name ≡ b → NeedsOf g w (if b then present_needs name more else Enough)
+    by true has = present-of c g w name more sound (number-of c g name has one) each
+    by false none = record {}
 
 arrival-needs-of : (c : Configuration) (g : Group) (w : World) (envelope : Option ℕ) (bytes : List ℕ) (q : QueuePair) → IsSoundWorld c w → Has g q.domain → NeedsOf g w (arrival_needs c envelope bytes q)
 arrival-needs-of c g w envelope bytes q sound has = around-of g w q (λ shared. row_needs c (arrival_row bytes envelope shared q)) has
@@ -324,15 +334,7 @@ slot-number c g s limited named has = by (queue-slot c s limited named)
         number : s.domain.domain ≡ ((s.domain.domain + 1) * 256 + s.slot) / 256 - 1
         number = omega (arith, few)
 
--- a number of at least 256 that is of the group
-number-of : (g : Group) (q : QueueId) → option_map_or g (if nat_lt q.number 256 then None else Some (domain_of q)) false ≡ true → Has g (domain_of q)
-number-of g q is = by (nat_lt q.number 256) is
-  where
-    by : (b : Bool) → option_map_or g (if b then None else Some (domain_of q)) false ≡ true → Has g (domain_of q)
-    by true is = absurd (true≢false (sym is))
-    by false is = is
-
-verb-of : (c : Configuration) (g : Group) (w : World) (by : ℕ) (verb : Verb) → AreLimited c → IsSoundWorld c w → AreBoundBeside w → is_named c verb ≡ true → is_of g (events.Verb by verb) ≡ true
+verb-of : (c : Configuration) (g : Group) (w : World) (by : ℕ) (verb : Verb) → AreLimited c → IsSoundWorld c w → AreBoundBeside w → is_named c verb ≡ true → IsEventOf g (events.Verb by verb)
     → NeedsOf g w (verb_needs c verb)
 verb-of c g w by (verbs.AllocPd domain) limited sound beside named has = (has, record {})
 verb-of c g w by (verbs.DeallocPd domain) limited sound beside named has = (has, record {})
@@ -368,18 +370,18 @@ verb-of c g w by (verbs.PostRecv slot request) limited sound beside named has =
     present-of c g w (queue_of slot) (λ q. part (names.Cq (recv_cq_of q))) sound (slot-number c g slot limited named has) (λ q own. (own.domain, record {}))
 verb-of c g w by (verbs.PostSrq slot request) limited sound beside named has = (has, record {})
 verb-of c g w by (verbs.Poll slot n least) limited sound beside named has = poll-of c g w slot n sound has
-verb-of c g w by (verbs.Store adapter buffer offset bytes) limited sound beside named has = absurd (true≢false (sym has))
-verb-of c g w by (verbs.Load adapter buffer offset count) limited sound beside named has = absurd (true≢false (sym has))
+verb-of c g w by (verbs.Store adapter buffer offset bytes) limited sound beside named has = (record {}, record {})
+verb-of c g w by (verbs.Load adapter buffer offset count) limited sound beside named has = (record {}, record {})
 verb-of c g w by (verbs.Inject queue bytes) limited sound beside named has =
-    present-of c g w queue (λ q. Part (names.Mailbox queue) (arrival_needs c None bytes q)) sound (number-of g queue has)
-    (λ q own. (number-of g queue has, arrival-needs-of c g w None bytes q sound own.domain))
+    present-of c g w queue (λ q. Part (names.Mailbox queue) (arrival_needs c None bytes q)) sound (number-of c g queue named has)
+    (λ q own. (number-of c g queue named has, arrival-needs-of c g w None bytes q sound own.domain))
 
 -- ---- events
 
 peer-in : (g : Group) (w : World) (name : QueueId) (q : QueuePair) → w.queue name ≡ Present q → IsPeerOf g (w.queue name) → PeerIn g q.peer
 peer-in g w name q is within = subst (IsPeerOf g) is within
 
-pub event-of : (c : Configuration) (g : Group) (w : World) (event : Event) → AreLimited c → IsSoundWorld c w → AreBoundBeside w → is_of g event ≡ true → LooksWithin g w event
+pub event-of : (c : Configuration) (g : Group) (w : World) (event : Event) → AreLimited c → IsSoundWorld c w → AreBoundBeside w → IsEventOf g event → LooksWithin g w event
     → NeedsOf g w (event_needs c event)
 event-of c g w (events.Verb by verb) limited sound beside has within = at (is_named c verb) refl
   where
@@ -387,25 +389,25 @@ event-of c g w (events.Verb by verb) limited sound beside has within = at (is_na
     at true named = verb-of c g w by verb limited sound beside named has
     at false none = record {}
 event-of c g w (events.Request queue lot) limited sound beside has within =
-    turn-of c g w queue (λ q. around_needs q (λ shared. request_needs c q (turn_of q))) sound (number-of g queue has)
+    turn-of c g w queue (λ q. around_needs q (λ shared. request_needs c q (turn_of q))) sound has
     (λ q own. around-of g w q (λ shared. request_needs c q (turn_of q)) own.domain (λ shared. request-needs-of c g w q (turn_of q) sound own.domain (peer-in g w queue q own.there within)))
-event-of c g w (events.Deliver queue index) limited sound beside has within = at (has_queue c queue)
+event-of c g w (events.Deliver queue index) limited sound beside has within = at (has_queue c queue) refl
   where
     needs : Option (List ℕ) → Needs
     needs o = where_some (λ bytes. present_needs queue (arrival_needs c (Some index) bytes)) o
 
-    lent : (o : Option (List ℕ)) → NeedsOf g w (needs o)
-    lent None = record {}
-    lent (Some bytes) = present-of c g w queue (arrival_needs c (Some index) bytes) sound (number-of g queue has) (λ q own. arrival-needs-of c g w (Some index) bytes q sound own.domain)
+    lent : (o : Option (List ℕ)) → Has g (domain_of queue) → NeedsOf g w (needs o)
+    lent None own = record {}
+    lent (Some bytes) own = present-of c g w queue (arrival_needs c (Some index) bytes) sound own (λ q own. arrival-needs-of c g w (Some index) bytes q sound own.domain)
 
-    at : (b : Bool) → NeedsOf g w (if b then By (Mailbox_of queue) (λ m. needs (bytes_lent index m)) else Enough)
-    at true = (number-of g queue has, lent (bytes_lent index (w.mailbox queue)))
-    at false = record {}
-event-of c g w (events.Respond queue lot) limited sound beside has within = turn-of c g w queue (respond_needs c) sound (number-of g queue has)
+    at : (b : Bool) → has_queue c queue ≡ b → NeedsOf g w (if b then By (Mailbox_of queue) (λ m. needs (bytes_lent index m)) else Enough)
+    at true there = (number-of c g queue there has, lent (bytes_lent index (w.mailbox queue)) (number-of c g queue there has))
+    at false none = record {}
+event-of c g w (events.Respond queue lot) limited sound beside has within = turn-of c g w queue (respond_needs c) sound has
     (λ q own. around-of g w q (λ shared. where_some (λ p. Part (names.Mailbox p.queue) (row_needs c (respond_row true q))) q.peer) own.domain
     (λ shared. peered-of c g w q.domain (respond_row true q) q.peer sound own.domain (respond-of q.domain true q refl) (peer-in g w queue q own.there within)))
-event-of c g w (events.Timeout queue hasten) limited sound beside has within = turn-of c g w queue more sound (number-of g queue has)
-    (λ q own. (number-of g queue has, around-of g w q (λ shared. where_some two q.peer) own.domain (λ shared. peer q.peer (peer-in g w queue q own.there within))))
+event-of c g w (events.Timeout queue hasten) limited sound beside has within = turn-of c g w queue more sound has
+    (λ q own. (own.called, around-of g w q (λ shared. where_some two q.peer) own.domain (λ shared. peer q.peer (peer-in g w queue q own.there within))))
   where
     two : Correspondent → Needs
     two p = Part (names.Queue p.queue) (part (names.Mailbox p.queue))
@@ -416,7 +418,7 @@ event-of c g w (events.Timeout queue hasten) limited sound beside has within = t
     peer : (o : Option Correspondent) → PeerIn g o → NeedsOf g w (where_some two o)
     peer None is = record {}
     peer (Some p) is = (is, (is, record {}))
-event-of c g w (events.RnrWake queue) limited sound beside has within = turn-of c g w queue (λ q. where_some peer_needs q.peer) sound (number-of g queue has)
+event-of c g w (events.RnrWake queue) limited sound beside has within = turn-of c g w queue (λ q. where_some peer_needs q.peer) sound has
     (λ q own. by q.peer (peer-in g w queue q own.there within))
   where
     by : (o : Option Correspondent) → PeerIn g o → NeedsOf g w (where_some peer_needs o)

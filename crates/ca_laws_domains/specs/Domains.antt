@@ -1,7 +1,7 @@
 -- Whose things are: the domain of each thing of a world by its name, and what a group's event may look at. Laws cite it.
 use Rattle.std.specs.Prelude.{◌≡◌, true, Option, None, Some, IfSome}
 use Rattle.ca_base.specs.objects.QueuePair.{NoQueue, Present, QueueSlot}
-use Rattle.ca_isolation.specs.Groups.{Group}
+use Rattle.ca_isolation.specs.Groups.{Group, event_domain}
 use Rattle.ca_keys.specs.Numbers.{domain_of}
 use Rattle.ca_keys.specs.declared.names.DomainId.{DomainId}
 use Rattle.ca_keys.specs.declared.names.Slot.{Slot}
@@ -30,6 +30,10 @@ IsPartOf group p = IfSome (part_domain p) (λ d. group d ≡ true)
 -- the thing of this name is of the group, or of nobody: bytes are
 abbrev pub IsThingOf : Group → Name → Type 0
 IsThingOf group n = IsPartOf group (part_of n)
+
+-- the event is of the group, or of nobody: a Store is, and a Load
+abbrev pub IsEventOf : Group → Event → Type 0
+IsEventOf group event = IfSome (event_domain event) (λ d. group d ≡ true)
 
 -- the peer of a queue pair is of the group
 abbrev pub IsPeerOf : Group → QueueSlot → Type 0

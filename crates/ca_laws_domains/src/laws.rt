@@ -1,9 +1,9 @@
 ghost use Rattle.std.specs.List.{AllByRecursion};
 ghost use Rattle.std.specs.Prelude.{◌≡◌, true};
 ghost use Rattle.ca_base.specs.Configuration.{Configuration};
-ghost use Rattle.ca_isolation.specs.Groups.{Group, is_of};
+ghost use Rattle.ca_isolation.specs.Groups.{Group};
 ghost use Rattle.ca_keys.specs.Memory.{ByteMap};
-ghost use Rattle.ca_laws_domains.specs.Domains.{AreBoundBeside, IsThingOf, LooksWithin};
+ghost use Rattle.ca_laws_domains.specs.Domains.{AreBoundBeside, IsEventOf, IsThingOf, LooksWithin};
 ghost use Rattle.ca_model.specs.declared.event.Event.{Event};
 ghost use Rattle.ca_model.specs.machine.Frame.{Afterwards};
 ghost use Rattle.ca_model.specs.machine.Plan.{touches};
@@ -22,10 +22,10 @@ pub fn event_keeps_windows_beside()
         → Afterwards AreBoundBeside (step c w event) }
 {}
 
-/// An event of a group of domains touches things of the group alone, where the peer at which its turn looks is of the
-/// group too. Bytes are nobody's.
+/// An event of a group of domains, or of nobody, touches things of the group and bytes alone, where the peer at which its
+/// turn looks is of the group too.
 pub fn event_touches_its_domain()
     ensures { (c : Configuration) (w : World) (event : Event) (group : Group) → AreLimited c → IsSoundWorld c w
-        → AreBoundBeside w → is_of group event ≡ true → LooksWithin group w event
+        → AreBoundBeside w → IsEventOf group event → LooksWithin group w event
         → AllByRecursion (IsThingOf group) (touches w (plan c event)) }
 {}
