@@ -4,3 +4,5 @@ pub mod TouchLemmas
 pub mod BesideTurnLemmas
 pub mod BesideVerbLemmas
 pub mod BesideEventLemmas
+pub mod OtherTurnLemmas
+pub mod OtherLemmas

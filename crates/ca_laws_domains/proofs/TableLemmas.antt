@@ -82,11 +82,11 @@ window-of c g w s more sound has each = (has, some-of g w (λ b. more (region_un
 key-domain : (d : DomainId) (key : Key) → is_key_of d key ≡ true → (slot_of_key d key).domain ≡ d
 key-domain d key is = λ i. record { adapter = d.adapter; domain = eqb-true (index_of key / 0x10000) d.domain is i }
 
-region-key : (c : Configuration) (g : Group) (d : DomainId) (key : Key) → Has g d → names_region c d key ≡ true → Has g (slot_of_key d key).domain
+pub region-key : (c : Configuration) (g : Group) (d : DomainId) (key : Key) → Has g d → names_region c d key ≡ true → Has g (slot_of_key d key).domain
 region-key c g d key has named = subst (Has g) (sym (key-domain d key (and_parts (not (is_window_key key)) (is_key_of d key)
     (and_parts (not (is_window_key key) && is_key_of d key) (has_slot c (λ a. a.regions) (slot_of_key d key)) named).0).1)) has
 
-window-key : (c : Configuration) (g : Group) (d : DomainId) (key : Key) → Has g d → names_window c d key ≡ true → Has g (slot_of_key d key).domain
+pub window-key : (c : Configuration) (g : Group) (d : DomainId) (key : Key) → Has g d → names_window c d key ≡ true → Has g (slot_of_key d key).domain
 window-key c g d key has named = subst (Has g) (sym (key-domain d key (and_parts (is_window_key key) (is_key_of d key)
     (and_parts (is_window_key key && is_key_of d key) (has_slot c (λ a. a.windows) (slot_of_key d key)) named).0).1)) has
 
@@ -168,7 +168,7 @@ around-of g w q more has each = (has, (has, by q.srq))
     by (Some srq) = (has, each _)
 
 -- the number of a configured slot is of a domain, which is of the group
-number-of : (c : Configuration) (g : Group) (q : QueueId) → has_queue c q ≡ true → IfSome (domain_of_queue q) (Has g) → Has g (domain_of q)
+pub number-of : (c : Configuration) (g : Group) (q : QueueId) → has_queue c q ≡ true → IfSome (domain_of_queue q) (Has g) → Has g (domain_of q)
 number-of c g q has = by (nat_lt q.number 256) (le-ltb q.number 256 (leb-true 256 q.number (and_parts (nat_le 256 q.number) (has_slot c (λ a. a.qps) (slot_of_queue q)) has).0))
   where
     by : (b : Bool) → b ≡ false → IfSome (if b then None else Some (domain_of q)) (Has g) → Has g (domain_of q)

@@ -1,9 +1,11 @@
 -- Whose things are: the domain of each thing of a world by its name, and what a group's event may look at. Laws cite it.
-use Rattle.std.specs.Prelude.{◌≡◌, true, Option, None, Some, IfSome}
+use Rattle.std.specs.Prelude.{◌≡◌, Bool, true, false, Option, None, Some, IfSome}
+use Rattle.std.specs.Option.{option_map_or}
 use Rattle.ca_base.specs.objects.QueuePair.{NoQueue, Present, QueueSlot}
 use Rattle.ca_isolation.specs.Groups.{Group, event_domain}
 use Rattle.ca_keys.specs.Numbers.{domain_of}
 use Rattle.ca_keys.specs.declared.names.DomainId.{DomainId}
+use Rattle.ca_keys.specs.declared.names.QueueId.{QueueId}
 use Rattle.ca_keys.specs.declared.names.Slot.{Slot}
 use Rattle.ca_model.specs.declared.event.Event.{Event}
 use Rattle.ca_model.specs.declared.event.Event.TheVariants as events
@@ -47,6 +49,14 @@ LooksWithin group w (events.Respond queue lot) = IsPeerOf group (w.queue queue)
 LooksWithin group w (events.Timeout queue hasten) = IsPeerOf group (w.queue queue)
 LooksWithin group w (events.RnrWake queue) = IsPeerOf group (w.queue queue)
 LooksWithin group w event = Unit {0}
+
+-- a thing of the group; a byte is nobody's
+abbrev pub is_thing_of : Group → Name → Bool
+is_thing_of group n = option_map_or group (part_domain (part_of n)) false
+
+-- no mailbox of the group accepts a queue pair of others
+abbrev pub AcceptsWithin : Group → World → Type 0
+AcceptsWithin group w = (q : QueueId) → group (domain_of q) ≡ true → IfSome (w.mailbox q).peer (λ p. group (domain_of p.queue) ≡ true)
 
 -- the queue pair through which a window is bound is of the window's domain
 abbrev pub AreBoundBeside : World → Type 0

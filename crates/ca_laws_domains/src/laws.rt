@@ -1,15 +1,15 @@
 ghost use Rattle.std.specs.List.{AllByRecursion};
-ghost use Rattle.std.specs.Prelude.{◌≡◌, true};
+ghost use Rattle.std.specs.Prelude.{◌≡◌, false, true};
 ghost use Rattle.ca_base.specs.Configuration.{Configuration};
-ghost use Rattle.ca_isolation.specs.Groups.{Group};
+ghost use Rattle.ca_isolation.specs.Groups.{Group, is_of};
 ghost use Rattle.ca_keys.specs.Memory.{ByteMap};
-ghost use Rattle.ca_laws_domains.specs.Domains.{AreBoundBeside, IsEventOf, IsThingOf, LooksWithin};
+ghost use Rattle.ca_laws_domains.specs.Domains.{AcceptsWithin, AreBoundBeside, IsEventOf, IsThingOf, LooksWithin, is_thing_of};
 ghost use Rattle.ca_model.specs.declared.event.Event.{Event};
 ghost use Rattle.ca_model.specs.machine.Frame.{Afterwards};
 ghost use Rattle.ca_model.specs.machine.Plan.{touches};
 ghost use Rattle.ca_model.specs.machine.Sound.{AreLimited, IsSoundWorld};
 ghost use Rattle.ca_model.specs.machine.Step.{plan, step};
-ghost use Rattle.ca_model.specs.machine.World.{World, opening_world};
+ghost use Rattle.ca_model.specs.machine.World.{Name, World, get, opening_world};
 
 /// In the world before the first event no window is bound, and so none through a queue pair of another domain.
 pub fn opening_world_binds_beside()
@@ -28,4 +28,12 @@ pub fn event_touches_its_domain()
     ensures { (c : Configuration) (w : World) (event : Event) (group : Group) → AreLimited c → IsSoundWorld c w
         → AreBoundBeside w → IsEventOf group event → LooksWithin group w event
         → AllByRecursion (IsThingOf group) (touches w (plan c event)) }
+{}
+
+/// An event that is not of a group leaves the things of the group as they were, also where its turn looks at a queue pair
+/// of the group, if no mailbox of the group accepts a queue pair of others. Of bytes nothing is said.
+pub fn others_leave_things_as_they_were()
+    ensures { (c : Configuration) (w : World) (event : Event) (group : Group) → AreLimited c → IsSoundWorld c w
+        → AreBoundBeside w → AcceptsWithin group w → is_of group event ≡ false
+        → Afterwards (λ v. (n : Name) → is_thing_of group n ≡ true → get v n ≡ get w n) (step c w event) }
 {}

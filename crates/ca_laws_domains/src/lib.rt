@@ -10,4 +10,7 @@
 
 mod laws;
 
-pub use laws::{event_keeps_windows_beside, event_touches_its_domain, opening_world_binds_beside};
+pub use laws::{
+    event_keeps_windows_beside, event_touches_its_domain, opening_world_binds_beside,
+    others_leave_things_as_they_were,
+};
