@@ -1,6 +1,6 @@
 -- Groups of domains: whose an event is, which bytes a group's grants cover, whether it is closed, and its replies.
 -- Contracts cite it.
-use Rattle.std.specs.Prelude.{ℕ, nat_lt, ◌&&◌, not, Bool, true, false, if◌then◌else◌, List, [], ◌∷◌, filter, Option, None, Some}
+use Rattle.std.specs.Prelude.{nat_lt, ◌&&◌, not, Bool, true, false, if◌then◌else◌, List, [], ◌∷◌, filter, Option, None, Some}
 use Rattle.std.specs.List.{flat_map, list_any}
 use Rattle.std.specs.Option.{option_map_or}
 use Rattle.ca_base.specs.declared.change.Change.TheVariants as changes

@@ -1,9 +1,8 @@
 -- Each event leaves windows bound beside their queue pairs. For proofs only.
 use Rattle.std.proofs.Common.{◌≡◌, Bool, true, false, List, [], ◌∷◌, if◌then◌else◌, refl, subst}
 use Rattle.ca_base.specs.Configuration.{Configuration}
-use Rattle.ca_base.specs.objects.Window.{Window}
 use Rattle.ca_keys.specs.Equal.{slot_eq}
-use Rattle.ca_keys.specs.Memory.{ByteMap, bytes_at}
+use Rattle.ca_keys.specs.Memory.{bytes_at}
 use Rattle.ca_keys.specs.declared.names.Slot.{Slot}
 use Rattle.ca_laws_domains.proofs.BesideTurnLemmas.{AllBeside, IsBeside, IsBesideThing, beside-deliver, beside-inject, beside-request, beside-respond, beside-timeout, beside-wake}
 use Rattle.ca_laws_domains.proofs.BesideVerbLemmas.{beside-create_qp, beside-dealloc_mw, beside-destroy_qp, beside-modify_qp, beside-poll, beside-post_recv, beside-post_send, beside-post_srq, beside-present}
@@ -20,7 +19,7 @@ use Rattle.ca_model.specs.machine.Plan.{Finish, If, Look, Plan, Read, Stuck, Upd
 use Rattle.ca_model.specs.machine.Sound.{IsSoundWorld}
 use Rattle.ca_model.specs.machine.Step.{plan, step, verb_plan}
 use Rattle.ca_model.specs.machine.VerbAnswers.{Call}
-use Rattle.ca_model.specs.machine.World.{Byte_at, Cq_of, Domain_of, Mailbox_of, Name, Queue_of, Region_of, Srq_of, Thing, Window_of, World, get, opening_world, put}
+use Rattle.ca_model.specs.machine.World.{Byte_at, Cq_of, Domain_of, Mailbox_of, Name, Queue_of, Region_of, Srq_of, Thing, Window_of, World, get, put}
 
 -- every verb whose names are configured
 beside-verb : (c : Configuration) (w : World) (call : Call) (verb : Verb) → IsSoundWorld c w → AreBoundBeside w → EndsIn w AllBeside (verb_plan c call verb)

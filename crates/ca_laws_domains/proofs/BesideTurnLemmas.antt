@@ -1,5 +1,5 @@
 -- Each turn of a queue pair, and each arrival, leaves windows bound beside their queue pairs. For proofs only.
-use Rattle.std.proofs.Common.{◌≡◌, ℕ, suc, ◌==◌, ◌&&◌, Bool, true, false, if◌then◌else◌, List, [], ◌∷◌, ◌++◌, Option, None, Some, IfSome, refl, subst, sym, rules}
+use Rattle.std.proofs.Common.{◌≡◌, ℕ, suc, ◌==◌, ◌&&◌, Bool, true, false, if◌then◌else◌, List, [], ◌∷◌, ◌++◌, Option, None, Some, IfSome, subst, sym, rules}
 use Rattle.std.proofs.lemmas.List.{append-nil}
 use Rattle.std.specs.Option.{option_map, option_map_or}
 use Rattle.ca_base.specs.Configuration.{Configuration}
@@ -28,7 +28,7 @@ use Rattle.ca_keys.specs.declared.names.QueueId.{QueueId}
 use Rattle.ca_keys.specs.declared.names.Slot.{Slot}
 use Rattle.ca_keys.specs.declared.rights.Rights.{Rights}
 use Rattle.ca_laws_sound.proofs.EngineLemmas.{ends-unless}
-use Rattle.ca_laws_sound.proofs.WorldLemmas.{EndsIn, IsThere, around_in, ends-around, ends-bytes, ends-grants, ends-queue, ends-writes, is-there, shared_of}
+use Rattle.ca_laws_sound.proofs.WorldLemmas.{EndsIn, IsThere, around_in, ends-around, ends-bytes, ends-grants, ends-queue, ends-writes, shared_of}
 use Rattle.ca_model.specs.declared.answer.Answer.TheVariants as answers
 use Rattle.ca_model.specs.declared.answer.Refusal.TheVariants.{NoSuch}
 use Rattle.ca_model.specs.declared.mark.Mark.{Mark}
@@ -42,7 +42,7 @@ use Rattle.ca_model.specs.machine.Plan.{Finish, Look, Plan, Stuck, Update, Write
 use Rattle.ca_model.specs.machine.Requester.{Performs, RequestTurn, Sends, Waits, packet_row, turn_of}
 use Rattle.ca_model.specs.machine.Respond.{respond_row}
 use Rattle.ca_model.specs.machine.Row.{Does, Effects, End_plan, Ending, NotPossible, Row, Row_plan, With_bytes, With_invalidation, first_denied_by, queue_and_marks, region_under, unless_none}
-use Rattle.ca_model.specs.machine.Sound.{IsQueueOf, IsSoundWorld}
+use Rattle.ca_model.specs.machine.Sound.{IsSoundWorld}
 use Rattle.ca_model.specs.machine.Timers.{after_timeout, after_wake, timeout_refusals, wake_refusals}
 use Rattle.ca_model.specs.machine.Turns.{Fire, Leave_plan, Packet, Request_around, Respond_around, Timeout_around, With_receives, has_room_for, packet_sent, reaches_peer, request_plan, respond_plan, sent_updates, timeout_plan, wake_plan}
 use Rattle.ca_model.specs.machine.VerbAnswers.{Call, Refuse_plan, answer_mark}
@@ -215,8 +215,10 @@ perform-beside : (c : Configuration) (w : World) (q : QueuePair) (m : Numbered) 
 perform-beside c w q m finish own more (ops.Bind1 window key address count rights) =
     named-beside c w q.domain key (λ named. With_former x (ending named)) (λ named. former-beside w x (ending named) (λ former.
     more (effects named) (unless_none (refusal named) (changed named former)) []
-    (beside-unless (refusal named) (changed named former) (bind1-beside (window_slot q window) (drawn_by m) (named_slot named) address count rights x,
-    beside-append (former_updates former) (regions named former (count == 0)) (former-updates former) (regions-beside named former (count == 0))))))
+    (beside-unless (refusal named) (changed named former) (
+      bind1-beside (window_slot q window) (drawn_by m) (named_slot named) address count rights x,
+      beside-append (former_updates former) (regions named former (count == 0)) (former-updates former) (regions-beside named former (count == 0)),
+    ))))
   where
     x : Window
     x = w.window (window_slot q window)

@@ -1,19 +1,12 @@
 -- Each verb leaves windows bound beside their queue pairs. For proofs only.
-use Rattle.std.proofs.Common.{◌≡◌, ℕ, zero, suc, ◌+◌, ◌-◌, ◌≤◌, ◌==◌, ◌&&◌, ◌||◌, Bool, true, false, not, nat_lt, if◌then◌else◌, List, [], ◌∷◌, ◌++◌, length, take, Option, None, Some, IfSome, is_none, refl, ap, sym, ◌∙◌, subst, arith, true≢false}
-use Rattle.std.proofs.lemmas.Bool.{not-false}
-use Rattle.std.proofs.lemmas.Bool.Decides.{nat_tests}
-use Rattle.std.proofs.lemmas.List.{drop-append-le, length-drop}
-use Rattle.std.specs.List.{AllByRecursion}
+use Rattle.std.proofs.Common.{◌≡◌, ℕ, suc, ◌-◌, ◌==◌, ◌&&◌, Bool, true, false, not, nat_lt, if◌then◌else◌, List, [], ◌∷◌, ◌++◌, take, Option, None, Some, is_none, refl}
 use Rattle.std.specs.Option.{option_and_then, option_map}
 use Rattle.ca_base.specs.Configuration.{Configuration}
 use Rattle.ca_base.specs.declared.change.Change as state_change
 use Rattle.ca_base.specs.declared.change.Change.TheVariants as changes
 use Rattle.ca_base.specs.declared.change.Field.TheVariants as fields
-use Rattle.ca_base.specs.declared.change.State.{State}
-use Rattle.ca_base.specs.declared.change.State.TheVariants as states
 use Rattle.ca_base.specs.declared.completion.Completion.{Completion}
 use Rattle.ca_base.specs.declared.limits.TheConstants.{MAX_MESSAGE_BYTES}
-use Rattle.ca_base.specs.declared.request.PostedSend.{PostedSend}
 use Rattle.ca_base.specs.declared.request.RecvRequest.{RecvRequest}
 use Rattle.ca_base.specs.declared.request.SendOp.{SendOp}
 use Rattle.ca_base.specs.declared.request.SendOp.TheVariants as ops
@@ -21,40 +14,30 @@ use Rattle.ca_base.specs.declared.request.SendRequest.{SendRequest}
 use Rattle.ca_base.specs.objects.CompletionQueue.{CompletionQueue, after_reserve}
 use Rattle.ca_base.specs.objects.Domain.{with_object, without_object}
 use Rattle.ca_base.specs.objects.Mailbox.{with_peer}
-use Rattle.ca_base.specs.objects.QueuePair.{QueuePair, QueueSlot, NoQueue, Present, after_reset, in_error, recv_cq_of, send_cq_of, with_all_flushed}
+use Rattle.ca_base.specs.objects.QueuePair.{QueuePair, QueueSlot, NoQueue, Present, recv_cq_of, send_cq_of}
 use Rattle.ca_base.specs.objects.Region.{with_window_unbound}
 use Rattle.ca_base.specs.objects.SharedReceives.{SharedReceives, SrqSlot, after_receive_post, after_receives_retire, is_full_of_receives}
-use Rattle.ca_base.specs.objects.StateTable.{is_among, modify_refusals, queue_after_change, state_eq}
+use Rattle.ca_base.specs.objects.StateTable.{modify_refusals, queue_after_change}
 use Rattle.ca_base.specs.objects.Window.{Binding, Window, after_deallocation, after_draw, byte_drawn, key_of_window}
-use Rattle.ca_base.specs.objects.WorkQueue.{WorkQueue, after_retire, items_from, next_place, with_item}
-use Rattle.ca_keys.specs.Equal.{queue_eq}
 use Rattle.ca_keys.specs.Numbers.{queue_of}
-use Rattle.ca_keys.specs.Refusals.{AllFail}
 use Rattle.ca_keys.specs.declared.names.QueueId.{QueueId}
 use Rattle.ca_keys.specs.declared.names.Slot.{Slot}
 use Rattle.ca_laws_sound.proofs.EngineLemmas.{ends-unless}
-use Rattle.ca_laws_sound.proofs.GoodLemmas.{finished-later}
-use Rattle.ca_laws_sound.proofs.PollLemmas.{all-finished, all-taken}
-use Rattle.ca_laws_sound.proofs.QueueVerbLemmas.{change-fails}
-use Rattle.ca_laws_sound.proofs.SettledLemmas.{all-map}
-use Rattle.ca_laws_sound.proofs.VerbLemmas.{IsPolled, polled, retired-items}
 use Rattle.ca_laws_sound.proofs.WorldLemmas.{EndsIn, IsThere, around_in, ends-around, is-there, shared_of}
-use Rattle.ca_model.specs.Requests.{is_local, list_length, psns_of}
+use Rattle.ca_model.specs.Requests.{list_length}
 use Rattle.ca_model.specs.declared.answer.Answer.TheVariants as answers
 use Rattle.ca_model.specs.declared.answer.Refusal.TheVariants.{CqTooSmall, NoSuch, OutOfRange, QueueFull, TooLong, WindowsBound}
 use Rattle.ca_model.specs.declared.mark.Mark.{Mark}
 use Rattle.ca_model.specs.declared.mark.Mark.TheVariants as marks
 use Rattle.ca_model.specs.machine.Around.{Around, cq_updates}
-use Rattle.ca_model.specs.machine.CompletionVerbs.{Poll_of, With_places, after_poll, poll_plan, receives_after_poll, slot_after_poll, source_of_completion}
+use Rattle.ca_model.specs.machine.CompletionVerbs.{Poll_of, With_places, poll_plan, receives_after_poll, slot_after_poll, source_of_completion}
 use Rattle.ca_model.specs.machine.Completions.{flush_marks}
-use Rattle.ca_model.specs.machine.Invariants.{IsQueue, is_sending}
-use Rattle.ca_model.specs.machine.Numbering.{begun_requests, numbers_of, unfinished_requests}
 use Rattle.ca_model.specs.machine.Plan.{If, Look, Plan, Update, ◌:=◌}
-use Rattle.ca_model.specs.machine.PostingVerbs.{Posted_send, after_flush, post_recv_plan, post_send_plan, post_srq_plan, with_send}
+use Rattle.ca_model.specs.machine.PostingVerbs.{Posted_send, post_recv_plan, post_send_plan, post_srq_plan}
 use Rattle.ca_model.specs.machine.QueuePairVerbs
 use Rattle.ca_model.specs.machine.QueuePairVerbs.{Creation, With_present, With_shared, before_receives, beside, create_qp_plan, destroy_qp_plan, emptied_updates, has_bad_depth, has_no_room, left_updates, modify_qp_plan, new_queue, places_held, receive_reserve, receive_room, send_reserved, user_updates}
 use Rattle.ca_model.specs.machine.Row.{region_under}
-use Rattle.ca_model.specs.machine.Sound.{IsFinished, IsQueueOf, IsSettled, IsSoundWorld}
+use Rattle.ca_model.specs.machine.Sound.{IsQueueOf, IsSoundWorld}
 use Rattle.ca_model.specs.machine.VerbAnswers.{Answer_plan, Call, Refuse_plan, Unless_plan, of_change_refusals}
 use Rattle.ca_model.specs.machine.WindowVerbs.{With_binder, dealloc_mw_plan, queue_updates}
 use Rattle.ca_model.specs.machine.World.{Cq_of, Domain_of, Mailbox_of, Queue_of, Region_of, Srq_of, Window_of, World}

@@ -1,21 +1,21 @@
 -- An event of others leaves the things of a group as they were. For proofs only.
-use Rattle.std.proofs.Common.{◌≡◌, ◌∙◌, ◌&&◌, ◌==◌, Bool, true, false, not, List, [], ◌∷◌, Option, None, Some, IfSome, if◌then◌else◌, ap, refl, subst, sym, true≢false}
+use Rattle.std.proofs.Common.{◌≡◌, ◌∙◌, ◌&&◌, ◌==◌, Bool, true, false, not, List, [], ◌∷◌, Option, None, Some, IfSome, ap, refl, subst, sym, true≢false}
 use Rattle.std.proofs.lemmas.Bool.{and_parts}
 use Rattle.std.specs.List.{AllByRecursion}
 use Rattle.std.specs.Option.{option_map_or}
 use Rattle.ca_base.specs.Configuration.{Configuration}
 use Rattle.ca_base.specs.declared.correspondent.Correspondent.{Correspondent}
 use Rattle.ca_base.specs.objects.Mailbox.{Mailbox}
-use Rattle.ca_base.specs.objects.QueuePair.{QueuePair, correspondent_of}
+use Rattle.ca_base.specs.objects.QueuePair.{correspondent_of}
 use Rattle.ca_isolation.specs.Groups.{Group, event_domain, is_of}
 use Rattle.ca_keys.specs.Equal.{queue_eq}
 use Rattle.ca_keys.specs.Memory.{bytes_at}
 use Rattle.ca_keys.specs.Numbers.{domain_of}
 use Rattle.ca_keys.specs.declared.names.DomainId.{DomainId}
 use Rattle.ca_keys.specs.declared.names.QueueId.{QueueId}
-use Rattle.ca_laws_domains.proofs.OtherTurnLemmas.{AllOf, IsTurnOf, ReachWithin, request-ends-of, respond-ends-of, timeout-ends-of, wake-ends-of}
+use Rattle.ca_laws_domains.proofs.OtherTurnLemmas.{AllOf, ReachWithin, request-ends-of, respond-ends-of, timeout-ends-of, wake-ends-of}
 use Rattle.ca_laws_domains.proofs.TouchLemmas.{touches-of}
-use Rattle.ca_laws_domains.specs.Domains.{AcceptsWithin, AreBoundBeside, IsEventOf, IsPartOf, IsThingOf, is_thing_of, part_domain}
+use Rattle.ca_laws_domains.specs.Domains.{AcceptsWithin, AreBoundBeside, IsEventOf, IsThingOf, is_thing_of, part_domain}
 use Rattle.ca_laws_sound.proofs.WorldLemmas.{EndsIn}
 use Rattle.ca_model.proofs.FrameLemmas.{after_write}
 use Rattle.ca_model.proofs.RestLemmas.{event-leaves, put-leaves}
@@ -27,7 +27,6 @@ use Rattle.ca_model.specs.machine.Parts.{part_of}
 use Rattle.ca_model.specs.machine.Plan.{Did, Finish, If, Look, NotReady, Outcome, Plan, Read, Stuck, Update, Write, perform, put_all, touches, write_all}
 use Rattle.ca_model.specs.machine.Sound.{AreLimited, IsSoundWorld}
 use Rattle.ca_model.specs.machine.Step.{plan, step}
-use Rattle.ca_model.specs.machine.Turns.{reaches_peer}
 use Rattle.ca_model.specs.machine.World.{Byte_at, Cq_of, Domain_of, Mailbox_of, Name, Queue_of, Region_of, Srq_of, Window_of, World, get, put}
 
 -- all others

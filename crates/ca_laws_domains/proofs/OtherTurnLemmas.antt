@@ -19,7 +19,7 @@ use Rattle.ca_base.specs.objects.Mailbox.{Mailbox, after_send}
 use Rattle.ca_base.specs.objects.QueuePair.{NoQueue, Present, QueuePair, QueueSlot, srq_of}
 use Rattle.ca_base.specs.objects.Region.{Region, with_window_unbound}
 use Rattle.ca_base.specs.objects.SharedReceives.{SharedReceives, SrqSlot, after_receive_take}
-use Rattle.ca_base.specs.objects.Slices.{names_region, names_window, slot_of_key}
+use Rattle.ca_base.specs.objects.Slices.{slot_of_key}
 use Rattle.ca_base.specs.objects.Window.{Binding, Window, without_binding}
 use Rattle.ca_isolation.specs.Groups.{Group, domain_of_queue}
 use Rattle.ca_keys.specs.Numbers.{domain_of}
@@ -249,8 +249,10 @@ perform-of : (c : Configuration) (g : Group) (w : World) (q : QueuePair) (m : Nu
 perform-of c g w q m finish sound has more (ops.Bind1 window key address count rights) =
     named-of c g w q.domain key (λ named. With_former x (ending named)) has (λ named here. former-of c g w (window_slot q window) (ending named) sound has (λ former there.
     more (effects named) (unless_none (refusal named) (changed named former)) []
-    (of-unless g (refusal named) (changed named former) (has,
-    of-append g (former_updates former) (regions named former (count == 0)) (former-updates g former there) (regions-of named former here (count == 0))))))
+    (of-unless g (refusal named) (changed named former) (
+      has,
+      of-append g (former_updates former) (regions named former (count == 0)) (former-updates g former there) (regions-of named former here (count == 0)),
+    ))))
   where
     x : Window
     x = w.window (window_slot q window)

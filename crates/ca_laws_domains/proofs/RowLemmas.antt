@@ -1,10 +1,10 @@
 -- What every row asks for, and the key that it ends, is of its queue pair's domain. For proofs only.
-use Rattle.std.proofs.Common.{◌≡◌, ◌∙◌, ℕ, suc, ◌+◌, nat_le, nat_lt, Bool, true, false, List, [], ◌∷◌, length, map, Option, None, Some, IfSome, ◌&&◌, ◌==◌, is_none, not, slice_get, if◌then◌else◌, Result, Ok, Err, refl, sym}
+use Rattle.std.proofs.Common.{◌≡◌, ◌∙◌, ℕ, suc, ◌+◌, nat_le, nat_lt, Bool, true, false, List, [], ◌∷◌, length, map, Option, None, Some, IfSome, ◌&&◌, ◌==◌, is_none, not, slice_get, if◌then◌else◌, Result, Ok, Err, refl}
 use Rattle.std.specs.List.{AllByRecursion}
 use Rattle.std.specs.Option.{option_and_then, option_map}
 use Rattle.ca_base.specs.Sight.{Invalidation}
 use Rattle.ca_base.specs.declared.change.State.TheVariants as states
-use Rattle.ca_base.specs.declared.completion.WcStatus.TheVariants.{BadResponse, LocalLength, RetryExceeded}
+use Rattle.ca_base.specs.declared.completion.WcStatus.TheVariants.{BadResponse, RetryExceeded}
 use Rattle.ca_base.specs.declared.request.PlacedReceive.{PlacedReceive}
 use Rattle.ca_base.specs.declared.request.Piece.{Piece}
 use Rattle.ca_base.specs.declared.queue_numbers.Queued.{Queued}
@@ -21,7 +21,7 @@ use Rattle.ca_keys.specs.declared.access.Kind.TheVariants as kinds
 use Rattle.ca_keys.specs.declared.names.DomainId.{DomainId}
 use Rattle.ca_keys.specs.declared.names.QueueId.{QueueId}
 use Rattle.ca_model.specs.Packets.{is_response}
-use Rattle.ca_model.specs.Requests.{list_length, list_of}
+use Rattle.ca_model.specs.Requests.{list_length}
 use Rattle.ca_model.specs.declared.mark.Drop1.{Drop1}
 use Rattle.ca_model.specs.declared.mark.Drop1.TheVariants as drops
 use Rattle.ca_model.specs.declared.receiving.Receiving.{Receiving}
@@ -30,12 +30,12 @@ use Rattle.ca_model.specs.machine.Acknowledgements.{Acknowledgement, acknowledge
 use Rattle.ca_model.specs.machine.Arrivals.{next_receive, packet_ask, refusal_effects, with_flag, with_receive_taken}
 use Rattle.ca_model.specs.machine.Delivery.{arrival_drops, arrival_row, packet_arrived}
 use Rattle.ca_model.specs.machine.Duplicates.{ahead_effects, duplicate_effects, request_row}
-use Rattle.ca_model.specs.machine.Expected.{atomic_row, expected_row, invalidation_of, is_invalid, read_queued, rnr_effects, send_row, takes_receive, valid_row, receiving_of, receive_asks, write_reach, write_row}
-use Rattle.ca_model.specs.machine.Numbering.{Numbered, begun_requests, cut_list, piece_ask, request_at}
-use Rattle.ca_model.specs.machine.Requester.{is_too_much, packet_asks, packet_row}
+use Rattle.ca_model.specs.machine.Expected.{atomic_row, expected_row, invalidation_of, is_invalid, read_queued, send_row, takes_receive, valid_row, receiving_of, write_reach, write_row}
+use Rattle.ca_model.specs.machine.Numbering.{Numbered, begun_requests, piece_ask, request_at}
+use Rattle.ca_model.specs.machine.Requester.{is_too_much, packet_row}
 use Rattle.ca_model.specs.declared.read_left.ReadLeft.{ReadLeft}
 use Rattle.ca_model.specs.machine.Respond.{answer_turn, read_row, respond_refusals, respond_row, response_ask}
-use Rattle.ca_model.specs.machine.Responses.{acknowledge_row, answer_asks, answer_bytes, answer_row, drop_effects, fits_request, fitting_row, is_outstanding_at, outstanding_row, response_psn, response_row}
+use Rattle.ca_model.specs.machine.Responses.{acknowledge_row, answer_row, drop_effects, fits_request, fitting_row, is_outstanding_at, outstanding_row, response_psn, response_row}
 use Rattle.ca_model.specs.machine.Row.{Does, Effects, NotPossible, Row, plain_row, queue_and_marks}
 use Rattle.ca_packet.specs.Decoding.{packet_in}
 use Rattle.ca_packet.specs.Packet.{Fields}

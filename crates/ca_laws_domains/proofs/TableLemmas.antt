@@ -1,8 +1,7 @@
 -- The parts that a group's event needs are of the group: a walk over the table of parts. For proofs only.
-use Rattle.std.proofs.Common.{◌≡◌, ◌∙◌, ℕ, zero, suc, ◌+◌, ◌*◌, ◌<◌, ◌≤◌, ◌-◌, ◌/◌, ◌==◌, ◌&&◌, nat_le, nat_lt, arith, Bool, true, false, not, List, [], ◌∷◌, min, take, Option, None, Some, IfSome, ap, subst, sym, if◌then◌else◌, refl, true≢false}
+use Rattle.std.proofs.Common.{◌≡◌, ◌∙◌, ℕ, zero, suc, ◌+◌, ◌*◌, ◌<◌, ◌-◌, ◌/◌, ◌&&◌, nat_le, nat_lt, arith, Bool, true, false, not, List, [], ◌∷◌, min, take, Option, None, Some, IfSome, ap, subst, sym, if◌then◌else◌, refl, true≢false}
 use Rattle.std.proofs.lemmas.Bool.{and_parts, eqb-true, le-ltb, leb-true}
 use Rattle.std.specs.List.{AllByRecursion}
-use Rattle.std.specs.Option.{option_and_then, option_map, option_map_or}
 use Rattle.ca_base.specs.Configuration.{Configuration}
 use Rattle.ca_base.specs.Sight.{Invalidation}
 use Rattle.ca_base.specs.declared.completion.Completion.{Completion}
@@ -41,15 +40,15 @@ use Rattle.ca_model.specs.declared.verb.Verb.TheVariants as verbs
 use Rattle.ca_model.specs.machine.CompletionVerbs.{source_of_completion}
 use Rattle.ca_model.specs.machine.Delivery.{arrival_row}
 use Rattle.ca_model.specs.machine.LocalOperations.{window_slot}
-use Rattle.ca_model.specs.machine.Parts.{By, Enough, Needs, Part, also, around_needs, arrival_needs, ask_needs, asks_needs, bind_needs, buffer_needs, drawing_needs, emptying_needs, ending_needs, event_needs, event_parts, listed, operation_needs, part, peer_needs, place_part, places_needs, present_needs, queues_needs, region_needs, region_part, request_needs, respond_needs, row_needs, turn_needs, verb_needs, where_some, window_needs}
+use Rattle.ca_model.specs.machine.Parts.{By, Enough, Needs, Part, also, around_needs, arrival_needs, ask_needs, asks_needs, bind_needs, buffer_needs, drawing_needs, emptying_needs, ending_needs, event_needs, listed, operation_needs, part, peer_needs, place_part, places_needs, present_needs, queues_needs, region_needs, region_part, request_needs, respond_needs, row_needs, turn_needs, verb_needs, where_some, window_needs}
 use Rattle.ca_model.specs.machine.QueuePairVerbs.{Creation, beside, has_queues}
 use Rattle.ca_model.specs.machine.Requester.{Performs, RequestTurn, Sends, Waits, packet_row, turn_of}
 use Rattle.ca_model.specs.machine.Respond.{respond_row}
 use Rattle.ca_model.specs.machine.Row.{Row, region_under}
-use Rattle.ca_model.specs.machine.Seen.{asks_window, shared_receives}
+use Rattle.ca_model.specs.machine.Seen.{asks_window}
 use Rattle.ca_model.specs.machine.Sound.{AreLimited, IsQueueOf, IsSettled, IsSoundWorld, side_of}
 use Rattle.ca_model.specs.machine.Step.{has_named_slot, is_named}
-use Rattle.ca_model.specs.machine.World.{Cq_of, Mailbox_of, Queue_of, Region_of, Srq_of, Window_of, World}
+use Rattle.ca_model.specs.machine.World.{Cq_of, Mailbox_of, Queue_of, Srq_of, Window_of, World}
 
 -- a domain is of the group
 abbrev pub Has : Group → DomainId → Type 0
@@ -75,8 +74,11 @@ region-of g w s has = (has, some-of g w (λ (x : Grant). buffer_needs x.runs) (g
 
 window-of : (c : Configuration) (g : Group) (w : World) (s : Slot) (more : Slot → Needs) → IsSoundWorld c w → Has g s.domain → ((at : Slot) → Has g at.domain → NeedsOf g w (more at))
     → NeedsOf g w (window_needs more s)
-window-of c g w s more sound has each = (has, some-of g w (λ b. more (region_under (w.window s) b)) (w.window s).binding
-    (λ b. each (region_under (w.window s) b) (subst (λ (x : Slot). Has g x.domain) (sym (sound.things (Window_of s)).0) has)))
+window-of c g w s more sound has each = (
+  has,
+  some-of g w (λ b. more (region_under (w.window s) b)) (w.window s).binding
+      (λ b. each (region_under (w.window s) b) (subst (λ (x : Slot). Has g x.domain) (sym (sound.things (Window_of s)).0) has)),
+)
 
 -- a slot that a key of the domain names is of the domain
 key-domain : (d : DomainId) (key : Key) → is_key_of d key ≡ true → (slot_of_key d key).domain ≡ d

@@ -1,5 +1,5 @@
 -- What a group's event touches is of the group. For proofs only.
-use Rattle.std.proofs.Common.{◌≡◌, true, List, [], ◌∷◌, inl, inr, subst, sym}
+use Rattle.std.proofs.Common.{List, [], ◌∷◌, inl, inr, subst, sym}
 use Rattle.std.specs.List.{AllByRecursion}
 use Rattle.ca_base.specs.Configuration.{Configuration}
 use Rattle.ca_isolation.specs.Groups.{Group}
