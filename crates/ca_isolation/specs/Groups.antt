@@ -72,7 +72,7 @@ is_queue_of group q = option_map_or group (domain_of_queue q) false
 -- the queue pair of the group that by this mark named a peer outside the group, in an Rtr that succeeded
 abbrev pub strays_by : Group → Mark → List QueueId
 strays_by group (marks.Verb by (verbs.ModifyQp slot (changes.Rtr peer incarnation psn mtu rnr_code)) answers.Fine) =
-    if group slot.domain && not (is_queue_of group peer) then queue_of slot ∷ [] else []
+    if is_queue_of group (queue_of slot) && not (is_queue_of group peer) then queue_of slot ∷ [] else []
 strays_by group mark = []
 
 -- the queue pairs of the group that named a peer outside it, in order

@@ -6,3 +6,4 @@ pub mod BesideVerbLemmas
 pub mod BesideEventLemmas
 pub mod OtherTurnLemmas
 pub mod OtherLemmas
+pub mod ClosedLemmas

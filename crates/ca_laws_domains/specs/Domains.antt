@@ -58,6 +58,11 @@ is_thing_of group n = option_map_or group (part_domain (part_of n)) false
 abbrev pub AcceptsWithin : Group → World → Type 0
 AcceptsWithin group w = (q : QueueId) → group (domain_of q) ≡ true → IfSome (w.mailbox q).peer (λ p. group (domain_of p.queue) ≡ true)
 
+-- no queue pair of the group names a peer outside it, and no mailbox of it accepts one
+pub record StaysWithin (group : Group) (w : World) : Type 0 where
+  pub accepts : AcceptsWithin group w
+  pub peers : (q : QueueId) → group (domain_of q) ≡ true → IsPeerOf group (w.queue q)
+
 -- the queue pair through which a window is bound is of the window's domain
 abbrev pub AreBoundBeside : World → Type 0
 AreBoundBeside w = (s : Slot) → IfSome (w.window s).binding (λ b. IfSome b.queue (λ q. domain_of q ≡ s.domain))

@@ -1,13 +1,17 @@
 ghost use Rattle.std.specs.List.{AllByRecursion};
-ghost use Rattle.std.specs.Prelude.{◌≡◌, false, true};
+ghost use Rattle.std.specs.Prelude.{◌≡◌, List, false, true};
+ghost use Rattle.ca_agree.specs.Agreement.{HoldsAlong};
 ghost use Rattle.ca_base.specs.Configuration.{Configuration};
-ghost use Rattle.ca_isolation.specs.Groups.{Group, is_of};
+ghost use Rattle.ca_isolation.specs.Groups.{Group, is_closed, is_of};
 ghost use Rattle.ca_keys.specs.Memory.{ByteMap};
-ghost use Rattle.ca_laws_domains.specs.Domains.{AcceptsWithin, AreBoundBeside, IsEventOf, IsThingOf, LooksWithin, is_thing_of};
+ghost use Rattle.ca_laws_domains.specs.Domains.{AcceptsWithin, AreBoundBeside, IsEventOf, IsThingOf, LooksWithin, StaysWithin, is_thing_of};
+ghost use Rattle.ca_model.specs.Entries.{EntryValue};
+ghost use Rattle.ca_model.specs.Past.{opening_past};
 ghost use Rattle.ca_model.specs.declared.event.Event.{Event};
 ghost use Rattle.ca_model.specs.machine.Frame.{Afterwards};
 ghost use Rattle.ca_model.specs.machine.Plan.{touches};
-ghost use Rattle.ca_model.specs.machine.Sound.{AreLimited, IsSoundWorld};
+ghost use Rattle.ca_model.specs.machine.Run.{Follows};
+ghost use Rattle.ca_model.specs.machine.Sound.{AreLimited, CanBeMade, IsSoundWorld};
 ghost use Rattle.ca_model.specs.machine.Step.{plan, step};
 ghost use Rattle.ca_model.specs.machine.World.{Name, World, get, opening_world};
 
@@ -36,4 +40,12 @@ pub fn others_leave_things_as_they_were()
     ensures { (c : Configuration) (w : World) (event : Event) (group : Group) → AreLimited c → IsSoundWorld c w
         → AreBoundBeside w → AcceptsWithin group w → is_of group event ≡ false
         → Afterwards (λ v. (n : Name) → is_thing_of group n ≡ true → get v n ≡ get w n) (step c w event) }
+{}
+
+/// Along a history that follows the machine, and in which a group is closed, no queue pair of the group has a peer outside
+/// it, and no mailbox of the group accepts one, at the beginning and after each entry.
+pub fn closed_groups_stay_within()
+    ensures { (c : Configuration) (bytes : ByteMap) (es : List EntryValue) (group : Group) → AreLimited c
+        → AllByRecursion (λ e. CanBeMade e.event) es → Follows c bytes es → is_closed group es ≡ true
+        → HoldsAlong (λ past w. StaysWithin group w) c (opening_past bytes) (opening_world bytes) es }
 {}
