@@ -25,13 +25,13 @@ cells-append [] ys m = refl
 cells-append (x ∷ xs) ys m = cells-append xs ys (with_at place_eq m x.place x.byte)
 
 -- a place is one of a run
-record InRun (r : Run) (p : Place) : Type 0 where
-  adapter : p.adapter ≡ r.adapter
-  buffer : p.buffer ≡ r.buffer
-  from : r.offset ≤ p.offset
-  upto : p.offset < r.offset + r.length
+pub record InPlaces (r : Run) (p : Place) : Type 0 where
+  pub adapter : p.adapter ≡ r.adapter
+  pub buffer : p.buffer ≡ r.buffer
+  pub from : r.offset ≤ p.offset
+  pub upto : p.offset < r.offset + r.length
 
-run-parts : (r : Run) (p : Place) → is_in r p ≡ true → InRun r p
+pub run-parts : (r : Run) (p : Place) → is_in r p ≡ true → InPlaces r p
 run-parts r p is = record {
   adapter = eqb-true p.adapter r.adapter two.0;
   buffer = eqb-true p.buffer r.buffer two.1;
@@ -48,7 +48,7 @@ run-parts r p is = record {
     two : ((p.adapter == r.adapter) ≡ true) × ((p.buffer == r.buffer) ≡ true)
     two = and_parts (p.adapter == r.adapter) (p.buffer == r.buffer) three.0
 
-run-made : (r : Run) (p : Place) → InRun r p → is_in r p ≡ true
+pub run-made : (r : Run) (p : Place) → InPlaces r p → is_in r p ≡ true
 run-made r p one = and_from ((p.adapter == r.adapter) && (p.buffer == r.buffer) && nat_le r.offset p.offset) (nat_lt p.offset (r.offset + r.length))
     (and_from ((p.adapter == r.adapter) && (p.buffer == r.buffer)) (nat_le r.offset p.offset)
     (and_from (p.adapter == r.adapter) (p.buffer == r.buffer) (eq-eqb p.adapter r.adapter one.adapter) (eq-eqb p.buffer r.buffer one.buffer))
@@ -71,7 +71,7 @@ run-cells : (a : Place) (n : ℕ) (bytes : List ℕ) (m : ByteMap) (p : Place)
     → memory_of_cells (cells_from a n bytes) m p ≡ (if is_in (from a n) p then slice_index_or bytes (p.offset - a.offset) 0 else m p)
 run-cells a zero bytes m p = by (is_in (from a 0) p) refl
   where
-    none : InRun (from a 0) p → ⊥
+    none : InPlaces (from a 0) p → ⊥
     none one = omega (arith, one.from, one.upto)
 
     by : (b : Bool) → is_in (from a 0) p ≡ b → m p ≡ (if b then slice_index_or bytes (p.offset - a.offset) 0 else m p)
@@ -80,26 +80,26 @@ run-cells a zero bytes m p = by (is_in (from a 0) p) refl
 run-cells a (suc n) bytes m p =
     run-cells (next a) n (drop 1 bytes) (with_at place_eq m a (slice_index_or bytes 0 0)) p ∙ by (is_in (from (next a) n) p) refl (place_eq a p) refl (is_in (from a (suc n)) p) refl
   where
-    later : InRun (from (next a) n) p → InRun (from a (suc n)) p
+    later : InPlaces (from (next a) n) p → InPlaces (from a (suc n)) p
     later one = record { adapter = one.adapter; buffer = one.buffer; from = omega (arith, one.from); upto = omega (arith, one.upto) }
 
-    here : InRun (from a (suc n)) p → p.offset ≡ a.offset → place_eq a p ≡ true
+    here : InPlaces (from a (suc n)) p → p.offset ≡ a.offset → place_eq a p ≡ true
     here one is = same-place a p one.adapter one.buffer is
 
-    there : InRun (from a (suc n)) p → a.offset < p.offset → InRun (from (next a) n) p
+    there : InPlaces (from a (suc n)) p → a.offset < p.offset → InPlaces (from (next a) n) p
     there one is = record { adapter = one.adapter; buffer = one.buffer; from = omega (arith, is); upto = omega (arith, one.upto) }
 
-    missed : InRun (from a (suc n)) p → is_in (from (next a) n) p ≡ false → place_eq a p ≡ false → ⊥
+    missed : InPlaces (from a (suc n)) p → is_in (from (next a) n) p ≡ false → place_eq a p ≡ false → ⊥
     missed one later-not here-not = at (p.offset == a.offset) refl
       where
         at : (b : Bool) → (p.offset == a.offset) ≡ b → ⊥
         at true e = true≢false (sym (here one (eqb-true p.offset a.offset e)) ∙ here-not)
         at false e = true≢false (sym (run-made (from (next a) n) p (there one (omega (arith, one.from, eqb-false p.offset a.offset e)))) ∙ later-not)
 
-    first : place_eq a p ≡ true → InRun (from a (suc n)) p
-    first e = subst (λ x. InRun (from a (suc n)) x) (place-path a p e) (record { adapter = refl; buffer = refl; from = omega arith; upto = omega arith })
+    first : place_eq a p ≡ true → InPlaces (from a (suc n)) p
+    first e = subst (λ x. InPlaces (from a (suc n)) x) (place-path a p e) (record { adapter = refl; buffer = refl; from = omega arith; upto = omega arith })
 
-    behind : InRun (from (next a) n) p → slice_index_or (drop 1 bytes) (p.offset - suc a.offset) 0 ≡ slice_index_or bytes (p.offset - a.offset) 0
+    behind : InPlaces (from (next a) n) p → slice_index_or (drop 1 bytes) (p.offset - suc a.offset) 0 ≡ slice_index_or bytes (p.offset - a.offset) 0
     behind one = get_or_after_one bytes (p.offset - suc a.offset) 0 ∙ ap (λ i. slice_index_or bytes i 0) index
       where
         index : 1 + (p.offset - suc a.offset) ≡ p.offset - a.offset

@@ -50,7 +50,7 @@ unnamed : (g : Group) (naming : QueueId → Option Naming) (q : QueueId) → Nam
 unnamed g naming q within = named-anew g naming q None within (λ has. record {})
 
 -- a queue pair of the group, by the test
-of-group : (g : Group) (q : QueueId) → is_queue_of g q ≡ true → Has g (domain_of q)
+pub of-group : (g : Group) (q : QueueId) → is_queue_of g q ≡ true → Has g (domain_of q)
 of-group g q is = by (nat_lt q.number 256) is
   where
     by : (b : Bool) → option_map_or g (if b then None else Some (domain_of q)) false ≡ true → Has g (domain_of q)

@@ -7,3 +7,5 @@ pub mod BesideEventLemmas
 pub mod OtherTurnLemmas
 pub mod OtherLemmas
 pub mod ClosedLemmas
+pub mod ByteLemmas
+pub mod GrantedLemmas

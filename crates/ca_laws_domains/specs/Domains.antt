@@ -1,18 +1,22 @@
 -- Whose things are: the domain of each thing of a world by its name, and what a group's event may look at. Laws cite it.
 use Rattle.std.specs.Prelude.{◌≡◌, Bool, true, false, Option, None, Some, IfSome}
+use Rattle.std.specs.List.{list_any}
 use Rattle.std.specs.Option.{option_map_or}
 use Rattle.ca_base.specs.objects.QueuePair.{NoQueue, Present, QueueSlot}
 use Rattle.ca_isolation.specs.Groups.{Group, event_domain}
+use Rattle.ca_base.specs.objects.Region.{grant_of_region}
+use Rattle.ca_keys.specs.Memory.{is_in}
 use Rattle.ca_keys.specs.Numbers.{domain_of}
 use Rattle.ca_keys.specs.declared.names.DomainId.{DomainId}
 use Rattle.ca_keys.specs.declared.names.QueueId.{QueueId}
 use Rattle.ca_keys.specs.declared.names.Slot.{Slot}
+use Rattle.ca_keys.specs.declared.place.Place.{Place}
 use Rattle.ca_model.specs.declared.event.Event.{Event}
 use Rattle.ca_model.specs.declared.event.Event.TheVariants as events
 use Rattle.ca_model.specs.declared.part_name.PartName.{PartName}
 use Rattle.ca_model.specs.declared.part_name.PartName.TheVariants as names
 use Rattle.ca_model.specs.machine.Parts.{part_of}
-use Rattle.ca_model.specs.machine.World.{Name, World}
+use Rattle.ca_model.specs.machine.World.{Byte_at, Name, World}
 
 -- the domain of a part; a buffer is of no domain
 abbrev pub part_domain : PartName → Option DomainId
@@ -66,3 +70,14 @@ pub record StaysWithin (group : Group) (w : World) : Type 0 where
 -- the queue pair through which a window is bound is of the window's domain
 abbrev pub AreBoundBeside : World → Type 0
 AreBoundBeside w = (s : Slot) → IfSome (w.window s).binding (λ b. IfSome b.queue (λ q. domain_of q ≡ s.domain))
+
+-- the byte at this place is one of what a valid region of the group grants
+pub record IsGrantedTo (group : Group) (w : World) (p : Place) : Type 0 where
+  pub slot : Slot
+  pub own : group slot.domain ≡ true
+  pub granted : option_map_or (λ g. list_any (λ r. is_in r p) g.runs) (grant_of_region (w.region slot)) false ≡ true
+
+-- a byte is so; of other things nothing is said
+abbrev pub IsGrantedThing : Group → World → Name → Type 0
+IsGrantedThing group w (Byte_at p) = IsGrantedTo group w p
+IsGrantedThing group w n = Unit {0}

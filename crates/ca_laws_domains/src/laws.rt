@@ -4,7 +4,7 @@ ghost use Rattle.ca_agree.specs.Agreement.{HoldsAlong};
 ghost use Rattle.ca_base.specs.Configuration.{Configuration};
 ghost use Rattle.ca_isolation.specs.Groups.{Group, is_closed, is_of};
 ghost use Rattle.ca_keys.specs.Memory.{ByteMap};
-ghost use Rattle.ca_laws_domains.specs.Domains.{AcceptsWithin, AreBoundBeside, IsEventOf, IsThingOf, LooksWithin, StaysWithin, is_thing_of};
+ghost use Rattle.ca_laws_domains.specs.Domains.{AcceptsWithin, AreBoundBeside, IsEventOf, IsGrantedThing, IsThingOf, LooksWithin, StaysWithin, is_thing_of};
 ghost use Rattle.ca_model.specs.Entries.{EntryValue};
 ghost use Rattle.ca_model.specs.Past.{opening_past};
 ghost use Rattle.ca_model.specs.declared.event.Event.{Event};
@@ -48,4 +48,10 @@ pub fn closed_groups_stay_within()
     ensures { (c : Configuration) (bytes : ByteMap) (es : List EntryValue) (group : Group) → AreLimited c
         → AllByRecursion (λ e. CanBeMade e.event) es → Follows c bytes es → is_closed group es ≡ true
         → HoldsAlong (λ past w. StaysWithin group w) c (opening_past bytes) (opening_world bytes) es }
+{}
+
+/// The bytes that an event of a group touches are those of what valid regions of the group grant.
+pub fn event_touches_granted_bytes()
+    ensures { (c : Configuration) (w : World) (event : Event) (group : Group) → IsSoundWorld c w → is_of group event ≡ true
+        → AllByRecursion (IsGrantedThing group w) (touches w (plan c event)) }
 {}

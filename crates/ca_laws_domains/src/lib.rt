@@ -11,6 +11,6 @@
 mod laws;
 
 pub use laws::{
-    closed_groups_stay_within, event_keeps_windows_beside, event_touches_its_domain,
-    opening_world_binds_beside, others_leave_things_as_they_were,
+    closed_groups_stay_within, event_keeps_windows_beside, event_touches_granted_bytes,
+    event_touches_its_domain, opening_world_binds_beside, others_leave_things_as_they_were,
 };
