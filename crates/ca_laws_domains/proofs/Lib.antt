@@ -9,3 +9,4 @@ pub mod OtherLemmas
 pub mod ClosedLemmas
 pub mod ByteLemmas
 pub mod GrantedLemmas
+pub mod SameLemmas

@@ -60,7 +60,8 @@ is_thing_of group n = option_map_or group (part_domain (part_of n)) false
 
 -- no mailbox of the group accepts a queue pair of others
 abbrev pub AcceptsWithin : Group → World → Type 0
-AcceptsWithin group w = (q : QueueId) → group (domain_of q) ≡ true → IfSome (w.mailbox q).peer (λ p. group (domain_of p.queue) ≡ true)
+AcceptsWithin group w =
+    (q : QueueId) → group (domain_of q) ≡ true → IfSome (w.mailbox q).peer (λ p. group (domain_of p.queue) ≡ true)
 
 -- no queue pair of the group names a peer outside it, and no mailbox of it accepts one
 pub record StaysWithin (group : Group) (w : World) : Type 0 where
@@ -81,3 +82,8 @@ pub record IsGrantedTo (group : Group) (w : World) (p : Place) : Type 0 where
 abbrev pub IsGrantedThing : Group → World → Name → Type 0
 IsGrantedThing group w (Byte_at p) = IsGrantedTo group w p
 IsGrantedThing group w n = Unit {0}
+
+-- a thing of the group, or a byte that is covered
+abbrev pub is_seen_by : Group → (Place → Bool) → Name → Bool
+is_seen_by group cover (Byte_at p) = cover p
+is_seen_by group cover n = is_thing_of group n

@@ -1,14 +1,15 @@
 ghost use Rattle.std.specs.List.{AllByRecursion};
-ghost use Rattle.std.specs.Prelude.{◌≡◌, List, false, true};
+ghost use Rattle.std.specs.Prelude.{◌≡◌, Bool, List, false, true};
 ghost use Rattle.ca_agree.specs.Agreement.{HoldsAlong};
 ghost use Rattle.ca_base.specs.Configuration.{Configuration};
 ghost use Rattle.ca_isolation.specs.Groups.{Group, is_closed, is_of};
 ghost use Rattle.ca_keys.specs.Memory.{ByteMap};
-ghost use Rattle.ca_laws_domains.specs.Domains.{AcceptsWithin, AreBoundBeside, IsEventOf, IsGrantedThing, IsThingOf, LooksWithin, StaysWithin, is_thing_of};
+ghost use Rattle.ca_keys.specs.declared.place.Place.{Place};
+ghost use Rattle.ca_laws_domains.specs.Domains.{AcceptsWithin, AreBoundBeside, IsEventOf, IsGrantedThing, IsGrantedTo, IsThingOf, LooksWithin, StaysWithin, is_seen_by, is_thing_of};
 ghost use Rattle.ca_model.specs.Entries.{EntryValue};
 ghost use Rattle.ca_model.specs.Past.{opening_past};
 ghost use Rattle.ca_model.specs.declared.event.Event.{Event};
-ghost use Rattle.ca_model.specs.machine.Frame.{Afterwards};
+ghost use Rattle.ca_model.specs.machine.Frame.{Afterwards, SameOutcomeWhere, SameWhere};
 ghost use Rattle.ca_model.specs.machine.Plan.{touches};
 ghost use Rattle.ca_model.specs.machine.Run.{Follows};
 ghost use Rattle.ca_model.specs.machine.Sound.{AreLimited, CanBeMade, IsSoundWorld};
@@ -54,4 +55,14 @@ pub fn closed_groups_stay_within()
 pub fn event_touches_granted_bytes()
     ensures { (c : Configuration) (w : World) (event : Event) (group : Group) → IsSoundWorld c w → is_of group event ≡ true
         → AllByRecursion (IsGrantedThing group w) (touches w (plan c event)) }
+{}
+
+/// An event of a group, whose turn looks at a peer of the group alone, does the same in two worlds that have the same
+/// things of the group and the same covered bytes, if what valid regions of the group grant is covered: it is possible in
+/// both or in neither, for one reason or with the same marks, and leaves the same there.
+pub fn group_events_depend_on_the_group()
+    ensures { (c : Configuration) (v w : World) (event : Event) (group : Group) (cover : Place → Bool) → AreLimited c
+        → IsSoundWorld c v → AreBoundBeside v → is_of group event ≡ true → LooksWithin group v event
+        → ((p : Place) → IsGrantedTo group v p → cover p ≡ true) → SameWhere (is_seen_by group cover) v w
+        → SameOutcomeWhere (is_seen_by group cover) (step c v event) (step c w event) }
 {}
