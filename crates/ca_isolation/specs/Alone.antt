@@ -32,7 +32,8 @@ pub record Cell : Type 0 where
 abbrev pub cells_from : Place → ℕ → List ℕ → List Cell
 cells_from p zero bytes = []
 cells_from p (suc n) bytes =
-    record { place = p; byte = slice_index_or bytes 0 0 } ∷ cells_from (record p { offset = suc p.offset }) n (drop 1 bytes)
+    record { place = p; byte = slice_index_or bytes 0 0 }
+    ∷ cells_from (record p { offset = suc p.offset }) n (drop 1 bytes)
 
 -- a write, byte by byte in order
 abbrev pub cells_of : List Run → List ℕ → List Cell
@@ -48,12 +49,14 @@ pub record Stretch : Type 0 where
 
 -- the run of a stretch's places
 abbrev pub run_of_stretch : Stretch → Run
-run_of_stretch s = record { adapter = s.at.adapter; buffer = s.at.buffer; offset = s.at.offset; length = length s.bytes }
+run_of_stretch s =
+    record { adapter = s.at.adapter; buffer = s.at.buffer; offset = s.at.offset; length = length s.bytes }
 
 -- a cell stands right behind a stretch, in its buffer
 abbrev pub goes_on : Stretch → Cell → Bool
 goes_on s x =
-    (x.place.adapter == s.at.adapter) && (x.place.buffer == s.at.buffer) && (x.place.offset == s.at.offset + length s.bytes)
+    (x.place.adapter == s.at.adapter) && (x.place.buffer == s.at.buffer)
+    && (x.place.offset == s.at.offset + length s.bytes)
 
 -- a stretch with a cell behind it, or of that cell alone
 abbrev pub grown : Option Stretch → Cell → Stretch
@@ -88,7 +91,8 @@ memory_stored (s ∷ ss) m = memory_stored ss (memory_after m (run_of_stretch s 
 
 -- what an access wrote, at the places of the grant that its ask goes by
 abbrev pub writes_of_access : Past → Ask → Verdict → List Write
-writes_of_access past ask (verdicts.Wrote bytes) = record { runs = runs_for ask past.grants (length bytes); bytes = bytes } ∷ []
+writes_of_access past ask (verdicts.Wrote bytes) =
+    record { runs = runs_for ask past.grants (length bytes); bytes = bytes } ∷ []
 writes_of_access past ask (verdicts.Swapped found put) =
     record { runs = runs_for ask past.grants ATOMIC_BYTES; bytes = little_endian_bytes put } ∷ []
 writes_of_access past ask verdict = []

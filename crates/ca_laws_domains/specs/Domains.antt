@@ -1,4 +1,5 @@
--- Whose things are: the domain of each thing of a world by its name, and what a group's event may look at. Laws cite it.
+-- Whose things are: the domain of each thing of a world by its name, and what a group's event may look at. Laws cite
+-- it.
 use Rattle.std.specs.Prelude.{◌≡◌, Bool, true, false, Option, None, Some, IfSome}
 use Rattle.std.specs.List.{list_any}
 use Rattle.std.specs.Option.{option_map_or}

@@ -27,24 +27,24 @@ pub fn event_keeps_windows_beside()
         → Afterwards AreBoundBeside (step c w event) }
 {}
 
-/// An event of a group of domains, or of nobody, touches things of the group and bytes alone, where the peer at which its
-/// turn looks is of the group too.
+/// An event of a group of domains, or of nobody, touches things of the group and bytes alone, where the peer at which
+/// its turn looks is of the group too.
 pub fn event_touches_its_domain()
     ensures { (c : Configuration) (w : World) (event : Event) (group : Group) → AreLimited c → IsSoundWorld c w
         → AreBoundBeside w → IsEventOf group event → LooksWithin group w event
         → AllByRecursion (IsThingOf group) (touches w (plan c event)) }
 {}
 
-/// An event that is not of a group leaves the things of the group as they were, also where its turn looks at a queue pair
-/// of the group, if no mailbox of the group accepts a queue pair of others. Of bytes nothing is said.
+/// An event that is not of a group leaves the things of the group as they were, also where its turn looks at a queue
+/// pair of the group, if no mailbox of the group accepts a queue pair of others. Of bytes nothing is said.
 pub fn others_leave_things_as_they_were()
     ensures { (c : Configuration) (w : World) (event : Event) (group : Group) → AreLimited c → IsSoundWorld c w
         → AreBoundBeside w → AcceptsWithin group w → is_of group event ≡ false
         → Afterwards (λ v. (n : Name) → is_thing_of group n ≡ true → get v n ≡ get w n) (step c w event) }
 {}
 
-/// Along a history that follows the machine, and in which a group is closed, no queue pair of the group has a peer outside
-/// it, and no mailbox of the group accepts one, at the beginning and after each entry.
+/// Along a history that follows the machine, and in which a group is closed, no queue pair of the group has a peer
+/// outside it, and no mailbox of the group accepts one, at the beginning and after each entry.
 pub fn closed_groups_stay_within()
     ensures { (c : Configuration) (bytes : ByteMap) (es : List EntryValue) (group : Group) → AreLimited c
         → AllByRecursion (λ e. CanBeMade e.event) es → Follows c bytes es → is_closed group es ≡ true
@@ -53,13 +53,13 @@ pub fn closed_groups_stay_within()
 
 /// The bytes that an event of a group touches are those of what valid regions of the group grant.
 pub fn event_touches_granted_bytes()
-    ensures { (c : Configuration) (w : World) (event : Event) (group : Group) → IsSoundWorld c w → is_of group event ≡ true
-        → AllByRecursion (IsGrantedThing group w) (touches w (plan c event)) }
+    ensures { (c : Configuration) (w : World) (event : Event) (group : Group) → IsSoundWorld c w
+        → is_of group event ≡ true → AllByRecursion (IsGrantedThing group w) (touches w (plan c event)) }
 {}
 
 /// An event of a group, whose turn looks at a peer of the group alone, does the same in two worlds that have the same
-/// things of the group and the same covered bytes, if what valid regions of the group grant is covered: it is possible in
-/// both or in neither, for one reason or with the same marks, and leaves the same there.
+/// things of the group and the same covered bytes, if what valid regions of the group grant is covered: it is
+/// possible in both or in neither, for one reason or with the same marks, and leaves the same there.
 pub fn group_events_depend_on_the_group()
     ensures { (c : Configuration) (v w : World) (event : Event) (group : Group) (cover : Place → Bool) → AreLimited c
         → IsSoundWorld c v → AreBoundBeside v → is_of group event ≡ true → LooksWithin group v event

@@ -1,9 +1,9 @@
 //! Events keep to their domains: what an event of a group of domains touches is of the group.
 //!
-//! To the layers above it promises, as clauses of functions that do nothing, that an event touches things of its own domain
-//! alone, but for the peer of the queue pair whose turn it is, and bytes that its domain's regions grant; that an event of
-//! others leaves a group's things as they were; and that a closed group has no peer outside it. They hold of the machine's
-//! definitions, and no code is in them.
+//! To the layers above it promises, as clauses of functions that do nothing, that an event touches things of its own
+//! domain alone, but for the peer of the queue pair whose turn it is, and bytes that its domain's regions grant; that
+//! an event of others leaves a group's things as they were; and that a closed group has no peer outside it. They hold
+//! of the machine's definitions, and no code is in them.
 //!
 //! Source: InfiniBand Architecture Specification Volume 1, the chapter on the software transport interface: protection
 //! domains.
