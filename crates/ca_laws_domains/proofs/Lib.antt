@@ -1,0 +1,12 @@
+pub mod RowLemmas
+pub mod TableLemmas
+pub mod TouchLemmas
+pub mod BesideTurnLemmas
+pub mod BesideVerbLemmas
+pub mod BesideEventLemmas
+pub mod OtherTurnLemmas
+pub mod OtherLemmas
+pub mod ClosedLemmas
+pub mod ByteLemmas
+pub mod GrantedLemmas
+pub mod SameLemmas
