@@ -4,3 +4,4 @@ pub mod StartLemmas
 pub mod TurnLemmas
 mod PlacingLemmas
 mod CloseLemmas
+mod LawfulLemmas

@@ -2,10 +2,16 @@
 use Rattle.std.specs.Prelude.{◌≡◌, ◌≤◌, ℕ, suc, List, [], ◌∷◌, length, map, take, Option, Some, slice_get, Ok}
 use Rattle.ca_base.specs.Configuration.{configuration_in}
 use Rattle.ca_base.specs.declared.settings.Settings.{Settings}
+use Rattle.ca_carried.specs.Modulo.{CarriedModulo}
 use Rattle.ca_fabric_machine.specs.After.{IsUp}
 use Rattle.ca_fabric_machine.specs.Meanings.{StandsFor}
 use Rattle.ca_fabric_machine.specs.Values.{PartValue}
 use Rattle.ca_fabric_machine.specs.declared.asked.Told.{Told}
+use Rattle.ca_keys.specs.Memory.{zeros}
+use Rattle.ca_model.specs.Entries.{entry_of}
+use Rattle.ca_model.specs.Judged.{Judged}
+use Rattle.ca_model.specs.Licensed.{Licensed}
+use Rattle.ca_model.specs.Ordered.{Ordered}
 use Rattle.ca_model.specs.declared.entry.Entry.{Entry}
 use Rattle.ca_model.specs.machine.Run.{run}
 use Rattle.ca_parts.specs.Hands.{AllStand}
@@ -27,6 +33,14 @@ pub record IsHistoryOf (key : Settings) (v : Known) (j : List Entry) : Type 0 wh
   pub runs : run (configuration_in key) (map (λ e. e.event) j) ≡ Ok (map (λ e. e.marks.marks) j)
   pub receipts : (m : ℕ) (e : Told) → Has (m, e) v.entries → slice_get log m ≡ Some e
   pub notes : (m : ℕ) (hand : List (ℕ × PartValue)) → Has (m, hand) v.notes → (m ≤ length log) × AllStand (StandsFor key (take m log)) hand
+
+-- A history over zeros is lawful: each access is judged by the grants before it, each grant is licensed, what completes and
+-- what is polled is in order, and what is carried has its cause, with addresses modulo 2^64.
+pub record IsLawful (j : List Entry) : Type 0 where
+  pub judged : Judged zeros (map entry_of j)
+  pub licensed : Licensed zeros (map entry_of j)
+  pub ordered : Ordered zeros (map entry_of j)
+  pub carried : CarriedModulo zeros (map entry_of j)
 
 -- the stamps of entries
 abbrev pub stamps_of : List Entry → List ℕ

@@ -1,13 +1,13 @@
 ghost use Rattle.std.specs.Prelude.{◌≡◌, ◌<◌, IfErr, IfOk};
 ghost use Rattle.ca_base.specs.declared.limits.TheConstants.{MAX_PASSES};
 ghost use Rattle.ca_verbs.specs.Closed.{IsCauseOf, IsPassOut};
-ghost use Rattle.ca_verbs.specs.Closing.{IsHistoryOf};
+ghost use Rattle.ca_verbs.specs.Closing.{IsHistoryOf, IsLawful};
 ghost use Rattle.ca_verbs.specs.Passes.{IsOf, known_of, settings_in};
 
 use crate::close_error::CloseError;
 use crate::fabric::Fabric;
 use crate::pass::Pass;
-use crate::placing::{collect, place_all, places};
+use crate::placing::{all_fit, collect, place_all, places};
 use ca_base::limits::MAX_PASSES;
 use ca_model::Entry;
 
@@ -22,6 +22,7 @@ impl Fabric {
         ensures out { (known_of pass).share < MAX_PASSES → IsPassOut result }
         ensures cause { IfErr result (λ e. IsCauseOf self pass e) }
         ensures history { IfOk result (λ j. IsHistoryOf (settings_in self) (known_of pass) j.items) }
+        ensures lawful { IfOk result (λ j. IsLawful j.items) }
     {
         if pass.parts.share() != MAX_PASSES {
             return Err(CloseError::PassOut(self, pass));
@@ -48,6 +49,7 @@ impl Fabric {
         place_all(&mut entries, &mut slots);
         slots.truncate(clock as usize);
         collect(slots, &mut out);
+        all_fit(out.as_slice());
         Ok(out)
     }
 }

@@ -1,9 +1,11 @@
 ghost use Rattle.std.specs.Prelude.{◌≡◌, ◌<◌, ◌≤◌, ℕ, [], None, Some, is_some, true, length, map, replicate, set, slice_get, vec_capacity, IfOk};
 ghost use Rattle.std.specs.List.{AllByRecursion};
 ghost use Rattle.ca_model.specs.declared.entry.Entry as model;
+ghost use Rattle.ca_model.specs.machine.Sound.{CanBeMade};
 ghost use Rattle.ca_parts.specs.Lists.{Has, times};
 ghost use Rattle.ca_verbs.specs.Closing.{IsFilled, stamps_of};
 
+use ca_adapter::lists_fit;
 use ca_base::Memory;
 use ca_model::Entry;
 use std::alloc::Global;
@@ -58,4 +60,13 @@ pub(crate) fn collect(mut slots: Vec<Option<Entry>>, out: &mut Vec<Entry>)
         out.push_reserved(entry);
     }
     out.reverse();
+}
+
+/// Says of each entry that its event can be made. It does nothing.
+pub(crate) fn all_fit(entries: &[Entry])
+    ensures { AllByRecursion (λ e. CanBeMade e.event) entries.now }
+{
+    for entry in entries {
+        lists_fit(&entry.event);
+    }
 }
