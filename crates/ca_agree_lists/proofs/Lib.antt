@@ -1,0 +1,4 @@
+pub mod HeldLemmas
+pub mod RequestLemmas
+pub mod TurnLemmas
+pub mod PlanLemmas
