@@ -2,7 +2,7 @@
 use Rattle.std.proofs.Common.{◌≡◌, ℕ, suc, Bool, true, false, List, [], ◌∷◌, map, Ok, Err, refl, ap, subst, rules, true≢false}
 use Rattle.std.specs.List.{AllByRecursion}
 use Rattle.ca_agree.proofs.EventFitLemmas.{first-marks}
-use Rattle.ca_agree.proofs.LeadsLemmas.{comes, leads-weaker}
+use Rattle.ca_agree.proofs.LeadsLemmas.{comes}
 use Rattle.ca_agree.proofs.PathVerbLemmas.{call_of}
 use Rattle.ca_agree.specs.Agreement.{HoldsAlong}
 use Rattle.ca_agree.specs.Runs.{Comes, Leads}
@@ -27,9 +27,9 @@ use Rattle.ca_model.specs.declared.event.Event.TheVariants as events
 use Rattle.ca_model.specs.declared.verb.Verb.{Verb}
 use Rattle.ca_model.specs.declared.verb.Verb.TheVariants as verbs
 use Rattle.ca_model.specs.machine.Frame.{Afterwards}
-use Rattle.ca_model.specs.machine.Plan.{Did, NotReady, Outcome, Plan}
+use Rattle.ca_model.specs.machine.Plan.{Did, NotReady, Outcome}
 use Rattle.ca_model.specs.machine.Run.{Follows, Ran, go_on, run_from}
-use Rattle.ca_model.specs.machine.Sound.{AreLimited, CanBeMade, HasFewPieces, IsSoundWorld}
+use Rattle.ca_model.specs.machine.Sound.{AreLimited, CanBeMade, IsSoundWorld}
 use Rattle.ca_model.specs.machine.Step.{plan, step, verb_plan}
 use Rattle.ca_model.specs.machine.VerbAnswers.{Refuse_plan}
 use Rattle.ca_model.specs.machine.World.{World, opening_world}
@@ -113,9 +113,11 @@ opening-lists-agree bytes = record { queues = λ q. record {}; later = λ q n le
 goes : (c : Configuration) (n : ℕ) (es : List EntryValue) (past : Past) (w : World) → AreLimited c → AllByRecursion (λ e. CanBeMade e.event) es → IsSoundWorld c w → HasRoom w → PathsAgree past w → ListsAgree past w
     → run_from c n w (map (λ e. e.event) es) ≡ Ok (map (λ e. e.marks) es) → HoldsAlong ListsAgree c past w es
 goes c n [] past w limited made sound room paths agree follows = agree
-goes c n (e ∷ es) past w limited made sound room paths agree follows =
-    (agree, whole (step c w e.event) (event-lists-agree c past w e.event sound room paths agree) (event-agrees c past w e.event sound paths) (event-sound c e.event w limited sound made.0) (event-room c e.event w sound room made.0) follows
-    (λ v sound room paths agree told. goes c (suc n) es (after_entry e past) v limited made.1 sound room paths agree told))
+goes c n (e ∷ es) past w limited made sound room paths agree follows = (
+  agree,
+  whole (step c w e.event) (event-lists-agree c past w e.event sound room paths agree) (event-agrees c past w e.event sound paths) (event-sound c e.event w limited sound made.0) (event-room c e.event w sound room made.0) follows
+      (λ v sound room paths agree told. goes c (suc n) es (after_entry e past) v limited made.1 sound room paths agree told),
+)
   where
     Rest : Type 0
     Rest = (v : World) → IsSoundWorld c v → HasRoom v → PathsAgree (after_entry e past) v → ListsAgree (after_entry e past) v → run_from c (suc n) v (map (λ e. e.event) es) ≡ Ok (map (λ e. e.marks) es) → HoldsAlong ListsAgree c (after_entry e past) v es

@@ -1,5 +1,5 @@
 -- Turns, timers and packets that arrive keep the agreement on lists. For proofs only.
-use Rattle.std.proofs.Common.{◌≡◌, ℕ, ◌+◌, ◌<◌, ◌&&◌, ◌||◌, nat_lt, ◌==◌, find, Bool, true, false, if◌then◌else◌, List, [], ◌∷◌, ◌++◌, length, Option, None, Some, IfSome, is_some, refl, sym, ap, subst, rules, ◌∙◌, arith, true≢false, Result}
+use Rattle.std.proofs.Common.{◌≡◌, ℕ, ◌+◌, ◌<◌, ◌&&◌, ◌||◌, nat_lt, ◌==◌, find, Bool, true, false, if◌then◌else◌, List, [], ◌∷◌, ◌++◌, length, Option, None, Some, IfSome, is_some, refl, sym, ap, subst, rules, ◌∙◌, arith, true≢false}
 use Rattle.std.proofs.lemmas.Bool.{not-false}
 use Rattle.std.proofs.lemmas.Bool.Decides.{nat_tests}
 use Rattle.std.proofs.lemmas.Option.{same_Some}
@@ -18,52 +18,44 @@ use Rattle.ca_keys.specs.Equal.{queue_eq}
 use Rattle.ca_laws_sound.proofs.SettledLemmas.{queue-refl}
 use Rattle.ca_laws_sound.proofs.WorldLemmas.{EndingDoes}
 use Rattle.ca_model.specs.Packets.{begins_send, is_send, packet_of}
-use Rattle.ca_model.specs.Past.{Past, after_mark, after_marks, at_begin, at_end, bytes_before, envelope_sent, injected_bytes, packet_at, packet_bytes_at, placed_at_end}
+use Rattle.ca_model.specs.Past.{Past, after_mark, after_marks, at_begin, at_end, bytes_before, envelope_sent, injected_bytes, packet_at, placed_at_end}
 use Rattle.ca_model.specs.declared.event.Event.{Event}
 use Rattle.ca_model.specs.declared.event.Event.TheVariants as events
 use Rattle.ca_model.specs.declared.receiving.Receiving.{Receiving}
 use Rattle.ca_model.specs.machine.Arrivals.{next_receive}
 use Rattle.ca_model.specs.machine.Expected.{receiving_of}
 use Rattle.ca_model.specs.machine.Row.{Ending, Does, NotPossible}
-use Rattle.ca_model.specs.machine.Turns.{is_silent}
 use Rattle.ca_packet.specs.Decoding.{packet_in}
 use Rattle.ca_packet.specs.Packet.{Fields}
 use Rattle.std.specs.Option.{option_and_then, option_map, option_map_or}
 use Rattle.ca_agree.proofs.InnerLemmas.{arrival-inner, packet-inner, respond-inner, timeout-inner}
-use Rattle.ca_agree.proofs.LeadsLemmas.{AreAside, IsAsideName, leads-around, leads-queue, leads-row}
+use Rattle.ca_agree.proofs.LeadsLemmas.{AreAside, leads-around, leads-queue, leads-row}
 use Rattle.ca_agree.proofs.PathLemmas.{puts-append}
 use Rattle.ca_agree.specs.Runs.{Leads}
 use Rattle.ca_agree_polls.proofs.FlushedLemmas.{arrival-ends, packet-row-ends, respond-ends, sending-well, timeout-ends}
 use Rattle.ca_agree_polls.proofs.OperationLemmas.{leads-operation, nothing-step, operation-step}
-use Rattle.ca_agree_polls.proofs.SideLemmas.{AreOf, done-behind, goes_to, of-append, own-of, puts-both, puts-none, sent-of}
 use Rattle.ca_agree_polls.proofs.StepLemmas.{IsStep, step-row, takes-none}
-use Rattle.ca_agree_polls.specs.Polls.{IsFlushedInError, sides_of}
 use Rattle.ca_base.specs.Configuration.{Configuration}
 use Rattle.ca_base.specs.declared.correspondent.Correspondent.{Correspondent}
 use Rattle.ca_base.specs.declared.lot.Lot.{Lot}
 use Rattle.ca_base.specs.declared.step.Reason.{Reason}
 use Rattle.ca_base.specs.declared.step.Reason.TheVariants as reasons
-use Rattle.ca_base.specs.objects.CompletionQueue.{after_puts}
 use Rattle.ca_base.specs.objects.Mailbox.{Mailbox, after_delivery, after_send, bytes_lent, is_lost}
-use Rattle.ca_base.specs.objects.QueuePair.{QueuePair, QueueSlot, NoQueue, Present, recv_cq_of, send_cq_of, srq_of}
-use Rattle.ca_base.specs.objects.SharedReceives.{SharedReceives, SrqSlot, after_receive_take}
-use Rattle.ca_keys.specs.Memory.{memory_after}
-use Rattle.ca_keys.specs.Refusals.{AllFail, first_of}
+use Rattle.ca_base.specs.objects.QueuePair.{QueuePair, QueueSlot, NoQueue, Present}
+use Rattle.ca_base.specs.objects.SharedReceives.{SrqSlot}
+use Rattle.ca_keys.specs.Refusals.{first_of}
 use Rattle.ca_keys.specs.declared.names.QueueId.{QueueId}
 use Rattle.ca_keys.specs.declared.names.Slot.{Slot}
-use Rattle.ca_laws_sound.proofs.GoodLemmas.{IsLater}
 use Rattle.ca_laws_sound.proofs.RespondLemmas.{arrival-good, respond-good}
-use Rattle.ca_laws_sound.proofs.SettledLemmas.{slot-path}
-use Rattle.ca_laws_sound.proofs.TakenLemmas.{arrival-takes, none-takes, packet-takes, respond-takes, timeout-takes, wake-takes}
-use Rattle.ca_laws_sound.proofs.TurnLemmas.{packet-good, sending-parts, sends-parts, timeout-good, wake-good}
+use Rattle.ca_laws_sound.proofs.TakenLemmas.{arrival-takes, none-takes, packet-takes, respond-takes, timeout-takes}
+use Rattle.ca_laws_sound.proofs.TurnLemmas.{packet-good, sending-parts, sends-parts, timeout-good}
 use Rattle.ca_laws_sound.proofs.WorldLemmas.{IsSoundShared, IsThere, RowDoes, around_in, is-there, row-does, shared_of, sound-shared}
 use Rattle.ca_model.specs.Past.{with_at}
 use Rattle.ca_model.specs.declared.mark.Mark.{Mark}
 use Rattle.ca_model.specs.declared.mark.Mark.TheVariants as marks
-use Rattle.ca_model.specs.machine.Around.{Around, With_around, With_queue, completions_to, cq_updates, shared_in, updates_of}
+use Rattle.ca_model.specs.machine.Around.{Around, With_around, With_queue, shared_in, updates_of}
 use Rattle.ca_model.specs.machine.Delivery.{Arrive, arrival_row, deliver_plan}
 use Rattle.ca_model.specs.machine.Invariants.{IsSharedReceives, is_sending}
-use Rattle.ca_model.specs.machine.Places.{IsInOrder, TakesInOrder, completions_in}
 use Rattle.ca_model.specs.machine.Plan.{Plan, Stuck, Look, Finish, Update, ◌:=◌, Write, put_all, unless_refused, write_all}
 use Rattle.ca_model.specs.machine.Requester.{Performs, RequestTurn, Sends, Waits, next_request, packet_row, turn_of, turn_refusals}
 use Rattle.ca_model.specs.machine.Respond.{respond_refusals, respond_row}
@@ -71,7 +63,7 @@ use Rattle.ca_model.specs.machine.Row.{Effects, Row, Row_plan}
 use Rattle.ca_model.specs.machine.Sound.{IsQueueOf, IsSoundWorld}
 use Rattle.ca_model.specs.machine.Timers.{after_timeout, after_wake, timeout_refusals, wake_refusals}
 use Rattle.ca_model.specs.machine.Turns.{Fire, Leave_plan, Packet, Request_around, Respond_around, Timeout_around, With_receives, has_room_for, packet_sent, reaches_peer, request_plan, respond_plan, sent_marks, sent_updates, timeout_plan, wake_plan}
-use Rattle.ca_model.specs.machine.World.{World, Name, Domain_of, Region_of, Window_of, Cq_of, Srq_of, Queue_of, Mailbox_of, Byte_at, Thing, put}
+use Rattle.ca_model.specs.machine.World.{World, Queue_of, Mailbox_of, put}
 use Rattle.ca_agree.proofs.MailSentLemmas.{lent-sent}
 
 -- what is known of a queue pair that takes a step, and what it leaves of the message in progress
@@ -231,12 +223,15 @@ lists-timeout c past w name hasten sound agree = leads-there c w P name reasons.
     P = Lists past (events.Timeout name hasten)
 
     step : (q : QueuePair) (silent : Bool) → IsThere w q → is_sending q.state ≡ true → IsHeldStep w None q (after_timeout silent q)
-    step q silent there sends = (record {
-      good = timeout-good q silent there.sound sends;
-      inner = timeout-inner q silent;
-      takes = none-takes (shared_in (around_in w q (shared_of w q))) q (after_timeout silent q) (timeout-takes silent q);
-      flushed = λ f. (timeout-ends silent q (sending-well q.state sends)).flushed;
-    }, timeout-held None (next_of w q) none-sent q silent)
+    step q silent there sends = (
+      record {
+        good = timeout-good q silent there.sound sends;
+        inner = timeout-inner q silent;
+        takes = none-takes (shared_in (around_in w q (shared_of w q))) q (after_timeout silent q) (timeout-takes silent q);
+        flushed = λ f. (timeout-ends silent q (sending-well q.state sends)).flushed;
+      },
+      timeout-held None (next_of w q) none-sent q silent,
+    )
 
     fire : (q : QueuePair) → IsThere w q → (silent : Bool) → Leads w P (Fire hasten q (around_in w q (shared_of w q)) silent)
     fire q there silent = leads-tests w P (timeout_refusals silent hasten q) Stuck
@@ -297,6 +292,40 @@ pub record IsArrival (past r : Past) (q : QueueId) (index : Option ℕ) (o : Opt
   pub dropped : r.at_hand.dropped ≡ false
   pub put : r.at_hand.put_locally ≡ []
   pub packet : packet_at r q index ≡ o
+
+-- The receive of a SEND packet that arrives at a queue pair is the one at its place, and so many bytes of its message were
+-- placed before as the machine counts.
+pub receiving-known : (past r : Past) (w : World) (q : QueuePair) (f : Fields) (x : Receiving) → ListsAgree past w → IsThere w q → r.placed q.queue ≡ past.placed q.queue → receiving_of q (next_of w q) q.responder.message ≡ Some x → begins_send f.opcode ≡ x.taken
+    → (receive_by (past.receives (life_of q.queue (past.incarnation q.queue))) (past.srq q.queue) past.shared x.receive.place ≡ Some x.receive.receive) × (bytes_before r q.queue f ≡ x.before)
+receiving-known past r w q f x agree there placed same starts = by q.responder.message refl same
+  where
+    At : ℕ → Option RecvRequest
+    At = receive_by (past.receives (life_of q.queue (past.incarnation q.queue))) (past.srq q.queue) past.shared
+
+    was : AgreeOnReceiver (past.receives (life_of q.queue (past.incarnation q.queue))) (past.srq q.queue) past.shared (past.placed q.queue) q
+    was = was-there past w q agree there
+
+    Known : Type 0
+    Known = (At x.receive.place ≡ Some x.receive.receive) × (bytes_before r q.queue f ≡ x.before)
+
+    -- a receive of which the packet puts so many bytes behind those that were placed
+    from : (y : Receiving) → y ≡ x → At y.receive.place ≡ Some y.receive.receive → (if y.taken then 0 else r.placed q.queue) ≡ y.before → Known
+    from y is at before = (
+      subst (λ (z : Receiving). At z.receive.place ≡ Some z.receive.receive) is at,
+      ap (λ b. if b then 0 else r.placed q.queue) (starts ∙ ap (λ (z : Receiving). z.taken) (sym is)) ∙ before ∙ ap (λ (z : Receiving). z.before) is,
+    )
+
+    begun : (n : Option PlacedReceive) → next_of w q ≡ n → option_map (λ z. record { receive = z; before = 0; taken = true }) n ≡ Some x → Known
+    begun None found same = absurd (true≢false (sym (ap is_some same)))
+    begun (Some z) found same = from (record { receive = z; before = 0; taken = true }) (same_Some _ x same) (next-known w q _ (past.srq q.queue) past.shared (past.placed q.queue) z was agree.waiting found) refl
+
+    by : (m : Option Message) → q.responder.message ≡ m → receiving_of q (next_of w q) m ≡ Some x → Known
+    by None is same = begun (next_of w q) refl same
+    by (Some (messages.Write key address left count)) is same = begun (next_of w q) refl same
+    by (Some (messages.Send place receive count)) is same = from (record { receive = record { place = place; receive = receive }; before = count; taken = false }) (same_Some _ x same) at.0 (placed ∙ at.1)
+      where
+        at : (At place ≡ Some receive) × (past.placed q.queue ≡ count)
+        at = subst (HoldsOwn At (past.placed q.queue)) is was.message
 
 pub arrived-lists : (past p : Past) (w v : World) (q : QueuePair) (index : Option ℕ) (o : Option Fields) (e : Effects) → ListsAgree past w → IsThere w q → IsHeldStep w o q e → IsArrival past p q.queue index o → HasMoved w q e v
     → ListsAgree (at_end (after_marks e.marks p)) v
@@ -374,36 +403,14 @@ arrived-lists past p w v q index o e agree there step met moved = as-told past r
     At : ℕ → Option RecvRequest
     At = receive_by own srq past.shared
 
-    receiving : (f : Fields) (x : Receiving) (m : Option Message) → q.responder.message ≡ m → receiving_of q (next_of w q) m ≡ Some x → begins_send f.opcode ≡ x.taken → (At x.receive.place ≡ Some x.receive.receive) × (bytes_before r q.queue f ≡ x.before)
-    receiving f x None is same starts = begun (next_of w q) refl same
-      where
-        begun : (n : Option PlacedReceive) → next_of w q ≡ n → option_map (λ z. record { receive = z; before = 0; taken = true }) n ≡ Some x → (At x.receive.place ≡ Some x.receive.receive) × (bytes_before r q.queue f ≡ x.before)
-        begun None found same = absurd (true≢false (sym (ap is_some same)))
-        begun (Some z) found same = (
-          subst (λ (y : Receiving). At y.receive.place ≡ Some y.receive.receive) (same_Some _ x same) (next-known w q own srq past.shared (past.placed q.queue) z was agree.waiting found),
-          ap (λ b. if b then 0 else r.placed q.queue) (starts ∙ ap (λ (y : Receiving). y.taken) (sym (same_Some _ x same))) ∙ ap (λ (y : Receiving). y.before) (same_Some _ x same),
-        )
-    receiving f x (Some (messages.Write key address left count)) is same starts = begun (next_of w q) refl same
-      where
-        begun : (n : Option PlacedReceive) → next_of w q ≡ n → option_map (λ z. record { receive = z; before = 0; taken = true }) n ≡ Some x → (At x.receive.place ≡ Some x.receive.receive) × (bytes_before r q.queue f ≡ x.before)
-        begun None found same = absurd (true≢false (sym (ap is_some same)))
-        begun (Some z) found same = (
-          subst (λ (y : Receiving). At y.receive.place ≡ Some y.receive.receive) (same_Some _ x same) (next-known w q own srq past.shared (past.placed q.queue) z was agree.waiting found),
-          ap (λ b. if b then 0 else r.placed q.queue) (starts ∙ ap (λ (y : Receiving). y.taken) (sym (same_Some _ x same))) ∙ ap (λ (y : Receiving). y.before) (same_Some _ x same),
-        )
-    receiving f x (Some (messages.Send place receive count)) is same starts = (
-      subst (λ (y : Receiving). At y.receive.place ≡ Some y.receive.receive) (same_Some _ x same) at.0,
-      ap (λ b. if b then 0 else r.placed q.queue) (starts ∙ ap (λ (y : Receiving). y.taken) (sym (same_Some _ x same))) ∙ before q.queue ∙ at.1 ∙ ap (λ (y : Receiving). y.before) (same_Some _ x same),
-    )
-      where
-        at : (At place ≡ Some receive) × (past.placed q.queue ≡ count)
-        at = subst (HoldsOwn At (past.placed q.queue)) is was.message
+    known : (f : Fields) (x : Receiving) → receiving_of q (next_of w q) q.responder.message ≡ Some x → begins_send f.opcode ≡ x.taken → (At x.receive.place ≡ Some x.receive.receive) × (bytes_before r q.queue f ≡ x.before)
+    known f x same starts = receiving-known past r w q f x agree there (before q.queue) same starts
 
     message : Held o (next_of w q) q e → HoldsOwn At (placed_at_end r q.queue) e.queue.responder.message
     message (gone none) = lost-holds At (placed_at_end r q.queue) e.queue.responder.message none
     message (kept same puts) = subst (λ n. HoldsOwn At n e.queue.responder.message) (sym (quiet puts)) (subst (HoldsOwn At (past.placed q.queue)) (sym same) was.message)
     message (grows f x is sends receives starts size some stays goes) = subst (HoldsOwn At (placed_at_end r q.queue)) (sym goes)
-        ((receiving f x q.responder.message refl receives starts).0, grown f is sends size some stays ∙ ap (λ n. n + length f.payload) (receiving f x q.responder.message refl receives starts).1)
+        ((known f x receives starts).0, grown f is sends size some stays ∙ ap (λ n. n + length f.payload) (known f x receives starts).1)
 
 -- a packet that arrives, behind changes of nothing that counts here
 pub lists-arrive : (c : Configuration) (past p : Past) (w : World) (P : World → List Mark → Type 0) (q : QueuePair) (bytes : List ℕ) (envelope : Option ℕ) (pre : List Update) (ms : List Mark) → IsSoundWorld c w → ListsAgree past w → IsThere w q → AreBeside pre

@@ -1,51 +1,41 @@
 -- Verbs that make, change and end queue pairs and shared receive queues, and polls, keep the agreement on lists. For proofs
 -- only.
-use Rattle.std.proofs.Common.{◌≡◌, ℕ, suc, zero, ◌+◌, ◌-◌, ◌≤◌, ◌<◌, ◌==◌, ◌&&◌, nat_lt, max, is_some, Bool, true, false, if◌then◌else◌, List, [], ◌∷◌, ◌++◌, length, length-append, length-drop, drop, map, take, Option, None, Some, IfSome, slice_get, refl, sym, ap, subst, ◌∙◌, arith, true≢false, rules}
+use Rattle.std.proofs.Common.{◌≡◌, ℕ, suc, zero, ◌+◌, ◌-◌, ◌≤◌, ◌<◌, ◌==◌, nat_lt, max, is_some, Bool, true, false, if◌then◌else◌, List, [], ◌∷◌, ◌++◌, length, length-append, length-drop, drop, take, Option, None, Some, IfSome, slice_get, refl, sym, ap, subst, ◌∙◌, arith, true≢false}
 use Rattle.std.specs.List.{AllByRecursion}
-use Rattle.std.proofs.lemmas.Bool.Decides.{nat_tests}
-use Rattle.ca_agree.proofs.InnerLemmas.{flush-inner}
-use Rattle.ca_agree_lists.proofs.PlanLemmas.{IsArrival, lists-arrive, was-there}
-use Rattle.ca_agree_lists.proofs.TurnLemmas.{AreStill, KeepsShared, Leaves, Lists, leaves-then, own-still, still-ends, still-leaves}
+use Rattle.ca_agree_lists.proofs.PlanLemmas.{lists-arrive, was-there}
+use Rattle.ca_agree_lists.proofs.TurnLemmas.{AreStill, KeepsShared, Leaves}
 use Rattle.ca_agree_lists.specs.Lists.{AgreeInSlot, AgreeOnLists, AgreeOnReceiver, AgreeOnShared, AreAtPlaces, HasPosted, HoldsOwn, ListsAgree, life_of, receive_by}
 use Rattle.ca_agree_polls.proofs.TurnLemmas.{leads-tests}
-use Rattle.ca_base.specs.declared.queue_numbers.Message.{Message}
-use Rattle.ca_base.specs.declared.correspondent.Correspondent.{Correspondent}
-use Rattle.ca_base.specs.objects.CompletionQueue.{after_puts, CompletionQueue, after_polls, after_reserve, without_completions}
-use Rattle.ca_base.specs.objects.QueuePair.{in_error, with_all_flushed, QueuePair, QueueSlot, NoQueue, Present, recv_cq_of, send_cq_of, srq_of}
-use Rattle.ca_base.specs.objects.StateTable.{modify_refusals, state_eq, is_reset, queue_after_change}
-use Rattle.ca_base.specs.objects.Window.{Binding, Window, after_deallocation, after_draw, byte_drawn}
-use Rattle.ca_base.specs.objects.WorkQueue.{empty_queue, with_all_taken, next_place, with_item, WorkQueue, after_retire}
+use Rattle.ca_base.specs.objects.CompletionQueue.{CompletionQueue, after_polls, after_reserve, without_completions}
+use Rattle.ca_base.specs.objects.QueuePair.{QueuePair, QueueSlot, NoQueue, Present, recv_cq_of, send_cq_of, srq_of}
+use Rattle.ca_base.specs.objects.StateTable.{modify_refusals, queue_after_change}
+use Rattle.ca_base.specs.objects.Window.{Binding, Window, after_deallocation}
+use Rattle.ca_base.specs.objects.WorkQueue.{empty_queue, next_place, WorkQueue, after_retire}
 use Rattle.ca_base.specs.objects.Region.{with_window_unbound}
-use Rattle.ca_keys.specs.Numbers.{key_at, window_index, queue_of}
-use Rattle.ca_keys.specs.declared.key.Key.{Key}
+use Rattle.ca_keys.specs.Numbers.{queue_of}
 use Rattle.ca_laws_sound.proofs.WorldLemmas.{IsThere, around_in, is-there, shared_of}
-use Rattle.ca_base.specs.declared.request.SendOp.{SendOp}
-use Rattle.ca_model.specs.Past.{after_mark, after_marks, at_end, correspondent_eq, present_incarnation, Past, after_change, at_begin, with_at}
-use Rattle.ca_model.specs.declared.answer.Answer.{Answer}
-use Rattle.ca_model.specs.machine.Around.{With_around, completions_to, cq_updates, Around}
+use Rattle.ca_model.specs.Past.{after_mark, Past, at_begin, with_at}
+use Rattle.ca_model.specs.machine.Around.{cq_updates, Around}
 use Rattle.ca_model.specs.machine.Completions.{flush_marks}
-use Rattle.ca_model.specs.machine.PostingVerbs.{Posted_send, after_flush, marks_of_flush, post_recv_refusals, post_send_refusals, with_send, post_recv_plan, post_send_plan, post_srq_plan}
-use Rattle.ca_model.specs.machine.Plan.{If, Look, Stuck, Write, Plan, Update, ◌:=◌, put_all}
+use Rattle.ca_model.specs.machine.PostingVerbs.{post_srq_plan}
+use Rattle.ca_model.specs.machine.Plan.{Look, Plan, Update, ◌:=◌, put_all}
 use Rattle.ca_model.specs.machine.Row.{region_under}
 use Rattle.ca_model.specs.machine.Sound.{IsFinished, IsSettled, IsQueueOf, IsSoundWorld}
 use Rattle.ca_model.specs.machine.VerbAnswers.{of_change_refusals, Answer_plan, Call, Refuse_plan, Unless_plan, answer_mark}
 use Rattle.ca_model.specs.machine.WindowVerbs.{With_binder, queue_updates, dealloc_mw_plan}
-use Rattle.ca_model.specs.machine.World.{World, Name, Domain_of, Region_of, Window_of, Cq_of, Srq_of, Queue_of, Mailbox_of, Byte_at, Thing, get, put}
-use Rattle.ca_packet.specs.Decoding.{packet_in}
+use Rattle.ca_model.specs.machine.World.{World, Name, Domain_of, Region_of, Window_of, Cq_of, Srq_of, Queue_of, Mailbox_of, Byte_at, Thing, put}
 use Rattle.ca_laws_sound.proofs.SettledLemmas.{queue-refl, queue-path, slot-path}
-use Rattle.std.proofs.lemmas.List.{append_assoc, map-append}
 use Rattle.std.specs.Option.{option_eq, option_map}
-use Rattle.ca_agree.proofs.LeadsLemmas.{leads-around, leads-weaker}
+use Rattle.ca_agree.proofs.LeadsLemmas.{leads-around}
 use Rattle.ca_agree.proofs.PathVerbLemmas.{call_of}
 use Rattle.ca_agree.specs.Runs.{Leads}
 use Rattle.ca_agree_polls.proofs.PlanLemmas.{AreFreed, IsFreed, created, leads-create, leads-poll}
-use Rattle.ca_agree_polls.proofs.PostingLemmas.{leads-dealloc, leads-modify, leads-post_recv, leads-post_send, leads-present}
+use Rattle.ca_agree_polls.proofs.PostingLemmas.{leads-present}
 use Rattle.ca_base.specs.Configuration.{Configuration}
 use Rattle.ca_base.specs.declared.completion.Completion.{Completion}
-use Rattle.ca_base.specs.declared.limits.TheConstants.{MAX_MESSAGE_BYTES, MAX_PIECES}
+use Rattle.ca_base.specs.declared.limits.TheConstants.{MAX_MESSAGE_BYTES}
 use Rattle.ca_base.specs.declared.request.PlacedReceive.{PlacedReceive}
 use Rattle.ca_base.specs.declared.request.RecvRequest.{RecvRequest}
-use Rattle.ca_base.specs.declared.request.SendRequest.{SendRequest}
 use Rattle.ca_base.specs.objects.Domain.{with_object, without_object}
 use Rattle.ca_base.specs.objects.Mailbox.{with_peer}
 use Rattle.ca_base.specs.objects.SharedReceives.{SharedReceives, SrqSlot, after_receive_post, after_receive_retire, after_receives_retire, empty_receives, is_full_of_receives}
@@ -54,32 +44,20 @@ use Rattle.ca_keys.specs.declared.names.QueueId.{QueueId}
 use Rattle.ca_keys.specs.declared.names.Slot.{Slot}
 use Rattle.ca_laws_room.proofs.RoomLemmas.{shared-used}
 use Rattle.ca_laws_room.specs.Room.{HasRoom}
-use Rattle.ca_model.specs.Ordered.{place_behind}
-use Rattle.ca_model.specs.Requests.{list_length, list_of}
-use Rattle.ca_model.specs.declared.answer.Refusal.{Refusal}
-use Rattle.ca_model.specs.declared.answer.Refusal.TheVariants.{NoDomain, NoSuch, OutOfRange, QueueFull, SlotTaken, SrqInUse, TooLong, WindowsBound}
+use Rattle.ca_model.specs.Requests.{list_length}
+use Rattle.ca_model.specs.declared.answer.Refusal.TheVariants.{NoSuch, QueueFull, TooLong, WindowsBound}
 use Rattle.ca_model.specs.declared.mark.Mark.{Mark}
-use Rattle.ca_model.specs.declared.verb.Verb.{Verb}
 use Rattle.ca_model.specs.machine.CompletionVerbs.{after_poll, create_srq_plan, destroy_srq_plan, poll_plan, receives_after_poll, slot_after_poll, source_of_completion}
 use Rattle.ca_model.specs.machine.Delivery.{Arrive}
 use Rattle.ca_model.specs.machine.HostVerbs.{inject_plan}
-use Rattle.ca_model.specs.machine.Places.{Ascend, first_held, places_in_use}
 use Rattle.ca_model.specs.machine.QueuePairVerbs.{Creation, before_receives, beside, create_qp_plan, destroy_qp_plan, emptied_mailbox, emptied_updates, left_updates, modify_qp_plan, new_queue, places_held, receive_reserve, receive_room, send_reserved, without_queue}
 use Rattle.ca_base.specs.declared.change.Change as state_change
 use Rattle.ca_base.specs.declared.change.Change.TheVariants as changes
-use Rattle.ca_base.specs.declared.change.Field.TheVariants as fields
-use Rattle.ca_base.specs.declared.change.State.TheVariants as states
-use Rattle.ca_base.specs.declared.queue_numbers.Message.TheVariants as messages
-use Rattle.ca_base.specs.declared.request.SendOp.TheVariants as ops
 use Rattle.ca_model.specs.declared.answer.Answer.TheVariants as answers
 use Rattle.ca_model.specs.declared.event.Event.TheVariants as events
 use Rattle.ca_model.specs.declared.mark.Mark.TheVariants as marks
 use Rattle.ca_model.specs.declared.verb.Verb.TheVariants as verbs
 use Rattle.ca_agree_lists.proofs.VerbLemmas.{KeepsSlot, KeepsSlots, ListsBy, all-posted, answered-lists, flush-still, holds-more, kept-agree, put-keeps, same-keeps, slice-last, slice-more, there-keeps}
-use Rattle.ca_base.specs.objects.QueuePair.{after_reset}
-use Rattle.ca_base.specs.objects.Mailbox.{Mailbox}
-use Rattle.ca_model.specs.Past.{packet_bytes_at}
-use Rattle.ca_model.specs.Packets.{packet_of}
 use Rattle.ca_model.specs.machine.Invariants.{IsReceives}
 use Rattle.ca_base.specs.objects.Window.{key_of_window}
 
@@ -105,8 +83,14 @@ retired-waits [] s = (refl, refl)
 retired-waits (p ∷ ps) s = retired-waits ps (after_receive_retire p s)
 
 pub lists-destroy_srq : (past : Past) (w : World) (by : ℕ) (s : Slot) → ListsAgree past w → Leads w (ListsBy past by (verbs.DestroySrq s)) (destroy_srq_plan (call_of by (verbs.DestroySrq s)) s)
-lists-destroy_srq past w by s agree = (λ is. agree, λ there. (λ is. agree, λ free. kept-agree past w (put_all ((Domain_of s.domain := without_object (w.domain s.domain)) ∷ (Srq_of s := record (w.srq s) { srq = None }) ∷ []) w) agree
-    (λ n own srq shared placed was. was) (λ t posted was. at t posted (slot_eq s t) was)))
+lists-destroy_srq past w by s agree = (
+  λ is. agree,
+  λ there. (
+    λ is. agree,
+    λ free. kept-agree past w (put_all ((Domain_of s.domain := without_object (w.domain s.domain)) ∷ (Srq_of s := record (w.srq s) { srq = None }) ∷ []) w) agree
+        (λ n own srq shared placed was. was) (λ t posted was. at t posted (slot_eq s t) was),
+  ),
+)
   where
     at : (t : Slot) (posted : List RecvRequest) (b : Bool) → AgreeOnShared posted (w.srq t) → AgreeOnShared posted (if b then record (w.srq s) { srq = None } else w.srq t)
     at t posted true was = record {}
@@ -126,12 +110,21 @@ shared-changed own srq f g placed (Present q) more was = record { source = was.s
 
 pub lists-create_srq : (past : Past) (w : World) (by : ℕ) (s : Slot) (depth : ℕ) → HasRoom w → ListsAgree past w
     → Leads w (ListsBy past by (verbs.CreateSrq s depth)) (create_srq_plan (call_of by (verbs.CreateSrq s depth)) s depth)
-lists-create_srq past w by s depth room agree = (λ is. agree, λ there. (λ is. agree, λ free. (λ is. agree, λ fits. record {
-  queues = λ n. shared-changed (past.receives (life_of n (past.incarnation n))) (past.srq n) past.shared (with_at slot_eq past.shared s []) (past.placed n) (w.queue n)
-      (λ q t is uses place x had. unused n q t is uses free (slot_eq s (srq_of q t)) refl place x had) (agree.queues n);
-  later = agree.later;
-  waiting = λ t. at t (slot_eq s t);
-})))
+lists-create_srq past w by s depth room agree = (
+  λ is. agree,
+  λ there. (
+    λ is. agree,
+    λ free. (
+      λ is. agree,
+      λ fits. record {
+        queues = λ n. shared-changed (past.receives (life_of n (past.incarnation n))) (past.srq n) past.shared (with_at slot_eq past.shared s []) (past.placed n) (w.queue n)
+            (λ q t is uses place x had. unused n q t is uses free (slot_eq s (srq_of q t)) refl place x had) (agree.queues n);
+        later = agree.later;
+        waiting = λ t. at t (slot_eq s t);
+      },
+    ),
+  ),
+)
   where
     unused : (n : QueueId) (q : QueuePair) (t : ℕ) → w.queue n ≡ Present q → q.srq ≡ Some t → is_some (w.srq s).srq ≡ false → (b : Bool) → slot_eq s (srq_of q t) ≡ b → (place : ℕ) (x : RecvRequest) → slice_get (past.shared (srq_of q t)) place ≡ Some x
         → slice_get (if b then [] else past.shared (srq_of q t)) place ≡ Some x
@@ -173,8 +166,10 @@ lists-post_srq past w by s request agree = on (w.srq s).srq refl
       where
         more : (z.next ≡ length (past.shared s)) × AreAtPlaces (past.shared s) z.waiting
             → (suc z.next ≡ length (past.shared s ++ request ∷ [])) × AreAtPlaces (past.shared s ++ request ∷ []) (z.waiting ++ record { place = z.next; receive = request } ∷ [])
-        more was = (omega (arith, was.0, length-append (past.shared s) (request ∷ [])),
-            subst (λ n. AreAtPlaces (past.shared s ++ request ∷ []) (z.waiting ++ record { place = n; receive = request } ∷ [])) (sym was.0) (places-more (past.shared s) request z.waiting was.1))
+        more was = (
+          omega (arith, was.0, length-append (past.shared s) (request ∷ [])),
+          subst (λ n. AreAtPlaces (past.shared s ++ request ∷ []) (z.waiting ++ record { place = n; receive = request } ∷ [])) (sym was.0) (places-more (past.shared s) request z.waiting was.1),
+        )
     at z is t false = agree.waiting t
 
     posted : (z : SharedReceives) → (w.srq s).srq ≡ Some z → P (put_all ((Srq_of s := record (w.srq s) { srq = Some (after_receive_post request z) }) ∷ []) w) (answer_mark call (answers.Posted None) ∷ [])
@@ -205,11 +200,6 @@ new-life past w place x srqs placed srq agree keeps others own = record { queues
     later : (n : QueueId) (i : ℕ) (b : Bool) → queue_eq place n ≡ b → (if b then suc (past.incarnation place) else past.incarnation n) < i → past.receives (life_of n i) ≡ []
     later n i true e less = agree.later n i (omega (arith, less, ap past.incarnation (queue-path place n e)))
     later n i false e less = agree.later n i less
-
--- nothing was posted to it yet
-fresh-posted : (o : Option ℕ) → IfSome o (λ depth. HasPosted [] (record { depth = depth; first = 0; items = []; next_taken = 0 }))
-fresh-posted None = record {}
-fresh-posted (Some depth) = record { count = refl; items = refl }
 
 -- ---- CreateQp
 
@@ -245,8 +235,8 @@ made-lists past w by x send recv shared agree = users x.srq
     source : Option Slot
     source = option_map (λ srq. record { domain = x.slot.domain; slot = srq }) x.srq
 
-    receives : (o : Option ℕ) → q.srq ≡ o → IfSome q.receives (HasPosted [])
-    receives o is = posted x.srq
+    receives : IfSome q.receives (HasPosted [])
+    receives = posted x.srq
       where
         queue : Option ℕ → Option (WorkQueue RecvRequest)
         queue None = Some (record { depth = x.recv_depth; first = 0; items = []; next_taken = 0 })
@@ -260,7 +250,7 @@ made-lists past w by x send recv shared agree = users x.srq
         (with_at queue_eq w.queue place (Present q)) srq
     life srq keeps = new-life past w place q (with_at queue_eq past.srq place source) (with_at queue_eq past.placed place 0) srq agree keeps
         (λ n e. (ap (λ b. if b then source else past.srq n) e, ap (λ b. if b then 0 else past.placed n) e))
-        (record { source = ap (λ b. if b then source else past.srq place) (queue-refl place); posted = receives q.srq refl; message = record {} })
+        (record { source = ap (λ b. if b then source else past.srq place) (queue-refl place); posted = receives; message = record {} })
 
     users : (o : Option ℕ) → P (put_all (updates o (option_map (λ srq. w.srq (beside x.slot srq)) o)) v)
     users None = life w.srq (λ t posted was. was)

@@ -1,10 +1,9 @@
 -- What the rows of requests that arrive leave of the message in progress; a SEND packet puts its bytes into the list of its
 -- receive. For proofs only.
-use Rattle.std.proofs.Common.{Bool, List, None, Option, Some, [], ap, append-nil, append_assoc, arith, false, filter, if◌then◌else◌, is_none, is_some, length, length-append, length-drop, length-take, map, min, nat_le, nat_lt, not, option_map, refl, slice_get, subst, suc, sym, take, drop, true, true≢false, ℕ, ◌&&◌, ◌||◌, ◌++◌, ◌+◌, ◌-◌, ◌==◌, ◌≤◌, ◌<◌, ◌∙◌, ◌∷◌, ◌≡◌, Result, Ok, Err}
+use Rattle.std.proofs.Common.{Bool, List, None, Option, Some, [], ap, append_assoc, arith, false, if◌then◌else◌, is_none, is_some, length, length-append, length-drop, length-take, map, min, nat_le, nat_lt, not, option_map, refl, sym, take, drop, true, true≢false, ℕ, ◌&&◌, ◌||◌, ◌++◌, ◌+◌, ◌-◌, ◌==◌, ◌≤◌, ◌<◌, ◌∙◌, ◌∷◌, ◌≡◌, Result, Ok, Err}
 use Rattle.std.proofs.lemmas.Bool.{not-false, or_parts}
 use Rattle.std.proofs.lemmas.Bool.Decides.{nat_tests}
 use Rattle.std.proofs.lemmas.List.Sums.{sum_by-cons}
-use Rattle.std.specs.List.{flat_map, sum_by}
 use Rattle.ca_base.specs.declared.request.Piece.{Piece}
 use Rattle.ca_base.specs.objects.SharedReceives.{SharedReceives}
 use Rattle.ca_base.specs.objects.StateTable.{is_path_mtu}
@@ -14,22 +13,16 @@ use Rattle.ca_keys.specs.declared.access.Kind.{Kind}
 use Rattle.ca_keys.specs.declared.access.Kind.TheVariants as kinds
 use Rattle.ca_keys.specs.declared.names.DomainId.{DomainId}
 use Rattle.ca_keys.specs.declared.names.QueueId.{QueueId}
-use Rattle.ca_keys.specs.declared.verdict.Verdict.TheVariants as verdicts
 use Rattle.ca_laws_sound.proofs.ExpectedLemmas.{valid-goes}
 use Rattle.ca_model.specs.Packets.{begins_send, is_response, is_send, is_send_at}
-use Rattle.ca_model.specs.Past.{bytes_written, or_none}
-use Rattle.ca_model.specs.declared.read_left.ReadLeft.{ReadLeft}
 use Rattle.ca_model.specs.declared.write_reach.WriteReach.{WriteReach}
 use Rattle.ca_model.specs.machine.Arrivals.{next_receive}
 use Rattle.ca_model.specs.machine.Delivery.{arrival_drops, arrival_row, packet_arrived}
 use Rattle.ca_model.specs.machine.Duplicates.{request_row}
-use Rattle.ca_model.specs.machine.Expected.{atomic_row, continues, expected_row, fits_payload, fits_position, fits_write, has_no_place, is_invalid, is_misaligned, message_left, read_queued, takes_receive, write_reach, write_row}
+use Rattle.ca_model.specs.machine.Expected.{atomic_row, continues, fits_payload, fits_position, fits_write, has_no_place, is_invalid, is_misaligned, message_left, read_queued, takes_receive, write_reach, write_row}
 use Rattle.ca_model.specs.machine.Invariants.{IsQueue}
 use Rattle.ca_model.specs.machine.Numbering.{cut_list, list_asks, piece_ask, piece_part}
-use Rattle.ca_model.specs.machine.Respond.{answer_turn, is_last_response, respond_refusals, respond_row, rest_of, with_front, without_front}
 use Rattle.ca_model.specs.machine.Row.{Ending}
-use Rattle.ca_model.specs.machine.Timers.{after_wake}
-use Rattle.ca_base.specs.declared.step.Reason.{Reason}
 use Rattle.ca_packet.specs.Decoding.{packet_in}
 use Rattle.ca_packet.specs.Packet.{Fields}
 use Rattle.ca_packet.specs.Shapes.{begins}
@@ -42,65 +35,44 @@ use Rattle.ca_packet.specs.declared.atomic_eth.AtomicEth.{AtomicEth}
 use Rattle.ca_packet.specs.declared.shape.Position.TheVariants.{First, Middle, Last, Only}
 use Rattle.ca_packet.specs.declared.wire_error.WireError.{WireError}
 use Rattle.ca_psn.specs.Psn.{widened}
-use Rattle.std.specs.List.{AllByRecursion}
 use Rattle.std.specs.Result.{result_ok}
-use Rattle.std.specs.Option.{option_and_then, option_map_or}
-use Rattle.ca_agree_keys.proofs.KeyTurnLemmas.{found}
+use Rattle.std.specs.Option.{option_map_or}
 use Rattle.ca_base.specs.Sight.{Invalidation}
-use Rattle.ca_base.specs.declared.completion.WcStatus.{WcStatus}
-use Rattle.ca_base.specs.declared.completion.WcStatus.TheVariants.{BadResponse, LocalLength, LocalProtection, MemoryManagement, RetryExceeded, RnrRetryExceeded, Success}
-use Rattle.ca_base.specs.declared.denied_ask.DeniedAsk.{DeniedAsk}
-use Rattle.ca_base.specs.declared.limits.TheConstants.{MAX_DUPLICATES, MAX_RETRY}
+use Rattle.ca_base.specs.declared.completion.WcStatus.TheVariants.{LocalLength, LocalProtection, MemoryManagement, Success}
+use Rattle.ca_base.specs.declared.limits.TheConstants.{MAX_DUPLICATES}
 use Rattle.ca_base.specs.declared.queue_numbers.Message.{Message}
-use Rattle.ca_base.specs.declared.queue_numbers.Queued.{Queued}
-use Rattle.ca_base.specs.declared.queue_numbers.ResponderNumbers.{ResponderNumbers}
 use Rattle.ca_base.specs.declared.refusals.OpRefusal.{OpRefusal}
 use Rattle.ca_base.specs.declared.request.PlacedReceive.{PlacedReceive}
-use Rattle.ca_base.specs.objects.Answers.{answers_before, duplicate_count, is_ack, psn_of_answer, with_ack_at_end}
-use Rattle.ca_base.specs.objects.LocalRequest.{LocalMarks}
+use Rattle.ca_base.specs.objects.Answers.{duplicate_count}
 use Rattle.ca_base.specs.objects.QueuePair.{QueuePair}
 use Rattle.ca_base.specs.objects.Saved.{saved_at}
-use Rattle.ca_base.specs.objects.StateTable.{is_among}
 use Rattle.ca_keys.specs.declared.access.Ask.{Ask}
-use Rattle.ca_keys.specs.declared.grant.Grant.{Grant}
 use Rattle.ca_keys.specs.declared.key.Key.{Key}
 use Rattle.ca_laws_sound.proofs.WorldLemmas.{EndingDoes, RowDoes}
-use Rattle.ca_model.specs.Past.{LatestWrite, ReadRequest, at_end}
 use Rattle.ca_model.specs.Requests.{list_length, segments}
 use Rattle.ca_model.specs.declared.mark.Drop1.{Drop1}
 use Rattle.ca_model.specs.declared.mark.Mark.{Mark}
 use Rattle.ca_model.specs.declared.receiving.Receiving.{Receiving}
-use Rattle.ca_model.specs.machine.Acknowledgements.{Acknowledgement, acknowledgement_below, and_then, failure_effects, first_unanswered, one_retry, progress_to, with_cursor, with_requester, with_una}
 use Rattle.ca_model.specs.machine.Arrivals.{refusal_effects, with_answer, with_flag, with_message, with_receive_taken}
-use Rattle.ca_model.specs.machine.Completions.{receive_mark, success_marks}
+use Rattle.ca_model.specs.machine.Completions.{receive_mark}
 use Rattle.ca_model.specs.machine.Duplicates.{ack_again, ahead_effects, answer_again, atomic_again, duplicate_effects, read_again}
-use Rattle.ca_model.specs.machine.Expected.{after_send_packet, behind_marks, invalidation_of, queue_after_packet, receive_asks, receive_failure_effects, receiving_of, revoked_marks, rnr_effects, send_row, valid_row, with_shared_receive, with_window_gone}
-use Rattle.ca_model.specs.machine.LocalOperations.{invalidate_row, local_marks, operation_effects}
-use Rattle.ca_model.specs.machine.Numbering.{Numbered, begun_requests, request_at}
-use Rattle.ca_model.specs.machine.Requester.{denied_list_effects, is_outstanding, is_too_much, local_denial, local_reads, packet_asks, packet_row, sent_packet}
-use Rattle.ca_model.specs.machine.Responses.{acknowledge_row, answer_asks, answer_bytes, answer_row, drop_effects, fits_request, fitting_row, is_outstanding_at, local_writes, nak_effects, outstanding_row, response_psn, response_row, rnr_nak_effects, unless_back, writes_by}
+use Rattle.ca_model.specs.machine.Expected.{after_send_packet, behind_marks, invalidation_of, queue_after_packet, receive_asks, receive_failure_effects, receiving_of, revoked_marks, send_row, valid_row, with_shared_receive, with_window_gone}
+use Rattle.ca_model.specs.machine.Requester.{local_denial}
+use Rattle.ca_model.specs.machine.Responses.{drop_effects, local_writes, writes_by}
 use Rattle.ca_model.specs.machine.Row.{Does, Effects, NotPossible, Row, plain_row, queue_and_marks}
-use Rattle.ca_model.specs.machine.Timers.{after_timeout}
-use Rattle.ca_packet.specs.Packet.{Fields, plain}
+use Rattle.ca_packet.specs.Packet.{Fields}
 use Rattle.ca_packet.specs.Shapes.{ends}
-use Rattle.ca_packet.specs.declared.opcode.TheConstants.{ACKNOWLEDGE}
 use Rattle.ca_packet.specs.declared.reth.Reth.{Reth}
 use Rattle.ca_packet.specs.declared.shape.Position.{Position}
 use Rattle.ca_packet.specs.declared.shape.Shape.{Shape}
-use Rattle.ca_wire.specs.Syndrome.{nak_code, syndrome_in}
-use Rattle.ca_wire.specs.declared.syndrome.NakCode.{NakCode}
-use Rattle.ca_wire.specs.declared.syndrome.NakCode.TheVariants.{InvalidRequest, PsnSequenceError, RemoteAccessError, RemoteOperationalError}
-use Rattle.ca_wire.specs.declared.syndrome.Syndrome.{Syndrome}
-use Rattle.ca_wire.specs.declared.syndrome.Syndrome.TheVariants.{Ack, Nak, RnrNak}
+use Rattle.ca_wire.specs.Syndrome.{nak_code}
+use Rattle.ca_wire.specs.declared.syndrome.NakCode.TheVariants.{InvalidRequest, PsnSequenceError, RemoteOperationalError}
 use Rattle.ca_model.specs.declared.mark.Drop1.TheVariants as drops
-use Rattle.ca_model.specs.declared.mark.Mark.TheVariants as marks
 use Rattle.ca_base.specs.declared.queue_numbers.Message.TheVariants as messages
 use Rattle.ca_base.specs.declared.completion.WcOp.TheVariants as operations
 use Rattle.ca_base.specs.declared.queue_numbers.Queued.TheVariants as queued
-use Rattle.ca_base.specs.declared.step.Reason.TheVariants as reasons
 use Rattle.ca_packet.specs.declared.shape.Shape.TheVariants as shapes
-use Rattle.ca_base.specs.declared.change.State.TheVariants as states
-use Rattle.ca_agree_lists.proofs.HeldLemmas.{Held, IsLess, IsNoSend, drops_in, gone, grows, held, keeps, kept, loses, plainly, put_by, puts_in, response-held}
+use Rattle.ca_agree_lists.proofs.HeldLemmas.{Held, drops_in, gone, grows, held, keeps, kept, plainly, put_by, puts_in, response-held}
 
 cond-does : (E : Effects → Type 0) (b : Bool) (x y : Row) → (b ≡ true → RowDoes E x) → (b ≡ false → RowDoes E y) → RowDoes E (if b then x else y)
 cond-does E true x y one other = one refl

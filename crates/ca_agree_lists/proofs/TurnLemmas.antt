@@ -1,11 +1,11 @@
 -- What marks leave of what is told of lists, and how a queue pair that goes on keeps the agreement on them. For proofs
 -- only.
-use Rattle.std.proofs.Common.{◌≡◌, ℕ, suc, zero, ◌+◌, ◌-◌, ◌≤◌, ◌<◌, ◌&&◌, ◌||◌, nat_lt, Bool, true, false, if◌then◌else◌, List, [], ◌∷◌, ◌++◌, append-nil, append_assoc, drop, length, slice_get, Option, None, Some, IfSome, is_none, is_some, refl, sym, ap, subst, ◌∙◌, arith, true≢false}
+use Rattle.std.proofs.Common.{◌≡◌, ℕ, suc, zero, ◌+◌, ◌-◌, ◌≤◌, ◌&&◌, ◌||◌, nat_lt, Bool, true, false, if◌then◌else◌, List, [], ◌∷◌, ◌++◌, append-nil, append_assoc, drop, length, slice_get, Option, None, Some, IfSome, is_some, refl, sym, ap, subst, ◌∙◌, arith, true≢false}
 use Rattle.std.proofs.lemmas.Bool.Decides.{nat_tests}
 use Rattle.std.proofs.lemmas.Option.{same_Some}
 use Rattle.std.specs.Option.{option_and_then, option_map, option_map_or}
 use Rattle.ca_agree.proofs.InnerLemmas.{AreOwn, IsOwnMark}
-use Rattle.ca_agree_lists.proofs.HeldLemmas.{Held, drops_by, drops_in, gone, grows, kept, put_by, puts_in}
+use Rattle.ca_agree_lists.proofs.HeldLemmas.{drops_by, drops_in, put_by, puts_in}
 use Rattle.ca_agree_lists.specs.Lists.{AgreeInSlot, AgreeOnLists, AgreeOnReceiver, AgreeOnShared, AreAtPlaces, HasPosted, HoldsOwn, ListsAgree, life_of, receive_by}
 use Rattle.ca_agree_polls.proofs.StepLemmas.{IsStep}
 use Rattle.ca_agree_polls.proofs.TurnLemmas.{with_taken}
@@ -13,24 +13,22 @@ use Rattle.ca_base.specs.declared.queue_numbers.Message.{Message}
 use Rattle.ca_base.specs.declared.queue_numbers.Message.TheVariants as messages
 use Rattle.ca_base.specs.declared.request.PlacedReceive.{PlacedReceive}
 use Rattle.ca_base.specs.declared.request.RecvRequest.{RecvRequest}
-use Rattle.ca_base.specs.objects.QueuePair.{QueuePair, QueueSlot, NoQueue, Present, receive_in_use, srq_of}
+use Rattle.ca_base.specs.objects.QueuePair.{QueuePair, Present, receive_in_use, srq_of}
 use Rattle.ca_base.specs.objects.SharedReceives.{SharedReceives, SrqSlot, after_receive_take, first_receive}
-use Rattle.ca_base.specs.objects.WorkQueue.{WorkQueue, item_at, next_place}
+use Rattle.ca_base.specs.objects.WorkQueue.{WorkQueue, item_at}
 use Rattle.ca_keys.specs.Equal.{queue_eq}
 use Rattle.ca_keys.specs.declared.names.DomainId.{DomainId}
 use Rattle.ca_keys.specs.declared.names.QueueId.{QueueId}
 use Rattle.ca_keys.specs.declared.names.Slot.{Slot}
 use Rattle.ca_laws_sound.proofs.SettledLemmas.{queue-path, queue-refl}
-use Rattle.ca_laws_sound.proofs.WorldLemmas.{IsThere, around_in, shared_of}
-use Rattle.ca_model.specs.Packets.{begins_send, is_send}
-use Rattle.ca_model.specs.Past.{Arrival, Envelope, Past, after_mark, after_marks, arrived_at_hand, at_begin, at_end, bytes_before, bytes_written, or_none, packet_at, placed_at_end, with_at}
+use Rattle.ca_laws_sound.proofs.WorldLemmas.{around_in, shared_of}
+use Rattle.ca_model.specs.Packets.{is_send}
+use Rattle.ca_model.specs.Past.{Arrival, Past, after_mark, after_marks, arrived_at_hand, at_begin, at_end, bytes_before, bytes_written, or_none, packet_at, placed_at_end, with_at}
 use Rattle.ca_model.specs.declared.event.Event.{Event}
 use Rattle.ca_model.specs.declared.mark.Mark.{Mark}
 use Rattle.ca_model.specs.declared.mark.Mark.TheVariants as marks
-use Rattle.ca_model.specs.declared.receiving.Receiving.{Receiving}
 use Rattle.ca_model.specs.machine.Around.{shared_in}
 use Rattle.ca_model.specs.machine.Arrivals.{next_receive}
-use Rattle.ca_model.specs.machine.Expected.{receiving_of}
 use Rattle.ca_model.specs.machine.Places.{AreTakenInOrder}
 use Rattle.ca_model.specs.machine.Row.{Effects}
 use Rattle.ca_model.specs.machine.World.{World}

@@ -1,78 +1,51 @@
 -- Verbs keep the agreement on lists. For proofs only.
-use Rattle.std.proofs.Common.{◌≡◌, ℕ, suc, zero, ◌+◌, ◌-◌, ◌≤◌, ◌<◌, ◌==◌, ◌&&◌, nat_lt, max, is_some, Bool, true, false, if◌then◌else◌, List, [], ◌∷◌, ◌++◌, length, length-append, length-drop, drop, map, take, Option, None, Some, IfSome, slice_get, refl, sym, ap, subst, ◌∙◌, arith, true≢false, rules}
-use Rattle.std.specs.List.{AllByRecursion}
+use Rattle.std.proofs.Common.{◌≡◌, ℕ, suc, zero, ◌≤◌, ◌<◌, ◌==◌, ◌&&◌, is_some, Bool, true, false, if◌then◌else◌, List, [], ◌∷◌, ◌++◌, length, length-append, drop, Option, None, Some, IfSome, slice_get, refl, sym, ap, subst, ◌∙◌, arith, true≢false}
 use Rattle.std.proofs.lemmas.Bool.Decides.{nat_tests}
 use Rattle.ca_agree.proofs.InnerLemmas.{flush-inner}
-use Rattle.ca_agree_lists.proofs.PlanLemmas.{IsArrival, lists-arrive, was-there}
+use Rattle.ca_agree_lists.proofs.PlanLemmas.{was-there}
 use Rattle.ca_agree_lists.proofs.TurnLemmas.{AreStill, KeepsShared, Leaves, Lists, leaves-then, own-still, still-ends, still-leaves}
-use Rattle.ca_agree_lists.specs.Lists.{AgreeInSlot, AgreeOnLists, AgreeOnReceiver, AgreeOnShared, AreAtPlaces, HasPosted, HoldsOwn, ListsAgree, life_of, receive_by}
+use Rattle.ca_agree_lists.specs.Lists.{AgreeInSlot, AgreeOnLists, AgreeOnReceiver, HasPosted, HoldsOwn, ListsAgree, life_of, receive_by}
 use Rattle.ca_agree_polls.proofs.TurnLemmas.{leads-tests}
 use Rattle.ca_base.specs.declared.queue_numbers.Message.{Message}
 use Rattle.ca_base.specs.declared.correspondent.Correspondent.{Correspondent}
-use Rattle.ca_base.specs.objects.CompletionQueue.{after_puts, CompletionQueue, after_polls, after_reserve, without_completions}
-use Rattle.ca_base.specs.objects.QueuePair.{in_error, with_all_flushed, QueuePair, QueueSlot, NoQueue, Present, recv_cq_of, send_cq_of, srq_of}
-use Rattle.ca_base.specs.objects.StateTable.{modify_refusals, state_eq, is_reset, queue_after_change}
-use Rattle.ca_base.specs.objects.Window.{Binding, Window, after_deallocation, after_draw, byte_drawn}
-use Rattle.ca_base.specs.objects.WorkQueue.{with_all_taken, next_place, with_item, WorkQueue, after_retire}
-use Rattle.ca_base.specs.objects.Region.{with_window_unbound}
+use Rattle.ca_base.specs.objects.CompletionQueue.{after_puts}
+use Rattle.ca_base.specs.objects.QueuePair.{with_all_flushed, QueuePair, QueueSlot, Present, recv_cq_of, send_cq_of}
+use Rattle.ca_base.specs.objects.StateTable.{state_eq}
+use Rattle.ca_base.specs.objects.Window.{Window, after_draw, byte_drawn}
+use Rattle.ca_base.specs.objects.WorkQueue.{with_all_taken, with_item, WorkQueue}
 use Rattle.ca_keys.specs.Numbers.{key_at, window_index, queue_of}
-use Rattle.ca_keys.specs.declared.key.Key.{Key}
-use Rattle.ca_laws_sound.proofs.WorldLemmas.{IsThere, around_in, is-there, shared_of}
+use Rattle.ca_laws_sound.proofs.WorldLemmas.{IsThere}
 use Rattle.ca_base.specs.declared.request.SendOp.{SendOp}
-use Rattle.ca_model.specs.Past.{after_mark, after_marks, at_end, correspondent_eq, present_incarnation, Past, after_change, at_begin, with_at}
+use Rattle.ca_model.specs.Past.{after_mark, after_marks, correspondent_eq, Past, at_begin, with_at}
 use Rattle.ca_model.specs.declared.answer.Answer.{Answer}
-use Rattle.ca_model.specs.machine.Around.{With_around, completions_to, cq_updates, Around}
+use Rattle.ca_model.specs.machine.Around.{completions_to}
 use Rattle.ca_model.specs.machine.Completions.{flush_marks}
-use Rattle.ca_model.specs.machine.PostingVerbs.{Posted_send, after_flush, marks_of_flush, post_recv_refusals, post_send_refusals, with_send, post_recv_plan, post_send_plan, post_srq_plan}
-use Rattle.ca_model.specs.machine.Plan.{If, Look, Stuck, Write, Plan, Update, ◌:=◌, put_all}
-use Rattle.ca_model.specs.machine.Row.{region_under}
-use Rattle.ca_model.specs.machine.Sound.{IsFinished, IsSettled, IsQueueOf, IsSoundWorld}
-use Rattle.ca_model.specs.machine.VerbAnswers.{of_change_refusals, Answer_plan, Call, Refuse_plan, Unless_plan, answer_mark}
-use Rattle.ca_model.specs.machine.WindowVerbs.{With_binder, queue_updates, dealloc_mw_plan}
-use Rattle.ca_model.specs.machine.World.{World, Name, Domain_of, Region_of, Window_of, Cq_of, Srq_of, Queue_of, Mailbox_of, Byte_at, Thing, get, put}
-use Rattle.ca_packet.specs.Decoding.{packet_in}
-use Rattle.ca_laws_sound.proofs.SettledLemmas.{queue-refl, queue-path, slot-path}
-use Rattle.std.proofs.lemmas.List.{append_assoc, map-append}
-use Rattle.std.specs.Option.{option_eq, option_map}
-use Rattle.ca_agree.proofs.LeadsLemmas.{leads-around, leads-weaker}
+use Rattle.ca_model.specs.machine.PostingVerbs.{Posted_send, after_flush, marks_of_flush, post_recv_refusals, post_send_refusals, with_send, post_recv_plan, post_send_plan}
+use Rattle.ca_model.specs.machine.Plan.{Look, Plan, Update, ◌:=◌, put_all}
+use Rattle.ca_model.specs.machine.Sound.{IsSoundWorld}
+use Rattle.ca_model.specs.machine.VerbAnswers.{Answer_plan, Call, Refuse_plan, Unless_plan, answer_mark}
+use Rattle.ca_model.specs.machine.World.{World, Window_of, Cq_of, Queue_of}
+use Rattle.ca_laws_sound.proofs.SettledLemmas.{queue-refl, queue-path}
+use Rattle.std.specs.Option.{option_map}
 use Rattle.ca_agree.proofs.PathVerbLemmas.{call_of}
 use Rattle.ca_agree.specs.Runs.{Leads}
-use Rattle.ca_agree_polls.proofs.PlanLemmas.{AreFreed, IsFreed, created, leads-create, leads-poll}
-use Rattle.ca_agree_polls.proofs.PostingLemmas.{leads-dealloc, leads-modify, leads-post_recv, leads-post_send, leads-present}
+use Rattle.ca_agree_polls.proofs.PostingLemmas.{leads-present}
 use Rattle.ca_base.specs.Configuration.{Configuration}
-use Rattle.ca_base.specs.declared.completion.Completion.{Completion}
-use Rattle.ca_base.specs.declared.limits.TheConstants.{MAX_MESSAGE_BYTES, MAX_PIECES}
-use Rattle.ca_base.specs.declared.request.PlacedReceive.{PlacedReceive}
 use Rattle.ca_base.specs.declared.request.RecvRequest.{RecvRequest}
 use Rattle.ca_base.specs.declared.request.SendRequest.{SendRequest}
-use Rattle.ca_base.specs.objects.Domain.{with_object, without_object}
-use Rattle.ca_base.specs.objects.Mailbox.{with_peer}
-use Rattle.ca_base.specs.objects.SharedReceives.{SharedReceives, SrqSlot, after_receive_post, after_receive_retire, after_receives_retire, empty_receives, is_full_of_receives}
-use Rattle.ca_keys.specs.Equal.{queue_eq, slot_eq}
+use Rattle.ca_base.specs.objects.SharedReceives.{SrqSlot}
+use Rattle.ca_keys.specs.Equal.{queue_eq}
 use Rattle.ca_keys.specs.declared.names.QueueId.{QueueId}
 use Rattle.ca_keys.specs.declared.names.Slot.{Slot}
-use Rattle.ca_laws_room.proofs.RoomLemmas.{shared-used}
-use Rattle.ca_laws_room.specs.Room.{HasRoom}
-use Rattle.ca_model.specs.Ordered.{place_behind}
-use Rattle.ca_model.specs.Requests.{list_length, list_of}
-use Rattle.ca_model.specs.declared.answer.Refusal.{Refusal}
-use Rattle.ca_model.specs.declared.answer.Refusal.TheVariants.{NoDomain, NoSuch, OutOfRange, QueueFull, SlotTaken, SrqInUse, TooLong, WindowsBound}
+use Rattle.ca_model.specs.declared.answer.Refusal.TheVariants.{NoSuch}
 use Rattle.ca_model.specs.declared.mark.Mark.{Mark}
 use Rattle.ca_model.specs.declared.verb.Verb.{Verb}
-use Rattle.ca_model.specs.machine.CompletionVerbs.{after_poll, create_srq_plan, destroy_srq_plan, poll_plan, receives_after_poll, slot_after_poll, source_of_completion}
-use Rattle.ca_model.specs.machine.Delivery.{Arrive}
-use Rattle.ca_model.specs.machine.HostVerbs.{inject_plan}
-use Rattle.ca_model.specs.machine.Places.{Ascend, first_held, places_in_use}
-use Rattle.ca_model.specs.machine.QueuePairVerbs.{Creation, before_receives, beside, create_qp_plan, destroy_qp_plan, emptied_mailbox, emptied_updates, left_updates, modify_qp_plan, new_queue, places_held, receive_reserve, receive_room, send_reserved, without_queue}
-use Rattle.ca_base.specs.declared.change.Change as state_change
-use Rattle.ca_base.specs.declared.change.Change.TheVariants as changes
-use Rattle.ca_base.specs.declared.change.Field.TheVariants as fields
+use Rattle.ca_model.specs.machine.QueuePairVerbs.{beside}
 use Rattle.ca_base.specs.declared.change.State.TheVariants as states
 use Rattle.ca_base.specs.declared.queue_numbers.Message.TheVariants as messages
 use Rattle.ca_base.specs.declared.request.SendOp.TheVariants as ops
 use Rattle.ca_model.specs.declared.answer.Answer.TheVariants as answers
 use Rattle.ca_model.specs.declared.event.Event.TheVariants as events
-use Rattle.ca_model.specs.declared.mark.Mark.TheVariants as marks
 use Rattle.ca_model.specs.declared.verb.Verb.TheVariants as verbs
 
 -- what a verb leaves
