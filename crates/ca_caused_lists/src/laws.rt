@@ -1,0 +1,24 @@
+ghost use Rattle.std.specs.List.{AllByRecursion};
+ghost use Rattle.std.specs.Prelude.{List};
+ghost use Rattle.ca_base.specs.Configuration.{Configuration};
+ghost use Rattle.ca_caused.specs.Rest.{DoHaveTheRest};
+ghost use Rattle.ca_caused_lists.specs.Listed.{DoCompleteByLists, DoHaveTheLink};
+ghost use Rattle.ca_keys.specs.Memory.{ByteMap};
+ghost use Rattle.ca_model.specs.Caused.{Caused};
+ghost use Rattle.ca_model.specs.Entries.{EntryValue};
+ghost use Rattle.ca_model.specs.machine.Run.{Follows};
+ghost use Rattle.ca_model.specs.machine.Sound.{AreLimited, CanBeMade};
+
+/// In any history, what is told of the lists of receives and what is told of the link are the rest of Caused.
+pub fn lists_and_link_are_the_rest()
+    ensures { (bytes : ByteMap) (es : List EntryValue) → DoCompleteByLists bytes es → DoHaveTheLink bytes es
+        → DoHaveTheRest bytes es }
+{}
+
+/// A history that follows the machine is Caused where each receive that fails by its list has the cause that speaks of
+/// it, and each completion the one that speaks of the link.
+pub fn with_lists_and_link_the_machine_is_caused()
+    ensures { (c : Configuration) (bytes : ByteMap) (es : List EntryValue) → AreLimited c
+        → AllByRecursion (λ e. CanBeMade e.event) es → Follows c bytes es
+        → DoCompleteByLists bytes es → DoHaveTheLink bytes es → Caused bytes es }
+{}
