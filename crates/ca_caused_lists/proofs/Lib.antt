@@ -1,1 +1,4 @@
 pub mod LinkLemmas
+pub mod UsualLemmas
+pub mod ListedLemmas
+pub mod HistoryLemmas

@@ -15,10 +15,16 @@ pub fn lists_and_link_are_the_rest()
         → DoHaveTheRest bytes es }
 {}
 
-/// A history that follows the machine is Caused where each receive that fails by its list has the cause that speaks of
-/// it, and each completion the one that speaks of the link.
-pub fn with_lists_and_link_the_machine_is_caused()
+/// In a history that follows the machine each receive that fails by its list has the cause that speaks of it: a SEND
+/// arrived that is longer than that list with what came of its message before, or the event at hand was denied an access
+/// by a piece of it.
+pub fn receives_complete_with_their_lists()
     ensures { (c : Configuration) (bytes : ByteMap) (es : List EntryValue) → AreLimited c
-        → AllByRecursion (λ e. CanBeMade e.event) es → Follows c bytes es
-        → DoCompleteByLists bytes es → DoHaveTheLink bytes es → Caused bytes es }
+        → AllByRecursion (λ e. CanBeMade e.event) es → Follows c bytes es → DoCompleteByLists bytes es }
+{}
+
+/// A history that follows the machine is Caused where each completion has the cause that speaks of the link.
+pub fn machine_is_caused_but_for_the_link()
+    ensures { (c : Configuration) (bytes : ByteMap) (es : List EntryValue) → AreLimited c
+        → AllByRecursion (λ e. CanBeMade e.event) es → Follows c bytes es → DoHaveTheLink bytes es → Caused bytes es }
 {}
