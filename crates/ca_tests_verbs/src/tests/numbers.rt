@@ -1,0 +1,256 @@
+ghost use Rattle.std.specs.Thread.{IsSync};
+ghost use Rattle.ca_verbs.specs.Passes.{IsOf};
+
+use crate::tests::bed::{answer, call, config, queue_pair, region, turn};
+use arrayvec::ArrayVec;
+use ca_base::{DomainId, Key, Piece, QueueId, SendOp, SendRequest, Slot, Verdict, first_address};
+use ca_model::{Answer, Entry, Mark, Verb};
+use ca_turns::Turn;
+use ca_verbs::{Fabric, Pass};
+use std::process::Abort;
+use std::sync::Wait;
+use std::test::Fail;
+use std::thread::{Threads, join};
+
+// How many fetch and adds each consumer makes.
+const ADDS: u8 = 25;
+
+// The domain of adapter 1.
+const SHARED: DomainId = DomainId {
+    adapter: 1,
+    domain: 0,
+};
+
+// The queue pair of a consumer, in a domain of its own of adapter 0.
+fn own_slot(consumer: u8) -> Slot {
+    Slot {
+        domain: DomainId {
+            adapter: 0,
+            domain: consumer,
+        },
+        slot: 0,
+    }
+}
+
+// Its peer, in the domain of adapter 1.
+fn peer_slot(consumer: u8) -> Slot {
+    Slot {
+        domain: SHARED,
+        slot: u16::from(consumer),
+    }
+}
+
+// Adds one to the first number of adapter 1, under this key; the number that it found goes to the consumer's own buffer.
+fn one_more(consumer: u8, own: Key, key: Key) -> Verb {
+    let mut list = ArrayVec::new();
+    let _fits = list.try_push(Piece {
+        address: first_address(u16::from(consumer)),
+        key: own,
+        length: 8,
+    });
+    Verb::PostSend {
+        slot: own_slot(consumer),
+        request: SendRequest {
+            id: 1,
+            signalled: true,
+            fence: false,
+            solicited: false,
+            op: SendOp::FetchAdd {
+                address: first_address(0),
+                key,
+                add: 1,
+                list,
+            },
+        },
+    }
+}
+
+// Makes the consumer's domain and the two queue pairs; the key of its own region.
+fn set_up<R: Wait>(rt: &R, fabric: &Fabric, pass: &mut Pass, consumer: u8) -> Option<Key>
+    requires { IsOf fabric.now pass.old }
+    ensures { IsOf fabric.now pass.new }
+{
+    let slot = own_slot(consumer);
+    let peer = peer_slot(consumer);
+    let buffer = u16::from(consumer);
+    let own = region(rt, fabric, pass, consumer, slot.domain, buffer)?;
+    queue_pair(rt, fabric, pass, consumer, slot, peer)?;
+    queue_pair(rt, fabric, pass, consumer, peer, slot)?;
+    Some(own)
+}
+
+// Posts a fetch and add, brings it to the peer and the answer back, and polls its completion.
+fn add<R: Wait>(rt: &R, fabric: &Fabric, pass: &mut Pass, consumer: u8, post: &Verb) -> Option<()>
+    requires { IsOf fabric.now pass.old }
+    ensures { IsOf fabric.now pass.new }
+{
+    let slot = own_slot(consumer);
+    let requester = QueueId::of_slot(slot);
+    let responder = QueueId::of_slot(peer_slot(consumer));
+    let poll = Verb::Poll {
+        slot,
+        n: 1,
+        least: 1,
+    };
+    call(rt, fabric, pass, consumer, post)?;
+    turn(rt, fabric, pass, Turn::Request(requester))?;
+    turn(rt, fabric, pass, Turn::Due(responder))?;
+    turn(rt, fabric, pass, Turn::Respond(responder))?;
+    turn(rt, fabric, pass, Turn::Due(requester))?;
+    call(rt, fabric, pass, consumer, &poll)
+}
+
+// What a consumer does with its pass. It ends at the first call that is not made.
+fn consume<R: Wait>(rt: &R, fabric: &Fabric, mut pass: Pass, consumer: u8, key: Key) -> Pass
+    requires { IsOf fabric.now pass }
+    ensures { IsOf fabric.now result }
+{
+    let Some(own) = set_up(rt, fabric, &mut pass, consumer) else {
+        return pass;
+    };
+    let post = one_more(consumer, own, key);
+    for _ in 0..ADDS {
+        if add(rt, fabric, &mut pass, consumer, &post).is_none() {
+            return pass;
+        }
+    }
+    pass
+}
+
+// Two consumers, each on a thread of its own.
+fn consume_two<R: Threads + Wait + Sync>(
+    rt: &R,
+    fabric: &Fabric,
+    first: Pass,
+    second: Pass,
+    consumer: u8,
+    key: Key,
+) -> (Pass, Pass)
+    requires { IsOf fabric.now first × IsOf fabric.now second }
+    ensures { IsOf fabric.now result.0 × IsOf fabric.now result.1 }
+{
+    join(
+        rt,
+        move || -> Pass
+            requires { IsSync R.row × IsOf fabric.now first }
+            ensures { IsOf fabric.entry.now result }
+        { consume(rt, fabric, first, consumer, key) },
+        move || -> Pass
+            requires { IsSync R.row × IsOf fabric.now second }
+            ensures { IsOf fabric.entry.now result }
+        { consume(rt, fabric, second, consumer.wrapping_add(1), key) },
+    )
+}
+
+// Of the marks of a history, those that changed the number of adapter 1: the k-th of them found k and put k + 1, each under
+// the same key. How many there are; None where one is otherwise.
+fn swaps(history: &[Entry], under: Key) -> Option<u64> {
+    let mut count = 0u64;
+    for entry in history {
+        for mark in entry.marks.as_slice() {
+            if let Mark::Remote {
+                key,
+                address,
+                verdict,
+                ..
+            } = mark
+            {
+                let next = count.wrapping_add(1);
+                match verdict {
+                    Verdict::Swapped { found, put }
+                        if *found == count
+                            && *put == next
+                            && *key == under
+                            && *address == first_address(0) => {
+                        count = next;
+                    }
+                    _ => return None,
+                }
+            }
+        }
+    }
+    Some(count)
+}
+
+// How many requests were posted, and how many completions were polled.
+fn posts_and_polls(history: &[Entry]) -> (u64, u64) {
+    let mut posts = 0u64;
+    let mut polls = 0u64;
+    for entry in history {
+        match entry.marks.as_slice().first() {
+            Some(
+                Mark::Verb {
+                    answer: Answer::Posted(_),
+                    ..
+                },
+            ) => posts = posts.wrapping_add(1),
+            Some(
+                Mark::Verb {
+                    answer: Answer::Polled(_),
+                    ..
+                },
+            ) => polls = polls.wrapping_add(1),
+            _ => {}
+        }
+    }
+    (posts, polls)
+}
+
+#[test]
+fn four_threads_add_to_one_number(rt: HostRuntime) -> Result<(), Fail> {
+    let Ok((fabric, mut first)) = Fabric::start(rt.alloc(), config(2000)) else {
+        panic!(rt; "the fabric starts")
+    };
+    let Some(key) = region(&rt, &fabric, &mut first, 0, SHARED, 0) else {
+        panic!(rt; "the number is registered")
+    };
+    let Ok(mut third) = fabric.split(&mut first) else {
+        panic!(rt; "two numbers are left")
+    };
+    let Ok(second) = fabric.split(&mut first) else {
+        panic!(rt; "two numbers are left")
+    };
+    let Ok(fourth) = fabric.split(&mut third) else {
+        panic!(rt; "two numbers are left")
+    };
+    let shared = &fabric;
+    let runtime = &rt;
+    let ((mut first, second), (third, fourth)) = join(
+        runtime,
+        move || -> (Pass, Pass)
+            requires { IsOf shared.now first × IsOf shared.now second }
+            ensures { IsOf shared.entry.now result.0 × IsOf shared.entry.now result.1 }
+        { consume_two(runtime, shared, first, second, 0, key) },
+        move || -> (Pass, Pass)
+            requires { IsOf shared.now third × IsOf shared.now fourth }
+            ensures { IsOf shared.entry.now result.0 × IsOf shared.entry.now result.1 }
+        { consume_two(runtime, shared, third, fourth, 2, key) },
+    );
+    if fabric.join(&mut first, second).is_err()
+        || fabric.join(&mut first, third).is_err()
+        || fabric.join(&mut first, fourth).is_err()
+    {
+        panic!(rt; "the passes are joined")
+    }
+    let load = Verb::Load {
+        adapter: 1,
+        buffer: 0,
+        offset: 0,
+        length: 8,
+    };
+    if call(&rt, &fabric, &mut first, 0, &load).is_none() {
+        panic!(rt; "the number is loaded")
+    }
+    match answer(&first) {
+        Some(Answer::Loaded(bytes)) => {
+            assert!(rt; bytes.as_slice() == [100, 0, 0, 0, 0, 0, 0, 0].as_slice());
+        }
+        _ => panic!(rt; "the number is there"),
+    }
+    let Ok(history) = fabric.close(first) else {
+        panic!(rt; "no pass is out")
+    };
+    assert!(rt; posts_and_polls(history.as_slice()) == (100, 100));
+    assert!(rt; swaps(history.as_slice(), key) == Some(100));
+    Ok(())
+}
