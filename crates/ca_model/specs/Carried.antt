@@ -8,6 +8,7 @@ use Rattle.ca_keys.specs.declared.access.Kind.{Kind}
 use Rattle.ca_keys.specs.declared.access.Kind.TheVariants as kinds
 use Rattle.ca_base.specs.declared.completion.Completion.{Completion}
 use Rattle.ca_base.specs.declared.limits.TheConstants.{KEPT_ENVELOPES}
+use Rattle.ca_keys.specs.declared.key.Key.{Key}
 use Rattle.ca_keys.specs.declared.names.QueueId.{QueueId}
 use Rattle.ca_keys.specs.declared.verdict.Verdict.{Verdict}
 use Rattle.ca_keys.specs.declared.verdict.Verdict.TheVariants as verdicts
@@ -138,14 +139,15 @@ is_carried_by_arrival past ask envelope verdict =
     arrived_so past ask.queue envelope
     && option_map_or (asks_for past ask verdict ask.kind) (packet_at past ask.queue envelope) false
 
--- the ask is for the rest of this READ from a multiple of the path MTU on; addresses count modulo 2^64
-abbrev pub is_rest_of : ℕ → Ask → Option ℕ → ReadRequest → Bool
-is_rest_of mtu ask envelope r =
-    option_eq (λ m n. m == n) r.envelope envelope && key_eq r.key ask.key
-    && nat_le ask.length r.length
-    && ((r.length - ask.length) % mtu == 0)
-    && (ask.address == (r.address + (r.length - ask.length)) % 2 ^ 64)
-    && (nat_lt 0 ask.length || (r.length == 0))
+-- so many bytes from an address on, under a key, are the rest of this READ from a multiple of the path MTU on; addresses
+-- count modulo 2^64
+abbrev pub is_rest_of : ℕ → Key → ℕ → ℕ → Option ℕ → ReadRequest → Bool
+is_rest_of mtu key address left envelope r =
+    option_eq (λ m n. m == n) r.envelope envelope && key_eq r.key key
+    && nat_le left r.length
+    && ((r.length - left) % mtu == 0)
+    && (address % 2 ^ 64 == (r.address + (r.length - left)) % 2 ^ 64)
+    && (nat_lt 0 left || (r.length == 0))
 
 -- a READ gives at most one path MTU
 abbrev pub reads_at_most : ℕ → Verdict → Bool
@@ -157,7 +159,7 @@ reads_at_most mtu verdict = true
 abbrev pub is_carried_by_request : Past → Ask → Option ℕ → Verdict → Bool
 is_carried_by_request past ask envelope verdict =
     is_respond_of ask.queue past.at_hand.event
-    && list_any (is_rest_of (mtu_of past ask.queue) ask envelope) (past.read_requests (present_incarnation past ask.queue))
+    && list_any (is_rest_of (mtu_of past ask.queue) ask.key ask.address ask.length envelope) (past.read_requests (present_incarnation past ask.queue))
     && reads_at_most (mtu_of past ask.queue) verdict
 
 -- a remote access has its packet
