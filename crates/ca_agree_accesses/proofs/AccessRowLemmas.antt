@@ -9,7 +9,7 @@ use Rattle.ca_agree_accesses.proofs.CarryLemmas.{Carries, is_accessed, leaves-re
 use Rattle.ca_agree_accesses.proofs.DecodedLemmas.{shape-fits, write-reth}
 use Rattle.ca_agree_accesses.proofs.EndLemmas.{RowSees, allowed-ended, does-sees, ending-weaker, one-allowed, one-denied}
 use Rattle.ca_agree_accesses.proofs.QuietLemmas.{AreUnheard, IsQuiet, accepted-reads, ahead-less, all-more, dropped, duplicate-quiet, plain-row, plain-unheard, refused, response-quiet, sends-quiet, waits-less}
-use Rattle.ca_agree_accesses.specs.Accesses.{GoesOn, IsAsked, IsEndedWorld, IsFrom, is_left_of}
+use Rattle.ca_agree_accesses.specs.Accesses.{GoesOn, IsAsked, IsEndedWorld, IsFrom}
 use Rattle.ca_agree_keys.proofs.PlainLemmas.{ahead-plain, flush-plain}
 use Rattle.ca_agree_keys.proofs.ToldLemmas.{ended}
 use Rattle.ca_base.specs.Configuration.{Configuration}
@@ -34,7 +34,7 @@ use Rattle.ca_keys.specs.declared.names.QueueId.{QueueId}
 use Rattle.ca_keys.specs.declared.verdict.Verdict.{Verdict}
 use Rattle.ca_laws_sound.proofs.WorldLemmas.{RowDoes}
 use Rattle.ca_laws_windows.specs.Bindings.{IsBoundWorld}
-use Rattle.ca_model.specs.Carried.{arrived_so, asks_for, goes_on, names_all, names_atomic, names_write, writes_payload}
+use Rattle.ca_model.specs.Carried.{arrived_so, asks_for, goes_on, is_rest_of, names_all, names_atomic, names_write, writes_payload}
 use Rattle.ca_model.specs.Packets.{asks_atomic, continues_write, is_response, is_write, number_put, packet_of}
 use Rattle.ca_model.specs.Past.{LatestWrite, Past, ReadRequest, latest_write_after, packet_at, remote_ask}
 use Rattle.ca_model.specs.declared.mark.Drop1.{Drop1}
@@ -301,7 +301,7 @@ atomic-carried s l rs q p envelope kind a atomic shaped has write reads = record
 
 -- the requests have the READ that a packet is
 abbrev pub Hears : List ReadRequest → ℕ → Option ℕ → Fields → Type 0
-Hears rs mtu envelope p = (h : Reth) → shape_of p.opcode ≡ Some shapes.Read → p.reth ≡ Some h → list_any (is_left_of mtu h.key h.address h.length envelope) rs ≡ true
+Hears rs mtu envelope p = (h : Reth) → shape_of p.opcode ≡ Some shapes.Read → p.reth ≡ Some h → list_any (is_rest_of mtu h.key h.address h.length envelope) rs ≡ true
 
 module _ (c : Configuration) (w : World) (l : Option LatestWrite) (rs : List ReadRequest) (bytes : List ℕ) (p : Fields) (envelope : Option ℕ) (ended : IsEndedWorld w) (bound : IsBoundWorld w) (is : packet_in bytes ≡ Ok p) where
   -- the row of a queue pair whose message and answers agree

@@ -18,7 +18,7 @@ use Rattle.ca_agree_accesses.proofs.AccessRowLemmas.{ArrivesAt, Hears, arrival-c
 use Rattle.ca_agree_accesses.proofs.CarryLemmas.{Carries, IsCarried, is_accessed}
 use Rattle.ca_agree_accesses.proofs.EndLemmas.{AreSafe, leads-seen}
 use Rattle.ca_agree_accesses.proofs.TurnLemmas.{Grows, IsMet, Right, agree-at, agree-kept, grows-then, kept-append, kept-safe, requests_of, same-world, srq-kept, turn-agrees, unheard-grows}
-use Rattle.ca_agree_accesses.specs.Accesses.{AccessesAgree, AgreeOnAccesses, AgreeOnResponder, IsEnded, IsEndedWorld, is_left_of}
+use Rattle.ca_agree_accesses.specs.Accesses.{AccessesAgree, AgreeOnAccesses, AgreeOnResponder, IsEnded, IsEndedWorld}
 use Rattle.ca_base.specs.Configuration.{Configuration}
 use Rattle.ca_base.specs.declared.correspondent.Correspondent.{Correspondent}
 use Rattle.ca_base.specs.objects.CompletionQueue.{after_puts}
@@ -34,6 +34,7 @@ use Rattle.ca_keys.specs.declared.names.Slot.{Slot}
 use Rattle.ca_laws_sound.proofs.SettledLemmas.{queue-refl}
 use Rattle.ca_laws_sound.proofs.WorldLemmas.{around_in, shared_of}
 use Rattle.ca_model.specs.Packets.{packet_of}
+use Rattle.ca_model.specs.Carried.{is_rest_of}
 use Rattle.ca_model.specs.Past.{Envelope, Past, ReadRequest, after_mark, after_marks, at_begin, correspondent_eq, each_mark, packet_at, present_incarnation, read_request_of}
 use Rattle.ca_model.specs.declared.answer.Refusal.TheVariants.{NoSuch}
 use Rattle.ca_model.specs.declared.event.Event.{Event}
@@ -61,7 +62,7 @@ use Rattle.ca_model.specs.declared.verb.Verb.TheVariants as verbs
 -- ---- what a packet adds
 
 -- a READ is the rest of its own request
-self-left : (mtu : ℕ) (key : Key) (address count : ℕ) (envelope : Option ℕ) → is_left_of mtu key address count envelope (record { envelope = envelope; key = key; address = address; length = count }) ≡ true
+self-left : (mtu : ℕ) (key : Key) (address count : ℕ) (envelope : Option ℕ) → is_rest_of mtu key address count envelope (record { envelope = envelope; key = key; address = address; length = count }) ≡ true
 self-left mtu key address count envelope = both-true _ _ (both-true _ _ (both-true _ _ (both-true _ _ (both-true _ _ (indices envelope) (eq-eqb key.0 key.0 refl)) (le-leb count count (omega arith))) places) addresses) (some count)
   where
     indices : (o : Option ℕ) → option_eq (λ m n. m == n) o o ≡ true
@@ -86,8 +87,8 @@ same-life l = both-true (queue_eq l.queue l.queue) (l.incarnation == l.incarnati
 -- the requests behind a packet that arrived have the READ that it is
 hears-own : (x : Past) (q : QueuePair) (bytes : List ℕ) (envelope : Option ℕ) (p : Fields) → packet_at x q.queue envelope ≡ packet_of bytes → packet_in bytes ≡ Ok p
     → Hears (requests_of (after_mark (marks.Arrived q.queue envelope) x) q.queue) q.responder.mtu envelope p
-hears-own x q bytes envelope p packet is h shaped has = subst (λ rs. list_any (is_left_of q.responder.mtu h.key h.address h.length envelope) rs ≡ true) (sym there)
-    (ap (λ b. b || list_any (is_left_of q.responder.mtu h.key h.address h.length envelope) (requests_of x q.queue)) (self-left q.responder.mtu h.key h.address h.length envelope))
+hears-own x q bytes envelope p packet is h shaped has = subst (λ rs. list_any (is_rest_of q.responder.mtu h.key h.address h.length envelope) rs ≡ true) (sym there)
+    (ap (λ b. b || list_any (is_rest_of q.responder.mtu h.key h.address h.length envelope) (requests_of x q.queue)) (self-left q.responder.mtu h.key h.address h.length envelope))
   where
     request : ReadRequest
     request = record { envelope = envelope; key = h.key; address = h.address; length = h.length }

@@ -1,8 +1,7 @@
 -- Every event keeps the agreement on accesses, and each remote access of a history is asked for. For proofs only.
-use Rattle.std.proofs.Common.{Bool, Err, List, Ok, Option, [], ap, ap₂, arith, false, map, nat_le, nat_lt, refl, rules, subst, suc, sym, true, true≢false, ℕ, ◌%◌, ◌&&◌, ◌+◌, ◌-◌, ◌<◌, ◌==◌, ◌^◌, ◌||◌, ◌∙◌, ◌∷◌, ◌≡◌}
+use Rattle.std.proofs.Common.{Bool, Err, List, Ok, [], ap, false, map, refl, rules, subst, suc, true, true≢false, ℕ, ◌&&◌, ◌∷◌, ◌≡◌}
 use Rattle.std.proofs.lemmas.Bool.{and_parts}
-use Rattle.std.specs.List.{AllByRecursion, list_any}
-use Rattle.std.specs.Option.{option_eq}
+use Rattle.std.specs.List.{AllByRecursion}
 use Rattle.ca_agree.proofs.EventFitLemmas.{first-marks}
 use Rattle.ca_agree.proofs.LeadsLemmas.{comes}
 use Rattle.ca_agree.proofs.PathEventLemmas.{event-agrees, opening-agrees}
@@ -14,23 +13,18 @@ use Rattle.ca_agree_accesses.proofs.CarryLemmas.{is_accessed}
 use Rattle.ca_agree_accesses.proofs.ChangeLemmas.{right-create, right-destroy, right-modify}
 use Rattle.ca_agree_accesses.proofs.TurnLemmas.{IsMet, Right, right-request, right-respond, right-timeout, right-wake}
 use Rattle.ca_agree_accesses.proofs.VerbLemmas.{RightBy, right-alloc_mr, right-dealloc_mw, right-dereg_mr, right-poll, right-post_recv, right-post_send, right-reg_mr}
-use Rattle.ca_agree_accesses.specs.Accesses.{AccessesAgree, IsEndedWorld, is_left_of}
-use Rattle.ca_agree_accesses.specs.Asked.{AreCarriedAccesses, HasAddress, HaveAddresses, HaveTheirPackets, HaveTheirRequests, has_its_packet, has_its_request, is_asked_by_request, is_carried_remote}
+use Rattle.ca_agree_accesses.specs.Accesses.{AccessesAgree, IsEndedWorld}
+use Rattle.ca_agree_accesses.specs.Asked.{AreCarriedAccesses, HaveTheirPackets, HaveTheirRequests, has_its_packet, has_its_request, is_carried_remote}
 use Rattle.ca_agree_keys.proofs.ToldLemmas.{ended}
 use Rattle.ca_base.specs.Configuration.{Configuration}
 use Rattle.ca_base.specs.objects.Slices.{has_slot}
 use Rattle.ca_judged.proofs.JudgeLemmas.{both-true}
-use Rattle.ca_keys.specs.Allowed.{fits}
-use Rattle.ca_keys.specs.Equal.{key_eq}
 use Rattle.ca_keys.specs.Memory.{ByteMap}
-use Rattle.ca_keys.specs.declared.access.Ask.{Ask}
-use Rattle.ca_keys.specs.declared.verdict.Verdict.{Verdict}
 use Rattle.ca_laws_sound.proofs.SoundLemmas.{event-sound, opening-sound}
 use Rattle.ca_laws_windows.proofs.WindowEventLemmas.{event-bound, opening-bound}
 use Rattle.ca_laws_windows.specs.Bindings.{IsBoundWorld}
-use Rattle.ca_model.specs.Carried.{is_carried_by_request, is_respond_of, is_rest_of, reads_at_most}
 use Rattle.ca_model.specs.Entries.{EntryValue}
-use Rattle.ca_model.specs.Past.{Past, ReadRequest, after_entry, after_mark, after_marks, at_begin, each_entry, each_mark, mtu_of, opening_past, present_incarnation, remote_ask}
+use Rattle.ca_model.specs.Past.{Past, after_entry, after_mark, after_marks, at_begin, each_entry, each_mark, opening_past}
 use Rattle.ca_model.specs.declared.answer.Refusal.TheVariants.{NoSuch}
 use Rattle.ca_model.specs.declared.event.Event.{Event}
 use Rattle.ca_model.specs.declared.mark.Mark.{Mark}
@@ -201,51 +195,37 @@ packets-along c bytes es limited made follows = entries-follow is_accessed has_i
 pub requests-along : (c : Configuration) (bytes : ByteMap) (es : List EntryValue) → AreLimited c → AllByRecursion (λ e. CanBeMade e.event) es → Follows c bytes es → HaveTheirRequests bytes es
 requests-along c bytes es limited made follows = entries-follow is_accessed has_its_request (λ p m all. (and_parts (has_its_packet p m) (has_its_request p m) all).1) es (opening_past bytes) (accessed-along c bytes es limited made follows).1
 
--- ---- addresses that are such
+-- ---- packets and requests together
 
--- an address below 2^64 is itself modulo 2^64
-rest-of : (mtu : ℕ) (ask : Ask) (envelope : Option ℕ) (r : ReadRequest) → ask.address < 2 ^ 64 → is_left_of mtu ask.key ask.address ask.length envelope r ≡ is_rest_of mtu ask envelope r
-rest-of mtu ask envelope r fits = ap (λ a. option_eq (λ m n. m == n) r.envelope envelope && key_eq r.key ask.key && nat_le ask.length r.length && ((r.length - ask.length) % mtu == 0)
-    && (a == (r.address + (r.length - ask.length)) % 2 ^ 64) && (nat_lt 0 ask.length || (r.length == 0))) {x = ask.address % 2 ^ 64} (omega (arith, fits))
-
-any-same : (one other : ReadRequest → Bool) (rs : List ReadRequest) → ((r : ReadRequest) → one r ≡ other r) → list_any one rs ≡ list_any other rs
-any-same one other [] same = refl
-any-same one other (r ∷ rs) same = ap₂ (λ a b. a || b) (same r) (any-same one other rs same)
-
-read-carried : (p : Past) (ask : Ask) (envelope : Option ℕ) (verdict : Verdict) → ask.address < 2 ^ 64 → is_asked_by_request p ask envelope verdict ≡ true → is_carried_by_request p ask envelope verdict ≡ true
-read-carried p ask envelope verdict fits asked = ap (λ b. is_respond_of ask.queue p.at_hand.event && b && reads_at_most (mtu_of p ask.queue) verdict)
-    (sym (any-same (is_left_of (mtu_of p ask.queue) ask.key ask.address ask.length envelope) (is_rest_of (mtu_of p ask.queue) ask envelope) (p.read_requests (present_incarnation p ask.queue)) (λ r. rest-of (mtu_of p ask.queue) ask envelope r fits)))
-    ∙ asked
-
-carried-one : (p : Past) (m : Mark) → HasAddress m → is_accessed p m ≡ true → is_carried_remote p m ≡ true
-carried-one p (marks.Remote queue domain envelope key kinds.Read address count verdict) fits all = read-carried p (remote_ask queue domain key kinds.Read address count) envelope verdict fits
+carried-one : (p : Past) (m : Mark) → is_accessed p m ≡ true → is_carried_remote p m ≡ true
+carried-one p (marks.Remote queue domain envelope key kinds.Read address count verdict) all =
     (and_parts (has_its_packet p (marks.Remote queue domain envelope key kinds.Read address count verdict)) (has_its_request p (marks.Remote queue domain envelope key kinds.Read address count verdict)) all).1
-carried-one p (marks.Remote queue domain envelope key kinds.Write address count verdict) fits all =
+carried-one p (marks.Remote queue domain envelope key kinds.Write address count verdict) all =
     (and_parts (has_its_packet p (marks.Remote queue domain envelope key kinds.Write address count verdict)) (has_its_request p (marks.Remote queue domain envelope key kinds.Write address count verdict)) all).0
-carried-one p (marks.Remote queue domain envelope key kinds.CmpSwap address count verdict) fits all =
+carried-one p (marks.Remote queue domain envelope key kinds.CmpSwap address count verdict) all =
     (and_parts (has_its_packet p (marks.Remote queue domain envelope key kinds.CmpSwap address count verdict)) (has_its_request p (marks.Remote queue domain envelope key kinds.CmpSwap address count verdict)) all).0
-carried-one p (marks.Remote queue domain envelope key kinds.FetchAdd address count verdict) fits all =
+carried-one p (marks.Remote queue domain envelope key kinds.FetchAdd address count verdict) all =
     (and_parts (has_its_packet p (marks.Remote queue domain envelope key kinds.FetchAdd address count verdict)) (has_its_request p (marks.Remote queue domain envelope key kinds.FetchAdd address count verdict)) all).0
-carried-one p (marks.Verb by verb answer) fits all = refl
-carried-one p (marks.Granted g) fits all = refl
-carried-one p (marks.Revoked adapter key) fits all = refl
-carried-one p (marks.Local queue domain key kind address count verdict) fits all = refl
-carried-one p (marks.Stored place bytes) fits all = refl
-carried-one p (marks.Sent source target index request bytes) fits all = refl
-carried-one p (marks.Lost target index) fits all = refl
-carried-one p (marks.Arrived target index) fits all = refl
-carried-one p (marks.Dropped target cause) fits all = refl
-carried-one p (marks.Timer queue silent) fits all = refl
-carried-one p (marks.Done queue x cause) fits all = refl
+carried-one p (marks.Verb by verb answer) all = refl
+carried-one p (marks.Granted g) all = refl
+carried-one p (marks.Revoked adapter key) all = refl
+carried-one p (marks.Local queue domain key kind address count verdict) all = refl
+carried-one p (marks.Stored place bytes) all = refl
+carried-one p (marks.Sent source target index request bytes) all = refl
+carried-one p (marks.Lost target index) all = refl
+carried-one p (marks.Arrived target index) all = refl
+carried-one p (marks.Dropped target cause) all = refl
+carried-one p (marks.Timer queue silent) all = refl
+carried-one p (marks.Done queue x cause) all = refl
 
-marks-carried : (ms : List Mark) (p : Past) → AllByRecursion HasAddress ms → each_mark is_accessed p ms ≡ true → each_mark is_carried_remote p ms ≡ true
-marks-carried [] p fits all = refl
-marks-carried (m ∷ ms) p fits all = both-true (is_carried_remote p m) _ (carried-one p m fits.0 (and_parts (is_accessed p m) (each_mark is_accessed (after_mark m p) ms) all).0)
-    (marks-carried ms (after_mark m p) fits.1 (and_parts (is_accessed p m) (each_mark is_accessed (after_mark m p) ms) all).1)
+marks-carried : (ms : List Mark) (p : Past) → each_mark is_accessed p ms ≡ true → each_mark is_carried_remote p ms ≡ true
+marks-carried [] p all = refl
+marks-carried (m ∷ ms) p all = both-true (is_carried_remote p m) _ (carried-one p m (and_parts (is_accessed p m) (each_mark is_accessed (after_mark m p) ms) all).0)
+    (marks-carried ms (after_mark m p) (and_parts (is_accessed p m) (each_mark is_accessed (after_mark m p) ms) all).1)
 
-entries-carried : (es : List EntryValue) (p : Past) → HaveAddresses es → each_entry is_accessed (λ p. true) p es ≡ true → each_entry is_carried_remote (λ p. true) p es ≡ true
-entries-carried [] p fits all = refl
-entries-carried (e ∷ es) p fits all = both-true _ _ (both-true _ true (marks-carried e.marks (at_begin e.event p) fits.0 here) refl) (entries-carried es (after_entry e p) fits.1 parts.1)
+entries-carried : (es : List EntryValue) (p : Past) → each_entry is_accessed (λ p. true) p es ≡ true → each_entry is_carried_remote (λ p. true) p es ≡ true
+entries-carried [] p all = refl
+entries-carried (e ∷ es) p all = both-true _ _ (both-true _ true (marks-carried e.marks (at_begin e.event p) here) refl) (entries-carried es (after_entry e p) parts.1)
   where
     parts : ((each_mark is_accessed (at_begin e.event p) e.marks && true) ≡ true) × (each_entry is_accessed (λ p. true) (after_entry e p) es ≡ true)
     parts = and_parts (each_mark is_accessed (at_begin e.event p) e.marks && true) (each_entry is_accessed (λ p. true) (after_entry e p) es) all
@@ -253,5 +233,5 @@ entries-carried (e ∷ es) p fits all = both-true _ _ (both-true _ true (marks-c
     here : each_mark is_accessed (at_begin e.event p) e.marks ≡ true
     here = (and_parts (each_mark is_accessed (at_begin e.event p) e.marks) true parts.0).0
 
-pub carried-along : (c : Configuration) (bytes : ByteMap) (es : List EntryValue) → AreLimited c → AllByRecursion (λ e. CanBeMade e.event) es → Follows c bytes es → HaveAddresses es → AreCarriedAccesses bytes es
-carried-along c bytes es limited made follows fits = entries-carried es (opening_past bytes) fits (accessed-along c bytes es limited made follows).1
+pub carried-along : (c : Configuration) (bytes : ByteMap) (es : List EntryValue) → AreLimited c → AllByRecursion (λ e. CanBeMade e.event) es → Follows c bytes es → AreCarriedAccesses bytes es
+carried-along c bytes es limited made follows = entries-carried es (opening_past bytes) (accessed-along c bytes es limited made follows).1

@@ -9,7 +9,7 @@ use Rattle.std.specs.Option.{option_eq}
 use Rattle.ca_agree_accesses.proofs.CarryLemmas.{Carries, is_accessed, leaves-remote, passes-append, quiet-carries}
 use Rattle.ca_agree_accesses.proofs.EndLemmas.{RowSees, one-denied}
 use Rattle.ca_agree_accesses.proofs.QuietLemmas.{AreUnheard, IsLess, plain-unheard}
-use Rattle.ca_agree_accesses.specs.Accesses.{GoesOn, IsAsked, is_left_of}
+use Rattle.ca_agree_accesses.specs.Accesses.{GoesOn, IsAsked}
 use Rattle.ca_agree_keys.proofs.KeyTurnLemmas.{found}
 use Rattle.ca_agree_keys.proofs.PlainLemmas.{flush-plain}
 use Rattle.ca_base.specs.Sight.{Sight, bytes_in, runs_by_grant}
@@ -28,7 +28,7 @@ use Rattle.ca_keys.specs.declared.key.Key.{Key}
 use Rattle.ca_keys.specs.declared.names.QueueId.{QueueId}
 use Rattle.ca_keys.specs.declared.place.Run.{Run}
 use Rattle.ca_keys.specs.declared.verdict.Verdict.{Verdict}
-use Rattle.ca_model.specs.Carried.{is_respond_of, reads_at_most}
+use Rattle.ca_model.specs.Carried.{is_respond_of, is_rest_of, reads_at_most}
 use Rattle.ca_model.specs.Past.{LatestWrite, Past, ReadRequest, mtu_of, present_incarnation, remote_ask}
 use Rattle.ca_model.specs.declared.read_left.ReadLeft.{ReadLeft}
 use Rattle.ca_model.specs.machine.Arrivals.{remote_mark}
@@ -67,11 +67,11 @@ any-follows one other (r ∷ rs) follows any = by (one r) refl any (any-follows 
     by false e any more = rest (other r) (more any)
 
 -- without a path MTU of it, the rest of a READ is the rest again
-one-left : (mtu : ℕ) (key : Key) (address left : ℕ) (envelope : Option ℕ) (r : ReadRequest) → nat_le left mtu ≡ false → is_left_of mtu key address left envelope r ≡ true
-    → is_left_of mtu key ((address + min mtu left) % 2 ^ 64) (left - min mtu left) envelope r ≡ true
+one-left : (mtu : ℕ) (key : Key) (address left : ℕ) (envelope : Option ℕ) (r : ReadRequest) → nat_le left mtu ≡ false → is_rest_of mtu key address left envelope r ≡ true
+    → is_rest_of mtu key ((address + min mtu left) % 2 ^ 64) (left - min mtu left) envelope r ≡ true
 one-left mtu key address left envelope r long is = both-true _ _ (both-true _ _ (both-true _ _ (both-true _ _ d.0 fits) places) addresses) some
   where
-    a : (is_left_of mtu key address left envelope r ≡ true) × (mtu < left)
+    a : (is_rest_of mtu key address left envelope r ≡ true) × (mtu < left)
     a = (is, leb-false left mtu long)
 
     b : ((option_eq (λ m n. m == n) r.envelope envelope && key_eq r.key key && nat_le left r.length && ((r.length - left) % mtu == 0) && (address % 2 ^ 64 == (r.address + (r.length - left)) % 2 ^ 64)) ≡ true)
@@ -138,13 +138,13 @@ module _ (s : Sight) (l : Option LatestWrite) (rs : List ReadRequest) (q : Queue
   I = RespondsAt q.queue q.responder.mtu rs l
 
   abbrev IsOf : ReadLeft → Type 0
-  IsOf r = list_any (is_left_of q.responder.mtu r.key r.address r.left r.envelope) rs ≡ true
+  IsOf r = list_any (is_rest_of q.responder.mtu r.key r.address r.left r.envelope) rs ≡ true
 
   -- the mark of a READ passes
   read-passes : (r : ReadLeft) (verdict : Verdict) (x : Past) → IsOf r → I x → reads_at_most q.responder.mtu verdict ≡ true
       → is_accessed x (marks.Remote q.queue q.domain r.envelope r.key kinds.Read r.address r.left verdict) ≡ true
-  read-passes r verdict x of at most = both-true true _ refl (both-true (is_respond_of q.queue x.at_hand.event && list_any (is_left_of (mtu_of x q.queue) r.key r.address r.left r.envelope) (x.read_requests (present_incarnation x q.queue))) _
-      (both-true (is_respond_of q.queue x.at_hand.event) _ at.event ((λ i. list_any (is_left_of (at.mtu i) r.key r.address r.left r.envelope) (at.requests i)) ∙ of))
+  read-passes r verdict x of at most = both-true true _ refl (both-true (is_respond_of q.queue x.at_hand.event && list_any (is_rest_of (mtu_of x q.queue) r.key r.address r.left r.envelope) (x.read_requests (present_incarnation x q.queue))) _
+      (both-true (is_respond_of q.queue x.at_hand.event) _ at.event ((λ i. list_any (is_rest_of (at.mtu i) r.key r.address r.left r.envelope) (at.requests i)) ∙ of))
       (ap (λ n. reads_at_most n verdict) at.mtu ∙ most))
 
   all-dropped : (k : ℕ) (xs : List Queued) → AllByRecursion (IsAsked q.responder.mtu rs) xs → AllByRecursion (IsAsked q.responder.mtu rs) (drop k xs)
@@ -185,8 +185,8 @@ module _ (s : Sight) (l : Option LatestWrite) (rs : List ReadRequest) (q : Queue
         (
           write,
           (
-            any-follows (is_left_of q.responder.mtu r.key r.address r.left r.envelope)
-                (is_left_of q.responder.mtu r.key ((r.address + response_length q r) % 2 ^ 64) (r.left - response_length q r) r.envelope) rs
+            any-follows (is_rest_of q.responder.mtu r.key r.address r.left r.envelope)
+                (is_rest_of q.responder.mtu r.key ((r.address + response_length q r) % 2 ^ 64) (r.left - response_length q r) r.envelope) rs
                 (λ request is. one-left q.responder.mtu r.key r.address r.left r.envelope request e is) of,
             all-dropped 1 q.responder.answers reads,
           ),

@@ -11,7 +11,7 @@ use Rattle.ca_agree_accesses.proofs.CarryLemmas.{Carries, IsCarried, Leaves, is_
 use Rattle.ca_agree_accesses.proofs.EndLemmas.{AreSafe, IsSafe, RowSees, does-sees, leads-performed, leads-seen}
 use Rattle.ca_agree_accesses.proofs.QuietLemmas.{AreUnheard, IsQuiet, packet-quiet, timeout-quiet}
 use Rattle.ca_agree_accesses.proofs.RespondLemmas.{RespondsAt, respond-carried}
-use Rattle.ca_agree_accesses.specs.Accesses.{AccessesAgree, AgreeInSlot, AgreeOnResponder, GoesOn, IsAsked, IsEnded, IsEndedWorld, is_left_of}
+use Rattle.ca_agree_accesses.specs.Accesses.{AccessesAgree, AgreeInSlot, AgreeOnResponder, GoesOn, IsAsked, IsEnded, IsEndedWorld}
 use Rattle.ca_agree_keys.proofs.ToldLemmas.{ended}
 use Rattle.ca_base.specs.Configuration.{Configuration}
 use Rattle.ca_base.specs.declared.correspondent.Correspondent.{Correspondent}
@@ -30,6 +30,7 @@ use Rattle.ca_keys.specs.declared.names.Slot.{Slot}
 use Rattle.ca_laws_sound.proofs.SettledLemmas.{queue-path, queue-refl}
 use Rattle.ca_laws_sound.proofs.WorldLemmas.{around_in, shared_of}
 use Rattle.ca_laws_windows.specs.Bindings.{IsBoundWorld}
+use Rattle.ca_model.specs.Carried.{is_rest_of}
 use Rattle.ca_model.specs.Past.{LatestWrite, Naming, Past, ReadRequest, after_marks, at_begin, each_mark, mtu_of, present_incarnation}
 use Rattle.ca_model.specs.declared.event.Event.{Event}
 use Rattle.ca_model.specs.declared.mark.Mark.{Mark}
@@ -182,7 +183,7 @@ asked-more : (mtu : ℕ) (rs ss : List ReadRequest) → ((test : ReadRequest →
 asked-more mtu rs ss more (queued.Ack psn) asked = record {}
 asked-more mtu rs ss more (queued.Rnr psn) asked = record {}
 asked-more mtu rs ss more (queued.Nak psn code) asked = record {}
-asked-more mtu rs ss more (queued.Read psn key address left first envelope duplicate) asked = more (is_left_of mtu key address left envelope) asked
+asked-more mtu rs ss more (queued.Read psn key address left first envelope duplicate) asked = more (is_rest_of mtu key address left envelope) asked
 asked-more mtu rs ss more (queued.Atomic psn found duplicate) asked = record {}
 
 all-asked-more : (mtu : ℕ) (rs ss : List ReadRequest) → ((test : ReadRequest → Bool) → list_any test rs ≡ true → list_any test ss ≡ true) → (xs : List Queued) → AllByRecursion (IsAsked mtu rs) xs → AllByRecursion (IsAsked mtu ss) xs

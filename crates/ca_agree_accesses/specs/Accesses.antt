@@ -1,18 +1,17 @@
 -- What the past of a history and the world of the machine say alike of remote accesses in progress: where the WRITE of a
 -- message goes on, and of which READ requests the responses that wait are the rest. Laws cite it.
 use Rattle.std.specs.List.{AllByRecursion, list_any}
-use Rattle.std.specs.Option.{option_eq}
-use Rattle.std.specs.Prelude.{Bool, IfSome, List, None, Option, Some, nat_le, nat_lt, true, ℕ, ◌%◌, ◌&&◌, ◌+◌, ◌-◌, ◌==◌, ◌^◌, ◌||◌, ◌≡◌, ◌≤◌}
+use Rattle.std.specs.Prelude.{IfSome, List, None, Option, Some, true, ℕ, ◌+◌, ◌^◌, ◌≡◌, ◌≤◌}
 use Rattle.ca_base.specs.declared.correspondent.Correspondent.{Correspondent}
 use Rattle.ca_base.specs.declared.queue_numbers.Message.{Message}
 use Rattle.ca_base.specs.declared.queue_numbers.Queued.{Queued}
 use Rattle.ca_base.specs.objects.QueuePair.{NoQueue, Present, QueuePair, QueueSlot}
 use Rattle.ca_base.specs.objects.Region.{grant_of_region}
-use Rattle.ca_keys.specs.Equal.{key_eq}
 use Rattle.ca_keys.specs.declared.grant.Grant.{Grant}
 use Rattle.ca_keys.specs.declared.key.Key.{Key}
 use Rattle.ca_keys.specs.declared.names.QueueId.{QueueId}
 use Rattle.ca_keys.specs.declared.names.Slot.{Slot}
+use Rattle.ca_model.specs.Carried.{is_rest_of}
 use Rattle.ca_model.specs.Past.{LatestWrite, Naming, Past, ReadRequest}
 use Rattle.ca_model.specs.machine.World.{World}
 use Rattle.ca_base.specs.declared.queue_numbers.Message.TheVariants as messages
@@ -29,20 +28,10 @@ GoesOn None latest = Unit {0}
 GoesOn (Some (messages.Send place receive bytes)) latest = Unit {0}
 GoesOn (Some (messages.Write key address left count)) latest = IsFrom key address left latest
 
--- so many bytes from an address on are the rest of this READ from a multiple of the path MTU on; addresses count modulo
--- 2^64
-abbrev pub is_left_of : ℕ → Key → ℕ → ℕ → Option ℕ → ReadRequest → Bool
-is_left_of mtu key address left envelope r =
-    option_eq (λ m n. m == n) r.envelope envelope && key_eq r.key key
-    && nat_le left r.length
-    && ((r.length - left) % mtu == 0)
-    && (address % 2 ^ 64 == (r.address + (r.length - left)) % 2 ^ 64)
-    && (nat_lt 0 left || (r.length == 0))
-
 -- a READ that waits to be answered is the rest of one of these requests
 abbrev pub IsAsked : ℕ → List ReadRequest → Queued → Type 0
 IsAsked mtu requests (queued.Read psn key address left first envelope duplicate) =
-    list_any (is_left_of mtu key address left envelope) requests ≡ true
+    list_any (is_rest_of mtu key address left envelope) requests ≡ true
 IsAsked mtu requests answer = Unit {0}
 
 -- A queue pair's message in progress goes on with the WRITE that it performed last; its path MTU is the one that it was

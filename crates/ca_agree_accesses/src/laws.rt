@@ -3,7 +3,7 @@ ghost use Rattle.std.specs.Prelude.{List};
 ghost use Rattle.ca_agree.specs.Agreement.{HoldsAlong, PathsAgree};
 ghost use Rattle.ca_agree.specs.Runs.{Comes};
 ghost use Rattle.ca_agree_accesses.specs.Accesses.{AccessesAgree, IsEndedWorld};
-ghost use Rattle.ca_agree_accesses.specs.Asked.{AreCarriedAccesses, HaveAddresses, HaveTheirPackets, HaveTheirRequests};
+ghost use Rattle.ca_agree_accesses.specs.Asked.{AreCarriedAccesses, HaveTheirPackets, HaveTheirRequests};
 ghost use Rattle.ca_base.specs.Configuration.{Configuration};
 ghost use Rattle.ca_keys.specs.Memory.{ByteMap};
 ghost use Rattle.ca_laws_windows.specs.Bindings.{IsBoundWorld};
@@ -48,17 +48,17 @@ pub fn writes_have_their_packets()
 
 /// In a history that follows the machine each remote read stands in a Respond of its queue pair, asks for the rest of a
 /// READ request that arrived there in its present incarnation, from a multiple of the path MTU on, where addresses count
-/// modulo 2^64, and gives at most one path MTU. It holds of packets of any numbers, also of such as no byte can be.
+/// modulo 2^64, and gives at most one path MTU.
 pub fn reads_have_their_requests()
     ensures { (c : Configuration) (bytes : ByteMap) (es : List EntryValue) → AreLimited c
         → AllByRecursion (λ e. CanBeMade e.event) es → Follows c bytes es
         → HaveTheirRequests bytes es }
 {}
 
-/// In a history that follows the machine, and whose accesses have addresses below 2^64, each remote access has its packet
-/// or its request. This is the part of Carried that speaks of remote accesses, reads among them.
+/// In a history that follows the machine each remote access has its packet or its request. This is the part of Carried
+/// that speaks of remote accesses, reads among them.
 pub fn accesses_are_carried()
     ensures { (c : Configuration) (bytes : ByteMap) (es : List EntryValue)
-        → AreLimited c → AllByRecursion (λ e. CanBeMade e.event) es → Follows c bytes es → HaveAddresses es
-        → AreCarriedAccesses bytes es }
+        → AreLimited c → AllByRecursion (λ e. CanBeMade e.event) es
+        → Follows c bytes es → AreCarriedAccesses bytes es }
 {}

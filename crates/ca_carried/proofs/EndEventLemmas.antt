@@ -11,9 +11,9 @@ use Rattle.ca_agree.specs.Agreement.{PathsAgree}
 use Rattle.ca_agree.specs.Arrivals.{arrives_as_sent}
 use Rattle.ca_agree.specs.Indices.{has_its_index}
 use Rattle.ca_agree.specs.Runs.{Comes, Leads}
-use Rattle.ca_agree_accesses.proofs.EventLemmas.{carried-along, event-accesses-agree, opening-accesses-agree, packets-along, requests-along}
+use Rattle.ca_agree_accesses.proofs.EventLemmas.{carried-along, event-accesses-agree, opening-accesses-agree, requests-along}
 use Rattle.ca_agree_accesses.specs.Accesses.{AccessesAgree, IsEndedWorld}
-use Rattle.ca_agree_accesses.specs.Asked.{HaveAddresses, has_its_packet, has_its_request, is_carried_remote}
+use Rattle.ca_agree_accesses.specs.Asked.{has_its_request, is_carried_remote}
 use Rattle.ca_agree_keys.proofs.KeyEventLemmas.{event-keys-agree, opening-keys-agree}
 use Rattle.ca_agree_keys.proofs.KeyTurnLemmas.{IsUp}
 use Rattle.ca_agree_keys.specs.InForce.{KeysAgree}
@@ -28,9 +28,7 @@ use Rattle.ca_carried.proofs.RequestEndLemmas.{ends-request, unsent-ends}
 use Rattle.ca_carried.proofs.RespondEndLemmas.{Ends, EndsSo, IsWhole, ends-respond}
 use Rattle.ca_carried.specs.Answered.{is_answered}
 use Rattle.ca_carried.specs.Ended.{HaveTheirCauses}
-use Rattle.ca_carried.specs.Modulo.{CarriedModulo, is_carried_modulo}
 use Rattle.ca_judged.proofs.JudgeLemmas.{both-true}
-use Rattle.ca_keys.specs.Allowed.{fits}
 use Rattle.ca_keys.specs.Memory.{ByteMap}
 use Rattle.ca_laws_names.proofs.PlacedLemmas.{event-placed, opening-placed}
 use Rattle.ca_laws_names.specs.Placed.{IsPlacedWorld}
@@ -53,7 +51,6 @@ use Rattle.ca_model.specs.machine.World.{World, opening_world}
 use Rattle.ca_packet.specs.Packet.{follows}
 use Rattle.ca_packet.specs.Shapes.{ends}
 use Rattle.ca_model.specs.declared.event.Event.TheVariants as events
-use Rattle.ca_keys.specs.declared.access.Kind.TheVariants as kinds
 use Rattle.ca_model.specs.declared.mark.Mark.TheVariants as marks
 
 still-ends : (c : Configuration) (past : Past) (w : World) (event : Event) → IsReady c past w → IsNoTurn event → Leads w (EndsSo past event) (plan c event)
@@ -172,57 +169,6 @@ entries-carried (e ∷ es) p sent arrived accessed answered ends = both-true _ _
         parts : ((each_mark test (at_begin e.event p) e.marks && ending (after_marks e.marks (at_begin e.event p))) ≡ true) × (each_entry test ending (after_entry e p) es ≡ true)
         parts = and_parts (each_mark test (at_begin e.event p) e.marks && ending (after_marks e.marks (at_begin e.event p))) (each_entry test ending (after_entry e p) es) all
 
-pub whole-along : (c : Configuration) (bytes : ByteMap) (es : List EntryValue) → AreLimited c → AllByRecursion (λ e. CanBeMade e.event) es → Follows c bytes es → HaveAddresses es → Carried bytes es
-whole-along c bytes es limited made follows fits = entries-carried es (opening_past bytes) (indices-along c bytes es limited made follows) (arrivals-along c bytes es limited made follows)
-    (carried-along c bytes es limited made follows fits) (answered-along c bytes es limited made follows) (causes-along c bytes es limited made follows)
-
--- ---- the same for addresses of any size
-
-mark-modulo : (p : Past) (m : Mark) → has_its_index p m ≡ true → arrives_as_sent p m ≡ true → has_its_packet p m ≡ true → has_its_request p m ≡ true → is_answered p m ≡ true → is_carried_modulo p m ≡ true
-mark-modulo p (marks.Arrived target index) sent arrived packet request answered = arrived
-mark-modulo p (marks.Sent source target index name bytes) sent arrived packet request answered = sent
-mark-modulo p (marks.Remote queue domain envelope key kinds.Read address count verdict) sent arrived packet request answered = request
-mark-modulo p (marks.Remote queue domain envelope key kinds.Write address count verdict) sent arrived packet request answered = packet
-mark-modulo p (marks.Remote queue domain envelope key kinds.CmpSwap address count verdict) sent arrived packet request answered = packet
-mark-modulo p (marks.Remote queue domain envelope key kinds.FetchAdd address count verdict) sent arrived packet request answered = packet
-mark-modulo p (marks.Done queue x cause) sent arrived packet request answered = answered
-mark-modulo p (marks.Verb by verb answer) sent arrived packet request answered = refl
-mark-modulo p (marks.Granted g) sent arrived packet request answered = refl
-mark-modulo p (marks.Revoked adapter key) sent arrived packet request answered = refl
-mark-modulo p (marks.Local queue domain key kind address count verdict) sent arrived packet request answered = refl
-mark-modulo p (marks.Stored place bytes) sent arrived packet request answered = refl
-mark-modulo p (marks.Lost target index) sent arrived packet request answered = refl
-mark-modulo p (marks.Dropped target cause) sent arrived packet request answered = refl
-mark-modulo p (marks.Timer queue silent) sent arrived packet request answered = refl
-
-marks-modulo : (ms : List Mark) (p : Past) → each_mark has_its_index p ms ≡ true → each_mark arrives_as_sent p ms ≡ true → each_mark has_its_packet p ms ≡ true → each_mark has_its_request p ms ≡ true → each_mark is_answered p ms ≡ true
-    → each_mark is_carried_modulo p ms ≡ true
-marks-modulo [] p sent arrived packet request answered = refl
-marks-modulo (m ∷ ms) p sent arrived packet request answered =
-    both-true (is_carried_modulo p m) _ (mark-modulo p m (here has_its_index sent).0 (here arrives_as_sent arrived).0 (here has_its_packet packet).0 (here has_its_request request).0 (here is_answered answered).0)
-    (marks-modulo ms (after_mark m p) (here has_its_index sent).1 (here arrives_as_sent arrived).1 (here has_its_packet packet).1 (here has_its_request request).1 (here is_answered answered).1)
-  where
-    here : (test : Past → Mark → Bool) → each_mark test p (m ∷ ms) ≡ true → (test p m ≡ true) × (each_mark test (after_mark m p) ms ≡ true)
-    here test all = and_parts (test p m) (each_mark test (after_mark m p) ms) all
-
-entries-modulo : (es : List EntryValue) (p : Past) → each_entry has_its_index (λ past. true) p es ≡ true → each_entry arrives_as_sent (λ past. true) p es ≡ true → each_entry has_its_packet (λ past. true) p es ≡ true
-    → each_entry has_its_request (λ past. true) p es ≡ true → each_entry is_answered (λ past. true) p es ≡ true → each_entry (λ past mark. true) is_carried_at_end p es ≡ true
-    → each_entry is_carried_modulo is_carried_at_end p es ≡ true
-entries-modulo [] p sent arrived packet request answered ends = refl
-entries-modulo (e ∷ es) p sent arrived packet request answered ends = both-true _ _
-    (both-true (each_mark is_carried_modulo (at_begin e.event p) e.marks) (is_carried_at_end (after_marks e.marks (at_begin e.event p)))
-    (marks-modulo e.marks (at_begin e.event p) (here has_its_index (λ past. true) sent).0.0 (here arrives_as_sent (λ past. true) arrived).0.0 (here has_its_packet (λ past. true) packet).0.0
-    (here has_its_request (λ past. true) request).0.0 (here is_answered (λ past. true) answered).0.0) (here (λ past mark. true) is_carried_at_end ends).0.1)
-    (entries-modulo es (after_entry e p) (here has_its_index (λ past. true) sent).1 (here arrives_as_sent (λ past. true) arrived).1 (here has_its_packet (λ past. true) packet).1
-    (here has_its_request (λ past. true) request).1 (here is_answered (λ past. true) answered).1 (here (λ past mark. true) is_carried_at_end ends).1)
-  where
-    here : (test : Past → Mark → Bool) (ending : Past → Bool) → each_entry test ending p (e ∷ es) ≡ true
-        → ((each_mark test (at_begin e.event p) e.marks ≡ true) × (ending (after_marks e.marks (at_begin e.event p)) ≡ true)) × (each_entry test ending (after_entry e p) es ≡ true)
-    here test ending all = (and_parts (each_mark test (at_begin e.event p) e.marks) (ending (after_marks e.marks (at_begin e.event p))) parts.0, parts.1)
-      where
-        parts : ((each_mark test (at_begin e.event p) e.marks && ending (after_marks e.marks (at_begin e.event p))) ≡ true) × (each_entry test ending (after_entry e p) es ≡ true)
-        parts = and_parts (each_mark test (at_begin e.event p) e.marks && ending (after_marks e.marks (at_begin e.event p))) (each_entry test ending (after_entry e p) es) all
-
-pub modulo-along : (c : Configuration) (bytes : ByteMap) (es : List EntryValue) → AreLimited c → AllByRecursion (λ e. CanBeMade e.event) es → Follows c bytes es → CarriedModulo bytes es
-modulo-along c bytes es limited made follows = entries-modulo es (opening_past bytes) (indices-along c bytes es limited made follows) (arrivals-along c bytes es limited made follows)
-    (packets-along c bytes es limited made follows) (requests-along c bytes es limited made follows) (answered-along c bytes es limited made follows) (causes-along c bytes es limited made follows)
+pub whole-along : (c : Configuration) (bytes : ByteMap) (es : List EntryValue) → AreLimited c → AllByRecursion (λ e. CanBeMade e.event) es → Follows c bytes es → Carried bytes es
+whole-along c bytes es limited made follows = entries-carried es (opening_past bytes) (indices-along c bytes es limited made follows) (arrivals-along c bytes es limited made follows)
+    (carried-along c bytes es limited made follows) (answered-along c bytes es limited made follows) (causes-along c bytes es limited made follows)

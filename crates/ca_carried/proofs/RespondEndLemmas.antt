@@ -10,7 +10,7 @@ use Rattle.ca_agree.proofs.PathLemmas.{marks-append}
 use Rattle.ca_agree.specs.Runs.{Leads}
 use Rattle.ca_agree_accesses.proofs.TurnLemmas.{told-mtu}
 use Rattle.ca_agree_accesses.specs.Accesses.{AccessesAgree, IsEndedWorld}
-use Rattle.ca_agree_accesses.specs.Asked.{has_its_request, is_asked_by_request}
+use Rattle.ca_agree_accesses.specs.Asked.{has_its_request}
 use Rattle.ca_agree_keys.proofs.KeyTurnLemmas.{IsUp, found}
 use Rattle.ca_agree_starts.specs.Starts.{StartsAgree}
 use Rattle.ca_base.specs.Configuration.{Configuration}
@@ -33,7 +33,7 @@ use Rattle.ca_keys.specs.declared.key.Key.{Key}
 use Rattle.ca_keys.specs.declared.names.QueueId.{QueueId}
 use Rattle.ca_laws_sound.proofs.SettledLemmas.{queue-refl}
 use Rattle.ca_laws_sound.proofs.WorldLemmas.{IsThere, RowDoes, around_in, shared_of}
-use Rattle.ca_model.specs.Carried.{are_carried, has_its_cause, is_carried_at_end, is_respond_of, reads_at_most}
+use Rattle.ca_model.specs.Carried.{are_carried, has_its_cause, is_carried_at_end, is_carried_by_request, is_respond_of, reads_at_most}
 use Rattle.ca_model.specs.Packets.{answers_read, is_response, packet_of}
 use Rattle.ca_model.specs.Past.{Past, RemoteRead, after_mark, after_marks, at_begin, each_mark, mtu_of, remote_ask}
 use Rattle.ca_model.specs.declared.event.Event.{Event}
@@ -209,7 +209,7 @@ module _ (past : Past) (name : QueueId) (lot : Lot) (q : QueuePair) (peer : Corr
       p = at_begin event past
 
       few : nat_le (length payload) (mtu_of past q.queue) ≡ true
-      few = (and_parts _ (reads_at_most (mtu_of p q.queue) (verdicts.Read payload)) (and_parts (is_asked_by_request p (remote_ask q.queue q.domain key kinds.Read address count) envelope (verdicts.Read payload)) _ told).0).1
+      few = (and_parts _ (reads_at_most (mtu_of p q.queue) (verdicts.Read payload)) (and_parts (is_carried_by_request p (remote_ask q.queue q.domain key kinds.Read address count) envelope (verdicts.Read payload)) _ told).0).1
 
       most : length payload ≤ MAX_PAYLOAD_BYTES
       most = omega (arith, leb-true (length payload) (mtu_of past q.queue) few, mtu, small-path q.responder.mtu sound.responder.mtu)

@@ -1,10 +1,8 @@
 ghost use Rattle.std.specs.List.{AllByRecursion};
 ghost use Rattle.std.specs.Prelude.{List};
-ghost use Rattle.ca_agree_accesses.specs.Asked.{HaveAddresses};
 ghost use Rattle.ca_base.specs.Configuration.{Configuration};
 ghost use Rattle.ca_carried.specs.Answered.{HaveTheirResponses};
 ghost use Rattle.ca_carried.specs.Ended.{HaveTheirCauses};
-ghost use Rattle.ca_carried.specs.Modulo.{CarriedModulo};
 ghost use Rattle.ca_keys.specs.Memory.{ByteMap};
 ghost use Rattle.ca_model.specs.Carried.{Carried};
 ghost use Rattle.ca_model.specs.Entries.{EntryValue};
@@ -29,19 +27,11 @@ pub fn events_end_with_their_causes()
         → HaveTheirCauses bytes es }
 {}
 
-/// Every history that follows the machine, and whose accesses have addresses below 2^64, is carried: each packet that
-/// arrives was sent, each one that is sent has its index and its cause, each remote access its packet or its request, and
-/// each success of a send that has packets its response.
+/// Every history that follows the machine is carried: each packet that arrives was sent, each one that is sent has its
+/// index and its cause, each remote access its packet or its request, and each success of a send that has packets its
+/// response.
 pub fn machine_is_carried()
     ensures { (c : Configuration) (bytes : ByteMap) (es : List EntryValue)
-        → AreLimited c → AllByRecursion (λ e. CanBeMade e.event) es → Follows c bytes es → HaveAddresses es
+        → AreLimited c → AllByRecursion (λ e. CanBeMade e.event) es → Follows c bytes es
         → Carried bytes es }
-{}
-
-/// Every history that follows the machine is carried but that the addresses of its remote reads count modulo 2^64: they
-/// are those of the packets that arrived, and where a packet is of such numbers as no bytes can be, an address need not be
-/// below 2^64.
-pub fn machine_is_carried_modulo()
-    ensures { (c : Configuration) (bytes : ByteMap) (es : List EntryValue)
-        → AreLimited c → AllByRecursion (λ e. CanBeMade e.event) es → Follows c bytes es → CarriedModulo bytes es }
 {}

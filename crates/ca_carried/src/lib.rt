@@ -3,7 +3,4 @@
 
 mod laws;
 
-pub use laws::{
-    events_end_with_their_causes, machine_is_carried, machine_is_carried_modulo,
-    successes_have_their_responses,
-};
+pub use laws::{events_end_with_their_causes, machine_is_carried, successes_have_their_responses};

@@ -1,3 +1,2 @@
 pub mod OneWord
 pub mod ReadLemmas
-pub mod FitLemmas

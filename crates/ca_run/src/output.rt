@@ -1,5 +1,4 @@
 ghost use Rattle.std.specs.Prelude.{◌≡◌, ℕ, List, Ok, Err, IfOk};
-ghost use Rattle.ca_agree_accesses.specs.Asked.{HaveAddresses};
 ghost use Rattle.ca_order.specs.OfScript as machine;
 ghost use Rattle.ca_order.specs.Order.{ending, order};
 ghost use Rattle.ca_run.specs.Run.{HasOutput, IsLawfulOrder};
@@ -54,11 +53,9 @@ fn can_be_worked()
     texts_mean_workable_scripts();
 }
 
-/// The order of a script that a text means is lawful, if its accesses have addresses as their type has them, and ends as its
-/// status says.
+/// The order of a script that a text means is lawful, and ends as its status says.
 fn are_lawful()
-    ensures lawful { (text : List ℕ) (s : ScriptValue) → script_of text ≡ Ok s → HaveAddresses (order s)
-        → IsLawfulOrder s (order s) }
+    ensures lawful { (text : List ℕ) (s : ScriptValue) → script_of text ≡ Ok s → IsLawfulOrder s (order s) }
     ensures status { (s : ScriptValue) → machine.HasStatus s (ending s) (machine.status_of s (ending s)) }
 {
     orders_follow_the_machine();

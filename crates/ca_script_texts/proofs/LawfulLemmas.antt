@@ -5,7 +5,6 @@ use Rattle.std.specs.List.{AllByRecursion}
 use Rattle.std.specs.Option.{option_map, option_map_or}
 use Rattle.ca_agree.proofs.EventFitLemmas.{followed-is-history}
 use Rattle.ca_agree.specs.Runs.{AreStamped}
-use Rattle.ca_agree_accesses.specs.Asked.{HaveAddresses}
 use Rattle.ca_base.specs.objects.Mailbox.{due}
 use Rattle.ca_carried.proofs.EndEventLemmas.{whole-along}
 use Rattle.ca_judged.proofs.JudgeEventLemmas.{judged-along}
@@ -136,5 +135,5 @@ order-licensed text s reads = licensed-along s.config zeros (order s) (text-limi
 pub order-ordered : (text : List ℕ) (s : ScriptValue) → script_of text ≡ Ok s → Ordered zeros (order s)
 order-ordered text s reads = ordered-along s.config zeros (order s) (text-limited text s reads) (order-made text s reads) (order-follows s)
 
-pub order-carried : (text : List ℕ) (s : ScriptValue) → script_of text ≡ Ok s → HaveAddresses (order s) → Carried zeros (order s)
-order-carried text s reads have = whole-along s.config zeros (order s) (text-limited text s reads) (order-made text s reads) (order-follows s) have
+pub order-carried : (text : List ℕ) (s : ScriptValue) → script_of text ≡ Ok s → Carried zeros (order s)
+order-carried text s reads = whole-along s.config zeros (order s) (text-limited text s reads) (order-made text s reads) (order-follows s)

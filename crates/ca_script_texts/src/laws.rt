@@ -1,5 +1,4 @@
 ghost use Rattle.std.specs.Prelude.{◌≡◌, ◌++◌, ◌<◌, ◌≤◌, ◌^◌, ℕ, List, Ok, length};
-ghost use Rattle.ca_agree_accesses.specs.Asked.{HaveAddresses};
 ghost use Rattle.ca_base.specs.declared.limits.TheConstants.{MAX_CONSUMERS, MAX_SCRIPT_BYTES};
 ghost use Rattle.ca_engine_laws.specs.Loop.{most_offers};
 ghost use Rattle.ca_keys.specs.Memory.{zeros};
@@ -27,13 +26,11 @@ pub fn long_texts_are_refused_by_their_fronts()
         → script_of (front ++ more) ≡ script_of front }
 {}
 
-/// The order of a script that a text means is a history, is judged, licensed and ordered, over buffers of zeros; and it is
-/// carried, where its accesses have addresses below 2^64.
+/// The order of a script that a text means is a history, is judged, licensed, ordered and carried, over buffers of zeros.
 pub fn orders_of_texts_are_lawful()
     ensures history { (text : List ℕ) (s : ScriptValue) → script_of text ≡ Ok s → IsHistory (order s) }
     ensures judged { (text : List ℕ) (s : ScriptValue) → script_of text ≡ Ok s → Judged zeros (order s) }
     ensures licensed { (text : List ℕ) (s : ScriptValue) → script_of text ≡ Ok s → Licensed zeros (order s) }
     ensures ordered { (text : List ℕ) (s : ScriptValue) → script_of text ≡ Ok s → Ordered zeros (order s) }
-    ensures carried { (text : List ℕ) (s : ScriptValue) → script_of text ≡ Ok s → HaveAddresses (order s)
-        → Carried zeros (order s) }
+    ensures carried { (text : List ℕ) (s : ScriptValue) → script_of text ≡ Ok s → Carried zeros (order s) }
 {}

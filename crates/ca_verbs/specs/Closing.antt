@@ -2,13 +2,14 @@
 use Rattle.std.specs.Prelude.{◌≡◌, ◌≤◌, ℕ, suc, List, [], ◌∷◌, length, map, take, Option, Some, slice_get, Ok}
 use Rattle.ca_base.specs.Configuration.{configuration_in}
 use Rattle.ca_base.specs.declared.settings.Settings.{Settings}
-use Rattle.ca_carried.specs.Modulo.{CarriedModulo}
 use Rattle.ca_fabric_machine.specs.After.{IsUp}
 use Rattle.ca_fabric_machine.specs.Meanings.{StandsFor}
 use Rattle.ca_fabric_machine.specs.Values.{PartValue}
 use Rattle.ca_fabric_machine.specs.declared.asked.Told.{Told}
 use Rattle.ca_keys.specs.Memory.{zeros}
+use Rattle.ca_model.specs.Carried.{Carried}
 use Rattle.ca_model.specs.Entries.{entry_of}
+use Rattle.ca_model.specs.History.{IsHistory}
 use Rattle.ca_model.specs.Judged.{Judged}
 use Rattle.ca_model.specs.Licensed.{Licensed}
 use Rattle.ca_model.specs.Ordered.{Ordered}
@@ -34,13 +35,14 @@ pub record IsHistoryOf (key : Settings) (v : Known) (j : List Entry) : Type 0 wh
   pub receipts : (m : ℕ) (e : Told) → Has (m, e) v.entries → slice_get log m ≡ Some e
   pub notes : (m : ℕ) (hand : List (ℕ × PartValue)) → Has (m, hand) v.notes → (m ≤ length log) × AllStand (StandsFor key (take m log)) hand
 
--- A history over zeros is lawful: each access is judged by the grants before it, each grant is licensed, what completes and
--- what is polled is in order, and what is carried has its cause, with addresses modulo 2^64.
+-- A history over zeros is lawful: its stamps count from 0 and each verb has its answer, each access is judged by the grants
+-- before it, each grant is licensed, what completes and what is polled is in order, and what is carried has its cause.
 pub record IsLawful (j : List Entry) : Type 0 where
+  pub history : IsHistory (map entry_of j)
   pub judged : Judged zeros (map entry_of j)
   pub licensed : Licensed zeros (map entry_of j)
   pub ordered : Ordered zeros (map entry_of j)
-  pub carried : CarriedModulo zeros (map entry_of j)
+  pub carried : Carried zeros (map entry_of j)
 
 -- the stamps of entries
 abbrev pub stamps_of : List Entry → List ℕ

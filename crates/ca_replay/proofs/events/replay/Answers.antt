@@ -1,9 +1,9 @@
 use Rattle.std.proofs.Common.{arith}
 use Rattle.ca_base.specs.Configuration.{configuration_of}
-use Rattle.ca_carried.proofs.EndEventLemmas.{modulo-along}
-use Rattle.ca_carried.specs.Modulo.{CarriedModulo}
+use Rattle.ca_carried.proofs.EndEventLemmas.{whole-along}
 use Rattle.ca_judged.proofs.JudgeEventLemmas.{judged-along}
 use Rattle.ca_licensed.proofs.LicensedLemmas.{licensed-along}
+use Rattle.ca_model.specs.Carried.{Carried}
 use Rattle.ca_model.specs.Judged.{Judged}
 use Rattle.ca_model.specs.Licensed.{Licensed}
 use Rattle.ca_model.specs.Ordered.{Ordered}
@@ -63,7 +63,7 @@ returns-clause-ordered c = is_lawful Ordered ordered-along (configuration_of c.a
     c.make_all.ensures.made
 
 pub returns-clause-carried : goal.returns-clause-carried
-returns-clause-carried c = is_lawful CarriedModulo modulo-along (configuration_of c.args.opening.now.config)
+returns-clause-carried c = is_lawful Carried whole-along (configuration_of c.args.opening.now.config)
     (opening_bytes (configuration_of c.args.opening.now.config) c.args.opening.now.contents) c.args.events.now c.make_all.result c.requires.limited
     (from_opening (configuration_of c.args.opening.now.config)
     (opening_bytes (configuration_of c.args.opening.now.config) c.args.opening.now.contents) c.in_ok-row.row c.args.events.now c.make_all.result

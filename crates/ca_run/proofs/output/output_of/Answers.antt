@@ -2,7 +2,6 @@ use Rattle.std.proofs.Common.{◌≡◌, sym, subst, ap, ◌∙◌}
 use Rattle.ca_order.specs.OfScript as machine
 use Rattle.ca_order.specs.Order.{ending, order}
 use Rattle.ca_reading_fits.specs.Histories.{HistoryFits}
-use Rattle.ca_run.proofs.FitLemmas.{fit_addresses}
 use Rattle.ca_script.specs.Script.{script_value}
 use Rattle.ca_trace.specs.Trace.{text}
 use Rattle.ca_run.proofs.output.output_of.Goals as goal
@@ -20,7 +19,7 @@ returns-clause-output c =
     record {
       script = s;
       means = c.in_ok-script.ensures;
-      lawful = c.are_lawful.ensures.lawful c.args.bytes.now s c.in_ok-script.ensures (fit_addresses (order s) fits);
+      lawful = c.are_lawful.ensures.lawful c.args.bytes.now s c.in_ok-script.ensures;
       status = subst (machine.HasStatus s (ending s)) (sym c.in_ok-worked.ensures.status) (c.are_lawful.ensures.status s);
       whole = whole;
       only = λ others fit is. c.one_text.ensures others (order s) fit fits (sym is ∙ whole);
