@@ -1,3 +1,4 @@
-mod bed;
+mod beds;
 mod numbers;
+mod passes;
 mod refusals;

@@ -20,8 +20,6 @@ mod passes;
 mod placing;
 mod start_error;
 mod starting;
-#[cfg(test)]
-mod tests;
 mod try_error;
 mod trying;
 mod turning;

@@ -1,9 +1,10 @@
 ghost use Rattle.std.specs.Thread.{IsSync};
 ghost use Rattle.ca_verbs.specs.Passes.{IsOf};
 
-use crate::tests::bed::{answer, call, config, queue_pair, region, turn};
+use crate::tests::beds::{BUFFER_BYTES, config};
 use arrayvec::ArrayVec;
 use ca_base::{DomainId, Key, Piece, QueueId, SendOp, SendRequest, Slot, Verdict, first_address};
+use ca_bed_fabric::{answer, call, queue_pair, region, turn};
 use ca_model::{Answer, Entry, Mark, Verb};
 use ca_turns::Turn;
 use ca_verbs::{Fabric, Pass};
@@ -13,7 +14,7 @@ use std::test::Fail;
 use std::thread::{Threads, join};
 
 // How many fetch and adds each consumer makes.
-const ADDS: u8 = 25;
+const ADDS: u16 = 2500;
 
 // The domain of adapter 1.
 const SHARED: DomainId = DomainId {
@@ -73,7 +74,15 @@ fn set_up<R: Wait>(rt: &R, fabric: &Fabric, pass: &mut Pass, consumer: u8) -> Op
     let slot = own_slot(consumer);
     let peer = peer_slot(consumer);
     let buffer = u16::from(consumer);
-    let own = region(rt, fabric, pass, consumer, slot.domain, buffer)?;
+    let own = region(
+        rt,
+        fabric,
+        pass,
+        consumer,
+        slot.domain,
+        buffer,
+        BUFFER_BYTES,
+    )?;
     queue_pair(rt, fabric, pass, consumer, slot, peer)?;
     queue_pair(rt, fabric, pass, consumer, peer, slot)?;
     Some(own)
@@ -198,10 +207,10 @@ fn posts_and_polls(history: &[Entry]) -> (u64, u64) {
 
 #[test]
 fn four_threads_add_to_one_number(rt: HostRuntime) -> Result<(), Fail> {
-    let Ok((fabric, mut first)) = Fabric::start(rt.alloc(), config(2000)) else {
+    let Ok((fabric, mut first)) = Fabric::start(rt.alloc(), config(100_000)) else {
         panic!(rt; "the fabric starts")
     };
-    let Some(key) = region(&rt, &fabric, &mut first, 0, SHARED, 0) else {
+    let Some(key) = region(&rt, &fabric, &mut first, 0, SHARED, 0, BUFFER_BYTES) else {
         panic!(rt; "the number is registered")
     };
     let Ok(mut third) = fabric.split(&mut first) else {
@@ -243,14 +252,14 @@ fn four_threads_add_to_one_number(rt: HostRuntime) -> Result<(), Fail> {
     }
     match answer(&first) {
         Some(Answer::Loaded(bytes)) => {
-            assert!(rt; bytes.as_slice() == [100, 0, 0, 0, 0, 0, 0, 0].as_slice());
+            assert!(rt; bytes.as_slice() == 10_000u64.to_le_bytes().as_slice());
         }
         _ => panic!(rt; "the number is there"),
     }
     let Ok(history) = fabric.close(first) else {
         panic!(rt; "no pass is out")
     };
-    assert!(rt; posts_and_polls(history.as_slice()) == (100, 100));
-    assert!(rt; swaps(history.as_slice(), key) == Some(100));
+    assert!(rt; posts_and_polls(history.as_slice()) == (10_000, 10_000));
+    assert!(rt; swaps(history.as_slice(), key) == Some(10_000));
     Ok(())
 }

@@ -1,44 +1,14 @@
 ghost use Rattle.ca_verbs.specs.Passes.{IsOf};
 
-use arrayvec::ArrayVec;
-use ca_base::{AdapterConfig, Change, Config, DomainId, Key, QueueId, Rights, Slot};
+use ca_base::{Change, DomainId, Key, QueueId, Rights, Slot};
 use ca_mailbox::Weather;
 use ca_model::{Answer, Mark, Verb};
 use ca_turns::Turn;
 use ca_verbs::{Fabric, Pass};
 use std::sync::Wait;
 
-// The bytes of each buffer.
-const BUFFER_BYTES: u32 = 64;
-
-// An adapter of this many buffers and domains, each with so many completion queues and queue pairs.
-fn adapter(buffers: u8, domains: u8, slots: u16) -> AdapterConfig {
-    let mut adapter = AdapterConfig {
-        buffers: ArrayVec::new(),
-        domains,
-        regions: 1,
-        windows: 0,
-        cqs: slots,
-        srqs: 0,
-        qps: slots,
-    };
-    for _ in 0..buffers {
-        let _fits = adapter.buffers.try_push(BUFFER_BYTES);
-    }
-    adapter
-}
-
-// Adapter 0 has four domains of one queue pair each, and four buffers; adapter 1 has one domain of four queue pairs, and one
-// buffer.
-pub(super) fn config(events: u32) -> Config {
-    let mut adapters = ArrayVec::new();
-    let _fits = adapters.try_push(adapter(4, 4, 1));
-    let _fits = adapters.try_push(adapter(1, 1, 4));
-    Config { adapters, events }
-}
-
-// What the latest call with this pass answered.
-pub(super) fn answer(pass: &Pass) -> Option<&Answer> {
+/// What the latest call with this pass answered.
+pub fn answer(pass: &Pass) -> Option<&Answer> {
     let entry = pass.latest()?;
     match entry.marks.as_slice().first() {
         Some(Mark::Verb { answer, .. }) => Some(answer),
@@ -46,14 +16,8 @@ pub(super) fn answer(pass: &Pass) -> Option<&Answer> {
     }
 }
 
-// Calls a verb. None comes where it is not made, and where it is refused.
-pub(super) fn call<R: Wait>(
-    rt: &R,
-    fabric: &Fabric,
-    pass: &mut Pass,
-    by: u8,
-    verb: &Verb,
-) -> Option<()>
+/// Calls a verb. None comes where it is not made, and where it is refused.
+pub fn call<R: Wait>(rt: &R, fabric: &Fabric, pass: &mut Pass, by: u8, verb: &Verb) -> Option<()>
     requires { IsOf fabric.now pass.old }
     ensures { IsOf fabric.now pass.new }
 {
@@ -66,8 +30,8 @@ pub(super) fn call<R: Wait>(
     }
 }
 
-// Makes a turn, where nothing befalls packets.
-pub(super) fn turn<R: Wait>(rt: &R, fabric: &Fabric, pass: &mut Pass, turn: Turn) -> Option<()>
+/// Makes a turn, where nothing befalls packets.
+pub fn turn<R: Wait>(rt: &R, fabric: &Fabric, pass: &mut Pass, turn: Turn) -> Option<()>
     requires { IsOf fabric.now pass.old }
     ensures { IsOf fabric.now pass.new }
 {
@@ -75,14 +39,16 @@ pub(super) fn turn<R: Wait>(rt: &R, fabric: &Fabric, pass: &mut Pass, turn: Turn
     Some(())
 }
 
-// Allocates a domain, and registers the buffer in its slot 0; the key of the region.
-pub(super) fn region<R: Wait>(
+/// Allocates a domain, and registers so many bytes of the buffer in its slot 0, to be written and to be used by atomics from
+/// afar; the key of the region.
+pub fn region<R: Wait>(
     rt: &R,
     fabric: &Fabric,
     pass: &mut Pass,
     by: u8,
     domain: DomainId,
     buffer: u16,
+    length: u32,
 ) -> Option<Key>
     requires { IsOf fabric.now pass.old }
     ensures { IsOf fabric.now pass.new }
@@ -92,11 +58,11 @@ pub(super) fn region<R: Wait>(
         slot: Slot { domain, slot: 0 },
         buffer,
         offset: 0,
-        length: BUFFER_BYTES,
+        length,
         rights: Rights {
             local_write: true,
             remote_read: false,
-            remote_write: false,
+            remote_write: true,
             remote_atomic: true,
             window_bind: false,
         },
@@ -108,8 +74,8 @@ pub(super) fn region<R: Wait>(
     }
 }
 
-// Creates a queue pair and its completion queue in slots of the same number, and has it send to its peer.
-pub(super) fn queue_pair<R: Wait>(
+/// Creates a queue pair and its completion queue in slots of the same number, and has it send to its peer.
+pub fn queue_pair<R: Wait>(
     rt: &R,
     fabric: &Fabric,
     pass: &mut Pass,
@@ -148,7 +114,7 @@ pub(super) fn queue_pair<R: Wait>(
     modify(rt, fabric, pass, by, slot, to_send)
 }
 
-// Changes the state of a queue pair.
+/// Changes the state of a queue pair.
 fn modify<R: Wait>(
     rt: &R,
     fabric: &Fabric,

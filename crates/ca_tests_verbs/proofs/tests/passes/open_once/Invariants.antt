@@ -1,5 +1,5 @@
 use Rattle.ca_verbs.specs.Passes.{IsOf}
-use Rattle.ca_verbs.proofs.tests.open_once.Given as goal
+use Rattle.ca_tests_verbs.proofs.tests.passes.open_once.Given as goal
 
 abbrev pub invariant-loop : goal.invariant-loop
 invariant-loop l = IsOf l.fabric l.pass

@@ -1,9 +1,9 @@
 ghost use Rattle.ca_verbs.specs.Passes.{IsOf};
 
-use crate::{CloseError, Fabric, Pass, StartError, TryError};
 use arrayvec::ArrayVec;
 use ca_base::{AdapterConfig, Config, DomainId, Slot};
 use ca_model::Verb;
+use ca_verbs::{CloseError, Fabric, Pass, TryError};
 use std::process::Abort;
 use std::test::Fail;
 use std::thread::join;
@@ -91,26 +91,6 @@ fn the_history_of_two_passes_is_in_the_order_of_their_stamps(rt: HostRuntime) ->
     for entry in history.as_slice() {
         assert!(rt; entry.stamp == at);
         at = at.wrapping_add(1);
-    }
-    Ok(())
-}
-
-#[test]
-fn a_full_history_and_a_bad_configuration_are_refused(rt: HostRuntime) -> Result<(), Fail> {
-    let Ok((fabric, mut pass)) = Fabric::start(rt.alloc(), config(1, 1, 1)) else {
-        panic!(rt; "the fabric starts")
-    };
-    let open = Verb::AllocPd {
-        domain: domain_of(0),
-    };
-    assert!(rt; fabric.try_verb(&mut pass, 0, &open).is_ok());
-    match fabric.try_verb(&mut pass, 0, &open) {
-        Err(TryError::HistoryFull(1)) => {}
-        _ => panic!(rt; "the history is full"),
-    }
-    match Fabric::start(rt.alloc(), config(1, 1, 65_535)) {
-        Err(StartError::BadConfig) => {}
-        _ => panic!(rt; "the limit of completion queues"),
     }
     Ok(())
 }
