@@ -1,0 +1,71 @@
+-- Words: which command the words behind the program's name are. Contracts cite it.
+use Rattle.std.specs.Prelude.{ℕ, ◌*◌, nat_le, nat_lt, Bool, true, not, ◌&&◌, if◌then◌else◌, List, [], ◌∷◌, length, codes, Option, Some, None}
+use Rattle.std.specs.List.{list_any}
+use Rattle.std.specs.Option.{option_map}
+use Rattle.std.specs.Str.{bytes_eq}
+use Rattle.clap.specs.Words.{App, Kinds, Row, Rule, Text, fault_of, first_of, new_app, new_rule, subcommand_of, subcommand_rows_of, with_rule, with_subcommand}
+use Rattle.clap.specs.declared.parser.matches.ArgMatches.{ArgMatches}
+use Rattle.clap.specs.declared.builder.action.ArgAction.TheVariants.{Set}
+use Rattle.ca_base.specs.declared.limits.TheConstants.{MAX_ADAPTERS, MAX_DOMAINS}
+use Rattle.ca_keys.specs.Equal.{domain_eq}
+use Rattle.ca_keys.specs.Spelling.{domain_text}
+use Rattle.ca_keys.specs.declared.names.DomainId.{DomainId}
+use Rattle.ca_reading_words.specs.Words.{◌>>=◌, all_in, domain_in, pieces}
+use Rattle.ca_words.specs.declared.command.Command.{Command}
+use Rattle.ca_words.specs.declared.command.Command.TheVariants as commands
+
+-- ---- a group of domains
+
+-- the domain that a text names: it is spelled so, of an adapter and a domain that there may be
+abbrev pub domain_named : List ℕ → Option DomainId
+domain_named w = do
+  d ← domain_in w
+  if bytes_eq w (domain_text d) && nat_lt d.adapter MAX_ADAPTERS && nat_lt d.domain MAX_DOMAINS then Some d else None
+
+-- none of them stands there twice
+abbrev pub are_distinct : List DomainId → Bool
+are_distinct [] = true
+are_distinct (d ∷ ds) = not (list_any (domain_eq d) ds) && are_distinct ds
+
+-- distinct domains, with commas between
+unfoldable pub group_named : List ℕ → Option (List DomainId)
+group_named w = do
+  ds ← all_in domain_named (pieces 44 w)
+  if nat_le (length ds) (MAX_ADAPTERS * MAX_DOMAINS) && are_distinct ds then Some ds else None
+
+-- ---- the command line
+
+-- `--group` with its text
+abbrev pub group_rule : Rule
+group_rule = record (new_rule (codes "group")) { long = Some (codes "group"); action = Some Set; required = true }
+
+-- the program's own words begin with the first
+abbrev pub bare_line : App
+bare_line =
+    let bare = new_app (codes "ca") in
+    record bare { top = record bare.top { no_binary_name = true; subcommand_required = true } }
+
+-- it has two subcommands, of which one has to be named
+abbrev pub command_line : App
+command_line =
+    with_subcommand (with_subcommand bare_line (new_app (codes "script")).top)
+    (with_rule (new_app (codes "alone")) group_rule).top
+
+-- the command of a subcommand's name and arguments
+abbrev pub command_named : Text × List Row → Option Command
+command_named (name, rows) =
+    if bytes_eq name (codes "script") then Some commands.Script
+    else (first_of (codes "group") rows >>= λ text. option_map (λ ds. commands.Alone ds) (group_named text))
+
+-- the command that a parse met
+abbrev pub command_met : ArgMatches → Option Command
+command_met m = subcommand_rows_of m >>= command_named
+
+-- what is said where there is no fault
+abbrev pub unless_faulty : Kinds → Option Command → Option Command
+unless_faulty [] said = said
+unless_faulty (k ∷ ks) said = None
+
+-- the command that words are, where the command line finds no fault in them
+unfoldable pub command_in : List Text → Option Command
+command_in words = unless_faulty (fault_of command_line words) (subcommand_of command_line words >>= command_named)

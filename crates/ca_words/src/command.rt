@@ -1,0 +1,31 @@
+use ca_base::{DomainId, Items, Memory};
+
+/// What the program is to do.
+#[derive(Drop)]
+pub enum Command {
+    /// Read a script, work it in its order, and write the text of its history.
+    Script,
+    /// The same, and then write the replies that the group gets in its lone run. It has from 1 to 128 domains, all
+    /// distinct.
+    Alone(Items<DomainId>),
+}
+
+/// Why words give no command.
+#[derive(Clone, Copy)]
+pub enum WordsError {
+    /// They are none.
+    Usage,
+    /// Out of memory.
+    Memory,
+}
+
+impl From<Memory> for WordsError {
+    ghost use Rattle.std.specs.Prelude.{◌≡◌};
+    ghost use Rattle.ca_words.specs.declared.command.WordsError.TheVariants as errors;
+
+    ghost from_gives = { λ m e. e ≡ errors.Memory };
+
+    fn from(_: Memory) -> WordsError {
+        WordsError::Memory
+    }
+}

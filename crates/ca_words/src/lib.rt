@@ -1,0 +1,15 @@
+//! The words behind the program's name, as a command.
+//!
+//! To the layer above it promises that words are taken for exactly the command that they are: which words match is what the
+//! parser of command lines says of a command with the subcommands `script` and `alone`, and a group is a list of distinct
+//! domains.
+//!
+//! Source: this profile's choice; the standard says nothing of programs.
+#![tactic(auto)]
+
+mod command;
+mod group;
+mod line;
+
+pub use command::{Command, WordsError};
+pub use line::command_of;
