@@ -1,5 +1,6 @@
 -- A delivery keeps the receiver's tie, and the sender's.
-use Rattle.std.proofs.Common.{◌≡◌, ℕ, ◌==◌, ◌++◌, inl, inr, ◌%◌, ◌^◌, Bool, true, false, if◌then◌else◌, List, [], Option, None, Some, slice_get, refl, ap, sym, subst, ◌∙◌, arith, true≢false}
+use Rattle.std.proofs.Common.{◌≡◌, ℕ, ◌==◌, ◌++◌, ◌∷◌, inl, inr, ◌%◌, ◌^◌, Bool, true, false, if◌then◌else◌, List, [], Option, None, Some, slice_get, refl, ap, sym, subst, ◌∙◌, arith, true≢false}
+use Rattle.std.proofs.lemmas.Bool.{eqb-true}
 use Rattle.std.proofs.lemmas.Option.{same_Some}
 use Rattle.ca_agree.proofs.InnerLemmas.{IsInner, arrival-inner}
 use Rattle.ca_base.specs.declared.change.State.{State}
@@ -10,7 +11,8 @@ use Rattle.ca_base.specs.objects.QueuePair.{QueuePair, QueueSlot, Present, queue
 use Rattle.ca_base.specs.objects.SharedReceives.{SharedReceives}
 use Rattle.ca_connection.specs.Layout.{Direction, is_atomic}
 use Rattle.ca_connection.specs.Link.{Link, RequestPacket, Requester, Responder, Response, number_of, opening}
-use Rattle.ca_connection.specs.Moves.{MayArrive, MayBeTaken, Reached}
+use Rattle.ca_connection.specs.Moves.{MayArrive, MayBeTaken, Reached, Reception}
+use Rattle.ca_connection.specs.Moves.Reception.{Accepted, Neither, Rejected}
 use Rattle.ca_model.specs.declared.mark.Mark.{Mark}
 use Rattle.ca_model.specs.machine.Delivery.{arrival_row}
 use Rattle.ca_model.specs.machine.Invariants.{IsMailbox, IsQueue, is_sending}
@@ -27,7 +29,7 @@ use Rattle.ca_ties_rows.proofs.ArrivalLemmas.{arrival-state, other-request-stays
 use Rattle.ca_ties_rows.proofs.LinkLemmas.{forgotten-moves, received-moves, taken-moves}
 use Rattle.ca_ties_rows.specs.Entries.{SpellsRequest, SpellsResponse, SpellsSomeRequest, SpellsSomeResponse}
 use Rattle.ca_ties_rows.specs.Links.{IsReceived, IsTaken, LeadsTo, found_at}
-use Rattle.ca_ties_rows.specs.Moves.{ForgetsIn, LeavesState, ReceivesIn, StaysIn, TakesIn, numbers_found}
+use Rattle.ca_ties_rows.specs.Moves.{ForgetsIn, LeavesState, ReceivesIn, StaysIn, TakesIn, found_in, numbers_found}
 use Rattle.ca_ties_rows.specs.Sides.{requester_in, responder_in}
 
 pub present-same : (p q : QueuePair) → Present p ≡ Present q → p ≡ q
@@ -41,6 +43,8 @@ pub record ReceiverStep (d : Direction) (s r : Correspondent) (l : Link) (acted 
   pub responses_are : link.responses ≡ l.responses
   pub tie : ReceiverTie d s r slot m link.responder link.requests
   pub found : (place : ℕ) → is_atomic (d.work place) ≡ true → found_at place link.acceptances ≡ acted place ++ found_at place l.acceptances
+  pub plain : (place : ℕ) → is_atomic (d.work place) ≡ false → acted place ≡ []
+  pub requests_are : link.requests ≡ l.requests
 
 -- what a delivery knows of the queue pair that it meets
 pub record Delivered (index : ℕ) (q : QueuePair) (m : Mailbox) (bytes : List ℕ) (shared : Option SharedReceives) (e : Effects) : Type 0 where
@@ -86,7 +90,22 @@ receiver-same d s r l acted slot m reached none tie = record {
   responses_are = refl;
   tie = tie;
   found = λ place is. ap (λ ns. ns ++ found_at place l.acceptances) (sym (none place));
+  plain = λ place is. none place;
+  requests_are = refl;
 }
+
+-- what is no atomic finds nothing
+nothing-found : (d : Direction) (p : RequestPacket) (place : ℕ) (x : Reception) (numbers : List ℕ) → is_atomic (d.work place) ≡ false → numbers ≡ found_in (d.work p.place) x → (if p.place == place then numbers else []) ≡ []
+nothing-found d p place x numbers none are = by (p.place == place) refl
+  where
+    of : (y : Reception) → is_atomic (d.work p.place) ≡ false → found_in (d.work p.place) y ≡ []
+    of Neither is = refl
+    of (Rejected code) is = refl
+    of (Accepted found) is = ap (λ b. if b then found ∷ [] else []) is
+
+    by : (b : Bool) → (p.place == place) ≡ b → (if b then numbers else []) ≡ []
+    by true e = are ∙ of x (ap (λ n. is_atomic (d.work n)) (eqb-true p.place place e) ∙ none)
+    by false e = refl
 
 pub receiver-step : (d : Direction) (s r : Correspondent) (l : Link) (index : ℕ) (q : QueuePair) (m : Mailbox) (bytes : List ℕ) (shared : Option SharedReceives) (e : Effects) (ms : List Mark)
     → Delivered index q m bytes shared e → numbers_found ms ≡ numbers_found e.marks → Reached d l → ReceiverTie d s r (Present q) m l.responder l.requests
@@ -114,6 +133,8 @@ receiver-step d s r l index q m bytes shared e ms x told reached tie = by tie
       tie = receiver_standing e.queue (paired-after d r s q e.queue t inner.incarnation inner.peer does.mtu paired) after.responder_is
           (subst (AreEntries (SpellsRequest d) SpellsSomeResponse (after_delivery index m).envelopes) (sym after.requests_are) (delivered-entries (SpellsRequest d) SpellsSomeResponse k m.envelopes l.requests entries));
       found = λ place is. ap (found_at place) after.acceptances;
+      plain = λ place is. refl;
+      requests_are = after.requests_are;
     }
       where
         is : l.responder ≡ responder_in q
@@ -135,6 +156,8 @@ receiver-step d s r l index q m bytes shared e ms x told reached tie = by tie
       tie = receiver_standing e.queue (paired-after d r s q e.queue t inner.incarnation inner.peer does.mtu paired) after.responder_is
           (subst (AreEntries (SpellsRequest d) SpellsSomeResponse (after_delivery index m).envelopes) (sym after.requests_are) (delivered-entries (SpellsRequest d) SpellsSomeResponse k m.envelopes l.requests entries));
       found = λ place is. after.found place is ∙ ap (λ ns. (if p.place == place then ns else []) ++ found_at place l.acceptances) (sym told);
+      plain = λ place is. nothing-found d p place does.reception (numbers_found ms) is (told ∙ does.found);
+      requests_are = after.requests_are;
     }
       where
         is : l.responder ≡ responder_in q

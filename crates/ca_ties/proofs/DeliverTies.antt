@@ -23,6 +23,7 @@ use Rattle.ca_ties.proofs.DeliverLemmas.{Delivered, ReceiverStep, SenderStep, re
 use Rattle.ca_ties.proofs.DeliverWalk.{Changes, leads-deliver}
 use Rattle.ca_ties.proofs.EntryLemmas.{lent-envelope}
 use Rattle.ca_ties.specs.Ties.{IsTied, ReceiverTie, SenderTie, TiedAfter, found_by, found_by_delivery}
+use Rattle.ca_ties.specs.Ties.RequestsAfter.{same as requests_same}
 use Rattle.ca_ties_rows.specs.Links.{found_at}
 use Rattle.ca_ties_rows.specs.Moves.{numbers_found}
 
@@ -54,13 +55,13 @@ pub sender-at : (d : Direction) (s r : Correspondent) (l : Link) (slot other : Q
 sender-at d s r l slot other m box a b tie = subst (λ x. SenderTie d s r x box l.requester l.responses) (sym a) (subst (λ x. SenderTie d s r slot x l.requester l.responses) (sym b) tie)
 
 pub deliver-ties : (d : Direction) (s r : Correspondent) (c : Configuration) (w : World) (l : Link) (name : QueueId) (index : ℕ) → IsSoundWorld c w → IsTied d s r w l
-    → Comes (λ v ms. TiedAfter d s r l (found_by_delivery r w l name index ms) v) (step c w (events.Deliver name index))
+    → Comes (λ v ms. TiedAfter d s r w l (found_by_delivery r w l name index ms) v) (step c w (events.Deliver name index))
 deliver-ties d s r c w l name index sound tied = comes w P (deliver_plan c name index) (leads-deliver c w P name index sound
     (λ q bytes shared e v ms is good lent ends changes told. at q bytes shared e v ms is
     (record { sound = good; box = sound.things (Mailbox_of name); lent = lent-envelope index (w.mailbox name) bytes lent; ends = ends }) changes told (queue_eq name r.queue) refl (queue_eq name s.queue) refl))
   where
     P : World → List Mark → Type 0
-    P v ms = TiedAfter d s r l (found_by_delivery r w l name index ms) v
+    P v ms = TiedAfter d s r w l (found_by_delivery r w l name index ms) v
 
     -- nothing was found where another queue pair was met
     nothing : (ms : List Mark) (place : ℕ) → queue_eq name r.queue ≡ false → found_by_delivery r w l name index ms place ≡ []
@@ -68,7 +69,7 @@ deliver-ties d s r c w l name index sound tied = comes w P (deliver_plan c name 
 
     at : (q : QueuePair) (bytes : List ℕ) (shared : Option SharedReceives) (e : Effects) (v : World) (ms : List Mark) → w.queue name ≡ Present q → Delivered index q (w.mailbox name) bytes shared e
         → Changes w name (Present e.queue) (after_delivery index (w.mailbox name)) v → numbers_found ms ≡ numbers_found e.marks
-        → (b : Bool) → queue_eq name r.queue ≡ b → (a : Bool) → queue_eq name s.queue ≡ a → TiedAfter d s r l (found_by_delivery r w l name index ms) v
+        → (b : Bool) → queue_eq name r.queue ≡ b → (a : Bool) → queue_eq name s.queue ≡ a → TiedAfter d s r w l (found_by_delivery r w l name index ms) v
     at q bytes shared e v ms is x changes told true here a there = record {
       link = after.link;
       tied = record {
@@ -80,6 +81,8 @@ deliver-ties d s r c w l name index sound tied = comes w P (deliver_plan c name 
         receiver = receiver-at d s r after.link (Present e.queue) (v.queue r.queue) (after_delivery index (w.mailbox name)) (v.mailbox r.queue) moved.0 moved.1 after.tie;
       };
       found = λ place atomic. after.found place atomic ∙ ap (λ ns. ns ++ found_at place l.acceptances) (sym (ap (λ b. if b then found_by (slice_get l.requests (later_than index (w.mailbox name))) (numbers_found ms) place else []) here));
+      plain = λ place none. ap (λ b. if b then found_by (slice_get l.requests (later_than index (w.mailbox name))) (numbers_found ms) place else []) here ∙ after.plain place none;
+      requests = requests_same after.requests_are;
     }
       where
         still : (v.queue s.queue ≡ w.queue s.queue) × (v.mailbox s.queue ≡ w.mailbox s.queue)
@@ -105,6 +108,8 @@ deliver-ties d s r c w l name index sound tied = comes w P (deliver_plan c name 
             (subst (λ z. ReceiverTie d s r (w.queue r.queue) (w.mailbox r.queue) l.responder z) (sym after.requests_are) tied.receiver));
       };
       found = λ place atomic. ap (found_at place) after.acceptances ∙ ap (λ ns. ns ++ found_at place l.acceptances) (sym (nothing ms place here));
+      plain = λ place none. nothing ms place here;
+      requests = requests_same after.requests_are;
     }
       where
         still : (v.queue r.queue ≡ w.queue r.queue) × (v.mailbox r.queue ≡ w.mailbox r.queue)
@@ -128,6 +133,8 @@ deliver-ties d s r c w l name index sound tied = comes w P (deliver_plan c name 
         receiver = receiver-at d s r l (w.queue r.queue) (v.queue r.queue) (w.mailbox r.queue) (v.mailbox r.queue) receives.0 receives.1 tied.receiver;
       };
       found = λ place atomic. ap (λ ns. ns ++ found_at place l.acceptances) (sym (nothing ms place here));
+      plain = λ place none. nothing ms place here;
+      requests = requests_same refl;
     }
       where
         sends : (v.queue s.queue ≡ w.queue s.queue) × (v.mailbox s.queue ≡ w.mailbox s.queue)

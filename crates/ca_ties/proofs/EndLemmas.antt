@@ -1,5 +1,5 @@
 -- A queue pair whose life ends, and one that is made, keep a world tied: a mailbox is emptied, and its entries are gone.
-use Rattle.std.proofs.Common.{◌≡◌, ℕ, map, suc, ◌<◌, ◌⊎◌, inl, inr, arith, Bool, true, false, nat_lt, List, [], ◌∷◌, Option, None, Some, refl, ap, sym, subst, true≢false}
+use Rattle.std.proofs.Common.{◌≡◌, ℕ, map, suc, ◌<◌, ◌⊎◌, inl, inr, arith, Bool, true, false, nat_lt, List, [], ◌∷◌, Option, None, Some, refl, ap, sym, subst, true≢false, ◌∙◌}
 use Rattle.std.proofs.lemmas.Bool.{ltb-false, ltb-true}
 use Rattle.std.specs.Option.{option_map}
 use Rattle.ca_agree.proofs.LeadsLemmas.{comes, leads-around, leads-unless}
@@ -8,7 +8,7 @@ use Rattle.ca_base.specs.Configuration.{Configuration}
 use Rattle.ca_base.specs.declared.change.Change.TheVariants as changes
 use Rattle.ca_base.specs.declared.correspondent.Correspondent.{Correspondent}
 use Rattle.ca_base.specs.objects.Mailbox.{Mailbox}
-use Rattle.ca_base.specs.objects.QueuePair.{QueuePair, QueueSlot, NoQueue, Present, after_reset, srq_of}
+use Rattle.ca_base.specs.objects.QueuePair.{QueuePair, QueueSlot, NoQueue, Present, after_reset, is_present, srq_of}
 use Rattle.ca_base.specs.objects.SharedReceives.{SharedReceives, SrqSlot, after_receives_retire}
 use Rattle.ca_base.specs.objects.StateTable.{modify_refusals, queue_after_change}
 use Rattle.ca_connection.specs.Layout.{Direction}
@@ -43,6 +43,7 @@ use Rattle.ca_ties.proofs.QuietLemmas.{IsQuiet, joined-neither, quiet-ties}
 use Rattle.ca_ties.proofs.SentTies.{assembled, stay}
 use Rattle.ca_ties.proofs.TimerLemmas.{IsFoundAt, found-at}
 use Rattle.ca_ties.specs.Ties.{IsBefore, IsOver, IsTied, ReceiverTie, SenderTie, TiedAfter}
+use Rattle.ca_ties.specs.Ties.RequestsAfter.{same as requests_same, ended as requests_ended}
 use Rattle.ca_ties.specs.Ties.IsBefore.{sooner, unnamed}
 use Rattle.ca_ties.specs.Ties.IsOver.{later, vacant}
 use Rattle.ca_ties.specs.Ties.ReceiverTie.{before as receiver_before, standing as receiver_standing, gone as receiver_gone}
@@ -64,7 +65,7 @@ cleared-responses : (d : Direction) (s r : Correspondent) (w : World) (l : Link)
 cleared-responses d s r w l tied = record { link = record l { responses = [] }; reached = move tied.reached clear_responses; requester_is = refl; responder_is = refl; requests_are = refl; responses_are = refl; acceptances = refl; completions = refl }
 
 pub end-ties : (d : Direction) (s r : Correspondent) (w v : World) (l : Link) (name : QueueId) (other : QueueSlot) (m : Mailbox) → Changes w name other m v → IsEnd (w.queue name) other → IsTied d s r w l
-    → TiedAfter d s r l (λ place. []) v
+    → TiedAfter d s r w l (λ place. []) v
 end-ties d s r w v l name other m changes end tied = by (queue_eq name r.queue) refl (queue_eq name s.queue) refl
   where
     sender-else : queue_eq name s.queue ≡ false → SenderTie d s r (v.queue s.queue) (v.mailbox s.queue) l.requester l.responses
@@ -73,34 +74,36 @@ end-ties d s r w v l name other m changes end tied = by (queue_eq name r.queue) 
     receiver-else : queue_eq name r.queue ≡ false → ReceiverTie d s r (v.queue r.queue) (v.mailbox r.queue) l.responder l.requests
     receiver-else none = let still = stands-still w v name r.queue other m changes none in receiver-at d s r l (w.queue r.queue) (v.queue r.queue) (w.mailbox r.queue) (v.mailbox r.queue) still.0 still.1 tied.receiver
 
-    at-receiver : queue_eq name r.queue ≡ true → queue_eq name s.queue ≡ false → ReceiverTie d s r (w.queue name) (w.mailbox r.queue) l.responder l.requests → TiedAfter d s r l (λ place. []) v
-    at-receiver here elsewhere (receiver_before is same none) = assembled d s r v l l.requester l.responder l.requests l.responses tied.apart (stay d l tied.reached) (sender-else elsewhere)
+    at-receiver : queue_eq name r.queue ≡ true → queue_eq name s.queue ≡ false → ReceiverTie d s r (w.queue name) (w.mailbox r.queue) l.responder l.requests → TiedAfter d s r w l (λ place. []) v
+    at-receiver here elsewhere (receiver_before is same none) = assembled d s r w v l l.requester l.responder l.requests l.responses tied.apart (stay d l tied.reached) (requests_same refl) (sender-else elsewhere)
         (subst (λ z. ReceiverTie d s r z (v.mailbox r.queue) l.responder l.requests) (sym (stands-changed w v name r.queue other m changes here).0) (now (end.before r is)))
       where
         now : IsBefore r other ⊎ IsOver r other → ReceiverTie d s r other (v.mailbox r.queue) l.responder l.requests
         now (inl still) = receiver_before still same none
         now (inr over) = receiver_gone over none
-    at-receiver here elsewhere (receiver_gone is none) = assembled d s r v l l.requester l.responder l.requests l.responses tied.apart (stay d l tied.reached) (sender-else elsewhere)
+    at-receiver here elsewhere (receiver_gone is none) = assembled d s r w v l l.requester l.responder l.requests l.responses tied.apart (stay d l tied.reached) (requests_same refl) (sender-else elsewhere)
         (subst (λ z. ReceiverTie d s r z (v.mailbox r.queue) l.responder l.requests) (sym (stands-changed w v name r.queue other m changes here).0) (receiver_gone (end.over r is) none))
-    at-receiver here elsewhere (receiver_standing t paired same entries) = assembled d s r v l l.requester l.responder [] l.responses tied.apart (cleared-requests d s r w l tied) (sender-else elsewhere)
+    at-receiver here elsewhere (receiver_standing t paired same entries) = assembled d s r w v l l.requester l.responder [] l.responses tied.apart (cleared-requests d s r w l tied)
+        (requests_ended refl (ap is_present (ap w.queue (sym (queue-path name r.queue here)) ∙ paired.present)) (subst (IsOver r) (sym (stands-changed w v name r.queue other m changes here).0) (end.there r t paired.present paired.incarnation)))
+        (sender-else elsewhere)
         (subst (λ z. ReceiverTie d s r z (v.mailbox r.queue) l.responder []) (sym (stands-changed w v name r.queue other m changes here).0) (receiver_gone (end.there r t paired.present paired.incarnation) refl))
 
-    at-sender : queue_eq name s.queue ≡ true → queue_eq name r.queue ≡ false → SenderTie d s r (w.queue name) (w.mailbox s.queue) l.requester l.responses → TiedAfter d s r l (λ place. []) v
-    at-sender here elsewhere (sender_before is same none) = assembled d s r v l l.requester l.responder l.requests l.responses tied.apart (stay d l tied.reached)
+    at-sender : queue_eq name s.queue ≡ true → queue_eq name r.queue ≡ false → SenderTie d s r (w.queue name) (w.mailbox s.queue) l.requester l.responses → TiedAfter d s r w l (λ place. []) v
+    at-sender here elsewhere (sender_before is same none) = assembled d s r w v l l.requester l.responder l.requests l.responses tied.apart (stay d l tied.reached) (requests_same refl)
         (subst (λ z. SenderTie d s r z (v.mailbox s.queue) l.requester l.responses) (sym (stands-changed w v name s.queue other m changes here).0) (now (end.before s is))) (receiver-else elsewhere)
       where
         now : IsBefore s other ⊎ IsOver s other → SenderTie d s r other (v.mailbox s.queue) l.requester l.responses
         now (inl still) = sender_before still same none
         now (inr over) = sender_gone over none
-    at-sender here elsewhere (sender_gone is none) = assembled d s r v l l.requester l.responder l.requests l.responses tied.apart (stay d l tied.reached)
+    at-sender here elsewhere (sender_gone is none) = assembled d s r w v l l.requester l.responder l.requests l.responses tied.apart (stay d l tied.reached) (requests_same refl)
         (subst (λ z. SenderTie d s r z (v.mailbox s.queue) l.requester l.responses) (sym (stands-changed w v name s.queue other m changes here).0) (sender_gone (end.over s is) none)) (receiver-else elsewhere)
-    at-sender here elsewhere (sender_standing t paired own entries) = assembled d s r v l l.requester l.responder l.requests [] tied.apart (cleared-responses d s r w l tied)
+    at-sender here elsewhere (sender_standing t paired own entries) = assembled d s r w v l l.requester l.responder l.requests [] tied.apart (cleared-responses d s r w l tied) (requests_same refl)
         (subst (λ z. SenderTie d s r z (v.mailbox s.queue) l.requester []) (sym (stands-changed w v name s.queue other m changes here).0) (sender_gone (end.there s t paired.present paired.incarnation) refl)) (receiver-else elsewhere)
 
-    by : (b : Bool) → queue_eq name r.queue ≡ b → (a : Bool) → queue_eq name s.queue ≡ a → TiedAfter d s r l (λ place. []) v
+    by : (b : Bool) → queue_eq name r.queue ≡ b → (a : Bool) → queue_eq name s.queue ≡ a → TiedAfter d s r w l (λ place. []) v
     by true here a there = at-receiver here (other-name name s.queue r.queue tied.apart here) (subst (λ z. ReceiverTie d s r z (w.mailbox r.queue) l.responder l.requests) (ap w.queue (sym (queue-path name r.queue here))) tied.receiver)
     by false none true here = at-sender here none (subst (λ z. SenderTie d s r z (w.mailbox s.queue) l.requester l.responses) (ap w.queue (sym (queue-path name s.queue here))) tied.sender)
-    by false none false nowhere = assembled d s r v l l.requester l.responder l.requests l.responses tied.apart (stay d l tied.reached) (sender-else nowhere) (receiver-else none)
+    by false none false nowhere = assembled d s r w v l l.requester l.responder l.requests l.responses tied.apart (stay d l tied.reached) (requests_same refl) (sender-else nowhere) (receiver-else none)
 
 -- ---- a reset
 
@@ -147,17 +150,17 @@ error-quiet q w name there = record {
 }
 
 pub modify-ties : (d : Direction) (s r : Correspondent) (c : Configuration) (w : World) (l : Link) (by : ℕ) (slot : Slot) → IsSoundWorld c w → IsTied d s r w l
-    → Comes (λ v ms. TiedAfter d s r l (λ place. []) v) (step c w (events.Verb by (verbs.ModifyQp slot changes.Error)))
-    × Comes (λ v ms. TiedAfter d s r l (λ place. []) v) (step c w (events.Verb by (verbs.ModifyQp slot changes.Reset)))
+    → Comes (λ v ms. TiedAfter d s r w l (λ place. []) v) (step c w (events.Verb by (verbs.ModifyQp slot changes.Error)))
+    × Comes (λ v ms. TiedAfter d s r w l (λ place. []) v) (step c w (events.Verb by (verbs.ModifyQp slot changes.Reset)))
 modify-ties d s r c w l by slot sound tied = (
   comes w P (plan c (events.Verb by (verbs.ModifyQp slot changes.Error))) ((λ named. error (w.queue (queue_of slot)) refl), λ none. same),
   comes w P (plan c (events.Verb by (verbs.ModifyQp slot changes.Reset))) ((λ named. reset (w.queue (queue_of slot)) refl), λ none. same),
 )
   where
     P : World → List Mark → Type 0
-    P v ms = TiedAfter d s r l (λ place. []) v
+    P v ms = TiedAfter d s r w l (λ place. []) v
 
-    same : TiedAfter d s r l (λ place. []) w
+    same : TiedAfter d s r w l (λ place. []) w
     same = joined-neither d s r w w l tied refl refl refl refl
 
     error_call : Call

@@ -7,6 +7,7 @@ pub mod TimerLemmas
 pub mod SendLemmas
 pub mod SentTies
 pub mod RespondTies
+pub mod TellLemmas
 pub mod PerformTies
 pub mod TurnTies
 pub mod FollowLemmas

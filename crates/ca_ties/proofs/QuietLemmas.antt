@@ -20,6 +20,7 @@ use Rattle.ca_ties.proofs.DeliverWalk.{Has}
 use Rattle.ca_ties.specs.Ties.{AreEntries, IsPaired, IsTied, ReceiverTie, RequesterTie, SenderTie, TiedAfter}
 use Rattle.ca_ties.specs.Ties.ReceiverTie.{before as receiver_before, standing as receiver_standing, gone as receiver_gone}
 use Rattle.ca_ties.specs.Ties.SenderTie.{before as sender_before, standing as sender_standing, gone as sender_gone}
+use Rattle.ca_ties.specs.Ties.RequestsAfter.{same as requests_same}
 use Rattle.ca_ties_rows.proofs.LinkLemmas.{back-moves, forgotten-moves}
 use Rattle.ca_ties_rows.specs.Entries.{SpellsRequest, SpellsResponse, SpellsSomeRequest, SpellsSomeResponse}
 use Rattle.ca_ties_rows.specs.Links.{LeadsTo, found_at}
@@ -48,6 +49,8 @@ quiet-receiver d s r l q m e quiet reached (receiver_standing t paired same entr
   tie = receiver_standing e.queue (paired-after d r s q e.queue t quiet.incarnation quiet.peer does.mtu paired) after.responder_is
       (subst (AreEntries (SpellsRequest d) SpellsSomeResponse m.envelopes) (sym after.requests_are) entries);
   found = λ place is. ap (found_at place) after.acceptances;
+  plain = λ place is. refl;
+  requests_are = after.requests_are;
 }
   where
     is : l.responder ≡ responder_in q
@@ -106,7 +109,7 @@ Turned w name slot v = Has (with_at queue_eq w.queue name slot) w.mailbox v
 
 -- the two ends after a change, put together
 pub joined-receiver : (d : Direction) (s r : Correspondent) (w v : World) (l : Link) (acted : ℕ → List ℕ) (slot : QueueSlot) (m : Mailbox) → IsTied d s r w l → v.queue s.queue ≡ w.queue s.queue → v.mailbox s.queue ≡ w.mailbox s.queue
-    → v.queue r.queue ≡ slot → v.mailbox r.queue ≡ m → ReceiverStep d s r l acted slot m → TiedAfter d s r l acted v
+    → v.queue r.queue ≡ slot → v.mailbox r.queue ≡ m → ReceiverStep d s r l acted slot m → TiedAfter d s r w l acted v
 joined-receiver d s r w v l acted slot m tied sq sm rq rm after = record {
   link = after.link;
   tied = record {
@@ -118,10 +121,12 @@ joined-receiver d s r w v l acted slot m tied sq sm rq rm after = record {
     receiver = receiver-at d s r after.link slot (v.queue r.queue) m (v.mailbox r.queue) rq rm after.tie;
   };
   found = after.found;
+  plain = after.plain;
+  requests = requests_same after.requests_are;
 }
 
 pub joined-sender : (d : Direction) (s r : Correspondent) (w v : World) (l : Link) (slot : QueueSlot) (m : Mailbox) → IsTied d s r w l → v.queue r.queue ≡ w.queue r.queue → v.mailbox r.queue ≡ w.mailbox r.queue
-    → v.queue s.queue ≡ slot → v.mailbox s.queue ≡ m → SenderStep d s r l slot m → TiedAfter d s r l (λ place. []) v
+    → v.queue s.queue ≡ slot → v.mailbox s.queue ≡ m → SenderStep d s r l slot m → TiedAfter d s r w l (λ place. []) v
 joined-sender d s r w v l slot m tied rq rm sq sm after = record {
   link = after.link;
   tied = record {
@@ -133,10 +138,12 @@ joined-sender d s r w v l slot m tied rq rm sq sm after = record {
         (subst (λ z. ReceiverTie d s r (w.queue r.queue) (w.mailbox r.queue) l.responder z) (sym after.requests_are) tied.receiver));
   };
   found = λ place atomic. ap (found_at place) after.acceptances;
+  plain = λ place none. refl;
+  requests = requests_same after.requests_are;
 }
 
 pub joined-neither : (d : Direction) (s r : Correspondent) (w v : World) (l : Link) → IsTied d s r w l → v.queue r.queue ≡ w.queue r.queue → v.mailbox r.queue ≡ w.mailbox r.queue
-    → v.queue s.queue ≡ w.queue s.queue → v.mailbox s.queue ≡ w.mailbox s.queue → TiedAfter d s r l (λ place. []) v
+    → v.queue s.queue ≡ w.queue s.queue → v.mailbox s.queue ≡ w.mailbox s.queue → TiedAfter d s r w l (λ place. []) v
 joined-neither d s r w v l tied rq rm sq sm = record {
   link = l;
   tied = record {
@@ -146,6 +153,8 @@ joined-neither d s r w v l tied rq rm sq sm = record {
     receiver = receiver-at d s r l (w.queue r.queue) (v.queue r.queue) (w.mailbox r.queue) (v.mailbox r.queue) rq rm tied.receiver;
   };
   found = λ place atomic. refl;
+  plain = λ place none. refl;
+  requests = requests_same refl;
 }
 
 pub turned-here : (w v : World) (name n : QueueId) (slot : QueueSlot) → Turned w name slot v → queue_eq name n ≡ true → v.queue n ≡ slot
@@ -158,10 +167,10 @@ pub turned-mail : (w v : World) (name n : QueueId) (slot : QueueSlot) → Turned
 turned-mail w v name n slot turned = ap (λ (f : QueueId → Mailbox). f n) turned.mailbox
 
 pub quiet-ties : (d : Direction) (s r : Correspondent) (w v : World) (l : Link) (name : QueueId) (q : QueuePair) (e : Effects) → w.queue name ≡ Present q → IsQuiet q e → Turned w name (Present e.queue) v → IsTied d s r w l
-    → TiedAfter d s r l (λ place. []) v
+    → TiedAfter d s r w l (λ place. []) v
 quiet-ties d s r w v l name q e is quiet turned tied = by (queue_eq name r.queue) refl (queue_eq name s.queue) refl
   where
-    by : (b : Bool) → queue_eq name r.queue ≡ b → (a : Bool) → queue_eq name s.queue ≡ a → TiedAfter d s r l (λ place. []) v
+    by : (b : Bool) → queue_eq name r.queue ≡ b → (a : Bool) → queue_eq name s.queue ≡ a → TiedAfter d s r w l (λ place. []) v
     by true here a there = joined-receiver d s r w v l (λ place. []) (Present e.queue) (w.mailbox r.queue) tied
         (turned-elsewhere w v name s.queue (Present e.queue) turned (other-name name s.queue r.queue tied.apart here)) (turned-mail w v name s.queue (Present e.queue) turned)
         (turned-here w v name r.queue (Present e.queue) turned here) (turned-mail w v name r.queue (Present e.queue) turned)

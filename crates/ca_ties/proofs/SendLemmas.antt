@@ -52,8 +52,8 @@ has-sent w v q p lot queues (Some x) has = by (reaches_peer q p (w.mailbox p.que
 
 -- a turn that may send changes the queue pair by an ending of its row, and the peer's mailbox
 pub leads-left : (c : Configuration) (w : World) (P : World → List Mark → Type 0) (q : QueuePair) (p : Correspondent) (lot : Lot) (row : Row)
-    → ((e : Effects) (v : World) (ms : List Mark) → Ends row e → Has (with_at queue_eq w.queue q.queue (Present e.queue)) (boxes_after w q p lot (packet_sent e)) v → P v ms)
-    → Leads w P (Row_plan c row (Leave_plan q (around_in w q (shared_of w q)) p (w.mailbox p.queue) lot))
+    → ((e : Effects) (v : World) (ms : List Mark) → Ends row e → Has (with_at queue_eq w.queue q.queue (Present e.queue)) (boxes_after w q p lot (packet_sent e)) v
+    → ms ≡ e.marks ++ option_map_or (sent_marks q p (w.mailbox p.queue) lot) (packet_sent e) [] → P v ms) → Leads w P (Row_plan c row (Leave_plan q (around_in w q (shared_of w q)) p (w.mailbox p.queue) lot))
 leads-left c w P q p lot row more = leads-row c w P (Ends row) row (Leave_plan q a p (w.mailbox p.queue) lot) (row-ends row) (λ e cs ws ends aside. ended e cs ws ends aside)
   where
     a : Around
@@ -71,7 +71,7 @@ leads-left c w P q p lot row more = leads-row c w P (Ends row) row (Leave_plan q
         (subst (Has (with_at queue_eq w.queue q.queue (Present e.queue)) (boxes_after w q p lot (packet_sent e)))
         (sym (puts-append (updates_of q a e) (cs ++ sends e) w ∙ puts-append cs (sends e) (put_all (updates_of q a e) w)))
         (has-sent w (put_all cs (put_all (updates_of q a e) w)) q p lot (with_at queue_eq w.queue q.queue (Present e.queue)) (packet_sent e)
-        (has-aside (with_at queue_eq w.queue q.queue (Present e.queue)) w.mailbox cs (put_all (updates_of q a e) w) aside (has-turn w q a e)))))
+        (has-aside (with_at queue_eq w.queue q.queue (Present e.queue)) w.mailbox cs (put_all (updates_of q a e) w) aside (has-turn w q a e))))) refl
 
 -- ---- paths
 
@@ -121,11 +121,11 @@ more-entries Own Other lot bytes m None xs spells entries = (spells, take-entrie
 more-entries Own Other lot bytes m (Some x) xs spells entries = (spells, take-entries Own Other (KEPT_ENVELOPES - 1) m.envelopes xs entries)
 
 -- a life that has come before, or is over, has no path to it
-no-path-before : (life : Correspondent) (peer : Correspondent) (slot : QueueSlot) → IsBefore life slot → incarnation_of slot ≡ life.incarnation → peer_in slot ≡ Some peer → ⊥
+pub no-path-before : (life : Correspondent) (peer : Correspondent) (slot : QueueSlot) → IsBefore life slot → incarnation_of slot ≡ life.incarnation → peer_in slot ≡ Some peer → ⊥
 no-path-before life peer slot (sooner less) incarnation named = omega (arith, less, incarnation)
 no-path-before life peer slot (unnamed q is same none) incarnation named = true≢false (sym (ap is_some (sym (ap peer_in is ∙ none) ∙ named)))
 
-no-path-over : (life : Correspondent) (peer : Correspondent) (slot : QueueSlot) → IsOver life slot → incarnation_of slot ≡ life.incarnation → peer_in slot ≡ Some peer → ⊥
+pub no-path-over : (life : Correspondent) (peer : Correspondent) (slot : QueueSlot) → IsOver life slot → incarnation_of slot ≡ life.incarnation → peer_in slot ≡ Some peer → ⊥
 no-path-over life peer slot (later more) incarnation named = omega (arith, more, incarnation)
 no-path-over life peer slot (vacant none same) incarnation named = by slot none named
   where

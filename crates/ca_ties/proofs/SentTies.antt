@@ -5,7 +5,7 @@ use Rattle.ca_agree.specs.Agreement.{peer_in}
 use Rattle.ca_base.specs.declared.correspondent.Correspondent.{Correspondent}
 use Rattle.ca_base.specs.declared.lot.Lot.{Lot}
 use Rattle.ca_base.specs.objects.Mailbox.{Mailbox, after_send}
-use Rattle.ca_base.specs.objects.QueuePair.{QueuePair, QueueSlot, Present, correspondent_of, incarnation_of}
+use Rattle.ca_base.specs.objects.QueuePair.{QueuePair, QueueSlot, Present, correspondent_of, incarnation_of, is_present}
 use Rattle.ca_connection.specs.Layout.{Direction}
 use Rattle.ca_connection.specs.Link.{Link, RequestPacket, Requester, Responder, Response}
 use Rattle.ca_connection.specs.Moves.{Reached}
@@ -15,6 +15,7 @@ use Rattle.ca_keys.specs.Equal.{queue_eq}
 use Rattle.ca_keys.specs.declared.names.QueueId.{QueueId}
 use Rattle.ca_laws_sound.proofs.SettledLemmas.{queue-path, queue-refl}
 use Rattle.ca_model.specs.Past.{with_at}
+use Rattle.ca_model.specs.declared.mark.Mark.{Mark}
 use Rattle.ca_model.specs.machine.Invariants.{is_sending}
 use Rattle.ca_model.specs.machine.Row.{Effects}
 use Rattle.ca_model.specs.machine.Turns.{reaches_peer}
@@ -23,7 +24,9 @@ use Rattle.ca_ties.proofs.DeliverLemmas.{before-after, before-rtr, over-after, p
 use Rattle.ca_ties.proofs.DeliverTies.{other-name}
 use Rattle.ca_ties.proofs.SendLemmas.{boxed-receiver, boxed-sender, boxes_after, grown-receiver, grown-sender, nowhere-receiver, reaches-back, reaches-parts}
 use Rattle.ca_ties.proofs.TimerLemmas.{IsFoundAt}
-use Rattle.ca_ties.specs.Ties.{IsBefore, IsOver, IsPaired, IsTied, MailFollows, ReceiverTie, RequesterTie, SenderTie, TiedAfter}
+use Rattle.ca_ties.specs.Ties.{IsBefore, IsOver, IsPaired, IsSentFor, IsTied, MailFollows, ReceiverTie, RequesterTie, RequestsAfter, RequestsTold, SenderTie, TiedAfter, TurnAfter, sent_to}
+use Rattle.ca_ties.specs.Ties.RequestsAfter.{same as requests_same, grown as requests_grown}
+use Rattle.ca_ties.specs.Ties.RequestsTold.{kept as told_kept, absent as told_absent, grown as told_grown}
 use Rattle.ca_ties.specs.Ties.IsBefore.{sooner, unnamed}
 use Rattle.ca_ties.specs.Ties.IsOver.{later, vacant}
 use Rattle.ca_ties.specs.Ties.ReceiverTie.{before as receiver_before, standing as receiver_standing, gone as receiver_gone}
@@ -69,10 +72,10 @@ one-request d l true requester responder requests responses to = record {
 }
 
 -- both ends say what that link says
-pub assembled : (d : Direction) (s r : Correspondent) (v : World) (l : Link) (requester : Requester) (responder : Responder) (requests : List (Option RequestPacket)) (responses : List (Option Response)) → queue_eq s.queue r.queue ≡ false
-    → LeadsTo d l requester responder requests responses → SenderTie d s r (v.queue s.queue) (v.mailbox s.queue) requester responses → ReceiverTie d s r (v.queue r.queue) (v.mailbox r.queue) responder requests
-    → TiedAfter d s r l (λ place. []) v
-assembled d s r v l requester responder requests responses apart to sender receiver = record {
+abbrev pub assembled : (d : Direction) (s r : Correspondent) (w v : World) (l : Link) (requester : Requester) (responder : Responder) (requests : List (Option RequestPacket)) (responses : List (Option Response)) → queue_eq s.queue r.queue ≡ false
+    → LeadsTo d l requester responder requests responses → RequestsAfter r w v l.requests requests → SenderTie d s r (v.queue s.queue) (v.mailbox s.queue) requester responses
+    → ReceiverTie d s r (v.queue r.queue) (v.mailbox r.queue) responder requests → TiedAfter d s r w l (λ place. []) v
+assembled d s r w v l requester responder requests responses apart to after sender receiver = record {
   link = to.link;
   tied = record {
     apart = apart;
@@ -83,6 +86,17 @@ assembled d s r v l requester responder requests responses apart to sender recei
         (subst (λ z. ReceiverTie d s r (v.queue r.queue) (v.mailbox r.queue) responder z) (sym to.requests_are) receiver);
   };
   found = λ place atomic. ap (found_at place) to.acceptances;
+  plain = λ place none. refl;
+  requests = subst (RequestsAfter r w v l.requests) (sym to.requests_are) after;
+}
+
+-- the same of a turn, whose marks tell of the requests
+pub turned : (d : Direction) (s r : Correspondent) (w v : World) (l : Link) (ms : List Mark) (requester : Requester) (responder : Responder) (requests : List (Option RequestPacket)) (responses : List (Option Response))
+    → queue_eq s.queue r.queue ≡ false → LeadsTo d l requester responder requests responses → RequestsAfter r w v l.requests requests → RequestsTold d s r w ms l.requests requests
+    → SenderTie d s r (v.queue s.queue) (v.mailbox s.queue) requester responses → ReceiverTie d s r (v.queue r.queue) (v.mailbox r.queue) responder requests → TurnAfter d s r w l ms v
+turned d s r w v l ms requester responder requests responses apart to after told sender receiver = record {
+  after = assembled d s r w v l requester responder requests responses apart to after sender receiver;
+  told = subst (RequestsTold d s r w ms l.requests) (sym to.requests_are) told;
 }
 
 -- ---- a packet that the queue pair q at a name sends to p, with these bytes
@@ -169,24 +183,94 @@ apart-back a b apart = other-name b a b apart (queue-refl b)
 pub mtu-of : (d : Direction) (q t : QueuePair) (life other : Correspondent) → IsPaired d life other (Present q) t → q.responder.mtu ≡ d.mtu
 mtu-of d q t life other paired = ap (λ (x : QueuePair). x.responder.mtu) (present-same q t paired.present) ∙ paired.mtu
 
+-- ---- what the marks tell
+
+-- the marks tell of one packet sent, where a path leads to the peer
+abbrev pub Tells : World → List Mark → QueuePair → Correspondent → Option ℕ → Type 0
+Tells w ms q p request = (n : QueueId) → sent_to n ms ≡ (if queue_eq p.queue n then (if reaches_peer q p (w.mailbox p.queue) then (q.queue, request) ∷ [] else []) else [])
+
+-- no life that has not come, or is over, has named a peer
+unpaired-before : (d : Direction) (life peer : Correspondent) (slot : QueueSlot) (t : QueuePair) → IsBefore life slot → IsPaired d life peer slot t → ⊥
+unpaired-before d life peer slot t (sooner less) paired = omega (arith, less, ap incarnation_of paired.present, paired.incarnation)
+unpaired-before d life peer slot t (unnamed q is own none) paired = true≢false (sym (ap is_some (sym (ap peer_in is ∙ none) ∙ ap peer_in paired.present ∙ paired.names)))
+
+unpaired-over : (d : Direction) (life peer : Correspondent) (slot : QueueSlot) (t : QueuePair) → IsOver life slot → IsPaired d life peer slot t → ⊥
+unpaired-over d life peer slot t (later more) paired = omega (arith, more, ap incarnation_of paired.present, paired.incarnation)
+unpaired-over d life peer slot t (vacant none own) paired = true≢false (sym (ap is_present paired.present) ∙ none)
+
+-- what another life sends is not told of, where the life that receives stands
+pub foreign-told : (d : Direction) (s r : Correspondent) (w v : World) (l : Link) (ms : List Mark) (name : QueueId) (q : QueuePair) (p : Correspondent) (lot : Lot) (bytes : List ℕ) (e : Effects) (request : Option ℕ) → IsSent w v name q p lot bytes e
+    → Tells w ms q p request → (correspondent_of q ≡ s → ⊥) → ReceiverTie d s r (w.queue r.queue) (w.mailbox r.queue) l.responder l.requests → RequestsTold d s r w ms l.requests l.requests
+foreign-told d s r w v l ms name q p lot bytes e request x tells strange tie = by tie
+  where
+    reach : Bool
+    reach = reaches_peer q p (w.mailbox p.queue)
+
+    one : Bool → List (QueueId × Option ℕ)
+    one b = if b then (q.queue, request) ∷ [] else []
+
+    unsent : (t : QueuePair) → IsPaired d r s (w.queue r.queue) t → sent_to r.queue ms ≡ []
+    unsent t paired = tells r.queue ∙ at (queue_eq p.queue r.queue) refl
+      where
+        met : queue_eq p.queue r.queue ≡ true → (b : Bool) → reach ≡ b → one b ≡ []
+        met is false none = refl
+        met is true leads = absurd (strange (same_Some (correspondent_of q) s (sym (path-leads w q p x.follows leads).1 ∙ ap (λ n. peer_in (w.queue n)) (queue-path p.queue r.queue is) ∙ ap peer_in paired.present ∙ paired.names)))
+
+        at : (b : Bool) → queue_eq p.queue r.queue ≡ b → (if b then one reach else []) ≡ []
+        at true is = met is reach refl
+        at false is = refl
+
+    by : ReceiverTie d s r (w.queue r.queue) (w.mailbox r.queue) l.responder l.requests → RequestsTold d s r w ms l.requests l.requests
+    by (receiver_before is own none) = told_absent refl (λ t paired. unpaired-before d r s (w.queue r.queue) t is paired)
+    by (receiver_gone is none) = told_absent refl (λ t paired. unpaired-over d r s (w.queue r.queue) t is paired)
+    by (receiver_standing t paired own entries) = told_kept refl (unsent t paired)
+
+-- what the life that sends sends is told of, where a path leads there
+pub sent-told : (d : Direction) (s r : Correspondent) (w : World) (ms : List Mark) (q : QueuePair) (p : Correspondent) (request : Option ℕ) (x : Option RequestPacket) (requests : List (Option RequestPacket)) (b : Bool) → Tells w ms q p request
+    → queue_eq p.queue r.queue ≡ true → reaches_peer q p (w.mailbox p.queue) ≡ b → IsSentFor s w x q.queue request → RequestsTold d s r w ms requests (if b then x ∷ requests else requests)
+sent-told d s r w ms q p request x requests true tells is leads own = told_grown x q.queue request refl
+    (tells r.queue ∙ ap₂ at is leads) own
+  where
+    at : Bool → Bool → List (QueueId × Option ℕ)
+    at a c = if a then (if c then (q.queue, request) ∷ [] else []) else []
+sent-told d s r w ms q p request x requests false tells is leads own = told_kept refl (tells r.queue ∙ ap₂ at is leads)
+  where
+    at : Bool → Bool → List (QueueId × Option ℕ)
+    at a c = if a then (if c then (q.queue, request) ∷ [] else []) else []
+
+pub sent-after : (r : Correspondent) (w v : World) (name : QueueId) (q : QueuePair) (p : Correspondent) (lot : Lot) (bytes : List ℕ) (e : Effects) (x : Option RequestPacket) (requests : List (Option RequestPacket)) (b : Bool)
+    → IsSent w v name q p lot bytes e → queue_eq p.queue r.queue ≡ true → reaches_peer q p (w.mailbox p.queue) ≡ b → RequestsAfter r w v requests (if b then x ∷ requests else requests)
+sent-after r w v name q p lot bytes e x requests true y is leads = requests_grown x refl
+    (ap (λ (m : Mailbox). m.next) (box-here w v name r.queue q p lot bytes e y is ∙ ap (λ c. if c then after_send lot bytes (w.mailbox r.queue) else w.mailbox r.queue) leads))
+sent-after r w v name q p lot bytes e x requests false y is leads = requests_same refl
+
+-- who is not at the name of a life is not that life
+pub is-strange : (w v : World) (name : QueueId) (q : QueuePair) (p : Correspondent) (lot : Lot) (bytes : List ℕ) (e : Effects) (life : Correspondent) → IsSent w v name q p lot bytes e → queue_eq name life.queue ≡ false
+    → correspondent_of q ≡ life → ⊥
+is-strange w v name q p lot bytes e life y none is = true≢false (sym (queue-refl life.queue) ∙ ap (λ n. queue_eq n life.queue) (sym (sym (y.there.named) ∙ ap (λ (z : Correspondent). z.queue) is)) ∙ none)
+
 -- ---- a request
 
-pub record IsRequest (w v : World) (name : QueueId) (q : QueuePair) (p : Correspondent) (lot : Lot) (place : ℕ) (e : Effects) : Type 0 where
+pub record IsRequest (w v : World) (name : QueueId) (q : QueuePair) (p : Correspondent) (lot : Lot) (place : ℕ) (e : Effects) (ms : List Mark) : Type 0 where
   pub sent : IsSent w v name q p lot e.spelt e
   pub sending : is_sending q.state ≡ true
   pub sends : (d : Direction) → IsLaid d q → SendsIn d (requester_in q) place e
   pub forgets : (d : Direction) → q.responder.mtu ≡ d.mtu → ForgetsIn d (responder_in q) e
   pub other : SpellsSomeRequest e.spelt
+  pub tells : Tells w ms q p (Some place)
 
-pub request-ties : (d : Direction) (s r : Correspondent) (w v : World) (l : Link) (name : QueueId) (q : QueuePair) (p : Correspondent) (lot : Lot) (place : ℕ) (e : Effects) → IsRequest w v name q p lot place e → IsTied d s r w l
-    → TiedAfter d s r l (λ place. []) v
-request-ties d s r w v l name q p lot place e x tied = by (queue_eq name r.queue) refl (queue_eq name s.queue) refl
+pub request-ties : (d : Direction) (s r : Correspondent) (w v : World) (l : Link) (name : QueueId) (q : QueuePair) (p : Correspondent) (lot : Lot) (place : ℕ) (e : Effects) (ms : List Mark) → IsRequest w v name q p lot place e ms → IsTied d s r w l
+    → TurnAfter d s r w l ms v
+request-ties d s r w v l name q p lot place e ms x tied = by (queue_eq name r.queue) refl (queue_eq name s.queue) refl
   where
     y : IsSent w v name q p lot e.spelt e
     y = x.sent
 
     reach : Bool
     reach = reaches_peer q p (w.mailbox p.queue)
+
+    untold : (correspondent_of q ≡ s → ⊥) → RequestsTold d s r w ms l.requests l.requests
+    untold strange = foreign-told d s r w v l ms name q p lot e.spelt e (Some place) y x.tells strange tied.receiver
 
     receiver-else : queue_eq name r.queue ≡ false → (correspondent_of q ≡ s → ⊥) → ReceiverTie d s r (v.queue r.queue) (v.mailbox r.queue) l.responder l.requests
     receiver-else is strange = subst (λ z. ReceiverTie d s r z (v.mailbox r.queue) l.responder l.requests) (sym (slot-else w v name r.queue q p lot e.spelt e y is))
@@ -197,16 +281,17 @@ request-ties d s r w v l name q p lot place e x tied = by (queue_eq name r.queue
         (boxed-sender d s r (w.queue s.queue) (w.mailbox s.queue) (v.mailbox s.queue) l.requester l.responses (λ t paired. foreign-box d w v name q p lot e.spelt e s r y strange t paired) tied.sender)
 
     -- the end that receives is who sends: a packet of the other direction
-    at-receiver : queue_eq name r.queue ≡ true → queue_eq name s.queue ≡ false → ReceiverTie d s r (Present q) (w.mailbox r.queue) l.responder l.requests → TiedAfter d s r l (λ place. []) v
-    at-receiver here there (receiver_before is own none) = assembled d s r v l l.requester l.responder l.requests l.responses tied.apart (stay d l tied.reached)
+    at-receiver : queue_eq name r.queue ≡ true → queue_eq name s.queue ≡ false → ReceiverTie d s r (Present q) (w.mailbox r.queue) l.responder l.requests → TurnAfter d s r w l ms v
+    at-receiver here there (receiver_before is own none) = turned d s r w v l ms l.requester l.responder l.requests l.responses tied.apart (stay d l tied.reached) (requests_same refl) (untold (is-strange w v name q p lot e.spelt e s y there))
         (sender-else there (not-before w name q p r y.names is))
         (subst (λ z. ReceiverTie d s r z (v.mailbox r.queue) l.responder l.requests) (sym (slot-here w v name r.queue q p lot e.spelt e y here)) (receiver_before (before-after r q e.queue y.incarnation y.peer is) own none))
-    at-receiver here there (receiver_gone is none) = assembled d s r v l l.requester l.responder l.requests l.responses tied.apart (stay d l tied.reached)
+    at-receiver here there (receiver_gone is none) = turned d s r w v l ms l.requester l.responder l.requests l.responses tied.apart (stay d l tied.reached) (requests_same refl) (untold (is-strange w v name q p lot e.spelt e s y there))
         (sender-else there (not-over w name q r is))
         (subst (λ z. ReceiverTie d s r z (v.mailbox r.queue) l.responder l.requests) (sym (slot-here w v name r.queue q p lot e.spelt e y here)) (receiver_gone (over-after r q e.queue y.incarnation is) none))
     at-receiver here there (receiver_standing t paired same entries) =
-        assembled d s r v l l.requester (responder_in e.queue) l.requests (if reach then None ∷ l.responses else l.responses) tied.apart
+        turned d s r w v l ms l.requester (responder_in e.queue) l.requests (if reach then None ∷ l.responses else l.responses) tied.apart
         (one-response d l reach l.requester (responder_in e.queue) l.requests l.responses (forgotten-moves d l e tied.reached does))
+        (requests_same refl) (untold (is-strange w v name q p lot e.spelt e s y there))
         (subst (λ z. SenderTie d s r z (v.mailbox s.queue) l.requester (if reach then None ∷ l.responses else l.responses)) (sym (slot-else w v name s.queue q p lot e.spelt e y there))
         (subst (λ z. SenderTie d s r (w.queue s.queue) z l.requester (if reach then None ∷ l.responses else l.responses)) (sym (box-here w v name s.queue q p lot e.spelt e y (ap (λ n. queue_eq n s.queue) to_s ∙ queue-refl s.queue)))
         (grown-sender d s r (w.queue s.queue) (w.mailbox s.queue) l.requester l.responses lot e.spelt None reach path x.other tied.sender)))
@@ -233,15 +318,17 @@ request-ties d s r w v l name q p lot place e x tied = by (queue_eq name r.queue
         )
 
     -- the end that sends is who sends
-    at-sender : queue_eq name s.queue ≡ true → queue_eq name r.queue ≡ false → SenderTie d s r (Present q) (w.mailbox s.queue) l.requester l.responses → TiedAfter d s r l (λ place. []) v
-    at-sender here there (sender_before is own none) = assembled d s r v l l.requester l.responder l.requests l.responses tied.apart (stay d l tied.reached)
+    at-sender : queue_eq name s.queue ≡ true → queue_eq name r.queue ≡ false → SenderTie d s r (Present q) (w.mailbox s.queue) l.requester l.responses → TurnAfter d s r w l ms v
+    at-sender here there (sender_before is own none) = turned d s r w v l ms l.requester l.responder l.requests l.responses tied.apart (stay d l tied.reached) (requests_same refl) (untold (not-before w name q p s y.names is))
         (subst (λ z. SenderTie d s r z (v.mailbox s.queue) l.requester l.responses) (sym (slot-here w v name s.queue q p lot e.spelt e y here)) (sender_before (before-after s q e.queue y.incarnation y.peer is) own none))
         (receiver-else there (not-before w name q p s y.names is))
-    at-sender here there (sender_gone is none) = assembled d s r v l l.requester l.responder l.requests l.responses tied.apart (stay d l tied.reached)
+    at-sender here there (sender_gone is none) = turned d s r w v l ms l.requester l.responder l.requests l.responses tied.apart (stay d l tied.reached) (requests_same refl) (untold (not-over w name q s is))
         (subst (λ z. SenderTie d s r z (v.mailbox s.queue) l.requester l.responses) (sym (slot-here w v name s.queue q p lot e.spelt e y here)) (sender_gone (over-after s q e.queue y.incarnation is) none))
         (receiver-else there (not-over w name q s is))
     at-sender here there (sender_standing t paired stood entries) =
-        assembled d s r v l (requester_in e.queue) l.responder (if reach then Some packet ∷ l.requests else l.requests) l.responses tied.apart (leads reach refl)
+        turned d s r w v l ms (requester_in e.queue) l.responder (if reach then Some packet ∷ l.requests else l.requests) l.responses tied.apart (leads reach refl)
+        (sent-after r w v name q p lot e.spelt e (Some packet) l.requests reach y to_r_is refl)
+        (sent-told d s r w ms q p (Some place) (Some packet) l.requests reach x.tells to_r_is refl (ap (λ (z : Correspondent). z.queue) own_is, stands, refl))
         (subst (λ z. SenderTie d s r z (v.mailbox s.queue) (requester_in e.queue) l.responses) (sym (slot-here w v name s.queue q p lot e.spelt e y here))
         (subst (λ z. SenderTie d s r (Present e.queue) z (requester_in e.queue) l.responses) (sym (box-else w v name s.queue q p lot e.spelt e y (ap (λ n. queue_eq n s.queue) to_r ∙ apart-back s.queue r.queue tied.apart)))
         (sender_standing e.queue (paired-after d s r q e.queue t y.incarnation y.peer (y.state.1 ∙ mtu-of d q t s r paired) paired) (record {
@@ -250,7 +337,7 @@ request-ties d s r w v l name q p lot place e x tied = by (queue_eq name r.queue
           laid = does.laid;
         }) entries)))
         (subst (λ z. ReceiverTie d s r z (v.mailbox r.queue) l.responder (if reach then Some packet ∷ l.requests else l.requests)) (sym (slot-else w v name r.queue q p lot e.spelt e y there))
-        (subst (λ z. ReceiverTie d s r (w.queue r.queue) z l.responder (if reach then Some packet ∷ l.requests else l.requests)) (sym (box-here w v name r.queue q p lot e.spelt e y (ap (λ n. queue_eq n r.queue) to_r ∙ queue-refl r.queue)))
+        (subst (λ z. ReceiverTie d s r (w.queue r.queue) z l.responder (if reach then Some packet ∷ l.requests else l.requests)) (sym (box-here w v name r.queue q p lot e.spelt e y to_r_is))
         (grown-receiver d s r (w.queue r.queue) (w.mailbox r.queue) l.responder l.requests lot e.spelt (Some packet) reach path does.spells tied.receiver)))
       where
         own : RequesterTie d q l.requester
@@ -265,8 +352,14 @@ request-ties d s r w v l name q p lot place e x tied = by (queue_eq name r.queue
         to_r : p.queue ≡ r.queue
         to_r = ap (λ (z : Correspondent). z.queue) peer_is
 
+        to_r_is : queue_eq p.queue r.queue ≡ true
+        to_r_is = ap (λ n. queue_eq n r.queue) to_r ∙ queue-refl r.queue
+
         own_is : correspondent_of q ≡ s
         own_is = is-life d w name q t s r y.there here paired
+
+        stands : incarnation_of (w.queue s.queue) ≡ s.incarnation
+        stands = ap (λ n. incarnation_of (w.queue n)) (sym (queue-path name s.queue here)) ∙ ap incarnation_of y.there.is ∙ ap (λ (z : Correspondent). z.incarnation) own_is
 
         does : SendsIn d l.requester place e
         does = subst (λ z. SendsIn d z place e) (sym (own.sending x.sending)) (x.sends d (own.laid x.sending))
@@ -285,14 +378,11 @@ request-ties d s r w v l name q p lot place e x tied = by (queue_eq name r.queue
         leads true is = sent-moves d l place e tied.reached does
         leads false is = subst (λ xs. LeadsTo d l (requester_in e.queue) l.responder xs l.responses) (sym (nobody is)) (sent-nowhere-moves d l place e tied.reached (nobody is) does)
 
-    third : queue_eq name r.queue ≡ false → queue_eq name s.queue ≡ false → TiedAfter d s r l (λ place. []) v
-    third not_r not_s = assembled d s r v l l.requester l.responder l.requests l.responses tied.apart (stay d l tied.reached)
-        (sender-else not_s (strange r not_r)) (receiver-else not_r (strange s not_s))
-      where
-        strange : (life : Correspondent) → queue_eq name life.queue ≡ false → correspondent_of q ≡ life → ⊥
-        strange life none is = true≢false (sym (queue-refl life.queue) ∙ ap (λ n. queue_eq n life.queue) (sym (sym (y.there.named) ∙ ap (λ (z : Correspondent). z.queue) is)) ∙ none)
+    third : queue_eq name r.queue ≡ false → queue_eq name s.queue ≡ false → TurnAfter d s r w l ms v
+    third not_r not_s = turned d s r w v l ms l.requester l.responder l.requests l.responses tied.apart (stay d l tied.reached) (requests_same refl) (untold (is-strange w v name q p lot e.spelt e s y not_s))
+        (sender-else not_s (is-strange w v name q p lot e.spelt e r y not_r)) (receiver-else not_r (is-strange w v name q p lot e.spelt e s y not_s))
 
-    by : (b : Bool) → queue_eq name r.queue ≡ b → (a : Bool) → queue_eq name s.queue ≡ a → TiedAfter d s r l (λ place. []) v
+    by : (b : Bool) → queue_eq name r.queue ≡ b → (a : Bool) → queue_eq name s.queue ≡ a → TurnAfter d s r w l ms v
     by true here a there = at-receiver here (other-name name s.queue r.queue tied.apart here)
         (subst (λ z. ReceiverTie d s r z (w.mailbox r.queue) l.responder l.requests) (ap w.queue (sym (queue-path name r.queue here)) ∙ y.there.is) tied.receiver)
     by false there true here = at-sender here there

@@ -1,7 +1,9 @@
 -- The turns of requester and responder keep a world tied to a link.
 use Rattle.std.proofs.Common.{◌≡◌, ℕ, Bool, true, List, [], ◌++◌, Option, None, Some, refl, ap, sym, subst, ◌∙◌, arith}
-use Rattle.ca_agree.proofs.InnerLemmas.{IsInner, packet-inner, respond-inner}
-use Rattle.ca_agree.proofs.LeadsLemmas.{AreAside, comes, leads-around, leads-queue, leads-unless}
+use Rattle.std.specs.Option.{option_map_or}
+use Rattle.ca_agree.proofs.InnerLemmas.{AreOwn, IsInner, packet-inner, respond-inner}
+use Rattle.ca_agree.proofs.LeadsLemmas.{AreAside, comes, leads-around, leads-queue, leads-unless, leads-weaker}
+use Rattle.ca_agree.proofs.PerformLemmas.{leads-perform as inner-perform}
 use Rattle.ca_agree.specs.Runs.{Comes, Leads}
 use Rattle.ca_base.specs.Configuration.{Configuration}
 use Rattle.ca_base.specs.declared.correspondent.Correspondent.{Correspondent}
@@ -22,14 +24,15 @@ use Rattle.ca_model.specs.declared.event.Event.TheVariants as events
 use Rattle.ca_model.specs.declared.mark.Mark.{Mark}
 use Rattle.ca_model.specs.machine.Around.{With_around, updates_of}
 use Rattle.ca_model.specs.machine.Invariants.{is_sending}
+use Rattle.ca_model.specs.machine.LocalOperations.{Finishing, Perform_plan}
 use Rattle.ca_model.specs.machine.Numbering.{Numbered}
-use Rattle.ca_model.specs.machine.Plan.{Finish, Stuck, Update, Write, put_all, write_all}
+use Rattle.ca_model.specs.machine.Plan.{Did, Finish, NotReady, Outcome, Stuck, Update, Write, put_all, write_all}
 use Rattle.ca_model.specs.machine.Requester.{Performs, RequestTurn, Sends, Waits, next_request, packet_row, turn_of, turn_refusals}
 use Rattle.ca_model.specs.machine.Respond.{respond_refusals, respond_row}
 use Rattle.ca_model.specs.machine.Row.{Effects, Row}
 use Rattle.ca_model.specs.machine.Sound.{IsSoundWorld}
 use Rattle.ca_model.specs.machine.Step.{step}
-use Rattle.ca_model.specs.machine.Turns.{Packet, Request_around, Respond_around, has_room_for, packet_sent, request_plan, respond_plan}
+use Rattle.ca_model.specs.machine.Turns.{Packet, Request_around, Respond_around, has_room_for, packet_sent, request_plan, respond_plan, sent_marks}
 use Rattle.ca_model.specs.machine.World.{World}
 use Rattle.ca_ties.proofs.DeliverWalk.{Ends, Has, ends-as, ends-do, has-aside, has-turn, has-writes, puts-append}
 use Rattle.ca_ties.proofs.PerformTies.{leads-perform}
@@ -38,7 +41,9 @@ use Rattle.ca_ties.proofs.RespondTies.{response-ties}
 use Rattle.ca_ties.proofs.SendLemmas.{boxes_after, leads-left}
 use Rattle.ca_ties.proofs.SentTies.{request-ties}
 use Rattle.ca_ties.proofs.TimerLemmas.{IsFoundAt, found-at}
-use Rattle.ca_ties.specs.Ties.{IsTied, MailFollows, TiedAfter}
+use Rattle.ca_ties.proofs.TellLemmas.{leads-both, own-unsent, silent-tells, spelt-tells}
+use Rattle.ca_ties.specs.Ties.{IsTied, MailFollows, TiedAfter, TurnAfter, sent_to}
+use Rattle.ca_ties.specs.Ties.RequestsTold.{silent}
 use Rattle.ca_ties_rows.proofs.PacketRowLemmas.{packet-row}
 use Rattle.ca_ties_rows.proofs.RespondRowLemmas.{respond-leads}
 use Rattle.ca_ties_rows.proofs.TurnLemmas.{packet-requests, packet-row-forgets, packet-state, respond-responses, respond-row-stays, respond-state}
@@ -61,9 +66,14 @@ spelt-boxes w q p lot e request is = ap (λ o. boxes_after w q p lot (packet o))
     packet Silent = None
     packet (Spelt request) = Some (record { request = request; bytes = e.spelt })
 
+-- a turn that sends nothing
+untold : {d : Direction} {s r : Correspondent} {w v : World} {l : Link} {ms : List Mark} → ((n : QueueId) → sent_to n ms ≡ []) → TiedAfter d s r w l (λ place. []) v → TurnAfter d s r w l ms v
+untold none after = record { after = after; told = silent none }
+
 respond-one : (d : Direction) (s r : Correspondent) (w v : World) (l : Link) (name : QueueId) (q : QueuePair) (p : Correspondent) (lot : Lot) (room : Bool) (e : Effects) → IsFoundAt w name q → q.peer ≡ Some p → MailFollows w
-    → IsTied d s r w l → Ends (respond_row room q) e → Has (with_at queue_eq w.queue q.queue (Present e.queue)) (boxes_after w q p lot (packet_sent e)) v → TiedAfter d s r l (λ place. []) v
-respond-one d s r w v l name q p lot room e there names follows tied ends has = response-ties d s r w v l name q p lot e (record {
+    → IsTied d s r w l → Ends (respond_row room q) e → Has (with_at queue_eq w.queue q.queue (Present e.queue)) (boxes_after w q p lot (packet_sent e)) v
+    → (ms : List Mark) → ms ≡ e.marks ++ option_map_or (sent_marks q p (w.mailbox p.queue) lot) (packet_sent e) [] → TurnAfter d s r w l ms v
+respond-one d s r w v l name q p lot room e there names follows tied ends has ms are = response-ties d s r w v l name q p lot e ms (record {
   sent = record {
     there = there;
     names = names;
@@ -78,6 +88,7 @@ respond-one d s r w v l name q p lot room e there names follows tied ends has = 
   responds = λ d l reached same mtu. ends-do _ row e ends (respond-leads d l room q there.sound reached same mtu);
   stays = λ d laid. ends-do _ row e ends (respond-row-stays d q room laid);
   other = other.spells;
+  tells = spelt-tells w q p lot e None ms other.sent inner.marks are;
 }) tied
   where
     row : Row
@@ -89,23 +100,24 @@ respond-one d s r w v l name q p lot room e there names follows tied ends has = 
     other : SendsResponses e
     other = ends-do SendsResponses row e ends (respond-responses q room there.sound)
 
-pub respond-ties : (d : Direction) (s r : Correspondent) (c : Configuration) (w : World) (l : Link) (name : QueueId) (lot : Lot) → IsSoundWorld c w → MailFollows w → IsTied d s r w l
-    → Comes (λ v ms. TiedAfter d s r l (λ place. []) v) (step c w (events.Respond name lot))
-respond-ties d s r c w l name lot sound follows tied = comes w P (respond_plan c name lot)
+pub respond-turn : (d : Direction) (s r : Correspondent) (c : Configuration) (w : World) (l : Link) (name : QueueId) (lot : Lot) → IsSoundWorld c w → MailFollows w → IsTied d s r w l
+    → Comes (λ v ms. TurnAfter d s r w l ms v) (step c w (events.Respond name lot))
+respond-turn d s r c w l name lot sound follows tied = comes w P (respond_plan c name lot)
     (leads-queue c w P name reasons.State (λ q. With_around q (λ a. Respond_around c lot q a q.peer))
     (λ q is. leads-around w P q (λ a. Respond_around c lot q a q.peer) (by q (found-at c w name q sound is) q.peer refl)))
   where
     P : World → List Mark → Type 0
-    P v ms = TiedAfter d s r l (λ place. []) v
+    P v ms = TurnAfter d s r w l ms v
 
     by : (q : QueuePair) → IsFoundAt w name q → (peer : Option Correspondent) → q.peer ≡ peer → Leads w P (Respond_around c lot q (around_in w q (shared_of w q)) peer)
     by q there None is = leads-unless w P (respond_refusals true q) Stuck (Stuck reasons.Empty) (λ x. record {}) (record {})
     by q there (Some p) is = leads-left c w P q p lot (respond_row (has_room_for q p (w.mailbox p.queue)) q)
-        (λ e v ms ends has. respond-one d s r w v l name q p lot (has_room_for q p (w.mailbox p.queue)) e there is follows tied ends has)
+        (λ e v ms ends has are. respond-one d s r w v l name q p lot (has_room_for q p (w.mailbox p.queue)) e there is follows tied ends has ms are)
 
 request-one : (d : Direction) (s r : Correspondent) (w v : World) (l : Link) (name : QueueId) (q : QueuePair) (p : Correspondent) (lot : Lot) (room : Bool) (n : Numbered) (e : Effects) → IsFoundAt w name q → q.peer ≡ Some p
-    → turn_of q ≡ Sends n → MailFollows w → IsTied d s r w l → Ends (packet_row q room n) e → Has (with_at queue_eq w.queue q.queue (Present e.queue)) (boxes_after w q p lot (packet_sent e)) v → TiedAfter d s r l (λ place. []) v
-request-one d s r w v l name q p lot room n e there names turn follows tied ends has = by e.sent refl other
+    → turn_of q ≡ Sends n → MailFollows w → IsTied d s r w l → Ends (packet_row q room n) e → Has (with_at queue_eq w.queue q.queue (Present e.queue)) (boxes_after w q p lot (packet_sent e)) v
+    → (ms : List Mark) → ms ≡ e.marks ++ option_map_or (sent_marks q p (w.mailbox p.queue) lot) (packet_sent e) [] → TurnAfter d s r w l ms v
+request-one d s r w v l name q p lot room n e there names turn follows tied ends has ms are = by e.sent refl other
   where
     row : Row
     row = packet_row q room n
@@ -125,8 +137,8 @@ request-one d s r w v l name q p lot room n e there names turn follows tied ends
     queue_is : v.queue ≡ with_at queue_eq w.queue name (Present e.queue)
     queue_is = has.queue ∙ ap (λ n. with_at queue_eq w.queue n (Present e.queue)) there.named
 
-    by : (o : Sent) → e.sent ≡ o → SendsRequestsBy e o → TiedAfter d s r l (λ place. []) v
-    by Silent is sends = quiet-ties d s r w v l name q e there.is (record {
+    by : (o : Sent) → e.sent ≡ o → SendsRequestsBy e o → TurnAfter d s r w l ms v
+    by Silent is sends = untold (silent-tells w q p lot e ms is inner.marks are) (quiet-ties d s r w v l name q e there.is (record {
       incarnation = inner.incarnation;
       peer = inner.peer;
       state = ends-do (LeavesState q) row e ends (packet-state q room n);
@@ -137,9 +149,9 @@ request-one d s r w v l name q p lot room n e there names turn follows tied ends
         laid = own.laid;
       };
       responder = λ d mtu. ends-do _ row e ends (packet-row-forgets d q room n mtu);
-    }) (record { queue = queue_is; mailbox = has.mailbox ∙ silent-boxes w q p lot e is }) tied
+    }) (record { queue = queue_is; mailbox = has.mailbox ∙ silent-boxes w q p lot e is }) tied)
     by (Spelt None) is sends = absurd sends
-    by (Spelt (Some place)) is sends = request-ties d s r w v l name q p lot place e (record {
+    by (Spelt (Some place)) is sends = request-ties d s r w v l name q p lot place e ms (record {
       sent = record {
         there = there;
         names = names;
@@ -155,19 +167,29 @@ request-one d s r w v l name q p lot room n e there names turn follows tied ends
       sends = λ d laid. subst (RequestTurnBy d (requester_in q) e) is (does d (λ e. laid));
       forgets = λ d mtu. ends-do _ row e ends (packet-row-forgets d q room n mtu);
       other = sends;
+      tells = spelt-tells w q p lot e (Some place) ms is inner.marks are;
     }) tied
 
-pub request-plan-ties : (d : Direction) (s r : Correspondent) (c : Configuration) (w : World) (l : Link) (name : QueueId) (lot : Lot) → IsSoundWorld c w → MailFollows w → IsTied d s r w l
-    → Comes (λ v ms. TiedAfter d s r l (λ place. []) v) (step c w (events.Request name lot))
-request-plan-ties d s r c w l name lot sound follows tied = comes w P (request_plan c name lot)
+pub request-turn : (d : Direction) (s r : Correspondent) (c : Configuration) (w : World) (l : Link) (name : QueueId) (lot : Lot) → IsSoundWorld c w → MailFollows w → IsTied d s r w l
+    → Comes (λ v ms. TurnAfter d s r w l ms v) (step c w (events.Request name lot))
+request-turn d s r c w l name lot sound follows tied = comes w P (request_plan c name lot)
     (leads-queue c w P name reasons.State (λ q. With_around q (λ a. Request_around c lot q a q.peer (turn_of q)))
     (λ q is. leads-around w P q (λ a. Request_around c lot q a q.peer (turn_of q)) (by q (found-at c w name q sound is) q.peer refl (turn_of q) refl)))
   where
     P : World → List Mark → Type 0
-    P v ms = TiedAfter d s r l (λ place. []) v
+    P v ms = TurnAfter d s r w l ms v
+
+    Tied : World → List Mark → Type 0
+    Tied v ms = TiedAfter d s r w l (λ place. []) v
+
+    Own : World → List Mark → Type 0
+    Own v ms = AreOwn ms
+
+    Both : World → List Mark → Type 0
+    Both v ms = TiedAfter d s r w l (λ place. []) v × AreOwn ms
 
     performed : (q : QueuePair) → IsFoundAt w name q → (e : Effects) (cs : List Update) (ws : List Write) → IsQuiet q e → AreAside cs
-        → TiedAfter d s r l (λ place. []) (write_all ws (put_all (updates_of q (around_in w q (shared_of w q)) e ++ cs) w))
+        → TiedAfter d s r w l (λ place. []) (write_all ws (put_all (updates_of q (around_in w q (shared_of w q)) e ++ cs) w))
     performed q there e cs ws quiet aside = quiet-ties d s r w (write_all ws (put_all us w)) l name q e there.is quiet
         (has-writes (with_at queue_eq w.queue name (Present e.queue)) w.mailbox ws (put_all us w)
         (subst (λ n. Has (with_at queue_eq w.queue n (Present e.queue)) w.mailbox (put_all us w)) there.named
@@ -179,8 +201,26 @@ request-plan-ties d s r c w l name lot sound follows tied = comes w P (request_p
 
     by : (q : QueuePair) → IsFoundAt w name q → (peer : Option Correspondent) → q.peer ≡ peer → (turn : RequestTurn) → turn_of q ≡ turn → Leads w P (Request_around c lot q (around_in w q (shared_of w q)) peer turn)
     by q there peer is (Waits reason) turn = record {}
-    by q there peer is (Performs n) turn = leads-perform c w P q n (λ e changes writes. Finish (updates_of q (around_in w q (shared_of w q)) e ++ changes) writes e.marks) n.request.op there.sound turn
-        (λ e cs ws quiet aside. performed q there e cs ws quiet aside)
+    by q there peer is (Performs n) turn = leads-weaker w Both P (Perform_plan c q n finish) (λ v ms both. untold (λ k. own-unsent k ms both.1) both.0)
+        (leads-both w Tied Own (Perform_plan c q n finish)
+        (leads-perform c w Tied q n finish n.request.op there.sound turn (λ e cs ws quiet aside. performed q there e cs ws quiet aside))
+        (inner-perform c w Own q n finish n.request.op (λ e cs ws inner aside. inner.marks)))
+      where
+        finish : Finishing
+        finish e changes writes = Finish (updates_of q (around_in w q (shared_of w q)) e ++ changes) writes e.marks
     by q there None is (Sends n) turn = record {}
     by q there (Some p) is (Sends n) turn = leads-left c w P q p lot (packet_row q (has_room_for q p (w.mailbox p.queue)) n)
-        (λ e v ms ends has. request-one d s r w v l name q p lot (has_room_for q p (w.mailbox p.queue)) n e there is turn follows tied ends has)
+        (λ e v ms ends has are. request-one d s r w v l name q p lot (has_room_for q p (w.mailbox p.queue)) n e there is turn follows tied ends has ms are)
+
+-- the same of the ties alone
+turn-ties : (d : Direction) (s r : Correspondent) (w : World) (l : Link) (o : Outcome) → Comes (λ v ms. TurnAfter d s r w l ms v) o → Comes (λ v ms. TiedAfter d s r w l (λ place. []) v) o
+turn-ties d s r w l (NotReady reason) turn = turn
+turn-ties d s r w l (Did v ms) turn = turn.after
+
+pub respond-ties : (d : Direction) (s r : Correspondent) (c : Configuration) (w : World) (l : Link) (name : QueueId) (lot : Lot) → IsSoundWorld c w → MailFollows w → IsTied d s r w l
+    → Comes (λ v ms. TiedAfter d s r w l (λ place. []) v) (step c w (events.Respond name lot))
+respond-ties d s r c w l name lot sound follows tied = turn-ties d s r w l (step c w (events.Respond name lot)) (respond-turn d s r c w l name lot sound follows tied)
+
+pub request-plan-ties : (d : Direction) (s r : Correspondent) (c : Configuration) (w : World) (l : Link) (name : QueueId) (lot : Lot) → IsSoundWorld c w → MailFollows w → IsTied d s r w l
+    → Comes (λ v ms. TiedAfter d s r w l (λ place. []) v) (step c w (events.Request name lot))
+request-plan-ties d s r c w l name lot sound follows tied = turn-ties d s r w l (step c w (events.Request name lot)) (request-turn d s r c w l name lot sound follows tied)

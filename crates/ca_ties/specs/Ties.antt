@@ -1,6 +1,6 @@
 -- When a world and a link say the same of one direction of a connection: of the life that sends and the life that receives.
 -- Laws cite it.
-use Rattle.std.specs.Prelude.{◌≡◌, ℕ, ◌<◌, ◌==◌, ◌++◌, true, false, if◌then◌else◌, List, [], ◌∷◌, Option, None, Some, slice_get}
+use Rattle.std.specs.Prelude.{◌≡◌, ℕ, suc, ◌<◌, ◌==◌, ◌++◌, true, false, if◌then◌else◌, List, [], ◌∷◌, Option, None, Some, slice_get}
 use Rattle.ca_agree.specs.Agreement.{peer_in}
 use Rattle.ca_base.specs.declared.change.State.TheVariants as states
 use Rattle.ca_base.specs.declared.correspondent.Correspondent.{Correspondent}
@@ -13,6 +13,7 @@ use Rattle.ca_connection.specs.Moves.{Reached}
 use Rattle.ca_keys.specs.Equal.{queue_eq}
 use Rattle.ca_keys.specs.declared.names.QueueId.{QueueId}
 use Rattle.ca_model.specs.declared.mark.Mark.{Mark}
+use Rattle.ca_model.specs.declared.mark.Mark.TheVariants as marks
 use Rattle.ca_model.specs.declared.verb.Verb.{Verb}
 use Rattle.ca_model.specs.declared.verb.Verb.TheVariants as verbs
 use Rattle.ca_model.specs.machine.Invariants.{is_sending}
@@ -74,12 +75,48 @@ pub record IsTied (d : Direction) (s r : Correspondent) (w : World) (l : Link) :
   pub sender : SenderTie d s r (w.queue s.queue) (w.mailbox s.queue) l.requester l.responses
   pub receiver : ReceiverTie d s r (w.queue r.queue) (w.mailbox r.queue) l.responder l.requests
 
--- An event leads from one world to another with these numbers found, by the place of their atomics: a link says the same of
--- the direction afterwards, and its atomics found these more.
-pub record TiedAfter (d : Direction) (s r : Correspondent) (l : Link) (acted : ℕ → List ℕ) (v : World) : Type 0 where
+-- How an event changes the requests under way to the life that receives, from one world to another: it leaves them; or none is
+-- left, since the life that stood there is over; or one more was sent there.
+pub data RequestsAfter (r : Correspondent) (w v : World) (before after : List (Option RequestPacket)) : Type 0 where
+  same : after ≡ before → RequestsAfter r w v before after
+  ended : after ≡ [] → is_present (w.queue r.queue) ≡ true → IsOver r (v.queue r.queue) → RequestsAfter r w v before after
+  grown : (x : Option RequestPacket) → after ≡ x ∷ before → (v.mailbox r.queue).next ≡ suc (w.mailbox r.queue).next → RequestsAfter r w v before after
+
+-- An event leads from one world to another with these numbers found, by the place of their requests: a link says the same of
+-- the direction afterwards, its atomics found these more, and no other request found any.
+pub record TiedAfter (d : Direction) (s r : Correspondent) (w : World) (l : Link) (acted : ℕ → List ℕ) (v : World) : Type 0 where
   pub link : Link
   pub tied : IsTied d s r v link
   pub found : (place : ℕ) → is_atomic (d.work place) ≡ true → found_at place link.acceptances ≡ acted place ++ found_at place l.acceptances
+  pub plain : (place : ℕ) → is_atomic (d.work place) ≡ false → acted place ≡ []
+  pub requests : RequestsAfter r w v l.requests link.requests
+
+-- the packets that were sent to a queue pair with an index, by their marks: from which queue pair, and of which request
+abbrev pub sent_to : QueueId → List Mark → List (QueueId × Option ℕ)
+sent_to n [] = []
+sent_to n (marks.Sent source target (Some index) request bytes ∷ ms) = if queue_eq target n then (source, request) ∷ sent_to n ms else sent_to n ms
+sent_to n (m ∷ ms) = sent_to n ms
+
+-- A packet that was sent, from this queue pair and of this request, is that of an entry: of the life that sends, which stands
+-- there, and of the entry's request; or of no request, where the entry belongs to the other direction.
+abbrev pub IsSentFor : Correspondent → World → Option RequestPacket → QueueId → Option ℕ → Type 0
+IsSentFor s w None source request = request ≡ None
+IsSentFor s w (Some x) source request = (source ≡ s.queue) × (incarnation_of (w.queue s.queue) ≡ s.incarnation) × (request ≡ Some x.place)
+
+-- What the marks of a turn tell of the requests under way to the life that receives: the turn sends nothing to anybody; it
+-- sends nothing there; the life is not there, or has not named the other one; or the one packet that it sends there is that of
+-- the one entry more.
+pub data RequestsTold (d : Direction) (s r : Correspondent) (w : World) (ms : List Mark) (before after : List (Option RequestPacket)) : Type 0 where
+  silent : ((n : QueueId) → sent_to n ms ≡ []) → RequestsTold d s r w ms before after
+  kept : after ≡ before → sent_to r.queue ms ≡ [] → RequestsTold d s r w ms before after
+  absent : after ≡ before → ((q : QueuePair) → IsPaired d r s (w.queue r.queue) q → ⊥) → RequestsTold d s r w ms before after
+  grown : (x : Option RequestPacket) (source : QueueId) (request : Option ℕ) → after ≡ x ∷ before → sent_to r.queue ms ≡ (source, request) ∷ []
+      → IsSentFor s w x source request → RequestsTold d s r w ms before after
+
+-- A turn leads so from one world to another, and its marks tell of the requests under way.
+pub record TurnAfter (d : Direction) (s r : Correspondent) (w : World) (l : Link) (ms : List Mark) (v : World) : Type 0 where
+  pub after : TiedAfter d s r w l (λ place. []) v
+  pub told : RequestsTold d s r w ms l.requests after.link.requests
 
 -- the numbers found at the atomic of a place, where this entry was delivered and the marks tell of these
 abbrev pub found_by : Option (Option RequestPacket) → List ℕ → ℕ → List ℕ

@@ -19,7 +19,7 @@ ghost use Rattle.ca_model.specs.declared.verb.Verb.TheVariants as verbs;
 ghost use Rattle.ca_model.specs.machine.Sound.{IsSoundWorld};
 ghost use Rattle.ca_model.specs.machine.Step.{step};
 ghost use Rattle.ca_model.specs.machine.World.{World, opening_world};
-ghost use Rattle.ca_ties.specs.Ties.{IsTied, LeavesPairs, MailFollows, TiedAfter, found_by_delivery};
+ghost use Rattle.ca_ties.specs.Ties.{IsTied, LeavesPairs, MailFollows, TiedAfter, TurnAfter, found_by_delivery};
 
 /// Before the first event a world is tied to the link before the first packet, for any two lives of different queue pairs
 /// that are to come.
@@ -35,33 +35,35 @@ pub fn opening_is_tied()
 pub fn delivery_keeps_ties()
     ensures { (d : Direction) (s r : Correspondent) (c : Configuration) (w : World) (l : Link) (name : QueueId)
         (index : ℕ) → IsSoundWorld c w → IsTied d s r w l
-        → Comes (λ v ms. TiedAfter d s r l (found_by_delivery r w l name index ms) v)
+        → Comes (λ v ms. TiedAfter d s r w l (found_by_delivery r w l name index ms) v)
         (step c w (events.Deliver name index)) }
 {}
 
 /// A turn of the requester of any queue pair keeps a world tied to a link, where each mailbox accepts the peer that its
-/// queue pair named: it sends a packet, where a path leads or where none does, performs a local operation, or fails.
+/// queue pair named: it sends a packet, where a path leads or where none does, performs a local operation, or fails. And
+/// where the requests under way to the life that receives have one entry more, the marks tell of one packet that was sent
+/// there: by the life that sends and of the entry's request, or of no request.
 pub fn request_keeps_ties()
     ensures { (d : Direction) (s r : Correspondent) (c : Configuration) (w : World) (l : Link) (name : QueueId)
         (lot : Lot) → IsSoundWorld c w → MailFollows w → IsTied d s r w l
-        → Comes (λ v ms. TiedAfter d s r l (λ place. []) v) (step c w (events.Request name lot)) }
+        → Comes (λ v ms. TurnAfter d s r w l ms v) (step c w (events.Request name lot)) }
 {}
 
 /// A turn of the responder of any queue pair does so too.
 pub fn respond_keeps_ties()
     ensures { (d : Direction) (s r : Correspondent) (c : Configuration) (w : World) (l : Link) (name : QueueId)
         (lot : Lot) → IsSoundWorld c w → MailFollows w → IsTied d s r w l
-        → Comes (λ v ms. TiedAfter d s r l (λ place. []) v) (step c w (events.Respond name lot)) }
+        → Comes (λ v ms. TurnAfter d s r w l ms v) (step c w (events.Respond name lot)) }
 {}
 
 /// A timer of any queue pair, and a wake, keep a world tied to a link.
 pub fn timers_keep_ties()
     ensures timeout { (d : Direction) (s r : Correspondent) (c : Configuration) (w : World) (l : Link)
         (name : QueueId) (hasten : Bool) → IsSoundWorld c w → IsTied d s r w l
-        → Comes (λ v ms. TiedAfter d s r l (λ place. []) v) (step c w (events.Timeout name hasten)) }
+        → Comes (λ v ms. TiedAfter d s r w l (λ place. []) v) (step c w (events.Timeout name hasten)) }
     ensures wake { (d : Direction) (s r : Correspondent) (c : Configuration) (w : World) (l : Link) (name : QueueId)
         → IsSoundWorld c w → IsTied d s r w l
-        → Comes (λ v ms. TiedAfter d s r l (λ place. []) v) (step c w (events.RnrWake name)) }
+        → Comes (λ v ms. TiedAfter d s r w l (λ place. []) v) (step c w (events.RnrWake name)) }
 {}
 
 /// Where past and world agree on paths, each mailbox accepts the peer that its queue pair named, for its incarnation.
@@ -74,9 +76,9 @@ pub fn mail_follows_paths()
 pub fn ends_keep_ties()
     ensures { (d : Direction) (s r : Correspondent) (c : Configuration) (w : World) (l : Link) (by : ℕ) (slot : Slot)
         → IsSoundWorld c w → IsTied d s r w l
-        → Comes (λ v ms. TiedAfter d s r l (λ place. []) v)
+        → Comes (λ v ms. TiedAfter d s r w l (λ place. []) v)
         (step c w (events.Verb by (verbs.ModifyQp slot changes.Error)))
-        × Comes (λ v ms. TiedAfter d s r l (λ place. []) v)
+        × Comes (λ v ms. TiedAfter d s r w l (λ place. []) v)
         (step c w (events.Verb by (verbs.ModifyQp slot changes.Reset))) }
 {}
 
@@ -84,20 +86,20 @@ pub fn ends_keep_ties()
 pub fn destroy_keeps_ties()
     ensures { (d : Direction) (s r : Correspondent) (c : Configuration) (w : World) (l : Link) (by : ℕ) (slot : Slot)
         → IsSoundWorld c w → IsTied d s r w l
-        → Comes (λ v ms. TiedAfter d s r l (λ place. []) v) (step c w (events.Verb by (verbs.DestroyQp slot))) }
+        → Comes (λ v ms. TiedAfter d s r w l (λ place. []) v) (step c w (events.Verb by (verbs.DestroyQp slot))) }
 {}
 
 /// The verbs that change no queue pair and no mailbox keep a world tied to a link.
 pub fn other_verbs_keep_ties()
     ensures { (d : Direction) (s r : Correspondent) (c : Configuration) (w : World) (l : Link) (by : ℕ) (verb : Verb)
         → LeavesPairs verb → IsTied d s r w l
-        → Comes (λ v ms. TiedAfter d s r l (λ place. []) v) (step c w (events.Verb by verb)) }
+        → Comes (λ v ms. TiedAfter d s r w l (λ place. []) v) (step c w (events.Verb by verb)) }
 {}
 
 /// CreateQp keeps a world tied to a link: a life comes that has no peer yet.
 pub fn create_keeps_ties()
     ensures { (d : Direction) (s r : Correspondent) (c : Configuration) (w : World) (l : Link) (by : ℕ) (slot : Slot)
         (send_cq recv_cq send_depth recv_depth : ℕ) (srq : Option ℕ) → IsTied d s r w l
-        → Comes (λ v ms. TiedAfter d s r l (λ place. []) v)
+        → Comes (λ v ms. TiedAfter d s r w l (λ place. []) v)
         (step c w (events.Verb by (verbs.CreateQp slot send_cq recv_cq send_depth recv_depth srq))) }
 {}

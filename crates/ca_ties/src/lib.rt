@@ -3,8 +3,9 @@
 //! To the layers above it promises, as clauses of functions that do nothing, that before the first event a world is tied to
 //! the opening link; and that each delivery, each turn of a requester or a responder, each timer and each wake, ModifyQp to
 //! Error and to Reset, CreateQp, DestroyQp, and the verbs that change no queue pair and no mailbox, in a world that is tied to
-//! a link, are moves of the link or none: they leave a world that is tied to a link to which moves lead. Of ModifyQp to the
-//! other states, postings, Poll and DeallocMw nothing is said yet. They hold of the machine's definitions, and no code is
+//! a link, are moves of the link or none: they leave a world that is tied to a link to which moves lead. And that the marks of
+//! a turn tell of the requests under way: one entry more is of the one packet that was sent there. Of ModifyQp to the
+//! other states, postings, Poll and DeallocMw nothing is said here. They hold of the machine's definitions, and no code is
 //! in them.
 //!
 //! Source: InfiniBand Architecture Specification Volume 1, the chapter on transport services (reliable connection).

@@ -1,0 +1,11 @@
+pub mod TellLemmas
+pub mod SilentRows
+pub mod PutLemmas
+pub mod ResultLemmas
+pub mod ResponseTells
+pub mod TakeLemmas
+pub mod ArrivalTells
+pub mod FoundLemmas
+pub mod DeliverFound
+pub mod ListLemmas
+pub mod EventFound

@@ -1,0 +1,2 @@
+pub mod Success
+pub mod Lists
