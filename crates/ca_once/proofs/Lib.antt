@@ -1,0 +1,16 @@
+pub mod MarkLemmas
+pub mod VerbLemmas
+pub mod ActedLemmas
+pub mod MailTolds
+pub mod ShapeLemmas
+pub mod NoteLemmas
+pub mod RightLemmas
+pub mod FoundTolds
+pub mod StepTolds
+pub mod LastingLemmas
+pub mod NamingLemmas
+pub mod AgreeLemmas
+pub mod RunLemmas
+pub mod OnceLemmas
+pub mod SuccessLemmas
+pub mod WholeLemmas
