@@ -1,7 +1,8 @@
 -- What the definitions say of small values. For proofs only.
 use Rattle.std.proofs.Common.{◌≡◌, ℕ, not, ◌==◌, true, false, List, [], ◌∷◌, None, Some, refl}
 use Rattle.ca_base.specs.declared.change.Change.TheVariants as changes
-use Rattle.ca_isolation.specs.Alone.{Stretch, stretches_of_write}
+use Rattle.ca_isolation.specs.Alone.{stretches_of_write}
+use Rattle.ca_isolation.specs.declared.stretch.Stretch.{Stretch}
 use Rattle.ca_isolation.specs.Groups.{Group, domain_of_queue, is_of, strays_by}
 use Rattle.ca_keys.specs.Equal.{domain_eq}
 use Rattle.ca_keys.specs.declared.names.DomainId.{DomainId}

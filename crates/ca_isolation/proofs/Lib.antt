@@ -1,3 +1,4 @@
 mod Examples
 pub mod ReplyLemmas
 pub mod StretchLemmas
+pub mod CallLemmas

@@ -1,7 +1,8 @@
 -- The lone list has the replies of the history. For proofs only.
 use Rattle.std.proofs.Common.{◌≡◌, Bool, true, false, List, [], ◌∷◌, ◌++◌, filter, map, ◌∙◌, ap, ap₂, refl, sym, if◌then◌else◌}
 use Rattle.std.proofs.lemmas.Grind.{flat_map-append}
-use Rattle.ca_isolation.specs.Alone.{Stretch, alone_from, entries_instead, store_entry, stretches_of_marks}
+use Rattle.ca_isolation.specs.Alone.{alone_from, entries_instead, store_entry, stretches_of_marks}
+use Rattle.ca_isolation.specs.declared.stretch.Stretch.{Stretch}
 use Rattle.ca_isolation.specs.Groups.{Group, is_of, is_reply, replies_of}
 use Rattle.ca_keys.specs.declared.place.Place.{Place}
 use Rattle.ca_model.specs.Entries.{EntryValue}

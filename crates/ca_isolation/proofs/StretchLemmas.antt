@@ -2,7 +2,8 @@
 use Rattle.std.proofs.Common.{◌≡◌, ◌∙◌, ℕ, zero, suc, ◌+◌, ◌-◌, ◌≤◌, ◌<◌, ◌==◌, ◌&&◌, nat_le, nat_lt, arith, Bool, true, false, List, [], ◌∷◌, ◌++◌, drop, length, slice_index_or, Option, None, Some, if◌then◌else◌, ap, refl, subst, sym, true≢false}
 use Rattle.std.proofs.lemmas.Bool.{and_from, and_parts, eq-eqb, eqb-false, eqb-true, le-leb, leb-true, lt-ltb, ltb-true}
 use Rattle.std.proofs.lemmas.Grind.{get_or_after_one}
-use Rattle.ca_isolation.specs.Alone.{Cell, Stretch, cells_from, cells_of, ended_before, goes_on, grown, memory_stored, open_behind, run_of_stretch, stretches_of, stretches_of_write}
+use Rattle.ca_isolation.specs.Alone.{Cell, cells_from, cells_of, ended_before, goes_on, grown, memory_stored, open_behind, run_of_stretch, stretches_of, stretches_of_write}
+use Rattle.ca_isolation.specs.declared.stretch.Stretch.{Stretch}
 use Rattle.ca_keys.specs.Equal.{place_eq}
 use Rattle.ca_keys.specs.Memory.{ByteMap, is_in, memory_after}
 use Rattle.ca_keys.specs.declared.place.Place.{Place}
@@ -141,7 +142,7 @@ abbrev listed : Option Stretch → List Stretch
 listed None = []
 listed (Some s) = s ∷ []
 
-stored-append : (xs ys : List Stretch) (m : ByteMap) → memory_stored (xs ++ ys) m ≡ memory_stored ys (memory_stored xs m)
+pub stored-append : (xs ys : List Stretch) (m : ByteMap) → memory_stored (xs ++ ys) m ≡ memory_stored ys (memory_stored xs m)
 stored-append [] ys m = refl
 stored-append (x ∷ xs) ys m = stored-append xs ys (memory_after m (run_of_stretch x ∷ []) x.bytes)
 

@@ -22,6 +22,7 @@ use Rattle.ca_model.specs.declared.verb.Verb.TheVariants as verbs
 use Rattle.ca_model.specs.machine.Plan.{Write}
 use Rattle.ca_model.specs.machine.Run.{Follows}
 use Rattle.ca_isolation.specs.Groups.{Group, covered, is_closed, is_of}
+use Rattle.ca_isolation.specs.declared.stretch.Stretch.{Stretch}
 
 -- a byte that is written, and its place
 pub record Cell : Type 0 where
@@ -41,11 +42,6 @@ cells_of [] bytes = []
 cells_of (r ∷ rs) bytes =
     cells_from (record { adapter = r.adapter; buffer = r.buffer; offset = r.offset }) r.length bytes
     ++ cells_of rs (drop r.length bytes)
-
--- bytes for a place and those behind it
-pub record Stretch : Type 0 where
-  pub at : Place
-  pub bytes : List ℕ
 
 -- the run of a stretch's places
 abbrev pub run_of_stretch : Stretch → Run
@@ -111,10 +107,14 @@ writes_of past mark = []
 abbrev pub store_of : Stretch → Verb
 store_of s = verbs.Store s.at.adapter s.at.buffer s.at.offset s.bytes
 
+-- the event of that Store
+abbrev pub store_event : Stretch → Event
+store_event s = events.Verb 0 (store_of s)
+
 -- the entry of that Store, in the place of another event's
 abbrev pub store_entry : EntryValue → Stretch → EntryValue
 store_entry e s = record e {
-  event = events.Verb 0 (store_of s);
+  event = store_event s;
   marks = marks.Verb 0 (store_of s) answers.Fine ∷ marks.Stored s.at s.bytes ∷ [];
 }
 

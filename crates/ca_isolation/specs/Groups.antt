@@ -4,6 +4,7 @@ use Rattle.std.specs.Prelude.{nat_lt, ◌&&◌, not, Bool, true, false, if◌the
 use Rattle.std.specs.List.{flat_map, list_any}
 use Rattle.std.specs.Option.{option_map_or}
 use Rattle.ca_base.specs.declared.change.Change.TheVariants as changes
+use Rattle.ca_keys.specs.Equal.{domain_eq}
 use Rattle.ca_keys.specs.Memory.{is_in}
 use Rattle.ca_keys.specs.Numbers.{domain_of, queue_of}
 use Rattle.ca_keys.specs.declared.names.DomainId.{DomainId}
@@ -12,6 +13,7 @@ use Rattle.ca_keys.specs.declared.place.Place.{Place}
 use Rattle.ca_model.specs.Entries.{EntryValue}
 use Rattle.ca_model.specs.Licensed.{is_empty}
 use Rattle.ca_model.specs.declared.answer.Answer.TheVariants as answers
+use Rattle.ca_model.specs.declared.entry.Entry.{Entry}
 use Rattle.ca_model.specs.declared.event.Event.{Event}
 use Rattle.ca_model.specs.declared.event.Event.TheVariants as events
 use Rattle.ca_model.specs.declared.mark.Mark.{Mark}
@@ -23,9 +25,17 @@ use Rattle.ca_model.specs.declared.verb.Verb.TheVariants as verbs
 abbrev pub Group : Type 0
 Group = DomainId → Bool
 
+-- the domains of a list, as a group
+abbrev pub group_of : List DomainId → Group
+group_of domains d = list_any (λ x. domain_eq x d) domains
+
 -- the domain of a queue pair's number; the first 256 numbers are of no domain
 abbrev pub domain_of_queue : QueueId → Option DomainId
 domain_of_queue q = if nat_lt q.number 256 then None else Some (domain_of q)
+
+-- the queue pair is of this domain
+abbrev pub is_of_domain : DomainId → QueueId → Bool
+is_of_domain d q = option_map_or (domain_eq d) (domain_of_queue q) false
 
 -- the domain that a verb's field `domain`, `slot` or `queue` names; Store and Load have none of these
 abbrev pub domain_of_verb : Verb → Option DomainId
@@ -78,6 +88,10 @@ strays_by group mark = []
 -- the queue pairs of the group that named a peer outside it, in order
 abbrev pub strays_of : Group → List EntryValue → List QueueId
 strays_of group es = flat_map (λ e. flat_map (strays_by group) e.marks) es
+
+-- the same of an entry as it is kept
+unfoldable pub strays_in : Group → Entry → List QueueId
+strays_in group e = flat_map (strays_by group) e.marks.marks
 
 -- each peer that a queue pair of the group named in a history is of the group
 abbrev pub is_closed : Group → List EntryValue → Bool

@@ -1,14 +1,22 @@
-//! What a group of domains would meet alone: which events are its own, what its grants cover, and the list of events in
-//! which each write of another event stands as Stores into covered bytes.
+//! Groups of domains: whether a group is closed in a history, the replies to it, and what it would meet alone: its own
+//! events, and in the place of each write of another event Stores into the bytes that its grants cover.
 //!
-//! To the layers above it promises, as clauses of functions that do nothing, that these Stores leave in covered bytes
-//! what the write leaves there, and that the list has the group's events and no other event of domains, so that the
-//! group's replies are those of the history. They hold of lists of entries, and no code is in them.
+//! To the layers above it promises that a call names the first queue pair of a group that named a stranger, and that
+//! another gives the replies to the group; and, as clauses of functions that do nothing, that the Stores leave in
+//! covered bytes what the write leaves there, and that the lone list has the group's events and no other event of
+//! domains, so that its replies are those of the history.
 //!
 //! Source: this profile's choice; protection domains and grants are those of the software transport interface,
 //! InfiniBand Architecture Specification Volume 1.
 #![tactic(auto)]
 
+mod answers;
+mod group;
 mod laws;
+mod strays;
+mod stretch;
 
+pub use answers::replies;
 pub use laws::{lone_list_has_the_replies, stores_write_what_was_written};
+pub use strays::closed;
+pub use stretch::Stretch;
