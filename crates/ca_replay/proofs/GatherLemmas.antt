@@ -1,5 +1,6 @@
 -- The parts of an event come to an end, and then none is missing. For proofs only.
-use Rattle.std.proofs.Common.{Vec, ◌≡◌, ◌∙◌, refl, sym, ap, subst, ℕ, suc, ◌+◌, ◌≤◌, ◌||◌, inl, inr, arith, Bool, true, false, List, [], ◌∷◌, ◌++◌, length, Option, None, Some, is_some, if◌then◌else◌, true≢false}
+use Rattle.std.proofs.Common.{Vec, ◌≡◌, ◌∙◌, refl, sym, ap, subst, ℕ, suc, ◌+◌, ◌≤◌, ◌||◌, inl, inr, arith, Bool, true, false, List, [], ◌∷◌, ◌++◌, length, ◌<◌, Option, None, Some, is_some, if◌then◌else◌, true≢false}
+use Rattle.std.proofs.Math.Path.{fun_ext}
 use Rattle.std.specs.List.{AllByRecursion}
 use Rattle.ca_adapter.specs.Ready.{ArePartsOfWorld}
 use Rattle.ca_base.specs.Configuration.{Configuration}
@@ -16,7 +17,11 @@ use Rattle.ca_model.specs.machine.Sound.{IsSoundWorld}
 use Rattle.ca_model.specs.machine.World.{World}
 use Rattle.ca_replay.proofs.PartLemmas.{part-path}
 use Rattle.ca_replay.proofs.TogetherLemmas.{given-together, taken-together}
-use Rattle.ca_replay.specs.Hand.{AreApart, HasPlaces, IsGiven, IsOfKind, IsOfWorld, IsTaken}
+use Rattle.ca_base.specs.objects.Slices.{adapter_at}
+use Rattle.ca_places.specs.Places.{domain_of_part, parts_before, place_at, place_of}
+use Rattle.ca_replay.specs.Hand.{AreApart, AreAtPlaces, HasPlaces, IsGiven, IsInHand, IsOfKind, IsOfWorld, IsTaken, names_of}
+use Rattle.ca_replay.specs.declared.hand.Taken.{Taken}
+use Rattle.std.specs.Option.{option_map}
 use Rattle.std.specs.Vec.{vec_capacity}
 use Rattle.std.specs.declared.alloc.Global.{Global}
 use Rattle.ca_replay.specs.Rows.{AreTogether, IsEmpty, IsThere, part_at}
@@ -135,19 +140,6 @@ next_here c event row h name of is = record {
 pub parts_of_world : (c : Configuration) (row : List Part) (h : Held) → IsOfWorld c row h → ArePartsOfWorld c h
 parts_of_world c row h of = record { count = of.count; world = of.world; after = of.after; shows = of.together.shows; whole = of.together.whole }
 
--- ---- part after part
-
--- So many parts were taken in hand. The row and the hand stand for the world for which they stood; fewer parts are missing;
--- the names are those of what is in hand, each once; and there is room for as many more as may come.
-pub record IsGathered (c : Configuration) (event : Event) (first : List Part) (from : Held) (row : List Part) (h : Held) (names : Vec PartName Global) (count : ℕ) : Type 0 where
-  pub together : (w : World) → AreTogether c w first (holding from) → AreTogether c w row (holding h)
-  pub fewer : (w : World) → IsSoundWorld c w → AreTogether c w first (holding from) → missing (holding h).parts (listed w (event_needs c event)) + count ≤ 32
-  pub named : (p : PartName) → (holding h).parts p ≡ is_held names.items p
-  pub apart : AreApart names.items
-  pub room : (p : PartName) → 32 ≤ room_for h p + count
-  pub number : length names.items ≡ count
-  pub capacity : 32 ≤ vec_capacity names
-
 -- names that are not the same, in either order
 apart-turned : (a b : PartName) → part_eq a b ≡ false → part_eq b a ≡ false
 apart-turned a b other = by (part_eq b a) refl
@@ -175,94 +167,169 @@ apart-more (x ∷ names) name apart free = (held-more names name x ∙ by (part_
 
 -- The names to come are those of what is in hand, each once, and configured; the row and the hand stand for the world for
 -- which they stood.
-pub record IsGivenBack (c : Configuration) (first : List Part) (from : Held) (row : List Part) (h : Held) (names : List PartName) : Type 0 where
+pub record IsGivenBack (c : Configuration) (first : List Part) (from : Held) (row : List Part) (h : Held) (taken : List Taken) : Type 0 where
   pub together : (w : World) → AreTogether c w first (holding from) → AreTogether c w row (holding h)
   pub places : HasPlaces c row
-  pub named : (p : PartName) → (holding h).parts p ≡ is_held names p
-  pub apart : AreApart names
-  pub configured : (p : PartName) → is_held names p ≡ true → is_configured_part c p ≡ true
+  pub named : (p : PartName) → (holding h).parts p ≡ is_held (names_of taken) p
+  pub apart : AreApart (names_of taken)
+  pub configured : (p : PartName) → is_held (names_of taken) p ≡ true → is_configured_part c p ≡ true
+  pub at_places : AreAtPlaces c taken
 
--- the first of the names to come is that of a part in hand, and has a place
-pub name_held : (c : Configuration) (first : List Part) (from : Held) (row : List Part) (h : Held) (name : PartName) (names : List PartName)
-    → IsGivenBack c first from row h (name ∷ names) → (holding h).parts name ≡ true
-name_held c first from row h name names is = is.named name ∙ ap (λ b. b || is_held names name) (part-refl name)
+-- the first of the parts to come is in hand, and has a place
+pub name_held : (c : Configuration) (first : List Part) (from : Held) (row : List Part) (h : Held) (one : Taken) (more : List Taken)
+    → IsGivenBack c first from row h (one ∷ more) → (holding h).parts one.name ≡ true
+name_held c first from row h one more is = is.named one.name ∙ ap (λ b. b || is_held (names_of more) one.name) (part-refl one.name)
 
-pub name_placed : (c : Configuration) (first : List Part) (from : Held) (row : List Part) (h : Held) (name : PartName) (names : List PartName)
-    → IsGivenBack c first from row h (name ∷ names) → is_some (part_at c row name) ≡ true
-name_placed c first from row h name names is = is.places name (is.configured name (ap (λ b. b || is_held names name) (part-refl name)))
+pub name_placed : (c : Configuration) (first : List Part) (from : Held) (row : List Part) (h : Held) (one : Taken) (more : List Taken)
+    → IsGivenBack c first from row h (one ∷ more) → is_some (part_at c row one.name) ≡ true
+name_placed c first from row h one more is = is.places one.name (is.configured one.name (ap (λ b. b || is_held (names_of more) one.name) (part-refl one.name)))
 
 -- once it is given back, the others are to come
-pub given_on : (c : Configuration) (first : List Part) (from : Held) (row new : List Part) (h k : Held) (name : PartName) (names : List PartName)
-    → IsGivenBack c first from row h (name ∷ names) → IsGiven c name row new h k → IsGivenBack c first from new k names
-given_on c first from row new h k name names is given = record {
-  together = λ w start. given-together c w name row new h k (is.together w start) given (name_held c first from row h name names is);
+pub given_on : (c : Configuration) (first : List Part) (from : Held) (row new : List Part) (h k : Held) (one : Taken) (more : List Taken)
+    → IsGivenBack c first from row h (one ∷ more) → IsGiven c one.name row new h k → IsGivenBack c first from new k more
+given_on c first from row new h k one more is given = record {
+  together = λ w start. given-together c w one.name row new h k (is.together w start) given (name_held c first from row h one more is);
   places = given.places is.places;
-  named = λ p. ap (λ z. z.parts p) given.held ∙ by p (part_eq name p) refl;
+  named = λ p. ap (λ z. z.parts p) given.held ∙ by p (part_eq one.name p) refl;
   apart = is.apart.1;
-  configured = λ p held. is.configured p (either (part_eq name p) (is_held names p) held);
+  configured = λ p held. is.configured p (either (part_eq one.name p) (is_held (names_of more) p) held);
+  at_places = is.at_places.1;
 }
   where
     either : (a b : Bool) → b ≡ true → (a || b) ≡ true
     either true b e = refl
     either false b e = e
 
-    by : (p : PartName) (b : Bool) → part_eq name p ≡ b → (if b then false else (holding h).parts p) ≡ is_held names p
-    by p true e = subst (λ q. false ≡ is_held names q) (part-path name p e) (sym is.apart.0)
-    by p false e = is.named p ∙ ap (λ b. b || is_held names p) e
+    by : (p : PartName) (b : Bool) → part_eq one.name p ≡ b → (if b then false else (holding h).parts p) ≡ is_held (names_of more) p
+    by p true e = subst (λ q. false ≡ is_held (names_of more) q) (part-path one.name p e) (sym is.apart.0)
+    by p false e = is.named p ∙ ap (λ b. b || is_held (names_of more) p) e
+
+-- ---- part after part
+
+names-more : (xs : List Taken) (one : Taken) → names_of (xs ++ one ∷ []) ≡ names_of xs ++ one.name ∷ []
+names-more [] one = refl
+names-more (x ∷ xs) one = ap (λ ns. x.name ∷ ns) (names-more xs one)
+
+places-more : (c : Configuration) (xs : List Taken) (one : Taken) → AreAtPlaces c xs → place_of c one.name ≡ Some one.at → AreAtPlaces c (xs ++ one ∷ [])
+places-more c [] one all is = (is, record {})
+places-more c (x ∷ xs) one all is = (all.0, places-more c xs one all.1 is)
+
+-- what has a place is configured
+placed-configured : (c : Configuration) (name : PartName) (place : ℕ) → place_of c name ≡ Some place → is_configured_part c name ≡ true
+placed-configured c name place is = by (is_configured_part c name) is
+  where
+    by : (b : Bool) → (if b then option_map (λ a. parts_before c (domain_of_part name).adapter + place_at name a) (adapter_at c (domain_of_part name).adapter) else None) ≡ Some place → b ≡ true
+    by true e = refl
+    by false e = absurd (true≢false (sym (ap is_some e)))
 
 -- at first nothing was taken
-pub gathered_none : (c : Configuration) (event : Event) (row : List Part) (h : Held) (names : Vec PartName Global) → IsOfWorld c row h → IsEmpty (holding h)
-    → names.items ≡ [] → ((p : PartName) → 32 ≤ room_for h p) → 32 ≤ vec_capacity names → IsGathered c event row h row h names 0
-gathered_none c event row h names of empty none room capacity = record {
-  together = λ w start. start;
-  fewer = λ w sound start. omega (arith, all-missing (holding h).parts (listed w (event_needs c event)), few-event c w event sound);
-  named = λ p. empty p ∙ sym (ap (λ ns. is_held ns p) none);
-  apart = subst AreApart (sym none) (record {});
+pub hand_at_first : (c : Configuration) (row : List Part) (h : Held) (taken : Vec Taken Global) → IsOfWorld c row h → IsEmpty (holding h)
+    → taken.items ≡ [] → ((p : PartName) → 48 ≤ room_for h p) → 48 ≤ vec_capacity taken → IsInHand c row h taken
+hand_at_first c row h taken of empty none room capacity = record {
+  of = of;
+  named = λ p. empty p ∙ sym (ap (λ xs. is_held (names_of xs) p) none);
+  apart = subst (λ xs. AreApart (names_of xs)) (sym none) (record {});
+  placed = subst (AreAtPlaces c) (sym none) (record {});
   room = λ p. omega (arith, room p);
-  number = ap length none;
   capacity = capacity;
 }
 
--- the part that is next was taken, and its name was added
-pub gathered_more : (c : Configuration) (event : Event) (first row new : List Part) (from h k : Held) (names more : Vec PartName Global) (count : ℕ) (name : PartName)
-    → IsGathered c event first from row h names count → IsOfWorld c first from
-    → next_part (holding h).parts (holding h).world (event_needs c event) ≡ Some name → IsTaken c name row new h k
-    → more.items ≡ names.items ++ name ∷ [] → 32 ≤ vec_capacity more → IsGathered c event first from new k more (count + 1)
-gathered_more c event first row new from h k names more count name is of next taken added capacity = record {
-  together = λ w start. taken-together c w name row new h k (is.together w start) taken here.configured here.free;
-  fewer = fewer-left;
-  named = λ p. ap (λ z. z.parts p) taken.held ∙ ap (λ b. if part_eq name p then true else b) (is.named p) ∙ sym (held-more names.items name p) ∙ sym (ap (λ ns. is_held ns p) added);
-  apart = subst AreApart (sym added) (apart-more names.items name is.apart (sym (is.named name) ∙ here.free));
-  room = λ p. omega (arith, taken.room p, is.room p);
-  number = ap length added ∙ omega (arith, length-append names.items (name ∷ []), is.number);
+-- what a place has is there, where it is not in hand
+pub there_at : (c : Configuration) (row : List Part) (h : Held) (taken : Vec Taken Global) (one : Taken) → IsInHand c row h taken → place_of c one.name ≡ Some one.at
+    → (holding h).parts one.name ≡ false → IsOfKind one.name (part_at c row one.name)
+there_at c row h taken one is at free =
+    kind-of c is.of.world one.name (part_at c row one.name) (is.of.together.home one.name (placed-configured c one.name one.at at) free)
+
+-- a part was taken from its place
+pub up_together : (c : Configuration) (row new : List Part) (h k : Held) (taken : Vec Taken Global) (one : Taken) → IsInHand c row h taken
+    → place_of c one.name ≡ Some one.at → (holding h).parts one.name ≡ false → IsTaken c one.name row new h k
+    → (w : World) → AreTogether c w row (holding h) → AreTogether c w new (holding k)
+up_together c row new h k taken one is at free up w start = taken-together c w one.name row new h k start up (placed-configured c one.name one.at at) free
+
+-- and it is in hand
+pub hand_more : (c : Configuration) (row new : List Part) (h k : Held) (taken more : Vec Taken Global) (one : Taken) → IsInHand c row h taken
+    → place_of c one.name ≡ Some one.at → (holding h).parts one.name ≡ false → IsTaken c one.name row new h k
+    → more.items ≡ taken.items ++ one ∷ [] → 48 ≤ vec_capacity more → IsInHand c new k more
+hand_more c row new h k taken more one is at free up added capacity = record {
+  of = record {
+    count = is.of.count;
+    world = is.of.world;
+    after = is.of.after;
+    together = up_together c row new h k taken one is at free up is.of.world is.of.together;
+  };
+  named = λ p. ap (λ z. z.parts p) up.held ∙ ap (λ b. if part_eq one.name p then true else b) (is.named p) ∙ sym (held-more (names_of taken.items) one.name p) ∙ sym (ap (λ ns. is_held ns p) names);
+  apart = subst AreApart (sym names) (apart-more (names_of taken.items) one.name is.apart (sym (is.named one.name) ∙ free));
+  placed = subst (AreAtPlaces c) (sym added) (places-more c taken.items one is.placed at);
+  room = λ p. omega (arith, up.room p, is.room p, ap length added, length-append taken.items (one ∷ []));
   capacity = capacity;
 }
   where
-    now : IsOfWorld c row h
-    now = record { count = of.count; world = of.world; after = of.after; together = is.together of.world of.together }
+    names : names_of more.items ≡ names_of taken.items ++ one.name ∷ []
+    names = ap names_of added ∙ names-more taken.items one
 
-    here : IsNextHere c event of.world row h name
-    here = next_here c event row h name now next
+-- the other part's names
+pub names_after : (c : Configuration) (name : PartName) (row new : List Part) (h k : Held) → IsTaken c name row new h k → (p : PartName)
+    → (holding k).parts p ≡ (if part_eq name p then true else (holding h).parts p)
+names_after c name row new h k up p = ap (λ z. z.parts p) up.held
 
+pub one_longer : (taken more : List Taken) (one : Taken) → more ≡ taken ++ one ∷ [] → length more ≡ suc (length taken)
+one_longer taken more one added = ap length added ∙ omega (arith, length-append taken (one ∷ []))
+
+-- So far parts were taken that an event most likely needs: the row and the hand stand for the world for which they stood.
+pub record IsLikely (c : Configuration) (first : List Part) (from : Held) (row : List Part) (h : Held) (taken : Vec Taken Global) : Type 0 where
+  pub hand : IsInHand c row h taken
+  pub few : length taken.items ≤ 16
+  pub together : (w : World) → AreTogether c w first (holding from) → AreTogether c w row (holding h)
+
+-- ---- until none is missing
+
+-- So many parts were taken because they were missing. The row and the hand stand for the world for which they stood, and
+-- fewer parts are missing.
+pub record IsGathered (c : Configuration) (event : Event) (first : List Part) (from : Held) (row : List Part) (h : Held) (taken : Vec Taken Global) (count : ℕ) : Type 0 where
+  pub together : (w : World) → AreTogether c w first (holding from) → AreTogether c w row (holding h)
+  pub hand : IsInHand c row h taken
+  pub fewer : (w : World) → IsSoundWorld c w → AreTogether c w first (holding from) → missing (holding h).parts (listed w (event_needs c event)) + count ≤ 32
+  pub few : length taken.items ≤ 16 + count
+
+-- at first none was
+pub gathered_none : (c : Configuration) (event : Event) (first row : List Part) (from h : Held) (taken : Vec Taken Global)
+    → ((w : World) → AreTogether c w first (holding from) → AreTogether c w row (holding h)) → IsInHand c row h taken → length taken.items ≤ 16
+    → IsGathered c event first from row h taken 0
+gathered_none c event first row from h taken together hand few = record {
+  together = together;
+  hand = hand;
+  fewer = λ w sound start. omega (arith, all-missing (holding h).parts (listed w (event_needs c event)), few-event c w event sound);
+  few = omega (arith, few);
+}
+
+-- the part that is next was taken
+pub gathered_more : (c : Configuration) (event : Event) (first row new : List Part) (from h k : Held) (taken more : Vec Taken Global) (count : ℕ) (name : PartName)
+    → IsGathered c event first from row h taken count → next_part (holding h).parts (holding h).world (event_needs c event) ≡ Some name
+    → IsInHand c new k more → ((w : World) → AreTogether c w row (holding h) → AreTogether c w new (holding k))
+    → ((p : PartName) → (holding k).parts p ≡ (if part_eq name p then true else (holding h).parts p)) → length more.items ≡ suc (length taken.items)
+    → IsGathered c event first from new k more (count + 1)
+gathered_more c event first row new from h k taken more count name is next hand together names longer = record {
+  together = λ w start. together w (is.together w start);
+  hand = hand;
+  fewer = fewer-left;
+  few = omega (arith, is.few, longer);
+}
+  where
     fewer-left : (w : World) → IsSoundWorld c w → AreTogether c w first (holding from) → missing (holding k).parts (listed w (event_needs c event)) + (count + 1) ≤ 32
     fewer-left w sound start =
         let one : IsMissing (holding h).parts (listed w (event_needs c event)) name = some-missing (holding h).parts w (event_needs c event) name
         (sym (next-same (holding h).parts (holding h).world w (event_needs c event) (is.together w start).shows) ∙ next)
-        in subst (λ f. missing f (listed w (event_needs c event)) + (count + 1) ≤ 32) (sym (ap (λ z. z.parts) taken.held))
+        in subst (λ f. missing f (listed w (event_needs c event)) + (count + 1) ≤ 32) (sym (fun_ext names))
         (omega (arith, one-fewer (holding h).parts name (listed w (event_needs c event)) one.among one.free, is.fewer w sound start))
 
+-- there is room for it
+pub room_for_more : (c : Configuration) (event : Event) (first row : List Part) (from h : Held) (taken : Vec Taken Global) (count : ℕ)
+    → IsGathered c event first from row h taken count → count < 32 → length taken.items < 48
+room_for_more c event first row from h taken count is less = omega (arith, is.few, less)
+
 -- after so many none is next
-pub gathered_all : (c : Configuration) (event : Event) (first row : List Part) (from h : Held) (names : Vec PartName Global) (count : ℕ)
-    → IsGathered c event first from row h names count → 32 ≤ count → IsOfWorld c first from → next_part (holding h).parts (holding h).world (event_needs c event) ≡ None
-gathered_all c event first row from h names count is most of =
+pub gathered_all : (c : Configuration) (event : Event) (first row : List Part) (from h : Held) (taken : Vec Taken Global) (count : ℕ)
+    → IsGathered c event first from row h taken count → 32 ≤ count → IsOfWorld c first from → next_part (holding h).parts (holding h).world (event_needs c event) ≡ None
+gathered_all c event first row from h taken count is most of =
     next-same (holding h).parts (holding h).world of.world (event_needs c event) (is.together of.world of.together).shows
     ∙ none-next (holding h).parts of.world (event_needs c event) (omega (arith, is.fewer of.world of.after.sound of.together, most))
-
--- what the row and the hand stand for now
-pub row_now : (c : Configuration) (event : Event) (first row : List Part) (from h : Held) (names : Vec PartName Global) (count : ℕ) → IsGathered c event first from row h names count
-    → IsOfWorld c first from → IsOfWorld c row h
-row_now c event first row from h names count is of = record { count = of.count; world = of.world; after = of.after; together = is.together of.world of.together }
-
-pub parts_now : (c : Configuration) (event : Event) (first row : List Part) (from h : Held) (names : Vec PartName Global) (count : ℕ) → IsGathered c event first from row h names count
-    → IsOfWorld c first from → ArePartsOfWorld c h
-parts_now c event first row from h names count is of = parts_of_world c row h (row_now c event first row from h names count is of)

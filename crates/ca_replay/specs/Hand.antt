@@ -1,5 +1,8 @@
 -- A part that is taken in hand from its place, or given back. Contracts of the crate's own functions cite it.
-use Rattle.std.specs.Prelude.{◌≡◌, ℕ, ◌+◌, ◌≤◌, true, false, List, [], ◌∷◌, Option, None, Some, is_some}
+use Rattle.std.specs.Prelude.{Vec, ◌≡◌, ℕ, ◌+◌, ◌≤◌, true, false, List, [], ◌∷◌, length, map, Option, None, Some, is_some}
+use Rattle.std.specs.List.{AllByRecursion}
+use Rattle.std.specs.Vec.{vec_capacity}
+use Rattle.std.specs.declared.alloc.Global.{Global}
 use Rattle.ca_base.specs.Configuration.{Configuration}
 use Rattle.ca_held.specs.declared.held.Held.{Held}
 use Rattle.ca_held.specs.declared.part.Part.{Part}
@@ -8,6 +11,9 @@ use Rattle.ca_held.specs.Taking.{is_of_kind, with_part, without_part}
 use Rattle.ca_model.specs.declared.part_name.PartName.{PartName}
 use Rattle.ca_model.specs.machine.Parts.{is_configured_part, is_held, part_eq}
 use Rattle.ca_model.specs.machine.World.{World}
+use Rattle.ca_places.specs.Places.{place_of}
+use Rattle.ca_replay.specs.declared.hand.Taken.{Taken}
+use Rattle.ca_replay.specs.declared.hand.TheConstants.{MOST_TAKEN}
 use Rattle.ca_replay.specs.Rows.{AreTogether, part_at}
 use Rattle.ca_worlds.specs.Worlds.{IsWorldAfter}
 
@@ -54,3 +60,21 @@ pub record IsOfWorld (c : Configuration) (row : List Part) (h : Held) : Type 0 w
   pub world : World
   pub after : IsWorldAfter c count world
   pub together : AreTogether c world row (holding h)
+
+-- the names of parts in hand
+abbrev pub names_of : List Taken → List PartName
+names_of = map (λ one. one.name)
+
+-- each of these parts has the place that stands beside its name
+abbrev pub AreAtPlaces : Configuration → List Taken → Type 0
+AreAtPlaces c = AllByRecursion (λ one. place_of c one.name ≡ Some one.at)
+
+-- A row and a hand stand for some world that comes up; these are the parts in hand, each once, with its place; and there is
+-- room for as many as may come.
+pub record IsInHand (c : Configuration) (row : List Part) (h : Held) (taken : Vec Taken Global) : Type 0 where
+  pub of : IsOfWorld c row h
+  pub named : (p : PartName) → (holding h).parts p ≡ is_held (names_of taken.items) p
+  pub apart : AreApart (names_of taken.items)
+  pub placed : AreAtPlaces c taken.items
+  pub room : (p : PartName) → MOST_TAKEN ≤ room_for h p + length taken.items
+  pub capacity : MOST_TAKEN ≤ vec_capacity taken

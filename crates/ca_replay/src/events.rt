@@ -5,6 +5,7 @@ ghost use Rattle.ca_model.specs.Carried.{Carried};
 ghost use Rattle.ca_model.specs.History.{IsHistory};
 ghost use Rattle.ca_model.specs.Judged.{Judged};
 ghost use Rattle.ca_model.specs.Licensed.{Licensed};
+ghost use Rattle.ca_model.specs.Once.{Once};
 ghost use Rattle.ca_model.specs.Ordered.{Ordered};
 ghost use Rattle.ca_model.specs.machine.Run.{run_from, run_over};
 ghost use Rattle.ca_model.specs.machine.Sound.{AreLimited, CanBeMade};
@@ -54,6 +55,8 @@ pub fn replay(alloc: Global, opening: &Opening, events: &[Event]) -> Result<Vec<
         IfOk result (λ all. Licensed (opening_bytes c opening.now.contents) (history_of events.now all.items)) }
     ensures carried { let c = configuration_of opening.now.config in
         IfOk result (λ all. Carried (opening_bytes c opening.now.contents) (history_of events.now all.items)) }
+    ensures once { let c = configuration_of opening.now.config in
+        IfOk result (λ all. Once (opening_bytes c opening.now.contents) (history_of events.now all.items)) }
     ensures ordered { let c = configuration_of opening.now.config in
         IfOk result (λ all. Ordered (opening_bytes c opening.now.contents) (history_of events.now all.items)) }
 {

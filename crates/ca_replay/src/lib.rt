@@ -10,6 +10,7 @@
 
 mod events;
 mod hand;
+mod likely;
 mod looks;
 mod row;
 

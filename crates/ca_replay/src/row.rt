@@ -6,23 +6,22 @@ ghost use Rattle.ca_model.specs.machine.World.{World, opening_world};
 ghost use Rattle.ca_opening.specs.Opening.{FitContents, opening_bytes};
 ghost use Rattle.ca_replay.specs.Rows.{IsMade, IsRow, IsRowOf, count_after};
 
-use crate::hand::act_in_hand;
+use crate::hand::{MOST_TAKEN, Taken, act_in_hand};
 use ca_adapter::lists_fit;
-use ca_base::limits::MAX_HELD_PARTS;
 use ca_base::{Memory, Settings, StepError};
 use ca_held::{Held, Part};
-use ca_model::{Event, Marks, Opening, PartName};
+use ca_model::{Event, Marks, Opening};
 use ca_opening::parts;
 use std::alloc::Global;
 
-/// All parts of a fabric, each at its place, and how many events were made on them. The hand, and the names of what is in
-/// it, keep their room from event to event.
+/// All parts of a fabric, each at its place, and how many events were made on them. The hand, and the names and places of
+/// what is in it, keep their room from event to event.
 #[derive(Drop)]
 pub struct Row {
     pub settings: Settings,
     pub parts: Vec<Part>,
     pub held: Held,
-    pub names: Vec<PartName>,
+    pub taken: Vec<Taken>,
     pub count: u32,
 }
 
@@ -41,13 +40,13 @@ impl Row {
             settings: Settings::of(&opening.config),
             parts: parts(alloc, opening)?,
             held: Held::empty(alloc),
-            names: Vec::new(alloc),
+            taken: Vec::new(alloc),
             count: 0,
         })
     }
 
-    /// Makes an event: its parts are taken in hand, one after another, the event is acted, and they are given back to
-    /// their places. NotReady and `Memory` leave all as it was. Fewer than 2^32 - 2 events were made before.
+    /// Makes an event: its parts are taken in hand, the event is acted, and they are given back to their places. NotReady
+    /// and `Memory` leave all as it was. Fewer than 2^32 - 2 events were made before.
     pub fn make(&mut self, alloc: Global, event: &Event) -> Result<Marks, StepError>
         requires row { IsRow self.old }
         requires few { self.old.count < 2 ^ 32 - 2 }
@@ -58,9 +57,9 @@ impl Row {
         ensures count { self.new.count ≡ count_after result self.old.count }
     {
         lists_fit(event);
-        self.held.reserve(MAX_HELD_PARTS)?;
-        self.names.clear();
-        if self.names.reserve(usize::from(MAX_HELD_PARTS)).is_err() {
+        self.held.reserve(MOST_TAKEN)?;
+        self.taken.clear();
+        if self.taken.reserve(usize::from(MOST_TAKEN)).is_err() {
             return Err(StepError::Memory);
         }
         match act_in_hand(
@@ -69,7 +68,7 @@ impl Row {
             event,
             &mut self.parts,
             &mut self.held,
-            &mut self.names,
+            &mut self.taken,
         ) {
             Ok(marks) => {
                 self.count += 1;

@@ -6,8 +6,10 @@ use Rattle.ca_licensed.proofs.LicensedLemmas.{licensed-along}
 use Rattle.ca_model.specs.Carried.{Carried}
 use Rattle.ca_model.specs.Judged.{Judged}
 use Rattle.ca_model.specs.Licensed.{Licensed}
+use Rattle.ca_model.specs.Once.{Once}
 use Rattle.ca_model.specs.Ordered.{Ordered}
 use Rattle.ca_model.specs.machine.World.{opening_world}
+use Rattle.ca_once.proofs.WholeLemmas.{whole-along as once-along}
 use Rattle.ca_opening.specs.Opening.{opening_bytes}
 use Rattle.ca_ordered.proofs.OrderedLemmas.{ordered-along}
 use Rattle.ca_replay.proofs.ReplayLemmas.{from_opening, is_lawful, makes_history}
@@ -64,6 +66,16 @@ returns-clause-ordered c = is_lawful Ordered ordered-along (configuration_of c.a
 
 pub returns-clause-carried : goal.returns-clause-carried
 returns-clause-carried c = is_lawful Carried whole-along (configuration_of c.args.opening.now.config)
+    (opening_bytes (configuration_of c.args.opening.now.config) c.args.opening.now.contents) c.args.events.now c.make_all.result c.requires.limited
+    (from_opening (configuration_of c.args.opening.now.config)
+    (opening_bytes (configuration_of c.args.opening.now.config) c.args.opening.now.contents) c.in_ok-row.row c.args.events.now c.make_all.result
+    c.in_ok-row.ensures.count
+    (c.make_all.ensures.run (configuration_of c.args.opening.now.config)
+    (opening_world (opening_bytes (configuration_of c.args.opening.now.config) c.args.opening.now.contents)) c.in_ok-row.ensures.world))
+    c.make_all.ensures.made
+
+pub returns-clause-once : goal.returns-clause-once
+returns-clause-once c = is_lawful Once once-along (configuration_of c.args.opening.now.config)
     (opening_bytes (configuration_of c.args.opening.now.config) c.args.opening.now.contents) c.args.events.now c.make_all.result c.requires.limited
     (from_opening (configuration_of c.args.opening.now.config)
     (opening_bytes (configuration_of c.args.opening.now.config) c.args.opening.now.contents) c.in_ok-row.row c.args.events.now c.make_all.result

@@ -1,13 +1,14 @@
 use Rattle.std.proofs.Common.{◌∙◌, ap, sym}
 use Rattle.ca_model.specs.machine.Parts.{is_held}
 use Rattle.ca_replay.proofs.ActLemmas.{acted, configured_names, ready_now}
+use Rattle.ca_replay.specs.Hand.{names_of}
 use Rattle.ca_replay.proofs.hand.act_in_hand.Goals as goal
 
 pub act-result-requires : goal.act-result-requires
 act-result-requires c = record { ready = ready_now _ _ _ _ _ _ c.requires.world c.gather.ensures.together c.gather.ensures.next }
 
 pub give_back-requires-clause-configured : goal.give_back-requires-clause-configured
-give_back-requires-clause-configured c = λ p held. configured_names _ _ _ _ _ c.requires.world c.gather.ensures.together p (c.gather.ensures.names p ∙ sym (ap (λ names. is_held names p) c.as_slice.ensures.value) ∙ held)
+give_back-requires-clause-configured c = λ p held. configured_names _ _ _ _ _ c.requires.world c.gather.ensures.together p (c.gather.ensures.hand.named p ∙ sym (ap (λ xs. is_held (names_of xs) p) c.as_slice.ensures.value) ∙ held)
 
 pub give_back-requires-clause-places : goal.give_back-requires-clause-places
 give_back-requires-clause-places c = (c.gather.ensures.together c.requires.world.world c.requires.world.together).places

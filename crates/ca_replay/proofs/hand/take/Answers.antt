@@ -1,22 +1,18 @@
-use Rattle.std.proofs.Common.{◌≡◌, ◌∙◌, ◌<◌, refl, sym, subst, get_or, length, Some}
-use Rattle.std.proofs.lemmas.Option.{slice_get_read}
-use Rattle.ca_base.specs.Configuration.{configuration_in}
-use Rattle.ca_places.specs.Places.{place_of}
-use Rattle.ca_replay.proofs.RowLemmas.{at_place, kind_there, set_leaves, set_places, within_row}
+use Rattle.std.proofs.Common.{rules}
+use Rattle.ca_replay.proofs.GatherLemmas.{hand_more, names_after, one_longer, there_at, up_together}
 use Rattle.ca_replay.proofs.hand.take.Goals as goal
 
-pub returns : goal.returns
-returns c =
-    let place : place_of (configuration_in c.args.settings.now) c.args.name ≡ Some c.in-Some.at = sym c.place.ensures ∙ c.in-Some.is in
-    let within : c.in-Some.at < length c.args.parts.now.items =
-    within_row (configuration_in c.args.settings.now) c.args.parts.now.items c.args.name c.in-Some.at place (kind_there c.args.name _ c.requires.there) in
-    record {
-      part = c.replace-part.result;
-      there = at_place (configuration_in c.args.settings.now) c.args.parts.now.items c.args.name c.in-Some.at place
-          ∙ slice_get_read c.args.parts.now.items (length c.args.parts.now.items) c.in-Some.at c.replace-part.result refl within
-          (subst (λ x. x ≡ get_or c.args.parts.now.items c.in-Some.at x) (sym c.replace-part.ensures.value) c.index_mut.ensures.value);
-      others = set_leaves (configuration_in c.args.settings.now) c.args.parts.now.items c.args.name c.in-Some.at c.replace-part.new.dest c.requires.limits place;
-      places = set_places (configuration_in c.args.settings.now) c.args.parts.now.items c.args.name c.in-Some.at c.replace-part.new.dest c.requires.limits place within;
-      held = c.add.ensures.held;
-      room = c.add.ensures.room;
-    }
+pub take_up-requires-clause-there : goal.take_up-requires-clause-there
+take_up-requires-clause-there c = there_at _ _ _ _ c.args.one c.requires.hand c.requires.place c.requires.free
+
+pub returns-clause-hand : goal.returns-clause-hand
+returns-clause-hand c = hand_more _ _ _ _ _ _ _ c.args.one c.requires.hand c.requires.place c.requires.free c.take_up.ensures (search rules) (search rules)
+
+pub returns-clause-together : goal.returns-clause-together
+returns-clause-together c = up_together _ _ _ _ _ _ c.args.one c.requires.hand c.requires.place c.requires.free c.take_up.ensures
+
+pub returns-clause-names : goal.returns-clause-names
+returns-clause-names c = names_after _ c.args.one.name _ _ _ _ c.take_up.ensures
+
+pub returns-clause-count : goal.returns-clause-count
+returns-clause-count c = one_longer _ _ c.args.one (search rules)

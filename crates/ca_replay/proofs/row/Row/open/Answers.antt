@@ -12,7 +12,7 @@ pub returns : goal.returns
 returns c =
     let opened : IsRowOf (configuration_of c.args.opening.now.config)
     (opening_world (opening_bytes (configuration_of c.args.opening.now.config) c.args.opening.now.contents))
-    (record { settings = c.of.result; parts = c.in_ok-parts.field-0; held = c.empty.result; names = c.new.result; count = 0 }) = record {
+    (record { settings = c.of.result; parts = c.in_ok-parts.field-0; held = c.empty.result; taken = c.new.result; count = 0 }) = record {
       settings = c.of.ensures;
       after = opening-after (configuration_of c.args.opening.now.config) (opening_bytes (configuration_of c.args.opening.now.config) c.args.opening.now.contents) c.requires.limited;
       together = subst (AreTogether (configuration_of c.args.opening.now.config)
