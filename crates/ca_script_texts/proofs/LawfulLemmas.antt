@@ -7,6 +7,8 @@ use Rattle.ca_agree.proofs.EventFitLemmas.{followed-is-history}
 use Rattle.ca_agree.specs.Runs.{AreStamped}
 use Rattle.ca_base.specs.objects.Mailbox.{due}
 use Rattle.ca_carried.proofs.EndEventLemmas.{whole-along}
+use Rattle.ca_isolated.proofs.AloneLemmas.{alone-goes}
+use Rattle.ca_isolation.specs.Alone.{Isolated}
 use Rattle.ca_judged.proofs.JudgeEventLemmas.{judged-along}
 use Rattle.ca_keys.specs.Memory.{zeros}
 use Rattle.ca_licensed.proofs.LicensedLemmas.{licensed-along}
@@ -15,12 +17,14 @@ use Rattle.ca_model.specs.Entries.{EntryValue}
 use Rattle.ca_model.specs.History.{IsHistory}
 use Rattle.ca_model.specs.Judged.{Judged}
 use Rattle.ca_model.specs.Licensed.{Licensed}
+use Rattle.ca_model.specs.Once.{Once}
 use Rattle.ca_model.specs.Ordered.{Ordered}
 use Rattle.ca_model.specs.declared.event.Event.{Event}
 use Rattle.ca_model.specs.declared.event.Event.TheVariants as events
 use Rattle.ca_model.specs.machine.Plan.{Did, NotReady, Outcome}
 use Rattle.ca_model.specs.machine.Sound.{CanBeMade}
 use Rattle.ca_model.specs.machine.Step.{step}
+use Rattle.ca_once.proofs.WholeLemmas.{whole-along as once-along}
 use Rattle.ca_order.proofs.FollowLemmas.{order-follows}
 use Rattle.ca_order.proofs.KeepLemmas.{kept-rounds}
 use Rattle.ca_order.specs.Order.{Stage, after_event, after_line, after_outcome, after_visit, ending, lines_of, most_rounds, opening_stage, order, with_lines_left}
@@ -137,3 +141,9 @@ order-ordered text s reads = ordered-along s.config zeros (order s) (text-limite
 
 pub order-carried : (text : List ℕ) (s : ScriptValue) → script_of text ≡ Ok s → Carried zeros (order s)
 order-carried text s reads = whole-along s.config zeros (order s) (text-limited text s reads) (order-made text s reads) (order-follows s)
+
+pub order-once : (text : List ℕ) (s : ScriptValue) → script_of text ≡ Ok s → Once zeros (order s)
+order-once text s reads = once-along s.config zeros (order s) (text-limited text s reads) (order-made text s reads) (order-follows s)
+
+pub order-isolated : (text : List ℕ) (s : ScriptValue) → script_of text ≡ Ok s → Isolated s.config zeros (order s)
+order-isolated text s reads = alone-goes s.config zeros (order s) (text-limited text s reads) (order-made text s reads) (order-follows s)

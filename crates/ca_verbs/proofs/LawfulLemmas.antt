@@ -1,5 +1,5 @@
 -- The history of a fabric that is closed is lawful. For proofs only.
-use Rattle.std.proofs.Common.{◌≡◌, ◌∙◌, refl, sym, ap, ℕ, suc, ◌×◌, List, [], ◌∷◌, map, Ok}
+use Rattle.std.proofs.Common.{◌≡◌, ◌∙◌, refl, sym, ap, ℕ, suc, List, [], ◌∷◌, map, Ok}
 use Rattle.std.specs.List.{AllByRecursion}
 use Rattle.ca_agree.proofs.EventFitLemmas.{followed-is-history}
 use Rattle.ca_agree.specs.Runs.{AreStamped}
@@ -7,6 +7,7 @@ use Rattle.ca_base.specs.Configuration.{configuration_in}
 use Rattle.ca_base.specs.declared.settings.Settings.{Settings}
 use Rattle.ca_carried.proofs.EndEventLemmas.{whole-along}
 use Rattle.ca_fabric_machine.specs.declared.asked.Told.{Told}
+use Rattle.ca_isolated.proofs.AloneLemmas.{alone-goes}
 use Rattle.ca_judged.proofs.JudgeEventLemmas.{judged-along}
 use Rattle.ca_keys.specs.Memory.{zeros}
 use Rattle.ca_licensed.proofs.LicensedLemmas.{licensed-along}
@@ -16,6 +17,7 @@ use Rattle.ca_model.specs.declared.event.Event.{Event}
 use Rattle.ca_model.specs.declared.mark.Mark.{Mark}
 use Rattle.ca_model.specs.machine.Run.{Follows, run}
 use Rattle.ca_model.specs.machine.Sound.{AreLimited, CanBeMade}
+use Rattle.ca_once.proofs.WholeLemmas.{whole-along as once-along}
 use Rattle.ca_ordered.proofs.OrderedLemmas.{ordered-along}
 use Rattle.ca_taking.specs.Holding.{Known}
 use Rattle.ca_verbs.specs.Closing.{IsHistoryOf, IsLawful, stamped_from}
@@ -41,20 +43,22 @@ first-kept k ks n t ts same = search
 
 stamps-count : (n : ℕ) (j : List Entry) (log : List Told) → kept_of j ≡ stamped_from n log → AreStamped n (map entry_of j)
 stamps-count n [] log same = record {}
-stamps-count n (e ∷ es) [] same = search
+stamps-count n (e ∷ es) [] same = absurd cc
 stamps-count n (e ∷ es) (t ∷ ts) same = (first.0, stamps-count (suc n) es ts first.1)
   where
     first : (e.stamp ≡ n) × (kept_of es ≡ stamped_from (suc n) ts)
     first = first-kept (e.stamp, e.event, e.marks.marks) (kept_of es) n t ts same
 
 -- the history of all passes, of a configuration that keeps to its limits
-pub lawful-of : (key : Settings) (v : Known) (j : List Entry) → AreLimited (configuration_in key) → AllByRecursion (λ (e : Entry). CanBeMade e.event) j → IsHistoryOf key v j → IsLawful j
+pub lawful-of : (key : Settings) (v : Known) (j : List Entry) → AreLimited (configuration_in key) → AllByRecursion (λ (e : Entry). CanBeMade e.event) j → IsHistoryOf key v j → IsLawful key j
 lawful-of key v j limited all history = record {
   history = followed-is-history (configuration_in key) zeros (map entry_of j) (stamps-count 0 j history.log history.kept) follows;
   judged = judged-along (configuration_in key) zeros (map entry_of j) limited made follows;
   licensed = licensed-along (configuration_in key) zeros (map entry_of j) limited made follows;
   ordered = ordered-along (configuration_in key) zeros (map entry_of j) limited made follows;
   carried = whole-along (configuration_in key) zeros (map entry_of j) limited made follows;
+  once = once-along (configuration_in key) zeros (map entry_of j) limited made follows;
+  isolated = alone-goes (configuration_in key) zeros (map entry_of j) limited made follows;
 }
   where
     made : AllByRecursion (λ (e : EntryValue). CanBeMade e.event) (map entry_of j)

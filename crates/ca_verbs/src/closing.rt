@@ -22,7 +22,7 @@ impl Fabric {
         ensures out { (known_of pass).share < MAX_PASSES → IsPassOut result }
         ensures cause { IfErr result (λ e. IsCauseOf self pass e) }
         ensures history { IfOk result (λ j. IsHistoryOf (settings_in self) (known_of pass) j.items) }
-        ensures lawful { IfOk result (λ j. IsLawful j.items) }
+        ensures lawful { IfOk result (λ j. IsLawful (settings_in self) j.items) }
     {
         if pass.parts.share() != MAX_PASSES {
             return Err(CloseError::PassOut(self, pass));
