@@ -1,0 +1,4 @@
+pub mod CalmLemmas
+pub mod ChainLemmas
+pub mod LinkLemmas
+pub mod WalkLemmas

@@ -1,0 +1,2 @@
+pub mod AdmitRows
+pub mod CalmRows

@@ -1,0 +1,5 @@
+pub mod ArrivalWeights
+pub mod RequestWeights
+pub mod ResponseWeights
+pub mod SentWeights
+pub mod SumLemmas
