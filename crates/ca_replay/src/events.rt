@@ -2,6 +2,7 @@ ghost use Rattle.std.specs.List.{AllByRecursion};
 ghost use Rattle.std.specs.Prelude.{◌≡◌, ◌-◌, ◌+◌, ◌<◌, ◌^◌, ◌++◌, [], ◌∷◌, IfOk, OnOk, length};
 ghost use Rattle.ca_base.specs.Configuration.{Configuration, configuration_of};
 ghost use Rattle.ca_model.specs.Carried.{Carried};
+ghost use Rattle.ca_model.specs.Caused.{Caused};
 ghost use Rattle.ca_model.specs.History.{IsHistory};
 ghost use Rattle.ca_model.specs.Judged.{Judged};
 ghost use Rattle.ca_model.specs.Licensed.{Licensed};
@@ -57,6 +58,8 @@ pub fn replay(alloc: Global, opening: &Opening, events: &[Event]) -> Result<Vec<
         IfOk result (λ all. Carried (opening_bytes c opening.now.contents) (history_of events.now all.items)) }
     ensures once { let c = configuration_of opening.now.config in
         IfOk result (λ all. Once (opening_bytes c opening.now.contents) (history_of events.now all.items)) }
+    ensures caused { let c = configuration_of opening.now.config in
+        IfOk result (λ all. Caused (opening_bytes c opening.now.contents) (history_of events.now all.items)) }
     ensures ordered { let c = configuration_of opening.now.config in
         IfOk result (λ all. Ordered (opening_bytes c opening.now.contents) (history_of events.now all.items)) }
 {

@@ -6,6 +6,7 @@ use Rattle.ca_agree.specs.Runs.{AreStamped}
 use Rattle.ca_base.specs.Configuration.{configuration_in}
 use Rattle.ca_base.specs.declared.settings.Settings.{Settings}
 use Rattle.ca_carried.proofs.EndEventLemmas.{whole-along}
+use Rattle.ca_caused_link.proofs.HistoryLemmas.{caused-along}
 use Rattle.ca_fabric_machine.specs.declared.asked.Told.{Told}
 use Rattle.ca_isolated.proofs.AloneLemmas.{alone-goes}
 use Rattle.ca_judged.proofs.JudgeEventLemmas.{judged-along}
@@ -58,6 +59,7 @@ lawful-of key v j limited all history = record {
   ordered = ordered-along (configuration_in key) zeros (map entry_of j) limited made follows;
   carried = whole-along (configuration_in key) zeros (map entry_of j) limited made follows;
   once = once-along (configuration_in key) zeros (map entry_of j) limited made follows;
+  caused = caused-along (configuration_in key) zeros (map entry_of j) limited made follows;
   isolated = alone-goes (configuration_in key) zeros (map entry_of j) limited made follows;
 }
   where

@@ -9,6 +9,7 @@ use Rattle.ca_fabric_machine.specs.declared.asked.Told.{Told}
 use Rattle.ca_isolation.specs.Alone.{Isolated}
 use Rattle.ca_keys.specs.Memory.{zeros}
 use Rattle.ca_model.specs.Carried.{Carried}
+use Rattle.ca_model.specs.Caused.{Caused}
 use Rattle.ca_model.specs.Entries.{entry_of}
 use Rattle.ca_model.specs.History.{IsHistory}
 use Rattle.ca_model.specs.Judged.{Judged}
@@ -38,8 +39,9 @@ pub record IsHistoryOf (key : Settings) (v : Known) (j : List Entry) : Type 0 wh
   pub notes : (m : ℕ) (hand : List (ℕ × PartValue)) → Has (m, hand) v.notes → (m ≤ length log) × AllStand (StandsFor key (take m log)) hand
 
 -- A history over zeros is lawful: its stamps count from 0 and each verb has its answer, each access is judged by the grants
--- before it, each grant is licensed, what is carried has its cause, each atomic of a clean connection acts once, what
--- completes and what is polled is in order, and a closed group of domains gets what it would get alone.
+-- before it, each grant is licensed, what is carried has its cause, each atomic of a clean connection acts once, each
+-- completion that is no success has its cause, what completes and what is polled is in order, and a closed group of domains
+-- gets what it would get alone.
 pub record IsLawful (key : Settings) (j : List Entry) : Type 0 where
   pub history : IsHistory (map entry_of j)
   pub judged : Judged zeros (map entry_of j)
@@ -47,6 +49,7 @@ pub record IsLawful (key : Settings) (j : List Entry) : Type 0 where
   pub ordered : Ordered zeros (map entry_of j)
   pub carried : Carried zeros (map entry_of j)
   pub once : Once zeros (map entry_of j)
+  pub caused : Caused zeros (map entry_of j)
   pub isolated : Isolated (configuration_in key) zeros (map entry_of j)
 
 -- the stamps of entries

@@ -1,9 +1,11 @@
 use Rattle.std.proofs.Common.{arith}
 use Rattle.ca_base.specs.Configuration.{configuration_of}
 use Rattle.ca_carried.proofs.EndEventLemmas.{whole-along}
+use Rattle.ca_caused_link.proofs.HistoryLemmas.{caused-along}
 use Rattle.ca_judged.proofs.JudgeEventLemmas.{judged-along}
 use Rattle.ca_licensed.proofs.LicensedLemmas.{licensed-along}
 use Rattle.ca_model.specs.Carried.{Carried}
+use Rattle.ca_model.specs.Caused.{Caused}
 use Rattle.ca_model.specs.Judged.{Judged}
 use Rattle.ca_model.specs.Licensed.{Licensed}
 use Rattle.ca_model.specs.Once.{Once}
@@ -76,6 +78,16 @@ returns-clause-carried c = is_lawful Carried whole-along (configuration_of c.arg
 
 pub returns-clause-once : goal.returns-clause-once
 returns-clause-once c = is_lawful Once once-along (configuration_of c.args.opening.now.config)
+    (opening_bytes (configuration_of c.args.opening.now.config) c.args.opening.now.contents) c.args.events.now c.make_all.result c.requires.limited
+    (from_opening (configuration_of c.args.opening.now.config)
+    (opening_bytes (configuration_of c.args.opening.now.config) c.args.opening.now.contents) c.in_ok-row.row c.args.events.now c.make_all.result
+    c.in_ok-row.ensures.count
+    (c.make_all.ensures.run (configuration_of c.args.opening.now.config)
+    (opening_world (opening_bytes (configuration_of c.args.opening.now.config) c.args.opening.now.contents)) c.in_ok-row.ensures.world))
+    c.make_all.ensures.made
+
+pub returns-clause-caused : goal.returns-clause-caused
+returns-clause-caused c = is_lawful Caused caused-along (configuration_of c.args.opening.now.config)
     (opening_bytes (configuration_of c.args.opening.now.config) c.args.opening.now.contents) c.args.events.now c.make_all.result c.requires.limited
     (from_opening (configuration_of c.args.opening.now.config)
     (opening_bytes (configuration_of c.args.opening.now.config) c.args.opening.now.contents) c.in_ok-row.row c.args.events.now c.make_all.result
