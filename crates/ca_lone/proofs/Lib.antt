@@ -1,0 +1,5 @@
+pub mod CoverLemmas
+pub mod ExtentLemmas
+pub mod FollowLemmas
+pub mod PutLemmas
+pub mod RunLemmas

@@ -1,0 +1,5 @@
+pub mod Cover
+pub mod Covering
+pub mod Extents
+pub mod InForce
+pub mod Putting
