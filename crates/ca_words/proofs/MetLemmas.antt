@@ -5,11 +5,10 @@ use Rattle.std.specs.Str.{bytes_eq}
 use Rattle.ca_reading_words.specs.Words.{◌>>=◌, Gives}
 use Rattle.ca_reading_words.specs.declared.stop.Stop.{Stop}
 use Rattle.ca_reading_words.specs.declared.stop.Stop.TheVariants as stops
-use Rattle.ca_words.specs.Words.{command_in, command_line, command_met, command_named, group_named, unless_faulty}
+use Rattle.ca_words.specs.Words.{alone_with, command_in, command_line, command_met, command_named, make_with, unless_faulty}
 use Rattle.ca_words.specs.declared.command.Command.{Command}
 use Rattle.ca_words.specs.declared.command.WordsError.{WordsError}
 use Rattle.ca_words.specs.declared.command.WordsError.TheVariants as errors
-use Rattle.ca_words.specs.declared.command.Command.TheVariants as commands
 use Rattle.clap.proofs.OnLiterals.{clap_on_literals}
 use Rattle.clap.proofs.WalkLemmas.{first_value-rows}
 use Rattle.clap.specs.Words.{App, HasKind, HasMatchesOf, Kinds, Row, Text, fault_of, first_of, first_value, kind_of, is_simple, is_simple_and_free, rows_of, subcommand_name_of, subcommand_of, subcommand_rows_of}
@@ -34,17 +33,29 @@ both (Some (n, r)) name rows named with = let one : name ≡ n = cc in let other
 pub rows-met : (m : ArgMatches) (name : Text) (rows : List Row) → Some name ≡ subcommand_name_of m → Some rows ≡ option_map (λ (p : Text × List Row). p.1) (subcommand_rows_of m) → subcommand_rows_of m ≡ Some (name, rows)
 rows-met m name rows named with = both (subcommand_rows_of m) name rows (named ∙ name-met m) with
 
--- the command of a name that is not `script`
-pub alone-named : (name : Text) (rows : List Row) (text : Option Text) → bytes_eq name (codes "script") ≡ false → first_of (codes "group") rows ≡ text
-    → command_named (name, rows) ≡ (text >>= λ t. option_map commands.Alone (group_named t))
-alone-named name rows text other is = rw (other, is) refl
+-- the command of the name `make`
+make-named : (name : Text) (rows : List Row) (text : Option Text) → bytes_eq name (codes "script") ≡ false → bytes_eq name (codes "make") ≡ true → first_of (codes "seed") rows ≡ text
+    → command_named (name, rows) ≡ make_with text
+make-named name rows text other same is = rw (other, same, is) refl
 
--- what a parse met that met no `script`
+-- the command of a name that is neither `script` nor `make`
+alone-named : (name : Text) (rows : List Row) (text : Option Text) → bytes_eq name (codes "script") ≡ false → bytes_eq name (codes "make") ≡ false → first_of (codes "group") rows ≡ text
+    → command_named (name, rows) ≡ alone_with text
+alone-named name rows text other neither is = rw (other, neither, is) refl
+
+-- what a parse met that met `make`
+pub make-met : (m : ArgMatches) (arguments : Found) (name : Text) (text : Option Text) → Some name ≡ subcommand_name_of m
+    → Some (rows_of arguments) ≡ option_map (λ (p : Text × List Row). p.1) (subcommand_rows_of m) → bytes_eq name (codes "script") ≡ false → bytes_eq name (codes "make") ≡ true
+    → text ≡ first_value arguments (codes "seed") → command_met m ≡ make_with text
+make-met m arguments name text named with other same is = ap (λ (o : Option (Text × List Row)). o >>= command_named) (rows-met m name (rows_of arguments) named with)
+    ∙ make-named name (rows_of arguments) text other same (sym (first_value-rows arguments (codes "seed")) ∙ sym is)
+
+-- what a parse met that met neither
 pub alone-met : (m : ArgMatches) (arguments : Found) (name : Text) (text : Option Text) → Some name ≡ subcommand_name_of m
-    → Some (rows_of arguments) ≡ option_map (λ (p : Text × List Row). p.1) (subcommand_rows_of m) → bytes_eq name (codes "script") ≡ false → text ≡ first_value arguments (codes "group")
-    → command_met m ≡ (text >>= λ t. option_map commands.Alone (group_named t))
-alone-met m arguments name text named with other is = ap (λ (o : Option (Text × List Row)). o >>= command_named) (rows-met m name (rows_of arguments) named with)
-    ∙ alone-named name (rows_of arguments) text other (sym (first_value-rows arguments (codes "group")) ∙ sym is)
+    → Some (rows_of arguments) ≡ option_map (λ (p : Text × List Row). p.1) (subcommand_rows_of m) → bytes_eq name (codes "script") ≡ false → bytes_eq name (codes "make") ≡ false
+    → text ≡ first_value arguments (codes "group") → command_met m ≡ alone_with text
+alone-met m arguments name text named with other neither is = ap (λ (o : Option (Text × List Row)). o >>= command_named) (rows-met m name (rows_of arguments) named with)
+    ∙ alone-named name (rows_of arguments) text other neither (sym (first_value-rows arguments (codes "group")) ∙ sym is)
 
 -- where an error is not want of memory there is a fault, and nothing is said
 pub nothing-said : (faults : Kinds) (e : Error) (said : Option Command) → HasKind faults e → (kind_of e ≡ kinds.OutOfMemory → ⊥) → unless_faulty faults said ≡ None

@@ -1,11 +1,15 @@
 -- Words: which command the words behind the program's name are. Contracts cite it.
-use Rattle.std.specs.Prelude.{ℕ, ◌*◌, nat_le, nat_lt, Bool, true, not, ◌&&◌, if◌then◌else◌, List, [], ◌∷◌, length, codes, Option, Some, None}
+use Rattle.std.specs.Prelude.{ℕ, ◌*◌, ◌-◌, ◌^◌, nat_le, nat_lt, Bool, true, false, not, ◌&&◌, if◌then◌else◌, List, [], ◌∷◌, length, codes, Option, Some, None}
 use Rattle.std.specs.List.{list_any}
 use Rattle.std.specs.Option.{option_map}
 use Rattle.std.specs.Str.{bytes_eq}
+use Rattle.std.specs.Str.Parse.{digits_value, without_leading_plus}
+use Rattle.clap.specs.ValueTests.{accepts}
 use Rattle.clap.specs.Words.{App, Kinds, Row, Rule, Text, fault_of, first_of, new_app, new_rule, subcommand_of, subcommand_rows_of, with_rule, with_subcommand}
 use Rattle.clap.specs.declared.parser.matches.ArgMatches.{ArgMatches}
 use Rattle.clap.specs.declared.builder.action.ArgAction.TheVariants.{Set}
+use Rattle.clap.specs.declared.builder.value_parser.ValueParser.{ValueParser}
+use Rattle.clap.specs.declared.builder.value_parser.ValueParser.TheVariants.{Unsigned}
 use Rattle.ca_base.specs.declared.limits.TheConstants.{MAX_ADAPTERS, MAX_DOMAINS}
 use Rattle.ca_keys.specs.Equal.{domain_eq}
 use Rattle.ca_keys.specs.Spelling.{domain_text}
@@ -33,11 +37,21 @@ group_named w = do
   ds ← all_in domain_named (pieces 44 w)
   if nat_le (length ds) (MAX_ADAPTERS * MAX_DOMAINS) && are_distinct ds then Some ds else None
 
+-- ---- a seed
+
+-- numbers of 64 bits: digits, and at most one plus sign in front
+abbrev pub any_seed : ValueParser
+any_seed = Unsigned 0 (2 ^ 64 - 1)
+
+-- the number that a text names, where the parser of command lines takes it for one
+abbrev pub seed_named : Text → Option ℕ
+seed_named w = if accepts false any_seed w then Some (digits_value 10 (without_leading_plus w)) else None
+
 -- ---- the command line
 
--- `--group` with its text
-abbrev pub group_rule : Rule
-group_rule = record (new_rule (codes "group")) { long = Some (codes "group"); action = Some Set; required = true }
+-- an argument of this name that has to be there, with a text
+abbrev pub text_rule : Text → Rule
+text_rule name = record (new_rule name) { long = Some name; action = Some Set; required = true }
 
 -- the program's own words begin with the first
 abbrev pub bare_line : App
@@ -45,17 +59,29 @@ bare_line =
     let bare = new_app (codes "ca") in
     record bare { top = record bare.top { no_binary_name = true; subcommand_required = true } }
 
--- it has two subcommands, of which one has to be named
+-- it has three subcommands, of which one has to be named
 abbrev pub command_line : App
 command_line =
-    with_subcommand (with_subcommand bare_line (new_app (codes "script")).top)
-    (with_rule (new_app (codes "alone")) group_rule).top
+    with_subcommand
+    (with_subcommand
+    (with_subcommand bare_line (new_app (codes "script")).top)
+    (with_rule (new_app (codes "alone")) (text_rule (codes "group"))).top)
+    (with_rule (new_app (codes "make")) (text_rule (codes "seed"))).top
+
+-- the command of a group's text
+abbrev pub alone_with : Option Text → Option Command
+alone_with text = text >>= λ t. option_map (λ ds. commands.Alone ds) (group_named t)
+
+-- the command of a seed's text
+abbrev pub make_with : Option Text → Option Command
+make_with text = text >>= λ t. option_map (λ n. commands.Make n) (seed_named t)
 
 -- the command of a subcommand's name and arguments
 abbrev pub command_named : Text × List Row → Option Command
 command_named (name, rows) =
     if bytes_eq name (codes "script") then Some commands.Script
-    else (first_of (codes "group") rows >>= λ text. option_map (λ ds. commands.Alone ds) (group_named text))
+    else if bytes_eq name (codes "make") then make_with (first_of (codes "seed") rows)
+    else alone_with (first_of (codes "group") rows)
 
 -- the command that a parse met
 abbrev pub command_met : ArgMatches → Option Command

@@ -8,6 +8,8 @@ pub enum Command {
     /// The same, and then write the replies that the group gets in its lone run. It has from 1 to 128 domains, all
     /// distinct.
     Alone(Items<DomainId>),
+    /// Work the script that is made of this seed, and write a summary. Nothing is read.
+    Make(u64),
 }
 
 /// Why words give no command.

@@ -1,9 +1,10 @@
-ghost use Rattle.std.specs.Prelude.{◌≡◌, ◌↔◌, Err, None, Some, IfOk, map};
+ghost use Rattle.std.specs.Prelude.{◌≡◌, ◌↔◌, Err, None, Some, IfOk, false, map};
+ghost use Rattle.std.specs.Option.{option_map};
 ghost use Rattle.std.specs.String.{string_bytes};
 ghost use Rattle.ca_words.specs.Words as spelled;
 ghost use Rattle.ca_words.specs.Words.{command_met};
 ghost use Rattle.ca_words.specs.declared.command.WordsError.TheVariants as errors;
-ghost use Rattle.clap.specs.Words.{app_of};
+ghost use Rattle.clap.specs.Words.{app_of, rule_of};
 ghost use Rattle.clap.specs.declared.error.kind.ErrorKind.TheVariants as kinds;
 
 use crate::command::{Command, WordsError};
@@ -14,21 +15,30 @@ use clap::error::ErrorKind;
 use clap::{Arg, ArgAction, ArgMatches, Command as Line};
 use std::alloc::Global;
 
-/// The command line: two subcommands, of which one has to be named.
+/// The command line: three subcommands, of which one has to be named.
 fn command_line<'a>(alloc: Global) -> Result<Line<'a>, Memory>
     ensures { IfOk result (λ line. app_of line ≡ spelled.command_line) }
 {
-    let group = Arg::new(alloc, "group")
-        .long("group")
-        .action(ArgAction::Set)
-        .required(true);
-    let alone = Line::new(alloc, "alone").arg(group)?;
+    let alone = Line::new(alloc, "alone").arg(text_of(alloc, "group"))?;
+    let make = Line::new(alloc, "make").arg(text_of(alloc, "seed"))?;
     let line = Line::new(alloc, "ca")
         .no_binary_name(true)
         .subcommand_required(true)
         .subcommand(Line::new(alloc, "script"))?
-        .subcommand(alone)?;
+        .subcommand(alone)?
+        .subcommand(make)?;
     Ok(line)
+}
+
+/// An argument of this name that has to be there, with a text.
+fn text_of(alloc: Global, name: &str) -> Arg<'_>
+    ensures rule { rule_of result ≡ spelled.text_rule name.now }
+    ensures local { result.global ≡ false }
+{
+    Arg::new(alloc, name)
+        .long(name)
+        .action(ArgAction::Set)
+        .required(true)
 }
 
 /// What a parse that found no fault says: the command of the subcommand that it met.
@@ -42,7 +52,39 @@ fn named(alloc: Global, matches: &ArgMatches) -> Result<Command, WordsError>
     if name == "script" {
         return Ok(Command::Script);
     }
-    let Some(text) = arguments.get_str("group") else {
+    if name == "make" {
+        return make_with(arguments.get_str("seed"));
+    }
+    alone_with(alloc, arguments.get_str("group"))
+}
+
+/// The command of a seed's text.
+fn make_with(text: Option<&str>) -> Result<Command, WordsError>
+    ensures ok { IfOk result (λ command. spelled.make_with (option_map (λ t. t.now) text.entry) ≡ Some command) }
+    ensures usage { result ≡ Err errors.Usage → spelled.make_with (option_map (λ t. t.now) text.entry) ≡ None }
+{
+    let Some(text) = text else {
+        return Err(WordsError::Usage);
+    };
+    match seed_named(text) {
+        Some(seed) => Ok(Command::Make(seed)),
+        None => Err(WordsError::Usage),
+    }
+}
+
+/// The number that a text names.
+fn seed_named(text: &str) -> Option<u64>
+    ensures { result ≡ spelled.seed_named text.now }
+{
+    text.parse().ok()
+}
+
+/// The command of a group's text.
+fn alone_with(alloc: Global, text: Option<&str>) -> Result<Command, WordsError>
+    ensures ok { IfOk result (λ command. spelled.alone_with (option_map (λ t. t.now) text.entry) ≡ Some command) }
+    ensures usage { result ≡ Err errors.Usage → spelled.alone_with (option_map (λ t. t.now) text.entry) ≡ None }
+{
+    let Some(text) = text else {
         return Err(WordsError::Usage);
     };
     match group_named(alloc, text.as_bytes()) {
