@@ -1,2 +1,3 @@
-pub mod OneWord
+pub mod OutputLemmas
 pub mod ReadLemmas
+pub mod StatusLemmas

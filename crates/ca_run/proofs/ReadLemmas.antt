@@ -1,8 +1,7 @@
 -- What the bytes that were read say of all the bytes that the source had. For proofs only.
 use Rattle.std.proofs.Common.{◌≡◌, ℕ, ◌≤◌, List, [], length, Option, None, Some, IfSome, Ok, sym, arith}
 use Rattle.ca_base.specs.declared.limits.TheConstants.{MAX_SCRIPT_BYTES}
-use Rattle.ca_order.specs.OfScript.{Status}
-use Rattle.ca_run.specs.Run.{HasOutput, Ran}
+use Rattle.ca_run.specs.Run.{IsRead}
 use Rattle.ca_script.specs.Script.{ScriptValue, script_of}
 
 -- what a text that means a script is long at most
@@ -15,14 +14,12 @@ read-whole : (left left' : Option (List ℕ)) (bytes : List ℕ) (limit : ℕ) �
 read-whole None left' bytes limit few all end = tt
 read-whole (Some left) left' bytes limit few all end = (sym (all few), end few)
 
-pub ran : (left left' : Option (List ℕ)) (bytes output : List ℕ) (ended : Status) (Appended : List ℕ → Type 0) (limit : ℕ) → MAX_SCRIPT_BYTES ≤ limit → AreLimited
-    → HasOutput bytes output ended → Appended output
+-- bytes that mean a script were all that the source had left
+pub is-read : (left left' : Option (List ℕ)) (bytes : List ℕ) (s : ScriptValue) (limit : ℕ) → MAX_SCRIPT_BYTES ≤ limit → AreLimited → script_of bytes ≡ Ok s
     → IfSome left (λ all. length bytes ≤ limit → bytes ≡ all) → IfSome left (λ _. length bytes ≤ limit → left' ≡ Some [])
-    → Ran left left' ended Appended
-ran left left' bytes output ended Appended limit enough limited worked appended all end = record {
+    → IsRead left left' s
+is-read left left' bytes s limit enough limited means all end = record {
   bytes = bytes;
-  read = read-whole left left' bytes limit (omega (arith, limited bytes worked.script worked.means, enough)) all end;
-  output = output;
-  worked = worked;
-  appended = appended;
+  means = means;
+  whole = read-whole left left' bytes limit (omega (arith, limited bytes s means, enough)) all end;
 }

@@ -1,53 +1,98 @@
--- What a run of the program did, by its status. Contracts cite it.
-use Rattle.std.specs.Prelude.{◌≡◌, ℕ, List, [], ◌∷◌, codes, Option, Some, IfSome, Ok}
-use Rattle.ca_isolation.specs.Alone.{Isolated}
-use Rattle.ca_keys.specs.Memory.{zeros}
-use Rattle.ca_model.specs.Carried.{Carried}
+-- What a run of the program did, by its command and its status. Contracts cite it.
+use Rattle.std.specs.Prelude.{◌≡◌, ◌++◌, ℕ, List, [], slice_get, Option, Some, IfSome, Ok}
+use Rattle.ca_alone_run.specs.Lone.{HasReplies}
+use Rattle.ca_isolation.specs.Groups.{group_of, strays_of}
+use Rattle.ca_keys.specs.declared.names.DomainId.{DomainId}
+use Rattle.ca_keys.specs.declared.names.QueueId.{QueueId}
+use Rattle.ca_made.specs.Made.{made_script}
 use Rattle.ca_model.specs.Entries.{EntryValue}
-use Rattle.ca_model.specs.History.{IsHistory}
-use Rattle.ca_model.specs.Judged.{Judged}
-use Rattle.ca_model.specs.Licensed.{Licensed}
-use Rattle.ca_model.specs.Once.{Once}
-use Rattle.ca_model.specs.Ordered.{Ordered}
-use Rattle.ca_model.specs.machine.Run.{Follows}
-use Rattle.ca_order.specs.OfScript.{HasStatus, LeadsTo, Status}
+use Rattle.ca_order.specs.OfScript as machine
+use Rattle.ca_order.specs.OfScript.{HasStatus}
 use Rattle.ca_order.specs.Order.{ending, order}
+use Rattle.ca_order.specs.Summary.{summary}
+use Rattle.ca_order_laws.specs.Lawful.{IsLawfulOrder}
 use Rattle.ca_reading_fits.specs.Histories.{HistoryFits}
+use Rattle.ca_run.specs.Status.{ended_as}
+use Rattle.ca_run.specs.declared.status.Status.{Status}
+use Rattle.ca_run.specs.declared.status.Status.TheVariants as statuses
 use Rattle.ca_script.specs.Script.{ScriptValue, script_of}
+use Rattle.ca_summary.specs.Text.{summary_text}
 use Rattle.ca_trace.specs.Trace.{text}
+use Rattle.ca_words.specs.declared.command.Command.{Command}
+use Rattle.ca_words.specs.declared.command.Command.TheVariants as commands
 
--- the words are the one command
-abbrev pub IsCommand : List (List ℕ) → Type 0
-IsCommand words = words ≡ codes "script" ∷ []
+-- The order of the script is lawful, and ended so.
+pub record IsWorked (s : ScriptValue) (ended : machine.Status) : Type 0 where
+  pub lawful : IsLawfulOrder s (order s)
+  pub status : HasStatus s (ending s) ended
 
--- A history of a script over buffers of zeros is lawful: it follows the machine, is a history, is judged, licensed,
--- carried, once, ordered and isolated; and it is one of the script, and leads to where the order of the script ends.
-pub record IsLawfulOrder (s : ScriptValue) (es : List EntryValue) : Type 0 where
-  pub follows : Follows s.config zeros es
-  pub history : IsHistory es
-  pub judged : Judged zeros es
-  pub licensed : Licensed zeros es
-  pub carried : Carried zeros es
-  pub once : Once zeros es
-  pub ordered : Ordered zeros es
-  pub isolated : Isolated s.config zeros es
-  pub of_script : LeadsTo s es (ending s)
-
--- These bytes mean a script, whose order ended so. The output is the text of this order, and the text of no other
--- history that fits.
-pub record HasOutput (bytes output : List ℕ) (ended : Status) : Type 0 where
-  pub script : ScriptValue
-  pub means : script_of bytes ≡ Ok script
-  pub lawful : IsLawfulOrder script (order script)
-  pub status : HasStatus script (ending script) ended
-  pub whole : output ≡ text (order script)
-  pub only : (others : List EntryValue) → HistoryFits others → output ≡ text others → others ≡ order script
-
--- Bytes were read that mean a script, which was worked and ended so. Where the source told what was left, it was these
--- bytes, and they were read to their end. Of their output so much was written.
-pub record Ran (left left' : Option (List ℕ)) (ended : Status) (Appended : List ℕ → Type 0) : Type 0 where
+-- Bytes were read that mean the script. Where the source told what was left, it was these bytes, and they were read to
+-- their end.
+pub record IsRead (left left' : Option (List ℕ)) (s : ScriptValue) : Type 0 where
   pub bytes : List ℕ
-  pub read : IfSome left (λ all. (all ≡ bytes) × (left' ≡ Some []))
+  pub means : script_of bytes ≡ Ok s
+  pub whole : IfSome left (λ all. (all ≡ bytes) × (left' ≡ Some []))
+
+-- The output is the text of this history, and of no other that fits.
+pub record IsTextOf (output : List ℕ) (es : List EntryValue) : Type 0 where
+  pub whole : output ≡ text es
+  pub only : (others : List EntryValue) → HistoryFits others → output ≡ text others → others ≡ es
+
+-- A script was read and worked, and the output is the text of its order.
+pub record IsScriptOutput (left left' : Option (List ℕ)) (status : Status) (output : List ℕ) : Type 0 where
+  pub script : ScriptValue
+  pub ended : machine.Status
+  pub is : ended_as status ≡ Some ended
+  pub read : IsRead left left' script
+  pub worked : IsWorked script ended
+  pub text : IsTextOf output (order script)
+
+-- A script was read and worked, the group is closed in its order, and the output is the text of the order and, behind it,
+-- that of the group's replies in its lone run.
+pub record IsClosedOutput (group : List DomainId) (left left' : Option (List ℕ)) (status : Status) (output : List ℕ) : Type 0 where
+  pub script : ScriptValue
+  pub ended : machine.Status
+  pub is : ended_as status ≡ Some ended
+  pub read : IsRead left left' script
+  pub worked : IsWorked script ended
+  pub replies : List ℕ
+  pub lone : HasReplies script.config (group_of group) (order script) replies
+  pub whole : output ≡ text (order script) ++ replies
+
+-- A script was read and worked, the queue pair is the first of the group that named a peer outside of it, and the output is
+-- the text of the order.
+pub record IsOpenOutput (group : List DomainId) (left left' : Option (List ℕ)) (queue : QueueId) (output : List ℕ) : Type 0 where
+  pub script : ScriptValue
+  pub ended : machine.Status
+  pub read : IsRead left left' script
+  pub worked : IsWorked script ended
+  pub stray : slice_get (strays_of (group_of group) (order script)) 0 ≡ Some queue
+  pub text : IsTextOf output (order script)
+
+abbrev pub IsLoneOutput : List DomainId → Option (List ℕ) → Option (List ℕ) → Status → List ℕ → Type 0
+IsLoneOutput group left left' (statuses.NotClosed queue) output = IsOpenOutput group left left' queue output
+IsLoneOutput group left left' status output = IsClosedOutput group left left' status output
+
+-- The script of the seed was worked, and the output is the summary of its order.
+pub record IsMadeOutput (seed : ℕ) (status : Status) (output : List ℕ) : Type 0 where
+  pub ended : machine.Status
+  pub is : ended_as status ≡ Some ended
+  pub worked : IsWorked (made_script seed) ended
+  pub whole : output ≡ summary_text (summary (made_script seed).config (order (made_script seed)))
+
+-- what a command writes whose status is this one, and what it read of the source
+abbrev pub IsOutput : Command → Option (List ℕ) → Option (List ℕ) → Status → List ℕ → Type 0
+IsOutput commands.Script left left' status output = IsScriptOutput left left' status output
+IsOutput (commands.Alone group) left left' status output = IsLoneOutput group left left' status output
+IsOutput (commands.Make seed) left left' status output = IsMadeOutput seed status output
+
+-- The command has an output with this status, and of it so much was written.
+pub record Wrote (command : Command) (left left' : Option (List ℕ)) (status : Status) (Appended : List ℕ → Type 0) : Type 0 where
   pub output : List ℕ
-  pub worked : HasOutput bytes output ended
+  pub is : IsOutput command left left' status output
   pub appended : Appended output
+
+-- The same of an output with some status.
+pub record WroteFront (command : Command) (left left' : Option (List ℕ)) (Appended : List ℕ → Type 0) : Type 0 where
+  pub status : Status
+  pub wrote : Wrote command left left' status Appended

@@ -1,10 +1,12 @@
 ghost use Rattle.std.specs.Prelude.{◌≡◌, ◌++◌, OnOk, OnErr, Some};
 ghost use Rattle.ca_run.specs.Status as table;
+ghost use Rattle.ca_run.specs.declared.status.Status.TheVariants as statuses;
 ghost use Rattle.ca_script_run.specs.Statuses.{status_value};
 
-use ca_base::Memory;
+use ca_base::{Memory, QueueId};
 use ca_outside::ReadStop;
 use ca_script::{ScriptCause, ScriptError};
+use ca_writing::WriteStop;
 use std::fmt;
 
 /// How a run of the program ended.
@@ -27,8 +29,11 @@ pub enum Status {
     Stalled { consumer: u32, line: u32 },
     /// So many events were made, and the script allows no more; the whole output is written.
     BudgetSpent(u64),
-    /// Out of memory; nothing is written.
+    /// Out of memory; a front of the output is written, or nothing.
     Memory,
+    /// A queue pair of the group named a peer outside of it, and this is the first that did; the text of the history is
+    /// written, and no lone run.
+    NotClosed(QueueId),
 }
 
 /// The line that tells of the status, with its line feed; there is none of `Fine`.
@@ -47,6 +52,7 @@ impl fmt::Display for Status {
             }
             Status::BudgetSpent(count) => writeln!(f, "budget spent: {count}"),
             Status::Memory => writeln!(f, "memory"),
+            Status::NotClosed(queue) => writeln!(f, "not closed: {queue}"),
         }
     }
 }
@@ -70,6 +76,25 @@ impl From<ScriptError> for Status {
             ScriptError::Refused { line, cause } => Status::Script { line, cause },
             ScriptError::Memory => Status::Memory,
         }
+    }
+}
+
+impl From<WriteStop> for Status {
+    ghost from_gives = { λ stop status. status ≡ table.status_of_write stop };
+
+    fn from(stop: WriteStop) -> Status {
+        match stop {
+            WriteStop::Failed => Status::WriteFault,
+            WriteStop::Memory => Status::Memory,
+        }
+    }
+}
+
+impl From<Memory> for Status {
+    ghost from_gives = { λ _ status. status ≡ statuses.Memory };
+
+    fn from(_memory: Memory) -> Status {
+        Status::Memory
     }
 }
 
@@ -98,6 +123,7 @@ pub fn exit_code(status: &Status) -> u8
         Status::Stalled { .. } => 5,
         Status::BudgetSpent(_) => 6,
         Status::Memory => 7,
+        Status::NotClosed(_) => 8,
     }
 }
 

@@ -11,6 +11,7 @@ use Rattle.ca_order.specs.OfScript.{status_of}
 use Rattle.ca_order.specs.Order.{ending, has_no_event_left, order}
 use Rattle.ca_order.specs.Visits.{Visit}
 use Rattle.ca_order.specs.Visits as visits
+use Rattle.ca_replay.specs.Rows.{IsRowOf}
 use Rattle.ca_script.specs.Script.{ScriptValue}
 use Rattle.ca_script_run.specs.Progress.{IsUnderWay, IsVisited}
 use Rattle.ca_script_run.specs.Working.{IsOffered, IsWorked, IsWorking, work_at}
@@ -95,3 +96,6 @@ worked_order s p is = is.at.past ∙ ap (λ g. reverse g.past) (loop-made s is.o
 
 pub worked_status : (s : ScriptValue) (p : Progress) (is : IsWorked s p) → status_of s (work_at s is.offers).stage ≡ status_of s (ending s)
 worked_status s p is = ap (status_of s) (loop-made s is.offers is.ended)
+
+pub worked_row : (s : ScriptValue) (p : Progress) → IsWorked s p → IsRowOf s.config (ending s).world p.row
+worked_row s p is = subst (λ g. IsRowOf s.config g.world p.row) (loop-made s is.offers is.ended) is.at.row

@@ -4,6 +4,7 @@ ghost use Rattle.ca_engine_laws.specs.Loop.{opening_work};
 ghost use Rattle.ca_model.specs.machine.Sound.{AreLimited};
 ghost use Rattle.ca_order.specs.OfScript as machine;
 ghost use Rattle.ca_order.specs.Order.{Stage, ending, opening_stage, order};
+ghost use Rattle.ca_replay.specs.Rows.{IsRowOf};
 ghost use Rattle.ca_script.specs.Script.{script_value};
 ghost use Rattle.ca_script_run.specs.Progress.{IsAt, IsUnderWay};
 ghost use Rattle.ca_script_run.specs.Statuses.{status_value};
@@ -20,11 +21,12 @@ use ca_replay::Row;
 use ca_script::Script;
 use std::alloc::Global;
 
-/// What came of a script: its history, and how it ended.
+/// What came of a script: its history, how it ended, and the parts at its end.
 #[derive(Drop)]
 pub struct Worked {
     pub history: History,
     pub status: Status,
+    pub row: Row,
 }
 
 /// Works a script in its order, from buffers of zeros to its end. `Memory` is its only refusal.
@@ -33,6 +35,8 @@ pub fn work_script(alloc: Global, script: Script) -> Result<Worked, Memory>
     ensures history { IfOk result (λ worked. worked.history ≡ order (script_value script)) }
     ensures status { IfOk result (λ worked. status_value worked.status
         ≡ machine.status_of (script_value script) (ending (script_value script))) }
+    ensures row { IfOk result (λ worked. IsRowOf (script_value script).config (ending (script_value script)).world
+        worked.row) }
 {
     let consumers = script.consumers.as_slice().len() as u32;
     let mut engine = Engine::new(alloc, &script.config, consumers)?;
@@ -42,6 +46,7 @@ pub fn work_script(alloc: Global, script: Script) -> Result<Worked, Memory>
     Ok(Worked {
         history: progress.history,
         status,
+        row: progress.row,
     })
 }
 

@@ -1,15 +1,8 @@
 ghost use Rattle.std.specs.Prelude.{◌≡◌, ◌++◌, ◌<◌, ◌≤◌, ◌^◌, ℕ, List, Ok, length};
 ghost use Rattle.ca_base.specs.declared.limits.TheConstants.{MAX_CONSUMERS, MAX_SCRIPT_BYTES};
 ghost use Rattle.ca_engine_laws.specs.Loop.{most_offers};
-ghost use Rattle.ca_isolation.specs.Alone.{Isolated};
-ghost use Rattle.ca_keys.specs.Memory.{zeros};
-ghost use Rattle.ca_model.specs.Carried.{Carried};
-ghost use Rattle.ca_model.specs.History.{IsHistory};
-ghost use Rattle.ca_model.specs.Judged.{Judged};
-ghost use Rattle.ca_model.specs.Licensed.{Licensed};
-ghost use Rattle.ca_model.specs.Once.{Once};
-ghost use Rattle.ca_model.specs.Ordered.{Ordered};
 ghost use Rattle.ca_order.specs.Order.{order};
+ghost use Rattle.ca_order_laws.specs.Lawful.{IsLawfulOrder};
 ghost use Rattle.ca_script.specs.Script.{ScriptValue, script_of};
 
 /// A script that a text means has no more consumers than there may be, and its order comes to an end before the offers
@@ -28,15 +21,7 @@ pub fn long_texts_are_refused_by_their_fronts()
         → script_of (front ++ more) ≡ script_of front }
 {}
 
-/// The order of a script that a text means is a history, is judged, licensed, ordered and carried, over buffers of zeros, each
-/// atomic of a clean connection acts at most once, and a closed group of domains gets what it would get alone.
+/// The order of a script that a text means is lawful.
 pub fn orders_of_texts_are_lawful()
-    ensures history { (text : List ℕ) (s : ScriptValue) → script_of text ≡ Ok s → IsHistory (order s) }
-    ensures judged { (text : List ℕ) (s : ScriptValue) → script_of text ≡ Ok s → Judged zeros (order s) }
-    ensures licensed { (text : List ℕ) (s : ScriptValue) → script_of text ≡ Ok s → Licensed zeros (order s) }
-    ensures ordered { (text : List ℕ) (s : ScriptValue) → script_of text ≡ Ok s → Ordered zeros (order s) }
-    ensures carried { (text : List ℕ) (s : ScriptValue) → script_of text ≡ Ok s → Carried zeros (order s) }
-    ensures once { (text : List ℕ) (s : ScriptValue) → script_of text ≡ Ok s → Once zeros (order s) }
-    ensures isolated { (text : List ℕ) (s : ScriptValue) → script_of text ≡ Ok s
-        → Isolated s.config zeros (order s) }
+    ensures { (text : List ℕ) (s : ScriptValue) → script_of text ≡ Ok s → IsLawfulOrder s (order s) }
 {}

@@ -1,9 +1,9 @@
 //! Laws: what a text that means a script gives.
 //!
 //! To the layers above it promises, as clauses of functions that do nothing, that such a script can be worked on one
-//! thread, that its order is a history which is judged, licensed, ordered and carried, and that the bytes behind a front which is
-//! longer than a script may be make no difference. They hold of the definitions of scripts and of the machine, and no code is
-//! in them.
+//! thread, that its order is a history which is judged, licensed, ordered, carried and caused, and that the bytes behind a
+//! front which is longer than a script may be make no difference. They hold of the definitions of scripts and of the
+//! machine, and no code is in them.
 //!
 //! Source: this profile's choice; scripts are no matter of the InfiniBand Architecture Specification.
 #![tactic(auto)]

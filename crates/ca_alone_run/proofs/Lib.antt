@@ -1,0 +1,3 @@
+mod CollectLemmas
+mod LoneLemmas
+mod ReachLemmas

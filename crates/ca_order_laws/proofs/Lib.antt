@@ -1,0 +1,4 @@
+pub mod EventLemmas
+pub mod StampLemmas
+pub mod LawfulLemmas
+pub mod MemoryLemmas

@@ -1,0 +1,20 @@
+ghost use Rattle.std.specs.Prelude.{◌≡◌};
+ghost use Rattle.ca_keys.specs.Memory.{zeros};
+ghost use Rattle.ca_model.specs.Past.{after_entries, opening_past};
+ghost use Rattle.ca_order.specs.Order.{ending, order};
+ghost use Rattle.ca_order_laws.specs.Lawful.{IsLawfulOrder};
+ghost use Rattle.ca_order_laws.specs.Limits.{KeepsToLimits};
+ghost use Rattle.ca_script.specs.Script.{ScriptValue};
+
+/// The order of a script that keeps to the limits is lawful: over buffers of zeros it follows the machine, is a history,
+/// is judged, licensed, ordered, carried and caused, each atomic of a clean connection acts at most once, a closed group of
+/// domains gets what it would get alone, and it is a history of the script.
+pub fn orders_are_lawful()
+    ensures { (s : ScriptValue) → KeepsToLimits s → IsLawfulOrder s (order s) }
+{}
+
+/// Where the order of a script that keeps to the limits ends, memory is what the marks of the order have made of zeros.
+pub fn marks_tell_the_memory_of_orders()
+    ensures { (s : ScriptValue) → KeepsToLimits s
+        → (ending s).world.byte ≡ (after_entries (order s) (opening_past zeros)).memory }
+{}

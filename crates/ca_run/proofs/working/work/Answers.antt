@@ -1,0 +1,19 @@
+use Rattle.std.proofs.Common.{sym, subst}
+use Rattle.ca_order.specs.OfScript as machine
+use Rattle.ca_order.specs.Order.{ending}
+use Rattle.ca_run.specs.Run.{IsTextOf}
+use Rattle.ca_script.specs.Script.{script_value}
+use Rattle.ca_trace.specs.Trace.{text}
+use Rattle.ca_run.proofs.working.work.Goals as goal
+
+pub work_script-requires : goal.work_script-requires
+work_script-requires c = c.can_be_worked.ensures c.requires.0 (script_value c.args.script) c.requires.1
+
+pub returns-clause-worked : goal.returns-clause-worked
+returns-clause-worked c = let s = script_value c.args.script in record {
+  lawful = c.orders_of_texts_are_lawful.ensures c.requires.0 s c.requires.1;
+  status = subst (machine.HasStatus s (ending s)) (sym c.in_ok-worked.ensures.status) (c.orders_have_their_status.ensures.status s);
+}
+
+pub returns-clause-text : goal.returns-clause-text
+returns-clause-text c = subst (λ es. IsTextOf (text c.in_ok-worked.worked.history) es) c.in_ok-worked.ensures.history c.has_one_text.ensures

@@ -1,0 +1,81 @@
+ghost use Rattle.std.specs.Prelude.{◌≡◌, ℕ, List, Ok, IfOk};
+ghost use Rattle.ca_alone_run.specs.Lone.{IsOutcome};
+ghost use Rattle.ca_isolation.specs.Groups.{group_of};
+ghost use Rattle.ca_made.specs.Made.{made_script};
+ghost use Rattle.ca_order.specs.Order.{order};
+ghost use Rattle.ca_order.specs.Summary.{summary};
+ghost use Rattle.ca_run.specs.Run.{IsTextOf, IsWorked};
+ghost use Rattle.ca_script.specs.Script.{ScriptValue, script_of, script_value};
+ghost use Rattle.ca_script_run.specs.Statuses.{status_value};
+ghost use Rattle.ca_script_run.specs.Working.{IsWorkable};
+ghost use Rattle.ca_summary.specs.Text.{summary_text};
+ghost use Rattle.ca_trace.specs.Trace.{text};
+
+use ca_alone_run::{Lone, work_alone};
+use ca_base::{DomainId, Memory};
+use ca_make::{Made, make};
+use ca_model::History;
+use ca_order::orders_have_their_status;
+use ca_reading::one_text;
+use ca_reading_fits::history_fits;
+use ca_rest::texts_mean_limited_scripts;
+use ca_script::Script;
+use ca_script_run::{Worked, work_script};
+use ca_script_texts::{orders_of_texts_are_lawful, texts_mean_workable_scripts};
+use std::alloc::Global;
+
+/// Works a script that a text means, in its order.
+pub(crate) fn work(alloc: Global, script: Script) -> Result<Worked, Memory>
+    requires { (bytes : List ℕ) × (script_of bytes ≡ Ok (script_value script)) }
+    ensures worked { IfOk result (λ worked. IsWorked (script_value script) (status_value worked.status)) }
+    ensures text { IfOk result (λ worked. IsTextOf (text worked.history) (order (script_value script))) }
+{
+    can_be_worked();
+    orders_of_texts_are_lawful();
+    orders_have_their_status();
+    let worked = work_script(alloc, script)?;
+    has_one_text(&worked.history);
+    Ok(worked)
+}
+
+/// The same, and then the group's lone run beside it.
+pub(crate) fn work_beside(alloc: Global, script: Script, group: &[DomainId]) -> Result<Lone, Memory>
+    requires { (bytes : List ℕ) × (script_of bytes ≡ Ok (script_value script)) }
+    ensures worked { IfOk result (λ lone. IsWorked (script_value script) (status_value lone.status)) }
+    ensures text { IfOk result (λ lone. IsTextOf (text lone.history) (order (script_value script))) }
+    ensures outcome { IfOk result (λ lone. IsOutcome (script_value script).config (group_of group.now)
+        (order (script_value script)) lone.outcome) }
+{
+    can_be_worked();
+    orders_of_texts_are_lawful();
+    orders_have_their_status();
+    let lone = work_alone(alloc, script, group)?;
+    has_one_text(&lone.history);
+    Ok(lone)
+}
+
+/// Works the script that is made of a seed.
+pub(crate) fn work_made(alloc: Global, seed: u64) -> Result<Made, Memory>
+    ensures worked { IfOk result (λ made. IsWorked (made_script seed) (status_value made.ended)) }
+    ensures text { IfOk result (λ made. made.text.items
+        ≡ summary_text (summary (made_script seed).config (order (made_script seed)))) }
+{
+    orders_have_their_status();
+    make(alloc, seed)
+}
+
+/// The text of a history is that of no other that fits.
+fn has_one_text(h: &History)
+    ensures { IsTextOf (text h.now) h.now }
+{
+    history_fits(h);
+    one_text();
+}
+
+/// A script that a text means can be worked.
+fn can_be_worked()
+    ensures { (text : List ℕ) (s : ScriptValue) → script_of text ≡ Ok s → IsWorkable s }
+{
+    texts_mean_limited_scripts();
+    texts_mean_workable_scripts();
+}
