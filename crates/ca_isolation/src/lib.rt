@@ -1,8 +1,8 @@
 //! Groups of domains: whether a group is closed in a history, the replies to it, and what it would meet alone: its own
 //! events, and in the place of each write of another event Stores into the bytes that its grants cover.
 //!
-//! To the layers above it promises that a call names the first queue pair of a group that named a stranger, and that
-//! another gives the replies to the group; and, as clauses of functions that do nothing, that the Stores leave in
+//! To the layers above it promises that calls say which domains and events are a group's own, that one names the first
+//! queue pair of a group that named a stranger, and that another gives the replies to the group; and, as clauses of functions that do nothing, that the Stores leave in
 //! covered bytes what the write leaves there, and that the lone list has the group's events and no other event of
 //! domains, so that its replies are those of the history.
 //!
@@ -17,6 +17,7 @@ mod strays;
 mod stretch;
 
 pub use answers::replies;
+pub use group::{has_domain, is_own};
 pub use laws::{lone_list_has_the_replies, stores_write_what_was_written};
 pub use strays::closed;
 pub use stretch::Stretch;

@@ -7,8 +7,8 @@ ghost use Rattle.ca_lone.specs.Cover.{AreInReach, EndsInReach, GrantsInReach, co
 ghost use Rattle.ca_lone.specs.Covering as covering;
 ghost use Rattle.ca_lone.specs.Covering.{AddsPlaces, AddsPlacesOfEach, lies_within};
 
-use crate::whose::has_domain;
 use ca_base::{DomainId, Memory, Run};
+use ca_isolation::has_domain;
 use ca_model::{History, Mark};
 use std::alloc::Global;
 

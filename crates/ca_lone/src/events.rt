@@ -12,8 +12,8 @@ ghost use Rattle.ca_model.specs.Past.{Past, after_entry, after_marks};
 use crate::cover::cover_of;
 use crate::in_force::follow_mark;
 use crate::stores::Stores;
-use crate::whose::is_own;
 use ca_base::{DomainId, Grant, Memory, Run};
+use ca_isolation::is_own;
 use ca_model::{Entry, Event, History, Mark};
 use std::alloc::Global;
 

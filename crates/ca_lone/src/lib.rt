@@ -14,6 +14,5 @@ mod events;
 mod extent;
 mod in_force;
 mod stores;
-mod whose;
 
 pub use events::alone;

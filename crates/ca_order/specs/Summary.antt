@@ -1,4 +1,4 @@
--- The summary of a history: what its marks count, and the sum of all bytes at its end. No contract cites it yet.
+-- The summary of a history: what its marks count, and the sum of all bytes at its end. Contracts cite it.
 use Rattle.std.specs.Prelude.{ℕ, suc, ◌&&◌, not, Bool, true, false, List, [], ◌∷◌, ◌++◌, length, filter, sum_by}
 use Rattle.ca_base.specs.Configuration.{Adapter, Configuration}
 use Rattle.ca_keys.specs.Memory.{bytes_at, zeros}

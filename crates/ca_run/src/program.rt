@@ -3,7 +3,7 @@ ghost use Rattle.std.specs.Io.KnownBytes.{Appends};
 ghost use Rattle.std.specs.String.{string_bytes};
 ghost use Rattle.ca_outside.specs.Outside.{Rose, LosesAtMost, AppendsPart};
 ghost use Rattle.ca_run.specs.Run.{Wrote, WroteFront};
-ghost use Rattle.ca_run.specs.Status.{is_whole, writes};
+ghost use Rattle.ca_run.specs.Status.{is_whole, may_end_made, writes};
 ghost use Rattle.ca_run.specs.declared.status.Status.TheVariants as statuses;
 ghost use Rattle.ca_script.specs.Script.{script_of};
 ghost use Rattle.ca_script_words.specs.declared.cause.ScriptCause.{ScriptCause};
@@ -51,7 +51,9 @@ pub fn run<S: Source, K: Sink>(
     ensures no_command { command_in (map string_bytes words.now) ≡ None
         → ((result ≡ statuses.Usage) ⊎ (result ≡ statuses.Memory)) × (source.new ≡ source.old) × (sink.new ≡ sink.old) }
 
-    // A script that is made is not read.
+    // A script that is made is not read, and its run ends as its order does, or by a fault of the sink or want of memory.
+    ensures made { (seed : ℕ) → command_in (map string_bytes words.now) ≡ Some (commands.Make seed)
+        → may_end_made result ≡ true }
     ensures unread { (seed : ℕ) → command_in (map string_bytes words.now) ≡ Some (commands.Make seed)
         → source.new ≡ source.old }
 

@@ -1,6 +1,5 @@
 ghost use Rattle.std.specs.Prelude.{◌≡◌, ◌++◌, OnOk, OnErr, Some};
 ghost use Rattle.ca_run.specs.Status as table;
-ghost use Rattle.ca_run.specs.declared.status.Status.TheVariants as statuses;
 ghost use Rattle.ca_script_run.specs.Statuses.{status_value};
 
 use ca_base::{Memory, QueueId};
@@ -87,14 +86,6 @@ impl From<WriteStop> for Status {
             WriteStop::Failed => Status::WriteFault,
             WriteStop::Memory => Status::Memory,
         }
-    }
-}
-
-impl From<Memory> for Status {
-    ghost from_gives = { λ _ status. status ≡ statuses.Memory };
-
-    fn from(_memory: Memory) -> Status {
-        Status::Memory
     }
 }
 

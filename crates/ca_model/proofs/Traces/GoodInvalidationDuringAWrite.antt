@@ -1,5 +1,5 @@
 -- The history of a trace, good-invalidation-during-a-write, and what holds of it. For proofs only.
-use Rattle.std.proofs.Common.{◌≡◌, List, [], ◌∷◌, true, false, None, Some, refl}
+use Rattle.std.proofs.Common.{◌≡◌, List, [], ◌∷◌, map, true, false, None, Some, Ok, refl}
 use Rattle.ca_keys.specs.declared.access.Kind.TheVariants as kinds
 use Rattle.ca_keys.specs.declared.access.Denial.TheVariants as denials
 use Rattle.ca_base.specs.declared.change.Change.TheVariants as changes
@@ -13,6 +13,7 @@ use Rattle.ca_model.specs.declared.event.Event.TheVariants as events
 use Rattle.ca_model.specs.declared.mark.Drop1.TheVariants as drops
 use Rattle.ca_model.specs.declared.mark.Mark.TheVariants as marks
 use Rattle.ca_model.specs.declared.verb.Verb.TheVariants as verbs
+use Rattle.ca_base.specs.Configuration.{Configuration}
 use Rattle.ca_keys.specs.Memory.{zeros}
 use Rattle.ca_packet.specs.Decoding.{number_at, bth_at, front_at, reth_from, atomic_from, aeth_from, number_from, payload_at, payload_behind, body_in, packet_in}
 use Rattle.ca_packet.specs.Packet.{be_bytes, packet_bytes}
@@ -24,7 +25,8 @@ use Rattle.ca_model.specs.Carried.{is_carried_history}
 use Rattle.ca_model.specs.Once.{is_once_history}
 use Rattle.ca_model.specs.Ordered.{is_ordered_history}
 use Rattle.ca_model.specs.Caused.{is_caused_history}
-use Rattle.ca_model.proofs.Literals.{d, s, q, k, r, run, place, piece, list, request, completion, grant, entry}
+use Rattle.ca_model.specs.machine.Run.{run as outcome_of}
+use Rattle.ca_model.proofs.Literals.{d, s, q, k, r, run, place, piece, list, request, completion, grant, entry, adapter}
 
 abbrev history : List EntryValue
 history =
@@ -88,6 +90,9 @@ history =
     ∷
     []
 
+abbrev configuration : Configuration
+configuration = record { adapters = adapter (4096 ∷ []) 4 8 8 4 2 4 ∷ adapter (4096 ∷ []) 4 8 8 4 2 4 ∷ []; events = 131072 }
+
 judged : is_judged_history zeros history ≡ true
 unfolding row_of be_bytes packet_bytes number_at bth_at front_at reth_from atomic_from aeth_from number_from payload_at payload_behind body_in packet_in
 judged = refl
@@ -111,3 +116,7 @@ ordered = refl
 caused : is_caused_history zeros history ≡ true
 unfolding row_of be_bytes packet_bytes number_at bth_at front_at reth_from atomic_from aeth_from number_from payload_at payload_behind body_in packet_in
 caused = refl
+
+the_run : outcome_of configuration (map (λ e. e.event) history) ≡ Ok (map (λ e. e.marks) history)
+unfolding row_of be_bytes packet_bytes number_at bth_at front_at reth_from atomic_from aeth_from number_from payload_at payload_behind body_in packet_in
+the_run = refl
