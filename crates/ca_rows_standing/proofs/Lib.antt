@@ -1,0 +1,3 @@
+pub mod StoodRows
+pub mod StandLemmas
+pub mod AnswerRows

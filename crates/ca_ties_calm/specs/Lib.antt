@@ -1,0 +1,2 @@
+pub mod CalmTies
+pub mod CalmEvents

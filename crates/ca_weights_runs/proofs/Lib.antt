@@ -1,0 +1,4 @@
+pub mod EventWeights
+pub mod LaidLemmas
+pub mod RunWeights
+pub mod SentTurns
