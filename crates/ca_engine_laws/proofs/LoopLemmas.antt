@@ -12,10 +12,10 @@ use Rattle.ca_engine.specs.declared.outcome.Outcome.TheVariants as outcomes
 use Rattle.ca_engine.specs.declared.pass.Pass.{Pass}
 use Rattle.ca_engine.specs.declared.pass.Pass.TheVariants as passes
 use Rattle.ca_order.specs.Visits.{Visit, Consumer, Engine, round_of, timer_pass_of}
-use Rattle.ca_order.specs.Order.{Stage, and_again, at_round, ending, after_first, has_no_event_left, most_rounds, opening_stage, or_else, after_pass, after_rounds, after_visit, after_round}
-use Rattle.ca_order.proofs.EndLemmas.{Ended, StillAll, chances, lines_left, order-ends}
+use Rattle.ca_order.specs.Order.{HasNoMoreLines, Stage, and_again, at_round, ending, ending_from, after_first, has_no_event_left, most_rounds, opening_stage, or_else, after_pass, after_rounds, after_visit, after_round}
+use Rattle.ca_order.proofs.EndLemmas.{Ended, StillAll, chances, most-end}
 use Rattle.ca_script.specs.Script.{ScriptValue}
-use Rattle.ca_engine_laws.specs.Loop.{Work, has_ended, is_at_end, most_offers, opening_work, outcome_of_nothing, work_after, work_after_all, work_after_visit, is_quiet_offer}
+use Rattle.ca_engine_laws.specs.Loop.{Work, has_ended, is_at_end, most_offers, opening_work, outcome_of_nothing, work_after, work_after_all, work_after_visit, work_from, is_quiet_offer}
 use Rattle.ca_engine_laws.proofs.OfferedLemmas.{no-timers, offer_for, round-offered, timer-pass-offered}
 use Rattle.ca_engine_laws.proofs.VisitLemmas.{Comes, at, comes-visit, fewer-chances}
 
@@ -446,18 +446,18 @@ more-rounds s (suc n) m g ended =
     by more false true ended = more ended
     by more false false ended = refl
 
--- the loop begins before the first round
-loop-opens : (s : ScriptValue) → opening_work s ≡ work_at s Begins (opening_stage s)
-loop-opens s = ap (λ round. lists round (offers_of_timers s.config)) (round-offered s) ∙ ap (lists (map offer_for (round_of s))) (timer-pass-offered s)
+-- the loop begins before a round
+loop-opens : (s : ScriptValue) (g : Stage) → work_from s g ≡ work_at s Begins g
+loop-opens s g = ap (λ round. lists round (offers_of_timers s.config)) (round-offered s) ∙ ap (lists (map offer_for (round_of s))) (timer-pass-offered s)
   where
     lists : List Offer → List Offer → Work
     lists round timers = record {
       engine = record { round = round; timers = timers; pass = passes.Round; left = round; happened = false; clock = None };
-      stage = opening_stage s;
+      stage = g;
     }
 
-pub loop-ends : (s : ScriptValue) (n : ℕ) → most_offers s ≤ n → has_ended s (work_after_all s n (opening_work s)) ≡ true
-loop-ends s n enough = subst (λ w. has_ended s (work_after_all s n w) ≡ true) (sym (loop-opens s)) (ends s n Begins (opening_stage s) few (record {}))
+pub loop-ends-from : (s : ScriptValue) (g : Stage) (n : ℕ) → HasNoMoreLines s g → most_offers s ≤ n → has_ended s (work_after_all s n (work_from s g)) ≡ true
+loop-ends-from s g n lines enough = subst (λ w. has_ended s (work_after_all s n w) ≡ true) (sym (loop-opens s g)) (ends s n Begins g few (record {}))
   where
     offered : lap s ≡ length (offers_of_round s.config (length s.consumers)) + length (offers_of_timers s.config)
     offered = omega (
@@ -466,14 +466,25 @@ loop-ends s n enough = subst (λ w. has_ended s (work_after_all s n w) ≡ true)
       ap (λ (xs : List Offer). length xs) (timer-pass-offered s) ∙ length-map (timer_pass_of s) offer_for,
     )
 
-    all : chances s (opening_stage s) ≡ s.config.events + lines_left s.consumers
-    all = omega arith
+    all : suc (chances s g) ≤ most_rounds s
+    all = omega (arith, lines)
 
-    few : suc (chances s (opening_stage s)) * lap s ≤ n
-    few = subst (λ (k : ℕ). suc k * lap s ≤ n) (sym all) (subst (λ (k : ℕ). most_rounds s * k ≤ n) (sym offered) enough)
+    few : suc (chances s g) * lap s ≤ n
+    few = omega (
+      arith,
+      mul-le (suc (chances s g)) (lap s) (most_rounds s) (lap s) all (omega arith),
+      subst (λ (k : ℕ). most_rounds s * k ≤ n) (sym offered) enough,
+    )
+
+pub loop-ends : (s : ScriptValue) (n : ℕ) → most_offers s ≤ n → has_ended s (work_after_all s n (opening_work s)) ≡ true
+loop-ends s n enough = loop-ends-from s (opening_stage s) n (omega arith) enough
+
+pub loop-made-from : (s : ScriptValue) (g : Stage) (n : ℕ) → HasNoMoreLines s g → has_ended s (work_after_all s n (work_from s g)) ≡ true
+    → at_round (work_after_all s n (work_from s g)).stage ≡ at_round (ending_from s g)
+loop-made-from s g n lines ended =
+    ap (λ (w : Work). at_round (work_after_all s n w).stage) (loop-opens s g)
+    ∙ makes s n (most_rounds s + n) Begins g (omega arith) (record {}) (subst (λ w. has_ended s (work_after_all s n w) ≡ true) (loop-opens s g) ended)
+    ∙ more-rounds s (most_rounds s) n g (most-end s (most_rounds s) g lines (omega arith))
 
 pub loop-made : (s : ScriptValue) (n : ℕ) → has_ended s (work_after_all s n (opening_work s)) ≡ true → at_round (work_after_all s n (opening_work s)).stage ≡ at_round (ending s)
-loop-made s n ended =
-    ap (λ (w : Work). at_round (work_after_all s n w).stage) (loop-opens s)
-    ∙ makes s n (most_rounds s + n) Begins (opening_stage s) (omega arith) (record {}) (subst (λ w. has_ended s (work_after_all s n w) ≡ true) (loop-opens s) ended)
-    ∙ more-rounds s (most_rounds s) n (opening_stage s) (order-ends s)
+loop-made s n ended = loop-made-from s (opening_stage s) n (omega arith) ended

@@ -16,9 +16,13 @@ pub record Work : Type 0 where
   pub engine : EngineValue
   pub stage : Stage
 
--- before the first offer
+-- before the first offer, where the script is worked as far as a stage
+abbrev pub work_from : ScriptValue → Stage → Work
+work_from s g = record { engine = opening_engine s.config (length s.consumers); stage = g }
+
+-- before the first offer of all
 abbrev pub opening_work : ScriptValue → Work
-opening_work s = record { engine = opening_engine s.config (length s.consumers); stage = opening_stage s }
+opening_work s = work_from s (opening_stage s)
 
 -- the visit that is offered; none where Quiet is
 abbrev pub visit_of : Offer → Option Visit

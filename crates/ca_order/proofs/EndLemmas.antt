@@ -1,4 +1,5 @@
--- The order of a script ends: as many events as the script allows were made, or nothing is possible. For proofs only.
+-- Rounds end, and so does the order of a script: as many events as it allows were made, or nothing is possible. For proofs
+-- only.
 use Rattle.std.proofs.Common.{◌≡◌, ℕ, zero, suc, ◌+◌, ◌-◌, ◌<◌, ◌≤◌, ◌⊎◌, inl, inr, Bool, true, false, if◌then◌else◌, List, [], ◌∷◌, length, sum_by, slice_set, Option, None, Some, nat_le, refl, ap, sym, ◌∙◌, arith, subst, true≢false}
 use Rattle.std.specs.Bool.{⊤}
 use Rattle.std.proofs.lemmas.Bool.Decides.{nat_tests}
@@ -15,7 +16,7 @@ use Rattle.ca_script_lines.specs.declared.what.What.TheVariants as whats
 use Rattle.ca_turns.specs.Turns.{event_of}
 use Rattle.ca_order.proofs.KeepLemmas.{ByVisits, kept-pass}
 use Rattle.ca_order.specs.Visits.{Visit, Consumer, Engine, round_of, timer_pass_of}
-use Rattle.ca_order.specs.Order.{Stage, after_line, at_round, ending, after_first, has_no_event_left, lines_of, after_event, most_rounds, opening_stage, after_pass, after_rounds, after_visit, after_outcome, with_lines_left, after_round}
+use Rattle.ca_order.specs.Order.{HasNoMoreLines, Stage, after_line, at_round, ending, after_first, has_no_event_left, lines_of, after_event, most_rounds, opening_stage, after_pass, after_rounds, after_visit, after_outcome, with_lines_left, after_round}
 
 -- ---- what is left
 
@@ -212,5 +213,9 @@ rounds-end s (suc n) g few = full (λ fewer. rounds-end s n (after_round s g) fe
     full rest true is = inl is
     full rest false is = by rest (worked-worked s g is) is
 
+-- no more rounds are made than there can be, where no more lines are left than the script has
+pub most-end : (s : ScriptValue) (n : ℕ) (g : Stage) → HasNoMoreLines s g → most_rounds s ≤ n → Ended s (after_rounds s n g)
+most-end s n g lines enough = rounds-end s n g (omega (arith, lines, enough))
+
 pub order-ends : (s : ScriptValue) → Ended s (ending s)
-order-ends s = rounds-end s (most_rounds s) (opening_stage s) (omega arith)
+order-ends s = most-end s (most_rounds s) (opening_stage s) (omega arith) (omega arith)

@@ -1,6 +1,6 @@
--- The order of a script follows the machine. For proofs only.
-use Rattle.std.proofs.Common.{◌≡◌, suc, true, List, [], ◌∷◌, ◌++◌, map, reverse, Ok, refl, ap, ◌∙◌, sym}
-use Rattle.std.proofs.lemmas.List.{append-nil, append_assoc, reverse-append}
+-- Rounds go on with a history of the machine, and so the order of a script follows it. For proofs only.
+use Rattle.std.proofs.Common.{◌≡◌, ℕ, suc, true, List, [], ◌∷◌, ◌++◌, map, reverse, Ok, refl, ap, ◌∙◌, sym}
+use Rattle.std.proofs.lemmas.List.{append-nil, append_assoc, map-append, reverse-append}
 use Rattle.ca_keys.specs.Memory.{zeros}
 use Rattle.ca_model.specs.Entries.{EntryValue}
 use Rattle.ca_model.specs.declared.event.Event.{Event}
@@ -9,8 +9,10 @@ use Rattle.ca_model.specs.machine.Run.{Follows, Ran, go_on, run_from, with_marks
 use Rattle.ca_model.specs.machine.Step.{step}
 use Rattle.ca_model.specs.machine.World.{opening_world}
 use Rattle.ca_script.specs.Script.{ScriptValue}
-use Rattle.ca_order.specs.Order.{Stage, ending, after_event, most_rounds, opening_stage, order, after_outcome, with_lines_left}
+use Rattle.ca_order.specs.Order.{Stage, after_event, after_outcome, after_rounds, most_rounds, opening_stage, order, with_lines_left}
+use Rattle.ca_order.specs.OfScript.{LeadsTo, opening_reach}
 use Rattle.ca_order.proofs.KeepLemmas.{IsKept, kept-rounds, kept-visit}
+use Rattle.ca_order.proofs.ReachLemmas.{marks_before, reach-runs}
 
 -- the events of a past, the latest first, before others
 abbrev events_onto : List EntryValue → List Event → List Event
@@ -64,5 +66,38 @@ follows s g ran =
     ∙ marks-in-order g.past []
     ∙ ap (λ es. Ok (map (λ e. e.marks) es)) same
 
+rounds-ran : (s : ScriptValue) (n : ℕ) (g : Stage) → RanTo s g → Follows s.config zeros (reverse (after_rounds s n g).past)
+rounds-ran s n g ran = follows s (after_rounds s n g) (kept-rounds s (RanTo s) (λ h there. there) (kept-visit s (RanTo s) (ran-kept s)) n g ran)
+
 pub order-follows : (s : ScriptValue) → Follows s.config zeros (order s)
-order-follows s = follows s (ending s) (kept-rounds s (RanTo s) (λ g ran. ran) (kept-visit s (RanTo s) (ran-kept s)) (most_rounds s) (opening_stage s) (λ rest. refl))
+order-follows s = rounds-ran s (most_rounds s) (opening_stage s) (λ rest. refl)
+
+-- ---- from any stage to which a history leads
+
+events-before : (past : List EntryValue) (rest : List Event) → events_onto past rest ≡ map (λ e. e.event) (reverse past) ++ rest
+events-before [] rest = refl
+events-before (e ∷ past) rest = events-before past (e.event ∷ rest) ∙ sym (
+    ap (λ es. map (λ x. x.event) es ++ rest) (reverse-append (e ∷ []) past)
+    ∙ ap (λ es. es ++ rest) (map-append (λ x. x.event) (reverse past) (e ∷ []))
+    ∙ append_assoc (map (λ x. x.event) (reverse past)) (e.event ∷ []) rest
+    )
+
+before-both : (es others : List EntryValue) (rest : Ran) → marks_before (es ++ others) rest ≡ marks_before es (marks_before others rest)
+before-both [] others rest = refl
+before-both (e ∷ es) others rest = ap (with_marks e.marks) (before-both es others rest)
+
+marks-before : (past : List EntryValue) (rest : Ran) → marks_onto past rest ≡ marks_before (reverse past) rest
+marks-before [] rest = refl
+marks-before (e ∷ past) rest =
+    marks-before past (with_marks e.marks rest)
+    ∙ sym (ap (λ es. marks_before es rest) (reverse-append (e ∷ []) past) ∙ before-both (reverse past) (e ∷ []) rest)
+
+ran-to : (s : ScriptValue) (g : Stage) → Follows s.config zeros (reverse g.past) → LeadsTo s (reverse g.past) g → RanTo s g
+ran-to s g along leads rest =
+    ap (run_from s.config 0 (opening_world zeros)) (events-before g.past rest)
+    ∙ reach-runs s (reverse g.past) (opening_reach s) (record { world = g.world; count = g.count; left = leads.left }) leads.of_script.stand along rest
+    ∙ sym (marks-before g.past (run_from s.config g.count g.world rest))
+
+pub rounds-follow : (s : ScriptValue) (n : ℕ) (g : Stage) → Follows s.config zeros (reverse g.past) → LeadsTo s (reverse g.past) g
+    → Follows s.config zeros (reverse (after_rounds s n g).past)
+rounds-follow s n g along leads = rounds-ran s n g (ran-to s g along leads)

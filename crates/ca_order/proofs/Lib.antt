@@ -1,6 +1,9 @@
 pub mod KeepLemmas
-pub mod FollowLemmas
 pub mod EndLemmas
+pub mod LineLemmas
+pub mod ReachLemmas
+pub mod FollowLemmas
 pub mod QuietLemmas
 pub mod ScriptLemmas
 pub mod StatusLemmas
+pub mod AddLemmas

@@ -1,5 +1,5 @@
 -- Where no visit changes a stage all is quiet there, and no consumer can go on. For proofs only.
-use Rattle.std.proofs.Common.{◌≡◌, ℕ, suc, inl, inr, Bool, true, false, ◌||◌, not, List, [], ◌∷◌, ◌++◌, length, map, Option, None, Some, nat_le, refl, ap, sym, ◌∙◌, arith, true≢false, if◌then◌else◌}
+use Rattle.std.proofs.Common.{◌≡◌, ℕ, suc, inl, inr, Bool, true, false, ◌||◌, ◌≤◌, not, List, [], ◌∷◌, ◌++◌, length, map, Option, None, Some, nat_le, refl, ap, sym, ◌∙◌, arith, true≢false, if◌then◌else◌}
 use Rattle.std.specs.List.{flat_map, list_any}
 use Rattle.std.specs.Option.{option_map_or}
 use Rattle.ca_keys.specs.declared.names.QueueId.{QueueId}
@@ -15,9 +15,9 @@ use Rattle.ca_turns.specs.Turns.{event_of}
 use Rattle.ca_turns.specs.declared.turn.Turn.{Turn}
 use Rattle.ca_turns.specs.declared.turn.Turn.TheVariants as turns
 use Rattle.ca_order.specs.Visits.{Visit, Consumer, Engine, all_queues, numbers_below, round_of}
-use Rattle.ca_order.specs.Order.{Stage, after_line, ending, lines_of, after_event, after_visit, after_outcome, with_lines_left}
+use Rattle.ca_order.specs.Order.{HasNoMoreLines, Stage, after_event, after_line, after_outcome, after_rounds, after_visit, ending, lines_of, most_rounds, with_lines_left}
 use Rattle.ca_order.specs.OfScript.{HasEnded, is_possible, is_passed, lines_at, may_call, may_go_on, may_turn, may_work}
-use Rattle.ca_order.proofs.EndLemmas.{Ended, StillAll, fewer-lines, lines_left, order-ends}
+use Rattle.ca_order.proofs.EndLemmas.{Ended, StillAll, fewer-lines, lines_left, most-end, order-ends}
 
 -- neither of two is so
 or-false : (a b : Bool) → a ≡ false → b ≡ false → (a || b) ≡ false
@@ -100,11 +100,14 @@ round-idle s g round =
     still-append s g (map Consumer (numbers_below (length s.consumers))) _ round
     in (work-still s g (all_queues s.config) parts.1, calls-still s g (numbers_below (length s.consumers)) parts.0)
 
+pub ended-ended : (s : ScriptValue) (g : Stage) → Ended s g → HasEnded s g
+ended-ended s g (inl is) = inl is
+ended-ended s g (inr (round, timers)) =
+    let idle : (may_work s g.world ≡ false) × (may_call s g.world g.count g.left ≡ false) = round-idle s g round
+    in inr (ap not (or-false _ _ idle.0 (fire-still s g (all_queues s.config) timers)), idle.1)
+
 pub order-ended : (s : ScriptValue) → HasEnded s (ending s)
-order-ended s = by (order-ends s)
-  where
-    by : Ended s (ending s) → HasEnded s (ending s)
-    by (inl is) = inl is
-    by (inr (round, timers)) =
-        let idle : (may_work s (ending s).world ≡ false) × (may_call s (ending s).world (ending s).count (ending s).left ≡ false) = round-idle s (ending s) round
-        in inr (ap not (or-false _ _ idle.0 (fire-still s (ending s) (all_queues s.config) timers)), idle.1)
+order-ended s = ended-ended s (ending s) (order-ends s)
+
+pub rounds-ended : (s : ScriptValue) (n : ℕ) (g : Stage) → HasNoMoreLines s g → most_rounds s ≤ n → HasEnded s (after_rounds s n g)
+rounds-ended s n g lines enough = ended-ended s (after_rounds s n g) (most-end s n g lines enough)

@@ -1,4 +1,4 @@
--- The order of a script is a history of the script. For proofs only.
+-- Rounds go on with a history of a script, and so the order of a script is one of it. For proofs only.
 use Rattle.std.proofs.Common.{◌≡◌, ℕ, zero, suc, ◌≤◌, inl, inr, ◌==◌, ◌&&◌, ◌||◌, not, Bool, true, false, if◌then◌else◌, nat_le, List, [], ◌∷◌, ◌++◌, length, take, drop, reverse, map, slice_set, Option, None, Some, refl, ap, sym, ◌∙◌, arith, subst, true≢false}
 use Rattle.std.specs.Bool.{⊤}
 use Rattle.std.specs.List.{AllByRecursion, flat_map, list_any}
@@ -7,7 +7,7 @@ use Rattle.std.proofs.Math.Seq.{take-append_seam}
 use Rattle.std.proofs.lemmas.Bool.{eq-eqb, eqb-true}
 use Rattle.std.proofs.lemmas.Bool.Decides.{nat_tests}
 use Rattle.std.proofs.lemmas.Grind.{flat_map-append}
-use Rattle.std.proofs.lemmas.List.{append-nil, append_assoc, reverse-append}
+use Rattle.std.proofs.lemmas.List.{append-nil, append_assoc, length-reverse, reverse-append, take-append-drop}
 use Rattle.ca_base.specs.declared.lot.Lot.{Lot}
 use Rattle.ca_base.specs.declared.lot.Lot.TheVariants.{Pass, Lose, Repeat, Hold}
 use Rattle.ca_base.specs.objects.Mailbox.{due}
@@ -31,23 +31,12 @@ use Rattle.ca_turns.specs.declared.turn.Turn.TheVariants as turns
 use Rattle.ca_order.specs.Visits.{Visit, Consumer, Engine, all_queues, numbers_below, round_of, timer_pass_of}
 use Rattle.ca_order.specs.Order.{Stage, after_event, after_first, after_line, after_outcome, after_pass, after_round, after_rounds, after_visit, and_again, at_round, ending, has_no_event_left, lines_of, most_rounds, opening_stage, order, with_lines_left}
 use Rattle.ca_order.specs.OfScript.{LeadsTo, Reach, calls_by, is_call, is_idle, is_passed, left_after, lines_at, lot_eq, may_call, may_go_on, may_stand, may_work, opening_reach, reach, reach_by, reach_from, verbs_in}
+use Rattle.ca_order.proofs.LineLemmas.{call-by, set-other, set-same, starts-before, verbs-at}
+use Rattle.ca_order.proofs.ReachLemmas.{reach-counts, reach-left}
 use Rattle.ca_order.proofs.EndLemmas.{Passed, Visited, pass-passed, starts, visit-visited}
 use Rattle.ca_order.proofs.QuietLemmas.{round-idle}
 
 -- ---- the lines that are left
-
--- a consumer's lines, where they were set
-set-same : (k : ℕ) (left : List (List Line)) (lines : List Line) → starts (lines_of k left) ≡ true → lines_of k (slice_set left k lines) ≡ lines
-set-same k [] lines some = absurd (true≢false (sym some))
-set-same zero (x ∷ xs) lines some = refl
-set-same (suc k) (x ∷ xs) lines some = set-same k xs lines some
-
-set-other : (k j : ℕ) (left : List (List Line)) (lines : List Line) → (k ≡ j → ⊥) → lines_of j (slice_set left k lines) ≡ lines_of j left
-set-other k j [] lines other = refl
-set-other zero zero (x ∷ xs) lines other = absurd (other refl)
-set-other zero (suc j) (x ∷ xs) lines other = refl
-set-other (suc k) zero (x ∷ xs) lines other = refl
-set-other (suc k) (suc j) (x ∷ xs) lines other = set-other k j xs lines (λ same. other (ap suc same))
 
 -- what was passed before is passed later
 at-later : (n m : ℕ) → n ≤ m → (lines : List Line) → lines_at m (lines_at n lines) ≡ lines_at m lines
@@ -64,11 +53,6 @@ at-later n m later (line ∷ rest) = by (at-later n m later rest) line.what
         → lines_at m (if is_passed n what then lines_at n rest else (record line { what = what }) ∷ rest) ≡ lines_at m ((record line { what = what }) ∷ rest)
     by others (whats.Verb verb) = refl
     by others (whats.At t) = passed t others (nat_le t n) (nat_le t m) refl refl
-
--- what is left is some lines, where some are left behind what is passed
-starts-before : (n : ℕ) (lines : List Line) → starts (lines_at n lines) ≡ true → starts lines ≡ true
-starts-before n [] some = some
-starts-before n (line ∷ rest) some = refl
 
 -- ---- what may stand
 
@@ -183,12 +167,6 @@ same-set n k left other rest more same some also next j = by (k == j) refl
     by false is =
         let differs : k ≡ j → ⊥ = λ are. true≢false (sym (eq-eqb k j are) ∙ is)
         in ap (lines_at n) (set-other k j left rest differs) ∙ same j ∙ ap (lines_at n) (sym (set-other k j other more differs))
-
--- who called
-call-by : (k j n p : ℕ) (verb : Verb) (ms : List Mark) (b : Bool) → (k == j) ≡ b
-    → calls_by j (record { stamp = n; pass = p; event = events.Verb k verb; marks = ms } ∷ []) ≡ (if b then verb ∷ [] else [])
-call-by k j n p verb ms true is = rw is
-call-by k j n p verb ms false is = rw is
 
 -- a consumer's next call
 told-call : (s : ScriptValue) (k : ℕ) (line : Line) (verb : Verb) (rest : List Line) (g : Stage) → lines_of k g.left ≡ (record line { what = whats.Verb verb }) ∷ rest
@@ -394,15 +372,48 @@ told-rounds s (suc n) g told = by (has_no_event_left s g) refl (λ more. told-ro
     by true is rest = told
     by false is rest = again (told-round s g is told) (rest (told-round s g is told)) (after_round s g).happened
 
+leads-told : (s : ScriptValue) (g : Stage) → Told s g → LeadsTo s (reverse g.past) g
+leads-told s g told = record {
+  left = told.left;
+  of_script = record {
+    calls = λ k. sym (take-append_seam (calls_by k (reverse g.past)) (verbs_in (lines_of k g.left))) ∙ ap (take (length (calls_by k (reverse g.past)))) (told.calls k);
+    stand = told.came;
+  };
+  same = told.same;
+}
+
 pub order-told : (s : ScriptValue) → LeadsTo s (order s) (ending s)
-order-told s = by (told-rounds s (most_rounds s) (opening_stage s) (record { left = s.consumers; came = refl; same = λ k. refl; calls = λ k. refl }))
+order-told s = leads-told s (ending s) (told-rounds s (most_rounds s) (opening_stage s) (record { left = s.consumers; came = refl; same = λ k. refl; calls = λ k. refl }))
+
+-- ---- from any stage to which a history leads
+
+told-leads : (s : ScriptValue) (g : Stage) → LeadsTo s (reverse g.past) g → Told s g
+told-leads s g leads = record { left = leads.left; came = leads.of_script.stand; same = leads.same; calls = calls }
   where
-    by : Told s (ending s) → LeadsTo s (order s) (ending s)
-    by told = record {
-      left = told.left;
-      of_script = record {
-        calls = λ k. sym (take-append_seam (calls_by k (order s)) (verbs_in (lines_of k (ending s).left))) ∙ ap (take (length (calls_by k (order s)))) (told.calls k);
-        stand = told.came;
-      };
-      same = told.same;
-    }
+    before : (k : ℕ) → List Verb
+    before k = calls_by k (reverse g.past)
+
+    -- what a consumer called, and what is left behind as many
+    left : (k : ℕ) → verbs_in (lines_of k g.left) ≡ drop (length (before k)) (verbs_in (lines_of k s.consumers))
+    left k =
+        sym (verbs-at g.count (lines_of k g.left))
+        ∙ ap verbs_in (sym (leads.same k))
+        ∙ verbs-at g.count (lines_of k leads.left)
+        ∙ reach-left s (reverse g.past) (opening_reach s) (reach_at g leads.left) leads.of_script.stand k
+
+    calls : (k : ℕ) → before k ++ verbs_in (lines_of k g.left) ≡ verbs_in (lines_of k s.consumers)
+    calls k =
+        ap (λ vs. before k ++ vs) (left k)
+        ∙ ap (λ vs. vs ++ drop (length (before k)) (verbs_in (lines_of k s.consumers))) (leads.of_script.calls k)
+        ∙ take-append-drop (length (before k)) (verbs_in (lines_of k s.consumers))
+
+pub rounds-told : (s : ScriptValue) (n : ℕ) (g : Stage) → LeadsTo s (reverse g.past) g → LeadsTo s (reverse (after_rounds s n g).past) (after_rounds s n g)
+rounds-told s n g leads = leads-told s (after_rounds s n g) (told-rounds s n g (told-leads s g leads))
+
+-- as many entries lead to a stage as it counts
+pub leads-counted : (s : ScriptValue) (g : Stage) → LeadsTo s (reverse g.past) g → length g.past ≡ g.count
+leads-counted s g leads = omega (
+  arith,
+  length-reverse g.past,
+  reach-counts s (reverse g.past) (opening_reach s) (reach_at g leads.left) leads.of_script.stand,
+)

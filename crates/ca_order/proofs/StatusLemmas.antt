@@ -1,4 +1,4 @@
--- How a script's order ended is what its status says, and nothing else. For proofs only.
+-- How a script ended is what its status says, and nothing else. For proofs only.
 use Rattle.std.proofs.Common.{◌≡◌, ℕ, zero, suc, ◌+◌, ◌<◌, inl, inr, Bool, true, false, if◌then◌else◌, nat_le, nat_lt, List, [], ◌∷◌, length, refl, ap, sym, ◌∙◌, subst, arith, true≢false}
 use Rattle.std.proofs.lemmas.Bool.Decides.{nat_tests}
 use Rattle.std.proofs.lemmas.List.{length-reverse}
@@ -82,12 +82,9 @@ from-status count k (lines ∷ more) = by (lines_at count lines) refl (from-stat
       stalled = record { before = λ j few. absurd (omega (arith, few)); line = line; rest = rest; stands = is; is = refl };
     }
 
-pub order-status : (s : ScriptValue) → HasStatus s (ending s) (status_of s (ending s))
-order-status s = by (nat_le s.config.events (ending s).count) refl
+pub ended-status : (s : ScriptValue) (g : Stage) → HasEnded s g → HasStatus s g (status_of s g)
+ended-status s g ended = by (nat_le s.config.events g.count) refl
   where
-    g : Stage
-    g = ending s
-
     quiet : has_no_event_left s g ≡ false → HasEnded s g → IsQuietEnd s g
     quiet room (inl full) = absurd (true≢false (sym full ∙ room))
     quiet room (inr rest) = rest
@@ -96,13 +93,16 @@ order-status s = by (nat_le s.config.events (ending s).count) refl
     few room = grind (arith, nat_tests, room)
 
     of_status : has_no_event_left s g ≡ false → (status : Status) → FromStatus g.count 0 g.left status → HasStatus s g status
-    of_status room Fine all = (few room, quiet room (order-ended s), all)
-    of_status room (Stalled i number) f = (few room, quiet room (order-ended s), subst (λ k. IsStalledAt g.count g.left k number) (omega (arith, f.at)) f.stalled)
+    of_status room Fine all = (few room, quiet room ended, all)
+    of_status room (Stalled i number) f = (few room, quiet room ended, subst (λ k. IsStalledAt g.count g.left k number) (omega (arith, f.at)) f.stalled)
     of_status room (BudgetSpent n) f = absurd f
 
     by : (b : Bool) → has_no_event_left s g ≡ b → HasStatus s g (if b then BudgetSpent g.count else stalled_from g.count 0 g.left)
     by true full = (refl, grind (arith, nat_tests, full))
     by false room = of_status room (stalled_from g.count 0 g.left) (from-status g.count 0 g.left)
+
+pub order-status : (s : ScriptValue) → HasStatus s (ending s) (status_of s (ending s))
+order-status s = ended-status s (ending s) (order-ended s)
 
 -- ---- a stage has one status
 
@@ -133,3 +133,12 @@ one-status s g (Stalled k number) (BudgetSpent n) one other = absurd (omega (ari
 one-status s g (BudgetSpent n) Fine one other = absurd (omega (arith, one.0, one.1, other.0))
 one-status s g (BudgetSpent n) (Stalled k number) one other = absurd (omega (arith, one.0, one.1, other.0))
 one-status s g (BudgetSpent n) (BudgetSpent m) one other = ap BudgetSpent (sym one.0 ∙ other.0)
+
+-- what a status says of a stage is so only where it has ended
+has-ended : (s : ScriptValue) (g : Stage) (status : Status) → HasStatus s g status → HasEnded s g
+has-ended s g Fine has = inr has.1
+has-ended s g (Stalled k number) has = inr has.1
+has-ended s g (BudgetSpent n) has = inl (grind (arith, nat_tests, has.0, has.1))
+
+pub status-alone : (s : ScriptValue) (g : Stage) (status : Status) → HasStatus s g status → status ≡ status_of s g
+status-alone s g status has = one-status s g status (status_of s g) has (ended-status s g (has-ended s g status has))

@@ -1,6 +1,7 @@
 -- The order of a script: the one history that rounds make of it, each with a timer pass behind it where nothing happened.
 -- Contracts cite it.
-use Rattle.std.specs.Prelude.{ℕ, zero, suc, ◌+◌, Bool, true, false, if◌then◌else◌, nat_le, List, [], ◌∷◌, length, reverse, sum_by, slice_get, slice_set}
+use Rattle.std.specs.Prelude.{◌≡◌, ℕ, zero, suc, ◌+◌, ◌≤◌, Bool, true, false, if◌then◌else◌, nat_le, List, [], ◌∷◌, ◌++◌, length, reverse, sum_by, slice_get, slice_set}
+use Rattle.std.specs.List.{AllByRecursion}
 use Rattle.std.specs.Option.{option_map_or}
 use Rattle.ca_keys.specs.Memory.{zeros}
 use Rattle.ca_model.specs.Entries.{EntryValue}
@@ -107,10 +108,24 @@ after_rounds s (suc n) g = if has_no_event_left s g then g else and_again (after
 abbrev pub most_rounds : ScriptValue → ℕ
 most_rounds s = suc (s.config.events + sum_by (λ lines. length lines) s.consumers)
 
+-- no more lines are left than the script has
+abbrev pub HasNoMoreLines : ScriptValue → Stage → Type 0
+HasNoMoreLines s g = sum_by (λ lines. length lines) g.left ≤ sum_by (λ lines. length lines) s.consumers
+
+-- where rounds from a stage end
+abbrev pub ending_from : ScriptValue → Stage → Stage
+ending_from s g = after_rounds s (most_rounds s) g
+
 -- how far the script comes
 abbrev pub ending : ScriptValue → Stage
-ending s = after_rounds s (most_rounds s) (opening_stage s)
+ending s = ending_from s (opening_stage s)
 
 -- the order of a script
 abbrev pub order : ScriptValue → List EntryValue
 order s = reverse (ending s).past
+
+-- from one stage to another the entries stand, and those that are added have the pass 0
+pub record AddsEntries (g h : Stage) : Type 0 where
+  pub more : List EntryValue
+  pub past : h.past ≡ more ++ g.past
+  pub pass : AllByRecursion (λ e. e.pass ≡ 0) more

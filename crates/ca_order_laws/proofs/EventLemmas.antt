@@ -8,8 +8,8 @@ use Rattle.ca_model.specs.declared.event.Event.TheVariants as events
 use Rattle.ca_model.specs.declared.verb.Verb.{Verb}
 use Rattle.ca_model.specs.machine.Sound.{CanBeMade, HasFewPieces}
 use Rattle.ca_order.proofs.ScriptLemmas.{order-told}
-use Rattle.ca_order.specs.OfScript.{calls_by, verbs_in}
-use Rattle.ca_order.specs.Order.{lines_of, order}
+use Rattle.ca_order.specs.OfScript.{LeadsTo, calls_by, verbs_in}
+use Rattle.ca_order.specs.Order.{Stage, ending, lines_of, order}
 use Rattle.ca_rest.proofs.ScriptLemmas.{lines-callable}
 use Rattle.ca_rest.specs.Rest.{AreCallable, IsCallable}
 use Rattle.ca_script.specs.Script.{ScriptValue}
@@ -63,6 +63,9 @@ called-made : (es : List EntryValue) → ((k : ℕ) → AreFew (calls_by k es)) 
 called-made [] few = record {}
 called-made (e ∷ es) few = (call-made e es few, called-made es (λ k. all-behind HasFewPieces _ (calls_by k es) (few k)))
 
+pub script-made : (s : ScriptValue) (es : List EntryValue) (end : Stage) → AreCallable s.consumers → LeadsTo s es end → AreMade es
+script-made s es end callable leads = called-made es (λ k. subst AreFew (sym (leads.of_script.calls k))
+    (all-of-front HasFewPieces (length (calls_by k es)) (verbs_in (lines_of k s.consumers)) (verbs-few (lines_of k s.consumers) (lines-callable k s.consumers callable))))
+
 pub order-made : (s : ScriptValue) → AreCallable s.consumers → AreMade (order s)
-order-made s callable = called-made (order s) (λ k. subst AreFew (sym ((order-told s).of_script.calls k))
-    (all-of-front HasFewPieces (length (calls_by k (order s))) (verbs_in (lines_of k s.consumers)) (verbs-few (lines_of k s.consumers) (lines-callable k s.consumers callable))))
+order-made s callable = script-made s (order s) (ending s) callable (order-told s)

@@ -1,4 +1,5 @@
--- The order of a script that keeps to the limits is lawful. For proofs only.
+-- A history of a script that keeps to the limits is lawful, and so is its order. For proofs only.
+use Rattle.std.specs.Prelude.{List}
 use Rattle.ca_agree.proofs.EventFitLemmas.{followed-is-history}
 use Rattle.ca_carried.proofs.EndEventLemmas.{whole-along}
 use Rattle.ca_caused_link.proofs.HistoryLemmas.{caused-along}
@@ -6,27 +7,34 @@ use Rattle.ca_isolated.proofs.AloneLemmas.{alone-goes}
 use Rattle.ca_judged.proofs.JudgeEventLemmas.{judged-along}
 use Rattle.ca_keys.specs.Memory.{zeros}
 use Rattle.ca_licensed.proofs.LicensedLemmas.{licensed-along}
+use Rattle.ca_model.specs.Entries.{EntryValue}
+use Rattle.ca_model.specs.History.{IsHistory}
+use Rattle.ca_model.specs.machine.Run.{Follows}
 use Rattle.ca_once.proofs.WholeLemmas.{whole-along as once-along}
 use Rattle.ca_order.proofs.FollowLemmas.{order-follows}
 use Rattle.ca_order.proofs.ScriptLemmas.{order-told}
-use Rattle.ca_order.specs.Order.{order}
-use Rattle.ca_order_laws.proofs.EventLemmas.{AreMade, order-made}
+use Rattle.ca_order.specs.OfScript.{LeadsTo}
+use Rattle.ca_order.specs.Order.{Stage, ending, order}
+use Rattle.ca_order_laws.proofs.EventLemmas.{AreMade, script-made}
 use Rattle.ca_order_laws.proofs.StampLemmas.{order-stamped}
-use Rattle.ca_order_laws.specs.Lawful.{IsLawfulOrder}
+use Rattle.ca_order_laws.specs.Lawful.{IsLawfulHistory, IsLawfulOrder}
 use Rattle.ca_order_laws.specs.Limits.{KeepsToLimits}
 use Rattle.ca_ordered.proofs.OrderedLemmas.{ordered-along}
 use Rattle.ca_script.specs.Script.{ScriptValue}
 
-pub order-lawful : (s : ScriptValue) → KeepsToLimits s → IsLawfulOrder s (order s)
-order-lawful s keeps = let made : AreMade (order s) = order-made s keeps.callable in record {
-  follows = order-follows s;
-  history = followed-is-history s.config zeros (order s) (order-stamped s) (order-follows s);
-  judged = judged-along s.config zeros (order s) keeps.limited made (order-follows s);
-  licensed = licensed-along s.config zeros (order s) keeps.limited made (order-follows s);
-  carried = whole-along s.config zeros (order s) keeps.limited made (order-follows s);
-  once = once-along s.config zeros (order s) keeps.limited made (order-follows s);
-  ordered = ordered-along s.config zeros (order s) keeps.limited made (order-follows s);
-  caused = caused-along s.config zeros (order s) keeps.limited made (order-follows s);
-  isolated = alone-goes s.config zeros (order s) keeps.limited made (order-follows s);
-  of_script = order-told s;
+pub history-lawful : (s : ScriptValue) (es : List EntryValue) (end : Stage) → KeepsToLimits s → IsHistory es → Follows s.config zeros es → LeadsTo s es end → IsLawfulHistory s es end
+history-lawful s es end keeps history follows leads = let made : AreMade es = script-made s es end keeps.callable leads in record {
+  follows = follows;
+  history = history;
+  judged = judged-along s.config zeros es keeps.limited made follows;
+  licensed = licensed-along s.config zeros es keeps.limited made follows;
+  carried = whole-along s.config zeros es keeps.limited made follows;
+  once = once-along s.config zeros es keeps.limited made follows;
+  ordered = ordered-along s.config zeros es keeps.limited made follows;
+  caused = caused-along s.config zeros es keeps.limited made follows;
+  isolated = alone-goes s.config zeros es keeps.limited made follows;
+  of_script = leads;
 }
+
+pub order-lawful : (s : ScriptValue) → KeepsToLimits s → IsLawfulOrder s (order s)
+order-lawful s keeps = history-lawful s (order s) (ending s) keeps (followed-is-history s.config zeros (order s) (order-stamped s) (order-follows s)) (order-follows s) (order-told s)

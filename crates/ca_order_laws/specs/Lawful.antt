@@ -12,12 +12,12 @@ use Rattle.ca_model.specs.Once.{Once}
 use Rattle.ca_model.specs.Ordered.{Ordered}
 use Rattle.ca_model.specs.machine.Run.{Follows}
 use Rattle.ca_order.specs.OfScript.{LeadsTo}
-use Rattle.ca_order.specs.Order.{ending}
+use Rattle.ca_order.specs.Order.{Stage, ending}
 use Rattle.ca_script.specs.Script.{ScriptValue}
 
 -- A history of a script over buffers of zeros is lawful: it follows the machine, is a history, is judged, licensed,
--- carried, once, ordered, caused and isolated; and it is one of the script, and leads to where the order of the script ends.
-pub record IsLawfulOrder (s : ScriptValue) (es : List EntryValue) : Type 0 where
+-- carried, once, ordered, caused and isolated; and it is one of the script, and leads to this stage.
+pub record IsLawfulHistory (s : ScriptValue) (es : List EntryValue) (end : Stage) : Type 0 where
   pub follows : Follows s.config zeros es
   pub history : IsHistory es
   pub judged : Judged zeros es
@@ -27,4 +27,8 @@ pub record IsLawfulOrder (s : ScriptValue) (es : List EntryValue) : Type 0 where
   pub ordered : Ordered zeros es
   pub caused : Caused zeros es
   pub isolated : Isolated s.config zeros es
-  pub of_script : LeadsTo s es (ending s)
+  pub of_script : LeadsTo s es end
+
+-- a history that leads to where the order of the script ends
+abbrev pub IsLawfulOrder : ScriptValue → List EntryValue → Type 0
+IsLawfulOrder s es = IsLawfulHistory s es (ending s)

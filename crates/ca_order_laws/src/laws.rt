@@ -1,8 +1,12 @@
-ghost use Rattle.std.specs.Prelude.{◌≡◌};
+ghost use Rattle.std.specs.Prelude.{◌≡◌, List};
 ghost use Rattle.ca_keys.specs.Memory.{zeros};
+ghost use Rattle.ca_model.specs.Entries.{EntryValue};
+ghost use Rattle.ca_model.specs.History.{IsHistory};
 ghost use Rattle.ca_model.specs.Past.{after_entries, opening_past};
-ghost use Rattle.ca_order.specs.Order.{ending, order};
-ghost use Rattle.ca_order_laws.specs.Lawful.{IsLawfulOrder};
+ghost use Rattle.ca_model.specs.machine.Run.{Follows};
+ghost use Rattle.ca_order.specs.OfScript.{LeadsTo};
+ghost use Rattle.ca_order.specs.Order.{Stage, ending, order};
+ghost use Rattle.ca_order_laws.specs.Lawful.{IsLawfulHistory, IsLawfulOrder};
 ghost use Rattle.ca_order_laws.specs.Limits.{KeepsToLimits};
 ghost use Rattle.ca_script.specs.Script.{ScriptValue};
 
@@ -11,6 +15,12 @@ ghost use Rattle.ca_script.specs.Script.{ScriptValue};
 /// domains gets what it would get alone, and it is a history of the script.
 pub fn orders_are_lawful()
     ensures { (s : ScriptValue) → KeepsToLimits s → IsLawfulOrder s (order s) }
+{}
+
+/// A history of a script that keeps to the limits is lawful, if over buffers of zeros it follows the machine.
+pub fn histories_of_scripts_are_lawful()
+    ensures { (s : ScriptValue) (es : List EntryValue) (end : Stage) → KeepsToLimits s → IsHistory es
+        → Follows s.config zeros es → LeadsTo s es end → IsLawfulHistory s es end }
 {}
 
 /// Where the order of a script that keeps to the limits ends, memory is what the marks of the order have made of zeros.

@@ -10,4 +10,6 @@
 
 mod laws;
 
-pub use laws::{marks_tell_the_memory_of_orders, orders_are_lawful};
+pub use laws::{
+    histories_of_scripts_are_lawful, marks_tell_the_memory_of_orders, orders_are_lawful,
+};

@@ -1,8 +1,12 @@
 -- The lines that are left of consumers behind those that each has done. For proofs only.
-use Rattle.std.proofs.Common.{◌≡◌, ◌∙◌, refl, sym, ap, ℕ, zero, suc, ◌+◌, arith, Bool, true, false, true≢false, List, [], ◌∷◌, drop, Option, None, Some, is_some, slice_get, slice_index, slice_set}
-use Rattle.ca_order.specs.Order.{lines_of}
+use Rattle.std.proofs.Common.{◌≡◌, ◌∙◌, refl, sym, ap, subst, ℕ, zero, suc, ◌+◌, ◌≤◌, arith, Bool, true, false, true≢false, List, [], ◌∷◌, drop, length, sum_by, Option, None, Some, is_some, slice_get, slice_index, slice_set}
+use Rattle.std.proofs.lemmas.List.{length-drop}
+use Rattle.std.proofs.lemmas.List.Sums.{sum_by-cons}
+use Rattle.ca_order.specs.Order.{HasNoMoreLines, Stage, lines_of}
+use Rattle.ca_script.specs.Script.{ScriptValue}
 use Rattle.ca_script_lines.specs.declared.what.Line.{Line}
-use Rattle.ca_script_run.specs.Progress.{lines_behind}
+use Rattle.ca_script_run.specs.Progress.{IsAt, lines_behind}
+use Rattle.ca_script_run.specs.declared.progress.Progress.{Progress}
 
 first-behind : (n : ℕ) (lines : List Line) → slice_get (drop n lines) 0 ≡ slice_get lines n
 first-behind zero lines = refl
@@ -68,3 +72,19 @@ line_passed (c ∷ cs) (d ∷ ds) zero line rest is = ap (λ xs. xs ∷ lines_be
     one : (n : ℕ) → suc n ≡ n + 1
     one n = omega arith
 line_passed (c ∷ cs) (d ∷ ds) (suc k) line rest is = ap (λ xs. drop d c ∷ xs) (line_passed cs ds k line rest is)
+
+-- no more lines are left than there were
+fewer-behind : (consumers : List (List Line)) (done : List ℕ) → sum_by (λ (lines : List Line). length lines) (lines_behind consumers done) ≤ sum_by (λ (lines : List Line). length lines) consumers
+fewer-behind [] done = omega arith
+fewer-behind (c ∷ cs) [] = omega arith
+fewer-behind (c ∷ cs) (d ∷ ds) = omega (
+  arith,
+  sum_by-cons (λ (lines : List Line). length lines) (drop d c) (lines_behind cs ds),
+  sum_by-cons (λ (lines : List Line). length lines) c cs,
+  length-drop d c,
+  fewer-behind cs ds,
+)
+
+pub few_lines : (s : ScriptValue) (g : Stage) (p : Progress) → IsAt s g p → HasNoMoreLines s g
+few_lines s g p at = subst (λ left. sum_by (λ (lines : List Line). length lines) left ≤ sum_by (λ (lines : List Line). length lines) s.consumers) (sym at.left)
+    (fewer-behind s.consumers p.done.items)

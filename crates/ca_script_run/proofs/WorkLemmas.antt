@@ -5,15 +5,16 @@ use Rattle.ca_engine.specs.Engine.{EngineValue, engine_after, offer_of}
 use Rattle.ca_engine.specs.declared.offer.Offer.{Offer}
 use Rattle.ca_engine.specs.declared.offer.Offer.TheVariants as offers
 use Rattle.ca_engine.specs.declared.outcome.Outcome.{Outcome}
-use Rattle.ca_engine_laws.proofs.LoopLemmas.{loop-ends, loop-made}
-use Rattle.ca_engine_laws.specs.Loop.{Work, has_ended, is_quiet_offer, most_offers, opening_work, visit_of, work_after, work_after_all, work_after_visit}
+use Rattle.ca_engine_laws.proofs.LoopLemmas.{loop-ends-from, loop-made-from}
+use Rattle.ca_engine_laws.specs.Loop.{Work, has_ended, is_quiet_offer, most_offers, visit_of, work_after, work_after_all, work_after_visit, work_from}
 use Rattle.ca_order.specs.OfScript.{status_of}
-use Rattle.ca_order.specs.Order.{ending, has_no_event_left, order}
+use Rattle.ca_order.specs.Order.{HasNoMoreLines, Stage, at_round, ending_from, has_no_event_left}
 use Rattle.ca_order.specs.Visits.{Visit}
 use Rattle.ca_order.specs.Visits as visits
 use Rattle.ca_replay.specs.Rows.{IsRowOf}
 use Rattle.ca_script.specs.Script.{ScriptValue}
-use Rattle.ca_script_run.specs.Progress.{IsUnderWay, IsVisited}
+use Rattle.ca_script_run.proofs.LineLemmas.{few_lines}
+use Rattle.ca_script_run.specs.Progress.{IsAt, IsVisited}
 use Rattle.ca_script_run.specs.Working.{IsOffered, IsWorked, IsWorking, work_at}
 use Rattle.ca_script_run.specs.declared.progress.Progress.{Progress}
 
@@ -47,19 +48,40 @@ turned s w (offers.Turn turn ∷ rest) v is = ap (λ u. work_after_visit s (give
     given (Some u) = u
 turned s w (offers.Quiet ∷ rest) v is = absurd (true≢false (sym (ap is_some is)))
 
-pub under_way : (s : ScriptValue) (w : Work) (e : EngineValue) (p : Progress) → IsWorking s w e p → IsUnderWay p
-under_way s w e p is = record { script = s; stage = w.stage; at = is.at }
-
-module _ (s : ScriptValue) (n : ℕ) (e : EngineValue) (p : Progress) (working : IsWorking s (work_at s n) e p) where
+module _ (s : ScriptValue) (g : Stage) (n : ℕ) (e : EngineValue) (p : Progress) (working : IsWorking s (work_at s g n) e p) where
   abbrev now : Work
-  now = work_at s n
+  now = work_at s g n
 
   -- no more offers can be made
-  pub ended_all : most_offers s ≤ n → IsWorked s p
-  ended_all enough = record { offers = n; ended = loop-ends s n enough; at = working.at }
+  pub ended_all : HasNoMoreLines s g → most_offers s ≤ n → IsWorked s g p
+  ended_all few enough = record { offers = n; ended = loop-ends-from s g n few enough; at = working.at }
+
+  -- as many events were made as the script allows
+  pub ended_full : s.config.events ≤ p.row.count → IsWorked s g p
+  ended_full full = record { offers = n; ended = ap (λ b. b || is_quiet_offer (offer_of now.engine)) spent; at = working.at }
+    where
+      spent : has_no_event_left s now.stage ≡ true
+      spent = let le : s.config.events ≤ now.stage.count = omega (arith, full, working.at.count) in grind (arith, nat_tests)
+
+  -- Quiet was offered
+  pub ended_quiet : (offer : Offer) (q : Progress) → offer ≡ offer_of e → IsOffered s offer now.stage q (Ok None) → IsWorked s g q
+  ended_quiet offer q is offered = by offer (is ∙ ap offer_of working.engine) offered
+    where
+      or-true : (b : Bool) → (b || true) ≡ true
+      or-true true = refl
+      or-true false = refl
+
+      by : (offer : Offer) → offer ≡ offer_of now.engine → IsOffered s offer now.stage q (Ok None) → IsWorked s g q
+      by (offers.Consumer k) is offered = absurd offered
+      by (offers.Turn turn) is offered = absurd offered
+      by offers.Quiet is offered = record {
+        offers = n;
+        ended = ap (λ o. has_no_event_left s now.stage || is_quiet_offer o) (sym is) ∙ or-true (has_no_event_left s now.stage);
+        at = offered;
+      }
 
   visited : (offer : Offer) (v : Visit) (q : Progress) (outcome : Outcome) (next : EngineValue) → offer ≡ offer_of e → visit_of offer ≡ Some v → is_quiet_offer offer ≡ false
-      → IsVisited s v now.stage q (Ok outcome) → next ≡ engine_after e outcome → p.row.count < s.config.events → IsWorking s (work_at s (suc n)) next q
+      → IsVisited s v now.stage q (Ok outcome) → next ≡ engine_after e outcome → p.row.count < s.config.events → IsWorking s (work_at s g (suc n)) next q
   visited offer v q outcome next is visits calls made told few = subst (λ w. IsWorking s w next q) (sym same) (record {
     engine = told ∙ (λ i. engine_after (working.engine i) (made.1 i));
     at = made.0;
@@ -74,28 +96,32 @@ module _ (s : ScriptValue) (n : ℕ) (e : EngineValue) (p : Progress) (working :
       on : has_ended s now ≡ false
       on = ap (λ b. b || is_quiet_offer (offer_of now.engine)) room ∙ ap is_quiet_offer (sym here) ∙ calls
 
-      same : work_at s (suc n) ≡ work_after_visit s v now
-      same = stepped s n (opening_work s) on ∙ turned s now now.engine.left v (ap visit_of (sym here) ∙ visits)
+      same : work_at s g (suc n) ≡ work_after_visit s v now
+      same = stepped s n (work_from s g) on ∙ turned s now now.engine.left v (ap visit_of (sym here) ∙ visits)
 
   -- the loop goes on
   pub goes_on : (offer : Offer) (q : Progress) (outcome : Outcome) (next : EngineValue) → offer ≡ offer_of e → IsOffered s offer now.stage q (Ok (Some outcome))
-      → next ≡ engine_after e outcome → p.row.count < s.config.events → IsWorking s (work_at s (n + 1)) next q
-  goes_on offer q outcome next is offered told few = subst (λ k. IsWorking s (work_at s k) next q) (one n) (by offer is offered)
+      → next ≡ engine_after e outcome → p.row.count < s.config.events → IsWorking s (work_at s g (n + 1)) next q
+  goes_on offer q outcome next is offered told few = subst (λ k. IsWorking s (work_at s g k) next q) (one n) (by offer is offered)
     where
       one : (n : ℕ) → suc n ≡ n + 1
       one n = omega arith
 
-      by : (offer : Offer) → offer ≡ offer_of e → IsOffered s offer now.stage q (Ok (Some outcome)) → IsWorking s (work_at s (suc n)) next q
+      by : (offer : Offer) → offer ≡ offer_of e → IsOffered s offer now.stage q (Ok (Some outcome)) → IsWorking s (work_at s g (suc n)) next q
       by (offers.Consumer k) is offered = visited (offers.Consumer k) (visits.Consumer k) q outcome next is refl refl offered told few
       by (offers.Turn turn) is offered = visited (offers.Turn turn) (visits.Engine turn) q outcome next is refl refl offered told few
       by offers.Quiet is offered = absurd offered
 
--- what is kept at the end is the order
-pub worked_order : (s : ScriptValue) (p : Progress) → IsWorked s p → p.history ≡ order s
-worked_order s p is = is.at.past ∙ ap (λ g. reverse g.past) (loop-made s is.offers is.ended)
+-- what is kept at the end is what the rounds make
+module _ (s : ScriptValue) (g : Stage) (begun p : Progress) (at : IsAt s g begun) (is : IsWorked s g p) where
+  same-stage : at_round (work_at s g is.offers).stage ≡ at_round (ending_from s g)
+  same-stage = loop-made-from s g is.offers (few_lines s g begun at) is.ended
 
-pub worked_status : (s : ScriptValue) (p : Progress) (is : IsWorked s p) → status_of s (work_at s is.offers).stage ≡ status_of s (ending s)
-worked_status s p is = ap (status_of s) (loop-made s is.offers is.ended)
+  pub worked_history : p.history ≡ reverse (ending_from s g).past
+  worked_history = is.at.past ∙ ap (λ (h : Stage). reverse h.past) same-stage
 
-pub worked_row : (s : ScriptValue) (p : Progress) → IsWorked s p → IsRowOf s.config (ending s).world p.row
-worked_row s p is = subst (λ g. IsRowOf s.config g.world p.row) (loop-made s is.offers is.ended) is.at.row
+  pub worked_status : status_of s (work_at s g is.offers).stage ≡ status_of s (ending_from s g)
+  worked_status = ap (status_of s) same-stage
+
+  pub worked_row : IsRowOf s.config (ending_from s g).world p.row
+  worked_row = subst (λ (h : Stage). IsRowOf s.config h.world p.row) same-stage is.at.row

@@ -1,4 +1,4 @@
--- How far a script is worked, as the code keeps it. Contracts of the crate's own functions cite it.
+-- How far a script is worked, as the code keeps it. Contracts cite it.
 use Rattle.std.specs.Prelude.{◌≡◌, ℕ, if◌then◌else◌, List, [], ◌∷◌, length, drop, reverse, Result, Ok, Err}
 use Rattle.ca_engine.specs.declared.outcome.Outcome.{Outcome}
 use Rattle.ca_engine.specs.declared.outcome.Outcome.TheVariants as outcomes
@@ -25,6 +25,11 @@ pub record IsAt (s : ScriptValue) (g : Stage) (p : Progress) : Type 0 where
   pub numbered : length g.past ≡ g.count
   pub past : p.history ≡ reverse g.past
   pub left : g.left ≡ lines_behind s.consumers p.done.items
+
+-- what is kept is of some stage of this script
+pub record IsUnderWayOn (s : ScriptValue) (p : Progress) : Type 0 where
+  pub stage : Stage
+  pub at : IsAt s stage p
 
 -- what is kept is of some stage of some script
 pub record IsUnderWay (p : Progress) : Type 0 where

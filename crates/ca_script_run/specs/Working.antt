@@ -4,7 +4,7 @@ use Rattle.ca_engine.specs.Engine.{EngineValue}
 use Rattle.ca_engine.specs.declared.offer.Offer.{Offer}
 use Rattle.ca_engine.specs.declared.offer.Offer.TheVariants as offers
 use Rattle.ca_engine.specs.declared.outcome.Outcome.{Outcome}
-use Rattle.ca_engine_laws.specs.Loop.{Work, has_ended, most_offers, opening_work, work_after_all}
+use Rattle.ca_engine_laws.specs.Loop.{Work, has_ended, most_offers, work_after_all, work_from}
 use Rattle.ca_keys.specs.declared.memory.Memory.{Memory}
 use Rattle.ca_model.specs.machine.Sound.{AreLimited}
 use Rattle.ca_order.specs.Order.{Stage}
@@ -27,17 +27,17 @@ IsOffered s offers.Quiet g p (Ok None) = IsAt s g p
 IsOffered s offer g p (Ok o) = ⊥
 IsOffered s offer g p (Err error) = Unit {0}
 
--- the script after so many offers
-abbrev pub work_at : ScriptValue → ℕ → Work
-work_at s n = work_after_all s n (opening_work s)
+-- the script after so many offers from a stage on
+abbrev pub work_at : ScriptValue → Stage → ℕ → Work
+work_at s g n = work_after_all s n (work_from s g)
 
 -- an engine, and what is kept, are those of a loop
 pub record IsWorking (s : ScriptValue) (w : Work) (e : EngineValue) (p : Progress) : Type 0 where
   pub engine : e ≡ w.engine
   pub at : IsAt s w.stage p
 
--- what is kept is that of the loop where it has ended
-pub record IsWorked (s : ScriptValue) (p : Progress) : Type 0 where
+-- what is kept is that of the loop from a stage on, where it has ended
+pub record IsWorked (s : ScriptValue) (g : Stage) (p : Progress) : Type 0 where
   pub offers : ℕ
-  pub ended : has_ended s (work_at s offers) ≡ true
-  pub at : IsAt s (work_at s offers).stage p
+  pub ended : has_ended s (work_at s g offers) ≡ true
+  pub at : IsAt s (work_at s g offers).stage p

@@ -3,7 +3,8 @@
 //!
 //! To the layers above it promises that what comes of a script is its order, entry by entry, and how it ended its
 //! status. So it follows the machine, each of its events has the weather's word, and where it ended before all events
-//! that the script allows were made, all is quiet.
+//! that the script allows were made, all is quiet. And what comes of a script that others worked so far are the rounds
+//! from there.
 //!
 //! Source: this profile's choice; the standard says nothing of the order in which channel adapters work.
 #![tactic(auto)]
@@ -17,4 +18,4 @@ mod work;
 
 pub use progress::Progress;
 pub use status::Status;
-pub use work::{Worked, work_script};
+pub use work::{Worked, finish_script, work_script};

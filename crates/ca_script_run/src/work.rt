@@ -1,14 +1,14 @@
-ghost use Rattle.std.specs.Prelude.{◌≡◌, ◌-◌, ◌<◌, ◌^◌, IfOk, OnOk};
+ghost use Rattle.std.specs.Prelude.{◌≡◌, ◌-◌, ◌<◌, ◌^◌, IfOk, OnOk, length, reverse};
 ghost use Rattle.ca_base.specs.Configuration.{configuration_of};
-ghost use Rattle.ca_engine_laws.specs.Loop.{opening_work};
+ghost use Rattle.ca_engine.specs.Engine.{opening_engine};
 ghost use Rattle.ca_model.specs.machine.Sound.{AreLimited};
 ghost use Rattle.ca_order.specs.OfScript as machine;
-ghost use Rattle.ca_order.specs.Order.{Stage, ending, opening_stage, order};
+ghost use Rattle.ca_order.specs.Order.{Stage, ending, ending_from, opening_stage, order};
 ghost use Rattle.ca_replay.specs.Rows.{IsRowOf};
 ghost use Rattle.ca_script.specs.Script.{script_value};
-ghost use Rattle.ca_script_run.specs.Progress.{IsAt, IsUnderWay};
+ghost use Rattle.ca_script_run.specs.Progress.{IsAt, IsUnderWay, IsUnderWayOn};
 ghost use Rattle.ca_script_run.specs.Statuses.{status_value};
-ghost use Rattle.ca_script_run.specs.Working.{IsOffered, IsWorkable, IsWorked, IsWorking};
+ghost use Rattle.ca_script_run.specs.Working.{IsOffered, IsWorkable, IsWorked};
 
 use crate::progress::Progress;
 use crate::status::{Status, status_of};
@@ -38,11 +38,31 @@ pub fn work_script(alloc: Global, script: Script) -> Result<Worked, Memory>
     ensures row { IfOk result (λ worked. IsRowOf (script_value script).config (ending (script_value script)).world
         worked.row) }
 {
+    let (script, progress) = open(alloc, script)?;
+    finish_script(alloc, &script, progress)
+}
+
+/// Goes on with a script in rounds, from as far as it is worked to its end. Whoever worked it so far, what it makes are
+/// the rounds from there, and the entries that it adds have the pass 0. `Memory` is its only refusal.
+pub fn finish_script(
+    alloc: Global,
+    script: &Script,
+    mut progress: Progress,
+) -> Result<Worked, Memory>
+    requires workable { IsWorkable (script_value script.now) }
+    requires under_way { IsUnderWayOn (script_value script.now) progress }
+    ensures history { IfOk result (λ worked. (g : Stage) → IsAt (script_value script.now) g progress
+        → worked.history ≡ reverse (ending_from (script_value script.now) g).past) }
+    ensures status { IfOk result (λ worked. (g : Stage) → IsAt (script_value script.now) g progress
+        → status_value worked.status
+        ≡ machine.status_of (script_value script.now) (ending_from (script_value script.now) g)) }
+    ensures row { IfOk result (λ worked. (g : Stage) → IsAt (script_value script.now) g progress
+        → IsRowOf (script_value script.now).config (ending_from (script_value script.now) g).world worked.row) }
+{
     let consumers = script.consumers.as_slice().len() as u32;
     let mut engine = Engine::new(alloc, &script.config, consumers)?;
-    let (script, mut progress) = open(alloc, script)?;
-    work_on(alloc, &script, &mut engine, &mut progress)?;
-    let status = status_of(&script, &progress);
+    work_on(alloc, script, &mut engine, &mut progress)?;
+    let status = status_of(script, &progress);
     Ok(Worked {
         history: progress.history,
         status,
@@ -90,9 +110,11 @@ fn work_on(
     progress: &mut Progress,
 ) -> Result<(), Memory>
     requires workable { IsWorkable (script_value script.now) }
-    requires begins { IsWorking (script_value script.now) (opening_work (script_value script.now))
-        engine.old progress.old }
-    ensures { OnOk result (IsWorked (script_value script.now) progress.new) }
+    requires engine { engine.old ≡ opening_engine (script_value script.now).config
+        (length (script_value script.now).consumers) }
+    requires under_way { IsUnderWayOn (script_value script.now) progress.old }
+    ensures { OnOk result ((g : Stage) → IsAt (script_value script.now) g progress.old
+        → IsWorked (script_value script.now) g progress.new) }
 {
     for _ in 0..u64::MAX {
         if script.config.events <= progress.row.count {

@@ -7,7 +7,7 @@ use Rattle.std.proofs.lemmas.Option.{none-some}
 use Rattle.std.specs.List.{AllByRecursion}
 use Rattle.std.specs.Option.{option_map_or}
 use Rattle.std.specs.Prelude.{Ok, ◌-◌, ◌^◌}
-use Rattle.ca_base.specs.Configuration.{configuration_in}
+use Rattle.ca_base.specs.Configuration.{configuration_in, part_count}
 use Rattle.ca_base.specs.declared.settings.Settings.{Settings}
 use Rattle.ca_fabric_machine.specs.Steps.{up-follows, up-none, runs-marks}
 use Rattle.ca_fabric_machine.specs.After.{IsUp}
@@ -25,7 +25,7 @@ use Rattle.ca_parts.proofs.Lists.{below_one, bit_other, bit_same, one_below}
 use Rattle.ca_parts.specs.Calls.{IsWhole}
 use Rattle.ca_parts.specs.Lists.{Has, below, bit, numbers_of, times}
 use Rattle.ca_taking.specs.Holding.{Known}
-use Rattle.ca_verbs.specs.Closing.{IsFilled, IsHistoryOf, stamped_from, stamps_of}
+use Rattle.ca_verbs.specs.Closing.{AreRemains, IsFilled, IsHistoryOf, stamped_from, stamps_of}
 use Rattle.ca_verbs.specs.Kept.{Kept, kept_of, told_by}
 
 -- the list without its first element that is this number
@@ -172,6 +172,17 @@ by-place k (e ∷ es) (t ∷ ts) same each =
     each (suc m) x y atx aty ∙ ap (λ (n : ℕ). (n, y.event, y.marks)) (let z : k + suc m ≡ suc k + m = omega arith in z)) in
     ap (λ (x : Kept). x ∷ kept_of es) here ∙ ap (λ (l : List Kept). (k, t.event, t.marks) ∷ l) on
 
+-- a number that stands among those of numbered entries has one
+numbered-there : (m : ℕ) (ts : List (ℕ × Told)) → 0 < times m (numbers_of ts) → (e : Told) × Has (m, e) ts
+numbered-there m [] some = absurd (omega (arith, some))
+numbered-there m (t ∷ ts) some = by (m == t.0) refl (λ more. numbered-there m ts more)
+  where
+    by : (b : Bool) → (m == t.0) ≡ b → (0 < times m (numbers_of ts) → (e : Told) × Has (m, e) ts) → (e : Told) × Has (m, e) (t ∷ ts)
+    by true same others = (t.1, inl (ap (λ (k : ℕ). (k, t.1)) (eqb-true m t.0 same)))
+    by false other others =
+        let r : (e : Told) × Has (m, e) ts = others (omega (arith, some, ap bit other)) in
+        (r.0, inr r.1)
+
 module _ (key : Settings) (n : ℕ) (values : List PartValue) (v : Known) (entries : List Entry) (same : kept_of entries ≡ told_by v.entries) (whole : IsWhole next_of CanFollow StandsFor key n values v) where
   stamps-same : stamps_of entries ≡ numbers_of v.entries
   stamps-same = stamps-kept entries ∙ ap (map (λ (k : Kept). k.0)) same ∙ sym (numbers-told v.entries)
@@ -189,6 +200,13 @@ module _ (key : Settings) (n : ℕ) (values : List PartValue) (v : Known) (entri
 
   pub stamp-within : (e : Entry) → Has e entries → e.stamp < n
   stamp-within e h = one_below e.stamp n (omega (arith, has-stamp e entries h, times-same e.stamp))
+
+  none-left-out : (m : ℕ) (e : Told) → slice_get whole.log m ≡ Some e → Has (m, e) v.entries
+  none-left-out m e at =
+      let within : m < n = omega (arith, get-within whole.log m e at, whole.length_is) in
+      let found : (x : Told) × Has (m, x) v.entries = numbered-there m v.entries (omega (arith, whole.entries_all m, below_one m n within)) in
+      let same : found.0 ≡ e = some-same found.0 e (sym (whole.entries_true m found.0 found.1).1 ∙ at) in
+      subst (λ (x : Told). Has (m, x) v.entries) same found.1
 
   pub filled-below : (slots : List (Option Entry)) → ((m : ℕ) → 0 < times m (stamps_of entries) → IsFilled slots m) → AllByRecursion (λ (o : Option Entry). is_some o ≡ true) (take n slots)
   filled-below slots each = all-filled (take n slots) (λ m less.
@@ -227,3 +245,7 @@ module _ (key : Settings) (n : ℕ) (values : List PartValue) (v : Known) (entri
           receipts = λ m e has. (whole.entries_true m e has).1;
           notes = λ m hand has. let r = whole.notes_true m hand has in (omega (arith, r.0, whole.length_is), r.1);
         }
+
+    pub remains-of : AreLimited (configuration_in key) → length entries ≤ 4294967294 → length values ≡ part_count (configuration_in key) → AreRemains key v out values
+    unfolding history-of
+    remains-of limited few count = record { history = history-of limited few; all = none-left-out; count = count; stand = whole.values_stand }

@@ -1,8 +1,6 @@
 -- Why a fabric is not closed. Contracts cite it.
 use Rattle.std.specs.Prelude.{◌≡◌, ◌<◌, Result, Err}
-use Rattle.std.specs.Global.{Vec}
 use Rattle.ca_base.specs.declared.limits.TheConstants.{MAX_PASSES}
-use Rattle.ca_model.specs.declared.entry.Entry.{Entry}
 use Rattle.ca_verbs.specs.Passes.{known_of}
 use Rattle.ca_verbs.specs.declared.close_error.CloseError.{CloseError}
 use Rattle.ca_verbs.specs.declared.close_error.CloseError.TheVariants as errors
@@ -10,7 +8,7 @@ use Rattle.ca_verbs.specs.declared.fabric.Fabric.{Fabric}
 use Rattle.ca_verbs.specs.declared.pass.Pass.{Pass}
 
 -- the answer is that a pass is out
-abbrev pub IsPassOut : Result (Vec Entry) CloseError → Type 0
+abbrev pub IsPassOut : {A : Type 0} → Result A CloseError → Type 0
 IsPassOut (Err (errors.PassOut f p)) = Unit {0}
 IsPassOut r = ⊥
 

@@ -1,6 +1,6 @@
 -- The history that is left where a fabric is closed. Contracts cite it.
 use Rattle.std.specs.Prelude.{◌≡◌, ◌≤◌, ℕ, suc, List, [], ◌∷◌, length, map, take, Option, Some, slice_get, Ok}
-use Rattle.ca_base.specs.Configuration.{configuration_in}
+use Rattle.ca_base.specs.Configuration.{configuration_in, part_count}
 use Rattle.ca_base.specs.declared.settings.Settings.{Settings}
 use Rattle.ca_fabric_machine.specs.After.{IsUp}
 use Rattle.ca_fabric_machine.specs.Meanings.{StandsFor}
@@ -37,6 +37,14 @@ pub record IsHistoryOf (key : Settings) (v : Known) (j : List Entry) : Type 0 wh
   pub runs : run (configuration_in key) (map (λ e. e.event) j) ≡ Ok (map (λ e. e.marks.marks) j)
   pub receipts : (m : ℕ) (e : Told) → Has (m, e) v.entries → slice_get log m ≡ Some e
   pub notes : (m : ℕ) (hand : List (ℕ × PartValue)) → Has (m, hand) v.notes → (m ≤ length log) × AllStand (StandsFor key (take m log)) hand
+
+-- What is left of a fabric: its history, in which nothing stands but the entries of the pass; and its parts, each of which
+-- is what it is after the history.
+pub record AreRemains (key : Settings) (v : Known) (j : List Entry) (parts : List PartValue) : Type 0 where
+  pub history : IsHistoryOf key v j
+  pub all : (m : ℕ) (e : Told) → slice_get history.log m ≡ Some e → Has (m, e) v.entries
+  pub count : length parts ≡ part_count (configuration_in key)
+  pub stand : (k : ℕ) (x : PartValue) → slice_get parts k ≡ Some x → StandsFor key history.log k x
 
 -- A history over zeros is lawful: its stamps count from 0 and each verb has its answer, each access is judged by the grants
 -- before it, each grant is licensed, what is carried has its cause, each atomic of a clean connection acts once, each

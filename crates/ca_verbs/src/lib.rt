@@ -27,6 +27,7 @@ mod verbs;
 mod waiting;
 
 pub use close_error::CloseError;
+pub use closing::Remains;
 pub use fabric::Fabric;
 pub use pass::{Pass, Receipt};
 pub use start_error::StartError;

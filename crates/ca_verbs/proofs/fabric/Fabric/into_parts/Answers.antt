@@ -1,9 +1,9 @@
 use Rattle.std.proofs.Common.{◌≡◌, ◌<◌, ◌≤◌, ◌∙◌, sym, ap, subst, arith, length, slice_get, is_some, true}
 use Rattle.std.specs.List.{AllByRecursion}
 use Rattle.ca_model.specs.machine.Sound.{CanBeMade}
-use Rattle.ca_verbs.proofs.CloseLemmas.{as-many, filled-below, history-of, no-more, none-filled, stamp-within}
+use Rattle.ca_verbs.proofs.CloseLemmas.{as-many, filled-below, no-more, none-filled, remains-of, stamp-within}
 use Rattle.ca_verbs.proofs.LawfulLemmas.{lawful-of}
-use Rattle.ca_verbs.proofs.fabric.Fabric.close.Goals as goal
+use Rattle.ca_verbs.proofs.fabric.Fabric.into_parts.Goals as goal
 
 pub place_all-requires-clause-fits : goal.place_all-requires-clause-fits
 place_all-requires-clause-fits c = λ e has.
@@ -18,10 +18,11 @@ pub collect-requires-clause-filled : goal.collect-requires-clause-filled
 collect-requires-clause-filled c = subst (AllByRecursion (λ o. is_some o ≡ true)) (sym c.truncate.ensures.items)
     (filled-below _ _ _ _ _ c.args.pass.kept c.in-Ok-close.ensures.whole _ c.place_all.ensures.filled)
 
-pub returns-clause-history : goal.returns-clause-history
-returns-clause-history c =
+pub returns-clause-remains : goal.returns-clause-remains
+returns-clause-remains c =
     let count : length c.place_all.new.slots.items ≡ length c.args.pass.entries.items = omega (arith, c.place_all.ensures.count, as-many _ _ c.in-Ok.ensures.places, c.len-count.ensures) in
-    history-of _ _ _ _ _ c.args.pass.kept c.in-Ok-close.ensures.whole _ _ count c.place_all.ensures.right (c.collect.ensures ∙ c.truncate.ensures.items) c.args.self.limited (omega arith)
+    remains-of _ _ _ _ _ c.args.pass.kept c.in-Ok-close.ensures.whole _ _ count c.place_all.ensures.right (c.collect.ensures ∙ c.truncate.ensures.items) c.args.self.limited (omega arith)
+    (c.in-Ok-close.ensures.count ∙ c.args.self.row)
 
 pub returns-clause-lawful : goal.returns-clause-lawful
-returns-clause-lawful c = lawful-of _ _ _ c.args.self.limited (subst (AllByRecursion (λ e. CanBeMade e.event)) c.as_slice.ensures.value c.all_fit.ensures) (returns-clause-history c)
+returns-clause-lawful c = lawful-of _ _ _ c.args.self.limited (subst (AllByRecursion (λ e. CanBeMade e.event)) c.as_slice.ensures.value c.all_fit.ensures) (returns-clause-remains c).history
