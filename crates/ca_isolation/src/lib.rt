@@ -2,9 +2,9 @@
 //! events, and in the place of each write of another event Stores into the bytes that its grants cover.
 //!
 //! To the layers above it promises that calls say which domains and events are a group's own, that one names the first
-//! queue pair of a group that named a stranger, and that another gives the replies to the group; and, as clauses of functions that do nothing, that the Stores leave in
-//! covered bytes what the write leaves there, and that the lone list has the group's events and no other event of
-//! domains, so that its replies are those of the history.
+//! queue pair of a group that named a stranger, and that another gives the replies to the group; and, as clauses of
+//! functions that do nothing, that the Stores leave in covered bytes what the write leaves there, and that the lone
+//! list has the group's events and no other event of domains, so that its replies are those of the history.
 //!
 //! Source: this profile's choice; protection domains and grants are those of the software transport interface,
 //! InfiniBand Architecture Specification Volume 1.
