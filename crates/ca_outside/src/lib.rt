@@ -1,5 +1,5 @@
 //! Where bytes come from and go to: sources and sinks, in memory and over the readers and writers of std, and the
-//! transfer of all their bytes.
+//! transfer of all their bytes; and the gate that a worker goes through before each call.
 //!
 //! To the layers above it promises that a source that tells its bytes gives them in order and loses no more than was
 //! asked for, that a sink takes them in order, and that a fault is answered only where a count of faults rose.
@@ -7,6 +7,7 @@
 //! Source: this profile's own choice; the InfiniBand Architecture Specification knows no streams.
 #![tactic(auto)]
 
+mod gate;
 mod memory_sink;
 mod memory_source;
 mod sink;
@@ -17,6 +18,7 @@ mod sure_sink;
 mod sure_source;
 mod transfer;
 
+pub use gate::{FreeGate, Gate};
 pub use memory_sink::MemorySink;
 pub use memory_source::MemorySource;
 pub use sink::Sink;

@@ -1,26 +1,30 @@
-use ca_outside::{StdSink, StdSource};
+use ca_outside::{FreeGate, StdSink, StdSource};
 use ca_run::{Status, exit_code, run, status_line};
 use std::io::ErrorKind;
 use std::process::ExitCode;
 use std::rt::Env;
+use std::sync::Wait;
+use std::thread::Threads;
 use std::{env, io};
 
 /// Runs the program on the standard streams, with the words behind the program's name. The line of its status goes to
 /// standard error; a fault there is told to nobody.
-pub fn start<R: Env + Input + Print + Eprint + AllocGlobal>(rt: &R) -> ExitCode {
+pub fn start<R: Env + Input + Print + Eprint + AllocGlobal + Threads + Wait + Sync>(
+    rt: &R,
+) -> ExitCode {
     let status = status_of(rt);
     tell(rt, &status);
     ExitCode::from(exit_code(&status))
 }
 
-fn status_of<R: Env + Input + Print + AllocGlobal>(rt: &R) -> Status {
+fn status_of<R: Env + Input + Print + AllocGlobal + Threads + Wait + Sync>(rt: &R) -> Status {
     let words = match words(rt) {
         Ok(words) => words,
         Err(status) => return status,
     };
     let mut source = StdSource::over(rt.reader());
     let mut sink = StdSink::over(io::writer(rt));
-    run(rt.alloc(), &words, &mut source, &mut sink)
+    run(rt, rt.alloc(), &words, &mut source, &mut sink, &FreeGate)
 }
 
 // The words behind the program's name. One that is not UTF-8 makes a faulty command line.

@@ -10,7 +10,7 @@ use Rattle.ca_order.specs.OfScript as machine
 use Rattle.ca_order.specs.Order.{order}
 use Rattle.ca_run.proofs.StatusLemmas.{ended-told}
 use Rattle.ca_run.specs.Beside.{status_of_outcome, text_of_outcome}
-use Rattle.ca_run.specs.Run.{IsClosedOutput, IsLoneOutput, IsRead, IsScriptOutput, IsTextOf, IsWorked}
+use Rattle.ca_run.specs.Run.{IsClosedOutput, IsLoneOutput, IsRaceOutput, IsRaced, IsRead, IsScriptOutput, IsTextOf, IsWorked}
 use Rattle.ca_run.specs.Status.{ended_as, status_of_end}
 use Rattle.ca_run.specs.declared.status.Status.{Status}
 use Rattle.ca_script.specs.Script.{ScriptValue}
@@ -24,6 +24,11 @@ script-output left left' status s output ended is read worked told = record { sc
 pub script-output-told : (left left' : Option (List ℕ)) (s : ScriptValue) (output : List ℕ) (ended : machine.Status)
     → IsRead left left' s → IsWorked s ended → IsTextOf output (order s) → IsScriptOutput left left' (status_of_end ended) output
 script-output-told left left' s output ended read worked told = script-output left left' (status_of_end ended) s output ended (ended-told ended) read worked told
+
+-- what a script that was read and raced comes to
+pub race-output : (left left' : Option (List ℕ)) (status : Status) (s : ScriptValue) (es : List EntryValue) (output : List ℕ) (ended : machine.Status) → ended_as status ≡ Some ended
+    → IsRead left left' s → IsRaced s es ended → IsTextOf output es → IsRaceOutput left left' status output
+race-output left left' status s es output ended is read raced told = record { script = s; ended = ended; is = is; read = read; history = es; raced = raced; text = told }
 
 -- where a group is closed, the status is that of the script
 closed-output : (group : List DomainId) (left left' : Option (List ℕ)) (ended : machine.Status) (output : List ℕ)

@@ -8,9 +8,9 @@ use Rattle.ca_made.specs.Made.{made_script}
 use Rattle.ca_model.specs.Entries.{EntryValue}
 use Rattle.ca_order.specs.OfScript as machine
 use Rattle.ca_order.specs.OfScript.{HasStatus}
-use Rattle.ca_order.specs.Order.{ending, order}
+use Rattle.ca_order.specs.Order.{Stage, ending, order}
 use Rattle.ca_order.specs.Summary.{summary}
-use Rattle.ca_order_laws.specs.Lawful.{IsLawfulOrder}
+use Rattle.ca_order_laws.specs.Lawful.{IsLawfulHistory, IsLawfulOrder}
 use Rattle.ca_reading_fits.specs.Histories.{HistoryFits}
 use Rattle.ca_run.specs.Status.{ended_as}
 use Rattle.ca_run.specs.declared.status.Status.{Status}
@@ -46,6 +46,22 @@ pub record IsScriptOutput (left left' : Option (List ℕ)) (status : Status) (ou
   pub read : IsRead left left' script
   pub worked : IsWorked script ended
   pub text : IsTextOf output (order script)
+
+-- A history of the script is lawful, and the script ended so where it leads to.
+pub record IsRaced (s : ScriptValue) (es : List EntryValue) (ended : machine.Status) : Type 0 where
+  pub end : Stage
+  pub lawful : IsLawfulHistory s es end
+  pub status : HasStatus s end ended
+
+-- A script was read and raced, and the output is the text of what came of it.
+pub record IsRaceOutput (left left' : Option (List ℕ)) (status : Status) (output : List ℕ) : Type 0 where
+  pub script : ScriptValue
+  pub ended : machine.Status
+  pub is : ended_as status ≡ Some ended
+  pub read : IsRead left left' script
+  pub history : List EntryValue
+  pub raced : IsRaced script history ended
+  pub text : IsTextOf output history
 
 -- A script was read and worked, the group is closed in its order, and the output is the text of the order and, behind it,
 -- that of the group's replies in its lone run.
@@ -83,6 +99,7 @@ pub record IsMadeOutput (seed : ℕ) (status : Status) (output : List ℕ) : Typ
 -- what a command writes whose status is this one, and what it read of the source
 abbrev pub IsOutput : Command → Option (List ℕ) → Option (List ℕ) → Status → List ℕ → Type 0
 IsOutput commands.Script left left' status output = IsScriptOutput left left' status output
+IsOutput (commands.Race workers) left left' status output = IsRaceOutput left left' status output
 IsOutput (commands.Alone group) left left' status output = IsLoneOutput group left left' status output
 IsOutput (commands.Make seed) left left' status output = IsMadeOutput seed status output
 

@@ -13,19 +13,25 @@ ghost use Rattle.ca_words.specs.declared.command.Command.TheVariants as commands
 
 use crate::alone::run_alone;
 use crate::make::run_make;
+use crate::race::run_race;
 use crate::script::run_script;
 use crate::status::Status;
 use ca_base::limits::MAX_SCRIPT_BYTES;
-use ca_outside::{Sink, Source};
+use ca_outside::{Gate, Sink, Source};
 use ca_words::{Command, WordsError, command_of};
 use std::alloc::Global;
+use std::sync::Wait;
+use std::thread::Threads;
 
-/// Does all that the program does: what the words behind its name command.
-pub fn run<S: Source, K: Sink>(
+/// Does all that the program does: what the words behind its name command. A race may wait, and goes through the gate before
+/// each call of a worker on the fabric; the other commands make no such call.
+pub fn run<R: Threads + Wait + Sync, S: Source, K: Sink, G: Gate + Sync>(
+    rt: &R,
     alloc: Global,
     words: &[String],
     source: &mut S,
     sink: &mut K,
+    gate: &G,
 ) -> Status
     // Where the status says so, the command was worked, and the sink took its whole output.
     ensures whole { (command : words_of.Command) → command_in (map string_bytes words.now) ≡ Some command
@@ -72,6 +78,7 @@ pub fn run<S: Source, K: Sink>(
 {
     match command_of(alloc, words) {
         Ok(Command::Script) => run_script(alloc, source, sink),
+        Ok(Command::Race(workers)) => run_race(rt, alloc, workers, source, sink, gate),
         Ok(Command::Alone(group)) => run_alone(alloc, group.as_slice(), source, sink),
         Ok(Command::Make(seed)) => run_make(alloc, seed, sink),
         Err(WordsError::Usage) => Status::Usage,

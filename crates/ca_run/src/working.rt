@@ -1,10 +1,11 @@
-ghost use Rattle.std.specs.Prelude.{◌≡◌, ℕ, List, Ok, IfOk};
+ghost use Rattle.std.specs.Prelude.{◌≡◌, ◌<◌, ℕ, List, Ok, IfOk};
 ghost use Rattle.ca_alone_run.specs.Lone.{IsOutcome};
 ghost use Rattle.ca_isolation.specs.Groups.{group_of};
 ghost use Rattle.ca_made.specs.Made.{made_script};
+ghost use Rattle.ca_model.specs.History.{IsHistory};
 ghost use Rattle.ca_order.specs.Order.{order};
 ghost use Rattle.ca_order.specs.Summary.{summary};
-ghost use Rattle.ca_run.specs.Run.{IsTextOf, IsWorked};
+ghost use Rattle.ca_run.specs.Run.{IsRaced, IsTextOf, IsWorked};
 ghost use Rattle.ca_script.specs.Script.{ScriptValue, script_of, script_value};
 ghost use Rattle.ca_script_run.specs.Statuses.{status_value};
 ghost use Rattle.ca_script_run.specs.Working.{IsWorkable};
@@ -15,7 +16,13 @@ use ca_alone_run::{Lone, work_alone};
 use ca_base::{DomainId, Memory};
 use ca_make::{Made, make};
 use ca_model::History;
-use ca_order::orders_have_their_status;
+use ca_order::{
+    orders_have_their_status, rounds_are_of_their_scripts, rounds_end, rounds_follow_the_machine,
+    stages_have_their_status,
+};
+use ca_order_laws::histories_of_scripts_are_lawful;
+use ca_outside::Gate;
+use ca_race::race_script;
 use ca_reading::one_text;
 use ca_reading_fits::history_fits;
 use ca_rest::texts_mean_limited_scripts;
@@ -23,6 +30,8 @@ use ca_script::Script;
 use ca_script_run::{Worked, work_script};
 use ca_script_texts::{orders_of_texts_are_lawful, texts_mean_workable_scripts};
 use std::alloc::Global;
+use std::sync::Wait;
+use std::thread::Threads;
 
 /// Works a script that a text means, in its order.
 pub(crate) fn work(alloc: Global, script: Script) -> Result<Worked, Memory>
@@ -38,7 +47,33 @@ pub(crate) fn work(alloc: Global, script: Script) -> Result<Worked, Memory>
     Ok(worked)
 }
 
-/// The same, and then the group's lone run beside it.
+/// Races a script that a text means, with so many workers. It may wait.
+pub(crate) fn race<R: Threads + Wait + Sync, G: Gate + Sync>(
+    rt: &R,
+    alloc: Global,
+    script: Script,
+    workers: u32,
+    gate: &G,
+) -> Result<Worked, Memory>
+    requires means { (bytes : List ℕ) × (script_of bytes ≡ Ok (script_value script)) }
+    requires workers { 0 < workers }
+    ensures raced { IfOk result (λ worked. IsRaced (script_value script) worked.history (status_value worked.status)) }
+    ensures text { IfOk result (λ worked. IsTextOf (text worked.history) worked.history) }
+{
+    can_be_worked();
+    texts_mean_limited_scripts();
+    rounds_follow_the_machine();
+    rounds_are_of_their_scripts();
+    rounds_end();
+    stages_have_their_status();
+    histories_of_scripts_are_lawful();
+    let worked = race_script(rt, alloc, &script, workers, gate)?;
+    is_history(&worked.history);
+    has_one_text(&worked.history);
+    Ok(worked)
+}
+
+/// Works a script in its order as `work` does, and then the group's lone run beside it.
 pub(crate) fn work_beside(alloc: Global, script: Script, group: &[DomainId]) -> Result<Lone, Memory>
     requires { (bytes : List ℕ) × (script_of bytes ≡ Ok (script_value script)) }
     ensures worked { IfOk result (λ lone. IsWorked (script_value script) (status_value lone.status)) }
@@ -62,6 +97,13 @@ pub(crate) fn work_made(alloc: Global, seed: u64) -> Result<Made, Memory>
 {
     orders_have_their_status();
     make(alloc, seed)
+}
+
+/// A history is well formed.
+fn is_history(h: &History)
+    ensures { IsHistory h.now }
+{
+    h.as_slice();
 }
 
 /// The text of a history is that of no other that fits.

@@ -5,7 +5,7 @@ use Rattle.std.specs.Str.{bytes_eq}
 use Rattle.ca_reading_words.specs.Words.{◌>>=◌, Gives}
 use Rattle.ca_reading_words.specs.declared.stop.Stop.{Stop}
 use Rattle.ca_reading_words.specs.declared.stop.Stop.TheVariants as stops
-use Rattle.ca_words.specs.Words.{alone_with, command_in, command_line, command_met, command_named, make_with, unless_faulty}
+use Rattle.ca_words.specs.Words.{alone_with, command_in, command_line, command_met, command_named, make_with, race_with, unless_faulty}
 use Rattle.ca_words.specs.declared.command.Command.{Command}
 use Rattle.ca_words.specs.declared.command.WordsError.{WordsError}
 use Rattle.ca_words.specs.declared.command.WordsError.TheVariants as errors
@@ -38,10 +38,15 @@ make-named : (name : Text) (rows : List Row) (text : Option Text) → bytes_eq n
     → command_named (name, rows) ≡ make_with text
 make-named name rows text other same is = rw (other, same, is) refl
 
--- the command of a name that is neither `script` nor `make`
-alone-named : (name : Text) (rows : List Row) (text : Option Text) → bytes_eq name (codes "script") ≡ false → bytes_eq name (codes "make") ≡ false → first_of (codes "group") rows ≡ text
-    → command_named (name, rows) ≡ alone_with text
-alone-named name rows text other neither is = rw (other, neither, is) refl
+-- the command of the name `race`
+race-named : (name : Text) (rows : List Row) (text : Option Text) → bytes_eq name (codes "script") ≡ false → bytes_eq name (codes "make") ≡ false → bytes_eq name (codes "race") ≡ true
+    → first_of (codes "workers") rows ≡ text → command_named (name, rows) ≡ race_with text
+race-named name rows text other neither same is = rw (other, neither, same, is) refl
+
+-- the command of a name that is none of these
+alone-named : (name : Text) (rows : List Row) (text : Option Text) → bytes_eq name (codes "script") ≡ false → bytes_eq name (codes "make") ≡ false → bytes_eq name (codes "race") ≡ false
+    → first_of (codes "group") rows ≡ text → command_named (name, rows) ≡ alone_with text
+alone-named name rows text other neither nor is = rw (other, neither, nor, is) refl
 
 -- what a parse met that met `make`
 pub make-met : (m : ArgMatches) (arguments : Found) (name : Text) (text : Option Text) → Some name ≡ subcommand_name_of m
@@ -50,12 +55,19 @@ pub make-met : (m : ArgMatches) (arguments : Found) (name : Text) (text : Option
 make-met m arguments name text named with other same is = ap (λ (o : Option (Text × List Row)). o >>= command_named) (rows-met m name (rows_of arguments) named with)
     ∙ make-named name (rows_of arguments) text other same (sym (first_value-rows arguments (codes "seed")) ∙ sym is)
 
--- what a parse met that met neither
+-- what a parse met that met `race`
+pub race-met : (m : ArgMatches) (arguments : Found) (name : Text) (text : Option Text) → Some name ≡ subcommand_name_of m
+    → Some (rows_of arguments) ≡ option_map (λ (p : Text × List Row). p.1) (subcommand_rows_of m) → bytes_eq name (codes "script") ≡ false → bytes_eq name (codes "make") ≡ false
+    → bytes_eq name (codes "race") ≡ true → text ≡ first_value arguments (codes "workers") → command_met m ≡ race_with text
+race-met m arguments name text named with other neither same is = ap (λ (o : Option (Text × List Row)). o >>= command_named) (rows-met m name (rows_of arguments) named with)
+    ∙ race-named name (rows_of arguments) text other neither same (sym (first_value-rows arguments (codes "workers")) ∙ sym is)
+
+-- what a parse met that met none of these
 pub alone-met : (m : ArgMatches) (arguments : Found) (name : Text) (text : Option Text) → Some name ≡ subcommand_name_of m
     → Some (rows_of arguments) ≡ option_map (λ (p : Text × List Row). p.1) (subcommand_rows_of m) → bytes_eq name (codes "script") ≡ false → bytes_eq name (codes "make") ≡ false
-    → text ≡ first_value arguments (codes "group") → command_met m ≡ alone_with text
-alone-met m arguments name text named with other neither is = ap (λ (o : Option (Text × List Row)). o >>= command_named) (rows-met m name (rows_of arguments) named with)
-    ∙ alone-named name (rows_of arguments) text other neither (sym (first_value-rows arguments (codes "group")) ∙ sym is)
+    → bytes_eq name (codes "race") ≡ false → text ≡ first_value arguments (codes "group") → command_met m ≡ alone_with text
+alone-met m arguments name text named with other neither nor is = ap (λ (o : Option (Text × List Row)). o >>= command_named) (rows-met m name (rows_of arguments) named with)
+    ∙ alone-named name (rows_of arguments) text other neither nor (sym (first_value-rows arguments (codes "group")) ∙ sym is)
 
 -- where an error is not want of memory there is a fault, and nothing is said
 pub nothing-said : (faults : Kinds) (e : Error) (said : Option Command) → HasKind faults e → (kind_of e ≡ kinds.OutOfMemory → ⊥) → unless_faulty faults said ≡ None

@@ -1,5 +1,5 @@
 -- Words: which command the words behind the program's name are. Contracts cite it.
-use Rattle.std.specs.Prelude.{ℕ, ◌*◌, ◌-◌, ◌^◌, nat_le, nat_lt, Bool, true, false, not, ◌&&◌, if◌then◌else◌, List, [], ◌∷◌, length, codes, Option, Some, None}
+use Rattle.std.specs.Prelude.{ℕ, ◌*◌, ◌-◌, ◌^◌, ◌<◌, ◌≤◌, nat_le, nat_lt, Bool, true, false, not, ◌&&◌, if◌then◌else◌, List, [], ◌∷◌, length, codes, Option, Some, None}
 use Rattle.std.specs.List.{list_any}
 use Rattle.std.specs.Option.{option_map}
 use Rattle.std.specs.Str.{bytes_eq}
@@ -10,7 +10,7 @@ use Rattle.clap.specs.declared.parser.matches.ArgMatches.{ArgMatches}
 use Rattle.clap.specs.declared.builder.action.ArgAction.TheVariants.{Set}
 use Rattle.clap.specs.declared.builder.value_parser.ValueParser.{ValueParser}
 use Rattle.clap.specs.declared.builder.value_parser.ValueParser.TheVariants.{Unsigned}
-use Rattle.ca_base.specs.declared.limits.TheConstants.{MAX_ADAPTERS, MAX_DOMAINS}
+use Rattle.ca_base.specs.declared.limits.TheConstants.{MAX_ADAPTERS, MAX_DOMAINS, MAX_WORKERS}
 use Rattle.ca_keys.specs.Equal.{domain_eq}
 use Rattle.ca_keys.specs.Spelling.{domain_text}
 use Rattle.ca_keys.specs.declared.names.DomainId.{DomainId}
@@ -47,6 +47,21 @@ any_seed = Unsigned 0 (2 ^ 64 - 1)
 abbrev pub seed_named : Text → Option ℕ
 seed_named w = if accepts false any_seed w then Some (digits_value 10 (without_leading_plus w)) else None
 
+-- ---- a number of workers
+
+-- numbers from one to as many workers as there may be
+abbrev pub some_workers : ValueParser
+some_workers = Unsigned 1 MAX_WORKERS
+
+-- the number that a text names, where the parser of command lines takes it for one
+abbrev pub workers_named : Text → Option ℕ
+workers_named w = if accepts false some_workers w then Some (digits_value 10 (without_leading_plus w)) else None
+
+-- there are from one to as many workers as there may be
+abbrev pub HasWorkers : Command → Type 0
+HasWorkers (commands.Race workers) = (0 < workers) × (workers ≤ MAX_WORKERS)
+HasWorkers command = Unit {0}
+
 -- ---- the command line
 
 -- an argument of this name that has to be there, with a text
@@ -59,18 +74,24 @@ bare_line =
     let bare = new_app (codes "ca") in
     record bare { top = record bare.top { no_binary_name = true; subcommand_required = true } }
 
--- it has three subcommands, of which one has to be named
+-- it has four subcommands, of which one has to be named
 abbrev pub command_line : App
 command_line =
     with_subcommand
     (with_subcommand
+    (with_subcommand
     (with_subcommand bare_line (new_app (codes "script")).top)
+    (with_rule (new_app (codes "race")) (text_rule (codes "workers"))).top)
     (with_rule (new_app (codes "alone")) (text_rule (codes "group"))).top)
     (with_rule (new_app (codes "make")) (text_rule (codes "seed"))).top
 
 -- the command of a group's text
 abbrev pub alone_with : Option Text → Option Command
 alone_with text = text >>= λ t. option_map (λ ds. commands.Alone ds) (group_named t)
+
+-- the command of a text for the number of workers
+abbrev pub race_with : Option Text → Option Command
+race_with text = text >>= λ t. option_map (λ n. commands.Race n) (workers_named t)
 
 -- the command of a seed's text
 abbrev pub make_with : Option Text → Option Command
@@ -81,6 +102,7 @@ abbrev pub command_named : Text × List Row → Option Command
 command_named (name, rows) =
     if bytes_eq name (codes "script") then Some commands.Script
     else if bytes_eq name (codes "make") then make_with (first_of (codes "seed") rows)
+    else if bytes_eq name (codes "race") then race_with (first_of (codes "workers") rows)
     else alone_with (first_of (codes "group") rows)
 
 -- the command that a parse met

@@ -5,8 +5,10 @@ use ca_base::{DomainId, Items, Memory};
 pub enum Command {
     /// Read a script, work it in its order, and write the text of its history.
     Script,
-    /// The same, and then write the replies that the group gets in its lone run. It has from 1 to 128 domains, all
-    /// distinct.
+    /// Read a script, race it with so many workers, from 1 to 16, and write the text of its history.
+    Race(u32),
+    /// Work a script in its order as `Script` does, and then write the replies that the group gets in its lone run. It has
+    /// from 1 to 128 domains, all distinct.
     Alone(Items<DomainId>),
     /// Work the script that is made of this seed, and write a summary. Nothing is read.
     Make(u64),

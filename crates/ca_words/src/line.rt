@@ -1,8 +1,9 @@
-ghost use Rattle.std.specs.Prelude.{◌≡◌, ◌↔◌, Err, None, Some, IfOk, false, map};
+ghost use Rattle.std.specs.Prelude.{◌≡◌, ◌↔◌, ◌<◌, ◌≤◌, Err, None, Some, IfOk, IfSome, false, map};
 ghost use Rattle.std.specs.Option.{option_map};
 ghost use Rattle.std.specs.String.{string_bytes};
+ghost use Rattle.ca_base.specs.declared.limits.TheConstants.{MAX_WORKERS};
 ghost use Rattle.ca_words.specs.Words as spelled;
-ghost use Rattle.ca_words.specs.Words.{command_met};
+ghost use Rattle.ca_words.specs.Words.{HasWorkers, command_met};
 ghost use Rattle.ca_words.specs.declared.command.WordsError.TheVariants as errors;
 ghost use Rattle.clap.specs.Words.{app_of, rule_of};
 ghost use Rattle.clap.specs.declared.error.kind.ErrorKind.TheVariants as kinds;
@@ -10,21 +11,24 @@ ghost use Rattle.clap.specs.declared.error.kind.ErrorKind.TheVariants as kinds;
 use crate::command::{Command, WordsError};
 use crate::group::group_named;
 use ca_base::Memory;
+use ca_base::limits::MAX_WORKERS;
 use ca_reading_words::Stop;
 use clap::error::ErrorKind;
 use clap::{Arg, ArgAction, ArgMatches, Command as Line};
 use std::alloc::Global;
 
-/// The command line: three subcommands, of which one has to be named.
+/// The command line: four subcommands, of which one has to be named.
 fn command_line<'a>(alloc: Global) -> Result<Line<'a>, Memory>
     ensures { IfOk result (λ line. app_of line ≡ spelled.command_line) }
 {
+    let race = Line::new(alloc, "race").arg(text_of(alloc, "workers"))?;
     let alone = Line::new(alloc, "alone").arg(text_of(alloc, "group"))?;
     let make = Line::new(alloc, "make").arg(text_of(alloc, "seed"))?;
     let line = Line::new(alloc, "ca")
         .no_binary_name(true)
         .subcommand_required(true)
         .subcommand(Line::new(alloc, "script"))?
+        .subcommand(race)?
         .subcommand(alone)?
         .subcommand(make)?;
     Ok(line)
@@ -44,6 +48,7 @@ fn text_of(alloc: Global, name: &str) -> Arg<'_>
 /// What a parse that found no fault says: the command of the subcommand that it met.
 fn named(alloc: Global, matches: &ArgMatches) -> Result<Command, WordsError>
     ensures ok { IfOk result (λ command. command_met matches.now ≡ Some command) }
+    ensures workers { IfOk result HasWorkers }
     ensures usage { result ≡ Err errors.Usage → command_met matches.now ≡ None }
 {
     let Some((name, arguments)) = matches.subcommand() else {
@@ -55,12 +60,43 @@ fn named(alloc: Global, matches: &ArgMatches) -> Result<Command, WordsError>
     if name == "make" {
         return make_with(arguments.get_str("seed"));
     }
+    if name == "race" {
+        return race_with(arguments.get_str("workers"));
+    }
     alone_with(alloc, arguments.get_str("group"))
+}
+
+/// The command of a text for the number of workers.
+fn race_with(text: Option<&str>) -> Result<Command, WordsError>
+    ensures ok { IfOk result (λ command. spelled.race_with (option_map (λ t. t.now) text.entry) ≡ Some command) }
+    ensures workers { IfOk result HasWorkers }
+    ensures usage { result ≡ Err errors.Usage → spelled.race_with (option_map (λ t. t.now) text.entry) ≡ None }
+{
+    let Some(text) = text else {
+        return Err(WordsError::Usage);
+    };
+    match workers_named(text) {
+        Some(workers) => Ok(Command::Race(workers)),
+        None => Err(WordsError::Usage),
+    }
+}
+
+/// The number of workers that a text names.
+fn workers_named(text: &str) -> Option<u32>
+    ensures value { result ≡ spelled.workers_named text.now }
+    ensures some { IfSome result (λ n. (0 < n) × (n ≤ MAX_WORKERS)) }
+{
+    let workers: u32 = text.parse().ok()?;
+    if workers == 0 || workers > MAX_WORKERS {
+        return None;
+    }
+    Some(workers)
 }
 
 /// The command of a seed's text.
 fn make_with(text: Option<&str>) -> Result<Command, WordsError>
     ensures ok { IfOk result (λ command. spelled.make_with (option_map (λ t. t.now) text.entry) ≡ Some command) }
+    ensures workers { IfOk result HasWorkers }
     ensures usage { result ≡ Err errors.Usage → spelled.make_with (option_map (λ t. t.now) text.entry) ≡ None }
 {
     let Some(text) = text else {
@@ -82,6 +118,7 @@ fn seed_named(text: &str) -> Option<u64>
 /// The command of a group's text.
 fn alone_with(alloc: Global, text: Option<&str>) -> Result<Command, WordsError>
     ensures ok { IfOk result (λ command. spelled.alone_with (option_map (λ t. t.now) text.entry) ≡ Some command) }
+    ensures workers { IfOk result HasWorkers }
     ensures usage { result ≡ Err errors.Usage → spelled.alone_with (option_map (λ t. t.now) text.entry) ≡ None }
 {
     let Some(text) = text else {
@@ -104,9 +141,11 @@ fn refusal(kind: ErrorKind) -> WordsError
     }
 }
 
-/// The command that the words behind the program's name are. `Usage` comes only where they are none.
+/// The command that the words behind the program's name are. `Usage` comes only where they are none. The workers of a race
+/// are from 1 to 16.
 pub fn command_of(alloc: Global, words: &[String]) -> Result<Command, WordsError>
     ensures ok { IfOk result (λ command. spelled.command_in (map string_bytes words.now) ≡ Some command) }
+    ensures workers { IfOk result HasWorkers }
     ensures usage { result ≡ Err errors.Usage → spelled.command_in (map string_bytes words.now) ≡ None }
 {
     let line = command_line(alloc)?;

@@ -1,0 +1,4 @@
+mod ListLemmas
+mod WorkLemmas
+mod TryLemmas
+mod GatherLemmas

@@ -1,0 +1,3 @@
+pub mod Calls
+pub mod Workers
+pub mod Raced
