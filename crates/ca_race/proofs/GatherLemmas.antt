@@ -56,10 +56,10 @@ within (x ∷ xs) (suc i) less = within xs i (omega (arith, less))
 
 module _ (key : Settings) (log : List Told) (up : IsUp (configuration_in key) log) (parts : List Part) (shared : List PartValue) (are : map value_of parts ≡ shared)
     (count : length shared ≡ part_count (configuration_in key)) (stand : (k : ℕ) (x : PartValue) → slice_get shared k ≡ Some x → StandsFor key log k x) where
-  c : Configuration
+  abbrev c : Configuration
   c = configuration_in key
 
-  world : World
+  abbrev world : World
   world = world_after c log
 
   part-in : (name : PartName) (n : ℕ) (part : Part) → place_of c name ≡ Some n → slice_get parts n ≡ Some part → IsPartIn c world name part
@@ -100,7 +100,8 @@ module _ (key : Settings) (log : List Told) (up : IsUp (configuration_in key) lo
     whole = λ p held set. absurd (true≢false (sym held));
   }
 
-  pub row-of : (row : Row) → row.parts.items ≡ parts → configuration_in row.settings ≡ c → holding row.held ≡ nothing_held → row.count ≡ length log → IsRowOf c world row
+  pub row-of : (row : Row) → row.parts.items ≡ parts → configuration_in row.settings ≡ configuration_in key → holding row.held ≡ nothing_held → row.count ≡ length log
+      → IsRowOf (configuration_in key) (world_after (configuration_in key) log) row
   row-of row same settings held counted = record {
     settings = settings;
     after = subst (λ (n : ℕ). IsWorldAfter c n world) (sym counted) (up-world c log up);
@@ -154,21 +155,21 @@ fewer-left (c ∷ cs) (d ∷ ds) = omega (
 module _ (s : ScriptValue) (key : Settings) (settings : configuration_in key ≡ s.config) (v : Known) (j : List Entry) (shared : List PartValue) (left : AreRemains key v j shared)
     (done : List ℕ) (worked : HasWorked s v.entries (lines_behind s.consumers done))
     (in_list : (s : ScriptValue) (entries : List (ℕ × Told)) (log : List Told) (left : List (List Line)) → HasWorked s entries left
-        → ((m : ℕ) (e : Told) → Has (m, e) entries → slice_get log m ≡ Some e) → ((m : ℕ) (e : Told) → slice_get log m ≡ Some e → Has (m, e) entries) → HasWorked s (numbered 0 log) left)
+    → ((m : ℕ) (e : Told) → Has (m, e) entries → slice_get log m ≡ Some e) → ((m : ℕ) (e : Told) → slice_get log m ≡ Some e → Has (m, e) entries) → HasWorked s (numbered 0 log) left)
     (of_script : (s : ScriptValue) (log : List Told) (left : List (List Line)) (es : List EntryValue) → IsUp s.config log → HasWorked s (numbered 0 log) left
-        → map (λ (e : EntryValue). e.event) es ≡ map (λ (e : Told). e.event) log → LeadsTo s es (stage_after s log es left))
+    → map (λ (e : EntryValue). e.event) es ≡ map (λ (e : Told). e.event) log → LeadsTo s es (stage_after s log es left))
     (p : Progress) (row_settings : configuration_in p.row.settings ≡ s.config) (parts : map value_of p.row.parts.items ≡ shared) (held : holding p.row.held ≡ nothing_held)
     (count : p.row.count ≡ length j) (history : p.history ≡ map entry_of j) (lines : p.done.items ≡ done) where
-  log : List Told
+  abbrev log : List Told
   log = left.history.log
 
-  es : List EntryValue
+  abbrev es : List EntryValue
   es = map entry_of j
 
   up : IsUp s.config log
   up = subst (λ c. IsUp c log) settings left.history.up
 
-  g : Stage
+  abbrev g : Stage
   g = stage_after s log es (lines_behind s.consumers done)
 
   events : map (λ (e : EntryValue). e.event) es ≡ map (λ (e : Told). e.event) log

@@ -74,27 +74,28 @@ module _ (clock n : ℕ) (verb : Verb) (line : Line) (low : clock ≤ n) (is : l
   -- lines that waited are done by the call behind them
   waited : (waiting : List Line) → AllWait clock waiting → AreDoneBy (waiting ++ line ∷ []) ((n, verb) ∷ [])
   waited [] waits = subst (λ what. IsDoneBy what ((n, verb) ∷ []) (AreDoneBy [])) (sym is) (refl, record {})
-  waited (w ∷ ws) waits = by w.what waits.0
+  waited (w ∷ ws) waits = by w.what waits.0 (waited ws waits.1)
     where
-      by : (what : What) → Waits clock what → IsDoneBy what ((n, verb) ∷ []) (AreDoneBy (ws ++ line ∷ []))
-      by (whats.Verb v) bad = absurd bad
-      by (whats.At t) less = (omega (arith, less, low), waited ws waits.1)
+      by : (what : What) → Waits clock what → AreDoneBy (ws ++ line ∷ []) ((n, verb) ∷ []) → IsDoneBy what ((n, verb) ∷ []) (AreDoneBy (ws ++ line ∷ []))
+      by (whats.Verb v) bad rest = absurd bad
+      by (whats.At t) less rest = (omega (arith, less, low), rest)
 
   -- and so are those before them, by the calls before it
   pub done-more : (waiting : List Line) → AllWait clock waiting → (done : List Line) (calls : List Call) → AreDoneBy done calls
       → AreDoneBy (done ++ (waiting ++ line ∷ [])) (calls ++ (n, verb) ∷ [])
   done-more waiting waits [] [] by = waited waiting waits
   done-more waiting waits [] (c ∷ cs) by = absurd by
-  done-more waiting waits (l ∷ ls) calls by = of l.what calls by
+  done-more waiting waits (l ∷ ls) calls by = of l.what calls by (λ cs done. done-more waiting waits ls cs done)
     where
-      of : (what : What) (cs : List Call) → IsDoneBy what cs (AreDoneBy ls) → IsDoneBy what (cs ++ (n, verb) ∷ []) (AreDoneBy (ls ++ (waiting ++ line ∷ [])))
-      of (whats.Verb v) [] done = absurd done
-      of (whats.Verb v) (c ∷ cs) done = (done.0, done-more waiting waits ls cs done.1)
-      of (whats.At t) cs done = (not-before-more t cs ((n, verb) ∷ []) done.0, done-more waiting waits ls cs done.1)
+      of : (what : What) (cs : List Call) → IsDoneBy what cs (AreDoneBy ls) → ((ds : List Call) → AreDoneBy ls ds → AreDoneBy (ls ++ (waiting ++ line ∷ [])) (ds ++ (n, verb) ∷ []))
+          → IsDoneBy what (cs ++ (n, verb) ∷ []) (AreDoneBy (ls ++ (waiting ++ line ∷ [])))
+      of (whats.Verb v) [] done rest = absurd done
+      of (whats.Verb v) (c ∷ cs) done rest = (done.0, rest cs done.1)
+      of (whats.At t) cs done rest = (not-before-more t cs ((n, verb) ∷ []) done.0, rest cs done.1)
 
 -- ---- lines that are left
 
-drop-nothing : (n : ℕ) → drop n ([] : List Line) ≡ []
+drop-nothing : (n : ℕ) → drop {A = Line} n [] ≡ []
 drop-nothing zero = refl
 drop-nothing (suc n) = refl
 

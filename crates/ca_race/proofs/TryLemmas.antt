@@ -1,6 +1,6 @@
 -- What a worker did after a look at the clock, and after a try. For proofs only.
-use Rattle.std.proofs.Common.{◌≡◌, ◌∙◌, refl, sym, ap, subst, ℕ, suc, ◌+◌, ◌%◌, ◌<◌, ◌≤◌, arith, inl, inr, List, [], ◌∷◌, ◌++◌, length, slice_index, slice_set}
-use Rattle.std.proofs.lemmas.List.{length-set}
+use Rattle.std.proofs.Common.{◌≡◌, ◌∙◌, refl, sym, ap, subst, ℕ, suc, ◌+◌, ◌%◌, ◌<◌, ◌≤◌, arith, inl, inr, List, [], ◌∷◌, ◌++◌, length, replicate, slice_index, slice_set}
+use Rattle.std.proofs.lemmas.List.{length-replicate, length-set}
 use Rattle.ca_base.specs.declared.settings.Settings.{Settings}
 use Rattle.ca_fabric_machine.specs.declared.asked.Asked.TheVariants as asks
 use Rattle.ca_fabric_machine.specs.declared.asked.Told.{Told}
@@ -10,10 +10,11 @@ use Rattle.ca_model.specs.declared.verb.Verb.{Verb}
 use Rattle.ca_order.specs.Order.{lines_of}
 use Rattle.ca_parts.specs.Lists.{Has}
 use Rattle.ca_parts.specs.Views.{with_look}
-use Rattle.ca_race.proofs.WorkLemmas.{own-more, turn-made, verb-called}
+use Rattle.ca_race.proofs.WorkLemmas.{begun, begun-own, own-more, turn-made, verb-called}
 use Rattle.ca_race.specs.Calls.{IsNextCall}
-use Rattle.ca_race.specs.Workers.{AreOwn, IsWorkOf}
+use Rattle.ca_race.specs.Workers.{AreOwn, IsAtWork, IsSameWorker, IsWorkOf}
 use Rattle.ca_race.specs.declared.work.Work.{Work}
+use Rattle.ca_race.specs.declared.worker.Worker.{Worker}
 use Rattle.ca_race_laws.specs.Work.{HasWorked, IsWorkersTurn}
 use Rattle.ca_script.specs.Script.{ScriptValue}
 use Rattle.ca_script_run.specs.Progress.{lines_behind}
@@ -29,6 +30,35 @@ use Rattle.ca_verbs.specs.declared.pass.Receipt.{Receipt}
 has-last : {A : Type 0} (xs : List A) (x : A) → Has x (xs ++ x ∷ [])
 has-last [] x = inl refl
 has-last (y ∷ ys) x = inr (has-last ys x)
+
+-- a worker that did nothing yet
+pub begun-work : (fabric : Fabric) (s : ScriptValue) (first end workers : ℕ) (w : Work) → IsOf fabric w.pass → (known_of w.pass).entries ≡ [] → w.done.items ≡ replicate (length s.consumers) 0
+    → IsWorkOf fabric s first end workers w
+begun-work fabric s first end workers w of none done = record {
+  pass = of;
+  worked = subst (λ es. HasWorked s es (lines_behind s.consumers w.done.items)) (sym none) (subst (λ d. HasWorked s [] (lines_behind s.consumers d)) (sym done) (begun s));
+  own = subst (AreOwn first end workers) (sym done) (begun-own first end workers (length s.consumers));
+  count = ap length done ∙ length-replicate (length s.consumers) 0;
+}
+
+-- more workers have no more done
+pub wider : (fabric : Fabric) (s : ScriptValue) (first end more workers : ℕ) (w : Work) → IsWorkOf fabric s first end workers w → end ≤ more → IsWorkOf fabric s first more workers w
+wider fabric s first end more workers w at less = record {
+  pass = at.pass;
+  worked = at.worked;
+  own = λ k some. let is = at.own k some in (is.0, omega (arith, is.1, less));
+  count = at.count;
+}
+
+-- a worker with the same number and the same work
+pub same-worker : (fabric : Fabric) (s : ScriptValue) (v w : Worker) → IsSameWorker v w → w.work ≡ v.work → IsAtWork fabric s v → IsAtWork fabric s w
+same-worker fabric s v w same work at =
+    subst (λ n. IsWorkOf fabric s n (suc n) w.workers w.work) (sym same.0)
+    (subst (λ n. IsWorkOf fabric s v.number (suc v.number) n w.work) (sym same.1) (subst (IsWorkOf fabric s v.number (suc v.number) v.workers) (sym work) at))
+
+-- a worker with the same number, of any work
+pub same-number : (fabric : Fabric) (s : ScriptValue) (v w : Worker) (u : Work) → IsSameWorker v w → IsWorkOf fabric s v.number (suc v.number) v.workers u → IsWorkOf fabric s w.number (suc w.number) w.workers u
+same-number fabric s v w u same at = subst (λ n. IsWorkOf fabric s n (suc n) w.workers u) (sym same.0) (subst (λ n. IsWorkOf fabric s v.number (suc v.number) n u) (sym same.1) at)
 
 module _ (fabric : Fabric) (s : ScriptValue) (first end workers : ℕ) (w : Work) (at : IsWorkOf fabric s first end workers w) where
   -- the pass has the same entries

@@ -61,10 +61,10 @@ module _ (s : ScriptValue) (entries : List (ℕ × Told)) (done : List ℕ) (k n
     (worked : HasWorked s entries (lines_behind s.consumers done)) (count : length done ≡ length s.consumers) (there : k < length done)
     (next : IsNextCall (lines_of k s.consumers) (slice_index done k) at clock verb)
     (later : (m : ℕ) (e : Told) → Has (m, e) entries → m < n) (low : clock ≤ n) where
-  entry : ℕ × Told
+  abbrev pub entry : ℕ × Told
   entry = (n, told_of (asks.Event (events.Verb k verb)) (events.Verb k verb) marks)
 
-  after : List ℕ
+  abbrev pub after : List ℕ
   after = slice_set done k (at + 1)
 
   count-after : length after ≡ length s.consumers
@@ -125,7 +125,7 @@ own-more first end workers done k n own low high j some = by (k == j) refl
 
 -- ---- two together
 
-both-own : (first middle end workers : ℕ) (lower upper both : List ℕ) → AreOwn first middle workers lower → AreOwn middle end workers upper → AreBoth lower upper both → first ≤ middle → middle ≤ end
+pub both-own : (first middle end workers : ℕ) (lower upper both : List ℕ) → AreOwn first middle workers lower → AreOwn middle end workers upper → AreBoth lower upper both → first ≤ middle → middle ≤ end
     → AreOwn first end workers both
 both-own first middle end workers lower upper both low up are one two k some = by (slice_index lower k == 0) refl
   where

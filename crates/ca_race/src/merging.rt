@@ -1,6 +1,7 @@
-ghost use Rattle.std.specs.Prelude.{◌≡◌, ℕ, IfOk, length};
+ghost use Rattle.std.specs.Prelude.{◌≡◌, ◌≤◌, ℕ, IfOk, length};
 ghost use Rattle.ca_race.specs.Workers.{AreBoth, IsWorkOf};
 ghost use Rattle.ca_script.specs.Script.{ScriptValue};
+ghost use Rattle.ca_verbs.specs.Passes.{IsOf};
 
 use crate::work::Work;
 use ca_base::Memory;
@@ -8,10 +9,11 @@ use ca_verbs::Fabric;
 
 /// What some workers and others did, as the work of all of them. Want of memory is the only refusal.
 pub(crate) fn merge(fabric: &Fabric, lower: Work, upper: Work) -> Result<Work, Memory>
-    requires { (s : ScriptValue) × (first : ℕ) × (middle : ℕ) × (end : ℕ) × (workers : ℕ)
-        × IsWorkOf fabric.now s first middle workers lower × IsWorkOf fabric.now s middle end workers upper }
-    ensures { (s : ScriptValue) (first middle end workers : ℕ) → IsWorkOf fabric.now s first middle workers lower
-        → IsWorkOf fabric.now s middle end workers upper
+    requires lower { IsOf fabric.now lower.pass }
+    requires upper { IsOf fabric.now upper.pass }
+    requires count { length lower.done.items ≡ length upper.done.items }
+    ensures { (s : ScriptValue) (first middle end workers : ℕ) → first ≤ middle → middle ≤ end
+        → IsWorkOf fabric.now s first middle workers lower → IsWorkOf fabric.now s middle end workers upper
         → IfOk result (λ both. IsWorkOf fabric.now s first end workers both) }
 {
     let Work { mut pass, mut done } = lower;

@@ -44,7 +44,7 @@ fn visit_consumer<G: Gate>(
     ensures work { OnOk result (IsAtWork fabric.now (script_value script.now) worker.new) }
     ensures same { IsSameWorker worker.old worker.new }
 {
-    if consumer.checked_rem(worker.workers) != Some(worker.number) {
+    if !worker.is_own(consumer) {
         return Ok(Outcome::Ended);
     }
     let Some(next) = next_call(script, worker.work.done.as_slice(), consumer) else {

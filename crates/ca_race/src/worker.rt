@@ -1,8 +1,8 @@
-ghost use Rattle.std.specs.Prelude.{◌≡◌, ◌<◌, ◌^◌, [], suc, IfOk, length};
+ghost use Rattle.std.specs.Prelude.{◌≡◌, ◌<◌, ◌%◌, ◌^◌, [], suc, true, IfOk, length};
 ghost use Rattle.ca_race.specs.Workers.{IsAtWork, IsSameWorker, IsWorkOf};
 ghost use Rattle.ca_script.specs.Script.{script_value};
 ghost use Rattle.ca_verbs.specs.Passes.{IsOf, known_of};
-ghost use Rattle.ca_verbs.specs.declared.fabric as fabric;
+ghost use Rattle.ca_verbs.specs.declared.fabric.Fabric as shared;
 
 use crate::visits::visit;
 use crate::work::Work;
@@ -37,8 +37,8 @@ impl Worker {
         pass: Pass,
     ) -> Result<Worker, Memory>
         ensures worker { IfOk result (λ worker. (worker.number ≡ number) × (worker.workers ≡ workers)) }
-        ensures work { (fabric : fabric.Fabric) → IsOf fabric pass → (known_of pass).entries ≡ []
-            → IfOk result (λ worker. IsAtWork fabric (script_value script.now) worker) }
+        ensures work { IfOk result (λ worker. (fabric : shared.Fabric) → IsOf fabric pass
+            → (known_of pass).entries ≡ [] → IsAtWork fabric (script_value script.now) worker) }
     {
         let done = vec![in alloc; 0; script.consumers.as_slice().len()]?;
         Ok(Worker {
@@ -47,6 +47,13 @@ impl Worker {
             calls: 0,
             work: Work { pass, done },
         })
+    }
+
+    /// Whether a consumer is one of this worker's.
+    pub(crate) fn is_own(&self, consumer: u32) -> bool
+        ensures { result ≡ true → consumer % self.now.workers ≡ self.now.number }
+    {
+        self.workers > 0 && consumer % self.workers == self.number
     }
 
     /// Goes through the gate before a call on the fabric.

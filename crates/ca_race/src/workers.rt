@@ -51,9 +51,12 @@ pub(crate) fn work_all<R: Threads + Wait + Sync, G: Gate + Sync>(
         let worker = Worker::begin(alloc, script, first, workers, pass)?;
         return work(rt, alloc, fabric, script, gate, worker);
     }
-    let Ok(other) = fabric.split(&mut pass) else {
-        let worker = Worker::begin(alloc, script, first, workers, pass)?;
-        return work(rt, alloc, fabric, script, gate, worker);
+    let other = match fabric.split(&mut pass) {
+        Ok(other) => other,
+        Err(_) => {
+            let worker = Worker::begin(alloc, script, first, workers, pass)?;
+            return work(rt, alloc, fabric, script, gate, worker);
+        }
     };
     let middle = first + half;
     let (lower, upper) = join(

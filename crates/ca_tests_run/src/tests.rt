@@ -86,14 +86,7 @@ fn raced<R: Threads + Wait + Sync, G: Gate + Sync>(
     words.push(String::from_str(alloc, workers).ok()?).ok()?;
     let mut source = SureSource::new(Vec::from_slice(alloc, PAIR.as_bytes()).ok()?);
     let mut sink = SureSink::new(alloc, ROOM).ok()?;
-    let status = run(
-        rt,
-        alloc,
-        words.as_slice(),
-        &mut source,
-        &mut sink,
-        gate,
-    );
+    let status = run(rt, alloc, words.as_slice(), &mut source, &mut sink, gate);
     if exit_code(&status) != 0 {
         return None;
     }
