@@ -1,5 +1,12 @@
+ghost use Rattle.std.specs.Prelude.{◌≡◌};
+ghost use Rattle.ca_verbs.specs.Passes.{IsOf};
+
 use arrayvec::ArrayVec;
 use ca_base::{AdapterConfig, Config};
+use ca_model::Entry;
+use ca_verbs::{CloseError, Fabric, Pass, Receipt, TryError};
+use std::alloc::Global;
+use std::process::Abort;
 
 // The bytes of each buffer.
 pub(super) const BUFFER_BYTES: u32 = 64;
@@ -28,4 +35,69 @@ pub(super) fn config(events: u32) -> Config {
     let _fits = adapters.try_push(adapter(4, 4, 1));
     let _fits = adapters.try_push(adapter(1, 1, 4));
     Config { adapters, events }
+}
+
+// What was counted is what is wanted.
+pub(super) fn is(rt: &impl Abort, what: &str, got: Option<u64>, want: u64) {
+    assert!(rt; got == Some(want), "{what}: {got:?}, and not {want}");
+}
+
+// The stamp of what was made.
+pub(super) fn stamp(tried: Result<Receipt, TryError>) -> Option<u64> {
+    match tried {
+        Ok(receipt) => Some(receipt.stamp),
+        Err(_) => None,
+    }
+}
+
+// A fabric that starts, and its first pass.
+pub(super) fn started(rt: &impl Abort, alloc: Global, config: Config) -> (Fabric, Pass)
+    ensures { IsOf result.0 result.1 }
+{
+    match Fabric::start(alloc, config) {
+        Ok(both) => both,
+        Err(_) => panic!(rt; "the fabric starts"),
+    }
+}
+
+// The upper half of a pass that has two numbers left.
+pub(super) fn upper_half(rt: &impl Abort, fabric: &Fabric, pass: &mut Pass) -> Pass
+    requires { IsOf fabric.now pass.old }
+    ensures { IsOf fabric.now pass.new × IsOf fabric.now result }
+{
+    match fabric.split(pass) {
+        Ok(upper) => upper,
+        Err(_) => panic!(rt; "two numbers are left"),
+    }
+}
+
+// Joins a pass to another.
+pub(super) fn join_to(rt: &impl Abort, fabric: &Fabric, into: &mut Pass, other: Pass)
+    requires { IsOf fabric.now into.old × IsOf fabric.now other }
+    ensures { IsOf fabric.now into.new }
+{
+    if fabric.join(into, other).is_err() {
+        panic!(rt; "the passes are joined")
+    }
+}
+
+// A fabric is not closed while a pass is out: both come back.
+pub(super) fn kept_open(rt: &impl Abort, fabric: Fabric, pass: Pass) -> (Fabric, Pass)
+    requires { IsOf fabric pass }
+    ensures { (result.0 ≡ fabric) × (result.1 ≡ pass) }
+{
+    match fabric.close(pass) {
+        Err(CloseError::PassOut(kept, back)) => (kept, back),
+        _ => panic!(rt; "a pass is out"),
+    }
+}
+
+// The history of a fabric of which no pass is out.
+pub(super) fn history_of(rt: &impl Abort, fabric: Fabric, pass: Pass) -> Vec<Entry>
+    requires { IsOf fabric pass }
+{
+    match fabric.close(pass) {
+        Ok(history) => history,
+        Err(_) => panic!(rt; "no pass is out"),
+    }
 }

@@ -1,7 +1,7 @@
 ghost use Rattle.std.specs.Thread.{IsSync};
 ghost use Rattle.ca_verbs.specs.Passes.{IsOf};
 
-use crate::tests::beds::{BUFFER_BYTES, config};
+use crate::tests::beds::{BUFFER_BYTES, config, history_of, is, join_to, started, upper_half};
 use arrayvec::ArrayVec;
 use ca_base::{DomainId, Key, Piece, QueueId, SendOp, SendRequest, Slot, Verdict, first_address};
 use ca_bed_fabric::{answer, call, queue_pair, region, turn};
@@ -10,7 +10,6 @@ use ca_turns::Turn;
 use ca_verbs::{Fabric, Pass};
 use std::process::Abort;
 use std::sync::Wait;
-use std::test::Fail;
 use std::thread::{Threads, join};
 
 // How many fetch and adds each consumer makes.
@@ -205,23 +204,46 @@ fn posts_and_polls(history: &[Entry]) -> (u64, u64) {
     (posts, polls)
 }
 
+// The number of adapter 1, as a load of its bytes gives it.
+fn number_is<R: Wait + Abort>(rt: &R, fabric: &Fabric, pass: &mut Pass, want: u64)
+    requires { IsOf fabric.now pass.old }
+    ensures { IsOf fabric.now pass.new }
+{
+    let load = Verb::Load {
+        adapter: 1,
+        buffer: 0,
+        offset: 0,
+        length: 8,
+    };
+    if call(rt, fabric, pass, 0, &load).is_none() {
+        panic!(rt; "the number is loaded")
+    }
+    match answer(pass) {
+        Some(Answer::Loaded(bytes)) => {
+            assert!(rt; bytes.as_slice() == want.to_le_bytes().as_slice());
+        }
+        _ => panic!(rt; "the number is there"),
+    }
+}
+
+// Registers the number of adapter 1; the key of its region.
+fn key_of_number<R: Wait + Abort>(rt: &R, fabric: &Fabric, pass: &mut Pass) -> Key
+    requires { IsOf fabric.now pass.old }
+    ensures { IsOf fabric.now pass.new }
+{
+    match region(rt, fabric, pass, 0, SHARED, 0, BUFFER_BYTES) {
+        Some(key) => key,
+        None => panic!(rt; "the number is registered"),
+    }
+}
+
 #[test]
-fn four_threads_add_to_one_number(rt: HostRuntime) -> Result<(), Fail> {
-    let Ok((fabric, mut first)) = Fabric::start(rt.alloc(), config(100_000)) else {
-        panic!(rt; "the fabric starts")
-    };
-    let Some(key) = region(&rt, &fabric, &mut first, 0, SHARED, 0, BUFFER_BYTES) else {
-        panic!(rt; "the number is registered")
-    };
-    let Ok(mut third) = fabric.split(&mut first) else {
-        panic!(rt; "two numbers are left")
-    };
-    let Ok(second) = fabric.split(&mut first) else {
-        panic!(rt; "two numbers are left")
-    };
-    let Ok(fourth) = fabric.split(&mut third) else {
-        panic!(rt; "two numbers are left")
-    };
+fn four_threads_add_to_one_number(rt: HostRuntime) {
+    let (fabric, mut first) = started(&rt, rt.alloc(), config(100_000));
+    let key = key_of_number(&rt, &fabric, &mut first);
+    let mut third = upper_half(&rt, &fabric, &mut first);
+    let second = upper_half(&rt, &fabric, &mut first);
+    let fourth = upper_half(&rt, &fabric, &mut third);
     let shared = &fabric;
     let runtime = &rt;
     let ((mut first, second), (third, fourth)) = join(
@@ -235,31 +257,18 @@ fn four_threads_add_to_one_number(rt: HostRuntime) -> Result<(), Fail> {
             ensures { IsOf shared.entry.now result.0 × IsOf shared.entry.now result.1 }
         { consume_two(runtime, shared, third, fourth, 2, key) },
     );
-    if fabric.join(&mut first, second).is_err()
-        || fabric.join(&mut first, third).is_err()
-        || fabric.join(&mut first, fourth).is_err()
-    {
-        panic!(rt; "the passes are joined")
-    }
-    let load = Verb::Load {
-        adapter: 1,
-        buffer: 0,
-        offset: 0,
-        length: 8,
-    };
-    if call(&rt, &fabric, &mut first, 0, &load).is_none() {
-        panic!(rt; "the number is loaded")
-    }
-    match answer(&first) {
-        Some(Answer::Loaded(bytes)) => {
-            assert!(rt; bytes.as_slice() == 10_000u64.to_le_bytes().as_slice());
-        }
-        _ => panic!(rt; "the number is there"),
-    }
-    let Ok(history) = fabric.close(first) else {
-        panic!(rt; "no pass is out")
-    };
-    assert!(rt; posts_and_polls(history.as_slice()) == (10_000, 10_000));
-    assert!(rt; swaps(history.as_slice(), key) == Some(10_000));
-    Ok(())
+    join_to(&rt, &fabric, &mut first, second);
+    join_to(&rt, &fabric, &mut first, third);
+    join_to(&rt, &fabric, &mut first, fourth);
+    number_is(&rt, &fabric, &mut first, 10_000);
+    let history = history_of(&rt, fabric, first);
+    let (posts, polls) = posts_and_polls(history.as_slice());
+    is(&rt, "what was posted", Some(posts), 10_000);
+    is(&rt, "what was polled", Some(polls), 10_000);
+    is(
+        &rt,
+        "what was added",
+        swaps(history.as_slice(), key),
+        10_000,
+    );
 }
