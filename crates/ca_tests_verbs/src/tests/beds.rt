@@ -1,10 +1,9 @@
-ghost use Rattle.std.specs.Prelude.{◌≡◌};
 ghost use Rattle.ca_verbs.specs.Passes.{IsOf};
 
 use arrayvec::ArrayVec;
 use ca_base::{AdapterConfig, Config};
 use ca_model::Entry;
-use ca_verbs::{CloseError, Fabric, Pass, Receipt, TryError};
+use ca_verbs::{CloseError, Fabric, Pass};
 use std::alloc::Global;
 use std::process::Abort;
 
@@ -42,14 +41,6 @@ pub(super) fn is(rt: &impl Abort, what: &str, got: Option<u64>, want: u64) {
     assert!(rt; got == Some(want), "{what}: {got:?}, and not {want}");
 }
 
-// The stamp of what was made.
-pub(super) fn stamp(tried: Result<Receipt, TryError>) -> Option<u64> {
-    match tried {
-        Ok(receipt) => Some(receipt.stamp),
-        Err(_) => None,
-    }
-}
-
 // A fabric that starts, and its first pass.
 pub(super) fn started(rt: &impl Abort, alloc: Global, config: Config) -> (Fabric, Pass)
     ensures { IsOf result.0 result.1 }
@@ -81,13 +72,21 @@ pub(super) fn join_to(rt: &impl Abort, fabric: &Fabric, into: &mut Pass, other: 
     }
 }
 
-// A fabric is not closed while a pass is out: both come back.
-pub(super) fn kept_open(rt: &impl Abort, fabric: Fabric, pass: Pass) -> (Fabric, Pass)
-    requires { IsOf fabric pass }
-    ensures { (result.0 ≡ fabric) × (result.1 ≡ pass) }
+// A fabric is not closed while a pass is out: what comes back is joined with the pass that is out.
+pub(super) fn joined_when_refused(
+    rt: &impl Abort,
+    fabric: Fabric,
+    pass: Pass,
+    out: Pass,
+) -> (Fabric, Pass)
+    requires { IsOf fabric pass × IsOf fabric out }
+    ensures { IsOf result.0 result.1 }
 {
     match fabric.close(pass) {
-        Err(CloseError::PassOut(kept, back)) => (kept, back),
+        Err(CloseError::PassOut(kept, mut back)) => {
+            join_to(rt, &kept, &mut back, out);
+            (kept, back)
+        }
         _ => panic!(rt; "a pass is out"),
     }
 }

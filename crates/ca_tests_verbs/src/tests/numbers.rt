@@ -87,25 +87,49 @@ fn set_up<R: Wait>(rt: &R, fabric: &Fabric, pass: &mut Pass, consumer: u8) -> Op
     Some(own)
 }
 
+// Polls the completion of a consumer.
+fn poll<R: Wait>(rt: &R, fabric: &Fabric, pass: &mut Pass, consumer: u8) -> Option<()>
+    requires { IsOf fabric.now pass.old }
+    ensures { IsOf fabric.now pass.new }
+{
+    let poll = Verb::Poll {
+        slot: own_slot(consumer),
+        n: 1,
+        least: 1,
+    };
+    call(rt, fabric, pass, consumer, &poll)
+}
+
 // Posts a fetch and add, brings it to the peer and the answer back, and polls its completion.
 fn add<R: Wait>(rt: &R, fabric: &Fabric, pass: &mut Pass, consumer: u8, post: &Verb) -> Option<()>
     requires { IsOf fabric.now pass.old }
     ensures { IsOf fabric.now pass.new }
 {
-    let slot = own_slot(consumer);
-    let requester = QueueId::of_slot(slot);
+    let requester = QueueId::of_slot(own_slot(consumer));
     let responder = QueueId::of_slot(peer_slot(consumer));
-    let poll = Verb::Poll {
-        slot,
-        n: 1,
-        least: 1,
-    };
     call(rt, fabric, pass, consumer, post)?;
     turn(rt, fabric, pass, Turn::Request(requester))?;
     turn(rt, fabric, pass, Turn::Due(responder))?;
     turn(rt, fabric, pass, Turn::Respond(responder))?;
     turn(rt, fabric, pass, Turn::Due(requester))?;
-    call(rt, fabric, pass, consumer, &poll)
+    poll(rt, fabric, pass, consumer)
+}
+
+// Makes this request as often as a consumer does; None where one is not made.
+fn add_all<R: Wait>(
+    rt: &R,
+    fabric: &Fabric,
+    pass: &mut Pass,
+    consumer: u8,
+    post: &Verb,
+) -> Option<()>
+    requires { IsOf fabric.now pass.old }
+    ensures { IsOf fabric.now pass.new }
+{
+    for _ in 0..ADDS {
+        add(rt, fabric, pass, consumer, post)?;
+    }
+    Some(())
 }
 
 // What a consumer does with its pass. It ends at the first call that is not made.
@@ -113,14 +137,9 @@ fn consume<R: Wait>(rt: &R, fabric: &Fabric, mut pass: Pass, consumer: u8, key: 
     requires { IsOf fabric.now pass }
     ensures { IsOf fabric.now result }
 {
-    let Some(own) = set_up(rt, fabric, &mut pass, consumer) else {
-        return pass;
-    };
-    let post = one_more(consumer, own, key);
-    for _ in 0..ADDS {
-        if add(rt, fabric, &mut pass, consumer, &post).is_none() {
-            return pass;
-        }
+    if let Some(own) = set_up(rt, fabric, &mut pass, consumer) {
+        let post = one_more(consumer, own, key);
+        let _ = add_all(rt, fabric, &mut pass, consumer, &post);
     }
     pass
 }
@@ -204,8 +223,8 @@ fn posts_and_polls(history: &[Entry]) -> (u64, u64) {
     (posts, polls)
 }
 
-// The number of adapter 1, as a load of its bytes gives it.
-fn number_is<R: Wait + Abort>(rt: &R, fabric: &Fabric, pass: &mut Pass, want: u64)
+// Loads the bytes of the number of adapter 1.
+fn load<R: Wait>(rt: &R, fabric: &Fabric, pass: &mut Pass) -> Option<()>
     requires { IsOf fabric.now pass.old }
     ensures { IsOf fabric.now pass.new }
 {
@@ -215,7 +234,15 @@ fn number_is<R: Wait + Abort>(rt: &R, fabric: &Fabric, pass: &mut Pass, want: u6
         offset: 0,
         length: 8,
     };
-    if call(rt, fabric, pass, 0, &load).is_none() {
+    call(rt, fabric, pass, 0, &load)
+}
+
+// The number of adapter 1, as a load of its bytes gives it.
+fn number_is<R: Wait + Abort>(rt: &R, fabric: &Fabric, pass: &mut Pass, want: u64)
+    requires { IsOf fabric.now pass.old }
+    ensures { IsOf fabric.now pass.new }
+{
+    if load(rt, fabric, pass).is_none() {
         panic!(rt; "the number is loaded")
     }
     match answer(pass) {

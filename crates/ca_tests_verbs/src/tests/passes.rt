@@ -1,6 +1,6 @@
 ghost use Rattle.ca_verbs.specs.Passes.{IsOf};
 
-use crate::tests::beds::{history_of, is, join_to, kept_open, stamp, started, upper_half};
+use crate::tests::beds::{history_of, is, join_to, joined_when_refused, started, upper_half};
 use arrayvec::ArrayVec;
 use ca_base::{AdapterConfig, Config, DomainId, Slot};
 use ca_model::{Entry, Verb};
@@ -53,34 +53,49 @@ fn latest_stamp(pass: &Pass) -> Option<u64> {
     Some(pass.latest()?.stamp)
 }
 
-#[test]
-fn the_history_of_two_passes_is_in_the_order_of_their_stamps(rt: HostRuntime) {
-    let open = Verb::AllocPd {
-        domain: domain_of(0),
-    };
-    let other = Verb::AllocPd {
-        domain: domain_of(1),
-    };
-    let queue = Verb::CreateCq {
+// The verb that opens the domain of this adapter.
+fn open(adapter: u8) -> Verb {
+    Verb::AllocPd {
+        domain: domain_of(adapter),
+    }
+}
+
+// The verb that creates the completion queue of adapter 0.
+fn queue() -> Verb {
+    Verb::CreateCq {
         slot: Slot {
             domain: domain_of(0),
             slot: 0,
         },
         capacity: 8,
-    };
+    }
+}
+
+// The stamp of a verb that is tried once; None where it is not made.
+fn stamp_of(fabric: &Fabric, pass: &mut Pass, by: u32, verb: Verb) -> Option<u64>
+    requires { IsOf fabric.now pass.old }
+    ensures { IsOf fabric.now pass.new }
+{
+    match fabric.try_verb(pass, by, &verb) {
+        Ok(receipt) => Some(receipt.stamp),
+        Err(_) => None,
+    }
+}
+
+#[test]
+fn the_history_of_two_passes_is_in_the_order_of_their_stamps(rt: HostRuntime) {
     let (fabric, mut first) = started(&rt, rt.alloc(), config(2, 10, 1));
     let mut second = upper_half(&rt, &fabric, &mut first);
-    let made = stamp(fabric.try_verb(&mut first, 0, &open));
+    let made = stamp_of(&fabric, &mut first, 0, open(0));
     is(&rt, "the first verb", made, 0);
-    let made = stamp(fabric.try_verb(&mut second, 1, &other));
+    let made = stamp_of(&fabric, &mut second, 1, open(1));
     is(&rt, "the second verb", made, 1);
-    let made = stamp(fabric.try_verb(&mut first, 0, &queue));
+    let made = stamp_of(&fabric, &mut first, 0, queue());
     is(&rt, "the third verb", made, 2);
     let clock = fabric.clock(&mut second);
     is(&rt, "the clock", Some(clock), 3);
     is(&rt, "the latest entry", latest_stamp(&first), 2);
-    let (fabric, mut first) = kept_open(&rt, fabric, first);
-    join_to(&rt, &fabric, &mut first, second);
+    let (fabric, first) = joined_when_refused(&rt, fabric, first, second);
     let history = history_of(&rt, fabric, first);
     is(&rt, "the history", in_order(history.as_slice()), 3);
 }
@@ -90,9 +105,7 @@ fn open_domain(fabric: &Fabric, mut pass: Pass, adapter: u8, count: u32) -> Pass
     requires { IsOf fabric.now pass }
     ensures { IsOf fabric.now result }
 {
-    let open = Verb::AllocPd {
-        domain: domain_of(adapter),
-    };
+    let open = open(adapter);
     for _ in 0..count {
         open_once(fabric, &mut pass, &open);
     }

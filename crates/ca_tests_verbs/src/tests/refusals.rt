@@ -12,6 +12,17 @@ use std::alloc::Global;
 use std::process::Abort;
 use std::sync::Wait;
 
+// The domain of adapter 0, and its completion queue and queue pair.
+const DOMAIN: DomainId = DomainId {
+    adapter: 0,
+    domain: 0,
+};
+
+const SLOT: Slot = Slot {
+    domain: DOMAIN,
+    slot: 0,
+};
+
 // The entries before the look that found a queue empty.
 fn empty_after(tried: Result<Receipt, TryError>) -> Option<u64> {
     match tried {
@@ -20,52 +31,74 @@ fn empty_after(tried: Result<Receipt, TryError>) -> Option<u64> {
     }
 }
 
-// The entries of a history that is full.
-fn full_at(tried: Result<Receipt, TryError>) -> Option<u64> {
-    match tried {
+// The same of a turn of the mailbox.
+fn nothing_is_due<R: Wait>(rt: &R, fabric: &Fabric, pass: &mut Pass) -> Option<u64>
+    requires { IsOf fabric.now pass.old }
+    ensures { IsOf fabric.now pass.new }
+{
+    let due = Turn::Due(QueueId::of_slot(SLOT));
+    empty_after(fabric.turn(rt, pass, due, &Weather::Calm))
+}
+
+// The same of a poll of the completion queue.
+fn nothing_is_polled<R: Wait>(rt: &R, fabric: &Fabric, pass: &mut Pass) -> Option<u64>
+    requires { IsOf fabric.now pass.old }
+    ensures { IsOf fabric.now pass.new }
+{
+    let poll = Verb::Poll {
+        slot: SLOT,
+        n: 1,
+        least: 1,
+    };
+    empty_after(fabric.verb(rt, pass, 0, &poll))
+}
+
+// A verb that consumer 0 calls, and that is made.
+fn calls<R: Wait + Abort>(rt: &R, fabric: &Fabric, pass: &mut Pass, verb: Verb)
+    requires { IsOf fabric.now pass.old }
+    ensures { IsOf fabric.now pass.new }
+{
+    let made = call(rt, fabric, pass, 0, &verb);
+    assert!(rt; made.is_some());
+}
+
+// The domain is opened at one try.
+fn opens(rt: &impl Abort, fabric: &Fabric, pass: &mut Pass)
+    requires { IsOf fabric.now pass.old }
+    ensures { IsOf fabric.now pass.new }
+{
+    let tried = fabric.try_verb(pass, 0, &Verb::AllocPd { domain: DOMAIN });
+    assert!(rt; tried.is_ok());
+}
+
+// The entries of a history that is too full to open the domain.
+fn full_at(fabric: &Fabric, pass: &mut Pass) -> Option<u64>
+    requires { IsOf fabric.now pass.old }
+    ensures { IsOf fabric.now pass.new }
+{
+    match fabric.try_verb(pass, 0, &Verb::AllocPd { domain: DOMAIN }) {
         Err(TryError::HistoryFull(entries)) => Some(entries),
         _ => None,
     }
 }
 
-// A verb that is called by consumer 0.
-fn calls<R: Wait + Abort>(rt: &R, fabric: &Fabric, pass: &mut Pass, verb: &Verb)
-    requires { IsOf fabric.now pass.old }
-    ensures { IsOf fabric.now pass.new }
-{
-    assert!(rt; call(rt, fabric, pass, 0, verb).is_some());
-}
-
-// A verb that consumer 0 tries once, and that is made.
-fn tries(rt: &impl Abort, fabric: &Fabric, pass: &mut Pass, verb: &Verb)
-    requires { IsOf fabric.now pass.old }
-    ensures { IsOf fabric.now pass.new }
-{
-    assert!(rt; fabric.try_verb(pass, 0, verb).is_ok());
-}
-
 #[test]
 fn what_is_not_ready_names_the_entries_before_its_look(rt: HostRuntime) {
-    let domain = DomainId {
-        adapter: 0,
-        domain: 0,
-    };
-    let slot = Slot { domain, slot: 0 };
-    let due = Turn::Due(QueueId::of_slot(slot));
-    let poll = Verb::Poll {
-        slot,
-        n: 1,
-        least: 1,
-    };
-    let open = Verb::AllocPd { domain };
-    let create = Verb::CreateCq { slot, capacity: 8 };
     let (fabric, mut pass) = started(&rt, rt.alloc(), config(10));
-    let tried = empty_after(fabric.turn(&rt, &mut pass, due, &Weather::Calm));
-    is(&rt, "nothing is due", tried, 0);
-    calls(&rt, &fabric, &mut pass, &open);
-    calls(&rt, &fabric, &mut pass, &create);
-    let tried = empty_after(fabric.verb(&rt, &mut pass, 0, &poll));
-    is(&rt, "the queue holds no completion", tried, 2);
+    let entries = nothing_is_due(&rt, &fabric, &mut pass);
+    is(&rt, "nothing is due", entries, 0);
+    calls(&rt, &fabric, &mut pass, Verb::AllocPd { domain: DOMAIN });
+    calls(
+        &rt,
+        &fabric,
+        &mut pass,
+        Verb::CreateCq {
+            slot: SLOT,
+            capacity: 8,
+        },
+    );
+    let entries = nothing_is_polled(&rt, &fabric, &mut pass);
+    is(&rt, "the queue holds no completion", entries, 2);
     let clock = fabric.clock(&mut pass);
     is(&rt, "the clock", Some(clock), 2);
 }
@@ -112,16 +145,10 @@ fn the_most_parts_start_and_one_more_does_not(rt: HostRuntime) {
 
 #[test]
 fn a_history_of_three_entries_is_full(rt: HostRuntime) {
-    let open = Verb::AllocPd {
-        domain: DomainId {
-            adapter: 0,
-            domain: 0,
-        },
-    };
     let (fabric, mut pass) = started(&rt, rt.alloc(), config(3));
-    tries(&rt, &fabric, &mut pass, &open);
-    tries(&rt, &fabric, &mut pass, &open);
-    tries(&rt, &fabric, &mut pass, &open);
-    let tried = full_at(fabric.try_verb(&mut pass, 0, &open));
-    is(&rt, "the history", tried, 3);
+    opens(&rt, &fabric, &mut pass);
+    opens(&rt, &fabric, &mut pass);
+    opens(&rt, &fabric, &mut pass);
+    let entries = full_at(&fabric, &mut pass);
+    is(&rt, "the history has three entries", entries, 3);
 }
