@@ -41,6 +41,11 @@ pub(super) fn is(rt: &impl Abort, what: &str, got: Option<u64>, want: u64) {
     assert!(rt; got == Some(want), "{what}: {got:?}, and not {want}");
 }
 
+// A verb was made.
+pub(super) fn is_made(rt: &impl Abort, made: bool) {
+    assert!(rt; made, "a verb is made");
+}
+
 // A fabric that starts, and its first pass.
 pub(super) fn started(rt: &impl Abort, alloc: Global, config: Config) -> (Fabric, Pass)
     ensures { IsOf result.0 result.1 }
@@ -67,7 +72,7 @@ pub(super) fn join_to(rt: &impl Abort, fabric: &Fabric, into: &mut Pass, other: 
     requires { IsOf fabric.now into.old × IsOf fabric.now other }
     ensures { IsOf fabric.now into.new }
 {
-    if fabric.join(into, other).is_err() {
+    if fabric.join(into, other).ok().is_none() {
         panic!(rt; "the passes are joined")
     }
 }

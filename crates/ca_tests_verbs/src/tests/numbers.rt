@@ -1,7 +1,9 @@
 ghost use Rattle.std.specs.Thread.{IsSync};
 ghost use Rattle.ca_verbs.specs.Passes.{IsOf};
 
-use crate::tests::beds::{BUFFER_BYTES, config, history_of, is, join_to, started, upper_half};
+use crate::tests::beds::{
+    BUFFER_BYTES, config, history_of, is, is_made, join_to, started, upper_half,
+};
 use arrayvec::ArrayVec;
 use ca_base::{DomainId, Key, Piece, QueueId, SendOp, SendRequest, Slot, Verdict, first_address};
 use ca_bed_fabric::{answer, call, queue_pair, region, turn};
@@ -115,31 +117,19 @@ fn add<R: Wait>(rt: &R, fabric: &Fabric, pass: &mut Pass, consumer: u8, post: &V
     poll(rt, fabric, pass, consumer)
 }
 
-// Makes this request as often as a consumer does; None where one is not made.
-fn add_all<R: Wait>(
-    rt: &R,
-    fabric: &Fabric,
-    pass: &mut Pass,
-    consumer: u8,
-    post: &Verb,
-) -> Option<()>
-    requires { IsOf fabric.now pass.old }
-    ensures { IsOf fabric.now pass.new }
-{
-    for _ in 0..ADDS {
-        add(rt, fabric, pass, consumer, post)?;
-    }
-    Some(())
-}
-
 // What a consumer does with its pass. It ends at the first call that is not made.
 fn consume<R: Wait>(rt: &R, fabric: &Fabric, mut pass: Pass, consumer: u8, key: Key) -> Pass
     requires { IsOf fabric.now pass }
     ensures { IsOf fabric.now result }
 {
-    if let Some(own) = set_up(rt, fabric, &mut pass, consumer) {
-        let post = one_more(consumer, own, key);
-        let _ = add_all(rt, fabric, &mut pass, consumer, &post);
+    let Some(own) = set_up(rt, fabric, &mut pass, consumer) else {
+        return pass;
+    };
+    let post = one_more(consumer, own, key);
+    for _ in 0..ADDS {
+        if add(rt, fabric, &mut pass, consumer, &post).is_none() {
+            return pass;
+        }
     }
     pass
 }
@@ -223,42 +213,29 @@ fn posts_and_polls(history: &[Entry]) -> (u64, u64) {
     (posts, polls)
 }
 
-// Loads the bytes of the number of adapter 1.
-fn load<R: Wait>(rt: &R, fabric: &Fabric, pass: &mut Pass) -> Option<()>
-    requires { IsOf fabric.now pass.old }
-    ensures { IsOf fabric.now pass.new }
-{
-    let load = Verb::Load {
+// The verb that loads the bytes of the number of adapter 1.
+fn load() -> Verb {
+    Verb::Load {
         adapter: 1,
         buffer: 0,
         offset: 0,
         length: 8,
-    };
-    call(rt, fabric, pass, 0, &load)
+    }
 }
 
-// The number of adapter 1, as a load of its bytes gives it.
-fn number_is<R: Wait + Abort>(rt: &R, fabric: &Fabric, pass: &mut Pass, want: u64)
-    requires { IsOf fabric.now pass.old }
-    ensures { IsOf fabric.now pass.new }
-{
-    if load(rt, fabric, pass).is_none() {
-        panic!(rt; "the number is loaded")
-    }
-    match answer(pass) {
+// An answer with the bytes of this number.
+fn loads(rt: &impl Abort, answer: Option<&Answer>, number: u64) {
+    match answer {
         Some(Answer::Loaded(bytes)) => {
-            assert!(rt; bytes.as_slice() == want.to_le_bytes().as_slice());
+            assert!(rt; bytes.as_slice() == number.to_le_bytes().as_slice());
         }
         _ => panic!(rt; "the number is there"),
     }
 }
 
-// Registers the number of adapter 1; the key of its region.
-fn key_of_number<R: Wait + Abort>(rt: &R, fabric: &Fabric, pass: &mut Pass) -> Key
-    requires { IsOf fabric.now pass.old }
-    ensures { IsOf fabric.now pass.new }
-{
-    match region(rt, fabric, pass, 0, SHARED, 0, BUFFER_BYTES) {
+// The key of a region that is registered.
+fn registered(rt: &impl Abort, region: Option<Key>) -> Key {
+    match region {
         Some(key) => key,
         None => panic!(rt; "the number is registered"),
     }
@@ -267,7 +244,8 @@ fn key_of_number<R: Wait + Abort>(rt: &R, fabric: &Fabric, pass: &mut Pass) -> K
 #[test]
 fn four_threads_add_to_one_number(rt: HostRuntime) {
     let (fabric, mut first) = started(&rt, rt.alloc(), config(100_000));
-    let key = key_of_number(&rt, &fabric, &mut first);
+    let region = region(&rt, &fabric, &mut first, 0, SHARED, 0, BUFFER_BYTES);
+    let key = registered(&rt, region);
     let mut third = upper_half(&rt, &fabric, &mut first);
     let second = upper_half(&rt, &fabric, &mut first);
     let fourth = upper_half(&rt, &fabric, &mut third);
@@ -287,7 +265,8 @@ fn four_threads_add_to_one_number(rt: HostRuntime) {
     join_to(&rt, &fabric, &mut first, second);
     join_to(&rt, &fabric, &mut first, third);
     join_to(&rt, &fabric, &mut first, fourth);
-    number_is(&rt, &fabric, &mut first, 10_000);
+    is_made(&rt, call(&rt, &fabric, &mut first, 0, &load()).is_some());
+    loads(&rt, answer(&first), 10_000);
     let history = history_of(&rt, fabric, first);
     let (posts, polls) = posts_and_polls(history.as_slice());
     is(&rt, "what was posted", Some(posts), 10_000);

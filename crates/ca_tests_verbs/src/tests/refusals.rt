@@ -1,16 +1,13 @@
-ghost use Rattle.ca_verbs.specs.Passes.{IsOf};
-
-use crate::tests::beds::{config, is, started};
+use crate::tests::beds::{config, is, is_made, started};
 use arrayvec::ArrayVec;
 use ca_base::{AdapterConfig, Config, DomainId, QueueId, Reason, Slot};
 use ca_bed_fabric::call;
 use ca_mailbox::Weather;
 use ca_model::Verb;
 use ca_turns::Turn;
-use ca_verbs::{Fabric, Pass, Receipt, StartError, TryError};
+use ca_verbs::{Fabric, Receipt, StartError, TryError};
 use std::alloc::Global;
 use std::process::Abort;
-use std::sync::Wait;
 
 // The domain of adapter 0, and its completion queue and queue pair.
 const DOMAIN: DomainId = DomainId {
@@ -31,76 +28,48 @@ fn empty_after(tried: Result<Receipt, TryError>) -> Option<u64> {
     }
 }
 
-// The same of a turn of the mailbox.
-fn nothing_is_due<R: Wait>(rt: &R, fabric: &Fabric, pass: &mut Pass) -> Option<u64>
-    requires { IsOf fabric.now pass.old }
-    ensures { IsOf fabric.now pass.new }
-{
-    let due = Turn::Due(QueueId::of_slot(SLOT));
-    empty_after(fabric.turn(rt, pass, due, &Weather::Calm))
-}
-
-// The same of a poll of the completion queue.
-fn nothing_is_polled<R: Wait>(rt: &R, fabric: &Fabric, pass: &mut Pass) -> Option<u64>
-    requires { IsOf fabric.now pass.old }
-    ensures { IsOf fabric.now pass.new }
-{
-    let poll = Verb::Poll {
-        slot: SLOT,
-        n: 1,
-        least: 1,
-    };
-    empty_after(fabric.verb(rt, pass, 0, &poll))
-}
-
-// A verb that consumer 0 calls, and that is made.
-fn calls<R: Wait + Abort>(rt: &R, fabric: &Fabric, pass: &mut Pass, verb: Verb)
-    requires { IsOf fabric.now pass.old }
-    ensures { IsOf fabric.now pass.new }
-{
-    let made = call(rt, fabric, pass, 0, &verb);
-    assert!(rt; made.is_some());
-}
-
-// The domain is opened at one try.
-fn opens(rt: &impl Abort, fabric: &Fabric, pass: &mut Pass)
-    requires { IsOf fabric.now pass.old }
-    ensures { IsOf fabric.now pass.new }
-{
-    let tried = fabric.try_verb(pass, 0, &Verb::AllocPd { domain: DOMAIN });
-    assert!(rt; tried.is_ok());
-}
-
-// The entries of a history that is too full to open the domain.
-fn full_at(fabric: &Fabric, pass: &mut Pass) -> Option<u64>
-    requires { IsOf fabric.now pass.old }
-    ensures { IsOf fabric.now pass.new }
-{
-    match fabric.try_verb(pass, 0, &Verb::AllocPd { domain: DOMAIN }) {
+// The entries of a history that is full.
+fn full_at(tried: Result<Receipt, TryError>) -> Option<u64> {
+    match tried {
         Err(TryError::HistoryFull(entries)) => Some(entries),
         _ => None,
     }
 }
 
+// The verbs that open the domain, create its completion queue, and poll it.
+fn open() -> Verb {
+    Verb::AllocPd { domain: DOMAIN }
+}
+
+fn create() -> Verb {
+    Verb::CreateCq {
+        slot: SLOT,
+        capacity: 8,
+    }
+}
+
+fn poll() -> Verb {
+    Verb::Poll {
+        slot: SLOT,
+        n: 1,
+        least: 1,
+    }
+}
+
 #[test]
 fn what_is_not_ready_names_the_entries_before_its_look(rt: HostRuntime) {
+    let due = Turn::Due(QueueId::of_slot(SLOT));
     let (fabric, mut pass) = started(&rt, rt.alloc(), config(10));
-    let entries = nothing_is_due(&rt, &fabric, &mut pass);
-    is(&rt, "nothing is due", entries, 0);
-    calls(&rt, &fabric, &mut pass, Verb::AllocPd { domain: DOMAIN });
-    calls(
-        &rt,
-        &fabric,
-        &mut pass,
-        Verb::CreateCq {
-            slot: SLOT,
-            capacity: 8,
-        },
-    );
-    let entries = nothing_is_polled(&rt, &fabric, &mut pass);
-    is(&rt, "the queue holds no completion", entries, 2);
+    let turned = fabric.turn(&rt, &mut pass, due, &Weather::Calm);
+    is(&rt, "nothing is due", empty_after(turned), 0);
+    is_made(&rt, call(&rt, &fabric, &mut pass, 0, &open()).is_some());
+    is_made(&rt, call(&rt, &fabric, &mut pass, 0, &create()).is_some());
+    let polled = fabric.verb(&rt, &mut pass, 0, &poll());
+    is(&rt, "nothing is there", empty_after(polled), 2);
     let clock = fabric.clock(&mut pass);
     is(&rt, "the clock", Some(clock), 2);
+    drop(fabric);
+    drop(pass);
 }
 
 // Eight adapters of 16 domains each: so many regions a domain, and so many buffers of 4096 bytes at each adapter or, where
@@ -145,10 +114,13 @@ fn the_most_parts_start_and_one_more_does_not(rt: HostRuntime) {
 
 #[test]
 fn a_history_of_three_entries_is_full(rt: HostRuntime) {
+    let open = open();
     let (fabric, mut pass) = started(&rt, rt.alloc(), config(3));
-    opens(&rt, &fabric, &mut pass);
-    opens(&rt, &fabric, &mut pass);
-    opens(&rt, &fabric, &mut pass);
-    let entries = full_at(&fabric, &mut pass);
-    is(&rt, "the history has three entries", entries, 3);
+    is_made(&rt, fabric.try_verb(&mut pass, 0, &open).is_ok());
+    is_made(&rt, fabric.try_verb(&mut pass, 0, &open).is_ok());
+    is_made(&rt, fabric.try_verb(&mut pass, 0, &open).is_ok());
+    let tried = fabric.try_verb(&mut pass, 0, &open);
+    is(&rt, "the history", full_at(tried), 3);
+    drop(fabric);
+    drop(pass);
 }

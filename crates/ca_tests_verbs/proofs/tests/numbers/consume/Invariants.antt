@@ -1,5 +1,5 @@
 use Rattle.ca_verbs.specs.Passes.{IsOf}
-use Rattle.ca_tests_verbs.proofs.tests.numbers.add_all.Given as goal
+use Rattle.ca_tests_verbs.proofs.tests.numbers.consume.Given as goal
 
 abbrev pub invariant-loop : goal.invariant-loop
 invariant-loop g l = IsOf l.fabric l.pass
