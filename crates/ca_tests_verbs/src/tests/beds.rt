@@ -2,7 +2,6 @@ ghost use Rattle.ca_verbs.specs.Passes.{IsOf};
 
 use arrayvec::ArrayVec;
 use ca_base::{AdapterConfig, Config};
-use ca_model::Entry;
 use ca_verbs::{CloseError, Fabric, Pass};
 use std::alloc::Global;
 use std::process::Abort;
@@ -38,7 +37,7 @@ pub(super) fn config(events: u32) -> Config {
 
 // What was counted is what is wanted.
 pub(super) fn is(rt: &impl Abort, what: &str, got: Option<u64>, want: u64) {
-    assert!(rt; got == Some(want), "{what}: {got:?}, and not {want}");
+    assert!(rt; got == Some(want), "{what}");
 }
 
 // A verb was made.
@@ -93,15 +92,5 @@ pub(super) fn joined_when_refused(
             (kept, back)
         }
         _ => panic!(rt; "a pass is out"),
-    }
-}
-
-// The history of a fabric of which no pass is out.
-pub(super) fn history_of(rt: &impl Abort, fabric: Fabric, pass: Pass) -> Vec<Entry>
-    requires { IsOf fabric pass }
-{
-    match fabric.close(pass) {
-        Ok(history) => history,
-        Err(_) => panic!(rt; "no pass is out"),
     }
 }

@@ -1,9 +1,7 @@
 ghost use Rattle.std.specs.Thread.{IsSync};
 ghost use Rattle.ca_verbs.specs.Passes.{IsOf};
 
-use crate::tests::beds::{
-    BUFFER_BYTES, config, history_of, is, is_made, join_to, started, upper_half,
-};
+use crate::tests::beds::{BUFFER_BYTES, config, is, is_made, join_to, started, upper_half};
 use arrayvec::ArrayVec;
 use ca_base::{DomainId, Key, Piece, QueueId, SendOp, SendRequest, Slot, Verdict, first_address};
 use ca_bed_fabric::{answer, call, queue_pair, region, turn};
@@ -241,6 +239,19 @@ fn registered(rt: &impl Abort, region: Option<Key>) -> Key {
     }
 }
 
+// A history in which so many requests were posted and polled, and each added one.
+fn adds_are(rt: &impl Abort, history: Option<&Vec<Entry>>, key: Key, count: u64) {
+    match history {
+        Some(history) => {
+            let (posts, polls) = posts_and_polls(history.as_slice());
+            is(rt, "what was posted", Some(posts), count);
+            is(rt, "what was polled", Some(polls), count);
+            is(rt, "what was added", swaps(history.as_slice(), key), count);
+        }
+        None => panic!(rt; "no pass is out"),
+    }
+}
+
 #[test]
 fn four_threads_add_to_one_number(rt: HostRuntime) {
     let (fabric, mut first) = started(&rt, rt.alloc(), config(100_000));
@@ -267,14 +278,6 @@ fn four_threads_add_to_one_number(rt: HostRuntime) {
     join_to(&rt, &fabric, &mut first, fourth);
     is_made(&rt, call(&rt, &fabric, &mut first, 0, &load()).is_some());
     loads(&rt, answer(&first), 10_000);
-    let history = history_of(&rt, fabric, first);
-    let (posts, polls) = posts_and_polls(history.as_slice());
-    is(&rt, "what was posted", Some(posts), 10_000);
-    is(&rt, "what was polled", Some(polls), 10_000);
-    is(
-        &rt,
-        "what was added",
-        swaps(history.as_slice(), key),
-        10_000,
-    );
+    let history = fabric.close(first).ok();
+    adds_are(&rt, history.as_ref(), key, 10_000);
 }

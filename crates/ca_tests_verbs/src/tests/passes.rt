@@ -1,10 +1,10 @@
 ghost use Rattle.ca_verbs.specs.Passes.{IsOf};
 
-use crate::tests::beds::{history_of, is, join_to, joined_when_refused, started, upper_half};
+use crate::tests::beds::{is, join_to, joined_when_refused, started, upper_half};
 use arrayvec::ArrayVec;
 use ca_base::{AdapterConfig, Config, DomainId, Slot};
 use ca_model::{Entry, Verb};
-use ca_verbs::{Fabric, Pass, TryError};
+use ca_verbs::{Fabric, Pass, Receipt, TryError};
 use std::thread::join;
 
 /// How often a verb is tried while a part of it is taken.
@@ -36,10 +36,10 @@ fn config(adapters: u32, events: u32, cqs: u16) -> Config {
     config
 }
 
-// How many entries a history has; None where the stamp of one is not its place.
-fn in_order(history: &[Entry]) -> Option<u64> {
+// How many entries a history has; None where there is none, or the stamp of one is not its place.
+fn in_order(history: Option<&Vec<Entry>>) -> Option<u64> {
     let mut at = 0u64;
-    for entry in history {
+    for entry in history?.as_slice() {
         if entry.stamp != at {
             return None;
         }
@@ -71,12 +71,9 @@ fn queue() -> Verb {
     }
 }
 
-// The stamp of a verb that is tried once; None where it is not made.
-fn stamp_of(fabric: &Fabric, pass: &mut Pass, by: u32, verb: Verb) -> Option<u64>
-    requires { IsOf fabric.now pass.old }
-    ensures { IsOf fabric.now pass.new }
-{
-    match fabric.try_verb(pass, by, &verb) {
+// The stamp of what was made.
+fn stamp(tried: Result<Receipt, TryError>) -> Option<u64> {
+    match tried {
         Ok(receipt) => Some(receipt.stamp),
         Err(_) => None,
     }
@@ -86,18 +83,18 @@ fn stamp_of(fabric: &Fabric, pass: &mut Pass, by: u32, verb: Verb) -> Option<u64
 fn the_history_of_two_passes_is_in_the_order_of_their_stamps(rt: HostRuntime) {
     let (fabric, mut first) = started(&rt, rt.alloc(), config(2, 10, 1));
     let mut second = upper_half(&rt, &fabric, &mut first);
-    let made = stamp_of(&fabric, &mut first, 0, open(0));
-    is(&rt, "the first verb", made, 0);
-    let made = stamp_of(&fabric, &mut second, 1, open(1));
-    is(&rt, "the second verb", made, 1);
-    let made = stamp_of(&fabric, &mut first, 0, queue());
-    is(&rt, "the third verb", made, 2);
+    let tried = fabric.try_verb(&mut first, 0, &open(0));
+    is(&rt, "the first verb", stamp(tried), 0);
+    let tried = fabric.try_verb(&mut second, 1, &open(1));
+    is(&rt, "the second verb", stamp(tried), 1);
+    let tried = fabric.try_verb(&mut first, 0, &queue());
+    is(&rt, "the third verb", stamp(tried), 2);
     let clock = fabric.clock(&mut second);
     is(&rt, "the clock", Some(clock), 3);
     is(&rt, "the latest entry", latest_stamp(&first), 2);
     let (fabric, first) = joined_when_refused(&rt, fabric, first, second);
-    let history = history_of(&rt, fabric, first);
-    is(&rt, "the history", in_order(history.as_slice()), 3);
+    let history = fabric.close(first).ok();
+    is(&rt, "the history", in_order(history.as_ref()), 3);
 }
 
 // Makes this many verbs on the domain, each tried again while a part of it is taken.
@@ -142,6 +139,6 @@ fn two_threads_make_one_history(rt: HostRuntime) {
         { open_domain(shared, second, 0, 500) },
     );
     join_to(&rt, &fabric, &mut first, second);
-    let history = history_of(&rt, fabric, first);
-    is(&rt, "the history", in_order(history.as_slice()), 1000);
+    let history = fabric.close(first).ok();
+    is(&rt, "the history", in_order(history.as_ref()), 1000);
 }
