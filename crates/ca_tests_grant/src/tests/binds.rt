@@ -3,12 +3,13 @@ ghost use Rattle.ca_keys.specs.Numbers.{is_window_key};
 ghost use Rattle.ca_localops.specs.Binds.{CountsBinding};
 ghost use Rattle.ca_localops.specs.Requests.{IsBind};
 
-use super::{counts_are, texts_are};
+use super::{counts_are, text_is, texts_are};
 use ca_base::{DomainId, Key, OpRefusal, Pages, QueueId, Rights, Run, SendOp, Slot, WindowCount};
 use ca_localops::{Marks2, OpError, bind, fast, invalidate};
 use ca_region::Region;
 use ca_window::Window;
 use std::alloc::{AllocError, Global};
+use std::process::Abort;
 use std::test::Fail;
 
 const DOMAIN: DomainId = DomainId {
@@ -163,17 +164,17 @@ fn bind_in(
     w: &mut Window,
     region: &mut Region,
     q: &mut WindowCount,
-    op: &SendOp,
+    op: SendOp,
     drawn: Option<u8>,
 ) -> Result<String, AllocError>
-    requires { IsBind op.now }
+    requires { IsBind op }
 {
     if !is_counted(w, region) || region.bound() == u32::MAX || q.count == u32::MAX {
         return format!(in alloc; "not counted");
     }
     text(
         alloc,
-        bind(alloc, w, None, Some(region), q, op, drawn, QUEUE),
+        bind(alloc, w, None, Some(region), q, &op, drawn, QUEUE),
     )
 }
 
@@ -183,10 +184,10 @@ fn bind_from(
     w: &mut Window,
     former: &mut Region,
     region: &mut Region,
-    op: &SendOp,
+    op: SendOp,
     drawn: Option<u8>,
 ) -> Result<String, AllocError>
-    requires { IsBind op.now }
+    requires { IsBind op }
 {
     if former.bound() == 0 || region.bound() == u32::MAX {
         return format!(in alloc; "not counted");
@@ -200,7 +201,7 @@ fn bind_from(
             Some(former),
             Some(region),
             &mut q,
-            op,
+            &op,
             drawn,
             QUEUE,
         ),
@@ -307,20 +308,71 @@ const BINDS: [(Rights, u8, Option<u8>, Asked, &'static str, &'static str); 10] =
     ),
 ];
 
+type BindRow = (Rights, u8, Option<u8>, Asked, &'static str, &'static str);
+
+// The bind of a new window of this type over a region.
+fn bind_of(
+    alloc: Global,
+    kind: u8,
+    region: &mut Region,
+    q: &mut WindowCount,
+    op: SendOp,
+    drawn: Option<u8>,
+) -> Result<String, AllocError>
+    requires { IsBind op }
+{
+    let mut window = window(kind);
+    bind_in(alloc, &mut window, region, q, op, drawn)
+}
+
+// Both binds of a row, over its region.
+fn both_are(
+    rt: &impl Abort,
+    alloc: Global,
+    region: &mut Region,
+    row: &BindRow,
+) -> Result<(), AllocError> {
+    let (_, kind, drawn, asked, first, second) = *row;
+    let mut q = WindowCount { count: 0 };
+    let given = bind_of(alloc, kind, region, &mut q, bind1(asked), drawn);
+    text_is(rt, given, first)?;
+    let given = bind_of(alloc, kind, region, &mut q, bind2(asked, 9), None);
+    text_is(rt, given, second)
+}
+
 #[test]
 fn binds_are_refused_for_the_first_reason(rt: HostRuntime) -> Result<(), Fail> {
     let alloc = rt.alloc();
     for row in BINDS.as_slice() {
-        let (rights, kind, drawn, asked, first, second) = *row;
-        let mut region = region(alloc, 0, rights);
-        let mut q = WindowCount { count: 0 };
-        let mut one = window(kind);
-        let given = bind_in(alloc, &mut one, &mut region, &mut q, &bind1(asked), drawn)?;
-        texts_are(&rt, given.as_str(), first);
-        let mut two = window(kind);
-        let given = bind_in(alloc, &mut two, &mut region, &mut q, &bind2(asked, 9), None)?;
-        texts_are(&rt, given.as_str(), second);
+        let mut region = region(alloc, 0, row.0);
+        both_are(&rt, alloc, &mut region, row)?;
     }
+    Ok(())
+}
+
+fn moves(
+    rt: &impl Abort,
+    alloc: Global,
+    window: &mut Window,
+    here: &mut Region,
+    there: &mut Region,
+) -> Result<(), Fail> {
+    let mut q = WindowCount { count: 0 };
+    let asked = Asked(KEY, FIRST, 64, READ);
+    let next = Asked(NEXT_KEY, FIRST, 64, READ);
+    let none = Asked(NEXT_KEY, FIRST, 0, READ);
+    let given = bind_in(alloc, window, here, &mut q, bind1(asked), Some(1));
+    text_is(rt, given, "revoked 0x00000000 granted 0x00800001")?;
+    counts_are(rt, (here.bound(), there.bound(), q.count), (1, 0, 0));
+    let given = bind_in(alloc, window, here, &mut q, bind1(asked), Some(2));
+    text_is(rt, given, "revoked 0x00800001 granted 0x00800002")?;
+    counts_are(rt, (here.bound(), there.bound(), q.count), (1, 0, 0));
+    let given = bind_from(alloc, window, here, there, bind1(next), Some(3));
+    text_is(rt, given, "revoked 0x00800002 granted 0x00800003")?;
+    counts_are(rt, (here.bound(), there.bound(), q.count), (0, 1, 0));
+    let given = bind_in(alloc, window, there, &mut q, bind1(none), Some(4));
+    text_is(rt, given, "revoked 0x00800003 granted 0x00000000")?;
+    counts_are(rt, (here.bound(), there.bound(), q.count), (0, 0, 0));
     Ok(())
 }
 
@@ -329,51 +381,44 @@ fn a_type_1_window_moves_from_region_to_region(rt: HostRuntime) -> Result<(), Fa
     let alloc = rt.alloc();
     let mut here = region(alloc, 0, ALL);
     let mut there = region(alloc, 1, ALL);
-    let mut q = WindowCount { count: 0 };
     let mut window = window(1);
-    let asked = Asked(KEY, FIRST, 64, READ);
-    let next = Asked(NEXT_KEY, FIRST, 64, READ);
-    let none = Asked(NEXT_KEY, FIRST, 0, READ);
-    let given = bind_in(
-        alloc,
-        &mut window,
-        &mut here,
-        &mut q,
-        &bind1(asked),
-        Some(1),
-    )?;
-    texts_are(&rt, given.as_str(), "revoked 0x00000000 granted 0x00800001");
-    counts_are(&rt, (here.bound(), there.bound(), q.count), (1, 0, 0));
-    let given = bind_in(
-        alloc,
-        &mut window,
-        &mut here,
-        &mut q,
-        &bind1(asked),
-        Some(2),
-    )?;
-    texts_are(&rt, given.as_str(), "revoked 0x00800001 granted 0x00800002");
-    counts_are(&rt, (here.bound(), there.bound(), q.count), (1, 0, 0));
-    let given = bind_from(
-        alloc,
-        &mut window,
-        &mut here,
-        &mut there,
-        &bind1(next),
-        Some(3),
-    )?;
-    texts_are(&rt, given.as_str(), "revoked 0x00800002 granted 0x00800003");
-    counts_are(&rt, (here.bound(), there.bound(), q.count), (0, 1, 0));
-    let given = bind_in(
-        alloc,
-        &mut window,
-        &mut there,
-        &mut q,
-        &bind1(none),
-        Some(4),
-    )?;
-    texts_are(&rt, given.as_str(), "revoked 0x00800003 granted 0x00000000");
-    counts_are(&rt, (here.bound(), there.bound(), q.count), (0, 0, 0));
+    moves(&rt, alloc, &mut window, &mut here, &mut there)
+}
+
+// Whether a region can be deregistered is as told.
+fn deregisters(rt: &impl Abort, region: &mut Region, want: &str) {
+    let outcome = if region.deregister().is_ok() {
+        "ok"
+    } else {
+        "refused"
+    };
+    texts_are(rt, outcome, want);
+}
+
+fn stays_bound(
+    rt: &impl Abort,
+    alloc: Global,
+    window: &mut Window,
+    region: &mut Region,
+) -> Result<(), Fail> {
+    let mut q = WindowCount { count: 0 };
+    let asked = Asked(KEY, FIRST, 64, WRITE);
+    let key = Key(0x0080_0009);
+    let given = bind_in(alloc, window, region, &mut q, bind2(asked, 9), None);
+    text_is(rt, given, "revoked 0x00000000 granted 0x00800009")?;
+    counts_are(rt, (region.bound(), q.count, 0), (1, 1, 0));
+    let given = bind_in(alloc, window, region, &mut q, bind2(asked, 10), None);
+    text_is(rt, given, "window:still-bound")?;
+    let given = end_in(alloc, window, region, &mut q, Key(0x0080_000a), QUEUE);
+    text_is(rt, given, "window:key-differs")?;
+    let given = end_in(alloc, window, region, &mut q, key, OTHER_QUEUE);
+    text_is(rt, given, "window:wrong-queue")?;
+    counts_are(rt, (region.bound(), q.count, 0), (1, 1, 0));
+    deregisters(rt, region, "refused");
+    let given = end_in(alloc, window, region, &mut q, key, QUEUE);
+    text_is(rt, given, "revoked 0x00800009 granted 0x00000000")?;
+    counts_are(rt, (region.bound(), q.count, 0), (0, 0, 0));
+    deregisters(rt, region, "ok");
     Ok(())
 }
 
@@ -381,63 +426,8 @@ fn a_type_1_window_moves_from_region_to_region(rt: HostRuntime) -> Result<(), Fa
 fn a_type_2_window_is_bound_until_its_key_ends(rt: HostRuntime) -> Result<(), Fail> {
     let alloc = rt.alloc();
     let mut region = region(alloc, 0, ALL);
-    let mut q = WindowCount { count: 0 };
     let mut window = window(2);
-    let asked = Asked(KEY, FIRST, 64, WRITE);
-    let key = Key(0x0080_0009);
-    let given = bind_in(
-        alloc,
-        &mut window,
-        &mut region,
-        &mut q,
-        &bind2(asked, 9),
-        None,
-    )?;
-    texts_are(&rt, given.as_str(), "revoked 0x00000000 granted 0x00800009");
-    counts_are(&rt, (region.bound(), q.count, 0), (1, 1, 0));
-    let given = bind_in(
-        alloc,
-        &mut window,
-        &mut region,
-        &mut q,
-        &bind2(asked, 10),
-        None,
-    )?;
-    texts_are(&rt, given.as_str(), "window:still-bound");
-    let given = end_in(
-        alloc,
-        &mut window,
-        &mut region,
-        &mut q,
-        Key(0x0080_000a),
-        QUEUE,
-    )?;
-    texts_are(&rt, given.as_str(), "window:key-differs");
-    let given = end_in(alloc, &mut window, &mut region, &mut q, key, OTHER_QUEUE)?;
-    texts_are(&rt, given.as_str(), "window:wrong-queue");
-    counts_are(&rt, (region.bound(), q.count, 0), (1, 1, 0));
-    texts_are(
-        &rt,
-        if region.deregister().is_ok() {
-            "ok"
-        } else {
-            "refused"
-        },
-        "refused",
-    );
-    let given = end_in(alloc, &mut window, &mut region, &mut q, key, QUEUE)?;
-    texts_are(&rt, given.as_str(), "revoked 0x00800009 granted 0x00000000");
-    counts_are(&rt, (region.bound(), q.count, 0), (0, 0, 0));
-    texts_are(
-        &rt,
-        if region.deregister().is_ok() {
-            "ok"
-        } else {
-            "refused"
-        },
-        "ok",
-    );
-    Ok(())
+    stays_bound(&rt, alloc, &mut window, &mut region)
 }
 
 /// The pages, the address, the length, the rights, the bytes of the buffer, and what comes of the fast registration.
@@ -481,16 +471,29 @@ fn fast_registration(
     Ok(text(alloc, fast(alloc, region, &op, slot(1), bytes))?)
 }
 
+// The same of a region that is let go then.
+fn fast_registration_of(
+    alloc: Global,
+    mut region: Region,
+    row: (&'static [u16], u64, u32, Rights, u32, &'static str),
+) -> Result<String, Fail> {
+    fast_registration(alloc, &mut region, row)
+}
+
+// A region that is free, for four pages.
+fn free() -> Region {
+    let mut free = Region::vacant();
+    free.allocate(4);
+    free
+}
+
 #[test]
 fn fast_registrations_are_refused_for_the_first_reason(rt: HostRuntime) -> Result<(), Fail> {
     let alloc = rt.alloc();
     for row in PAGES_OF.as_slice() {
-        let mut free = Region::vacant();
-        free.allocate(4);
-        let given = fast_registration(alloc, &mut free, *row)?;
+        let given = fast_registration_of(alloc, free(), *row)?;
         texts_are(&rt, given.as_str(), row.5);
-        let mut vacant = Region::vacant();
-        let given = fast_registration(alloc, &mut vacant, *row)?;
+        let given = fast_registration_of(alloc, Region::vacant(), *row)?;
         texts_are(&rt, given.as_str(), "region:not-free");
     }
     Ok(())
@@ -504,46 +507,63 @@ fn end_key(alloc: Global, region: Option<&mut Region>, key: Key) -> Result<Strin
     refusal_text(alloc, invalidate(None, region, &mut q, key, QUEUE))
 }
 
+fn key_of_a_registration(
+    rt: &impl Abort,
+    alloc: Global,
+    registered: &mut Region,
+) -> Result<(), Fail> {
+    let given = end_key(alloc, Some(registered), KEY);
+    text_is(rt, given, "region:not-fast-registered")?;
+    let given = end_key(alloc, Some(registered), Key(2));
+    text_is(rt, given, "region:key-differs")?;
+    let given = end_key(alloc, None, Key(0x0500_0001));
+    text_is(rt, given, "region:not-valid")?;
+    Ok(())
+}
+
+fn key_of_a_fast_registration(
+    rt: &impl Abort,
+    alloc: Global,
+    free: &mut Region,
+) -> Result<(), Fail> {
+    let given = fast_registration(alloc, free, (&[3, 1], 0xffa, 12, ALL, 16384, ""))?;
+    texts_are(rt, given.as_str(), "revoked 0x00000000 granted 0x00000107");
+    let given = end_key(alloc, Some(free), Key(0x107));
+    text_is(rt, given, "revoked 0x00000107 granted 0x00000000")?;
+    let given = end_key(alloc, Some(free), Key(0x107));
+    text_is(rt, given, "region:not-valid")?;
+    Ok(())
+}
+
 #[test]
 fn a_regions_key_ends_once(rt: HostRuntime) -> Result<(), Fail> {
     let alloc = rt.alloc();
     let mut registered = region(alloc, 0, ALL);
-    let given = end_key(alloc, Some(&mut registered), KEY)?;
-    texts_are(&rt, given.as_str(), "region:not-fast-registered");
-    let given = end_key(alloc, Some(&mut registered), Key(2))?;
-    texts_are(&rt, given.as_str(), "region:key-differs");
-    let given = end_key(alloc, None, Key(0x0500_0001))?;
-    texts_are(&rt, given.as_str(), "region:not-valid");
-    let mut free = Region::vacant();
-    free.allocate(4);
-    let given = fast_registration(alloc, &mut free, (&[3, 1], 0xffa, 12, ALL, 16384, ""))?;
-    texts_are(&rt, given.as_str(), "revoked 0x00000000 granted 0x00000107");
-    let given = end_key(alloc, Some(&mut free), Key(0x107))?;
-    texts_are(&rt, given.as_str(), "revoked 0x00000107 granted 0x00000000");
-    let given = end_key(alloc, Some(&mut free), Key(0x107))?;
-    texts_are(&rt, given.as_str(), "region:not-valid");
-    Ok(())
+    key_of_a_registration(&rt, alloc, &mut registered)?;
+    let mut free = free();
+    key_of_a_fast_registration(&rt, alloc, &mut free)
+}
+
+/// The key of a window in slot 0, under the byte 9.
+const WINDOW_KEY: Key = Key(0x0080_0009);
+
+// The end of the key of a window that is not bound.
+fn end_unbound(alloc: Global, mut window: Window, q: &mut WindowCount) -> Result<String, AllocError>
+    requires { window.binding ≡ None }
+{
+    let given = invalidate(Some(&mut window), None, q, WINDOW_KEY, QUEUE);
+    refusal_text(alloc, given)
 }
 
 #[test]
 fn a_window_key_without_its_window_names_nothing(rt: HostRuntime) -> Result<(), Fail> {
     let alloc = rt.alloc();
     let mut q = WindowCount { count: 0 };
-    let given = invalidate(None, None, &mut q, Key(0x0080_0009), QUEUE);
-    texts_are(
-        &rt,
-        refusal_text(alloc, given)?.as_str(),
-        "window:no-window",
-    );
-    let mut one = window(1);
-    let given = invalidate(Some(&mut one), None, &mut q, Key(0x0080_0009), QUEUE);
-    texts_are(&rt, refusal_text(alloc, given)?.as_str(), "window:type1");
-    let mut two = window(2);
-    let given = invalidate(Some(&mut two), None, &mut q, Key(0x0080_0009), QUEUE);
-    texts_are(
-        &rt,
-        refusal_text(alloc, given)?.as_str(),
-        "window:not-bound",
-    );
+    let given = invalidate(None, None, &mut q, WINDOW_KEY, QUEUE);
+    text_is(&rt, refusal_text(alloc, given), "window:no-window")?;
+    let given = end_unbound(alloc, window(1), &mut q);
+    text_is(&rt, given, "window:type1")?;
+    let given = end_unbound(alloc, window(2), &mut q);
+    text_is(&rt, given, "window:not-bound")?;
     Ok(())
 }

@@ -4,7 +4,7 @@ ghost use Rattle.ca_base.specs.objects.Region.{grant_of_region};
 ghost use Rattle.ca_grant.specs.Parts.{IsOfAdapter, LiesInRegion, LiesWithin, grant_of_parts};
 ghost use Rattle.ca_grant.specs.Reaching.{IsPacketAsk};
 
-use super::texts_are;
+use super::text_is;
 use ca_base::limits::MAX_PAYLOAD_BYTES;
 use ca_base::{
     Ask, Denial, DomainId, Key, Kind, Pages, QueueId, RegionView, Rights, Run, Slot, Span,
@@ -13,6 +13,7 @@ use ca_grant::judge;
 use ca_region::Region;
 use ca_window::Window;
 use std::alloc::{AllocError, Global};
+use std::process::Abort;
 use std::test::Fail;
 
 const SLOT: Slot = Slot {
@@ -293,15 +294,26 @@ const ASKS: [(Rights, Asked, &'static str); 15] = [
     ),
 ];
 
+// An ask of a region that is let go then.
+fn is_judged(
+    rt: &impl Abort,
+    alloc: Global,
+    region: Region,
+    asked: Asked,
+    want: &str,
+) -> Result<(), AllocError>
+    requires { IfSome (grant_of_region region) (λ g. g.domain.adapter ≡ 0) }
+{
+    text_is(rt, judged(alloc, &region, asked), want)
+}
+
 #[test]
 fn asks_are_judged_by_a_region(rt: HostRuntime) -> Result<(), Fail> {
     let alloc = rt.alloc();
     for row in ASKS.as_slice() {
         let (rights, asked, want) = *row;
-        let region = registered(alloc, rights);
-        texts_are(&rt, judged(alloc, &region, asked)?.as_str(), want);
-        let vacant = no_region();
-        texts_are(&rt, judged(alloc, &vacant, asked)?.as_str(), "no-grant");
+        is_judged(&rt, alloc, registered(alloc, rights), asked, want)?;
+        is_judged(&rt, alloc, no_region(), asked, "no-grant")?;
     }
     Ok(())
 }
@@ -316,15 +328,20 @@ const PAGES_TOUCHED: [((u64, u32, u32), &'static str); 6] = [
     ((0x1005, 2, 1), "out-of-range"),
 ];
 
-#[test]
-fn touched_bytes_lie_in_two_pages_at_most(rt: HostRuntime) -> Result<(), Fail> {
-    let alloc = rt.alloc();
-    let region = fast_registered(alloc);
+fn pages_are_touched(rt: &impl Abort, alloc: Global, region: &Region) -> Result<(), Fail>
+    requires { IfSome (grant_of_region region.now) (λ g. g.domain.adapter ≡ 0) }
+{
     for row in PAGES_TOUCHED.as_slice() {
         let asked = Asked(KEY, false, 0, QUEUE, Kind::Read, row.0);
-        texts_are(&rt, judged(alloc, &region, asked)?.as_str(), row.1);
+        text_is(rt, judged(alloc, region, asked), row.1)?;
     }
     Ok(())
+}
+
+#[test]
+fn touched_bytes_lie_in_two_pages_at_most(rt: HostRuntime) -> Result<(), Fail> {
+    let region = fast_registered(rt.alloc());
+    pages_are_touched(&rt, rt.alloc(), &region)
 }
 
 /// The type of a window over the last 16 bytes of a region, an ask, and what it is judged to be.
@@ -399,24 +416,36 @@ const WINDOW_ASKS: [(u8, Asked, &'static str); 8] = [
     ),
 ];
 
-#[test]
-fn asks_are_judged_by_a_window_in_its_region(rt: HostRuntime) -> Result<(), Fail> {
-    let alloc = rt.alloc();
-    let region = registered(alloc, ALL);
-    let vacant = no_region();
+// An ask of a window in its region, and in a region that is vacant.
+fn is_judged_over(
+    rt: &impl Abort,
+    alloc: Global,
+    window: &Window,
+    region: &Region,
+    vacant: &Region,
+    row: &(u8, Asked, &'static str),
+) -> Result<(), AllocError>
+    requires { window.now.slot.domain.adapter ≡ 0 }
+{
+    text_is(rt, judged_over(alloc, window, region, row.1), row.2)?;
+    text_is(rt, judged_over(alloc, window, vacant, row.1), "no-grant")
+}
+
+fn windows_are_judged(
+    rt: &impl Abort,
+    alloc: Global,
+    region: &Region,
+    vacant: &Region,
+) -> Result<(), Fail> {
     for row in WINDOW_ASKS.as_slice() {
-        let (kind, asked, want) = *row;
-        let window = bound(kind, &region.view(), FIRST + 48, 16);
-        texts_are(
-            &rt,
-            judged_over(alloc, &window, &region, asked)?.as_str(),
-            want,
-        );
-        texts_are(
-            &rt,
-            judged_over(alloc, &window, &vacant, asked)?.as_str(),
-            "no-grant",
-        );
+        let window = bound(row.0, &region.view(), FIRST + 48, 16);
+        is_judged_over(rt, alloc, &window, region, vacant, row)?;
     }
     Ok(())
+}
+
+#[test]
+fn asks_are_judged_by_a_window_in_its_region(rt: HostRuntime) -> Result<(), Fail> {
+    let region = registered(rt.alloc(), ALL);
+    windows_are_judged(&rt, rt.alloc(), &region, &no_region())
 }

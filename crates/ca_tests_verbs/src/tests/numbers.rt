@@ -1,7 +1,7 @@
 ghost use Rattle.std.specs.Thread.{IsSync};
 ghost use Rattle.ca_verbs.specs.Passes.{IsOf};
 
-use crate::tests::beds::{BUFFER_BYTES, config};
+use crate::tests::beds::{BUFFER_BYTES, config, is, is_made, join_to, started, upper_half};
 use arrayvec::ArrayVec;
 use ca_base::{DomainId, Key, Piece, QueueId, SendOp, SendRequest, Slot, Verdict, first_address};
 use ca_bed_fabric::{answer, call, queue_pair, region, turn};
@@ -10,7 +10,6 @@ use ca_turns::Turn;
 use ca_verbs::{Fabric, Pass};
 use std::process::Abort;
 use std::sync::Wait;
-use std::test::Fail;
 use std::thread::{Threads, join};
 
 // How many fetch and adds each consumer makes.
@@ -88,25 +87,32 @@ fn set_up<R: Wait>(rt: &R, fabric: &Fabric, pass: &mut Pass, consumer: u8) -> Op
     Some(own)
 }
 
+// Polls the completion of a consumer.
+fn poll<R: Wait>(rt: &R, fabric: &Fabric, pass: &mut Pass, consumer: u8) -> Option<()>
+    requires { IsOf fabric.now pass.old }
+    ensures { IsOf fabric.now pass.new }
+{
+    let poll = Verb::Poll {
+        slot: own_slot(consumer),
+        n: 1,
+        least: 1,
+    };
+    call(rt, fabric, pass, consumer, &poll)
+}
+
 // Posts a fetch and add, brings it to the peer and the answer back, and polls its completion.
 fn add<R: Wait>(rt: &R, fabric: &Fabric, pass: &mut Pass, consumer: u8, post: &Verb) -> Option<()>
     requires { IsOf fabric.now pass.old }
     ensures { IsOf fabric.now pass.new }
 {
-    let slot = own_slot(consumer);
-    let requester = QueueId::of_slot(slot);
+    let requester = QueueId::of_slot(own_slot(consumer));
     let responder = QueueId::of_slot(peer_slot(consumer));
-    let poll = Verb::Poll {
-        slot,
-        n: 1,
-        least: 1,
-    };
     call(rt, fabric, pass, consumer, post)?;
     turn(rt, fabric, pass, Turn::Request(requester))?;
     turn(rt, fabric, pass, Turn::Due(responder))?;
     turn(rt, fabric, pass, Turn::Respond(responder))?;
     turn(rt, fabric, pass, Turn::Due(requester))?;
-    call(rt, fabric, pass, consumer, &poll)
+    poll(rt, fabric, pass, consumer)
 }
 
 // What a consumer does with its pass. It ends at the first call that is not made.
@@ -205,23 +211,55 @@ fn posts_and_polls(history: &[Entry]) -> (u64, u64) {
     (posts, polls)
 }
 
+// The verb that loads the bytes of the number of adapter 1.
+fn load() -> Verb {
+    Verb::Load {
+        adapter: 1,
+        buffer: 0,
+        offset: 0,
+        length: 8,
+    }
+}
+
+// An answer with the bytes of this number.
+fn loads(rt: &impl Abort, answer: Option<&Answer>, number: u64) {
+    match answer {
+        Some(Answer::Loaded(bytes)) => {
+            assert!(rt; bytes.as_slice() == number.to_le_bytes().as_slice());
+        }
+        _ => panic!(rt; "the number is there"),
+    }
+}
+
+// The key of a region that is registered.
+fn registered(rt: &impl Abort, region: Option<Key>) -> Key {
+    match region {
+        Some(key) => key,
+        None => panic!(rt; "the number is registered"),
+    }
+}
+
+// A history in which so many requests were posted and polled, and each added one.
+fn adds_are(rt: &impl Abort, history: Option<&Vec<Entry>>, key: Key, count: u64) {
+    match history {
+        Some(history) => {
+            let (posts, polls) = posts_and_polls(history.as_slice());
+            is(rt, "what was posted", Some(posts), count);
+            is(rt, "what was polled", Some(polls), count);
+            is(rt, "what was added", swaps(history.as_slice(), key), count);
+        }
+        None => panic!(rt; "no pass is out"),
+    }
+}
+
 #[test]
-fn four_threads_add_to_one_number(rt: HostRuntime) -> Result<(), Fail> {
-    let Ok((fabric, mut first)) = Fabric::start(rt.alloc(), config(100_000)) else {
-        panic!(rt; "the fabric starts")
-    };
-    let Some(key) = region(&rt, &fabric, &mut first, 0, SHARED, 0, BUFFER_BYTES) else {
-        panic!(rt; "the number is registered")
-    };
-    let Ok(mut third) = fabric.split(&mut first) else {
-        panic!(rt; "two numbers are left")
-    };
-    let Ok(second) = fabric.split(&mut first) else {
-        panic!(rt; "two numbers are left")
-    };
-    let Ok(fourth) = fabric.split(&mut third) else {
-        panic!(rt; "two numbers are left")
-    };
+fn four_threads_add_to_one_number(rt: HostRuntime) {
+    let (fabric, mut first) = started(&rt, rt.alloc(), config(100_000));
+    let region = region(&rt, &fabric, &mut first, 0, SHARED, 0, BUFFER_BYTES);
+    let key = registered(&rt, region);
+    let mut third = upper_half(&rt, &fabric, &mut first);
+    let second = upper_half(&rt, &fabric, &mut first);
+    let fourth = upper_half(&rt, &fabric, &mut third);
     let shared = &fabric;
     let runtime = &rt;
     let ((mut first, second), (third, fourth)) = join(
@@ -235,31 +273,11 @@ fn four_threads_add_to_one_number(rt: HostRuntime) -> Result<(), Fail> {
             ensures { IsOf shared.entry.now result.0 × IsOf shared.entry.now result.1 }
         { consume_two(runtime, shared, third, fourth, 2, key) },
     );
-    if fabric.join(&mut first, second).is_err()
-        || fabric.join(&mut first, third).is_err()
-        || fabric.join(&mut first, fourth).is_err()
-    {
-        panic!(rt; "the passes are joined")
-    }
-    let load = Verb::Load {
-        adapter: 1,
-        buffer: 0,
-        offset: 0,
-        length: 8,
-    };
-    if call(&rt, &fabric, &mut first, 0, &load).is_none() {
-        panic!(rt; "the number is loaded")
-    }
-    match answer(&first) {
-        Some(Answer::Loaded(bytes)) => {
-            assert!(rt; bytes.as_slice() == 10_000u64.to_le_bytes().as_slice());
-        }
-        _ => panic!(rt; "the number is there"),
-    }
-    let Ok(history) = fabric.close(first) else {
-        panic!(rt; "no pass is out")
-    };
-    assert!(rt; posts_and_polls(history.as_slice()) == (10_000, 10_000));
-    assert!(rt; swaps(history.as_slice(), key) == Some(10_000));
-    Ok(())
+    join_to(&rt, &fabric, &mut first, second);
+    join_to(&rt, &fabric, &mut first, third);
+    join_to(&rt, &fabric, &mut first, fourth);
+    is_made(&rt, call(&rt, &fabric, &mut first, 0, &load()).is_some());
+    loads(&rt, answer(&first), 10_000);
+    let history = fabric.close(first).ok();
+    adds_are(&rt, history.as_ref(), key, 10_000);
 }

@@ -1,11 +1,10 @@
 ghost use Rattle.ca_verbs.specs.Passes.{IsOf};
 
+use crate::tests::beds::{is, join_to, joined_when_refused, started, upper_half};
 use arrayvec::ArrayVec;
 use ca_base::{AdapterConfig, Config, DomainId, Slot};
-use ca_model::Verb;
-use ca_verbs::{CloseError, Fabric, Pass, TryError};
-use std::process::Abort;
-use std::test::Fail;
+use ca_model::{Entry, Verb};
+use ca_verbs::{Fabric, Pass, Receipt, TryError};
 use std::thread::join;
 
 /// How often a verb is tried while a part of it is taken.
@@ -37,62 +36,65 @@ fn config(adapters: u32, events: u32, cqs: u16) -> Config {
     config
 }
 
-#[test]
-fn the_history_of_two_passes_is_in_the_order_of_their_stamps(rt: HostRuntime) -> Result<(), Fail> {
-    let started = Fabric::start(rt.alloc(), config(2, 10, 1));
-    let Ok((fabric, mut first)) = started else {
-        panic!(rt; "the fabric starts")
-    };
-    let Ok(mut second) = fabric.split(&mut first) else {
-        panic!(rt; "two numbers are left")
-    };
-    let open = Verb::AllocPd {
-        domain: domain_of(0),
-    };
-    let other = Verb::AllocPd {
-        domain: domain_of(1),
-    };
-    let queue = Verb::CreateCq {
+// How many entries a history has; None where there is none, or the stamp of one is not its place.
+fn in_order(history: Option<&Vec<Entry>>) -> Option<u64> {
+    let mut at = 0u64;
+    for entry in history?.as_slice() {
+        if entry.stamp != at {
+            return None;
+        }
+        at = at.wrapping_add(1);
+    }
+    Some(at)
+}
+
+// The stamp of the latest entry of a pass.
+fn latest_stamp(pass: &Pass) -> Option<u64> {
+    Some(pass.latest()?.stamp)
+}
+
+// The verb that opens the domain of this adapter.
+fn open(adapter: u8) -> Verb {
+    Verb::AllocPd {
+        domain: domain_of(adapter),
+    }
+}
+
+// The verb that creates the completion queue of adapter 0.
+fn queue() -> Verb {
+    Verb::CreateCq {
         slot: Slot {
             domain: domain_of(0),
             slot: 0,
         },
         capacity: 8,
-    };
-    let Ok(r) = fabric.try_verb(&mut first, 0, &open) else {
-        panic!(rt; "the first verb is made")
-    };
-    assert!(rt; r.stamp == 0);
-    let Ok(r) = fabric.try_verb(&mut second, 1, &other) else {
-        panic!(rt; "the second verb is made")
-    };
-    assert!(rt; r.stamp == 1);
-    let Ok(r) = fabric.try_verb(&mut first, 0, &queue) else {
-        panic!(rt; "the third verb is made")
-    };
-    assert!(rt; r.stamp == 2);
-    assert!(rt; fabric.clock(&mut second) == 3);
-    let Some(entry) = first.latest() else {
-        panic!(rt; "an entry was made")
-    };
-    assert!(rt; entry.stamp == 2);
-    let (fabric, mut first) = match fabric.close(first) {
-        Err(CloseError::PassOut(fabric, first)) => (fabric, first),
-        _ => panic!(rt; "a pass is out"),
-    };
-    if fabric.join(&mut first, second).is_err() {
-        panic!(rt; "the passes are joined")
     }
-    let Ok(history) = fabric.close(first) else {
-        panic!(rt; "no pass is out")
-    };
-    assert!(rt; history.len() == 3);
-    let mut at = 0;
-    for entry in history.as_slice() {
-        assert!(rt; entry.stamp == at);
-        at = at.wrapping_add(1);
+}
+
+// The stamp of what was made.
+fn stamp(tried: Result<Receipt, TryError>) -> Option<u64> {
+    match tried {
+        Ok(receipt) => Some(receipt.stamp),
+        Err(_) => None,
     }
-    Ok(())
+}
+
+#[test]
+fn the_history_of_two_passes_is_in_the_order_of_their_stamps(rt: HostRuntime) {
+    let (fabric, mut first) = started(&rt, rt.alloc(), config(2, 10, 1));
+    let mut second = upper_half(&rt, &fabric, &mut first);
+    let tried = fabric.try_verb(&mut first, 0, &open(0));
+    is(&rt, "the first verb", stamp(tried), 0);
+    let tried = fabric.try_verb(&mut second, 1, &open(1));
+    is(&rt, "the second verb", stamp(tried), 1);
+    let tried = fabric.try_verb(&mut first, 0, &queue());
+    is(&rt, "the third verb", stamp(tried), 2);
+    let clock = fabric.clock(&mut second);
+    is(&rt, "the clock", Some(clock), 3);
+    is(&rt, "the latest entry", latest_stamp(&first), 2);
+    let (fabric, first) = joined_when_refused(&rt, fabric, first, second);
+    let history = fabric.close(first).ok();
+    is(&rt, "the history", in_order(history.as_ref()), 3);
 }
 
 // Makes this many verbs on the domain, each tried again while a part of it is taken.
@@ -100,9 +102,7 @@ fn open_domain(fabric: &Fabric, mut pass: Pass, adapter: u8, count: u32) -> Pass
     requires { IsOf fabric.now pass }
     ensures { IsOf fabric.now result }
 {
-    let open = Verb::AllocPd {
-        domain: domain_of(adapter),
-    };
+    let open = open(adapter);
     for _ in 0..count {
         open_once(fabric, &mut pass, &open);
     }
@@ -123,13 +123,9 @@ fn open_once(fabric: &Fabric, pass: &mut Pass, open: &Verb)
 }
 
 #[test]
-fn two_threads_make_one_history(rt: HostRuntime) -> Result<(), Fail> {
-    let Ok((fabric, mut first)) = Fabric::start(rt.alloc(), config(2, 2000, 1)) else {
-        panic!(rt; "the fabric starts")
-    };
-    let Ok(second) = fabric.split(&mut first) else {
-        panic!(rt; "two numbers are left")
-    };
+fn two_threads_make_one_history(rt: HostRuntime) {
+    let (fabric, mut first) = started(&rt, rt.alloc(), config(2, 2000, 1));
+    let second = upper_half(&rt, &fabric, &mut first);
     let shared = &fabric;
     let (mut first, second) = join(
         &rt,
@@ -142,17 +138,7 @@ fn two_threads_make_one_history(rt: HostRuntime) -> Result<(), Fail> {
             ensures { IsOf shared.entry.now result }
         { open_domain(shared, second, 0, 500) },
     );
-    if fabric.join(&mut first, second).is_err() {
-        panic!(rt; "the passes are joined")
-    }
-    let Ok(history) = fabric.close(first) else {
-        panic!(rt; "no pass is out")
-    };
-    assert!(rt; history.len() == 1000);
-    let mut at = 0;
-    for entry in history.as_slice() {
-        assert!(rt; entry.stamp == at);
-        at = at.wrapping_add(1);
-    }
-    Ok(())
+    join_to(&rt, &fabric, &mut first, second);
+    let history = fabric.close(first).ok();
+    is(&rt, "the history", in_order(history.as_ref()), 1000);
 }

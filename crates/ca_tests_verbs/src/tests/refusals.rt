@@ -1,51 +1,75 @@
-use crate::tests::beds::config;
+use crate::tests::beds::{config, is, is_made, started};
 use arrayvec::ArrayVec;
 use ca_base::{AdapterConfig, Config, DomainId, QueueId, Reason, Slot};
 use ca_bed_fabric::call;
 use ca_mailbox::Weather;
 use ca_model::Verb;
 use ca_turns::Turn;
-use ca_verbs::{Fabric, StartError, TryError};
+use ca_verbs::{Fabric, Receipt, StartError, TryError};
+use std::alloc::Global;
 use std::process::Abort;
-use std::test::Fail;
 
-#[test]
-fn what_is_not_ready_names_the_entries_before_its_look(rt: HostRuntime) -> Result<(), Fail> {
-    let Ok((fabric, mut pass)) = Fabric::start(rt.alloc(), config(10)) else {
-        panic!(rt; "the fabric starts")
-    };
-    let domain = DomainId {
-        adapter: 0,
-        domain: 0,
-    };
-    let slot = Slot { domain, slot: 0 };
-    let queue = QueueId::of_slot(slot);
-    let poll = Verb::Poll {
-        slot,
+// The domain of adapter 0, and its completion queue and queue pair.
+const DOMAIN: DomainId = DomainId {
+    adapter: 0,
+    domain: 0,
+};
+
+const SLOT: Slot = Slot {
+    domain: DOMAIN,
+    slot: 0,
+};
+
+// The entries before the look that found a queue empty.
+fn empty_after(tried: Result<Receipt, TryError>) -> Option<u64> {
+    match tried {
+        Err(TryError::NotReady(entries, Reason::Empty)) => Some(entries),
+        _ => None,
+    }
+}
+
+// The entries of a history that is full.
+fn full_at(tried: Result<Receipt, TryError>) -> Option<u64> {
+    match tried {
+        Err(TryError::HistoryFull(entries)) => Some(entries),
+        _ => None,
+    }
+}
+
+// The verbs that open the domain, create its completion queue, and poll it.
+fn open() -> Verb {
+    Verb::AllocPd { domain: DOMAIN }
+}
+
+fn create() -> Verb {
+    Verb::CreateCq {
+        slot: SLOT,
+        capacity: 8,
+    }
+}
+
+fn poll() -> Verb {
+    Verb::Poll {
+        slot: SLOT,
         n: 1,
         least: 1,
-    };
-    match fabric.turn(&rt, &mut pass, Turn::Due(queue), &Weather::Calm) {
-        Err(TryError::NotReady(0, Reason::Empty)) => {}
-        _ => panic!(rt; "nothing is due"),
     }
-    assert!(rt; call(&rt, &fabric, &mut pass, 0, &Verb::AllocPd { domain }).is_some());
-    assert!(rt;
-        call(
-            &rt,
-            &fabric,
-            &mut pass,
-            0,
-            &Verb::CreateCq { slot, capacity: 8 }
-        )
-        .is_some()
-    );
-    match fabric.verb(&rt, &mut pass, 0, &poll) {
-        Err(TryError::NotReady(2, Reason::Empty)) => {}
-        _ => panic!(rt; "the queue holds no completion"),
-    }
-    assert!(rt; fabric.clock(&mut pass) == 2);
-    Ok(())
+}
+
+#[test]
+fn what_is_not_ready_names_the_entries_before_its_look(rt: HostRuntime) {
+    let due = Turn::Due(QueueId::of_slot(SLOT));
+    let (fabric, mut pass) = started(&rt, rt.alloc(), config(10));
+    let turned = fabric.turn(&rt, &mut pass, due, &Weather::Calm);
+    is(&rt, "nothing is due", empty_after(turned), 0);
+    is_made(&rt, call(&rt, &fabric, &mut pass, 0, &open()).is_some());
+    is_made(&rt, call(&rt, &fabric, &mut pass, 0, &create()).is_some());
+    let polled = fabric.verb(&rt, &mut pass, 0, &poll());
+    is(&rt, "nothing is there", empty_after(polled), 2);
+    let clock = fabric.clock(&mut pass);
+    is(&rt, "the clock", Some(clock), 2);
+    drop(fabric);
+    drop(pass);
 }
 
 // Eight adapters of 16 domains each: so many regions a domain, and so many buffers of 4096 bytes at each adapter or, where
@@ -73,37 +97,30 @@ fn eight_adapters(regions: u16, buffers: u8, is_one: bool) -> Config {
     config
 }
 
-#[test]
-fn the_most_parts_start_and_one_more_does_not(rt: HostRuntime) -> Result<(), Fail> {
-    assert!(rt; Fabric::start(rt.alloc(), eight_adapters(8, 16, false)).is_ok());
-    match Fabric::start(rt.alloc(), eight_adapters(9, 1, true)) {
-        Err(StartError::TooManyParts(4097)) => {}
-        _ => panic!(rt; "one part is too many"),
-    }
-    match Fabric::start(rt.alloc(), eight_adapters(65_535, 1, true)) {
-        Err(StartError::BadConfig) => {}
-        _ => panic!(rt; "the limit of regions comes before that of parts"),
-    }
-    Ok(())
+// Why no fabric of this configuration is started; None where one is.
+fn refusal_of(alloc: Global, config: Config) -> Option<StartError> {
+    Fabric::start(alloc, config).err()
 }
 
 #[test]
-fn a_history_of_three_entries_is_full(rt: HostRuntime) -> Result<(), Fail> {
-    let Ok((fabric, mut pass)) = Fabric::start(rt.alloc(), config(3)) else {
-        panic!(rt; "the fabric starts")
-    };
-    let open = Verb::AllocPd {
-        domain: DomainId {
-            adapter: 0,
-            domain: 0,
-        },
-    };
-    assert!(rt; fabric.try_verb(&mut pass, 0, &open).is_ok());
-    assert!(rt; fabric.try_verb(&mut pass, 0, &open).is_ok());
-    assert!(rt; fabric.try_verb(&mut pass, 0, &open).is_ok());
-    match fabric.try_verb(&mut pass, 0, &open) {
-        Err(TryError::HistoryFull(3)) => {}
-        _ => panic!(rt; "the history has three entries"),
-    }
-    Ok(())
+fn the_most_parts_start_and_one_more_does_not(rt: HostRuntime) {
+    let most = refusal_of(rt.alloc(), eight_adapters(8, 16, false));
+    assert!(rt; matches!(most, None));
+    let one_more = refusal_of(rt.alloc(), eight_adapters(9, 1, true));
+    assert!(rt; matches!(one_more, Some(StartError::TooManyParts(4097))));
+    let beyond = refusal_of(rt.alloc(), eight_adapters(65_535, 1, true));
+    assert!(rt; matches!(beyond, Some(StartError::BadConfig)));
+}
+
+#[test]
+fn a_history_of_three_entries_is_full(rt: HostRuntime) {
+    let open = open();
+    let (fabric, mut pass) = started(&rt, rt.alloc(), config(3));
+    is_made(&rt, fabric.try_verb(&mut pass, 0, &open).is_ok());
+    is_made(&rt, fabric.try_verb(&mut pass, 0, &open).is_ok());
+    is_made(&rt, fabric.try_verb(&mut pass, 0, &open).is_ok());
+    let tried = fabric.try_verb(&mut pass, 0, &open);
+    is(&rt, "the history", full_at(tried), 3);
+    drop(fabric);
+    drop(pass);
 }
