@@ -53,6 +53,7 @@ const ROOM: usize = 100_000;
 const TURNS: u32 = 1_000_000_000;
 
 /// A gate that lets the first call of worker 0 through when a call of worker 1 was answered.
+#[derive(Drop)]
 struct LaterFirst<'a> {
     answered: &'a AtomicU64,
 }

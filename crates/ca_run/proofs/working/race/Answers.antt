@@ -7,10 +7,10 @@ use Rattle.ca_script.specs.Script.{script_value}
 use Rattle.ca_run.proofs.working.race.Goals as goal
 
 pub race_script-requires-clause-workable : goal.race_script-requires-clause-workable
-race_script-requires-clause-workable c = c.can_be_worked.ensures c.requires.means.0 (script_value c.args.script) c.requires.means.1
+race_script-requires-clause-workable g c κs within = c.can_be_worked.ensures c.requires.means.0 (script_value c.args.script) c.requires.means.1
 
 pub returns-clause-raced : goal.returns-clause-raced
-returns-clause-raced c =
+returns-clause-raced g c =
     let s = script_value c.args.script in
     let raced = c.in_ok-worked.ensures in
     let end = ending_from s raced.stage in
