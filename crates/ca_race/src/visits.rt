@@ -12,7 +12,11 @@ use ca_script::Script;
 use ca_turns::Turn;
 use ca_verbs::{Fabric, TryError};
 
-/// A worker tries what is offered. Where a timer is, it does nothing but to read the clock.
+/// What is told the engine of all that a worker did not do, whatever the reason: it names one clock always, so that a round
+/// in which the worker did nothing is quiet, be others as busy as they may.
+const NOTHING: Outcome = Outcome::NotReady(0);
+
+/// A worker tries what is offered. Where a timer is, it does nothing.
 pub(crate) fn visit<G: Gate>(
     fabric: &Fabric,
     script: &Script,
@@ -52,7 +56,7 @@ fn visit_consumer<G: Gate>(
     };
     let now = fabric.clock(&mut worker.work.pass);
     if now < next.clock {
-        return Ok(Outcome::NotReady(now));
+        return Ok(NOTHING);
     }
     worker.ask(gate);
     match fabric.try_verb(&mut worker.work.pass, consumer, next.verb) {
@@ -77,7 +81,7 @@ fn visit_engine<G: Gate>(
     ensures same { IsSameWorker worker.old worker.new }
 {
     if !is_workers(turn) {
-        return Ok(Outcome::NotReady(fabric.clock(&mut worker.work.pass)));
+        return Ok(NOTHING);
     }
     worker.ask(gate);
     match fabric.try_turn(&mut worker.work.pass, turn, &script.weather) {
@@ -89,8 +93,7 @@ fn visit_engine<G: Gate>(
 /// What is told the engine of a try that made no entry. Only want of memory ends the work.
 fn outcome_of(error: TryError) -> Result<Outcome, Memory> {
     match error {
-        TryError::Busy(_) => Ok(Outcome::Busy),
-        TryError::HistoryFull(now) | TryError::NotReady(now, _) => Ok(Outcome::NotReady(now)),
+        TryError::Busy(_) | TryError::HistoryFull(_) | TryError::NotReady(_, _) => Ok(NOTHING),
         TryError::Memory => Err(Memory),
     }
 }

@@ -15,7 +15,7 @@ use std::alloc::Global;
 use std::sync::Wait;
 use std::thread;
 
-/// A worker returns after so many rounds in which nothing happened, be it by itself or by others.
+/// A worker returns after so many rounds on end in which it did nothing.
 const IDLE_ROUNDS: u32 = 32;
 
 /// A worker among so many, with what it did, and how many calls it made on the fabric.
@@ -66,7 +66,7 @@ impl Worker {
     }
 }
 
-/// A worker goes round and round its consumers and the turns of all queue pairs, until nothing happened in so many rounds.
+/// A worker goes round and round its consumers and the turns of all queue pairs, until it did nothing in so many rounds.
 /// Want of memory is its only refusal. It may wait.
 pub(crate) fn work<R: Wait, G: Gate>(
     rt: &R,
