@@ -10,8 +10,7 @@ use ca_trace_words::{Text, side};
 
 /// Adds what a verb answered, as it stands behind the call, each word after a space.
 pub fn put_answer(text: &mut Text, answer: &Answer) -> Result<(), Memory>
-    ensures ok { OnOk result (text.new.added ≡ text.old.added ++ led 32 (words (told_words answer.now))) }
-    ensures same { text.new.before ≡ text.old.before }
+    ensures ok { OnOk result (text.new ≡ text.old ++ led 32 (words (told_words answer.now))) }
 {
     match answer {
         Answer::Fine => text.put(" -> ok"),
@@ -44,8 +43,7 @@ pub fn put_answer(text: &mut Text, answer: &Answer) -> Result<(), Memory>
 
 /// Adds the lines of the completions that an answer gave.
 pub fn put_got_lines(text: &mut Text, answer: &Answer) -> Result<(), Memory>
-    ensures ok { OnOk result (text.new.added ≡ text.old.added ++ got_lines answer.now) }
-    ensures same { text.new.before ≡ text.old.before }
+    ensures ok { OnOk result (text.new ≡ text.old ++ got_lines answer.now) }
 {
     match answer {
         Answer::Polled(completions) => put_got(text, completions.as_slice()),
@@ -54,8 +52,7 @@ pub fn put_got_lines(text: &mut Text, answer: &Answer) -> Result<(), Memory>
 }
 
 fn put_got(text: &mut Text, completions: &[Completion]) -> Result<(), Memory>
-    ensures ok { OnOk result (text.new.added ≡ text.old.added ++ flat_map got_line completions.now) }
-    ensures same { text.new.before ≡ text.old.before }
+    ensures ok { OnOk result (text.new ≡ text.old ++ flat_map got_line completions.now) }
 {
     for completion in completions {
         text.put(" got")?;
@@ -67,8 +64,7 @@ fn put_got(text: &mut Text, completions: &[Completion]) -> Result<(), Memory>
 
 /// Adds the words of a completion, each after a space.
 pub fn put_completion(text: &mut Text, completion: &Completion) -> Result<(), Memory>
-    ensures ok { OnOk result (text.new.added ≡ text.old.added ++ led 32 (words (completion_words completion.now))) }
-    ensures same { text.new.before ≡ text.old.before }
+    ensures ok { OnOk result (text.new ≡ text.old ++ led 32 (words (completion_words completion.now))) }
 {
     let queue = completion.queue;
     let side = side(completion.side());

@@ -10,25 +10,16 @@ use crate::mark::put_mark;
 use ca_base::Memory;
 use ca_model::{Entry, Event, Mark};
 use ca_trace_words::{Text, alarm, put_call};
-use std::mem;
 
 /// Appends the lines of an entry, each with its line feed. `Memory` leaves the output as it was.
 pub fn print(e: &Entry, out: &mut Vec<u8>) -> Result<(), Memory>
     ensures ok { OnOk result (out.new.items ≡ out.old.items ++ entry_text (entry_of e.now)) }
     ensures err { OnErr result (out.new.items ≡ out.old.items) }
 {
-    let alloc = *out.allocator();
-    let mut text = Text::behind(mem::replace(out, Vec::new(alloc)));
-    match put_entry(&mut text, e) {
-        Ok(()) => {
-            *out = text.into_vec();
-            Ok(())
-        }
-        Err(memory) => {
-            *out = text.undo();
-            Err(memory)
-        }
-    }
+    let mut text = Text::new(*out.allocator())?;
+    put_entry(&mut text, e)?;
+    out.extend_from_slice(text.as_bytes())?;
+    Ok(())
 }
 
 /// Appends a reply: a verb's answer with its call and the completions that it gave, and any other mark as its line, each
@@ -37,23 +28,14 @@ pub fn print_reply(m: &Mark, out: &mut Vec<u8>) -> Result<(), Memory>
     ensures ok { OnOk result (out.new.items ≡ out.old.items ++ reply_text m.now) }
     ensures err { OnErr result (out.new.items ≡ out.old.items) }
 {
-    let alloc = *out.allocator();
-    let mut text = Text::behind(mem::replace(out, Vec::new(alloc)));
-    match put_reply(&mut text, m) {
-        Ok(()) => {
-            *out = text.into_vec();
-            Ok(())
-        }
-        Err(memory) => {
-            *out = text.undo();
-            Err(memory)
-        }
-    }
+    let mut text = Text::new(*out.allocator())?;
+    put_reply(&mut text, m)?;
+    out.extend_from_slice(text.as_bytes())?;
+    Ok(())
 }
 
 fn put_reply(text: &mut Text, m: &Mark) -> Result<(), Memory>
-    ensures ok { OnOk result (text.new.added ≡ text.old.added ++ reply_text m.now) }
-    ensures same { text.new.before ≡ text.old.before }
+    ensures ok { OnOk result (text.new ≡ text.old ++ reply_text m.now) }
 {
     match m {
         Mark::Verb { by, verb, answer } => {
@@ -67,8 +49,7 @@ fn put_reply(text: &mut Text, m: &Mark) -> Result<(), Memory>
 }
 
 fn put_entry(text: &mut Text, e: &Entry) -> Result<(), Memory>
-    ensures ok { OnOk result (text.new.added ≡ text.old.added ++ entry_text (entry_of e.now)) }
-    ensures same { text.new.before ≡ text.old.before }
+    ensures ok { OnOk result (text.new ≡ text.old ++ entry_text (entry_of e.now)) }
 {
     let stamp = e.stamp;
     let pass = e.pass;
@@ -79,8 +60,7 @@ fn put_entry(text: &mut Text, e: &Entry) -> Result<(), Memory>
 
 /// Adds the words of an event.
 pub fn put_event(text: &mut Text, event: &Event) -> Result<(), Memory>
-    ensures ok { OnOk result (text.new.added ≡ text.old.added ++ joined 32 (words (event_words event.now))) }
-    ensures same { text.new.before ≡ text.old.before }
+    ensures ok { OnOk result (text.new ≡ text.old ++ joined 32 (words (event_words event.now))) }
 {
     match event {
         Event::Verb { by, verb } => put_call(text, *by, verb),
@@ -97,8 +77,7 @@ pub fn put_event(text: &mut Text, event: &Event) -> Result<(), Memory>
 
 /// Adds what stands behind the words of the event: the answer, where one is in front, and the other marks.
 fn put_marks(text: &mut Text, marks: &[Mark]) -> Result<(), Memory>
-    ensures ok { OnOk result (text.new.added ≡ text.old.added ++ marks_text marks.now) }
-    ensures same { text.new.before ≡ text.old.before }
+    ensures ok { OnOk result (text.new ≡ text.old ++ marks_text marks.now) }
 {
     match marks {
         [Mark::Verb { answer, .. }, others @ ..] => {
@@ -115,8 +94,7 @@ fn put_marks(text: &mut Text, marks: &[Mark]) -> Result<(), Memory>
 }
 
 fn put_mark_lines(text: &mut Text, marks: &[Mark]) -> Result<(), Memory>
-    ensures ok { OnOk result (text.new.added ≡ text.old.added ++ flat_map mark_text marks.now) }
-    ensures same { text.new.before ≡ text.old.before }
+    ensures ok { OnOk result (text.new ≡ text.old ++ flat_map mark_text marks.now) }
 {
     for mark in marks {
         put_mark_line(text, mark)?;
@@ -125,8 +103,7 @@ fn put_mark_lines(text: &mut Text, marks: &[Mark]) -> Result<(), Memory>
 }
 
 fn put_mark_line(text: &mut Text, mark: &Mark) -> Result<(), Memory>
-    ensures ok { OnOk result (text.new.added ≡ text.old.added ++ mark_text mark.now) }
-    ensures same { text.new.before ≡ text.old.before }
+    ensures ok { OnOk result (text.new ≡ text.old ++ mark_text mark.now) }
 {
     put_mark(text, mark)?;
     text.put("\n")

@@ -5,7 +5,6 @@ use crate::entry::print;
 use ca_base::Memory;
 use ca_model::History;
 use ca_trace_words::Text;
-use std::mem;
 
 /// Appends the text of a history: the lines of all entries in order, and the line that tells how many there are.
 /// `Memory` leaves the output as it was.
@@ -38,16 +37,8 @@ fn print_end(count: usize, out: &mut Vec<u8>) -> Result<(), Memory>
     ensures ok { OnOk result (out.new.items ≡ out.old.items ++ end_text count) }
     ensures err { OnErr result (out.new.items ≡ out.old.items) }
 {
-    let alloc = *out.allocator();
-    let mut text = Text::behind(mem::replace(out, Vec::new(alloc)));
-    match text.put(format_args!("end {count}\n")) {
-        Ok(()) => {
-            *out = text.into_vec();
-            Ok(())
-        }
-        Err(memory) => {
-            *out = text.undo();
-            Err(memory)
-        }
-    }
+    let mut text = Text::new(*out.allocator())?;
+    text.put(format_args!("end {count}\n"))?;
+    out.extend_from_slice(text.as_bytes())?;
+    Ok(())
 }

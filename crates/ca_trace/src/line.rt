@@ -8,7 +8,6 @@ use crate::mark::put_mark;
 use ca_base::{Completion, Memory};
 use ca_model::{Answer, Event, Mark, Verb};
 use ca_trace_words::{Text, put_call};
-use std::mem;
 
 /// What the line of a call tells of its answer: all of it, or how many completions a poll gave, which have lines of
 /// their own.
@@ -48,24 +47,15 @@ pub fn print_line(line: &Line, out: &mut Vec<u8>) -> Result<(), Memory>
     ensures ok { OnOk result (out.new.items ≡ out.old.items ++ line_text line.now) }
     ensures err { OnErr result (out.new.items ≡ out.old.items) }
 {
-    let alloc = *out.allocator();
-    let mut text = Text::behind(mem::replace(out, Vec::new(alloc)));
-    match put_line(&mut text, line) {
-        Ok(()) => {
-            *out = text.into_vec();
-            Ok(())
-        }
-        Err(memory) => {
-            *out = text.undo();
-            Err(memory)
-        }
-    }
+    let mut text = Text::new(*out.allocator())?;
+    put_line(&mut text, line)?;
+    out.extend_from_slice(text.as_bytes())?;
+    Ok(())
 }
 
 /// Adds a line, without its line feed.
 fn put_line(text: &mut Text, line: &Line) -> Result<(), Memory>
-    ensures ok { OnOk result (text.new.added ≡ text.old.added ++ line_text line.now) }
-    ensures same { text.new.before ≡ text.old.before }
+    ensures ok { OnOk result (text.new ≡ text.old ++ line_text line.now) }
 {
     match line {
         Line::Turn { stamp, pass, event } => {
@@ -94,8 +84,7 @@ fn put_line(text: &mut Text, line: &Line) -> Result<(), Memory>
 
 /// Adds what the line of a call tells of its answer, each word after a space.
 fn put_told(text: &mut Text, told: &Told) -> Result<(), Memory>
-    ensures ok { OnOk result (text.new.added ≡ text.old.added ++ led 32 (words (answer_line_words told.now))) }
-    ensures same { text.new.before ≡ text.old.before }
+    ensures ok { OnOk result (text.new ≡ text.old ++ led 32 (words (answer_line_words told.now))) }
 {
     match told {
         Told::Whole(answer) => put_answer(text, answer),

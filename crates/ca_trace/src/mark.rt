@@ -11,8 +11,7 @@ use ca_trace_words::{Queues, Text, alarm, object};
 
 /// Adds the words of a mark, each after a space.
 pub fn put_mark(text: &mut Text, mark: &Mark) -> Result<(), Memory>
-    ensures ok { OnOk result (text.new.added ≡ text.old.added ++ led 32 (words (mark_words mark.now))) }
-    ensures same { text.new.before ≡ text.old.before }
+    ensures ok { OnOk result (text.new ≡ text.old ++ led 32 (words (mark_words mark.now))) }
 {
     match mark {
         Mark::Verb { answer, .. } => put_answer(text, answer),
@@ -91,9 +90,8 @@ pub fn put_mark(text: &mut Text, mark: &Mark) -> Result<(), Memory>
 
 /// Adds whose list was used by which key.
 fn put_local(text: &mut Text, queue: QueueId, domain: DomainId, key: Key) -> Result<(), Memory>
-    ensures ok { OnOk result (text.new.added ≡ text.old.added
+    ensures ok { OnOk result (text.new ≡ text.old
         ++ led 32 (words (Fixed (codes "local") ∷ OfQueue queue ∷ OfDomain domain ∷ OfKey key ∷ []))) }
-    ensures same { text.new.before ≡ text.old.before }
 {
     text.put(format_args!(" local {queue} {domain} {key}"))
 }
@@ -106,9 +104,8 @@ fn put_access(
     length: u32,
     verdict: &Verdict,
 ) -> Result<(), Memory>
-    ensures ok { OnOk result (text.new.added ≡ text.old.added
+    ensures ok { OnOk result (text.new ≡ text.old
         ++ led 32 (words (OfKind kind ∷ fields.Address address ∷ Number w32 length ∷ verdict_words verdict.now))) }
-    ensures same { text.new.before ≡ text.old.before }
 {
     let address = Address(address);
     text.put(format_args!(" {kind} {address} {length}"))?;
@@ -116,8 +113,7 @@ fn put_access(
 }
 
 fn put_grant(text: &mut Text, grant: &Grant) -> Result<(), Memory>
-    ensures ok { OnOk result (text.new.added ≡ text.old.added ++ led 32 (words (granted_words grant.now))) }
-    ensures same { text.new.before ≡ text.old.before }
+    ensures ok { OnOk result (text.new ≡ text.old ++ led 32 (words (granted_words grant.now))) }
 {
     let domain = grant.domain;
     let key = grant.key;
@@ -132,8 +128,7 @@ fn put_grant(text: &mut Text, grant: &Grant) -> Result<(), Memory>
 }
 
 fn put_verdict(text: &mut Text, verdict: &Verdict) -> Result<(), Memory>
-    ensures ok { OnOk result (text.new.added ≡ text.old.added ++ led 32 (words (verdict_words verdict.now))) }
-    ensures same { text.new.before ≡ text.old.before }
+    ensures ok { OnOk result (text.new ≡ text.old ++ led 32 (words (verdict_words verdict.now))) }
 {
     match verdict {
         Verdict::Read(bytes) => {

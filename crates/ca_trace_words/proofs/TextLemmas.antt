@@ -1,14 +1,9 @@
--- What a line has after a value was written into it, and what stands before text that is added.
-use Rattle.std.proofs.Common.{◌≡◌, ℕ, List, [], ◌++◌, None, Some, Option, IfSome}
+-- What a text has after a value was written into it.
+use Rattle.std.proofs.Common.{◌≡◌, ℕ, List, ◌++◌, None, Some, Option, IfSome}
 use Rattle.std.proofs.lemmas.Fmt.{contents_after_writes}
 use Rattle.std.specs.Fmt.{WritesText}
-use Rattle.arrayvec.specs.ArrayString.{ArrayString}
 
-pub text_of_line : (o : Option (List ℕ)) (a b : ArrayString)
-    → WritesText (λ s bytes t. t.bytes ≡ s.bytes ++ bytes) a o b → a.bytes ≡ []
-    → IfSome o (λ text. b.bytes ≡ text)
-text_of_line None a b w e = tt
-text_of_line (Some text) a b w e =
-    let h : b.bytes ≡ a.bytes ++ text =
-    contents_after_writes (λ s bytes t. t.bytes ≡ s.bytes ++ bytes) (λ s. s.bytes) (λ s bs t same. same) a text b w in
-    rw e at h
+pub text_behind : (o : Option (List ℕ)) (a b : List ℕ) → WritesText (λ t bytes u. u ≡ t ++ bytes) a o b
+    → IfSome o (λ text. b ≡ a ++ text)
+text_behind None a b w = tt
+text_behind (Some text) a b w = contents_after_writes (λ t bytes u. u ≡ t ++ bytes) (λ t. t) (λ t bytes u same. same) a text b w

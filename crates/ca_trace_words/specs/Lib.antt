@@ -1,4 +1,2 @@
 pub mod Words
 pub mod Verbs
-pub mod TextView
-pub mod Text

@@ -1,8 +1,7 @@
-//! The words of a trace: text that is added and can be taken back, the one spelling of each kind of word, and the words of
-//! a verb, which a script and a trace share.
+//! The words of a trace: text that is put together, the one spelling of each kind of word, and the words of a verb, which
+//! a script and a trace share.
 //!
-//! To the layers above it promises that what is added is, byte for byte, the text that the definitions give, and that what
-//! stood before can be had again, also after want of memory.
+//! To the layers above it promises that what is added is, byte for byte, the text that the definitions give.
 //!
 //! Source: this profile's choice. The words for verbs and keys follow the InfiniBand Architecture Specification
 //! Volume 1, the chapter on the software transport interface.

@@ -13,8 +13,7 @@ use std::fmt::Display;
 /// Adds what a value displays as, and behind it the pieces of a list.
 fn put_listed<D: Display + Drop>(text: &mut Text, value: D, list: &[Piece]) -> Result<(), Memory>
     ensures ok { OnOk result (IfSome (D.output value)
-        (λ front. text.new.added ≡ text.old.added ++ (front ++ commas (map piece_text list.now)))) }
-    ensures same { text.new.before ≡ text.old.before }
+        (λ front. text.new ≡ text.old ++ (front ++ commas (map piece_text list.now)))) }
 {
     text.put(value)?;
     text.put_pieces(list)
@@ -28,9 +27,8 @@ fn put_reach(
     key: Key,
     list: &[Piece],
 ) -> Result<(), Memory>
-    ensures ok { OnOk result (text.new.added ≡ text.old.added
+    ensures ok { OnOk result (text.new ≡ text.old
         ++ led 32 (words (Fixed name.now ∷ fields.Address address ∷ OfKey key ∷ OfPieces list.now ∷ []))) }
-    ensures same { text.new.before ≡ text.old.before }
 {
     let address = Address(address);
     put_listed(text, format_args!(" {name} {address} {key} "), list)
@@ -44,11 +42,10 @@ fn put_cmp_swap(
     swap: u64,
     list: &[Piece],
 ) -> Result<(), Memory>
-    ensures ok { OnOk result (text.new.added ≡ text.old.added
+    ensures ok { OnOk result (text.new ≡ text.old
         ++ led 32 (words (Fixed (codes "cas") ∷ fields.Address address ∷ OfKey key ∷ Number w64 compare
         ∷ Number w64 swap
         ∷ OfPieces list.now ∷ []))) }
-    ensures same { text.new.before ≡ text.old.before }
 {
     let address = Address(address);
     put_listed(
@@ -65,10 +62,9 @@ fn put_fetch_add(
     add: u64,
     list: &[Piece],
 ) -> Result<(), Memory>
-    ensures ok { OnOk result (text.new.added ≡ text.old.added
+    ensures ok { OnOk result (text.new ≡ text.old
         ++ led 32 (words (Fixed (codes "add") ∷ fields.Address address ∷ OfKey key ∷ Number w64 add
         ∷ OfPieces list.now ∷ []))) }
-    ensures same { text.new.before ≡ text.old.before }
 {
     let address = Address(address);
     put_listed(text, format_args!(" add {address} {key} {add} "), list)
@@ -76,8 +72,7 @@ fn put_fetch_add(
 
 /// Adds the words of what a send request asks for, each after a space.
 pub fn put_operation(text: &mut Text, op: &SendOp) -> Result<(), Memory>
-    ensures ok { OnOk result (text.new.added ≡ text.old.added ++ led 32 (words (operation_words op.now))) }
-    ensures same { text.new.before ≡ text.old.before }
+    ensures ok { OnOk result (text.new ≡ text.old ++ led 32 (words (operation_words op.now))) }
 {
     match op {
         SendOp::Send { list } => { put_listed(text, " send ", list.as_slice()) }

@@ -4,43 +4,38 @@ ghost use Rattle.ca_keys.specs.Spelling.{run_text};
 ghost use Rattle.ca_base.specs.Spelling.{piece_text};
 ghost use Rattle.ca_trace_words.specs.Words.{commas, hexadecimal};
 
-use arrayvec::ArrayString;
 use ca_base::{Memory, Piece, Run};
+use std::alloc::Global;
+use std::fmt;
 use std::fmt::{Display, Write};
 use std::marker::Model;
 
-/// The most bytes of the words that are written at one time. The longest, a completion with all its fields at their
-/// greatest, has about 150.
-const LINE_BYTES: usize = 256;
+/// How many bytes a text has room for at first: more than the lines of most entries have.
+const FIRST_ROOM: usize = 512;
 
-/// Text that is added behind what a list of bytes holds, and that can be taken back. Contracts see what stood before
-/// and what was added.
+/// A text that is being put together. Contracts see its bytes.
 #[derive(Drop)]
 pub struct Text {
     bytes: Vec<u8>,
-    start: usize,
 }
 
 impl Model for Text {
-    ghost use Rattle.ca_trace_words.specs.Text.{TextValue};
+    ghost use Rattle.std.specs.Prelude.{ℕ, List};
 
-    ghost Value = { TextValue };
+    ghost Value = { List ℕ };
 
-    ghost use Rattle.ca_trace_words.specs.TextView.{view_of, IsSound};
-
-    ghost view = { view_of };
-
-    ghost invariant = { IsSound };
+    ghost view = { λ t. t.bytes.items };
 }
 
-/// The words that a value displays as, on the stack.
-fn displayed<D: Display + Drop>(value: D) -> Result<ArrayString<LINE_BYTES>, Memory>
-    ensures { IfOk result (λ line. IfSome (D.output value) (λ text. line.bytes ≡ text)) }
-{
-    let mut line: ArrayString<LINE_BYTES> = ArrayString::new();
-    match line.write(value) {
-        Ok(()) => Ok(line),
-        Err(_) => Err(Memory),
+/// A piece of text is added whole, or not at all.
+impl fmt::Write for Text {
+    ghost write_str_gives = { λ t bytes u. u ≡ t ++ bytes };
+
+    fn write_str(&mut self, piece: &str) -> fmt::Result {
+        match self.bytes.extend_from_slice(piece.as_bytes()) {
+            Ok(()) => Ok(()),
+            Err(_) => Err(fmt::Error),
+        }
     }
 }
 
@@ -57,35 +52,25 @@ fn append_digits(out: &mut Vec<u8>, bytes: &[u8]) -> Result<(), Memory>
 }
 
 impl Text {
-    /// No text yet behind these bytes. It takes no memory.
-    pub fn behind(bytes: Vec<u8>) -> Text
-        ensures before { result.before ≡ bytes.items }
-        ensures added { result.added ≡ [] }
+    /// A text of no bytes, with room for some.
+    pub fn new(alloc: Global) -> Result<Text, Memory>
+        ensures { IfOk result (λ text. text ≡ []) }
     {
-        let start = bytes.len();
-        Text { bytes, start }
+        Ok(Text {
+            bytes: Vec::with_capacity(alloc, FIRST_ROOM)?,
+        })
     }
 
-    /// Takes the text back: the bytes that stood before. It takes no memory.
-    pub fn undo(self) -> Vec<u8>
-        ensures { result.items ≡ self.before }
+    /// The text's bytes.
+    pub fn as_bytes(&self) -> &[u8]
+        ensures { result.now ≡ self.now }
     {
-        let mut bytes = self.bytes;
-        bytes.truncate(self.start);
-        bytes
-    }
-
-    /// The bytes that stood before, and the text behind them. It takes no memory.
-    pub fn into_vec(self) -> Vec<u8>
-        ensures { result.items ≡ self.before ++ self.added }
-    {
-        self.bytes
+        self.bytes.as_slice()
     }
 
     /// Adds bytes.
     fn put_bytes(&mut self, bytes: &[u8]) -> Result<(), Memory>
-        ensures ok { OnOk result (self.new.added ≡ self.old.added ++ bytes.now) }
-        ensures same { self.new.before ≡ self.old.before }
+        ensures ok { OnOk result (self.new ≡ self.old ++ bytes.now) }
     {
         self.bytes.extend_from_slice(bytes)?;
         Ok(())
@@ -93,17 +78,17 @@ impl Text {
 
     /// Adds what a value displays as.
     pub fn put<D: Display + Drop>(&mut self, value: D) -> Result<(), Memory>
-        ensures ok { OnOk result (IfSome (D.output value) (λ text. self.new.added ≡ self.old.added ++ text)) }
-        ensures same { self.new.before ≡ self.old.before }
+        ensures ok { OnOk result (IfSome (D.output value) (λ text. self.new ≡ self.old ++ text)) }
     {
-        let line = displayed(value)?;
-        self.put_bytes(line.as_bytes())
+        match self.write(value) {
+            Ok(()) => Ok(()),
+            Err(_) => Err(Memory),
+        }
     }
 
     /// Adds two hexadecimal digits for each byte, or `-` for no bytes.
     pub fn put_hex(&mut self, bytes: &[u8]) -> Result<(), Memory>
-        ensures ok { OnOk result (self.new.added ≡ self.old.added ++ hexadecimal bytes.now) }
-        ensures same { self.new.before ≡ self.old.before }
+        ensures ok { OnOk result (self.new ≡ self.old ++ hexadecimal bytes.now) }
     {
         if bytes.is_empty() {
             return self.put_bytes(b"-");
@@ -113,8 +98,7 @@ impl Text {
 
     /// Adds the pieces of a list with commas between, or `-` for none.
     pub fn put_pieces(&mut self, list: &[Piece]) -> Result<(), Memory>
-        ensures ok { OnOk result (self.new.added ≡ self.old.added ++ commas (map piece_text list.now)) }
-        ensures same { self.new.before ≡ self.old.before }
+        ensures ok { OnOk result (self.new ≡ self.old ++ commas (map piece_text list.now)) }
     {
         match list {
             [] => self.put_bytes(b"-"),
@@ -130,8 +114,7 @@ impl Text {
 
     /// Adds page numbers with commas between, or `-` for none.
     pub fn put_pages(&mut self, pages: &[u16]) -> Result<(), Memory>
-        ensures ok { OnOk result (self.new.added ≡ self.old.added ++ commas (map decimal pages.now)) }
-        ensures same { self.new.before ≡ self.old.before }
+        ensures ok { OnOk result (self.new ≡ self.old ++ commas (map decimal pages.now)) }
     {
         match pages {
             [] => self.put_bytes(b"-"),
@@ -147,8 +130,7 @@ impl Text {
 
     /// Adds runs with commas between, or `-` for none.
     pub fn put_runs(&mut self, runs: &[Run]) -> Result<(), Memory>
-        ensures ok { OnOk result (self.new.added ≡ self.old.added ++ commas (map run_text runs.now)) }
-        ensures same { self.new.before ≡ self.old.before }
+        ensures ok { OnOk result (self.new ≡ self.old ++ commas (map run_text runs.now)) }
     {
         match runs {
             [] => self.put_bytes(b"-"),

@@ -8,7 +8,6 @@ use crate::text::Text;
 use crate::words::Flags;
 use ca_base::{Change, Memory, Perhaps, RecvRequest, SendRequest, Slot};
 use ca_model::Verb;
-use std::mem;
 
 /// Appends the line of a script by which consumer `by` calls a verb, without its line feed. `Memory` leaves the output
 /// as it was.
@@ -16,24 +15,15 @@ pub fn print_call(by: u32, verb: &Verb, out: &mut Vec<u8>) -> Result<(), Memory>
     ensures ok { OnOk result (out.new.items ≡ out.old.items ++ call by verb.now) }
     ensures err { OnErr result (out.new.items ≡ out.old.items) }
 {
-    let alloc = *out.allocator();
-    let mut text = Text::behind(mem::replace(out, Vec::new(alloc)));
-    match put_call(&mut text, by, verb) {
-        Ok(()) => {
-            *out = text.into_vec();
-            Ok(())
-        }
-        Err(memory) => {
-            *out = text.undo();
-            Err(memory)
-        }
-    }
+    let mut text = Text::new(*out.allocator())?;
+    put_call(&mut text, by, verb)?;
+    out.extend_from_slice(text.as_bytes())?;
+    Ok(())
 }
 
 /// Adds a consumer and the verb that it calls.
 pub fn put_call(text: &mut Text, by: u32, verb: &Verb) -> Result<(), Memory>
-    ensures ok { OnOk result (text.new.added ≡ text.old.added ++ joined 32 (words (call_words by verb.now))) }
-    ensures same { text.new.before ≡ text.old.before }
+    ensures ok { OnOk result (text.new ≡ text.old ++ joined 32 (words (call_words by verb.now))) }
 {
     text.put(format_args!("c{by}"))?;
     put_verb(text, verb)
@@ -41,8 +31,7 @@ pub fn put_call(text: &mut Text, by: u32, verb: &Verb) -> Result<(), Memory>
 
 /// Adds the words of a verb, each after a space.
 fn put_verb(text: &mut Text, verb: &Verb) -> Result<(), Memory>
-    ensures ok { OnOk result (text.new.added ≡ text.old.added ++ led 32 (words (verb_words verb.now))) }
-    ensures same { text.new.before ≡ text.old.before }
+    ensures ok { OnOk result (text.new ≡ text.old ++ led 32 (words (verb_words verb.now))) }
 {
     match verb {
         Verb::AllocPd { domain } => text.put(format_args!(" pd {domain}")),
@@ -103,8 +92,7 @@ fn put_verb(text: &mut Text, verb: &Verb) -> Result<(), Memory>
 }
 
 fn put_change(text: &mut Text, slot: Slot, change: &Change) -> Result<(), Memory>
-    ensures ok { OnOk result (text.new.added ≡ text.old.added ++ led 32 (words (change_words slot change.now))) }
-    ensures same { text.new.before ≡ text.old.before }
+    ensures ok { OnOk result (text.new ≡ text.old ++ led 32 (words (change_words slot change.now))) }
 {
     match change {
         Change::Reset => text.put(format_args!(" reset {slot}")),
@@ -129,9 +117,8 @@ fn put_change(text: &mut Text, slot: Slot, change: &Change) -> Result<(), Memory
 }
 
 fn put_post(text: &mut Text, slot: Slot, request: &SendRequest) -> Result<(), Memory>
-    ensures ok { OnOk result (text.new.added
-        ≡ text.old.added ++ led 32 (words (verb_words (Verb.PostSend slot request.now)))) }
-    ensures same { text.new.before ≡ text.old.before }
+    ensures ok { OnOk result (text.new
+        ≡ text.old ++ led 32 (words (verb_words (Verb.PostSend slot request.now)))) }
 {
     let id = request.id;
     let flags = Flags {
@@ -149,10 +136,9 @@ fn put_receive(
     slot: Slot,
     request: &RecvRequest,
 ) -> Result<(), Memory>
-    ensures ok { OnOk result (text.new.added ≡ text.old.added
+    ensures ok { OnOk result (text.new ≡ text.old
         ++ led 32 (words (Fixed name.now ∷ OfSlot slot ∷ Number w64 request.now.id ∷ OfPieces request.now.list.items
         ∷ []))) }
-    ensures same { text.new.before ≡ text.old.before }
 {
     let id = request.id;
     text.put(format_args!(" {name} {slot} {id} "))?;
@@ -160,8 +146,7 @@ fn put_receive(
 }
 
 fn put_poll(text: &mut Text, slot: Slot, n: u8, least: u8) -> Result<(), Memory>
-    ensures ok { OnOk result (text.new.added ≡ text.old.added ++ led 32 (words (poll_words slot n least))) }
-    ensures same { text.new.before ≡ text.old.before }
+    ensures ok { OnOk result (text.new ≡ text.old ++ led 32 (words (poll_words slot n least))) }
 {
     if least == 0 {
         text.put(format_args!(" poll {slot} {n}"))

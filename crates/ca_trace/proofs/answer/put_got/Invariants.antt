@@ -5,5 +5,4 @@ use Rattle.ca_trace.proofs.answer.put_got.Given as goal
 
 abbrev pub invariant-loop-completion : goal.invariant-loop-completion
 invariant-loop-completion l =
-    (l.text.added ++ flat_map got_line (drop l.completion-index l.completions) ≡ l.initial.text.added ++ flat_map got_line l.completions)
-    × (l.text.before ≡ l.initial.text.before)
+    l.text ++ flat_map got_line (drop l.completion-index l.completions) ≡ l.initial.text ++ flat_map got_line l.completions

@@ -5,5 +5,4 @@ use Rattle.ca_trace.proofs.entry.put_mark_lines.Given as goal
 
 abbrev pub invariant-loop-mark : goal.invariant-loop-mark
 invariant-loop-mark l =
-    (l.text.added ++ flat_map mark_text (drop l.mark-index l.marks) ≡ l.initial.text.added ++ flat_map mark_text l.marks)
-    × (l.text.before ≡ l.initial.text.before)
+    l.text ++ flat_map mark_text (drop l.mark-index l.marks) ≡ l.initial.text ++ flat_map mark_text l.marks

@@ -2,5 +2,5 @@ use Rattle.std.proofs.Common.{arith}
 use Rattle.std.proofs.lemmas.Grind.{common_steps}
 use Rattle.ca_trace_words.proofs.verb.put_poll.Goals as goal
 
-pub returns-then-least-n-clause-ok : goal.returns-then-least-n-clause-ok
-returns-then-least-n-clause-ok c = grind (arith, common_steps)
+pub returns-then-least-n : goal.returns-then-least-n
+returns-then-least-n c = grind (arith, common_steps)

@@ -4,5 +4,4 @@ use Rattle.ca_trace_words.proofs.text.Text.put_pages.Given as goal
 
 abbrev pub invariant-loop-page : goal.invariant-loop-page
 invariant-loop-page l =
-    (l.self.added ++ led 44 (map decimal (drop l.page-index l.others)) ≡ l.initial.self.added ++ led 44 (map decimal l.others))
-    × (l.self.before ≡ l.initial.self.before)
+    l.self ++ led 44 (map decimal (drop l.page-index l.others)) ≡ l.initial.self ++ led 44 (map decimal l.others)

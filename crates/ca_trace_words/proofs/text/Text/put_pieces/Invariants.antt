@@ -5,5 +5,4 @@ use Rattle.ca_trace_words.proofs.text.Text.put_pieces.Given as goal
 
 abbrev pub invariant-loop-piece : goal.invariant-loop-piece
 invariant-loop-piece l =
-    (l.self.added ++ led 44 (map piece_text (drop l.piece-index l.others)) ≡ l.initial.self.added ++ led 44 (map piece_text l.others))
-    × (l.self.before ≡ l.initial.self.before)
+    l.self ++ led 44 (map piece_text (drop l.piece-index l.others)) ≡ l.initial.self ++ led 44 (map piece_text l.others)

@@ -5,5 +5,4 @@ use Rattle.ca_trace_words.proofs.text.Text.put_runs.Given as goal
 
 abbrev pub invariant-loop-run : goal.invariant-loop-run
 invariant-loop-run l =
-    (l.self.added ++ led 44 (map run_text (drop l.run-index l.others)) ≡ l.initial.self.added ++ led 44 (map run_text l.others))
-    × (l.self.before ≡ l.initial.self.before)
+    l.self ++ led 44 (map run_text (drop l.run-index l.others)) ≡ l.initial.self ++ led 44 (map run_text l.others)
