@@ -1,6 +1,6 @@
 -- What a turn sends is in the default partition, and for the queue pair that its own has named, if it is a packet. For
 -- proofs only.
-use Rattle.std.proofs.Common.{◌≡◌, ℕ, ◌*◌, ◌%◌, ◌^◌, ◌<◌, Bool, true, false, not, List, [], Option, None, Some, Ok, is_some, length, slice_get, nat_le, refl, ap, sym, subst, ◌∙◌, arith, true≢false}
+use Rattle.std.proofs.Common.{◌≡◌, ℕ, ◌*◌, ◌^◌, ◌<◌, Bool, true, false, not, List, [], Option, None, Some, Ok, is_some, length, slice_get, nat_le, refl, ap, sym, subst, ◌∙◌, arith, true≢false}
 use Rattle.std.specs.List.{flat_map}
 use Rattle.std.specs.Option.{option_map, option_map_or}
 use Rattle.ca_base.specs.declared.queue_numbers.Queued.{Queued}
