@@ -78,7 +78,7 @@ opening-calm bytes = record { mail = λ n. tt; wakes = λ n. tt }
 drops-aside : (c : Configuration) (w : World) (call : Call) (verb : Verb) → LeavesPairs verb → Leads w (λ v ms. AreWhole ms) (verb_plan c call verb)
 drops-aside c w call (verbs.AllocPd domain) aside = search rules
 drops-aside c w call (verbs.DeallocPd domain) aside = search rules
-drops-aside c w call (verbs.RegMr slot buffer offset count rights) aside = search rules
+drops-aside c w call (verbs.RegMr slot buffer offset count rights) aside = search rules depth 14
 drops-aside c w call (verbs.AllocMr slot pages) aside = search rules
 drops-aside c w call (verbs.DeregMr slot) aside = search rules
 drops-aside c w call (verbs.AllocMw slot kind) aside = search rules
@@ -155,8 +155,8 @@ module _ (c : Configuration) (w : World) (sound : IsSoundWorld c w) (calm : IsCa
   found-awake name q is = subst IsNotWaiting is (calm.wakes name)
 
   -- another queue pair in a slot, and the same envelopes
-  goes-on : (v : World) (name : QueueId) (p : QueuePair) (ms : List Mark) → p.requester.waiting ≡ false → Replaces w name (Present p) (w.mailbox name) v → AreWhole ms → IsCalmWorld v × AreWhole ms
-  goes-on v name p ms awake replaces whole = (replaced-calm w v name (Present p) (w.mailbox name) replaces awake (calm.mail name) calm, whole)
+  goes-on : (v : World) (name : QueueId) (p : QueuePair) → p.requester.waiting ≡ false → Replaces w name (Present p) (w.mailbox name) v → IsCalmWorld v
+  goes-on v name p awake replaces = replaced-calm w v name (Present p) (w.mailbox name) replaces awake (calm.mail name) calm
 
   same-calm : (v : World) → v.queue ≡ w.queue → v.mailbox ≡ w.mailbox → IsCalmWorld v
   same-calm v queue mail = record {
@@ -202,18 +202,18 @@ module _ (c : Configuration) (w : World) (sound : IsSoundWorld c w) (calm : IsCa
   of_verb by (verbs.DestroyQp slot) none = leads-destroy c w P (record { by = by; verb = verbs.DestroyQp slot }) slot sound (refused (record { by = by; verb = verbs.DestroyQp slot }))
       (λ q v there replaces packets ready. (replaced-calm w v (queue_of slot) (NoQueue q.incarnation q.requester.timers) (emptied_mailbox q.incarnation (w.mailbox (queue_of slot))) replaces tt tt calm, (tt, tt)))
   of_verb by (verbs.PostSend slot request) none = leads-post c w P (record { by = by; verb = verbs.PostSend slot request }) slot request sound (refused (record { by = by; verb = verbs.PostSend slot request }))
-      (λ q v drawn key there fails replaces packets ready. goes-on v (queue_of slot) (after_flush (with_send request drawn q)) _ (flush-awake (with_send request drawn q) (found-awake (queue_of slot) q there.is)) replaces
-      (tt, flushed-whole (with_send request drawn q)))
+      (λ q v drawn key there fails replaces packets ready. (goes-on v (queue_of slot) (after_flush (with_send request drawn q)) (flush-awake (with_send request drawn q) (found-awake (queue_of slot) q there.is)) replaces,
+      (tt, flushed-whole (with_send request drawn q))))
   of_verb by (verbs.PostRecv slot request) none = leads-receive c w P (record { by = by; verb = verbs.PostRecv slot request }) slot request sound (refused (record { by = by; verb = verbs.PostRecv slot request }))
-      (λ q v there replaces packets ready. goes-on v (queue_of slot) (after_flush (with_receive request q)) _ (flush-awake (with_receive request q) (found-awake (queue_of slot) q there.is)) replaces
-      (tt, flushed-whole (with_receive request q)))
+      (λ q v there replaces packets ready. (goes-on v (queue_of slot) (after_flush (with_receive request q)) (flush-awake (with_receive request q) (found-awake (queue_of slot) q there.is)) replaces,
+      (tt, flushed-whole (with_receive request q))))
   of_verb by (verbs.Poll slot n least) none = leads-poll w P (record { by = by; verb = verbs.Poll slot n least }) slot n least (refused (record { by = by; verb = verbs.Poll slot n least }))
       (λ cq us is freed packets ready. (freers-calm (put_all us (put w (Cq_of slot) (Some (after_polls (length (take n cq.waiting)) cq))))
       (poll-freers c w slot cq n us (put w (Cq_of slot) (Some (after_polls (length (take n cq.waiting)) cq))) sound is freed refl refl), (tt, tt)))
   of_verb by (verbs.DeallocMw slot) none = leads-dealloc w P (record { by = by; verb = verbs.DeallocMw slot }) slot (refused (record { by = by; verb = verbs.DeallocMw slot }))
       (λ v o queue mail packets ready. (same-calm v queue mail, (tt, revocation-whole slot.domain.adapter o)))
-      (λ name p v o is queue mail packets ready. goes-on v name (window_fewer p) _ (found-awake name p is) (replaces-turned w v name (Present (window_fewer p)) (record { queue = queue; mailbox = mail }))
-      (tt, revocation-whole slot.domain.adapter o))
+      (λ name p v o is queue mail packets ready. (goes-on v name (window_fewer p) (found-awake name p is) (replaces-turned w v name (Present (window_fewer p)) (record { queue = queue; mailbox = mail })),
+      (tt, revocation-whole slot.domain.adapter o)))
   of_verb by (verbs.Inject queue bytes) none = absurd none
   of_verb by (verbs.AllocPd domain) none = aside by (verbs.AllocPd domain) (record {})
   of_verb by (verbs.DeallocPd domain) none = aside by (verbs.DeallocPd domain) (record {})
@@ -258,11 +258,11 @@ module _ (c : Configuration) (w : World) (sound : IsSoundWorld c w) (calm : IsCa
     where
       performed : (q : QueuePair) → IsFoundAt w name q → (e : Effects) (cs : List Update) (ws : List Write) → KeepsCalm e → AreAside cs
           → P (write_all ws (put_all (updates_of q (around_in w q (shared_of w q)) e ++ cs) w)) e.marks
-      performed q there e cs ws keeps aside packets ready = goes-on (write_all ws (put_all us w)) name e.queue e.marks keeps.awake (replaces-turned w (write_all ws (put_all us w)) name (Present e.queue)
+      performed q there e cs ws keeps aside packets ready = (goes-on (write_all ws (put_all us w)) name e.queue keeps.awake (replaces-turned w (write_all ws (put_all us w)) name (Present e.queue)
           (has-writes (with_at queue_eq w.queue name (Present e.queue)) w.mailbox ws (put_all us w)
           (subst (λ n. Has (with_at queue_eq w.queue n (Present e.queue)) w.mailbox (put_all us w)) there.named
           (subst (Has (with_at queue_eq w.queue q.queue (Present e.queue)) w.mailbox) (sym (puts-append (updates_of q (around_in w q (shared_of w q)) e) cs w))
-          (has-aside (with_at queue_eq w.queue q.queue (Present e.queue)) w.mailbox cs (put_all (updates_of q (around_in w q (shared_of w q)) e) w) aside (has-turn w q (around_in w q (shared_of w q)) e)))))) keeps.marks
+          (has-aside (with_at queue_eq w.queue q.queue (Present e.queue)) w.mailbox cs (put_all (updates_of q (around_in w q (shared_of w q)) e) w) aside (has-turn w q (around_in w q (shared_of w q)) e)))))), keeps.marks)
         where
           us : List Update
           us = updates_of q (around_in w q (shared_of w q)) e ++ cs
@@ -300,7 +300,7 @@ module _ (c : Configuration) (w : World) (sound : IsSoundWorld c w) (calm : IsCa
 
   of_timeout : (name : QueueId) (hasten : Bool) → Leads w P (timeout_plan c name hasten)
   of_timeout name hasten = leads-timeout c w P name hasten sound (λ q silent v there sends replaces packets ready.
-      goes-on v name (after_timeout silent q).queue (after_timeout silent q).marks (timeout-calm silent q (found-awake name q there.is)).awake replaces (timeout-calm silent q (found-awake name q there.is)).marks)
+      (goes-on v name (after_timeout silent q).queue (timeout-calm silent q (found-awake name q there.is)).awake replaces, (timeout-calm silent q (found-awake name q there.is)).marks))
 
 -- ---- wakes
 
@@ -337,7 +337,7 @@ pub event-calm : (c : Configuration) (w : World) (event : Event) → IsSoundWorl
 event-calm c w event sound calm none = comes w (P c w sound calm) (plan c event) (by event none)
   where
     by : (event : Event) → IsNoInjection event → Leads w (P c w sound calm) (plan c event)
-    by (events.Verb by verb) none = (λ named. of_verb c w sound calm by verb none, λ unnamed. refused c w sound calm (record { by = by; verb = verb }) NoSuch)
+    by (events.Verb k verb) none = (λ named. of_verb c w sound calm k verb none, λ unnamed. refused c w sound calm (record { by = k; verb = verb }) NoSuch)
     by (events.Request name lot) none = of_request c w sound calm name lot
     by (events.Respond name lot) none = of_respond c w sound calm name lot
     by (events.Deliver name index) none = of_deliver c w sound calm name index
