@@ -23,7 +23,7 @@ use Rattle.ca_base.specs.objects.QueuePair.{QueuePair, QueueSlot, NoQueue, Prese
 use Rattle.ca_base.specs.objects.SharedReceives.{SharedReceives}
 use Rattle.ca_base.specs.objects.StateTable.{queue_after_change, state_eq}
 use Rattle.ca_calm_mail.proofs.MailLemmas.{addressed-delivered, addressed-lent, replaced-calm, sent-calm, sent-whole, turn-addressed}
-use Rattle.ca_calm_mail.specs.CalmMail.{AreAddressed, IsAddressed, IsCalmWorld, IsNoInjection, IsNotWaiting, SendsNoRnrNak, SendsPacket}
+use Rattle.ca_calm_mail.specs.CalmMail.{AreAddressed, IsAddressed, IsCalmWorld, IsWithoutInjection, IsNotWaiting, SendsNoRnrNak, SendsPacket}
 use Rattle.ca_keys.specs.Equal.{queue_eq}
 use Rattle.ca_keys.specs.Memory.{ByteMap}
 use Rattle.ca_keys.specs.Numbers.{queue_of}
@@ -55,7 +55,7 @@ use Rattle.ca_model.specs.machine.VerbAnswers.{Call}
 use Rattle.ca_model.specs.machine.World.{Cq_of, Mailbox_of, Queue_of, World, opening_world, put}
 use Rattle.ca_rows_mail.proofs.AddressLemmas.{packet-for, respond-for}
 use Rattle.ca_rows_mail.proofs.RowCalm.{arrival-calm, flush-whole, operation-calm, packet-calm, respond-calm, timeout-calm, whole-append}
-use Rattle.ca_rows_mail.specs.RowMail.{AreWhole, IsFor, KeepsCalm, SendsFor}
+use Rattle.ca_rows_mail.specs.RowMail.{AreWholeDrops, IsFor, KeepsCalm, SendsFor}
 use Rattle.ca_ties.proofs.DeliverWalk.{Changes, Ends, Has, ends-do, has-aside, has-turn, has-writes, puts-append}
 use Rattle.ca_ties.proofs.SendLemmas.{boxes_after, leads-left}
 use Rattle.ca_ties.proofs.TellLemmas.{leads-both}
@@ -75,7 +75,7 @@ opening-calm bytes = record { mail = λ n. tt; wakes = λ n. tt }
 
 -- ---- marks of verbs
 
-drops-aside : (c : Configuration) (w : World) (call : Call) (verb : Verb) → LeavesPairs verb → Leads w (λ v ms. AreWhole ms) (verb_plan c call verb)
+drops-aside : (c : Configuration) (w : World) (call : Call) (verb : Verb) → LeavesPairs verb → Leads w (λ v ms. AreWholeDrops ms) (verb_plan c call verb)
 drops-aside c w call (verbs.AllocPd domain) aside = search rules
 drops-aside c w call (verbs.DeallocPd domain) aside = search rules
 drops-aside c w call (verbs.RegMr slot buffer offset count rights) aside = search rules depth 14
@@ -99,7 +99,7 @@ drops-aside c w call (verbs.PostRecv slot request) aside = absurd aside
 drops-aside c w call (verbs.Poll slot n least) aside = absurd aside
 drops-aside c w call (verbs.Inject queue bytes) aside = absurd aside
 
-change-whole : (q : QueuePair) (change : state_change.Change) → AreWhole (told_by q change)
+change-whole : (q : QueuePair) (change : state_change.Change) → AreWholeDrops (told_by q change)
 change-whole q changes.Error = flush-whole q
 change-whole q changes.Init = tt
 change-whole q (changes.Rtr peer incarnation psn mtu rnr_code) = tt
@@ -108,14 +108,14 @@ change-whole q changes.Sqd = tt
 change-whole q changes.Resume = tt
 change-whole q changes.Reset = tt
 
-flushed-whole : (q : QueuePair) → AreWhole (marks_of_flush q)
+flushed-whole : (q : QueuePair) → AreWholeDrops (marks_of_flush q)
 flushed-whole q = by (state_eq q.state states.Error)
   where
-    by : (b : Bool) → AreWhole (if b then flush_marks q else [])
+    by : (b : Bool) → AreWholeDrops (if b then flush_marks q else [])
     by true = flush-whole q
     by false = tt
 
-revocation-whole : (adapter : ℕ) (o : Option Key) → AreWhole (revocation adapter o)
+revocation-whole : (adapter : ℕ) (o : Option Key) → AreWholeDrops (revocation adapter o)
 revocation-whole adapter None = tt
 revocation-whole adapter (Some key) = (tt, tt)
 
@@ -149,7 +149,7 @@ flush-awake q awake = by (state_eq q.state states.Error)
 module _ (c : Configuration) (w : World) (sound : IsSoundWorld c w) (calm : IsCalmWorld w) where
   -- what comes of an event
   abbrev P : World → List Mark → Type 0
-  P v ms = AllByRecursion SendsPacket ms → AllByRecursion SendsNoRnrNak ms → IsCalmWorld v × AreWhole ms
+  P v ms = AllByRecursion SendsPacket ms → AllByRecursion SendsNoRnrNak ms → IsCalmWorld v × AreWholeDrops ms
 
   found-awake : (name : QueueId) (q : QueuePair) → w.queue name ≡ Present q → q.requester.waiting ≡ false
   found-awake name q is = subst IsNotWaiting is (calm.wakes name)
@@ -180,40 +180,55 @@ module _ (c : Configuration) (w : World) (sound : IsSoundWorld c w) (calm : IsCa
   refused call x packets ready = (calm, (tt, tt))
 
   aside : (by : ℕ) (verb : Verb) → LeavesPairs verb → Leads w P (verb_plan c (record { by = by; verb = verb }) verb)
-  aside by verb leaves = leads-weaker w (λ v ms. SamePairs w v ms × AreWhole ms) P (verb_plan c call verb) (λ v ms same packets ready. (same-calm v same.0.0 same.0.1, same.1))
-      (leads-both w (SamePairs w) (λ v ms. AreWhole ms) (verb_plan c call verb) (leads-aside c w call verb leaves (refl, refl)) (drops-aside c w call verb leaves))
+  aside by verb leaves = leads-weaker w (λ v ms. SamePairs w v ms × AreWholeDrops ms) P (verb_plan c call verb) (λ v ms same packets ready. (same-calm v same.0.0 same.0.1, same.1))
+      (leads-both w (SamePairs w) (λ v ms. AreWholeDrops ms) (verb_plan c call verb) (leads-aside c w call verb leaves (refl, refl)) (drops-aside c w call verb leaves))
     where
       call : Call
       call = record { by = by; verb = verb }
 
-  of_verb : (by : ℕ) (verb : Verb) → IsNoInjection (events.Verb by verb) → Leads w P (verb_plan c (record { by = by; verb = verb }) verb)
+  of_verb : (by : ℕ) (verb : Verb) → IsWithoutInjection (events.Verb by verb) → Leads w P (verb_plan c (record { by = by; verb = verb }) verb)
   of_verb by (verbs.ModifyQp slot change) none = leads-change c w P (record { by = by; verb = verbs.ModifyQp slot change }) slot change sound (refused (record { by = by; verb = verbs.ModifyQp slot change }))
-      (λ q v there among replaces packets ready. (replaced-calm w v (queue_of slot) (Present (queue_after_change change q)) (box_after change q (w.mailbox (queue_of slot))) replaces
-      (change-awake q change (found-awake (queue_of slot) q there.is)) (change-mail (queue_of slot).number q (w.mailbox (queue_of slot)) change (calm.mail (queue_of slot))) calm, (tt, change-whole q change)))
+      (λ q v there among replaces packets ready. (
+        replaced-calm w v (queue_of slot) (Present (queue_after_change change q)) (box_after change q (w.mailbox (queue_of slot))) replaces
+            (change-awake q change (found-awake (queue_of slot) q there.is)) (change-mail (queue_of slot).number q (w.mailbox (queue_of slot)) change (calm.mail (queue_of slot))) calm,
+        (tt, change-whole q change),
+      ))
   of_verb by (verbs.CreateQp slot send_cq recv_cq send_depth recv_depth srq) none = leads-create c w P (record { by = by; verb = verbs.CreateQp slot send_cq recv_cq send_depth recv_depth srq }) x
       (refused (record { by = by; verb = verbs.CreateQp slot send_cq recv_cq send_depth recv_depth srq }))
-      (λ send recv shared sends receives packets ready. (replaced-calm w (put_all (created w x send recv shared) w) (queue_of slot) (Present (new_queue x (w.queue (queue_of slot))))
-      (with_peer (new_queue x (w.queue (queue_of slot))).incarnation None (w.mailbox (queue_of slot)))
-      (replaces-changed w (put_all (created w x send recv shared) w) (queue_of slot) (Present (new_queue x (w.queue (queue_of slot)))) (with_peer (new_queue x (w.queue (queue_of slot))).incarnation None (w.mailbox (queue_of slot)))
-      (created-has w x send recv shared)) refl (calm.mail (queue_of slot)) calm, (tt, tt)))
+      (λ send recv shared sends receives packets ready. (
+        replaced-calm w (put_all (created w x send recv shared) w) (queue_of slot) (Present (new_queue x (w.queue (queue_of slot))))
+            (with_peer (new_queue x (w.queue (queue_of slot))).incarnation None (w.mailbox (queue_of slot)))
+            (replaces-changed w (put_all (created w x send recv shared) w) (queue_of slot) (Present (new_queue x (w.queue (queue_of slot)))) (with_peer (new_queue x (w.queue (queue_of slot))).incarnation None (w.mailbox (queue_of slot)))
+            (created-has w x send recv shared)) refl (calm.mail (queue_of slot)) calm,
+        (tt, tt),
+      ))
     where
       x : Creation
       x = record { slot = slot; send_cq = send_cq; recv_cq = recv_cq; send_depth = send_depth; recv_depth = recv_depth; srq = srq }
   of_verb by (verbs.DestroyQp slot) none = leads-destroy c w P (record { by = by; verb = verbs.DestroyQp slot }) slot sound (refused (record { by = by; verb = verbs.DestroyQp slot }))
       (λ q v there replaces packets ready. (replaced-calm w v (queue_of slot) (NoQueue q.incarnation q.requester.timers) (emptied_mailbox q.incarnation (w.mailbox (queue_of slot))) replaces tt tt calm, (tt, tt)))
   of_verb by (verbs.PostSend slot request) none = leads-post c w P (record { by = by; verb = verbs.PostSend slot request }) slot request sound (refused (record { by = by; verb = verbs.PostSend slot request }))
-      (λ q v drawn key there fails replaces packets ready. (goes-on v (queue_of slot) (after_flush (with_send request drawn q)) (flush-awake (with_send request drawn q) (found-awake (queue_of slot) q there.is)) replaces,
-      (tt, flushed-whole (with_send request drawn q))))
+      (λ q v drawn key there fails replaces packets ready. (
+        goes-on v (queue_of slot) (after_flush (with_send request drawn q)) (flush-awake (with_send request drawn q) (found-awake (queue_of slot) q there.is)) replaces,
+        (tt, flushed-whole (with_send request drawn q)),
+      ))
   of_verb by (verbs.PostRecv slot request) none = leads-receive c w P (record { by = by; verb = verbs.PostRecv slot request }) slot request sound (refused (record { by = by; verb = verbs.PostRecv slot request }))
-      (λ q v there replaces packets ready. (goes-on v (queue_of slot) (after_flush (with_receive request q)) (flush-awake (with_receive request q) (found-awake (queue_of slot) q there.is)) replaces,
-      (tt, flushed-whole (with_receive request q))))
+      (λ q v there replaces packets ready. (
+        goes-on v (queue_of slot) (after_flush (with_receive request q)) (flush-awake (with_receive request q) (found-awake (queue_of slot) q there.is)) replaces,
+        (tt, flushed-whole (with_receive request q)),
+      ))
   of_verb by (verbs.Poll slot n least) none = leads-poll w P (record { by = by; verb = verbs.Poll slot n least }) slot n least (refused (record { by = by; verb = verbs.Poll slot n least }))
-      (λ cq us is freed packets ready. (freers-calm (put_all us (put w (Cq_of slot) (Some (after_polls (length (take n cq.waiting)) cq))))
-      (poll-freers c w slot cq n us (put w (Cq_of slot) (Some (after_polls (length (take n cq.waiting)) cq))) sound is freed refl refl), (tt, tt)))
+      (λ cq us is freed packets ready. (
+        freers-calm (put_all us (put w (Cq_of slot) (Some (after_polls (length (take n cq.waiting)) cq))))
+            (poll-freers c w slot cq n us (put w (Cq_of slot) (Some (after_polls (length (take n cq.waiting)) cq))) sound is freed refl refl),
+        (tt, tt),
+      ))
   of_verb by (verbs.DeallocMw slot) none = leads-dealloc w P (record { by = by; verb = verbs.DeallocMw slot }) slot (refused (record { by = by; verb = verbs.DeallocMw slot }))
       (λ v o queue mail packets ready. (same-calm v queue mail, (tt, revocation-whole slot.domain.adapter o)))
-      (λ name p v o is queue mail packets ready. (goes-on v name (window_fewer p) (found-awake name p is) (replaces-turned w v name (Present (window_fewer p)) (record { queue = queue; mailbox = mail })),
-      (tt, revocation-whole slot.domain.adapter o)))
+      (λ name p v o is queue mail packets ready. (
+        goes-on v name (window_fewer p) (found-awake name p is) (replaces-turned w v name (Present (window_fewer p)) (record { queue = queue; mailbox = mail })),
+        (tt, revocation-whole slot.domain.adapter o),
+      ))
   of_verb by (verbs.Inject queue bytes) none = absurd none
   of_verb by (verbs.AllocPd domain) none = aside by (verbs.AllocPd domain) (record {})
   of_verb by (verbs.DeallocPd domain) none = aside by (verbs.DeallocPd domain) (record {})
@@ -237,7 +252,7 @@ module _ (c : Configuration) (w : World) (sound : IsSoundWorld c w) (calm : IsCa
       → Has (with_at queue_eq w.queue q.queue (Present e.queue)) (boxes_after w q p lot (packet_sent e)) v → ms ≡ e.marks ++ option_map_or (sent_marks q p (w.mailbox p.queue) lot) (packet_sent e) [] → P v ms
   turned name q p lot row e v ms names ends keeps own has are packets ready = (
     sent-calm w v q p lot e (ends-do KeepsCalm row e ends keeps).awake (turn-addressed w q p lot e ms names (ends-do (SendsFor q) row e ends own) are packets ready) has calm,
-    subst AreWhole (sym are) (whole-append e.marks (option_map_or (sent_marks q p (w.mailbox p.queue) lot) (packet_sent e) []) (ends-do KeepsCalm row e ends keeps).marks (sent-whole q p (w.mailbox p.queue) lot e)),
+    subst AreWholeDrops (sym are) (whole-append e.marks (option_map_or (sent_marks q p (w.mailbox p.queue) lot) (packet_sent e) []) (ends-do KeepsCalm row e ends keeps).marks (sent-whole q p (w.mailbox p.queue) lot e)),
   )
 
   of_respond : (name : QueueId) (lot : Lot) → Leads w P (respond_plan c name lot)
@@ -258,11 +273,14 @@ module _ (c : Configuration) (w : World) (sound : IsSoundWorld c w) (calm : IsCa
     where
       performed : (q : QueuePair) → IsFoundAt w name q → (e : Effects) (cs : List Update) (ws : List Write) → KeepsCalm e → AreAside cs
           → P (write_all ws (put_all (updates_of q (around_in w q (shared_of w q)) e ++ cs) w)) e.marks
-      performed q there e cs ws keeps aside packets ready = (goes-on (write_all ws (put_all us w)) name e.queue keeps.awake (replaces-turned w (write_all ws (put_all us w)) name (Present e.queue)
-          (has-writes (with_at queue_eq w.queue name (Present e.queue)) w.mailbox ws (put_all us w)
-          (subst (λ n. Has (with_at queue_eq w.queue n (Present e.queue)) w.mailbox (put_all us w)) there.named
-          (subst (Has (with_at queue_eq w.queue q.queue (Present e.queue)) w.mailbox) (sym (puts-append (updates_of q (around_in w q (shared_of w q)) e) cs w))
-          (has-aside (with_at queue_eq w.queue q.queue (Present e.queue)) w.mailbox cs (put_all (updates_of q (around_in w q (shared_of w q)) e) w) aside (has-turn w q (around_in w q (shared_of w q)) e)))))), keeps.marks)
+      performed q there e cs ws keeps aside packets ready = (
+        goes-on (write_all ws (put_all us w)) name e.queue keeps.awake (replaces-turned w (write_all ws (put_all us w)) name (Present e.queue)
+            (has-writes (with_at queue_eq w.queue name (Present e.queue)) w.mailbox ws (put_all us w)
+            (subst (λ n. Has (with_at queue_eq w.queue n (Present e.queue)) w.mailbox (put_all us w)) there.named
+            (subst (Has (with_at queue_eq w.queue q.queue (Present e.queue)) w.mailbox) (sym (puts-append (updates_of q (around_in w q (shared_of w q)) e) cs w))
+            (has-aside (with_at queue_eq w.queue q.queue (Present e.queue)) w.mailbox cs (put_all (updates_of q (around_in w q (shared_of w q)) e) w) aside (has-turn w q (around_in w q (shared_of w q)) e)))))),
+        keeps.marks,
+      )
         where
           us : List Update
           us = updates_of q (around_in w q (shared_of w q)) e ++ cs
@@ -284,7 +302,7 @@ module _ (c : Configuration) (w : World) (sound : IsSoundWorld c w) (calm : IsCa
       arrived q bytes shared e v there (addressed-lent name.number index (w.mailbox name) bytes (calm.mail name) lent) ends changed)
     where
       arrived : (q : QueuePair) (bytes : List ℕ) (shared : Option SharedReceives) (e : Effects) (v : World) → IsFoundAt w name q → IsAddressed name.number bytes → Ends (arrival_row bytes (Some index) shared q) e
-          → Changes w name (Present e.queue) (after_delivery index (w.mailbox name)) v → IsCalmWorld v × AreWhole (marks.Arrived q.queue (Some index) ∷ e.marks)
+          → Changes w name (Present e.queue) (after_delivery index (w.mailbox name)) v → IsCalmWorld v × AreWholeDrops (marks.Arrived q.queue (Some index) ∷ e.marks)
       arrived q bytes shared e v there one ends changed = (
         replaced-calm w v name (Present e.queue) (after_delivery index (w.mailbox name)) (replaces-changed w v name (Present e.queue) (after_delivery index (w.mailbox name)) changed) keeps.awake
             (addressed-delivered name.number (later_than index (w.mailbox name)) (w.mailbox name).envelopes (calm.mail name)) calm,
@@ -332,11 +350,11 @@ never-woken c w name calm = comes w (λ v ms. ⊥) (wake_plan c name) (wake-neve
 
 -- ---- all events
 
-pub event-calm : (c : Configuration) (w : World) (event : Event) → IsSoundWorld c w → IsCalmWorld w → IsNoInjection event
-    → Comes (λ v ms. AllByRecursion SendsPacket ms → AllByRecursion SendsNoRnrNak ms → IsCalmWorld v × AreWhole ms) (step c w event)
+pub event-calm : (c : Configuration) (w : World) (event : Event) → IsSoundWorld c w → IsCalmWorld w → IsWithoutInjection event
+    → Comes (λ v ms. AllByRecursion SendsPacket ms → AllByRecursion SendsNoRnrNak ms → IsCalmWorld v × AreWholeDrops ms) (step c w event)
 event-calm c w event sound calm none = comes w (P c w sound calm) (plan c event) (by event none)
   where
-    by : (event : Event) → IsNoInjection event → Leads w (P c w sound calm) (plan c event)
+    by : (event : Event) → IsWithoutInjection event → Leads w (P c w sound calm) (plan c event)
     by (events.Verb k verb) none = (λ named. of_verb c w sound calm k verb none, λ unnamed. refused c w sound calm (record { by = k; verb = verb }) NoSuch)
     by (events.Request name lot) none = of_request c w sound calm name lot
     by (events.Respond name lot) none = of_respond c w sound calm name lot

@@ -29,7 +29,7 @@ use Rattle.ca_model.specs.machine.World.{World}
 use Rattle.ca_packet.specs.Decoding.{packet_in}
 use Rattle.ca_packet.specs.Packet.{Fields}
 use Rattle.ca_packet.specs.declared.wire_error.WireError.{WireError}
-use Rattle.ca_rows_mail.specs.RowMail.{AreWhole, IsFor, SendsFor}
+use Rattle.ca_rows_mail.specs.RowMail.{AreWholeDrops, IsFor, SendsFor}
 use Rattle.ca_rows_standing.specs.Standing.{IsNoRnrNak}
 use Rattle.ca_ties.proofs.DeliverWalk.{Has}
 use Rattle.ca_ties.proofs.EntryLemmas.{IsLent, lent-envelope}
@@ -150,23 +150,23 @@ pub turn-addressed : (w : World) (q : QueuePair) (p : Correspondent) (lot : Lot)
 turn-addressed w q p lot e ms names own are packets ready request is = subst (λ n. IsAddressed n e.spelt) (ap (λ o. option_map_or (λ (x : Correspondent). x.queue.number) o 0) names)
     (addressed-packet (peer_number q) e.spelt (turn-sent SendsPacket w q p lot e request ms is are packets).1 (own request is) (turn-sent SendsNoRnrNak w q p lot e request ms is are ready).1)
 
-pub sent-whole : (q : QueuePair) (p : Correspondent) (m : Mailbox) (lot : Lot) (e : Effects) → AreWhole (option_map_or (sent_marks q p m lot) (packet_sent e) [])
+pub sent-whole : (q : QueuePair) (p : Correspondent) (m : Mailbox) (lot : Lot) (e : Effects) → AreWholeDrops (option_map_or (sent_marks q p m lot) (packet_sent e) [])
 sent-whole q p m lot e = by e.sent
   where
     packet : Sent → Option Packet
     packet Silent = None
     packet (Spelt request) = Some (record { request = request; bytes = e.spelt })
 
-    lost : (b : Bool) → AreWhole (if b then marks.Lost p.queue (Some m.next) ∷ [] else [])
+    lost : (b : Bool) → AreWholeDrops (if b then marks.Lost p.queue (Some m.next) ∷ [] else [])
     lost true = (record {}, record {})
     lost false = record {}
 
-    reach : (x : Packet) (b : Bool) → AreWhole (
+    reach : (x : Packet) (b : Bool) → AreWholeDrops (
         if b then marks.Sent q.queue p.queue (Some m.next) x.request x.bytes ∷ (if is_lost lot then marks.Lost p.queue (Some m.next) ∷ [] else [])
         else marks.Sent q.queue p.queue None x.request x.bytes ∷ marks.Lost p.queue None ∷ [])
     reach x true = (record {}, lost (is_lost lot))
     reach x false = (record {}, (record {}, record {}))
 
-    by : (s : Sent) → AreWhole (option_map_or (sent_marks q p m lot) (packet s) [])
+    by : (s : Sent) → AreWholeDrops (option_map_or (sent_marks q p m lot) (packet s) [])
     by Silent = record {}
     by (Spelt request) = reach (record { request = request; bytes = e.spelt }) (reaches_peer q p m)

@@ -12,7 +12,7 @@ use Rattle.ca_base.specs.declared.change.Change as state_change
 use Rattle.ca_base.specs.declared.change.Change.TheVariants as changes
 use Rattle.ca_calm_mail.proofs.EventCalm.{event-calm, never-woken, opening-calm}
 use Rattle.ca_calm_mail.proofs.MailLemmas.{all-behind}
-use Rattle.ca_calm_mail.specs.CalmMail.{IsCalmWorld, IsNoInjection, IsNoWake, SendsNoRnrNak, SendsPacket}
+use Rattle.ca_calm_mail.specs.CalmMail.{IsCalmWorld, IsWithoutInjection, IsNoWake, SendsNoRnrNak, SendsPacket}
 use Rattle.ca_carried.proofs.EndEventLemmas.{causes-along}
 use Rattle.ca_keys.specs.Memory.{ByteMap}
 use Rattle.ca_keys.specs.Numbers.{queue_of}
@@ -37,14 +37,14 @@ use Rattle.ca_model.specs.machine.Step.{step}
 use Rattle.ca_model.specs.machine.World.{World, opening_world}
 use Rattle.ca_once.proofs.RunLemmas.{Steps, Walk, walk-along}
 use Rattle.ca_packet.specs.Packet.{Fields, spelling}
-use Rattle.ca_rows_mail.specs.RowMail.{AreWhole}
+use Rattle.ca_rows_mail.specs.RowMail.{AreWholeDrops}
 
 -- ---- what has its cause is a packet
 
-abbrev IsPacket : SentPacket → Type 0
-IsPacket s = is_some (packet_of s.bytes) ≡ true
+abbrev IsPacketSent : SentPacket → Type 0
+IsPacketSent s = is_some (packet_of s.bytes) ≡ true
 
-cause-packet : (past : Past) (s : SentPacket) → has_its_cause past s ≡ true → IsPacket s
+cause-packet : (past : Past) (s : SentPacket) → has_its_cause past s ≡ true → IsPacketSent s
 cause-packet past s cause = by (packet_of s.bytes) refl
   where
     of_responder : Option Fields → Bool
@@ -62,7 +62,7 @@ cause-packet past s cause = by (packet_of s.bytes) refl
     by (Some p) is = ap is_some is
     by None is = absurd (none is s.request cause)
 
-all-packets : (past : Past) (ss : List SentPacket) → list_all (has_its_cause past) ss ≡ true → AllByRecursion IsPacket ss
+all-packets : (past : Past) (ss : List SentPacket) → list_all (has_its_cause past) ss ≡ true → AllByRecursion IsPacketSent ss
 all-packets past [] all = tt
 all-packets past (s ∷ ss) all = (cause-packet past s parts.0, all-packets past ss parts.1)
   where
@@ -107,15 +107,15 @@ all-before : {X : Type 0} (P : X → Type 0) (xs ys : List X) → AllByRecursion
 all-before P [] ys all = tt
 all-before P (x ∷ xs) ys all = (all.0, all-before P xs ys all.1)
 
-before-mark : (m : Mark) (r : Past) → AllByRecursion IsPacket (after_mark m r).at_hand.sent → AllByRecursion IsPacket r.at_hand.sent
-before-mark (marks.Verb by verb answer) r all = subst (λ (h : AtHand). AllByRecursion IsPacket h.sent)
+before-mark : (m : Mark) (r : Past) → AllByRecursion IsPacketSent (after_mark m r).at_hand.sent → AllByRecursion IsPacketSent r.at_hand.sent
+before-mark (marks.Verb by verb answer) r all = subst (λ (h : AtHand). AllByRecursion IsPacketSent h.sent)
     (verb-at-hand verb answer (record r { at_hand = record r.at_hand { answered = Some (record { verb = verb; answer = answer }) } })) all
 before-mark (marks.Granted g) r all = all
 before-mark (marks.Revoked adapter key) r all = all
 before-mark (marks.Remote queue domain envelope key kind address count verdict) r all = all
 before-mark (marks.Local queue domain key kind address count verdict) r all = all
 before-mark (marks.Stored place bytes) r all = all
-before-mark (marks.Sent source target index request bytes) r all = all-before IsPacket r.at_hand.sent (record { source = source; target = target; request = request; bytes = bytes } ∷ []) all
+before-mark (marks.Sent source target index request bytes) r all = all-before IsPacketSent r.at_hand.sent (record { source = source; target = target; request = request; bytes = bytes } ∷ []) all
 before-mark (marks.Lost target None) r all = all
 before-mark (marks.Lost target (Some index)) r all = all
 before-mark (marks.Arrived target index) r all = all
@@ -123,16 +123,16 @@ before-mark (marks.Dropped target cause) r all = all
 before-mark (marks.Timer queue silent) r all = all
 before-mark (marks.Done queue x cause) r all = all
 
-before-marks : (ms : List Mark) (r : Past) → AllByRecursion IsPacket (after_marks ms r).at_hand.sent → AllByRecursion IsPacket r.at_hand.sent
+before-marks : (ms : List Mark) (r : Past) → AllByRecursion IsPacketSent (after_marks ms r).at_hand.sent → AllByRecursion IsPacketSent r.at_hand.sent
 before-marks [] r all = all
 before-marks (m ∷ ms) r all = before-mark m r (before-marks ms (after_mark m r) all)
 
-marks-packets : (ms : List Mark) (r : Past) → AllByRecursion IsPacket (after_marks ms r).at_hand.sent → AllByRecursion SendsPacket ms
+marks-packets : (ms : List Mark) (r : Past) → AllByRecursion IsPacketSent (after_marks ms r).at_hand.sent → AllByRecursion SendsPacket ms
 marks-packets [] r all = tt
 marks-packets (m ∷ ms) r all = (one m (before-marks ms (after_mark m r) all), marks-packets ms (after_mark m r) all)
   where
-    one : (m : Mark) → AllByRecursion IsPacket (after_mark m r).at_hand.sent → SendsPacket m
-    one (marks.Sent source target index request bytes) all = (all-behind IsPacket r.at_hand.sent (record { source = source; target = target; request = request; bytes = bytes } ∷ []) all).0
+    one : (m : Mark) → AllByRecursion IsPacketSent (after_mark m r).at_hand.sent → SendsPacket m
+    one (marks.Sent source target index request bytes) all = (all-behind IsPacketSent r.at_hand.sent (record { source = source; target = target; request = request; bytes = bytes } ∷ []) all).0
     one (marks.Verb by verb answer) all = tt
     one (marks.Granted g) all = tt
     one (marks.Revoked adapter key) all = tt
@@ -162,10 +162,10 @@ never c w v (events.RnrWake n) ms calm is = subst (Comes (λ u ns. ⊥)) is (nev
 
 -- what is asked of entries, and what they are then
 abbrev pub AreAsked : List EntryValue → Type 0
-AreAsked es = AllByRecursion (λ e. IsNoInjection e.event × AllByRecursion SendsNoRnrNak e.marks) es
+AreAsked es = AllByRecursion (λ e. IsWithoutInjection e.event × AllByRecursion SendsNoRnrNak e.marks) es
 
 abbrev pub AreSpared : List EntryValue → Type 0
-AreSpared es = AllByRecursion (λ e. IsNoWake e.event × AreWhole e.marks) es
+AreSpared es = AllByRecursion (λ e. IsNoWake e.event × AreWholeDrops e.marks) es
 
 along : (c : Configuration) (past : Past) (w : World) (es : List EntryValue) → Walk c past w es → each_entry (λ past mark. true) is_carried_at_end past es ≡ true → AreAsked es → IsCalmWorld w
     → HoldsAlong (λ past w. IsCalmWorld w) c past w es × AreSpared es
@@ -187,8 +187,8 @@ along c past w (e ∷ es) walk carried asked calm = (
     parts : ((each_mark (λ past mark. true) r e.marks && is_carried_at_end (after_marks e.marks r)) ≡ true) × (each_entry (λ past mark. true) is_carried_at_end (after_entry e past) es ≡ true)
     parts = and_parts (each_mark (λ past mark. true) r e.marks && is_carried_at_end (after_marks e.marks r)) (each_entry (λ past mark. true) is_carried_at_end (after_entry e past) es) carried
 
-    after : IsCalmWorld v × AreWhole e.marks
-    after = subst (Comes (λ u ms. AllByRecursion SendsPacket ms → AllByRecursion SendsNoRnrNak ms → IsCalmWorld u × AreWhole ms)) steps.comes
+    after : IsCalmWorld v × AreWholeDrops e.marks
+    after = subst (Comes (λ u ms. AllByRecursion SendsPacket ms → AllByRecursion SendsNoRnrNak ms → IsCalmWorld u × AreWholeDrops ms)) steps.comes
         (event-calm c w e.event walk.0.sound calm asked.0.0) (end-packets e.marks r (and_parts (each_mark (λ past mark. true) r e.marks) (is_carried_at_end (after_marks e.marks r)) parts.0).1) asked.0.1
 
     rest : HoldsAlong (λ past w. IsCalmWorld w) c (after_entry e past) v es × AreSpared es

@@ -41,9 +41,9 @@ pub record IsCalmWorld (w : World) : Type 0 where
   pub wakes : (n : QueueId) → IsNotWaiting (w.queue n)
 
 -- nothing is injected
-abbrev pub IsNoInjection : Event → Type 0
-IsNoInjection (events.Verb by verb) = InjectsNothing verb
-IsNoInjection event = Unit {0}
+abbrev pub IsWithoutInjection : Event → Type 0
+IsWithoutInjection (events.Verb by verb) = InjectsNothing verb
+IsWithoutInjection event = Unit {0}
 
 -- nobody is woken after an RNR NAK
 abbrev pub IsNoWake : Event → Type 0

@@ -3,7 +3,7 @@ ghost use Rattle.std.specs.Prelude.{List};
 ghost use Rattle.ca_agree.specs.Agreement.{HoldsAlong};
 ghost use Rattle.ca_agree.specs.Runs.{Comes};
 ghost use Rattle.ca_base.specs.Configuration.{Configuration};
-ghost use Rattle.ca_calm_mail.specs.CalmMail.{IsCalmWorld, IsNoInjection, IsNoWake, SendsNoRnrNak, SendsPacket};
+ghost use Rattle.ca_calm_mail.specs.CalmMail.{IsCalmWorld, IsWithoutInjection, IsNoWake, SendsNoRnrNak, SendsPacket};
 ghost use Rattle.ca_keys.specs.Memory.{ByteMap};
 ghost use Rattle.ca_keys.specs.declared.names.QueueId.{QueueId};
 ghost use Rattle.ca_model.specs.Entries.{EntryValue};
@@ -14,10 +14,10 @@ ghost use Rattle.ca_model.specs.machine.Run.{Follows};
 ghost use Rattle.ca_model.specs.machine.Sound.{AreLimited, CanBeMade, IsSoundWorld};
 ghost use Rattle.ca_model.specs.machine.Step.{step};
 ghost use Rattle.ca_model.specs.machine.World.{opening_world, World};
-ghost use Rattle.ca_rows_mail.specs.RowMail.{AreWhole};
+ghost use Rattle.ca_rows_mail.specs.RowMail.{AreWholeDrops};
 
 /// Before the first event no envelope is under way, and no requester waits.
-pub fn opening_is_calm()
+pub fn opening_mail_is_calm()
     ensures { (bytes : ByteMap) → IsCalmWorld (opening_world bytes) }
 {}
 
@@ -25,9 +25,9 @@ pub fn opening_is_calm()
 /// waits for a wake, leaves such a world, if it injects nothing, and what it sends are packets and no RNR NAKs. And no
 /// packet is dropped for what it is itself: it is one, in the default partition, and for its queue pair.
 pub fn calm_world_stays_calm()
-    ensures { (c : Configuration) (w : World) (event : Event) → IsSoundWorld c w → IsCalmWorld w → IsNoInjection event
-        → Comes (λ v ms. AllByRecursion SendsPacket ms → AllByRecursion SendsNoRnrNak ms
-        → IsCalmWorld v × AreWhole ms) (step c w event) }
+    ensures { (c : Configuration) (w : World) (event : Event) → IsSoundWorld c w → IsCalmWorld w
+        → IsWithoutInjection event → Comes (λ v ms. AllByRecursion SendsPacket ms → AllByRecursion SendsNoRnrNak ms
+        → IsCalmWorld v × AreWholeDrops ms) (step c w event) }
 {}
 
 /// In such a world no wake is possible.
@@ -41,10 +41,10 @@ pub fn nobody_is_woken()
 pub fn histories_stay_calm()
     ensures worlds { (c : Configuration) (bytes : ByteMap) (es : List EntryValue) → AreLimited c
         → AllByRecursion (λ e. CanBeMade e.event) es → Follows c bytes es
-        → AllByRecursion (λ e. IsNoInjection e.event × AllByRecursion SendsNoRnrNak e.marks) es
+        → AllByRecursion (λ e. IsWithoutInjection e.event × AllByRecursion SendsNoRnrNak e.marks) es
         → HoldsAlong (λ past w. IsCalmWorld w) c (opening_past bytes) (opening_world bytes) es }
     ensures entries { (c : Configuration) (bytes : ByteMap) (es : List EntryValue) → AreLimited c
         → AllByRecursion (λ e. CanBeMade e.event) es → Follows c bytes es
-        → AllByRecursion (λ e. IsNoInjection e.event × AllByRecursion SendsNoRnrNak e.marks) es
-        → AllByRecursion (λ e. IsNoWake e.event × AreWhole e.marks) es }
+        → AllByRecursion (λ e. IsWithoutInjection e.event × AllByRecursion SendsNoRnrNak e.marks) es
+        → AllByRecursion (λ e. IsNoWake e.event × AreWholeDrops e.marks) es }
 {}

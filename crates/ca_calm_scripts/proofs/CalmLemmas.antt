@@ -11,7 +11,7 @@ use Rattle.ca_base.specs.declared.lot.Lot.{Lot}
 use Rattle.ca_base.specs.declared.lot.Lot.TheVariants.{Pass, Lose, Repeat, Hold}
 use Rattle.ca_base.specs.objects.Mailbox.{due}
 use Rattle.ca_base.specs.objects.QueuePair.{QueuePair, QueueSlot, NoQueue, Present}
-use Rattle.ca_calm_mail.specs.CalmMail.{IsNoInjection, IsNoWake, SendsNoRnrNak}
+use Rattle.ca_calm_mail.specs.CalmMail.{IsWithoutInjection, IsNoWake, SendsNoRnrNak}
 use Rattle.ca_calm_runs.specs.CalmRuns.{IsCalmRun}
 use Rattle.ca_calm_scripts.proofs.CallLemmas.{IsGoodEvent}
 use Rattle.ca_calm_scripts.specs.CalmScripts.{AreUntroubled, IsUntroubledMark}
@@ -33,7 +33,7 @@ use Rattle.ca_model.specs.machine.Turns.{reaches_peer, timeout_plan}
 use Rattle.ca_model.specs.machine.World.{World}
 use Rattle.ca_once.proofs.RunLemmas.{Walk}
 use Rattle.ca_order.specs.OfScript.{Reach, lot_eq, may_stand, left_after, reach_by, reach_from}
-use Rattle.ca_rows_mail.specs.RowMail.{AreWhole, DropsWhole}
+use Rattle.ca_rows_mail.specs.RowMail.{AreWholeDrops, DropsWhole}
 use Rattle.ca_script.specs.Script.{ScriptValue}
 use Rattle.ca_ties_calm.specs.CalmEvents.{AreCalm, IsCalmEvent, IsCalmMark}
 use Rattle.ca_ties_verbs.proofs.TurnWalks.{leads-timeout}
@@ -150,7 +150,7 @@ no-timer c w v (events.Timeout n hasten) ms sound is wake all = subst (Comes IsT
 no-timer c w v (events.RnrWake n) ms sound is wake all = absurd wake
 
 -- what befalls no mark, and what is no drop of a packet for what it is itself, is calm
-marks-calm : (ms : List Mark) → AllByRecursion IsUntroubledMark ms → AreWhole ms → AreCalm ms
+marks-calm : (ms : List Mark) → AllByRecursion IsUntroubledMark ms → AreWholeDrops ms → AreCalm ms
 marks-calm [] all whole = tt
 marks-calm (m ∷ ms) all whole = (one m all.0 whole.0, marks-calm ms all.1 whole.1)
   where
@@ -188,11 +188,11 @@ marks-ready (m ∷ ms) all = (one m all.0, marks-ready ms all.1)
     one (marks.Done queue x cause) is = tt
 
 -- nothing is injected, and no RNR NAK is sent
-pub entries-asked : (es : List EntryValue) → AllByRecursion (λ e. IsGoodEvent e.event) es → AreUntroubled es → AllByRecursion (λ e. IsNoInjection e.event × AllByRecursion SendsNoRnrNak e.marks) es
+pub entries-asked : (es : List EntryValue) → AllByRecursion (λ e. IsGoodEvent e.event) es → AreUntroubled es → AllByRecursion (λ e. IsWithoutInjection e.event × AllByRecursion SendsNoRnrNak e.marks) es
 entries-asked [] good none = tt
 entries-asked (e ∷ es) good none = ((one e.event good.0, marks-ready e.marks none.0), entries-asked es good.1 none.1)
   where
-    one : (event : Event) → IsGoodEvent event → IsNoInjection event
+    one : (event : Event) → IsGoodEvent event → IsWithoutInjection event
     one (events.Verb by verb) good = good.1
     one (events.Request n lot) good = tt
     one (events.Respond n lot) good = tt
@@ -205,7 +205,7 @@ abbrev world_of : World → Outcome → World
 world_of w (NotReady reason) = w
 world_of w (Did v ms) = v
 
-pub run-calm : (s : ScriptValue) (past : Past) (g h : Reach) (es : List EntryValue) → s.weather ≡ Calm → AllByRecursion (λ e. IsGoodEvent e.event) es → AreUntroubled es → AllByRecursion (λ e. IsNoWake e.event × AreWhole e.marks) es
+pub run-calm : (s : ScriptValue) (past : Past) (g h : Reach) (es : List EntryValue) → s.weather ≡ Calm → AllByRecursion (λ e. IsGoodEvent e.event) es → AreUntroubled es → AllByRecursion (λ e. IsNoWake e.event × AreWholeDrops e.marks) es
     → Walk s.config past g.world es → reach_from s g es ≡ Some h → IsCalmRun s.config g.world es
 run-calm s past g h [] weather good none spared walk is = tt
 run-calm s past g h (e ∷ es) weather good none spared walk is = (

@@ -69,7 +69,7 @@ use Rattle.ca_packet.specs.declared.shape.Shape.{Shape}
 use Rattle.ca_packet.specs.declared.shape.Shape.TheVariants as shapes
 use Rattle.ca_packet.specs.declared.wire_error.WireError.{WireError}
 use Rattle.ca_psn.specs.Psn.{widened}
-use Rattle.ca_rows_mail.specs.RowMail.{AreWhole, IsFor, KeepsCalm}
+use Rattle.ca_rows_mail.specs.RowMail.{AreWholeDrops, IsFor, KeepsCalm}
 use Rattle.ca_rows_standing.specs.Standing.{is_not_ready}
 use Rattle.ca_ties_calm.specs.CalmEvents.{IsDroppedWhole}
 use Rattle.ca_ties_rows.specs.Entries.{syndrome_of}
@@ -80,7 +80,7 @@ use Rattle.ca_wire.specs.declared.syndrome.NakCode.TheVariants.{PsnSequenceError
 use Rattle.ca_wire.specs.declared.syndrome.Syndrome.{Syndrome}
 use Rattle.ca_wire.specs.declared.syndrome.Syndrome.TheVariants.{Ack, Nak, RnrNak}
 
-pub whole-append : (ms ns : List Mark) → AreWhole ms → AreWhole ns → AreWhole (ms ++ ns)
+pub whole-append : (ms ns : List Mark) → AreWholeDrops ms → AreWholeDrops ns → AreWholeDrops (ms ++ ns)
 whole-append [] ns one other = other
 whole-append (m ∷ ms) ns one other = (one.0, whole-append ms ns one.1 other)
 
@@ -92,31 +92,31 @@ calm-then : (e : Effects) (f : QueuePair → Effects) → KeepsCalm e → KeepsC
 calm-then e f one other = record { awake = other.awake; marks = whole-append e.marks (f e.queue).marks one.marks other.marks }
 
 -- marks before those of effects
-calm-behind : (e : Effects) (ms : List Mark) → AreWhole ms → KeepsCalm e → KeepsCalm (behind_marks ms e)
+calm-behind : (e : Effects) (ms : List Mark) → AreWholeDrops ms → KeepsCalm e → KeepsCalm (behind_marks ms e)
 calm-behind e ms whole calm = record { awake = calm.awake; marks = whole-append ms e.marks whole calm.marks }
 
 -- ---- what is flushed, and what completes
 
-sends-whole : (queue : QueueId) (place : ℕ) (ps : List PostedSend) → AreWhole (flushed_sends queue place ps)
+sends-whole : (queue : QueueId) (place : ℕ) (ps : List PostedSend) → AreWholeDrops (flushed_sends queue place ps)
 sends-whole queue place [] = record {}
 sends-whole queue place (p ∷ ps) = (record {}, sends-whole queue (suc place) ps)
 
-receives-whole : (queue : QueueId) (place : ℕ) (rs : List RecvRequest) → AreWhole (flushed_receives queue place rs)
+receives-whole : (queue : QueueId) (place : ℕ) (rs : List RecvRequest) → AreWholeDrops (flushed_receives queue place rs)
 receives-whole queue place [] = record {}
 receives-whole queue place (r ∷ rs) = (record {}, receives-whole queue (suc place) rs)
 
-pub flush-whole : (q : QueuePair) → AreWhole (flush_marks q)
+pub flush-whole : (q : QueuePair) → AreWholeDrops (flush_marks q)
 flush-whole q =
     whole-append (flushed_sends q.queue q.requester.oldest (items_from q.requester.oldest q.sends) ++ flushed_message q.queue q.responder.message) _
     (whole-append (flushed_sends q.queue q.requester.oldest (items_from q.requester.oldest q.sends)) (flushed_message q.queue q.responder.message)
     (sends-whole q.queue q.requester.oldest (items_from q.requester.oldest q.sends)) (message q.responder.message)) (own q.receives)
   where
-    message : (m : Option Message) → AreWhole (flushed_message q.queue m)
+    message : (m : Option Message) → AreWholeDrops (flushed_message q.queue m)
     message None = record {}
     message (Some (messages.Write key address left count)) = record {}
     message (Some (messages.Send place receive bytes)) = (record {}, record {})
 
-    own : (o : Option (WorkQueue RecvRequest)) → AreWhole (option_map_or (λ r. flushed_receives q.queue r.next_taken (items_from r.next_taken r)) o [])
+    own : (o : Option (WorkQueue RecvRequest)) → AreWholeDrops (option_map_or (λ r. flushed_receives q.queue r.next_taken (items_from r.next_taken r)) o [])
     own None = record {}
     own (Some r) = receives-whole q.queue r.next_taken (items_from r.next_taken r)
 
@@ -128,18 +128,18 @@ failure-calm status cause q = record { awake = refl; marks = by (items_from q.re
     told [] = flush_marks q
     told (p ∷ ps) = failure_mark q.queue q.requester.oldest p.request status cause ∷ flush_marks (without_oldest q)
 
-    by : (ps : List PostedSend) → AreWhole (told ps)
+    by : (ps : List PostedSend) → AreWholeDrops (told ps)
     by [] = flush-whole q
     by (p ∷ ps) = (record {}, flush-whole (without_oldest q))
 
-success-whole : (queue : QueueId) (place : ℕ) (request : SendRequest) → AreWhole (success_marks queue place request)
+success-whole : (queue : QueueId) (place : ℕ) (request : SendRequest) → AreWholeDrops (success_marks queue place request)
 success-whole queue place request = by request.signalled
   where
-    by : (b : Bool) → AreWhole (if b then success_marks queue place (record request { signalled = true }) else [])
+    by : (b : Bool) → AreWholeDrops (if b then success_marks queue place (record request { signalled = true }) else [])
     by true = (record {}, record {})
     by false = record {}
 
-finished-whole : (queue : QueueId) (ns : List Numbered) → AreWhole (flat_map (λ n. success_marks queue n.place n.request) ns)
+finished-whole : (queue : QueueId) (ns : List Numbered) → AreWholeDrops (flat_map (λ n. success_marks queue n.place n.request) ns)
 finished-whole queue [] = record {}
 finished-whole queue (n ∷ ns) = whole-append (success_marks queue n.place n.request) _ (success-whole queue n.place n.request) (finished-whole queue ns)
 
@@ -203,11 +203,11 @@ acknowledge-calm psn (Some (Nak code)) q ready awake =
     back-calm (acknowledgement_below psn q) (nak_effects psn code) (below-calm psn q awake) (nak-calm psn code (acknowledgement_below psn q).effects.queue (below-calm psn q awake).awake)
 acknowledge-calm psn None q ready awake = drop-calm q drops.Stale (record {}) awake
 
-writes-whole : (xs : List (Ask × List ℕ)) → AreWhole (local_writes xs)
+writes-whole : (xs : List (Ask × List ℕ)) → AreWholeDrops (local_writes xs)
 writes-whole [] = record {}
 writes-whole (x ∷ xs) = (record {}, writes-whole xs)
 
-reads-whole : (asks : List Ask) (bytes : List (List ℕ)) → AreWhole (local_reads asks bytes)
+reads-whole : (asks : List Ask) (bytes : List (List ℕ)) → AreWholeDrops (local_reads asks bytes)
 reads-whole [] bytes = record {}
 reads-whole (ask ∷ asks) [] = record {}
 reads-whole (ask ∷ asks) (b ∷ bs) = (record {}, reads-whole asks bs)
@@ -288,7 +288,7 @@ took-calm : (p : QueuePair) (b : Bool) (e : Effects) → KeepsCalm e → KeepsCa
 took-calm p true e calm = record { awake = calm.awake; marks = calm.marks }
 took-calm p false e calm = calm
 
-revoked-whole : (q : QueuePair) (i : Option Invalidation) → AreWhole (revoked_marks q i)
+revoked-whole : (q : QueuePair) (i : Option Invalidation) → AreWholeDrops (revoked_marks q i)
 revoked-whole q None = record {}
 revoked-whole q (Some i) = (record {}, record {})
 
@@ -595,14 +595,14 @@ packet-calm q room n awake = by (is_too_much q n)
     by false = record { denied = λ d. denied d (is_outstanding q) room; allowed = λ bytes refusal. allowed bytes room }
 
 -- what a local operation granted and revoked
-local-whole : (q : QueuePair) (m : LocalMarks) → AreWhole (local_marks q m)
+local-whole : (q : QueuePair) (m : LocalMarks) → AreWholeDrops (local_marks q m)
 local-whole q m = whole-append (option_map_or (λ key. marks.Revoked q.queue.adapter key ∷ []) m.revoked []) _ (revoked m.revoked) (granted m.granted)
   where
-    revoked : (o : Option Key) → AreWhole (option_map_or (λ key. marks.Revoked q.queue.adapter key ∷ []) o [])
+    revoked : (o : Option Key) → AreWholeDrops (option_map_or (λ key. marks.Revoked q.queue.adapter key ∷ []) o [])
     revoked None = record {}
     revoked (Some key) = (record {}, record {})
 
-    granted : (o : Option Grant) → AreWhole (option_map_or (λ g. marks.Granted g ∷ []) o [])
+    granted : (o : Option Grant) → AreWholeDrops (option_map_or (λ g. marks.Granted g ∷ []) o [])
     granted None = record {}
     granted (Some g) = (record {}, record {})
 

@@ -18,13 +18,13 @@ abbrev pub DropsWhole : Mark → Type 0
 DropsWhole (marks.Dropped target cause) = IsDroppedWhole cause
 DropsWhole mark = Unit {0}
 
-abbrev pub AreWhole : List Mark → Type 0
-AreWhole ms = AllByRecursion DropsWhole ms
+abbrev pub AreWholeDrops : List Mark → Type 0
+AreWholeDrops ms = AllByRecursion DropsWhole ms
 
 -- Afterwards the requester does not wait for a wake, and no packet was dropped for what it is itself.
 pub record KeepsCalm (e : Effects) : Type 0 where
   pub awake : e.queue.requester.waiting ≡ false
-  pub marks : AreWhole e.marks
+  pub marks : AreWholeDrops e.marks
 
 -- a packet in the default partition, for the queue pair of this number
 pub record IsFor (number : ℕ) (p : Fields) : Type 0 where

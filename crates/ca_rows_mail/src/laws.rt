@@ -17,8 +17,8 @@ ghost use Rattle.ca_rows_standing.specs.Standing.{is_not_ready};
 ghost use Rattle.ca_ties_rows.specs.Entries.{syndrome_of};
 ghost use Rattle.ca_ties_rows.specs.Moves.{RowLeads};
 
-/// Where bytes arrive that are a packet for this queue pair in the default partition, and no RNR NAK, its requester does
-/// not come to wait for a wake, and the packet is not dropped for what it is itself.
+/// Where bytes arrive that are a packet for this queue pair in the default partition, and no RNR NAK, its requester
+/// does not come to wait for a wake, and the packet is not dropped for what it is itself.
 pub fn arrival_keeps_calm()
     ensures { (bytes : List ℕ) (envelope : Option ℕ) (shared : Option SharedReceives) (q : QueuePair) (p : Fields)
         → packet_in bytes ≡ Ok p → IsFor q.queue.number p → is_not_ready (syndrome_of p) ≡ false

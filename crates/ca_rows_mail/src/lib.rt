@@ -1,5 +1,5 @@
-//! What a row of the machine does where mail is in order: a requester does not come to wait for a wake, no packet is dropped
-//! for what it is itself, and what is sent is for the peer.
+//! What a row of the machine does where mail is in order: a requester does not come to wait for a wake, no packet is
+//! dropped for what it is itself, and what is sent is for the peer.
 //!
 //! To the layers above it promises these laws, as clauses of functions that do nothing. They hold of the machine's
 //! definitions, and no code is in them.
