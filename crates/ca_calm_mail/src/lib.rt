@@ -1,5 +1,5 @@
-//! Why nobody waits for a wake, and no packet is dropped for what it is itself, where nothing is injected and no RNR NAK
-//! is sent.
+//! Why nobody waits for a wake, and no packet is dropped for what it is itself, where nothing is injected and no RNR
+//! NAK is sent.
 //!
 //! To the layers above it promises, as clauses of functions that do nothing, that before the first event each envelope
 //! of a mailbox is a packet for its queue pair and no requester waits for a wake; that each event that injects nothing,
