@@ -1,5 +1,5 @@
 -- Each event that injects nothing, and sends packets that are no RNR NAK, keeps a world calm. For proofs only.
-use Rattle.std.proofs.Common.{◌≡◌, ℕ, ◌&&◌, Bool, true, false, not, if◌then◌else◌, List, [], ◌∷◌, ◌++◌, length, take, Option, None, Some, refl, ap, sym, subst, ◌∙◌, true≢false, rules}
+use Rattle.std.proofs.Common.{◌≡◌, ℕ, ◌&&◌, Bool, true, false, if◌then◌else◌, List, [], ◌∷◌, ◌++◌, length, take, Option, None, Some, refl, ap, sym, subst, ◌∙◌, true≢false, rules}
 use Rattle.std.proofs.lemmas.Bool.{not-false}
 use Rattle.std.specs.List.{AllByRecursion}
 use Rattle.std.specs.Option.{option_map_or}
@@ -17,7 +17,7 @@ use Rattle.ca_base.specs.declared.correspondent.Correspondent.{Correspondent}
 use Rattle.ca_base.specs.declared.lot.Lot.{Lot}
 use Rattle.ca_base.specs.declared.queue_numbers.RequesterNumbers.{RequesterNumbers}
 use Rattle.ca_base.specs.declared.step.Reason.TheVariants as reasons
-use Rattle.ca_base.specs.objects.CompletionQueue.{CompletionQueue, after_polls}
+use Rattle.ca_base.specs.objects.CompletionQueue.{after_polls}
 use Rattle.ca_base.specs.objects.Mailbox.{Mailbox, after_delivery, later_than, with_peer}
 use Rattle.ca_base.specs.objects.QueuePair.{QueuePair, QueueSlot, NoQueue, Present, with_all_flushed}
 use Rattle.ca_base.specs.objects.SharedReceives.{SharedReceives}
@@ -46,7 +46,7 @@ use Rattle.ca_model.specs.machine.PostingVerbs.{after_flush, marks_of_flush, wit
 use Rattle.ca_model.specs.machine.QueuePairVerbs.{Creation, emptied_mailbox, new_queue}
 use Rattle.ca_model.specs.machine.Requester.{Performs, RequestTurn, Sends, Waits, packet_row, turn_of}
 use Rattle.ca_model.specs.machine.Respond.{respond_refusals, respond_row}
-use Rattle.ca_model.specs.machine.Row.{Effects, Row, queue_and_marks}
+use Rattle.ca_model.specs.machine.Row.{Effects, Row}
 use Rattle.ca_model.specs.machine.Sound.{IsSoundWorld}
 use Rattle.ca_model.specs.machine.Step.{plan, step, verb_plan}
 use Rattle.ca_model.specs.machine.Timers.{after_timeout, after_wake, wake_refusals}

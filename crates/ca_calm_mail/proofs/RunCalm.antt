@@ -170,10 +170,7 @@ AreSpared es = AllByRecursion (λ e. IsNoWake e.event × AreWholeDrops e.marks) 
 along : (c : Configuration) (past : Past) (w : World) (es : List EntryValue) → Walk c past w es → each_entry (λ past mark. true) is_carried_at_end past es ≡ true → AreAsked es → IsCalmWorld w
     → HoldsAlong (λ past w. IsCalmWorld w) c past w es × AreSpared es
 along c past w [] walk carried asked calm = (calm, tt)
-along c past w (e ∷ es) walk carried asked calm = (
-  (calm, subst (Afterwards (λ u. HoldsAlong (λ past w. IsCalmWorld w) c (after_entry e past) u es)) (sym steps.comes) rest.0),
-  ((never c w v e.event e.marks calm steps.comes, after.1), rest.1),
-)
+along c past w (e ∷ es) walk carried asked calm = joined (along c (after_entry e past) v es walk.1.2 parts.1 asked.1 after.0)
   where
     v : World
     v = walk.1.0
@@ -191,8 +188,11 @@ along c past w (e ∷ es) walk carried asked calm = (
     after = subst (Comes (λ u ms. AllByRecursion SendsPacket ms → AllByRecursion SendsNoRnrNak ms → IsCalmWorld u × AreWholeDrops ms)) steps.comes
         (event-calm c w e.event walk.0.sound calm asked.0.0) (end-packets e.marks r (and_parts (each_mark (λ past mark. true) r e.marks) (is_carried_at_end (after_marks e.marks r)) parts.0).1) asked.0.1
 
-    rest : HoldsAlong (λ past w. IsCalmWorld w) c (after_entry e past) v es × AreSpared es
-    rest = along c (after_entry e past) v es walk.1.2 parts.1 asked.1 after.0
+    joined : HoldsAlong (λ past w. IsCalmWorld w) c (after_entry e past) v es × AreSpared es → HoldsAlong (λ past w. IsCalmWorld w) c past w (e ∷ es) × AreSpared (e ∷ es)
+    joined rest = (
+      (calm, subst (Afterwards (λ u. HoldsAlong (λ past w. IsCalmWorld w) c (after_entry e past) u es)) (sym steps.comes) rest.0),
+      ((never c w v e.event e.marks calm steps.comes, after.1), rest.1),
+    )
 
 stays : (c : Configuration) (bytes : ByteMap) (es : List EntryValue) → AreLimited c → AllByRecursion (λ e. CanBeMade e.event) es → Follows c bytes es → AreAsked es
     → HoldsAlong (λ past w. IsCalmWorld w) c (opening_past bytes) (opening_world bytes) es × AreSpared es
