@@ -18,6 +18,7 @@ abbrev pub DropsWhole : Mark → Type 0
 DropsWhole (marks.Dropped target cause) = IsDroppedWhole cause
 DropsWhole mark = Unit {0}
 
+-- what these marks tell of as dropped is dropped so
 abbrev pub AreWholeDrops : List Mark → Type 0
 AreWholeDrops ms = AllByRecursion DropsWhole ms
 
