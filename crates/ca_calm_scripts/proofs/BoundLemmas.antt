@@ -2,9 +2,10 @@
 use Rattle.std.proofs.Common.{◌≡◌, ℕ, suc, ◌≤◌, ◌<◌, Bool, true, false, if◌then◌else◌, nat_le, List, [], ◌∷◌, length, refl, ap, sym, ◌∙◌, arith, leb-true, true≢false}
 use Rattle.std.specs.List.{AllByRecursion}
 use Rattle.ca_calm_bounds.proofs.ForwardLemmas.{runs-bounded}
+use Rattle.ca_calm_mail.proofs.RunCalm.{entries-spared}
 use Rattle.ca_calm_runs.specs.CalmRuns.{AreAllClean}
 use Rattle.ca_calm_scripts.proofs.CallLemmas.{IsGoodEvent, called-good, calls-bounded, good-made}
-use Rattle.ca_calm_scripts.proofs.CalmLemmas.{reach-count, run-calm}
+use Rattle.ca_calm_scripts.proofs.CalmLemmas.{entries-asked, reach-count, run-calm}
 use Rattle.ca_calm_scripts.specs.CalmScripts.{AreUntroubled, IsCalmScript, most_entries}
 use Rattle.ca_keys.specs.Memory.{zeros}
 use Rattle.ca_model.specs.Entries.{EntryValue}
@@ -24,7 +25,8 @@ pub script-bounded : (s : ScriptValue) (es : List EntryValue) (end : Stage) → 
     → AreAllClean (after_entries es (opening_past zeros)) → length es ≤ most_entries s
 script-bounded s es end limited callable calm leads follows untroubled clean = omega (
   arith,
-  runs-bounded s.config zeros es limited (good-made es good) follows (run-calm s (opening_past zeros) (opening_reach s) _ es calm.weather good untroubled (walk-along s.config zeros es limited (good-made es good) follows) leads.of_script.stand) clean,
+  runs-bounded s.config zeros es limited (good-made es good) follows (run-calm s (opening_past zeros) (opening_reach s) _ es calm.weather good untroubled
+      (entries-spared s.config zeros es limited (good-made es good) follows (entries-asked es good untroubled)) (walk-along s.config zeros es limited (good-made es good) follows) leads.of_script.stand) clean,
   calls-bounded s.consumers es leads.of_script.calls,
 )
   where

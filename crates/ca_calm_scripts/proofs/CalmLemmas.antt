@@ -11,9 +11,10 @@ use Rattle.ca_base.specs.declared.lot.Lot.{Lot}
 use Rattle.ca_base.specs.declared.lot.Lot.TheVariants.{Pass, Lose, Repeat, Hold}
 use Rattle.ca_base.specs.objects.Mailbox.{due}
 use Rattle.ca_base.specs.objects.QueuePair.{QueuePair, QueueSlot, NoQueue, Present}
+use Rattle.ca_calm_mail.specs.CalmMail.{IsWithoutInjection, IsNoWake, SendsNoRnrNak}
 use Rattle.ca_calm_runs.specs.CalmRuns.{IsCalmRun}
 use Rattle.ca_calm_scripts.proofs.CallLemmas.{IsGoodEvent}
-use Rattle.ca_calm_scripts.specs.CalmScripts.{AreUntroubled, IsNoWake, IsUntroubledMark}
+use Rattle.ca_calm_scripts.specs.CalmScripts.{AreUntroubled, IsUntroubledMark}
 use Rattle.ca_keys.specs.declared.names.QueueId.{QueueId}
 use Rattle.ca_mailbox.specs.declared.weather.Weather.TheVariants.{Calm}
 use Rattle.ca_model.specs.Entries.{EntryValue}
@@ -32,6 +33,7 @@ use Rattle.ca_model.specs.machine.Turns.{reaches_peer, timeout_plan}
 use Rattle.ca_model.specs.machine.World.{World}
 use Rattle.ca_once.proofs.RunLemmas.{Walk}
 use Rattle.ca_order.specs.OfScript.{Reach, lot_eq, may_stand, left_after, reach_by, reach_from}
+use Rattle.ca_rows_mail.specs.RowMail.{AreWholeDrops, DropsWhole}
 use Rattle.ca_script.specs.Script.{ScriptValue}
 use Rattle.ca_ties_calm.specs.CalmEvents.{AreCalm, IsCalmEvent, IsCalmMark}
 use Rattle.ca_ties_verbs.proofs.TurnWalks.{leads-timeout}
@@ -147,37 +149,70 @@ no-timer c w v (events.Deliver n index) ms sound is wake all = tt
 no-timer c w v (events.Timeout n hasten) ms sound is wake all = subst (Comes IsTroubled) is (timer-marks c w n hasten sound) all
 no-timer c w v (events.RnrWake n) ms sound is wake all = absurd wake
 
-marks-calm : (ms : List Mark) → AllByRecursion IsUntroubledMark ms → AreCalm ms
-marks-calm [] all = tt
-marks-calm (m ∷ ms) all = (one m all.0, marks-calm ms all.1)
+-- what befalls no mark, and what is no drop of a packet for what it is itself, is calm
+marks-calm : (ms : List Mark) → AllByRecursion IsUntroubledMark ms → AreWholeDrops ms → AreCalm ms
+marks-calm [] all whole = tt
+marks-calm (m ∷ ms) all whole = (one m all.0 whole.0, marks-calm ms all.1 whole.1)
   where
-    one : (m : Mark) → IsUntroubledMark m → IsCalmMark m
-    one (marks.Verb by verb answer) is = is
-    one (marks.Granted g) is = is
-    one (marks.Revoked adapter key) is = is
-    one (marks.Remote queue domain envelope key kind address count verdict) is = is
-    one (marks.Local queue domain key kind address count verdict) is = is
-    one (marks.Stored place bytes) is = is
+    one : (m : Mark) → IsUntroubledMark m → DropsWhole m → IsCalmMark m
+    one (marks.Verb by verb answer) is whole = tt
+    one (marks.Granted g) is whole = tt
+    one (marks.Revoked adapter key) is whole = tt
+    one (marks.Remote queue domain envelope key kind address count verdict) is whole = tt
+    one (marks.Local queue domain key kind address count verdict) is whole = tt
+    one (marks.Stored place bytes) is whole = tt
+    one (marks.Sent source target index request bytes) is whole = is
+    one (marks.Lost target index) is whole = is
+    one (marks.Arrived target index) is whole = tt
+    one (marks.Dropped target cause) is whole = whole
+    one (marks.Timer queue silent) is whole = tt
+    one (marks.Done queue x cause) is whole = tt
+
+-- no RNR NAK is sent
+marks-ready : (ms : List Mark) → AllByRecursion IsUntroubledMark ms → AllByRecursion SendsNoRnrNak ms
+marks-ready [] all = tt
+marks-ready (m ∷ ms) all = (one m all.0, marks-ready ms all.1)
+  where
+    one : (m : Mark) → IsUntroubledMark m → SendsNoRnrNak m
+    one (marks.Verb by verb answer) is = tt
+    one (marks.Granted g) is = tt
+    one (marks.Revoked adapter key) is = tt
+    one (marks.Remote queue domain envelope key kind address count verdict) is = tt
+    one (marks.Local queue domain key kind address count verdict) is = tt
+    one (marks.Stored place bytes) is = tt
     one (marks.Sent source target index request bytes) is = is
-    one (marks.Lost target index) is = is
-    one (marks.Arrived target index) is = is
-    one (marks.Dropped target cause) is = is
-    one (marks.Timer queue silent) is = absurd is
-    one (marks.Done queue x cause) is = is
+    one (marks.Lost target index) is = tt
+    one (marks.Arrived target index) is = tt
+    one (marks.Dropped target cause) is = tt
+    one (marks.Timer queue silent) is = tt
+    one (marks.Done queue x cause) is = tt
+
+-- nothing is injected, and no RNR NAK is sent
+pub entries-asked : (es : List EntryValue) → AllByRecursion (λ e. IsGoodEvent e.event) es → AreUntroubled es → AllByRecursion (λ e. IsWithoutInjection e.event × AllByRecursion SendsNoRnrNak e.marks) es
+entries-asked [] good none = tt
+entries-asked (e ∷ es) good none = ((one e.event good.0, marks-ready e.marks none.0), entries-asked es good.1 none.1)
+  where
+    one : (event : Event) → IsGoodEvent event → IsWithoutInjection event
+    one (events.Verb by verb) good = good.1
+    one (events.Request n lot) good = tt
+    one (events.Respond n lot) good = tt
+    one (events.Deliver n index) good = tt
+    one (events.Timeout n hasten) good = tt
+    one (events.RnrWake n) good = tt
 
 -- the world that an outcome leaves, or the one before it
 abbrev world_of : World → Outcome → World
 world_of w (NotReady reason) = w
 world_of w (Did v ms) = v
 
-pub run-calm : (s : ScriptValue) (past : Past) (g h : Reach) (es : List EntryValue) → s.weather ≡ Calm → AllByRecursion (λ e. IsGoodEvent e.event) es → AreUntroubled es → Walk s.config past g.world es
-    → reach_from s g es ≡ Some h → IsCalmRun s.config g.world es
-run-calm s past g h [] weather good none walk is = tt
-run-calm s past g h (e ∷ es) weather good none walk is = (
-  event-calm s g e.event weather leads.stands good.0 (no-timer s.config g.world walk.1.0 e.event e.marks walk.0.sound walk.1.1.comes none.0.0 none.0.1),
-  marks-calm e.marks none.0.1,
+pub run-calm : (s : ScriptValue) (past : Past) (g h : Reach) (es : List EntryValue) → s.weather ≡ Calm → AllByRecursion (λ e. IsGoodEvent e.event) es → AreUntroubled es → AllByRecursion (λ e. IsNoWake e.event × AreWholeDrops e.marks) es
+    → Walk s.config past g.world es → reach_from s g es ≡ Some h → IsCalmRun s.config g.world es
+run-calm s past g h [] weather good none spared walk is = tt
+run-calm s past g h (e ∷ es) weather good none spared walk is = (
+  event-calm s g e.event weather leads.stands good.0 (no-timer s.config g.world walk.1.0 e.event e.marks walk.0.sound walk.1.1.comes spared.0.0 none.0),
+  marks-calm e.marks none.0 spared.0.1,
   subst (Afterwards (λ v. IsCalmRun s.config v es)) (sym leads.comes)
-      (run-calm s (after_entry e past) (record { world = leads.world; count = suc g.count; left = left_after g e.event }) h es weather good.1 none.1
+      (run-calm s (after_entry e past) (record { world = leads.world; count = suc g.count; left = left_after g e.event }) h es weather good.1 none.1 spared.1
       (subst (λ v. Walk s.config (after_entry e past) v es) (ap (world_of g.world) (sym walk.1.1.comes ∙ leads.comes)) walk.1.2) leads.rest),
 )
   where

@@ -3,15 +3,13 @@ use Rattle.std.specs.Prelude.{◌≡◌, ℕ, ◌+◌, ◌*◌, List, length}
 use Rattle.std.specs.List.{AllByRecursion, sum_by}
 use Rattle.ca_mailbox.specs.declared.weather.Weather.TheVariants.{Calm}
 use Rattle.ca_model.specs.Entries.{EntryValue}
-use Rattle.ca_model.specs.declared.event.Event.{Event}
-use Rattle.ca_model.specs.declared.event.Event.TheVariants as events
 use Rattle.ca_model.specs.declared.mark.Mark.{Mark}
 use Rattle.ca_model.specs.declared.mark.Mark.TheVariants as marks
+use Rattle.ca_rows_standing.specs.Standing.{IsNoRnrNak}
 use Rattle.ca_script.specs.Script.{ScriptValue}
 use Rattle.ca_script_lines.specs.declared.Line.{Line}
 use Rattle.ca_script_lines.specs.declared.what.What.{What}
 use Rattle.ca_script_lines.specs.declared.what.What.TheVariants as whats
-use Rattle.ca_ties_calm.specs.CalmEvents.{IsCalmMark}
 use Rattle.ca_weights_verbs.specs.PostWeights.{InjectsNothing, packets_posted}
 
 -- a line injects no packet
@@ -40,16 +38,13 @@ packets_of_lines lines = sum_by (λ line. packets_on line.what) lines
 abbrev pub most_entries : ScriptValue → ℕ
 most_entries s = 4 * sum_by packets_of_lines s.consumers + sum_by (λ (lines : List Line). length lines) s.consumers
 
--- no timer fires, nothing is lost, no RNR NAK is sent, and what arrives is a packet for its queue pair
+-- no timer fires, nothing is lost, and no RNR NAK is sent
 abbrev pub IsUntroubledMark : Mark → Type 0
 IsUntroubledMark (marks.Timer queue silent) = ⊥
-IsUntroubledMark mark = IsCalmMark mark
+IsUntroubledMark (marks.Lost target index) = ⊥
+IsUntroubledMark (marks.Sent source target index request bytes) = IsNoRnrNak bytes
+IsUntroubledMark mark = Unit {0}
 
--- nobody is woken after an RNR NAK
-abbrev pub IsNoWake : Event → Type 0
-IsNoWake (events.RnrWake queue) = ⊥
-IsNoWake event = Unit {0}
-
--- Nothing befalls a history: its marks are so, and nobody is woken.
+-- Nothing befalls a history: all its marks are so.
 abbrev pub AreUntroubled : List EntryValue → Type 0
-AreUntroubled es = AllByRecursion (λ e. IsNoWake e.event × AllByRecursion IsUntroubledMark e.marks) es
+AreUntroubled es = AllByRecursion (λ e. AllByRecursion IsUntroubledMark e.marks) es

@@ -11,9 +11,10 @@ ghost use Rattle.ca_order.specs.Order.{Stage, ending, order};
 ghost use Rattle.ca_rest.specs.Rest.{AreCallable};
 ghost use Rattle.ca_script.specs.Script.{ScriptValue};
 
-/// A history of a script in calm weather that follows the machine, that nothing befalls and in which every connection is
-/// clean has at most four entries for each packet that the script's lines post, counted at the smallest path MTU, and
-/// one for each line. Where the script allows more events, its status is not that they are spent.
+/// A history of a script in calm weather that follows the machine, that nothing befalls (by its marks no timer fires,
+/// nothing is lost and no RNR NAK is sent) and in which every connection is clean has at most four entries for each
+/// packet that the script's lines post, counted at the smallest path MTU, and one for each line. Where the script
+/// allows more events, its status is not that they are spent.
 pub fn calm_scripts_are_bounded()
     ensures entries { (s : ScriptValue) (es : List EntryValue) (end : Stage) → AreLimited s.config
         → AreCallable s.consumers → IsCalmScript s → LeadsTo s es end → Follows s.config zeros es → AreUntroubled es

@@ -1,0 +1,2 @@
+pub mod RowCalm
+pub mod AddressLemmas
