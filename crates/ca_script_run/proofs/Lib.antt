@@ -1,6 +1,7 @@
 mod EventLemmas
 mod LineLemmas
-mod VacantLemmas
+mod TurnLemmas
+mod VainLemmas
 mod VisitLemmas
 mod OpenLemmas
 mod WorkLemmas

@@ -1,4 +1,4 @@
 pub mod Progress
 pub mod Working
 pub mod Statuses
-pub mod Vacant
+pub mod Vain

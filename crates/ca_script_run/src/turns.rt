@@ -4,8 +4,8 @@ ghost use Rattle.ca_base.specs.Configuration.{Configuration};
 ghost use Rattle.ca_base.specs.objects.Mailbox.{due};
 ghost use Rattle.ca_base.specs.objects.QueuePair.{Present};
 ghost use Rattle.ca_model.specs.machine.World.{World};
-ghost use Rattle.ca_replay.specs.Rows.{IsRowOf};
-ghost use Rattle.ca_script_run.specs.Vacant.{HasNoQueue, IsInVain};
+ghost use Rattle.ca_replay.specs.Rows.{IsRow, IsRowOf};
+ghost use Rattle.ca_script_run.specs.Vain.{CanStepSeen, HasNoQueue, HasNoRequest, IsInVain, OwesNoAnswer};
 ghost use Rattle.ca_turns.specs.Turns as turns;
 
 use ca_base::{Lot, QueueId};
@@ -14,15 +14,19 @@ use ca_mailbox::Weather;
 use ca_model::Event;
 use ca_qpstate::QueuePart;
 use ca_replay::Row;
+use ca_sending::next_turn;
 use ca_turns::Turn;
 
-/// Whether a turn is one of a slot in which no queue pair is, so that it is not possible.
-pub(crate) fn is_vacant(row: &Row, turn: Turn) -> bool
+/// Whether a turn is seen at once not to be possible: no queue pair is in its slot, its requester waits, or its responder
+/// owes no answer. So the parts of such a turn need not be taken in hand.
+pub(crate) fn is_in_vain(row: &Row, turn: Turn) -> bool
+    requires { IsRow row.now }
     ensures { result ≡ true → (c : Configuration) (w : World) → IsRowOf c w row.now → IsInVain c w turn }
 {
     match turn {
-        Turn::Request(queue) | Turn::Respond(queue) | Turn::Timeout(queue) | Turn::RnrWake(queue) =>
-            !is_present(row.queue(queue)),
+        Turn::Request(queue) => !has_request(row.queue(queue)),
+        Turn::Respond(queue) => !owes_answer(row.queue(queue)),
+        Turn::Timeout(queue) | Turn::RnrWake(queue) => !is_present(row.queue(queue)),
         Turn::Due(_) | Turn::Deliver(_, _) => false,
     }
 }
@@ -33,6 +37,27 @@ fn is_present(slot: Option<&QueueSlot>) -> bool
 {
     match slot {
         Some(QueueSlot::Present(_)) => true,
+        Some(QueueSlot::Vacant { .. }) | None => false,
+    }
+}
+
+/// Whether a queue pair is in a slot whose requester does not wait.
+fn has_request(slot: Option<&QueueSlot>) -> bool
+    requires { CanStepSeen (option_copied slot) }
+    ensures { result ≡ false → HasNoRequest (option_copied slot.entry) }
+{
+    match slot {
+        Some(QueueSlot::Present(q)) => next_turn(q).is_ok(),
+        Some(QueueSlot::Vacant { .. }) | None => false,
+    }
+}
+
+/// Whether a queue pair is in a slot whose responder owes an answer.
+fn owes_answer(slot: Option<&QueueSlot>) -> bool
+    ensures { result ≡ false → OwesNoAnswer (option_copied slot.entry) }
+{
+    match slot {
+        Some(QueueSlot::Present(q)) => q.responder.answers.get(0).is_some(),
         Some(QueueSlot::Vacant { .. }) | None => false,
     }
 }

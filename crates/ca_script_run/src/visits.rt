@@ -9,7 +9,7 @@ ghost use Rattle.ca_script_run.specs.Progress.{IsAt, IsUnderWay, IsVisited, line
 
 use crate::events::make;
 use crate::progress::Progress;
-use crate::turns::{event_of, is_vacant};
+use crate::turns::{event_of, is_in_vain};
 use ca_base::Memory;
 use ca_engine::Outcome;
 use ca_model::{Event, Verb};
@@ -30,7 +30,7 @@ pub(crate) fn visit_engine(
     ensures { (g : Stage) → IsAt (script_value script.now) g progress.old
         → IsVisited (script_value script.now) (visits.Engine turn) g progress.new result }
 {
-    if is_vacant(&progress.row, turn) {
+    if is_in_vain(&progress.row, turn) {
         return Ok(Outcome::NotReady(u64::from(progress.row.count)));
     }
     match event_of(&progress.row, &script.weather, turn) {

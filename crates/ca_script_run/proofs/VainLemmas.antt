@@ -11,7 +11,7 @@ use Rattle.ca_order.specs.Order.{Stage, after_event, after_outcome, at_round}
 use Rattle.ca_order.specs.Visits as visits
 use Rattle.ca_script.specs.Script.{ScriptValue}
 use Rattle.ca_script_run.specs.Progress.{IsAt, IsVisited}
-use Rattle.ca_script_run.specs.Vacant.{IsInVain}
+use Rattle.ca_script_run.specs.Vain.{IsInVain}
 use Rattle.ca_script_run.specs.declared.progress.Progress.{Progress}
 use Rattle.ca_turns.specs.Turns.{event_of}
 use Rattle.ca_turns.specs.declared.turn.Turn.{Turn}
