@@ -30,7 +30,8 @@ pub fn slot(adapter: u8, thread: u8, number: u8) -> Slot {
     }
 }
 
-/// An adapter with a buffer and a domain for each thread, and in it a queue pair and a completion queue for each connection.
+/// An adapter with a buffer and a domain for each thread, and in that a queue pair and a completion queue for each
+/// connection.
 fn adapter(size: Size) -> Option<AdapterConfig> {
     let mut buffers = ArrayVec::new();
     for _ in 0..size.threads {

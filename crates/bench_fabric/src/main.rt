@@ -1,5 +1,5 @@
-//! How long the events of a WRITE of eight bytes take on the fabric: loops over connections between two adapters, on one, two
-//! or four threads, each with a pass and with domains of its own, as often as its words say.
+//! How long the events of a WRITE of eight bytes take on the fabric: loops over connections between two adapters, on
+//! one, two or four threads, each with a pass and with domains of its own, as often as its words say.
 //!
 //! It promises nothing; `bench/fabric` counts the instructions of the functions that it calls, each a kind of event.
 #![tactic(auto)]
