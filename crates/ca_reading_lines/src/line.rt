@@ -14,7 +14,7 @@ use ca_reading_answers::{answer_at, completion_at};
 use ca_reading_fields::{take_alarm, take_lettered_u32, take_lot, take_queue, take_u64};
 use ca_reading_verbs::verb_at;
 use ca_reading_words::{Pieces, Stop, is_name, lettered_u32_in, lettered_u64_in};
-use ca_trace::{Line, print_line};
+use ca_trace::{Line, prints_as};
 use std::alloc::Global;
 
 /// A turn, by its name.
@@ -133,18 +133,8 @@ fn stop_of(alloc: Global, line: &Line, text: &[u8]) -> Option<Stop>
     match prints_as(alloc, line, text) {
         Ok(true) => None,
         Ok(false) => Some(Stop::Outside),
-        Err(stop) => Some(stop),
+        Err(_) => Some(Stop::Memory),
     }
-}
-
-/// Whether a line prints as this text.
-fn prints_as(alloc: Global, line: &Line, text: &[u8]) -> Result<bool, Stop>
-    ensures same { IfOk result (λ same. same ≡ bytes_eq (line_text line.now) text.now) }
-    ensures memory { IfErr result (λ stop. stop ≡ stops.Memory) }
-{
-    let mut printed = Vec::with_capacity(alloc, text.len())?;
-    print_line(line, &mut printed)?;
-    Ok(printed.as_slice() == text)
 }
 
 /// The line that prints as this text.

@@ -6,38 +6,35 @@ ghost use Rattle.ca_trace.specs.Trace.{got_line, got_lines};
 
 use ca_base::{Completion, Memory, Perhaps};
 use ca_model::Answer;
-use ca_trace_words::{Text, side};
+use ca_trace_words::{Hex, Text, side};
 
 /// Adds what a verb answered, as it stands behind the call, each word after a space.
 pub fn put_answer(text: &mut Text, answer: &Answer) -> Result<(), Memory>
     ensures ok { OnOk result (text.new ≡ text.old ++ led 32 (words (told_words answer.now))) }
 {
     match answer {
-        Answer::Fine => text.put(" -> ok"),
-        Answer::Key(key) => text.put(format_args!(" -> key {key}")),
+        Answer::Fine => text.put_words(("->", "ok")),
+        Answer::Key(key) => text.put_words(("->", "key", key)),
         Answer::Queue {
             number,
             incarnation,
-        } => text.put(format_args!(" -> qp {number} {incarnation}")),
+        } => text.put_words(("->", "qp", number, incarnation)),
         Answer::Posted(key) => {
             let key = Perhaps(*key);
-            text.put(format_args!(" -> posted {key}"))
+            text.put_words(("->", "posted", key))
         }
         Answer::Polled(completions) => {
-            let count = completions.as_slice().len();
-            text.put(format_args!(" -> polled {count}"))
+            let count = completions.as_slice().len() as u64;
+            text.put_words(("->", "polled", count))
         }
         Answer::Query {
             state,
             incarnation,
             sends,
             receives,
-        } => text.put(format_args!(" -> state {state} {incarnation} {sends} {receives}")),
-        Answer::Loaded(bytes) => {
-            text.put(" -> bytes ")?;
-            text.put_hex(bytes.as_slice())
-        }
-        Answer::Refused(refusal) => text.put(format_args!(" -> refused {refusal}")),
+        } => text.put_words(("->", "state", state, incarnation, sends, receives)),
+        Answer::Loaded(bytes) => text.put_words(("->", "bytes", Hex(bytes.as_slice()))),
+        Answer::Refused(refusal) => text.put_words(("->", "refused", refusal)),
     }
 }
 
@@ -55,9 +52,9 @@ fn put_got(text: &mut Text, completions: &[Completion]) -> Result<(), Memory>
     ensures ok { OnOk result (text.new ≡ text.old ++ flat_map got_line completions.now) }
 {
     for completion in completions {
-        text.put(" got")?;
+        text.put_words(("got",))?;
         put_completion(text, completion)?;
-        text.put("\n")?;
+        text.put_byte(b'\n')?;
     }
     Ok(())
 }
@@ -71,10 +68,10 @@ pub fn put_completion(text: &mut Text, completion: &Completion) -> Result<(), Me
     let place = completion.place;
     let id = completion.id;
     let op = completion.op;
-    text.put(format_args!(" {queue} {side} {place} {id} {op}"))?;
+    text.put_words((queue, side, place, id, op))?;
     let status = completion.status;
     let bytes = completion.bytes;
     let imm = Perhaps(completion.imm);
     let key = Perhaps(completion.invalidated);
-    text.put(format_args!(" {status} {bytes} {imm} {key}"))
+    text.put_words((status, bytes, imm, key))
 }

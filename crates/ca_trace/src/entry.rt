@@ -1,7 +1,8 @@
 ghost use Rattle.std.specs.Prelude.{◌≡◌, ◌∷◌, [], ◌++◌, OnOk, OnErr};
+ghost use Rattle.std.specs.Int.{w32, w64};
 ghost use Rattle.std.specs.List.{flat_map};
 ghost use Rattle.ca_model.specs.Entries.{entry_of};
-ghost use Rattle.ca_trace_words.specs.Words.{joined, words};
+ghost use Rattle.ca_trace_words.specs.Words.{Lettered, joined, led, words};
 ghost use Rattle.ca_trace.specs.Table.{event_words};
 ghost use Rattle.ca_trace.specs.Trace.{entry_text, marks_text, mark_text, reply_text};
 
@@ -41,7 +42,7 @@ fn put_reply(text: &mut Text, m: &Mark) -> Result<(), Memory>
         Mark::Verb { by, verb, answer } => {
             put_call(text, *by, verb)?;
             put_answer(text, answer)?;
-            text.put("\n")?;
+            text.put_byte(b'\n')?;
             put_got_lines(text, answer)
         }
         _ => put_mark_line(text, m),
@@ -51,27 +52,38 @@ fn put_reply(text: &mut Text, m: &Mark) -> Result<(), Memory>
 fn put_entry(text: &mut Text, e: &Entry) -> Result<(), Memory>
     ensures ok { OnOk result (text.new ≡ text.old ++ entry_text (entry_of e.now)) }
 {
-    let stamp = e.stamp;
-    let pass = e.pass;
-    text.put(format_args!("@{stamp} p{pass} "))?;
+    put_stamp(text, e.stamp, e.pass)?;
     put_event(text, &e.event)?;
     put_marks(text, e.marks.as_slice())
 }
 
-/// Adds the words of an event.
+/// Adds the stamp and the pass of an entry.
+pub fn put_stamp(text: &mut Text, stamp: u64, pass: u32) -> Result<(), Memory>
+    ensures ok { OnOk result (text.new
+        ≡ text.old ++ joined 32 (words (Lettered 64 w64 stamp ∷ Lettered 112 w32 pass ∷ []))) }
+{
+    text.put_number(b'@', stamp)?;
+    text.put_byte(b' ')?;
+    text.put_number(b'p', u64::from(pass))
+}
+
+/// Adds the words of an event, each after a space.
 pub fn put_event(text: &mut Text, event: &Event) -> Result<(), Memory>
-    ensures ok { OnOk result (text.new ≡ text.old ++ joined 32 (words (event_words event.now))) }
+    ensures ok { OnOk result (text.new ≡ text.old ++ led 32 (words (event_words event.now))) }
 {
     match event {
-        Event::Verb { by, verb } => put_call(text, *by, verb),
-        Event::Request { queue, lot } => text.put(format_args!("request {queue} {lot}")),
-        Event::Deliver { queue, index } => text.put(format_args!("deliver {queue} {index}")),
-        Event::Respond { queue, lot } => text.put(format_args!("respond {queue} {lot}")),
+        Event::Verb { by, verb } => {
+            text.put_byte(b' ')?;
+            put_call(text, *by, verb)
+        }
+        Event::Request { queue, lot } => text.put_words(("request", queue, lot)),
+        Event::Deliver { queue, index } => text.put_words(("deliver", queue, index)),
+        Event::Respond { queue, lot } => text.put_words(("respond", queue, lot)),
         Event::Timeout { queue, hasten } => {
             let alarm = alarm(!*hasten);
-            text.put(format_args!("timeout {queue} {alarm}"))
+            text.put_words(("timeout", queue, alarm))
         }
-        Event::RnrWake { queue } => text.put(format_args!("wake {queue}")),
+        Event::RnrWake { queue } => text.put_words(("wake", queue)),
     }
 }
 
@@ -82,12 +94,12 @@ fn put_marks(text: &mut Text, marks: &[Mark]) -> Result<(), Memory>
     match marks {
         [Mark::Verb { answer, .. }, others @ ..] => {
             put_answer(text, answer)?;
-            text.put("\n")?;
+            text.put_byte(b'\n')?;
             put_got_lines(text, answer)?;
             put_mark_lines(text, others)
         }
         _ => {
-            text.put("\n")?;
+            text.put_byte(b'\n')?;
             put_mark_lines(text, marks)
         }
     }
@@ -106,5 +118,5 @@ fn put_mark_line(text: &mut Text, mark: &Mark) -> Result<(), Memory>
     ensures ok { OnOk result (text.new ≡ text.old ++ mark_text mark.now) }
 {
     put_mark(text, mark)?;
-    text.put("\n")
+    text.put_byte(b'\n')
 }

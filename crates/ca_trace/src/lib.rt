@@ -16,4 +16,4 @@ mod mark;
 pub use ca_trace_words::print_call;
 pub use entry::{print, print_reply};
 pub use history::print_history;
-pub use line::{Line, Told, print_line};
+pub use line::{Line, Told, print_line, prints_as};

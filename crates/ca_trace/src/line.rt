@@ -1,13 +1,15 @@
-ghost use Rattle.std.specs.Prelude.{◌≡◌, ◌++◌, OnOk, OnErr};
+ghost use Rattle.std.specs.Prelude.{◌≡◌, ◌++◌, IfOk, OnOk, OnErr};
+ghost use Rattle.std.specs.Str.{bytes_eq};
 ghost use Rattle.ca_trace_words.specs.Words.{led, words};
 ghost use Rattle.ca_trace.specs.Lines.{answer_line_words, line_text};
 
 use crate::answer::{put_answer, put_completion};
-use crate::entry::put_event;
+use crate::entry::{put_event, put_stamp};
 use crate::mark::put_mark;
 use ca_base::{Completion, Memory};
 use ca_model::{Answer, Event, Mark, Verb};
 use ca_trace_words::{Text, put_call};
+use std::alloc::Global;
 
 /// What the line of a call tells of its answer: all of it, or how many completions a poll gave, which have lines of
 /// their own.
@@ -53,13 +55,22 @@ pub fn print_line(line: &Line, out: &mut Vec<u8>) -> Result<(), Memory>
     Ok(())
 }
 
+/// Whether a line prints as this text, without its line feed.
+pub fn prints_as(alloc: Global, line: &Line, text: &[u8]) -> Result<bool, Memory>
+    ensures { IfOk result (λ same. same ≡ bytes_eq (line_text line.now) text.now) }
+{
+    let mut printed = Text::new(alloc)?;
+    put_line(&mut printed, line)?;
+    Ok(printed.as_bytes() == text)
+}
+
 /// Adds a line, without its line feed.
 fn put_line(text: &mut Text, line: &Line) -> Result<(), Memory>
     ensures ok { OnOk result (text.new ≡ text.old ++ line_text line.now) }
 {
     match line {
         Line::Turn { stamp, pass, event } => {
-            text.put(format_args!("@{stamp} p{pass} "))?;
+            put_stamp(text, *stamp, *pass)?;
             put_event(text, event)
         }
         Line::Call {
@@ -69,12 +80,13 @@ fn put_line(text: &mut Text, line: &Line) -> Result<(), Memory>
             verb,
             told,
         } => {
-            text.put(format_args!("@{stamp} p{pass} "))?;
+            put_stamp(text, *stamp, *pass)?;
+            text.put_byte(b' ')?;
             put_call(text, *by, verb)?;
             put_told(text, told)
         }
         Line::Got(completion) => {
-            text.put(" got")?;
+            text.put_words(("got",))?;
             put_completion(text, completion)
         }
         Line::Mark(mark) => put_mark(text, mark),
@@ -88,6 +100,6 @@ fn put_told(text: &mut Text, told: &Told) -> Result<(), Memory>
 {
     match told {
         Told::Whole(answer) => put_answer(text, answer),
-        Told::Polled(count) => text.put(format_args!(" -> polled {count}")),
+        Told::Polled(count) => text.put_words(("->", "polled", count)),
     }
 }

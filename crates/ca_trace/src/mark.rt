@@ -7,7 +7,7 @@ ghost use Rattle.ca_trace.specs.Table.{mark_words, verdict_words, granted_words}
 use crate::answer::{put_answer, put_completion};
 use ca_base::{Address, DomainId, Grant, Key, Kind, Memory, Perhaps, QueueId, Verdict};
 use ca_model::Mark;
-use ca_trace_words::{Queues, Text, alarm, object};
+use ca_trace_words::{Hex, InAdapter, Queues, Text, alarm, object};
 
 /// Adds the words of a mark, each after a space.
 pub fn put_mark(text: &mut Text, mark: &Mark) -> Result<(), Memory>
@@ -16,7 +16,7 @@ pub fn put_mark(text: &mut Text, mark: &Mark) -> Result<(), Memory>
     match mark {
         Mark::Verb { answer, .. } => put_answer(text, answer),
         Mark::Granted(grant) => put_grant(text, grant),
-        Mark::Revoked { adapter, key } => text.put(format_args!(" revoked {adapter} {key}")),
+        Mark::Revoked { adapter, key } => text.put_words(("revoked", adapter, key)),
         Mark::Remote {
             queue,
             domain,
@@ -28,7 +28,7 @@ pub fn put_mark(text: &mut Text, mark: &Mark) -> Result<(), Memory>
             verdict,
         } => {
             let envelope = Perhaps(*envelope);
-            text.put(format_args!(" remote {queue} {domain} {envelope} {key}"))?;
+            text.put_words(("remote", queue, domain, envelope, key))?;
             put_access(text, *kind, *address, *length, verdict)
         }
         Mark::Local {
@@ -44,11 +44,11 @@ pub fn put_mark(text: &mut Text, mark: &Mark) -> Result<(), Memory>
             put_access(text, *kind, *address, *length, verdict)
         }
         Mark::Stored { place, bytes } => {
-            let adapter = place.adapter;
-            let buffer = place.buffer;
-            let offset = place.offset;
-            text.put(format_args!(" stored {adapter}/{buffer} {offset} "))?;
-            text.put_hex(bytes.as_slice())
+            let buffer = InAdapter {
+                adapter: place.adapter,
+                buffer: place.buffer,
+            };
+            text.put_words(("stored", buffer, place.offset, Hex(bytes.as_slice())))
         }
         Mark::Sent {
             source,
@@ -59,21 +59,27 @@ pub fn put_mark(text: &mut Text, mark: &Mark) -> Result<(), Memory>
         } => {
             let index = Perhaps(*index);
             let request = Perhaps(*request);
-            text.put(format_args!(" sent {source} {target} {index} {request} "))?;
-            text.put_hex(bytes.as_slice())
+            text.put_words((
+                "sent",
+                source,
+                target,
+                index,
+                request,
+                Hex(bytes.as_slice()),
+            ))
         }
         Mark::Lost { target, index } => {
             let index = Perhaps(*index);
-            text.put(format_args!(" lost {target} {index}"))
+            text.put_words(("lost", target, index))
         }
         Mark::Arrived { target, index } => {
             let index = Perhaps(*index);
-            text.put(format_args!(" arrived {target} {index}"))
+            text.put_words(("arrived", target, index))
         }
-        Mark::Dropped { target, cause } => text.put(format_args!(" dropped {target} {cause}")),
+        Mark::Dropped { target, cause } => text.put_words(("dropped", target, cause)),
         Mark::Timer { queue, silent } => {
             let alarm = alarm(*silent);
-            text.put(format_args!(" timer {queue} {alarm}"))
+            text.put_words(("timer", queue, alarm))
         }
         Mark::Done {
             completion,
@@ -81,9 +87,9 @@ pub fn put_mark(text: &mut Text, mark: &Mark) -> Result<(), Memory>
             ..
         } => {
             let cause = Perhaps(*cause);
-            text.put(" done")?;
+            text.put_words(("done",))?;
             put_completion(text, completion)?;
-            text.put(format_args!(" {cause}"))
+            text.put_words((cause,))
         }
     }
 }
@@ -93,7 +99,7 @@ fn put_local(text: &mut Text, queue: QueueId, domain: DomainId, key: Key) -> Res
     ensures ok { OnOk result (text.new ≡ text.old
         ++ led 32 (words (Fixed (codes "local") ∷ OfQueue queue ∷ OfDomain domain ∷ OfKey key ∷ []))) }
 {
-    text.put(format_args!(" local {queue} {domain} {key}"))
+    text.put_words(("local", queue, domain, key))
 }
 
 /// Adds what an access asked for, and what came of it.
@@ -108,7 +114,7 @@ fn put_access(
         ++ led 32 (words (OfKind kind ∷ fields.Address address ∷ Number w32 length ∷ verdict_words verdict.now))) }
 {
     let address = Address(address);
-    text.put(format_args!(" {kind} {address} {length}"))?;
+    text.put_words((kind, address, length))?;
     put_verdict(text, verdict)
 }
 
@@ -119,27 +125,20 @@ fn put_grant(text: &mut Text, grant: &Grant) -> Result<(), Memory>
     let key = grant.key;
     let object = object(grant.local);
     let queues = Queues(grant.queue);
-    text.put(format_args!(" granted {domain} {key} {object} {queues}"))?;
+    text.put_words(("granted", domain, key, object, queues))?;
     let address = Address(grant.address);
     let length = grant.length;
     let rights = grant.rights;
-    text.put(format_args!(" {address} {length} {rights} "))?;
-    text.put_runs(grant.runs.as_slice())
+    text.put_words((address, length, rights, grant.runs.as_slice()))
 }
 
 fn put_verdict(text: &mut Text, verdict: &Verdict) -> Result<(), Memory>
     ensures ok { OnOk result (text.new ≡ text.old ++ led 32 (words (verdict_words verdict.now))) }
 {
     match verdict {
-        Verdict::Read(bytes) => {
-            text.put(" read ")?;
-            text.put_hex(bytes.as_slice())
-        }
-        Verdict::Wrote(bytes) => {
-            text.put(" wrote ")?;
-            text.put_hex(bytes.as_slice())
-        }
-        Verdict::Swapped { found, put } => text.put(format_args!(" found {found} put {put}")),
-        Verdict::Denied(denial) => text.put(format_args!(" denied {denial}")),
+        Verdict::Read(bytes) => text.put_words(("read", Hex(bytes.as_slice()))),
+        Verdict::Wrote(bytes) => text.put_words(("wrote", Hex(bytes.as_slice()))),
+        Verdict::Swapped { found, put } => text.put_words(("found", found, "put", put)),
+        Verdict::Denied(denial) => text.put_words(("denied", denial)),
     }
 }

@@ -8,10 +8,12 @@
 #![tactic(auto)]
 
 mod post;
+mod spelled;
 mod text;
 mod verb;
 mod words;
 
+pub use spelled::{Hex, InAdapter, Word, Words};
 pub use text::Text;
 pub use verb::{print_call, put_call};
 pub use words::{Queues, alarm, object, side};

@@ -1,23 +1,12 @@
-ghost use Rattle.std.specs.Prelude.{◌≡◌, ◌∷◌, [], ◌++◌, map, codes, OnOk, IfSome};
+ghost use Rattle.std.specs.Prelude.{◌≡◌, ◌∷◌, [], ◌++◌, codes, OnOk};
 ghost use Rattle.std.specs.Int.{w64};
 ghost use Rattle.ca_trace_words.specs.Words as fields;
 ghost use Rattle.ca_trace_words.specs.Words.{Fixed, OfKey, OfPieces, Number};
-ghost use Rattle.ca_base.specs.Spelling.{piece_text};
-ghost use Rattle.ca_trace_words.specs.Words.{commas, led, words};
+ghost use Rattle.ca_trace_words.specs.Words.{led, words};
 ghost use Rattle.ca_trace_words.specs.Verbs.{operation_words};
 
 use crate::text::Text;
 use ca_base::{Address, Key, Memory, Piece, SendOp};
-use std::fmt::Display;
-
-/// Adds what a value displays as, and behind it the pieces of a list.
-fn put_listed<D: Display + Drop>(text: &mut Text, value: D, list: &[Piece]) -> Result<(), Memory>
-    ensures ok { OnOk result (IfSome (D.output value)
-        (λ front. text.new ≡ text.old ++ (front ++ commas (map piece_text list.now)))) }
-{
-    text.put(value)?;
-    text.put_pieces(list)
-}
 
 /// Adds a WRITE or a READ, by its word, with what it reaches and its list.
 fn put_reach(
@@ -31,7 +20,7 @@ fn put_reach(
         ++ led 32 (words (Fixed name.now ∷ fields.Address address ∷ OfKey key ∷ OfPieces list.now ∷ []))) }
 {
     let address = Address(address);
-    put_listed(text, format_args!(" {name} {address} {key} "), list)
+    text.put_words((name, address, key, list))
 }
 
 fn put_cmp_swap(
@@ -48,11 +37,7 @@ fn put_cmp_swap(
         ∷ OfPieces list.now ∷ []))) }
 {
     let address = Address(address);
-    put_listed(
-        text,
-        format_args!(" cas {address} {key} {compare} {swap} "),
-        list,
-    )
+    text.put_words(("cas", address, key, compare, swap, list))
 }
 
 fn put_fetch_add(
@@ -67,7 +52,7 @@ fn put_fetch_add(
         ∷ OfPieces list.now ∷ []))) }
 {
     let address = Address(address);
-    put_listed(text, format_args!(" add {address} {key} {add} "), list)
+    text.put_words(("add", address, key, add, list))
 }
 
 /// Adds the words of what a send request asks for, each after a space.
@@ -75,13 +60,9 @@ pub fn put_operation(text: &mut Text, op: &SendOp) -> Result<(), Memory>
     ensures ok { OnOk result (text.new ≡ text.old ++ led 32 (words (operation_words op.now))) }
 {
     match op {
-        SendOp::Send { list } => { put_listed(text, " send ", list.as_slice()) }
-        SendOp::SendImm { imm, list } => {
-            put_listed(text, format_args!(" sendimm {imm} "), list.as_slice())
-        }
-        SendOp::SendInv { key, list } => {
-            put_listed(text, format_args!(" sendinv {key} "), list.as_slice())
-        }
+        SendOp::Send { list } => text.put_words(("send", list.as_slice())),
+        SendOp::SendImm { imm, list } => text.put_words(("sendimm", imm, list.as_slice())),
+        SendOp::SendInv { key, list } => text.put_words(("sendinv", key, list.as_slice())),
         SendOp::Write { address, key, list } => {
             put_reach(text, "write", *address, *key, list.as_slice())
         }
@@ -92,11 +73,7 @@ pub fn put_operation(text: &mut Text, op: &SendOp) -> Result<(), Memory>
             list,
         } => {
             let address = Address(*address);
-            put_listed(
-                text,
-                format_args!(" writeimm {address} {key} {imm} "),
-                list.as_slice(),
-            )
+            text.put_words(("writeimm", address, key, imm, list.as_slice()))
         }
         SendOp::Read { address, key, list } => {
             put_reach(text, "read", *address, *key, list.as_slice())
@@ -122,7 +99,7 @@ pub fn put_operation(text: &mut Text, op: &SendOp) -> Result<(), Memory>
             rights,
         } => {
             let address = Address(*address);
-            text.put(format_args!(" bind1 {window} {region} {address} {length} {rights}"))
+            text.put_words(("bind1", window, region, address, length, rights))
         }
         SendOp::Bind2 {
             window,
@@ -133,7 +110,7 @@ pub fn put_operation(text: &mut Text, op: &SendOp) -> Result<(), Memory>
             rights,
         } => {
             let address = Address(*address);
-            text.put(format_args!(" bind2 {window} {region} {low} {address} {length} {rights}"))
+            text.put_words(("bind2", window, region, low, address, length, rights))
         }
         SendOp::FastReg {
             region,
@@ -145,11 +122,17 @@ pub fn put_operation(text: &mut Text, op: &SendOp) -> Result<(), Memory>
             pages,
         } => {
             let address = Address(*address);
-            text.put(format_args!(
-                " fastreg {region} {low} {buffer} {address} {length} {rights} "
-            ))?;
-            text.put_pages(pages.as_slice())
+            text.put_words((
+                "fastreg",
+                region,
+                low,
+                buffer,
+                address,
+                length,
+                rights,
+                pages.as_slice(),
+            ))
         }
-        SendOp::LocalInv { key } => text.put(format_args!(" inv {key}")),
+        SendOp::LocalInv { key } => text.put_words(("inv", key)),
     }
 }

@@ -1,10 +1,10 @@
-ghost use Rattle.std.specs.Prelude.{◌≡◌, ◌++◌, ◌∷◌, [], length, map, decimal, OnOk, OnErr, IfOk, IfSome};
-ghost use Rattle.hex.specs.Hex.{encode_lower};
-ghost use Rattle.ca_keys.specs.Spelling.{run_text};
-ghost use Rattle.ca_base.specs.Spelling.{piece_text};
+ghost use Rattle.std.specs.Prelude.{◌≡◌, ◌<◌, ◌++◌, ◌∷◌, [], length, map, decimal, slice_index, OnOk, IfOk, IfSome};
+ghost use Rattle.hex.specs.Hex.{encode_lower, lower_digits};
+ghost use Rattle.ca_keys.specs.Spelling.{key_text};
 ghost use Rattle.ca_trace_words.specs.Words.{commas, hexadecimal};
 
-use ca_base::{Memory, Piece, Run};
+use crate::spelled::{Word, Words};
+use ca_base::{Key, Memory};
 use std::alloc::Global;
 use std::fmt;
 use std::fmt::{Display, Write};
@@ -39,16 +39,33 @@ impl fmt::Write for Text {
     }
 }
 
-/// Appends two hexadecimal digits for each byte; `Memory` leaves the list as it was.
-fn append_digits(out: &mut Vec<u8>, bytes: &[u8]) -> Result<(), Memory>
-    ensures ok { OnOk result (out.new.items ≡ out.old.items ++ encode_lower bytes.now) }
-    ensures err { OnErr result (out.new.items ≡ out.old.items) }
+/// How many bytes are turned into digits at a time.
+const CHUNK: usize = 16;
+
+/// The two hexadecimal digits of each byte of a chunk. They are computed, not looked up, since the compiler then does
+/// several at once.
+fn digits_of(bytes: &[u8; CHUNK]) -> [u8; 2 * CHUNK]
+    ensures { result ≡ encode_lower bytes.now }
 {
-    let before = out.len();
-    let count = bytes.len().saturating_mul(2);
-    out.resize(before.saturating_add(count), 0)?;
-    let _ = hex::encode_to_slice(bytes, &mut out[before..]);
-    Ok(())
+    let mut digits = [0u8; 2 * CHUNK];
+    for i in 0..CHUNK {
+        digits[2 * i] = digit(bytes[i] >> 4);
+        digits[2 * i + 1] = digit(bytes[i] & 15);
+    }
+    digits
+}
+
+/// The hexadecimal digit of this value.
+#[inline(always)]
+fn digit(value: u8) -> u8
+    requires { value < 16 }
+    ensures { result ≡ slice_index lower_digits value }
+{
+    if value < 10 {
+        b'0' + value
+    } else {
+        b'a' - 10 + value
+    }
 }
 
 impl Text {
@@ -69,11 +86,96 @@ impl Text {
     }
 
     /// Adds bytes.
+    #[inline(always)]
     fn put_bytes(&mut self, bytes: &[u8]) -> Result<(), Memory>
         ensures ok { OnOk result (self.new ≡ self.old ++ bytes.now) }
     {
         self.bytes.extend_from_slice(bytes)?;
         Ok(())
+    }
+
+    /// Adds a character.
+    #[inline(always)]
+    pub fn put_byte(&mut self, byte: u8) -> Result<(), Memory>
+        ensures ok { OnOk result (self.new ≡ self.old ++ byte ∷ []) }
+    {
+        self.bytes.push(byte)?;
+        Ok(())
+    }
+
+    /// Adds a character, and a word of the language behind it.
+    #[inline(always)]
+    pub(crate) fn put_name(&mut self, before: u8, name: &str) -> Result<(), Memory>
+        ensures ok { OnOk result (self.new ≡ self.old ++ before ∷ name.now) }
+    {
+        self.put_byte(before)?;
+        self.put_bytes(name.as_bytes())
+    }
+
+    /// Adds a character, and a number behind it.
+    #[inline(always)]
+    pub fn put_number(&mut self, before: u8, number: u64) -> Result<(), Memory>
+        ensures ok { OnOk result (self.new ≡ self.old ++ before ∷ decimal number) }
+    {
+        if number < 10 {
+            return self.put_bytes(&[before, b'0' + number as u8]);
+        }
+        self.put_long(before, number)
+    }
+
+    /// Adds a character, and a number of more than one digit behind it.
+    #[inline(never)]
+    fn put_long(&mut self, before: u8, number: u64) -> Result<(), Memory>
+        ensures ok { OnOk result (self.new ≡ self.old ++ before ∷ decimal number) }
+    {
+        let mut digits = itoa::Buffer::new();
+        self.put_byte(before)?;
+        self.put_bytes(digits.format(number).as_bytes())
+    }
+
+    /// Adds a character, and a key behind it.
+    pub(crate) fn put_key(&mut self, before: u8, key: Key) -> Result<(), Memory>
+        ensures ok { OnOk result (self.new ≡ self.old ++ before ∷ key_text key) }
+    {
+        let mut word = [before, b'0', b'x', 0, 0, 0, 0, 0, 0, 0, 0];
+        let _ = hex::encode_to_slice(key.0.to_be_bytes(), &mut word[3..]);
+        self.put_bytes(&word)
+    }
+
+    /// Adds each of the words behind a space.
+    #[inline(always)]
+    pub fn put_words<W: Words + Drop>(&mut self, words: W) -> Result<(), Memory>
+        ensures ok { OnOk result (self.new ≡ self.old ++ W.spellings words) }
+    {
+        words.put_all(self)
+    }
+
+    /// Adds a character, and the words of a list with commas between behind it, or `-` for none.
+    pub(crate) fn put_list<W: Word>(&mut self, before: u8, list: &[W]) -> Result<(), Memory>
+        ensures ok { OnOk result (self.new ≡ self.old ++ before ∷ commas (map W.spelling list.now)) }
+    {
+        match list {
+            [] => self.put_name(before, "-"),
+            [first, others @ ..] => {
+                first.put_in(self, before)?;
+                for word in others {
+                    word.put_in(self, b',')?;
+                }
+                Ok(())
+            }
+        }
+    }
+
+    /// Adds a character, and what a value displays as behind it.
+    pub(crate) fn put_shown<D: Display + Drop>(
+        &mut self,
+        before: u8,
+        value: D,
+    ) -> Result<(), Memory>
+        ensures ok { OnOk result (IfSome (D.output value) (λ text. self.new ≡ self.old ++ before ∷ text)) }
+    {
+        self.put_byte(before)?;
+        self.put(value)
     }
 
     /// Adds what a value displays as.
@@ -93,54 +195,28 @@ impl Text {
         if bytes.is_empty() {
             return self.put_bytes(b"-");
         }
-        append_digits(&mut self.bytes, bytes)
+        self.put_digits(bytes)
     }
 
-    /// Adds the pieces of a list with commas between, or `-` for none.
-    pub fn put_pieces(&mut self, list: &[Piece]) -> Result<(), Memory>
-        ensures ok { OnOk result (self.new ≡ self.old ++ commas (map piece_text list.now)) }
+    /// Adds two hexadecimal digits for each byte.
+    fn put_digits(&mut self, bytes: &[u8]) -> Result<(), Memory>
+        ensures ok { OnOk result (self.new ≡ self.old ++ encode_lower bytes.now) }
     {
-        match list {
-            [] => self.put_bytes(b"-"),
-            [first, others @ ..] => {
-                self.put(*first)?;
-                for piece in others {
-                    self.put(format_args!(",{piece}"))?;
-                }
-                Ok(())
-            }
+        let mut rest = bytes;
+        while let Some((chunk, others)) = rest.split_first_chunk::<CHUNK>() {
+            self.put_bytes(&digits_of(chunk))?;
+            rest = others;
         }
+        self.put_each(rest)
     }
 
-    /// Adds page numbers with commas between, or `-` for none.
-    pub fn put_pages(&mut self, pages: &[u16]) -> Result<(), Memory>
-        ensures ok { OnOk result (self.new ≡ self.old ++ commas (map decimal pages.now)) }
+    /// Adds two hexadecimal digits for each byte, one byte at a time.
+    fn put_each(&mut self, bytes: &[u8]) -> Result<(), Memory>
+        ensures ok { OnOk result (self.new ≡ self.old ++ encode_lower bytes.now) }
     {
-        match pages {
-            [] => self.put_bytes(b"-"),
-            [first, others @ ..] => {
-                self.put(*first)?;
-                for page in others {
-                    self.put(format_args!(",{page}"))?;
-                }
-                Ok(())
-            }
+        for byte in bytes {
+            self.put_bytes(&[digit(*byte >> 4), digit(*byte & 15)])?;
         }
-    }
-
-    /// Adds runs with commas between, or `-` for none.
-    pub fn put_runs(&mut self, runs: &[Run]) -> Result<(), Memory>
-        ensures ok { OnOk result (self.new ≡ self.old ++ commas (map run_text runs.now)) }
-    {
-        match runs {
-            [] => self.put_bytes(b"-"),
-            [first, others @ ..] => {
-                self.put(*first)?;
-                for run in others {
-                    self.put(format_args!(",{run}"))?;
-                }
-                Ok(())
-            }
-        }
+        Ok(())
     }
 }

@@ -4,6 +4,7 @@ ghost use Rattle.ca_trace_words.specs.Words.{Fixed, OfSlot, Number, OfPieces, le
 ghost use Rattle.ca_trace_words.specs.Verbs.{call_words, change_words, poll_words, verb_words, call};
 
 use crate::post::put_operation;
+use crate::spelled::{Hex, InAdapter};
 use crate::text::Text;
 use crate::words::Flags;
 use ca_base::{Change, Memory, Perhaps, RecvRequest, SendRequest, Slot};
@@ -25,7 +26,7 @@ pub fn print_call(by: u32, verb: &Verb, out: &mut Vec<u8>) -> Result<(), Memory>
 pub fn put_call(text: &mut Text, by: u32, verb: &Verb) -> Result<(), Memory>
     ensures ok { OnOk result (text.new ≡ text.old ++ joined 32 (words (call_words by verb.now))) }
 {
-    text.put(format_args!("c{by}"))?;
+    text.put_number(b'c', u64::from(by))?;
     put_verb(text, verb)
 }
 
@@ -34,23 +35,23 @@ fn put_verb(text: &mut Text, verb: &Verb) -> Result<(), Memory>
     ensures ok { OnOk result (text.new ≡ text.old ++ led 32 (words (verb_words verb.now))) }
 {
     match verb {
-        Verb::AllocPd { domain } => text.put(format_args!(" pd {domain}")),
-        Verb::DeallocPd { domain } => text.put(format_args!(" unpd {domain}")),
+        Verb::AllocPd { domain } => text.put_words(("pd", domain)),
+        Verb::DeallocPd { domain } => text.put_words(("unpd", domain)),
         Verb::RegMr {
             slot,
             buffer,
             offset,
             length,
             rights,
-        } => text.put(format_args!(" reg {slot} {buffer} {offset} {length} {rights}")),
-        Verb::AllocMr { slot, pages } => text.put(format_args!(" mr {slot} {pages}")),
-        Verb::DeregMr { slot } => text.put(format_args!(" dereg {slot}")),
-        Verb::AllocMw { slot, kind } => text.put(format_args!(" mw {slot} {kind}")),
-        Verb::DeallocMw { slot } => text.put(format_args!(" unmw {slot}")),
-        Verb::CreateCq { slot, capacity } => text.put(format_args!(" cq {slot} {capacity}")),
-        Verb::DestroyCq { slot } => text.put(format_args!(" uncq {slot}")),
-        Verb::CreateSrq { slot, depth } => text.put(format_args!(" srq {slot} {depth}")),
-        Verb::DestroySrq { slot } => text.put(format_args!(" unsrq {slot}")),
+        } => text.put_words(("reg", slot, buffer, offset, length, rights)),
+        Verb::AllocMr { slot, pages } => text.put_words(("mr", slot, pages)),
+        Verb::DeregMr { slot } => text.put_words(("dereg", slot)),
+        Verb::AllocMw { slot, kind } => text.put_words(("mw", slot, kind)),
+        Verb::DeallocMw { slot } => text.put_words(("unmw", slot)),
+        Verb::CreateCq { slot, capacity } => text.put_words(("cq", slot, capacity)),
+        Verb::DestroyCq { slot } => text.put_words(("uncq", slot)),
+        Verb::CreateSrq { slot, depth } => text.put_words(("srq", slot, depth)),
+        Verb::DestroySrq { slot } => text.put_words(("unsrq", slot)),
         Verb::CreateQp {
             slot,
             send_cq,
@@ -60,11 +61,11 @@ fn put_verb(text: &mut Text, verb: &Verb) -> Result<(), Memory>
             srq,
         } => {
             let srq = Perhaps(*srq);
-            text.put(format_args!(" qp {slot} {send_cq} {recv_cq} {send_depth} {recv_depth} {srq}"))
+            text.put_words(("qp", slot, send_cq, recv_cq, send_depth, recv_depth, srq))
         }
         Verb::ModifyQp { slot, change } => put_change(text, *slot, change),
-        Verb::QueryQp { slot } => text.put(format_args!(" query {slot}")),
-        Verb::DestroyQp { slot } => text.put(format_args!(" unqp {slot}")),
+        Verb::QueryQp { slot } => text.put_words(("query", slot)),
+        Verb::DestroyQp { slot } => text.put_words(("unqp", slot)),
         Verb::PostSend { slot, request } => put_post(text, *slot, request),
         Verb::PostRecv { slot, request } => put_receive(text, "recv", *slot, request),
         Verb::PostSrq { slot, request } => put_receive(text, "srecv", *slot, request),
@@ -75,19 +76,25 @@ fn put_verb(text: &mut Text, verb: &Verb) -> Result<(), Memory>
             offset,
             bytes,
         } => {
-            text.put(format_args!(" store {adapter}/{buffer} {offset} "))?;
-            text.put_hex(bytes.as_slice())
+            let place = InAdapter {
+                adapter: *adapter,
+                buffer: *buffer,
+            };
+            text.put_words(("store", place, offset, Hex(bytes.as_slice())))
         }
         Verb::Load {
             adapter,
             buffer,
             offset,
             length,
-        } => text.put(format_args!(" load {adapter}/{buffer} {offset} {length}")),
-        Verb::Inject { queue, bytes } => {
-            text.put(format_args!(" inject {queue} "))?;
-            text.put_hex(bytes.as_slice())
+        } => {
+            let place = InAdapter {
+                adapter: *adapter,
+                buffer: *buffer,
+            };
+            text.put_words(("load", place, offset, length))
         }
+        Verb::Inject { queue, bytes } => text.put_words(("inject", queue, Hex(bytes.as_slice()))),
     }
 }
 
@@ -95,8 +102,8 @@ fn put_change(text: &mut Text, slot: Slot, change: &Change) -> Result<(), Memory
     ensures ok { OnOk result (text.new ≡ text.old ++ led 32 (words (change_words slot change.now))) }
 {
     match change {
-        Change::Reset => text.put(format_args!(" reset {slot}")),
-        Change::Init => text.put(format_args!(" init {slot}")),
+        Change::Reset => text.put_words(("reset", slot)),
+        Change::Init => text.put_words(("init", slot)),
         Change::Rtr {
             peer,
             incarnation,
@@ -109,10 +116,10 @@ fn put_change(text: &mut Text, slot: Slot, change: &Change) -> Result<(), Memory
             retry,
             rnr_retry,
             reads,
-        } => text.put(format_args!(" rts {slot} {psn} {retry} {rnr_retry} {reads}")),
-        Change::Sqd => text.put(format_args!(" sqd {slot}")),
-        Change::Resume => text.put(format_args!(" resume {slot}")),
-        Change::Error => text.put(format_args!(" error {slot}")),
+        } => text.put_words(("rts", slot, psn, retry, rnr_retry, reads)),
+        Change::Sqd => text.put_words(("sqd", slot)),
+        Change::Resume => text.put_words(("resume", slot)),
+        Change::Error => text.put_words(("error", slot)),
     }
 }
 
@@ -126,7 +133,7 @@ fn put_post(text: &mut Text, slot: Slot, request: &SendRequest) -> Result<(), Me
         fence: request.fence,
         solicited: request.solicited,
     };
-    text.put(format_args!(" post {slot} {id} {flags}"))?;
+    text.put_words(("post", slot, id, flags))?;
     put_operation(text, &request.op)
 }
 
@@ -141,18 +148,17 @@ fn put_receive(
         ∷ []))) }
 {
     let id = request.id;
-    text.put(format_args!(" {name} {slot} {id} "))?;
-    text.put_pieces(request.list.as_slice())
+    text.put_words((name, slot, id, request.list.as_slice()))
 }
 
 fn put_poll(text: &mut Text, slot: Slot, n: u8, least: u8) -> Result<(), Memory>
     ensures ok { OnOk result (text.new ≡ text.old ++ led 32 (words (poll_words slot n least))) }
 {
     if least == 0 {
-        text.put(format_args!(" poll {slot} {n}"))
+        text.put_words(("poll", slot, n))
     } else if least == n {
-        text.put(format_args!(" wait {slot} {n}"))
+        text.put_words(("wait", slot, n))
     } else {
-        text.put(format_args!(" poll {slot} {n} {least}"))
+        text.put_words(("poll", slot, n, least))
     }
 }
