@@ -15,7 +15,7 @@ at_place round timers pass place happened clock = record {
   clock = clock;
 }
 
-drop-drop : (n : ℕ) (xs : List Offer) → drop (suc n) xs ≡ drop 1 (drop n xs)
+pub drop-drop : (n : ℕ) (xs : List Offer) → drop (suc n) xs ≡ drop 1 (drop n xs)
 drop-drop zero xs = refl
 drop-drop (suc n) [] = refl
 drop-drop (suc n) (x ∷ xs) = drop-drop n xs

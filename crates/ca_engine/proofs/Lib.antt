@@ -1,3 +1,4 @@
 pub mod OfferLemmas
 pub mod EngineLemmas
+pub mod PassingLemmas
 pub mod QuietLemmas

@@ -1,3 +1,4 @@
 pub mod Offers
 pub mod Engine
+pub mod Passing
 pub mod Quiet

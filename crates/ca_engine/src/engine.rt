@@ -38,10 +38,12 @@ impl Model for Engine {
 }
 
 impl Engine {
-    ghost use Rattle.std.specs.Prelude.{◌≡◌, drop, false, IfOk};
+    ghost use Rattle.std.specs.Prelude.{◌≡◌, ◌<◌, drop, false, length, None, IfOk, IfSome};
     ghost use Rattle.ca_base.specs.Configuration.{configuration_of};
     ghost use Rattle.ca_engine.specs.declared.outcome.Outcome.TheVariants as outcomes;
     ghost use Rattle.ca_engine.specs.Engine.{at_next, at_round, at_timers, behind_round, engine_after, is_over, offer_of, offers_of_pass, opening_engine, with_outcome};
+    ghost use Rattle.ca_engine.specs.Passing.{gone_past_all, has_other_clock, most_passed, passed_over};
+    ghost use Rattle.ca_engine.specs.declared.pass.Pass.TheVariants as passes;
 
     /// An engine before its first round, for the queue pairs of a configuration and so many consumers. What it offers
     /// it keeps as lists, and takes no memory later.
@@ -77,6 +79,59 @@ impl Engine {
         } else {
             self.note(outcome);
             self.go_on();
+        }
+    }
+
+    /// How many offers of a round lie behind; none comes in a timer pass. It takes no memory.
+    pub fn place(&self) -> Option<usize>
+        ensures some { IfSome result (λ place. (self.now.pass ≡ passes.Round) × (self.now.left ≡ drop place self.now.round)) }
+        ensures none { result ≡ None → self.now.pass ≡ passes.Timers }
+    {
+        match self.pass {
+            Pass::Round => Some(self.place),
+            Pass::Timers => None,
+        }
+    }
+
+    /// Goes past so many offers of a round as if each was told to be not ready at this clock, but never past the last of
+    /// the round, and past none of a timer pass. It takes no memory, and no more time for many than for one.
+    pub fn pass_over(&mut self, count: usize, now: u64)
+        ensures { self.new ≡ passed_over self.old count now }
+    {
+        let passed = self.most_passed(count);
+        if passed > 0 {
+            self.go_past_all(passed, now);
+        }
+    }
+
+    /// How many offers of so many are gone past.
+    fn most_passed(&self, count: usize) -> usize
+        ensures { result ≡ most_passed self.now count }
+    {
+        match self.pass {
+            Pass::Round => count.min((self.round.len() - self.place).saturating_sub(1)),
+            Pass::Timers => 0,
+        }
+    }
+
+    /// Goes past so many offers, behind which there are more, that are not ready at this clock.
+    fn go_past_all(&mut self, count: usize, now: u64)
+        requires some { 0 < count }
+        requires more { count < length self.old.left }
+        ensures { self.new ≡ gone_past_all self.old count now }
+    {
+        self.happened = self.happened || self.has_other_clock(now);
+        self.clock = Some(now);
+        self.place += count;
+    }
+
+    /// Whether the latest that was not ready was so at another clock.
+    fn has_other_clock(&self, now: u64) -> bool
+        ensures { result ≡ has_other_clock self.now.clock now }
+    {
+        match self.clock {
+            Some(clock) => clock != now,
+            None => false,
         }
     }
 
