@@ -1,11 +1,10 @@
-ghost use Rattle.std.specs.Prelude.{◌≡◌, ◌<◌, ◌≤◌, ◌^◌, ◌+◌, ◌++◌, [], ◌∷◌, length, vec_len, IfOk, OnOk};
-ghost use Rattle.std.specs.Vec.{vec_capacity};
+ghost use Rattle.std.specs.Prelude.{◌≡◌, ◌<◌, ◌≤◌, ◌^◌, ◌+◌, [], ◌∷◌, length, IfOk};
 ghost use Rattle.ca_model.specs.machine.VerbAnswers.{answer_mark};
 ghost use Rattle.ca_model.specs.declared.answer.Answer.TheVariants as answers;
 ghost use Rattle.ca_model.specs.declared.verb.Verb.TheVariants as verbs;
 ghost use Rattle.ca_acts.specs.Calls.{call_of, call_ready};
 
-use crate::copies::copy_of_send;
+use crate::copies::{copy_of_send, copy_of_small};
 use ca_base::{Memory, SendRequest, Slot};
 use ca_model::{Answer, Mark, Marks, Refusal, Verb};
 use std::alloc::Global;
@@ -61,19 +60,83 @@ impl Call<'_> {
         })
     }
 
-    /// The mark of the verb's answer, where that is known before anything changes. Posts of sends and polls, which come
-    /// most often, are copied where they come to lie.
-    #[inline(always)]
+    /// The mark of the verb's answer, where that is known before anything changes.
+    #[inline(never)]
     pub fn answer(&self, answer: Answer) -> Result<Marks, Memory>
         ensures { IfOk result (λ m. m.marks ≡ answer_mark (call_of self.now) answer ∷ []) }
     {
-        let by = self.by;
         let mut marks = Vec::with_capacity(self.alloc, 1)?;
-        match self.verb {
-            Verb::PostSend { slot, request } => push_post(&mut marks, by, *slot, request, answer)?,
-            Verb::Poll { slot, n, least } => push_poll(&mut marks, by, *slot, *n, *least, answer),
-            verb => push_answer(&mut marks, by, verb, answer)?,
-        }
+        let verb = self.verb.clone()?;
+        marks.push_reserved(Mark::Verb {
+            by: self.by,
+            verb,
+            answer,
+        });
+        Ok(Marks::from(marks))
+    }
+
+    /// The same, where a request is posted to a send queue. What comes most often is copied where it comes to lie.
+    #[inline(always)]
+    pub fn answer_post(&self, answer: Answer) -> Result<Marks, Memory>
+        ensures { IfOk result (λ m. m.marks ≡ answer_mark (call_of self.now) answer ∷ []) }
+    {
+        let Verb::PostSend { slot, request } = self.verb else {
+            return self.answer(answer);
+        };
+        let Some(request) = copy_of_small(request) else {
+            return self.answer_send(*slot, request, answer);
+        };
+        let mut marks = Vec::with_capacity(self.alloc, 1)?;
+        marks.push_reserved(Mark::Verb {
+            by: self.by,
+            verb: Verb::PostSend {
+                slot: *slot,
+                request,
+            },
+            answer,
+        });
+        Ok(Marks::from(marks))
+    }
+
+    /// The same, where any request is posted.
+    #[inline(never)]
+    fn answer_send(
+        &self,
+        slot: Slot,
+        request: &SendRequest,
+        answer: Answer,
+    ) -> Result<Marks, Memory>
+        ensures { IfOk result (λ m. m.marks
+            ≡ answer_mark (record { by = self.now.by; verb = verbs.PostSend slot request.now }) answer ∷ []) }
+    {
+        let mut marks = Vec::with_capacity(self.alloc, 1)?;
+        let request = copy_of_send(request)?;
+        marks.push_reserved(Mark::Verb {
+            by: self.by,
+            verb: Verb::PostSend { slot, request },
+            answer,
+        });
+        Ok(Marks::from(marks))
+    }
+
+    /// The same, where completions are polled.
+    #[inline(always)]
+    pub fn answer_poll(&self, answer: Answer) -> Result<Marks, Memory>
+        ensures { IfOk result (λ m. m.marks ≡ answer_mark (call_of self.now) answer ∷ []) }
+    {
+        let Verb::Poll { slot, n, least } = self.verb else {
+            return self.answer(answer);
+        };
+        let mut marks = Vec::with_capacity(self.alloc, 1)?;
+        marks.push_reserved(Mark::Verb {
+            by: self.by,
+            verb: Verb::Poll {
+                slot: *slot,
+                n: *n,
+                least: *least,
+            },
+            answer,
+        });
         Ok(Marks::from(marks))
     }
 
@@ -102,48 +165,4 @@ impl Ready {
         marks.push(Mark::Verb { by, verb, answer });
         marks
     }
-}
-
-/// Adds the mark of a post to a send queue.
-#[inline(always)]
-fn push_post(
-    marks: &mut Vec<Mark>,
-    by: u32,
-    slot: Slot,
-    request: &SendRequest,
-    answer: Answer,
-) -> Result<(), Memory>
-    requires { vec_len marks.old < vec_capacity marks.old }
-    ensures { OnOk result (marks.new.items ≡ marks.old.items
-        ++ answer_mark (record { by = by; verb = verbs.PostSend slot request.now }) answer ∷ []) }
-{
-    let verb = Verb::PostSend {
-        slot,
-        request: copy_of_send(request)?,
-    };
-    marks.push_reserved(Mark::Verb { by, verb, answer });
-    Ok(())
-}
-
-/// Adds the mark of a poll.
-#[inline(always)]
-fn push_poll(marks: &mut Vec<Mark>, by: u32, slot: Slot, n: u8, least: u8, answer: Answer)
-    requires { vec_len marks.old < vec_capacity marks.old }
-    ensures { marks.new.items ≡ marks.old.items
-        ++ answer_mark (record { by = by; verb = verbs.Poll slot n least }) answer ∷ [] }
-{
-    let verb = Verb::Poll { slot, n, least };
-    marks.push_reserved(Mark::Verb { by, verb, answer });
-}
-
-/// Adds the mark of an answer, in room that is there.
-#[inline(never)]
-fn push_answer(marks: &mut Vec<Mark>, by: u32, verb: &Verb, answer: Answer) -> Result<(), Memory>
-    requires { vec_len marks.old < vec_capacity marks.old }
-    ensures { OnOk result (marks.new.items ≡ marks.old.items
-        ++ answer_mark (record { by = by; verb = verb.now }) answer ∷ []) }
-{
-    let verb = verb.clone()?;
-    marks.push_reserved(Mark::Verb { by, verb, answer });
-    Ok(())
 }

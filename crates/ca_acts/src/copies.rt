@@ -1,4 +1,4 @@
-ghost use Rattle.std.specs.Prelude.{◌≡◌, IfOk};
+ghost use Rattle.std.specs.Prelude.{◌≡◌, IfOk, IfSome};
 
 use arrayvec::ArrayVec;
 use ca_base::limits::MAX_PIECES;
@@ -43,4 +43,30 @@ fn copy_of_list(list: &ArrayVec<Piece, MAX_PIECES>) -> ArrayVec<Piece, MAX_PIECE
     let mut copy = ArrayVec::new();
     let _ = copy.try_extend_from_slice(list.as_slice());
     copy
+}
+
+/// A copy of a WRITE of one piece, which comes most often. None comes of any other request, which `copy_of_send` copies.
+#[inline(always)]
+pub fn copy_of_small(request: &SendRequest) -> Option<SendRequest>
+    ensures { IfSome result (λ copy. copy ≡ request.now) }
+{
+    let SendOp::Write { address, key, list } = &request.op else {
+        return None;
+    };
+    let [piece] = list.as_slice() else {
+        return None;
+    };
+    let mut list = ArrayVec::new();
+    list.push(*piece);
+    Some(SendRequest {
+        id: request.id,
+        signalled: request.signalled,
+        fence: request.fence,
+        solicited: request.solicited,
+        op: SendOp::Write {
+            address: *address,
+            key: *key,
+            list,
+        },
+    })
 }

@@ -24,7 +24,7 @@ mod windows;
 pub use answers::{Call, Ready};
 pub use completion_queues::{create_cq, destroy_cq};
 pub use completions::{completions_to, put_completions};
-pub use copies::copy_of_send;
+pub use copies::{copy_of_send, copy_of_small};
 pub use depths::is_no_depth;
 pub use domains::{alloc_pd, dealloc_pd};
 pub use done::{Outlets, put_done};

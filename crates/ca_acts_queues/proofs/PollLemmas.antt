@@ -1,5 +1,6 @@
 -- What the plan of a poll does, once what its completions free was freed, one after another. For proofs only.
-use Rattle.std.proofs.Common.{◌≡◌, ◌==◌, ◌||◌, ◌∙◌, ◌+◌, ◌<◌, ◌≤◌, refl, sym, subst, ap, ap₂, arith, ℕ, nat_lt, Bool, false, List, [], ◌∷◌, ◌++◌, Option, None, Some, IfSome, Ok, drop, length, slice_get, take}
+use Rattle.std.proofs.Common.{if◌then◌else◌, ◌≡◌, ◌==◌, ◌||◌, ◌∙◌, ◌+◌, ◌<◌, ◌≤◌, refl, sym, subst, ap, ap₂, arith, ℕ, nat_lt, Bool, false, List, [], ◌∷◌, ◌++◌, Option, None, Some, IfSome, Ok, drop, length, slice_get, take}
+use Rattle.std.proofs.lemmas.Grind.{common_steps}
 use Rattle.std.proofs.lemmas.Bool.Decides.{nat_tests}
 use Rattle.std.proofs.lemmas.List.{length-take}
 use Rattle.std.specs.Option.{option_map}
@@ -8,7 +9,7 @@ use Rattle.ca_base.specs.declared.completion.Completion.{Completion}
 use Rattle.ca_base.specs.declared.limits.TheConstants.{MAX_POLLED}
 use Rattle.ca_base.specs.declared.step.Reason.TheVariants as reasons
 use Rattle.ca_keys.specs.declared.names.Slot.{Slot}
-use Rattle.ca_base.specs.objects.CompletionQueue.{CompletionQueue, after_polls}
+use Rattle.ca_base.specs.objects.CompletionQueue.{CompletionQueue, after_polls, source_in}
 use Rattle.ca_cq.proofs.Parts.{drop-next, take-at, take-more}
 use Rattle.ca_model.specs.Marks.{MarkList}
 use Rattle.ca_model.specs.declared.answer.Answer.TheVariants as answers
@@ -20,7 +21,7 @@ use Rattle.ca_model.specs.machine.VerbAnswers.{Answer_plan, Call, Refuse_plan, a
 use Rattle.ca_model.specs.machine.World.{Cq_of, Name, World}
 use Rattle.ca_held.specs.HeldView.{Holding, hold}
 use Rattle.ca_acts.specs.Act.{IsAct}
-use Rattle.ca_acts_queues.specs.Polling.{AreApart, AreOfOwnPlaces, CanFreeAll, CanFreeEach, after_freeing_all, after_freeing, places_of}
+use Rattle.ca_acts_queues.specs.Polling.{AreApart, AreOfOwnPlaces, CanFreeAll, CanFreeEach, after_freeing_all, after_freeing, places_of, source_at}
 use Rattle.ca_acts_queues.proofs.FreeableLemmas.{taken-free}
 use Rattle.ca_acts_queues.proofs.TakingLemmas.{places-touched, polled_world, take-performs}
 use Rattle.ca_acts_queues.proofs.FreedLemmas.{cqs-freed}
@@ -30,6 +31,20 @@ one_taken k cs = drop-next k cs
 
 pub one_listed : (k : ℕ) (cs : List Completion) (c : Completion) → slice_get cs k ≡ Some c → take k cs ++ c ∷ [] ≡ take (k + 1) cs
 one_listed k cs c is = ap (λ xs. take k cs ++ xs) (sym (take-at k cs c is)) ∙ sym (take-more k cs)
+
+-- where none is in front, none is listed
+pub none_listed : (n : ℕ) (cs : List Completion) → slice_get cs 0 ≡ None → [] ≡ take n cs
+none_listed n [] none = grind (arith, common_steps)
+none_listed n (c ∷ cs) none = grind (arith, common_steps, none)
+
+-- and one that is in front is the first
+pub first_listed : (cs : List Completion) (c : Completion) → slice_get cs 0 ≡ Some c → c ∷ [] ≡ take 1 cs
+first_listed cs c is = one_listed 0 cs c is
+
+-- a completion of a send is of no shared receive queue
+pub no_source : (o : Option CompletionQueue) (c : Completion) → c.receive ≡ false → source_at o c ≡ None
+no_source None c is = refl
+no_source (Some v) c is = ap (λ b. if b then source_in v.reservations c.queue else None) is
 
 -- what is freed leaves completion queues
 pub freed_keeps : (s : Slot) (o : Option ℕ) (c : Completion) (w : World) → (after_freeing s o c w).cq ≡ w.cq

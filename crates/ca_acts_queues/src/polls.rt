@@ -1,4 +1,4 @@
-ghost use Rattle.std.specs.Prelude.{◌≡◌, ◌≤◌, true, IfOk, IfSome, take};
+ghost use Rattle.std.specs.Prelude.{◌≡◌, ◌<◌, ◌≤◌, true, IfOk, IfSome, take};
 ghost use Rattle.std.specs.Option.{option_map};
 ghost use Rattle.ca_base.specs.declared.limits.TheConstants.{MAX_POLLED};
 ghost use Rattle.ca_base.specs.objects.CompletionQueue.{after_polls};
@@ -53,7 +53,7 @@ pub fn poll(
     if count < least {
         return Err(StepError::NotReady(Reason::Empty));
     }
-    let marks = call.answer(Answer::Polled(polled))?;
+    let marks = call.answer_poll(Answer::Polled(polled))?;
     free_all(held, slot, polled_in(&marks));
     take_first(held, slot, count);
     Ok(marks)
@@ -75,14 +75,21 @@ fn polled_in(marks: &Marks) -> &[Completion]
     }
 }
 
-/// A copy of the first completions, as many as are asked for or as wait.
-#[tactic(auto, using(crate::proofs::PollLemmas::one_listed))]
+/// A copy of the first completions, as many as are asked for or as wait. The first is copied before the others, where
+/// what the list takes is known.
+#[tactic(auto, using(crate::proofs::PollLemmas::one_listed, crate::proofs::PollLemmas::none_listed, crate::proofs::PollLemmas::first_listed))]
+#[inline(always)]
 fn first_completions(alloc: Global, cq: &Cq, n: u8) -> Result<Completions, Memory>
-    requires { n ≤ MAX_POLLED }
+    requires some { 0 < n }
+    requires few { n ≤ MAX_POLLED }
     ensures { IfOk result (λ list. list ≡ take n cq.now.waiting) }
 {
     let mut list = Completions::empty(alloc);
-    for i in 0..n {
+    let Some(first) = cq.at(0) else {
+        return Ok(list);
+    };
+    list.push(first)?;
+    for i in 1..n {
         let Some(completion) = cq.at(u16::from(i)) else {
             return Ok(list);
         };
@@ -133,8 +140,23 @@ fn free_all(held: &mut Held, slot: Slot, completions: &[Completion])
     }
 }
 
-/// The shared receive queue of which a completion's receive was.
+/// The shared receive queue of which a completion's receive was. That of a send is none, without a look.
+#[tactic(auto, using(crate::proofs::PollLemmas::no_source))]
+#[inline(always)]
 fn source_of(held: &Held, slot: Slot, completion: &Completion) -> Option<u16>
+    requires { (holding held.now).has (Cq_of slot) ≡ true }
+    ensures { result ≡ source_at ((holding held.now).world.cq slot) completion.now }
+{
+    if completion.receive {
+        receive_source(held, slot, completion)
+    } else {
+        None
+    }
+}
+
+/// The same by what stands in the slot of the completion queue.
+#[inline(never)]
+fn receive_source(held: &Held, slot: Slot, completion: &Completion) -> Option<u16>
     requires { (holding held.now).has (Cq_of slot) ≡ true }
     ensures { result ≡ source_at ((holding held.now).world.cq slot) completion.now }
 {
@@ -178,6 +200,7 @@ fn free_place(held: &mut Held, slot: Slot, source: Option<u16>, completion: &Com
 
 /// A place of a shared receive queue that is held is free again.
 #[tactic(auto, using(ca_held::proofs::HoldLemmas::put_srq))]
+#[inline(never)]
 fn free_in_shared(held: &mut Held, slot: Slot, place: u64)
     requires held { (holding held.old).has (Srq_of slot) ≡ true }
     requires once { IfSome ((holding held.old).world.srq slot).srq (λ z. stands_once place z.taken ≡ true) }

@@ -18,7 +18,7 @@ use crate::drawing::{draw, is_no_window, key_for, window_of_bind};
 use crate::flushes::{flush_in_error, flushed_with_send};
 use crate::refusals::send_refusal;
 use crate::states::is_error;
-use ca_acts::{Call, completions_to, copy_of_send, put_completions};
+use ca_acts::{Call, completions_to, copy_of_send, copy_of_small, put_completions};
 use ca_base::{Memory, PostedSend, QueueId, SendRequest, Slot, StepError};
 use ca_held::{Held, QueueSlot};
 use ca_model::{Answer, Marks, Refusal};
@@ -121,28 +121,40 @@ fn post_quietly(
         (slot_with (λ q. after_flush (with_send request.now None q)) ((holding held.old).world.queue name))) }
     ensures err { OnErr result (holding held.new ≡ holding held.old) }
 {
-    let marks = call.answer(Answer::Posted(None))?;
+    let marks = call.answer_post(Answer::Posted(None))?;
     if let QueueSlot::Present(queue) = held.queue_mut(name) {
         post_copy(queue, request)?;
     }
     Ok(marks)
 }
 
-/// The copy of a request that draws no byte is posted to a queue pair.
+/// The copy of a request that draws no byte is posted to a queue pair. What comes most often is copied by itself.
+#[inline(always)]
 fn post_copy(queue: &mut QueuePart, request: &SendRequest) -> Result<(), Memory>
     requires next { CanPostSend queue.old }
     requires room { is_full queue.old.sends ≡ false }
     ensures ok { OnOk result (queue.new ≡ after_flush (with_send request.now None queue.old)) }
     ensures err { OnErr result (queue.new ≡ queue.old) }
 {
+    let Some(request) = copy_of_small(request) else {
+        return post_any(queue, request);
+    };
+    let drawn = None;
+    post_to(queue, PostedSend { request, drawn });
+    Ok(())
+}
+
+/// The same of any request.
+#[inline(never)]
+fn post_any(queue: &mut QueuePart, request: &SendRequest) -> Result<(), Memory>
+    requires next { CanPostSend queue.old }
+    requires room { is_full queue.old.sends ≡ false }
+    ensures ok { OnOk result (queue.new ≡ after_flush (with_send request.now None queue.old)) }
+    ensures err { OnErr result (queue.new ≡ queue.old) }
+{
     let request = copy_of_send(request)?;
-    post_to(
-        queue,
-        PostedSend {
-            request,
-            drawn: None,
-        },
-    );
+    let drawn = None;
+    post_apart(queue, PostedSend { request, drawn });
     Ok(())
 }
 
@@ -156,8 +168,18 @@ fn post_in(held: &mut Held, name: QueueId, posted: PostedSend)
         (slot_with (λ q. after_flush (with_send posted.request posted.drawn q)) ((holding held.old).world.queue name)) }
 {
     if let QueueSlot::Present(queue) = held.queue_mut(name) {
-        post_to(queue, posted);
+        post_apart(queue, posted);
     }
+}
+
+/// What is posted less often is posted by itself.
+#[inline(never)]
+fn post_apart(queue: &mut QueuePart, posted: PostedSend)
+    requires next { CanPostSend queue.old }
+    requires room { is_full queue.old.sends ≡ false }
+    ensures { queue.new ≡ after_flush (with_send posted.request posted.drawn queue.old) }
+{
+    post_to(queue, posted);
 }
 
 /// A request is posted to a queue pair, and flushed at once in Error.
