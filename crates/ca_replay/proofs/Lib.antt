@@ -7,3 +7,4 @@ mod ActLemmas
 mod OpenLemmas
 mod ReplayLemmas
 mod LookLemmas
+pub mod RestLemmas

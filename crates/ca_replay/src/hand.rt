@@ -8,6 +8,7 @@ ghost use Rattle.ca_model.specs.machine.World.{World};
 ghost use Rattle.ca_model.specs.machine.Sound.{AreLimited};
 ghost use Rattle.ca_places.specs.Places.{place_of};
 ghost use Rattle.ca_replay.specs.Hand.{AreApart, AreAtPlaces, HasPlaces, IsGiven, IsInHand, IsOfKind, IsOfWorld, IsTaken, names_of};
+ghost use Rattle.ca_replay.specs.Rest.{LeavesRest};
 ghost use Rattle.ca_replay.specs.Rows.{AreTogether, IsEmpty, IsMade, part_at};
 ghost use Rattle.ca_replay.specs.declared.hand.TheConstants.{MOST_GUESSED, MOST_TAKEN};
 ghost use Rattle.ca_model.specs.machine.Step.{step};
@@ -58,6 +59,8 @@ pub(crate) fn act_in_hand(
     ensures step { (w : World) → AreTogether (configuration_in settings.now) w parts.old.items (holding held.old)
         → IsMade result (step (configuration_in settings.now) w event.now) w
         (λ v. AreTogether (configuration_in settings.now) v parts.new.items (holding held.new)) }
+    ensures rest { (w : World) → AreTogether (configuration_in settings.now) w parts.old.items (holding held.old)
+        → LeavesRest result (step (configuration_in settings.now) w event.now) w (names_of taken.new.items) }
     ensures empty { IsEmpty (holding held.new) }
 {
     gather(settings, event, parts, held, taken);

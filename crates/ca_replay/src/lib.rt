@@ -15,4 +15,5 @@ mod looks;
 mod row;
 
 pub use events::{ReplayError, replay};
+pub use hand::Taken;
 pub use row::Row;

@@ -4,6 +4,7 @@ ghost use Rattle.ca_model.specs.machine.Sound.{AreLimited, CanBeMade};
 ghost use Rattle.ca_model.specs.machine.Step.{step};
 ghost use Rattle.ca_model.specs.machine.World.{World, opening_world};
 ghost use Rattle.ca_opening.specs.Opening.{FitContents, opening_bytes};
+ghost use Rattle.ca_replay.specs.Rest.{KeepsRow, names_changed};
 ghost use Rattle.ca_replay.specs.Rows.{IsMade, IsRow, IsRowOf, count_after};
 
 use crate::hand::{MOST_TAKEN, Taken, act_in_hand};
@@ -46,13 +47,15 @@ impl Row {
     }
 
     /// Makes an event: its parts are taken in hand, the event is acted, and they are given back to their places. NotReady
-    /// and `Memory` leave all as it was. Fewer than 2^32 - 2 events were made before.
+    /// and `Memory` leave all as it was. Fewer than 2^32 - 2 events were made before. The names and places of the parts
+    /// that were in hand are left in `taken`: at all others each queue pair and each mailbox is as before.
     pub fn make(&mut self, alloc: Global, event: &Event) -> Result<Marks, StepError>
         requires row { IsRow self.old }
         requires few { self.old.count < 2 ^ 32 - 2 }
         ensures step { (c : Configuration) (w : World) → IsRowOf c w self.old
             → IsMade result (step c w event.now) w (λ v. IsRowOf c v self.new) }
         ensures row { IsRow self.new }
+        ensures rest { KeepsRow (names_changed result self.new.taken.items) self.old self.new }
         ensures made { CanBeMade event.now }
         ensures count { self.new.count ≡ count_after result self.old.count }
     {

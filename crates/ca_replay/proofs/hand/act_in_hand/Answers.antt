@@ -1,6 +1,7 @@
 use Rattle.std.proofs.Common.{◌∙◌, ap, sym}
 use Rattle.ca_model.specs.machine.Parts.{is_held}
 use Rattle.ca_replay.proofs.ActLemmas.{acted, configured_names, ready_now}
+use Rattle.ca_replay.proofs.RestLemmas.{acted_rest}
 use Rattle.ca_replay.specs.Hand.{names_of}
 use Rattle.ca_replay.proofs.hand.act_in_hand.Goals as goal
 
@@ -15,3 +16,6 @@ give_back-requires-clause-places c = (c.gather.ensures.together c.requires.world
 
 pub returns-clause-step : goal.returns-clause-step
 returns-clause-step c = λ w start. acted _ c.args.event.now _ _ _ _ _ _ c.act-result.result (c.gather.ensures.together w start) c.act-result.ensures.act c.act-result.ensures.step c.give_back.ensures.together
+
+pub returns-clause-rest : goal.returns-clause-rest
+returns-clause-rest c = λ w start. acted_rest _ c.args.event.now w _ _ _ c.act-result.result _ (c.gather.ensures.together w start) c.act-result.ensures.step c.gather.ensures.hand.named

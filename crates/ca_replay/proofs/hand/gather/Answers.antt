@@ -1,4 +1,4 @@
-use Rattle.std.proofs.Common.{rules, ◌∙◌, arith, sym}
+use Rattle.std.proofs.Common.{◌∙◌, arith, sym}
 use Rattle.std.proofs.lemmas.Grind.{common_steps}
 use Rattle.ca_adapter.proofs.ReadyLemmas.{queues_can_step, shared_are_sound}
 use Rattle.ca_replay.proofs.GatherLemmas.{gathered_all, gathered_more, gathered_none, hand_at_first, next_here, parts_of_world, room_for_more}

@@ -1,4 +1,4 @@
-use Rattle.std.proofs.Common.{◌≡◌, ◌∙◌, ◌<◌, sym, length, Some}
+use Rattle.std.proofs.Common.{◌≡◌, ◌<◌, length, Some}
 use Rattle.ca_base.specs.Configuration.{configuration_in}
 use Rattle.ca_places.specs.Places.{place_of}
 use Rattle.ca_replay.proofs.RowLemmas.{set_leaves, set_places, set_there, within_row}
