@@ -1,6 +1,7 @@
 ghost use Rattle.ca_verbs.specs.Passes.{IsOf};
 
-use ca_base::{Change, DomainId, Key, QueueId, Rights, Slot};
+use crate::verbs::{create, register, to_receive, to_send};
+use ca_base::{Change, DomainId, Key, Slot};
 use ca_mailbox::Weather;
 use ca_model::{Answer, Mark, Verb};
 use ca_turns::Turn;
@@ -54,20 +55,7 @@ pub fn region<R: Wait>(
     ensures { IsOf fabric.now pass.new }
 {
     call(rt, fabric, pass, by, &Verb::AllocPd { domain })?;
-    let register = Verb::RegMr {
-        slot: Slot { domain, slot: 0 },
-        buffer,
-        offset: 0,
-        length,
-        rights: Rights {
-            local_write: true,
-            remote_read: false,
-            remote_write: true,
-            remote_atomic: true,
-            window_bind: false,
-        },
-    };
-    call(rt, fabric, pass, by, &register)?;
+    call(rt, fabric, pass, by, &register(domain, buffer, length))?;
     match answer(pass)? {
         Answer::Key(key) => Some(*key),
         _ => None,
@@ -87,31 +75,10 @@ pub fn queue_pair<R: Wait>(
     ensures { IsOf fabric.now pass.new }
 {
     call(rt, fabric, pass, by, &Verb::CreateCq { slot, capacity: 8 })?;
-    let create = Verb::CreateQp {
-        slot,
-        send_cq: slot.slot,
-        recv_cq: slot.slot,
-        send_depth: 4,
-        recv_depth: 4,
-        srq: None,
-    };
-    call(rt, fabric, pass, by, &create)?;
-    let to_receive = Change::Rtr {
-        peer: QueueId::of_slot(peer),
-        incarnation: 1,
-        psn: 0,
-        mtu: 1024,
-        rnr_code: 12,
-    };
-    let to_send = Change::Rts {
-        psn: 0,
-        retry: 7,
-        rnr_retry: 7,
-        reads: 16,
-    };
+    call(rt, fabric, pass, by, &create(slot))?;
     modify(rt, fabric, pass, by, slot, Change::Init)?;
-    modify(rt, fabric, pass, by, slot, to_receive)?;
-    modify(rt, fabric, pass, by, slot, to_send)
+    modify(rt, fabric, pass, by, slot, to_receive(peer))?;
+    modify(rt, fabric, pass, by, slot, to_send())
 }
 
 /// Changes the state of a queue pair.
