@@ -1,10 +1,11 @@
 ghost use Rattle.ca_verbs.specs.Passes.{IsOf};
 
-use crate::tests::beds::{is, join_to, joined_when_refused, started, upper_half};
+use crate::tests::beds::{is, is_made, join_to, joined_when_refused, started, upper_half};
 use arrayvec::ArrayVec;
 use ca_base::{AdapterConfig, Config, DomainId, Slot};
 use ca_model::{Entry, Verb};
 use ca_verbs::{Fabric, Pass, Receipt, TryError};
+use std::process::Abort;
 use std::thread::join;
 
 /// How often a verb is tried while a part of it is taken.
@@ -141,4 +142,39 @@ fn two_threads_make_one_history(rt: HostRuntime) {
     join_to(&rt, &fabric, &mut first, second);
     let history = fabric.close(first).ok();
     is(&rt, "the history", in_order(history.as_ref()), 1000);
+}
+
+// Splits a pass so often. While all of them are out, each makes the verb once; then they are joined. Whether all was made.
+fn spread(fabric: &Fabric, pass: &mut Pass, open: &Verb, splits: u32) -> bool
+    requires { IsOf fabric.now pass.old }
+    ensures { IsOf fabric.now pass.new }
+{
+    if splits == 0 {
+        return fabric.try_verb(pass, 0, open).is_ok();
+    }
+    let Ok(mut upper) = fabric.split(pass) else {
+        return false;
+    };
+    let below = spread(fabric, pass, open, splits - 1);
+    let made = fabric.try_verb(&mut upper, 0, open).is_ok();
+    let joined = fabric.join(pass, upper).ok().is_some();
+    below && made && joined
+}
+
+// The first pass, which was split 32 times, is not split once more.
+fn is_spent(rt: &impl Abort, spent: bool) {
+    assert!(rt; spent, "one number is left");
+}
+
+#[test]
+fn thirty_four_passes_make_one_history(rt: HostRuntime) {
+    let open = open(0);
+    let (fabric, mut first) = started(&rt, rt.alloc(), config(2, 100, 1));
+    let mut second = upper_half(&rt, &fabric, &mut first);
+    is_made(&rt, spread(&fabric, &mut first, &open, 31));
+    is_made(&rt, spread(&fabric, &mut second, &open, 1));
+    is_spent(&rt, fabric.split(&mut first).ok().is_none());
+    join_to(&rt, &fabric, &mut first, second);
+    let history = fabric.close(first).ok();
+    is(&rt, "the history", in_order(history.as_ref()), 34);
 }
