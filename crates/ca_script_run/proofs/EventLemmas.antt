@@ -5,6 +5,7 @@ use Rattle.ca_agree.proofs.EventFitLemmas.{event-fits}
 use Rattle.ca_agree.specs.Runs.{Comes}
 use Rattle.ca_base.specs.declared.step.Reason.{Reason}
 use Rattle.ca_base.specs.declared.step.StepError.TheVariants as steps
+use Rattle.ca_engine.specs.declared.outcome.Outcome as outcomes-of
 use Rattle.ca_engine.specs.declared.outcome.Outcome.TheVariants as outcomes
 use Rattle.ca_model.specs.Entries.{EntryValue}
 use Rattle.ca_model.specs.History.{FitTheEvent, IsEntry}
@@ -13,11 +14,19 @@ use Rattle.ca_model.specs.declared.event.Event.{Event}
 use Rattle.ca_model.specs.machine.Plan.{Did, NotReady, Outcome}
 use Rattle.ca_model.specs.machine.Step.{step}
 use Rattle.ca_order.specs.Order.{Stage, after_outcome, at_round}
+use Rattle.ca_replay.specs.Rest.{KeepsRow}
 use Rattle.ca_replay.specs.Rows.{IsMade, IsRow, IsRowOf}
 use Rattle.ca_replay.specs.declared.row.Row.{Row}
 use Rattle.ca_script.specs.Script.{ScriptValue}
-use Rattle.ca_script_run.specs.Progress.{IsAt, IsTried, IsUnderWay, told_of}
+use Rattle.ca_script_run.specs.Progress.{IsAt, IsLeftBy, IsTried, IsUnderWay, told_of}
 use Rattle.ca_script_run.specs.declared.progress.Progress.{Progress}
+
+-- what is left where no event was made
+pub left_otherwise : (outcome : outcomes-of.Outcome) (old new : Row) → (outcome ≡ outcomes.Did → ⊥) → IsLeftBy (Ok outcome) old new → KeepsRow [] old new
+left_otherwise outcomes.Did old new not_did left = absurd (not_did refl)
+left_otherwise (outcomes.NotReady now) old new not_did left = left
+left_otherwise outcomes.Busy old new not_did left = left
+left_otherwise outcomes.Ended old new not_did left = left
 
 pub row_stands : (p : Progress) → IsUnderWay p → IsRow p.row
 row_stands p is = record {

@@ -3,6 +3,8 @@ mod LineLemmas
 mod TurnLemmas
 mod VainLemmas
 mod VisitLemmas
+mod KnownLemmas
 mod OpenLemmas
 mod WorkLemmas
+mod PassLemmas
 mod StatusLemmas

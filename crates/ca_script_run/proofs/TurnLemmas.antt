@@ -1,11 +1,13 @@
 -- Why a turn is not possible whose queue pair is not there, waits or owes no answer. For proofs only.
-use Rattle.std.proofs.Common.{◌≡◌, ◌∙◌, refl, sym, ap, subst, Bool, true, false, not, true≢false, if◌then◌else◌, Option, None, Some, slice_get}
+use Rattle.std.proofs.Common.{◌≡◌, ◌∙◌, refl, sym, ap, subst, ℕ, Bool, true, false, not, true≢false, if◌then◌else◌, Option, None, Some, is_some, slice_get}
+use Rattle.std.specs.Option.{option_map}
 use Rattle.ca_base.specs.Configuration.{Configuration}
 use Rattle.ca_base.specs.declared.correspondent.Correspondent.{Correspondent}
 use Rattle.ca_base.specs.declared.lot.Lot.{Lot}
 use Rattle.ca_base.specs.declared.queue_numbers.Queued.{Queued}
 use Rattle.ca_base.specs.declared.step.Reason.{Reason}
 use Rattle.ca_base.specs.declared.step.Reason.TheVariants as reasons
+use Rattle.ca_base.specs.objects.Mailbox.{due}
 use Rattle.ca_base.specs.objects.QueuePair.{NoQueue, Present, QueuePair, QueueSlot}
 use Rattle.ca_base.specs.objects.Slices.{has_queue}
 use Rattle.ca_held.specs.declared.part.QueueSlot as seen
@@ -13,7 +15,9 @@ use Rattle.ca_held.specs.declared.part.QueueSlot.TheVariants as slots
 use Rattle.ca_keys.specs.Refusals.{first_of}
 use Rattle.ca_keys.specs.declared.names.QueueId.{QueueId}
 use Rattle.ca_laws_numbers.proofs.LimitLemmas.{can-step}
+use Rattle.ca_mailbox.specs.declared.weather.Weather.{Weather}
 use Rattle.ca_model.proofs.PerformLemmas.{around-performs, around_at, queue-performs}
+use Rattle.ca_model.specs.declared.event.Event.TheVariants as events
 use Rattle.ca_model.specs.machine.Around.{With_around, With_queue}
 use Rattle.ca_model.specs.machine.Plan.{NotReady, Plan, Stuck, perform}
 use Rattle.ca_model.specs.machine.Requester as turns-of
@@ -28,8 +32,9 @@ use Rattle.ca_replay.specs.Looks.{IsQueueIn}
 use Rattle.ca_replay.specs.Rows.{IsRow, IsRowOf}
 use Rattle.ca_replay.specs.declared.row.Row as rows
 use Rattle.ca_sending.specs.Turn.{is_performing, turn_row}
-use Rattle.ca_script_run.specs.Vain.{CanStepSeen, HasNoQueue, HasNoRequest, IsInVain, OwesNoAnswer, Waits}
-use Rattle.ca_turns.specs.Turns.{lot_at}
+use Rattle.ca_script_run.specs.Vain.{CanStepSeen, HasNoQueue, HasNoRequest, IsIdle, IsInVain, OwesNoAnswer, Waits}
+use Rattle.ca_turns.specs.Turns.{event_of, lot_at}
+use Rattle.ca_turns.specs.declared.turn.Turn.{Turn}
 use Rattle.ca_turns.specs.declared.turn.Turn.TheVariants as turns
 
 -- ---- whether a queue pair is there
@@ -146,6 +151,32 @@ module _ (c : Configuration) (w : World) (name : QueueId) where
   no_answer (Some (slots.Vacant incarnation timers)) is none =
       respond-in-vain (λ lot. no-queue c w name reasons.State _ (none-there w name (Some (slots.Vacant incarnation timers)) is (record {})))
   no_answer (Some (slots.Present q)) is none = respond-in-vain (λ lot. respond-waits lot q none (sym is))
+
+-- ---- what is seen
+
+-- a turn that is seen to be in vain is not possible
+pub in_vain : (c : Configuration) (w : World) (turn : Turn) → IsIdle w turn → IsInVain c w turn
+in_vain c w (turns.Request q) idle = no_request c w q idle.slot idle.is idle.such.0 idle.such.1
+in_vain c w (turns.Respond q) idle = no_answer c w q idle.slot idle.is idle.such
+in_vain c w (turns.Due q) idle = λ weather event is. absurd (true≢false (sym (ap is_some is) ∙ ap (λ o. is_some (option_map (events.Deliver q) o)) idle))
+in_vain c w (turns.Deliver q index) idle = absurd idle
+in_vain c w (turns.Timeout q) idle = λ weather event is.
+    subst (λ e. is_possible (step c w e) ≡ false) (ap (some-of event) is) (no-queue c w q reasons.State _ (none-there w q idle.slot idle.is idle.such))
+in_vain c w (turns.RnrWake q) idle = λ weather event is.
+    subst (λ e. is_possible (step c w e) ≡ false) (ap (some-of event) is) (no-queue c w q reasons.State _ (none-there w q idle.slot idle.is idle.such))
+
+-- a turn that is no event has nothing due
+pub idle_none : (weather : Weather) (w : World) (turn : Turn) → None ≡ event_of weather w turn → IsIdle w turn
+idle_none weather w (turns.Due q) none = by (due (w.mailbox q)) none
+  where
+    by : (o : Option ℕ) → None ≡ option_map (events.Deliver q) o → o ≡ None
+    by None none = refl
+    by (Some index) none = absurd (true≢false (sym (ap is_some none)))
+idle_none weather w (turns.Request q) none = absurd (true≢false (sym (ap is_some none)))
+idle_none weather w (turns.Deliver q index) none = absurd (true≢false (sym (ap is_some none)))
+idle_none weather w (turns.Respond q) none = absurd (true≢false (sym (ap is_some none)))
+idle_none weather w (turns.Timeout q) none = absurd (true≢false (sym (ap is_some none)))
+idle_none weather w (turns.RnrWake q) none = absurd (true≢false (sym (ap is_some none)))
 
 -- ---- steps
 

@@ -7,7 +7,10 @@ use Rattle.ca_keys.specs.declared.memory.Memory.{Memory}
 use Rattle.ca_model.specs.declared.event.Event.{Event}
 use Rattle.ca_order.specs.Order.{Stage, after_event, after_visit, at_round}
 use Rattle.ca_order.specs.Visits.{Visit}
+use Rattle.ca_replay.specs.Hand.{names_of}
+use Rattle.ca_replay.specs.Rest.{KeepsRow}
 use Rattle.ca_replay.specs.Rows.{IsRowOf}
+use Rattle.ca_replay.specs.declared.row.Row.{Row}
 use Rattle.ca_script.specs.Script.{ScriptValue}
 use Rattle.ca_script_lines.specs.declared.what.Line.{Line}
 use Rattle.ca_script_run.specs.declared.progress.Progress.{Progress}
@@ -47,6 +50,13 @@ IsTried s event g p (Ok outcome) =
     IsAt s (after_event s event (λ h. h) (at_round g)) p
     × (outcome ≡ told_of g (after_event s event (λ h. h) (at_round g)))
 IsTried s event g p (Err error) = Unit {0}
+
+-- what an event leaves of a row: all but the parts that it had in hand, or all where it is not possible; where memory ended
+-- nothing is said
+abbrev pub IsLeftBy : Result Outcome Memory → Row → Row → Type 0
+IsLeftBy (Ok outcomes.Did) old new = KeepsRow (names_of new.taken.items) old new
+IsLeftBy (Ok outcome) old new = KeepsRow [] old new
+IsLeftBy (Err error) old new = Unit {0}
 
 -- a visit was made as the order has it, and this came of it; where memory ended nothing is said
 abbrev pub IsVisited : ScriptValue → Visit → Stage → Progress → Result Outcome Memory → Type 0

@@ -1,5 +1,5 @@
 -- A script that is worked offer by offer to its end. Contracts cite it.
-use Rattle.std.specs.Prelude.{◌≡◌, ℕ, ◌<◌, ◌^◌, true, length, Option, None, Some, Result, Ok, Err}
+use Rattle.std.specs.Prelude.{◌≡◌, ℕ, ◌<◌, ◌≤◌, ◌^◌, true, length, Option, None, Some, Result, Ok, Err}
 use Rattle.ca_engine.specs.Engine.{EngineValue}
 use Rattle.ca_engine.specs.declared.offer.Offer.{Offer}
 use Rattle.ca_engine.specs.declared.offer.Offer.TheVariants as offers
@@ -10,7 +10,9 @@ use Rattle.ca_model.specs.machine.Sound.{AreLimited}
 use Rattle.ca_order.specs.Order.{Stage}
 use Rattle.ca_order.specs.Visits.{Consumer, Engine}
 use Rattle.ca_script.specs.Script.{ScriptValue}
+use Rattle.ca_script_run.specs.Known.{AreKnown}
 use Rattle.ca_script_run.specs.Progress.{IsAt, IsVisited}
+use Rattle.ca_script_run.specs.declared.known.Known.{Known}
 use Rattle.ca_script_run.specs.declared.progress.Progress.{Progress}
 
 -- A script can be worked: its configuration keeps to the limits, and there are not too many consumers and offers to count.
@@ -35,6 +37,14 @@ work_at s g n = work_after_all s n (work_from s g)
 pub record IsWorking (s : ScriptValue) (w : Work) (e : EngineValue) (p : Progress) : Type 0 where
   pub engine : e ≡ w.engine
   pub at : IsAt s w.stage p
+
+-- An engine, what is kept, and what is known of turns in vain, are those of the loop from a stage on, after at least so many
+-- offers.
+pub record IsWorkingOn (s : ScriptValue) (g : Stage) (count : ℕ) (e : EngineValue) (p : Progress) (k : Known) : Type 0 where
+  pub offers : ℕ
+  pub enough : count ≤ offers
+  pub working : IsWorking s (work_at s g offers) e p
+  pub known : AreKnown e.round (work_at s g offers).stage.world k
 
 -- what is kept is that of the loop from a stage on, where it has ended
 pub record IsWorked (s : ScriptValue) (g : Stage) (p : Progress) : Type 0 where

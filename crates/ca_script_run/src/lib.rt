@@ -10,6 +10,7 @@
 #![tactic(auto)]
 
 mod events;
+mod known;
 mod progress;
 mod status;
 mod turns;

@@ -5,7 +5,7 @@ ghost use Rattle.ca_base.specs.objects.Mailbox.{due};
 ghost use Rattle.ca_base.specs.objects.QueuePair.{Present};
 ghost use Rattle.ca_model.specs.machine.World.{World};
 ghost use Rattle.ca_replay.specs.Rows.{IsRow, IsRowOf};
-ghost use Rattle.ca_script_run.specs.Vain.{CanStepSeen, HasNoQueue, HasNoRequest, IsInVain, OwesNoAnswer};
+ghost use Rattle.ca_script_run.specs.Vain.{CanStepSeen, HasNoQueue, HasNoRequest, IsIdle, OwesNoAnswer};
 ghost use Rattle.ca_turns.specs.Turns as turns;
 
 use ca_base::{Lot, QueueId};
@@ -21,7 +21,7 @@ use ca_turns::Turn;
 /// owes no answer. So the parts of such a turn need not be taken in hand.
 pub(crate) fn is_in_vain(row: &Row, turn: Turn) -> bool
     requires { IsRow row.now }
-    ensures { result ≡ true → (c : Configuration) (w : World) → IsRowOf c w row.now → IsInVain c w turn }
+    ensures { result ≡ true → (c : Configuration) (w : World) → IsRowOf c w row.now → IsIdle w turn }
 {
     match turn {
         Turn::Request(queue) => !has_request(row.queue(queue)),

@@ -1,15 +1,19 @@
-ghost use Rattle.std.specs.Prelude.{◌≡◌, ◌-◌, ◌<◌, ◌^◌, IfOk, OnOk, length, reverse};
+ghost use Rattle.std.specs.Prelude.{◌≡◌, ◌-◌, ◌<◌, ◌^◌, List, IfOk, OnOk, length, reverse};
 ghost use Rattle.ca_base.specs.Configuration.{configuration_of};
 ghost use Rattle.ca_engine.specs.Engine.{opening_engine};
+ghost use Rattle.ca_engine.specs.declared.offer.Offer as declared;
 ghost use Rattle.ca_model.specs.machine.Sound.{AreLimited};
+ghost use Rattle.ca_model.specs.machine.World.{World};
 ghost use Rattle.ca_order.specs.OfScript as machine;
 ghost use Rattle.ca_order.specs.Order.{Stage, ending, ending_from, opening_stage, order};
 ghost use Rattle.ca_replay.specs.Rows.{IsRowOf};
 ghost use Rattle.ca_script.specs.Script.{script_value};
+ghost use Rattle.ca_script_run.specs.Known.{AreKnown, IsOfferedAt, KeepsKnown};
 ghost use Rattle.ca_script_run.specs.Progress.{IsAt, IsUnderWay, IsUnderWayOn};
 ghost use Rattle.ca_script_run.specs.Statuses.{status_value};
 ghost use Rattle.ca_script_run.specs.Working.{IsOffered, IsWorkable, IsWorked};
 
+use crate::known::Known;
 use crate::progress::Progress;
 use crate::status::{Status, status_of};
 use crate::visits::{visit_consumer, visit_engine};
@@ -61,7 +65,8 @@ pub fn finish_script(
 {
     let consumers = script.consumers.as_slice().len() as u32;
     let mut engine = Engine::new(alloc, &script.config, consumers)?;
-    work_on(alloc, script, &mut engine, &mut progress)?;
+    let mut known = Known::new(alloc, &script.config, consumers)?;
+    work_on(alloc, script, &mut engine, &mut known, &mut progress)?;
     let status = status_of(script, &progress);
     Ok(Worked {
         history: progress.history,
@@ -102,17 +107,20 @@ fn open(alloc: Global, script: Script) -> Result<(Script, Progress), Memory>
     Ok((script, progress))
 }
 
-/// Takes what an engine offers, until as many events were made as the script allows, or Quiet is offered.
+/// Takes what an engine offers, until as many events were made as the script allows, or Quiet is offered. Turns that are
+/// known to be in vain are passed over.
 fn work_on(
     alloc: Global,
     script: &Script,
     engine: &mut Engine,
+    known: &mut Known,
     progress: &mut Progress,
 ) -> Result<(), Memory>
     requires workable { IsWorkable (script_value script.now) }
     requires engine { engine.old ≡ opening_engine (script_value script.now).config
         (length (script_value script.now).consumers) }
     requires under_way { IsUnderWayOn (script_value script.now) progress.old }
+    requires known { (w : World) → AreKnown engine.old.round w known.old }
     ensures { OnOk result ((g : Stage) → IsAt (script_value script.now) g progress.old
         → IsWorked (script_value script.now) g progress.new) }
 {
@@ -120,7 +128,9 @@ fn work_on(
         if script.config.events <= progress.row.count {
             return Ok(());
         }
-        match visit(alloc, script, engine.next(), progress)? {
+        known.pass_over(engine, u64::from(progress.row.count));
+        let at = engine.place();
+        match visit(alloc, script, engine.next(), at, known, progress)? {
             Some(outcome) => engine.tell(outcome),
             None => return Ok(()),
         }
@@ -128,23 +138,27 @@ fn work_on(
     Ok(())
 }
 
-/// Visits whoever is offered. None comes where Quiet is.
+/// Visits whoever is offered, at this place of a round. None comes where Quiet is.
 fn visit(
     alloc: Global,
     script: &Script,
     offer: Offer,
+    place: Option<usize>,
+    known: &mut Known,
     progress: &mut Progress,
 ) -> Result<Option<Outcome>, Memory>
     requires under_way { IsUnderWay progress.old }
     requires few { progress.old.row.count < 2 ^ 32 - 2 }
-    ensures { (g : Stage) → IsAt (script_value script.now) g progress.old
+    ensures offered { (g : Stage) → IsAt (script_value script.now) g progress.old
         → IsOffered (script_value script.now) offer g progress.new result }
+    ensures known { OnOk result ((round : List declared.Offer) → IsOfferedAt round place offer
+        → KeepsKnown round progress.old.row progress.new.row known.old known.new) }
 {
     match offer {
         Offer::Consumer(consumer) => {
-            Ok(Some(visit_consumer(alloc, script, consumer, progress)?))
+            Ok(Some(visit_consumer(alloc, script, consumer, known, progress)?))
         }
-        Offer::Turn(turn) => Ok(Some(visit_engine(alloc, script, turn, progress)?)),
+        Offer::Turn(turn) => Ok(Some(visit_engine(alloc, script, turn, place, known, progress)?)),
         Offer::Quiet => Ok(None),
     }
 }

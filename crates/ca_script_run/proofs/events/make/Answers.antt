@@ -16,3 +16,9 @@ pub returns-in-Err-NotReady-clause-tried : goal.returns-in-Err-NotReady-clause-t
 returns-in-Err-NotReady-clause-tried c = λ s g at. tried_in_vain s g c.args.progress.now at c.args.event c.make.new.self c.in-Err-NotReady.field-0-0 c.from-stamp.result
     (subst (λ e. IsMade (Err e) (step s.config g.world c.args.event) g.world (λ v. IsRowOf s.config v c.make.new.self)) c.in-Err-NotReady.field-0-is
     (c.in-Err-NotReady.ensures.step s.config g.world at.row)) c.in-Err-NotReady.ensures.count c.from-stamp.ensures
+
+pub returns-in-Ok-clause-rest : goal.returns-in-Ok-clause-rest
+returns-in-Ok-clause-rest c = c.in-Ok.ensures.rest
+
+pub returns-in-Err-NotReady-clause-rest : goal.returns-in-Err-NotReady-clause-rest
+returns-in-Err-NotReady-clause-rest c = c.in-Err-NotReady.ensures.rest
