@@ -4,7 +4,7 @@ ghost use Rattle.ca_script.specs.Script.{script_value};
 
 use crate::calls::next_call;
 use crate::turns::is_workers;
-use crate::worker::Worker;
+use crate::worker::{Reach, Worker};
 use ca_base::Memory;
 use ca_engine::{Offer, Outcome};
 use ca_outside::Gate;
@@ -16,11 +16,12 @@ use ca_verbs::{Fabric, TryError};
 /// in which the worker did nothing is quiet, be others as busy as they may.
 const NOTHING: Outcome = Outcome::NotReady(0);
 
-/// A worker tries what is offered. Where a timer is, it does nothing.
+/// A worker tries what is offered in a round that reaches so far. Where a timer is, it does nothing.
 pub(crate) fn visit<G: Gate>(
     fabric: &Fabric,
     script: &Script,
     gate: &G,
+    reach: Reach,
     offer: Offer,
     worker: &mut Worker,
 ) -> Result<Outcome, Memory>
@@ -30,7 +31,10 @@ pub(crate) fn visit<G: Gate>(
 {
     match offer {
         Offer::Consumer(consumer) => visit_consumer(fabric, script, gate, consumer, worker),
-        Offer::Turn(turn) => visit_engine(fabric, script, gate, turn, worker),
+        Offer::Turn(turn) if worker.goes_through(reach, turn) => {
+            visit_engine(fabric, script, gate, turn, worker)
+        }
+        Offer::Turn(_) => Ok(NOTHING),
         Offer::Quiet => Ok(Outcome::Ended),
     }
 }

@@ -10,13 +10,24 @@ use ca_base::Memory;
 use ca_engine::{Engine, Offer, Outcome};
 use ca_outside::Gate;
 use ca_script::Script;
+use ca_turns::Turn;
 use ca_verbs::{Fabric, Pass};
 use std::alloc::Global;
 use std::sync::Wait;
 use std::thread;
 
-/// A worker returns after so many rounds on end in which it did nothing.
+/// A worker returns after so many rounds on end in which it went through all queue pairs and did nothing.
 const IDLE_ROUNDS: u32 = 32;
+
+/// Which queue pairs a worker goes through in a round. While it finds something to do among its own it leaves the others
+/// to others, so that workers stand in each other's way only where one of them has nothing to do.
+#[derive(Clone, Copy)]
+pub(crate) enum Reach {
+    /// Those of its own domains: domain d of each adapter is that of worker d mod the number of workers.
+    Own,
+    /// All.
+    All,
+}
 
 /// A worker among so many, with what it did, and how many calls it made on the fabric.
 #[derive(Drop)]
@@ -56,6 +67,14 @@ impl Worker {
         self.workers > 0 && consumer % self.workers == self.number
     }
 
+    /// Whether it goes through a turn in a round that reaches so far.
+    pub(crate) fn goes_through(&self, reach: Reach, turn: Turn) -> bool {
+        match reach {
+            Reach::Own => self.is_own(domain_of(turn)),
+            Reach::All => true,
+        }
+    }
+
     /// Goes through the gate before a call on the fabric.
     pub(crate) fn ask<G: Gate>(&mut self, gate: &G)
         ensures worker { IsSameWorker self.old self.new }
@@ -66,8 +85,21 @@ impl Worker {
     }
 }
 
-/// A worker goes round and round its consumers and the turns of all queue pairs, until it did nothing in so many rounds.
-/// Want of memory is its only refusal. It may wait.
+/// The domain, by its number at its adapter, of the queue pair whose turn it is.
+fn domain_of(turn: Turn) -> u32 {
+    let queue = match turn {
+        Turn::Request(queue)
+        | Turn::Due(queue)
+        | Turn::Deliver(queue, _)
+        | Turn::Respond(queue)
+        | Turn::Timeout(queue)
+        | Turn::RnrWake(queue) => queue,
+    };
+    (queue.number / 256).saturating_sub(1)
+}
+
+/// A worker goes round and round its consumers and the turns of its own queue pairs, and of all where it did nothing in the
+/// round before, until it did nothing in so many rounds. Want of memory is its only refusal. It may wait.
 pub(crate) fn work<R: Wait, G: Gate>(
     rt: &R,
     alloc: Global,
@@ -88,12 +120,13 @@ pub(crate) fn work<R: Wait, G: Gate>(
         let offer = engine.next();
         if offer == Offer::Quiet {
             idle = idle.saturating_add(1);
-            if idle >= IDLE_ROUNDS {
+            if idle > IDLE_ROUNDS {
                 return Ok(worker.work);
             }
             thread::yield_now();
         }
-        let outcome = visit(fabric, script, gate, offer, &mut worker)?;
+        let reach = if idle == 0 { Reach::Own } else { Reach::All };
+        let outcome = visit(fabric, script, gate, reach, offer, &mut worker)?;
         if outcome == Outcome::Did {
             idle = 0;
         }
