@@ -3,3 +3,5 @@ pub mod Calls
 pub mod Binders
 pub mod Room
 pub mod Outlets
+-- The libraries below, handed on to those above.
+pub use Rattle.ca_held.specs as ca_held

@@ -8,8 +8,8 @@ ghost use Rattle.ca_acts.specs.Room.{FitIn};
 
 use ca_base::{Completion, Memory, Slot};
 use ca_held::Held;
+use ca_held::ca_qpstate::QueuePart;
 use ca_model::Mark;
-use ca_qpstate::QueuePart;
 use std::alloc::Global;
 
 /// The completions among marks that go to the completion queue of this number, in order. Those of a queue pair's sends

@@ -10,8 +10,8 @@ ghost use Rattle.ca_model.specs.machine.World.{Cq_of};
 use ca_base::{Completion, DomainId, Slot};
 use ca_cq::Cq;
 use ca_held::Held;
+use ca_held::ca_qpstate::QueuePart;
 use ca_model::Mark;
-use ca_qpstate::QueuePart;
 
 /// Where a queue pair's completions go: those of its sends to one completion queue of its domain, and those of its
 /// receives to the same or another.

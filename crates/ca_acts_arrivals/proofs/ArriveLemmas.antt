@@ -3,12 +3,12 @@ use Rattle.std.proofs.Common.{◌≡◌, ◌∙◌, refl, sym, subst, ap, ℕ, B
 use Rattle.std.proofs.lemmas.Result.{err_from_is_err_and}
 use Rattle.std.specs.Option.{option_map}
 use Rattle.std.specs.Result.{IsErrAnd}
-use Rattle.ca_acts.specs.Act.{IsAct}
-use Rattle.ca_acts.specs.Binders.{changed_by}
-use Rattle.ca_acts.specs.declared.done.Outlets.{Outlets}
-use Rattle.ca_acts.specs.Outlets.{completions_by, done_updates, outlets_of, recv_slot, send_slot}
-use Rattle.ca_acts.specs.Room.{FitIn, FitsDone}
-use Rattle.ca_acts.proofs.DoneLemmas.{of-queue}
+use Rattle.ca_acts_turns.specs.ca_acts.Act.{IsAct}
+use Rattle.ca_acts_turns.specs.ca_acts.Binders.{changed_by}
+use Rattle.ca_acts_turns.specs.ca_acts.declared.done.Outlets.{Outlets}
+use Rattle.ca_acts_turns.specs.ca_acts.Outlets.{completions_by, done_updates, outlets_of, recv_slot, send_slot}
+use Rattle.ca_acts_turns.specs.ca_acts.Room.{FitIn, FitsDone}
+use Rattle.ca_acts_turns.proofs.of_ca_acts.DoneLemmas.{of-queue}
 use Rattle.ca_acts_arrivals.specs.Arrived.{CanArrive, HasArrived, outcome_of, shared_updates, with_effects}
 use Rattle.ca_acts_arrivals.proofs.AsideLemmas.{AreAside, aside-first, keys-leave, row-by-key}
 use Rattle.ca_acts_arrivals.proofs.RowLemmas.{Fills, arrival-fills, ends-so}
@@ -41,13 +41,13 @@ use Rattle.ca_model.specs.machine.Plan.{Did, Finish, NotReady, Outcome, Plan, Up
 use Rattle.ca_model.specs.machine.Row.{Does, Effects, Ending, NotPossible, Row, Row_plan, ending_of}
 use Rattle.ca_model.specs.machine.Seen.{perform_ending, row_changes, shared_receives, sight_in, writes_in}
 use Rattle.ca_model.specs.machine.World.{Cq_of, Mailbox_of, Queue_of, Srq_of, World, put}
-use Rattle.ca_operations.specs.Taking.{MayEnd, ended_by, without_key}
-use Rattle.ca_reach_laws.specs.Ties.{AreWritesAtHand, IsVacantOutside, with_reached}
-use Rattle.ca_reach_laws.proofs.RowLemmas.{behind-pass, row-left, row-seen}
-use Rattle.ca_reach_laws.proofs.SightLemmas.{sights-agree}
-use Rattle.ca_reach_laws.proofs.TouchLemmas.{row-behind}
-use Rattle.ca_reach_laws.proofs.WriteLemmas.{written-at-hand}
-use Rattle.ca_rows.specs.Made.{written_all}
+use Rattle.ca_responder.specs.ca_operations.Taking.{MayEnd, ended_by, without_key}
+use Rattle.ca_acts_turns.specs.ca_reach_laws.Ties.{AreWritesAtHand, IsVacantOutside, with_reached}
+use Rattle.ca_acts_turns.proofs.of_ca_reach_laws.RowLemmas.{behind-pass, row-left, row-seen}
+use Rattle.ca_acts_turns.proofs.of_ca_reach_laws.SightLemmas.{sights-agree}
+use Rattle.ca_acts_turns.proofs.of_ca_reach_laws.TouchLemmas.{row-behind}
+use Rattle.ca_acts_turns.proofs.of_ca_reach_laws.WriteLemmas.{written-at-hand}
+use Rattle.ca_responder.specs.ca_rows.Made.{written_all}
 
 -- another mailbox under a name, if there is one
 abbrev pub mail_put : QueueId → Option Mailbox → List Update

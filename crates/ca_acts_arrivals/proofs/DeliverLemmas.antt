@@ -1,6 +1,6 @@
 -- A delivery and an injection, as bytes are to arrive. For proofs only.
 use Rattle.std.proofs.Common.{◌≡◌, refl, ℕ, true, List, [], ◌∷◌, ◌++◌, Option, None, Some, IfSome}
-use Rattle.ca_acts.specs.Act.{Suffices}
+use Rattle.ca_acts_turns.specs.ca_acts.Act.{Suffices}
 use Rattle.ca_acts_arrivals.specs.Arrived.{CanArrive}
 use Rattle.ca_acts_arrivals.proofs.ArriveLemmas.{IsToArrive, around, mail_put}
 use Rattle.ca_acts_arrivals.proofs.PlanLemmas.{deliver-arrives, deliver-touches, deliver_queue, inject-arrives, inject-touches, inject_queue}
@@ -32,9 +32,9 @@ use Rattle.ca_model.specs.machine.Row.{Effects, Row, Row_plan}
 use Rattle.ca_model.specs.machine.Seen.{shared_receives}
 use Rattle.ca_model.specs.machine.VerbAnswers.{Call, answer_mark}
 use Rattle.ca_model.specs.machine.World.{Queue_of}
-use Rattle.ca_reach_laws.specs.Ties.{IsVacantOutside}
-use Rattle.ca_reach_laws.proofs.RowLemmas.{rows-at-hand}
-use Rattle.ca_reach_laws.proofs.SightLemmas.{vacant-outside}
+use Rattle.ca_acts_turns.specs.ca_reach_laws.Ties.{IsVacantOutside}
+use Rattle.ca_acts_turns.proofs.of_ca_reach_laws.RowLemmas.{rows-at-hand}
+use Rattle.ca_acts_turns.proofs.of_ca_reach_laws.SightLemmas.{vacant-outside}
 
 module _ (c : Configuration) (h : Held) (shown : AreShown c h) (name : QueueId) (q : QueuePair) (there : (holding h).world.queue name ≡ Present q)
     (step : IfSome (queue_in ((holding h).world.queue name)) CanStep) where

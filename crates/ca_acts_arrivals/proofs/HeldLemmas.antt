@@ -3,7 +3,7 @@ use Rattle.std.proofs.Common.{◌≡◌, ◌∙◌, refl, sym, subst, ap, ℕ, B
 use Rattle.std.specs.Box.{with_value}
 use Rattle.std.specs.Option.{option_and_then, option_map, option_map_or}
 use Rattle.std.specs.declared.alloc.Global.{Global}
-use Rattle.ca_acts.specs.Binders.{changed_by}
+use Rattle.ca_acts_turns.specs.ca_acts.Binders.{changed_by}
 use Rattle.ca_acts_arrivals.specs.Arrived.{CanArrive, HasArrived, outcome_of, shared_on, shared_updates, with_shared}
 use Rattle.ca_base.specs.objects.Mailbox.{Mailbox, empty_mailbox}
 use Rattle.ca_base.specs.objects.QueuePair.{Present, QueuePair, queue_in, srq_of}
@@ -30,9 +30,9 @@ use Rattle.ca_model.specs.machine.Plan.{Update, ◌:=◌}
 use Rattle.ca_model.specs.machine.Row.{Does, Effects, Ending, NotPossible, queue_and_marks}
 use Rattle.ca_model.specs.machine.Seen.{shared_receives}
 use Rattle.ca_model.specs.machine.World.{Queue_of, Srq_of, World}
-use Rattle.ca_operations.specs.Taking as Taking
-use Rattle.ca_operations.specs.Taking.{CanMeet, IsArrival, Outcome, outcome_in}
-use Rattle.ca_reach_laws.specs.Ties.{with_reached}
+use Rattle.ca_responder.specs.ca_operations.Taking as Taking
+use Rattle.ca_responder.specs.ca_operations.Taking.{CanMeet, IsArrival, Outcome, outcome_in}
+use Rattle.ca_acts_turns.specs.ca_reach_laws.Ties.{with_reached}
 use Rattle.ca_shelf.specs.Shelved.{Shelved, has_thing, thing_under, with_thing}
 use Rattle.ca_acts_turns.proofs.TurnLemmas.{same-queue}
 

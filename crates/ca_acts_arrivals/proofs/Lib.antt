@@ -7,3 +7,5 @@ mod PlanLemmas
 mod ReadyLemmas
 mod ArriveLemmas
 mod DeliverLemmas
+-- The libraries below, handed on to those above.
+pub use Rattle.ca_laws_parts.proofs as of_ca_laws_parts

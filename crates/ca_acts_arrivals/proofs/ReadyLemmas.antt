@@ -21,7 +21,7 @@ use Rattle.ca_keys.specs.declared.names.Slot.{Slot}
 use Rattle.ca_keys.specs.Numbers.{domain_of}
 use Rattle.ca_model.specs.declared.part_name.PartName.TheVariants as names
 use Rattle.ca_laws_parts.proofs.HeldLemmas.{row-end-held}
-use Rattle.ca_laws_windows.proofs.EndedLemmas.{ended-counted}
+use Rattle.ca_laws_parts.proofs.of_ca_laws_windows.EndedLemmas.{ended-counted}
 use Rattle.ca_model.specs.machine.CanStep.{CanStep}
 use Rattle.ca_model.specs.machine.Delivery.{arrival_row}
 use Rattle.ca_model.specs.machine.Held.{IsEndHeld}
@@ -31,10 +31,10 @@ use Rattle.ca_model.specs.machine.Row.{Row}
 use Rattle.ca_model.specs.machine.Seen.{refusal_in, shared_receives}
 use Rattle.ca_model.specs.machine.Sound.{IsQueueOf}
 use Rattle.ca_model.specs.machine.World.{Queue_of, Region_of, Srq_of, Window_of, World}
-use Rattle.ca_operations.specs.Taking.{MayEnd}
-use Rattle.ca_reach_laws.specs.Ties.{IsVacantOutside}
-use Rattle.ca_reach_laws.proofs.FitLemmas.{ends-at-hand}
-use Rattle.ca_reach_laws.proofs.SightLemmas.{sights-agree, vacant-outside}
+use Rattle.ca_responder.specs.ca_operations.Taking.{MayEnd}
+use Rattle.ca_acts_turns.specs.ca_reach_laws.Ties.{IsVacantOutside}
+use Rattle.ca_acts_turns.proofs.of_ca_reach_laws.FitLemmas.{ends-at-hand}
+use Rattle.ca_acts_turns.proofs.of_ca_reach_laws.SightLemmas.{sights-agree, vacant-outside}
 
 module _ (c : Configuration) (h : Held) (shown : AreShown c h) (name : QueueId) (q : QueuePair) (has : (holding h).has (Queue_of name) ≡ true) (there : (holding h).world.queue name ≡ Present q) where
   abbrev w : World

@@ -20,7 +20,7 @@ use Rattle.ca_base.specs.objects.StateTable.{is_among}
 use Rattle.ca_keys.specs.declared.access.Ask.{Ask}
 use Rattle.ca_keys.specs.declared.access.Kind.TheVariants as kinds
 use Rattle.ca_keys.specs.Refusals.{first_of}
-use Rattle.ca_laws_sound.proofs.WorldLemmas.{EndingDoes, RowDoes}
+use Rattle.ca_held.proofs.of_ca_laws_sound.WorldLemmas.{EndingDoes, RowDoes}
 use Rattle.ca_model.specs.declared.mark.Drop1.{Drop1}
 use Rattle.ca_model.specs.declared.mark.Drop1.TheVariants as drops
 use Rattle.ca_model.specs.declared.receiving.Receiving.{Receiving}
@@ -47,8 +47,8 @@ use Rattle.ca_packet.specs.Decoding.{packet_in}
 use Rattle.ca_packet.specs.Packet.{Fields}
 use Rattle.ca_packet.specs.Table.{shape_of}
 use Rattle.ca_psn.specs.Psn.{widened}
-use Rattle.ca_rows.proofs.ListLemmas.{cut_touches}
-use Rattle.ca_rows.specs.Asks.{touched_by}
+use Rattle.ca_responder.proofs.of_ca_rows.ListLemmas.{cut_touches}
+use Rattle.ca_responder.specs.ca_rows.Asks.{touched_by}
 use Rattle.ca_wire.specs.Syndrome.{nak_code, syndrome_in}
 use Rattle.ca_wire.specs.declared.syndrome.NakCode.{NakCode}
 use Rattle.ca_wire.specs.declared.syndrome.NakCode.TheVariants.{InvalidRequest, PsnSequenceError, RemoteAccessError, RemoteOperationalError}

@@ -1,7 +1,7 @@
 -- Bytes that arrive at a queue pair: what may be met, and what is held then. Contracts cite it.
 use Rattle.std.specs.Prelude.{◌≡◌, ℕ, true, if◌then◌else◌, List, [], ◌∷◌, ◌++◌, Option, None, Some, Result, Ok, Err, IfSome}
 use Rattle.std.specs.Option.{option_and_then, option_map, option_map_or}
-use Rattle.ca_acts.specs.Binders.{changed_by}
+use Rattle.ca_acts_turns.specs.ca_acts.Binders.{changed_by}
 use Rattle.ca_base.specs.objects.QueuePair.{Present, QueuePair, srq_of}
 use Rattle.ca_base.specs.objects.SharedReceives.{SharedReceives, SrqSlot, after_receive_take}
 use Rattle.ca_held.specs.declared.held.Held.{Held}
@@ -24,9 +24,9 @@ use Rattle.ca_model.specs.machine.Plan.{Update, ◌:=◌}
 use Rattle.ca_model.specs.machine.Row.{Does, Effects, Ending, NotPossible}
 use Rattle.ca_model.specs.machine.Seen.{shared_receives}
 use Rattle.ca_model.specs.machine.World.{Queue_of, Srq_of, World}
-use Rattle.ca_operations.specs.Taking.{CanMeet, Outcome, outcome_in, without_key}
-use Rattle.ca_reach_laws.specs.Ties.{with_reached}
-use Rattle.ca_rows.specs.Made.{written_all}
+use Rattle.ca_responder.specs.ca_operations.Taking.{CanMeet, Outcome, outcome_in, without_key}
+use Rattle.ca_acts_turns.specs.ca_reach_laws.Ties.{with_reached}
+use Rattle.ca_responder.specs.ca_rows.Made.{written_all}
 use Rattle.ca_shelf.specs.Shelved.{Shelved, thing_under, with_thing}
 
 -- the slot on a shelf of the shared receive queue of a queue pair, and that queue

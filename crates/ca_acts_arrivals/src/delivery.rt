@@ -1,6 +1,6 @@
 ghost use Rattle.std.specs.Prelude.{◌≡◌, ◌<◌, ℕ, List, Option, Some, true, IfSome, IsSome, IsTrue, None};
-ghost use Rattle.ca_acts.specs.Act.{Acts, Suffices};
-ghost use Rattle.ca_acts.specs.Room.{FitsDone};
+ghost use Rattle.ca_acts_turns.specs.ca_acts.Act.{Acts, Suffices};
+ghost use Rattle.ca_acts_turns.specs.ca_acts.Room.{FitsDone};
 ghost use Rattle.ca_acts_arrivals.specs.Arrived.{CanArrive, HasArrived, outcome_of, told};
 ghost use Rattle.ca_acts_turns.specs.Shown.{AreShown};
 ghost use Rattle.ca_base.specs.Configuration.{configuration_in};
@@ -16,7 +16,7 @@ ghost use Rattle.ca_model.specs.machine.Plan.{perform};
 ghost use Rattle.ca_model.specs.machine.World.{Mailbox_of, Queue_of};
 
 use crate::arriving::{Incoming, arrive};
-use ca_acts::{Outlets, put_done};
+use ca_acts_turns::ca_acts::{Outlets, put_done};
 use ca_base::{Memory, QueueId, Reason, Settings, StepError};
 use ca_held::{Held, QueueSlot};
 use ca_model::Marks;

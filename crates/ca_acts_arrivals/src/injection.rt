@@ -1,7 +1,7 @@
 ghost use Rattle.std.specs.Prelude.{◌≡◌, ◌<◌, ℕ, List, Option, true, IfSome, None};
-ghost use Rattle.ca_acts.specs.Act.{Acts, Suffices};
-ghost use Rattle.ca_acts.specs.Calls.{call_of};
-ghost use Rattle.ca_acts.specs.Room.{FitsDone};
+ghost use Rattle.ca_acts_turns.specs.ca_acts.Act.{Acts, Suffices};
+ghost use Rattle.ca_acts_turns.specs.ca_acts.Calls.{call_of};
+ghost use Rattle.ca_acts_turns.specs.ca_acts.Room.{FitsDone};
 ghost use Rattle.ca_acts_arrivals.specs.Arrived.{CanArrive, HasArrived, outcome_of, told};
 ghost use Rattle.ca_acts_turns.specs.Shown.{AreShown};
 ghost use Rattle.ca_base.specs.Configuration.{configuration_in};
@@ -17,7 +17,7 @@ ghost use Rattle.ca_model.specs.machine.Plan.{perform};
 ghost use Rattle.ca_model.specs.machine.World.{Queue_of};
 
 use crate::arriving::{Incoming, arrive};
-use ca_acts::{Call, Outlets, put_done};
+use ca_acts_turns::ca_acts::{Call, Outlets, put_done};
 use ca_base::{Bytes, Memory, QueueId, Settings, StepError};
 use ca_held::{Held, QueueSlot};
 use ca_model::{Answer, Marks, Refusal};

@@ -13,5 +13,6 @@ mod arriving;
 mod delivery;
 mod injection;
 
+pub use ca_acts_turns;
 pub use delivery::deliver;
 pub use injection::inject;

@@ -12,7 +12,7 @@ use Rattle.ca_model.specs.machine.World.{Name, World}
 use Rattle.ca_model.proofs.FrameLemmas.{event-agrees, event-touches-same}
 use Rattle.ca_model.proofs.RestLemmas.{event-leaves}
 use Rattle.ca_model.proofs.ThingLemmas.{name-path}
-use Rattle.ca_held.specs.HeldView.{Holding}
+use Rattle.ca_acts.specs.ca_held.HeldView.{Holding}
 use Rattle.ca_acts.specs.Act.{IsAct}
 use Rattle.ca_acts_laws.specs.Steps.{IsStepOf, Shows}
 

@@ -6,7 +6,7 @@ use Rattle.ca_model.specs.Marks.{MarkList}
 use Rattle.ca_model.specs.machine.Frame.{SameWhere}
 use Rattle.ca_model.specs.machine.Plan.{Did, NotReady, Outcome}
 use Rattle.ca_model.specs.machine.World.{Name, World, get}
-use Rattle.ca_held.specs.HeldView.{Holding}
+use Rattle.ca_acts.specs.ca_held.HeldView.{Holding}
 
 -- the world has all that is held
 abbrev pub Shows : World → Holding → Type 0

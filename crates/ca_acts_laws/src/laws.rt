@@ -7,7 +7,7 @@ ghost use Rattle.ca_model.specs.machine.Frame.{AllPass};
 ghost use Rattle.ca_model.specs.machine.Plan.{touches};
 ghost use Rattle.ca_model.specs.machine.Step.{plan, step};
 ghost use Rattle.ca_model.specs.machine.World.{World};
-ghost use Rattle.ca_held.specs.HeldView.{Holding};
+ghost use Rattle.ca_acts.specs.ca_held.HeldView.{Holding};
 ghost use Rattle.ca_acts.specs.Act.{IsAct};
 ghost use Rattle.ca_acts_laws.specs.Steps.{IsStepOf, Shows};
 

@@ -2,7 +2,7 @@
 use Rattle.std.proofs.Common.{◌≡◌, ◌∙◌, refl, sym, ap, ℕ, ◌==◌, Bool, true, false, not, if◌then◌else◌, List, [], ◌∷◌, ◌++◌, Option, None, Some, IfSome, is_none, true≢false}
 use Rattle.std.proofs.Math.Path.{fun_ext}
 use Rattle.std.specs.Option.{option_and_then, option_map, option_map_or}
-use Rattle.ca_acts.specs.Binders.{changed_by}
+use Rattle.ca_acts_turns.specs.ca_acts.Binders.{changed_by}
 use Rattle.ca_acts_local.specs.Local.{local_end}
 use Rattle.ca_acts_local.specs.Parts.{has_region, has_window, region_at}
 use Rattle.ca_acts_local.specs.Site.{after_bind, apart_from, refusal_over, key_of, slot_named, window_of}
@@ -41,7 +41,7 @@ use Rattle.ca_model.specs.Past.{with_at}
 use Rattle.ca_model.specs.machine.LocalOperations.{PlacedRegion, former_updates, named_updates, view_named, window_slot}
 use Rattle.ca_model.specs.machine.Plan.{Update, ◌:=◌}
 use Rattle.ca_model.specs.machine.World.{Region_of, Window_of}
-use Rattle.ca_reach_laws.specs.Ties.{with_reached}
+use Rattle.ca_acts_turns.specs.ca_reach_laws.Ties.{with_reached}
 
 seen-region : (h : Held) (s : Slot) → region_in h.reached s ≡ (holding h).world.region s
 unfolding holding

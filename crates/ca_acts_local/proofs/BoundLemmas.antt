@@ -1,7 +1,7 @@
 -- A bind over the parts in hand: they are as it asks, and what it makes is what it comes to. For proofs only.
 use Rattle.std.proofs.Common.{◌≡◌, ◌∙◌, refl, sym, ap, subst, ℕ, suc, ◌%◌, ◌==◌, ◌<◌, Bool, true, false, not, if◌then◌else◌, List, [], ◌∷◌, ◌++◌, Option, None, Some, IfSome, IsSomeAnd, is_none, true≢false}
 use Rattle.std.specs.Option.{option_and_then, option_map}
-use Rattle.ca_acts.specs.Binders.{changed_by}
+use Rattle.ca_acts_turns.specs.ca_acts.Binders.{changed_by}
 use Rattle.ca_acts_local.proofs.BindLemmas.{IsFree, changes_by, free, left-changed, no-bytes, refusal-same}
 use Rattle.ca_acts_local.specs.Local.{byte_of, local_end}
 use Rattle.ca_acts_local.specs.Made.{IsMadeBy}
@@ -39,7 +39,7 @@ use Rattle.ca_model.proofs.ThingLemmas.{slot-path}
 use Rattle.ca_model.specs.machine.LocalOperations.{PlacedRegion, former_updates, named_slot, named_updates, window_slot}
 use Rattle.ca_model.specs.machine.Plan.{Update, ◌:=◌}
 use Rattle.ca_model.specs.machine.World.{Window_of}
-use Rattle.ca_reach_laws.specs.Ties.{with_reached}
+use Rattle.ca_acts_turns.specs.ca_reach_laws.Ties.{with_reached}
 use Rattle.ca_base.specs.objects.Region.{vacant_region}
 use Rattle.ca_shelf.specs.Shelved.{thing_under}
 

@@ -1,10 +1,10 @@
 -- What a local operation changes of regions and windows stands apart from its queue pair and completion queues. For proofs only.
 use Rattle.std.proofs.Common.{◌≡◌, ◌∙◌, refl, sym, ap, subst, ℕ, ◌==◌, Bool, true, false, if◌then◌else◌, List, [], ◌∷◌, ◌++◌, Option, None, Some, Ok, Err}
-use Rattle.ca_acts.specs.Act.{IsAct}
-use Rattle.ca_acts.specs.Binders.{changed_by}
-use Rattle.ca_acts.specs.declared.done.Outlets.{Outlets}
-use Rattle.ca_acts.specs.Outlets.{completions_by, done_updates, outlets_of, recv_slot, send_slot}
-use Rattle.ca_acts.specs.Room.{FitIn, FitsDone}
+use Rattle.ca_acts_turns.specs.ca_acts.Act.{IsAct}
+use Rattle.ca_acts_turns.specs.ca_acts.Binders.{changed_by}
+use Rattle.ca_acts_turns.specs.ca_acts.declared.done.Outlets.{Outlets}
+use Rattle.ca_acts_turns.specs.ca_acts.Outlets.{completions_by, done_updates, outlets_of, recv_slot, send_slot}
+use Rattle.ca_acts_turns.specs.ca_acts.Room.{FitIn, FitsDone}
 use Rattle.ca_acts_local.specs.Local.{LocalEnd, end_changes, end_effects, former_in, invalidation_of, local_end, named_in}
 use Rattle.ca_acts_turns.proofs.TurnLemmas.{done_cqs, puts-append, receives-fit, sends-fit, turned}
 use Rattle.ca_base.specs.Configuration.{Configuration}

@@ -6,3 +6,5 @@ mod BoundLemmas
 mod OperationLemmas
 mod StepLemmas
 mod ReadyLemmas
+-- The libraries below, handed on to those above.
+pub use Rattle.ca_acts_turns.proofs as of_ca_acts_turns

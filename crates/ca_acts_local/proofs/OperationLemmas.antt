@@ -1,7 +1,7 @@
 -- A fast registration and an invalidation over the parts in hand make what they come to. For proofs only.
 use Rattle.std.proofs.Common.{◌≡◌, ◌∙◌, refl, sym, ap, subst, ℕ, ◌-◌, Bool, true, false, if◌then◌else◌, List, Option, None, Some, is_some}
 use Rattle.std.specs.Option.{option_map_or, unwrap_or}
-use Rattle.ca_acts.specs.Binders.{changed_by}
+use Rattle.ca_acts_turns.specs.ca_acts.Binders.{changed_by}
 use Rattle.ca_acts_local.proofs.BindLemmas.{put-one}
 use Rattle.ca_acts_local.specs.Local.{invalidation_end, invalidation_of, local_end}
 use Rattle.ca_acts_local.specs.Made.{IsMadeBy}
@@ -38,9 +38,9 @@ use Rattle.ca_localops.specs.declared.marks.OpError.{OpError}
 use Rattle.ca_model.specs.machine.LocalOperations.{region_slot}
 use Rattle.ca_model.specs.machine.Seen.{refusal_in}
 use Rattle.ca_model.specs.machine.World.{Region_of}
-use Rattle.ca_reach_laws.proofs.LeftLemmas.{end-held}
-use Rattle.ca_reach_laws.proofs.SightLemmas.{sights-agree}
-use Rattle.ca_reach_laws.specs.Ties.{IsVacantOutside, with_reached}
+use Rattle.ca_acts_turns.proofs.of_ca_reach_laws.LeftLemmas.{end-held}
+use Rattle.ca_acts_turns.proofs.of_ca_reach_laws.SightLemmas.{sights-agree}
+use Rattle.ca_acts_turns.specs.ca_reach_laws.Ties.{IsVacantOutside, with_reached}
 use Rattle.ca_shelf.specs.Shelved.{thing_under}
 
 or-zero : (o : Option ℕ) → unwrap_or o 0 ≡ option_map_or (λ n. n) o 0

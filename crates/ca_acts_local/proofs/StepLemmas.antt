@@ -2,7 +2,7 @@
 use Rattle.std.proofs.Common.{◌≡◌, ◌∙◌, refl, sym, ap, ℕ, List, [], ◌∷◌, ◌++◌, append_assoc, Box, Option, Some, Result, Ok, Err}
 use Rattle.std.specs.Option.{option_map, option_map_or}
 use Rattle.std.specs.declared.alloc.Global.{Global}
-use Rattle.ca_acts.specs.Binders.{changed_by}
+use Rattle.ca_acts_turns.specs.ca_acts.Binders.{changed_by}
 use Rattle.ca_acts_local.specs.Local.{LocalEnd, end_changes, end_effects}
 use Rattle.ca_acts_local.specs.Made.{HasFailed, HasStepped, IsMadeBy}
 use Rattle.ca_acts_local.specs.declared.made.Made.{Made}
@@ -29,7 +29,7 @@ use Rattle.ca_model.specs.machine.LocalOperations.{after_operation, operation_ef
 use Rattle.ca_model.specs.machine.Numbering.{Numbered}
 use Rattle.ca_model.specs.machine.Row.{Effects, unless_none}
 use Rattle.ca_model.specs.machine.World.{Queue_of}
-use Rattle.ca_reach_laws.specs.Ties.{with_reached}
+use Rattle.ca_acts_turns.specs.ca_reach_laws.Ties.{with_reached}
 use Rattle.ca_shelf.specs.Shelved.{thing_under}
 
 -- the queue pair in a slot that is held

@@ -25,8 +25,8 @@ use Rattle.ca_model.specs.machine.Plan.{Update}
 use Rattle.ca_model.specs.machine.Row.{Effects, region_under, unless_none}
 use Rattle.ca_model.specs.machine.Seen.{ending_changes, refusal_in}
 use Rattle.ca_model.specs.machine.World.{World}
-use Rattle.ca_sending.specs.Turn.{PerformsFound}
-use Rattle.ca_sending.specs.declared.turn.Found.{Found}
+use Rattle.ca_acts_turns.specs.ca_sending.Turn.{PerformsFound}
+use Rattle.ca_acts_turns.specs.ca_sending.declared.turn.Found.{Found}
 
 -- what an operation comes to: why it is refused, if it is, and else its marks, the count of the windows that are
 -- bound to its queue pair after it, and its changes

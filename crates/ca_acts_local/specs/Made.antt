@@ -1,6 +1,6 @@
 -- What a local operation makes of what is held, and what its end does. Contracts cite it.
 use Rattle.std.specs.Prelude.{◌≡◌, ◌++◌, List, [], None, Result, Ok, Err}
-use Rattle.ca_acts.specs.Binders.{changed_by}
+use Rattle.ca_acts_turns.specs.ca_acts.Binders.{changed_by}
 use Rattle.ca_acts_local.specs.Local.{LocalEnd}
 use Rattle.ca_acts_local.specs.declared.made.Made.{Made}
 use Rattle.ca_base.specs.objects.QueuePair.{Present}
@@ -14,7 +14,7 @@ use Rattle.ca_model.specs.Marks.{MarkList}
 use Rattle.ca_model.specs.machine.Plan.{Update}
 use Rattle.ca_model.specs.machine.Row.{Effects}
 use Rattle.ca_model.specs.machine.World.{Queue_of}
-use Rattle.ca_reach_laws.specs.Ties.{with_reached}
+use Rattle.ca_acts_turns.specs.ca_reach_laws.Ties.{with_reached}
 
 -- what an operation made is what it comes to: it was not refused, and all its changes are there
 pub record IsMadeBy (made : Made) (end : LocalEnd) (h : Held) (after : Reached) : Type 0 where

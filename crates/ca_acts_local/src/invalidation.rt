@@ -5,7 +5,7 @@ ghost use Rattle.ca_acts_local.specs.Parts.{AreEndParts};
 ghost use Rattle.ca_base.specs.Configuration.{Configuration};
 ghost use Rattle.ca_held.specs.HeldView.{holding};
 ghost use Rattle.ca_held.specs.declared.held.Held.{Held as HeldParts};
-ghost use Rattle.ca_reach_laws.specs.Ties.{IsVacantOutside};
+ghost use Rattle.ca_acts_turns.specs.ca_reach_laws.Ties.{IsVacantOutside};
 
 use crate::made::Made;
 use ca_base::Key;

@@ -16,5 +16,8 @@ mod laws;
 mod made;
 mod operation;
 
+pub use ca_acts_turns;
+pub use ca_acts_turns::ca_requester;
+pub use ca_held;
 pub use laws::operation_goes_by_no_lot;
 pub use operation::perform;

@@ -1,6 +1,6 @@
 ghost use Rattle.std.specs.Prelude.{◌≡◌, ◌<◌, ◌≤◌, ◌++◌, true, Some};
-ghost use Rattle.ca_acts.specs.Act.{Acts, Suffices};
-ghost use Rattle.ca_acts.specs.Room.{FitsDone};
+ghost use Rattle.ca_acts_turns.specs.ca_acts.Act.{Acts, Suffices};
+ghost use Rattle.ca_acts_turns.specs.ca_acts.Room.{FitsDone};
 ghost use Rattle.ca_acts_local.specs.Local.{IsPerforming, end_changes, end_effects, local_end};
 ghost use Rattle.ca_acts_local.specs.Made.{HasFailed, HasPerformed, HasStepped};
 ghost use Rattle.ca_acts_local.specs.Parts.{AreParts};
@@ -22,21 +22,21 @@ ghost use Rattle.ca_model.specs.machine.Plan.{perform};
 ghost use Rattle.ca_model.specs.machine.Requester.{Performs, turn_of};
 ghost use Rattle.ca_model.specs.machine.Turns.{request_plan};
 ghost use Rattle.ca_model.specs.machine.World.{Queue_of};
-ghost use Rattle.ca_reach_laws.specs.Ties.{IsVacantOutside};
-ghost use Rattle.ca_sending.specs.Turn.{PerformsFound};
+ghost use Rattle.ca_acts_turns.specs.ca_reach_laws.Ties.{IsVacantOutside};
+ghost use Rattle.ca_acts_turns.specs.ca_sending.Turn.{PerformsFound};
 
 use crate::bind::bind;
 use crate::fast_registration::register;
 use crate::invalidation::invalidate;
 use crate::made::{Made, SUCCESS_MARKS, tell};
-use ca_acts::{Outlets, put_done};
+use ca_acts_turns::ca_acts::{Outlets, put_done};
+use ca_acts_turns::ca_sending::{Found, local_done, next_local};
 use ca_base::{Memory, OpRefusal, QueueId, SendOp, Settings, StepError, WindowCount};
 use ca_held::{Held, QueueSlot};
 use ca_held_reach::Reached;
 use ca_localops::OpError;
 use ca_model::Marks;
 use ca_qpstate::QueuePart;
-use ca_sending::{Found, local_done, next_local};
 use std::alloc::Global;
 
 /// Performs the local operation that a turn found for the queue pair of a name, which is held with all that the turn

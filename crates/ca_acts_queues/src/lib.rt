@@ -15,6 +15,8 @@ mod refusals;
 mod sends;
 mod states;
 
+pub use ca_acts;
+pub use ca_rows;
 pub use polls::poll;
 pub use receives::post_recv;
 pub use sends::post_send;

@@ -20,7 +20,7 @@ use Rattle.ca_model.specs.machine.Requester.{denied_list_effects, is_outstanding
 use Rattle.ca_model.specs.machine.Respond.{answer_turn, respond_refusals, respond_row}
 use Rattle.ca_model.specs.machine.Row.{Does, Effects, Ending, NotPossible, Row, ending_of, plain_row}
 use Rattle.ca_model.specs.machine.Turns.{has_room_for}
-use Rattle.ca_rows.specs.Asks.{touched_by}
+use Rattle.ca_requester.specs.ca_rows.Asks.{touched_by}
 use Rattle.ca_acts_turns.specs.declared.sending.Sender.{Sender}
 use Rattle.ca_acts_turns.specs.declared.sending.Sender.TheVariants.{Requester, Responder}
 use Rattle.ca_acts_turns.specs.Senders.{CanSend, row_of}

@@ -33,7 +33,7 @@ use Rattle.ca_model.specs.machine.Turns.{Leave_plan, packet_sent, sent_marks, se
 use Rattle.ca_model.specs.machine.World.{Queue_of, World}
 use Rattle.ca_reach_laws.specs.Ties.{IsVacantOutside, with_reached}
 use Rattle.ca_reach_laws.proofs.RowLemmas.{row-seen}
-use Rattle.ca_rows.specs.Made.{IsUnable, written_all}
+use Rattle.ca_requester.specs.ca_rows.Made.{IsUnable, written_all}
 use Rattle.ca_acts_turns.specs.Stepped.{HasTurned, packet_of}
 use Rattle.ca_acts_turns.proofs.TurnLemmas.{gone, mail-aside, marks-gone, receives-fit, sends-fit}
 

@@ -16,7 +16,7 @@ use Rattle.ca_base.specs.declared.step.StepError.{StepError}
 use Rattle.ca_base.specs.objects.QueuePair.{Present, QueuePair, correspondent_of, queue_in, recv_cq_of, send_cq_of}
 use Rattle.ca_base.specs.objects.Slices.{has_queue}
 use Rattle.ca_base.specs.objects.StateTable.{is_among}
-use Rattle.ca_grant.specs.Reaching.{AreAtHand}
+use Rattle.ca_held_reach.specs.ca_grant.Reaching.{AreAtHand}
 use Rattle.ca_held.specs.declared.held.Held.{Held}
 use Rattle.ca_held.specs.HeldView.{Holding, holding}
 use Rattle.ca_held_reach.specs.AtHand.{CanJudge, HasBytesAtHand}

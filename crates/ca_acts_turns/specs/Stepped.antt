@@ -23,7 +23,7 @@ use Rattle.ca_model.specs.machine.Seen.{shared_receives}
 use Rattle.ca_model.specs.machine.Turns.{Packet}
 use Rattle.ca_model.specs.machine.World.{Mailbox_of, Queue_of, World}
 use Rattle.ca_reach_laws.specs.Ties.{with_reached}
-use Rattle.ca_rows.specs.Made.{IsUnable, written_all}
+use Rattle.ca_requester.specs.ca_rows.Made.{IsUnable, written_all}
 
 -- the queue pair of a name has stepped to this one, where no reason stands against it; or nothing has changed
 abbrev pub HasStepped : {A : Type 0} → QueueId → Result A StepError → Option Reason → QueuePair → Holding → Holding → Type 0

@@ -14,5 +14,8 @@ mod sending;
 mod timers;
 
 pub use answering::respond;
+pub use ca_acts;
+pub use ca_requester;
+pub use ca_requester::ca_sending;
 pub use requesting::send_packet;
 pub use timers::{rnr_wake, timeout};

@@ -8,7 +8,7 @@ ghost use Rattle.ca_held.specs.HeldView.{holding};
 ghost use Rattle.ca_keys.specs.declared.names.QueueId.{QueueId};
 ghost use Rattle.ca_model.specs.machine.Plan.{perform};
 ghost use Rattle.ca_model.specs.machine.Turns.{request_plan};
-ghost use Rattle.ca_sending.specs.Turn.{SendsFound};
+ghost use Rattle.ca_requester.specs.ca_sending.Turn.{SendsFound};
 
 use crate::sending::{Sender, take_turn};
 use ca_base::{Lot, QueueId, Settings, StepError};

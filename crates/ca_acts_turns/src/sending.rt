@@ -8,7 +8,7 @@ ghost use Rattle.ca_acts_turns.specs.Stepped.{HasTurned};
 ghost use Rattle.ca_base.specs.Configuration.{configuration_in};
 ghost use Rattle.ca_base.specs.declared.limits.TheConstants.{MAX_PIECES};
 ghost use Rattle.ca_base.specs.objects.QueuePair.{Present, QueuePair, correspondent_of, is_present, queue_in};
-ghost use Rattle.ca_grant.specs.Reaching.{AreAtHand};
+ghost use Rattle.ca_held_reach.specs.ca_grant.Reaching.{AreAtHand};
 ghost use Rattle.ca_held.specs.HeldView.{holding};
 ghost use Rattle.ca_held_reach.specs.AtHand.{CanJudge, HasBytesAtHand};
 ghost use Rattle.ca_held_reach.specs.Changed.{after_write_by};
@@ -20,19 +20,19 @@ ghost use Rattle.ca_model.specs.machine.Row.{ending_of};
 ghost use Rattle.ca_model.specs.machine.Turns as turns;
 ghost use Rattle.ca_model.specs.machine.World.{Mailbox_of, Queue_of};
 ghost use Rattle.ca_packet.specs.Packet.{most_of_response, most_spelt};
-ghost use Rattle.ca_rows.specs.Asks as asks_of;
-ghost use Rattle.ca_rows.specs.Made.{IsTurn};
-ghost use Rattle.ca_sending.specs.Turn.{SendsFound, turn_row};
+ghost use Rattle.ca_requester.specs.ca_rows.Asks as asks_of;
+ghost use Rattle.ca_requester.specs.ca_rows.Made.{IsTurn};
+ghost use Rattle.ca_requester.specs.ca_sending.Turn.{SendsFound, turn_row};
 
 use crate::leave::{Path, leave};
 use crate::timers::{peer_of, reaches_peer};
 use ca_acts::{Outlets, put_done};
-use ca_answering::{next_response, respond_ask};
 use ca_base::{Ask, Correspondent, Lot, QueueId, Reason, Sent, Settings, State, StepError};
+use ca_held::ca_qpstate::QueuePart;
 use ca_held::{Held, QueueSlot};
 use ca_held_reach::Reached;
 use ca_model::Marks;
-use ca_qpstate::QueuePart;
+use ca_reach_laws::ca_answering::{next_response, respond_ask};
 use ca_requester::{Found, next_asks, next_packet};
 use std::alloc::Global;
 
@@ -48,13 +48,13 @@ impl Sender {
     ghost use Rattle.std.specs.Prelude.{◌≡◌, ◌+◌, ◌≤◌, Bool, length, OnOk};
     ghost use Rattle.ca_acts_turns.specs.Senders as senders;
     ghost use Rattle.ca_acts_turns.specs.Senders.{CanSend, most_by, row_of};
-    ghost use Rattle.ca_grant.specs.Reaching.{AreAtHand};
+    ghost use Rattle.ca_held_reach.specs.ca_grant.Reaching.{AreAtHand};
     ghost use Rattle.ca_held_reach.specs.AtHand.{CanJudge, HasBytesAtHand};
     ghost use Rattle.ca_held_reach.specs.Changed.{after_write_by};
     ghost use Rattle.ca_held_reach.specs.Seen.{sight_of};
     ghost use Rattle.ca_model.specs.machine.Row.{ending_of};
-    ghost use Rattle.ca_rows.specs.Asks.{touched_by};
-    ghost use Rattle.ca_rows.specs.Made.{IsTurn};
+    ghost use Rattle.ca_requester.specs.ca_rows.Asks.{touched_by};
+    ghost use Rattle.ca_requester.specs.ca_rows.Made.{IsTurn};
 
     /// Why it does not send where its queue pair has no peer.
     fn reason_alone(self, q: &QueuePart) -> Reason

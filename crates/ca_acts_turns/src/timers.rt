@@ -18,10 +18,10 @@ ghost use Rattle.ca_model.specs.machine.World.{Mailbox_of, Queue_of, Srq_of};
 
 use ca_acts::{Outlets, put_done};
 use ca_base::{Correspondent, QueueId, Reason, Settings, Slot, StepError};
+use ca_held::ca_qpstate::QueuePart;
 use ca_held::{Held, QueueSlot};
 use ca_model::Marks;
-use ca_operations::next_receive;
-use ca_qpstate::QueuePart;
+use ca_reach_laws::ca_operations::next_receive;
 use ca_requester::{on_rnr_wake, on_timeout};
 use ca_srq::Srq;
 use std::alloc::Global;

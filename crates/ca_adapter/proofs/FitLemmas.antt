@@ -2,7 +2,7 @@
 use Rattle.std.proofs.Common.{◌≡◌, ◌∙◌, refl, sym, ap, subst, ℕ, true, false, List, ◌∷◌, Option, None, Some, IfSome}
 use Rattle.std.specs.List.{AllByRecursion}
 use Rattle.std.specs.Option.{option_map}
-use Rattle.ca_acts.specs.Room.{FitIn}
+use Rattle.ca_acts_queues.specs.ca_acts.Room.{FitIn}
 use Rattle.ca_acts_queues.proofs.ReceiveLemmas.{recv_ends}
 use Rattle.ca_acts_queues.proofs.SendLemmas.{send_end, send_ends}
 use Rattle.ca_acts_queues.specs.Drawing.{byte_for, is_no_window, window_of_bind}
@@ -22,8 +22,8 @@ use Rattle.ca_held.specs.HeldView.{holding}
 use Rattle.ca_keys.specs.declared.names.Slot.{Slot}
 use Rattle.ca_keys.specs.Numbers.{queue_of}
 use Rattle.ca_keys.specs.Refusals.{first_of}
-use Rattle.ca_laws_room.proofs.EventRoomLemmas.{together-fit}
-use Rattle.ca_laws_room.specs.Room.{HasRoom}
+use Rattle.ca_laws_pairs.proofs.of_ca_laws_room.EventRoomLemmas.{together-fit}
+use Rattle.ca_laws_pairs.specs.ca_laws_room.Room.{HasRoom}
 use Rattle.ca_model.proofs.ThingLemmas.{put-there}
 use Rattle.ca_model.specs.declared.event.Event.{Event}
 use Rattle.ca_model.specs.declared.event.Event.TheVariants as events

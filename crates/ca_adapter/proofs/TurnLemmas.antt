@@ -1,8 +1,8 @@
 -- What the act of a turn asks of the parts in hand, from what its caller shows of them. For proofs only.
 use Rattle.std.proofs.Common.{◌≡◌, ◌∙◌, refl, sym, ap, subst, suc, ◌<◌, ◌-◌, ◌^◌, arith, ℕ, Bool, true, false, List, Option, None, Some, IfSome, IsTrue, is_some, true≢false}
-use Rattle.ca_acts.specs.Act.{Suffices}
-use Rattle.ca_acts.specs.Room.{FitsDone}
-use Rattle.ca_acts_turns.specs.Shown.{AreShown}
+use Rattle.ca_acts_queues.specs.ca_acts.Act.{Suffices}
+use Rattle.ca_acts_queues.specs.ca_acts.Room.{FitsDone}
+use Rattle.ca_acts_arrivals.specs.ca_acts_turns.Shown.{AreShown}
 use Rattle.ca_adapter.proofs.ReadyLemmas.{queues_can_step, ready-suffices, verb_named}
 use Rattle.ca_adapter.proofs.WorldLemmas.{shown, sound-thing, vacant-there, within}
 use Rattle.ca_adapter.specs.Ready.{ArePartsOfWorld, IsReady}
@@ -14,9 +14,9 @@ use Rattle.ca_held.specs.declared.held.Held.{Held}
 use Rattle.ca_held.specs.HeldView.{holding}
 use Rattle.ca_keys.specs.declared.names.QueueId.{QueueId}
 use Rattle.ca_keys.specs.declared.names.Slot.{Slot}
-use Rattle.ca_laws_numbers.proofs.LimitLemmas.{lent-countable}
-use Rattle.ca_laws_numbers.specs.Raised.{IsSlotWithin}
-use Rattle.ca_laws_room.proofs.EventRoomLemmas.{together-fit}
+use Rattle.ca_laws_pairs.proofs.of_ca_laws_numbers.LimitLemmas.{lent-countable}
+use Rattle.ca_laws_pairs.specs.ca_laws_numbers.Raised.{IsSlotWithin}
+use Rattle.ca_laws_pairs.proofs.of_ca_laws_room.EventRoomLemmas.{together-fit}
 use Rattle.ca_mailbox.specs.Counting.{is_countable}
 use Rattle.ca_model.proofs.FrameLemmas.{event-agrees}
 use Rattle.ca_model.specs.declared.event.Event.{Event}

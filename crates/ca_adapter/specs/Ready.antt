@@ -1,14 +1,14 @@
 -- What whoever acts shows of the parts in hand: they are those of a world that comes up, and they suffice for the event.
 -- Contracts cite it.
 use Rattle.std.specs.Prelude.{◌≡◌, ℕ, true, List, length, None}
-use Rattle.ca_acts.specs.Calls.{call_of}
-use Rattle.ca_acts.specs.declared.answers.Call.{Call}
+use Rattle.ca_acts_queues.specs.ca_acts.Calls.{call_of}
+use Rattle.ca_acts_queues.specs.ca_acts.declared.answers.Call.{Call}
 use Rattle.ca_base.specs.Configuration.{Configuration, configuration_in}
 use Rattle.ca_base.specs.declared.settings.Settings.{Settings}
 use Rattle.ca_held.specs.declared.held.Held.{Held}
 use Rattle.ca_held.specs.HeldView.{holding}
 use Rattle.ca_keys.specs.declared.place.Place.{Place}
-use Rattle.ca_laws_names.specs.Placed.{is_configured}
+use Rattle.ca_laws_pairs.specs.ca_laws_names.Placed.{is_configured}
 use Rattle.ca_model.specs.declared.event.Event.{Event}
 use Rattle.ca_model.specs.declared.part_name.PartName.TheVariants as names
 use Rattle.ca_model.specs.machine.Parts.{ShowsHeld, event_needs, next_part}
@@ -16,7 +16,7 @@ use Rattle.ca_model.specs.machine.HostVerbs.{store_plan}
 use Rattle.ca_model.specs.machine.Plan.{Plan}
 use Rattle.ca_model.specs.machine.Step.{bytes_of_buffer, run_of}
 use Rattle.ca_model.specs.machine.World.{World, Byte_at}
-use Rattle.ca_worlds.specs.Worlds.{IsWorldAfter}
+use Rattle.ca_laws_pairs.specs.ca_worlds.Worlds.{IsWorldAfter}
 
 -- The parts in hand are those of a world to which so many events lead; a buffer in hand has all bytes that the
 -- configuration gives it.

@@ -13,5 +13,8 @@ mod events;
 mod lists;
 mod verbs;
 
+pub use ca_acts_queues::ca_rows;
+pub use ca_needs;
+pub use ca_needs::ca_sending;
 pub use events::act;
 pub use lists::lists_fit;

@@ -13,3 +13,5 @@ pub mod PathEventLemmas
 pub mod MailSentLemmas
 pub mod IndexLemmas
 pub mod ArrivalLemmas
+-- The libraries below, handed on to those above.
+pub use Rattle.ca_laws_sound.proofs as of_ca_laws_sound

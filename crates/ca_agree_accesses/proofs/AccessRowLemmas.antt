@@ -10,8 +10,8 @@ use Rattle.ca_agree_accesses.proofs.DecodedLemmas.{shape-fits, write-reth}
 use Rattle.ca_agree_accesses.proofs.EndLemmas.{RowSees, allowed-ended, does-sees, ending-weaker, one-allowed, one-denied}
 use Rattle.ca_agree_accesses.proofs.QuietLemmas.{AreUnheard, IsQuiet, accepted-reads, ahead-less, all-more, dropped, duplicate-quiet, plain-row, plain-unheard, refused, response-quiet, sends-quiet, waits-less}
 use Rattle.ca_agree_accesses.specs.Accesses.{GoesOn, IsAsked, IsEndedWorld, IsFrom}
-use Rattle.ca_agree_keys.proofs.PlainLemmas.{ahead-plain, flush-plain}
-use Rattle.ca_agree_keys.proofs.ToldLemmas.{ended}
+use Rattle.ca_judged.proofs.of_ca_agree_keys.PlainLemmas.{ahead-plain, flush-plain}
+use Rattle.ca_judged.proofs.of_ca_agree_keys.ToldLemmas.{ended}
 use Rattle.ca_base.specs.Configuration.{Configuration}
 use Rattle.ca_base.specs.Sight.{Sight, bytes_in, first_denied}
 use Rattle.ca_base.specs.declared.completion.WcStatus.TheVariants.{Success}
@@ -32,8 +32,8 @@ use Rattle.ca_keys.specs.declared.access.Kind.{Kind}
 use Rattle.ca_keys.specs.declared.key.Key.{Key}
 use Rattle.ca_keys.specs.declared.names.QueueId.{QueueId}
 use Rattle.ca_keys.specs.declared.verdict.Verdict.{Verdict}
-use Rattle.ca_laws_sound.proofs.WorldLemmas.{RowDoes}
-use Rattle.ca_laws_windows.specs.Bindings.{IsBoundWorld}
+use Rattle.ca_judged.proofs.of_ca_laws_sound.WorldLemmas.{RowDoes}
+use Rattle.ca_judged.specs.ca_laws_windows.Bindings.{IsBoundWorld}
 use Rattle.ca_model.specs.Carried.{arrived_so, asks_for, goes_on, is_rest_of, names_all, names_atomic, names_write, writes_payload}
 use Rattle.ca_model.specs.Packets.{asks_atomic, continues_write, is_response, is_write, number_put, packet_of}
 use Rattle.ca_model.specs.Past.{LatestWrite, Past, ReadRequest, latest_write_after, packet_at, remote_ask}

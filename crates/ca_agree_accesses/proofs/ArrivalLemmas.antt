@@ -6,14 +6,14 @@ use Rattle.std.proofs.lemmas.Bool.Decides.{nat_tests}
 use Rattle.std.specs.List.{list_any}
 use Rattle.std.specs.Option.{option_and_then, option_eq, option_map_or}
 use Rattle.std.specs.Result.{result_ok}
-use Rattle.ca_agree.proofs.LeadsLemmas.{leads-around}
-use Rattle.ca_agree.proofs.MailSentLemmas.{lent-sent}
-use Rattle.ca_agree.proofs.PathChangeLemmas.{Behind}
-use Rattle.ca_agree.proofs.PathLemmas.{puts-append}
-use Rattle.ca_agree.proofs.PathTurnLemmas.{found}
-use Rattle.ca_agree.proofs.PathVerbLemmas.{call_of}
-use Rattle.ca_agree.specs.Agreement.{WereSent}
-use Rattle.ca_agree.specs.Runs.{Leads}
+use Rattle.ca_judged.proofs.of_ca_agree.LeadsLemmas.{leads-around}
+use Rattle.ca_judged.proofs.of_ca_agree.MailSentLemmas.{lent-sent}
+use Rattle.ca_judged.proofs.of_ca_agree.PathChangeLemmas.{Behind}
+use Rattle.ca_judged.proofs.of_ca_agree.PathLemmas.{puts-append}
+use Rattle.ca_judged.proofs.of_ca_agree.PathTurnLemmas.{found}
+use Rattle.ca_judged.proofs.of_ca_agree.PathVerbLemmas.{call_of}
+use Rattle.ca_judged.specs.ca_agree.Agreement.{WereSent}
+use Rattle.ca_judged.specs.ca_agree.Runs.{Leads}
 use Rattle.ca_agree_accesses.proofs.AccessRowLemmas.{ArrivesAt, Hears, arrival-carried}
 use Rattle.ca_agree_accesses.proofs.CarryLemmas.{Carries, IsCarried, is_accessed}
 use Rattle.ca_agree_accesses.proofs.EndLemmas.{AreSafe, leads-seen}
@@ -31,8 +31,8 @@ use Rattle.ca_keys.specs.Equal.{queue_eq}
 use Rattle.ca_keys.specs.declared.key.Key.{Key}
 use Rattle.ca_keys.specs.declared.names.QueueId.{QueueId}
 use Rattle.ca_keys.specs.declared.names.Slot.{Slot}
-use Rattle.ca_laws_sound.proofs.SettledLemmas.{queue-refl}
-use Rattle.ca_laws_sound.proofs.WorldLemmas.{around_in, shared_of}
+use Rattle.ca_judged.proofs.of_ca_laws_sound.SettledLemmas.{queue-refl}
+use Rattle.ca_judged.proofs.of_ca_laws_sound.WorldLemmas.{around_in, shared_of}
 use Rattle.ca_model.specs.Packets.{packet_of}
 use Rattle.ca_model.specs.Carried.{is_rest_of}
 use Rattle.ca_model.specs.Past.{Envelope, Past, ReadRequest, after_mark, after_marks, at_begin, correspondent_eq, each_mark, packet_at, present_incarnation, read_request_of}

@@ -3,7 +3,7 @@ use Rattle.std.proofs.Common.{Bool, List, None, Option, Some, [], ap, eqb-true, 
 use Rattle.std.proofs.lemmas.Bool.{and_parts}
 use Rattle.std.specs.List.{AllByRecursion, list_any}
 use Rattle.std.specs.Option.{option_map_or}
-use Rattle.ca_agree.proofs.PathChangeLemmas.{at-place}
+use Rattle.ca_judged.proofs.of_ca_agree.PathChangeLemmas.{at-place}
 use Rattle.ca_agree_accesses.proofs.QuietLemmas.{AreUnheard, IsQuiet, IsUnheardMark}
 use Rattle.ca_agree_accesses.specs.Accesses.{GoesOn, IsAsked}
 use Rattle.ca_agree_accesses.specs.Asked.{has_its_packet, has_its_request}
@@ -14,7 +14,7 @@ use Rattle.ca_keys.specs.Equal.{queue_eq}
 use Rattle.ca_keys.specs.declared.access.Ask.{Ask}
 use Rattle.ca_keys.specs.declared.names.QueueId.{QueueId}
 use Rattle.ca_keys.specs.declared.verdict.Verdict.{Verdict}
-use Rattle.ca_laws_sound.proofs.SettledLemmas.{queue-path}
+use Rattle.ca_judged.proofs.of_ca_laws_sound.SettledLemmas.{queue-path}
 use Rattle.ca_model.specs.Past.{LatestWrite, Past, ReadRequest, after_mark, after_marks, after_remote, correspondent_eq, each_mark, latest_write_after, packet_at, present_incarnation, read_request_of, with_at}
 use Rattle.ca_model.specs.declared.mark.Mark.{Mark}
 use Rattle.ca_model.specs.machine.Row.{Effects}

@@ -2,16 +2,16 @@
 use Rattle.std.proofs.Common.{Bool, IfSome, List, None, Option, Some, [], ap, false, if◌then◌else◌, is_none, nat_lt, not, option_map, refl, subst, suc, sym, true, true≢false, ℕ, ◌&&◌, ◌-◌, ◌∙◌, ◌∷◌, ◌≡◌}
 use Rattle.std.specs.List.{AllByRecursion, list_any}
 use Rattle.std.specs.Option.{option_and_then}
-use Rattle.ca_agree.proofs.LeadsLemmas.{leads-around, leads-unless}
-use Rattle.ca_agree.proofs.PathChangeLemmas.{Behind, at-place}
-use Rattle.ca_agree.proofs.PathVerbLemmas.{agrees-present, call_of}
-use Rattle.ca_agree.specs.Runs.{Leads}
+use Rattle.ca_judged.proofs.of_ca_agree.LeadsLemmas.{leads-around, leads-unless}
+use Rattle.ca_judged.proofs.of_ca_agree.PathChangeLemmas.{Behind, at-place}
+use Rattle.ca_judged.proofs.of_ca_agree.PathVerbLemmas.{agrees-present, call_of}
+use Rattle.ca_judged.specs.ca_agree.Runs.{Leads}
 use Rattle.ca_agree_accesses.proofs.QuietLemmas.{AreUnheard, plain-unheard, refused}
 use Rattle.ca_agree_accesses.proofs.TurnLemmas.{AreKept, Grows, IsKeptSlot, IsMet, agree-at, requests_of, same-slot, slot-grown}
 use Rattle.ca_agree_accesses.proofs.VerbLemmas.{RightBy, agree-more, right-answer}
 use Rattle.ca_agree_accesses.specs.Accesses.{AccessesAgree, AgreeInSlot, AgreeOnAccesses, AgreeOnResponder, GoesOn, IsAsked}
-use Rattle.ca_agree_keys.proofs.KeyVerbLemmas.{leads-unless-all}
-use Rattle.ca_agree_keys.proofs.PlainLemmas.{flush-plain}
+use Rattle.ca_judged.proofs.of_ca_agree_keys.KeyVerbLemmas.{leads-unless-all}
+use Rattle.ca_judged.proofs.of_ca_agree_keys.PlainLemmas.{flush-plain}
 use Rattle.ca_base.specs.Configuration.{Configuration}
 use Rattle.ca_base.specs.declared.change.State.{State}
 use Rattle.ca_base.specs.objects.CompletionQueue.{CompletionQueue, after_reserve}
@@ -25,8 +25,8 @@ use Rattle.ca_keys.specs.Numbers.{queue_of}
 use Rattle.ca_keys.specs.Refusals.{AllFail}
 use Rattle.ca_keys.specs.declared.names.QueueId.{QueueId}
 use Rattle.ca_keys.specs.declared.names.Slot.{Slot}
-use Rattle.ca_laws_sound.proofs.SettledLemmas.{queue-path}
-use Rattle.ca_laws_sound.proofs.WorldLemmas.{around_in, shared_of}
+use Rattle.ca_judged.proofs.of_ca_laws_sound.SettledLemmas.{queue-path}
+use Rattle.ca_judged.proofs.of_ca_laws_sound.WorldLemmas.{around_in, shared_of}
 use Rattle.ca_model.specs.Past.{Naming, Past, with_at}
 use Rattle.ca_model.specs.declared.answer.Refusal.{Refusal}
 use Rattle.ca_model.specs.declared.answer.Refusal.TheVariants.{CqTooSmall, NoDomain, NoSuch, OutOfRange, SlotTaken, WindowsBound}

@@ -2,12 +2,12 @@
 use Rattle.std.proofs.Common.{Bool, IfSome, List, None, Option, Some, [], ap, arith, false, if◌then◌else◌, is_some, leb-true, length, ltb-false, map, nat_le, nat_lt, not, refl, subst, suc, sym, true, true≢false, ℕ, ◌++◌, ◌+◌, ◌==◌, ◌^◌, ◌||◌, ◌∙◌, ◌∷◌, ◌≡◌, ◌≤◌}
 use Rattle.std.proofs.lemmas.Bool.{and_parts, not-false, or_parts}
 use Rattle.std.specs.Option.{option_and_then, option_map_or}
-use Rattle.ca_agree.proofs.LeadsLemmas.{comes}
-use Rattle.ca_agree.specs.Runs.{Comes, Leads}
+use Rattle.ca_judged.proofs.of_ca_agree.LeadsLemmas.{comes}
+use Rattle.ca_judged.specs.ca_agree.Runs.{Comes, Leads}
 use Rattle.ca_agree_accesses.proofs.QuietLemmas.{IsQuiet, invalidate-quiet, less-same, operation-quiet}
 use Rattle.ca_agree_accesses.specs.Accesses.{IsEnded, IsEndedWorld}
-use Rattle.ca_agree_keys.proofs.FrameLemmas.{leads-from}
-use Rattle.ca_agree_keys.proofs.ToldLemmas.{ended}
+use Rattle.ca_judged.proofs.of_ca_agree_keys.FrameLemmas.{leads-from}
+use Rattle.ca_judged.proofs.of_ca_agree_keys.ToldLemmas.{ended}
 use Rattle.ca_base.specs.Configuration.{Configuration}
 use Rattle.ca_base.specs.Sight.{Invalidation, Sight, bytes_in, denial_in, first_denied, or_denied}
 use Rattle.ca_base.specs.declared.denied_ask.DeniedAsk.{DeniedAsk}
@@ -28,9 +28,9 @@ use Rattle.ca_keys.specs.declared.key.Key.{Key}
 use Rattle.ca_keys.specs.declared.names.DomainId.{DomainId}
 use Rattle.ca_keys.specs.declared.names.Slot.{Slot}
 use Rattle.ca_keys.specs.declared.rights.Rights.{Rights}
-use Rattle.ca_laws_sound.proofs.TurnLemmas.{all-fail}
-use Rattle.ca_laws_sound.proofs.WorldLemmas.{EndingDoes, RowDoes}
-use Rattle.ca_laws_windows.specs.Bindings.{IsBoundWorld, LiesIn}
+use Rattle.ca_judged.proofs.of_ca_laws_sound.TurnLemmas.{all-fail}
+use Rattle.ca_judged.proofs.of_ca_laws_sound.WorldLemmas.{EndingDoes, RowDoes}
+use Rattle.ca_judged.specs.ca_laws_windows.Bindings.{IsBoundWorld, LiesIn}
 use Rattle.ca_model.proofs.PerformLemmas.{row-performs}
 use Rattle.ca_model.specs.Past.{LatestWrite, ReadRequest}
 use Rattle.ca_model.specs.declared.mark.Mark.{Mark}

@@ -2,12 +2,12 @@
 use Rattle.std.proofs.Common.{Bool, Err, List, Ok, [], ap, false, map, refl, rules, subst, suc, true, true≢false, ℕ, ◌&&◌, ◌∷◌, ◌≡◌}
 use Rattle.std.proofs.lemmas.Bool.{and_parts}
 use Rattle.std.specs.List.{AllByRecursion}
-use Rattle.ca_agree.proofs.EventFitLemmas.{first-marks}
-use Rattle.ca_agree.proofs.LeadsLemmas.{comes}
-use Rattle.ca_agree.proofs.PathEventLemmas.{event-agrees, opening-agrees}
-use Rattle.ca_agree.proofs.PathVerbLemmas.{call_of}
-use Rattle.ca_agree.specs.Agreement.{HoldsAlong, PathsAgree}
-use Rattle.ca_agree.specs.Runs.{Comes, Leads}
+use Rattle.ca_judged.proofs.of_ca_agree.EventFitLemmas.{first-marks}
+use Rattle.ca_judged.proofs.of_ca_agree.LeadsLemmas.{comes}
+use Rattle.ca_judged.proofs.of_ca_agree.PathEventLemmas.{event-agrees, opening-agrees}
+use Rattle.ca_judged.proofs.of_ca_agree.PathVerbLemmas.{call_of}
+use Rattle.ca_judged.specs.ca_agree.Agreement.{HoldsAlong, PathsAgree}
+use Rattle.ca_judged.specs.ca_agree.Runs.{Comes, Leads}
 use Rattle.ca_agree_accesses.proofs.ArrivalLemmas.{right-deliver, right-inject}
 use Rattle.ca_agree_accesses.proofs.CarryLemmas.{is_accessed}
 use Rattle.ca_agree_accesses.proofs.ChangeLemmas.{right-create, right-destroy, right-modify}
@@ -15,14 +15,14 @@ use Rattle.ca_agree_accesses.proofs.TurnLemmas.{IsMet, Right, right-request, rig
 use Rattle.ca_agree_accesses.proofs.VerbLemmas.{RightBy, right-alloc_mr, right-dealloc_mw, right-dereg_mr, right-poll, right-post_recv, right-post_send, right-reg_mr}
 use Rattle.ca_agree_accesses.specs.Accesses.{AccessesAgree, IsEndedWorld}
 use Rattle.ca_agree_accesses.specs.Asked.{AreCarriedAccesses, HaveTheirPackets, HaveTheirRequests, has_its_packet, has_its_request, is_carried_remote}
-use Rattle.ca_agree_keys.proofs.ToldLemmas.{ended}
+use Rattle.ca_judged.proofs.of_ca_agree_keys.ToldLemmas.{ended}
 use Rattle.ca_base.specs.Configuration.{Configuration}
 use Rattle.ca_base.specs.objects.Slices.{has_slot}
 use Rattle.ca_judged.proofs.JudgeLemmas.{both-true}
 use Rattle.ca_keys.specs.Memory.{ByteMap}
-use Rattle.ca_laws_sound.proofs.SoundLemmas.{event-sound, opening-sound}
-use Rattle.ca_laws_windows.proofs.WindowEventLemmas.{event-bound, opening-bound}
-use Rattle.ca_laws_windows.specs.Bindings.{IsBoundWorld}
+use Rattle.ca_judged.proofs.of_ca_laws_sound.SoundLemmas.{event-sound, opening-sound}
+use Rattle.ca_judged.proofs.of_ca_laws_windows.WindowEventLemmas.{event-bound, opening-bound}
+use Rattle.ca_judged.specs.ca_laws_windows.Bindings.{IsBoundWorld}
 use Rattle.ca_model.specs.Entries.{EntryValue}
 use Rattle.ca_model.specs.Past.{Past, after_entry, after_mark, after_marks, at_begin, each_entry, each_mark, opening_past}
 use Rattle.ca_model.specs.declared.answer.Refusal.TheVariants.{NoSuch}

@@ -4,8 +4,8 @@ use Rattle.std.proofs.Common.{Bool, List, None, Option, Some, [], ap, false, fil
 use Rattle.std.specs.List.{AllByRecursion}
 use Rattle.std.specs.Option.{option_and_then, option_map_or}
 use Rattle.ca_agree_accesses.specs.Accesses.{GoesOn, IsAsked}
-use Rattle.ca_agree_keys.proofs.KeyTurnLemmas.{found}
-use Rattle.ca_agree_keys.proofs.PlainLemmas.{ArePlainMarks, IsPlainEffects, IsPlainMark, acknowledge-plain, below-plain, drop-plain, duplicate-plain, failure-plain, plain-then, progress-plain, receive-plain, refusal-plain, success-plain, timeout-plain}
+use Rattle.ca_judged.proofs.of_ca_agree_keys.KeyTurnLemmas.{found}
+use Rattle.ca_judged.proofs.of_ca_agree_keys.PlainLemmas.{ArePlainMarks, IsPlainEffects, IsPlainMark, acknowledge-plain, below-plain, drop-plain, duplicate-plain, failure-plain, plain-then, progress-plain, receive-plain, refusal-plain, success-plain, timeout-plain}
 use Rattle.ca_base.specs.Sight.{Invalidation}
 use Rattle.ca_base.specs.declared.completion.WcStatus.{WcStatus}
 use Rattle.ca_base.specs.declared.completion.WcStatus.TheVariants.{BadResponse, LocalLength, LocalProtection, MemoryManagement, RetryExceeded, RnrRetryExceeded, Success}
@@ -24,7 +24,7 @@ use Rattle.ca_base.specs.objects.StateTable.{is_among}
 use Rattle.ca_keys.specs.declared.access.Ask.{Ask}
 use Rattle.ca_keys.specs.declared.grant.Grant.{Grant}
 use Rattle.ca_keys.specs.declared.key.Key.{Key}
-use Rattle.ca_laws_sound.proofs.WorldLemmas.{EndingDoes, RowDoes}
+use Rattle.ca_judged.proofs.of_ca_laws_sound.WorldLemmas.{EndingDoes, RowDoes}
 use Rattle.ca_model.specs.Past.{LatestWrite, ReadRequest, at_end}
 use Rattle.ca_model.specs.Requests.{list_length, segments}
 use Rattle.ca_model.specs.declared.mark.Drop1.{Drop1}

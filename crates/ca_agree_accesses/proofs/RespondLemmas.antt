@@ -10,8 +10,8 @@ use Rattle.ca_agree_accesses.proofs.CarryLemmas.{Carries, is_accessed, leaves-re
 use Rattle.ca_agree_accesses.proofs.EndLemmas.{RowSees, one-denied}
 use Rattle.ca_agree_accesses.proofs.QuietLemmas.{AreUnheard, IsLess, plain-unheard}
 use Rattle.ca_agree_accesses.specs.Accesses.{GoesOn, IsAsked}
-use Rattle.ca_agree_keys.proofs.KeyTurnLemmas.{found}
-use Rattle.ca_agree_keys.proofs.PlainLemmas.{flush-plain}
+use Rattle.ca_judged.proofs.of_ca_agree_keys.KeyTurnLemmas.{found}
+use Rattle.ca_judged.proofs.of_ca_agree_keys.PlainLemmas.{flush-plain}
 use Rattle.ca_base.specs.Sight.{Sight, bytes_in, runs_by_grant}
 use Rattle.ca_base.specs.declared.queue_numbers.Queued.{Queued}
 use Rattle.ca_base.specs.declared.step.Reason.{Reason}

@@ -2,17 +2,17 @@
 use Rattle.std.proofs.Common.{Bool, IfSome, List, None, Option, Some, [], ap, false, if◌then◌else◌, is_some, option_map, refl, rules, subst, sym, true, true≢false, ℕ, ◌&&◌, ◌++◌, ◌∙◌, ◌∷◌, ◌≡◌}
 use Rattle.std.specs.List.{AllByRecursion, list_any}
 use Rattle.std.specs.Option.{option_map_or}
-use Rattle.ca_agree.proofs.LeadsLemmas.{leads-around, leads-queue, leads-unless}
-use Rattle.ca_agree.proofs.PathLemmas.{marks-append}
-use Rattle.ca_agree.proofs.PathTurnLemmas.{found}
-use Rattle.ca_agree.specs.Agreement.{PathsAgree, peer_in, peer_named}
-use Rattle.ca_agree.specs.Runs.{Leads}
+use Rattle.ca_judged.proofs.of_ca_agree.LeadsLemmas.{leads-around, leads-queue, leads-unless}
+use Rattle.ca_judged.proofs.of_ca_agree.PathLemmas.{marks-append}
+use Rattle.ca_judged.proofs.of_ca_agree.PathTurnLemmas.{found}
+use Rattle.ca_judged.specs.ca_agree.Agreement.{PathsAgree, peer_in, peer_named}
+use Rattle.ca_judged.specs.ca_agree.Runs.{Leads}
 use Rattle.ca_agree_accesses.proofs.CarryLemmas.{Carries, IsCarried, Leaves, is_accessed, leaves-unheard, passes-append, passes-unheard, quiet-carries}
 use Rattle.ca_agree_accesses.proofs.EndLemmas.{AreSafe, IsSafe, RowSees, does-sees, leads-performed, leads-seen}
 use Rattle.ca_agree_accesses.proofs.QuietLemmas.{AreUnheard, IsQuiet, packet-quiet, timeout-quiet}
 use Rattle.ca_agree_accesses.proofs.RespondLemmas.{RespondsAt, respond-carried}
 use Rattle.ca_agree_accesses.specs.Accesses.{AccessesAgree, AgreeInSlot, AgreeOnResponder, GoesOn, IsAsked, IsEnded, IsEndedWorld}
-use Rattle.ca_agree_keys.proofs.ToldLemmas.{ended}
+use Rattle.ca_judged.proofs.of_ca_agree_keys.ToldLemmas.{ended}
 use Rattle.ca_base.specs.Configuration.{Configuration}
 use Rattle.ca_base.specs.declared.correspondent.Correspondent.{Correspondent}
 use Rattle.ca_base.specs.declared.lot.Lot.{Lot}
@@ -27,9 +27,9 @@ use Rattle.ca_keys.specs.Equal.{queue_eq, slot_eq}
 use Rattle.ca_keys.specs.Memory.{memory_after}
 use Rattle.ca_keys.specs.declared.names.QueueId.{QueueId}
 use Rattle.ca_keys.specs.declared.names.Slot.{Slot}
-use Rattle.ca_laws_sound.proofs.SettledLemmas.{queue-path, queue-refl}
-use Rattle.ca_laws_sound.proofs.WorldLemmas.{around_in, shared_of}
-use Rattle.ca_laws_windows.specs.Bindings.{IsBoundWorld}
+use Rattle.ca_judged.proofs.of_ca_laws_sound.SettledLemmas.{queue-path, queue-refl}
+use Rattle.ca_judged.proofs.of_ca_laws_sound.WorldLemmas.{around_in, shared_of}
+use Rattle.ca_judged.specs.ca_laws_windows.Bindings.{IsBoundWorld}
 use Rattle.ca_model.specs.Carried.{is_rest_of}
 use Rattle.ca_model.specs.Past.{LatestWrite, Naming, Past, ReadRequest, after_marks, at_begin, each_mark, mtu_of, present_incarnation}
 use Rattle.ca_model.specs.declared.event.Event.{Event}

@@ -3,17 +3,17 @@ use Rattle.std.proofs.Common.{Bool, IfSome, List, None, Option, Some, [], ap, ar
 use Rattle.std.proofs.lemmas.Option.{same_Some, slice_get_within}
 use Rattle.std.specs.List.{AllByRecursion}
 use Rattle.std.specs.Option.{option_and_then, option_map_or}
-use Rattle.ca_agree.proofs.LeadsLemmas.{leads-unless}
-use Rattle.ca_agree.proofs.PathChangeLemmas.{Behind}
-use Rattle.ca_agree.proofs.PathVerbLemmas.{agrees-present, call_of}
-use Rattle.ca_agree.specs.Runs.{Leads}
+use Rattle.ca_judged.proofs.of_ca_agree.LeadsLemmas.{leads-unless}
+use Rattle.ca_judged.proofs.of_ca_agree.PathChangeLemmas.{Behind}
+use Rattle.ca_judged.proofs.of_ca_agree.PathVerbLemmas.{agrees-present, call_of}
+use Rattle.ca_judged.specs.ca_agree.Runs.{Leads}
 use Rattle.ca_agree_accesses.proofs.CarryLemmas.{passes-unheard}
 use Rattle.ca_agree_accesses.proofs.QuietLemmas.{AreUnheard, plain-unheard}
 use Rattle.ca_agree_accesses.proofs.TurnLemmas.{AreKept, Grows, IsKept, IsKeptSlot, IsMet, KeepsAccesses, Right, agree-kept, grows-then, kept-puts, same-past, same-slot, same-world, unheard-grows}
 use Rattle.ca_agree_accesses.specs.Accesses.{AccessesAgree, IsAsked, IsEndedWorld}
-use Rattle.ca_agree_keys.proofs.KeyVerbLemmas.{leads-unless-all}
-use Rattle.ca_agree_keys.proofs.PlainLemmas.{flush-plain}
-use Rattle.ca_agree_keys.proofs.ToldLemmas.{ended}
+use Rattle.ca_judged.proofs.of_ca_agree_keys.KeyVerbLemmas.{leads-unless-all}
+use Rattle.ca_judged.proofs.of_ca_agree_keys.PlainLemmas.{flush-plain}
+use Rattle.ca_judged.proofs.of_ca_agree_keys.ToldLemmas.{ended}
 use Rattle.ca_base.specs.Configuration.{Adapter, Configuration}
 use Rattle.ca_base.specs.Grants.{grant_of_registration, next_low, registration_refusals}
 use Rattle.ca_base.specs.declared.completion.Completion.{Completion}
@@ -37,7 +37,7 @@ use Rattle.ca_keys.specs.declared.names.QueueId.{QueueId}
 use Rattle.ca_keys.specs.declared.names.Slot.{Slot}
 use Rattle.ca_keys.specs.declared.place.Run.{Run}
 use Rattle.ca_keys.specs.declared.rights.Rights.{Rights}
-use Rattle.ca_laws_sound.proofs.VerbLemmas.{polled}
+use Rattle.ca_judged.proofs.of_ca_laws_sound.VerbLemmas.{polled}
 use Rattle.ca_model.specs.Past.{Past, after_marks}
 use Rattle.ca_model.specs.declared.answer.Answer.{Answer}
 use Rattle.ca_model.specs.declared.answer.Refusal.TheVariants.{NoDomain, NoSuch, OutOfRange, SlotTaken}

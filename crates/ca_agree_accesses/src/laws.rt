@@ -1,12 +1,12 @@
 ghost use Rattle.std.specs.List.{AllByRecursion};
 ghost use Rattle.std.specs.Prelude.{List};
-ghost use Rattle.ca_agree.specs.Agreement.{HoldsAlong, PathsAgree};
-ghost use Rattle.ca_agree.specs.Runs.{Comes};
+ghost use Rattle.ca_judged.specs.ca_agree.Agreement.{HoldsAlong, PathsAgree};
+ghost use Rattle.ca_judged.specs.ca_agree.Runs.{Comes};
 ghost use Rattle.ca_agree_accesses.specs.Accesses.{AccessesAgree, IsEndedWorld};
 ghost use Rattle.ca_agree_accesses.specs.Asked.{AreCarriedAccesses, HaveTheirPackets, HaveTheirRequests};
 ghost use Rattle.ca_base.specs.Configuration.{Configuration};
 ghost use Rattle.ca_keys.specs.Memory.{ByteMap};
-ghost use Rattle.ca_laws_windows.specs.Bindings.{IsBoundWorld};
+ghost use Rattle.ca_judged.specs.ca_laws_windows.Bindings.{IsBoundWorld};
 ghost use Rattle.ca_model.specs.Entries.{EntryValue};
 ghost use Rattle.ca_model.specs.Past.{Past, after_marks, at_begin, opening_past};
 ghost use Rattle.ca_model.specs.declared.event.Event.{Event};

@@ -20,7 +20,7 @@ use Rattle.ca_base.specs.declared.refusals.OpRefusal.{OpRefusal}
 use Rattle.ca_base.specs.objects.QueuePair.{QueuePair, srq_of}
 use Rattle.ca_base.specs.objects.SharedReceives.{SrqSlot, after_receive_take}
 use Rattle.ca_laws_names.specs.Placed.{IsPlacedWorld}
-use Rattle.ca_laws_sound.proofs.WorldLemmas.{EndingDoes}
+use Rattle.ca_agree.proofs.of_ca_laws_sound.WorldLemmas.{EndingDoes}
 use Rattle.ca_model.proofs.PerformLemmas.{row-performs}
 use Rattle.ca_model.specs.Past.{Past, after_marks, with_at}
 use Rattle.ca_model.specs.declared.mark.Mark.{Mark}

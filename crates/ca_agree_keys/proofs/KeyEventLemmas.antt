@@ -29,10 +29,10 @@ use Rattle.ca_laws_names.proofs.PlacedLemmas.{event-placed, opening-placed}
 use Rattle.ca_laws_names.proofs.PlacedOperationLemmas.{IsNamedTurn, turn-named}
 use Rattle.ca_laws_names.proofs.PlacedTurnLemmas.{placed-here}
 use Rattle.ca_laws_names.specs.Placed.{IsPlacedWorld}
-use Rattle.ca_laws_sound.proofs.SoundLemmas.{event-sound, opening-sound}
-use Rattle.ca_laws_sound.proofs.WorldLemmas.{IsThere, around_in, shared_of}
-use Rattle.ca_laws_windows.proofs.WindowEventLemmas.{event-bound, opening-bound}
-use Rattle.ca_laws_windows.specs.Bindings.{IsBoundWorld}
+use Rattle.ca_agree.proofs.of_ca_laws_sound.SoundLemmas.{event-sound, opening-sound}
+use Rattle.ca_agree.proofs.of_ca_laws_sound.WorldLemmas.{IsThere, around_in, shared_of}
+use Rattle.ca_laws_names.proofs.of_ca_laws_windows.WindowEventLemmas.{event-bound, opening-bound}
+use Rattle.ca_laws_names.specs.ca_laws_windows.Bindings.{IsBoundWorld}
 use Rattle.ca_model.specs.Entries.{EntryValue}
 use Rattle.ca_model.specs.Past.{Past, after_entry, after_marks, at_begin, opening_past}
 use Rattle.ca_model.specs.declared.answer.Refusal.TheVariants.{NoSuch}

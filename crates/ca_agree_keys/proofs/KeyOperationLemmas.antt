@@ -33,11 +33,11 @@ use Rattle.ca_keys.specs.declared.key.Key.{Key}
 use Rattle.ca_keys.specs.declared.names.QueueId.{QueueId}
 use Rattle.ca_keys.specs.declared.names.Slot.{Slot}
 use Rattle.ca_keys.specs.declared.rights.Rights.{Rights}
-use Rattle.ca_laws_sound.proofs.TurnLemmas.{all-fail}
-use Rattle.ca_laws_sound.proofs.WorldLemmas.{IsThere}
-use Rattle.ca_laws_windows.proofs.BindingLemmas.{AreSameGrants}
-use Rattle.ca_laws_windows.proofs.WindowBindLemmas.{IsInside, named-region, named-within}
-use Rattle.ca_laws_windows.proofs.WindowWorldLemmas.{unbound-grants}
+use Rattle.ca_agree.proofs.of_ca_laws_sound.TurnLemmas.{all-fail}
+use Rattle.ca_agree.proofs.of_ca_laws_sound.WorldLemmas.{IsThere}
+use Rattle.ca_laws_names.proofs.of_ca_laws_windows.BindingLemmas.{AreSameGrants}
+use Rattle.ca_laws_names.proofs.of_ca_laws_windows.WindowBindLemmas.{IsInside, named-region, named-within}
+use Rattle.ca_laws_names.proofs.of_ca_laws_windows.WindowWorldLemmas.{unbound-grants}
 use Rattle.ca_model.specs.Past.{Past, with_at}
 use Rattle.ca_model.specs.declared.mark.Mark.{Mark}
 use Rattle.ca_model.specs.declared.mark.Mark.TheVariants as marks

@@ -27,7 +27,7 @@ use Rattle.ca_model.specs.machine.Plan.{Plan, If, Look, Stuck, Update, ◌:=◌,
 use Rattle.ca_model.specs.machine.QueuePairVerbs.{Creation, With_shared, before_receives, beside, create_qp_plan, destroy_qp_plan, emptied_mailbox, has_bad_depth, has_no_room, has_queues, left_updates, new_queue, places_held, receive_reserve, receive_room, send_reserved, user_updates, without_queue, emptied_updates, modify_qp_plan}
 use Rattle.ca_model.specs.machine.VerbAnswers.{Answer_plan, Call, Refuse_plan, Unless_plan, answer_mark, of_change_refusals}
 use Rattle.ca_model.specs.machine.World.{Cq_of, Domain_of, Mailbox_of, Queue_of, Srq_of, World}
-use Rattle.ca_laws_sound.proofs.WorldLemmas.{around_in, shared_of}
+use Rattle.ca_agree.proofs.of_ca_laws_sound.WorldLemmas.{around_in, shared_of}
 use Rattle.ca_base.specs.declared.change.Change as state_change
 use Rattle.ca_base.specs.declared.change.Change.TheVariants as changes
 use Rattle.ca_base.specs.objects.StateTable.{modify_refusals, queue_after_change}

@@ -40,8 +40,8 @@ use Rattle.ca_keys.specs.declared.names.QueueId.{QueueId}
 use Rattle.ca_keys.specs.declared.names.Slot.{Slot}
 use Rattle.ca_keys.specs.declared.place.Run.{Run}
 use Rattle.ca_keys.specs.declared.rights.Rights.{Rights}
-use Rattle.ca_laws_sound.proofs.SettledLemmas.{slot-path}
-use Rattle.ca_laws_windows.proofs.WindowWorldLemmas.{unbound-grants}
+use Rattle.ca_agree.proofs.of_ca_laws_sound.SettledLemmas.{slot-path}
+use Rattle.ca_laws_names.proofs.of_ca_laws_windows.WindowWorldLemmas.{unbound-grants}
 use Rattle.ca_model.specs.Past.{KeySlot, Past, after_marks, at_begin, with_at}
 use Rattle.ca_model.specs.declared.answer.Answer.TheVariants as answers
 use Rattle.ca_model.specs.declared.answer.Refusal.TheVariants.{NoDomain, NoSuch, OutOfRange, SlotTaken}

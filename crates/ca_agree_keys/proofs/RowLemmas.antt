@@ -9,11 +9,11 @@ use Rattle.ca_base.specs.declared.denied_ask.DeniedAsk.{DeniedAsk}
 use Rattle.ca_base.specs.Sight.{Invalidation}
 use Rattle.ca_base.specs.objects.QueuePair.{QueuePair}
 use Rattle.ca_base.specs.objects.StateTable.{is_among}
-use Rattle.ca_wire.specs.declared.syndrome.NakCode.{NakCode}
-use Rattle.ca_wire.specs.declared.syndrome.NakCode.TheVariants.{InvalidRequest, RemoteOperationalError}
+use Rattle.ca_model.specs.ca_wire.declared.syndrome.NakCode.{NakCode}
+use Rattle.ca_model.specs.ca_wire.declared.syndrome.NakCode.TheVariants.{InvalidRequest, RemoteOperationalError}
 use Rattle.ca_packet.specs.declared.opcode.TheConstants.{ACKNOWLEDGE}
 use Rattle.ca_packet.specs.Packet.{Fields}
-use Rattle.ca_wire.specs.Syndrome.{syndrome_in}
+use Rattle.ca_model.specs.ca_wire.Syndrome.{syndrome_in}
 use Rattle.ca_model.specs.declared.mark.Drop1.{Drop1}
 use Rattle.ca_model.specs.declared.mark.Drop1.TheVariants as drops
 use Rattle.ca_model.specs.machine.Acknowledgements.{Acknowledgement, acknowledgement_below, and_then, failure_effects, progress_to}
@@ -28,7 +28,7 @@ use Rattle.ca_base.specs.declared.queue_numbers.Queued.{Queued}
 use Rattle.ca_base.specs.declared.queue_numbers.Queued.TheVariants as queued
 use Rattle.ca_base.specs.declared.request.PlacedReceive.{PlacedReceive}
 use Rattle.ca_base.specs.objects.SharedReceives.{SharedReceives}
-use Rattle.ca_psn.specs.Psn.{widened}
+use Rattle.ca_model.specs.ca_psn.Psn.{widened}
 use Rattle.ca_packet.specs.declared.atomic_eth.AtomicEth.{AtomicEth}
 use Rattle.ca_packet.specs.declared.reth.Reth.{Reth}
 use Rattle.ca_packet.specs.declared.shape.Position.{Position}
@@ -60,7 +60,7 @@ use Rattle.std.specs.List.{flat_map}
 use Rattle.ca_keys.specs.declared.access.Ask.{Ask}
 use Rattle.ca_keys.specs.declared.grant.Grant.{Grant}
 use Rattle.ca_model.specs.declared.mark.Mark.{Mark}
-use Rattle.ca_laws_sound.proofs.WorldLemmas.{EndingDoes}
+use Rattle.ca_agree.proofs.of_ca_laws_sound.WorldLemmas.{EndingDoes}
 use Rattle.ca_keys.specs.declared.verdict.Verdict.TheVariants as verdicts
 use Rattle.ca_keys.specs.Memory.{ByteMap, memory_after, runs_at, runs_for, little_endian, little_endian_bytes}
 use Rattle.std.proofs.lemmas.Bool.Decides.{nat_tests}

@@ -29,8 +29,8 @@ use Rattle.ca_base.specs.objects.LocalRequest.{LocalMarks}
 use Rattle.ca_base.specs.objects.SharedReceives.{SharedReceives}
 use Rattle.ca_keys.specs.Numbers.{is_window_key}
 use Rattle.ca_keys.specs.Refusals.{first_of}
-use Rattle.ca_laws_sound.proofs.TakenLemmas.{none-takes, operation-takes}
-use Rattle.ca_laws_sound.proofs.TurnLemmas.{nothing-good, operation-good, sending-parts, turn_from}
+use Rattle.ca_agree.proofs.of_ca_laws_sound.TakenLemmas.{none-takes, operation-takes}
+use Rattle.ca_agree.proofs.of_ca_laws_sound.TurnLemmas.{nothing-good, operation-good, sending-parts, turn_from}
 use Rattle.ca_model.specs.machine.Invariants.{IsQueue}
 use Rattle.ca_model.specs.machine.Requester.{Performs, RequestTurn, next_request, turn_of, turn_refusals}
 

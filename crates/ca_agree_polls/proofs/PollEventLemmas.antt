@@ -13,7 +13,7 @@ use Rattle.ca_agree_polls.proofs.WaitLemmas.{Polls, both-true, turn-polls}
 use Rattle.ca_agree_polls.specs.Polls.{ArePollsInOrder, PollsAgree, is_poll_in_order}
 use Rattle.ca_base.specs.Configuration.{Configuration}
 use Rattle.ca_keys.specs.Memory.{ByteMap}
-use Rattle.ca_laws_sound.proofs.SoundLemmas.{event-sound, opening-sound}
+use Rattle.ca_agree.proofs.of_ca_laws_sound.SoundLemmas.{event-sound, opening-sound}
 use Rattle.ca_model.specs.Entries.{EntryValue}
 use Rattle.ca_model.specs.Past.{Past, after_entry, after_marks, at_begin, each_entry, opening_past}
 use Rattle.ca_model.specs.declared.answer.Refusal.TheVariants.{NoSuch}

@@ -36,11 +36,11 @@ use Rattle.ca_keys.specs.Equal.{bool_eq, key_eq, queue_eq, slot_eq}
 use Rattle.ca_keys.specs.Numbers.{queue_of}
 use Rattle.ca_keys.specs.declared.names.QueueId.{QueueId}
 use Rattle.ca_keys.specs.declared.names.Slot.{Slot}
-use Rattle.ca_laws_sound.proofs.GoodLemmas.{finished-later}
-use Rattle.ca_laws_sound.proofs.PollLemmas.{all-finished, all-taken}
-use Rattle.ca_laws_sound.proofs.SettledLemmas.{all-map, queue-path, queue-refl, slot-path}
-use Rattle.ca_laws_sound.proofs.VerbLemmas.{IsPolled, polled, retired-next}
-use Rattle.ca_laws_sound.proofs.WorldLemmas.{IsThere, around_in, is-there, shared_of}
+use Rattle.ca_agree.proofs.of_ca_laws_sound.GoodLemmas.{finished-later}
+use Rattle.ca_agree.proofs.of_ca_laws_sound.PollLemmas.{all-finished, all-taken}
+use Rattle.ca_agree.proofs.of_ca_laws_sound.SettledLemmas.{all-map, queue-path, queue-refl, slot-path}
+use Rattle.ca_agree.proofs.of_ca_laws_sound.VerbLemmas.{IsPolled, polled, retired-next}
+use Rattle.ca_agree.proofs.of_ca_laws_sound.WorldLemmas.{IsThere, around_in, is-there, shared_of}
 use Rattle.ca_model.specs.Past.{Past, after_change, at_begin, with_at}
 use Rattle.ca_model.specs.Requests.{list_of}
 use Rattle.ca_model.specs.declared.answer.Answer.TheVariants as answers

@@ -16,9 +16,9 @@ use Rattle.ca_base.specs.objects.QueuePair.{QueuePair, recv_cq_of, send_cq_of}
 use Rattle.ca_keys.specs.Equal.{slot_eq}
 use Rattle.ca_keys.specs.declared.names.QueueId.{QueueId}
 use Rattle.ca_keys.specs.declared.names.Slot.{Slot}
-use Rattle.ca_laws_sound.proofs.GoodLemmas.{AreSettledMarks, IsSettledMark}
-use Rattle.ca_laws_sound.proofs.OrderLemmas.{completions-append}
-use Rattle.ca_laws_sound.proofs.SettledLemmas.{domain-refl, slot-path}
+use Rattle.ca_agree.proofs.of_ca_laws_sound.GoodLemmas.{AreSettledMarks, IsSettledMark}
+use Rattle.ca_agree.proofs.of_ca_laws_sound.OrderLemmas.{completions-append}
+use Rattle.ca_agree.proofs.of_ca_laws_sound.SettledLemmas.{domain-refl, slot-path}
 use Rattle.ca_model.specs.Past.{with_at}
 use Rattle.ca_model.specs.declared.mark.Mark.{Mark}
 use Rattle.ca_model.specs.declared.mark.Mark.TheVariants as marks

@@ -5,9 +5,9 @@ use Rattle.ca_agree_polls.proofs.FlushedLemmas.{Ends}
 use Rattle.ca_agree_polls.specs.Polls.{IsFlushedInError}
 use Rattle.ca_base.specs.objects.QueuePair.{QueuePair}
 use Rattle.ca_base.specs.objects.SharedReceives.{SharedReceives}
-use Rattle.ca_laws_sound.proofs.GoodLemmas.{IsGood}
-use Rattle.ca_laws_sound.proofs.TakenLemmas.{none-takes}
-use Rattle.ca_laws_sound.proofs.WorldLemmas.{EndingDoes, RowDoes}
+use Rattle.ca_agree.proofs.of_ca_laws_sound.GoodLemmas.{IsGood}
+use Rattle.ca_agree.proofs.of_ca_laws_sound.TakenLemmas.{none-takes}
+use Rattle.ca_agree.proofs.of_ca_laws_sound.WorldLemmas.{EndingDoes, RowDoes}
 use Rattle.ca_model.specs.machine.Places.{TakesInOrder}
 use Rattle.ca_model.specs.machine.Row.{Does, Effects, Ending, NotPossible, Row}
 

@@ -25,12 +25,12 @@ use Rattle.ca_keys.specs.Memory.{memory_after}
 use Rattle.ca_keys.specs.Refusals.{AllFail, first_of}
 use Rattle.ca_keys.specs.declared.names.QueueId.{QueueId}
 use Rattle.ca_keys.specs.declared.names.Slot.{Slot}
-use Rattle.ca_laws_sound.proofs.GoodLemmas.{IsLater}
-use Rattle.ca_laws_sound.proofs.RespondLemmas.{arrival-good, respond-good}
-use Rattle.ca_laws_sound.proofs.SettledLemmas.{slot-path}
-use Rattle.ca_laws_sound.proofs.TakenLemmas.{arrival-takes, none-takes, packet-takes, respond-takes, timeout-takes, wake-takes}
-use Rattle.ca_laws_sound.proofs.TurnLemmas.{packet-good, sending-parts, sends-parts, timeout-good, wake-good}
-use Rattle.ca_laws_sound.proofs.WorldLemmas.{IsSoundShared, IsThere, RowDoes, around_in, is-there, row-does, shared_of, sound-shared}
+use Rattle.ca_agree.proofs.of_ca_laws_sound.GoodLemmas.{IsLater}
+use Rattle.ca_agree.proofs.of_ca_laws_sound.RespondLemmas.{arrival-good, respond-good}
+use Rattle.ca_agree.proofs.of_ca_laws_sound.SettledLemmas.{slot-path}
+use Rattle.ca_agree.proofs.of_ca_laws_sound.TakenLemmas.{arrival-takes, none-takes, packet-takes, respond-takes, timeout-takes, wake-takes}
+use Rattle.ca_agree.proofs.of_ca_laws_sound.TurnLemmas.{packet-good, sending-parts, sends-parts, timeout-good, wake-good}
+use Rattle.ca_agree.proofs.of_ca_laws_sound.WorldLemmas.{IsSoundShared, IsThere, RowDoes, around_in, is-there, row-does, shared_of, sound-shared}
 use Rattle.ca_model.specs.Past.{with_at}
 use Rattle.ca_model.specs.declared.mark.Mark.{Mark}
 use Rattle.ca_model.specs.declared.mark.Mark.TheVariants as marks

@@ -15,7 +15,7 @@ use Rattle.ca_base.specs.objects.QueuePair.{QueuePair, Present}
 use Rattle.ca_keys.specs.Equal.{queue_eq, slot_eq}
 use Rattle.ca_keys.specs.declared.names.QueueId.{QueueId}
 use Rattle.ca_keys.specs.declared.names.Slot.{Slot}
-use Rattle.ca_laws_sound.proofs.SettledLemmas.{queue-path, slot-path}
+use Rattle.ca_agree.proofs.of_ca_laws_sound.SettledLemmas.{queue-path, slot-path}
 use Rattle.ca_model.specs.Past.{Past, after_mark, after_marks, at_begin, each_mark, with_at}
 use Rattle.ca_model.specs.declared.event.Event.{Event}
 use Rattle.ca_model.specs.declared.mark.Mark.{Mark}

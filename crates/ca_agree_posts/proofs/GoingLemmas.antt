@@ -35,7 +35,7 @@ use Rattle.ca_keys.specs.declared.access.Ask.{Ask}
 use Rattle.ca_keys.specs.declared.access.Kind.{Kind}
 use Rattle.ca_keys.specs.declared.key.Key.{Key}
 use Rattle.ca_keys.specs.declared.names.QueueId.{QueueId}
-use Rattle.ca_laws_sound.proofs.WorldLemmas.{EndingDoes}
+use Rattle.ca_laws_steady.proofs.of_ca_laws_sound.WorldLemmas.{EndingDoes}
 use Rattle.ca_laws_steady.proofs.RowLemmas.{IsKept}
 use Rattle.ca_laws_steady.proofs.SameLemmas.{progress-first, progress-steady}
 use Rattle.ca_model.specs.Packets.{is_response}
@@ -71,12 +71,12 @@ use Rattle.ca_packet.specs.declared.shape.Position.{Position}
 use Rattle.ca_packet.specs.declared.shape.Shape.{Shape}
 use Rattle.ca_packet.specs.declared.shape.Shape.TheVariants as shapes
 use Rattle.ca_packet.specs.declared.wire_error.WireError.{WireError}
-use Rattle.ca_psn.specs.Psn.{widened}
-use Rattle.ca_wire.specs.Syndrome.{syndrome_in}
-use Rattle.ca_wire.specs.declared.syndrome.NakCode.{NakCode}
-use Rattle.ca_wire.specs.declared.syndrome.NakCode.TheVariants.{PsnSequenceError, InvalidRequest, RemoteAccessError, RemoteOperationalError}
-use Rattle.ca_wire.specs.declared.syndrome.Syndrome.{Syndrome}
-use Rattle.ca_wire.specs.declared.syndrome.Syndrome.TheVariants.{Ack, RnrNak, Nak}
+use Rattle.ca_model.specs.ca_psn.Psn.{widened}
+use Rattle.ca_model.specs.ca_wire.Syndrome.{syndrome_in}
+use Rattle.ca_model.specs.ca_wire.declared.syndrome.NakCode.{NakCode}
+use Rattle.ca_model.specs.ca_wire.declared.syndrome.NakCode.TheVariants.{PsnSequenceError, InvalidRequest, RemoteAccessError, RemoteOperationalError}
+use Rattle.ca_model.specs.ca_wire.declared.syndrome.Syndrome.{Syndrome}
+use Rattle.ca_model.specs.ca_wire.declared.syndrome.Syndrome.TheVariants.{Ack, RnrNak, Nak}
 
 -- ---- marks
 

@@ -2,8 +2,8 @@
 -- proofs only.
 use Rattle.std.proofs.Common.{◌≡◌, suc, Bool, true, false, if◌then◌else◌, List, [], Option, None, Some, sym, subst, true≢false}
 use Rattle.std.specs.Option.{option_map}
-use Rattle.ca_agree.proofs.LeadsLemmas.{comes}
-use Rattle.ca_agree.specs.Runs.{Comes, Leads}
+use Rattle.ca_agree_keys.proofs.of_ca_agree.LeadsLemmas.{comes}
+use Rattle.ca_agree_keys.specs.ca_agree.Runs.{Comes, Leads}
 use Rattle.ca_agree_keys.proofs.FrameLemmas.{leads-from}
 use Rattle.ca_base.specs.Configuration.{Configuration}
 use Rattle.ca_base.specs.Sight.{Invalidation}

@@ -23,7 +23,7 @@ use Rattle.ca_model.specs.Requests.{is_local}
 use Rattle.ca_model.specs.machine.Invariants.{is_sending}
 use Rattle.ca_model.specs.machine.Numbering.{Numbered, begun_requests, has_psn, is_answered_op, next_to_begin, numbers_of, request_at, unfinished_requests}
 use Rattle.ca_model.specs.machine.Requester.{Performs, RequestTurn, Sends, Waits, begins, is_fenced, next_request, turn_of, turn_refusals}
-use Rattle.ca_laws_sound.proofs.TurnLemmas.{sending-parts}
+use Rattle.ca_laws_steady.proofs.of_ca_laws_sound.TurnLemmas.{sending-parts}
 
 -- ---- lists
 

@@ -1,11 +1,11 @@
 -- Every event keeps the agreement on posted requests, and so does every history that follows the machine. For proofs only.
 use Rattle.std.proofs.Common.{◌≡◌, ℕ, suc, true, List, [], ◌∷◌, map, Ok, refl, subst, rules}
 use Rattle.std.specs.List.{AllByRecursion}
-use Rattle.ca_agree.proofs.EventFitLemmas.{first-marks}
-use Rattle.ca_agree.proofs.LeadsLemmas.{comes}
-use Rattle.ca_agree.proofs.PathVerbLemmas.{call_of}
-use Rattle.ca_agree.specs.Agreement.{HoldsAlong}
-use Rattle.ca_agree.specs.Runs.{Comes, Leads}
+use Rattle.ca_agree_keys.proofs.of_ca_agree.EventFitLemmas.{first-marks}
+use Rattle.ca_agree_keys.proofs.of_ca_agree.LeadsLemmas.{comes}
+use Rattle.ca_agree_keys.proofs.of_ca_agree.PathVerbLemmas.{call_of}
+use Rattle.ca_agree_keys.specs.ca_agree.Agreement.{HoldsAlong}
+use Rattle.ca_agree_keys.specs.ca_agree.Runs.{Comes, Leads}
 use Rattle.ca_agree_posts.proofs.PostLemmas.{Agrees}
 use Rattle.ca_agree_posts.proofs.PostQueueLemmas.{posts-alloc_mw, posts-create, posts-dealloc_mw, posts-dereg_mr, posts-destroy, posts-inject, posts-modify, posts-poll, posts-post_recv}
 use Rattle.ca_agree_posts.proofs.PostTurnLemmas.{IsPosted, posts-deliver, posts-request, posts-respond, posts-timeout, posts-wake}
@@ -13,7 +13,7 @@ use Rattle.ca_agree_posts.proofs.PostVerbLemmas.{AgreesBy, posts-post_send}
 use Rattle.ca_agree_posts.specs.Posts.{PostsAgree}
 use Rattle.ca_base.specs.Configuration.{Configuration}
 use Rattle.ca_keys.specs.Memory.{ByteMap}
-use Rattle.ca_laws_sound.proofs.SoundLemmas.{event-sound, opening-sound}
+use Rattle.ca_laws_steady.proofs.of_ca_laws_sound.SoundLemmas.{event-sound, opening-sound}
 use Rattle.ca_laws_steady.proofs.EventLemmas.{event-steady, opening-steady}
 use Rattle.ca_laws_steady.specs.Steady.{IsSteadyWorld}
 use Rattle.ca_model.specs.Entries.{EntryValue}

@@ -2,8 +2,8 @@
 -- proofs only.
 use Rattle.std.proofs.Common.{◌≡◌, ℕ, Bool, true, false, if◌then◌else◌, List, [], ◌∷◌, ◌++◌, length, map, take, drop, Option, None, Some, IfSome, is_some, refl, sym, ap, subst, ◌∙◌}
 use Rattle.std.specs.Option.{option_map, option_map_or}
-use Rattle.ca_agree.proofs.LeadsLemmas.{comes}
-use Rattle.ca_agree.specs.Runs.{Comes, Leads}
+use Rattle.ca_agree_keys.proofs.of_ca_agree.LeadsLemmas.{comes}
+use Rattle.ca_agree_keys.specs.ca_agree.Runs.{Comes, Leads}
 use Rattle.ca_agree_keys.proofs.FrameLemmas.{leads-from}
 use Rattle.ca_agree_posts.proofs.GoingLemmas.{AreKeyless, EndKey, Goes, IsKeyless, RowGoes, TellOf, key_gone}
 use Rattle.ca_agree_posts.specs.Posts.{AgreeInSlot, AgreeOnPosts, AgreeOnSends, PostsAgree, as_posted}
@@ -24,8 +24,8 @@ use Rattle.ca_keys.specs.Memory.{memory_after}
 use Rattle.ca_keys.specs.declared.key.Key.{Key}
 use Rattle.ca_keys.specs.declared.names.QueueId.{QueueId}
 use Rattle.ca_keys.specs.declared.names.Slot.{Slot}
-use Rattle.ca_laws_sound.proofs.SettledLemmas.{queue-path, slot-path}
-use Rattle.ca_laws_sound.proofs.WorldLemmas.{EndingDoes}
+use Rattle.ca_laws_steady.proofs.of_ca_laws_sound.SettledLemmas.{queue-path, slot-path}
+use Rattle.ca_laws_steady.proofs.of_ca_laws_sound.WorldLemmas.{EndingDoes}
 use Rattle.ca_model.proofs.PerformLemmas.{row-performs}
 use Rattle.ca_model.specs.Past.{KeySlot, Past, Posted, after_mark, after_marks, at_begin, at_end, correspondent_eq, local_operations, operation_performed, performed_at_end, present_incarnation, with_at}
 use Rattle.ca_model.specs.declared.event.Event.{Event}

@@ -4,9 +4,9 @@ use Rattle.std.proofs.lemmas.Bool.{not-false}
 use Rattle.std.proofs.lemmas.List.{drop-drop, drop-map}
 use Rattle.std.specs.List.{AllByRecursion}
 use Rattle.std.specs.Option.{option_and_then, option_map, option_map_or}
-use Rattle.ca_agree.proofs.LeadsLemmas.{leads-around, leads-unless}
-use Rattle.ca_agree.proofs.PathVerbLemmas.{agrees-present, call_of}
-use Rattle.ca_agree.specs.Runs.{Leads}
+use Rattle.ca_agree_keys.proofs.of_ca_agree.LeadsLemmas.{leads-around, leads-unless}
+use Rattle.ca_agree_keys.proofs.of_ca_agree.PathVerbLemmas.{agrees-present, call_of}
+use Rattle.ca_agree_keys.specs.ca_agree.Runs.{Leads}
 use Rattle.ca_agree_keys.proofs.KeyVerbLemmas.{leads-unless-all}
 use Rattle.ca_agree_posts.proofs.GoingLemmas.{flush-keyless}
 use Rattle.ca_agree_posts.proofs.PostLemmas.{AreKept, AreNoAnswers, IsKept, agree-world, keyless-no, kept-puts, same-world, slot-kept, srq-kept}
@@ -39,9 +39,9 @@ use Rattle.ca_keys.specs.Equal.{queue_eq}
 use Rattle.ca_keys.specs.Numbers.{queue_of}
 use Rattle.ca_keys.specs.declared.names.QueueId.{QueueId}
 use Rattle.ca_keys.specs.declared.names.Slot.{Slot}
-use Rattle.ca_laws_sound.proofs.SettledLemmas.{queue-path}
+use Rattle.ca_laws_steady.proofs.of_ca_laws_sound.SettledLemmas.{queue-path}
 use Rattle.ca_keys.specs.Refusals.{AllFail}
-use Rattle.ca_laws_sound.proofs.WorldLemmas.{around_in, shared_of}
+use Rattle.ca_laws_steady.proofs.of_ca_laws_sound.WorldLemmas.{around_in, shared_of}
 use Rattle.ca_model.specs.Past.{Past, Posted, local_operations, with_at}
 use Rattle.ca_model.specs.declared.answer.Answer.TheVariants as answers
 use Rattle.ca_model.specs.declared.answer.Refusal.{Refusal}

@@ -3,9 +3,9 @@ use Rattle.std.proofs.Common.{IfSome, ◌≡◌, ℕ, suc, ◌+◌, ◌<◌, ◌
 use Rattle.std.proofs.lemmas.Bool.Decides.{nat_tests}
 use Rattle.std.specs.List.{list_any}
 use Rattle.std.specs.Option.{option_and_then, option_map, option_map_or}
-use Rattle.ca_agree.proofs.LeadsLemmas.{leads-around, leads-queue, leads-unless}
-use Rattle.ca_agree.proofs.PathLemmas.{marks-append}
-use Rattle.ca_agree.specs.Runs.{Leads}
+use Rattle.ca_agree_keys.proofs.of_ca_agree.LeadsLemmas.{leads-around, leads-queue, leads-unless}
+use Rattle.ca_agree_keys.proofs.of_ca_agree.PathLemmas.{marks-append}
+use Rattle.ca_agree_keys.specs.ca_agree.Runs.{Leads}
 use Rattle.ca_agree_keys.proofs.KeyTurnLemmas.{found}
 use Rattle.ca_agree_posts.proofs.GoingLemmas.{Goes, arrival-goes, denied-goes, failure-goes, reads-keyless, respond-goes, timeout-goes, wake-goes}
 use Rattle.ca_agree_posts.proofs.PlaceLemmas.{IsPerformed, IsPostedAt, begins-next, filter-at, in-place, item-posted, next-item, operations-more, operations-same, performs, sending-well}
@@ -39,9 +39,9 @@ use Rattle.ca_keys.specs.declared.key.Key.{Key}
 use Rattle.ca_keys.specs.declared.names.DomainId.{DomainId}
 use Rattle.ca_keys.specs.declared.names.QueueId.{QueueId}
 use Rattle.ca_keys.specs.declared.names.Slot.{Slot}
-use Rattle.ca_laws_sound.proofs.SettledLemmas.{queue-path}
-use Rattle.ca_laws_sound.proofs.TurnLemmas.{sends-parts}
-use Rattle.ca_laws_sound.proofs.WorldLemmas.{EndingDoes, IsThere, RowDoes, around_in, shared_of}
+use Rattle.ca_laws_steady.proofs.of_ca_laws_sound.SettledLemmas.{queue-path}
+use Rattle.ca_laws_steady.proofs.of_ca_laws_sound.TurnLemmas.{sends-parts}
+use Rattle.ca_laws_steady.proofs.of_ca_laws_sound.WorldLemmas.{EndingDoes, IsThere, RowDoes, around_in, shared_of}
 use Rattle.ca_laws_steady.proofs.RowLemmas.{IsKept as IsKeptQueue}
 use Rattle.ca_laws_steady.proofs.TurnLemmas.{there-kept}
 use Rattle.ca_laws_steady.specs.Steady.{IsSteadyWorld}

@@ -19,10 +19,10 @@ use Rattle.ca_model.specs.machine.VerbAnswers.{Unless_plan}
 use Rattle.std.proofs.Common.{nat_lt, slice_get}
 use Rattle.std.proofs.lemmas.Bool.{ltb-true}
 use Rattle.std.specs.Option.{option_map, option_map_or}
-use Rattle.ca_agree.proofs.LeadsLemmas.{leads-unless}
-use Rattle.ca_agree.proofs.PathChangeLemmas.{Behind}
-use Rattle.ca_agree.proofs.PathVerbLemmas.{agrees-present, call_of}
-use Rattle.ca_agree.specs.Runs.{Leads}
+use Rattle.ca_agree_keys.proofs.of_ca_agree.LeadsLemmas.{leads-unless}
+use Rattle.ca_agree_keys.proofs.of_ca_agree.PathChangeLemmas.{Behind}
+use Rattle.ca_agree_keys.proofs.of_ca_agree.PathVerbLemmas.{agrees-present, call_of}
+use Rattle.ca_agree_keys.specs.ca_agree.Runs.{Leads}
 use Rattle.ca_agree_keys.proofs.SlotLemmas.{key-slot-refl, slot-at-window, window-kind, window-slots}
 use Rattle.ca_agree_keys.specs.InForce.{is_window_slot, slot_at}
 use Rattle.ca_agree_posts.proofs.GoingLemmas.{flush-keyless}
@@ -43,7 +43,7 @@ use Rattle.ca_keys.specs.Equal.{queue_eq, slot_eq}
 use Rattle.ca_keys.specs.Numbers.{domain_of, key_at, queue_of, window_index}
 use Rattle.ca_keys.specs.declared.names.QueueId.{QueueId}
 use Rattle.ca_keys.specs.declared.names.Slot.{Slot}
-use Rattle.ca_laws_sound.proofs.SettledLemmas.{queue-path, slot-path}
+use Rattle.ca_laws_steady.proofs.of_ca_laws_sound.SettledLemmas.{queue-path, slot-path}
 use Rattle.ca_model.specs.Past.{KeySlot, Past, Posted, after_marks, at_begin, drawn_after, drawn_at, key_slot_eq, local_operations, present_incarnation, slot_beside, window_key_slot, with_at}
 use Rattle.ca_model.specs.declared.answer.Answer.{Answer}
 use Rattle.ca_model.specs.declared.answer.Answer.TheVariants as answers

@@ -2,11 +2,11 @@
 -- proofs only.
 use Rattle.std.proofs.Common.{◌≡◌, ℕ, suc, Bool, true, false, List, [], ◌∷◌, map, Ok, Err, refl, ap, subst, rules, true≢false}
 use Rattle.std.specs.List.{AllByRecursion}
-use Rattle.ca_agree.proofs.EventFitLemmas.{first-marks}
-use Rattle.ca_agree.proofs.LeadsLemmas.{comes, leads-weaker}
-use Rattle.ca_agree.proofs.PathVerbLemmas.{call_of}
-use Rattle.ca_agree.specs.Agreement.{HoldsAlong}
-use Rattle.ca_agree.specs.Runs.{Comes, Leads}
+use Rattle.ca_agree_polls.proofs.of_ca_agree.EventFitLemmas.{first-marks}
+use Rattle.ca_agree_polls.proofs.of_ca_agree.LeadsLemmas.{comes, leads-weaker}
+use Rattle.ca_agree_polls.proofs.of_ca_agree.PathVerbLemmas.{call_of}
+use Rattle.ca_agree_polls.specs.ca_agree.Agreement.{HoldsAlong}
+use Rattle.ca_agree_polls.specs.ca_agree.Runs.{Comes, Leads}
 use Rattle.ca_agree_receives.proofs.ReceiveVerbLemmas.{ReceivesBy, receives-create, receives-create_srq, receives-dealloc_mw, receives-destroy, receives-destroy_srq, receives-inject, receives-modify, receives-poll, receives-post_recv, receives-post_send, receives-post_srq}
 use Rattle.ca_agree_polls.proofs.TurnLemmas.{IsTurn, turns-deliver, turns-request, turns-respond, turns-timeout, turns-wake}
 use Rattle.ca_agree_polls.proofs.WaitLemmas.{both-true}
@@ -17,7 +17,7 @@ use Rattle.ca_laws_room.proofs.RoomLemmas.{opening-room}
 use Rattle.ca_laws_room.specs.Room.{HasRoom}
 use Rattle.ca_base.specs.Configuration.{Configuration}
 use Rattle.ca_keys.specs.Memory.{ByteMap}
-use Rattle.ca_laws_sound.proofs.SoundLemmas.{event-sound, opening-sound}
+use Rattle.ca_laws_room.proofs.of_ca_laws_sound.SoundLemmas.{event-sound, opening-sound}
 use Rattle.ca_model.specs.Entries.{EntryValue}
 use Rattle.ca_model.specs.Past.{Past, after_entry, after_marks, at_begin, each_entry, opening_past}
 use Rattle.ca_model.specs.declared.answer.Refusal.TheVariants.{NoSuch}

@@ -6,7 +6,7 @@ use Rattle.std.proofs.lemmas.Bool.Decides.{nat_tests}
 use Rattle.std.proofs.lemmas.List.{append-nil, append_assoc}
 use Rattle.std.proofs.lemmas.Option.{same_Some}
 use Rattle.std.specs.Option.{option_and_then, option_map, option_map_or}
-use Rattle.ca_agree.proofs.PathLemmas.{marks-append}
+use Rattle.ca_agree_polls.proofs.of_ca_agree.PathLemmas.{marks-append}
 use Rattle.ca_agree_polls.proofs.SideLemmas.{AreOf, IsOf}
 use Rattle.ca_agree_polls.proofs.TurnLemmas.{IsTurn, takes_of, with_taken}
 use Rattle.ca_agree_polls.proofs.WaitLemmas.{both-true, each-append}
@@ -25,7 +25,7 @@ use Rattle.ca_keys.specs.declared.names.Slot.{Slot}
 use Rattle.ca_laws_room.proofs.RoomLemmas.{shared-used}
 use Rattle.ca_laws_room.proofs.RoomLists.{ascend-lower}
 use Rattle.ca_laws_room.specs.Room.{HasRoom}
-use Rattle.ca_laws_sound.proofs.SettledLemmas.{queue-path, queue-refl, slot-refl}
+use Rattle.ca_laws_room.proofs.of_ca_laws_sound.SettledLemmas.{queue-path, queue-refl, slot-refl}
 use Rattle.ca_model.specs.Ordered.{place_behind}
 use Rattle.ca_model.specs.Past.{Past, after_mark, after_marks, at_begin, correspondent_eq, each_mark, present_incarnation, with_at}
 use Rattle.ca_model.specs.declared.event.Event.{Event}

@@ -2,9 +2,9 @@
 use Rattle.std.proofs.Common.{◌≡◌, ℕ, suc, ◌-◌, ◌≤◌, ◌<◌, ◌==◌, nat_lt, is_some, Bool, true, false, if◌then◌else◌, List, [], ◌∷◌, ◌++◌, length, map, take, Option, None, Some, IfSome, refl, sym, ap, subst, ◌∙◌, arith, true≢false}
 use Rattle.std.proofs.lemmas.List.{append_assoc, map-append}
 use Rattle.std.specs.Option.{option_eq, option_map}
-use Rattle.ca_agree.proofs.LeadsLemmas.{leads-around, leads-weaker}
-use Rattle.ca_agree.proofs.PathVerbLemmas.{call_of}
-use Rattle.ca_agree.specs.Runs.{Leads}
+use Rattle.ca_agree_polls.proofs.of_ca_agree.LeadsLemmas.{leads-around, leads-weaker}
+use Rattle.ca_agree_polls.proofs.of_ca_agree.PathVerbLemmas.{call_of}
+use Rattle.ca_agree_polls.specs.ca_agree.Runs.{Leads}
 use Rattle.ca_agree_polls.proofs.PlanLemmas.{AreFreed, IsFreed, created, leads-create, leads-poll}
 use Rattle.ca_agree_polls.proofs.PostingLemmas.{leads-dealloc, leads-modify, leads-post_recv, leads-post_send, leads-present}
 use Rattle.ca_agree_polls.proofs.TurnLemmas.{IsTurn, leads-tests, turns-arrive}
@@ -32,8 +32,8 @@ use Rattle.ca_keys.specs.declared.names.QueueId.{QueueId}
 use Rattle.ca_keys.specs.declared.names.Slot.{Slot}
 use Rattle.ca_laws_room.proofs.RoomLemmas.{shared-used}
 use Rattle.ca_laws_room.specs.Room.{HasRoom}
-use Rattle.ca_laws_sound.proofs.SettledLemmas.{queue-path, slot-path}
-use Rattle.ca_laws_sound.proofs.WorldLemmas.{around_in, is-there, shared_of}
+use Rattle.ca_laws_room.proofs.of_ca_laws_sound.SettledLemmas.{queue-path, slot-path}
+use Rattle.ca_laws_room.proofs.of_ca_laws_sound.WorldLemmas.{around_in, is-there, shared_of}
 use Rattle.ca_model.specs.Ordered.{place_behind}
 use Rattle.ca_model.specs.Past.{Past, after_change, at_begin, with_at}
 use Rattle.ca_model.specs.Requests.{list_length, list_of}

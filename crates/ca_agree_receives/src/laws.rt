@@ -1,7 +1,7 @@
 ghost use Rattle.std.specs.List.{AllByRecursion};
 ghost use Rattle.std.specs.Prelude.{List};
-ghost use Rattle.ca_agree.specs.Agreement.{HoldsAlong};
-ghost use Rattle.ca_agree.specs.Runs.{Comes};
+ghost use Rattle.ca_agree_polls.specs.ca_agree.Agreement.{HoldsAlong};
+ghost use Rattle.ca_agree_polls.specs.ca_agree.Runs.{Comes};
 ghost use Rattle.ca_agree_receives.specs.Receives.{AreReceivesInOrder, ReceivesAgree};
 ghost use Rattle.ca_base.specs.Configuration.{Configuration};
 ghost use Rattle.ca_keys.specs.Memory.{ByteMap};

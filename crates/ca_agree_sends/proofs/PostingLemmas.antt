@@ -5,11 +5,11 @@ use Rattle.std.proofs.lemmas.Bool.{ltb-false}
 use Rattle.std.proofs.lemmas.Option.{same_Some, slice_get_within}
 use Rattle.std.proofs.lemmas.List.{length-append}
 use Rattle.std.specs.Option.{option_map, option_map_or}
-use Rattle.ca_agree.proofs.LeadsLemmas.{leads-unless}
-use Rattle.ca_agree.proofs.PathChangeLemmas.{Behind}
-use Rattle.ca_agree.proofs.PathVerbLemmas.{agrees-present, call_of}
-use Rattle.ca_agree.specs.Runs.{Leads}
-use Rattle.ca_agree_keys.proofs.KeyTurnLemmas.{found}
+use Rattle.ca_agree_posts.proofs.of_ca_agree.LeadsLemmas.{leads-unless}
+use Rattle.ca_agree_posts.proofs.of_ca_agree.PathChangeLemmas.{Behind}
+use Rattle.ca_agree_posts.proofs.of_ca_agree.PathVerbLemmas.{agrees-present, call_of}
+use Rattle.ca_agree_posts.specs.ca_agree.Runs.{Leads}
+use Rattle.ca_agree_posts.proofs.of_ca_agree_keys.KeyTurnLemmas.{found}
 use Rattle.ca_agree_posts.proofs.PostTurnLemmas.{life-refl, other-life}
 use Rattle.ca_agree_posts.specs.Posts.{AgreeInSlot, life}
 use Rattle.ca_agree_sends.proofs.CompleteLemmas.{Complete, between-test, none-between, test-between}
@@ -40,7 +40,7 @@ use Rattle.ca_keys.specs.Numbers.{key_at, queue_of, window_index}
 use Rattle.ca_keys.specs.declared.grant.Grant.{Grant}
 use Rattle.ca_keys.specs.declared.names.QueueId.{QueueId}
 use Rattle.ca_keys.specs.declared.names.Slot.{Slot}
-use Rattle.ca_laws_sound.proofs.WorldLemmas.{IsThere}
+use Rattle.ca_agree_posts.proofs.of_ca_laws_sound.WorldLemmas.{IsThere}
 use Rattle.ca_model.specs.Ordered.{are_unsignalled, place_behind}
 use Rattle.ca_model.specs.Past.{Past, Posted, correspondent_eq, drawn_at, present_incarnation, with_at}
 use Rattle.ca_model.specs.declared.answer.Answer.{Answer}

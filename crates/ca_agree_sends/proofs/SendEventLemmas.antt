@@ -2,11 +2,11 @@
 -- follows the machine. For proofs only.
 use Rattle.std.proofs.Common.{◌≡◌, ℕ, suc, Bool, true, false, List, [], ◌∷◌, map, Ok, Err, refl, sym, ap, subst, rules, true≢false}
 use Rattle.std.specs.List.{AllByRecursion}
-use Rattle.ca_agree.proofs.EventFitLemmas.{first-marks}
-use Rattle.ca_agree.proofs.LeadsLemmas.{comes, leads-weaker}
-use Rattle.ca_agree.proofs.PathVerbLemmas.{call_of}
-use Rattle.ca_agree.specs.Agreement.{HoldsAlong}
-use Rattle.ca_agree.specs.Runs.{Comes, Leads}
+use Rattle.ca_agree_posts.proofs.of_ca_agree.EventFitLemmas.{first-marks}
+use Rattle.ca_agree_posts.proofs.of_ca_agree.LeadsLemmas.{comes, leads-weaker}
+use Rattle.ca_agree_posts.proofs.of_ca_agree.PathVerbLemmas.{call_of}
+use Rattle.ca_agree_posts.specs.ca_agree.Agreement.{HoldsAlong}
+use Rattle.ca_agree_posts.specs.ca_agree.Runs.{Comes, Leads}
 use Rattle.ca_agree_posts.proofs.GrantLemmas.{both-true}
 use Rattle.ca_agree_posts.proofs.PostEventLemmas.{event-posts-agree, opening-posts-agree}
 use Rattle.ca_agree_posts.specs.Posts.{PostsAgree}
@@ -17,9 +17,9 @@ use Rattle.ca_agree_sends.specs.Completed.{CompletedAgree}
 use Rattle.ca_agree_sends.specs.InOrder.{DoCompleteInOrder, completes_in_order}
 use Rattle.ca_base.specs.Configuration.{Configuration}
 use Rattle.ca_keys.specs.Memory.{ByteMap}
-use Rattle.ca_laws_sound.proofs.SoundLemmas.{event-sound, opening-sound}
-use Rattle.ca_laws_steady.proofs.EventLemmas.{event-steady, opening-steady}
-use Rattle.ca_laws_steady.specs.Steady.{IsSteadyWorld}
+use Rattle.ca_agree_posts.proofs.of_ca_laws_sound.SoundLemmas.{event-sound, opening-sound}
+use Rattle.ca_agree_posts.proofs.of_ca_laws_steady.EventLemmas.{event-steady, opening-steady}
+use Rattle.ca_agree_posts.specs.ca_laws_steady.Steady.{IsSteadyWorld}
 use Rattle.ca_model.specs.Entries.{EntryValue}
 use Rattle.ca_model.specs.Past.{Past, after_entry, after_marks, at_begin, at_end, each_entry, each_mark, opening_past}
 use Rattle.ca_model.specs.declared.answer.Refusal.TheVariants.{NoSuch}

@@ -1,10 +1,10 @@
 -- Turns and packets complete sends in order, and keep the agreement on those that completed. For proofs only.
 use Rattle.std.proofs.Common.{◌≡◌, ℕ, suc, ◌<◌, ◌&&◌, Bool, true, false, if◌then◌else◌, List, [], ◌∷◌, ◌++◌, Option, None, Some, refl, sym, ap, subst, ◌∙◌, arith, rules}
 use Rattle.std.specs.Option.{option_map, option_map_or}
-use Rattle.ca_agree.proofs.LeadsLemmas.{AreAside, IsAsideName, leads-around, leads-queue, leads-row, leads-unless}
-use Rattle.ca_agree.proofs.PathLemmas.{puts-append}
-use Rattle.ca_agree.specs.Runs.{Leads}
-use Rattle.ca_agree_keys.proofs.KeyTurnLemmas.{found}
+use Rattle.ca_agree_posts.proofs.of_ca_agree.LeadsLemmas.{AreAside, IsAsideName, leads-around, leads-queue, leads-row, leads-unless}
+use Rattle.ca_agree_posts.proofs.of_ca_agree.PathLemmas.{puts-append}
+use Rattle.ca_agree_posts.specs.ca_agree.Runs.{Leads}
+use Rattle.ca_agree_posts.proofs.of_ca_agree_keys.KeyTurnLemmas.{found}
 use Rattle.ca_agree_posts.proofs.PlaceLemmas.{IsPerformed, IsPostedAt, item-posted, performs}
 use Rattle.ca_agree_posts.proofs.PostTurnLemmas.{AreDrawn, IsDrawn, IsPosted, any-such, leads-perform}
 use Rattle.ca_agree_posts.specs.Posts.{AgreeInSlot, AgreeOnSends, life}
@@ -30,8 +30,8 @@ use Rattle.ca_keys.specs.Memory.{memory_after}
 use Rattle.ca_keys.specs.declared.grant.Grant.{Grant}
 use Rattle.ca_keys.specs.declared.key.Key.{Key}
 use Rattle.ca_keys.specs.declared.names.QueueId.{QueueId}
-use Rattle.ca_laws_sound.proofs.WorldLemmas.{IsThere, RowDoes, around_in, shared_of}
-use Rattle.ca_laws_steady.proofs.TurnLemmas.{there-kept}
+use Rattle.ca_agree_posts.proofs.of_ca_laws_sound.WorldLemmas.{IsThere, RowDoes, around_in, shared_of}
+use Rattle.ca_agree_posts.proofs.of_ca_laws_steady.TurnLemmas.{there-kept}
 use Rattle.ca_model.specs.Past.{Past, Posted, after_marks, at_begin, each_mark, present_incarnation, with_at}
 use Rattle.ca_model.specs.declared.event.Event.{Event}
 use Rattle.ca_model.specs.declared.event.Event.TheVariants as events

@@ -1,13 +1,13 @@
 ghost use Rattle.std.specs.List.{AllByRecursion};
 ghost use Rattle.std.specs.Prelude.{List};
-ghost use Rattle.ca_agree.specs.Agreement.{HoldsAlong};
-ghost use Rattle.ca_agree.specs.Runs.{Comes};
+ghost use Rattle.ca_agree_posts.specs.ca_agree.Agreement.{HoldsAlong};
+ghost use Rattle.ca_agree_posts.specs.ca_agree.Runs.{Comes};
 ghost use Rattle.ca_agree_posts.specs.Posts.{PostsAgree};
 ghost use Rattle.ca_agree_sends.specs.Completed.{CompletedAgree};
 ghost use Rattle.ca_agree_sends.specs.InOrder.{DoCompleteInOrder};
 ghost use Rattle.ca_base.specs.Configuration.{Configuration};
 ghost use Rattle.ca_keys.specs.Memory.{ByteMap};
-ghost use Rattle.ca_laws_steady.specs.Steady.{IsSteadyWorld};
+ghost use Rattle.ca_agree_posts.specs.ca_laws_steady.Steady.{IsSteadyWorld};
 ghost use Rattle.ca_model.specs.Entries.{EntryValue};
 ghost use Rattle.ca_model.specs.Past.{Past, after_marks, at_begin, at_end, opening_past};
 ghost use Rattle.ca_model.specs.declared.event.Event.{Event};

@@ -11,7 +11,7 @@ use Rattle.ca_agree_starts.specs.Starts.{psns_before}
 use Rattle.ca_base.specs.declared.request.PostedSend.{PostedSend}
 use Rattle.ca_base.specs.objects.QueuePair.{QueuePair}
 use Rattle.ca_base.specs.objects.WorkQueue.{WorkQueue, item_at, items_from}
-use Rattle.ca_laws_sound.proofs.NumberingLemmas.{count_sum}
+use Rattle.ca_agree_posts.proofs.of_ca_laws_sound.NumberingLemmas.{count_sum}
 use Rattle.ca_model.specs.Past.{Posted}
 use Rattle.ca_model.specs.Requests.{psns_of}
 use Rattle.ca_model.specs.machine.Acknowledgements.{finished_requests}

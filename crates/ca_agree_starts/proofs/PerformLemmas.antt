@@ -1,7 +1,7 @@
 -- The plans of local operations lead where their effects do, which are those of an operation. For proofs only.
 use Rattle.std.proofs.Common.{Bool, List, None, Option, Some, [], false, if◌then◌else◌, refl, suc, true, ◌++◌, ◌==◌, ◌∷◌, ◌≡◌}
-use Rattle.ca_agree.proofs.LeadsLemmas.{AreAside, leads-row, unless-aside}
-use Rattle.ca_agree.specs.Runs.{Leads}
+use Rattle.ca_agree_posts.proofs.of_ca_agree.LeadsLemmas.{AreAside, leads-row, unless-aside}
+use Rattle.ca_agree_posts.specs.ca_agree.Runs.{Leads}
 use Rattle.ca_base.specs.Configuration.{Configuration}
 use Rattle.ca_base.specs.Sight.{Invalidation}
 use Rattle.ca_base.specs.declared.refusals.OpRefusal.{OpRefusal}

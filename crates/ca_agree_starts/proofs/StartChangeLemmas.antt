@@ -1,12 +1,12 @@
 -- Queue pairs that are made, changed and destroyed keep the agreement on PSNs. For proofs only.
 use Rattle.std.proofs.Common.{Bool, List, None, Option, Some, [], ap, arith, false, if◌then◌else◌, is_none, nat_lt, not, option_map, refl, subst, subst₂, suc, sym, true, true≢false, ℕ, ◌&&◌, ◌-◌, ◌∙◌, ◌∷◌, ◌≡◌}
 use Rattle.std.specs.Option.{option_and_then}
-use Rattle.ca_agree.proofs.InnerLemmas.{flush-inner}
-use Rattle.ca_agree.proofs.LeadsLemmas.{leads-around, leads-unless}
-use Rattle.ca_agree.proofs.PathChangeLemmas.{Behind, at-place}
-use Rattle.ca_agree.proofs.PathVerbLemmas.{agrees-present, call_of}
-use Rattle.ca_agree.specs.Runs.{Leads}
-use Rattle.ca_agree_keys.proofs.KeyVerbLemmas.{leads-unless-all}
+use Rattle.ca_agree_posts.proofs.of_ca_agree.InnerLemmas.{flush-inner}
+use Rattle.ca_agree_posts.proofs.of_ca_agree.LeadsLemmas.{leads-around, leads-unless}
+use Rattle.ca_agree_posts.proofs.of_ca_agree.PathChangeLemmas.{Behind, at-place}
+use Rattle.ca_agree_posts.proofs.of_ca_agree.PathVerbLemmas.{agrees-present, call_of}
+use Rattle.ca_agree_posts.specs.ca_agree.Runs.{Leads}
+use Rattle.ca_agree_posts.proofs.of_ca_agree_keys.KeyVerbLemmas.{leads-unless-all}
 use Rattle.ca_agree_posts.proofs.PostLemmas.{AreNoAnswers}
 use Rattle.ca_agree_posts.proofs.PostTurnLemmas.{life-refl, other-life}
 use Rattle.ca_agree_posts.specs.Posts.{PostsAgree, life}
@@ -27,8 +27,8 @@ use Rattle.ca_keys.specs.Numbers.{queue_of}
 use Rattle.ca_keys.specs.Refusals.{AllFail}
 use Rattle.ca_keys.specs.declared.names.QueueId.{QueueId}
 use Rattle.ca_keys.specs.declared.names.Slot.{Slot}
-use Rattle.ca_laws_sound.proofs.SettledLemmas.{queue-path}
-use Rattle.ca_laws_sound.proofs.WorldLemmas.{around_in, shared_of}
+use Rattle.ca_agree_posts.proofs.of_ca_laws_sound.SettledLemmas.{queue-path}
+use Rattle.ca_agree_posts.proofs.of_ca_laws_sound.WorldLemmas.{around_in, shared_of}
 use Rattle.ca_model.specs.Past.{Past, Start, present_incarnation, start_of, with_at}
 use Rattle.ca_model.specs.declared.answer.Refusal.{Refusal}
 use Rattle.ca_model.specs.declared.answer.Refusal.TheVariants.{CqTooSmall, NoDomain, NoSuch, OutOfRange, SlotTaken, WindowsBound}

@@ -1,11 +1,11 @@
 -- Every event keeps the agreement on PSNs. For proofs only.
 use Rattle.std.proofs.Common.{List, Ok, [], map, rules, subst, suc, true, ℕ, ◌∷◌, ◌≡◌}
 use Rattle.std.specs.List.{AllByRecursion}
-use Rattle.ca_agree.proofs.EventFitLemmas.{first-marks}
-use Rattle.ca_agree.proofs.LeadsLemmas.{comes}
-use Rattle.ca_agree.proofs.PathVerbLemmas.{call_of}
-use Rattle.ca_agree.specs.Agreement.{HoldsAlong}
-use Rattle.ca_agree.specs.Runs.{Comes, Leads}
+use Rattle.ca_agree_posts.proofs.of_ca_agree.EventFitLemmas.{first-marks}
+use Rattle.ca_agree_posts.proofs.of_ca_agree.LeadsLemmas.{comes}
+use Rattle.ca_agree_posts.proofs.of_ca_agree.PathVerbLemmas.{call_of}
+use Rattle.ca_agree_posts.specs.ca_agree.Agreement.{HoldsAlong}
+use Rattle.ca_agree_posts.specs.ca_agree.Runs.{Comes, Leads}
 use Rattle.ca_agree_posts.proofs.PostEventLemmas.{event-posts-agree, opening-posts-agree}
 use Rattle.ca_agree_posts.specs.Posts.{PostsAgree}
 use Rattle.ca_agree_starts.proofs.StartChangeLemmas.{starts-create, starts-destroy, starts-modify}
@@ -14,9 +14,9 @@ use Rattle.ca_agree_starts.proofs.StartVerbLemmas.{AgreesBy, starts-dealloc_mw, 
 use Rattle.ca_agree_starts.specs.Starts.{StartsAgree}
 use Rattle.ca_base.specs.Configuration.{Configuration}
 use Rattle.ca_keys.specs.Memory.{ByteMap}
-use Rattle.ca_laws_sound.proofs.SoundLemmas.{event-sound, opening-sound}
-use Rattle.ca_laws_steady.proofs.EventLemmas.{event-steady, opening-steady}
-use Rattle.ca_laws_steady.specs.Steady.{IsSteadyWorld}
+use Rattle.ca_agree_posts.proofs.of_ca_laws_sound.SoundLemmas.{event-sound, opening-sound}
+use Rattle.ca_agree_posts.proofs.of_ca_laws_steady.EventLemmas.{event-steady, opening-steady}
+use Rattle.ca_agree_posts.specs.ca_laws_steady.Steady.{IsSteadyWorld}
 use Rattle.ca_model.specs.Entries.{EntryValue}
 use Rattle.ca_model.specs.Past.{Past, after_entry, after_marks, at_begin, at_end, opening_past}
 use Rattle.ca_model.specs.declared.answer.Refusal.TheVariants.{NoSuch}

@@ -1,13 +1,13 @@
 -- Turns and packets keep the agreement on PSNs. For proofs only.
 use Rattle.std.proofs.Common.{Bool, List, None, Option, Some, [], ap, false, if◌then◌else◌, option_map, refl, rules, subst, subst₂, sym, true, ℕ, ◌&&◌, ◌++◌, ◌+◌, ◌∙◌, ◌∷◌, ◌≡◌, ◌≤◌}
 use Rattle.std.specs.Option.{option_map_or}
-use Rattle.ca_agree.proofs.InnerLemmas.{AreOwn, IsInner, IsOwnMark, arrival-inner, packet-inner, respond-inner, timeout-inner}
-use Rattle.ca_agree.proofs.LeadsLemmas.{AreAside, IsAsideName, leads-around, leads-queue, leads-row, leads-unless}
-use Rattle.ca_agree.proofs.PathChangeLemmas.{Behind}
-use Rattle.ca_agree.proofs.PathLemmas.{puts-append}
-use Rattle.ca_agree.proofs.PathVerbLemmas.{call_of}
-use Rattle.ca_agree.specs.Runs.{Leads}
-use Rattle.ca_agree_keys.proofs.KeyTurnLemmas.{found}
+use Rattle.ca_agree_posts.proofs.of_ca_agree.InnerLemmas.{AreOwn, IsInner, IsOwnMark, arrival-inner, packet-inner, respond-inner, timeout-inner}
+use Rattle.ca_agree_posts.proofs.of_ca_agree.LeadsLemmas.{AreAside, IsAsideName, leads-around, leads-queue, leads-row, leads-unless}
+use Rattle.ca_agree_posts.proofs.of_ca_agree.PathChangeLemmas.{Behind}
+use Rattle.ca_agree_posts.proofs.of_ca_agree.PathLemmas.{puts-append}
+use Rattle.ca_agree_posts.proofs.of_ca_agree.PathVerbLemmas.{call_of}
+use Rattle.ca_agree_posts.specs.ca_agree.Runs.{Leads}
+use Rattle.ca_agree_posts.proofs.of_ca_agree_keys.KeyTurnLemmas.{found}
 use Rattle.ca_agree_posts.proofs.GoingLemmas.{failure-goes}
 use Rattle.ca_agree_posts.proofs.PlaceLemmas.{IsPerformed, performs}
 use Rattle.ca_agree_posts.proofs.PostLemmas.{AreNoAnswers, IsNoAnswer, answers-append, keyless-no}
@@ -33,10 +33,10 @@ use Rattle.ca_keys.specs.Memory.{memory_after}
 use Rattle.ca_keys.specs.declared.grant.Grant.{Grant}
 use Rattle.ca_keys.specs.declared.key.Key.{Key}
 use Rattle.ca_keys.specs.declared.names.QueueId.{QueueId}
-use Rattle.ca_laws_sound.proofs.SettledLemmas.{queue-path}
-use Rattle.ca_laws_sound.proofs.WorldLemmas.{EndingDoes, IsThere, RowDoes, around_in, shared_of}
-use Rattle.ca_laws_steady.proofs.TurnLemmas.{there-kept}
-use Rattle.ca_laws_steady.specs.Steady.{IsSteadyWorld}
+use Rattle.ca_agree_posts.proofs.of_ca_laws_sound.SettledLemmas.{queue-path}
+use Rattle.ca_agree_posts.proofs.of_ca_laws_sound.WorldLemmas.{EndingDoes, IsThere, RowDoes, around_in, shared_of}
+use Rattle.ca_agree_posts.proofs.of_ca_laws_steady.TurnLemmas.{there-kept}
+use Rattle.ca_agree_posts.specs.ca_laws_steady.Steady.{IsSteadyWorld}
 use Rattle.ca_model.specs.Past.{Past, Posted, Start, after_mark, after_marks, at_begin, present_incarnation, start_of, whole_start, with_at}
 use Rattle.ca_model.specs.declared.answer.Refusal.TheVariants.{NoSuch}
 use Rattle.ca_model.specs.declared.event.Event.{Event}

@@ -1,12 +1,12 @@
 -- Verbs keep the agreement on PSNs. For proofs only.
 use Rattle.std.proofs.Common.{Bool, List, None, Option, Some, [], ap, arith, false, if◌then◌else◌, length, nat_lt, option_map, refl, subst, sym, take, true, true≢false, ℕ, ◌++◌, ◌+◌, ◌-◌, ◌==◌, ◌||◌, ◌∙◌, ◌∷◌, ◌≡◌, ◌≤◌}
 use Rattle.std.proofs.lemmas.Bool.{not-false}
-use Rattle.ca_agree.proofs.InnerLemmas.{flush-inner}
-use Rattle.ca_agree.proofs.LeadsLemmas.{leads-unless}
-use Rattle.ca_agree.proofs.PathChangeLemmas.{Behind}
-use Rattle.ca_agree.proofs.PathVerbLemmas.{agrees-present, call_of}
-use Rattle.ca_agree.specs.Runs.{Leads}
-use Rattle.ca_agree_keys.proofs.KeyVerbLemmas.{leads-unless-all}
+use Rattle.ca_agree_posts.proofs.of_ca_agree.InnerLemmas.{flush-inner}
+use Rattle.ca_agree_posts.proofs.of_ca_agree.LeadsLemmas.{leads-unless}
+use Rattle.ca_agree_posts.proofs.of_ca_agree.PathChangeLemmas.{Behind}
+use Rattle.ca_agree_posts.proofs.of_ca_agree.PathVerbLemmas.{agrees-present, call_of}
+use Rattle.ca_agree_posts.specs.ca_agree.Runs.{Leads}
+use Rattle.ca_agree_posts.proofs.of_ca_agree_keys.KeyVerbLemmas.{leads-unless-all}
 use Rattle.ca_agree_posts.proofs.PlaceLemmas.{sending-well}
 use Rattle.ca_agree_posts.proofs.PostLemmas.{AreNoAnswers}
 use Rattle.ca_agree_posts.proofs.PostTurnLemmas.{life-refl, other-life}
@@ -32,8 +32,8 @@ use Rattle.ca_keys.specs.Equal.{queue_eq}
 use Rattle.ca_keys.specs.Numbers.{key_at, queue_of, window_index}
 use Rattle.ca_keys.specs.declared.names.QueueId.{QueueId}
 use Rattle.ca_keys.specs.declared.names.Slot.{Slot}
-use Rattle.ca_laws_sound.proofs.SettledLemmas.{queue-path}
-use Rattle.ca_laws_sound.proofs.VerbLemmas.{polled}
+use Rattle.ca_agree_posts.proofs.of_ca_laws_sound.SettledLemmas.{queue-path}
+use Rattle.ca_agree_posts.proofs.of_ca_laws_sound.VerbLemmas.{polled}
 use Rattle.ca_model.specs.Past.{Past, Posted, Start, after_marks, drawn_at, present_incarnation, start_of, whole_start, with_at}
 use Rattle.ca_model.specs.declared.answer.Answer.{Answer}
 use Rattle.ca_model.specs.declared.answer.Refusal.TheVariants.{NoSuch, OutOfRange}

@@ -1,16 +1,16 @@
 -- Every event keeps the agreement on ways, and so does every history that follows the machine. For proofs only.
 use Rattle.std.proofs.Common.{◌≡◌, ℕ, suc, true, List, [], ◌∷◌, map, Ok, refl, sym, ap, subst, rules, true≢false, is_some}
 use Rattle.std.specs.List.{AllByRecursion}
-use Rattle.ca_agree.proofs.EventFitLemmas.{first-marks}
-use Rattle.ca_agree.proofs.LeadsLemmas.{comes}
-use Rattle.ca_agree.proofs.PathVerbLemmas.{call_of}
-use Rattle.ca_agree.specs.Agreement.{HoldsAlong}
-use Rattle.ca_agree.specs.Runs.{Comes, Leads}
+use Rattle.ca_agree_posts.proofs.of_ca_agree.EventFitLemmas.{first-marks}
+use Rattle.ca_agree_posts.proofs.of_ca_agree.LeadsLemmas.{comes}
+use Rattle.ca_agree_posts.proofs.of_ca_agree.PathVerbLemmas.{call_of}
+use Rattle.ca_agree_posts.specs.ca_agree.Agreement.{HoldsAlong}
+use Rattle.ca_agree_posts.specs.ca_agree.Runs.{Comes, Leads}
 use Rattle.ca_base.specs.Configuration.{Configuration}
 use Rattle.ca_keys.specs.Memory.{ByteMap}
-use Rattle.ca_laws_sound.proofs.SoundLemmas.{event-sound, opening-sound}
-use Rattle.ca_laws_steady.proofs.EventLemmas.{event-steady, opening-steady}
-use Rattle.ca_laws_steady.specs.Steady.{IsSteadyWorld}
+use Rattle.ca_agree_posts.proofs.of_ca_laws_sound.SoundLemmas.{event-sound, opening-sound}
+use Rattle.ca_agree_posts.proofs.of_ca_laws_steady.EventLemmas.{event-steady, opening-steady}
+use Rattle.ca_agree_posts.specs.ca_laws_steady.Steady.{IsSteadyWorld}
 use Rattle.ca_model.specs.Entries.{EntryValue}
 use Rattle.ca_model.specs.Past.{Past, after_entry, after_marks, at_begin, at_end, opening_past}
 use Rattle.ca_model.specs.declared.answer.Refusal.TheVariants.{NoSuch}
@@ -25,7 +25,7 @@ use Rattle.ca_model.specs.machine.Sound.{AreLimited, CanBeMade, IsSoundWorld}
 use Rattle.ca_model.specs.machine.Step.{is_named, plan, step, verb_plan}
 use Rattle.ca_model.specs.machine.VerbAnswers.{Refuse_plan}
 use Rattle.ca_model.specs.machine.World.{World, opening_world}
-use Rattle.ca_agree_keys.proofs.ChangeLemmas.{region-small, window-small}
+use Rattle.ca_agree_posts.proofs.of_ca_agree_keys.ChangeLemmas.{region-small, window-small}
 use Rattle.ca_agree_posts.proofs.PostEventLemmas.{event-posts-agree, opening-posts-agree}
 use Rattle.ca_agree_posts.specs.Posts.{PostsAgree}
 use Rattle.ca_agree_ways.proofs.WayLemmas.{Agrees}
@@ -33,10 +33,10 @@ use Rattle.ca_agree_ways.proofs.WayQueueLemmas.{ways-create, ways-destroy, ways-
 use Rattle.ca_agree_ways.proofs.WayTurnLemmas.{ways-deliver, ways-inject, ways-request, ways-respond, ways-timeout, ways-wake}
 use Rattle.ca_agree_ways.proofs.WayVerbLemmas.{AgreesBy, IsFollowed, ways-alloc_mr, ways-alloc_mw, ways-dealloc_mw, ways-dereg_mr, ways-post_recv, ways-post_send, ways-reg_mr}
 use Rattle.ca_agree_ways.specs.Ways.{WaysAgree}
-use Rattle.ca_laws_names.proofs.PlacedLemmas.{event-placed, opening-placed}
-use Rattle.ca_laws_names.specs.Placed.{IsPlacedWorld}
-use Rattle.ca_laws_windows.proofs.WindowEventLemmas.{event-bound, opening-bound}
-use Rattle.ca_laws_windows.specs.Bindings.{IsBoundWorld}
+use Rattle.ca_agree_posts.proofs.of_ca_laws_names.PlacedLemmas.{event-placed, opening-placed}
+use Rattle.ca_agree_posts.specs.ca_laws_names.Placed.{IsPlacedWorld}
+use Rattle.ca_agree_posts.proofs.of_ca_laws_windows.WindowEventLemmas.{event-bound, opening-bound}
+use Rattle.ca_agree_posts.specs.ca_laws_windows.Bindings.{IsBoundWorld}
 use Rattle.ca_base.specs.objects.Slices.{has_slot}
 use Rattle.ca_model.specs.machine.Step.{bytes_of_buffer, has_buffer, run_of}
 use Rattle.std.proofs.lemmas.Bool.{and_parts}

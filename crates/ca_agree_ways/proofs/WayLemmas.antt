@@ -2,12 +2,12 @@
 -- grants, or end them. For proofs only.
 use Rattle.std.proofs.Common.{◌≡◌, ℕ, ◌<◌, Bool, true, false, if◌then◌else◌, List, [], ◌∷◌, ◌++◌, Option, None, Some, is_some, refl, sym, ap, ap₂, subst, ◌∙◌, true≢false}
 use Rattle.std.specs.Option.{option_map_or}
-use Rattle.ca_agree_keys.proofs.SlotLemmas.{region-kind, region-slots, window-kind, window-slots}
-use Rattle.ca_agree_keys.specs.InForce.{is_window_slot, slot_at}
+use Rattle.ca_agree_posts.proofs.of_ca_agree_keys.SlotLemmas.{region-kind, region-slots, window-kind, window-slots}
+use Rattle.ca_agree_posts.specs.ca_agree_keys.InForce.{is_window_slot, slot_at}
 use Rattle.ca_agree_posts.proofs.GoingLemmas.{AreKeyless, EndKey, IsKeyless, TellOf}
 use Rattle.ca_agree_posts.proofs.PostLemmas.{IsNoRequest}
-use Rattle.ca_agree_keys.proofs.CalmLemmas.{AreCalm, IsCalmMark}
-use Rattle.ca_agree_keys.proofs.FrameLemmas.{AreLoose, IsLooseName}
+use Rattle.ca_agree_posts.proofs.of_ca_agree_keys.CalmLemmas.{AreCalm, IsCalmMark}
+use Rattle.ca_agree_posts.proofs.of_ca_agree_keys.FrameLemmas.{AreLoose, IsLooseName}
 use Rattle.ca_agree_ways.specs.Ways.{AgreeOnWays, WaysAgree}
 use Rattle.ca_base.specs.Configuration.{Configuration}
 use Rattle.ca_base.specs.Sight.{Invalidation}
@@ -25,8 +25,8 @@ use Rattle.ca_keys.specs.declared.grant.Grant.{Grant}
 use Rattle.ca_keys.specs.declared.key.Key.{Key}
 use Rattle.ca_keys.specs.declared.names.QueueId.{QueueId}
 use Rattle.ca_keys.specs.declared.names.Slot.{Slot}
-use Rattle.ca_laws_sound.proofs.SettledLemmas.{slot-path, slot-refl}
-use Rattle.ca_laws_windows.specs.Bindings.{is_bound_in}
+use Rattle.ca_agree_posts.proofs.of_ca_laws_sound.SettledLemmas.{slot-path, slot-refl}
+use Rattle.ca_agree_posts.specs.ca_laws_windows.Bindings.{is_bound_in}
 use Rattle.ca_model.specs.Past.{FastRegistration, BindTo, KeySlot, Past, Way, after_mark, after_marks, at_begin, at_end, key_slot_eq, low_at_end, operation_performed, region_key_slot, slot_beside, window_key_slot, with_at}
 use Rattle.ca_model.specs.declared.answer.Answer.{Answer}
 use Rattle.ca_model.specs.declared.answer.Answer.TheVariants as answers

@@ -1,8 +1,8 @@
 -- Verbs on queue pairs, and polls, keep the agreement on ways. For proofs only.
 use Rattle.std.proofs.Common.{ℕ, suc, ◌-◌, ◌&&◌, ◌||◌, ◌==◌, not, nat_lt, is_none, Bool, List, [], ◌∷◌, take, length, Option, None, Some, refl}
 use Rattle.std.specs.Option.{option_map, option_and_then}
-use Rattle.ca_agree.specs.Runs.{Leads}
-use Rattle.ca_agree.proofs.LeadsLemmas.{leads-around, leads-unless}
+use Rattle.ca_agree_posts.specs.ca_agree.Runs.{Leads}
+use Rattle.ca_agree_posts.proofs.of_ca_agree.LeadsLemmas.{leads-around, leads-unless}
 use Rattle.ca_base.specs.Configuration.{Configuration}
 use Rattle.ca_base.specs.declared.change.Field.TheVariants as fields
 use Rattle.ca_base.specs.declared.completion.Completion.{Completion}
@@ -27,17 +27,17 @@ use Rattle.ca_model.specs.machine.Plan.{Plan, If, Look, Stuck, Update, ◌:=◌,
 use Rattle.ca_model.specs.machine.QueuePairVerbs.{Creation, With_shared, before_receives, beside, create_qp_plan, destroy_qp_plan, emptied_mailbox, has_bad_depth, has_no_room, has_queues, left_updates, new_queue, places_held, receive_reserve, receive_room, send_reserved, user_updates, without_queue, emptied_updates, modify_qp_plan}
 use Rattle.ca_model.specs.machine.VerbAnswers.{Answer_plan, Call, Refuse_plan, Unless_plan, answer_mark, of_change_refusals}
 use Rattle.ca_model.specs.machine.World.{Cq_of, Domain_of, Mailbox_of, Queue_of, Srq_of, World}
-use Rattle.ca_laws_sound.proofs.WorldLemmas.{around_in, shared_of}
+use Rattle.ca_agree_posts.proofs.of_ca_laws_sound.WorldLemmas.{around_in, shared_of}
 use Rattle.ca_base.specs.declared.change.Change as state_change
 use Rattle.ca_base.specs.declared.change.Change.TheVariants as changes
 use Rattle.ca_base.specs.objects.StateTable.{modify_refusals, queue_after_change}
 use Rattle.ca_model.specs.declared.answer.Refusal.{Refusal}
 use Rattle.ca_model.specs.machine.Completions.{flush_marks}
-use Rattle.ca_agree.proofs.PathChangeLemmas.{Behind}
-use Rattle.ca_agree.proofs.PathVerbLemmas.{agrees-present, call_of}
-use Rattle.ca_agree_keys.proofs.CalmLemmas.{marks-calm}
-use Rattle.ca_agree_keys.proofs.PlainLemmas.{flush-plain}
-use Rattle.ca_agree_keys.proofs.FrameLemmas.{AreLoose, IsLooseName}
+use Rattle.ca_agree_posts.proofs.of_ca_agree.PathChangeLemmas.{Behind}
+use Rattle.ca_agree_posts.proofs.of_ca_agree.PathVerbLemmas.{agrees-present, call_of}
+use Rattle.ca_agree_posts.proofs.of_ca_agree_keys.CalmLemmas.{marks-calm}
+use Rattle.ca_agree_posts.proofs.of_ca_agree_keys.PlainLemmas.{flush-plain}
+use Rattle.ca_agree_posts.proofs.of_ca_agree_keys.FrameLemmas.{AreLoose, IsLooseName}
 use Rattle.ca_agree_ways.proofs.WayVerbLemmas.{AgreesBy, IsFollowed, agree-calm}
 
 srq-loose : (q : QueuePair) (a : Around) (f : SharedReceives → SharedReceives) → AreLoose (srq_updates q a f)

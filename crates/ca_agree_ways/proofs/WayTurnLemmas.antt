@@ -1,9 +1,9 @@
 -- Turns and packets keep the agreement on ways. For proofs only.
 use Rattle.std.proofs.Common.{◌≡◌, ℕ, ◌<◌, ◌==◌, ◌&&◌, Bool, true, false, if◌then◌else◌, List, [], ◌∷◌, ◌++◌, length, Option, None, Some, is_some, refl, sym, ap, ap₂, subst, ◌∙◌, rules, true≢false}
 use Rattle.std.specs.Option.{option_map, option_map_or}
-use Rattle.ca_agree.proofs.LeadsLemmas.{leads-around, leads-queue, leads-unless}
-use Rattle.ca_agree.specs.Runs.{Leads}
-use Rattle.ca_agree_keys.proofs.KeyTurnLemmas.{found}
+use Rattle.ca_agree_posts.proofs.of_ca_agree.LeadsLemmas.{leads-around, leads-queue, leads-unless}
+use Rattle.ca_agree_posts.specs.ca_agree.Runs.{Leads}
+use Rattle.ca_agree_posts.proofs.of_ca_agree_keys.KeyTurnLemmas.{found}
 use Rattle.ca_base.specs.Configuration.{Configuration}
 use Rattle.ca_base.specs.Sight.{Invalidation}
 use Rattle.ca_base.specs.declared.completion.WcStatus.TheVariants.{MemoryManagement}
@@ -23,9 +23,9 @@ use Rattle.ca_keys.specs.declared.grant.Grant.{Grant}
 use Rattle.ca_keys.specs.declared.key.Key.{Key}
 use Rattle.ca_keys.specs.declared.names.QueueId.{QueueId}
 use Rattle.ca_keys.specs.declared.names.Slot.{Slot}
-use Rattle.ca_laws_sound.proofs.WorldLemmas.{IsThere, RowDoes, around_in, shared_of}
-use Rattle.ca_laws_steady.proofs.TurnLemmas.{there-kept}
-use Rattle.ca_laws_steady.specs.Steady.{IsSteadyWorld}
+use Rattle.ca_agree_posts.proofs.of_ca_laws_sound.WorldLemmas.{IsThere, RowDoes, around_in, shared_of}
+use Rattle.ca_agree_posts.proofs.of_ca_laws_steady.TurnLemmas.{there-kept}
+use Rattle.ca_agree_posts.specs.ca_laws_steady.Steady.{IsSteadyWorld}
 use Rattle.ca_model.specs.Past.{Past, Posted, after_marks, at_begin, next_operation, operation_performed, with_at}
 use Rattle.ca_model.specs.Requests.{is_local}
 use Rattle.ca_model.specs.declared.event.Event.{Event}
@@ -47,12 +47,12 @@ use Rattle.ca_model.specs.machine.Sound.{IsQueueOf}
 use Rattle.ca_model.specs.machine.Timers.{after_timeout, after_wake, timeout_refusals, wake_refusals}
 use Rattle.ca_model.specs.machine.Turns.{Fire, Leave_plan, Packet, Request_around, Respond_around, Timeout_around, With_receives, has_room_for, packet_sent, reaches_peer, request_plan, respond_plan, sent_marks, sent_updates, timeout_plan, wake_plan}
 use Rattle.ca_model.specs.machine.World.{Mailbox_of, Queue_of, Window_of, World}
-use Rattle.ca_agree.proofs.PathChangeLemmas.{Behind}
-use Rattle.ca_agree.proofs.PathVerbLemmas.{call_of}
-use Rattle.ca_agree_keys.proofs.ChangeLemmas.{none-granted, region-small, window-small}
-use Rattle.ca_agree_keys.proofs.FrameLemmas.{AreLoose, turn-loose}
-use Rattle.ca_agree_keys.proofs.KeyOperationLemmas.{free-none}
-use Rattle.ca_agree_keys.proofs.SlotLemmas.{at-region, at-window}
+use Rattle.ca_agree_posts.proofs.of_ca_agree.PathChangeLemmas.{Behind}
+use Rattle.ca_agree_posts.proofs.of_ca_agree.PathVerbLemmas.{call_of}
+use Rattle.ca_agree_posts.proofs.of_ca_agree_keys.ChangeLemmas.{none-granted, region-small, window-small}
+use Rattle.ca_agree_posts.proofs.of_ca_agree_keys.FrameLemmas.{AreLoose, turn-loose}
+use Rattle.ca_agree_posts.proofs.of_ca_agree_keys.KeyOperationLemmas.{free-none}
+use Rattle.ca_agree_posts.proofs.of_ca_agree_keys.SlotLemmas.{at-region, at-window}
 use Rattle.ca_agree_posts.proofs.GoingLemmas.{Goes, arrival-goes, failure-goes, respond-goes, timeout-goes}
 use Rattle.ca_agree_posts.proofs.OperationLemmas.{done_by, former_of, leads-done, named_if, named_in}
 use Rattle.ca_agree_posts.proofs.PlaceLemmas.{IsPerformed, performs}
@@ -71,7 +71,7 @@ use Rattle.ca_model.specs.machine.VerbAnswers.{Call, Refuse_plan, answer_mark}
 use Rattle.std.proofs.lemmas.Bool.{eqb-true}
 use Rattle.std.proofs.lemmas.Option.{same_Some}
 use Rattle.std.proofs.Common.{subst₂}
-use Rattle.ca_agree_keys.proofs.FrameLemmas.{SameKeys, loose-before}
+use Rattle.ca_agree_posts.proofs.of_ca_agree_keys.FrameLemmas.{SameKeys, loose-before}
 use Rattle.ca_agree_posts.proofs.FailureLemmas.{IsSentPacket, packet-sent}
 use Rattle.ca_agree_posts.proofs.PostTurnLemmas.{Performing}
 use Rattle.ca_base.specs.Grants.{grant_of_bind, grant_of_fast_registration}
@@ -83,10 +83,10 @@ use Rattle.ca_keys.specs.Equal.{slot_eq}
 use Rattle.ca_keys.specs.Numbers.{low_of}
 use Rattle.ca_keys.specs.Refusals.{AllFail}
 use Rattle.ca_keys.specs.declared.rights.Rights.{Rights}
-use Rattle.ca_laws_names.proofs.PlacedOperationLemmas.{IsNamedTurn, turn-named}
-use Rattle.ca_laws_names.proofs.PlacedTurnLemmas.{placed-here}
-use Rattle.ca_laws_sound.proofs.TurnLemmas.{all-fail}
-use Rattle.ca_laws_windows.proofs.WindowBindLemmas.{named-region}
+use Rattle.ca_agree_posts.proofs.of_ca_laws_names.PlacedOperationLemmas.{IsNamedTurn, turn-named}
+use Rattle.ca_agree_posts.proofs.of_ca_laws_names.PlacedTurnLemmas.{placed-here}
+use Rattle.ca_agree_posts.proofs.of_ca_laws_sound.TurnLemmas.{all-fail}
+use Rattle.ca_agree_posts.proofs.of_ca_laws_windows.WindowBindLemmas.{named-region}
 use Rattle.ca_model.specs.Past.{BindTo, FastRegistration, KeySlot, Registration, Way, key_slot_eq, key_slot_of, low_at_end, region_key_slot, slot_beside}
 use Rattle.ca_model.specs.declared.answer.Answer.{Answer}
 use Rattle.ca_model.specs.declared.verb.Verb.{Verb}

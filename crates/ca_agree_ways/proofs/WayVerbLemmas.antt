@@ -1,12 +1,12 @@
 -- Verbs on regions, on windows and of posting keep the agreement on ways. For proofs only.
 use Rattle.std.proofs.Common.{◌≡◌, ℕ, ◌<◌, ◌||◌, ◌==◌, not, nat_lt, arith, Bool, true, false, if◌then◌else◌, List, [], ◌∷◌, ◌++◌, ◌-◌, Option, None, Some, is_some, refl, sym, ap, subst, true≢false}
 use Rattle.std.specs.Option.{option_map, option_map_or}
-use Rattle.ca_agree.specs.Runs.{Leads}
-use Rattle.ca_agree.proofs.LeadsLemmas.{leads-unless}
-use Rattle.ca_agree.proofs.PathChangeLemmas.{Behind}
-use Rattle.ca_agree.proofs.PathVerbLemmas.{agrees-present, call_of}
-use Rattle.ca_agree_keys.proofs.CalmLemmas.{AreCalm, marks-calm}
-use Rattle.ca_agree_keys.proofs.PlainLemmas.{flush-plain}
+use Rattle.ca_agree_posts.specs.ca_agree.Runs.{Leads}
+use Rattle.ca_agree_posts.proofs.of_ca_agree.LeadsLemmas.{leads-unless}
+use Rattle.ca_agree_posts.proofs.of_ca_agree.PathChangeLemmas.{Behind}
+use Rattle.ca_agree_posts.proofs.of_ca_agree.PathVerbLemmas.{agrees-present, call_of}
+use Rattle.ca_agree_posts.proofs.of_ca_agree_keys.CalmLemmas.{AreCalm, marks-calm}
+use Rattle.ca_agree_posts.proofs.of_ca_agree_keys.PlainLemmas.{flush-plain}
 use Rattle.ca_base.specs.Configuration.{Configuration}
 use Rattle.ca_base.specs.Grants.{grant_of_registration, next_low, registration_refusals}
 use Rattle.ca_base.specs.declared.change.Field.TheVariants as fields
@@ -48,18 +48,18 @@ use Rattle.ca_model.specs.machine.Row.{region_under}
 use Rattle.ca_model.specs.machine.VerbAnswers.{Answer_plan, Call, Refuse_plan, Unless_plan, of_region_refusals}
 use Rattle.ca_model.specs.machine.WindowVerbs.{With_binder, alloc_mw_plan, dealloc_mw_plan, queue_updates}
 use Rattle.ca_model.specs.machine.World.{Cq_of, Domain_of, Queue_of, Region_of, Window_of, World}
-use Rattle.ca_agree_keys.proofs.ChangeLemmas.{none-granted}
-use Rattle.ca_agree_keys.proofs.FrameLemmas.{AreLoose}
-use Rattle.ca_agree_keys.proofs.KeyVerbLemmas.{leads-unless-all}
-use Rattle.ca_agree_keys.proofs.SlotLemmas.{at-region}
+use Rattle.ca_agree_posts.proofs.of_ca_agree_keys.ChangeLemmas.{none-granted}
+use Rattle.ca_agree_posts.proofs.of_ca_agree_keys.FrameLemmas.{AreLoose}
+use Rattle.ca_agree_posts.proofs.of_ca_agree_keys.KeyVerbLemmas.{leads-unless-all}
+use Rattle.ca_agree_posts.proofs.of_ca_agree_keys.SlotLemmas.{at-region}
 use Rattle.ca_agree_posts.proofs.PostLemmas.{IsNoRequest}
 use Rattle.ca_agree_posts.specs.Posts.{PostsAgree}
 use Rattle.ca_agree_ways.proofs.WayLemmas.{Agrees, AreGrantless, AreKept, agree-left, calm-grantless, kept-append, kept-puts, kept-writes, loose-kept, region-granted, same-world}
 use Rattle.ca_agree_ways.specs.Ways.{AgreeOnWays, WaysAgree}
 use Rattle.ca_keys.specs.Numbers.{low_of, region_index}
-use Rattle.ca_laws_names.specs.Placed.{IsPlacedWorld}
-use Rattle.ca_laws_steady.specs.Steady.{IsSteadyWorld}
-use Rattle.ca_laws_windows.specs.Bindings.{IsBoundWorld}
+use Rattle.ca_agree_posts.specs.ca_laws_names.Placed.{IsPlacedWorld}
+use Rattle.ca_agree_posts.specs.ca_laws_steady.Steady.{IsSteadyWorld}
+use Rattle.ca_agree_posts.specs.ca_laws_windows.Bindings.{IsBoundWorld}
 use Rattle.ca_model.specs.Past.{Registration, at_end, key_slot_eq, low_at_end, region_key_slot}
 use Rattle.ca_model.specs.machine.Sound.{AreLimited, IsSoundWorld}
 use Rattle.ca_model.specs.machine.Plan.{Write}

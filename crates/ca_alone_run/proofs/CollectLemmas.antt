@@ -12,7 +12,7 @@ use Rattle.ca_model.specs.machine.Plan.{Did, NotReady, Outcome}
 use Rattle.ca_model.specs.machine.Run.{Follows, Ran, go_on, run_from, run_over, with_marks}
 use Rattle.ca_model.specs.machine.Step.{step}
 use Rattle.ca_model.specs.machine.World.{World, opening_world}
-use Rattle.ca_replay.specs.Replays.{entries_from, history_of, marks_of_each}
+use Rattle.ca_script_run.specs.ca_replay.Replays.{entries_from, history_of, marks_of_each}
 
 -- ---- putting together
 

@@ -15,9 +15,9 @@ use Rattle.ca_model.specs.declared.event.Event.{Event}
 use Rattle.ca_model.specs.declared.mark.Mark.{Mark}
 use Rattle.ca_model.specs.machine.Run.{Follows, Ran, run_over}
 use Rattle.ca_model.specs.machine.Sound.{CanBeMade}
-use Rattle.ca_replay.specs.Replays.{IsReplay}
-use Rattle.ca_replay.specs.declared.events.ReplayError.{ReplayError}
-use Rattle.ca_replay.specs.declared.events.ReplayError.TheVariants as errors
+use Rattle.ca_script_run.specs.ca_replay.Replays.{IsReplay}
+use Rattle.ca_script_run.specs.ca_replay.declared.events.ReplayError.{ReplayError}
+use Rattle.ca_script_run.specs.ca_replay.declared.events.ReplayError.TheVariants as errors
 
 -- over zeros the lone run begins with zeros
 pub lone-zeros : (group : Group) (es : List EntryValue) → alone_bytes group zeros es ≡ zeros

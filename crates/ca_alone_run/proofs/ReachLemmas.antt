@@ -9,8 +9,8 @@ use Rattle.ca_base.specs.declared.limits.TheConstants.{MAX_BUFFER_BYTES}
 use Rattle.ca_keys.specs.Memory.{ByteMap}
 use Rattle.ca_keys.specs.declared.place.Run.{Run}
 use Rattle.ca_laws_sound.proofs.SoundLemmas.{event-sound, opening-sound}
-use Rattle.ca_laws_writes.proofs.BoundedEvents.{event-bounded}
-use Rattle.ca_laws_writes.specs.Bounds.{AreBounded, IsBounded, LiesInBuffer}
+use Rattle.ca_isolated.proofs.of_ca_laws_writes.BoundedEvents.{event-bounded}
+use Rattle.ca_isolated.specs.ca_laws_writes.Bounds.{AreBounded, IsBounded, LiesInBuffer}
 use Rattle.ca_lone.specs.Cover.{AreInReach, EndsInReach, GrantsInReach}
 use Rattle.ca_model.specs.Entries.{EntryValue}
 use Rattle.ca_model.specs.declared.mark.Mark.{Mark}

@@ -1,6 +1,6 @@
 ghost use Rattle.std.specs.Prelude.{◌≡◌, IfOk};
 ghost use Rattle.ca_model.specs.History.{IsHistory};
-ghost use Rattle.ca_replay.specs.Replays as replays;
+ghost use Rattle.ca_script_run.specs.ca_replay.Replays as replays;
 
 use ca_base::Memory;
 use ca_model::{Entry, Event, History, Marks};

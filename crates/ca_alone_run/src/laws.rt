@@ -10,10 +10,10 @@ ghost use Rattle.ca_model.specs.Entries.{EntryValue};
 ghost use Rattle.ca_model.specs.machine.Run.{Follows, run_over};
 ghost use Rattle.ca_model.specs.machine.Sound.{AreLimited, CanBeMade};
 
-use ca_adapter::lists_fit;
 use ca_isolated::machine_is_isolated;
 use ca_isolation::lone_list_has_the_replies;
 use ca_model::{Entry, History};
+use ca_script_run::ca_adapter::lists_fit;
 
 /// Says of a history's value that each of its events can be made. It does nothing but go over them.
 pub(crate) fn events_can_be_made(h: &History)

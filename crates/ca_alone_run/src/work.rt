@@ -22,8 +22,8 @@ use ca_lone::alone;
 use ca_model::{History, Opening};
 use ca_opening::zero_contents;
 use ca_order::orders_follow_the_machine;
-use ca_replay::{ReplayError, replay};
 use ca_script::Script;
+use ca_script_run::ca_replay::{ReplayError, replay};
 use ca_script_run::work_script;
 use std::alloc::Global;
 

@@ -3,7 +3,7 @@ ghost use Rattle.ca_model.specs.machine.Respond as rows;
 ghost use Rattle.ca_model.specs.machine.Row.{plain_row, NotPossible};
 
 use ca_base::{Queued, Reason, State};
-use ca_qpstate::QueuePart;
+use ca_rows::ca_qpstate::QueuePart;
 
 /// The answer that the responder sends next, or why there is none: the first of the row's reasons.
 pub fn next_answer(q: &QueuePart, room: bool) -> Result<Queued, Reason>

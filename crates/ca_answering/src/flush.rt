@@ -8,7 +8,7 @@ ghost use Rattle.ca_answering.specs.Flush.{CanFlush, first_behind, left_to_flush
 
 use ca_base::{Memory, RecvRequest};
 use ca_model::Mark;
-use ca_qpstate::QueuePart;
+use ca_rows::ca_qpstate::QueuePart;
 use ca_rows::{push_flushed, push_flushed_receives, push_flushed_sends};
 use ca_workqueue::WorkQueue;
 

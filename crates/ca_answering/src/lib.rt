@@ -15,6 +15,8 @@ mod read_left;
 mod remote;
 mod respond;
 
+pub use ca_rows;
+pub use ca_rows::ca_qpstate;
 pub use flush::{FlushedReceives, next_posting, push_flush};
 pub use queueing::{pass, queue_ack, queue_answer, queue_refusal, refuse, refuse_invalid};
 pub use remote::{packet_ask, remote_mark};

@@ -11,7 +11,7 @@ use crate::flush::{FlushedReceives, push_flush};
 use ca_base::limits::PSN_COUNT;
 use ca_base::{Memory, Queued};
 use ca_model::{Mark, Marks, SPARE_MARKS};
-use ca_qpstate::QueuePart;
+use ca_rows::ca_qpstate::QueuePart;
 use ca_rows::reserve_for;
 use ca_wire::{NakCode, Packet};
 

@@ -1,12 +1,12 @@
 ghost use Rattle.std.specs.Prelude.{◌≡◌, ◌<◌, ◌^◌};
-ghost use Rattle.ca_grant.specs.Reaching.{IsPacketAsk};
+ghost use Rattle.ca_rows.specs.ca_grant.Reaching.{IsPacketAsk};
 ghost use Rattle.ca_model.specs.machine.Invariants.{IsQueue};
 ghost use Rattle.ca_model.specs.machine.Respond as rows;
 
 use crate::remote::packet_ask;
 use ca_base::{Ask, Kind, Queued};
 use ca_model::ReadLeft;
-use ca_qpstate::QueuePart;
+use ca_rows::ca_qpstate::QueuePart;
 use ca_wire::Segment;
 
 /// The bytes of its next response: at most the path MTU.

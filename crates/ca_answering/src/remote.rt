@@ -3,7 +3,7 @@ ghost use Rattle.ca_model.specs.machine.Arrivals as arrivals;
 
 use ca_base::{Ask, Key, Kind, Verdict};
 use ca_model::Mark;
-use ca_qpstate::QueuePart;
+use ca_rows::ca_qpstate::QueuePart;
 
 /// The ask of a packet by an R_Key, for so many bytes from an address on, of which it touches some.
 pub fn packet_ask(q: &QueuePart, key: Key, kind: Kind, address: u64, length: u32, touch: u32) -> Ask

@@ -1,6 +1,6 @@
 ghost use Rattle.std.specs.Prelude.{◌≡◌, ◌+◌, ◌≤◌, [], IfOk, None, OnOk, Some, length, slice_get, true};
 ghost use Rattle.ca_base.specs.declared.limits.TheConstants.{MAX_PAYLOAD_BYTES};
-ghost use Rattle.ca_grant.specs.Reaching.{AreAtHand};
+ghost use Rattle.ca_rows.specs.ca_grant.Reaching.{AreAtHand};
 ghost use Rattle.ca_model.specs.machine.Invariants.{IsQueue};
 ghost use Rattle.ca_model.specs.machine.Respond as rows;
 ghost use Rattle.ca_model.specs.machine.Row.{ending_of, queue_and_marks};
@@ -16,9 +16,9 @@ use crate::flush::{FlushedReceives, push_flush};
 use crate::read_left::{is_last_response, response_ask, response_segment, rest_of};
 use crate::remote::remote_mark;
 use ca_base::{Ask, Bytes, Denial, Memory, Queued, Sent, StepError, Verdict};
-use ca_grant::Reach;
 use ca_model::{Marks, ReadLeft, SPARE_MARKS};
-use ca_qpstate::QueuePart;
+use ca_rows::ca_grant::Reach;
+use ca_rows::ca_qpstate::QueuePart;
 use ca_rows::{peer_number, psn_bits, reserve_for, spell_packet};
 use ca_wire::{NakCode, Packet, acknowledgement, atomic_acknowledge, nak, read_response, rnr_nak};
 

@@ -11,4 +11,5 @@ mod steps;
 mod verbs;
 
 pub use bed::{answer, call, queue_pair, region, turn};
+pub use ca_verbs;
 pub use steps::{Step, add_queue_pair, add_region, try_step};

@@ -32,7 +32,7 @@ use Rattle.ca_model.specs.machine.PostingVerbs.{with_send}
 use Rattle.ca_base.specs.declared.step.Reason.{Reason}
 use Rattle.ca_model.specs.Marks.{MarkList}
 use Rattle.ca_requester.specs.Timers.{IsPlainStep, IsStep}
-use Rattle.ca_sending.specs.Turn.{IsOperationEnd, no_marks, operation_end, turn_row}
+use Rattle.ca_requester.specs.ca_sending.Turn.{IsOperationEnd, no_marks, operation_end, turn_row}
 use Rattle.ca_rows.specs.Made.{IsTurn, IsTaking, written_all}
 use Rattle.ca_bed_reach.specs.SmallLaws.{small-keeps}
 use Rattle.ca_bed_reach.specs.SmallReach.{FitTogether, IsAskHere, after_write_by, sight_of}

@@ -4,7 +4,7 @@ ghost use Rattle.ca_base.specs.objects.WorkQueue.{next_place};
 ghost use Rattle.ca_model.specs.Packets as packets;
 ghost use Rattle.ca_model.specs.Requests as requests;
 ghost use Rattle.ca_model.specs.machine.Invariants.{IsList, IsQueue};
-ghost use Rattle.ca_sending.specs.Turn.{PerformsFound};
+ghost use Rattle.ca_requester.specs.ca_sending.Turn.{PerformsFound};
 ghost use Rattle.ca_model.specs.machine.CanStep.{AreNarrow, CanStep};
 ghost use Rattle.ca_bed_reach.specs.SmallReach as small;
 ghost use Rattle.ca_bed_requester.specs.Bed as beds;

@@ -8,4 +8,5 @@ mod bed;
 mod setup;
 
 pub use bed::{Bed, FAR, are_here, is_narrow, is_short};
+pub use ca_reading_lines;
 pub use setup::{Setup, bed_of, reason_text, settings, setup_in};

@@ -6,4 +6,6 @@
 
 mod responder;
 
+pub use ca_bed_requester;
+pub use ca_bed_requester::ca_reading_lines;
 pub use responder::Responder;

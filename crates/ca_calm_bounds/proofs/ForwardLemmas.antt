@@ -17,10 +17,10 @@ use Rattle.ca_model.specs.machine.Run.{Follows}
 use Rattle.ca_model.specs.machine.Sound.{AreLimited, CanBeMade}
 use Rattle.ca_model.specs.machine.Step.{step}
 use Rattle.ca_model.specs.machine.World.{World, opening_world}
-use Rattle.ca_ties_calm.specs.CalmEvents.{IsCalmEvent}
-use Rattle.ca_weights_runs.proofs.RunWeights.{histories-bounded}
-use Rattle.ca_weights_runs.specs.Forward.{AllGoForward, GoesForward, packets_in, verbs_in}
-use Rattle.ca_weights_verbs.specs.PostWeights.{InjectsNothing}
+use Rattle.ca_calm_runs.specs.ca_ties_calm.CalmEvents.{IsCalmEvent}
+use Rattle.ca_calm_runs.proofs.of_ca_weights_runs.RunWeights.{histories-bounded}
+use Rattle.ca_calm_runs.specs.ca_weights_runs.Forward.{AllGoForward, GoesForward, packets_in, verbs_in}
+use Rattle.ca_calm_runs.specs.ca_weights_verbs.PostWeights.{InjectsNothing}
 
 -- a verb of calm weather injects nothing
 injects-nothing : (w : World) (by : ℕ) (verb : Verb) → IsCalmEvent w (events.Verb by verb) → InjectsNothing verb

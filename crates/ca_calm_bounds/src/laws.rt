@@ -8,7 +8,7 @@ ghost use Rattle.ca_model.specs.Past.{after_entries, opening_past};
 ghost use Rattle.ca_model.specs.machine.Run.{Follows};
 ghost use Rattle.ca_model.specs.machine.Sound.{AreLimited, CanBeMade};
 ghost use Rattle.ca_model.specs.machine.World.{opening_world};
-ghost use Rattle.ca_weights_runs.specs.Forward.{AllGoForward, packets_in, verbs_in};
+ghost use Rattle.ca_calm_runs.specs.ca_weights_runs.Forward.{AllGoForward, packets_in, verbs_in};
 
 /// Along a history in calm weather that follows the machine and in which every connection is clean, everything goes
 /// forward: each delivery is of an envelope that had none, no requester goes back, and each sends only to a peer with

@@ -61,7 +61,7 @@ use Rattle.ca_ties.proofs.SendLemmas.{boxes_after, leads-left}
 use Rattle.ca_ties.proofs.TellLemmas.{leads-both}
 use Rattle.ca_ties.proofs.TimerLemmas.{IsFoundAt, found-at}
 use Rattle.ca_ties.specs.Ties.{LeavesPairs}
-use Rattle.ca_ties_calm.proofs.DeliverCalm.{leads-arrival}
+use Rattle.ca_rows_mail.proofs.of_ca_ties_calm.DeliverCalm.{leads-arrival}
 use Rattle.ca_ties_rows.specs.Moves.{RowLeads}
 use Rattle.ca_ties_verbs.proofs.BeginLemmas.{created-has}
 use Rattle.ca_ties_verbs.proofs.PairLemmas.{Replaces, replaces-changed, replaces-turned}

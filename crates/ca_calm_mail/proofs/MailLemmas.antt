@@ -30,7 +30,7 @@ use Rattle.ca_packet.specs.Decoding.{packet_in}
 use Rattle.ca_packet.specs.Packet.{Fields}
 use Rattle.ca_packet.specs.declared.wire_error.WireError.{WireError}
 use Rattle.ca_rows_mail.specs.RowMail.{AreWholeDrops, IsFor, SendsFor}
-use Rattle.ca_rows_standing.specs.Standing.{IsNoRnrNak}
+use Rattle.ca_rows_mail.specs.ca_rows_standing.Standing.{IsNoRnrNak}
 use Rattle.ca_ties.proofs.DeliverWalk.{Has}
 use Rattle.ca_ties.proofs.EntryLemmas.{IsLent, lent-envelope}
 use Rattle.ca_ties.proofs.SendLemmas.{boxes_after}

@@ -14,7 +14,7 @@ use Rattle.ca_model.specs.machine.World.{World}
 use Rattle.ca_packet.specs.Decoding.{packet_in}
 use Rattle.ca_packet.specs.Packet.{Fields}
 use Rattle.ca_rows_mail.specs.RowMail.{IsFor}
-use Rattle.ca_rows_standing.specs.Standing.{IsNoRnrNak, is_not_ready}
+use Rattle.ca_rows_mail.specs.ca_rows_standing.Standing.{IsNoRnrNak, is_not_ready}
 use Rattle.ca_ties_rows.specs.Entries.{syndrome_of}
 use Rattle.ca_weights_verbs.specs.PostWeights.{InjectsNothing}
 

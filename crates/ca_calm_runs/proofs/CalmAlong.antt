@@ -31,7 +31,7 @@ use Rattle.ca_ties.proofs.FollowLemmas.{paths-follow}
 use Rattle.ca_ties_calm.proofs.EventCalm.{event-calm, opening-calmly}
 use Rattle.ca_ties_calm.specs.CalmEvents.{AreCalm, IsCalmEvent}
 use Rattle.ca_ties_calm.specs.CalmTies.{CalmAfter, CursorGoesOn, IsCalmlyTied}
-use Rattle.ca_ties_verbs.specs.Agrees.{AgreesWith, acted_by}
+use Rattle.ca_ties_calm.specs.ca_ties_verbs.Agrees.{AgreesWith, acted_by}
 
 -- ---- one connection
 

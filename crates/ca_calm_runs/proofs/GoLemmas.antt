@@ -62,8 +62,8 @@ use Rattle.ca_ties_calm.proofs.MailLemmas.{IsOldest, oldest}
 use Rattle.ca_ties_calm.specs.CalmEvents.{IsCalmEvent}
 use Rattle.ca_ties_calm.specs.CalmTies.{AreFresh, CursorGoesOn}
 use Rattle.ca_ties_rows.proofs.StayLemmas.{Stays}
-use Rattle.ca_ties_verbs.specs.Beginnings.{AllBeginEmpty}
-use Rattle.ca_weights_turns.specs.WorldWeights.{cursor_of}
+use Rattle.ca_ties_calm.specs.ca_ties_verbs.Beginnings.{AllBeginEmpty}
+use Rattle.ca_weights_runs.specs.ca_weights_turns.WorldWeights.{cursor_of}
 
 -- every clean connection is told of, with its calm link
 abbrev AllTold : Past → Past → World → Type 0

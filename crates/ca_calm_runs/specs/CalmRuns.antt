@@ -17,7 +17,7 @@ use Rattle.ca_model.specs.machine.World.{World}
 use Rattle.ca_ties_calm.specs.CalmEvents.{AreCalm, IsCalmEvent}
 use Rattle.ca_ties_calm.specs.CalmTies.{CursorGoesOn}
 use Rattle.ca_weights_runs.specs.Forward.{HasOneWidth}
-use Rattle.ca_weights_turns.specs.WorldWeights.{IsFreshAt, cursor_of}
+use Rattle.ca_weights_runs.specs.ca_weights_turns.WorldWeights.{IsFreshAt, cursor_of}
 
 -- Entries from a world on are a run in calm weather: each packet passes, and what is delivered is what is due; nothing
 -- is injected or lost, no timer fires, nobody is woken, and no RNR NAK is sent; and what arrives is a packet for its

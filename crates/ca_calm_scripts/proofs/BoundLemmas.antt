@@ -3,7 +3,7 @@ use Rattle.std.proofs.Common.{◌≡◌, ℕ, suc, ◌≤◌, ◌<◌, Bool, tru
 use Rattle.std.specs.List.{AllByRecursion}
 use Rattle.ca_calm_bounds.proofs.ForwardLemmas.{runs-bounded}
 use Rattle.ca_calm_mail.proofs.RunCalm.{entries-spared}
-use Rattle.ca_calm_runs.specs.CalmRuns.{AreAllClean}
+use Rattle.ca_calm_bounds.specs.ca_calm_runs.CalmRuns.{AreAllClean}
 use Rattle.ca_calm_scripts.proofs.CallLemmas.{IsGoodEvent, called-good, calls-bounded, good-made}
 use Rattle.ca_calm_scripts.proofs.CalmLemmas.{entries-asked, reach-count, run-calm}
 use Rattle.ca_calm_scripts.specs.CalmScripts.{AreUntroubled, IsCalmScript, most_entries}
@@ -12,7 +12,7 @@ use Rattle.ca_model.specs.Entries.{EntryValue}
 use Rattle.ca_model.specs.Past.{after_entries, opening_past}
 use Rattle.ca_model.specs.machine.Run.{Follows}
 use Rattle.ca_model.specs.machine.Sound.{AreLimited}
-use Rattle.ca_once.proofs.RunLemmas.{walk-along}
+use Rattle.ca_calm_mail.proofs.of_ca_once.RunLemmas.{walk-along}
 use Rattle.ca_order.proofs.FollowLemmas.{order-follows}
 use Rattle.ca_order.proofs.ScriptLemmas.{order-told}
 use Rattle.ca_order.specs.OfScript.{BudgetSpent, Fine, LeadsTo, Stalled, Status, lines_at, opening_reach, stalled_at, stalled_from, status_of}

@@ -15,8 +15,8 @@ use Rattle.ca_rest.specs.Rest.{AreCallable, IsCallable}
 use Rattle.ca_script_lines.specs.declared.Line.{Line}
 use Rattle.ca_script_lines.specs.declared.what.What.{What}
 use Rattle.ca_script_lines.specs.declared.what.What.TheVariants as whats
-use Rattle.ca_weights_runs.specs.Forward.{packets_in, verbs_in}
-use Rattle.ca_weights_verbs.specs.PostWeights.{InjectsNothing, packets_posted}
+use Rattle.ca_calm_bounds.specs.ca_weights_runs.Forward.{packets_in, verbs_in}
+use Rattle.ca_calm_mail.specs.ca_weights_verbs.PostWeights.{InjectsNothing, packets_posted}
 
 -- ---- what each verb is
 

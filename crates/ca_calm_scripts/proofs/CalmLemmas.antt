@@ -12,7 +12,7 @@ use Rattle.ca_base.specs.declared.lot.Lot.TheVariants.{Pass, Lose, Repeat, Hold}
 use Rattle.ca_base.specs.objects.Mailbox.{due}
 use Rattle.ca_base.specs.objects.QueuePair.{QueuePair, QueueSlot, NoQueue, Present}
 use Rattle.ca_calm_mail.specs.CalmMail.{IsWithoutInjection, IsNoWake, SendsNoRnrNak}
-use Rattle.ca_calm_runs.specs.CalmRuns.{IsCalmRun}
+use Rattle.ca_calm_bounds.specs.ca_calm_runs.CalmRuns.{IsCalmRun}
 use Rattle.ca_calm_scripts.proofs.CallLemmas.{IsGoodEvent}
 use Rattle.ca_calm_scripts.specs.CalmScripts.{AreUntroubled, IsUntroubledMark}
 use Rattle.ca_keys.specs.declared.names.QueueId.{QueueId}
@@ -31,14 +31,14 @@ use Rattle.ca_model.specs.machine.Step.{step}
 use Rattle.ca_model.specs.machine.Sound.{IsSoundWorld}
 use Rattle.ca_model.specs.machine.Turns.{reaches_peer, timeout_plan}
 use Rattle.ca_model.specs.machine.World.{World}
-use Rattle.ca_once.proofs.RunLemmas.{Walk}
+use Rattle.ca_calm_mail.proofs.of_ca_once.RunLemmas.{Walk}
 use Rattle.ca_order.specs.OfScript.{Reach, lot_eq, may_stand, left_after, reach_by, reach_from}
-use Rattle.ca_rows_mail.specs.RowMail.{AreWholeDrops, DropsWhole}
+use Rattle.ca_calm_mail.specs.ca_rows_mail.RowMail.{AreWholeDrops, DropsWhole}
 use Rattle.ca_script.specs.Script.{ScriptValue}
-use Rattle.ca_ties_calm.specs.CalmEvents.{AreCalm, IsCalmEvent, IsCalmMark}
-use Rattle.ca_ties_verbs.proofs.TurnWalks.{leads-timeout}
+use Rattle.ca_calm_bounds.specs.ca_ties_calm.CalmEvents.{AreCalm, IsCalmEvent, IsCalmMark}
+use Rattle.ca_calm_mail.proofs.of_ca_ties_verbs.TurnWalks.{leads-timeout}
 use Rattle.ca_turns.specs.Turns.{lot_at}
-use Rattle.ca_weights_verbs.specs.PostWeights.{InjectsNothing}
+use Rattle.ca_calm_mail.specs.ca_weights_verbs.PostWeights.{InjectsNothing}
 
 -- ---- one event
 

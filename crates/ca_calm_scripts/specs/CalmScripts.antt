@@ -10,7 +10,7 @@ use Rattle.ca_script.specs.Script.{ScriptValue}
 use Rattle.ca_script_lines.specs.declared.Line.{Line}
 use Rattle.ca_script_lines.specs.declared.what.What.{What}
 use Rattle.ca_script_lines.specs.declared.what.What.TheVariants as whats
-use Rattle.ca_weights_verbs.specs.PostWeights.{InjectsNothing, packets_posted}
+use Rattle.ca_calm_mail.specs.ca_weights_verbs.PostWeights.{InjectsNothing, packets_posted}
 
 -- a line injects no packet
 abbrev pub IsNoInjection : What → Type 0

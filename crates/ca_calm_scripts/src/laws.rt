@@ -1,5 +1,5 @@
 ghost use Rattle.std.specs.Prelude.{◌≡◌, ℕ, ◌<◌, ◌≤◌, List, length};
-ghost use Rattle.ca_calm_runs.specs.CalmRuns.{AreAllClean};
+ghost use Rattle.ca_calm_bounds.specs.ca_calm_runs.CalmRuns.{AreAllClean};
 ghost use Rattle.ca_calm_scripts.specs.CalmScripts.{AreUntroubled, IsCalmScript, most_entries};
 ghost use Rattle.ca_keys.specs.Memory.{zeros};
 ghost use Rattle.ca_model.specs.Entries.{EntryValue};

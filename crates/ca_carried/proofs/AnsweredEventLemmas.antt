@@ -7,10 +7,10 @@ use Rattle.ca_agree.proofs.LeadsLemmas.{comes, leads-around, leads-queue, leads-
 use Rattle.ca_agree.proofs.PathEventLemmas.{event-agrees, opening-agrees}
 use Rattle.ca_agree.specs.Agreement.{PathsAgree}
 use Rattle.ca_agree.specs.Runs.{Comes, Leads}
-use Rattle.ca_agree_keys.proofs.KeyTurnLemmas.{found}
-use Rattle.ca_agree_posts.proofs.PlaceLemmas.{IsPerformed, IsPostedAt, item-posted, performs}
-use Rattle.ca_agree_posts.proofs.PostEventLemmas.{event-posts-agree, opening-posts-agree}
-use Rattle.ca_agree_posts.specs.Posts.{AgreeInSlot, PostsAgree}
+use Rattle.ca_agree_accesses.proofs.of_ca_agree_keys.KeyTurnLemmas.{found}
+use Rattle.ca_agree_starts.proofs.of_ca_agree_posts.PlaceLemmas.{IsPerformed, IsPostedAt, item-posted, performs}
+use Rattle.ca_agree_starts.proofs.of_ca_agree_posts.PostEventLemmas.{event-posts-agree, opening-posts-agree}
+use Rattle.ca_agree_starts.specs.ca_agree_posts.Posts.{AgreeInSlot, PostsAgree}
 use Rattle.ca_agree_starts.proofs.PerformLemmas.{leads-local}
 use Rattle.ca_base.specs.Configuration.{Configuration}
 use Rattle.ca_base.specs.declared.completion.Completion.{Completion}
@@ -25,16 +25,16 @@ use Rattle.ca_base.specs.objects.QueuePair.{QueuePair}
 use Rattle.ca_carried.proofs.AnsweredLemmas.{Answered, IsNoTurn, IsReady, Still, failing-pass, passes-append, still-event}
 use Rattle.ca_carried.proofs.FailingLemmas.{Fails, Loosens, failure-failing, loose, packet-failing, respond-loose}
 use Rattle.ca_carried.specs.Answered.{HaveTheirResponses, is_answered}
-use Rattle.ca_judged.proofs.JudgeLemmas.{both-true}
+use Rattle.ca_agree_accesses.proofs.of_ca_judged.JudgeLemmas.{both-true}
 use Rattle.ca_keys.specs.Memory.{ByteMap}
 use Rattle.ca_keys.specs.declared.grant.Grant.{Grant}
 use Rattle.ca_keys.specs.declared.key.Key.{Key}
 use Rattle.ca_keys.specs.declared.names.QueueId.{QueueId}
 use Rattle.ca_laws_sound.proofs.SoundLemmas.{event-sound, opening-sound}
 use Rattle.ca_laws_sound.proofs.WorldLemmas.{EndingDoes, IsThere, RowDoes, around_in, shared_of}
-use Rattle.ca_laws_steady.proofs.EventLemmas.{event-steady, opening-steady}
-use Rattle.ca_laws_steady.proofs.TurnLemmas.{there-kept}
-use Rattle.ca_laws_steady.specs.Steady.{IsSteadyWorld}
+use Rattle.ca_agree_starts.proofs.of_ca_laws_steady.EventLemmas.{event-steady, opening-steady}
+use Rattle.ca_agree_starts.proofs.of_ca_laws_steady.TurnLemmas.{there-kept}
+use Rattle.ca_agree_starts.specs.ca_laws_steady.Steady.{IsSteadyWorld}
 use Rattle.ca_model.specs.Carried.{response_arrived}
 use Rattle.ca_model.specs.Entries.{EntryValue}
 use Rattle.ca_model.specs.Past.{Past, Posted, after_entry, after_mark, after_marks, at_begin, at_end, each_entry, opening_past, posted_at, present_incarnation}

@@ -11,10 +11,10 @@ use Rattle.ca_agree.proofs.PathVerbLemmas.{call_of}
 use Rattle.ca_agree.specs.Agreement.{PathsAgree, WereSent}
 use Rattle.ca_agree.specs.Runs.{Leads}
 use Rattle.ca_agree_accesses.proofs.QuietLemmas.{AreUnheard, IsQuiet, IsUnheardMark, response-quiet}
-use Rattle.ca_agree_keys.proofs.KeyTurnLemmas.{found}
-use Rattle.ca_agree_keys.proofs.ToldLemmas.{ended}
-use Rattle.ca_agree_posts.proofs.GoingLemmas.{AreKeyless, EndKey, Goes, IsKeyless, RowGoes, TellOf, arrival-goes, key_gone}
-use Rattle.ca_agree_posts.specs.Posts.{PostsAgree}
+use Rattle.ca_agree_accesses.proofs.of_ca_agree_keys.KeyTurnLemmas.{found}
+use Rattle.ca_agree_accesses.proofs.of_ca_agree_keys.ToldLemmas.{ended}
+use Rattle.ca_agree_starts.proofs.of_ca_agree_posts.GoingLemmas.{AreKeyless, EndKey, Goes, IsKeyless, RowGoes, TellOf, arrival-goes, key_gone}
+use Rattle.ca_agree_starts.specs.ca_agree_posts.Posts.{PostsAgree}
 use Rattle.ca_base.specs.Configuration.{Configuration}
 use Rattle.ca_base.specs.declared.correspondent.Correspondent.{Correspondent}
 use Rattle.ca_base.specs.declared.request.PostedSend.{PostedSend}
@@ -26,7 +26,7 @@ use Rattle.ca_base.specs.objects.SharedReceives.{SharedReceives}
 use Rattle.ca_base.specs.objects.WorkQueue.{WorkQueue}
 use Rattle.ca_carried.proofs.FailingLemmas.{AreFailing, AreLoose, Fails, IsFailing, IsLoose, arrival-failing, is_answer, loose, timeout-failing}
 use Rattle.ca_carried.specs.Answered.{is_answered}
-use Rattle.ca_judged.proofs.JudgeLemmas.{both-true}
+use Rattle.ca_agree_accesses.proofs.of_ca_judged.JudgeLemmas.{both-true}
 use Rattle.ca_keys.specs.Equal.{queue_eq}
 use Rattle.ca_keys.specs.Refusals.{first_of}
 use Rattle.ca_keys.specs.declared.grant.Grant.{Grant}
@@ -34,9 +34,9 @@ use Rattle.ca_keys.specs.declared.key.Key.{Key}
 use Rattle.ca_keys.specs.declared.names.QueueId.{QueueId}
 use Rattle.ca_laws_sound.proofs.SettledLemmas.{queue-refl}
 use Rattle.ca_laws_sound.proofs.WorldLemmas.{EndingDoes, IsThere, RowDoes, around_in, shared_of}
-use Rattle.ca_laws_steady.proofs.RowLemmas.{IsKept}
-use Rattle.ca_laws_steady.proofs.TurnLemmas.{there-kept}
-use Rattle.ca_laws_steady.specs.Steady.{IsSteadyWorld}
+use Rattle.ca_agree_starts.proofs.of_ca_laws_steady.RowLemmas.{IsKept}
+use Rattle.ca_agree_starts.proofs.of_ca_laws_steady.TurnLemmas.{there-kept}
+use Rattle.ca_agree_starts.specs.ca_laws_steady.Steady.{IsSteadyWorld}
 use Rattle.ca_licensed.proofs.AnswerLemmas.{Answers, AreAnswered, AreFlushes, IsQuietVerb, quiet-verb}
 use Rattle.ca_licensed.proofs.EffectLemmas.{tells}
 use Rattle.ca_model.specs.Carried.{has_packets, response_arrived}

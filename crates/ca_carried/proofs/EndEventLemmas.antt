@@ -14,11 +14,11 @@ use Rattle.ca_agree.specs.Runs.{Comes, Leads}
 use Rattle.ca_agree_accesses.proofs.EventLemmas.{carried-along, event-accesses-agree, opening-accesses-agree, requests-along}
 use Rattle.ca_agree_accesses.specs.Accesses.{AccessesAgree, IsEndedWorld}
 use Rattle.ca_agree_accesses.specs.Asked.{has_its_request, is_carried_remote}
-use Rattle.ca_agree_keys.proofs.KeyEventLemmas.{event-keys-agree, opening-keys-agree}
-use Rattle.ca_agree_keys.proofs.KeyTurnLemmas.{IsUp}
-use Rattle.ca_agree_keys.specs.InForce.{KeysAgree}
-use Rattle.ca_agree_posts.proofs.PostEventLemmas.{event-posts-agree, opening-posts-agree}
-use Rattle.ca_agree_posts.specs.Posts.{PostsAgree}
+use Rattle.ca_agree_accesses.proofs.of_ca_agree_keys.KeyEventLemmas.{event-keys-agree, opening-keys-agree}
+use Rattle.ca_agree_accesses.proofs.of_ca_agree_keys.KeyTurnLemmas.{IsUp}
+use Rattle.ca_agree_accesses.specs.ca_agree_keys.InForce.{KeysAgree}
+use Rattle.ca_agree_starts.proofs.of_ca_agree_posts.PostEventLemmas.{event-posts-agree, opening-posts-agree}
+use Rattle.ca_agree_starts.specs.ca_agree_posts.Posts.{PostsAgree}
 use Rattle.ca_agree_starts.proofs.StartEventLemmas.{event-starts-agree, opening-starts-agree}
 use Rattle.ca_agree_starts.specs.Starts.{StartsAgree}
 use Rattle.ca_base.specs.Configuration.{Configuration}
@@ -28,15 +28,15 @@ use Rattle.ca_carried.proofs.RequestEndLemmas.{ends-request, unsent-ends}
 use Rattle.ca_carried.proofs.RespondEndLemmas.{Ends, EndsSo, IsWhole, ends-respond}
 use Rattle.ca_carried.specs.Answered.{is_answered}
 use Rattle.ca_carried.specs.Ended.{HaveTheirCauses}
-use Rattle.ca_judged.proofs.JudgeLemmas.{both-true}
+use Rattle.ca_agree_accesses.proofs.of_ca_judged.JudgeLemmas.{both-true}
 use Rattle.ca_keys.specs.Memory.{ByteMap}
-use Rattle.ca_laws_names.proofs.PlacedLemmas.{event-placed, opening-placed}
-use Rattle.ca_laws_names.specs.Placed.{IsPlacedWorld}
+use Rattle.ca_agree_accesses.proofs.of_ca_laws_names.PlacedLemmas.{event-placed, opening-placed}
+use Rattle.ca_agree_accesses.specs.ca_laws_names.Placed.{IsPlacedWorld}
 use Rattle.ca_laws_sound.proofs.SoundLemmas.{event-sound, opening-sound}
-use Rattle.ca_laws_steady.proofs.EventLemmas.{event-steady, opening-steady}
-use Rattle.ca_laws_steady.specs.Steady.{IsSteadyWorld}
-use Rattle.ca_laws_windows.proofs.WindowEventLemmas.{event-bound, opening-bound}
-use Rattle.ca_laws_windows.specs.Bindings.{IsBoundWorld}
+use Rattle.ca_agree_starts.proofs.of_ca_laws_steady.EventLemmas.{event-steady, opening-steady}
+use Rattle.ca_agree_starts.specs.ca_laws_steady.Steady.{IsSteadyWorld}
+use Rattle.ca_agree_accesses.proofs.of_ca_laws_windows.WindowEventLemmas.{event-bound, opening-bound}
+use Rattle.ca_agree_accesses.specs.ca_laws_windows.Bindings.{IsBoundWorld}
 use Rattle.ca_model.specs.Carried.{Carried, is_carried, is_carried_at_end}
 use Rattle.ca_model.specs.Entries.{EntryValue}
 use Rattle.ca_model.specs.Past.{Past, after_entry, after_mark, after_marks, at_begin, at_end, each_entry, each_mark, opening_past}

@@ -6,7 +6,7 @@ use Rattle.ca_base.specs.declared.lot.Lot.{Lot}
 use Rattle.ca_base.specs.objects.Mailbox.{Mailbox, is_lost}
 use Rattle.ca_base.specs.objects.QueuePair.{QueuePair}
 use Rattle.ca_carried.proofs.AnsweredLemmas.{AreUnsent, IsUnsent}
-use Rattle.ca_judged.proofs.JudgeLemmas.{both-true}
+use Rattle.ca_agree_accesses.proofs.of_ca_judged.JudgeLemmas.{both-true}
 use Rattle.ca_keys.specs.Numbers.{queue_of}
 use Rattle.ca_keys.specs.declared.names.QueueId.{QueueId}
 use Rattle.ca_laws_sound.proofs.SettledLemmas.{queue-refl}

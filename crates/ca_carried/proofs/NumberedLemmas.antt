@@ -5,8 +5,8 @@ use Rattle.std.proofs.lemmas.List.Sums.{sum_by-cons}
 use Rattle.std.proofs.lemmas.Option.{same_Some, slice_get-map}
 use Rattle.std.specs.List.{AllByRecursion}
 use Rattle.std.specs.Option.{option_or}
-use Rattle.ca_agree_posts.proofs.PlaceLemmas.{IsPostedAt}
-use Rattle.ca_agree_posts.specs.Posts.{as_posted}
+use Rattle.ca_agree_starts.proofs.of_ca_agree_posts.PlaceLemmas.{IsPostedAt}
+use Rattle.ca_agree_starts.specs.ca_agree_posts.Posts.{as_posted}
 use Rattle.ca_agree_starts.proofs.NumberLemmas.{Linked, before-more, get-drop, linked-from, numbers-sum, posted-some}
 use Rattle.ca_agree_starts.specs.Starts.{Stands, psns_before}
 use Rattle.ca_base.specs.declared.limits.TheConstants.{MAX_MESSAGE_BYTES}
@@ -20,7 +20,7 @@ use Rattle.ca_keys.specs.Refusals.{first_of}
 use Rattle.ca_laws_numbers.proofs.NumberLemmas.{segments-few}
 use Rattle.ca_laws_sound.proofs.NumberingLemmas.{count_sum}
 use Rattle.ca_laws_sound.proofs.TurnLemmas.{sending-parts}
-use Rattle.ca_laws_steady.specs.Steady.{IsSteadyQueue}
+use Rattle.ca_agree_starts.specs.ca_laws_steady.Steady.{IsSteadyQueue}
 use Rattle.ca_model.specs.Past.{Posted}
 use Rattle.ca_model.specs.Requests.{is_local, list_length, list_of, psns_of}
 use Rattle.ca_model.specs.machine.Invariants.{IsQueue, IsSend, is_sending}

@@ -10,9 +10,9 @@ use Rattle.ca_agree.proofs.PathLemmas.{marks-append}
 use Rattle.ca_agree.specs.Runs.{Leads}
 use Rattle.ca_agree_accesses.proofs.EndLemmas.{RowSees, leads-seen}
 use Rattle.ca_agree_accesses.proofs.TurnLemmas.{told-mtu}
-use Rattle.ca_agree_keys.proofs.KeyTurnLemmas.{IsUp, found}
-use Rattle.ca_agree_keys.proofs.SightLemmas.{grant-seen}
-use Rattle.ca_agree_posts.specs.Posts.{life}
+use Rattle.ca_agree_accesses.proofs.of_ca_agree_keys.KeyTurnLemmas.{IsUp, found}
+use Rattle.ca_agree_accesses.proofs.of_ca_agree_keys.SightLemmas.{grant-seen}
+use Rattle.ca_agree_starts.specs.ca_agree_posts.Posts.{life}
 use Rattle.ca_agree_starts.proofs.NumberLemmas.{Linked}
 use Rattle.ca_agree_starts.proofs.PerformLemmas.{leads-local}
 use Rattle.ca_agree_starts.proofs.StartTurnLemmas.{posted_of, posts-at, start-at}
@@ -39,8 +39,8 @@ use Rattle.ca_carried.proofs.FailingLemmas.{failure-failing, reads-failing}
 use Rattle.ca_carried.proofs.NumberedLemmas.{WasPosted, IsSending, packet-index, posted-so, sends-turn}
 use Rattle.ca_carried.proofs.RespondEndLemmas.{EndsSo, Ends, IsWhole, small-path, small-psn}
 use Rattle.ca_carried.proofs.SpeltLemmas.{IsSpelt, shortened, spelt-again}
-use Rattle.ca_judged.proofs.JudgeLemmas.{Sees, both-true, bytes-refl, none-denied, seen-bytes}
-use Rattle.ca_judged.proofs.WholeLemmas.{agreed-whole, bytes-count, reached}
+use Rattle.ca_agree_accesses.proofs.of_ca_judged.JudgeLemmas.{Sees, both-true, bytes-refl, none-denied, seen-bytes}
+use Rattle.ca_agree_accesses.proofs.of_ca_judged.WholeLemmas.{agreed-whole, bytes-count, reached}
 use Rattle.ca_keys.specs.Allowed.{denial_of}
 use Rattle.ca_keys.specs.Memory.{ByteMap, runs_for}
 use Rattle.ca_keys.specs.declared.access.Ask.{Ask}
@@ -49,7 +49,7 @@ use Rattle.ca_keys.specs.declared.key.Key.{Key}
 use Rattle.ca_keys.specs.declared.names.DomainId.{DomainId}
 use Rattle.ca_keys.specs.declared.names.QueueId.{QueueId}
 use Rattle.ca_laws_sound.proofs.WorldLemmas.{EndingDoes, IsThere, around_in, shared_of}
-use Rattle.ca_laws_steady.proofs.TurnLemmas.{there-kept}
+use Rattle.ca_agree_starts.proofs.of_ca_laws_steady.TurnLemmas.{there-kept}
 use Rattle.ca_model.specs.Carried.{are_carried, has_its_cause, is_carried_at_end, is_packet_of, packet_index}
 use Rattle.ca_model.specs.Packets.{answers_read, packet_of}
 use Rattle.ca_model.specs.Past.{Naming, Past, Posted, Start, after_mark, after_marks, at_begin, first_psn, mtu_of, posted_at, start_of, whole_start}

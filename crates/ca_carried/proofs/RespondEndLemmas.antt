@@ -11,7 +11,7 @@ use Rattle.ca_agree.specs.Runs.{Leads}
 use Rattle.ca_agree_accesses.proofs.TurnLemmas.{told-mtu}
 use Rattle.ca_agree_accesses.specs.Accesses.{AccessesAgree, IsEndedWorld}
 use Rattle.ca_agree_accesses.specs.Asked.{has_its_request}
-use Rattle.ca_agree_keys.proofs.KeyTurnLemmas.{IsUp, found}
+use Rattle.ca_agree_accesses.proofs.of_ca_agree_keys.KeyTurnLemmas.{IsUp, found}
 use Rattle.ca_agree_starts.specs.Starts.{StartsAgree}
 use Rattle.ca_base.specs.Configuration.{Configuration}
 use Rattle.ca_base.specs.declared.correspondent.Correspondent.{Correspondent}
@@ -26,7 +26,7 @@ use Rattle.ca_carried.proofs.AnsweredLemmas.{AreUnsent, IsReady, failing-unsent}
 use Rattle.ca_carried.proofs.EndLemmas.{IsBare, bare-begin, bare-marks, sent-end, sent_by}
 use Rattle.ca_carried.proofs.FailingLemmas.{flush-failing}
 use Rattle.ca_carried.proofs.SpeltLemmas.{IsSpelt, spelling-same, spelt-again}
-use Rattle.ca_judged.proofs.JudgeLemmas.{both-true, bytes-refl}
+use Rattle.ca_agree_accesses.proofs.of_ca_judged.JudgeLemmas.{both-true, bytes-refl}
 use Rattle.ca_keys.specs.Equal.{queue_eq}
 use Rattle.ca_keys.specs.Refusals.{first_of}
 use Rattle.ca_keys.specs.declared.key.Key.{Key}

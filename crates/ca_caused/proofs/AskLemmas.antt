@@ -3,7 +3,7 @@ use Rattle.std.proofs.Common.{◌≡◌, ℕ, ◌+◌, ◌-◌, ◌%◌, ◌^◌
 use Rattle.std.proofs.lemmas.Bool.Decides.{nat_tests}
 use Rattle.std.proofs.lemmas.Bool.{and_parts}
 use Rattle.std.specs.List.{list_all, list_any}
-use Rattle.ca_agree_posts.proofs.GrantLemmas.{both-true, key-refl}
+use Rattle.ca_agree_sends.proofs.of_ca_agree_posts.GrantLemmas.{both-true, key-refl}
 use Rattle.ca_base.specs.declared.request.Piece.{Piece}
 use Rattle.ca_keys.specs.Equal.{queue_eq}
 use Rattle.ca_keys.specs.declared.access.Ask.{Ask}

@@ -7,9 +7,9 @@ use Rattle.ca_agree.proofs.LeadsLemmas.{comes, leads-weaker}
 use Rattle.ca_agree.proofs.PathVerbLemmas.{call_of}
 use Rattle.ca_agree.specs.Agreement.{HoldsAlong}
 use Rattle.ca_agree.specs.Runs.{Comes, Leads}
-use Rattle.ca_agree_posts.proofs.GrantLemmas.{both-true}
-use Rattle.ca_agree_posts.proofs.PostEventLemmas.{event-posts-agree, opening-posts-agree}
-use Rattle.ca_agree_posts.specs.Posts.{PostsAgree}
+use Rattle.ca_agree_sends.proofs.of_ca_agree_posts.GrantLemmas.{both-true}
+use Rattle.ca_agree_sends.proofs.of_ca_agree_posts.PostEventLemmas.{event-posts-agree, opening-posts-agree}
+use Rattle.ca_agree_sends.specs.ca_agree_posts.Posts.{PostsAgree}
 use Rattle.ca_caused.proofs.PostingLemmas.{cause-dealloc_mw, cause-dereg_mr, cause-inject, cause-poll, cause-post_recv, cause-post_send}
 use Rattle.ca_caused.proofs.TurnLemmas.{IsMet, Causing, cause-deliver, cause-request, cause-respond, cause-timeout, cause-wake}
 use Rattle.ca_caused.proofs.VerbLemmas.{CausingBy, cause-create, cause-destroy, cause-modify}
@@ -20,8 +20,8 @@ use Rattle.ca_caused.specs.Causes.{DoCompleteWithCauses, completes_with_cause}
 use Rattle.ca_base.specs.Configuration.{Configuration}
 use Rattle.ca_keys.specs.Memory.{ByteMap}
 use Rattle.ca_laws_sound.proofs.SoundLemmas.{event-sound, opening-sound}
-use Rattle.ca_laws_steady.proofs.EventLemmas.{event-steady, opening-steady}
-use Rattle.ca_laws_steady.specs.Steady.{IsSteadyWorld}
+use Rattle.ca_agree_sends.proofs.of_ca_laws_steady.EventLemmas.{event-steady, opening-steady}
+use Rattle.ca_agree_sends.specs.ca_laws_steady.Steady.{IsSteadyWorld}
 use Rattle.ca_model.specs.Entries.{EntryValue}
 use Rattle.ca_model.specs.Past.{Past, after_entry, after_marks, at_begin, at_end, each_entry, each_mark, opening_past}
 use Rattle.ca_model.specs.declared.answer.Refusal.TheVariants.{NoSuch}

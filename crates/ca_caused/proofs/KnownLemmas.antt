@@ -7,7 +7,7 @@ use Rattle.std.proofs.lemmas.Option.{same_Some}
 use Rattle.std.proofs.lemmas.List.Sums.{sum_by-cons}
 use Rattle.std.specs.List.{list_all}
 use Rattle.std.specs.Option.{option_map, option_map_or}
-use Rattle.ca_agree_posts.specs.Posts.{as_posted}
+use Rattle.ca_agree_sends.specs.ca_agree_posts.Posts.{as_posted}
 use Rattle.ca_base.specs.Equal.{operation_eq}
 use Rattle.ca_base.specs.declared.completion.WcOp.TheVariants as operations
 use Rattle.ca_base.specs.declared.limits.TheConstants.{MAX_RETRY}

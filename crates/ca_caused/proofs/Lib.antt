@@ -12,3 +12,5 @@ pub mod VerbLemmas
 pub mod PostingLemmas
 pub mod EventLemmas
 pub mod RestLemmas
+-- The libraries below, handed on to those above.
+pub use Rattle.ca_agree_sends.proofs.of_ca_agree_posts

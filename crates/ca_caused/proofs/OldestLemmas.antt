@@ -3,9 +3,9 @@
 use Rattle.std.proofs.Common.{◌≡◌, ℕ, zero, suc, ◌+◌, ◌-◌, ◌≤◌, ◌<◌, nat_le, nat_lt, Bool, true, false, if◌then◌else◌, List, [], ◌∷◌, take, drop, sum_by, Option, None, Some, slice_get, refl, ap, ap₂, sym, subst, ◌∙◌, arith, find, length, is_some, true≢false}
 use Rattle.std.proofs.lemmas.Bool.Decides.{nat_tests}
 use Rattle.std.proofs.lemmas.Option.{same_Some}
-use Rattle.ca_agree_posts.proofs.GoingLemmas.{numbers-at}
-use Rattle.ca_agree_posts.proofs.GrantLemmas.{both-true}
-use Rattle.ca_agree_posts.proofs.PlaceLemmas.{IsPerformed}
+use Rattle.ca_agree_sends.proofs.of_ca_agree_posts.GoingLemmas.{numbers-at}
+use Rattle.ca_agree_sends.proofs.of_ca_agree_posts.GrantLemmas.{both-true}
+use Rattle.ca_agree_sends.proofs.of_ca_agree_posts.PlaceLemmas.{IsPerformed}
 use Rattle.ca_keys.specs.Refusals.{first_of}
 use Rattle.ca_laws_sound.proofs.TurnLemmas.{sending-parts}
 use Rattle.ca_base.specs.declared.step.Reason.{Reason}
@@ -28,8 +28,8 @@ use Rattle.ca_model.specs.Progress.{Progress, progress_from, raised}
 use Rattle.ca_model.specs.machine.Acknowledgements.{after_finished, finished_requests, with_requester}
 use Rattle.ca_model.specs.machine.Numbering.{begun_requests, psn_end, unfinished_requests}
 use Rattle.ca_laws_sound.proofs.RequesterLemmas.{progress-after, progress-good}
-use Rattle.ca_laws_steady.proofs.SameLemmas.{progress-steady}
-use Rattle.ca_laws_steady.specs.Steady.{EndsBehind, IsSteadyQueue}
+use Rattle.ca_agree_sends.proofs.of_ca_laws_steady.SameLemmas.{progress-steady}
+use Rattle.ca_agree_sends.specs.ca_laws_steady.Steady.{EndsBehind, IsSteadyQueue}
 use Rattle.ca_model.specs.Past.{Posted}
 use Rattle.ca_model.specs.Requests.{psns_of}
 use Rattle.ca_model.specs.machine.Acknowledgements.{progress_to}

@@ -6,7 +6,7 @@ use Rattle.ca_agree.proofs.LeadsLemmas.{leads-unless}
 use Rattle.ca_agree.proofs.PathChangeLemmas.{Behind}
 use Rattle.ca_agree.proofs.PathVerbLemmas.{agrees-present, call_of}
 use Rattle.ca_agree.specs.Runs.{Leads}
-use Rattle.ca_agree_keys.proofs.KeyTurnLemmas.{found}
+use Rattle.ca_agree_sends.proofs.of_ca_agree_keys.KeyTurnLemmas.{found}
 use Rattle.ca_base.specs.Configuration.{Configuration}
 use Rattle.ca_base.specs.declared.change.Field.TheVariants as fields
 use Rattle.ca_base.specs.declared.change.State.TheVariants as states
@@ -59,8 +59,8 @@ use Rattle.ca_model.specs.Past.{after_mark}
 use Rattle.ca_model.specs.machine.Completions.{flush_marks}
 use Rattle.ca_keys.specs.Equal.{queue_eq}
 use Rattle.std.proofs.Common.{ap₂, zero, suc, ◌+◌, ◌≤◌, ◌∙◌, length, take, sum_by, arith, sym, true≢false}
-use Rattle.ca_agree_posts.proofs.PostTurnLemmas.{life-refl, other-life}
-use Rattle.ca_agree_posts.specs.Posts.{AgreeInSlot}
+use Rattle.ca_agree_sends.proofs.of_ca_agree_posts.PostTurnLemmas.{life-refl, other-life}
+use Rattle.ca_agree_sends.specs.ca_agree_posts.Posts.{AgreeInSlot}
 use Rattle.ca_base.specs.declared.change.State.{State}
 use Rattle.ca_base.specs.declared.limits.TheConstants.{MAX_RETRY}
 use Rattle.ca_base.specs.declared.queue_numbers.RequesterNumbers.{RequesterNumbers}

@@ -16,7 +16,7 @@ use Rattle.ca_model.specs.machine.Row.{Ending}
 use Rattle.ca_caused.proofs.StoryLemmas.{AreCalm, Denying, Failing, GoesOn, Invalid, Refusing, Story, WhyReceive, calm-append, denials, denies, drops, fails, flush-flushes, goes, invalid, on, refuses}
 use Rattle.ca_keys.specs.Equal.{queue_eq}
 use Rattle.ca_laws_sound.proofs.SettledLemmas.{queue-path, queue-refl}
-use Rattle.ca_agree_posts.proofs.GrantLemmas.{both-true}
+use Rattle.ca_agree_sends.proofs.of_ca_agree_posts.GrantLemmas.{both-true}
 use Rattle.ca_base.specs.declared.queue_numbers.Message.TheVariants as messages
 use Rattle.ca_keys.specs.declared.access.Kind.TheVariants as kinds
 use Rattle.ca_keys.specs.declared.verdict.Verdict.TheVariants as verdicts

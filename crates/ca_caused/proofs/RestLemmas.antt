@@ -3,7 +3,7 @@ use Rattle.std.proofs.Common.{◌≡◌, ◌&&◌, Bool, true, false, not, if◌
 use Rattle.std.proofs.lemmas.Bool.{and_parts}
 use Rattle.std.specs.List.{list_any}
 use Rattle.ca_keys.specs.Equal.{queue_eq}
-use Rattle.ca_agree_posts.proofs.GrantLemmas.{both-true}
+use Rattle.ca_agree_sends.proofs.of_ca_agree_posts.GrantLemmas.{both-true}
 use Rattle.ca_base.specs.declared.completion.Completion.{Completion}
 use Rattle.ca_base.specs.declared.completion.WcStatus.{WcStatus}
 use Rattle.ca_base.specs.declared.completion.WcStatus.TheVariants as statuses

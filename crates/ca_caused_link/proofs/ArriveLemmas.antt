@@ -11,10 +11,10 @@ use Rattle.ca_base.specs.declared.step.Reason.TheVariants as reasons
 use Rattle.ca_base.specs.objects.Mailbox.{Mailbox, after_delivery, after_send, bytes_lent}
 use Rattle.ca_base.specs.objects.QueuePair.{QueuePair, QueueSlot, NoQueue, Present}
 use Rattle.ca_base.specs.objects.SharedReceives.{SharedReceives}
-use Rattle.ca_caused.proofs.SuchLemmas.{RowSuch, leads-such}
+use Rattle.ca_caused_lists.proofs.of_ca_caused.SuchLemmas.{RowSuch, leads-such}
 use Rattle.ca_keys.specs.Equal.{queue_eq}
 use Rattle.ca_keys.specs.declared.names.QueueId.{QueueId}
-use Rattle.ca_laws_sound.proofs.WorldLemmas.{around_in, shared_of}
+use Rattle.ca_agree.proofs.of_ca_laws_sound.WorldLemmas.{around_in, shared_of}
 use Rattle.ca_model.specs.Past.{with_at}
 use Rattle.ca_model.specs.declared.answer.Answer.TheVariants as answers
 use Rattle.ca_model.specs.declared.answer.Refusal.TheVariants.{NoSuch}
@@ -30,9 +30,9 @@ use Rattle.ca_model.specs.machine.Sound.{IsSoundWorld}
 use Rattle.ca_model.specs.machine.Turns.{Leave_plan, Packet, Respond_around, has_room_for, packet_sent, reaches_peer, respond_plan, sent_marks, sent_updates}
 use Rattle.ca_model.specs.machine.VerbAnswers.{Call, Refuse_plan, answer_mark}
 use Rattle.ca_model.specs.machine.World.{Mailbox_of, Queue_of, World}
-use Rattle.ca_ties.proofs.DeliverWalk.{Has, has-aside, has-turn, has-writes, puts-append}
-use Rattle.ca_ties.proofs.SendLemmas.{boxes_after}
-use Rattle.ca_ties.proofs.TimerLemmas.{IsFoundAt, found-at}
+use Rattle.ca_once.proofs.of_ca_ties.DeliverWalk.{Has, has-aside, has-turn, has-writes, puts-append}
+use Rattle.ca_once.proofs.of_ca_ties.SendLemmas.{boxes_after}
+use Rattle.ca_once.proofs.of_ca_ties.TimerLemmas.{IsFoundAt, found-at}
 
 -- ---- packets that arrive
 

@@ -11,22 +11,22 @@ use Rattle.ca_agree.proofs.LeadsLemmas.{comes}
 use Rattle.ca_agree.proofs.MailSentLemmas.{lent-sent}
 use Rattle.ca_agree.specs.Agreement.{WereSent}
 use Rattle.ca_agree.specs.Runs.{Comes, Leads}
-use Rattle.ca_agree_posts.proofs.PostTurnLemmas.{life-refl}
+use Rattle.ca_carried.proofs.of_ca_agree_posts.PostTurnLemmas.{life-refl}
 use Rattle.ca_base.specs.Configuration.{Configuration}
 use Rattle.ca_base.specs.declared.completion.Completion.{Completion}
 use Rattle.ca_base.specs.declared.completion.WcStatus.{WcStatus}
 use Rattle.ca_base.specs.declared.correspondent.Correspondent.{Correspondent}
 use Rattle.ca_base.specs.declared.refusals.OpRefusal.{OpRefusal}
 use Rattle.ca_base.specs.objects.Mailbox.{bytes_lent}
-use Rattle.ca_caused.proofs.SuchLemmas.{such-does}
-use Rattle.ca_caused.specs.Causes.{completes_with_cause, has_own_cause}
+use Rattle.ca_caused_lists.proofs.of_ca_caused.SuchLemmas.{such-does}
+use Rattle.ca_caused_lists.specs.ca_caused.Causes.{completes_with_cause, has_own_cause}
 use Rattle.ca_caused_link.proofs.ArriveLemmas.{leads-injection}
 use Rattle.ca_caused_link.proofs.FaultLemmas.{with_arrival}
 use Rattle.ca_caused_link.proofs.ToldLemmas.{Behind, IsToldOf, Unheard, own-follow, told-of, unmet-follow}
 use Rattle.ca_caused_link.specs.Linked.{completes_so}
 use Rattle.ca_keys.specs.Equal.{queue_eq}
 use Rattle.ca_keys.specs.declared.names.QueueId.{QueueId}
-use Rattle.ca_laws_sound.proofs.SettledLemmas.{queue-path}
+use Rattle.ca_agree.proofs.of_ca_laws_sound.SettledLemmas.{queue-path}
 use Rattle.ca_model.specs.Caused.{Told, told_at_hand}
 use Rattle.ca_model.specs.Once.{is_clean, is_not_injected, begins_as_expected}
 use Rattle.ca_model.specs.Packets.{packet_of}

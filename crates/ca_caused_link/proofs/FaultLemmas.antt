@@ -5,7 +5,7 @@ use Rattle.std.proofs.lemmas.Option.{same_Some}
 use Rattle.std.specs.List.{list_all, list_any}
 use Rattle.std.specs.Option.{option_map_or}
 use Rattle.ca_agree.proofs.InnerLemmas.{AreInner, IsInnerMark}
-use Rattle.ca_agree_posts.proofs.GrantLemmas.{both-true}
+use Rattle.ca_carried.proofs.of_ca_agree_posts.GrantLemmas.{both-true}
 use Rattle.ca_base.specs.Equal.{status_eq}
 use Rattle.ca_base.specs.declared.change.Change.{Change}
 use Rattle.ca_base.specs.declared.change.Change.TheVariants as changes
@@ -13,8 +13,8 @@ use Rattle.ca_base.specs.declared.completion.Completion.{Completion}
 use Rattle.ca_base.specs.declared.completion.WcStatus.TheVariants.{Flushed}
 use Rattle.ca_base.specs.declared.correspondent.Correspondent.{Correspondent}
 use Rattle.ca_base.specs.declared.refusals.OpRefusal.{OpRefusal}
-use Rattle.ca_caused.proofs.PassLemmas.{faults-own, or-right}
-use Rattle.ca_caused.proofs.StoryLemmas.{AreFlushes}
+use Rattle.ca_caused_lists.proofs.of_ca_caused.PassLemmas.{faults-own, or-right}
+use Rattle.ca_caused_lists.proofs.of_ca_caused.StoryLemmas.{AreFlushes}
 use Rattle.ca_keys.specs.Numbers.{queue_of}
 use Rattle.ca_keys.specs.declared.names.QueueId.{QueueId}
 use Rattle.ca_model.specs.Caused.{makes_invalid}

@@ -28,14 +28,14 @@ use Rattle.ca_packet.specs.Table.{operation_of}
 use Rattle.ca_packet.specs.declared.shape.Operation.{Operation}
 use Rattle.ca_packet.specs.declared.shape.Operation.TheVariants.{Request, ReadResponse, Acknowledge, AtomicAcknowledge}
 use Rattle.ca_psn.specs.Psn.{widened}
-use Rattle.ca_ties.proofs.DeliverLemmas.{present-same}
-use Rattle.ca_ties.proofs.EntryLemmas.{EntryIs, entry-at}
-use Rattle.ca_ties.specs.Ties.{AreEntries, IsBefore, IsOver, IsPaired, IsTied, RequesterTie, SenderTie}
-use Rattle.ca_ties.specs.Ties.IsBefore.{sooner, unnamed}
-use Rattle.ca_ties.specs.Ties.IsOver.{later, vacant}
-use Rattle.ca_ties.specs.Ties.SenderTie.{before as sender_before, standing as sender_standing, gone as sender_gone}
+use Rattle.ca_once.proofs.of_ca_ties.DeliverLemmas.{present-same}
+use Rattle.ca_once.proofs.of_ca_ties.EntryLemmas.{EntryIs, entry-at}
+use Rattle.ca_once.specs.ca_ties.Ties.{AreEntries, IsBefore, IsOver, IsPaired, IsTied, RequesterTie, SenderTie}
+use Rattle.ca_once.specs.ca_ties.Ties.IsBefore.{sooner, unnamed}
+use Rattle.ca_once.specs.ca_ties.Ties.IsOver.{later, vacant}
+use Rattle.ca_once.specs.ca_ties.Ties.SenderTie.{before as sender_before, standing as sender_standing, gone as sender_gone}
 use Rattle.ca_ties_rows.specs.Entries.{IfPacket, ResponseEntry, SpellsResponse, SpellsSomeRequest}
-use Rattle.ca_ties_verbs.specs.Beginnings.{AllBeginEmpty, SlotBeginsEmpty}
+use Rattle.ca_once.specs.ca_ties_verbs.Beginnings.{AllBeginEmpty, SlotBeginsEmpty}
 
 -- ---- what fits
 

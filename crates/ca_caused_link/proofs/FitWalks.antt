@@ -5,8 +5,8 @@ use Rattle.ca_agree.proofs.InnerLemmas.{IsInner, arrival-inner, packet-inner, re
 use Rattle.ca_agree.proofs.LeadsLemmas.{comes, leads-weaker}
 use Rattle.ca_agree.specs.Agreement.{peer_in}
 use Rattle.ca_agree.specs.Runs.{Comes, Leads}
-use Rattle.ca_agree_accesses.proofs.EndLemmas.{RowSees}
-use Rattle.ca_agree_polls.proofs.PlanLemmas.{created, leads-create, leads-poll}
+use Rattle.ca_carried.proofs.of_ca_agree_accesses.EndLemmas.{RowSees}
+use Rattle.ca_caused_lists.proofs.of_ca_agree_polls.PlanLemmas.{created, leads-create, leads-poll}
 use Rattle.ca_base.specs.Configuration.{Configuration}
 use Rattle.ca_base.specs.declared.change.Change.{Change}
 use Rattle.ca_base.specs.declared.change.Change.TheVariants as changes
@@ -25,7 +25,7 @@ use Rattle.ca_base.specs.objects.Mailbox.{Mailbox, after_delivery, after_send, b
 use Rattle.ca_base.specs.objects.QueuePair.{QueuePair, QueueSlot, NoQueue, Present, correspondent_of, incarnation_of, is_present, with_all_flushed}
 use Rattle.ca_base.specs.objects.SharedReceives.{SharedReceives}
 use Rattle.ca_base.specs.objects.StateTable.{allowed_from, is_among, queue_after_change, state_eq}
-use Rattle.ca_caused.proofs.SuchLemmas.{such-does}
+use Rattle.ca_caused_lists.proofs.of_ca_caused.SuchLemmas.{such-does}
 use Rattle.ca_caused_link.proofs.ArriveLemmas.{leads-delivery, leads-injection, leads-response}
 use Rattle.ca_caused_link.proofs.FaultLemmas.{none-at}
 use Rattle.ca_caused_link.proofs.FitLemmas.{FitsBytes, FitsRead, IsSender, IsUp, ReadsFit, SameMail, delivered-mail, fit-goes, fit-grown, fit-nobody, fit-same, named-up, request-fits, same-mail, tied-sender, una-is, una_of}
@@ -47,9 +47,9 @@ use Rattle.ca_keys.specs.Equal.{queue_eq}
 use Rattle.ca_keys.specs.Numbers.{queue_of}
 use Rattle.ca_keys.specs.declared.names.QueueId.{QueueId}
 use Rattle.ca_keys.specs.declared.names.Slot.{Slot}
-use Rattle.ca_laws_sound.proofs.SettledLemmas.{queue-path, queue-refl}
-use Rattle.ca_laws_sound.proofs.WorldLemmas.{EndingDoes}
-use Rattle.ca_laws_windows.specs.Bindings.{IsBoundWorld}
+use Rattle.ca_agree.proofs.of_ca_laws_sound.SettledLemmas.{queue-path, queue-refl}
+use Rattle.ca_agree.proofs.of_ca_laws_sound.WorldLemmas.{EndingDoes}
+use Rattle.ca_carried.specs.ca_laws_windows.Bindings.{IsBoundWorld}
 use Rattle.ca_model.specs.Past.{with_at}
 use Rattle.ca_model.specs.declared.answer.Answer.TheVariants as answers
 use Rattle.ca_model.specs.declared.event.Event.{Event}
@@ -75,15 +75,15 @@ use Rattle.ca_model.specs.machine.Turns.{Packet, packet_sent, reaches_peer}
 use Rattle.ca_model.specs.machine.VerbAnswers.{Call, answer_mark}
 use Rattle.ca_model.specs.machine.World.{Cq_of, World, put}
 use Rattle.ca_psn.specs.Psn.{widened}
-use Rattle.ca_ties.proofs.DeliverLemmas.{present-same}
-use Rattle.ca_ties.proofs.DeliverWalk.{Ends, Has, ends-as, ends-do}
-use Rattle.ca_ties.proofs.EntryLemmas.{EntryIs, IsLent, entry-at, lent-envelope}
-use Rattle.ca_ties.proofs.SendLemmas.{boxes_after, reaches-parts}
-use Rattle.ca_ties.proofs.TimerLemmas.{IsFoundAt}
-use Rattle.ca_ties.specs.Ties.{IsPaired, IsTied, LeavesPairs, MailFollows, ReceiverTie}
-use Rattle.ca_ties.specs.Ties.IsBefore.{sooner, unnamed}
-use Rattle.ca_ties.specs.Ties.IsOver.{later, vacant}
-use Rattle.ca_ties.specs.Ties.ReceiverTie.{before as receiver_before, standing as receiver_standing, gone as receiver_gone}
+use Rattle.ca_once.proofs.of_ca_ties.DeliverLemmas.{present-same}
+use Rattle.ca_once.proofs.of_ca_ties.DeliverWalk.{Ends, Has, ends-as, ends-do}
+use Rattle.ca_once.proofs.of_ca_ties.EntryLemmas.{EntryIs, IsLent, entry-at, lent-envelope}
+use Rattle.ca_once.proofs.of_ca_ties.SendLemmas.{boxes_after, reaches-parts}
+use Rattle.ca_once.proofs.of_ca_ties.TimerLemmas.{IsFoundAt}
+use Rattle.ca_once.specs.ca_ties.Ties.{IsPaired, IsTied, LeavesPairs, MailFollows, ReceiverTie}
+use Rattle.ca_once.specs.ca_ties.Ties.IsBefore.{sooner, unnamed}
+use Rattle.ca_once.specs.ca_ties.Ties.IsOver.{later, vacant}
+use Rattle.ca_once.specs.ca_ties.Ties.ReceiverTie.{before as receiver_before, standing as receiver_standing, gone as receiver_gone}
 use Rattle.ca_ties_rows.proofs.ArrivalLemmas.{arrival-state, other-request-stays, response-taken}
 use Rattle.ca_ties_rows.proofs.ForgetLemmas.{cond-ending}
 use Rattle.ca_ties_rows.proofs.RequestRowLemmas.{cond-row}
@@ -92,13 +92,13 @@ use Rattle.ca_ties_rows.proofs.TurnLemmas.{packet-requests, packet-state, respon
 use Rattle.ca_ties_rows.specs.Entries.{IfPacket, SpellsResponse, SpellsSomeRequest}
 use Rattle.ca_ties_rows.specs.Moves.{EndingLeads, LeavesState, RowLeads, SendsRequests, SendsRequestsBy, StaysIn, TakesIn}
 use Rattle.ca_ties_rows.specs.Sides.{IsLaid, requester_in, responder_in, said}
-use Rattle.ca_ties_verbs.proofs.PairLemmas.{Replaces, replaces-changed, replaces-turned}
-use Rattle.ca_ties_verbs.proofs.PollLemmas.{AreFreer, IsFreerSlot, poll-freers}
-use Rattle.ca_ties_verbs.proofs.PollLemmas.IsFreerSlot.{freer, untouched}
-use Rattle.ca_ties_verbs.proofs.TurnWalks.{leads-request, leads-timeout, leads-wake}
-use Rattle.ca_ties_verbs.proofs.WalkLemmas.{SamePairs, box_after, leads-aside, leads-change, leads-dealloc, leads-destroy, leads-post, leads-receive, told_by, window_fewer, with_receive}
-use Rattle.ca_ties_verbs.specs.Agrees.{AgreesWith}
-use Rattle.ca_ties_verbs.specs.Beginnings.{AllBeginEmpty, SlotBeginsEmpty}
+use Rattle.ca_once.proofs.of_ca_ties_verbs.PairLemmas.{Replaces, replaces-changed, replaces-turned}
+use Rattle.ca_once.proofs.of_ca_ties_verbs.PollLemmas.{AreFreer, IsFreerSlot, poll-freers}
+use Rattle.ca_once.proofs.of_ca_ties_verbs.PollLemmas.IsFreerSlot.{freer, untouched}
+use Rattle.ca_once.proofs.of_ca_ties_verbs.TurnWalks.{leads-request, leads-timeout, leads-wake}
+use Rattle.ca_once.proofs.of_ca_ties_verbs.WalkLemmas.{SamePairs, box_after, leads-aside, leads-change, leads-dealloc, leads-destroy, leads-post, leads-receive, told_by, window_fewer, with_receive}
+use Rattle.ca_once.specs.ca_ties_verbs.Agrees.{AgreesWith}
+use Rattle.ca_once.specs.ca_ties_verbs.Beginnings.{AllBeginEmpty, SlotBeginsEmpty}
 
 -- ---- numbers
 

@@ -2,13 +2,13 @@
 use Rattle.std.proofs.Common.{◌≡◌, true, List, [], ◌∷◌, refl}
 use Rattle.std.proofs.lemmas.Bool.{and_parts}
 use Rattle.std.specs.List.{AllByRecursion}
-use Rattle.ca_agree_posts.proofs.GrantLemmas.{both-true}
+use Rattle.ca_carried.proofs.of_ca_agree_posts.GrantLemmas.{both-true}
 use Rattle.ca_base.specs.Configuration.{Configuration}
 use Rattle.ca_base.specs.declared.completion.Completion.{Completion}
 use Rattle.ca_base.specs.declared.completion.WcStatus.{WcStatus}
 use Rattle.ca_base.specs.declared.completion.WcStatus.TheVariants as statuses
-use Rattle.ca_caused.proofs.EventLemmas.{complete-with-causes}
-use Rattle.ca_caused.proofs.RestLemmas.{causes-and-rest}
+use Rattle.ca_caused_lists.proofs.of_ca_caused.EventLemmas.{complete-with-causes}
+use Rattle.ca_caused_lists.proofs.of_ca_caused.RestLemmas.{causes-and-rest}
 use Rattle.ca_caused_link.proofs.MisfitLemmas.{answers-fit}
 use Rattle.ca_caused_link.proofs.PeerLemmas.{first-entry, peers-have-reasons}
 use Rattle.ca_caused_link.specs.Linked.{completes_so, has_misfit_unclean, has_peers_reason}

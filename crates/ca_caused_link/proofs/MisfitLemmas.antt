@@ -8,10 +8,10 @@ use Rattle.ca_agree.proofs.InnerLemmas.{IsInner, arrival-inner}
 use Rattle.ca_agree.proofs.LeadsLemmas.{comes}
 use Rattle.ca_agree.specs.Agreement.{peer_in}
 use Rattle.ca_agree.specs.Runs.{Comes}
-use Rattle.ca_agree_posts.proofs.GrantLemmas.{both-true}
-use Rattle.ca_agree_posts.specs.Posts.{life}
-use Rattle.ca_agree_starts.proofs.StartEventLemmas.{event-starts-agree, opening-starts-agree}
-use Rattle.ca_agree_starts.specs.Starts.{AgreeOnStart, StartsAgree, StartsInSlot, start_in}
+use Rattle.ca_carried.proofs.of_ca_agree_posts.GrantLemmas.{both-true}
+use Rattle.ca_carried.specs.ca_agree_posts.Posts.{life}
+use Rattle.ca_carried.proofs.of_ca_agree_starts.StartEventLemmas.{event-starts-agree, opening-starts-agree}
+use Rattle.ca_carried.specs.ca_agree_starts.Starts.{AgreeOnStart, StartsAgree, StartsInSlot, start_in}
 use Rattle.ca_base.specs.Configuration.{Configuration}
 use Rattle.ca_base.specs.declared.change.State.{State}
 use Rattle.ca_base.specs.declared.change.State.TheVariants as states
@@ -24,10 +24,10 @@ use Rattle.ca_base.specs.objects.Mailbox.{later_than}
 use Rattle.ca_base.specs.objects.QueuePair.{QueuePair, QueueSlot, NoQueue, Present, is_present}
 use Rattle.ca_base.specs.objects.SharedReceives.{SharedReceives}
 use Rattle.ca_base.specs.objects.StateTable.{is_among, state_eq}
-use Rattle.ca_caused.proofs.EventLemmas.{complete-with-causes, event-causes-agree, opening-causes-agree}
-use Rattle.ca_caused.proofs.SuchLemmas.{RowSuch, such-does}
-use Rattle.ca_caused.specs.Causes.{completes_with_cause, has_own_cause, is_misfit}
-use Rattle.ca_caused.specs.Explained.{CausesAgree, ExplainedInSlot, IsExplained, IsFollowed, queue_past}
+use Rattle.ca_caused_lists.proofs.of_ca_caused.EventLemmas.{complete-with-causes, event-causes-agree, opening-causes-agree}
+use Rattle.ca_caused_lists.proofs.of_ca_caused.SuchLemmas.{RowSuch, such-does}
+use Rattle.ca_caused_lists.specs.ca_caused.Causes.{completes_with_cause, has_own_cause, is_misfit}
+use Rattle.ca_caused_lists.specs.ca_caused.Explained.{CausesAgree, ExplainedInSlot, IsExplained, IsFollowed, queue_past}
 use Rattle.ca_caused_link.proofs.AnswerLemmas.{answer-fits, first-posted, is_answer}
 use Rattle.ca_caused_link.proofs.ArriveLemmas.{leads-delivery}
 use Rattle.ca_caused_link.proofs.EntryLemmas.{IsDelivered, entry-passes}
@@ -45,8 +45,8 @@ use Rattle.ca_connection.specs.Link.{Link, Requester, Response, number_of, openi
 use Rattle.ca_keys.specs.Memory.{ByteMap}
 use Rattle.ca_keys.specs.Refusals.{first_of}
 use Rattle.ca_keys.specs.declared.names.QueueId.{QueueId}
-use Rattle.ca_laws_windows.proofs.WindowEventLemmas.{event-bound, opening-bound}
-use Rattle.ca_laws_windows.specs.Bindings.{IsBoundWorld}
+use Rattle.ca_carried.proofs.of_ca_laws_windows.WindowEventLemmas.{event-bound, opening-bound}
+use Rattle.ca_carried.specs.ca_laws_windows.Bindings.{IsBoundWorld}
 use Rattle.ca_model.specs.Caused.{Told, is_fitting_answer, told_at_hand}
 use Rattle.ca_model.specs.Entries.{EntryValue}
 use Rattle.ca_model.specs.Once.{is_clean, is_clean_pair}
@@ -82,15 +82,15 @@ use Rattle.ca_packet.specs.Packet.{Fields}
 use Rattle.ca_packet.specs.declared.packet.TheConstants.{DEFAULT_PKEY}
 use Rattle.ca_packet.specs.declared.wire_error.WireError.{WireError}
 use Rattle.ca_psn.specs.Psn.{widened}
-use Rattle.ca_ties.proofs.EntryLemmas.{IsLent, lent-envelope}
-use Rattle.ca_ties.proofs.FollowLemmas.{paths-follow}
-use Rattle.ca_ties.specs.Ties.{IsPaired, IsTied, SenderTie}
-use Rattle.ca_ties.specs.Ties.IsBefore.{sooner, unnamed}
-use Rattle.ca_ties.specs.Ties.IsOver.{later, vacant}
-use Rattle.ca_ties.specs.Ties.SenderTie.{before as sender_before, standing as sender_standing, gone as sender_gone}
+use Rattle.ca_once.proofs.of_ca_ties.EntryLemmas.{IsLent, lent-envelope}
+use Rattle.ca_once.proofs.of_ca_ties.FollowLemmas.{paths-follow}
+use Rattle.ca_once.specs.ca_ties.Ties.{IsPaired, IsTied, SenderTie}
+use Rattle.ca_once.specs.ca_ties.Ties.IsBefore.{sooner, unnamed}
+use Rattle.ca_once.specs.ca_ties.Ties.IsOver.{later, vacant}
+use Rattle.ca_once.specs.ca_ties.Ties.SenderTie.{before as sender_before, standing as sender_standing, gone as sender_gone}
 use Rattle.ca_ties_rows.proofs.LayLemmas.{psns-of-work}
 use Rattle.ca_ties_rows.specs.Sides.{work_of}
-use Rattle.ca_ties_verbs.specs.Agrees.{AgreesWith, acted_by}
+use Rattle.ca_once.specs.ca_ties_verbs.Agrees.{AgreesWith, acted_by}
 
 -- ---- clean connections
 

@@ -7,7 +7,7 @@ use Rattle.std.specs.List.{AllByRecursion, list_any}
 use Rattle.std.specs.Option.{option_map_or}
 use Rattle.ca_agree.specs.Agreement.{HoldsAlong, peer_named}
 use Rattle.ca_agree.specs.Runs.{Comes}
-use Rattle.ca_agree_posts.proofs.GrantLemmas.{both-true}
+use Rattle.ca_carried.proofs.of_ca_agree_posts.GrantLemmas.{both-true}
 use Rattle.ca_base.specs.Configuration.{Configuration}
 use Rattle.ca_base.specs.declared.completion.Completion.{Completion}
 use Rattle.ca_base.specs.declared.completion.WcStatus.{WcStatus}
@@ -15,9 +15,9 @@ use Rattle.ca_base.specs.declared.completion.WcStatus.TheVariants as statuses
 use Rattle.ca_base.specs.declared.mail_envelope.MailEnvelope.{MailEnvelope}
 use Rattle.ca_base.specs.declared.refusals.OpRefusal.{OpRefusal}
 use Rattle.ca_base.specs.objects.Mailbox.{bytes_lent, later_than}
-use Rattle.ca_caused.proofs.PassLemmas.{or-left, or-right}
-use Rattle.ca_caused.proofs.EventLemmas.{complete-with-causes}
-use Rattle.ca_caused.specs.Causes.{completes_with_cause, has_own_cause}
+use Rattle.ca_caused_lists.proofs.of_ca_caused.PassLemmas.{or-left, or-right}
+use Rattle.ca_caused_lists.proofs.of_ca_caused.EventLemmas.{complete-with-causes}
+use Rattle.ca_caused_lists.specs.ca_caused.Causes.{completes_with_cause, has_own_cause}
 use Rattle.ca_caused_link.proofs.EntryLemmas.{IsDelivered, entry-passes}
 use Rattle.ca_caused_link.proofs.FaultLemmas.{left_by, none-at}
 use Rattle.ca_caused_link.proofs.ReasonWalks.{event-reasons-agree, opening-reasons-agree}
@@ -37,7 +37,7 @@ use Rattle.ca_model.specs.machine.Run.{Follows}
 use Rattle.ca_model.specs.machine.Sound.{AreLimited, CanBeMade}
 use Rattle.ca_model.specs.machine.World.{World, opening_world}
 use Rattle.ca_once.proofs.RunLemmas.{Stands, Steps, Walk, walk-along}
-use Rattle.ca_ties.proofs.EntryLemmas.{IsLent, lent-envelope}
+use Rattle.ca_once.proofs.of_ca_ties.EntryLemmas.{IsLent, lent-envelope}
 use Rattle.ca_ties_rows.specs.Sides.{reason_of}
 use Rattle.ca_wire.specs.Syndrome.{nak_code}
 use Rattle.ca_wire.specs.declared.syndrome.NakCode.{NakCode}

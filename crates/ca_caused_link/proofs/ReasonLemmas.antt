@@ -2,7 +2,7 @@
 use Rattle.std.proofs.Common.{◌≡◌, ℕ, Bool, true, false, if◌then◌else◌, List, [], ◌∷◌, take, map, Option, None, Some, refl, sym, subst, ◌∙◌, zero, suc, ◌==◌, ◌-◌}
 use Rattle.std.proofs.lemmas.Option.{same_Some}
 use Rattle.std.specs.List.{AllByRecursion, list_any}
-use Rattle.ca_agree_posts.specs.Posts.{life}
+use Rattle.ca_carried.specs.ca_agree_posts.Posts.{life}
 use Rattle.ca_base.specs.declared.correspondent.Correspondent.{Correspondent}
 use Rattle.ca_base.specs.declared.limits.TheConstants.{KEPT_ENVELOPES}
 use Rattle.ca_base.specs.declared.lot.Lot.{Lot}
@@ -20,15 +20,15 @@ use Rattle.ca_connection.specs.Moves.{Keeps}
 use Rattle.ca_connection.specs.Moves.Keeps.{none as keeps_none, keep as keeps_one, leave as leaves_one}
 use Rattle.ca_keys.specs.Equal.{queue_eq}
 use Rattle.ca_keys.specs.declared.names.QueueId.{QueueId}
-use Rattle.ca_laws_sound.proofs.SettledLemmas.{queue-path}
+use Rattle.ca_agree.proofs.of_ca_laws_sound.SettledLemmas.{queue-path}
 use Rattle.ca_model.specs.Caused.{makes_access_error, makes_invalid, makes_operational_error}
 use Rattle.ca_model.specs.Past.{Fault, with_at}
 use Rattle.ca_model.specs.machine.Turns.{Packet, reaches_peer}
 use Rattle.ca_model.specs.machine.World.{World}
-use Rattle.ca_ties.proofs.SendLemmas.{boxes_after, reaches-parts}
+use Rattle.ca_once.proofs.of_ca_ties.SendLemmas.{boxes_after, reaches-parts}
 use Rattle.ca_ties_rows.proofs.ForgetLemmas.{Forgets}
 use Rattle.ca_ties_rows.specs.Sides.{said}
-use Rattle.ca_ties_verbs.proofs.PairLemmas.{Replaces}
+use Rattle.ca_once.proofs.of_ca_ties_verbs.PairLemmas.{Replaces}
 
 -- ---- more faults
 

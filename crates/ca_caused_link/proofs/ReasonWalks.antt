@@ -8,8 +8,8 @@ use Rattle.ca_agree.proofs.LeadsLemmas.{comes, leads-weaker}
 use Rattle.ca_agree.proofs.MailSentLemmas.{lent-sent}
 use Rattle.ca_agree.specs.Agreement.{PathsAgree, peer_in}
 use Rattle.ca_agree.specs.Runs.{Comes, Leads}
-use Rattle.ca_agree_polls.proofs.PlanLemmas.{created, leads-create, leads-poll}
-use Rattle.ca_agree_posts.specs.Posts.{life}
+use Rattle.ca_caused_lists.proofs.of_ca_agree_polls.PlanLemmas.{created, leads-create, leads-poll}
+use Rattle.ca_carried.specs.ca_agree_posts.Posts.{life}
 use Rattle.ca_base.specs.Configuration.{Configuration}
 use Rattle.ca_base.specs.declared.change.Change.{Change}
 use Rattle.ca_base.specs.declared.change.Change.TheVariants as changes
@@ -26,10 +26,10 @@ use Rattle.ca_base.specs.objects.Mailbox.{Mailbox, after_delivery, bytes_lent, i
 use Rattle.ca_base.specs.objects.QueuePair.{QueuePair, Present, correspondent_of, incarnation_of, with_all_flushed}
 use Rattle.ca_base.specs.objects.SharedReceives.{SharedReceives}
 use Rattle.ca_base.specs.objects.StateTable.{allowed_from, is_among, queue_after_change, state_eq}
-use Rattle.ca_caused.proofs.PassLemmas.{IsArrival, IsOccasion, unmarked-arrival}
-use Rattle.ca_caused.proofs.RequestStoryLemmas.{occasion_of}
-use Rattle.ca_caused.proofs.SuchLemmas.{leads-such}
-use Rattle.ca_caused.proofs.TurnLemmas.{arrival-met}
+use Rattle.ca_caused_lists.proofs.of_ca_caused.PassLemmas.{IsArrival, IsOccasion, unmarked-arrival}
+use Rattle.ca_caused_lists.proofs.of_ca_caused.RequestStoryLemmas.{occasion_of}
+use Rattle.ca_caused_lists.proofs.of_ca_caused.SuchLemmas.{leads-such}
+use Rattle.ca_caused_lists.proofs.of_ca_caused.TurnLemmas.{arrival-met}
 use Rattle.ca_caused_link.proofs.ArriveLemmas.{leads-delivery, leads-injection, leads-response}
 use Rattle.ca_caused_link.proofs.FaultLemmas.{AreNoAnswers, Flushes, TellFault, end-befall, event-befall, flushed-past, inner-no-answers, left_by, no-answers-append, tell-before, told-fault, unmarked-end}
 use Rattle.ca_caused_link.proofs.ReasonLemmas.{box-delivered, boxes-have, forgets-all, keeps-all, reasons-found, reasons-more, reasons-put, reasons-replaced, reasons-same, slot-of}
@@ -65,19 +65,19 @@ use Rattle.ca_model.specs.machine.Requester.{packet_row}
 use Rattle.ca_model.specs.machine.Respond.{respond_row}
 use Rattle.ca_model.specs.machine.VerbAnswers.{Call, answer_mark}
 use Rattle.ca_model.specs.machine.World.{Cq_of, World, opening_world, put}
-use Rattle.ca_ties.proofs.DeliverWalk.{Has, ends-as, ends-do}
-use Rattle.ca_ties.proofs.SendLemmas.{boxes_after}
-use Rattle.ca_ties.proofs.TimerLemmas.{IsFoundAt}
-use Rattle.ca_ties.specs.Ties.{LeavesPairs}
+use Rattle.ca_once.proofs.of_ca_ties.DeliverWalk.{Has, ends-as, ends-do}
+use Rattle.ca_once.proofs.of_ca_ties.SendLemmas.{boxes_after}
+use Rattle.ca_once.proofs.of_ca_ties.TimerLemmas.{IsFoundAt}
+use Rattle.ca_once.specs.ca_ties.Ties.{LeavesPairs}
 use Rattle.ca_ties_rows.proofs.ForgetLemmas.{Forgets, packet-forgets, timeout-forgets, wake-forgets}
 use Rattle.ca_ties_rows.proofs.TurnLemmas.{packet-requests}
 use Rattle.ca_ties_rows.specs.Moves.{SendsRequests, SendsRequestsBy}
-use Rattle.ca_ties_verbs.proofs.PairLemmas.{Replaces, replaces-changed}
-use Rattle.ca_ties_verbs.proofs.PollLemmas.{AreFreer, IsFreerSlot, poll-freers}
-use Rattle.ca_ties_verbs.proofs.PollLemmas.IsFreerSlot.{freer, untouched}
-use Rattle.ca_ties_verbs.proofs.TurnWalks.{leads-request, leads-timeout, leads-wake}
-use Rattle.ca_ties_verbs.proofs.WalkLemmas.{SamePairs, box_after, leads-aside, leads-change, leads-dealloc, leads-destroy, leads-post, leads-receive, revocation, told_by, window_fewer, with_receive}
-use Rattle.ca_ties_verbs.specs.Beginnings.{AllBeginEmpty, SlotBeginsEmpty}
+use Rattle.ca_once.proofs.of_ca_ties_verbs.PairLemmas.{Replaces, replaces-changed}
+use Rattle.ca_once.proofs.of_ca_ties_verbs.PollLemmas.{AreFreer, IsFreerSlot, poll-freers}
+use Rattle.ca_once.proofs.of_ca_ties_verbs.PollLemmas.IsFreerSlot.{freer, untouched}
+use Rattle.ca_once.proofs.of_ca_ties_verbs.TurnWalks.{leads-request, leads-timeout, leads-wake}
+use Rattle.ca_once.proofs.of_ca_ties_verbs.WalkLemmas.{SamePairs, box_after, leads-aside, leads-change, leads-dealloc, leads-destroy, leads-post, leads-receive, revocation, told_by, window_fewer, with_receive}
+use Rattle.ca_once.specs.ca_ties_verbs.Beginnings.{AllBeginEmpty, SlotBeginsEmpty}
 
 -- ---- what befell a queue pair by the marks of an event
 

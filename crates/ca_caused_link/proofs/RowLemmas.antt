@@ -2,8 +2,8 @@
 use Rattle.std.proofs.Common.{◌≡◌, ℕ, inl, inr, ◌+◌, ◌-◌, ◌==◌, ◌&&◌, ◌++◌, Bool, true, false, nat_le, nat_lt, if◌then◌else◌, length, List, [], ◌∷◌, Option, None, Some, is_none, Result, Ok, Err, refl, ap, sym, subst, ◌∙◌}
 use Rattle.std.specs.List.{AllByRecursion, list_all, list_any}
 use Rattle.std.specs.Option.{option_map, option_map_or}
-use Rattle.ca_agree_accesses.proofs.QuietLemmas.{all-filter, all-more}
-use Rattle.ca_agree_posts.proofs.GrantLemmas.{both-true}
+use Rattle.ca_carried.proofs.of_ca_agree_accesses.QuietLemmas.{all-filter, all-more}
+use Rattle.ca_carried.proofs.of_ca_agree_posts.GrantLemmas.{both-true}
 use Rattle.ca_base.specs.declared.completion.WcOp.TheVariants as operations
 use Rattle.ca_base.specs.declared.completion.WcStatus.TheVariants.{LocalLength, LocalProtection, MemoryManagement, Success}
 use Rattle.ca_base.specs.declared.denied_ask.DeniedAsk.{DeniedAsk}
@@ -18,8 +18,8 @@ use Rattle.ca_base.specs.objects.Answers.{answers_before, duplicate_count, is_ac
 use Rattle.ca_base.specs.objects.QueuePair.{QueuePair}
 use Rattle.ca_base.specs.objects.Saved.{saved_at}
 use Rattle.ca_base.specs.objects.SharedReceives.{SharedReceives}
-use Rattle.ca_caused.proofs.StoryLemmas.{AreFlushes, flush-flushes}
-use Rattle.ca_caused.proofs.SuchLemmas.{RowSuch}
+use Rattle.ca_caused_lists.proofs.of_ca_caused.StoryLemmas.{AreFlushes, flush-flushes}
+use Rattle.ca_caused_lists.proofs.of_ca_caused.SuchLemmas.{RowSuch}
 use Rattle.ca_caused_link.proofs.FaultLemmas.{TellFault, tell-behind}
 use Rattle.ca_caused_link.specs.Refused.{HasReason}
 use Rattle.ca_keys.specs.Equal.{queue_eq}
@@ -28,8 +28,8 @@ use Rattle.ca_keys.specs.declared.access.Ask.{Ask}
 use Rattle.ca_keys.specs.declared.access.Kind.{Kind}
 use Rattle.ca_keys.specs.declared.access.Kind.TheVariants as kinds
 use Rattle.ca_keys.specs.declared.verdict.Verdict.TheVariants as verdicts
-use Rattle.ca_laws_sound.proofs.SettledLemmas.{queue-path, queue-refl}
-use Rattle.ca_laws_sound.proofs.WorldLemmas.{EndingDoes, RowDoes}
+use Rattle.ca_agree.proofs.of_ca_laws_sound.SettledLemmas.{queue-path, queue-refl}
+use Rattle.ca_agree.proofs.of_ca_laws_sound.WorldLemmas.{EndingDoes, RowDoes}
 use Rattle.ca_model.specs.Caused.{makes_access_error, makes_invalid, makes_operational_error}
 use Rattle.ca_model.specs.Packets.{is_response}
 use Rattle.ca_model.specs.Past.{DeniedAccess, Fault, ReceiveFailed}

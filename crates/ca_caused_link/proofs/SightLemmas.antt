@@ -8,8 +8,8 @@ use Rattle.std.specs.Option.{option_and_then, option_map_or}
 use Rattle.std.specs.Result.{result_ok}
 use Rattle.ca_agree.proofs.LeadsLemmas.{comes}
 use Rattle.ca_agree.specs.Runs.{Comes, Leads}
-use Rattle.ca_agree_accesses.proofs.EndLemmas.{RowSees, one-allowed}
-use Rattle.ca_agree_keys.proofs.FrameLemmas.{leads-from}
+use Rattle.ca_carried.proofs.of_ca_agree_accesses.EndLemmas.{RowSees, one-allowed}
+use Rattle.ca_carried.proofs.of_ca_agree_keys.FrameLemmas.{leads-from}
 use Rattle.ca_base.specs.Configuration.{Configuration}
 use Rattle.ca_base.specs.Sight.{Invalidation, Sight, bytes_in, denial_in, first_denied, runs_by_grant}
 use Rattle.ca_base.specs.declared.denied_ask.DeniedAsk.{DeniedAsk}
@@ -25,16 +25,16 @@ use Rattle.ca_base.specs.objects.Window.{Binding, Window, grant_of_binding}
 use Rattle.ca_carried.proofs.RespondEndLemmas.{small-path}
 use Rattle.ca_carried.proofs.SpeltLemmas.{IsSpelt, shortened, spelt-again}
 use Rattle.ca_caused_link.proofs.SpeltLemmas.{read-no-acknowledge}
-use Rattle.ca_judged.proofs.WholeLemmas.{IsWhole, bytes-count, part-whole, region-whole}
+use Rattle.ca_carried.proofs.of_ca_judged.WholeLemmas.{IsWhole, bytes-count, part-whole, region-whole}
 use Rattle.ca_keys.specs.Allowed.{covers, denial_under, denials, fits}
 use Rattle.ca_keys.specs.Memory.{places_count}
 use Rattle.ca_keys.specs.Refusals.{first_of}
 use Rattle.ca_keys.specs.declared.access.Ask.{Ask}
 use Rattle.ca_keys.specs.declared.grant.Grant.{Grant}
 use Rattle.ca_keys.specs.declared.names.Slot.{Slot}
-use Rattle.ca_laws_sound.proofs.TurnLemmas.{all-fail}
-use Rattle.ca_laws_sound.proofs.WorldLemmas.{EndingDoes}
-use Rattle.ca_laws_windows.specs.Bindings.{IsBoundWorld, LiesIn}
+use Rattle.ca_agree.proofs.of_ca_laws_sound.TurnLemmas.{all-fail}
+use Rattle.ca_agree.proofs.of_ca_laws_sound.WorldLemmas.{EndingDoes}
+use Rattle.ca_carried.specs.ca_laws_windows.Bindings.{IsBoundWorld, LiesIn}
 use Rattle.ca_model.specs.Packets.{answers_read, is_last_read_response}
 use Rattle.ca_model.specs.declared.mark.Mark.{Mark}
 use Rattle.ca_model.specs.declared.read_left.ReadLeft.{ReadLeft}

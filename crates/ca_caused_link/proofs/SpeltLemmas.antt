@@ -9,7 +9,7 @@ use Rattle.ca_base.specs.declared.queue_numbers.Queued.TheVariants as queued
 use Rattle.ca_base.specs.declared.step.Reason.{Reason}
 use Rattle.ca_base.specs.declared.step.Reason.TheVariants as reasons
 use Rattle.ca_base.specs.objects.QueuePair.{QueuePair}
-use Rattle.ca_caused.proofs.SuchLemmas.{RowSuch}
+use Rattle.ca_caused_lists.proofs.of_ca_caused.SuchLemmas.{RowSuch}
 use Rattle.ca_caused_link.proofs.FaultLemmas.{TellFault}
 use Rattle.ca_caused_link.proofs.RowLemmas.{All, IsOf, one-ask, plainly}
 use Rattle.ca_caused_link.specs.Refused.{HasBefallen, HasReason, SpellReason}
@@ -18,7 +18,7 @@ use Rattle.ca_connection.specs.Link.Response.{Nak as LinkNak}
 use Rattle.ca_connection.specs.Link.NakReason.{ReceiverNotReady, RemoteAccessError as AccessReason}
 use Rattle.ca_keys.specs.Equal.{queue_eq}
 use Rattle.ca_keys.specs.Refusals.{first_of}
-use Rattle.ca_laws_sound.proofs.SettledLemmas.{queue-path}
+use Rattle.ca_agree.proofs.of_ca_laws_sound.SettledLemmas.{queue-path}
 use Rattle.ca_model.specs.Caused.{makes_access_error}
 use Rattle.ca_model.specs.Packets.{answers_read}
 use Rattle.ca_model.specs.Past.{DeniedAccess, Fault}

@@ -5,10 +5,10 @@ use Rattle.std.proofs.lemmas.Option.{same_Some}
 use Rattle.std.specs.List.{AllByRecursion}
 use Rattle.std.specs.Option.{option_and_then}
 use Rattle.ca_agree.proofs.InnerLemmas.{AreOwn, IsOwnMark}
-use Rattle.ca_agree_posts.proofs.GrantLemmas.{both-true}
+use Rattle.ca_carried.proofs.of_ca_agree_posts.GrantLemmas.{both-true}
 use Rattle.ca_base.specs.declared.completion.Completion.{Completion}
 use Rattle.ca_base.specs.declared.refusals.OpRefusal.{OpRefusal}
-use Rattle.ca_caused.specs.Causes.{completes_with_cause, has_own_cause}
+use Rattle.ca_caused_lists.specs.ca_caused.Causes.{completes_with_cause, has_own_cause}
 use Rattle.ca_caused_link.proofs.FaultLemmas.{Befall, mark-befall, with_arrival}
 use Rattle.ca_caused_link.specs.Linked.{completes_so}
 use Rattle.ca_base.specs.declared.completion.WcStatus.{WcStatus}

@@ -3,18 +3,18 @@ use Rattle.std.proofs.Common.{◌≡◌, ℕ, ◌==◌, Bool, true, false, if◌
 use Rattle.std.specs.List.{AllByRecursion}
 use Rattle.std.specs.Option.{option_and_then, option_map, option_map_or}
 use Rattle.std.specs.Result.{result_ok}
-use Rattle.ca_agree.proofs.EventFitLemmas.{first-marks}
-use Rattle.ca_agree.proofs.LeadsLemmas.{leads-around, leads-queue, leads-row, comes, leads-unless, leads-weaker}
-use Rattle.ca_agree.proofs.MailSentLemmas.{lent-sent}
-use Rattle.ca_agree.proofs.PathEventLemmas.{event-agrees, opening-agrees}
-use Rattle.ca_agree.proofs.PathVerbLemmas.{call_of}
-use Rattle.ca_agree.specs.Agreement.{PathsAgree, WereSent}
-use Rattle.ca_agree.specs.Runs.{Leads, Comes}
+use Rattle.ca_agree_lists.proofs.of_ca_agree.EventFitLemmas.{first-marks}
+use Rattle.ca_agree_lists.proofs.of_ca_agree.LeadsLemmas.{leads-around, leads-queue, leads-row, comes, leads-unless, leads-weaker}
+use Rattle.ca_agree_lists.proofs.of_ca_agree.MailSentLemmas.{lent-sent}
+use Rattle.ca_agree_lists.proofs.of_ca_agree.PathEventLemmas.{event-agrees, opening-agrees}
+use Rattle.ca_agree_lists.proofs.of_ca_agree.PathVerbLemmas.{call_of}
+use Rattle.ca_agree_lists.specs.ca_agree.Agreement.{PathsAgree, WereSent}
+use Rattle.ca_agree_lists.specs.ca_agree.Runs.{Leads, Comes}
 use Rattle.ca_agree_lists.proofs.EventLemmas.{event-lists-agree, opening-lists-agree}
 use Rattle.ca_agree_lists.specs.Lists.{ListsAgree}
-use Rattle.ca_agree_polls.proofs.OperationLemmas.{leads-operation}
-use Rattle.ca_agree_polls.proofs.PlanLemmas.{leads-poll}
-use Rattle.ca_agree_posts.proofs.GrantLemmas.{both-true}
+use Rattle.ca_agree_lists.proofs.of_ca_agree_polls.OperationLemmas.{leads-operation}
+use Rattle.ca_agree_lists.proofs.of_ca_agree_polls.PlanLemmas.{leads-poll}
+use Rattle.ca_caused.proofs.of_ca_agree_posts.GrantLemmas.{both-true}
 use Rattle.ca_base.specs.Configuration.{Configuration}
 use Rattle.ca_base.specs.declared.change.Change as state_change
 use Rattle.ca_base.specs.declared.change.Change.TheVariants as changes
@@ -44,12 +44,12 @@ use Rattle.ca_keys.specs.Numbers.{key_at, queue_of, window_index}
 use Rattle.ca_keys.specs.Refusals.{first_of}
 use Rattle.ca_keys.specs.declared.names.QueueId.{QueueId}
 use Rattle.ca_keys.specs.declared.names.Slot.{Slot}
-use Rattle.ca_laws_room.proofs.EventRoomLemmas.{event-room}
-use Rattle.ca_laws_room.proofs.RoomLemmas.{opening-room}
-use Rattle.ca_laws_room.specs.Room.{HasRoom}
-use Rattle.ca_laws_sound.proofs.SettledLemmas.{queue-refl}
-use Rattle.ca_laws_sound.proofs.SoundLemmas.{event-sound, opening-sound}
-use Rattle.ca_laws_sound.proofs.WorldLemmas.{IsThere, RowDoes, around_in, is-there, shared_of}
+use Rattle.ca_agree_lists.proofs.of_ca_laws_room.EventRoomLemmas.{event-room}
+use Rattle.ca_agree_lists.proofs.of_ca_laws_room.RoomLemmas.{opening-room}
+use Rattle.ca_agree_lists.specs.ca_laws_room.Room.{HasRoom}
+use Rattle.ca_agree_lists.proofs.of_ca_laws_sound.SettledLemmas.{queue-refl}
+use Rattle.ca_agree_lists.proofs.of_ca_laws_sound.SoundLemmas.{event-sound, opening-sound}
+use Rattle.ca_agree_lists.proofs.of_ca_laws_sound.WorldLemmas.{IsThere, RowDoes, around_in, is-there, shared_of}
 use Rattle.ca_model.specs.Entries.{EntryValue}
 use Rattle.ca_model.specs.Packets.{packet_of}
 use Rattle.ca_model.specs.Past.{Past, after_mark, after_marks, at_begin, at_end, envelope_sent, packet_at, after_entry, opening_past, each_mark, each_entry, arrived_at_hand}

@@ -1,7 +1,7 @@
 -- What is told of lists and what is told of the link are the rest of Caused. For proofs only.
 use Rattle.std.proofs.Common.{◌≡◌, ◌&&◌, Bool, true, List, [], ◌∷◌, refl}
 use Rattle.std.proofs.lemmas.Bool.{and_parts}
-use Rattle.ca_agree_posts.proofs.GrantLemmas.{both-true}
+use Rattle.ca_caused.proofs.of_ca_agree_posts.GrantLemmas.{both-true}
 use Rattle.ca_base.specs.declared.completion.Completion.{Completion}
 use Rattle.ca_base.specs.declared.completion.WcStatus.{WcStatus}
 use Rattle.ca_base.specs.declared.completion.WcStatus.TheVariants as statuses

@@ -5,7 +5,7 @@ use Rattle.std.specs.Option.{option_map_or}
 use Rattle.std.specs.Result.{result_ok}
 use Rattle.ca_agree_lists.proofs.PlanLemmas.{receiving-known}
 use Rattle.ca_agree_lists.specs.Lists.{ListsAgree, life_of, receive_by}
-use Rattle.ca_agree_posts.proofs.GrantLemmas.{both-true}
+use Rattle.ca_caused.proofs.of_ca_agree_posts.GrantLemmas.{both-true}
 use Rattle.ca_base.specs.Sight.{Invalidation}
 use Rattle.ca_base.specs.declared.completion.Completion.{Completion}
 use Rattle.ca_base.specs.declared.completion.WcOp.TheVariants as operations
@@ -33,8 +33,8 @@ use Rattle.ca_keys.specs.declared.access.Ask.{Ask}
 use Rattle.ca_keys.specs.declared.access.Kind.TheVariants as kinds
 use Rattle.ca_keys.specs.declared.key.Key.{Key}
 use Rattle.ca_keys.specs.declared.names.Slot.{Slot}
-use Rattle.ca_laws_sound.proofs.ExpectedLemmas.{valid-goes}
-use Rattle.ca_laws_sound.proofs.WorldLemmas.{EndingDoes, RowDoes, IsThere, around_in, shared_of}
+use Rattle.ca_agree_lists.proofs.of_ca_laws_sound.ExpectedLemmas.{valid-goes}
+use Rattle.ca_agree_lists.proofs.of_ca_laws_sound.WorldLemmas.{EndingDoes, RowDoes, IsThere, around_in, shared_of}
 use Rattle.ca_model.specs.Caused.{is_by_piece, list_at, receive_at}
 use Rattle.ca_model.specs.Packets.{begins_send, is_response, is_send, is_send_at}
 use Rattle.ca_model.specs.Past.{Past, after_mark, arrived_at_hand, bytes_before, each_mark, present_incarnation}

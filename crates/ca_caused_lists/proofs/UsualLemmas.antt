@@ -2,7 +2,7 @@
 use Rattle.std.proofs.Common.{subst, Bool, List, None, Option, Some, [], ap, false, if◌then◌else◌, nat_le, nat_lt, not, refl, suc, sym, true, ℕ, ◌&&◌, ◌++◌, ◌==◌, ◌∷◌, ◌≡◌}
 use Rattle.std.specs.List.{flat_map}
 use Rattle.std.specs.Option.{option_and_then, option_map_or}
-use Rattle.ca_agree_posts.proofs.GrantLemmas.{both-true}
+use Rattle.ca_caused.proofs.of_ca_agree_posts.GrantLemmas.{both-true}
 use Rattle.ca_base.specs.declared.change.State.TheVariants as states
 use Rattle.ca_base.specs.declared.completion.Completion.{Completion}
 use Rattle.ca_base.specs.declared.completion.WcStatus.TheVariants as statuses
@@ -24,7 +24,7 @@ use Rattle.ca_keys.specs.declared.access.Ask.{Ask}
 use Rattle.ca_keys.specs.declared.grant.Grant.{Grant}
 use Rattle.ca_keys.specs.declared.key.Key.{Key}
 use Rattle.ca_keys.specs.declared.names.QueueId.{QueueId}
-use Rattle.ca_laws_sound.proofs.WorldLemmas.{EndingDoes, RowDoes}
+use Rattle.ca_agree_lists.proofs.of_ca_laws_sound.WorldLemmas.{EndingDoes, RowDoes}
 use Rattle.ca_model.specs.Caused.{is_denied_list}
 use Rattle.ca_model.specs.Past.{Past, after_mark, each_mark}
 use Rattle.ca_model.specs.declared.mark.Drop1.TheVariants as drops

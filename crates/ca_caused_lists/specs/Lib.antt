@@ -1,1 +1,3 @@
 pub mod Listed
+-- The libraries below, handed on to those above.
+pub use Rattle.ca_caused.specs as ca_caused

@@ -2,3 +2,5 @@ pub mod OfferLemmas
 pub mod EngineLemmas
 pub mod PassingLemmas
 pub mod QuietLemmas
+-- The libraries below, handed on to those above.
+pub use Rattle.ca_order.proofs as of_ca_order

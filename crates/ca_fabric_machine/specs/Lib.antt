@@ -6,3 +6,6 @@ pub mod Meanings
 pub mod Places
 pub mod Steps
 pub mod Laws
+-- The libraries below, handed on to those above.
+pub use Rattle.ca_laws_parts.specs.ca_laws_names
+pub use Rattle.ca_worlds.specs as ca_worlds

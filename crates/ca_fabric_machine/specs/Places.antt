@@ -15,11 +15,11 @@ use Rattle.ca_fabric_machine.specs.Asks.{asked_needs, due_needs, event_asked, pe
 use Rattle.ca_fabric_machine.specs.declared.asked.Asked.{Asked}
 use Rattle.ca_fabric_machine.specs.declared.asked.Asked.TheVariants as asks
 use Rattle.ca_keys.specs.declared.names.QueueId.{QueueId}
-use Rattle.ca_laws_names.specs.Placed.{IsConfigured, IsPlacedSlot, IsPlacedWorld}
+use Rattle.ca_laws_parts.specs.ca_laws_names.Placed.{IsConfigured, IsPlacedSlot, IsPlacedWorld}
 use Rattle.ca_laws_parts.proofs.ConfiguredLemmas.{parts-configured}
 use Rattle.ca_laws_parts.proofs.CountLemmas.{few-event}
 use Rattle.ca_laws_parts.proofs.NeedsLemmas.{listed-also, none-decided, none-first}
-use Rattle.ca_laws_sound.proofs.SettledLemmas.{append-all}
+use Rattle.ca_worlds.proofs.of_ca_laws_sound.SettledLemmas.{append-all}
 use Rattle.ca_model.specs.declared.event.Event.{Event}
 use Rattle.ca_model.specs.declared.event.Event.TheVariants as events
 use Rattle.ca_model.specs.declared.part_name.PartName.{PartName}

@@ -13,6 +13,7 @@ mod law;
 mod reach;
 
 pub use access::{bytes_of_span, write_span};
+pub use ca_memory;
 pub use key_check::judge;
 pub use law::judged_by_slot;
 pub use reach::Reach;

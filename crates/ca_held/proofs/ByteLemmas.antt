@@ -8,11 +8,11 @@ use Rattle.std.specs.Option.{option_map_or}
 use Rattle.ca_keys.specs.declared.place.Place.{Place}
 use Rattle.ca_keys.specs.declared.place.Run.{Run}
 use Rattle.ca_keys.specs.Memory.{bytes_at, is_in, memory_after}
-use Rattle.ca_memory.specs.Buffer.{IsInside, IsWrittenAt, memory_of}
-use Rattle.ca_model.specs.declared.part_name.PartName.{PartName}
-use Rattle.ca_model.specs.declared.part_name.PartName.TheVariants as names
-use Rattle.ca_model.specs.machine.Frame.{AllPass}
-use Rattle.ca_model.specs.machine.World.{Name, Domain_of, Region_of, Window_of, Cq_of, Srq_of, Queue_of, Mailbox_of, Byte_at}
+use Rattle.ca_held_reach.specs.ca_memory.Buffer.{IsInside, IsWrittenAt, memory_of}
+use Rattle.ca_qpstate.specs.ca_model.declared.part_name.PartName.{PartName}
+use Rattle.ca_qpstate.specs.ca_model.declared.part_name.PartName.TheVariants as names
+use Rattle.ca_qpstate.specs.ca_model.machine.Frame.{AllPass}
+use Rattle.ca_qpstate.specs.ca_model.machine.World.{Name, Domain_of, Region_of, Window_of, Cq_of, Srq_of, Queue_of, Mailbox_of, Byte_at}
 use Rattle.ca_shelf.specs.Shelved.{has_thing, thing_under, with_thing}
 use Rattle.ca_held.specs.declared.held.Held.{Held}
 use Rattle.ca_held_reach.specs.declared.reached.BufferId.{BufferId}

@@ -14,13 +14,13 @@ use Rattle.ca_base.specs.objects.QueuePair.{vacant_queue}
 use Rattle.ca_base.specs.objects.Region.{Region, vacant_region}
 use Rattle.ca_base.specs.objects.SharedReceives.{SrqSlot, vacant_srq}
 use Rattle.ca_base.specs.objects.Window.{Window, vacant_window}
-use Rattle.ca_memory.specs.Buffer.{memory_of}
-use Rattle.ca_model.specs.declared.part_name.PartName.{PartName}
-use Rattle.ca_model.specs.declared.part_name.PartName.TheVariants as names
-use Rattle.ca_model.specs.machine.Parts.{part_eq, part_of}
-use Rattle.ca_model.specs.machine.World.{Name, World, put}
-use Rattle.ca_model.specs.machine.World.{Domain_of, Region_of, Window_of, Cq_of, Srq_of, Queue_of, Mailbox_of, Byte_at}
-use Rattle.ca_model.proofs.ThingLemmas.{domain-path, queue-path, slot-path}
+use Rattle.ca_held_reach.specs.ca_memory.Buffer.{memory_of}
+use Rattle.ca_qpstate.specs.ca_model.declared.part_name.PartName.{PartName}
+use Rattle.ca_qpstate.specs.ca_model.declared.part_name.PartName.TheVariants as names
+use Rattle.ca_qpstate.specs.ca_model.machine.Parts.{part_eq, part_of}
+use Rattle.ca_qpstate.specs.ca_model.machine.World.{Name, World, put}
+use Rattle.ca_qpstate.specs.ca_model.machine.World.{Domain_of, Region_of, Window_of, Cq_of, Srq_of, Queue_of, Mailbox_of, Byte_at}
+use Rattle.ca_qpstate.proofs.of_ca_model.ThingLemmas.{domain-path, queue-path, slot-path}
 use Rattle.ca_shelf.specs.declared.shelf.Named.{Named}
 use Rattle.ca_shelf.specs.Shelved.{Shelved, has_thing, thing_under, without_thing}
 use Rattle.ca_held.specs.declared.held.Held.{Held}

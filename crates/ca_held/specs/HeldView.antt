@@ -7,8 +7,8 @@ use Rattle.ca_keys.specs.declared.names.QueueId.{QueueId}
 use Rattle.ca_keys.specs.declared.names.Slot.{Slot}
 use Rattle.ca_keys.specs.declared.place.Run.{Run}
 use Rattle.ca_keys.specs.Memory.{memory_after}
-use Rattle.ca_model.specs.machine.Frame.{AllPass}
-use Rattle.ca_model.specs.machine.Plan.{byte_names}
+use Rattle.ca_qpstate.specs.ca_model.machine.Frame.{AllPass}
+use Rattle.ca_qpstate.specs.ca_model.machine.Plan.{byte_names}
 use Rattle.ca_keys.specs.Equal.{domain_eq, queue_eq, slot_eq}
 use Rattle.ca_base.specs.objects.CompletionQueue.{CompletionQueue}
 use Rattle.ca_base.specs.objects.Domain.{Domain, free_domain}
@@ -17,10 +17,10 @@ use Rattle.ca_base.specs.objects.QueuePair.{vacant_queue}
 use Rattle.ca_base.specs.objects.Region.{Region}
 use Rattle.ca_base.specs.objects.SharedReceives.{SrqSlot, vacant_srq}
 use Rattle.ca_base.specs.objects.Window.{Window}
-use Rattle.ca_model.specs.declared.part_name.PartName.{PartName}
-use Rattle.ca_model.specs.declared.part_name.PartName.TheVariants as names
-use Rattle.ca_model.specs.machine.World.{World, Name, Thing, put}
-use Rattle.ca_model.specs.machine.World.{Domain_of, Region_of, Window_of, Cq_of, Srq_of, Queue_of, Mailbox_of, Byte_at}
+use Rattle.ca_qpstate.specs.ca_model.declared.part_name.PartName.{PartName}
+use Rattle.ca_qpstate.specs.ca_model.declared.part_name.PartName.TheVariants as names
+use Rattle.ca_qpstate.specs.ca_model.machine.World.{World, Name, Thing, put}
+use Rattle.ca_qpstate.specs.ca_model.machine.World.{Domain_of, Region_of, Window_of, Cq_of, Srq_of, Queue_of, Mailbox_of, Byte_at}
 use Rattle.ca_shelf.specs.Shelved.{has_thing, thing_under, with_thing}
 use Rattle.std.specs.declared.alloc.Global.{Global}
 use Rattle.ca_held.specs.declared.held.Held.{Held}

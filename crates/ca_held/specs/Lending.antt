@@ -16,15 +16,15 @@ use Rattle.ca_cq.specs.contracts.cq.Cq.{the_row as cq_row}
 use Rattle.ca_held.specs.contracts.held.Held.{the_row as held_row}
 use Rattle.ca_held.specs.HeldView.{with_buffer, with_control, with_cq, with_mailbox, with_queue}
 use Rattle.ca_held.specs.HeldView.{with_region, with_srq, with_window}
-use Rattle.ca_memory.specs.contracts.buffer.Buffer.{the_row as buffer_row}
+use Rattle.ca_held_reach.specs.ca_memory.contracts.buffer.Buffer.{the_row as buffer_row}
 use Rattle.ca_held_reach.specs.declared.reached.BufferId.{BufferId}
 use Rattle.ca_held.specs.declared.part.QueueSlot.{QueueSlot}
 use Rattle.ca_held.specs.contracts.part.QueueSlot.{the_row as queue_row}
 use Rattle.ca_held.specs.contracts.part.ControlPart.{the_row as control_row}
 use Rattle.ca_mailbox.specs.contracts.mailbox.Mailbox.{the_row as mailbox_row}
 use Rattle.ca_held.specs.contracts.part.SrqSlot.{the_row as srq_row}
-use Rattle.ca_window.specs.contracts.window.Window.{the_row as window_row}
-use Rattle.ca_region.specs.contracts.region.Region.{the_row as region_row}
+use Rattle.ca_held_reach.specs.ca_window.contracts.window.Window.{the_row as window_row}
+use Rattle.ca_held_reach.specs.ca_region.contracts.region.Region.{the_row as region_row}
 
 -- the protection domain of this name is the last value behind the reference
 abbrev pub LendsControl : MutBor Held → DomainId → MutBor Domain → Fml

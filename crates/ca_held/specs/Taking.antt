@@ -7,12 +7,12 @@ use Rattle.ca_base.specs.objects.Region.{vacant_region}
 use Rattle.ca_base.specs.objects.SharedReceives.{vacant_srq}
 use Rattle.ca_base.specs.objects.Window.{vacant_window}
 use Rattle.ca_keys.specs.Memory.{ByteMap}
-use Rattle.ca_memory.specs.Buffer.{memory_of}
-use Rattle.ca_model.specs.declared.part_name.PartName.{PartName}
-use Rattle.ca_model.specs.declared.part_name.PartName.TheVariants as names
-use Rattle.ca_model.specs.machine.Parts.{part_eq, part_of}
-use Rattle.ca_model.specs.machine.World.{World, Name, opening_world, put}
-use Rattle.ca_model.specs.machine.World.{Domain_of, Region_of, Window_of, Cq_of, Srq_of, Queue_of, Mailbox_of, Byte_at}
+use Rattle.ca_held_reach.specs.ca_memory.Buffer.{memory_of}
+use Rattle.ca_qpstate.specs.ca_model.declared.part_name.PartName.{PartName}
+use Rattle.ca_qpstate.specs.ca_model.declared.part_name.PartName.TheVariants as names
+use Rattle.ca_qpstate.specs.ca_model.machine.Parts.{part_eq, part_of}
+use Rattle.ca_qpstate.specs.ca_model.machine.World.{World, Name, opening_world, put}
+use Rattle.ca_qpstate.specs.ca_model.machine.World.{Domain_of, Region_of, Window_of, Cq_of, Srq_of, Queue_of, Mailbox_of, Byte_at}
 use Rattle.ca_held_reach.specs.declared.reached.BufferId.{BufferId}
 use Rattle.ca_held.specs.declared.part.Part.{Part}
 use Rattle.ca_held.specs.declared.part.Part.TheVariants as parts

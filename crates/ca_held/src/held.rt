@@ -1,13 +1,13 @@
 use crate::part::{ControlPart, Part, QueueSlot, SrqSlot};
 use ca_base::{DomainId, Memory, QueueId, Run, Slot};
 use ca_cq::Cq;
+use ca_held_reach::ca_memory::Buffer;
+use ca_held_reach::ca_region::Region;
+use ca_held_reach::ca_window::Window;
 use ca_held_reach::{BufferId, Reached};
 use ca_mailbox::Mailbox;
-use ca_memory::Buffer;
-use ca_model::PartName;
-use ca_region::Region;
+use ca_qpstate::ca_model::PartName;
 use ca_shelf::Shelf;
-use ca_window::Window;
 use std::alloc::Global;
 
 /// The parts in hand, by kinds. What an engine reaches by keys stands by itself, so that a packet can stay lent from
@@ -27,11 +27,11 @@ impl Held {
     ghost use Rattle.std.specs.Prelude.{IfSome, IsTrue, OnErr, OnOk};
     ghost use Rattle.std.specs.Borrow.{sem};
     ghost use Rattle.ca_held.specs.Lending as lending;
-    ghost use Rattle.ca_model.specs.machine.World.{Domain_of, Region_of, Window_of, Cq_of, Srq_of};
-    ghost use Rattle.ca_model.specs.machine.World.{Queue_of, Mailbox_of};
+    ghost use Rattle.ca_qpstate.specs.ca_model.machine.World.{Domain_of, Region_of, Window_of, Cq_of, Srq_of};
+    ghost use Rattle.ca_qpstate.specs.ca_model.machine.World.{Queue_of, Mailbox_of};
     ghost use Rattle.ca_held.specs.HeldView.{IsRunHeld, holding, room_for, with_bytes};
     ghost use Rattle.ca_held.specs.Taking.{is_of_kind, nothing_held, with_part, without_part};
-    ghost use Rattle.ca_model.specs.declared.part_name.PartName.{PartName};
+    ghost use Rattle.ca_qpstate.specs.ca_model.declared.part_name.PartName.{PartName};
     ghost use Rattle.ca_held_reach.specs.Names.{buffer_eq};
     ghost use Rattle.ca_keys.specs.Memory.{bytes_at};
     ghost use Rattle.ca_shelf.specs.Shelved.{has_thing, thing_under};

@@ -11,5 +11,6 @@
 mod held;
 mod part;
 
+pub use ca_qpstate;
 pub use held::Held;
 pub use part::{ControlPart, Part, QueueSlot, SrqSlot};

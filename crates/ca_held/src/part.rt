@@ -1,10 +1,10 @@
 use ca_cq::Cq;
+use ca_held_reach::ca_memory::Buffer;
+use ca_held_reach::ca_region::Region;
+use ca_held_reach::ca_window::Window;
 use ca_mailbox::Mailbox;
-use ca_memory::Buffer;
 use ca_qpstate::QueuePart;
-use ca_region::Region;
 use ca_srq::Srq;
-use ca_window::Window;
 use std::marker::Model;
 
 /// A part of a fabric: what is taken and given back as one. A queue pair's part stands in a box, so that a part moves

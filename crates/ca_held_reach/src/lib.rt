@@ -11,4 +11,6 @@
 mod reach;
 mod reached;
 
+pub use ca_grant::ca_memory;
+pub use ca_localops::{ca_region, ca_window};
 pub use reached::{BufferId, Reached};

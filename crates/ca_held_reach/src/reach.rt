@@ -11,8 +11,8 @@ ghost use Rattle.ca_base.specs.objects.Slices.{is_key_of, slot_of_key};
 ghost use Rattle.ca_base.specs.objects.Window.{count_without, without_binding};
 ghost use Rattle.ca_grant.specs.KeySlot.{list_of_grant};
 ghost use Rattle.ca_grant.specs.Reaching.{IsFound, IsPacketAsk, invalidation_by};
-ghost use Rattle.ca_memory.specs.Number.{number_after};
-ghost use Rattle.ca_region.specs.Span.{runs_of_span};
+ghost use Rattle.ca_grant.specs.ca_memory.Number.{number_after};
+ghost use Rattle.ca_localops.specs.ca_region.Span.{runs_of_span};
 ghost use Rattle.ca_held_reach.specs.AtHand as at_hand;
 ghost use Rattle.ca_held_reach.specs.Changed as changed;
 ghost use Rattle.ca_held_reach.specs.Seen as seen;
@@ -22,10 +22,10 @@ use ca_base::{
     Ask, AtomicOp, Bytes, Denial, DomainId, Key, Memory, OpRefusal, QueueId, RegionError, Run,
     Slot, Span, Verdict, WindowCount, WindowError, slot_of_key,
 };
+use ca_grant::ca_memory::number_put;
 use ca_grant::{Reach, judge};
-use ca_memory::number_put;
-use ca_region::Region;
-use ca_window::Window;
+use ca_localops::ca_region::Region;
+use ca_localops::ca_window::Window;
 use std::alloc::Global;
 
 impl Reached {

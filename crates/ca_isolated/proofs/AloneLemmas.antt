@@ -3,14 +3,14 @@ use Rattle.std.proofs.Common.{◌≡◌, ◌∙◌, ℕ, suc, ◌||◌, ◌<◌,
 use Rattle.std.proofs.lemmas.Bool.{and_from}
 use Rattle.std.specs.List.{AllByRecursion, list_any}
 use Rattle.std.specs.Option.{option_map_or}
-use Rattle.ca_agree.proofs.EventFitLemmas.{first-marks}
-use Rattle.ca_agree.specs.Agreement.{HoldsAlong}
-use Rattle.ca_agree.specs.Runs.{Comes}
-use Rattle.ca_agree_keys.proofs.ChangeLemmas.{region-small}
-use Rattle.ca_agree_keys.proofs.KeyEventLemmas.{event-keys-agree, opening-keys-agree}
-use Rattle.ca_agree_keys.proofs.KeyTurnLemmas.{IsUp}
-use Rattle.ca_agree_keys.proofs.SlotLemmas.{key-slot-refl, region-kind, slot-at-region}
-use Rattle.ca_agree_keys.specs.InForce.{KeysAgree, grant_in_force, grant_over_regions, slot_at}
+use Rattle.ca_laws_domains.proofs.of_ca_agree.EventFitLemmas.{first-marks}
+use Rattle.ca_laws_domains.specs.ca_agree.Agreement.{HoldsAlong}
+use Rattle.ca_laws_domains.specs.ca_agree.Runs.{Comes}
+use Rattle.ca_laws_writes.proofs.of_ca_agree_keys.ChangeLemmas.{region-small}
+use Rattle.ca_laws_writes.proofs.of_ca_agree_keys.KeyEventLemmas.{event-keys-agree, opening-keys-agree}
+use Rattle.ca_laws_writes.proofs.of_ca_agree_keys.KeyTurnLemmas.{IsUp}
+use Rattle.ca_laws_writes.proofs.of_ca_agree_keys.SlotLemmas.{key-slot-refl, region-kind, slot-at-region}
+use Rattle.ca_laws_writes.specs.ca_agree_keys.InForce.{KeysAgree, grant_in_force, grant_over_regions, slot_at}
 use Rattle.ca_base.specs.Configuration.{Configuration}
 use Rattle.ca_base.specs.objects.Region.{RegionState, NoRegion, Free, Registered, FastRegistered, grant_in_state, grant_of_region}
 use Rattle.ca_base.specs.objects.Slices.{has_slot}
@@ -28,11 +28,11 @@ use Rattle.ca_laws_domains.proofs.ClosedLemmas.{closed-stays, of-group}
 use Rattle.ca_laws_domains.proofs.OtherLemmas.{others-keep}
 use Rattle.ca_laws_domains.proofs.SameLemmas.{same-alone}
 use Rattle.ca_laws_domains.specs.Domains.{AreBoundBeside, IsGrantedTo, LooksWithin, StaysWithin, is_seen_by, is_thing_of}
-use Rattle.ca_laws_names.proofs.PlacedLemmas.{event-placed, opening-placed}
-use Rattle.ca_laws_names.specs.Placed.{IsPlacedWorld}
-use Rattle.ca_laws_sound.proofs.SoundLemmas.{event-sound, opening-sound}
-use Rattle.ca_laws_windows.proofs.WindowEventLemmas.{event-bound, opening-bound}
-use Rattle.ca_laws_windows.specs.Bindings.{IsBoundWorld}
+use Rattle.ca_laws_domains.proofs.of_ca_laws_names.PlacedLemmas.{event-placed, opening-placed}
+use Rattle.ca_laws_domains.specs.ca_laws_names.Placed.{IsPlacedWorld}
+use Rattle.ca_laws_domains.proofs.of_ca_laws_sound.SoundLemmas.{event-sound, opening-sound}
+use Rattle.ca_laws_domains.proofs.of_ca_laws_windows.WindowEventLemmas.{event-bound, opening-bound}
+use Rattle.ca_laws_domains.specs.ca_laws_windows.Bindings.{IsBoundWorld}
 use Rattle.ca_laws_writes.proofs.BoundedEvents.{event-bounded}
 use Rattle.ca_laws_writes.specs.Bounds.{AreBounded}
 use Rattle.ca_model.specs.Entries.{EntryValue}

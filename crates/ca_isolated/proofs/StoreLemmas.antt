@@ -17,7 +17,7 @@ use Rattle.ca_keys.specs.declared.place.Place.{Place}
 use Rattle.ca_keys.specs.declared.place.Run.{Run}
 use Rattle.ca_keys.specs.declared.verdict.Verdict.{Verdict}
 use Rattle.ca_keys.specs.declared.verdict.Verdict.TheVariants as verdicts
-use Rattle.ca_laws_names.proofs.PlanLemmas.{AreRunsIn, cut-in}
+use Rattle.ca_laws_domains.proofs.of_ca_laws_names.PlanLemmas.{AreRunsIn, cut-in}
 use Rattle.ca_laws_writes.specs.Bounds.{AreBounded, IsBounded, LiesInBuffer, WritesFew}
 use Rattle.ca_isolated.proofs.PastLemmas.{Grants, mark-grants}
 use Rattle.ca_model.specs.Entries.{EntryValue}

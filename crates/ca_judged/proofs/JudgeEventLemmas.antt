@@ -3,11 +3,11 @@ use Rattle.std.proofs.Common.{◌≡◌, ℕ, suc, Bool, true, false, ◌&&◌, 
 use Rattle.std.specs.List.{AllByRecursion}
 use Rattle.std.specs.Option.{option_and_then, option_map, option_map_or}
 use Rattle.std.specs.Str.{bytes_eq}
-use Rattle.ca_agree.proofs.EventFitLemmas.{first-marks}
-use Rattle.ca_agree.proofs.LeadsLemmas.{comes, leads-around, leads-queue, leads-unless, leads-weaker}
-use Rattle.ca_agree.proofs.PathChangeLemmas.{Behind}
-use Rattle.ca_agree.proofs.PathVerbLemmas.{call_of}
-use Rattle.ca_agree.specs.Runs.{Comes, Leads}
+use Rattle.ca_agree_keys.proofs.of_ca_agree.EventFitLemmas.{first-marks}
+use Rattle.ca_agree_keys.proofs.of_ca_agree.LeadsLemmas.{comes, leads-around, leads-queue, leads-unless, leads-weaker}
+use Rattle.ca_agree_keys.proofs.of_ca_agree.PathChangeLemmas.{Behind}
+use Rattle.ca_agree_keys.proofs.of_ca_agree.PathVerbLemmas.{call_of}
+use Rattle.ca_agree_keys.specs.ca_agree.Runs.{Comes, Leads}
 use Rattle.ca_judged.proofs.JudgeLemmas.{Judges, RowJudged, Sees, both-true, bytes-refl, plain-judged}
 use Rattle.ca_agree_keys.proofs.KeyEventLemmas.{event-keys-agree, opening-keys-agree}
 use Rattle.ca_agree_keys.proofs.KeyTurnLemmas.{IsUp, found}
@@ -25,12 +25,12 @@ use Rattle.ca_base.specs.objects.QueuePair.{QueuePair, QueueSlot, NoQueue, Prese
 use Rattle.ca_keys.specs.Memory.{ByteMap, bytes_at}
 use Rattle.ca_keys.specs.declared.names.DomainId.{DomainId}
 use Rattle.ca_keys.specs.declared.names.QueueId.{QueueId}
-use Rattle.ca_laws_names.proofs.PlacedLemmas.{event-placed, opening-placed}
-use Rattle.ca_laws_names.specs.Placed.{IsPlacedWorld}
-use Rattle.ca_laws_sound.proofs.SoundLemmas.{event-sound, opening-sound}
-use Rattle.ca_laws_sound.proofs.WorldLemmas.{around_in, shared_of, IsThere}
-use Rattle.ca_laws_windows.proofs.WindowEventLemmas.{event-bound, opening-bound}
-use Rattle.ca_laws_windows.specs.Bindings.{IsBoundWorld}
+use Rattle.ca_agree_keys.proofs.of_ca_laws_names.PlacedLemmas.{event-placed, opening-placed}
+use Rattle.ca_agree_keys.specs.ca_laws_names.Placed.{IsPlacedWorld}
+use Rattle.ca_agree_keys.proofs.of_ca_laws_sound.SoundLemmas.{event-sound, opening-sound}
+use Rattle.ca_agree_keys.proofs.of_ca_laws_sound.WorldLemmas.{around_in, shared_of, IsThere}
+use Rattle.ca_agree_keys.proofs.of_ca_laws_windows.WindowEventLemmas.{event-bound, opening-bound}
+use Rattle.ca_agree_keys.specs.ca_laws_windows.Bindings.{IsBoundWorld}
 use Rattle.ca_model.specs.Entries.{EntryValue}
 use Rattle.ca_model.specs.Past.{Envelope, Past, after_entry, after_mark, after_marks, at_begin, each_entry, each_mark, opening_past, packet_at}
 use Rattle.ca_model.specs.declared.answer.Answer.TheVariants as answers
@@ -58,9 +58,9 @@ use Rattle.ca_model.specs.machine.Turns.{Fire, Leave_plan, Packet, Request_aroun
 use Rattle.ca_model.specs.machine.VerbAnswers.{Answer_plan, Call, Refuse_plan, answer_mark}
 use Rattle.ca_model.specs.machine.World.{Mailbox_of, Queue_of, World, opening_world}
 use Rattle.std.proofs.lemmas.Bool.{and_parts, eq-eqb}
-use Rattle.ca_agree.proofs.MailSentLemmas.{lent-sent}
-use Rattle.ca_agree.proofs.PathEventLemmas.{event-agrees, opening-agrees}
-use Rattle.ca_agree.specs.Agreement.{PathsAgree, WereSent}
+use Rattle.ca_agree_keys.proofs.of_ca_agree.MailSentLemmas.{lent-sent}
+use Rattle.ca_agree_keys.proofs.of_ca_agree.PathEventLemmas.{event-agrees, opening-agrees}
+use Rattle.ca_agree_keys.specs.ca_agree.Agreement.{PathsAgree, WereSent}
 use Rattle.ca_agree_keys.proofs.ToldLemmas.{At}
 use Rattle.ca_base.specs.objects.Slices.{has_queue, has_slot, slot_of_queue}
 use Rattle.ca_judged.proofs.JudgeOperationLemmas.{leads-judged, leads-perform}

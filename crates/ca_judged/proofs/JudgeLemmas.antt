@@ -28,7 +28,7 @@ use Rattle.ca_base.specs.Sight.{Sight, bytes_in, denial_by_grant, denial_in, fir
 use Rattle.ca_base.specs.declared.denied_ask.DeniedAsk.{DeniedAsk}
 use Rattle.ca_base.specs.declared.refusals.OpRefusal.{OpRefusal}
 use Rattle.ca_base.specs.declared.request.Piece.{Piece}
-use Rattle.ca_laws_sound.proofs.WorldLemmas.{EndingDoes}
+use Rattle.ca_agree_keys.proofs.of_ca_laws_sound.WorldLemmas.{EndingDoes}
 use Rattle.ca_model.specs.Judged.{held, is_fitting_size, is_judged, is_of_domain, is_read_or_write}
 use Rattle.ca_model.specs.Past.{Past, after_mark, after_marks, each_mark, local_ask, remote_ask}
 use Rattle.ca_model.specs.declared.mark.Mark.{Mark}

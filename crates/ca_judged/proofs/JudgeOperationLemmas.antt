@@ -1,8 +1,8 @@
 -- A local operation grants what is whole, and its other marks are judged whatever came before. For proofs only.
 use Rattle.std.proofs.Common.{◌∙◌, length, ◌≡◌, ℕ, suc, Bool, true, false, if◌then◌else◌, List, [], ◌∷◌, ◌++◌, map, Option, None, Some, refl, sym, ap, subst, true≢false, IfSome, ◌==◌, not, is_some}
 use Rattle.std.specs.Option.{option_and_then, option_map_or, option_map}
-use Rattle.ca_agree.proofs.LeadsLemmas.{comes}
-use Rattle.ca_agree.specs.Runs.{Comes, Leads}
+use Rattle.ca_agree_keys.proofs.of_ca_agree.LeadsLemmas.{comes}
+use Rattle.ca_agree_keys.specs.ca_agree.Runs.{Comes, Leads}
 use Rattle.ca_judged.proofs.JudgeLemmas.{Judges, RowJudged, both-true, plain-judged}
 use Rattle.ca_agree_keys.proofs.FrameLemmas.{leads-from}
 use Rattle.ca_judged.proofs.JudgeRowLemmas.{invalidate-judged}
@@ -22,7 +22,7 @@ use Rattle.ca_keys.specs.declared.key.Key.{Key}
 use Rattle.ca_keys.specs.declared.names.DomainId.{DomainId}
 use Rattle.ca_keys.specs.declared.names.QueueId.{QueueId}
 use Rattle.ca_keys.specs.declared.rights.Rights.{Rights}
-use Rattle.ca_laws_sound.proofs.WorldLemmas.{EndingDoes}
+use Rattle.ca_agree_keys.proofs.of_ca_laws_sound.WorldLemmas.{EndingDoes}
 use Rattle.ca_model.proofs.PerformLemmas.{row-performs}
 use Rattle.ca_model.specs.Past.{Past, each_mark}
 use Rattle.ca_model.specs.declared.mark.Mark.{Mark}
@@ -40,9 +40,9 @@ use Rattle.std.proofs.lemmas.Bool.{eq-eqb, eqb-true, not-false, or_parts}
 use Rattle.ca_judged.proofs.WholeLemmas.{IsWhole, part-whole, region-whole, some-path}
 use Rattle.ca_keys.specs.Memory.{places_count}
 use Rattle.ca_keys.specs.declared.names.Slot.{Slot}
-use Rattle.ca_laws_sound.proofs.RegionLemmas.{sound-fast}
-use Rattle.ca_laws_sound.proofs.TurnLemmas.{all-fail}
-use Rattle.ca_laws_windows.proofs.WindowBindLemmas.{IsInside, named-within}
+use Rattle.ca_agree_keys.proofs.of_ca_laws_sound.RegionLemmas.{sound-fast}
+use Rattle.ca_agree_keys.proofs.of_ca_laws_sound.TurnLemmas.{all-fail}
+use Rattle.ca_agree_keys.proofs.of_ca_laws_windows.WindowBindLemmas.{IsInside, named-within}
 use Rattle.ca_model.specs.Judged.{is_judged}
 use Rattle.ca_base.specs.objects.Region.{Region, grant_of_region, pages_needed}
 use Rattle.ca_base.specs.objects.Slices.{buffer_length, slot_of_key}

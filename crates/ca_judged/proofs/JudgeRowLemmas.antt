@@ -60,7 +60,7 @@ use Rattle.ca_model.specs.machine.Completions.{receive_mark, flush_marks, succes
 use Rattle.ca_keys.specs.declared.access.Ask.{Ask}
 use Rattle.ca_keys.specs.declared.grant.Grant.{Grant}
 use Rattle.ca_model.specs.declared.mark.Mark.{Mark}
-use Rattle.ca_laws_sound.proofs.WorldLemmas.{EndingDoes}
+use Rattle.ca_agree_keys.proofs.of_ca_laws_sound.WorldLemmas.{EndingDoes}
 use Rattle.ca_keys.specs.declared.verdict.Verdict.TheVariants as verdicts
 use Rattle.ca_base.specs.declared.request.Piece.{Piece}
 use Rattle.ca_base.specs.declared.limits.TheConstants.{ATOMIC_BYTES, MAX_MESSAGE_BYTES}

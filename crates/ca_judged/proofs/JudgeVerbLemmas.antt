@@ -1,11 +1,11 @@
 -- The marks of every verb but Load and Inject tell of nothing that could be judged wrongly. For proofs only.
 use Rattle.std.proofs.Common.{◌≡◌, refl, arith, not, ℕ, ◌||◌, ◌==◌, nat_lt, Bool, true, false, if◌then◌else◌, List, [], ◌∷◌, take, length, Option, None, Some, rules}
 use Rattle.std.specs.Option.{option_map, option_map_or}
-use Rattle.ca_agree.specs.Runs.{Leads}
+use Rattle.ca_agree_keys.specs.ca_agree.Runs.{Leads}
 use Rattle.ca_agree_keys.proofs.PlainLemmas.{ArePlainMarks, IsPlainMark, flush-plain}
 use Rattle.ca_judged.proofs.JudgeLemmas.{both-true}
-use Rattle.ca_agree.proofs.LeadsLemmas.{leads-around, leads-unless}
-use Rattle.ca_agree.proofs.PathVerbLemmas.{call_of}
+use Rattle.ca_agree_keys.proofs.of_ca_agree.LeadsLemmas.{leads-around, leads-unless}
+use Rattle.ca_agree_keys.proofs.of_ca_agree.PathVerbLemmas.{call_of}
 use Rattle.std.proofs.lemmas.Bool.{eq-eqb}
 use Rattle.ca_keys.specs.Memory.{places_count}
 use Rattle.ca_keys.specs.declared.key.Key.{Key}
@@ -54,7 +54,7 @@ use Rattle.ca_model.specs.machine.Step.{bytes_of_buffer, run_of, verb_plan}
 use Rattle.ca_model.specs.machine.VerbAnswers.{Answer_plan, Call, Refuse_plan, Unless_plan, of_change_refusals, of_region_refusals}
 use Rattle.ca_model.specs.machine.World.{Cq_of, Domain_of, Mailbox_of, Queue_of, Region_of, Window_of, World}
 use Rattle.ca_model.specs.machine.Around.{Around, With_around, completions_to, cq_updates}
-use Rattle.ca_laws_sound.proofs.WorldLemmas.{around_in, shared_of}
+use Rattle.ca_agree_keys.proofs.of_ca_laws_sound.WorldLemmas.{around_in, shared_of}
 
 -- a mark that is judged whatever came before: no access; no Load's answer; and a grant that is whole
 abbrev pub IsQuietMark : Mark → Type 0

@@ -9,8 +9,8 @@ use Rattle.std.proofs.lemmas.List.Sums.{sum_by-cons}
 use Rattle.std.specs.Option.{option_and_then, option_map_or}
 use Rattle.ca_agree_keys.specs.InForce.{AgreeOnGrants, grant_at, grant_over_regions, is_window_slot, slot_at}
 use Rattle.ca_agree_keys.proofs.SightLemmas.{over}
-use Rattle.ca_grant.proofs.Slots.{grant-in-slot}
-use Rattle.ca_grant.specs.KeySlot.{list_of_grant}
+use Rattle.ca_agree_keys.proofs.of_ca_grant.Slots.{grant-in-slot}
+use Rattle.ca_agree_keys.specs.ca_grant.KeySlot.{list_of_grant}
 use Rattle.ca_keys.specs.Allowed.{covers, denial_of, denial_under, denials, fits, grant_for}
 use Rattle.ca_keys.specs.Memory.{ByteMap, bytes_at, cut, places_count, places_of, run_places, runs_at, runs_for}
 use Rattle.ca_keys.specs.declared.access.Ask.{Ask}
@@ -21,13 +21,13 @@ use Rattle.ca_keys.specs.declared.place.Run.{Run}
 use Rattle.ca_base.specs.Configuration.{Configuration}
 use Rattle.ca_base.specs.objects.Region.{RegionState, NoRegion, Free, Registered, FastRegistered, grant_in_state, grant_of_region}
 use Rattle.ca_base.specs.objects.Window.{Binding, Window, grant_of_binding}
-use Rattle.ca_laws_sound.proofs.TurnLemmas.{all-fail}
-use Rattle.ca_laws_windows.specs.Bindings.{IsBoundWorld, LiesIn}
+use Rattle.ca_agree_keys.proofs.of_ca_laws_sound.TurnLemmas.{all-fail}
+use Rattle.ca_agree_keys.specs.ca_laws_windows.Bindings.{IsBoundWorld, LiesIn}
 use Rattle.ca_model.specs.Past.{KeySlot, key_slot}
 use Rattle.ca_model.specs.machine.Row.{grant_over, region_under}
 use Rattle.ca_model.specs.machine.Sound.{IsSoundState, IsSoundWorld}
 use Rattle.ca_model.specs.machine.World.{Region_of, World}
-use Rattle.ca_region.proofs.Cut.{cut-count}
+use Rattle.ca_agree_keys.proofs.of_ca_region.Cut.{cut-count}
 
 -- a grant has a place for each of its bytes
 abbrev pub IsWhole : Grant → Type 0

@@ -1,1 +1,3 @@
 pub mod Raised
+-- The libraries below, handed on to those above.
+pub use Rattle.ca_model.specs as ca_model

@@ -10,10 +10,10 @@ use Rattle.ca_keys.specs.declared.names.QueueId.{QueueId}
 use Rattle.ca_keys.specs.declared.names.Slot.{Slot}
 use Rattle.ca_model.specs.machine.Places.{Ascend, places_in_use, places_of_side}
 use Rattle.ca_model.specs.machine.World.{World}
-use Rattle.ca_laws_room.proofs.FitLemmas.{IsPresent, present, receives-few, receives-side}
-use Rattle.ca_laws_room.proofs.FreedLemmas.{taken-once}
-use Rattle.ca_laws_room.proofs.RoomLists.{all-map, ascend-filter, still-in}
-use Rattle.ca_laws_room.specs.Room.{AreDistinct, AreHeld, is_in, places_kept, taken_in}
+use Rattle.ca_worlds.proofs.of_ca_laws_room.FitLemmas.{IsPresent, present, receives-few, receives-side}
+use Rattle.ca_worlds.proofs.of_ca_laws_room.FreedLemmas.{taken-once}
+use Rattle.ca_worlds.proofs.of_ca_laws_room.RoomLists.{all-map, ascend-filter, still-in}
+use Rattle.ca_worlds.specs.ca_laws_room.Room.{AreDistinct, AreHeld, is_in, places_kept, taken_in}
 use Rattle.ca_acts_pairs.specs.Departures.{AreFew, CanDepart, StandOnce, places_of}
 use Rattle.ca_acts_pairs.specs.Names.{names_around}
 use Rattle.ca_worlds.specs.Worlds.{IsWorldAfter}

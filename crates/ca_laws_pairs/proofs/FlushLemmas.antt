@@ -30,9 +30,9 @@ use Rattle.ca_model.specs.machine.QueuePairVerbs.{modify_qp_plan}
 use Rattle.ca_model.specs.machine.Step.{step}
 use Rattle.ca_model.specs.machine.VerbAnswers.{Answer_plan, Call, Refuse_plan, Unless_plan, answer_mark, of_change_refusals}
 use Rattle.ca_model.specs.machine.World.{Cq_of, Queue_of, World}
-use Rattle.ca_acts.specs.Room.{FitIn}
+use Rattle.ca_acts_laws.specs.ca_acts.Room.{FitIn}
 use Rattle.ca_acts_pairs.specs.Changed.{CanChange}
-use Rattle.ca_laws_room.proofs.EventRoomLemmas.{together-fit}
+use Rattle.ca_worlds.proofs.of_ca_laws_room.EventRoomLemmas.{together-fit}
 use Rattle.ca_worlds.specs.Worlds.{IsWorldAfter}
 use Rattle.ca_laws_pairs.proofs.DepartLemmas.{can-depart}
 

@@ -16,8 +16,8 @@ use Rattle.ca_model.specs.machine.VerbAnswers.{Call}
 use Rattle.ca_model.specs.machine.World.{Cq_of, Queue_of, Srq_of, World}
 use Rattle.ca_model.specs.machine.Around.{completions_to}
 use Rattle.ca_model.specs.machine.Completions.{flush_marks}
-use Rattle.ca_held.specs.HeldView.{Holding}
-use Rattle.ca_acts.specs.Room.{FitIn}
+use Rattle.ca_acts_pairs.specs.ca_held.HeldView.{Holding}
+use Rattle.ca_acts_laws.specs.ca_acts.Room.{FitIn}
 use Rattle.ca_acts_laws.specs.Steps.{Shows}
 use Rattle.ca_acts_pairs.specs.Changed.{CanChange}
 use Rattle.ca_acts_pairs.specs.Departures.{AreFew, CanDepart, StandOnce, places_left, places_of}

@@ -10,7 +10,7 @@ ghost use Rattle.ca_model.specs.machine.Plan.{touches};
 ghost use Rattle.ca_model.specs.machine.QueuePairVerbs.{destroy_qp_plan, modify_qp_plan};
 ghost use Rattle.ca_model.specs.machine.VerbAnswers.{Call};
 ghost use Rattle.ca_model.specs.machine.World.{World};
-ghost use Rattle.ca_held.specs.HeldView.{Holding};
+ghost use Rattle.ca_acts_pairs.specs.ca_held.HeldView.{Holding};
 ghost use Rattle.ca_acts_laws.specs.Steps.{Shows};
 ghost use Rattle.ca_acts_pairs.specs.Changed.{CanChange};
 ghost use Rattle.ca_acts_pairs.specs.Departures.{CanDepart};

@@ -11,6 +11,7 @@
 
 mod laws;
 
+pub use ca_acts_pairs;
 pub use laws::{
     held_queue_pairs_can_change, held_queue_pairs_can_depart, queue_pairs_can_change,
     queue_pairs_can_depart,

@@ -13,3 +13,5 @@ pub mod EventRoomLemmas
 pub mod RoomCases
 pub mod RoomLemmas
 pub mod FreedLemmas
+-- The libraries below, handed on to those above.
+pub use Rattle.ca_laws_sound.proofs as of_ca_laws_sound

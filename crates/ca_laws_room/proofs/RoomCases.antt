@@ -5,8 +5,8 @@ use Rattle.std.specs.Option.{option_map_or}
 use Rattle.ca_base.specs.declared.change.Change.TheVariants as changes
 use Rattle.ca_keys.specs.Memory.{zeros}
 use Rattle.ca_base.specs.objects.CompletionQueue.{room_reserved}
-use Rattle.ca_wire.specs.declared.requests.SendKind.TheVariants.{Plain}
-use Rattle.ca_wire.specs.Builders.{send_packet}
+use Rattle.ca_model.specs.ca_wire.declared.requests.SendKind.TheVariants.{Plain}
+use Rattle.ca_model.specs.ca_wire.Builders.{send_packet}
 use Rattle.ca_packet.specs.Decoding.{packet_in, bth_at, number_at, payload_at, payload_behind, body_in}
 use Rattle.ca_packet.specs.Packet.{be_bytes, packet_bytes, spelling}
 use Rattle.ca_packet.specs.Table.{row_of}

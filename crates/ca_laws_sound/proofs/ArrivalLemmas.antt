@@ -20,9 +20,9 @@ use Rattle.ca_base.specs.declared.request.PlacedReceive.{PlacedReceive}
 use Rattle.ca_base.specs.objects.SharedReceives.{SharedReceives, first_receive}
 use Rattle.ca_base.specs.objects.StateTable.{is_path_mtu}
 use Rattle.ca_base.specs.objects.WorkQueue.{WorkQueue, after_take, item_at, next_place, with_all_taken}
-use Rattle.ca_wire.specs.declared.syndrome.NakCode.{NakCode}
-use Rattle.ca_packet.specs.Packet.{Fields}
-use Rattle.ca_wire.specs.Syndrome.{nak_code}
+use Rattle.ca_model.specs.ca_wire.declared.syndrome.NakCode.{NakCode}
+use Rattle.ca_model.specs.ca_packet.Packet.{Fields}
+use Rattle.ca_model.specs.ca_wire.Syndrome.{nak_code}
 use Rattle.ca_model.specs.Requests.{segments}
 use Rattle.ca_model.specs.machine.Arrivals.{next_receive, refusal_effects, with_answer, with_flag, with_message, with_receive_taken, with_responder}
 use Rattle.ca_model.specs.machine.Completions.{flush_marks, receive_failure}

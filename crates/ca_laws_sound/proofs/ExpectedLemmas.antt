@@ -24,13 +24,13 @@ use Rattle.ca_base.specs.objects.Saved.{after_save}
 use Rattle.ca_base.specs.declared.request.PlacedReceive.{PlacedReceive}
 use Rattle.ca_base.specs.objects.SharedReceives.{SharedReceives}
 use Rattle.ca_base.specs.objects.WorkQueue.{WorkQueue}
-use Rattle.ca_packet.specs.declared.atomic_eth.AtomicEth.{AtomicEth}
-use Rattle.ca_packet.specs.declared.reth.Reth.{Reth}
-use Rattle.ca_packet.specs.declared.shape.Position.{Position}
-use Rattle.ca_wire.specs.declared.syndrome.NakCode.{NakCode}
-use Rattle.ca_wire.specs.declared.syndrome.NakCode.TheVariants.{InvalidRequest, RemoteAccessError, RemoteOperationalError}
-use Rattle.ca_packet.specs.Packet.{Fields}
-use Rattle.ca_packet.specs.Shapes.{ends}
+use Rattle.ca_model.specs.ca_packet.declared.atomic_eth.AtomicEth.{AtomicEth}
+use Rattle.ca_model.specs.ca_packet.declared.reth.Reth.{Reth}
+use Rattle.ca_model.specs.ca_packet.declared.shape.Position.{Position}
+use Rattle.ca_model.specs.ca_wire.declared.syndrome.NakCode.{NakCode}
+use Rattle.ca_model.specs.ca_wire.declared.syndrome.NakCode.TheVariants.{InvalidRequest, RemoteAccessError, RemoteOperationalError}
+use Rattle.ca_model.specs.ca_packet.Packet.{Fields}
+use Rattle.ca_model.specs.ca_packet.Shapes.{ends}
 use Rattle.ca_model.specs.Packets.{number_put}
 use Rattle.ca_model.specs.Requests.{list_length, segments}
 use Rattle.ca_model.specs.machine.Arrivals.{next_receive, packet_ask, refusal_effects, remote_mark, with_answer, with_flag, with_message, with_receive_taken}
@@ -43,8 +43,8 @@ use Rattle.ca_model.specs.machine.Requester.{local_denial}
 use Rattle.ca_model.specs.machine.Responses.{local_writes, writes_by}
 use Rattle.ca_model.specs.machine.Row as rows
 use Rattle.ca_model.specs.machine.Row.{Ending, Does, Effects, Row, plain_row, queue_and_marks}
-use Rattle.ca_packet.specs.declared.shape.Shape.{Shape}
-use Rattle.ca_packet.specs.declared.shape.Shape.TheVariants as shapes
+use Rattle.ca_model.specs.ca_packet.declared.shape.Shape.{Shape}
+use Rattle.ca_model.specs.ca_packet.declared.shape.Shape.TheVariants as shapes
 use Rattle.ca_model.specs.machine.Invariants.{IsMessage, IsQueue, IsSharedReceives, IsTaken, is_idle}
 use Rattle.ca_laws_sound.proofs.ArrivalLemmas.{IsHeld, IsTaking, answer-queue, flag-queue, message-queue, no-message-queue, packet-answer-queue, packet-queue, receive-failure-good, refusal-good, responder-later, segments-enough, taking}
 use Rattle.ca_laws_sound.proofs.GoodLemmas.{IsGood, IsLater, later-on, later-same, taken-same}

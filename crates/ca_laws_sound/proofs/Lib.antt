@@ -19,3 +19,5 @@ pub mod EventLemmas
 pub mod QueueVerbLemmas
 pub mod PollLemmas
 pub mod SoundLemmas
+-- The libraries below, handed on to those above.
+pub use Rattle.ca_model.proofs as of_ca_model

@@ -17,14 +17,14 @@ use Rattle.ca_base.specs.objects.Answers.{answers_before, duplicate_count, psn_o
 use Rattle.ca_base.specs.objects.QueuePair.{QueuePair, in_error, without_answers}
 use Rattle.ca_base.specs.objects.Saved.{saved_at}
 use Rattle.ca_base.specs.objects.SharedReceives.{SharedReceives}
-use Rattle.ca_psn.specs.Psn.{widened}
-use Rattle.ca_packet.specs.declared.reth.Reth.{Reth}
-use Rattle.ca_wire.specs.declared.syndrome.NakCode.TheVariants.{PsnSequenceError}
-use Rattle.ca_packet.specs.declared.wire_error.WireError.{WireError}
-use Rattle.ca_wire.specs.Builders.{acknowledgement, atomic_acknowledge, nak, read_response, rnr_nak}
-use Rattle.ca_packet.specs.Decoding.{packet_in}
-use Rattle.ca_packet.specs.Packet.{Fields}
-use Rattle.ca_wire.specs.Syndrome.{nak_code}
+use Rattle.ca_model.specs.ca_psn.Psn.{widened}
+use Rattle.ca_model.specs.ca_packet.declared.reth.Reth.{Reth}
+use Rattle.ca_model.specs.ca_wire.declared.syndrome.NakCode.TheVariants.{PsnSequenceError}
+use Rattle.ca_model.specs.ca_packet.declared.wire_error.WireError.{WireError}
+use Rattle.ca_model.specs.ca_wire.Builders.{acknowledgement, atomic_acknowledge, nak, read_response, rnr_nak}
+use Rattle.ca_model.specs.ca_packet.Decoding.{packet_in}
+use Rattle.ca_model.specs.ca_packet.Packet.{Fields}
+use Rattle.ca_model.specs.ca_wire.Syndrome.{nak_code}
 use Rattle.ca_model.specs.declared.mark.Drop1.{Drop1}
 use Rattle.ca_model.specs.declared.mark.Drop1.TheVariants as drops
 use Rattle.ca_model.specs.Packets.{is_response}
@@ -39,9 +39,9 @@ use Rattle.ca_model.specs.machine.Respond.{answer_turn, is_last_response, nak_of
 use Rattle.ca_model.specs.machine.Requester.{peer_number, psn_bits}
 use Rattle.ca_model.specs.machine.Responses.{drop_effects, response_row}
 use Rattle.ca_model.specs.machine.Row.{Does, Effects, NotPossible, Row, plain_row, queue_and_marks}
-use Rattle.ca_packet.specs.declared.shape.Shape.{Shape}
-use Rattle.ca_packet.specs.declared.shape.Shape.TheVariants as shapes
-use Rattle.ca_packet.specs.Table.{shape_of}
+use Rattle.ca_model.specs.ca_packet.declared.shape.Shape.{Shape}
+use Rattle.ca_model.specs.ca_packet.declared.shape.Shape.TheVariants as shapes
+use Rattle.ca_model.specs.ca_packet.Table.{shape_of}
 use Rattle.ca_model.specs.machine.Invariants.{IsAnswer, IsQueue, IsSharedReceives, is_connected, is_idle}
 use Rattle.ca_laws_sound.proofs.ArrivalLemmas.{answer-queue, flag-queue, responder-later, responder-queue, segments-enough}
 use Rattle.ca_laws_sound.proofs.ExpectedLemmas.{expected-good, responder-good}

@@ -26,23 +26,23 @@ use Rattle.ca_base.specs.objects.StateTable.{is_among}
 use Rattle.ca_base.specs.objects.SharedReceives.{SharedReceives, first_receive}
 use Rattle.ca_base.specs.objects.WorkQueue.{WorkQueue, after_take, item_at, items_from}
 use Rattle.ca_base.specs.declared.request.RecvRequest.{RecvRequest}
-use Rattle.ca_psn.specs.Psn.{widened}
-use Rattle.ca_packet.specs.declared.atomic_eth.AtomicEth.{AtomicEth}
-use Rattle.ca_packet.specs.declared.opcode.TheConstants.{ACKNOWLEDGE}
-use Rattle.ca_packet.specs.declared.reth.Reth.{Reth}
-use Rattle.ca_packet.specs.declared.shape.Position.{Position}
-use Rattle.ca_packet.specs.declared.shape.Shape.{Shape}
-use Rattle.ca_packet.specs.declared.shape.Shape.TheVariants as shapes
-use Rattle.ca_packet.specs.declared.wire_error.WireError.{WireError}
-use Rattle.ca_packet.specs.Decoding.{packet_in}
-use Rattle.ca_packet.specs.Packet.{Fields}
-use Rattle.ca_packet.specs.Shapes.{ends}
-use Rattle.ca_packet.specs.Table.{shape_of}
-use Rattle.ca_wire.specs.declared.syndrome.NakCode.{NakCode}
-use Rattle.ca_wire.specs.declared.syndrome.NakCode.TheVariants.{InvalidRequest, PsnSequenceError, RemoteAccessError, RemoteOperationalError}
-use Rattle.ca_wire.specs.declared.syndrome.Syndrome.{Syndrome}
-use Rattle.ca_wire.specs.declared.syndrome.Syndrome.TheVariants.{Ack, Nak, RnrNak}
-use Rattle.ca_wire.specs.Syndrome.{nak_code, syndrome_in}
+use Rattle.ca_model.specs.ca_psn.Psn.{widened}
+use Rattle.ca_model.specs.ca_packet.declared.atomic_eth.AtomicEth.{AtomicEth}
+use Rattle.ca_model.specs.ca_packet.declared.opcode.TheConstants.{ACKNOWLEDGE}
+use Rattle.ca_model.specs.ca_packet.declared.reth.Reth.{Reth}
+use Rattle.ca_model.specs.ca_packet.declared.shape.Position.{Position}
+use Rattle.ca_model.specs.ca_packet.declared.shape.Shape.{Shape}
+use Rattle.ca_model.specs.ca_packet.declared.shape.Shape.TheVariants as shapes
+use Rattle.ca_model.specs.ca_packet.declared.wire_error.WireError.{WireError}
+use Rattle.ca_model.specs.ca_packet.Decoding.{packet_in}
+use Rattle.ca_model.specs.ca_packet.Packet.{Fields}
+use Rattle.ca_model.specs.ca_packet.Shapes.{ends}
+use Rattle.ca_model.specs.ca_packet.Table.{shape_of}
+use Rattle.ca_model.specs.ca_wire.declared.syndrome.NakCode.{NakCode}
+use Rattle.ca_model.specs.ca_wire.declared.syndrome.NakCode.TheVariants.{InvalidRequest, PsnSequenceError, RemoteAccessError, RemoteOperationalError}
+use Rattle.ca_model.specs.ca_wire.declared.syndrome.Syndrome.{Syndrome}
+use Rattle.ca_model.specs.ca_wire.declared.syndrome.Syndrome.TheVariants.{Ack, Nak, RnrNak}
+use Rattle.ca_model.specs.ca_wire.Syndrome.{nak_code, syndrome_in}
 use Rattle.ca_model.specs.declared.mark.Drop1.{Drop1}
 use Rattle.ca_model.specs.declared.mark.Drop1.TheVariants as drops
 use Rattle.ca_model.specs.declared.mark.Mark.{Mark}

@@ -9,4 +9,6 @@
 
 mod laws;
 
+pub use ca_model;
+pub use ca_model::ca_wire;
 pub use laws::{event_keeps_worlds_sound, opening_world_is_sound};

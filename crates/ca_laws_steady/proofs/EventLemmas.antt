@@ -4,17 +4,17 @@ use Rattle.ca_base.specs.Configuration.{Configuration}
 use Rattle.ca_keys.specs.Equal.{queue_eq}
 use Rattle.ca_keys.specs.Memory.{ByteMap, bytes_at}
 use Rattle.ca_laws_sound.proofs.WorldLemmas.{EndsIn}
-use Rattle.ca_model.proofs.FrameLemmas.{after_write}
-use Rattle.ca_model.specs.declared.event.Event.{Event}
-use Rattle.ca_model.specs.declared.event.Event.TheVariants as events
-use Rattle.ca_model.specs.declared.verb.Verb.{Verb}
-use Rattle.ca_model.specs.declared.verb.Verb.TheVariants as verbs
-use Rattle.ca_model.specs.machine.Frame.{Afterwards}
-use Rattle.ca_model.specs.machine.Plan.{Finish, If, Look, Plan, Read, Stuck, Update, Write, perform, put_all, write_all}
-use Rattle.ca_model.specs.machine.Sound.{IsSoundWorld}
-use Rattle.ca_model.specs.machine.Step.{plan, step, verb_plan}
-use Rattle.ca_model.specs.machine.VerbAnswers.{Call}
-use Rattle.ca_model.specs.machine.World.{Byte_at, Cq_of, Domain_of, Mailbox_of, Name, Queue_of, Region_of, Srq_of, Thing, Window_of, World, get, opening_world, put}
+use Rattle.ca_laws_sound.proofs.of_ca_model.FrameLemmas.{after_write}
+use Rattle.ca_laws_sound.specs.ca_model.declared.event.Event.{Event}
+use Rattle.ca_laws_sound.specs.ca_model.declared.event.Event.TheVariants as events
+use Rattle.ca_laws_sound.specs.ca_model.declared.verb.Verb.{Verb}
+use Rattle.ca_laws_sound.specs.ca_model.declared.verb.Verb.TheVariants as verbs
+use Rattle.ca_laws_sound.specs.ca_model.machine.Frame.{Afterwards}
+use Rattle.ca_laws_sound.specs.ca_model.machine.Plan.{Finish, If, Look, Plan, Read, Stuck, Update, Write, perform, put_all, write_all}
+use Rattle.ca_laws_sound.specs.ca_model.machine.Sound.{IsSoundWorld}
+use Rattle.ca_laws_sound.specs.ca_model.machine.Step.{plan, step, verb_plan}
+use Rattle.ca_laws_sound.specs.ca_model.machine.VerbAnswers.{Call}
+use Rattle.ca_laws_sound.specs.ca_model.machine.World.{Byte_at, Cq_of, Domain_of, Mailbox_of, Name, Queue_of, Region_of, Srq_of, Thing, Window_of, World, get, opening_world, put}
 use Rattle.ca_laws_steady.proofs.TurnLemmas.{AllSteady, IsSteadyThing, steady-deliver, steady-inject, steady-request, steady-respond, steady-timeout, steady-wake}
 use Rattle.ca_laws_steady.proofs.VerbLemmas.{steady-create_qp, steady-dealloc_mw, steady-destroy_qp, steady-modify_qp, steady-poll, steady-post_recv, steady-post_send, steady-post_srq, steady-present}
 use Rattle.ca_laws_steady.specs.Steady.{IsSteadySlot, IsSteadyWorld}

@@ -7,8 +7,8 @@ use Rattle.ca_base.specs.declared.completion.WcOp.TheVariants as operations
 use Rattle.ca_base.specs.declared.completion.WcStatus.TheVariants.{BadResponse, LocalLength, LocalProtection, MemoryManagement, RemoteAccess, RemoteInvalidRequest, RemoteOperation, RetryExceeded, RnrRetryExceeded, Success}
 use Rattle.ca_base.specs.declared.denied_ask.DeniedAsk.{DeniedAsk}
 use Rattle.ca_keys.specs.declared.access.Ask.{Ask}
-use Rattle.ca_model.specs.machine.Completions.{receive_mark}
-use Rattle.ca_model.specs.machine.Requester.{local_denial}
+use Rattle.ca_laws_sound.specs.ca_model.machine.Completions.{receive_mark}
+use Rattle.ca_laws_sound.specs.ca_model.machine.Requester.{local_denial}
 use Rattle.ca_base.specs.declared.queue_numbers.Queued.{Queued}
 use Rattle.ca_base.specs.declared.queue_numbers.Queued.TheVariants as queued
 use Rattle.ca_base.specs.declared.refusals.OpRefusal.{OpRefusal}
@@ -23,40 +23,40 @@ use Rattle.ca_base.specs.objects.StateTable.{is_among}
 use Rattle.ca_base.specs.declared.limits.TheConstants.{MAX_DUPLICATES, MAX_RETRY}
 use Rattle.ca_keys.specs.Refusals.{first_of}
 use Rattle.ca_laws_sound.proofs.WorldLemmas.{RowDoes}
-use Rattle.ca_model.specs.Packets.{is_response}
-use Rattle.ca_model.specs.Requests.{list_length, segments}
-use Rattle.ca_model.specs.declared.mark.Drop1.{Drop1}
-use Rattle.ca_model.specs.declared.mark.Drop1.TheVariants as drops
-use Rattle.ca_model.specs.declared.read_left.ReadLeft.{ReadLeft}
-use Rattle.ca_model.specs.declared.receiving.Receiving.{Receiving}
-use Rattle.ca_model.specs.declared.write_reach.WriteReach.{WriteReach}
-use Rattle.ca_model.specs.machine.Acknowledgements.{Acknowledgement, acknowledgement_below, and_then, failure_effects, first_unanswered, one_retry, progress_to, with_requester}
-use Rattle.ca_model.specs.machine.Arrivals.{next_receive, refusal_effects, with_answer, with_flag, with_message, with_receive_taken}
-use Rattle.ca_model.specs.machine.Delivery.{arrival_drops, arrival_row, packet_arrived}
-use Rattle.ca_model.specs.machine.Duplicates.{ack_again, ahead_effects, atomic_again, duplicate_effects, read_again, request_row}
-use Rattle.ca_model.specs.machine.Expected.{behind_marks, invalidation_of, queue_after_packet, receive_asks, receive_failure_effects, revoked_marks, rnr_effects, with_shared_receive, with_window_gone, after_send_packet, after_write_packet, atomic_row, is_invalid, read_queued, receiving_of, send_row, takes_receive, valid_row, write_reach, write_row}
-use Rattle.ca_model.specs.machine.Numbering.{Numbered, begun_requests, request_at}
-use Rattle.ca_model.specs.machine.Respond.{answer_turn, is_last_response, respond_refusals, respond_row, rest_of, with_front, without_front}
-use Rattle.ca_model.specs.machine.Responses.{local_writes, writes_by, acknowledge_row, answer_row, drop_effects, fits_request, fitting_row, is_outstanding_at, nak_effects, response_psn, response_row, rnr_nak_effects, unless_back}
-use Rattle.ca_model.specs.machine.Row.{Does, Effects, NotPossible, Row, plain_row, queue_and_marks}
-use Rattle.ca_model.specs.machine.Timers.{after_timeout, after_wake}
-use Rattle.ca_packet.specs.Decoding.{packet_in}
-use Rattle.ca_packet.specs.Packet.{Fields}
-use Rattle.ca_packet.specs.Shapes.{ends}
-use Rattle.ca_packet.specs.Table.{shape_of}
-use Rattle.ca_packet.specs.declared.atomic_eth.AtomicEth.{AtomicEth}
-use Rattle.ca_packet.specs.declared.opcode.TheConstants.{ACKNOWLEDGE}
-use Rattle.ca_packet.specs.declared.reth.Reth.{Reth}
-use Rattle.ca_packet.specs.declared.shape.Position.{Position}
-use Rattle.ca_packet.specs.declared.shape.Shape.{Shape}
-use Rattle.ca_packet.specs.declared.shape.Shape.TheVariants as shapes
-use Rattle.ca_packet.specs.declared.wire_error.WireError.{WireError}
-use Rattle.ca_psn.specs.Psn.{widened}
-use Rattle.ca_wire.specs.Syndrome.{nak_code, syndrome_in}
-use Rattle.ca_wire.specs.declared.syndrome.NakCode.{NakCode}
-use Rattle.ca_wire.specs.declared.syndrome.NakCode.TheVariants.{PsnSequenceError, InvalidRequest, RemoteAccessError, RemoteOperationalError}
-use Rattle.ca_wire.specs.declared.syndrome.Syndrome.{Syndrome}
-use Rattle.ca_wire.specs.declared.syndrome.Syndrome.TheVariants.{Ack, RnrNak, Nak}
+use Rattle.ca_laws_sound.specs.ca_model.Packets.{is_response}
+use Rattle.ca_laws_sound.specs.ca_model.Requests.{list_length, segments}
+use Rattle.ca_laws_sound.specs.ca_model.declared.mark.Drop1.{Drop1}
+use Rattle.ca_laws_sound.specs.ca_model.declared.mark.Drop1.TheVariants as drops
+use Rattle.ca_laws_sound.specs.ca_model.declared.read_left.ReadLeft.{ReadLeft}
+use Rattle.ca_laws_sound.specs.ca_model.declared.receiving.Receiving.{Receiving}
+use Rattle.ca_laws_sound.specs.ca_model.declared.write_reach.WriteReach.{WriteReach}
+use Rattle.ca_laws_sound.specs.ca_model.machine.Acknowledgements.{Acknowledgement, acknowledgement_below, and_then, failure_effects, first_unanswered, one_retry, progress_to, with_requester}
+use Rattle.ca_laws_sound.specs.ca_model.machine.Arrivals.{next_receive, refusal_effects, with_answer, with_flag, with_message, with_receive_taken}
+use Rattle.ca_laws_sound.specs.ca_model.machine.Delivery.{arrival_drops, arrival_row, packet_arrived}
+use Rattle.ca_laws_sound.specs.ca_model.machine.Duplicates.{ack_again, ahead_effects, atomic_again, duplicate_effects, read_again, request_row}
+use Rattle.ca_laws_sound.specs.ca_model.machine.Expected.{behind_marks, invalidation_of, queue_after_packet, receive_asks, receive_failure_effects, revoked_marks, rnr_effects, with_shared_receive, with_window_gone, after_send_packet, after_write_packet, atomic_row, is_invalid, read_queued, receiving_of, send_row, takes_receive, valid_row, write_reach, write_row}
+use Rattle.ca_laws_sound.specs.ca_model.machine.Numbering.{Numbered, begun_requests, request_at}
+use Rattle.ca_laws_sound.specs.ca_model.machine.Respond.{answer_turn, is_last_response, respond_refusals, respond_row, rest_of, with_front, without_front}
+use Rattle.ca_laws_sound.specs.ca_model.machine.Responses.{local_writes, writes_by, acknowledge_row, answer_row, drop_effects, fits_request, fitting_row, is_outstanding_at, nak_effects, response_psn, response_row, rnr_nak_effects, unless_back}
+use Rattle.ca_laws_sound.specs.ca_model.machine.Row.{Does, Effects, NotPossible, Row, plain_row, queue_and_marks}
+use Rattle.ca_laws_sound.specs.ca_model.machine.Timers.{after_timeout, after_wake}
+use Rattle.ca_laws_sound.specs.ca_packet.Decoding.{packet_in}
+use Rattle.ca_laws_sound.specs.ca_packet.Packet.{Fields}
+use Rattle.ca_laws_sound.specs.ca_packet.Shapes.{ends}
+use Rattle.ca_laws_sound.specs.ca_packet.Table.{shape_of}
+use Rattle.ca_laws_sound.specs.ca_packet.declared.atomic_eth.AtomicEth.{AtomicEth}
+use Rattle.ca_laws_sound.specs.ca_packet.declared.opcode.TheConstants.{ACKNOWLEDGE}
+use Rattle.ca_laws_sound.specs.ca_packet.declared.reth.Reth.{Reth}
+use Rattle.ca_laws_sound.specs.ca_packet.declared.shape.Position.{Position}
+use Rattle.ca_laws_sound.specs.ca_packet.declared.shape.Shape.{Shape}
+use Rattle.ca_laws_sound.specs.ca_packet.declared.shape.Shape.TheVariants as shapes
+use Rattle.ca_laws_sound.specs.ca_packet.declared.wire_error.WireError.{WireError}
+use Rattle.ca_laws_sound.specs.ca_psn.Psn.{widened}
+use Rattle.ca_laws_sound.specs.ca_wire.Syndrome.{nak_code, syndrome_in}
+use Rattle.ca_laws_sound.specs.ca_wire.declared.syndrome.NakCode.{NakCode}
+use Rattle.ca_laws_sound.specs.ca_wire.declared.syndrome.NakCode.TheVariants.{PsnSequenceError, InvalidRequest, RemoteAccessError, RemoteOperationalError}
+use Rattle.ca_laws_sound.specs.ca_wire.declared.syndrome.Syndrome.{Syndrome}
+use Rattle.ca_laws_sound.specs.ca_wire.declared.syndrome.Syndrome.TheVariants.{Ack, RnrNak, Nak}
 use Rattle.ca_laws_steady.proofs.SameLemmas.{progress-first, progress-steady, steady-as, steady-error}
 use Rattle.ca_laws_steady.specs.Steady.{IsSteadyQueue}
 

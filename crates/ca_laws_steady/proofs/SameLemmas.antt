@@ -12,10 +12,10 @@ use Rattle.ca_base.specs.declared.request.PostedSend.{PostedSend}
 use Rattle.ca_base.specs.objects.QueuePair.{QueuePair, in_error}
 use Rattle.ca_base.specs.objects.WorkQueue.{WorkQueue, items_from, next_place}
 use Rattle.ca_laws_sound.proofs.NumberingLemmas.{Numbers, are-numbers, count_sum, drop-numbers, take-numbers}
-use Rattle.ca_model.specs.Requests.{is_local}
-use Rattle.ca_model.specs.machine.Acknowledgements.{after_finished, finished_requests, with_una}
-use Rattle.ca_model.specs.machine.Invariants.{is_sending}
-use Rattle.ca_model.specs.machine.Numbering.{Numbered, begun_requests, numbers_of, psn_end, unfinished_requests}
+use Rattle.ca_laws_sound.specs.ca_model.Requests.{is_local}
+use Rattle.ca_laws_sound.specs.ca_model.machine.Acknowledgements.{after_finished, finished_requests, with_una}
+use Rattle.ca_laws_sound.specs.ca_model.machine.Invariants.{is_sending}
+use Rattle.ca_laws_sound.specs.ca_model.machine.Numbering.{Numbered, begun_requests, numbers_of, psn_end, unfinished_requests}
 use Rattle.ca_laws_steady.specs.Steady.{EndsBehind, IsSteadyQueue}
 
 -- ---- nothing changes

@@ -16,13 +16,13 @@ use Rattle.ca_keys.specs.declared.key.Key.{Key}
 use Rattle.ca_laws_sound.proofs.NumberingLemmas.{Numbers, are-numbers, count_sum}
 use Rattle.ca_laws_sound.proofs.TurnLemmas.{sending-parts, sends-parts}
 use Rattle.ca_laws_sound.proofs.WorldLemmas.{EndingDoes, RowDoes}
-use Rattle.ca_model.specs.Requests.{is_local, psns_of}
-use Rattle.ca_model.specs.machine.Acknowledgements.{failure_effects}
-use Rattle.ca_model.specs.machine.Invariants.{IsQueue, is_sending}
-use Rattle.ca_model.specs.machine.LocalOperations.{invalidate_row, operation_effects}
-use Rattle.ca_model.specs.machine.Numbering.{Numbered, begun_requests, next_to_begin, psn_end, request_at, unfinished_requests}
-use Rattle.ca_model.specs.machine.Requester.{Sends, begins, end_of_packet, is_outstanding, is_too_much, next_request, packet_row, sent_packet, turn_of, turn_refusals}
-use Rattle.ca_model.specs.machine.Row.{Does, Effects, Ending, NotPossible, Row}
+use Rattle.ca_laws_sound.specs.ca_model.Requests.{is_local, psns_of}
+use Rattle.ca_laws_sound.specs.ca_model.machine.Acknowledgements.{failure_effects}
+use Rattle.ca_laws_sound.specs.ca_model.machine.Invariants.{IsQueue, is_sending}
+use Rattle.ca_laws_sound.specs.ca_model.machine.LocalOperations.{invalidate_row, operation_effects}
+use Rattle.ca_laws_sound.specs.ca_model.machine.Numbering.{Numbered, begun_requests, next_to_begin, psn_end, request_at, unfinished_requests}
+use Rattle.ca_laws_sound.specs.ca_model.machine.Requester.{Sends, begins, end_of_packet, is_outstanding, is_too_much, next_request, packet_row, sent_packet, turn_of, turn_refusals}
+use Rattle.ca_laws_sound.specs.ca_model.machine.Row.{Does, Effects, Ending, NotPossible, Row}
 use Rattle.ca_laws_steady.proofs.RowLemmas.{Keeps, failed}
 use Rattle.ca_laws_steady.specs.Steady.{EndsBehind, IsSteadyQueue}
 

@@ -25,25 +25,25 @@ use Rattle.ca_base.specs.objects.Slices.{slot_of_key}
 use Rattle.ca_laws_sound.proofs.EngineLemmas.{ends-unless}
 use Rattle.ca_laws_sound.proofs.TurnLemmas.{sending-parts, turn_from}
 use Rattle.ca_laws_sound.proofs.WorldLemmas.{AreQuiet, EndsIn, IsQuietName, IsThere, RowDoes, around_in, ends-around, ends-queue, ends-row, is-there, shared_of}
-use Rattle.ca_model.specs.declared.answer.Answer.TheVariants as answers
-use Rattle.ca_model.specs.declared.answer.Refusal.TheVariants.{NoSuch}
-use Rattle.ca_model.specs.declared.mark.Mark.{Mark}
-use Rattle.ca_model.specs.declared.mark.Mark.TheVariants as marks
-use Rattle.ca_model.specs.machine.Around.{Around, With_around, shared_in, srq_updates, updates_of}
-use Rattle.ca_model.specs.machine.Delivery.{Arrive, arrival_row, deliver_plan}
-use Rattle.ca_model.specs.machine.HostVerbs.{inject_plan}
-use Rattle.ca_model.specs.machine.Invariants.{is_sending}
-use Rattle.ca_model.specs.machine.LocalOperations.{Finishing, Perform_op, PlacedRegion, With_former, With_named, bind1_changes, bind1_marks, bind1_refusal, bind2_changes, bind2_marks, bind2_refusal, drawn_by, fast_changes, fast_marks, fast_refusal, former_updates, invalidate_row, named_updates, operation_effects, region_slot, window_slot}
-use Rattle.ca_model.specs.machine.Numbering.{Numbered}
-use Rattle.ca_model.specs.machine.Plan.{Finish, Look, Plan, Stuck, Update, Write, unless_refused, ◌:=◌}
-use Rattle.ca_model.specs.machine.Requester.{Performs, RequestTurn, Sends, Waits, next_request, packet_row, turn_of, turn_refusals}
-use Rattle.ca_model.specs.machine.Respond.{respond_row}
-use Rattle.ca_model.specs.machine.Row.{Effects, Row, Row_plan, queue_and_marks, region_under, unless_none}
-use Rattle.ca_model.specs.machine.Sound.{IsQueueOf, IsSoundWorld}
-use Rattle.ca_model.specs.machine.Timers.{after_timeout, after_wake, timeout_refusals, wake_refusals}
-use Rattle.ca_model.specs.machine.Turns.{Fire, Leave_plan, Packet, Request_around, Respond_around, Timeout_around, With_receives, has_room_for, packet_sent, reaches_peer, request_plan, respond_plan, sent_updates, timeout_plan, wake_plan}
-use Rattle.ca_model.specs.machine.VerbAnswers.{Call, Refuse_plan, answer_mark}
-use Rattle.ca_model.specs.machine.World.{World, Name, Domain_of, Region_of, Window_of, Cq_of, Srq_of, Queue_of, Mailbox_of, Byte_at, Thing}
+use Rattle.ca_laws_sound.specs.ca_model.declared.answer.Answer.TheVariants as answers
+use Rattle.ca_laws_sound.specs.ca_model.declared.answer.Refusal.TheVariants.{NoSuch}
+use Rattle.ca_laws_sound.specs.ca_model.declared.mark.Mark.{Mark}
+use Rattle.ca_laws_sound.specs.ca_model.declared.mark.Mark.TheVariants as marks
+use Rattle.ca_laws_sound.specs.ca_model.machine.Around.{Around, With_around, shared_in, srq_updates, updates_of}
+use Rattle.ca_laws_sound.specs.ca_model.machine.Delivery.{Arrive, arrival_row, deliver_plan}
+use Rattle.ca_laws_sound.specs.ca_model.machine.HostVerbs.{inject_plan}
+use Rattle.ca_laws_sound.specs.ca_model.machine.Invariants.{is_sending}
+use Rattle.ca_laws_sound.specs.ca_model.machine.LocalOperations.{Finishing, Perform_op, PlacedRegion, With_former, With_named, bind1_changes, bind1_marks, bind1_refusal, bind2_changes, bind2_marks, bind2_refusal, drawn_by, fast_changes, fast_marks, fast_refusal, former_updates, invalidate_row, named_updates, operation_effects, region_slot, window_slot}
+use Rattle.ca_laws_sound.specs.ca_model.machine.Numbering.{Numbered}
+use Rattle.ca_laws_sound.specs.ca_model.machine.Plan.{Finish, Look, Plan, Stuck, Update, Write, unless_refused, ◌:=◌}
+use Rattle.ca_laws_sound.specs.ca_model.machine.Requester.{Performs, RequestTurn, Sends, Waits, next_request, packet_row, turn_of, turn_refusals}
+use Rattle.ca_laws_sound.specs.ca_model.machine.Respond.{respond_row}
+use Rattle.ca_laws_sound.specs.ca_model.machine.Row.{Effects, Row, Row_plan, queue_and_marks, region_under, unless_none}
+use Rattle.ca_laws_sound.specs.ca_model.machine.Sound.{IsQueueOf, IsSoundWorld}
+use Rattle.ca_laws_sound.specs.ca_model.machine.Timers.{after_timeout, after_wake, timeout_refusals, wake_refusals}
+use Rattle.ca_laws_sound.specs.ca_model.machine.Turns.{Fire, Leave_plan, Packet, Request_around, Respond_around, Timeout_around, With_receives, has_room_for, packet_sent, reaches_peer, request_plan, respond_plan, sent_updates, timeout_plan, wake_plan}
+use Rattle.ca_laws_sound.specs.ca_model.machine.VerbAnswers.{Call, Refuse_plan, answer_mark}
+use Rattle.ca_laws_sound.specs.ca_model.machine.World.{World, Name, Domain_of, Region_of, Window_of, Cq_of, Srq_of, Queue_of, Mailbox_of, Byte_at, Thing}
 use Rattle.ca_laws_steady.proofs.RowLemmas.{IsKept, arrival-keeps, respond-keeps, timeout-keeps, wake-keeps}
 use Rattle.ca_laws_steady.proofs.SendLemmas.{Steadies, invalidate-steadies, operation-steady, packet-steadies, row-steadies}
 use Rattle.ca_laws_steady.specs.Steady.{IsSteadyQueue, IsSteadySlot, IsSteadyWorld}

@@ -39,25 +39,25 @@ use Rattle.ca_laws_sound.proofs.QueueVerbLemmas.{change-fails}
 use Rattle.ca_laws_sound.proofs.SettledLemmas.{all-map}
 use Rattle.ca_laws_sound.proofs.VerbLemmas.{IsPolled, polled, retired-items}
 use Rattle.ca_laws_sound.proofs.WorldLemmas.{EndsIn, IsThere, around_in, ends-around, is-there, shared_of}
-use Rattle.ca_model.specs.Requests.{is_local, list_length, psns_of}
-use Rattle.ca_model.specs.declared.answer.Answer.TheVariants as answers
-use Rattle.ca_model.specs.declared.answer.Refusal.TheVariants.{CqTooSmall, NoSuch, OutOfRange, QueueFull, TooLong, WindowsBound}
-use Rattle.ca_model.specs.declared.mark.Mark.{Mark}
-use Rattle.ca_model.specs.declared.mark.Mark.TheVariants as marks
-use Rattle.ca_model.specs.machine.Around.{Around, cq_updates}
-use Rattle.ca_model.specs.machine.CompletionVerbs.{Poll_of, With_places, after_poll, poll_plan, receives_after_poll, slot_after_poll, source_of_completion}
-use Rattle.ca_model.specs.machine.Completions.{flush_marks}
-use Rattle.ca_model.specs.machine.Invariants.{IsQueue, is_sending}
-use Rattle.ca_model.specs.machine.Numbering.{begun_requests, numbers_of, unfinished_requests}
-use Rattle.ca_model.specs.machine.Plan.{If, Look, Plan, Update, ◌:=◌}
-use Rattle.ca_model.specs.machine.PostingVerbs.{Posted_send, after_flush, post_recv_plan, post_send_plan, post_srq_plan, with_send}
-use Rattle.ca_model.specs.machine.QueuePairVerbs
-use Rattle.ca_model.specs.machine.QueuePairVerbs.{Creation, With_present, With_shared, before_receives, beside, create_qp_plan, destroy_qp_plan, emptied_updates, has_bad_depth, has_no_room, left_updates, modify_qp_plan, new_queue, places_held, receive_reserve, receive_room, send_reserved, user_updates}
-use Rattle.ca_model.specs.machine.Row.{region_under}
-use Rattle.ca_model.specs.machine.Sound.{IsFinished, IsQueueOf, IsSettled, IsSoundWorld}
-use Rattle.ca_model.specs.machine.VerbAnswers.{Answer_plan, Call, Refuse_plan, Unless_plan, of_change_refusals}
-use Rattle.ca_model.specs.machine.WindowVerbs.{With_binder, dealloc_mw_plan, queue_updates}
-use Rattle.ca_model.specs.machine.World.{Cq_of, Domain_of, Mailbox_of, Queue_of, Region_of, Srq_of, Window_of, World}
+use Rattle.ca_laws_sound.specs.ca_model.Requests.{is_local, list_length, psns_of}
+use Rattle.ca_laws_sound.specs.ca_model.declared.answer.Answer.TheVariants as answers
+use Rattle.ca_laws_sound.specs.ca_model.declared.answer.Refusal.TheVariants.{CqTooSmall, NoSuch, OutOfRange, QueueFull, TooLong, WindowsBound}
+use Rattle.ca_laws_sound.specs.ca_model.declared.mark.Mark.{Mark}
+use Rattle.ca_laws_sound.specs.ca_model.declared.mark.Mark.TheVariants as marks
+use Rattle.ca_laws_sound.specs.ca_model.machine.Around.{Around, cq_updates}
+use Rattle.ca_laws_sound.specs.ca_model.machine.CompletionVerbs.{Poll_of, With_places, after_poll, poll_plan, receives_after_poll, slot_after_poll, source_of_completion}
+use Rattle.ca_laws_sound.specs.ca_model.machine.Completions.{flush_marks}
+use Rattle.ca_laws_sound.specs.ca_model.machine.Invariants.{IsQueue, is_sending}
+use Rattle.ca_laws_sound.specs.ca_model.machine.Numbering.{begun_requests, numbers_of, unfinished_requests}
+use Rattle.ca_laws_sound.specs.ca_model.machine.Plan.{If, Look, Plan, Update, ◌:=◌}
+use Rattle.ca_laws_sound.specs.ca_model.machine.PostingVerbs.{Posted_send, after_flush, post_recv_plan, post_send_plan, post_srq_plan, with_send}
+use Rattle.ca_laws_sound.specs.ca_model.machine.QueuePairVerbs
+use Rattle.ca_laws_sound.specs.ca_model.machine.QueuePairVerbs.{Creation, With_present, With_shared, before_receives, beside, create_qp_plan, destroy_qp_plan, emptied_updates, has_bad_depth, has_no_room, left_updates, modify_qp_plan, new_queue, places_held, receive_reserve, receive_room, send_reserved, user_updates}
+use Rattle.ca_laws_sound.specs.ca_model.machine.Row.{region_under}
+use Rattle.ca_laws_sound.specs.ca_model.machine.Sound.{IsFinished, IsQueueOf, IsSettled, IsSoundWorld}
+use Rattle.ca_laws_sound.specs.ca_model.machine.VerbAnswers.{Answer_plan, Call, Refuse_plan, Unless_plan, of_change_refusals}
+use Rattle.ca_laws_sound.specs.ca_model.machine.WindowVerbs.{With_binder, dealloc_mw_plan, queue_updates}
+use Rattle.ca_laws_sound.specs.ca_model.machine.World.{Cq_of, Domain_of, Mailbox_of, Queue_of, Region_of, Srq_of, Window_of, World}
 use Rattle.ca_laws_steady.proofs.SameLemmas.{flushed-none, steady-error, steady-none}
 use Rattle.ca_laws_steady.proofs.TurnLemmas.{AllSteady, IsSteadyThing, srq-steady, there-kept}
 use Rattle.ca_laws_steady.specs.Steady.{EndsBehind, IsSteadyQueue, IsSteadySlot, IsSteadyWorld}

@@ -3,10 +3,10 @@ use Rattle.std.specs.Prelude.{◌≡◌, ℕ, ◌≤◌, ◌<◌, true, false, L
 use Rattle.std.specs.List.{AllByRecursion}
 use Rattle.ca_base.specs.objects.QueuePair.{QueuePair, QueueSlot, NoQueue, Present}
 use Rattle.ca_keys.specs.declared.names.QueueId.{QueueId}
-use Rattle.ca_model.specs.Requests.{is_local}
-use Rattle.ca_model.specs.machine.Invariants.{is_sending}
-use Rattle.ca_model.specs.machine.Numbering.{Numbered, begun_requests, psn_end, unfinished_requests}
-use Rattle.ca_model.specs.machine.World.{World}
+use Rattle.ca_laws_sound.specs.ca_model.Requests.{is_local}
+use Rattle.ca_laws_sound.specs.ca_model.machine.Invariants.{is_sending}
+use Rattle.ca_laws_sound.specs.ca_model.machine.Numbering.{Numbered, begun_requests, psn_end, unfinished_requests}
+use Rattle.ca_laws_sound.specs.ca_model.machine.World.{World}
 
 -- the first of these requests has a PSN from `una` on
 abbrev pub EndsBehind : ℕ → List Numbered → Type 0

@@ -1,11 +1,11 @@
 ghost use Rattle.ca_base.specs.Configuration.{Configuration};
 ghost use Rattle.ca_keys.specs.Memory.{ByteMap};
 ghost use Rattle.ca_laws_steady.specs.Steady.{IsSteadyWorld};
-ghost use Rattle.ca_model.specs.declared.event.Event.{Event};
-ghost use Rattle.ca_model.specs.machine.Frame.{Afterwards};
-ghost use Rattle.ca_model.specs.machine.Sound.{IsSoundWorld};
-ghost use Rattle.ca_model.specs.machine.Step.{step};
-ghost use Rattle.ca_model.specs.machine.World.{World, opening_world};
+ghost use Rattle.ca_laws_sound.specs.ca_model.declared.event.Event.{Event};
+ghost use Rattle.ca_laws_sound.specs.ca_model.machine.Frame.{Afterwards};
+ghost use Rattle.ca_laws_sound.specs.ca_model.machine.Sound.{IsSoundWorld};
+ghost use Rattle.ca_laws_sound.specs.ca_model.machine.Step.{step};
+ghost use Rattle.ca_laws_sound.specs.ca_model.machine.World.{World, opening_world};
 
 /// In the world before the first event the queue pairs are steady, whatever its memory holds: there are none.
 pub fn opening_queue_pairs_are_steady()

@@ -1,9 +1,9 @@
 -- The marks of every event keep to the bounds. For proofs only.
 use Rattle.std.proofs.Common.{ℕ, ◌&&◌, Bool, true, false, if◌then◌else◌, List, [], ◌∷◌, ◌++◌, Option, None, Some, rules}
 use Rattle.std.specs.Option.{option_map_or}
-use Rattle.ca_agree.specs.Runs.{Comes, Leads}
-use Rattle.ca_agree.proofs.LeadsLemmas.{comes, leads-around, leads-queue, leads-row, leads-unless}
-use Rattle.ca_agree_keys.proofs.PlainLemmas.{timeout-plain}
+use Rattle.ca_judged.specs.ca_agree.Runs.{Comes, Leads}
+use Rattle.ca_judged.proofs.of_ca_agree.LeadsLemmas.{comes, leads-around, leads-queue, leads-row, leads-unless}
+use Rattle.ca_judged.proofs.of_ca_agree_keys.PlainLemmas.{timeout-plain}
 use Rattle.ca_base.specs.Configuration.{Configuration}
 use Rattle.ca_base.specs.declared.correspondent.Correspondent.{Correspondent}
 use Rattle.ca_base.specs.declared.lot.Lot.{Lot}

@@ -3,8 +3,8 @@ use Rattle.std.proofs.Common.{◌≡◌, ℕ, suc, ◌+◌, ◌-◌, ◌≤◌, 
 use Rattle.std.proofs.lemmas.Bool.{eqb-true, not-false, or_parts}
 use Rattle.std.specs.List.{AllByRecursion}
 use Rattle.std.specs.Option.{option_map}
-use Rattle.ca_agree.proofs.LeadsLemmas.{leads-row}
-use Rattle.ca_agree.specs.Runs.{Leads}
+use Rattle.ca_judged.proofs.of_ca_agree.LeadsLemmas.{leads-row}
+use Rattle.ca_judged.specs.ca_agree.Runs.{Leads}
 use Rattle.ca_base.specs.Configuration.{Configuration}
 use Rattle.ca_base.specs.Grants.{grant_of_bind, grant_of_fast_registration}
 use Rattle.ca_base.specs.declared.request.SendOp.{SendOp}
@@ -23,7 +23,7 @@ use Rattle.ca_keys.specs.declared.names.Slot.{Slot}
 use Rattle.ca_keys.specs.declared.place.Run.{Run}
 use Rattle.ca_keys.specs.declared.rights.Rights.{Rights}
 use Rattle.ca_judged.proofs.WholeLemmas.{some-path}
-use Rattle.ca_laws_names.proofs.PlanLemmas.{GrantIn, cut-in}
+use Rattle.ca_judged.proofs.of_ca_laws_names.PlanLemmas.{GrantIn, cut-in}
 use Rattle.ca_laws_sound.proofs.RegionLemmas.{sound-fast}
 use Rattle.ca_laws_sound.proofs.TurnLemmas.{all-fail}
 use Rattle.ca_laws_writes.proofs.BoundedRows.{IsIn, invalidate-in, operation-in}

@@ -59,13 +59,13 @@ use Rattle.ca_model.specs.declared.mark.Mark.{Mark}
 use Rattle.ca_laws_sound.proofs.WorldLemmas.{EndingDoes}
 use Rattle.ca_keys.specs.declared.verdict.Verdict.TheVariants as verdicts
 use Rattle.ca_keys.specs.Memory.{little_endian_bytes}
-use Rattle.ca_agree_keys.proofs.CalmLemmas.{AreCalm, IsCalm, calm-then, denied-calm, marks-calm, plain-calm, reads-calm, took-calm}
-use Rattle.ca_agree_keys.proofs.PlainLemmas.{acknowledge-plain, ahead-plain, below-plain, drop-plain, duplicate-plain, failure-plain, flush-plain, progress-plain, receive-plain, refusal-plain, success-plain}
+use Rattle.ca_judged.proofs.of_ca_agree_keys.CalmLemmas.{AreCalm, IsCalm, calm-then, denied-calm, marks-calm, plain-calm, reads-calm, took-calm}
+use Rattle.ca_judged.proofs.of_ca_agree_keys.PlainLemmas.{acknowledge-plain, ahead-plain, below-plain, drop-plain, duplicate-plain, failure-plain, flush-plain, progress-plain, receive-plain, refusal-plain, success-plain}
 use Rattle.std.proofs.Common.{◌≤◌, drop, length-drop, sym, is_some}
 use Rattle.std.proofs.lemmas.List.{length-take}
 use Rattle.std.specs.List.{AllByRecursion}
-use Rattle.ca_agree_keys.proofs.CalmLemmas.{IsCalmMark, IsCalmVerdict}
-use Rattle.ca_agree_keys.proofs.PlainLemmas.{ArePlainMarks}
+use Rattle.ca_judged.proofs.of_ca_agree_keys.CalmLemmas.{IsCalmMark, IsCalmVerdict}
+use Rattle.ca_judged.proofs.of_ca_agree_keys.PlainLemmas.{ArePlainMarks}
 use Rattle.ca_base.specs.Configuration.{Configuration}
 use Rattle.ca_base.specs.declared.limits.TheConstants.{MAX_STORE_BYTES}
 use Rattle.ca_base.specs.objects.LocalRequest.{LocalMarks}

@@ -2,10 +2,10 @@
 use Rattle.std.proofs.Common.{◌≡◌, ℕ, ◌+◌, ◌≤◌, ◌||◌, ◌==◌, nat_lt, not, ◌++◌, subst, sym, Bool, true, false, if◌then◌else◌, List, [], ◌∷◌, take, length, Option, None, Some, refl, rules}
 use Rattle.std.proofs.lemmas.Bool.{ltb-false, or_parts}
 use Rattle.std.specs.Option.{option_map}
-use Rattle.ca_agree.specs.Runs.{Leads}
-use Rattle.ca_agree.proofs.LeadsLemmas.{leads-around, leads-row, leads-unless}
-use Rattle.ca_agree_keys.proofs.KeyVerbLemmas.{leads-unless-all}
-use Rattle.ca_agree_keys.proofs.PlainLemmas.{flush-plain}
+use Rattle.ca_judged.specs.ca_agree.Runs.{Leads}
+use Rattle.ca_judged.proofs.of_ca_agree.LeadsLemmas.{leads-around, leads-row, leads-unless}
+use Rattle.ca_judged.proofs.of_ca_agree_keys.KeyVerbLemmas.{leads-unless-all}
+use Rattle.ca_judged.proofs.of_ca_agree_keys.PlainLemmas.{flush-plain}
 use Rattle.ca_base.specs.Configuration.{Configuration}
 use Rattle.ca_base.specs.Grants.{grant_of_registration, next_low, registration_refusals}
 use Rattle.ca_base.specs.declared.change.Change as state_change

@@ -1,4 +1,4 @@
-ghost use Rattle.ca_agree.specs.Runs.{Comes};
+ghost use Rattle.ca_judged.specs.ca_agree.Runs.{Comes};
 ghost use Rattle.ca_base.specs.Configuration.{Configuration};
 ghost use Rattle.ca_laws_writes.specs.Bounds.{AreBounded};
 ghost use Rattle.ca_model.specs.declared.event.Event.{Event};

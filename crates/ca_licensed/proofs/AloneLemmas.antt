@@ -2,14 +2,14 @@
 use Rattle.std.proofs.Common.{◌≡◌, ℕ, ◌&&◌, ◌||◌, Bool, true, false, not, if◌then◌else◌, List, [], ◌∷◌, ◌++◌, Option, None, Some, refl, ap, subst, ◌∙◌, rules, true≢false, suc, map, Ok, Err}
 use Rattle.std.specs.List.{AllByRecursion, list_any}
 use Rattle.std.specs.Option.{option_map, option_map_or}
-use Rattle.ca_agree.proofs.LeadsLemmas.{leads-around, leads-queue, leads-unless, leads-weaker, comes}
-use Rattle.ca_agree.proofs.PathVerbLemmas.{call_of}
-use Rattle.ca_agree.specs.Runs.{Leads, Comes}
-use Rattle.ca_agree_keys.proofs.KeyTurnLemmas.{IsUp, found}
-use Rattle.ca_agree_keys.specs.InForce.{KeysAgree}
-use Rattle.ca_agree_posts.proofs.GoingLemmas.{respond-goes, timeout-goes, failure-goes}
-use Rattle.ca_agree_posts.proofs.PostLemmas.{leads-goes, leads-ends}
-use Rattle.ca_agree_posts.proofs.PostTurnLemmas.{any-such, leads-perform, packet-is}
+use Rattle.ca_agree_ways.proofs.of_ca_agree.LeadsLemmas.{leads-around, leads-queue, leads-unless, leads-weaker, comes}
+use Rattle.ca_agree_ways.proofs.of_ca_agree.PathVerbLemmas.{call_of}
+use Rattle.ca_agree_ways.specs.ca_agree.Runs.{Leads, Comes}
+use Rattle.ca_agree_ways.proofs.of_ca_agree_keys.KeyTurnLemmas.{IsUp, found}
+use Rattle.ca_agree_ways.specs.ca_agree_keys.InForce.{KeysAgree}
+use Rattle.ca_agree_ways.proofs.of_ca_agree_posts.GoingLemmas.{respond-goes, timeout-goes, failure-goes}
+use Rattle.ca_agree_ways.proofs.of_ca_agree_posts.PostLemmas.{leads-goes, leads-ends}
+use Rattle.ca_agree_ways.proofs.of_ca_agree_posts.PostTurnLemmas.{any-such, leads-perform, packet-is}
 use Rattle.ca_base.specs.Configuration.{Configuration}
 use Rattle.ca_base.specs.declared.correspondent.Correspondent.{Correspondent}
 use Rattle.ca_base.specs.declared.lot.Lot.{Lot}
@@ -18,16 +18,16 @@ use Rattle.ca_base.specs.declared.step.Reason.TheVariants as reasons
 use Rattle.ca_base.specs.objects.Mailbox.{Mailbox, after_delivery, bytes_lent}
 use Rattle.ca_base.specs.objects.QueuePair.{QueuePair, QueueSlot, NoQueue, Present}
 use Rattle.ca_base.specs.objects.WorkQueue.{WorkQueue}
-use Rattle.ca_grant.specs.KeySlot.{HaveSlotsApart, is_at_slot_of}
+use Rattle.ca_agree_ways.specs.ca_grant.KeySlot.{HaveSlotsApart, is_at_slot_of}
 use Rattle.ca_keys.specs.declared.grant.Grant.{Grant}
 use Rattle.ca_keys.specs.declared.key.Key.{Key}
 use Rattle.ca_keys.specs.declared.names.QueueId.{QueueId}
 use Rattle.ca_keys.specs.declared.names.Slot.{Slot}
-use Rattle.ca_laws_sound.proofs.WorldLemmas.{IsThere, around_in, shared_of, RowDoes}
-use Rattle.ca_laws_steady.proofs.TurnLemmas.{there-kept}
-use Rattle.ca_laws_steady.specs.Steady.{IsSteadyWorld}
+use Rattle.ca_agree_ways.proofs.of_ca_laws_sound.WorldLemmas.{IsThere, around_in, shared_of, RowDoes}
+use Rattle.ca_agree_ways.proofs.of_ca_laws_steady.TurnLemmas.{there-kept}
+use Rattle.ca_agree_ways.specs.ca_laws_steady.Steady.{IsSteadyWorld}
 use Rattle.ca_licensed.proofs.AnswerLemmas.{Answers, AreAnswered, AreFlushes, quiet-verb, IsQuietVerb}
-use Rattle.ca_agree_posts.proofs.GrantLemmas.{both-true}
+use Rattle.ca_agree_ways.proofs.of_ca_agree_posts.GrantLemmas.{both-true}
 use Rattle.ca_licensed.proofs.EffectLemmas.{AreOf, keyless-of, of-append, tells}
 use Rattle.ca_model.specs.Past.{Past, after_mark, after_marks, at_begin, key_slot_eq, key_slot_of, after_entry, each_entry, each_mark, opening_past}
 use Rattle.ca_model.specs.declared.answer.Answer.TheVariants as answers
@@ -51,7 +51,7 @@ use Rattle.ca_model.specs.machine.World.{Mailbox_of, Queue_of, World, Domain_of,
 use Rattle.ca_model.specs.machine.RegionVerbs.{dereg_mr_plan}
 use Rattle.ca_base.specs.objects.Region.{after_deregistration, deregistration_refusals, grant_of_region}
 use Rattle.ca_base.specs.objects.Domain.{without_object}
-use Rattle.ca_agree_posts.proofs.PlaceLemmas.{performs}
+use Rattle.ca_agree_ways.proofs.of_ca_agree_posts.PlaceLemmas.{performs}
 use Rattle.ca_base.specs.declared.completion.WcStatus.TheVariants.{MemoryManagement}
 use Rattle.ca_base.specs.declared.refusals.OpRefusal.{OpRefusal}
 use Rattle.ca_base.specs.objects.LocalRequest.{LocalMarks}
@@ -61,16 +61,16 @@ use Rattle.ca_model.specs.machine.LocalOperations.{operation_effects}
 use Rattle.ca_model.specs.machine.Numbering.{Numbered}
 use Rattle.ca_model.specs.machine.Requester.{Performs, RequestTurn, Sends, Waits, packet_row, turn_of}
 use Rattle.ca_model.specs.machine.Sound.{AreLimited, CanBeMade, IsSoundWorld}
-use Rattle.ca_agree.proofs.EventFitLemmas.{first-marks}
-use Rattle.ca_agree_keys.proofs.KeyEventLemmas.{event-keys-agree, opening-keys-agree}
+use Rattle.ca_agree_ways.proofs.of_ca_agree.EventFitLemmas.{first-marks}
+use Rattle.ca_agree_ways.proofs.of_ca_agree_keys.KeyEventLemmas.{event-keys-agree, opening-keys-agree}
 use Rattle.ca_keys.specs.Memory.{ByteMap}
-use Rattle.ca_laws_names.proofs.PlacedLemmas.{event-placed, opening-placed}
-use Rattle.ca_laws_names.specs.Placed.{IsPlacedWorld}
-use Rattle.ca_laws_sound.proofs.SoundLemmas.{event-sound, opening-sound}
-use Rattle.ca_laws_steady.proofs.EventLemmas.{event-steady, opening-steady}
-use Rattle.ca_laws_windows.proofs.WindowEventLemmas.{event-bound, opening-bound}
-use Rattle.ca_laws_windows.specs.Bindings.{IsBoundWorld}
-use Rattle.ca_agree_posts.proofs.FailureLemmas.{IsSentPacket, packet-sent}
+use Rattle.ca_agree_ways.proofs.of_ca_laws_names.PlacedLemmas.{event-placed, opening-placed}
+use Rattle.ca_agree_ways.specs.ca_laws_names.Placed.{IsPlacedWorld}
+use Rattle.ca_agree_ways.proofs.of_ca_laws_sound.SoundLemmas.{event-sound, opening-sound}
+use Rattle.ca_agree_ways.proofs.of_ca_laws_steady.EventLemmas.{event-steady, opening-steady}
+use Rattle.ca_agree_ways.proofs.of_ca_laws_windows.WindowEventLemmas.{event-bound, opening-bound}
+use Rattle.ca_agree_ways.specs.ca_laws_windows.Bindings.{IsBoundWorld}
+use Rattle.ca_agree_ways.proofs.of_ca_agree_posts.FailureLemmas.{IsSentPacket, packet-sent}
 use Rattle.ca_model.specs.Entries.{EntryValue}
 use Rattle.ca_model.specs.machine.Frame.{Afterwards}
 use Rattle.ca_model.specs.machine.Run.{Follows, Ran, go_on, run_from}

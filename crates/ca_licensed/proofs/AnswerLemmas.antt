@@ -2,9 +2,9 @@
 -- proofs only.
 use Rattle.std.proofs.Common.{◌≡◌, refl, ℕ, suc, ◌++◌, ◌||◌, ◌==◌, nat_lt, Bool, true, false, if◌then◌else◌, List, [], ◌∷◌, take, length, Option, None, Some, rules}
 use Rattle.std.specs.Option.{option_map, option_map_or}
-use Rattle.ca_agree.specs.Runs.{Leads}
-use Rattle.ca_agree.proofs.LeadsLemmas.{leads-around, leads-unless}
-use Rattle.ca_agree.proofs.PathVerbLemmas.{call_of}
+use Rattle.ca_agree_ways.specs.ca_agree.Runs.{Leads}
+use Rattle.ca_agree_ways.proofs.of_ca_agree.LeadsLemmas.{leads-around, leads-unless}
+use Rattle.ca_agree_ways.proofs.of_ca_agree.PathVerbLemmas.{call_of}
 use Rattle.ca_keys.specs.declared.key.Key.{Key}
 use Rattle.ca_base.specs.Configuration.{Configuration}
 use Rattle.ca_base.specs.declared.change.Change as state_change
@@ -43,7 +43,7 @@ use Rattle.ca_model.specs.machine.Step.{verb_plan}
 use Rattle.ca_model.specs.machine.VerbAnswers.{Answer_plan, Call, Refuse_plan, Unless_plan, of_change_refusals}
 use Rattle.ca_model.specs.machine.World.{Cq_of, Mailbox_of, Queue_of, Window_of, World}
 use Rattle.ca_model.specs.machine.Around.{Around, With_around, completions_to, cq_updates}
-use Rattle.ca_laws_sound.proofs.WorldLemmas.{around_in, shared_of}
+use Rattle.ca_agree_ways.proofs.of_ca_laws_sound.WorldLemmas.{around_in, shared_of}
 use Rattle.ca_base.specs.declared.queue_numbers.Message.{Message}
 use Rattle.ca_base.specs.declared.queue_numbers.Message.TheVariants as messages
 use Rattle.ca_base.specs.declared.request.PostedSend.{PostedSend}

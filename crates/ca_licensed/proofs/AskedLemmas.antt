@@ -1,8 +1,8 @@
 -- What a local operation grants is what it asked for. For proofs only.
 use Rattle.std.proofs.Common.{◌≡◌, ℕ, ◌<◌, ◌==◌, ◌&&◌, Bool, true, false, not, if◌then◌else◌, [], Option, None, Some, IfSome, is_none, refl, sym, ap, subst, ◌∙◌, true≢false, arith}
 use Rattle.std.specs.Option.{option_and_then, option_map, option_map_or}
-use Rattle.ca_agree_keys.specs.InForce.{AgreeOnGrants}
-use Rattle.ca_agree_posts.proofs.OperationLemmas.{done_by, named_in, named_if}
+use Rattle.ca_agree_ways.specs.ca_agree_keys.InForce.{AgreeOnGrants}
+use Rattle.ca_agree_ways.proofs.of_ca_agree_posts.OperationLemmas.{done_by, named_in, named_if}
 use Rattle.ca_base.specs.Configuration.{Configuration}
 use Rattle.ca_base.specs.Grants.{grant_of_bind, grant_of_fast_registration}
 use Rattle.ca_base.specs.declared.request.SendOp.{SendOp}
@@ -20,10 +20,10 @@ use Rattle.ca_keys.specs.declared.names.DomainId.{DomainId}
 use Rattle.ca_keys.specs.declared.names.QueueId.{QueueId}
 use Rattle.ca_keys.specs.declared.names.Slot.{Slot}
 use Rattle.ca_keys.specs.declared.rights.Rights.{Rights}
-use Rattle.ca_laws_sound.proofs.TurnLemmas.{all-fail}
-use Rattle.ca_laws_sound.proofs.WorldLemmas.{IsThere}
-use Rattle.ca_agree_posts.proofs.GrantLemmas.{both-true}
-use Rattle.ca_agree_posts.proofs.GrantLemmas.{IsSeen, grant-refl, names-one, region-found, region-seen}
+use Rattle.ca_agree_ways.proofs.of_ca_laws_sound.TurnLemmas.{all-fail}
+use Rattle.ca_agree_ways.proofs.of_ca_laws_sound.WorldLemmas.{IsThere}
+use Rattle.ca_agree_ways.proofs.of_ca_agree_posts.GrantLemmas.{both-true}
+use Rattle.ca_agree_ways.proofs.of_ca_agree_posts.GrantLemmas.{IsSeen, grant-refl, names-one, region-found, region-seen}
 use Rattle.ca_model.specs.Licensed.{is_grant_of_bind, is_grant_of_operation, may_hold}
 use Rattle.ca_model.specs.Past.{Past}
 use Rattle.ca_model.specs.machine.LocalOperations.{bind_grant, region_slot, view_named, window_slot}

@@ -3,18 +3,18 @@ use Rattle.std.proofs.Common.{◌≡◌, ◌<◌, ◌==◌, ◌&&◌, ◌||◌, 
 use Rattle.std.proofs.lemmas.Bool.{eqb-true}
 use Rattle.std.specs.List.{AllByRecursion, list_any}
 use Rattle.std.specs.Option.{option_and_then, option_map_or}
-use Rattle.ca_agree.specs.Agreement.{PathsAgree}
-use Rattle.ca_agree_keys.proofs.ChangeLemmas.{StandsOver, none-counted, region-small, stands-over}
-use Rattle.ca_agree_keys.proofs.EndLemmas.{region-of}
-use Rattle.ca_agree_keys.proofs.SlotLemmas.{at-region, key-slot-path, key-slot-refl, slot-at-region}
-use Rattle.ca_agree_keys.specs.InForce.{KeysAgree, grant_in_force, grant_over_regions, is_window_slot, slot_at}
-use Rattle.ca_agree_posts.proofs.GrantLemmas.{is-local}
-use Rattle.ca_agree_posts.specs.Posts.{PostsAgree}
+use Rattle.ca_agree_ways.specs.ca_agree.Agreement.{PathsAgree}
+use Rattle.ca_agree_ways.proofs.of_ca_agree_keys.ChangeLemmas.{StandsOver, none-counted, region-small, stands-over}
+use Rattle.ca_agree_ways.proofs.of_ca_agree_keys.EndLemmas.{region-of}
+use Rattle.ca_agree_ways.proofs.of_ca_agree_keys.SlotLemmas.{at-region, key-slot-path, key-slot-refl, slot-at-region}
+use Rattle.ca_agree_ways.specs.ca_agree_keys.InForce.{KeysAgree, grant_in_force, grant_over_regions, is_window_slot, slot_at}
+use Rattle.ca_agree_ways.proofs.of_ca_agree_posts.GrantLemmas.{is-local}
+use Rattle.ca_agree_ways.specs.ca_agree_posts.Posts.{PostsAgree}
 use Rattle.ca_agree_ways.specs.Ways.{WaysAgree}
 use Rattle.ca_base.specs.Configuration.{Configuration}
 use Rattle.ca_base.specs.objects.Region.{grant_of_region}
 use Rattle.ca_base.specs.objects.Window.{Binding, Window}
-use Rattle.ca_grant.specs.KeySlot.{HaveSlotsApart, is_at_slot_of}
+use Rattle.ca_agree_ways.specs.ca_grant.KeySlot.{HaveSlotsApart, is_at_slot_of}
 use Rattle.ca_keys.specs.Equal.{key_eq, slot_eq}
 use Rattle.ca_keys.specs.Numbers.{index_of, key_at, region_index}
 use Rattle.ca_base.specs.objects.Slices.{has_slot}
@@ -22,10 +22,10 @@ use Rattle.ca_keys.specs.declared.grant.Grant.{Grant}
 use Rattle.ca_keys.specs.declared.key.Key.{Key}
 use Rattle.ca_keys.specs.declared.names.DomainId.{DomainId}
 use Rattle.ca_keys.specs.declared.names.Slot.{Slot}
-use Rattle.ca_laws_names.specs.Placed.{IsPlacedBinding, IsPlacedWorld}
-use Rattle.ca_laws_sound.proofs.SettledLemmas.{slot-refl}
-use Rattle.ca_laws_steady.specs.Steady.{IsSteadyWorld}
-use Rattle.ca_laws_windows.specs.Bindings.{IsBoundWorld}
+use Rattle.ca_agree_ways.specs.ca_laws_names.Placed.{IsPlacedBinding, IsPlacedWorld}
+use Rattle.ca_agree_ways.proofs.of_ca_laws_sound.SettledLemmas.{slot-refl}
+use Rattle.ca_agree_ways.specs.ca_laws_steady.Steady.{IsSteadyWorld}
+use Rattle.ca_agree_ways.specs.ca_laws_windows.Bindings.{IsBoundWorld}
 use Rattle.ca_model.specs.Licensed.{has_bound_window}
 use Rattle.ca_model.specs.Past.{BindTo, KeySlot, Past, Way, key_slot_eq, key_slot_of, region_key_slot}
 use Rattle.ca_model.specs.machine.Row.{grant_over, region_under}

@@ -1,27 +1,27 @@
 -- Every event has its effects as it ends, and so has every history that follows the machine. For proofs only.
 use Rattle.std.proofs.Common.{◌≡◌, ℕ, suc, Bool, true, false, List, [], ◌∷◌, map, Ok, Err, refl, ap, subst, rules, true≢false}
 use Rattle.std.specs.List.{AllByRecursion}
-use Rattle.ca_agree.proofs.EventFitLemmas.{first-marks}
-use Rattle.ca_agree.proofs.LeadsLemmas.{comes}
-use Rattle.ca_agree.proofs.PathVerbLemmas.{call_of}
-use Rattle.ca_agree.specs.Runs.{Comes, Leads}
-use Rattle.ca_agree_keys.proofs.ChangeLemmas.{region-small, window-small}
-use Rattle.ca_agree_keys.proofs.KeyEventLemmas.{event-keys-agree, opening-keys-agree}
-use Rattle.ca_agree_keys.proofs.KeyTurnLemmas.{IsUp}
-use Rattle.ca_agree_keys.specs.InForce.{KeysAgree}
-use Rattle.ca_agree_posts.proofs.PostEventLemmas.{event-posts-agree, opening-posts-agree}
-use Rattle.ca_agree_posts.proofs.PostTurnLemmas.{IsPosted}
-use Rattle.ca_agree_posts.specs.Posts.{PostsAgree}
+use Rattle.ca_agree_ways.proofs.of_ca_agree.EventFitLemmas.{first-marks}
+use Rattle.ca_agree_ways.proofs.of_ca_agree.LeadsLemmas.{comes}
+use Rattle.ca_agree_ways.proofs.of_ca_agree.PathVerbLemmas.{call_of}
+use Rattle.ca_agree_ways.specs.ca_agree.Runs.{Comes, Leads}
+use Rattle.ca_agree_ways.proofs.of_ca_agree_keys.ChangeLemmas.{region-small, window-small}
+use Rattle.ca_agree_ways.proofs.of_ca_agree_keys.KeyEventLemmas.{event-keys-agree, opening-keys-agree}
+use Rattle.ca_agree_ways.proofs.of_ca_agree_keys.KeyTurnLemmas.{IsUp}
+use Rattle.ca_agree_ways.specs.ca_agree_keys.InForce.{KeysAgree}
+use Rattle.ca_agree_ways.proofs.of_ca_agree_posts.PostEventLemmas.{event-posts-agree, opening-posts-agree}
+use Rattle.ca_agree_ways.proofs.of_ca_agree_posts.PostTurnLemmas.{IsPosted}
+use Rattle.ca_agree_ways.specs.ca_agree_posts.Posts.{PostsAgree}
 use Rattle.ca_base.specs.Configuration.{Configuration}
 use Rattle.ca_keys.specs.Memory.{ByteMap}
-use Rattle.ca_laws_names.proofs.PlacedLemmas.{event-placed, opening-placed}
-use Rattle.ca_laws_names.specs.Placed.{IsPlacedWorld}
-use Rattle.ca_laws_sound.proofs.SoundLemmas.{event-sound, opening-sound}
-use Rattle.ca_laws_steady.proofs.EventLemmas.{event-steady, opening-steady}
-use Rattle.ca_laws_steady.specs.Steady.{IsSteadyWorld}
-use Rattle.ca_laws_windows.proofs.WindowEventLemmas.{event-bound, opening-bound}
-use Rattle.ca_laws_windows.specs.Bindings.{IsBoundWorld}
-use Rattle.ca_agree_posts.proofs.GrantLemmas.{both-true}
+use Rattle.ca_agree_ways.proofs.of_ca_laws_names.PlacedLemmas.{event-placed, opening-placed}
+use Rattle.ca_agree_ways.specs.ca_laws_names.Placed.{IsPlacedWorld}
+use Rattle.ca_agree_ways.proofs.of_ca_laws_sound.SoundLemmas.{event-sound, opening-sound}
+use Rattle.ca_agree_ways.proofs.of_ca_laws_steady.EventLemmas.{event-steady, opening-steady}
+use Rattle.ca_agree_ways.specs.ca_laws_steady.Steady.{IsSteadyWorld}
+use Rattle.ca_agree_ways.proofs.of_ca_laws_windows.WindowEventLemmas.{event-bound, opening-bound}
+use Rattle.ca_agree_ways.specs.ca_laws_windows.Bindings.{IsBoundWorld}
+use Rattle.ca_agree_ways.proofs.of_ca_agree_posts.GrantLemmas.{both-true}
 use Rattle.ca_licensed.proofs.PerformedLemmas.{effects-request}
 use Rattle.ca_licensed.proofs.SuccessLemmas.{Effective, effects-dealloc_mw, effects-deliver, effects-dereg_mr, effects-inject, effects-quiet, effects-refused, effects-reg_mr, effects-respond, effects-timeout, effects-wake}
 use Rattle.ca_licensed.specs.Effects.{HaveTheirEffects}

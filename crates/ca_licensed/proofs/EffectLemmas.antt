@@ -3,11 +3,11 @@ use Rattle.std.proofs.Common.{◌≡◌, ℕ, Bool, true, false, ◌&&◌, ◌||
 use Rattle.std.proofs.lemmas.Bool.{eq-eqb}
 use Rattle.std.specs.List.{AllByRecursion, list_all, list_any}
 use Rattle.std.specs.Option.{option_and_then, option_map_or}
-use Rattle.ca_agree_posts.proofs.GrantLemmas.{both-true, key-refl}
-use Rattle.ca_agree_posts.proofs.GoingLemmas.{AreKeyless, EndKey, IsKeyless, IsOwnDone, TellOf}
-use Rattle.ca_agree_posts.proofs.PlaceLemmas.{IsPostedAt, item-posted}
-use Rattle.ca_agree_posts.proofs.PostLemmas.{IsNoRequest, SamePosts}
-use Rattle.ca_agree_posts.specs.Posts.{AgreeInSlot, PostsAgree, life}
+use Rattle.ca_agree_ways.proofs.of_ca_agree_posts.GrantLemmas.{both-true, key-refl}
+use Rattle.ca_agree_ways.proofs.of_ca_agree_posts.GoingLemmas.{AreKeyless, EndKey, IsKeyless, IsOwnDone, TellOf}
+use Rattle.ca_agree_ways.proofs.of_ca_agree_posts.PlaceLemmas.{IsPostedAt, item-posted}
+use Rattle.ca_agree_ways.proofs.of_ca_agree_posts.PostLemmas.{IsNoRequest, SamePosts}
+use Rattle.ca_agree_ways.specs.ca_agree_posts.Posts.{AgreeInSlot, PostsAgree, life}
 use Rattle.ca_base.specs.declared.completion.Completion.{Completion}
 use Rattle.ca_base.specs.declared.request.PostedSend.{PostedSend}
 use Rattle.ca_base.specs.declared.request.SendOp.{SendOp}

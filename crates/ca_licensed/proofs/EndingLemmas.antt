@@ -3,9 +3,9 @@
 use Rattle.std.proofs.Common.{◌≡◌, ℕ, ◌&&◌, Bool, true, false, not, if◌then◌else◌, List, [], ◌∷◌, ◌++◌, Option, None, Some, refl, ap, subst, ◌∙◌, rules, true≢false, suc, map, Ok, Err, find, is_some, is_none, ◌==◌, ◌<◌, IfSome, sym, ap₂, arith}
 use Rattle.std.specs.Option.{option_and_then}
 use Rattle.std.specs.Result.{result_ok}
-use Rattle.ca_agree.proofs.MailSentLemmas.{lent-sent}
-use Rattle.ca_agree.proofs.PathEventLemmas.{event-agrees, opening-agrees}
-use Rattle.ca_agree.specs.Agreement.{PathsAgree}
+use Rattle.ca_agree_ways.proofs.of_ca_agree.MailSentLemmas.{lent-sent}
+use Rattle.ca_agree_ways.proofs.of_ca_agree.PathEventLemmas.{event-agrees, opening-agrees}
+use Rattle.ca_agree_ways.specs.ca_agree.Agreement.{PathsAgree}
 use Rattle.ca_base.specs.objects.SharedReceives.{SharedReceives}
 use Rattle.ca_licensed.proofs.ArrivalLemmas.{IsNaming, arrival-named, ieth-asks}
 use Rattle.ca_model.specs.Licensed.{ends_by_packet}
@@ -13,8 +13,8 @@ use Rattle.ca_model.specs.Packets.{packet_of}
 use Rattle.ca_model.specs.Past.{packet_at, packet_bytes_at}
 use Rattle.std.specs.Option.{option_eq}
 use Rattle.std.proofs.Common.{◌/◌, ◌||◌, slice_get}
-use Rattle.ca_agree_posts.proofs.GrantLemmas.{is-local}
-use Rattle.ca_agree_posts.proofs.OperationLemmas.{named_in}
+use Rattle.ca_agree_ways.proofs.of_ca_agree_posts.GrantLemmas.{is-local}
+use Rattle.ca_agree_ways.proofs.of_ca_agree_posts.OperationLemmas.{named_in}
 use Rattle.ca_base.specs.declared.step.Reason.{Reason}
 use Rattle.ca_base.specs.declared.queue_numbers.Queued.{Queued}
 use Rattle.ca_base.specs.declared.queue_numbers.Queued.TheVariants as queued
@@ -25,7 +25,7 @@ use Rattle.ca_base.specs.objects.Window.{is_of_other_queue}
 use Rattle.ca_keys.specs.Equal.{domain_eq, queue_eq}
 use Rattle.ca_keys.specs.Numbers.{is_window_key}
 use Rattle.ca_keys.specs.Refusals.{first_of}
-use Rattle.ca_laws_sound.proofs.SettledLemmas.{domain-refl, queue-path, queue-refl}
+use Rattle.ca_agree_ways.proofs.of_ca_laws_sound.SettledLemmas.{domain-refl, queue-path, queue-refl}
 use Rattle.ca_licensed.specs.Ended.{DoEndAsAsked, ends_as_asked}
 use Rattle.ca_model.specs.Licensed.{ends_at_hand}
 use Rattle.ca_model.specs.Licensed.{ends_by_operation, is_fast, is_of_slot, may_invalidate}
@@ -35,16 +35,16 @@ use Rattle.ca_model.specs.machine.Respond.{answer_turn}
 use Rattle.ca_model.specs.machine.Row.{NotPossible, plain_row}
 use Rattle.std.proofs.Common.{subst₂}
 use Rattle.std.proofs.lemmas.Bool.{ltb-false}
-use Rattle.ca_agree_keys.proofs.EndLemmas.{window-ended}
-use Rattle.ca_agree_keys.proofs.KeyVerbLemmas.{leads-unless-all}
-use Rattle.ca_agree_keys.proofs.SlotLemmas.{at-region, at-window, key-slot-refl, region-kind, slot-at-region, without_key}
-use Rattle.ca_agree_keys.specs.InForce.{AgreeOnGrants, grant_in_force}
-use Rattle.ca_agree_posts.proofs.GrantLemmas.{found-by, grant-refl}
-use Rattle.ca_agree_posts.proofs.OperationLemmas.{done_by, leads-done}
-use Rattle.ca_agree_posts.proofs.PlaceLemmas.{IsPerformed}
-use Rattle.ca_agree_posts.proofs.PostEventLemmas.{event-posts-agree, opening-posts-agree}
-use Rattle.ca_agree_posts.proofs.PostTurnLemmas.{IsNextOperation, next-posted}
-use Rattle.ca_agree_posts.specs.Posts.{PostsAgree}
+use Rattle.ca_agree_ways.proofs.of_ca_agree_keys.EndLemmas.{window-ended}
+use Rattle.ca_agree_ways.proofs.of_ca_agree_keys.KeyVerbLemmas.{leads-unless-all}
+use Rattle.ca_agree_ways.proofs.of_ca_agree_keys.SlotLemmas.{at-region, at-window, key-slot-refl, region-kind, slot-at-region, without_key}
+use Rattle.ca_agree_ways.specs.ca_agree_keys.InForce.{AgreeOnGrants, grant_in_force}
+use Rattle.ca_agree_ways.proofs.of_ca_agree_posts.GrantLemmas.{found-by, grant-refl}
+use Rattle.ca_agree_ways.proofs.of_ca_agree_posts.OperationLemmas.{done_by, leads-done}
+use Rattle.ca_agree_ways.proofs.of_ca_agree_posts.PlaceLemmas.{IsPerformed}
+use Rattle.ca_agree_ways.proofs.of_ca_agree_posts.PostEventLemmas.{event-posts-agree, opening-posts-agree}
+use Rattle.ca_agree_ways.proofs.of_ca_agree_posts.PostTurnLemmas.{IsNextOperation, next-posted}
+use Rattle.ca_agree_ways.specs.ca_agree_posts.Posts.{PostsAgree}
 use Rattle.ca_agree_ways.proofs.WayEventLemmas.{event-ways-agree, opening-ways-agree}
 use Rattle.ca_agree_ways.specs.Ways.{WaysAgree}
 use Rattle.ca_base.specs.Grants.{grant_of_registration, next_low, registration_refusals}
@@ -68,14 +68,14 @@ use Rattle.ca_model.specs.machine.Sound.{IsQueueOf}
 use Rattle.ca_model.specs.machine.Step.{bytes_of_buffer, has_buffer, run_of}
 use Rattle.std.specs.List.{AllByRecursion}
 use Rattle.std.specs.Option.{option_map, option_map_or}
-use Rattle.ca_agree.proofs.LeadsLemmas.{leads-around, leads-queue, leads-unless, leads-weaker, comes}
-use Rattle.ca_agree.proofs.PathVerbLemmas.{call_of}
-use Rattle.ca_agree.specs.Runs.{Leads, Comes}
-use Rattle.ca_agree_keys.proofs.KeyTurnLemmas.{found, own-adapter}
-use Rattle.ca_agree_keys.specs.InForce.{KeysAgree}
-use Rattle.ca_agree_posts.proofs.GoingLemmas.{respond-goes, timeout-goes, failure-goes, IsKeyless, TellOf, EndKey, AreKeyless, arrival-goes}
-use Rattle.ca_agree_posts.proofs.PostLemmas.{leads-goes, leads-ends}
-use Rattle.ca_agree_posts.proofs.PostTurnLemmas.{packet-is}
+use Rattle.ca_agree_ways.proofs.of_ca_agree.LeadsLemmas.{leads-around, leads-queue, leads-unless, leads-weaker, comes}
+use Rattle.ca_agree_ways.proofs.of_ca_agree.PathVerbLemmas.{call_of}
+use Rattle.ca_agree_ways.specs.ca_agree.Runs.{Leads, Comes}
+use Rattle.ca_agree_ways.proofs.of_ca_agree_keys.KeyTurnLemmas.{found, own-adapter}
+use Rattle.ca_agree_ways.specs.ca_agree_keys.InForce.{KeysAgree}
+use Rattle.ca_agree_ways.proofs.of_ca_agree_posts.GoingLemmas.{respond-goes, timeout-goes, failure-goes, IsKeyless, TellOf, EndKey, AreKeyless, arrival-goes}
+use Rattle.ca_agree_ways.proofs.of_ca_agree_posts.PostLemmas.{leads-goes, leads-ends}
+use Rattle.ca_agree_ways.proofs.of_ca_agree_posts.PostTurnLemmas.{packet-is}
 use Rattle.ca_base.specs.Configuration.{Configuration}
 use Rattle.ca_base.specs.declared.correspondent.Correspondent.{Correspondent}
 use Rattle.ca_base.specs.declared.lot.Lot.{Lot}
@@ -88,19 +88,19 @@ use Rattle.ca_keys.specs.declared.grant.Grant.{Grant}
 use Rattle.ca_keys.specs.declared.key.Key.{Key}
 use Rattle.ca_keys.specs.declared.names.QueueId.{QueueId}
 use Rattle.ca_keys.specs.declared.names.Slot.{Slot}
-use Rattle.ca_laws_sound.proofs.WorldLemmas.{IsThere, around_in, shared_of, RowDoes}
-use Rattle.ca_laws_steady.proofs.TurnLemmas.{there-kept}
-use Rattle.ca_laws_steady.specs.Steady.{IsSteadyWorld}
+use Rattle.ca_agree_ways.proofs.of_ca_laws_sound.WorldLemmas.{IsThere, around_in, shared_of, RowDoes}
+use Rattle.ca_agree_ways.proofs.of_ca_laws_steady.TurnLemmas.{there-kept}
+use Rattle.ca_agree_ways.specs.ca_laws_steady.Steady.{IsSteadyWorld}
 use Rattle.ca_licensed.proofs.AnswerLemmas.{Answers, AreAnswered, AreFlushes, quiet-verb, IsQuietVerb}
-use Rattle.ca_agree_posts.proofs.GrantLemmas.{both-true, key-refl}
+use Rattle.ca_agree_ways.proofs.of_ca_agree_posts.GrantLemmas.{both-true, key-refl}
 use Rattle.ca_licensed.proofs.EffectLemmas.{AreOf, IsOf}
 use Rattle.ca_model.specs.Licensed.{grant_with}
-use Rattle.ca_agree_keys.proofs.EndLemmas.{region-of}
-use Rattle.ca_agree_keys.proofs.ChangeLemmas.{StandsOver, stands-over, at-region-slot, at-window-slot, region-small, window-small}
-use Rattle.ca_agree_keys.proofs.RowLemmas.{arrival-told, respond-told}
+use Rattle.ca_agree_ways.proofs.of_ca_agree_keys.EndLemmas.{region-of}
+use Rattle.ca_agree_ways.proofs.of_ca_agree_keys.ChangeLemmas.{StandsOver, stands-over, at-region-slot, at-window-slot, region-small, window-small}
+use Rattle.ca_agree_ways.proofs.of_ca_agree_keys.RowLemmas.{arrival-told, respond-told}
 use Rattle.ca_keys.specs.declared.names.DomainId.{DomainId}
 use Rattle.ca_keys.specs.Refusals.{AllFail}
-use Rattle.ca_laws_sound.proofs.TurnLemmas.{all-fail}
+use Rattle.ca_agree_ways.proofs.of_ca_laws_sound.TurnLemmas.{all-fail}
 use Rattle.ca_base.specs.objects.Slices.{names_region, names_window, slot_of_key}
 use Rattle.ca_base.specs.objects.Window.{window_invalidation_refusals, Binding, Window, grant_of_binding, key_of_window, after_deallocation}
 use Rattle.ca_model.specs.machine.Seen.{refusal_in}
@@ -110,9 +110,9 @@ use Rattle.ca_keys.specs.Equal.{key_eq}
 use Rattle.ca_base.specs.Sight.{Invalidation}
 use Rattle.std.proofs.lemmas.Option.{same_Some}
 use Rattle.ca_model.specs.machine.WindowVerbs.{With_binder, dealloc_mw_plan, queue_updates}
-use Rattle.ca_agree.proofs.PathChangeLemmas.{Behind}
-use Rattle.ca_laws_names.proofs.PlacedOperationLemmas.{IsNamedTurn, turn-named}
-use Rattle.ca_laws_names.proofs.PlacedTurnLemmas.{placed-here}
+use Rattle.ca_agree_ways.proofs.of_ca_agree.PathChangeLemmas.{Behind}
+use Rattle.ca_agree_ways.proofs.of_ca_laws_names.PlacedOperationLemmas.{IsNamedTurn, turn-named}
+use Rattle.ca_agree_ways.proofs.of_ca_laws_names.PlacedTurnLemmas.{placed-here}
 use Rattle.ca_base.specs.declared.request.SendOp.{SendOp}
 use Rattle.ca_base.specs.declared.request.SendOp.TheVariants as ops
 use Rattle.ca_model.specs.Past.{Past, after_mark, after_marks, at_begin, after_entry, each_entry, each_mark, opening_past, region_key_slot, window_key_slot}
@@ -137,7 +137,7 @@ use Rattle.ca_model.specs.machine.World.{Window_of, Mailbox_of, Queue_of, World,
 use Rattle.ca_model.specs.machine.RegionVerbs.{dereg_mr_plan}
 use Rattle.ca_base.specs.objects.Region.{after_deregistration, deregistration_refusals, grant_of_region, has_other_key, region_invalidation_refusals, with_window_unbound}
 use Rattle.ca_base.specs.objects.Domain.{without_object}
-use Rattle.ca_agree_posts.proofs.PlaceLemmas.{performs}
+use Rattle.ca_agree_ways.proofs.of_ca_agree_posts.PlaceLemmas.{performs}
 use Rattle.ca_base.specs.declared.completion.WcStatus.TheVariants.{MemoryManagement}
 use Rattle.ca_base.specs.declared.refusals.OpRefusal.{OpRefusal}
 use Rattle.ca_base.specs.objects.LocalRequest.{LocalMarks, of_region, of_window, region_refusal, unnamed_refusal, window_refusal}
@@ -147,16 +147,16 @@ use Rattle.ca_model.specs.machine.LocalOperations.{operation_effects, window_slo
 use Rattle.ca_model.specs.machine.Numbering.{Numbered}
 use Rattle.ca_model.specs.machine.Requester.{Performs, RequestTurn, Sends, Waits, packet_row, turn_of}
 use Rattle.ca_model.specs.machine.Sound.{AreLimited, CanBeMade, IsSoundWorld}
-use Rattle.ca_agree.proofs.EventFitLemmas.{first-marks}
-use Rattle.ca_agree_keys.proofs.KeyEventLemmas.{event-keys-agree, opening-keys-agree}
+use Rattle.ca_agree_ways.proofs.of_ca_agree.EventFitLemmas.{first-marks}
+use Rattle.ca_agree_ways.proofs.of_ca_agree_keys.KeyEventLemmas.{event-keys-agree, opening-keys-agree}
 use Rattle.ca_keys.specs.Memory.{ByteMap}
-use Rattle.ca_laws_names.proofs.PlacedLemmas.{event-placed, opening-placed}
-use Rattle.ca_laws_names.specs.Placed.{IsPlacedWorld}
-use Rattle.ca_laws_sound.proofs.SoundLemmas.{event-sound, opening-sound}
-use Rattle.ca_laws_steady.proofs.EventLemmas.{event-steady, opening-steady}
-use Rattle.ca_laws_windows.proofs.WindowEventLemmas.{event-bound, opening-bound}
-use Rattle.ca_laws_windows.specs.Bindings.{IsBoundWorld}
-use Rattle.ca_agree_posts.proofs.FailureLemmas.{IsSentPacket, packet-sent}
+use Rattle.ca_agree_ways.proofs.of_ca_laws_names.PlacedLemmas.{event-placed, opening-placed}
+use Rattle.ca_agree_ways.specs.ca_laws_names.Placed.{IsPlacedWorld}
+use Rattle.ca_agree_ways.proofs.of_ca_laws_sound.SoundLemmas.{event-sound, opening-sound}
+use Rattle.ca_agree_ways.proofs.of_ca_laws_steady.EventLemmas.{event-steady, opening-steady}
+use Rattle.ca_agree_ways.proofs.of_ca_laws_windows.WindowEventLemmas.{event-bound, opening-bound}
+use Rattle.ca_agree_ways.specs.ca_laws_windows.Bindings.{IsBoundWorld}
+use Rattle.ca_agree_ways.proofs.of_ca_agree_posts.FailureLemmas.{IsSentPacket, packet-sent}
 use Rattle.ca_model.specs.Entries.{EntryValue}
 use Rattle.ca_model.specs.machine.Frame.{Afterwards}
 use Rattle.ca_model.specs.machine.Run.{Follows, Ran, go_on, run_from}

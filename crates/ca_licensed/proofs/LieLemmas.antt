@@ -6,15 +6,15 @@ use Rattle.std.proofs.lemmas.Option.{same_Some}
 use Rattle.std.specs.Cmp.Lexicographic.{pointwise}
 use Rattle.std.specs.List.{AllByRecursion, list_all, list_any}
 use Rattle.std.specs.Option.{option_eq, option_map_or}
-use Rattle.ca_agree_keys.proofs.SlotLemmas.{key-slot-refl}
-use Rattle.ca_agree_keys.specs.InForce.{grant_in_force}
-use Rattle.ca_agree_posts.proofs.GrantLemmas.{both-true, runs-refl, slots-alike}
+use Rattle.ca_agree_ways.proofs.of_ca_agree_keys.SlotLemmas.{key-slot-refl}
+use Rattle.ca_agree_ways.specs.ca_agree_keys.InForce.{grant_in_force}
+use Rattle.ca_agree_ways.proofs.of_ca_agree_posts.GrantLemmas.{both-true, runs-refl, slots-alike}
 use Rattle.ca_base.specs.Grants.{grant_of_bind}
 use Rattle.ca_base.specs.declared.change.Change as state_change
 use Rattle.ca_base.specs.declared.change.Change.TheVariants as changes
 use Rattle.ca_base.specs.declared.request.SendOp.{SendOp}
 use Rattle.ca_base.specs.declared.request.SendOp.TheVariants as ops
-use Rattle.ca_grant.specs.KeySlot.{HaveSlotsApart, is_at_slot_of}
+use Rattle.ca_agree_ways.specs.ca_grant.KeySlot.{HaveSlotsApart, is_at_slot_of}
 use Rattle.ca_keys.specs.Equal.{bool_eq, domain_eq, grant_eq, key_eq, queue_eq, rights_eq, run_eq}
 use Rattle.ca_keys.specs.Memory.{runs_at}
 use Rattle.ca_keys.specs.declared.grant.Grant.{Grant}
@@ -24,7 +24,7 @@ use Rattle.ca_keys.specs.declared.names.QueueId.{QueueId}
 use Rattle.ca_keys.specs.declared.names.Slot.{Slot}
 use Rattle.ca_keys.specs.declared.place.Run.{Run}
 use Rattle.ca_keys.specs.declared.rights.Rights.{Rights}
-use Rattle.ca_laws_sound.proofs.SettledLemmas.{queue-path}
+use Rattle.ca_agree_ways.proofs.of_ca_laws_sound.SettledLemmas.{queue-path}
 use Rattle.ca_model.proofs.ThingLemmas.{domain-path}
 use Rattle.ca_licensed.proofs.BoundLemmas.{each-found, slots-turned}
 use Rattle.ca_base.specs.Configuration.{Configuration}

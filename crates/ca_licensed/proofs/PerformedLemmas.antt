@@ -3,15 +3,15 @@ use Rattle.std.proofs.Common.{◌≡◌, ℕ, ◌≤◌, ◌==◌, ◌&&◌, ◌
 use Rattle.std.proofs.lemmas.Option.{same_Some}
 use Rattle.std.specs.List.{AllByRecursion, list_all, list_any}
 use Rattle.std.specs.Option.{option_map_or}
-use Rattle.ca_agree.proofs.LeadsLemmas.{leads-around, leads-queue}
-use Rattle.ca_agree.specs.Runs.{Leads}
-use Rattle.ca_agree_keys.proofs.KeyTurnLemmas.{found}
-use Rattle.ca_agree_posts.proofs.FailureLemmas.{IsSentPacket, failure-none, packet-sent}
-use Rattle.ca_agree_posts.proofs.GoingLemmas.{AreKeyless, failure-goes}
-use Rattle.ca_agree_posts.proofs.PlaceLemmas.{IsPerformed, performs}
-use Rattle.ca_agree_posts.proofs.PostLemmas.{AreNoAnswers, SamePosts, answers-append, keyless-no, leads-ends, no-answers, same-posts}
-use Rattle.ca_agree_posts.proofs.PostTurnLemmas.{any-such, IsNextOperation, IsPosted, Revokes, leads-perform, next-posted, packet-is, performed-some, sent-quiet, used-none}
-use Rattle.ca_agree_posts.specs.Posts.{PostsAgree, life}
+use Rattle.ca_agree_ways.proofs.of_ca_agree.LeadsLemmas.{leads-around, leads-queue}
+use Rattle.ca_agree_ways.specs.ca_agree.Runs.{Leads}
+use Rattle.ca_agree_ways.proofs.of_ca_agree_keys.KeyTurnLemmas.{found}
+use Rattle.ca_agree_ways.proofs.of_ca_agree_posts.FailureLemmas.{IsSentPacket, failure-none, packet-sent}
+use Rattle.ca_agree_ways.proofs.of_ca_agree_posts.GoingLemmas.{AreKeyless, failure-goes}
+use Rattle.ca_agree_ways.proofs.of_ca_agree_posts.PlaceLemmas.{IsPerformed, performs}
+use Rattle.ca_agree_ways.proofs.of_ca_agree_posts.PostLemmas.{AreNoAnswers, SamePosts, answers-append, keyless-no, leads-ends, no-answers, same-posts}
+use Rattle.ca_agree_ways.proofs.of_ca_agree_posts.PostTurnLemmas.{any-such, IsNextOperation, IsPosted, Revokes, leads-perform, next-posted, packet-is, performed-some, sent-quiet, used-none}
+use Rattle.ca_agree_ways.specs.ca_agree_posts.Posts.{PostsAgree, life}
 use Rattle.ca_base.specs.Configuration.{Configuration}
 use Rattle.ca_base.specs.declared.completion.Completion.{Completion}
 use Rattle.ca_base.specs.declared.completion.WcStatus.TheVariants.{MemoryManagement, Success}
@@ -28,9 +28,9 @@ use Rattle.ca_keys.specs.Equal.{key_eq}
 use Rattle.ca_keys.specs.declared.grant.Grant.{Grant}
 use Rattle.ca_keys.specs.declared.key.Key.{Key}
 use Rattle.ca_keys.specs.declared.names.QueueId.{QueueId}
-use Rattle.ca_laws_sound.proofs.WorldLemmas.{IsThere, RowDoes, around_in, shared_of}
-use Rattle.ca_laws_steady.proofs.TurnLemmas.{there-kept}
-use Rattle.ca_agree_posts.proofs.GrantLemmas.{both-true}
+use Rattle.ca_agree_ways.proofs.of_ca_laws_sound.WorldLemmas.{IsThere, RowDoes, around_in, shared_of}
+use Rattle.ca_agree_ways.proofs.of_ca_laws_steady.TurnLemmas.{there-kept}
+use Rattle.ca_agree_ways.proofs.of_ca_agree_posts.GrantLemmas.{both-true}
 use Rattle.ca_licensed.proofs.EffectLemmas.{AreOf, IsLeft, all-effective, effective, keyless-of, left-by, of-append}
 use Rattle.ca_licensed.proofs.SuccessLemmas.{Effective, revoked-here, sent-of}
 use Rattle.ca_model.specs.Licensed.{completion_is_effective, grants_by_performing, invalidation_is_effective, is_effective, is_effective_at_end, is_empty, operation_is_effective}

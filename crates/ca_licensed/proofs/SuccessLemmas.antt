@@ -5,19 +5,19 @@ use Rattle.std.proofs.lemmas.Bool.Decides.{nat_tests}
 use Rattle.std.proofs.lemmas.Option.{same_Some}
 use Rattle.std.specs.List.{AllByRecursion, list_all}
 use Rattle.std.specs.Option.{option_and_then, option_map, option_map_or}
-use Rattle.ca_agree.proofs.LeadsLemmas.{leads-around, leads-queue, leads-unless, leads-weaker}
-use Rattle.ca_agree.proofs.PathChangeLemmas.{Behind}
-use Rattle.ca_agree.proofs.PathLemmas.{marks-append}
-use Rattle.ca_agree.proofs.PathVerbLemmas.{call_of}
-use Rattle.ca_agree.specs.Runs.{Leads}
-use Rattle.ca_agree_keys.proofs.ChangeLemmas.{at-region-slot, at-window-slot}
-use Rattle.ca_agree_keys.proofs.KeyTurnLemmas.{IsUp, found}
-use Rattle.ca_agree_keys.proofs.SightLemmas.{over}
-use Rattle.ca_agree_keys.specs.InForce.{grant_in_force, grant_over_regions}
-use Rattle.ca_agree_posts.proofs.GoingLemmas.{arrival-goes, respond-goes, timeout-goes}
-use Rattle.ca_agree_posts.proofs.PostLemmas.{AreNoAnswers, IsNoRequest, SamePosts, answers-append, keyless-no, leads-goes, no-answers, same-posts, tells-no}
-use Rattle.ca_agree_posts.proofs.PostTurnLemmas.{IsPosted, sent-quiet}
-use Rattle.ca_agree_posts.specs.Posts.{PostsAgree}
+use Rattle.ca_agree_ways.proofs.of_ca_agree.LeadsLemmas.{leads-around, leads-queue, leads-unless, leads-weaker}
+use Rattle.ca_agree_ways.proofs.of_ca_agree.PathChangeLemmas.{Behind}
+use Rattle.ca_agree_ways.proofs.of_ca_agree.PathLemmas.{marks-append}
+use Rattle.ca_agree_ways.proofs.of_ca_agree.PathVerbLemmas.{call_of}
+use Rattle.ca_agree_ways.specs.ca_agree.Runs.{Leads}
+use Rattle.ca_agree_ways.proofs.of_ca_agree_keys.ChangeLemmas.{at-region-slot, at-window-slot}
+use Rattle.ca_agree_ways.proofs.of_ca_agree_keys.KeyTurnLemmas.{IsUp, found}
+use Rattle.ca_agree_ways.proofs.of_ca_agree_keys.SightLemmas.{over}
+use Rattle.ca_agree_ways.specs.ca_agree_keys.InForce.{grant_in_force, grant_over_regions}
+use Rattle.ca_agree_ways.proofs.of_ca_agree_posts.GoingLemmas.{arrival-goes, respond-goes, timeout-goes}
+use Rattle.ca_agree_ways.proofs.of_ca_agree_posts.PostLemmas.{AreNoAnswers, IsNoRequest, SamePosts, answers-append, keyless-no, leads-goes, no-answers, same-posts, tells-no}
+use Rattle.ca_agree_ways.proofs.of_ca_agree_posts.PostTurnLemmas.{IsPosted, sent-quiet}
+use Rattle.ca_agree_ways.specs.ca_agree_posts.Posts.{PostsAgree}
 use Rattle.ca_base.specs.Configuration.{Configuration}
 use Rattle.ca_base.specs.declared.completion.Completion.{Completion}
 use Rattle.ca_base.specs.declared.correspondent.Correspondent.{Correspondent}
@@ -27,16 +27,16 @@ use Rattle.ca_base.specs.declared.step.Reason.TheVariants as reasons
 use Rattle.ca_base.specs.objects.Mailbox.{Mailbox, after_delivery, bytes_lent, is_lost}
 use Rattle.ca_base.specs.objects.QueuePair.{QueuePair, QueueSlot, NoQueue, Present}
 use Rattle.ca_base.specs.objects.WorkQueue.{WorkQueue}
-use Rattle.ca_grant.specs.KeySlot.{HaveSlotsApart, is_at_slot_of}
+use Rattle.ca_agree_ways.specs.ca_grant.KeySlot.{HaveSlotsApart, is_at_slot_of}
 use Rattle.ca_keys.specs.declared.grant.Grant.{Grant}
 use Rattle.ca_keys.specs.declared.key.Key.{Key}
 use Rattle.ca_keys.specs.declared.names.QueueId.{QueueId}
 use Rattle.ca_keys.specs.declared.names.Slot.{Slot}
-use Rattle.ca_laws_sound.proofs.WorldLemmas.{IsThere, around_in, shared_of}
-use Rattle.ca_laws_steady.proofs.TurnLemmas.{there-kept}
-use Rattle.ca_laws_steady.specs.Steady.{IsSteadyWorld}
+use Rattle.ca_agree_ways.proofs.of_ca_laws_sound.WorldLemmas.{IsThere, around_in, shared_of}
+use Rattle.ca_agree_ways.proofs.of_ca_laws_steady.TurnLemmas.{there-kept}
+use Rattle.ca_agree_ways.specs.ca_laws_steady.Steady.{IsSteadyWorld}
 use Rattle.ca_licensed.proofs.AnswerLemmas.{Answers, AreAnswered, AreFlushes, IsFlush, quiet-verb, refused-fine, IsQuietVerb}
-use Rattle.ca_agree_posts.proofs.GrantLemmas.{both-true, key-refl}
+use Rattle.ca_agree_ways.proofs.of_ca_agree_posts.GrantLemmas.{both-true, key-refl}
 use Rattle.ca_licensed.proofs.EffectLemmas.{AreOf, IsLeft, Tells, all-effective, effective, keyless-of, left-by, not-performed, of-append, tells, all-more}
 use Rattle.ca_model.specs.Licensed.{completion_is_effective, grants_by_performing, is_effective, operation_is_effective, is_effective_at_end, is_of_slot, was_revoked, invalidation_is_effective}
 use Rattle.ca_model.specs.Past.{KeySlot, Past, after_mark, after_marks, at_begin, key_slot_eq, key_slot_of, operation_performed, region_key_slot, window_key_slot, after_verb, posted_at}

@@ -17,6 +17,8 @@ mod request;
 
 pub use bind_over_parts::bind;
 pub use ca_base::OpRefusal;
+pub use ca_region;
+pub use ca_window;
 pub use fast_registration::fast;
 pub use invalidation::invalidate;
 pub use marks::{Marks2, OpError};

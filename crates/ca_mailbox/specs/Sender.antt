@@ -1,7 +1,7 @@
 -- The sender and the peer of a call, as correspondents. Contracts cite it.
 use Rattle.std.specs.Prelude.{ℕ, Option}
 use Rattle.std.specs.Option.{option_map}
-use Rattle.ca_keys.specs.declared.names.QueueId.{QueueId}
+use Rattle.ca_base.specs.ca_keys.declared.names.QueueId.{QueueId}
 use Rattle.ca_base.specs.declared.correspondent.Correspondent.{Correspondent}
 
 -- a queue pair with its incarnation

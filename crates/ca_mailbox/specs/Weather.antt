@@ -2,10 +2,10 @@
 use Rattle.std.specs.Prelude.{ℕ, ◌+◌, ◌*◌, ◌/◌, ◌%◌, ◌^◌, ◌==◌, ◌&&◌, Bool, true, false, if◌then◌else◌, nat_lt, List, [], ◌∷◌}
 use Rattle.rand_pcg.specs.Lcg.{started, increment_of}
 use Rattle.rand_pcg.specs.Pcg.{multiplier_64, pcg32}
-use Rattle.ca_keys.specs.Equal.{queue_eq}
+use Rattle.ca_base.specs.ca_keys.Equal.{queue_eq}
 use Rattle.ca_base.specs.declared.lot.Lot.{Lot}
 use Rattle.ca_base.specs.declared.lot.Lot.TheVariants.{Pass, Lose, Repeat, Hold}
-use Rattle.ca_keys.specs.declared.names.QueueId.{QueueId}
+use Rattle.ca_base.specs.ca_keys.declared.names.QueueId.{QueueId}
 use Rattle.ca_mailbox.specs.declared.weather.Weather.{Weather}
 use Rattle.ca_mailbox.specs.declared.weather.Weather.TheVariants.{Calm, Listed, Seeded}
 use Rattle.ca_mailbox.specs.declared.weather.WeatherLine.{WeatherLine}

@@ -11,8 +11,8 @@ use Rattle.ca_model.specs.declared.part_name.PartName.{PartName}
 use Rattle.ca_model.specs.declared.part_name.PartName.TheVariants as names
 use Rattle.ca_model.specs.machine.Step.{bytes_of_buffer, has_buffer}
 use Rattle.ca_model.specs.machine.World.{World, Byte_at}
-use Rattle.ca_replay.specs.Rows.{IsRowOf, IsThere, part_at}
-use Rattle.ca_replay.specs.declared.row.Row.{Row}
+use Rattle.ca_script_run.specs.ca_replay.Rows.{IsRowOf, IsThere, part_at}
+use Rattle.ca_script_run.specs.ca_replay.declared.row.Row.{Row}
 
 -- the first of two, by a test that holds
 chosen : {A : Type 0} (x y z : A) (b : Bool) → b ≡ true → (if b then x else y) ≡ z → x ≡ z

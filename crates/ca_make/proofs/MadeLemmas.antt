@@ -12,7 +12,7 @@ use Rattle.ca_model.specs.Requests.{list_of}
 use Rattle.ca_model.specs.declared.verb.Verb.{Verb}
 use Rattle.ca_model.specs.machine.Sound.{AreLimited, HasFewPieces, IsLimitedAdapter}
 use Rattle.ca_order_laws.specs.Limits.{KeepsToLimits}
-use Rattle.ca_rest.specs.Rest.{AreCallable, IsCallable}
+use Rattle.ca_order_laws.specs.ca_rest.Rest.{AreCallable, IsCallable}
 use Rattle.ca_script_lines.specs.declared.Line.{Line}
 
 -- ---- lists

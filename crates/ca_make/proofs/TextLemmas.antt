@@ -12,8 +12,8 @@ use Rattle.ca_model.specs.machine.World.{World}
 use Rattle.ca_order.specs.Order.{ending, order}
 use Rattle.ca_order.specs.Summary.{Summary, bytes_after, runs_from, summary}
 use Rattle.ca_order_laws.specs.Limits.{KeepsToLimits}
-use Rattle.ca_replay.specs.Rows.{IsRow, IsRowOf}
-use Rattle.ca_replay.specs.declared.row.Row.{Row}
+use Rattle.ca_script_run.specs.ca_replay.Rows.{IsRow, IsRowOf}
+use Rattle.ca_script_run.specs.ca_replay.declared.row.Row.{Row}
 use Rattle.ca_script.specs.Script.{ScriptValue}
 
 -- a row that stands for a world stands for one under its own settings

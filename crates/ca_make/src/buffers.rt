@@ -5,14 +5,14 @@ ghost use Rattle.ca_keys.specs.Memory.{bytes_at};
 ghost use Rattle.ca_make.specs.Buffers.{HasTwoBuffers, IsBufferSeen, buffer_in, sum_in};
 ghost use Rattle.ca_model.specs.machine.World.{World};
 ghost use Rattle.ca_order.specs.Summary.{runs_from};
-ghost use Rattle.ca_replay.specs.Rows.{IsRow, IsRowOf, part_at};
+ghost use Rattle.ca_script_run.specs.ca_replay.Rows.{IsRow, IsRowOf, part_at};
 
 use ca_base::{Memory, Run};
 use ca_held::Part;
 use ca_memory::Buffer;
 use ca_model::PartName;
 use ca_places::place;
-use ca_replay::Row;
+use ca_script_run::ca_replay::Row;
 use std::alloc::Global;
 
 /// The sum of all bytes of two buffers, one at each of two adapters.

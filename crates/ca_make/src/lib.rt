@@ -11,5 +11,6 @@ mod buffers;
 mod laws;
 mod made;
 
+pub use ca_script_run;
 pub use laws::{made_scripts_can_be_worked, orders_of_made_scripts_are_lawful};
 pub use made::{Made, make};

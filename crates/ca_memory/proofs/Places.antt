@@ -4,8 +4,8 @@ use Rattle.std.proofs.lemmas.List.{places, same_lists, append-nil, length-drop, 
 use Rattle.std.proofs.lemmas.List.FromFn.{get_or-map-range_with_len, length-map-range_with_len}
 use Rattle.std.proofs.lemmas.Simd.{map-map}
 use Rattle.std.specs.List.{range_with_len}
-use Rattle.ca_keys.specs.declared.place.Run.{Run}
-use Rattle.ca_keys.specs.Memory.{bytes_at}
+use Rattle.ca_base.specs.ca_keys.declared.place.Run.{Run}
+use Rattle.ca_base.specs.ca_keys.Memory.{bytes_at}
 use Rattle.ca_memory.specs.Buffer.{memory_of, IsInside, bytes_after, bytes_from, IsWrittenAt}
 
 -- numbers in a row, looked up in a list

@@ -1,8 +1,8 @@
 -- A buffer as a list of bytes, and as the memory of its places. Contracts cite it.
 use Rattle.std.specs.Prelude.{◌≡◌, ℕ, ◌+◌, ◌≤◌, List, [], ◌∷◌, ◌++◌, length, take, drop, slice_index_or}
-use Rattle.ca_keys.specs.declared.place.Place.{Place}
-use Rattle.ca_keys.specs.declared.place.Run.{Run}
-use Rattle.ca_keys.specs.Memory.{ByteMap, memory_after}
+use Rattle.ca_base.specs.ca_keys.declared.place.Place.{Place}
+use Rattle.ca_base.specs.ca_keys.declared.place.Run.{Run}
+use Rattle.ca_base.specs.ca_keys.Memory.{ByteMap, memory_after}
 
 -- the memory that a buffer's bytes make: a place of the buffer has the byte at its offset
 abbrev pub memory_of : List ℕ → ByteMap

@@ -1,7 +1,7 @@
 -- The number that an atomic puts. Contracts cite it.
 use Rattle.std.specs.Prelude.{ℕ, ◌+◌, ◌%◌, ◌^◌, ◌==◌, if◌then◌else◌}
-use Rattle.ca_keys.specs.declared.access.AtomicOp.{AtomicOp}
-use Rattle.ca_keys.specs.declared.access.AtomicOp.TheVariants.{CmpSwap, FetchAdd}
+use Rattle.ca_base.specs.ca_keys.declared.access.AtomicOp.{AtomicOp}
+use Rattle.ca_base.specs.ca_keys.declared.access.AtomicOp.TheVariants.{CmpSwap, FetchAdd}
 
 -- a compare and swap puts its number where it found the one that it compares with, and else leaves what it found; a
 -- fetch and add puts the sum modulo 2^64

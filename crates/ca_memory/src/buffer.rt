@@ -1,5 +1,5 @@
 ghost use Rattle.std.specs.Prelude.{◌≡◌, OnOk, OnErr, IfOk, length};
-ghost use Rattle.ca_keys.specs.Memory.{little_endian};
+ghost use Rattle.ca_base.specs.ca_keys.Memory.{little_endian};
 
 use crate::number::number_put;
 use ca_base::limits::ATOMIC_BYTES;
@@ -23,8 +23,8 @@ impl Model for Buffer {
 
 impl Buffer {
     ghost use Rattle.std.specs.Prelude.{◌+◌, ◌++◌, [], ◌∷◌, replicate};
-    ghost use Rattle.ca_keys.specs.Memory.{bytes_at, little_endian_bytes};
-    ghost use Rattle.ca_keys.specs.declared.place.Run.{Run};
+    ghost use Rattle.ca_base.specs.ca_keys.Memory.{bytes_at, little_endian_bytes};
+    ghost use Rattle.ca_base.specs.ca_keys.declared.place.Run.{Run};
     ghost use Rattle.ca_memory.specs.Buffer.{memory_of, IsInside, bytes_after, IsWrittenAt};
     ghost use Rattle.ca_memory.specs.Number.{number_after};
 

@@ -11,4 +11,5 @@ mod buffer;
 mod number;
 
 pub use buffer::Buffer;
+pub use ca_base;
 pub use number::number_put;

@@ -16,8 +16,8 @@ use Rattle.ca_model.specs.machine.Parts.{Enough, Part, operation_needs, part, re
 use Rattle.ca_model.specs.machine.Requester.{Performs, RequestTurn, Sends, Waits, is_too_much, next_request, packet_row, turn_of, turn_refusals}
 use Rattle.ca_model.specs.machine.Row.{Does, Ending, NotPossible, plain_row}
 use Rattle.ca_needs.specs.Next.{waits_for_answers}
-use Rattle.ca_sending.specs.declared.turn.Found.{Found}
-use Rattle.ca_sending.specs.Turn.{IsWaiting, SendsFound, is_performing, operation_in, turn_row}
+use Rattle.ca_requester.specs.ca_sending.declared.turn.Found.{Found}
+use Rattle.ca_requester.specs.ca_sending.Turn.{IsWaiting, SendsFound, is_performing, operation_in, turn_row}
 
 -- the turn performs this request's operation
 pub performs : (c : Configuration) (q : QueuePair) (r : SendRequest) (drawn : Option ℕ) → operation_in (turn_of q) ≡ Some (r, drawn)

@@ -18,9 +18,9 @@ use ca_base::{QueueId, Settings};
 use ca_held::{Held, QueueSlot};
 use ca_model::PartName;
 use ca_qpstate::QueuePart;
+use ca_requester::ca_rows::{Arrival, arrival_of};
 use ca_requester::response_asks;
 use ca_responder::{request_asks, request_key};
-use ca_rows::{Arrival, arrival_of};
 use ca_srq::Srq;
 
 /// What bytes that arrive at a queue pair need beside it. The packet is read once.

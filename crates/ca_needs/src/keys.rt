@@ -3,7 +3,7 @@ ghost use Rattle.std.specs.Option.{option_map};
 ghost use Rattle.ca_base.specs.Configuration.{configuration_in};
 ghost use Rattle.ca_model.specs.machine.Parts.{ask_needs, asks_needs, bind_needs, ending_needs, region_needs, region_part, row_needs, window_needs};
 ghost use Rattle.ca_model.specs.machine.Row.{Row};
-ghost use Rattle.ca_operations.specs.Sends.{key_end};
+ghost use Rattle.ca_responder.specs.ca_operations.Sends.{key_end};
 ghost use Rattle.ca_needs.specs.Next.{next_of};
 
 use crate::around::beside;

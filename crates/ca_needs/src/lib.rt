@@ -16,5 +16,6 @@ mod named;
 mod turns;
 mod verbs;
 
+pub use ca_requester::ca_sending;
 pub use events::next_part;
 pub use named::is_named;

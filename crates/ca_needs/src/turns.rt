@@ -9,19 +9,19 @@ ghost use Rattle.ca_model.specs.machine.CanStep.{CanStep};
 ghost use Rattle.ca_model.specs.machine.Parts.{Part, event_needs, operation_needs, request_needs, row_needs, where_some};
 ghost use Rattle.ca_model.specs.machine.Requester.{turn_of};
 ghost use Rattle.ca_model.specs.machine.Respond.{respond_row};
-ghost use Rattle.ca_sending.specs.Turn.{IsWaiting, SendsFound};
+ghost use Rattle.ca_requester.specs.ca_sending.Turn.{IsWaiting, SendsFound};
 ghost use Rattle.ca_needs.specs.Next as next;
 ghost use Rattle.ca_needs.specs.Next.{next_of};
 
 use crate::around::{around, beside, peer};
 use crate::keys::{bind, ending, row};
 use crate::missing::{missing, missing_of};
-use ca_answering::respond_ask;
 use ca_base::{QueueId, Reason, SendOp, Settings};
 use ca_held::{Held, QueueSlot};
 use ca_model::PartName;
 use ca_qpstate::QueuePart;
-use ca_sending::{Found, Turn, next_asks, next_local, next_turn};
+use ca_requester::ca_sending::{Found, Turn, next_asks, next_local, next_turn};
+use ca_responder::ca_answering::respond_ask;
 
 /// Timeout: the queue pair, its mailbox, what stands around it, and the peer's queue pair and mailbox.
 #[tactic(auto, using(crate::proofs::HasLemmas::holds))]

@@ -25,7 +25,7 @@ use Rattle.ca_model.specs.declared.mark.Mark.{Mark}
 use Rattle.ca_model.specs.declared.mark.Mark.TheVariants as marks
 use Rattle.ca_packet.specs.Packet.{Fields}
 use Rattle.ca_packet.specs.declared.atomic_eth.AtomicEth.{AtomicEth}
-use Rattle.ca_ties_rows.specs.Moves.{number_found, numbers_found}
+use Rattle.ca_ties_success.specs.ca_ties_rows.Moves.{number_found, numbers_found}
 use Rattle.ca_once.proofs.VerbLemmas.{SameHand, verb-hand}
 
 -- ---- a mark of an atomic that acted

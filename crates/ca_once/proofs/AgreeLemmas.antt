@@ -4,7 +4,7 @@ use Rattle.std.proofs.lemmas.Bool.{and_parts, eqb-true}
 use Rattle.std.proofs.lemmas.Bool.Decides.{nat_tests}
 use Rattle.std.specs.List.{list_any}
 use Rattle.ca_agree.specs.Agreement.{PathsAgree}
-use Rattle.ca_agree_posts.specs.Posts.{AgreeInSlot, PostsAgree, life}
+use Rattle.ca_ties_success.specs.ca_agree_posts.Posts.{AgreeInSlot, PostsAgree, life}
 use Rattle.ca_base.specs.declared.change.Change.{Change}
 use Rattle.ca_base.specs.declared.change.Change.TheVariants as changes
 use Rattle.ca_base.specs.declared.correspondent.Correspondent.{Correspondent}
@@ -28,7 +28,7 @@ use Rattle.ca_model.specs.machine.World.{World}
 use Rattle.ca_once.proofs.MailTolds.{correspondent-path}
 use Rattle.ca_once.proofs.NoteLemmas.{Among, Grows, all-pass, grows-then, last-get, marks-grow, none-passes}
 use Rattle.ca_once.specs.Connections.{direction_of, work_posted}
-use Rattle.ca_ties_verbs.specs.Agrees.{AgreesWith, AnswerAgrees, ChangeAgrees, IsInLife, PostAgrees, RtrAgrees}
+use Rattle.ca_ties_success.specs.ca_ties_verbs.Agrees.{AgreesWith, AnswerAgrees, ChangeAgrees, IsInLife, PostAgrees, RtrAgrees}
 
 -- a clean connection, part by part, and that no life of the past has two Rtr
 pub record IsConnection (past : Past) (a b : Naming) : Type 0 where

@@ -27,10 +27,10 @@ use Rattle.ca_once.proofs.ActedLemmas.{acted_onto, found-is, met-acted, none-ont
 use Rattle.ca_once.proofs.MailTolds.{correspondent-path}
 use Rattle.ca_once.proofs.ShapeLemmas.{Delivers}
 use Rattle.ca_once.specs.Told.{AreSentBy, IsSentBy, IsTold, LiesThere}
-use Rattle.ca_ties.proofs.EntryLemmas.{IsLent, lent-envelope}
-use Rattle.ca_ties.specs.Ties.{TiedAfter, found_by, found_by_delivery}
-use Rattle.ca_ties_rows.specs.Links.{found_at}
-use Rattle.ca_ties_rows.specs.Moves.{numbers_found}
+use Rattle.ca_ties_success.proofs.of_ca_ties.EntryLemmas.{IsLent, lent-envelope}
+use Rattle.ca_ties_success.specs.ca_ties.Ties.{TiedAfter, found_by, found_by_delivery}
+use Rattle.ca_ties_success.specs.ca_ties_rows.Links.{found_at}
+use Rattle.ca_ties_success.specs.ca_ties_rows.Moves.{numbers_found}
 
 -- ---- an event in which no atomic acts
 

@@ -2,7 +2,7 @@
 use Rattle.std.proofs.Common.{◌≡◌, ℕ, ◌<◌, arith, Bool, true, false, if◌then◌else◌, List, take, length, Option, None, Some, refl, ap, sym, ◌∙◌, true≢false}
 use Rattle.ca_agree.proofs.LeadsLemmas.{comes, leads-weaker}
 use Rattle.ca_agree.specs.Runs.{Comes, Leads}
-use Rattle.ca_agree_polls.proofs.PlanLemmas.{created, leads-create, leads-poll}
+use Rattle.ca_ties_success.proofs.of_ca_agree_polls.PlanLemmas.{created, leads-create, leads-poll}
 use Rattle.ca_base.specs.Configuration.{Configuration}
 use Rattle.ca_base.specs.objects.CompletionQueue.{CompletionQueue, after_polls}
 use Rattle.ca_base.specs.objects.Mailbox.{Mailbox}
@@ -24,13 +24,13 @@ use Rattle.ca_model.specs.machine.Sound.{IsSoundWorld}
 use Rattle.ca_model.specs.machine.Step.{plan, step, verb_plan}
 use Rattle.ca_model.specs.machine.VerbAnswers.{Call}
 use Rattle.ca_model.specs.machine.World.{Cq_of, World, put}
-use Rattle.ca_ties.proofs.DeliverWalk.{leads-deliver}
-use Rattle.ca_ties.specs.Ties.{LeavesPairs}
-use Rattle.ca_ties_verbs.proofs.PairLemmas.{Replaces, replaces-changed}
-use Rattle.ca_ties_verbs.proofs.PollLemmas.{AreFreer, IsFreerSlot, poll-freers}
-use Rattle.ca_ties_verbs.proofs.PollLemmas.IsFreerSlot.{freer, untouched}
-use Rattle.ca_ties_verbs.proofs.TurnWalks.{leads-request, leads-respond, leads-timeout, leads-wake}
-use Rattle.ca_ties_verbs.proofs.WalkLemmas.{SamePairs, leads-aside, leads-change, leads-dealloc, leads-destroy, leads-inject, leads-post, leads-receive}
+use Rattle.ca_ties_success.proofs.of_ca_ties.DeliverWalk.{leads-deliver}
+use Rattle.ca_ties_success.specs.ca_ties.Ties.{LeavesPairs}
+use Rattle.ca_ties_success.proofs.of_ca_ties_verbs.PairLemmas.{Replaces, replaces-changed}
+use Rattle.ca_ties_success.proofs.of_ca_ties_verbs.PollLemmas.{AreFreer, IsFreerSlot, poll-freers}
+use Rattle.ca_ties_success.proofs.of_ca_ties_verbs.PollLemmas.IsFreerSlot.{freer, untouched}
+use Rattle.ca_ties_success.proofs.of_ca_ties_verbs.TurnWalks.{leads-request, leads-respond, leads-timeout, leads-wake}
+use Rattle.ca_ties_success.proofs.of_ca_ties_verbs.WalkLemmas.{SamePairs, leads-aside, leads-change, leads-dealloc, leads-destroy, leads-inject, leads-post, leads-receive}
 
 -- a vacant slot stays vacant, or a later life comes there
 abbrev pub Lasting : World → World → Type 0

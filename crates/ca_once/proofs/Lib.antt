@@ -14,3 +14,6 @@ pub mod RunLemmas
 pub mod OnceLemmas
 pub mod SuccessLemmas
 pub mod WholeLemmas
+-- The libraries below, handed on to those above.
+pub use Rattle.ca_ties_success.proofs.of_ca_ties
+pub use Rattle.ca_ties_success.proofs.of_ca_ties_verbs

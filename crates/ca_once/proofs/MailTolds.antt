@@ -28,12 +28,12 @@ use Rattle.ca_once.proofs.MarkLemmas.Origin.{old, new}
 use Rattle.ca_once.proofs.VerbLemmas.{Makes, VerbMail, cut-length, cut-sources, verb-mail}
 use Rattle.ca_once.proofs.VerbLemmas.VerbMail.{kept as verb_kept, cut as verb_cut, makes as verb_makes}
 use Rattle.ca_once.specs.Told.{AreSentBy, IsTold, LiesThere}
-use Rattle.ca_ties.proofs.SendLemmas.{no-path-before, no-path-over}
-use Rattle.ca_ties.specs.Ties.{IsOver, IsPaired, IsSentFor, IsTied, ReceiverTie, RequestsAfter, RequestsTold, SenderTie, TurnAfter, sent_to}
-use Rattle.ca_ties.specs.Ties.ReceiverTie.{before as receiver_before, standing as receiver_standing, gone as receiver_gone}
-use Rattle.ca_ties.specs.Ties.RequestsAfter.{same as requests_same, ended as requests_ended, grown as requests_grown}
-use Rattle.ca_ties.specs.Ties.RequestsTold.{silent as told_silent, kept as told_kept, absent as told_absent, grown as told_grown}
-use Rattle.ca_ties.specs.Ties.SenderTie.{before as sender_before, standing as sender_standing, gone as sender_gone}
+use Rattle.ca_ties_success.proofs.of_ca_ties.SendLemmas.{no-path-before, no-path-over}
+use Rattle.ca_ties_success.specs.ca_ties.Ties.{IsOver, IsPaired, IsSentFor, IsTied, ReceiverTie, RequestsAfter, RequestsTold, SenderTie, TurnAfter, sent_to}
+use Rattle.ca_ties_success.specs.ca_ties.Ties.ReceiverTie.{before as receiver_before, standing as receiver_standing, gone as receiver_gone}
+use Rattle.ca_ties_success.specs.ca_ties.Ties.RequestsAfter.{same as requests_same, ended as requests_ended, grown as requests_grown}
+use Rattle.ca_ties_success.specs.ca_ties.Ties.RequestsTold.{silent as told_silent, kept as told_kept, absent as told_absent, grown as told_grown}
+use Rattle.ca_ties_success.specs.ca_ties.Ties.SenderTie.{before as sender_before, standing as sender_standing, gone as sender_gone}
 
 -- what is known of an event: what was told before it, that past and world agree before and after it, and that each packet that
 -- it sends has its index

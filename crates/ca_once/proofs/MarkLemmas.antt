@@ -15,7 +15,7 @@ use Rattle.ca_model.specs.Past.{Envelope, Naming, Past, after_mark, after_marks,
 use Rattle.ca_model.specs.declared.mark.Mark.{Mark}
 use Rattle.ca_model.specs.declared.mark.Mark.TheVariants as marks
 use Rattle.ca_once.specs.Told.{AreSentBy, IsSentBy}
-use Rattle.ca_ties.specs.Ties.{sent_to}
+use Rattle.ca_ties_success.specs.ca_ties.Ties.{sent_to}
 
 -- ---- one mark
 

@@ -36,10 +36,10 @@ use Rattle.ca_once.proofs.StepTolds.{ToldAfter, event-told}
 use Rattle.ca_once.specs.AtMostOnce.{ActAtMostOnce}
 use Rattle.ca_once.specs.Connections.{AreLinks, HasLink, direction_of}
 use Rattle.ca_once.specs.Told.{IsTold}
-use Rattle.ca_ties.proofs.OpeningLemmas.{opening-tied}
-use Rattle.ca_ties.specs.Ties.{IsTied}
-use Rattle.ca_ties_rows.specs.Links.{found_at}
-use Rattle.ca_ties_verbs.specs.Agrees.{acted_by}
+use Rattle.ca_ties_success.proofs.of_ca_ties.OpeningLemmas.{opening-tied}
+use Rattle.ca_ties_success.specs.ca_ties.Ties.{IsTied}
+use Rattle.ca_ties_success.specs.ca_ties_rows.Links.{found_at}
+use Rattle.ca_ties_success.specs.ca_ties_verbs.Agrees.{acted_by}
 
 -- ---- no life has two Rtr
 

@@ -6,8 +6,8 @@ use Rattle.ca_agree.proofs.LeadsLemmas.{comes, leads-around, leads-weaker}
 use Rattle.ca_agree.proofs.VerbFitLemmas.{Answers, AreAnswered, fits-verb}
 use Rattle.ca_agree.specs.Agreement.{peer_in}
 use Rattle.ca_agree.specs.Runs.{Comes, Leads}
-use Rattle.ca_agree_polls.proofs.PostingLemmas.{leads-present}
-use Rattle.ca_agree_polls.proofs.TurnLemmas.{leads-tests}
+use Rattle.ca_ties_success.proofs.of_ca_agree_polls.PostingLemmas.{leads-present}
+use Rattle.ca_ties_success.proofs.of_ca_agree_polls.TurnLemmas.{leads-tests}
 use Rattle.ca_base.specs.Configuration.{Configuration}
 use Rattle.ca_base.specs.declared.change.Change.{Change}
 use Rattle.ca_base.specs.declared.change.Change.TheVariants as changes
@@ -44,9 +44,9 @@ use Rattle.ca_model.specs.machine.VerbAnswers.{Answer_plan, Call, Refuse_plan, U
 use Rattle.ca_model.specs.machine.World.{Mailbox_of, Queue_of, World, get}
 use Rattle.ca_once.proofs.NoteLemmas.{Destroys}
 use Rattle.ca_once.proofs.VerbLemmas.{Makes}
-use Rattle.ca_ties_verbs.proofs.BeginLemmas.{found-begins}
-use Rattle.ca_ties_verbs.proofs.WalkLemmas.{leads-destroy}
-use Rattle.ca_ties_verbs.specs.Beginnings.{AllBeginEmpty}
+use Rattle.ca_ties_success.proofs.of_ca_ties_verbs.BeginLemmas.{found-begins}
+use Rattle.ca_ties_success.proofs.of_ca_ties_verbs.WalkLemmas.{leads-destroy}
+use Rattle.ca_ties_success.specs.ca_ties_verbs.Beginnings.{AllBeginEmpty}
 
 -- An Rtr that succeeded found its queue pair there, without a peer, and names another one, in an incarnation that there can be,
 -- with a path MTU.

@@ -10,17 +10,17 @@ use Rattle.ca_agree.specs.Indices.{has_its_index}
 use Rattle.ca_agree.specs.Runs.{Comes}
 use Rattle.ca_agree_accesses.proofs.EventLemmas.{packets-along}
 use Rattle.ca_agree_accesses.specs.Asked.{has_its_packet}
-use Rattle.ca_agree_posts.proofs.PostEventLemmas.{posts-along}
-use Rattle.ca_agree_posts.specs.Posts.{PostsAgree}
+use Rattle.ca_ties_success.proofs.of_ca_agree_posts.PostEventLemmas.{posts-along}
+use Rattle.ca_ties_success.specs.ca_agree_posts.Posts.{PostsAgree}
 use Rattle.ca_base.specs.Configuration.{Configuration}
 use Rattle.ca_base.specs.declared.correspondent.Correspondent.{Correspondent}
 use Rattle.ca_connection.specs.Layout.{Direction}
 use Rattle.ca_connection.specs.Link.{Link}
-use Rattle.ca_judged.proofs.JudgeEventLemmas.{judged-along}
+use Rattle.ca_agree_accesses.proofs.of_ca_judged.JudgeEventLemmas.{judged-along}
 use Rattle.ca_keys.specs.Memory.{ByteMap}
 use Rattle.ca_laws_sound.proofs.SoundLemmas.{event-sound, opening-sound}
-use Rattle.ca_laws_steady.proofs.EventLemmas.{event-steady, opening-steady}
-use Rattle.ca_laws_steady.specs.Steady.{IsSteadyWorld}
+use Rattle.ca_ties_success.proofs.of_ca_laws_steady.EventLemmas.{event-steady, opening-steady}
+use Rattle.ca_ties_success.specs.ca_laws_steady.Steady.{IsSteadyWorld}
 use Rattle.ca_model.specs.Entries.{EntryValue}
 use Rattle.ca_model.specs.Judged.{is_judged}
 use Rattle.ca_model.specs.Past.{Past, after_entry, after_marks, at_begin, each_entry, each_mark, opening_past}
@@ -41,13 +41,13 @@ use Rattle.ca_ties_success.proofs.EventFound.{event-found as event-successes}
 use Rattle.ca_ties_success.proofs.ListLemmas.{event-lists, opening-lists}
 use Rattle.ca_ties_success.specs.Lists.{AtomicListsFit}
 use Rattle.ca_ties_success.specs.Success.{AreFound}
-use Rattle.ca_ties.proofs.FollowLemmas.{paths-follow}
-use Rattle.ca_ties.proofs.TurnTies.{request-turn, respond-turn}
-use Rattle.ca_ties.specs.Ties.{IsTied, TurnAfter}
-use Rattle.ca_ties_verbs.proofs.BeginEvents.{event-begins, opening-begins}
-use Rattle.ca_ties_verbs.proofs.EventTies.{event-ties}
-use Rattle.ca_ties_verbs.specs.Agrees.{AgreesWith}
-use Rattle.ca_ties_verbs.specs.Beginnings.{AllBeginEmpty}
+use Rattle.ca_ties_success.proofs.of_ca_ties.FollowLemmas.{paths-follow}
+use Rattle.ca_ties_success.proofs.of_ca_ties.TurnTies.{request-turn, respond-turn}
+use Rattle.ca_ties_success.specs.ca_ties.Ties.{IsTied, TurnAfter}
+use Rattle.ca_ties_success.proofs.of_ca_ties_verbs.BeginEvents.{event-begins, opening-begins}
+use Rattle.ca_ties_success.proofs.of_ca_ties_verbs.EventTies.{event-ties}
+use Rattle.ca_ties_success.specs.ca_ties_verbs.Agrees.{AgreesWith}
+use Rattle.ca_ties_success.specs.ca_ties_verbs.Beginnings.{AllBeginEmpty}
 
 -- what stands before an entry, and at the end
 pub record Stands (c : Configuration) (past : Past) (w : World) : Type 0 where

@@ -40,7 +40,7 @@ use Rattle.ca_model.specs.machine.Turns.{Leave_plan, Packet, Request_around, Res
 use Rattle.ca_model.specs.machine.VerbAnswers.{Call, Refuse_plan, answer_mark}
 use Rattle.ca_model.specs.machine.World.{Mailbox_of, Queue_of, World}
 use Rattle.ca_once.proofs.ActedLemmas.{AreUnmet, IsUnmetMark}
-use Rattle.ca_ties.proofs.TellLemmas.{leads-both}
+use Rattle.ca_ties_success.proofs.of_ca_ties.TellLemmas.{leads-both}
 
 -- ---- which packets arrive
 

@@ -20,9 +20,9 @@ use Rattle.ca_once.proofs.MailTolds.{Known, MailTold, silent-mail, turn-mail, ve
 use Rattle.ca_once.proofs.RightLemmas.{AreRight, right-made}
 use Rattle.ca_once.proofs.ShapeLemmas.{Delivers, Meets, own-unmet}
 use Rattle.ca_once.specs.Told.{IsTold}
-use Rattle.ca_ties.proofs.TellLemmas.{own-unsent}
-use Rattle.ca_ties.specs.Ties.{TiedAfter, TurnAfter, sent_to}
-use Rattle.ca_ties_verbs.specs.Agrees.{acted_by}
+use Rattle.ca_ties_success.proofs.of_ca_ties.TellLemmas.{own-unsent}
+use Rattle.ca_ties_success.specs.ca_ties.Ties.{TiedAfter, TurnAfter, sent_to}
+use Rattle.ca_ties_success.specs.ca_ties_verbs.Agrees.{acted_by}
 
 -- what is known of an event beyond: how its marks are judged and carried, what they are, and what its answer found
 pub record Marked (past : Past) (w : World) (event : Event) (ms : List Mark) : Type 0 where

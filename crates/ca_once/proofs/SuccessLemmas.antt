@@ -2,7 +2,7 @@
 use Rattle.std.proofs.Common.{◌≡◌, ℕ, ◌+◌, ◌<◌, ◌≤◌, ◌⊎◌, inl, inr, ◌&&◌, ◌==◌, ◌++◌, arith, Bool, true, false, if◌then◌else◌, length, map, List, [], ◌∷◌, Option, None, Some, is_some, slice_get, refl, ap, ap₂, sym, subst, ◌∙◌, true≢false}
 use Rattle.std.proofs.lemmas.List.{append-nil}
 use Rattle.std.specs.Option.{option_map_or}
-use Rattle.ca_agree_posts.specs.Posts.{PostsAgree}
+use Rattle.ca_ties_success.specs.ca_agree_posts.Posts.{PostsAgree}
 use Rattle.ca_agree.specs.Agreement.{PathsAgree}
 use Rattle.ca_base.specs.declared.completion.Completion.{Completion}
 use Rattle.ca_base.specs.declared.correspondent.Correspondent.{Correspondent}
@@ -10,7 +10,7 @@ use Rattle.ca_base.specs.declared.request.SendOp.{SendOp}
 use Rattle.ca_base.specs.declared.request.SendOp.TheVariants as ops
 use Rattle.ca_connection.specs.Layout.{Direction, is_atomic}
 use Rattle.ca_connection.specs.Link.{Link}
-use Rattle.ca_judged.proofs.JudgeLemmas.{bytes-refl}
+use Rattle.ca_agree_accesses.proofs.of_ca_judged.JudgeLemmas.{bytes-refl}
 use Rattle.ca_keys.specs.Equal.{queue_eq}
 use Rattle.ca_keys.specs.Memory.{little_endian_bytes}
 use Rattle.ca_keys.specs.declared.names.QueueId.{QueueId}
@@ -30,9 +30,9 @@ use Rattle.ca_once.proofs.NoteLemmas.{Among, Grows, SameNotes, marks-grow, plain
 use Rattle.ca_once.proofs.VerbLemmas.{SameHand, verb-hand}
 use Rattle.ca_once.specs.Connections.{work_posted}
 use Rattle.ca_ties_success.specs.Success.{AreFound, IsFoundAndPut, bytes_put, put_by}
-use Rattle.ca_ties_rows.specs.Links.{found_at}
-use Rattle.ca_ties_rows.specs.Sides.{work_of}
-use Rattle.ca_ties_verbs.specs.Agrees.{IsInLife}
+use Rattle.ca_ties_success.specs.ca_ties_rows.Links.{found_at}
+use Rattle.ca_ties_success.specs.ca_ties_rows.Sides.{work_of}
+use Rattle.ca_ties_success.specs.ca_ties_verbs.Agrees.{IsInLife}
 
 append-assoc : {A : Type 0} (xs ys zs : List A) → (xs ++ ys) ++ zs ≡ xs ++ (ys ++ zs)
 append-assoc [] ys zs = refl

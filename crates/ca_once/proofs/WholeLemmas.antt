@@ -37,8 +37,8 @@ use Rattle.ca_once.proofs.VerbLemmas.{SameHand, verb-hand}
 use Rattle.ca_once.specs.Connections.{direction_of}
 use Rattle.ca_ties_success.specs.Success.{AreFound}
 use Rattle.ca_once.specs.Told.{IsTold}
-use Rattle.ca_ties_rows.specs.Links.{found_at}
-use Rattle.ca_ties_verbs.specs.Agrees.{AgreesWith, acted_by}
+use Rattle.ca_ties_success.specs.ca_ties_rows.Links.{found_at}
+use Rattle.ca_ties_success.specs.ca_ties_verbs.Agrees.{AgreesWith, acted_by}
 
 -- before the marks of an event
 begin-midst : (past : Past) (event : Event) → Midst past (at_begin event past)

@@ -12,7 +12,7 @@ use Rattle.ca_model.specs.Once.{is_clean_pair}
 use Rattle.ca_model.specs.Past.{Naming, Past, Posted, after_entries, opening_past}
 use Rattle.ca_model.specs.machine.World.{World, opening_world}
 use Rattle.ca_once.specs.Told.{IsTold}
-use Rattle.ca_ties_rows.specs.Sides.{work_of}
+use Rattle.ca_ties_success.specs.ca_ties_rows.Sides.{work_of}
 
 -- what a posted request does, and nothing beyond the last
 abbrev pub work_posted : Option Posted → Work

@@ -7,8 +7,8 @@ use Rattle.ca_connection.specs.Link.{Link, RequestPacket}
 use Rattle.ca_keys.specs.declared.names.QueueId.{QueueId}
 use Rattle.ca_model.specs.Past.{Envelope, Past, found_of}
 use Rattle.ca_model.specs.machine.World.{World}
-use Rattle.ca_ties.specs.Ties.{IsTied}
-use Rattle.ca_ties_rows.specs.Links.{found_at}
+use Rattle.ca_ties_success.specs.ca_ties.Ties.{IsTied}
+use Rattle.ca_ties_success.specs.ca_ties_rows.Links.{found_at}
 
 -- an envelope that was sent is that of an entry: the life that sends has sent it, and it is of the entry's request; or it is of
 -- no request, where the entry belongs to the other direction

@@ -17,7 +17,7 @@ use Rattle.ca_model.specs.declared.mark.Mark.{Mark}
 use Rattle.ca_model.specs.machine.Arrivals.{packet_ask, remote_mark, with_answer, with_flag}
 use Rattle.ca_model.specs.machine.Expected.{atomic_row}
 use Rattle.ca_model.specs.machine.Row.{queue_and_marks}
-use Rattle.ca_rows.specs.Made.{HasMade}
+use Rattle.ca_answering.specs.ca_rows.Made.{HasMade}
 use Rattle.ca_answering.specs.Numbers.{past_packet}
 use Rattle.ca_operations.specs.Taking.{HasTaken, Outcome, outcome_in}
 use Rattle.ca_operations.specs.declared.request.SharedReceive.TheVariants.{Stays}

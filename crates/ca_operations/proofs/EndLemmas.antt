@@ -28,7 +28,7 @@ use Rattle.ca_model.specs.machine.Responses.{local_writes, writes_by}
 use Rattle.ca_model.specs.machine.Row.{Effects}
 use Rattle.std.specs.Prelude.{Result, Ok, Err, IfOk}
 use Rattle.ca_keys.specs.declared.memory.Memory.{Memory}
-use Rattle.ca_rows.specs.Made.{HasMade, IsMade, written_all}
+use Rattle.ca_answering.specs.ca_rows.Made.{HasMade, IsMade, written_all}
 use Rattle.ca_answering.specs.Numbers.{with_ack_if_asked, without_ack_request, without_taken_receive}
 use Rattle.ca_operations.specs.Sends.{key_end}
 use Rattle.ca_operations.specs.Taking.{HasTaken, IsTaken, Outcome, does, is_taken, outcome_in}

@@ -5,3 +5,6 @@ pub mod StandInLemmas
 pub mod TakingLemmas
 pub mod WriteLemmas
 pub mod EndLemmas
+-- The libraries below, handed on to those above.
+pub use Rattle.ca_answering.proofs.of_ca_rows
+pub use Rattle.ca_answering.proofs as of_ca_answering

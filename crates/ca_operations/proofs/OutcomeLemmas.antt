@@ -8,7 +8,7 @@ use Rattle.ca_base.specs.objects.QueuePair.{QueuePair}
 use Rattle.ca_model.specs.Marks.{MarkList}
 use Rattle.ca_model.specs.declared.marks.TheConstants.{SPARE_MARKS}
 use Rattle.ca_model.specs.machine.Row.{Effects, Row}
-use Rattle.ca_rows.specs.Made.{written_all}
+use Rattle.ca_answering.specs.ca_rows.Made.{written_all}
 use Rattle.ca_operations.specs.Taking.{HasTaken, Outcome, does, is_taken, outcome_in, unless_refused, without_key}
 use Rattle.ca_operations.specs.declared.request.SharedReceive.{SharedReceive}
 

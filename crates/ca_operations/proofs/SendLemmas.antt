@@ -28,8 +28,8 @@ use Rattle.ca_model.specs.machine.Expected.{after_send_packet, behind_marks, inv
 use Rattle.ca_model.specs.machine.Requester.{local_denial}
 use Rattle.ca_model.specs.machine.Responses.{local_writes, writes_by}
 use Rattle.ca_model.specs.machine.Row.{Does, Effects, plain_row}
-use Rattle.ca_rows.specs.Asks.{AreAsksFor, IsGranted}
-use Rattle.ca_rows.proofs.WriteLemmas.{can_write}
+use Rattle.ca_answering.specs.ca_rows.Asks.{AreAsksFor, IsGranted}
+use Rattle.ca_answering.proofs.of_ca_rows.WriteLemmas.{can_write}
 use Rattle.ca_answering.specs.Numbers.{with_ack_if_asked, without_ack_request, without_taken_receive}
 use Rattle.ca_operations.specs.Receives.{CanHold, holds_receive}
 use Rattle.ca_operations.specs.Taking.{CanMeet, MayEnd, does, outcome_in}

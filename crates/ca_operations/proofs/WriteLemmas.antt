@@ -19,7 +19,7 @@ use Rattle.ca_model.specs.declared.mark.Mark.{Mark}
 use Rattle.ca_model.specs.machine.Arrivals.{packet_ask, refusal_effects, remote_mark, with_flag}
 use Rattle.ca_model.specs.machine.Expected.{after_write_packet, continues, fits_left, fits_payload, fits_position, fits_write, is_invalid, valid_row, write_reach, write_row}
 use Rattle.ca_model.specs.machine.Row.{Does, Effects, plain_row}
-use Rattle.ca_rows.specs.Made.{HasMade, written_all}
+use Rattle.ca_answering.specs.ca_rows.Made.{HasMade, written_all}
 use Rattle.ca_answering.specs.Numbers.{with_ack_if_asked, without_ack_request}
 use Rattle.ca_operations.specs.Taking.{HasTaken, Outcome, is_taken, outcome_in}
 use Rattle.ca_operations.specs.declared.request.SharedReceive.{SharedReceive}

@@ -5,3 +5,5 @@ pub mod Requests
 pub mod Sends
 pub mod StandIn
 pub mod Taking
+-- The libraries below, handed on to those above.
+pub use Rattle.ca_answering.specs.ca_rows

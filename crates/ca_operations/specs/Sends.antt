@@ -13,7 +13,7 @@ use Rattle.ca_model.specs.machine.Responses.{writes_by}
 use Rattle.ca_model.specs.declared.receiving.Receiving.{Receiving}
 use Rattle.ca_operations.specs.Receives.{MayTake}
 use Rattle.ca_operations.specs.Taking.{MayEnd, Outcome, outcome_in}
-use Rattle.ca_rows.specs.Asks.{CanWrite, touched_by}
+use Rattle.ca_answering.specs.ca_rows.Asks.{CanWrite, touched_by}
 use Rattle.ca_operations.specs.declared.send.SendPacket.{SendPacket}
 
 -- the queue pair ends this key

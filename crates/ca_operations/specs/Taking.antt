@@ -12,7 +12,7 @@ use Rattle.ca_keys.specs.Numbers.{is_window_key}
 use Rattle.ca_grant.specs.Reaching.{AreAtHand, invalidation_by}
 use Rattle.ca_model.specs.Marks.{MarkList}
 use Rattle.ca_model.specs.machine.Row.{Effects, Ending, NotPossible, Does, Row, ending_of}
-use Rattle.ca_rows.specs.Made.{HasMade, IsUnchanged, written_all}
+use Rattle.ca_answering.specs.ca_rows.Made.{HasMade, IsUnchanged, written_all}
 use Rattle.ca_operations.specs.declared.request.SharedReceive.{SharedReceive}
 use Rattle.ca_operations.specs.declared.request.SharedReceive.TheVariants.{Stays, Taken}
 

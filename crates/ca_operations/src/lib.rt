@@ -16,6 +16,9 @@ mod stand_in;
 mod target;
 mod write;
 
+pub use ca_answering;
+pub use ca_answering::{ca_qpstate, ca_rows};
+pub use ca_grant;
 pub use receive::{exceeds_receive, find_receive, next_receive, receive_asks};
 pub use remote_requests::{take_atomic, take_read};
 pub use request::{Request, SharedReceive};

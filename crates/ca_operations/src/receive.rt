@@ -8,17 +8,17 @@ ghost use Rattle.ca_model.specs.machine.Arrivals as arrivals;
 ghost use Rattle.ca_model.specs.machine.Expected as rows;
 ghost use Rattle.ca_model.specs.machine.Invariants.{IsQueue, IsSharedReceives};
 ghost use Rattle.ca_model.specs.machine.Numbering.{list_asks};
-ghost use Rattle.ca_rows.specs.Asks.{AreAsksFor};
+ghost use Rattle.ca_answering.specs.ca_rows.Asks.{AreAsksFor};
 ghost use Rattle.ca_operations.specs.Receives.{AreCounted, IsNext, IsReceiving};
 ghost use Rattle.ca_operations.specs.Receives as receives;
 
 use arrayvec::ArrayVec;
+use ca_answering::ca_qpstate::QueuePart;
+use ca_answering::ca_rows::{Asker, fill_asks, list_length};
 use ca_answering::next_posting;
 use ca_base::limits::MAX_PIECES;
 use ca_base::{Ask, Kind, Memory, Message, Piece, PlacedReceive, RecvRequest};
 use ca_model::Receiving;
-use ca_qpstate::QueuePart;
-use ca_rows::{Asker, fill_asks, list_length};
 use ca_srq::Srq;
 use ca_wire::Packet;
 

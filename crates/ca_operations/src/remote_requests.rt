@@ -9,7 +9,7 @@ ghost use Rattle.ca_packet.specs.declared.shape.Shape.{Shape};
 ghost use Rattle.ca_model.specs.machine.Arrivals as arrivals;
 ghost use Rattle.ca_model.specs.machine.CanStep.{CanStep};
 ghost use Rattle.ca_model.specs.machine.Expected as rows;
-ghost use Rattle.ca_rows.specs.Made.{IsMade};
+ghost use Rattle.ca_answering.specs.ca_rows.Made.{IsMade};
 ghost use Rattle.ca_operations.specs.Requests.{IsRequest};
 ghost use Rattle.ca_operations.specs.Taking.{CanMeet, IsTaken, outcome_in};
 ghost use Rattle.ca_operations.specs.Access.{read_effects};
@@ -17,13 +17,13 @@ ghost use Rattle.ca_operations.specs.Atomics.{IsAtomicRequest, number_found, num
 
 use crate::request::{Request, SharedReceive};
 use crate::write::deny;
+use ca_answering::ca_qpstate::QueuePart;
+use ca_answering::ca_rows::segments;
 use ca_answering::{packet_ask, pass, refuse_invalid, remote_mark};
 use ca_base::limits::ATOMIC_BYTES;
 use ca_base::{Ask, AtomicOp, DeniedAsk, Kind, Memory, Queued, Span, Verdict};
 use ca_grant::Reach;
 use ca_model::{Marks, SPARE_MARKS};
-use ca_qpstate::QueuePart;
-use ca_rows::segments;
 use ca_wire::AtomicEth;
 
 /// A READ Request is queued. It is judged as it is answered.

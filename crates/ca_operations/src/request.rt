@@ -2,7 +2,7 @@ ghost use Rattle.std.specs.Prelude.{◌≡◌};
 ghost use Rattle.ca_model.specs.machine.Arrivals as arrivals;
 ghost use Rattle.ca_operations.specs.Taking.{is_taken};
 
-use ca_qpstate::QueuePart;
+use ca_answering::ca_qpstate::QueuePart;
 use ca_wire::{Packet, Shape};
 
 /// A request that arrived, which no call changes: its packet, its shape, and the index of its envelope for the marks of

@@ -11,8 +11,8 @@ ghost use Rattle.ca_model.specs.machine.CanStep.{CanStep};
 ghost use Rattle.ca_model.specs.machine.Completions as completions;
 ghost use Rattle.ca_model.specs.machine.Expected as rows;
 ghost use Rattle.ca_model.specs.machine.Requester as requester;
-ghost use Rattle.ca_rows.specs.Asks.{IsFoundFirst};
-ghost use Rattle.ca_rows.specs.Made.{HasMade, IsMade};
+ghost use Rattle.ca_answering.specs.ca_rows.Asks.{IsFoundFirst};
+ghost use Rattle.ca_answering.specs.ca_rows.Made.{HasMade, IsMade};
 ghost use Rattle.ca_answering.specs.Flush.{CanFlush, left_to_flush};
 ghost use Rattle.ca_answering.specs.Numbers.{CanPass, without_ack_request, without_taken_receive};
 ghost use Rattle.ca_operations.specs.Receives as receives;
@@ -26,6 +26,11 @@ use crate::receive::{exceeds_receive, fill_receive_asks, holds_receive, receivin
 use crate::request::{Request, SharedReceive, shared_receive};
 use crate::stand_in::{queue_stand_in, replace_by_ack, replace_by_nak};
 use arrayvec::ArrayVec;
+use ca_answering::ca_qpstate::QueuePart;
+use ca_answering::ca_rows::{
+    JudgedAsks, Received, judge_all, local_denial, push_writes, receive_failure, receive_mark,
+    reserve_for, write_judged,
+};
 use ca_answering::{FlushedReceives, pass, push_flush, queue_ack, queue_refusal, refuse_invalid};
 use ca_base::limits::MAX_PIECES;
 use ca_base::{
@@ -33,11 +38,6 @@ use ca_base::{
 };
 use ca_grant::Reach;
 use ca_model::{Mark, Marks, SPARE_MARKS};
-use ca_qpstate::QueuePart;
-use ca_rows::{
-    JudgedAsks, Received, judge_all, local_denial, push_writes, receive_failure, receive_mark,
-    reserve_for, write_judged,
-};
 use ca_wire::{NakCode, Packet, Position};
 
 /// The most marks of a SEND packet that is placed: those of its writes, of the key that it ends, and of its completion.

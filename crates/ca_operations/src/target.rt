@@ -3,10 +3,10 @@ ghost use Rattle.ca_base.specs.declared.limits.TheConstants.{MAX_PAYLOAD_BYTES};
 ghost use Rattle.ca_model.specs.machine.Arrivals as arrivals;
 ghost use Rattle.ca_model.specs.machine.Expected as rows;
 
+use ca_answering::ca_qpstate::QueuePart;
 use ca_answering::packet_ask;
 use ca_base::{Ask, Kind, Message};
 use ca_model::WriteReach;
-use ca_qpstate::QueuePart;
 use ca_wire::Packet;
 
 /// What a WRITE packet reaches: one that begins a WRITE has it in its RETH, and one that goes on in the message in

@@ -7,8 +7,8 @@ ghost use Rattle.ca_model.specs.declared.marks.TheConstants.{SPARE_MARKS};
 ghost use Rattle.ca_model.specs.machine.Arrivals as arrivals;
 ghost use Rattle.ca_model.specs.machine.CanStep.{CanStep};
 ghost use Rattle.ca_model.specs.machine.Expected as rows;
-ghost use Rattle.ca_rows.specs.Asks.{IsWrite};
-ghost use Rattle.ca_rows.specs.Made.{HasMade, IsMade, written_all};
+ghost use Rattle.ca_answering.specs.ca_rows.Asks.{IsWrite};
+ghost use Rattle.ca_answering.specs.ca_rows.Made.{HasMade, IsMade, written_all};
 ghost use Rattle.ca_answering.specs.Numbers.{CanPass, without_ack_request};
 ghost use Rattle.ca_operations.specs.Receives.{CanTake};
 ghost use Rattle.ca_operations.specs.Requests.{IsValidRequest};
@@ -18,12 +18,12 @@ ghost use Rattle.ca_operations.specs.Access.{AreAllowed, IsFitting, IsFoundOf, a
 use crate::receive::take_own;
 use crate::request::{Request, SharedReceive, shared_receive};
 use crate::target::{write_ask, write_reach};
+use ca_answering::ca_qpstate::QueuePart;
+use ca_answering::ca_rows::{Received, receive_mark};
 use ca_answering::{pass, queue_ack, refuse, refuse_invalid, remote_mark};
 use ca_base::{Ask, Bytes, DeniedAsk, Memory, Message, PlacedReceive, Span, Verdict, WcOp};
 use ca_grant::Reach;
 use ca_model::{Marks, SPARE_MARKS, WriteReach};
-use ca_qpstate::QueuePart;
-use ca_rows::{Received, receive_mark};
 use ca_wire::{NakCode, Packet, Position};
 
 /// An ask that is not denied, with what was found of it; nothing where it has no bytes.

@@ -10,9 +10,9 @@ use Rattle.ca_model.specs.declared.event.Event.TheVariants as events
 use Rattle.ca_model.specs.machine.Plan.{Outcome, NotReady, Did}
 use Rattle.ca_model.specs.machine.Step.{step}
 use Rattle.ca_script.specs.Script.{ScriptValue}
-use Rattle.ca_script_lines.specs.declared.Line.{Line}
-use Rattle.ca_script_lines.specs.declared.what.What.{What}
-use Rattle.ca_script_lines.specs.declared.what.What.TheVariants as whats
+use Rattle.ca_script.specs.ca_script_lines.declared.Line.{Line}
+use Rattle.ca_script.specs.ca_script_lines.declared.what.What.{What}
+use Rattle.ca_script.specs.ca_script_lines.declared.what.What.TheVariants as whats
 use Rattle.ca_turns.specs.Turns.{event_of}
 use Rattle.ca_order.proofs.KeepLemmas.{ByVisits, kept-pass}
 use Rattle.ca_order.specs.Visits.{Visit, Consumer, Engine, round_of, timer_pass_of}

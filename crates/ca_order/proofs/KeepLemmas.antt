@@ -4,9 +4,9 @@ use Rattle.std.specs.Option.{option_map_or}
 use Rattle.ca_model.specs.declared.event.Event.{Event}
 use Rattle.ca_model.specs.declared.event.Event.TheVariants as events
 use Rattle.ca_script.specs.Script.{ScriptValue}
-use Rattle.ca_script_lines.specs.declared.Line.{Line}
-use Rattle.ca_script_lines.specs.declared.what.What.{What}
-use Rattle.ca_script_lines.specs.declared.what.What.TheVariants as whats
+use Rattle.ca_script.specs.ca_script_lines.declared.Line.{Line}
+use Rattle.ca_script.specs.ca_script_lines.declared.what.What.{What}
+use Rattle.ca_script.specs.ca_script_lines.declared.what.What.TheVariants as whats
 use Rattle.ca_turns.specs.Turns.{event_of}
 use Rattle.ca_order.specs.Visits.{Visit, Consumer, Engine, round_of, timer_pass_of}
 use Rattle.ca_order.specs.Order.{Stage, at_round, after_first, has_no_event_left, lines_of, after_event, after_pass, after_rounds, after_visit, after_line, with_lines_left, after_round}

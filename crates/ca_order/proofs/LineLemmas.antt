@@ -6,9 +6,9 @@ use Rattle.ca_model.specs.declared.event.Event.TheVariants as events
 use Rattle.ca_model.specs.declared.mark.Mark.{Mark}
 use Rattle.ca_model.specs.declared.verb.Verb.{Verb}
 use Rattle.ca_script.specs.Script.{ScriptValue}
-use Rattle.ca_script_lines.specs.declared.Line.{Line}
-use Rattle.ca_script_lines.specs.declared.what.What.{What}
-use Rattle.ca_script_lines.specs.declared.what.What.TheVariants as whats
+use Rattle.ca_script.specs.ca_script_lines.declared.Line.{Line}
+use Rattle.ca_script.specs.ca_script_lines.declared.what.What.{What}
+use Rattle.ca_script.specs.ca_script_lines.declared.what.What.TheVariants as whats
 use Rattle.ca_order.specs.Order.{lines_of}
 use Rattle.ca_order.specs.OfScript.{Reach, calls_by, is_call, is_passed, left_after, lines_at, may_stand, verbs_in}
 use Rattle.ca_order.proofs.EndLemmas.{starts}

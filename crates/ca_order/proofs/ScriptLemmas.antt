@@ -22,9 +22,9 @@ use Rattle.ca_model.specs.machine.Plan.{Outcome, NotReady, Did}
 use Rattle.ca_model.specs.machine.Step.{step}
 use Rattle.ca_model.specs.machine.World.{World}
 use Rattle.ca_script.specs.Script.{ScriptValue}
-use Rattle.ca_script_lines.specs.declared.Line.{Line}
-use Rattle.ca_script_lines.specs.declared.what.What.{What}
-use Rattle.ca_script_lines.specs.declared.what.What.TheVariants as whats
+use Rattle.ca_script.specs.ca_script_lines.declared.Line.{Line}
+use Rattle.ca_script.specs.ca_script_lines.declared.what.What.{What}
+use Rattle.ca_script.specs.ca_script_lines.declared.what.What.TheVariants as whats
 use Rattle.ca_turns.specs.Turns.{hasten_at, lot_at}
 use Rattle.ca_turns.specs.declared.turn.Turn.{Turn}
 use Rattle.ca_turns.specs.declared.turn.Turn.TheVariants as turns

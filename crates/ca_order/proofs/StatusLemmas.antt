@@ -6,7 +6,7 @@ use Rattle.ca_model.specs.declared.event.Event.{Event}
 use Rattle.ca_model.specs.machine.Plan.{Outcome, NotReady, Did}
 use Rattle.ca_model.specs.machine.Step.{step}
 use Rattle.ca_script.specs.Script.{ScriptValue}
-use Rattle.ca_script_lines.specs.declared.Line.{Line}
+use Rattle.ca_script.specs.ca_script_lines.declared.Line.{Line}
 use Rattle.ca_order.specs.Order.{Stage, after_event, after_outcome, ending, has_no_event_left, lines_of, most_rounds, opening_stage, order, with_lines_left}
 use Rattle.ca_order.specs.OfScript.{BudgetSpent, Fine, HasEnded, HasStatus, IsQuietEnd, IsStalledAt, Stalled, Status, lines_at, stalled_at, stalled_from, status_of}
 use Rattle.ca_order.proofs.KeepLemmas.{IsKept, kept-rounds, kept-visit}

@@ -1,16 +1,16 @@
 -- A history of a script that keeps to the limits is lawful, and so is its order. For proofs only.
 use Rattle.std.specs.Prelude.{List}
-use Rattle.ca_agree.proofs.EventFitLemmas.{followed-is-history}
-use Rattle.ca_carried.proofs.EndEventLemmas.{whole-along}
+use Rattle.ca_caused_link.proofs.of_ca_agree.EventFitLemmas.{followed-is-history}
+use Rattle.ca_caused_link.proofs.of_ca_carried.EndEventLemmas.{whole-along}
 use Rattle.ca_caused_link.proofs.HistoryLemmas.{caused-along}
 use Rattle.ca_isolated.proofs.AloneLemmas.{alone-goes}
-use Rattle.ca_judged.proofs.JudgeEventLemmas.{judged-along}
+use Rattle.ca_isolated.proofs.of_ca_judged.JudgeEventLemmas.{judged-along}
 use Rattle.ca_keys.specs.Memory.{zeros}
-use Rattle.ca_licensed.proofs.LicensedLemmas.{licensed-along}
+use Rattle.ca_caused_link.proofs.of_ca_licensed.LicensedLemmas.{licensed-along}
 use Rattle.ca_model.specs.Entries.{EntryValue}
 use Rattle.ca_model.specs.History.{IsHistory}
 use Rattle.ca_model.specs.machine.Run.{Follows}
-use Rattle.ca_once.proofs.WholeLemmas.{whole-along as once-along}
+use Rattle.ca_caused_link.proofs.of_ca_once.WholeLemmas.{whole-along as once-along}
 use Rattle.ca_order.proofs.FollowLemmas.{order-follows}
 use Rattle.ca_order.proofs.ScriptLemmas.{order-told}
 use Rattle.ca_order.specs.OfScript.{LeadsTo}

@@ -10,6 +10,7 @@
 
 mod laws;
 
+pub use ca_rest;
 pub use laws::{
     histories_of_scripts_are_lawful, marks_tell_the_memory_of_orders, orders_are_lawful,
 };

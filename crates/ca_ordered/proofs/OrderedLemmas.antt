@@ -2,9 +2,9 @@
 use Rattle.std.proofs.Common.{◌≡◌, ◌&&◌, Bool, true, false, if◌then◌else◌, List, [], ◌∷◌, refl}
 use Rattle.std.proofs.lemmas.Bool.{and_parts}
 use Rattle.std.specs.List.{AllByRecursion}
-use Rattle.ca_agree_polls.proofs.PollEventLemmas.{polls-in-order}
-use Rattle.ca_agree_polls.proofs.WaitLemmas.{both-true}
-use Rattle.ca_agree_polls.specs.Polls.{is_poll_in_order}
+use Rattle.ca_agree_receives.proofs.of_ca_agree_polls.PollEventLemmas.{polls-in-order}
+use Rattle.ca_agree_receives.proofs.of_ca_agree_polls.WaitLemmas.{both-true}
+use Rattle.ca_agree_receives.specs.ca_agree_polls.Polls.{is_poll_in_order}
 use Rattle.ca_agree_receives.proofs.ReceiveEventLemmas.{receives-in-order}
 use Rattle.ca_agree_receives.specs.Receives.{is_receive_done_in_order}
 use Rattle.ca_agree_sends.proofs.SendEventLemmas.{sends-in-order}

@@ -1,5 +1,5 @@
 -- Reading fails exactly where a test refuses the bytes, and with the fault of that test.
-use Rattle.ca_keys.specs.Refusals.{first_of}
+use Rattle.ca_base.specs.ca_keys.Refusals.{first_of}
 use Rattle.ca_base.specs.declared.limits.TheConstants.{MAX_PAYLOAD_BYTES}
 use Rattle.ca_packet.specs.declared.bth.TheConstants.{BTH_BYTES}
 use Rattle.ca_packet.specs.Packet.{headers_size, opcode_in, version_in, pad_in, refusal_of, bth_refusal_of}

@@ -3,7 +3,7 @@ use Rattle.std.specs.Prelude.{◌≡◌, ℕ, ◌+◌, ◌-◌, ◌*◌, ◌/◌
 use Rattle.std.specs.Int.{Width, w32, w64, to_be_bytes}
 use Rattle.std.specs.List.{flat_map}
 use Rattle.std.specs.Option.{option_map_or}
-use Rattle.ca_keys.specs.Refusals.{first_of}
+use Rattle.ca_base.specs.ca_keys.Refusals.{first_of}
 use Rattle.ca_base.specs.declared.limits.TheConstants.{MAX_PAYLOAD_BYTES}
 use Rattle.ca_packet.specs.declared.bth.Bth.{Bth}
 use Rattle.ca_packet.specs.declared.bth.TheConstants.{BTH_BYTES}

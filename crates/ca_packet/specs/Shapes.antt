@@ -1,7 +1,7 @@
 -- Where a packet stands in its message, and the kinds of atomics. Contracts cite it.
 use Rattle.std.specs.Prelude.{Bool, true, false}
-use Rattle.ca_keys.specs.declared.access.Kind.{Kind}
-use Rattle.ca_keys.specs.declared.access.Kind.TheVariants as kinds
+use Rattle.ca_base.specs.ca_keys.declared.access.Kind.{Kind}
+use Rattle.ca_base.specs.ca_keys.declared.access.Kind.TheVariants as kinds
 use Rattle.ca_packet.specs.declared.shape.Operation.{Operation}
 use Rattle.ca_packet.specs.declared.shape.Operation.TheVariants.{Request, ReadResponse, Acknowledge, AtomicAcknowledge}
 use Rattle.ca_packet.specs.declared.shape.Position.{Position}

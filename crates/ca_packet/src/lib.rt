@@ -26,6 +26,7 @@ mod writing;
 pub use aeth::Aeth;
 pub use atomic_eth::AtomicEth;
 pub use bth::{Bth, read_bth};
+pub use ca_base;
 pub use decoding::decode;
 pub use encoding::encode;
 pub use laws::{one_packet, reading, round_trip, spelling_length};

@@ -1,1 +1,3 @@
 pub mod Psn
+-- The libraries below, handed on to those above.
+pub use Rattle.ca_base.specs as ca_base

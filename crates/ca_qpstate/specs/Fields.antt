@@ -3,9 +3,9 @@ use Rattle.std.specs.Prelude.{Option}
 use Rattle.ca_base.specs.declared.change.Change.{Change}
 use Rattle.ca_base.specs.declared.change.ModifyRefusal.{ModifyRefusal}
 use Rattle.ca_base.specs.declared.settings.Settings.{Settings}
-use Rattle.ca_keys.specs.declared.names.QueueId.{QueueId}
+use Rattle.ca_base.specs.ca_keys.declared.names.QueueId.{QueueId}
 use Rattle.ca_base.specs.Configuration.{configuration_in}
-use Rattle.ca_keys.specs.Refusals.{first_of}
+use Rattle.ca_base.specs.ca_keys.Refusals.{first_of}
 use Rattle.ca_base.specs.objects.QueuePair.{QueuePair}
 use Rattle.ca_base.specs.objects.StateTable.{field_refusals, modify_refusals}
 

@@ -2,3 +2,5 @@ pub mod Seen
 pub mod ComesUp
 pub mod Start
 pub mod Fields
+-- The libraries below, handed on to those above.
+pub use Rattle.ca_laws_sound.specs.ca_model

@@ -32,17 +32,17 @@ use Rattle.ca_places.proofs.AmongLemmas.{place-below}
 use Rattle.ca_places.specs.Places.{place_of}
 use Rattle.ca_race.specs.Raced.{IsGathered, IsReached}
 use Rattle.ca_race_laws.specs.Work.{HasWorked, numbered, stage_after}
-use Rattle.ca_replay.specs.Rows.{AreTogether, IsPartIn, IsRowOf, IsThere}
-use Rattle.ca_replay.specs.declared.row.Row.{Row}
+use Rattle.ca_script_run.specs.ca_replay.Rows.{AreTogether, IsPartIn, IsRowOf, IsThere}
+use Rattle.ca_script_run.specs.ca_replay.declared.row.Row.{Row}
 use Rattle.ca_script.specs.Script.{ScriptValue}
 use Rattle.ca_script_lines.specs.declared.Line.{Line}
 use Rattle.ca_script_run.specs.Progress.{IsAt, lines_behind}
 use Rattle.ca_script_run.specs.declared.progress.Progress.{Progress}
-use Rattle.ca_taking.proofs.PartLemmas.{bytes-with, kind-of, value-with}
-use Rattle.ca_taking.specs.Holding.{Known}
+use Rattle.ca_verbs.proofs.of_ca_taking.PartLemmas.{bytes-with, kind-of, value-with}
+use Rattle.ca_verbs.specs.ca_taking.Holding.{Known}
 use Rattle.ca_verbs.specs.Closing.{AreRemains, stamped_from}
 use Rattle.ca_verbs.specs.Kept.{Kept, kept_of}
-use Rattle.ca_worlds.specs.Worlds.{IsWorldAfter}
+use Rattle.ca_fabric_machine.specs.ca_worlds.Worlds.{IsWorldAfter}
 
 -- ---- the parts as a row
 

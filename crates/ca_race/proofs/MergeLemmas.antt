@@ -9,7 +9,7 @@ use Rattle.ca_race.specs.declared.work.Work.{Work}
 use Rattle.ca_race_laws.specs.Work.{HasWorked}
 use Rattle.ca_script.specs.Script.{ScriptValue}
 use Rattle.ca_script_run.specs.Progress.{lines_behind}
-use Rattle.ca_taking.specs.Holding.{Known}
+use Rattle.ca_verbs.specs.ca_taking.Holding.{Known}
 use Rattle.ca_parts.specs.Views.{joined_with}
 use Rattle.ca_verbs.specs.Passes.{IsOf, known_of}
 use Rattle.ca_verbs.specs.declared.fabric.Fabric.{Fabric}

@@ -15,9 +15,9 @@ use ca_held::{Held, Part};
 use ca_model::{Entry, History};
 use ca_places::each_part_has_a_place;
 use ca_race_laws::{worked_histories_are_of_their_scripts, works_are_in_their_history};
-use ca_replay::Row;
 use ca_script::Script;
 use ca_script_run::Progress;
+use ca_script_run::ca_replay::Row;
 use ca_verbs::{Fabric, Remains};
 use std::alloc::Global;
 

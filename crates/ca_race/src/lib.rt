@@ -19,4 +19,5 @@ mod work;
 mod worker;
 mod workers;
 
+pub use ca_script_run;
 pub use race::race_script;

@@ -4,3 +4,5 @@ pub mod LeftLemmas
 pub mod RowLemmas
 pub mod TouchLemmas
 pub mod WriteLemmas
+-- The libraries below, handed on to those above.
+pub use Rattle.ca_laws_windows.proofs as of_ca_laws_windows

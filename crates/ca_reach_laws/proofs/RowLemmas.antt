@@ -13,7 +13,7 @@ use Rattle.ca_base.specs.Sight.{Invalidation, Sight, denial_in, first_denied, or
 use Rattle.ca_base.specs.objects.Region.{grant_of_region}
 use Rattle.ca_base.specs.objects.Slices.{names_region, slot_of_key}
 use Rattle.ca_base.specs.objects.Window.{Binding, Window}
-use Rattle.ca_grant.specs.Reaching.{AreAtHand}
+use Rattle.ca_held_reach.specs.ca_grant.Reaching.{AreAtHand}
 use Rattle.ca_laws_windows.specs.Bindings.{IsBoundWorld}
 use Rattle.ca_model.specs.machine.Frame.{AllPass}
 use Rattle.ca_model.specs.machine.Parts.{ShowsHeld}
@@ -24,7 +24,7 @@ use Rattle.ca_model.specs.machine.Sound.{IsSoundWorld}
 use Rattle.ca_model.specs.machine.World.{Name, Region_of, Window_of, World}
 use Rattle.ca_model.proofs.PerformLemmas.{row-performs}
 use Rattle.ca_operations.specs.Taking.{ended_by, unless_refused, without_key}
-use Rattle.ca_rows.specs.Made.{written_all}
+use Rattle.ca_operations.specs.ca_rows.Made.{written_all}
 use Rattle.ca_held_reach.specs.declared.reached.Reached.{Reached}
 use Rattle.ca_held_reach.specs.AtHand.{CanEnd, CanJudge, HasBytesAtHand}
 use Rattle.ca_held_reach.specs.Changed.{after_end_of, after_write_by}

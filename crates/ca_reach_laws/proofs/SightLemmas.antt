@@ -14,7 +14,7 @@ use Rattle.ca_base.specs.objects.LocalRequest.{region_refusal, unnamed_refusal, 
 use Rattle.ca_base.specs.objects.Region.{FastRegistered, Free, NoRegion, Region, RegionState, Registered, grant_in_state, grant_of_region, vacant_region}
 use Rattle.ca_base.specs.objects.Slices.{has_slot, is_key_of, slot_of_key}
 use Rattle.ca_base.specs.objects.Window.{Binding, Window, grant_of_binding, vacant_window}
-use Rattle.ca_grant.specs.KeySlot.{list_of_grant}
+use Rattle.ca_held_reach.specs.ca_grant.KeySlot.{list_of_grant}
 use Rattle.ca_model.specs.machine.Parts.{ShowsHeld}
 use Rattle.ca_model.specs.machine.Row.{grant_if_fitting, grant_over, region_under}
 use Rattle.ca_model.specs.machine.Seen.{grant_in, refusal_in, sight_in}

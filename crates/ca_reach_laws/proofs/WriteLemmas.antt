@@ -8,7 +8,7 @@ use Rattle.ca_model.specs.machine.Frame.{AllPass}
 use Rattle.ca_model.specs.machine.Plan.{byte_names, names_written}
 use Rattle.ca_model.specs.machine.Responses.{writes_by}
 use Rattle.ca_model.specs.machine.Seen.{writes_in}
-use Rattle.ca_rows.specs.Asks.{touched_by}
+use Rattle.ca_operations.specs.ca_rows.Asks.{touched_by}
 use Rattle.ca_held_reach.specs.declared.reached.Reached.{Reached}
 use Rattle.ca_held_reach.specs.AtHand.{HasBytesAtHand}
 use Rattle.ca_held_reach.specs.Seen.{sight_of}

@@ -10,6 +10,8 @@
 
 mod laws;
 
+pub use ca_operations;
+pub use ca_operations::ca_answering;
 pub use laws::{
     bytes_held_are_at_hand, end_is_the_machines, ends_held_are_at_hand, held_parts_fit,
     held_world_is_vacant_outside, rows_held_are_at_hand, rows_held_hold_what_comes_behind,

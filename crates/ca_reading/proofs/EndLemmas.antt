@@ -11,7 +11,7 @@ use Rattle.ca_trace.specs.declared.line.Line.{Line}
 use Rattle.ca_trace.specs.declared.line.Line.TheVariants as lines
 use Rattle.ca_trace.specs.Lines.{line_text, lines_text, entry_lines, history_lines}
 use Rattle.ca_trace.specs.Trace.{text}
-use Rattle.ca_reading_lines.specs.Fits.{LineFits}
+use Rattle.ca_reading_fits.specs.ca_reading_lines.Fits.{LineFits}
 use Rattle.ca_reading_fits.specs.Histories.{EntryFits, HistoryFits}
 use Rattle.ca_reading_steps.specs.declared.progress.OpenPoll.{OpenPoll}
 use Rattle.ca_reading_steps.specs.Steps.{Stage, Start, Polling, Open, Over, Stopped, Reading, polled, polling, start}

@@ -7,8 +7,8 @@ use Rattle.ca_model.specs.Entries.{EntryValue}
 use Rattle.ca_trace.specs.declared.line.Line.{Line}
 use Rattle.ca_trace.specs.Lines.{line_text, lines_text, history_lines}
 use Rattle.ca_trace.specs.Trace.{text}
-use Rattle.ca_reading_lines.specs.Fits.{LineFits}
-use Rattle.ca_reading_lines.proofs.LineLemmas.{line_lacks}
+use Rattle.ca_reading_fits.specs.ca_reading_lines.Fits.{LineFits}
+use Rattle.ca_reading_fits.proofs.of_ca_reading_lines.LineLemmas.{line_lacks}
 use Rattle.ca_reading_fits.specs.Histories.{HistoryFits}
 use Rattle.ca_reading_steps.specs.Steps.{Over, Reading, run, start, is_over}
 use Rattle.ca_reading.specs.Taken.{IsRefused, AreTaken, lined}

@@ -17,8 +17,8 @@ use Rattle.ca_trace.specs.declared.line.Told.{Told}
 use Rattle.ca_trace.specs.declared.line.Told.TheVariants as told
 use Rattle.ca_trace.specs.Lines.{entry_lines}
 use Rattle.ca_reading_words.specs.Words.{◌>>=◌}
-use Rattle.ca_reading_lines.specs.Fits.{IsShaped, IsTurn, LineFits}
-use Rattle.ca_reading_answers.specs.Answers.{IsTold}
+use Rattle.ca_reading_fits.specs.ca_reading_lines.Fits.{IsShaped, IsTurn, LineFits}
+use Rattle.ca_reading_steps.specs.ca_reading_answers.Answers.{IsTold}
 use Rattle.ca_reading_steps.specs.declared.progress.OpenPoll.{OpenPoll}
 use Rattle.ca_reading_steps.specs.Steps.{Stage, Start, Polling, Open, Over, Stopped, Reading, shown, may_end, may_begin, polling, called, step, before, run, start}
 use Rattle.ca_reading_steps.proofs.RunLemmas.{bind_some}

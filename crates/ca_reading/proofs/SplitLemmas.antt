@@ -6,9 +6,9 @@ use Rattle.std.proofs.lemmas.Option.{same_Some}
 use Rattle.ca_trace.specs.declared.line.Line.{Line}
 use Rattle.ca_trace.specs.Lines.{line_text, lines_text}
 use Rattle.ca_reading_words.proofs.PieceLemmas.{lacks}
-use Rattle.ca_reading_lines.specs.Fits.{LineFits}
-use Rattle.ca_reading_lines.specs.Reading.{line_in}
-use Rattle.ca_reading_lines.proofs.LineLemmas.{line_read, line_lacks}
+use Rattle.ca_reading_fits.specs.ca_reading_lines.Fits.{LineFits}
+use Rattle.ca_reading_fits.specs.ca_reading_lines.Reading.{line_in}
+use Rattle.ca_reading_fits.proofs.of_ca_reading_lines.LineLemmas.{line_read, line_lacks}
 use Rattle.ca_reading.specs.Outside.{is_one_line}
 use Rattle.ca_reading.specs.Taken.{lined}
 

@@ -6,9 +6,9 @@ use Rattle.ca_trace.specs.declared.line.Line.{Line}
 use Rattle.ca_trace.specs.Lines.{line_text}
 use Rattle.ca_reading_words.specs.declared.stop.Stop.{Stop}
 use Rattle.ca_reading_words.specs.declared.stop.Stop.TheVariants as stops
-use Rattle.ca_reading_lines.specs.Calls.{exact_in}
-use Rattle.ca_reading_lines.specs.Fits.{IsShaped, LineFits}
-use Rattle.ca_reading_lines.proofs.ExactLemmas.{exact_again}
+use Rattle.ca_reading_fits.specs.ca_reading_lines.Calls.{exact_in}
+use Rattle.ca_reading_fits.specs.ca_reading_lines.Fits.{IsShaped, LineFits}
+use Rattle.ca_reading_fits.proofs.of_ca_reading_lines.ExactLemmas.{exact_again}
 use Rattle.ca_reading_steps.specs.Steps.{Reading, step}
 use Rattle.ca_reading.specs.Taken.{IsRefused}
 

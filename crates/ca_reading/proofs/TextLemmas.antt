@@ -24,9 +24,9 @@ use Rattle.ca_trace.specs.Trace.{completions_of, got_line, got_lines, mark_text,
 use Rattle.ca_trace_words.specs.Words.{Field, Lettered, word, words, led, joined}
 use Rattle.ca_reading_words.specs.Words.{◌>>=◌, pieces}
 use Rattle.ca_reading_words.proofs.PieceLemmas.{first_piece}
-use Rattle.ca_reading_lines.specs.Fits.{LineFits}
-use Rattle.ca_reading_lines.specs.Reading.{line_in}
-use Rattle.ca_reading_lines.proofs.LineLemmas.{words_append, line_read, line_lacks}
+use Rattle.ca_reading_fits.specs.ca_reading_lines.Fits.{LineFits}
+use Rattle.ca_reading_fits.specs.ca_reading_lines.Reading.{line_in}
+use Rattle.ca_reading_fits.proofs.of_ca_reading_lines.LineLemmas.{words_append, line_read, line_lacks}
 use Rattle.ca_reading_fits.specs.Histories.{EntryFits, HistoryFits}
 use Rattle.ca_reading_steps.specs.Steps.{Reading, run, start}
 use Rattle.ca_reading_steps.proofs.StepLemmas.{lines_run}

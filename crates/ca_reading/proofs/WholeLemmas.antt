@@ -6,8 +6,8 @@ use Rattle.ca_trace.specs.declared.line.Line.{Line}
 use Rattle.ca_trace.specs.Lines.{line_text, history_lines}
 use Rattle.ca_trace.specs.Trace.{text}
 use Rattle.ca_reading_words.specs.Words.{pieces}
-use Rattle.ca_reading_lines.specs.Fits.{LineFits}
-use Rattle.ca_reading_lines.proofs.ExactLemmas.{exact_again}
+use Rattle.ca_reading_fits.specs.ca_reading_lines.Fits.{LineFits}
+use Rattle.ca_reading_fits.proofs.of_ca_reading_lines.ExactLemmas.{exact_again}
 use Rattle.ca_reading_fits.specs.Histories.{HistoryFits}
 use Rattle.ca_reading.specs.Texts.{lines_in, history_in}
 use Rattle.ca_reading_steps.proofs.StepLemmas.{lines_run}

@@ -4,3 +4,5 @@ pub mod Outside
 pub mod ReaderValue
 pub mod ReaderView
 pub mod Reader
+-- The libraries below, handed on to those above.
+pub use Rattle.ca_reading_fits.specs as ca_reading_fits

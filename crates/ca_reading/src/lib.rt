@@ -12,7 +12,8 @@ mod laws;
 mod reader;
 mod whole;
 
-pub use ca_reading_fits::history_fits;
+pub use ca_reading_fits;
+pub use ca_reading_fits::{ca_reading_lines, history_fits};
 pub use error::TraceError;
 pub use laws::{
     lines_are_text, lines_give, one_more_line, one_text, refused_line_begins_none,

@@ -10,10 +10,10 @@ use Rattle.ca_model.specs.declared.answer.Answer.TheVariants as answers
 use Rattle.ca_trace.specs.declared.line.Told.{Told}
 use Rattle.ca_trace.specs.declared.line.Told.TheVariants as told
 use Rattle.ca_trace.specs.Table.{answer_words, completion_words, verdict_words}
-use Rattle.ca_trace_words.specs.Words.{Field, Fixed, Number, words}
+use Rattle.ca_trace.specs.ca_trace_words.Words.{Field, Fixed, Number, words}
 use Rattle.ca_reading_words.specs.Fits.{AllFit}
 use Rattle.ca_reading_words.proofs.WordLemmas.{queue_again, key_again, hex_again, perhaps_number_again, perhaps_key_again}
-use Rattle.ca_reading_names.proofs.NameLemmas.{side_again, denial_again, state_again, operation_again as wc_op_again, status_again, refusal_again}
+use Rattle.ca_reading_fields.proofs.of_ca_reading_names.NameLemmas.{side_again, denial_again, state_again, operation_again as wc_op_again, status_again, refusal_again}
 use Rattle.ca_reading_answers.specs.Answers.{IsTold}
 use Rattle.ca_reading_fields.specs.Fields.{Words}
 use Rattle.ca_reading_answers.specs.Answers.{state_at, polled_at, answer_at, completion_at, verdict_at}

@@ -11,7 +11,7 @@ use Rattle.ca_model.specs.declared.answer.Answer.TheVariants as answers
 use Rattle.ca_trace.specs.declared.line.Told.{Told}
 use Rattle.ca_trace.specs.declared.line.Told.TheVariants as told
 use Rattle.ca_reading_words.specs.Words.{◌>>=◌, next_of, field, perhaps_in, queue_in, key_in, hex_in}
-use Rattle.ca_reading_names.specs.Names.{side_in, denial_in, state_in, operation_in, status_in, refusal_in}
+use Rattle.ca_reading_fields.specs.ca_reading_names.Names.{side_in, denial_in, state_in, operation_in, status_in, refusal_in}
 use Rattle.ca_reading_fields.specs.Fields.{Words, u8_in, u16_in, u32_in, u64_in}
 
 -- an answer that stands whole on its line, or completions of which there are no more than a poll gives

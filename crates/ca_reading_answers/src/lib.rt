@@ -10,3 +10,4 @@
 mod answer;
 
 pub use answer::{answer_at, completion_at, verdict_at};
+pub use ca_reading_fields;

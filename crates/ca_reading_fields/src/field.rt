@@ -6,7 +6,7 @@ ghost use Rattle.ca_reading_words.specs.Words.{Reads};
 use ca_base::{
     Denial, DomainId, Key, Kind, Lot, OpRefusal, QueueId, Rights, Slot, State, WcOp, WcStatus,
 };
-use ca_model::{Drop1, Refusal};
+use ca_reading_words::ca_model::{Drop1, Refusal};
 use ca_reading_words::{Pieces, Stop};
 
 /// A number of 8 bits, by the first word.

@@ -17,6 +17,7 @@ mod verb;
 mod word;
 
 pub use answer::{answer_fits, completion_fits, completions_fit};
+pub use ca_reading_lines;
 pub use event::event_fits;
 pub use history::history_fits;
 pub use line::{is_shaped, line_fits};

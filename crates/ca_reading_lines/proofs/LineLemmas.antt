@@ -18,21 +18,21 @@ use Rattle.ca_keys.specs.Spelling.{perhaps}
 use Rattle.ca_base.specs.Spelling.{op_refusal_text}
 use Rattle.ca_keys.specs.declared.names.QueueId.{QueueId}
 use Rattle.ca_trace.specs.Table.{event_words, completion_words, got_words, mark_words}
-use Rattle.ca_trace_words.specs.Verbs.{verb_words, call_words}
-use Rattle.ca_trace_words.specs.Words.{Field, Fixed, Number, Lettered, OfCause, word, words, led, joined}
+use Rattle.ca_trace.specs.ca_trace_words.Verbs.{verb_words, call_words}
+use Rattle.ca_trace.specs.ca_trace_words.Words.{Field, Fixed, Number, Lettered, OfCause, word, words, led, joined}
 use Rattle.ca_trace.specs.Lines.{answer_line_words, line_words, line_text}
 use Rattle.ca_model.specs.History.{IsPlain}
 use Rattle.ca_reading_words.specs.Fits.{AllFit}
 use Rattle.ca_reading_words.proofs.PieceLemmas.{lacks, all_lack, pieces_joined, lacks_append, plain_lacks}
 use Rattle.ca_reading_words.proofs.NumberLemmas.{number_again}
 use Rattle.ca_reading_words.proofs.WordLemmas.{place_again, domain_again, queue_again, queues_again, key_again, address_again, hex_again, perhaps_number_again, runs_again, rights_again}
-use Rattle.ca_reading_names.proofs.NameLemmas.{object_again, alarm_again, kind_again, lot_again, drop_again, perhaps_cause_again, field_plain}
+use Rattle.ca_reading_answers.proofs.of_ca_reading_names.NameLemmas.{object_again, alarm_again, kind_again, lot_again, drop_again, perhaps_cause_again, field_plain}
 use Rattle.ca_reading_lines.specs.Fits.{IsTurn, LineFits}
 use Rattle.ca_reading_answers.specs.Answers.{IsTold}
-use Rattle.ca_reading_fields.specs.Fields.{Words}
+use Rattle.ca_reading_answers.specs.ca_reading_fields.Fields.{Words}
 use Rattle.ca_reading_lines.specs.Reading.{granted_at, remote_at, local_mark_at, stored_at, sent_at, done_at, passing_at, mark_at, turn_at, head_at, inner_at, line_at, line_in}
 use Rattle.ca_reading_verbs.proofs.VerbLemmas.{verb_again}
-use Rattle.ca_reading_fields.proofs.FieldLemmas.{u8, u32, u64}
+use Rattle.ca_reading_answers.proofs.of_ca_reading_fields.FieldLemmas.{u8, u32, u64}
 use Rattle.ca_reading_answers.proofs.AnswerLemmas.{tail_words, answer_again, completion_again, verdict_again}
 
 lettered_again : (bound c n : ℕ) → n ≤ bound → bound ≤ 18446744073709551615 → lettered_in bound (c ∷ decimal n) ≡ Some n

@@ -4,12 +4,12 @@ ghost use Rattle.ca_reading_lines.specs.Reading as reading;
 
 use ca_base::{Grant, Place};
 use ca_model::Mark;
-use ca_reading_answers::{completion_at, verdict_at};
-use ca_reading_fields::{
+use ca_reading_answers::ca_reading_fields::{
     take_address, take_alarm, take_buffer, take_domain, take_drop, take_hex, take_key, take_kind,
     take_object, take_perhaps_cause, take_perhaps_u64, take_queue, take_queues, take_rights,
     take_runs, take_u8, take_u32,
 };
+use ca_reading_answers::{completion_at, verdict_at};
 use ca_reading_words::{Pieces, Stop, is_name};
 use std::alloc::Global;
 

@@ -25,12 +25,12 @@ use Rattle.ca_base.specs.declared.refusals.WindowError.TheVariants as windows
 use Rattle.ca_keys.specs.Spelling.{dash, perhaps, run_text, kind_text, denial_text}
 use Rattle.ca_base.specs.Spelling.{piece_text, lot_text, state_text, field_text, operation_text, status_text, op_refusal_text}
 use Rattle.ca_packet.specs.declared.wire_error.WireError.TheVariants as wire
-use Rattle.ca_model.specs.declared.answer.Refusal.{Refusal}
-use Rattle.ca_model.specs.declared.answer.Refusal.TheVariants as refusals
-use Rattle.ca_model.specs.declared.mark.Drop1.{Drop1}
-use Rattle.ca_model.specs.declared.mark.Drop1.TheVariants as drops
-use Rattle.ca_model.specs.Answers.{refusal_text, drop_text}
-use Rattle.ca_trace_words.specs.Words.{Field, Fixed, Number, Lettered, Perhaps, InAdapter, OfDomain, OfSlot, OfQueue, OfQueues, OfKey, PerhapsKey, Address, Hex, OfRights, OfFlags, OfPieces, OfPages, OfRuns, OfObject, OfSide, OfAlarm, OfKind, OfDenial, OfRefusal, OfLot, OfState, OfOperation, OfStatus, OfCause, OfDrop, word, object_text, side_text, alarm_text}
+use Rattle.ca_reading_words.specs.ca_model.declared.answer.Refusal.{Refusal}
+use Rattle.ca_reading_words.specs.ca_model.declared.answer.Refusal.TheVariants as refusals
+use Rattle.ca_reading_words.specs.ca_model.declared.mark.Drop1.{Drop1}
+use Rattle.ca_reading_words.specs.ca_model.declared.mark.Drop1.TheVariants as drops
+use Rattle.ca_reading_words.specs.ca_model.Answers.{refusal_text, drop_text}
+use Rattle.ca_reading_words.specs.ca_trace_words.Words.{Field, Fixed, Number, Lettered, Perhaps, InAdapter, OfDomain, OfSlot, OfQueue, OfQueues, OfKey, PerhapsKey, Address, Hex, OfRights, OfFlags, OfPieces, OfPages, OfRuns, OfObject, OfSide, OfAlarm, OfKind, OfDenial, OfRefusal, OfLot, OfState, OfOperation, OfStatus, OfCause, OfDrop, word, object_text, side_text, alarm_text}
 use Rattle.ca_reading_words.specs.Fits.{plain, LotFits, Fits}
 use Rattle.ca_reading_words.specs.Words.{field, number_in, perhaps_in, piece_in, run_in}
 use Rattle.ca_reading_names.specs.Names.{object_in, side_in, alarm_in, kind_in, denial_in, lot_in, state_in, field_in, operation_in, status_in, region_error_in, window_error_in, cause_in, refusal_in, drop_in}

@@ -22,10 +22,10 @@ use Rattle.ca_base.specs.declared.refusals.RegionError.TheVariants as regions
 use Rattle.ca_base.specs.declared.refusals.WindowError.{WindowError}
 use Rattle.ca_base.specs.declared.refusals.WindowError.TheVariants as windows
 use Rattle.ca_packet.specs.declared.wire_error.WireError.TheVariants as wire
-use Rattle.ca_model.specs.declared.answer.Refusal.{Refusal}
-use Rattle.ca_model.specs.declared.answer.Refusal.TheVariants as refusals
-use Rattle.ca_model.specs.declared.mark.Drop1.{Drop1}
-use Rattle.ca_model.specs.declared.mark.Drop1.TheVariants as drops
+use Rattle.ca_reading_words.specs.ca_model.declared.answer.Refusal.{Refusal}
+use Rattle.ca_reading_words.specs.ca_model.declared.answer.Refusal.TheVariants as refusals
+use Rattle.ca_reading_words.specs.ca_model.declared.mark.Drop1.{Drop1}
+use Rattle.ca_reading_words.specs.ca_model.declared.mark.Drop1.TheVariants as drops
 use Rattle.ca_reading_words.specs.Words.{◌>>=◌, pieces, next_of, field, number_in}
 
 unfoldable pub object_in : List ℕ → Option Bool

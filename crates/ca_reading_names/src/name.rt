@@ -4,8 +4,8 @@ ghost use Rattle.ca_reading_words.specs.Words.{Gives, perhaps_in};
 use ca_base::{
     Denial, Field, Kind, Lot, OpRefusal, RegionError, State, WcOp, WcStatus, WindowError,
 };
-use ca_model::{Drop1, Refusal};
 use ca_packet::WireError;
+use ca_reading_words::ca_model::{Drop1, Refusal};
 use ca_reading_words::{Pieces, Stop, is_name, u8_in};
 
 /// Whether a region stands there, or a window.

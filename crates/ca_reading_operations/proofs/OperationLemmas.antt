@@ -2,8 +2,8 @@
 use Rattle.std.proofs.Common.{◌≡◌, ◌++◌, Some, refl}
 use Rattle.ca_base.specs.declared.request.SendOp.{SendOp}
 use Rattle.ca_base.specs.declared.request.SendOp.TheVariants as ops
-use Rattle.ca_trace_words.specs.Verbs.{operation_words}
-use Rattle.ca_trace_words.specs.Words.{words}
+use Rattle.ca_reading_words.specs.ca_trace_words.Verbs.{operation_words}
+use Rattle.ca_reading_words.specs.ca_trace_words.Words.{words}
 use Rattle.ca_reading_words.specs.Fits.{AllFit}
 use Rattle.ca_reading_words.proofs.WordLemmas.{key_again, address_again, pages_again, pieces_again, rights_again}
 use Rattle.ca_reading_fields.proofs.FieldLemmas.{u8, u16, u32, u64}

@@ -8,4 +8,5 @@
 
 mod operation;
 
+pub use ca_reading_fields;
 pub use operation::operation_at;

@@ -4,7 +4,9 @@ ghost use Rattle.ca_reading_verbs.specs.Verbs as reading;
 
 use ca_base::Change;
 use ca_model::Verb;
-use ca_reading_fields::{take_queue, take_slot, take_u8, take_u16, take_u32};
+use ca_reading_operations::ca_reading_fields::{
+    take_queue, take_slot, take_u8, take_u16, take_u32,
+};
 use ca_reading_words::{Pieces, Stop, is_name};
 
 /// A change to Ready to Receive.

@@ -5,7 +5,7 @@ ghost use Rattle.ca_reading_verbs.specs.Verbs as reading;
 use crate::change::change_at;
 use ca_base::{RecvRequest, SendRequest, Slot};
 use ca_model::Verb;
-use ca_reading_fields::{
+use ca_reading_operations::ca_reading_fields::{
     take_buffer, take_domain, take_hex, take_perhaps_u16, take_pieces, take_queue, take_rights,
     take_slot, take_u8, take_u16, take_u32, take_u64,
 };

@@ -1,3 +1,6 @@
 pub mod Words
 pub mod Fits
 pub mod PiecesView
+-- The libraries below, handed on to those above.
+pub use Rattle.ca_trace_words.specs.ca_model
+pub use Rattle.ca_trace_words.specs as ca_trace_words

@@ -14,6 +14,7 @@ mod pieces;
 mod stop;
 mod word;
 
+pub use ca_trace_words::ca_model;
 pub use digits::hex_in;
 pub use id::{
     address_in, buffer_in, domain_in, has, key_in, lettered_u32_in, lettered_u64_in,

@@ -15,11 +15,11 @@ ghost use Rattle.ca_model.specs.machine.Step.{step};
 
 use crate::likely::{buffer_of, first_names, next_names};
 use ca_adapter::act;
+use ca_adapter::ca_needs::next_part;
 use ca_base::limits::MAX_HELD_PARTS;
 use ca_base::{Settings, StepError};
 use ca_held::{ControlPart, Held, Part};
 use ca_model::{Event, Marks, PartName};
-use ca_needs::next_part;
 use ca_places::place;
 use std::alloc::Global;
 

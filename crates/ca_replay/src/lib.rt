@@ -14,6 +14,10 @@ mod likely;
 mod looks;
 mod row;
 
+pub use ca_adapter;
+pub use ca_adapter::ca_sending;
+pub use ca_held;
+pub use ca_opening;
 pub use events::{ReplayError, replay};
 pub use hand::Taken;
 pub use row::Row;

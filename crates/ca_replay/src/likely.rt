@@ -1,13 +1,13 @@
 // What an event most likely needs. Nothing rests on these names but how soon the parts are in hand, so no contract speaks of
 // them.
 
+use ca_adapter::ca_rows::list_of;
 use ca_base::{Key, Message, Piece, QueueId, Slot, slot_of_key};
 use ca_cq::Cq;
+use ca_held::ca_qpstate::QueuePart;
 use ca_held::{Held, QueueSlot};
 use ca_model::{Event, PartName, Verb};
 use ca_packet::{Operation, Shape, operation_of};
-use ca_qpstate::QueuePart;
-use ca_rows::list_of;
 
 /// Where the key of a WRITE or an atomic stands in its packet: behind the 12 bytes of the base header and the 8 of the
 /// address.

@@ -9,7 +9,7 @@ use Rattle.ca_base.specs.declared.denied_ask.DeniedAsk.{DeniedAsk}
 use Rattle.ca_base.specs.declared.limits.TheConstants.{MAX_PIECES}
 use Rattle.ca_base.specs.declared.queue_numbers.RequesterNumbers.{RequesterNumbers}
 use Rattle.ca_base.specs.objects.QueuePair.{QueuePair}
-use Rattle.ca_grant.specs.Reaching.{AreAtHand}
+use Rattle.ca_sending.specs.ca_grant.Reaching.{AreAtHand}
 use Rattle.ca_model.specs.Marks.{MarkList}
 use Rattle.ca_model.specs.declared.mark.Mark.{Mark}
 use Rattle.ca_model.specs.declared.marks.TheConstants.{SPARE_MARKS}
@@ -24,10 +24,10 @@ use Rattle.ca_requester.proofs.ResponseLemmas.{IsFitting}
 use Rattle.ca_requester.specs.Progress.{IsProgress, numbers_behind}
 use Rattle.ca_requester.specs.declared.progress.Acknowledged.{Acknowledged}
 use Rattle.ca_requester.specs.Responses.{CanWriteBy, answer_effects, denied_effects}
-use Rattle.ca_rows.specs.Asks.{AreAsksFor, IsGranted}
-use Rattle.ca_rows.proofs.AskLemmas.{whole}
-use Rattle.ca_rows.proofs.WriteLemmas.{can_write, marks-count}
-use Rattle.ca_rows.specs.Made.{AreAdded, HasMade, IsMade, IsTaking}
+use Rattle.ca_sending.specs.ca_rows.Asks.{AreAsksFor, IsGranted}
+use Rattle.ca_sending.proofs.of_ca_rows.AskLemmas.{whole}
+use Rattle.ca_sending.proofs.of_ca_rows.WriteLemmas.{can_write, marks-count}
+use Rattle.ca_sending.specs.ca_rows.Made.{AreAdded, HasMade, IsMade, IsTaking}
 use Rattle.ca_sending.proofs.FinishedLemmas.{added_behind, few_finished}
 use Rattle.ca_sending.specs.Finished.{success_between}
 use Rattle.ca_sending.specs.Outcome.{effects_behind, failure_of}

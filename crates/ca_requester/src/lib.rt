@@ -14,6 +14,9 @@ mod responses;
 mod taking;
 mod timers;
 
-pub use ca_sending::{Found, Turn, local_done, next_asks, next_local, next_packet, next_turn};
+pub use ca_sending;
+pub use ca_sending::{
+    Found, Turn, ca_rows, local_done, next_asks, next_local, next_packet, next_turn,
+};
 pub use taking::{on_response, response_asks};
 pub use timers::{on_rnr_wake, on_timeout};

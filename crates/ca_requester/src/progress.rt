@@ -5,8 +5,8 @@ ghost use Rattle.ca_requester.specs.Progress.{IsAcknowledged, IsOldest, IsProgre
 ghost use Rattle.ca_sending.specs.Numbering.{IsNumbered, IsWithin};
 
 use ca_base::RequesterNumbers;
-use ca_qpstate::QueuePart;
-use ca_rows::is_answered;
+use ca_sending::ca_qpstate::QueuePart;
+use ca_sending::ca_rows::is_answered;
 use ca_sending::{Numbered, begun_at};
 
 /// Where the oldest unfinished request stands after an acknowledgement: its posting place, the first PSN that it has or

@@ -15,8 +15,8 @@ use ca_base::limits::MAX_RETRY;
 use ca_base::{RequesterNumbers, WcStatus};
 use ca_model::Drop1;
 use ca_psn::widen;
-use ca_qpstate::QueuePart;
-use ca_rows::{is_atomic, is_read, list_length, list_of};
+use ca_sending::ca_qpstate::QueuePart;
+use ca_sending::ca_rows::{is_atomic, is_read, list_length, list_of};
 use ca_sending::{Failure, Numbered, Outcome, is_sending, one_retry};
 use ca_wire::opcode::{
     ACKNOWLEDGE, ATOMIC_ACKNOWLEDGE, RDMA_READ_RESPONSE_LAST, RDMA_READ_RESPONSE_ONLY,

@@ -1,7 +1,7 @@
 ghost use Rattle.std.specs.Prelude.{◌≡◌, ◌≤◌, ◌<◌, ◌^◌, [], suc, true, IfSome, length};
 ghost use Rattle.ca_keys.specs.declared.access.Kind.{Kind};
 ghost use Rattle.ca_base.specs.declared.limits.TheConstants.{MAX_PAYLOAD_BYTES};
-ghost use Rattle.ca_grant.specs.Reaching.{AreAtHand};
+ghost use Rattle.ca_sending.specs.ca_grant.Reaching.{AreAtHand};
 ghost use Rattle.ca_model.specs.Packets.{is_response};
 ghost use Rattle.ca_model.specs.machine.Acknowledgements.{acknowledgement_below, progress_to};
 ghost use Rattle.ca_model.specs.machine.CanStep.{CanStep};
@@ -10,8 +10,8 @@ ghost use Rattle.ca_model.specs.machine.Row.{Does, ending_of};
 ghost use Rattle.ca_packet.specs.Packet.{IsWellFormed};
 ghost use Rattle.ca_requester.specs.Progress.{IsProgress, acknowledgement_of, numbers_behind};
 ghost use Rattle.ca_requester.specs.Responses.{CanWriteBy, IsTakenAnswer, answer_effects, bad_answer_effects, denied_effects};
-ghost use Rattle.ca_rows.specs.Asks.{AreAsksFor, IsFoundFirst};
-ghost use Rattle.ca_rows.specs.Made.{IsMade, IsTaking};
+ghost use Rattle.ca_sending.specs.ca_rows.Asks.{AreAsksFor, IsFoundFirst};
+ghost use Rattle.ca_sending.specs.ca_rows.Made.{IsMade, IsTaking};
 ghost use Rattle.ca_sending.specs.Numbering.{IsRequestOf};
 
 use crate::progress::{
@@ -24,10 +24,10 @@ use crate::responses::{
 use arrayvec::ArrayVec;
 use ca_base::limits::{ATOMIC_BYTES, MAX_PIECES};
 use ca_base::{Ask, DeniedAsk, Kind, Memory, WcStatus};
-use ca_grant::Reach;
 use ca_model::{Marks, SPARE_MARKS};
-use ca_qpstate::QueuePart;
-use ca_rows::{
+use ca_sending::ca_grant::Reach;
+use ca_sending::ca_qpstate::QueuePart;
+use ca_sending::ca_rows::{
     Asker, JudgedAsks, drop_packet, fill_asks, judge_all, list_of, local_denial, push_writes,
     write_judged,
 };

@@ -7,7 +7,7 @@ ghost use Rattle.ca_requester.specs.Timers.{IsPlainStep, IsStep};
 use ca_base::limits::MAX_RETRY;
 use ca_base::{Reason, RequesterNumbers, StepError};
 use ca_model::{Mark, Marks};
-use ca_qpstate::QueuePart;
+use ca_sending::ca_qpstate::QueuePart;
 use ca_sending::{is_sending, make, one_retry};
 
 /// A timer fires, if nothing answers (`silent`) or the weather wants it (`hasten`): one retry, back to the first PSN that

@@ -3,3 +3,5 @@ pub mod ArrivalLemmas
 pub mod AskingLemmas
 pub mod ValidLemmas
 pub mod WaitingLemmas
+-- The libraries below, handed on to those above.
+pub use Rattle.ca_operations.proofs.of_ca_rows

@@ -17,13 +17,13 @@ ghost use Rattle.ca_packet.specs.Packet.{IsWellFormed};
 
 use crate::checks::{is_invalid, lacks_receive};
 use arrayvec::ArrayVec;
-use ca_answering::packet_ask;
 use ca_base::limits::{ATOMIC_BYTES, MAX_PIECES};
 use ca_base::{Ask, Key, Message, Piece};
 use ca_model::WriteReach;
+use ca_operations::ca_answering::packet_ask;
+use ca_operations::ca_qpstate::QueuePart;
 use ca_operations::{Request, exceeds_receive, next_receive, receive_asks, write_ask, write_reach};
 use ca_psn::widen;
-use ca_qpstate::QueuePart;
 use ca_srq::Srq;
 use ca_wire::{Packet, Shape, shape_of};
 

@@ -9,8 +9,8 @@ ghost use Rattle.ca_model.specs.machine.Invariants.{IsQueue, IsSharedReceives};
 use ca_base::limits::{ATOMIC_BYTES, MAX_MESSAGE_BYTES, MAX_READS};
 use ca_base::{Memory, Message, PlacedReceive};
 use ca_model::WriteReach;
+use ca_operations::ca_qpstate::QueuePart;
 use ca_operations::{Request, find_receive, next_receive, write_reach};
-use ca_qpstate::QueuePart;
 use ca_srq::Srq;
 use ca_wire::{Packet, Position, Shape};
 

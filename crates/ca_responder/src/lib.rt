@@ -16,5 +16,6 @@ mod duplicates;
 mod request;
 
 pub use asks::{request_asks, request_key};
-pub use ca_answering::{next_response, respond_ask};
+pub use ca_operations::ca_answering::{next_response, respond_ask};
+pub use ca_operations::{ca_answering, ca_rows};
 pub use request::on_request;

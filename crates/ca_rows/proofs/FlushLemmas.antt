@@ -5,8 +5,8 @@ use Rattle.ca_keys.specs.declared.names.QueueId.{QueueId}
 use Rattle.ca_base.specs.declared.request.RecvRequest.{RecvRequest}
 use Rattle.ca_base.specs.declared.request.PostedSend.{PostedSend}
 use Rattle.ca_base.specs.objects.WorkQueue.{WorkQueue, item_at, items_from}
-use Rattle.ca_model.specs.declared.mark.Mark.{Mark}
-use Rattle.ca_model.specs.machine.Completions.{failure_mark, flushed_receives, flushed_sends, receive_failure}
+use Rattle.ca_qpstate.specs.ca_model.declared.mark.Mark.{Mark}
+use Rattle.ca_qpstate.specs.ca_model.machine.Completions.{failure_mark, flushed_receives, flushed_sends, receive_failure}
 use Rattle.ca_rows.proofs.QueueLemmas.{items_step}
 
 pub send-flushed : (queue : QueueId) (q : WorkQueue PostedSend) (place next : ℕ) (x : PostedSend) (before pushed : List Mark) → next ≡ suc place

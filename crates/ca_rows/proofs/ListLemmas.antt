@@ -8,8 +8,8 @@ use Rattle.ca_base.specs.declared.limits.TheConstants.{MAX_PAYLOAD_BYTES}
 use Rattle.ca_keys.specs.declared.names.DomainId.{DomainId}
 use Rattle.ca_keys.specs.declared.names.QueueId.{QueueId}
 use Rattle.ca_base.specs.declared.request.Piece.{Piece}
-use Rattle.ca_model.specs.Requests.{list_length}
-use Rattle.ca_model.specs.machine.Numbering.{cut_list, list_asks, piece_ask, piece_part}
+use Rattle.ca_qpstate.specs.ca_model.Requests.{list_length}
+use Rattle.ca_qpstate.specs.ca_model.machine.Numbering.{cut_list, list_asks, piece_ask, piece_part}
 use Rattle.ca_rows.specs.Asks.{IsAskOf, touched_by}
 
 pub longer_list : (p : Piece) (ps : List Piece) → list_length (p ∷ ps) ≡ p.length + list_length ps

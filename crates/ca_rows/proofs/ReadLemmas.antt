@@ -6,7 +6,7 @@ use Rattle.std.specs.List.{AllByRecursion}
 use Rattle.ca_keys.specs.declared.access.Ask.{Ask}
 use Rattle.ca_keys.specs.declared.access.Denial.{Denial}
 use Rattle.ca_base.specs.Sight.{Sight, denial_in, first_denied, or_denied}
-use Rattle.ca_model.specs.declared.mark.Mark.{Mark}
+use Rattle.ca_qpstate.specs.ca_model.declared.mark.Mark.{Mark}
 use Rattle.ca_rows.specs.Asks.{AreBytesAtHand, bytes_read, payload_of, read_marks}
 
 -- all marks are those that there were

@@ -2,14 +2,14 @@
 use Rattle.std.proofs.Common.{◌≡◌, ◌≤◌, ℕ, suc, Option, None, Some, List, [], ◌∷◌, ◌++◌, ◌-◌, get_or, length, length-append, length-drop, length-take-le, drop, take, take-take, arith, refl, sym, ap, subst, ◌∙◌}
 use Rattle.std.proofs.Math.Seq.{take-append_seam}
 use Rattle.std.specs.Prelude.{IfSome, Result, Ok, Err, OnErr}
-use Rattle.ca_model.specs.declared.mark.Mark.{Mark}
+use Rattle.ca_qpstate.specs.ca_model.declared.mark.Mark.{Mark}
 use Rattle.std.specs.List.{AllByRecursion}
 use Rattle.ca_keys.specs.declared.access.Ask.{Ask}
 use Rattle.ca_keys.specs.declared.access.Kind.TheVariants as kinds
 use Rattle.ca_keys.specs.declared.place.Span.{Span}
 use Rattle.ca_base.specs.Sight.{Sight}
 use Rattle.ca_grant.specs.Reaching.{IsFound, sight_after_write}
-use Rattle.ca_model.specs.machine.Responses.{local_writes, writes_by}
+use Rattle.ca_qpstate.specs.ca_model.machine.Responses.{local_writes, writes_by}
 use Rattle.ca_rows.proofs.AskLemmas.{behind-first}
 use Rattle.ca_rows.specs.Asks.{AreAsksFor, CanWrite, IsAskOf, IsFoundFirst, IsGranted, touched_by}
 

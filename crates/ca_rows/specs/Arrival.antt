@@ -9,12 +9,12 @@ use Rattle.ca_packet.specs.declared.wire_error.WireError.{WireError}
 use Rattle.ca_packet.specs.Decoding.{packet_in}
 use Rattle.ca_packet.specs.Packet.{Fields, Spells}
 use Rattle.ca_packet.specs.Table.{shape_of}
-use Rattle.ca_model.specs.declared.mark.Drop1.{Drop1}
-use Rattle.ca_model.specs.declared.mark.Drop1.TheVariants as drops
-use Rattle.ca_model.specs.Packets.{is_response}
-use Rattle.ca_model.specs.machine.Delivery.{arrival_drops, arrival_row, packet_arrived}
-use Rattle.ca_model.specs.machine.Duplicates.{request_row}
-use Rattle.ca_model.specs.machine.Responses.{response_row}
+use Rattle.ca_qpstate.specs.ca_model.declared.mark.Drop1.{Drop1}
+use Rattle.ca_qpstate.specs.ca_model.declared.mark.Drop1.TheVariants as drops
+use Rattle.ca_qpstate.specs.ca_model.Packets.{is_response}
+use Rattle.ca_qpstate.specs.ca_model.machine.Delivery.{arrival_drops, arrival_row, packet_arrived}
+use Rattle.ca_qpstate.specs.ca_model.machine.Duplicates.{request_row}
+use Rattle.ca_qpstate.specs.ca_model.machine.Responses.{response_row}
 use Rattle.ca_rows.specs.declared.arrival.Arrival.{Arrival}
 use Rattle.ca_rows.specs.declared.arrival.Arrival.TheVariants as arrivals
 

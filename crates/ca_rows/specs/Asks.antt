@@ -10,8 +10,8 @@ use Rattle.ca_keys.specs.declared.verdict.Verdict.{Verdict}
 use Rattle.ca_keys.specs.declared.verdict.Verdict.TheVariants as verdicts
 use Rattle.ca_base.specs.Sight.{Invalidation, Sight, bytes_in, denial_in}
 use Rattle.ca_grant.specs.Reaching.{IsFound, IsPacketAsk}
-use Rattle.ca_model.specs.declared.mark.Mark.{Mark}
-use Rattle.ca_model.specs.declared.mark.Mark.TheVariants as marks
+use Rattle.ca_qpstate.specs.ca_model.declared.mark.Mark.{Mark}
+use Rattle.ca_qpstate.specs.ca_model.declared.mark.Mark.TheVariants as marks
 
 -- an ask of this kind that may be handed on
 abbrev pub IsAskOf : Kind → Ask → Type 0

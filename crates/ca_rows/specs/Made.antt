@@ -8,10 +8,10 @@ use Rattle.ca_base.specs.declared.step.StepError.{StepError}
 use Rattle.ca_base.specs.declared.step.StepError.TheVariants as steps
 use Rattle.ca_base.specs.objects.QueuePair.{QueuePair}
 use Rattle.ca_packet.specs.declared.packet.TheConstants.{MAX_PACKET_BYTES}
-use Rattle.ca_model.specs.Marks.{MarkList}
-use Rattle.ca_model.specs.declared.mark.Mark.{Mark}
-use Rattle.ca_model.specs.declared.marks.TheConstants.{SPARE_MARKS}
-use Rattle.ca_model.specs.machine.Row.{Effects, Ending, NotPossible, Does}
+use Rattle.ca_qpstate.specs.ca_model.Marks.{MarkList}
+use Rattle.ca_qpstate.specs.ca_model.declared.mark.Mark.{Mark}
+use Rattle.ca_qpstate.specs.ca_model.declared.marks.TheConstants.{SPARE_MARKS}
+use Rattle.ca_qpstate.specs.ca_model.machine.Row.{Effects, Ending, NotPossible, Does}
 
 -- marks were added in the spare room
 pub record AreAdded (more : List Mark) (before after : MarkList) : Type 0 where

@@ -5,7 +5,7 @@ use Rattle.ca_keys.specs.declared.access.Ask.{Ask}
 use Rattle.ca_keys.specs.declared.memory.Memory.{Memory}
 use Rattle.ca_keys.specs.declared.verdict.Verdict.TheVariants as verdicts
 use Rattle.ca_base.specs.Sight.{Sight, bytes_in, denial_in, first_denied}
-use Rattle.ca_model.specs.Marks.{MarkList}
+use Rattle.ca_qpstate.specs.ca_model.Marks.{MarkList}
 use Rattle.ca_rows.specs.Asks.{mark_of, payload_of, read_marks, reads_by, touched_by}
 use Rattle.ca_rows.specs.Made.{AreAdded}
 

@@ -1,15 +1,15 @@
 ghost use Rattle.std.specs.Prelude.{◌≡◌, ℕ, Option, None, Some, IfOk, IfErr, OnOk};
 ghost use Rattle.ca_keys.specs.Refusals.{first_of};
 ghost use Rattle.ca_base.specs.objects.SharedReceives.{SharedReceives};
-ghost use Rattle.ca_model.specs.machine.Delivery.{arrival_drops, arrival_row};
-ghost use Rattle.ca_model.specs.machine.Responses.{drop_effects};
-ghost use Rattle.ca_model.specs.machine.Row.{Does, plain_row};
+ghost use Rattle.ca_qpstate.specs.ca_model.machine.Delivery.{arrival_drops, arrival_row};
+ghost use Rattle.ca_qpstate.specs.ca_model.machine.Responses.{drop_effects};
+ghost use Rattle.ca_qpstate.specs.ca_model.machine.Row.{Does, plain_row};
 ghost use Rattle.ca_rows.specs.Arrival.{IsArrivalOf, drop_of};
 
 use ca_base::State;
-use ca_model::Drop1;
 use ca_qpstate::QueuePart;
-use ca_wire::{DEFAULT_PKEY, Operation, Packet, Shape, decode, operation_of};
+use ca_qpstate::ca_model::Drop1;
+use ca_qpstate::ca_wire::{DEFAULT_PKEY, Operation, Packet, Shape, decode, operation_of};
 
 /// A packet that arrived at a queue pair and is not dropped, for the engine that takes it.
 #[derive(Drop)]

@@ -1,9 +1,9 @@
 ghost use Rattle.std.specs.Prelude.{◌≡◌, ◌≤◌};
 ghost use Rattle.ca_base.specs.declared.completion.WcStatus.{WcStatus};
-ghost use Rattle.ca_model.specs.Requests.{list_of};
-ghost use Rattle.ca_model.specs.machine.Completions as completions;
-ghost use Rattle.ca_model.specs.machine.Invariants.{IsList};
-ghost use Rattle.ca_model.specs.machine.Requester as requester;
+ghost use Rattle.ca_qpstate.specs.ca_model.Requests.{list_of};
+ghost use Rattle.ca_qpstate.specs.ca_model.machine.Completions as completions;
+ghost use Rattle.ca_qpstate.specs.ca_model.machine.Invariants.{IsList};
+ghost use Rattle.ca_qpstate.specs.ca_model.machine.Requester as requester;
 ghost use Rattle.ca_rows.specs.Made.{AreAdded};
 
 use crate::list::list_length;
@@ -14,7 +14,7 @@ use ca_base::{
     Completion, DeniedAsk, Key, OpRefusal, PlacedReceive, QueueId, RecvRequest, SendOp,
     SendRequest, Verdict, WcOp, WcStatus,
 };
-use ca_model::{Mark, Marks};
+use ca_qpstate::ca_model::{Mark, Marks};
 
 /// The completion of the send request at a posting place. With an error it tells of no bytes.
 pub fn send_completion(

@@ -1,14 +1,14 @@
 ghost use Rattle.std.specs.Prelude.{◌≡◌, ◌≤◌, ◌++◌, OnOk};
 ghost use Rattle.ca_base.specs.objects.WorkQueue.{items_from, next_place};
-ghost use Rattle.ca_model.specs.machine.Completions as completions;
-ghost use Rattle.ca_model.specs.machine.Invariants.{IsQueue, IsReceives};
+ghost use Rattle.ca_qpstate.specs.ca_model.machine.Completions as completions;
+ghost use Rattle.ca_qpstate.specs.ca_model.machine.Invariants.{IsQueue, IsReceives};
 ghost use Rattle.ca_rows.specs.Flush.{with_oldest};
 
 use crate::completions::{failure_mark, receive_failure};
 use ca_base::{Memory, Message, PostedSend, QueueId, RecvRequest, WcStatus};
-use ca_model::Mark;
 use ca_qpstate::QueuePart;
-use ca_workqueue::WorkQueue;
+use ca_qpstate::ca_model::Mark;
+use ca_qpstate::ca_workqueue::WorkQueue;
 
 /// Adds the completions of all that is posted and unfinished, flushed: the sends from a posting place on, the receive in
 /// use, the posted receives.

@@ -22,6 +22,8 @@ mod writes;
 
 pub use arrival::{Arrival, arrival_of};
 pub use asks::{first_denied, judge_all};
+pub use ca_grant;
+pub use ca_qpstate;
 pub use completions::{
     Received, failure_mark, local_denial, push_success, receive_failure, receive_mark,
     send_completion,

@@ -1,7 +1,7 @@
 ghost use Rattle.std.specs.Prelude.{◌≡◌, ◌+◌, ◌≤◌, ◌++◌, [], length};
 ghost use Rattle.ca_base.specs.declared.limits.TheConstants.{MAX_MESSAGE_BYTES, MAX_PAYLOAD_BYTES, MAX_PIECES};
-ghost use Rattle.ca_model.specs.Requests as requests;
-ghost use Rattle.ca_model.specs.machine.Numbering as numbering;
+ghost use Rattle.ca_qpstate.specs.ca_model.Requests as requests;
+ghost use Rattle.ca_qpstate.specs.ca_model.machine.Numbering as numbering;
 ghost use Rattle.ca_rows.specs.Asks.{AreAsksFor};
 
 use arrayvec::ArrayVec;

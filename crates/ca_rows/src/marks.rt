@@ -1,12 +1,12 @@
 ghost use Rattle.std.specs.Prelude.{◌≡◌, ◌+◌, ◌≤◌, OnOk, length};
 ghost use Rattle.ca_base.specs.declared.limits.TheConstants.{MAX_DEPTH};
-ghost use Rattle.ca_model.specs.declared.marks.TheConstants.{SPARE_MARKS};
-ghost use Rattle.ca_model.specs.machine.Responses.{drop_effects};
+ghost use Rattle.ca_qpstate.specs.ca_model.declared.marks.TheConstants.{SPARE_MARKS};
+ghost use Rattle.ca_qpstate.specs.ca_model.machine.Responses.{drop_effects};
 ghost use Rattle.ca_rows.specs.Made.{IsMade};
 
 use ca_base::Memory;
-use ca_model::{Drop1, Mark, Marks, SPARE_MARKS};
 use ca_qpstate::QueuePart;
+use ca_qpstate::ca_model::{Drop1, Mark, Marks, SPARE_MARKS};
 
 /// Drops a packet, for this cause. It stands apart, since that is rare.
 #[cold]

@@ -1,8 +1,8 @@
 ghost use Rattle.std.specs.Prelude.{◌≡◌, ◌<◌, ◌≤◌, ◌^◌};
 ghost use Rattle.ca_base.specs.declared.limits.TheConstants.{MAX_MESSAGE_BYTES};
-ghost use Rattle.ca_model.specs.Requests as requests;
-ghost use Rattle.ca_model.specs.machine.Invariants.{IsList};
-ghost use Rattle.ca_model.specs.machine.Numbering.{is_answered_op, is_atomic_op, is_read};
+ghost use Rattle.ca_qpstate.specs.ca_model.Requests as requests;
+ghost use Rattle.ca_qpstate.specs.ca_model.machine.Invariants.{IsList};
+ghost use Rattle.ca_qpstate.specs.ca_model.machine.Numbering.{is_answered_op, is_atomic_op, is_read};
 
 use crate::list::list_length;
 use ca_base::{Piece, SendOp, WcOp};

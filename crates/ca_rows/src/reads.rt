@@ -9,7 +9,7 @@ ghost use Rattle.ca_rows.specs.Reading.{IsReading, IsReadingOne};
 use crate::asks::first_denied;
 use ca_base::{Ask, Memory, Verdict};
 use ca_grant::Reach;
-use ca_model::{Mark, Marks};
+use ca_qpstate::ca_model::{Mark, Marks};
 use std::alloc::Global;
 
 /// Reads what each of these asks touches, and adds a mark for each, in the spare room: true comes exactly where none of

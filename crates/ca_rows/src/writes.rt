@@ -1,14 +1,14 @@
 ghost use Rattle.std.specs.Prelude.{◌≡◌, ◌≤◌, ◌∷◌, [], IfSome, OnErr, OnOk, length, take};
 ghost use Rattle.ca_base.specs.Sight.{Invalidation};
 ghost use Rattle.ca_grant.specs.Reaching.{IsFound, IsPacketAsk, sight_after_write};
-ghost use Rattle.ca_model.specs.machine.Responses as responses;
+ghost use Rattle.ca_qpstate.specs.ca_model.machine.Responses as responses;
 ghost use Rattle.ca_rows.specs.Asks.{CanWrite, IsFoundFirst, IsGranted, KeepsKeys, touched_by};
 ghost use Rattle.ca_rows.specs.Made.{AreAdded, written_all};
 
 use crate::reads::local_mark;
 use ca_base::{Ask, Bytes, Memory, Span, Verdict};
 use ca_grant::Reach;
-use ca_model::Marks;
+use ca_qpstate::ca_model::Marks;
 use std::alloc::Global;
 
 /// Asks to write, none of which is denied, and what was found of the first, where it was judged before.

@@ -70,7 +70,7 @@ use Rattle.ca_packet.specs.declared.shape.Shape.TheVariants as shapes
 use Rattle.ca_packet.specs.declared.wire_error.WireError.{WireError}
 use Rattle.ca_psn.specs.Psn.{widened}
 use Rattle.ca_rows_mail.specs.RowMail.{AreWholeDrops, IsFor, KeepsCalm}
-use Rattle.ca_rows_standing.specs.Standing.{is_not_ready}
+use Rattle.ca_ties_calm.specs.ca_rows_standing.Standing.{is_not_ready}
 use Rattle.ca_ties_calm.specs.CalmEvents.{IsDroppedWhole}
 use Rattle.ca_ties_rows.specs.Entries.{syndrome_of}
 use Rattle.ca_ties_rows.specs.Moves.{EndingLeads, RowLeads}

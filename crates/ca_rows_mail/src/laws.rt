@@ -13,7 +13,7 @@ ghost use Rattle.ca_model.specs.machine.Timers.{after_timeout};
 ghost use Rattle.ca_packet.specs.Decoding.{packet_in};
 ghost use Rattle.ca_packet.specs.Packet.{Fields};
 ghost use Rattle.ca_rows_mail.specs.RowMail.{IsFor, KeepsCalm, SendsFor};
-ghost use Rattle.ca_rows_standing.specs.Standing.{is_not_ready};
+ghost use Rattle.ca_ties_calm.specs.ca_rows_standing.Standing.{is_not_ready};
 ghost use Rattle.ca_ties_rows.specs.Entries.{syndrome_of};
 ghost use Rattle.ca_ties_rows.specs.Moves.{RowLeads};
 

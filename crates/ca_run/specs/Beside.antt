@@ -8,7 +8,7 @@ use Rattle.ca_order.specs.OfScript as machine
 use Rattle.ca_run.specs.Status.{status_of_end}
 use Rattle.ca_run.specs.declared.status.Status.{Status}
 use Rattle.ca_run.specs.declared.status.Status.TheVariants as statuses
-use Rattle.ca_script_run.specs.Statuses.{status_value}
+use Rattle.ca_race.specs.ca_script_run.Statuses.{status_value}
 use Rattle.ca_trace.specs.Trace.{text}
 
 -- the status where all is written

@@ -10,8 +10,8 @@ use Rattle.ca_order.specs.OfScript as machine
 use Rattle.ca_order.specs.OfScript.{HasStatus}
 use Rattle.ca_order.specs.Order.{Stage, ending, order}
 use Rattle.ca_order.specs.Summary.{summary}
-use Rattle.ca_order_laws.specs.Lawful.{IsLawfulHistory, IsLawfulOrder}
-use Rattle.ca_reading_fits.specs.Histories.{HistoryFits}
+use Rattle.ca_script_texts.specs.ca_order_laws.Lawful.{IsLawfulHistory, IsLawfulOrder}
+use Rattle.ca_reading.specs.ca_reading_fits.Histories.{HistoryFits}
 use Rattle.ca_run.specs.Status.{ended_as}
 use Rattle.ca_run.specs.declared.status.Status.{Status}
 use Rattle.ca_run.specs.declared.status.Status.TheVariants as statuses

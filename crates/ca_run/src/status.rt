@@ -1,9 +1,10 @@
 ghost use Rattle.std.specs.Prelude.{◌≡◌, ◌++◌, OnOk, OnErr, Some};
 ghost use Rattle.ca_run.specs.Status as table;
-ghost use Rattle.ca_script_run.specs.Statuses.{status_value};
+ghost use Rattle.ca_race.specs.ca_script_run.Statuses.{status_value};
 
 use ca_base::{Memory, QueueId};
 use ca_outside::ReadStop;
+use ca_race::ca_script_run;
 use ca_script::{ScriptCause, ScriptError};
 use ca_writing::WriteStop;
 use std::fmt;

@@ -7,8 +7,8 @@ ghost use Rattle.ca_order.specs.Order.{order};
 ghost use Rattle.ca_order.specs.Summary.{summary};
 ghost use Rattle.ca_run.specs.Run.{IsRaced, IsTextOf, IsWorked};
 ghost use Rattle.ca_script.specs.Script.{ScriptValue, script_of, script_value};
-ghost use Rattle.ca_script_run.specs.Statuses.{status_value};
-ghost use Rattle.ca_script_run.specs.Working.{IsWorkable};
+ghost use Rattle.ca_race.specs.ca_script_run.Statuses.{status_value};
+ghost use Rattle.ca_race.specs.ca_script_run.Working.{IsWorkable};
 ghost use Rattle.ca_summary.specs.Text.{summary_text};
 ghost use Rattle.ca_trace.specs.Trace.{text};
 
@@ -20,14 +20,14 @@ use ca_order::{
     orders_have_their_status, rounds_are_of_their_scripts, rounds_end, rounds_follow_the_machine,
     stages_have_their_status,
 };
-use ca_order_laws::histories_of_scripts_are_lawful;
 use ca_outside::Gate;
+use ca_race::ca_script_run::{Worked, work_script};
 use ca_race::race_script;
+use ca_reading::ca_reading_fits::history_fits;
 use ca_reading::one_text;
-use ca_reading_fits::history_fits;
-use ca_rest::texts_mean_limited_scripts;
 use ca_script::Script;
-use ca_script_run::{Worked, work_script};
+use ca_script_texts::ca_order_laws::histories_of_scripts_are_lawful;
+use ca_script_texts::ca_rest::texts_mean_limited_scripts;
 use ca_script_texts::{orders_of_texts_are_lawful, texts_mean_workable_scripts};
 use std::alloc::Global;
 use std::sync::Wait;

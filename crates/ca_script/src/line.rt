@@ -4,15 +4,17 @@ ghost use Rattle.ca_script.specs.Script as script;
 ghost use Rattle.ca_script.specs.Script.{Leaves};
 ghost use Rattle.ca_script_lines.specs.Grammar.{consumer_lines};
 ghost use Rattle.ca_script_lines.specs.Rows.{read_table};
-ghost use Rattle.ca_script_words.specs.Reading.{Answers};
-ghost use Rattle.ca_script_words.specs.Words.{words_of};
+ghost use Rattle.ca_script_lines.specs.ca_script_words.Reading.{Answers};
+ghost use Rattle.ca_script_lines.specs.ca_script_words.Words.{words_of};
 
 use crate::draft::{ScriptSoFar, add_line};
 use crate::setting::is_setup_word;
 use crate::setup_line::read_setup_line;
 use ca_base::limits::MAX_CONSUMERS;
+use ca_script_lines::ca_script_words::{
+    LineError, LineWords, ScriptCause, consumer_number, is_consumer,
+};
 use ca_script_lines::{Line, What, take_what};
-use ca_script_words::{LineError, LineWords, ScriptCause, consumer_number, is_consumer};
 use std::alloc::Global;
 
 /// Whether each byte is a space or a printable character of ASCII. No byte ends the loop, so that several are looked at

@@ -1,7 +1,7 @@
 ghost use Rattle.std.specs.Prelude.{◌≡◌};
 ghost use Rattle.ca_script.specs.Setup as setup;
 ghost use Rattle.ca_script_lines.specs.Rows.{read_row, read_table};
-ghost use Rattle.ca_script_words.specs.Reading.{AnswersFrom};
+ghost use Rattle.ca_script_lines.specs.ca_script_words.Reading.{AnswersFrom};
 
 use ca_base::limits::{
     MAX_ADAPTERS, MAX_BUFFER_BYTES, MAX_CQS, MAX_DOMAINS, MAX_EVENTS, MAX_QPS, MAX_REGIONS,
@@ -9,8 +9,10 @@ use ca_base::limits::{
 };
 use ca_base::{Lot, QueueId};
 use ca_mailbox::WeatherLine;
-use ca_reading_words::is_name;
-use ca_script_words::{LineError, LineWords, ScriptCause, take_number, take_queue, take_u64};
+use ca_script_lines::ca_reading_words::is_name;
+use ca_script_lines::ca_script_words::{
+    LineError, LineWords, ScriptCause, take_number, take_queue, take_u64,
+};
 
 /// How many domains an adapter has, and how many slots of each kind a domain has.
 #[derive(Clone, Copy)]

@@ -5,8 +5,8 @@ ghost use Rattle.ca_script_words.specs.Reading.{AnswersFrom};
 use crate::what::What;
 use crate::work::work_line;
 use ca_base::Change;
-use ca_model::Verb;
-use ca_reading_words::is_name;
+use ca_script_words::ca_model::Verb;
+use ca_script_words::ca_reading_words::is_name;
 use ca_script_words::{LineError, LineWords, take_queue, take_slot, take_u8, take_u16, take_u32};
 use std::alloc::Global;
 

@@ -5,7 +5,7 @@ ghost use Rattle.ca_script_words.specs.Reading.{AnswersFrom};
 use crate::object::named_line;
 use crate::what::What;
 use crate::work::post;
-use ca_reading_words::is_name;
+use ca_script_words::ca_reading_words::is_name;
 use ca_script_words::{LineError, LineWords};
 use std::alloc::Global;
 

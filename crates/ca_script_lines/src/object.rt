@@ -4,8 +4,8 @@ ghost use Rattle.ca_script_words.specs.Reading.{AnswersFrom};
 
 use crate::change::change_line;
 use crate::what::What;
-use ca_model::Verb;
-use ca_reading_words::is_name;
+use ca_script_words::ca_model::Verb;
+use ca_script_words::ca_reading_words::is_name;
 use ca_script_words::{
     LineError, LineWords, take_domain, take_optional_u16, take_rights, take_slot, take_u8,
     take_u16, take_u32,

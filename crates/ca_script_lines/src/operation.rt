@@ -3,7 +3,7 @@ ghost use Rattle.ca_script_lines.specs.Rows.{read_row, read_named, read_table};
 ghost use Rattle.ca_script_words.specs.Reading.{AnswersFrom};
 
 use ca_base::{Key, SendOp};
-use ca_reading_words::is_name;
+use ca_script_words::ca_reading_words::is_name;
 use ca_script_words::{
     LineError, LineWords, ScriptCause, take_pages, take_pieces, take_rights, take_u8, take_u16,
     take_u32, take_u64,

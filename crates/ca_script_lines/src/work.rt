@@ -5,8 +5,8 @@ ghost use Rattle.ca_script_words.specs.Reading.{AnswersFrom};
 use crate::operation::operation;
 use crate::what::What;
 use ca_base::{RecvRequest, SendRequest};
-use ca_model::Verb;
-use ca_reading_words::is_name;
+use ca_script_words::ca_model::Verb;
+use ca_script_words::ca_reading_words::is_name;
 use ca_script_words::{
     LineError, LineWords, ScriptCause, take_buffer, take_flags, take_hex, take_pieces, take_queue,
     take_slot, take_u8, take_u32, take_u64,

@@ -4,7 +4,7 @@ use Rattle.std.specs.declared.alloc.Global.{Global}
 use Rattle.ca_base.specs.objects.Mailbox.{due}
 use Rattle.ca_engine.specs.declared.offer.Offer.{Offer}
 use Rattle.ca_engine.specs.declared.offer.Offer.TheVariants as offers
-use Rattle.ca_held.specs.declared.part.QueueSlot.{QueueSlot}
+use Rattle.ca_replay.specs.ca_held.declared.part.QueueSlot.{QueueSlot}
 use Rattle.ca_keys.specs.Equal.{queue_eq}
 use Rattle.ca_keys.specs.declared.names.QueueId.{QueueId}
 use Rattle.ca_model.proofs.ThingLemmas.{queue-path}

@@ -3,3 +3,7 @@ pub mod Known
 pub mod Working
 pub mod Statuses
 pub mod Vain
+-- The libraries below, handed on to those above.
+pub use Rattle.ca_replay.specs as ca_replay
+pub use Rattle.ca_engine.specs as ca_engine
+pub use Rattle.ca_engine_laws.specs as ca_engine_laws

@@ -4,8 +4,8 @@ use Rattle.ca_base.specs.Configuration.{Configuration}
 use Rattle.ca_base.specs.declared.step.Reason.{Reason}
 use Rattle.ca_base.specs.objects.Mailbox.{due}
 use Rattle.ca_base.specs.objects.QueuePair.{QueuePair}
-use Rattle.ca_held.specs.declared.part.QueueSlot.{QueueSlot}
-use Rattle.ca_held.specs.declared.part.QueueSlot.TheVariants as slots
+use Rattle.ca_replay.specs.ca_held.declared.part.QueueSlot.{QueueSlot}
+use Rattle.ca_replay.specs.ca_held.declared.part.QueueSlot.TheVariants as slots
 use Rattle.ca_keys.specs.declared.names.QueueId.{QueueId}
 use Rattle.ca_mailbox.specs.declared.weather.Weather.{Weather}
 use Rattle.ca_model.specs.declared.event.Event.{Event}
@@ -14,7 +14,7 @@ use Rattle.ca_model.specs.machine.Step.{step}
 use Rattle.ca_model.specs.machine.World.{World}
 use Rattle.ca_order.specs.OfScript.{is_possible}
 use Rattle.ca_replay.specs.Looks.{IsQueueIn}
-use Rattle.ca_sending.specs.Turn.{IsWaiting}
+use Rattle.ca_replay.specs.ca_sending.Turn.{IsWaiting}
 use Rattle.ca_turns.specs.Turns.{event_of}
 use Rattle.ca_turns.specs.declared.turn.Turn.{Turn}
 use Rattle.ca_turns.specs.declared.turn.Turn.TheVariants as turns

@@ -9,12 +9,12 @@ ghost use Rattle.ca_script_run.specs.Vain.{CanStepSeen, HasNoQueue, HasNoRequest
 ghost use Rattle.ca_turns.specs.Turns as turns;
 
 use ca_base::{Lot, QueueId};
-use ca_held::QueueSlot;
 use ca_mailbox::Weather;
 use ca_model::Event;
 use ca_qpstate::QueuePart;
 use ca_replay::Row;
-use ca_sending::next_turn;
+use ca_replay::ca_held::QueueSlot;
+use ca_replay::ca_sending::next_turn;
 use ca_turns::Turn;
 
 /// Whether a turn is seen at once not to be possible: no queue pair is in its slot, its requester waits, or its responder

@@ -20,8 +20,8 @@ use crate::visits::{visit_consumer, visit_engine};
 use ca_base::Memory;
 use ca_engine::{Engine, Offer, Outcome};
 use ca_model::{History, Opening};
-use ca_opening::zero_contents;
 use ca_replay::Row;
+use ca_replay::ca_opening::zero_contents;
 use ca_script::Script;
 use std::alloc::Global;
 

@@ -5,7 +5,7 @@ use Rattle.std.proofs.lemmas.Bool.Decides.{nat_tests}
 use Rattle.std.specs.List.{onto_first}
 use Rattle.ca_base.specs.declared.limits.TheConstants.{MAX_SCRIPT_BYTES}
 use Rattle.ca_reading_words.specs.Words.{pieces}
-use Rattle.ca_rest.proofs.TextLemmas.{Gives}
+use Rattle.ca_order_laws.proofs.of_ca_rest.TextLemmas.{Gives}
 use Rattle.ca_script.specs.Script.{Draft, ScriptValue, after_line, after_lines, finished, refused_at, script_of, size_of}
 use Rattle.ca_script.specs.Setup.{opening}
 use Rattle.ca_script_words.specs.declared.cause.ScriptCause.{ScriptCause}

@@ -3,7 +3,7 @@ use Rattle.std.proofs.Common.{◌≡◌, ℕ, List, Ok}
 use Rattle.ca_order.specs.Order.{order}
 use Rattle.ca_order_laws.proofs.LawfulLemmas.{order-lawful}
 use Rattle.ca_order_laws.specs.Lawful.{IsLawfulOrder}
-use Rattle.ca_rest.proofs.TextLemmas.{text-callable, text-limited}
+use Rattle.ca_order_laws.proofs.of_ca_rest.TextLemmas.{text-callable, text-limited}
 use Rattle.ca_script.specs.Script.{ScriptValue, script_of}
 
 pub lawful-by-text : (text : List ℕ) (s : ScriptValue) → script_of text ≡ Ok s → IsLawfulOrder s (order s)

@@ -6,15 +6,15 @@ use Rattle.std.proofs.lemmas.Nat.{mul-le}
 use Rattle.std.specs.List.{AllByRecursion, flat_map}
 use Rattle.ca_base.specs.Configuration.{Adapter, Configuration}
 use Rattle.ca_base.specs.declared.limits.TheConstants.{MAX_CONSUMERS, MAX_DOMAINS, MAX_QPS}
-use Rattle.ca_engine.specs.Offers.{offers_of_round, offers_of_timers, timers_of_queue, turns_of_queue}
-use Rattle.ca_engine.specs.declared.offer.Offer.TheVariants as offers
+use Rattle.ca_engine_laws.specs.ca_engine.Offers.{offers_of_round, offers_of_timers, timers_of_queue, turns_of_queue}
+use Rattle.ca_engine_laws.specs.ca_engine.declared.offer.Offer.TheVariants as offers
 use Rattle.ca_engine_laws.specs.Loop.{most_offers}
 use Rattle.ca_keys.specs.Numbers.{queue_of}
 use Rattle.ca_keys.specs.declared.names.QueueId.{QueueId}
 use Rattle.ca_model.specs.machine.Sound.{AreLimited, IsLimitedAdapter}
 use Rattle.ca_order.specs.Order.{most_rounds}
 use Rattle.ca_order.specs.Visits.{all_queues, numbers_below, queues_from, queues_of_adapter}
-use Rattle.ca_rest.proofs.TextLemmas.{text-limited}
+use Rattle.ca_order_laws.proofs.of_ca_rest.TextLemmas.{text-limited}
 use Rattle.ca_script.specs.Script.{ScriptValue, script_of}
 use Rattle.ca_script_texts.proofs.SizeLemmas.{IsSmallScript, text-small}
 

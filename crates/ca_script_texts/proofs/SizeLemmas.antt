@@ -5,7 +5,7 @@ use Rattle.std.proofs.lemmas.List.Sums.{sum_by-cons}
 use Rattle.std.specs.List.{list_all}
 use Rattle.ca_base.specs.declared.limits.TheConstants.{MAX_CONSUMERS, MAX_SCRIPT_BYTES}
 use Rattle.ca_reading_words.specs.Words.{pieces}
-use Rattle.ca_rest.proofs.TextLemmas.{Gives, gives-any, gives-if, gives-then}
+use Rattle.ca_order_laws.proofs.of_ca_rest.TextLemmas.{Gives, gives-any, gives-if, gives-then}
 use Rattle.ca_script.specs.Script.{Draft, ScriptValue, after_line, after_lines, after_setup_line, after_words, finished, is_comment, is_text, refused_at, script_of, size_of, whole, with_line}
 use Rattle.ca_script.specs.Setup.{is_setup_word, opening}
 use Rattle.ca_script_lines.specs.Grammar.{consumer_lines}

@@ -10,6 +10,8 @@
 
 mod laws;
 
+pub use ca_order_laws;
+pub use ca_order_laws::ca_rest;
 pub use laws::{
     long_texts_are_refused_by_their_fronts, orders_of_texts_are_lawful, texts_mean_workable_scripts,
 };

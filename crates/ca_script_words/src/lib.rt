@@ -18,6 +18,8 @@ mod name;
 mod number;
 mod take;
 
+pub use ca_reading_words;
+pub use ca_reading_words::ca_model;
 pub use cause::ScriptCause;
 pub use cursor::LineWords;
 pub use flags::Flags;

@@ -3,3 +3,5 @@ pub mod NumberingLemmas
 pub mod OutcomeLemmas
 pub mod PacketLemmas
 pub mod TurnLemmas
+-- The libraries below, handed on to those above.
+pub use Rattle.ca_rows.proofs as of_ca_rows

@@ -7,7 +7,7 @@ ghost use Rattle.ca_sending.specs.Finished.{IsAhead, success_between};
 
 use ca_base::Memory;
 use ca_model::{Marks, SPARE_MARKS};
-use ca_qpstate::QueuePart;
+use ca_rows::ca_qpstate::QueuePart;
 use ca_rows::push_success;
 
 /// How many requests stand before a posting place, from the oldest unfinished one on.

@@ -20,6 +20,8 @@ mod sending;
 mod state;
 mod turn;
 
+pub use ca_rows;
+pub use ca_rows::{ca_grant, ca_qpstate};
 pub use finished::{complete_before, finished_count, push_finished};
 pub use local::{local_done, next_local};
 pub use numbering::{Numbered, begun_at};

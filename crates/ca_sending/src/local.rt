@@ -7,7 +7,7 @@ use crate::outcome::fail_oldest;
 use crate::turn::{Found, performing_of};
 use ca_base::{Memory, OpRefusal, SendRequest, WcStatus};
 use ca_model::Marks;
-use ca_qpstate::QueuePart;
+use ca_rows::ca_qpstate::QueuePart;
 use ca_rows::push_success;
 
 /// The local operation that the turn performs, which `next_turn` found, with the byte that it drew. It takes no memory.

@@ -4,7 +4,7 @@ ghost use Rattle.ca_model.specs.machine.Numbering as numbering;
 ghost use Rattle.ca_sending.specs.Numbering.{BeginsFrom, GoesOnFrom, IsNext, IsNoNext, IsNoneFrom, IsNumbered, IsWithin, begun_from, numbers_from};
 
 use ca_base::{PostedSend, SendOp, SendRequest};
-use ca_qpstate::QueuePart;
+use ca_rows::ca_qpstate::QueuePart;
 use ca_rows::psns_of;
 use std::marker::Model;
 

@@ -12,7 +12,7 @@ ghost use Rattle.ca_sending.specs.Outcome.{IsUnder, effects_behind, marks_of, nu
 use crate::finished::{finished_count, push_finished};
 use ca_base::{Memory, OpRefusal, RequesterNumbers, WcStatus};
 use ca_model::{Mark, Marks, SPARE_MARKS};
-use ca_qpstate::QueuePart;
+use ca_rows::ca_qpstate::QueuePart;
 use ca_rows::{failure_mark, push_flushed, reserve_for};
 
 /// What an event makes of a requester's numbers.

@@ -15,7 +15,7 @@ use crate::numbering::Numbered;
 use arrayvec::ArrayVec;
 use ca_base::limits::MAX_PIECES;
 use ca_base::{Ask, Key, Kind, Memory, Piece, SendOp, SendRequest};
-use ca_qpstate::QueuePart;
+use ca_rows::ca_qpstate::QueuePart;
 use ca_rows::{
     Asker, fill_asks, is_answered, list_length, list_of, peer_number, psn_bits, spell_packet,
 };

@@ -3,7 +3,7 @@ ghost use Rattle.ca_keys.specs.declared.access.Kind.{Kind};
 ghost use Rattle.ca_base.specs.declared.limits.TheConstants.{MAX_PAYLOAD_BYTES, MAX_PIECES};
 ghost use Rattle.ca_base.specs.declared.step.Reason.{Reason};
 ghost use Rattle.ca_base.specs.Sight as sights;
-ghost use Rattle.ca_grant.specs.Reaching.{AreAtHand};
+ghost use Rattle.ca_rows.specs.ca_grant.Reaching.{AreAtHand};
 ghost use Rattle.ca_model.specs.declared.marks.TheConstants.{SPARE_MARKS};
 ghost use Rattle.ca_model.specs.machine.Acknowledgements.{with_requester};
 ghost use Rattle.ca_model.specs.machine.Invariants.{IsQueue};
@@ -23,9 +23,9 @@ use crate::turn::{Found, end_of_packet, sending_of};
 use arrayvec::ArrayVec;
 use ca_base::limits::MAX_PIECES;
 use ca_base::{Ask, Memory, Reason, Sent, StepError, WcStatus};
-use ca_grant::Reach;
 use ca_model::{Marks, SPARE_MARKS};
-use ca_qpstate::QueuePart;
+use ca_rows::ca_grant::Reach;
+use ca_rows::ca_qpstate::QueuePart;
 use ca_rows::{first_denied, join, local_denial, read_granted};
 
 /// The asks that `next_packet` may make for the request that `next_turn` found, in order; it makes no other. It takes no

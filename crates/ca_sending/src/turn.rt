@@ -14,7 +14,7 @@ use crate::numbering::{Next, Numbered, begun_at, next_request, numbered_at};
 use crate::state::is_sending;
 use ca_base::limits::{MAX_OUTSTANDING_PACKETS, MAX_OUTSTANDING_PSNS};
 use ca_base::{Reason, State};
-use ca_qpstate::QueuePart;
+use ca_rows::ca_qpstate::QueuePart;
 use ca_rows::{is_answered, is_local, is_read};
 
 /// What a requester's turn does. It is found once, and handed to the calls that do it.

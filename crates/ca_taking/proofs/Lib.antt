@@ -7,3 +7,5 @@ mod GiveLemmas
 pub mod UnpackLemmas
 mod TakeLemmas
 mod AllLemmas
+-- The libraries below, handed on to those above.
+pub use Rattle.ca_adapter.proofs as of_ca_adapter

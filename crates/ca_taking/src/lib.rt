@@ -14,6 +14,7 @@ mod take_error;
 mod taking;
 
 pub use ask::Ask;
+pub use ca_adapter;
 pub use giving::{give_all, put_back, unpack};
 pub use in_hand::InHand;
 pub use next::next_asked;

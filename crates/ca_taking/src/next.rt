@@ -13,10 +13,10 @@ ghost use Rattle.ca_taking.specs.Asking.{asked_of};
 ghost use Rattle.ca_turns.specs.declared.turn.Turn.TheVariants as turns;
 
 use crate::ask::Ask;
+use ca_adapter::ca_needs::next_part;
 use ca_base::{Lot, QueueId, Settings};
 use ca_held::{Held, QueueSlot};
 use ca_model::{Event, PartName};
-use ca_needs::next_part;
 use ca_turns::Turn;
 
 /// The next part that is needed for what is asked, beside those in hand. A turn also needs what tells which event it is: the

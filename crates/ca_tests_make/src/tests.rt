@@ -1,5 +1,5 @@
+use ca_make::ca_script_run::Status;
 use ca_make::make;
-use ca_script_run::Status;
 use std::process::Abort;
 use std::test::Fail;
 

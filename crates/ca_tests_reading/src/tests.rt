@@ -1,4 +1,4 @@
-use ca_reading_lines::read_line;
+use ca_reading::ca_reading_lines::read_line;
 use ca_reading_words::Stop;
 use ca_trace::print_line;
 use std::process::Abort;

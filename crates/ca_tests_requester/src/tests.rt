@@ -10,10 +10,10 @@ mod wakes;
 mod worked_rows;
 
 use ca_base::{Bytes, DomainId, Lot, OpRefusal, QueueId, Rights, Run, Sent, Slot, StepError};
+use ca_bed_requester::ca_reading_lines::read_line;
 use ca_bed_requester::{Bed, Setup, bed_of, reason_text, settings, setup_in};
 use ca_model::{Event, Mark, Marks, Verb};
 use ca_qpstate::QueuePart;
-use ca_reading_lines::read_line;
 use ca_trace::{Line, print_reply};
 use std::alloc::Global;
 use std::process::Abort;

@@ -12,11 +12,11 @@ mod windows;
 mod worked_rows;
 
 use ca_base::{Bytes, Lot, QueueId, SendOp, SendRequest, Sent, Slot, StepError};
-use ca_bed_requester::{Setup, bed_of, reason_text, settings, setup_in};
 use ca_bed_responder::Responder;
+use ca_bed_responder::ca_bed_requester::{Setup, bed_of, reason_text, settings, setup_in};
+use ca_bed_responder::ca_reading_lines::read_line;
 use ca_model::{Event, Mark, Marks, Verb};
 use ca_qpstate::QueuePart;
-use ca_reading_lines::read_line;
 use ca_trace::{Line, print_reply};
 use std::alloc::Global;
 use std::process::Abort;

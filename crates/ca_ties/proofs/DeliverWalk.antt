@@ -13,7 +13,7 @@ use Rattle.ca_base.specs.objects.SharedReceives.{SharedReceives, SrqSlot, after_
 use Rattle.ca_keys.specs.Equal.{queue_eq}
 use Rattle.ca_keys.specs.Memory.{memory_after}
 use Rattle.ca_keys.specs.declared.names.QueueId.{QueueId}
-use Rattle.ca_laws_sound.proofs.WorldLemmas.{EndingDoes, RowDoes, around_in, shared_of}
+use Rattle.ca_agree.proofs.of_ca_laws_sound.WorldLemmas.{EndingDoes, RowDoes, around_in, shared_of}
 use Rattle.ca_model.specs.Past.{with_at}
 use Rattle.ca_model.specs.declared.mark.Mark.{Mark}
 use Rattle.ca_model.specs.declared.mark.Mark.TheVariants as marks

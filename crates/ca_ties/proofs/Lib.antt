@@ -16,3 +16,6 @@ pub mod EndLemmas
 pub mod DestroyLemmas
 pub mod AsideLemmas
 pub mod CreateLemmas
+-- The libraries below, handed on to those above.
+pub use Rattle.ca_agree.proofs as of_ca_agree
+pub use Rattle.ca_ties_rows.proofs as of_ca_ties_rows

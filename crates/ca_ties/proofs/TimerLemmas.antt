@@ -11,7 +11,7 @@ use Rattle.ca_connection.specs.Layout.{Direction}
 use Rattle.ca_connection.specs.Link.{Link}
 use Rattle.ca_keys.specs.Equal.{queue_eq}
 use Rattle.ca_keys.specs.declared.names.QueueId.{QueueId}
-use Rattle.ca_laws_sound.proofs.WorldLemmas.{around_in, shared_of}
+use Rattle.ca_agree.proofs.of_ca_laws_sound.WorldLemmas.{around_in, shared_of}
 use Rattle.ca_model.specs.Past.{with_at}
 use Rattle.ca_model.specs.declared.event.Event.TheVariants as events
 use Rattle.ca_model.specs.declared.mark.Mark.{Mark}

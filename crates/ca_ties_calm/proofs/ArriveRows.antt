@@ -27,8 +27,8 @@ use Rattle.ca_packet.specs.declared.shape.Operation.TheVariants.{Request, ReadRe
 use Rattle.ca_packet.specs.declared.shape.Shape.{Shape}
 use Rattle.ca_packet.specs.declared.wire_error.WireError.{WireError}
 use Rattle.ca_psn.specs.Psn.{widened}
-use Rattle.ca_rows_calm.proofs.CalmRows.{response-calm}
-use Rattle.ca_rows_calm.specs.Calmly.{TakesCalmly}
+use Rattle.ca_rows_standing.proofs.of_ca_rows_calm.CalmRows.{response-calm}
+use Rattle.ca_rows_standing.specs.ca_rows_calm.Calmly.{TakesCalmly}
 use Rattle.ca_rows_standing.proofs.StandLemmas.{request-stands}
 use Rattle.ca_rows_standing.specs.Standing.{AdmitsStanding, SpellsPlainly}
 use Rattle.ca_ties_calm.specs.CalmEvents.{AreCalm}

@@ -40,7 +40,7 @@ use Rattle.ca_model.specs.machine.Sound.{IsSoundWorld}
 use Rattle.ca_model.specs.machine.Step.{step}
 use Rattle.ca_model.specs.machine.World.{Mailbox_of, Queue_of, World, put}
 use Rattle.ca_psn.specs.Psn.{widened}
-use Rattle.ca_rows_calm.specs.Calmly.{TakesCalmly}
+use Rattle.ca_rows_standing.specs.ca_rows_calm.Calmly.{TakesCalmly}
 use Rattle.ca_rows_standing.specs.Standing.{AdmitsStanding, SpellsPlainly, StandsIn}
 use Rattle.ca_ties.proofs.DeliverLemmas.{before-rtr, before-sending, paired-after, present-same}
 use Rattle.ca_ties.proofs.DeliverTies.{other-name, stands-changed, stands-still}

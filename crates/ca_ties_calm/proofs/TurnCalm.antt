@@ -4,7 +4,7 @@ use Rattle.std.specs.Option.{option_map_or}
 use Rattle.ca_agree.proofs.InnerLemmas.{IsInner, packet-inner, respond-inner}
 use Rattle.ca_agree.proofs.LeadsLemmas.{AreAside, comes, leads-around, leads-queue, leads-unless}
 use Rattle.ca_agree.specs.Runs.{Comes, Leads}
-use Rattle.ca_agree_polls.proofs.OperationLemmas.{leads-operation}
+use Rattle.ca_ties_verbs.proofs.of_ca_agree_polls.OperationLemmas.{leads-operation}
 use Rattle.ca_base.specs.Configuration.{Configuration}
 use Rattle.ca_base.specs.declared.correspondent.Correspondent.{Correspondent}
 use Rattle.ca_base.specs.declared.lot.Lot.{Lot}

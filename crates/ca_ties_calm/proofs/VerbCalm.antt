@@ -3,8 +3,8 @@ use Rattle.std.proofs.Common.{◌≡◌, ℕ, suc, ◌+◌, ◌^◌, inr, Bool, 
 use Rattle.ca_agree.proofs.LeadsLemmas.{comes, leads-weaker}
 use Rattle.ca_agree.specs.Agreement.{peer_in}
 use Rattle.ca_agree.specs.Runs.{Comes, Leads}
-use Rattle.ca_agree_polls.proofs.PlanLemmas.{created, leads-create, leads-poll}
-use Rattle.ca_agree_polls.proofs.PostingLemmas.{Refuses}
+use Rattle.ca_ties_verbs.proofs.of_ca_agree_polls.PlanLemmas.{created, leads-create, leads-poll}
+use Rattle.ca_ties_verbs.proofs.of_ca_agree_polls.PostingLemmas.{Refuses}
 use Rattle.ca_base.specs.Configuration.{Configuration}
 use Rattle.ca_base.specs.declared.change.Change as state_change
 use Rattle.ca_base.specs.declared.change.Change.TheVariants as changes

@@ -10,7 +10,7 @@ use Rattle.ca_base.specs.declared.request.SendOp.TheVariants as ops
 use Rattle.ca_base.specs.objects.QueuePair.{QueuePair}
 use Rattle.ca_base.specs.objects.WorkQueue.{items_from}
 use Rattle.ca_connection.specs.Layout.{Direction, first, is_answered, is_atomic, is_read, psns}
-use Rattle.ca_laws_sound.proofs.NumberingLemmas.{count_sum}
+use Rattle.ca_laws_steady.proofs.of_ca_laws_sound.NumberingLemmas.{count_sum}
 use Rattle.ca_model.specs.Requests.{psns_of}
 use Rattle.ca_model.specs.machine.Acknowledgements.{after_finished, finished_requests, with_requester, with_una}
 use Rattle.ca_model.specs.machine.Numbering.{Numbered, begun_requests, is_answered_op, is_atomic_op, is_read as is_read_op, numbers_of, psn_end, unfinished_requests}

@@ -15,3 +15,5 @@ pub mod ArrivalLemmas
 pub mod OperationLemmas
 pub mod TurnLemmas
 pub mod LinkLemmas
+-- The libraries below, handed on to those above.
+pub use Rattle.ca_laws_steady.proofs as of_ca_laws_steady

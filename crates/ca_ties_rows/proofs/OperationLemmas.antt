@@ -16,8 +16,8 @@ use Rattle.ca_base.specs.objects.WorkQueue.{items_from}
 use Rattle.ca_connection.specs.Layout.{Direction, first, psns}
 use Rattle.ca_connection.specs.Layout.Work.{Local}
 use Rattle.ca_keys.specs.Refusals.{first_of}
-use Rattle.ca_laws_sound.proofs.NumberingLemmas.{all-got}
-use Rattle.ca_laws_sound.proofs.TurnLemmas.{NoReason, sending-parts, turn_from}
+use Rattle.ca_laws_steady.proofs.of_ca_laws_sound.NumberingLemmas.{all-got}
+use Rattle.ca_laws_steady.proofs.of_ca_laws_sound.TurnLemmas.{NoReason, sending-parts, turn_from}
 use Rattle.ca_model.specs.Requests.{is_local}
 use Rattle.ca_model.specs.machine.Invariants.{IsQueue, is_sending}
 use Rattle.ca_model.specs.machine.LocalOperations.{after_operation, operation_effects}

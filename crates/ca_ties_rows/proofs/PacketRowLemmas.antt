@@ -16,8 +16,8 @@ use Rattle.ca_connection.proofs.LayoutLemmas.{segments-most, span-is_read, span-
 use Rattle.ca_connection.specs.Layout.{Direction, bytes_left, bytes_of, first, is_read, psns, span}
 use Rattle.ca_connection.specs.Limits.{greatest_span}
 use Rattle.ca_keys.specs.Refusals.{first_of}
-use Rattle.ca_laws_sound.proofs.NumberingLemmas.{all-got, next-short}
-use Rattle.ca_laws_sound.proofs.TurnLemmas.{sending-parts, sends-parts}
+use Rattle.ca_laws_steady.proofs.of_ca_laws_sound.NumberingLemmas.{all-got, next-short}
+use Rattle.ca_laws_steady.proofs.of_ca_laws_sound.TurnLemmas.{sending-parts, sends-parts}
 use Rattle.ca_laws_steady.proofs.SendLemmas.{psns-some}
 use Rattle.ca_model.specs.Requests.{is_local, list_length, list_of}
 use Rattle.ca_model.specs.machine.Invariants.{IsList, IsQueue, is_sending}

@@ -13,7 +13,7 @@ use Rattle.ca_connection.specs.Link.{AtomicCompletion, Requester, Response, gain
 use Rattle.ca_connection.specs.Link.Response.{Ack, Nak, Data, Found}
 use Rattle.ca_connection.specs.Moves.{Takes}
 use Rattle.ca_connection.specs.Moves.Takes.{drop as response_drop, acknowledge, read as response_read, atomic as response_atomic}
-use Rattle.ca_laws_sound.proofs.NumberingLemmas.{all-found}
+use Rattle.ca_laws_steady.proofs.of_ca_laws_sound.NumberingLemmas.{all-found}
 use Rattle.ca_model.specs.Packets.{answers_read}
 use Rattle.ca_model.specs.declared.mark.Drop1.{Drop1}
 use Rattle.ca_model.specs.declared.mark.Drop1.TheVariants as drops

@@ -5,7 +5,7 @@ use Rattle.ca_base.specs.declared.queue_numbers.Queued.TheVariants as queued
 use Rattle.ca_base.specs.declared.step.Reason.{Reason}
 use Rattle.ca_base.specs.declared.step.Reason.TheVariants as reasons
 use Rattle.ca_keys.specs.Refusals.{first_of}
-use Rattle.ca_laws_sound.proofs.TurnLemmas.{sends-parts}
+use Rattle.ca_laws_steady.proofs.of_ca_laws_sound.TurnLemmas.{sends-parts}
 use Rattle.ca_model.specs.machine.Row.{Does, NotPossible, Row, plain_row}
 use Rattle.ca_ties_rows.proofs.EntryLemmas.{acknowledge-is-response, found-spelt, peer-fits, read-spelt, request-is-no-response}
 use Rattle.ca_ties_rows.proofs.RequestRowLemmas.{cond-row, plain}

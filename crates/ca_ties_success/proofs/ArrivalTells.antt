@@ -15,7 +15,7 @@ use Rattle.ca_keys.specs.Memory.{little_endian_bytes}
 use Rattle.ca_keys.specs.Refusals.{first_of}
 use Rattle.ca_laws_sound.proofs.GoodLemmas.{AreSettledMarks, IsSettledMark}
 use Rattle.ca_laws_sound.proofs.NumberingLemmas.{length-numbers}
-use Rattle.ca_laws_steady.specs.Steady.{EndsBehind, IsSteadyQueue}
+use Rattle.ca_agree_starts.specs.ca_laws_steady.Steady.{EndsBehind, IsSteadyQueue}
 use Rattle.ca_model.specs.Packets.{is_response}
 use Rattle.ca_model.specs.Past.{is_send_success}
 use Rattle.ca_model.specs.declared.mark.Drop1.{Drop1}
@@ -35,14 +35,14 @@ use Rattle.ca_packet.specs.declared.opcode.TheConstants.{ATOMIC_ACKNOWLEDGE}
 use Rattle.ca_packet.specs.declared.shape.Shape.{Shape}
 use Rattle.ca_packet.specs.declared.wire_error.WireError.{WireError}
 use Rattle.ca_psn.specs.Psn.{widened}
-use Rattle.ca_ties_rows.proofs.ArrivalLemmas.{weaker}
-use Rattle.ca_ties_rows.proofs.LayLemmas.{Lie, begun-lie}
-use Rattle.ca_ties_rows.proofs.RequestRowLemmas.{plain}
-use Rattle.ca_ties_rows.proofs.StayLemmas.{Stays, request-stays}
-use Rattle.ca_ties_rows.proofs.StayLemmas.Stays.{still, ended}
-use Rattle.ca_ties_rows.specs.Entries.{ResponseEntry, SpellsResponse}
-use Rattle.ca_ties_rows.specs.Moves.{EndingLeads, RowLeads}
-use Rattle.ca_ties_rows.specs.Sides.{IsLaid}
+use Rattle.ca_ties_verbs.proofs.of_ca_ties_rows.ArrivalLemmas.{weaker}
+use Rattle.ca_ties_verbs.proofs.of_ca_ties_rows.LayLemmas.{Lie, begun-lie}
+use Rattle.ca_ties_verbs.proofs.of_ca_ties_rows.RequestRowLemmas.{plain}
+use Rattle.ca_ties_verbs.proofs.of_ca_ties_rows.StayLemmas.{Stays, request-stays}
+use Rattle.ca_ties_verbs.proofs.of_ca_ties_rows.StayLemmas.Stays.{still, ended}
+use Rattle.ca_ties_verbs.specs.ca_ties_rows.Entries.{ResponseEntry, SpellsResponse}
+use Rattle.ca_ties_verbs.specs.ca_ties_rows.Moves.{EndingLeads, RowLeads}
+use Rattle.ca_ties_verbs.specs.ca_ties_rows.Sides.{IsLaid}
 use Rattle.ca_ties_success.proofs.ResponseTells.{Finishes, Told, response-told}
 use Rattle.ca_ties_success.proofs.ResultLemmas.{atomic-has-result, low-bytes}
 use Rattle.ca_ties_success.proofs.SilentRows.{drop-silent, request-silent}

@@ -3,8 +3,8 @@ use Rattle.std.proofs.Common.{◌≡◌, ℕ, suc, ◌%◌, ◌^◌, ◌<◌, Bo
 use Rattle.std.specs.List.{AllByRecursion, Contains}
 use Rattle.std.specs.Option.{option_and_then}
 use Rattle.ca_connection.specs.Once.{acceptances_of_request}
-use Rattle.ca_agree.proofs.LeadsLemmas.{leads-around, leads-row}
-use Rattle.ca_agree.specs.Runs.{Leads}
+use Rattle.ca_ties_verbs.proofs.of_ca_agree.LeadsLemmas.{leads-around, leads-row}
+use Rattle.ca_ties_verbs.specs.ca_agree.Runs.{Leads}
 use Rattle.ca_base.specs.Configuration.{Configuration}
 use Rattle.ca_base.specs.declared.change.State.{State}
 use Rattle.ca_base.specs.declared.change.State.TheVariants as states
@@ -25,7 +25,7 @@ use Rattle.ca_laws_sound.proofs.RespondLemmas.{arrival-good}
 use Rattle.ca_laws_sound.proofs.SettledLemmas.{queue-path}
 use Rattle.ca_laws_sound.proofs.GoodLemmas.{IsGood}
 use Rattle.ca_laws_sound.proofs.WorldLemmas.{around_in, row-does, shared_of, sound-shared}
-use Rattle.ca_laws_steady.specs.Steady.{IsSteadyQueue, IsSteadySlot, IsSteadyWorld}
+use Rattle.ca_agree_starts.specs.ca_laws_steady.Steady.{IsSteadyQueue, IsSteadySlot, IsSteadyWorld}
 use Rattle.ca_model.specs.declared.mark.Mark.{Mark}
 use Rattle.ca_model.specs.declared.mark.Mark.TheVariants as marks
 use Rattle.ca_model.specs.machine.Around.{Around, shared_in, updates_of}
@@ -36,20 +36,20 @@ use Rattle.ca_model.specs.machine.Row.{Effects, Row, Row_plan}
 use Rattle.ca_model.specs.machine.Sound.{IsSoundWorld}
 use Rattle.ca_model.specs.machine.World.{Mailbox_of, Queue_of, World, put}
 use Rattle.ca_psn.specs.Psn.{widened}
-use Rattle.ca_ties.proofs.DeliverLemmas.{present-same}
-use Rattle.ca_ties.proofs.DeliverWalk.{Ends, ends-as, ends-do, row-ends}
-use Rattle.ca_ties.proofs.EntryLemmas.{EntryIs, IsLent, entry-at, lent-envelope, lent-recent}
-use Rattle.ca_ties.proofs.TimerLemmas.{IsFoundAt, found-at}
-use Rattle.ca_ties.specs.Ties.{AreEntries, IsPaired, IsTied, RequesterTie, SenderTie}
-use Rattle.ca_ties.specs.Ties.IsBefore.{sooner, unnamed}
-use Rattle.ca_ties.specs.Ties.IsOver.{later, vacant}
-use Rattle.ca_ties.specs.Ties.SenderTie.{before as sender_before, standing as sender_standing, gone as sender_gone}
-use Rattle.ca_ties_rows.proofs.ArrivalLemmas.{other-request-stays, response-taken}
-use Rattle.ca_ties_rows.proofs.LinkLemmas.{taken-moves}
-use Rattle.ca_ties_rows.specs.Entries.{SpellsResponse, SpellsSomeRequest}
-use Rattle.ca_ties_rows.specs.Links.{IsTaken}
-use Rattle.ca_ties_rows.specs.Moves.{StaysIn, TakesIn}
-use Rattle.ca_ties_rows.specs.Sides.{IsLaid, requester_in}
+use Rattle.ca_ties_verbs.proofs.of_ca_ties.DeliverLemmas.{present-same}
+use Rattle.ca_ties_verbs.proofs.of_ca_ties.DeliverWalk.{Ends, ends-as, ends-do, row-ends}
+use Rattle.ca_ties_verbs.proofs.of_ca_ties.EntryLemmas.{EntryIs, IsLent, entry-at, lent-envelope, lent-recent}
+use Rattle.ca_ties_verbs.proofs.of_ca_ties.TimerLemmas.{IsFoundAt, found-at}
+use Rattle.ca_ties_verbs.specs.ca_ties.Ties.{AreEntries, IsPaired, IsTied, RequesterTie, SenderTie}
+use Rattle.ca_ties_verbs.specs.ca_ties.Ties.IsBefore.{sooner, unnamed}
+use Rattle.ca_ties_verbs.specs.ca_ties.Ties.IsOver.{later, vacant}
+use Rattle.ca_ties_verbs.specs.ca_ties.Ties.SenderTie.{before as sender_before, standing as sender_standing, gone as sender_gone}
+use Rattle.ca_ties_verbs.proofs.of_ca_ties_rows.ArrivalLemmas.{other-request-stays, response-taken}
+use Rattle.ca_ties_verbs.proofs.of_ca_ties_rows.LinkLemmas.{taken-moves}
+use Rattle.ca_ties_verbs.specs.ca_ties_rows.Entries.{SpellsResponse, SpellsSomeRequest}
+use Rattle.ca_ties_verbs.specs.ca_ties_rows.Links.{IsTaken}
+use Rattle.ca_ties_verbs.specs.ca_ties_rows.Moves.{StaysIn, TakesIn}
+use Rattle.ca_ties_verbs.specs.ca_ties_rows.Sides.{IsLaid, requester_in}
 use Rattle.ca_ties_success.proofs.ArrivalTells.{ArrivalTold, arrival-told, finishes-beyond, finishes-sending, own-tell}
 use Rattle.ca_ties_success.proofs.FoundLemmas.{all-found}
 use Rattle.ca_ties_success.proofs.ResponseTells.{Finishes}

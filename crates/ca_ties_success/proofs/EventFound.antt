@@ -3,11 +3,11 @@ use Rattle.std.proofs.Common.{◌≡◌, ℕ, zero, suc, ◌-◌, Bool, true, fa
 use Rattle.std.proofs.lemmas.Option.{same_Some}
 use Rattle.std.specs.List.{AllByRecursion}
 use Rattle.std.specs.Option.{option_map_or, option_or}
-use Rattle.ca_agree.proofs.LeadsLemmas.{comes, leads-around, leads-queue, leads-row, leads-unless, leads-weaker}
-use Rattle.ca_agree.specs.Runs.{Comes, Leads}
-use Rattle.ca_agree_polls.proofs.OperationLemmas.{leads-operation}
-use Rattle.ca_agree_polls.proofs.PlanLemmas.{created, leads-create, leads-poll}
-use Rattle.ca_agree_polls.proofs.PostingLemmas.{Refuses}
+use Rattle.ca_ties_verbs.proofs.of_ca_agree.LeadsLemmas.{comes, leads-around, leads-queue, leads-row, leads-unless, leads-weaker}
+use Rattle.ca_ties_verbs.specs.ca_agree.Runs.{Comes, Leads}
+use Rattle.ca_ties_verbs.proofs.of_ca_agree_polls.OperationLemmas.{leads-operation}
+use Rattle.ca_ties_verbs.proofs.of_ca_agree_polls.PlanLemmas.{created, leads-create, leads-poll}
+use Rattle.ca_ties_verbs.proofs.of_ca_agree_polls.PostingLemmas.{Refuses}
 use Rattle.ca_base.specs.Configuration.{Configuration}
 use Rattle.ca_base.specs.declared.change.Change as state_change
 use Rattle.ca_base.specs.declared.change.Change.TheVariants as changes
@@ -39,7 +39,7 @@ use Rattle.ca_laws_sound.proofs.RespondLemmas.{arrival-good}
 use Rattle.ca_laws_sound.proofs.SettledLemmas.{queue-path}
 use Rattle.ca_laws_sound.proofs.TurnLemmas.{sending-parts, turn_from}
 use Rattle.ca_laws_sound.proofs.WorldLemmas.{around_in, row-does, shared_of, sound-shared}
-use Rattle.ca_laws_steady.specs.Steady.{IsSteadyWorld}
+use Rattle.ca_agree_starts.specs.ca_laws_steady.Steady.{IsSteadyWorld}
 use Rattle.ca_model.specs.Requests.{is_local}
 use Rattle.ca_model.specs.declared.answer.Refusal.TheVariants.{NoSuch}
 use Rattle.ca_model.specs.declared.event.Event.{Event}
@@ -70,17 +70,17 @@ use Rattle.ca_model.specs.machine.Timers.{after_timeout, after_wake}
 use Rattle.ca_model.specs.machine.Turns.{Leave_plan, Packet, Request_around, Respond_around, has_room_for, packet_sent, reaches_peer, request_plan, respond_plan, sent_marks, sent_updates, timeout_plan, wake_plan}
 use Rattle.ca_model.specs.machine.VerbAnswers.{Call, answer_mark}
 use Rattle.ca_model.specs.machine.World.{Cq_of, World}
-use Rattle.ca_ties.proofs.DeliverLemmas.{present-same}
-use Rattle.ca_ties.proofs.DeliverWalk.{Ends, ends-as, ends-do, row-ends}
-use Rattle.ca_ties.proofs.TimerLemmas.{IsFoundAt, found-at}
-use Rattle.ca_ties.specs.Ties.{IsTied, LeavesPairs, RequesterTie, SenderTie}
-use Rattle.ca_ties.specs.Ties.IsBefore.{sooner, unnamed}
-use Rattle.ca_ties.specs.Ties.IsOver.{later, vacant}
-use Rattle.ca_ties.specs.Ties.SenderTie.{before as sender_before, standing as sender_standing, gone as sender_gone}
-use Rattle.ca_ties_rows.proofs.LayLemmas.{LiesAt, all-lie, atomic-of-work, unfinished-lie}
-use Rattle.ca_ties_rows.proofs.RequestRowLemmas.{cond-row}
-use Rattle.ca_ties_rows.specs.Moves.{EndingLeads}
-use Rattle.ca_ties_rows.specs.Sides.{IsLaid}
+use Rattle.ca_ties_verbs.proofs.of_ca_ties.DeliverLemmas.{present-same}
+use Rattle.ca_ties_verbs.proofs.of_ca_ties.DeliverWalk.{Ends, ends-as, ends-do, row-ends}
+use Rattle.ca_ties_verbs.proofs.of_ca_ties.TimerLemmas.{IsFoundAt, found-at}
+use Rattle.ca_ties_verbs.specs.ca_ties.Ties.{IsTied, LeavesPairs, RequesterTie, SenderTie}
+use Rattle.ca_ties_verbs.specs.ca_ties.Ties.IsBefore.{sooner, unnamed}
+use Rattle.ca_ties_verbs.specs.ca_ties.Ties.IsOver.{later, vacant}
+use Rattle.ca_ties_verbs.specs.ca_ties.Ties.SenderTie.{before as sender_before, standing as sender_standing, gone as sender_gone}
+use Rattle.ca_ties_verbs.proofs.of_ca_ties_rows.LayLemmas.{LiesAt, all-lie, atomic-of-work, unfinished-lie}
+use Rattle.ca_ties_verbs.proofs.of_ca_ties_rows.RequestRowLemmas.{cond-row}
+use Rattle.ca_ties_verbs.specs.ca_ties_rows.Moves.{EndingLeads}
+use Rattle.ca_ties_verbs.specs.ca_ties_rows.Sides.{IsLaid}
 use Rattle.ca_ties_success.proofs.ArrivalTells.{own-tell}
 use Rattle.ca_ties_success.proofs.DeliverFound.{deliver-leads, sending-connected, shares}
 use Rattle.ca_ties_success.proofs.FoundLemmas.{all-found, silent-found}

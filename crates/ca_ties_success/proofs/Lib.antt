@@ -9,3 +9,9 @@ pub mod FoundLemmas
 pub mod DeliverFound
 pub mod ListLemmas
 pub mod EventFound
+-- The libraries below, handed on to those above.
+pub use Rattle.ca_agree_starts.proofs.of_ca_laws_steady
+pub use Rattle.ca_agree_starts.proofs.of_ca_agree_posts
+pub use Rattle.ca_ties_verbs.proofs.of_ca_agree_polls
+pub use Rattle.ca_ties_verbs.proofs.of_ca_ties
+pub use Rattle.ca_ties_verbs.proofs as of_ca_ties_verbs

@@ -2,11 +2,11 @@
 use Rattle.std.proofs.Common.{◌≡◌, ℕ, ◌==◌, ◌&&◌, not, Bool, true, false, if◌then◌else◌, List, [], ◌∷◌, ◌++◌, take, length, Option, None, Some, refl, ap, sym, subst, ◌∙◌}
 use Rattle.std.proofs.lemmas.Bool.{eqb-true, not-false}
 use Rattle.std.specs.List.{AllByRecursion}
-use Rattle.ca_agree.proofs.LeadsLemmas.{AreAside, comes, leads-around, leads-queue, leads-weaker}
-use Rattle.ca_agree.specs.Runs.{Comes, Leads}
-use Rattle.ca_agree_polls.proofs.OperationLemmas.{leads-operation}
-use Rattle.ca_agree_polls.proofs.PlanLemmas.{created, leads-create, leads-poll}
-use Rattle.ca_agree_polls.proofs.PostingLemmas.{Refuses}
+use Rattle.ca_ties_verbs.proofs.of_ca_agree.LeadsLemmas.{AreAside, comes, leads-around, leads-queue, leads-weaker}
+use Rattle.ca_ties_verbs.specs.ca_agree.Runs.{Comes, Leads}
+use Rattle.ca_ties_verbs.proofs.of_ca_agree_polls.OperationLemmas.{leads-operation}
+use Rattle.ca_ties_verbs.proofs.of_ca_agree_polls.PlanLemmas.{created, leads-create, leads-poll}
+use Rattle.ca_ties_verbs.proofs.of_ca_agree_polls.PostingLemmas.{Refuses}
 use Rattle.ca_agree_starts.proofs.MoveLemmas.{Moves, arrival-moved, packet-moved, respond-moved, timeout-moved}
 use Rattle.ca_base.specs.Configuration.{Configuration}
 use Rattle.ca_base.specs.declared.change.Change as state_change
@@ -56,10 +56,10 @@ use Rattle.ca_model.specs.machine.Timers.{after_timeout, after_wake}
 use Rattle.ca_model.specs.machine.Turns.{Request_around, has_room_for, request_plan}
 use Rattle.ca_model.specs.machine.VerbAnswers.{Call}
 use Rattle.ca_model.specs.machine.World.{Cq_of, World, opening_world, put}
-use Rattle.ca_ties.proofs.DeliverWalk.{Has, ends-as, ends-do, has-aside, has-turn, has-writes, leads-deliver, puts-append}
-use Rattle.ca_ties.proofs.SendLemmas.{leads-left}
-use Rattle.ca_ties.proofs.TimerLemmas.{IsFoundAt, found-at}
-use Rattle.ca_ties.specs.Ties.{LeavesPairs}
+use Rattle.ca_ties_verbs.proofs.of_ca_ties.DeliverWalk.{Has, ends-as, ends-do, has-aside, has-turn, has-writes, leads-deliver, puts-append}
+use Rattle.ca_ties_verbs.proofs.of_ca_ties.SendLemmas.{leads-left}
+use Rattle.ca_ties_verbs.proofs.of_ca_ties.TimerLemmas.{IsFoundAt, found-at}
+use Rattle.ca_ties_verbs.specs.ca_ties.Ties.{LeavesPairs}
 use Rattle.ca_ties_success.proofs.PutLemmas.{all-dropped}
 use Rattle.ca_ties_success.specs.Lists.{AtomicListsFit, ListFits, SlotListsFit}
 use Rattle.ca_ties_verbs.proofs.BeginLemmas.{created-has}

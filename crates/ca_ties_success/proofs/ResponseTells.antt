@@ -19,7 +19,7 @@ use Rattle.ca_model.specs.Requests.{list_length, list_of}
 use Rattle.ca_model.specs.declared.mark.Drop1.{Drop1}
 use Rattle.ca_model.specs.declared.mark.Drop1.TheVariants as drops
 use Rattle.ca_connection.proofs.LayoutLemmas.{names-is_atomic}
-use Rattle.ca_ties_rows.proofs.ResponseRowLemmas.{IsRequestAt, request-found}
+use Rattle.ca_ties_verbs.proofs.of_ca_ties_rows.ResponseRowLemmas.{IsRequestAt, request-found}
 use Rattle.ca_ties_success.proofs.PutLemmas.{NumberedFits, list-put, progress-put, put-append, request-fits}
 use Rattle.ca_ties_success.specs.Lists.{ListFits}
 use Rattle.ca_model.specs.declared.mark.Mark.{Mark}
@@ -32,11 +32,11 @@ use Rattle.ca_model.specs.machine.Responses.{acknowledge_row, answer_asks, answe
 use Rattle.ca_model.specs.machine.Row.{Does, Effects, Row, plain_row, queue_and_marks}
 use Rattle.ca_packet.specs.Packet.{Fields}
 use Rattle.ca_packet.specs.declared.opcode.TheConstants.{ACKNOWLEDGE, ATOMIC_ACKNOWLEDGE}
-use Rattle.ca_ties_rows.proofs.LayLemmas.{Lie, atomic-of-work, begun-lie, laid-finished, laid-una}
-use Rattle.ca_ties_rows.proofs.RequestRowLemmas.{plain}
-use Rattle.ca_ties_rows.proofs.WalkLemmas.{Stops, acknowledgement-stops}
-use Rattle.ca_ties_rows.specs.Moves.{RowLeads}
-use Rattle.ca_ties_rows.specs.Sides.{IsLaid}
+use Rattle.ca_ties_verbs.proofs.of_ca_ties_rows.LayLemmas.{Lie, atomic-of-work, begun-lie, laid-finished, laid-una}
+use Rattle.ca_ties_verbs.proofs.of_ca_ties_rows.RequestRowLemmas.{plain}
+use Rattle.ca_ties_verbs.proofs.of_ca_ties_rows.WalkLemmas.{Stops, acknowledgement-stops}
+use Rattle.ca_ties_verbs.specs.ca_ties_rows.Moves.{RowLeads}
+use Rattle.ca_ties_verbs.specs.ca_ties_rows.Sides.{IsLaid}
 use Rattle.ca_ties_success.proofs.SilentRows.{drop-silent}
 use Rattle.ca_ties_success.proofs.TellLemmas.{AllTell, AreSilent, failure-silent, silent-tell, tell-append, tell-weaker, writes-silent}
 use Rattle.ca_ties_success.specs.Success.{bytes_put}

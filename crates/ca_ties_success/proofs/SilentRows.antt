@@ -36,8 +36,8 @@ use Rattle.ca_packet.specs.declared.shape.Position.{Position}
 use Rattle.ca_packet.specs.declared.shape.Shape.{Shape}
 use Rattle.ca_packet.specs.declared.shape.Shape.TheVariants as shapes
 use Rattle.ca_psn.specs.Psn.{widened}
-use Rattle.ca_ties_rows.proofs.RequestRowLemmas.{cond-row, plain}
-use Rattle.ca_ties_rows.specs.Moves.{RowLeads}
+use Rattle.ca_ties_verbs.proofs.of_ca_ties_rows.RequestRowLemmas.{cond-row, plain}
+use Rattle.ca_ties_verbs.specs.ca_ties_rows.Moves.{RowLeads}
 use Rattle.ca_wire.specs.declared.syndrome.NakCode.{NakCode}
 use Rattle.ca_wire.specs.declared.syndrome.NakCode.TheVariants.{InvalidRequest, RemoteAccessError, RemoteOperationalError}
 use Rattle.ca_ties_success.proofs.TellLemmas.{AreSilent, flush-silent, revoked-silent, silent-append, writes-silent}

@@ -13,7 +13,7 @@ use Rattle.ca_connection.specs.Link.Response.{Found}
 use Rattle.ca_connection.specs.Moves.{Takes}
 use Rattle.ca_connection.specs.Moves.Takes.{drop as take_drop, acknowledge as take_acknowledge, read as take_read, atomic as take_atomic}
 use Rattle.ca_connection.specs.Once.{acceptances_of_request}
-use Rattle.ca_ties_rows.specs.Links.{found_at}
+use Rattle.ca_ties_verbs.specs.ca_ties_rows.Links.{found_at}
 
 -- the response was the atomic's own, and completed it
 pub record IsOwn (d : Direction) (a : Response) (w place : ℕ) (completion : Option AtomicCompletion) : Type 0 where

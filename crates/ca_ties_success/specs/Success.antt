@@ -9,7 +9,7 @@ use Rattle.ca_model.specs.Past.{is_send_success}
 use Rattle.ca_model.specs.declared.mark.Mark.{Mark}
 use Rattle.ca_model.specs.declared.mark.Mark.TheVariants as marks
 use Rattle.ca_model.specs.machine.World.{World}
-use Rattle.ca_ties_rows.specs.Links.{found_at}
+use Rattle.ca_ties_verbs.specs.ca_ties_rows.Links.{found_at}
 use Rattle.ca_ties_verbs.specs.Agrees.{IsInLife}
 
 -- the bytes that a mark tells of as written into a list

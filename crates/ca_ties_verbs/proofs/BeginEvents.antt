@@ -1,9 +1,9 @@
 -- Every event leaves queue pairs that begin empty: the turns, and all events together. For proofs only.
 use Rattle.std.proofs.Common.{◌≡◌, ℕ, Bool, true, false, if◌then◌else◌, List, [], Option, None, Some, is_some, refl, ap, sym, subst, ◌∙◌, true≢false}
-use Rattle.ca_agree.proofs.InnerLemmas.{IsInner, arrival-inner, packet-inner, respond-inner, timeout-inner}
-use Rattle.ca_agree.proofs.LeadsLemmas.{comes}
-use Rattle.ca_agree.specs.Agreement.{peer_in}
-use Rattle.ca_agree.specs.Runs.{Comes, Leads}
+use Rattle.ca_agree_polls.proofs.of_ca_agree.InnerLemmas.{IsInner, arrival-inner, packet-inner, respond-inner, timeout-inner}
+use Rattle.ca_agree_polls.proofs.of_ca_agree.LeadsLemmas.{comes}
+use Rattle.ca_agree_polls.specs.ca_agree.Agreement.{peer_in}
+use Rattle.ca_agree_polls.specs.ca_agree.Runs.{Comes, Leads}
 use Rattle.ca_base.specs.Configuration.{Configuration}
 use Rattle.ca_base.specs.declared.correspondent.Correspondent.{Correspondent}
 use Rattle.ca_base.specs.declared.lot.Lot.{Lot}
@@ -14,8 +14,8 @@ use Rattle.ca_keys.specs.Equal.{queue_eq}
 use Rattle.ca_keys.specs.Memory.{ByteMap}
 use Rattle.ca_keys.specs.Refusals.{first_of}
 use Rattle.ca_keys.specs.declared.names.QueueId.{QueueId}
-use Rattle.ca_laws_sound.proofs.SettledLemmas.{queue-path}
-use Rattle.ca_laws_sound.proofs.TurnLemmas.{sending-parts, sends-parts, turn_from}
+use Rattle.ca_agree_polls.proofs.of_ca_laws_sound.SettledLemmas.{queue-path}
+use Rattle.ca_agree_polls.proofs.of_ca_laws_sound.TurnLemmas.{sending-parts, sends-parts, turn_from}
 use Rattle.ca_base.specs.declared.step.Reason.{Reason}
 use Rattle.ca_model.specs.Past.{with_at}
 use Rattle.ca_model.specs.declared.event.Event.{Event}
@@ -37,9 +37,9 @@ use Rattle.ca_ties.proofs.SendLemmas.{boxes_after}
 use Rattle.ca_ties.proofs.SentTies.{path-leads}
 use Rattle.ca_ties.proofs.TimerLemmas.{IsFoundAt}
 use Rattle.ca_ties.specs.Ties.{MailFollows}
-use Rattle.ca_ties_rows.proofs.StayLemmas.{Stays, respond-stays}
-use Rattle.ca_ties_rows.proofs.TurnLemmas.{packet-state, timeout-state, wake-state}
-use Rattle.ca_ties_rows.specs.Moves.{LeavesState}
+use Rattle.ca_ties.proofs.of_ca_ties_rows.StayLemmas.{Stays, respond-stays}
+use Rattle.ca_ties.proofs.of_ca_ties_rows.TurnLemmas.{packet-state, timeout-state, wake-state}
+use Rattle.ca_ties.specs.ca_ties_rows.Moves.{LeavesState}
 use Rattle.ca_ties_verbs.proofs.BeginLemmas.{begins-turned, found-begins, verb-begins}
 use Rattle.ca_ties_verbs.proofs.BeginRows.{arrival-begins, sent-begins, stays-begins}
 use Rattle.ca_ties_verbs.proofs.PairLemmas.{replaces-changed}

@@ -3,10 +3,10 @@ use Rattle.std.proofs.Common.{◌≡◌, ℕ, suc, Bool, true, false, if◌then�
 use Rattle.std.specs.Option.{option_map}
 use Rattle.std.proofs.Math.Seq.{drop-nil}
 use Rattle.std.proofs.lemmas.Bool.{not-false}
-use Rattle.ca_agree.proofs.InnerLemmas.{IsInner, arrival-inner}
-use Rattle.ca_agree.proofs.LeadsLemmas.{leads-weaker}
-use Rattle.ca_agree.specs.Agreement.{peer_in}
-use Rattle.ca_agree.specs.Runs.{Leads}
+use Rattle.ca_agree_polls.proofs.of_ca_agree.InnerLemmas.{IsInner, arrival-inner}
+use Rattle.ca_agree_polls.proofs.of_ca_agree.LeadsLemmas.{leads-weaker}
+use Rattle.ca_agree_polls.specs.ca_agree.Agreement.{peer_in}
+use Rattle.ca_agree_polls.specs.ca_agree.Runs.{Leads}
 use Rattle.ca_agree_polls.proofs.PlanLemmas.{created, leads-create, leads-poll}
 use Rattle.ca_agree_polls.proofs.PostingLemmas.{Refuses}
 use Rattle.ca_base.specs.Configuration.{Configuration}
@@ -28,7 +28,7 @@ use Rattle.ca_keys.specs.Equal.{queue_eq}
 use Rattle.ca_keys.specs.Numbers.{queue_of}
 use Rattle.ca_keys.specs.declared.names.QueueId.{QueueId}
 use Rattle.ca_keys.specs.declared.names.Slot.{Slot}
-use Rattle.ca_laws_sound.proofs.SettledLemmas.{queue-path}
+use Rattle.ca_agree_polls.proofs.of_ca_laws_sound.SettledLemmas.{queue-path}
 use Rattle.ca_model.specs.Past.{with_at}
 use Rattle.ca_model.specs.declared.mark.Mark.{Mark}
 use Rattle.ca_model.specs.declared.verb.Verb.{Verb}

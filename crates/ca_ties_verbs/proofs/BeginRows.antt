@@ -9,7 +9,7 @@ use Rattle.ca_base.specs.objects.QueuePair.{QueuePair}
 use Rattle.ca_base.specs.objects.SharedReceives.{SharedReceives}
 use Rattle.ca_base.specs.objects.WorkQueue.{WorkQueue}
 use Rattle.ca_keys.specs.Refusals.{AllFail, first_of}
-use Rattle.ca_laws_sound.proofs.TurnLemmas.{all-fail}
+use Rattle.ca_agree_polls.proofs.of_ca_laws_sound.TurnLemmas.{all-fail}
 use Rattle.ca_model.specs.Packets.{is_response}
 use Rattle.ca_model.specs.declared.mark.Drop1.{Drop1}
 use Rattle.ca_model.specs.declared.mark.Drop1.TheVariants as drops
@@ -23,12 +23,12 @@ use Rattle.ca_packet.specs.Packet.{Fields}
 use Rattle.ca_packet.specs.Table.{shape_of}
 use Rattle.ca_packet.specs.declared.shape.Shape.{Shape}
 use Rattle.ca_packet.specs.declared.wire_error.WireError.{WireError}
-use Rattle.ca_ties_rows.proofs.ArrivalLemmas.{weaker}
-use Rattle.ca_ties_rows.proofs.ForgetLemmas.{Forgets, forgets-state, response-forgets}
-use Rattle.ca_ties_rows.proofs.RequestRowLemmas.{plain}
-use Rattle.ca_ties_rows.proofs.StayLemmas.{Stays, request-stays}
-use Rattle.ca_ties_rows.proofs.StayLemmas.Stays.{still, ended}
-use Rattle.ca_ties_rows.specs.Moves.{LeavesState, RowLeads}
+use Rattle.ca_ties.proofs.of_ca_ties_rows.ArrivalLemmas.{weaker}
+use Rattle.ca_ties.proofs.of_ca_ties_rows.ForgetLemmas.{Forgets, forgets-state, response-forgets}
+use Rattle.ca_ties.proofs.of_ca_ties_rows.RequestRowLemmas.{plain}
+use Rattle.ca_ties.proofs.of_ca_ties_rows.StayLemmas.{Stays, request-stays}
+use Rattle.ca_ties.proofs.of_ca_ties_rows.StayLemmas.Stays.{still, ended}
+use Rattle.ca_ties.specs.ca_ties_rows.Moves.{LeavesState, RowLeads}
 use Rattle.ca_ties_verbs.specs.Beginnings.{BeginsEmpty}
 
 fresh-idle : (t : State) → is_fresh t ≡ false → is_idle t ≡ true → ⊥

@@ -1,8 +1,8 @@
 -- Every event keeps a world tied, where its marks agree with the direction. For proofs only.
 use Rattle.std.proofs.Common.{◌≡◌, ℕ, Bool, true, false, if◌then◌else◌, List, [], take, length, Option, None, Some, refl, ap, sym, subst, ◌∙◌}
-use Rattle.ca_agree.proofs.InnerLemmas.{IsInner, arrival-inner}
-use Rattle.ca_agree.proofs.LeadsLemmas.{comes}
-use Rattle.ca_agree.specs.Runs.{Comes, Leads}
+use Rattle.ca_agree_polls.proofs.of_ca_agree.InnerLemmas.{IsInner, arrival-inner}
+use Rattle.ca_agree_polls.proofs.of_ca_agree.LeadsLemmas.{comes}
+use Rattle.ca_agree_polls.specs.ca_agree.Runs.{Comes, Leads}
 use Rattle.ca_agree_polls.proofs.PlanLemmas.{leads-poll}
 use Rattle.ca_agree_polls.proofs.PostingLemmas.{Refuses}
 use Rattle.ca_base.specs.Configuration.{Configuration}
@@ -20,7 +20,7 @@ use Rattle.ca_base.specs.declared.request.SendRequest.{SendRequest}
 use Rattle.ca_base.specs.objects.CompletionQueue.{CompletionQueue, after_polls}
 use Rattle.ca_keys.specs.declared.names.QueueId.{QueueId}
 use Rattle.ca_keys.specs.declared.names.Slot.{Slot}
-use Rattle.ca_laws_sound.proofs.SettledLemmas.{queue-path}
+use Rattle.ca_agree_polls.proofs.of_ca_laws_sound.SettledLemmas.{queue-path}
 use Rattle.ca_model.specs.declared.answer.Refusal.TheVariants.{NoSuch}
 use Rattle.ca_model.specs.declared.event.Event.{Event}
 use Rattle.ca_model.specs.declared.event.Event.TheVariants as events
@@ -43,7 +43,7 @@ use Rattle.ca_ties.proofs.EndLemmas.{modify-ties}
 use Rattle.ca_ties.proofs.TimerLemmas.{timeout-ties, wake-ties}
 use Rattle.ca_ties.proofs.TurnTies.{request-plan-ties, respond-ties}
 use Rattle.ca_ties.specs.Ties.{IsTied, LeavesPairs, MailFollows, TiedAfter}
-use Rattle.ca_ties_rows.specs.Sides.{responder_in}
+use Rattle.ca_ties.specs.ca_ties_rows.Sides.{responder_in}
 use Rattle.ca_ties_verbs.proofs.PairLemmas.{IsStill, IsStillSlot, same-requester, tied-replaced, tied-slots, unchanged}
 use Rattle.ca_ties_verbs.proofs.PairLemmas.IsStillSlot.{touched, untouched as still_untouched}
 use Rattle.ca_ties_verbs.proofs.PollLemmas.{AreFreer, IsFreer, IsFreerSlot, poll-freers}

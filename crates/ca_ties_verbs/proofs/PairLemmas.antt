@@ -8,7 +8,7 @@ use Rattle.ca_connection.specs.Layout.{Direction, first}
 use Rattle.ca_connection.specs.Link.{Link, RequestPacket, Requester, Responder, Response}
 use Rattle.ca_keys.specs.Equal.{queue_eq}
 use Rattle.ca_keys.specs.declared.names.QueueId.{QueueId}
-use Rattle.ca_laws_sound.proofs.SettledLemmas.{queue-path}
+use Rattle.ca_agree_polls.proofs.of_ca_laws_sound.SettledLemmas.{queue-path}
 use Rattle.ca_model.specs.machine.World.{World}
 use Rattle.ca_ties.proofs.DeliverLemmas.{before-after, over-after, paired-after, present-same}
 use Rattle.ca_ties.proofs.DeliverTies.{stands-changed, stands-still}
@@ -21,7 +21,7 @@ use Rattle.ca_ties.specs.Ties.ReceiverTie.{before as receiver_before, standing a
 use Rattle.ca_ties.specs.Ties.SenderTie.{before as sender_before, standing as sender_standing, gone as sender_gone}
 use Rattle.ca_base.specs.declared.queue_numbers.RequesterNumbers.{RequesterNumbers}
 use Rattle.ca_base.specs.objects.WorkQueue.{items_from}
-use Rattle.ca_ties_rows.specs.Sides.{IsLaid, IsWork, responder_in}
+use Rattle.ca_ties.specs.ca_ties_rows.Sides.{IsLaid, IsWork, responder_in}
 use Rattle.ca_model.specs.machine.Invariants.{is_sending}
 use Rattle.ca_ties_verbs.specs.Agrees.{IsInLife}
 

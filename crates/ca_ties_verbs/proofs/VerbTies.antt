@@ -1,7 +1,7 @@
 -- Each verb that changes queue pairs or their mailboxes keeps a world tied, where its answer agrees. For proofs only.
 use Rattle.std.proofs.Common.{◌≡◌, ℕ, zero, suc, ◌+◌, ◌-◌, ◌^◌, ◌≤◌, Bool, true, false, if◌then◌else◌, List, [], ◌∷◌, ◌++◌, drop, length, map, Option, None, Some, is_some, refl, ap, sym, subst, ◌∙◌, true≢false, arith}
 use Rattle.std.proofs.lemmas.List.{drop-append-le, length-drop}
-use Rattle.ca_agree.specs.Agreement.{peer_in}
+use Rattle.ca_agree_polls.specs.ca_agree.Agreement.{peer_in}
 use Rattle.ca_base.specs.declared.change.Change as state_change
 use Rattle.ca_base.specs.declared.change.Change.TheVariants as changes
 use Rattle.ca_base.specs.declared.change.State.{State}
@@ -27,8 +27,8 @@ use Rattle.ca_ties.specs.Ties.{AreEntries, IsTied, ReceiverTie, RequesterTie, Se
 use Rattle.ca_ties.specs.Ties.IsOver.{later, vacant}
 use Rattle.ca_ties.specs.Ties.ReceiverTie.{before as receiver_before, standing as receiver_standing, gone as receiver_gone}
 use Rattle.ca_ties.specs.Ties.SenderTie.{before as sender_before, standing as sender_standing, gone as sender_gone}
-use Rattle.ca_ties_rows.specs.Entries.{SpellsRequest, SpellsResponse, SpellsSomeRequest, SpellsSomeResponse}
-use Rattle.ca_ties_rows.specs.Sides.{IsWork, kept_result, responder_in, said, work_of}
+use Rattle.ca_ties.specs.ca_ties_rows.Entries.{SpellsRequest, SpellsResponse, SpellsSomeRequest, SpellsSomeResponse}
+use Rattle.ca_ties.specs.ca_ties_rows.Sides.{IsWork, kept_result, responder_in, said, work_of}
 use Rattle.ca_ties_verbs.proofs.BeginLemmas.{found-begins, init-idle}
 use Rattle.ca_ties_verbs.proofs.PairLemmas.{IsSameEnd, Replaces, same-requester, tied-replaced, tied-still}
 use Rattle.ca_ties_verbs.proofs.WalkLemmas.{box_after, with_receive}

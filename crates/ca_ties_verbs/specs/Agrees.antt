@@ -22,7 +22,7 @@ use Rattle.ca_model.specs.declared.verb.Verb.{Verb}
 use Rattle.ca_model.specs.declared.verb.Verb.TheVariants as verbs
 use Rattle.ca_model.specs.machine.World.{World}
 use Rattle.ca_ties.specs.Ties.{found_by_delivery}
-use Rattle.ca_ties_rows.specs.Sides.{work_of}
+use Rattle.ca_ties.specs.ca_ties_rows.Sides.{work_of}
 
 -- The queue pair of this name is in this life: it is its queue pair, and its slot has its incarnation.
 pub record IsInLife (w : World) (life : Correspondent) (name : QueueId) : Type 0 where

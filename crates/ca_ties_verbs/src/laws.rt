@@ -1,5 +1,5 @@
 ghost use Rattle.std.specs.Prelude.{◌≡◌, ℕ};
-ghost use Rattle.ca_agree.specs.Runs.{Comes};
+ghost use Rattle.ca_agree_polls.specs.ca_agree.Runs.{Comes};
 ghost use Rattle.ca_base.specs.Configuration.{Configuration};
 ghost use Rattle.ca_base.specs.declared.correspondent.Correspondent.{Correspondent};
 ghost use Rattle.ca_connection.specs.Layout.{Direction};

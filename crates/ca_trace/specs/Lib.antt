@@ -1,3 +1,5 @@
 pub mod Table
 pub mod Trace
 pub mod Lines
+-- The libraries below, handed on to those above.
+pub use Rattle.ca_trace_words.specs as ca_trace_words

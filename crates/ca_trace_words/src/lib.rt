@@ -13,6 +13,7 @@ mod text;
 mod verb;
 mod words;
 
+pub use ca_model;
 pub use spelled::{Hex, InAdapter, Word, Words};
 pub use text::Text;
 pub use verb::{print_call, put_call};

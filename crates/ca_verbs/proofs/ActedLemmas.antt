@@ -1,10 +1,10 @@
 -- An event that is acted with the parts in hand is one step of the machine after every list for which they stand. For proofs
 -- only.
 use Rattle.std.proofs.Common.{◌≡◌, ◌∙◌, refl, sym, ap, subst, ℕ, ◌≤◌, arith, Bool, true, false, List, [], ◌∷◌, ◌++◌, length, Option, None, Some, Result, Ok, Err}
-use Rattle.ca_acts.specs.Act.{Acts, IsAct}
-use Rattle.ca_acts_laws.specs.Steps.{IsStepOf, LeavesUnheld, Shows}
-use Rattle.ca_adapter.proofs.WorldLemmas.{part-of-held}
-use Rattle.ca_adapter.specs.Ready.{IsReady}
+use Rattle.ca_taking.specs.ca_acts.Act.{Acts, IsAct}
+use Rattle.ca_taking.specs.ca_acts_laws.Steps.{IsStepOf, LeavesUnheld, Shows}
+use Rattle.ca_taking.proofs.of_ca_adapter.WorldLemmas.{part-of-held}
+use Rattle.ca_taking.specs.ca_adapter.Ready.{IsReady}
 use Rattle.ca_base.specs.Configuration.{configuration_in}
 use Rattle.ca_base.specs.declared.settings.Settings.{Settings}
 use Rattle.ca_base.specs.declared.step.Reason.TheVariants as reasons
@@ -25,7 +25,7 @@ use Rattle.ca_held.specs.HeldView.{Holding, holding}
 use Rattle.ca_keys.specs.Memory.{zeros}
 use Rattle.ca_keys.specs.declared.place.Place.{Place}
 use Rattle.ca_laws_names.specs.Placed.{is_configured}
-use Rattle.ca_laws_parts.proofs.NeedsLemmas.{next-same}
+use Rattle.ca_fabric_machine.proofs.of_ca_laws_parts.NeedsLemmas.{next-same}
 use Rattle.ca_model.specs.Marks.{MarkList}
 use Rattle.ca_model.specs.declared.event.Event.{Event}
 use Rattle.ca_model.specs.declared.part_name.PartName.{PartName}

@@ -5,20 +5,20 @@ use Rattle.ca_agree.proofs.EventFitLemmas.{followed-is-history}
 use Rattle.ca_agree.specs.Runs.{AreStamped}
 use Rattle.ca_base.specs.Configuration.{configuration_in}
 use Rattle.ca_base.specs.declared.settings.Settings.{Settings}
-use Rattle.ca_carried.proofs.EndEventLemmas.{whole-along}
+use Rattle.ca_caused_link.proofs.of_ca_carried.EndEventLemmas.{whole-along}
 use Rattle.ca_caused_link.proofs.HistoryLemmas.{caused-along}
 use Rattle.ca_fabric_machine.specs.declared.asked.Told.{Told}
 use Rattle.ca_isolated.proofs.AloneLemmas.{alone-goes}
-use Rattle.ca_judged.proofs.JudgeEventLemmas.{judged-along}
+use Rattle.ca_isolated.proofs.of_ca_judged.JudgeEventLemmas.{judged-along}
 use Rattle.ca_keys.specs.Memory.{zeros}
-use Rattle.ca_licensed.proofs.LicensedLemmas.{licensed-along}
+use Rattle.ca_caused_link.proofs.of_ca_licensed.LicensedLemmas.{licensed-along}
 use Rattle.ca_model.specs.Entries.{EntryValue, entry_of}
 use Rattle.ca_model.specs.declared.entry.Entry.{Entry}
 use Rattle.ca_model.specs.declared.event.Event.{Event}
 use Rattle.ca_model.specs.declared.mark.Mark.{Mark}
 use Rattle.ca_model.specs.machine.Run.{Follows, run}
 use Rattle.ca_model.specs.machine.Sound.{AreLimited, CanBeMade}
-use Rattle.ca_once.proofs.WholeLemmas.{whole-along as once-along}
+use Rattle.ca_caused_link.proofs.of_ca_once.WholeLemmas.{whole-along as once-along}
 use Rattle.ca_ordered.proofs.OrderedLemmas.{ordered-along}
 use Rattle.ca_taking.specs.Holding.{Known}
 use Rattle.ca_verbs.specs.Closing.{IsHistoryOf, IsLawful, stamped_from}

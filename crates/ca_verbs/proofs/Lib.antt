@@ -5,3 +5,5 @@ pub mod TurnLemmas
 mod PlacingLemmas
 mod CloseLemmas
 mod LawfulLemmas
+-- The libraries below, handed on to those above.
+pub use Rattle.ca_taking.proofs as of_ca_taking

@@ -1,7 +1,7 @@
 -- The event that a turn is, by what is held and in a world that shows it. For proofs only.
 use Rattle.std.proofs.Common.{◌≡◌, ◌∙◌, refl, sym, ap, subst, Bool, true, false, Option, None, Some, if◌then◌else◌, true≢false}
 use Rattle.std.proofs.lemmas.Option.{none-some}
-use Rattle.ca_adapter.proofs.WorldLemmas.{vacant-there}
+use Rattle.ca_taking.proofs.of_ca_adapter.WorldLemmas.{vacant-there}
 use Rattle.ca_base.specs.Configuration.{Configuration}
 use Rattle.ca_base.specs.declared.correspondent.Correspondent.{Correspondent}
 use Rattle.ca_base.specs.declared.lot.Lot.{Lot}
@@ -14,7 +14,7 @@ use Rattle.ca_held.specs.declared.held.Held.{Held}
 use Rattle.ca_held.specs.HeldView.{holding}
 use Rattle.ca_keys.specs.declared.names.QueueId.{QueueId}
 use Rattle.ca_laws_names.specs.Placed.{IsPlacedWorld}
-use Rattle.ca_laws_parts.proofs.NeedsLemmas.{none-decided, none-first}
+use Rattle.ca_fabric_machine.proofs.of_ca_laws_parts.NeedsLemmas.{none-decided, none-first}
 use Rattle.ca_mailbox.specs.Weather.{is_hastened, lot_under}
 use Rattle.ca_mailbox.specs.declared.weather.Weather.{Weather}
 use Rattle.ca_model.specs.declared.event.Event.TheVariants as events

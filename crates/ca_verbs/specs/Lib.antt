@@ -4,3 +4,5 @@ pub mod Passes
 pub mod Starting
 pub mod Closing
 pub mod Closed
+-- The libraries below, handed on to those above.
+pub use Rattle.ca_taking.specs as ca_taking

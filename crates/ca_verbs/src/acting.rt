@@ -11,12 +11,12 @@ ghost use Rattle.ca_verbs.specs.Tried.{IsEventOf, IsMade, WasNotMade, refusal_of
 
 use crate::marking::mark;
 use crate::try_error::TryError;
-use ca_adapter::act;
 use ca_base::StepError;
 use ca_fabric_machine::SharedPart;
 use ca_held::Held;
 use ca_model::{Event, Marks, PartName};
 use ca_parts::{PartPass, Parts};
+use ca_taking::ca_adapter::act;
 use ca_taking::{Ask, InHand, give_all, put_back, unpack};
 use std::alloc::Global;
 

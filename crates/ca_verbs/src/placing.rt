@@ -5,9 +5,9 @@ ghost use Rattle.ca_model.specs.machine.Sound.{CanBeMade};
 ghost use Rattle.ca_parts.specs.Lists.{Has, times};
 ghost use Rattle.ca_verbs.specs.Closing.{IsFilled, stamps_of};
 
-use ca_adapter::lists_fit;
 use ca_base::Memory;
 use ca_model::Entry;
+use ca_taking::ca_adapter::lists_fit;
 use std::alloc::Global;
 
 /// So many places, all empty, and room for as many entries.

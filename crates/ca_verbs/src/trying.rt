@@ -15,13 +15,13 @@ ghost use Rattle.ca_verbs.specs.Tried.{IsEventOf, IsMade, WasNotMade, error_of, 
 use crate::acting::{Made, act_in_hand};
 use crate::try_error::TryError;
 use crate::turning::event_of;
-use ca_adapter::lists_fit;
 use ca_base::Reason;
 use ca_fabric_machine::SharedPart;
 use ca_held::Held;
 use ca_mailbox::Weather;
 use ca_model::{Event, PartName};
 use ca_parts::{PartPass, Parts};
+use ca_taking::ca_adapter::lists_fit;
 use ca_taking::{Ask, InHand, TakeError, put_back, take_all};
 use ca_turns::Turn;
 use std::alloc::Global;

@@ -7,7 +7,7 @@ use Rattle.ca_base.specs.declared.limits.TheConstants.{MAX_RETRY}
 use Rattle.ca_base.specs.declared.refusals.OpRefusal.{OpRefusal}
 use Rattle.ca_base.specs.declared.step.Sent.TheVariants.{Silent}
 use Rattle.ca_base.specs.objects.QueuePair.{QueuePair}
-use Rattle.ca_laws_steady.proofs.SameLemmas.{progress-first, unfinished-after}
+use Rattle.ca_ties_rows.proofs.of_ca_laws_steady.SameLemmas.{progress-first, unfinished-after}
 use Rattle.ca_model.specs.declared.mark.Drop1.{Drop1}
 use Rattle.ca_model.specs.declared.mark.Drop1.TheVariants as drops
 use Rattle.ca_model.specs.machine.Acknowledgements.{Acknowledgement, acknowledgement_below, after_finished, and_then, failure_effects, first_unanswered, one_retry, progress_to, with_cursor, with_requester, with_una}

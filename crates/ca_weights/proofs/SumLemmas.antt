@@ -7,7 +7,7 @@ use Rattle.ca_base.specs.declared.queue_numbers.Queued.TheVariants as queued
 use Rattle.ca_base.specs.objects.Answers.{is_ack, with_ack_at_end}
 use Rattle.ca_base.specs.objects.QueuePair.{QueuePair, in_error, without_answers}
 use Rattle.ca_base.specs.objects.WorkQueue.{next_place}
-use Rattle.ca_laws_steady.proofs.SameLemmas.{flushed-none}
+use Rattle.ca_ties_rows.proofs.of_ca_laws_steady.SameLemmas.{flushed-none}
 use Rattle.ca_model.specs.Requests.{is_local}
 use Rattle.ca_model.specs.machine.Numbering.{Numbered, is_read, numbers_of, unfinished_requests}
 use Rattle.ca_weights.specs.Weights.{answer_weight, answers_weight, psns_left, queue_weight, request_weight, requests_weight}

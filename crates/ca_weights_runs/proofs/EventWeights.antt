@@ -17,12 +17,12 @@ use Rattle.ca_model.specs.machine.Requester.{Performs, RequestTurn, Sends, Waits
 use Rattle.ca_model.specs.machine.Step.{step}
 use Rattle.ca_model.specs.machine.Turns.{Request_around, request_plan}
 use Rattle.ca_model.specs.machine.World.{World}
-use Rattle.ca_ties.proofs.DeliverLemmas.{present-same}
-use Rattle.ca_ties_verbs.proofs.EventTies.{comes-weaker}
+use Rattle.ca_weights_verbs.proofs.of_ca_ties.DeliverLemmas.{present-same}
+use Rattle.ca_weights_verbs.proofs.of_ca_ties_verbs.EventTies.{comes-weaker}
 use Rattle.ca_weights_runs.proofs.SentTurns.{sending-lowers}
 use Rattle.ca_weights_runs.specs.Forward.{GoesForward, HasOneWidth, IsOrderlyWorld, TurnIsAmong, packets_in, turns_in}
-use Rattle.ca_weights_turns.proofs.TurnLemmas.{delivery-lowers, respond-turn-lowers}
-use Rattle.ca_weights_turns.specs.WorldWeights.{AreApart, IsFreshAt, cursor_of, is_among_names, world_weight}
+use Rattle.ca_weights_verbs.proofs.of_ca_weights_turns.TurnLemmas.{delivery-lowers, respond-turn-lowers}
+use Rattle.ca_weights_verbs.specs.ca_weights_turns.WorldWeights.{AreApart, IsFreshAt, cursor_of, is_among_names, world_weight}
 use Rattle.ca_weights_verbs.proofs.OperationTurns.{operation-lowers}
 use Rattle.ca_weights_verbs.proofs.VerbWeights.{verb-raises}
 use Rattle.ca_weights_verbs.specs.PostWeights.{InjectsNothing, packets_posted}

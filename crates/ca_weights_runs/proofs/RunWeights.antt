@@ -7,7 +7,7 @@ use Rattle.ca_agree.proofs.EventFitLemmas.{first-marks}
 use Rattle.ca_agree.proofs.PathEventLemmas.{event-agrees, opening-agrees}
 use Rattle.ca_agree.specs.Agreement.{HoldsAlong, PathsAgree}
 use Rattle.ca_agree.specs.Runs.{Comes}
-use Rattle.ca_agree_posts.specs.Posts.{life}
+use Rattle.ca_agree_starts.specs.ca_agree_posts.Posts.{life}
 use Rattle.ca_agree_starts.proofs.StartEventLemmas.{starts-along}
 use Rattle.ca_agree_starts.specs.Starts.{AgreeOnStart, HasBegun, StartsAgree, StartsInSlot, start_in}
 use Rattle.ca_base.specs.Configuration.{Configuration}
@@ -29,12 +29,12 @@ use Rattle.ca_model.specs.machine.Run.{Follows, Ran, go_on, run_from}
 use Rattle.ca_model.specs.machine.Sound.{AreLimited, CanBeMade, IsSoundWorld}
 use Rattle.ca_model.specs.machine.Step.{step}
 use Rattle.ca_model.specs.machine.World.{World, opening_world}
-use Rattle.ca_ties.proofs.FollowLemmas.{paths-follow}
-use Rattle.ca_ties_verbs.proofs.BeginEvents.{event-begins, opening-begins}
-use Rattle.ca_ties_verbs.specs.Beginnings.{AllBeginEmpty}
+use Rattle.ca_weights_verbs.proofs.of_ca_ties.FollowLemmas.{paths-follow}
+use Rattle.ca_weights_verbs.proofs.of_ca_ties_verbs.BeginEvents.{event-begins, opening-begins}
+use Rattle.ca_weights_verbs.specs.ca_ties_verbs.Beginnings.{AllBeginEmpty}
 use Rattle.ca_weights_runs.proofs.EventWeights.{event-lowers}
 use Rattle.ca_weights_runs.specs.Forward.{AllGoForward, GoesForward, IsOrderlyWorld, TurnIsAmong, packets_in, turning, turns_in, verbs_in}
-use Rattle.ca_weights_turns.specs.WorldWeights.{AreApart, is_among_names, world_weight}
+use Rattle.ca_weights_verbs.specs.ca_weights_turns.WorldWeights.{AreApart, is_among_names, world_weight}
 
 -- ---- the opening
 

@@ -26,21 +26,21 @@ use Rattle.ca_model.specs.machine.Row.{Effects}
 use Rattle.ca_model.specs.machine.Step.{step}
 use Rattle.ca_model.specs.machine.Turns.{Packet, Request_around, has_room_for, packet_sent, reaches_peer, request_plan}
 use Rattle.ca_model.specs.machine.World.{World}
-use Rattle.ca_ties.proofs.DeliverLemmas.{present-same}
-use Rattle.ca_ties.proofs.DeliverWalk.{Ends, ends-do}
-use Rattle.ca_ties.proofs.SendLemmas.{boxes_after, leads-left}
-use Rattle.ca_ties.proofs.TimerLemmas.{IsFoundAt, found-at}
+use Rattle.ca_weights_verbs.proofs.of_ca_ties.DeliverLemmas.{present-same}
+use Rattle.ca_weights_verbs.proofs.of_ca_ties.DeliverWalk.{Ends, ends-do}
+use Rattle.ca_weights_verbs.proofs.of_ca_ties.SendLemmas.{boxes_after, leads-left}
+use Rattle.ca_weights_verbs.proofs.of_ca_ties.TimerLemmas.{IsFoundAt, found-at}
 use Rattle.ca_ties_rows.proofs.PacketRowLemmas.{packet-row}
 use Rattle.ca_ties_rows.proofs.TurnLemmas.{packet-state}
 use Rattle.ca_ties_rows.specs.Moves.{IsRequestTurn, LeavesState, RequestTurnBy}
 use Rattle.ca_ties_rows.specs.Sides.{IsLaid, requester_in}
-use Rattle.ca_ties_verbs.proofs.PairLemmas.{replaces-turned}
-use Rattle.ca_weights.proofs.SentWeights.{packet-lowers}
-use Rattle.ca_weights.specs.Weights.{Lowers, queue_weight, sent_weight}
+use Rattle.ca_weights_verbs.proofs.of_ca_ties_verbs.PairLemmas.{replaces-turned}
+use Rattle.ca_weights_verbs.proofs.of_ca_weights.SentWeights.{packet-lowers}
+use Rattle.ca_weights_verbs.specs.ca_weights.Weights.{Lowers, queue_weight, sent_weight}
 use Rattle.ca_weights_runs.proofs.LaidLemmas.{direction_of, lies-somehow}
 use Rattle.ca_weights_runs.specs.Forward.{HasOneWidth, IsOrderlyWorld}
-use Rattle.ca_weights_turns.proofs.TurnLemmas.{request-turn-lowers}
-use Rattle.ca_weights_turns.specs.WorldWeights.{AreApart, is_among_names, world_weight}
+use Rattle.ca_weights_verbs.proofs.of_ca_weights_turns.TurnLemmas.{request-turn-lowers}
+use Rattle.ca_weights_verbs.specs.ca_weights_turns.WorldWeights.{AreApart, is_among_names, world_weight}
 use Rattle.ca_weights_verbs.proofs.OperationTurns.{turned-lowers}
 use Rattle.ca_weights_verbs.proofs.OperationWeights.{Falls}
 

@@ -16,8 +16,8 @@ use Rattle.ca_model.specs.machine.Sound.{IsSoundWorld}
 use Rattle.ca_model.specs.machine.Step.{step}
 use Rattle.ca_model.specs.machine.Turns.{reaches_peer}
 use Rattle.ca_model.specs.machine.World.{World}
-use Rattle.ca_ties_verbs.specs.Beginnings.{AllBeginEmpty}
-use Rattle.ca_weights_turns.specs.WorldWeights.{IsFreshAt, cursor_of, is_among_names}
+use Rattle.ca_weights_verbs.specs.ca_ties_verbs.Beginnings.{AllBeginEmpty}
+use Rattle.ca_weights_verbs.specs.ca_weights_turns.WorldWeights.{IsFreshAt, cursor_of, is_among_names}
 use Rattle.ca_weights_verbs.specs.PostWeights.{InjectsNothing, packets_posted}
 
 -- A world as histories come to it: it is sound, its queue pairs are steady and begin empty, and where one sends, its

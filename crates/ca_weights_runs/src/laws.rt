@@ -12,7 +12,7 @@ ghost use Rattle.ca_model.specs.machine.Step.{step};
 ghost use Rattle.ca_model.specs.machine.World.{World, opening_world};
 ghost use Rattle.ca_weights_runs.specs.Forward.{AllGoForward, GoesForward, IsOrderlyWorld, TurnIsAmong};
 ghost use Rattle.ca_weights_runs.specs.Forward.{packets_in, turns_in, verbs_in};
-ghost use Rattle.ca_weights_turns.specs.WorldWeights.{AreApart, world_weight};
+ghost use Rattle.ca_weights_verbs.specs.ca_weights_turns.WorldWeights.{AreApart, world_weight};
 
 /// Before the first event nothing is to be done.
 pub fn opening_weighs_nothing()

@@ -2,8 +2,8 @@
 use Rattle.std.proofs.Common.{◌≡◌, ℕ, ◌+◌, ◌<◌, ◌≤◌, Bool, true, false, if◌then◌else◌, List, Option, None, Some, refl, ap, sym, subst, ◌∙◌, arith, true≢false}
 use Rattle.std.proofs.lemmas.Option.{same_Some}
 use Rattle.std.specs.Prelude.{is_some}
-use Rattle.ca_agree.proofs.LeadsLemmas.{comes, leads-around, leads-queue, leads-unless}
-use Rattle.ca_agree.specs.Runs.{Comes, Leads}
+use Rattle.ca_ties.proofs.of_ca_agree.LeadsLemmas.{comes, leads-around, leads-queue, leads-unless}
+use Rattle.ca_ties.specs.ca_agree.Runs.{Comes, Leads}
 use Rattle.ca_base.specs.Configuration.{Configuration}
 use Rattle.ca_base.specs.declared.correspondent.Correspondent.{Correspondent}
 use Rattle.ca_base.specs.declared.lot.Lot.{Lot}
@@ -39,11 +39,11 @@ use Rattle.ca_ties.proofs.DeliverWalk.{Changes, Ends, Has, ends-do, leads-delive
 use Rattle.ca_ties.proofs.EntryLemmas.{IsLent, lent-envelope}
 use Rattle.ca_ties.proofs.SendLemmas.{boxes_after, leads-left}
 use Rattle.ca_ties.proofs.TimerLemmas.{IsFoundAt, found-at}
-use Rattle.ca_ties_rows.proofs.ArrivalLemmas.{arrival-state}
-use Rattle.ca_ties_rows.proofs.PacketRowLemmas.{packet-row}
-use Rattle.ca_ties_rows.proofs.TurnLemmas.{packet-state, respond-responses, respond-state}
-use Rattle.ca_ties_rows.specs.Moves.{IsRequestTurn, LeavesState, RequestTurnBy, SendsResponses}
-use Rattle.ca_ties_rows.specs.Sides.{IsLaid, requester_in}
+use Rattle.ca_ties.proofs.of_ca_ties_rows.ArrivalLemmas.{arrival-state}
+use Rattle.ca_ties.proofs.of_ca_ties_rows.PacketRowLemmas.{packet-row}
+use Rattle.ca_ties.proofs.of_ca_ties_rows.TurnLemmas.{packet-state, respond-responses, respond-state}
+use Rattle.ca_ties.specs.ca_ties_rows.Moves.{IsRequestTurn, LeavesState, RequestTurnBy, SendsResponses}
+use Rattle.ca_ties.specs.ca_ties_rows.Sides.{IsLaid, requester_in}
 use Rattle.ca_weights.proofs.ArrivalWeights.{arrival-lowers, respond-falls, response-weighs}
 use Rattle.ca_weights.proofs.SentWeights.{packet-lowers}
 use Rattle.ca_weights.specs.Weights.{Lowers, packet_weight, queue_weight, sent_weight}

@@ -1,5 +1,5 @@
 ghost use Rattle.std.specs.Prelude.{◌≡◌, ◌<◌, ◌≤◌, List, ℕ, true};
-ghost use Rattle.ca_agree.specs.Runs.{Comes};
+ghost use Rattle.ca_ties.specs.ca_agree.Runs.{Comes};
 ghost use Rattle.ca_base.specs.Configuration.{Configuration};
 ghost use Rattle.ca_base.specs.declared.lot.Lot.{Lot};
 ghost use Rattle.ca_base.specs.objects.QueuePair.{Present, QueuePair};
@@ -12,7 +12,7 @@ ghost use Rattle.ca_model.specs.machine.Requester.{Sends, turn_of};
 ghost use Rattle.ca_model.specs.machine.Sound.{IsSoundWorld};
 ghost use Rattle.ca_model.specs.machine.Step.{step};
 ghost use Rattle.ca_model.specs.machine.World.{World};
-ghost use Rattle.ca_ties_rows.specs.Sides.{IsLaid};
+ghost use Rattle.ca_ties.specs.ca_ties_rows.Sides.{IsLaid};
 ghost use Rattle.ca_weights_turns.specs.WorldWeights.{AreApart, IsFreshAt, SharesWidth};
 ghost use Rattle.ca_weights_turns.specs.WorldWeights.{cursor_of, is_among_names, world_weight};
 

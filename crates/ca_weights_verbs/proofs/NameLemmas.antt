@@ -9,7 +9,7 @@ use Rattle.ca_keys.specs.declared.names.QueueId.{QueueId}
 use Rattle.ca_laws_sound.proofs.SettledLemmas.{queue-refl}
 use Rattle.ca_model.specs.machine.World.{World}
 use Rattle.ca_ties_verbs.proofs.PairLemmas.{Replaces}
-use Rattle.ca_weights.proofs.SumLemmas.{sum-le}
+use Rattle.ca_weights_turns.proofs.of_ca_weights.SumLemmas.{sum-le}
 use Rattle.ca_weights_turns.proofs.PairLemmas.{sum-one}
 use Rattle.ca_weights_turns.specs.WorldWeights.{AreApart, is_among_names, pair_weight, world_weight}
 

@@ -34,9 +34,9 @@ use Rattle.ca_model.specs.machine.Sound.{IsSoundWorld}
 use Rattle.ca_model.specs.machine.Step.{step}
 use Rattle.ca_model.specs.machine.Turns.{Request_around, request_plan}
 use Rattle.ca_model.specs.machine.World.{Region_of, World}
-use Rattle.ca_ties.proofs.DeliverLemmas.{present-same}
-use Rattle.ca_ties.proofs.DeliverWalk.{Has, has-aside, has-turn, has-writes, puts-append}
-use Rattle.ca_ties.proofs.TimerLemmas.{IsFoundAt, found-at}
+use Rattle.ca_ties_verbs.proofs.of_ca_ties.DeliverLemmas.{present-same}
+use Rattle.ca_ties_verbs.proofs.of_ca_ties.DeliverWalk.{Has, has-aside, has-turn, has-writes, puts-append}
+use Rattle.ca_ties_verbs.proofs.of_ca_ties.TimerLemmas.{IsFoundAt, found-at}
 use Rattle.ca_ties_verbs.proofs.PairLemmas.{Replaces, replaces-turned}
 use Rattle.ca_weights_turns.specs.WorldWeights.{AreApart, is_among_names, mail_weight, pair_weight, world_weight}
 use Rattle.ca_weights_verbs.proofs.NameLemmas.{replaced-lowers}

@@ -23,8 +23,8 @@ use Rattle.ca_model.specs.machine.LocalOperations.{after_operation, operation_ef
 use Rattle.ca_model.specs.machine.Numbering.{Numbered, begun_requests, has_psn, is_answered_op, is_read, next_to_begin, numbers_of, psn_end, request_at, unfinished_requests}
 use Rattle.ca_model.specs.machine.Requester.{Performs, RequestTurn, Sends, Waits, is_fenced, next_request, turn_of, turn_refusals}
 use Rattle.ca_model.specs.machine.Row.{Effects}
-use Rattle.ca_weights.proofs.SumLemmas.{error-weighs, request-less, sum-le}
-use Rattle.ca_weights.specs.Weights.{psns_left, queue_weight, request_weight, requests_weight}
+use Rattle.ca_weights_turns.proofs.of_ca_weights.SumLemmas.{error-weighs, request-less, sum-le}
+use Rattle.ca_weights_turns.specs.ca_weights.Weights.{psns_left, queue_weight, request_weight, requests_weight}
 
 -- ---- which request it is
 

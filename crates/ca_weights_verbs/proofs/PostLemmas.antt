@@ -24,14 +24,14 @@ use Rattle.ca_model.specs.Requests.{is_local, list_length, psns_of, segments}
 use Rattle.ca_model.specs.machine.Invariants.{IsQueue, is_fresh, is_idle}
 use Rattle.ca_model.specs.machine.Numbering.{Numbered, is_read, numbers_of}
 use Rattle.ca_model.specs.machine.PostingVerbs.{after_flush, with_send}
-use Rattle.ca_ties_rows.proofs.PacketRowLemmas.{least-mtu}
+use Rattle.ca_ties_verbs.proofs.of_ca_ties_rows.PacketRowLemmas.{least-mtu}
 use Rattle.ca_ties_verbs.proofs.BeginLemmas.{init-idle}
 use Rattle.ca_ties_verbs.proofs.PollLemmas.{IsFreer, IsFreerSlot}
 use Rattle.ca_ties_verbs.proofs.PollLemmas.IsFreerSlot.{freer, untouched}
 use Rattle.ca_ties_verbs.proofs.WalkLemmas.{box_after, with_receive}
 use Rattle.ca_ties_verbs.specs.Beginnings.{BeginsEmpty}
-use Rattle.ca_weights.proofs.SumLemmas.{error-requests, error-weighs}
-use Rattle.ca_weights.specs.Weights.{answers_weight, psns_left, queue_weight, request_weight, requests_weight}
+use Rattle.ca_weights_turns.proofs.of_ca_weights.SumLemmas.{error-requests, error-weighs}
+use Rattle.ca_weights_turns.specs.ca_weights.Weights.{answers_weight, psns_left, queue_weight, request_weight, requests_weight}
 use Rattle.ca_weights_turns.specs.WorldWeights.{mail_weight, pair_weight}
 use Rattle.ca_weights_verbs.specs.PostWeights.{packets_of}
 

@@ -3,8 +3,8 @@ use Rattle.std.proofs.Common.{◌≡◌, ℕ, ◌+◌, ◌*◌, ◌≤◌, Bool,
 use Rattle.ca_agree.proofs.LeadsLemmas.{comes, leads-weaker}
 use Rattle.ca_agree.specs.Agreement.{peer_in}
 use Rattle.ca_agree.specs.Runs.{Comes, Leads}
-use Rattle.ca_agree_polls.proofs.PlanLemmas.{created, leads-create, leads-poll}
-use Rattle.ca_agree_polls.proofs.PostingLemmas.{Refuses}
+use Rattle.ca_ties_verbs.proofs.of_ca_agree_polls.PlanLemmas.{created, leads-create, leads-poll}
+use Rattle.ca_ties_verbs.proofs.of_ca_agree_polls.PostingLemmas.{Refuses}
 use Rattle.ca_base.specs.Configuration.{Configuration}
 use Rattle.ca_base.specs.declared.limits.TheConstants.{MIN_PATH_MTU}
 use Rattle.ca_base.specs.objects.CompletionQueue.{after_polls}
@@ -28,7 +28,7 @@ use Rattle.ca_model.specs.machine.Step.{plan, step, verb_plan}
 use Rattle.ca_model.specs.machine.VerbAnswers.{Call}
 use Rattle.ca_model.specs.machine.WindowVerbs.{dealloc_mw_plan}
 use Rattle.ca_model.specs.machine.World.{Cq_of, World, put}
-use Rattle.ca_ties.specs.Ties.{LeavesPairs}
+use Rattle.ca_ties_verbs.specs.ca_ties.Ties.{LeavesPairs}
 use Rattle.ca_ties_verbs.proofs.BeginLemmas.{created-has, found-begins}
 use Rattle.ca_ties_verbs.proofs.PairLemmas.{replaces-changed, replaces-turned}
 use Rattle.ca_ties_verbs.proofs.PollLemmas.{AreFreer, poll-freers}

@@ -1,7 +1,7 @@
 -- Which region a bind names. Contracts cite it.
 use Rattle.std.specs.Prelude.{ℕ, Option}
 use Rattle.std.specs.Option.{option_map_or}
-use Rattle.ca_keys.specs.declared.names.DomainId.{DomainId}
+use Rattle.ca_base.specs.ca_keys.declared.names.DomainId.{DomainId}
 use Rattle.ca_base.specs.declared.region_view.RegionView.{RegionView}
 use Rattle.ca_base.specs.objects.Slices.{slot_of_key}
 

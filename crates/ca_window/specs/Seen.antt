@@ -1,7 +1,7 @@
 -- What a window shows and what it stands for, while it is bound. Contracts cite it.
 use Rattle.std.specs.Prelude.{Option}
 use Rattle.std.specs.Option.{option_map}
-use Rattle.ca_keys.specs.declared.grant.Grant.{Grant}
+use Rattle.ca_base.specs.ca_keys.declared.grant.Grant.{Grant}
 use Rattle.ca_base.specs.objects.Window.{Window, grant_of_binding, key_of_window}
 use Rattle.ca_window.specs.declared.view.WindowView.{WindowView}
 

@@ -1,7 +1,7 @@
 ghost use Rattle.std.specs.Prelude.{◌≡◌, ◌%◌};
 ghost use Rattle.std.specs.Option.{option_copied, option_map_or};
-ghost use Rattle.ca_keys.specs.Numbers.{index_of};
-ghost use Rattle.ca_keys.specs.Refusals.{first_of};
+ghost use Rattle.ca_base.specs.ca_keys.Numbers.{index_of};
+ghost use Rattle.ca_base.specs.ca_keys.Refusals.{first_of};
 ghost use Rattle.ca_base.specs.objects.Window as windows;
 
 use ca_base::{RegionView, Rights, WindowError};

@@ -1,6 +1,6 @@
 ghost use Rattle.std.specs.Prelude.{◌≡◌, false};
 ghost use Rattle.std.specs.Option.{option_map_or};
-ghost use Rattle.ca_keys.specs.Equal.{queue_eq};
+ghost use Rattle.ca_base.specs.ca_keys.Equal.{queue_eq};
 
 use crate::binding::Binding;
 use crate::refusals::{binding_refusal, region_slot};
@@ -43,8 +43,8 @@ impl Window {
     ghost use Rattle.std.specs.Prelude.{◌<◌, ◌≤◌, ℕ, Some, None, true, OnOk, OnErr, IfOk, IfErr, IfSome};
     ghost use Rattle.std.specs.Option.{option_copied, option_map};
     ghost use Rattle.ca_base.specs.Grants.{grant_of_bind};
-    ghost use Rattle.ca_keys.specs.Refusals.{first_of};
-    ghost use Rattle.ca_keys.specs.declared.grant.Grant.{Grant};
+    ghost use Rattle.ca_base.specs.ca_keys.Refusals.{first_of};
+    ghost use Rattle.ca_base.specs.ca_keys.declared.grant.Grant.{Grant};
     ghost use Rattle.ca_base.specs.objects.Slices.{is_key_of};
     ghost use Rattle.ca_base.specs.objects.Window as windows;
     ghost use Rattle.ca_window.specs.Bind.{region_of_view};

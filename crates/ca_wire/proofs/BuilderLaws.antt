@@ -1,8 +1,8 @@
 -- The packets that the engines send are well formed.
 use Rattle.std.proofs.Common.{◌≡◌, ℕ, ◌^◌, ◌<◌, ◌≤◌, Bool, ◌&&◌, cond, List, length, Option, Some, None, refl, lit≤}
 use Rattle.std.specs.Prelude.{is_some}
-use Rattle.ca_keys.specs.declared.key.Key.{Key}
-use Rattle.ca_base.specs.declared.limits.TheConstants.{MAX_PAYLOAD_BYTES}
+use Rattle.ca_packet.specs.ca_keys.declared.key.Key.{Key}
+use Rattle.ca_packet.specs.ca_base.declared.limits.TheConstants.{MAX_PAYLOAD_BYTES}
 use Rattle.ca_packet.specs.declared.atomic_eth.AtomicEth.{AtomicEth}
 use Rattle.ca_wire.specs.declared.requests.SendKind.{SendKind}
 use Rattle.ca_wire.specs.declared.requests.SendKind.TheVariants.{Plain, WithImmediate, WithInvalidate}

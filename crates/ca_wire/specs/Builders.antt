@@ -1,6 +1,6 @@
 -- The packets that the engines send, each by its fields. Contracts cite it.
 use Rattle.std.specs.Prelude.{ℕ, Bool, true, ◌&&◌, if◌then◌else◌, List, Option, Some, None, is_some}
-use Rattle.ca_keys.specs.declared.key.Key.{Key}
+use Rattle.ca_packet.specs.ca_keys.declared.key.Key.{Key}
 use Rattle.ca_packet.specs.declared.aeth.Aeth.{Aeth}
 use Rattle.ca_packet.specs.declared.atomic_eth.AtomicEth.{AtomicEth}
 use Rattle.ca_packet.specs.declared.opcode.TheConstants.{SEND_FIRST, SEND_MIDDLE, SEND_LAST, SEND_LAST_WITH_IMMEDIATE, SEND_ONLY, SEND_ONLY_WITH_IMMEDIATE, RDMA_WRITE_FIRST, RDMA_WRITE_MIDDLE, RDMA_WRITE_LAST, RDMA_WRITE_LAST_WITH_IMMEDIATE, RDMA_WRITE_ONLY, RDMA_WRITE_ONLY_WITH_IMMEDIATE, RDMA_READ_REQUEST, RDMA_READ_RESPONSE_FIRST, RDMA_READ_RESPONSE_MIDDLE, RDMA_READ_RESPONSE_LAST, RDMA_READ_RESPONSE_ONLY, ACKNOWLEDGE, ATOMIC_ACKNOWLEDGE, CMP_SWAP, FETCH_ADD, SEND_LAST_WITH_INVALIDATE, SEND_ONLY_WITH_INVALIDATE}

@@ -1,5 +1,5 @@
 ghost use Rattle.std.specs.Prelude.{◌≡◌, ◌^◌, ◌<◌, ◌≤◌, length};
-ghost use Rattle.ca_base.specs.declared.limits.TheConstants.{MAX_PAYLOAD_BYTES};
+ghost use Rattle.ca_packet.specs.ca_base.declared.limits.TheConstants.{MAX_PAYLOAD_BYTES};
 ghost use Rattle.ca_wire.specs.Builders as packets;
 ghost use Rattle.ca_packet.specs.Packet.{IsWellFormed};
 ghost use Rattle.ca_wire.specs.Syndrome.{FitsSyndrome};

@@ -1,11 +1,11 @@
 ghost use Rattle.std.specs.Prelude.{ℕ, suc, ◌<◌, ◌-◌, ◌^◌};
 ghost use Rattle.ca_base.specs.Configuration.{Configuration};
 ghost use Rattle.ca_keys.specs.Memory.{ByteMap};
-ghost use Rattle.ca_model.specs.declared.event.Event.{Event};
-ghost use Rattle.ca_model.specs.machine.Frame.{Afterwards};
-ghost use Rattle.ca_model.specs.machine.Sound.{AreLimited, CanBeMade};
-ghost use Rattle.ca_model.specs.machine.Step.{step};
-ghost use Rattle.ca_model.specs.machine.World.{World, opening_world};
+ghost use Rattle.ca_laws_numbers.specs.ca_model.declared.event.Event.{Event};
+ghost use Rattle.ca_laws_numbers.specs.ca_model.machine.Frame.{Afterwards};
+ghost use Rattle.ca_laws_numbers.specs.ca_model.machine.Sound.{AreLimited, CanBeMade};
+ghost use Rattle.ca_laws_numbers.specs.ca_model.machine.Step.{step};
+ghost use Rattle.ca_laws_numbers.specs.ca_model.machine.World.{World, opening_world};
 ghost use Rattle.ca_worlds.specs.Worlds.{IsWorldAfter};
 
 /// The world before the first event comes up after none, whatever its memory holds, where the configuration keeps to its

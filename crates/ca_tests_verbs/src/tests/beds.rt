@@ -1,8 +1,8 @@
-ghost use Rattle.ca_verbs.specs.Passes.{IsOf};
+ghost use Rattle.ca_bed_fabric.specs.ca_verbs.Passes.{IsOf};
 
 use arrayvec::ArrayVec;
 use ca_base::{AdapterConfig, Config};
-use ca_verbs::{CloseError, Fabric, Pass};
+use ca_bed_fabric::ca_verbs::{CloseError, Fabric, Pass};
 use std::alloc::Global;
 use std::process::Abort;
 

@@ -1,13 +1,13 @@
 ghost use Rattle.std.specs.Thread.{IsSync};
-ghost use Rattle.ca_verbs.specs.Passes.{IsOf};
+ghost use Rattle.ca_bed_fabric.specs.ca_verbs.Passes.{IsOf};
 
 use crate::tests::beds::{BUFFER_BYTES, config, is, is_made, join_to, started, upper_half};
 use arrayvec::ArrayVec;
 use ca_base::{DomainId, Key, Piece, QueueId, SendOp, SendRequest, Slot, Verdict, first_address};
+use ca_bed_fabric::ca_verbs::{Fabric, Pass};
 use ca_bed_fabric::{answer, call, queue_pair, region, turn};
 use ca_model::{Answer, Entry, Mark, Verb};
 use ca_turns::Turn;
-use ca_verbs::{Fabric, Pass};
 use std::process::Abort;
 use std::sync::Wait;
 use std::thread::{Threads, join};

@@ -1,10 +1,10 @@
-ghost use Rattle.ca_verbs.specs.Passes.{IsOf};
+ghost use Rattle.ca_bed_fabric.specs.ca_verbs.Passes.{IsOf};
 
 use crate::tests::beds::{is, is_made, join_to, joined_when_refused, started, upper_half};
 use arrayvec::ArrayVec;
 use ca_base::{AdapterConfig, Config, DomainId, Slot};
+use ca_bed_fabric::ca_verbs::{Fabric, Pass, Receipt, TryError};
 use ca_model::{Entry, Verb};
-use ca_verbs::{Fabric, Pass, Receipt, TryError};
 use std::process::Abort;
 use std::thread::join;
 

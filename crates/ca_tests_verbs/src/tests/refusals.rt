@@ -1,11 +1,11 @@
 use crate::tests::beds::{config, is, is_made, started};
 use arrayvec::ArrayVec;
 use ca_base::{AdapterConfig, Config, DomainId, QueueId, Reason, Slot};
+use ca_bed_fabric::ca_verbs::{Fabric, Receipt, StartError, TryError};
 use ca_bed_fabric::call;
 use ca_mailbox::Weather;
 use ca_model::Verb;
 use ca_turns::Turn;
-use ca_verbs::{Fabric, Receipt, StartError, TryError};
 use std::alloc::Global;
 use std::process::Abort;
 

@@ -1,6 +1,6 @@
 use Rattle.std.proofs.Common.{rules}
 use Rattle.ca_held_reach.specs.Seen.{sight_of}
-use Rattle.ca_rows.specs.Arrival.{IsResponseOf}
+use Rattle.ca_responder.specs.ca_rows.Arrival.{IsResponseOf}
 use Rattle.ca_acts_arrivals.specs.Arrived.{shared_on}
 use Rattle.ca_acts_arrivals.proofs.MeetLemmas.{response_arrived}
 use Rattle.ca_acts_arrivals.proofs.ShelfLemmas.{shelf_same}

@@ -4,7 +4,7 @@ use Rattle.ca_base.specs.objects.SharedReceives.{SharedReceives}
 use Rattle.ca_held.specs.contracts.part.SrqSlot.{the_view}
 use Rattle.ca_held_reach.specs.Seen.{sight_of}
 use Rattle.ca_model.specs.machine.Delivery.{packet_arrived}
-use Rattle.ca_operations.specs.Taking.{Outcome, outcome_in}
+use Rattle.ca_responder.specs.ca_operations.Taking.{Outcome, outcome_in}
 use Rattle.ca_acts_arrivals.proofs.ShelfLemmas.{shelf_arrived, shelf_put}
 use Rattle.ca_acts_arrivals.proofs.arriving.take_request.Goals as goal
 

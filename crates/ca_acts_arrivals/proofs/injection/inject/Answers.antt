@@ -1,5 +1,5 @@
 use Rattle.std.proofs.Common.{◌≡◌, ◌∙◌, [], ◌∷◌, ◌++◌, None, Ok, Err, ap, refl, subst, sym}
-use Rattle.ca_acts.specs.Calls.{call_of}
+use Rattle.ca_acts_turns.specs.ca_acts.Calls.{call_of}
 use Rattle.ca_base.specs.Configuration.{configuration_in}
 use Rattle.ca_base.specs.objects.QueuePair.{Present}
 use Rattle.ca_held.specs.HeldView.{holding}

@@ -1,7 +1,7 @@
 use Rattle.std.proofs.Common.{◌∙◌, None, sym}
 use Rattle.ca_held_reach.specs.Seen.{sight_of}
 use Rattle.ca_model.specs.machine.Delivery.{arrival_row}
-use Rattle.ca_operations.specs.Taking.{outcome_in}
+use Rattle.ca_responder.specs.ca_operations.Taking.{outcome_in}
 use Rattle.ca_acts_arrivals.specs.Arrived.{told}
 use Rattle.ca_acts_arrivals.proofs.HeldLemmas.{can_find, can_meet, can_share, has_arrived, here}
 use Rattle.ca_acts_arrivals.proofs.injection.take_given.Goals as goal

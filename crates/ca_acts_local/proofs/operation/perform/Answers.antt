@@ -1,6 +1,6 @@
 use Rattle.std.proofs.Common.{◌≡◌, ◌∙◌, ◌++◌, Bool, true, sym, ap, subst}
-use Rattle.ca_acts.specs.Binders.{changed_by}
-use Rattle.ca_acts.specs.Outlets.{outlets_of, recv_slot, send_slot}
+use Rattle.ca_acts_turns.specs.ca_acts.Binders.{changed_by}
+use Rattle.ca_acts_turns.specs.ca_acts.Outlets.{outlets_of, recv_slot, send_slot}
 use Rattle.ca_acts_local.proofs.ChangeLemmas.{end-acts, end-of, end-receives, end-sends}
 use Rattle.ca_acts_local.proofs.PlanLemmas.{request-performs, request-queue, request-recv, request-send}
 use Rattle.ca_acts_local.proofs.ReadyLemmas.{outside, parts-ready}

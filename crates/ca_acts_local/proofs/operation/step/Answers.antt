@@ -7,7 +7,7 @@ use Rattle.ca_base.specs.objects.QueuePair.{Present}
 use Rattle.ca_held.specs.HeldView.{holding}
 use Rattle.ca_localops.specs.Errors.{FailsBy}
 use Rattle.ca_model.specs.machine.Requester.{turn_of}
-use Rattle.ca_reach_laws.specs.Ties.{with_reached}
+use Rattle.ca_acts_turns.specs.ca_reach_laws.Ties.{with_reached}
 use Rattle.ca_acts_local.proofs.operation.step.Goals as goal
 
 pub operate-requires-clause-parts : goal.operate-requires-clause-parts

@@ -3,7 +3,7 @@ use Rattle.ca_alone_run.proofs.CollectLemmas.{IsCollecting, collect-entry}
 use Rattle.ca_alone_run.proofs.collecting.history_of.Goals as goal
 use Rattle.ca_model.specs.Entries.{EntryValue}
 use Rattle.ca_model.specs.History.{IsEntry}
-use Rattle.ca_replay.specs.Replays.{history_of}
+use Rattle.ca_script_run.specs.ca_replay.Replays.{history_of}
 
 pub push-requires : goal.push-requires
 push-requires c =

@@ -1,6 +1,6 @@
 use Rattle.std.proofs.Common.{vec_len}
 use Rattle.ca_alone_run.proofs.CollectLemmas.{IsCollecting}
-use Rattle.ca_replay.specs.Replays.{history_of}
+use Rattle.ca_script_run.specs.ca_replay.Replays.{history_of}
 use Rattle.ca_alone_run.proofs.collecting.history_of.Given as goal
 
 abbrev pub invariant-loop-event : goal.invariant-loop-event

@@ -11,7 +11,7 @@ use Rattle.ca_lone.specs.Cover.{AreInReach}
 use Rattle.ca_model.specs.Entries.{EntryValue}
 use Rattle.ca_model.specs.machine.Run.{run_over}
 use Rattle.ca_opening.specs.Opening.{opening_bytes}
-use Rattle.ca_replay.specs.Replays.{history_of, marks_of_each}
+use Rattle.ca_script_run.specs.ca_replay.Replays.{history_of, marks_of_each}
 
 pub unreachable-requires : goal.unreachable-requires
 unreachable-requires c =

@@ -1,7 +1,7 @@
 use Rattle.std.proofs.Common.{ap, arith, subst, sym}
-use Rattle.ca_order.proofs.QuietLemmas.{rounds-ended}
-use Rattle.ca_order.specs.OfScript.{HasEnded}
-use Rattle.ca_order.specs.Order.{Stage, most_rounds}
+use Rattle.ca_engine.proofs.of_ca_order.QuietLemmas.{rounds-ended}
+use Rattle.ca_engine.specs.ca_order.OfScript.{HasEnded}
+use Rattle.ca_engine.specs.ca_order.Order.{Stage, most_rounds}
 use Rattle.ca_engine_laws.proofs.LoopLemmas.{loop-made-from}
 use Rattle.ca_engine_laws.proofs.laws.offers_from_a_stage_make_its_rounds.Goals as goal
 

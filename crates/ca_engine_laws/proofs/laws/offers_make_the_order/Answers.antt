@@ -1,7 +1,7 @@
 use Rattle.std.proofs.Common.{ap, reverse, subst, sym}
-use Rattle.ca_order.proofs.QuietLemmas.{order-ended}
-use Rattle.ca_order.specs.OfScript.{HasEnded}
-use Rattle.ca_order.specs.Order.{Stage}
+use Rattle.ca_engine.proofs.of_ca_order.QuietLemmas.{order-ended}
+use Rattle.ca_engine.specs.ca_order.OfScript.{HasEnded}
+use Rattle.ca_engine.specs.ca_order.Order.{Stage}
 use Rattle.ca_engine_laws.proofs.LoopLemmas.{loop-made}
 use Rattle.ca_engine_laws.proofs.laws.offers_make_the_order.Goals as goal
 

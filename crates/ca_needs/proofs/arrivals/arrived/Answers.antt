@@ -3,7 +3,7 @@ use Rattle.ca_base.specs.Configuration.{configuration_in}
 use Rattle.ca_model.specs.machine.Delivery.{arrival_row}
 use Rattle.ca_model.specs.machine.Parts.{row_needs}
 use Rattle.ca_model.specs.machine.Responses.{response_row}
-use Rattle.ca_rows.specs.Arrival.{IsResponseOf}
+use Rattle.ca_requester.specs.ca_rows.Arrival.{IsResponseOf}
 use Rattle.ca_needs.specs.Next.{next_of}
 use Rattle.ca_needs.proofs.KeyLemmas.{response_no_key}
 use Rattle.ca_needs.proofs.arrivals.arrived.Goals as goal

@@ -13,13 +13,13 @@ use Rattle.ca_model.specs.machine.Completions.{flush_marks, receive_failure}
 use Rattle.ca_answering.specs.Flush.{left_to_flush}
 use Rattle.ca_answering.specs.Numbers.{without_taken_receive}
 use Rattle.ca_model.specs.machine.Expected.{receive_asks, send_row}
-use Rattle.ca_rows.specs.Made.{written_all}
+use Rattle.ca_answering.specs.ca_rows.Made.{written_all}
 use Rattle.ca_model.specs.machine.Responses.{local_writes, writes_by}
-use Rattle.ca_qpstate.specs.Seen.{queue_seen}
+use Rattle.ca_answering.specs.ca_qpstate.Seen.{queue_seen}
 use Rattle.ca_operations.specs.Sends.{key_end, outcome_of_send, receiving}
 use Rattle.ca_operations.specs.Taking.{HasTaken, is_taken, outcome_in}
 use Rattle.ca_operations.proofs.EndLemmas.{ended-taken, refused-taken}
-use Rattle.ca_rows.proofs.WriteLemmas.{marks-count}
+use Rattle.ca_answering.proofs.of_ca_rows.WriteLemmas.{marks-count}
 use Rattle.ca_operations.proofs.StandInLemmas.{are_until}
 use Rattle.ca_operations.proofs.send.place_and_end.Goals as goal
 

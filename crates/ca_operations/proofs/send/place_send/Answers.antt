@@ -5,13 +5,13 @@ use Rattle.ca_packet.specs.Packet.{Fields}
 use Rattle.ca_model.specs.declared.mark.Mark.{Mark}
 use Rattle.ca_model.specs.machine.Arrivals.{with_flag}
 use Rattle.ca_model.specs.machine.Expected.{after_send_packet}
-use Rattle.ca_rows.specs.Made.{written_all}
+use Rattle.ca_answering.specs.ca_rows.Made.{written_all}
 use Rattle.ca_model.specs.machine.Responses.{local_writes, writes_by}
 use Rattle.ca_model.specs.machine.Row.{Effects}
 use Rattle.ca_answering.specs.Numbers.{CanPass, without_ack_request, without_taken_receive}
 use Rattle.ca_operations.specs.Sends.{IsFitting, outcome_of_send, receiving}
 use Rattle.ca_operations.proofs.OutcomeLemmas.{taken-as}
-use Rattle.ca_rows.proofs.WriteLemmas.{marks-count}
+use Rattle.ca_answering.proofs.of_ca_rows.WriteLemmas.{marks-count}
 use Rattle.ca_operations.proofs.SendLemmas.{acknowledged-send, placed, sent}
 use Rattle.ca_operations.proofs.send.place_send.Goals as goal
 

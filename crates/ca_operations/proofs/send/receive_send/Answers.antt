@@ -12,8 +12,8 @@ use Rattle.ca_model.specs.machine.Arrivals.{with_flag}
 use Rattle.ca_model.specs.machine.Expected.{receive_asks, receive_failure_effects, send_row}
 use Rattle.ca_model.specs.machine.Numbering.{list_asks}
 use Rattle.ca_model.specs.machine.Requester.{local_denial}
-use Rattle.ca_rows.specs.Asks.{AreAsksFor, IsGranted}
-use Rattle.ca_rows.proofs.AskLemmas.{can-judge, judge-behind, whole}
+use Rattle.ca_answering.specs.ca_rows.Asks.{AreAsksFor, IsGranted}
+use Rattle.ca_answering.proofs.of_ca_rows.AskLemmas.{can-judge, judge-behind, whole}
 use Rattle.ca_answering.specs.Numbers.{without_taken_receive}
 use Rattle.ca_operations.specs.Sends.{outcome_of_send, receiving}
 use Rattle.ca_operations.specs.Taking.{does, outcome_in}

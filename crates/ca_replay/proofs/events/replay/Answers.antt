@@ -1,9 +1,9 @@
 use Rattle.std.proofs.Common.{arith}
 use Rattle.ca_base.specs.Configuration.{configuration_of}
-use Rattle.ca_carried.proofs.EndEventLemmas.{whole-along}
+use Rattle.ca_caused_link.proofs.of_ca_carried.EndEventLemmas.{whole-along}
 use Rattle.ca_caused_link.proofs.HistoryLemmas.{caused-along}
-use Rattle.ca_judged.proofs.JudgeEventLemmas.{judged-along}
-use Rattle.ca_licensed.proofs.LicensedLemmas.{licensed-along}
+use Rattle.ca_caused_link.proofs.of_ca_judged.JudgeEventLemmas.{judged-along}
+use Rattle.ca_caused_link.proofs.of_ca_licensed.LicensedLemmas.{licensed-along}
 use Rattle.ca_model.specs.Carried.{Carried}
 use Rattle.ca_model.specs.Caused.{Caused}
 use Rattle.ca_model.specs.Judged.{Judged}
@@ -11,7 +11,7 @@ use Rattle.ca_model.specs.Licensed.{Licensed}
 use Rattle.ca_model.specs.Once.{Once}
 use Rattle.ca_model.specs.Ordered.{Ordered}
 use Rattle.ca_model.specs.machine.World.{opening_world}
-use Rattle.ca_once.proofs.WholeLemmas.{whole-along as once-along}
+use Rattle.ca_caused_link.proofs.of_ca_once.WholeLemmas.{whole-along as once-along}
 use Rattle.ca_opening.specs.Opening.{opening_bytes}
 use Rattle.ca_ordered.proofs.OrderedLemmas.{ordered-along}
 use Rattle.ca_replay.proofs.ReplayLemmas.{from_opening, is_lawful, makes_history}

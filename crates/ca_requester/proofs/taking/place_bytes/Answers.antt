@@ -1,7 +1,7 @@
 use Rattle.std.proofs.Common.{◌≤◌, ap, arith, refl, subst}
 use Rattle.ca_base.specs.objects.QueuePair.{QueuePair}
-use Rattle.ca_rows.proofs.WriteLemmas.{marks-count}
-use Rattle.ca_rows.specs.Made.{AreAdded}
+use Rattle.ca_sending.proofs.of_ca_rows.WriteLemmas.{marks-count}
+use Rattle.ca_sending.specs.ca_rows.Made.{AreAdded}
 use Rattle.ca_sending.proofs.FinishedLemmas.{few_finished}
 use Rattle.ca_sending.specs.Finished.{success_between}
 use Rattle.ca_requester.proofs.TakingLemmas.{has_answered}

@@ -1,4 +1,4 @@
-use Rattle.ca_keys.specs.Memory.{little_endian_bytes}
+use Rattle.ca_base.specs.ca_keys.Memory.{little_endian_bytes}
 use Rattle.ca_memory.specs.Number.{number_after}
 use Rattle.ca_memory.proofs.Places.{write-places}
 use Rattle.ca_memory.proofs.buffer.Buffer.swap.Goals as goal

@@ -1,4 +1,4 @@
-use Rattle.ca_verbs.specs.Passes.{IsOf}
+use Rattle.ca_bed_fabric.specs.ca_verbs.Passes.{IsOf}
 use Rattle.ca_tests_verbs.proofs.tests.passes.open_domain.Given as goal
 
 abbrev pub invariant-loop : goal.invariant-loop
