@@ -19,7 +19,7 @@ use Rattle.ca_laws_parts.specs.ca_laws_names.Placed.{IsConfigured, IsPlacedSlot,
 use Rattle.ca_laws_parts.proofs.ConfiguredLemmas.{parts-configured}
 use Rattle.ca_laws_parts.proofs.CountLemmas.{few-event}
 use Rattle.ca_laws_parts.proofs.NeedsLemmas.{listed-also, none-decided, none-first}
-use Rattle.ca_worlds.proofs.of_ca_laws_sound.SettledLemmas.{append-all}
+use Rattle.ca_laws_sound.proofs.SettledLemmas.{append-all}
 use Rattle.ca_model.specs.declared.event.Event.{Event}
 use Rattle.ca_model.specs.declared.event.Event.TheVariants as events
 use Rattle.ca_model.specs.declared.part_name.PartName.{PartName}
