@@ -8,18 +8,18 @@ use Rattle.ca_base.specs.Configuration.{Configuration}
 use Rattle.ca_keys.specs.Equal.{domain_eq, queue_eq, slot_eq}
 use Rattle.ca_keys.specs.Memory.{ByteMap, bytes_at}
 use Rattle.ca_base.specs.objects.Slices.{has_slot}
-use Rattle.ca_laws_windows.specs.ca_model.declared.event.Event.{Event}
-use Rattle.ca_laws_windows.specs.ca_model.declared.event.Event.TheVariants as events
-use Rattle.ca_laws_windows.specs.ca_model.declared.verb.Verb.{Verb}
-use Rattle.ca_laws_windows.specs.ca_model.declared.verb.Verb.TheVariants as verbs
-use Rattle.ca_laws_windows.specs.ca_model.machine.Frame.{Afterwards}
-use Rattle.ca_laws_windows.specs.ca_model.machine.Plan.{Finish, If, Look, Plan, Read, Stuck, Update, Write, perform, put_all, touches, write_all}
-use Rattle.ca_laws_windows.specs.ca_model.machine.Sound.{AreLimited, IsSettled, IsSoundWorld}
-use Rattle.ca_laws_windows.specs.ca_model.machine.Step.{has_buffer, has_named_slot, is_named, plan, run_of, step, verb_plan}
-use Rattle.ca_laws_windows.specs.ca_model.machine.VerbAnswers.{Call}
-use Rattle.ca_laws_windows.specs.ca_model.machine.World.{Byte_at, Cq_of, Domain_of, Mailbox_of, Name, Queue_of, Region_of, Srq_of, Thing, Window_of, World, get, opening_world, put}
-use Rattle.ca_laws_windows.proofs.of_ca_model.FrameLemmas.{after_write}
-use Rattle.ca_laws_windows.proofs.of_ca_laws_sound.SettledLemmas.{queue-path, slot-path, wait-map}
+use Rattle.ca_model.specs.declared.event.Event.{Event}
+use Rattle.ca_model.specs.declared.event.Event.TheVariants as events
+use Rattle.ca_model.specs.declared.verb.Verb.{Verb}
+use Rattle.ca_model.specs.declared.verb.Verb.TheVariants as verbs
+use Rattle.ca_model.specs.machine.Frame.{Afterwards}
+use Rattle.ca_model.specs.machine.Plan.{Finish, If, Look, Plan, Read, Stuck, Update, Write, perform, put_all, touches, write_all}
+use Rattle.ca_model.specs.machine.Sound.{AreLimited, IsSettled, IsSoundWorld}
+use Rattle.ca_model.specs.machine.Step.{has_buffer, has_named_slot, is_named, plan, run_of, step, verb_plan}
+use Rattle.ca_model.specs.machine.VerbAnswers.{Call}
+use Rattle.ca_model.specs.machine.World.{Byte_at, Cq_of, Domain_of, Mailbox_of, Name, Queue_of, Region_of, Srq_of, Thing, Window_of, World, get, opening_world, put}
+use Rattle.ca_model.proofs.FrameLemmas.{after_write}
+use Rattle.ca_laws_sound.proofs.SettledLemmas.{queue-path, slot-path, wait-map}
 use Rattle.ca_laws_names.specs.Placed.{IsConfigured, IsPlacedThing, IsPlacedWorld, IsVacant, is_configured}
 use Rattle.ca_laws_names.proofs.PlanLemmas.{AreConfigured, ArePlaced, IsFit, IsPlacedPlan, placed-touches}
 use Rattle.ca_laws_names.proofs.PlacedOperationLemmas.{request-placed}

@@ -23,20 +23,20 @@ use Rattle.ca_base.specs.objects.Region.{Region}
 use Rattle.ca_base.specs.objects.Slices.{slot_of_key}
 use Rattle.ca_base.specs.objects.WorkQueue.{items_from}
 use Rattle.ca_base.specs.objects.Window.{Binding, Window, after_binding, binding_refusals, without_binding}
-use Rattle.ca_laws_windows.specs.ca_model.machine.Around.{With_around, updates_of}
-use Rattle.ca_laws_windows.specs.ca_model.machine.LocalOperations.{Finishing, PlacedRegion, Bind1_plan, Bind2_plan, Fast_plan, Perform_op, With_former, With_named, bind1_changes, bind1_marks, bind1_refusal, bind2_changes, bind2_marks, bind2_refusal, drawn_by, fast_changes, fast_marks, fast_refusal, former_updates, invalidate_row, named_slot, named_updates, operation_effects, region_slot, view_named, window_slot}
-use Rattle.ca_laws_windows.specs.ca_model.machine.Numbering.{Numbered, begun_requests, has_psn, next_to_begin, numbers_of, request_at, unfinished_requests}
-use Rattle.ca_laws_windows.specs.ca_model.Requests.{is_local, psns_of}
-use Rattle.ca_laws_windows.specs.ca_model.machine.Plan.{Plan, Look, Finish, Update, Write, names_written}
-use Rattle.ca_laws_windows.specs.ca_model.machine.Requester.{RequestTurn, Waits, Performs, Sends, next_request, packet_row, turn_of, turn_refusals}
-use Rattle.ca_laws_windows.specs.ca_model.machine.Row.{Effects, queue_and_marks, region_under, unless_none}
-use Rattle.ca_laws_windows.specs.ca_model.machine.Step.{has_named_slot}
-use Rattle.ca_laws_windows.specs.ca_model.machine.Turns.{Request_around, has_room_for, request_plan}
-use Rattle.ca_laws_windows.specs.ca_model.machine.World.{World, Queue_of, Region_of, Window_of}
-use Rattle.ca_laws_windows.proofs.of_ca_laws_sound.NumberingLemmas.{all-found, all-got, all-taken}
-use Rattle.ca_laws_windows.proofs.of_ca_laws_sound.TurnLemmas.{all-fail}
-use Rattle.ca_laws_windows.proofs.of_ca_laws_sound.VerbLemmas.{all-dropped}
-use Rattle.ca_laws_windows.proofs.of_ca_laws_sound.WorldLemmas.{around_in, shared_of}
+use Rattle.ca_model.specs.machine.Around.{With_around, updates_of}
+use Rattle.ca_model.specs.machine.LocalOperations.{Finishing, PlacedRegion, Bind1_plan, Bind2_plan, Fast_plan, Perform_op, With_former, With_named, bind1_changes, bind1_marks, bind1_refusal, bind2_changes, bind2_marks, bind2_refusal, drawn_by, fast_changes, fast_marks, fast_refusal, former_updates, invalidate_row, named_slot, named_updates, operation_effects, region_slot, view_named, window_slot}
+use Rattle.ca_model.specs.machine.Numbering.{Numbered, begun_requests, has_psn, next_to_begin, numbers_of, request_at, unfinished_requests}
+use Rattle.ca_model.specs.Requests.{is_local, psns_of}
+use Rattle.ca_model.specs.machine.Plan.{Plan, Look, Finish, Update, Write, names_written}
+use Rattle.ca_model.specs.machine.Requester.{RequestTurn, Waits, Performs, Sends, next_request, packet_row, turn_of, turn_refusals}
+use Rattle.ca_model.specs.machine.Row.{Effects, queue_and_marks, region_under, unless_none}
+use Rattle.ca_model.specs.machine.Step.{has_named_slot}
+use Rattle.ca_model.specs.machine.Turns.{Request_around, has_room_for, request_plan}
+use Rattle.ca_model.specs.machine.World.{World, Queue_of, Region_of, Window_of}
+use Rattle.ca_laws_sound.proofs.NumberingLemmas.{all-found, all-got, all-taken}
+use Rattle.ca_laws_sound.proofs.TurnLemmas.{all-fail}
+use Rattle.ca_laws_sound.proofs.VerbLemmas.{all-dropped}
+use Rattle.ca_laws_sound.proofs.WorldLemmas.{around_in, shared_of}
 use Rattle.ca_laws_windows.proofs.WindowBindLemmas.{named-region}
 use Rattle.ca_laws_names.specs.Placed.{IsConfigured, IsPlacedBinding, IsPlacedThing}
 use Rattle.ca_laws_names.proofs.KeptLemmas.{Keeps, invalidate-keeps, operation-kept, packet-keeps}

@@ -30,21 +30,21 @@ use Rattle.ca_base.specs.objects.Slices.{has_queue, has_slot, slot_of_queue}
 use Rattle.ca_base.specs.objects.StateTable.{modify_refusals, queue_after_change, state_eq}
 use Rattle.ca_base.specs.objects.Window.{Window, after_draw, byte_drawn}
 use Rattle.ca_base.specs.objects.WorkQueue.{with_item}
-use Rattle.ca_laws_windows.specs.ca_model.declared.answer.Answer.TheVariants as answers
-use Rattle.ca_laws_windows.specs.ca_model.declared.answer.Refusal.TheVariants.{CqTooSmall, NoSuch, OutOfRange, WindowsBound}
-use Rattle.ca_laws_windows.specs.ca_model.declared.mark.Mark.{Mark}
-use Rattle.ca_laws_windows.specs.ca_model.machine.Around.{Around, completions_to, cq_updates}
-use Rattle.ca_laws_windows.specs.ca_model.machine.Completions.{flush_marks}
-use Rattle.ca_laws_windows.specs.ca_model.machine.Plan.{Plan, If, Look, Update, ◌:=◌}
-use Rattle.ca_laws_windows.specs.ca_model.machine.PostingVerbs.{Posted_send, after_flush, marks_of_flush, post_recv_plan, post_send_plan, with_send}
-use Rattle.ca_laws_windows.specs.ca_model.machine.QueuePairVerbs as QueuePairVerbs
-use Rattle.ca_laws_windows.specs.ca_model.machine.QueuePairVerbs.{Creation, With_present, With_shared, before_receives, beside, create_qp_plan, destroy_qp_plan, emptied_updates, has_bad_depth, has_no_room, has_queues, left_updates, modify_qp_plan, new_queue, places_held, query_qp_plan, receive_reserve, receive_room, send_reserved, user_updates, without_queue}
-use Rattle.ca_laws_windows.specs.ca_model.machine.Sound.{AreLimited, IsQueueOf}
-use Rattle.ca_laws_windows.specs.ca_model.machine.Step.{has_named_slot}
-use Rattle.ca_laws_windows.specs.ca_model.machine.VerbAnswers.{Answer_plan, Call, Refuse_plan, Unless_plan, of_change_refusals}
-use Rattle.ca_laws_windows.specs.ca_model.machine.World.{World, Cq_of, Domain_of, Mailbox_of, Queue_of, Srq_of, Window_of}
-use Rattle.ca_laws_windows.proofs.of_ca_laws_sound.VerbLemmas.{queue-slot}
-use Rattle.ca_laws_windows.proofs.of_ca_laws_sound.WorldLemmas.{around_in, shared_of}
+use Rattle.ca_model.specs.declared.answer.Answer.TheVariants as answers
+use Rattle.ca_model.specs.declared.answer.Refusal.TheVariants.{CqTooSmall, NoSuch, OutOfRange, WindowsBound}
+use Rattle.ca_model.specs.declared.mark.Mark.{Mark}
+use Rattle.ca_model.specs.machine.Around.{Around, completions_to, cq_updates}
+use Rattle.ca_model.specs.machine.Completions.{flush_marks}
+use Rattle.ca_model.specs.machine.Plan.{Plan, If, Look, Update, ◌:=◌}
+use Rattle.ca_model.specs.machine.PostingVerbs.{Posted_send, after_flush, marks_of_flush, post_recv_plan, post_send_plan, with_send}
+use Rattle.ca_model.specs.machine.QueuePairVerbs as QueuePairVerbs
+use Rattle.ca_model.specs.machine.QueuePairVerbs.{Creation, With_present, With_shared, before_receives, beside, create_qp_plan, destroy_qp_plan, emptied_updates, has_bad_depth, has_no_room, has_queues, left_updates, modify_qp_plan, new_queue, places_held, query_qp_plan, receive_reserve, receive_room, send_reserved, user_updates, without_queue}
+use Rattle.ca_model.specs.machine.Sound.{AreLimited, IsQueueOf}
+use Rattle.ca_model.specs.machine.Step.{has_named_slot}
+use Rattle.ca_model.specs.machine.VerbAnswers.{Answer_plan, Call, Refuse_plan, Unless_plan, of_change_refusals}
+use Rattle.ca_model.specs.machine.World.{World, Cq_of, Domain_of, Mailbox_of, Queue_of, Srq_of, Window_of}
+use Rattle.ca_laws_sound.proofs.VerbLemmas.{queue-slot}
+use Rattle.ca_laws_sound.proofs.WorldLemmas.{around_in, shared_of}
 use Rattle.ca_laws_names.specs.Placed.{IsConfigured, IsPlacedQueue, IsPlacedReservation, IsPlacedThing}
 use Rattle.ca_laws_names.proofs.KeptLemmas.{kept_of}
 use Rattle.ca_laws_names.proofs.PlanLemmas.{ArePlaced, IsFit, IsPlacedPlan, all-joined}

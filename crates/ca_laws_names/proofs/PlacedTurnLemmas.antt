@@ -18,24 +18,24 @@ use Rattle.ca_base.specs.objects.Mailbox.{Mailbox, after_delivery, after_send, b
 use Rattle.ca_base.specs.objects.QueuePair.{QueuePair, QueueSlot, NoQueue, Present, recv_cq_of, send_cq_of, srq_of}
 use Rattle.ca_base.specs.objects.SharedReceives.{SharedReceives, SrqSlot, after_receive_take}
 use Rattle.ca_base.specs.objects.Slices.{has_queue}
-use Rattle.ca_laws_windows.specs.ca_model.declared.answer.Answer.TheVariants as answers
-use Rattle.ca_laws_windows.specs.ca_model.declared.answer.Refusal.TheVariants.{NoSuch}
-use Rattle.ca_laws_windows.specs.ca_model.declared.mark.Mark.{Mark}
-use Rattle.ca_laws_windows.specs.ca_model.declared.mark.Mark.TheVariants as marks
-use Rattle.ca_laws_windows.specs.ca_model.machine.Arrivals.{next_receive}
-use Rattle.ca_laws_windows.specs.ca_model.machine.Around.{Around, With_around, With_queue, completions_to, cq_updates, shared_in, srq_updates, updates_of}
-use Rattle.ca_laws_windows.specs.ca_model.machine.Delivery.{Arrive, arrival_row, deliver_plan}
-use Rattle.ca_laws_windows.specs.ca_model.machine.HostVerbs.{inject_plan}
-use Rattle.ca_laws_windows.specs.ca_model.machine.Plan.{Plan, Stuck, Look, Finish, Update, ◌:=◌, Write, unless_refused}
-use Rattle.ca_laws_windows.specs.ca_model.machine.Respond.{respond_row}
-use Rattle.ca_laws_windows.specs.ca_model.machine.Row.{Effects, Row, Row_plan}
-use Rattle.ca_laws_windows.specs.ca_model.machine.Step.{has_named_slot}
-use Rattle.ca_laws_windows.specs.ca_model.machine.Timers.{after_timeout, after_wake, timeout_refusals, wake_refusals}
-use Rattle.ca_laws_windows.specs.ca_model.machine.Turns.{Fire, Leave_plan, Packet, Respond_around, Timeout_around, With_receives, has_room_for, packet_sent, reaches_peer, respond_plan, sent_updates, timeout_plan, wake_plan}
-use Rattle.ca_laws_windows.specs.ca_model.machine.VerbAnswers.{Call, Refuse_plan, answer_mark}
-use Rattle.ca_laws_windows.specs.ca_model.machine.World.{World, Cq_of, Mailbox_of, Queue_of, Srq_of}
-use Rattle.ca_laws_windows.proofs.of_ca_laws_sound.WorldLemmas.{IsThere, around_in, is-there, shared_of}
-use Rattle.ca_laws_windows.specs.ca_model.machine.Sound.{IsQueueOf}
+use Rattle.ca_model.specs.declared.answer.Answer.TheVariants as answers
+use Rattle.ca_model.specs.declared.answer.Refusal.TheVariants.{NoSuch}
+use Rattle.ca_model.specs.declared.mark.Mark.{Mark}
+use Rattle.ca_model.specs.declared.mark.Mark.TheVariants as marks
+use Rattle.ca_model.specs.machine.Arrivals.{next_receive}
+use Rattle.ca_model.specs.machine.Around.{Around, With_around, With_queue, completions_to, cq_updates, shared_in, srq_updates, updates_of}
+use Rattle.ca_model.specs.machine.Delivery.{Arrive, arrival_row, deliver_plan}
+use Rattle.ca_model.specs.machine.HostVerbs.{inject_plan}
+use Rattle.ca_model.specs.machine.Plan.{Plan, Stuck, Look, Finish, Update, ◌:=◌, Write, unless_refused}
+use Rattle.ca_model.specs.machine.Respond.{respond_row}
+use Rattle.ca_model.specs.machine.Row.{Effects, Row, Row_plan}
+use Rattle.ca_model.specs.machine.Step.{has_named_slot}
+use Rattle.ca_model.specs.machine.Timers.{after_timeout, after_wake, timeout_refusals, wake_refusals}
+use Rattle.ca_model.specs.machine.Turns.{Fire, Leave_plan, Packet, Respond_around, Timeout_around, With_receives, has_room_for, packet_sent, reaches_peer, respond_plan, sent_updates, timeout_plan, wake_plan}
+use Rattle.ca_model.specs.machine.VerbAnswers.{Call, Refuse_plan, answer_mark}
+use Rattle.ca_model.specs.machine.World.{World, Cq_of, Mailbox_of, Queue_of, Srq_of}
+use Rattle.ca_laws_sound.proofs.WorldLemmas.{IsThere, around_in, is-there, shared_of}
+use Rattle.ca_model.specs.machine.Sound.{IsQueueOf}
 use Rattle.ca_keys.specs.Refusals.{AllFail}
 use Rattle.ca_laws_names.specs.Placed.{IsConfigured, IsPlacedQueue, IsPlacedReservation, IsPlacedSlot, IsPlacedThing}
 use Rattle.ca_laws_names.proofs.KeptLemmas.{Keeps, Kept, RowKeeps, arrival-keeps, kept_of, respond-keeps, timeout-keeps}

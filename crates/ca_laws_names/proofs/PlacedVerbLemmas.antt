@@ -22,27 +22,27 @@ use Rattle.ca_base.specs.objects.SharedReceives.{SharedReceives, after_receive_p
 use Rattle.ca_base.specs.objects.Slices.{adapter_at, has_domain, has_queue, has_slot}
 use Rattle.ca_base.specs.objects.Window.{Binding, after_deallocation}
 use Rattle.ca_base.specs.objects.WorkQueue.{after_retire}
-use Rattle.ca_laws_windows.specs.ca_model.declared.answer.Answer.TheVariants as answers
-use Rattle.ca_laws_windows.specs.ca_model.declared.answer.Refusal.TheVariants.{NoSuch, QueueFull, TooLong}
-use Rattle.ca_laws_windows.specs.ca_model.Requests.{list_length}
+use Rattle.ca_model.specs.declared.answer.Answer.TheVariants as answers
+use Rattle.ca_model.specs.declared.answer.Refusal.TheVariants.{NoSuch, QueueFull, TooLong}
+use Rattle.ca_model.specs.Requests.{list_length}
 use Rattle.ca_base.specs.declared.limits.TheConstants.{MAX_MESSAGE_BYTES}
-use Rattle.ca_laws_windows.specs.ca_model.declared.mark.Mark.TheVariants as marks
+use Rattle.ca_model.specs.declared.mark.Mark.TheVariants as marks
 use Rattle.ca_base.specs.objects.Region.{with_window_unbound}
 use Rattle.ca_base.specs.objects.Window.{key_of_window}
-use Rattle.ca_laws_windows.specs.ca_model.machine.CompletionVerbs.{Poll_of, With_place, With_places, after_poll, create_cq_plan, create_srq_plan, destroy_cq_plan, destroy_srq_plan, poll_plan, receives_after_poll, slot_after_poll, source_of_completion}
-use Rattle.ca_laws_windows.specs.ca_model.machine.DomainVerbs.{alloc_pd_plan, dealloc_pd_plan}
-use Rattle.ca_laws_windows.specs.ca_model.machine.HostVerbs.{load_plan, store_plan}
-use Rattle.ca_laws_windows.specs.ca_model.machine.Plan.{Plan, If, Look, Update, ◌:=◌, byte_names}
-use Rattle.ca_laws_windows.specs.ca_model.machine.PostingVerbs.{post_srq_plan}
-use Rattle.ca_laws_windows.specs.ca_model.machine.RegionVerbs.{alloc_mr_plan, dereg_mr_plan, reg_mr_plan}
-use Rattle.ca_laws_windows.specs.ca_model.machine.Row.{region_under}
-use Rattle.ca_laws_windows.specs.ca_model.machine.Sound.{IsSettled}
-use Rattle.ca_laws_windows.specs.ca_model.machine.Step.{bytes_of_buffer, has_named_slot}
-use Rattle.ca_laws_windows.specs.ca_model.machine.VerbAnswers.{Answer_plan, Call, Refuse_plan}
-use Rattle.ca_laws_windows.specs.ca_model.machine.WindowVerbs.{With_binder, alloc_mw_plan, dealloc_mw_plan, queue_updates}
-use Rattle.ca_laws_windows.specs.ca_model.machine.World.{World, Cq_of, Domain_of, Queue_of, Region_of, Srq_of, Window_of}
-use Rattle.ca_laws_windows.proofs.of_ca_laws_sound.NumberingLemmas.{all-taken}
-use Rattle.ca_laws_windows.proofs.of_ca_laws_sound.VerbLemmas.{all-dropped}
+use Rattle.ca_model.specs.machine.CompletionVerbs.{Poll_of, With_place, With_places, after_poll, create_cq_plan, create_srq_plan, destroy_cq_plan, destroy_srq_plan, poll_plan, receives_after_poll, slot_after_poll, source_of_completion}
+use Rattle.ca_model.specs.machine.DomainVerbs.{alloc_pd_plan, dealloc_pd_plan}
+use Rattle.ca_model.specs.machine.HostVerbs.{load_plan, store_plan}
+use Rattle.ca_model.specs.machine.Plan.{Plan, If, Look, Update, ◌:=◌, byte_names}
+use Rattle.ca_model.specs.machine.PostingVerbs.{post_srq_plan}
+use Rattle.ca_model.specs.machine.RegionVerbs.{alloc_mr_plan, dereg_mr_plan, reg_mr_plan}
+use Rattle.ca_model.specs.machine.Row.{region_under}
+use Rattle.ca_model.specs.machine.Sound.{IsSettled}
+use Rattle.ca_model.specs.machine.Step.{bytes_of_buffer, has_named_slot}
+use Rattle.ca_model.specs.machine.VerbAnswers.{Answer_plan, Call, Refuse_plan}
+use Rattle.ca_model.specs.machine.WindowVerbs.{With_binder, alloc_mw_plan, dealloc_mw_plan, queue_updates}
+use Rattle.ca_model.specs.machine.World.{World, Cq_of, Domain_of, Queue_of, Region_of, Srq_of, Window_of}
+use Rattle.ca_laws_sound.proofs.NumberingLemmas.{all-taken}
+use Rattle.ca_laws_sound.proofs.VerbLemmas.{all-dropped}
 use Rattle.ca_laws_names.specs.Placed.{IsConfigured, IsPlacedBinding, IsPlacedQueue, IsPlacedReservation, IsPlacedSlot, IsPlacedThing}
 use Rattle.ca_laws_names.proofs.PlanLemmas.{AreConfigured, ArePlaced, IsFit, IsPlacedPlan, all-joined, bytes-in, under-in}
 use Rattle.ca_laws_names.proofs.PlacedTurnLemmas.{kept-placed}

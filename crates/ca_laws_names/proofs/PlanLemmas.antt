@@ -19,12 +19,12 @@ use Rattle.ca_base.specs.objects.LocalRequest.{window_refusal}
 use Rattle.ca_base.specs.objects.Region.{Region, RegionState, NoRegion, Free, Registered, FastRegistered, grant_in_state, grant_of_region, with_window_unbound}
 use Rattle.ca_base.specs.objects.Slices.{has_slot, is_key_of, names_region, names_window, slot_of_key}
 use Rattle.ca_base.specs.objects.Window.{Binding, Window, grant_of_binding, without_binding}
-use Rattle.ca_laws_windows.specs.ca_model.machine.Plan.{Plan, Stuck, Look, Read, If, Finish, Update, ◌:=◌, Write, byte_names, names_updated, names_written, touches}
-use Rattle.ca_laws_windows.specs.ca_model.machine.Row.{Ending, NotPossible, Does, Effects, Row, Row_plan, End_plan, With_grant, With_grants, With_bytes, With_writes, With_invalidation, first_denied_by, grant_if_fitting, grant_over, region_under, unless_none}
-use Rattle.ca_laws_windows.specs.ca_model.machine.Step.{bytes_of_buffer}
-use Rattle.ca_laws_windows.specs.ca_model.machine.World.{World, Name, Byte_at, Region_of, Window_of, get}
-use Rattle.ca_laws_windows.specs.ca_model.machine.Sound.{IsSoundState, IsSoundWorld, LieIn}
-use Rattle.ca_laws_windows.proofs.of_ca_laws_sound.WorldLemmas.{EndingDoes, RowDoes}
+use Rattle.ca_model.specs.machine.Plan.{Plan, Stuck, Look, Read, If, Finish, Update, ◌:=◌, Write, byte_names, names_updated, names_written, touches}
+use Rattle.ca_model.specs.machine.Row.{Ending, NotPossible, Does, Effects, Row, Row_plan, End_plan, With_grant, With_grants, With_bytes, With_writes, With_invalidation, first_denied_by, grant_if_fitting, grant_over, region_under, unless_none}
+use Rattle.ca_model.specs.machine.Step.{bytes_of_buffer}
+use Rattle.ca_model.specs.machine.World.{World, Name, Byte_at, Region_of, Window_of, get}
+use Rattle.ca_model.specs.machine.Sound.{IsSoundState, IsSoundWorld, LieIn}
+use Rattle.ca_laws_sound.proofs.WorldLemmas.{EndingDoes, RowDoes}
 use Rattle.ca_laws_names.specs.Placed.{IsConfigured, IsPlacedBinding, IsPlacedThing, IsPlacedWorld}
 
 abbrev pub AreConfigured : Configuration → List Name → Type 0

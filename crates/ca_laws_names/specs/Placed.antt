@@ -13,8 +13,8 @@ use Rattle.ca_base.specs.objects.Region.{vacant_region}
 use Rattle.ca_base.specs.objects.SharedReceives.{vacant_srq}
 use Rattle.ca_base.specs.objects.Slices.{has_domain, has_queue, has_slot}
 use Rattle.ca_base.specs.objects.Window.{Binding, vacant_window}
-use Rattle.ca_laws_windows.specs.ca_model.machine.Step.{bytes_of_buffer, has_named_slot}
-use Rattle.ca_laws_windows.specs.ca_model.machine.World.{World, Name, Domain_of, Region_of, Window_of, Cq_of, Srq_of, Queue_of, Mailbox_of, Byte_at, Thing, get}
+use Rattle.ca_model.specs.machine.Step.{bytes_of_buffer, has_named_slot}
+use Rattle.ca_model.specs.machine.World.{World, Name, Domain_of, Region_of, Window_of, Cq_of, Srq_of, Queue_of, Mailbox_of, Byte_at, Thing, get}
 
 -- the thing of this name is configured: its domain, its slot, or the buffer of its byte, which has the byte
 abbrev pub is_configured : Configuration → Name → Bool

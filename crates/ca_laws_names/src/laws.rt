@@ -4,12 +4,12 @@ ghost use Rattle.ca_base.specs.Configuration.{Configuration};
 ghost use Rattle.ca_keys.specs.Memory.{ByteMap};
 ghost use Rattle.ca_keys.specs.declared.names.Slot.{Slot};
 ghost use Rattle.ca_laws_names.specs.Placed.{IsPlacedWorld, is_configured};
-ghost use Rattle.ca_laws_windows.specs.ca_model.declared.event.Event.{Event};
-ghost use Rattle.ca_laws_windows.specs.ca_model.machine.Frame.{Afterwards};
-ghost use Rattle.ca_laws_windows.specs.ca_model.machine.Plan.{touches};
-ghost use Rattle.ca_laws_windows.specs.ca_model.machine.Sound.{AreLimited, IsSoundWorld};
-ghost use Rattle.ca_laws_windows.specs.ca_model.machine.Step.{plan, step};
-ghost use Rattle.ca_laws_windows.specs.ca_model.machine.World.{World, Queue_of, opening_world};
+ghost use Rattle.ca_model.specs.declared.event.Event.{Event};
+ghost use Rattle.ca_model.specs.machine.Frame.{Afterwards};
+ghost use Rattle.ca_model.specs.machine.Plan.{touches};
+ghost use Rattle.ca_model.specs.machine.Sound.{AreLimited, IsSoundWorld};
+ghost use Rattle.ca_model.specs.machine.Step.{plan, step};
+ghost use Rattle.ca_model.specs.machine.World.{World, Queue_of, opening_world};
 
 /// The world before the first event is placed: nothing stands in it.
 pub fn opening_world_is_placed()

@@ -32,7 +32,7 @@ use Rattle.ca_laws_names.proofs.PlacedTurnLemmas.{IsPlacedHere, placed-here}
 use Rattle.ca_laws_names.proofs.PlacedVerbLemmas.{domain-in, source-in}
 use Rattle.ca_laws_names.proofs.PlanLemmas.{IsFit}
 use Rattle.ca_laws_parts.proofs.NeedsLemmas.{listed-also}
-use Rattle.ca_laws_names.proofs.of_ca_laws_sound.SettledLemmas.{append-all}
+use Rattle.ca_laws_sound.proofs.SettledLemmas.{append-all}
 use Rattle.ca_model.specs.declared.event.Event.{Event}
 use Rattle.ca_model.specs.declared.event.Event.TheVariants as events
 use Rattle.ca_model.specs.declared.part_name.PartName.{PartName}

@@ -41,9 +41,9 @@ use Rattle.ca_model.specs.machine.Invariants.{IsQueue, IsSharedReceives}
 use Rattle.ca_model.specs.declared.part_name.PartName.TheVariants as names
 use Rattle.ca_model.specs.machine.Parts.{By, Enough, Needs, Part, also, around_needs, arrival_needs, ask_needs, asks_needs, bind_needs, buffer_needs, drawing_needs, emptying_needs, ending_needs, event_needs, listed, operation_needs, part, peer_needs, places_needs, present_needs, queues_needs, region_needs, region_part, request_needs, respond_needs, row_needs, turn_needs, verb_needs, where_some, window_needs}
 use Rattle.ca_model.specs.machine.Sound.{IsQueueOf, IsSoundWorld}
-use Rattle.ca_laws_names.proofs.of_ca_laws_sound.RespondLemmas.{arrival-good, respond-good}
-use Rattle.ca_laws_names.proofs.of_ca_laws_sound.TurnLemmas.{packet-good}
-use Rattle.ca_laws_names.proofs.of_ca_laws_sound.WorldLemmas.{around_in, shared_of}
+use Rattle.ca_laws_sound.proofs.RespondLemmas.{arrival-good, respond-good}
+use Rattle.ca_laws_sound.proofs.TurnLemmas.{packet-good}
+use Rattle.ca_laws_sound.proofs.WorldLemmas.{around_in, shared_of}
 use Rattle.ca_laws_parts.proofs.NeedsLemmas.{listed-also}
 use Rattle.ca_model.specs.machine.Seen.{asks_window}
 use Rattle.ca_model.specs.machine.Around.{shared_in}

@@ -9,7 +9,7 @@ use Rattle.ca_model.specs.machine.Step.{is_named, plan}
 use Rattle.ca_model.specs.machine.World.{World}
 use Rattle.ca_model.specs.declared.part_name.PartName.{PartName}
 use Rattle.ca_model.specs.declared.verb.Verb.{Verb}
-use Rattle.ca_laws_names.proofs.of_ca_laws_sound.SettledLemmas.{all-map}
+use Rattle.ca_laws_sound.proofs.SettledLemmas.{all-map}
 use Rattle.ca_laws_parts.proofs.NeedsLemmas.{AreHeld, none-held}
 use Rattle.ca_model.specs.machine.Parts.{Enough, IsAmong, event_needs, event_parts, listed, next_part, part_of, verb_needs}
 use Rattle.ca_model.specs.machine.Sound.{IsSoundWorld}

@@ -3,7 +3,7 @@ use Rattle.std.proofs.Common.{◌≡◌, ◌∙◌, ℕ, zero, suc, ◌+◌, ◌
 use Rattle.std.proofs.lemmas.Bool.{eq-eqb}
 use Rattle.std.proofs.lemmas.Option.{none-some}
 use Rattle.std.specs.List.{AllByRecursion}
-use Rattle.ca_laws_names.proofs.of_ca_laws_sound.SettledLemmas.{domain-refl, queue-refl, slot-refl}
+use Rattle.ca_laws_sound.proofs.SettledLemmas.{domain-refl, queue-refl, slot-refl}
 use Rattle.ca_model.specs.declared.part_name.PartName.{PartName}
 use Rattle.ca_model.specs.declared.part_name.PartName.TheVariants as names
 use Rattle.ca_model.specs.machine.Parts.{By, Enough, IsAmong, Needs, Part, ShowsHeld, also, gathered, is_held, listed, next_part, part_eq, part_of}

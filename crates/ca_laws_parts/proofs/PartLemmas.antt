@@ -52,8 +52,8 @@ use Rattle.ca_model.specs.machine.Parts.{By, Enough, IsAmong, Needs, Part, also,
 use Rattle.ca_laws_parts.proofs.NeedsLemmas.{listed-also}
 use Rattle.ca_model.specs.machine.Sound.{IsQueueOf, IsSoundWorld, IsSoundState, LieIn}
 use Rattle.ca_laws_parts.proofs.TouchLemmas.{AskIn, EndingIn, GrantIn, InBuffers, NamesIn, RegionIn, TouchesIn, WritesAt, touches-row, updated-append}
-use Rattle.ca_laws_names.proofs.of_ca_laws_sound.TurnLemmas.{all-fail}
-use Rattle.ca_laws_names.proofs.of_ca_laws_sound.WorldLemmas.{around_in, shared_of}
+use Rattle.ca_laws_sound.proofs.TurnLemmas.{all-fail}
+use Rattle.ca_laws_sound.proofs.WorldLemmas.{around_in, shared_of}
 use Rattle.ca_laws_parts.proofs.WriteLemmas.{RowWrites, arrival-writes, respond-writes}
 
 -- a name whose part is among these

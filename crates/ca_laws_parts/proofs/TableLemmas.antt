@@ -30,7 +30,7 @@ use Rattle.ca_model.specs.machine.Parts.{Enough, IsAmong, Needs, Part, around_ne
 use Rattle.ca_model.specs.machine.Sound.{IsSoundWorld}
 use Rattle.ca_laws_parts.proofs.PartLemmas.{Given, In, Included, IsAround, around-given, around-in, around_parts, former-region, given-first, given-second, left-in, row-in, turn-in, updates-in}
 use Rattle.ca_laws_parts.proofs.TouchLemmas.{NamesIn, TouchesIn, WritesAt, unless-in, updated-append}
-use Rattle.ca_laws_names.proofs.of_ca_laws_sound.WorldLemmas.{around_in, shared_of}
+use Rattle.ca_laws_sound.proofs.WorldLemmas.{around_in, shared_of}
 use Rattle.ca_laws_parts.proofs.WriteLemmas.{invalidate-writes, packet-writes}
 
 -- how an operation's plan may go on

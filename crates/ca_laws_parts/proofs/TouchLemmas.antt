@@ -22,7 +22,7 @@ use Rattle.ca_model.specs.machine.Plan.{Plan, Stuck, Look, Read, If, Finish, Upd
 use Rattle.ca_model.specs.machine.Row.{Ending, NotPossible, Does, Effects, Row, Row_plan, End_plan, With_grant, With_grants, With_bytes, With_writes, With_invalidation, first_denied_by, grant_if_fitting, grant_over, region_under, unless_none}
 use Rattle.ca_model.specs.machine.Seen.{asks_window, grant_in}
 use Rattle.ca_model.specs.machine.World.{World, Name, Byte_at, Region_of, Window_of, get}
-use Rattle.ca_laws_names.proofs.of_ca_laws_sound.WorldLemmas.{EndingDoes, RowDoes}
+use Rattle.ca_laws_sound.proofs.WorldLemmas.{EndingDoes, RowDoes}
 
 abbrev pub NamesIn : (Name → Type 0) → List Name → Type 0
 NamesIn A ns = AllByRecursion A ns

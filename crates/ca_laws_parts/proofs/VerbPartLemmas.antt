@@ -56,7 +56,7 @@ use Rattle.ca_model.specs.machine.Parts.{Enough, IsAmong, Needs, Part, drawing_n
 use Rattle.ca_model.specs.machine.Sound.{IsSoundWorld}
 use Rattle.ca_laws_parts.proofs.PartLemmas.{Given, In, Included, around-given, around-in, around_parts, inject-in, present-in, srq-in}
 use Rattle.ca_laws_parts.proofs.TouchLemmas.{InBuffers, NamesIn, TouchesIn, bytes-in, names-append}
-use Rattle.ca_laws_names.proofs.of_ca_laws_sound.WorldLemmas.{around_in, shared_of}
+use Rattle.ca_laws_sound.proofs.WorldLemmas.{around_in, shared_of}
 
 -- nothing is changed
 nothing : (ps : List PartName) → NamesIn (In ps) [] × NamesIn (In ps) []

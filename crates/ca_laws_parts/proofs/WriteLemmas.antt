@@ -55,7 +55,7 @@ use Rattle.ca_packet.specs.Decoding.{packet_in}
 use Rattle.ca_model.specs.machine.Delivery.{arrival_drops, arrival_row, packet_arrived}
 use Rattle.ca_model.specs.machine.Respond.{answer_turn, respond_refusals, respond_row}
 use Rattle.ca_laws_parts.proofs.TouchLemmas.{WritesIn}
-use Rattle.ca_laws_names.proofs.of_ca_laws_sound.WorldLemmas.{EndingDoes, RowDoes}
+use Rattle.ca_laws_sound.proofs.WorldLemmas.{EndingDoes, RowDoes}
 use Rattle.ca_model.specs.machine.LocalOperations.{invalidate_row, operation_effects}
 use Rattle.ca_model.specs.machine.Requester.{denied_list_effects, is_outstanding, is_too_much, packet_asks, packet_row, sent_packet}
 

@@ -7,8 +7,8 @@ use Rattle.ca_keys.specs.Equal.{queue_eq, slot_eq}
 use Rattle.ca_base.specs.objects.QueuePair.{QueueSlot}
 use Rattle.ca_base.specs.objects.Region.{Region, grant_of_region}
 use Rattle.ca_base.specs.objects.Window.{Binding, Window}
-use Rattle.ca_laws_sound.specs.ca_model.Past.{with_at}
-use Rattle.ca_laws_sound.specs.ca_model.machine.Row.{region_under}
+use Rattle.ca_model.specs.Past.{with_at}
+use Rattle.ca_model.specs.machine.Row.{region_under}
 use Rattle.ca_laws_windows.specs.Bindings.{AreBound, AreCounted, IsCounted, IsOne, LiesIn, is_bound_by, is_bound_in, windows_of}
 use Rattle.ca_laws_sound.proofs.SettledLemmas.{queue-refl, slot-path, slot-refl}
 

@@ -12,8 +12,8 @@ use Rattle.ca_base.specs.objects.LocalRequest.{of_window, region_refusal, unname
 use Rattle.ca_base.specs.objects.QueuePair.{Present, QueuePair}
 use Rattle.ca_base.specs.objects.Slices.{has_slot, is_key_of, names_region, names_window, slot_of_key}
 use Rattle.ca_base.specs.objects.Window.{Binding, is_of_other_queue, window_invalidation_refusals}
-use Rattle.ca_laws_sound.specs.ca_model.machine.Seen.{refusal_in}
-use Rattle.ca_laws_sound.specs.ca_model.machine.World.{World}
+use Rattle.ca_model.specs.machine.Seen.{refusal_in}
+use Rattle.ca_model.specs.machine.World.{World}
 use Rattle.ca_laws_windows.specs.Bindings.{IsBoundWorld, windows_of}
 use Rattle.ca_laws_windows.proofs.BindingLemmas.{counted-binding}
 use Rattle.ca_keys.specs.Refusals.{AllFail}

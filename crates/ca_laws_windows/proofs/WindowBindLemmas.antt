@@ -16,11 +16,11 @@ use Rattle.ca_base.specs.objects.Region.{Region, grant_of_region, has_other_key,
 use Rattle.ca_keys.specs.Numbers.{is_window_key}
 use Rattle.ca_base.specs.objects.Slices.{has_slot, is_key_of, names_region, slot_of_key}
 use Rattle.ca_base.specs.objects.Window.{Binding, Window, is_within}
-use Rattle.ca_laws_sound.specs.ca_model.Past.{with_at}
-use Rattle.ca_laws_sound.specs.ca_model.machine.LocalOperations.{PlacedRegion, view_named}
-use Rattle.ca_laws_sound.specs.ca_model.machine.Plan.{◌:=◌}
-use Rattle.ca_laws_sound.specs.ca_model.machine.Row.{region_under}
-use Rattle.ca_laws_sound.specs.ca_model.machine.World.{World, Region_of, Window_of}
+use Rattle.ca_model.specs.Past.{with_at}
+use Rattle.ca_model.specs.machine.LocalOperations.{PlacedRegion, view_named}
+use Rattle.ca_model.specs.machine.Plan.{◌:=◌}
+use Rattle.ca_model.specs.machine.Row.{region_under}
+use Rattle.ca_model.specs.machine.World.{World, Region_of, Window_of}
 use Rattle.ca_laws_windows.specs.Bindings.{IsBoundWorld, LiesIn, is_bound_by, is_bound_in, windows_of}
 use Rattle.ca_laws_windows.proofs.BindingLemmas.{AreSameGrants, moved-bound, one}
 use Rattle.ca_laws_windows.proofs.WindowWorldLemmas.{Leaves, queue-counts, unbound-grants}

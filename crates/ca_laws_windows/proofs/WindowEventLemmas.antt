@@ -9,13 +9,13 @@ use Rattle.ca_base.specs.Configuration.{Configuration}
 use Rattle.ca_base.specs.objects.Mailbox.{with_peer}
 use Rattle.ca_base.specs.objects.QueuePair.{QueuePair, QueueSlot, NoQueue, Present, is_present, recv_cq_of, send_cq_of, srq_of, with_all_flushed}
 use Rattle.ca_base.specs.objects.SharedReceives.{SrqSlot, SharedReceives, after_receive_post, after_receives_retire, is_full_of_receives}
-use Rattle.ca_laws_sound.specs.ca_model.declared.mark.Mark.{Mark}
-use Rattle.ca_laws_sound.specs.ca_model.declared.mark.Mark.TheVariants as marks
-use Rattle.ca_laws_sound.specs.ca_model.machine.Around.{Around, completions_to, cq_updates, srq_updates}
-use Rattle.ca_laws_sound.specs.ca_model.machine.Plan.{Plan, Stuck, Look, Finish, Update, ◌:=◌, Write, put_all, If, Read, perform, write_all}
-use Rattle.ca_laws_sound.specs.ca_model.machine.Row.{region_under}
-use Rattle.ca_laws_sound.specs.ca_model.machine.World.{World, Mailbox_of, Queue_of, put, Cq_of, Domain_of, Srq_of, Window_of, Name, Byte_at, Region_of, Thing, get, opening_world}
-use Rattle.ca_laws_sound.specs.ca_model.machine.Sound.{IsQueueOf, IsSoundWorld}
+use Rattle.ca_model.specs.declared.mark.Mark.{Mark}
+use Rattle.ca_model.specs.declared.mark.Mark.TheVariants as marks
+use Rattle.ca_model.specs.machine.Around.{Around, completions_to, cq_updates, srq_updates}
+use Rattle.ca_model.specs.machine.Plan.{Plan, Stuck, Look, Finish, Update, ◌:=◌, Write, put_all, If, Read, perform, write_all}
+use Rattle.ca_model.specs.machine.Row.{region_under}
+use Rattle.ca_model.specs.machine.World.{World, Mailbox_of, Queue_of, put, Cq_of, Domain_of, Srq_of, Window_of, Name, Byte_at, Region_of, Thing, get, opening_world}
+use Rattle.ca_model.specs.machine.Sound.{IsQueueOf, IsSoundWorld}
 use Rattle.ca_laws_sound.proofs.SettledLemmas.{queue-path, slot-path}
 use Rattle.ca_laws_sound.proofs.WorldLemmas.{EndsIn, around_in, ends-around, shared_of}
 use Rattle.ca_base.specs.declared.change.Change as state_change
@@ -36,29 +36,29 @@ use Rattle.ca_base.specs.objects.StateTable.{modify_refusals, queue_after_change
 use Rattle.ca_base.specs.objects.Window.{Window, after_draw, byte_drawn, Binding, after_deallocation, key_of_window}
 use Rattle.ca_base.specs.objects.WorkQueue.{with_item}
 use Rattle.ca_base.specs.Grants.{next_low}
-use Rattle.ca_laws_sound.specs.ca_model.declared.answer.Answer.TheVariants as answers
-use Rattle.ca_laws_sound.specs.ca_model.declared.answer.Refusal.TheVariants.{CqTooSmall, NoSuch, OutOfRange, QueueFull, TooLong, WindowsBound}
-use Rattle.ca_laws_sound.specs.ca_model.Requests.{list_length}
-use Rattle.ca_laws_sound.specs.ca_model.machine.CompletionVerbs.{Poll_of, With_places, after_poll, poll_plan, receives_after_poll, slot_after_poll, source_of_completion}
-use Rattle.ca_laws_sound.specs.ca_model.machine.Completions.{flush_marks}
-use Rattle.ca_laws_sound.specs.ca_model.machine.PostingVerbs.{Posted_send, after_flush, marks_of_flush, post_recv_plan, post_send_plan, post_srq_plan, with_send}
-use Rattle.ca_laws_sound.specs.ca_model.machine.QueuePairVerbs
-use Rattle.ca_laws_sound.specs.ca_model.machine.QueuePairVerbs.{Creation, With_present, With_shared, before_receives, beside, create_qp_plan, destroy_qp_plan, emptied_updates, has_bad_depth, has_no_room, left_updates, modify_qp_plan, new_queue, places_held, receive_reserve, receive_room, send_reserved, user_updates, without_queue}
-use Rattle.ca_laws_sound.specs.ca_model.machine.VerbAnswers.{Answer_plan, Call, Refuse_plan, Unless_plan, of_change_refusals}
+use Rattle.ca_model.specs.declared.answer.Answer.TheVariants as answers
+use Rattle.ca_model.specs.declared.answer.Refusal.TheVariants.{CqTooSmall, NoSuch, OutOfRange, QueueFull, TooLong, WindowsBound}
+use Rattle.ca_model.specs.Requests.{list_length}
+use Rattle.ca_model.specs.machine.CompletionVerbs.{Poll_of, With_places, after_poll, poll_plan, receives_after_poll, slot_after_poll, source_of_completion}
+use Rattle.ca_model.specs.machine.Completions.{flush_marks}
+use Rattle.ca_model.specs.machine.PostingVerbs.{Posted_send, after_flush, marks_of_flush, post_recv_plan, post_send_plan, post_srq_plan, with_send}
+use Rattle.ca_model.specs.machine.QueuePairVerbs
+use Rattle.ca_model.specs.machine.QueuePairVerbs.{Creation, With_present, With_shared, before_receives, beside, create_qp_plan, destroy_qp_plan, emptied_updates, has_bad_depth, has_no_room, left_updates, modify_qp_plan, new_queue, places_held, receive_reserve, receive_room, send_reserved, user_updates, without_queue}
+use Rattle.ca_model.specs.machine.VerbAnswers.{Answer_plan, Call, Refuse_plan, Unless_plan, of_change_refusals}
 use Rattle.ca_laws_sound.proofs.EngineLemmas.{ends-unless}
 use Rattle.ca_keys.specs.declared.place.Run.{Run}
 use Rattle.ca_keys.specs.declared.rights.Rights.{Rights}
 use Rattle.ca_base.specs.objects.Region.{with_window_unbound, Region, grant_of_region, is_vacant_region, RegionState, NoRegion, Free, Registered, FastRegistered, has_no_region, grant_in_state}
-use Rattle.ca_laws_sound.specs.ca_model.machine.RegionVerbs.{alloc_mr_plan, dereg_mr_plan, reg_mr_plan}
-use Rattle.ca_laws_sound.specs.ca_model.machine.Step.{bytes_of_buffer, plan, run_of, step, verb_plan}
-use Rattle.ca_laws_sound.specs.ca_model.machine.WindowVerbs.{With_binder, alloc_mw_plan, dealloc_mw_plan, queue_updates}
+use Rattle.ca_model.specs.machine.RegionVerbs.{alloc_mr_plan, dereg_mr_plan, reg_mr_plan}
+use Rattle.ca_model.specs.machine.Step.{bytes_of_buffer, plan, run_of, step, verb_plan}
+use Rattle.ca_model.specs.machine.WindowVerbs.{With_binder, alloc_mw_plan, dealloc_mw_plan, queue_updates}
 use Rattle.ca_keys.specs.Memory.{ByteMap, bytes_at}
-use Rattle.ca_laws_sound.specs.ca_model.declared.event.Event.{Event}
-use Rattle.ca_laws_sound.specs.ca_model.declared.event.Event.TheVariants as events
-use Rattle.ca_laws_sound.specs.ca_model.declared.verb.Verb.{Verb}
-use Rattle.ca_laws_sound.specs.ca_model.declared.verb.Verb.TheVariants as verbs
-use Rattle.ca_laws_sound.specs.ca_model.machine.Frame.{Afterwards}
-use Rattle.ca_laws_sound.proofs.of_ca_model.FrameLemmas.{after_write}
+use Rattle.ca_model.specs.declared.event.Event.{Event}
+use Rattle.ca_model.specs.declared.event.Event.TheVariants as events
+use Rattle.ca_model.specs.declared.verb.Verb.{Verb}
+use Rattle.ca_model.specs.declared.verb.Verb.TheVariants as verbs
+use Rattle.ca_model.specs.machine.Frame.{Afterwards}
+use Rattle.ca_model.proofs.FrameLemmas.{after_write}
 use Rattle.ca_laws_windows.specs.Bindings.{AreBound, IsBoundWorld, LiesIn, is_bound_by, windows_of}
 use Rattle.ca_laws_windows.proofs.BindingLemmas.{IsUnused, kept-bound, moved-bound, one}
 use Rattle.ca_laws_windows.proofs.WindowWorldLemmas.{Bounds, same-bound, window-leaves}

@@ -18,13 +18,13 @@ use Rattle.ca_base.specs.objects.QueuePair.{QueuePair, Present}
 use Rattle.ca_base.specs.objects.Region.{Region, RegionState, NoRegion, Free, Registered, FastRegistered, free_pages, grant_in_state}
 use Rattle.ca_base.specs.objects.Slices.{buffer_length, names_region, slot_of_key}
 use Rattle.ca_base.specs.objects.Window.{Binding, Window, after_binding, binding_refusals, is_within, without_binding}
-use Rattle.ca_laws_sound.specs.ca_model.Past.{with_at}
-use Rattle.ca_laws_sound.specs.ca_model.machine.LocalOperations.{Finishing, PlacedRegion, Bind1_plan, Bind2_plan, Fast_plan, Perform_op, bind1_changes, bind1_marks, bind1_refusal, bind2_changes, bind2_marks, bind2_refusal, drawn_by, fast_changes, fast_marks, fast_refusal, former_updates, invalidate_row, named_slot, named_updates, operation_effects, region_slot, view_named, window_slot}
-use Rattle.ca_laws_sound.specs.ca_model.machine.Numbering.{Numbered}
-use Rattle.ca_laws_sound.specs.ca_model.machine.Plan.{Plan, Look, Update, ◌:=◌, Write}
-use Rattle.ca_laws_sound.specs.ca_model.machine.Row.{Effects, queue_and_marks, region_under, unless_none}
-use Rattle.ca_laws_sound.specs.ca_model.machine.World.{World, Region_of, Window_of}
-use Rattle.ca_laws_sound.specs.ca_model.machine.Sound.{IsSoundWorld}
+use Rattle.ca_model.specs.Past.{with_at}
+use Rattle.ca_model.specs.machine.LocalOperations.{Finishing, PlacedRegion, Bind1_plan, Bind2_plan, Fast_plan, Perform_op, bind1_changes, bind1_marks, bind1_refusal, bind2_changes, bind2_marks, bind2_refusal, drawn_by, fast_changes, fast_marks, fast_refusal, former_updates, invalidate_row, named_slot, named_updates, operation_effects, region_slot, view_named, window_slot}
+use Rattle.ca_model.specs.machine.Numbering.{Numbered}
+use Rattle.ca_model.specs.machine.Plan.{Plan, Look, Update, ◌:=◌, Write}
+use Rattle.ca_model.specs.machine.Row.{Effects, queue_and_marks, region_under, unless_none}
+use Rattle.ca_model.specs.machine.World.{World, Region_of, Window_of}
+use Rattle.ca_model.specs.machine.Sound.{IsSoundWorld}
 use Rattle.ca_laws_windows.specs.Bindings.{IsBoundWorld, is_bound_by, windows_of}
 use Rattle.ca_laws_windows.proofs.BindingLemmas.{IsUnused, one}
 use Rattle.ca_laws_windows.proofs.WindowBindLemmas.{IsInside, again-leaves, named-region, named-within, new-leaves, none-leaves}

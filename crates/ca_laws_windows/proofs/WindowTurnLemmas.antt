@@ -1,5 +1,5 @@
 -- The turns of an engine and a packet that arrives keep windows counted.
-use Rattle.ca_laws_sound.specs.ca_model.machine.Acknowledgements.{with_requester}
+use Rattle.ca_model.specs.machine.Acknowledgements.{with_requester}
 use Rattle.std.proofs.Common.{◌≡◌, ℕ, Bool, true, false, List, [], ◌∷◌, ◌++◌, Option, None, Some, subst, ◌&&◌, if◌then◌else◌, refl, rules, suc, sym}
 use Rattle.std.proofs.lemmas.List.{append-nil}
 use Rattle.std.specs.Option.{option_map_or}
@@ -12,25 +12,25 @@ use Rattle.ca_base.specs.Configuration.{Configuration}
 use Rattle.ca_base.specs.declared.correspondent.Correspondent.{Correspondent}
 use Rattle.ca_base.specs.objects.Mailbox.{Mailbox, after_delivery, after_send, bytes_lent}
 use Rattle.ca_base.specs.objects.QueuePair.{QueuePair, QueueSlot, NoQueue, Present}
-use Rattle.ca_laws_sound.specs.ca_model.declared.mark.Mark.{Mark}
-use Rattle.ca_laws_sound.specs.ca_model.declared.mark.Mark.TheVariants as marks
-use Rattle.ca_laws_sound.specs.ca_model.machine.Around.{Around, With_around, shared_in, updates_of}
-use Rattle.ca_laws_sound.specs.ca_model.machine.Delivery.{Arrive, arrival_row, deliver_plan}
-use Rattle.ca_laws_sound.specs.ca_model.machine.Plan.{Plan, Stuck, Look, Finish, Update, ◌:=◌, Write, put_all, unless_refused}
-use Rattle.ca_laws_sound.specs.ca_model.machine.Requester.{packet_row, RequestTurn, Waits, Performs, Sends, turn_of}
-use Rattle.ca_laws_sound.specs.ca_model.machine.Respond.{respond_row}
-use Rattle.ca_laws_sound.specs.ca_model.machine.Row.{Effects, Row, Row_plan}
-use Rattle.ca_laws_sound.specs.ca_model.machine.Timers.{after_timeout, after_wake, timeout_refusals, wake_refusals}
-use Rattle.ca_laws_sound.specs.ca_model.machine.Turns.{Fire, Leave_plan, Packet, Respond_around, Timeout_around, With_receives, has_room_for, packet_sent, reaches_peer, respond_plan, sent_updates, timeout_plan, wake_plan, Request_around, request_plan}
-use Rattle.ca_laws_sound.specs.ca_model.machine.World.{World, Mailbox_of, Queue_of, put}
-use Rattle.ca_laws_sound.specs.ca_model.machine.Sound.{IsQueueOf, IsSoundWorld}
+use Rattle.ca_model.specs.declared.mark.Mark.{Mark}
+use Rattle.ca_model.specs.declared.mark.Mark.TheVariants as marks
+use Rattle.ca_model.specs.machine.Around.{Around, With_around, shared_in, updates_of}
+use Rattle.ca_model.specs.machine.Delivery.{Arrive, arrival_row, deliver_plan}
+use Rattle.ca_model.specs.machine.Plan.{Plan, Stuck, Look, Finish, Update, ◌:=◌, Write, put_all, unless_refused}
+use Rattle.ca_model.specs.machine.Requester.{packet_row, RequestTurn, Waits, Performs, Sends, turn_of}
+use Rattle.ca_model.specs.machine.Respond.{respond_row}
+use Rattle.ca_model.specs.machine.Row.{Effects, Row, Row_plan}
+use Rattle.ca_model.specs.machine.Timers.{after_timeout, after_wake, timeout_refusals, wake_refusals}
+use Rattle.ca_model.specs.machine.Turns.{Fire, Leave_plan, Packet, Respond_around, Timeout_around, With_receives, has_room_for, packet_sent, reaches_peer, respond_plan, sent_updates, timeout_plan, wake_plan, Request_around, request_plan}
+use Rattle.ca_model.specs.machine.World.{World, Mailbox_of, Queue_of, put}
+use Rattle.ca_model.specs.machine.Sound.{IsQueueOf, IsSoundWorld}
 use Rattle.ca_laws_sound.proofs.WorldLemmas.{EndsIn, IsThere, around_in, ends-around, ends-queue, is-there, shared_of}
 use Rattle.ca_base.specs.declared.reserve.Reserve.TheVariants.{Sends}
-use Rattle.ca_laws_sound.specs.ca_model.declared.answer.Answer.TheVariants as answers
-use Rattle.ca_laws_sound.specs.ca_model.declared.answer.Refusal.TheVariants.{NoSuch}
-use Rattle.ca_laws_sound.specs.ca_model.machine.VerbAnswers.{Call, Refuse_plan, answer_mark}
+use Rattle.ca_model.specs.declared.answer.Answer.TheVariants as answers
+use Rattle.ca_model.specs.declared.answer.Refusal.TheVariants.{NoSuch}
+use Rattle.ca_model.specs.machine.VerbAnswers.{Call, Refuse_plan, answer_mark}
 use Rattle.ca_laws_sound.proofs.EngineLemmas.{ends-unless}
-use Rattle.ca_laws_sound.specs.ca_model.machine.HostVerbs.{inject_plan}
+use Rattle.ca_model.specs.machine.HostVerbs.{inject_plan}
 use Rattle.ca_laws_windows.specs.Bindings.{IsBoundWorld}
 use Rattle.ca_laws_windows.proofs.BindingLemmas.{one}
 use Rattle.ca_laws_windows.proofs.WindowOperationLemmas.{ends-perform-bound}

@@ -19,12 +19,12 @@ use Rattle.ca_base.specs.objects.SharedReceives.{SrqSlot, after_receive_take}
 use Rattle.ca_keys.specs.Numbers.{is_window_key}
 use Rattle.ca_base.specs.objects.Slices.{has_slot, is_key_of, names_region, names_window, slot_of_key}
 use Rattle.ca_base.specs.objects.Window.{Binding, Window, is_of_other_queue, window_invalidation_refusals, without_binding}
-use Rattle.ca_laws_sound.specs.ca_model.Past.{with_at}
-use Rattle.ca_laws_sound.specs.ca_model.machine.Around.{Around, srq_updates, updates_of, cq_updates}
-use Rattle.ca_laws_sound.specs.ca_model.machine.Expected.{with_window_gone}
-use Rattle.ca_laws_sound.specs.ca_model.machine.Plan.{Plan, Look, Update, ◌:=◌, Write, put_all}
-use Rattle.ca_laws_sound.specs.ca_model.machine.Row.{Effects, Ending, NotPossible, Does, End_plan, Row, Row_plan, With_bytes, With_invalidation, first_denied_by, region_under, unless_none}
-use Rattle.ca_laws_sound.specs.ca_model.machine.World.{World, Name, Domain_of, Region_of, Window_of, Cq_of, Srq_of, Queue_of, Mailbox_of, Byte_at, Thing, put}
+use Rattle.ca_model.specs.Past.{with_at}
+use Rattle.ca_model.specs.machine.Around.{Around, srq_updates, updates_of, cq_updates}
+use Rattle.ca_model.specs.machine.Expected.{with_window_gone}
+use Rattle.ca_model.specs.machine.Plan.{Plan, Look, Update, ◌:=◌, Write, put_all}
+use Rattle.ca_model.specs.machine.Row.{Effects, Ending, NotPossible, Does, End_plan, Row, Row_plan, With_bytes, With_invalidation, first_denied_by, region_under, unless_none}
+use Rattle.ca_model.specs.machine.World.{World, Name, Domain_of, Region_of, Window_of, Cq_of, Srq_of, Queue_of, Mailbox_of, Byte_at, Thing, put}
 use Rattle.ca_laws_windows.specs.Bindings.{AreBound, IsBoundWorld, is_bound_by, is_bound_in, windows_of, LiesIn}
 use Rattle.ca_laws_windows.proofs.BindingLemmas.{AreSameGrants, IsUnused, kept-bound, moved-bound, one}
 use Rattle.ca_laws_windows.proofs.WindowRowLemmas.{RowCounts, windows_left}

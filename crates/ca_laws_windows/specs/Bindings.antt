@@ -8,8 +8,8 @@ use Rattle.ca_keys.specs.Equal.{queue_eq, slot_eq}
 use Rattle.ca_base.specs.objects.QueuePair.{QueueSlot, NoQueue, Present}
 use Rattle.ca_base.specs.objects.Region.{Region, grant_of_region}
 use Rattle.ca_base.specs.objects.Window.{Binding, Window}
-use Rattle.ca_laws_sound.specs.ca_model.machine.Row.{region_under}
-use Rattle.ca_laws_sound.specs.ca_model.machine.World.{World}
+use Rattle.ca_model.specs.machine.Row.{region_under}
+use Rattle.ca_model.specs.machine.World.{World}
 
 -- the window is bound in the region of this slot
 abbrev pub is_bound_in : Slot → Window → Bool

@@ -7,12 +7,12 @@ ghost use Rattle.ca_base.specs.Sight.{Invalidation};
 ghost use Rattle.ca_base.specs.objects.QueuePair.{Present, QueuePair};
 ghost use Rattle.ca_base.specs.objects.Window.{Binding};
 ghost use Rattle.ca_laws_windows.specs.Bindings.{IsBoundWorld, IsCounted};
-ghost use Rattle.ca_laws_sound.specs.ca_model.declared.event.Event.{Event};
-ghost use Rattle.ca_laws_sound.specs.ca_model.machine.Frame.{Afterwards};
-ghost use Rattle.ca_laws_sound.specs.ca_model.machine.Seen.{refusal_in};
-ghost use Rattle.ca_laws_sound.specs.ca_model.machine.Sound.{IsSoundWorld};
-ghost use Rattle.ca_laws_sound.specs.ca_model.machine.Step.{step};
-ghost use Rattle.ca_laws_sound.specs.ca_model.machine.World.{World, opening_world};
+ghost use Rattle.ca_model.specs.declared.event.Event.{Event};
+ghost use Rattle.ca_model.specs.machine.Frame.{Afterwards};
+ghost use Rattle.ca_model.specs.machine.Seen.{refusal_in};
+ghost use Rattle.ca_model.specs.machine.Sound.{IsSoundWorld};
+ghost use Rattle.ca_model.specs.machine.Step.{step};
+ghost use Rattle.ca_model.specs.machine.World.{World, opening_world};
 
 /// In the world before the first event no window is bound, so that all that are bound are counted.
 pub fn opening_world_counts_windows()

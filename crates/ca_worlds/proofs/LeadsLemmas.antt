@@ -9,9 +9,9 @@ use Rattle.ca_laws_numbers.specs.Raised.{IsWorldWithin}
 use Rattle.ca_laws_room.proofs.EventRoomLemmas.{event-room}
 use Rattle.ca_laws_room.proofs.RoomLemmas.{opening-room}
 use Rattle.ca_laws_room.specs.Room.{HasRoom}
-use Rattle.ca_laws_numbers.proofs.of_ca_laws_sound.SoundLemmas.{event-sound, opening-sound}
-use Rattle.ca_laws_names.proofs.of_ca_laws_windows.WindowEventLemmas.{event-bound, opening-bound}
-use Rattle.ca_laws_names.specs.ca_laws_windows.Bindings.{IsBoundWorld}
+use Rattle.ca_laws_sound.proofs.SoundLemmas.{event-sound, opening-sound}
+use Rattle.ca_laws_windows.proofs.WindowEventLemmas.{event-bound, opening-bound}
+use Rattle.ca_laws_windows.specs.Bindings.{IsBoundWorld}
 use Rattle.ca_laws_numbers.specs.ca_model.declared.event.Event.{Event}
 use Rattle.ca_laws_numbers.specs.ca_model.machine.Frame.{Afterwards}
 use Rattle.ca_laws_numbers.specs.ca_model.machine.Plan.{Outcome, NotReady, Did}

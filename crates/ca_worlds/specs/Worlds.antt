@@ -4,7 +4,7 @@ use Rattle.ca_base.specs.Configuration.{Configuration}
 use Rattle.ca_laws_names.specs.Placed.{IsPlacedWorld}
 use Rattle.ca_laws_numbers.specs.Raised.{IsWorldWithin}
 use Rattle.ca_laws_room.specs.Room.{HasRoom}
-use Rattle.ca_laws_names.specs.ca_laws_windows.Bindings.{IsBoundWorld}
+use Rattle.ca_laws_windows.specs.Bindings.{IsBoundWorld}
 use Rattle.ca_laws_numbers.specs.ca_model.machine.Sound.{AreLimited, IsSoundWorld}
 use Rattle.ca_laws_numbers.specs.ca_model.machine.World.{World}
 
