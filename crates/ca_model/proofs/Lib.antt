@@ -5,4 +5,3 @@ pub mod Literals
 mod Machine
 pub mod RestLemmas
 pub mod ThingLemmas
-mod Traces
