@@ -84,16 +84,16 @@ fn first_completions(alloc: Global, cq: &Cq, n: u8) -> Result<Completions, Memor
     requires few { n ≤ MAX_POLLED }
     ensures { IfOk result (λ list. list ≡ take n cq.now.waiting) }
 {
-    let mut list = Completions::empty(alloc);
+    let mut list = Completions::empty();
     let Some(first) = cq.at(0) else {
         return Ok(list);
     };
-    list.push(first)?;
+    list.push(alloc, first)?;
     for i in 1..n {
         let Some(completion) = cq.at(u16::from(i)) else {
             return Ok(list);
         };
-        list.push(completion)?;
+        list.push(alloc, completion)?;
     }
     Ok(list)
 }

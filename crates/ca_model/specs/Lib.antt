@@ -1,4 +1,5 @@
 pub mod Answers
+pub mod CompletionsView
 pub mod Entries
 pub mod History
 pub mod HistoryView

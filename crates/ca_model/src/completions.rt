@@ -7,32 +7,46 @@ use ca_base::{Completion, Memory};
 use std::alloc::{AllocError, Global};
 use std::marker::Model;
 
-/// The completions that a poll took, in order: at most `MAX_POLLED`. They lie on the heap, so that an answer moves as
-/// few bytes. Contracts see them as a list.
+/// How many completions lie in place.
+const FEW: usize = 1;
+
+/// The first room that more of them take on the heap.
+const MORE: usize = 4;
+
+/// The completions that a poll took, in order: at most `MAX_POLLED`. One lies in place, since most polls take no more;
+/// several lie on the heap, so that an answer moves as few bytes. Contracts see them as a list.
 #[derive(Drop)]
 pub struct Completions {
-    items: Vec<Completion>,
+    kept: Kept,
+}
+
+/// Where the completions lie.
+#[derive(Drop)]
+enum Kept {
+    Few(ArrayVec<Completion, FEW>),
+    Many(Vec<Completion>),
 }
 
 impl Model for Completions {
     ghost use Rattle.std.specs.Prelude.{List, ◌≤◌, length};
     ghost use Rattle.ca_base.specs.declared.completion.Completion.{Completion};
     ghost use Rattle.ca_base.specs.declared.limits.TheConstants.{MAX_POLLED};
+    ghost use Rattle.ca_model.specs.CompletionsView.{kept_items};
 
     ghost Value = { List Completion };
 
-    ghost view = { λ c. c.items.items };
+    ghost view = { λ c. kept_items c.kept };
 
-    ghost invariant = { λ c. length c.items.items ≤ MAX_POLLED };
+    ghost invariant = { λ c. length (kept_items c.kept) ≤ MAX_POLLED };
 }
 
 impl Completions {
     /// No completions. It takes no memory.
-    pub fn empty(alloc: Global) -> Completions
+    pub fn empty() -> Completions
         ensures { result ≡ [] }
     {
         Completions {
-            items: Vec::new(alloc),
+            kept: Kept::Few(ArrayVec::new()),
         }
     }
 
@@ -44,17 +58,33 @@ impl Completions {
         ensures { IfOk result (λ list. list ≡ completions.now.items) }
     {
         Ok(Completions {
-            items: Vec::from_slice(alloc, completions.as_slice())?,
+            kept: Kept::Many(Vec::from_slice(alloc, completions.as_slice())?),
         })
     }
 
-    /// Adds one at the end; `Memory` leaves the list as it was.
-    pub fn push(&mut self, completion: Completion) -> Result<(), Memory>
+    /// Adds one at the end; `Memory` leaves the list as it was. The first takes no memory.
+    pub fn push(&mut self, alloc: Global, completion: Completion) -> Result<(), Memory>
         requires { length self.old < MAX_POLLED }
         ensures ok { OnOk result (self.new ≡ self.old ++ completion ∷ []) }
         ensures err { OnErr result (self.new ≡ self.old) }
     {
-        self.items.push(completion)?;
+        let mut many = match &mut self.kept {
+            Kept::Few(few) if few.is_empty() => {
+                few.push(completion);
+                return Ok(());
+            }
+            Kept::Few(few) => {
+                let mut many = Vec::with_capacity(alloc, MORE)?;
+                many.extend_from_slice(few.as_slice())?;
+                many
+            }
+            Kept::Many(many) => {
+                many.push(completion)?;
+                return Ok(());
+            }
+        };
+        many.push(completion)?;
+        self.kept = Kept::Many(many);
         Ok(())
     }
 
@@ -63,7 +93,10 @@ impl Completions {
         ensures items { result.now ≡ self.now }
         ensures few { length result.now ≤ MAX_POLLED }
     {
-        self.items.as_slice()
+        match &self.kept {
+            Kept::Few(few) => few.as_slice(),
+            Kept::Many(many) => many.as_slice(),
+        }
     }
 }
 
@@ -71,8 +104,10 @@ impl Clone for Completions {
     ghost is_clone = { λ list copy. copy ≡ list };
 
     fn clone(&self) -> Result<Completions, AllocError> {
-        Ok(Completions {
-            items: Vec::from_slice(*self.items.allocator(), self.items.as_slice())?,
-        })
+        let kept = match &self.kept {
+            Kept::Few(few) => Kept::Few(few.clone()?),
+            Kept::Many(many) => Kept::Many(Vec::from_slice(*many.allocator(), many.as_slice())?),
+        };
+        Ok(Completions { kept })
     }
 }

@@ -110,7 +110,7 @@ pub fn called(
     match told {
         Told::Whole(answer) => Ok(Progress::Open(answered(alloc, stamp, pass, by, verb, answer)?)),
         Told::Polled(0) => {
-            let answer = Answer::Polled(Completions::empty(alloc));
+            let answer = Answer::Polled(Completions::empty());
             Ok(Progress::Open(answered(alloc, stamp, pass, by, verb, answer)?))
         }
         Told::Polled(wanted) => Ok(Progress::Polling(OpenPoll {
@@ -118,7 +118,7 @@ pub fn called(
             pass,
             by,
             verb,
-            given: Completions::empty(alloc),
+            given: Completions::empty(),
             wanted,
         })),
     }
@@ -132,8 +132,8 @@ fn polled(alloc: Global, poll: &mut OpenPoll, last: Completion) -> Result<Entry,
 {
     let mut entry = unanswered(alloc, poll.stamp, poll.pass, poll.by, &poll.verb)?;
     let verb = poll.verb.clone()?;
-    poll.given.push(last)?;
-    let given = mem::replace(&mut poll.given, Completions::empty(alloc));
+    poll.given.push(alloc, last)?;
+    let given = mem::replace(&mut poll.given, Completions::empty());
     entry.marks.push(Mark::Verb {
         by: poll.by,
         verb,
@@ -157,7 +157,7 @@ pub fn take_got(alloc: Global, progress: &mut Progress, completion: Completion) 
     if poll.wanted <= 1 {
         *progress = Progress::Open(polled(alloc, poll, completion)?);
     } else {
-        poll.given.push(completion)?;
+        poll.given.push(alloc, completion)?;
         poll.wanted -= 1;
     }
     Ok(())

@@ -103,8 +103,8 @@ fn is_loaded(answer: &Answer) -> bool {
 }
 
 fn polled(alloc: Global) -> Option<Answer> {
-    let mut completions = Completions::empty(alloc);
-    completions.push(COMPLETION).ok()?;
+    let mut completions = Completions::empty();
+    completions.push(alloc, COMPLETION).ok()?;
     Some(Answer::Polled(completions))
 }
 
