@@ -13,8 +13,8 @@ use Rattle.ca_trace.specs.Lines.{line_text, lines_text, entry_lines, history_lin
 use Rattle.ca_trace.specs.Trace.{text}
 use Rattle.ca_reading_fits.specs.ca_reading_lines.Fits.{LineFits}
 use Rattle.ca_reading_fits.specs.Histories.{EntryFits, HistoryFits}
-use Rattle.ca_reading_steps.specs.declared.progress.OpenPoll.{OpenPoll}
-use Rattle.ca_reading_steps.specs.Steps.{Stage, Start, Polling, Open, Over, Stopped, Reading, polled, polling, start}
+use Rattle.ca_reading.specs.declared.progress.OpenPoll.{OpenPoll}
+use Rattle.ca_reading.specs.Steps.{Stage, Start, Polling, Open, Over, Stopped, Reading, polled, polling, start}
 use Rattle.ca_reading.specs.Taken.{AreTaken, lined}
 use Rattle.ca_reading.specs.Outside.{BeginsText}
 use Rattle.ca_reading.proofs.TextLemmas.{history_text}

@@ -17,9 +17,9 @@ use Rattle.ca_trace.specs.declared.line.Told.TheVariants as told
 use Rattle.ca_trace.specs.Lines.{told_of, event_lines, entry_lines}
 use Rattle.ca_trace.specs.Trace.{completions_of}
 use Rattle.ca_reading_fits.specs.ca_reading_lines.Fits.{IsTurn}
-use Rattle.ca_reading_steps.specs.ca_reading_answers.Answers.{IsTold}
-use Rattle.ca_reading_steps.specs.declared.progress.OpenPoll.{OpenPoll}
-use Rattle.ca_reading_steps.specs.Steps.{Stage, Start, Polling, Open, Over, Stopped, answered, polled, polling}
+use Rattle.ca_reading_fits.specs.ca_reading_lines.Answers.{IsTold}
+use Rattle.ca_reading.specs.declared.progress.OpenPoll.{OpenPoll}
+use Rattle.ca_reading.specs.Steps.{Stage, Start, Polling, Open, Over, Stopped, answered, polled, polling}
 
 -- the lines of what has begun and is not shown to be complete
 abbrev pub stage_lines : ℕ → Stage → List Line

@@ -1,3 +1,5 @@
+pub mod StepLemmas
+pub mod RunLemmas
 pub mod TextLemmas
 pub mod WholeLemmas
 pub mod SplitLemmas

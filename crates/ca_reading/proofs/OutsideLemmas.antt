@@ -10,12 +10,12 @@ use Rattle.ca_trace.specs.Trace.{text}
 use Rattle.ca_reading_fits.specs.ca_reading_lines.Fits.{LineFits}
 use Rattle.ca_reading_fits.proofs.of_ca_reading_lines.LineLemmas.{line_lacks}
 use Rattle.ca_reading_fits.specs.Histories.{HistoryFits}
-use Rattle.ca_reading_steps.specs.Steps.{Over, Reading, run, start, is_over}
+use Rattle.ca_reading.specs.Steps.{Over, Reading, run, start, is_over}
 use Rattle.ca_reading.specs.Taken.{IsRefused, AreTaken, lined}
 use Rattle.ca_reading.specs.Outside.{IsFirstOutside, is_one_line, line_number}
-use Rattle.ca_reading_steps.proofs.StepLemmas.{lines_run}
+use Rattle.ca_reading.proofs.StepLemmas.{lines_run}
 use Rattle.ca_reading.proofs.TextLemmas.{history_text, history_fits}
-use Rattle.ca_reading_steps.proofs.RunLemmas.{run_stops}
+use Rattle.ca_reading.proofs.RunLemmas.{run_stops}
 use Rattle.ca_reading.proofs.SplitLemmas.{Begins, split, cut_same, no_feed, lacks_feed, lined_lines, fit_back}
 use Rattle.ca_reading.proofs.EndLemmas.{begins}
 

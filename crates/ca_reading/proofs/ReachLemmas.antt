@@ -18,10 +18,10 @@ use Rattle.ca_trace.specs.declared.line.Told.TheVariants as told
 use Rattle.ca_trace.specs.Lines.{entry_lines}
 use Rattle.ca_reading_words.specs.Words.{◌>>=◌}
 use Rattle.ca_reading_fits.specs.ca_reading_lines.Fits.{IsShaped, IsTurn, LineFits}
-use Rattle.ca_reading_steps.specs.ca_reading_answers.Answers.{IsTold}
-use Rattle.ca_reading_steps.specs.declared.progress.OpenPoll.{OpenPoll}
-use Rattle.ca_reading_steps.specs.Steps.{Stage, Start, Polling, Open, Over, Stopped, Reading, shown, may_end, may_begin, polling, called, step, before, run, start}
-use Rattle.ca_reading_steps.proofs.RunLemmas.{bind_some}
+use Rattle.ca_reading_fits.specs.ca_reading_lines.Answers.{IsTold}
+use Rattle.ca_reading.specs.declared.progress.OpenPoll.{OpenPoll}
+use Rattle.ca_reading.specs.Steps.{Stage, Start, Polling, Open, Over, Stopped, Reading, shown, may_end, may_begin, polling, called, step, before, run, start}
+use Rattle.ca_reading.proofs.RunLemmas.{bind_some}
 use Rattle.ca_reading.proofs.EntryLemmas.{stage_lines, StandsAt, turn_fits, call_lines, poll_lines, poll_stands, mark_lines, fit_more, history_more}
 
 -- the lines of these entries and of what has begun

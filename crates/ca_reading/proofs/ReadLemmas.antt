@@ -11,19 +11,19 @@ use Rattle.ca_trace.specs.Trace.{text}
 use Rattle.ca_reading.specs.declared.error.TraceError.{TraceError}
 use Rattle.ca_reading.specs.declared.error.TraceError.TheVariants as errors
 use Rattle.ca_reading_fits.specs.Histories.{HistoryFits}
-use Rattle.ca_reading_steps.specs.Steps.{Stage, Over, Reading, before, start, is_over}
+use Rattle.ca_reading.specs.Steps.{Stage, Over, Reading, before, start, is_over}
 use Rattle.ca_reading.specs.Taken.{IsTaken, IsRefused, AreTaken, lined}
 use Rattle.ca_reading.specs.Outside.{BeginsText, is_one_line}
 use Rattle.ca_reading.specs.ReaderValue.{ReaderValue}
 use Rattle.ca_reading.specs.Reader.{HasRead, IsReached, TakesInto, IsCause, IsRefusedRight, IsReadAs}
-use Rattle.ca_reading_steps.proofs.RunLemmas.{run_more}
+use Rattle.ca_reading.proofs.RunLemmas.{run_more}
 use Rattle.ca_reading.proofs.SplitLemmas.{lined_lines, same_lines}
 use Rattle.ca_reading_fits.proofs.HistoryLemmas.{fit_both}
 use Rattle.ca_reading.proofs.EntryLemmas.{last_entry}
 use Rattle.ca_reading.proofs.ReachLemmas.{IsBehind, run_stands, step_behind}
 use Rattle.ca_reading.proofs.EndLemmas.{whole_text}
 use Rattle.ca_reading.proofs.OutsideLemmas.{line_outside, end_outside, not_there}
-use Rattle.ca_reading_steps.proofs.StepLemmas.{lines_run}
+use Rattle.ca_reading.proofs.StepLemmas.{lines_run}
 use Rattle.ca_reading.proofs.TextLemmas.{history_text, history_fits}
 
 -- the entry that a line shows may stand behind those before it

@@ -9,7 +9,7 @@ use Rattle.ca_reading_words.specs.declared.stop.Stop.TheVariants as stops
 use Rattle.ca_reading_fits.specs.ca_reading_lines.Calls.{exact_in}
 use Rattle.ca_reading_fits.specs.ca_reading_lines.Fits.{IsShaped, LineFits}
 use Rattle.ca_reading_fits.proofs.of_ca_reading_lines.ExactLemmas.{exact_again}
-use Rattle.ca_reading_steps.specs.Steps.{Reading, step}
+use Rattle.ca_reading.specs.Steps.{Reading, step}
 use Rattle.ca_reading.specs.Taken.{IsRefused}
 
 -- a text is one line

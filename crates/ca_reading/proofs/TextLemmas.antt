@@ -28,8 +28,8 @@ use Rattle.ca_reading_fits.specs.ca_reading_lines.Fits.{LineFits}
 use Rattle.ca_reading_fits.specs.ca_reading_lines.Reading.{line_in}
 use Rattle.ca_reading_fits.proofs.of_ca_reading_lines.LineLemmas.{words_append, line_read, line_lacks}
 use Rattle.ca_reading_fits.specs.Histories.{EntryFits, HistoryFits}
-use Rattle.ca_reading_steps.specs.Steps.{Reading, run, start}
-use Rattle.ca_reading_steps.proofs.StepLemmas.{lines_run}
+use Rattle.ca_reading.specs.Steps.{Reading, run, start}
+use Rattle.ca_reading.proofs.StepLemmas.{lines_run}
 
 marks_lines : (ms : List Mark) → lines_text (map lines.Mark ms) ≡ flat_map mark_text ms
 marks_lines [] = refl

@@ -10,7 +10,7 @@ use Rattle.ca_reading_fits.specs.ca_reading_lines.Fits.{LineFits}
 use Rattle.ca_reading_fits.proofs.of_ca_reading_lines.ExactLemmas.{exact_again}
 use Rattle.ca_reading_fits.specs.Histories.{HistoryFits}
 use Rattle.ca_reading.specs.Texts.{lines_in, history_in}
-use Rattle.ca_reading_steps.proofs.StepLemmas.{lines_run}
+use Rattle.ca_reading.proofs.StepLemmas.{lines_run}
 use Rattle.ca_reading.proofs.TextLemmas.{history_text, lines_cut, history_fits}
 
 lines_again : (ls : List Line) → AllByRecursion LineFits ls → lines_in (map line_text ls ++ [] ∷ []) ≡ Some ls

@@ -1,3 +1,5 @@
+pub mod Steps
+pub mod ProgressView
 pub mod Texts
 pub mod Taken
 pub mod Outside

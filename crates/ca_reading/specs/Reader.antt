@@ -4,7 +4,7 @@ use Rattle.ca_model.specs.Entries.{EntryValue}
 use Rattle.ca_reading.specs.declared.error.TraceError.{TraceError}
 use Rattle.ca_reading.specs.declared.error.TraceError.TheVariants as errors
 use Rattle.ca_reading.specs.ReaderValue.{ReaderValue}
-use Rattle.ca_reading_steps.specs.Steps.{before, start, stopped}
+use Rattle.ca_reading.specs.Steps.{before, start, stopped}
 use Rattle.ca_reading.specs.Outside.{IsFirstOutside, line_number}
 use Rattle.ca_reading.specs.Taken.{IsTaken, IsRefused, AreTaken, lined}
 

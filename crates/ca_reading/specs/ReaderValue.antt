@@ -1,6 +1,6 @@
 -- ReaderValue: what contracts see of a reader of a trace. Contracts cite it.
 use Rattle.std.specs.Prelude.{ℕ}
-use Rattle.ca_reading_steps.specs.Steps.{Reading, start}
+use Rattle.ca_reading.specs.Steps.{Reading, start}
 
 -- the number of the next line, or of the one that was refused, and what is known behind the lines before it
 pub record ReaderValue : Type 0 where

@@ -1,7 +1,7 @@
 -- ReaderView: what the fields of a reader stand for.
 use Rattle.ca_reading.specs.declared.reader.TraceReader.TheInside.{Inside}
 use Rattle.ca_reading.specs.ReaderValue.{ReaderValue}
-use Rattle.ca_reading_steps.specs.ProgressView.{HasRoom, stage_of}
+use Rattle.ca_reading.specs.ProgressView.{HasRoom, stage_of}
 
 abbrev pub view_of : Inside → ReaderValue
 view_of r = record { next = r.next; reading = record { count = r.count; stage = stage_of r.progress } }

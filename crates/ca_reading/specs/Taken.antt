@@ -5,7 +5,7 @@ use Rattle.ca_model.specs.Entries.{EntryValue}
 use Rattle.ca_trace.specs.declared.line.Line.{Line}
 use Rattle.ca_trace.specs.Lines.{line_text}
 use Rattle.ca_reading_fits.specs.ca_reading_lines.Fits.{LineFits}
-use Rattle.ca_reading_steps.specs.Steps.{Reading, step, run}
+use Rattle.ca_reading.specs.Steps.{Reading, step, run}
 
 -- this text is a line that may stand in a trace, and here; what is known behind it, and the entry that it shows to be
 -- complete

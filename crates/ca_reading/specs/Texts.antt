@@ -5,7 +5,7 @@ use Rattle.ca_model.specs.Entries.{EntryValue}
 use Rattle.ca_trace.specs.declared.line.Line.{Line}
 use Rattle.ca_reading_words.specs.Words.{◌>>=◌, pieces}
 use Rattle.ca_reading_fits.specs.ca_reading_lines.Calls.{exact_in}
-use Rattle.ca_reading_steps.specs.Steps.{is_over, run, start}
+use Rattle.ca_reading.specs.Steps.{is_over, run, start}
 
 -- the lines of a text that was cut at its line feeds; nothing stands behind the last one
 abbrev pub lines_in : List (List ℕ) → Option (List Line)

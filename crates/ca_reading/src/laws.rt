@@ -4,7 +4,7 @@ ghost use Rattle.ca_model.specs.Entries.{EntryValue};
 ghost use Rattle.ca_trace.specs.Trace.{text};
 ghost use Rattle.ca_reading_fits.specs.Histories.{HistoryFits};
 ghost use Rattle.ca_reading.specs.Outside.{BeginsText, is_one_line};
-ghost use Rattle.ca_reading_steps.specs.Steps.{Over, Reading, before, start};
+ghost use Rattle.ca_reading.specs.Steps.{Over, Reading, before, start};
 ghost use Rattle.ca_reading.specs.Taken.{AreTaken, IsRefused, IsTaken, lined};
 ghost use Rattle.ca_reading.specs.Texts.{history_in};
 

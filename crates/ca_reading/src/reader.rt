@@ -1,8 +1,8 @@
 use crate::error::TraceError;
+use crate::progress::{Progress, called, go_on, may_end, take_got, take_mark};
 use ca_model::{Entry, Event, Marks, Verb};
 use ca_reading_fits::ca_reading_lines::read_line;
 use ca_reading_fits::{is_shaped, line_fits};
-use ca_reading_steps::{Progress, called, go_on, may_end, take_got, take_mark};
 use ca_reading_words::Stop;
 use ca_trace::{Line, Told};
 use std::alloc::Global;
@@ -34,9 +34,9 @@ impl TraceReader {
     ghost use Rattle.ca_trace.specs.declared.line.Line.TheVariants as lines;
     ghost use Rattle.ca_reading_words.specs.declared.stop.Stop.TheVariants as stops;
     ghost use Rattle.ca_reading_fits.specs.ca_reading_lines.Fits.{IsShaped};
-    ghost use Rattle.ca_reading_steps.specs.ca_reading_answers.Answers.{IsTold};
-    ghost use Rattle.ca_reading_steps.specs.Steps as steps;
-    ghost use Rattle.ca_reading_steps.specs.Steps.{is_over};
+    ghost use Rattle.ca_reading_fits.specs.ca_reading_lines.Answers.{IsTold};
+    ghost use Rattle.ca_reading.specs.Steps as steps;
+    ghost use Rattle.ca_reading.specs.Steps.{is_over};
     ghost use Rattle.ca_reading.specs.Taken.{IsTaken, IsRefused};
     ghost use Rattle.ca_reading.specs.ReaderValue.{at_start};
     ghost use Rattle.ca_reading.specs.Reader.{Takes, Refuses};
@@ -146,8 +146,8 @@ impl TraceReader {
     ghost use Rattle.ca_trace.specs.declared.line.Line.TheVariants as lines;
     ghost use Rattle.ca_reading_words.specs.declared.stop.Stop.TheVariants as stops;
     ghost use Rattle.ca_reading_fits.specs.ca_reading_lines.Fits.{IsTurn};
-    ghost use Rattle.ca_reading_steps.specs.ca_reading_answers.Answers.{IsTold};
-    ghost use Rattle.ca_reading_steps.specs.Steps as steps;
+    ghost use Rattle.ca_reading_fits.specs.ca_reading_lines.Answers.{IsTold};
+    ghost use Rattle.ca_reading.specs.Steps as steps;
 
     /// Whether an entry with this stamp may follow.
     fn may_begin(&self, stamp: u64) -> bool

@@ -1,8 +1,8 @@
 ghost use Rattle.std.specs.Prelude.{◌≡◌, ◌==◌, ◌<◌, ◌+◌, length, drop, ◌∷◌, [], ◌++◌, List, true, false, MatchOption, IfOk, IfErr, OnErr, OnOk};
 ghost use Rattle.ca_model.specs.Entries.{EntryValue};
 ghost use Rattle.ca_reading_fits.specs.Histories.{HistoryFits};
-ghost use Rattle.ca_reading_steps.specs.Steps as steps;
-ghost use Rattle.ca_reading_steps.specs.Steps.{is_over};
+ghost use Rattle.ca_reading.specs.Steps as steps;
+ghost use Rattle.ca_reading.specs.Steps.{is_over};
 ghost use Rattle.ca_reading.specs.Outside.{is_one_line};
 ghost use Rattle.ca_reading.specs.Reader.{IsReached, TakesInto, IsCause, IsRefusedRight, IsReadAs};
 ghost use Rattle.ca_reading.specs.declared.error.TraceError.TheVariants as errors;

@@ -22,7 +22,7 @@ use Rattle.ca_trace.specs.Trace.{completions_of}
 use Rattle.ca_trace_words.specs.Words.{Field}
 use Rattle.ca_reading_words.specs.Fits.{AllFit}
 use Rattle.ca_reading_lines.specs.Fits.{LineFits}
-use Rattle.ca_reading_lines.specs.ca_reading_answers.Answers.{IsTold}
+use Rattle.ca_reading_lines.specs.Answers.{IsTold}
 use Rattle.ca_reading_fits.specs.Histories.{AnswerHolds, MarkHolds, EntryHolds, EntryFits}
 
 pub fit_both : (ls ms : List Line) → AllByRecursion LineFits ls → AllByRecursion LineFits ms → AllByRecursion LineFits (ls ++ ms)

@@ -2,7 +2,7 @@ ghost use Rattle.std.specs.Prelude.{◌↔◌, IsTrue};
 ghost use Rattle.ca_model.specs.History.{IsPlain};
 ghost use Rattle.ca_reading_words.specs.Fits.{AllFit};
 ghost use Rattle.ca_reading_lines.specs.Fits.{IsShaped};
-ghost use Rattle.ca_reading_lines.specs.ca_reading_answers.Answers.{IsTold};
+ghost use Rattle.ca_reading_lines.specs.Answers.{IsTold};
 ghost use Rattle.ca_trace.specs.Lines.{answer_line_words, line_words};
 
 use crate::answer::{answer_fits, completion_fits};

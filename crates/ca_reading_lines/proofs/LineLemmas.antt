@@ -26,14 +26,14 @@ use Rattle.ca_reading_words.specs.Fits.{AllFit}
 use Rattle.ca_reading_words.proofs.PieceLemmas.{lacks, all_lack, pieces_joined, lacks_append, plain_lacks}
 use Rattle.ca_reading_words.proofs.NumberLemmas.{number_again}
 use Rattle.ca_reading_words.proofs.WordLemmas.{place_again, domain_again, queue_again, queues_again, key_again, address_again, hex_again, perhaps_number_again, runs_again, rights_again}
-use Rattle.ca_reading_answers.proofs.of_ca_reading_names.NameLemmas.{object_again, alarm_again, kind_again, lot_again, drop_again, perhaps_cause_again, field_plain}
+use Rattle.ca_reading_words.proofs.NameLemmas.{object_again, alarm_again, kind_again, lot_again, drop_again, perhaps_cause_again, field_plain}
 use Rattle.ca_reading_lines.specs.Fits.{IsTurn, LineFits}
-use Rattle.ca_reading_answers.specs.Answers.{IsTold}
-use Rattle.ca_reading_answers.specs.ca_reading_fields.Fields.{Words}
+use Rattle.ca_reading_lines.specs.Answers.{IsTold}
+use Rattle.ca_reading_words.specs.Fields.{Words}
 use Rattle.ca_reading_lines.specs.Reading.{granted_at, remote_at, local_mark_at, stored_at, sent_at, done_at, passing_at, mark_at, turn_at, head_at, inner_at, line_at, line_in}
 use Rattle.ca_reading_verbs.proofs.VerbLemmas.{verb_again}
-use Rattle.ca_reading_answers.proofs.of_ca_reading_fields.FieldLemmas.{u8, u32, u64}
-use Rattle.ca_reading_answers.proofs.AnswerLemmas.{tail_words, answer_again, completion_again, verdict_again}
+use Rattle.ca_reading_words.proofs.FieldLemmas.{u8, u32, u64}
+use Rattle.ca_reading_lines.proofs.AnswerLemmas.{tail_words, answer_again, completion_again, verdict_again}
 
 lettered_again : (bound c n : ℕ) → n ≤ bound → bound ≤ 18446744073709551615 → lettered_in bound (c ∷ decimal n) ≡ Some n
 unfolding lettered_in

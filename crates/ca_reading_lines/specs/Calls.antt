@@ -7,7 +7,7 @@ use Rattle.ca_trace.specs.Lines.{line_text}
 use Rattle.ca_reading_words.specs.Words.{◌>>=◌, next_of, lettered_in}
 use Rattle.ca_reading_verbs.specs.Verbs.{verb_at}
 use Rattle.ca_reading_lines.specs.Reading.{line_in}
-use Rattle.ca_reading_answers.specs.Answers.{answer_at}
+use Rattle.ca_reading_lines.specs.Answers.{answer_at}
 
 unfoldable pub call_at : ℕ → ℕ → List ℕ → List (List ℕ) → Option Line
 call_at stamp pass name ws = do

@@ -6,7 +6,7 @@ use Rattle.ca_trace.specs.Lines.{line_words}
 use Rattle.ca_reading_words.specs.Fits.{AllFit}
 use Rattle.ca_model.specs.declared.event.Event.{Event}
 use Rattle.ca_model.specs.declared.event.Event.TheVariants as events
-use Rattle.ca_reading_answers.specs.Answers.{IsTold}
+use Rattle.ca_reading_lines.specs.Answers.{IsTold}
 
 -- an event that is no verb's
 abbrev pub IsTurn : Event → Type 0

@@ -9,10 +9,10 @@ use Rattle.ca_model.specs.declared.mark.Mark.TheVariants as marks
 use Rattle.ca_trace.specs.declared.line.Line.{Line}
 use Rattle.ca_trace.specs.declared.line.Line.TheVariants as lines
 use Rattle.ca_reading_words.specs.Words.{◌>>=◌, pieces, next_of, field, lettered_in, perhaps_in, in_adapter_in, domain_in, queue_in, queues_in, key_in, address_in, hex_in, list_in, run_in}
-use Rattle.ca_reading_answers.specs.ca_reading_names.Names.{object_in, alarm_in, kind_in, lot_in, cause_in, drop_in}
+use Rattle.ca_reading_words.specs.Names.{object_in, alarm_in, kind_in, lot_in, cause_in, drop_in}
 use Rattle.ca_reading_verbs.specs.Verbs.{verb_at}
-use Rattle.ca_reading_answers.specs.ca_reading_fields.Fields.{Words, u8_in, u32_in, u64_in, rights_at}
-use Rattle.ca_reading_answers.specs.Answers.{answer_at, completion_at, verdict_at}
+use Rattle.ca_reading_words.specs.Fields.{Words, u8_in, u32_in, u64_in, rights_at}
+use Rattle.ca_reading_lines.specs.Answers.{answer_at, completion_at, verdict_at}
 
 -- ---- marks
 

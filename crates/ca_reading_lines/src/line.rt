@@ -8,14 +8,14 @@ ghost use Rattle.ca_reading_lines.specs.Reading as reading;
 ghost use Rattle.ca_trace.specs.declared.line.Line as kinds;
 ghost use Rattle.ca_reading_lines.specs.Calls as calls;
 
+use crate::answer::{answer_at, completion_at};
 use crate::mark::mark_at;
 use ca_model::Event;
-use ca_reading_answers::ca_reading_fields::{
-    take_alarm, take_lettered_u32, take_lot, take_queue, take_u64,
-};
-use ca_reading_answers::{answer_at, completion_at};
 use ca_reading_verbs::verb_at;
-use ca_reading_words::{Pieces, Stop, is_name, lettered_u32_in, lettered_u64_in};
+use ca_reading_words::{
+    Pieces, Stop, is_name, lettered_u32_in, lettered_u64_in, take_alarm, take_lettered_u32,
+    take_lot, take_queue, take_u64,
+};
 use ca_trace::{Line, prints_as};
 use std::alloc::Global;
 

@@ -2,15 +2,14 @@ ghost use Rattle.std.specs.Prelude.{◌≡◌};
 ghost use Rattle.ca_reading_words.specs.Words.{Gives};
 ghost use Rattle.ca_reading_lines.specs.Reading as reading;
 
+use crate::answer::{completion_at, verdict_at};
 use ca_base::{Grant, Place};
 use ca_model::Mark;
-use ca_reading_answers::ca_reading_fields::{
-    take_address, take_alarm, take_buffer, take_domain, take_drop, take_hex, take_key, take_kind,
-    take_object, take_perhaps_cause, take_perhaps_u64, take_queue, take_queues, take_rights,
-    take_runs, take_u8, take_u32,
+use ca_reading_words::{
+    Pieces, Stop, is_name, take_address, take_alarm, take_buffer, take_domain, take_drop, take_hex,
+    take_key, take_kind, take_object, take_perhaps_cause, take_perhaps_u64, take_queue,
+    take_queues, take_rights, take_runs, take_u8, take_u32,
 };
-use ca_reading_answers::{completion_at, verdict_at};
-use ca_reading_words::{Pieces, Stop, is_name};
 use std::alloc::Global;
 
 /// A key that came into force.
@@ -164,7 +163,7 @@ fn passing_at(name: &[u8], words: &mut Pieces) -> Result<Mark, Stop>
 
 /// A mark that is no answer, by its name.
 #[tactic(auto, unfolding(crate::specs::Reading::mark_at))]
-pub fn mark_at(alloc: Global, name: &[u8], words: &mut Pieces) -> Result<Mark, Stop>
+pub(crate) fn mark_at(alloc: Global, name: &[u8], words: &mut Pieces) -> Result<Mark, Stop>
     ensures { Gives result (reading.mark_at name.now words.old) }
 {
     if is_name(name, "granted") {

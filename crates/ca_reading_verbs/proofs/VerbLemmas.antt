@@ -13,9 +13,9 @@ use Rattle.ca_reading_words.specs.ca_trace_words.Words.{words}
 use Rattle.ca_reading_words.specs.Fits.{SlotFits, AllFit}
 use Rattle.ca_reading_words.proofs.WordLemmas.{place_again, domain_again, queue_again, slot_again, hex_again, perhaps_number_again, pieces_again, rights_again, flags_again, number_is_no_arrow}
 use Rattle.ca_reading_verbs.specs.Verbs.{rtr_at, rts_at, plain_change_at, change_at, reg_at, qp_at, post_at, receive_at, least_at, poll_at, wait_at, store_at, load_at, inject_at, work_at, object_at, verb_at}
-use Rattle.ca_reading_operations.specs.ca_reading_fields.Fields.{Words}
-use Rattle.ca_reading_operations.proofs.of_ca_reading_fields.FieldLemmas.{u8, u16, u32, u64}
-use Rattle.ca_reading_operations.proofs.OperationLemmas.{operation_again}
+use Rattle.ca_reading_words.specs.Fields.{Words}
+use Rattle.ca_reading_words.proofs.FieldLemmas.{u8, u16, u32, u64}
+use Rattle.ca_reading_verbs.proofs.OperationLemmas.{operation_again}
 
 change_again : (s : Slot) (change : Change) (rest : Words) → AllFit (change_words s change) → verb_at (words (change_words s change) ++ rest) ≡ Some (verbs.ModifyQp s change, rest)
 unfolding verb_at object_at work_at change_at plain_change_at rtr_at rts_at

@@ -9,8 +9,8 @@ use Rattle.ca_base.specs.declared.request.RecvRequest.{RecvRequest}
 use Rattle.ca_model.specs.declared.verb.Verb.{Verb}
 use Rattle.ca_model.specs.declared.verb.Verb.TheVariants as verbs
 use Rattle.ca_reading_words.specs.Words.{◌>>=◌, next_of, field, perhaps_in, in_adapter_in, domain_in, queue_in, slot_in, hex_in, has, pieces_in}
-use Rattle.ca_reading_operations.specs.ca_reading_fields.Fields.{Words, u8_in, u16_in, u32_in, u64_in, rights_at}
-use Rattle.ca_reading_operations.specs.Operations.{operation_at}
+use Rattle.ca_reading_words.specs.Fields.{Words, u8_in, u16_in, u32_in, u64_in, rights_at}
+use Rattle.ca_reading_verbs.specs.Operations.{operation_at}
 
 -- ---- changes of a queue pair
 

@@ -4,10 +4,7 @@ ghost use Rattle.ca_reading_verbs.specs.Verbs as reading;
 
 use ca_base::Change;
 use ca_model::Verb;
-use ca_reading_operations::ca_reading_fields::{
-    take_queue, take_slot, take_u8, take_u16, take_u32,
-};
-use ca_reading_words::{Pieces, Stop, is_name};
+use ca_reading_words::{Pieces, Stop, is_name, take_queue, take_slot, take_u8, take_u16, take_u32};
 
 /// A change to Ready to Receive.
 #[tactic(auto, unfolding(crate::specs::Verbs::rtr_at))]
@@ -60,7 +57,7 @@ fn plain_change_at(change: Change, words: &mut Pieces) -> Result<Verb, Stop>
 
 /// A change of a queue pair's state, by its name.
 #[tactic(auto, unfolding(crate::specs::Verbs::change_at))]
-pub fn change_at(name: &[u8], words: &mut Pieces) -> Result<Verb, Stop>
+pub(crate) fn change_at(name: &[u8], words: &mut Pieces) -> Result<Verb, Stop>
     ensures { Reads (λ x. x) result words.new (reading.change_at name.now words.old) }
 {
     if is_name(name, "rtr") {

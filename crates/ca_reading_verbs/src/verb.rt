@@ -3,14 +3,13 @@ ghost use Rattle.ca_reading_words.specs.Words.{Reads, GivesAs};
 ghost use Rattle.ca_reading_verbs.specs.Verbs as reading;
 
 use crate::change::change_at;
+use crate::operation::operation_at;
 use ca_base::{RecvRequest, SendRequest, Slot};
 use ca_model::Verb;
-use ca_reading_operations::ca_reading_fields::{
-    take_buffer, take_domain, take_hex, take_perhaps_u16, take_pieces, take_queue, take_rights,
-    take_slot, take_u8, take_u16, take_u32, take_u64,
+use ca_reading_words::{
+    Pieces, Stop, has, is_name, take_buffer, take_domain, take_hex, take_perhaps_u16, take_pieces,
+    take_queue, take_rights, take_slot, take_u8, take_u16, take_u32, take_u64,
 };
-use ca_reading_operations::operation_at;
-use ca_reading_words::{Pieces, Stop, has, is_name};
 use std::alloc::Global;
 
 /// A registration of a memory region.

@@ -5,3 +5,5 @@ pub mod CutLemmas
 pub mod PlaceLemmas
 pub mod DigitLemmas
 pub mod ListLemmas
+pub mod NameLemmas
+pub mod FieldLemmas

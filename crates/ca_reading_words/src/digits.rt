@@ -36,7 +36,7 @@ fn bytes_of(alloc: Global, word: &[u8]) -> Result<Bytes, Memory>
 
 /// Bytes, of two hexadecimal digits each.
 #[tactic(auto, unfolding(crate::specs::Words::hex_in))]
-pub fn hex_in(alloc: Global, word: &[u8]) -> Result<Bytes, Stop>
+pub(crate) fn hex_in(alloc: Global, word: &[u8]) -> Result<Bytes, Stop>
     ensures { Gives result (words.hex_in word.now) }
 {
     if is_name(word, "-") {

@@ -36,7 +36,7 @@ pub fn lettered_u32_in(word: &[u8]) -> Result<u32, Stop>
 
 /// An adapter, and a buffer there.
 #[tactic(auto, unfolding(crate::specs::Words::in_adapter_in))]
-pub fn buffer_in(word: &[u8]) -> Result<(u8, u16), Stop>
+pub(crate) fn buffer_in(word: &[u8]) -> Result<(u8, u16), Stop>
     ensures { Gives result (words.in_adapter_in 65535 word.now) }
 {
     let mut parts = Pieces::of(b'/', word);
@@ -58,7 +58,7 @@ pub fn domain_in(word: &[u8]) -> Result<DomainId, Stop>
 
 /// A queue pair.
 #[tactic(auto, unfolding(crate::specs::Words::queue_in, crate::specs::Words::in_adapter_in))]
-pub fn queue_in(word: &[u8]) -> Result<QueueId, Stop>
+pub(crate) fn queue_in(word: &[u8]) -> Result<QueueId, Stop>
     ensures { Gives result (words.queue_in word.now) }
 {
     let mut parts = Pieces::of(b'/', word);
@@ -69,7 +69,7 @@ pub fn queue_in(word: &[u8]) -> Result<QueueId, Stop>
 
 /// An object of a domain.
 #[tactic(auto, unfolding(crate::specs::Words::slot_in))]
-pub fn slot_in(word: &[u8]) -> Result<Slot, Stop>
+pub(crate) fn slot_in(word: &[u8]) -> Result<Slot, Stop>
     ensures { Gives result (words.slot_in word.now) }
 {
     let mut parts = Pieces::of(b'/', word);
@@ -84,7 +84,7 @@ pub fn slot_in(word: &[u8]) -> Result<Slot, Stop>
 
 /// Any queue pair of a domain, or one.
 #[tactic(auto, unfolding(crate::specs::Words::queues_in))]
-pub fn queues_in(word: &[u8]) -> Result<Option<QueueId>, Stop>
+pub(crate) fn queues_in(word: &[u8]) -> Result<Option<QueueId>, Stop>
     ensures { Gives result (words.queues_in word.now) }
 {
     if is_name(word, "any") {
@@ -102,7 +102,7 @@ fn behind_prefix(word: &[u8]) -> &[u8]
 
 /// A memory key.
 #[tactic(auto, unfolding(crate::specs::Words::key_in))]
-pub fn key_in(word: &[u8]) -> Result<Key, Stop>
+pub(crate) fn key_in(word: &[u8]) -> Result<Key, Stop>
     ensures { Gives result (words.key_in word.now) }
 {
     Ok(Key(value_in(16, 0xFFFF_FFFF, behind_prefix(word))? as u32))
@@ -117,7 +117,7 @@ pub fn address_in(word: &[u8]) -> Result<u64, Stop>
 }
 
 /// A number of 16 bits, or none.
-pub fn perhaps_u16_in(word: &[u8]) -> Result<Option<u16>, Stop>
+pub(crate) fn perhaps_u16_in(word: &[u8]) -> Result<Option<u16>, Stop>
     ensures { Gives result (words.perhaps_in (words.number_in 65535) word.now) }
 {
     if is_name(word, "-") {
@@ -127,7 +127,7 @@ pub fn perhaps_u16_in(word: &[u8]) -> Result<Option<u16>, Stop>
 }
 
 /// A number of 32 bits, or none.
-pub fn perhaps_u32_in(word: &[u8]) -> Result<Option<u32>, Stop>
+pub(crate) fn perhaps_u32_in(word: &[u8]) -> Result<Option<u32>, Stop>
     ensures { Gives result (words.perhaps_in (words.number_in 4294967295) word.now) }
 {
     if is_name(word, "-") {
@@ -137,7 +137,7 @@ pub fn perhaps_u32_in(word: &[u8]) -> Result<Option<u32>, Stop>
 }
 
 /// A number of 64 bits, or none.
-pub fn perhaps_u64_in(word: &[u8]) -> Result<Option<u64>, Stop>
+pub(crate) fn perhaps_u64_in(word: &[u8]) -> Result<Option<u64>, Stop>
     ensures { Gives result (words.perhaps_in (words.number_in 18446744073709551615) word.now) }
 {
     if is_name(word, "-") {
@@ -147,7 +147,7 @@ pub fn perhaps_u64_in(word: &[u8]) -> Result<Option<u64>, Stop>
 }
 
 /// A memory key, or none.
-pub fn perhaps_key_in(word: &[u8]) -> Result<Option<Key>, Stop>
+pub(crate) fn perhaps_key_in(word: &[u8]) -> Result<Option<Key>, Stop>
     ensures { Gives result (words.perhaps_in words.key_in word.now) }
 {
     if is_name(word, "-") {
@@ -170,7 +170,7 @@ pub fn has(c: u8, word: &[u8]) -> bool
 
 /// The rights whose letters stand in a word.
 #[tactic(auto, unfolding(crate::specs::Words::rights_in))]
-pub fn rights_in(word: &[u8]) -> Rights
+pub(crate) fn rights_in(word: &[u8]) -> Rights
     ensures { result ≡ words.rights_in word.now }
 {
     Rights {

@@ -1,28 +1,36 @@
-//! The words of a trace, read: a text is cut into words, and a word is the number, the key or the list that it spells.
+//! The words of a trace, read: a text is cut into words; a word is the number, the key or the list that it spells, or the
+//! choice that it names, as a status, a state or the reason of a refusal; and a field takes the first word of what is left
+//! of a line.
 //!
 //! To the layer above it promises that what is printed as a word is read as the same value again, unless memory runs
-//! out. It reads leniently: what is read need not print as that word, and the layer above compares.
+//! out, that a word that names no choice is told from one that does, and that a field is read as its word is and leaves
+//! the words behind it. It reads leniently: what is read need not print as that word, and the layer above compares.
 //!
 //! Source: this profile's choice, as the text of a history is.
 #![tactic(auto)]
 
 mod digits;
+mod field;
 mod id;
 mod list;
+mod list_field;
+mod name;
 mod number;
 mod pieces;
 mod stop;
 mod word;
 
 pub use ca_trace_words::ca_model;
-pub use digits::hex_in;
-pub use id::{
-    address_in, buffer_in, domain_in, has, key_in, lettered_u32_in, lettered_u64_in,
-    perhaps_key_in, perhaps_u16_in, perhaps_u32_in, perhaps_u64_in, queue_in, queues_in, rights_in,
-    slot_in,
+pub use field::{
+    take_address, take_alarm, take_buffer, take_denial, take_domain, take_drop, take_key,
+    take_kind, take_lettered_u32, take_lot, take_object, take_operation, take_perhaps_cause,
+    take_perhaps_key, take_perhaps_u16, take_perhaps_u32, take_perhaps_u64, take_queue,
+    take_queues, take_refusal, take_rights, take_side, take_slot, take_state, take_status, take_u8,
+    take_u16, take_u32, take_u64,
 };
-pub use list::{pages_in, pieces_in, runs_in};
-pub use number::{u8_in, u16_in, u32_in, u64_in};
+pub use id::{address_in, domain_in, has, lettered_u32_in, lettered_u64_in};
+pub use list_field::{take_hex, take_pages, take_pieces, take_runs};
+pub use number::u64_in;
 pub use pieces::{Pieces, place_of};
 pub use stop::Stop;
 pub use word::is_name;

@@ -87,7 +87,7 @@ fn all_pieces(alloc: Global, mut parts: Pieces) -> Result<Vec<Piece>, Stop>
 }
 
 /// Page numbers with commas between, or none.
-pub fn pages_in(alloc: Global, word: &[u8]) -> Result<Pages, Stop>
+pub(crate) fn pages_in(alloc: Global, word: &[u8]) -> Result<Pages, Stop>
     ensures { Gives result (words.list_in (words.number_in 65535) word.now) }
 {
     if is_name(word, "-") {
@@ -97,7 +97,7 @@ pub fn pages_in(alloc: Global, word: &[u8]) -> Result<Pages, Stop>
 }
 
 /// Runs with commas between, or none.
-pub fn runs_in(alloc: Global, word: &[u8]) -> Result<Runs, Stop>
+pub(crate) fn runs_in(alloc: Global, word: &[u8]) -> Result<Runs, Stop>
     ensures { Gives result (words.list_in words.run_in word.now) }
 {
     if is_name(word, "-") {
@@ -130,7 +130,7 @@ fn four_of(list: &[Piece]) -> ArrayVec<Piece, MAX_PIECES>
 
 /// The pieces of a request's list, of which there are at most four.
 #[tactic(auto, unfolding(crate::specs::Words::pieces_in))]
-pub fn pieces_in(alloc: Global, word: &[u8]) -> Result<ArrayVec<Piece, MAX_PIECES>, Stop>
+pub(crate) fn pieces_in(alloc: Global, word: &[u8]) -> Result<ArrayVec<Piece, MAX_PIECES>, Stop>
     ensures { GivesAs (λ list. list.items) result (words.pieces_in word.now) }
 {
     let list = piece_list_in(alloc, word)?;

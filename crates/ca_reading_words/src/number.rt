@@ -36,7 +36,7 @@ fn appended(base: u64, most: u64, n: u64, digit: u8) -> Option<u64>
 
 /// The number that digits of a base write, where it is at most `most`. A byte that is no digit counts too.
 #[tactic(auto, unfolding(crate::specs::Words::value_in))]
-pub fn value_in(base: u64, most: u64, word: &[u8]) -> Result<u64, Stop>
+pub(crate) fn value_in(base: u64, most: u64, word: &[u8]) -> Result<u64, Stop>
     ensures value { Gives result (words.value_in base most word.now) }
     ensures most { IfOk result (λ n. n ≤ most) }
 {
@@ -58,21 +58,21 @@ pub fn u64_in(word: &[u8]) -> Result<u64, Stop>
 }
 
 /// A number of 32 bits.
-pub fn u32_in(word: &[u8]) -> Result<u32, Stop>
+pub(crate) fn u32_in(word: &[u8]) -> Result<u32, Stop>
     ensures { Gives result (words.number_in 4294967295 word.now) }
 {
     Ok(value_in(10, 0xFFFF_FFFF, word)? as u32)
 }
 
 /// A number of 16 bits.
-pub fn u16_in(word: &[u8]) -> Result<u16, Stop>
+pub(crate) fn u16_in(word: &[u8]) -> Result<u16, Stop>
     ensures { Gives result (words.number_in 65535 word.now) }
 {
     Ok(value_in(10, 0xFFFF, word)? as u16)
 }
 
 /// A number of 8 bits.
-pub fn u8_in(word: &[u8]) -> Result<u8, Stop>
+pub(crate) fn u8_in(word: &[u8]) -> Result<u8, Stop>
     ensures { Gives result (words.number_in 255 word.now) }
 {
     Ok(value_in(10, 0xFF, word)? as u8)

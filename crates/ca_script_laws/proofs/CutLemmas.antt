@@ -18,7 +18,7 @@ use Rattle.ca_model.specs.declared.verb.Verb.{Verb}
 use Rattle.ca_model.specs.declared.verb.Verb.TheVariants as verbs
 use Rattle.ca_trace_words.specs.Verbs.{change_words, operation_words, poll_words, verb_words, call_words, call}
 use Rattle.ca_trace_words.specs.Words.{Field, Fixed, Number, Lettered, Perhaps, InAdapter, OfDomain, OfSlot, OfQueue, OfKey, Address, Hex, OfRights, OfFlags, OfPieces, OfPages, word, words, joined, led, flags_text, hexadecimal}
-use Rattle.ca_reading_names.proofs.NameLemmas.{field_plain}
+use Rattle.ca_reading_words.proofs.NameLemmas.{field_plain}
 use Rattle.ca_reading_words.specs.Fits.{Fits, AllFit}
 use Rattle.ca_reading_words.specs.Words.{pieces}
 use Rattle.ca_reading_words.proofs.NumberLemmas.{decimal_digits}

@@ -1,4 +1,0 @@
-pub mod Steps
-pub mod ProgressView
--- The libraries below, handed on to those above.
-pub use Rattle.ca_reading_answers.specs as ca_reading_answers
