@@ -1,4 +1,5 @@
--- The histories of examples/traces: which relations each has, or that the machine runs it. For proofs only.
+-- Written by tools/check_traces from examples/traces.
+-- The histories of the traces: which relations each has, or that the machine runs it. For proofs only.
 mod CarriedAcknowledgementInARequest
 mod CarriedAcknowledgementToAnotherNumber
 mod CarriedAnotherIndex

@@ -1,4 +1,5 @@
--- The history of a trace, carried-read-behind-the-packet, and what holds of it. For proofs only.
+-- Written by tools/check_traces from examples/traces/carried-read-behind-the-packet.trace.
+-- The history of the trace, and what holds of it. For proofs only.
 use Rattle.std.proofs.Common.{◌≡◌, List, [], ◌∷◌, true, false, None, Some, refl}
 use Rattle.ca_keys.specs.declared.access.Kind.TheVariants as kinds
 use Rattle.ca_base.specs.declared.change.Change.TheVariants as changes
@@ -21,34 +22,23 @@ use Rattle.ca_model.specs.Ordered.{is_ordered_history}
 use Rattle.ca_model.specs.Caused.{is_caused_history}
 use Rattle.ca_model.specs.Carried.{is_carried_history}
 use Rattle.ca_model.proofs.Literals.{d, s, q, k, r, run, list, request, grant, entry}
+use Rattle.ca_traces.proofs.Entries.{called, hex}
 
 abbrev history : List EntryValue
 history =
-    entry 0 0 (events.Verb 0 (verbs.AllocPd (d 0 0))) (marks.Verb 0 (verbs.AllocPd (d 0 0)) answers.Fine ∷ [])
-    ∷
-    entry 1 0 (events.Verb 0 (verbs.CreateCq (s 0 0 0) 8)) (marks.Verb 0 (verbs.CreateCq (s 0 0 0) 8) answers.Fine ∷ [])
-    ∷
-    entry 2 0 (events.Verb 0 (verbs.CreateQp (s 0 0 0) 0 0 4 4 None)) (marks.Verb 0 (verbs.CreateQp (s 0 0 0) 0 0 4 4 None) (answers.Queue 256 1) ∷ [])
-    ∷
-    entry 3 0 (events.Verb 0 (verbs.CreateQp (s 0 0 1) 0 0 4 4 None)) (marks.Verb 0 (verbs.CreateQp (s 0 0 1) 0 0 4 4 None) (answers.Queue 257 1) ∷ [])
-    ∷
-    entry 4 0 (events.Verb 0 (verbs.RegMr (s 0 0 0) 0 0 64 (r true true true true false))) (marks.Verb 0 (verbs.RegMr (s 0 0 0) 0 0 64 (r true true true true false)) (answers.Key (k 1)) ∷ marks.Granted (grant (k 1) (d 0 0) None true 4294967296 64 (r true true true true false) ((run 0 0 0 64) ∷ [])) ∷ [])
-    ∷
-    entry 5 0 (events.Verb 0 (verbs.ModifyQp (s 0 0 0) changes.Init)) (marks.Verb 0 (verbs.ModifyQp (s 0 0 0) changes.Init) answers.Fine ∷ [])
-    ∷
-    entry 6 0 (events.Verb 0 (verbs.ModifyQp (s 0 0 0) (changes.Rtr (q 0 257) 1 0 256 0))) (marks.Verb 0 (verbs.ModifyQp (s 0 0 0) (changes.Rtr (q 0 257) 1 0 256 0)) answers.Fine ∷ [])
-    ∷
-    entry 7 0 (events.Verb 0 (verbs.ModifyQp (s 0 0 0) (changes.Rts 0 7 7 1))) (marks.Verb 0 (verbs.ModifyQp (s 0 0 0) (changes.Rts 0 7 7 1)) answers.Fine ∷ [])
-    ∷
-    entry 8 0 (events.Verb 0 (verbs.ModifyQp (s 0 0 1) changes.Init)) (marks.Verb 0 (verbs.ModifyQp (s 0 0 1) changes.Init) answers.Fine ∷ [])
-    ∷
-    entry 9 0 (events.Verb 0 (verbs.ModifyQp (s 0 0 1) (changes.Rtr (q 0 256) 1 0 256 0))) (marks.Verb 0 (verbs.ModifyQp (s 0 0 1) (changes.Rtr (q 0 256) 1 0 256 0)) answers.Fine ∷ [])
-    ∷
-    entry 10 0 (events.Verb 0 (verbs.PostSend (s 0 0 0) (request 0 true false false (ops.Send (list ([])))))) (marks.Verb 0 (verbs.PostSend (s 0 0 0) (request 0 true false false (ops.Send (list ([]))))) (answers.Posted None) ∷ [])
-    ∷
-    entry 11 0 (events.Request (q 0 256) lots.Pass) (marks.Sent (q 0 256) (q 0 257) (Some 0) (Some 0) (4 ∷ 0 ∷ 255 ∷ 255 ∷ 0 ∷ 0 ∷ 1 ∷ 1 ∷ 128 ∷ 0 ∷ 0 ∷ 0 ∷ []) ∷ marks.Local (q 0 256) (d 0 0) (k 1) kinds.Read 4294967296 8 (verdicts.Read (0 ∷ 0 ∷ 0 ∷ 0 ∷ 0 ∷ 0 ∷ 0 ∷ 0 ∷ [])) ∷ [])
-    ∷
-    []
+    called 0 0 0 (verbs.AllocPd (d 0 0)) answers.Fine []
+    ∷ called 1 0 0 (verbs.CreateCq (s 0 0 0) 8) answers.Fine []
+    ∷ called 2 0 0 (verbs.CreateQp (s 0 0 0) 0 0 4 4 None) (answers.Queue 256 1) []
+    ∷ called 3 0 0 (verbs.CreateQp (s 0 0 1) 0 0 4 4 None) (answers.Queue 257 1) []
+    ∷ called 4 0 0 (verbs.RegMr (s 0 0 0) 0 0 64 (r true true true true false)) (answers.Key (k 1)) (marks.Granted (grant (k 1) (d 0 0) None true 4294967296 64 (r true true true true false) ((run 0 0 0 64) ∷ [])) ∷ [])
+    ∷ called 5 0 0 (verbs.ModifyQp (s 0 0 0) changes.Init) answers.Fine []
+    ∷ called 6 0 0 (verbs.ModifyQp (s 0 0 0) (changes.Rtr (q 0 257) 1 0 256 0)) answers.Fine []
+    ∷ called 7 0 0 (verbs.ModifyQp (s 0 0 0) (changes.Rts 0 7 7 1)) answers.Fine []
+    ∷ called 8 0 0 (verbs.ModifyQp (s 0 0 1) changes.Init) answers.Fine []
+    ∷ called 9 0 0 (verbs.ModifyQp (s 0 0 1) (changes.Rtr (q 0 256) 1 0 256 0)) answers.Fine []
+    ∷ called 10 0 0 (verbs.PostSend (s 0 0 0) (request 0 true false false (ops.Send (list ([]))))) (answers.Posted None) []
+    ∷ entry 11 0 (events.Request (q 0 256) lots.Pass) (marks.Sent (q 0 256) (q 0 257) (Some 0) (Some 0) (hex "0400ffff0000010180000000") ∷ marks.Local (q 0 256) (d 0 0) (k 1) kinds.Read 4294967296 8 (verdicts.Read (hex "0000000000000000")) ∷ [])
+    ∷ []
 
 judged : is_judged_history zeros history ≡ true
 unfolding row_of be_bytes packet_bytes number_at bth_at front_at reth_from atomic_from aeth_from number_from payload_at payload_behind body_in packet_in

@@ -1,4 +1,5 @@
--- The history of a trace, carried-two-reads-in-one-response, and what holds of it. For proofs only.
+-- Written by tools/check_traces from examples/traces/carried-two-reads-in-one-response.trace.
+-- The history of the trace, and what holds of it. For proofs only.
 use Rattle.std.proofs.Common.{◌≡◌, List, [], ◌∷◌, true, false, None, refl}
 use Rattle.ca_keys.specs.declared.access.Kind.TheVariants as kinds
 use Rattle.ca_base.specs.declared.change.Change.TheVariants as changes
@@ -20,30 +21,21 @@ use Rattle.ca_model.specs.Ordered.{is_ordered_history}
 use Rattle.ca_model.specs.Caused.{is_caused_history}
 use Rattle.ca_model.specs.Carried.{is_carried_history}
 use Rattle.ca_model.proofs.Literals.{d, s, q, k, r, run, place, grant, entry}
+use Rattle.ca_traces.proofs.Entries.{called, hex}
 
 abbrev history : List EntryValue
 history =
-    entry 0 0 (events.Verb 0 (verbs.AllocPd (d 0 0))) (marks.Verb 0 (verbs.AllocPd (d 0 0)) answers.Fine ∷ [])
-    ∷
-    entry 1 0 (events.Verb 0 (verbs.CreateCq (s 0 0 0) 8)) (marks.Verb 0 (verbs.CreateCq (s 0 0 0) 8) answers.Fine ∷ [])
-    ∷
-    entry 2 0 (events.Verb 0 (verbs.CreateQp (s 0 0 0) 0 0 4 4 None)) (marks.Verb 0 (verbs.CreateQp (s 0 0 0) 0 0 4 4 None) (answers.Queue 256 1) ∷ [])
-    ∷
-    entry 3 0 (events.Verb 0 (verbs.RegMr (s 0 0 0) 0 0 64 (r true true true false false))) (marks.Verb 0 (verbs.RegMr (s 0 0 0) 0 0 64 (r true true true false false)) (answers.Key (k 1)) ∷ marks.Granted (grant (k 1) (d 0 0) None true 4294967296 64 (r true true true false false) ((run 0 0 0 64) ∷ [])) ∷ [])
-    ∷
-    entry 4 0 (events.Verb 0 (verbs.ModifyQp (s 0 0 0) changes.Init)) (marks.Verb 0 (verbs.ModifyQp (s 0 0 0) changes.Init) answers.Fine ∷ [])
-    ∷
-    entry 5 0 (events.Verb 0 (verbs.ModifyQp (s 0 0 0) (changes.Rtr (q 0 257) 1 0 256 12))) (marks.Verb 0 (verbs.ModifyQp (s 0 0 0) (changes.Rtr (q 0 257) 1 0 256 12)) answers.Fine ∷ [])
-    ∷
-    entry 6 0 (events.Verb 0 (verbs.Store 0 0 0 (17 ∷ 34 ∷ []))) (marks.Verb 0 (verbs.Store 0 0 0 (17 ∷ 34 ∷ [])) answers.Fine ∷ marks.Stored (place 0 0 0) (17 ∷ 34 ∷ []) ∷ [])
-    ∷
-    entry 7 0 (events.Verb 0 (verbs.Inject (q 0 256) (12 ∷ 0 ∷ 255 ∷ 255 ∷ 0 ∷ 0 ∷ 1 ∷ 0 ∷ 0 ∷ 0 ∷ 0 ∷ 0 ∷ 0 ∷ 0 ∷ 0 ∷ 1 ∷ 0 ∷ 0 ∷ 0 ∷ 0 ∷ 0 ∷ 0 ∷ 0 ∷ 1 ∷ 0 ∷ 0 ∷ 0 ∷ 1 ∷ []))) (marks.Verb 0 (verbs.Inject (q 0 256) (12 ∷ 0 ∷ 255 ∷ 255 ∷ 0 ∷ 0 ∷ 1 ∷ 0 ∷ 0 ∷ 0 ∷ 0 ∷ 0 ∷ 0 ∷ 0 ∷ 0 ∷ 1 ∷ 0 ∷ 0 ∷ 0 ∷ 0 ∷ 0 ∷ 0 ∷ 0 ∷ 1 ∷ 0 ∷ 0 ∷ 0 ∷ 1 ∷ [])) answers.Fine ∷ marks.Arrived (q 0 256) None ∷ [])
-    ∷
-    entry 8 0 (events.Verb 0 (verbs.Inject (q 0 256) (12 ∷ 0 ∷ 255 ∷ 255 ∷ 0 ∷ 0 ∷ 1 ∷ 0 ∷ 0 ∷ 0 ∷ 0 ∷ 1 ∷ 0 ∷ 0 ∷ 0 ∷ 1 ∷ 0 ∷ 0 ∷ 0 ∷ 1 ∷ 0 ∷ 0 ∷ 0 ∷ 1 ∷ 0 ∷ 0 ∷ 0 ∷ 1 ∷ []))) (marks.Verb 0 (verbs.Inject (q 0 256) (12 ∷ 0 ∷ 255 ∷ 255 ∷ 0 ∷ 0 ∷ 1 ∷ 0 ∷ 0 ∷ 0 ∷ 0 ∷ 1 ∷ 0 ∷ 0 ∷ 0 ∷ 1 ∷ 0 ∷ 0 ∷ 0 ∷ 1 ∷ 0 ∷ 0 ∷ 0 ∷ 1 ∷ 0 ∷ 0 ∷ 0 ∷ 1 ∷ [])) answers.Fine ∷ marks.Arrived (q 0 256) None ∷ [])
-    ∷
-    entry 9 0 (events.Respond (q 0 256) lots.Pass) (marks.Remote (q 0 256) (d 0 0) None (k 1) kinds.Read 4294967296 1 (verdicts.Read (17 ∷ [])) ∷ marks.Remote (q 0 256) (d 0 0) None (k 1) kinds.Read 4294967297 1 (verdicts.Read (34 ∷ [])) ∷ marks.Sent (q 0 256) (q 0 257) None None (16 ∷ 48 ∷ 255 ∷ 255 ∷ 0 ∷ 0 ∷ 1 ∷ 1 ∷ 0 ∷ 0 ∷ 0 ∷ 1 ∷ 31 ∷ 0 ∷ 0 ∷ 2 ∷ 34 ∷ 0 ∷ 0 ∷ 0 ∷ []) ∷ marks.Lost (q 0 257) None ∷ [])
-    ∷
-    []
+    called 0 0 0 (verbs.AllocPd (d 0 0)) answers.Fine []
+    ∷ called 1 0 0 (verbs.CreateCq (s 0 0 0) 8) answers.Fine []
+    ∷ called 2 0 0 (verbs.CreateQp (s 0 0 0) 0 0 4 4 None) (answers.Queue 256 1) []
+    ∷ called 3 0 0 (verbs.RegMr (s 0 0 0) 0 0 64 (r true true true false false)) (answers.Key (k 1)) (marks.Granted (grant (k 1) (d 0 0) None true 4294967296 64 (r true true true false false) ((run 0 0 0 64) ∷ [])) ∷ [])
+    ∷ called 4 0 0 (verbs.ModifyQp (s 0 0 0) changes.Init) answers.Fine []
+    ∷ called 5 0 0 (verbs.ModifyQp (s 0 0 0) (changes.Rtr (q 0 257) 1 0 256 12)) answers.Fine []
+    ∷ called 6 0 0 (verbs.Store 0 0 0 (hex "1122")) answers.Fine (marks.Stored (place 0 0 0) (hex "1122") ∷ [])
+    ∷ called 7 0 0 (verbs.Inject (q 0 256) (hex "0c00ffff000001000000000000000001000000000000000100000001")) answers.Fine (marks.Arrived (q 0 256) None ∷ [])
+    ∷ called 8 0 0 (verbs.Inject (q 0 256) (hex "0c00ffff000001000000000100000001000000010000000100000001")) answers.Fine (marks.Arrived (q 0 256) None ∷ [])
+    ∷ entry 9 0 (events.Respond (q 0 256) lots.Pass) (marks.Remote (q 0 256) (d 0 0) None (k 1) kinds.Read 4294967296 1 (verdicts.Read (hex "11")) ∷ marks.Remote (q 0 256) (d 0 0) None (k 1) kinds.Read 4294967297 1 (verdicts.Read (hex "22")) ∷ marks.Sent (q 0 256) (q 0 257) None None (hex "1030ffff00000101000000011f00000222000000") ∷ marks.Lost (q 0 257) None ∷ [])
+    ∷ []
 
 judged : is_judged_history zeros history ≡ true
 unfolding row_of be_bytes packet_bytes number_at bth_at front_at reth_from atomic_from aeth_from number_from payload_at payload_behind body_in packet_in

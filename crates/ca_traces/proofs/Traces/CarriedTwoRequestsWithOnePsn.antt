@@ -1,4 +1,5 @@
--- The history of a trace, carried-two-requests-with-one-psn, and what holds of it. For proofs only.
+-- Written by tools/check_traces from examples/traces/carried-two-requests-with-one-psn.trace.
+-- The history of the trace, and what holds of it. For proofs only.
 use Rattle.std.proofs.Common.{◌≡◌, List, [], ◌∷◌, true, false, None, Some, refl}
 use Rattle.ca_base.specs.declared.change.Change.TheVariants as changes
 use Rattle.ca_base.specs.declared.lot.Lot.TheVariants as lots
@@ -19,36 +20,24 @@ use Rattle.ca_model.specs.Ordered.{is_ordered_history}
 use Rattle.ca_model.specs.Caused.{is_caused_history}
 use Rattle.ca_model.specs.Carried.{is_carried_history}
 use Rattle.ca_model.proofs.Literals.{d, s, q, list, request, entry}
+use Rattle.ca_traces.proofs.Entries.{called, hex}
 
 abbrev history : List EntryValue
 history =
-    entry 0 0 (events.Verb 0 (verbs.AllocPd (d 0 0))) (marks.Verb 0 (verbs.AllocPd (d 0 0)) answers.Fine ∷ [])
-    ∷
-    entry 1 0 (events.Verb 0 (verbs.CreateCq (s 0 0 0) 8)) (marks.Verb 0 (verbs.CreateCq (s 0 0 0) 8) answers.Fine ∷ [])
-    ∷
-    entry 2 0 (events.Verb 0 (verbs.CreateQp (s 0 0 0) 0 0 4 4 None)) (marks.Verb 0 (verbs.CreateQp (s 0 0 0) 0 0 4 4 None) (answers.Queue 256 1) ∷ [])
-    ∷
-    entry 3 0 (events.Verb 0 (verbs.CreateQp (s 0 0 1) 0 0 4 4 None)) (marks.Verb 0 (verbs.CreateQp (s 0 0 1) 0 0 4 4 None) (answers.Queue 257 1) ∷ [])
-    ∷
-    entry 4 0 (events.Verb 0 (verbs.ModifyQp (s 0 0 0) changes.Init)) (marks.Verb 0 (verbs.ModifyQp (s 0 0 0) changes.Init) answers.Fine ∷ [])
-    ∷
-    entry 5 0 (events.Verb 0 (verbs.ModifyQp (s 0 0 0) (changes.Rtr (q 0 257) 1 0 256 0))) (marks.Verb 0 (verbs.ModifyQp (s 0 0 0) (changes.Rtr (q 0 257) 1 0 256 0)) answers.Fine ∷ [])
-    ∷
-    entry 6 0 (events.Verb 0 (verbs.ModifyQp (s 0 0 0) (changes.Rts 0 7 7 1))) (marks.Verb 0 (verbs.ModifyQp (s 0 0 0) (changes.Rts 0 7 7 1)) answers.Fine ∷ [])
-    ∷
-    entry 7 0 (events.Verb 0 (verbs.ModifyQp (s 0 0 1) changes.Init)) (marks.Verb 0 (verbs.ModifyQp (s 0 0 1) changes.Init) answers.Fine ∷ [])
-    ∷
-    entry 8 0 (events.Verb 0 (verbs.ModifyQp (s 0 0 1) (changes.Rtr (q 0 256) 1 0 256 0))) (marks.Verb 0 (verbs.ModifyQp (s 0 0 1) (changes.Rtr (q 0 256) 1 0 256 0)) answers.Fine ∷ [])
-    ∷
-    entry 9 0 (events.Verb 0 (verbs.PostSend (s 0 0 0) (request 0 true false false (ops.Send (list ([])))))) (marks.Verb 0 (verbs.PostSend (s 0 0 0) (request 0 true false false (ops.Send (list ([]))))) (answers.Posted None) ∷ [])
-    ∷
-    entry 10 0 (events.Verb 0 (verbs.PostSend (s 0 0 0) (request 1 true false false (ops.Send (list ([])))))) (marks.Verb 0 (verbs.PostSend (s 0 0 0) (request 1 true false false (ops.Send (list ([]))))) (answers.Posted None) ∷ [])
-    ∷
-    entry 11 0 (events.Request (q 0 256) lots.Pass) (marks.Sent (q 0 256) (q 0 257) (Some 0) (Some 0) (4 ∷ 0 ∷ 255 ∷ 255 ∷ 0 ∷ 0 ∷ 1 ∷ 1 ∷ 128 ∷ 0 ∷ 0 ∷ 9 ∷ []) ∷ [])
-    ∷
-    entry 12 0 (events.Request (q 0 256) lots.Pass) (marks.Sent (q 0 256) (q 0 257) (Some 1) (Some 1) (4 ∷ 0 ∷ 255 ∷ 255 ∷ 0 ∷ 0 ∷ 1 ∷ 1 ∷ 128 ∷ 0 ∷ 0 ∷ 9 ∷ []) ∷ [])
-    ∷
-    []
+    called 0 0 0 (verbs.AllocPd (d 0 0)) answers.Fine []
+    ∷ called 1 0 0 (verbs.CreateCq (s 0 0 0) 8) answers.Fine []
+    ∷ called 2 0 0 (verbs.CreateQp (s 0 0 0) 0 0 4 4 None) (answers.Queue 256 1) []
+    ∷ called 3 0 0 (verbs.CreateQp (s 0 0 1) 0 0 4 4 None) (answers.Queue 257 1) []
+    ∷ called 4 0 0 (verbs.ModifyQp (s 0 0 0) changes.Init) answers.Fine []
+    ∷ called 5 0 0 (verbs.ModifyQp (s 0 0 0) (changes.Rtr (q 0 257) 1 0 256 0)) answers.Fine []
+    ∷ called 6 0 0 (verbs.ModifyQp (s 0 0 0) (changes.Rts 0 7 7 1)) answers.Fine []
+    ∷ called 7 0 0 (verbs.ModifyQp (s 0 0 1) changes.Init) answers.Fine []
+    ∷ called 8 0 0 (verbs.ModifyQp (s 0 0 1) (changes.Rtr (q 0 256) 1 0 256 0)) answers.Fine []
+    ∷ called 9 0 0 (verbs.PostSend (s 0 0 0) (request 0 true false false (ops.Send (list ([]))))) (answers.Posted None) []
+    ∷ called 10 0 0 (verbs.PostSend (s 0 0 0) (request 1 true false false (ops.Send (list ([]))))) (answers.Posted None) []
+    ∷ entry 11 0 (events.Request (q 0 256) lots.Pass) (marks.Sent (q 0 256) (q 0 257) (Some 0) (Some 0) (hex "0400ffff0000010180000009") ∷ [])
+    ∷ entry 12 0 (events.Request (q 0 256) lots.Pass) (marks.Sent (q 0 256) (q 0 257) (Some 1) (Some 1) (hex "0400ffff0000010180000009") ∷ [])
+    ∷ []
 
 judged : is_judged_history zeros history ≡ true
 unfolding row_of be_bytes packet_bytes number_at bth_at front_at reth_from atomic_from aeth_from number_from payload_at payload_behind body_in packet_in

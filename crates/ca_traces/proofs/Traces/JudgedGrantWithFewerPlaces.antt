@@ -1,4 +1,5 @@
--- The history of a trace, judged-grant-with-fewer-places, and what holds of it. For proofs only.
+-- Written by tools/check_traces from examples/traces/judged-grant-with-fewer-places.trace.
+-- The history of the trace, and what holds of it. For proofs only.
 use Rattle.std.proofs.Common.{◌≡◌, List, [], ◌∷◌, true, false, None, refl}
 use Rattle.ca_base.specs.declared.change.Change.TheVariants as changes
 use Rattle.ca_base.specs.declared.completion.WcOp.TheVariants as operations
@@ -21,44 +22,28 @@ use Rattle.ca_model.specs.Ordered.{is_ordered_history}
 use Rattle.ca_model.specs.Caused.{is_caused_history}
 use Rattle.ca_model.specs.Judged.{is_judged_history}
 use Rattle.ca_model.proofs.Literals.{d, s, q, k, r, run, request, completion, grant, entry}
+use Rattle.ca_traces.proofs.Entries.{called}
 
 abbrev history : List EntryValue
 history =
-    entry 0 0 (events.Verb 0 (verbs.AllocPd (d 0 0))) (marks.Verb 0 (verbs.AllocPd (d 0 0)) answers.Fine ∷ [])
-    ∷
-    entry 1 0 (events.Verb 0 (verbs.CreateCq (s 0 0 0) 8)) (marks.Verb 0 (verbs.CreateCq (s 0 0 0) 8) answers.Fine ∷ [])
-    ∷
-    entry 2 0 (events.Verb 0 (verbs.CreateQp (s 0 0 0) 0 0 4 4 None)) (marks.Verb 0 (verbs.CreateQp (s 0 0 0) 0 0 4 4 None) (answers.Queue 256 1) ∷ [])
-    ∷
-    entry 3 0 (events.Verb 0 (verbs.RegMr (s 0 0 0) 0 0 4096 (r true true true true true))) (marks.Verb 0 (verbs.RegMr (s 0 0 0) 0 0 4096 (r true true true true true)) (answers.Key (k 1)) ∷ marks.Granted (grant (k 1) (d 0 0) None true 4294967296 4096 (r true true true true true) ((run 0 0 0 4096) ∷ [])) ∷ [])
-    ∷
-    entry 4 0 (events.Verb 0 (verbs.ModifyQp (s 0 0 0) changes.Init)) (marks.Verb 0 (verbs.ModifyQp (s 0 0 0) changes.Init) answers.Fine ∷ [])
-    ∷
-    entry 5 0 (events.Verb 0 (verbs.ModifyQp (s 0 0 0) (changes.Rtr (q 1 256) 1 0 256 12))) (marks.Verb 0 (verbs.ModifyQp (s 0 0 0) (changes.Rtr (q 1 256) 1 0 256 12)) answers.Fine ∷ [])
-    ∷
-    entry 6 0 (events.Verb 0 (verbs.ModifyQp (s 0 0 0) (changes.Rts 0 7 7 16))) (marks.Verb 0 (verbs.ModifyQp (s 0 0 0) (changes.Rts 0 7 7 16)) answers.Fine ∷ [])
-    ∷
-    entry 7 0 (events.Verb 1 (verbs.AllocPd (d 1 0))) (marks.Verb 1 (verbs.AllocPd (d 1 0)) answers.Fine ∷ [])
-    ∷
-    entry 8 0 (events.Verb 1 (verbs.CreateCq (s 1 0 0) 8)) (marks.Verb 1 (verbs.CreateCq (s 1 0 0) 8) answers.Fine ∷ [])
-    ∷
-    entry 9 0 (events.Verb 1 (verbs.CreateQp (s 1 0 0) 0 0 4 4 None)) (marks.Verb 1 (verbs.CreateQp (s 1 0 0) 0 0 4 4 None) (answers.Queue 256 1) ∷ [])
-    ∷
-    entry 10 0 (events.Verb 1 (verbs.RegMr (s 1 0 0) 0 0 4096 (r true true true true true))) (marks.Verb 1 (verbs.RegMr (s 1 0 0) 0 0 4096 (r true true true true true)) (answers.Key (k 1)) ∷ marks.Granted (grant (k 1) (d 1 0) None true 4294967296 4096 (r true true true true true) ((run 1 0 0 4096) ∷ [])) ∷ [])
-    ∷
-    entry 11 0 (events.Verb 1 (verbs.ModifyQp (s 1 0 0) changes.Init)) (marks.Verb 1 (verbs.ModifyQp (s 1 0 0) changes.Init) answers.Fine ∷ [])
-    ∷
-    entry 12 0 (events.Verb 1 (verbs.ModifyQp (s 1 0 0) (changes.Rtr (q 0 256) 1 0 256 12))) (marks.Verb 1 (verbs.ModifyQp (s 1 0 0) (changes.Rtr (q 0 256) 1 0 256 12)) answers.Fine ∷ [])
-    ∷
-    entry 13 0 (events.Verb 1 (verbs.ModifyQp (s 1 0 0) (changes.Rts 0 7 7 16))) (marks.Verb 1 (verbs.ModifyQp (s 1 0 0) (changes.Rts 0 7 7 16)) answers.Fine ∷ [])
-    ∷
-    entry 14 0 (events.Verb 0 (verbs.AllocMr (s 0 0 1) 4)) (marks.Verb 0 (verbs.AllocMr (s 0 0 1) 4) answers.Fine ∷ [])
-    ∷
-    entry 15 0 (events.Verb 0 (verbs.PostSend (s 0 0 0) (request 1 true false false (ops.FastReg 1 7 0 4090 12 (r true true true true true) (3 ∷ []))))) (marks.Verb 0 (verbs.PostSend (s 0 0 0) (request 1 true false false (ops.FastReg 1 7 0 4090 12 (r true true true true true) (3 ∷ [])))) (answers.Posted None) ∷ [])
-    ∷
-    entry 16 0 (events.Request (q 0 256) lots.Pass) (marks.Granted (grant (k 263) (d 0 0) None true 4090 12 (r true true true true true) ((run 0 0 16378 6) ∷ [])) ∷ marks.Done (q 0 256) (completion (q 0 256) false 0 1 operations.FastReg statuses.Success 0 None None) None ∷ [])
-    ∷
-    []
+    called 0 0 0 (verbs.AllocPd (d 0 0)) answers.Fine []
+    ∷ called 1 0 0 (verbs.CreateCq (s 0 0 0) 8) answers.Fine []
+    ∷ called 2 0 0 (verbs.CreateQp (s 0 0 0) 0 0 4 4 None) (answers.Queue 256 1) []
+    ∷ called 3 0 0 (verbs.RegMr (s 0 0 0) 0 0 4096 (r true true true true true)) (answers.Key (k 1)) (marks.Granted (grant (k 1) (d 0 0) None true 4294967296 4096 (r true true true true true) ((run 0 0 0 4096) ∷ [])) ∷ [])
+    ∷ called 4 0 0 (verbs.ModifyQp (s 0 0 0) changes.Init) answers.Fine []
+    ∷ called 5 0 0 (verbs.ModifyQp (s 0 0 0) (changes.Rtr (q 1 256) 1 0 256 12)) answers.Fine []
+    ∷ called 6 0 0 (verbs.ModifyQp (s 0 0 0) (changes.Rts 0 7 7 16)) answers.Fine []
+    ∷ called 7 0 1 (verbs.AllocPd (d 1 0)) answers.Fine []
+    ∷ called 8 0 1 (verbs.CreateCq (s 1 0 0) 8) answers.Fine []
+    ∷ called 9 0 1 (verbs.CreateQp (s 1 0 0) 0 0 4 4 None) (answers.Queue 256 1) []
+    ∷ called 10 0 1 (verbs.RegMr (s 1 0 0) 0 0 4096 (r true true true true true)) (answers.Key (k 1)) (marks.Granted (grant (k 1) (d 1 0) None true 4294967296 4096 (r true true true true true) ((run 1 0 0 4096) ∷ [])) ∷ [])
+    ∷ called 11 0 1 (verbs.ModifyQp (s 1 0 0) changes.Init) answers.Fine []
+    ∷ called 12 0 1 (verbs.ModifyQp (s 1 0 0) (changes.Rtr (q 0 256) 1 0 256 12)) answers.Fine []
+    ∷ called 13 0 1 (verbs.ModifyQp (s 1 0 0) (changes.Rts 0 7 7 16)) answers.Fine []
+    ∷ called 14 0 0 (verbs.AllocMr (s 0 0 1) 4) answers.Fine []
+    ∷ called 15 0 0 (verbs.PostSend (s 0 0 0) (request 1 true false false (ops.FastReg 1 7 0 4090 12 (r true true true true true) (3 ∷ [])))) (answers.Posted None) []
+    ∷ entry 16 0 (events.Request (q 0 256) lots.Pass) (marks.Granted (grant (k 263) (d 0 0) None true 4090 12 (r true true true true true) ((run 0 0 16378 6) ∷ [])) ∷ marks.Done (q 0 256) (completion (q 0 256) false 0 1 operations.FastReg statuses.Success 0 None None) None ∷ [])
+    ∷ []
 
 licensed : is_licensed_history zeros history ≡ true
 unfolding row_of be_bytes packet_bytes number_at bth_at front_at reth_from atomic_from aeth_from number_from payload_at payload_behind body_in packet_in

@@ -1,7 +1,7 @@
--- The history of a trace, licensed-revoked-by-another-deregistration, and what holds of it. For proofs only.
+-- Written by tools/check_traces from examples/traces/licensed-revoked-by-another-deregistration.trace.
+-- The history of the trace, and what holds of it. For proofs only.
 use Rattle.std.proofs.Common.{◌≡◌, List, [], ◌∷◌, true, false, None, refl}
 use Rattle.ca_model.specs.declared.answer.Answer.TheVariants as answers
-use Rattle.ca_model.specs.declared.event.Event.TheVariants as events
 use Rattle.ca_model.specs.declared.mark.Mark.TheVariants as marks
 use Rattle.ca_model.specs.declared.verb.Verb.TheVariants as verbs
 use Rattle.ca_keys.specs.Memory.{zeros}
@@ -15,17 +15,15 @@ use Rattle.ca_model.specs.Once.{is_once_history}
 use Rattle.ca_model.specs.Ordered.{is_ordered_history}
 use Rattle.ca_model.specs.Caused.{is_caused_history}
 use Rattle.ca_model.specs.Licensed.{is_licensed_history}
-use Rattle.ca_model.proofs.Literals.{d, s, k, r, run, grant, entry}
+use Rattle.ca_model.proofs.Literals.{d, s, k, r, run, grant}
+use Rattle.ca_traces.proofs.Entries.{called}
 
 abbrev history : List EntryValue
 history =
-    entry 0 0 (events.Verb 0 (verbs.AllocPd (d 0 0))) (marks.Verb 0 (verbs.AllocPd (d 0 0)) answers.Fine ∷ [])
-    ∷
-    entry 1 0 (events.Verb 0 (verbs.RegMr (s 0 0 0) 0 4095 1 (r true false true false false))) (marks.Verb 0 (verbs.RegMr (s 0 0 0) 0 4095 1 (r true false true false false)) (answers.Key (k 1)) ∷ marks.Granted (grant (k 1) (d 0 0) None true 4294971391 1 (r true false true false false) ((run 0 0 4095 1) ∷ [])) ∷ [])
-    ∷
-    entry 2 0 (events.Verb 0 (verbs.DeregMr (s 0 0 1))) (marks.Verb 0 (verbs.DeregMr (s 0 0 1)) answers.Fine ∷ marks.Revoked 0 (k 1) ∷ [])
-    ∷
-    []
+    called 0 0 0 (verbs.AllocPd (d 0 0)) answers.Fine []
+    ∷ called 1 0 0 (verbs.RegMr (s 0 0 0) 0 4095 1 (r true false true false false)) (answers.Key (k 1)) (marks.Granted (grant (k 1) (d 0 0) None true 4294971391 1 (r true false true false false) ((run 0 0 4095 1) ∷ [])) ∷ [])
+    ∷ called 2 0 0 (verbs.DeregMr (s 0 0 1)) answers.Fine (marks.Revoked 0 (k 1) ∷ [])
+    ∷ []
 
 judged : is_judged_history zeros history ≡ true
 unfolding row_of be_bytes packet_bytes number_at bth_at front_at reth_from atomic_from aeth_from number_from payload_at payload_behind body_in packet_in

@@ -1,4 +1,5 @@
--- The history of a trace, ordered-polled-of-no-queue-pair, and what holds of it. For proofs only.
+-- Written by tools/check_traces from examples/traces/ordered-polled-of-no-queue-pair.trace.
+-- The history of the trace, and what holds of it. For proofs only.
 use Rattle.std.proofs.Common.{◌≡◌, List, [], ◌∷◌, true, false, None, refl}
 use Rattle.ca_base.specs.declared.completion.WcOp.TheVariants as operations
 use Rattle.ca_base.specs.declared.completion.WcStatus.TheVariants as statuses
@@ -19,18 +20,15 @@ use Rattle.ca_model.specs.Once.{is_once_history}
 use Rattle.ca_model.specs.Caused.{is_caused_history}
 use Rattle.ca_model.specs.Ordered.{is_ordered_history}
 use Rattle.ca_model.proofs.Literals.{d, s, q, completion, entry}
+use Rattle.ca_traces.proofs.Entries.{called}
 
 abbrev history : List EntryValue
 history =
-    entry 0 0 (events.Verb 0 (verbs.AllocPd (d 0 0))) (marks.Verb 0 (verbs.AllocPd (d 0 0)) answers.Fine ∷ [])
-    ∷
-    entry 1 0 (events.Verb 0 (verbs.CreateCq (s 0 0 0) 8)) (marks.Verb 0 (verbs.CreateCq (s 0 0 0) 8) answers.Fine ∷ [])
-    ∷
-    entry 2 0 (events.Respond (q 0 256) lots.Pass) (marks.Done (q 0 256) (completion (q 0 256) true 0 5 operations.Recv statuses.Success 0 None None) None ∷ [])
-    ∷
-    entry 3 0 (events.Verb 0 (verbs.Poll (s 0 0 0) 1 1)) (marks.Verb 0 (verbs.Poll (s 0 0 0) 1 1) (answers.Polled ((completion (q 0 256) true 0 5 operations.Recv statuses.Success 0 None None) ∷ [])) ∷ [])
-    ∷
-    []
+    called 0 0 0 (verbs.AllocPd (d 0 0)) answers.Fine []
+    ∷ called 1 0 0 (verbs.CreateCq (s 0 0 0) 8) answers.Fine []
+    ∷ entry 2 0 (events.Respond (q 0 256) lots.Pass) (marks.Done (q 0 256) (completion (q 0 256) true 0 5 operations.Recv statuses.Success 0 None None) None ∷ [])
+    ∷ called 3 0 0 (verbs.Poll (s 0 0 0) 1 1) (answers.Polled ((completion (q 0 256) true 0 5 operations.Recv statuses.Success 0 None None) ∷ [])) []
+    ∷ []
 
 judged : is_judged_history zeros history ≡ true
 unfolding row_of be_bytes packet_bytes number_at bth_at front_at reth_from atomic_from aeth_from number_from payload_at payload_behind body_in packet_in
