@@ -145,7 +145,6 @@ impl TraceReader {
     ghost use Rattle.ca_model.specs.Entries.{entry_of};
     ghost use Rattle.ca_trace.specs.declared.line.Line.TheVariants as lines;
     ghost use Rattle.ca_reading_words.specs.declared.stop.Stop.TheVariants as stops;
-    ghost use Rattle.ca_reading_fits.specs.ca_reading_lines.Fits.{IsTurn};
     ghost use Rattle.ca_reading_fits.specs.ca_reading_lines.Answers.{IsTold};
     ghost use Rattle.ca_reading.specs.Steps as steps;
 

@@ -1,4 +1,4 @@
-ghost use Rattle.std.specs.Prelude.{◌≡◌, ◌==◌, ◌<◌, ◌+◌, length, drop, ◌∷◌, [], ◌++◌, List, true, false, MatchOption, IfOk, IfErr, OnErr, OnOk};
+ghost use Rattle.std.specs.Prelude.{◌≡◌, ◌<◌, ◌+◌, length, drop, ◌∷◌, [], ◌++◌, List, true, false, MatchOption, IfOk, IfErr, OnErr, OnOk};
 ghost use Rattle.ca_model.specs.Entries.{EntryValue};
 ghost use Rattle.ca_reading_fits.specs.Histories.{HistoryFits};
 ghost use Rattle.ca_reading.specs.Steps as steps;

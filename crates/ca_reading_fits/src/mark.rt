@@ -7,7 +7,7 @@ use crate::word::{
     domain_fits, key_fits, perhaps_queue_fits, perhaps_u64_fits, queue_fits, u8_fits, u16_fits,
     u32_fits, u64_fits,
 };
-use ca_base::{Grant, Place, Verdict};
+use ca_base::{Grant, Verdict};
 use ca_model::Mark;
 
 fn grant_fits(grant: &Grant)
