@@ -128,6 +128,45 @@ fn answers_are_copied(rt: HostRuntime) {
     );
 }
 
+const OTHER: Completion = Completion {
+    id: 8,
+    ..COMPLETION
+};
+
+// One lies in place, and the second takes all of them to the heap.
+fn several(alloc: Global) -> Option<Answer> {
+    let mut completions = Completions::empty();
+    completions.push(alloc, COMPLETION).ok()?;
+    completions.push(alloc, OTHER).ok()?;
+    completions.push(alloc, COMPLETION).ok()?;
+    Some(Answer::Polled(completions))
+}
+
+fn are_several(answer: &Answer) -> bool {
+    match answer {
+        Answer::Polled(completions) => {
+            completions.as_slice() == [COMPLETION, OTHER, COMPLETION].as_slice()
+        }
+        _ => false,
+    }
+}
+
+#[test]
+fn several_completions_stay_in_order(rt: HostRuntime) {
+    let answer = several(rt.alloc());
+    holds(
+        &rt,
+        matches!(&answer, Some(answer) if are_several(answer)),
+        "completions",
+    );
+    let copy = answer.and_then(copy_of);
+    holds(
+        &rt,
+        matches!(&copy, Some(copy) if are_several(copy)),
+        "their copy",
+    );
+}
+
 fn is_answered(mark: &Mark) -> bool {
     match mark {
         Mark::Verb { by, verb, answer } => *by == 5
