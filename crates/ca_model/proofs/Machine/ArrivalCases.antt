@@ -185,8 +185,11 @@ duplicates = refl
 abbrev invalid : List Queued → Seen
 invalid before = record { drop = None; denial = None; statuses = statuses.Flushed ∷ []; answers = before ++ queued.Nak (at 0) 1 ∷ [] }
 
+abbrev in_write_under : ℕ → QueuePair → QueuePair
+in_write_under key p = record p { responder = record p.responder { message = Some (messages.Write (k key) 0x100000000 300 600) } }
+
 abbrev in_write : QueuePair → QueuePair
-in_write p = record p { responder = record p.responder { message = Some (messages.Write (k 1) 0x100000000 300 600) } }
+in_write = in_write_under 1
 
 invalid_requests : Arrives (
     -- nothing is in progress; a WRITE is
@@ -269,6 +272,8 @@ writes : Arrives (
     ∷ case_with (region_with remote_read_alone) receiver (write 0 1 1 0 8 None 8) (refuses denials.NoRight)
     ∷ case receiver (write 0 1 1 0x100000ff9 8 None 8) (refuses denials.OutOfRange)
     ∷ case receiver (write 0 17 1 0x100000000 4097 None 256) (refuses denials.OutOfRange)
+    -- each packet of a message is judged, and not its first alone
+    ∷ case (in_write_under 9 receiver) (write 1 3 9 0 0 None 256) (refuses denials.NoGrant)
     ∷ [])
 unfolding row_of be_bytes packet_bytes number_at bth_at front_at reth_from atomic_from aeth_from number_from payload_at payload_behind body_in packet_in
 writes = refl

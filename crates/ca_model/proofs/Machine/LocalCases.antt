@@ -1,6 +1,6 @@
 -- The local operations of a send queue, and the invalidation that a packet asks for: where each is done, and each refusal
 -- in its order. For proofs only.
-use Rattle.std.proofs.Common.{◌≡◌, ℕ, ◌^◌, ◌-◌, List, [], ◌∷◌, ◌++◌, map, true, false, Option, None, Some, refl}
+use Rattle.std.proofs.Common.{◌≡◌, ℕ, ◌^◌, ◌-◌, List, [], ◌∷◌, ◌++◌, map, true, false, if◌then◌else◌, Option, None, Some, is_none, refl}
 use Rattle.ca_base.specs.declared.lot.Lot.TheVariants as lots
 use Rattle.ca_base.specs.declared.refusals.OpRefusal.{OpRefusal}
 use Rattle.ca_base.specs.declared.refusals.OpRefusal.TheVariants.{Region, Window}
@@ -8,6 +8,7 @@ use Rattle.ca_base.specs.declared.refusals.RegionError.TheVariants as regions
 use Rattle.ca_base.specs.declared.refusals.WindowError.TheVariants as windows
 use Rattle.ca_base.specs.declared.request.SendOp.{SendOp}
 use Rattle.ca_base.specs.declared.request.SendOp.TheVariants as ops
+use Rattle.ca_keys.specs.declared.key.Key.{Key}
 use Rattle.ca_keys.specs.declared.rights.Rights.{Rights}
 use Rattle.ca_base.specs.objects.QueuePair.{Present, QueuePair}
 use Rattle.ca_base.specs.objects.Region.{vacant_region, after_allocation, after_fast_registration, with_window_bound}
@@ -38,13 +39,26 @@ abbrev cause_of : Outcome → Option (Option OpRefusal)
 cause_of (NotReady reason) = None
 cause_of (Did w ms) = cause_in ms
 
+-- the keys that marks revoke, in order
+abbrev revoked_in : List Mark → List Key
+revoked_in [] = []
+revoked_in (marks.Revoked adapter key ∷ ms) = key ∷ revoked_in ms
+revoked_in (m ∷ ms) = revoked_in ms
+
+abbrev revoked_of : Outcome → List Key
+revoked_of (NotReady reason) = []
+revoked_of (Did w ms) = revoked_in ms
+
 -- in the furnished world with these changes, the operation, posted with this byte, is performed
-abbrev performed : List Update → Option ℕ → SendOp → Option (Option OpRefusal)
-performed changes drawn op =
-    cause_of (step pair (put_all (changes ++ (Queue_of (q 0 256) := Present posted) ∷ []) furnished) (events.Request (q 0 256) lots.Pass))
+abbrev outcome : List Update → Option ℕ → SendOp → Outcome
+outcome changes drawn op =
+    step pair (put_all (changes ++ (Queue_of (q 0 256) := Present posted) ∷ []) furnished) (events.Request (q 0 256) lots.Pass)
   where
     posted : QueuePair
     posted = record ready { sends = with_item (record { request = signalled op; drawn = drawn }) ready.sends }
+
+abbrev performed : List Update → Option ℕ → SendOp → Option (Option OpRefusal)
+performed changes drawn op = cause_of (outcome changes drawn op)
 
 -- an operation over changes of the furnished world, and why it is refused
 record Case : Type 0 where
@@ -199,6 +213,11 @@ invalidations =
 -- by a Local Invalidate
 local_invalidate : map (λ i. performed i.changes None (ops.LocalInv (k i.key))) invalidations ≡ map (λ i. Some i.cause) invalidations
 local_invalidate = refl
+
+-- the key is revoked where that is done, and none where it is refused
+local_invalidate_revokes : map (λ i. revoked_of (outcome i.changes None (ops.LocalInv (k i.key)))) invalidations
+    ≡ map (λ i. if is_none i.cause then k i.key ∷ [] else []) invalidations
+local_invalidate_revokes = refl
 
 -- by a SEND with Invalidate that arrives, of which the receive completes
 abbrev received : List Update → ℕ → Option (Option OpRefusal)

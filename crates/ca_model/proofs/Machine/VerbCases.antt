@@ -1,22 +1,27 @@
 -- Each verb with its answers: where it is done, and each refusal in its order, at both edges of each range. For proofs
 -- only.
-use Rattle.std.proofs.Common.{◌≡◌, List, [], ◌∷◌, map, replicate, true, false, Option, None, Some, refl}
+use Rattle.std.proofs.Common.{◌≡◌, ℕ, List, [], ◌∷◌, map, replicate, true, false, Option, None, Some, refl}
 use Rattle.ca_base.specs.declared.change.Change.TheVariants as changes
 use Rattle.ca_base.specs.declared.change.Field.TheVariants as fields
 use Rattle.ca_base.specs.declared.change.State.TheVariants as states
+use Rattle.ca_base.specs.declared.completion.Completion.{Completion}
+use Rattle.ca_base.specs.declared.completion.WcOp.TheVariants as operations
+use Rattle.ca_base.specs.declared.completion.WcStatus.TheVariants as statuses
 use Rattle.ca_base.specs.declared.request.SendOp.TheVariants as ops
+use Rattle.ca_base.specs.declared.reserve.Reserve.TheVariants as reserves
 use Rattle.ca_base.specs.declared.step.Reason.TheVariants as reasons
+use Rattle.ca_base.specs.objects.CompletionQueue.{after_puts, after_reserve, empty_cq}
 use Rattle.ca_base.specs.objects.WorkQueue.{with_item, empty_queue}
 use Rattle.ca_model.specs.declared.answer.Answer.{Answer}
 use Rattle.ca_model.specs.declared.answer.Answer.TheVariants as answers
 use Rattle.ca_model.specs.declared.answer.Refusal.TheVariants as refusals
 use Rattle.ca_model.specs.declared.event.Event.TheVariants as events
 use Rattle.ca_model.specs.declared.verb.Verb.TheVariants as verbs
-use Rattle.ca_model.specs.machine.Plan.{Outcome, NotReady, Did}
+use Rattle.ca_model.specs.machine.Plan.{Outcome, NotReady, Did, put_all, ◌:=◌}
 use Rattle.ca_model.specs.machine.Step.{step}
-use Rattle.ca_model.specs.machine.World.{World}
+use Rattle.ca_model.specs.machine.World.{Cq_of, World}
 use Rattle.ca_packet.specs.Decoding.{packet_in, front_at, bth_at, number_at}
-use Rattle.ca_model.proofs.Literals.{d, s, q, k, r}
+use Rattle.ca_model.proofs.Literals.{completion, d, s, q, k, r}
 use Rattle.ca_model.proofs.Machine.AnsweredVerbs.{AnsweredVerb, ◌⟶◌, answer_in, refused}
 use Rattle.ca_model.proofs.Machine.Furnished.{pair, furnished, with_queue, all_rights, send_of, add_of, signalled, receive_of, ready, in_state, with_posted, with_received}
 
@@ -274,6 +279,19 @@ poll = refl
 -- a poll for more than there are is not possible
 poll_for_more : step pair furnished (events.Verb 0 (verbs.Poll (s 0 0 0) 1 1)) ≡ NotReady reasons.Empty
 poll_for_more = refl
+
+-- two completions of sends wait: a poll takes the oldest first
+abbrev sent : ℕ → Completion
+sent place = completion (q 0 256) false place 7 operations.Send statuses.Success 0 None None
+
+abbrev waiting : World
+waiting = put_all ((Cq_of (s 0 0 0) := Some (after_puts (sent 0 ∷ sent 1 ∷ []) (after_reserve (reserves.Sends (q 0 256)) 2 (empty_cq 16)))) ∷ []) furnished
+
+poll_of_two : AnsweredIn waiting (
+    (verbs.Poll (s 0 0 0) 1 1 ⟶ answers.Polled (sent 0 ∷ []))
+    ∷ (verbs.Poll (s 0 0 0) 16 2 ⟶ answers.Polled (sent 0 ∷ sent 1 ∷ []))
+    ∷ [])
+poll_of_two = refl
 
 store : AnsweredIn furnished (
     (verbs.Store 0 0 4094 (1 ∷ 2 ∷ []) ⟶ answers.Fine)
