@@ -1,5 +1,5 @@
 -- What an arriving request makes of a queue pair that can come up.
-use Rattle.std.proofs.Common.{◌≡◌, ℕ, ◌+◌, ◌-◌, ◌*◌, ◌≤◌, ◌<◌, nat_lt, arith, Bool, true, false, List, [], ◌∷◌, length, Option, None, Some, IfSome, subst, ◌∙◌, ◌&&◌, ◌||◌, ◌==◌, not, ap, sym, true≢false, if◌then◌else◌, is_none, refl}
+use Rattle.std.proofs.Common.{◌≡◌, ℕ, ◌+◌, ◌-◌, ◌*◌, ◌≤◌, ◌<◌, nat_lt, arith, Bool, true, false, List, [], ◌∷◌, length, Option, None, Some, IfSome, subst, ◌∙◌, ◌||◌, ◌==◌, not, ap, sym, true≢false, if◌then◌else◌, refl}
 use Rattle.std.proofs.lemmas.Bool.{ltb-false, not-false, or_parts}
 use Rattle.std.proofs.lemmas.List.{length-take}
 use Rattle.std.specs.List.{flat_map}
@@ -37,7 +37,7 @@ use Rattle.ca_model.specs.machine.Arrivals.{next_receive, packet_ask, refusal_ef
 use Rattle.ca_model.specs.machine.Completions.{receive_mark}
 use Rattle.ca_model.specs.declared.receiving.Receiving.{Receiving}
 use Rattle.ca_model.specs.declared.write_reach.WriteReach.{WriteReach}
-use Rattle.ca_model.specs.machine.Expected.{after_send_packet, after_write_packet, atomic_row, behind_marks, continues, expected_row, fits_payload, fits_write, has_no_place, invalidation_of, is_invalid, is_misaligned, message_left, queue_after_packet, read_queued, receive_asks, receive_failure_effects, receiving_of, revoked_marks, rnr_effects, send_row, takes_receive, valid_row, with_shared_receive, with_window_gone, write_row}
+use Rattle.ca_model.specs.machine.Expected.{after_send_packet, after_write_packet, atomic_row, behind_marks, continues, expected_row, fits_payload, fits_write, has_no_place, invalidation_of, is_invalid, is_misaligned, message_left, queue_after_packet, read_queued, receive_asks, receive_failure_effects, revoked_marks, rnr_effects, send_row, valid_row, with_shared_receive, with_window_gone, write_row, write_reach}
 use Rattle.ca_model.specs.machine.Places.{IsInOrder, completions_in}
 use Rattle.ca_model.specs.machine.Requester.{local_denial}
 use Rattle.ca_model.specs.machine.Responses.{local_writes, writes_by}
@@ -53,6 +53,7 @@ use Rattle.ca_laws_sound.proofs.OrderLemmas.{IsSameWork, holding, order-from, or
 use Rattle.ca_laws_sound.proofs.RequesterLemmas.{good-from}
 use Rattle.ca_laws_sound.proofs.ResponseLemmas.{IsGoodEnding, IsGoodRow, local-writes-quiet, more-marks, more-writes, plain-good}
 use Rattle.ca_laws_sound.proofs.TurnLemmas.{windows-queue}
+use Rattle.ca_laws_sound.proofs.RowWalks.{walk-expected, walk-valid}
 
 -- effects that only change the responder's numbers
 pub responder-good : (q p : QueuePair) → IsQueue p → IsLater q p → IsSameWork q p → IsGood q (queue_and_marks p [])
@@ -169,6 +170,20 @@ send-good before p place r q is later s busy held order = subst (λ x. IsGoodRow
 record IsReach (r : WriteReach) : Type 0 where
   left : r.left ≤ r.whole
   whole : r.whole ≤ MAX_MESSAGE_BYTES
+
+reach-sound : (q : QueuePair) (p : Fields) → IfSome p.reth (λ h. h.length ≤ MAX_MESSAGE_BYTES) → IsMessage q.responder.message → IfSome (write_reach q p) IsReach
+reach-sound q p short message = by p.reth short q.responder.message message
+  where
+    reach : Option Reth → Option Message → Option WriteReach
+    reach (Some h) message = Some (record { key = h.key; address = h.address; left = h.length; whole = h.length })
+    reach None (Some (messages.Write key address left count)) = Some (record { key = key; address = address; left = left; whole = count })
+    reach None message = None
+
+    by : (o : Option Reth) → IfSome o (λ h. h.length ≤ MAX_MESSAGE_BYTES) → (m : Option Message) → IsMessage m → IfSome (reach o m) IsReach
+    by (Some h) short m message = record { left = omega arith; whole = short }
+    by None short (Some (messages.Write key address left count)) message = record { left = message.0; whole = message.1 }
+    by None short (Some (messages.Send at receive bytes)) message = record {}
+    by None short None message = record {}
 
 write-packet-good : (q : QueuePair) (p : Fields) (place : Position) (r : WriteReach) (next : Option PlacedReceive) → IsQueue q → is_idle q.state ≡ false → IsReach r
     → IfSome next (IsTaking q) → receive_in_use q.responder.message ≡ None → IsGood q (after_write_packet q p place r next)
@@ -335,69 +350,26 @@ refused code q s busy = plain-good q (Does (refusal_effects code q)) (refusal-go
 
 valid-good : (q : QueuePair) (p : Fields) (envelope : Option ℕ) (next : Option PlacedReceive) (shape : Shape) → IsQueue q → is_idle q.state ≡ false
     → IfSome next (IsTaking q) → IfSome p.reth (λ h. h.length ≤ MAX_MESSAGE_BYTES) → continues q.responder.message shape ≡ true → IsGoodRow q (valid_row q p envelope next shape)
-valid-good q p envelope next (shapes.Send place) s busy taken short goes = by q.responder.message refl next taken
+valid-good q p envelope next shape s busy taken short goes = walk-valid (IsGoodRow q) q p envelope next shape (refused InvalidRequest q s busy)
+    (λ place r is unheld. first place r (subst (λ o. IfSome o (IsTaking q)) is taken) unheld)
+    (λ place at receive bytes is. send-good q p place (record { receive = record { place = at; receive = receive }; before = bytes; taken = false }) q refl (later-same q) s busy (record {
+      receive = (subst IsMessage is s.responder.message).0;
+      taken = held at receive bytes q.receives (subst (λ m. IsTaken q.receives m) is s.taken);
+    })
+    (λ e order. order-from q (holding (record { place = at; receive = receive }) q) e
+    (record { sends = refl; receives = refl; oldest = refl; in_use = sym (ap receive_in_use is) }) order))
+    (λ place r shape-is is. write-good q p envelope place next r s busy (subst (λ o. IfSome o IsReach) is (reach-sound q p short s.responder.message)) taken
+    (unheld-write q.responder.message place (subst (λ x. continues q.responder.message x ≡ true) shape-is goes)))
+    (λ h is. plain-good q _ (read-good q p envelope h s busy (subst (λ o. IfSome o (λ h. h.length ≤ MAX_MESSAGE_BYTES)) is short))) (λ kind a. atomic-good q p envelope kind a s busy)
   where
-    row : Option Receiving → Row
-    row (Some r) = send_row q p place r
-    row None = plain_row (Does (refusal_effects InvalidRequest q))
-
-    start : (next : Option PlacedReceive) → IfSome next (IsTaking q) → receive_in_use q.responder.message ≡ None
-        → IsGoodRow q (row (option_map (λ r. record { receive = r; before = 0; taken = true }) next))
-    start None taken unheld = refused InvalidRequest q s busy
-    start (Some r) taken unheld = send-good q p place (record { receive = r; before = 0; taken = true }) (with_receive_taken q) refl taken.later taken.sound busy taken.held
+    first : (place : Position) (r : PlacedReceive) → IsTaking q r → receive_in_use q.responder.message ≡ None
+        → IsGoodRow q (send_row q p place (record { receive = r; before = 0; taken = true }))
+    first place r taken unheld = send-good q p place (record { receive = r; before = 0; taken = true }) (with_receive_taken q) refl taken.later taken.sound busy taken.held
         (λ e order. taking-order q r e unheld taken.place s.source order)
 
     held : (at : ℕ) (receive : RecvRequest) (bytes : ℕ) (o : Option (WorkQueue RecvRequest)) → IsTaken o (Some (messages.Send at receive bytes)) → IfSome o (λ x. at < x.next_taken)
     held at receive bytes None t = record {}
     held at receive bytes (Some x) t = t
-
-    by : (m : Option Message) → q.responder.message ≡ m → (next : Option PlacedReceive) → IfSome next (IsTaking q) → IsGoodRow q (row (receiving_of q next m))
-    by None is next taken = start next taken (ap receive_in_use is)
-    by (Some (messages.Write key address left count)) is next taken = start next taken (ap receive_in_use is)
-    by (Some (messages.Send at receive bytes)) is next taken =
-        send-good q p place (record { receive = record { place = at; receive = receive }; before = bytes; taken = false }) q refl (later-same q) s busy (record {
-          receive = (subst IsMessage is s.responder.message).0;
-          taken = held at receive bytes q.receives (subst (λ m. IsTaken q.receives m) is s.taken);
-        })
-        (λ e order. order-from q (holding (record { place = at; receive = receive }) q) e
-        (record { sends = refl; receives = refl; oldest = refl; in_use = sym (ap receive_in_use is) }) order)
-valid-good q p envelope next (shapes.Write place) s busy taken short goes = by p.reth short q.responder.message s.responder.message
-  where
-    row : Option WriteReach → Row
-    row (Some r) = write_row q p envelope place next r
-    row None = plain_row (Does (refusal_effects InvalidRequest q))
-
-    unheld : receive_in_use q.responder.message ≡ None
-    unheld = unheld-write q.responder.message place goes
-
-    reach : Option Reth → Option Message → Option WriteReach
-    reach (Some h) message = Some (record { key = h.key; address = h.address; left = h.length; whole = h.length })
-    reach None (Some (messages.Write key address left count)) = Some (record { key = key; address = address; left = left; whole = count })
-    reach None message = None
-
-    by : (o : Option Reth) → IfSome o (λ h. h.length ≤ MAX_MESSAGE_BYTES) → (m : Option Message) → IsMessage m → IsGoodRow q (row (reach o m))
-    by (Some h) short m message = write-good q p envelope place next _ s busy (record { left = omega arith; whole = short }) taken unheld
-    by None short (Some (messages.Write key address left count)) message = write-good q p envelope place next _ s busy (record { left = message.0; whole = message.1 }) taken unheld
-    by None short (Some (messages.Send at receive bytes)) message = refused InvalidRequest q s busy
-    by None short None message = refused InvalidRequest q s busy
-valid-good q p envelope next shapes.Read s busy taken short goes = by p.reth short
-  where
-    row : Option Reth → Row
-    row (Some h) = plain_row (Does (read_queued q p envelope h))
-    row None = plain_row (Does (refusal_effects InvalidRequest q))
-
-    by : (o : Option Reth) → IfSome o (λ h. h.length ≤ MAX_MESSAGE_BYTES) → IsGoodRow q (row o)
-    by (Some h) short = plain-good q _ (read-good q p envelope h s busy short)
-    by None short = refused InvalidRequest q s busy
-valid-good q p envelope next (shapes.Atomic kind) s busy taken short goes = by p.atomic
-  where
-    row : Option AtomicEth → Row
-    row (Some a) = atomic_row q p envelope kind a
-    row None = plain_row (Does (refusal_effects InvalidRequest q))
-
-    by : (o : Option AtomicEth) → IsGoodRow q (row o)
-    by (Some a) = atomic-good q p envelope kind a s busy
-    by None = refused InvalidRequest q s busy
 
 -- a row of the queue pair after one change, as one of it before
 row-from : (q p : QueuePair) (row : Row) → IsLater q p → IsSameWork q p → IsGoodRow p row → IsGoodRow q row
@@ -415,7 +387,8 @@ pub expected-good : (before : QueuePair) (shared : Option SharedReceives) (p : F
     → IfSome shared IsSharedReceives → IsGoodRow before (expected_row before shared p envelope shape)
 expected-good before shared p envelope shape sound busy all =
     row-from before q (expected_row before shared p envelope shape) (responder-later before q.responder) (record { sends = refl; receives = refl; oldest = refl; in_use = refl })
-    (invalid (is_invalid q p shape) refl)
+    (walk-expected (IsGoodRow q) before shared p envelope shape (refused InvalidRequest q s busy) waits
+    (λ e. valid-good q p envelope (next_receive q shared) shape s busy (taken (next_receive q shared) refl) (valid-length q p shape e) (valid-goes q p shape e)))
   where
     q : QueuePair
     q = with_flag false before
@@ -427,18 +400,9 @@ expected-good before shared p envelope shape sound busy all =
     taken None e = record {}
     taken (Some r) e = taking q shared r s all e
 
-    waits : (b : Bool) → is_invalid q p shape ≡ false
-        → IsGoodRow q (if b then plain_row (Does (rnr_effects q)) else valid_row q p envelope (next_receive q shared) shape)
-    waits true e = plain-good q _ (responder-good q (rnr_effects q).queue
+    waits : IsGoodRow q (plain_row (Does (rnr_effects q)))
+    waits = plain-good q _ (responder-good q (rnr_effects q).queue
         (flag-queue true (with_answer (queued.Rnr q.responder.expected) q) (answer-queue (queued.Rnr q.responder.expected) q s busy (omega arith)))
         (later-on q (with_answer (queued.Rnr q.responder.expected) q) _ (responder-later q (with_answer (queued.Rnr q.responder.expected) q).responder)
         (responder-later (with_answer (queued.Rnr q.responder.expected) q) (rnr_effects q).queue.responder))
         (record { sends = refl; receives = refl; oldest = refl; in_use = refl }))
-    waits false e = valid-good q p envelope (next_receive q shared) shape s busy (taken (next_receive q shared) refl) (valid-length q p shape e) (valid-goes q p shape e)
-
-    invalid : (b : Bool) → is_invalid q p shape ≡ b → IsGoodRow q (
-        if b then plain_row (Does (refusal_effects InvalidRequest q))
-        else if takes_receive p shape && is_none (next_receive q shared) then plain_row (Does (rnr_effects q))
-        else valid_row q p envelope (next_receive q shared) shape)
-    invalid true e = refused InvalidRequest q s busy
-    invalid false e = waits (takes_receive p shape && is_none (next_receive q shared)) e

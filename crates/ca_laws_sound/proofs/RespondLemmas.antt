@@ -1,5 +1,5 @@
 -- What requests ahead, duplicates and the responder's turn make of a queue pair that can come up, and any packet that arrives.
-use Rattle.std.proofs.Common.{zero, ◌≡◌, ℕ, suc, ◌+◌, ◌-◌, ◌*◌, ◌≤◌, ◌<◌, nat_le, nat_lt, arith, Bool, true, false, List, [], ◌∷◌, length, drop, filter, Option, None, Some, IfSome, Result, Ok, Err, ◌∙◌, ◌==◌, ap, sym, true≢false, if◌then◌else◌, slice_get, refl}
+use Rattle.std.proofs.Common.{zero, ◌≡◌, ℕ, suc, ◌+◌, ◌-◌, ◌*◌, ◌≤◌, ◌<◌, nat_le, nat_lt, arith, Bool, true, false, List, [], ◌∷◌, length, drop, filter, Option, None, Some, IfSome, ◌∙◌, ◌==◌, ap, sym, true≢false, if◌then◌else◌, slice_get, refl}
 use Rattle.std.proofs.Math.Nat.{mul-le-mul_right}
 use Rattle.std.proofs.lemmas.Bool.{leb-true, leb-false, ltb-true, not-false}
 use Rattle.std.specs.List.{AllByRecursion, flat_map}
@@ -17,31 +17,24 @@ use Rattle.ca_base.specs.objects.Answers.{answers_before, duplicate_count, psn_o
 use Rattle.ca_base.specs.objects.QueuePair.{QueuePair, in_error, without_answers}
 use Rattle.ca_base.specs.objects.Saved.{saved_at}
 use Rattle.ca_base.specs.objects.SharedReceives.{SharedReceives}
-use Rattle.ca_model.specs.ca_psn.Psn.{widened}
 use Rattle.ca_model.specs.ca_packet.declared.reth.Reth.{Reth}
 use Rattle.ca_model.specs.ca_wire.declared.syndrome.NakCode.TheVariants.{PsnSequenceError}
-use Rattle.ca_model.specs.ca_packet.declared.wire_error.WireError.{WireError}
 use Rattle.ca_model.specs.ca_wire.Builders.{acknowledgement, atomic_acknowledge, nak, read_response, rnr_nak}
-use Rattle.ca_model.specs.ca_packet.Decoding.{packet_in}
 use Rattle.ca_model.specs.ca_packet.Packet.{Fields}
 use Rattle.ca_model.specs.ca_wire.Syndrome.{nak_code}
-use Rattle.ca_model.specs.declared.mark.Drop1.{Drop1}
 use Rattle.ca_model.specs.declared.mark.Drop1.TheVariants as drops
-use Rattle.ca_model.specs.Packets.{is_response}
 use Rattle.ca_model.specs.Requests.{segments}
 use Rattle.ca_model.specs.machine.Arrivals.{remote_mark, with_answer, with_flag, with_responder}
 use Rattle.ca_model.specs.machine.Completions.{flush_marks}
-use Rattle.ca_model.specs.machine.Delivery.{arrival_drops, arrival_row, packet_arrived}
+use Rattle.ca_model.specs.machine.Delivery.{arrival_drops, arrival_row}
 use Rattle.ca_model.specs.machine.Duplicates.{ack_again, ahead_effects, answer_again, atomic_again, duplicate_effects, read_again, request_row, with_answers_before}
-use Rattle.ca_model.specs.machine.Expected.{expected_row}
 use Rattle.ca_model.specs.declared.read_left.ReadLeft.{ReadLeft}
 use Rattle.ca_model.specs.machine.Respond.{answer_turn, is_last_response, nak_of, response_segment, read_row, respond_refusals, respond_row, response_ask, response_length, rest_of, with_front, with_packet, without_front}
 use Rattle.ca_model.specs.machine.Requester.{peer_number, psn_bits}
-use Rattle.ca_model.specs.machine.Responses.{drop_effects, response_row}
-use Rattle.ca_model.specs.machine.Row.{Does, Effects, NotPossible, Row, plain_row, queue_and_marks}
+use Rattle.ca_model.specs.machine.Responses.{drop_effects}
+use Rattle.ca_model.specs.machine.Row.{Effects, NotPossible, Row, plain_row, queue_and_marks}
 use Rattle.ca_model.specs.ca_packet.declared.shape.Shape.{Shape}
 use Rattle.ca_model.specs.ca_packet.declared.shape.Shape.TheVariants as shapes
-use Rattle.ca_model.specs.ca_packet.Table.{shape_of}
 use Rattle.ca_model.specs.machine.Invariants.{IsAnswer, IsQueue, IsSharedReceives, is_connected, is_idle}
 use Rattle.ca_laws_sound.proofs.ArrivalLemmas.{answer-queue, flag-queue, responder-later, responder-queue, segments-enough}
 use Rattle.ca_laws_sound.proofs.ExpectedLemmas.{expected-good, responder-good}
@@ -49,6 +42,7 @@ use Rattle.ca_laws_sound.proofs.GoodLemmas.{AreSettledMarks, IsGood, error-later
 use Rattle.ca_laws_sound.proofs.OrderLemmas.{order-as, order-still, silent-order}
 use Rattle.ca_laws_sound.proofs.ResponseLemmas.{IsGoodRow, drop-good, plain-good, response-good}
 use Rattle.ca_laws_sound.proofs.TurnLemmas.{all-fail}
+use Rattle.ca_laws_sound.proofs.RowWalks.{walk-arrival, walk-request}
 
 all-filtered : {A : Type 0} (P : A → Type 0) (test : A → Bool) (xs : List A) → AllByRecursion P xs → AllByRecursion P (filter test xs)
 all-filtered P test [] all = record {}
@@ -146,25 +140,8 @@ duplicate-good psn p envelope shape q s busy low = at (nat_le MAX_DUPLICATES (du
 
 request-good : (p : Fields) (envelope : Option ℕ) (shared : Option SharedReceives) (shape : Shape) (q : QueuePair) → IsQueue q → is_idle q.state ≡ false
     → IfSome shared IsSharedReceives → IsGoodRow q (request_row p envelope shared shape q)
-request-good p envelope shared shape q s busy all = by (widened q.responder.expected p.psn)
-  where
-    before : (psn : ℕ) (b : Bool) → nat_lt psn q.responder.expected ≡ b
-        → IsGoodRow q (if b then plain_row (Does (duplicate_effects psn p envelope shape q)) else expected_row q shared p envelope shape)
-    before psn true e = plain-good q _ (duplicate-good psn p envelope shape q s busy (ltb-true psn q.responder.expected e))
-    before psn false e = expected-good q shared p envelope shape s busy all
-
-    ahead : (psn : ℕ) (b : Bool) → IsGoodRow q (
-        if b then plain_row (Does (ahead_effects q))
-        else if nat_lt psn q.responder.expected then plain_row (Does (duplicate_effects psn p envelope shape q))
-        else expected_row q shared p envelope shape)
-    ahead psn true = plain-good q _ (ahead-good q s busy)
-    ahead psn false = before psn (nat_lt psn q.responder.expected) refl
-
-    by : (psn : ℕ) → IsGoodRow q (
-        if nat_lt q.responder.expected psn then plain_row (Does (ahead_effects q))
-        else if nat_lt psn q.responder.expected then plain_row (Does (duplicate_effects psn p envelope shape q))
-        else expected_row q shared p envelope shape)
-    by psn = ahead psn (nat_lt q.responder.expected psn)
+request-good p envelope shared shape q s busy all = walk-request (IsGoodRow q) p envelope shared shape q (plain-good q _ (ahead-good q s busy))
+    (λ psn e. plain-good q _ (duplicate-good psn p envelope shape q s busy (ltb-true psn q.responder.expected e))) (expected-good q shared p envelope shape s busy all)
 
 -- a queue pair that takes packets is not idle
 connected-busy : (q : QueuePair) → is_connected q.state ≡ true → is_idle q.state ≡ false
@@ -180,35 +157,9 @@ connected-busy q e = by q.state e
 
 pub arrival-good : (bytes : List ℕ) (envelope : Option ℕ) (shared : Option SharedReceives) (q : QueuePair) → IsQueue q → IfSome shared IsSharedReceives
     → IsGoodRow q (arrival_row bytes envelope shared q)
-arrival-good bytes envelope shared q s all = by (packet_in bytes)
-  where
-    shaped : Fields → Option Shape → Row
-    shaped p (Some shape) = request_row p envelope shared shape q
-    shaped p None = plain_row (Does (drop_effects q drops.State))
-
-    requests : (p : Fields) (o : Option Shape) → is_idle q.state ≡ false → IsGoodRow q (shaped p o)
-    requests p (Some shape) busy = request-good p envelope shared shape q s busy all
-    requests p None busy = plain-good q _ (drop-good q drops.State s)
-
-    kinds : (p : Fields) (b : Bool) → is_idle q.state ≡ false → IsGoodRow q (if b then response_row p q else shaped p (shape_of p.opcode))
-    kinds p true busy = response-good p q s
-    kinds p false busy = requests p (shape_of p.opcode) busy
-
-    dropped : Fields → Option Drop1 → Row
-    dropped p (Some cause) = plain_row (Does (drop_effects q cause))
-    dropped p None = packet_arrived p envelope shared q
-
-    unless : (p : Fields) (o : Option Drop1) → first_of (arrival_drops q p) ≡ o → IsGoodRow q (dropped p o)
-    unless p (Some cause) e = plain-good q _ (drop-good q cause s)
-    unless p None e = kinds p (is_response p.opcode) (connected-busy q (not-false (is_connected q.state) (all-fail (arrival_drops q p) e).1.1.0))
-
-    row : Result Fields WireError → Row
-    row (Err error) = plain_row (Does (drop_effects q (drops.Wire error)))
-    row (Ok p) = dropped p (first_of (arrival_drops q p))
-
-    by : (r : Result Fields WireError) → IsGoodRow q (row r)
-    by (Err error) = plain-good q _ (drop-good q (drops.Wire error) s)
-    by (Ok p) = unless p (first_of (arrival_drops q p)) refl
+arrival-good bytes envelope shared q s all =
+    walk-arrival (IsGoodRow q) bytes envelope shared q (λ cause. plain-good q _ (drop-good q cause s)) (λ p none. response-good p q s)
+    (λ p shape none. request-good p envelope shared shape q s (connected-busy q (not-false (is_connected q.state) (all-fail (arrival_drops q p) none).1.1.0)) all)
 
 drop-all : {A : Type 0} (P : A → Type 0) (xs : List A) → AllByRecursion P xs → AllByRecursion P (drop 1 xs)
 drop-all P [] all = record {}

@@ -1,5 +1,5 @@
 -- What responses, timers and wakes make of a queue pair that can come up.
-use Rattle.std.proofs.Common.{◌≡◌, ℕ, suc, ◌≤◌, ◌<◌, max, nat_le, nat_lt, arith, Bool, true, false, List, [], ◌∷◌, ◌++◌, length, Option, None, Some, IfSome, ◌∙◌, ◌&&◌, not, ap, true≢false, ◌==◌, if◌then◌else◌, refl, rules}
+use Rattle.std.proofs.Common.{◌≡◌, ℕ, suc, ◌≤◌, ◌<◌, max, nat_le, nat_lt, arith, Bool, true, false, List, [], ◌∷◌, ◌++◌, length, Option, None, Some, IfSome, ◌∙◌, ◌&&◌, ap, true≢false, if◌then◌else◌, refl, rules, subst}
 use Rattle.std.proofs.lemmas.Bool.{and_parts, leb-true, ltb-true}
 use Rattle.std.specs.Option.{option_and_then}
 use Rattle.ca_keys.specs.declared.access.Ask.{Ask}
@@ -11,7 +11,6 @@ use Rattle.ca_base.specs.declared.denied_ask.DeniedAsk.{DeniedAsk}
 use Rattle.ca_base.specs.objects.QueuePair.{QueuePair}
 use Rattle.ca_model.specs.ca_wire.declared.syndrome.NakCode.{NakCode}
 use Rattle.ca_model.specs.ca_wire.declared.syndrome.NakCode.TheVariants.{PsnSequenceError, InvalidRequest, RemoteAccessError, RemoteOperationalError}
-use Rattle.ca_model.specs.ca_packet.declared.opcode.TheConstants.{ACKNOWLEDGE}
 use Rattle.ca_model.specs.ca_packet.Packet.{Fields}
 use Rattle.ca_model.specs.ca_wire.declared.syndrome.Syndrome.{Syndrome}
 use Rattle.ca_model.specs.ca_wire.declared.syndrome.Syndrome.TheVariants.{Ack, Nak, RnrNak}
@@ -21,9 +20,9 @@ use Rattle.ca_model.specs.declared.mark.Drop1.TheVariants as drops
 use Rattle.ca_model.specs.declared.mark.Mark.{Mark}
 use Rattle.ca_model.specs.Requests.{list_of}
 use Rattle.ca_model.specs.machine.Acknowledgements.{Acknowledgement, acknowledgement_below, and_then, failure_effects, first_unanswered, one_retry, progress_to, with_cursor, with_requester}
-use Rattle.ca_model.specs.machine.Numbering.{Numbered, begun_requests, is_answered_op, psn_end, request_at}
+use Rattle.ca_model.specs.machine.Numbering.{Numbered, begun_requests, is_answered_op, psn_end}
 use Rattle.ca_model.specs.machine.Requester.{local_denial}
-use Rattle.ca_model.specs.machine.Responses.{acknowledge_row, answer_asks, answer_bytes, answer_row, drop_effects, fits_request, fitting_row, is_outstanding_at, local_writes, nak_effects, outstanding_row, response_psn, response_row, rnr_nak_effects, segment_at, unless_back, writes_by}
+use Rattle.ca_model.specs.machine.Responses.{acknowledge_row, answer_asks, answer_bytes, answer_row, drop_effects, fitting_row, local_writes, nak_effects, response_psn, response_row, rnr_nak_effects, segment_at, unless_back, writes_by}
 use Rattle.ca_model.specs.machine.Places.{completions_in}
 use Rattle.ca_model.specs.machine.Row.{Ending, NotPossible, Does, Effects, Row, plain_row, queue_and_marks}
 use Rattle.ca_model.specs.machine.Invariants.{IsQueue, is_sending}
@@ -31,6 +30,7 @@ use Rattle.ca_laws_sound.proofs.GoodLemmas.{IsGood, IsLater, failure-good, good-
 use Rattle.ca_laws_sound.proofs.OrderLemmas.{order-as, order-behind, order-still}
 use Rattle.ca_laws_sound.proofs.NumberingLemmas.{IsShort, found-short, list-asks}
 use Rattle.ca_laws_sound.proofs.RequesterLemmas.{good-from, progress-after, progress-good, retry-good}
+use Rattle.ca_laws_sound.proofs.RowWalks.{walk-fitting, walk-response}
 
 -- an ending that leaves a queue pair that can come up
 abbrev pub IsGoodEnding : QueuePair → Ending → Type 0
@@ -222,52 +222,26 @@ answer-good psn p q before n takes good high short = record {
     placed q = record (progress_to (suc psn) q) { marks = local_writes writes ++ (progress_to (suc psn) q).marks }
 
 fitting-good : (psn : ℕ) (p : Fields) (q : QueuePair) (a : Acknowledgement) → IsAcknowledged psn q a → psn < q.requester.cursor → IsGoodRow q (fitting_row psn p a)
-fitting-good psn p q a after high = back a.went_back refl
-  where
-    bad : Row
-    bad = plain_row (Does (and_then a.effects (failure_effects BadResponse None)))
-
-    is_bad : IsGoodRow q bad
-    is_bad = plain-good q _ (good-then q a.effects (failure_effects BadResponse None) after.takes after.good (failure-good BadResponse None a.effects.queue after.good.sound))
-
-    at : Option Numbered → Row
-    at None = bad
-    at (Some n) = if fits_request psn p a.effects.queue n then answer_row psn p a.effects n else bad
-
-    fits : (n : Numbered) → IsShort n → a.went_back ≡ false → (b : Bool) → IsGoodRow q (if b then answer_row psn p a.effects n else bad)
-    fits n short e true = answer-good psn p q a.effects n after.takes after.good (omega (arith, high, after.cursor e)) short
-    fits n short e false = is_bad
-
-    by : (n : Option Numbered) → IfSome n IsShort → a.went_back ≡ false → IsGoodRow q (at n)
-    by None short e = is_bad
-    by (Some n) short e = fits n short e (fits_request psn p a.effects.queue n)
-
-    back : (b : Bool) → a.went_back ≡ b → IsGoodRow q (if b then plain_row (Does a.effects) else at (request_at psn a.effects.queue))
-    back true e = plain-good q (Does a.effects) after.good
-    back false e = by (request_at psn a.effects.queue) (found-short psn a.effects.queue after.good.sound) e
-
-outstanding-good : (psn : ℕ) (p : Fields) (q : QueuePair) → IsQueue q → is_sending q.state ≡ true → q.requester.una ≤ psn → psn < q.requester.cursor
-    → IsGoodRow q (outstanding_row psn p q)
-outstanding-good psn p q s sending low high = by (p.opcode == ACKNOWLEDGE)
-  where
-    by : (b : Bool) → IsGoodRow q (if b then plain_row (Does (acknowledge_row psn (option_and_then (λ a. syndrome_in a.syndrome) p.aeth) q))
-        else fitting_row psn p (acknowledgement_below psn q))
-    by true = plain-good q _ (acknowledge-good psn (option_and_then (λ a. syndrome_in a.syndrome) p.aeth) q s sending low high)
-    by false = fitting-good psn p q (acknowledgement_below psn q) (acknowledged psn q s sending low (omega (arith, high))) high
+fitting-good psn p q a after high = walk-fitting (IsGoodRow q) psn p a (λ back. plain-good q (Does a.effects) after.good)
+    (plain-good q _ (good-then q a.effects (failure_effects BadResponse None) after.takes after.good (failure-good BadResponse None a.effects.queue after.good.sound)))
+    (λ n on is. answer-good psn p q a.effects n after.takes after.good (omega (arith, high, after.cursor on)) (subst (λ o. IfSome o IsShort) is (found-short psn a.effects.queue after.good.sound)))
 
 pub response-good : (p : Fields) (q : QueuePair) → IsQueue q → IsGoodRow q (response_row p q)
-response-good p q s = by (is_sending q.state) refl
+response-good p q s = walk-response (IsGoodRow q) p q (λ cause. plain-good q _ (drop-good q cause s))
+    (λ sending there. by sending (and_parts (nat_le q.requester.una (response_psn q p)) (nat_lt (response_psn q p) q.requester.cursor) there))
   where
-    there : (b : Bool) → is_outstanding_at (response_psn q p) q ≡ b → is_sending q.state ≡ true
-        → IsGoodRow q (if not b then plain_row (Does (drop_effects q drops.Stale)) else outstanding_row (response_psn q p) p q)
-    there true e sending = outstanding-good (response_psn q p) p q s sending (leb-true q.requester.una (response_psn q p) (parts e).0)
-        (ltb-true (response_psn q p) q.requester.cursor (parts e).1)
-      where
-        parts : is_outstanding_at (response_psn q p) q ≡ true → (nat_le q.requester.una (response_psn q p) ≡ true) × (nat_lt (response_psn q p) q.requester.cursor ≡ true)
-        parts e = and_parts (nat_le q.requester.una (response_psn q p)) (nat_lt (response_psn q p) q.requester.cursor) e
-    there false e sending = plain-good q _ (drop-good q drops.Stale s)
+    psn : ℕ
+    psn = response_psn q p
 
-    by : (b : Bool) → is_sending q.state ≡ b → IsGoodRow q (if not b then plain_row (Does (drop_effects q drops.State))
-        else if not (is_outstanding_at (response_psn q p) q) then plain_row (Does (drop_effects q drops.Stale)) else outstanding_row (response_psn q p) p q)
-    by true e = there (is_outstanding_at (response_psn q p) q) refl e
-    by false e = plain-good q _ (drop-good q drops.State s)
+    by : is_sending q.state ≡ true → (nat_le q.requester.una psn ≡ true) × (nat_lt psn q.requester.cursor ≡ true)
+        → IsGoodRow q (plain_row (Does (acknowledge_row psn (option_and_then (λ a. syndrome_in a.syndrome) p.aeth) q))) × IsGoodRow q (fitting_row psn p (acknowledgement_below psn q))
+    by sending parts = (
+      plain-good q _ (acknowledge-good psn (option_and_then (λ a. syndrome_in a.syndrome) p.aeth) q s sending low high),
+      fitting-good psn p q (acknowledgement_below psn q) (acknowledged psn q s sending low (omega (arith, high))) high,
+    )
+      where
+        low : q.requester.una ≤ psn
+        low = leb-true q.requester.una psn parts.0
+
+        high : psn < q.requester.cursor
+        high = ltb-true psn q.requester.cursor parts.1

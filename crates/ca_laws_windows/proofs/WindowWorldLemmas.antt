@@ -210,7 +210,7 @@ of-this-queue queue b e = by b.queue (not-false (option_map_or (queue_eq queue) 
 
 pub ends-key : (c : Configuration) (w : World) (P : List Update → Type 0) (q : QueuePair) (o : Option Invalidation) (k : Option OpRefusal → List Update → Plan) → IsBoundWorld w
     → w.queue q.queue ≡ Present q → IfSome o (λ i. i.queue ≡ q.queue)
-    → ((r : Option OpRefusal) (cs : List Update) → Leaves w q (windows_left q o r) (unless_none r cs) → EndsIn w P (k r cs)) → EndsIn w P (With_invalidation c o k)
+    → ((r : Option OpRefusal) (cs : List Update) → Leaves w q (windows_left q.windows o r) (unless_none r cs) → EndsIn w P (k r cs)) → EndsIn w P (With_invalidation c o k)
 ends-key c w P q None k bound is named more = more None [] (kept-leaves w q bound is)
 ends-key c w P q (Some i) k bound is named more = (
   λ has. more (region_refusal i.key (w.region slot)) _ (region has (region_refusal i.key (w.region slot)) refl),
@@ -221,7 +221,7 @@ ends-key c w P q (Some i) k bound is named more = (
     slot = slot_of_key i.domain i.key
 
     region : names_region c i.domain i.key ≡ true → (r : Option OpRefusal) → region_refusal i.key (w.region slot) ≡ r
-        → Leaves w q (windows_left q (Some i) r) (unless_none r ((Region_of slot := after_region_invalidation (w.region slot)) ∷ []))
+        → Leaves w q (windows_left q.windows (Some i) r) (unless_none r ((Region_of slot := after_region_invalidation (w.region slot)) ∷ []))
     region has (Some cause) e = kept-leaves w q bound is
     region has None e = λ p same. region-leaves w q slot (after_region_invalidation (w.region slot)) bound is (ended-region i.key (w.region slot) e) p
         (same ∙ region-left q i (not-true (is_window_key i.key) (and_parts (not (is_window_key i.key)) (is_key_of i.domain i.key)
@@ -241,7 +241,7 @@ ends-key c w P q (Some i) k bound is named more = (
     key has = (and_parts (is_window_key i.key) (is_key_of i.domain i.key)
         (and_parts (is_window_key i.key && is_key_of i.domain i.key) (has_slot c (λ a. a.windows) slot) has).0).0
 
-    none-bound : (w.window slot).binding ≡ None → (r : Option OpRefusal) → window_refusal i.key i.queue (w.window slot) ≡ r → Leaves w q (windows_left q (Some i) r) (unless_none r [])
+    none-bound : (w.window slot).binding ≡ None → (r : Option OpRefusal) → window_refusal i.key i.queue (w.window slot) ≡ r → Leaves w q (windows_left q.windows (Some i) r) (unless_none r [])
     none-bound empty (Some cause) e = kept-leaves w q bound is
     none-bound empty None e = absurd (true≢false (sym (ap is_none empty) ∙ (ended-window i.key i.queue (w.window slot) e).0))
 
@@ -251,7 +251,7 @@ ends-key c w P q (Some i) k bound is named more = (
         (ap (is_of_other_queue i.queue) (sym bind) ∙ (ended-window i.key i.queue (w.window slot) e).1))
 
     some-bound : names_window c i.domain i.key ≡ true → (b : Binding) → (w.window slot).binding ≡ Some b → (r : Option OpRefusal) → window_refusal i.key i.queue (w.window slot) ≡ r
-        → Leaves w q (windows_left q (Some i) r) (unless_none r (changes b))
+        → Leaves w q (windows_left q.windows (Some i) r) (unless_none r (changes b))
     some-bound has b bind (Some cause) e = kept-leaves w q bound is
     some-bound has b bind None e = λ p same. window-leaves w slot (without_binding (w.window slot)) b _ bound bind refl
         (queue-counts w q p (λ name. is_bound_by name (w.window slot)) is (omega (arith, same ∙ window-left q i (key has), ap one (this b bind e))))
@@ -281,7 +281,7 @@ ends-row-bound c w P q row finish bound is counts more =
     by gs (Some d) = ending q.windows [] (row.denied d) (kept-leaves w q bound is) (counts.denied d)
     by gs None = ends-bytes w P row.asks gs (λ bytes. With_invalidation c row.invalidation (λ refusal cs. End_plan c finish (unless_none refusal cs) (row.allowed bytes refusal)))
         (λ bytes. ends-key c w P q row.invalidation (λ refusal cs. End_plan c finish (unless_none refusal cs) (row.allowed bytes refusal)) bound is counts.of_queue
-        (λ refusal cs leaves. ending (windows_left q row.invalidation refusal) (unless_none refusal cs) (row.allowed bytes refusal) leaves (counts.allowed bytes refusal)))
+        (λ refusal cs leaves. ending (windows_left q.windows row.invalidation refusal) (unless_none refusal cs) (row.allowed bytes refusal) leaves (counts.allowed bytes refusal)))
 
 -- what an event's changes leave
 abbrev pub Bounds : World → List Update → Type 0
