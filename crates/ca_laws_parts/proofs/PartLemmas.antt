@@ -1,5 +1,5 @@
 -- What each event touches lies in the table of parts.
-use Rattle.std.proofs.Common.{◌≡◌, ℕ, inl, inr, Bool, true, false, List, [], ◌∷◌, ◌++◌, Option, None, Some, IfSome, subst, ◌∙◌, ◌&&◌, not, ap₂, sym, true≢false, if◌then◌else◌, is_none, slice_get, refl, rules}
+use Rattle.std.proofs.Common.{rules, ◌≡◌, ℕ, inl, inr, Bool, true, false, List, [], ◌∷◌, ◌++◌, Option, None, Some, IfSome, subst, ◌∙◌, ◌&&◌, not, ap₂, sym, true≢false, if◌then◌else◌, is_none, slice_get, refl}
 use Rattle.std.proofs.lemmas.List.{append-nil}
 use Rattle.std.proofs.lemmas.Bool.{and_parts}
 use Rattle.std.specs.List.{AllByRecursion}
@@ -13,14 +13,12 @@ use Rattle.ca_keys.specs.declared.names.Slot.{Slot}
 use Rattle.ca_keys.specs.declared.place.Run.{Run}
 use Rattle.ca_base.specs.declared.step.Reason.{Reason}
 use Rattle.ca_base.specs.declared.step.Reason.TheVariants as reasons
-use Rattle.ca_base.specs.declared.step.Sent.{Sent}
-use Rattle.ca_base.specs.declared.step.Sent.TheVariants.{Silent, Spelt}
 use Rattle.ca_base.specs.Configuration.{Configuration}
 use Rattle.ca_keys.specs.Refusals.{first_of}
 use Rattle.ca_base.specs.Sight.{Invalidation}
 use Rattle.ca_base.specs.objects.CompletionQueue.{CompletionQueue}
 use Rattle.ca_base.specs.declared.correspondent.Correspondent.{Correspondent}
-use Rattle.ca_base.specs.objects.Mailbox.{Mailbox, after_delivery, after_send, bytes_lent}
+use Rattle.ca_base.specs.objects.Mailbox.{Mailbox, after_delivery, bytes_lent}
 use Rattle.ca_base.specs.objects.QueuePair.{QueuePair, QueueSlot, NoQueue, Present, recv_cq_of, send_cq_of, srq_of}
 use Rattle.ca_base.specs.objects.Region.{RegionState, NoRegion, Free, Registered, FastRegistered, grant_in_state}
 use Rattle.ca_base.specs.objects.SharedReceives.{SharedReceives, SrqSlot, after_receive_take}
@@ -43,7 +41,7 @@ use Rattle.ca_model.specs.machine.HostVerbs.{inject_plan}
 use Rattle.ca_model.specs.machine.Seen.{asks_window}
 use Rattle.ca_model.specs.machine.Respond.{answer_turn, respond_refusals, respond_row}
 use Rattle.ca_model.specs.machine.Timers.{after_timeout, after_wake, wake_refusals}
-use Rattle.ca_model.specs.machine.Turns.{Fire, Leave_plan, Packet, Respond_around, Timeout_around, With_receives, has_room_for, packet_sent, reaches_peer, respond_plan, sent_updates, timeout_plan, wake_plan}
+use Rattle.ca_model.specs.machine.Turns.{Fire, Leave_plan, Respond_around, Timeout_around, With_receives, has_room_for, packet_sent, reaches_peer, respond_plan, sent_updates, timeout_plan, wake_plan}
 use Rattle.ca_model.specs.machine.VerbAnswers.{Call, Refuse_plan, answer_mark}
 use Rattle.ca_model.specs.machine.World.{World, Name, Region_of, Srq_of, Queue_of, Mailbox_of}
 use Rattle.ca_model.specs.declared.part_name.PartName.{PartName}
@@ -362,19 +360,7 @@ inject-in c w ps call name bytes sound inc = present-in c w ps name (λ q. Part 
 -- a packet goes to the peer's mailbox
 sent-in : (ps : List PartName) (q : QueuePair) (peer : Correspondent) (m : Mailbox) (lot : Lot) (e : Effects) → IsAmong ps (names.Mailbox peer.queue)
     → NamesIn (In ps) (names_updated (option_map_or (sent_updates q peer m lot) (packet_sent e) []))
-sent-in ps q peer m lot e among = by e.sent
-  where
-    packet : Sent → Option Packet
-    packet Silent = None
-    packet (Spelt request) = Some (record { request = request; bytes = e.spelt })
-
-    reach : (p : Packet) (b : Bool) → NamesIn (In ps) (names_updated (if b then (Mailbox_of peer.queue := after_send lot p.bytes m) ∷ [] else []))
-    reach p true = (among, record {})
-    reach p false = record {}
-
-    by : (s : Sent) → NamesIn (In ps) (names_updated (option_map_or (sent_updates q peer m lot) (packet s) []))
-    by Silent = record {}
-    by (Spelt request) = reach (record { request = request; bytes = e.spelt }) (reaches_peer q peer m)
+sent-in ps q peer m lot e among = search rules
 
 pub left-in : (c : Configuration) (w : World) (ps : List PartName) (q : QueuePair) (peer : Correspondent) (lot : Lot) (row : Row) → IsSoundWorld c w → RowWrites row → Given w ps (row_needs c row)
     → IsAmong ps (names.Queue q.queue) → Included (around_parts q) ps → IsAmong ps (names.Mailbox peer.queue)

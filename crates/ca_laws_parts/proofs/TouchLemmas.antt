@@ -23,6 +23,9 @@ use Rattle.ca_model.specs.machine.Row.{Ending, NotPossible, Does, Effects, Row, 
 use Rattle.ca_model.specs.machine.Seen.{asks_window, grant_in}
 use Rattle.ca_model.specs.machine.World.{World, Name, Byte_at, Region_of, Window_of, get}
 use Rattle.ca_laws_sound.proofs.WorldLemmas.{EndingDoes, RowDoes}
+use Rattle.ca_laws_sound.proofs.SettledLemmas.{append-all}
+use Rattle.ca_model.specs.declared.answer.Refusal.{Refusal}
+use Rattle.ca_model.specs.machine.VerbAnswers.{Call, Unless_plan}
 
 abbrev pub NamesIn : (Name → Type 0) → List Name → Type 0
 NamesIn A ns = AllByRecursion A ns
@@ -46,6 +49,10 @@ touches-all w A (Read runs k) all = names-append A (byte_names runs) (touches w 
 touches-all w A (If true p q) all = touches-all w A p (all.0 refl)
 touches-all w A (If false p q) all = touches-all w A q (all.1 refl)
 touches-all w A (Finish changes writes marks) all = names-append A (names_updated changes) (names_written writes) all.0 all.1
+
+pub touches-call : (w : World) (A : Name → Type 0) (call : Call) (tests : List (Bool × Refusal)) (p : Plan) → TouchesIn w A p → TouchesIn w A (Unless_plan call tests p)
+touches-call w A call [] p ends = ends
+touches-call w A call (t ∷ ts) p ends = (λ is. (record {}, record {}), λ is. touches-call w A call ts p ends)
 
 pub updated-append : (A : Name → Type 0) (xs ys : List Update) → NamesIn A (names_updated xs) → NamesIn A (names_updated ys) → NamesIn A (names_updated (xs ++ ys))
 updated-append A [] ys one other = other
@@ -72,10 +79,6 @@ all-mapped : {X Y : Type 0} (P : Y → Type 0) (f : X → Y) (xs : List X) → A
 all-mapped P f [] all = record {}
 all-mapped P f (x ∷ xs) all = (all.0, all-mapped P f xs all.1)
 
-all-joined : {X : Type 0} (P : X → Type 0) (xs ys : List X) → AllByRecursion P xs → AllByRecursion P ys → AllByRecursion P (xs ++ ys)
-all-joined P [] ys one other = other
-all-joined P (x ∷ xs) ys one other = (one.0, all-joined P xs ys one.1 other)
-
 run-in : (A : Name → Type 0) (r : Run) (ns : List ℕ) → InBuffer A r
     → AllByRecursion (λ p. A (Byte_at p)) (map (λ at. record { adapter = r.adapter; buffer = r.buffer; offset = at }) ns)
 run-in A r [] all = record {}
@@ -83,7 +86,7 @@ run-in A r (n ∷ ns) all = (all (record { adapter = r.adapter; buffer = r.buffe
 
 places-in : (A : Name → Type 0) (rs : List Run) → InBuffers A rs → AllByRecursion (λ p. A (Byte_at p)) (places_of rs)
 places-in A [] all = record {}
-places-in A (r ∷ rs) all = all-joined (λ p. A (Byte_at p)) (run_places r) (places_of rs) (run-in A r _ all.0) (places-in A rs all.1)
+places-in A (r ∷ rs) all = append-all (λ p. A (Byte_at p)) (run_places r) (places_of rs) (run-in A r _ all.0) (places-in A rs all.1)
 
 pub bytes-in : (A : Name → Type 0) (rs : List Run) → InBuffers A rs → NamesIn A (byte_names rs)
 bytes-in A rs all = all-mapped A Byte_at (places_of rs) (places-in A rs all)

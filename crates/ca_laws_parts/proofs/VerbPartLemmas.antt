@@ -1,12 +1,12 @@
 -- What the verbs touch lies in the table of parts.
-use Rattle.std.proofs.Common.{◌≡◌, ℕ, suc, ◌-◌, min, nat_lt, arith, inl, inr, Bool, false, List, [], ◌∷◌, ◌++◌, length, take, Option, None, Some, IfSome, subst, ◌&&◌, ◌||◌, ◌==◌, not, ap₂, sym, true, if◌then◌else◌, is_none, refl}
+use Rattle.std.proofs.Common.{rules, ◌≡◌, ℕ, suc, ◌-◌, min, nat_lt, arith, inl, inr, false, List, [], ◌∷◌, ◌++◌, length, take, Option, None, Some, IfSome, subst, ◌&&◌, ◌||◌, ◌==◌, not, ap₂, sym, true, if◌then◌else◌, is_none, refl}
 use Rattle.std.proofs.lemmas.Bool.{ltb-false, or_parts}
 use Rattle.std.specs.Option.{option_and_then, option_map, option_map_or}
 use Rattle.ca_base.specs.declared.change.Change as state_change
 use Rattle.ca_base.specs.declared.change.Change.TheVariants as changes
 use Rattle.ca_base.specs.declared.change.Field.TheVariants as fields
 use Rattle.ca_base.specs.declared.completion.Completion.{Completion}
-use Rattle.ca_base.specs.declared.limits.TheConstants.{MAX_MESSAGE_BYTES, MAX_POLLED}
+use Rattle.ca_base.specs.declared.limits.TheConstants.{MAX_POLLED}
 use Rattle.ca_keys.specs.declared.names.DomainId.{DomainId}
 use Rattle.ca_keys.specs.declared.names.QueueId.{QueueId}
 use Rattle.ca_keys.specs.declared.names.Slot.{Slot}
@@ -18,45 +18,41 @@ use Rattle.ca_base.specs.declared.request.SendRequest.{SendRequest}
 use Rattle.ca_keys.specs.declared.rights.Rights.{Rights}
 use Rattle.ca_base.specs.Configuration.{Configuration}
 use Rattle.ca_keys.specs.Numbers.{queue_of}
-use Rattle.ca_base.specs.objects.CompletionQueue.{CompletionQueue, after_polls, after_reserve}
-use Rattle.ca_base.specs.objects.Domain.{with_object, without_object}
-use Rattle.ca_base.specs.objects.Mailbox.{with_peer}
+use Rattle.ca_base.specs.objects.CompletionQueue.{CompletionQueue, after_polls}
+use Rattle.ca_base.specs.objects.Domain.{without_object}
 use Rattle.ca_base.specs.objects.QueuePair.{QueuePair, QueueSlot, NoQueue, Present, recv_cq_of, send_cq_of, srq_of}
 use Rattle.ca_base.specs.objects.Region.{with_window_unbound}
-use Rattle.ca_base.specs.objects.SharedReceives.{SharedReceives, SrqSlot, after_receive_post, after_receives_retire, is_full_of_receives}
+use Rattle.ca_base.specs.objects.SharedReceives.{SharedReceives, SrqSlot, after_receives_retire}
 use Rattle.ca_base.specs.objects.StateTable.{modify_refusals, queue_after_change}
 use Rattle.ca_base.specs.objects.Window.{Binding, Window, after_deallocation, after_draw, byte_drawn, key_of_window}
 use Rattle.ca_model.specs.declared.answer.Answer.TheVariants as answers
-use Rattle.ca_model.specs.declared.answer.Refusal.{Refusal}
-use Rattle.ca_model.specs.declared.answer.Refusal.TheVariants.{CqTooSmall, NoSuch, OutOfRange, QueueFull, TooLong, WindowsBound}
+use Rattle.ca_model.specs.declared.answer.Refusal.TheVariants.{CqTooSmall, NoSuch, OutOfRange, WindowsBound}
 use Rattle.ca_model.specs.declared.mark.Mark.{Mark}
 use Rattle.ca_model.specs.declared.mark.Mark.TheVariants as marks
 use Rattle.ca_model.specs.declared.verb.Verb.{Verb}
 use Rattle.ca_model.specs.declared.verb.Verb.TheVariants as verbs
-use Rattle.ca_model.specs.Requests.{list_length}
-use Rattle.ca_model.specs.machine.Around.{Around, With_around, cq_updates}
+use Rattle.ca_model.specs.machine.Around.{Around, With_around}
 use Rattle.ca_model.specs.machine.CompletionVerbs.{Poll_of, With_place, With_places, create_cq_plan, create_srq_plan, destroy_cq_plan, destroy_srq_plan, poll_plan, receives_after_poll, slot_after_poll, source_of_completion}
 use Rattle.ca_model.specs.machine.Completions.{flush_marks}
 use Rattle.ca_model.specs.machine.DomainVerbs.{alloc_pd_plan, dealloc_pd_plan}
 use Rattle.ca_model.specs.machine.HostVerbs.{load_plan, store_plan}
-use Rattle.ca_model.specs.machine.Plan.{If, Look, Plan, Update, ◌:=◌, names_updated, unless_refused}
-use Rattle.ca_model.specs.machine.PostingVerbs.{Posted_send, post_recv_plan, post_send_plan, post_srq_plan}
-use Rattle.ca_base.specs.objects.WorkQueue.{occupied_count}
-use Rattle.ca_model.specs.machine.QueuePairVerbs
-use Rattle.ca_model.specs.machine.QueuePairVerbs.{Creation, With_present, With_shared, before_receives, beside, create_qp_plan, destroy_qp_plan, emptied_updates, has_bad_depth, has_queues, has_no_room, left_updates, modify_qp_plan, new_queue, places_held, query_qp_plan, receive_reserve, receive_room, send_reserved, user_updates, without_queue}
+use Rattle.ca_model.specs.machine.Plan.{Finish, If, Look, Plan, Update, ◌:=◌, names_updated}
+use Rattle.ca_model.specs.machine.PostingVerbs.{Posted_send, post_recv_refusals, post_send_refusals, post_recv_plan, post_send_plan, post_srq_plan}
+use Rattle.ca_model.specs.machine.QueuePairVerbs.{Creation, With_present, beside, create_qp_plan, destroy_qp_plan, emptied_updates, has_bad_depth, has_queues, has_no_room, modify_qp_plan, new_queue, places_held, query_qp_plan}
 use Rattle.ca_model.specs.machine.RegionVerbs.{alloc_mr_plan, dereg_mr_plan, reg_mr_plan}
 use Rattle.ca_model.specs.machine.Row.{region_under}
 use Rattle.ca_model.specs.machine.Step.{bytes_of_buffer, run_of, verb_plan}
 use Rattle.ca_model.specs.machine.VerbAnswers.{Answer_plan, Call, Refuse_plan, Unless_plan, of_change_refusals}
 use Rattle.ca_model.specs.machine.WindowVerbs.{With_binder, alloc_mw_plan, dealloc_mw_plan, queue_updates}
-use Rattle.ca_model.specs.machine.World.{Cq_of, Domain_of, Mailbox_of, Queue_of, Region_of, Srq_of, Window_of, World}
+use Rattle.ca_model.specs.machine.World.{Cq_of, Domain_of, Queue_of, Region_of, Srq_of, Window_of, World}
 use Rattle.ca_model.specs.declared.part_name.PartName.{PartName}
 use Rattle.ca_model.specs.declared.part_name.PartName.TheVariants as names
 use Rattle.ca_model.specs.machine.Parts.{Enough, IsAmong, Needs, Part, drawing_needs, emptying_needs, listed, part, place_part, places_needs, present_needs, queues_needs, verb_needs, where_some}
 use Rattle.ca_model.specs.machine.Sound.{IsSoundWorld}
 use Rattle.ca_laws_parts.proofs.PartLemmas.{Given, In, Included, around-given, around-in, around_parts, inject-in, present-in, srq-in}
-use Rattle.ca_laws_parts.proofs.TouchLemmas.{InBuffers, NamesIn, TouchesIn, bytes-in, names-append}
+use Rattle.ca_laws_parts.proofs.TouchLemmas.{InBuffers, NamesIn, TouchesIn, bytes-in, names-append, touches-call}
 use Rattle.ca_laws_sound.proofs.WorldLemmas.{around_in, shared_of}
+use Rattle.ca_laws_sound.proofs.PlanWalks.{changed_around, created, destroyed}
 
 -- nothing is changed
 nothing : (ps : List PartName) → NamesIn (In ps) [] × NamesIn (In ps) []
@@ -71,29 +67,7 @@ dealloc_pd-in w ps call d domain = (domain, (λ is. nothing ps, λ is. (λ is. n
 -- a verb on an object of a domain: it looks at both, and changes both or nothing
 reg_mr-in : (c : Configuration) (w : World) (ps : List PartName) (call : Call) (s : Slot) (at : Run) (bytes : ℕ) (rights : Rights) → IsAmong ps (names.Control s.domain) → IsAmong ps (names.Region s)
     → TouchesIn w (In ps) (reg_mr_plan call s at bytes rights)
-reg_mr-in c w ps call s at bytes rights domain region = (
-  domain,
-  (
-    region,
-    (
-      λ is. nothing ps,
-      λ is. (
-        λ is. nothing ps,
-        λ is. (
-          λ is. nothing ps,
-          λ is. (
-            λ is. nothing ps,
-            λ is. (
-              λ is. nothing ps,
-              λ is.
-                  ((domain, (region, record {})), record {}),
-            ),
-          ),
-        ),
-      ),
-    ),
-  ),
-)
+reg_mr-in c w ps call s at bytes rights domain region = search rules depth 12
 
 alloc_mr-in : (c : Configuration) (w : World) (ps : List PartName) (call : Call) (s : Slot) (pages : ℕ) → IsAmong ps (names.Control s.domain) → IsAmong ps (names.Region s)
     → TouchesIn w (In ps) (alloc_mr_plan call s pages)
@@ -197,15 +171,7 @@ verb-present : (c : Configuration) (w : World) (ps : List PartName) (call : Call
 verb-present c w ps call s more k sound inc there = present-in c w ps (queue_of s) more k (Refuse_plan call NoSuch) sound inc (nothing ps) there
 
 query-in : (w : World) (ps : List PartName) (call : Call) (s : Slot) → IsAmong ps (names.Queue (queue_of s)) → TouchesIn w (In ps) (query_qp_plan call s)
-query-in w ps call s among = (among, by (w.queue (queue_of s)))
-  where
-    plan : QueueSlot → Plan
-    plan (NoQueue incarnation timers) = Refuse_plan call NoSuch
-    plan (Present q) = Answer_plan call (answers.Query q.state q.incarnation (occupied_count q.sends) (option_map_or occupied_count q.receives 0)) [] []
-
-    by : (v : QueueSlot) → TouchesIn w (In ps) (plan v)
-    by (NoQueue incarnation timers) = nothing ps
-    by (Present q) = nothing ps
+query-in w ps call s among = search rules
 
 -- what stands around a queue pair that is emptied, and its mailbox
 record IsEmptied (w : World) (ps : List PartName) (q : QueuePair) : Type 0 where
@@ -223,28 +189,15 @@ modify-in : (c : Configuration) (w : World) (ps : List PartName) (call : Call) (
 modify-in c w ps call s change sound inc = verb-present c w ps call s emptying_needs _ sound inc
     (λ q queue given. at q queue (emptied-given w ps q given))
   where
-    updates : QueuePair → Around → state_change.Change → List Update
-    updates q a changes.Error = cq_updates q a (flush_marks q)
-    updates q a changes.Reset =
-        (Mailbox_of q.queue := QueuePairVerbs.emptied_mailbox (queue_after_change changes.Reset q).incarnation (w.mailbox q.queue)) ∷ emptied_updates q a
-    updates q a (changes.Rtr peer incarnation psn mtu rnr_code) =
-        (Mailbox_of q.queue := with_peer q.incarnation (Some (record { queue = peer; incarnation = incarnation })) (w.mailbox q.queue)) ∷ []
-    updates q a change = []
-
     told : QueuePair → state_change.Change → List Mark
     told q changes.Error = flush_marks q
     told q change = []
 
     done : QueuePair → Around → state_change.Change → Plan
-    done q a change = Answer_plan call answers.Fine ((Queue_of q.queue := Present (queue_after_change change q)) ∷ updates q a change) (told q change)
+    done q a change = Answer_plan call answers.Fine ((Queue_of q.queue := Present (queue_after_change change q)) ∷ changed_around w q a change) (told q change)
 
     plan : QueuePair → Around → Plan
     plan q a = Unless_plan call (of_change_refusals (modify_refusals c q change)) (done q a change)
-
-    refusing : (q : QueuePair) (tests : List (Bool × Refusal)) → TouchesIn w (In ps) (done q (around_in w q (shared_of w q)) change)
-        → TouchesIn w (In ps) (unless_refused tests (Refuse_plan call) (done q (around_in w q (shared_of w q)) change))
-    refusing q [] ends = ends
-    refusing q (t ∷ ts) ends = (λ is. nothing ps, λ is. refusing q ts ends)
 
     emptied : (q : QueuePair) → Included (around_parts q) ps → NamesIn (In ps) (names_updated (emptied_updates q (around_in w q (shared_of w q))))
     emptied q around = (
@@ -269,7 +222,7 @@ modify-in c w ps call s change sound inc = verb-present c w ps call s emptying_n
     at q queue all = (
       all.mailbox,
       around-in w ps q (plan q) all.around
-          (refusing q (of_change_refusals (modify_refusals c q change)) (changed q change queue all.mailbox all.around)),
+          (touches-call w (In ps) call (of_change_refusals (modify_refusals c q change)) (done q (around_in w q (shared_of w q)) change) (changed q change queue all.mailbox all.around)),
     )
 
 destroy-in : (c : Configuration) (w : World) (ps : List PartName) (call : Call) (s : Slot) → IsSoundWorld c w → Given w ps (verb_needs c (verbs.DestroyQp s)) → TouchesIn w (In ps) (destroy_qp_plan call s)
@@ -280,17 +233,6 @@ destroy-in c w ps call s sound inc = (
   where
     domain : IsAmong ps (names.Control s.domain)
     domain = inc (names.Control s.domain) (inl refl)
-
-    plan : QueuePair → Around → Plan
-    plan q a = If (nat_lt 0 q.windows) (Refuse_plan call WindowsBound)
-        (Answer_plan call answers.Fine
-        ((Domain_of s.domain := without_object (w.domain s.domain))
-        ∷ (Queue_of q.queue := NoQueue q.incarnation q.requester.timers)
-        ∷ (Mailbox_of q.queue := QueuePairVerbs.emptied_mailbox q.incarnation (w.mailbox q.queue))
-        ∷ (Cq_of (send_cq_of q) := option_map (without_queue q) a.send)
-        ∷ (Cq_of (recv_cq_of q) := option_map (without_queue q) a.recv)
-        ∷ left_updates q a)
-        [])
 
     left : QueuePair → Option ℕ → Option SrqSlot → List Update
     left q (Some srq) (Some slot) = (Srq_of (record { domain = q.domain; slot = srq }) := record {
@@ -304,35 +246,30 @@ destroy-in c w ps call s sound inc = (
     by q (Some srq) None inc = record {}
     by q (Some srq) (Some slot) inc = (inc (names.Srq (srq_of q srq)) (inl refl), record {})
 
-    changed : (q : QueuePair) → IsAmong ps (names.Queue q.queue) → IsAmong ps (names.Mailbox q.queue) → Included (around_parts q) ps
-        → NamesIn (In ps) (names_updated ((Domain_of s.domain := without_object (w.domain s.domain))
-        ∷ (Queue_of q.queue := NoQueue q.incarnation q.requester.timers)
-        ∷ (Mailbox_of q.queue := QueuePairVerbs.emptied_mailbox q.incarnation (w.mailbox q.queue))
-        ∷ (Cq_of (send_cq_of q) := option_map (without_queue q) (w.cq (send_cq_of q)))
-        ∷ (Cq_of (recv_cq_of q) := option_map (without_queue q) (w.cq (recv_cq_of q)))
-        ∷ left_updates q (around_in w q (shared_of w q)))) × NamesIn (In ps) []
-    changed q queue mailbox around = (
+    gone : (q : QueuePair) → IsAmong ps (names.Queue q.queue) → IsAmong ps (names.Mailbox q.queue) → Included (around_parts q) ps
+        → NamesIn (In ps) (names_updated (destroyed w s q (around_in w q (shared_of w q))))
+    gone q queue mailbox around = (
+      domain,
       (
-        domain,
+        queue,
         (
-          queue,
+          mailbox,
           (
-            mailbox,
+            around (names.Cq (send_cq_of q)) (inl refl),
             (
-              around (names.Cq (send_cq_of q)) (inl refl),
-              (
-                around (names.Cq (recv_cq_of q)) (inr (inl refl)),
-                by q q.srq (shared_of w q) (λ p among. around p (inr (inr among))),
-              ),
+              around (names.Cq (recv_cq_of q)) (inr (inl refl)),
+              by q q.srq (shared_of w q) (λ p among. around p (inr (inr among))),
             ),
           ),
         ),
       ),
-      record {},
     )
 
+    plan : QueuePair → Around → Plan
+    plan q a = If (nat_lt 0 q.windows) (Refuse_plan call WindowsBound) (Answer_plan call answers.Fine (destroyed w s q a) [])
+
     at : (q : QueuePair) → IsAmong ps (names.Queue q.queue) → IsEmptied w ps q → IsAmong ps (names.Mailbox q.queue) × TouchesIn w (In ps) (With_around q (plan q))
-    at q queue all = (all.mailbox, around-in w ps q (plan q) all.around (λ is. nothing ps, λ is. changed q queue all.mailbox all.around))
+    at q queue all = (all.mailbox, around-in w ps q (plan q) all.around (λ is. nothing ps, λ is. (gone q queue all.mailbox all.around, record {})))
 
 -- the queues of a queue pair that is made, where they are configured
 record AreQueues (ps : List PartName) (x : Creation) : Type 0 where
@@ -359,37 +296,13 @@ queues-given c w ps x inc has = record {
 
 create-in : (c : Configuration) (w : World) (ps : List PartName) (call : Call) (x : Creation) → IsAmong ps (names.Control x.slot.domain) → IsAmong ps (names.Queue (queue_of x.slot))
     → IsAmong ps (names.Mailbox (queue_of x.slot)) → Given w ps (queues_needs c x) → TouchesIn w (In ps) (create_qp_plan c call x)
-create-in c w ps call x domain queue mailbox inc = (
-  domain,
-  (
-    queue,
-    (
-      mailbox,
-      (
-        λ is. nothing ps,
-        λ is. (
-          λ is. nothing ps,
-          λ is.
-              (λ has. at (queues-given c w ps x inc has), λ is. nothing ps),
-        ),
-      ),
-    ),
-  ),
-)
+create-in c w ps call x domain queue mailbox inc =
+    (domain, (queue, (mailbox, (λ is. nothing ps, λ is. (λ is. nothing ps, λ is. (λ has. at (queues-given c w ps x inc has), λ is. nothing ps))))))
   where
-    made : CompletionQueue → CompletionQueue → Option SrqSlot → Option SharedReceives → Plan
-    made send recv srq shared = Answer_plan call (answers.Queue (queue_of x.slot).number (new_queue x (w.queue (queue_of x.slot))).incarnation)
-        ((Domain_of x.slot.domain := with_object (w.domain x.slot.domain))
-        ∷ (Queue_of (queue_of x.slot) := Present (new_queue x (w.queue (queue_of x.slot))))
-        ∷ (Mailbox_of (queue_of x.slot) := with_peer (new_queue x (w.queue (queue_of x.slot))).incarnation None (w.mailbox (queue_of x.slot)))
-        ∷ (Cq_of (beside x.slot x.send_cq) := Some (send_reserved x send))
-        ∷ (Cq_of (beside x.slot x.recv_cq) := Some (after_reserve (receive_reserve x) (receive_room x shared) (before_receives x send recv)))
-        ∷ user_updates x srq)
-        []
-
     there_plan : Option CompletionQueue → Option CompletionQueue → Option SrqSlot → Option SharedReceives → Plan
     there_plan (Some send) (Some recv) srq shared = If (is_none shared && not (is_none x.srq)) (Refuse_plan call NoSuch)
-        (If (has_bad_depth x) (Refuse_plan call (OutOfRange fields.Depth)) (If (has_no_room x shared send recv) (Refuse_plan call CqTooSmall) (made send recv srq shared)))
+        (If (has_bad_depth x) (Refuse_plan call (OutOfRange fields.Depth)) (If (has_no_room x shared send recv) (Refuse_plan call CqTooSmall)
+        (Answer_plan call (answers.Queue (queue_of x.slot).number (new_queue x (w.queue (queue_of x.slot))).incarnation) (created w x send recv srq shared) [])))
     there_plan send recv srq shared = Refuse_plan call NoSuch
 
     plan : Option SrqSlot → Plan
@@ -417,8 +330,7 @@ create-in c w ps call x domain queue mailbox inc = (
         λ is. nothing ps,
         λ is. (
           λ is. nothing ps,
-          λ is.
-              ((domain, (queue, (mailbox, (all.send, (all.recv, used x.srq srq all.shared))))), record {}),
+          λ is. ((domain, (queue, (mailbox, (all.send, (all.recv, used x.srq srq all.shared))))), record {}),
         ),
       ),
     )
@@ -432,23 +344,8 @@ create-in c w ps call x domain queue mailbox inc = (
 
 posted-in : (w : World) (ps : List PartName) (call : Call) (q : QueuePair) (request : SendRequest) (drawn : Option ℕ) (window : Slot) (more : List Update) → IsAmong ps (names.Queue q.queue)
     → IsAmong ps (names.Cq (send_cq_of q)) → NamesIn (In ps) (names_updated more) → TouchesIn w (In ps) (Posted_send call q request drawn window more)
-posted-in w ps call q request drawn window more queue cq rest = (
-  cq,
-  (
-    λ is. nothing ps,
-    λ is. (
-      λ is. nothing ps,
-      λ is. (
-        λ is. nothing ps,
-        λ is. (
-          λ is. nothing ps,
-          λ is.
-              ((queue, (cq, rest)), record {}),
-        ),
-      ),
-    ),
-  ),
-)
+posted-in w ps call q request drawn window more queue cq rest =
+    (cq, touches-call w (In ps) call (post_send_refusals request q) (Finish ((Queue_of q.queue := Present q) ∷ (Cq_of (send_cq_of q) := None) ∷ more) [] []) ((queue, (cq, rest)), record {}))
 
 post_send-in : (c : Configuration) (w : World) (ps : List PartName) (call : Call) (s : Slot) (request : SendRequest) → IsSoundWorld c w → Given w ps (verb_needs c (verbs.PostSend s request))
     → TouchesIn w (In ps) (post_send_plan call s request)
@@ -484,36 +381,14 @@ post_send-in c w ps call s request sound inc = verb-present c w ps call s (λ q.
 
 post_recv-in : (c : Configuration) (w : World) (ps : List PartName) (call : Call) (s : Slot) (request : RecvRequest) → IsSoundWorld c w → Given w ps (verb_needs c (verbs.PostRecv s request))
     → TouchesIn w (In ps) (post_recv_plan call s request)
-post_recv-in c w ps call s request sound inc = verb-present c w ps call s (λ q. part (names.Cq (recv_cq_of q))) _ sound inc
-    (λ q queue inc. (
-      inc (names.Cq (recv_cq_of q)) (inl refl),
-      (
-        λ is. nothing ps,
-        λ is. (
-          λ is. nothing ps,
-          λ is. (
-            λ is. nothing ps,
-            λ is. (
-              λ is. nothing ps,
-              λ is.
-                  ((queue, (inc (names.Cq (recv_cq_of q)) (inl refl), record {})), record {}),
-            ),
-          ),
-        ),
-      ),
-    ))
+post_recv-in c w ps call s request sound inc = verb-present c w ps call s (λ q. part (names.Cq (recv_cq_of q))) _ sound inc (λ q queue inc. (
+  inc (names.Cq (recv_cq_of q)) (inl refl),
+  touches-call w (In ps) call (post_recv_refusals request q) (Finish ((Queue_of q.queue := Present q) ∷ (Cq_of (recv_cq_of q) := None) ∷ []) [] [])
+      ((queue, (inc (names.Cq (recv_cq_of q)) (inl refl), record {})), record {}),
+))
 
 post_srq-in : (w : World) (ps : List PartName) (call : Call) (s : Slot) (request : RecvRequest) → IsAmong ps (names.Srq s) → TouchesIn w (In ps) (post_srq_plan call s request)
-post_srq-in w ps call s request among = (among, by (w.srq s).srq)
-  where
-    plan : Option SharedReceives → Plan
-    plan None = Refuse_plan call NoSuch
-    plan (Some srq) = If (nat_lt MAX_MESSAGE_BYTES (list_length request.list.items)) (Refuse_plan call TooLong) (If (is_full_of_receives srq) (Refuse_plan call QueueFull)
-        (Answer_plan call (answers.Posted None) ((Srq_of s := record (w.srq s) { srq = Some (after_receive_post request srq) }) ∷ []) []))
-
-    by : (o : Option SharedReceives) → TouchesIn w (In ps) (plan o)
-    by None = nothing ps
-    by (Some srq) = (λ is. nothing ps, λ is. (λ is. nothing ps, λ is. ((among, record {}), record {})))
+post_srq-in w ps call s request among = search rules depth 9
 
 place-in : (w : World) (ps : List PartName) (s : Slot) (cq : CompletionQueue) (polled : List Completion) (x : Completion) (k : Update → Plan) → IsAmong ps (place_part s cq x)
     → ((u : Update) → In ps u.name → TouchesIn w (In ps) (k u)) → TouchesIn w (In ps) (With_place s cq polled x k)

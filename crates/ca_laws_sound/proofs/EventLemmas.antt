@@ -1,5 +1,5 @@
 -- Every verb keeps a world sound.
-use Rattle.std.proofs.Common.{◌≡◌, ℕ, ◌-◌, ◌≤◌, nat_lt, arith, Bool, true, false, List, [], ◌∷◌, ◌++◌, Option, None, Some, IfSome, subst, ◌∙◌, ◌||◌, ◌==◌, not, ap, sym, true≢false, refl}
+use Rattle.std.proofs.Common.{rules, ◌≡◌, ℕ, ◌-◌, ◌≤◌, nat_lt, arith, Bool, true, false, List, [], ◌∷◌, ◌++◌, Option, None, Some, IfSome, subst, ◌∙◌, ◌||◌, ◌==◌, not, ap, sym, true≢false, refl}
 use Rattle.std.proofs.lemmas.Bool.{eqb-false, eqb-true, ltb-false, not-false, or_parts}
 use Rattle.ca_base.specs.declared.limits.TheConstants.{MAX_CAPACITY}
 use Rattle.ca_keys.specs.declared.names.DomainId.{DomainId}
@@ -9,23 +9,20 @@ use Rattle.ca_keys.specs.declared.place.Run.{Run}
 use Rattle.ca_keys.specs.declared.rights.Rights.{Rights}
 use Rattle.ca_base.specs.Configuration.{Configuration}
 use Rattle.ca_base.specs.objects.CompletionQueue.{empty_cq}
-use Rattle.ca_base.specs.objects.Domain.{Domain, without_object}
+use Rattle.ca_base.specs.objects.Domain.{Domain}
 use Rattle.ca_base.specs.objects.QueuePair.{QueuePair, QueueSlot, NoQueue, Present}
 use Rattle.ca_base.specs.objects.Region.{with_window_unbound}
-use Rattle.ca_base.specs.objects.Window.{Binding, Window, after_deallocation, after_window_allocation, key_of_window}
+use Rattle.ca_base.specs.objects.Window.{Binding, Window, after_window_allocation}
 use Rattle.ca_model.specs.declared.answer.Answer.TheVariants as answers
-use Rattle.ca_model.specs.declared.answer.Refusal.TheVariants.{NoSuch}
-use Rattle.ca_model.specs.declared.mark.Mark.TheVariants as marks
 use Rattle.ca_model.specs.machine.CompletionVerbs.{create_cq_plan, create_srq_plan, destroy_cq_plan, destroy_srq_plan}
-use Rattle.ca_model.specs.machine.Delivery.{Arrive}
 use Rattle.ca_model.specs.machine.DomainVerbs.{alloc_pd_plan, dealloc_pd_plan}
 use Rattle.ca_model.specs.machine.HostVerbs.{inject_plan, load_plan, store_plan}
-use Rattle.ca_model.specs.machine.Plan.{Plan, Look, Update, ◌:=◌, put_all}
+use Rattle.ca_model.specs.machine.Plan.{◌:=◌, put_all}
 use Rattle.ca_model.specs.machine.RegionVerbs.{alloc_mr_plan, dereg_mr_plan, reg_mr_plan}
 use Rattle.ca_model.specs.machine.Row.{region_under}
 use Rattle.ca_model.specs.machine.Step.{bytes_of_buffer}
-use Rattle.ca_model.specs.machine.VerbAnswers.{Answer_plan, Call, Refuse_plan, answer_mark}
-use Rattle.ca_model.specs.machine.WindowVerbs.{With_binder, alloc_mw_plan, dealloc_mw_plan, queue_updates}
+use Rattle.ca_model.specs.machine.VerbAnswers.{Call, answer_mark}
+use Rattle.ca_model.specs.machine.WindowVerbs.{alloc_mw_plan, dealloc_mw_plan, queue_updates}
 use Rattle.ca_model.specs.machine.World.{World, Domain_of, Queue_of, Region_of, Window_of}
 use Rattle.ca_model.specs.machine.Invariants.{IsBinding, IsCompletionQueue, IsWindow}
 use Rattle.ca_model.specs.machine.Sound.{AreSettled, IsQueueOf, IsSoundWorld}
@@ -35,7 +32,8 @@ use Rattle.ca_laws_sound.proofs.ObjectLemmas.{made-receives, object-added, objec
 use Rattle.ca_laws_sound.proofs.RegionLemmas.{sound-registration}
 use Rattle.ca_laws_sound.proofs.SettledLemmas.{cq-settled, queue-settled}
 use Rattle.ca_laws_sound.proofs.TurnLemmas.{windows-queue}
-use Rattle.ca_laws_sound.proofs.WorldLemmas.{AreQuiet, AreSound, EndsIn, IsGoodChange, is-there, quiet-good}
+use Rattle.ca_laws_sound.proofs.WorldLemmas.{AreQuiet, AreSound, EndsIn, IsGoodChange, quiet-good}
+use Rattle.ca_laws_sound.proofs.PlanWalks.{binder_updates, deallocated, walk-dealloc_mw, walk-inject}
 
 -- a refusal changes nothing
 pub unchanged : (c : Configuration) (w : World) → IsSoundWorld c w → IsGoodChange c w []
@@ -47,11 +45,7 @@ ends-alloc_pd c w call d sound = (λ is. unchanged c w sound, λ is. quiet-good 
 pub ends-dealloc_pd : (c : Configuration) (w : World) (call : Call) (d : DomainId) → IsSoundWorld c w → EndsIn w (IsGoodChange c w) (dealloc_pd_plan call d)
 ends-dealloc_pd c w call d sound = (
   λ is. unchanged c w sound,
-  λ is. (
-    λ is. unchanged c w sound,
-    λ none.
-        quiet-good c w _ sound ((record {}, λ free. omega (arith, ltb-false 0 (w.domain d).objects none)), record {}),
-  ),
+  λ is. (λ is. unchanged c w sound, λ none. quiet-good c w _ sound ((record {}, λ free. omega (arith, ltb-false 0 (w.domain d).objects none)), record {})),
 )
 
 allocated : (d : Domain) → not d.allocated ≡ false → d.allocated ≡ true
@@ -78,27 +72,10 @@ ends-reg_mr c w call s at rights sound own = (
 )
 
 pub ends-alloc_mr : (c : Configuration) (w : World) (call : Call) (s : Slot) (pages : ℕ) → IsSoundWorld c w → EndsIn w (IsGoodChange c w) (alloc_mr_plan call s pages)
-ends-alloc_mr c w call s pages sound = (
-  λ is. unchanged c w sound,
-  λ there. (
-    λ is. unchanged c w sound,
-    λ vacant. (
-      λ is. unchanged c w sound,
-      λ range.
-          quiet-good c w _ sound ((record {}, object-added (w.domain s.domain) (allocated (w.domain s.domain) there)), ((record {}, record {}), record {})),
-    ),
-  ),
-)
+ends-alloc_mr c w call s pages sound = search (rules, unchanged, quiet-good, object-added, allocated)
 
 pub ends-dereg_mr : (c : Configuration) (w : World) (call : Call) (s : Slot) → IsSoundWorld c w → EndsIn w (IsGoodChange c w) (dereg_mr_plan call s)
-ends-dereg_mr c w call s sound = (
-  λ is. unchanged c w sound,
-  λ there. (
-    λ is. unchanged c w sound,
-    λ free. quiet-good c w _ sound
-        ((record {}, object-removed (w.domain s.domain) (sound.things (Domain_of s.domain))), ((record {}, record {}), record {})),
-  ),
-)
+ends-dereg_mr c w call s sound = search (rules, unchanged, quiet-good, object-removed (w.domain s.domain) (sound.things (Domain_of s.domain))) depth 9
 
 allocated-window : (w : Window) (kind : ℕ) → IsWindow w → w.kind ≡ 0 → kind ≤ 2 → IsWindow (after_window_allocation kind w)
 allocated-window w kind sound vacant few = record { kind = few; binding = by w.binding sound.binding }
@@ -161,43 +138,23 @@ binder-good c w v q sound queues cqs = by (w.queue q) refl (sound.things (Queue_
     )
 
 pub ends-dealloc_mw : (c : Configuration) (w : World) (call : Call) (s : Slot) → IsSoundWorld c w → EndsIn w (IsGoodChange c w) (dealloc_mw_plan call s)
-ends-dealloc_mw c w call s sound = (λ is. unchanged c w sound, λ there. by (w.window s).binding)
+ends-dealloc_mw c w call s sound = walk-dealloc_mw w (IsGoodChange c w) call s (unchanged c w sound) (quiet-good c w (deallocated w s) sound quiet) (λ b is. bound (region_under (w.window s) b) b.queue)
   where
-    x : Window
-    x = w.window s
-
-    quiet : AreQuiet c ((Domain_of s.domain := without_object (w.domain s.domain)) ∷ (Window_of s := after_deallocation x) ∷ [])
-    quiet = ((record {}, object-removed (w.domain s.domain) (sound.things (Domain_of s.domain))), ((record {}, ((sound.things (Window_of s)).0, vacated-window x)), record {}))
-
-    changes : Slot → List Update → List Update
-    changes at more = ((Domain_of s.domain := without_object (w.domain s.domain)) ∷ (Window_of s := after_deallocation x) ∷ [])
-        ++ (Region_of at := with_window_unbound (w.region at)) ∷ more
-
-    plan : Option Binding → Plan
-    plan None = Answer_plan call answers.Fine ((Domain_of s.domain := without_object (w.domain s.domain)) ∷ (Window_of s := after_deallocation x) ∷ []) []
-    plan (Some b) = Look (Region_of (region_under x b)) (λ region. With_binder b.queue (λ more.
-        Answer_plan call answers.Fine
-        (((Domain_of s.domain := without_object (w.domain s.domain)) ∷ (Window_of s := after_deallocation x) ∷ [])
-        ++ (Region_of (region_under x b) := with_window_unbound region) ∷ more)
-        (marks.Revoked s.domain.adapter (key_of_window x) ∷ [])))
+    quiet : AreQuiet c (deallocated w s)
+    quiet = (
+      (record {}, object-removed (w.domain s.domain) (sound.things (Domain_of s.domain))),
+      ((record {}, ((sound.things (Window_of s)).0, vacated-window (w.window s))), record {}),
+    )
 
     before : Slot → World
-    before at = put_all (((Domain_of s.domain := without_object (w.domain s.domain)) ∷ (Window_of s := after_deallocation x) ∷ [])
-        ++ (Region_of at := with_window_unbound (w.region at)) ∷ []) w
+    before at = put_all (deallocated w s ++ (Region_of at := with_window_unbound (w.region at)) ∷ []) w
 
-    more-good : (at : Slot) (more : List Update) → AreSound c more × AreSettled (put_all more (before at)).queue (put_all more (before at)).cq → IsGoodChange c w (changes at more)
-    more-good at more both = record {
-      things = (quiet.0.1, (quiet.1.0.1, (sound.things (Region_of at), both.0)));
-      settled = both.1;
-    }
+    binder : (at : Slot) (o : Option QueueId) → AreSound c (binder_updates w o) × AreSettled (put_all (binder_updates w o) (before at)).queue (put_all (binder_updates w o) (before at)).cq
+    binder at None = (record {}, sound.settled)
+    binder at (Some q) = binder-good c w (before at) q sound refl refl
 
-    binder : (at : Slot) (o : Option QueueId) → EndsIn w (IsGoodChange c w) (With_binder o (λ more. Answer_plan call answers.Fine (changes at more) (marks.Revoked s.domain.adapter (key_of_window x) ∷ [])))
-    binder at None = more-good at [] (record {}, sound.settled)
-    binder at (Some q) = more-good at (queue_updates q (w.queue q)) (binder-good c w (before at) q sound refl refl)
-
-    by : (o : Option Binding) → EndsIn w (IsGoodChange c w) (plan o)
-    by None = quiet-good c w _ sound quiet
-    by (Some b) = binder (region_under x b) b.queue
+    bound : (at : Slot) (o : Option QueueId) → IsGoodChange c w (deallocated w s ++ (Region_of at := with_window_unbound (w.region at)) ∷ binder_updates w o)
+    bound at o = record { things = (quiet.0.1, (quiet.1.0.1, (sound.things (Region_of at), (binder at o).0))); settled = (binder at o).1 }
 
 pub ends-create_cq : (c : Configuration) (w : World) (call : Call) (s : Slot) (capacity : ℕ) → IsSoundWorld c w → EndsIn w (IsGoodChange c w) (create_cq_plan call s capacity)
 ends-create_cq c w call s capacity sound = (
@@ -233,41 +190,17 @@ ends-destroy_cq c w call s sound = (
 )
 
 pub ends-create_srq : (c : Configuration) (w : World) (call : Call) (s : Slot) (depth : ℕ) → IsSoundWorld c w → EndsIn w (IsGoodChange c w) (create_srq_plan call s depth)
-ends-create_srq c w call s depth sound = (
-  λ is. unchanged c w sound,
-  λ there. (
-    λ is. unchanged c w sound,
-    λ free. (
-      λ is. unchanged c w sound,
-      λ range.
-          quiet-good c w _ sound ((record {}, object-added (w.domain s.domain) (allocated (w.domain s.domain) there)), ((record {}, made-receives depth range), record {})),
-    ),
-  ),
-)
+ends-create_srq c w call s depth sound = search (rules, unchanged, quiet-good, object-added, allocated, made-receives) depth 9
 
 pub ends-destroy_srq : (c : Configuration) (w : World) (call : Call) (s : Slot) → IsSoundWorld c w → EndsIn w (IsGoodChange c w) (destroy_srq_plan call s)
-ends-destroy_srq c w call s sound = (
-  λ is. unchanged c w sound,
-  λ there. (
-    λ is. unchanged c w sound,
-    λ free.
-        quiet-good c w _ sound ((record {}, object-removed (w.domain s.domain) (sound.things (Domain_of s.domain))), ((record {}, record {}), record {})),
-  ),
-)
+ends-destroy_srq c w call s sound = search (rules, unchanged, quiet-good, object-removed (w.domain s.domain) (sound.things (Domain_of s.domain))) depth 9
 
 pub ends-store : (c : Configuration) (w : World) (call : Call) (at : Run) (n : ℕ) (bytes : List ℕ) → IsSoundWorld c w → EndsIn w (IsGoodChange c w) (store_plan call at n bytes)
-ends-store c w call at n bytes sound = (λ is. unchanged c w sound, λ range. (λ is. unchanged c w sound, λ within. unchanged c w sound))
+ends-store c w call at n bytes sound = search (rules, unchanged)
 
 pub ends-load : (c : Configuration) (w : World) (call : Call) (at : Run) (n : ℕ) → IsSoundWorld c w → EndsIn w (IsGoodChange c w) (load_plan call at n)
-ends-load c w call at n sound = (λ is. unchanged c w sound, λ range. (λ is. unchanged c w sound, λ within. unchanged c w sound))
+ends-load c w call at n sound = search (rules, unchanged)
 
 pub ends-inject : (c : Configuration) (w : World) (call : Call) (q : QueueId) (bytes : List ℕ) → IsSoundWorld c w → EndsIn w (IsGoodChange c w) (inject_plan c call q bytes)
-ends-inject c w call q bytes sound = by (w.queue q) refl (sound.things (Queue_of q))
-  where
-    plan : QueueSlot → Plan
-    plan (NoQueue incarnation timers) = Refuse_plan call NoSuch
-    plan (Present p) = Arrive c p bytes None [] (answer_mark call answers.Fine ∷ [])
-
-    by : (s : QueueSlot) → w.queue q ≡ s → IsQueueOf q s → EndsIn w (IsGoodChange c w) (plan s)
-    by (NoQueue incarnation timers) is one = unchanged c w sound
-    by (Present p) is one = ends-inject-arrive c w p bytes None (answer_mark call answers.Fine ∷ []) sound (is-there w q p is one)
+ends-inject c w call q bytes sound = walk-inject c w (IsGoodChange c w) call q bytes sound (unchanged c w sound)
+    (λ p there. ends-inject-arrive c w p bytes None (answer_mark call answers.Fine ∷ []) sound there)

@@ -1,3 +1,4 @@
+pub mod PlanWalks
 pub mod RowWalks
 pub mod OrderLemmas
 pub mod GoodLemmas

@@ -9,27 +9,23 @@ use Rattle.ca_keys.specs.declared.names.QueueId.{QueueId}
 use Rattle.ca_keys.specs.declared.names.Slot.{Slot}
 use Rattle.ca_base.specs.declared.refusals.OpRefusal.{OpRefusal}
 use Rattle.ca_base.specs.declared.refusals.WindowError.{WindowError}
-use Rattle.ca_base.specs.declared.request.SendOp.{SendOp}
-use Rattle.ca_base.specs.declared.request.SendOp.TheVariants as ops
 use Rattle.ca_keys.specs.declared.rights.Rights.{Rights}
-use Rattle.ca_base.specs.declared.step.Reason.TheVariants as reasons
 use Rattle.ca_base.specs.Configuration.{Configuration}
 use Rattle.ca_keys.specs.Equal.{slot_eq}
 use Rattle.ca_keys.specs.Refusals.{AllFail}
 use Rattle.ca_base.specs.objects.LocalRequest.{bind1_request_refusals, bind2_request_refusals, fast_request_refusals, of_window}
-use Rattle.ca_base.specs.declared.correspondent.Correspondent.{Correspondent}
 use Rattle.ca_base.specs.objects.QueuePair.{QueuePair}
 use Rattle.ca_base.specs.objects.Region.{Region, free_pages, has_repeat, pages_needed, with_window_bound, with_window_unbound}
 use Rattle.ca_keys.specs.Numbers.{is_window_key}
 use Rattle.ca_base.specs.objects.Slices.{buffer_length, slot_of_key}
 use Rattle.ca_base.specs.objects.Window.{Binding, Window, after_binding, without_binding}
-use Rattle.ca_model.specs.machine.Around.{With_around, updates_of}
+use Rattle.ca_model.specs.machine.Around.{updates_of}
 use Rattle.ca_model.specs.machine.LocalOperations.{Bind1_plan, Bind2_plan, Fast_plan, Finishing, Perform_op, PlacedRegion, With_former, With_named, bind1_changes, bind1_marks, bind1_refusal, bind2_changes, bind2_marks, bind2_refusal, drawn_by, fast_changes, fast_marks, fast_refusal, former_updates, invalidate_row, named_slot, named_updates, operation_effects, region_slot, view_named, window_slot}
 use Rattle.ca_model.specs.machine.Numbering.{Numbered}
 use Rattle.ca_model.specs.machine.Plan.{Plan, Look, Finish, Update, ◌:=◌, Write}
-use Rattle.ca_model.specs.machine.Requester.{RequestTurn, Waits, Performs, Sends, packet_row, turn_of}
+use Rattle.ca_model.specs.machine.Requester.{Performs, packet_row, turn_of}
 use Rattle.ca_model.specs.machine.Row.{Effects, queue_and_marks, region_under, unless_none}
-use Rattle.ca_model.specs.machine.Turns.{Request_around, has_room_for, request_plan}
+use Rattle.ca_model.specs.machine.Turns.{has_room_for, request_plan}
 use Rattle.ca_model.specs.machine.World.{World, Region_of, Window_of}
 use Rattle.ca_model.specs.machine.Invariants.{IsQueue, IsWindow}
 use Rattle.ca_model.specs.machine.Sound.{IsSoundWorld, IsSoundThing}
@@ -38,7 +34,8 @@ use Rattle.ca_laws_sound.proofs.GoodLemmas.{IsGood}
 use Rattle.ca_laws_sound.proofs.ObjectLemmas.{bound-window, unbound-window}
 use Rattle.ca_laws_sound.proofs.RegionLemmas.{sound-fast}
 use Rattle.ca_laws_sound.proofs.TurnLemmas.{all-fail, nothing-good, operation-good, packet-good}
-use Rattle.ca_laws_sound.proofs.WorldLemmas.{AreQuiet, EndsIn, IsGoodChange, IsThere, RowDoes, around_in, ends-around, ends-queue, ends-row, quiet-append, row-does, shared_of}
+use Rattle.ca_laws_sound.proofs.WorldLemmas.{AreQuiet, EndsIn, IsGoodChange, IsThere, RowDoes, around_in, ends-row, quiet-append, row-does, shared_of}
+use Rattle.ca_laws_sound.proofs.PlanWalks.{walk-perform, walk-request}
 
 abbrev IsPlaced : Configuration → Option PlacedRegion → Type 0
 IsPlaced c r = IfSome r (λ f. IsSoundThing c (Region_of f.slot) f.region)
@@ -213,32 +210,24 @@ invalidate-does q n key s turn = record {
   allowed = λ bytes refusal. operation-good q n (if is_window_key key then q.windows - 1 else q.windows) (record { revoked = Some key; granted = None }) refusal s turn;
 }
 
-ends-perform : (c : Configuration) (w : World) (P : List Update → Type 0) (q : QueuePair) (n : Numbered) (finish : Finishing) (op : SendOp) → IsSoundWorld c w → IsQueue q
-    → turn_of q ≡ Performs n → GoesOn c w q P finish → EndsIn w P (Perform_op c q n finish op)
-ends-perform c w P q n finish (ops.Bind1 window key address count rights) sound s turn more = ends-bind1 c w P q n window key address count rights finish sound s turn more
-ends-perform c w P q n finish (ops.Bind2 window key low address count rights) sound s turn more = ends-bind2 c w P q n window key low address count rights finish sound s turn more
-ends-perform c w P q n finish (ops.FastReg region low buffer address count rights pages) sound s turn more =
-    ends-fast c w P q n region low buffer address count rights pages finish s turn more
-ends-perform c w P q n finish (ops.LocalInv key) sound s turn more = ends-row c w P (IsGood q) (invalidate_row q n key) finish sound (invalidate-does q n key s turn) more
-ends-perform c w P q n finish (ops.Send list) sound s turn more = more (queue_and_marks q []) [] [] (nothing-good q s) (record {})
-ends-perform c w P q n finish (ops.SendImm imm list) sound s turn more = more (queue_and_marks q []) [] [] (nothing-good q s) (record {})
-ends-perform c w P q n finish (ops.SendInv key list) sound s turn more = more (queue_and_marks q []) [] [] (nothing-good q s) (record {})
-ends-perform c w P q n finish (ops.Write address key list) sound s turn more = more (queue_and_marks q []) [] [] (nothing-good q s) (record {})
-ends-perform c w P q n finish (ops.WriteImm address key imm list) sound s turn more = more (queue_and_marks q []) [] [] (nothing-good q s) (record {})
-ends-perform c w P q n finish (ops.Read address key list) sound s turn more = more (queue_and_marks q []) [] [] (nothing-good q s) (record {})
-ends-perform c w P q n finish (ops.CmpSwap address key compare swap list) sound s turn more = more (queue_and_marks q []) [] [] (nothing-good q s) (record {})
-ends-perform c w P q n finish (ops.FetchAdd address key add list) sound s turn more = more (queue_and_marks q []) [] [] (nothing-good q s) (record {})
-
 pub ends-request : (c : Configuration) (w : World) (name : QueueId) (lot : Lot) → IsSoundWorld c w → EndsIn w (IsGoodChange c w) (request_plan c name lot)
-ends-request c w name lot sound = ends-queue c w (IsGoodChange c w) name reasons.State (λ q. With_around q (λ a. Request_around c lot q a q.peer (turn_of q))) sound
-    (λ q there. ends-around w (IsGoodChange c w) q (λ a. Request_around c lot q a q.peer (turn_of q)) (by q there q.peer (turn_of q) refl))
+ends-request c w name lot sound = walk-request c w P name lot sound performs
+    (λ q n peer there turn. ends-left c w q peer lot (packet_row q (has_room_for q peer (w.mailbox peer.queue)) n) sound there
+    (roomy q (has_room_for q peer (w.mailbox peer.queue)) (packet_row q (has_room_for q peer (w.mailbox peer.queue)) n)
+    (row-does q _ (packet-good q (has_room_for q peer (w.mailbox peer.queue)) n there.sound turn)) (packet-room q (has_room_for q peer (w.mailbox peer.queue)) n)))
   where
-    by : (q : QueuePair) → IsThere w q → (peer : Option Correspondent) (turn : RequestTurn) → turn_of q ≡ turn
-        → EndsIn w (IsGoodChange c w) (Request_around c lot q (around_in w q (shared_of w q)) peer turn)
-    by q there peer (Waits reason) turn = record {}
-    by q there peer (Performs n) turn = ends-perform c w (IsGoodChange c w) q n (λ e changes writes. Finish (updates_of q (around_in w q (shared_of w q)) e ++ changes) writes e.marks)
-        n.request.op sound there.sound turn (λ e cs ws good quiet. turn-change c w q e cs sound there good quiet)
-    by q there None (Sends n) turn = record {}
-    by q there (Some peer) (Sends n) turn = ends-left c w q peer lot (packet_row q (has_room_for q peer (w.mailbox peer.queue)) n) sound there
-        (roomy q (has_room_for q peer (w.mailbox peer.queue)) (packet_row q (has_room_for q peer (w.mailbox peer.queue)) n)
-        (row-does q _ (packet-good q (has_room_for q peer (w.mailbox peer.queue)) n there.sound turn)) (packet-room q (has_room_for q peer (w.mailbox peer.queue)) n))
+    P : List Update → Type 0
+    P = IsGoodChange c w
+
+    finish : QueuePair → Finishing
+    finish q e changes writes = Finish (updates_of q (around_in w q (shared_of w q)) e ++ changes) writes e.marks
+
+    performs : (q : QueuePair) (n : Numbered) → IsThere w q → turn_of q ≡ Performs n → EndsIn w P (Perform_op c q n (finish q) n.request.op)
+    performs q n there turn = walk-perform c w P q n (finish q) n.request.op (more (queue_and_marks q []) [] [] (nothing-good q there.sound) (record {}))
+        (λ window key address count rights. ends-bind1 c w P q n window key address count rights (finish q) sound there.sound turn more)
+        (λ window key low address count rights. ends-bind2 c w P q n window key low address count rights (finish q) sound there.sound turn more)
+        (λ region low buffer address count rights pages. ends-fast c w P q n region low buffer address count rights pages (finish q) there.sound turn more)
+        (λ key. ends-row c w P (IsGood q) (invalidate_row q n key) (finish q) sound (invalidate-does q n key there.sound turn) more)
+      where
+        more : GoesOn c w q P (finish q)
+        more e cs ws good quiet = turn-change c w q e cs sound there good quiet

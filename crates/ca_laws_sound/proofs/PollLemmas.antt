@@ -10,8 +10,8 @@ use Rattle.ca_keys.specs.Equal.{queue_eq}
 use Rattle.ca_base.specs.objects.CompletionQueue.{CompletionQueue, after_polls}
 use Rattle.ca_base.specs.objects.QueuePair.{QueuePair, QueueSlot, NoQueue, Present}
 use Rattle.ca_base.specs.objects.SharedReceives.{SharedReceives}
-use Rattle.ca_model.specs.machine.CompletionVerbs.{Poll_of, Take_plan, With_place, With_places, after_poll, poll_plan, receives_after_poll, slot_after_poll, source_of_completion}
-use Rattle.ca_model.specs.machine.Plan.{Plan, Look, Update, ◌:=◌, put_all}
+use Rattle.ca_model.specs.machine.CompletionVerbs.{Take_plan, after_poll, poll_plan, receives_after_poll, slot_after_poll}
+use Rattle.ca_model.specs.machine.Plan.{Update, put_all}
 use Rattle.ca_model.specs.machine.VerbAnswers.{Call}
 use Rattle.ca_model.specs.machine.World.{World, Name, Byte_at, Cq_of, Domain_of, Mailbox_of, Queue_of, Region_of, Srq_of, Thing, Window_of, put}
 use Rattle.ca_model.specs.machine.Invariants.{IsCompletionQueue, IsSharedReceives}
@@ -21,6 +21,7 @@ use Rattle.ca_laws_sound.proofs.ObjectLemmas.{poll-receives}
 use Rattle.ca_laws_sound.proofs.SettledLemmas.{AllWait, cq-settled, queue-path, settled-on, wait-map}
 use Rattle.ca_laws_sound.proofs.VerbLemmas.{IsPolled, polled}
 use Rattle.ca_laws_sound.proofs.WorldLemmas.{AreSound, EndsIn, IsGoodChange}
+use Rattle.ca_laws_sound.proofs.PlanWalks.{walk-places, walk-poll}
 
 -- a change of what a poll frees: a queue pair that goes on, or a shared receive queue
 abbrev IsFreed : Configuration → World → (n : Name) → Thing n → Type 0
@@ -100,49 +101,25 @@ freed-slot w s name xs sound all = by (w.queue name) refl sound
             → IsQueueOf name (Present (after_poll name xs q)) × ((t : Slot) (x : Completion) → IsSettled t (Present q) x → IsSettled t (Present (after_poll name xs q)) x)
         on p = ((p.later.queue ∙ one.0, p.later.domain ∙ one.1, p.sound), λ t x done. settled-on t q (after_poll name xs q) x p.later done)
 
-ends-place : (c : Configuration) (w : World) (P : List Update → Type 0) (s : Slot) (cq : CompletionQueue) (xs : List Completion) (x : Completion) (k : Update → Plan) → IsSoundWorld c w
-    → AllByRecursion (λ x. IsSettled s (w.queue x.queue) x) xs → ((u : Update) → IsFreed c w u.name u.thing → EndsIn w P (k u)) → EndsIn w P (With_place s cq xs x k)
-ends-place c w P s cq xs x k sound all more = by (source_of_completion cq x)
-  where
-    shared : ℕ → Slot
-    shared srq = record { domain = s.domain; slot = srq }
-
-    plan : Option ℕ → Plan
-    plan None = Look (Queue_of x.queue) (λ slot. k (Queue_of x.queue := slot_after_poll x.queue xs slot))
-    plan (Some srq) = Look (Srq_of (shared srq)) (λ slot. k (Srq_of (shared srq) := record slot { srq = option_map (receives_after_poll cq srq xs) slot.srq }))
-
-    retired : (srq : ℕ) (o : Option SharedReceives) → IfSome o IsSharedReceives → IfSome (option_map (receives_after_poll cq srq xs) o) IsSharedReceives
-    retired srq None one = record {}
-    retired srq (Some r) one = poll-receives cq srq xs r one
-
-    by : (o : Option ℕ) → EndsIn w P (plan o)
-    by None = more (Queue_of x.queue := slot_after_poll x.queue xs (w.queue x.queue)) (freed-slot w s x.queue xs (sound.things (Queue_of x.queue)) all)
-    by (Some srq) = more (Srq_of (shared srq) := record (w.srq (shared srq)) { srq = option_map (receives_after_poll cq srq xs) (w.srq (shared srq)).srq })
-        (retired srq (w.srq (shared srq)).srq (sound.things (Srq_of (shared srq))))
-
-ends-places : (c : Configuration) (w : World) (P : List Update → Type 0) (s : Slot) (cq : CompletionQueue) (xs ys : List Completion) (k : List Update → Plan) → IsSoundWorld c w
-    → AllByRecursion (λ x. IsSettled s (w.queue x.queue) x) xs → ((us : List Update) → AreFreed c w us → EndsIn w P (k us)) → EndsIn w P (With_places s cq xs ys k)
-ends-places c w P s cq xs [] k sound all more = more [] (record {})
-ends-places c w P s cq xs (y ∷ ys) k sound all more =
-    ends-place c w P s cq xs y (λ u. With_places s cq xs ys (λ us. k (u ∷ us))) sound all
-    (λ u freed. ends-places c w P s cq xs ys (λ us. k (u ∷ us)) sound all (λ us rest. more (u ∷ us) (freed, rest)))
-
 pub ends-poll : (c : Configuration) (w : World) (call : Call) (s : Slot) (n least : ℕ) → IsSoundWorld c w → EndsIn w (IsGoodChange c w) (poll_plan call s n least)
-ends-poll c w call s n least sound = by (w.cq s) refl (sound.things (Cq_of s)) (sound.settled s)
+ends-poll c w call s n least sound = walk-poll w (IsGoodChange c w) call s n least (unchanged c w sound)
+    (λ cq is. taken cq is (subst (λ o. IfSome o IsCompletionQueue) is (sound.things (Cq_of s))) (subst (AllWait (λ x. IsSettled s (w.queue x.queue) x)) is (sound.settled s)))
   where
     put-settled : (cq : CompletionQueue) (k : ℕ) → w.cq s ≡ Some cq → AllByRecursion (λ x. IsSettled s (w.queue x.queue) x) cq.waiting
         → AreSettled w.queue (put w (Cq_of s) (Some (after_polls k cq))).cq
     put-settled cq k is all = cq-settled w.queue w.cq s (Some (after_polls k cq)) sound.settled (all-dropped (λ x. IsSettled s (w.queue x.queue) x) k cq.waiting all)
 
+    retired : (cq : CompletionQueue) (xs : List Completion) (srq : ℕ) (o : Option SharedReceives) → IfSome o IsSharedReceives → IfSome (option_map (receives_after_poll cq srq xs) o) IsSharedReceives
+    retired cq xs srq None one = record {}
+    retired cq xs srq (Some r) one = poll-receives cq srq xs r one
+
     taken : (cq : CompletionQueue) → w.cq s ≡ Some cq → IsCompletionQueue cq → AllByRecursion (λ x. IsSettled s (w.queue x.queue) x) cq.waiting
         → EndsIn w (IsGoodChange c w) (Take_plan call s cq (take n cq.waiting))
-    taken cq is one all = ends-places c w (IsGoodChange c w) s cq (take n cq.waiting) (take n cq.waiting) _ sound (all-taken (λ x. IsSettled s (w.queue x.queue) x) n cq.waiting all)
+    taken cq is one all = walk-places w (IsGoodChange c w) (AreFreed c w) s cq (take n cq.waiting) (take n cq.waiting) _ (record {})
+        (λ name us rest. (freed-slot w s name (take n cq.waiting) (sound.things (Queue_of name)) (all-taken (λ x. IsSettled s (w.queue x.queue) x) n cq.waiting all), rest))
+        (λ at srq us rest. (retired cq (take n cq.waiting) srq (w.srq at).srq (sound.things (Srq_of at)), rest))
         (λ us freed. record {
           things = (record { some = one.some; capacity = one.capacity }, freed-sound c w us freed);
           settled = freed-settled c w (put w (Cq_of s) (Some (after_polls (length (take n cq.waiting)) cq))) us freed (λ q t x done. done)
               (put-settled cq (length (take n cq.waiting)) is all);
         })
-
-    by : (o : Option CompletionQueue) → w.cq s ≡ o → IfSome o IsCompletionQueue → AllWait (λ x. IsSettled s (w.queue x.queue) x) o → EndsIn w (IsGoodChange c w) (Poll_of call s n least o)
-    by None is one all = unchanged c w sound
-    by (Some cq) is one all = (λ e. unchanged c w sound, λ range. (λ few. record {}, λ enough. taken cq is one all))

@@ -1,5 +1,5 @@
 -- The verbs on queue pairs, the posts and the polls keep a world sound.
-use Rattle.std.proofs.Common.{◌≡◌, ℕ, suc, ◌+◌, ◌-◌, ◌*◌, ◌/◌, ◌≤◌, ◌<◌, nat_lt, arith, Bool, true, false, List, [], ◌∷◌, length, Option, None, Some, IfSome, subst, ◌∙◌, ◌&&◌, ◌==◌, not, true≢false, if◌then◌else◌, is_none, refl}
+use Rattle.std.proofs.Common.{◌≡◌, ℕ, suc, ◌+◌, ◌-◌, ◌*◌, ◌/◌, ◌≤◌, ◌<◌, nat_lt, arith, Bool, true, false, List, [], ◌∷◌, length, Option, None, Some, IfSome, subst, ◌∙◌, ◌==◌, not, true≢false, if◌then◌else◌, refl}
 use Rattle.std.proofs.lemmas.Bool.{eqb-true, ltb-false, not-false, or_parts}
 use Rattle.std.specs.Option.{option_and_then, option_map, option_map_or}
 use Rattle.ca_base.specs.declared.change.Change as state_change
@@ -9,10 +9,7 @@ use Rattle.ca_base.specs.declared.limits.TheConstants.{MAX_MESSAGE_BYTES, MAX_PI
 use Rattle.ca_keys.specs.declared.names.QueueId.{QueueId}
 use Rattle.ca_keys.specs.declared.names.Slot.{Slot}
 use Rattle.ca_base.specs.declared.request.RecvRequest.{RecvRequest}
-use Rattle.ca_base.specs.declared.request.SendOp.{SendOp}
-use Rattle.ca_base.specs.declared.request.SendOp.TheVariants as ops
 use Rattle.ca_base.specs.declared.request.SendRequest.{SendRequest}
-use Rattle.ca_base.specs.declared.change.Field.TheVariants as fields
 use Rattle.ca_base.specs.declared.reserve.Reserve.{Reserve}
 use Rattle.ca_base.specs.declared.reserve.Reserve.TheVariants.{Sends}
 use Rattle.ca_base.specs.Configuration.{Configuration}
@@ -28,49 +25,37 @@ use Rattle.ca_keys.specs.Refusals.{AllFail}
 use Rattle.ca_base.specs.declared.change.ModifyRefusal.{ModifyRefusal}
 use Rattle.ca_base.specs.objects.StateTable.{is_reset, modify_refusals, queue_after_change}
 use Rattle.ca_base.specs.objects.Window.{Window, after_draw, byte_drawn}
-use Rattle.ca_base.specs.objects.WorkQueue.{is_full, with_item}
+use Rattle.ca_base.specs.objects.WorkQueue.{with_item}
 use Rattle.ca_base.specs.Grants.{next_low}
 use Rattle.ca_model.specs.Past.{with_at}
 use Rattle.ca_model.specs.declared.answer.Answer.TheVariants as answers
-use Rattle.ca_model.specs.declared.answer.Refusal.TheVariants.{CqTooSmall, NoSuch, OutOfRange, QueueFull, TooLong, WindowsBound}
+use Rattle.ca_model.specs.declared.answer.Refusal.TheVariants.{NoSuch, QueueFull, TooLong}
 use Rattle.ca_model.specs.declared.mark.Mark.{Mark}
 use Rattle.ca_model.specs.Requests.{list_length, list_of}
 use Rattle.ca_model.specs.machine.Around.{Around, completions_to, cq_updates, srq_updates}
 use Rattle.ca_model.specs.machine.CompletionVerbs.{is_no_depth}
 use Rattle.ca_model.specs.machine.Completions.{flush_marks}
-use Rattle.ca_model.specs.machine.Plan.{Plan, If, Look, Update, ◌:=◌, put_all}
-use Rattle.ca_model.specs.machine.PostingVerbs.{Posted_send, after_flush, marks_of_flush, post_recv_plan, post_send_plan, post_srq_plan, with_send}
+use Rattle.ca_model.specs.machine.Plan.{Plan, If, Update, ◌:=◌, put_all, Finish}
+use Rattle.ca_model.specs.machine.PostingVerbs.{Posted_send, after_flush, marks_of_flush, post_recv_plan, post_send_plan, post_srq_plan, with_send, post_send_refusals, post_recv_refusals}
 use Rattle.ca_model.specs.machine.QueuePairVerbs
 use Rattle.ca_model.specs.machine.QueuePairVerbs.{Creation, With_present, With_shared, before_receives, beside, create_qp_plan, destroy_qp_plan, emptied_updates, has_bad_depth, has_no_room, left_updates, modify_qp_plan, new_queue, places_held, query_qp_plan, receive_reserve, receive_room, send_reserved, user_updates, without_queue}
-use Rattle.ca_model.specs.machine.VerbAnswers.{Answer_plan, Call, Refuse_plan, Unless_plan, of_change_refusals}
+use Rattle.ca_model.specs.machine.VerbAnswers.{Answer_plan, Call, Refuse_plan, of_change_refusals}
 use Rattle.ca_model.specs.machine.Row.{queue_and_marks}
 use Rattle.ca_model.specs.machine.World.{World, Cq_of, Domain_of, Mailbox_of, Queue_of, Srq_of, Window_of}
 use Rattle.ca_model.specs.machine.Invariants.{IsCompletionQueue, IsMailbox, IsQueue, IsSharedReceives}
 use Rattle.ca_model.specs.machine.Sound.{AreLimited, AreSettled, IsQueueOf, IsSettled, IsSoundWorld}
 use Rattle.ca_laws_sound.proofs.EventLemmas.{unchanged}
-use Rattle.ca_laws_sound.proofs.EngineLemmas.{ends-unless, queue-change, turn-change}
+use Rattle.ca_laws_sound.proofs.EngineLemmas.{queue-change, turn-change}
 use Rattle.ca_laws_sound.proofs.GoodLemmas.{AreSettledMarks, IsLater, error-later, error-queue, flush-settled, later-on, later-same, settled-later, silent-later, silent-queue, taken-same}
 use Rattle.ca_laws_sound.proofs.OrderLemmas.{silent-order}
 use Rattle.ca_laws_sound.proofs.ObjectLemmas.{depth-parts, drawn-window, emptied-mailbox, named-mailbox, object-added, object-removed, post-receive, retire-receives}
 use Rattle.ca_laws_sound.proofs.SettledLemmas.{AllWait, cq-settled, emptied-settled, emptied-waits, made-settled, puts-settled, queue-settled}
 use Rattle.ca_laws_sound.proofs.VerbLemmas.{IsFlushed, changed-queue, flushed, made-queue, named-peer, posted-receive, posted-send, receive-later, send-later}
-use Rattle.ca_laws_sound.proofs.WorldLemmas.{AreQuiet, EndsIn, IsGoodChange, IsSoundShared, IsThere, around_in, cq-sound, ends-around, is-there, quiet-good, quiet-settled, quiet-sound, shared_of, sound-shared, srq-quiet}
-
--- looking for the queue pair that a verb names
-ends-present : (c : Configuration) (w : World) (call : Call) (s : Slot) (k : QueuePair → Plan) → IsSoundWorld c w → ((q : QueuePair) → IsThere w q → EndsIn w (IsGoodChange c w) (k q))
-    → EndsIn w (IsGoodChange c w) (With_present call s k)
-ends-present c w call s k sound more = by (w.queue (queue_of s)) refl (sound.things (Queue_of (queue_of s)))
-  where
-    plan : QueueSlot → Plan
-    plan (NoQueue incarnation timers) = Refuse_plan call NoSuch
-    plan (Present q) = k q
-
-    by : (t : QueueSlot) → w.queue (queue_of s) ≡ t → IsQueueOf (queue_of s) t → EndsIn w (IsGoodChange c w) (plan t)
-    by (NoQueue incarnation timers) is one = unchanged c w sound
-    by (Present q) is one = more q (is-there w (queue_of s) q is one)
+use Rattle.ca_laws_sound.proofs.WorldLemmas.{AreQuiet, EndsIn, IsGoodChange, IsSoundShared, IsThere, around_in, cq-sound, quiet-good, quiet-settled, quiet-sound, shared_of, sound-shared, srq-quiet}
+use Rattle.ca_laws_sound.proofs.PlanWalks.{changed_around, created, shared_beside, walk-call, walk-create, walk-destroy, walk-modify, walk-post_send, walk-present}
 
 pub ends-query : (c : Configuration) (w : World) (call : Call) (s : Slot) → IsSoundWorld c w → EndsIn w (IsGoodChange c w) (query_qp_plan call s)
-ends-query c w call s sound = ends-present c w call s _ sound (λ q there. unchanged c w sound)
+ends-query c w call s sound = walk-present c w (IsGoodChange c w) call s _ sound (unchanged c w sound) (λ q there. unchanged c w sound)
 
 -- a post: the queue pair goes on, and one of its completion queues has what a flush completed
 posted-change : (c : Configuration) (w : World) (q p : QueuePair) (k : ℕ) (ms : List Mark) (more : List Update) → IsSoundWorld c w → IsThere w q → IsQueue p → IsLater q p → AreSettledMarks p ms
@@ -93,88 +78,37 @@ posted-change c w q p k ms more sound there s later settled quiet = record {
 
 ends-posted : (c : Configuration) (w : World) (call : Call) (q : QueuePair) (request : SendRequest) (drawn : Option ℕ) (window : Slot) (more : List Update) → IsSoundWorld c w → IsThere w q
     → length (list_of request.op) ≤ MAX_PIECES → AreQuiet c more → EndsIn w (IsGoodChange c w) (Posted_send call q request drawn window more)
-ends-posted c w call q request drawn window more sound there few quiet = (
-  λ is. unchanged c w sound,
-  λ atomic. (
-    λ is. unchanged c w sound,
-    λ short. (
-      λ is. unchanged c w sound,
-      λ state. (
-        λ is. unchanged c w sound,
-        λ free.
-            posted-change c w q (after_flush posted) q.send_cq (marks_of_flush posted) more sound there (after (fine short free)).sound
-            (later-on q posted (after_flush posted) (send-later q request drawn) (after (fine short free)).later) (after (fine short free)).settled quiet,
-      ),
-    ),
-  ),
-)
+ends-posted c w call q request drawn window more sound there few quiet = walk-call w (IsGoodChange c w) call (post_send_refusals request q) (Finish _ [] []) (unchanged c w sound)
+    (λ fails. by (flushed posted (posted-send q request drawn there.sound (record { few = few; bytes = ltb-false MAX_MESSAGE_BYTES (list_length (list_of request.op)) fails.1.0 }) fails.1.1.1.0)))
   where
     posted : QueuePair
     posted = with_send request drawn q
 
-    fine : nat_lt MAX_MESSAGE_BYTES (list_length (list_of request.op)) ≡ false → is_full q.sends ≡ false → IsQueue posted
-    fine short free = posted-send q request drawn there.sound (record { few = few; bytes = ltb-false MAX_MESSAGE_BYTES (list_length (list_of request.op)) short }) free
-
-    after : IsQueue posted → IsFlushed posted
-    after s = flushed posted s
+    by : IsFlushed posted → IsGoodChange c w ((Queue_of q.queue := Present (after_flush posted))
+        ∷ (Cq_of (send_cq_of q) := option_map (after_puts (completions_to q q.send_cq (marks_of_flush posted))) (w.cq (send_cq_of q))) ∷ more)
+    by after = posted-change c w q (after_flush posted) q.send_cq (marks_of_flush posted) more sound there after.sound
+        (later-on q posted (after_flush posted) (send-later q request drawn) after.later) after.settled quiet
 
 pub ends-post_send : (c : Configuration) (w : World) (call : Call) (s : Slot) (request : SendRequest) → IsSoundWorld c w → length (list_of request.op) ≤ MAX_PIECES
     → EndsIn w (IsGoodChange c w) (post_send_plan call s request)
-ends-post_send c w call s request sound few = ends-present c w call s (λ q. plan q request.op) sound (λ q there. by q there request.op)
+ends-post_send c w call s request sound few = walk-post_send c w (IsGoodChange c w) call s request sound (unchanged c w sound)
+    (λ q there. ends-posted c w call q request None s [] sound there few (record {}))
+    (λ q at there. ends-posted c w call q request (byte_drawn (w.window at)) at ((Window_of at := after_draw (w.window at)) ∷ []) sound there few
+    ((record {}, (drawn-slot (w.window at) ((w.window at).kind == 1) ∙ (sound.things (Window_of at)).0, drawn-window (w.window at) (sound.things (Window_of at)).1)), record {}))
   where
-    plan : QueuePair → SendOp → Plan
-    plan q (ops.Bind1 window region address count rights) = Look (Window_of (beside s window)) (λ x. If (x.kind == 0) (Refuse_plan call NoSuch)
-        (Posted_send call q request (byte_drawn x) (beside s window) ((Window_of (beside s window) := after_draw x) ∷ [])))
-    plan q op = Posted_send call q request None s []
-
     drawn-slot : (x : Window) (b : Bool) → (if b then record x { drawn = next_low x.drawn } else x).slot ≡ x.slot
     drawn-slot x true = refl
     drawn-slot x false = refl
 
-    by : (q : QueuePair) → IsThere w q → (op : SendOp) → EndsIn w (IsGoodChange c w) (plan q op)
-    by q there (ops.Bind1 window region address count rights) = (
-      λ is. unchanged c w sound,
-      λ some.
-          ends-posted c w call q request (byte_drawn x) (beside s window) ((Window_of (beside s window) := after_draw x) ∷ []) sound there few
-          ((record {}, (drawn-slot x (x.kind == 1) ∙ (sound.things (Window_of (beside s window))).0, drawn-window x (sound.things (Window_of (beside s window))).1)), record {}),
-    )
-      where
-        x : Window
-        x = w.window (beside s window)
-    by q there (ops.Bind2 window region low address count rights) = ends-posted c w call q request None s [] sound there few (record {})
-    by q there (ops.FastReg region low buffer address count rights pages) = ends-posted c w call q request None s [] sound there few (record {})
-    by q there (ops.LocalInv key) = ends-posted c w call q request None s [] sound there few (record {})
-    by q there (ops.Send list) = ends-posted c w call q request None s [] sound there few (record {})
-    by q there (ops.SendImm imm list) = ends-posted c w call q request None s [] sound there few (record {})
-    by q there (ops.SendInv key list) = ends-posted c w call q request None s [] sound there few (record {})
-    by q there (ops.Write address key list) = ends-posted c w call q request None s [] sound there few (record {})
-    by q there (ops.WriteImm address key imm list) = ends-posted c w call q request None s [] sound there few (record {})
-    by q there (ops.Read address key list) = ends-posted c w call q request None s [] sound there few (record {})
-    by q there (ops.CmpSwap address key compare swap list) = ends-posted c w call q request None s [] sound there few (record {})
-    by q there (ops.FetchAdd address key add list) = ends-posted c w call q request None s [] sound there few (record {})
-
 pub ends-post_recv : (c : Configuration) (w : World) (call : Call) (s : Slot) (request : RecvRequest) → IsSoundWorld c w → length request.list.items ≤ MAX_PIECES
     → EndsIn w (IsGoodChange c w) (post_recv_plan call s request)
-ends-post_recv c w call s request sound few = ends-present c w call s _ sound (λ q there. (
-  λ is. unchanged c w sound,
-  λ own. (
-    λ is. unchanged c w sound,
-    λ short. (
-      λ is. unchanged c w sound,
-      λ state. (
-        λ is. unchanged c w sound,
-        λ free.
-            by q there (flushed (posted q) (fine q there short free)),
-      ),
-    ),
-  ),
-))
+ends-post_recv c w call s request sound few = walk-present c w (IsGoodChange c w) call s _ sound (unchanged c w sound) (λ q there.
+    walk-call w (IsGoodChange c w) call (post_recv_refusals request q) (Finish _ [] []) (unchanged c w sound)
+    (λ fails. by q there (flushed (posted q) (posted-receive q request there.sound
+    (record { few = few; bytes = ltb-false MAX_MESSAGE_BYTES (list_length request.list.items) fails.1.0 }) fails.1.1.1.0))))
   where
     posted : QueuePair → QueuePair
     posted q = record q { receives = option_map (with_item request) q.receives }
-
-    fine : (q : QueuePair) → IsThere w q → nat_lt MAX_MESSAGE_BYTES (list_length request.list.items) ≡ false → option_map_or is_full q.receives false ≡ false → IsQueue (posted q)
-    fine q there short free = posted-receive q request there.sound (record { few = few; bytes = ltb-false MAX_MESSAGE_BYTES (list_length request.list.items) short }) free
 
     by : (q : QueuePair) → IsThere w q → IsFlushed (posted q) → IsGoodChange c w
         ((Queue_of q.queue := Present (after_flush (posted q)))
@@ -282,28 +216,11 @@ reset-change c w q sound there s = record {
 
 pub ends-modify_qp : (c : Configuration) (w : World) (call : Call) (s : Slot) (change : state_change.Change) → IsSoundWorld c w → AreLimited c
     → EndsIn w (IsGoodChange c w) (modify_qp_plan c call s change)
-ends-modify_qp c w call s change sound few = ends-present c w call s _ sound (λ q there.
-    ends-around w (IsGoodChange c w) q (λ a. Unless_plan call (of_change_refusals (modify_refusals c q change)) (plan q a change))
-    (ends-unless w (IsGoodChange c w) (of_change_refusals (modify_refusals c q change)) (Refuse_plan call) (plan q (around_in w q (shared_of w q)) change) (λ r. unchanged c w sound)
-    (λ fails. by q there change (changed-queue c change q (named-peer c change q few (change-fails c q change fails)) there.sound (change-fails c q change fails)))))
+ends-modify_qp c w call s change sound few = walk-modify c w (IsGoodChange c w) call s change sound (unchanged c w sound)
+    (λ q there fails. by q there change (changed-queue c change q (named-peer c change q few (change-fails c q change fails)) there.sound (change-fails c q change fails)))
   where
-    updates : QueuePair → Around → state_change.Change → List Update
-    updates q a changes.Error = cq_updates q a (flush_marks q)
-    updates q a changes.Reset =
-        (Mailbox_of q.queue := QueuePairVerbs.emptied_mailbox (queue_after_change changes.Reset q).incarnation (w.mailbox q.queue)) ∷ emptied_updates q a
-    updates q a (changes.Rtr peer incarnation psn mtu rnr_code) =
-        (Mailbox_of q.queue := with_peer q.incarnation (Some (record { queue = peer; incarnation = incarnation })) (w.mailbox q.queue)) ∷ []
-    updates q a change = []
-
-    told : QueuePair → state_change.Change → List Mark
-    told q changes.Error = flush_marks q
-    told q change = []
-
-    plan : QueuePair → Around → state_change.Change → Plan
-    plan q a change = Answer_plan call answers.Fine ((Queue_of q.queue := Present (queue_after_change change q)) ∷ updates q a change) (told q change)
-
     by : (q : QueuePair) → IsThere w q → (change : state_change.Change) → IsQueue (queue_after_change change q)
-        → IsGoodChange c w ((Queue_of q.queue := Present (queue_after_change change q)) ∷ updates q (around_in w q (shared_of w q)) change)
+        → IsGoodChange c w ((Queue_of q.queue := Present (queue_after_change change q)) ∷ changed_around w q (around_in w q (shared_of w q)) change)
     by q there changes.Error s = error-change c w q sound there
     by q there changes.Reset s = reset-change c w q sound there s
     by q there (changes.Rtr peer incarnation psn mtu rnr_code) s = quiet-change c w q (changes.Rtr peer incarnation psn mtu rnr_code) _ sound there refl s
@@ -376,18 +293,7 @@ destroy-change c w s q sound there = record {
     left-quiet = by q.srq (shared_of w q) (sound-shared c w q sound)
 
 pub ends-destroy_qp : (c : Configuration) (w : World) (call : Call) (s : Slot) → IsSoundWorld c w → EndsIn w (IsGoodChange c w) (destroy_qp_plan call s)
-ends-destroy_qp c w call s sound = ends-present c w call s _ sound (λ q there. ends-around w (IsGoodChange c w) q (plan q) (λ is. unchanged c w sound, λ free. destroy-change c w s q sound there))
-  where
-    plan : QueuePair → Around → Plan
-    plan q a = If (nat_lt 0 q.windows) (Refuse_plan call WindowsBound)
-        (Answer_plan call answers.Fine
-        ((Domain_of s.domain := without_object (w.domain s.domain))
-        ∷ (Queue_of q.queue := NoQueue q.incarnation q.requester.timers)
-        ∷ (Mailbox_of q.queue := QueuePairVerbs.emptied_mailbox q.incarnation (w.mailbox q.queue))
-        ∷ (Cq_of (send_cq_of q) := option_map (without_queue q) a.send)
-        ∷ (Cq_of (recv_cq_of q) := option_map (without_queue q) a.recv)
-        ∷ left_updates q a)
-        [])
+ends-destroy_qp c w call s sound = walk-destroy c w (IsGoodChange c w) call s sound (unchanged c w sound) (λ q there free. destroy-change c w s q sound there)
 
 -- a slot's own name has its domain
 slot-domain : (s : Slot) → s.slot < MAX_QPS → s.domain ≡ (slot_of_queue (queue_of s)).domain
@@ -484,16 +390,8 @@ made-depths x e = by (or_parts (is_no_depth x.send_depth) (option_map_or (λ srq
     by parts = (parts.0, λ none. subst (λ o. option_map_or (λ srq. not (x.recv_depth == 0)) o (is_no_depth x.recv_depth) ≡ false) none parts.1)
 
 pub ends-create_qp : (c : Configuration) (w : World) (call : Call) (x : Creation) → IsSoundWorld c w → x.slot.slot < MAX_QPS → EndsIn w (IsGoodChange c w) (create_qp_plan c call x)
-ends-create_qp c w call x sound few = (
-  λ is. unchanged c w sound,
-  λ there. (
-    λ is. unchanged c w sound,
-    λ vacant. (
-      λ has. ends-shared (λ shared shared-sound. cqs there (vacant-slot (w.queue queue) refl vacant) shared shared-sound (w.cq (beside x.slot x.send_cq)) refl (w.cq (beside x.slot x.recv_cq)) refl),
-      λ none. unchanged c w sound,
-    ),
-  ),
-)
+ends-create_qp c w call x sound few = walk-create c w (IsGoodChange c w) call x (unchanged c w sound)
+    (λ send recv there vacant send-is recv-is depth. by send recv there (vacant-slot (w.queue queue) refl vacant) send-is recv-is (new-sound (w.queue queue) (made-depths x depth)))
   where
     queue : QueueId
     queue = queue_of x.slot
@@ -505,53 +403,14 @@ ends-create_qp c w call x sound few = (
     vacant-slot (NoQueue incarnation timers) is e = (incarnation, timers, is)
     vacant-slot (Present q) is e = absurd (true≢false e)
 
-    made : CompletionQueue → CompletionQueue → Option SrqSlot → Option SharedReceives → Plan
-    made send recv srq shared = Answer_plan call (answers.Queue queue.number (new_queue x (w.queue queue)).incarnation)
-        ((Domain_of x.slot.domain := with_object (w.domain x.slot.domain))
-        ∷ (Queue_of queue := Present (new_queue x (w.queue queue)))
-        ∷ (Mailbox_of queue := with_peer (new_queue x (w.queue queue)).incarnation None (w.mailbox queue))
-        ∷ (Cq_of (beside x.slot x.send_cq) := Some (send_reserved x send))
-        ∷ (Cq_of (beside x.slot x.recv_cq) := Some (after_reserve (receive_reserve x) (receive_room x shared) (before_receives x send recv)))
-        ∷ user_updates x srq)
-        []
-
-    there_plan : Option CompletionQueue → Option CompletionQueue → Option SrqSlot → Option SharedReceives → Plan
-    there_plan (Some send) (Some recv) srq shared = If (is_none shared && not (is_none x.srq)) (Refuse_plan call NoSuch)
-        (If (has_bad_depth x) (Refuse_plan call (OutOfRange fields.Depth)) (If (has_no_room x shared send recv) (Refuse_plan call CqTooSmall) (made send recv srq shared)))
-    there_plan send recv srq shared = Refuse_plan call NoSuch
-
-    plan : Option SrqSlot → Option CompletionQueue → Option CompletionQueue → Plan
-    plan shared send recv = there_plan send recv shared (option_and_then (λ s. s.srq) shared)
-
-    ends-shared : ((shared : Option SrqSlot) → IsSoundShared shared → EndsIn w (IsGoodChange c w) (plan shared (w.cq (beside x.slot x.send_cq)) (w.cq (beside x.slot x.recv_cq))))
-        → EndsIn w (IsGoodChange c w) (With_shared x (λ shared. plan shared (w.cq (beside x.slot x.send_cq)) (w.cq (beside x.slot x.recv_cq))))
-    ends-shared more = by x.srq
-      where
-        looks : Option ℕ → Plan
-        looks None = plan None (w.cq (beside x.slot x.send_cq)) (w.cq (beside x.slot x.recv_cq))
-        looks (Some srq) = Look (Srq_of (beside x.slot srq)) (λ slot. plan (Some slot) (w.cq (beside x.slot x.send_cq)) (w.cq (beside x.slot x.recv_cq)))
-
-        by : (o : Option ℕ) → EndsIn w (IsGoodChange c w) (looks o)
-        by None = more None (record {})
-        by (Some srq) = more (Some (w.srq (beside x.slot srq))) (sound.things (Srq_of (beside x.slot srq)))
+    shared : (o : Option ℕ) → IsSoundShared (option_map (λ srq. w.srq (beside x.slot srq)) o)
+    shared None = record {}
+    shared (Some srq) = sound.things (Srq_of (beside x.slot srq))
 
     new-sound : (s : QueueSlot) → (is_no_depth x.send_depth ≡ false) × (x.srq ≡ None → is_no_depth x.recv_depth ≡ false) → IsQueueOf queue (Present (new_queue x s))
     new-sound s depths = (refl, slot-domain x.slot few, made-queue queue x.slot.domain (suc (incarnation_of s)) (timers_of s) x.send_cq x.recv_cq x.send_depth x.recv_depth x.srq (depth-parts x.send_depth depths.0) (λ none. depth-parts x.recv_depth (depths.1 none)))
 
-    cqs : not (w.domain x.slot.domain).allocated ≡ false → IsVacant → (shared : Option SrqSlot) → IsSoundShared shared
-        → (send : Option CompletionQueue) → w.cq (beside x.slot x.send_cq) ≡ send → (recv : Option CompletionQueue) → w.cq (beside x.slot x.recv_cq) ≡ recv
-        → EndsIn w (IsGoodChange c w) (plan shared send recv)
-    cqs there vacant shared shared-sound None send-is recv recv-is = unchanged c w sound
-    cqs there vacant shared shared-sound (Some send) send-is None recv-is = unchanged c w sound
-    cqs there vacant shared shared-sound (Some send) send-is (Some recv) recv-is = (
-      λ is. unchanged c w sound,
-      λ named. (
-        λ is. unchanged c w sound,
-        λ depth. (
-          λ is. unchanged c w sound,
-          λ room.
-              made-change c w x send recv shared (new_queue x (w.queue queue)) sound (not-false (w.domain x.slot.domain).allocated there) vacant.0 vacant.1 vacant.2
-              (new-sound (w.queue queue) (made-depths x depth)) send-is recv-is shared-sound,
-        ),
-      ),
-    )
+    by : (send recv : CompletionQueue) → not (w.domain x.slot.domain).allocated ≡ false → IsVacant → w.cq (beside x.slot x.send_cq) ≡ Some send → w.cq (beside x.slot x.recv_cq) ≡ Some recv
+        → IsQueueOf queue (Present (new_queue x (w.queue queue))) → IsGoodChange c w (created w x send recv (shared_beside w x) (option_and_then (λ s. s.srq) (shared_beside w x)))
+    by send recv there vacant send-is recv-is made = made-change c w x send recv (shared_beside w x) (new_queue x (w.queue queue)) sound (not-false (w.domain x.slot.domain).allocated there)
+        vacant.0 vacant.1 vacant.2 made send-is recv-is (shared x.srq)

@@ -1,57 +1,43 @@
 -- Every event keeps windows counted.
 use Rattle.ca_base.specs.declared.change.State.TheVariants as states
 use Rattle.ca_base.specs.objects.WorkQueue.{after_retire}
-use Rattle.std.proofs.Common.{◌≡◌, ℕ, Bool, true, false, List, [], ◌∷◌, ◌++◌, Option, None, Some, IfSome, subst, ◌∙◌, ◌&&◌, not, if◌then◌else◌, refl, suc, ◌+◌, ◌-◌, ◌≤◌, nat_lt, arith, ◌==◌, true≢false, is_none, take, ap, sym, ◌⊎◌, inl, inr, length}
+use Rattle.std.proofs.Common.{rules, ◌≡◌, ℕ, Bool, true, false, List, [], ◌∷◌, ◌++◌, Option, None, Some, IfSome, subst, ◌∙◌, if◌then◌else◌, refl, ◌+◌, ◌-◌, ◌≤◌, nat_lt, arith, ◌==◌, true≢false, take, ap, sym, ◌⊎◌, inl, inr, length}
 use Rattle.std.proofs.lemmas.Bool.{not-false, ltb-false}
 use Rattle.std.specs.Option.{option_and_then, option_map_or, option_map}
 use Rattle.ca_keys.specs.declared.names.QueueId.{QueueId}
 use Rattle.ca_base.specs.Configuration.{Configuration}
-use Rattle.ca_base.specs.objects.Mailbox.{with_peer}
-use Rattle.ca_base.specs.objects.QueuePair.{QueuePair, QueueSlot, NoQueue, Present, is_present, recv_cq_of, send_cq_of, srq_of, with_all_flushed}
-use Rattle.ca_base.specs.objects.SharedReceives.{SrqSlot, SharedReceives, after_receive_post, after_receives_retire, is_full_of_receives}
-use Rattle.ca_model.specs.declared.mark.Mark.{Mark}
-use Rattle.ca_model.specs.declared.mark.Mark.TheVariants as marks
-use Rattle.ca_model.specs.machine.Around.{Around, completions_to, cq_updates, srq_updates}
+use Rattle.ca_base.specs.objects.QueuePair.{QueuePair, QueueSlot, NoQueue, Present, is_present, recv_cq_of, send_cq_of, with_all_flushed}
+use Rattle.ca_base.specs.objects.SharedReceives.{SrqSlot, SharedReceives, after_receives_retire}
+use Rattle.ca_model.specs.machine.Around.{Around, completions_to, srq_updates}
 use Rattle.ca_model.specs.machine.Plan.{Plan, Stuck, Look, Finish, Update, ◌:=◌, Write, put_all, If, Read, perform, write_all}
 use Rattle.ca_model.specs.machine.Row.{region_under}
 use Rattle.ca_model.specs.machine.World.{World, Mailbox_of, Queue_of, put, Cq_of, Domain_of, Srq_of, Window_of, Name, Byte_at, Region_of, Thing, get, opening_world}
-use Rattle.ca_model.specs.machine.Sound.{IsQueueOf, IsSoundWorld}
+use Rattle.ca_model.specs.machine.Sound.{IsSoundWorld}
 use Rattle.ca_laws_sound.proofs.SettledLemmas.{queue-path, slot-path}
-use Rattle.ca_laws_sound.proofs.WorldLemmas.{EndsIn, around_in, ends-around, shared_of}
+use Rattle.ca_laws_sound.proofs.WorldLemmas.{EndsIn, around_in, shared_of}
 use Rattle.ca_base.specs.declared.change.Change as state_change
 use Rattle.ca_base.specs.declared.change.Change.TheVariants as changes
 use Rattle.ca_base.specs.declared.completion.Completion.{Completion}
-use Rattle.ca_base.specs.declared.limits.TheConstants.{MAX_MESSAGE_BYTES}
 use Rattle.ca_keys.specs.declared.names.Slot.{Slot}
 use Rattle.ca_base.specs.declared.request.RecvRequest.{RecvRequest}
-use Rattle.ca_base.specs.declared.request.SendOp.{SendOp}
-use Rattle.ca_base.specs.declared.request.SendOp.TheVariants as ops
 use Rattle.ca_base.specs.declared.request.SendRequest.{SendRequest}
-use Rattle.ca_base.specs.declared.change.Field.TheVariants as fields
 use Rattle.ca_keys.specs.Equal.{queue_eq, slot_eq}
 use Rattle.ca_keys.specs.Numbers.{queue_of}
-use Rattle.ca_base.specs.objects.CompletionQueue.{CompletionQueue, after_puts, after_reserve, after_polls}
-use Rattle.ca_base.specs.objects.Domain.{with_object, without_object}
-use Rattle.ca_base.specs.objects.StateTable.{modify_refusals, queue_after_change, state_eq}
-use Rattle.ca_base.specs.objects.Window.{Window, after_draw, byte_drawn, Binding, after_deallocation, key_of_window}
+use Rattle.ca_base.specs.objects.CompletionQueue.{after_puts, after_polls}
+use Rattle.ca_base.specs.objects.StateTable.{queue_after_change, state_eq}
+use Rattle.ca_base.specs.objects.Window.{Window, after_draw, byte_drawn, Binding, after_deallocation}
 use Rattle.ca_base.specs.objects.WorkQueue.{with_item}
 use Rattle.ca_base.specs.Grants.{next_low}
-use Rattle.ca_model.specs.declared.answer.Answer.TheVariants as answers
-use Rattle.ca_model.specs.declared.answer.Refusal.TheVariants.{CqTooSmall, NoSuch, OutOfRange, QueueFull, TooLong, WindowsBound}
-use Rattle.ca_model.specs.Requests.{list_length}
-use Rattle.ca_model.specs.machine.CompletionVerbs.{Poll_of, With_places, after_poll, poll_plan, receives_after_poll, slot_after_poll, source_of_completion}
-use Rattle.ca_model.specs.machine.Completions.{flush_marks}
-use Rattle.ca_model.specs.machine.PostingVerbs.{Posted_send, after_flush, marks_of_flush, post_recv_plan, post_send_plan, post_srq_plan, with_send}
-use Rattle.ca_model.specs.machine.QueuePairVerbs
-use Rattle.ca_model.specs.machine.QueuePairVerbs.{Creation, With_present, With_shared, before_receives, beside, create_qp_plan, destroy_qp_plan, emptied_updates, has_bad_depth, has_no_room, left_updates, modify_qp_plan, new_queue, places_held, receive_reserve, receive_room, send_reserved, user_updates, without_queue}
-use Rattle.ca_model.specs.machine.VerbAnswers.{Answer_plan, Call, Refuse_plan, Unless_plan, of_change_refusals}
-use Rattle.ca_laws_sound.proofs.EngineLemmas.{ends-unless}
+use Rattle.ca_model.specs.machine.CompletionVerbs.{after_poll, poll_plan, slot_after_poll}
+use Rattle.ca_model.specs.machine.PostingVerbs.{Posted_send, post_send_refusals, post_recv_refusals, after_flush, marks_of_flush, post_recv_plan, post_send_plan, post_srq_plan, with_send}
+use Rattle.ca_model.specs.machine.QueuePairVerbs.{Creation, create_qp_plan, destroy_qp_plan, left_updates, modify_qp_plan, places_held, user_updates}
+use Rattle.ca_model.specs.machine.VerbAnswers.{Call}
 use Rattle.ca_keys.specs.declared.place.Run.{Run}
 use Rattle.ca_keys.specs.declared.rights.Rights.{Rights}
 use Rattle.ca_base.specs.objects.Region.{with_window_unbound, Region, grant_of_region, is_vacant_region, RegionState, NoRegion, Free, Registered, FastRegistered, has_no_region, grant_in_state}
 use Rattle.ca_model.specs.machine.RegionVerbs.{alloc_mr_plan, dereg_mr_plan, reg_mr_plan}
 use Rattle.ca_model.specs.machine.Step.{bytes_of_buffer, plan, run_of, step, verb_plan}
-use Rattle.ca_model.specs.machine.WindowVerbs.{With_binder, alloc_mw_plan, dealloc_mw_plan, queue_updates}
+use Rattle.ca_model.specs.machine.WindowVerbs.{alloc_mw_plan, dealloc_mw_plan, queue_updates}
 use Rattle.ca_keys.specs.Memory.{ByteMap, bytes_at}
 use Rattle.ca_model.specs.declared.event.Event.{Event}
 use Rattle.ca_model.specs.declared.event.Event.TheVariants as events
@@ -61,8 +47,9 @@ use Rattle.ca_model.specs.machine.Frame.{Afterwards}
 use Rattle.ca_model.proofs.FrameLemmas.{after_write}
 use Rattle.ca_laws_windows.specs.Bindings.{AreBound, IsBoundWorld, LiesIn, is_bound_by, windows_of}
 use Rattle.ca_laws_windows.proofs.BindingLemmas.{IsUnused, kept-bound, moved-bound, one}
-use Rattle.ca_laws_windows.proofs.WindowWorldLemmas.{Bounds, same-bound, window-leaves}
+use Rattle.ca_laws_windows.proofs.WindowWorldLemmas.{Bounds, window-leaves}
 use Rattle.ca_laws_windows.proofs.WindowTurnLemmas.{bound-deliver, bound-inject, bound-request, bound-respond, bound-timeout, bound-wake}
+use Rattle.ca_laws_sound.proofs.PlanWalks.{binder_updates, changed_around, created, deallocated, destroyed, shared_beside, walk-call, walk-create, walk-dealloc_mw, walk-destroy, walk-modify, walk-places, walk-poll, walk-post_send, walk-present}
 
 -- two worlds with the same windows and regions, in which queue pairs count the same windows
 record AreEven (w u : World) : Type 0 where
@@ -160,13 +147,8 @@ bound-reg_mr c w call s at bytes rights bound = (
 )
 
 bound-alloc_mr : (w : World) (call : Call) (s : Slot) (pages : ℕ) → IsBoundWorld w → EndsIn w (Bounds w) (alloc_mr_plan call s pages)
-bound-alloc_mr w call s pages bound = (
-  λ is. bound,
-  λ there. (
-    λ is. bound,
-    λ vacant. (λ is. bound, λ range. region-bound w s _ bound (vacant-unused (w.region s) (not-false (is_vacant_region (w.region s)) vacant))),
-  ),
-)
+bound-alloc_mr w call s pages bound =
+    (λ is. bound, λ there. (λ is. bound, λ vacant. (λ is. bound, λ range. region-bound w s _ bound (vacant-unused (w.region s) (not-false (is_vacant_region (w.region s)) vacant)))))
 
 bound-dereg_mr : (w : World) (call : Call) (s : Slot) → IsBoundWorld w → EndsIn w (Bounds w) (dereg_mr_plan call s)
 bound-dereg_mr w call s bound = (
@@ -204,32 +186,19 @@ gone-parts q (NoQueue incarnation timers) v = (refl, refl)
 gone-parts q (Present p) v = (refl, refl)
 
 bound-dealloc_mw : (w : World) (call : Call) (s : Slot) → IsBoundWorld w → EndsIn w (Bounds w) (dealloc_mw_plan call s)
-bound-dealloc_mw w call s bound = (λ is. bound, λ there. by (w.window s).binding refl)
+bound-dealloc_mw w call s bound = walk-dealloc_mw w (Bounds w) call s bound (no-window-bound w s (after_deallocation x) bound refl) (λ b is. gone b is b.queue refl)
   where
     x : Window
     x = w.window s
 
-    changed : Slot → List Update → List Update
-    changed at more = ((Domain_of s.domain := without_object (w.domain s.domain)) ∷ (Window_of s := after_deallocation x) ∷ [])
-        ++ (Region_of at := with_window_unbound (w.region at)) ∷ more
-
-    plan : Option Binding → Plan
-    plan None = Answer_plan call answers.Fine ((Domain_of s.domain := without_object (w.domain s.domain)) ∷ (Window_of s := after_deallocation x) ∷ []) []
-    plan (Some b) = Look (Region_of (region_under x b)) (λ region. With_binder b.queue (λ more.
-        Answer_plan call answers.Fine
-        (((Domain_of s.domain := without_object (w.domain s.domain)) ∷ (Window_of s := after_deallocation x) ∷ [])
-        ++ (Region_of (region_under x b) := with_window_unbound region) ∷ more)
-        (marks.Revoked s.domain.adapter (key_of_window x) ∷ [])))
-
     before : Slot → World
-    before at = put_all (((Domain_of s.domain := without_object (w.domain s.domain)) ∷ (Window_of s := after_deallocation x) ∷ [])
-        ++ (Region_of at := with_window_unbound (w.region at)) ∷ []) w
+    before at = put_all (deallocated w s ++ (Region_of at := with_window_unbound (w.region at)) ∷ []) w
 
     left : (b : Binding) → x.binding ≡ Some b → (queues : QueueId → QueueSlot)
         → ((name : QueueId) → windows_of (w.queue name) ≤ windows_of (queues name) + one (is_bound_by name x)) → AreBound (before (region_under x b)).window (before (region_under x b)).region queues
     left b is queues counts = window-leaves w s (after_deallocation x) b queues bound is refl counts
 
-    through : (b : Binding) → x.binding ≡ Some b → (q : QueueId) → b.queue ≡ Some q → Bounds w (changed (region_under x b) (queue_updates q (w.queue q)))
+    through : (b : Binding) → x.binding ≡ Some b → (q : QueueId) → b.queue ≡ Some q → IsBoundWorld (put_all (queue_updates q (w.queue q)) (before (region_under x b)))
     through b is q of = at (gone-parts q (w.queue q) (before (region_under x b)))
       where
         after : World
@@ -239,27 +208,10 @@ bound-dealloc_mw w call s bound = (λ is. bound, λ there. by (w.window s).bindi
         at parts = subst (λ f. AreBound f after.region after.queue) (sym parts.0) (subst (λ f. AreBound (before (region_under x b)).window f after.queue) (sym parts.1)
             (left b is after.queue (λ name. gone-counts w q x b (before (region_under x b)) is of refl name)))
 
-    binder : (b : Binding) → x.binding ≡ Some b → (o : Option QueueId) → b.queue ≡ o
-        → EndsIn w (Bounds w) (With_binder o (λ more. Answer_plan call answers.Fine (changed (region_under x b) more) (marks.Revoked s.domain.adapter (key_of_window x) ∷ [])))
-    binder b is None of = left b is w.queue (λ name. omega arith)
-    binder b is (Some q) of = through b is q of
-
-    by : (o : Option Binding) → x.binding ≡ o → EndsIn w (Bounds w) (plan o)
-    by None is = no-window-bound w s (after_deallocation x) bound refl
-    by (Some b) is = binder b is b.queue refl
-
--- looking for the queue pair that a verb names
-bound-present : (c : Configuration) (w : World) (call : Call) (s : Slot) (k : QueuePair → Plan) → IsSoundWorld c w → IsBoundWorld w
-    → ((q : QueuePair) → w.queue q.queue ≡ Present q → EndsIn w (Bounds w) (k q)) → EndsIn w (Bounds w) (With_present call s k)
-bound-present c w call s k sound bound more = by (w.queue (queue_of s)) refl (sound.things (Queue_of (queue_of s)))
-  where
-    plan : QueueSlot → Plan
-    plan (NoQueue incarnation timers) = Refuse_plan call NoSuch
-    plan (Present q) = k q
-
-    by : (t : QueueSlot) → w.queue (queue_of s) ≡ t → IsQueueOf (queue_of s) t → EndsIn w (Bounds w) (plan t)
-    by (NoQueue incarnation timers) is one = bound
-    by (Present q) is one = more q (ap w.queue one.0 ∙ is)
+    gone : (b : Binding) → x.binding ≡ Some b → (o : Option QueueId) → b.queue ≡ o
+        → Bounds w (deallocated w s ++ (Region_of (region_under x b) := with_window_unbound (w.region (region_under x b))) ∷ binder_updates w o)
+    gone b is None of = left b is w.queue (λ name. omega arith)
+    gone b is (Some q) of = through b is q of
 
 -- the count of a queue pair that stands
 counts-there : (w : World) (q p : QueuePair) → w.queue q.queue ≡ Present q → p.windows ≡ q.windows → windows_of (Present p) ≡ windows_of (w.queue q.queue)
@@ -281,8 +233,8 @@ drawn-bound w s bound = by ((w.window s).kind == 1)
 
 bound-posted : (w : World) (call : Call) (q : QueuePair) (request : SendRequest) (drawn : Option ℕ) (window : Slot) (more : List Update) → IsBoundWorld w → w.queue q.queue ≡ Present q
     → ((u : World) → IsBoundWorld u → u.window ≡ w.window → IsBoundWorld (put_all more u)) → EndsIn w (Bounds w) (Posted_send call q request drawn window more)
-bound-posted w call q request drawn window more bound is on =
-    (λ e. bound, λ a. (λ e. bound, λ b. (λ e. bound, λ d. (λ e. bound, λ f. on (put_all posted w) (even-bound w posted bound even) refl))))
+bound-posted w call q request drawn window more bound is on = walk-call w (Bounds w) call (post_send_refusals request q) (Finish (posted ++ more) [] []) bound
+    (λ fails. on (put_all posted w) (even-bound w posted bound (counts-there w q (after_flush after) is (flush-windows after), (record {}, record {}))) refl)
   where
     after : QueuePair
     after = with_send request drawn q
@@ -291,60 +243,16 @@ bound-posted w call q request drawn window more bound is on =
     posted = (Queue_of q.queue := Present (after_flush after))
         ∷ (Cq_of (send_cq_of q) := option_map (after_puts (completions_to q q.send_cq (marks_of_flush after))) (w.cq (send_cq_of q))) ∷ []
 
-    even : AllEven w posted
-    even = (counts-there w q (after_flush after) is (flush-windows after), (record {}, record {}))
-
 bound-post_send : (c : Configuration) (w : World) (call : Call) (s : Slot) (request : SendRequest) → IsSoundWorld c w → IsBoundWorld w → EndsIn w (Bounds w) (post_send_plan call s request)
-bound-post_send c w call s request sound bound = bound-present c w call s (λ q. plan q request.op) sound bound (λ q is. by q is request.op)
-  where
-    draws : QueuePair → Slot → Window → Plan
-    draws q window x =
-        Unless_plan call ((x.kind == 0, NoSuch) ∷ [])
-        (Posted_send call q request (byte_drawn x) window ((Window_of window := after_draw x) ∷ []))
-
-    plan : QueuePair → SendOp → Plan
-    plan q (ops.Bind1 window region address count rights) = Look (Window_of (beside s window)) (draws q (beside s window))
-    plan q op = Posted_send call q request None s []
-
-    drawn : (window : Slot) (u : World) → IsBoundWorld u → u.window ≡ w.window → IsBoundWorld (put u (Window_of window) (after_draw (w.window window)))
-    drawn window u same-bound same = subst (λ f. IsBoundWorld (put u (Window_of window) (after_draw (f window)))) same (drawn-bound u window same-bound)
-
-    plainly : (q : QueuePair) → w.queue q.queue ≡ Present q → EndsIn w (Bounds w) (Posted_send call q request None s [])
-    plainly q is = bound-posted w call q request None s [] bound is (λ u same-bound same. same-bound)
-
-    by : (q : QueuePair) → w.queue q.queue ≡ Present q → (op : SendOp) → EndsIn w (Bounds w) (plan q op)
-    by q is (ops.Bind1 window region address count rights) = (
-      λ e. bound,
-      λ there. bound-posted w call q request (byte_drawn (w.window (beside s window))) (beside s window) ((Window_of (beside s window) := after_draw (w.window (beside s window))) ∷ []) bound is
-          (drawn (beside s window)),
-    )
-    by q is (ops.Bind2 window region low address count rights) = plainly q is
-    by q is (ops.FastReg region low buffer address count rights pages) = plainly q is
-    by q is (ops.LocalInv key) = plainly q is
-    by q is (ops.Send list) = plainly q is
-    by q is (ops.SendImm imm list) = plainly q is
-    by q is (ops.SendInv key list) = plainly q is
-    by q is (ops.Write address key list) = plainly q is
-    by q is (ops.WriteImm address key imm list) = plainly q is
-    by q is (ops.Read address key list) = plainly q is
-    by q is (ops.CmpSwap address key compare swap list) = plainly q is
-    by q is (ops.FetchAdd address key add list) = plainly q is
+bound-post_send c w call s request sound bound = walk-post_send c w (Bounds w) call s request sound bound
+    (λ q there. bound-posted w call q request None s [] bound there.present (λ u same-bound same. same-bound))
+    (λ q at there. bound-posted w call q request (byte_drawn (w.window at)) at ((Window_of at := after_draw (w.window at)) ∷ []) bound there.present
+    (λ u same-bound same. subst (λ f. IsBoundWorld (put u (Window_of at) (after_draw (f at)))) same (drawn-bound u at same-bound)))
 
 bound-post_recv : (c : Configuration) (w : World) (call : Call) (s : Slot) (request : RecvRequest) → IsSoundWorld c w → IsBoundWorld w → EndsIn w (Bounds w) (post_recv_plan call s request)
-bound-post_recv c w call s request sound bound = bound-present c w call s _ sound bound (λ q is. (
-  λ e. bound,
-  λ a. (
-    λ e. bound,
-    λ b. (
-      λ e. bound,
-      λ d. (
-        λ e. bound,
-        λ f. even-bound w (posted q) bound
-            (counts-there w q (after_flush (after q)) is (flush-windows (after q)), (record {}, record {})),
-      ),
-    ),
-  ),
-))
+bound-post_recv c w call s request sound bound = walk-present c w (Bounds w) call s _ sound bound (λ q there.
+    walk-call w (Bounds w) call (post_recv_refusals request q) (Finish (posted q) [] []) bound
+    (λ fails. even-bound w (posted q) bound (counts-there w q (after_flush (after q)) there.present (flush-windows (after q)), (record {}, record {}))))
   where
     after : QueuePair → QueuePair
     after q = record q { receives = option_map (with_item request) q.receives }
@@ -354,32 +262,11 @@ bound-post_recv c w call s request sound bound = bound-present c w call s _ soun
         ∷ (Cq_of (recv_cq_of q) := option_map (after_puts (completions_to q q.recv_cq (marks_of_flush (after q)))) (w.cq (recv_cq_of q))) ∷ []
 
 bound-post_srq : (w : World) (call : Call) (s : Slot) (request : RecvRequest) → IsBoundWorld w → EndsIn w (Bounds w) (post_srq_plan call s request)
-bound-post_srq w call s request bound = by (w.srq s).srq
-  where
-    plan : Option SharedReceives → Plan
-    plan None = Refuse_plan call NoSuch
-    plan (Some srq) =
-        Unless_plan call
-        ((nat_lt MAX_MESSAGE_BYTES (list_length request.list.items), TooLong) ∷ (is_full_of_receives srq, QueueFull) ∷ [])
-        (Answer_plan call (answers.Posted None)
-        ((Srq_of s := record (w.srq s) { srq = Some (after_receive_post request srq) }) ∷ []) [])
-
-    by : (o : Option SharedReceives) → EndsIn w (Bounds w) (plan o)
-    by None = bound
-    by (Some srq) = (λ e. bound, λ a. (λ e. bound, λ b. bound))
+bound-post_srq w call s request bound = search (rules, bound)
 
 -- a shared receive queue with another value
 srq-even : (w : World) (q : QueuePair) (a : Around) (f : SharedReceives → SharedReceives) → AllEven w (srq_updates q a f)
-srq-even w q a f = by q.srq a.shared
-  where
-    updates : Option ℕ → Option SrqSlot → List Update
-    updates (Some srq) (Some slot) = (Srq_of (srq_of q srq) := record slot { srq = option_map f slot.srq }) ∷ []
-    updates srq slot = []
-
-    by : (o : Option ℕ) (t : Option SrqSlot) → AllEven w (updates o t)
-    by None t = record {}
-    by (Some srq) None = record {}
-    by (Some srq) (Some slot) = (record {}, record {})
+srq-even w q a f = search rules
 
 change-windows : (change : state_change.Change) (q : QueuePair) → (queue_after_change change q).windows ≡ q.windows
 change-windows changes.Init q = refl
@@ -391,28 +278,11 @@ change-windows changes.Error q = refl
 change-windows changes.Reset q = refl
 
 bound-modify_qp : (c : Configuration) (w : World) (call : Call) (s : Slot) (change : state_change.Change) → IsSoundWorld c w → IsBoundWorld w → EndsIn w (Bounds w) (modify_qp_plan c call s change)
-bound-modify_qp c w call s change sound bound = bound-present c w call s _ sound bound (λ q is.
-    ends-around w (Bounds w) q (λ a. Unless_plan call (of_change_refusals (modify_refusals c q change)) (plan q a change))
-    (ends-unless w (Bounds w) (of_change_refusals (modify_refusals c q change)) (Refuse_plan call) (plan q (around_in w q (shared_of w q)) change) (λ r. bound)
-    (λ fails. even-bound w ((Queue_of q.queue := Present (queue_after_change change q)) ∷ updates q (around_in w q (shared_of w q)) change) bound
-    (counts-there w q (queue_after_change change q) is (change-windows change q), by q (around_in w q (shared_of w q)) change))))
+bound-modify_qp c w call s change sound bound = walk-modify c w (Bounds w) call s change sound bound (λ q there fails.
+    even-bound w ((Queue_of q.queue := Present (queue_after_change change q)) ∷ changed_around w q (around_in w q (shared_of w q)) change) bound
+    (counts-there w q (queue_after_change change q) there.present (change-windows change q), by q (around_in w q (shared_of w q)) change))
   where
-    updates : QueuePair → Around → state_change.Change → List Update
-    updates q a changes.Error = cq_updates q a (flush_marks q)
-    updates q a changes.Reset =
-        (Mailbox_of q.queue := QueuePairVerbs.emptied_mailbox (queue_after_change changes.Reset q).incarnation (w.mailbox q.queue)) ∷ emptied_updates q a
-    updates q a (changes.Rtr peer incarnation psn mtu rnr_code) =
-        (Mailbox_of q.queue := with_peer q.incarnation (Some (record { queue = peer; incarnation = incarnation })) (w.mailbox q.queue)) ∷ []
-    updates q a change = []
-
-    told : QueuePair → state_change.Change → List Mark
-    told q changes.Error = flush_marks q
-    told q change = []
-
-    plan : QueuePair → Around → state_change.Change → Plan
-    plan q a change = Answer_plan call answers.Fine ((Queue_of q.queue := Present (queue_after_change change q)) ∷ updates q a change) (told q change)
-
-    by : (q : QueuePair) (a : Around) (change : state_change.Change) → AllEven w (updates q a change)
+    by : (q : QueuePair) (a : Around) (change : state_change.Change) → AllEven w (changed_around w q a change)
     by q a changes.Error = (record {}, (record {}, record {}))
     by q a changes.Reset = (record {}, (record {}, (record {}, srq-even w q a (after_receives_retire (places_held q a)))))
     by q a (changes.Rtr peer incarnation psn mtu rnr_code) = (record {}, record {})
@@ -422,121 +292,27 @@ bound-modify_qp c w call s change sound bound = bound-present c w call s _ sound
     by q a changes.Resume = record {}
 
 left-even : (w : World) (q : QueuePair) (a : Around) → AllEven w (left_updates q a)
-left-even w q a = by q.srq a.shared
-  where
-    updates : Option ℕ → Option SrqSlot → List Update
-    updates (Some srq) (Some slot) = (Srq_of (record { domain = q.domain; slot = srq }) := record {
-      srq = option_map (after_receives_retire (places_held q a)) slot.srq;
-      users = slot.users - 1;
-    }) ∷ []
-    updates srq slot = []
-
-    by : (o : Option ℕ) (t : Option SrqSlot) → AllEven w (updates o t)
-    by None t = record {}
-    by (Some srq) None = record {}
-    by (Some srq) (Some slot) = (record {}, record {})
+left-even w q a = search rules
 
 bound-destroy_qp : (c : Configuration) (w : World) (call : Call) (s : Slot) → IsSoundWorld c w → IsBoundWorld w → EndsIn w (Bounds w) (destroy_qp_plan call s)
-bound-destroy_qp c w call s sound bound = bound-present c w call s _ sound bound (λ q is.
-    ends-around w (Bounds w) q (plan q) (
-      λ e. bound,
-      λ free. even-bound w (changed q (around_in w q (shared_of w q))) bound (
-        record {},
-        (
-          sym (ap windows_of is ∙ zero-windows q free),
-          (record {}, (record {}, (record {}, left-even w q (around_in w q (shared_of w q))))),
-        ),
-      ),
-    ))
+bound-destroy_qp c w call s sound bound = walk-destroy c w (Bounds w) call s sound bound (λ q there free.
+    even-bound w (destroyed w s q (around_in w q (shared_of w q))) bound
+    (record {}, (sym (ap windows_of there.present ∙ zero-windows q free), (record {}, (record {}, (record {}, left-even w q (around_in w q (shared_of w q))))))))
   where
     zero-windows : (q : QueuePair) → nat_lt 0 q.windows ≡ false → q.windows ≡ 0
     zero-windows q free = omega (arith, ltb-false 0 q.windows free)
 
-    changed : QueuePair → Around → List Update
-    changed q a = (Domain_of s.domain := without_object (w.domain s.domain))
-        ∷ (Queue_of q.queue := NoQueue q.incarnation q.requester.timers)
-        ∷ (Mailbox_of q.queue := QueuePairVerbs.emptied_mailbox q.incarnation (w.mailbox q.queue))
-        ∷ (Cq_of (send_cq_of q) := option_map (QueuePairVerbs.without_queue q) (w.cq (send_cq_of q)))
-        ∷ (Cq_of (recv_cq_of q) := option_map (QueuePairVerbs.without_queue q) (w.cq (recv_cq_of q)))
-        ∷ left_updates q a
-
-    plan : QueuePair → Around → Plan
-    plan q a =
-        Unless_plan call ((nat_lt 0 q.windows, WindowsBound) ∷ [])
-        (Answer_plan call answers.Fine (changed q a) [])
-
 user-even : (w : World) (x : Creation) (o : Option SrqSlot) → AllEven w (user_updates x o)
-user-even w x o = by x.srq o
-  where
-    updates : Option ℕ → Option SrqSlot → List Update
-    updates (Some srq) (Some slot) = (Srq_of (beside x.slot srq) := record slot { users = suc slot.users }) ∷ []
-    updates srq slot = []
-
-    by : (o : Option ℕ) (t : Option SrqSlot) → AllEven w (updates o t)
-    by None t = record {}
-    by (Some srq) None = record {}
-    by (Some srq) (Some slot) = (record {}, record {})
+user-even w x o = search rules
 
 bound-create_qp : (c : Configuration) (w : World) (call : Call) (x : Creation) → IsBoundWorld w → EndsIn w (Bounds w) (create_qp_plan c call x)
-bound-create_qp c w call x bound = (
-  λ is. bound,
-  λ there. (
-    λ is. bound,
-    λ vacant. (λ has. shared-looks vacant, λ none. bound),
-  ),
-)
+bound-create_qp c w call x bound = walk-create c w (Bounds w) call x bound (λ send recv there vacant send-is recv-is depth.
+    even-bound w (created w x send recv (shared_beside w x) (option_and_then (λ s. s.srq) (shared_beside w x))) bound
+    (record {}, (sym (vacant-counts (w.queue (queue_of x.slot)) vacant), (record {}, (record {}, (record {}, user-even w x (shared_beside w x)))))))
   where
-    queue : QueueId
-    queue = queue_of x.slot
-
     vacant-counts : (s : QueueSlot) → is_present s ≡ false → windows_of s ≡ 0
     vacant-counts (NoQueue incarnation timers) e = refl
     vacant-counts (Present q) e = absurd (true≢false e)
-
-    changed : CompletionQueue → CompletionQueue → Option SrqSlot → Option SharedReceives → List Update
-    changed send recv srq shared = (Domain_of x.slot.domain := with_object (w.domain x.slot.domain))
-        ∷ (Queue_of queue := Present (new_queue x (w.queue queue)))
-        ∷ (Mailbox_of queue := with_peer (new_queue x (w.queue queue)).incarnation None (w.mailbox queue))
-        ∷ (Cq_of (beside x.slot x.send_cq) := Some (send_reserved x send))
-        ∷ (Cq_of (beside x.slot x.recv_cq) := Some (after_reserve (receive_reserve x) (receive_room x shared) (before_receives x send recv)))
-        ∷ user_updates x srq
-
-    made : CompletionQueue → CompletionQueue → Option SrqSlot → Option SharedReceives → Plan
-    made send recv srq shared = Answer_plan call (answers.Queue queue.number (new_queue x (w.queue queue)).incarnation) (changed send recv srq shared) []
-
-    there_plan : Option CompletionQueue → Option CompletionQueue → Option SrqSlot → Option SharedReceives → Plan
-    there_plan (Some send) (Some recv) srq shared = If (is_none shared && not (is_none x.srq)) (Refuse_plan call NoSuch)
-        (If (has_bad_depth x) (Refuse_plan call (OutOfRange fields.Depth)) (If (has_no_room x shared send recv) (Refuse_plan call CqTooSmall) (made send recv srq shared)))
-    there_plan send recv srq shared = Refuse_plan call NoSuch
-
-    plan : Option SrqSlot → Plan
-    plan shared = there_plan (w.cq (beside x.slot x.send_cq)) (w.cq (beside x.slot x.recv_cq)) shared (option_and_then (λ s. s.srq) shared)
-
-    cqs : is_present (w.queue queue) ≡ false → (srq : Option SrqSlot) (shared : Option SharedReceives) (send recv : Option CompletionQueue) → EndsIn w (Bounds w) (there_plan send recv srq shared)
-    cqs vacant srq shared None recv = bound
-    cqs vacant srq shared (Some send) None = bound
-    cqs vacant srq shared (Some send) (Some recv) = (
-      λ is. bound,
-      λ named. (
-        λ is. bound,
-        λ depth. (
-          λ is. bound,
-          λ room. even-bound w (changed send recv srq shared) bound
-              (record {}, (sym (vacant-counts (w.queue queue) vacant), (record {}, (record {}, (record {}, user-even w x srq))))),
-        ),
-      ),
-    )
-
-    shared-looks : is_present (w.queue queue) ≡ false → EndsIn w (Bounds w) (With_shared x plan)
-    shared-looks vacant = by x.srq
-      where
-        looks : Option ℕ → Plan
-        looks None = plan None
-        looks (Some srq) = Look (Srq_of (beside x.slot srq)) (λ slot. plan (Some slot))
-
-        by : (o : Option ℕ) → EndsIn w (Bounds w) (looks o)
-        by None = cqs vacant None None (w.cq (beside x.slot x.send_cq)) (w.cq (beside x.slot x.recv_cq))
-        by (Some srq) = cqs vacant (Some (w.srq (beside x.slot srq))) (w.srq (beside x.slot srq)).srq (w.cq (beside x.slot x.send_cq)) (w.cq (beside x.slot x.recv_cq))
 
 poll-windows : (name : QueueId) (xs : List Completion) (q : QueuePair) → (after_poll name xs q).windows ≡ q.windows
 poll-windows name [] q = refl
@@ -558,37 +334,11 @@ poll-slot-windows : (name : QueueId) (xs : List Completion) (s : QueueSlot) → 
 poll-slot-windows name xs (NoQueue incarnation timers) = refl
 poll-slot-windows name xs (Present q) = poll-windows name xs q
 
-bound-places : (w : World) (s : Slot) (cq : CompletionQueue) (xs ys : List Completion) (k : List Update → Plan) → ((us : List Update) → AllEven w us → EndsIn w (Bounds w) (k us))
-    → EndsIn w (Bounds w) (With_places s cq xs ys k)
-bound-places w s cq xs [] k more = more [] (record {})
-bound-places w s cq xs (y ∷ ys) k more = by (source_of_completion cq y) (λ u even. bound-places w s cq xs ys (λ us. k (u ∷ us)) (λ us rest. more (u ∷ us) (even, rest)))
-  where
-    shared : ℕ → Slot
-    shared srq = record { domain = s.domain; slot = srq }
-
-    next : Update → Plan
-    next u = With_places s cq xs ys (λ us. k (u ∷ us))
-
-    plan : Option ℕ → Plan
-    plan None = Look (Queue_of y.queue) (λ slot. next (Queue_of y.queue := slot_after_poll y.queue xs slot))
-    plan (Some srq) = Look (Srq_of (shared srq)) (λ slot. next (Srq_of (shared srq) := record slot { srq = option_map (receives_after_poll cq srq xs) slot.srq }))
-
-    by : (o : Option ℕ) → ((u : Update) → IsEven w u.name u.thing → EndsIn w (Bounds w) (next u)) → EndsIn w (Bounds w) (plan o)
-    by None on = on (Queue_of y.queue := slot_after_poll y.queue xs (w.queue y.queue)) (poll-slot-windows y.queue xs (w.queue y.queue))
-    by (Some srq) on = on (Srq_of (shared srq) := record (w.srq (shared srq)) { srq = option_map (receives_after_poll cq srq xs) (w.srq (shared srq)).srq }) (record {})
-
 bound-poll : (w : World) (call : Call) (s : Slot) (n least : ℕ) → IsBoundWorld w → EndsIn w (Bounds w) (poll_plan call s n least)
-bound-poll w call s n least bound = by (w.cq s)
-  where
-    by : (o : Option CompletionQueue) → EndsIn w (Bounds w) (Poll_of call s n least o)
-    by None = bound
-    by (Some cq) = (
-      λ e. bound,
-      λ range. (
-        λ few. record {},
-        λ enough. bound-places w s cq (take n cq.waiting) (take n cq.waiting) _ (λ us even. even-bound w ((Cq_of s := Some (after_polls (length (take n cq.waiting)) cq)) ∷ us) bound (record {}, even)),
-      ),
-    )
+bound-poll w call s n least bound = walk-poll w (Bounds w) call s n least bound (λ cq is.
+    walk-places w (Bounds w) (AllEven w) s cq (take n cq.waiting) (take n cq.waiting) _ (record {})
+    (λ name us rest. (poll-slot-windows name (take n cq.waiting) (w.queue name), rest)) (λ at srq us rest. (record {}, rest))
+    (λ us even. even-bound w ((Cq_of s := Some (after_polls (length (take n cq.waiting)) cq)) ∷ us) bound (record {}, even)))
 
 -- every verb whose names are configured
 bound-verb : (c : Configuration) (w : World) (call : Call) (verb : Verb) → IsSoundWorld c w → IsBoundWorld w → EndsIn w (Bounds w) (verb_plan c call verb)
@@ -615,7 +365,7 @@ bound-verb c w call (verbs.CreateQp slot send_cq recv_cq send_depth recv_depth s
   srq = srq;
 }) bound
 bound-verb c w call (verbs.ModifyQp slot change) sound bound = bound-modify_qp c w call slot change sound bound
-bound-verb c w call (verbs.QueryQp slot) sound bound = bound-present c w call slot _ sound bound (λ q is. bound)
+bound-verb c w call (verbs.QueryQp slot) sound bound = walk-present c w (Bounds w) call slot _ sound bound (λ q there. bound)
 bound-verb c w call (verbs.DestroyQp slot) sound bound = bound-destroy_qp c w call slot sound bound
 bound-verb c w call (verbs.PostSend slot request) sound bound = bound-post_send c w call slot request sound bound
 bound-verb c w call (verbs.PostRecv slot request) sound bound = bound-post_recv c w call slot request sound bound

@@ -8,7 +8,6 @@ use Rattle.ca_keys.specs.declared.names.QueueId.{QueueId}
 use Rattle.ca_keys.specs.declared.names.Slot.{Slot}
 use Rattle.ca_base.specs.declared.refusals.OpRefusal.{OpRefusal}
 use Rattle.ca_base.specs.declared.request.SendOp.{SendOp}
-use Rattle.ca_base.specs.declared.request.SendOp.TheVariants as ops
 use Rattle.ca_keys.specs.declared.rights.Rights.{Rights}
 use Rattle.ca_base.specs.Configuration.{Configuration}
 use Rattle.ca_keys.specs.Equal.{queue_eq}
@@ -33,6 +32,7 @@ use Rattle.ca_laws_windows.proofs.WindowWorldLemmas.{Leaves, ends-row-bound, kep
 use Rattle.ca_laws_sound.proofs.SettledLemmas.{queue-path}
 use Rattle.ca_laws_sound.proofs.TurnLemmas.{all-fail}
 use Rattle.ca_laws_sound.proofs.WorldLemmas.{EndsIn}
+use Rattle.ca_laws_sound.proofs.PlanWalks.{walk-perform}
 
 -- how an operation's plan may go on
 abbrev pub GoesOnBound : World → QueuePair → (List Update → Type 0) → Finishing → Type 0
@@ -213,16 +213,8 @@ ends-fast-bound c w P q n region low buffer address count rights pages finish bo
 
 pub ends-perform-bound : (c : Configuration) (w : World) (P : List Update → Type 0) (q : QueuePair) (n : Numbered) (finish : Finishing) (op : SendOp) → IsSoundWorld c w → IsBoundWorld w
     → w.queue q.queue ≡ Present q → GoesOnBound w q P finish → EndsIn w P (Perform_op c q n finish op)
-ends-perform-bound c w P q n finish (ops.Bind1 window key address count rights) sound bound is more = ends-bind1-bound c w P q n window key address count rights finish sound bound is more
-ends-perform-bound c w P q n finish (ops.Bind2 window key low address count rights) sound bound is more = ends-bind2-bound c w P q n window key low address count rights finish sound bound is more
-ends-perform-bound c w P q n finish (ops.FastReg region low buffer address count rights pages) sound bound is more =
-    ends-fast-bound c w P q n region low buffer address count rights pages finish bound is more
-ends-perform-bound c w P q n finish (ops.LocalInv key) sound bound is more = ends-row-bound c w P q (invalidate_row q n key) finish bound is (invalidate-counts q n key) more
-ends-perform-bound c w P q n finish (ops.Send list) sound bound is more = more (queue_and_marks q []) [] [] (kept-leaves w q bound is)
-ends-perform-bound c w P q n finish (ops.SendImm imm list) sound bound is more = more (queue_and_marks q []) [] [] (kept-leaves w q bound is)
-ends-perform-bound c w P q n finish (ops.SendInv key list) sound bound is more = more (queue_and_marks q []) [] [] (kept-leaves w q bound is)
-ends-perform-bound c w P q n finish (ops.Write address key list) sound bound is more = more (queue_and_marks q []) [] [] (kept-leaves w q bound is)
-ends-perform-bound c w P q n finish (ops.WriteImm address key imm list) sound bound is more = more (queue_and_marks q []) [] [] (kept-leaves w q bound is)
-ends-perform-bound c w P q n finish (ops.Read address key list) sound bound is more = more (queue_and_marks q []) [] [] (kept-leaves w q bound is)
-ends-perform-bound c w P q n finish (ops.CmpSwap address key compare swap list) sound bound is more = more (queue_and_marks q []) [] [] (kept-leaves w q bound is)
-ends-perform-bound c w P q n finish (ops.FetchAdd address key add list) sound bound is more = more (queue_and_marks q []) [] [] (kept-leaves w q bound is)
+ends-perform-bound c w P q n finish op sound bound is more = walk-perform c w P q n finish op (more (queue_and_marks q []) [] [] (kept-leaves w q bound is))
+    (λ window key address count rights. ends-bind1-bound c w P q n window key address count rights finish sound bound is more)
+    (λ window key low address count rights. ends-bind2-bound c w P q n window key low address count rights finish sound bound is more)
+    (λ region low buffer address count rights pages. ends-fast-bound c w P q n region low buffer address count rights pages finish bound is more)
+    (λ key. ends-row-bound c w P q (invalidate_row q n key) finish bound is (invalidate-counts q n key) more)
