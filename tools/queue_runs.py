@@ -12,6 +12,8 @@ from dataclasses import dataclass, field
 
 RESPONSES = range(13, 19)
 REGION_SIZE = re.compile(r"(\d+)/(\d+):(\d+)\+(\d+)$")
+COLUMNS = 100
+LAST_BYTES = re.compile(r"(?<![0-9a-z])((?:[0-9a-f]{2})*?)([0-9a-f]{2})(\2{15,})(?![0-9a-z*])")
 
 
 @dataclass
@@ -145,9 +147,50 @@ def text_of(run):
     return "\n".join(lines + run.lines) + "\n"
 
 
+def short_word(match):
+    """A byte with its count. A few more than a multiple of 256 are those of a header, and stand as they are."""
+    before, byte, again = match.groups()
+    count = 1 + len(again) // 2
+    few = count % 256 if count > 256 and count % 256 < 16 else 0
+    return f"{before}{byte * few}{byte}*{count - few}"
+
+
+def short_bytes(text):
+    """A text in which a byte that stands 16 times or more at the end of a word is written once, with its count."""
+    return LAST_BYTES.sub(short_word, text)
+
+
+def setup_of(crate, name):
+    """The lines with which most runs of a crate of tests begin, which are a constant there."""
+    tests = pathlib.Path(__file__).resolve().parent.parent / "crates" / crate / "src" / "tests.rt"
+    return re.search(rf'const {name}: &str = "([^"]*)";', tests.read_text())[1].splitlines()
+
+
+def verb_of(line):
+    return "".join(line.split(" ")[3:4])
+
+
+def short_run(setup, run):
+    """What a run says that differs from a setup: each line of the setup that it lacks stands there, and each other one
+    gives way to the run's line of the same verb. A run that has no such lines in their order is told whole."""
+    lines = run.split("\n")
+    verbs = [verb_of(line) for line in setup]
+    first, rest = lines[:len(setup)], lines[len(setup):]
+    if [verb_of(line) for line in first] != verbs or verb_of(rest[0]) in verbs:
+        return "whole\n" + run
+    return "\n".join([own for own, line in zip(first, setup) if own != line] + rest)
+
+
+def constant_of(name, text):
+    """A constant, laid out as `rt fmt` does."""
+    head = f"pub const {name}: &str ="
+    is_long = len(head) + len(text.partition("\n")[0]) + 2 > COLUMNS
+    return f'{head}{chr(10) + 4 * " " if is_long else " "}"{text}";\n'
+
+
 def file_of(names, texts, tool):
     """The Rattle file of these constants, each with the text of some runs."""
-    constants = "\n".join(f'pub const {name}: &str = "{text}";\n' for name, text in zip(names, texts))
+    constants = "\n".join(constant_of(name, text) for name, text in zip(names, texts))
     return f"//! Runs that another program reckoned from the rules; `tools/{tool}` wrote them.\n\n{constants}"
 
 
@@ -163,7 +206,8 @@ def print_runs(traces, queues_of, run_of):
                 print(path.stem, queue, run.steps, count, run.end, " ".join(sorted(run.kinds)), sep="\t")
 
 
-def main(description, tool, queues_of, run_of):
+def main(description, tool, setup, queues_of, run_of):
+    """`setup` names the crate and the constant of the setup."""
     parser = argparse.ArgumentParser(description=description.split("\n")[0])
     parser.add_argument("--name", default="ROWS")
     parser.add_argument("--list", action="store_true")
@@ -179,7 +223,7 @@ def main(description, tool, queues_of, run_of):
         run = run_of(pathlib.Path(path), queue)
         if run is None:
             sys.exit(f"{name}: no region")
-        text = text_of(run)
+        text = short_bytes(short_run(setup_of(*setup), text_of(run)))
         if texts[-1] and len(texts[-1]) + len(text) > given.longest:
             texts.append("")
         texts[-1] += ("\n" if texts[-1] else "") + text

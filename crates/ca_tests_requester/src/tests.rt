@@ -1,3 +1,4 @@
+ghost use Rattle.std.specs.Prelude.{IfSome};
 ghost use Rattle.ca_bed_requester.specs.Bed as beds;
 
 mod answers;
@@ -9,23 +10,14 @@ mod rows;
 mod wakes;
 mod worked_rows;
 
-use ca_base::{Bytes, DomainId, Lot, OpRefusal, QueueId, Rights, Run, Sent, Slot, StepError};
+use ca_base::{Bytes, Lot, OpRefusal, Sent, StepError};
 use ca_bed_requester::ca_reading_lines::read_line;
-use ca_bed_requester::{Bed, Setup, bed_of, reason_text, settings, setup_in};
+use ca_bed_requester::{Bed, bed_of, full_text, reason_text, settings, setup_in};
 use ca_model::{Event, Mark, Marks, Verb};
 use ca_qpstate::QueuePart;
 use ca_trace::{Line, print_reply};
 use std::alloc::Global;
 use std::process::Abort;
-
-/// All rights.
-const ALL: Rights = Rights {
-    local_write: true,
-    remote_read: true,
-    remote_write: true,
-    remote_atomic: true,
-    window_bind: true,
-};
 
 fn texts_are(rt: &impl Abort, got: &[u8], want: &[u8], line: &str) {
     let got = str::from_utf8(got).unwrap_or("no text");
@@ -295,65 +287,62 @@ fn go_on(rt: &impl Abort, alloc: Global, bed: &mut Bed, text: &str, peer_empty: 
     texts_are(rt, got.as_slice(), want.as_slice(), "the end");
 }
 
-fn run(rt: &impl Abort, alloc: Global, setup: &Setup, text: &str, peer_empty: bool) {
-    match bed_of(alloc, setup) {
-        None => holds(rt, false, "a queue pair"),
-        Some(mut bed) => go_on(rt, alloc, &mut bed, text, peer_empty),
-    }
+/// The first queue pair, with a shared receive queue, over a region of 4096 bytes.
+const SETUP: &str = "@0 p0 c0 reg 0/0/0 0 0 4096 lrwab -> key 0x00000001
+@0 p0 c0 qp 0/0/0 0 0 4 0 0 -> qp 256 1
+@0 p0 c0 init 0/0/0 -> ok
+@1 p0 c0 rtr 0/0/0 1/256 1 0 256 12 -> ok
+@2 p0 c0 rts 0/0/0 0 7 7 16 -> ok
+";
+
+// What the first two lines of a text register and create, and the lines behind them.
+fn begin(alloc: Global, text: &str) -> Option<(Bed, &str)>
+    ensures { IfSome result (λ begun. beds.Stands begun.0) }
+{
+    let (setup, rest) = setup_in(alloc, text)?;
+    Some((bed_of(alloc, &setup)?, rest))
 }
 
-fn run_text(rt: &impl Abort, alloc: Global, text: &str) {
-    match setup_in(alloc, text) {
+fn run(rt: &impl Abort, alloc: Global, text: &str, peer_empty: bool) {
+    match begin(alloc, text) {
         None => texts_are(rt, text.as_bytes(), b"", "the region and the queue pair"),
-        Some((setup, rest)) => run(rt, alloc, &setup, rest, false),
+        Some((mut bed, rest)) => go_on(rt, alloc, &mut bed, rest, peer_empty),
     }
 }
 
-// Runs that stand in a text, with a blank line between them. Each line is a step, as it stands in a trace, and behind it
-// stands what it does. A packet that arrives stands as an injection.
+// A run, which says what differs from the setup. Each line is a step, as it stands in a trace, and behind it stands what
+// it does. A packet that arrives stands as an injection. Of a request the lot says whether the peer has room: `lose`
+// where it has none.
+fn is_run(rt: &impl Abort, alloc: Global, text: &str, peer_empty: bool) {
+    match full_text(alloc, SETUP, text) {
+        None => texts_are(rt, text.as_bytes(), b"", "a run"),
+        Some(full) => run(rt, alloc, full.as_str(), peer_empty),
+    }
+}
+
+// Runs that stand in a text, with a blank line between them.
 fn runs(rt: &impl Abort, alloc: Global, texts: &str) {
     for text in texts.split("\n\n") {
-        run_text(rt, alloc, text);
+        is_run(rt, alloc, text, false);
     }
 }
 
-/// The first queue pair, over a region of 4096 bytes.
-const PLAIN: Setup = Setup {
-    queue: QueueId {
-        adapter: 0,
-        number: 256,
-    },
-    srq: Some(0),
-    slot: Slot {
-        domain: DomainId {
-            adapter: 0,
-            domain: 0,
-        },
-        slot: 0,
-    },
-    at: Run {
-        adapter: 0,
-        buffer: 0,
-        offset: 0,
-        length: 4096,
-    },
-    rights: ALL,
-};
-
-// A run by hand. Of a request the lot says whether the peer has room: `lose` where it has none.
-fn is_run(rt: &impl Abort, alloc: Global, text: &str, peer_empty: bool) {
-    run(rt, alloc, &PLAIN, text, peer_empty);
-}
-
-// A run by hand, behind which a local operation is refused for a cause.
-fn fails(rt: &impl Abort, alloc: Global, text: &str, cause: OpRefusal, want: &str) {
-    match bed_of(alloc, &PLAIN) {
-        None => holds(rt, false, "a queue pair"),
-        Some(mut bed) => {
-            go_on(rt, alloc, &mut bed, text, false);
+fn fail(rt: &impl Abort, alloc: Global, text: &str, cause: OpRefusal, want: &str) {
+    match begin(alloc, text) {
+        None => texts_are(rt, text.as_bytes(), b"", "the region and the queue pair"),
+        Some((mut bed, rest)) => {
+            go_on(rt, alloc, &mut bed, rest, false);
             let mut got = Vec::new(alloc);
             perform(rt, alloc, &mut bed, Some(cause), &mut got);
             texts_are(rt, got.as_slice(), want.as_bytes(), "the end");
         }
+    }
+}
+
+// A run, behind which a local operation is refused for a cause.
+fn fails(rt: &impl Abort, alloc: Global, text: &str, cause: OpRefusal, want: &str) {
+    match full_text(alloc, SETUP, text) {
+        None => texts_are(rt, text.as_bytes(), b"", "a run"),
+        Some(full) => fail(rt, alloc, full.as_str(), cause, want),
     }
 }

@@ -13,7 +13,9 @@ mod worked_rows;
 
 use ca_base::{Bytes, Lot, QueueId, SendOp, SendRequest, Sent, Slot, StepError};
 use ca_bed_responder::Responder;
-use ca_bed_responder::ca_bed_requester::{Setup, bed_of, reason_text, settings, setup_in};
+use ca_bed_responder::ca_bed_requester::{
+    Setup, bed_of, full_text, reason_text, settings, setup_in,
+};
 use ca_bed_responder::ca_reading_lines::read_line;
 use ca_model::{Event, Mark, Marks, Verb};
 use ca_qpstate::QueuePart;
@@ -224,8 +226,24 @@ fn go_on(rt: &impl Abort, alloc: Global, r: &mut Responder, text: &str)
     texts_are(rt, got.as_slice(), want.as_slice(), "the end");
 }
 
-// A run: the lines that register its region and create its queue pair, and then each step, as it stands in a trace, and
-// behind it what it does. A packet that arrives stands as an injection. So many messages were accepted before.
+/// The queue pair 0/256 over a region of 4096 bytes.
+const SETUP: &str = "@0 p0 c0 reg 0/0/0 0 0 4096 lrwab -> key 0x00000001
+@0 p0 c0 qp 0/0/0 0 0 4 4 - -> qp 256 1
+@0 p0 c0 init 0/0/0 -> ok
+@0 p0 c0 rtr 0/0/0 1/256 1 0 256 12 -> ok
+@0 p0 c0 rts 0/0/0 0 7 7 16 -> ok
+";
+
+/// The same of the queue pair 1/256, with which most rows of traces begin.
+const ROWS_SETUP: &str = "@0 p0 c0 reg 1/0/0 0 0 4096 lrwab -> key 0x00000001
+@0 p0 c0 qp 1/0/0 0 0 4 4 - -> qp 256 1
+@0 p0 c1 init 1/0/0 -> ok
+@1 p0 c1 rtr 1/0/0 0/256 1 0 256 12 -> ok
+@2 p0 c1 rts 1/0/0 0 7 7 16 -> ok
+";
+
+// A text of a run: the lines that register its region and create its queue pair, and then each step, as it stands in a
+// trace, and behind it what it does. A packet that arrives stands as an injection. So many messages were accepted before.
 fn run(rt: &impl Abort, alloc: Global, text: &str, msn: u32) {
     let Some((setup, rest)) = setup_in(alloc, text) else {
         texts_are(rt, text.as_bytes(), b"", "the region and the queue pair");
@@ -240,9 +258,21 @@ fn run(rt: &impl Abort, alloc: Global, text: &str, msn: u32) {
     }
 }
 
-// Runs that stand in a text, with a blank line between them.
-fn runs(rt: &impl Abort, alloc: Global, texts: &str) {
-    for text in texts.split("\n\n") {
-        run(rt, alloc, text, 0);
+// A run, which says what differs from a setup.
+fn is_run(rt: &impl Abort, alloc: Global, setup: &str, text: &str, msn: u32) {
+    match full_text(alloc, setup, text) {
+        None => texts_are(rt, text.as_bytes(), b"", "a run"),
+        Some(full) => run(rt, alloc, full.as_str(), msn),
     }
+}
+
+// Runs that stand in a text, with a blank line between them.
+fn runs_from(rt: &impl Abort, alloc: Global, setup: &str, texts: &str) {
+    for text in texts.split("\n\n") {
+        is_run(rt, alloc, setup, text, 0);
+    }
+}
+
+fn runs(rt: &impl Abort, alloc: Global, texts: &str) {
+    runs_from(rt, alloc, SETUP, texts);
 }

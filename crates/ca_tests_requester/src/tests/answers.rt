@@ -1,8 +1,6 @@
 use super::is_run;
 
-const IMPLIED: &str = "@0 p0 c0 init 0/0/0 -> ok
-@1 p0 c0 rtr 0/0/0 1/256 1 0 256 12 -> ok
-@2 p0 c0 rts 0/0/0 0 1 7 16 -> ok
+const IMPLIED: &str = "@2 p0 c0 rts 0/0/0 0 1 7 16 -> ok
 @3 p0 c0 post 0/0/0 1 s read 0x100000000 0x00000001 0x00000001:0x100000000:1 -> posted -
 @3 p0 c0 post 0/0/0 2 s write 0x100000000 0x00000001 - -> posted -
 @4 p0 request 0/256 pass
@@ -19,24 +17,19 @@ const IMPLIED: &str = "@0 p0 c0 init 0/0/0 -> ok
  done 0/256 send 1 2 write flushed 0 - - -
 ";
 
-const READ_REST: &str = "@0 p0 c0 init 0/0/0 -> ok
-@1 p0 c0 rtr 0/0/0 1/256 1 0 256 12 -> ok
-@2 p0 c0 rts 0/0/0 0 7 7 16 -> ok
-@3 p0 c0 post 0/0/0 1 s read 0x100000000 0x00000001 0x00000001:0x100000000:600 -> posted -
+const READ_REST: &str =
+    "@3 p0 c0 post 0/0/0 1 s read 0x100000000 0x00000001 0x00000001:0x100000000:600 -> posted -
 @4 p0 request 0/256 pass
  sent 0/256 1/256 - 0 0c00ffff000001008000000000000001000000000000000100000258
-@5 p0 c0 inject 0/256 0d00ffff00000100000000001f000001abababababababababababababababababababababababababababababababababababababababababababababababababababababababababababababababababababababababababababababababababababababababababababababababababababababababababababababababababababababababababababababababababababababababababababababababababababababababababababababababababababababababababababababababababababababababababababababababababababababababababababababababababababababababababababababababababababababababababababababababababababababababababababababababab -> ok
- local 0/256 0/0 0x00000001 write 0x100000000 256 wrote abababababababababababababababababababababababababababababababababababababababababababababababababababababababababababababababababababababababababababababababababababababababababababababababababababababababababababababababababababababababababababababababababababababababababababababababababababababababababababababababababababababababababababababababababababababababababababababababababababababababababababababababababababababababababababababababababababababababababababababababababababababababababababababababab
+@5 p0 c0 inject 0/256 0d00ffff00000100000000001f000001ab*256 -> ok
+ local 0/256 0/0 0x00000001 write 0x100000000 256 wrote ab*256
 @7 p0 timeout 0/256 silent
  timer 0/256 silent
 @4 p0 request 0/256 pass
  sent 0/256 1/256 - 0 0c00ffff000001008000000100000001000001000000000100000158
 ";
 
-const NAK_1: &str = "@0 p0 c0 init 0/0/0 -> ok
-@1 p0 c0 rtr 0/0/0 1/256 1 0 256 12 -> ok
-@2 p0 c0 rts 0/0/0 0 7 7 16 -> ok
-@3 p0 c0 post 0/0/0 1 s write 0x100000000 0x00000001 - -> posted -
+const NAK_1: &str = "@3 p0 c0 post 0/0/0 1 s write 0x100000000 0x00000001 - -> posted -
 @3 p0 c0 post 0/0/0 2 s write 0x100000000 0x00000001 - -> posted -
 @3 p0 c0 post 0/0/0 3 s write 0x100000000 0x00000001 - -> posted -
 @4 p0 request 0/256 pass
@@ -49,10 +42,7 @@ const NAK_1: &str = "@0 p0 c0 init 0/0/0 -> ok
  done 0/256 send 2 3 write flushed 0 - - -
 ";
 
-const NAK_2: &str = "@0 p0 c0 init 0/0/0 -> ok
-@1 p0 c0 rtr 0/0/0 1/256 1 0 256 12 -> ok
-@2 p0 c0 rts 0/0/0 0 7 7 16 -> ok
-@3 p0 c0 post 0/0/0 1 s write 0x100000000 0x00000001 - -> posted -
+const NAK_2: &str = "@3 p0 c0 post 0/0/0 1 s write 0x100000000 0x00000001 - -> posted -
 @3 p0 c0 post 0/0/0 2 s write 0x100000000 0x00000001 - -> posted -
 @3 p0 c0 post 0/0/0 3 s write 0x100000000 0x00000001 - -> posted -
 @4 p0 request 0/256 pass
@@ -65,10 +55,7 @@ const NAK_2: &str = "@0 p0 c0 init 0/0/0 -> ok
  done 0/256 send 2 3 write flushed 0 - - -
 ";
 
-const NAK_3: &str = "@0 p0 c0 init 0/0/0 -> ok
-@1 p0 c0 rtr 0/0/0 1/256 1 0 256 12 -> ok
-@2 p0 c0 rts 0/0/0 0 7 7 16 -> ok
-@3 p0 c0 post 0/0/0 1 s write 0x100000000 0x00000001 - -> posted -
+const NAK_3: &str = "@3 p0 c0 post 0/0/0 1 s write 0x100000000 0x00000001 - -> posted -
 @3 p0 c0 post 0/0/0 2 s write 0x100000000 0x00000001 - -> posted -
 @3 p0 c0 post 0/0/0 3 s write 0x100000000 0x00000001 - -> posted -
 @4 p0 request 0/256 pass
@@ -81,10 +68,8 @@ const NAK_3: &str = "@0 p0 c0 init 0/0/0 -> ok
  done 0/256 send 2 3 write flushed 0 - - -
 ";
 
-const BAD_RESPONSE: &str = "@0 p0 c0 init 0/0/0 -> ok
-@1 p0 c0 rtr 0/0/0 1/256 1 0 256 12 -> ok
-@2 p0 c0 rts 0/0/0 0 7 7 16 -> ok
-@3 p0 c0 post 0/0/0 1 s read 0x100000000 0x00000001 0x00000001:0x100000000:2 -> posted -
+const BAD_RESPONSE: &str =
+    "@3 p0 c0 post 0/0/0 1 s read 0x100000000 0x00000001 0x00000001:0x100000000:2 -> posted -
 @3 p0 c0 post 0/0/0 2 s write 0x100000000 0x00000001 - -> posted -
 @4 p0 request 0/256 pass
  sent 0/256 1/256 - 0 0c00ffff000001008000000000000001000000000000000100000002
@@ -93,10 +78,7 @@ const BAD_RESPONSE: &str = "@0 p0 c0 init 0/0/0 -> ok
  done 0/256 send 1 2 write flushed 0 - - -
 ";
 
-const UNSIGNALLED: &str = "@0 p0 c0 init 0/0/0 -> ok
-@1 p0 c0 rtr 0/0/0 1/256 1 0 256 12 -> ok
-@2 p0 c0 rts 0/0/0 0 7 7 16 -> ok
-@3 p0 c0 post 0/0/0 1 - write 0x100000000 0x00000001 - -> posted -
+const UNSIGNALLED: &str = "@3 p0 c0 post 0/0/0 1 - write 0x100000000 0x00000001 - -> posted -
 @3 p0 c0 post 0/0/0 2 s write 0x100000000 0x00000001 - -> posted -
 @4 p0 request 0/256 pass
  sent 0/256 1/256 - 0 0a00ffff000001008000000000000001000000000000000100000000

@@ -1,8 +1,6 @@
 use super::is_run;
 
-const PSN_WRAPS: &str = "@0 p0 c0 init 0/0/0 -> ok
-@1 p0 c0 rtr 0/0/0 1/256 1 0 256 12 -> ok
-@2 p0 c0 rts 0/0/0 16777215 7 7 16 -> ok
+const PSN_WRAPS: &str = "@2 p0 c0 rts 0/0/0 16777215 7 7 16 -> ok
 @3 p0 c0 post 0/0/0 1 s write 0x100000000 0x00000001 - -> posted -
 @3 p0 c0 post 0/0/0 2 s write 0x100000000 0x00000001 - -> posted -
 @4 p0 request 0/256 pass
@@ -14,10 +12,7 @@ const PSN_WRAPS: &str = "@0 p0 c0 init 0/0/0 -> ok
  done 0/256 send 1 2 write success 0 - - -
 ";
 
-const PACKETS_64: &str = "@0 p0 c0 init 0/0/0 -> ok
-@1 p0 c0 rtr 0/0/0 1/256 1 0 256 12 -> ok
-@2 p0 c0 rts 0/0/0 0 7 7 16 -> ok
-@3 p0 c0 post 0/0/0 0 s write 0x100000000 0x00000001 - -> posted -
+const PACKETS_64: &str = "@3 p0 c0 post 0/0/0 0 s write 0x100000000 0x00000001 - -> posted -
 @3 p0 c0 post 0/0/0 1 s write 0x100000000 0x00000001 - -> posted -
 @3 p0 c0 post 0/0/0 2 s write 0x100000000 0x00000001 - -> posted -
 @3 p0 c0 post 0/0/0 3 s write 0x100000000 0x00000001 - -> posted -
@@ -218,10 +213,8 @@ const PACKETS_64: &str = "@0 p0 c0 init 0/0/0 -> ok
  sent 0/256 1/256 - 64 0a00ffff000001008000004000000001000000000000000100000000
 ";
 
-const PSNS_8192: &str = "@0 p0 c0 init 0/0/0 -> ok
-@1 p0 c0 rtr 0/0/0 1/256 1 0 256 12 -> ok
-@2 p0 c0 rts 0/0/0 0 7 7 16 -> ok
-@3 p0 c0 post 0/0/0 1 s read 0x100000000 0x00000001 0x00000001:0x100000000:1048576 -> posted -
+const PSNS_8192: &str =
+    "@3 p0 c0 post 0/0/0 1 s read 0x100000000 0x00000001 0x00000001:0x100000000:1048576 -> posted -
 @3 p0 c0 post 0/0/0 2 s read 0x100000000 0x00000001 0x00000001:0x100000000:1048576 -> posted -
 @3 p0 c0 post 0/0/0 3 s read 0x100000000 0x00000001 0x00000001:0x100000000:1 -> posted -
 @4 p0 request 0/256 pass
@@ -232,9 +225,7 @@ const PSNS_8192: &str = "@0 p0 c0 init 0/0/0 -> ok
  reason outstanding
 ";
 
-const READS_BOUND: &str = "@0 p0 c0 init 0/0/0 -> ok
-@1 p0 c0 rtr 0/0/0 1/256 1 0 256 12 -> ok
-@2 p0 c0 rts 0/0/0 0 7 7 1 -> ok
+const READS_BOUND: &str = "@2 p0 c0 rts 0/0/0 0 7 7 1 -> ok
 @3 p0 c0 post 0/0/0 1 s read 0x100000000 0x00000001 0x00000001:0x100000000:1 -> posted -
 @3 p0 c0 post 0/0/0 2 s add 0x100000000 0x00000001 5 0x00000001:0x100000000:8 -> posted -
 @4 p0 request 0/256 pass
@@ -243,9 +234,7 @@ const READS_BOUND: &str = "@0 p0 c0 init 0/0/0 -> ok
  reason outstanding
 ";
 
-const RNR_LIMIT_6: &str = "@0 p0 c0 init 0/0/0 -> ok
-@1 p0 c0 rtr 0/0/0 1/256 1 0 256 12 -> ok
-@2 p0 c0 rts 0/0/0 0 7 6 16 -> ok
+const RNR_LIMIT_6: &str = "@2 p0 c0 rts 0/0/0 0 7 6 16 -> ok
 @3 p0 c0 post 0/0/0 1 s write 0x100000000 0x00000001 - -> posted -
 @3 p0 c0 post 0/0/0 2 s write 0x100000000 0x00000001 - -> posted -
 @4 p0 request 0/256 pass
@@ -291,10 +280,7 @@ const RNR_LIMIT_6: &str = "@0 p0 c0 init 0/0/0 -> ok
  done 0/256 send 1 2 write flushed 0 - - -
 ";
 
-const RNR_LIMIT_7: &str = "@0 p0 c0 init 0/0/0 -> ok
-@1 p0 c0 rtr 0/0/0 1/256 1 0 256 12 -> ok
-@2 p0 c0 rts 0/0/0 0 7 7 16 -> ok
-@3 p0 c0 post 0/0/0 1 s write 0x100000000 0x00000001 - -> posted -
+const RNR_LIMIT_7: &str = "@3 p0 c0 post 0/0/0 1 s write 0x100000000 0x00000001 - -> posted -
 @4 p0 request 0/256 pass
  sent 0/256 1/256 - 0 0a00ffff000001008000000000000001000000000000000100000000
 @5 p0 c0 inject 0/256 1100ffff00000100000000002c000001 -> ok
@@ -355,9 +341,7 @@ const RNR_LIMIT_7: &str = "@0 p0 c0 init 0/0/0 -> ok
  done 0/256 send 0 1 write success 0 - - -
 ";
 
-const RNR_LIMIT_0: &str = "@0 p0 c0 init 0/0/0 -> ok
-@1 p0 c0 rtr 0/0/0 1/256 1 0 256 12 -> ok
-@2 p0 c0 rts 0/0/0 0 7 0 16 -> ok
+const RNR_LIMIT_0: &str = "@2 p0 c0 rts 0/0/0 0 7 0 16 -> ok
 @3 p0 c0 post 0/0/0 1 s write 0x100000000 0x00000001 - -> posted -
 @4 p0 request 0/256 pass
  sent 0/256 1/256 - 0 0a00ffff000001008000000000000001000000000000000100000000
@@ -365,9 +349,7 @@ const RNR_LIMIT_0: &str = "@0 p0 c0 init 0/0/0 -> ok
  done 0/256 send 0 1 write rnr-retry-exceeded 0 - - -
 ";
 
-const RETRY_0: &str = "@0 p0 c0 init 0/0/0 -> ok
-@1 p0 c0 rtr 0/0/0 1/256 1 0 256 12 -> ok
-@2 p0 c0 rts 0/0/0 0 0 7 16 -> ok
+const RETRY_0: &str = "@2 p0 c0 rts 0/0/0 0 0 7 16 -> ok
 @3 p0 c0 post 0/0/0 1 s write 0x100000000 0x00000001 - -> posted -
 @3 p0 c0 post 0/0/0 2 s write 0x100000000 0x00000001 - -> posted -
 @4 p0 request 0/256 pass
@@ -377,10 +359,7 @@ const RETRY_0: &str = "@0 p0 c0 init 0/0/0 -> ok
  done 0/256 send 1 2 write flushed 0 - - -
 ";
 
-const RETRY_7: &str = "@0 p0 c0 init 0/0/0 -> ok
-@1 p0 c0 rtr 0/0/0 1/256 1 0 256 12 -> ok
-@2 p0 c0 rts 0/0/0 0 7 7 16 -> ok
-@3 p0 c0 post 0/0/0 1 s write 0x100000000 0x00000001 - -> posted -
+const RETRY_7: &str = "@3 p0 c0 post 0/0/0 1 s write 0x100000000 0x00000001 - -> posted -
 @4 p0 request 0/256 pass
  sent 0/256 1/256 - 0 0a00ffff000001008000000000000001000000000000000100000000
 @5 p0 c0 inject 0/256 1100ffff000001000000000060000001 -> ok
@@ -412,9 +391,7 @@ const RETRY_7: &str = "@0 p0 c0 init 0/0/0 -> ok
  done 0/256 send 0 1 write retry-exceeded 0 - - -
 ";
 
-const PROGRESS: &str = "@0 p0 c0 init 0/0/0 -> ok
-@1 p0 c0 rtr 0/0/0 1/256 1 0 256 12 -> ok
-@2 p0 c0 rts 0/0/0 0 1 7 16 -> ok
+const PROGRESS: &str = "@2 p0 c0 rts 0/0/0 0 1 7 16 -> ok
 @3 p0 c0 post 0/0/0 1 s write 0x100000000 0x00000001 - -> posted -
 @3 p0 c0 post 0/0/0 2 s write 0x100000000 0x00000001 - -> posted -
 @4 p0 request 0/256 pass

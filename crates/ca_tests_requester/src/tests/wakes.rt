@@ -1,9 +1,6 @@
 use super::is_run;
 
-const WITHOUT_END: &str = "@0 p0 c0 init 0/0/0 -> ok
-@1 p0 c0 rtr 0/0/0 1/256 1 0 256 12 -> ok
-@2 p0 c0 rts 0/0/0 0 7 7 16 -> ok
-@3 p0 c0 post 0/0/0 1 s write 0x100000000 0x00000001 - -> posted -
+const WITHOUT_END: &str = "@3 p0 c0 post 0/0/0 1 s write 0x100000000 0x00000001 - -> posted -
 @4 p0 request 0/256 pass
  sent 0/256 1/256 - 0 0a00ffff000001008000000000000001000000000000000100000000
 @5 p0 c0 inject 0/256 1100ffff00000100000000002c000001 -> ok
@@ -11,9 +8,7 @@ const WITHOUT_END: &str = "@0 p0 c0 init 0/0/0 -> ok
  reason rnr-wait
 ";
 
-const OF_SIX: &str = "@0 p0 c0 init 0/0/0 -> ok
-@1 p0 c0 rtr 0/0/0 1/256 1 0 256 12 -> ok
-@2 p0 c0 rts 0/0/0 0 7 6 16 -> ok
+const OF_SIX: &str = "@2 p0 c0 rts 0/0/0 0 7 6 16 -> ok
 @3 p0 c0 post 0/0/0 1 s write 0x100000000 0x00000001 - -> posted -
 @4 p0 request 0/256 pass
  sent 0/256 1/256 - 0 0a00ffff000001008000000000000001000000000000000100000000

@@ -1,21 +1,21 @@
 use super::drawn_rows::{DRAWN_1, DRAWN_2};
 use super::hostile_rows::HOSTILE_1;
-use super::runs;
 use super::worked_rows::{ROWS_1, ROWS_2};
+use super::{ROWS_SETUP, runs_from};
 
 #[test]
 fn worked_rows_are_as_another_program_reckoned(rt: HostRuntime) {
-    runs(&rt, rt.alloc(), ROWS_1);
-    runs(&rt, rt.alloc(), ROWS_2);
+    runs_from(&rt, rt.alloc(), ROWS_SETUP, ROWS_1);
+    runs_from(&rt, rt.alloc(), ROWS_SETUP, ROWS_2);
 }
 
 #[test]
 fn hostile_packets_are_as_another_program_reckoned(rt: HostRuntime) {
-    runs(&rt, rt.alloc(), HOSTILE_1);
+    runs_from(&rt, rt.alloc(), ROWS_SETUP, HOSTILE_1);
 }
 
 #[test]
 fn drawn_rows_are_as_another_program_reckoned(rt: HostRuntime) {
-    runs(&rt, rt.alloc(), DRAWN_1);
-    runs(&rt, rt.alloc(), DRAWN_2);
+    runs_from(&rt, rt.alloc(), ROWS_SETUP, DRAWN_1);
+    runs_from(&rt, rt.alloc(), ROWS_SETUP, DRAWN_2);
 }
