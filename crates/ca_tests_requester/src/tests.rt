@@ -7,6 +7,7 @@ mod limits;
 mod messages;
 mod order;
 mod rows;
+mod texts;
 mod wakes;
 mod worked_rows;
 
@@ -310,9 +311,9 @@ fn run(rt: &impl Abort, alloc: Global, text: &str, peer_empty: bool) {
     }
 }
 
-// A run, which says what differs from the setup. Each line is a step, as it stands in a trace, and behind it stands what
-// it does. A packet that arrives stands as an injection. Of a request the lot says whether the peer has room: `lose`
-// where it has none.
+// A run, which says what differs from the setup. Each line is a step, as it stands in a trace, and behind it stands
+// what it does. A packet that arrives stands as an injection. Of a request the lot says whether the peer has room:
+// `lose` where it has none.
 fn is_run(rt: &impl Abort, alloc: Global, text: &str, peer_empty: bool) {
     match full_text(alloc, SETUP, text) {
         None => texts_are(rt, text.as_bytes(), b"", "a run"),

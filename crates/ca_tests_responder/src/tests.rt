@@ -243,7 +243,8 @@ const ROWS_SETUP: &str = "@0 p0 c0 reg 1/0/0 0 0 4096 lrwab -> key 0x00000001
 ";
 
 // A text of a run: the lines that register its region and create its queue pair, and then each step, as it stands in a
-// trace, and behind it what it does. A packet that arrives stands as an injection. So many messages were accepted before.
+// trace, and behind it what it does. A packet that arrives stands as an injection. So many messages were accepted
+// before.
 fn run(rt: &impl Abort, alloc: Global, text: &str, msn: u32) {
     let Some((setup, rest)) = setup_in(alloc, text) else {
         texts_are(rt, text.as_bytes(), b"", "the region and the queue pair");
