@@ -13,8 +13,9 @@ const FEW: usize = 1;
 /// The first room that more of them take on the heap.
 const MORE: usize = 4;
 
-/// The completions that a poll took, in order: at most `MAX_POLLED`. One lies in place, since most polls take no more;
-/// several lie on the heap, so that an answer moves as few bytes. Contracts see them as a list.
+/// The completions that a poll took, in order: at most `MAX_POLLED`. The first that is added to an empty list lies in
+/// place, since most polls take no more; several lie on the heap, so that an answer moves as few bytes. Contracts see
+/// them as a list.
 #[derive(Drop)]
 pub struct Completions {
     kept: Kept,
@@ -62,7 +63,7 @@ impl Completions {
         })
     }
 
-    /// Adds one at the end; `Memory` leaves the list as it was. The first takes no memory.
+    /// Adds one at the end; `Memory` leaves the list as it was.
     pub fn push(&mut self, alloc: Global, completion: Completion) -> Result<(), Memory>
         requires { length self.old < MAX_POLLED }
         ensures ok { OnOk result (self.new ≡ self.old ++ completion ∷ []) }
