@@ -1,7 +1,6 @@
 -- The first refusal that holds answers a verb, and that of a region. For proofs only.
-use Rattle.std.proofs.Common.{◌≡◌, ◌∙◌, refl, sym, ap, ap₂, ℕ, Bool, true, false, not, List, [], ◌∷◌, None, Some, Ok, is_some, if◌then◌else◌, true≢false}
+use Rattle.std.proofs.Common.{◌≡◌, ◌∙◌, refl, sym, ap, ap₂, ℕ, Bool, true, false, not, List, [], ◌∷◌, None, Some, is_some, if◌then◌else◌, true≢false}
 use Rattle.std.specs.Option.{option_map, option_map_or}
-use Rattle.std.specs.Result.{result_ok}
 use Rattle.ca_keys.specs.Refusals.{first_of}
 use Rattle.ca_base.specs.declared.refusals.RegionError.{RegionError}
 use Rattle.ca_model.specs.declared.answer.Answer.TheVariants as answers
@@ -49,29 +48,24 @@ unless-passed w call p (t ∷ ts) is = by t.0 is (unless-passed w call p ts)
     by false is again = again is
 
 -- the first refusal of a region, as a verb's
-refusal_by : RegionError → Refusal
-refusal_by e = option_map_or (λ r. r) (result_ok (refusal_of_region e)) refusals.NoSuch
-
-first-of-region : (tests : List (Bool × RegionError)) → first_of (of_region_refusals tests) ≡ option_map refusal_by (first_of tests)
-unfolding refusal_by
+first-of-region : (tests : List (Bool × RegionError)) → first_of (of_region_refusals tests) ≡ option_map refusal_of_region (first_of tests)
 first-of-region [] = refl
 first-of-region (t ∷ ts) = by t.0 (first-of-region ts)
   where
-    by : (b : Bool) → first_of (of_region_refusals ts) ≡ option_map refusal_by (first_of ts)
-        → (if b then Some (refusal_by t.1) else first_of (of_region_refusals ts)) ≡ option_map refusal_by (if b then Some t.1 else first_of ts)
+    by : (b : Bool) → first_of (of_region_refusals ts) ≡ option_map refusal_of_region (first_of ts)
+        → (if b then Some (refusal_of_region t.1) else first_of (of_region_refusals ts)) ≡ option_map refusal_of_region (if b then Some t.1 else first_of ts)
     by true again = refl
     by false again = again
 
 pub region_refused : (w : World) (call : Call) (p : Plan) (tests : List (Bool × RegionError)) (e : RegionError) (r : Refusal) → first_of tests ≡ Some e
-    → Ok r ≡ refusal_of_region e
+    → r ≡ refusal_of_region e
     → perform w (Unless_plan call (of_region_refusals tests) p) ≡ Did w (answer_mark call (answers.Refused r) ∷ [])
-unfolding refusal_by
 region_refused w call p tests e r first is = unless-refused w call p (of_region_refusals tests) r
-    (first-of-region tests ∙ ap (option_map refusal_by) first ∙ ap (λ x. Some (option_map_or (λ y. y) (result_ok x) refusals.NoSuch)) (sym is))
+    (first-of-region tests ∙ ap (option_map refusal_of_region) first ∙ ap Some (sym is))
 
 -- DeregMr, and RegMr of a vacant slot in a domain that is allocated
 pub dereg_refused : (w : World) (call : Call) (s : Slot) (e : RegionError) (r : Refusal) → first_of (deregistration_refusals (w.region s)) ≡ Some e
-    → Ok r ≡ refusal_of_region e
+    → r ≡ refusal_of_region e
     → perform w (dereg_mr_plan call s) ≡ Did w (answer_mark call (answers.Refused r) ∷ [])
 dereg_refused w call s e r first is = region_refused w call done (deregistration_refusals (w.region s)) e r first is
   where
@@ -82,7 +76,7 @@ dereg_refused w call s e r first is = region_refused w call done (deregistration
 
 pub reg_refused : (w : World) (call : Call) (s : Slot) (at : Run) (bytes : ℕ) (rights : Rights) (e : RegionError) (r : Refusal)
     → (w.domain s.domain).allocated ≡ true → is_vacant_region (w.region s) ≡ true → first_of (registration_refusals at bytes rights) ≡ Some e
-    → Ok r ≡ refusal_of_region e
+    → r ≡ refusal_of_region e
     → perform w (reg_mr_plan call s at bytes rights) ≡ Did w (answer_mark call (answers.Refused r) ∷ [])
 reg_refused w call s at bytes rights e r allocated vacant first is =
     ap₂ (λ a v. if not a then refused refusals.NoDomain else if not v then refused refusals.SlotTaken else rest) allocated vacant

@@ -6,7 +6,7 @@ ghost use Rattle.ca_acts.specs.Calls.{call_of};
 
 use crate::answers::Call;
 use ca_base::limits::MAX_PAGES;
-use ca_base::{Field, Rights, Run, Slot, StepError};
+use ca_base::{Field, RegistrationError, Rights, Run, Slot, StepError};
 use ca_held::Held;
 use ca_model::{Answer, Mark, Marks, Refusal};
 
@@ -45,7 +45,10 @@ pub fn reg_mr(
             marks.push(Mark::Granted(grant));
             Ok(marks)
         }
-        Err(error) => Ok(ready.answer(Answer::Refused(Refusal::try_from(error)?))),
+        Err(RegistrationError::Refused(error)) => {
+            Ok(ready.answer(Answer::Refused(Refusal::from(error))))
+        }
+        Err(RegistrationError::Memory) => Err(StepError::Memory),
     }
 }
 
@@ -101,6 +104,6 @@ pub fn dereg_mr(call: &Call<'_>, held: &mut Held, slot: Slot) -> Result<Marks, S
             }
             Ok(marks)
         }
-        Err(error) => Ok(ready.answer(Answer::Refused(Refusal::try_from(error)?))),
+        Err(error) => Ok(ready.answer(Answer::Refused(Refusal::from(error)))),
     }
 }

@@ -95,7 +95,6 @@ region_error_text regions.KeyDiffers = codes "key-differs"
 region_error_text regions.NotFastRegistered = codes "not-fast-registered"
 region_error_text regions.WindowsBound = codes "windows-bound"
 region_error_text regions.Vacant = codes "vacant"
-region_error_text regions.Memory = codes "memory"
 
 -- why a call on a window is refused
 abbrev pub window_error_text : WindowError → List ℕ

@@ -41,7 +41,7 @@ pub use denied_ask::DeniedAsk;
 pub use lot::Lot;
 pub use mail_envelope::MailEnvelope;
 pub use queue_numbers::{Message, Queued, RequesterNumbers, ResponderNumbers, WindowCount};
-pub use refusals::{OpRefusal, RegionError, WindowError};
+pub use refusals::{OpRefusal, RegionError, RegistrationError, WindowError};
 pub use region_view::RegionView;
 pub use request::{Piece, PlacedReceive, PostedSend, RecvRequest, SendOp, SendRequest};
 pub use reserve::{Reservation, Reserve};

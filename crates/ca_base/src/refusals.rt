@@ -1,11 +1,11 @@
 ghost use Rattle.std.specs.Prelude.{◌≡◌, Some};
 ghost use Rattle.ca_base.specs.Spelling.{region_error_text, window_error_text, op_refusal_text};
-ghost use Rattle.ca_base.specs.declared.refusals.RegionError.TheVariants as regions;
+ghost use Rattle.ca_base.specs.declared.refusals.RegistrationError.TheVariants as registrations;
 
 use ca_keys::Memory;
 use std::fmt;
 
-/// Why a call on a memory region is refused.
+/// Why a call on a memory region is refused. Want of memory is no refusal.
 #[derive(Clone, Copy, PartialEq, Eq)]
 pub enum RegionError {
     /// A registration of no bytes.
@@ -28,16 +28,6 @@ pub enum RegionError {
     WindowsBound,
     /// There is no region in the slot.
     Vacant,
-    /// Out of memory.
-    Memory,
-}
-
-impl From<Memory> for RegionError {
-    ghost from_gives = { λ _ error. error ≡ regions.Memory };
-
-    fn from(_memory: Memory) -> RegionError {
-        RegionError::Memory
-    }
 }
 
 impl fmt::Display for RegionError {
@@ -55,8 +45,23 @@ impl fmt::Display for RegionError {
             RegionError::NotFastRegistered => "not-fast-registered",
             RegionError::WindowsBound => "windows-bound",
             RegionError::Vacant => "vacant",
-            RegionError::Memory => "memory",
         })
+    }
+}
+
+/// Why a registration or a fast registration granted nothing.
+#[derive(Clone, Copy)]
+pub enum RegistrationError {
+    Refused(RegionError),
+    /// Nothing refuses it, but it is out of memory.
+    Memory,
+}
+
+impl From<Memory> for RegistrationError {
+    ghost from_gives = { λ _ error. error ≡ registrations.Memory };
+
+    fn from(_memory: Memory) -> RegistrationError {
+        RegistrationError::Memory
     }
 }
 
@@ -110,7 +115,7 @@ impl fmt::Display for WindowError {
     }
 }
 
-/// Why a bind, a fast registration or an invalidation is refused. A refusal is never for want of memory.
+/// Why a bind, a fast registration or an invalidation is refused. Want of memory is no refusal.
 #[derive(Clone, Copy)]
 pub enum OpRefusal {
     Region(RegionError),

@@ -7,8 +7,8 @@ ghost use Rattle.ca_memory.specs.Buffer.{memory_of};
 ghost use Rattle.ca_memory.specs.Number.{number_after};
 
 use ca_base::{
-    Ask, AtomicOp, Denial, Key, Memory, OpRefusal, QueueId, RegionError, Rights, Run, Slot, Span,
-    Verdict, WindowCount,
+    Ask, AtomicOp, Denial, Key, Memory, OpRefusal, QueueId, RegistrationError, Rights, Run, Slot,
+    Span, Verdict, WindowCount,
 };
 use ca_grant::{Reach, bytes_of_span, judge, write_span};
 use ca_memory::{Buffer, number_put};
@@ -39,7 +39,7 @@ impl SmallReach {
         at: Run,
         bytes: u32,
         rights: Rights,
-    ) -> Result<SmallReach, RegionError>
+    ) -> Result<SmallReach, RegistrationError>
         requires small { slot.slot < 32768 }
         requires adapter { at.adapter ≡ slot.domain.adapter }
         ensures parts { IfOk result small.FitTogether }

@@ -3,12 +3,13 @@ use Rattle.std.proofs.Common.{◌≡◌, Bool, true, false, if◌then◌else◌,
 use Rattle.std.specs.Option.{option_map}
 use Rattle.ca_base.specs.declared.refusals.OpRefusal.TheVariants as refusals
 use Rattle.ca_base.specs.declared.refusals.RegionError.{RegionError}
-use Rattle.ca_base.specs.declared.refusals.RegionError.TheVariants as regions
 use Rattle.ca_base.specs.declared.refusals.WindowError.{WindowError}
 use Rattle.ca_keys.specs.Refusals.{first_of}
 use Rattle.ca_base.specs.objects.LocalRequest.{of_region, of_window}
-use Rattle.ca_localops.specs.Errors.{FailsBy, error_of_region}
+use Rattle.ca_localops.specs.Errors.{FailsBy, error_of_registration}
 use Rattle.ca_region.specs.Region.{RefusesBy}
+use Rattle.ca_base.specs.declared.refusals.RegistrationError.{RegistrationError}
+use Rattle.ca_base.specs.declared.refusals.RegistrationError.TheVariants as registrations
 
 -- the first of a region's refusals is the first of them as those of a local operation
 first-of-region : (tests : List (Bool × RegionError)) → first_of (of_region tests) ≡ option_map refusals.Region (first_of tests)
@@ -31,19 +32,10 @@ first-of-window (t ∷ ts) = by t.0 (first-of-window ts)
     by false rest = rest
 
 -- an error by a region's refusals is one by those of the local operation
-fails-by : (first : Option RegionError) (e : RegionError) → RefusesBy first e → FailsBy (option_map refusals.Region first) (error_of_region e)
-fails-by first regions.Empty h = ap (option_map refusals.Region) h
-fails-by first regions.OutsideBuffer h = ap (option_map refusals.Region) h
-fails-by first regions.RightsNeedLocalWrite h = ap (option_map refusals.Region) h
-fails-by first regions.NotFree h = ap (option_map refusals.Region) h
-fails-by first regions.BadPages h = ap (option_map refusals.Region) h
-fails-by first regions.NotValid h = ap (option_map refusals.Region) h
-fails-by first regions.KeyDiffers h = ap (option_map refusals.Region) h
-fails-by first regions.NotFastRegistered h = ap (option_map refusals.Region) h
-fails-by first regions.WindowsBound h = ap (option_map refusals.Region) h
-fails-by first regions.Vacant h = ap (option_map refusals.Region) h
-fails-by first regions.Memory h = ap (option_map refusals.Region) h
+fails-by : (first : Option RegionError) (e : RegistrationError) → RefusesBy first e → FailsBy (option_map refusals.Region first) (error_of_registration e)
+fails-by first (registrations.Refused e) h = ap (option_map refusals.Region) h
+fails-by first registrations.Memory h = ap (option_map refusals.Region) h
 
-pub fails-by-region : (tests : List (Bool × RegionError)) (e : RegionError) → RefusesBy (first_of tests) e
-    → FailsBy (first_of (of_region tests)) (error_of_region e)
+pub fails-by-region : (tests : List (Bool × RegionError)) (e : RegistrationError) → RefusesBy (first_of tests) e
+    → FailsBy (first_of (of_region tests)) (error_of_registration e)
 fails-by-region tests e h = rw (first-of-region tests) (fails-by (first_of tests) e h)

@@ -2,8 +2,8 @@
 use Rattle.std.specs.Prelude.{◌≡◌, Option, None, Some}
 use Rattle.ca_base.specs.declared.refusals.OpRefusal.{OpRefusal}
 use Rattle.ca_base.specs.declared.refusals.OpRefusal.TheVariants.{Region}
-use Rattle.ca_base.specs.declared.refusals.RegionError.{RegionError}
-use Rattle.ca_base.specs.declared.refusals.RegionError.TheVariants as regions
+use Rattle.ca_base.specs.declared.refusals.RegistrationError.{RegistrationError}
+use Rattle.ca_base.specs.declared.refusals.RegistrationError.TheVariants as registrations
 use Rattle.ca_localops.specs.declared.marks.OpError.{OpError}
 use Rattle.ca_localops.specs.declared.marks.OpError.TheVariants.{Refused, Memory}
 
@@ -12,7 +12,7 @@ abbrev pub FailsBy : Option OpRefusal → OpError → Type 0
 FailsBy first Memory = first ≡ None
 FailsBy first (Refused refusal) = first ≡ Some refusal
 
--- a region's error as that of a local operation; out of memory stays an answer of its own
-abbrev pub error_of_region : RegionError → OpError
-error_of_region regions.Memory = Memory
-error_of_region error = Refused (Region error)
+-- a registration's error as that of a local operation; out of memory stays an answer of its own
+abbrev pub error_of_registration : RegistrationError → OpError
+error_of_registration (registrations.Refused error) = Refused (Region error)
+error_of_registration registrations.Memory = Memory

@@ -1,8 +1,8 @@
 ghost use Rattle.std.specs.Prelude.{◌≡◌};
-ghost use Rattle.ca_localops.specs.Errors.{error_of_region};
+ghost use Rattle.ca_localops.specs.Errors.{error_of_registration};
 ghost use Rattle.ca_localops.specs.declared.marks.OpError.TheVariants as errors;
 
-use ca_base::{Grant, Key, Memory, OpRefusal, RegionError};
+use ca_base::{Grant, Key, Memory, OpRefusal, RegistrationError};
 
 /// What a local operation revoked and granted: at most one key, and at most one grant.
 #[derive(Drop)]
@@ -27,13 +27,13 @@ impl From<Memory> for OpError {
     }
 }
 
-impl From<RegionError> for OpError {
-    ghost from_gives = { λ error given. given ≡ error_of_region error };
+impl From<RegistrationError> for OpError {
+    ghost from_gives = { λ error given. given ≡ error_of_registration error };
 
-    fn from(error: RegionError) -> OpError {
+    fn from(error: RegistrationError) -> OpError {
         match error {
-            RegionError::Memory => OpError::Memory,
-            error => OpError::Refused(OpRefusal::Region(error)),
+            RegistrationError::Refused(error) => OpError::Refused(OpRefusal::Region(error)),
+            RegistrationError::Memory => OpError::Memory,
         }
     }
 }

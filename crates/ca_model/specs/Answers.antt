@@ -1,8 +1,7 @@
 -- The spelling of refusals and of causes of drops, and the refusal of a verb for what a part answered. Contracts cite it.
-use Rattle.std.specs.Prelude.{ℕ, List, ◌++◌, codes, Result, Ok, Err}
+use Rattle.std.specs.Prelude.{ℕ, List, ◌++◌, codes}
 use Rattle.ca_base.specs.declared.change.ModifyRefusal.{ModifyRefusal}
 use Rattle.ca_base.specs.declared.change.ModifyRefusal.TheVariants as changes
-use Rattle.ca_keys.specs.declared.memory.Memory.{Memory}
 use Rattle.ca_base.specs.declared.refusals.RegionError.{RegionError}
 use Rattle.ca_base.specs.declared.refusals.RegionError.TheVariants as regions
 use Rattle.ca_base.specs.Spelling.{field_text}
@@ -58,15 +57,14 @@ refusal_of_change (changes.OutOfRange field) = refusals.OutOfRange field
 refusal_of_change changes.WindowsBound = refusals.WindowsBound
 
 -- the refusal of a registration or a deregistration for that of the region
-abbrev pub refusal_of_region : RegionError → Result Refusal Memory
-refusal_of_region regions.Empty = Ok refusals.Empty
-refusal_of_region regions.OutsideBuffer = Ok refusals.OutsideBuffer
-refusal_of_region regions.RightsNeedLocalWrite = Ok refusals.RightsNeedLocalWrite
-refusal_of_region regions.WindowsBound = Ok refusals.WindowsBound
-refusal_of_region regions.Memory = Err (record {})
-refusal_of_region regions.NotFree = Ok refusals.NoSuch
-refusal_of_region regions.BadPages = Ok refusals.NoSuch
-refusal_of_region regions.NotValid = Ok refusals.NoSuch
-refusal_of_region regions.KeyDiffers = Ok refusals.NoSuch
-refusal_of_region regions.NotFastRegistered = Ok refusals.NoSuch
-refusal_of_region regions.Vacant = Ok refusals.NoSuch
+abbrev pub refusal_of_region : RegionError → Refusal
+refusal_of_region regions.Empty = refusals.Empty
+refusal_of_region regions.OutsideBuffer = refusals.OutsideBuffer
+refusal_of_region regions.RightsNeedLocalWrite = refusals.RightsNeedLocalWrite
+refusal_of_region regions.WindowsBound = refusals.WindowsBound
+refusal_of_region regions.NotFree = refusals.NoSuch
+refusal_of_region regions.BadPages = refusals.NoSuch
+refusal_of_region regions.NotValid = refusals.NoSuch
+refusal_of_region regions.KeyDiffers = refusals.NoSuch
+refusal_of_region regions.NotFastRegistered = refusals.NoSuch
+refusal_of_region regions.Vacant = refusals.NoSuch

@@ -1,9 +1,8 @@
-ghost use Rattle.std.specs.Prelude.{◌≡◌, Some, MatchResult};
-ghost use Rattle.ca_base.specs.declared.refusals.RegionError.TheVariants as regions;
+ghost use Rattle.std.specs.Prelude.{◌≡◌, Some};
 ghost use Rattle.ca_model.specs.Answers.{refusal_text, refusal_of_change, refusal_of_region};
 
 use crate::completions::Completions;
-use ca_base::{Bytes, Field, Key, Memory, ModifyRefusal, RegionError, State};
+use ca_base::{Bytes, Field, Key, ModifyRefusal, RegionError, State};
 use std::fmt;
 
 /// What a verb answers.
@@ -112,26 +111,23 @@ impl From<ModifyRefusal> for Refusal {
     }
 }
 
-impl TryFrom<RegionError> for Refusal {
-    type Error = Memory;
-
-    ghost try_from_gives = { λ error refusal. refusal ≡ refusal_of_region error };
+impl From<RegionError> for Refusal {
+    ghost from_gives = { λ error refusal. refusal ≡ refusal_of_region error };
 
     /// The refusal of RegMr or DeregMr for what a region answered; what only a fast registration or an invalidation
     /// answers is none, and comes as `NoSuch` here.
-    fn try_from(error: RegionError) -> Result<Refusal, Memory> {
+    fn from(error: RegionError) -> Refusal {
         match error {
-            RegionError::Empty => Ok(Refusal::Empty),
-            RegionError::OutsideBuffer => Ok(Refusal::OutsideBuffer),
-            RegionError::RightsNeedLocalWrite => Ok(Refusal::RightsNeedLocalWrite),
-            RegionError::WindowsBound => Ok(Refusal::WindowsBound),
-            RegionError::Memory => Err(Memory),
+            RegionError::Empty => Refusal::Empty,
+            RegionError::OutsideBuffer => Refusal::OutsideBuffer,
+            RegionError::RightsNeedLocalWrite => Refusal::RightsNeedLocalWrite,
+            RegionError::WindowsBound => Refusal::WindowsBound,
             RegionError::NotFree
             | RegionError::BadPages
             | RegionError::NotValid
             | RegionError::KeyDiffers
             | RegionError::NotFastRegistered
-            | RegionError::Vacant => Ok(Refusal::NoSuch),
+            | RegionError::Vacant => Refusal::NoSuch,
         }
     }
 }

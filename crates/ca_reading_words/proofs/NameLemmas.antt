@@ -206,7 +206,6 @@ region_cause_are regions.KeyDiffers = (refl, refl, refl)
 region_cause_are regions.NotFastRegistered = (refl, refl, refl)
 region_cause_are regions.WindowsBound = (refl, refl, refl)
 region_cause_are regions.Vacant = (refl, refl, refl)
-region_cause_are regions.Memory = (refl, refl, refl)
 
 window_cause_are : (x : WindowError) → (cause_in (op_refusal_text (causes.Window x)) ≡ Some (causes.Window x)) × (plain (op_refusal_text (causes.Window x)) ≡ true) × (bytes_eq (op_refusal_text (causes.Window x)) dash ≡ false)
 unfolding cause_in window_error_in

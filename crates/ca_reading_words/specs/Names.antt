@@ -143,7 +143,6 @@ region_error_in w =
     else if bytes_eq w (codes "not-fast-registered") then Some regions.NotFastRegistered
     else if bytes_eq w (codes "windows-bound") then Some regions.WindowsBound
     else if bytes_eq w (codes "vacant") then Some regions.Vacant
-    else if bytes_eq w (codes "memory") then Some regions.Memory
     else None
 
 unfoldable pub window_error_in : List ℕ → Option WindowError

@@ -266,8 +266,6 @@ fn region_error_in(word: &[u8]) -> Result<RegionError, Stop>
         Ok(RegionError::WindowsBound)
     } else if is_name(word, "vacant") {
         Ok(RegionError::Vacant)
-    } else if is_name(word, "memory") {
-        Ok(RegionError::Memory)
     } else {
         Err(Stop::Outside)
     }

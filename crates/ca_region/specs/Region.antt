@@ -5,15 +5,16 @@ use Rattle.ca_keys.specs.declared.grant.Grant.{Grant}
 use Rattle.ca_keys.specs.declared.key.Key.{Key}
 use Rattle.ca_keys.specs.declared.place.Run.{Run}
 use Rattle.ca_base.specs.declared.refusals.RegionError.{RegionError}
-use Rattle.ca_base.specs.declared.refusals.RegionError.TheVariants.{Memory}
 use Rattle.ca_keys.specs.Memory.{runs_at}
 use Rattle.ca_base.specs.objects.Region.{Region, grant_of_region}
 use Rattle.ca_base.specs.objects.Slices.{is_key_of}
+use Rattle.ca_base.specs.declared.refusals.RegistrationError.{RegistrationError}
+use Rattle.ca_base.specs.declared.refusals.RegistrationError.TheVariants.{Refused, Memory}
 
 -- the error is the first refusal that applies, and out of memory comes only where none does
-abbrev pub RefusesBy : Option RegionError → RegionError → Type 0
+abbrev pub RefusesBy : Option RegionError → RegistrationError → Type 0
 RefusesBy first Memory = first ≡ None
-RefusesBy first error = first ≡ Some error
+RefusesBy first (Refused error) = first ≡ Some error
 
 -- the key that is valid, if one is
 abbrev pub valid_key : Region → Option Key

@@ -15,5 +15,5 @@ mod places;
 mod refusals;
 mod region;
 
-pub use ca_base::RegionError;
+pub use ca_base::{RegionError, RegistrationError};
 pub use region::Region;

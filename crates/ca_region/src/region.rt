@@ -4,8 +4,8 @@ use crate::places::Places;
 use crate::refusals::{has_bad_pages, needs_local_write, registration_refusal};
 use ca_base::limits::{MAX_PAGES, PAGE_BYTES};
 use ca_base::{
-    Grant, Key, Memory, Pages, RegionError, RegionView, Rights, Run, Runs, Slot, Span,
-    first_address,
+    Grant, Key, Memory, Pages, RegionError, RegionView, RegistrationError, Rights, Run, Runs, Slot,
+    Span, first_address,
 };
 use std::alloc::Global;
 use std::marker::Model;
@@ -117,7 +117,7 @@ impl Region {
         at: Run,
         buffer_length: u32,
         rights: Rights,
-    ) -> Result<Grant, RegionError>
+    ) -> Result<Grant, RegistrationError>
         requires { self.old.state ≡ regions.NoRegion }
         ensures granted { IfOk result (λ g. g
             ≡ grants.grant_of_registration slot at rights (grants.next_low self.old.low)) }
@@ -127,7 +127,7 @@ impl Region {
         ensures err { OnErr result (self.new ≡ self.old) }
     {
         if let Some(refusal) = registration_refusal(at, buffer_length, rights) {
-            return Err(refusal);
+            return Err(RegistrationError::Refused(refusal));
         }
         let runs = one_run(alloc, at)?;
         let mapping = Mapping {
@@ -168,7 +168,7 @@ impl Region {
         length: u32,
         rights: Rights,
         pages: &Pages,
-    ) -> Result<Grant, RegionError>
+    ) -> Result<Grant, RegistrationError>
         ensures granted { IfOk result (λ g. g
             ≡ grants.grant_of_fast_registration slot low buffer address length rights pages.now) }
         ensures places { IfOk result (λ g. places_count g.runs ≡ length) }
@@ -182,19 +182,19 @@ impl Region {
         ensures err { OnErr result (self.new ≡ self.old) }
     {
         let Some(allocated) = self.allocated() else {
-            return Err(RegionError::NotFree);
+            return Err(RegistrationError::Refused(RegionError::NotFree));
         };
         let list = pages.as_slice();
         let skip = (address % u64::from(PAGE_BYTES)) as u32;
         let adapter = slot.domain.adapter;
         if needs_local_write(rights) {
-            return Err(RegionError::RightsNeedLocalWrite);
+            return Err(RegistrationError::Refused(RegionError::RightsNeedLocalWrite));
         }
         if has_bad_pages(allocated, address, length, list) {
-            return Err(RegionError::BadPages);
+            return Err(RegistrationError::Refused(RegionError::BadPages));
         }
         if pages_pass_end(adapter, buffer, buffer_length, list, skip, length) {
-            return Err(RegionError::OutsideBuffer);
+            return Err(RegistrationError::Refused(RegionError::OutsideBuffer));
         }
         let runs = page_parts(alloc, adapter, buffer, list, skip, length)?;
         let mapping = Mapping {

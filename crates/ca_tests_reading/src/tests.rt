@@ -268,6 +268,7 @@ arrived 0/256 -
  done 0/256 send 0 1 send success 0 - -
  done 0/256 send 0 1 send success 0 - - region
  done 0/256 send 0 1 send success 0 - - region:empty 0
+ done 0/256 send 0 1 fast-reg memory-management 0 - - region:memory
  granted 0/0 0x00800001 thing any 0x100000000 64 w 0/0:0+64
  granted 0/0 0x00800001 window all 0x100000000 64 w 0/0:0+64
  granted 0/0 0x00800001 window any 0x100000000 64 w 0/0:0

@@ -3,7 +3,7 @@ mod fast_registrations;
 mod places;
 mod registrations;
 
-use ca_base::{DomainId, Key, Rights, Run, Slot};
+use ca_base::{DomainId, Grant, Key, RegionError, RegistrationError, Rights, Run, Slot};
 use ca_region::Region;
 use std::process::Abort;
 
@@ -53,6 +53,14 @@ fn run(offset: u32, length: u32) -> Run {
         buffer: 3,
         offset,
         length,
+    }
+}
+
+/// Why a registration is refused, if it is.
+fn reason_of(given: &Result<Grant, RegistrationError>) -> Option<RegionError> {
+    match given {
+        Err(RegistrationError::Refused(error)) => Some(*error),
+        Ok(_) | Err(RegistrationError::Memory) => None,
     }
 }
 

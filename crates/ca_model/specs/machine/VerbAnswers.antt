@@ -1,13 +1,10 @@
 -- How a verb's plan ends: an answer, or a refusal that changes nothing. Contracts cite it.
 use Rattle.std.specs.Prelude.{ℕ, Bool, List, [], ◌∷◌, map}
-use Rattle.std.specs.Option.{option_map_or}
-use Rattle.std.specs.Result.{result_ok}
 use Rattle.ca_base.specs.declared.change.ModifyRefusal.{ModifyRefusal}
 use Rattle.ca_base.specs.declared.refusals.RegionError.{RegionError}
 use Rattle.ca_model.specs.declared.answer.Answer.{Answer}
 use Rattle.ca_model.specs.declared.answer.Answer.TheVariants as answers
 use Rattle.ca_model.specs.declared.answer.Refusal.{Refusal}
-use Rattle.ca_model.specs.declared.answer.Refusal.TheVariants as refusals
 use Rattle.ca_model.specs.declared.mark.Mark.{Mark}
 use Rattle.ca_model.specs.declared.mark.Mark.TheVariants as marks
 use Rattle.ca_model.specs.declared.verb.Verb.{Verb}
@@ -37,7 +34,7 @@ Unless_plan call tests p = unless_refused tests (Refuse_plan call) p
 
 -- the refusals of a region, and of a queue pair's change, as those of a verb
 abbrev pub of_region_refusals : List (Bool × RegionError) → List (Bool × Refusal)
-of_region_refusals tests = map (λ t. (t.0, option_map_or (λ r. r) (result_ok (refusal_of_region t.1)) refusals.NoSuch)) tests
+of_region_refusals tests = map (λ t. (t.0, refusal_of_region t.1)) tests
 
 abbrev pub of_change_refusals : List (Bool × ModifyRefusal) → List (Bool × Refusal)
 of_change_refusals tests = map (λ t. (t.0, refusal_of_change t.1)) tests

@@ -1,7 +1,7 @@
 ghost use Rattle.std.specs.Prelude.{◌≤◌};
 
-use super::{ATOMIC_ALONE, KEY, SLOT, WRITE, WRITE_ALONE, holds, key_of, run};
-use ca_base::{DomainId, Grant, Key, Pages, RegionError, Rights, Run, Slot};
+use super::{ATOMIC_ALONE, KEY, SLOT, WRITE, WRITE_ALONE, holds, key_of, reason_of, run};
+use ca_base::{DomainId, Grant, Key, Pages, RegionError, RegistrationError, Rights, Run, Slot};
 use ca_region::Region;
 use std::alloc::Global;
 
@@ -22,7 +22,7 @@ fn register(
     length: u32,
     rights: Rights,
     pages: &[u16],
-) -> Result<Grant, RegionError> {
+) -> Result<Grant, RegistrationError> {
     let pages = Pages::copy_of(alloc, pages)?;
     region.fast_register(alloc, SLOT, 7, 3, 14_000, address, length, rights, &pages)
 }
@@ -91,7 +91,7 @@ fn refuses_for_the_first_reason(rt: HostRuntime) {
         let ((address, length), rights, pages, want) = *row;
         let mut region = free(4);
         let given = register(rt.alloc(), &mut region, address, length, rights, pages);
-        holds(&rt, given.err() == want, "the reason");
+        holds(&rt, reason_of(&given) == want, "the reason");
         let key = if want.is_none() { Some(KEY) } else { None };
         holds(&rt, key_of(&region) == key, "the valid key");
     }
@@ -101,15 +101,27 @@ fn refuses_for_the_first_reason(rt: HostRuntime) {
 fn refuses_a_region_that_is_not_free(rt: HostRuntime) {
     let mut region = Region::vacant();
     let given = register(rt.alloc(), &mut region, 0, 0, WRITE_ALONE, &[]);
-    holds(&rt, given.err() == Some(RegionError::NotFree), "vacant");
+    holds(
+        &rt,
+        reason_of(&given) == Some(RegionError::NotFree),
+        "vacant",
+    );
     let mut region = Region::vacant();
     let _ = region.register(rt.alloc(), SLOT, run(0, 1), 1, WRITE);
     let given = register(rt.alloc(), &mut region, 0, 4096, WRITE, &[0]);
-    holds(&rt, given.err() == Some(RegionError::NotFree), "registered");
+    holds(
+        &rt,
+        reason_of(&given) == Some(RegionError::NotFree),
+        "registered",
+    );
     let mut region = free(1);
     let _ = register(rt.alloc(), &mut region, 0, 4096, WRITE, &[0]);
     let given = register(rt.alloc(), &mut region, 0, 4096, WRITE, &[0]);
-    holds(&rt, given.err() == Some(RegionError::NotFree), "in use");
+    holds(
+        &rt,
+        reason_of(&given) == Some(RegionError::NotFree),
+        "in use",
+    );
 }
 
 /// The first byte is the 4,091st of page 2, the last the third of page 0.
@@ -216,7 +228,7 @@ fn are_runs(runs: &[Run], adapter: u8, buffer: u16, want: &[(u32, u32)]) -> bool
     runs.len() == want.len()
 }
 
-fn agrees(alloc: Global, vector: &Vector) -> Result<bool, RegionError> {
+fn agrees(alloc: Global, vector: &Vector) -> Result<bool, RegistrationError> {
     let ((adapter, domain, slot, low), buffer, (address, length), pages, key, runs) = *vector;
     let domain = DomainId { adapter, domain };
     let slot = Slot { domain, slot };
@@ -233,6 +245,10 @@ fn agrees(alloc: Global, vector: &Vector) -> Result<bool, RegionError> {
 #[test]
 fn grants_what_another_program_grants(rt: HostRuntime) {
     for vector in VECTORS.as_slice() {
-        holds(&rt, agrees(rt.alloc(), vector) == Ok(true), "the grant");
+        holds(
+            &rt,
+            matches!(agrees(rt.alloc(), vector), Ok(true)),
+            "the grant",
+        );
     }
 }

@@ -1,4 +1,4 @@
-use super::{ATOMIC_ALONE, SLOT, WRITE, WRITE_ALONE, holds, key_of, run};
+use super::{ATOMIC_ALONE, SLOT, WRITE, WRITE_ALONE, holds, key_of, reason_of, run};
 use ca_base::{Grant, Key, RegionError, Rights};
 use ca_region::Region;
 
@@ -33,7 +33,7 @@ fn refuses_for_the_first_reason(rt: HostRuntime) {
         let ((offset, length), rights, want) = *row;
         let mut region = Region::vacant();
         let given = region.register(rt.alloc(), SLOT, run(offset, length), 64, rights);
-        holds(&rt, given.err() == want, "the reason");
+        holds(&rt, reason_of(&given) == want, "the reason");
         holds(
             &rt,
             region.is_vacant() == want.is_some(),

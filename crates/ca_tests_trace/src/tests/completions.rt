@@ -38,7 +38,6 @@ const LINES: &str = " done 0/770 send 0 2 send bad-response 0 - - -
  done 0/256 send 0 1 fast-reg memory-management 0 - - region:not-free
  done 0/256 send 0 1 fast-reg memory-management 0 - - region:windows-bound
  done 0/256 send 0 1 fast-reg memory-management 0 - - region:vacant
- done 0/256 send 0 1 fast-reg memory-management 0 - - region:memory
  done 0/256 send 0 1 bind memory-management 0 - - window:no-bind-right
  done 0/256 send 0 1 bind memory-management 0 - - window:rights-need-local-write
  done 0/256 send 0 1 bind memory-management 0 - - window:outside-region
@@ -317,15 +316,6 @@ const DONE: &[Done] = &[
         WcOp::FastReg,
         WcStatus::MemoryManagement,
         Some(OpRefusal::Region(RegionError::Vacant)),
-    ),
-    (
-        QUEUE,
-        false,
-        0,
-        1,
-        WcOp::FastReg,
-        WcStatus::MemoryManagement,
-        Some(OpRefusal::Region(RegionError::Memory)),
     ),
     (
         QUEUE,
