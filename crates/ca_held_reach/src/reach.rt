@@ -257,10 +257,8 @@ fn refuse_unnamed(key: Key, queue: QueueId, windows: &mut WindowCount) -> Result
     ensures refused { IfErr result (λ e. e ≡ unnamed_refusal key) }
     ensures err_count { windows.new ≡ windows.old }
 {
-    match ca_localops::invalidate(None, None, windows, key, queue) {
-        Ok(_) => unreachable!(),
-        Err(refusal) => Err(refusal),
-    }
+    ca_localops::invalidate(None, None, windows, key, queue)?;
+    unreachable!()
 }
 
 // Ends the key of a region.
@@ -277,10 +275,8 @@ fn end_region(
     ensures err { OnErr result (region.new ≡ region.old) }
     ensures count { windows.new ≡ windows.old }
 {
-    match ca_localops::invalidate(None, Some(region), windows, key, queue) {
-        Ok(_) => Ok(()),
-        Err(refusal) => Err(refusal),
-    }
+    ca_localops::invalidate(None, Some(region), windows, key, queue)?;
+    Ok(())
 }
 
 // Ends the key of the region in a slot.
@@ -326,10 +322,8 @@ fn end_window(
     ensures err_region { OnErr result (region.new ≡ region.old) }
     ensures err_count { OnErr result (windows.new ≡ windows.old) }
 {
-    match ca_localops::invalidate(Some(window), Some(region), windows, key, queue) {
-        Ok(_) => Ok(()),
-        Err(refusal) => Err(refusal),
-    }
+    ca_localops::invalidate(Some(window), Some(region), windows, key, queue)?;
+    Ok(())
 }
 
 // The key of a window that is not bound is not ended.
@@ -347,10 +341,8 @@ fn refuse_unbound(
     ensures same { window.new ≡ window.old }
     ensures count { windows.new ≡ windows.old }
 {
-    match ca_localops::invalidate(Some(window), None, windows, key, queue) {
-        Ok(_) => unreachable!(),
-        Err(refusal) => Err(refusal),
-    }
+    ca_localops::invalidate(Some(window), None, windows, key, queue)?;
+    unreachable!()
 }
 
 // Ends the key of the window in a slot, which leaves the region in which it is bound.

@@ -28,5 +28,5 @@ pub use requester::{packet_row_is_sent, response_row_is_taken};
 pub use responder::{request_row_is_received, respond_row_is_responded};
 pub use turns::{
     operation_stays, packet_row_forgets, respond_row_stays, timeout_goes_back, turns_leave_state,
-    wake_stays,
+    turns_send_their_packets, wake_stays,
 };
