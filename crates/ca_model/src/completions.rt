@@ -51,6 +51,16 @@ impl Completions {
         }
     }
 
+    /// The list of this one, which lies in place. It takes no memory.
+    #[inline(always)]
+    pub fn of_one(completion: Completion) -> Completions
+        ensures { result ≡ completion ∷ [] }
+    {
+        Completions {
+            kept: Kept::Few(ArrayVec::from([completion])),
+        }
+    }
+
     /// A copy of those that were taken from a completion queue.
     pub fn copy_of(
         alloc: Global,

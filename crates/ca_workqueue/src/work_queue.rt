@@ -45,6 +45,7 @@ impl<T> WorkQueue<T> {
 
     /// Posts a request and gives its posting place, counted from 0. The request comes back exactly where the queue is
     /// full. It takes no memory.
+    #[inline(always)]
     pub fn post(&mut self, request: T) -> Result<u64, T>
         requires { suc (next_place self.old) < 2 ^ 64 }
         ensures variant { IsOk result ↔ IsTrue (not (is_full self.old)) }
@@ -136,7 +137,8 @@ impl<T: Drop> WorkQueue<T> {
     ghost use Rattle.std.specs.Prelude.{◌≡◌, ◌<◌, ◌^◌, suc};
     ghost use Rattle.ca_base.specs.objects.WorkQueue.{empty_queue, after_retire};
 
-    /// Frees all places up to this one. It takes no memory, and time by how many requests it frees.
+    /// Frees all places up to this one. It takes no memory, and time by how many requests it frees. One request, which is
+    /// freed most often, is taken by itself.
     pub fn retire(&mut self, place: u64)
         requires { suc place < 2 ^ 64 }
         ensures { self.new ≡ after_retire place self.old }
@@ -144,9 +146,13 @@ impl<T: Drop> WorkQueue<T> {
         if place < self.first {
             return;
         }
-        let next = self.first + self.requests.len() as u64;
-        let left = next.saturating_sub(place + 1);
-        self.requests.truncate_front(left as usize);
+        if place == self.first {
+            let _ = self.requests.pop_front();
+        } else {
+            let next = self.first + self.requests.len() as u64;
+            let left = next.saturating_sub(place + 1);
+            self.requests.truncate_front(left as usize);
+        }
         self.first = place + 1;
     }
 
