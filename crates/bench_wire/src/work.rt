@@ -1,4 +1,3 @@
-ghost use Rattle.std.specs.Prelude.{◌≡◌};
 ghost use Rattle.ca_packet.specs.Packet.{IsWellFormed};
 
 use crate::shapes::{Shape, packet_of};

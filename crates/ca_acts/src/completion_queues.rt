@@ -1,4 +1,4 @@
-ghost use Rattle.std.specs.Prelude.{◌<◌, ◌^◌};
+ghost use Rattle.std.specs.Prelude.{◌<◌};
 ghost use Rattle.ca_held.specs.HeldView.{holding};
 ghost use Rattle.ca_model.specs.machine.CompletionVerbs.{create_cq_plan, destroy_cq_plan};
 ghost use Rattle.ca_acts.specs.Calls.{call_of};
@@ -10,7 +10,6 @@ use ca_base::{Field, Slot, StepError};
 use ca_cq::Cq;
 use ca_held::Held;
 use ca_model::{Answer, Marks, Refusal};
-use std::alloc::Global;
 
 /// CreateCq: a completion queue for `capacity` completions, with none in it. Refused, in this order: NoDomain, SlotTaken,
 /// OutOfRange where `capacity` is not from 1 to `MAX_CAPACITY`. `Memory` leaves all as it was.

@@ -1,4 +1,3 @@
-ghost use Rattle.ca_held.specs.HeldView.{holding};
 ghost use Rattle.ca_model.specs.machine.DomainVerbs.{alloc_pd_plan, dealloc_pd_plan};
 ghost use Rattle.ca_acts.specs.Calls.{call_of};
 ghost use Rattle.ca_acts.specs.Act.{Acts, Suffices};
@@ -7,7 +6,6 @@ use crate::answers::Call;
 use ca_base::{DomainId, StepError};
 use ca_held::Held;
 use ca_model::{Answer, Marks, Refusal};
-use std::alloc::Global;
 
 /// AllocPd: the protection domain is allocated, with no objects. Refused, in this order: DomainTaken where it is allocated.
 /// `Memory` leaves all as it was.

@@ -1,4 +1,4 @@
-ghost use Rattle.std.specs.Prelude.{◌≡◌, ◌+◌, ◌≤◌, [], ◌∷◌, true, length};
+ghost use Rattle.std.specs.Prelude.{◌≡◌, ◌+◌, ◌≤◌, true, length};
 ghost use Rattle.std.specs.Option.{option_map};
 ghost use Rattle.ca_acts.specs.Binders.{changed_by};
 ghost use Rattle.ca_acts.specs.Outlets as outlets;

@@ -1,8 +1,5 @@
 ghost use Rattle.std.specs.Prelude.{◌≡◌, length};
-ghost use Rattle.ca_held.specs.HeldView.{holding};
-ghost use Rattle.ca_model.specs.machine.HostVerbs as machine;
 ghost use Rattle.ca_model.specs.machine.HostVerbs.{load_plan, store_plan};
-ghost use Rattle.ca_keys.specs.Refusals.{first_of};
 ghost use Rattle.ca_acts.specs.Act.{Acts, Suffices};
 ghost use Rattle.ca_acts.specs.Calls.{call_of};
 

@@ -1,5 +1,4 @@
-ghost use Rattle.std.specs.Prelude.{◌≡◌, ◌<◌, ◌≤◌, ◌^◌, suc, length, IfOk, IfSome};
-ghost use Rattle.ca_base.specs.declared.limits.TheConstants.{MAX_PIECES};
+ghost use Rattle.std.specs.Prelude.{◌≡◌, ◌<◌, ◌^◌, suc, IfOk, IfSome};
 ghost use Rattle.ca_held.specs.HeldView.{holding};
 ghost use Rattle.ca_model.specs.machine.PostingVerbs.{post_srq_plan};
 ghost use Rattle.ca_acts.specs.Act.{Acts, Suffices};

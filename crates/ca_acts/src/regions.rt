@@ -1,4 +1,4 @@
-ghost use Rattle.std.specs.Prelude.{◌≡◌, ◌<◌};
+ghost use Rattle.std.specs.Prelude.{◌<◌};
 ghost use Rattle.ca_model.specs.machine.RegionVerbs.{alloc_mr_plan, dereg_mr_plan, reg_mr_plan};
 ghost use Rattle.ca_held.specs.HeldView.{holding};
 ghost use Rattle.ca_acts.specs.Act.{Acts, Suffices};

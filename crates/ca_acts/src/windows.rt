@@ -1,8 +1,6 @@
 ghost use Rattle.std.specs.Prelude.{◌≡◌, ◌<◌, true, IfSome};
-ghost use Rattle.ca_model.specs.machine.Plan.{put_all};
 ghost use Rattle.ca_model.specs.machine.Row.{region_under};
 ghost use Rattle.ca_model.specs.machine.WindowVerbs.{alloc_mw_plan, dealloc_mw_plan};
-ghost use Rattle.ca_model.specs.machine.World.{Queue_of};
 ghost use Rattle.ca_held.specs.HeldView.{holding};
 ghost use Rattle.ca_acts.specs.Act.{Acts, Suffices};
 ghost use Rattle.ca_acts.specs.Binders.{binder_updates, changed_by, is_binder_held};

@@ -1,4 +1,4 @@
-ghost use Rattle.std.specs.Prelude.{◌≡◌, ◌<◌, ℕ, List, Option, Some, true, IfSome, IsSome, IsTrue, None};
+ghost use Rattle.std.specs.Prelude.{◌≡◌, ◌<◌, ℕ, List, Some, true, IfSome, IsSome, IsTrue, None};
 ghost use Rattle.ca_acts_turns.specs.ca_acts.Act.{Acts, Suffices};
 ghost use Rattle.ca_acts_turns.specs.ca_acts.Room.{FitsDone};
 ghost use Rattle.ca_acts_arrivals.specs.Arrived.{CanArrive, HasArrived, outcome_of, told};

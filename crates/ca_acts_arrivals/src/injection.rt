@@ -1,4 +1,4 @@
-ghost use Rattle.std.specs.Prelude.{◌≡◌, ◌<◌, ℕ, List, Option, true, IfSome, None};
+ghost use Rattle.std.specs.Prelude.{◌≡◌, ◌<◌, true, IfSome, None};
 ghost use Rattle.ca_acts_turns.specs.ca_acts.Act.{Acts, Suffices};
 ghost use Rattle.ca_acts_turns.specs.ca_acts.Calls.{call_of};
 ghost use Rattle.ca_acts_turns.specs.ca_acts.Room.{FitsDone};

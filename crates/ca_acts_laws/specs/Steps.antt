@@ -1,5 +1,5 @@
 -- What an act is to a world that shows the parts in hand. Contracts cite it.
-use Rattle.std.specs.Prelude.{◌≡◌, Bool, false, Result, Ok, Err}
+use Rattle.std.specs.Prelude.{◌≡◌, false, Result, Ok, Err}
 use Rattle.ca_base.specs.declared.step.StepError.{StepError}
 use Rattle.ca_base.specs.declared.step.StepError.TheVariants as steps
 use Rattle.ca_model.specs.Marks.{MarkList}

@@ -1,4 +1,4 @@
-ghost use Rattle.std.specs.Prelude.{◌≡◌, ◌++◌, ◌≤◌, true, IfSome, length, [], ◌∷◌};
+ghost use Rattle.std.specs.Prelude.{◌≡◌, ◌++◌, ◌≤◌, true, IfSome, length, []};
 ghost use Rattle.std.specs.Option.{option_map, option_map_or};
 ghost use Rattle.ca_acts.specs.Binders.{changed_by};
 ghost use Rattle.ca_base.specs.declared.limits.TheConstants.{MAX_DEPTH};

@@ -1,11 +1,11 @@
-ghost use Rattle.std.specs.Prelude.{◌≡◌, ◌<◌, ◌||◌, true, false, IfSome, OnOk, OnErr};
+ghost use Rattle.std.specs.Prelude.{◌≡◌, ◌<◌, true, IfSome, OnOk, OnErr};
 ghost use Rattle.std.specs.Option.{option_map};
 ghost use Rattle.ca_base.specs.declared.reserve.Reserve.TheVariants.{Sends};
 ghost use Rattle.ca_base.specs.objects.CompletionQueue.{after_release, after_reserve, is_too_small};
 ghost use Rattle.ca_cq.specs.Room.{is_new_side};
 ghost use Rattle.ca_held.specs.HeldView.{hold, holding};
 ghost use Rattle.ca_keys.specs.Numbers.{queue_of};
-ghost use Rattle.ca_model.specs.machine.QueuePairVerbs.{before_receives, beside};
+ghost use Rattle.ca_model.specs.machine.QueuePairVerbs.{beside};
 ghost use Rattle.ca_model.specs.machine.World.{Cq_of};
 ghost use Rattle.ca_acts_pairs.specs.Reservations.{after_reservations, fits, has_room_for, has_too_little};
 

@@ -1,4 +1,3 @@
-ghost use Rattle.std.specs.Prelude.{◌≡◌, true, false};
 ghost use Rattle.ca_acts_queues.specs.ca_acts.Act.{Acts};
 ghost use Rattle.ca_laws_pairs.specs.ca_acts_laws.Steps.{IsStepOf, Shows};
 ghost use Rattle.ca_adapter.specs.Ready.{IsReady};

@@ -1,4 +1,4 @@
-ghost use Rattle.std.specs.Prelude.{◌≡◌, true, false};
+ghost use Rattle.std.specs.Prelude.{◌≡◌, true};
 ghost use Rattle.ca_acts_queues.specs.ca_acts.Act.{Acts, Suffices};
 ghost use Rattle.ca_acts_queues.specs.ca_acts.Calls.{call_of};
 ghost use Rattle.ca_adapter.specs.Ready.{IsReady, stored_plan};

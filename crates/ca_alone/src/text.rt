@@ -1,7 +1,5 @@
 ghost use Rattle.std.specs.Prelude.{◌≡◌, ◌++◌, length, take, OnOk, OnErr};
-ghost use Rattle.std.specs.List.{flat_map};
 ghost use Rattle.ca_alone.specs.Text.{alone_text};
-ghost use Rattle.ca_trace.specs.Trace.{reply_text};
 
 use ca_base::Memory;
 use ca_model::Mark;

@@ -1,5 +1,5 @@
 ghost use Rattle.std.specs.List.{AllByRecursion};
-ghost use Rattle.std.specs.Prelude.{◌≡◌, ℕ, List, Ok, true, map};
+ghost use Rattle.std.specs.Prelude.{◌≡◌, List, Ok, true, map};
 ghost use Rattle.ca_alone_run.specs.Lone.{IsLoneRun};
 ghost use Rattle.ca_base.specs.Configuration.{Configuration};
 ghost use Rattle.ca_isolation.specs.Alone.{alone_entries, alone_events};

@@ -1,4 +1,4 @@
-ghost use Rattle.std.specs.Prelude.{◌≡◌, ◌%◌, ◌≤◌, ◌<◌, ◌+◌, [], ◌∷◌, None, Some, OnOk, OnErr, IfOk, IfErr, IsTrue, length};
+ghost use Rattle.std.specs.Prelude.{◌≡◌, ◌≤◌, ◌<◌, ◌+◌, [], ◌∷◌, None, Some, OnOk, OnErr, IfOk, IfErr, IsTrue, length};
 ghost use Rattle.ca_keys.specs.Memory.{bytes_at, little_endian, little_endian_bytes};
 ghost use Rattle.ca_base.specs.declared.limits.TheConstants.{ATOMIC_BYTES};
 ghost use Rattle.ca_keys.specs.Numbers.{is_window_key};

@@ -1,5 +1,5 @@
 -- Offers that are gone past at once are told one after another to be not ready. For proofs only.
-use Rattle.std.proofs.Common.{◌≡◌, ◌∙◌, refl, sym, ap, ℕ, zero, suc, ◌+◌, ◌-◌, ◌<◌, ◌≤◌, ◌==◌, ◌||◌, min, not, Bool, true, false, arith, List, [], ◌∷◌, length, drop, replicate, Option, None, Some}
+use Rattle.std.proofs.Common.{◌≡◌, ◌∙◌, refl, sym, ap, ℕ, zero, suc, ◌-◌, ◌<◌, ◌==◌, ◌||◌, min, not, true, false, arith, List, [], ◌∷◌, length, drop, replicate, Option, None, Some}
 use Rattle.std.proofs.lemmas.Bool.Decides.{nat_tests}
 use Rattle.ca_engine.proofs.EngineLemmas.{or_not}
 use Rattle.ca_engine.specs.Engine.{EngineValue, engine_after, engine_after_all}

@@ -1,5 +1,5 @@
 -- Offers of a round that are all told to be not ready at one clock. Contracts cite it.
-use Rattle.std.specs.Prelude.{ℕ, ◌-◌, ◌==◌, ◌||◌, not, Bool, false, length, drop, min, replicate, Option, None, Some}
+use Rattle.std.specs.Prelude.{ℕ, ◌-◌, ◌==◌, ◌||◌, not, Bool, false, length, drop, min, replicate, Option, Some}
 use Rattle.std.specs.Option.{option_map_or}
 use Rattle.ca_engine.specs.Engine.{EngineValue, engine_after_all}
 use Rattle.ca_engine.specs.declared.outcome.Outcome.TheVariants as outcomes

@@ -1,9 +1,9 @@
-ghost use Rattle.std.specs.Prelude.{◌≡◌, ◌++◌, ◌≤◌, ◌<◌, ◌^◌, map, length, IfOk, OnOk};
+ghost use Rattle.std.specs.Prelude.{◌≡◌, ◌++◌, ◌<◌, map, IfOk, OnOk};
 ghost use Rattle.std.specs.List.{flat_map};
 ghost use Rattle.ca_base.specs.Configuration.{adapter_of, configuration_of};
 ghost use Rattle.ca_keys.specs.Numbers.{queue_of};
 ghost use Rattle.ca_order.specs.Visits.{all_queues, numbers_below, queues_of_adapter};
-ghost use Rattle.ca_engine.specs.Offers.{offers_of_round, offers_of_timers, timers_of_queue, turns_of_queue};
+ghost use Rattle.ca_engine.specs.Offers.{timers_of_queue, turns_of_queue};
 ghost use Rattle.ca_engine.specs.declared.offer.Offer.TheVariants as variants;
 
 use crate::offer::Offer;

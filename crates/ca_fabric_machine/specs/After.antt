@@ -1,5 +1,5 @@
 -- The world after a list of entries, and what it is that the list is one of the machine. Contracts cite it.
-use Rattle.std.specs.Prelude.{◌≡◌, ℕ, ◌<◌, ◌-◌, ◌^◌, List, [], ◌∷◌, length, Some}
+use Rattle.std.specs.Prelude.{◌≡◌, ◌<◌, ◌-◌, ◌^◌, List, [], ◌∷◌, length, Some}
 use Rattle.ca_base.specs.Configuration.{Configuration}
 use Rattle.ca_fabric_machine.specs.Asks.{event_asked}
 use Rattle.ca_fabric_machine.specs.declared.asked.Told.{Told}

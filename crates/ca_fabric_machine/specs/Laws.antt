@@ -18,14 +18,14 @@ use Rattle.ca_fabric_machine.specs.declared.asked.Asked.{Asked}
 use Rattle.ca_fabric_machine.specs.declared.asked.Told.{Told}
 use Rattle.ca_keys.specs.Memory.{zeros}
 use Rattle.ca_laws_parts.proofs.EventPartLemmas.{among-held, event-held}
-use Rattle.ca_laws_parts.proofs.NeedsLemmas.{IsMissing, next-same, some-missing}
+use Rattle.ca_laws_parts.proofs.NeedsLemmas.{next-same, some-missing}
 use Rattle.ca_model.proofs.RestLemmas.{event-leaves}
 use Rattle.ca_model.proofs.ThingLemmas.{name-path}
 use Rattle.ca_model.specs.declared.part_name.PartName.{PartName}
 use Rattle.ca_model.specs.machine.Frame.{IsNoneOf, LeavesRest, name_eq}
-use Rattle.ca_model.specs.machine.Parts.{Needs, ShowsHeld, event_needs, is_configured_part, listed, next_part, part_of}
+use Rattle.ca_model.specs.machine.Parts.{ShowsHeld, event_needs, is_configured_part, listed, next_part, part_of}
 use Rattle.ca_model.specs.machine.Plan.{Did, touches}
-use Rattle.ca_model.specs.machine.Step.{plan, step}
+use Rattle.ca_model.specs.machine.Step.{plan}
 use Rattle.ca_model.specs.machine.World.{World, Name, Domain_of, Region_of, Window_of, Cq_of, Srq_of, Queue_of, Mailbox_of, Byte_at, Thing, get, opening_world}
 use Rattle.ca_parts.specs.Hands.{AllStand, IsTakenFor, Suffices}
 use Rattle.ca_parts.specs.Lists.{Has}

@@ -1,6 +1,6 @@
 -- The parts that are needed are configured and have places, and with them in hand no part of the event is missing. For
 -- proofs only.
-use Rattle.std.proofs.Common.{◌≡◌, ◌∙◌, refl, sym, ap, subst, ℕ, ◌+◌, ◌≤◌, arith, inl, inr, Bool, true, false, List, [], ◌∷◌, ◌++◌, length, map, Option, None, Some, IfSome, is_some, if◌then◌else◌, true≢false}
+use Rattle.std.proofs.Common.{◌≡◌, ◌∙◌, refl, sym, ap, subst, ℕ, ◌≤◌, arith, inl, inr, Bool, true, false, List, [], ◌∷◌, length, map, Option, None, Some, IfSome, is_some, if◌then◌else◌, true≢false}
 use Rattle.std.proofs.lemmas.List.{length-append}
 use Rattle.std.proofs.lemmas.Option.{none-some}
 use Rattle.std.specs.List.{AllByRecursion, range_with_len}
@@ -9,7 +9,7 @@ use Rattle.ca_base.specs.Configuration.{Configuration, part_count}
 use Rattle.ca_base.specs.declared.correspondent.Correspondent.{Correspondent}
 use Rattle.ca_base.specs.declared.lot.Lot.TheVariants.{Pass}
 use Rattle.ca_base.specs.objects.Mailbox.{Mailbox, bytes_lent, due}
-use Rattle.ca_base.specs.objects.QueuePair.{NoQueue, Present, QueuePair, QueueSlot}
+use Rattle.ca_base.specs.objects.QueuePair.{NoQueue, Present, QueueSlot}
 use Rattle.ca_base.specs.objects.Slices.{has_queue}
 use Rattle.ca_fabric_machine.specs.Asks.{asked_needs, due_needs, event_asked, peer_mail, turn_parts}
 use Rattle.ca_fabric_machine.specs.declared.asked.Asked.{Asked}

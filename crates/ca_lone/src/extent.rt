@@ -1,5 +1,5 @@
 ghost use Rattle.std.specs.List.{AllByRecursion};
-ghost use Rattle.std.specs.Prelude.{◌<◌, ◌^◌};
+ghost use Rattle.std.specs.Prelude.{◌<◌};
 ghost use Rattle.ca_keys.specs.Memory.{is_in};
 ghost use Rattle.ca_lone.specs.Cover.{EndsInReach, covers};
 ghost use Rattle.ca_lone.specs.Extents.{IsExtent};

@@ -1,13 +1,12 @@
 -- The buffer that stands at its place in a row, beside the world for which the row stands. For proofs only.
-use Rattle.std.proofs.Common.{◌≡◌, ◌∙◌, refl, sym, ap, subst, ℕ, zero, suc, ◌<◌, ◌≤◌, ◌==◌, nat_lt, Bool, true, false, if◌then◌else◌, List, length, slice_index_or, Option, None, Some, true≢false, arith}
+use Rattle.std.proofs.Common.{◌≡◌, ◌∙◌, refl, sym, ap, subst, ℕ, zero, suc, ◌<◌, ◌≤◌, ◌==◌, nat_lt, Bool, true, false, if◌then◌else◌, length, slice_index_or, Option, None, Some, true≢false, arith}
 use Rattle.std.proofs.lemmas.Bool.{eq-eqb}
 use Rattle.std.proofs.lemmas.Bool.Decides.{nat_tests}
 use Rattle.ca_base.specs.Configuration.{Configuration, configuration_in}
 use Rattle.ca_held.specs.declared.part.Part.{Part}
 use Rattle.ca_held.specs.declared.part.Part.TheVariants as parts
 use Rattle.ca_held_reach.specs.Names.{buffer_eq}
-use Rattle.ca_make.specs.Buffers.{IsBufferOf, IsBufferSeen, buffer_in}
-use Rattle.ca_model.specs.declared.part_name.PartName.{PartName}
+use Rattle.ca_make.specs.Buffers.{IsBufferSeen, buffer_in}
 use Rattle.ca_model.specs.declared.part_name.PartName.TheVariants as names
 use Rattle.ca_model.specs.machine.Step.{bytes_of_buffer, has_buffer}
 use Rattle.ca_model.specs.machine.World.{World, Byte_at}

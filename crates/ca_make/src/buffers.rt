@@ -1,4 +1,4 @@
-ghost use Rattle.std.specs.Prelude.{◌≡◌, ◌≤◌, ◌<◌, ◌^◌, Some, IfOk, length, sum_by};
+ghost use Rattle.std.specs.Prelude.{◌≡◌, ◌<◌, ◌^◌, Some, IfOk, length, sum_by};
 ghost use Rattle.std.specs.Option.{option_copied};
 ghost use Rattle.ca_base.specs.Configuration.{Configuration, configuration_in};
 ghost use Rattle.ca_keys.specs.Memory.{bytes_at};

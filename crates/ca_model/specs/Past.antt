@@ -1,6 +1,6 @@
 -- What the entries and marks so far have left, for the relations that look back. Each relation on a history says of
 -- each mark, or of each entry, what it must be, given this record. It knows no adapter. Contracts cite it.
-use Rattle.std.specs.Prelude.{ℕ, suc, ◌+◌, ◌-◌, nat_lt, Bool, true, false, not, ◌&&◌, ◌||◌, ◌==◌, if◌then◌else◌, List, [], ◌∷◌, ◌++◌, length, take, drop, filter, find, map, sum_by, slice_get, Option, None, Some, is_some}
+use Rattle.std.specs.Prelude.{ℕ, suc, ◌+◌, nat_lt, Bool, true, false, not, ◌&&◌, ◌||◌, ◌==◌, if◌then◌else◌, List, [], ◌∷◌, ◌++◌, length, take, drop, filter, find, map, sum_by, slice_get, Option, None, Some, is_some}
 use Rattle.std.specs.List.{list_any, list_all}
 use Rattle.std.specs.Option.{option_map, option_map_or, option_and_then}
 use Rattle.ca_keys.specs.declared.access.Ask.{Ask}

@@ -1,7 +1,7 @@
 ghost use Rattle.std.specs.Prelude.{ℕ, ◌≡◌, Bool, List};
 ghost use Rattle.ca_base.specs.Configuration.{Configuration};
 ghost use Rattle.ca_model.specs.declared.event.Event.{Event};
-ghost use Rattle.ca_model.specs.machine.Frame.{Afterwards, AllPass, SameAt, SameWhere, SameOutcome, SameOutcomeWhere, LeavesRest, TouchesPass};
+ghost use Rattle.ca_model.specs.machine.Frame.{AllPass, SameAt, SameWhere, SameOutcome, SameOutcomeWhere, LeavesRest, TouchesPass};
 ghost use Rattle.ca_model.specs.machine.Plan.{Plan, Update, Write, perform, touches};
 ghost use Rattle.ca_model.specs.machine.Row.{Effects, Row, Row_plan, ending_of};
 ghost use Rattle.ca_model.specs.machine.Seen.{perform_ending, row_changes, sight_in};

@@ -24,7 +24,7 @@ impl Model for Marks {
 }
 
 impl Marks {
-    ghost use Rattle.std.specs.Prelude.{◌≡◌, ◌≤◌, ◌<◌, ◌+◌, [], ◌∷◌, ◌++◌, length, take, OnOk, OnErr};
+    ghost use Rattle.std.specs.Prelude.{◌≡◌, ◌≤◌, ◌<◌, ◌+◌, [], ◌∷◌, ◌++◌, length, take, OnOk};
 
     /// No marks. It takes no memory; what is reserved later comes from `alloc`.
     pub fn empty(alloc: Global) -> Marks

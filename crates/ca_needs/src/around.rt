@@ -1,5 +1,4 @@
 ghost use Rattle.std.specs.Prelude.{◌≡◌};
-ghost use Rattle.ca_held.specs.HeldView.{holding};
 ghost use Rattle.ca_base.specs.objects.QueuePair.{srq_of};
 ghost use Rattle.ca_model.specs.declared.part_name.PartName.TheVariants as names;
 ghost use Rattle.ca_model.specs.machine.Parts.{emptying_needs, part, peer_needs, where_some};

@@ -1,9 +1,8 @@
-ghost use Rattle.std.specs.Prelude.{◌≡◌, ◌<◌, ◌≤◌, ◌&&◌, ℕ, true, IfNone, IfSome, Option, drop, min, take};
+ghost use Rattle.std.specs.Prelude.{◌≡◌, ◌<◌, ◌≤◌, ℕ, true, IfNone, IfSome, Option, drop, min, take};
 ghost use Rattle.ca_base.specs.Configuration.{configuration_in};
 ghost use Rattle.ca_base.specs.declared.limits.TheConstants.{MAX_POLLED};
 ghost use Rattle.ca_base.specs.objects.QueuePair.{recv_cq_of, send_cq_of};
 ghost use Rattle.ca_keys.specs.Numbers.{queue_of};
-ghost use Rattle.ca_held.specs.HeldView.{holding};
 ghost use Rattle.ca_model.specs.declared.part_name.PartName.TheVariants as names;
 ghost use Rattle.ca_model.specs.declared.verb.Verb.TheVariants as verbs;
 ghost use Rattle.ca_model.specs.machine.Parts.{By, Needs, Part, drawing_needs, emptying_needs, part, place_part, places_needs, present_needs, queues_needs, verb_needs, where_some};

@@ -1,5 +1,5 @@
 -- The eight numbers add up to what they did before, after any moves that can follow.
-use Rattle.std.proofs.Common.{◌≡◌, ◌≢◌, ℕ, zero, suc, ◌+◌, ◌-◌, ◌*◌, ◌<◌, ◌≤◌, List, [], ◌∷◌, ◌++◌, length, set, replicate, get_or, sum, Option, Some, None, slice_get, slice_index, sym, refl, ap, ◌∙◌, subst, length-set, arith}
+use Rattle.std.proofs.Common.{◌≡◌, ◌≢◌, ℕ, zero, suc, ◌+◌, ◌-◌, ◌*◌, ◌<◌, ◌≤◌, List, [], ◌∷◌, ◌++◌, length, set, Some, slice_get, slice_index, sym, refl, ap, ◌∙◌, subst, length-set, arith}
 use Rattle.std.proofs.lemmas.List.{get_or-set_other}
 use Rattle.ca_parts.specs.Lists.{EachFollows, total}
 use Rattle.ca_parts_moves.specs.declared.amount.Amount.{Amount}

@@ -5,7 +5,7 @@ ghost use Rattle.ca_parts.specs.Views.{with_part, with_refusal};
 ghost use Rattle.ca_parts.specs.Calls.{MayTake};
 ghost use Rattle.ca_parts.specs.Rows.{part_count, settings_of, view_of, IsPassOf};
 ghost use Rattle.ca_parts_moves.specs.Numbers.{IsMove, is_held, next_of};
-ghost use Rattle.ca_parts_moves.specs.Held.{hand_of, first_parts, AreApart, SameRecord};
+ghost use Rattle.ca_parts_moves.specs.Held.{hand_of, AreApart, SameRecord};
 
 use crate::amount::{Amount, Move, NUMBERS};
 use ca_parts::{Busy, PartPass, Parts, Turn1};

@@ -1,7 +1,6 @@
 use crate::holding::take_one;
 use crate::{Amount, Move, Opening, race, start};
-use ca_base::Memory;
-use ca_parts::{Busy, PartPass, Parts, Spent};
+use ca_parts::{Busy, Spent};
 use std::process::Abort;
 use std::test::Fail;
 

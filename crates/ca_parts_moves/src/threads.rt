@@ -1,5 +1,5 @@
 //! Two threads that move amounts between the eight numbers.
-ghost use Rattle.std.specs.Prelude.{◌≡◌, ◌≢◌, ◌+◌, ◌*◌, ◌^◌, ◌<◌, ◌≤◌, [], IfOk, length, vec_capacity};
+ghost use Rattle.std.specs.Prelude.{◌≡◌, ◌+◌, ◌*◌, ◌^◌, ◌<◌, ◌≤◌, [], IfOk, length, vec_capacity};
 ghost use Rattle.ca_parts.specs.Lists.{total};
 ghost use Rattle.ca_parts.specs.Views.{first_view};
 ghost use Rattle.ca_parts.specs.Rows.{part_count, settings_of, view_of, IsPassOf};

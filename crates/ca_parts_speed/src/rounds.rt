@@ -1,5 +1,5 @@
 //! The rounds that are timed.
-ghost use Rattle.std.specs.Prelude.{◌≡◌, ◌*◌, ◌^◌, ◌<◌, ◌≤◌, []};
+ghost use Rattle.std.specs.Prelude.{◌≡◌, ◌*◌, ◌^◌, ◌<◌, []};
 ghost use Rattle.ca_parts.specs.Rows.{part_count, settings_of, view_of, IsPassOf};
 
 use ca_parts::{PartPass, Parts};

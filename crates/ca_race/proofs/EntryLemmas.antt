@@ -1,6 +1,6 @@
 -- Entries that are pushed one after another. For proofs only.
-use Rattle.std.proofs.Common.{◌≡◌, ◌∙◌, refl, sym, ap, subst, ℕ, suc, ◌+◌, arith, List, [], ◌∷◌, ◌++◌, length, map, reverse}
-use Rattle.std.proofs.lemmas.List.{append_assoc, map-append, reverse-append}
+use Rattle.std.proofs.Common.{◌≡◌, ◌∙◌, sym, ap, subst, ℕ, suc, ◌+◌, arith, List, [], ◌∷◌, ◌++◌, length, map, reverse}
+use Rattle.std.proofs.lemmas.List.{append_assoc, reverse-append}
 use Rattle.ca_model.specs.Entries.{EntryValue, entry_of}
 use Rattle.ca_model.specs.History.{IsEntry, IsHistory, IsHistoryFrom}
 use Rattle.ca_model.specs.declared.entry.Entry.{Entry}

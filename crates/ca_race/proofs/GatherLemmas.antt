@@ -1,5 +1,5 @@
 -- What is left of a fabric that workers worked on, as a stage of the script. For proofs only.
-use Rattle.std.proofs.Common.{◌≡◌, ◌∙◌, refl, sym, ap, subst, ℕ, zero, suc, ◌<◌, ◌≤◌, arith, Bool, true, false, true≢false, List, [], ◌∷◌, drop, length, map, reverse, sum_by, ◌^◌, Option, None, Some, is_some, slice_get, Ok}
+use Rattle.std.proofs.Common.{◌≡◌, ◌∙◌, refl, sym, ap, subst, ℕ, zero, suc, ◌<◌, ◌≤◌, arith, true, false, true≢false, List, [], ◌∷◌, drop, length, map, reverse, sum_by, ◌^◌, Option, None, Some, is_some, slice_get, Ok}
 use Rattle.std.proofs.lemmas.List.{length-drop, length-map, length-reverse, reverse-reverse}
 use Rattle.std.proofs.lemmas.List.Sums.{sum_by-cons}
 use Rattle.std.proofs.lemmas.Option.{slice_get-map}
@@ -22,15 +22,14 @@ use Rattle.ca_model.specs.declared.entry.Entry.{Entry}
 use Rattle.ca_model.specs.declared.event.Event.{Event}
 use Rattle.ca_model.specs.declared.mark.Mark.{Mark}
 use Rattle.ca_model.specs.declared.part_name.PartName.{PartName}
-use Rattle.ca_model.specs.machine.Parts.{is_configured_part, part_of}
 use Rattle.ca_model.specs.machine.Run.{Follows, run_over}
-use Rattle.ca_model.specs.machine.World.{Byte_at, Name, World, get}
+use Rattle.ca_model.specs.machine.World.{World, get}
 use Rattle.ca_order.specs.OfScript.{LeadsTo}
 use Rattle.ca_order.specs.Order.{Stage}
 use Rattle.ca_parts.specs.Lists.{Has}
 use Rattle.ca_places.proofs.AmongLemmas.{place-below}
 use Rattle.ca_places.specs.Places.{place_of}
-use Rattle.ca_race.specs.Raced.{IsGathered, IsReached}
+use Rattle.ca_race.specs.Raced.{IsGathered}
 use Rattle.ca_race_laws.specs.Work.{HasWorked, numbered, stage_after}
 use Rattle.ca_script_run.specs.ca_replay.Rows.{AreTogether, IsPartIn, IsRowOf, IsThere}
 use Rattle.ca_script_run.specs.ca_replay.declared.row.Row.{Row}

@@ -1,5 +1,5 @@
 -- What the caller makes alone of what workers left. For proofs only.
-use Rattle.std.proofs.Common.{◌≡◌, List, reverse, Result, Ok, Err, IfOk}
+use Rattle.std.proofs.Common.{◌≡◌, reverse, Result, Ok, Err, IfOk}
 use Rattle.ca_keys.specs.declared.memory.Memory.{Memory}
 use Rattle.ca_order.specs.OfScript as machine
 use Rattle.ca_order.specs.Order.{Stage, ending_from}

@@ -1,12 +1,10 @@
 -- What workers did, with one entry more, and of two of them together. For proofs only.
-use Rattle.std.proofs.Common.{◌≡◌, ◌∙◌, ◌≢◌, refl, sym, ap, subst, ℕ, zero, suc, ◌+◌, ◌%◌, ◌<◌, ◌≤◌, ◌⊎◌, inl, inr, arith, Bool, true, false, true≢false, if◌then◌else◌, ◌==◌, List, [], ◌∷◌, ◌++◌, length, drop, replicate, slice_index, slice_set}
+use Rattle.std.proofs.Common.{◌≡◌, ◌∙◌, ◌≢◌, refl, sym, ap, subst, ℕ, zero, suc, ◌+◌, ◌%◌, ◌<◌, ◌≤◌, arith, Bool, true, false, true≢false, if◌then◌else◌, ◌==◌, List, [], ◌∷◌, ◌++◌, length, drop, replicate, slice_index, slice_set}
 use Rattle.std.proofs.lemmas.Bool.{eq-eqb, eqb-true}
 use Rattle.std.proofs.lemmas.List.{append-nil, append_assoc, append_cancel_right, get_or-set_other, get_or-set_same, length-replicate, length-set}
 use Rattle.std.specs.List.{AllByRecursion}
-use Rattle.ca_fabric_machine.specs.declared.asked.Asked.{Asked}
 use Rattle.ca_fabric_machine.specs.declared.asked.Asked.TheVariants as asks
 use Rattle.ca_fabric_machine.specs.declared.asked.Told.{Told}
-use Rattle.ca_mailbox.specs.declared.weather.Weather.{Weather}
 use Rattle.ca_model.specs.declared.event.Event.{Event}
 use Rattle.ca_model.specs.declared.event.Event.TheVariants as events
 use Rattle.ca_model.specs.declared.mark.Mark.{Mark}

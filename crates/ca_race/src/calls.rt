@@ -1,4 +1,4 @@
-ghost use Rattle.std.specs.Prelude.{◌≡◌, ◌-◌, ◌<◌, ◌^◌, IfSome, length, slice_index};
+ghost use Rattle.std.specs.Prelude.{◌-◌, ◌<◌, ◌^◌, IfSome, length, slice_index};
 ghost use Rattle.ca_order.specs.Order.{lines_of};
 ghost use Rattle.ca_race.specs.Calls.{IsNextCall};
 ghost use Rattle.ca_script.specs.Script.{script_value};

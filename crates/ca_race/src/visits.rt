@@ -1,4 +1,4 @@
-ghost use Rattle.std.specs.Prelude.{◌≡◌, OnOk};
+ghost use Rattle.std.specs.Prelude.{OnOk};
 ghost use Rattle.ca_race.specs.Workers.{IsAtWork, IsSameWorker};
 ghost use Rattle.ca_script.specs.Script.{script_value};
 

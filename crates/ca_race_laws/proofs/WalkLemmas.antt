@@ -7,18 +7,17 @@ use Rattle.std.proofs.lemmas.Bool.Decides.{nat_tests}
 use Rattle.ca_base.specs.declared.lot.Lot.{Lot}
 use Rattle.ca_base.specs.declared.lot.Lot.TheVariants.{Pass, Lose, Repeat, Hold}
 use Rattle.ca_base.specs.objects.Mailbox.{due}
-use Rattle.ca_fabric_machine.specs.After.{IsStep, IsUp, RunsFrom, next_world, world_from}
+use Rattle.ca_fabric_machine.specs.After.{IsUp, RunsFrom, next_world, world_from}
 use Rattle.ca_fabric_machine.specs.Asks.{event_asked}
 use Rattle.ca_fabric_machine.specs.declared.asked.Asked.{Asked}
 use Rattle.ca_fabric_machine.specs.declared.asked.Asked.TheVariants as asks
 use Rattle.ca_fabric_machine.specs.declared.asked.Told.{Told}
-use Rattle.ca_keys.specs.declared.names.QueueId.{QueueId}
 use Rattle.ca_model.specs.Entries.{EntryValue}
 use Rattle.ca_model.specs.declared.event.Event.{Event}
 use Rattle.ca_model.specs.declared.event.Event.TheVariants as events
 use Rattle.ca_model.specs.declared.mark.Mark.{Mark}
 use Rattle.ca_model.specs.declared.verb.Verb.{Verb}
-use Rattle.ca_model.specs.machine.Plan.{Outcome, Did}
+use Rattle.ca_model.specs.machine.Plan.{Did}
 use Rattle.ca_model.specs.machine.Step.{step}
 use Rattle.ca_model.specs.machine.World.{World}
 use Rattle.ca_order.specs.OfScript.{LeadsTo, Reach, calls_by, is_call, is_passed, left_after, lines_at, lot_eq, may_stand, opening_reach, reach_by, reach_from, verbs_in}

@@ -1,6 +1,6 @@
-ghost use Rattle.std.specs.Prelude.{◌≡◌, ◌+◌, ◌<◌, ◌≤◌, suc, true, false, [], None, Some, IfSome, if◌then◌else◌, is_some, length};
+ghost use Rattle.std.specs.Prelude.{◌≡◌, ◌+◌, ◌<◌, ◌≤◌, suc, true, false, [], None, Some, if◌then◌else◌, is_some, length};
 ghost use Rattle.std.specs.Vec.{vec_capacity};
-ghost use Rattle.ca_base.specs.Configuration.{Configuration, configuration_in};
+ghost use Rattle.ca_base.specs.Configuration.{configuration_in};
 ghost use Rattle.ca_held.specs.HeldView.{holding, room_for};
 ghost use Rattle.ca_model.specs.declared.part_name.PartName.{PartName};
 ghost use Rattle.ca_model.specs.machine.Parts as machine;

@@ -1,5 +1,5 @@
 -- The asks of a SEND packet, by the receive that was found, and as those of its row; and the key that a packet ends.
-use Rattle.std.proofs.Common.{◌≡◌, ℕ, refl, ap, sym, true≢false, is_none, is_some, Bool, true, false, List, [], length, nat_lt, ◌+◌, Option, None, Some}
+use Rattle.std.proofs.Common.{◌≡◌, ℕ, refl, ap, sym, true≢false, is_none, is_some, Bool, true, false, List, length, nat_lt, ◌+◌, Option, None, Some}
 use Rattle.std.specs.Option.{option_map}
 use Rattle.std.proofs.lemmas.Option.{same_Some}
 use Rattle.ca_keys.specs.declared.access.Kind.{Kind}
@@ -19,7 +19,6 @@ use Rattle.ca_model.specs.declared.receiving.Receiving.{Receiving}
 use Rattle.ca_model.specs.declared.write_reach.WriteReach.{WriteReach}
 use Rattle.ca_model.specs.machine.Expected.{atomic_row, read_queued, receiving_of, send_row, valid_row, write_reach, write_row}
 use Rattle.ca_model.specs.machine.Row.{Row, plain_row, Does}
-use Rattle.ca_packet.specs.declared.shape.Shape.{Shape}
 use Rattle.ca_packet.specs.declared.shape.Shape.TheVariants as shapes
 use Rattle.ca_wire.specs.declared.syndrome.NakCode.TheVariants.{InvalidRequest}
 use Rattle.ca_responder.specs.Asking.{IsFree, fit_into, fit_of, send_asks, send_key}

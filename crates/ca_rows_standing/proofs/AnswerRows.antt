@@ -10,12 +10,12 @@ use Rattle.ca_base.specs.objects.QueuePair.{QueuePair}
 use Rattle.ca_connection.proofs.MoveLemmas.{reached-sound}
 use Rattle.ca_connection.specs.Invariant.{QueueFact, ReadsFrom}
 use Rattle.ca_connection.specs.Layout.{Direction}
-use Rattle.ca_connection.specs.Link.{Link, NakReason, Responder, Response}
+use Rattle.ca_connection.specs.Link.{Link, Responder, Response}
 use Rattle.ca_connection.specs.Link.NakReason.{ReceiverNotReady, RemoteAccessError}
 use Rattle.ca_connection.specs.Link.Response.{Ack, Nak, Data, Found}
 use Rattle.ca_connection.specs.Moves.{Reached, rest_of as rest_of_link}
 use Rattle.ca_keys.specs.Refusals.{first_of}
-use Rattle.ca_model.specs.Packets.{answers_read, is_response}
+use Rattle.ca_model.specs.Packets.{answers_read}
 use Rattle.ca_model.specs.declared.read_left.ReadLeft.{ReadLeft}
 use Rattle.ca_model.specs.machine.Invariants.{IsQueue}
 use Rattle.ca_model.specs.machine.Requester.{peer_number, psn_bits}
@@ -24,19 +24,18 @@ use Rattle.ca_model.specs.machine.Row.{Effects, NotPossible, Row, plain_row}
 use Rattle.ca_packet.specs.Packet.{Fields, spelling}
 use Rattle.ca_packet.specs.Decoding.{packet_in}
 use Rattle.ca_packet.specs.Table.{row_of}
-use Rattle.ca_packet.specs.declared.opcode.TheConstants.{ACKNOWLEDGE, ATOMIC_ACKNOWLEDGE}
-use Rattle.ca_packet.specs.declared.packet.TheConstants.{DEFAULT_PKEY}
-use Rattle.ca_rows_calm.specs.Calmly.{IsAcknowledging, IsRefusing, SaysPlainly}
-use Rattle.ca_rows_standing.specs.Standing.{AnswersCalmly, IsNoRnrNak, RespondsCalmly, SpellsPlainly, is_not_ready}
+use Rattle.ca_packet.specs.declared.opcode.TheConstants.{ACKNOWLEDGE}
+use Rattle.ca_rows_calm.specs.Calmly.{IsAcknowledging, IsRefusing}
+use Rattle.ca_rows_standing.specs.Standing.{IsNoRnrNak, RespondsCalmly, SpellsPlainly, is_not_ready}
 use Rattle.ca_rows_standing.specs.Standing.AnswersCalmly.{front, denied}
-use Rattle.ca_ties_rows.proofs.DecodeLemmas.{Decoded, decoded}
+use Rattle.ca_ties_rows.proofs.DecodeLemmas.{decoded}
 use Rattle.ca_ties_rows.proofs.EntryLemmas.{ack-spelt, found-spelt, nak-spelt, peer-fits, read-spelt}
 use Rattle.ca_ties_rows.proofs.RequestRowLemmas.{plain}
 use Rattle.ca_ties_rows.proofs.SpellLemmas.{aeth-decoded}
-use Rattle.ca_ties_rows.specs.Entries.{ResponseEntry, SpellsResponse, syndrome_of}
+use Rattle.ca_ties_rows.specs.Entries.{SpellsResponse, syndrome_of}
 use Rattle.ca_ties_rows.specs.Moves.{RowLeads}
 use Rattle.ca_ties_rows.specs.Sides.{kept_result, reason_of, responder_in, said}
-use Rattle.ca_wire.specs.Builders.{acknowledge, atomic_acknowledge, read_response}
+use Rattle.ca_wire.specs.Builders.{acknowledge}
 use Rattle.ca_wire.specs.Syndrome.{FitsSyndrome}
 use Rattle.ca_wire.specs.declared.syndrome.NakCode.{NakCode}
 use Rattle.ca_wire.specs.declared.syndrome.NakCode.TheVariants as codes

@@ -1,15 +1,13 @@
 -- The packet that is expected is admitted, and the responder stands as a calm link's. For proofs only.
-use Rattle.std.proofs.Common.{◌≡◌, ℕ, ◌+◌, ◌<◌, ◌++◌, Bool, true, false, nat_lt, if◌then◌else◌, List, [], ◌∷◌, map, Option, refl, ap, sym, subst, ◌∙◌, arith, true≢false}
+use Rattle.std.proofs.Common.{◌≡◌, ℕ, ◌+◌, ◌<◌, ◌++◌, true, false, nat_lt, if◌then◌else◌, List, [], ◌∷◌, map, Option, refl, ap, sym, subst, ◌∙◌, arith}
 use Rattle.std.proofs.lemmas.Bool.Decides.{nat_tests}
 use Rattle.std.proofs.lemmas.List.{map-append}
-use Rattle.ca_base.specs.declared.denied_ask.DeniedAsk.{DeniedAsk}
 use Rattle.ca_base.specs.declared.queue_numbers.Queued.TheVariants as queued
-use Rattle.ca_base.specs.declared.refusals.OpRefusal.{OpRefusal}
 use Rattle.ca_base.specs.objects.QueuePair.{QueuePair}
 use Rattle.ca_base.specs.objects.SharedReceives.{SharedReceives}
 use Rattle.ca_connection.proofs.LayoutLemmas.{segments-some, span-is_read}
 use Rattle.ca_connection.specs.Layout.{Direction, bytes_left}
-use Rattle.ca_connection.specs.Link.{NakReason, RequestPacket, Responder, Response}
+use Rattle.ca_connection.specs.Link.{NakReason, RequestPacket, Responder}
 use Rattle.ca_connection.specs.Link.NakReason.{InvalidRequest, PsnSequenceError, ReceiverNotReady, RemoteAccessError, RemoteOperationalError}
 use Rattle.ca_connection.specs.Link.Response.{Nak}
 use Rattle.ca_connection.specs.Moves.{Reception}

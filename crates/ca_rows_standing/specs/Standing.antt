@@ -13,7 +13,6 @@ use Rattle.ca_connection_calm.specs.CalmMoves.{Admits, standing_after}
 use Rattle.ca_model.specs.Packets.{is_response}
 use Rattle.ca_model.specs.machine.Invariants.{is_connected}
 use Rattle.ca_model.specs.machine.Row.{Effects}
-use Rattle.ca_packet.specs.Packet.{Fields}
 use Rattle.ca_rows_calm.specs.Calmly.{SaysPlainly}
 use Rattle.ca_ties_rows.specs.Entries.{IfPacket, ResponseEntry, syndrome_of}
 use Rattle.ca_ties_rows.specs.Sides.{kept_result, responder_in, said}

@@ -1,6 +1,6 @@
 -- The outputs of commands. For proofs only.
 use Rattle.std.proofs.Common.{◌≡◌, ◌++◌, ℕ, List, Option, Some, ap}
-use Rattle.ca_alone_run.specs.Lone.{HasReplies, IsOutcome}
+use Rattle.ca_alone_run.specs.Lone.{IsOutcome}
 use Rattle.ca_alone_run.specs.declared.lone.Outcome.{Outcome}
 use Rattle.ca_alone_run.specs.declared.lone.Outcome.TheVariants as outcomes
 use Rattle.ca_isolation.specs.Groups.{group_of}

@@ -1,4 +1,4 @@
-ghost use Rattle.std.specs.Prelude.{◌≡◌, ◌≢◌, ◌+◌, ℕ, List, Err, IfErr, IfOk, IfSome, Ok, true};
+ghost use Rattle.std.specs.Prelude.{◌≡◌, ◌≢◌, ◌+◌, ℕ, Err, IfErr, IfOk, IfSome, Ok, true};
 ghost use Rattle.ca_outside.specs.Outside.{LosesAtMost, Rose};
 ghost use Rattle.ca_run.specs.Run.{IsRead};
 ghost use Rattle.ca_run.specs.Status.{ends_reading};

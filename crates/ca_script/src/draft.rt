@@ -1,4 +1,4 @@
-ghost use Rattle.std.specs.Prelude.{◌≡◌, ◌<◌, [], length, OnOk, IfErr};
+ghost use Rattle.std.specs.Prelude.{◌≡◌, ◌<◌, [], length, OnOk};
 ghost use Rattle.ca_base.specs.declared.limits.TheConstants.{MAX_EVENTS};
 ghost use Rattle.ca_script.specs.Script as script;
 ghost use Rattle.ca_script.specs.Setup as setup;

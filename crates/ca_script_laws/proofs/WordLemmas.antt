@@ -20,7 +20,7 @@ use Rattle.ca_base.specs.declared.request.Piece.{Piece}
 use Rattle.ca_keys.specs.declared.rights.Rights.{Rights}
 use Rattle.ca_keys.specs.Spelling.{dash, perhaps, domain_text, slot_text, queue_text, key_text, address_text, rights_text}
 use Rattle.ca_base.specs.Spelling.{piece_text}
-use Rattle.ca_trace_words.specs.Words.{led, joined, commas, flags_text}
+use Rattle.ca_trace_words.specs.Words.{led, commas, flags_text}
 use Rattle.ca_trace_words.specs.Words as trace
 use Rattle.ca_reading_words.specs.Fits.{DomainFits, SlotFits, QueueFits, KeyFits, PieceFits}
 use Rattle.ca_reading_words.specs.Words.{pieces, key_in}

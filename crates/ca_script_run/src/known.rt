@@ -1,4 +1,4 @@
-ghost use Rattle.std.specs.Prelude.{◌≡◌, ◌+◌, ◌<◌, ◌^◌, ℕ, false, List, ◌∷◌, replicate, slice_set, IfOk};
+ghost use Rattle.std.specs.Prelude.{◌≡◌, ◌+◌, ◌<◌, ◌^◌, false, List, ◌∷◌, replicate, slice_set, IfOk};
 ghost use Rattle.ca_engine.specs.declared.offer.Offer.{Offer};
 ghost use Rattle.ca_engine.specs.declared.offer.Offer.TheVariants as offers;
 ghost use Rattle.ca_model.specs.declared.part_name.PartName.{PartName};

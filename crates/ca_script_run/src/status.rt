@@ -1,4 +1,4 @@
-ghost use Rattle.std.specs.Prelude.{◌≡◌, ◌<◌, ◌≤◌, ◌^◌, drop, length};
+ghost use Rattle.std.specs.Prelude.{◌≡◌, ◌<◌, ◌^◌, drop, length};
 ghost use Rattle.ca_order.specs.OfScript as machine;
 ghost use Rattle.ca_order.specs.Order.{Stage};
 ghost use Rattle.ca_script.specs.Script.{script_value};

@@ -1,4 +1,3 @@
-ghost use Rattle.std.specs.Prelude.{◌≡◌};
 ghost use Rattle.ca_script_words.specs.Reading.{Answers};
 ghost use Rattle.ca_script_words.specs.Words as words;
 

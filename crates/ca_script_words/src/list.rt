@@ -3,7 +3,6 @@ ghost use Rattle.std.specs.Str.{bytes_eq};
 ghost use Rattle.ca_keys.specs.Spelling.{dash};
 ghost use Rattle.ca_base.specs.declared.limits.TheConstants.{MAX_PIECES};
 ghost use Rattle.std.specs.List.{list_all};
-ghost use Rattle.ca_reading_words.specs.Words.{pieces};
 ghost use Rattle.ca_script_words.specs.Reading.{Answers, each};
 ghost use Rattle.ca_script_words.specs.Words as words;
 

@@ -1,4 +1,4 @@
-ghost use Rattle.std.specs.Prelude.{◌≡◌, Bool, ℕ, Option, Some};
+ghost use Rattle.std.specs.Prelude.{◌≡◌, Bool, ℕ, Option};
 ghost use Rattle.ca_base.specs.objects.QueuePair.{QueuePair};
 ghost use Rattle.ca_base.specs.objects.SharedReceives.{SharedReceives};
 ghost use Rattle.ca_connection.specs.Layout.{Direction};

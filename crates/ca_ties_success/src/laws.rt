@@ -1,4 +1,3 @@
-ghost use Rattle.std.specs.Prelude.{◌≡◌, ℕ};
 ghost use Rattle.ca_ties_verbs.specs.ca_agree.Runs.{Comes};
 ghost use Rattle.ca_base.specs.Configuration.{Configuration};
 ghost use Rattle.ca_base.specs.declared.correspondent.Correspondent.{Correspondent};

@@ -1,4 +1,4 @@
-ghost use Rattle.std.specs.Prelude.{◌≡◌, ◌<◌, ◌++◌, ◌∷◌, [], length, map, decimal, slice_index, OnOk, IfOk, IfSome};
+ghost use Rattle.std.specs.Prelude.{◌≡◌, ◌<◌, ◌++◌, ◌∷◌, [], map, decimal, slice_index, OnOk, IfOk, IfSome};
 ghost use Rattle.hex.specs.Hex.{encode_lower, lower_digits};
 ghost use Rattle.ca_keys.specs.Spelling.{key_text};
 ghost use Rattle.ca_trace_words.specs.Words.{commas, hexadecimal};

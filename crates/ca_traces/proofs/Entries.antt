@@ -1,7 +1,7 @@
 -- Short forms in which the histories of traces are written, beside those of ca_model's Literals. For proofs only.
 use Rattle.std.proofs.Common.{ℕ, ◌+◌, ◌-◌, ◌*◌, nat_le, if◌then◌else◌, List, [] as none, ◌∷◌ as ◌∷ᴸ◌}
 use Prim.Native.Char.{code}
-use Prim.Native.String.{String, [], ◌∷◌}
+use Prim.Native.String.{String, ◌∷◌}
 use Rattle.ca_model.specs.declared.answer.Answer.{Answer}
 use Rattle.ca_model.specs.declared.event.Event.TheVariants as events
 use Rattle.ca_model.specs.declared.mark.Mark.{Mark}

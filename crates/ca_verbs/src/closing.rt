@@ -1,4 +1,4 @@
-ghost use Rattle.std.specs.Prelude.{◌≡◌, ◌<◌, IfErr, IfOk};
+ghost use Rattle.std.specs.Prelude.{◌<◌, IfErr, IfOk};
 ghost use Rattle.ca_base.specs.declared.limits.TheConstants.{MAX_PASSES};
 ghost use Rattle.ca_verbs.specs.Closed.{IsCauseOf, IsPassOut};
 ghost use Rattle.ca_verbs.specs.Closing.{AreRemains, IsHistoryOf, IsLawful};

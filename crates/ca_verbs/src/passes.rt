@@ -1,6 +1,4 @@
-ghost use Rattle.std.specs.Prelude.{◌≡◌, ◌++◌, ◌↔◌, ◌≤◌, ◌<◌, ℕ, IfOk, IsErr, None, OnErr, option_copied};
-ghost use Rattle.ca_fabric_machine.specs.declared.asked.Told.{Told};
-ghost use Rattle.ca_parts.specs.Lists.{Has};
+ghost use Rattle.std.specs.Prelude.{◌≡◌, ◌↔◌, ◌<◌, IfOk, IsErr, None, OnErr, option_copied};
 ghost use Rattle.ca_parts.specs.Views.{lower_half, upper_half, with_look};
 ghost use Rattle.ca_verbs.specs.Passes.{IsOf, known_of, latest_of, settings_in};
 ghost use Rattle.ca_fabric_machine.specs.Meanings.{CanFollow, StandsFor, next_of};

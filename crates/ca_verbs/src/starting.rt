@@ -1,4 +1,4 @@
-ghost use Rattle.std.specs.Prelude.{◌≡◌, ◌<◌, ◌≤◌, IfErr, IfOk, Err, None, map, length};
+ghost use Rattle.std.specs.Prelude.{◌≡◌, ◌<◌, IfErr, IfOk, Err, None, map};
 ghost use Rattle.ca_base.specs.Configuration.{configuration_in, configuration_of, part_count as count_of};
 ghost use Rattle.ca_base.specs.declared.limits.TheConstants.{MAX_PARTS};
 ghost use Rattle.ca_fabric_machine.specs.Values.{value_of};

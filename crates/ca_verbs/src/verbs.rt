@@ -1,6 +1,5 @@
 ghost use Rattle.std.specs.Prelude.{◌≡◌, [], IfErr, IfOk, OnErr, OnOk};
 ghost use Rattle.ca_fabric_machine.specs.declared.asked.Asked.TheVariants as asks;
-ghost use Rattle.ca_held.specs.HeldView.{holding};
 ghost use Rattle.ca_model.specs.declared.event.Event as model;
 ghost use Rattle.ca_model.specs.declared.event.Event.TheVariants as events;
 ghost use Rattle.ca_taking.specs.Taking.{SameRecord};

@@ -1,4 +1,4 @@
-ghost use Rattle.std.specs.Prelude.{◌≡◌, IfErr, IfOk};
+ghost use Rattle.std.specs.Prelude.{IfErr, IfOk};
 ghost use Rattle.ca_fabric_machine.specs.declared.asked.Asked.TheVariants as asks;
 ghost use Rattle.ca_model.specs.declared.event.Event as model;
 ghost use Rattle.ca_model.specs.declared.event.Event.TheVariants as events;

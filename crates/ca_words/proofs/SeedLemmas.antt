@@ -1,6 +1,6 @@
 -- A seed and a number of workers as std's parser of numbers reads them, and as the parser of command lines takes them. For
 -- proofs only.
-use Rattle.std.proofs.Common.{◌≡◌, ◌-◌, ◌^◌, ◌≤◌, ◌∙◌, sym, ℕ, Bool, true, false, List, None, Some, Ok, Err, Result, ap, refl, arith}
+use Rattle.std.proofs.Common.{◌≡◌, ◌≤◌, ◌∙◌, ℕ, Bool, true, false, List, None, Some, Ok, Err, Result, ap, refl, arith}
 use Rattle.std.specs.Result.{result_ok}
 use Rattle.std.specs.Str.Parse.{ParsesUnsigned}
 use Rattle.ca_base.specs.declared.limits.TheConstants.{MAX_WORKERS}

@@ -1,7 +1,6 @@
 ghost use Rattle.std.specs.Prelude.{◌≡◌, None, Some, IfSome, IsTrue};
-ghost use Rattle.std.specs.Option.{option_copied};
 ghost use Rattle.ca_base.specs.objects.Region.{grant_of_region};
-ghost use Rattle.ca_grant.specs.Parts.{IsOfAdapter, LiesInRegion, LiesWithin, grant_of_parts};
+ghost use Rattle.ca_grant.specs.Parts.{LiesWithin};
 ghost use Rattle.ca_grant.specs.Reaching.{IsPacketAsk};
 
 use super::text_is;

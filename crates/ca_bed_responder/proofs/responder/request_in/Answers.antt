@@ -1,4 +1,4 @@
-use Rattle.std.proofs.Common.{IfSome, option_copied, rules, subst}
+use Rattle.std.proofs.Common.{IfSome, rules, subst}
 use Rattle.ca_operations.specs.Taking.{MayEnd}
 use Rattle.ca_bed_reach.specs.SmallReach.{IsEndHere, sight_of}
 use Rattle.ca_bed_responder.proofs.responder.request_in.Goals as goal

@@ -1,4 +1,3 @@
-use Rattle.std.proofs.Common.{◌≡◌}
 use Rattle.ca_bed_requester.specs.Bed as beds
 use Rattle.ca_tests_requester.proofs.tests.go_on.Given as goal
 

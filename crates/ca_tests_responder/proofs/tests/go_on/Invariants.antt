@@ -1,4 +1,3 @@
-use Rattle.std.proofs.Common.{◌≡◌}
 use Rattle.ca_bed_responder.specs.Responder as responders
 use Rattle.ca_tests_responder.proofs.tests.go_on.Given as goal
 

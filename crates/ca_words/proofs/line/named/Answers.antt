@@ -1,4 +1,4 @@
-use Rattle.std.proofs.Common.{◌≡◌, ◌∙◌, sym}
+use Rattle.std.proofs.Common.{◌∙◌, sym}
 use Rattle.std.proofs.lemmas.Result.{IfOk-weaker}
 use Rattle.ca_words.proofs.MetLemmas.{alone-met, make-met, race-met}
 use Rattle.clap.specs.Words.{found_of}

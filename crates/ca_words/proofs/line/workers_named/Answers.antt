@@ -1,5 +1,5 @@
 use Rattle.std.proofs.Common.{◌∙◌, arith, sym}
-use Rattle.ca_words.proofs.SeedLemmas.{workers-outside, workers-parsed, workers-unread}
+use Rattle.ca_words.proofs.SeedLemmas.{workers-parsed, workers-unread}
 use Rattle.ca_words.proofs.line.workers_named.Goals as goal
 
 pub returns-in_err-workers-clause-value : goal.returns-in_err-workers-clause-value
