@@ -3,13 +3,9 @@ ghost use Rattle.ca_reading_words.specs.Words.{Reads, GivesAs};
 ghost use Rattle.ca_reading_lines.specs.Answers as reading;
 
 use ca_base::limits::MAX_POLLED;
-use ca_base::{Completion, Verdict};
-use ca_model::Answer;
-use ca_reading_words::{
-    Pieces, Stop, is_name, take_denial, take_hex, take_key, take_operation, take_perhaps_key,
-    take_perhaps_u32, take_queue, take_refusal, take_side, take_state, take_status, take_u8,
-    take_u16, take_u32, take_u64,
-};
+use ca_base::{Completion, Denial, Key, QueueId, State, Verdict, WcOp, WcStatus};
+use ca_model::{Answer, Refusal};
+use ca_reading_words::{Pieces, Stop, is_name, take_hex, take_side};
 use ca_trace::Told;
 use std::alloc::Global;
 
@@ -18,10 +14,10 @@ use std::alloc::Global;
 fn state_at(words: &mut Pieces) -> Result<Told, Stop>
     ensures { Reads (λ x. x) result words.new (reading.state_at words.old) }
 {
-    let state = take_state(words)?;
-    let incarnation = take_u32(words)?;
-    let sends = take_u16(words)?;
-    let receives = take_u16(words)?;
+    let state = words.take::<State>()?;
+    let incarnation = words.take::<u32>()?;
+    let sends = words.take::<u16>()?;
+    let receives = words.take::<u16>()?;
     Ok(Told::Whole(Answer::Query {
         state,
         incarnation,
@@ -35,7 +31,7 @@ fn state_at(words: &mut Pieces) -> Result<Told, Stop>
 fn polled_at(words: &mut Pieces) -> Result<Told, Stop>
     ensures { Reads (λ x. x) result words.new (reading.polled_at words.old) }
 {
-    let n = take_u8(words)?;
+    let n = words.take::<u8>()?;
     if usize::from(n) <= MAX_POLLED {
         Ok(Told::Polled(n))
     } else {
@@ -52,17 +48,17 @@ pub(crate) fn answer_at(alloc: Global, words: &mut Pieces) -> Result<Told, Stop>
     if is_name(name, "ok") {
         Ok(Told::Whole(Answer::Fine))
     } else if is_name(name, "key") {
-        let key = take_key(words)?;
+        let key = words.take::<Key>()?;
         Ok(Told::Whole(Answer::Key(key)))
     } else if is_name(name, "qp") {
-        let number = take_u32(words)?;
-        let incarnation = take_u32(words)?;
+        let number = words.take::<u32>()?;
+        let incarnation = words.take::<u32>()?;
         Ok(Told::Whole(Answer::Queue {
             number,
             incarnation,
         }))
     } else if is_name(name, "posted") {
-        let key = take_perhaps_key(words)?;
+        let key = words.take::<Option<Key>>()?;
         Ok(Told::Whole(Answer::Posted(key)))
     } else if is_name(name, "polled") {
         polled_at(words)
@@ -72,7 +68,7 @@ pub(crate) fn answer_at(alloc: Global, words: &mut Pieces) -> Result<Told, Stop>
         let bytes = take_hex(alloc, words)?;
         Ok(Told::Whole(Answer::Loaded(bytes)))
     } else if is_name(name, "refused") {
-        let refusal = take_refusal(words)?;
+        let refusal = words.take::<Refusal>()?;
         Ok(Told::Whole(Answer::Refused(refusal)))
     } else {
         Err(Stop::Outside)
@@ -84,15 +80,15 @@ pub(crate) fn answer_at(alloc: Global, words: &mut Pieces) -> Result<Told, Stop>
 pub(crate) fn completion_at(words: &mut Pieces) -> Result<Completion, Stop>
     ensures { Reads (λ x. x) result words.new (reading.completion_at words.old) }
 {
-    let queue = take_queue(words)?;
+    let queue = words.take::<QueueId>()?;
     let receive = take_side(words)?;
-    let place = take_u64(words)?;
-    let id = take_u64(words)?;
-    let op = take_operation(words)?;
-    let status = take_status(words)?;
-    let bytes = take_u32(words)?;
-    let imm = take_perhaps_u32(words)?;
-    let invalidated = take_perhaps_key(words)?;
+    let place = words.take::<u64>()?;
+    let id = words.take::<u64>()?;
+    let op = words.take::<WcOp>()?;
+    let status = words.take::<WcStatus>()?;
+    let bytes = words.take::<u32>()?;
+    let imm = words.take::<Option<u32>>()?;
+    let invalidated = words.take::<Option<Key>>()?;
     Ok(Completion {
         id,
         queue,
@@ -119,12 +115,12 @@ pub(crate) fn verdict_at(alloc: Global, words: &mut Pieces) -> Result<Verdict, S
         let bytes = take_hex(alloc, words)?;
         Ok(Verdict::Wrote(bytes))
     } else if is_name(name, "found") {
-        let found = take_u64(words)?;
+        let found = words.take::<u64>()?;
         let _ = words.take_word()?;
-        let put = take_u64(words)?;
+        let put = words.take::<u64>()?;
         Ok(Verdict::Swapped { found, put })
     } else if is_name(name, "denied") {
-        let denial = take_denial(words)?;
+        let denial = words.take::<Denial>()?;
         Ok(Verdict::Denied(denial))
     } else {
         Err(Stop::Outside)

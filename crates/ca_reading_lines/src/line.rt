@@ -10,11 +10,11 @@ ghost use Rattle.ca_reading_lines.specs.Calls as calls;
 
 use crate::answer::{answer_at, completion_at};
 use crate::mark::mark_at;
+use ca_base::{Lot, QueueId};
 use ca_model::Event;
 use ca_reading_verbs::verb_at;
 use ca_reading_words::{
     Pieces, Stop, is_name, lettered_u32_in, lettered_u64_in, take_alarm, take_lettered_u32,
-    take_lot, take_queue, take_u64,
 };
 use ca_trace::{Line, prints_as};
 use std::alloc::Global;
@@ -25,26 +25,26 @@ fn turn_at(name: &[u8], words: &mut Pieces) -> Result<Event, Stop>
     ensures { Gives result (reading.turn_at name.now words.old) }
 {
     if is_name(name, "request") {
-        let queue = take_queue(words)?;
-        let lot = take_lot(words)?;
+        let queue = words.take::<QueueId>()?;
+        let lot = words.take::<Lot>()?;
         Ok(Event::Request { queue, lot })
     } else if is_name(name, "respond") {
-        let queue = take_queue(words)?;
-        let lot = take_lot(words)?;
+        let queue = words.take::<QueueId>()?;
+        let lot = words.take::<Lot>()?;
         Ok(Event::Respond { queue, lot })
     } else if is_name(name, "deliver") {
-        let queue = take_queue(words)?;
-        let index = take_u64(words)?;
+        let queue = words.take::<QueueId>()?;
+        let index = words.take::<u64>()?;
         Ok(Event::Deliver { queue, index })
     } else if is_name(name, "timeout") {
-        let queue = take_queue(words)?;
+        let queue = words.take::<QueueId>()?;
         let silent = take_alarm(words)?;
         Ok(Event::Timeout {
             queue,
             hasten: !silent,
         })
     } else if is_name(name, "wake") {
-        let queue = take_queue(words)?;
+        let queue = words.take::<QueueId>()?;
         Ok(Event::RnrWake { queue })
     } else {
         Err(Stop::Outside)
@@ -122,7 +122,7 @@ fn line_at(alloc: Global, words: &mut Pieces) -> Result<Line, Stop>
         return inner_at(alloc, words);
     }
     if is_name(first, "end") {
-        return Ok(Line::End(take_u64(words)?));
+        return Ok(Line::End(words.take::<u64>()?));
     }
     head_at(alloc, first, words)
 }

@@ -3,12 +3,10 @@ ghost use Rattle.ca_reading_words.specs.Words.{Gives};
 ghost use Rattle.ca_reading_lines.specs.Reading as reading;
 
 use crate::answer::{completion_at, verdict_at};
-use ca_base::{Grant, Place};
-use ca_model::Mark;
+use ca_base::{DomainId, Grant, Key, Kind, OpRefusal, Place, QueueId, Rights};
+use ca_model::{Drop1, Mark};
 use ca_reading_words::{
-    Pieces, Stop, is_name, take_address, take_alarm, take_buffer, take_domain, take_drop, take_hex,
-    take_key, take_kind, take_object, take_perhaps_cause, take_perhaps_u64, take_queue,
-    take_queues, take_rights, take_runs, take_u8, take_u32,
+    Pieces, Stop, is_name, take_address, take_alarm, take_hex, take_object, take_queues, take_runs,
 };
 use std::alloc::Global;
 
@@ -17,13 +15,13 @@ use std::alloc::Global;
 fn granted_at(alloc: Global, words: &mut Pieces) -> Result<Mark, Stop>
     ensures { Gives result (reading.granted_at words.old) }
 {
-    let domain = take_domain(words)?;
-    let key = take_key(words)?;
+    let domain = words.take::<DomainId>()?;
+    let key = words.take::<Key>()?;
     let local = take_object(words)?;
     let queue = take_queues(words)?;
     let address = take_address(words)?;
-    let length = take_u32(words)?;
-    let rights = take_rights(words)?;
+    let length = words.take::<u32>()?;
+    let rights = words.take::<Rights>()?;
     let runs = take_runs(alloc, words)?;
     Ok(Mark::Granted(Grant {
         key,
@@ -42,13 +40,13 @@ fn granted_at(alloc: Global, words: &mut Pieces) -> Result<Mark, Stop>
 fn remote_at(alloc: Global, words: &mut Pieces) -> Result<Mark, Stop>
     ensures { Gives result (reading.remote_at words.old) }
 {
-    let queue = take_queue(words)?;
-    let domain = take_domain(words)?;
-    let envelope = take_perhaps_u64(words)?;
-    let key = take_key(words)?;
-    let kind = take_kind(words)?;
+    let queue = words.take::<QueueId>()?;
+    let domain = words.take::<DomainId>()?;
+    let envelope = words.take::<Option<u64>>()?;
+    let key = words.take::<Key>()?;
+    let kind = words.take::<Kind>()?;
     let address = take_address(words)?;
-    let length = take_u32(words)?;
+    let length = words.take::<u32>()?;
     let verdict = verdict_at(alloc, words)?;
     Ok(Mark::Remote {
         queue,
@@ -67,12 +65,12 @@ fn remote_at(alloc: Global, words: &mut Pieces) -> Result<Mark, Stop>
 fn local_mark_at(alloc: Global, words: &mut Pieces) -> Result<Mark, Stop>
     ensures { Gives result (reading.local_mark_at words.old) }
 {
-    let queue = take_queue(words)?;
-    let domain = take_domain(words)?;
-    let key = take_key(words)?;
-    let kind = take_kind(words)?;
+    let queue = words.take::<QueueId>()?;
+    let domain = words.take::<DomainId>()?;
+    let key = words.take::<Key>()?;
+    let kind = words.take::<Kind>()?;
     let address = take_address(words)?;
-    let length = take_u32(words)?;
+    let length = words.take::<u32>()?;
     let verdict = verdict_at(alloc, words)?;
     Ok(Mark::Local {
         queue,
@@ -90,8 +88,8 @@ fn local_mark_at(alloc: Global, words: &mut Pieces) -> Result<Mark, Stop>
 fn stored_at(alloc: Global, words: &mut Pieces) -> Result<Mark, Stop>
     ensures { Gives result (reading.stored_at words.old) }
 {
-    let (adapter, buffer) = take_buffer(words)?;
-    let offset = take_u32(words)?;
+    let (adapter, buffer) = words.take::<(u8, u16)>()?;
+    let offset = words.take::<u32>()?;
     let bytes = take_hex(alloc, words)?;
     let place = Place {
         adapter,
@@ -106,10 +104,10 @@ fn stored_at(alloc: Global, words: &mut Pieces) -> Result<Mark, Stop>
 fn sent_at(alloc: Global, words: &mut Pieces) -> Result<Mark, Stop>
     ensures { Gives result (reading.sent_at words.old) }
 {
-    let source = take_queue(words)?;
-    let target = take_queue(words)?;
-    let index = take_perhaps_u64(words)?;
-    let request = take_perhaps_u64(words)?;
+    let source = words.take::<QueueId>()?;
+    let target = words.take::<QueueId>()?;
+    let index = words.take::<Option<u64>>()?;
+    let request = words.take::<Option<u64>>()?;
     let bytes = take_hex(alloc, words)?;
     Ok(Mark::Sent {
         source,
@@ -126,7 +124,7 @@ fn done_at(words: &mut Pieces) -> Result<Mark, Stop>
     ensures { Gives result (reading.done_at words.old) }
 {
     let completion = completion_at(words)?;
-    let cause = take_perhaps_cause(words)?;
+    let cause = words.take::<Option<OpRefusal>>()?;
     let queue = completion.queue;
     Ok(Mark::Done {
         queue,
@@ -141,19 +139,19 @@ fn passing_at(name: &[u8], words: &mut Pieces) -> Result<Mark, Stop>
     ensures { Gives result (reading.passing_at name.now words.old) }
 {
     if is_name(name, "lost") {
-        let target = take_queue(words)?;
-        let index = take_perhaps_u64(words)?;
+        let target = words.take::<QueueId>()?;
+        let index = words.take::<Option<u64>>()?;
         Ok(Mark::Lost { target, index })
     } else if is_name(name, "arrived") {
-        let target = take_queue(words)?;
-        let index = take_perhaps_u64(words)?;
+        let target = words.take::<QueueId>()?;
+        let index = words.take::<Option<u64>>()?;
         Ok(Mark::Arrived { target, index })
     } else if is_name(name, "dropped") {
-        let target = take_queue(words)?;
-        let cause = take_drop(words)?;
+        let target = words.take::<QueueId>()?;
+        let cause = words.take::<Drop1>()?;
         Ok(Mark::Dropped { target, cause })
     } else if is_name(name, "timer") {
-        let queue = take_queue(words)?;
+        let queue = words.take::<QueueId>()?;
         let silent = take_alarm(words)?;
         Ok(Mark::Timer { queue, silent })
     } else {
@@ -169,8 +167,8 @@ pub(crate) fn mark_at(alloc: Global, name: &[u8], words: &mut Pieces) -> Result<
     if is_name(name, "granted") {
         granted_at(alloc, words)
     } else if is_name(name, "revoked") {
-        let adapter = take_u8(words)?;
-        let key = take_key(words)?;
+        let adapter = words.take::<u8>()?;
+        let key = words.take::<Key>()?;
         Ok(Mark::Revoked { adapter, key })
     } else if is_name(name, "remote") {
         remote_at(alloc, words)

@@ -2,21 +2,21 @@ ghost use Rattle.std.specs.Prelude.{◌≡◌};
 ghost use Rattle.ca_reading_words.specs.Words.{Reads, GivesAs};
 ghost use Rattle.ca_reading_verbs.specs.Verbs as reading;
 
-use ca_base::Change;
+use ca_base::{Change, QueueId, Slot};
 use ca_model::Verb;
-use ca_reading_words::{Pieces, Stop, is_name, take_queue, take_slot, take_u8, take_u16, take_u32};
+use ca_reading_words::{Pieces, Stop, is_name};
 
 /// A change to Ready to Receive.
 #[tactic(auto, unfolding(crate::specs::Verbs::rtr_at))]
 fn rtr_at(words: &mut Pieces) -> Result<Verb, Stop>
     ensures { Reads (λ x. x) result words.new (reading.rtr_at words.old) }
 {
-    let slot = take_slot(words)?;
-    let peer = take_queue(words)?;
-    let incarnation = take_u32(words)?;
-    let psn = take_u32(words)?;
-    let mtu = take_u16(words)?;
-    let rnr_code = take_u8(words)?;
+    let slot = words.take::<Slot>()?;
+    let peer = words.take::<QueueId>()?;
+    let incarnation = words.take::<u32>()?;
+    let psn = words.take::<u32>()?;
+    let mtu = words.take::<u16>()?;
+    let rnr_code = words.take::<u8>()?;
     let change = Change::Rtr {
         peer,
         incarnation,
@@ -32,11 +32,11 @@ fn rtr_at(words: &mut Pieces) -> Result<Verb, Stop>
 fn rts_at(words: &mut Pieces) -> Result<Verb, Stop>
     ensures { Reads (λ x. x) result words.new (reading.rts_at words.old) }
 {
-    let slot = take_slot(words)?;
-    let psn = take_u32(words)?;
-    let retry = take_u8(words)?;
-    let rnr_retry = take_u8(words)?;
-    let reads = take_u8(words)?;
+    let slot = words.take::<Slot>()?;
+    let psn = words.take::<u32>()?;
+    let retry = words.take::<u8>()?;
+    let rnr_retry = words.take::<u8>()?;
+    let reads = words.take::<u8>()?;
     let change = Change::Rts {
         psn,
         retry,
@@ -51,7 +51,7 @@ fn rts_at(words: &mut Pieces) -> Result<Verb, Stop>
 fn plain_change_at(change: Change, words: &mut Pieces) -> Result<Verb, Stop>
     ensures { Reads (λ x. x) result words.new (reading.plain_change_at change words.old) }
 {
-    let slot = take_slot(words)?;
+    let slot = words.take::<Slot>()?;
     Ok(Verb::ModifyQp { slot, change })
 }
 

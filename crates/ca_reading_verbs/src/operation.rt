@@ -2,11 +2,8 @@ ghost use Rattle.std.specs.Prelude.{◌≡◌};
 ghost use Rattle.ca_reading_words.specs.Words.{Reads, GivesAs};
 ghost use Rattle.ca_reading_verbs.specs.Operations as reading;
 
-use ca_base::SendOp;
-use ca_reading_words::{
-    Pieces, Stop, is_name, take_address, take_key, take_pages, take_pieces, take_rights, take_u8,
-    take_u16, take_u32, take_u64,
-};
+use ca_base::{Key, Rights, SendOp};
+use ca_reading_words::{Pieces, Stop, is_name, take_address, take_pages, take_pieces};
 use std::alloc::Global;
 
 /// A SEND.
@@ -23,7 +20,7 @@ fn send_at(alloc: Global, words: &mut Pieces) -> Result<SendOp, Stop>
 fn send_imm_at(alloc: Global, words: &mut Pieces) -> Result<SendOp, Stop>
     ensures { Reads (λ x. x) result words.new (reading.send_imm_at words.old) }
 {
-    let imm = take_u32(words)?;
+    let imm = words.take::<u32>()?;
     let list = take_pieces(alloc, words)?;
     Ok(SendOp::SendImm { imm, list })
 }
@@ -33,7 +30,7 @@ fn send_imm_at(alloc: Global, words: &mut Pieces) -> Result<SendOp, Stop>
 fn send_inv_at(alloc: Global, words: &mut Pieces) -> Result<SendOp, Stop>
     ensures { Reads (λ x. x) result words.new (reading.send_inv_at words.old) }
 {
-    let key = take_key(words)?;
+    let key = words.take::<Key>()?;
     let list = take_pieces(alloc, words)?;
     Ok(SendOp::SendInv { key, list })
 }
@@ -44,7 +41,7 @@ fn write_at(alloc: Global, words: &mut Pieces) -> Result<SendOp, Stop>
     ensures { Reads (λ x. x) result words.new (reading.write_at words.old) }
 {
     let address = take_address(words)?;
-    let key = take_key(words)?;
+    let key = words.take::<Key>()?;
     let list = take_pieces(alloc, words)?;
     Ok(SendOp::Write { address, key, list })
 }
@@ -55,8 +52,8 @@ fn write_imm_at(alloc: Global, words: &mut Pieces) -> Result<SendOp, Stop>
     ensures { Reads (λ x. x) result words.new (reading.write_imm_at words.old) }
 {
     let address = take_address(words)?;
-    let key = take_key(words)?;
-    let imm = take_u32(words)?;
+    let key = words.take::<Key>()?;
+    let imm = words.take::<u32>()?;
     let list = take_pieces(alloc, words)?;
     Ok(SendOp::WriteImm {
         address,
@@ -72,7 +69,7 @@ fn read_at(alloc: Global, words: &mut Pieces) -> Result<SendOp, Stop>
     ensures { Reads (λ x. x) result words.new (reading.read_at words.old) }
 {
     let address = take_address(words)?;
-    let key = take_key(words)?;
+    let key = words.take::<Key>()?;
     let list = take_pieces(alloc, words)?;
     Ok(SendOp::Read { address, key, list })
 }
@@ -83,9 +80,9 @@ fn cmp_swap_at(alloc: Global, words: &mut Pieces) -> Result<SendOp, Stop>
     ensures { Reads (λ x. x) result words.new (reading.cmp_swap_at words.old) }
 {
     let address = take_address(words)?;
-    let key = take_key(words)?;
-    let compare = take_u64(words)?;
-    let swap = take_u64(words)?;
+    let key = words.take::<Key>()?;
+    let compare = words.take::<u64>()?;
+    let swap = words.take::<u64>()?;
     let list = take_pieces(alloc, words)?;
     Ok(SendOp::CmpSwap {
         address,
@@ -102,8 +99,8 @@ fn fetch_add_at(alloc: Global, words: &mut Pieces) -> Result<SendOp, Stop>
     ensures { Reads (λ x. x) result words.new (reading.fetch_add_at words.old) }
 {
     let address = take_address(words)?;
-    let key = take_key(words)?;
-    let add = take_u64(words)?;
+    let key = words.take::<Key>()?;
+    let add = words.take::<u64>()?;
     let list = take_pieces(alloc, words)?;
     Ok(SendOp::FetchAdd {
         address,
@@ -118,11 +115,11 @@ fn fetch_add_at(alloc: Global, words: &mut Pieces) -> Result<SendOp, Stop>
 fn bind1_at(words: &mut Pieces) -> Result<SendOp, Stop>
     ensures { Reads (λ x. x) result words.new (reading.bind1_at words.old) }
 {
-    let window = take_u16(words)?;
-    let region = take_key(words)?;
+    let window = words.take::<u16>()?;
+    let region = words.take::<Key>()?;
     let address = take_address(words)?;
-    let length = take_u32(words)?;
-    let rights = take_rights(words)?;
+    let length = words.take::<u32>()?;
+    let rights = words.take::<Rights>()?;
     Ok(SendOp::Bind1 {
         window,
         region,
@@ -137,12 +134,12 @@ fn bind1_at(words: &mut Pieces) -> Result<SendOp, Stop>
 fn bind2_at(words: &mut Pieces) -> Result<SendOp, Stop>
     ensures { Reads (λ x. x) result words.new (reading.bind2_at words.old) }
 {
-    let window = take_u16(words)?;
-    let region = take_key(words)?;
-    let low = take_u8(words)?;
+    let window = words.take::<u16>()?;
+    let region = words.take::<Key>()?;
+    let low = words.take::<u8>()?;
     let address = take_address(words)?;
-    let length = take_u32(words)?;
-    let rights = take_rights(words)?;
+    let length = words.take::<u32>()?;
+    let rights = words.take::<Rights>()?;
     Ok(SendOp::Bind2 {
         window,
         region,
@@ -158,12 +155,12 @@ fn bind2_at(words: &mut Pieces) -> Result<SendOp, Stop>
 fn fast_reg_at(alloc: Global, words: &mut Pieces) -> Result<SendOp, Stop>
     ensures { Reads (λ x. x) result words.new (reading.fast_reg_at words.old) }
 {
-    let region = take_u16(words)?;
-    let low = take_u8(words)?;
-    let buffer = take_u16(words)?;
+    let region = words.take::<u16>()?;
+    let low = words.take::<u8>()?;
+    let buffer = words.take::<u16>()?;
     let address = take_address(words)?;
-    let length = take_u32(words)?;
-    let rights = take_rights(words)?;
+    let length = words.take::<u32>()?;
+    let rights = words.take::<Rights>()?;
     let pages = take_pages(alloc, words)?;
     Ok(SendOp::FastReg {
         region,
@@ -181,7 +178,7 @@ fn fast_reg_at(alloc: Global, words: &mut Pieces) -> Result<SendOp, Stop>
 fn local_inv_at(words: &mut Pieces) -> Result<SendOp, Stop>
     ensures { Reads (λ x. x) result words.new (reading.local_inv_at words.old) }
 {
-    let key = take_key(words)?;
+    let key = words.take::<Key>()?;
     Ok(SendOp::LocalInv { key })
 }
 

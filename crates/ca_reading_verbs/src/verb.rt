@@ -4,12 +4,9 @@ ghost use Rattle.ca_reading_verbs.specs.Verbs as reading;
 
 use crate::change::change_at;
 use crate::operation::operation_at;
-use ca_base::{RecvRequest, SendRequest, Slot};
+use ca_base::{DomainId, QueueId, RecvRequest, Rights, SendRequest, Slot};
 use ca_model::Verb;
-use ca_reading_words::{
-    Pieces, Stop, has, is_name, take_buffer, take_domain, take_hex, take_perhaps_u16, take_pieces,
-    take_queue, take_rights, take_slot, take_u8, take_u16, take_u32, take_u64,
-};
+use ca_reading_words::{Pieces, Stop, has, is_name, take_hex, take_pieces};
 use std::alloc::Global;
 
 /// A registration of a memory region.
@@ -17,11 +14,11 @@ use std::alloc::Global;
 fn reg_at(words: &mut Pieces) -> Result<Verb, Stop>
     ensures { Reads (λ x. x) result words.new (reading.reg_at words.old) }
 {
-    let slot = take_slot(words)?;
-    let buffer = take_u16(words)?;
-    let offset = take_u32(words)?;
-    let length = take_u32(words)?;
-    let rights = take_rights(words)?;
+    let slot = words.take::<Slot>()?;
+    let buffer = words.take::<u16>()?;
+    let offset = words.take::<u32>()?;
+    let length = words.take::<u32>()?;
+    let rights = words.take::<Rights>()?;
     Ok(Verb::RegMr {
         slot,
         buffer,
@@ -36,12 +33,12 @@ fn reg_at(words: &mut Pieces) -> Result<Verb, Stop>
 fn qp_at(words: &mut Pieces) -> Result<Verb, Stop>
     ensures { Reads (λ x. x) result words.new (reading.qp_at words.old) }
 {
-    let slot = take_slot(words)?;
-    let send_cq = take_u16(words)?;
-    let recv_cq = take_u16(words)?;
-    let send_depth = take_u16(words)?;
-    let recv_depth = take_u16(words)?;
-    let srq = take_perhaps_u16(words)?;
+    let slot = words.take::<Slot>()?;
+    let send_cq = words.take::<u16>()?;
+    let recv_cq = words.take::<u16>()?;
+    let send_depth = words.take::<u16>()?;
+    let recv_depth = words.take::<u16>()?;
+    let srq = words.take::<Option<u16>>()?;
     Ok(Verb::CreateQp {
         slot,
         send_cq,
@@ -57,8 +54,8 @@ fn qp_at(words: &mut Pieces) -> Result<Verb, Stop>
 fn post_at(alloc: Global, words: &mut Pieces) -> Result<Verb, Stop>
     ensures { Reads (λ x. x) result words.new (reading.post_at words.old) }
 {
-    let slot = take_slot(words)?;
-    let id = take_u64(words)?;
+    let slot = words.take::<Slot>()?;
+    let id = words.take::<u64>()?;
     let flags = words.take_word()?;
     let signalled = has(b's', flags);
     let fence = has(b'f', flags);
@@ -79,8 +76,8 @@ fn post_at(alloc: Global, words: &mut Pieces) -> Result<Verb, Stop>
 fn receive_at(alloc: Global, words: &mut Pieces) -> Result<(Slot, RecvRequest), Stop>
     ensures { Reads (λ x. x) result words.new (reading.receive_at words.old) }
 {
-    let slot = take_slot(words)?;
-    let id = take_u64(words)?;
+    let slot = words.take::<Slot>()?;
+    let id = words.take::<u64>()?;
     let list = take_pieces(alloc, words)?;
     Ok((slot, RecvRequest { id, list }))
 }
@@ -93,7 +90,7 @@ fn least_at(words: &mut Pieces) -> Result<u8, Stop>
     if is_name(words.first_word()?, "->") {
         return Ok(0);
     }
-    take_u8(words)
+    words.take::<u8>()
 }
 
 /// A poll.
@@ -101,8 +98,8 @@ fn least_at(words: &mut Pieces) -> Result<u8, Stop>
 fn poll_at(words: &mut Pieces) -> Result<Verb, Stop>
     ensures { Reads (λ x. x) result words.new (reading.poll_at words.old) }
 {
-    let slot = take_slot(words)?;
-    let n = take_u8(words)?;
+    let slot = words.take::<Slot>()?;
+    let n = words.take::<u8>()?;
     let least = least_at(words)?;
     Ok(Verb::Poll { slot, n, least })
 }
@@ -112,8 +109,8 @@ fn poll_at(words: &mut Pieces) -> Result<Verb, Stop>
 fn wait_at(words: &mut Pieces) -> Result<Verb, Stop>
     ensures { Reads (λ x. x) result words.new (reading.wait_at words.old) }
 {
-    let slot = take_slot(words)?;
-    let n = take_u8(words)?;
+    let slot = words.take::<Slot>()?;
+    let n = words.take::<u8>()?;
     Ok(Verb::Poll { slot, n, least: n })
 }
 
@@ -122,8 +119,8 @@ fn wait_at(words: &mut Pieces) -> Result<Verb, Stop>
 fn store_at(alloc: Global, words: &mut Pieces) -> Result<Verb, Stop>
     ensures { Reads (λ x. x) result words.new (reading.store_at words.old) }
 {
-    let (adapter, buffer) = take_buffer(words)?;
-    let offset = take_u32(words)?;
+    let (adapter, buffer) = words.take::<(u8, u16)>()?;
+    let offset = words.take::<u32>()?;
     let bytes = take_hex(alloc, words)?;
     Ok(Verb::Store {
         adapter,
@@ -138,9 +135,9 @@ fn store_at(alloc: Global, words: &mut Pieces) -> Result<Verb, Stop>
 fn load_at(words: &mut Pieces) -> Result<Verb, Stop>
     ensures { Reads (λ x. x) result words.new (reading.load_at words.old) }
 {
-    let (adapter, buffer) = take_buffer(words)?;
-    let offset = take_u32(words)?;
-    let length = take_u32(words)?;
+    let (adapter, buffer) = words.take::<(u8, u16)>()?;
+    let offset = words.take::<u32>()?;
+    let length = words.take::<u32>()?;
     Ok(Verb::Load {
         adapter,
         buffer,
@@ -154,7 +151,7 @@ fn load_at(words: &mut Pieces) -> Result<Verb, Stop>
 fn inject_at(alloc: Global, words: &mut Pieces) -> Result<Verb, Stop>
     ensures { Reads (λ x. x) result words.new (reading.inject_at words.old) }
 {
-    let queue = take_queue(words)?;
+    let queue = words.take::<QueueId>()?;
     let bytes = take_hex(alloc, words)?;
     Ok(Verb::Inject { queue, bytes })
 }
@@ -193,28 +190,28 @@ fn object_at(alloc: Global, name: &[u8], words: &mut Pieces) -> Result<Verb, Sto
     ensures { Reads (λ x. x) result words.new (reading.object_at name.now words.old) }
 {
     if is_name(name, "pd") {
-        let domain = take_domain(words)?;
+        let domain = words.take::<DomainId>()?;
         Ok(Verb::AllocPd { domain })
     } else if is_name(name, "unpd") {
-        let domain = take_domain(words)?;
+        let domain = words.take::<DomainId>()?;
         Ok(Verb::DeallocPd { domain })
     } else if is_name(name, "dereg") {
-        let slot = take_slot(words)?;
+        let slot = words.take::<Slot>()?;
         Ok(Verb::DeregMr { slot })
     } else if is_name(name, "unmw") {
-        let slot = take_slot(words)?;
+        let slot = words.take::<Slot>()?;
         Ok(Verb::DeallocMw { slot })
     } else if is_name(name, "uncq") {
-        let slot = take_slot(words)?;
+        let slot = words.take::<Slot>()?;
         Ok(Verb::DestroyCq { slot })
     } else if is_name(name, "unsrq") {
-        let slot = take_slot(words)?;
+        let slot = words.take::<Slot>()?;
         Ok(Verb::DestroySrq { slot })
     } else if is_name(name, "query") {
-        let slot = take_slot(words)?;
+        let slot = words.take::<Slot>()?;
         Ok(Verb::QueryQp { slot })
     } else if is_name(name, "unqp") {
-        let slot = take_slot(words)?;
+        let slot = words.take::<Slot>()?;
         Ok(Verb::DestroyQp { slot })
     } else {
         work_at(alloc, name, words)
@@ -232,20 +229,20 @@ pub fn verb_at(alloc: Global, words: &mut Pieces) -> Result<Verb, Stop>
     } else if is_name(name, "qp") {
         qp_at(words)
     } else if is_name(name, "mr") {
-        let slot = take_slot(words)?;
-        let pages = take_u16(words)?;
+        let slot = words.take::<Slot>()?;
+        let pages = words.take::<u16>()?;
         Ok(Verb::AllocMr { slot, pages })
     } else if is_name(name, "mw") {
-        let slot = take_slot(words)?;
-        let kind = take_u8(words)?;
+        let slot = words.take::<Slot>()?;
+        let kind = words.take::<u8>()?;
         Ok(Verb::AllocMw { slot, kind })
     } else if is_name(name, "cq") {
-        let slot = take_slot(words)?;
-        let capacity = take_u16(words)?;
+        let slot = words.take::<Slot>()?;
+        let capacity = words.take::<u16>()?;
         Ok(Verb::CreateCq { slot, capacity })
     } else if is_name(name, "srq") {
-        let slot = take_slot(words)?;
-        let depth = take_u16(words)?;
+        let slot = words.take::<Slot>()?;
+        let depth = words.take::<u16>()?;
         Ok(Verb::CreateSrq { slot, depth })
     } else {
         object_at(alloc, name, words)

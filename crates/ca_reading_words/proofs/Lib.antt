@@ -7,3 +7,4 @@ pub mod DigitLemmas
 pub mod ListLemmas
 pub mod NameLemmas
 pub mod FieldLemmas
+pub mod ComparedLemmas

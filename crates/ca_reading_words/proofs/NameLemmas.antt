@@ -1,5 +1,5 @@
 -- A name that is spelled is read as what it stands for, and no word that fits has a space.
-use Rattle.std.proofs.Common.{◌≡◌, ◌+◌, Bool, true, false, ◌++◌, Option, Some, None, decimal, refl, arith}
+use Rattle.std.proofs.Common.{◌≡◌, Bool, true, false, ◌++◌, Option, Some, None, decimal, refl, arith}
 use Rattle.std.specs.Prelude.{codes}
 use Rattle.std.specs.Str.{bytes_eq}
 use Rattle.ca_keys.specs.declared.access.Denial.{Denial}
@@ -33,13 +33,13 @@ use Rattle.ca_trace_words.specs.ca_model.Answers.{refusal_text, drop_text}
 use Rattle.ca_trace_words.specs.Words.{Field, Fixed, Number, Lettered, Perhaps, InAdapter, OfDomain, OfSlot, OfQueue, OfQueues, OfKey, PerhapsKey, Address, Hex, OfRights, OfFlags, OfPieces, OfPages, OfRuns, OfObject, OfSide, OfAlarm, OfKind, OfDenial, OfRefusal, OfLot, OfState, OfOperation, OfStatus, OfCause, OfDrop, word, object_text, side_text, alarm_text}
 use Rattle.ca_reading_words.specs.Fits.{plain, LotFits, Fits}
 use Rattle.ca_reading_words.specs.Words.{field, number_in, perhaps_in, piece_in, run_in}
-use Rattle.ca_reading_words.specs.Names.{object_in, side_in, alarm_in, kind_in, denial_in, lot_in, state_in, field_in, operation_in, status_in, region_error_in, window_error_in, cause_in, refusal_in, drop_in}
+use Rattle.ca_reading_words.specs.Names.{find_named, object_in, side_in, alarm_in, all_kinds, kind_in, all_denials, denial_in, lot_in, all_states, state_in, all_operations, operation_in, all_statuses, status_in, all_causes, cause_in, all_refusals, refusal_in, all_drops, drop_in}
 use Rattle.ca_reading_words.proofs.PieceLemmas.{one_piece}
 use Rattle.ca_reading_words.proofs.NumberLemmas.{number_again, number_plain, number_lacks}
 use Rattle.ca_reading_words.proofs.WordLemmas.{most_small, perhaps_again, flags_again, address_plain, all_then, hex_plain, in_adapter_plain, key_plain, list_plain, page_listed, perhaps_key_plain, piece_listed, queues_plain, rights_plain, run_listed, slot_plain}
 
 object_are : (x : Bool) → (object_in (object_text x) ≡ Some x) × (plain (object_text x) ≡ true)
-unfolding object_in
+unfolding object_in find_named
 object_are true = (refl, refl)
 object_are false = (refl, refl)
 
@@ -47,7 +47,7 @@ pub object_again : (x : Bool) → object_in (object_text x) ≡ Some x
 object_again x = (object_are x).0
 
 side_are : (x : Bool) → (side_in (side_text x) ≡ Some x) × (plain (side_text x) ≡ true)
-unfolding side_in
+unfolding side_in find_named
 side_are true = (refl, refl)
 side_are false = (refl, refl)
 
@@ -55,7 +55,7 @@ pub side_again : (x : Bool) → side_in (side_text x) ≡ Some x
 side_again x = (side_are x).0
 
 alarm_are : (x : Bool) → (alarm_in (alarm_text x) ≡ Some x) × (plain (alarm_text x) ≡ true)
-unfolding alarm_in
+unfolding alarm_in find_named
 alarm_are true = (refl, refl)
 alarm_are false = (refl, refl)
 
@@ -63,7 +63,7 @@ pub alarm_again : (x : Bool) → alarm_in (alarm_text x) ≡ Some x
 alarm_again x = (alarm_are x).0
 
 kind_are : (x : Kind) → (kind_in (kind_text x) ≡ Some x) × (plain (kind_text x) ≡ true)
-unfolding kind_in
+unfolding find_named all_kinds
 kind_are kinds.Read = (refl, refl)
 kind_are kinds.Write = (refl, refl)
 kind_are kinds.CmpSwap = (refl, refl)
@@ -73,7 +73,7 @@ pub kind_again : (x : Kind) → kind_in (kind_text x) ≡ Some x
 kind_again x = (kind_are x).0
 
 denial_are : (x : Denial) → (denial_in (denial_text x) ≡ Some x) × (plain (denial_text x) ≡ true)
-unfolding denial_in
+unfolding find_named all_denials
 denial_are denials.NoGrant = (refl, refl)
 denial_are denials.WrongQueue = (refl, refl)
 denial_are denials.NoRight = (refl, refl)
@@ -83,7 +83,7 @@ pub denial_again : (x : Denial) → denial_in (denial_text x) ≡ Some x
 denial_again x = (denial_are x).0
 
 state_are : (x : State) → (state_in (state_text x) ≡ Some x) × (plain (state_text x) ≡ true)
-unfolding state_in
+unfolding find_named all_states
 state_are states.Reset = (refl, refl)
 state_are states.Init = (refl, refl)
 state_are states.Rtr = (refl, refl)
@@ -95,7 +95,7 @@ pub state_again : (x : State) → state_in (state_text x) ≡ Some x
 state_again x = (state_are x).0
 
 operation_are : (x : WcOp) → (operation_in (operation_text x) ≡ Some x) × (plain (operation_text x) ≡ true)
-unfolding operation_in
+unfolding find_named all_operations
 operation_are operations.Send = (refl, refl)
 operation_are operations.Write = (refl, refl)
 operation_are operations.Read = (refl, refl)
@@ -111,7 +111,7 @@ pub operation_again : (x : WcOp) → operation_in (operation_text x) ≡ Some x
 operation_again x = (operation_are x).0
 
 status_are : (x : WcStatus) → (status_in (status_text x) ≡ Some x) × (plain (status_text x) ≡ true)
-unfolding status_in
+unfolding find_named all_statuses
 status_are statuses.Success = (refl, refl)
 status_are statuses.LocalLength = (refl, refl)
 status_are statuses.LocalProtection = (refl, refl)
@@ -138,7 +138,7 @@ pub lot_again : (l : Lot) → LotFits l → lot_in (lot_text l) ≡ Some l
 lot_again l h = (lot_again_of l h).0
 
 out_of_range_are : (x : ChangeField) → (refusal_in (codes "out-of-range:" ++ field_text x) ≡ Some (refusals.OutOfRange x)) × (plain (codes "out-of-range:" ++ field_text x) ≡ true)
-unfolding refusal_in field_in
+unfolding find_named all_refusals
 out_of_range_are fields.Peer = (refl, refl)
 out_of_range_are fields.Incarnation = (refl, refl)
 out_of_range_are fields.Psn = (refl, refl)
@@ -155,7 +155,7 @@ out_of_range_are fields.List = (refl, refl)
 out_of_range_are fields.Kind = (refl, refl)
 
 refusal_are : (x : Refusal) → (refusal_in (refusal_text x) ≡ Some x) × (plain (refusal_text x) ≡ true)
-unfolding refusal_in
+unfolding find_named all_refusals
 refusal_are refusals.NoSuch = (refl, refl)
 refusal_are refusals.NoDomain = (refl, refl)
 refusal_are refusals.DomainTaken = (refl, refl)
@@ -179,7 +179,7 @@ pub refusal_again : (x : Refusal) → refusal_in (refusal_text x) ≡ Some x
 refusal_again x = (refusal_are x).0
 
 drop_are : (x : Drop1) → (drop_in (drop_text x) ≡ Some x) × (plain (drop_text x) ≡ true)
-unfolding drop_in
+unfolding find_named all_drops
 drop_are (drops.Wire wire.TooShort) = (refl, refl)
 drop_are (drops.Wire wire.Version) = (refl, refl)
 drop_are (drops.Wire wire.Opcode) = (refl, refl)
@@ -195,7 +195,7 @@ pub drop_again : (x : Drop1) → drop_in (drop_text x) ≡ Some x
 drop_again x = (drop_are x).0
 
 region_cause_are : (x : RegionError) → (cause_in (op_refusal_text (causes.Region x)) ≡ Some (causes.Region x)) × (plain (op_refusal_text (causes.Region x)) ≡ true) × (bytes_eq (op_refusal_text (causes.Region x)) dash ≡ false)
-unfolding cause_in region_error_in
+unfolding find_named all_causes
 region_cause_are regions.Empty = (refl, refl, refl)
 region_cause_are regions.OutsideBuffer = (refl, refl, refl)
 region_cause_are regions.RightsNeedLocalWrite = (refl, refl, refl)
@@ -208,7 +208,7 @@ region_cause_are regions.WindowsBound = (refl, refl, refl)
 region_cause_are regions.Vacant = (refl, refl, refl)
 
 window_cause_are : (x : WindowError) → (cause_in (op_refusal_text (causes.Window x)) ≡ Some (causes.Window x)) × (plain (op_refusal_text (causes.Window x)) ≡ true) × (bytes_eq (op_refusal_text (causes.Window x)) dash ≡ false)
-unfolding cause_in window_error_in
+unfolding find_named all_causes
 window_cause_are windows.NoWindow = (refl, refl, refl)
 window_cause_are windows.WrongType = (refl, refl, refl)
 window_cause_are windows.RegionNotValid = (refl, refl, refl)

@@ -1,6 +1,7 @@
 pub mod Words
 pub mod Fits
 pub mod PiecesView
+pub mod Compared
 pub mod Names
 pub mod Fields
 -- The libraries below, handed on to those above.

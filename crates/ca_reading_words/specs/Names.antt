@@ -1,11 +1,11 @@
--- Names: the value that a name is read as. Contracts cite it.
-use Rattle.std.specs.Prelude.{ℕ, Bool, true, false, if◌then◌else◌, List, length, Option, Some, None, codes}
+-- Names: the value that a name is read as, which is that of which it is the text. Contracts cite it.
+use Rattle.std.specs.Prelude.{ℕ, Bool, true, false, if◌then◌else◌, List, [], ◌∷◌, Option, Some, None, codes}
+use Rattle.std.specs.List.{find}
 use Rattle.std.specs.Str.{bytes_eq}
 use Rattle.ca_keys.specs.declared.access.Denial.{Denial}
 use Rattle.ca_keys.specs.declared.access.Denial.TheVariants as denials
 use Rattle.ca_keys.specs.declared.access.Kind.{Kind}
 use Rattle.ca_keys.specs.declared.access.Kind.TheVariants as kinds
-use Rattle.ca_base.specs.declared.change.Field.{Field}
 use Rattle.ca_base.specs.declared.change.Field.TheVariants as fields
 use Rattle.ca_base.specs.declared.change.State.{State}
 use Rattle.ca_base.specs.declared.change.State.TheVariants as states
@@ -17,52 +17,126 @@ use Rattle.ca_base.specs.declared.lot.Lot.{Lot}
 use Rattle.ca_base.specs.declared.lot.Lot.TheVariants as lots
 use Rattle.ca_base.specs.declared.refusals.OpRefusal.{OpRefusal}
 use Rattle.ca_base.specs.declared.refusals.OpRefusal.TheVariants as causes
-use Rattle.ca_base.specs.declared.refusals.RegionError.{RegionError}
 use Rattle.ca_base.specs.declared.refusals.RegionError.TheVariants as regions
-use Rattle.ca_base.specs.declared.refusals.WindowError.{WindowError}
 use Rattle.ca_base.specs.declared.refusals.WindowError.TheVariants as windows
 use Rattle.ca_packet.specs.declared.wire_error.WireError.TheVariants as wire
 use Rattle.ca_trace_words.specs.ca_model.declared.answer.Refusal.{Refusal}
 use Rattle.ca_trace_words.specs.ca_model.declared.answer.Refusal.TheVariants as refusals
 use Rattle.ca_trace_words.specs.ca_model.declared.mark.Drop1.{Drop1}
 use Rattle.ca_trace_words.specs.ca_model.declared.mark.Drop1.TheVariants as drops
+use Rattle.ca_keys.specs.Spelling.{kind_text, denial_text}
+use Rattle.ca_base.specs.Spelling.{state_text, operation_text, status_text, op_refusal_text}
+use Rattle.ca_trace_words.specs.ca_model.Answers.{refusal_text, drop_text}
+use Rattle.ca_trace_words.specs.Words.{object_text, side_text, alarm_text}
 use Rattle.ca_reading_words.specs.Words.{◌>>=◌, pieces, next_of, field, number_in}
 
+-- the first of these values whose text a word is
+unfoldable pub find_named : {X : Type 0} → (X → List ℕ) → List X → List ℕ → Option X
+find_named text all w = find (λ x. bytes_eq w (text x)) all
+
+-- which of two texts a word is: the first, or the second
+abbrev pub choice_in : List ℕ → List ℕ → List ℕ → Option Bool
+choice_in first second w = if bytes_eq w first then Some true else if bytes_eq w second then Some false else None
+
+-- a region, or a window
 unfoldable pub object_in : List ℕ → Option Bool
-object_in w =
-    if bytes_eq w (codes "region") then Some true
-    else if bytes_eq w (codes "window") then Some false
-    else None
+object_in w = find_named object_text (true ∷ false ∷ []) w
 
+-- the receive side, or the send side
 unfoldable pub side_in : List ℕ → Option Bool
-side_in w =
-    if bytes_eq w (codes "recv") then Some true
-    else if bytes_eq w (codes "send") then Some false
-    else None
+side_in w = find_named side_text (true ∷ false ∷ []) w
 
+-- a timer that was silent, or one that was hastened
 unfoldable pub alarm_in : List ℕ → Option Bool
-alarm_in w =
-    if bytes_eq w (codes "silent") then Some true
-    else if bytes_eq w (codes "hasten") then Some false
-    else None
+alarm_in w = find_named alarm_text (true ∷ false ∷ []) w
 
-unfoldable pub kind_in : List ℕ → Option Kind
-kind_in w =
-    if bytes_eq w (codes "read") then Some kinds.Read
-    else if bytes_eq w (codes "write") then Some kinds.Write
-    else if bytes_eq w (codes "cas") then Some kinds.CmpSwap
-    else if bytes_eq w (codes "add") then Some kinds.FetchAdd
-    else None
+-- what an access does
+unfoldable pub all_kinds : List Kind
+all_kinds =
+    kinds.Read ∷ kinds.Write ∷ kinds.CmpSwap ∷ kinds.FetchAdd ∷ []
 
-unfoldable pub denial_in : List ℕ → Option Denial
-denial_in w =
-    if bytes_eq w (codes "no-grant") then Some denials.NoGrant
-    else if bytes_eq w (codes "wrong-queue") then Some denials.WrongQueue
-    else if bytes_eq w (codes "no-right") then Some denials.NoRight
-    else if bytes_eq w (codes "out-of-range") then Some denials.OutOfRange
-    else None
+abbrev pub kind_in : List ℕ → Option Kind
+kind_in w = find_named kind_text all_kinds w
 
--- a name, and behind a colon a number
+-- the part of the key check that failed
+unfoldable pub all_denials : List Denial
+all_denials =
+    denials.NoGrant ∷ denials.WrongQueue ∷ denials.NoRight ∷ denials.OutOfRange ∷ []
+
+abbrev pub denial_in : List ℕ → Option Denial
+denial_in w = find_named denial_text all_denials w
+
+-- the state of a queue pair
+unfoldable pub all_states : List State
+all_states =
+    states.Reset ∷ states.Init ∷ states.Rtr ∷ states.Rts ∷ states.Sqd ∷ states.Error ∷ []
+
+abbrev pub state_in : List ℕ → Option State
+state_in w = find_named state_text all_states w
+
+-- what the request of a completion asked for
+unfoldable pub all_operations : List WcOp
+all_operations =
+    operations.Send ∷ operations.Write ∷ operations.Read ∷ operations.CmpSwap ∷ operations.FetchAdd ∷
+    operations.Bind ∷ operations.FastReg ∷ operations.LocalInv ∷ operations.Recv ∷ operations.RecvImm ∷ []
+
+abbrev pub operation_in : List ℕ → Option WcOp
+operation_in w = find_named operation_text all_operations w
+
+-- how a request ended
+unfoldable pub all_statuses : List WcStatus
+all_statuses =
+    statuses.Success ∷ statuses.LocalLength ∷ statuses.LocalProtection ∷ statuses.Flushed ∷
+    statuses.MemoryManagement ∷ statuses.BadResponse ∷ statuses.RemoteInvalidRequest ∷ statuses.RemoteAccess ∷
+    statuses.RemoteOperation ∷ statuses.RetryExceeded ∷ statuses.RnrRetryExceeded ∷ []
+
+abbrev pub status_in : List ℕ → Option WcStatus
+status_in w = find_named status_text all_statuses w
+
+-- why a bind, a fast registration or an invalidation is refused
+unfoldable pub all_causes : List OpRefusal
+all_causes =
+    (causes.Region regions.Empty) ∷ (causes.Region regions.OutsideBuffer) ∷
+    (causes.Region regions.RightsNeedLocalWrite) ∷ (causes.Region regions.NotFree) ∷
+    (causes.Region regions.BadPages) ∷ (causes.Region regions.NotValid) ∷ (causes.Region regions.KeyDiffers) ∷
+    (causes.Region regions.NotFastRegistered) ∷ (causes.Region regions.WindowsBound) ∷
+    (causes.Region regions.Vacant) ∷ (causes.Window windows.NoWindow) ∷
+    (causes.Window windows.WrongType) ∷ (causes.Window windows.RegionNotValid) ∷
+    (causes.Window windows.NoBindRight) ∷ (causes.Window windows.RightsNeedLocalWrite) ∷
+    (causes.Window windows.OutsideRegion) ∷ (causes.Window windows.StillBound) ∷ (causes.Window windows.Empty) ∷
+    (causes.Window windows.Type1) ∷ (causes.Window windows.NotBound) ∷ (causes.Window windows.KeyDiffers) ∷
+    (causes.Window windows.WrongQueue) ∷ []
+
+abbrev pub cause_in : List ℕ → Option OpRefusal
+cause_in w = find_named op_refusal_text all_causes w
+
+-- why a verb is refused
+unfoldable pub all_refusals : List Refusal
+all_refusals =
+    refusals.NoSuch ∷ refusals.NoDomain ∷ refusals.DomainTaken ∷ refusals.DomainInUse ∷ refusals.SlotTaken ∷
+    refusals.Empty ∷ refusals.OutsideBuffer ∷ refusals.RightsNeedLocalWrite ∷ refusals.WindowsBound ∷
+    refusals.CqTooSmall ∷ refusals.CqInUse ∷ refusals.SrqInUse ∷ refusals.HasSrq ∷ refusals.TooLong ∷
+    refusals.QueueState ∷ refusals.QueueFull ∷ refusals.Transition ∷ (refusals.OutOfRange fields.Peer) ∷
+    (refusals.OutOfRange fields.Incarnation) ∷ (refusals.OutOfRange fields.Psn) ∷ (refusals.OutOfRange fields.Mtu) ∷
+    (refusals.OutOfRange fields.RnrCode) ∷ (refusals.OutOfRange fields.Retry) ∷
+    (refusals.OutOfRange fields.RnrRetry) ∷ (refusals.OutOfRange fields.Reads) ∷
+    (refusals.OutOfRange fields.Depth) ∷ (refusals.OutOfRange fields.Capacity) ∷
+    (refusals.OutOfRange fields.Pages) ∷ (refusals.OutOfRange fields.Length) ∷ (refusals.OutOfRange fields.List) ∷
+    (refusals.OutOfRange fields.Kind) ∷ []
+
+abbrev pub refusal_in : List ℕ → Option Refusal
+refusal_in w = find_named refusal_text all_refusals w
+
+-- why a packet was dropped
+unfoldable pub all_drops : List Drop1
+all_drops =
+    (drops.Wire wire.TooShort) ∷ (drops.Wire wire.Version) ∷ (drops.Wire wire.Opcode) ∷ (drops.Wire wire.Length) ∷
+    (drops.Wire wire.Pad) ∷ drops.Partition ∷ drops.Queue ∷ drops.State ∷ drops.Stale ∷ drops.Unsaved ∷ []
+
+abbrev pub drop_in : List ℕ → Option Drop1
+drop_in w = find_named drop_text all_drops w
+
+-- what the weather does to a packet: a name, or one with a number behind a colon
 unfoldable pub lot_in : List ℕ → Option Lot
 lot_in w =
     if bytes_eq w (codes "pass") then Some lots.Pass
@@ -73,144 +147,3 @@ lot_in w =
       if bytes_eq name.0 (codes "repeat") then Some (lots.Repeat count.0)
           else if bytes_eq name.0 (codes "hold") then Some (lots.Hold count.0)
           else None)
-
-unfoldable pub state_in : List ℕ → Option State
-state_in w =
-    if bytes_eq w (codes "reset") then Some states.Reset
-    else if bytes_eq w (codes "init") then Some states.Init
-    else if bytes_eq w (codes "rtr") then Some states.Rtr
-    else if bytes_eq w (codes "rts") then Some states.Rts
-    else if bytes_eq w (codes "sqd") then Some states.Sqd
-    else if bytes_eq w (codes "error") then Some states.Error
-    else None
-
-unfoldable pub field_in : List ℕ → Option Field
-field_in w =
-    if bytes_eq w (codes "peer") then Some fields.Peer
-    else if bytes_eq w (codes "incarnation") then Some fields.Incarnation
-    else if bytes_eq w (codes "psn") then Some fields.Psn
-    else if bytes_eq w (codes "mtu") then Some fields.Mtu
-    else if bytes_eq w (codes "rnr-code") then Some fields.RnrCode
-    else if bytes_eq w (codes "retry") then Some fields.Retry
-    else if bytes_eq w (codes "rnr-retry") then Some fields.RnrRetry
-    else if bytes_eq w (codes "reads") then Some fields.Reads
-    else if bytes_eq w (codes "depth") then Some fields.Depth
-    else if bytes_eq w (codes "capacity") then Some fields.Capacity
-    else if bytes_eq w (codes "pages") then Some fields.Pages
-    else if bytes_eq w (codes "length") then Some fields.Length
-    else if bytes_eq w (codes "list") then Some fields.List
-    else if bytes_eq w (codes "kind") then Some fields.Kind
-    else None
-
-unfoldable pub operation_in : List ℕ → Option WcOp
-operation_in w =
-    if bytes_eq w (codes "send") then Some operations.Send
-    else if bytes_eq w (codes "write") then Some operations.Write
-    else if bytes_eq w (codes "read") then Some operations.Read
-    else if bytes_eq w (codes "cmp-swap") then Some operations.CmpSwap
-    else if bytes_eq w (codes "fetch-add") then Some operations.FetchAdd
-    else if bytes_eq w (codes "bind") then Some operations.Bind
-    else if bytes_eq w (codes "fast-reg") then Some operations.FastReg
-    else if bytes_eq w (codes "local-inv") then Some operations.LocalInv
-    else if bytes_eq w (codes "recv") then Some operations.Recv
-    else if bytes_eq w (codes "recv-imm") then Some operations.RecvImm
-    else None
-
-unfoldable pub status_in : List ℕ → Option WcStatus
-status_in w =
-    if bytes_eq w (codes "success") then Some statuses.Success
-    else if bytes_eq w (codes "local-length") then Some statuses.LocalLength
-    else if bytes_eq w (codes "local-protection") then Some statuses.LocalProtection
-    else if bytes_eq w (codes "flushed") then Some statuses.Flushed
-    else if bytes_eq w (codes "memory-management") then Some statuses.MemoryManagement
-    else if bytes_eq w (codes "bad-response") then Some statuses.BadResponse
-    else if bytes_eq w (codes "remote-invalid-request") then Some statuses.RemoteInvalidRequest
-    else if bytes_eq w (codes "remote-access") then Some statuses.RemoteAccess
-    else if bytes_eq w (codes "remote-operation") then Some statuses.RemoteOperation
-    else if bytes_eq w (codes "retry-exceeded") then Some statuses.RetryExceeded
-    else if bytes_eq w (codes "rnr-retry-exceeded") then Some statuses.RnrRetryExceeded
-    else None
-
-unfoldable pub region_error_in : List ℕ → Option RegionError
-region_error_in w =
-    if bytes_eq w (codes "empty") then Some regions.Empty
-    else if bytes_eq w (codes "outside-buffer") then Some regions.OutsideBuffer
-    else if bytes_eq w (codes "rights-need-local-write") then Some regions.RightsNeedLocalWrite
-    else if bytes_eq w (codes "not-free") then Some regions.NotFree
-    else if bytes_eq w (codes "bad-pages") then Some regions.BadPages
-    else if bytes_eq w (codes "not-valid") then Some regions.NotValid
-    else if bytes_eq w (codes "key-differs") then Some regions.KeyDiffers
-    else if bytes_eq w (codes "not-fast-registered") then Some regions.NotFastRegistered
-    else if bytes_eq w (codes "windows-bound") then Some regions.WindowsBound
-    else if bytes_eq w (codes "vacant") then Some regions.Vacant
-    else None
-
-unfoldable pub window_error_in : List ℕ → Option WindowError
-window_error_in w =
-    if bytes_eq w (codes "no-window") then Some windows.NoWindow
-    else if bytes_eq w (codes "wrong-type") then Some windows.WrongType
-    else if bytes_eq w (codes "region-not-valid") then Some windows.RegionNotValid
-    else if bytes_eq w (codes "no-bind-right") then Some windows.NoBindRight
-    else if bytes_eq w (codes "rights-need-local-write") then Some windows.RightsNeedLocalWrite
-    else if bytes_eq w (codes "outside-region") then Some windows.OutsideRegion
-    else if bytes_eq w (codes "still-bound") then Some windows.StillBound
-    else if bytes_eq w (codes "empty") then Some windows.Empty
-    else if bytes_eq w (codes "type1") then Some windows.Type1
-    else if bytes_eq w (codes "not-bound") then Some windows.NotBound
-    else if bytes_eq w (codes "key-differs") then Some windows.KeyDiffers
-    else if bytes_eq w (codes "wrong-queue") then Some windows.WrongQueue
-    else None
-
--- region:ERROR or window:ERROR
-unfoldable pub cause_in : List ℕ → Option OpRefusal
-cause_in w = do
-  name ← next_of (pieces 58 w)
-  if bytes_eq name.0 (codes "region") then (do
-    error ← field region_error_in name.1
-    Some (causes.Region error.0))
-      else if bytes_eq name.0 (codes "window") then (do
-        error ← field window_error_in name.1
-        Some (causes.Window error.0))
-      else None
-
--- a field that is out of its range, behind a colon
-abbrev pub out_of_range_in : List ℕ → Option Refusal
-out_of_range_in w = do
-  name ← next_of (pieces 58 w)
-  error ← field field_in name.1
-  Some (refusals.OutOfRange error.0)
-
-unfoldable pub refusal_in : List ℕ → Option Refusal
-refusal_in w =
-    if bytes_eq w (codes "no-such") then Some refusals.NoSuch
-    else if bytes_eq w (codes "no-domain") then Some refusals.NoDomain
-    else if bytes_eq w (codes "domain-taken") then Some refusals.DomainTaken
-    else if bytes_eq w (codes "domain-in-use") then Some refusals.DomainInUse
-    else if bytes_eq w (codes "slot-taken") then Some refusals.SlotTaken
-    else if bytes_eq w (codes "empty") then Some refusals.Empty
-    else if bytes_eq w (codes "outside-buffer") then Some refusals.OutsideBuffer
-    else if bytes_eq w (codes "rights-need-local-write") then Some refusals.RightsNeedLocalWrite
-    else if bytes_eq w (codes "windows-bound") then Some refusals.WindowsBound
-    else if bytes_eq w (codes "cq-too-small") then Some refusals.CqTooSmall
-    else if bytes_eq w (codes "cq-in-use") then Some refusals.CqInUse
-    else if bytes_eq w (codes "srq-in-use") then Some refusals.SrqInUse
-    else if bytes_eq w (codes "has-srq") then Some refusals.HasSrq
-    else if bytes_eq w (codes "too-long") then Some refusals.TooLong
-    else if bytes_eq w (codes "queue-state") then Some refusals.QueueState
-    else if bytes_eq w (codes "queue-full") then Some refusals.QueueFull
-    else if bytes_eq w (codes "transition") then Some refusals.Transition
-    else out_of_range_in w
-
-unfoldable pub drop_in : List ℕ → Option Drop1
-drop_in w =
-    if bytes_eq w (codes "wire:too-short") then Some (drops.Wire wire.TooShort)
-    else if bytes_eq w (codes "wire:version") then Some (drops.Wire wire.Version)
-    else if bytes_eq w (codes "wire:opcode") then Some (drops.Wire wire.Opcode)
-    else if bytes_eq w (codes "wire:length") then Some (drops.Wire wire.Length)
-    else if bytes_eq w (codes "wire:pad") then Some (drops.Wire wire.Pad)
-    else if bytes_eq w (codes "partition") then Some drops.Partition
-    else if bytes_eq w (codes "queue") then Some drops.Queue
-    else if bytes_eq w (codes "state") then Some drops.State
-    else if bytes_eq w (codes "stale") then Some drops.Stale
-    else if bytes_eq w (codes "unsaved") then Some drops.Unsaved
-    else None

@@ -2,7 +2,8 @@ ghost use Rattle.std.specs.Prelude.{◌≡◌, drop};
 ghost use Rattle.ca_reading_words.specs.Words as words;
 ghost use Rattle.ca_reading_words.specs.Words.{Gives};
 
-use crate::number::{u8_in, u16_in, u32_in, u64_in, value_in};
+use crate::in_word::InWord;
+use crate::number::{u64_in, value_in};
 use crate::pieces::Pieces;
 use crate::stop::Stop;
 use crate::word::is_name;
@@ -31,18 +32,22 @@ pub fn lettered_u64_in(word: &[u8]) -> Result<u64, Stop>
 pub fn lettered_u32_in(word: &[u8]) -> Result<u32, Stop>
     ensures { Gives result (words.lettered_in 4294967295 word.now) }
 {
-    u32_in(behind_letter(word))
+    u32::in_word(behind_letter(word))
 }
 
 /// An adapter, and a buffer there.
-#[tactic(auto, unfolding(crate::specs::Words::in_adapter_in))]
-pub(crate) fn buffer_in(word: &[u8]) -> Result<(u8, u16), Stop>
-    ensures { Gives result (words.in_adapter_in 65535 word.now) }
-{
-    let mut parts = Pieces::of(b'/', word);
-    let adapter = u8_in(parts.take_word()?)?;
-    let buffer = u16_in(parts.take_word()?)?;
-    Ok((adapter, buffer))
+impl InWord for (u8, u16) {
+    ghost use Rattle.ca_reading_words.specs.Words.{in_adapter_in};
+
+    ghost reading = { in_adapter_in 65535 };
+
+    #[tactic(auto, unfolding(crate::specs::Words::in_adapter_in))]
+    fn in_word(word: &[u8]) -> Result<(u8, u16), Stop> {
+        let mut parts = Pieces::of(b'/', word);
+        let adapter = parts.take()?;
+        let buffer = parts.take()?;
+        Ok((adapter, buffer))
+    }
 }
 
 /// A protection domain.
@@ -51,35 +56,54 @@ pub fn domain_in(word: &[u8]) -> Result<DomainId, Stop>
     ensures { Gives result (words.domain_in word.now) }
 {
     let mut parts = Pieces::of(b'/', word);
-    let adapter = u8_in(parts.take_word()?)?;
-    let domain = u8_in(parts.take_word()?)?;
+    let adapter = parts.take()?;
+    let domain = parts.take()?;
     Ok(DomainId { adapter, domain })
 }
 
+/// A protection domain.
+impl InWord for DomainId {
+    ghost use Rattle.ca_reading_words.specs.Words.{domain_in};
+
+    ghost reading = { domain_in };
+
+    fn in_word(word: &[u8]) -> Result<DomainId, Stop> {
+        domain_in(word)
+    }
+}
+
 /// A queue pair.
-#[tactic(auto, unfolding(crate::specs::Words::queue_in, crate::specs::Words::in_adapter_in))]
-pub(crate) fn queue_in(word: &[u8]) -> Result<QueueId, Stop>
-    ensures { Gives result (words.queue_in word.now) }
-{
-    let mut parts = Pieces::of(b'/', word);
-    let adapter = u8_in(parts.take_word()?)?;
-    let number = u32_in(parts.take_word()?)?;
-    Ok(QueueId { adapter, number })
+impl InWord for QueueId {
+    ghost use Rattle.ca_reading_words.specs.Words.{queue_in};
+
+    ghost reading = { queue_in };
+
+    #[tactic(auto, unfolding(crate::specs::Words::queue_in, crate::specs::Words::in_adapter_in))]
+    fn in_word(word: &[u8]) -> Result<QueueId, Stop> {
+        let mut parts = Pieces::of(b'/', word);
+        let adapter = parts.take()?;
+        let number = parts.take()?;
+        Ok(QueueId { adapter, number })
+    }
 }
 
 /// An object of a domain.
-#[tactic(auto, unfolding(crate::specs::Words::slot_in))]
-pub(crate) fn slot_in(word: &[u8]) -> Result<Slot, Stop>
-    ensures { Gives result (words.slot_in word.now) }
-{
-    let mut parts = Pieces::of(b'/', word);
-    let adapter = u8_in(parts.take_word()?)?;
-    let domain = u8_in(parts.take_word()?)?;
-    let slot = u16_in(parts.take_word()?)?;
-    Ok(Slot {
-        domain: DomainId { adapter, domain },
-        slot,
-    })
+impl InWord for Slot {
+    ghost use Rattle.ca_reading_words.specs.Words.{slot_in};
+
+    ghost reading = { slot_in };
+
+    #[tactic(auto, unfolding(crate::specs::Words::slot_in))]
+    fn in_word(word: &[u8]) -> Result<Slot, Stop> {
+        let mut parts = Pieces::of(b'/', word);
+        let adapter = parts.take()?;
+        let domain = parts.take()?;
+        let slot = parts.take()?;
+        Ok(Slot {
+            domain: DomainId { adapter, domain },
+            slot,
+        })
+    }
 }
 
 /// Any queue pair of a domain, or one.
@@ -90,7 +114,7 @@ pub(crate) fn queues_in(word: &[u8]) -> Result<Option<QueueId>, Stop>
     if is_name(word, "any") {
         return Ok(None);
     }
-    Ok(Some(queue_in(word)?))
+    Ok(Some(QueueId::in_word(word)?))
 }
 
 /// What stands behind the first two bytes.
@@ -101,11 +125,15 @@ fn behind_prefix(word: &[u8]) -> &[u8]
 }
 
 /// A memory key.
-#[tactic(auto, unfolding(crate::specs::Words::key_in))]
-pub(crate) fn key_in(word: &[u8]) -> Result<Key, Stop>
-    ensures { Gives result (words.key_in word.now) }
-{
-    Ok(Key(value_in(16, 0xFFFF_FFFF, behind_prefix(word))? as u32))
+impl InWord for Key {
+    ghost use Rattle.ca_reading_words.specs.Words.{key_in};
+
+    ghost reading = { key_in };
+
+    #[tactic(auto, unfolding(crate::specs::Words::key_in))]
+    fn in_word(word: &[u8]) -> Result<Key, Stop> {
+        Ok(Key(value_in(16, 0xFFFF_FFFF, behind_prefix(word))? as u32))
+    }
 }
 
 /// An address.
@@ -114,46 +142,6 @@ pub fn address_in(word: &[u8]) -> Result<u64, Stop>
     ensures { Gives result (words.address_in word.now) }
 {
     value_in(16, u64::MAX, behind_prefix(word))
-}
-
-/// A number of 16 bits, or none.
-pub(crate) fn perhaps_u16_in(word: &[u8]) -> Result<Option<u16>, Stop>
-    ensures { Gives result (words.perhaps_in (words.number_in 65535) word.now) }
-{
-    if is_name(word, "-") {
-        return Ok(None);
-    }
-    Ok(Some(u16_in(word)?))
-}
-
-/// A number of 32 bits, or none.
-pub(crate) fn perhaps_u32_in(word: &[u8]) -> Result<Option<u32>, Stop>
-    ensures { Gives result (words.perhaps_in (words.number_in 4294967295) word.now) }
-{
-    if is_name(word, "-") {
-        return Ok(None);
-    }
-    Ok(Some(u32_in(word)?))
-}
-
-/// A number of 64 bits, or none.
-pub(crate) fn perhaps_u64_in(word: &[u8]) -> Result<Option<u64>, Stop>
-    ensures { Gives result (words.perhaps_in (words.number_in 18446744073709551615) word.now) }
-{
-    if is_name(word, "-") {
-        return Ok(None);
-    }
-    Ok(Some(u64_in(word)?))
-}
-
-/// A memory key, or none.
-pub(crate) fn perhaps_key_in(word: &[u8]) -> Result<Option<Key>, Stop>
-    ensures { Gives result (words.perhaps_in words.key_in word.now) }
-{
-    if is_name(word, "-") {
-        return Ok(None);
-    }
-    Ok(Some(key_in(word)?))
 }
 
 /// Whether a byte stands in a word.
@@ -169,15 +157,20 @@ pub fn has(c: u8, word: &[u8]) -> bool
 }
 
 /// The rights whose letters stand in a word.
-#[tactic(auto, unfolding(crate::specs::Words::rights_in))]
-pub(crate) fn rights_in(word: &[u8]) -> Rights
-    ensures { result ≡ words.rights_in word.now }
-{
-    Rights {
-        local_write: has(b'l', word),
-        remote_read: has(b'r', word),
-        remote_write: has(b'w', word),
-        remote_atomic: has(b'a', word),
-        window_bind: has(b'b', word),
+impl InWord for Rights {
+    ghost use Rattle.std.specs.Prelude.{Some};
+    ghost use Rattle.ca_reading_words.specs.Words.{rights_in};
+
+    ghost reading = { λ word. Some (rights_in word) };
+
+    #[tactic(auto, unfolding(crate::specs::Words::rights_in))]
+    fn in_word(word: &[u8]) -> Result<Rights, Stop> {
+        Ok(Rights {
+            local_write: has(b'l', word),
+            remote_read: has(b'r', word),
+            remote_write: has(b'w', word),
+            remote_atomic: has(b'a', word),
+            window_bind: has(b'b', word),
+        })
     }
 }

@@ -11,7 +11,9 @@
 
 mod digits;
 mod field;
+mod find;
 mod id;
+mod in_word;
 mod list;
 mod list_field;
 mod name;
@@ -21,14 +23,10 @@ mod stop;
 mod word;
 
 pub use ca_trace_words::ca_model;
-pub use field::{
-    take_address, take_alarm, take_buffer, take_denial, take_domain, take_drop, take_key,
-    take_kind, take_lettered_u32, take_lot, take_object, take_operation, take_perhaps_cause,
-    take_perhaps_key, take_perhaps_u16, take_perhaps_u32, take_perhaps_u64, take_queue,
-    take_queues, take_refusal, take_rights, take_side, take_slot, take_state, take_status, take_u8,
-    take_u16, take_u32, take_u64,
-};
+pub use field::{take_address, take_alarm, take_lettered_u32, take_object, take_queues, take_side};
+pub use find::Named;
 pub use id::{address_in, domain_in, has, lettered_u32_in, lettered_u64_in};
+pub use in_word::InWord;
 pub use list_field::{take_hex, take_pages, take_pieces, take_runs};
 pub use number::u64_in;
 pub use pieces::{Pieces, place_of};

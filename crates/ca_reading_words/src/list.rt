@@ -3,8 +3,7 @@ ghost use Rattle.ca_base.specs.declared.limits.TheConstants.{MAX_PIECES};
 ghost use Rattle.ca_reading_words.specs.Words as words;
 ghost use Rattle.ca_reading_words.specs.Words.{Gives, GivesAs};
 
-use crate::id::{address_in, buffer_in, key_in};
-use crate::number::{u16_in, u32_in};
+use crate::id::address_in;
 use crate::pieces::Pieces;
 use crate::stop::Stop;
 use crate::word::is_name;
@@ -19,9 +18,9 @@ fn piece_in(word: &[u8]) -> Result<Piece, Stop>
     ensures { Gives result (words.piece_in word.now) }
 {
     let mut parts = Pieces::of(b':', word);
-    let key = key_in(parts.take_word()?)?;
+    let key = parts.take()?;
     let address = address_in(parts.take_word()?)?;
-    let length = u32_in(parts.take_word()?)?;
+    let length = parts.take()?;
     Ok(Piece {
         address,
         key,
@@ -35,10 +34,10 @@ fn run_in(word: &[u8]) -> Result<Run, Stop>
     ensures { Gives result (words.run_in word.now) }
 {
     let mut parts = Pieces::of(b':', word);
-    let (adapter, buffer) = buffer_in(parts.take_word()?)?;
+    let (adapter, buffer) = parts.take()?;
     let mut numbers = Pieces::of(b'+', parts.take_word()?);
-    let offset = u32_in(numbers.take_word()?)?;
-    let length = u32_in(numbers.take_word()?)?;
+    let offset = numbers.take()?;
+    let length = numbers.take()?;
     Ok(Run {
         adapter,
         buffer,
@@ -54,7 +53,7 @@ fn all_pages(alloc: Global, mut parts: Pieces) -> Result<Vec<u16>, Stop>
 {
     let mut list = Vec::new(alloc);
     while !parts.is_empty() {
-        let page = u16_in(parts.take_word()?)?;
+        let page = parts.take()?;
         list.push(page)?;
     }
     Ok(list)

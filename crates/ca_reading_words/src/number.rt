@@ -3,6 +3,7 @@ ghost use Rattle.std.specs.Char.{digit_value};
 ghost use Rattle.ca_reading_words.specs.Words as words;
 ghost use Rattle.ca_reading_words.specs.Words.{Gives};
 
+use crate::in_word::InWord;
 use crate::stop::Stop;
 
 /// The value of a digit, from 0 for `0` to 35 for `z`, and 36 for any other byte.
@@ -57,23 +58,46 @@ pub fn u64_in(word: &[u8]) -> Result<u64, Stop>
     value_in(10, u64::MAX, word)
 }
 
-/// A number of 32 bits.
-pub(crate) fn u32_in(word: &[u8]) -> Result<u32, Stop>
-    ensures { Gives result (words.number_in 4294967295 word.now) }
-{
-    Ok(value_in(10, 0xFFFF_FFFF, word)? as u32)
+/// A number of 8 bits.
+impl InWord for u8 {
+    ghost use Rattle.ca_reading_words.specs.Words.{number_in};
+
+    ghost reading = { number_in 255 };
+
+    fn in_word(word: &[u8]) -> Result<u8, Stop> {
+        Ok(value_in(10, 0xFF, word)? as u8)
+    }
 }
 
 /// A number of 16 bits.
-pub(crate) fn u16_in(word: &[u8]) -> Result<u16, Stop>
-    ensures { Gives result (words.number_in 65535 word.now) }
-{
-    Ok(value_in(10, 0xFFFF, word)? as u16)
+impl InWord for u16 {
+    ghost use Rattle.ca_reading_words.specs.Words.{number_in};
+
+    ghost reading = { number_in 65535 };
+
+    fn in_word(word: &[u8]) -> Result<u16, Stop> {
+        Ok(value_in(10, 0xFFFF, word)? as u16)
+    }
 }
 
-/// A number of 8 bits.
-pub(crate) fn u8_in(word: &[u8]) -> Result<u8, Stop>
-    ensures { Gives result (words.number_in 255 word.now) }
-{
-    Ok(value_in(10, 0xFF, word)? as u8)
+/// A number of 32 bits.
+impl InWord for u32 {
+    ghost use Rattle.ca_reading_words.specs.Words.{number_in};
+
+    ghost reading = { number_in 4294967295 };
+
+    fn in_word(word: &[u8]) -> Result<u32, Stop> {
+        Ok(value_in(10, 0xFFFF_FFFF, word)? as u32)
+    }
+}
+
+/// A number of 64 bits.
+impl InWord for u64 {
+    ghost use Rattle.ca_reading_words.specs.Words.{number_in};
+
+    ghost reading = { number_in 18446744073709551615 };
+
+    fn in_word(word: &[u8]) -> Result<u64, Stop> {
+        u64_in(word)
+    }
 }
