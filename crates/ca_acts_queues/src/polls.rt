@@ -75,21 +75,34 @@ fn polled_in(marks: &Marks) -> &[Completion]
     }
 }
 
-/// A copy of the first completions, as many as are asked for or as wait. The first is copied before the others, where
-/// what the list takes is known.
-#[tactic(auto, using(crate::proofs::PollLemmas::one_listed, crate::proofs::PollLemmas::none_listed, crate::proofs::PollLemmas::first_listed))]
+/// A copy of the first completions, as many as are asked for or as wait. One, which is asked for most often, is copied by
+/// itself.
+#[tactic(auto, using(crate::proofs::PollLemmas::none_listed, crate::proofs::PollLemmas::first_listed))]
 #[inline(always)]
 fn first_completions(alloc: Global, cq: &Cq, n: u8) -> Result<Completions, Memory>
     requires some { 0 < n }
     requires few { n ≤ MAX_POLLED }
     ensures { IfOk result (λ list. list ≡ take n cq.now.waiting) }
 {
-    let mut list = Completions::empty();
     let Some(first) = cq.at(0) else {
-        return Ok(list);
+        return Ok(Completions::empty());
     };
-    list.push(alloc, first)?;
-    for i in 1..n {
+    if n == 1 {
+        return Ok(Completions::of_one(first));
+    }
+    // What comes of it is moved, so that a list of one need not lie where it writes.
+    Ok(several_completions(alloc, cq, n)?)
+}
+
+/// The same, where several are asked for.
+#[tactic(auto, using(crate::proofs::PollLemmas::one_listed))]
+#[inline(never)]
+fn several_completions(alloc: Global, cq: &Cq, n: u8) -> Result<Completions, Memory>
+    requires few { n ≤ MAX_POLLED }
+    ensures { IfOk result (λ list. list ≡ take n cq.now.waiting) }
+{
+    let mut list = Completions::empty();
+    for i in 0..n {
         let Some(completion) = cq.at(u16::from(i)) else {
             return Ok(list);
         };
