@@ -3,11 +3,11 @@ ghost use Rattle.ca_script.specs.Setup as setup;
 ghost use Rattle.ca_script_lines.specs.Rows.{read_row, read_table};
 ghost use Rattle.ca_script_lines.specs.ca_script_words.Reading.{AnswersFrom};
 
+use ca_base::Lot;
 use ca_base::limits::{
     MAX_ADAPTERS, MAX_BUFFER_BYTES, MAX_CQS, MAX_DOMAINS, MAX_EVENTS, MAX_QPS, MAX_REGIONS,
     MAX_SRQS, MAX_WINDOWS,
 };
-use ca_base::Lot;
 use ca_mailbox::WeatherLine;
 use ca_script_lines::ca_reading_words::is_name;
 use ca_script_lines::ca_script_words::{

@@ -1,4 +1,3 @@
-
 use super::texts_are;
 use ca_base::{
     Ask, AtomicOp, DomainId, Key, Kind, QueueId, Rights, Run, Slot, Verdict, WindowCount,
