@@ -1,4 +1,4 @@
-ghost use Rattle.std.specs.Prelude.{ℕ, ◌<◌};
+ghost use Rattle.std.specs.Prelude.{◌<◌};
 ghost use Rattle.ca_connection.specs.Invariant.{Sound};
 ghost use Rattle.ca_connection.specs.Layout.{Direction};
 ghost use Rattle.ca_connection.specs.Link.{Link, opening};

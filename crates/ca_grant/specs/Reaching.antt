@@ -1,6 +1,6 @@
 -- What an engine reaches: which asks may be handed on, what was found of an ask, and what an access, a write and the end of
 -- a key make of what is seen. Contracts cite it.
-use Rattle.std.specs.Prelude.{◌≡◌, ℕ, ◌-◌, ◌%◌, ◌≤◌, ◌==◌, ◌&&◌, Bool, if◌then◌else◌, List, Option, None}
+use Rattle.std.specs.Prelude.{◌≡◌, ℕ, ◌%◌, ◌≤◌, ◌==◌, ◌&&◌, Bool, if◌then◌else◌, List, Option, None}
 use Rattle.std.specs.List.{AllByRecursion}
 use Rattle.ca_keys.specs.declared.access.Ask.{Ask}
 use Rattle.ca_keys.specs.declared.access.AtomicOp.{AtomicOp}
@@ -12,12 +12,10 @@ use Rattle.ca_keys.specs.declared.key.Key.{Key}
 use Rattle.ca_keys.specs.declared.place.Span.{Span}
 use Rattle.ca_memory.specs.ca_base.declared.limits.TheConstants.{ATOMIC_BYTES, MAX_PAYLOAD_BYTES}
 use Rattle.ca_keys.specs.declared.names.QueueId.{QueueId}
-use Rattle.ca_memory.specs.ca_base.declared.queue_numbers.WindowCount.{WindowCount}
 use Rattle.ca_keys.specs.Equal.{key_eq}
 use Rattle.ca_keys.specs.Memory.{memory_after, places_count}
 use Rattle.ca_keys.specs.Numbers.{domain_of}
 use Rattle.ca_memory.specs.ca_base.Sight.{Sight, Invalidation, IsTouching, denial_in, first_denied, runs_in}
-use Rattle.ca_keys.specs.Numbers.{is_window_key}
 use Rattle.ca_region.specs.Span.{runs_of_span}
 
 -- a list of asks that may be handed on: the parts of their keys are at hand, and where none is denied their bytes too

@@ -1,6 +1,6 @@
 //! A law of the key check, over every list of grants.
 ghost use Rattle.std.specs.Prelude.{◌≡◌, ℕ, List};
-ghost use Rattle.ca_keys.specs.Allowed.{denial_of, grant_for};
+ghost use Rattle.ca_keys.specs.Allowed.{denial_of};
 ghost use Rattle.ca_keys.specs.Memory.{runs_for};
 ghost use Rattle.ca_keys.specs.declared.access.Ask.{Ask};
 ghost use Rattle.ca_keys.specs.declared.grant.Grant.{Grant};

@@ -4,7 +4,7 @@ ghost use Rattle.ca_keys.specs.Allowed.{denial_of};
 ghost use Rattle.ca_keys.specs.Memory.{bytes_at, little_endian, little_endian_bytes, places_count, runs_for};
 ghost use Rattle.ca_keys.specs.Numbers.{domain_of, is_window_key};
 ghost use Rattle.ca_base.specs.declared.limits.TheConstants.{ATOMIC_BYTES};
-ghost use Rattle.ca_base.specs.Sight.{bytes_in, denial_in};
+ghost use Rattle.ca_base.specs.Sight.{denial_in};
 ghost use Rattle.ca_base.specs.objects.LocalRequest.{region_refusal, unnamed_refusal, window_refusal};
 ghost use Rattle.ca_base.specs.objects.Region.{after_region_invalidation, grant_of_region, with_window_unbound};
 ghost use Rattle.ca_base.specs.objects.Slices.{is_key_of, slot_of_key};

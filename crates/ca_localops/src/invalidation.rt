@@ -1,7 +1,7 @@
 ghost use Rattle.std.specs.Prelude.{◌≡◌, ◌<◌, None, Some, IfErr, IfOk, OnOk, OnErr, IsTrue, IsErr, false};
 ghost use Rattle.std.specs.Option.{option_copied_mut, option_map};
 ghost use Rattle.ca_base.specs.objects.LocalRequest.{region_refusal, unnamed_refusal, window_refusal};
-ghost use Rattle.ca_base.specs.objects.Region.{after_region_invalidation, with_window_unbound};
+ghost use Rattle.ca_base.specs.objects.Region.{after_region_invalidation};
 ghost use Rattle.ca_keys.specs.Numbers.{is_window_key};
 ghost use Rattle.ca_base.specs.objects.Window.{without_binding};
 ghost use Rattle.ca_base.specs.Handed.{left_behind};

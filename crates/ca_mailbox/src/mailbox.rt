@@ -52,9 +52,8 @@ impl Model for Mailbox {
 }
 
 impl Mailbox {
-    ghost use Rattle.std.specs.Prelude.{◌≡◌, ◌<◌, ◌^◌, ◌↔◌, ◌&&◌, suc, nat_lt, true, not, if◌then◌else◌, Option, None, Some, IfOk, IfErr, OnOk, OnErr, IsOk, IsErr, IsTrue};
-    ghost use Rattle.std.specs.Option.{option_map};
-    ghost use Rattle.ca_base.specs.objects.Mailbox.{empty_mailbox, with_peer, without_envelopes, passes, undelivered_count, has_room, after_send, envelope_at, bytes_lent, after_delivery, due};
+    ghost use Rattle.std.specs.Prelude.{◌≡◌, ◌<◌, ◌^◌, ◌↔◌, ◌&&◌, suc, if◌then◌else◌, Option, None, Some, IfOk, IfErr, OnErr, IsOk, IsTrue};
+    ghost use Rattle.ca_base.specs.objects.Mailbox.{empty_mailbox, with_peer, without_envelopes, passes, undelivered_count, has_room, after_send, bytes_lent, after_delivery, due};
     ghost use Rattle.ca_mailbox.specs.Sender.{sender_of, peer_of};
     ghost use Rattle.ca_mailbox.specs.Counting.{is_countable};
     ghost use Rattle.ca_mailbox.specs.declared.mailbox.SendError.TheVariants.{NoPath, NoRoom};

@@ -1,4 +1,4 @@
-ghost use Rattle.std.specs.Prelude.{◌≡◌, ◌+◌, ◌-◌, ◌<◌, ◌≤◌, ◌^◌, ◌&&◌, suc, not, if◌then◌else◌, true, false, Some, None, IsTrue, slice_get, drop, length};
+ghost use Rattle.std.specs.Prelude.{◌≡◌, ◌+◌, ◌-◌, ◌<◌, ◌≤◌, ◌&&◌, suc, not, if◌then◌else◌, true, false, Some, None, IsTrue, slice_get, drop, length};
 ghost use Rattle.std.specs.Option.{option_map_or, option_or};
 ghost use Rattle.circular_buffer.specs.Buffer.{buffer};
 ghost use Rattle.ca_base.specs.objects.Mailbox.{due_from, is_hold, is_undelivered, only_holds, undelivered_count, with_delivery};

@@ -1,4 +1,4 @@
-ghost use Rattle.std.specs.Prelude.{◌≡◌, ◌++◌, ◌<◌, List, take, None, Some, IfOk, IfErr, OnOk, IsOkAnd};
+ghost use Rattle.std.specs.Prelude.{◌≡◌, ◌++◌, ◌<◌, take, None, Some, IfOk, IfErr, OnOk, IsOkAnd};
 ghost use Rattle.std.specs.Int.{w32};
 ghost use Rattle.ca_packet.specs.declared.bth.Bth.{Bth};
 ghost use Rattle.ca_packet.specs.Packet.{SpellsBth, FitsBth, be_bytes, bit, bth_bytes, bth_refusal_of, canonical};

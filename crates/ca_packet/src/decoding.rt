@@ -1,4 +1,4 @@
-ghost use Rattle.std.specs.Prelude.{◌≡◌, List, ℕ, None, Some, IfOk, IfErr, OnOk, IsOkAnd, drop, take, length, ◌+◌};
+ghost use Rattle.std.specs.Prelude.{◌≡◌, None, Some, IfOk, IfErr, OnOk, IsOkAnd, drop, take, length, ◌+◌};
 ghost use Rattle.ca_packet.specs.Decoding.{packet_in};
 ghost use Rattle.ca_packet.specs.Packet.{Fields, Spells, headers_size, refusal_of};
 

@@ -1,4 +1,4 @@
-ghost use Rattle.std.specs.Prelude.{◌≡◌, ◌+◌, ◌++◌, ◌^◌, ◌<◌, ◌≤◌, OnOk, OnErr, IfSome, is_some, length, [], replicate};
+ghost use Rattle.std.specs.Prelude.{◌≡◌, ◌+◌, ◌++◌, ◌^◌, ◌<◌, OnOk, OnErr, IfSome, is_some, [], replicate};
 ghost use Rattle.std.specs.Int.{w32, w64};
 ghost use Rattle.std.specs.Option.{option_map_or};
 ghost use Rattle.ca_packet.specs.Packet.{FitsReth, FitsAtomic, IsWellFormed, Spells, be_bytes, pad_count, reth_bytes, atomic_bytes, aeth_bytes, spelling};

@@ -33,7 +33,7 @@ pub struct Parts<T: Machine> {
 }
 
 impl<T: Machine> Parts<T> {
-    ghost use Rattle.std.specs.Prelude.{◌≡◌, ℕ, [], ◌∷◌, ◌<◌, ◌^◌, ◌↔◌, length, IsErr, IfOk, IfErr, Some, slice_get};
+    ghost use Rattle.std.specs.Prelude.{◌≡◌, ℕ, [], ◌<◌, ◌^◌, ◌↔◌, length, IsErr, IfOk, IfErr, Some, slice_get};
     ghost use Rattle.ca_base.specs.declared.limits.TheConstants.{MAX_PASSES};
     ghost use Rattle.ca_parts.specs.Views.{first_view};
     ghost use Rattle.ca_parts.specs.Calls.{IsWhole};

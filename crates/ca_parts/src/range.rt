@@ -1,5 +1,5 @@
 //! How passes split and join.
-ghost use Rattle.std.specs.Prelude.{◌≡◌, ◌≤◌, ◌↔◌, [], IfOk, OnErr, IsErr};
+ghost use Rattle.std.specs.Prelude.{◌≡◌, ◌↔◌, [], IfOk, OnErr, IsErr};
 ghost use Rattle.ca_parts.specs.Views.{lower_half, upper_half, joined_with};
 ghost use Rattle.ca_parts.specs.Rows.{view_of, IsPassOf};
 

@@ -1,5 +1,5 @@
 //! How a part is taken and given back.
-ghost use Rattle.std.specs.Prelude.{◌≡◌, ◌≢◌, ℕ, ◌<◌, [], IfOk, OnErr, Some, None};
+ghost use Rattle.std.specs.Prelude.{◌≡◌, ◌≢◌, ◌<◌, [], IfOk, OnErr, Some, None};
 ghost use Rattle.ca_base.specs.declared.limits.TheConstants.{MAX_PASSES};
 ghost use Rattle.ca_parts.specs.Lists.{Has};
 ghost use Rattle.ca_parts.specs.Views.{with_part, with_refusal, without_part};

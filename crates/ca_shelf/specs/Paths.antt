@@ -1,5 +1,5 @@
 -- Names that are the same are one: what the names of things on shelves keep. Contracts cite it.
-use Rattle.std.specs.Prelude.{◌≡◌, ◌==◌, Bool, true}
+use Rattle.std.specs.Prelude.{◌≡◌, ◌==◌, true}
 use Rattle.std.proofs.lemmas.Bool.{and_parts, eqb-true}
 use Rattle.ca_keys.specs.declared.names.DomainId.{DomainId}
 use Rattle.ca_keys.specs.declared.names.QueueId.{QueueId}

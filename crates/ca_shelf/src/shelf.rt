@@ -34,8 +34,8 @@ impl<N: ShelfName, T> Model for Shelf<N, T> {
 }
 
 impl<N: ShelfName, T> Shelf<N, T> {
-    ghost use Rattle.std.specs.Prelude.{◌≡◌, ◌+◌, ◌-◌, ◌<◌, ◌≤◌, [], ◌∷◌, ◌++◌, true, false, is_some, Some};
-    ghost use Rattle.std.specs.Prelude.{OnOk, OnErr, IsTrue, option_copied};
+    ghost use Rattle.std.specs.Prelude.{◌≡◌, ◌+◌, ◌-◌, ◌<◌, ◌≤◌, [], ◌∷◌, ◌++◌, false, is_some, Some};
+    ghost use Rattle.std.specs.Prelude.{OnOk, IsTrue, option_copied};
     ghost use Rattle.std.specs.Borrow.{sem};
     ghost use Rattle.ca_shelf.specs.Shelved.{has_thing, thing_under, without_thing};
     ghost use Rattle.ca_shelf.specs.Lending.{LendsThing};

@@ -40,7 +40,7 @@ impl Model for Window {
 }
 
 impl Window {
-    ghost use Rattle.std.specs.Prelude.{◌<◌, ◌≤◌, ℕ, Some, None, true, OnOk, OnErr, IfOk, IfErr, IfSome};
+    ghost use Rattle.std.specs.Prelude.{◌<◌, ◌≤◌, Some, None, true, OnOk, OnErr, IfErr, IfSome};
     ghost use Rattle.std.specs.Option.{option_copied, option_map};
     ghost use Rattle.ca_base.specs.Grants.{grant_of_bind};
     ghost use Rattle.ca_base.specs.ca_keys.Refusals.{first_of};

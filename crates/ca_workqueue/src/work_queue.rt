@@ -29,7 +29,7 @@ impl<T> Model for WorkQueue<T> {
 }
 
 impl<T> WorkQueue<T> {
-    ghost use Rattle.std.specs.Prelude.{◌≡◌, ◌<◌, ◌≤◌, ◌^◌, ◌↔◌, suc, if◌then◌else◌, nat_lt, None, Some, IfOk, IfErr, OnErr, IsOk, IsTrue, not, option_copied};
+    ghost use Rattle.std.specs.Prelude.{◌≡◌, ◌<◌, ◌≤◌, ◌^◌, ◌↔◌, suc, if◌then◌else◌, nat_lt, None, Some, IfOk, IfErr, IsOk, IsTrue, not, option_copied};
     ghost use Rattle.ca_base.specs.objects.WorkQueue.{empty_queue, next_place, is_full, occupied_count, with_item, item_at, waiting_count, after_take, with_all_taken};
 
     /// The empty queue of a depth, which is 1 to 256. `Memory` is its only refusal.
