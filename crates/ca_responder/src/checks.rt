@@ -1,4 +1,4 @@
-ghost use Rattle.std.specs.Prelude.{◌≡◌, ◌&&◌, IfSome, None, OnOk, nat_lt, false, is_none, option_copied};
+ghost use Rattle.std.specs.Prelude.{◌≡◌, ◌&&◌, IfSome, None, OnOk, nat_lt, not, false, is_none, option_copied};
 ghost use Rattle.std.specs.Option.{option_map_or};
 ghost use Rattle.ca_base.specs.declared.limits.TheConstants.{MAX_MESSAGE_BYTES};
 ghost use Rattle.ca_operations.specs.Receives.{IsNext, receive_if};
@@ -20,16 +20,17 @@ pub fn is_invalid(q: &QueuePart, request: &Request<'_>) -> bool
     ensures { result ≡ rows.is_invalid q.now request.now.packet.now request.now.shape }
 {
     let (p, shape) = (request.packet, request.shape);
-    !check_op_seq(&q.responder.message, shape)
-        || !check_length(q, p, shape)
-        || !check_write_length(q, p, shape)
-        || is_too_long(p)
-        || is_misaligned(p)
-        || exceeds_reads(q, shape)
+    let is_valid = continues(&q.responder.message, shape)
+        && fits_payload(q, p, shape)
+        && fits_write(q, p, shape)
+        && fits_message(p)
+        && is_aligned(p)
+        && has_place(q, shape);
+    !is_valid
 }
 
 /// Whether the packet goes on with the message in progress, or begins one where none is.
-fn check_op_seq(message: &Option<Message>, shape: Shape) -> bool
+fn continues(message: &Option<Message>, shape: Shape) -> bool
     ensures { result ≡ rows.continues message.now shape }
 {
     match message {
@@ -51,7 +52,7 @@ fn check_op_seq(message: &Option<Message>, shape: Shape) -> bool
 }
 
 /// Whether the payload of a SEND or a WRITE fits its position in the message.
-fn check_length(q: &QueuePart, p: &Packet<'_>, shape: Shape) -> bool
+fn fits_payload(q: &QueuePart, p: &Packet<'_>, shape: Shape) -> bool
     ensures { result ≡ rows.fits_payload q.now p.now shape }
 {
     let mtu = usize::from(q.responder.mtu);
@@ -76,7 +77,7 @@ fn fits_position(mtu: usize, position: Position, count: usize) -> bool
 }
 
 /// Whether a WRITE leaves bytes before its last packet, and ends exactly with it.
-fn check_write_length(q: &QueuePart, p: &Packet<'_>, shape: Shape) -> bool
+fn fits_write(q: &QueuePart, p: &Packet<'_>, shape: Shape) -> bool
     ensures { result ≡ rows.fits_write q.now p.now shape }
 {
     match shape {
@@ -101,36 +102,36 @@ fn fits_left(count: usize, position: Position, r: &WriteReach) -> bool
     }
 }
 
-/// Whether the length of the RETH is more than a message may have.
-fn is_too_long(p: &Packet<'_>) -> bool
-    ensures { result ≡ option_map_or (λ h. nat_lt MAX_MESSAGE_BYTES h.length) p.now.reth false }
+/// Whether the length of the RETH is one that a message may have.
+fn fits_message(p: &Packet<'_>) -> bool
+    ensures { result ≡ not (option_map_or (λ h. nat_lt MAX_MESSAGE_BYTES h.length) p.now.reth false) }
 {
     match p.reth {
-        Some(h) => h.length > MAX_MESSAGE_BYTES,
-        None => false,
+        Some(h) => h.length <= MAX_MESSAGE_BYTES,
+        None => true,
     }
 }
 
-/// Whether an atomic's address is no multiple of eight.
-fn is_misaligned(p: &Packet<'_>) -> bool
-    ensures { result ≡ rows.is_misaligned p.now }
+/// Whether an atomic's address is a multiple of eight.
+fn is_aligned(p: &Packet<'_>) -> bool
+    ensures { result ≡ not (rows.is_misaligned p.now) }
 {
     match p.atomic {
-        Some(a) => a.address % u64::from(ATOMIC_BYTES) != 0,
-        None => false,
+        Some(a) => a.address % u64::from(ATOMIC_BYTES) == 0,
+        None => true,
     }
 }
 
-/// Whether a READ or an atomic comes where as many are queued as may be.
+/// Whether one more READ or atomic can be queued, where the packet is one.
 #[inline(always)]
-fn exceeds_reads(q: &QueuePart, shape: Shape) -> bool
-    ensures { result ≡ rows.has_no_place q.now shape }
+fn has_place(q: &QueuePart, shape: Shape) -> bool
+    ensures { result ≡ not (rows.has_no_place q.now shape) }
 {
     match shape {
-        Shape::Read => q.responder.answers.fresh_count() >= usize::from(MAX_READS),
-        Shape::Atomic(_) => q.responder.answers.fresh_count() >= usize::from(MAX_READS),
-        Shape::Send(_) => false,
-        Shape::Write(_) => false,
+        Shape::Read => q.responder.answers.fresh_count() < usize::from(MAX_READS),
+        Shape::Atomic(_) => q.responder.answers.fresh_count() < usize::from(MAX_READS),
+        Shape::Send(_) => true,
+        Shape::Write(_) => true,
     }
 }
 
