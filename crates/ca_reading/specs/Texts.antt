@@ -3,7 +3,7 @@ use Rattle.std.specs.Prelude.{ℕ, if◌then◌else◌, List, [], ◌∷◌, Opt
 use Rattle.std.specs.Str.{bytes_eq}
 use Rattle.ca_model.specs.Entries.{EntryValue}
 use Rattle.ca_trace.specs.declared.line.Line.{Line}
-use Rattle.ca_reading_words.specs.Words.{◌>>=◌, pieces}
+use Rattle.ca_reading_words.specs.Words.{◌>>=◌, pieces, line_feed}
 use Rattle.ca_reading_fits.specs.ca_reading_lines.Calls.{exact_in}
 use Rattle.ca_reading.specs.Steps.{is_over, run, start}
 
@@ -19,6 +19,6 @@ lines_in (w ∷ v ∷ ws) = do
 -- the history that a text is
 abbrev pub history_in : List ℕ → Option (List EntryValue)
 history_in text = do
-  lines ← lines_in (pieces 10 text)
+  lines ← lines_in (pieces line_feed text)
   read ← run start lines
   if is_over read.0.stage then Some read.1 else None

@@ -40,7 +40,7 @@ pub fn completions_fit(completions: &Completions)
 }
 
 fn polled_fits(completions: &Completions)
-    ensures { length completions.now ≤ 255 }
+    ensures { length completions.now ≤ u8.MAX }
 {
     completions_fit(completions);
 }

@@ -25,7 +25,7 @@ pub fn runs_fit(runs: &[Run])
 
 /// What holds of each page holds of all.
 pub fn pages_fit(pages: &[u16])
-    ensures { AllByRecursion (λ page. page ≤ 65535) pages.now }
+    ensures { AllByRecursion (λ page. page ≤ u16.MAX) pages.now }
 {
     for page in pages {
         u16_fits(*page);

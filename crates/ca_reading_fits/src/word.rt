@@ -5,22 +5,22 @@ use ca_base::{DomainId, Key, Lot, Piece, QueueId, Run, Slot};
 
 /// A number of 8 bits is below 256.
 pub fn u8_fits(_n: u8)
-    ensures { _n ≤ 255 }
+    ensures { _n ≤ u8.MAX }
 {}
 
 /// A number of 16 bits is below 65,536.
 pub fn u16_fits(_n: u16)
-    ensures { _n ≤ 65535 }
+    ensures { _n ≤ u16.MAX }
 {}
 
 /// A number of 32 bits is below 2^32.
 pub fn u32_fits(_n: u32)
-    ensures { _n ≤ 4294967295 }
+    ensures { _n ≤ u32.MAX }
 {}
 
 /// A number of 64 bits is below 2^64.
 pub fn u64_fits(_n: u64)
-    ensures { _n ≤ 18446744073709551615 }
+    ensures { _n ≤ u64.MAX }
 {}
 
 pub fn domain_fits(domain: DomainId)
@@ -77,7 +77,7 @@ pub fn lot_fits(lot: Lot)
 }
 
 pub fn perhaps_u16_fits(n: Option<u16>)
-    ensures { IfSome n (λ n. n ≤ 65535) }
+    ensures { IfSome n (λ n. n ≤ u16.MAX) }
 {
     if let Some(n) = n {
         u16_fits(n);
@@ -85,7 +85,7 @@ pub fn perhaps_u16_fits(n: Option<u16>)
 }
 
 pub fn perhaps_u32_fits(n: Option<u32>)
-    ensures { IfSome n (λ n. n ≤ 4294967295) }
+    ensures { IfSome n (λ n. n ≤ u32.MAX) }
 {
     if let Some(n) = n {
         u32_fits(n);
@@ -93,7 +93,7 @@ pub fn perhaps_u32_fits(n: Option<u32>)
 }
 
 pub fn perhaps_u64_fits(n: Option<u64>)
-    ensures { IfSome n (λ n. n ≤ 18446744073709551615) }
+    ensures { IfSome n (λ n. n ≤ u64.MAX) }
 {
     if let Some(n) = n {
         u64_fits(n);

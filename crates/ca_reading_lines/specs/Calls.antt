@@ -4,14 +4,14 @@ use Rattle.std.specs.Str.{bytes_eq}
 use Rattle.ca_trace.specs.declared.line.Line.{Line}
 use Rattle.ca_trace.specs.declared.line.Line.TheVariants as lines
 use Rattle.ca_trace.specs.Lines.{line_text}
-use Rattle.ca_reading_words.specs.Words.{◌>>=◌, next_of, lettered_in}
+use Rattle.ca_reading_words.specs.Words.{◌>>=◌, next_of, lettered_in, max_u32}
 use Rattle.ca_reading_verbs.specs.Verbs.{verb_at}
 use Rattle.ca_reading_lines.specs.Reading.{line_in}
 use Rattle.ca_reading_lines.specs.Answers.{answer_at}
 
 unfoldable pub call_at : ℕ → ℕ → List ℕ → List (List ℕ) → Option Line
 call_at stamp pass name ws = do
-  by ← lettered_in 4294967295 name
+  by ← lettered_in max_u32 name
   verb ← verb_at ws
   arrow ← next_of verb.1
   answer ← answer_at arrow.1

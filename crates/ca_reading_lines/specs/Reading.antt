@@ -8,7 +8,7 @@ use Rattle.ca_model.specs.declared.mark.Mark.{Mark}
 use Rattle.ca_model.specs.declared.mark.Mark.TheVariants as marks
 use Rattle.ca_trace.specs.declared.line.Line.{Line}
 use Rattle.ca_trace.specs.declared.line.Line.TheVariants as lines
-use Rattle.ca_reading_words.specs.Words.{◌>>=◌, pieces, next_of, field, lettered_in, perhaps_in, in_adapter_in, domain_in, queue_in, queues_in, key_in, address_in, hex_in, list_in, run_in}
+use Rattle.ca_reading_words.specs.Words.{◌>>=◌, pieces, next_of, field, lettered_in, perhaps_in, in_adapter_in, domain_in, queue_in, queues_in, key_in, address_in, hex_in, list_in, run_in, space, max_u16, max_u32, max_u64}
 use Rattle.ca_reading_words.specs.Names.{object_in, alarm_in, kind_in, lot_in, cause_in, drop_in}
 use Rattle.ca_reading_verbs.specs.Verbs.{verb_at}
 use Rattle.ca_reading_words.specs.Fields.{Words, u8_in, u32_in, u64_in, rights_at}
@@ -53,7 +53,7 @@ local_mark_at ws = do
 
 unfoldable pub stored_at : Words → Option Mark
 stored_at ws = do
-  buffer ← field (in_adapter_in 65535) ws
+  buffer ← field (in_adapter_in max_u16) ws
   offset ← field u32_in buffer.1
   bytes ← field hex_in offset.1
   Some (marks.Stored (record { adapter = buffer.0.0; buffer = buffer.0.1; offset = offset.0 }) bytes.0)
@@ -141,11 +141,11 @@ is_consumer (c ∷ cs) = c == 99
 
 unfoldable pub head_at : Words → Option Line
 head_at ws = do
-  stamp ← field (lettered_in 18446744073709551615) ws
-  pass ← field (lettered_in 4294967295) stamp.1
+  stamp ← field (lettered_in max_u64) ws
+  pass ← field (lettered_in max_u32) stamp.1
   name ← next_of pass.1
   if is_consumer name.0 then (do
-    by ← lettered_in 4294967295 name.0
+    by ← lettered_in max_u32 name.0
     verb ← verb_at name.1
     arrow ← next_of verb.1
     answer ← answer_at arrow.1
@@ -176,4 +176,4 @@ line_at ws = do
 
 -- what a line is read as
 abbrev pub line_in : List ℕ → Option Line
-line_in text = line_at (pieces 32 text)
+line_in text = line_at (pieces space text)

@@ -8,7 +8,7 @@ use Rattle.ca_keys.specs.declared.names.Slot.{Slot}
 use Rattle.ca_base.specs.declared.request.RecvRequest.{RecvRequest}
 use Rattle.ca_model.specs.declared.verb.Verb.{Verb}
 use Rattle.ca_model.specs.declared.verb.Verb.TheVariants as verbs
-use Rattle.ca_reading_words.specs.Words.{◌>>=◌, next_of, field, perhaps_in, in_adapter_in, domain_in, queue_in, slot_in, hex_in, has, pieces_in}
+use Rattle.ca_reading_words.specs.Words.{◌>>=◌, next_of, field, perhaps_in, in_adapter_in, domain_in, queue_in, slot_in, hex_in, has, pieces_in, max_u16}
 use Rattle.ca_reading_words.specs.Fields.{Words, u8_in, u16_in, u32_in, u64_in, rights_at}
 use Rattle.ca_reading_verbs.specs.Operations.{operation_at}
 
@@ -106,14 +106,14 @@ wait_at ws = do
 
 unfoldable pub store_at : Words → Option (Verb × Words)
 store_at ws = do
-  buffer ← field (in_adapter_in 65535) ws
+  buffer ← field (in_adapter_in max_u16) ws
   offset ← field u32_in buffer.1
   bytes ← field hex_in offset.1
   Some (verbs.Store buffer.0.0 buffer.0.1 offset.0 bytes.0, bytes.1)
 
 unfoldable pub load_at : Words → Option (Verb × Words)
 load_at ws = do
-  buffer ← field (in_adapter_in 65535) ws
+  buffer ← field (in_adapter_in max_u16) ws
   offset ← field u32_in buffer.1
   count ← field u32_in offset.1
   Some (verbs.Load buffer.0.0 buffer.0.1 offset.0 count.0, count.1)

@@ -28,7 +28,7 @@ use Rattle.ca_keys.specs.Spelling.{kind_text, denial_text}
 use Rattle.ca_base.specs.Spelling.{state_text, operation_text, status_text, op_refusal_text}
 use Rattle.ca_trace_words.specs.ca_model.Answers.{refusal_text, drop_text}
 use Rattle.ca_trace_words.specs.Words.{object_text, side_text, alarm_text}
-use Rattle.ca_reading_words.specs.Words.{◌>>=◌, pieces, next_of, field, number_in}
+use Rattle.ca_reading_words.specs.Words.{◌>>=◌, pieces, next_of, field, number_in, colon, max_u8}
 
 -- the first of these values whose text a word is
 unfoldable pub find_named : {X : Type 0} → (X → List ℕ) → List X → List ℕ → Option X
@@ -142,8 +142,8 @@ lot_in w =
     if bytes_eq w (codes "pass") then Some lots.Pass
     else if bytes_eq w (codes "lose") then Some lots.Lose
     else (do
-      name ← next_of (pieces 58 w)
-      count ← field (number_in 255) name.1
+      name ← next_of (pieces colon w)
+      count ← field (number_in max_u8) name.1
       if bytes_eq name.0 (codes "repeat") then Some (lots.Repeat count.0)
           else if bytes_eq name.0 (codes "hold") then Some (lots.Hold count.0)
           else None)

@@ -16,6 +16,38 @@ use Rattle.ca_keys.specs.Spelling.{dash}
 use Rattle.ca_reading_words.specs.declared.stop.Stop.{Stop}
 use Rattle.ca_reading_words.specs.declared.stop.Stop.TheVariants as stops
 
+-- the bytes that stand between lines, between words and between the parts of a word
+abbrev pub line_feed : ℕ
+line_feed = 10
+
+abbrev pub space : ℕ
+space = 32
+
+abbrev pub slash : ℕ
+slash = 47
+
+abbrev pub colon : ℕ
+colon = 58
+
+abbrev pub comma : ℕ
+comma = 44
+
+abbrev pub plus : ℕ
+plus = 43
+
+-- the greatest numbers of 8, 16, 32 and 64 bits
+abbrev pub max_u8 : ℕ
+max_u8 = 255
+
+abbrev pub max_u16 : ℕ
+max_u16 = 65535
+
+abbrev pub max_u32 : ℕ
+max_u32 = 4294967295
+
+abbrev pub max_u64 : ℕ
+max_u64 = 18446744073709551615
+
 -- a step after another, where that one gave a value
 infixl 10 ◌>>=◌
 abbrev pub ◌>>=◌ : {A B : Type 0} → Option A → (A → Option B) → Option B
@@ -80,25 +112,25 @@ perhaps_in reader w = if bytes_eq w dash then Some None else (reader w >>= λ x.
 -- an adapter, and a number there
 unfoldable pub in_adapter_in : ℕ → List ℕ → Option (ℕ × ℕ)
 in_adapter_in most w = do
-  adapter ← field (number_in 255) (pieces 47 w)
+  adapter ← field (number_in max_u8) (pieces slash w)
   number ← field (number_in most) adapter.1
   Some (adapter.0, number.0)
 
 unfoldable pub domain_in : List ℕ → Option DomainId
 domain_in w = do
-  d ← in_adapter_in 255 w
+  d ← in_adapter_in max_u8 w
   Some (record { adapter = d.0; domain = d.1 })
 
 unfoldable pub queue_in : List ℕ → Option QueueId
 queue_in w = do
-  q ← in_adapter_in 4294967295 w
+  q ← in_adapter_in max_u32 w
   Some (record { adapter = q.0; number = q.1 })
 
 unfoldable pub slot_in : List ℕ → Option Slot
 slot_in w = do
-  adapter ← field (number_in 255) (pieces 47 w)
-  domain ← field (number_in 255) adapter.1
-  slot ← field (number_in 65535) domain.1
+  adapter ← field (number_in max_u8) (pieces slash w)
+  domain ← field (number_in max_u8) adapter.1
+  slot ← field (number_in max_u16) domain.1
   Some (record { domain = record { adapter = adapter.0; domain = domain.0 }; slot = slot.0 })
 
 -- any queue pair, or one
@@ -108,11 +140,11 @@ queues_in w = if bytes_eq w (codes "any") then Some None else (queue_in w >>= λ
 -- a number of hexadecimal digits behind `0x`
 unfoldable pub key_in : List ℕ → Option Key
 key_in w = do
-  number ← value_in 16 4294967295 (drop 2 w)
+  number ← value_in 16 max_u32 (drop 2 w)
   Some (record { 0 = number })
 
 unfoldable pub address_in : List ℕ → Option ℕ
-address_in w = value_in 16 18446744073709551615 (drop 2 w)
+address_in w = value_in 16 max_u64 (drop 2 w)
 
 -- the value of a hexadecimal digit in lower case; any other byte has a value below 16 too
 abbrev pub hex_digit : ℕ → ℕ
@@ -151,13 +183,13 @@ all_in reader (w ∷ ws) = do
 
 -- a list with commas between, or nothing
 abbrev pub list_in : {Y : Type 0} → (List ℕ → Option Y) → List ℕ → Option (List Y)
-list_in reader w = if bytes_eq w dash then Some [] else all_in reader (pieces 44 w)
+list_in reader w = if bytes_eq w dash then Some [] else all_in reader (pieces comma w)
 
 unfoldable pub piece_in : List ℕ → Option Piece
 piece_in w = do
-  key ← field key_in (pieces 58 w)
+  key ← field key_in (pieces colon w)
   address ← field address_in key.1
-  count ← field (number_in 4294967295) address.1
+  count ← field (number_in max_u32) address.1
   Some (record { address = address.0; key = key.0; length = count.0 })
 
 -- the pieces of a list, of which a request has at most four
@@ -169,8 +201,8 @@ pieces_in w = do
 -- A/B:OFFSET+LENGTH
 unfoldable pub run_in : List ℕ → Option Run
 run_in w = do
-  buffer ← field (in_adapter_in 65535) (pieces 58 w)
-  offset ← field (λ part. Some (pieces 43 part)) buffer.1
-  first ← field (number_in 4294967295) offset.0
-  count ← field (number_in 4294967295) first.1
+  buffer ← field (in_adapter_in max_u16) (pieces colon w)
+  offset ← field (λ part. Some (pieces plus part)) buffer.1
+  first ← field (number_in max_u32) offset.0
+  count ← field (number_in max_u32) first.1
   Some (record { adapter = buffer.0.0; buffer = buffer.0.1; offset = first.0; length = count.0 })

@@ -8,7 +8,7 @@ use ca_base::QueueId;
 
 /// A number of 32 bits behind a letter, by the first word.
 pub fn take_lettered_u32(line: &mut Pieces) -> Result<u32, Stop>
-    ensures { Reads (λ x. x) result line.new (words.field (words.lettered_in 4294967295) line.old) }
+    ensures { Reads (λ x. x) result line.new (words.field (words.lettered_in u32.MAX) line.old) }
 {
     crate::id::lettered_u32_in(line.take_word()?)
 }

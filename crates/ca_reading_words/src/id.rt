@@ -22,7 +22,7 @@ fn behind_letter(word: &[u8]) -> &[u8]
 /// A number of 64 bits behind a letter.
 #[tactic(auto, unfolding(crate::specs::Words::lettered_in))]
 pub fn lettered_u64_in(word: &[u8]) -> Result<u64, Stop>
-    ensures { Gives result (words.lettered_in 18446744073709551615 word.now) }
+    ensures { Gives result (words.lettered_in u64.MAX word.now) }
 {
     u64_in(behind_letter(word))
 }
@@ -30,16 +30,16 @@ pub fn lettered_u64_in(word: &[u8]) -> Result<u64, Stop>
 /// A number of 32 bits behind a letter.
 #[tactic(auto, unfolding(crate::specs::Words::lettered_in))]
 pub fn lettered_u32_in(word: &[u8]) -> Result<u32, Stop>
-    ensures { Gives result (words.lettered_in 4294967295 word.now) }
+    ensures { Gives result (words.lettered_in u32.MAX word.now) }
 {
     u32::in_word(behind_letter(word))
 }
 
 /// An adapter, and a buffer there.
 impl InWord for (u8, u16) {
-    ghost use Rattle.ca_reading_words.specs.Words.{in_adapter_in};
+    ghost use Rattle.ca_reading_words.specs.Words.{in_adapter_in, max_u16};
 
-    ghost reading = { in_adapter_in 65535 };
+    ghost reading = { in_adapter_in max_u16 };
 
     #[tactic(auto, unfolding(crate::specs::Words::in_adapter_in))]
     fn in_word(word: &[u8]) -> Result<(u8, u16), Stop> {
@@ -132,7 +132,7 @@ impl InWord for Key {
 
     #[tactic(auto, unfolding(crate::specs::Words::key_in))]
     fn in_word(word: &[u8]) -> Result<Key, Stop> {
-        Ok(Key(value_in(16, 0xFFFF_FFFF, behind_prefix(word))? as u32))
+        Ok(Key(value_in(16, u64::from(u32::MAX), behind_prefix(word))? as u32))
     }
 }
 

@@ -49,7 +49,7 @@ fn run_in(word: &[u8]) -> Result<Run, Stop>
 /// What each word of a list is read as.
 #[tactic(auto, using(crate::proofs::ListLemmas::reading))]
 fn all_pages(alloc: Global, mut parts: Pieces) -> Result<Vec<u16>, Stop>
-    ensures { GivesAs (λ list. list.items) result (words.all_in (words.number_in 65535) parts.entry) }
+    ensures { GivesAs (λ list. list.items) result (words.all_in (words.number_in u16.MAX) parts.entry) }
 {
     let mut list = Vec::new(alloc);
     while !parts.is_empty() {
@@ -87,7 +87,7 @@ fn all_pieces(alloc: Global, mut parts: Pieces) -> Result<Vec<Piece>, Stop>
 
 /// Page numbers with commas between, or none.
 pub(crate) fn pages_in(alloc: Global, word: &[u8]) -> Result<Pages, Stop>
-    ensures { Gives result (words.list_in (words.number_in 65535) word.now) }
+    ensures { Gives result (words.list_in (words.number_in u16.MAX) word.now) }
 {
     if is_name(word, "-") {
         return Ok(Pages::empty(alloc));

@@ -17,7 +17,7 @@ pub fn take_hex(alloc: Global, line: &mut Pieces) -> Result<Bytes, Stop>
 
 /// Page numbers, by the first word.
 pub fn take_pages(alloc: Global, line: &mut Pieces) -> Result<Pages, Stop>
-    ensures { Reads (λ x. x) result line.new (words.field (words.list_in (words.number_in 65535)) line.old) }
+    ensures { Reads (λ x. x) result line.new (words.field (words.list_in (words.number_in u16.MAX)) line.old) }
 {
     crate::list::pages_in(alloc, line.take_word()?)
 }

@@ -6,24 +6,18 @@ ghost use Rattle.ca_reading_words.specs.Words.{Gives};
 use crate::in_word::InWord;
 use crate::stop::Stop;
 
+/// The value of a byte that is no digit of any base.
+const NO_DIGIT: u8 = 36;
+
 /// The value of a digit, from 0 for `0` to 35 for `z`, and 36 for any other byte.
 fn digit(c: u8) -> u8
     ensures { result ≡ digit_value c }
 {
-    if c < 48 {
-        36
-    } else if c < 58 {
-        c - 48
-    } else if c < 65 {
-        36
-    } else if c < 91 {
-        c - 55
-    } else if c < 97 {
-        36
-    } else if c < 123 {
-        c - 87
-    } else {
-        36
+    match c {
+        b'0'..=b'9' => c - b'0',
+        b'A'..=b'Z' => c - b'A' + 10,
+        b'a'..=b'z' => c - b'a' + 10,
+        _ => NO_DIGIT,
     }
 }
 
@@ -53,49 +47,49 @@ pub(crate) fn value_in(base: u64, most: u64, word: &[u8]) -> Result<u64, Stop>
 
 /// A number of 64 bits.
 pub fn u64_in(word: &[u8]) -> Result<u64, Stop>
-    ensures { Gives result (words.number_in 18446744073709551615 word.now) }
+    ensures { Gives result (words.number_in u64.MAX word.now) }
 {
     value_in(10, u64::MAX, word)
 }
 
 /// A number of 8 bits.
 impl InWord for u8 {
-    ghost use Rattle.ca_reading_words.specs.Words.{number_in};
+    ghost use Rattle.ca_reading_words.specs.Words.{number_in, max_u8};
 
-    ghost reading = { number_in 255 };
+    ghost reading = { number_in max_u8 };
 
     fn in_word(word: &[u8]) -> Result<u8, Stop> {
-        Ok(value_in(10, 0xFF, word)? as u8)
+        Ok(value_in(10, u64::from(u8::MAX), word)? as u8)
     }
 }
 
 /// A number of 16 bits.
 impl InWord for u16 {
-    ghost use Rattle.ca_reading_words.specs.Words.{number_in};
+    ghost use Rattle.ca_reading_words.specs.Words.{number_in, max_u16};
 
-    ghost reading = { number_in 65535 };
+    ghost reading = { number_in max_u16 };
 
     fn in_word(word: &[u8]) -> Result<u16, Stop> {
-        Ok(value_in(10, 0xFFFF, word)? as u16)
+        Ok(value_in(10, u64::from(u16::MAX), word)? as u16)
     }
 }
 
 /// A number of 32 bits.
 impl InWord for u32 {
-    ghost use Rattle.ca_reading_words.specs.Words.{number_in};
+    ghost use Rattle.ca_reading_words.specs.Words.{number_in, max_u32};
 
-    ghost reading = { number_in 4294967295 };
+    ghost reading = { number_in max_u32 };
 
     fn in_word(word: &[u8]) -> Result<u32, Stop> {
-        Ok(value_in(10, 0xFFFF_FFFF, word)? as u32)
+        Ok(value_in(10, u64::from(u32::MAX), word)? as u32)
     }
 }
 
 /// A number of 64 bits.
 impl InWord for u64 {
-    ghost use Rattle.ca_reading_words.specs.Words.{number_in};
+    ghost use Rattle.ca_reading_words.specs.Words.{number_in, max_u64};
 
-    ghost reading = { number_in 18446744073709551615 };
+    ghost reading = { number_in max_u64 };
 
     fn in_word(word: &[u8]) -> Result<u64, Stop> {
         u64_in(word)
