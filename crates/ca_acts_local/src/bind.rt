@@ -53,10 +53,8 @@ pub(crate) fn bind(
 {
     let site = site_of(settings, reached, q, op, drawn);
     let mut windows = q.windows;
-    match bind_at(alloc, reached, op, site, &mut windows) {
-        Ok(marks) => Ok(Made { marks, windows }),
-        Err(error) => Err(error),
-    }
+    let marks = bind_at(alloc, reached, op, site, &mut windows)?;
+    Ok(Made { marks, windows })
 }
 
 /// Where a bind of a queue pair takes place.

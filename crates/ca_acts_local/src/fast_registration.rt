@@ -38,11 +38,9 @@ pub(crate) fn register(
     let bytes = settings
         .buffer_length(q.domain.adapter, *buffer)
         .unwrap_or(0);
-    match fast(alloc, reached.regions.at_mut(slot), op, slot, bytes) {
-        Ok(marks) => Ok(Made {
-            marks,
-            windows: q.windows,
-        }),
-        Err(error) => Err(error),
-    }
+    let marks = fast(alloc, reached.regions.at_mut(slot), op, slot, bytes)?;
+    Ok(Made {
+        marks,
+        windows: q.windows,
+    })
 }

@@ -140,14 +140,10 @@ pub(crate) fn take_turn(
     let Ok(copy) = Vec::with_capacity(alloc, sender.most(q)) else {
         return Err(StepError::Memory);
     };
-    match turn_held(held, queue, sender, room, &mut marks, &mut bytes) {
-        Ok(sent) => {
-            put_done(held, &to, marks.as_slice());
-            leave(held, path, lot, sent, bytes, copy, &mut marks);
-            Ok(marks)
-        }
-        Err(error) => Err(error),
-    }
+    let sent = turn_held(held, queue, sender, room, &mut marks, &mut bytes)?;
+    put_done(held, &to, marks.as_slice());
+    leave(held, path, lot, sent, bytes, copy, &mut marks);
+    Ok(marks)
 }
 
 /// The engine of a queue pair that is held carries out its row, if it can; it reaches what is held.

@@ -56,13 +56,9 @@ pub fn timeout(
     let silent = is_silent(held, q, peer);
     let to = Outlets::of(q);
     let mut marks = Marks::empty(alloc);
-    match fire(held, queue, silent, hasten, &mut marks) {
-        Ok(()) => {
-            put_done(held, &to, marks.as_slice());
-            Ok(marks)
-        }
-        Err(error) => Err(error),
-    }
+    fire(held, queue, silent, hasten, &mut marks)?;
+    put_done(held, &to, marks.as_slice());
+    Ok(marks)
 }
 
 /// The timer of a queue pair that is held fires, or does not.
@@ -161,10 +157,8 @@ pub fn rnr_wake(
         return Err(StepError::NotReady(Reason::State));
     };
     let peer_empty = is_peer_empty(held, q, peer);
-    match wake(held, queue, peer_empty) {
-        Ok(()) => Ok(Marks::empty(alloc)),
-        Err(error) => Err(error),
-    }
+    wake(held, queue, peer_empty)?;
+    Ok(Marks::empty(alloc))
 }
 
 /// The waiting of a queue pair that is held ends, or does not.

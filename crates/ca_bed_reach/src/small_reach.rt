@@ -91,10 +91,8 @@ impl SmallReach {
     {
         let window = Some(&mut self.window);
         let region = Some(&mut self.region);
-        match ca_localops::invalidate(window, region, windows, key, queue) {
-            Ok(_) => Ok(()),
-            Err(refusal) => Err(refusal),
-        }
+        ca_localops::invalidate(window, region, windows, key, queue)?;
+        Ok(())
     }
 }
 
@@ -148,10 +146,8 @@ impl Reach for SmallReach {
         queue: QueueId,
         windows: &mut WindowCount,
     ) -> Result<(), OpRefusal> {
-        match self.end_key(key, queue, windows) {
-            Ok(()) => Ok(()),
-            Err(refusal) => Err(refusal),
-        }
+        self.end_key(key, queue, windows)?;
+        Ok(())
     }
 }
 

@@ -65,19 +65,15 @@ impl Row {
         if self.taken.reserve(usize::from(MOST_TAKEN)).is_err() {
             return Err(StepError::Memory);
         }
-        match act_in_hand(
+        let marks = act_in_hand(
             alloc,
             &self.settings,
             event,
             &mut self.parts,
             &mut self.held,
             &mut self.taken,
-        ) {
-            Ok(marks) => {
-                self.count += 1;
-                Ok(marks)
-            }
-            Err(error) => Err(error),
-        }
+        )?;
+        self.count += 1;
+        Ok(marks)
     }
 }

@@ -149,10 +149,7 @@ pub fn take_all(
         let Some(name) = next_asked(&settings, ask, held) else {
             return Ok(n);
         };
-        match take_named(parts, pass, ask, name, held, names) {
-            Ok(later) => n = later,
-            Err(error) => return Err(error),
-        }
+        n = take_named(parts, pass, ask, name, held, names)?;
     }
     unreachable!()
 }

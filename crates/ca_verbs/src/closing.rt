@@ -34,10 +34,8 @@ impl Fabric {
         ensures history { IfOk result (λ j. IsHistoryOf (settings_in self) (known_of pass) j.items) }
         ensures lawful { IfOk result (λ j. IsLawful (settings_in self) j.items) }
     {
-        match self.into_parts(pass) {
-            Ok(Remains { entries, parts: _ }) => Ok(entries),
-            Err(error) => Err(error),
-        }
+        let Remains { entries, parts: _ } = self.into_parts(pass)?;
+        Ok(entries)
     }
 
     /// Ends the fabric as `close` does, and gives its parts too. The entries are those of the pass and no others.

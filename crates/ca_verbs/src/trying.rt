@@ -115,31 +115,28 @@ pub(crate) fn try_turn_event(
     ensures same { OnErr result (SameRecord (view_of pass.old) (view_of pass.new)) }
 {
     let ask = Ask::Turn(turn, weather);
-    match take_all(parts, pass, ask, held, names) {
-        Ok(n) => {
-            let Some(event) = event_of(held, turn, weather) else {
-                put_back(parts, pass, held, names.as_slice(), out);
-                return Err(TryError::NotReady(n, Reason::Empty));
-            };
-            lists_fit(&event);
-            match act_in_hand(
-                alloc,
-                parts,
-                pass,
-                ask,
-                &event,
-                n,
-                held,
-                names.as_slice(),
-                out,
-            ) {
-                Ok(made) => Ok((event, made)),
-                Err(error) => Err(error),
-            }
-        }
+    let n = match take_all(parts, pass, ask, held, names) {
+        Ok(n) => n,
         Err(error) => {
             put_back(parts, pass, held, names.as_slice(), out);
-            Err(error_of(error))
+            return Err(error_of(error));
         }
-    }
+    };
+    let Some(event) = event_of(held, turn, weather) else {
+        put_back(parts, pass, held, names.as_slice(), out);
+        return Err(TryError::NotReady(n, Reason::Empty));
+    };
+    lists_fit(&event);
+    let made = act_in_hand(
+        alloc,
+        parts,
+        pass,
+        ask,
+        &event,
+        n,
+        held,
+        names.as_slice(),
+        out,
+    )?;
+    Ok((event, made))
 }

@@ -57,7 +57,7 @@ impl Fabric {
         if pass.make_room().is_err() {
             return Err(TryError::Memory);
         }
-        match try_event(
+        let made = try_event(
             self.alloc,
             &self.parts,
             &mut pass.parts,
@@ -66,20 +66,16 @@ impl Fabric {
             &mut pass.held,
             &mut pass.names,
             &mut pass.out,
-        ) {
-            Ok(made) => {
-                let stamp = made.stamp;
-                pass.latest = Some(pass.entries.len());
-                pass.entries.push_reserved(Entry {
-                    stamp,
-                    pass: number,
-                    event,
-                    marks: made.marks,
-                });
-                Ok(Receipt { stamp })
-            }
-            Err(error) => Err(error),
-        }
+        )?;
+        let stamp = made.stamp;
+        pass.latest = Some(pass.entries.len());
+        pass.entries.push_reserved(Entry {
+            stamp,
+            pass: number,
+            event,
+            marks: made.marks,
+        });
+        Ok(Receipt { stamp })
     }
 
     /// Makes a turn of a queue pair's engine once, under a weather, which says the lot of what is sent and whether a timer
@@ -99,7 +95,7 @@ impl Fabric {
         if pass.make_room().is_err() {
             return Err(TryError::Memory);
         }
-        match try_turn_event(
+        let (event, made) = try_turn_event(
             self.alloc,
             &self.parts,
             &mut pass.parts,
@@ -108,19 +104,15 @@ impl Fabric {
             &mut pass.held,
             &mut pass.names,
             &mut pass.out,
-        ) {
-            Ok((event, made)) => {
-                let stamp = made.stamp;
-                pass.latest = Some(pass.entries.len());
-                pass.entries.push_reserved(Entry {
-                    stamp,
-                    pass: number,
-                    event,
-                    marks: made.marks,
-                });
-                Ok(Receipt { stamp })
-            }
-            Err(error) => Err(error),
-        }
+        )?;
+        let stamp = made.stamp;
+        pass.latest = Some(pass.entries.len());
+        pass.entries.push_reserved(Entry {
+            stamp,
+            pass: number,
+            event,
+            marks: made.marks,
+        });
+        Ok(Receipt { stamp })
     }
 }

@@ -1,4 +1,5 @@
 use Rattle.std.proofs.Common.{◌≡◌, ◌+◌, ◌∙◌, arith, ap, length, sym}
+use Rattle.std.proofs.lemmas.Result.{err_from_is_err_and}
 use Rattle.ca_adapter.proofs.ReadyLemmas.{queues_can_step, shared_are_sound}
 use Rattle.ca_base.specs.Configuration.{configuration_in}
 use Rattle.ca_base.specs.declared.settings.Settings.{Settings}
@@ -34,16 +35,18 @@ pub returns-in_default-clause-took : goal.returns-in_default-clause-took
 returns-in_default-clause-took c = all.went-all _ _ _ _ _ _ _ _ c.loop.invariant.going
     (ap (λ (k : Settings). next_part (holding c.loop.held).parts (holding c.loop.held).world (asked_needs (configuration_in k) (asked_of c.args.ask))) (sym c.settings.ensures) ∙ sym c.next_asked.ensures ∙ c.in_default.is)
 
-pub returns-in-Err-clause-stopped : goal.returns-in-Err-clause-stopped
-returns-in-Err-clause-stopped c = all.stopped-on _ _ _ _ _ _ _ _ _ _ c.loop.invariant.going c.in-Err.ensures.stopped
+pub returns-in_err-n-clause-stopped : goal.returns-in_err-n-clause-stopped
+returns-in_err-n-clause-stopped c =
+    let p = err_from_is_err_and c.from_residual.result c.from_residual.ensures.1 in
+    rw (p.1, p.2) (all.stopped-on _ _ _ _ _ _ _ _ _ _ c.loop.invariant.going c.in_err-n.ensures.stopped)
 
-pub returns-in-Err-clause-few : goal.returns-in-Err-clause-few
-returns-in-Err-clause-few c = omega (arith, ap length c.in-Err.ensures.kept, c.loop.invariant.going.number, all.few-taken _ _ _ _ _ _ _ _ c.loop.invariant.going)
+pub returns-in_err-n-clause-few : goal.returns-in_err-n-clause-few
+returns-in_err-n-clause-few c = omega (arith, ap length c.in_err-n.ensures.kept, c.loop.invariant.going.number, all.few-taken _ _ _ _ _ _ _ _ c.loop.invariant.going)
 
 pub loop-preserved : goal.loop-preserved
 loop-preserved c = record {
-  of = c.in-Ok.ensures.of;
-  going = all.going-on _ _ _ _ _ _ _ _ _ _ _ _ _ c.loop.invariant.going c.in-Ok.ensures.took.0 c.in-Ok.ensures.took.1 c.in-Ok.ensures.same (c.in-Ok.ensures.more ∙ ap (λ k. k + 1) c.loop.invariant.going.number);
+  of = c.in_ok-n.ensures.of;
+  going = all.going-on _ _ _ _ _ _ _ _ _ _ _ _ _ c.loop.invariant.going c.in_ok-n.ensures.took.0 c.in_ok-n.ensures.took.1 c.in_ok-n.ensures.same (c.in_ok-n.ensures.more ∙ ap (λ k. k + 1) c.loop.invariant.going.number);
 }
 
 pub unreachable-requires : goal.unreachable-requires

@@ -5,6 +5,6 @@ use Rattle.ca_parts.specs.Rows.{view_of}
 use Rattle.ca_verbs.proofs.ReceiptLemmas.{receipt-of}
 use Rattle.ca_verbs.proofs.fabric.Fabric.try_verb.Goals as goal
 
-pub returns-in-Ok-try_event-clause-made : goal.returns-in-Ok-try_event-clause-made
-returns-in-Ok-try_event-clause-made c = receipt-of _ _ _ _ _ _ _ _ _ c.in-Ok-try_event.made.marks c.make_room.new.self.entries.items _ c.len.result c.in-Ok-try_event.ensures.made (ap (λ p. view_of p) c.make_room.ensures.parts)
+pub returns-clause-made : goal.returns-clause-made
+returns-clause-made c = receipt-of _ _ _ _ _ _ _ _ _ c.in_ok-made.made.marks c.make_room.new.self.entries.items _ c.len.result c.in_ok-made.ensures.made (ap (λ p. view_of p) c.make_room.ensures.parts)
     (ap (λ v. asks.Event (events.Verb c.args.by v)) c.in-Ok.ensures.cases) (ap (events.Verb c.args.by) c.in-Ok.ensures.cases) refl (search rules) c.push_reserved.ensures.items c.number-number.ensures
