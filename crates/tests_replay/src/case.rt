@@ -1,8 +1,11 @@
+ghost use Rattle.std.specs.Prelude.{IfOk};
+ghost use Rattle.ca_replay.specs.Rows.{IsRow};
+
 use crate::work::Stop;
 use ca_base::{Bytes, Config, Reason};
 use ca_model::{Contents, Entry, Event, Marks, Opening};
 use ca_opening::{fit_contents, is_limited};
-use ca_replay::{ReplayError, replay};
+use ca_replay::{ReplayError, Row, replay};
 use ca_script::{ScriptError, read_script};
 use ca_trace::print;
 use std::alloc::Global;
@@ -23,6 +26,17 @@ impl Case {
             script: Vec::new(alloc),
             events: Vec::new(alloc),
         }
+    }
+
+    /// The row of all parts of the fabric, before the first event.
+    pub(crate) fn open(&self, alloc: Global) -> Result<Row, Stop>
+        ensures { IfOk result (λ row. IsRow row) }
+    {
+        let opening = opening_of(alloc, self.script.as_slice())?;
+        if !is_limited(&opening.config) || !fit_contents(&opening) {
+            return Err(Stop::Limits);
+        }
+        Ok(Row::open(alloc, &opening)?)
     }
 
     /// Replays the events, and adds the trace of what they do.

@@ -1,14 +1,16 @@
 use crate::case::Case;
+use crate::measure::measure;
 use crate::work::Stop;
 use ca_reading::{TraceError, TraceReader};
 use std::alloc::Global;
+use std::time::Clock;
 
 /// Whether the trace of a case begins with this line. No line of a script does so.
 fn begins_trace(line: &[u8]) -> bool {
     line.first() == Some(&b'@') || line.starts_with(b"end ")
 }
 
-/// Reads cases line by line, and replays each at the last line of its trace.
+/// Reads cases line by line.
 #[derive(Drop)]
 pub(crate) struct Cases {
     case: Case,
@@ -23,17 +25,12 @@ impl Cases {
         }
     }
 
-    /// Takes the next line; what a case that ends here gives is added.
-    pub(crate) fn line(
-        &mut self,
-        alloc: Global,
-        line: &[u8],
-        out: &mut Vec<u8>,
-    ) -> Result<(), Stop> {
+    /// Takes the next line. The case comes whose trace ends with it.
+    fn line(&mut self, alloc: Global, line: &[u8]) -> Result<Option<Case>, Stop> {
         if self.reader.is_none() && !begins_trace(line) {
             self.case.script.extend_from_slice(line)?;
             self.case.script.push(b'\n')?;
-            return Ok(());
+            return Ok(None);
         }
         let mut reader = self.reader.take().unwrap_or(TraceReader::start());
         match reader.line(alloc, line) {
@@ -44,10 +41,9 @@ impl Cases {
         }
         if reader.finish().is_err() {
             self.reader = Some(reader);
-            return Ok(());
+            return Ok(None);
         }
-        let case = std::mem::replace(&mut self.case, Case::empty(alloc));
-        case.replay(alloc, out)
+        Ok(Some(std::mem::replace(&mut self.case, Case::empty(alloc))))
     }
 }
 
@@ -55,7 +51,27 @@ impl Cases {
 pub(crate) fn replay_cases(alloc: Global, text: &[u8], out: &mut Vec<u8>) -> Result<(), Stop> {
     let mut cases = Cases::start(alloc);
     for line in text.split(|c| *c == b'\n') {
-        cases.line(alloc, line, out)?;
+        if let Some(case) = cases.line(alloc, line)? {
+            case.replay(alloc, out)?;
+        }
+    }
+    Ok(())
+}
+
+/// Makes the events of each case of a text, and gives a line for each with how many nanoseconds an event took.
+pub(crate) fn measure_cases<R: Clock + AllocGlobal>(
+    rt: &R,
+    text: &[u8],
+    out: &mut Vec<u8>,
+) -> Result<(), Stop> {
+    let alloc = rt.alloc();
+    let mut cases = Cases::start(alloc);
+    for line in text.split(|c| *c == b'\n') {
+        if let Some(case) = cases.line(alloc, line)? {
+            let (count, each) = (case.events.len(), measure(rt, &case)?);
+            let text = format!(in alloc; "{count} events, {each} nanoseconds each\n")?;
+            out.extend_from_slice(text.as_bytes())?;
+        }
     }
     Ok(())
 }

@@ -1,10 +1,12 @@
-use crate::cases::replay_cases;
+use crate::cases::{measure_cases, replay_cases};
 use ca_base::Memory;
 use ca_outside::{StdSink, StdSource, read_up_to, write_all};
 use ca_script::ScriptCause;
 use std::alloc::{AllocError, AllocFailed};
-use std::io;
 use std::process::ExitCode;
+use std::rt::Env;
+use std::time::Clock;
+use std::{env, io};
 
 /// The most bytes that are read.
 const MOST: usize = 268_435_456;
@@ -18,7 +20,17 @@ pub(crate) enum Stop {
     Trace(u32),
     /// The fabric or the events are beyond their limits.
     Limits,
+    /// This event, of those that are measured, is not possible, or no memory was left for it.
+    Event(u32),
+    /// The clock cannot be read.
+    Clock,
     Memory,
+}
+
+impl From<io::Error> for Stop {
+    fn from(_: io::Error) -> Stop {
+        Stop::Clock
+    }
 }
 
 impl From<Memory> for Stop {
@@ -45,19 +57,39 @@ fn tell<R: Eprint>(rt: &R, stop: Stop) -> io::Result<()> {
         Stop::Script(line, cause) => eprintln!(rt; "script: line {line}: {cause}"),
         Stop::Trace(line) => eprintln!(rt; "trace: line {line}"),
         Stop::Limits => eprintln!(rt; "beyond the limits"),
+        Stop::Event(number) => eprintln!(rt; "@{number} is not made"),
+        Stop::Clock => eprintln!(rt; "no clock"),
         Stop::Memory => eprintln!(rt; "memory"),
     }
 }
 
-/// Replays the cases of standard input. It ends with 1 where one of them cannot be read.
-pub(crate) fn start<R: Input + Print + Eprint + AllocGlobal>(rt: &R) -> ExitCode {
+/// Whether the only word is `measure`; none comes where there are others.
+fn is_measuring<R: Env + AllocGlobal>(rt: &R) -> Option<bool> {
+    let mut args = env::args(rt).ok()?;
+    let _ = args.next();
+    match args.next() {
+        Some(word) => (word.as_str() == "measure").then_some(true),
+        None => Some(false),
+    }
+}
+
+/// Replays the cases of standard input, or measures them where the word `measure` says so. It ends with 1 where one of them
+/// cannot be read, and with 2 for other words.
+pub(crate) fn start<R: Env + Input + Print + Eprint + Clock + AllocGlobal>(rt: &R) -> ExitCode {
+    let Some(is_measuring) = is_measuring(rt) else {
+        return ExitCode::from(2);
+    };
     let alloc = rt.alloc();
     let mut source = StdSource::over(rt.reader());
     let Ok(text) = read_up_to(alloc, &mut source, MOST) else {
         return ExitCode::from(3);
     };
     let mut out = Vec::new(alloc);
-    let ended = replay_cases(alloc, text.as_slice(), &mut out);
+    let ended = if is_measuring {
+        measure_cases(rt, text.as_slice(), &mut out)
+    } else {
+        replay_cases(alloc, text.as_slice(), &mut out)
+    };
     if write_all(&mut StdSink::over(io::writer(rt)), out.as_slice()).is_err() {
         return ExitCode::from(4);
     }
