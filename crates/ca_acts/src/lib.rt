@@ -1,36 +1,21 @@
-//! Acts: what the verbs on objects do with the parts in hand.
+//! Acts: what all acts share. The call that is answered and the marks of its answer, copies of requests, completions that
+//! are put into held queues, and how what was done completes.
 //!
-//! To the layers above it promises that each act is the plan of its verb, carried out in the small world of what is
-//! held: the same marks and changes, and where memory ends, none.
+//! To the layers above it promises the marks of each answer, and that completions go to the queues of their queue pair in
+//! their order; where memory ends, nothing has changed.
 //!
 //! Source: InfiniBand Architecture Specification Volume 1, the chapter on the verbs; the order of refusals is this
 //! profile's choice.
 #![tactic(auto)]
 
 mod answers;
-mod completion_queues;
 mod completions;
 mod copies;
 mod depths;
-mod domains;
 mod done;
-mod host;
-mod posting;
-mod queue_pairs;
-mod regions;
-mod shared_receives;
-mod windows;
 
 pub use answers::{Call, Ready};
-pub use completion_queues::{create_cq, destroy_cq};
 pub use completions::{completions_to, put_completions};
 pub use copies::{copy_of_send, copy_of_small};
 pub use depths::is_no_depth;
-pub use domains::{alloc_pd, dealloc_pd};
 pub use done::{Outlets, put_done};
-pub use host::{load, store};
-pub use posting::post_srq;
-pub use queue_pairs::query_qp;
-pub use regions::{alloc_mr, dereg_mr, reg_mr};
-pub use shared_receives::{create_srq, destroy_srq};
-pub use windows::{alloc_mw, dealloc_mw};

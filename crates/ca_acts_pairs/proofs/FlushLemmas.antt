@@ -1,6 +1,7 @@
 -- Completions that are put into two completion queues, which may be one. For proofs only.
 use Rattle.std.proofs.Common.{◌≡◌, ◌∙◌, sym, subst, ap, true, false, List, Option}
 use Rattle.std.specs.Option.{option_map}
+use Rattle.ca_acts.proofs.DoneLemmas.{cq-twice}
 use Rattle.ca_acts.specs.Binders.{changed_by}
 use Rattle.ca_acts.specs.Room.{FitIn}
 use Rattle.ca_base.specs.declared.completion.Completion.{Completion}
@@ -13,7 +14,6 @@ use Rattle.ca_model.specs.machine.World.{Cq_of}
 use Rattle.ca_acts_pairs.specs.declared.around.Around.{Around}
 use Rattle.ca_acts_pairs.specs.Changed.{flush_updates}
 use Rattle.ca_acts_pairs.proofs.DepartureLemmas.{elsewhere}
-use Rattle.ca_acts_pairs.proofs.ReservationLemmas.{cq-twice}
 
 pub put_once : (h new : Holding) (a : Around) (sends receives : List Completion) → slot_eq a.send a.recv ≡ true → sends ≡ receives
     → new ≡ hold h (Cq_of a.send) (option_map (after_puts sends) (h.world.cq a.send))

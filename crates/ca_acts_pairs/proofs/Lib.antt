@@ -1,5 +1,3 @@
-mod ReservationLemmas
-mod CreateLemmas
 mod DepartureLemmas
 mod DestroyLemmas
 mod FlushLemmas

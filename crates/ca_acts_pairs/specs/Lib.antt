@@ -1,5 +1,3 @@
-pub mod Reservations
-pub mod Made
 pub mod Names
 pub mod Departures
 pub mod Destroyed

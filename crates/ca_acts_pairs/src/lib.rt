@@ -1,4 +1,4 @@
-//! Acts on queue pairs: what CreateQp, ModifyQp and DestroyQp do with the parts in hand.
+//! Acts on queue pairs: what ModifyQp and DestroyQp do with the parts in hand.
 //!
 //! To the layers above it promises that each act is the plan of its verb, carried out in the small world of what is
 //! held: the same marks and changes, and where memory ends, none.
@@ -9,16 +9,11 @@
 
 mod around;
 mod change;
-mod create;
-mod creation;
 mod departure;
 mod destroy;
 mod flush;
 mod mailbox;
 mod modify;
-mod reservations;
 
-pub use create::create_qp;
-pub use creation::Creation;
 pub use destroy::destroy_qp;
 pub use modify::modify_qp;

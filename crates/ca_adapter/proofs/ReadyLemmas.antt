@@ -8,7 +8,7 @@ use Rattle.ca_laws_pairs.proofs.of_ca_acts_laws.StepLemmas.{act-steps}
 use Rattle.ca_laws_pairs.specs.ca_acts_laws.Steps.{IsStepOf, Shows}
 use Rattle.ca_laws_pairs.specs.ca_acts_pairs.Changed.{CanChange}
 use Rattle.ca_laws_pairs.specs.ca_acts_pairs.Departures.{CanDepart}
-use Rattle.ca_laws_pairs.specs.ca_acts_pairs.Made.{shared_slot}
+use Rattle.ca_acts_creation.specs.Made.{shared_slot}
 use Rattle.ca_laws_pairs.specs.ca_acts_pairs.Names.{names_around}
 use Rattle.ca_acts_queues.specs.Drawing.{window_of_bind}
 use Rattle.ca_acts_queues.specs.Posting.{CanPostReceive, CanPostSend}

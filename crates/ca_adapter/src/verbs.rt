@@ -8,14 +8,16 @@ ghost use Rattle.ca_model.specs.machine.Sound.{CanBeMade};
 ghost use Rattle.ca_model.specs.machine.Step as machine;
 
 use ca_acts_arrivals::inject;
-use ca_acts_queues::ca_acts::{
-    Call, alloc_mr, alloc_mw, alloc_pd, create_cq, create_srq, dealloc_mw, dealloc_pd, dereg_mr,
+use ca_acts_creation::{Creation, create_qp};
+use ca_acts_objects::{
+    alloc_mr, alloc_mw, alloc_pd, create_cq, create_srq, dealloc_mw, dealloc_pd, dereg_mr,
     destroy_cq, destroy_srq, load, post_srq, query_qp, reg_mr, store,
 };
+use ca_acts_queues::ca_acts::Call;
 use ca_acts_queues::{poll, post_recv, post_send};
 use ca_base::{Bytes, Field, Place, Run, Settings, StepError};
 use ca_held::Held;
-use ca_laws_pairs::ca_acts_pairs::{Creation, create_qp, destroy_qp, modify_qp};
+use ca_laws_pairs::ca_acts_pairs::{destroy_qp, modify_qp};
 use ca_model::{Marks, Refusal, Verb};
 
 /// A verb whose names are configured: the act of each.

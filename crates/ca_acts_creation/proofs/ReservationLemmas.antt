@@ -2,6 +2,7 @@
 use Rattle.std.proofs.Common.{◌≡◌, ◌∙◌, refl, ap, ℕ, Bool, true, false, Option, None, Some, IfSome, if◌then◌else◌}
 use Rattle.std.proofs.Math.Path.{fun_ext}
 use Rattle.std.specs.Option.{option_map}
+use Rattle.ca_acts.proofs.DoneLemmas.{cq-twice}
 use Rattle.ca_base.specs.declared.reserve.Reserve.{Reserve}
 use Rattle.ca_base.specs.objects.CompletionQueue.{CompletionQueue, after_release, after_reserve}
 use Rattle.ca_cq.proofs.KeptRooms.{release-undoes}
@@ -14,7 +15,7 @@ use Rattle.ca_keys.specs.Equal.{slot_eq}
 use Rattle.ca_keys.specs.Numbers.{queue_of}
 use Rattle.ca_base.specs.declared.reserve.Reserve.TheVariants.{Sends}
 use Rattle.ca_model.specs.machine.QueuePairVerbs.{Creation, beside, receive_reserve}
-use Rattle.ca_acts_pairs.specs.Reservations.{after_reservations}
+use Rattle.ca_acts_creation.specs.Reservations.{after_reservations}
 use Rattle.ca_model.proofs.ThingLemmas.{slot-path, slot-refl}
 use Rattle.ca_model.specs.machine.World.{Cq_of}
 
@@ -29,14 +30,6 @@ same-cq h s v is = λ i. record h { world = record h.world { cq = fun_ext (λ t.
 pub kept_cq : (h : Held) (s : Slot) (v : Option CompletionQueue) → (holding h).has (Cq_of s) ≡ true → v ≡ (holding h).world.cq s
     → holding (with_cq h s v) ≡ holding h
 kept_cq h s v has is = put_cq h s v has ∙ same-cq (holding h) s v is
-
--- of two completion queues put in one slot the second stands there
-pub cq-twice : (h : Holding) (s : Slot) (u v : Option CompletionQueue) → hold (hold h (Cq_of s) u) (Cq_of s) v ≡ hold h (Cq_of s) v
-cq-twice h s u v = λ i. record h { world = record h.world { cq = fun_ext (λ t. by t (slot_eq s t)) i } }
-  where
-    by : (t : Slot) (b : Bool) → (if b then v else (if b then u else h.world.cq t)) ≡ (if b then v else h.world.cq t)
-    by t true = refl
-    by t false = refl
 
 -- what a slot has once a completion queue was put there
 pub cq-there : (h : Holding) (s : Slot) (v : Option CompletionQueue) → (hold h (Cq_of s) v).world.cq s ≡ v

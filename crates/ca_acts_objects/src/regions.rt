@@ -4,7 +4,7 @@ ghost use Rattle.ca_held.specs.HeldView.{holding};
 ghost use Rattle.ca_acts.specs.Act.{Acts, Suffices};
 ghost use Rattle.ca_acts.specs.Calls.{call_of};
 
-use crate::answers::Call;
+use ca_acts::Call;
 use ca_base::limits::MAX_PAGES;
 use ca_base::{Field, RegistrationError, Rights, Run, Slot, StepError};
 use ca_held::Held;
@@ -14,7 +14,7 @@ use ca_model::{Answer, Mark, Marks, Refusal};
 /// and answers its key. Refused, in this order: NoDomain, SlotTaken, and then as `Region::register` says. `Memory` leaves
 /// all as it was.
 /// Source: InfiniBand Architecture Specification Volume 1, the chapter on the verbs, Register Memory Region.
-#[tactic(auto, using(ca_held::proofs::HoldLemmas::put_region, ca_held::proofs::HoldLemmas::put_control, ca_held::proofs::HoldLemmas::kept_region, crate::proofs::RefusalLemmas::reg_refused))]
+#[tactic(auto, using(ca_held::proofs::HoldLemmas::put_region, ca_held::proofs::HoldLemmas::put_control, ca_held::proofs::HoldLemmas::kept_region, crate::proofs::RegionLemmas::reg_refused))]
 pub fn reg_mr(
     call: &Call<'_>,
     held: &mut Held,
@@ -85,7 +85,7 @@ pub fn alloc_mr(
 /// DeregMr: the slot is vacant again, and a key that was valid is revoked. Refused, in this order, as
 /// `Region::deregister` says: NoSuch, WindowsBound. `Memory` leaves all as it was.
 /// Source: InfiniBand Architecture Specification Volume 1, the chapter on the verbs, Deregister Memory Region.
-#[tactic(auto, using(ca_held::proofs::HoldLemmas::put_region, ca_held::proofs::HoldLemmas::put_control, ca_held::proofs::HoldLemmas::kept_region, crate::proofs::RefusalLemmas::dereg_refused))]
+#[tactic(auto, using(ca_held::proofs::HoldLemmas::put_region, ca_held::proofs::HoldLemmas::put_control, ca_held::proofs::HoldLemmas::kept_region, crate::proofs::RegionLemmas::dereg_refused))]
 pub fn dereg_mr(call: &Call<'_>, held: &mut Held, slot: Slot) -> Result<Marks, StepError>
     requires suffices { Suffices held.old (dereg_mr_plan (call_of call.now) slot) }
     ensures act { Acts result (dereg_mr_plan (call_of call.now) slot) held.old held.new }

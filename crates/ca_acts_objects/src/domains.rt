@@ -2,7 +2,7 @@ ghost use Rattle.ca_model.specs.machine.DomainVerbs.{alloc_pd_plan, dealloc_pd_p
 ghost use Rattle.ca_acts.specs.Calls.{call_of};
 ghost use Rattle.ca_acts.specs.Act.{Acts, Suffices};
 
-use crate::answers::Call;
+use ca_acts::Call;
 use ca_base::{DomainId, StepError};
 use ca_held::Held;
 use ca_model::{Answer, Marks, Refusal};

@@ -6,9 +6,9 @@ use Rattle.ca_base.specs.Configuration.{configuration_in}
 use Rattle.ca_held.specs.HeldView.{holding}
 use Rattle.ca_model.specs.machine.Plan.{perform}
 use Rattle.ca_model.specs.machine.QueuePairVerbs.{create_qp_plan}
-use Rattle.ca_acts_pairs.specs.Made.{outcome_of_creation}
-use Rattle.ca_acts_pairs.proofs.CreateLemmas.{made_outcome}
-use Rattle.ca_acts_pairs.proofs.create.create_qp.Goals as goal
+use Rattle.ca_acts_creation.specs.Made.{outcome_of_creation}
+use Rattle.ca_acts_creation.proofs.CreateLemmas.{made_outcome}
+use Rattle.ca_acts_creation.proofs.create.create_qp.Goals as goal
 
 pub returns : goal.returns
 returns c = let is : perform (holding c.args.held.now).world (create_qp_plan (configuration_in c.args.settings.now) (call_of c.args.call.now) c.args.creation.now)

@@ -1,7 +1,7 @@
 use Rattle.std.proofs.Common.{rules}
 use Rattle.ca_held.specs.HeldView.{holding}
-use Rattle.ca_acts_pairs.proofs.ReservationLemmas.{both-reserved, given-back}
-use Rattle.ca_acts_pairs.proofs.reservations.reserve.Goals as goal
+use Rattle.ca_acts_creation.proofs.ReservationLemmas.{both-reserved, given-back}
+use Rattle.ca_acts_creation.proofs.reservations.reserve.Goals as goal
 
 pub returns-in-Ok-clause-ok : goal.returns-in-Ok-clause-ok
 returns-in-Ok-clause-ok c = both-reserved c.args.creation.now c.args.room c.creation.inside.send_depth (holding c.args.held.now)

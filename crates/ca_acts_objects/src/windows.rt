@@ -6,7 +6,7 @@ ghost use Rattle.ca_acts.specs.Act.{Acts, Suffices};
 ghost use Rattle.ca_acts.specs.Binders.{binder_updates, changed_by, is_binder_held};
 ghost use Rattle.ca_acts.specs.Calls.{call_of};
 
-use crate::answers::Call;
+use ca_acts::Call;
 use ca_base::{Field, QueueId, Slot, StepError};
 use ca_held::{Held, QueueSlot};
 use ca_model::{Answer, Mark, Marks, Refusal};

@@ -4,7 +4,7 @@ ghost use Rattle.ca_model.specs.machine.CompletionVerbs.{create_cq_plan, destroy
 ghost use Rattle.ca_acts.specs.Calls.{call_of};
 ghost use Rattle.ca_acts.specs.Act.{Acts, Suffices};
 
-use crate::answers::Call;
+use ca_acts::Call;
 use ca_base::limits::MAX_CAPACITY;
 use ca_base::{Field, Slot, StepError};
 use ca_cq::Cq;

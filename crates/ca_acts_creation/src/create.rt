@@ -11,8 +11,8 @@ ghost use Rattle.ca_held.specs.Parts.{slot_of};
 ghost use Rattle.ca_keys.specs.Numbers.{queue_of};
 ghost use Rattle.ca_model.specs.machine.QueuePairVerbs.{beside, create_qp_plan, new_queue, user_updates};
 ghost use Rattle.ca_model.specs.machine.World.{Cq_of, Domain_of, Mailbox_of, Queue_of};
-ghost use Rattle.ca_acts_pairs.specs.Made.{is_shared_held, outcome_of_creation, room_found, shared_slot};
-ghost use Rattle.ca_acts_pairs.specs.Reservations.{has_room_for};
+ghost use Rattle.ca_acts_creation.specs.Made.{is_shared_held, outcome_of_creation, room_found, shared_slot};
+ghost use Rattle.ca_acts_creation.specs.Reservations.{has_room_for};
 
 use crate::creation::Creation;
 use crate::reservations::{has_too_little, reserve};

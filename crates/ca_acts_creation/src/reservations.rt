@@ -7,7 +7,7 @@ ghost use Rattle.ca_held.specs.HeldView.{hold, holding};
 ghost use Rattle.ca_keys.specs.Numbers.{queue_of};
 ghost use Rattle.ca_model.specs.machine.QueuePairVerbs.{beside};
 ghost use Rattle.ca_model.specs.machine.World.{Cq_of};
-ghost use Rattle.ca_acts_pairs.specs.Reservations.{after_reservations, fits, has_room_for, has_too_little};
+ghost use Rattle.ca_acts_creation.specs.Reservations.{after_reservations, fits, has_room_for, has_too_little};
 
 use crate::creation::Creation;
 use ca_base::{Memory, Reserve, Slot};

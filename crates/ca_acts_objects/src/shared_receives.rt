@@ -4,8 +4,7 @@ ghost use Rattle.ca_held.specs.HeldView.{holding};
 ghost use Rattle.ca_acts.specs.Act.{Acts, Suffices};
 ghost use Rattle.ca_acts.specs.Calls.{call_of};
 
-use crate::answers::Call;
-use crate::depths::is_no_depth;
+use ca_acts::{Call, is_no_depth};
 use ca_base::{Field, Slot, StepError};
 use ca_held::Held;
 use ca_model::{Answer, Marks, Refusal};

@@ -17,8 +17,8 @@ use Rattle.ca_model.specs.machine.Plan.{Did, Outcome, perform, touches}
 use Rattle.ca_model.specs.machine.QueuePairVerbs.{Creation, before_receives, beside, create_qp_plan, has_bad_depth, has_queues, send_reserved}
 use Rattle.ca_model.specs.machine.VerbAnswers.{Call, answer_mark}
 use Rattle.ca_model.specs.machine.World.{Cq_of, World}
-use Rattle.ca_acts_pairs.specs.Made.{is_shared_held, outcome_of_creation, room_found}
-use Rattle.ca_acts_pairs.specs.Reservations.{has_room_for, has_too_little, with_sends_reserved}
+use Rattle.ca_acts_creation.specs.Made.{is_shared_held, outcome_of_creation, room_found}
+use Rattle.ca_acts_creation.specs.Reservations.{has_room_for, has_too_little, with_sends_reserved}
 
 -- what comes of a verb that is refused
 abbrev refused : World → Call → Refusal → Outcome

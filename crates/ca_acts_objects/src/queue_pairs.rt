@@ -3,7 +3,7 @@ ghost use Rattle.ca_model.specs.machine.QueuePairVerbs.{query_qp_plan};
 ghost use Rattle.ca_acts.specs.Act.{Acts, Suffices};
 ghost use Rattle.ca_acts.specs.Calls.{call_of};
 
-use crate::answers::Call;
+use ca_acts::Call;
 use ca_base::{QueueId, Slot, StepError};
 use ca_held::{Held, QueueSlot};
 use ca_model::{Answer, Marks, Refusal};

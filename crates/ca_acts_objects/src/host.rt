@@ -3,7 +3,7 @@ ghost use Rattle.ca_model.specs.machine.HostVerbs.{load_plan, store_plan};
 ghost use Rattle.ca_acts.specs.Act.{Acts, Suffices};
 ghost use Rattle.ca_acts.specs.Calls.{call_of};
 
-use crate::answers::Call;
+use ca_acts::Call;
 use ca_base::limits::MAX_STORE_BYTES;
 use ca_base::{Bytes, Field, Place, Run, StepError};
 use ca_held::Held;

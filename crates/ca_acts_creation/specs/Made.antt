@@ -13,7 +13,7 @@ use Rattle.ca_model.specs.machine.Plan.{Outcome, Did, Update, ◌:=◌, put_all}
 use Rattle.ca_model.specs.machine.QueuePairVerbs.{Creation, beside, new_queue, receive_reserve, send_reserved, user_updates}
 use Rattle.ca_model.specs.machine.VerbAnswers.{Call, answer_mark}
 use Rattle.ca_model.specs.machine.World.{Cq_of, Domain_of, Mailbox_of, Queue_of, Srq_of, World}
-use Rattle.ca_acts_pairs.specs.Reservations.{with_sends_reserved}
+use Rattle.ca_acts_creation.specs.Reservations.{with_sends_reserved}
 
 -- the slot of its shared receive queue, where it names one
 abbrev pub shared_slot : Creation → World → Option SrqSlot

@@ -4,7 +4,7 @@ ghost use Rattle.ca_model.specs.machine.PostingVerbs.{post_srq_plan};
 ghost use Rattle.ca_acts.specs.Act.{Acts, Suffices};
 ghost use Rattle.ca_acts.specs.Calls.{call_of};
 
-use crate::answers::Call;
+use ca_acts::Call;
 use ca_base::limits::MAX_MESSAGE_BYTES;
 use ca_base::{Memory, RecvRequest, Slot, StepError};
 use ca_held::Held;

@@ -1,0 +1,2 @@
+mod ReservationLemmas
+mod CreateLemmas
