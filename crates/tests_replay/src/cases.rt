@@ -58,7 +58,8 @@ pub(crate) fn replay_cases(alloc: Global, text: &[u8], out: &mut Vec<u8>) -> Res
     Ok(())
 }
 
-/// Makes the events of each case of a text, and gives a line for each with how many nanoseconds an event took.
+/// Makes the events of each case of a text, and gives a line for each with how many these were, and how many
+/// nanoseconds one took.
 pub(crate) fn measure_cases<R: Clock + AllocGlobal>(
     rt: &R,
     text: &[u8],
@@ -68,8 +69,11 @@ pub(crate) fn measure_cases<R: Clock + AllocGlobal>(
     let mut cases = Cases::start(alloc);
     for line in text.split(|c| *c == b'\n') {
         if let Some(case) = cases.line(alloc, line)? {
-            let (count, each) = (case.events.len(), measure(rt, &case)?);
-            let text = format!(in alloc; "{count} events, {each} nanoseconds each\n")?;
+            let (counts, each) = measure(rt, &case)?;
+            let (count, messages) = (case.events.len(), counts.posts);
+            let text = format!(in alloc;
+                "{count} events, {messages} posts, {each} nanoseconds an event\n"
+            )?;
             out.extend_from_slice(text.as_bytes())?;
         }
     }
