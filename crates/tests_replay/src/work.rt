@@ -63,13 +63,14 @@ fn tell<R: Eprint>(rt: &R, stop: Stop) -> io::Result<()> {
     }
 }
 
-/// Whether the only word is `measure`; none comes where there are others.
+/// Whether the only word is `measure`, or there is none. None comes of other words.
 fn is_measuring<R: Env + AllocGlobal>(rt: &R) -> Option<bool> {
     let mut args = env::args(rt).ok()?;
     let _ = args.next();
-    match args.next() {
-        Some(word) => (word.as_str() == "measure").then_some(true),
-        None => Some(false),
+    match (args.next(), args.next()) {
+        (Some(word), None) => (word.as_str() == "measure").then_some(true),
+        (None, _) => Some(false),
+        _ => None,
     }
 }
 
