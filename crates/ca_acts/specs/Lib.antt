@@ -1,5 +1,6 @@
 pub mod Act
 pub mod Calls
+pub mod Copies
 pub mod Binders
 pub mod Room
 pub mod Outlets

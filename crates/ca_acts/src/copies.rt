@@ -1,4 +1,5 @@
 ghost use Rattle.std.specs.Prelude.{◌≡◌, IfOk, IfSome};
+ghost use Rattle.ca_acts.specs.Copies.{small};
 
 use arrayvec::ArrayVec;
 use ca_base::limits::MAX_PIECES;
@@ -48,7 +49,8 @@ fn copy_of_list(list: &ArrayVec<Piece, MAX_PIECES>) -> ArrayVec<Piece, MAX_PIECE
 /// A copy of a WRITE of one piece, which comes most often. None comes of any other request, which `copy_of_send` copies.
 #[inline(always)]
 pub fn copy_of_small(request: &SendRequest) -> Option<SendRequest>
-    ensures { IfSome result (λ copy. copy ≡ request.now) }
+    ensures copy { IfSome result (λ copy. copy ≡ request.now) }
+    ensures small { result ≡ small request.now }
 {
     let SendOp::Write { address, key, list } = &request.op else {
         return None;

@@ -4,8 +4,7 @@
 //! To the layers above it promises the marks of each answer, and that completions go to the queues of their queue pair in
 //! their order; where memory ends, nothing has changed.
 //!
-//! Source: InfiniBand Architecture Specification Volume 1, the chapter on the verbs; the order of refusals is this
-//! profile's choice.
+//! Source: InfiniBand Architecture Specification Volume 1, the chapter on the verbs.
 #![tactic(auto)]
 
 mod answers;

@@ -24,9 +24,8 @@ pub(crate) struct Workers {
     pub(crate) pass: Pass,
 }
 
-/// All of them work, each on a thread of its own where one can be started: half of them here and half on another thread, each
-/// half with half of the pass. What they did is joined. Want of memory is the only refusal. It may wait.
-pub(crate) fn work_all<R: Threads + Wait + Sync, G: Gate + Sync>(
+/// The first of them works alone, and calls with all of the pass. Want of memory is the only refusal. It may wait.
+fn work_alone<R: Wait, G: Gate>(
     rt: &R,
     alloc: Global,
     fabric: &Fabric,
@@ -40,24 +39,40 @@ pub(crate) fn work_all<R: Threads + Wait + Sync, G: Gate + Sync>(
     requires few { length script.now.consumers < 2 ^ 32 }
     ensures { IfOk result (λ work. IsWorkOf fabric.now (script_value script.now) team.first team.end team.workers work) }
 {
+    let worker = Worker::begin(alloc, script, team.first, team.workers, team.pass)?;
+    work(rt, alloc, fabric, script, gate, worker)
+}
+
+/// All of them work, each on a thread of its own where one can be started: half of them here and half on another thread, each
+/// half with half of the pass. What they did is joined. Want of memory is the only refusal. It may wait.
+pub(crate) fn work_all<R: Threads + Wait + Sync, G: Gate + Sync>(
+    rt: &R,
+    alloc: Global,
+    fabric: &Fabric,
+    script: &Script,
+    gate: &G,
+    mut team: Workers,
+) -> Result<Work, Memory>
+    requires of { IsOf fabric.now team.pass }
+    requires none { (known_of team.pass).entries ≡ [] }
+    requires some { team.first < team.end }
+    requires few { length script.now.consumers < 2 ^ 32 }
+    ensures { IfOk result (λ work. IsWorkOf fabric.now (script_value script.now) team.first team.end team.workers work) }
+{
+    let half = (team.end - team.first) / 2;
+    if half == 0 {
+        return work_alone(rt, alloc, fabric, script, gate, team);
+    }
+    let other = match fabric.split(&mut team.pass) {
+        Ok(other) => other,
+        Err(_) => return work_alone(rt, alloc, fabric, script, gate, team),
+    };
     let Workers {
         first,
         end,
         workers,
-        mut pass,
+        pass,
     } = team;
-    let half = (end - first) / 2;
-    if half == 0 {
-        let worker = Worker::begin(alloc, script, first, workers, pass)?;
-        return work(rt, alloc, fabric, script, gate, worker);
-    }
-    let other = match fabric.split(&mut pass) {
-        Ok(other) => other,
-        Err(_) => {
-            let worker = Worker::begin(alloc, script, first, workers, pass)?;
-            return work(rt, alloc, fabric, script, gate, worker);
-        }
-    };
     let middle = first + half;
     let (lower, upper) = join(
         rt,
