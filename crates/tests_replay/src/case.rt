@@ -1,4 +1,7 @@
 ghost use Rattle.std.specs.Prelude.{IfOk};
+ghost use Rattle.ca_base.specs.Configuration.{configuration_of};
+ghost use Rattle.ca_model.specs.machine.Sound.{AreLimited};
+ghost use Rattle.ca_opening.specs.Opening.{FitContents};
 ghost use Rattle.ca_replay.specs.Rows.{IsRow};
 
 use crate::work::Stop;
@@ -33,18 +36,12 @@ impl Case {
         ensures { IfOk result (λ row. IsRow row) }
     {
         let opening = opening_of(alloc, self.script.as_slice())?;
-        if !is_limited(&opening.config) || !fit_contents(&opening) {
-            return Err(Stop::Limits);
-        }
         Ok(Row::open(alloc, &opening)?)
     }
 
     /// Replays the events, and adds the trace of what they do.
     pub(crate) fn replay(self, alloc: Global, out: &mut Vec<u8>) -> Result<(), Stop> {
         let opening = opening_of(alloc, self.script.as_slice())?;
-        if !is_limited(&opening.config) || !fit_contents(&opening) {
-            return Err(Stop::Limits);
-        }
         if self.events.len() > MOST_EVENTS {
             return Err(Stop::Limits);
         }
@@ -75,15 +72,23 @@ fn word_of(reason: Reason) -> &'static str {
     }
 }
 
-/// The fabric of a script before the first event: all bytes are 0.
-fn opening_of(alloc: Global, script: &[u8]) -> Result<Opening, Stop> {
+/// The fabric of a script before the first event, where it keeps to the limits: all bytes are 0.
+fn opening_of(alloc: Global, script: &[u8]) -> Result<Opening, Stop>
+    ensures limited { IfOk result (λ opening. AreLimited (configuration_of opening.config)) }
+    ensures contents { IfOk result (λ opening. FitContents (configuration_of opening.config) opening.contents) }
+{
     let config = match read_script(alloc, script) {
         Ok(script) => script.config,
         Err(ScriptError::Refused { line, cause }) => return Err(Stop::Script(line, cause)),
         Err(ScriptError::Memory) => return Err(Stop::Memory),
     };
     let contents = zeros(alloc, &config)?;
-    Ok(Opening { config, contents })
+    let opening = Opening { config, contents };
+    if is_limited(&opening.config) && fit_contents(&opening) {
+        Ok(opening)
+    } else {
+        Err(Stop::Limits)
+    }
 }
 
 /// Buffers of zeros.
