@@ -1,8 +1,10 @@
-//! Tests of the program's commands that threads work: a race is worked by several threads at once, and what comes of it is
-//! what a script comes to.
+//! Tests of the program's commands. A race is worked by several threads at once, and what comes of it is what a script
+//! comes to. Made scripts have the summaries that another program reckoned from the rules alone.
 //!
 //! It has nothing but tests.
 #![tactic(auto)]
 
 #[cfg(test)]
-mod tests;
+mod made;
+#[cfg(test)]
+mod races;

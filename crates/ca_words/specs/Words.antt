@@ -74,16 +74,20 @@ bare_line =
     let bare = new_app (codes "ca") in
     record bare { top = record bare.top { no_binary_name = true; subcommand_required = true } }
 
+-- with one subcommand more, which has an argument with a text
+abbrev pub with_text : App → Text → Text → App
+with_text line name argument = with_subcommand line (with_rule (new_app name) (text_rule argument)).top
+
 -- it has four subcommands, of which one has to be named
 abbrev pub command_line : App
 command_line =
-    with_subcommand
-    (with_subcommand
-    (with_subcommand
+    with_text
+    (with_text
+    (with_text
     (with_subcommand bare_line (new_app (codes "script")).top)
-    (with_rule (new_app (codes "race")) (text_rule (codes "workers"))).top)
-    (with_rule (new_app (codes "alone")) (text_rule (codes "group"))).top)
-    (with_rule (new_app (codes "make")) (text_rule (codes "seed"))).top
+    (codes "race") (codes "workers"))
+    (codes "alone") (codes "group"))
+    (codes "make") (codes "seed")
 
 -- the command of a group's text
 abbrev pub alone_with : Option Text → Option Command

@@ -21,17 +21,26 @@ use std::alloc::Global;
 fn command_line<'a>(alloc: Global) -> Result<Line<'a>, Memory>
     ensures { IfOk result (λ line. app_of line ≡ spelled.command_line) }
 {
-    let race = Line::new(alloc, "race").arg(text_of(alloc, "workers"))?;
-    let alone = Line::new(alloc, "alone").arg(text_of(alloc, "group"))?;
-    let make = Line::new(alloc, "make").arg(text_of(alloc, "seed"))?;
     let line = Line::new(alloc, "ca")
         .no_binary_name(true)
         .subcommand_required(true)
-        .subcommand(Line::new(alloc, "script"))?
-        .subcommand(race)?
-        .subcommand(alone)?
-        .subcommand(make)?;
-    Ok(line)
+        .subcommand(Line::new(alloc, "script"))?;
+    let line = with_text(alloc, line, "race", "workers")?;
+    let line = with_text(alloc, line, "alone", "group")?;
+    with_text(alloc, line, "make", "seed")
+}
+
+/// A command line with one subcommand more, which has an argument with a text.
+fn with_text<'a>(
+    alloc: Global,
+    line: Line<'a>,
+    name: &'a str,
+    argument: &'a str,
+) -> Result<Line<'a>, Memory>
+    ensures { IfOk result (λ more. app_of more ≡ spelled.with_text (app_of line.entry) name.now argument.now) }
+{
+    let command = Line::new(alloc, name).arg(text_of(alloc, argument))?;
+    Ok(line.subcommand(command)?)
 }
 
 /// An argument of this name that has to be there, with a text.
