@@ -1,4 +1,4 @@
-//! Acts on queue pairs: what ModifyQp and DestroyQp do with the parts in hand.
+//! Acts on queue pairs: what ModifyQp, QueryQp and DestroyQp do with the parts in hand.
 //!
 //! To the layers above it promises that each act is the plan of its verb, carried out in the small world of what is
 //! held: the same marks and changes, and where memory ends, none.
@@ -14,6 +14,8 @@ mod destroy;
 mod flush;
 mod mailbox;
 mod modify;
+mod query;
 
 pub use destroy::destroy_qp;
 pub use modify::modify_qp;
+pub use query::query_qp;

@@ -1,8 +1,4 @@
 mod FlushLemmas
-mod FreeableLemmas
-mod FreedLemmas
-mod PollLemmas
 mod PostingLemmas
 pub mod ReceiveLemmas
 pub mod SendLemmas
-mod TakingLemmas

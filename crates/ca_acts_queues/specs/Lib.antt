@@ -1,5 +1,4 @@
 pub mod Drawing
 pub mod Posting
-pub mod Polling
 -- The libraries below, handed on to those above.
 pub use Rattle.ca_acts.specs as ca_acts

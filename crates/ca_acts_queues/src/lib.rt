@@ -1,4 +1,4 @@
-//! Acts on work queues: what the verbs that post requests, and the poll of completions, do with the parts in hand.
+//! Acts on work queues: what the verbs that post requests do with the parts in hand.
 //!
 //! To the layers above it promises that each act is the plan of its verb, carried out in the small world of what is held:
 //! the same marks and changes, and where memory ends, none.
@@ -9,14 +9,14 @@
 
 mod drawing;
 mod flushes;
-mod polls;
 mod receives;
 mod refusals;
 mod sends;
+mod shared_receives;
 mod states;
 
 pub use ca_acts;
 pub use ca_rows;
-pub use polls::poll;
 pub use receives::post_recv;
 pub use sends::post_send;
+pub use shared_receives::post_srq;

@@ -87,7 +87,7 @@ fn post_to(queue: &mut QueuePart, receive: RecvRequest)
 }
 
 /// A receive's copy.
-fn copy_of(request: &RecvRequest) -> Result<RecvRequest, Memory>
+pub(crate) fn copy_of(request: &RecvRequest) -> Result<RecvRequest, Memory>
     ensures { IfOk result (λ copy. copy ≡ request.now) }
 {
     Ok(request.clone()?)

@@ -11,13 +11,14 @@ use ca_acts_arrivals::inject;
 use ca_acts_creation::{Creation, create_qp};
 use ca_acts_objects::{
     alloc_mr, alloc_mw, alloc_pd, create_cq, create_srq, dealloc_mw, dealloc_pd, dereg_mr,
-    destroy_cq, destroy_srq, load, post_srq, query_qp, reg_mr, store,
+    destroy_cq, destroy_srq, load, reg_mr, store,
 };
+use ca_acts_polls::poll;
 use ca_acts_queues::ca_acts::Call;
-use ca_acts_queues::{poll, post_recv, post_send};
+use ca_acts_queues::{post_recv, post_send, post_srq};
 use ca_base::{Bytes, Field, Place, Run, Settings, StepError};
 use ca_held::Held;
-use ca_laws_pairs::ca_acts_pairs::{destroy_qp, modify_qp};
+use ca_laws_pairs::ca_acts_pairs::{destroy_qp, modify_qp, query_qp};
 use ca_model::{Marks, Refusal, Verb};
 
 /// A verb whose names are configured: the act of each.

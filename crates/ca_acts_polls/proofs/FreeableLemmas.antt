@@ -15,8 +15,8 @@ use Rattle.ca_srq.specs.Taken.{stands_once}
 use Rattle.ca_model.specs.machine.CompletionVerbs.{source_of_completion}
 use Rattle.ca_model.specs.machine.World.{World}
 use Rattle.ca_model.proofs.ThingLemmas.{queue-path}
-use Rattle.ca_acts_queues.proofs.FreedLemmas.{shared-place, shared_freed}
-use Rattle.ca_acts_queues.specs.Polling.{CanFreeAll, CanFreeOf, CanRetire, after_freeing, with_places_free, places_from, shared_at}
+use Rattle.ca_acts_polls.proofs.FreedLemmas.{shared-place, shared_freed}
+use Rattle.ca_acts_polls.specs.Polling.{CanFreeAll, CanFreeOf, CanRetire, after_freeing, with_places_free, places_from, shared_at}
 use Rattle.ca_acts_queues.specs.Posting.{slot_with}
 
 -- without another place, a place stands among others as often as before

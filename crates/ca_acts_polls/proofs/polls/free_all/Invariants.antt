@@ -1,8 +1,8 @@
 use Rattle.std.proofs.Common.{◌≡◌, drop}
 use Rattle.ca_held.specs.HeldView.{holding}
 use Rattle.ca_model.specs.machine.Frame.{AllPass}
-use Rattle.ca_acts_queues.specs.Polling.{CanFreeAll, after_freeing_all, places_of}
-use Rattle.ca_acts_queues.proofs.polls.free_all.Given as goal
+use Rattle.ca_acts_polls.specs.Polling.{CanFreeAll, after_freeing_all, places_of}
+use Rattle.ca_acts_polls.proofs.polls.free_all.Given as goal
 
 -- what is freed so far, and then by the completions to come, is what all of them free
 abbrev pub invariant-loop-completion : goal.invariant-loop-completion

@@ -13,8 +13,8 @@ ghost use Rattle.ca_srq.specs.Taken.{stands_once};
 ghost use Rattle.ca_acts.specs.Act.{Acts, Suffices};
 ghost use Rattle.ca_acts.specs.Calls.{call_of};
 ghost use Rattle.ca_acts_queues.specs.Posting.{slot_with};
-ghost use Rattle.ca_acts_queues.specs.Polling.{AreApart, AreOfOwnPlaces, CanFreeAll, CanFreeEach, CanFreeOf, CanRetire};
-ghost use Rattle.ca_acts_queues.specs.Polling.{after_freeing_all, after_freeing, with_places_free, place_of, places_of, polled_of, source_at};
+ghost use Rattle.ca_acts_polls.specs.Polling.{AreApart, AreOfOwnPlaces, CanFreeAll, CanFreeEach, CanFreeOf, CanRetire};
+ghost use Rattle.ca_acts_polls.specs.Polling.{after_freeing_all, after_freeing, with_places_free, place_of, places_of, polled_of, source_at};
 
 use ca_acts::Call;
 use ca_base::limits::MAX_POLLED;

@@ -1,12 +1,13 @@
-ghost use Rattle.std.specs.Prelude.{◌≡◌, ◌<◌, ◌^◌, suc, IfOk, IfSome};
+ghost use Rattle.std.specs.Prelude.{◌<◌, ◌^◌, suc, IfSome};
 ghost use Rattle.ca_held.specs.HeldView.{holding};
 ghost use Rattle.ca_model.specs.machine.PostingVerbs.{post_srq_plan};
 ghost use Rattle.ca_acts.specs.Act.{Acts, Suffices};
 ghost use Rattle.ca_acts.specs.Calls.{call_of};
 
+use crate::receives::copy_of;
 use ca_acts::Call;
 use ca_base::limits::MAX_MESSAGE_BYTES;
-use ca_base::{Memory, RecvRequest, Slot, StepError};
+use ca_base::{RecvRequest, Slot, StepError};
 use ca_held::Held;
 use ca_model::{Answer, Marks, Refusal, list_length};
 
@@ -39,11 +40,4 @@ pub fn post_srq(
         let _ = srq.post(receive);
     }
     Ok(ready.answer(Answer::Posted(None)))
-}
-
-/// A receive's copy.
-fn copy_of(request: &RecvRequest) -> Result<RecvRequest, Memory>
-    ensures { IfOk result (λ copy. copy ≡ request.now) }
-{
-    Ok(request.clone()?)
 }

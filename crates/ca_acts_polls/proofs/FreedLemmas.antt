@@ -15,7 +15,7 @@ use Rattle.ca_model.specs.machine.Frame.{name_eq}
 use Rattle.ca_model.specs.machine.World.{Name, Queue_of, Srq_of, World, get}
 use Rattle.ca_model.proofs.RestLemmas.{put-leaves}
 use Rattle.ca_model.proofs.ThingLemmas.{domain-refl, is_named_in, queue-path}
-use Rattle.ca_acts_queues.specs.Polling.{IsApart, after_freeing_all, after_freeing, with_places_free, place_of, places_of, shared_at, source_at}
+use Rattle.ca_acts_polls.specs.Polling.{IsApart, after_freeing_all, after_freeing, with_places_free, place_of, places_of, shared_at, source_at}
 use Rattle.ca_acts_queues.specs.Posting.{slot_with}
 
 -- a completion of this queue pair

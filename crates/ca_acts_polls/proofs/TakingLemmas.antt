@@ -15,8 +15,8 @@ use Rattle.ca_model.specs.machine.VerbAnswers.{Answer_plan, Call, answer_mark}
 use Rattle.ca_model.specs.machine.World.{Cq_of, Name, Queue_of, Srq_of, Thing, World, get, put}
 use Rattle.ca_model.proofs.RestLemmas.{put-leaves}
 use Rattle.ca_model.proofs.ThingLemmas.{is_named_in, name-path, put-names, put-there, same-worlds, updates_by}
-use Rattle.ca_acts_queues.specs.Polling.{AreApart, after_freeing_all, place_of, places_of, shared_at}
-use Rattle.ca_acts_queues.proofs.FreedLemmas.{queue-freed, rest-freed, shared-freed, shared_after}
+use Rattle.ca_acts_polls.specs.Polling.{AreApart, after_freeing_all, place_of, places_of, shared_at}
+use Rattle.ca_acts_polls.proofs.FreedLemmas.{queue-freed, rest-freed, shared-freed, shared_after}
 
 -- what completions that are taken free, as the plan has it: each frees all that its queue pair or its shared receive queue
 -- has among those that were polled

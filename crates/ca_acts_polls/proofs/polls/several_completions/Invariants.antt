@@ -1,5 +1,5 @@
 use Rattle.std.proofs.Common.{◌≡◌, take}
-use Rattle.ca_acts_queues.proofs.polls.several_completions.Given as goal
+use Rattle.ca_acts_polls.proofs.polls.several_completions.Given as goal
 
 -- the first so many
 abbrev pub invariant-loop-i : goal.invariant-loop-i

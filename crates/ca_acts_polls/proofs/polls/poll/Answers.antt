@@ -2,8 +2,8 @@ use Rattle.std.proofs.Common.{rules, ◌≡◌, ◌∙◌, ◌≤◌, ◌<◌, a
 use Rattle.ca_base.specs.declared.limits.TheConstants.{MAX_POLLED}
 use Rattle.ca_held.specs.HeldView.{holding}
 use Rattle.ca_acts.specs.Calls.{call_of}
-use Rattle.ca_acts_queues.proofs.PollLemmas.{poll_acts, poll_places_held}
-use Rattle.ca_acts_queues.proofs.polls.poll.Goals as goal
+use Rattle.ca_acts_polls.proofs.PollLemmas.{poll_acts, poll_places_held}
+use Rattle.ca_acts_polls.proofs.polls.poll.Goals as goal
 
 pub free_all-requires-clause-held : goal.free_all-requires-clause-held
 free_all-requires-clause-held c =

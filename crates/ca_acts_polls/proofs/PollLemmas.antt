@@ -21,10 +21,10 @@ use Rattle.ca_model.specs.machine.VerbAnswers.{Answer_plan, Call, Refuse_plan, a
 use Rattle.ca_model.specs.machine.World.{Cq_of, Name, World}
 use Rattle.ca_held.specs.HeldView.{Holding, hold}
 use Rattle.ca_acts.specs.Act.{IsAct}
-use Rattle.ca_acts_queues.specs.Polling.{AreApart, AreOfOwnPlaces, CanFreeAll, CanFreeEach, after_freeing_all, after_freeing, places_of, source_at}
-use Rattle.ca_acts_queues.proofs.FreeableLemmas.{taken-free}
-use Rattle.ca_acts_queues.proofs.TakingLemmas.{places-touched, polled_world, take-performs}
-use Rattle.ca_acts_queues.proofs.FreedLemmas.{cqs-freed}
+use Rattle.ca_acts_polls.specs.Polling.{AreApart, AreOfOwnPlaces, CanFreeAll, CanFreeEach, after_freeing_all, after_freeing, places_of, source_at}
+use Rattle.ca_acts_polls.proofs.FreeableLemmas.{taken-free}
+use Rattle.ca_acts_polls.proofs.TakingLemmas.{places-touched, polled_world, take-performs}
+use Rattle.ca_acts_polls.proofs.FreedLemmas.{cqs-freed}
 
 pub one_taken : (k : ℕ) (cs : List Completion) → drop 1 (drop k cs) ≡ drop (k + 1) cs
 one_taken k cs = drop-next k cs

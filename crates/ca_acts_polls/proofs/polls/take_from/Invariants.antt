@@ -1,6 +1,6 @@
 use Rattle.std.proofs.Common.{◌≡◌}
 use Rattle.ca_base.specs.objects.CompletionQueue.{after_polls}
-use Rattle.ca_acts_queues.proofs.polls.take_from.Given as goal
+use Rattle.ca_acts_polls.proofs.polls.take_from.Given as goal
 
 -- so many were taken
 abbrev pub invariant-loop : goal.invariant-loop

@@ -1,0 +1,4 @@
+mod FreeableLemmas
+mod FreedLemmas
+mod PollLemmas
+mod TakingLemmas
