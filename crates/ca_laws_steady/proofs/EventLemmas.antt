@@ -3,6 +3,7 @@ use Rattle.std.proofs.Common.{Bool, true, false, List, [], ◌∷◌, if◌then�
 use Rattle.ca_base.specs.Configuration.{Configuration}
 use Rattle.ca_keys.specs.Equal.{queue_eq}
 use Rattle.ca_keys.specs.Memory.{ByteMap, bytes_at}
+use Rattle.ca_laws_sound.proofs.PlanWalks.{walk-present}
 use Rattle.ca_laws_sound.proofs.WorldLemmas.{EndsIn}
 use Rattle.ca_laws_sound.proofs.of_ca_model.FrameLemmas.{after_write}
 use Rattle.ca_laws_sound.specs.ca_model.declared.event.Event.{Event}
@@ -16,7 +17,7 @@ use Rattle.ca_laws_sound.specs.ca_model.machine.Step.{plan, step, verb_plan}
 use Rattle.ca_laws_sound.specs.ca_model.machine.VerbAnswers.{Call}
 use Rattle.ca_laws_sound.specs.ca_model.machine.World.{Byte_at, Cq_of, Domain_of, Mailbox_of, Name, Queue_of, Region_of, Srq_of, Thing, Window_of, World, get, opening_world, put}
 use Rattle.ca_laws_steady.proofs.TurnLemmas.{AllSteady, IsSteadyThing, steady-deliver, steady-inject, steady-request, steady-respond, steady-timeout, steady-wake}
-use Rattle.ca_laws_steady.proofs.VerbLemmas.{steady-create_qp, steady-dealloc_mw, steady-destroy_qp, steady-modify_qp, steady-poll, steady-post_recv, steady-post_send, steady-post_srq, steady-present}
+use Rattle.ca_laws_steady.proofs.VerbLemmas.{steady-create_qp, steady-dealloc_mw, steady-destroy_qp, steady-modify_qp, steady-poll, steady-post_recv, steady-post_send, steady-post_srq}
 use Rattle.ca_laws_steady.specs.Steady.{IsSteadySlot, IsSteadyWorld}
 
 -- every verb whose names are configured
@@ -44,7 +45,7 @@ steady-verb c w call (verbs.CreateQp slot send_cq recv_cq send_depth recv_depth 
   srq = srq;
 })
 steady-verb c w call (verbs.ModifyQp slot change) sound steady = steady-modify_qp c w call slot change sound steady
-steady-verb c w call (verbs.QueryQp slot) sound steady = steady-present c w call slot _ sound (λ q there. record {})
+steady-verb c w call (verbs.QueryQp slot) sound steady = walk-present c w AllSteady call slot _ sound (record {}) (λ q there. record {})
 steady-verb c w call (verbs.DestroyQp slot) sound steady = steady-destroy_qp c w call slot sound
 steady-verb c w call (verbs.PostSend slot request) sound steady = steady-post_send c w call slot request sound steady
 steady-verb c w call (verbs.PostRecv slot request) sound steady = steady-post_recv c w call slot request sound steady

@@ -1,48 +1,46 @@
 -- Each turn of a queue pair, and each arrival, leaves queue pairs steady. For proofs only.
-use Rattle.std.proofs.Common.{◌≡◌, ℕ, suc, ◌==◌, ◌&&◌, Bool, true, false, if◌then◌else◌, List, [], ◌∷◌, ◌++◌, Option, None, Some, refl, subst, rules}
+use Rattle.std.proofs.Common.{◌≡◌, ℕ, suc, ◌==◌, Bool, true, false, if◌then◌else◌, List, [], ◌∷◌, ◌++◌, Option, None, Some, refl, subst, rules}
 use Rattle.std.proofs.lemmas.List.{append-nil}
-use Rattle.std.specs.Option.{option_map, option_map_or}
+use Rattle.std.specs.Option.{option_map_or}
 use Rattle.ca_base.specs.Configuration.{Configuration}
 use Rattle.ca_base.specs.declared.correspondent.Correspondent.{Correspondent}
 use Rattle.ca_base.specs.declared.lot.Lot.{Lot}
 use Rattle.ca_base.specs.declared.refusals.OpRefusal.{OpRefusal}
 use Rattle.ca_base.specs.declared.request.SendOp.{SendOp}
-use Rattle.ca_base.specs.declared.request.SendOp.TheVariants as ops
 use Rattle.ca_base.specs.declared.step.Reason.{Reason}
-use Rattle.ca_base.specs.declared.step.Reason.TheVariants as reasons
 use Rattle.ca_base.specs.declared.step.Sent.{Sent}
 use Rattle.ca_base.specs.declared.step.Sent.TheVariants.{Silent, Spelt}
-use Rattle.ca_base.specs.objects.Mailbox.{Mailbox, after_delivery, after_send, bytes_lent}
-use Rattle.ca_base.specs.objects.QueuePair.{QueuePair, QueueSlot, NoQueue, Present, srq_of}
+use Rattle.ca_base.specs.objects.Mailbox.{Mailbox, after_delivery, after_send}
+use Rattle.ca_base.specs.objects.QueuePair.{QueuePair}
 use Rattle.ca_base.specs.objects.Region.{Region}
-use Rattle.ca_base.specs.objects.SharedReceives.{SharedReceives, SrqSlot, after_receive_take}
+use Rattle.ca_base.specs.objects.SharedReceives.{SharedReceives, after_receive_take}
 use Rattle.ca_base.specs.objects.Window.{Binding, Window}
 use Rattle.ca_keys.specs.Refusals.{first_of}
 use Rattle.ca_keys.specs.declared.key.Key.{Key}
 use Rattle.ca_keys.specs.declared.names.DomainId.{DomainId}
 use Rattle.ca_keys.specs.declared.names.QueueId.{QueueId}
+use Rattle.ca_keys.specs.declared.rights.Rights.{Rights}
 use Rattle.ca_base.specs.objects.Slices.{slot_of_key}
-use Rattle.ca_laws_sound.proofs.EngineLemmas.{ends-unless}
+use Rattle.ca_laws_sound.proofs.PlanWalks.{walk-deliver, walk-inject, walk-perform, walk-request, walk-respond, walk-timeout, walk-wake}
 use Rattle.ca_laws_sound.proofs.TurnLemmas.{sending-parts, turn_from}
-use Rattle.ca_laws_sound.proofs.WorldLemmas.{AreQuiet, EndsIn, IsQuietName, IsThere, RowDoes, around_in, ends-around, ends-queue, ends-row, is-there, shared_of}
+use Rattle.ca_laws_sound.proofs.WorldLemmas.{AreQuiet, EndsIn, IsQuietName, IsThere, RowDoes, around_in, ends-around, ends-row, shared_of}
 use Rattle.ca_laws_sound.specs.ca_model.declared.answer.Answer.TheVariants as answers
-use Rattle.ca_laws_sound.specs.ca_model.declared.answer.Refusal.TheVariants.{NoSuch}
 use Rattle.ca_laws_sound.specs.ca_model.declared.mark.Mark.{Mark}
 use Rattle.ca_laws_sound.specs.ca_model.declared.mark.Mark.TheVariants as marks
-use Rattle.ca_laws_sound.specs.ca_model.machine.Around.{Around, With_around, shared_in, srq_updates, updates_of}
+use Rattle.ca_laws_sound.specs.ca_model.machine.Around.{Around, shared_in, srq_updates, updates_of}
 use Rattle.ca_laws_sound.specs.ca_model.machine.Delivery.{Arrive, arrival_row, deliver_plan}
 use Rattle.ca_laws_sound.specs.ca_model.machine.HostVerbs.{inject_plan}
 use Rattle.ca_laws_sound.specs.ca_model.machine.Invariants.{is_sending}
-use Rattle.ca_laws_sound.specs.ca_model.machine.LocalOperations.{Finishing, Perform_op, PlacedRegion, With_former, With_named, bind1_changes, bind1_marks, bind1_refusal, bind2_changes, bind2_marks, bind2_refusal, drawn_by, fast_changes, fast_marks, fast_refusal, former_updates, invalidate_row, named_updates, operation_effects, region_slot, window_slot}
+use Rattle.ca_laws_sound.specs.ca_model.machine.LocalOperations.{Bind1_plan, Bind2_plan, Fast_plan, Finishing, Perform_op, PlacedRegion, With_former, With_named, bind1_changes, bind1_marks, bind1_refusal, bind2_changes, bind2_marks, bind2_refusal, drawn_by, fast_changes, fast_marks, fast_refusal, former_updates, invalidate_row, named_updates, operation_effects, region_slot, window_slot}
 use Rattle.ca_laws_sound.specs.ca_model.machine.Numbering.{Numbered}
-use Rattle.ca_laws_sound.specs.ca_model.machine.Plan.{Finish, Look, Plan, Stuck, Update, Write, unless_refused, ◌:=◌}
-use Rattle.ca_laws_sound.specs.ca_model.machine.Requester.{Performs, RequestTurn, Sends, Waits, next_request, packet_row, turn_of, turn_refusals}
+use Rattle.ca_laws_sound.specs.ca_model.machine.Plan.{Finish, Look, Plan, Update, Write, ◌:=◌}
+use Rattle.ca_laws_sound.specs.ca_model.machine.Requester.{Performs, next_request, packet_row, turn_refusals}
 use Rattle.ca_laws_sound.specs.ca_model.machine.Respond.{respond_row}
 use Rattle.ca_laws_sound.specs.ca_model.machine.Row.{Effects, Row, Row_plan, queue_and_marks, region_under, unless_none}
-use Rattle.ca_laws_sound.specs.ca_model.machine.Sound.{IsQueueOf, IsSoundWorld}
-use Rattle.ca_laws_sound.specs.ca_model.machine.Timers.{after_timeout, after_wake, timeout_refusals, wake_refusals}
-use Rattle.ca_laws_sound.specs.ca_model.machine.Turns.{Fire, Leave_plan, Packet, Request_around, Respond_around, Timeout_around, With_receives, has_room_for, packet_sent, reaches_peer, request_plan, respond_plan, sent_updates, timeout_plan, wake_plan}
-use Rattle.ca_laws_sound.specs.ca_model.machine.VerbAnswers.{Call, Refuse_plan, answer_mark}
+use Rattle.ca_laws_sound.specs.ca_model.machine.Sound.{IsSoundWorld}
+use Rattle.ca_laws_sound.specs.ca_model.machine.Timers.{after_timeout}
+use Rattle.ca_laws_sound.specs.ca_model.machine.Turns.{Leave_plan, Packet, has_room_for, packet_sent, reaches_peer, request_plan, respond_plan, sent_updates, timeout_plan, wake_plan}
+use Rattle.ca_laws_sound.specs.ca_model.machine.VerbAnswers.{Call, answer_mark}
 use Rattle.ca_laws_sound.specs.ca_model.machine.World.{World, Name, Domain_of, Region_of, Window_of, Cq_of, Srq_of, Queue_of, Mailbox_of, Byte_at, Thing}
 use Rattle.ca_laws_steady.proofs.RowLemmas.{IsKept, arrival-keeps, respond-keeps, timeout-keeps, wake-keeps}
 use Rattle.ca_laws_steady.proofs.SendLemmas.{Steadies, invalidate-steadies, operation-steady, packet-steadies, row-steadies}
@@ -94,16 +92,7 @@ there-kept w q steady there = record { is = subst IsSteadySlot there.present (st
 -- ---- turns
 
 pub srq-steady : (q : QueuePair) (a : Around) (f : SharedReceives → SharedReceives) → AllSteady (srq_updates q a f)
-srq-steady q a f = by q.srq a.shared
-  where
-    updates : Option ℕ → Option SrqSlot → List Update
-    updates (Some srq) (Some slot) = (Srq_of (srq_of q srq) := record slot { srq = option_map f slot.srq }) ∷ []
-    updates srq slot = []
-
-    by : (o : Option ℕ) (t : Option SrqSlot) → AllSteady (updates o t)
-    by None t = record {}
-    by (Some srq) None = record {}
-    by (Some srq) (Some slot) = (record {}, record {})
+srq-steady q a f = search rules
 
 -- what a turn's effects change
 turn-steady : (w : World) (q : QueuePair) (e : Effects) (more : List Update) → Steadies e → AllSteady more → AllSteady (updates_of q (around_in w q (shared_of w q)) e ++ more)
@@ -142,13 +131,9 @@ left-steady c w q peer lot row sound does =
     (steady-append cs (option_map_or (sent_updates q peer (w.mailbox peer.queue) lot) (packet_sent e) []) (quiet-steady c cs quiet) (sent-steady q peer (w.mailbox peer.queue) lot e)))
 
 pub steady-respond : (c : Configuration) (w : World) (name : QueueId) (lot : Lot) → IsSoundWorld c w → IsSteadyWorld w → EndsIn w AllSteady (respond_plan c name lot)
-steady-respond c w name lot sound steady = ends-queue c w AllSteady name reasons.State (λ q. With_around q (λ a. Respond_around c lot q a q.peer)) sound
-    (λ q there. ends-around w AllSteady q (λ a. Respond_around c lot q a q.peer) (by q there q.peer))
-  where
-    by : (q : QueuePair) → IsThere w q → (peer : Option Correspondent) → EndsIn w AllSteady (Respond_around c lot q (around_in w q (shared_of w q)) peer)
-    by q there None = search rules
-    by q there (Some peer) = left-steady c w q peer lot (respond_row (has_room_for q peer (w.mailbox peer.queue)) q) sound
-        (row-steadies _ (respond-keeps (has_room_for q peer (w.mailbox peer.queue)) q (there-kept w q steady there)))
+steady-respond c w name lot sound steady = walk-respond c w AllSteady name lot sound (λ q peer there.
+    left-steady c w q peer lot (respond_row (has_room_for q peer (w.mailbox peer.queue)) q) sound
+    (row-steadies _ (respond-keeps (has_room_for q peer (w.mailbox peer.queue)) q (there-kept w q steady there))))
 
 -- ---- local operations
 
@@ -178,9 +163,9 @@ named-updates former (Some m) = (record {}, record {})
 abbrev GoesOn : World → Finishing → Type 0
 GoesOn w finish = (e : Effects) (cs : List Update) (ws : List Write) → Steadies e → AllSteady cs → EndsIn w AllSteady (finish e cs ws)
 
-steady-perform : (c : Configuration) (w : World) (q : QueuePair) (m : Numbered) (finish : Finishing) → IsSoundWorld c w → is_sending q.state ≡ true → IsSteadyQueue q → GoesOn w finish
-    → (op : SendOp) → EndsIn w AllSteady (Perform_op c q m finish op)
-steady-perform c w q m finish sound sends s more (ops.Bind1 window key address count rights) =
+steady-bind1 : (c : Configuration) (w : World) (q : QueuePair) (m : Numbered) (window : ℕ) (key : Key) (address count : ℕ) (rights : Rights) (finish : Finishing)
+    → is_sending q.state ≡ true → IsSteadyQueue q → GoesOn w finish → EndsIn w AllSteady (Bind1_plan c q m window key address count rights finish)
+steady-bind1 c w q m window key address count rights finish sends s more =
     named-steady c w AllSteady q.domain key (λ named. With_former x (ending named)) (λ named. former-steady w AllSteady x (ending named) (λ former.
     more (effects named) (unless_none (refusal named) (changed named former)) [] (operation-steady q m q.windows (bind1_marks q m window named address count rights x) (refusal named) sends s)
     (steady-unless (refusal named) (changed named former) (record {}, steady-append (former_updates former) (regions named former (count == 0)) (former-updates former) (regions-steady named former (count == 0))))))
@@ -206,7 +191,10 @@ steady-perform c w q m finish sound sends s more (ops.Bind1 window key address c
 
     ending : Option PlacedRegion → Option PlacedRegion → Plan
     ending named former = finish (effects named) (unless_none (refusal named) (changed named former)) []
-steady-perform c w q m finish sound sends s more (ops.Bind2 window key low address count rights) =
+
+steady-bind2 : (c : Configuration) (w : World) (q : QueuePair) (m : Numbered) (window : ℕ) (key : Key) (low address count : ℕ) (rights : Rights) (finish : Finishing)
+    → is_sending q.state ≡ true → IsSteadyQueue q → GoesOn w finish → EndsIn w AllSteady (Bind2_plan c q m window key low address count rights finish)
+steady-bind2 c w q m window key low address count rights finish sends s more =
     named-steady c w AllSteady q.domain key (λ named. With_former x (λ former. ending named)) (λ named. former-steady w AllSteady x (λ former. ending named) (λ former.
     more (effects named) (unless_none (refusal named) (changed named)) [] (operation-steady q m (suc q.windows) (bind2_marks q window low named address count rights) (refusal named) sends s)
     (steady-unless (refusal named) (changed named) (record {}, named-updates None named))))
@@ -225,7 +213,10 @@ steady-perform c w q m finish sound sends s more (ops.Bind2 window key low addre
 
     ending : Option PlacedRegion → Plan
     ending named = finish (effects named) (unless_none (refusal named) (changed named)) []
-steady-perform c w q m finish sound sends s more (ops.FastReg region low buffer address count rights pages) =
+
+steady-fast : (c : Configuration) (w : World) (q : QueuePair) (m : Numbered) (region low buffer address count : ℕ) (rights : Rights) (pages : List ℕ) (finish : Finishing)
+    → is_sending q.state ≡ true → IsSteadyQueue q → GoesOn w finish → EndsIn w AllSteady (Fast_plan c q m region low buffer address count rights pages finish)
+steady-fast c w q m region low buffer address count rights pages finish sends s more =
     more (operation_effects q m q (fast_marks q region low buffer address count rights pages) refusal) (unless_none refusal (fast_changes q region low buffer address count rights pages r)) []
     (operation-steady q m q.windows (fast_marks q region low buffer address count rights pages) refusal sends s)
     (steady-unless refusal (fast_changes q region low buffer address count rights pages r) (record {}, record {}))
@@ -235,72 +226,37 @@ steady-perform c w q m finish sound sends s more (ops.FastReg region low buffer 
 
     refusal : Option OpRefusal
     refusal = fast_refusal c q region buffer address count rights pages r
-steady-perform c w q m finish sound sends s more (ops.LocalInv key) =
-    ends-row c w AllSteady Steadies (invalidate_row q m key) finish sound (invalidate-steadies q m key sends s) (λ e cs ws effects quiet. more e cs ws effects (quiet-steady c cs quiet))
-steady-perform c w q m finish sound sends s more (ops.Send list) = more (queue_and_marks q []) [] [] s (record {})
-steady-perform c w q m finish sound sends s more (ops.SendImm imm list) = more (queue_and_marks q []) [] [] s (record {})
-steady-perform c w q m finish sound sends s more (ops.SendInv key list) = more (queue_and_marks q []) [] [] s (record {})
-steady-perform c w q m finish sound sends s more (ops.Write address key list) = more (queue_and_marks q []) [] [] s (record {})
-steady-perform c w q m finish sound sends s more (ops.WriteImm address key imm list) = more (queue_and_marks q []) [] [] s (record {})
-steady-perform c w q m finish sound sends s more (ops.Read address key list) = more (queue_and_marks q []) [] [] s (record {})
-steady-perform c w q m finish sound sends s more (ops.CmpSwap address key compare swap list) = more (queue_and_marks q []) [] [] s (record {})
-steady-perform c w q m finish sound sends s more (ops.FetchAdd address key add list) = more (queue_and_marks q []) [] [] s (record {})
+
+steady-perform : (c : Configuration) (w : World) (q : QueuePair) (m : Numbered) (finish : Finishing) → IsSoundWorld c w → is_sending q.state ≡ true → IsSteadyQueue q → GoesOn w finish
+    → (op : SendOp) → EndsIn w AllSteady (Perform_op c q m finish op)
+steady-perform c w q m finish sound sends s more op = walk-perform c w AllSteady q m finish op (more (queue_and_marks q []) [] [] s (record {}))
+    (λ window key address count rights. steady-bind1 c w q m window key address count rights finish sends s more)
+    (λ window key low address count rights. steady-bind2 c w q m window key low address count rights finish sends s more)
+    (λ region low buffer address count rights pages. steady-fast c w q m region low buffer address count rights pages finish sends s more)
+    (λ key. ends-row c w AllSteady Steadies (invalidate_row q m key) finish sound (invalidate-steadies q m key sends s)
+    (λ e cs ws effects quiet. more e cs ws effects (quiet-steady c cs quiet)))
 
 performs-none : (r : Option Reason) (o : Option Numbered) (m : Numbered) → turn_from r o ≡ Performs m → r ≡ None
 performs-none (Some reason) o m turn = absurd cc
 performs-none None o m turn = refl
 
 pub steady-request : (c : Configuration) (w : World) (name : QueueId) (lot : Lot) → IsSoundWorld c w → IsSteadyWorld w → EndsIn w AllSteady (request_plan c name lot)
-steady-request c w name lot sound steady = ends-queue c w AllSteady name reasons.State (λ q. With_around q (λ a. Request_around c lot q a q.peer (turn_of q))) sound
-    (λ q there. ends-around w AllSteady q (λ a. Request_around c lot q a q.peer (turn_of q)) (by q there q.peer (turn_of q) refl))
-  where
-    by : (q : QueuePair) → IsThere w q → (peer : Option Correspondent) (turn : RequestTurn) → turn_of q ≡ turn → EndsIn w AllSteady (Request_around c lot q (around_in w q (shared_of w q)) peer turn)
-    by q there peer (Waits reason) turn = record {}
-    by q there peer (Performs m) turn = steady-perform c w q m (λ e changes writes. Finish (updates_of q (around_in w q (shared_of w q)) e ++ changes) writes e.marks) sound
-        (sending-parts q (performs-none (first_of (turn_refusals q)) (next_request q) m turn)).0 (there-kept w q steady there).is
-        (λ e cs ws effects rest. turn-steady w q e cs effects rest) m.request.op
-    by q there None (Sends m) turn = record {}
-    by q there (Some peer) (Sends m) turn = left-steady c w q peer lot (packet_row q (has_room_for q peer (w.mailbox peer.queue)) m) sound
-        (packet-steadies q (has_room_for q peer (w.mailbox peer.queue)) m there.sound (there-kept w q steady there).is turn)
+steady-request c w name lot sound steady = walk-request c w AllSteady name lot sound
+    (λ q m there turn. steady-perform c w q m (λ e changes writes. Finish (updates_of q (around_in w q (shared_of w q)) e ++ changes) writes e.marks) sound
+    (sending-parts q (performs-none (first_of (turn_refusals q)) (next_request q) m turn)).0 (there-kept w q steady there).is
+    (λ e cs ws effects rest. turn-steady w q e cs effects rest) m.request.op)
+    (λ q m peer there turn. left-steady c w q peer lot (packet_row q (has_room_for q peer (w.mailbox peer.queue)) m) sound
+    (packet-steadies q (has_room_for q peer (w.mailbox peer.queue)) m there.sound (there-kept w q steady there).is turn))
 
 -- ---- timers
 
 pub steady-timeout : (c : Configuration) (w : World) (name : QueueId) (hasten : Bool) → IsSoundWorld c w → IsSteadyWorld w → EndsIn w AllSteady (timeout_plan c name hasten)
-steady-timeout c w name hasten sound steady =
-    ends-queue c w AllSteady name reasons.State (λ q. Look (Mailbox_of name) (λ own. With_around q (λ a. Timeout_around hasten q own a q.peer))) sound
-    (λ q there. ends-around w AllSteady q (λ a. Timeout_around hasten q (w.mailbox name) a q.peer) (by q there q.peer))
-  where
-    fire : (q : QueuePair) → IsThere w q → (silent : Bool) → EndsIn w AllSteady (Fire hasten q (around_in w q (shared_of w q)) silent)
-    fire q there silent = ends-unless w AllSteady (timeout_refusals silent hasten q) Stuck
-        (Finish (updates_of q (around_in w q (shared_of w q)) (after_timeout silent q)) [] (after_timeout silent q).marks) (λ r. record {})
-        (λ fails. subst AllSteady (append-nil (updates_of q (around_in w q (shared_of w q)) (after_timeout silent q)))
-        (turn-steady w q (after_timeout silent q) [] (timeout-keeps silent q (there-kept w q steady there)).is (record {})))
-
-    by : (q : QueuePair) → IsThere w q → (peer : Option Correspondent) → EndsIn w AllSteady (Timeout_around hasten q (w.mailbox name) (around_in w q (shared_of w q)) peer)
-    by q there None = search rules
-    by q there (Some peer) = fire q there _
+steady-timeout c w name hasten sound steady = walk-timeout c w AllSteady name hasten sound (λ q silent there fails.
+    subst AllSteady (append-nil (updates_of q (around_in w q (shared_of w q)) (after_timeout silent q)))
+    (turn-steady w q (after_timeout silent q) [] (timeout-keeps silent q (there-kept w q steady there)).is (record {})))
 
 pub steady-wake : (c : Configuration) (w : World) (name : QueueId) → IsSoundWorld c w → IsSteadyWorld w → EndsIn w AllSteady (wake_plan c name)
-steady-wake c w name sound steady = ends-queue c w AllSteady name reasons.State (λ q. plan q q.peer) sound (λ q there. by q there q.peer)
-  where
-    wakes : QueuePair → Bool → Plan
-    wakes q empty = unless_refused (wake_refusals empty q) Stuck (Finish ((Queue_of q.queue := Present (after_wake q).queue) ∷ []) [] (after_wake q).marks)
-
-    plan : QueuePair → Option Correspondent → Plan
-    plan q None = unless_refused (wake_refusals false q) Stuck (Stuck reasons.Empty)
-    plan q (Some peer) = Look (Queue_of peer.queue) (λ slot. Look (Mailbox_of peer.queue) (λ m.
-        With_receives slot (λ empty. wakes q (reaches_peer q peer m && empty))))
-
-    wake : (q : QueuePair) → IsThere w q → (empty : Bool) → EndsIn w AllSteady (wakes q empty)
-    wake q there empty = ends-unless w AllSteady (wake_refusals empty q) Stuck (Finish ((Queue_of q.queue := Present (after_wake q).queue) ∷ []) [] (after_wake q).marks)
-        (λ r. record {}) (λ fails. ((wake-keeps q (there-kept w q steady there)).is, record {}))
-
-    receives : (slot : QueueSlot) (k : Bool → Plan) → ((b : Bool) → EndsIn w AllSteady (k b)) → EndsIn w AllSteady (With_receives slot k)
-    receives slot k more = search rules
-
-    by : (q : QueuePair) → IsThere w q → (peer : Option Correspondent) → EndsIn w AllSteady (plan q peer)
-    by q there None = search rules
-    by q there (Some peer) = receives (w.queue peer.queue) (λ empty. wakes q (reaches_peer q peer (w.mailbox peer.queue) && empty)) (λ empty. wake q there _)
+steady-wake c w name sound steady = walk-wake c w AllSteady name sound (λ q there. ((wake-keeps q (there-kept w q steady there)).is, record {}))
 
 -- ---- arrivals
 
@@ -319,34 +275,9 @@ arrive-steady c w q bytes envelope before ms sound steady there rest =
     finish a e more writes = Finish (before ++ (updates_of q a e ++ more)) writes (ms ++ marks.Arrived q.queue envelope ∷ e.marks)
 
 pub steady-deliver : (c : Configuration) (w : World) (name : QueueId) (index : ℕ) → IsSoundWorld c w → IsSteadyWorld w → EndsIn w AllSteady (deliver_plan c name index)
-steady-deliver c w name index sound steady = (λ has. lent (bytes_lent index (w.mailbox name)), λ none. record {})
-  where
-    m : Mailbox
-    m = w.mailbox name
-
-    at : List ℕ → QueueSlot → Plan
-    at bytes (NoQueue incarnation timers) = Stuck reasons.NotKept
-    at bytes (Present q) = Arrive c q bytes (Some index) ((Mailbox_of name := after_delivery index m) ∷ []) []
-
-    plan : Option (List ℕ) → Plan
-    plan None = Stuck reasons.NotKept
-    plan (Some bytes) = Look (Queue_of name) (at bytes)
-
-    there : (bytes : List ℕ) (s : QueueSlot) → w.queue name ≡ s → IsQueueOf name s → EndsIn w AllSteady (at bytes s)
-    there bytes (NoQueue incarnation timers) is one = record {}
-    there bytes (Present q) is one = arrive-steady c w q bytes (Some index) ((Mailbox_of name := after_delivery index m) ∷ []) [] sound steady (is-there w name q is one) (record {}, record {})
-
-    lent : (o : Option (List ℕ)) → EndsIn w AllSteady (plan o)
-    lent None = record {}
-    lent (Some bytes) = there bytes (w.queue name) refl (sound.things (Queue_of name))
+steady-deliver c w name index sound steady = walk-deliver c w AllSteady name index sound (λ q bytes there.
+    arrive-steady c w q bytes (Some index) ((Mailbox_of name := after_delivery index (w.mailbox name)) ∷ []) [] sound steady there (record {}, record {}))
 
 pub steady-inject : (c : Configuration) (w : World) (call : Call) (q : QueueId) (bytes : List ℕ) → IsSoundWorld c w → IsSteadyWorld w → EndsIn w AllSteady (inject_plan c call q bytes)
-steady-inject c w call q bytes sound steady = by (w.queue q) refl (sound.things (Queue_of q))
-  where
-    plan : QueueSlot → Plan
-    plan (NoQueue incarnation timers) = Refuse_plan call NoSuch
-    plan (Present p) = Arrive c p bytes None [] (answer_mark call answers.Fine ∷ [])
-
-    by : (s : QueueSlot) → w.queue q ≡ s → IsQueueOf q s → EndsIn w AllSteady (plan s)
-    by (NoQueue incarnation timers) is one = record {}
-    by (Present p) is one = arrive-steady c w p bytes None [] (answer_mark call answers.Fine ∷ []) sound steady (is-there w q p is one) (record {})
+steady-inject c w call q bytes sound steady = walk-inject c w AllSteady call q bytes sound (record {})
+    (λ p there. arrive-steady c w p bytes None [] (answer_mark call answers.Fine ∷ []) sound steady there (record {}))
