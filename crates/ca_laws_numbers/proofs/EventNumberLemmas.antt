@@ -15,8 +15,9 @@ use Rattle.ca_model.specs.machine.Step.{plan, step, verb_plan}
 use Rattle.ca_model.specs.machine.VerbAnswers.{Call}
 use Rattle.ca_model.specs.machine.World.{Byte_at, Cq_of, Domain_of, Mailbox_of, Name, Queue_of, Region_of, Srq_of, Thing, Window_of, World, get, opening_world, put}
 use Rattle.ca_laws_numbers.specs.Raised.{IsThingWithin, IsWorldWithin}
-use Rattle.ca_laws_numbers.proofs.VerbNumberLemmas.{within-create_qp, within-dealloc_mw, within-destroy_qp, within-modify_qp, within-poll, within-post_recv, within-post_send, within-post_srq, within-present}
+use Rattle.ca_laws_numbers.proofs.VerbNumberLemmas.{within-create_qp, within-dealloc_mw, within-destroy_qp, within-modify_qp, within-poll, within-post_recv, within-post_send, within-post_srq}
 use Rattle.ca_laws_numbers.proofs.WorldNumberLemmas.{AllWithin, shared-later, thing-later, within-deliver, within-inject, within-request, within-respond, within-timeout, within-wake}
+use Rattle.ca_laws_sound.proofs.PlanWalks.{walk-present}
 use Rattle.ca_laws_sound.proofs.WorldLemmas.{EndsIn}
 
 -- every verb whose names are configured
@@ -80,7 +81,7 @@ within-verb c n w call (verbs.CreateQp slot send_cq recv_cq send_depth recv_dept
   srq = srq;
 }) within
 within-verb c n w call (verbs.ModifyQp slot change) sound within = within-modify_qp c n w call slot change sound within
-within-verb c n w call (verbs.QueryQp slot) sound within = within-present c n w call slot _ sound (λ q there. record {})
+within-verb c n w call (verbs.QueryQp slot) sound within = walk-present c w (AllWithin (suc n)) call slot _ sound (record {}) (λ q there. record {})
 within-verb c n w call (verbs.DestroyQp slot) sound within = within-destroy_qp c n w call slot sound within
 within-verb c n w call (verbs.PostSend slot request) sound within = within-post_send c n w call slot request sound within
 within-verb c n w call (verbs.PostRecv slot request) sound within = within-post_recv c n w call slot request sound within

@@ -1,29 +1,24 @@
 -- The verbs raise numbers by one at most, and what a change sets lies below the bound.
-use Rattle.std.proofs.Common.{◌≡◌, ℕ, suc, ◌+◌, ◌-◌, ◌^◌, ◌≤◌, ◌<◌, nat_le, nat_lt, arith, Bool, true, false, List, [], ◌∷◌, ◌++◌, take, Option, None, Some, IfSome, ◌∙◌, ◌&&◌, ◌==◌, not, ap, sym, subst, true≢false, if◌then◌else◌, is_none, refl}
+use Rattle.std.proofs.Common.{◌≡◌, ℕ, suc, ◌+◌, ◌-◌, ◌^◌, ◌≤◌, ◌<◌, nat_le, nat_lt, arith, Bool, true, false, List, [], ◌∷◌, take, Option, None, Some, IfSome, ◌∙◌, ◌==◌, ap, sym, subst, true≢false, if◌then◌else◌, refl}
 use Rattle.std.proofs.lemmas.Bool.{leb-false, not-false}
 use Rattle.std.proofs.lemmas.List.{length-append}
 use Rattle.std.specs.List.{AllByRecursion}
-use Rattle.std.specs.Option.{option_and_then, option_eq, option_map}
+use Rattle.std.specs.Option.{option_eq, option_map}
 use Rattle.ca_base.specs.Configuration.{Configuration}
 use Rattle.ca_base.specs.declared.change.Change as state_change
 use Rattle.ca_base.specs.declared.change.Change.TheVariants as changes
-use Rattle.ca_base.specs.declared.change.Field.TheVariants as fields
 use Rattle.ca_base.specs.declared.change.State.{State}
 use Rattle.ca_base.specs.declared.change.State.TheVariants as states
 use Rattle.ca_base.specs.declared.completion.Completion.{Completion}
 use Rattle.ca_base.specs.declared.limits.TheConstants.{MAX_MESSAGE_BYTES}
 use Rattle.ca_base.specs.declared.request.RecvRequest.{RecvRequest}
-use Rattle.ca_base.specs.declared.request.SendOp.{SendOp}
-use Rattle.ca_base.specs.declared.request.SendOp.TheVariants as ops
 use Rattle.ca_base.specs.declared.request.SendRequest.{SendRequest}
-use Rattle.ca_base.specs.objects.CompletionQueue.{CompletionQueue, after_reserve}
-use Rattle.ca_base.specs.objects.Domain.{Domain, with_object, without_object}
-use Rattle.ca_base.specs.objects.Mailbox.{with_peer}
-use Rattle.ca_base.specs.objects.QueuePair.{QueuePair, QueueSlot, NoQueue, Present, after_reset, in_error, incarnation_of, timers_of, recv_cq_of, send_cq_of, with_all_flushed}
-use Rattle.ca_base.specs.objects.Region.{with_window_unbound}
+use Rattle.ca_base.specs.objects.CompletionQueue.{CompletionQueue}
+use Rattle.ca_base.specs.objects.Domain.{without_object}
+use Rattle.ca_base.specs.objects.QueuePair.{QueuePair, QueueSlot, NoQueue, Present, after_reset, in_error, incarnation_of, timers_of, with_all_flushed}
 use Rattle.ca_base.specs.objects.SharedReceives.{SharedReceives, SrqSlot, after_receive_post, after_receive_retire, after_receives_retire, is_full_of_receives}
 use Rattle.ca_base.specs.objects.StateTable.{is_among, modify_refusals, queue_after_change, state_eq}
-use Rattle.ca_base.specs.objects.Window.{Binding, Window, after_deallocation, after_draw, byte_drawn, key_of_window}
+use Rattle.ca_base.specs.objects.Window.{after_draw, byte_drawn}
 use Rattle.ca_base.specs.objects.WorkQueue.{WorkQueue, after_retire, empty_queue, next_place, with_item}
 use Rattle.ca_keys.specs.Equal.{queue_eq}
 use Rattle.ca_keys.specs.Numbers.{queue_of}
@@ -32,98 +27,50 @@ use Rattle.ca_keys.specs.declared.names.QueueId.{QueueId}
 use Rattle.ca_keys.specs.declared.names.Slot.{Slot}
 use Rattle.ca_model.specs.Requests.{list_length}
 use Rattle.ca_model.specs.declared.answer.Answer.TheVariants as answers
-use Rattle.ca_model.specs.declared.answer.Refusal.TheVariants.{CqTooSmall, NoSuch, OutOfRange, QueueFull, TooLong, WindowsBound}
-use Rattle.ca_model.specs.declared.mark.Mark.{Mark}
-use Rattle.ca_model.specs.declared.mark.Mark.TheVariants as marks
-use Rattle.ca_model.specs.machine.Around.{Around, cq_updates}
-use Rattle.ca_model.specs.machine.CompletionVerbs.{Poll_of, With_places, after_poll, poll_plan, receives_after_poll, slot_after_poll, source_of_completion}
-use Rattle.ca_model.specs.machine.Completions.{flush_marks}
+use Rattle.ca_model.specs.declared.answer.Refusal.TheVariants.{NoSuch, QueueFull, TooLong}
+use Rattle.ca_model.specs.machine.Around.{Around}
+use Rattle.ca_model.specs.machine.CompletionVerbs.{Take_plan, after_poll, poll_plan, receives_after_poll, slot_after_poll, source_of_completion}
 use Rattle.ca_model.specs.machine.Invariants.{IsQueue, IsReceives, is_fresh}
 use Rattle.ca_model.specs.machine.Numbering.{numbers_of}
-use Rattle.ca_model.specs.machine.Plan.{Plan, If, Look, Update, ◌:=◌}
+use Rattle.ca_model.specs.machine.Plan.{Plan, Update, ◌:=◌}
 use Rattle.ca_model.specs.machine.PostingVerbs.{Posted_send, after_flush, post_recv_plan, post_send_plan, post_srq_plan, with_send}
-use Rattle.ca_model.specs.machine.QueuePairVerbs
-use Rattle.ca_model.specs.machine.QueuePairVerbs.{Creation, With_present, With_shared, before_receives, beside, create_qp_plan, destroy_qp_plan, emptied_updates, has_bad_depth, has_no_room, left_updates, modify_qp_plan, new_queue, places_held, receive_reserve, receive_room, send_reserved, user_updates}
+use Rattle.ca_model.specs.machine.QueuePairVerbs.{Creation, beside, create_qp_plan, destroy_qp_plan, left_updates, modify_qp_plan, new_queue, places_held, user_updates}
 use Rattle.ca_model.specs.machine.Row.{region_under}
 use Rattle.ca_model.specs.machine.Sound.{IsFinished, IsQueueOf, IsSettled, IsSoundWorld}
-use Rattle.ca_model.specs.machine.VerbAnswers.{Answer_plan, Call, Refuse_plan, Unless_plan, of_change_refusals}
-use Rattle.ca_model.specs.machine.WindowVerbs.{With_binder, dealloc_mw_plan, queue_updates}
-use Rattle.ca_model.specs.machine.World.{World, Domain_of, Region_of, Window_of, Cq_of, Srq_of, Queue_of, Mailbox_of}
-use Rattle.ca_laws_numbers.specs.Raised.{AreNumbersWithin, IsSlotWithin, IsThingWithin, IsWorldWithin, psn_bound}
+use Rattle.ca_model.specs.machine.VerbAnswers.{Answer_plan, Call, Refuse_plan, Unless_plan}
+use Rattle.ca_model.specs.machine.WindowVerbs.{dealloc_mw_plan, queue_updates}
+use Rattle.ca_model.specs.machine.World.{World, Domain_of, Region_of, Window_of, Srq_of, Queue_of, Mailbox_of}
+use Rattle.ca_laws_numbers.specs.Raised.{AreNumbersWithin, IsSlotWithin, IsWorldWithin, psn_bound}
 use Rattle.ca_laws_numbers.proofs.NumberLemmas.{AreReceivesWithin, error-within, flushed-within, none-end, oldest-within, raised, receives-within, responder-within, windows-within}
 use Rattle.ca_laws_numbers.proofs.WorldNumberLemmas.{AllWithin, IsShareWithin, mailbox-later, queue-numbers, share-within, shared-later, slot-later, srq-within}
-use Rattle.ca_laws_sound.proofs.EngineLemmas.{ends-unless}
+use Rattle.ca_laws_sound.proofs.PlanWalks.{binder_updates, changed_around, shared_beside, walk-create, walk-dealloc_mw, walk-destroy, walk-modify, walk-places, walk-poll, walk-post_send, walk-present}
 use Rattle.ca_laws_sound.proofs.GoodLemmas.{finished-later}
 use Rattle.ca_laws_sound.proofs.NumberingLemmas.{count_sum}
 use Rattle.ca_laws_sound.proofs.PollLemmas.{all-finished, all-taken}
 use Rattle.ca_laws_sound.proofs.QueueVerbLemmas.{change-fails}
 use Rattle.ca_laws_sound.proofs.SettledLemmas.{all-map}
 use Rattle.ca_laws_sound.proofs.VerbLemmas.{IsPolled, polled, posted-end, retired-items, retired-next}
-use Rattle.ca_laws_sound.proofs.WorldLemmas.{EndsIn, IsThere, around_in, ends-around, is-there, shared_of}
+use Rattle.ca_laws_sound.proofs.WorldLemmas.{EndsIn, IsThere, around_in, shared_of}
 
 -- the numbers of a queue pair after one event
 later-numbers : (n : ℕ) (w : World) (q : QueuePair) → IsWorldWithin n w → IsThere w q → AreNumbersWithin (psn_bound (suc n)) (suc n) q
 later-numbers n w q within there = slot-later n (Present q) (queue-numbers n w q within there)
 
-object-more : (n : ℕ) (d : Domain) → d.objects ≤ n → (with_object d).objects ≤ suc n
-object-more n d few = omega (arith, few)
-
-object-fewer : (n : ℕ) (d : Domain) → d.objects ≤ n → (without_object d).objects ≤ suc n
-object-fewer n d few = omega (arith, few)
-
 -- the queue pair of a window that is gone
-binder-within : (n : ℕ) (w : World) (q : QueueId) → IsWorldWithin n w → AllWithin (suc n) (queue_updates q (w.queue q))
-binder-within n w q within = by (w.queue q) (slot-later n (w.queue q) (within (Queue_of q)))
+binder-within : (n : ℕ) (w : World) (o : Option QueueId) → IsWorldWithin n w → AllWithin (suc n) (binder_updates w o)
+binder-within n w None within = record {}
+binder-within n w (Some q) within = by (w.queue q) (slot-later n (w.queue q) (within (Queue_of q)))
   where
     by : (s : QueueSlot) → IsSlotWithin (suc n) s → AllWithin (suc n) (queue_updates q s)
     by (NoQueue incarnation timers) few = record {}
     by (Present p) few = (windows-within (psn_bound (suc n)) (suc n) p (p.windows - 1) few (omega (arith, few.windows)), record {})
 
 pub within-dealloc_mw : (n : ℕ) (w : World) (call : Call) (s : Slot) → IsWorldWithin n w → EndsIn w (AllWithin (suc n)) (dealloc_mw_plan call s)
-within-dealloc_mw n w call s within = (λ is. record {}, λ there. by (w.window s).binding)
+within-dealloc_mw n w call s within = walk-dealloc_mw w (AllWithin (suc n)) call s (record {}) (domain, (record {}, record {}))
+    (λ b is. (domain, (record {}, (omega (arith, within (Region_of (region_under (w.window s) b))), binder-within n w b.queue within))))
   where
-    x : Window
-    x = w.window s
-
-    changed : Slot → List Update → List Update
-    changed at more = ((Domain_of s.domain := without_object (w.domain s.domain)) ∷ (Window_of s := after_deallocation x) ∷ [])
-        ++ (Region_of at := with_window_unbound (w.region at)) ∷ more
-
-    plan : Option Binding → Plan
-    plan None = Answer_plan call answers.Fine ((Domain_of s.domain := without_object (w.domain s.domain)) ∷ (Window_of s := after_deallocation x) ∷ []) []
-    plan (Some b) = Look (Region_of (region_under x b)) (λ region. With_binder b.queue (λ more.
-        Answer_plan call answers.Fine
-        (((Domain_of s.domain := without_object (w.domain s.domain)) ∷ (Window_of s := after_deallocation x) ∷ [])
-        ++ (Region_of (region_under x b) := with_window_unbound region) ∷ more)
-        (marks.Revoked s.domain.adapter (key_of_window x) ∷ [])))
-
     domain : (without_object (w.domain s.domain)).objects ≤ suc n
-    domain = object-fewer n (w.domain s.domain) (within (Domain_of s.domain))
-
-    changed-within : (at : Slot) (more : List Update) → AllWithin (suc n) more → AllWithin (suc n) (changed at more)
-    changed-within at more few = (domain, (record {}, (omega (arith, within (Region_of at)), few)))
-
-    binder : (at : Slot) (o : Option QueueId)
-        → EndsIn w (AllWithin (suc n)) (With_binder o (λ more. Answer_plan call answers.Fine (changed at more) (marks.Revoked s.domain.adapter (key_of_window x) ∷ [])))
-    binder at None = changed-within at [] (record {})
-    binder at (Some q) = changed-within at (queue_updates q (w.queue q)) (binder-within n w q within)
-
-    by : (o : Option Binding) → EndsIn w (AllWithin (suc n)) (plan o)
-    by None = (domain, (record {}, record {}))
-    by (Some b) = binder (region_under x b) b.queue
-
--- looking for the queue pair that a verb names
-pub within-present : (c : Configuration) (n : ℕ) (w : World) (call : Call) (s : Slot) (k : QueuePair → Plan) → IsSoundWorld c w
-    → ((q : QueuePair) → IsThere w q → EndsIn w (AllWithin (suc n)) (k q)) → EndsIn w (AllWithin (suc n)) (With_present call s k)
-within-present c n w call s k sound more = by (w.queue (queue_of s)) refl (sound.things (Queue_of (queue_of s)))
-  where
-    plan : QueueSlot → Plan
-    plan (NoQueue incarnation timers) = Refuse_plan call NoSuch
-    plan (Present q) = k q
-
-    by : (t : QueueSlot) → w.queue (queue_of s) ≡ t → IsQueueOf (queue_of s) t → EndsIn w (AllWithin (suc n)) (plan t)
-    by (NoQueue incarnation timers) is one = record {}
-    by (Present q) is one = more q (is-there w (queue_of s) q is one)
+    domain = omega (arith, within (Domain_of s.domain))
 
 -- a queue pair that is in Error flushes what is posted
 flush-within : (b n : ℕ) (q : QueuePair) → AreNumbersWithin b n q → AreNumbersWithin b n (after_flush q)
@@ -154,77 +101,26 @@ posted-within b n q request drawn s numbers = record {
 
 within-posted : (n : ℕ) (w : World) (call : Call) (q : QueuePair) (request : SendRequest) (drawn : Option ℕ) (window : Slot) (more : List Update) → IsWorldWithin n w → IsThere w q
     → AllWithin (suc n) more → EndsIn w (AllWithin (suc n)) (Posted_send call q request drawn window more)
-within-posted n w call q request drawn window more within there few = (
-  λ is. record {},
-  λ atomic. (
-    λ is. record {},
-    λ short. (
-      λ is. record {},
-      λ state. (
-        λ is. record {},
-        λ free. (
-          flush-within (psn_bound (suc n)) (suc n) posted
-              (raised (psn_bound n) (psn_bound (suc n)) (suc n) (suc n) posted (omega arith) (omega arith)
-              (posted-within (psn_bound n) n q request drawn there.sound (queue-numbers n w q within there))),
-          (record {}, few),
-        ),
-      ),
-    ),
-  ),
-)
+within-posted n w call q request drawn window more within there few =
+    (λ is. record {}, λ atomic. (λ is. record {}, λ short. (λ is. record {}, λ state. (λ is. record {}, λ free. (flush-within (psn_bound (suc n)) (suc n) posted numbers, (record {}, few))))))
   where
     posted : QueuePair
     posted = with_send request drawn q
 
+    numbers : AreNumbersWithin (psn_bound (suc n)) (suc n) posted
+    numbers = raised (psn_bound n) (psn_bound (suc n)) (suc n) (suc n) posted (omega arith) (omega arith)
+        (posted-within (psn_bound n) n q request drawn there.sound (queue-numbers n w q within there))
+
 pub within-post_send : (c : Configuration) (n : ℕ) (w : World) (call : Call) (s : Slot) (request : SendRequest) → IsSoundWorld c w → IsWorldWithin n w
     → EndsIn w (AllWithin (suc n)) (post_send_plan call s request)
-within-post_send c n w call s request sound within = within-present c n w call s (λ q. plan q request.op) sound (λ q there. by q there request.op)
-  where
-    draws : QueuePair → Slot → Window → Plan
-    draws q window x =
-        Unless_plan call ((x.kind == 0, NoSuch) ∷ [])
-        (Posted_send call q request (byte_drawn x) window ((Window_of window := after_draw x) ∷ []))
-
-    plan : QueuePair → SendOp → Plan
-    plan q (ops.Bind1 window region address count rights) = Look (Window_of (beside s window)) (draws q (beside s window))
-    plan q op = Posted_send call q request None s []
-
-    plainly : (q : QueuePair) → IsThere w q → EndsIn w (AllWithin (suc n)) (Posted_send call q request None s [])
-    plainly q there = within-posted n w call q request None s [] within there (record {})
-
-    by : (q : QueuePair) → IsThere w q → (op : SendOp) → EndsIn w (AllWithin (suc n)) (plan q op)
-    by q there (ops.Bind1 window region address count rights) = (
-      λ is. record {},
-      λ some. within-posted n w call q request (byte_drawn (w.window (beside s window))) (beside s window)
-          ((Window_of (beside s window) := after_draw (w.window (beside s window))) ∷ []) within there (record {}, record {}),
-    )
-    by q there (ops.Bind2 window region low address count rights) = plainly q there
-    by q there (ops.FastReg region low buffer address count rights pages) = plainly q there
-    by q there (ops.LocalInv key) = plainly q there
-    by q there (ops.Send list) = plainly q there
-    by q there (ops.SendImm imm list) = plainly q there
-    by q there (ops.SendInv key list) = plainly q there
-    by q there (ops.Write address key list) = plainly q there
-    by q there (ops.WriteImm address key imm list) = plainly q there
-    by q there (ops.Read address key list) = plainly q there
-    by q there (ops.CmpSwap address key compare swap list) = plainly q there
-    by q there (ops.FetchAdd address key add list) = plainly q there
+within-post_send c n w call s request sound within = walk-post_send c w (AllWithin (suc n)) call s request sound (record {})
+    (λ q there. within-posted n w call q request None s [] within there (record {}))
+    (λ q at there. within-posted n w call q request (byte_drawn (w.window at)) at ((Window_of at := after_draw (w.window at)) ∷ []) within there (record {}, record {}))
 
 pub within-post_recv : (c : Configuration) (n : ℕ) (w : World) (call : Call) (s : Slot) (request : RecvRequest) → IsSoundWorld c w → IsWorldWithin n w
     → EndsIn w (AllWithin (suc n)) (post_recv_plan call s request)
-within-post_recv c n w call s request sound within = within-present c n w call s _ sound (λ q there. (
-  λ is. record {},
-  λ own. (
-    λ is. record {},
-    λ short. (
-      λ is. record {},
-      λ state. (
-        λ is. record {},
-        λ free. (flush-within (psn_bound (suc n)) (suc n) (posted q) (after q there), (record {}, record {})),
-      ),
-    ),
-  ),
-))
+within-post_recv c n w call s request sound within = walk-present c w (AllWithin (suc n)) call s _ sound (record {}) (λ q there.
+    (λ is. record {}, λ own. (λ is. record {}, λ short. (λ is. record {}, λ state. (λ is. record {}, λ free. (flush-within (psn_bound (suc n)) (suc n) (posted q) (after q there), (record {}, record {})))))))
   where
     posted : QueuePair → QueuePair
     posted q = record q { receives = option_map (with_item request) q.receives }
@@ -368,44 +264,20 @@ retired-next-stays (place ∷ places) s = retired-next-stays places (after_recei
 
 pub within-modify_qp : (c : Configuration) (n : ℕ) (w : World) (call : Call) (s : Slot) (change : state_change.Change) → IsSoundWorld c w → IsWorldWithin n w
     → EndsIn w (AllWithin (suc n)) (modify_qp_plan c call s change)
-within-modify_qp c n w call s change sound within = within-present c n w call s _ sound (λ q there.
-    ends-around w (AllWithin (suc n)) q (λ a. Unless_plan call (of_change_refusals (modify_refusals c q change)) (plan q a change))
-    (ends-unless w (AllWithin (suc n)) (of_change_refusals (modify_refusals c q change)) (Refuse_plan call) (plan q (around_in w q (shared_of w q)) change) (λ r. record {})
-    (λ fails. (changed-within c n change q (change-fails c q change fails) (queue-numbers n w q within there), by q change))))
+within-modify_qp c n w call s change sound within = walk-modify c w (AllWithin (suc n)) call s change sound (record {})
+    (λ q there fails. (changed-within c n change q (change-fails c q change fails) (queue-numbers n w q within there), by q (around_in w q (shared_of w q)) (share-within n w q within) change))
   where
-    updates : QueuePair → Around → state_change.Change → List Update
-    updates q a changes.Error = cq_updates q a (flush_marks q)
-    updates q a changes.Reset =
-        (Mailbox_of q.queue := QueuePairVerbs.emptied_mailbox (queue_after_change changes.Reset q).incarnation (w.mailbox q.queue)) ∷ emptied_updates q a
-    updates q a (changes.Rtr peer incarnation psn mtu rnr_code) =
-        (Mailbox_of q.queue := with_peer q.incarnation (Some (record { queue = peer; incarnation = incarnation })) (w.mailbox q.queue)) ∷ []
-    updates q a change = []
-
-    told : QueuePair → state_change.Change → List Mark
-    told q changes.Error = flush_marks q
-    told q change = []
-
-    plan : QueuePair → Around → state_change.Change → Plan
-    plan q a change = Answer_plan call answers.Fine ((Queue_of q.queue := Present (queue_after_change change q)) ∷ updates q a change) (told q change)
-
-    by : (q : QueuePair) (change : state_change.Change) → AllWithin (suc n) (updates q (around_in w q (shared_of w q)) change)
-    by q changes.Error = (record {}, (record {}, record {}))
-    by q changes.Reset = (
+    by : (q : QueuePair) (a : Around) → IsShareWithin n a.shared → (change : state_change.Change) → AllWithin (suc n) (changed_around w q a change)
+    by q a share changes.Error = (record {}, (record {}, record {}))
+    by q a share changes.Reset = (
       ((mailbox-later n (w.mailbox q.queue) (within (Mailbox_of q.queue))).0, record {}),
-      (
-        record {},
-        (
-          record {},
-          srq-within n q (around_in w q (shared_of w q)) (after_receives_retire (places_held q (around_in w q (shared_of w q))))
-              (retired-next-stays (places_held q (around_in w q (shared_of w q)))) (share-within n w q within),
-        ),
-      ),
+      (record {}, (record {}, srq-within n q a (after_receives_retire (places_held q a)) (retired-next-stays (places_held q a)) share)),
     )
-    by q (changes.Rtr peer incarnation psn mtu rnr_code) = (mailbox-later n (w.mailbox q.queue) (within (Mailbox_of q.queue)), record {})
-    by q changes.Init = record {}
-    by q (changes.Rts psn retry rnr_retry reads) = record {}
-    by q changes.Sqd = record {}
-    by q changes.Resume = record {}
+    by q a share (changes.Rtr peer incarnation psn mtu rnr_code) = (mailbox-later n (w.mailbox q.queue) (within (Mailbox_of q.queue)), record {})
+    by q a share changes.Init = record {}
+    by q a share (changes.Rts psn retry rnr_retry reads) = record {}
+    by q a share changes.Sqd = record {}
+    by q a share changes.Resume = record {}
 
 left-within : (n : ℕ) (q : QueuePair) (a : Around) → IsShareWithin n a.shared → AllWithin (suc n) (left_updates q a)
 left-within n q a share = by q.srq a.shared share
@@ -427,32 +299,16 @@ left-within n q a share = by q.srq a.shared share
     by (Some srq) (Some slot) share = ((omega (arith, share.0), retired slot.srq share.1), record {})
 
 pub within-destroy_qp : (c : Configuration) (n : ℕ) (w : World) (call : Call) (s : Slot) → IsSoundWorld c w → IsWorldWithin n w → EndsIn w (AllWithin (suc n)) (destroy_qp_plan call s)
-within-destroy_qp c n w call s sound within = within-present c n w call s _ sound (λ q there.
-    ends-around w (AllWithin (suc n)) q (plan q) (
-      λ is. record {},
-      λ free. (
-        object-fewer n (w.domain s.domain) (within (Domain_of s.domain)),
-        (
-          ((later-numbers n w q within there).incarnation, (later-numbers n w q within there).timers),
-          (
-            ((mailbox-later n (w.mailbox q.queue) (within (Mailbox_of q.queue))).0, record {}),
-            (record {}, (record {}, left-within n q (around_in w q (shared_of w q)) (share-within n w q within))),
-          ),
-        ),
-      ),
-    ))
-  where
-    plan : QueuePair → Around → Plan
-    plan q a =
-        Unless_plan call ((nat_lt 0 q.windows, WindowsBound) ∷ [])
-        (Answer_plan call answers.Fine
-        ((Domain_of s.domain := without_object (w.domain s.domain))
-        ∷ (Queue_of q.queue := NoQueue q.incarnation q.requester.timers)
-        ∷ (Mailbox_of q.queue := QueuePairVerbs.emptied_mailbox q.incarnation (w.mailbox q.queue))
-        ∷ (Cq_of (send_cq_of q) := option_map (QueuePairVerbs.without_queue q) (w.cq (send_cq_of q)))
-        ∷ (Cq_of (recv_cq_of q) := option_map (QueuePairVerbs.without_queue q) (w.cq (recv_cq_of q)))
-        ∷ left_updates q a)
-        [])
+within-destroy_qp c n w call s sound within = walk-destroy c w (AllWithin (suc n)) call s sound (record {}) (λ q there free. (
+  omega (arith, within (Domain_of s.domain)),
+  (
+    ((later-numbers n w q within there).incarnation, (later-numbers n w q within there).timers),
+    (
+      ((mailbox-later n (w.mailbox q.queue) (within (Mailbox_of q.queue))).0, record {}),
+      (record {}, (record {}, left-within n q (around_in w q (shared_of w q)) (share-within n w q within))),
+    ),
+  ),
+))
 
 user-within : (n : ℕ) (x : Creation) (o : Option SrqSlot) → IsShareWithin n o → AllWithin (suc n) (user_updates x o)
 user-within n x o share = by x.srq o share
@@ -498,60 +354,17 @@ new-within n x slot few = record {
     receives (Some srq) = record {}
 
 pub within-create_qp : (c : Configuration) (n : ℕ) (w : World) (call : Call) (x : Creation) → IsWorldWithin n w → EndsIn w (AllWithin (suc n)) (create_qp_plan c call x)
-within-create_qp c n w call x within = (λ is. record {}, λ there. (λ is. record {}, λ vacant. (λ has. shared-looks, λ none. record {})))
+within-create_qp c n w call x within = walk-create c w (AllWithin (suc n)) call x (record {}) (λ send recv there vacant send-is recv-is depth. (
+  omega (arith, within (Domain_of x.slot.domain)),
+  (
+    new-within n x (w.queue (queue_of x.slot)) (within (Queue_of (queue_of x.slot))),
+    (mailbox-later n (w.mailbox (queue_of x.slot)) (within (Mailbox_of (queue_of x.slot))), (record {}, (record {}, user-within n x (shared_beside w x) (share x.srq)))),
+  ),
+))
   where
-    queue : QueueId
-    queue = queue_of x.slot
-
-    changed : CompletionQueue → CompletionQueue → Option SrqSlot → Option SharedReceives → List Update
-    changed send recv srq shared = (Domain_of x.slot.domain := with_object (w.domain x.slot.domain))
-        ∷ (Queue_of queue := Present (new_queue x (w.queue queue)))
-        ∷ (Mailbox_of queue := with_peer (new_queue x (w.queue queue)).incarnation None (w.mailbox queue))
-        ∷ (Cq_of (beside x.slot x.send_cq) := Some (send_reserved x send))
-        ∷ (Cq_of (beside x.slot x.recv_cq) := Some (after_reserve (receive_reserve x) (receive_room x shared) (before_receives x send recv)))
-        ∷ user_updates x srq
-
-    made : CompletionQueue → CompletionQueue → Option SrqSlot → Option SharedReceives → Plan
-    made send recv srq shared = Answer_plan call (answers.Queue queue.number (new_queue x (w.queue queue)).incarnation) (changed send recv srq shared) []
-
-    there_plan : Option CompletionQueue → Option CompletionQueue → Option SrqSlot → Option SharedReceives → Plan
-    there_plan (Some send) (Some recv) srq shared = If (is_none shared && not (is_none x.srq)) (Refuse_plan call NoSuch)
-        (If (has_bad_depth x) (Refuse_plan call (OutOfRange fields.Depth)) (If (has_no_room x shared send recv) (Refuse_plan call CqTooSmall) (made send recv srq shared)))
-    there_plan send recv srq shared = Refuse_plan call NoSuch
-
-    plan : Option SrqSlot → Plan
-    plan shared = there_plan (w.cq (beside x.slot x.send_cq)) (w.cq (beside x.slot x.recv_cq)) shared (option_and_then (λ s. s.srq) shared)
-
-    cqs : (srq : Option SrqSlot) → IsShareWithin n srq → (shared : Option SharedReceives) (send recv : Option CompletionQueue) → EndsIn w (AllWithin (suc n)) (there_plan send recv srq shared)
-    cqs srq share shared None recv = record {}
-    cqs srq share shared (Some send) None = record {}
-    cqs srq share shared (Some send) (Some recv) = (
-      λ is. record {},
-      λ named. (
-        λ is. record {},
-        λ depth. (
-          λ is. record {},
-          λ room. (
-            object-more n (w.domain x.slot.domain) (within (Domain_of x.slot.domain)),
-            (
-              new-within n x (w.queue queue) (within (Queue_of queue)),
-              (mailbox-later n (w.mailbox queue) (within (Mailbox_of queue)), (record {}, (record {}, user-within n x srq share))),
-            ),
-          ),
-        ),
-      ),
-    )
-
-    shared-looks : EndsIn w (AllWithin (suc n)) (With_shared x plan)
-    shared-looks = by x.srq
-      where
-        looks : Option ℕ → Plan
-        looks None = plan None
-        looks (Some srq) = Look (Srq_of (beside x.slot srq)) (λ slot. plan (Some slot))
-
-        by : (o : Option ℕ) → EndsIn w (AllWithin (suc n)) (looks o)
-        by None = cqs None (record {}) None (w.cq (beside x.slot x.send_cq)) (w.cq (beside x.slot x.recv_cq))
-        by (Some srq) = cqs (Some (w.srq (beside x.slot srq))) (within (Srq_of (beside x.slot srq))) (w.srq (beside x.slot srq)).srq (w.cq (beside x.slot x.send_cq)) (w.cq (beside x.slot x.recv_cq))
+    share : (o : Option ℕ) → IsShareWithin n (option_map (λ srq. w.srq (beside x.slot srq)) o)
+    share None = record {}
+    share (Some srq) = within (Srq_of (beside x.slot srq))
 
 -- places of finished sends, or of taken receives, are free again
 freed-within : (b n place : ℕ) (receive : Bool) (q : QueuePair) → IsQueue q → IsFinished q receive place → AreNumbersWithin b n q
@@ -622,41 +435,16 @@ poll-next-stays cq srq (x ∷ xs) s = poll-next-stays cq srq xs next ∙ at (opt
     at true = refl
     at false = refl
 
-within-places : (c : Configuration) (n : ℕ) (w : World) (s : Slot) (cq : CompletionQueue) (xs ys : List Completion) (k : List Update → Plan) → IsSoundWorld c w → IsWorldWithin n w
-    → AllByRecursion (λ x. IsSettled s (w.queue x.queue) x) xs → ((us : List Update) → AllWithin (suc n) us → EndsIn w (AllWithin (suc n)) (k us))
-    → EndsIn w (AllWithin (suc n)) (With_places s cq xs ys k)
-within-places c n w s cq xs [] k sound within all more = more [] (record {})
-within-places c n w s cq xs (y ∷ ys) k sound within all more =
-    by (source_of_completion cq y) (λ u few. within-places c n w s cq xs ys (λ us. k (u ∷ us)) sound within all (λ us rest. more (u ∷ us) (few, rest)))
-  where
-    shared : ℕ → Slot
-    shared srq = record { domain = s.domain; slot = srq }
-
-    next : Update → Plan
-    next u = With_places s cq xs ys (λ us. k (u ∷ us))
-
-    plan : Option ℕ → Plan
-    plan None = Look (Queue_of y.queue) (λ slot. next (Queue_of y.queue := slot_after_poll y.queue xs slot))
-    plan (Some srq) = Look (Srq_of (shared srq)) (λ slot. next (Srq_of (shared srq) := record slot { srq = option_map (receives_after_poll cq srq xs) slot.srq }))
-
-    retired : (srq : ℕ) (o : Option SharedReceives) → IfSome o (λ r. r.next ≤ n) → IfSome (option_map (receives_after_poll cq srq xs) o) (λ r. r.next ≤ suc n)
-    retired srq None few = record {}
-    retired srq (Some r) few = omega (arith, few, poll-next-stays cq srq xs r)
-
-    by : (o : Option ℕ) → ((u : Update) → IsThingWithin (suc n) u.name u.thing → EndsIn w (AllWithin (suc n)) (next u)) → EndsIn w (AllWithin (suc n)) (plan o)
-    by None on = on (Queue_of y.queue := slot_after_poll y.queue xs (w.queue y.queue)) (slot-polled-within n w s y.queue xs within (sound.things (Queue_of y.queue)) all)
-    by (Some srq) on = on (Srq_of (shared srq) := record (w.srq (shared srq)) { srq = option_map (receives_after_poll cq srq xs) (w.srq (shared srq)).srq })
-        (omega (arith, (within (Srq_of (shared srq))).0), retired srq (w.srq (shared srq)).srq (within (Srq_of (shared srq))).1)
-
 pub within-poll : (c : Configuration) (n : ℕ) (w : World) (call : Call) (s : Slot) (k least : ℕ) → IsSoundWorld c w → IsWorldWithin n w → EndsIn w (AllWithin (suc n)) (poll_plan call s k least)
-within-poll c n w call s k least sound within = by (w.cq s) (sound.settled s)
+within-poll c n w call s k least sound within = walk-poll w (AllWithin (suc n)) call s k least (record {})
+    (λ cq is. taken cq (subst (λ o. IfSome o (λ v. AllByRecursion (λ x. IsSettled s (w.queue x.queue) x) v.waiting)) is (sound.settled s)))
   where
-    by : (o : Option CompletionQueue) → IfSome o (λ v. AllByRecursion (λ x. IsSettled s (w.queue x.queue) x) v.waiting) → EndsIn w (AllWithin (suc n)) (Poll_of call s k least o)
-    by None all = record {}
-    by (Some cq) all = (
-      λ is. record {},
-      λ range. (
-        λ few. record {},
-        λ enough. within-places c n w s cq (take k cq.waiting) (take k cq.waiting) _ sound within (all-taken (λ x. IsSettled s (w.queue x.queue) x) k cq.waiting all) (λ us few. (record {}, few)),
-      ),
-    )
+    retired : (cq : CompletionQueue) (xs : List Completion) (srq : ℕ) (o : Option SharedReceives) → IfSome o (λ r. r.next ≤ n) → IfSome (option_map (receives_after_poll cq srq xs) o) (λ r. r.next ≤ suc n)
+    retired cq xs srq None few = record {}
+    retired cq xs srq (Some r) few = omega (arith, few, poll-next-stays cq srq xs r)
+
+    taken : (cq : CompletionQueue) → AllByRecursion (λ x. IsSettled s (w.queue x.queue) x) cq.waiting → EndsIn w (AllWithin (suc n)) (Take_plan call s cq (take k cq.waiting))
+    taken cq all = walk-places w (AllWithin (suc n)) (AllWithin (suc n)) s cq (take k cq.waiting) (take k cq.waiting) _ (record {})
+        (λ name us few. (slot-polled-within n w s name (take k cq.waiting) within (sound.things (Queue_of name)) (all-taken (λ x. IsSettled s (w.queue x.queue) x) k cq.waiting all), few))
+        (λ at srq us few. ((omega (arith, (within (Srq_of at)).0), retired cq (take k cq.waiting) srq (w.srq at).srq (within (Srq_of at)).1), few))
+        (λ us few. (record {}, few))

@@ -1,5 +1,5 @@
 -- How plans end in a world after so many events: the turns of an engine, and a packet that arrives.
-use Rattle.std.proofs.Common.{◌≡◌, ℕ, suc, ◌+◌, ◌-◌, ◌≤◌, arith, Bool, true, false, List, [], ◌∷◌, ◌++◌, Option, None, Some, IfSome, ◌&&◌, ◌==◌, if◌then◌else◌, subst, refl, rules}
+use Rattle.std.proofs.Common.{◌≡◌, ℕ, suc, ◌+◌, ◌-◌, ◌≤◌, arith, Bool, true, false, List, [], ◌∷◌, ◌++◌, Option, None, Some, IfSome, ◌==◌, if◌then◌else◌, subst, refl}
 use Rattle.std.proofs.lemmas.List.{append-nil}
 use Rattle.std.specs.List.{AllByRecursion}
 use Rattle.std.specs.Option.{option_map, option_map_or}
@@ -12,12 +12,10 @@ use Rattle.ca_base.specs.declared.lot.Lot.{Lot}
 use Rattle.ca_base.specs.declared.mail_envelope.MailEnvelope.{MailEnvelope}
 use Rattle.ca_base.specs.declared.refusals.OpRefusal.{OpRefusal}
 use Rattle.ca_base.specs.declared.request.SendOp.{SendOp}
-use Rattle.ca_base.specs.declared.request.SendOp.TheVariants as ops
-use Rattle.ca_base.specs.declared.step.Reason.TheVariants as reasons
 use Rattle.ca_base.specs.declared.step.Sent.{Sent}
 use Rattle.ca_base.specs.declared.step.Sent.TheVariants.{Silent, Spelt}
 use Rattle.ca_base.specs.objects.LocalRequest.{window_refusal}
-use Rattle.ca_base.specs.objects.Mailbox.{Mailbox, after_delivery, after_send, bytes_lent, later_than, with_delivery}
+use Rattle.ca_base.specs.objects.Mailbox.{Mailbox, after_delivery, after_send, later_than, with_delivery}
 use Rattle.ca_base.specs.objects.QueuePair.{QueuePair, QueueSlot, NoQueue, Present, srq_of}
 use Rattle.ca_base.specs.objects.Region.{Region, with_window_bound, with_window_unbound}
 use Rattle.ca_base.specs.objects.SharedReceives.{SharedReceives, SrqSlot, after_receive_take}
@@ -32,34 +30,33 @@ use Rattle.ca_keys.specs.declared.names.QueueId.{QueueId}
 use Rattle.ca_keys.specs.declared.names.Slot.{Slot}
 use Rattle.ca_keys.specs.declared.rights.Rights.{Rights}
 use Rattle.ca_model.specs.declared.answer.Answer.TheVariants as answers
-use Rattle.ca_model.specs.declared.answer.Refusal.TheVariants.{NoSuch}
 use Rattle.ca_model.specs.declared.mark.Mark.{Mark}
 use Rattle.ca_model.specs.declared.mark.Mark.TheVariants as marks
-use Rattle.ca_model.specs.machine.Around.{Around, With_around, shared_in, srq_updates, updates_of}
+use Rattle.ca_model.specs.machine.Around.{Around, shared_in, srq_updates, updates_of}
 use Rattle.ca_model.specs.machine.Delivery.{Arrive, arrival_row, deliver_plan}
 use Rattle.ca_model.specs.machine.HostVerbs.{inject_plan}
 use Rattle.ca_model.specs.machine.Invariants.{IsQueue, is_sending}
 use Rattle.ca_model.specs.machine.LocalOperations.{Bind1_plan, Bind2_plan, Fast_plan, Finishing, Perform_op, PlacedRegion, With_former, With_named, bind1_changes, bind1_marks, bind1_refusal, bind2_changes, bind2_marks, bind2_refusal, drawn_by, fast_changes, fast_marks, fast_refusal, former_updates, invalidate_row, named_updates, operation_effects, region_slot, window_slot}
 use Rattle.ca_model.specs.machine.Numbering.{Numbered}
-use Rattle.ca_model.specs.machine.Plan.{Plan, Stuck, Look, Finish, Update, ◌:=◌, Write, unless_refused}
-use Rattle.ca_model.specs.machine.Requester.{RequestTurn, Waits, Performs, Sends, next_request, packet_row, turn_of, turn_refusals}
+use Rattle.ca_model.specs.machine.Plan.{Plan, Look, Finish, Update, ◌:=◌, Write}
+use Rattle.ca_model.specs.machine.Requester.{Sends, next_request, packet_row, turn_of, turn_refusals}
 use Rattle.ca_model.specs.machine.Respond.{respond_row}
 use Rattle.ca_model.specs.machine.Row.{Effects, Ending, NotPossible, Does, End_plan, Row, Row_plan, With_bytes, With_invalidation, first_denied_by, queue_and_marks, region_under, unless_none}
-use Rattle.ca_model.specs.machine.Sound.{IsQueueOf, IsSoundWorld}
-use Rattle.ca_model.specs.machine.Timers.{after_timeout, after_wake, timeout_refusals, wake_refusals}
-use Rattle.ca_model.specs.machine.Turns.{Fire, Leave_plan, Packet, Request_around, Respond_around, Timeout_around, With_receives, has_room_for, packet_sent, reaches_peer, request_plan, respond_plan, sent_updates, timeout_plan, wake_plan}
-use Rattle.ca_model.specs.machine.VerbAnswers.{Call, Refuse_plan, answer_mark}
+use Rattle.ca_model.specs.machine.Sound.{IsSoundWorld}
+use Rattle.ca_model.specs.machine.Timers.{after_timeout, after_wake}
+use Rattle.ca_model.specs.machine.Turns.{Leave_plan, Packet, has_room_for, packet_sent, reaches_peer, request_plan, respond_plan, sent_updates, timeout_plan, wake_plan}
+use Rattle.ca_model.specs.machine.VerbAnswers.{Call, answer_mark}
 use Rattle.ca_model.specs.machine.World.{World, Name, Domain_of, Region_of, Window_of, Cq_of, Srq_of, Queue_of, Mailbox_of, Byte_at, Thing}
 use Rattle.ca_laws_numbers.specs.Raised.{AreNumbersWithin, IsMailboxWithin, IsSharedWithin, IsSlotWithin, IsThingWithin, IsWorldWithin, psn_bound}
 use Rattle.ca_laws_numbers.proofs.NumberLemmas.{raised}
 use Rattle.ca_laws_numbers.proofs.RequesterNumberLemmas.{IsRaised, more-within, operation-raised, packet-raised, timeout-raised, wake-raised}
 use Rattle.ca_laws_numbers.proofs.ResponderNumberLemmas.{arrival-raised, invalidate-raised, respond-raised}
-use Rattle.ca_laws_sound.proofs.EngineLemmas.{ends-unless}
+use Rattle.ca_laws_sound.proofs.PlanWalks.{walk-deliver, walk-inject, walk-perform, walk-request, walk-respond, walk-timeout, walk-wake}
 use Rattle.ca_laws_sound.proofs.SettledLemmas.{all-map}
 use Rattle.ca_laws_sound.proofs.TurnLemmas.{packet-good, sending-parts, sends-parts}
 use Rattle.ca_laws_sound.proofs.PollLemmas.{all-taken}
 use Rattle.ca_laws_sound.proofs.ResponseLemmas.{IsGoodEnding, IsGoodRow}
-use Rattle.ca_laws_sound.proofs.WorldLemmas.{EndingDoes, EndsIn, IsThere, RowDoes, around_in, ends-around, ends-bytes, ends-grants, ends-queue, ends-writes, is-there, shared_of}
+use Rattle.ca_laws_sound.proofs.WorldLemmas.{EndingDoes, EndsIn, IsThere, RowDoes, around_in, ends-around, ends-bytes, ends-grants, ends-writes, shared_of}
 
 -- changes that put things within a count of events
 abbrev pub AllWithin : ℕ → List Update → Type 0
@@ -241,13 +238,9 @@ left-within c n w q peer lot row within does =
     (sent-within n q peer (w.mailbox peer.queue) lot e (within (Mailbox_of peer.queue)))))
 
 pub within-respond : (c : Configuration) (n : ℕ) (w : World) (name : QueueId) (lot : Lot) → IsSoundWorld c w → IsWorldWithin n w → EndsIn w (AllWithin (suc n)) (respond_plan c name lot)
-within-respond c n w name lot sound within = ends-queue c w (AllWithin (suc n)) name reasons.State (λ q. With_around q (λ a. Respond_around c lot q a q.peer)) sound
-    (λ q there. ends-around w (AllWithin (suc n)) q (λ a. Respond_around c lot q a q.peer) (by q there q.peer))
-  where
-    by : (q : QueuePair) → IsThere w q → (peer : Option Correspondent) → EndsIn w (AllWithin (suc n)) (Respond_around c lot q (around_in w q (shared_of w q)) peer)
-    by q there None = search rules
-    by q there (Some peer) = left-within c n w q peer lot (respond_row (has_room_for q peer (w.mailbox peer.queue)) q) within
-        (respond-raised (psn_bound n) n (has_room_for q peer (w.mailbox peer.queue)) q (queue-numbers n w q within there))
+within-respond c n w name lot sound within = walk-respond c w (AllWithin (suc n)) name lot sound (λ q peer there.
+    left-within c n w q peer lot (respond_row (has_room_for q peer (w.mailbox peer.queue)) q) within
+    (respond-raised (psn_bound n) n (has_room_for q peer (w.mailbox peer.queue)) q (queue-numbers n w q within there)))
 
 -- a region that an operation names, within a count of events
 abbrev IsPlacedWithin : ℕ → Option PlacedRegion → Type 0
@@ -365,24 +358,11 @@ within-fast c n w P q m region low buffer address count rights pages finish with
 
 within-perform : (c : Configuration) (n : ℕ) (w : World) (P : List Update → Type 0) (q : QueuePair) (m : Numbered) (finish : Finishing) (op : SendOp) → IsWorldWithin n w
     → AreNumbersWithin (psn_bound n) n q → GoesOnWithin n w P finish → EndsIn w P (Perform_op c q m finish op)
-within-perform c n w P q m finish op within numbers more = by op
-  where
-    nothing : EndsIn w P (finish (queue_and_marks q []) [] [])
-    nothing = more (queue_and_marks q []) [] [] (more-within (psn_bound n) n q numbers) (record {})
-
-    by : (op : SendOp) → EndsIn w P (Perform_op c q m finish op)
-    by (ops.Bind1 window key address count rights) = within-bind1 c n w P q m window key address count rights finish within numbers more
-    by (ops.Bind2 window key low address count rights) = within-bind2 c n w P q m window key low address count rights finish within numbers more
-    by (ops.FastReg region low buffer address count rights pages) = within-fast c n w P q m region low buffer address count rights pages finish within numbers more
-    by (ops.LocalInv key) = ends-row-within c n w P (IsRaised (psn_bound n) n) (invalidate_row q m key) finish within (invalidate-raised (psn_bound n) n q m key numbers) more
-    by (ops.Send list) = nothing
-    by (ops.SendImm imm list) = nothing
-    by (ops.SendInv key list) = nothing
-    by (ops.Write address key list) = nothing
-    by (ops.WriteImm address key imm list) = nothing
-    by (ops.Read address key list) = nothing
-    by (ops.CmpSwap address key compare swap list) = nothing
-    by (ops.FetchAdd address key add list) = nothing
+within-perform c n w P q m finish op within numbers more = walk-perform c w P q m finish op (more (queue_and_marks q []) [] [] (more-within (psn_bound n) n q numbers) (record {}))
+    (λ window key address count rights. within-bind1 c n w P q m window key address count rights finish within numbers more)
+    (λ window key low address count rights. within-bind2 c n w P q m window key low address count rights finish within numbers more)
+    (λ region low buffer address count rights pages. within-fast c n w P q m region low buffer address count rights pages finish within numbers more)
+    (λ key. ends-row-within c n w P (IsRaised (psn_bound n) n) (invalidate_row q m key) finish within (invalidate-raised (psn_bound n) n q m key numbers) more)
 
 -- a turn that sends is one of a queue pair that sends
 sends-sending : (q : QueuePair) (m : Numbered) → turn_of q ≡ Sends m → is_sending q.state ≡ true
@@ -397,41 +377,20 @@ row-sound q row good = record { denied = λ d. by (row.denied d) (good.denied d)
     by (Does e) good = good.sound
 
 pub within-request : (c : Configuration) (n : ℕ) (w : World) (name : QueueId) (lot : Lot) → IsSoundWorld c w → IsWorldWithin n w → EndsIn w (AllWithin (suc n)) (request_plan c name lot)
-within-request c n w name lot sound within = ends-queue c w (AllWithin (suc n)) name reasons.State (λ q. With_around q (λ a. Request_around c lot q a q.peer (turn_of q))) sound
-    (λ q there. ends-around w (AllWithin (suc n)) q (λ a. Request_around c lot q a q.peer (turn_of q)) (by q there q.peer (turn_of q) refl))
+within-request c n w name lot sound within = walk-request c w (AllWithin (suc n)) name lot sound
+    (λ q m there turn. within-perform c n w (AllWithin (suc n)) q m (λ e changes writes. Finish (updates_of q (around_in w q (shared_of w q)) e ++ changes) writes e.marks)
+    m.request.op within (queue-numbers n w q within there) (λ e cs ws effects few. turn-within n w q e cs within effects few))
+    (λ q m peer there turn. sends q m (has_room_for q peer (w.mailbox peer.queue)) peer there turn)
   where
-    by : (q : QueuePair) → IsThere w q → (peer : Option Correspondent) (turn : RequestTurn) → turn_of q ≡ turn
-        → EndsIn w (AllWithin (suc n)) (Request_around c lot q (around_in w q (shared_of w q)) peer turn)
-    by q there peer (Waits reason) turn = record {}
-    by q there peer (Performs m) turn = within-perform c n w (AllWithin (suc n)) q m (λ e changes writes. Finish (updates_of q (around_in w q (shared_of w q)) e ++ changes) writes e.marks)
-        m.request.op within (queue-numbers n w q within there) (λ e cs ws effects few. turn-within n w q e cs within effects few)
-    by q there None (Sends m) turn = record {}
-    by q there (Some peer) (Sends m) turn = left-within c n w q peer lot (packet_row q room m) within
-        (packet-raised (psn_bound n) n q room m there.sound sending (queue-numbers n w q within there) sound-row)
-      where
-        room : Bool
-        room = has_room_for q peer (w.mailbox peer.queue)
-
-        sending : is_sending q.state ≡ true
-        sending = sends-sending q m turn
-
-        sound-row : RowDoes (λ e. IsQueue e.queue) (packet_row q room m)
-        sound-row = row-sound q (packet_row q room m) (packet-good q room m there.sound turn)
+    sends : (q : QueuePair) (m : Numbered) (room : Bool) (peer : Correspondent) → IsThere w q → turn_of q ≡ Sends m
+        → EndsIn w (AllWithin (suc n)) (Row_plan c (packet_row q room m) (Leave_plan q (around_in w q (shared_of w q)) peer (w.mailbox peer.queue) lot))
+    sends q m room peer there turn = left-within c n w q peer lot (packet_row q room m) within (packet-raised (psn_bound n) n q room m there.sound (sends-sending q m turn)
+        (queue-numbers n w q within there) (row-sound q (packet_row q room m) (packet-good q room m there.sound turn)))
 
 pub within-timeout : (c : Configuration) (n : ℕ) (w : World) (name : QueueId) (hasten : Bool) → IsSoundWorld c w → IsWorldWithin n w → EndsIn w (AllWithin (suc n)) (timeout_plan c name hasten)
-within-timeout c n w name hasten sound within =
-    ends-queue c w (AllWithin (suc n)) name reasons.State (λ q. Look (Mailbox_of name) (λ own. With_around q (λ a. Timeout_around hasten q own a q.peer))) sound
-    (λ q there. ends-around w (AllWithin (suc n)) q (λ a. Timeout_around hasten q (w.mailbox name) a q.peer) (by q there q.peer))
-  where
-    fire : (q : QueuePair) → IsThere w q → (silent : Bool) → EndsIn w (AllWithin (suc n)) (Fire hasten q (around_in w q (shared_of w q)) silent)
-    fire q there silent = ends-unless w (AllWithin (suc n)) (timeout_refusals silent hasten q) Stuck
-        (Finish (updates_of q (around_in w q (shared_of w q)) (after_timeout silent q)) [] (after_timeout silent q).marks) (λ r. record {})
-        (λ fails. subst (AllWithin (suc n)) (append-nil (updates_of q (around_in w q (shared_of w q)) (after_timeout silent q)))
-        (turn-within n w q (after_timeout silent q) [] within (timeout-raised (psn_bound n) n q silent (queue-numbers n w q within there)) (record {})))
-
-    by : (q : QueuePair) → IsThere w q → (peer : Option Correspondent) → EndsIn w (AllWithin (suc n)) (Timeout_around hasten q (w.mailbox name) (around_in w q (shared_of w q)) peer)
-    by q there None = search rules
-    by q there (Some peer) = fire q there _
+within-timeout c n w name hasten sound within = walk-timeout c w (AllWithin (suc n)) name hasten sound (λ q silent there fails.
+    subst (AllWithin (suc n)) (append-nil (updates_of q (around_in w q (shared_of w q)) (after_timeout silent q)))
+    (turn-within n w q (after_timeout silent q) [] within (timeout-raised (psn_bound n) n q silent (queue-numbers n w q within there)) (record {})))
 
 -- a packet that arrives, behind other changes
 within-arrive : (c : Configuration) (n : ℕ) (w : World) (q : QueuePair) (bytes : List ℕ) (envelope : Option ℕ) (before : List Update) (ms : List Mark) → IsWorldWithin n w → IsThere w q
@@ -449,57 +408,14 @@ within-arrive c n w q bytes envelope before ms within there few =
     finish a e more writes = Finish (before ++ (updates_of q a e ++ more)) writes (ms ++ marks.Arrived q.queue envelope ∷ e.marks)
 
 pub within-deliver : (c : Configuration) (n : ℕ) (w : World) (name : QueueId) (index : ℕ) → IsSoundWorld c w → IsWorldWithin n w → EndsIn w (AllWithin (suc n)) (deliver_plan c name index)
-within-deliver c n w name index sound within = (λ has. lent (bytes_lent index (w.mailbox name)), λ none. record {})
-  where
-    m : Mailbox
-    m = w.mailbox name
-
-    at : List ℕ → QueueSlot → Plan
-    at bytes (NoQueue incarnation timers) = Stuck reasons.NotKept
-    at bytes (Present q) = Arrive c q bytes (Some index) ((Mailbox_of name := after_delivery index m) ∷ []) []
-
-    plan : Option (List ℕ) → Plan
-    plan None = Stuck reasons.NotKept
-    plan (Some bytes) = Look (Queue_of name) (at bytes)
-
-    there : (bytes : List ℕ) (s : QueueSlot) → w.queue name ≡ s → IsQueueOf name s → EndsIn w (AllWithin (suc n)) (at bytes s)
-    there bytes (NoQueue incarnation timers) is one = record {}
-    there bytes (Present q) is one = within-arrive c n w q bytes (Some index) ((Mailbox_of name := after_delivery index m) ∷ []) [] within (is-there w name q is one)
-        (delivered-within n index m (within (Mailbox_of name)), record {})
-
-    lent : (o : Option (List ℕ)) → EndsIn w (AllWithin (suc n)) (plan o)
-    lent None = record {}
-    lent (Some bytes) = there bytes (w.queue name) refl (sound.things (Queue_of name))
+within-deliver c n w name index sound within = walk-deliver c w (AllWithin (suc n)) name index sound (λ q bytes there.
+    within-arrive c n w q bytes (Some index) ((Mailbox_of name := after_delivery index (w.mailbox name)) ∷ []) [] within there
+    (delivered-within n index (w.mailbox name) (within (Mailbox_of name)), record {}))
 
 pub within-inject : (c : Configuration) (n : ℕ) (w : World) (call : Call) (q : QueueId) (bytes : List ℕ) → IsSoundWorld c w → IsWorldWithin n w → EndsIn w (AllWithin (suc n)) (inject_plan c call q bytes)
-within-inject c n w call q bytes sound within = by (w.queue q) refl (sound.things (Queue_of q))
-  where
-    plan : QueueSlot → Plan
-    plan (NoQueue incarnation timers) = Refuse_plan call NoSuch
-    plan (Present p) = Arrive c p bytes None [] (answer_mark call answers.Fine ∷ [])
-
-    by : (s : QueueSlot) → w.queue q ≡ s → IsQueueOf q s → EndsIn w (AllWithin (suc n)) (plan s)
-    by (NoQueue incarnation timers) is one = record {}
-    by (Present p) is one = within-arrive c n w p bytes None [] (answer_mark call answers.Fine ∷ []) within (is-there w q p is one) (record {})
+within-inject c n w call q bytes sound within = walk-inject c w (AllWithin (suc n)) call q bytes sound (record {})
+    (λ p there. within-arrive c n w p bytes None [] (answer_mark call answers.Fine ∷ []) within there (record {}))
 
 pub within-wake : (c : Configuration) (n : ℕ) (w : World) (name : QueueId) → IsSoundWorld c w → IsWorldWithin n w → EndsIn w (AllWithin (suc n)) (wake_plan c name)
-within-wake c n w name sound within = ends-queue c w (AllWithin (suc n)) name reasons.State (λ q. plan q q.peer) sound (λ q there. by q there q.peer)
-  where
-    wakes : QueuePair → Bool → Plan
-    wakes q empty = unless_refused (wake_refusals empty q) Stuck (Finish ((Queue_of q.queue := Present (after_wake q).queue) ∷ []) [] (after_wake q).marks)
-
-    plan : QueuePair → Option Correspondent → Plan
-    plan q None = unless_refused (wake_refusals false q) Stuck (Stuck reasons.Empty)
-    plan q (Some peer) = Look (Queue_of peer.queue) (λ slot. Look (Mailbox_of peer.queue) (λ m.
-        With_receives slot (λ empty. wakes q (reaches_peer q peer m && empty))))
-
-    wake : (q : QueuePair) → IsThere w q → (empty : Bool) → EndsIn w (AllWithin (suc n)) (wakes q empty)
-    wake q there empty = ends-unless w (AllWithin (suc n)) (wake_refusals empty q) Stuck (Finish ((Queue_of q.queue := Present (after_wake q).queue) ∷ []) [] (after_wake q).marks)
-        (λ r. record {}) (λ fails. (raised-numbers n (after_wake q).queue (wake-raised (psn_bound n) n q (queue-numbers n w q within there)), record {}))
-
-    receives : (slot : QueueSlot) (k : Bool → Plan) → ((b : Bool) → EndsIn w (AllWithin (suc n)) (k b)) → EndsIn w (AllWithin (suc n)) (With_receives slot k)
-    receives slot k more = search rules
-
-    by : (q : QueuePair) → IsThere w q → (peer : Option Correspondent) → EndsIn w (AllWithin (suc n)) (plan q peer)
-    by q there None = search rules
-    by q there (Some peer) = receives (w.queue peer.queue) (λ empty. wakes q (reaches_peer q peer (w.mailbox peer.queue) && empty)) (λ empty. wake q there _)
+within-wake c n w name sound within = walk-wake c w (AllWithin (suc n)) name sound
+    (λ q there. (raised-numbers n (after_wake q).queue (wake-raised (psn_bound n) n q (queue-numbers n w q within there)), record {}))
