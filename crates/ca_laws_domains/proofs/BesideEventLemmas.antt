@@ -5,8 +5,9 @@ use Rattle.ca_keys.specs.Equal.{slot_eq}
 use Rattle.ca_keys.specs.Memory.{bytes_at}
 use Rattle.ca_keys.specs.declared.names.Slot.{Slot}
 use Rattle.ca_laws_domains.proofs.BesideTurnLemmas.{AllBeside, IsBeside, IsBesideThing, beside-deliver, beside-inject, beside-request, beside-respond, beside-timeout, beside-wake}
-use Rattle.ca_laws_domains.proofs.BesideVerbLemmas.{beside-create_qp, beside-dealloc_mw, beside-destroy_qp, beside-modify_qp, beside-poll, beside-post_recv, beside-post_send, beside-post_srq, beside-present}
+use Rattle.ca_laws_domains.proofs.BesideVerbLemmas.{beside-create_qp, beside-dealloc_mw, beside-destroy_qp, beside-modify_qp, beside-poll, beside-post_recv, beside-post_send, beside-post_srq}
 use Rattle.ca_laws_domains.specs.Domains.{AreBoundBeside}
+use Rattle.ca_laws_sound.proofs.PlanWalks.{walk-present}
 use Rattle.ca_laws_sound.proofs.SettledLemmas.{slot-path}
 use Rattle.ca_laws_sound.proofs.WorldLemmas.{EndsIn}
 use Rattle.ca_model.proofs.FrameLemmas.{after_write}
@@ -46,7 +47,7 @@ beside-verb c w call (verbs.CreateQp slot send_cq recv_cq send_depth recv_depth 
   srq = srq;
 })
 beside-verb c w call (verbs.ModifyQp slot change) sound own = beside-modify_qp c w call slot change sound
-beside-verb c w call (verbs.QueryQp slot) sound own = beside-present c w call slot _ sound (λ q there. record {})
+beside-verb c w call (verbs.QueryQp slot) sound own = walk-present c w AllBeside call slot _ sound (record {}) (λ q there. record {})
 beside-verb c w call (verbs.DestroyQp slot) sound own = beside-destroy_qp c w call slot sound
 beside-verb c w call (verbs.PostSend slot request) sound own = beside-post_send c w call slot request sound own
 beside-verb c w call (verbs.PostRecv slot request) sound own = beside-post_recv c w call slot request sound
@@ -54,12 +55,12 @@ beside-verb c w call (verbs.PostSrq slot request) sound own = beside-post_srq w 
 beside-verb c w call (verbs.Poll slot k least) sound own = beside-poll w call slot k least
 beside-verb c w call (verbs.Store adapter buffer offset bytes) sound own = (λ is. record {}, λ range. (λ is. record {}, λ inside. record {}))
 beside-verb c w call (verbs.Load adapter buffer offset count) sound own = (λ is. record {}, λ range. (λ is. record {}, λ inside. record {}))
-beside-verb c w call (verbs.Inject queue bytes) sound own = beside-inject c w call queue bytes
+beside-verb c w call (verbs.Inject queue bytes) sound own = beside-inject c w call queue bytes sound
 
 beside-plan : (c : Configuration) (w : World) (event : Event) → IsSoundWorld c w → AreBoundBeside w → EndsIn w AllBeside (plan c event)
 beside-plan c w (events.Verb by verb) sound own = (λ named. beside-verb c w (record { by = by; verb = verb }) verb sound own, λ none. record {})
 beside-plan c w (events.Request queue lot) sound own = beside-request c w queue lot sound
-beside-plan c w (events.Deliver queue index) sound own = beside-deliver c w queue index
+beside-plan c w (events.Deliver queue index) sound own = beside-deliver c w queue index sound
 beside-plan c w (events.Respond queue lot) sound own = beside-respond c w queue lot sound
 beside-plan c w (events.Timeout queue hasten) sound own = beside-timeout c w queue hasten sound
 beside-plan c w (events.RnrWake queue) sound own = beside-wake c w queue sound

@@ -1,7 +1,7 @@
 -- Each turn of a queue pair, and each arrival, leaves windows bound beside their queue pairs. For proofs only.
-use Rattle.std.proofs.Common.{◌≡◌, ℕ, suc, ◌==◌, ◌&&◌, Bool, true, false, if◌then◌else◌, List, [], ◌∷◌, ◌++◌, Option, None, Some, IfSome, subst, sym, rules}
+use Rattle.std.proofs.Common.{◌≡◌, ℕ, suc, ◌==◌, Bool, true, false, if◌then◌else◌, List, [], ◌∷◌, ◌++◌, Option, None, Some, IfSome, subst, sym, rules}
 use Rattle.std.proofs.lemmas.List.{append-nil}
-use Rattle.std.specs.Option.{option_map, option_map_or}
+use Rattle.std.specs.Option.{option_map_or}
 use Rattle.ca_base.specs.Configuration.{Configuration}
 use Rattle.ca_base.specs.Sight.{Invalidation}
 use Rattle.ca_base.specs.declared.correspondent.Correspondent.{Correspondent}
@@ -9,15 +9,13 @@ use Rattle.ca_base.specs.declared.denied_ask.DeniedAsk.{DeniedAsk}
 use Rattle.ca_base.specs.declared.lot.Lot.{Lot}
 use Rattle.ca_base.specs.declared.refusals.OpRefusal.{OpRefusal}
 use Rattle.ca_base.specs.declared.request.SendOp.{SendOp}
-use Rattle.ca_base.specs.declared.request.SendOp.TheVariants as ops
-use Rattle.ca_base.specs.declared.step.Reason.TheVariants as reasons
 use Rattle.ca_base.specs.declared.step.Sent.{Sent}
 use Rattle.ca_base.specs.declared.step.Sent.TheVariants.{Silent, Spelt}
 use Rattle.ca_base.specs.objects.LocalRequest.{window_refusal}
-use Rattle.ca_base.specs.objects.Mailbox.{Mailbox, after_delivery, after_send, bytes_lent}
-use Rattle.ca_base.specs.objects.QueuePair.{QueuePair, QueueSlot, NoQueue, Present, srq_of}
+use Rattle.ca_base.specs.objects.Mailbox.{Mailbox, after_delivery, after_send}
+use Rattle.ca_base.specs.objects.QueuePair.{QueuePair}
 use Rattle.ca_base.specs.objects.Region.{Region, with_window_unbound}
-use Rattle.ca_base.specs.objects.SharedReceives.{SharedReceives, SrqSlot, after_receive_take}
+use Rattle.ca_base.specs.objects.SharedReceives.{SharedReceives, after_receive_take}
 use Rattle.ca_base.specs.objects.Slices.{slot_of_key}
 use Rattle.ca_base.specs.objects.Window.{Binding, Window, after_bind1, after_binding, without_binding}
 use Rattle.ca_keys.specs.Numbers.{domain_of}
@@ -27,25 +25,24 @@ use Rattle.ca_keys.specs.declared.names.DomainId.{DomainId}
 use Rattle.ca_keys.specs.declared.names.QueueId.{QueueId}
 use Rattle.ca_keys.specs.declared.names.Slot.{Slot}
 use Rattle.ca_keys.specs.declared.rights.Rights.{Rights}
-use Rattle.ca_laws_sound.proofs.EngineLemmas.{ends-unless}
-use Rattle.ca_laws_sound.proofs.WorldLemmas.{EndsIn, IsThere, around_in, ends-around, ends-bytes, ends-grants, ends-queue, ends-writes, shared_of}
+use Rattle.ca_laws_sound.proofs.PlanWalks.{walk-deliver, walk-inject, walk-perform, walk-request, walk-respond, walk-timeout, walk-wake}
+use Rattle.ca_laws_sound.proofs.WorldLemmas.{EndsIn, around_in, ends-around, ends-bytes, ends-grants, ends-writes, shared_of}
 use Rattle.ca_model.specs.declared.answer.Answer.TheVariants as answers
-use Rattle.ca_model.specs.declared.answer.Refusal.TheVariants.{NoSuch}
 use Rattle.ca_model.specs.declared.mark.Mark.{Mark}
 use Rattle.ca_model.specs.declared.mark.Mark.TheVariants as marks
-use Rattle.ca_model.specs.machine.Around.{Around, With_around, shared_in, srq_updates, updates_of}
+use Rattle.ca_model.specs.machine.Around.{Around, shared_in, srq_updates, updates_of}
 use Rattle.ca_model.specs.machine.Delivery.{Arrive, arrival_row, deliver_plan}
 use Rattle.ca_model.specs.machine.HostVerbs.{inject_plan}
-use Rattle.ca_model.specs.machine.LocalOperations.{Finishing, Perform_op, PlacedRegion, With_former, With_named, bind1_changes, bind1_marks, bind1_refusal, bind2_changes, bind2_marks, bind2_refusal, drawn_by, fast_changes, fast_marks, fast_refusal, former_updates, invalidate_row, named_slot, named_updates, operation_effects, region_slot, window_slot}
+use Rattle.ca_model.specs.machine.LocalOperations.{Bind1_plan, Bind2_plan, Fast_plan, Finishing, Perform_op, PlacedRegion, With_former, With_named, bind1_changes, bind1_marks, bind1_refusal, bind2_changes, bind2_marks, bind2_refusal, drawn_by, fast_changes, fast_marks, fast_refusal, former_updates, invalidate_row, named_slot, named_updates, operation_effects, region_slot, window_slot}
 use Rattle.ca_model.specs.machine.Numbering.{Numbered}
-use Rattle.ca_model.specs.machine.Plan.{Finish, Look, Plan, Stuck, Update, Write, unless_refused, ◌:=◌}
-use Rattle.ca_model.specs.machine.Requester.{Performs, RequestTurn, Sends, Waits, packet_row, turn_of}
+use Rattle.ca_model.specs.machine.Plan.{Finish, Look, Plan, Update, Write, ◌:=◌}
+use Rattle.ca_model.specs.machine.Requester.{packet_row}
 use Rattle.ca_model.specs.machine.Respond.{respond_row}
 use Rattle.ca_model.specs.machine.Row.{Does, Effects, End_plan, Ending, NotPossible, Row, Row_plan, With_bytes, With_invalidation, first_denied_by, queue_and_marks, region_under, unless_none}
 use Rattle.ca_model.specs.machine.Sound.{IsSoundWorld}
-use Rattle.ca_model.specs.machine.Timers.{after_timeout, after_wake, timeout_refusals, wake_refusals}
-use Rattle.ca_model.specs.machine.Turns.{Fire, Leave_plan, Packet, Request_around, Respond_around, Timeout_around, With_receives, has_room_for, packet_sent, reaches_peer, request_plan, respond_plan, sent_updates, timeout_plan, wake_plan}
-use Rattle.ca_model.specs.machine.VerbAnswers.{Call, Refuse_plan, answer_mark}
+use Rattle.ca_model.specs.machine.Timers.{after_timeout}
+use Rattle.ca_model.specs.machine.Turns.{Leave_plan, Packet, has_room_for, packet_sent, reaches_peer, request_plan, respond_plan, sent_updates, timeout_plan, wake_plan}
+use Rattle.ca_model.specs.machine.VerbAnswers.{Call, answer_mark}
 use Rattle.ca_model.specs.machine.World.{World, Name, Domain_of, Region_of, Window_of, Cq_of, Srq_of, Queue_of, Mailbox_of, Byte_at, Thing}
 
 -- a window in a slot, bound through no queue pair of another domain
@@ -119,16 +116,7 @@ row-beside c w row finish more = ends-grants c w AllBeside row.asks _ (λ gs. by
 -- ---- turns
 
 pub srq-beside : (q : QueuePair) (a : Around) (f : SharedReceives → SharedReceives) → AllBeside (srq_updates q a f)
-srq-beside q a f = by q.srq a.shared
-  where
-    updates : Option ℕ → Option SrqSlot → List Update
-    updates (Some srq) (Some slot) = (Srq_of (srq_of q srq) := record slot { srq = option_map f slot.srq }) ∷ []
-    updates srq slot = []
-
-    by : (o : Option ℕ) (t : Option SrqSlot) → AllBeside (updates o t)
-    by None t = record {}
-    by (Some srq) None = record {}
-    by (Some srq) (Some slot) = (record {}, record {})
+srq-beside q a f = search rules
 
 -- what a turn's effects change
 turn-beside : (w : World) (q : QueuePair) (e : Effects) (more : List Update) → AllBeside more → AllBeside (updates_of q (around_in w q (shared_of w q)) e ++ more)
@@ -166,12 +154,7 @@ left-beside c w q peer lot row = row-beside c w row (Leave_plan q (around_in w q
     (beside-append cs (option_map_or (sent_updates q peer (w.mailbox peer.queue) lot) (packet_sent e) []) all (sent-beside q peer (w.mailbox peer.queue) lot e)))
 
 pub beside-respond : (c : Configuration) (w : World) (name : QueueId) (lot : Lot) → IsSoundWorld c w → EndsIn w AllBeside (respond_plan c name lot)
-beside-respond c w name lot sound = ends-queue c w AllBeside name reasons.State (λ q. With_around q (λ a. Respond_around c lot q a q.peer)) sound
-    (λ q there. ends-around w AllBeside q (λ a. Respond_around c lot q a q.peer) (by q q.peer))
-  where
-    by : (q : QueuePair) (peer : Option Correspondent) → EndsIn w AllBeside (Respond_around c lot q (around_in w q (shared_of w q)) peer)
-    by q None = search rules
-    by q (Some peer) = left-beside c w q peer lot (respond_row (has_room_for q peer (w.mailbox peer.queue)) q)
+beside-respond c w name lot sound = walk-respond c w AllBeside name lot sound (λ q peer there. left-beside c w q peer lot (respond_row (has_room_for q peer (w.mailbox peer.queue)) q))
 
 -- ---- local operations
 
@@ -210,9 +193,9 @@ bind1-beside s drawn region address count rights x = by (count == 0)
 abbrev GoesOn : World → Finishing → Type 0
 GoesOn w finish = (e : Effects) (cs : List Update) (ws : List Write) → AllBeside cs → EndsIn w AllBeside (finish e cs ws)
 
-perform-beside : (c : Configuration) (w : World) (q : QueuePair) (m : Numbered) (finish : Finishing) → domain_of q.queue ≡ q.domain → GoesOn w finish
-    → (op : SendOp) → EndsIn w AllBeside (Perform_op c q m finish op)
-perform-beside c w q m finish own more (ops.Bind1 window key address count rights) =
+bind1-ends : (c : Configuration) (w : World) (q : QueuePair) (m : Numbered) (window : ℕ) (key : Key) (address count : ℕ) (rights : Rights) (finish : Finishing) → GoesOn w finish
+    → EndsIn w AllBeside (Bind1_plan c q m window key address count rights finish)
+bind1-ends c w q m window key address count rights finish more =
     named-beside c w q.domain key (λ named. With_former x (ending named)) (λ named. former-beside w x (ending named) (λ former.
     more (effects named) (unless_none (refusal named) (changed named former)) []
     (beside-unless (refusal named) (changed named former) (
@@ -241,7 +224,10 @@ perform-beside c w q m finish own more (ops.Bind1 window key address count right
 
     ending : Option PlacedRegion → Option PlacedRegion → Plan
     ending named former = finish (effects named) (unless_none (refusal named) (changed named former)) []
-perform-beside c w q m finish own more (ops.Bind2 window key low address count rights) =
+
+bind2-ends : (c : Configuration) (w : World) (q : QueuePair) (m : Numbered) (window : ℕ) (key : Key) (low address count : ℕ) (rights : Rights) (finish : Finishing)
+    → domain_of q.queue ≡ q.domain → GoesOn w finish → EndsIn w AllBeside (Bind2_plan c q m window key low address count rights finish)
+bind2-ends c w q m window key low address count rights finish own more =
     named-beside c w q.domain key (λ named. With_former x (λ former. ending named)) (λ named. former-beside w x (λ former. ending named) (λ former.
     more (effects named) (unless_none (refusal named) (changed named)) [] (beside-unless (refusal named) (changed named) (own, named-updates None named))))
   where
@@ -259,7 +245,10 @@ perform-beside c w q m finish own more (ops.Bind2 window key low address count r
 
     ending : Option PlacedRegion → Plan
     ending named = finish (effects named) (unless_none (refusal named) (changed named)) []
-perform-beside c w q m finish own more (ops.FastReg region low buffer address count rights pages) =
+
+fast-ends : (c : Configuration) (w : World) (q : QueuePair) (m : Numbered) (region low buffer address count : ℕ) (rights : Rights) (pages : List ℕ) (finish : Finishing) → GoesOn w finish
+    → EndsIn w AllBeside (Fast_plan c q m region low buffer address count rights pages finish)
+fast-ends c w q m region low buffer address count rights pages finish more =
     more (operation_effects q m q (fast_marks q region low buffer address count rights pages) refusal) (unless_none refusal (fast_changes q region low buffer address count rights pages r)) []
     (beside-unless refusal (fast_changes q region low buffer address count rights pages r) (record {}, record {}))
   where
@@ -268,65 +257,29 @@ perform-beside c w q m finish own more (ops.FastReg region low buffer address co
 
     refusal : Option OpRefusal
     refusal = fast_refusal c q region buffer address count rights pages r
-perform-beside c w q m finish own more (ops.LocalInv key) = row-beside c w (invalidate_row q m key) finish more
-perform-beside c w q m finish own more (ops.Send list) = more (queue_and_marks q []) [] [] (record {})
-perform-beside c w q m finish own more (ops.SendImm imm list) = more (queue_and_marks q []) [] [] (record {})
-perform-beside c w q m finish own more (ops.SendInv key list) = more (queue_and_marks q []) [] [] (record {})
-perform-beside c w q m finish own more (ops.Write address key list) = more (queue_and_marks q []) [] [] (record {})
-perform-beside c w q m finish own more (ops.WriteImm address key imm list) = more (queue_and_marks q []) [] [] (record {})
-perform-beside c w q m finish own more (ops.Read address key list) = more (queue_and_marks q []) [] [] (record {})
-perform-beside c w q m finish own more (ops.CmpSwap address key compare swap list) = more (queue_and_marks q []) [] [] (record {})
-perform-beside c w q m finish own more (ops.FetchAdd address key add list) = more (queue_and_marks q []) [] [] (record {})
+
+perform-beside : (c : Configuration) (w : World) (q : QueuePair) (m : Numbered) (finish : Finishing) → domain_of q.queue ≡ q.domain → GoesOn w finish
+    → (op : SendOp) → EndsIn w AllBeside (Perform_op c q m finish op)
+perform-beside c w q m finish own more op = walk-perform c w AllBeside q m finish op (more (queue_and_marks q []) [] [] (record {}))
+    (λ window key address count rights. bind1-ends c w q m window key address count rights finish more)
+    (λ window key low address count rights. bind2-ends c w q m window key low address count rights finish own more)
+    (λ region low buffer address count rights pages. fast-ends c w q m region low buffer address count rights pages finish more)
+    (λ key. row-beside c w (invalidate_row q m key) finish more)
 
 pub beside-request : (c : Configuration) (w : World) (name : QueueId) (lot : Lot) → IsSoundWorld c w → EndsIn w AllBeside (request_plan c name lot)
-beside-request c w name lot sound = ends-queue c w AllBeside name reasons.State (λ q. With_around q (λ a. Request_around c lot q a q.peer (turn_of q))) sound
-    (λ q there. ends-around w AllBeside q (λ a. Request_around c lot q a q.peer (turn_of q)) (by q there q.peer (turn_of q)))
-  where
-    by : (q : QueuePair) → IsThere w q → (peer : Option Correspondent) (turn : RequestTurn) → EndsIn w AllBeside (Request_around c lot q (around_in w q (shared_of w q)) peer turn)
-    by q there peer (Waits reason) = record {}
-    by q there peer (Performs m) = perform-beside c w q m (λ e changes writes. Finish (updates_of q (around_in w q (shared_of w q)) e ++ changes) writes e.marks) (sym there.domain)
-        (λ e cs ws rest. turn-beside w q e cs rest) m.request.op
-    by q there None (Sends m) = record {}
-    by q there (Some peer) (Sends m) = left-beside c w q peer lot (packet_row q (has_room_for q peer (w.mailbox peer.queue)) m)
+beside-request c w name lot sound = walk-request c w AllBeside name lot sound
+    (λ q m there turn. perform-beside c w q m (λ e changes writes. Finish (updates_of q (around_in w q (shared_of w q)) e ++ changes) writes e.marks) (sym there.domain)
+    (λ e cs ws rest. turn-beside w q e cs rest) m.request.op)
+    (λ q m peer there turn. left-beside c w q peer lot (packet_row q (has_room_for q peer (w.mailbox peer.queue)) m))
 
 -- ---- timers
 
 pub beside-timeout : (c : Configuration) (w : World) (name : QueueId) (hasten : Bool) → IsSoundWorld c w → EndsIn w AllBeside (timeout_plan c name hasten)
-beside-timeout c w name hasten sound =
-    ends-queue c w AllBeside name reasons.State (λ q. Look (Mailbox_of name) (λ own. With_around q (λ a. Timeout_around hasten q own a q.peer))) sound
-    (λ q there. ends-around w AllBeside q (λ a. Timeout_around hasten q (w.mailbox name) a q.peer) (by q q.peer))
-  where
-    fire : (q : QueuePair) (silent : Bool) → EndsIn w AllBeside (Fire hasten q (around_in w q (shared_of w q)) silent)
-    fire q silent = ends-unless w AllBeside (timeout_refusals silent hasten q) Stuck
-        (Finish (updates_of q (around_in w q (shared_of w q)) (after_timeout silent q)) [] (after_timeout silent q).marks) (λ r. record {})
-        (λ fails. subst AllBeside (append-nil (updates_of q (around_in w q (shared_of w q)) (after_timeout silent q)))
-        (turn-beside w q (after_timeout silent q) [] (record {})))
-
-    by : (q : QueuePair) (peer : Option Correspondent) → EndsIn w AllBeside (Timeout_around hasten q (w.mailbox name) (around_in w q (shared_of w q)) peer)
-    by q None = search rules
-    by q (Some peer) = fire q _
+beside-timeout c w name hasten sound = walk-timeout c w AllBeside name hasten sound (λ q silent there fails.
+    subst AllBeside (append-nil (updates_of q (around_in w q (shared_of w q)) (after_timeout silent q))) (turn-beside w q (after_timeout silent q) [] (record {})))
 
 pub beside-wake : (c : Configuration) (w : World) (name : QueueId) → IsSoundWorld c w → EndsIn w AllBeside (wake_plan c name)
-beside-wake c w name sound = ends-queue c w AllBeside name reasons.State (λ q. plan q q.peer) sound (λ q there. by q q.peer)
-  where
-    wakes : QueuePair → Bool → Plan
-    wakes q empty = unless_refused (wake_refusals empty q) Stuck (Finish ((Queue_of q.queue := Present (after_wake q).queue) ∷ []) [] (after_wake q).marks)
-
-    plan : QueuePair → Option Correspondent → Plan
-    plan q None = unless_refused (wake_refusals false q) Stuck (Stuck reasons.Empty)
-    plan q (Some peer) = Look (Queue_of peer.queue) (λ slot. Look (Mailbox_of peer.queue) (λ m.
-        With_receives slot (λ empty. wakes q (reaches_peer q peer m && empty))))
-
-    wake : (q : QueuePair) (empty : Bool) → EndsIn w AllBeside (wakes q empty)
-    wake q empty = ends-unless w AllBeside (wake_refusals empty q) Stuck (Finish ((Queue_of q.queue := Present (after_wake q).queue) ∷ []) [] (after_wake q).marks)
-        (λ r. record {}) (λ fails. (record {}, record {}))
-
-    receives : (slot : QueueSlot) (k : Bool → Plan) → ((b : Bool) → EndsIn w AllBeside (k b)) → EndsIn w AllBeside (With_receives slot k)
-    receives slot k more = search rules
-
-    by : (q : QueuePair) (peer : Option Correspondent) → EndsIn w AllBeside (plan q peer)
-    by q None = search rules
-    by q (Some peer) = receives (w.queue peer.queue) (λ empty. wakes q (reaches_peer q peer (w.mailbox peer.queue) && empty)) (λ empty. wake q _)
+beside-wake c w name sound = walk-wake c w AllBeside name sound (λ q there. (record {}, record {}))
 
 -- ---- arrivals
 
@@ -343,35 +296,10 @@ arrive-beside c w q bytes envelope before ms rest =
     finish : Around → Effects → List Update → List Write → Plan
     finish a e more writes = Finish (before ++ (updates_of q a e ++ more)) writes (ms ++ marks.Arrived q.queue envelope ∷ e.marks)
 
-pub beside-deliver : (c : Configuration) (w : World) (name : QueueId) (index : ℕ) → EndsIn w AllBeside (deliver_plan c name index)
-beside-deliver c w name index = (λ has. lent (bytes_lent index (w.mailbox name)), λ none. record {})
-  where
-    m : Mailbox
-    m = w.mailbox name
+pub beside-deliver : (c : Configuration) (w : World) (name : QueueId) (index : ℕ) → IsSoundWorld c w → EndsIn w AllBeside (deliver_plan c name index)
+beside-deliver c w name index sound = walk-deliver c w AllBeside name index sound (λ q bytes there.
+    arrive-beside c w q bytes (Some index) ((Mailbox_of name := after_delivery index (w.mailbox name)) ∷ []) [] (record {}, record {}))
 
-    at : List ℕ → QueueSlot → Plan
-    at bytes (NoQueue incarnation timers) = Stuck reasons.NotKept
-    at bytes (Present q) = Arrive c q bytes (Some index) ((Mailbox_of name := after_delivery index m) ∷ []) []
-
-    plan : Option (List ℕ) → Plan
-    plan None = Stuck reasons.NotKept
-    plan (Some bytes) = Look (Queue_of name) (at bytes)
-
-    there : (bytes : List ℕ) (s : QueueSlot) → EndsIn w AllBeside (at bytes s)
-    there bytes (NoQueue incarnation timers) = record {}
-    there bytes (Present q) = arrive-beside c w q bytes (Some index) ((Mailbox_of name := after_delivery index m) ∷ []) [] (record {}, record {})
-
-    lent : (o : Option (List ℕ)) → EndsIn w AllBeside (plan o)
-    lent None = record {}
-    lent (Some bytes) = there bytes (w.queue name)
-
-pub beside-inject : (c : Configuration) (w : World) (call : Call) (q : QueueId) (bytes : List ℕ) → EndsIn w AllBeside (inject_plan c call q bytes)
-beside-inject c w call q bytes = by (w.queue q)
-  where
-    plan : QueueSlot → Plan
-    plan (NoQueue incarnation timers) = Refuse_plan call NoSuch
-    plan (Present p) = Arrive c p bytes None [] (answer_mark call answers.Fine ∷ [])
-
-    by : (s : QueueSlot) → EndsIn w AllBeside (plan s)
-    by (NoQueue incarnation timers) = record {}
-    by (Present p) = arrive-beside c w p bytes None [] (answer_mark call answers.Fine ∷ []) (record {})
+pub beside-inject : (c : Configuration) (w : World) (call : Call) (q : QueueId) (bytes : List ℕ) → IsSoundWorld c w → EndsIn w AllBeside (inject_plan c call q bytes)
+beside-inject c w call q bytes sound = walk-inject c w AllBeside call q bytes sound (record {})
+    (λ p there. arrive-beside c w p bytes None [] (answer_mark call answers.Fine ∷ []) (record {}))

@@ -1,7 +1,7 @@
 -- What the turns of a group's queue pairs change is of the group, whomever they look at. For proofs only.
 use Rattle.std.proofs.Common.{◌≡◌, ℕ, suc, ◌==◌, ◌&&◌, Bool, true, false, if◌then◌else◌, List, [], ◌∷◌, ◌++◌, Option, None, Some, IfSome, refl, subst, sym, rules}
 use Rattle.std.proofs.lemmas.List.{append-nil}
-use Rattle.std.specs.Option.{option_map, option_map_or}
+use Rattle.std.specs.Option.{option_map_or}
 use Rattle.ca_base.specs.Configuration.{Configuration}
 use Rattle.ca_base.specs.Sight.{Invalidation}
 use Rattle.ca_base.specs.declared.correspondent.Correspondent.{Correspondent}
@@ -9,16 +9,15 @@ use Rattle.ca_base.specs.declared.denied_ask.DeniedAsk.{DeniedAsk}
 use Rattle.ca_base.specs.declared.lot.Lot.{Lot}
 use Rattle.ca_base.specs.declared.refusals.OpRefusal.{OpRefusal}
 use Rattle.ca_base.specs.declared.request.SendOp.{SendOp}
-use Rattle.ca_base.specs.declared.request.SendOp.TheVariants as ops
 use Rattle.ca_base.specs.declared.step.Reason.{Reason}
 use Rattle.ca_base.specs.declared.step.Reason.TheVariants as reasons
 use Rattle.ca_base.specs.declared.step.Sent.{Sent}
 use Rattle.ca_base.specs.declared.step.Sent.TheVariants.{Silent, Spelt}
 use Rattle.ca_base.specs.objects.LocalRequest.{window_refusal}
 use Rattle.ca_base.specs.objects.Mailbox.{Mailbox, after_send}
-use Rattle.ca_base.specs.objects.QueuePair.{NoQueue, Present, QueuePair, QueueSlot, srq_of}
+use Rattle.ca_base.specs.objects.QueuePair.{NoQueue, Present, QueuePair, QueueSlot}
 use Rattle.ca_base.specs.objects.Region.{Region, with_window_unbound}
-use Rattle.ca_base.specs.objects.SharedReceives.{SharedReceives, SrqSlot, after_receive_take}
+use Rattle.ca_base.specs.objects.SharedReceives.{SharedReceives, after_receive_take}
 use Rattle.ca_base.specs.objects.Slices.{slot_of_key}
 use Rattle.ca_base.specs.objects.Window.{Binding, Window, without_binding}
 use Rattle.ca_isolation.specs.Groups.{Group, domain_of_queue}
@@ -28,13 +27,15 @@ use Rattle.ca_keys.specs.declared.key.Key.{Key}
 use Rattle.ca_keys.specs.declared.names.DomainId.{DomainId}
 use Rattle.ca_keys.specs.declared.names.QueueId.{QueueId}
 use Rattle.ca_keys.specs.declared.names.Slot.{Slot}
+use Rattle.ca_keys.specs.declared.rights.Rights.{Rights}
 use Rattle.ca_laws_domains.proofs.RowLemmas.{IsRowOf, packet-of, respond-of}
 use Rattle.ca_laws_domains.proofs.TableLemmas.{Has, number-of, region-key, window-key}
 use Rattle.ca_laws_domains.specs.Domains.{IsThingOf}
 use Rattle.ca_laws_sound.proofs.EngineLemmas.{ends-unless}
+use Rattle.ca_laws_sound.proofs.PlanWalks.{walk-perform}
 use Rattle.ca_laws_sound.proofs.WorldLemmas.{EndsIn, IsThere, around_in, ends-around, ends-bytes, ends-grants, ends-writes, is-there, shared_of}
 use Rattle.ca_model.specs.machine.Around.{Around, With_around, With_queue, srq_updates, updates_of}
-use Rattle.ca_model.specs.machine.LocalOperations.{Finishing, Perform_op, PlacedRegion, With_former, With_named, bind1_changes, bind1_marks, bind1_refusal, bind2_changes, bind2_marks, bind2_refusal, drawn_by, fast_changes, fast_marks, fast_refusal, former_updates, invalidate_row, named_updates, operation_effects, region_slot, window_slot}
+use Rattle.ca_model.specs.machine.LocalOperations.{Bind1_plan, Bind2_plan, Fast_plan, Finishing, Perform_op, PlacedRegion, With_former, With_named, bind1_changes, bind1_marks, bind1_refusal, bind2_changes, bind2_marks, bind2_refusal, drawn_by, fast_changes, fast_marks, fast_refusal, former_updates, invalidate_row, named_updates, operation_effects, region_slot, window_slot}
 use Rattle.ca_model.specs.machine.Numbering.{Numbered}
 use Rattle.ca_model.specs.machine.Plan.{Finish, Look, Plan, Stuck, Update, Write, unless_refused, ◌:=◌}
 use Rattle.ca_model.specs.machine.Requester.{Performs, RequestTurn, Sends, Waits, packet_row, turn_of}
@@ -43,7 +44,7 @@ use Rattle.ca_model.specs.machine.Row.{Does, Effects, End_plan, Ending, NotPossi
 use Rattle.ca_model.specs.machine.Sound.{IsQueueOf, IsSoundWorld}
 use Rattle.ca_model.specs.machine.Timers.{after_timeout, after_wake, timeout_refusals, wake_refusals}
 use Rattle.ca_model.specs.machine.Turns.{Fire, Leave_plan, Packet, Request_around, Respond_around, Timeout_around, With_receives, has_room_for, packet_sent, reaches_peer, request_plan, respond_plan, sent_updates, timeout_plan, wake_plan}
-use Rattle.ca_model.specs.machine.World.{World, Region_of, Window_of, Srq_of, Queue_of, Mailbox_of}
+use Rattle.ca_model.specs.machine.World.{World, Region_of, Window_of, Queue_of, Mailbox_of}
 
 -- changes of things of the group alone
 abbrev pub AllOf : Group → List Update → Type 0
@@ -117,16 +118,7 @@ pub record IsTurnOf (g : Group) (w : World) (q : QueuePair) : Type 0 where
   pub domain : Has g q.domain
 
 srq-of : (g : Group) (q : QueuePair) (a : Around) (f : SharedReceives → SharedReceives) → Has g q.domain → AllOf g (srq_updates q a f)
-srq-of g q a f has = by q.srq a.shared
-  where
-    updates : Option ℕ → Option SrqSlot → List Update
-    updates (Some srq) (Some slot) = (Srq_of (srq_of q srq) := record slot { srq = option_map f slot.srq }) ∷ []
-    updates srq slot = []
-
-    by : (o : Option ℕ) (t : Option SrqSlot) → AllOf g (updates o t)
-    by None t = record {}
-    by (Some srq) None = record {}
-    by (Some srq) (Some slot) = (has, record {})
+srq-of g q a f has = search (rules, has)
 
 -- what a turn's effects change
 turn-changes-of : (g : Group) (w : World) (q : QueuePair) (e : Effects) (more : List Update) → IsTurnOf g w q → AllOf g more → AllOf g (updates_of q (around_in w q (shared_of w q)) e ++ more)
@@ -244,9 +236,9 @@ named-updates g former (Some m) own = (own, record {})
 abbrev GoesOn : Group → World → Finishing → Type 0
 GoesOn g w finish = (e : Effects) (cs : List Update) (ws : List Write) → AllOf g cs → EndsIn w (AllOf g) (finish e cs ws)
 
-perform-of : (c : Configuration) (g : Group) (w : World) (q : QueuePair) (m : Numbered) (finish : Finishing) → IsSoundWorld c w → Has g q.domain → GoesOn g w finish
-    → (op : SendOp) → EndsIn w (AllOf g) (Perform_op c q m finish op)
-perform-of c g w q m finish sound has more (ops.Bind1 window key address count rights) =
+bind1-of : (c : Configuration) (g : Group) (w : World) (q : QueuePair) (m : Numbered) (window : ℕ) (key : Key) (address count : ℕ) (rights : Rights) (finish : Finishing)
+    → IsSoundWorld c w → Has g q.domain → GoesOn g w finish → EndsIn w (AllOf g) (Bind1_plan c q m window key address count rights finish)
+bind1-of c g w q m window key address count rights finish sound has more =
     named-of c g w q.domain key (λ named. With_former x (ending named)) has (λ named here. former-of c g w (window_slot q window) (ending named) sound has (λ former there.
     more (effects named) (unless_none (refusal named) (changed named former)) []
     (of-unless g (refusal named) (changed named former) (
@@ -275,7 +267,10 @@ perform-of c g w q m finish sound has more (ops.Bind1 window key address count r
 
     ending : Option PlacedRegion → Option PlacedRegion → Plan
     ending named former = finish (effects named) (unless_none (refusal named) (changed named former)) []
-perform-of c g w q m finish sound has more (ops.Bind2 window key low address count rights) =
+
+bind2-of : (c : Configuration) (g : Group) (w : World) (q : QueuePair) (m : Numbered) (window : ℕ) (key : Key) (low address count : ℕ) (rights : Rights) (finish : Finishing)
+    → IsSoundWorld c w → Has g q.domain → GoesOn g w finish → EndsIn w (AllOf g) (Bind2_plan c q m window key low address count rights finish)
+bind2-of c g w q m window key low address count rights finish sound has more =
     named-of c g w q.domain key (λ named. With_former x (λ former. ending named)) has (λ named here. former-of c g w (window_slot q window) (λ former. ending named) sound has (λ former there.
     more (effects named) (unless_none (refusal named) (changed named)) [] (of-unless g (refusal named) (changed named) (has, named-updates g None named here))))
   where
@@ -293,7 +288,10 @@ perform-of c g w q m finish sound has more (ops.Bind2 window key low address cou
 
     ending : Option PlacedRegion → Plan
     ending named = finish (effects named) (unless_none (refusal named) (changed named)) []
-perform-of c g w q m finish sound has more (ops.FastReg region low buffer address count rights pages) =
+
+fast-of : (c : Configuration) (g : Group) (w : World) (q : QueuePair) (m : Numbered) (region low buffer address count : ℕ) (rights : Rights) (pages : List ℕ) (finish : Finishing)
+    → Has g q.domain → GoesOn g w finish → EndsIn w (AllOf g) (Fast_plan c q m region low buffer address count rights pages finish)
+fast-of c g w q m region low buffer address count rights pages finish has more =
     more (operation_effects q m q (fast_marks q region low buffer address count rights pages) refusal) (unless_none refusal (fast_changes q region low buffer address count rights pages r)) []
     (of-unless g refusal (fast_changes q region low buffer address count rights pages r) (has, record {}))
   where
@@ -302,15 +300,14 @@ perform-of c g w q m finish sound has more (ops.FastReg region low buffer addres
 
     refusal : Option OpRefusal
     refusal = fast_refusal c q region buffer address count rights pages r
-perform-of c g w q m finish sound has more (ops.LocalInv key) = row-ends-of c g w q.domain (invalidate_row q m key) finish sound has (record { asks = record {}; ended = refl }) more
-perform-of c g w q m finish sound has more (ops.Send list) = more (queue_and_marks q []) [] [] (record {})
-perform-of c g w q m finish sound has more (ops.SendImm imm list) = more (queue_and_marks q []) [] [] (record {})
-perform-of c g w q m finish sound has more (ops.SendInv key list) = more (queue_and_marks q []) [] [] (record {})
-perform-of c g w q m finish sound has more (ops.Write address key list) = more (queue_and_marks q []) [] [] (record {})
-perform-of c g w q m finish sound has more (ops.WriteImm address key imm list) = more (queue_and_marks q []) [] [] (record {})
-perform-of c g w q m finish sound has more (ops.Read address key list) = more (queue_and_marks q []) [] [] (record {})
-perform-of c g w q m finish sound has more (ops.CmpSwap address key compare swap list) = more (queue_and_marks q []) [] [] (record {})
-perform-of c g w q m finish sound has more (ops.FetchAdd address key add list) = more (queue_and_marks q []) [] [] (record {})
+
+perform-of : (c : Configuration) (g : Group) (w : World) (q : QueuePair) (m : Numbered) (finish : Finishing) → IsSoundWorld c w → Has g q.domain → GoesOn g w finish
+    → (op : SendOp) → EndsIn w (AllOf g) (Perform_op c q m finish op)
+perform-of c g w q m finish sound has more op = walk-perform c w (AllOf g) q m finish op (more (queue_and_marks q []) [] [] (record {}))
+    (λ window key address count rights. bind1-of c g w q m window key address count rights finish sound has more)
+    (λ window key low address count rights. bind2-of c g w q m window key low address count rights finish sound has more)
+    (λ region low buffer address count rights pages. fast-of c g w q m region low buffer address count rights pages finish has more)
+    (λ key. row-ends-of c g w q.domain (invalidate_row q m key) finish sound has (record { asks = record {}; ended = refl }) more)
 
 pub request-ends-of : (c : Configuration) (g : Group) (w : World) (name : QueueId) (lot : Lot) → IsSoundWorld c w → IfSome (domain_of_queue name) (Has g) → ReachWithin g w
     → EndsIn w (AllOf g) (request_plan c name lot)
