@@ -1,5 +1,5 @@
 -- The destruction of a queue pair leaves room: what it reserved is free again.
-use Rattle.std.proofs.Common.{◌≡◌, ℕ, suc, ◌-◌, ◌≤◌, ◌||◌, nat_lt, not, Bool, true, false, List, [], ◌∷◌, length, filter, Option, None, Some, IfSome, is_some, refl, arith, sym, ◌∙◌, ap, ap₂, subst, true≢false, if◌then◌else◌}
+use Rattle.std.proofs.Common.{◌≡◌, ℕ, suc, ◌-◌, ◌≤◌, ◌||◌, not, Bool, true, false, List, [], ◌∷◌, length, filter, Option, None, Some, IfSome, is_some, refl, arith, sym, ◌∙◌, ap, ap₂, subst, true≢false, if◌then◌else◌}
 use Rattle.std.proofs.lemmas.Bool.{and_parts, or_left, or_right}
 use Rattle.std.specs.List.{AllByRecursion, list_any}
 use Rattle.std.specs.Option.{option_map, option_map_or}
@@ -15,20 +15,19 @@ use Rattle.ca_base.specs.objects.Domain.{without_object}
 use Rattle.ca_base.specs.objects.QueuePair.{QueuePair, QueueSlot, NoQueue, recv_cq_of, send_cq_of, srq_of}
 use Rattle.ca_base.specs.objects.SharedReceives.{SrqSlot, after_receives_retire}
 use Rattle.ca_model.specs.Past.{with_at}
-use Rattle.ca_model.specs.declared.answer.Answer.TheVariants as answers
-use Rattle.ca_model.specs.declared.answer.Refusal.TheVariants.{WindowsBound}
 use Rattle.ca_model.specs.machine.Around.{Around}
 use Rattle.ca_model.specs.machine.Places.{places_of_side}
-use Rattle.ca_model.specs.machine.Plan.{If, Plan, Update, ◌:=◌}
+use Rattle.ca_model.specs.machine.Plan.{Update, ◌:=◌}
 use Rattle.ca_model.specs.machine.QueuePairVerbs
 use Rattle.ca_model.specs.machine.QueuePairVerbs.{destroy_qp_plan, left_updates, places_held, without_queue}
 use Rattle.ca_model.specs.machine.Sound.{IsSoundWorld}
-use Rattle.ca_model.specs.machine.VerbAnswers.{Answer_plan, Call, Refuse_plan}
+use Rattle.ca_model.specs.machine.VerbAnswers.{Call}
 use Rattle.ca_model.specs.machine.World.{World, Cq_of, Domain_of, Mailbox_of, Queue_of, Srq_of}
 use Rattle.ca_cq.proofs.Rooms.{filter-rooms}
 use Rattle.ca_cq.proofs.RoomLemmas.{alike-sources, one-agrees, one-swap, one_source, room_of, rooms-reserved}
+use Rattle.ca_laws_sound.proofs.PlanWalks.{walk-destroy}
 use Rattle.ca_laws_sound.proofs.SettledLemmas.{queue-path, queue-refl, slot-path, slot-refl}
-use Rattle.ca_laws_sound.proofs.WorldLemmas.{EndsIn, IsThere, around_in, ends-around, shared_of}
+use Rattle.ca_laws_sound.proofs.WorldLemmas.{EndsIn, IsThere, around_in, shared_of}
 use Rattle.ca_laws_room.specs.Room.{AreReserved, AreUsers, Has, HasRoom, HasSide, HaveRoom, IsDue, IsInSequence, Rooms, Use, Uses, depth_of, has_side, is_in, rooms_of, taken_in, use_of}
 use Rattle.ca_laws_room.proofs.RoomLists.{all-map, filter-few}
 use Rattle.ca_laws_room.proofs.FitLemmas.{all-alike}
@@ -36,7 +35,6 @@ use Rattle.ca_laws_room.proofs.KeptLemmas.{local-places, two-same, with-same}
 use Rattle.ca_laws_room.proofs.AdvanceLemmas.{sound-named, with-all}
 use Rattle.ca_laws_room.proofs.EngineRoomLemmas.{LeavesRoom}
 use Rattle.ca_laws_room.proofs.ObjectRoomLemmas.{if-map}
-use Rattle.ca_laws_room.proofs.PairRoomLemmas.{room-present}
 use Rattle.ca_laws_room.proofs.EmptiedRoomLemmas.{IsEmptied, not-held, retired_slot, slot-depth, slot-others, slot-sequence, without-emptied}
 
 -- the reservations without a queue pair's
@@ -346,15 +344,4 @@ destroy-room c w s q sound room there = by q.srq refl
         slot = retired_slot ps ((w.srq T).users - 1) (w.srq T)
 
 pub room-destroy_qp : (c : Configuration) (w : World) (call : Call) (s : Slot) → IsSoundWorld c w → HasRoom w → EndsIn w (LeavesRoom w) (destroy_qp_plan call s)
-room-destroy_qp c w call s sound room = room-present c w call s _ sound room (λ q there. ends-around w (LeavesRoom w) q (plan q) (λ is. room, λ free. destroy-room c w s q sound room there))
-  where
-    plan : QueuePair → Around → Plan
-    plan q a = If (nat_lt 0 q.windows) (Refuse_plan call WindowsBound)
-        (Answer_plan call answers.Fine
-        ((Domain_of s.domain := without_object (w.domain s.domain))
-        ∷ (Queue_of q.queue := NoQueue q.incarnation q.requester.timers)
-        ∷ (Mailbox_of q.queue := QueuePairVerbs.emptied_mailbox q.incarnation (w.mailbox q.queue))
-        ∷ (Cq_of (send_cq_of q) := option_map (without_queue q) a.send)
-        ∷ (Cq_of (recv_cq_of q) := option_map (without_queue q) a.recv)
-        ∷ left_updates q a)
-        [])
+room-destroy_qp c w call s sound room = walk-destroy c w (LeavesRoom w) call s sound room (λ q there free. destroy-room c w s q sound room there)

@@ -11,29 +11,26 @@ use Rattle.ca_keys.specs.declared.names.Slot.{Slot}
 use Rattle.ca_base.specs.Configuration.{Configuration}
 use Rattle.ca_keys.specs.Equal.{bool_eq, queue_eq, slot_eq}
 use Rattle.ca_base.specs.objects.CompletionQueue.{CompletionQueue, receives_of, without_completions}
-use Rattle.ca_base.specs.objects.Mailbox.{with_peer}
 use Rattle.ca_base.specs.objects.QueuePair.{QueuePair, Present, after_reset, in_error, recv_cq_of, send_cq_of, srq_of, without_answers}
 use Rattle.ca_base.specs.objects.SharedReceives.{SharedReceives, SrqSlot, after_receive_retire, after_receives_retire}
-use Rattle.ca_base.specs.objects.StateTable.{modify_refusals, queue_after_change}
+use Rattle.ca_base.specs.objects.StateTable.{queue_after_change}
 use Rattle.ca_base.specs.objects.WorkQueue.{WorkQueue, empty_queue}
 use Rattle.ca_model.specs.Past.{with_at}
-use Rattle.ca_model.specs.declared.answer.Answer.TheVariants as answers
-use Rattle.ca_model.specs.declared.mark.Mark.{Mark}
 use Rattle.ca_model.specs.machine.Around.{Around, cq_updates}
 use Rattle.ca_model.specs.machine.Completions.{flush_marks}
 use Rattle.ca_model.specs.machine.Places.{Ascend, IsInOrder, first_held, places_in_use, places_of_side}
-use Rattle.ca_model.specs.machine.Plan.{Plan, Update, ◌:=◌}
+use Rattle.ca_model.specs.machine.Plan.{Update, ◌:=◌}
 use Rattle.ca_model.specs.machine.QueuePairVerbs
 use Rattle.ca_model.specs.machine.QueuePairVerbs.{emptied_updates, modify_qp_plan, places_held}
 use Rattle.ca_model.specs.machine.Row.{Effects, queue_and_marks}
 use Rattle.ca_model.specs.machine.Sound.{IsSoundWorld}
-use Rattle.ca_model.specs.machine.VerbAnswers.{Answer_plan, Call, Refuse_plan, Unless_plan, of_change_refusals}
+use Rattle.ca_model.specs.machine.VerbAnswers.{Call}
 use Rattle.ca_model.specs.machine.World.{World, Cq_of, Mailbox_of, Queue_of, Srq_of}
-use Rattle.ca_laws_sound.proofs.EngineLemmas.{ends-unless}
+use Rattle.ca_laws_sound.proofs.PlanWalks.{changed_around, walk-modify}
 use Rattle.ca_laws_sound.proofs.GoodLemmas.{IsGood, error-later, error-queue, flush-settled, later-same, settled-later, silent-later, silent-queue}
 use Rattle.ca_laws_sound.proofs.OrderLemmas.{flush-order}
 use Rattle.ca_laws_sound.proofs.SettledLemmas.{queue-path, queue-refl, slot-refl}
-use Rattle.ca_laws_sound.proofs.WorldLemmas.{EndsIn, IsThere, around_in, ends-around, shared_of}
+use Rattle.ca_laws_sound.proofs.WorldLemmas.{EndsIn, IsThere, around_in, shared_of}
 use Rattle.ca_laws_room.specs.Room.{AreHeld, HasRoom, HaveRoom, Holder, IsInPlace, IsInSequence, depth_of, is_in, places_kept, rooms_of, taken_in, use_of, waits_in}
 use Rattle.ca_laws_room.proofs.RoomLists.{all-in, ascend-filter, in-filter, is_of, number-swap}
 use Rattle.ca_laws_room.proofs.FitLemmas.{receives-side}
@@ -41,7 +38,6 @@ use Rattle.ca_laws_room.proofs.KeptLemmas.{local-places, queue-with-same, same-r
 use Rattle.ca_laws_room.proofs.AdvanceLemmas.{no-taking, own-held, sound-named, turn-room, with-all}
 use Rattle.ca_laws_room.proofs.EngineRoomLemmas.{LeavesRoom}
 use Rattle.ca_laws_room.proofs.ObjectRoomLemmas.{pair-room}
-use Rattle.ca_laws_room.proofs.PairRoomLemmas.{room-present}
 
 -- the completions of one queue pair are gone, and those of others stay
 others-stay : (name n : QueueId) (b : Bool) (xs : List Completion) → queue_eq name n ≡ false → places_of_side n b (filter (λ c. not (queue_eq c.queue name)) xs) ≡ places_of_side n b xs
@@ -268,30 +264,13 @@ error-room c w q sound room there = by (turn-room c w q e [] sound room there (n
     by room = room
 
 pub room-modify_qp : (c : Configuration) (w : World) (call : Call) (s : Slot) (change : state_change.Change) → IsSoundWorld c w → HasRoom w → EndsIn w (LeavesRoom w) (modify_qp_plan c call s change)
-room-modify_qp c w call s change sound room = room-present c w call s _ sound room (λ q there.
-    ends-around w (LeavesRoom w) q (λ a. Unless_plan call (of_change_refusals (modify_refusals c q change)) (plan q a change))
-    (ends-unless w (LeavesRoom w) (of_change_refusals (modify_refusals c q change)) (Refuse_plan call) (plan q (around_in w q (shared_of w q)) change) (λ r. room) (λ fails. by q there change)))
+room-modify_qp c w call s change sound room = walk-modify c w (LeavesRoom w) call s change sound room (λ q there fails. by q there change)
   where
-    updates : QueuePair → Around → state_change.Change → List Update
-    updates q a changes.Error = cq_updates q a (flush_marks q)
-    updates q a changes.Reset =
-        (Mailbox_of q.queue := QueuePairVerbs.emptied_mailbox (queue_after_change changes.Reset q).incarnation (w.mailbox q.queue)) ∷ emptied_updates q a
-    updates q a (changes.Rtr peer incarnation psn mtu rnr_code) =
-        (Mailbox_of q.queue := with_peer q.incarnation (Some (record { queue = peer; incarnation = incarnation })) (w.mailbox q.queue)) ∷ []
-    updates q a change = []
-
-    told : QueuePair → state_change.Change → List Mark
-    told q changes.Error = flush_marks q
-    told q change = []
-
-    plan : QueuePair → Around → state_change.Change → Plan
-    plan q a change = Answer_plan call answers.Fine ((Queue_of q.queue := Present (queue_after_change change q)) ∷ updates q a change) (told q change)
-
     stays : (q p : QueuePair) → IsThere w q → use_of (Present p) ≡ use_of (Present q) → (IsInPlace w.cq w.srq room.holder q → IsInPlace w.cq w.srq room.holder p)
         → HaveRoom (with_at queue_eq w.queue q.queue (Present p)) w.cq w.srq
     stays q p there same place = pair-room w.queue w.cq w.srq q p room (sound-named c w sound) there.present same place
 
-    by : (q : QueuePair) → IsThere w q → (change : state_change.Change) → LeavesRoom w ((Queue_of q.queue := Present (queue_after_change change q)) ∷ updates q (around_in w q (shared_of w q)) change)
+    by : (q : QueuePair) → IsThere w q → (change : state_change.Change) → LeavesRoom w ((Queue_of q.queue := Present (queue_after_change change q)) ∷ changed_around w q (around_in w q (shared_of w q)) change)
     by q there changes.Error = error-room c w q sound room there
     by q there changes.Reset = reset-room c w q sound room there
     by q there (changes.Rtr peer incarnation psn mtu rnr_code) = stays q (queue_after_change (changes.Rtr peer incarnation psn mtu rnr_code) q) there refl (λ place. record { sends = place.sends; receives = place.receives; shared = place.shared })

@@ -1,5 +1,5 @@
 -- The turns of an engine and a packet that arrives leave room.
-use Rattle.std.proofs.Common.{◌≡◌, ℕ, suc, ◌-◌, Bool, true, false, List, [], ◌∷◌, ◌++◌, Option, None, Some, IfSome, subst, ◌==◌, ◌&&◌, not, if◌then◌else◌, slice_get, refl, rules}
+use Rattle.std.proofs.Common.{◌≡◌, ℕ, suc, ◌-◌, Bool, true, false, List, [], ◌∷◌, ◌++◌, Option, None, Some, IfSome, subst, ◌==◌, not, if◌then◌else◌, slice_get, refl, rules}
 use Rattle.std.proofs.lemmas.List.{append-nil}
 use Rattle.std.proofs.lemmas.Bool.{not-false}
 use Rattle.std.specs.Option.{option_and_then, option_map_or}
@@ -11,7 +11,6 @@ use Rattle.ca_keys.specs.declared.names.QueueId.{QueueId}
 use Rattle.ca_keys.specs.declared.names.Slot.{Slot}
 use Rattle.ca_base.specs.declared.refusals.OpRefusal.{OpRefusal}
 use Rattle.ca_base.specs.declared.request.SendOp.{SendOp}
-use Rattle.ca_base.specs.declared.request.SendOp.TheVariants as ops
 use Rattle.ca_keys.specs.declared.rights.Rights.{Rights}
 use Rattle.ca_base.specs.declared.step.Reason.{Reason}
 use Rattle.ca_base.specs.declared.step.Reason.TheVariants as reasons
@@ -25,8 +24,8 @@ use Rattle.ca_base.specs.declared.correspondent.Correspondent.{Correspondent}
 use Rattle.ca_base.specs.declared.queue_numbers.Queued.{Queued}
 use Rattle.ca_base.specs.declared.queue_numbers.Queued.TheVariants as queued
 use Rattle.ca_base.specs.objects.LocalRequest.{window_refusal}
-use Rattle.ca_base.specs.objects.Mailbox.{Mailbox, after_delivery, after_send, bytes_lent}
-use Rattle.ca_base.specs.objects.QueuePair.{QueuePair, QueueSlot, NoQueue, Present}
+use Rattle.ca_base.specs.objects.Mailbox.{Mailbox, after_delivery, after_send}
+use Rattle.ca_base.specs.objects.QueuePair.{QueuePair, Present}
 use Rattle.ca_base.specs.objects.Region.{Region, with_window_unbound}
 use Rattle.ca_base.specs.objects.SharedReceives.{SharedReceives, SrqSlot}
 use Rattle.ca_base.specs.objects.Slices.{slot_of_key}
@@ -35,31 +34,30 @@ use Rattle.ca_keys.specs.Numbers.{is_window_key}
 use Rattle.ca_model.specs.declared.mark.Mark.{Mark}
 use Rattle.ca_model.specs.declared.mark.Mark.TheVariants as marks
 use Rattle.ca_model.specs.machine.Acknowledgements.{one_retry, with_requester}
-use Rattle.ca_model.specs.machine.Around.{Around, With_around, shared_in, updates_of}
+use Rattle.ca_model.specs.machine.Around.{Around, shared_in, updates_of}
 use Rattle.ca_model.specs.machine.Delivery.{Arrive, arrival_row, deliver_plan}
 use Rattle.ca_model.specs.machine.Expected.{with_window_gone}
 use Rattle.ca_model.specs.machine.HostVerbs.{inject_plan}
 use Rattle.ca_model.specs.machine.Invariants.{IsQueue, IsSharedReceives, is_sending}
-use Rattle.ca_model.specs.machine.LocalOperations.{Finishing, Perform_op, PlacedRegion, With_former, With_named, bind1_changes, bind1_marks, bind1_refusal, bind2_changes, bind2_marks, bind2_refusal, drawn_by, fast_changes, fast_marks, fast_refusal, former_updates, invalidate_row, named_updates, operation_effects, region_slot, window_slot}
+use Rattle.ca_model.specs.machine.LocalOperations.{Bind1_plan, Bind2_plan, Fast_plan, Finishing, Perform_op, PlacedRegion, With_former, With_named, bind1_changes, bind1_marks, bind1_refusal, bind2_changes, bind2_marks, bind2_refusal, drawn_by, fast_changes, fast_marks, fast_refusal, former_updates, invalidate_row, named_updates, operation_effects, region_slot, window_slot}
 use Rattle.ca_base.specs.objects.LocalRequest.{LocalMarks}
 use Rattle.ca_model.specs.machine.Numbering.{Numbered}
 use Rattle.ca_model.specs.machine.Places.{TakesInOrder}
-use Rattle.ca_model.specs.machine.Plan.{Plan, Stuck, Look, Finish, Update, ◌:=◌, Write, put_all, unless_refused}
-use Rattle.ca_model.specs.machine.Requester.{RequestTurn, Waits, Performs, Sends, denied_list_effects, is_outstanding, is_too_much, packet_asks, packet_row, sent_packet, turn_of}
+use Rattle.ca_model.specs.machine.Plan.{Plan, Look, Finish, Update, ◌:=◌, Write, put_all}
+use Rattle.ca_model.specs.machine.Requester.{Performs, denied_list_effects, is_outstanding, is_too_much, packet_asks, packet_row, sent_packet, turn_of}
 use Rattle.ca_model.specs.machine.Respond.{answer_turn, respond_refusals, respond_row}
 use Rattle.ca_model.specs.machine.Row.{Ending, NotPossible, Does, Effects, End_plan, Row, Row_plan, With_bytes, With_invalidation, first_denied_by, plain_row, queue_and_marks, region_under, unless_none}
-use Rattle.ca_model.specs.machine.Sound.{IsQueueOf, IsSoundWorld}
-use Rattle.ca_model.specs.machine.Timers.{after_timeout, after_wake, timeout_refusals, wake_refusals}
-use Rattle.ca_model.specs.machine.Turns.{Fire, Leave_plan, Packet, Request_around, Respond_around, Timeout_around, With_receives, has_room_for, packet_sent, reaches_peer, request_plan, respond_plan, sent_updates, timeout_plan, wake_plan}
-use Rattle.ca_model.specs.machine.VerbAnswers.{Call, Refuse_plan, answer_mark}
+use Rattle.ca_model.specs.machine.Sound.{IsSoundWorld}
+use Rattle.ca_model.specs.machine.Timers.{after_timeout, after_wake}
+use Rattle.ca_model.specs.machine.Turns.{Leave_plan, Packet, has_room_for, packet_sent, reaches_peer, request_plan, respond_plan, sent_updates, timeout_plan, wake_plan}
+use Rattle.ca_model.specs.machine.VerbAnswers.{Call, answer_mark}
 use Rattle.ca_model.specs.declared.answer.Answer.TheVariants as answers
-use Rattle.ca_model.specs.declared.answer.Refusal.TheVariants.{NoSuch}
 use Rattle.ca_model.specs.machine.World.{World, Mailbox_of, Queue_of, Region_of, Window_of}
-use Rattle.ca_laws_sound.proofs.EngineLemmas.{ends-unless}
 use Rattle.ca_laws_sound.proofs.GoodLemmas.{IsGood}
 use Rattle.ca_laws_sound.proofs.RespondLemmas.{arrival-good, respond-good}
 use Rattle.ca_laws_sound.proofs.TurnLemmas.{nothing-good, operation-good, packet-good, timeout-good, wake-good}
-use Rattle.ca_laws_sound.proofs.WorldLemmas.{EndingDoes, EndsIn, IsSoundShared, IsThere, RowDoes, around_in, ends-around, ends-bytes, ends-grants, ends-queue, ends-writes, is-there, row-does, shared_of, sound-shared}
+use Rattle.ca_laws_sound.proofs.PlanWalks.{walk-deliver, walk-inject, walk-perform, walk-request, walk-respond, walk-timeout, walk-wake}
+use Rattle.ca_laws_sound.proofs.WorldLemmas.{EndingDoes, EndsIn, IsSoundShared, IsThere, RowDoes, around_in, ends-around, ends-bytes, ends-grants, ends-writes, row-does, shared_of, sound-shared}
 use Rattle.ca_laws_room.specs.Room.{HasRoom}
 use Rattle.ca_laws_room.proofs.KeptLemmas.{AreAside, aside-append, room-first}
 use Rattle.ca_laws_room.proofs.AdvanceLemmas.{IsTurn, no-taking, none-put, still-room, turn-room, sound-named}
@@ -216,14 +214,10 @@ room-left c w q peer lot row sound room there does = row-aside c w (LeavesRoom w
     m = w.mailbox peer.queue
 
 pub room-respond : (c : Configuration) (w : World) (name : QueueId) (lot : Lot) → IsSoundWorld c w → HasRoom w → EndsIn w (LeavesRoom w) (respond_plan c name lot)
-room-respond c w name lot sound room = ends-queue c w (LeavesRoom w) name reasons.State (λ q. With_around q (λ a. Respond_around c lot q a q.peer)) sound
-    (λ q there. ends-around w (LeavesRoom w) q (λ a. Respond_around c lot q a q.peer) (by q there q.peer))
-  where
-    by : (q : QueuePair) → IsThere w q → (peer : Option Correspondent) → EndsIn w (LeavesRoom w) (Respond_around c lot q (around_in w q (shared_of w q)) peer)
-    by q there None = search rules
-    by q there (Some peer) = room-left c w q peer lot (respond_row (has_room_for q peer (w.mailbox peer.queue)) q) sound room there
-        (quiet-row (shared_at w q) q (respond_row (has_room_for q peer (w.mailbox peer.queue)) q)
-        (row-does q _ (respond-good (has_room_for q peer (w.mailbox peer.queue)) q there.sound)) (respond-takes q (has_room_for q peer (w.mailbox peer.queue))))
+room-respond c w name lot sound room = walk-respond c w (LeavesRoom w) name lot sound (λ q peer there.
+    room-left c w q peer lot (respond_row (has_room_for q peer (w.mailbox peer.queue)) q) sound room there
+    (quiet-row (shared_at w q) q (respond_row (has_room_for q peer (w.mailbox peer.queue)) q)
+    (row-does q _ (respond-good (has_room_for q peer (w.mailbox peer.queue)) q there.sound)) (respond-takes q (has_room_for q peer (w.mailbox peer.queue)))))
 
 timeout-takes : (silent : Bool) (q : QueuePair) → TakesNone (after_timeout silent q)
 timeout-takes silent q = at (with_requester (record q.requester { timers = suc q.requester.timers }) q)
@@ -232,19 +226,10 @@ timeout-takes silent q = at (with_requester (record q.requester { timers = suc q
     at p = search rules
 
 pub room-timeout : (c : Configuration) (w : World) (name : QueueId) (hasten : Bool) → IsSoundWorld c w → HasRoom w → EndsIn w (LeavesRoom w) (timeout_plan c name hasten)
-room-timeout c w name hasten sound room =
-    ends-queue c w (LeavesRoom w) name reasons.State (λ q. Look (Mailbox_of name) (λ own. With_around q (λ a. Timeout_around hasten q own a q.peer))) sound
-    (λ q there. ends-around w (LeavesRoom w) q (λ a. Timeout_around hasten q (w.mailbox name) a q.peer) (by q there q.peer))
-  where
-    fire : (q : QueuePair) → IsThere w q → (silent : Bool) → EndsIn w (LeavesRoom w) (Fire hasten q (around_in w q (shared_of w q)) silent)
-    fire q there silent = ends-unless w (LeavesRoom w) (timeout_refusals silent hasten q) Stuck
-        (Finish (updates_of q (around_in w q (shared_of w q)) (after_timeout silent q)) [] (after_timeout silent q).marks) (λ r. record {})
-        (λ fails. subst (LeavesRoom w) (append-nil (updates_of q (around_in w q (shared_of w q)) (after_timeout silent q)))
-        (turn-room c w q (after_timeout silent q) [] sound room there (no-taking (shared_at w q) q (after_timeout silent q) (timeout-good q silent there.sound (not-false (is_sending q.state) fails.0)) (timeout-takes silent q)) (record {})))
-
-    by : (q : QueuePair) → IsThere w q → (peer : Option Correspondent) → EndsIn w (LeavesRoom w) (Timeout_around hasten q (w.mailbox name) (around_in w q (shared_of w q)) peer)
-    by q there None = search rules
-    by q there (Some peer) = fire q there _
+room-timeout c w name hasten sound room = walk-timeout c w (LeavesRoom w) name hasten sound (λ q silent there fails.
+    subst (LeavesRoom w) (append-nil (updates_of q (around_in w q (shared_of w q)) (after_timeout silent q)))
+    (turn-room c w q (after_timeout silent q) [] sound room there
+    (no-taking (shared_at w q) q (after_timeout silent q) (timeout-good q silent there.sound (not-false (is_sending q.state) fails.0)) (timeout-takes silent q)) (record {})))
 
 -- a packet that arrives takes receives of a shared receive queue in order
 abbrev pub ArrivalsTake : Type 0
@@ -292,62 +277,18 @@ room-mailbox-arrive takes c w q name m bytes envelope sound room there =
     finish a e more writes = Finish (((Mailbox_of name := m) ∷ []) ++ (updates_of q a e ++ more)) writes ([] ++ marks.Arrived q.queue envelope ∷ e.marks)
 
 pub room-deliver : ArrivalsTake → (c : Configuration) (w : World) (name : QueueId) (index : ℕ) → IsSoundWorld c w → HasRoom w → EndsIn w (LeavesRoom w) (deliver_plan c name index)
-room-deliver takes c w name index sound room = (λ has. lent (bytes_lent index (w.mailbox name)), λ none. record {})
-  where
-    m : Mailbox
-    m = w.mailbox name
-
-    at : List ℕ → QueueSlot → Plan
-    at bytes (NoQueue incarnation timers) = Stuck reasons.NotKept
-    at bytes (Present q) = Arrive c q bytes (Some index) ((Mailbox_of name := after_delivery index m) ∷ []) []
-
-    plan : Option (List ℕ) → Plan
-    plan None = Stuck reasons.NotKept
-    plan (Some bytes) = Look (Queue_of name) (at bytes)
-
-    there : (bytes : List ℕ) (s : QueueSlot) → w.queue name ≡ s → IsQueueOf name s → EndsIn w (LeavesRoom w) (at bytes s)
-    there bytes (NoQueue incarnation timers) is one = record {}
-    there bytes (Present q) is one = room-mailbox-arrive takes c w q name (after_delivery index m) bytes (Some index) sound room (is-there w name q is one)
-
-    lent : (o : Option (List ℕ)) → EndsIn w (LeavesRoom w) (plan o)
-    lent None = record {}
-    lent (Some bytes) = there bytes (w.queue name) refl (sound.things (Queue_of name))
+room-deliver takes c w name index sound room = walk-deliver c w (LeavesRoom w) name index sound
+    (λ q bytes there. room-mailbox-arrive takes c w q name (after_delivery index (w.mailbox name)) bytes (Some index) sound room there)
 
 pub room-inject : ArrivalsTake → (c : Configuration) (w : World) (call : Call) (q : QueueId) (bytes : List ℕ) → IsSoundWorld c w → HasRoom w → EndsIn w (LeavesRoom w) (inject_plan c call q bytes)
-room-inject takes c w call q bytes sound room = by (w.queue q) refl (sound.things (Queue_of q))
-  where
-    plan : QueueSlot → Plan
-    plan (NoQueue incarnation timers) = Refuse_plan call NoSuch
-    plan (Present p) = Arrive c p bytes None [] (answer_mark call answers.Fine ∷ [])
-
-    by : (s : QueueSlot) → w.queue q ≡ s → IsQueueOf q s → EndsIn w (LeavesRoom w) (plan s)
-    by (NoQueue incarnation timers) is one = room
-    by (Present p) is one = room-inject-arrive takes c w p bytes None (answer_mark call answers.Fine ∷ []) sound room (is-there w q p is one)
+room-inject takes c w call q bytes sound room = walk-inject c w (LeavesRoom w) call q bytes sound room
+    (λ p there. room-inject-arrive takes c w p bytes None (answer_mark call answers.Fine ∷ []) sound room there)
 
 pub room-wake : (c : Configuration) (w : World) (name : QueueId) → IsSoundWorld c w → HasRoom w → EndsIn w (LeavesRoom w) (wake_plan c name)
-room-wake c w name sound room = ends-queue c w (LeavesRoom w) name reasons.State (λ q. plan q q.peer) sound (λ q there. by q there q.peer)
+room-wake c w name sound room = walk-wake c w (LeavesRoom w) name sound (λ q there. woken q there (wake-good q there.sound))
   where
-    wakes : QueuePair → Bool → Plan
-    wakes q empty = unless_refused (wake_refusals empty q) Stuck (Finish ((Queue_of q.queue := Present (after_wake q).queue) ∷ []) [] (after_wake q).marks)
-
-    plan : QueuePair → Option Correspondent → Plan
-    plan q None = unless_refused (wake_refusals false q) Stuck (Stuck reasons.Empty)
-    plan q (Some peer) = Look (Queue_of peer.queue) (λ slot. Look (Mailbox_of peer.queue) (λ m.
-        With_receives slot (λ empty. wakes q (reaches_peer q peer m && empty))))
-
-    wake : (q : QueuePair) → IsThere w q → (empty : Bool) → EndsIn w (LeavesRoom w) (wakes q empty)
-    wake q there empty = ends-unless w (LeavesRoom w) (wake_refusals empty q) Stuck (Finish ((Queue_of q.queue := Present (after_wake q).queue) ∷ []) [] (after_wake q).marks)
-        (λ r. record {}) (λ fails. woken q there (wake-good q there.sound))
-      where
-        woken : (q : QueuePair) → IsThere w q → IsGood q (after_wake q) → LeavesRoom w ((Queue_of q.queue := Present (after_wake q).queue) ∷ [])
-        woken q there good = still-room w.queue w.cq w.cq w.srq q (after_wake q) room (sound-named c w sound) there.present there.sound good.later good.order refl (none-put w.cq q (after_wake q).marks)
-
-    receives : (slot : QueueSlot) (k : Bool → Plan) → ((b : Bool) → EndsIn w (LeavesRoom w) (k b)) → EndsIn w (LeavesRoom w) (With_receives slot k)
-    receives slot k more = search rules
-
-    by : (q : QueuePair) → IsThere w q → (peer : Option Correspondent) → EndsIn w (LeavesRoom w) (plan q peer)
-    by q there None = search rules
-    by q there (Some peer) = receives (w.queue peer.queue) (λ empty. wakes q (reaches_peer q peer (w.mailbox peer.queue) && empty)) (λ empty. wake q there _)
+    woken : (q : QueuePair) → IsThere w q → IsGood q (after_wake q) → LeavesRoom w ((Queue_of q.queue := Present (after_wake q).queue) ∷ [])
+    woken q there good = still-room w.queue w.cq w.cq w.srq q (after_wake q) room (sound-named c w sound) there.present there.sound good.later good.order refl (none-put w.cq q (after_wake q).marks)
 
 -- local operations
 
@@ -387,9 +328,9 @@ invalidate-does q n key s turn = record {
   allowed = λ bytes refusal. operation-good q n (if is_window_key key then q.windows - 1 else q.windows) (record { revoked = Some key; granted = None }) refusal s turn;
 }
 
-perform-aside : (c : Configuration) (w : World) (P : List Update → Type 0) (q : QueuePair) (n : Numbered) (finish : Finishing) (shared : Option SharedReceives) (op : SendOp) → IsQueue q
-    → turn_of q ≡ Performs n → GoesOn w P (IsTurn shared q) finish → EndsIn w P (Perform_op c q n finish op)
-perform-aside c w P q n finish shared (ops.Bind1 window key address count rights) s turn more =
+bind1-ends : (c : Configuration) (w : World) (P : List Update → Type 0) (q : QueuePair) (n : Numbered) (finish : Finishing) (shared : Option SharedReceives) (window : ℕ) (key : Key)
+    (address count : ℕ) (rights : Rights) → IsQueue q → turn_of q ≡ Performs n → GoesOn w P (IsTurn shared q) finish → EndsIn w P (Bind1_plan c q n window key address count rights finish)
+bind1-ends c w P q n finish shared window key address count rights s turn more =
     ends-named c w P q.domain key (λ named. With_former x (λ former. ending named former)) (λ named. ends-former w P x (λ former. ending named former) (λ former.
     more (operation_effects q n q (bind1_marks q n window named address count rights x) (refusal named)) (unless_none (refusal named) (changed named former)) []
     (no-taking shared q _ (operation-good q n q.windows (bind1_marks q n window named address count rights x) (refusal named) s turn) (operation-takes q n q (bind1_marks q n window named address count rights x) (refusal named)))
@@ -409,7 +350,10 @@ perform-aside c w P q n finish shared (ops.Bind1 window key address count rights
 
     ending : Option PlacedRegion → Option PlacedRegion → Plan
     ending named former = finish (operation_effects q n q (bind1_marks q n window named address count rights x) (refusal named)) (unless_none (refusal named) (changed named former)) []
-perform-aside c w P q n finish shared (ops.Bind2 window key low address count rights) s turn more =
+
+bind2-ends : (c : Configuration) (w : World) (P : List Update → Type 0) (q : QueuePair) (n : Numbered) (finish : Finishing) (shared : Option SharedReceives) (window : ℕ) (key : Key)
+    (low address count : ℕ) (rights : Rights) → IsQueue q → turn_of q ≡ Performs n → GoesOn w P (IsTurn shared q) finish → EndsIn w P (Bind2_plan c q n window key low address count rights finish)
+bind2-ends c w P q n finish shared window key low address count rights s turn more =
     ends-named c w P q.domain key (λ named. With_former x (λ former. ending named)) (λ named. ends-former w P x (λ former. ending named) (λ former.
     more (effects named) (unless_none (refusal named) (changed named)) []
     (no-taking shared q _ (operation-good q n (suc q.windows) (bind2_marks q window low named address count rights) (refusal named) s turn)
@@ -433,7 +377,10 @@ perform-aside c w P q n finish shared (ops.Bind2 window key low address count ri
 
     ending : Option PlacedRegion → Plan
     ending named = finish (effects named) (unless_none (refusal named) (changed named)) []
-perform-aside c w P q n finish shared (ops.FastReg region low buffer address count rights pages) s turn more =
+
+fast-ends : (c : Configuration) (w : World) (P : List Update → Type 0) (q : QueuePair) (n : Numbered) (finish : Finishing) (shared : Option SharedReceives) (region low buffer address count : ℕ)
+    (rights : Rights) (pages : List ℕ) → IsQueue q → turn_of q ≡ Performs n → GoesOn w P (IsTurn shared q) finish → EndsIn w P (Fast_plan c q n region low buffer address count rights pages finish)
+fast-ends c w P q n finish shared region low buffer address count rights pages s turn more =
     more (operation_effects q n q (fast_marks q region low buffer address count rights pages) refusal) (unless_none refusal (fast_changes q region low buffer address count rights pages r)) []
     (no-taking shared q _ (operation-good q n q.windows (fast_marks q region low buffer address count rights pages) refusal s turn) (operation-takes q n q (fast_marks q region low buffer address count rights pages) refusal))
     (unless-aside refusal (fast_changes q region low buffer address count rights pages r) (record {}, record {}))
@@ -443,27 +390,21 @@ perform-aside c w P q n finish shared (ops.FastReg region low buffer address cou
 
     refusal : Option OpRefusal
     refusal = fast_refusal c q region buffer address count rights pages r
-perform-aside c w P q n finish shared (ops.LocalInv key) s turn more = row-aside c w P (IsTurn shared q) (invalidate_row q n key) finish
-    (quiet-row shared q (invalidate_row q n key) (invalidate-does q n key s turn) (record { denied = λ d. refl; allowed = λ bytes refusal. operation-takes q n (with_window_gone (Some (record { queue = q.queue; domain = q.domain; key = key })) q) (record { revoked = Some key; granted = None }) refusal })) more
-perform-aside c w P q n finish shared (ops.Send list) s turn more = more (queue_and_marks q []) [] [] (no-taking shared q (queue_and_marks q []) (nothing-good q s) refl) (record {})
-perform-aside c w P q n finish shared (ops.SendImm imm list) s turn more = more (queue_and_marks q []) [] [] (no-taking shared q (queue_and_marks q []) (nothing-good q s) refl) (record {})
-perform-aside c w P q n finish shared (ops.SendInv key list) s turn more = more (queue_and_marks q []) [] [] (no-taking shared q (queue_and_marks q []) (nothing-good q s) refl) (record {})
-perform-aside c w P q n finish shared (ops.Write address key list) s turn more = more (queue_and_marks q []) [] [] (no-taking shared q (queue_and_marks q []) (nothing-good q s) refl) (record {})
-perform-aside c w P q n finish shared (ops.WriteImm address key imm list) s turn more = more (queue_and_marks q []) [] [] (no-taking shared q (queue_and_marks q []) (nothing-good q s) refl) (record {})
-perform-aside c w P q n finish shared (ops.Read address key list) s turn more = more (queue_and_marks q []) [] [] (no-taking shared q (queue_and_marks q []) (nothing-good q s) refl) (record {})
-perform-aside c w P q n finish shared (ops.CmpSwap address key compare swap list) s turn more = more (queue_and_marks q []) [] [] (no-taking shared q (queue_and_marks q []) (nothing-good q s) refl) (record {})
-perform-aside c w P q n finish shared (ops.FetchAdd address key add list) s turn more = more (queue_and_marks q []) [] [] (no-taking shared q (queue_and_marks q []) (nothing-good q s) refl) (record {})
+
+perform-aside : (c : Configuration) (w : World) (P : List Update → Type 0) (q : QueuePair) (n : Numbered) (finish : Finishing) (shared : Option SharedReceives) (op : SendOp) → IsQueue q
+    → turn_of q ≡ Performs n → GoesOn w P (IsTurn shared q) finish → EndsIn w P (Perform_op c q n finish op)
+perform-aside c w P q n finish shared op s turn more = walk-perform c w P q n finish op
+    (more (queue_and_marks q []) [] [] (no-taking shared q (queue_and_marks q []) (nothing-good q s) refl) (record {}))
+    (λ window key address count rights. bind1-ends c w P q n finish shared window key address count rights s turn more)
+    (λ window key low address count rights. bind2-ends c w P q n finish shared window key low address count rights s turn more)
+    (λ region low buffer address count rights pages. fast-ends c w P q n finish shared region low buffer address count rights pages s turn more)
+    (λ key. row-aside c w P (IsTurn shared q) (invalidate_row q n key) finish
+    (quiet-row shared q (invalidate_row q n key) (invalidate-does q n key s turn) (record { denied = λ d. refl; allowed = λ bytes refusal. operation-takes q n (with_window_gone (Some (record { queue = q.queue; domain = q.domain; key = key })) q) (record { revoked = Some key; granted = None }) refusal })) more)
 
 pub room-request : (c : Configuration) (w : World) (name : QueueId) (lot : Lot) → IsSoundWorld c w → HasRoom w → EndsIn w (LeavesRoom w) (request_plan c name lot)
-room-request c w name lot sound room = ends-queue c w (LeavesRoom w) name reasons.State (λ q. With_around q (λ a. Request_around c lot q a q.peer (turn_of q))) sound
-    (λ q there. ends-around w (LeavesRoom w) q (λ a. Request_around c lot q a q.peer (turn_of q)) (by q there q.peer (turn_of q) refl))
-  where
-    by : (q : QueuePair) → IsThere w q → (peer : Option Correspondent) (turn : RequestTurn) → turn_of q ≡ turn
-        → EndsIn w (LeavesRoom w) (Request_around c lot q (around_in w q (shared_of w q)) peer turn)
-    by q there peer (Waits reason) turn = record {}
-    by q there peer (Performs n) turn = perform-aside c w (LeavesRoom w) q n (λ e changes writes. Finish (updates_of q (around_in w q (shared_of w q)) e ++ changes) writes e.marks)
-        (shared_at w q) n.request.op there.sound turn (λ e cs ws turn aside. turn-room c w q e cs sound room there turn aside)
-    by q there None (Sends n) turn = record {}
-    by q there (Some peer) (Sends n) turn = room-left c w q peer lot (packet_row q (has_room_for q peer (w.mailbox peer.queue)) n) sound room there
-        (quiet-row (shared_at w q) q (packet_row q (has_room_for q peer (w.mailbox peer.queue)) n)
-        (row-does q _ (packet-good q (has_room_for q peer (w.mailbox peer.queue)) n there.sound turn)) (packet-takes q (has_room_for q peer (w.mailbox peer.queue)) n))
+room-request c w name lot sound room = walk-request c w (LeavesRoom w) name lot sound
+    (λ q n there turn. perform-aside c w (LeavesRoom w) q n (λ e changes writes. Finish (updates_of q (around_in w q (shared_of w q)) e ++ changes) writes e.marks)
+    (shared_at w q) n.request.op there.sound turn (λ e cs ws turn aside. turn-room c w q e cs sound room there turn aside))
+    (λ q n peer there turn. room-left c w q peer lot (packet_row q (has_room_for q peer (w.mailbox peer.queue)) n) sound room there
+    (quiet-row (shared_at w q) q (packet_row q (has_room_for q peer (w.mailbox peer.queue)) n)
+    (row-does q _ (packet-good q (has_room_for q peer (w.mailbox peer.queue)) n there.sound turn)) (packet-takes q (has_room_for q peer (w.mailbox peer.queue)) n)))

@@ -20,31 +20,31 @@ use Rattle.ca_base.specs.objects.Domain.{without_object}
 use Rattle.ca_base.specs.objects.QueuePair.{QueuePair, QueueSlot, NoQueue, Present, recv_cq_of, send_cq_of}
 use Rattle.ca_base.specs.objects.Region.{with_window_unbound}
 use Rattle.ca_base.specs.objects.SharedReceives.{SharedReceives, SrqSlot, after_receive_post, empty_receives, is_full_of_receives}
-use Rattle.ca_base.specs.objects.Window.{Binding, Window, after_deallocation, key_of_window}
+use Rattle.ca_base.specs.objects.Window.{after_deallocation}
 use Rattle.ca_base.specs.declared.limits.TheConstants.{MAX_MESSAGE_BYTES}
 use Rattle.ca_model.specs.Past.{with_at}
 use Rattle.ca_model.specs.Requests.{list_length}
 use Rattle.ca_model.specs.declared.answer.Answer.TheVariants as answers
 use Rattle.ca_model.specs.declared.answer.Refusal.TheVariants.{NoSuch, QueueFull, TooLong}
-use Rattle.ca_model.specs.declared.mark.Mark.TheVariants as marks
 use Rattle.ca_model.specs.machine.CompletionVerbs.{create_cq_plan, create_srq_plan, destroy_cq_plan, destroy_srq_plan}
 use Rattle.ca_model.specs.machine.DomainVerbs.{alloc_pd_plan, dealloc_pd_plan}
 use Rattle.ca_model.specs.machine.HostVerbs.{load_plan, store_plan}
 use Rattle.ca_model.specs.machine.Places.{Ascend, places_of_side}
-use Rattle.ca_model.specs.machine.Plan.{If, Look, Plan, Update, ◌:=◌}
+use Rattle.ca_model.specs.machine.Plan.{If, Plan, Update, ◌:=◌}
 use Rattle.ca_model.specs.machine.PostingVerbs.{post_srq_plan}
 use Rattle.ca_model.specs.machine.RegionVerbs.{alloc_mr_plan, dereg_mr_plan, reg_mr_plan}
 use Rattle.ca_model.specs.machine.Row.{region_under}
 use Rattle.ca_model.specs.machine.Sound.{IsSoundWorld, side_of}
 use Rattle.ca_model.specs.machine.VerbAnswers.{Answer_plan, Call, Refuse_plan}
-use Rattle.ca_model.specs.machine.WindowVerbs.{With_binder, alloc_mw_plan, dealloc_mw_plan, queue_updates}
+use Rattle.ca_model.specs.machine.WindowVerbs.{alloc_mw_plan, dealloc_mw_plan, queue_updates}
 use Rattle.ca_model.specs.machine.World.{World, Cq_of, Domain_of, Region_of, Srq_of, Window_of}
+use Rattle.ca_laws_sound.proofs.PlanWalks.{binder_updates, deallocated, walk-dealloc_mw}
 use Rattle.ca_laws_sound.proofs.SettledLemmas.{slot-path}
 use Rattle.ca_laws_sound.proofs.WorldLemmas.{EndsIn}
 use Rattle.ca_laws_room.specs.Room.{AreUsers, HasRoom, HasSide, HaveRoom, IsDue, IsInPlace, IsInSequence, IsSlotInPlace, Use, Uses, depth_of, has_side, is_in, rooms_of, taken_in, use_of, waits_in}
 use Rattle.ca_laws_room.proofs.RoomLists.{all-map, ascend-append}
 use Rattle.ca_laws_room.proofs.FitLemmas.{side-empty}
-use Rattle.ca_laws_room.proofs.KeptLemmas.{aside-room, local-places, queue-with-same, room-first, same-reserved, still-in-place, still-in-use, with-same}
+use Rattle.ca_laws_room.proofs.KeptLemmas.{local-places, queue-with-same, room-first, same-reserved, still-in-place, still-in-use, with-same}
 use Rattle.ca_laws_room.proofs.AdvanceLemmas.{AreNamed, sound-named, with-all}
 use Rattle.ca_laws_room.proofs.EngineRoomLemmas.{LeavesRoom}
 
@@ -84,8 +84,9 @@ pair-room queue cq srq q p room named there same place = record {
       (place (subst (IsSlotInPlace cq srq room.holder) there (room.places q.queue)));
 }
 
-binder-room : (c : Configuration) (w : World) (q : QueueId) → IsSoundWorld c w → HasRoom w → LeavesRoom w (queue_updates q (w.queue q))
-binder-room c w q sound room = by (w.queue q) refl
+binder-room : (c : Configuration) (w : World) (o : Option QueueId) → IsSoundWorld c w → HasRoom w → LeavesRoom w (binder_updates w o)
+binder-room c w None sound room = room
+binder-room c w (Some q) sound room = by (w.queue q) refl
   where
     by : (s : QueueSlot) → w.queue q ≡ s → LeavesRoom w (queue_updates q s)
     by (NoQueue incarnation timers) is = room
@@ -94,38 +95,13 @@ binder-room c w q sound room = by (w.queue q) refl
         (λ place. record { sends = place.sends; receives = place.receives; shared = place.shared }))
 
 pub room-dealloc_mw : (c : Configuration) (w : World) (call : Call) (s : Slot) → IsSoundWorld c w → HasRoom w → EndsIn w (LeavesRoom w) (dealloc_mw_plan call s)
-room-dealloc_mw c w call s sound room = (λ is. room, λ there. by (w.window s).binding)
+room-dealloc_mw c w call s sound room = walk-dealloc_mw w (LeavesRoom w) call s room room
+    (λ b is. unbound-room (region_under (w.window s) b) (binder_updates w b.queue) (binder-room c w b.queue sound room))
   where
-    x : Window
-    x = w.window s
-
-    first : Slot → List Update
-    first at = ((Domain_of s.domain := without_object (w.domain s.domain)) ∷ (Window_of s := after_deallocation x) ∷ []) ++ (Region_of at := with_window_unbound (w.region at)) ∷ []
-
-    changes : Slot → List Update → List Update
-    changes at more = ((Domain_of s.domain := without_object (w.domain s.domain)) ∷ (Window_of s := after_deallocation x) ∷ [])
-        ++ (Region_of at := with_window_unbound (w.region at)) ∷ more
-
-    plan : Option Binding → Plan
-    plan None = Answer_plan call answers.Fine ((Domain_of s.domain := without_object (w.domain s.domain)) ∷ (Window_of s := after_deallocation x) ∷ []) []
-    plan (Some b) = Look (Region_of (region_under x b)) (λ region. With_binder b.queue (λ more.
-        Answer_plan call answers.Fine
-        (((Domain_of s.domain := without_object (w.domain s.domain)) ∷ (Window_of s := after_deallocation x) ∷ [])
-        ++ (Region_of (region_under x b) := with_window_unbound region) ∷ more)
-        (marks.Revoked s.domain.adapter (key_of_window x) ∷ [])))
-
-    binder : (at : Slot) (o : Option QueueId) → EndsIn w (LeavesRoom w) (With_binder o (λ more. Answer_plan call answers.Fine (changes at more) (marks.Revoked s.domain.adapter (key_of_window x) ∷ [])))
-    binder at None = aside-room w (changes at []) room (record {}, (record {}, (record {}, record {})))
-    binder at (Some q) = first-room (queue_updates q (w.queue q)) (binder-room c w q sound room)
-      where
-        first-room : (more : List Update) → LeavesRoom w more → LeavesRoom w (changes at more)
-        first-room more leaves = room-first (Domain_of s.domain) (without_object (w.domain s.domain)) ((Window_of s := after_deallocation x) ∷ (Region_of at := with_window_unbound (w.region at)) ∷ more) w (record {})
-            (room-first (Window_of s) (after_deallocation x) ((Region_of at := with_window_unbound (w.region at)) ∷ more) w (record {})
-            (room-first (Region_of at) (with_window_unbound (w.region at)) more w (record {}) leaves))
-
-    by : (o : Option Binding) → EndsIn w (LeavesRoom w) (plan o)
-    by None = room
-    by (Some b) = binder (region_under x b) b.queue
+    unbound-room : (at : Slot) (more : List Update) → LeavesRoom w more → LeavesRoom w (deallocated w s ++ (Region_of at := with_window_unbound (w.region at)) ∷ more)
+    unbound-room at more leaves = room-first (Domain_of s.domain) (without_object (w.domain s.domain)) ((Window_of s := after_deallocation (w.window s)) ∷ (Region_of at := with_window_unbound (w.region at)) ∷ more) w (record {})
+        (room-first (Window_of s) (after_deallocation (w.window s)) ((Region_of at := with_window_unbound (w.region at)) ∷ more) w (record {})
+        (room-first (Region_of at) (with_window_unbound (w.region at)) more w (record {}) leaves))
 
 pub if-map : {A : Type 0} (P Q : A → Type 0) → ((a : A) → P a → Q a) → (o : Option A) → IfSome o P → IfSome o Q
 if-map P Q f None all = record {}

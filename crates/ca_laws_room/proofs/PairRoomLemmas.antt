@@ -1,65 +1,49 @@
 -- The posts to a queue pair and its changes of state leave room.
-use Rattle.std.proofs.Common.{◌≡◌, ℕ, ◌≤◌, ◌==◌, nat_lt, Bool, true, false, List, [], ◌∷◌, length, Option, None, Some, IfSome, refl, arith, sym, ◌∙◌, ap, subst, if◌then◌else◌}
+use Rattle.std.proofs.Common.{◌≡◌, ℕ, ◌≤◌, nat_lt, Bool, true, false, List, [], ◌∷◌, length, Option, None, Some, IfSome, refl, arith, sym, ◌∙◌, ap, subst, if◌then◌else◌}
 use Rattle.std.proofs.lemmas.Bool.{ltb-false}
 use Rattle.std.specs.List.{AllByRecursion}
 use Rattle.std.specs.Option.{option_map, option_map_or}
 use Rattle.ca_base.specs.declared.change.State.TheVariants as states
 use Rattle.ca_base.specs.declared.limits.TheConstants.{MAX_MESSAGE_BYTES, MAX_PIECES}
 use Rattle.ca_base.specs.declared.request.RecvRequest.{RecvRequest}
-use Rattle.ca_base.specs.declared.request.SendOp.{SendOp}
-use Rattle.ca_base.specs.declared.request.SendOp.TheVariants as ops
 use Rattle.ca_base.specs.declared.request.SendRequest.{SendRequest}
 use Rattle.ca_keys.specs.declared.names.QueueId.{QueueId}
 use Rattle.ca_keys.specs.declared.names.Slot.{Slot}
 use Rattle.ca_base.specs.Configuration.{Configuration}
 use Rattle.ca_keys.specs.Equal.{queue_eq, slot_eq}
-use Rattle.ca_keys.specs.Numbers.{queue_of}
 use Rattle.ca_base.specs.objects.CompletionQueue.{CompletionQueue, after_puts}
 use Rattle.ca_base.specs.objects.QueuePair.{QueuePair, QueueSlot, NoQueue, Present, in_error, recv_cq_of, send_cq_of, srq_of, with_all_flushed}
 use Rattle.ca_base.specs.objects.StateTable.{state_eq}
-use Rattle.ca_base.specs.objects.Window.{Window, after_draw, byte_drawn}
+use Rattle.ca_base.specs.objects.Window.{after_draw, byte_drawn}
 use Rattle.ca_base.specs.objects.WorkQueue.{WorkQueue, is_full, with_item}
 use Rattle.ca_model.specs.Past.{with_at}
 use Rattle.ca_model.specs.Requests.{list_length, list_of}
-use Rattle.ca_model.specs.declared.answer.Refusal.TheVariants.{NoSuch}
 use Rattle.ca_model.specs.declared.mark.Mark.{Mark}
 use Rattle.ca_model.specs.machine.Around.{completions_to}
 use Rattle.ca_model.specs.machine.Completions.{flush_marks}
 use Rattle.ca_model.specs.machine.Invariants.{IsQueue}
 use Rattle.ca_model.specs.machine.Places.{AreTakenInOrder, Ascend, IsInOrder, completions_in, first_held, places_of_side}
-use Rattle.ca_model.specs.machine.Plan.{If, Look, Plan, Update, ◌:=◌}
+use Rattle.ca_model.specs.machine.Plan.{Update, ◌:=◌}
 use Rattle.ca_model.specs.machine.PostingVerbs.{Posted_send, after_flush, marks_of_flush, post_recv_plan, post_send_plan, with_send}
-use Rattle.ca_model.specs.machine.QueuePairVerbs.{With_present, beside, query_qp_plan}
+use Rattle.ca_model.specs.machine.QueuePairVerbs.{query_qp_plan}
 use Rattle.ca_model.specs.machine.Row.{queue_and_marks}
-use Rattle.ca_model.specs.machine.Sound.{IsQueueOf, IsSoundWorld}
-use Rattle.ca_model.specs.machine.VerbAnswers.{Call, Refuse_plan}
+use Rattle.ca_model.specs.machine.Sound.{IsSoundWorld}
+use Rattle.ca_model.specs.machine.VerbAnswers.{Call}
 use Rattle.ca_model.specs.machine.World.{World, Cq_of, Queue_of, Window_of}
+use Rattle.ca_laws_sound.proofs.PlanWalks.{walk-post_send, walk-present}
 use Rattle.ca_laws_sound.proofs.GoodLemmas.{IsLater}
 use Rattle.ca_laws_sound.proofs.OrderLemmas.{flush-order}
 use Rattle.ca_laws_sound.proofs.SettledLemmas.{queue-path, queue-refl}
 use Rattle.ca_laws_sound.proofs.VerbLemmas.{IsFlushed, flushed, posted-receive, posted-send}
-use Rattle.ca_laws_sound.proofs.WorldLemmas.{EndsIn, IsThere, is-there}
+use Rattle.ca_laws_sound.proofs.WorldLemmas.{EndsIn, IsThere}
 use Rattle.ca_laws_room.specs.Room.{HasRoom, HaveRoom, IsInPlace, use_of, waits_in}
 use Rattle.ca_laws_room.proofs.KeptLemmas.{AreAside, marks-of, room-behind}
 use Rattle.ca_laws_room.proofs.AdvanceLemmas.{AreNamed, IsPut, put-put, sound-named, still-room}
 use Rattle.ca_laws_room.proofs.EngineRoomLemmas.{LeavesRoom}
 use Rattle.ca_laws_room.proofs.ObjectRoomLemmas.{pair-room}
 
--- looking for the queue pair that a verb names
-pub room-present : (c : Configuration) (w : World) (call : Call) (s : Slot) (k : QueuePair → Plan) → IsSoundWorld c w → HasRoom w → ((q : QueuePair) → IsThere w q → EndsIn w (LeavesRoom w) (k q))
-    → EndsIn w (LeavesRoom w) (With_present call s k)
-room-present c w call s k sound room more = by (w.queue (queue_of s)) refl (sound.things (Queue_of (queue_of s)))
-  where
-    plan : QueueSlot → Plan
-    plan (NoQueue incarnation timers) = Refuse_plan call NoSuch
-    plan (Present q) = k q
-
-    by : (t : QueueSlot) → w.queue (queue_of s) ≡ t → IsQueueOf (queue_of s) t → EndsIn w (LeavesRoom w) (plan t)
-    by (NoQueue incarnation timers) is one = room
-    by (Present q) is one = more q (is-there w (queue_of s) q is one)
-
 pub room-query : (c : Configuration) (w : World) (call : Call) (s : Slot) → IsSoundWorld c w → HasRoom w → EndsIn w (LeavesRoom w) (query_qp_plan call s)
-room-query c w call s sound room = room-present c w call s _ sound room (λ q there. room)
+room-query c w call s sound room = walk-present c w (LeavesRoom w) call s _ sound room (λ q there. room)
 
 -- a queue pair that changes twice
 pub twice : (queue : QueueId → QueueSlot) (n : QueueId) (x y : QueueSlot) → with_at queue_eq (with_at queue_eq queue n x) n y ≡ with_at queue_eq queue n y
@@ -153,36 +137,13 @@ room-posted c w call q request drawn window more sound room there few aside = (
 
 pub room-post_send : (c : Configuration) (w : World) (call : Call) (s : Slot) (request : SendRequest) → IsSoundWorld c w → HasRoom w → length (list_of request.op) ≤ MAX_PIECES
     → EndsIn w (LeavesRoom w) (post_send_plan call s request)
-room-post_send c w call s request sound room few = room-present c w call s (λ q. plan q request.op) sound room (λ q there. by q there request.op)
-  where
-    plan : QueuePair → SendOp → Plan
-    plan q (ops.Bind1 window region address count rights) = Look (Window_of (beside s window)) (λ x. If (x.kind == 0) (Refuse_plan call NoSuch)
-        (Posted_send call q request (byte_drawn x) (beside s window) ((Window_of (beside s window) := after_draw x) ∷ [])))
-    plan q op = Posted_send call q request None s []
-
-    by : (q : QueuePair) → IsThere w q → (op : SendOp) → EndsIn w (LeavesRoom w) (plan q op)
-    by q there (ops.Bind1 window region address count rights) = (
-      λ is. room,
-      λ some. room-posted c w call q request (byte_drawn x) (beside s window) ((Window_of (beside s window) := after_draw x) ∷ []) sound room there few (record {}, record {}),
-    )
-      where
-        x : Window
-        x = w.window (beside s window)
-    by q there (ops.Bind2 window region low address count rights) = room-posted c w call q request None s [] sound room there few (record {})
-    by q there (ops.FastReg region low buffer address count rights pages) = room-posted c w call q request None s [] sound room there few (record {})
-    by q there (ops.LocalInv key) = room-posted c w call q request None s [] sound room there few (record {})
-    by q there (ops.Send list) = room-posted c w call q request None s [] sound room there few (record {})
-    by q there (ops.SendImm imm list) = room-posted c w call q request None s [] sound room there few (record {})
-    by q there (ops.SendInv key list) = room-posted c w call q request None s [] sound room there few (record {})
-    by q there (ops.Write address key list) = room-posted c w call q request None s [] sound room there few (record {})
-    by q there (ops.WriteImm address key imm list) = room-posted c w call q request None s [] sound room there few (record {})
-    by q there (ops.Read address key list) = room-posted c w call q request None s [] sound room there few (record {})
-    by q there (ops.CmpSwap address key compare swap list) = room-posted c w call q request None s [] sound room there few (record {})
-    by q there (ops.FetchAdd address key add list) = room-posted c w call q request None s [] sound room there few (record {})
+room-post_send c w call s request sound room few = walk-post_send c w (LeavesRoom w) call s request sound room
+    (λ q there. room-posted c w call q request None s [] sound room there few (record {}))
+    (λ q at there. room-posted c w call q request (byte_drawn (w.window at)) at ((Window_of at := after_draw (w.window at)) ∷ []) sound room there few (record {}, record {}))
 
 pub room-post_recv : (c : Configuration) (w : World) (call : Call) (s : Slot) (request : RecvRequest) → IsSoundWorld c w → HasRoom w → length request.list.items ≤ MAX_PIECES
     → EndsIn w (LeavesRoom w) (post_recv_plan call s request)
-room-post_recv c w call s request sound room few = room-present c w call s _ sound room (λ q there. (
+room-post_recv c w call s request sound room few = walk-present c w (LeavesRoom w) call s _ sound room (λ q there. (
   λ is. room,
   λ own. (λ is. room, λ short. (λ is. room, λ state. (λ is. room, λ free. by q there (fine q there short free)))),
 ))

@@ -17,13 +17,14 @@ use Rattle.ca_base.specs.objects.QueuePair.{QueuePair, QueueSlot, NoQueue, Prese
 use Rattle.ca_base.specs.objects.SharedReceives.{SharedReceives, SrqSlot, after_receive_retire}
 use Rattle.ca_base.specs.objects.WorkQueue.{WorkQueue, after_retire}
 use Rattle.ca_model.specs.Past.{with_at}
-use Rattle.ca_model.specs.machine.CompletionVerbs.{Poll_of, Take_plan, With_place, With_places, after_poll, poll_plan, receives_after_poll, slot_after_poll, source_of_completion}
+use Rattle.ca_model.specs.machine.CompletionVerbs.{With_place, With_places, after_poll, poll_plan, receives_after_poll, slot_after_poll, source_of_completion}
 use Rattle.ca_model.specs.machine.Places.{Ascend, first_held, places_in_use, places_of_side}
 use Rattle.ca_model.specs.machine.Plan.{Plan, Look, Update, ◌:=◌, put_all}
 use Rattle.ca_model.specs.machine.Sound.{IsSoundWorld, side_of}
 use Rattle.ca_model.specs.machine.VerbAnswers.{Call}
 use Rattle.ca_model.specs.machine.World.{World, Cq_of, Queue_of, Srq_of, put}
 use Rattle.ca_cq.proofs.Rooms.{all-zip, none-of}
+use Rattle.ca_laws_sound.proofs.PlanWalks.{walk-poll}
 use Rattle.ca_laws_sound.proofs.SettledLemmas.{queue-path, queue-refl, slot-path, slot-refl}
 use Rattle.ca_laws_sound.proofs.WorldLemmas.{EndsIn}
 use Rattle.ca_laws_room.specs.Room.{AreDistinct, AreHeld, Has, HasRoom, HaveRoom, IsDue, IsInPlace, IsInSequence, IsSlotInPlace, Use, depth_of, is_in, places_kept, rooms_of, taken_in, use_of, waits_in}
@@ -569,12 +570,6 @@ polled-room c w s cq xs rest taken = subst (λ f. HaveRoom v.queue f v.srq) (sym
         named = sound-named c w taken.at.sound n q is
 
 pub room-poll : (c : Configuration) (w : World) (call : Call) (s : Slot) (n least : ℕ) → IsSoundWorld c w → HasRoom w → EndsIn w (LeavesRoom w) (poll_plan call s n least)
-room-poll c w call s n least sound room = by (w.cq s) refl
-  where
-    taken : (cq : CompletionQueue) → w.cq s ≡ Some cq → EndsIn w (LeavesRoom w) (Take_plan call s cq (take n cq.waiting))
-    taken cq is = places-end w (LeavesRoom w) s cq (take n cq.waiting) (take n cq.waiting) _
-        (polled-room c w s cq (take n cq.waiting) (drop (length (take n cq.waiting)) cq.waiting) (record { at = record { sound = sound; room = room; there = is }; split = sym (take-drop n cq.waiting) }))
-
-    by : (o : Option CompletionQueue) → w.cq s ≡ o → EndsIn w (LeavesRoom w) (Poll_of call s n least o)
-    by None is = room
-    by (Some cq) is = (λ e. room, λ range. (λ few. record {}, λ enough. taken cq is))
+room-poll c w call s n least sound room = walk-poll w (LeavesRoom w) call s n least room (λ cq is.
+    places-end w (LeavesRoom w) s cq (take n cq.waiting) (take n cq.waiting) _
+    (polled-room c w s cq (take n cq.waiting) (drop (length (take n cq.waiting)) cq.waiting) (record { at = record { sound = sound; room = room; there = is }; split = sym (take-drop n cq.waiting) })))
