@@ -5,8 +5,8 @@
 //! To the layer above it promises how each status comes: where a command was worked, what is written is its output. That of
 //! a script is the text of one history of it, and of no other: of its order where one thread works it. This history follows
 //! the machine, is judged, licensed, carried and ordered, its atomics act once, and closed groups of domains get what they
-//! would get alone; and the status says how it ended. Each line that is refused is the first that is, with its first cause. A fault of a stream is told, and nothing else
-//! is told as one.
+//! would get alone; and the status says how it ended. Each line that is refused is the first that is, with its first cause. A
+//! fault of a stream is told, and nothing else is told as one.
 //!
 //! Source: this profile's choice; the standard says nothing of programs.
 #![tactic(auto)]
