@@ -74,7 +74,8 @@ fn paged(alloc: Global) -> Result<Region, Memory> {
     Ok(region)
 }
 
-/// The sum of the first lengths and of the offsets of spans that begin everywhere in the region, some of them in one page and some in two.
+/// The sum of the first lengths and of the offsets of spans that begin everywhere in the region, some of them in one page
+/// and some in two.
 fn turns(region: &Region, count: u32) -> u64 {
     let mut sum: u64 = 0;
     for turn in 0..count {

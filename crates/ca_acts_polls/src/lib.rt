@@ -1,4 +1,4 @@
-//! Acts on completion queues' completions: what a poll does with the parts in hand.
+//! Acts on completions: what a poll does with the parts in hand.
 //!
 //! To the layers above it promises that the act is the plan of its verb, carried out in the small world of what is held:
 //! the same marks and changes, and where memory ends, none.
