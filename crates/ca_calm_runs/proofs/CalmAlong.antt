@@ -31,7 +31,7 @@ use Rattle.ca_ties.proofs.FollowLemmas.{paths-follow}
 use Rattle.ca_ties_calm.proofs.EventCalm.{event-calm, opening-calmly}
 use Rattle.ca_ties_calm.specs.CalmEvents.{AreCalm, IsCalmEvent}
 use Rattle.ca_ties_calm.specs.CalmTies.{CalmAfter, CursorGoesOn, IsCalmlyTied}
-use Rattle.ca_ties_calm.specs.ca_ties_verbs.Agrees.{AgreesWith, acted_by}
+use Rattle.ca_ties_calm.specs.ca_ties_verbs.Agrees.{AgreesWith, acted_by, written_by}
 
 -- ---- one connection
 
@@ -61,7 +61,7 @@ entry-calm c end a b e past w v grows stands steps weather calm is = record {
     agrees : AgreesWith d a.own b.own w e.marks
     agrees = marks-agree end a b is.con past w e.event stands.paths stands.posts e.marks grows
 
-    next : ToldAfter d a.own b.own (after_entry e past) w is.link (acted_by b.own w is.link e.event e.marks) v
+    next : ToldAfter d a.own b.own (after_entry e past) w is.link (acted_by b.own w is.link e.event e.marks) (written_by b.own w is.link e.event e.marks) v
     next = next-told c end a b e past w v is.link is.con grows stands steps is.told
 
     after : CalmAfter d a.own b.own w v

@@ -90,7 +90,7 @@ use Rattle.ca_once.specs.ca_ties.Ties.IsOver.{later, vacant}
 use Rattle.ca_once.specs.ca_ties.Ties.SenderTie.{before as sender_before, standing as sender_standing, gone as sender_gone}
 use Rattle.ca_ties_rows.proofs.LayLemmas.{psns-of-work}
 use Rattle.ca_ties_rows.specs.Sides.{work_of}
-use Rattle.ca_once.specs.ca_ties_verbs.Agrees.{AgreesWith, acted_by}
+use Rattle.ca_once.specs.ca_ties_verbs.Agrees.{AgreesWith, acted_by, written_by}
 
 -- ---- clean connections
 
@@ -134,7 +134,7 @@ ready-along c end a b (e ∷ es) past w v l con is reaches told bound fits = rea
     grows : Grows (after_marks e.marks (at_begin e.event past)) end
     grows = entry-to-end end e es past is
 
-    next : ToldAfter d a.own b.own (after_entry e past) w l (acted_by b.own w l e.event e.marks) u
+    next : ToldAfter d a.own b.own (after_entry e past) w l (acted_by b.own w l e.event e.marks) (written_by b.own w l e.event e.marks) u
     next = next-told c end a b e past w u l con grows stands steps told
 
 ready-at : (c : Configuration) (bytes : ByteMap) (es fs : List EntryValue) (w : World) → AreLimited c → AllByRecursion (λ e. CanBeMade e.event) (es ++ fs) → Follows c bytes (es ++ fs) → Reaches c (opening_past bytes) (opening_world bytes) es w

@@ -7,6 +7,7 @@ pub mod ListLemmas
 pub mod MoveLemmas
 pub mod NumberLemmas
 pub mod OnceLemmas
+pub mod PassedLemmas
 pub mod QueueLemmas
 pub mod ReceiveLemmas
 pub mod RespondLemmas

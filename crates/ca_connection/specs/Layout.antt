@@ -32,6 +32,14 @@ is_data (Write bytes) = true
 is_data (Read bytes) = false
 is_data Atomic = false
 
+-- a WRITE
+abbrev pub is_write : Work → Bool
+is_write Local = false
+is_write (Send bytes) = false
+is_write (Write bytes) = true
+is_write (Read bytes) = false
+is_write Atomic = false
+
 -- an atomic
 abbrev pub is_atomic : Work → Bool
 is_atomic Local = false

@@ -1,5 +1,5 @@
 -- What the laws of a connection say: how often a packet acted, and which response fits a request. Contracts cite it.
-use Rattle.std.specs.Prelude.{◌≡◌, ℕ, suc, ◌+◌, ◌%◌, ◌^◌, ◌<◌, ◌≤◌, ◌↔◌, min, true, Bool, ◌==◌, ◌&&◌, nat_le, nat_lt, List}
+use Rattle.std.specs.Prelude.{◌≡◌, ℕ, suc, zero, ◌+◌, ◌-◌, ◌%◌, ◌^◌, ◌<◌, ◌≤◌, ◌↔◌, min, true, Bool, ◌==◌, ◌&&◌, nat_le, nat_lt, if◌then◌else◌, List, [], ◌∷◌}
 use Rattle.std.specs.List.{count_by}
 use Rattle.ca_psn.specs.Psn.{widened}
 use Rattle.ca_connection.specs.Layout.{Direction, is_read, is_atomic, first, bytes_left, span}
@@ -18,6 +18,20 @@ acceptances_of_request place acceptances = count_by (λ m. m.place == place) acc
 -- the accepted packet took the number n
 abbrev pub takes_number : Direction → ℕ → Acceptance → Bool
 takes_number d n m = nat_le m.number n && nat_lt n (m.number + span d m.place m.number)
+
+-- the numbers of the accepted packets of the request at this place, the latest first
+abbrev pub numbers_at : ℕ → List Acceptance → List ℕ
+numbers_at place [] = []
+numbers_at place (a ∷ rest) = if a.place == place then a.number ∷ numbers_at place rest else numbers_at place rest
+
+-- so many numbers from one on, the last first
+abbrev pub falling : ℕ → ℕ → List ℕ
+falling low zero = []
+falling low (suc count) = (low + count) ∷ falling low count
+
+-- how many numbers of the request at this place lie below a bound
+abbrev pub passed : Direction → ℕ → ℕ → ℕ
+passed d place bound = min bound (first d (suc place)) - first d place
 
 -- all numbers of the request are acknowledged or answered
 abbrev pub HasSucceeded : Direction → Link → ℕ → Type 0

@@ -25,6 +25,6 @@ pub use numbers::{
 };
 pub use once::{
     acceptance_is_of_its_request, atomic_acts_once, atomic_that_succeeded_completed,
-    completed_atomic_acted_once, number_is_accepted_once, packet_acts_once,
-    packet_of_success_acted_once,
+    completed_atomic_acted_once, number_is_accepted_once, numbers_are_accepted_in_order,
+    packet_acts_once, packet_of_success_acted_once, passed_request_acted_once,
 };

@@ -1,9 +1,9 @@
-ghost use Rattle.std.specs.Prelude.{◌≡◌, ℕ, ◌<◌, ◌≤◌, true, false};
+ghost use Rattle.std.specs.Prelude.{◌≡◌, ℕ, suc, ◌<◌, ◌≤◌, true, false};
 ghost use Rattle.std.specs.List.{Contains, count_by};
-ghost use Rattle.ca_connection.specs.Layout.{Direction, HasNumber, first, is_atomic, is_read, start};
+ghost use Rattle.ca_connection.specs.Layout.{Direction, HasNumber, first, is_atomic, is_read, psns, start};
 ghost use Rattle.ca_connection.specs.Link.{Acceptance, Link};
 ghost use Rattle.ca_connection.specs.Moves.{Reached};
-ghost use Rattle.ca_connection.specs.Once.{HasSucceeded, takes_number, acceptances_of_packet, acceptances_of_request};
+ghost use Rattle.ca_connection.specs.Once.{HasSucceeded, takes_number, acceptances_of_packet, acceptances_of_request, falling, numbers_at, passed};
 
 /// An accepted packet is of the request that has its number.
 pub fn acceptance_is_of_its_request()
@@ -50,4 +50,18 @@ pub fn atomic_that_succeeded_completed()
     ensures { (d : Direction) (l : Link) (place : ℕ) → Reached d l → is_atomic (d.work place) ≡ true
         → HasSucceeded d l place
         → (found : ℕ) × Contains l.completions (record { place = place; found = found }) }
+{}
+
+/// The accepted packets of a request that is no READ are those with its numbers below the expected one, each once, and in
+/// order.
+pub fn numbers_are_accepted_in_order()
+    ensures { (d : Direction) (l : Link) (place : ℕ) → Reached d l → is_read (d.work place) ≡ false
+        → numbers_at place l.acceptances ≡ falling (first d place) (passed d place l.responder.expected) }
+{}
+
+/// Where all its numbers lie below the expected one, each of them was accepted once, and in order.
+pub fn passed_request_acted_once()
+    ensures { (d : Direction) (l : Link) (place : ℕ) → Reached d l → is_read (d.work place) ≡ false
+        → first d (suc place) ≤ l.responder.expected
+        → numbers_at place l.acceptances ≡ falling (first d place) (psns d.mtu (d.work place)) }
 {}

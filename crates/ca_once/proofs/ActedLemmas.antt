@@ -76,17 +76,17 @@ abbrev pub HasNotMet : Option Arrival → Type 0
 HasNotMet None = Unit {0}
 HasNotMet (Some a) = a.index ≡ None
 
-unmet-arrived : (q : QueueId) (index : ℕ) (o : Option Arrival) → HasNotMet o → option_map_or (λ a. queue_eq a.target q && option_eq (λ m n. m == n) a.index (Some index)) o false ≡ true → ⊥
+pub unmet-arrived : (q : QueueId) (index : ℕ) (o : Option Arrival) → HasNotMet o → option_map_or (λ a. queue_eq a.target q && option_eq (λ m n. m == n) a.index (Some index)) o false ≡ true → ⊥
 unmet-arrived q index None none is = true≢false (sym is)
 unmet-arrived q index (Some a) none is =
     true≢false (sym (and_parts (queue_eq a.target q) _ is).1 ∙ ap (λ o. option_eq (λ m n. m == n) o (Some index)) none)
 
 -- what a mark leaves of what is at hand, and of the atomics that acted
-record StaysUnmet (p r : Past) : Type 0 where
-  unmet : HasNotMet r.at_hand.arrival
-  acted : r.acted ≡ p.acted
+pub record StaysUnmet (p r : Past) : Type 0 where
+  pub unmet : HasNotMet r.at_hand.arrival
+  pub acted : r.acted ≡ p.acted
 
-unmet-one : (p : Past) (m : Mark) → IsUnmetMark m → HasNotMet p.at_hand.arrival → has_its_packet p m ≡ true → is_judged p m ≡ true → StaysUnmet p (after_mark m p)
+pub unmet-one : (p : Past) (m : Mark) → IsUnmetMark m → HasNotMet p.at_hand.arrival → has_its_packet p m ≡ true → is_judged p m ≡ true → StaysUnmet p (after_mark m p)
 unmet-one p (marks.Verb by verb answer) free none carried judged = record { unmet = subst (λ o. HasNotMet o.arrival) (sym same.hand) none; acted = same.acted }
   where
     q : Past
@@ -156,15 +156,15 @@ sent-acted p q index found e is = ap (λ o. option_map_or (λ (e : Envelope). by
 same-number : (m n : ℕ) → (m == n) ≡ true → m ≡ n
 same-number m n is = eqb-true m n is
 
-met-index : (name q : QueueId) (index : ℕ) (envelope : Option ℕ) → (queue_eq name q && option_eq (λ m n. m == n) (Some index) envelope) ≡ true → (name ≡ q) × (envelope ≡ Some index)
+pub met-index : (name q : QueueId) (index : ℕ) (envelope : Option ℕ) → (queue_eq name q && option_eq (λ m n. m == n) (Some index) envelope) ≡ true → (name ≡ q) × (envelope ≡ Some index)
 met-index name q index None is = absurd (true≢false (sym (and_parts (queue_eq name q) false is).1))
 met-index name q index (Some i) is = let parts = and_parts (queue_eq name q) (index == i) is in (queue-path name q parts.0, ap (λ n. Some n) (sym (same-number index i parts.1)))
 
-record StaysMet (name : QueueId) (index : ℕ) (e : Envelope) (m : Mark) (p r : Past) : Type 0 where
-  met : HasMet name index e r
-  acted : r.acted ≡ acted_onto e (numbers_found (m ∷ [])) p.acted
+pub record StaysMet (name : QueueId) (index : ℕ) (e : Envelope) (m : Mark) (p r : Past) : Type 0 where
+  pub met : HasMet name index e r
+  pub acted : r.acted ≡ acted_onto e (numbers_found (m ∷ [])) p.acted
 
-met-one : (name : QueueId) (index : ℕ) (e : Envelope) (p : Past) (m : Mark) → IsOwnMark m → HasMet name index e p → has_its_packet p m ≡ true → is_judged p m ≡ true → StaysMet name index e m p (after_mark m p)
+pub met-one : (name : QueueId) (index : ℕ) (e : Envelope) (p : Past) (m : Mark) → IsOwnMark m → HasMet name index e p → has_its_packet p m ≡ true → is_judged p m ≡ true → StaysMet name index e m p (after_mark m p)
 met-one name index e p (marks.Verb by verb answer) own met carried judged = absurd own
 met-one name index e p (marks.Granted g) own met carried judged = record { met = record { arrival = met.arrival; sent = met.sent }; acted = refl }
 met-one name index e p (marks.Revoked adapter key) own met carried judged = record { met = record { arrival = met.arrival; sent = met.sent }; acted = refl }

@@ -28,15 +28,15 @@ use Rattle.ca_once.proofs.MailTolds.{correspondent-path}
 use Rattle.ca_once.proofs.ShapeLemmas.{Delivers}
 use Rattle.ca_once.specs.Told.{AreSentBy, IsSentBy, IsTold, LiesThere}
 use Rattle.ca_ties_success.proofs.of_ca_ties.EntryLemmas.{IsLent, lent-envelope}
-use Rattle.ca_ties_success.specs.ca_ties.Ties.{TiedAfter, found_by, found_by_delivery}
+use Rattle.ca_ties_success.specs.ca_ties.Ties.{TiedAfter, found_by, found_by_delivery, written_by_delivery}
 use Rattle.ca_ties_success.specs.ca_ties_rows.Links.{found_at}
 use Rattle.ca_ties_success.specs.ca_ties_rows.Moves.{numbers_found}
 
 -- ---- an event in which no atomic acts
 
-pub found-same : (d : Direction) (s r : Correspondent) (past p : Past) (w v : World) (l : Link) (acted : ℕ → List ℕ) (after : TiedAfter d s r w l acted v) → IsTold d s r past w l → p.acted ≡ past.acted → ((place : ℕ) → acted place ≡ [])
+pub found-same : (d : Direction) (s r : Correspondent) (past p : Past) (w v : World) (l : Link) (acted written : ℕ → List ℕ) (after : TiedAfter d s r w l acted written v) → IsTold d s r past w l → p.acted ≡ past.acted → ((place : ℕ) → acted place ≡ [])
     → (place : ℕ) → found_of p s place ≡ (if is_atomic (d.work place) then found_at place after.link.acceptances else [])
-found-same d s r past p w v l acted after told same none place =
+found-same d s r past p w v l acted written after told same none place =
     found-is p s place ∙ ap (numbers_of s place) same ∙ sym (found-is past s place) ∙ told.found place ∙ by (is_atomic (d.work place)) refl
   where
     by : (b : Bool) → is_atomic (d.work place) ≡ b → (if b then found_at place l.acceptances else []) ≡ (if b then found_at place after.link.acceptances else [])
@@ -52,7 +52,7 @@ pub record SentIn (es : List Envelope) (index later : ℕ) : Type 0 where
   pub sent : find (λ e. e.index == index) es ≡ Some envelope
   pub uncut : envelope.cut ≡ false
 
-same-number : (m n : ℕ) → m ≡ n → (m == n) ≡ true
+pub same-number : (m n : ℕ) → m ≡ n → (m == n) ≡ true
 same-number m n same = grind (arith, nat_tests)
 
 later-number : (m n : ℕ) → n < m → (m == n) ≡ false
@@ -92,13 +92,13 @@ lent-sent past w name index bytes agree is = by (nat_lt index m.next) refl is
     by true e is = walk m.envelopes (past.envelopes name) index (later_than index m) lent.envelope (agree.latest name) (agree.numbered name) (sym (agree.counts name) ∙ before-next index m.next e) lent.at
 
 -- an entry's envelope is its own
-entry-sent : (s : Correspondent) (xs : List (Option RequestPacket)) (es : List Envelope) (k : ℕ) (x : Option RequestPacket) (e : Envelope) → AreSentBy s xs es → slice_get xs k ≡ Some x → slice_get es k ≡ Some e → IsSentBy s x e
+pub entry-sent : (s : Correspondent) (xs : List (Option RequestPacket)) (es : List Envelope) (k : ℕ) (x : Option RequestPacket) (e : Envelope) → AreSentBy s xs es → slice_get xs k ≡ Some x → slice_get es k ≡ Some e → IsSentBy s x e
 entry-sent s [] es k x e sent at there = absurd (true≢false (sym (ap is_some at)))
 entry-sent s (y ∷ ys) [] k x e sent at there = absurd sent
 entry-sent s (y ∷ ys) (f ∷ fs) zero x e sent at there = subst (λ z. IsSentBy s z e) (same_Some y x at) (subst (IsSentBy s y) (same_Some f e there) sent.0)
 entry-sent s (y ∷ ys) (f ∷ fs) (suc k) x e sent at there = entry-sent s ys fs k x e sent.1 at there
 
-among-some : {A : Type 0} (xs : List A) (k : ℕ) → k < length xs → slice_get xs k ≡ None → ⊥
+pub among-some : {A : Type 0} (xs : List A) (k : ℕ) → k < length xs → slice_get xs k ≡ None → ⊥
 among-some [] k less is = omega (arith, less)
 among-some (x ∷ xs) zero less is = true≢false (ap is_some is)
 among-some (x ∷ xs) (suc k) less is = among-some xs k (omega (arith, less)) is
@@ -123,7 +123,7 @@ onto-few [] ys few = refl
 onto-few (m ∷ []) ys few = refl
 onto-few (m ∷ n ∷ ms) ys few = absurd (omega (arith, few))
 
-pub found-delivered : (d : Direction) (s r : Correspondent) (past : Past) (w v : World) (l : Link) (event : Event) (name : QueueId) (index : ℕ) (ms : List Mark) (after : TiedAfter d s r w l (found_by_delivery r w l name index ms) v)
+pub found-delivered : (d : Direction) (s r : Correspondent) (past : Past) (w v : World) (l : Link) (event : Event) (name : QueueId) (index : ℕ) (ms : List Mark) (after : TiedAfter d s r w l (found_by_delivery r w l name index ms) (written_by_delivery r w l name index ms) v)
     → IsTold d s r past w l → PathsAgree past w → Delivers w name index ms → each_mark has_its_packet (at_begin event past) ms ≡ true → each_mark is_judged (at_begin event past) ms ≡ true
     → (place : ℕ) → found_of (after_marks ms (at_begin event past)) s place ≡ (if is_atomic (d.work place) then found_at place after.link.acceptances else [])
 found-delivered d s r past w v l event name index ms after told agree delivers carried judged place =

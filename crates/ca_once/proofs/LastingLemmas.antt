@@ -126,7 +126,7 @@ module _ (c : Configuration) (w : World) (sound : IsSoundWorld c w) where
   leads-lasting (events.Respond name lot) = leads-respond c w P name lot sound (λ q p room e v ms there names ends goes. put-slot w v q.queue q (Present e.queue) (ap w.queue there.named ∙ there.is) goes.queue)
   leads-lasting (events.Timeout name hasten) = leads-timeout c w P name hasten sound (λ q silent v there sends replaces. found-slot w v name q _ _ there.is replaces)
   leads-lasting (events.RnrWake name) = leads-wake c w P name sound (λ q v there sends replaces. found-slot w v name q _ _ there.is replaces)
-  leads-lasting (events.Deliver name index) = leads-deliver c w P name index sound (λ q bytes shared e v ms is good lent ends changes told.
+  leads-lasting (events.Deliver name index) = leads-deliver c w P name index sound (λ q bytes shared e v ms is good lent ends changes told told_writes.
       found-slot w v name q _ _ is (replaces-changed w v name _ _ changes))
 
 pub event-lasts : (c : Configuration) (w : World) (event : Event) → IsSoundWorld c w → Comes (λ v ms. Lasting w v) (step c w event)

@@ -39,7 +39,7 @@ use Rattle.ca_once.specs.Told.{IsTold}
 use Rattle.ca_ties_success.proofs.of_ca_ties.OpeningLemmas.{opening-tied}
 use Rattle.ca_ties_success.specs.ca_ties.Ties.{IsTied}
 use Rattle.ca_ties_success.specs.ca_ties_rows.Links.{found_at}
-use Rattle.ca_ties_success.specs.ca_ties_verbs.Agrees.{acted_by}
+use Rattle.ca_ties_success.specs.ca_ties_verbs.Agrees.{acted_by, written_by}
 
 -- ---- no life has two Rtr
 
@@ -83,7 +83,7 @@ entry-to-end end e es past is = record { namings = grown.namings; starts = grown
 
 -- the same is told of a link after one entry
 pub next-told : (c : Configuration) (end : Past) (a b : Naming) (e : EntryValue) (past : Past) (w v : World) (l : Link) → IsConnection end a b → Grows (after_marks e.marks (at_begin e.event past)) end → Stands c past w
-    → Steps c past w e.event e.marks v → IsTold (direction_of end a b) a.own b.own past w l → ToldAfter (direction_of end a b) a.own b.own (after_entry e past) w l (acted_by b.own w l e.event e.marks) v
+    → Steps c past w e.event e.marks v → IsTold (direction_of end a b) a.own b.own past w l → ToldAfter (direction_of end a b) a.own b.own (after_entry e past) w l (acted_by b.own w l e.event e.marks) (written_by b.own w l e.event e.marks) v
 next-told c end a b e past w v l con grows stands steps told = event-told (direction_of end a b) a.own b.own past w l e.event e.marks v
     (record { told = told; paths = stands.paths; after = steps.paths; indexed = steps.indexed })
     (record { carried = steps.carried; judged = steps.judged; meets = steps.meets; right = steps.right })
@@ -95,7 +95,7 @@ told-along : (c : Configuration) (end : Past) (a b : Naming) (es : List EntryVal
 told-along c end a b [] past w l con is walk told = (w, (l, subst (λ p. IsTold (direction_of end a b) a.own b.own p w l) (sym is) told))
 told-along c end a b (e ∷ es) past w l con is walk told = told-along c end a b es (after_entry e past) walk.1.0 next.after.link con is walk.1.2 next.told
   where
-    next : ToldAfter (direction_of end a b) a.own b.own (after_entry e past) w l (acted_by b.own w l e.event e.marks) walk.1.0
+    next : ToldAfter (direction_of end a b) a.own b.own (after_entry e past) w l (acted_by b.own w l e.event e.marks) (written_by b.own w l e.event e.marks) walk.1.0
     next = next-told c end a b e past w walk.1.0 l con (entry-to-end end e es past is) walk.0 walk.1.1 told
 
 -- before the first entry
@@ -169,7 +169,7 @@ links-along c end a b (e ∷ es) past w l con is walk told = (
   subst (Afterwards (λ v. HoldsAlong (HasLink end a b) c (after_entry e past) v es)) (sym walk.1.1.comes) (links-along c end a b es (after_entry e past) walk.1.0 next.after.link con is walk.1.2 next.told),
 )
   where
-    next : ToldAfter (direction_of end a b) a.own b.own (after_entry e past) w l (acted_by b.own w l e.event e.marks) walk.1.0
+    next : ToldAfter (direction_of end a b) a.own b.own (after_entry e past) w l (acted_by b.own w l e.event e.marks) (written_by b.own w l e.event e.marks) walk.1.0
     next = next-told c end a b e past w walk.1.0 l con (entry-to-end end e es past is) walk.0 walk.1.1 told
 
 among-of : {A : Type 0} (xs : List A) (x : A) → Contains xs x → Among x xs

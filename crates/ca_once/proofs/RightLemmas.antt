@@ -1,6 +1,6 @@
 -- What a verb that was answered found in the world: CreateQp a vacant slot, and Rtr a queue pair without a peer. For proofs only.
 use Rattle.std.proofs.Common.{◌≡◌, ℕ, ◌<◌, ◌≤◌, ◌==◌, ◌||◌, not, arith, Bool, true, false, List, [], ◌∷◌, Option, None, Some, refl, ap, sym, subst, ◌∙◌, true≢false}
-use Rattle.std.proofs.lemmas.Bool.{eqb-false, eqb-true, not-false}
+use Rattle.std.proofs.lemmas.Bool.{eqb-false, eqb-true, ltb-false, not-false}
 use Rattle.ca_agree.proofs.EventFitLemmas.{event-fits}
 use Rattle.ca_agree.proofs.LeadsLemmas.{comes, leads-around, leads-weaker}
 use Rattle.ca_agree.proofs.VerbFitLemmas.{Answers, AreAnswered, fits-verb}
@@ -13,7 +13,7 @@ use Rattle.ca_base.specs.declared.change.Change.{Change}
 use Rattle.ca_base.specs.declared.change.Change.TheVariants as changes
 use Rattle.ca_base.specs.declared.change.State.{State}
 use Rattle.ca_base.specs.declared.change.State.TheVariants as states
-use Rattle.ca_base.specs.declared.limits.TheConstants.{MIN_PATH_MTU}
+use Rattle.ca_base.specs.declared.limits.TheConstants.{MAX_MESSAGE_BYTES, MIN_PATH_MTU}
 use Rattle.ca_base.specs.objects.Mailbox.{with_peer}
 use Rattle.ca_base.specs.objects.QueuePair.{QueuePair, Present, is_present}
 use Rattle.ca_base.specs.objects.Slices.{has_queue}
@@ -41,11 +41,12 @@ use Rattle.ca_model.specs.machine.QueuePairVerbs.{modify_qp_plan}
 use Rattle.ca_model.specs.machine.Sound.{IsSoundWorld}
 use Rattle.ca_model.specs.machine.Step.{plan, step, verb_plan}
 use Rattle.ca_model.specs.machine.VerbAnswers.{Answer_plan, Call, Refuse_plan, Unless_plan, of_change_refusals}
+use Rattle.ca_model.specs.Requests.{list_length, list_of}
 use Rattle.ca_model.specs.machine.World.{Mailbox_of, Queue_of, World, get}
 use Rattle.ca_once.proofs.NoteLemmas.{Destroys}
 use Rattle.ca_once.proofs.VerbLemmas.{Makes}
 use Rattle.ca_ties_success.proofs.of_ca_ties_verbs.BeginLemmas.{found-begins}
-use Rattle.ca_ties_success.proofs.of_ca_ties_verbs.WalkLemmas.{leads-destroy}
+use Rattle.ca_ties_success.proofs.of_ca_ties_verbs.WalkLemmas.{leads-destroy, leads-post}
 use Rattle.ca_ties_success.specs.ca_ties_verbs.Beginnings.{AllBeginEmpty}
 
 -- An Rtr that succeeded found its queue pair there, without a peer, and names another one, in an incarnation that there can be,
@@ -61,6 +62,7 @@ pub record NamesWell (w : World) (name peer : QueueId) (incarnation mtu : ℕ) :
 abbrev pub IsRight : World → Verb → Answer → Type 0
 IsRight w (verbs.CreateQp slot send_cq recv_cq send_depth recv_depth srq) (answers.Queue number incarnation) = is_present (w.queue (queue_of slot)) ≡ false
 IsRight w (verbs.ModifyQp slot (changes.Rtr peer incarnation psn mtu rnr_code)) answers.Fine = NamesWell w (queue_of slot) peer incarnation mtu
+IsRight w (verbs.PostSend slot request) (answers.Posted key) = list_length (list_of request.op) ≤ MAX_MESSAGE_BYTES
 IsRight w verb answer = Unit {0}
 
 -- the same of the marks of an event, of which the first is the answer
@@ -232,7 +234,8 @@ verb-right c w by (verbs.CreateSrq slot depth) sound empty = free-verb c w by (v
 verb-right c w by (verbs.DestroySrq slot) sound empty = free-verb c w by (verbs.DestroySrq slot) (λ answer. record {})
 verb-right c w by (verbs.QueryQp slot) sound empty = free-verb c w by (verbs.QueryQp slot) (λ answer. record {})
 verb-right c w by (verbs.DestroyQp slot) sound empty = free-verb c w by (verbs.DestroyQp slot) (λ answer. record {})
-verb-right c w by (verbs.PostSend slot request) sound empty = free-verb c w by (verbs.PostSend slot request) (λ answer. record {})
+verb-right c w by (verbs.PostSend slot request) sound empty = leads-post c w (λ v ms. AreRight w ms) (record { by = by; verb = verbs.PostSend slot request }) slot request sound (λ r. record {})
+    (λ q v drawn key there fails replaces. ltb-false MAX_MESSAGE_BYTES (list_length (list_of request.op)) fails.1.0)
 verb-right c w by (verbs.PostRecv slot request) sound empty = free-verb c w by (verbs.PostRecv slot request) (λ answer. record {})
 verb-right c w by (verbs.PostSrq slot request) sound empty = free-verb c w by (verbs.PostSrq slot request) (λ answer. record {})
 verb-right c w by (verbs.Poll slot n least) sound empty = free-verb c w by (verbs.Poll slot n least) (λ answer. record {})
@@ -243,6 +246,7 @@ verb-right c w by (verbs.Inject queue bytes) sound empty = free-verb c w by (ver
 refused-right : (w : World) (verb : Verb) (r : Refusal) → IsRight w verb (answers.Refused r)
 refused-right w (verbs.CreateQp slot send_cq recv_cq send_depth recv_depth srq) r = record {}
 refused-right w (verbs.ModifyQp slot (changes.Rtr peer incarnation psn mtu rnr_code)) r = record {}
+refused-right w (verbs.PostSend slot request) r = record {}
 refused-right w verb r = record {}
 
 -- the marks of a turn hold no answer

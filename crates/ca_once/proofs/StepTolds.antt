@@ -22,7 +22,7 @@ use Rattle.ca_once.proofs.ShapeLemmas.{Delivers, Meets, own-unmet}
 use Rattle.ca_once.specs.Told.{IsTold}
 use Rattle.ca_ties_success.proofs.of_ca_ties.TellLemmas.{own-unsent}
 use Rattle.ca_ties_success.specs.ca_ties.Ties.{TiedAfter, TurnAfter, sent_to}
-use Rattle.ca_ties_success.specs.ca_ties_verbs.Agrees.{acted_by}
+use Rattle.ca_ties_success.specs.ca_ties_verbs.Agrees.{acted_by, written_by}
 
 -- what is known of an event beyond: how its marks are judged and carried, what they are, and what its answer found
 pub record Marked (past : Past) (w : World) (event : Event) (ms : List Mark) : Type 0 where
@@ -35,37 +35,37 @@ pub record Marked (past : Past) (w : World) (event : Event) (ms : List Mark) : T
 abbrev pub TiedFor : Direction → Correspondent → Correspondent → World → Link → Event → List Mark → World → Type 0
 TiedFor d s r w l (events.Request queue lot) ms v = TurnAfter d s r w l ms v
 TiedFor d s r w l (events.Respond queue lot) ms v = TurnAfter d s r w l ms v
-TiedFor d s r w l event ms v = TiedAfter d s r w l (acted_by r w l event ms) v
+TiedFor d s r w l event ms v = TiedAfter d s r w l (acted_by r w l event ms) (written_by r w l event ms) v
 
 -- a link of which the same is told afterwards
-pub record ToldAfter (d : Direction) (s r : Correspondent) (p : Past) (w : World) (l : Link) (acted : ℕ → List ℕ) (v : World) : Type 0 where
-  pub after : TiedAfter d s r w l acted v
+pub record ToldAfter (d : Direction) (s r : Correspondent) (p : Past) (w : World) (l : Link) (acted written : ℕ → List ℕ) (v : World) : Type 0 where
+  pub after : TiedAfter d s r w l acted written v
   pub told : IsTold d s r p v after.link
 
-joined : (d : Direction) (s r : Correspondent) (past : Past) (w : World) (l : Link) (event : Event) (ms : List Mark) (v : World) (after : TiedAfter d s r w l (λ place. []) v) → Known d s r past w l event ms v
-    → Marked past w event ms → AreUnmet ms → MailTold s r (after_marks ms (at_begin event past)) after.link.requests → ToldAfter d s r (at_end (after_marks ms (at_begin event past))) w l (λ place. []) v
+joined : (d : Direction) (s r : Correspondent) (past : Past) (w : World) (l : Link) (event : Event) (ms : List Mark) (v : World) (after : TiedAfter d s r w l (λ place. []) (λ place. []) v) → Known d s r past w l event ms v
+    → Marked past w event ms → AreUnmet ms → MailTold s r (after_marks ms (at_begin event past)) after.link.requests → ToldAfter d s r (at_end (after_marks ms (at_begin event past))) w l (λ place. []) (λ place. []) v
 joined d s r past w l event ms v after known marked unmet mail = record {
   after = after;
   told = record {
     tied = after.tied;
     sources = mail.sources;
     alone = mail.alone;
-    found = found-same d s r past (after_marks ms (at_begin event past)) w v l (λ place. []) after known.told (unmet-acted ms (at_begin event past) unmet (record {}) marked.carried marked.judged) (λ place. refl);
+    found = found-same d s r past (after_marks ms (at_begin event past)) w v l (λ place. []) (λ place. []) after known.told (unmet-acted ms (at_begin event past) unmet (record {}) marked.carried marked.judged) (λ place. refl);
   };
 }
 
 -- marks of rows send nothing
-silent-told : (d : Direction) (s r : Correspondent) (past : Past) (w : World) (l : Link) (event : Event) (ms : List Mark) (v : World) (after : TiedAfter d s r w l (λ place. []) v) → Known d s r past w l event ms v
-    → Marked past w event ms → AreOwn ms → ToldAfter d s r (at_end (after_marks ms (at_begin event past))) w l (λ place. []) v
+silent-told : (d : Direction) (s r : Correspondent) (past : Past) (w : World) (l : Link) (event : Event) (ms : List Mark) (v : World) (after : TiedAfter d s r w l (λ place. []) (λ place. []) v) → Known d s r past w l event ms v
+    → Marked past w event ms → AreOwn ms → ToldAfter d s r (at_end (after_marks ms (at_begin event past))) w l (λ place. []) (λ place. []) v
 silent-told d s r past w l event ms v after known marked own = joined d s r past w l event ms v after known marked (own-unmet ms own)
     (silent-mail d s r past w l event ms v after.link.requests known (plain ms (own-inner ms own)) (λ n. own-unsent n ms own) after.requests)
 
 turn-told : (d : Direction) (s r : Correspondent) (past : Past) (w : World) (l : Link) (event : Event) (ms : List Mark) (v : World) (turn : TurnAfter d s r w l ms v) → Known d s r past w l event ms v
-    → Marked past w event ms → AreUnmet ms → ArePlain ms → ToldAfter d s r (at_end (after_marks ms (at_begin event past))) w l (λ place. []) v
+    → Marked past w event ms → AreUnmet ms → ArePlain ms → ToldAfter d s r (at_end (after_marks ms (at_begin event past))) w l (λ place. []) (λ place. []) v
 turn-told d s r past w l event ms v turn known marked unmet plain = joined d s r past w l event ms v turn.after known marked unmet (turn-mail d s r past w l event ms v turn known plain)
 
 pub event-told : (d : Direction) (s r : Correspondent) (past : Past) (w : World) (l : Link) (event : Event) (ms : List Mark) (v : World) → Known d s r past w l event ms v → Marked past w event ms → TiedFor d s r w l event ms v
-    → ToldAfter d s r (at_end (after_marks ms (at_begin event past))) w l (acted_by r w l event ms) v
+    → ToldAfter d s r (at_end (after_marks ms (at_begin event past))) w l (acted_by r w l event ms) (written_by r w l event ms) v
 event-told d s r past w l (events.Verb by verb) [] v known marked after = absurd marked.meets.1
 event-told d s r past w l (events.Verb by verb) (marks.Verb b other answer ∷ ms) v known marked after =
     joined d s r past w l (events.Verb by verb) (marks.Verb b other answer ∷ ms) v after known marked marked.meets.0

@@ -29,16 +29,16 @@ use Rattle.ca_once.proofs.MarkLemmas.{SameLives, one-life}
 use Rattle.ca_once.proofs.NoteLemmas.{Among, Grows, SameNotes, marks-grow, plain-one}
 use Rattle.ca_once.proofs.VerbLemmas.{SameHand, verb-hand}
 use Rattle.ca_once.specs.Connections.{work_posted}
-use Rattle.ca_ties_success.specs.Success.{AreFound, IsFoundAndPut, bytes_put, put_by}
+use Rattle.ca_ties_success.specs.Success.{AreFound, IsFoundAndPut, IsSuccess, bytes_put, put_by}
 use Rattle.ca_ties_success.specs.ca_ties_rows.Links.{found_at}
 use Rattle.ca_ties_success.specs.ca_ties_rows.Sides.{work_of}
 use Rattle.ca_ties_success.specs.ca_ties_verbs.Agrees.{IsInLife}
 
-append-assoc : {A : Type 0} (xs ys zs : List A) → (xs ++ ys) ++ zs ≡ xs ++ (ys ++ zs)
+pub append-assoc : {A : Type 0} (xs ys zs : List A) → (xs ++ ys) ++ zs ≡ xs ++ (ys ++ zs)
 append-assoc [] ys zs = refl
 append-assoc (x ∷ xs) ys zs = ap (λ r. x ∷ r) (append-assoc xs ys zs)
 
-append-length : {A : Type 0} (xs ys : List A) → length (xs ++ ys) ≡ length xs + length ys
+pub append-length : {A : Type 0} (xs ys : List A) → length (xs ++ ys) ≡ length xs + length ys
 append-length [] ys = omega arith
 append-length (x ∷ xs) ys = omega (arith, append-length xs ys)
 
@@ -146,7 +146,7 @@ pub record IsWell (a : AtomicDone) (all : List Mark) : Type 0 where
   pub alone : a.found ≡ found ∷ []
   pub put : bytes_put all ≡ little_endian_bytes found
 
-midst-after : (past p : Past) (m : Mark) → IsPlain m → Midst past p → Midst past (after_mark m p)
+pub midst-after : (past p : Past) (m : Mark) → IsPlain m → Midst past p → Midst past (after_mark m p)
 midst-after past p m plain mid = record { lives = λ n. of n (mid.lives n); more = adds.more ++ mid.more; acted = adds.acted ∙ ap (λ xs. adds.more ++ xs) mid.acted ∙ sym (append-assoc adds.more mid.more past.acted) }
   where
     adds : Adds m p (after_mark m p)
@@ -170,7 +170,7 @@ one-between xs (y ∷ ys) found zs is few = absurd (omega (arith, few, append-le
 
 -- an atomic that a completion tells of
 done-well : (d : Direction) (s : Correspondent) (past : Past) (w : World) (l : Link) (end last p : Past) (all : List Mark) (x : Completion) (a : AtomicDone) → Completes d s past w l end last → Midst past p
-    → (more : List Acted) → last.acted ≡ more ++ p.acted → Grows p last → (is_send_success x ≡ true → IsInLife w s x.queue → is_atomic (d.work x.place) ≡ true → IsFoundAndPut d l x.place all)
+    → (more : List Acted) → last.acted ≡ more ++ p.acted → Grows p last → (is_send_success x ≡ true → IsInLife w s x.queue → IsSuccess d l x.place all)
     → a.own ≡ s → Among a (atomic_done p x) → IsWell a all
 done-well d s past w l end last p all x a known mid more acted grows success own among = by (is_send_success x) refl (posted_at p x.queue x.place) refl among
   where
@@ -204,7 +204,7 @@ done-well d s past w l end last p all x a known mid more acted grows success own
                 ∙ ap (λ xs. is_some (slice_get xs x.place)) (known.posts.later x.queue (p.incarnation x.queue) is.0).0))
 
         told : IsFoundAndPut d l x.place all
-        told = success sent life atomic
+        told = (success sent life).atomic atomic
 
         few : length (numbers_of s x.place more ++ (numbers_of s x.place mid.more ++ numbers_of s x.place past.acted)) ≤ 1
         few = subst (λ xs. length xs ≤ 1) (ap (numbers_of s x.place) acted ∙ numbers-append s x.place more p.acted
@@ -228,7 +228,7 @@ done-well d s past w l end last p all x a known mid more acted grows success own
             one (inl same) = well q sent there is same
             one (inr none) = absurd none
 
-among-append : {A : Type 0} (x : A) (xs ys : List A) → Among x (xs ++ ys) → Among x xs ⊎ Among x ys
+pub among-append : {A : Type 0} (x : A) (xs ys : List A) → Among x (xs ++ ys) → Among x xs ⊎ Among x ys
 among-append x [] ys among = inr among
 among-append x (y ∷ xs) ys (inl same) = inl (inl same)
 among-append x (y ∷ xs) ys (inr later) = by (among-append x xs ys later)

@@ -38,7 +38,7 @@ use Rattle.ca_once.specs.Connections.{direction_of}
 use Rattle.ca_ties_success.specs.Success.{AreFound}
 use Rattle.ca_once.specs.Told.{IsTold}
 use Rattle.ca_ties_success.specs.ca_ties_rows.Links.{found_at}
-use Rattle.ca_ties_success.specs.ca_ties_verbs.Agrees.{AgreesWith, acted_by}
+use Rattle.ca_ties_success.specs.ca_ties_verbs.Agrees.{AgreesWith, acted_by, written_by}
 
 -- before the marks of an event
 begin-midst : (past : Past) (event : Event) → Midst past (at_begin event past)
@@ -129,7 +129,7 @@ well-along c end a b (e ∷ es) past w l con is walk told well = well-along c en
     agrees : AgreesWith d a.own b.own w e.marks
     agrees = marks-agree end a b con past w e.event walk.0.paths walk.0.posts e.marks grows
 
-    next : ToldAfter d a.own b.own (after_entry e past) w l (acted_by b.own w l e.event e.marks) v
+    next : ToldAfter d a.own b.own (after_entry e past) w l (acted_by b.own w l e.event e.marks) (written_by b.own w l e.event e.marks) v
     next = next-told c end a b e past w v l con grows walk.0 steps told
 
     adds : AddAll e.marks (at_begin e.event past) last

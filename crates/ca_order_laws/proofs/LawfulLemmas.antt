@@ -21,6 +21,7 @@ use Rattle.ca_order_laws.specs.Lawful.{IsLawfulHistory, IsLawfulOrder}
 use Rattle.ca_order_laws.specs.Limits.{KeepsToLimits}
 use Rattle.ca_ordered.proofs.OrderedLemmas.{ordered-along}
 use Rattle.ca_script.specs.Script.{ScriptValue}
+use Rattle.ca_written.proofs.WrittenLemmas.{once-whole, written-whole}
 
 pub history-lawful : (s : ScriptValue) (es : List EntryValue) (end : Stage) → KeepsToLimits s → IsHistory es → Follows s.config zeros es → LeadsTo s es end → IsLawfulHistory s es end
 history-lawful s es end keeps history follows leads = let made : AreMade es = script-made s es end keeps.callable leads in record {
@@ -30,6 +31,8 @@ history-lawful s es end keeps history follows leads = let made : AreMade es = sc
   licensed = licensed-along s.config zeros es keeps.limited made follows;
   carried = whole-along s.config zeros es keeps.limited made follows;
   once = once-along s.config zeros es keeps.limited made follows;
+  written = written-whole s.config zeros es keeps.limited made follows;
+  written_once = once-whole s.config zeros es keeps.limited made follows;
   ordered = ordered-along s.config zeros es keeps.limited made follows;
   caused = caused-along s.config zeros es keeps.limited made follows;
   isolated = alone-goes s.config zeros es keeps.limited made follows;

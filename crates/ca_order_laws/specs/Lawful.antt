@@ -14,9 +14,10 @@ use Rattle.ca_model.specs.machine.Run.{Follows}
 use Rattle.ca_order.specs.OfScript.{LeadsTo}
 use Rattle.ca_order.specs.Order.{Stage, ending}
 use Rattle.ca_script.specs.Script.{ScriptValue}
+use Rattle.ca_written.specs.Written.{Written, WrittenOnce}
 
 -- A history of a script over buffers of zeros is lawful: it follows the machine, is a history, is judged, licensed,
--- carried, once, ordered, caused and isolated; and it is one of the script, and leads to this stage.
+-- carried, once, written, ordered, caused and isolated; and it is one of the script, and leads to this stage.
 pub record IsLawfulHistory (s : ScriptValue) (es : List EntryValue) (end : Stage) : Type 0 where
   pub follows : Follows s.config zeros es
   pub history : IsHistory es
@@ -24,6 +25,8 @@ pub record IsLawfulHistory (s : ScriptValue) (es : List EntryValue) (end : Stage
   pub licensed : Licensed zeros es
   pub carried : Carried zeros es
   pub once : Once zeros es
+  pub written : Written zeros es
+  pub written_once : WrittenOnce zeros es
   pub ordered : Ordered zeros es
   pub caused : Caused zeros es
   pub isolated : Isolated s.config zeros es

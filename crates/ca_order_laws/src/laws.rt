@@ -11,8 +11,8 @@ ghost use Rattle.ca_order_laws.specs.Limits.{KeepsToLimits};
 ghost use Rattle.ca_script.specs.Script.{ScriptValue};
 
 /// The order of a script that keeps to the limits is lawful: over buffers of zeros it follows the machine, is a history,
-/// is judged, licensed, ordered, carried and caused, each atomic of a clean connection acts at most once, a closed group of
-/// domains gets what it would get alone, and it is a history of the script.
+/// is judged, licensed, ordered, carried and caused, each atomic and each packet of a WRITE of a clean connection acts at most
+/// once, a closed group of domains gets what it would get alone, and it is a history of the script.
 pub fn orders_are_lawful()
     ensures { (s : ScriptValue) → KeepsToLimits s → IsLawfulOrder s (order s) }
 {}

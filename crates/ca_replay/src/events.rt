@@ -14,6 +14,7 @@ ghost use Rattle.ca_model.specs.machine.World.{World};
 ghost use Rattle.ca_opening.specs.Opening.{FitContents, opening_bytes};
 ghost use Rattle.ca_replay.specs.Replays.{IsReplay, history_of, stop_at};
 ghost use Rattle.ca_replay.specs.Rows.{IsRow, IsRowOf};
+ghost use Rattle.ca_written.specs.Written.{Written, WrittenOnce};
 
 use crate::row::Row;
 use ca_base::{Memory, Reason, StepError};
@@ -58,6 +59,10 @@ pub fn replay(alloc: Global, opening: &Opening, events: &[Event]) -> Result<Vec<
         IfOk result (λ all. Carried (opening_bytes c opening.now.contents) (history_of events.now all.items)) }
     ensures once { let c = configuration_of opening.now.config in
         IfOk result (λ all. Once (opening_bytes c opening.now.contents) (history_of events.now all.items)) }
+    ensures written { let c = configuration_of opening.now.config in
+        IfOk result (λ all. Written (opening_bytes c opening.now.contents) (history_of events.now all.items)) }
+    ensures written_once { let c = configuration_of opening.now.config in
+        IfOk result (λ all. WrittenOnce (opening_bytes c opening.now.contents) (history_of events.now all.items)) }
     ensures caused { let c = configuration_of opening.now.config in
         IfOk result (λ all. Caused (opening_bytes c opening.now.contents) (history_of events.now all.items)) }
     ensures ordered { let c = configuration_of opening.now.config in

@@ -48,9 +48,9 @@ leaves-verb c w call (verbs.Load adapter buffer offset count) aside same = searc
 leaves-verb c w call (verbs.Inject queue bytes) aside same = absurd aside
 
 pub aside-ties : (d : Direction) (s r : Correspondent) (c : Configuration) (w : World) (l : Link) (by : ℕ) (verb : Verb) → LeavesPairs verb → IsTied d s r w l
-    → Comes (λ v ms. TiedAfter d s r w l (λ place. []) v) (step c w (events.Verb by verb))
-aside-ties d s r c w l by verb aside tied = comes w (λ v ms. TiedAfter d s r w l (λ place. []) v) (plan c (events.Verb by verb))
-    (leads-weaker w (Leaves w) (λ v ms. TiedAfter d s r w l (λ place. []) v) (plan c (events.Verb by verb))
+    → Comes (λ v ms. TiedAfter d s r w l (λ place. []) (λ place. []) v) (step c w (events.Verb by verb))
+aside-ties d s r c w l by verb aside tied = comes w (λ v ms. TiedAfter d s r w l (λ place. []) (λ place. []) v) (plan c (events.Verb by verb))
+    (leads-weaker w (Leaves w) (λ v ms. TiedAfter d s r w l (λ place. []) (λ place. []) v) (plan c (events.Verb by verb))
     (λ v ms same. joined-neither d s r w v l tied (ap (λ (f : QueueId → QueueSlot). f r.queue) same.0) (ap (λ (f : QueueId → Mailbox). f r.queue) same.1)
     (ap (λ (f : QueueId → QueueSlot). f s.queue) same.0) (ap (λ (f : QueueId → Mailbox). f s.queue) same.1))
     ((λ named. leaves-verb c w (record { by = by; verb = verb }) verb aside (refl, refl)), λ none. (refl, refl)))

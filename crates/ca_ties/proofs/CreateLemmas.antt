@@ -68,16 +68,16 @@ has-user queues boxes x slot v has = by x.srq slot
     by (Some srq) (Some slot) = record { queue = has.queue; mailbox = has.mailbox }
 
 create-leads : (d : Direction) (s r : Correspondent) (c : Configuration) (w : World) (l : Link) (by : ℕ) (x : Creation) → IsTied d s r w l
-    → Leads w (λ v ms. TiedAfter d s r w l (λ place. []) v) (create_qp_plan c (record { by = by; verb = verbs.CreateQp x.slot x.send_cq x.recv_cq x.send_depth x.recv_depth x.srq }) x)
+    → Leads w (λ v ms. TiedAfter d s r w l (λ place. []) (λ place. []) v) (create_qp_plan c (record { by = by; verb = verbs.CreateQp x.slot x.send_cq x.recv_cq x.send_depth x.recv_depth x.srq }) x)
 create-leads d s r c w l by x tied = (λ none. same, λ allocated. (λ taken. same, λ free. (λ has. sharing free x.srq, λ none. same)))
   where
     call : Call
     call = record { by = by; verb = verbs.CreateQp x.slot x.send_cq x.recv_cq x.send_depth x.recv_depth x.srq }
 
     P : World → List Mark → Type 0
-    P v ms = TiedAfter d s r w l (λ place. []) v
+    P v ms = TiedAfter d s r w l (λ place. []) (λ place. []) v
 
-    same : TiedAfter d s r w l (λ place. []) w
+    same : TiedAfter d s r w l (λ place. []) (λ place. []) w
     same = joined-neither d s r w w l tied refl refl refl refl
 
     place : QueueId
@@ -131,8 +131,8 @@ create-leads d s r c w l by x tied = (λ none. same, λ allocated. (λ taken. sa
     sharing free (Some srq) = both free (w.cq (beside x.slot x.send_cq)) (w.cq (beside x.slot x.recv_cq)) (Some (w.srq (beside x.slot srq))) (w.srq (beside x.slot srq)).srq
 
 pub create-ties : (d : Direction) (s r : Correspondent) (c : Configuration) (w : World) (l : Link) (by : ℕ) (slot : Slot) (send_cq recv_cq send_depth recv_depth : ℕ) (srq : Option ℕ) → IsTied d s r w l
-    → Comes (λ v ms. TiedAfter d s r w l (λ place. []) v) (step c w (events.Verb by (verbs.CreateQp slot send_cq recv_cq send_depth recv_depth srq)))
-create-ties d s r c w l by slot send_cq recv_cq send_depth recv_depth srq tied = comes w (λ v ms. TiedAfter d s r w l (λ place. []) v) (plan c (events.Verb by (verbs.CreateQp slot send_cq recv_cq send_depth recv_depth srq))) (
+    → Comes (λ v ms. TiedAfter d s r w l (λ place. []) (λ place. []) v) (step c w (events.Verb by (verbs.CreateQp slot send_cq recv_cq send_depth recv_depth srq)))
+create-ties d s r c w l by slot send_cq recv_cq send_depth recv_depth srq tied = comes w (λ v ms. TiedAfter d s r w l (λ place. []) (λ place. []) v) (plan c (events.Verb by (verbs.CreateQp slot send_cq recv_cq send_depth recv_depth srq))) (
   (λ named. create-leads d s r c w l by (record { slot = slot; send_cq = send_cq; recv_cq = recv_cq; send_depth = send_depth; recv_depth = recv_depth; srq = srq }) tied),
   λ none. joined-neither d s r w w l tied refl refl refl refl,
 )

@@ -9,9 +9,10 @@ use Rattle.ca_base.specs.declared.correspondent.Correspondent.{Correspondent}
 use Rattle.ca_base.specs.objects.Mailbox.{Mailbox, after_delivery, later_than}
 use Rattle.ca_base.specs.objects.QueuePair.{QueuePair, QueueSlot, Present, queue_in}
 use Rattle.ca_base.specs.objects.SharedReceives.{SharedReceives}
-use Rattle.ca_connection.specs.Layout.{Direction, is_atomic}
+use Rattle.ca_connection.specs.Layout.{Direction, is_atomic, is_write}
 use Rattle.ca_connection.specs.Link.{Link, RequestPacket, Requester, Responder, Response, number_of, opening}
 use Rattle.ca_connection.specs.Moves.{MayArrive, MayBeTaken, Reached, Reception}
+use Rattle.ca_connection.specs.Once.{numbers_at}
 use Rattle.ca_connection.specs.Moves.Reception.{Accepted, Neither, Rejected}
 use Rattle.ca_model.specs.declared.mark.Mark.{Mark}
 use Rattle.ca_model.specs.machine.Delivery.{arrival_row}
@@ -20,7 +21,7 @@ use Rattle.ca_model.specs.machine.Row.{Effects}
 use Rattle.ca_psn.specs.Psn.{widened}
 use Rattle.ca_ties.proofs.DeliverWalk.{Ends, ends-as, ends-do}
 use Rattle.ca_ties.proofs.EntryLemmas.{EntryIs, IsLent, delivered-entries, entry-at, lent-recent}
-use Rattle.ca_ties.specs.Ties.{AreEntries, IsBefore, IsOver, IsPaired, ReceiverTie, RequesterTie, SenderTie, found_by}
+use Rattle.ca_ties.specs.Ties.{AreEntries, IsBefore, IsOver, IsPaired, ReceiverTie, RequesterTie, SenderTie, found_by, written_by_entry}
 use Rattle.ca_ties.specs.Ties.IsBefore.{sooner, unnamed}
 use Rattle.ca_ties.specs.Ties.IsOver.{later, vacant}
 use Rattle.ca_ties.specs.Ties.ReceiverTie.{before as receiver_before, standing as receiver_standing, gone as receiver_gone}
@@ -28,15 +29,15 @@ use Rattle.ca_ties.specs.Ties.SenderTie.{before as sender_before, standing as se
 use Rattle.ca_ties_rows.proofs.ArrivalLemmas.{arrival-state, other-request-stays, other-response-forgets, request-received, response-taken}
 use Rattle.ca_ties_rows.proofs.LinkLemmas.{forgotten-moves, received-moves, taken-moves}
 use Rattle.ca_ties_rows.specs.Entries.{SpellsRequest, SpellsResponse, SpellsSomeRequest, SpellsSomeResponse}
-use Rattle.ca_ties_rows.specs.Links.{IsReceived, IsTaken, LeadsTo, found_at}
-use Rattle.ca_ties_rows.specs.Moves.{ForgetsIn, LeavesState, ReceivesIn, StaysIn, TakesIn, found_in, numbers_found}
+use Rattle.ca_ties_rows.specs.Links.{IsReceived, IsTaken, LeadsTo, found_at, times}
+use Rattle.ca_ties_rows.specs.Moves.{ForgetsIn, LeavesState, ReceivesIn, StaysIn, TakesIn, found_in, numbers_found, writes_told, written_in}
 use Rattle.ca_ties_rows.specs.Sides.{requester_in, responder_in}
 
 pub present-same : (p q : QueuePair) → Present p ≡ Present q → p ≡ q
 present-same p q is = same_Some p q (ap queue_in is)
 
 -- a link that moves lead to, in which the receiver's tie holds, and the sender's side is as it was
-pub record ReceiverStep (d : Direction) (s r : Correspondent) (l : Link) (acted : ℕ → List ℕ) (slot : QueueSlot) (m : Mailbox) : Type 0 where
+pub record ReceiverStep (d : Direction) (s r : Correspondent) (l : Link) (acted written : ℕ → List ℕ) (slot : QueueSlot) (m : Mailbox) : Type 0 where
   pub link : Link
   pub reached : Reached d link
   pub requester_is : link.requester ≡ l.requester
@@ -44,6 +45,8 @@ pub record ReceiverStep (d : Direction) (s r : Correspondent) (l : Link) (acted 
   pub tie : ReceiverTie d s r slot m link.responder link.requests
   pub found : (place : ℕ) → is_atomic (d.work place) ≡ true → found_at place link.acceptances ≡ acted place ++ found_at place l.acceptances
   pub plain : (place : ℕ) → is_atomic (d.work place) ≡ false → acted place ≡ []
+  pub wrote : (place : ℕ) → is_write (d.work place) ≡ true → numbers_at place link.acceptances ≡ written place ++ numbers_at place l.acceptances
+  pub unwritten : (place : ℕ) → is_write (d.work place) ≡ false → written place ≡ []
   pub requests_are : link.requests ≡ l.requests
 
 -- what a delivery knows of the queue pair that it meets
@@ -80,10 +83,13 @@ paired-after d life peer q p t incarnation same mtu paired = record {
 none-found : (requests : List (Option RequestPacket)) (k : ℕ) (numbers : List ℕ) (place : ℕ) → requests ≡ [] → found_by (slice_get requests k) numbers place ≡ []
 none-found requests k numbers place none = ap (λ xs. found_by (slice_get xs k) numbers place) none
 
+none-written : (requests : List (Option RequestPacket)) (k count place : ℕ) → requests ≡ [] → written_by_entry (slice_get requests k) count place ≡ []
+none-written requests k count place none = ap (λ xs. written_by_entry (slice_get xs k) count place) none
+
 -- nothing of the link changes
-pub receiver-same : (d : Direction) (s r : Correspondent) (l : Link) (acted : ℕ → List ℕ) (slot : QueueSlot) (m : Mailbox) → Reached d l → ((place : ℕ) → acted place ≡ []) → ReceiverTie d s r slot m l.responder l.requests
-    → ReceiverStep d s r l acted slot m
-receiver-same d s r l acted slot m reached none tie = record {
+pub receiver-same : (d : Direction) (s r : Correspondent) (l : Link) (acted written : ℕ → List ℕ) (slot : QueueSlot) (m : Mailbox) → Reached d l → ((place : ℕ) → acted place ≡ []) → ((place : ℕ) → written place ≡ []) → ReceiverTie d s r slot m l.responder l.requests
+    → ReceiverStep d s r l acted written slot m
+receiver-same d s r l acted written slot m reached none unwritten tie = record {
   link = l;
   reached = reached;
   requester_is = refl;
@@ -91,6 +97,8 @@ receiver-same d s r l acted slot m reached none tie = record {
   tie = tie;
   found = λ place is. ap (λ ns. ns ++ found_at place l.acceptances) (sym (none place));
   plain = λ place is. none place;
+  wrote = λ place is. ap (λ ns. ns ++ numbers_at place l.acceptances) (sym (unwritten place));
+  unwritten = λ place is. unwritten place;
   requests_are = refl;
 }
 
@@ -107,10 +115,23 @@ nothing-found d p place x numbers none are = by (p.place == place) refl
     by true e = are ∙ of x (ap (λ n. is_atomic (d.work n)) (eqb-true p.place place e) ∙ none)
     by false e = refl
 
+-- what is no WRITE writes nothing
+nothing-written : (d : Direction) (p : RequestPacket) (place : ℕ) (x : Reception) (count : ℕ) → is_write (d.work place) ≡ false → count ≡ written_in (d.work p.place) x → (if p.place == place then times count p.number else []) ≡ []
+nothing-written d p place x count none are = by (p.place == place) refl
+  where
+    of : (y : Reception) → is_write (d.work p.place) ≡ false → written_in (d.work p.place) y ≡ 0
+    of Neither is = refl
+    of (Rejected code) is = refl
+    of (Accepted found) is = ap (λ (b : Bool). if b then 1 else 0) is
+
+    by : (b : Bool) → (p.place == place) ≡ b → (if b then times count p.number else []) ≡ []
+    by true e = ap (λ (n : ℕ). times n p.number) (are ∙ of x (ap (λ n. is_write (d.work n)) (eqb-true p.place place e) ∙ none))
+    by false e = refl
+
 pub receiver-step : (d : Direction) (s r : Correspondent) (l : Link) (index : ℕ) (q : QueuePair) (m : Mailbox) (bytes : List ℕ) (shared : Option SharedReceives) (e : Effects) (ms : List Mark)
-    → Delivered index q m bytes shared e → numbers_found ms ≡ numbers_found e.marks → Reached d l → ReceiverTie d s r (Present q) m l.responder l.requests
-    → ReceiverStep d s r l (found_by (slice_get l.requests (later_than index m)) (numbers_found ms)) (Present e.queue) (after_delivery index m)
-receiver-step d s r l index q m bytes shared e ms x told reached tie = by tie
+    → Delivered index q m bytes shared e → numbers_found ms ≡ numbers_found e.marks → writes_told ms ≡ writes_told e.marks → Reached d l → ReceiverTie d s r (Present q) m l.responder l.requests
+    → ReceiverStep d s r l (found_by (slice_get l.requests (later_than index m)) (numbers_found ms)) (written_by_entry (slice_get l.requests (later_than index m)) (writes_told ms)) (Present e.queue) (after_delivery index m)
+receiver-step d s r l index q m bytes shared e ms x told told_writes reached tie = by tie
   where
     inner : IsInner q e
     inner = delivered-inner index q m bytes shared e x
@@ -123,7 +144,7 @@ receiver-step d s r l index q m bytes shared e ms x told reached tie = by tie
 
     meets : (t : QueuePair) → IsPaired d r s (Present q) t → l.responder ≡ responder_in t → AreEntries (SpellsRequest d) SpellsSomeResponse m.envelopes l.requests
         → (o : Option (Option RequestPacket)) → slice_get l.requests k ≡ o → EntryIs (SpellsRequest d) SpellsSomeResponse o bytes
-        → ReceiverStep d s r l (found_by o (numbers_found ms)) (Present e.queue) (after_delivery index m)
+        → ReceiverStep d s r l (found_by o (numbers_found ms)) (written_by_entry o (writes_told ms)) (Present e.queue) (after_delivery index m)
     meets t paired same entries None at entry = absurd entry
     meets t paired same entries (Some None) at entry = record {
       link = after.link;
@@ -134,6 +155,8 @@ receiver-step d s r l index q m bytes shared e ms x told reached tie = by tie
           (subst (AreEntries (SpellsRequest d) SpellsSomeResponse (after_delivery index m).envelopes) (sym after.requests_are) (delivered-entries (SpellsRequest d) SpellsSomeResponse k m.envelopes l.requests entries));
       found = λ place is. ap (found_at place) after.acceptances;
       plain = λ place is. refl;
+      wrote = λ place is. ap (numbers_at place) after.acceptances;
+      unwritten = λ place is. refl;
       requests_are = after.requests_are;
     }
       where
@@ -157,6 +180,8 @@ receiver-step d s r l index q m bytes shared e ms x told reached tie = by tie
           (subst (AreEntries (SpellsRequest d) SpellsSomeResponse (after_delivery index m).envelopes) (sym after.requests_are) (delivered-entries (SpellsRequest d) SpellsSomeResponse k m.envelopes l.requests entries));
       found = λ place is. after.found place is ∙ ap (λ ns. (if p.place == place then ns else []) ++ found_at place l.acceptances) (sym told);
       plain = λ place is. nothing-found d p place does.reception (numbers_found ms) is (told ∙ does.found);
+      wrote = λ place is. after.wrote place is ∙ ap (λ (n : ℕ). (if p.place == place then times n p.number else []) ++ numbers_at place l.acceptances) (sym told_writes);
+      unwritten = λ place is. nothing-written d p place does.reception (writes_told ms) is (told_writes ∙ does.wrote);
       requests_are = after.requests_are;
     }
       where
@@ -176,10 +201,10 @@ receiver-step d s r l index q m bytes shared e ms x told reached tie = by tie
         after : IsReceived d l p (responder_in e.queue) e
         after = (received-moves d l k p e reached may does).1
 
-    by : ReceiverTie d s r (Present q) m l.responder l.requests → ReceiverStep d s r l (found_by (slice_get l.requests k) (numbers_found ms)) (Present e.queue) (after_delivery index m)
-    by (receiver_before is responder none) = receiver-same d s r l _ (Present e.queue) (after_delivery index m) reached (λ place. none-found l.requests k (numbers_found ms) place none)
+    by : ReceiverTie d s r (Present q) m l.responder l.requests → ReceiverStep d s r l (found_by (slice_get l.requests k) (numbers_found ms)) (written_by_entry (slice_get l.requests k) (writes_told ms)) (Present e.queue) (after_delivery index m)
+    by (receiver_before is responder none) = receiver-same d s r l _ _ (Present e.queue) (after_delivery index m) reached (λ place. none-found l.requests k (numbers_found ms) place none) (λ place. none-written l.requests k (writes_told ms) place none)
         (receiver_before (before-after r q e.queue inner.incarnation inner.peer is) responder none)
-    by (receiver_gone is none) = receiver-same d s r l _ (Present e.queue) (after_delivery index m) reached (λ place. none-found l.requests k (numbers_found ms) place none)
+    by (receiver_gone is none) = receiver-same d s r l _ _ (Present e.queue) (after_delivery index m) reached (λ place. none-found l.requests k (numbers_found ms) place none) (λ place. none-written l.requests k (writes_told ms) place none)
         (receiver_gone (over-after r q e.queue inner.incarnation is) none)
     by (receiver_standing t paired same entries) = meets t paired same entries (slice_get l.requests k) refl
         (subst (EntryIs (SpellsRequest d) SpellsSomeResponse (slice_get l.requests k)) x.lent.brings (entry-at (SpellsRequest d) SpellsSomeResponse m.envelopes l.requests k x.lent.envelope entries x.lent.at))

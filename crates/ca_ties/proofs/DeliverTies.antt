@@ -22,10 +22,11 @@ use Rattle.ca_model.specs.machine.World.{Mailbox_of, World}
 use Rattle.ca_ties.proofs.DeliverLemmas.{Delivered, ReceiverStep, SenderStep, receiver-step, sender-step}
 use Rattle.ca_ties.proofs.DeliverWalk.{Changes, leads-deliver}
 use Rattle.ca_ties.proofs.EntryLemmas.{lent-envelope}
-use Rattle.ca_ties.specs.Ties.{IsTied, ReceiverTie, SenderTie, TiedAfter, found_by, found_by_delivery}
+use Rattle.ca_ties.specs.Ties.{IsTied, ReceiverTie, SenderTie, TiedAfter, found_by, found_by_delivery, written_by_delivery, written_by_entry}
 use Rattle.ca_ties.specs.Ties.RequestsAfter.{same as requests_same}
+use Rattle.ca_connection.specs.Once.{numbers_at}
 use Rattle.ca_ties_rows.specs.Links.{found_at}
-use Rattle.ca_ties_rows.specs.Moves.{numbers_found}
+use Rattle.ca_ties_rows.specs.Moves.{numbers_found, writes_told}
 
 -- what stands at a queue pair after a change of it, and after one of another
 pub stands-changed : (w v : World) (name n : QueueId) (slot : QueueSlot) (m : Mailbox) → Changes w name slot m v → queue_eq name n ≡ true → (v.queue n ≡ slot) × (v.mailbox n ≡ m)
@@ -55,22 +56,25 @@ pub sender-at : (d : Direction) (s r : Correspondent) (l : Link) (slot other : Q
 sender-at d s r l slot other m box a b tie = subst (λ x. SenderTie d s r x box l.requester l.responses) (sym a) (subst (λ x. SenderTie d s r slot x l.requester l.responses) (sym b) tie)
 
 pub deliver-ties : (d : Direction) (s r : Correspondent) (c : Configuration) (w : World) (l : Link) (name : QueueId) (index : ℕ) → IsSoundWorld c w → IsTied d s r w l
-    → Comes (λ v ms. TiedAfter d s r w l (found_by_delivery r w l name index ms) v) (step c w (events.Deliver name index))
+    → Comes (λ v ms. TiedAfter d s r w l (found_by_delivery r w l name index ms) (written_by_delivery r w l name index ms) v) (step c w (events.Deliver name index))
 deliver-ties d s r c w l name index sound tied = comes w P (deliver_plan c name index) (leads-deliver c w P name index sound
-    (λ q bytes shared e v ms is good lent ends changes told. at q bytes shared e v ms is
-    (record { sound = good; box = sound.things (Mailbox_of name); lent = lent-envelope index (w.mailbox name) bytes lent; ends = ends }) changes told (queue_eq name r.queue) refl (queue_eq name s.queue) refl))
+    (λ q bytes shared e v ms is good lent ends changes told told_writes. at q bytes shared e v ms is
+    (record { sound = good; box = sound.things (Mailbox_of name); lent = lent-envelope index (w.mailbox name) bytes lent; ends = ends }) changes told told_writes (queue_eq name r.queue) refl (queue_eq name s.queue) refl))
   where
     P : World → List Mark → Type 0
-    P v ms = TiedAfter d s r w l (found_by_delivery r w l name index ms) v
+    P v ms = TiedAfter d s r w l (found_by_delivery r w l name index ms) (written_by_delivery r w l name index ms) v
 
     -- nothing was found where another queue pair was met
     nothing : (ms : List Mark) (place : ℕ) → queue_eq name r.queue ≡ false → found_by_delivery r w l name index ms place ≡ []
     nothing ms place is = ap (λ b. if b then found_by (slice_get l.requests (later_than index (w.mailbox name))) (numbers_found ms) place else []) is
 
+    unwritten : (ms : List Mark) (place : ℕ) → queue_eq name r.queue ≡ false → written_by_delivery r w l name index ms place ≡ []
+    unwritten ms place is = ap (λ b. if b then written_by_entry (slice_get l.requests (later_than index (w.mailbox name))) (writes_told ms) place else []) is
+
     at : (q : QueuePair) (bytes : List ℕ) (shared : Option SharedReceives) (e : Effects) (v : World) (ms : List Mark) → w.queue name ≡ Present q → Delivered index q (w.mailbox name) bytes shared e
-        → Changes w name (Present e.queue) (after_delivery index (w.mailbox name)) v → numbers_found ms ≡ numbers_found e.marks
-        → (b : Bool) → queue_eq name r.queue ≡ b → (a : Bool) → queue_eq name s.queue ≡ a → TiedAfter d s r w l (found_by_delivery r w l name index ms) v
-    at q bytes shared e v ms is x changes told true here a there = record {
+        → Changes w name (Present e.queue) (after_delivery index (w.mailbox name)) v → numbers_found ms ≡ numbers_found e.marks → writes_told ms ≡ writes_told e.marks
+        → (b : Bool) → queue_eq name r.queue ≡ b → (a : Bool) → queue_eq name s.queue ≡ a → TiedAfter d s r w l (found_by_delivery r w l name index ms) (written_by_delivery r w l name index ms) v
+    at q bytes shared e v ms is x changes told told_writes true here a there = record {
       link = after.link;
       tied = record {
         apart = tied.apart;
@@ -82,6 +86,8 @@ deliver-ties d s r c w l name index sound tied = comes w P (deliver_plan c name 
       };
       found = λ place atomic. after.found place atomic ∙ ap (λ ns. ns ++ found_at place l.acceptances) (sym (ap (λ b. if b then found_by (slice_get l.requests (later_than index (w.mailbox name))) (numbers_found ms) place else []) here));
       plain = λ place none. ap (λ b. if b then found_by (slice_get l.requests (later_than index (w.mailbox name))) (numbers_found ms) place else []) here ∙ after.plain place none;
+      wrote = λ place is_so. after.wrote place is_so ∙ ap (λ ns. ns ++ numbers_at place l.acceptances) (sym (ap (λ b. if b then written_by_entry (slice_get l.requests (later_than index (w.mailbox name))) (writes_told ms) place else []) here));
+      unwritten = λ place none. ap (λ b. if b then written_by_entry (slice_get l.requests (later_than index (w.mailbox name))) (writes_told ms) place else []) here ∙ after.unwritten place none;
       requests = requests_same after.requests_are;
     }
       where
@@ -95,9 +101,9 @@ deliver-ties d s r c w l name index sound tied = comes w P (deliver_plan c name 
         before = subst (λ z. ReceiverTie d s r z (w.mailbox name) l.responder l.requests) is
             (subst (λ n. ReceiverTie d s r (w.queue n) (w.mailbox n) l.responder l.requests) (sym (queue-path name r.queue here)) tied.receiver)
 
-        after : ReceiverStep d s r l (found_by (slice_get l.requests (later_than index (w.mailbox name))) (numbers_found ms)) (Present e.queue) (after_delivery index (w.mailbox name))
-        after = receiver-step d s r l index q (w.mailbox name) bytes shared e ms x told tied.reached before
-    at q bytes shared e v ms is x changes told false here true there = record {
+        after : ReceiverStep d s r l (found_by (slice_get l.requests (later_than index (w.mailbox name))) (numbers_found ms)) (written_by_entry (slice_get l.requests (later_than index (w.mailbox name))) (writes_told ms)) (Present e.queue) (after_delivery index (w.mailbox name))
+        after = receiver-step d s r l index q (w.mailbox name) bytes shared e ms x told told_writes tied.reached before
+    at q bytes shared e v ms is x changes told told_writes false here true there = record {
       link = after.link;
       tied = record {
         apart = tied.apart;
@@ -108,6 +114,8 @@ deliver-ties d s r c w l name index sound tied = comes w P (deliver_plan c name 
             (subst (λ z. ReceiverTie d s r (w.queue r.queue) (w.mailbox r.queue) l.responder z) (sym after.requests_are) tied.receiver));
       };
       found = λ place atomic. ap (found_at place) after.acceptances ∙ ap (λ ns. ns ++ found_at place l.acceptances) (sym (nothing ms place here));
+      wrote = λ place is_so. ap (numbers_at place) after.acceptances ∙ ap (λ ns. ns ++ numbers_at place l.acceptances) (sym (unwritten ms place here));
+      unwritten = λ place none. unwritten ms place here;
       plain = λ place none. nothing ms place here;
       requests = requests_same after.requests_are;
     }
@@ -124,7 +132,7 @@ deliver-ties d s r c w l name index sound tied = comes w P (deliver_plan c name 
 
         after : SenderStep d s r l (Present e.queue) (after_delivery index (w.mailbox name))
         after = sender-step d s r l index q (w.mailbox name) bytes shared e x tied.reached before
-    at q bytes shared e v ms is x changes told false here false there = record {
+    at q bytes shared e v ms is x changes told told_writes false here false there = record {
       link = l;
       tied = record {
         apart = tied.apart;
@@ -133,6 +141,8 @@ deliver-ties d s r c w l name index sound tied = comes w P (deliver_plan c name 
         receiver = receiver-at d s r l (w.queue r.queue) (v.queue r.queue) (w.mailbox r.queue) (v.mailbox r.queue) receives.0 receives.1 tied.receiver;
       };
       found = λ place atomic. ap (λ ns. ns ++ found_at place l.acceptances) (sym (nothing ms place here));
+      wrote = λ place is_so. ap (λ ns. ns ++ numbers_at place l.acceptances) (sym (unwritten ms place here));
+      unwritten = λ place none. unwritten ms place here;
       plain = λ place none. nothing ms place here;
       requests = requests_same refl;
     }

@@ -24,7 +24,7 @@ use Rattle.ca_model.specs.machine.Row.{Does, Effects, Ending, NotPossible, Row, 
 use Rattle.ca_model.specs.machine.Sound.{IsQueueOf, IsSoundWorld}
 use Rattle.ca_model.specs.machine.World.{Byte_at, Cq_of, Domain_of, Mailbox_of, Name, Queue_of, Region_of, Srq_of, Thing, Window_of, World, put}
 use Rattle.ca_model.specs.machine.Invariants.{IsQueue}
-use Rattle.ca_ties_rows.specs.Moves.{EndingLeads, RowLeads, numbers_found}
+use Rattle.ca_ties_rows.specs.Moves.{EndingLeads, RowLeads, numbers_found, writes_told}
 
 -- an ending of a row
 pub data Ends (row : Row) (e : Effects) : Type 0 where
@@ -109,7 +109,7 @@ Changes w name slot m v = Has (with_at queue_eq w.queue name slot) (with_at queu
 -- a delivery changes the queue pair by an ending of its row, and counts in the mailbox
 pub leads-deliver : (c : Configuration) (w : World) (P : World → List Mark → Type 0) (name : QueueId) (index : ℕ) → IsSoundWorld c w
     → ((q : QueuePair) (bytes : List ℕ) (shared : Option SharedReceives) (e : Effects) (v : World) (ms : List Mark) → w.queue name ≡ Present q → IsQueue q → bytes_lent index (w.mailbox name) ≡ Some bytes
-    → Ends (arrival_row bytes (Some index) shared q) e → Changes w name (Present e.queue) (after_delivery index (w.mailbox name)) v → numbers_found ms ≡ numbers_found e.marks → P v ms)
+    → Ends (arrival_row bytes (Some index) shared q) e → Changes w name (Present e.queue) (after_delivery index (w.mailbox name)) v → numbers_found ms ≡ numbers_found e.marks → writes_told ms ≡ writes_told e.marks → P v ms)
     → Leads w P (deliver_plan c name index)
 leads-deliver c w P name index sound more = (λ has. lent (bytes_lent index m) refl, λ none. record {})
   where
@@ -154,7 +154,7 @@ leads-deliver c w P name index sound more = (λ has. lent (bytes_lent index m) r
             (subst (λ n. Has (with_at queue_eq w.queue n (Present e.queue)) (with_at queue_eq w.mailbox name after) (write_all ws (put_all (updates_of q a e ++ cs) boxed))) there.0
             (has-writes _ _ ws (put_all (updates_of q a e ++ cs) boxed)
             (subst (Has (with_at queue_eq w.queue q.queue (Present e.queue)) (with_at queue_eq w.mailbox name after)) (sym (puts-append (updates_of q a e) cs boxed))
-            (has-aside _ _ cs (put_all (updates_of q a e) boxed) aside (has-turn boxed q a e))))) refl
+            (has-aside _ _ cs (put_all (updates_of q a e) boxed) aside (has-turn boxed q a e))))) refl refl
 
     slot : (bytes : List ℕ) → bytes_lent index m ≡ Some bytes → (s : QueueSlot) → w.queue name ≡ s → Leads w P (at bytes s)
     slot bytes lent (NoQueue incarnation timers) is = record {}

@@ -69,13 +69,13 @@ has-left queues boxes q a v has = by q.srq a.shared
     by (Some srq) (Some slot) = record { queue = has.queue; mailbox = has.mailbox }
 
 pub destroy-ties : (d : Direction) (s r : Correspondent) (c : Configuration) (w : World) (l : Link) (by : ℕ) (slot : Slot) → IsSoundWorld c w → IsTied d s r w l
-    → Comes (λ v ms. TiedAfter d s r w l (λ place. []) v) (step c w (events.Verb by (verbs.DestroyQp slot)))
+    → Comes (λ v ms. TiedAfter d s r w l (λ place. []) (λ place. []) v) (step c w (events.Verb by (verbs.DestroyQp slot)))
 destroy-ties d s r c w l by slot sound tied = comes w P (plan c (events.Verb by (verbs.DestroyQp slot))) ((λ named. at (w.queue (queue_of slot)) refl), λ none. same)
   where
     P : World → List Mark → Type 0
-    P v ms = TiedAfter d s r w l (λ place. []) v
+    P v ms = TiedAfter d s r w l (λ place. []) (λ place. []) v
 
-    same : TiedAfter d s r w l (λ place. []) w
+    same : TiedAfter d s r w l (λ place. []) (λ place. []) w
     same = joined-neither d s r w w l tied refl refl refl refl
 
     call : Call

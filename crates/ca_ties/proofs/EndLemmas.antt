@@ -65,7 +65,7 @@ cleared-responses : (d : Direction) (s r : Correspondent) (w : World) (l : Link)
 cleared-responses d s r w l tied = record { link = record l { responses = [] }; reached = move tied.reached clear_responses; requester_is = refl; responder_is = refl; requests_are = refl; responses_are = refl; acceptances = refl; completions = refl }
 
 pub end-ties : (d : Direction) (s r : Correspondent) (w v : World) (l : Link) (name : QueueId) (other : QueueSlot) (m : Mailbox) → Changes w name other m v → IsEnd (w.queue name) other → IsTied d s r w l
-    → TiedAfter d s r w l (λ place. []) v
+    → TiedAfter d s r w l (λ place. []) (λ place. []) v
 end-ties d s r w v l name other m changes end tied = by (queue_eq name r.queue) refl (queue_eq name s.queue) refl
   where
     sender-else : queue_eq name s.queue ≡ false → SenderTie d s r (v.queue s.queue) (v.mailbox s.queue) l.requester l.responses
@@ -74,7 +74,7 @@ end-ties d s r w v l name other m changes end tied = by (queue_eq name r.queue) 
     receiver-else : queue_eq name r.queue ≡ false → ReceiverTie d s r (v.queue r.queue) (v.mailbox r.queue) l.responder l.requests
     receiver-else none = let still = stands-still w v name r.queue other m changes none in receiver-at d s r l (w.queue r.queue) (v.queue r.queue) (w.mailbox r.queue) (v.mailbox r.queue) still.0 still.1 tied.receiver
 
-    at-receiver : queue_eq name r.queue ≡ true → queue_eq name s.queue ≡ false → ReceiverTie d s r (w.queue name) (w.mailbox r.queue) l.responder l.requests → TiedAfter d s r w l (λ place. []) v
+    at-receiver : queue_eq name r.queue ≡ true → queue_eq name s.queue ≡ false → ReceiverTie d s r (w.queue name) (w.mailbox r.queue) l.responder l.requests → TiedAfter d s r w l (λ place. []) (λ place. []) v
     at-receiver here elsewhere (receiver_before is same none) = assembled d s r w v l l.requester l.responder l.requests l.responses tied.apart (stay d l tied.reached) (requests_same refl) (sender-else elsewhere)
         (subst (λ z. ReceiverTie d s r z (v.mailbox r.queue) l.responder l.requests) (sym (stands-changed w v name r.queue other m changes here).0) (now (end.before r is)))
       where
@@ -88,7 +88,7 @@ end-ties d s r w v l name other m changes end tied = by (queue_eq name r.queue) 
         (sender-else elsewhere)
         (subst (λ z. ReceiverTie d s r z (v.mailbox r.queue) l.responder []) (sym (stands-changed w v name r.queue other m changes here).0) (receiver_gone (end.there r t paired.present paired.incarnation) refl))
 
-    at-sender : queue_eq name s.queue ≡ true → queue_eq name r.queue ≡ false → SenderTie d s r (w.queue name) (w.mailbox s.queue) l.requester l.responses → TiedAfter d s r w l (λ place. []) v
+    at-sender : queue_eq name s.queue ≡ true → queue_eq name r.queue ≡ false → SenderTie d s r (w.queue name) (w.mailbox s.queue) l.requester l.responses → TiedAfter d s r w l (λ place. []) (λ place. []) v
     at-sender here elsewhere (sender_before is same none) = assembled d s r w v l l.requester l.responder l.requests l.responses tied.apart (stay d l tied.reached) (requests_same refl)
         (subst (λ z. SenderTie d s r z (v.mailbox s.queue) l.requester l.responses) (sym (stands-changed w v name s.queue other m changes here).0) (now (end.before s is))) (receiver-else elsewhere)
       where
@@ -100,7 +100,7 @@ end-ties d s r w v l name other m changes end tied = by (queue_eq name r.queue) 
     at-sender here elsewhere (sender_standing t paired own entries) = assembled d s r w v l l.requester l.responder l.requests [] tied.apart (cleared-responses d s r w l tied) (requests_same refl)
         (subst (λ z. SenderTie d s r z (v.mailbox s.queue) l.requester []) (sym (stands-changed w v name s.queue other m changes here).0) (sender_gone (end.there s t paired.present paired.incarnation) refl)) (receiver-else elsewhere)
 
-    by : (b : Bool) → queue_eq name r.queue ≡ b → (a : Bool) → queue_eq name s.queue ≡ a → TiedAfter d s r w l (λ place. []) v
+    by : (b : Bool) → queue_eq name r.queue ≡ b → (a : Bool) → queue_eq name s.queue ≡ a → TiedAfter d s r w l (λ place. []) (λ place. []) v
     by true here a there = at-receiver here (other-name name s.queue r.queue tied.apart here) (subst (λ z. ReceiverTie d s r z (w.mailbox r.queue) l.responder l.requests) (ap w.queue (sym (queue-path name r.queue here))) tied.receiver)
     by false none true here = at-sender here none (subst (λ z. SenderTie d s r z (w.mailbox s.queue) l.requester l.responses) (ap w.queue (sym (queue-path name s.queue here))) tied.sender)
     by false none false nowhere = assembled d s r w v l l.requester l.responder l.requests l.responses tied.apart (stay d l tied.reached) (requests_same refl) (sender-else nowhere) (receiver-else none)
@@ -150,17 +150,17 @@ error-quiet q w name there = record {
 }
 
 pub modify-ties : (d : Direction) (s r : Correspondent) (c : Configuration) (w : World) (l : Link) (by : ℕ) (slot : Slot) → IsSoundWorld c w → IsTied d s r w l
-    → Comes (λ v ms. TiedAfter d s r w l (λ place. []) v) (step c w (events.Verb by (verbs.ModifyQp slot changes.Error)))
-    × Comes (λ v ms. TiedAfter d s r w l (λ place. []) v) (step c w (events.Verb by (verbs.ModifyQp slot changes.Reset)))
+    → Comes (λ v ms. TiedAfter d s r w l (λ place. []) (λ place. []) v) (step c w (events.Verb by (verbs.ModifyQp slot changes.Error)))
+    × Comes (λ v ms. TiedAfter d s r w l (λ place. []) (λ place. []) v) (step c w (events.Verb by (verbs.ModifyQp slot changes.Reset)))
 modify-ties d s r c w l by slot sound tied = (
   comes w P (plan c (events.Verb by (verbs.ModifyQp slot changes.Error))) ((λ named. error (w.queue (queue_of slot)) refl), λ none. same),
   comes w P (plan c (events.Verb by (verbs.ModifyQp slot changes.Reset))) ((λ named. reset (w.queue (queue_of slot)) refl), λ none. same),
 )
   where
     P : World → List Mark → Type 0
-    P v ms = TiedAfter d s r w l (λ place. []) v
+    P v ms = TiedAfter d s r w l (λ place. []) (λ place. []) v
 
-    same : TiedAfter d s r w l (λ place. []) w
+    same : TiedAfter d s r w l (λ place. []) (λ place. []) w
     same = joined-neither d s r w w l tied refl refl refl refl
 
     error_call : Call

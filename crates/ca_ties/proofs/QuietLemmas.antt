@@ -23,6 +23,7 @@ use Rattle.ca_ties.specs.Ties.SenderTie.{before as sender_before, standing as se
 use Rattle.ca_ties.specs.Ties.RequestsAfter.{same as requests_same}
 use Rattle.ca_ties_rows.proofs.LinkLemmas.{back-moves, forgotten-moves}
 use Rattle.ca_ties_rows.specs.Entries.{SpellsRequest, SpellsResponse, SpellsSomeRequest, SpellsSomeResponse}
+use Rattle.ca_connection.specs.Once.{numbers_at}
 use Rattle.ca_ties_rows.specs.Links.{LeadsTo, found_at}
 use Rattle.ca_ties_rows.specs.Moves.{ForgetsIn, GoesBackIn, LeavesState}
 use Rattle.ca_ties_rows.specs.Sides.{IsLaid, requester_in, responder_in}
@@ -36,11 +37,11 @@ pub record IsQuiet (q : QueuePair) (e : Effects) : Type 0 where
   pub responder : (d : Direction) → q.responder.mtu ≡ d.mtu → ForgetsIn d (responder_in q) e
 
 pub quiet-receiver : (d : Direction) (s r : Correspondent) (l : Link) (q : QueuePair) (m : Mailbox) (e : Effects) → IsQuiet q e → Reached d l → ReceiverTie d s r (Present q) m l.responder l.requests
-    → ReceiverStep d s r l (λ place. []) (Present e.queue) m
+    → ReceiverStep d s r l (λ place. []) (λ place. []) (Present e.queue) m
 quiet-receiver d s r l q m e quiet reached (receiver_before is responder none) =
-    receiver-same d s r l (λ place. []) (Present e.queue) m reached (λ place. refl) (receiver_before (before-after r q e.queue quiet.incarnation quiet.peer is) responder none)
+    receiver-same d s r l (λ place. []) (λ place. []) (Present e.queue) m reached (λ place. refl) (λ place. refl) (receiver_before (before-after r q e.queue quiet.incarnation quiet.peer is) responder none)
 quiet-receiver d s r l q m e quiet reached (receiver_gone is none) =
-    receiver-same d s r l (λ place. []) (Present e.queue) m reached (λ place. refl) (receiver_gone (over-after r q e.queue quiet.incarnation is) none)
+    receiver-same d s r l (λ place. []) (λ place. []) (Present e.queue) m reached (λ place. refl) (λ place. refl) (receiver_gone (over-after r q e.queue quiet.incarnation is) none)
 quiet-receiver d s r l q m e quiet reached (receiver_standing t paired same entries) = record {
   link = after.link;
   reached = after.reached;
@@ -50,6 +51,8 @@ quiet-receiver d s r l q m e quiet reached (receiver_standing t paired same entr
       (subst (AreEntries (SpellsRequest d) SpellsSomeResponse m.envelopes) (sym after.requests_are) entries);
   found = λ place is. ap (found_at place) after.acceptances;
   plain = λ place is. refl;
+  wrote = λ place is. ap (numbers_at place) after.acceptances;
+  unwritten = λ place is. refl;
   requests_are = after.requests_are;
 }
   where
@@ -108,9 +111,9 @@ abbrev pub Turned : World → QueueId → QueueSlot → World → Type 0
 Turned w name slot v = Has (with_at queue_eq w.queue name slot) w.mailbox v
 
 -- the two ends after a change, put together
-pub joined-receiver : (d : Direction) (s r : Correspondent) (w v : World) (l : Link) (acted : ℕ → List ℕ) (slot : QueueSlot) (m : Mailbox) → IsTied d s r w l → v.queue s.queue ≡ w.queue s.queue → v.mailbox s.queue ≡ w.mailbox s.queue
-    → v.queue r.queue ≡ slot → v.mailbox r.queue ≡ m → ReceiverStep d s r l acted slot m → TiedAfter d s r w l acted v
-joined-receiver d s r w v l acted slot m tied sq sm rq rm after = record {
+pub joined-receiver : (d : Direction) (s r : Correspondent) (w v : World) (l : Link) (acted written : ℕ → List ℕ) (slot : QueueSlot) (m : Mailbox) → IsTied d s r w l → v.queue s.queue ≡ w.queue s.queue → v.mailbox s.queue ≡ w.mailbox s.queue
+    → v.queue r.queue ≡ slot → v.mailbox r.queue ≡ m → ReceiverStep d s r l acted written slot m → TiedAfter d s r w l acted written v
+joined-receiver d s r w v l acted written slot m tied sq sm rq rm after = record {
   link = after.link;
   tied = record {
     apart = tied.apart;
@@ -122,11 +125,13 @@ joined-receiver d s r w v l acted slot m tied sq sm rq rm after = record {
   };
   found = after.found;
   plain = after.plain;
+  wrote = after.wrote;
+  unwritten = after.unwritten;
   requests = requests_same after.requests_are;
 }
 
 pub joined-sender : (d : Direction) (s r : Correspondent) (w v : World) (l : Link) (slot : QueueSlot) (m : Mailbox) → IsTied d s r w l → v.queue r.queue ≡ w.queue r.queue → v.mailbox r.queue ≡ w.mailbox r.queue
-    → v.queue s.queue ≡ slot → v.mailbox s.queue ≡ m → SenderStep d s r l slot m → TiedAfter d s r w l (λ place. []) v
+    → v.queue s.queue ≡ slot → v.mailbox s.queue ≡ m → SenderStep d s r l slot m → TiedAfter d s r w l (λ place. []) (λ place. []) v
 joined-sender d s r w v l slot m tied rq rm sq sm after = record {
   link = after.link;
   tied = record {
@@ -139,11 +144,13 @@ joined-sender d s r w v l slot m tied rq rm sq sm after = record {
   };
   found = λ place atomic. ap (found_at place) after.acceptances;
   plain = λ place none. refl;
+  wrote = λ place is_so. ap (numbers_at place) after.acceptances;
+  unwritten = λ place none. refl;
   requests = requests_same after.requests_are;
 }
 
 pub joined-neither : (d : Direction) (s r : Correspondent) (w v : World) (l : Link) → IsTied d s r w l → v.queue r.queue ≡ w.queue r.queue → v.mailbox r.queue ≡ w.mailbox r.queue
-    → v.queue s.queue ≡ w.queue s.queue → v.mailbox s.queue ≡ w.mailbox s.queue → TiedAfter d s r w l (λ place. []) v
+    → v.queue s.queue ≡ w.queue s.queue → v.mailbox s.queue ≡ w.mailbox s.queue → TiedAfter d s r w l (λ place. []) (λ place. []) v
 joined-neither d s r w v l tied rq rm sq sm = record {
   link = l;
   tied = record {
@@ -154,6 +161,8 @@ joined-neither d s r w v l tied rq rm sq sm = record {
   };
   found = λ place atomic. refl;
   plain = λ place none. refl;
+  wrote = λ place is_so. refl;
+  unwritten = λ place none. refl;
   requests = requests_same refl;
 }
 
@@ -167,11 +176,11 @@ pub turned-mail : (w v : World) (name n : QueueId) (slot : QueueSlot) → Turned
 turned-mail w v name n slot turned = ap (λ (f : QueueId → Mailbox). f n) turned.mailbox
 
 pub quiet-ties : (d : Direction) (s r : Correspondent) (w v : World) (l : Link) (name : QueueId) (q : QueuePair) (e : Effects) → w.queue name ≡ Present q → IsQuiet q e → Turned w name (Present e.queue) v → IsTied d s r w l
-    → TiedAfter d s r w l (λ place. []) v
+    → TiedAfter d s r w l (λ place. []) (λ place. []) v
 quiet-ties d s r w v l name q e is quiet turned tied = by (queue_eq name r.queue) refl (queue_eq name s.queue) refl
   where
-    by : (b : Bool) → queue_eq name r.queue ≡ b → (a : Bool) → queue_eq name s.queue ≡ a → TiedAfter d s r w l (λ place. []) v
-    by true here a there = joined-receiver d s r w v l (λ place. []) (Present e.queue) (w.mailbox r.queue) tied
+    by : (b : Bool) → queue_eq name r.queue ≡ b → (a : Bool) → queue_eq name s.queue ≡ a → TiedAfter d s r w l (λ place. []) (λ place. []) v
+    by true here a there = joined-receiver d s r w v l (λ place. []) (λ place. []) (Present e.queue) (w.mailbox r.queue) tied
         (turned-elsewhere w v name s.queue (Present e.queue) turned (other-name name s.queue r.queue tied.apart here)) (turned-mail w v name s.queue (Present e.queue) turned)
         (turned-here w v name r.queue (Present e.queue) turned here) (turned-mail w v name r.queue (Present e.queue) turned)
         (quiet-receiver d s r l q (w.mailbox r.queue) e quiet tied.reached

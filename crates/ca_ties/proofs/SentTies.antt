@@ -33,6 +33,7 @@ use Rattle.ca_ties.specs.Ties.ReceiverTie.{before as receiver_before, standing a
 use Rattle.ca_ties.specs.Ties.SenderTie.{before as sender_before, standing as sender_standing, gone as sender_gone}
 use Rattle.ca_ties_rows.proofs.LinkLemmas.{forgotten-moves, sent-moves, sent-nowhere-moves}
 use Rattle.ca_ties_rows.specs.Entries.{SpellsSomeRequest}
+use Rattle.ca_connection.specs.Once.{numbers_at}
 use Rattle.ca_ties_rows.specs.Links.{LeadsTo, found_at}
 use Rattle.ca_ties_rows.specs.Moves.{ForgetsIn, LeavesState, SendsIn}
 use Rattle.ca_ties_rows.specs.Sides.{IsLaid, requester_in, responder_in}
@@ -74,7 +75,7 @@ one-request d l true requester responder requests responses to = record {
 -- both ends say what that link says
 abbrev pub assembled : (d : Direction) (s r : Correspondent) (w v : World) (l : Link) (requester : Requester) (responder : Responder) (requests : List (Option RequestPacket)) (responses : List (Option Response)) → queue_eq s.queue r.queue ≡ false
     → LeadsTo d l requester responder requests responses → RequestsAfter r w v l.requests requests → SenderTie d s r (v.queue s.queue) (v.mailbox s.queue) requester responses
-    → ReceiverTie d s r (v.queue r.queue) (v.mailbox r.queue) responder requests → TiedAfter d s r w l (λ place. []) v
+    → ReceiverTie d s r (v.queue r.queue) (v.mailbox r.queue) responder requests → TiedAfter d s r w l (λ place. []) (λ place. []) v
 assembled d s r w v l requester responder requests responses apart to after sender receiver = record {
   link = to.link;
   tied = record {
@@ -87,6 +88,8 @@ assembled d s r w v l requester responder requests responses apart to after send
   };
   found = λ place atomic. ap (found_at place) to.acceptances;
   plain = λ place none. refl;
+  wrote = λ place is_so. ap (numbers_at place) to.acceptances;
+  unwritten = λ place none. refl;
   requests = subst (RequestsAfter r w v l.requests) (sym to.requests_are) after;
 }
 

@@ -60,13 +60,13 @@ found-at c w name q sound is = by (subst (IsQueueOf name) is (sound.things (Queu
     by s = record { is = is; named = s.0; sound = s.2 }
 
 pub timeout-ties : (d : Direction) (s r : Correspondent) (c : Configuration) (w : World) (l : Link) (name : QueueId) (hasten : Bool) → IsSoundWorld c w → IsTied d s r w l
-    → Comes (λ v ms. TiedAfter d s r w l (λ place. []) v) (step c w (events.Timeout name hasten))
+    → Comes (λ v ms. TiedAfter d s r w l (λ place. []) (λ place. []) v) (step c w (events.Timeout name hasten))
 timeout-ties d s r c w l name hasten sound tied = comes w P (timeout_plan c name hasten)
     (leads-queue c w P name reasons.State (λ q. Look (Mailbox_of name) (λ own. With_around q (λ a. Timeout_around hasten q own a q.peer)))
     (λ q is. leads-around w P q (λ a. Timeout_around hasten q (w.mailbox name) a q.peer) (by q (found-at c w name q sound is) q.peer)))
   where
     P : World → List Mark → Type 0
-    P v ms = TiedAfter d s r w l (λ place. []) v
+    P v ms = TiedAfter d s r w l (λ place. []) (λ place. []) v
 
     fire : (q : QueuePair) → IsFoundAt w name q → (silent : Bool) → Leads w P (Fire hasten q (around_in w q (shared_of w q)) silent)
     fire q there silent = leads-unless w P (timeout_refusals silent hasten q) Stuck
@@ -82,11 +82,11 @@ timeout-ties d s r c w l name hasten sound tied = comes w P (timeout_plan c name
     by q there (Some peer) = fire q there _
 
 pub wake-ties : (d : Direction) (s r : Correspondent) (c : Configuration) (w : World) (l : Link) (name : QueueId) → IsSoundWorld c w → IsTied d s r w l
-    → Comes (λ v ms. TiedAfter d s r w l (λ place. []) v) (step c w (events.RnrWake name))
+    → Comes (λ v ms. TiedAfter d s r w l (λ place. []) (λ place. []) v) (step c w (events.RnrWake name))
 wake-ties d s r c w l name sound tied = comes w P (wake_plan c name) (leads-queue c w P name reasons.State (λ q. waking q q.peer) (λ q is. by q (found-at c w name q sound is) q.peer))
   where
     P : World → List Mark → Type 0
-    P v ms = TiedAfter d s r w l (λ place. []) v
+    P v ms = TiedAfter d s r w l (λ place. []) (λ place. []) v
 
     wakes : QueuePair → Bool → Plan
     wakes q empty = unless_refused (wake_refusals empty q) Stuck (Finish ((Queue_of q.queue := Present (after_wake q).queue) ∷ []) [] (after_wake q).marks)

@@ -67,7 +67,7 @@ spelt-boxes w q p lot e request is = ap (λ o. boxes_after w q p lot (packet o))
     packet (Spelt request) = Some (record { request = request; bytes = e.spelt })
 
 -- a turn that sends nothing
-untold : {d : Direction} {s r : Correspondent} {w v : World} {l : Link} {ms : List Mark} → ((n : QueueId) → sent_to n ms ≡ []) → TiedAfter d s r w l (λ place. []) v → TurnAfter d s r w l ms v
+untold : {d : Direction} {s r : Correspondent} {w v : World} {l : Link} {ms : List Mark} → ((n : QueueId) → sent_to n ms ≡ []) → TiedAfter d s r w l (λ place. []) (λ place. []) v → TurnAfter d s r w l ms v
 untold none after = record { after = after; told = silent none }
 
 respond-one : (d : Direction) (s r : Correspondent) (w v : World) (l : Link) (name : QueueId) (q : QueuePair) (p : Correspondent) (lot : Lot) (room : Bool) (e : Effects) → IsFoundAt w name q → q.peer ≡ Some p → MailFollows w
@@ -180,16 +180,16 @@ request-turn d s r c w l name lot sound follows tied = comes w P (request_plan c
     P v ms = TurnAfter d s r w l ms v
 
     Tied : World → List Mark → Type 0
-    Tied v ms = TiedAfter d s r w l (λ place. []) v
+    Tied v ms = TiedAfter d s r w l (λ place. []) (λ place. []) v
 
     Own : World → List Mark → Type 0
     Own v ms = AreOwn ms
 
     Both : World → List Mark → Type 0
-    Both v ms = TiedAfter d s r w l (λ place. []) v × AreOwn ms
+    Both v ms = TiedAfter d s r w l (λ place. []) (λ place. []) v × AreOwn ms
 
     performed : (q : QueuePair) → IsFoundAt w name q → (e : Effects) (cs : List Update) (ws : List Write) → IsQuiet q e → AreAside cs
-        → TiedAfter d s r w l (λ place. []) (write_all ws (put_all (updates_of q (around_in w q (shared_of w q)) e ++ cs) w))
+        → TiedAfter d s r w l (λ place. []) (λ place. []) (write_all ws (put_all (updates_of q (around_in w q (shared_of w q)) e ++ cs) w))
     performed q there e cs ws quiet aside = quiet-ties d s r w (write_all ws (put_all us w)) l name q e there.is quiet
         (has-writes (with_at queue_eq w.queue name (Present e.queue)) w.mailbox ws (put_all us w)
         (subst (λ n. Has (with_at queue_eq w.queue n (Present e.queue)) w.mailbox (put_all us w)) there.named
@@ -213,14 +213,14 @@ request-turn d s r c w l name lot sound follows tied = comes w P (request_plan c
         (λ e v ms ends has are. request-one d s r w v l name q p lot (has_room_for q p (w.mailbox p.queue)) n e there is turn follows tied ends has ms are)
 
 -- the same of the ties alone
-turn-ties : (d : Direction) (s r : Correspondent) (w : World) (l : Link) (o : Outcome) → Comes (λ v ms. TurnAfter d s r w l ms v) o → Comes (λ v ms. TiedAfter d s r w l (λ place. []) v) o
+turn-ties : (d : Direction) (s r : Correspondent) (w : World) (l : Link) (o : Outcome) → Comes (λ v ms. TurnAfter d s r w l ms v) o → Comes (λ v ms. TiedAfter d s r w l (λ place. []) (λ place. []) v) o
 turn-ties d s r w l (NotReady reason) turn = turn
 turn-ties d s r w l (Did v ms) turn = turn.after
 
 pub respond-ties : (d : Direction) (s r : Correspondent) (c : Configuration) (w : World) (l : Link) (name : QueueId) (lot : Lot) → IsSoundWorld c w → MailFollows w → IsTied d s r w l
-    → Comes (λ v ms. TiedAfter d s r w l (λ place. []) v) (step c w (events.Respond name lot))
+    → Comes (λ v ms. TiedAfter d s r w l (λ place. []) (λ place. []) v) (step c w (events.Respond name lot))
 respond-ties d s r c w l name lot sound follows tied = turn-ties d s r w l (step c w (events.Respond name lot)) (respond-turn d s r c w l name lot sound follows tied)
 
 pub request-plan-ties : (d : Direction) (s r : Correspondent) (c : Configuration) (w : World) (l : Link) (name : QueueId) (lot : Lot) → IsSoundWorld c w → MailFollows w → IsTied d s r w l
-    → Comes (λ v ms. TiedAfter d s r w l (λ place. []) v) (step c w (events.Request name lot))
+    → Comes (λ v ms. TiedAfter d s r w l (λ place. []) (λ place. []) v) (step c w (events.Request name lot))
 request-plan-ties d s r c w l name lot sound follows tied = turn-ties d s r w l (step c w (events.Request name lot)) (request-turn d s r c w l name lot sound follows tied)

@@ -7,9 +7,10 @@ use Rattle.ca_base.specs.declared.correspondent.Correspondent.{Correspondent}
 use Rattle.ca_base.specs.declared.mail_envelope.MailEnvelope.{MailEnvelope}
 use Rattle.ca_base.specs.objects.Mailbox.{Mailbox, later_than}
 use Rattle.ca_base.specs.objects.QueuePair.{QueuePair, QueueSlot, Present, incarnation_of, is_present}
-use Rattle.ca_connection.specs.Layout.{Direction, is_atomic}
+use Rattle.ca_connection.specs.Layout.{Direction, is_atomic, is_write}
 use Rattle.ca_connection.specs.Link.{Link, RequestPacket, Requester, Responder, Response, opening}
 use Rattle.ca_connection.specs.Moves.{Reached}
+use Rattle.ca_connection.specs.Once.{numbers_at}
 use Rattle.ca_keys.specs.Equal.{queue_eq}
 use Rattle.ca_keys.specs.declared.names.QueueId.{QueueId}
 use Rattle.ca_model.specs.declared.mark.Mark.{Mark}
@@ -19,8 +20,8 @@ use Rattle.ca_model.specs.declared.verb.Verb.TheVariants as verbs
 use Rattle.ca_model.specs.machine.Invariants.{is_sending}
 use Rattle.ca_model.specs.machine.World.{World}
 use Rattle.ca_ties_rows.specs.Entries.{SpellsRequest, SpellsResponse, SpellsSomeRequest, SpellsSomeResponse}
-use Rattle.ca_ties_rows.specs.Links.{found_at}
-use Rattle.ca_ties_rows.specs.Moves.{numbers_found}
+use Rattle.ca_ties_rows.specs.Links.{found_at, times}
+use Rattle.ca_ties_rows.specs.Moves.{numbers_found, writes_told}
 use Rattle.ca_ties_rows.specs.Sides.{IsLaid, requester_in, responder_in}
 
 -- the envelopes of a mailbox, the newest first, stand for entries of a link: each is of one of this direction's packets, or
@@ -82,13 +83,16 @@ pub data RequestsAfter (r : Correspondent) (w v : World) (before after : List (O
   ended : after ≡ [] → is_present (w.queue r.queue) ≡ true → IsOver r (v.queue r.queue) → RequestsAfter r w v before after
   grown : (x : Option RequestPacket) → after ≡ x ∷ before → (v.mailbox r.queue).next ≡ suc (w.mailbox r.queue).next → RequestsAfter r w v before after
 
--- An event leads from one world to another with these numbers found, by the place of their requests: a link says the same of
--- the direction afterwards, its atomics found these more, and no other request found any.
-pub record TiedAfter (d : Direction) (s r : Correspondent) (w : World) (l : Link) (acted : ℕ → List ℕ) (v : World) : Type 0 where
+-- An event leads from one world to another with these numbers found by atomics, and these packets of WRITEs written, by the
+-- place of their requests: a link says the same of the direction afterwards, its atomics found these more and no other request
+-- found any, and of its WRITEs these packets more were accepted, and no packet of another request wrote.
+pub record TiedAfter (d : Direction) (s r : Correspondent) (w : World) (l : Link) (acted written : ℕ → List ℕ) (v : World) : Type 0 where
   pub link : Link
   pub tied : IsTied d s r v link
   pub found : (place : ℕ) → is_atomic (d.work place) ≡ true → found_at place link.acceptances ≡ acted place ++ found_at place l.acceptances
   pub plain : (place : ℕ) → is_atomic (d.work place) ≡ false → acted place ≡ []
+  pub wrote : (place : ℕ) → is_write (d.work place) ≡ true → numbers_at place link.acceptances ≡ written place ++ numbers_at place l.acceptances
+  pub unwritten : (place : ℕ) → is_write (d.work place) ≡ false → written place ≡ []
   pub requests : RequestsAfter r w v l.requests link.requests
 
 -- the packets that were sent to a queue pair with an index, by their marks: from which queue pair, and of which request
@@ -115,7 +119,7 @@ pub data RequestsTold (d : Direction) (s r : Correspondent) (w : World) (ms : Li
 
 -- A turn leads so from one world to another, and its marks tell of the requests under way.
 pub record TurnAfter (d : Direction) (s r : Correspondent) (w : World) (l : Link) (ms : List Mark) (v : World) : Type 0 where
-  pub after : TiedAfter d s r w l (λ place. []) v
+  pub after : TiedAfter d s r w l (λ place. []) (λ place. []) v
   pub told : RequestsTold d s r w ms l.requests after.link.requests
 
 -- the numbers found at the atomic of a place, where this entry was delivered and the marks tell of these
@@ -127,6 +131,16 @@ found_by entry numbers place = []
 abbrev pub found_by_delivery : Correspondent → World → Link → QueueId → ℕ → List Mark → ℕ → List ℕ
 found_by_delivery r w l name index ms place =
     if queue_eq name r.queue then found_by (slice_get l.requests (later_than index (w.mailbox name))) (numbers_found ms) place else []
+
+-- the numbers of the packets of a WRITE that wrote, where this entry was delivered and so many remote writes are told
+abbrev pub written_by_entry : Option (Option RequestPacket) → ℕ → ℕ → List ℕ
+written_by_entry (Some (Some x)) count place = if x.place == place then times count x.number else []
+written_by_entry entry count place = []
+
+-- the same of a delivery by an index to a queue pair
+abbrev pub written_by_delivery : Correspondent → World → Link → QueueId → ℕ → List Mark → ℕ → List ℕ
+written_by_delivery r w l name index ms place =
+    if queue_eq name r.queue then written_by_entry (slice_get l.requests (later_than index (w.mailbox name))) (writes_told ms) place else []
 
 -- Each mailbox accepts the peer that its queue pair has named, for the incarnation that stands there.
 pub record MailFollows (w : World) : Type 0 where

@@ -19,7 +19,7 @@ ghost use Rattle.ca_model.specs.declared.verb.Verb.TheVariants as verbs;
 ghost use Rattle.ca_model.specs.machine.Sound.{IsSoundWorld};
 ghost use Rattle.ca_model.specs.machine.Step.{step};
 ghost use Rattle.ca_model.specs.machine.World.{World, opening_world};
-ghost use Rattle.ca_ties.specs.Ties.{IsTied, LeavesPairs, MailFollows, TiedAfter, TurnAfter, found_by_delivery};
+ghost use Rattle.ca_ties.specs.Ties.{IsTied, LeavesPairs, MailFollows, TiedAfter, TurnAfter, found_by_delivery, written_by_delivery};
 
 /// Before the first event a world is tied to the link before the first packet, for any two lives of different queue pairs
 /// that are to come.
@@ -30,12 +30,12 @@ pub fn opening_is_tied()
 {}
 
 /// A delivery of any envelope to any queue pair, in a sound world that is tied to a link, leaves a world that is tied to a
-/// link to which moves lead; and the numbers that atomics found grew by those that the marks tell of, where the packet of
-/// such a request was delivered.
+/// link to which moves lead; the numbers that atomics found grew by those that the marks tell of, where the packet of such a
+/// request was delivered; and the accepted packets of WRITEs by this one, where the marks tell of a remote write.
 pub fn delivery_keeps_ties()
     ensures { (d : Direction) (s r : Correspondent) (c : Configuration) (w : World) (l : Link) (name : QueueId)
         (index : ℕ) → IsSoundWorld c w → IsTied d s r w l
-        → Comes (λ v ms. TiedAfter d s r w l (found_by_delivery r w l name index ms) v)
+        → Comes (λ v ms. TiedAfter d s r w l (found_by_delivery r w l name index ms) (written_by_delivery r w l name index ms) v)
         (step c w (events.Deliver name index)) }
 {}
 
@@ -60,10 +60,10 @@ pub fn respond_keeps_ties()
 pub fn timers_keep_ties()
     ensures timeout { (d : Direction) (s r : Correspondent) (c : Configuration) (w : World) (l : Link)
         (name : QueueId) (hasten : Bool) → IsSoundWorld c w → IsTied d s r w l
-        → Comes (λ v ms. TiedAfter d s r w l (λ place. []) v) (step c w (events.Timeout name hasten)) }
+        → Comes (λ v ms. TiedAfter d s r w l (λ place. []) (λ place. []) v) (step c w (events.Timeout name hasten)) }
     ensures wake { (d : Direction) (s r : Correspondent) (c : Configuration) (w : World) (l : Link) (name : QueueId)
         → IsSoundWorld c w → IsTied d s r w l
-        → Comes (λ v ms. TiedAfter d s r w l (λ place. []) v) (step c w (events.RnrWake name)) }
+        → Comes (λ v ms. TiedAfter d s r w l (λ place. []) (λ place. []) v) (step c w (events.RnrWake name)) }
 {}
 
 /// Where past and world agree on paths, each mailbox accepts the peer that its queue pair named, for its incarnation.
@@ -76,9 +76,9 @@ pub fn mail_follows_paths()
 pub fn ends_keep_ties()
     ensures { (d : Direction) (s r : Correspondent) (c : Configuration) (w : World) (l : Link) (by : ℕ) (slot : Slot)
         → IsSoundWorld c w → IsTied d s r w l
-        → Comes (λ v ms. TiedAfter d s r w l (λ place. []) v)
+        → Comes (λ v ms. TiedAfter d s r w l (λ place. []) (λ place. []) v)
         (step c w (events.Verb by (verbs.ModifyQp slot changes.Error)))
-        × Comes (λ v ms. TiedAfter d s r w l (λ place. []) v)
+        × Comes (λ v ms. TiedAfter d s r w l (λ place. []) (λ place. []) v)
         (step c w (events.Verb by (verbs.ModifyQp slot changes.Reset))) }
 {}
 
@@ -86,20 +86,20 @@ pub fn ends_keep_ties()
 pub fn destroy_keeps_ties()
     ensures { (d : Direction) (s r : Correspondent) (c : Configuration) (w : World) (l : Link) (by : ℕ) (slot : Slot)
         → IsSoundWorld c w → IsTied d s r w l
-        → Comes (λ v ms. TiedAfter d s r w l (λ place. []) v) (step c w (events.Verb by (verbs.DestroyQp slot))) }
+        → Comes (λ v ms. TiedAfter d s r w l (λ place. []) (λ place. []) v) (step c w (events.Verb by (verbs.DestroyQp slot))) }
 {}
 
 /// The verbs that change no queue pair and no mailbox keep a world tied to a link.
 pub fn other_verbs_keep_ties()
     ensures { (d : Direction) (s r : Correspondent) (c : Configuration) (w : World) (l : Link) (by : ℕ) (verb : Verb)
         → LeavesPairs verb → IsTied d s r w l
-        → Comes (λ v ms. TiedAfter d s r w l (λ place. []) v) (step c w (events.Verb by verb)) }
+        → Comes (λ v ms. TiedAfter d s r w l (λ place. []) (λ place. []) v) (step c w (events.Verb by verb)) }
 {}
 
 /// CreateQp keeps a world tied to a link: a life comes that has no peer yet.
 pub fn create_keeps_ties()
     ensures { (d : Direction) (s r : Correspondent) (c : Configuration) (w : World) (l : Link) (by : ℕ) (slot : Slot)
         (send_cq recv_cq send_depth recv_depth : ℕ) (srq : Option ℕ) → IsTied d s r w l
-        → Comes (λ v ms. TiedAfter d s r w l (λ place. []) v)
+        → Comes (λ v ms. TiedAfter d s r w l (λ place. []) (λ place. []) v)
         (step c w (events.Verb by (verbs.CreateQp slot send_cq recv_cq send_depth recv_depth srq))) }
 {}

@@ -6,7 +6,7 @@ use Rattle.ca_base.specs.declared.correspondent.Correspondent.{Correspondent}
 use Rattle.ca_base.specs.declared.request.SendOp.{SendOp}
 use Rattle.ca_base.specs.declared.request.SendOp.TheVariants as ops
 use Rattle.ca_base.specs.objects.QueuePair.{QueuePair}
-use Rattle.ca_connection.specs.Layout.{Direction, bytes_left, bytes_of, is_atomic, is_data, is_read}
+use Rattle.ca_connection.specs.Layout.{Direction, bytes_left, bytes_of, is_atomic, is_data, is_read, is_write}
 use Rattle.ca_connection.specs.Link.{NakReason, RequestPacket}
 use Rattle.ca_connection.specs.Link.Response.{Ack, Nak, Data, Found}
 use Rattle.ca_keys.specs.declared.access.Kind.TheVariants.{CmpSwap, FetchAdd}
@@ -29,7 +29,7 @@ use Rattle.ca_packet.specs.declared.shape.Shape.TheVariants as shapes
 use Rattle.ca_ties_rows.proofs.DecodeLemmas.{Decoded, decoded}
 use Rattle.ca_ties_rows.proofs.ResponseRowLemmas.{IsRequestAt}
 use Rattle.ca_ties_rows.proofs.SpellLemmas.{aeth-decoded, read-decoded, result-decoded}
-use Rattle.ca_ties_rows.specs.Entries.{IsRequestOf, IsShapeOf, SpellsRequest, SpellsResponse, SpellsSomeRequest, SpellsSomeResponse, Tells}
+use Rattle.ca_ties_rows.specs.Entries.{IsRequestOf, IsShapeOf, is_write_shape, SpellsRequest, SpellsResponse, SpellsSomeRequest, SpellsSomeResponse, Tells}
 use Rattle.ca_ties_rows.specs.Sides.{work_of}
 use Rattle.ca_wire.proofs.OperationLaws.{read_response_is, send_is, write_is}
 use Rattle.ca_wire.specs.Builders.{acknowledge, atomic_acknowledge, cmp_swap, fetch_add, read_request, read_response, send_packet, write_packet}
@@ -63,11 +63,11 @@ peer-fits q s = by q.peer s.peer
 
 -- a packet that was spelt as one of this shape is one
 request-entry : (d : Direction) (x : RequestPacket) (f p : Fields) (shape : Shape) → Decoded f p → f.psn ≡ x.number % 2 ^ 24 → operation_of f.opcode ≡ Some (Request shape) → IsShapeOf (d.work x.place) shape
-    → (is_read (d.work x.place) ≡ true → IfSome p.reth (λ h. h.length ≡ bytes_left d x.place x.number)) → IsRequestOf d x p
-request-entry d x f p shape dec psn is kind asks = record {
+    → is_write (d.work x.place) ≡ is_write_shape shape → (is_read (d.work x.place) ≡ true → IfSome p.reth (λ h. h.length ≡ bytes_left d x.place x.number)) → IsRequestOf d x p
+request-entry d x f p shape dec psn is kind writes asks = record {
   shape = shape;
   is = ap shape_of dec.opcode ∙ ap request_shape is;
-  entry = record { psn = dec.psn ∙ psn; kind = kind; asks = asks };
+  entry = record { psn = dec.psn ∙ psn; kind = kind; writes = writes; asks = asks };
 }
 
 cmp-swap-is : operation_of CMP_SWAP ≡ Some (Request (shapes.Atomic CmpSwap))
@@ -105,9 +105,9 @@ request-spelt d q n payload s mtu short packet has p is = by n.request.op refl
     bytes : (op : SendOp) → n.request.op ≡ op → packet_in (spelt op) ≡ Ok p
     bytes op e = subst (λ o. packet_in (spelt o) ≡ Ok p) e is
 
-    send : (kind : SendKind) (seg : Segment) (op : SendOp) → n.request.op ≡ op → is_data (work_of op) ≡ true → is_read (work_of op) ≡ false
+    send : (kind : SendKind) (seg : Segment) (op : SendOp) → n.request.op ≡ op → is_data (work_of op) ≡ true → is_write (work_of op) ≡ false → is_read (work_of op) ≡ false
         → packet_in (spelling (send_packet kind seg n.request.solicited (peer_number q) (psn_bits q.requester.cursor) payload)) ≡ Ok p → IsRequestOf d x p
-    send kind seg op e is_of other is = request-entry d x f p (shapes.Send (position_of seg)) dec refl (send_is kind (position_of seg)) (ap is_data (work op e) ∙ is_of) (asks-none d x p (ap is_read (work op e) ∙ other))
+    send kind seg op e is_of write_is_of other is = request-entry d x f p (shapes.Send (position_of seg)) dec refl (send_is kind (position_of seg)) (ap is_data (work op e) ∙ is_of) (ap is_write (work op e) ∙ write_is_of) (asks-none d x p (ap is_read (work op e) ∙ other))
       where
         f : Fields
         f = send_packet kind seg n.request.solicited (peer_number q) (psn_bits q.requester.cursor) payload
@@ -115,9 +115,9 @@ request-spelt d q n payload s mtu short packet has p is = by n.request.op refl
         dec : Decoded f p
         dec = decoded f p (bth-fits f (Request (shapes.Send (position_of seg))) (send_is kind (position_of seg)) refl (peer-fits q s) (omega arith)) is
 
-    write : (seg : Segment) (reth : Reth) (imm : Option ℕ) (op : SendOp) → n.request.op ≡ op → is_data (work_of op) ≡ true → is_read (work_of op) ≡ false
+    write : (seg : Segment) (reth : Reth) (imm : Option ℕ) (op : SendOp) → n.request.op ≡ op → is_data (work_of op) ≡ true → is_write (work_of op) ≡ true → is_read (work_of op) ≡ false
         → packet_in (spelling (write_packet seg reth imm n.request.solicited (peer_number q) (psn_bits q.requester.cursor) payload)) ≡ Ok p → IsRequestOf d x p
-    write seg reth imm op e is_of other is = request-entry d x f p (shapes.Write (position_of seg)) dec refl (write_is imm (position_of seg)) (ap is_data (work op e) ∙ is_of) (asks-none d x p (ap is_read (work op e) ∙ other))
+    write seg reth imm op e is_of write_is_of other is = request-entry d x f p (shapes.Write (position_of seg)) dec refl (write_is imm (position_of seg)) (ap is_data (work op e) ∙ is_of) (ap is_write (work op e) ∙ write_is_of) (asks-none d x p (ap is_read (work op e) ∙ other))
       where
         f : Fields
         f = write_packet seg reth imm n.request.solicited (peer_number q) (psn_bits q.requester.cursor) payload
@@ -130,13 +130,13 @@ request-spelt d q n payload s mtu short packet has p is = by n.request.op refl
     left op e same = ap₂ (λ m i. m - i) (same ∙ ap bytes_of (sym (work op e))) (ap₂ (λ i m. i * m) (ap (λ (m : ℕ). q.requester.cursor - m) has.lies.begin) mtu)
 
     by : (op : SendOp) → n.request.op ≡ op → IsRequestOf d x p
-    by (ops.Send list) e = send Plain (segment q.responder.mtu (list_length list.items) index) (ops.Send list) e refl refl (bytes (ops.Send list) e)
-    by (ops.SendImm imm list) e = send (WithImmediate imm) (segment q.responder.mtu (list_length list.items) index) (ops.SendImm imm list) e refl refl (bytes (ops.SendImm imm list) e)
-    by (ops.SendInv key list) e = send (WithInvalidate key) (segment q.responder.mtu (list_length list.items) index) (ops.SendInv key list) e refl refl (bytes (ops.SendInv key list) e)
-    by (ops.Write address key list) e = write (segment q.responder.mtu (list_length list.items) index) (record { address = address; key = key; length = list_length list.items }) None (ops.Write address key list) e refl refl (bytes (ops.Write address key list) e)
+    by (ops.Send list) e = send Plain (segment q.responder.mtu (list_length list.items) index) (ops.Send list) e refl refl refl (bytes (ops.Send list) e)
+    by (ops.SendImm imm list) e = send (WithImmediate imm) (segment q.responder.mtu (list_length list.items) index) (ops.SendImm imm list) e refl refl refl (bytes (ops.SendImm imm list) e)
+    by (ops.SendInv key list) e = send (WithInvalidate key) (segment q.responder.mtu (list_length list.items) index) (ops.SendInv key list) e refl refl refl (bytes (ops.SendInv key list) e)
+    by (ops.Write address key list) e = write (segment q.responder.mtu (list_length list.items) index) (record { address = address; key = key; length = list_length list.items }) None (ops.Write address key list) e refl refl refl (bytes (ops.Write address key list) e)
     by (ops.WriteImm address key imm list) e =
-        write (segment q.responder.mtu (list_length list.items) index) (record { address = address; key = key; length = list_length list.items }) (Some imm) (ops.WriteImm address key imm list) e refl refl (bytes (ops.WriteImm address key imm list) e)
-    by (ops.Read address key list) e = request-entry d x f p shapes.Read dec refl read-request-is (ap is_read (work (ops.Read address key list) e))
+        write (segment q.responder.mtu (list_length list.items) index) (record { address = address; key = key; length = list_length list.items }) (Some imm) (ops.WriteImm address key imm list) e refl refl refl (bytes (ops.WriteImm address key imm list) e)
+    by (ops.Read address key list) e = request-entry d x f p shapes.Read dec refl read-request-is (ap is_read (work (ops.Read address key list) e)) (ap is_write (work (ops.Read address key list) e))
         (λ reads. subst (λ m. IfSome p.reth (λ h. h.length ≡ m)) (left (ops.Read address key list) e refl) (read-decoded (reth_behind (index * q.responder.mtu) address key (list_length list.items)) (peer_number q) (psn_bits q.requester.cursor) p
         (omega (arith, short, ap (λ op. list_length (list_of op)) e)) dec))
       where
@@ -145,7 +145,7 @@ request-spelt d q n payload s mtu short packet has p is = by n.request.op refl
 
         dec : Decoded f p
         dec = decoded f p (bth-fits f (Request shapes.Read) read-request-is refl (peer-fits q s) (omega arith)) (bytes (ops.Read address key list) e)
-    by (ops.CmpSwap address key compare swap list) e = request-entry d x f p (shapes.Atomic CmpSwap) dec refl cmp-swap-is (ap is_atomic (work op e)) (asks-none d x p (ap is_read (work op e)))
+    by (ops.CmpSwap address key compare swap list) e = request-entry d x f p (shapes.Atomic CmpSwap) dec refl cmp-swap-is (ap is_atomic (work op e)) (ap is_write (work op e)) (asks-none d x p (ap is_read (work op e)))
       where
         op : SendOp
         op = ops.CmpSwap address key compare swap list
@@ -155,7 +155,7 @@ request-spelt d q n payload s mtu short packet has p is = by n.request.op refl
 
         dec : Decoded f p
         dec = decoded f p (bth-fits f (Request (shapes.Atomic CmpSwap)) cmp-swap-is refl (peer-fits q s) (omega arith)) (bytes op e)
-    by (ops.FetchAdd address key add list) e = request-entry d x f p (shapes.Atomic FetchAdd) dec refl fetch-add-is (ap is_atomic (work op e)) (asks-none d x p (ap is_read (work op e)))
+    by (ops.FetchAdd address key add list) e = request-entry d x f p (shapes.Atomic FetchAdd) dec refl fetch-add-is (ap is_atomic (work op e)) (ap is_write (work op e)) (asks-none d x p (ap is_read (work op e)))
       where
         op : SendOp
         op = ops.FetchAdd address key add list

@@ -3,16 +3,17 @@ use Rattle.std.proofs.Common.{◌≡◌, ℕ, ◌+◌, ◌%◌, ◌^◌, ◌==�
 use Rattle.std.proofs.lemmas.Bool.{eqb-true}
 use Rattle.ca_base.specs.objects.QueuePair.{QueuePair}
 use Rattle.ca_connection.proofs.OnceLemmas.{law-request-near, law-response-near}
-use Rattle.ca_connection.specs.Layout.{Direction, is_atomic, span}
+use Rattle.ca_connection.specs.Layout.{Direction, is_atomic, is_write, span}
 use Rattle.ca_connection.specs.Link.{Acceptance, Link, RequestPacket, Responder, Response, number_of}
 use Rattle.ca_connection.specs.Moves.{MayArrive, MayBeTaken, Reached, Reception, acceptances_after, after_arrival, after_request, after_response, with_one}
 use Rattle.ca_connection.specs.Moves.Move.{arrive, forget, go_back, respond as move_respond, respond_nowhere, send as move_send, send_nowhere, take as move_take}
 use Rattle.ca_connection.specs.Moves.Reached.{move}
 use Rattle.ca_connection.specs.Moves.Reception.{Neither, Rejected, Accepted}
+use Rattle.ca_connection.specs.Once.{numbers_at}
 use Rattle.ca_model.specs.machine.Row.{Effects}
 use Rattle.ca_psn.specs.Psn.{widened}
-use Rattle.ca_ties_rows.specs.Links.{IsReceived, IsTaken, LeadsTo, found_at}
-use Rattle.ca_ties_rows.specs.Moves.{ForgetsIn, GoesBackIn, ReceivesIn, RespondsIn, SendsIn, TakesIn, found_in}
+use Rattle.ca_ties_rows.specs.Links.{IsReceived, IsTaken, LeadsTo, found_at, times}
+use Rattle.ca_ties_rows.specs.Moves.{ForgetsIn, GoesBackIn, ReceivesIn, RespondsIn, SendsIn, TakesIn, found_in, writes_told, written_in}
 use Rattle.ca_ties_rows.specs.Sides.{kept_result, requester_in, responder_in, said}
 use Rattle.ca_ties_rows.proofs.KeepLemmas.{keeps-all}
 
@@ -34,6 +35,24 @@ found-grows d w place at (Accepted found) before is = by (place == at) refl
     by true e = ap (λ b. (if b then found ∷ [] else []) ++ found_at at before) (sym (ap (λ p. is_atomic (d.work p)) (eqb-true place at e) ∙ is))
     by false e = refl
 
+numbers-grow : (d : Direction) (w n place at count : ℕ) (r : Reception) (before : List Acceptance) → w ≡ n → is_write (d.work at) ≡ true → count ≡ written_in (d.work place) r
+    → numbers_at at (acceptances_after w place r before) ≡ (if place == at then times count n else []) ++ numbers_at at before
+numbers-grow d w n place at count Neither before same is none = by (place == at)
+  where
+    by : (b : Bool) → numbers_at at before ≡ (if b then times count n else []) ++ numbers_at at before
+    by true = ap (λ (k : ℕ). times k n ++ numbers_at at before) (sym none)
+    by false = refl
+numbers-grow d w n place at count (Rejected code) before same is none = by (place == at)
+  where
+    by : (b : Bool) → numbers_at at before ≡ (if b then times count n else []) ++ numbers_at at before
+    by true = ap (λ (k : ℕ). times k n ++ numbers_at at before) (sym none)
+    by false = refl
+numbers-grow d w n place at count (Accepted found) before same is one = by (place == at) refl
+  where
+    by : (b : Bool) → (place == at) ≡ b → (if b then w ∷ numbers_at at before else numbers_at at before) ≡ (if b then times count n else []) ++ numbers_at at before
+    by true e = ap (λ (m : ℕ). m ∷ numbers_at at before) same ∙ ap (λ (k : ℕ). times k n ++ numbers_at at before) (sym (one ∙ ap (λ (b : Bool). if b then 1 else 0) (ap (λ p. is_write (d.work p)) (eqb-true place at e) ∙ is)))
+    by false e = refl
+
 pub received-moves : (d : Direction) (l : Link) (k : ℕ) (x : RequestPacket) (e : Effects) → Reached d l → MayArrive l k x
     → ReceivesIn d x (widened l.responder.expected (x.number % 2 ^ 24)) l.responder e → (widened l.responder.expected (x.number % 2 ^ 24) ≡ x.number) × IsReceived d l x (responder_in e.queue) e
 received-moves d l k x e reached may does = (
@@ -46,6 +65,7 @@ received-moves d l k x e reached may does = (
     requests_are = refl;
     responses_are = refl;
     completions = refl;
+    wrote = λ place is. numbers-grow d (widened l.responder.expected (x.number % 2 ^ 24)) x.number x.place place (writes_told e.marks) does.reception l.acceptances (law-request-near d l k x reached may).exact is does.wrote;
     found = λ place is. found-grows d (widened l.responder.expected (x.number % 2 ^ 24)) x.place place does.reception l.acceptances is
         ∙ ap (λ ns. (if x.place == place then ns else []) ++ found_at place l.acceptances) (sym does.found);
   },

@@ -25,7 +25,7 @@ use Rattle.ca_base.specs.objects.Saved.{after_save, saved_at}
 use Rattle.ca_base.specs.objects.SharedReceives.{SharedReceives}
 use Rattle.ca_connection.proofs.LayoutLemmas.{span-is_read}
 use Rattle.ca_connection.proofs.ListLemmas.{contains-head, contains-more}
-use Rattle.ca_connection.specs.Layout.{Direction, Work, bytes_left, is_atomic, is_data, is_read, segments, span}
+use Rattle.ca_connection.specs.Layout.{Direction, Work, bytes_left, is_atomic, is_data, is_read, is_write, segments, span}
 use Rattle.ca_connection.specs.Layout.Work.{Local, Send, Write, Read, Atomic}
 use Rattle.ca_connection.specs.Link.{RequestPacket, Responder, Response}
 use Rattle.ca_connection.specs.Link.NakReason.{PsnSequenceError as SequenceReason, ReceiverNotReady}
@@ -56,10 +56,10 @@ use Rattle.ca_packet.specs.declared.shape.Position.{Position}
 use Rattle.ca_packet.specs.declared.shape.Shape.{Shape}
 use Rattle.ca_packet.specs.declared.shape.Shape.TheVariants as shapes
 use Rattle.ca_psn.specs.Psn.{widened}
-use Rattle.ca_ties_rows.proofs.FoundLemmas.{flush-none, found-behind, revoked-none, writes-none}
+use Rattle.ca_ties_rows.proofs.FoundLemmas.{flush-none, found-behind, revoked-none, writes-none, wrote-flush-none, wrote-found-behind, wrote-revoked-none, wrote-writes-none}
 use Rattle.ca_ties_rows.proofs.KeepLemmas.{keeps-all, keeps-filter, keeps-take}
 use Rattle.ca_ties_rows.specs.Entries.{RequestEntry}
-use Rattle.ca_ties_rows.specs.Moves.{ReceivesIn, RowLeads, found_in, numbers_found}
+use Rattle.ca_ties_rows.specs.Moves.{ReceivesIn, RowLeads, found_in, numbers_found, writes_told, written_in}
 use Rattle.ca_ties_rows.specs.Sides.{kept_result, reason_of, responder_in, said}
 use Rattle.ca_wire.specs.Syndrome.{nak_code}
 use Rattle.ca_wire.specs.declared.syndrome.NakCode.{NakCode}
@@ -86,23 +86,24 @@ record Leaves (d : Direction) (n : ℕ) (queue : List Queued) (results : List Ke
 -- a link's responder that is the same does the same
 received : (d : Direction) (x : RequestPacket) (w : ℕ) (r : Responder) (e : Effects) (n : ℕ) (answers : List Queued) (saved : List KeptResult) (reception : Reception) (s : Responder)
     → Leaves d n answers saved e → s.expected ≡ n → s.queue ≡ map said answers → s.results ≡ map kept_result saved
-    → Receives d x w r s reception → numbers_found e.marks ≡ found_in (d.work x.place) reception → ReceivesIn d x w r e
-received d x w r e n answers saved reception s left expected queue results does found = record {
+    → Receives d x w r s reception → numbers_found e.marks ≡ found_in (d.work x.place) reception → writes_told e.marks ≡ written_in (d.work x.place) reception → ReceivesIn d x w r e
+received d x w r e n answers saved reception s left expected queue results does found wrote = record {
   reception = reception;
   receives = subst (λ n. Receives d x w r (record { expected = n; queue = map said e.queue.responder.answers; results = map kept_result e.queue.saved }) reception) (expected ∙ sym left.expected)
       (subst (λ xs. Receives d x w r (record { expected = s.expected; queue = xs; results = map kept_result e.queue.saved }) reception) (queue ∙ ap (map said) (sym left.answers))
       (subst (λ xs. Receives d x w r (record { expected = s.expected; queue = s.queue; results = xs }) reception) (results ∙ ap (map kept_result) (sym left.saved)) does));
   found = found;
+  wrote = wrote;
   mtu = left.mtu;
 }
 
 -- nothing of the responder changes
-dropped : (d : Direction) (x : RequestPacket) (w : ℕ) (q : QueuePair) (e : Effects) → Leaves d q.responder.expected q.responder.answers q.saved e → numbers_found e.marks ≡ []
+dropped : (d : Direction) (x : RequestPacket) (w : ℕ) (q : QueuePair) (e : Effects) → Leaves d q.responder.expected q.responder.answers q.saved e → numbers_found e.marks ≡ [] → writes_told e.marks ≡ 0
     → ReceivesIn d x w (responder_in q) e
-dropped d x w q e left none = received d x w (responder_in q) e q.responder.expected q.responder.answers q.saved Neither (responder_in q) left refl refl refl packet_drop none
+dropped d x w q e left none unwritten = received d x w (responder_in q) e q.responder.expected q.responder.answers q.saved Neither (responder_in q) left refl refl refl packet_drop none unwritten
 
 pub drop-does : (d : Direction) (x : RequestPacket) (w : ℕ) (q : QueuePair) (cause : Drop1) → q.responder.mtu ≡ d.mtu → ReceivesIn d x w (responder_in q) (drop_effects q cause)
-drop-does d x w q cause mtu = dropped d x w q (drop_effects q cause) (record { expected = refl; answers = refl; saved = refl; mtu = mtu }) refl
+drop-does d x w q cause mtu = dropped d x w q (drop_effects q cause) (record { expected = refl; answers = refl; saved = refl; mtu = mtu }) refl refl
 
 code-back : (code : NakCode) → nak_of (nak_code code) ≡ code
 code-back PsnSequenceError = refl
@@ -119,33 +120,34 @@ said-nak kept n code = ap (λ c. map said kept ++ (Nak (reason_of c) n ∷ [])) 
 
 -- the packet is refused
 refused : (d : Direction) (x : RequestPacket) (q : QueuePair) (e : Effects) (code : NakCode)
-    → Leaves d q.responder.expected (q.responder.answers ++ (queued.Nak q.responder.expected (nak_code code) ∷ [])) q.saved e → numbers_found e.marks ≡ []
+    → Leaves d q.responder.expected (q.responder.answers ++ (queued.Nak q.responder.expected (nak_code code) ∷ [])) q.saved e → numbers_found e.marks ≡ [] → writes_told e.marks ≡ 0
     → ReceivesIn d x q.responder.expected (responder_in q) e
-refused d x q e code left none = received d x q.responder.expected (responder_in q) e q.responder.expected (q.responder.answers ++ (queued.Nak q.responder.expected (nak_code code) ∷ [])) q.saved
+refused d x q e code left none unwritten = received d x q.responder.expected (responder_in q) e q.responder.expected (q.responder.answers ++ (queued.Nak q.responder.expected (nak_code code) ∷ [])) q.saved
     (Rejected (reason_of code)) (with_response (responder_in q) (map said q.responder.answers) (Nak (reason_of code) q.responder.expected))
-    left refl (said-nak q.responder.answers q.responder.expected code) refl (refuse (reason_of code) refl (keeps-all (map said q.responder.answers))) none
+    left refl (said-nak q.responder.answers q.responder.expected code) refl (refuse (reason_of code) refl (keeps-all (map said q.responder.answers))) none unwritten
 
 refusal-does : (d : Direction) (x : RequestPacket) (q : QueuePair) (code : NakCode) → q.responder.mtu ≡ d.mtu → ReceivesIn d x q.responder.expected (responder_in q) (refusal_effects code q)
-refusal-does d x q code mtu = refused d x q (refusal_effects code q) code (record { expected = refl; answers = refl; saved = refl; mtu = mtu }) (flush-none q)
+refusal-does d x q code mtu = refused d x q (refusal_effects code q) code (record { expected = refl; answers = refl; saved = refl; mtu = mtu }) (flush-none q) (wrote-flush-none q)
 
 -- marks that tell of none, before others
-behind : (d : Direction) (x : RequestPacket) (w : ℕ) (r : Responder) (ms : List Mark) (e : Effects) → numbers_found ms ≡ [] → ReceivesIn d x w r e → ReceivesIn d x w r (behind_marks ms e)
-behind d x w r ms e none does = record {
+behind : (d : Direction) (x : RequestPacket) (w : ℕ) (r : Responder) (ms : List Mark) (e : Effects) → numbers_found ms ≡ [] → writes_told ms ≡ 0 → ReceivesIn d x w r e → ReceivesIn d x w r (behind_marks ms e)
+behind d x w r ms e none unwritten does = record {
   reception = does.reception;
   receives = does.receives;
   found = found-behind ms e.marks none ∙ does.found;
+  wrote = wrote-found-behind ms e.marks unwritten ∙ does.wrote;
   mtu = does.mtu;
 }
 
 shared : (d : Direction) (x : RequestPacket) (w : ℕ) (r : Responder) (q : QueuePair) (e : Effects) → ReceivesIn d x w r e → ReceivesIn d x w r (with_shared_receive q e)
-shared d x w r q e does = record { reception = does.reception; receives = does.receives; found = does.found; mtu = does.mtu }
+shared d x w r q e does = record { reception = does.reception; receives = does.receives; found = does.found; wrote = does.wrote; mtu = does.mtu }
 
 with-writes : (d : Direction) (x : RequestPacket) (w : ℕ) (r : Responder) (writes : List (Ask × List ℕ)) (e : Effects) → ReceivesIn d x w r e → ReceivesIn d x w r (record e { writes = writes })
-with-writes d x w r writes e does = record { reception = does.reception; receives = does.receives; found = does.found; mtu = does.mtu }
+with-writes d x w r writes e does = record { reception = does.reception; receives = does.receives; found = does.found; wrote = does.wrote; mtu = does.mtu }
 
 failure-does : (d : Direction) (x : RequestPacket) (q : QueuePair) (r : PlacedReceive) (status : WcStatus) (cause : Option OpRefusal) (code : NakCode) → q.responder.mtu ≡ d.mtu
     → ReceivesIn d x q.responder.expected (responder_in q) (receive_failure_effects q r status cause code)
-failure-does d x q r status cause code mtu = behind d x q.responder.expected (responder_in q) (receive_failure q.queue r.place r.receive status cause ∷ []) (refusal_effects code (with_message None q)) refl
+failure-does d x q r status cause code mtu = behind d x q.responder.expected (responder_in q) (receive_failure q.queue r.place r.receive status cause ∷ []) (refusal_effects code (with_message None q)) refl refl
     (refusal-does d x (with_message None q) code mtu)
 
 -- ---- a SEND or a WRITE
@@ -156,6 +158,10 @@ is_of-found (Send bytes) is = refl
 is_of-found (Write bytes) is = refl
 is_of-found (Read bytes) is = refl
 is_of-found Atomic is = absurd (cc)
+
+-- how often an accepted packet of a SEND or a WRITE wrote
+abbrev once_if : Bool → ℕ
+once_if b = if b then 1 else 0
 
 -- an ACK takes the place of an ACK at the end: it stands behind what is kept
 record EndsWithAck (n : ℕ) (answers : List Queued) : Type 0 where
@@ -178,18 +184,18 @@ ends-with-ack n (a ∷ b ∷ rest) = let more = ends-with-ack n (b ∷ rest) in 
 
 placed : (d : Direction) (x : RequestPacket) (q : QueuePair) (e : Effects) (b : Bool) → is_data (d.work x.place) ≡ true
     → Leaves d (q.responder.expected + 1) (if b then with_ack_at_end q.responder.expected q.responder.answers else q.responder.answers) q.saved e → numbers_found e.marks ≡ []
-    → ReceivesIn d x q.responder.expected (responder_in q) e
-placed d x q e true is_of left none = let ack = ends-with-ack q.responder.expected q.responder.answers in
+    → writes_told e.marks ≡ once_if (is_write (d.work x.place)) → ReceivesIn d x q.responder.expected (responder_in q) e
+placed d x q e true is_of left none wrote = let ack = ends-with-ack q.responder.expected q.responder.answers in
     received d x q.responder.expected (responder_in q) e (q.responder.expected + 1) (with_ack_at_end q.responder.expected q.responder.answers) q.saved (Accepted 0)
-    (responder_at (q.responder.expected + 1) (map kept_result q.saved) ack.kept (Ack q.responder.expected)) left refl ack.same refl (write_and_acknowledge refl is_of ack.keeps) (none ∙ is_of-found (d.work x.place) is_of)
-placed d x q e false is_of left none =
+    (responder_at (q.responder.expected + 1) (map kept_result q.saved) ack.kept (Ack q.responder.expected)) left refl ack.same refl (write_and_acknowledge refl is_of ack.keeps) (none ∙ is_of-found (d.work x.place) is_of) wrote
+placed d x q e false is_of left none wrote =
     received d x q.responder.expected (responder_in q) e (q.responder.expected + 1) q.responder.answers q.saved (Accepted 0)
     (record { expected = q.responder.expected + 1; queue = map said q.responder.answers; results = map kept_result q.saved }) left refl refl refl
-    (packet_write refl is_of (keeps-all (map said q.responder.answers))) (none ∙ is_of-found (d.work x.place) is_of)
+    (packet_write refl is_of (keeps-all (map said q.responder.answers))) (none ∙ is_of-found (d.work x.place) is_of) wrote
 
-send-packet-does : (d : Direction) (x : RequestPacket) (q : QueuePair) (p : Fields) (place : Position) (r : Receiving) → is_data (d.work x.place) ≡ true → q.responder.mtu ≡ d.mtu
+send-packet-does : (d : Direction) (x : RequestPacket) (q : QueuePair) (p : Fields) (place : Position) (r : Receiving) → is_data (d.work x.place) ≡ true → is_write (d.work x.place) ≡ false → q.responder.mtu ≡ d.mtu
     → ReceivesIn d x q.responder.expected (responder_in q) (after_send_packet q p place r)
-send-packet-does d x q p place r is_of mtu = by (ends place)
+send-packet-does d x q p place r is_of unwritten mtu = by (ends place)
   where
     by : (b : Bool) → ReceivesIn d x q.responder.expected (responder_in q) (
         if b
@@ -197,13 +203,13 @@ send-packet-does d x q p place r is_of mtu = by (ends place)
         (receive_mark q.queue r.receive.place r.receive.receive Success operations.Recv (r.before + length p.payload) p.imm
         (option_map (λ key. record { 0 = key }) p.ieth) ∷ [])
         else queue_and_marks (with_message (Some (messages.Send r.receive.place r.receive.receive (r.before + length p.payload))) (queue_after_packet p 1 false true q)) [])
-    by true = placed d x q _ p.ack is_of (record { expected = refl; answers = refl; saved = refl; mtu = mtu }) refl
-    by false = placed d x q _ p.ack is_of (record { expected = refl; answers = refl; saved = refl; mtu = mtu }) refl
+    by true = placed d x q _ p.ack is_of (record { expected = refl; answers = refl; saved = refl; mtu = mtu }) refl (sym (ap once_if unwritten))
+    by false = placed d x q _ p.ack is_of (record { expected = refl; answers = refl; saved = refl; mtu = mtu }) refl (sym (ap once_if unwritten))
 
 -- a SEND packet with its receive; `before` is the queue pair, and the receive that the message takes is taken from it
-send-leads : (d : Direction) (x : RequestPacket) (before : QueuePair) (p : Fields) (place : Position) (r : Receiving) → is_data (d.work x.place) ≡ true → before.responder.mtu ≡ d.mtu
+send-leads : (d : Direction) (x : RequestPacket) (before : QueuePair) (p : Fields) (place : Position) (r : Receiving) → is_data (d.work x.place) ≡ true → is_write (d.work x.place) ≡ false → before.responder.mtu ≡ d.mtu
     → Leads d x before.responder.expected before (send_row before p place r)
-send-leads d x before p place r is_of mtu = taken r.taken
+send-leads d x before p place r is_of unwritten mtu = taken r.taken
   where
     took : Bool → QueuePair → Effects → Effects
     took b q e = if b then with_shared_receive q e else e
@@ -233,9 +239,9 @@ send-leads d x before p place r is_of mtu = taken r.taken
         q : QueuePair
         q = record before { receives = receives }
     on b receives false = record {
-      denied = λ a. took-does b q _ (behind d x before.responder.expected (responder_in before) (local_denial a ∷ []) _ refl (failure-does d x q r.receive LocalProtection None RemoteOperationalError mtu));
+      denied = λ a. took-does b q _ (behind d x before.responder.expected (responder_in before) (local_denial a ∷ []) _ refl refl (failure-does d x q r.receive LocalProtection None RemoteOperationalError mtu));
       allowed = λ bytes refusal. took-does b q _ (with-writes d x before.responder.expected (responder_in before) writes _
-          (behind d x before.responder.expected (responder_in before) (local_writes writes) (by q refusal) (writes-none writes) (ended refusal)));
+          (behind d x before.responder.expected (responder_in before) (local_writes writes) (by q refusal) (writes-none writes) (wrote-writes-none writes) (ended refusal)));
     }
       where
         q : QueuePair
@@ -246,8 +252,8 @@ send-leads d x before p place r is_of mtu = taken r.taken
 
         ended : (refusal : Option OpRefusal) → ReceivesIn d x before.responder.expected (responder_in before) (by q refusal)
         ended (Some cause) = failure-does d x q r.receive MemoryManagement (Some cause) RemoteOperationalError mtu
-        ended None = behind d x before.responder.expected (responder_in before) (revoked_marks q (invalidation_of q p)) _ (revoked-none q (invalidation_of q p))
-            (send-packet-does d x (with_window_gone (invalidation_of q p) q) p place r is_of mtu)
+        ended None = behind d x before.responder.expected (responder_in before) (revoked_marks q (invalidation_of q p)) _ (revoked-none q (invalidation_of q p)) (wrote-revoked-none q (invalidation_of q p))
+            (send-packet-does d x (with_window_gone (invalidation_of q p) q) p place r is_of unwritten mtu)
 
     long : QueuePair → Bool
     long q = nat_lt (list_length r.receive.receive.list.items) (r.before + length p.payload)
@@ -256,9 +262,10 @@ send-leads d x before p place r is_of mtu = taken r.taken
     taken true = on true (with_receive_taken before).receives (nat_lt (list_length r.receive.receive.list.items) (r.before + length p.payload))
     taken false = on false before.receives (nat_lt (list_length r.receive.receive.list.items) (r.before + length p.payload))
 
-write-packet-does : (d : Direction) (x : RequestPacket) (q : QueuePair) (p : Fields) (place : Position) (r : WriteReach) (next : Option PlacedReceive) → is_data (d.work x.place) ≡ true → q.responder.mtu ≡ d.mtu
-    → ReceivesIn d x q.responder.expected (responder_in q) (after_write_packet q p place r next)
-write-packet-does d x q p place r next is_of mtu = by (ends place)
+write-packet-does : (d : Direction) (x : RequestPacket) (q : QueuePair) (p : Fields) (place : Position) (r : WriteReach) (next : Option PlacedReceive) (ask : Ask) (envelope : Option ℕ) → is_data (d.work x.place) ≡ true
+    → is_write (d.work x.place) ≡ true → q.responder.mtu ≡ d.mtu
+    → ReceivesIn d x q.responder.expected (responder_in q) (behind_marks (remote_mark ask envelope (verdicts.Wrote p.payload) ∷ []) (after_write_packet q p place r next))
+write-packet-does d x q p place r next ask envelope is_of writes mtu = by (ends place)
   where
     done : QueuePair → QueuePair
     done q = with_message None (queue_after_packet p 1 true true q)
@@ -268,23 +275,28 @@ write-packet-does d x q p place r next is_of mtu = by (ends place)
         (receive_mark q.queue receive.place receive.receive Success operations.RecvImm r.whole (Some imm) None ∷ []))
     at_end imm next = queue_and_marks (done q) []
 
-    ended : (imm : Option ℕ) (next : Option PlacedReceive) → ReceivesIn d x q.responder.expected (responder_in q) (at_end imm next)
-    ended (Some imm) (Some receive) = placed d x q (at_end (Some imm) (Some receive)) p.ack is_of (record { expected = refl; answers = refl; saved = refl; mtu = mtu }) refl
-    ended (Some imm) None = placed d x q (at_end (Some imm) None) p.ack is_of (record { expected = refl; answers = refl; saved = refl; mtu = mtu }) refl
-    ended None next = placed d x q (at_end None next) p.ack is_of (record { expected = refl; answers = refl; saved = refl; mtu = mtu }) refl
+    wrote : List Mark
+    wrote = remote_mark ask envelope (verdicts.Wrote p.payload) ∷ []
 
-    by : (b : Bool) → ReceivesIn d x q.responder.expected (responder_in q) (
-        if b then at_end p.imm next else queue_and_marks (with_message (Some (message_left r (length p.payload))) (queue_after_packet p 1 false true q)) [])
+    one : 1 ≡ once_if (is_write (d.work x.place))
+    one = sym (ap once_if writes)
+
+    ended : (imm : Option ℕ) (next : Option PlacedReceive) → ReceivesIn d x q.responder.expected (responder_in q) (behind_marks wrote (at_end imm next))
+    ended (Some imm) (Some receive) = placed d x q (behind_marks wrote (at_end (Some imm) (Some receive))) p.ack is_of (record { expected = refl; answers = refl; saved = refl; mtu = mtu }) refl one
+    ended (Some imm) None = placed d x q (behind_marks wrote (at_end (Some imm) None)) p.ack is_of (record { expected = refl; answers = refl; saved = refl; mtu = mtu }) refl one
+    ended None next = placed d x q (behind_marks wrote (at_end None next)) p.ack is_of (record { expected = refl; answers = refl; saved = refl; mtu = mtu }) refl one
+
+    by : (b : Bool) → ReceivesIn d x q.responder.expected (responder_in q) (behind_marks wrote (
+        if b then at_end p.imm next else queue_and_marks (with_message (Some (message_left r (length p.payload))) (queue_after_packet p 1 false true q)) []))
     by true = ended p.imm next
-    by false = placed d x q _ p.ack is_of (record { expected = refl; answers = refl; saved = refl; mtu = mtu }) refl
+    by false = placed d x q _ p.ack is_of (record { expected = refl; answers = refl; saved = refl; mtu = mtu }) refl one
 
 write-leads : (d : Direction) (x : RequestPacket) (q : QueuePair) (p : Fields) (envelope : Option ℕ) (place : Position) (next : Option PlacedReceive) (r : WriteReach) → is_data (d.work x.place) ≡ true
-    → q.responder.mtu ≡ d.mtu → Leads d x q.responder.expected q (write_row q p envelope place next r)
-write-leads d x q p envelope place next r is_of mtu = record {
-  denied = λ a. behind d x q.responder.expected (responder_in q) (remote_mark a.ask envelope (verdicts.Denied a.denial) ∷ []) (refusal_effects RemoteAccessError q) refl (refusal-does d x q RemoteAccessError mtu);
+    → is_write (d.work x.place) ≡ true → q.responder.mtu ≡ d.mtu → Leads d x q.responder.expected q (write_row q p envelope place next r)
+write-leads d x q p envelope place next r is_of writes mtu = record {
+  denied = λ a. behind d x q.responder.expected (responder_in q) (remote_mark a.ask envelope (verdicts.Denied a.denial) ∷ []) (refusal_effects RemoteAccessError q) refl refl (refusal-does d x q RemoteAccessError mtu);
   allowed = λ bytes refusal. with-writes d x q.responder.expected (responder_in q) (if r.left == 0 then [] else (ask, p.payload) ∷ []) _
-      (behind d x q.responder.expected (responder_in q) (remote_mark ask envelope (verdicts.Wrote p.payload) ∷ []) (after_write_packet q p place r next) refl
-      (write-packet-does d x q p place r next is_of mtu));
+      (write-packet-does d x q p place r next ask envelope is_of writes mtu);
 }
   where
     ask : Ask
@@ -299,6 +311,13 @@ read-found (Send bytes) is = refl
 read-found (Write bytes) is = refl
 read-found (Read bytes) is = refl
 read-found Atomic is = absurd (cc)
+
+read-writes : (work : Work) → is_read work ≡ true → 0 ≡ written_in work (Accepted 0)
+read-writes Local is = refl
+read-writes (Send bytes) is = refl
+read-writes (Write bytes) is = absurd (cc)
+read-writes (Read bytes) is = refl
+read-writes Atomic is = refl
 
 -- a READ asks for as many PSNs as its packet takes
 read-span : (d : Direction) (x : RequestPacket) (mtu count : ℕ) → is_read (d.work x.place) ≡ true → mtu ≡ d.mtu → count ≡ bytes_left d x.place x.number
@@ -318,7 +337,7 @@ read-does d x q p envelope h is mtu bytes =
     (record { expected = refl; answers = refl; saved = refl; mtu = mtu })
     (ap (λ m. q.responder.expected + m) (sym (read-span d x q.responder.mtu h.length is mtu bytes)))
     (said-read q.responder.answers answer q.responder.expected h.length (bytes_left d x.place x.number) refl bytes) refl
-    (packet_read refl is (keeps-all (map said q.responder.answers))) (read-found (d.work x.place) is)
+    (packet_read refl is (keeps-all (map said q.responder.answers))) (read-found (d.work x.place) is) (read-writes (d.work x.place) is)
   where
     answer : Queued
     answer = queued.Read q.responder.expected h.key h.address h.length true envelope false
@@ -332,10 +351,17 @@ atomic-found (Write bytes) found is = absurd (cc)
 atomic-found (Read bytes) found is = absurd (cc)
 atomic-found Atomic found is = refl
 
+atomic-writes : (work : Work) (found : ℕ) → is_atomic work ≡ true → 0 ≡ written_in work (Accepted found)
+atomic-writes Local found is = refl
+atomic-writes (Send bytes) found is = refl
+atomic-writes (Write bytes) found is = absurd (cc)
+atomic-writes (Read bytes) found is = refl
+atomic-writes Atomic found is = refl
+
 atomic-leads : (d : Direction) (x : RequestPacket) (q : QueuePair) (p : Fields) (envelope : Option ℕ) (kind : Kind) (a : AtomicEth) → is_atomic (d.work x.place) ≡ true → q.responder.mtu ≡ d.mtu
     → Leads d x q.responder.expected q (atomic_row q p envelope kind a)
 atomic-leads d x q p envelope kind a is mtu = record {
-  denied = λ b. behind d x q.responder.expected (responder_in q) (remote_mark b.ask envelope (verdicts.Denied b.denial) ∷ []) (refusal_effects RemoteAccessError q) refl (refusal-does d x q RemoteAccessError mtu);
+  denied = λ b. behind d x q.responder.expected (responder_in q) (remote_mark b.ask envelope (verdicts.Denied b.denial) ∷ []) (refusal_effects RemoteAccessError q) refl refl (refusal-does d x q RemoteAccessError mtu);
   allowed = λ bytes refusal. acts (little_endian (flat_map (λ b. b) bytes));
 }
   where
@@ -358,7 +384,7 @@ atomic-leads d x q p envelope kind a is mtu = record {
         (q.responder.answers ++ (queued.Atomic q.responder.expected found false ∷ [])) (after_save q.responder.expected found q.saved) (Accepted found)
         (responder_at (q.responder.expected + 1) (record { number = q.responder.expected; found = found } ∷ map kept_result (take (SAVED_RESULTS - 1) q.saved)) (map said q.responder.answers) (Found q.responder.expected found))
         (record { expected = refl; answers = refl; saved = refl; mtu = mtu }) refl (said-more q.responder.answers (queued.Atomic q.responder.expected found false)) refl
-        (packet_atomic found refl is (keeps-all (map said q.responder.answers)) (keeps-take kept_result (SAVED_RESULTS - 1) q.saved)) (atomic-found (d.work x.place) found is)
+        (packet_atomic found refl is (keeps-all (map said q.responder.answers)) (keeps-take kept_result (SAVED_RESULTS - 1) q.saved)) (atomic-found (d.work x.place) found is) (atomic-writes (d.work x.place) found is)
 
 -- ---- the expected packet
 
@@ -371,7 +397,7 @@ valid-leads d x q p envelope next (shapes.Send place) mtu is = by (receiving_of 
     row None = plain_row (Does (refusal_effects InvalidRequest q))
 
     by : (r : Option Receiving) → Leads d x q.responder.expected q (row r)
-    by (Some r) = send-leads d x q p place r is.kind mtu
+    by (Some r) = send-leads d x q p place r is.kind is.writes mtu
     by None = plain (ReceivesIn d x q.responder.expected (responder_in q)) (refusal_effects InvalidRequest q) (refusal-does d x q InvalidRequest mtu)
 valid-leads d x q p envelope next (shapes.Write place) mtu is = by (write_reach q p)
   where
@@ -380,7 +406,7 @@ valid-leads d x q p envelope next (shapes.Write place) mtu is = by (write_reach 
     row None = plain_row (Does (refusal_effects InvalidRequest q))
 
     by : (r : Option WriteReach) → Leads d x q.responder.expected q (row r)
-    by (Some r) = write-leads d x q p envelope place next r is.kind mtu
+    by (Some r) = write-leads d x q p envelope place next r is.kind is.writes mtu
     by None = plain (ReceivesIn d x q.responder.expected (responder_in q)) (refusal_effects InvalidRequest q) (refusal-does d x q InvalidRequest mtu)
 valid-leads d x q p envelope next shapes.Read mtu is = by p.reth (is.asks is.kind)
   where
@@ -404,7 +430,7 @@ valid-leads d x q p envelope next (shapes.Atomic kind) mtu is = by p.atomic
 rnr-does : (d : Direction) (x : RequestPacket) (q : QueuePair) → q.responder.mtu ≡ d.mtu → ReceivesIn d x q.responder.expected (responder_in q) (rnr_effects q)
 rnr-does d x q mtu = received d x q.responder.expected (responder_in q) (rnr_effects q) q.responder.expected (q.responder.answers ++ (queued.Rnr q.responder.expected ∷ [])) q.saved (Rejected ReceiverNotReady)
     (with_response (responder_in q) (map said q.responder.answers) (Nak ReceiverNotReady q.responder.expected)) (record { expected = refl; answers = refl; saved = refl; mtu = mtu })
-    refl (said-more q.responder.answers (queued.Rnr q.responder.expected)) refl (refuse ReceiverNotReady refl (keeps-all (map said q.responder.answers))) refl
+    refl (said-more q.responder.answers (queued.Rnr q.responder.expected)) refl (refuse ReceiverNotReady refl (keeps-all (map said q.responder.answers))) refl refl
 
 expected-leads : (d : Direction) (x : RequestPacket) (before : QueuePair) (p : Fields) (envelope : Option ℕ) (shared : Option SharedReceives) (shape : Shape) → before.responder.mtu ≡ d.mtu
     → RequestEntry d x shape p → Leads d x before.responder.expected before (expected_row before shared p envelope shape)
@@ -428,7 +454,7 @@ ahead-does d x w q mtu ahead = by q.responder.nak_sent
     by true = drop-does d x w q drops.Stale mtu
     by false = received d x w (responder_in q) queued_nak q.responder.expected (q.responder.answers ++ (queued.Nak q.responder.expected (nak_code PsnSequenceError) ∷ [])) q.saved Neither
         (with_response (responder_in q) (map said q.responder.answers) (Nak SequenceReason q.responder.expected)) (record { expected = refl; answers = refl; saved = refl; mtu = mtu })
-        refl (said-nak q.responder.answers q.responder.expected PsnSequenceError) refl (sequence_error ahead (keeps-all (map said q.responder.answers))) refl
+        refl (said-nak q.responder.answers q.responder.expected PsnSequenceError) refl (sequence_error ahead (keeps-all (map said q.responder.answers))) refl refl
 
 ack-again-does : (d : Direction) (x : RequestPacket) (w : ℕ) (q : QueuePair) → q.responder.mtu ≡ d.mtu → w < q.responder.expected → ReceivesIn d x w (responder_in q) (ack_again q)
 ack-again-does d x w q mtu before = by (length q.responder.answers == 0)
@@ -439,7 +465,7 @@ ack-again-does d x w q mtu before = by (length q.responder.answers == 0)
     by : (b : Bool) → ReceivesIn d x w (responder_in q) (if b then acked else drop_effects q drops.Unsaved)
     by true = received d x w (responder_in q) acked q.responder.expected (q.responder.answers ++ (queued.Ack (q.responder.expected - 1) ∷ [])) q.saved Neither
         (with_response (responder_in q) (map said q.responder.answers) (Ack (q.responder.expected - 1))) (record { expected = refl; answers = refl; saved = refl; mtu = mtu })
-        refl (said-more q.responder.answers (queued.Ack (q.responder.expected - 1))) refl (write_again (q.responder.expected - 1) before (omega (arith, before)) (keeps-all (map said q.responder.answers))) refl
+        refl (said-more q.responder.answers (queued.Ack (q.responder.expected - 1))) refl (write_again (q.responder.expected - 1) before (omega (arith, before)) (keeps-all (map said q.responder.answers))) refl refl
     by false = drop-does d x w q drops.Unsaved mtu
 
 -- the answers before a PSN are some of those that wait
@@ -460,7 +486,7 @@ read-again-does d x w q envelope h is mtu bytes = by (nat_le (w + segments q.res
     by true e = received d x w (responder_in q) (answer_again w answer q) q.responder.expected (kept ++ (answer ∷ [])) q.saved Neither
         (with_response (responder_in q) (map said kept) (Data w (bytes_left d x.place x.number))) (record { expected = refl; answers = refl; saved = refl; mtu = mtu })
         refl (said-read kept answer w h.length (bytes_left d x.place x.number) refl bytes) refl
-        (read_once_more is (subst (λ m. w + m ≤ q.responder.expected) (read-span d x q.responder.mtu h.length is mtu bytes) (leb-true (w + segments q.responder.mtu h.length) q.responder.expected e)) (keeps-before w q.responder.answers)) refl
+        (read_once_more is (subst (λ m. w + m ≤ q.responder.expected) (read-span d x q.responder.mtu h.length is mtu bytes) (leb-true (w + segments q.responder.mtu h.length) q.responder.expected e)) (keeps-before w q.responder.answers)) refl refl
     by false e = drop-does d x w q drops.Unsaved mtu
 
 -- a result that is found at a PSN is saved there
@@ -483,7 +509,7 @@ atomic-again-does d x w q mtu = by (saved_at w q.saved) refl
     by None e = drop-does d x w q drops.Unsaved mtu
     by (Some found) e = received d x w (responder_in q) (answer_again w (queued.Atomic w found true) q) q.responder.expected (answers_before w q.responder.answers ++ (queued.Atomic w found true ∷ [])) q.saved Neither
         (with_response (responder_in q) (map said (answers_before w q.responder.answers)) (Found w found)) (record { expected = refl; answers = refl; saved = refl; mtu = mtu })
-        refl (said-more (answers_before w q.responder.answers) (queued.Atomic w found true)) refl (atomic_once_more found (saved-contains w found q.saved e) (keeps-before w q.responder.answers)) refl
+        refl (said-more (answers_before w q.responder.answers) (queued.Atomic w found true)) refl (atomic_once_more found (saved-contains w found q.saved e) (keeps-before w q.responder.answers)) refl refl
 
 duplicate-does : (d : Direction) (x : RequestPacket) (w : ℕ) (q : QueuePair) (p : Fields) (envelope : Option ℕ) (shape : Shape) → q.responder.mtu ≡ d.mtu → RequestEntry d x shape p → w < q.responder.expected
     → ReceivesIn d x w (responder_in q) (duplicate_effects w p envelope shape q)

@@ -1,7 +1,7 @@
 -- Which packet stands for which entry of a link: a request packet, and a response. Contracts cite it.
-use Rattle.std.specs.Prelude.{◌≡◌, ℕ, ◌%◌, ◌^◌, true, false, List, Option, None, Some, IfSome, Ok}
+use Rattle.std.specs.Prelude.{◌≡◌, ℕ, ◌%◌, ◌^◌, Bool, true, false, List, Option, None, Some, IfSome, Ok}
 use Rattle.std.specs.Option.{option_and_then}
-use Rattle.ca_connection.specs.Layout.{Direction, Work, bytes_left, is_atomic, is_data, is_read}
+use Rattle.ca_connection.specs.Layout.{Direction, Work, bytes_left, is_atomic, is_data, is_read, is_write}
 use Rattle.ca_connection.specs.Link.{NakReason, RequestPacket, Response, number_of}
 use Rattle.ca_connection.specs.Link.NakReason.{ReceiverNotReady}
 use Rattle.ca_connection.specs.Link.Response.{Ack, Nak, Data, Found}
@@ -24,11 +24,19 @@ IsShapeOf work (shapes.Write position) = is_data work ≡ true
 IsShapeOf work shapes.Read = is_read work ≡ true
 IsShapeOf work (shapes.Atomic kind) = is_atomic work ≡ true
 
+-- a packet of this shape writes
+abbrev pub is_write_shape : Shape → Bool
+is_write_shape (shapes.Send position) = false
+is_write_shape (shapes.Write position) = true
+is_write_shape shapes.Read = false
+is_write_shape (shapes.Atomic kind) = false
+
 -- The packet is the one with this number, of the request at this place: its PSN is the number's, its shape is of the request's
 -- kind, and a READ asks for the bytes that are left.
 pub record RequestEntry (d : Direction) (x : RequestPacket) (shape : Shape) (p : Fields) : Type 0 where
   pub psn : p.psn ≡ x.number % 2 ^ 24
   pub kind : IsShapeOf (d.work x.place) shape
+  pub writes : is_write (d.work x.place) ≡ is_write_shape shape
   pub asks : is_read (d.work x.place) ≡ true → IfSome p.reth (λ h. h.length ≡ bytes_left d x.place x.number)
 
 -- the syndrome of a packet, if it has one

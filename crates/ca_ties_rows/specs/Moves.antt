@@ -1,12 +1,12 @@
 -- What a row of the machine is as a move of a link. Contracts cite it.
-use Rattle.std.specs.Prelude.{◌≡◌, ◌⊎◌, ℕ, ◌+◌, ◌≤◌, true, if◌then◌else◌, List, [], ◌∷◌, ◌++◌, map, Option, None, Some}
+use Rattle.std.specs.Prelude.{◌≡◌, ◌⊎◌, ℕ, suc, ◌+◌, ◌≤◌, Bool, true, false, if◌then◌else◌, List, [], ◌∷◌, ◌++◌, map, Option, None, Some}
 use Rattle.ca_base.specs.declared.change.State.TheVariants as states
 use Rattle.ca_base.specs.declared.denied_ask.DeniedAsk.{DeniedAsk}
 use Rattle.ca_base.specs.declared.refusals.OpRefusal.{OpRefusal}
 use Rattle.ca_base.specs.objects.QueuePair.{QueuePair}
 use Rattle.ca_base.specs.declared.step.Sent.{Sent}
 use Rattle.ca_base.specs.declared.step.Sent.TheVariants.{Silent, Spelt}
-use Rattle.ca_connection.specs.Layout.{Direction, HasNumber, Work, is_atomic, span}
+use Rattle.ca_connection.specs.Layout.{Direction, HasNumber, Work, is_atomic, is_write, span}
 use Rattle.ca_connection.specs.Limits.{greatest_span, most_outstanding}
 use Rattle.ca_connection.specs.Link.{AtomicCompletion, Rejection, Requester, RequestPacket, Responder, Response}
 use Rattle.ca_connection.specs.Moves.{Keeps, Reception, Receives, Responds, Takes}
@@ -45,12 +45,29 @@ found_in work Neither = []
 found_in work (Rejected code) = []
 found_in work (Accepted found) = if is_atomic work then found ∷ [] else []
 
+-- the mark tells of a remote write
+abbrev pub is_written : Mark → Bool
+is_written (marks.Remote queue domain envelope key kind address length (verdicts.Wrote bytes)) = true
+is_written m = false
+
+-- how many remote writes there were, by their marks
+abbrev pub writes_told : List Mark → ℕ
+writes_told [] = 0
+writes_told (m ∷ ms) = if is_written m then suc (writes_told ms) else writes_told ms
+
+-- how often an accepted packet of a request wrote: once where that is a WRITE
+abbrev pub written_in : Work → Reception → ℕ
+written_in work Neither = 0
+written_in work (Rejected code) = 0
+written_in work (Accepted found) = if is_write work then 1 else 0
+
 -- The responder receives the packet, which it takes for number w, as a link's does; the marks of atomics tell of what it
--- found, and of nothing else.
+-- found, and of nothing else; and the marks tell of one remote write where a packet of a WRITE is accepted, else of none.
 pub record ReceivesIn (d : Direction) (x : RequestPacket) (w : ℕ) (r : Responder) (e : Effects) : Type 0 where
   pub reception : Reception
   pub receives : Receives d x w r (responder_in e.queue) reception
   pub found : numbers_found e.marks ≡ found_in (d.work x.place) reception
+  pub wrote : writes_told e.marks ≡ written_in (d.work x.place) reception
   pub mtu : e.queue.responder.mtu ≡ d.mtu
 
 -- The requester takes the response, for number w, as a link's does, and while requests are sent they lie as before.

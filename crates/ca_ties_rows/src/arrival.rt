@@ -11,7 +11,8 @@ ghost use Rattle.ca_ties_rows.specs.Moves.{ForgetsIn, LeavesState, ReceivesIn, R
 ghost use Rattle.ca_ties_rows.specs.Sides.{IsLaid, requester_in, responder_in};
 
 /// Bytes of a request packet that arrive are received as a link's responder may receive this packet, for the number that
-/// its PSN is taken for beside the expected one. An atomic's mark stands exactly where the packet was accepted.
+/// its PSN is taken for beside the expected one. An atomic's mark stands exactly where the packet was accepted, and so does
+/// the mark of a remote write of a WRITE.
 pub fn arriving_request_is_received()
     ensures { (d : Direction) (x : RequestPacket) (bytes : List ℕ) (envelope : Option ℕ)
         (shared : Option SharedReceives) (q : QueuePair) → q.responder.mtu ≡ d.mtu → SpellsRequest d x bytes

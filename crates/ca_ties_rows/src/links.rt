@@ -10,7 +10,7 @@ ghost use Rattle.ca_ties_rows.specs.Sides.{requester_in, responder_in};
 
 /// A request packet that may be delivered to the responder of a link is taken for the number with which it was sent; and
 /// where it is received, a move leads to a link with the responder that is left. The numbers that an atomic found grew by
-/// those that the marks tell of.
+/// those that the marks tell of, and the accepted packets of a WRITE by this one, where they tell of a remote write.
 pub fn received_request_moves()
     ensures { (d : Direction) (l : Link) (k : ℕ) (x : RequestPacket) (e : Effects) → Reached d l → MayArrive l k x
         → ReceivesIn d x (widened l.responder.expected (x.number % 2 ^ 24)) l.responder e

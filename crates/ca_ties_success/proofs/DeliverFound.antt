@@ -1,5 +1,5 @@
 -- A delivery tells of the success of an atomic only where the link had accepted it. For proofs only.
-use Rattle.std.proofs.Common.{◌≡◌, ℕ, suc, ◌%◌, ◌^◌, ◌<◌, Bool, true, false, List, [], ◌∷◌, ◌++◌, Option, None, Some, IfSome, is_some, slice_get, refl, ap, sym, subst, ◌∙◌, arith, true≢false}
+use Rattle.std.proofs.Common.{◌≡◌, ℕ, suc, ◌%◌, ◌^◌, ◌<◌, ◌≤◌, Bool, true, false, List, [], ◌∷◌, ◌++◌, Option, None, Some, IfSome, is_some, slice_get, refl, ap, sym, subst, ◌∙◌, arith, true≢false}
 use Rattle.std.specs.List.{AllByRecursion, Contains}
 use Rattle.std.specs.Option.{option_and_then}
 use Rattle.ca_connection.specs.Once.{acceptances_of_request}
@@ -15,9 +15,10 @@ use Rattle.ca_base.specs.objects.QueuePair.{QueuePair, QueueSlot, NoQueue, Prese
 use Rattle.ca_base.specs.objects.SharedReceives.{SharedReceives, SrqSlot}
 use Rattle.ca_connection.proofs.LayoutLemmas.{first-is_atomic}
 use Rattle.ca_connection.proofs.ListLemmas.{contains-head}
-use Rattle.ca_connection.proofs.OnceLemmas.{law-completed}
-use Rattle.ca_connection.specs.Layout.{Direction, first, is_atomic}
-use Rattle.ca_connection.specs.Link.{Link, Requester, Response, number_of}
+use Rattle.ca_connection.proofs.OnceLemmas.{law-completed, law-numbers}
+use Rattle.ca_connection.specs.Layout.{Direction, first, is_atomic, start}
+use Rattle.ca_connection.specs.Link.{Link, Requester, Responder, Response, number_of}
+use Rattle.ca_connection.specs.Invariant.{NumberFact}
 use Rattle.ca_connection.specs.Moves.{MayBeTaken, with_one}
 use Rattle.ca_keys.specs.Equal.{queue_eq}
 use Rattle.ca_keys.specs.declared.names.QueueId.{QueueId}
@@ -141,7 +142,7 @@ module _ (d : Direction) (s r : Correspondent) (c : Configuration) (w : World) (
       lists_q = subst SlotListsFit there.is (lists name)
 
       elsewhere : (IsInLife w s q.queue → ⊥) → AreFound d s w l all e.marks
-      elsewhere other = all-found d s w l all q.queue (λ place. Unit {0}) (λ place is life atomic. absurd (other life)) e.marks own
+      elsewhere other = all-found d s w l all q.queue (λ place. Unit {0}) (λ place is life. absurd (other life)) e.marks own
 
       told : (is_sending q.state ≡ true → IsLaid d q) → ArrivalTold d q bytes e
       told laid = ends-do (ArrivalTold d q bytes) (arrival_row bytes (Some index) shared q) e ends (arrival-told d bytes (Some index) shared q there.sound laid lists_q)
@@ -195,19 +196,57 @@ module _ (d : Direction) (s r : Correspondent) (c : Configuration) (w : World) (
           number : widened q.requester.una (is.number % 2 ^ 24) ≡ first d place
           number = ap (λ (z : Requester). widened z.una (is.number % 2 ^ 24)) (sym same) ∙ ap (λ a. widened l.requester.una (number_of a % 2 ^ 24)) (sym is.says) ∙ is.at
 
+      -- what finishes was accepted: `una` never goes beyond the expected number
+      passes : (t : QueuePair) → IsPaired d s r (Present q) t → (own : RequesterTie d q l.requester) → (place : ℕ) → Finishes d q e.queue place
+          → (o : Option (Option Response)) → slice_get l.responses k ≡ o → EntryIs SpellsResponse SpellsSomeRequest o bytes → first d (suc place) ≤ l.responder.expected
+      passes t paired own place finishes None at entry = absurd entry
+      passes t paired own place finishes (Some None) at entry = absurd (omega (arith, finishes.2, beyond, ap (λ (z : Requester). z.una) does.requester))
+        where
+          beyond : q.requester.una < first d (suc place)
+          beyond = finishes-beyond d q e.queue place there.sound steady_q (own.laid (finishes-sending d q e.queue place there.sound steady_q finishes)) finishes
+
+          does : StaysIn d (requester_in q) e
+          does = ends-do (StaysIn d (requester_in q)) (arrival_row bytes (Some index) shared q) e ends (other-request-stays d bytes (Some index) shared q own.laid entry)
+      passes t paired own place finishes (Some (Some a)) at entry =
+          omega (arith, finishes.2, ap (λ (z : Requester). z.una) after.requester_is, ap (λ (z : Responder). z.expected) after.responder_is, chain.una_response_top, chain.response_top_expected)
+        where
+          sending : is_sending q.state ≡ true
+          sending = finishes-sending d q e.queue place there.sound steady_q finishes
+
+          same : l.requester ≡ requester_in q
+          same = own.sending sending
+
+          does : TakesIn d a (widened l.requester.una (number_of a % 2 ^ 24)) l.requester e
+          does = subst (λ (z : Requester). TakesIn d a (widened z.una (number_of a % 2 ^ 24)) z e) (sym same)
+              (ends-do (TakesIn d a (widened q.requester.una (number_of a % 2 ^ 24)) (requester_in q)) (arrival_row bytes (Some index) shared q) e ends (response-taken d a bytes (Some index) shared q there.sound own.laid entry))
+
+          may : MayBeTaken l k a
+          may = record { is = at; recent = lent-recent index (w.mailbox name) bytes (sound.things (Mailbox_of name)) lent }
+
+          after : IsTaken d l (requester_in e.queue) does.completion
+          after = (taken-moves d l k a e tied.reached may does).1
+
+          chain : NumberFact (start d) after.link.requester.una after.link.requester.cursor after.link.response_top after.link.responder.expected after.link.request_top
+          chain = law-numbers d after.link after.reached
+
       by : SenderTie d s r (Present q) (w.mailbox name) l.requester l.responses → AreFound d s w l all e.marks
       by (sender_before (sooner less) opens none) = elsewhere (λ life. omega (arith, less, here life))
       by (sender_before (unnamed t is same nobody) opens none) = all-found d s w l all q.queue (Finishes d q e.queue)
-          (λ place finishes life atomic. absurd (named (finishes-sending d q e.queue place there.sound steady_q finishes))) e.marks (told (λ sending. absurd (named sending))).tells
+          (λ place finishes life. absurd (named (finishes-sending d q e.queue place there.sound steady_q finishes))) e.marks (told (λ sending. absurd (named sending))).tells
         where
           named : is_sending q.state ≡ true → ⊥
           named sending = true≢false (sym (there.sound.connected (sending-connected q.state sending)) ∙ ap (λ (x : QueuePair). is_some x.peer) (present-same q t is) ∙ ap is_some nobody)
       by (sender_gone (later more) none) = elsewhere (λ life. omega (arith, more, here life))
       by (sender_gone (vacant gone same) none) = absurd (true≢false gone)
       by (sender_standing t paired stood entries) = all-found d s w l all q.queue (Finishes d q e.queue)
-          (λ place finishes life atomic. standing t paired own_tie entries place finishes atomic (slice_get l.responses k) refl
-          (subst (EntryIs SpellsResponse SpellsSomeRequest (slice_get l.responses k)) lent.brings (entry-at SpellsResponse SpellsSomeRequest (w.mailbox name).envelopes l.responses k lent.envelope entries lent.at))) e.marks (told own_tie.laid).tells
+          (λ place finishes life. record {
+            atomic = λ atomic. standing t paired own_tie entries place finishes atomic (slice_get l.responses k) refl entry;
+            passed = λ bears. passes t paired own_tie place finishes (slice_get l.responses k) refl entry;
+          }) e.marks (told own_tie.laid).tells
         where
+          entry : EntryIs SpellsResponse SpellsSomeRequest (slice_get l.responses k) bytes
+          entry = subst (EntryIs SpellsResponse SpellsSomeRequest (slice_get l.responses k)) lent.brings (entry-at SpellsResponse SpellsSomeRequest (w.mailbox name).envelopes l.responses k lent.envelope entries lent.at)
+
           own_tie : RequesterTie d q l.requester
           own_tie = subst (λ t. RequesterTie d t l.requester) (sym (present-same q t paired.present)) stood
 
@@ -219,4 +258,4 @@ module _ (d : Direction) (s r : Correspondent) (c : Configuration) (w : World) (
       at q bytes shared e there lent ends own true here = delivered q bytes shared e there lent ends own
           (subst (λ z. SenderTie d s r z (w.mailbox name) l.requester l.responses) there.is (subst (λ n. SenderTie d s r (w.queue n) (w.mailbox n) l.requester l.responses) (sym (queue-path name s.queue here)) tied.sender))
       at q bytes shared e there lent ends own false none = all-found d s w l (marks.Arrived q.queue (Some index) ∷ e.marks) q.queue (λ place. Unit {0})
-          (λ place is life atomic. absurd (true≢false (sym life.named ∙ ap (λ n. queue_eq n s.queue) there.named ∙ none))) e.marks own
+          (λ place is life. absurd (true≢false (sym life.named ∙ ap (λ n. queue_eq n s.queue) there.named ∙ none))) e.marks own

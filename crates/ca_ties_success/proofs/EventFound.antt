@@ -26,7 +26,7 @@ use Rattle.ca_base.specs.objects.Mailbox.{Mailbox, is_lost}
 use Rattle.ca_base.specs.objects.QueuePair.{QueuePair, Present, incarnation_of}
 use Rattle.ca_base.specs.objects.SharedReceives.{SharedReceives}
 use Rattle.ca_base.specs.objects.StateTable.{state_eq}
-use Rattle.ca_connection.specs.Layout.{Direction, is_atomic}
+use Rattle.ca_connection.specs.Layout.{Direction, is_atomic, is_data}
 use Rattle.ca_connection.specs.Link.{Link}
 use Rattle.ca_keys.specs.Refusals.{first_of}
 use Rattle.ca_keys.specs.declared.access.Ask.{Ask}
@@ -80,7 +80,7 @@ use Rattle.ca_ties_verbs.specs.ca_ties.Ties.SenderTie.{before as sender_before, 
 use Rattle.ca_ties_verbs.proofs.of_ca_ties_rows.LayLemmas.{LiesAt, all-lie, atomic-of-work, unfinished-lie}
 use Rattle.ca_ties_verbs.proofs.of_ca_ties_rows.RequestRowLemmas.{cond-row}
 use Rattle.ca_ties_verbs.specs.ca_ties_rows.Moves.{EndingLeads}
-use Rattle.ca_ties_verbs.specs.ca_ties_rows.Sides.{IsLaid}
+use Rattle.ca_ties_verbs.specs.ca_ties_rows.Sides.{IsLaid, work_of}
 use Rattle.ca_ties_success.proofs.ArrivalTells.{own-tell}
 use Rattle.ca_ties_success.proofs.DeliverFound.{deliver-leads, sending-connected, shares}
 use Rattle.ca_ties_success.proofs.FoundLemmas.{all-found, silent-found}
@@ -196,6 +196,20 @@ next-local q n turn = by (first_of (turn_refusals q)) refl (next_request q) refl
         }
         at false local e = absurd (true≢false (sym (ap (λ t. is_some (performed_by t)) e)))
 
+local-no-data : (op : SendOp) → is_local op ≡ true → is_data (work_of op) ≡ false
+local-no-data (ops.Bind1 window region address length rights) is = refl
+local-no-data (ops.Bind2 window region low address length rights) is = refl
+local-no-data (ops.FastReg region low buffer address length rights pages) is = refl
+local-no-data (ops.LocalInv key) is = refl
+local-no-data (ops.Send list) is = absurd (true≢false (sym is))
+local-no-data (ops.SendImm imm list) is = absurd (true≢false (sym is))
+local-no-data (ops.SendInv key list) is = absurd (true≢false (sym is))
+local-no-data (ops.Write address key list) is = absurd (true≢false (sym is))
+local-no-data (ops.WriteImm address key imm list) is = absurd (true≢false (sym is))
+local-no-data (ops.Read address key list) is = refl
+local-no-data (ops.CmpSwap address key compare swap list) is = refl
+local-no-data (ops.FetchAdd address key add list) is = refl
+
 local-no-atomic : (op : SendOp) → is_local op ≡ true → is_atomic_op op ≡ false
 local-no-atomic (ops.Bind1 window region address length rights) is = refl
 local-no-atomic (ops.Bind2 window region low address length rights) is = refl
@@ -257,10 +271,16 @@ module _ (d : Direction) (s r : Correspondent) (c : Configuration) (w : World) (
       by (sender_standing t paired stood entries) = (subst (λ t. RequesterTie d t l.requester) (sym (present-same q t paired.present)) stood).laid sending
 
   performed : (name : QueueId) (q : QueuePair) (n : Numbered) (e : Effects) (v : World) → IsFoundAt w name q → turn_of q ≡ Performs n → AllTell q.queue (λ place. place ≡ n.place) e.marks → P v e.marks
-  performed name q n e v there turn tell agrees = all-found d s w l e.marks q.queue (λ place. place ≡ n.place) (λ place is life atomic. absurd (no-atomic place is life atomic)) e.marks tell
+  performed name q n e v there turn tell agrees = all-found d s w l e.marks q.queue (λ place. place ≡ n.place) (λ place is life. record { atomic = λ atomic. absurd (no-atomic place is life atomic); passed = λ bears. absurd (no-data place is life bears) }) e.marks tell
     where
       own : IsNextLocal q n
       own = next-local q n turn
+
+      no-data : (place : ℕ) → place ≡ n.place → IsInLife w s q.queue → is_data (d.work place) ≡ true → ⊥
+      no-data place is life bears = true≢false (sym bears ∙ ap (λ k. is_data (d.work k)) is ∙ ap is_data lies.work ∙ local-no-data n.request.op own.local)
+        where
+          lies : LiesAt d n
+          lies = subst (λ o. IfSome o (LiesAt d)) own.next (next-lies d q (life-laid name q there own.sending life))
 
       no-atomic : (place : ℕ) → place ≡ n.place → IsInLife w s q.queue → is_atomic (d.work place) ≡ true → ⊥
       no-atomic place is life atomic = true≢false (sym atomic ∙ ap (λ k. is_atomic (d.work k)) is ∙ ap is_atomic lies.work ∙ sym (atomic-of-work n.request.op) ∙ local-no-atomic n.request.op own.local)
@@ -351,7 +371,7 @@ module _ (d : Direction) (s r : Correspondent) (c : Configuration) (w : World) (
     (
       record {},
       all-found d s w l (answer_mark call answers.Fine ∷ marks.Arrived q.queue None ∷ e.marks) q.queue (λ place. Unit {0})
-          (λ place one life atomic. absurd (other q agrees there life)) e.marks (own q shared e there same ends),
+          (λ place one life. absurd (other q agrees there life)) e.marks (own q shared e there same ends),
     ),
   ))
     where

@@ -220,7 +220,7 @@ module _ (c : Configuration) (w : World) (sound : IsSoundWorld c w) (all : Atomi
       (ends-do (Moves 0 [] q) (respond_row room q) e ends (ends-as (Moves 0 [] q) (respond_row room q) (respond-moved 0 [] room q))).sends)
   leads-lists (events.Timeout name hasten) = leads-timeout c w P name hasten sound (λ q silent v there sends replaces. turned-fit w v name q (after_timeout silent q).queue _ all there.is replaces (timeout-moved 0 [] q silent).sends)
   leads-lists (events.RnrWake name) = leads-wake c w P name sound (λ q v there sends replaces. turned-fit w v name q (after_wake q).queue _ all there.is replaces refl)
-  leads-lists (events.Deliver name index) = leads-deliver c w P name index sound (λ q bytes shared e v ms is good lent ends changes told.
+  leads-lists (events.Deliver name index) = leads-deliver c w P name index sound (λ q bytes shared e v ms is good lent ends changes told told_writes.
       turned-fit w v name q e.queue (after_delivery index (w.mailbox name)) all is (replaces-changed w v name (Present e.queue) (after_delivery index (w.mailbox name)) changes)
       (ends-do (Moves 0 [] q) (arrival_row bytes (Some index) shared q) e ends (ends-as (Moves 0 [] q) (arrival_row bytes (Some index) shared q) (arrival-moved 0 [] bytes (Some index) shared q))).sends)
 

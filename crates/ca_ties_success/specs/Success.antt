@@ -1,7 +1,8 @@
--- What the success of an atomic tells: that it acted once, and which number was put into its list. Laws cite it.
-use Rattle.std.specs.Prelude.{◌≡◌, ℕ, true, List, [], ◌∷◌, ◌++◌}
+-- What the success of a request tells: of an atomic, that it acted once, and which number was put into its list; of a SEND
+-- or a WRITE, that each of its packets was accepted. Laws cite it.
+use Rattle.std.specs.Prelude.{◌≡◌, ℕ, suc, ◌≤◌, true, List, [], ◌∷◌, ◌++◌}
 use Rattle.ca_base.specs.declared.correspondent.Correspondent.{Correspondent}
-use Rattle.ca_connection.specs.Layout.{Direction, is_atomic}
+use Rattle.ca_connection.specs.Layout.{Direction, first, is_atomic, is_data}
 use Rattle.ca_connection.specs.Link.{Link}
 use Rattle.ca_keys.specs.Memory.{little_endian_bytes}
 use Rattle.ca_keys.specs.declared.verdict.Verdict.TheVariants as verdicts
@@ -29,11 +30,16 @@ pub record IsFoundAndPut (d : Direction) (l : Link) (place : ℕ) (ms : List Mar
   pub alone : found_at place l.acceptances ≡ found ∷ []
   pub put : bytes_put ms ≡ little_endian_bytes found
 
--- where a mark tells that an atomic of the life that sends completed with success, it was so, by all marks of the event
+-- What the success of a request tells: of an atomic, that it was accepted once and what it found was put into lists; of a
+-- SEND or a WRITE, that all its numbers lie below the expected one: so each of its packets was accepted.
+pub record IsSuccess (d : Direction) (l : Link) (place : ℕ) (ms : List Mark) : Type 0 where
+  pub atomic : is_atomic (d.work place) ≡ true → IsFoundAndPut d l place ms
+  pub passed : is_data (d.work place) ≡ true → first d (suc place) ≤ l.responder.expected
+
+-- where a mark tells that a request of the life that sends completed with success, it was so, by all marks of the event
 abbrev pub SuccessIsFound : Direction → Correspondent → World → Link → List Mark → Mark → Type 0
 SuccessIsFound d s w l all (marks.Done queue x cause) =
-    is_send_success x ≡ true → IsInLife w s x.queue → is_atomic (d.work x.place) ≡ true
-    → IsFoundAndPut d l x.place all
+    is_send_success x ≡ true → IsInLife w s x.queue → IsSuccess d l x.place all
 SuccessIsFound d s w l all m = Unit {0}
 
 -- each of these marks does so

@@ -27,7 +27,7 @@ pub fn event_keeps_lists()
 
 /// Where an event of a world that is tied to a link tells that an atomic of the life that sends completed with success,
 /// the link had accepted that atomic exactly once, and the eight bytes of the number that it found are what the event
-/// put into lists.
+/// put into lists. Where it tells so of a SEND or a WRITE, the link had accepted each of its packets.
 pub fn successes_are_found()
     ensures { (d : Direction) (s r : Correspondent) (c : Configuration) (w : World) (l : Link) (event : Event)
         → IsSoundWorld c w → IsSteadyWorld w → AtomicListsFit w → IsTied d s r w l

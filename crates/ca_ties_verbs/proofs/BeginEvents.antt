@@ -97,7 +97,7 @@ module _ (c : Configuration) (w : World) (sound : IsSoundWorld c w) (follows : M
   P v ms = AllBeginEmpty v
 
   deliver-begins : (name : QueueId) (index : ℕ) → Leads w P (deliver_plan c name index)
-  deliver-begins name index = leads-deliver c w P name index sound (λ q bytes shared e v ms is good lent ends changes told.
+  deliver-begins name index = leads-deliver c w P name index sound (λ q bytes shared e v ms is good lent ends changes told told_writes.
       begins-turned w v name q e.queue (after_delivery index (w.mailbox name)) all is (replaces-changed w v name (Present e.queue) (after_delivery index (w.mailbox name)) changes)
       (ends-do (IsInner q) (arrival_row bytes (Some index) shared q) e ends (ends-as (IsInner q) (arrival_row bytes (Some index) shared q) (arrival-inner bytes (Some index) shared q))).peer
       (ends-do (λ e. BeginsEmpty e.queue) (arrival_row bytes (Some index) shared q) e ends (arrival-begins bytes (Some index) shared q (found-begins w name q all is)))

@@ -50,7 +50,7 @@ use Rattle.ca_ties_verbs.proofs.PollLemmas.{AreFreer, IsFreer, IsFreerSlot, poll
 use Rattle.ca_ties_verbs.proofs.PollLemmas.IsFreerSlot.{freer, untouched as freer_untouched}
 use Rattle.ca_ties_verbs.proofs.VerbTies.{IsGoingOn, TiedIfAgreed, change-ties, post-ties, receive-ties}
 use Rattle.ca_ties_verbs.proofs.WalkLemmas.{leads-change, leads-dealloc, leads-inject, leads-post, leads-receive, window_fewer}
-use Rattle.ca_ties_verbs.specs.Agrees.{AgreesWith, acted_by}
+use Rattle.ca_ties_verbs.specs.Agrees.{AgreesWith, acted_by, written_by}
 use Rattle.ca_ties_verbs.specs.Beginnings.{AllBeginEmpty}
 
 pub comes-weaker : (P Q : World → List Mark → Type 0) (o : Outcome) → ((v : World) (ms : List Mark) → P v ms → Q v ms) → Comes P o → Comes Q o
@@ -102,7 +102,7 @@ module _ (d : Direction) (s r : Correspondent) (c : Configuration) (w : World) (
       (λ cq us is freed agrees. polled cq us (poll-freers c w slot cq n us (put w (Cq_of slot) (Some (after_polls (length (take n cq.waiting)) cq))) sound is freed refl refl)))
     where
       polled : (cq : CompletionQueue) (us : List Update) → AreFreer w (put_all us (put w (Cq_of slot) (Some (after_polls (length (take n cq.waiting)) cq))))
-          → TiedAfter d s r w l (λ place. []) (put_all us (put w (Cq_of slot) (Some (after_polls (length (take n cq.waiting)) cq))))
+          → TiedAfter d s r w l (λ place. []) (λ place. []) (put_all us (put w (Cq_of slot) (Some (after_polls (length (take n cq.waiting)) cq))))
       polled cq us freers = tied-slots d s r w (put_all us (put w (Cq_of slot) (Some (after_polls (length (take n cq.waiting)) cq)))) l (λ m. freer-slot d _ _ (freers.queues m)) freers.mail tied
 
   pub dealloc-keeps : (by : ℕ) (slot : Slot) → Comes (TiedIfAgreed d s r w l) (step c w (events.Verb by (verbs.DeallocMw slot)))
@@ -128,8 +128,8 @@ module _ (d : Direction) (s r : Correspondent) (c : Configuration) (w : World) (
       inner q shared e ends = ends-do (IsInner q) (arrival_row bytes None shared q) e ends (ends-as (IsInner q) (arrival_row bytes None shared q) (arrival-inner bytes None shared q))
 
   -- a verb of which it is known without any agreement
-  anyway : (o : Outcome) → Comes (λ v ms. TiedAfter d s r w l (λ place. []) v) o → Comes (TiedIfAgreed d s r w l) o
-  anyway o came = comes-weaker (λ v ms. TiedAfter d s r w l (λ place. []) v) (TiedIfAgreed d s r w l) o (λ v ms after agrees. after) came
+  anyway : (o : Outcome) → Comes (λ v ms. TiedAfter d s r w l (λ place. []) (λ place. []) v) o → Comes (TiedIfAgreed d s r w l) o
+  anyway o came = comes-weaker (λ v ms. TiedAfter d s r w l (λ place. []) (λ place. []) v) (TiedIfAgreed d s r w l) o (λ v ms after agrees. after) came
 
   aside : (by : ℕ) (verb : Verb) → LeavesPairs verb → Comes (TiedIfAgreed d s r w l) (step c w (events.Verb by verb))
   aside by verb leaves = anyway (step c w (events.Verb by verb)) (aside-ties d s r c w l by verb leaves tied)
@@ -165,7 +165,7 @@ module _ (d : Direction) (s r : Correspondent) (c : Configuration) (w : World) (
   verb-keeps by (verbs.Load adapter buffer offset count) = aside by (verbs.Load adapter buffer offset count) (record {})
 
 pub event-ties : (d : Direction) (s r : Correspondent) (c : Configuration) (w : World) (l : Link) (event : Event) → IsSoundWorld c w → MailFollows w → AllBeginEmpty w → IsTied d s r w l
-    → Comes (λ v ms. AgreesWith d s r w ms → TiedAfter d s r w l (acted_by r w l event ms) v) (step c w event)
+    → Comes (λ v ms. AgreesWith d s r w ms → TiedAfter d s r w l (acted_by r w l event ms) (written_by r w l event ms) v) (step c w event)
 event-ties d s r c w l (events.Verb by verb) sound follows empty tied = verb-keeps d s r c w l sound empty tied by verb
 event-ties d s r c w l (events.Request name lot) sound follows empty tied = anyway d s r c w l sound empty tied _ (request-plan-ties d s r c w l name lot sound follows tied)
 event-ties d s r c w l (events.Respond name lot) sound follows empty tied = anyway d s r c w l sound empty tied _ (respond-ties d s r c w l name lot sound follows tied)

@@ -27,17 +27,19 @@ use Rattle.ca_ties_verbs.specs.Agrees.{IsInLife}
 
 -- the link stays as it is: the one way by which a verb here keeps a world tied
 pub stays : (d : Direction) (s r : Correspondent) (w v : World) (l : Link) → IsTied d s r w l → SenderTie d s r (v.queue s.queue) (v.mailbox s.queue) l.requester l.responses
-    → ReceiverTie d s r (v.queue r.queue) (v.mailbox r.queue) l.responder l.requests → TiedAfter d s r w l (λ place. []) v
+    → ReceiverTie d s r (v.queue r.queue) (v.mailbox r.queue) l.responder l.requests → TiedAfter d s r w l (λ place. []) (λ place. []) v
 stays d s r w v l tied sender receiver = record {
   link = l;
   tied = record { apart = tied.apart; reached = tied.reached; sender = sender; receiver = receiver };
   found = λ place atomic. refl;
   plain = λ place none. refl;
+  wrote = λ place is_so. refl;
+  unwritten = λ place none. refl;
   requests = requests_same refl;
 }
 
 -- nothing of queue pairs and mailboxes changes
-pub unchanged : (d : Direction) (s r : Correspondent) (w : World) (l : Link) → IsTied d s r w l → TiedAfter d s r w l (λ place. []) w
+pub unchanged : (d : Direction) (s r : Correspondent) (w : World) (l : Link) → IsTied d s r w l → TiedAfter d s r w l (λ place. []) (λ place. []) w
 unchanged d s r w l tied = stays d s r w w l tied tied.sender tied.receiver
 
 -- another value in one slot, and another mailbox there; all others are the same
@@ -73,7 +75,7 @@ other-receiver d s r q p m box responder requests same other (receiver_standing 
 pub tied-replaced : (d : Direction) (s r : Correspondent) (w v : World) (l : Link) (name : QueueId) (q p : QueuePair) (box : Mailbox) → w.queue name ≡ Present q → p.incarnation ≡ q.incarnation → Replaces w name (Present p) box v
     → (IsInLife w s name → SenderTie d s r (Present q) (w.mailbox name) l.requester l.responses → SenderTie d s r (Present p) box l.requester l.responses)
     → (IsInLife w r name → ReceiverTie d s r (Present q) (w.mailbox name) l.responder l.requests → ReceiverTie d s r (Present p) box l.responder l.requests)
-    → IsTied d s r w l → TiedAfter d s r w l (λ place. []) v
+    → IsTied d s r w l → TiedAfter d s r w l (λ place. []) (λ place. []) v
 tied-replaced d s r w v l name q p box is same replaces sends receives tied = stays d s r w v l tied (sender (queue_eq name s.queue) refl) (receiver (queue_eq name r.queue) refl)
   where
     sender : (b : Bool) → queue_eq name s.queue ≡ b → SenderTie d s r (v.queue s.queue) (v.mailbox s.queue) l.requester l.responses
@@ -134,7 +136,7 @@ still-receiver d s r q p m responder requests same (receiver_standing t paired o
 
 -- a change of one queue pair of which all is the same but its requester
 pub tied-still : (d : Direction) (s r : Correspondent) (w v : World) (l : Link) (name : QueueId) (q p : QueuePair) → w.queue name ≡ Present q → IsSameEnd q p → (IsInLife w s name → q.responder.mtu ≡ d.mtu → RequesterTie d q l.requester → RequesterTie d p l.requester)
-    → Replaces w name (Present p) (w.mailbox name) v → IsTied d s r w l → TiedAfter d s r w l (λ place. []) v
+    → Replaces w name (Present p) (w.mailbox name) v → IsTied d s r w l → TiedAfter d s r w l (λ place. []) (λ place. []) v
 tied-still d s r w v l name q p is same still replaces tied = tied-replaced d s r w v l name q p (w.mailbox name) is same.incarnation replaces
     (λ life. still-sender d s r q p (w.mailbox name) l.requester l.responses same (still life)) (λ life. still-receiver d s r q p (w.mailbox name) l.responder l.requests same) tied
 
@@ -144,7 +146,7 @@ pub data IsStillSlot (d : Direction) (a b : QueueSlot) : Type 0 where
   touched : (q p : QueuePair) → a ≡ Present q → b ≡ Present p → IsStill d q p → IsStillSlot d a b
 
 -- changes of queue pairs that stay so
-pub tied-slots : (d : Direction) (s r : Correspondent) (w v : World) (l : Link) → ((n : QueueId) → IsStillSlot d (w.queue n) (v.queue n)) → v.mailbox ≡ w.mailbox → IsTied d s r w l → TiedAfter d s r w l (λ place. []) v
+pub tied-slots : (d : Direction) (s r : Correspondent) (w v : World) (l : Link) → ((n : QueueId) → IsStillSlot d (w.queue n) (v.queue n)) → v.mailbox ≡ w.mailbox → IsTied d s r w l → TiedAfter d s r w l (λ place. []) (λ place. []) v
 tied-slots d s r w v l still mail tied = stays d s r w v l tied
     (subst (λ (f : QueueId → Mailbox). SenderTie d s r (v.queue s.queue) (f s.queue) l.requester l.responses) (sym mail) (sender (still s.queue)))
     (subst (λ (f : QueueId → Mailbox). ReceiverTie d s r (v.queue r.queue) (f r.queue) l.responder l.requests) (sym mail) (receiver (still r.queue)))

@@ -37,7 +37,7 @@ use Rattle.ca_ties_verbs.specs.Beginnings.{AllBeginEmpty, BeginsEmpty}
 
 -- a world is tied afterwards, where the marks agree
 abbrev pub TiedIfAgreed : Direction → Correspondent → Correspondent → World → Link → World → List Mark → Type 0
-TiedIfAgreed d s r w l v ms = AgreesWith d s r w ms → TiedAfter d s r w l (λ place. []) v
+TiedIfAgreed d s r w l v ms = AgreesWith d s r w ms → TiedAfter d s r w l (λ place. []) (λ place. []) v
 
 -- ---- states
 
@@ -174,7 +174,7 @@ IsGoingOn change = Unit {0}
 
 module _ (d : Direction) (s r : Correspondent) (w v : World) (l : Link) (name : QueueId) (q : QueuePair) where
   pub change-ties : (change : state_change.Change) → IsGoingOn change → IsFoundAt w name q → AllBeginEmpty w → is_among (allowed_from change) q.state ≡ true
-      → Replaces w name (Present (queue_after_change change q)) (box_after change q (w.mailbox name)) v → ChangeAgrees d s r w name change → IsTied d s r w l → TiedAfter d s r w l (λ place. []) v
+      → Replaces w name (Present (queue_after_change change q)) (box_after change q (w.mailbox name)) v → ChangeAgrees d s r w name change → IsTied d s r w l → TiedAfter d s r w l (λ place. []) (λ place. []) v
   change-ties changes.Init goes there empty among replaces agrees tied = tied-still d s r w v l name q (queue_after_change changes.Init q) there.is (record { incarnation = refl; peer = refl; mtu = refl; responder = refl })
       (λ life mtu tie. silent d (queue_after_change changes.Init q) l.requester (λ e. true≢false (ap is_idle e)) refl) replaces tied
   change-ties (changes.Rtr peer incarnation psn mtu rnr_code) goes there empty among replaces agrees tied =
@@ -259,12 +259,12 @@ receive-requester d q request x tie = by (state_eq q.state states.Error) refl
     by false is = same-requester d q (with_receive request q) refl refl refl refl x tie
 
 pub post-ties : (d : Direction) (s r : Correspondent) (w v : World) (l : Link) (name : QueueId) (q : QueuePair) (request : SendRequest) (drawn : Option ℕ) → IsFoundAt w name q
-    → Replaces w name (Present (after_flush (with_send request drawn q))) (w.mailbox name) v → (IsInLife w s name → PostAgrees d request.op (w.queue name)) → IsTied d s r w l → TiedAfter d s r w l (λ place. []) v
+    → Replaces w name (Present (after_flush (with_send request drawn q))) (w.mailbox name) v → (IsInLife w s name → PostAgrees d request.op (w.queue name)) → IsTied d s r w l → TiedAfter d s r w l (λ place. []) (λ place. []) v
 post-ties d s r w v l name q request drawn there replaces agrees tied = tied-still d s r w v l name q (after_flush (with_send request drawn q)) there.is
     (flushed-end q (with_send request drawn q) (record { incarnation = refl; peer = refl; mtu = refl; responder = refl }))
     (λ life mtu tie. post-requester d q request drawn l.requester there.sound (subst (PostAgrees d request.op) there.is (agrees life)) tie) replaces tied
 
 pub receive-ties : (d : Direction) (s r : Correspondent) (w v : World) (l : Link) (name : QueueId) (q : QueuePair) (request : RecvRequest) → IsFoundAt w name q
-    → Replaces w name (Present (after_flush (with_receive request q))) (w.mailbox name) v → IsTied d s r w l → TiedAfter d s r w l (λ place. []) v
+    → Replaces w name (Present (after_flush (with_receive request q))) (w.mailbox name) v → IsTied d s r w l → TiedAfter d s r w l (λ place. []) (λ place. []) v
 receive-ties d s r w v l name q request there replaces tied = tied-still d s r w v l name q (after_flush (with_receive request q)) there.is
     (flushed-end q (with_receive request q) (record { incarnation = refl; peer = refl; mtu = refl; responder = refl })) (λ life mtu tie. receive-requester d q request l.requester tie) replaces tied

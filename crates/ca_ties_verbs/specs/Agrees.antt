@@ -21,7 +21,7 @@ use Rattle.ca_model.specs.declared.mark.Mark.TheVariants as marks
 use Rattle.ca_model.specs.declared.verb.Verb.{Verb}
 use Rattle.ca_model.specs.declared.verb.Verb.TheVariants as verbs
 use Rattle.ca_model.specs.machine.World.{World}
-use Rattle.ca_ties.specs.Ties.{found_by_delivery}
+use Rattle.ca_ties.specs.Ties.{found_by_delivery, written_by_delivery}
 use Rattle.ca_ties.specs.ca_ties_rows.Sides.{work_of}
 
 -- The queue pair of this name is in this life: it is its queue pair, and its slot has its incarnation.
@@ -81,3 +81,8 @@ AgreesWith d s r w ms = Unit {0}
 abbrev pub acted_by : Correspondent → World → Link → Event → List Mark → ℕ → List ℕ
 acted_by r w l (events.Deliver name index) ms place = found_by_delivery r w l name index ms place
 acted_by r w l event ms place = []
+
+-- the numbers of the packets of a place's WRITE that wrote in an event, likewise
+abbrev pub written_by : Correspondent → World → Link → Event → List Mark → ℕ → List ℕ
+written_by r w l (events.Deliver name index) ms place = written_by_delivery r w l name index ms place
+written_by r w l event ms place = []

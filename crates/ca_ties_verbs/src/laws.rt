@@ -9,7 +9,7 @@ ghost use Rattle.ca_model.specs.machine.Sound.{IsSoundWorld};
 ghost use Rattle.ca_model.specs.machine.Step.{step};
 ghost use Rattle.ca_model.specs.machine.World.{World, opening_world};
 ghost use Rattle.ca_ties.specs.Ties.{IsTied, MailFollows, TiedAfter};
-ghost use Rattle.ca_ties_verbs.specs.Agrees.{AgreesWith, acted_by};
+ghost use Rattle.ca_ties_verbs.specs.Agrees.{AgreesWith, acted_by, written_by};
 ghost use Rattle.ca_ties_verbs.specs.Beginnings.{AllBeginEmpty};
 
 /// Before the first event all queue pairs begin empty: there are none.
@@ -26,10 +26,10 @@ pub fn event_keeps_beginnings()
 {}
 
 /// Every event of a sound world that is tied to a link, where what it answers agrees with the direction, leaves a world
-/// that is tied to a link to which moves lead; and the numbers that atomics found grew by those that the marks tell of,
-/// where the packet of such a request was delivered.
+/// that is tied to a link to which moves lead; the numbers that atomics found grew by those that the marks tell of, where
+/// the packet of such a request was delivered; and so did the accepted packets of WRITEs.
 pub fn event_keeps_ties()
     ensures { (d : Direction) (s r : Correspondent) (c : Configuration) (w : World) (l : Link) (event : Event)
         → IsSoundWorld c w → MailFollows w → AllBeginEmpty w → IsTied d s r w l
-        → Comes (λ v ms. AgreesWith d s r w ms → TiedAfter d s r w l (acted_by r w l event ms) v) (step c w event) }
+        → Comes (λ v ms. AgreesWith d s r w ms → TiedAfter d s r w l (acted_by r w l event ms) (written_by r w l event ms) v) (step c w event) }
 {}

@@ -23,6 +23,7 @@ use Rattle.ca_ordered.proofs.OrderedLemmas.{ordered-along}
 use Rattle.ca_taking.specs.Holding.{Known}
 use Rattle.ca_verbs.specs.Closing.{IsHistoryOf, IsLawful, stamped_from}
 use Rattle.ca_verbs.specs.Kept.{Kept, kept_of}
+use Rattle.ca_written.proofs.WrittenLemmas.{once-whole, written-whole}
 
 events-seen : (j : List Entry) → map (λ (e : EntryValue). e.event) (map entry_of j) ≡ map (λ (e : Entry). e.event) j
 events-seen [] = refl
@@ -59,6 +60,8 @@ lawful-of key v j limited all history = record {
   ordered = ordered-along (configuration_in key) zeros (map entry_of j) limited made follows;
   carried = whole-along (configuration_in key) zeros (map entry_of j) limited made follows;
   once = once-along (configuration_in key) zeros (map entry_of j) limited made follows;
+  written = written-whole (configuration_in key) zeros (map entry_of j) limited made follows;
+  written_once = once-whole (configuration_in key) zeros (map entry_of j) limited made follows;
   caused = caused-along (configuration_in key) zeros (map entry_of j) limited made follows;
   isolated = alone-goes (configuration_in key) zeros (map entry_of j) limited made follows;
 }

@@ -22,6 +22,7 @@ use Rattle.ca_parts.specs.Hands.{AllStand}
 use Rattle.ca_parts.specs.Lists.{Has}
 use Rattle.ca_taking.specs.Holding.{Known}
 use Rattle.ca_verbs.specs.Kept.{Kept, kept_of}
+use Rattle.ca_written.specs.Written.{Written, WrittenOnce}
 
 -- a list of entries with its stamps, of which the first is this
 abbrev pub stamped_from : ℕ → List Told → List Kept
@@ -47,7 +48,8 @@ pub record AreRemains (key : Settings) (v : Known) (j : List Entry) (parts : Lis
   pub stand : (k : ℕ) (x : PartValue) → slice_get parts k ≡ Some x → StandsFor key history.log k x
 
 -- A history over zeros is lawful: its stamps count from 0 and each verb has its answer, each access is judged by the grants
--- before it, each grant is licensed, what is carried has its cause, each atomic of a clean connection acts once, each
+-- before it, each grant is licensed, what is carried has its cause, each atomic of a clean connection acts once, each packet
+-- of a WRITE of a clean connection writes once and in order, all of them before the WRITE completes with success, each
 -- completion that is no success has its cause, what completes and what is polled is in order, and a closed group of domains
 -- gets what it would get alone.
 pub record IsLawful (key : Settings) (j : List Entry) : Type 0 where
@@ -57,6 +59,8 @@ pub record IsLawful (key : Settings) (j : List Entry) : Type 0 where
   pub ordered : Ordered zeros (map entry_of j)
   pub carried : Carried zeros (map entry_of j)
   pub once : Once zeros (map entry_of j)
+  pub written : Written zeros (map entry_of j)
+  pub written_once : WrittenOnce zeros (map entry_of j)
   pub caused : Caused zeros (map entry_of j)
   pub isolated : Isolated (configuration_in key) zeros (map entry_of j)
 

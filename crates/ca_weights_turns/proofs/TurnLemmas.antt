@@ -115,7 +115,7 @@ delivered-lowers c w v names name index q bytes shared e apart among fresh is s 
 pub delivery-lowers : (c : Configuration) (w : World) (names : List QueueId) (name : QueueId) (index : ℕ) → IsSoundWorld c w → AreApart names → is_among_names name names ≡ true → IsFreshAt index (w.mailbox name)
     → Comes (λ v ms. cursor_of (w.queue name) ≤ cursor_of (v.queue name) → world_weight names v < world_weight names w) (step c w (events.Deliver name index))
 delivery-lowers c w names name index sound apart among fresh = comes w P (deliver_plan c name index)
-    (leads-deliver c w P name index sound (λ q bytes shared e v ms is s lent ends has found up.
+    (leads-deliver c w P name index sound (λ q bytes shared e v ms is s lent ends has found told_writes up.
     delivered-lowers c w v names name index q bytes shared e apart among fresh is s lent ends has up))
   where
     P : World → List Mark → Type 0

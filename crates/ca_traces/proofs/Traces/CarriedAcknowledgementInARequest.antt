@@ -18,6 +18,7 @@ use Rattle.ca_model.specs.Entries.{EntryValue}
 use Rattle.ca_model.specs.Judged.{is_judged_history}
 use Rattle.ca_model.specs.Licensed.{is_licensed_history}
 use Rattle.ca_model.specs.Once.{is_once_history}
+use Rattle.ca_written.specs.Written.{is_written_history, is_written_once_history}
 use Rattle.ca_model.specs.Ordered.{is_ordered_history}
 use Rattle.ca_model.specs.Caused.{is_caused_history}
 use Rattle.ca_model.specs.Carried.{is_carried_history}
@@ -58,6 +59,14 @@ licensed = refl
 once : is_once_history zeros history ≡ true
 unfolding row_of be_bytes packet_bytes number_at bth_at front_at reth_from atomic_from aeth_from number_from payload_at payload_behind body_in packet_in
 once = refl
+
+written : is_written_history zeros history ≡ true
+unfolding row_of be_bytes packet_bytes number_at bth_at front_at reth_from atomic_from aeth_from number_from payload_at payload_behind body_in packet_in
+written = refl
+
+written_once : is_written_once_history zeros history ≡ true
+unfolding row_of be_bytes packet_bytes number_at bth_at front_at reth_from atomic_from aeth_from number_from payload_at payload_behind body_in packet_in
+written_once = refl
 
 ordered : is_ordered_history zeros history ≡ true
 unfolding row_of be_bytes packet_bytes number_at bth_at front_at reth_from atomic_from aeth_from number_from payload_at payload_behind body_in packet_in

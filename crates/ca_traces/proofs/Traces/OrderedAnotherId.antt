@@ -21,6 +21,7 @@ use Rattle.ca_model.specs.Judged.{is_judged_history}
 use Rattle.ca_model.specs.Licensed.{is_licensed_history}
 use Rattle.ca_model.specs.Carried.{is_carried_history}
 use Rattle.ca_model.specs.Once.{is_once_history}
+use Rattle.ca_written.specs.Written.{is_written_history, is_written_once_history}
 use Rattle.ca_model.specs.Caused.{is_caused_history}
 use Rattle.ca_model.specs.Ordered.{is_ordered_history}
 use Rattle.ca_model.proofs.Literals.{d, s, q, k, r, run, place, piece, list, request, completion, grant, entry}
@@ -65,6 +66,14 @@ carried = refl
 once : is_once_history zeros history ≡ true
 unfolding row_of be_bytes packet_bytes number_at bth_at front_at reth_from atomic_from aeth_from number_from payload_at payload_behind body_in packet_in
 once = refl
+
+written : is_written_history zeros history ≡ true
+unfolding row_of be_bytes packet_bytes number_at bth_at front_at reth_from atomic_from aeth_from number_from payload_at payload_behind body_in packet_in
+written = refl
+
+written_once : is_written_once_history zeros history ≡ true
+unfolding row_of be_bytes packet_bytes number_at bth_at front_at reth_from atomic_from aeth_from number_from payload_at payload_behind body_in packet_in
+written_once = refl
 
 caused : is_caused_history zeros history ≡ true
 unfolding row_of be_bytes packet_bytes number_at bth_at front_at reth_from atomic_from aeth_from number_from payload_at payload_behind body_in packet_in

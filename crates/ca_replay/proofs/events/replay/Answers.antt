@@ -16,6 +16,8 @@ use Rattle.ca_opening.specs.Opening.{opening_bytes}
 use Rattle.ca_ordered.proofs.OrderedLemmas.{ordered-along}
 use Rattle.ca_replay.proofs.ReplayLemmas.{from_opening, is_lawful, makes_history}
 use Rattle.ca_replay.proofs.events.replay.Goals as goal
+use Rattle.ca_written.proofs.WrittenLemmas.{once-whole, written-whole}
+use Rattle.ca_written.specs.Written.{Written, WrittenOnce}
 
 pub make_all-requires-clause-few : goal.make_all-requires-clause-few
 make_all-requires-clause-few c = omega (arith, c.in_ok-row.ensures.count, c.requires.few)
@@ -78,6 +80,26 @@ returns-clause-carried c = is_lawful Carried whole-along (configuration_of c.arg
 
 pub returns-clause-once : goal.returns-clause-once
 returns-clause-once c = is_lawful Once once-along (configuration_of c.args.opening.now.config)
+    (opening_bytes (configuration_of c.args.opening.now.config) c.args.opening.now.contents) c.args.events.now c.make_all.result c.requires.limited
+    (from_opening (configuration_of c.args.opening.now.config)
+    (opening_bytes (configuration_of c.args.opening.now.config) c.args.opening.now.contents) c.in_ok-row.row c.args.events.now c.make_all.result
+    c.in_ok-row.ensures.count
+    (c.make_all.ensures.run (configuration_of c.args.opening.now.config)
+    (opening_world (opening_bytes (configuration_of c.args.opening.now.config) c.args.opening.now.contents)) c.in_ok-row.ensures.world))
+    c.make_all.ensures.made
+
+pub returns-clause-written : goal.returns-clause-written
+returns-clause-written c = is_lawful Written written-whole (configuration_of c.args.opening.now.config)
+    (opening_bytes (configuration_of c.args.opening.now.config) c.args.opening.now.contents) c.args.events.now c.make_all.result c.requires.limited
+    (from_opening (configuration_of c.args.opening.now.config)
+    (opening_bytes (configuration_of c.args.opening.now.config) c.args.opening.now.contents) c.in_ok-row.row c.args.events.now c.make_all.result
+    c.in_ok-row.ensures.count
+    (c.make_all.ensures.run (configuration_of c.args.opening.now.config)
+    (opening_world (opening_bytes (configuration_of c.args.opening.now.config) c.args.opening.now.contents)) c.in_ok-row.ensures.world))
+    c.make_all.ensures.made
+
+pub returns-clause-written_once : goal.returns-clause-written_once
+returns-clause-written_once c = is_lawful WrittenOnce once-whole (configuration_of c.args.opening.now.config)
     (opening_bytes (configuration_of c.args.opening.now.config) c.args.opening.now.contents) c.args.events.now c.make_all.result c.requires.limited
     (from_opening (configuration_of c.args.opening.now.config)
     (opening_bytes (configuration_of c.args.opening.now.config) c.args.opening.now.contents) c.in_ok-row.row c.args.events.now c.make_all.result
