@@ -10,7 +10,7 @@ use Rattle.ca_agree_accesses.proofs.QuietLemmas.{AreUnheard, plain-unheard, refu
 use Rattle.ca_agree_accesses.proofs.TurnLemmas.{AreKept, Grows, IsKeptSlot, IsMet, agree-at, requests_of, same-slot, slot-grown}
 use Rattle.ca_agree_accesses.proofs.VerbLemmas.{RightBy, agree-more, right-answer}
 use Rattle.ca_agree_accesses.specs.Accesses.{AccessesAgree, AgreeInSlot, AgreeOnAccesses, AgreeOnResponder, GoesOn, IsAsked}
-use Rattle.ca_judged.proofs.of_ca_agree_keys.KeyVerbLemmas.{leads-unless-all}
+use Rattle.ca_endings.proofs.Leading.{leads-unless-all}
 use Rattle.ca_judged.proofs.of_ca_agree_keys.PlainLemmas.{flush-plain}
 use Rattle.ca_base.specs.Configuration.{Configuration}
 use Rattle.ca_base.specs.declared.change.State.{State}

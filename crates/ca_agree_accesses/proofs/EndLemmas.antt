@@ -6,7 +6,7 @@ use Rattle.ca_judged.proofs.of_ca_agree.LeadsLemmas.{comes}
 use Rattle.ca_judged.specs.ca_agree.Runs.{Comes, Leads}
 use Rattle.ca_agree_accesses.proofs.QuietLemmas.{IsQuiet, invalidate-quiet, less-same, operation-quiet}
 use Rattle.ca_agree_accesses.specs.Accesses.{IsEnded, IsEndedWorld}
-use Rattle.ca_judged.proofs.of_ca_agree_keys.FrameLemmas.{leads-from}
+use Rattle.ca_endings.proofs.Leading.{leads-from}
 use Rattle.ca_judged.proofs.of_ca_agree_keys.ToldLemmas.{ended}
 use Rattle.ca_base.specs.Configuration.{Configuration}
 use Rattle.ca_base.specs.Sight.{Invalidation, Sight, bytes_in, denial_in, first_denied, or_denied}

@@ -11,7 +11,7 @@ use Rattle.ca_agree_accesses.proofs.CarryLemmas.{passes-unheard}
 use Rattle.ca_agree_accesses.proofs.QuietLemmas.{AreUnheard, plain-unheard}
 use Rattle.ca_agree_accesses.proofs.TurnLemmas.{AreKept, Grows, IsKept, IsKeptSlot, IsMet, KeepsAccesses, Right, agree-kept, grows-then, kept-puts, same-past, same-slot, same-world, unheard-grows}
 use Rattle.ca_agree_accesses.specs.Accesses.{AccessesAgree, IsAsked, IsEndedWorld}
-use Rattle.ca_judged.proofs.of_ca_agree_keys.KeyVerbLemmas.{leads-unless-all}
+use Rattle.ca_endings.proofs.Leading.{leads-unless-all}
 use Rattle.ca_judged.proofs.of_ca_agree_keys.PlainLemmas.{flush-plain}
 use Rattle.ca_judged.proofs.of_ca_agree_keys.ToldLemmas.{ended}
 use Rattle.ca_base.specs.Configuration.{Adapter, Configuration}

@@ -7,7 +7,7 @@ use Rattle.std.proofs.lemmas.Option.{same_Some}
 use Rattle.std.specs.List.{list_all}
 use Rattle.std.specs.Option.{option_map_or}
 use Rattle.ca_agree_posts.proofs.GrantLemmas.{both-true}
-use Rattle.ca_agree_posts.proofs.PostTurnLemmas.{later-life, life-refl, other-life}
+use Rattle.ca_agree_posts.proofs.PostMade.{later-life, life-refl, other-life}
 use Rattle.ca_agree_posts.specs.Posts.{life}
 use Rattle.ca_agree_sends.specs.Completed.{AgreeOnCompleted, CompletedInSlot, StandBefore}
 use Rattle.ca_agree_sends.specs.InOrder.{completes_in_order}

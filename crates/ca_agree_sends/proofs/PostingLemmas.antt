@@ -10,7 +10,7 @@ use Rattle.ca_agree_posts.proofs.of_ca_agree.PathChangeLemmas.{Behind}
 use Rattle.ca_agree_posts.proofs.of_ca_agree.PathVerbLemmas.{agrees-present, call_of}
 use Rattle.ca_agree_posts.specs.ca_agree.Runs.{Leads}
 use Rattle.ca_agree_posts.proofs.of_ca_agree_keys.KeyTurnLemmas.{found}
-use Rattle.ca_agree_posts.proofs.PostTurnLemmas.{life-refl, other-life}
+use Rattle.ca_agree_posts.proofs.PostMade.{life-refl, other-life}
 use Rattle.ca_agree_posts.specs.Posts.{AgreeInSlot, life}
 use Rattle.ca_agree_sends.proofs.CompleteLemmas.{Complete, between-test, none-between, test-between}
 use Rattle.ca_agree_sends.proofs.SendLemmas.{IsReadyQueue, IsRequestAt, flush-complete}

@@ -8,7 +8,7 @@ use Rattle.ca_agree_posts.proofs.of_ca_agree.PathVerbLemmas.{call_of}
 use Rattle.ca_agree_posts.specs.ca_agree.Agreement.{HoldsAlong}
 use Rattle.ca_agree_posts.specs.ca_agree.Runs.{Comes, Leads}
 use Rattle.ca_agree_posts.proofs.GrantLemmas.{both-true}
-use Rattle.ca_agree_posts.proofs.PostEventLemmas.{event-posts-agree, opening-posts-agree}
+use Rattle.ca_agree_posts.proofs.PostLaws.{event-posts-agree, opening-posts-agree}
 use Rattle.ca_agree_posts.specs.Posts.{PostsAgree}
 use Rattle.ca_agree_sends.proofs.PostingLemmas.{order-dealloc_mw, order-dereg_mr, order-inject, order-poll, order-post_recv, order-post_send}
 use Rattle.ca_agree_sends.proofs.TurnLemmas.{IsMet, Ordering, order-deliver, order-request, order-respond, order-timeout, order-wake}

@@ -7,7 +7,7 @@ use Rattle.std.proofs.lemmas.Option.{same_Some}
 use Rattle.std.specs.List.{AllByRecursion, prefix_len}
 use Rattle.std.specs.Option.{option_map_or}
 use Rattle.std.specs.Prelude.{flat_map}
-use Rattle.ca_agree_posts.proofs.GoingLemmas.{numbers-at}
+use Rattle.ca_agree_posts.proofs.PlaceLemmas.{numbers-at}
 use Rattle.ca_agree_posts.proofs.GrantLemmas.{both-true}
 use Rattle.ca_agree_sends.proofs.CompleteLemmas.{Complete, IsNextSend, complete-append, none-between}
 use Rattle.ca_base.specs.Equal.{operation_eq, operation_number, status_eq}

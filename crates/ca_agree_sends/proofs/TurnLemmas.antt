@@ -6,7 +6,8 @@ use Rattle.ca_agree_posts.proofs.of_ca_agree.PathLemmas.{puts-append}
 use Rattle.ca_agree_posts.specs.ca_agree.Runs.{Leads}
 use Rattle.ca_agree_posts.proofs.of_ca_agree_keys.KeyTurnLemmas.{found}
 use Rattle.ca_agree_posts.proofs.PlaceLemmas.{IsPerformed, IsPostedAt, item-posted, performs}
-use Rattle.ca_agree_posts.proofs.PostTurnLemmas.{AreDrawn, IsDrawn, IsPosted, any-such, leads-perform}
+use Rattle.ca_agree_posts.proofs.PostTurnLemmas.{AreDrawn, IsDrawn, any-such, leads-perform}
+use Rattle.ca_agree_posts.proofs.PostMade.{IsPosted}
 use Rattle.ca_agree_posts.specs.Posts.{AgreeInSlot, AgreeOnSends, life}
 use Rattle.ca_agree_sends.proofs.CompleteLemmas.{Complete, complete-append, turned}
 use Rattle.ca_agree_sends.proofs.RowLemmas.{TellOfNone, arrival-completes, none-told, respond-completes, sent-completes, timeout-completes, wake-completes}

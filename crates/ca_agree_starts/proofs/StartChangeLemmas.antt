@@ -6,9 +6,9 @@ use Rattle.ca_agree_posts.proofs.of_ca_agree.LeadsLemmas.{leads-around, leads-un
 use Rattle.ca_agree_posts.proofs.of_ca_agree.PathChangeLemmas.{Behind, at-place}
 use Rattle.ca_agree_posts.proofs.of_ca_agree.PathVerbLemmas.{agrees-present, call_of}
 use Rattle.ca_agree_posts.specs.ca_agree.Runs.{Leads}
-use Rattle.ca_agree_posts.proofs.of_ca_agree_keys.KeyVerbLemmas.{leads-unless-all}
+use Rattle.ca_endings.proofs.Leading.{leads-unless-all}
 use Rattle.ca_agree_posts.proofs.PostLemmas.{AreNoAnswers}
-use Rattle.ca_agree_posts.proofs.PostTurnLemmas.{life-refl, other-life}
+use Rattle.ca_agree_posts.proofs.PostMade.{life-refl, other-life}
 use Rattle.ca_agree_posts.specs.Posts.{PostsAgree, life}
 use Rattle.ca_agree_starts.proofs.NumberLemmas.{none-before}
 use Rattle.ca_agree_starts.proofs.StartTurnLemmas.{AreKept, IsKeptSlot, IsReady, SameStarts, begun-same, own-no, posted_of, start-at}

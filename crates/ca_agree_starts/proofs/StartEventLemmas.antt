@@ -6,7 +6,7 @@ use Rattle.ca_agree_posts.proofs.of_ca_agree.LeadsLemmas.{comes}
 use Rattle.ca_agree_posts.proofs.of_ca_agree.PathVerbLemmas.{call_of}
 use Rattle.ca_agree_posts.specs.ca_agree.Agreement.{HoldsAlong}
 use Rattle.ca_agree_posts.specs.ca_agree.Runs.{Comes, Leads}
-use Rattle.ca_agree_posts.proofs.PostEventLemmas.{event-posts-agree, opening-posts-agree}
+use Rattle.ca_agree_posts.proofs.PostLaws.{event-posts-agree, opening-posts-agree}
 use Rattle.ca_agree_posts.specs.Posts.{PostsAgree}
 use Rattle.ca_agree_starts.proofs.StartChangeLemmas.{starts-create, starts-destroy, starts-modify}
 use Rattle.ca_agree_starts.proofs.StartTurnLemmas.{Agrees, IsReady, starts-deliver, starts-inject, starts-request, starts-respond, starts-timeout, starts-wake}

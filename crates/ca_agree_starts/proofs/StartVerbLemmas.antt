@@ -6,10 +6,10 @@ use Rattle.ca_agree_posts.proofs.of_ca_agree.LeadsLemmas.{leads-unless}
 use Rattle.ca_agree_posts.proofs.of_ca_agree.PathChangeLemmas.{Behind}
 use Rattle.ca_agree_posts.proofs.of_ca_agree.PathVerbLemmas.{agrees-present, call_of}
 use Rattle.ca_agree_posts.specs.ca_agree.Runs.{Leads}
-use Rattle.ca_agree_posts.proofs.of_ca_agree_keys.KeyVerbLemmas.{leads-unless-all}
+use Rattle.ca_endings.proofs.Leading.{leads-unless-all}
 use Rattle.ca_agree_posts.proofs.PlaceLemmas.{sending-well}
 use Rattle.ca_agree_posts.proofs.PostLemmas.{AreNoAnswers}
-use Rattle.ca_agree_posts.proofs.PostTurnLemmas.{life-refl, other-life}
+use Rattle.ca_agree_posts.proofs.PostMade.{life-refl, other-life}
 use Rattle.ca_agree_posts.specs.Posts.{AgreeOnSends}
 use Rattle.ca_agree_starts.proofs.NumberLemmas.{before-posted}
 use Rattle.ca_agree_starts.proofs.StartTurnLemmas.{Agrees, AreKept, IsKept, IsKeptSlot, IsReady, SameStarts, agree-kept, kept-puts, own-no, posted_of, posts-at, same-marks, same-slot, same-world, start-at}

@@ -4,25 +4,20 @@ use Rattle.std.proofs.Common.{◌≡◌, ℕ, ◌<◌, Bool, true, false, if◌t
 use Rattle.std.specs.Option.{option_map_or}
 use Rattle.ca_agree_posts.proofs.of_ca_agree_keys.SlotLemmas.{region-kind, region-slots, window-kind, window-slots}
 use Rattle.ca_agree_posts.specs.ca_agree_keys.InForce.{is_window_slot, slot_at}
-use Rattle.ca_agree_posts.proofs.GoingLemmas.{AreKeyless, EndKey, IsKeyless, TellOf}
-use Rattle.ca_agree_posts.proofs.PostLemmas.{IsNoRequest}
-use Rattle.ca_agree_posts.proofs.of_ca_agree_keys.CalmLemmas.{AreCalm, IsCalmMark}
-use Rattle.ca_agree_posts.proofs.of_ca_agree_keys.FrameLemmas.{AreLoose, IsLooseName}
+use Rattle.ca_agree_posts.proofs.PostFrame.{IsNoRequest}
+use Rattle.ca_endings.proofs.Footprint.{AreOutside, AreUnheard, Frame, Kind, MarkKind, kind_of, kind_of_mark}
 use Rattle.ca_agree_ways.specs.Ways.{AgreeOnWays, WaysAgree}
 use Rattle.ca_base.specs.Configuration.{Configuration}
 use Rattle.ca_base.specs.Sight.{Invalidation}
-use Rattle.ca_base.specs.declared.request.PostedSend.{PostedSend}
 use Rattle.ca_base.specs.declared.request.SendOp.{SendOp}
 use Rattle.ca_base.specs.declared.request.SendOp.TheVariants as ops
 use Rattle.ca_base.specs.objects.Region.{Region, RegionState, NoRegion, Free, Registered, FastRegistered, after_region_invalidation, grant_in_state, grant_of_region, is_fast_registered, state_after_invalidation, with_window_unbound}
 use Rattle.ca_base.specs.objects.Slices.{names_region, names_window, slot_of_key}
 use Rattle.ca_base.specs.objects.Window.{Binding, Window, without_binding}
-use Rattle.ca_base.specs.objects.WorkQueue.{WorkQueue}
 use Rattle.ca_keys.specs.Equal.{slot_eq}
 use Rattle.ca_keys.specs.Memory.{memory_after}
 use Rattle.ca_keys.specs.Numbers.{low_of}
 use Rattle.ca_keys.specs.declared.grant.Grant.{Grant}
-use Rattle.ca_keys.specs.declared.key.Key.{Key}
 use Rattle.ca_keys.specs.declared.names.QueueId.{QueueId}
 use Rattle.ca_keys.specs.declared.names.Slot.{Slot}
 use Rattle.ca_agree_posts.proofs.of_ca_laws_sound.SettledLemmas.{slot-path, slot-refl}
@@ -39,78 +34,21 @@ use Rattle.ca_model.specs.declared.verb.Verb.TheVariants as verbs
 use Rattle.ca_model.specs.machine.Plan.{Update, ◌:=◌, Write, put_all, write_all}
 use Rattle.ca_model.specs.machine.Row.{region_under}
 use Rattle.ca_model.specs.machine.Seen.{ending_changes}
-use Rattle.ca_model.specs.machine.World.{World, Name, Domain_of, Region_of, Window_of, Cq_of, Srq_of, Queue_of, Mailbox_of, Byte_at, Thing, put}
+use Rattle.ca_model.specs.machine.World.{World, Name, Region_of, Window_of, Thing, put}
+
+-- ---- what it reads and hears
+
+abbrev pub reads : Kind → Bool
+reads Kind.OfRegion = true
+reads Kind.OfWindow = true
+reads k = false
+
+abbrev pub hears : MarkKind → Bool
+hears MarkKind.Answered = true
+hears MarkKind.Grants = true
+hears k = false
 
 -- ---- the past
-
--- a mark that answers no verb and grants nothing
-abbrev pub IsGrantless : Mark → Type 0
-IsGrantless (marks.Verb by verb answer) = ⊥
-IsGrantless (marks.Granted g) = ⊥
-IsGrantless m = Unit {0}
-
-abbrev pub AreGrantless : List Mark → Type 0
-AreGrantless [] = Unit {0}
-AreGrantless (m ∷ ms) = IsGrantless m × AreGrantless ms
-
-pub grantless-append : (ms ns : List Mark) → AreGrantless ms → AreGrantless ns → AreGrantless (ms ++ ns)
-grantless-append [] ns one other = other
-grantless-append (m ∷ ms) ns one other = (one.0, grantless-append ms ns one.1 other)
-
-keyless-one : (name : QueueId) (sends : WorkQueue PostedSend) (ended : Option Key) (m : Mark) → IsKeyless name sends ended m → IsGrantless m
-keyless-one name sends ended (marks.Verb by verb answer) one = one
-keyless-one name sends ended (marks.Granted g) one = one
-keyless-one name sends ended (marks.Revoked adapter k) one = record {}
-keyless-one name sends ended (marks.Sent source target index request bytes) one = record {}
-keyless-one name sends ended (marks.Lost target index) one = record {}
-keyless-one name sends ended (marks.Arrived target index) one = record {}
-keyless-one name sends ended (marks.Timer queue silent) one = record {}
-keyless-one name sends ended (marks.Done queue x cause) one = record {}
-keyless-one name sends ended (marks.Stored place bytes) one = record {}
-keyless-one name sends ended (marks.Remote queue domain envelope k kind address count verdict) one = record {}
-keyless-one name sends ended (marks.Local queue domain k kind address count verdict) one = record {}
-keyless-one name sends ended (marks.Dropped target cause) one = record {}
-
-pub keyless-grantless : (name : QueueId) (sends : WorkQueue PostedSend) (ended : Option Key) (ms : List Mark) → AreKeyless name sends ended ms → AreGrantless ms
-keyless-grantless name sends ended [] all = record {}
-keyless-grantless name sends ended (m ∷ ms) all = (keyless-one name sends ended m all.0, keyless-grantless name sends ended ms all.1)
-
-end-grantless : (name : QueueId) (sends : WorkQueue PostedSend) (key : Key) (ms : List Mark) → EndKey name sends key ms → AreGrantless ms
-end-grantless name sends key [] all = absurd all
-end-grantless name sends key (marks.Revoked adapter k ∷ ms) all = (record {}, keyless-grantless name sends (Some key) ms all.2)
-end-grantless name sends key (marks.Verb by verb answer ∷ ms) all = absurd all.0
-end-grantless name sends key (marks.Granted g ∷ ms) all = absurd all.0
-end-grantless name sends key (marks.Sent source target index request bytes ∷ ms) all = absurd all.0
-end-grantless name sends key (marks.Lost target index ∷ ms) all = absurd all.0
-end-grantless name sends key (marks.Arrived target index ∷ ms) all = absurd all.0
-end-grantless name sends key (marks.Timer queue silent ∷ ms) all = absurd all.0
-end-grantless name sends key (marks.Done queue x cause ∷ ms) all = (record {}, end-grantless name sends key ms all.1)
-end-grantless name sends key (marks.Stored place bytes ∷ ms) all = (record {}, end-grantless name sends key ms all.1)
-end-grantless name sends key (marks.Remote queue domain envelope k kind address count verdict ∷ ms) all = (record {}, end-grantless name sends key ms all.1)
-end-grantless name sends key (marks.Local queue domain k kind address count verdict ∷ ms) all = (record {}, end-grantless name sends key ms all.1)
-end-grantless name sends key (marks.Dropped target cause ∷ ms) all = (record {}, end-grantless name sends key ms all.1)
-
-pub tell-grantless : (name : QueueId) (sends : WorkQueue PostedSend) (ended : Option Key) (ms : List Mark) → TellOf name sends ended ms → AreGrantless ms
-tell-grantless name sends None ms all = keyless-grantless name sends None ms all
-tell-grantless name sends (Some key) ms all = end-grantless name sends key ms all
-
-calm-one : (m : Mark) → IsCalmMark m → IsGrantless m
-calm-one (marks.Verb by verb answer) calm = calm
-calm-one (marks.Granted g) calm = calm
-calm-one (marks.Revoked adapter k) calm = record {}
-calm-one (marks.Sent source target index request bytes) calm = record {}
-calm-one (marks.Lost target index) calm = record {}
-calm-one (marks.Arrived target index) calm = record {}
-calm-one (marks.Timer queue silent) calm = record {}
-calm-one (marks.Done queue x cause) calm = record {}
-calm-one (marks.Stored place bytes) calm = record {}
-calm-one (marks.Remote queue domain envelope k kind address count verdict) calm = record {}
-calm-one (marks.Local queue domain k kind address count verdict) calm = record {}
-calm-one (marks.Dropped target cause) calm = record {}
-
-pub calm-grantless : (ms : List Mark) → AreCalm ms → AreGrantless ms
-calm-grantless [] calm = record {}
-calm-grantless (m ∷ ms) calm = (calm-one m calm.0, calm-grantless ms calm.1)
 
 -- two pasts that say the same of ways, and are of one event
 pub record SameWays (p r : Past) : Type 0 where
@@ -119,26 +57,17 @@ pub record SameWays (p r : Past) : Type 0 where
   pub event : r.at_hand.event ≡ p.at_hand.event
   pub answered : r.at_hand.answered ≡ p.at_hand.answered
 
-one-same : (m : Mark) → IsGrantless m → (p r : Past) → SameWays p r → SameWays p (after_mark m r)
-one-same (marks.Verb by verb answer) none p r same = absurd none
-one-same (marks.Granted g) none p r same = absurd none
-one-same (marks.Sent source target index request bytes) none p r same = record { low = same.low; way = same.way; event = same.event; answered = same.answered }
-one-same (marks.Lost target None) none p r same = record { low = same.low; way = same.way; event = same.event; answered = same.answered }
-one-same (marks.Lost target (Some index)) none p r same = record { low = same.low; way = same.way; event = same.event; answered = same.answered }
-one-same (marks.Revoked adapter key) none p r same = record { low = same.low; way = same.way; event = same.event; answered = same.answered }
-one-same (marks.Remote queue domain envelope key kind address count verdict) none p r same = record { low = same.low; way = same.way; event = same.event; answered = same.answered }
-one-same (marks.Local queue domain key kind address count verdict) none p r same = record { low = same.low; way = same.way; event = same.event; answered = same.answered }
-one-same (marks.Stored place bytes) none p r same = record { low = same.low; way = same.way; event = same.event; answered = same.answered }
-one-same (marks.Arrived target index) none p r same = record { low = same.low; way = same.way; event = same.event; answered = same.answered }
-one-same (marks.Dropped target cause) none p r same = record { low = same.low; way = same.way; event = same.event; answered = same.answered }
-one-same (marks.Timer queue silent) none p r same = record { low = same.low; way = same.way; event = same.event; answered = same.answered }
-one-same (marks.Done queue x cause) none p r same = record { low = same.low; way = same.way; event = same.event; answered = same.answered }
+one-same : (m : Mark) → hears (kind_of_mark m) ≡ false → (p r : Past) → SameWays p r → SameWays p (after_mark m r)
+one-same (marks.Verb by verb answer) un p r same = absurd (true≢false un)
+one-same (marks.Granted g) un p r same = absurd (true≢false un)
+one-same (marks.Lost target None) un p r same = record { low = same.low; way = same.way; event = same.event; answered = same.answered }
+one-same m un p r same = record { low = same.low; way = same.way; event = same.event; answered = same.answered }
 
-more-same : (ms : List Mark) → AreGrantless ms → (p r : Past) → SameWays p r → SameWays p (after_marks ms r)
+more-same : (ms : List Mark) → AreUnheard hears ms → (p r : Past) → SameWays p r → SameWays p (after_marks ms r)
 more-same [] none p r same = same
 more-same (m ∷ ms) none p r same = more-same ms none.1 p (after_mark m r) (one-same m none.0 p r same)
 
-pub same-ways : (ms : List Mark) → AreGrantless ms → (p : Past) → SameWays p (after_marks ms p)
+pub same-ways : (ms : List Mark) → AreUnheard hears ms → (p : Past) → SameWays p (after_marks ms p)
 same-ways ms none p = more-same ms none p p (record { low = refl; way = refl; event = refl; answered = refl })
 
 -- the low bytes, as an event ends that is no turn of a requester
@@ -225,12 +154,7 @@ kept-put w v (Window_of s) x kept keeps = record {
     binding : (t : Slot) (b : Bool) → slot_eq s t ≡ b → (o : Binding) → (if b then x else v.window t).binding ≡ Some o → (w.window t).binding ≡ Some o
     binding t true e o is = subst (λ u. (w.window u).binding ≡ Some o) (slot-path s t e) (kept.1 o is)
     binding t false e o is = keeps.binding t o is
-kept-put w v (Queue_of q) x kept keeps = record { low = keeps.low; fast = keeps.fast; grant = keeps.grant; slot = keeps.slot; binding = keeps.binding }
-kept-put w v (Mailbox_of q) x kept keeps = record { low = keeps.low; fast = keeps.fast; grant = keeps.grant; slot = keeps.slot; binding = keeps.binding }
-kept-put w v (Domain_of d) x kept keeps = record { low = keeps.low; fast = keeps.fast; grant = keeps.grant; slot = keeps.slot; binding = keeps.binding }
-kept-put w v (Cq_of s) x kept keeps = record { low = keeps.low; fast = keeps.fast; grant = keeps.grant; slot = keeps.slot; binding = keeps.binding }
-kept-put w v (Srq_of s) x kept keeps = record { low = keeps.low; fast = keeps.fast; grant = keeps.grant; slot = keeps.slot; binding = keeps.binding }
-kept-put w v (Byte_at p) x kept keeps = record { low = keeps.low; fast = keeps.fast; grant = keeps.grant; slot = keeps.slot; binding = keeps.binding }
+kept-put w v n x kept keeps = record { low = keeps.low; fast = keeps.fast; grant = keeps.grant; slot = keeps.slot; binding = keeps.binding }
 
 pub kept-puts : (w v : World) (us : List Update) → AreKept w us → KeepsWays w v → KeepsWays w (put_all us v)
 kept-puts w v [] kept keeps = keeps
@@ -246,21 +170,16 @@ kept-append w [] vs one other = other
 kept-append w (u ∷ us) vs one other = (one.0, kept-append w us vs one.1 other)
 
 -- changes of no region and of no window
-pub loose-kept : (w : World) (us : List Update) → AreLoose us → AreKept w us
-loose-kept w [] loose = record {}
-loose-kept w (u ∷ us) loose = (by u.name u.thing loose.0, loose-kept w us loose.1)
+pub outside-kept : (w : World) (us : List Update) → AreOutside reads us → AreKept w us
+outside-kept w [] out = record {}
+outside-kept w (u ∷ us) out = (by u.name u.thing out.0, outside-kept w us out.1)
   where
-    by : (n : Name) (x : Thing n) → IsLooseName n → IsKept w n x
-    by (Region_of s) x is = absurd is
-    by (Window_of s) x is = absurd is
-    by (Byte_at p) x is = absurd is
-    by (Queue_of q) x is = record {}
-    by (Mailbox_of q) x is = record {}
-    by (Domain_of d) x is = record {}
-    by (Cq_of s) x is = record {}
-    by (Srq_of s) x is = record {}
+    by : (n : Name) (x : Thing n) → reads (kind_of n) ≡ false → IsKept w n x
+    by (Region_of s) x is = absurd (true≢false is)
+    by (Window_of s) x is = absurd (true≢false is)
+    by n x is = record {}
 
-none-some : {A : Type 0} (x : A) (P : Type 0) → None ≡ Some x → P
+pub none-some : {A : Type 0} (x : A) (P : Type 0) → None ≡ Some x → P
 none-some x P e = absurd (true≢false (sym (ap is_some e)))
 
 -- what the end of a key changes
@@ -318,27 +237,27 @@ agree-fields lows low ways way w same other agree = subst (λ f. AgreeOnWays f w
 abbrev pub Agrees : Past → Event → World → List Mark → Type 0
 Agrees past event v ms = WaysAgree (at_end (after_marks ms (at_begin event past))) v
 
--- an event that is no turn of a requester ends so, behind marks that leave ways
-pub agree-left : (past p : Past) (event : Event) (w v : World) (ms : List Mark) → WaysAgree past w → IsNoRequest event → p.at_hand.event ≡ event → low_at_end p ≡ past.low → p.way ≡ past.way → AreGrantless ms → KeepsWays w v
-    → WaysAgree (at_end (after_marks ms p)) v
-agree-left past p event w v ms agree none is low way quiet keeps = agree-world (low_at_end (after_marks ms p)) (after_marks ms p).way w v keeps
-    (agree-fields past.low (low_at_end (after_marks ms p)) past.way (after_marks ms p).way w (low-end p (after_marks ms p) event none (same.event ∙ is) is same ∙ low) (same.way ∙ way) agree)
+-- what an event that is no turn of a requester has left so far: its end changes no low byte
+abbrev pub Left : Past → World → Type 0
+Left p w = IsNoRequest p.at_hand.event × AgreeOnWays (low_at_end p) p.way w.region w.window
+
+-- no change of another kind touches it, and no mark of another kind
+pub left-frame : Frame Left reads hears
+left-frame = record { put = puts; write = λ p w byte miss r. r; mark = heard }
   where
-    same : SameWays p (after_marks ms p)
-    same = same-ways ms quiet p
+    puts : (p : Past) (w : World) (n : Name) (x : Thing n) → reads (kind_of n) ≡ false → Left p w → Left p (put w n x)
+    puts p w (Region_of s) x miss r = absurd (true≢false miss)
+    puts p w (Window_of s) x miss r = absurd (true≢false miss)
+    puts p w n x miss r = r
 
-begin-low : (past : Past) (event : Event) → IsNoRequest event → low_at_end (at_begin event past) ≡ past.low
-begin-low past (events.Request queue lot) none = absurd none
-begin-low past (events.Verb consumer verb) none = refl
-begin-low past (events.Deliver queue index) none = refl
-begin-low past (events.Respond queue lot) none = refl
-begin-low past (events.Timeout queue hasten) none = refl
-begin-low past (events.RnrWake queue) none = refl
-
-pub agree-turn : (past : Past) (event : Event) (w : World) (us : List Update) (ws : List Write) (ms : List Mark) → IsNoRequest event → WaysAgree past w → AreGrantless ms → AreKept w us
-    → Agrees past event (write_all ws (put_all us w)) ms
-agree-turn past event w us ws ms none agree quiet kept = agree-left past (at_begin event past) event w (write_all ws (put_all us w)) ms agree none refl (begin-low past event none) refl quiet
-    (kept-writes w ws (put_all us w) (kept-puts w w us kept (same-world w)))
+    heard : (p : Past) (w : World) (m : Mark) → hears (kind_of_mark m) ≡ false → Left p w → Left (after_mark m p) w
+    heard p w m un r = (
+      subst IsNoRequest (sym same.event) r.0,
+      agree-fields (low_at_end p) (low_at_end (after_mark m p)) p.way (after_mark m p).way w (low-end p (after_mark m p) p.at_hand.event r.0 same.event refl same) same.way r.1,
+    )
+      where
+        same : SameWays p (after_mark m p)
+        same = one-same m un p p (record { low = refl; way = refl; event = refl; answered = refl })
 
 -- a region comes to stand for a grant
 pub region-granted : (lows : KeySlot → ℕ) (ways : KeySlot → Way) (region : Slot → Region) (window : Slot → Window) (s : Slot) (x : Region) (low : ℕ) (way : Way) → AgreeOnWays lows ways region window → s.slot < 0x8000

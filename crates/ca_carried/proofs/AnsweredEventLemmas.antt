@@ -9,7 +9,7 @@ use Rattle.ca_agree.specs.Agreement.{PathsAgree}
 use Rattle.ca_agree.specs.Runs.{Comes, Leads}
 use Rattle.ca_agree_accesses.proofs.of_ca_agree_keys.KeyTurnLemmas.{found}
 use Rattle.ca_agree_starts.proofs.of_ca_agree_posts.PlaceLemmas.{IsPerformed, IsPostedAt, item-posted, performs}
-use Rattle.ca_agree_starts.proofs.of_ca_agree_posts.PostEventLemmas.{event-posts-agree, opening-posts-agree}
+use Rattle.ca_agree_starts.proofs.of_ca_agree_posts.PostLaws.{event-posts-agree, opening-posts-agree}
 use Rattle.ca_agree_starts.specs.ca_agree_posts.Posts.{AgreeInSlot, PostsAgree}
 use Rattle.ca_agree_starts.proofs.PerformLemmas.{leads-local}
 use Rattle.ca_base.specs.Configuration.{Configuration}

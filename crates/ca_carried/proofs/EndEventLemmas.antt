@@ -14,10 +14,10 @@ use Rattle.ca_agree.specs.Runs.{Comes, Leads}
 use Rattle.ca_agree_accesses.proofs.EventLemmas.{carried-along, event-accesses-agree, opening-accesses-agree, requests-along}
 use Rattle.ca_agree_accesses.specs.Accesses.{AccessesAgree, IsEndedWorld}
 use Rattle.ca_agree_accesses.specs.Asked.{has_its_request, is_carried_remote}
-use Rattle.ca_agree_accesses.proofs.of_ca_agree_keys.KeyEventLemmas.{event-keys-agree, opening-keys-agree}
-use Rattle.ca_agree_accesses.proofs.of_ca_agree_keys.KeyTurnLemmas.{IsUp}
+use Rattle.ca_agree_accesses.proofs.of_ca_agree_keys.KeyLaws.{event-keys-agree, opening-keys-agree}
+use Rattle.ca_agree_accesses.proofs.of_ca_agree_keys.KeyFrame.{IsUp}
 use Rattle.ca_agree_accesses.specs.ca_agree_keys.InForce.{KeysAgree}
-use Rattle.ca_agree_starts.proofs.of_ca_agree_posts.PostEventLemmas.{event-posts-agree, opening-posts-agree}
+use Rattle.ca_agree_starts.proofs.of_ca_agree_posts.PostLaws.{event-posts-agree, opening-posts-agree}
 use Rattle.ca_agree_starts.specs.ca_agree_posts.Posts.{PostsAgree}
 use Rattle.ca_agree_starts.proofs.StartEventLemmas.{event-starts-agree, opening-starts-agree}
 use Rattle.ca_agree_starts.specs.Starts.{StartsAgree}

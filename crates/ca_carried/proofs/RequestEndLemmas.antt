@@ -10,7 +10,8 @@ use Rattle.ca_agree.proofs.PathLemmas.{marks-append}
 use Rattle.ca_agree.specs.Runs.{Leads}
 use Rattle.ca_agree_accesses.proofs.EndLemmas.{RowSees, leads-seen}
 use Rattle.ca_agree_accesses.proofs.TurnLemmas.{told-mtu}
-use Rattle.ca_agree_accesses.proofs.of_ca_agree_keys.KeyTurnLemmas.{IsUp, found}
+use Rattle.ca_agree_accesses.proofs.of_ca_agree_keys.KeyTurnLemmas.{found}
+use Rattle.ca_agree_accesses.proofs.of_ca_agree_keys.KeyFrame.{IsUp}
 use Rattle.ca_agree_accesses.proofs.of_ca_agree_keys.SightLemmas.{grant-seen}
 use Rattle.ca_agree_starts.specs.ca_agree_posts.Posts.{life}
 use Rattle.ca_agree_starts.proofs.NumberLemmas.{Linked}

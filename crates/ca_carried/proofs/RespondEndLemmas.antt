@@ -11,7 +11,8 @@ use Rattle.ca_agree.specs.Runs.{Leads}
 use Rattle.ca_agree_accesses.proofs.TurnLemmas.{told-mtu}
 use Rattle.ca_agree_accesses.specs.Accesses.{AccessesAgree, IsEndedWorld}
 use Rattle.ca_agree_accesses.specs.Asked.{has_its_request}
-use Rattle.ca_agree_accesses.proofs.of_ca_agree_keys.KeyTurnLemmas.{IsUp, found}
+use Rattle.ca_agree_accesses.proofs.of_ca_agree_keys.KeyTurnLemmas.{found}
+use Rattle.ca_agree_accesses.proofs.of_ca_agree_keys.KeyFrame.{IsUp}
 use Rattle.ca_agree_starts.specs.Starts.{StartsAgree}
 use Rattle.ca_base.specs.Configuration.{Configuration}
 use Rattle.ca_base.specs.declared.correspondent.Correspondent.{Correspondent}

@@ -7,7 +7,7 @@ use Rattle.ca_base.specs.declared.completion.WcStatus.TheVariants.{Flushed}
 use Rattle.ca_model.specs.Packets.{is_response}
 use Rattle.ca_agree.proofs.PathLemmas.{marks-append}
 use Rattle.ca_agree_sends.proofs.of_ca_agree_posts.GrantLemmas.{both-true}
-use Rattle.ca_agree_sends.proofs.of_ca_agree_posts.PostTurnLemmas.{life-refl, other-life}
+use Rattle.ca_agree_sends.proofs.of_ca_agree_posts.PostMade.{life-refl, other-life}
 use Rattle.ca_agree_sends.specs.ca_agree_posts.Posts.{life}
 use Rattle.ca_agree_sends.proofs.TurnLemmas.{AreAway, queues-left}
 use Rattle.ca_base.specs.declared.correspondent.Correspondent.{Correspondent}

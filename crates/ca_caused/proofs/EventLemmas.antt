@@ -8,7 +8,7 @@ use Rattle.ca_agree.proofs.PathVerbLemmas.{call_of}
 use Rattle.ca_agree.specs.Agreement.{HoldsAlong}
 use Rattle.ca_agree.specs.Runs.{Comes, Leads}
 use Rattle.ca_agree_sends.proofs.of_ca_agree_posts.GrantLemmas.{both-true}
-use Rattle.ca_agree_sends.proofs.of_ca_agree_posts.PostEventLemmas.{event-posts-agree, opening-posts-agree}
+use Rattle.ca_agree_sends.proofs.of_ca_agree_posts.PostLaws.{event-posts-agree, opening-posts-agree}
 use Rattle.ca_agree_sends.specs.ca_agree_posts.Posts.{PostsAgree}
 use Rattle.ca_caused.proofs.PostingLemmas.{cause-dealloc_mw, cause-dereg_mr, cause-inject, cause-poll, cause-post_recv, cause-post_send}
 use Rattle.ca_caused.proofs.TurnLemmas.{IsMet, Causing, cause-deliver, cause-request, cause-respond, cause-timeout, cause-wake}

@@ -3,7 +3,7 @@
 use Rattle.std.proofs.Common.{◌≡◌, ℕ, zero, suc, ◌+◌, ◌-◌, ◌≤◌, ◌<◌, nat_le, nat_lt, Bool, true, false, if◌then◌else◌, List, [], ◌∷◌, take, drop, sum_by, Option, None, Some, slice_get, refl, ap, ap₂, sym, subst, ◌∙◌, arith, find, length, is_some, true≢false}
 use Rattle.std.proofs.lemmas.Bool.Decides.{nat_tests}
 use Rattle.std.proofs.lemmas.Option.{same_Some}
-use Rattle.ca_agree_sends.proofs.of_ca_agree_posts.GoingLemmas.{numbers-at}
+use Rattle.ca_agree_sends.proofs.of_ca_agree_posts.PlaceLemmas.{numbers-at}
 use Rattle.ca_agree_sends.proofs.of_ca_agree_posts.GrantLemmas.{both-true}
 use Rattle.ca_agree_sends.proofs.of_ca_agree_posts.PlaceLemmas.{IsPerformed}
 use Rattle.ca_keys.specs.Refusals.{first_of}

@@ -6,7 +6,7 @@ use Rattle.std.specs.List.{list_all, list_any}
 use Rattle.std.specs.Option.{option_map, option_map_or}
 use Rattle.ca_agree.proofs.PathLemmas.{marks-append}
 use Rattle.ca_agree_sends.proofs.of_ca_agree_posts.GrantLemmas.{both-true}
-use Rattle.ca_agree_sends.proofs.of_ca_agree_posts.PostTurnLemmas.{life-refl}
+use Rattle.ca_agree_sends.proofs.of_ca_agree_posts.PostMade.{life-refl}
 use Rattle.ca_agree_sends.proofs.SendLemmas.{IsRequestAt}
 use Rattle.ca_base.specs.Equal.{status_eq}
 use Rattle.ca_base.specs.declared.change.State.TheVariants as states

@@ -59,7 +59,7 @@ use Rattle.ca_model.specs.Past.{after_mark}
 use Rattle.ca_model.specs.machine.Completions.{flush_marks}
 use Rattle.ca_keys.specs.Equal.{queue_eq}
 use Rattle.std.proofs.Common.{ap₂, zero, suc, ◌+◌, ◌≤◌, ◌∙◌, length, take, sum_by, arith, sym, true≢false}
-use Rattle.ca_agree_sends.proofs.of_ca_agree_posts.PostTurnLemmas.{life-refl, other-life}
+use Rattle.ca_agree_sends.proofs.of_ca_agree_posts.PostMade.{life-refl, other-life}
 use Rattle.ca_agree_sends.specs.ca_agree_posts.Posts.{AgreeInSlot}
 use Rattle.ca_base.specs.declared.change.State.{State}
 use Rattle.ca_base.specs.declared.limits.TheConstants.{MAX_RETRY}

@@ -5,7 +5,7 @@ use Rattle.std.specs.Result.{result_ok}
 use Rattle.ca_agree.proofs.LeadsLemmas.{AreAside, IsAsideName, leads-around, leads-queue, leads-unless}
 use Rattle.ca_agree.proofs.MailSentLemmas.{lent-sent}
 use Rattle.ca_agree.specs.Agreement.{PathsAgree, WereSent}
-use Rattle.ca_agree_sends.proofs.of_ca_agree_keys.KeyVerbLemmas.{leads-unless-all}
+use Rattle.ca_endings.proofs.Leading.{leads-unless-all}
 use Rattle.ca_agree_sends.proofs.of_ca_agree_posts.GrantLemmas.{both-true}
 use Rattle.ca_agree_sends.proofs.SendLemmas.{IsReadyQueue}
 use Rattle.ca_agree_sends.proofs.TurnLemmas.{AreAway, IsAway, Sends_of, away-append, ready-there, srq-away}
@@ -41,7 +41,8 @@ use Rattle.std.specs.Option.{option_map, option_map_or}
 use Rattle.ca_agree.specs.Runs.{Leads}
 use Rattle.ca_agree_sends.proofs.of_ca_agree_keys.KeyTurnLemmas.{found}
 use Rattle.ca_agree_sends.proofs.of_ca_agree_posts.PlaceLemmas.{IsPerformed, performs}
-use Rattle.ca_agree_sends.proofs.of_ca_agree_posts.PostTurnLemmas.{AreDrawn, IsDrawn, IsPosted}
+use Rattle.ca_agree_sends.proofs.of_ca_agree_posts.PostTurnLemmas.{AreDrawn, IsDrawn}
+use Rattle.ca_agree_sends.proofs.of_ca_agree_posts.PostMade.{IsPosted}
 use Rattle.ca_base.specs.Configuration.{Configuration}
 use Rattle.ca_base.specs.declared.completion.WcStatus.TheVariants.{MemoryManagement}
 use Rattle.ca_base.specs.declared.correspondent.Correspondent.{Correspondent}
@@ -76,7 +77,7 @@ use Rattle.ca_model.specs.machine.Timers.{after_timeout, after_wake, timeout_ref
 use Rattle.ca_model.specs.machine.Turns.{Fire, Leave_plan, Packet, Request_around, Respond_around, Timeout_around, With_receives, has_room_for, packet_sent, reaches_peer, request_plan, respond_plan, sent_marks, sent_updates, timeout_plan, wake_plan}
 use Rattle.ca_model.specs.machine.World.{Byte_at, Cq_of, Domain_of, Mailbox_of, Name, Queue_of, Region_of, Srq_of, Thing, Window_of, World}
 use Rattle.std.proofs.Common.{arith, true≢false, zero, ◌+◌, ◌-◌, ◌≤◌, ◌==◌, nat_lt, drop, map}
-use Rattle.ca_agree_sends.proofs.of_ca_agree_posts.OperationLemmas.{LocalDone, done_by, former_of, leads-done, named_in}
+use Rattle.ca_endings.proofs.Operations.{LocalDone, done_by, former_of, leads-done, named_in}
 use Rattle.ca_agree_sends.specs.ca_agree_posts.Posts.{AgreeInSlot, AgreeOnSends, as_posted}
 use Rattle.ca_base.specs.Sight.{Invalidation}
 use Rattle.ca_base.specs.declared.limits.TheConstants.{MAX_RETRY}

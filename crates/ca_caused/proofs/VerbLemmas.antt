@@ -12,7 +12,7 @@ use Rattle.ca_agree_sends.proofs.TurnLemmas.{AreAway, queues-left, srq-away}
 use Rattle.ca_caused.proofs.EndLemmas.{Passes, explained-idle, flush-agrees, slots-agree}
 use Rattle.ca_caused.proofs.PassLemmas.{faults-other, faults-own}
 use Rattle.ca_caused.proofs.TurnLemmas.{Causing, IsMet, was-there}
-use Rattle.ca_agree_sends.proofs.of_ca_agree_posts.PostTurnLemmas.{other-life}
+use Rattle.ca_agree_sends.proofs.of_ca_agree_posts.PostMade.{other-life}
 use Rattle.ca_base.specs.declared.change.State.TheVariants as states
 use Rattle.ca_base.specs.objects.StateTable.{state_eq}
 use Rattle.ca_model.specs.Past.{ErrorByVerb}
@@ -49,8 +49,8 @@ use Rattle.ca_model.specs.machine.QueuePairVerbs.{Creation, With_shared, before_
 use Rattle.ca_model.specs.machine.VerbAnswers.{Answer_plan, Call, Refuse_plan, Unless_plan, answer_mark, of_change_refusals}
 use Rattle.ca_model.specs.machine.World.{Byte_at, Cq_of, Domain_of, Mailbox_of, Name, Queue_of, Region_of, Srq_of, Thing, Window_of, World, put}
 use Rattle.std.proofs.Common.{◌≤◌, ◌+◌, ap₂, find, take, sum_by, arith, true≢false, ◌∙◌}
-use Rattle.ca_agree_sends.proofs.of_ca_agree_keys.KeyVerbLemmas.{leads-unless-all}
-use Rattle.ca_agree_sends.proofs.of_ca_agree_posts.PostTurnLemmas.{life-refl}
+use Rattle.ca_endings.proofs.Leading.{leads-unless-all}
+use Rattle.ca_agree_sends.proofs.of_ca_agree_posts.PostMade.{life-refl}
 use Rattle.ca_base.specs.declared.change.State.{State}
 use Rattle.ca_base.specs.declared.limits.TheConstants.{MAX_RETRY, PSN_BASE}
 use Rattle.ca_base.specs.objects.StateTable.{is_among}

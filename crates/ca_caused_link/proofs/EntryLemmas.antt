@@ -11,7 +11,7 @@ use Rattle.ca_agree.proofs.LeadsLemmas.{comes}
 use Rattle.ca_agree.proofs.MailSentLemmas.{lent-sent}
 use Rattle.ca_agree.specs.Agreement.{WereSent}
 use Rattle.ca_agree.specs.Runs.{Comes, Leads}
-use Rattle.ca_carried.proofs.of_ca_agree_posts.PostTurnLemmas.{life-refl}
+use Rattle.ca_carried.proofs.of_ca_agree_posts.PostMade.{life-refl}
 use Rattle.ca_base.specs.Configuration.{Configuration}
 use Rattle.ca_base.specs.declared.completion.Completion.{Completion}
 use Rattle.ca_base.specs.declared.completion.WcStatus.{WcStatus}

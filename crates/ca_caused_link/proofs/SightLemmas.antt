@@ -9,7 +9,7 @@ use Rattle.std.specs.Result.{result_ok}
 use Rattle.ca_agree.proofs.LeadsLemmas.{comes}
 use Rattle.ca_agree.specs.Runs.{Comes, Leads}
 use Rattle.ca_carried.proofs.of_ca_agree_accesses.EndLemmas.{RowSees, one-allowed}
-use Rattle.ca_carried.proofs.of_ca_agree_keys.FrameLemmas.{leads-from}
+use Rattle.ca_endings.proofs.Leading.{leads-from}
 use Rattle.ca_base.specs.Configuration.{Configuration}
 use Rattle.ca_base.specs.Sight.{Invalidation, Sight, bytes_in, denial_in, first_denied, runs_by_grant}
 use Rattle.ca_base.specs.declared.denied_ask.DeniedAsk.{DeniedAsk}

@@ -7,8 +7,8 @@ use Rattle.ca_laws_domains.proofs.of_ca_agree.EventFitLemmas.{first-marks}
 use Rattle.ca_laws_domains.specs.ca_agree.Agreement.{HoldsAlong}
 use Rattle.ca_laws_domains.specs.ca_agree.Runs.{Comes}
 use Rattle.ca_laws_writes.proofs.of_ca_agree_keys.ChangeLemmas.{region-small}
-use Rattle.ca_laws_writes.proofs.of_ca_agree_keys.KeyEventLemmas.{event-keys-agree, opening-keys-agree}
-use Rattle.ca_laws_writes.proofs.of_ca_agree_keys.KeyTurnLemmas.{IsUp}
+use Rattle.ca_laws_writes.proofs.of_ca_agree_keys.KeyLaws.{event-keys-agree, opening-keys-agree}
+use Rattle.ca_laws_writes.proofs.of_ca_agree_keys.KeyFrame.{IsUp}
 use Rattle.ca_laws_writes.proofs.of_ca_agree_keys.SlotLemmas.{key-slot-refl, region-kind, slot-at-region}
 use Rattle.ca_laws_writes.specs.ca_agree_keys.InForce.{KeysAgree, grant_in_force, grant_over_regions, slot_at}
 use Rattle.ca_base.specs.Configuration.{Configuration}

@@ -9,8 +9,9 @@ use Rattle.ca_agree_keys.proofs.of_ca_agree.PathChangeLemmas.{Behind}
 use Rattle.ca_agree_keys.proofs.of_ca_agree.PathVerbLemmas.{call_of}
 use Rattle.ca_agree_keys.specs.ca_agree.Runs.{Comes, Leads}
 use Rattle.ca_judged.proofs.JudgeLemmas.{Judges, RowJudged, Sees, both-true, bytes-refl, plain-judged}
-use Rattle.ca_agree_keys.proofs.KeyEventLemmas.{event-keys-agree, opening-keys-agree}
-use Rattle.ca_agree_keys.proofs.KeyTurnLemmas.{IsUp, found}
+use Rattle.ca_agree_keys.proofs.KeyLaws.{event-keys-agree, opening-keys-agree}
+use Rattle.ca_agree_keys.proofs.KeyTurnLemmas.{found}
+use Rattle.ca_agree_keys.proofs.KeyFrame.{IsUp}
 use Rattle.ca_judged.proofs.JudgeRowLemmas.{Arrives, arrival-judged, packet-judged, respond-judged, some-mtu}
 use Rattle.ca_agree_keys.proofs.SightLemmas.{grant-seen}
 use Rattle.ca_agree_keys.proofs.PlainLemmas.{timeout-plain, ArePlainMarks}

@@ -7,9 +7,9 @@ use Rattle.std.proofs.lemmas.List.Sums.{sum_by-cons}
 use Rattle.std.specs.List.{AllByRecursion}
 use Rattle.std.specs.Option.{option_eq, option_map_or}
 use Rattle.std.specs.Str.{bytes_eq}
-use Rattle.ca_agree_keys.proofs.CalmLemmas.{AreCalm}
+use Rattle.ca_agree_keys.proofs.CalmLemmas.{AreCalm, IsCalmMark}
 use Rattle.ca_agree_keys.proofs.PlainLemmas.{ArePlainMarks, IsPlainEffects}
-use Rattle.ca_agree_keys.proofs.ToldLemmas.{At, cut-most, leaves-calm, touch-alike}
+use Rattle.ca_agree_keys.proofs.ToldLemmas.{At, cut-most, touch-alike}
 use Rattle.ca_judged.proofs.WholeLemmas.{AreWhole, bytes-count, cut-none, reached}
 use Rattle.ca_keys.specs.Allowed.{denial_of, denial_under, grant_for}
 use Rattle.ca_keys.specs.Equal.{denial_eq}
@@ -84,8 +84,30 @@ pub plain-judged : (ms : List Mark) → ArePlainMarks ms → (p : Past) → each
 plain-judged [] plain p = refl
 plain-judged (m ∷ ms) plain p = both-true (is_judged p m) _ (plain-one m (plain.0, record {}) p) (plain-judged ms plain.1 (after_mark m p))
 
+calm-grants : (m : Mark) → IsCalmMark m → (p : Past) → (after_mark m p).grants ≡ p.grants
+calm-grants (marks.Verb by verb answer) calm p = absurd calm
+calm-grants (marks.Granted x) calm p = absurd calm
+calm-grants (marks.Revoked adapter key) calm p = absurd calm
+calm-grants (marks.Stored place bytes) calm p = absurd calm
+calm-grants (marks.Remote queue domain envelope key kind address count (verdicts.Denied denial)) calm p = refl
+calm-grants (marks.Remote queue domain envelope key kind address count (verdicts.Read bytes)) calm p = refl
+calm-grants (marks.Remote queue domain envelope key kind address count (verdicts.Wrote bytes)) calm p = absurd calm
+calm-grants (marks.Remote queue domain envelope key kind address count (verdicts.Swapped found put)) calm p = absurd calm
+calm-grants (marks.Local queue domain key kind address count (verdicts.Denied denial)) calm p = refl
+calm-grants (marks.Local queue domain key kind address count (verdicts.Read bytes)) calm p = refl
+calm-grants (marks.Local queue domain key kind address count (verdicts.Wrote bytes)) calm p = absurd calm
+calm-grants (marks.Local queue domain key kind address count (verdicts.Swapped found put)) calm p = absurd calm
+calm-grants (marks.Sent source target index request bytes) calm p = refl
+calm-grants (marks.Lost target None) calm p = refl
+calm-grants (marks.Lost target (Some index)) calm p = refl
+calm-grants (marks.Arrived target index) calm p = refl
+calm-grants (marks.Dropped target cause) calm p = refl
+calm-grants (marks.Timer queue silent) calm p = refl
+calm-grants (marks.Done queue x cause) calm p = refl
+
 pub calm-keeps : (g : List Grant) (ms : List Mark) → AreCalm ms → (p : Past) → With g p → With g (after_marks ms p)
-calm-keeps g ms calm p at = (leaves-calm p.grants p.memory ms calm p (record { grants = refl; memory = refl })).grants ∙ at
+calm-keeps g [] calm p at = at
+calm-keeps g (m ∷ ms) calm p at = calm-keeps g ms calm.1 (after_mark m p) (calm-grants m calm.0 p ∙ at)
 
 -- a sight by these grants, of these bytes
 pub record Sees (s : Sight) (g : List Grant) (m : ByteMap) : Type 0 where

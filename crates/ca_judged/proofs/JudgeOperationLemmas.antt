@@ -4,7 +4,7 @@ use Rattle.std.specs.Option.{option_and_then, option_map_or, option_map}
 use Rattle.ca_agree_keys.proofs.of_ca_agree.LeadsLemmas.{comes}
 use Rattle.ca_agree_keys.specs.ca_agree.Runs.{Comes, Leads}
 use Rattle.ca_judged.proofs.JudgeLemmas.{Judges, RowJudged, both-true, plain-judged}
-use Rattle.ca_agree_keys.proofs.FrameLemmas.{leads-from}
+use Rattle.ca_endings.proofs.Leading.{leads-from}
 use Rattle.ca_judged.proofs.JudgeRowLemmas.{invalidate-judged}
 use Rattle.ca_agree_keys.proofs.PlainLemmas.{failure-plain, success-plain}
 use Rattle.ca_base.specs.Configuration.{Configuration}

@@ -5,7 +5,8 @@ use Rattle.std.specs.Option.{option_map, option_map_or}
 use Rattle.ca_agree_ways.proofs.of_ca_agree.LeadsLemmas.{leads-around, leads-queue, leads-unless, leads-weaker, comes}
 use Rattle.ca_agree_ways.proofs.of_ca_agree.PathVerbLemmas.{call_of}
 use Rattle.ca_agree_ways.specs.ca_agree.Runs.{Leads, Comes}
-use Rattle.ca_agree_ways.proofs.of_ca_agree_keys.KeyTurnLemmas.{IsUp, found}
+use Rattle.ca_agree_ways.proofs.of_ca_agree_keys.KeyTurnLemmas.{found}
+use Rattle.ca_agree_ways.proofs.of_ca_agree_keys.KeyFrame.{IsUp}
 use Rattle.ca_agree_ways.specs.ca_agree_keys.InForce.{KeysAgree}
 use Rattle.ca_agree_ways.proofs.of_ca_agree_posts.GoingLemmas.{respond-goes, timeout-goes, failure-goes}
 use Rattle.ca_agree_ways.proofs.of_ca_agree_posts.PostLemmas.{leads-goes, leads-ends}
@@ -62,7 +63,7 @@ use Rattle.ca_model.specs.machine.Numbering.{Numbered}
 use Rattle.ca_model.specs.machine.Requester.{Performs, RequestTurn, Sends, Waits, packet_row, turn_of}
 use Rattle.ca_model.specs.machine.Sound.{AreLimited, CanBeMade, IsSoundWorld}
 use Rattle.ca_agree_ways.proofs.of_ca_agree.EventFitLemmas.{first-marks}
-use Rattle.ca_agree_ways.proofs.of_ca_agree_keys.KeyEventLemmas.{event-keys-agree, opening-keys-agree}
+use Rattle.ca_agree_ways.proofs.of_ca_agree_keys.KeyLaws.{event-keys-agree, opening-keys-agree}
 use Rattle.ca_keys.specs.Memory.{ByteMap}
 use Rattle.ca_agree_ways.proofs.of_ca_laws_names.PlacedLemmas.{event-placed, opening-placed}
 use Rattle.ca_agree_ways.specs.ca_laws_names.Placed.{IsPlacedWorld}

@@ -108,40 +108,48 @@ ieth-asks bytes f k is has-key = by (bth_at bytes) is
 
 -- ---- rows
 
--- the key that a row ends is the one that the packet names
-abbrev EndsNamed : Fields → Row → Type 0
-EndsNamed p row = IfSome row.invalidation (λ i. p.ieth ≡ Some i.key.0)
+-- a key of this queue pair's domain that the packet names is ended by this queue pair
+abbrev IsNamedAt : QueuePair → Option ℕ → Invalidation → Type 0
+IsNamedAt q named i = (named ≡ Some i.key.0) × ((i.queue ≡ q.queue) × (i.domain ≡ q.domain))
 
-named-of : (q : QueuePair) (p : Fields) → IfSome (invalidation_of q p) (λ i. p.ieth ≡ Some i.key.0)
+-- the key that a row of a queue pair ends is the one that the packet names
+abbrev EndsNamed : QueuePair → Fields → Row → Type 0
+EndsNamed q p row = IfSome row.invalidation (IsNamedAt q p.ieth)
+
+named-of : (q : QueuePair) (p : Fields) → IfSome (invalidation_of q p) (IsNamedAt q p.ieth)
 named-of q p = by p.ieth
   where
     ended : ℕ → Invalidation
     ended key = record { queue = q.queue; domain = q.domain; key = record { 0 = key } }
 
-    by : (o : Option ℕ) → IfSome (option_map ended o) (λ i. o ≡ Some i.key.0)
+    by : (o : Option ℕ) → IfSome (option_map ended o) (IsNamedAt q o)
     by None = record {}
-    by (Some key) = refl
+    by (Some key) = (refl, (refl, refl))
 
-pick : (p : Fields) (b : Bool) (x y : Row) → EndsNamed p x → EndsNamed p y → EndsNamed p (if b then x else y)
-pick p true x y one other = one
-pick p false x y one other = other
+pick : (q : QueuePair) (p : Fields) (b : Bool) (x y : Row) → EndsNamed q p x → EndsNamed q p y → EndsNamed q p (if b then x else y)
+pick q p true x y one other = one
+pick q p false x y one other = other
 
 -- a row of two, of which the one ends no key and the other what the packet names
-send-named : (q : QueuePair) (p : Fields) (position : Position) (r : Receiving) → EndsNamed p (send_row q p position r)
-send-named q p position r = by (nat_lt (list_length r.receive.receive.list.items) (r.before + length p.payload)) _ _ refl (named-of (if r.taken then with_receive_taken q else q) p)
+send-named : (q : QueuePair) (p : Fields) (position : Position) (r : Receiving) → EndsNamed q p (send_row q p position r)
+send-named q p position r = by (nat_lt (list_length r.receive.receive.list.items) (r.before + length p.payload)) _ _ refl (taking r.taken)
   where
-    by : (long : Bool) (x y : Row) → x.invalidation ≡ None → EndsNamed p y → EndsNamed p (if long then x else y)
-    by true x y none named = subst (λ o. IfSome o (λ i. p.ieth ≡ Some i.key.0)) (sym none) (record {})
+    taking : (b : Bool) → IfSome (invalidation_of (if b then with_receive_taken q else q) p) (IsNamedAt q p.ieth)
+    taking true = named-of (with_receive_taken q) p
+    taking false = named-of q p
+
+    by : (long : Bool) (x y : Row) → x.invalidation ≡ None → EndsNamed q p y → EndsNamed q p (if long then x else y)
+    by true x y none named = subst (λ o. IfSome o (IsNamedAt q p.ieth)) (sym none) (record {})
     by false x y none named = named
 
-valid-named : (q : QueuePair) (p : Fields) (envelope : Option ℕ) (next : Option PlacedReceive) (shape : Shape) → EndsNamed p (valid_row q p envelope next shape)
+valid-named : (q : QueuePair) (p : Fields) (envelope : Option ℕ) (next : Option PlacedReceive) (shape : Shape) → EndsNamed q p (valid_row q p envelope next shape)
 valid-named q p envelope next (shapes.Send position) = by (receiving_of q next q.responder.message)
   where
     row : Option Receiving → Row
     row (Some r) = send_row q p position r
     row None = plain_row (Does (refusal_effects InvalidRequest q))
 
-    by : (o : Option Receiving) → EndsNamed p (row o)
+    by : (o : Option Receiving) → EndsNamed q p (row o)
     by (Some r) = send-named q p position r
     by None = record {}
 valid-named q p envelope next (shapes.Write position) = by (write_reach q p)
@@ -150,7 +158,7 @@ valid-named q p envelope next (shapes.Write position) = by (write_reach q p)
     row (Some r) = write_row q p envelope position next r
     row None = plain_row (Does (refusal_effects InvalidRequest q))
 
-    by : (o : Option WriteReach) → EndsNamed p (row o)
+    by : (o : Option WriteReach) → EndsNamed q p (row o)
     by (Some r) = record {}
     by None = record {}
 valid-named q p envelope next shapes.Read = by p.reth
@@ -159,7 +167,7 @@ valid-named q p envelope next shapes.Read = by p.reth
     row (Some h) = plain_row (Does (read_queued q p envelope h))
     row None = plain_row (Does (refusal_effects InvalidRequest q))
 
-    by : (o : Option Reth) → EndsNamed p (row o)
+    by : (o : Option Reth) → EndsNamed q p (row o)
     by (Some r) = record {}
     by None = record {}
 valid-named q p envelope next (shapes.Atomic kind) = by p.atomic
@@ -168,28 +176,28 @@ valid-named q p envelope next (shapes.Atomic kind) = by p.atomic
     row (Some a) = atomic_row q p envelope kind a
     row None = plain_row (Does (refusal_effects InvalidRequest q))
 
-    by : (o : Option AtomicEth) → EndsNamed p (row o)
+    by : (o : Option AtomicEth) → EndsNamed q p (row o)
     by (Some r) = record {}
     by None = record {}
 
-expected-named : (before : QueuePair) (shared : Option SharedReceives) (p : Fields) (envelope : Option ℕ) (shape : Shape) → EndsNamed p (expected_row before shared p envelope shape)
-expected-named before shared p envelope shape = pick p (is_invalid q p shape) (plain_row (Does (refusal_effects InvalidRequest q))) _ (record {})
-    (pick p (takes_receive p shape && is_none (next_receive q shared)) (plain_row (Does (rnr_effects q))) (valid_row q p envelope (next_receive q shared) shape) (record {}) (valid-named q p envelope (next_receive q shared) shape))
+expected-named : (before : QueuePair) (shared : Option SharedReceives) (p : Fields) (envelope : Option ℕ) (shape : Shape) → EndsNamed before p (expected_row before shared p envelope shape)
+expected-named before shared p envelope shape = pick before p (is_invalid q p shape) (plain_row (Does (refusal_effects InvalidRequest q))) _ (record {})
+    (pick before p (takes_receive p shape && is_none (next_receive q shared)) (plain_row (Does (rnr_effects q))) (valid_row q p envelope (next_receive q shared) shape) (record {}) (valid-named q p envelope (next_receive q shared) shape))
   where
     q : QueuePair
     q = with_flag false before
 
-request-named : (p : Fields) (envelope : Option ℕ) (shared : Option SharedReceives) (shape : Shape) (q : QueuePair) → EndsNamed p (request_row p envelope shared shape q)
+request-named : (p : Fields) (envelope : Option ℕ) (shared : Option SharedReceives) (shape : Shape) (q : QueuePair) → EndsNamed q p (request_row p envelope shared shape q)
 request-named p envelope shared shape q = by (widened q.responder.expected p.psn)
   where
-    by : (psn : ℕ) → EndsNamed p (if nat_lt q.responder.expected psn then plain_row (Does (ahead_effects q))
+    by : (psn : ℕ) → EndsNamed q p (if nat_lt q.responder.expected psn then plain_row (Does (ahead_effects q))
         else if nat_lt psn q.responder.expected then plain_row (Does (duplicate_effects psn p envelope shape q))
         else expected_row q shared p envelope shape)
-    by psn = pick p (nat_lt q.responder.expected psn) (plain_row (Does (ahead_effects q))) _ (record {})
-        (pick p (nat_lt psn q.responder.expected) (plain_row (Does (duplicate_effects psn p envelope shape q))) (expected_row q shared p envelope shape) (record {}) (expected-named q shared p envelope shape))
+    by psn = pick q p (nat_lt q.responder.expected psn) (plain_row (Does (ahead_effects q))) _ (record {})
+        (pick q p (nat_lt psn q.responder.expected) (plain_row (Does (duplicate_effects psn p envelope shape q))) (expected_row q shared p envelope shape) (record {}) (expected-named q shared p envelope shape))
 
-fitting-named : (psn : ℕ) (p : Fields) (a : Acknowledgement) → EndsNamed p (fitting_row psn p a)
-fitting-named psn p a = pick p a.went_back (plain_row (Does a.effects)) (row (request_at psn a.effects.queue)) (record {}) (by (request_at psn a.effects.queue))
+fitting-named : (q : QueuePair) (psn : ℕ) (p : Fields) (a : Acknowledgement) → EndsNamed q p (fitting_row psn p a)
+fitting-named q psn p a = pick q p a.went_back (plain_row (Does a.effects)) (row (request_at psn a.effects.queue)) (record {}) (by (request_at psn a.effects.queue))
   where
     row : Option Numbered → Row
     row None = plain_row (Does (and_then a.effects (failure_effects BadResponse None)))
@@ -197,34 +205,35 @@ fitting-named psn p a = pick p a.went_back (plain_row (Does a.effects)) (row (re
         if fits_request psn p a.effects.queue n then answer_row psn p a.effects n
         else plain_row (Does (and_then a.effects (failure_effects BadResponse None)))
 
-    by : (o : Option Numbered) → EndsNamed p (row o)
+    by : (o : Option Numbered) → EndsNamed q p (row o)
     by None = record {}
-    by (Some n) = pick p (fits_request psn p a.effects.queue n) (answer_row psn p a.effects n) (plain_row (Does (and_then a.effects (failure_effects BadResponse None)))) (record {}) (record {})
+    by (Some n) = pick q p (fits_request psn p a.effects.queue n) (answer_row psn p a.effects n) (plain_row (Does (and_then a.effects (failure_effects BadResponse None)))) (record {}) (record {})
 
-response-named : (p : Fields) (q : QueuePair) → EndsNamed p (response_row p q)
-response-named p q = pick p (not (is_among (states.Rts ∷ states.Sqd ∷ []) q.state)) (plain_row (Does (drop_effects q drops.State))) _ (record {})
-    (pick p (not (is_outstanding_at (response_psn q p) q)) (plain_row (Does (drop_effects q drops.Stale))) (outstanding_row (response_psn q p) p q) (record {})
-    (pick p (p.opcode == ACKNOWLEDGE) (plain_row (Does (acknowledge_row (response_psn q p) (option_and_then (λ a. syndrome_in a.syndrome) p.aeth) q))) (fitting_row (response_psn q p) p (acknowledgement_below (response_psn q p) q)) (record {})
-    (fitting-named (response_psn q p) p (acknowledgement_below (response_psn q p) q))))
+response-named : (p : Fields) (q : QueuePair) → EndsNamed q p (response_row p q)
+response-named p q = pick q p (not (is_among (states.Rts ∷ states.Sqd ∷ []) q.state)) (plain_row (Does (drop_effects q drops.State))) _ (record {})
+    (pick q p (not (is_outstanding_at (response_psn q p) q)) (plain_row (Does (drop_effects q drops.Stale))) (outstanding_row (response_psn q p) p q) (record {})
+    (pick q p (p.opcode == ACKNOWLEDGE) (plain_row (Does (acknowledge_row (response_psn q p) (option_and_then (λ a. syndrome_in a.syndrome) p.aeth) q))) (fitting_row (response_psn q p) p (acknowledgement_below (response_psn q p) q)) (record {})
+    (fitting-named q (response_psn q p) p (acknowledgement_below (response_psn q p) q))))
 
-packet-named : (p : Fields) (envelope : Option ℕ) (shared : Option SharedReceives) (q : QueuePair) → EndsNamed p (packet_arrived p envelope shared q)
-packet-named p envelope shared q = pick p (is_response p.opcode) (response_row p q) (row (shape_of p.opcode)) (response-named p q) (by (shape_of p.opcode))
+packet-named : (p : Fields) (envelope : Option ℕ) (shared : Option SharedReceives) (q : QueuePair) → EndsNamed q p (packet_arrived p envelope shared q)
+packet-named p envelope shared q = pick q p (is_response p.opcode) (response_row p q) (row (shape_of p.opcode)) (response-named p q) (by (shape_of p.opcode))
   where
     row : Option Shape → Row
     row (Some shape) = request_row p envelope shared shape q
     row None = plain_row (Does (drop_effects q drops.State))
 
-    by : (o : Option Shape) → EndsNamed p (row o)
+    by : (o : Option Shape) → EndsNamed q p (row o)
     by (Some shape) = request-named p envelope shared shape q
     by None = record {}
 
--- the bytes spell a packet that names the key
-pub record IsNaming (bytes : List ℕ) (i : Invalidation) : Type 0 where
+-- the bytes spell a packet that names the key, which this queue pair ends, in its domain
+pub record IsNaming (bytes : List ℕ) (q : QueuePair) (i : Invalidation) : Type 0 where
   pub fields : Fields
   pub is : packet_in bytes ≡ Ok fields
   pub key : fields.ieth ≡ Some i.key.0
+  pub own : (i.queue ≡ q.queue) × (i.domain ≡ q.domain)
 
-pub arrival-named : (bytes : List ℕ) (envelope : Option ℕ) (shared : Option SharedReceives) (q : QueuePair) (i : Invalidation) → (arrival_row bytes envelope shared q).invalidation ≡ Some i → IsNaming bytes i
+pub arrival-named : (bytes : List ℕ) (envelope : Option ℕ) (shared : Option SharedReceives) (q : QueuePair) (i : Invalidation) → (arrival_row bytes envelope shared q).invalidation ≡ Some i → IsNaming bytes q i
 arrival-named bytes envelope shared q i ends = by (packet_in bytes) refl ends
   where
     unless : Fields → Option Drop1 → Row
@@ -235,10 +244,13 @@ arrival-named bytes envelope shared q i ends = by (packet_in bytes) refl ends
     row (Err error) = plain_row (Does (drop_effects q (drops.Wire error)))
     row (Ok p) = unless p (first_of (arrival_drops q p))
 
-    at : (p : Fields) → packet_in bytes ≡ Ok p → (o : Option Drop1) → (unless p o).invalidation ≡ Some i → IsNaming bytes i
+    at : (p : Fields) → packet_in bytes ≡ Ok p → (o : Option Drop1) → (unless p o).invalidation ≡ Some i → IsNaming bytes q i
     at p is (Some cause) ends = absurd (true≢false (sym (ap is_some ends)))
-    at p is None ends = record { fields = p; is = is; key = subst (λ o. IfSome o (λ i. p.ieth ≡ Some i.key.0)) ends (packet-named p envelope shared q) }
+    at p is None ends = record { fields = p; is = is; key = named.0; own = named.1 }
+      where
+        named : IsNamedAt q p.ieth i
+        named = subst (λ o. IfSome o (IsNamedAt q p.ieth)) ends (packet-named p envelope shared q)
 
-    by : (r : Result Fields WireError) → packet_in bytes ≡ r → (row r).invalidation ≡ Some i → IsNaming bytes i
+    by : (r : Result Fields WireError) → packet_in bytes ≡ r → (row r).invalidation ≡ Some i → IsNaming bytes q i
     by (Err error) is ends = absurd (true≢false (sym (ap is_some ends)))
     by (Ok p) is ends = at p is (first_of (arrival_drops q p)) ends

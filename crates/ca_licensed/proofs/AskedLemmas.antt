@@ -2,7 +2,7 @@
 use Rattle.std.proofs.Common.{◌≡◌, ℕ, ◌<◌, ◌==◌, ◌&&◌, Bool, true, false, not, if◌then◌else◌, [], Option, None, Some, IfSome, is_none, refl, sym, ap, subst, ◌∙◌, true≢false, arith}
 use Rattle.std.specs.Option.{option_and_then, option_map, option_map_or}
 use Rattle.ca_agree_ways.specs.ca_agree_keys.InForce.{AgreeOnGrants}
-use Rattle.ca_agree_ways.proofs.of_ca_agree_posts.OperationLemmas.{done_by, named_in, named_if}
+use Rattle.ca_endings.proofs.Operations.{done_by, named_in, named_if}
 use Rattle.ca_base.specs.Configuration.{Configuration}
 use Rattle.ca_base.specs.Grants.{grant_of_bind, grant_of_fast_registration}
 use Rattle.ca_base.specs.declared.request.SendOp.{SendOp}

@@ -6,11 +6,11 @@ use Rattle.ca_agree_ways.proofs.of_ca_agree.LeadsLemmas.{comes}
 use Rattle.ca_agree_ways.proofs.of_ca_agree.PathVerbLemmas.{call_of}
 use Rattle.ca_agree_ways.specs.ca_agree.Runs.{Comes, Leads}
 use Rattle.ca_agree_ways.proofs.of_ca_agree_keys.ChangeLemmas.{region-small, window-small}
-use Rattle.ca_agree_ways.proofs.of_ca_agree_keys.KeyEventLemmas.{event-keys-agree, opening-keys-agree}
-use Rattle.ca_agree_ways.proofs.of_ca_agree_keys.KeyTurnLemmas.{IsUp}
+use Rattle.ca_agree_ways.proofs.of_ca_agree_keys.KeyLaws.{event-keys-agree, opening-keys-agree}
+use Rattle.ca_agree_ways.proofs.of_ca_agree_keys.KeyFrame.{IsUp}
 use Rattle.ca_agree_ways.specs.ca_agree_keys.InForce.{KeysAgree}
-use Rattle.ca_agree_ways.proofs.of_ca_agree_posts.PostEventLemmas.{event-posts-agree, opening-posts-agree}
-use Rattle.ca_agree_ways.proofs.of_ca_agree_posts.PostTurnLemmas.{IsPosted}
+use Rattle.ca_agree_ways.proofs.of_ca_agree_posts.PostLaws.{event-posts-agree, opening-posts-agree}
+use Rattle.ca_agree_ways.proofs.of_ca_agree_posts.PostMade.{IsPosted}
 use Rattle.ca_agree_ways.specs.ca_agree_posts.Posts.{PostsAgree}
 use Rattle.ca_base.specs.Configuration.{Configuration}
 use Rattle.ca_keys.specs.Memory.{ByteMap}

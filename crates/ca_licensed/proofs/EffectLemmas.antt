@@ -6,7 +6,7 @@ use Rattle.std.specs.Option.{option_and_then, option_map_or}
 use Rattle.ca_agree_ways.proofs.of_ca_agree_posts.GrantLemmas.{both-true, key-refl}
 use Rattle.ca_agree_ways.proofs.of_ca_agree_posts.GoingLemmas.{AreKeyless, EndKey, IsKeyless, IsOwnDone, TellOf}
 use Rattle.ca_agree_ways.proofs.of_ca_agree_posts.PlaceLemmas.{IsPostedAt, item-posted}
-use Rattle.ca_agree_ways.proofs.of_ca_agree_posts.PostLemmas.{IsNoRequest, SamePosts}
+use Rattle.ca_agree_ways.proofs.of_ca_agree_posts.PostFrame.{IsNoRequest, SamePosts}
 use Rattle.ca_agree_ways.specs.ca_agree_posts.Posts.{AgreeInSlot, PostsAgree, life}
 use Rattle.ca_base.specs.declared.completion.Completion.{Completion}
 use Rattle.ca_base.specs.declared.request.PostedSend.{PostedSend}

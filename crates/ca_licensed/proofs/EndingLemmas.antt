@@ -14,7 +14,7 @@ use Rattle.ca_model.specs.Past.{packet_at, packet_bytes_at}
 use Rattle.std.specs.Option.{option_eq}
 use Rattle.std.proofs.Common.{◌/◌, ◌||◌, slice_get}
 use Rattle.ca_agree_ways.proofs.of_ca_agree_posts.GrantLemmas.{is-local}
-use Rattle.ca_agree_ways.proofs.of_ca_agree_posts.OperationLemmas.{named_in}
+use Rattle.ca_endings.proofs.Operations.{named_in}
 use Rattle.ca_base.specs.declared.step.Reason.{Reason}
 use Rattle.ca_base.specs.declared.queue_numbers.Queued.{Queued}
 use Rattle.ca_base.specs.declared.queue_numbers.Queued.TheVariants as queued
@@ -36,16 +36,16 @@ use Rattle.ca_model.specs.machine.Row.{NotPossible, plain_row}
 use Rattle.std.proofs.Common.{subst₂}
 use Rattle.std.proofs.lemmas.Bool.{ltb-false}
 use Rattle.ca_agree_ways.proofs.of_ca_agree_keys.EndLemmas.{window-ended}
-use Rattle.ca_agree_ways.proofs.of_ca_agree_keys.KeyVerbLemmas.{leads-unless-all}
+use Rattle.ca_endings.proofs.Leading.{leads-unless-all}
 use Rattle.ca_agree_ways.proofs.of_ca_agree_keys.SlotLemmas.{at-region, at-window, key-slot-refl, region-kind, slot-at-region, without_key}
 use Rattle.ca_agree_ways.specs.ca_agree_keys.InForce.{AgreeOnGrants, grant_in_force}
 use Rattle.ca_agree_ways.proofs.of_ca_agree_posts.GrantLemmas.{found-by, grant-refl}
-use Rattle.ca_agree_ways.proofs.of_ca_agree_posts.OperationLemmas.{done_by, leads-done}
+use Rattle.ca_endings.proofs.Operations.{done_by, leads-done}
 use Rattle.ca_agree_ways.proofs.of_ca_agree_posts.PlaceLemmas.{IsPerformed}
-use Rattle.ca_agree_ways.proofs.of_ca_agree_posts.PostEventLemmas.{event-posts-agree, opening-posts-agree}
-use Rattle.ca_agree_ways.proofs.of_ca_agree_posts.PostTurnLemmas.{IsNextOperation, next-posted}
+use Rattle.ca_agree_ways.proofs.of_ca_agree_posts.PostLaws.{event-posts-agree, opening-posts-agree}
+use Rattle.ca_agree_ways.proofs.of_ca_agree_posts.PostMade.{IsNextOperation, next-posted}
 use Rattle.ca_agree_ways.specs.ca_agree_posts.Posts.{PostsAgree}
-use Rattle.ca_agree_ways.proofs.WayEventLemmas.{event-ways-agree, opening-ways-agree}
+use Rattle.ca_agree_ways.proofs.WayLaws.{event-ways-agree, opening-ways-agree}
 use Rattle.ca_agree_ways.specs.Ways.{WaysAgree}
 use Rattle.ca_base.specs.Grants.{grant_of_registration, next_low, registration_refusals}
 use Rattle.ca_base.specs.objects.Domain.{with_object}
@@ -71,7 +71,8 @@ use Rattle.std.specs.Option.{option_map, option_map_or}
 use Rattle.ca_agree_ways.proofs.of_ca_agree.LeadsLemmas.{leads-around, leads-queue, leads-unless, leads-weaker, comes}
 use Rattle.ca_agree_ways.proofs.of_ca_agree.PathVerbLemmas.{call_of}
 use Rattle.ca_agree_ways.specs.ca_agree.Runs.{Leads, Comes}
-use Rattle.ca_agree_ways.proofs.of_ca_agree_keys.KeyTurnLemmas.{found, own-adapter}
+use Rattle.ca_agree_ways.proofs.of_ca_agree_keys.KeyTurnLemmas.{found}
+use Rattle.ca_agree_ways.proofs.of_ca_agree_keys.KeyFrame.{own-adapter}
 use Rattle.ca_agree_ways.specs.ca_agree_keys.InForce.{KeysAgree}
 use Rattle.ca_agree_ways.proofs.of_ca_agree_posts.GoingLemmas.{respond-goes, timeout-goes, failure-goes, IsKeyless, TellOf, EndKey, AreKeyless, arrival-goes}
 use Rattle.ca_agree_ways.proofs.of_ca_agree_posts.PostLemmas.{leads-goes, leads-ends}
@@ -97,7 +98,6 @@ use Rattle.ca_licensed.proofs.EffectLemmas.{AreOf, IsOf}
 use Rattle.ca_model.specs.Licensed.{grant_with}
 use Rattle.ca_agree_ways.proofs.of_ca_agree_keys.EndLemmas.{region-of}
 use Rattle.ca_agree_ways.proofs.of_ca_agree_keys.ChangeLemmas.{StandsOver, stands-over, at-region-slot, at-window-slot, region-small, window-small}
-use Rattle.ca_agree_ways.proofs.of_ca_agree_keys.RowLemmas.{arrival-told, respond-told}
 use Rattle.ca_keys.specs.declared.names.DomainId.{DomainId}
 use Rattle.ca_keys.specs.Refusals.{AllFail}
 use Rattle.ca_agree_ways.proofs.of_ca_laws_sound.TurnLemmas.{all-fail}
@@ -148,7 +148,7 @@ use Rattle.ca_model.specs.machine.Numbering.{Numbered}
 use Rattle.ca_model.specs.machine.Requester.{Performs, RequestTurn, Sends, Waits, packet_row, turn_of}
 use Rattle.ca_model.specs.machine.Sound.{AreLimited, CanBeMade, IsSoundWorld}
 use Rattle.ca_agree_ways.proofs.of_ca_agree.EventFitLemmas.{first-marks}
-use Rattle.ca_agree_ways.proofs.of_ca_agree_keys.KeyEventLemmas.{event-keys-agree, opening-keys-agree}
+use Rattle.ca_agree_ways.proofs.of_ca_agree_keys.KeyLaws.{event-keys-agree, opening-keys-agree}
 use Rattle.ca_keys.specs.Memory.{ByteMap}
 use Rattle.ca_agree_ways.proofs.of_ca_laws_names.PlacedLemmas.{event-placed, opening-placed}
 use Rattle.ca_agree_ways.specs.ca_laws_names.Placed.{IsPlacedWorld}
@@ -488,7 +488,7 @@ ends-respond c past w name lot up = leads-queue c w P name reasons.State (λ q. 
         (λ e i ws goes is. each-append e.marks (option_map_or (sent_marks q peer (w.mailbox peer.queue) lot) (packet_sent e) []) (at_begin (events.Respond name lot) past)
         (tells-in-force q.queue q.sends (option_map (λ i. i.key) i) e.marks goes.marks (at_begin (events.Respond name lot) past)
         (row-in-force c past w q row i (at_begin (events.Respond name lot) past) up there refl refl
-        (λ i of may. absurd (true≢false (sym (ap is_some (sym (respond-none (has_room_for q peer (w.mailbox peer.queue)) q) ∙ of))))) (respond-told past.grants (has_room_for q peer (w.mailbox peer.queue)) q).own is))
+        (λ i of may. absurd (true≢false (sym (ap is_some (sym (respond-none (has_room_for q peer (w.mailbox peer.queue)) q) ∙ of))))) (subst (λ o. IfSome o (λ i. (i.queue ≡ q.queue) × (i.domain ≡ q.domain))) (sym (respond-none (has_room_for q peer (w.mailbox peer.queue)) q)) (record {})) is))
         (ends-sent q peer (w.mailbox peer.queue) lot (packet_sent e)))
       where
         row : Row
@@ -524,7 +524,7 @@ packet-ends c past p w q bytes envelope shared i there grants ways arrived lent 
     g : Grant
     g = may.own.grant
 
-    naming : IsNaming bytes i
+    naming : IsNaming bytes q i
     naming = arrival-named bytes envelope shared q i ends
 
     named : option_eq (λ m n. m == n) naming.fields.ieth (Some g.key.0) ≡ true
@@ -541,13 +541,17 @@ ends-arrive c past p w P q bytes envelope pre ms up steady there same ways lent 
     (tells-in-force q.queue q.sends (option_map (λ i. i.key) i) e.marks goes.marks (after_mark (marks.Arrived q.queue envelope) p)
     (row-in-force c past w q (arrival_row bytes envelope (shared_in a) q) i (after_mark (marks.Arrived q.queue envelope) p) up there same ways
     (λ i of may. packet-ends c past (after_mark (marks.Arrived q.queue envelope) p) w q bytes envelope (shared_in a) i there same ways refl lent of (own i of).0 (own i of).1 may)
-    (arrival-told past.grants bytes envelope (shared_in a) q).own is)))))
+    (owned (arrival_row bytes envelope (shared_in a) q).invalidation refl) is)))))
   where
     a : Around
     a = around_in w q (shared_of w q)
 
     own : (i : Invalidation) → (arrival_row bytes envelope (shared_in a) q).invalidation ≡ Some i → (i.queue ≡ q.queue) × (i.domain ≡ q.domain)
-    own i of = subst (λ o. IfSome o (λ i. (i.queue ≡ q.queue) × (i.domain ≡ q.domain))) of (arrival-told past.grants bytes envelope (shared_in a) q).own
+    own i of = (arrival-named bytes envelope (shared_in a) q i of).own
+
+    owned : (o : Option Invalidation) → (arrival_row bytes envelope (shared_in a) q).invalidation ≡ o → IfSome o (λ i. (i.queue ≡ q.queue) × (i.domain ≡ q.domain))
+    owned None is = record {}
+    owned (Some i) is = own i is
 
     finish : Around → Effects → List Update → List Write → Plan
     finish a e more writes = Finish (pre ++ (updates_of q a e ++ more)) writes (ms ++ marks.Arrived q.queue envelope ∷ e.marks)

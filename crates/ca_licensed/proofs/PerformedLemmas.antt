@@ -9,8 +9,10 @@ use Rattle.ca_agree_ways.proofs.of_ca_agree_keys.KeyTurnLemmas.{found}
 use Rattle.ca_agree_ways.proofs.of_ca_agree_posts.FailureLemmas.{IsSentPacket, failure-none, packet-sent}
 use Rattle.ca_agree_ways.proofs.of_ca_agree_posts.GoingLemmas.{AreKeyless, failure-goes}
 use Rattle.ca_agree_ways.proofs.of_ca_agree_posts.PlaceLemmas.{IsPerformed, performs}
-use Rattle.ca_agree_ways.proofs.of_ca_agree_posts.PostLemmas.{AreNoAnswers, SamePosts, answers-append, keyless-no, leads-ends, no-answers, same-posts}
-use Rattle.ca_agree_ways.proofs.of_ca_agree_posts.PostTurnLemmas.{any-such, IsNextOperation, IsPosted, Revokes, leads-perform, next-posted, packet-is, performed-some, sent-quiet, used-none}
+use Rattle.ca_agree_ways.proofs.of_ca_agree_posts.PostLemmas.{AreNoAnswers, answers-append, keyless-no, leads-ends, no-answers}
+use Rattle.ca_agree_ways.proofs.of_ca_agree_posts.PostFrame.{SamePosts, same-posts}
+use Rattle.ca_agree_ways.proofs.of_ca_agree_posts.PostTurnLemmas.{any-such, Revokes, leads-perform, packet-is, sent-quiet}
+use Rattle.ca_agree_ways.proofs.of_ca_agree_posts.PostMade.{IsNextOperation, IsPosted, next-posted, performed-some, used-none}
 use Rattle.ca_agree_ways.specs.ca_agree_posts.Posts.{PostsAgree, life}
 use Rattle.ca_base.specs.Configuration.{Configuration}
 use Rattle.ca_base.specs.declared.completion.Completion.{Completion}

@@ -11,12 +11,15 @@ use Rattle.ca_agree_ways.proofs.of_ca_agree.PathLemmas.{marks-append}
 use Rattle.ca_agree_ways.proofs.of_ca_agree.PathVerbLemmas.{call_of}
 use Rattle.ca_agree_ways.specs.ca_agree.Runs.{Leads}
 use Rattle.ca_agree_ways.proofs.of_ca_agree_keys.ChangeLemmas.{at-region-slot, at-window-slot}
-use Rattle.ca_agree_ways.proofs.of_ca_agree_keys.KeyTurnLemmas.{IsUp, found}
+use Rattle.ca_agree_ways.proofs.of_ca_agree_keys.KeyTurnLemmas.{found}
+use Rattle.ca_agree_ways.proofs.of_ca_agree_keys.KeyFrame.{IsUp}
 use Rattle.ca_agree_ways.proofs.of_ca_agree_keys.SightLemmas.{over}
 use Rattle.ca_agree_ways.specs.ca_agree_keys.InForce.{grant_in_force, grant_over_regions}
 use Rattle.ca_agree_ways.proofs.of_ca_agree_posts.GoingLemmas.{arrival-goes, respond-goes, timeout-goes}
-use Rattle.ca_agree_ways.proofs.of_ca_agree_posts.PostLemmas.{AreNoAnswers, IsNoRequest, SamePosts, answers-append, keyless-no, leads-goes, no-answers, same-posts, tells-no}
-use Rattle.ca_agree_ways.proofs.of_ca_agree_posts.PostTurnLemmas.{IsPosted, sent-quiet}
+use Rattle.ca_agree_ways.proofs.of_ca_agree_posts.PostLemmas.{AreNoAnswers, answers-append, keyless-no, leads-goes, no-answers, tells-no}
+use Rattle.ca_agree_ways.proofs.of_ca_agree_posts.PostFrame.{IsNoRequest, SamePosts, same-posts}
+use Rattle.ca_agree_ways.proofs.of_ca_agree_posts.PostTurnLemmas.{sent-quiet}
+use Rattle.ca_agree_ways.proofs.of_ca_agree_posts.PostMade.{IsPosted}
 use Rattle.ca_agree_ways.specs.ca_agree_posts.Posts.{PostsAgree}
 use Rattle.ca_base.specs.Configuration.{Configuration}
 use Rattle.ca_base.specs.declared.completion.Completion.{Completion}

@@ -10,7 +10,7 @@ use Rattle.ca_agree.specs.Indices.{has_its_index}
 use Rattle.ca_agree.specs.Runs.{Comes}
 use Rattle.ca_agree_accesses.proofs.EventLemmas.{packets-along}
 use Rattle.ca_agree_accesses.specs.Asked.{has_its_packet}
-use Rattle.ca_ties_success.proofs.of_ca_agree_posts.PostEventLemmas.{posts-along}
+use Rattle.ca_ties_success.proofs.of_ca_agree_posts.PostLaws.{posts-along}
 use Rattle.ca_ties_success.specs.ca_agree_posts.Posts.{PostsAgree}
 use Rattle.ca_base.specs.Configuration.{Configuration}
 use Rattle.ca_base.specs.declared.correspondent.Correspondent.{Correspondent}

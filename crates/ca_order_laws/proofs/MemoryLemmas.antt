@@ -1,7 +1,7 @@
 -- The marks of an order tell the memory in which it ends. For proofs only.
 use Rattle.std.proofs.Common.{◌≡◌, Bool, true, false, if◌then◌else◌, List, [], ◌∷◌, Option, None, Some, is_some, true≢false, sym, ap, subst}
 use Rattle.ca_caused_link.specs.ca_agree.Agreement.{HoldsAlong}
-use Rattle.ca_ordered.proofs.of_ca_agree_keys.KeyEventLemmas.{keys-along}
+use Rattle.ca_ordered.proofs.of_ca_agree_keys.KeyLaws.{keys-along}
 use Rattle.ca_ordered.specs.ca_agree_keys.InForce.{KeysAgree}
 use Rattle.ca_keys.specs.Memory.{zeros}
 use Rattle.ca_model.specs.Entries.{EntryValue}
