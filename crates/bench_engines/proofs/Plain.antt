@@ -4,10 +4,10 @@ use Rattle.ca_base.specs.objects.QueuePair.{QueuePair}
 use Rattle.ca_base.specs.declared.request.PlacedReceive.{PlacedReceive}
 use Rattle.ca_base.specs.objects.SharedReceives.{SharedReceives}
 use Rattle.ca_psn.specs.Psn.{widened}
-use Rattle.ca_packet.specs.Packet.{Fields}
-use Rattle.ca_packet.specs.declared.atomic_eth.AtomicEth.{AtomicEth}
-use Rattle.ca_packet.specs.declared.reth.Reth.{Reth}
-use Rattle.ca_packet.specs.declared.shape.Position.{Position}
+use Rattle.ca_wire.specs.Packet.{Fields}
+use Rattle.ca_wire.specs.declared.atomic_eth.AtomicEth.{AtomicEth}
+use Rattle.ca_wire.specs.declared.reth.Reth.{Reth}
+use Rattle.ca_wire.specs.declared.shape.Position.{Position}
 use Rattle.ca_wire.specs.declared.syndrome.NakCode.TheVariants.{InvalidRequest}
 use Rattle.ca_model.specs.declared.mark.Drop1.TheVariants as drops
 use Rattle.ca_model.specs.Packets.{is_response}
@@ -20,9 +20,9 @@ use Rattle.ca_model.specs.declared.write_reach.WriteReach.{WriteReach}
 use Rattle.ca_model.specs.machine.Expected.{atomic_row, expected_row, invalidation_of, is_invalid, read_queued, receiving_of, send_row, takes_receive, valid_row, write_reach, write_row}
 use Rattle.ca_model.specs.machine.Responses.{drop_effects}
 use Rattle.ca_model.specs.machine.Row.{Row, Does, plain_row}
-use Rattle.ca_packet.specs.declared.shape.Shape.{Shape}
-use Rattle.ca_packet.specs.declared.shape.Shape.TheVariants as shapes
-use Rattle.ca_packet.specs.Table.{shape_of}
+use Rattle.ca_wire.specs.declared.shape.Shape.{Shape}
+use Rattle.ca_wire.specs.declared.shape.Shape.TheVariants as shapes
+use Rattle.ca_wire.specs.Table.{shape_of}
 
 abbrev EndsNone : Row → Type 0
 EndsNone row = row.invalidation ≡ None

@@ -7,7 +7,7 @@ ghost use Rattle.ca_model.specs.machine.CanStep.{CanStep};
 ghost use Rattle.ca_bed_reach.specs.SmallReach as small;
 ghost use Rattle.ca_bed_requester.specs.Bed as beds;
 ghost use Rattle.ca_bed_responder.specs.Responder as responders;
-ghost use Rattle.ca_packet.specs.Packet.{IsWellFormed};
+ghost use Rattle.ca_wire.specs.Packet.{IsWellFormed};
 
 use crate::work::{bring_up, new_bed, receive};
 use ca_bed_reach::SmallReach;

@@ -6,7 +6,7 @@ ghost use Rattle.ca_sending.specs.Turn.{IsTurnFound, SendsFound, turn_row};
 ghost use Rattle.ca_model.specs.machine.CanStep.{CanStep};
 ghost use Rattle.ca_bed_reach.specs.SmallReach as small;
 ghost use Rattle.ca_bed_requester.specs.Bed as beds;
-ghost use Rattle.ca_packet.specs.Packet.{IsWellFormed};
+ghost use Rattle.ca_wire.specs.Packet.{IsWellFormed};
 ghost use Rattle.std.specs.Prelude.{◌≡◌, IfSome, true};
 
 use crate::work::{Asked, bring_up, new_bed, request};

@@ -3,7 +3,7 @@ use arrayvec::ArrayVec;
 use ca_base::{Key, Piece, QueueId, SendOp, SendRequest, Slot, first_address};
 use ca_bed_fabric::{Step, add_queue_pair, add_region};
 use ca_model::Verb;
-use ca_turns::Turn;
+use ca_places::Turn;
 use std::alloc::Global;
 
 /// The low byte of the key of a slot's first region.

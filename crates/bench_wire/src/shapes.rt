@@ -1,5 +1,5 @@
 ghost use Rattle.std.specs.Prelude.{◌<◌};
-ghost use Rattle.ca_packet.specs.Packet.{IsWellFormed};
+ghost use Rattle.ca_wire.specs.Packet.{IsWellFormed};
 
 use ca_base::Key;
 use ca_wire::{

@@ -1,4 +1,4 @@
-ghost use Rattle.ca_packet.specs.Packet.{IsWellFormed};
+ghost use Rattle.ca_wire.specs.Packet.{IsWellFormed};
 
 use crate::shapes::{Shape, packet_of};
 use ca_base::Memory;

@@ -1,3 +1,4 @@
 pub mod RefusalLemmas
 mod CompletionLemmas
 pub mod DoneLemmas
+pub mod StepLemmas

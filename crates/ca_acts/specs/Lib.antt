@@ -4,5 +4,6 @@ pub mod Copies
 pub mod Binders
 pub mod Room
 pub mod Outlets
+pub mod Steps
 -- The libraries below, handed on to those above.
 pub use Rattle.ca_held.specs as ca_held

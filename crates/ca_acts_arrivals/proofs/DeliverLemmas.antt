@@ -14,7 +14,7 @@ use Rattle.ca_base.specs.objects.Slices.{has_queue}
 use Rattle.ca_held.specs.declared.held.Held.{Held}
 use Rattle.ca_held.specs.HeldView.{holding}
 use Rattle.ca_keys.specs.declared.names.QueueId.{QueueId}
-use Rattle.ca_laws_parts.proofs.HeldLemmas.{deliver-held, inject-held}
+use Rattle.ca_law_parts.proofs.Parts.HeldLemmas.{deliver-held, inject-held}
 use Rattle.ca_model.proofs.PerformLemmas.{around_at}
 use Rattle.ca_model.specs.declared.answer.Answer.TheVariants as answers
 use Rattle.ca_model.specs.declared.event.Event.TheVariants as events

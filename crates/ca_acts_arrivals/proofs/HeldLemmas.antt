@@ -33,7 +33,7 @@ use Rattle.ca_model.specs.machine.World.{Queue_of, Srq_of, World}
 use Rattle.ca_responder.specs.ca_operations.Taking as Taking
 use Rattle.ca_responder.specs.ca_operations.Taking.{CanMeet, IsArrival, Outcome, outcome_in}
 use Rattle.ca_acts_turns.specs.ca_reach_laws.Ties.{with_reached}
-use Rattle.ca_shelf.specs.Shelved.{Shelved, has_thing, thing_under, with_thing}
+use Rattle.ca_held_reach.specs.Shelved.{Shelved, has_thing, thing_under, with_thing}
 use Rattle.ca_acts_turns.proofs.TurnLemmas.{same-queue}
 
 -- the shared receives on the shelf are those of the small world

@@ -8,14 +8,14 @@ use Rattle.ca_base.specs.objects.SharedReceives.{SharedReceives, after_receive_t
 use Rattle.ca_held_reach.specs.Changed.{after_end_of, after_write_by}
 use Rattle.ca_held_reach.specs.declared.reached.Reached.{Reached}
 use Rattle.ca_keys.specs.declared.memory.Memory.{Memory}
-use Rattle.ca_held.proofs.of_ca_laws_sound.TakenLemmas.{response-takes}
-use Rattle.ca_held.proofs.of_ca_laws_sound.WorldLemmas.{RowDoes}
+use Rattle.ca_held.proofs.of_ca_law_world.Sound.TakenLemmas.{response-takes}
+use Rattle.ca_held.proofs.of_ca_law_world.Sound.WorldLemmas.{RowDoes}
 use Rattle.ca_model.specs.Marks.{MarkList}
 use Rattle.ca_model.specs.declared.mark.Drop1.{Drop1}
 use Rattle.ca_model.specs.machine.Responses.{drop_effects, response_row}
 use Rattle.ca_model.specs.machine.Row.{Does, Effects, Ending, NotPossible, Row, ending_of, plain_row}
 use Rattle.ca_responder.specs.ca_operations.Taking.{HasArrived, IsArrival, ended_by, outcome_in, unless_refused}
-use Rattle.ca_packet.specs.Packet.{Fields}
+use Rattle.ca_wire.specs.Packet.{Fields}
 use Rattle.ca_responder.specs.ca_rows.Made.{HasEnded, IsMade, IsTaking}
 use Rattle.ca_acts_arrivals.proofs.RowLemmas.{ends-so, response-no-key}
 

@@ -20,7 +20,7 @@ use Rattle.ca_base.specs.objects.StateTable.{is_among}
 use Rattle.ca_keys.specs.declared.access.Ask.{Ask}
 use Rattle.ca_keys.specs.declared.access.Kind.TheVariants as kinds
 use Rattle.ca_keys.specs.Refusals.{first_of}
-use Rattle.ca_held.proofs.of_ca_laws_sound.WorldLemmas.{EndingDoes, RowDoes}
+use Rattle.ca_held.proofs.of_ca_law_world.Sound.WorldLemmas.{EndingDoes, RowDoes}
 use Rattle.ca_model.specs.declared.mark.Drop1.{Drop1}
 use Rattle.ca_model.specs.declared.mark.Drop1.TheVariants as drops
 use Rattle.ca_model.specs.declared.receiving.Receiving.{Receiving}
@@ -36,16 +36,16 @@ use Rattle.ca_model.specs.machine.Numbering.{Numbered, begun_requests, request_a
 use Rattle.ca_model.specs.machine.Requester.{local_denial}
 use Rattle.ca_model.specs.machine.Responses.{acknowledge_row, answer_asks, answer_bytes, answer_row, drop_effects, fits_request, fitting_row, is_outstanding_at, local_writes, nak_effects, outstanding_row, response_psn, response_row, rnr_nak_effects, segment_at, unless_back, writes_by}
 use Rattle.ca_model.specs.machine.Row.{Does, Effects, Ending, Row, ending_of, plain_row, queue_and_marks}
-use Rattle.ca_packet.specs.declared.atomic_eth.AtomicEth.{AtomicEth}
-use Rattle.ca_packet.specs.declared.opcode.TheConstants.{ACKNOWLEDGE}
-use Rattle.ca_packet.specs.declared.reth.Reth.{Reth}
-use Rattle.ca_packet.specs.declared.shape.Position.{Position}
-use Rattle.ca_packet.specs.declared.shape.Shape.{Shape}
-use Rattle.ca_packet.specs.declared.shape.Shape.TheVariants as shapes
-use Rattle.ca_packet.specs.declared.wire_error.WireError.{WireError}
-use Rattle.ca_packet.specs.Decoding.{packet_in}
-use Rattle.ca_packet.specs.Packet.{Fields}
-use Rattle.ca_packet.specs.Table.{shape_of}
+use Rattle.ca_wire.specs.declared.atomic_eth.AtomicEth.{AtomicEth}
+use Rattle.ca_wire.specs.declared.opcode.TheConstants.{ACKNOWLEDGE}
+use Rattle.ca_wire.specs.declared.reth.Reth.{Reth}
+use Rattle.ca_wire.specs.declared.shape.Position.{Position}
+use Rattle.ca_wire.specs.declared.shape.Shape.{Shape}
+use Rattle.ca_wire.specs.declared.shape.Shape.TheVariants as shapes
+use Rattle.ca_wire.specs.declared.wire_error.WireError.{WireError}
+use Rattle.ca_wire.specs.Decoding.{packet_in}
+use Rattle.ca_wire.specs.Packet.{Fields}
+use Rattle.ca_wire.specs.Table.{shape_of}
 use Rattle.ca_psn.specs.Psn.{widened}
 use Rattle.ca_responder.proofs.of_ca_rows.ListLemmas.{cut_touches}
 use Rattle.ca_responder.specs.ca_rows.Asks.{touched_by}

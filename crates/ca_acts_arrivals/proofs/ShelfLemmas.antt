@@ -13,7 +13,7 @@ use Rattle.ca_keys.specs.Equal.{slot_eq}
 use Rattle.ca_model.proofs.ThingLemmas.{slot-path, slot-refl}
 use Rattle.ca_model.specs.Marks.{MarkList}
 use Rattle.ca_responder.specs.ca_operations.Taking.{IsArrival, Outcome}
-use Rattle.ca_shelf.specs.Shelved.{Shelved, thing_under, with_thing}
+use Rattle.ca_held_reach.specs.Shelved.{Shelved, thing_under, with_thing}
 
 -- a shelf with another slot under a name
 abbrev pub with_slot : Shelved Slot SrqSlot → Slot → SrqSlot → Shelved Slot SrqSlot

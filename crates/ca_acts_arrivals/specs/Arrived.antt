@@ -27,7 +27,7 @@ use Rattle.ca_model.specs.machine.World.{Queue_of, Srq_of, World}
 use Rattle.ca_responder.specs.ca_operations.Taking.{CanMeet, Outcome, outcome_in, without_key}
 use Rattle.ca_acts_turns.specs.ca_reach_laws.Ties.{with_reached}
 use Rattle.ca_responder.specs.ca_rows.Made.{written_all}
-use Rattle.ca_shelf.specs.Shelved.{Shelved, thing_under, with_thing}
+use Rattle.ca_held_reach.specs.Shelved.{Shelved, thing_under, with_thing}
 
 -- the slot on a shelf of the shared receive queue of a queue pair, and that queue
 abbrev pub slot_on : Shelved Slot SrqSlot → QueuePair → Option SrqSlot

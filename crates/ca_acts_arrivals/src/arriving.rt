@@ -10,18 +10,17 @@ ghost use Rattle.ca_model.specs.machine.CanStep.{CanStep};
 ghost use Rattle.ca_model.specs.machine.Delivery.{arrival_row, packet_arrived};
 ghost use Rattle.ca_model.specs.machine.Invariants.{IsSharedReceives};
 ghost use Rattle.ca_responder.specs.ca_operations.Taking.{CanMeet, IsArrival, outcome_in};
-ghost use Rattle.ca_packet.specs.Packet.{IsWellFormed};
-ghost use Rattle.ca_shelf.specs.Shelved.{has_thing};
+ghost use Rattle.ca_wire.specs.Packet.{IsWellFormed};
+ghost use Rattle.ca_held_reach.specs.Shelved.{has_thing};
 
 use ca_acts_turns::ca_requester::on_response;
 use ca_base::{Memory, Slot};
 use ca_held::SrqSlot;
 use ca_held::ca_qpstate::QueuePart;
-use ca_held_reach::Reached;
+use ca_held_reach::{Reached, Shelf};
 use ca_model::{Mark, Marks};
 use ca_responder::ca_rows::{Arrival, arrival_of, drop_packet};
 use ca_responder::on_request;
-use ca_shelf::Shelf;
 use ca_wire::Packet;
 
 /// Bytes that arrive, and the index of their envelope, where one carried them.

@@ -41,7 +41,7 @@ use Rattle.ca_model.specs.machine.Plan.{Update, ◌:=◌}
 use Rattle.ca_model.specs.machine.World.{Window_of}
 use Rattle.ca_acts_turns.specs.ca_reach_laws.Ties.{with_reached}
 use Rattle.ca_base.specs.objects.Region.{vacant_region}
-use Rattle.ca_shelf.specs.Shelved.{thing_under}
+use Rattle.ca_held_reach.specs.Shelved.{thing_under}
 
 -- a region that is counted at
 counting-in : (r : Reached) (s : Slot) → IsCounting r s → 0 < (region_in r s).bound

@@ -17,8 +17,8 @@ use Rattle.ca_keys.specs.Equal.{slot_eq}
 use Rattle.ca_localops.specs.Binds.{named_after_bind, window_after_bind}
 use Rattle.ca_localops.specs.declared.request.BindRequest.{BindRequest}
 use Rattle.ca_model.proofs.ThingLemmas.{slot-path}
-use Rattle.ca_shelf.specs.declared.shelf.Named.{Named}
-use Rattle.ca_shelf.specs.Shelved.{thing_under, with_thing}
+use Rattle.ca_held_reach.specs.declared.shelf.Named.{Named}
+use Rattle.ca_held_reach.specs.Shelved.{thing_under, with_thing}
 
 -- a region that is put where it stands
 pub kept-region : (r : Reached) (s : Slot) (v y : Region) → Some y ≡ thing_under slot_eq s r.regions.things → v ≡ y → put_region r s v ≡ r

@@ -41,7 +41,7 @@ use Rattle.ca_model.specs.machine.World.{Region_of}
 use Rattle.ca_acts_turns.proofs.of_ca_reach_laws.LeftLemmas.{end-held}
 use Rattle.ca_acts_turns.proofs.of_ca_reach_laws.SightLemmas.{sights-agree}
 use Rattle.ca_acts_turns.specs.ca_reach_laws.Ties.{IsVacantOutside, with_reached}
-use Rattle.ca_shelf.specs.Shelved.{thing_under}
+use Rattle.ca_held_reach.specs.Shelved.{thing_under}
 
 or-zero : (o : Option ℕ) → unwrap_or o 0 ≡ option_map_or (λ n. n) o 0
 or-zero None = refl

@@ -23,9 +23,9 @@ use Rattle.ca_keys.specs.declared.names.QueueId.{QueueId}
 use Rattle.ca_keys.specs.declared.names.Slot.{Slot}
 use Rattle.ca_keys.specs.Equal.{slot_eq}
 use Rattle.ca_keys.specs.Numbers.{domain_of, is_window_key}
-use Rattle.ca_acts_turns.proofs.of_ca_laws_windows.BindingLemmas.{counted-binding}
-use Rattle.ca_acts_turns.proofs.of_ca_laws_windows.EndedLemmas.{ended-counted}
-use Rattle.ca_acts_turns.specs.ca_laws_windows.Bindings.{IsCounted}
+use Rattle.ca_acts_turns.proofs.of_ca_law_world.Windows.BindingLemmas.{counted-binding}
+use Rattle.ca_acts_turns.proofs.of_ca_law_world.Windows.EndedLemmas.{ended-counted}
+use Rattle.ca_acts_turns.specs.ca_law_world.Bindings.{IsCounted}
 use Rattle.ca_model.specs.Requests.{is_local}
 use Rattle.ca_model.proofs.PerformLemmas.{around_at}
 use Rattle.ca_model.specs.machine.Around.{updates_of}
@@ -43,7 +43,7 @@ use Rattle.ca_model.specs.machine.World.{Queue_of, Region_of, Window_of, World}
 use Rattle.ca_acts_turns.proofs.of_ca_reach_laws.FitLemmas.{ends-at-hand, parts-fit}
 use Rattle.ca_acts_turns.proofs.of_ca_reach_laws.SightLemmas.{sights-agree, vacant-outside}
 use Rattle.ca_acts_turns.specs.ca_reach_laws.Ties.{IsVacantOutside}
-use Rattle.ca_shelf.specs.Shelved.{thing_under}
+use Rattle.ca_held_reach.specs.Shelved.{thing_under}
 
 -- why an invalidation of a window's key is refused, where two worlds have the window that it names
 refusals-same : (c : Configuration) (v w : World) (i : Invalidation) → is_window_key i.key ≡ true

@@ -30,7 +30,7 @@ use Rattle.ca_model.specs.machine.Numbering.{Numbered}
 use Rattle.ca_model.specs.machine.Row.{Effects, unless_none}
 use Rattle.ca_model.specs.machine.World.{Queue_of}
 use Rattle.ca_acts_turns.specs.ca_reach_laws.Ties.{with_reached}
-use Rattle.ca_shelf.specs.Shelved.{thing_under}
+use Rattle.ca_held_reach.specs.Shelved.{thing_under}
 
 -- the queue pair in a slot that is held
 pub queue-here : (h : Held) (name : QueueId) (b : Box QueueSlot Global) (q : QueuePair) → Some b ≡ thing_under queue_eq name h.queues.things → b.value ≡ slots.Present q

@@ -15,7 +15,7 @@ use Rattle.ca_keys.specs.declared.names.Slot.{Slot}
 use Rattle.ca_keys.specs.Equal.{slot_eq}
 use Rattle.ca_keys.specs.Numbers.{domain_of, is_window_key}
 use Rattle.ca_model.specs.machine.LocalOperations.{region_slot, window_slot}
-use Rattle.ca_shelf.specs.Shelved.{has_thing}
+use Rattle.ca_held_reach.specs.Shelved.{has_thing}
 use Rattle.ca_acts_local.specs.Local.{invalidation_of}
 
 -- the region in a slot is in hand

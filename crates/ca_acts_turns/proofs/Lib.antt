@@ -6,6 +6,6 @@ mod SenderLemmas
 mod RowLemmas
 mod TakingLemmas
 -- The libraries below, handed on to those above.
-pub use Rattle.ca_reach_laws.proofs.of_ca_laws_windows
+pub use Rattle.ca_reach_laws.proofs.of_ca_law_world
 pub use Rattle.ca_reach_laws.proofs as of_ca_reach_laws
 pub use Rattle.ca_acts.proofs as of_ca_acts

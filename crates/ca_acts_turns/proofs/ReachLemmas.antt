@@ -21,7 +21,7 @@ use Rattle.ca_model.specs.machine.Row.{Does, Ending, NotPossible, Row, ending_of
 use Rattle.ca_model.specs.machine.World.{Queue_of}
 use Rattle.ca_reach_laws.specs.Ties.{with_reached}
 use Rattle.ca_requester.specs.ca_rows.Made.{IsTurn, written_all}
-use Rattle.ca_shelf.specs.Shelved.{thing_under, with_thing}
+use Rattle.ca_held_reach.specs.Shelved.{thing_under, with_thing}
 use Rattle.ca_acts_turns.specs.Stepped.{HasTurned}
 use Rattle.ca_acts_turns.proofs.TurnLemmas.{same-queue}
 

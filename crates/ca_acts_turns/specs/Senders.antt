@@ -18,7 +18,7 @@ use Rattle.ca_model.specs.machine.Requester.{turn_of}
 use Rattle.ca_model.specs.machine.Respond.{respond_row}
 use Rattle.ca_model.specs.machine.Row.{Row}
 use Rattle.ca_model.specs.machine.Turns.{Request_around, Respond_around}
-use Rattle.ca_packet.specs.Packet.{most_of_response, most_spelt}
+use Rattle.ca_wire.specs.Packet.{most_of_response, most_spelt}
 use Rattle.ca_requester.specs.ca_sending.Turn.{SendsFound, turn_row}
 
 -- the row of a sender's turn, where the peer has room for a packet or not

@@ -2,7 +2,7 @@
 use Rattle.ca_base.specs.Configuration.{Configuration}
 use Rattle.ca_held.specs.declared.held.Held.{Held}
 use Rattle.ca_held.specs.HeldView.{holding}
-use Rattle.ca_reach_laws.specs.ca_laws_windows.Bindings.{IsBoundWorld}
+use Rattle.ca_reach_laws.specs.ca_law_world.Bindings.{IsBoundWorld}
 use Rattle.ca_model.specs.machine.Parts.{ShowsHeld}
 use Rattle.ca_model.specs.machine.Sound.{IsSoundWorld}
 use Rattle.ca_model.specs.machine.World.{World}

@@ -19,7 +19,7 @@ ghost use Rattle.ca_model.specs.machine.Respond.{respond_row};
 ghost use Rattle.ca_model.specs.machine.Row.{ending_of};
 ghost use Rattle.ca_model.specs.machine.Turns as turns;
 ghost use Rattle.ca_model.specs.machine.World.{Mailbox_of, Queue_of};
-ghost use Rattle.ca_packet.specs.Packet.{most_of_response, most_spelt};
+ghost use Rattle.ca_wire.specs.Packet.{most_of_response, most_spelt};
 ghost use Rattle.ca_requester.specs.ca_rows.Asks as asks_of;
 ghost use Rattle.ca_requester.specs.ca_rows.Made.{IsTurn};
 ghost use Rattle.ca_requester.specs.ca_sending.Turn.{SendsFound, turn_row};

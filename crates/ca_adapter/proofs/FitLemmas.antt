@@ -22,8 +22,8 @@ use Rattle.ca_held.specs.HeldView.{holding}
 use Rattle.ca_keys.specs.declared.names.Slot.{Slot}
 use Rattle.ca_keys.specs.Numbers.{queue_of}
 use Rattle.ca_keys.specs.Refusals.{first_of}
-use Rattle.ca_laws_pairs.proofs.of_ca_laws_room.EventRoomLemmas.{together-fit}
-use Rattle.ca_laws_pairs.specs.ca_laws_room.Room.{HasRoom}
+use Rattle.ca_law_parts.proofs.Room.EventRoomLemmas.{together-fit}
+use Rattle.ca_law_parts.specs.Room.{HasRoom}
 use Rattle.ca_model.proofs.ThingLemmas.{put-there}
 use Rattle.ca_model.specs.declared.event.Event.{Event}
 use Rattle.ca_model.specs.declared.event.Event.TheVariants as events

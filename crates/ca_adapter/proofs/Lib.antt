@@ -3,6 +3,12 @@ pub mod ReadyLemmas
 mod PollLemmas
 mod FitLemmas
 mod TurnLemmas
+mod WaitLemmas
+mod LotLemmas
+mod DepartLemmas
+mod FlushLemmas
+pub mod HeldLemmas
 -- The libraries below, handed on to those above.
-pub use Rattle.ca_acts_arrivals.proofs.of_ca_laws_parts
-pub use Rattle.ca_laws_pairs.proofs.of_ca_worlds
+pub use Rattle.ca_law_parts.proofs as of_ca_law_parts
+pub use Rattle.ca_law_parts.proofs.of_ca_law_world
+pub use Rattle.ca_acts.proofs as of_ca_acts

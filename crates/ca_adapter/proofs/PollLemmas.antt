@@ -15,9 +15,9 @@ use Rattle.ca_held.specs.declared.held.Held.{Held}
 use Rattle.ca_held.specs.HeldView.{holding}
 use Rattle.ca_keys.specs.declared.names.QueueId.{QueueId}
 use Rattle.ca_keys.specs.declared.names.Slot.{Slot}
-use Rattle.ca_laws_pairs.proofs.of_ca_laws_numbers.LimitLemmas.{places-free}
-use Rattle.ca_laws_pairs.specs.ca_laws_numbers.Raised.{CanFree}
-use Rattle.ca_laws_pairs.proofs.of_ca_laws_room.FreedLemmas.{apart-waiting, freed-once, sharing-none}
+use Rattle.ca_law_parts.proofs.Numbers.LimitLemmas.{places-free}
+use Rattle.ca_law_parts.specs.Raised.{CanFree}
+use Rattle.ca_law_parts.proofs.Room.FreedLemmas.{apart-waiting, freed-once, sharing-none}
 use Rattle.ca_model.specs.declared.event.Event.{Event}
 use Rattle.ca_model.specs.machine.CompletionVerbs.{source_of_completion}
 use Rattle.ca_model.specs.machine.World.{World}

@@ -4,12 +4,12 @@ use Rattle.std.proofs.lemmas.Bool.{and_parts, ltb-true}
 use Rattle.std.specs.List.{AllByRecursion}
 use Rattle.std.specs.Option.{option_map, option_map_or}
 use Rattle.ca_acts_queues.specs.ca_acts.Act.{Acts, Suffices}
-use Rattle.ca_laws_pairs.proofs.of_ca_acts_laws.StepLemmas.{act-steps}
-use Rattle.ca_laws_pairs.specs.ca_acts_laws.Steps.{IsStepOf, Shows}
-use Rattle.ca_laws_pairs.specs.ca_acts_pairs.Changed.{CanChange}
-use Rattle.ca_laws_pairs.specs.ca_acts_pairs.Departures.{CanDepart}
+use Rattle.ca_acts.proofs.StepLemmas.{act-steps}
+use Rattle.ca_acts.specs.Steps.{IsStepOf, Shows}
+use Rattle.ca_acts_pairs.specs.Changed.{CanChange}
+use Rattle.ca_acts_pairs.specs.Departures.{CanDepart}
 use Rattle.ca_acts_creation.specs.Made.{shared_slot}
-use Rattle.ca_laws_pairs.specs.ca_acts_pairs.Names.{names_around}
+use Rattle.ca_acts_pairs.specs.Names.{names_around}
 use Rattle.ca_acts_queues.specs.Drawing.{window_of_bind}
 use Rattle.ca_acts_queues.specs.Posting.{CanPostReceive, CanPostSend}
 use Rattle.ca_adapter.proofs.WorldLemmas.{cq-is, has-thing, queue-is, shown, sound-thing, within}
@@ -33,15 +33,15 @@ use Rattle.ca_keys.specs.declared.names.DomainId.{DomainId}
 use Rattle.ca_keys.specs.declared.names.QueueId.{QueueId}
 use Rattle.ca_keys.specs.declared.names.Slot.{Slot}
 use Rattle.ca_keys.specs.Numbers.{queue_of}
-use Rattle.ca_laws_pairs.proofs.of_ca_laws_names.PlacedLemmas as placed
-use Rattle.ca_laws_pairs.specs.ca_laws_names.Placed.{IsConfigured}
-use Rattle.ca_laws_pairs.specs.ca_laws_numbers.Raised.{IsThingWithin}
-use Rattle.ca_laws_pairs.proofs.of_ca_laws_numbers.LimitLemmas.{can-step, own-places, shared-places, slot-incarnation}
-use Rattle.ca_laws_pairs.proofs.HeldLemmas.{destroy-departs, modify-changes}
-use Rattle.ca_acts_arrivals.proofs.of_ca_laws_parts.EventPartLemmas.{event-held}
-use Rattle.ca_acts_arrivals.proofs.of_ca_laws_parts.NeedsLemmas.{next-same, none-held}
-use Rattle.ca_laws_pairs.proofs.of_ca_laws_room.FitLemmas.{vacant-new}
-use Rattle.ca_laws_pairs.proofs.of_ca_laws_windows.BindingLemmas.{counted-binding}
+use Rattle.ca_law_parts.proofs.Names.PlacedLemmas as placed
+use Rattle.ca_law_parts.specs.Placed.{IsConfigured}
+use Rattle.ca_law_parts.specs.Raised.{IsThingWithin}
+use Rattle.ca_law_parts.proofs.Numbers.LimitLemmas.{can-step, own-places, shared-places, slot-incarnation}
+use Rattle.ca_adapter.proofs.HeldLemmas.{destroy-departs, modify-changes}
+use Rattle.ca_acts_arrivals.proofs.of_ca_law_parts.Parts.EventPartLemmas.{event-held}
+use Rattle.ca_acts_arrivals.proofs.of_ca_law_parts.Parts.NeedsLemmas.{next-same, none-held}
+use Rattle.ca_law_parts.proofs.Room.FitLemmas.{vacant-new}
+use Rattle.ca_law_parts.proofs.of_ca_law_world.Windows.BindingLemmas.{counted-binding}
 use Rattle.ca_model.proofs.FrameLemmas.{event-touches-same}
 use Rattle.ca_model.specs.Marks.{MarkList}
 use Rattle.ca_model.specs.declared.answer.Answer.TheVariants as answers

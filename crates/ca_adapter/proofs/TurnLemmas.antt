@@ -14,9 +14,9 @@ use Rattle.ca_held.specs.declared.held.Held.{Held}
 use Rattle.ca_held.specs.HeldView.{holding}
 use Rattle.ca_keys.specs.declared.names.QueueId.{QueueId}
 use Rattle.ca_keys.specs.declared.names.Slot.{Slot}
-use Rattle.ca_laws_pairs.proofs.of_ca_laws_numbers.LimitLemmas.{lent-countable}
-use Rattle.ca_laws_pairs.specs.ca_laws_numbers.Raised.{IsSlotWithin}
-use Rattle.ca_laws_pairs.proofs.of_ca_laws_room.EventRoomLemmas.{together-fit}
+use Rattle.ca_law_parts.proofs.Numbers.LimitLemmas.{lent-countable}
+use Rattle.ca_law_parts.specs.Raised.{IsSlotWithin}
+use Rattle.ca_law_parts.proofs.Room.EventRoomLemmas.{together-fit}
 use Rattle.ca_mailbox.specs.Counting.{is_countable}
 use Rattle.ca_model.proofs.FrameLemmas.{event-agrees}
 use Rattle.ca_model.specs.declared.event.Event.{Event}

@@ -1,7 +1,6 @@
 pub mod Ready
 -- The libraries below, handed on to those above.
-pub use Rattle.ca_laws_pairs.specs.ca_laws_names
-pub use Rattle.ca_laws_pairs.specs.ca_worlds
+pub use Rattle.ca_law_parts.specs as ca_law_parts
 pub use Rattle.ca_needs.specs.ca_sending
-pub use Rattle.ca_acts_queues.specs.ca_acts
-pub use Rattle.ca_laws_pairs.specs.ca_acts_laws
+pub use Rattle.ca_acts.specs as ca_acts
+pub use Rattle.ca_acts_pairs.specs as ca_acts_pairs

@@ -8,7 +8,7 @@ use Rattle.ca_base.specs.declared.settings.Settings.{Settings}
 use Rattle.ca_held.specs.declared.held.Held.{Held}
 use Rattle.ca_held.specs.HeldView.{holding}
 use Rattle.ca_keys.specs.declared.place.Place.{Place}
-use Rattle.ca_laws_pairs.specs.ca_laws_names.Placed.{is_configured}
+use Rattle.ca_law_parts.specs.Placed.{is_configured}
 use Rattle.ca_model.specs.declared.event.Event.{Event}
 use Rattle.ca_model.specs.declared.part_name.PartName.TheVariants as names
 use Rattle.ca_model.specs.machine.Parts.{ShowsHeld, event_needs, next_part}
@@ -16,7 +16,7 @@ use Rattle.ca_model.specs.machine.HostVerbs.{store_plan}
 use Rattle.ca_model.specs.machine.Plan.{Plan}
 use Rattle.ca_model.specs.machine.Step.{bytes_of_buffer, run_of}
 use Rattle.ca_model.specs.machine.World.{World, Byte_at}
-use Rattle.ca_laws_pairs.specs.ca_worlds.Worlds.{IsWorldAfter}
+use Rattle.ca_law_parts.specs.Worlds.{IsWorldAfter}
 
 -- The parts in hand are those of a world to which so many events lead; a buffer in hand has all bytes that the
 -- configuration gives it.

@@ -1,5 +1,5 @@
 ghost use Rattle.ca_acts_queues.specs.ca_acts.Act.{Acts};
-ghost use Rattle.ca_laws_pairs.specs.ca_acts_laws.Steps.{IsStepOf, Shows};
+ghost use Rattle.ca_acts.specs.Steps.{IsStepOf, Shows};
 ghost use Rattle.ca_adapter.specs.Ready.{IsReady};
 ghost use Rattle.ca_base.specs.Configuration.{configuration_in};
 ghost use Rattle.ca_held.specs.HeldView.{holding};
@@ -8,11 +8,11 @@ ghost use Rattle.ca_model.specs.machine.Step as machine;
 ghost use Rattle.ca_model.specs.machine.World.{World};
 
 use crate::lists::verb_fits;
+use crate::request;
 use crate::verbs::act_verb;
 use ca_acts_arrivals::ca_acts_turns::{respond, rnr_wake, timeout};
 use ca_acts_arrivals::deliver;
 use ca_acts_queues::ca_acts::Call;
-use ca_acts_requests::request;
 use ca_base::{Settings, StepError};
 use ca_held::Held;
 use ca_model::{Event, Marks, Refusal, Verb};

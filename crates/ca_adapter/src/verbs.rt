@@ -13,12 +13,12 @@ use ca_acts_objects::{
     alloc_mr, alloc_mw, alloc_pd, create_cq, create_srq, dealloc_mw, dealloc_pd, dereg_mr,
     destroy_cq, destroy_srq, load, reg_mr, store,
 };
+use ca_acts_pairs::{destroy_qp, modify_qp, query_qp};
 use ca_acts_polls::poll;
 use ca_acts_queues::ca_acts::Call;
 use ca_acts_queues::{post_recv, post_send, post_srq};
 use ca_base::{Bytes, Field, Place, Run, Settings, StepError};
 use ca_held::Held;
-use ca_laws_pairs::ca_acts_pairs::{destroy_qp, modify_qp, query_qp};
 use ca_model::{Marks, Refusal, Verb};
 
 /// A verb whose names are configured: the act of each.

@@ -2,16 +2,16 @@
 use Rattle.std.proofs.Common.{◌≡◌, ℕ, zero, suc, ◌≤◌, arith, Bool, true, false, List, [], ◌∷◌, map, slice_get, Ok, Err, ap, subst, true≢false}
 use Rattle.std.specs.List.{AllByRecursion}
 use Rattle.std.specs.Option.{option_and_then, option_map_or}
-use Rattle.ca_agree.proofs.EventFitLemmas.{first-marks}
-use Rattle.ca_agree.specs.Runs.{Comes}
+use Rattle.ca_law_endings.proofs.EventFitLemmas.{first-marks}
+use Rattle.ca_law_endings.specs.Runs.{Comes}
 use Rattle.ca_base.specs.Configuration.{Adapter, Configuration}
 use Rattle.ca_base.specs.declared.limits.TheConstants.{MAX_BUFFER_BYTES}
 use Rattle.ca_keys.specs.Memory.{ByteMap}
 use Rattle.ca_keys.specs.declared.place.Run.{Run}
-use Rattle.ca_laws_sound.proofs.SoundLemmas.{event-sound, opening-sound}
-use Rattle.ca_isolated.proofs.of_ca_laws_writes.BoundedEvents.{event-bounded}
-use Rattle.ca_isolated.specs.ca_laws_writes.Bounds.{AreBounded, IsBounded, LiesInBuffer}
-use Rattle.ca_lone.specs.Cover.{AreInReach, EndsInReach, GrantsInReach}
+use Rattle.ca_law_world.proofs.Sound.SoundLemmas.{event-sound, opening-sound}
+use Rattle.ca_law_isolation.proofs.BoundedEvents.{event-bounded}
+use Rattle.ca_law_isolation.specs.Bounds.{AreBounded, IsBounded, LiesInBuffer}
+use Rattle.ca_isolation.specs.Cover.{AreInReach, EndsInReach, GrantsInReach}
 use Rattle.ca_model.specs.Entries.{EntryValue}
 use Rattle.ca_model.specs.declared.mark.Mark.{Mark}
 use Rattle.ca_model.specs.declared.mark.Mark.TheVariants as marks

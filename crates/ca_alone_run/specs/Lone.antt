@@ -1,7 +1,7 @@
 -- What comes of a group beside a history over buffers of zeros: the first queue pair that named a stranger, or the text of
 -- its replies in its lone run. Contracts cite it.
 use Rattle.std.specs.Prelude.{◌≡◌, true, ℕ, List, map, slice_get, Some}
-use Rattle.ca_alone.specs.Text.{alone_text}
+use Rattle.ca_output.specs.Text.{alone_text}
 use Rattle.ca_alone_run.specs.declared.lone.Outcome.{Outcome}
 use Rattle.ca_alone_run.specs.declared.lone.Outcome.TheVariants as outcomes
 use Rattle.ca_base.specs.Configuration.{Configuration}

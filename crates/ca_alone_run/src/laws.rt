@@ -5,13 +5,13 @@ ghost use Rattle.ca_base.specs.Configuration.{Configuration};
 ghost use Rattle.ca_isolation.specs.Alone.{alone_entries, alone_events};
 ghost use Rattle.ca_isolation.specs.Groups.{Group, is_closed};
 ghost use Rattle.ca_keys.specs.Memory.{ByteMap, zeros};
-ghost use Rattle.ca_lone.specs.Cover.{AreInReach};
+ghost use Rattle.ca_isolation.specs.Cover.{AreInReach};
 ghost use Rattle.ca_model.specs.Entries.{EntryValue};
 ghost use Rattle.ca_model.specs.machine.Run.{Follows, run_over};
 ghost use Rattle.ca_model.specs.machine.Sound.{AreLimited, CanBeMade};
 
-use ca_isolated::machine_is_isolated;
 use ca_isolation::lone_list_has_the_replies;
+use ca_law_isolation::machine_is_isolated;
 use ca_model::{Entry, History};
 use ca_script_run::ca_adapter::lists_fit;
 

@@ -1,9 +1,9 @@
 -- How many bytes spell an answer.
 use Rattle.std.proofs.Common.{◌≡◌, ℕ, ◌+◌, ◌≤◌, arith, refl, List, length, None}
-use Rattle.ca_packet.specs.Packet.{Fields, most_of_response}
-use Rattle.ca_packet.specs.Table.{row_of, shape_of}
-use Rattle.ca_packet.specs.declared.shape.Position.{Position}
-use Rattle.ca_packet.specs.declared.shape.Position.TheVariants.{First, Middle, Last, Only}
+use Rattle.ca_wire.specs.Packet.{Fields, most_of_response}
+use Rattle.ca_wire.specs.Table.{row_of, shape_of}
+use Rattle.ca_wire.specs.declared.shape.Position.{Position}
+use Rattle.ca_wire.specs.declared.shape.Position.TheVariants.{First, Middle, Last, Only}
 use Rattle.ca_wire.specs.Builders.{acknowledge, atomic_acknowledge, read_response, read_response_opcode}
 use Rattle.ca_wire.specs.Segment.{position_of}
 use Rattle.ca_wire.specs.declared.segment.Segment.{Segment}

@@ -4,7 +4,7 @@ use Rattle.std.specs.Prelude.{ℕ, suc, ◌+◌, ◌%◌, ◌^◌, ◌<◌, Bool
 use Rattle.ca_base.specs.objects.Answers.{with_ack_at_end}
 use Rattle.ca_base.specs.objects.QueuePair.{QueuePair}
 use Rattle.ca_model.specs.machine.Arrivals.{with_receive_taken, with_responder}
-use Rattle.ca_packet.specs.Packet.{Fields}
+use Rattle.ca_wire.specs.Packet.{Fields}
 
 -- an ACK at the expected PSN, where the packet asks for one
 abbrev pub with_ack_if_asked : Bool → QueuePair → QueuePair

@@ -9,7 +9,7 @@ use Rattle.ca_base.specs.Sight.{Sight, bytes_in, denial_in}
 use Rattle.ca_base.specs.declared.queue_numbers.Queued.{Queued}
 use Rattle.ca_base.specs.declared.queue_numbers.Queued.TheVariants as queued
 use Rattle.ca_base.specs.objects.QueuePair.{QueuePair, in_error, without_answers}
-use Rattle.ca_packet.specs.Packet.{Fields}
+use Rattle.ca_wire.specs.Packet.{Fields}
 use Rattle.ca_wire.specs.Builders.{nak}
 use Rattle.ca_wire.specs.declared.syndrome.NakCode.TheVariants.{RemoteAccessError}
 use Rattle.ca_model.specs.Marks.{MarkList}

@@ -8,8 +8,8 @@ ghost use Rattle.ca_answering.specs.Sending.{CanRead, CanRespond, IsOnePacket, I
 ghost use Rattle.ca_rows.specs.Asks.{touched_by};
 ghost use Rattle.ca_rows.specs.Made.{IsTurn};
 ghost use Rattle.ca_model.specs.machine.CanStep.{CanStep};
-ghost use Rattle.ca_packet.specs.Packet.{IsWellFormed, most_of_response};
-ghost use Rattle.ca_packet.specs.Table.{shape_of};
+ghost use Rattle.ca_wire.specs.Packet.{IsWellFormed, most_of_response};
+ghost use Rattle.ca_wire.specs.Table.{shape_of};
 
 use crate::answer::next_answer;
 use crate::flush::{FlushedReceives, push_flush};

@@ -4,7 +4,7 @@ use crate::verbs::{create, register, to_receive, to_send};
 use ca_base::{Change, DomainId, Key, Slot};
 use ca_mailbox::Weather;
 use ca_model::{Answer, Mark, Verb};
-use ca_turns::Turn;
+use ca_places::Turn;
 use ca_verbs::{Fabric, Pass};
 use std::sync::Wait;
 

@@ -4,7 +4,7 @@ use crate::verbs::{create, register, to_receive, to_send};
 use ca_base::{Change, DomainId, Slot};
 use ca_mailbox::Weather;
 use ca_model::Verb;
-use ca_turns::Turn;
+use ca_places::Turn;
 use ca_verbs::{Fabric, Pass, Receipt, TryError};
 
 /// What is done on a fabric: a consumer calls a verb, or a turn is made where nothing befalls packets.

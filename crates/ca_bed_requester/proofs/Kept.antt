@@ -15,8 +15,8 @@ use Rattle.ca_keys.specs.Refusals.{first_of}
 use Rattle.ca_base.specs.declared.refusals.OpRefusal.{OpRefusal}
 use Rattle.ca_base.specs.objects.QueuePair.{QueuePair}
 use Rattle.ca_grant.specs.Reaching.{AreAtHand}
-use Rattle.ca_laws_sound.proofs.ResponseLemmas.{IsGoodEnding, IsGoodRow, plain-good, response-good}
-use Rattle.ca_laws_sound.proofs.TurnLemmas.{all-fail, operation-good, packet-good, timeout-good, wake-good}
+use Rattle.ca_law_world.proofs.Sound.ResponseLemmas.{IsGoodEnding, IsGoodRow, plain-good, response-good}
+use Rattle.ca_law_world.proofs.Sound.TurnLemmas.{all-fail, operation-good, packet-good, timeout-good, wake-good}
 use Rattle.ca_qpstate.specs.ComesUp.{AreDepths}
 use Rattle.ca_model.specs.machine.Invariants.{IsList, IsQueue, is_sending}
 use Rattle.ca_model.specs.machine.Requester.{RequestTurn, Waits, Performs, Sends, turn_of}
@@ -26,7 +26,7 @@ use Rattle.ca_model.specs.machine.Row.{Ending, NotPossible, Does, Row, ending_of
 use Rattle.ca_base.specs.declared.request.SendRequest.{SendRequest}
 use Rattle.ca_base.specs.declared.request.PostedSend.{PostedSend}
 use Rattle.ca_base.specs.objects.WorkQueue.{WorkQueue, is_full, next_place, with_item}
-use Rattle.ca_laws_sound.proofs.VerbLemmas.{posted-send}
+use Rattle.ca_law_world.proofs.Sound.VerbLemmas.{posted-send}
 use Rattle.ca_model.specs.Requests.{list_of}
 use Rattle.ca_model.specs.machine.PostingVerbs.{with_send}
 use Rattle.ca_base.specs.declared.step.Reason.{Reason}
@@ -39,7 +39,7 @@ use Rattle.ca_bed_reach.specs.SmallReach.{FitTogether, IsAskHere, after_write_by
 use Rattle.ca_bed_reach.specs.declared.small_reach.SmallReach.{SmallReach}
 use Rattle.ca_bed_requester.specs.Bed.{Stands}
 use Rattle.ca_bed_requester.specs.declared.bed.Bed.{Bed}
-use Rattle.ca_packet.specs.Packet.{Fields}
+use Rattle.ca_wire.specs.Packet.{Fields}
 
 -- a good row ends well, whatever is seen
 pub ends-good : (q : QueuePair) (s : Sight) (row : Row) → IsGoodRow q row → IsGoodEnding q (ending_of s row)

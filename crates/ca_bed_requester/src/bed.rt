@@ -8,7 +8,7 @@ ghost use Rattle.ca_requester.specs.ca_sending.Turn.{PerformsFound};
 ghost use Rattle.ca_model.specs.machine.CanStep.{AreNarrow, CanStep};
 ghost use Rattle.ca_bed_reach.specs.SmallReach as small;
 ghost use Rattle.ca_bed_requester.specs.Bed as beds;
-ghost use Rattle.ca_packet.specs.Packet.{IsWellFormed};
+ghost use Rattle.ca_wire.specs.Packet.{IsWellFormed};
 
 use ca_base::limits::{MAX_MESSAGE_BYTES, MAX_PIECES};
 use ca_base::{

@@ -23,10 +23,10 @@ use Rattle.ca_base.specs.objects.Window.{Binding}
 use Rattle.ca_keys.specs.Memory.{runs_for}
 use Rattle.ca_grant.specs.Access.{FitInBytes}
 use Rattle.ca_grant.specs.Parts.{LiesWithin, grants_of_parts}
-use Rattle.ca_laws_sound.proofs.ArrivalLemmas.{responder-queue}
-use Rattle.ca_laws_sound.proofs.ObjectLemmas.{post-receive, take-receive}
-use Rattle.ca_laws_sound.proofs.RespondLemmas.{arrival-good, respond-good}
-use Rattle.ca_laws_sound.proofs.ResponseLemmas.{IsGoodEnding, IsGoodRow}
+use Rattle.ca_law_world.proofs.Sound.ArrivalLemmas.{responder-queue}
+use Rattle.ca_law_world.proofs.Sound.ObjectLemmas.{post-receive, take-receive}
+use Rattle.ca_law_world.proofs.Sound.RespondLemmas.{arrival-good, respond-good}
+use Rattle.ca_law_world.proofs.Sound.ResponseLemmas.{IsGoodEnding, IsGoodRow}
 use Rattle.ca_base.specs.declared.request.RecvRequest.{RecvRequest}
 use Rattle.ca_model.specs.declared.mark.Drop1.{Drop1}
 use Rattle.ca_model.specs.declared.mark.Drop1.TheVariants as drops
@@ -44,9 +44,9 @@ use Rattle.ca_bed_reach.specs.declared.small_reach.SmallReach.{SmallReach}
 use Rattle.ca_bed_requester.proofs.Kept.{ends-good, writes-keep}
 use Rattle.ca_bed_requester.specs.Bed.{Stands}
 use Rattle.ca_bed_requester.specs.declared.bed.Bed.{Bed}
-use Rattle.ca_packet.proofs.PacketLaws.{packet_again}
-use Rattle.ca_packet.specs.declared.wire_error.WireError.{WireError}
-use Rattle.ca_packet.specs.Packet.{Fields, Spells}
+use Rattle.ca_wire.proofs.PacketLaws.{packet_again}
+use Rattle.ca_wire.specs.declared.wire_error.WireError.{WireError}
+use Rattle.ca_wire.specs.Packet.{Fields, Spells}
 
 -- the row of a request that is spelt so, and that the adapter does not drop, is good
 pub request-good : (bytes : List ℕ) (p : Fields) (envelope : Option ℕ) (shared : Option SharedReceives) (q : QueuePair) → IsQueue q → IfSome shared IsSharedReceives

@@ -15,7 +15,7 @@ ghost use Rattle.ca_model.specs.machine.CanStep.{AreNarrow};
 ghost use Rattle.ca_bed_reach.specs.SmallReach as small;
 ghost use Rattle.ca_bed_requester.specs.Bed as beds;
 ghost use Rattle.ca_bed_responder.specs.Responder as responders;
-ghost use Rattle.ca_packet.specs.Packet.{IsWellFormed, Spells};
+ghost use Rattle.ca_wire.specs.Packet.{IsWellFormed, Spells};
 
 use ca_base::limits::{MAX_DEPTH, MAX_PAYLOAD_BYTES};
 use ca_base::{

@@ -14,3 +14,7 @@ pub mod RespondLemmas
 pub mod SendLemmas
 pub mod SmallLinks
 pub mod TakeLemmas
+pub mod CalmLemmas
+pub mod ChainLemmas
+pub mod LinkLemmas
+pub mod WalkLemmas

@@ -5,3 +5,5 @@ pub mod Limits
 pub mod Link
 pub mod Moves
 pub mod Once
+pub mod Calm
+pub mod CalmMoves

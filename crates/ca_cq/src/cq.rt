@@ -1,10 +1,10 @@
 use crate::cq_error::CqError;
+use crate::remove;
 use crate::reservation::{is_same_side, room_reserved, room_taken, room_taken_behind, source_in};
 use crate::ring::{Dropped, places_of};
 use arrayvec::ArrayVec;
 use ca_base::limits::{MAX_DEPTH, MAX_POLLED};
 use ca_base::{Completion, Memory, QueueId, Reservation, Reserve};
-use ca_ring::remove;
 use circular_buffer::HeapCircularBuffer;
 use std::alloc::Global;
 use std::marker::Model;

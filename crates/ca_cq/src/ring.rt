@@ -2,10 +2,10 @@ ghost use Rattle.std.specs.Prelude.{◌≡◌, ◌≤◌, ◌&&◌, filter, leng
 ghost use Rattle.ca_base.specs.declared.limits.TheConstants.{MAX_DEPTH};
 ghost use Rattle.ca_keys.specs.Equal.{queue_eq};
 
+use crate::Removal;
 use arrayvec::ArrayVec;
 use ca_base::limits::MAX_DEPTH;
 use ca_base::{Completion, QueueId, Side};
-use ca_ring::Removal;
 use circular_buffer::HeapCircularBuffer;
 
 /// The places of the receives of a queue pair among these, in order.

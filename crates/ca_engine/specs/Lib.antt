@@ -2,8 +2,9 @@ pub mod Offers
 pub mod Engine
 pub mod Passing
 pub mod Quiet
+pub mod Loop
 -- The libraries below, handed on to those above.
-pub use Rattle.ca_order.specs.ca_turns
+pub use Rattle.ca_order.specs.ca_places
 pub use Rattle.ca_order.specs.ca_script_lines
 pub use Rattle.ca_order.specs.ca_script
 pub use Rattle.ca_order.specs as ca_order

@@ -8,7 +8,7 @@ ghost use Rattle.ca_engine.specs.declared.offer.Offer.TheVariants as variants;
 
 use crate::offer::Offer;
 use ca_base::{AdapterConfig, Config, DomainId, Memory, QueueId, Slot};
-use ca_order::ca_turns::Turn;
+use ca_order::ca_places::Turn;
 use std::alloc::Global;
 
 /// Adds the queue pairs of a domain with so many slots.

@@ -1,2 +1,2 @@
 -- The libraries below, handed on to those above.
-pub use Rattle.ca_laws_parts.proofs as of_ca_laws_parts
+pub use Rattle.ca_law_parts.proofs as of_ca_law_parts

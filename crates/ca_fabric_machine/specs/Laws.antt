@@ -17,8 +17,8 @@ use Rattle.ca_fabric_machine.specs.Values.{IsPartIn, PartValue, thing_in}
 use Rattle.ca_fabric_machine.specs.declared.asked.Asked.{Asked}
 use Rattle.ca_fabric_machine.specs.declared.asked.Told.{Told}
 use Rattle.ca_keys.specs.Memory.{zeros}
-use Rattle.ca_laws_parts.proofs.EventPartLemmas.{among-held, event-held}
-use Rattle.ca_laws_parts.proofs.NeedsLemmas.{next-same, some-missing}
+use Rattle.ca_law_parts.proofs.Parts.EventPartLemmas.{among-held, event-held}
+use Rattle.ca_law_parts.proofs.Parts.NeedsLemmas.{next-same, some-missing}
 use Rattle.ca_model.proofs.RestLemmas.{event-leaves}
 use Rattle.ca_model.proofs.ThingLemmas.{name-path}
 use Rattle.ca_model.specs.declared.part_name.PartName.{PartName}
@@ -30,7 +30,7 @@ use Rattle.ca_model.specs.machine.World.{World, Name, Domain_of, Region_of, Wind
 use Rattle.ca_parts.specs.Hands.{AllStand, IsTakenFor, Suffices}
 use Rattle.ca_parts.specs.Lists.{Has}
 use Rattle.ca_places.specs.Places.{place_of}
-use Rattle.ca_worlds.specs.Worlds.{IsWorldAfter}
+use Rattle.ca_law_parts.specs.Worlds.{IsWorldAfter}
 
 -- ---- the value of a number in a hand
 

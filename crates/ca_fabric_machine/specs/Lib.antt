@@ -7,5 +7,4 @@ pub mod Places
 pub mod Steps
 pub mod Laws
 -- The libraries below, handed on to those above.
-pub use Rattle.ca_laws_parts.specs.ca_laws_names
-pub use Rattle.ca_worlds.specs as ca_worlds
+pub use Rattle.ca_law_parts.specs as ca_law_parts

@@ -15,11 +15,11 @@ use Rattle.ca_fabric_machine.specs.Asks.{asked_needs, due_needs, event_asked, pe
 use Rattle.ca_fabric_machine.specs.declared.asked.Asked.{Asked}
 use Rattle.ca_fabric_machine.specs.declared.asked.Asked.TheVariants as asks
 use Rattle.ca_keys.specs.declared.names.QueueId.{QueueId}
-use Rattle.ca_laws_parts.specs.ca_laws_names.Placed.{IsConfigured, IsPlacedSlot, IsPlacedWorld}
-use Rattle.ca_laws_parts.proofs.ConfiguredLemmas.{parts-configured}
-use Rattle.ca_laws_parts.proofs.CountLemmas.{few-event}
-use Rattle.ca_laws_parts.proofs.NeedsLemmas.{listed-also, none-decided, none-first}
-use Rattle.ca_laws_sound.proofs.SettledLemmas.{append-all}
+use Rattle.ca_law_parts.specs.Placed.{IsConfigured, IsPlacedSlot, IsPlacedWorld}
+use Rattle.ca_law_parts.proofs.Parts.ConfiguredLemmas.{parts-configured}
+use Rattle.ca_law_parts.proofs.Parts.CountLemmas.{few-event}
+use Rattle.ca_law_parts.proofs.Parts.NeedsLemmas.{listed-also, none-decided, none-first}
+use Rattle.ca_law_world.proofs.Sound.SettledLemmas.{append-all}
 use Rattle.ca_model.specs.declared.event.Event.{Event}
 use Rattle.ca_model.specs.declared.event.Event.TheVariants as events
 use Rattle.ca_model.specs.declared.part_name.PartName.{PartName}
@@ -31,9 +31,9 @@ use Rattle.ca_model.specs.machine.World.{World, Mailbox_of, Queue_of}
 use Rattle.ca_places.proofs.AmongLemmas.{all-among}
 use Rattle.ca_places.proofs.NumberLemmas.{all-numbered}
 use Rattle.ca_places.specs.Places.{all_parts, place_of}
-use Rattle.ca_turns.specs.Turns.{event_of, hasten_at, lot_at}
-use Rattle.ca_turns.specs.declared.turn.Turn.{Turn}
-use Rattle.ca_turns.specs.declared.turn.Turn.TheVariants as turns
+use Rattle.ca_places.specs.Turns.{event_of, hasten_at, lot_at}
+use Rattle.ca_places.specs.declared.turn.Turn.{Turn}
+use Rattle.ca_places.specs.declared.turn.Turn.TheVariants as turns
 
 -- what is numbered has a number
 numbered : (f : PartName → Option ℕ) (p : PartName) (xs : List PartName) (ns : List ℕ) → map f xs ≡ map Some ns → IsAmong xs p → is_some (f p) ≡ true

@@ -12,8 +12,8 @@ use Rattle.ca_model.specs.machine.Run.{go_on, run_from, with_marks}
 use Rattle.ca_model.specs.machine.Sound.{AreLimited}
 use Rattle.ca_model.specs.machine.World.{World, opening_world}
 use Rattle.ca_parts.specs.Lists.{EachFollows}
-use Rattle.ca_worlds.proofs.LeadsLemmas.{after-event, opening-after}
-use Rattle.ca_worlds.specs.Worlds.{IsWorldAfter}
+use Rattle.ca_law_parts.proofs.Worlds.LeadsLemmas.{after-event, opening-after}
+use Rattle.ca_law_parts.specs.Worlds.{IsWorldAfter}
 
 -- one entry more
 pub from-more : (c : Configuration) (w : World) (log : List Told) (e : Told) → world_from c w (log ++ e ∷ []) ≡ next_world c (world_from c w log) e.event

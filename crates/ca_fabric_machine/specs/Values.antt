@@ -13,7 +13,7 @@ use Rattle.ca_held.specs.Parts.{slot_of}
 use Rattle.ca_held.specs.declared.part.Part.{Part}
 use Rattle.ca_held.specs.declared.part.Part.TheVariants as parts
 use Rattle.ca_keys.specs.declared.place.Place.{Place}
-use Rattle.ca_laws_parts.specs.ca_laws_names.Placed.{is_configured}
+use Rattle.ca_law_parts.specs.Placed.{is_configured}
 use Rattle.ca_memory.specs.Buffer.{memory_of}
 use Rattle.ca_model.specs.declared.part_name.PartName.{PartName}
 use Rattle.ca_model.specs.machine.Parts.{part_of}

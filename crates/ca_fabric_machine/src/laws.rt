@@ -7,7 +7,7 @@ ghost use Rattle.ca_fabric_machine.specs.declared.asked.Told.{Told};
 ghost use Rattle.ca_model.specs.machine.Run.{run};
 ghost use Rattle.ca_model.specs.machine.Sound.{AreLimited};
 ghost use Rattle.ca_parts.specs.Lists.{EachFollows};
-ghost use Rattle.ca_worlds.specs.Worlds.{IsWorldAfter};
+ghost use Rattle.ca_law_parts.specs.Worlds.{IsWorldAfter};
 
 /// Fewer than 2^32 - 1 entries, of which each follows those before it, are a list of the machine, where the configuration
 /// keeps to its limits: the machine runs their events from an opening of zeros on, with their marks; and the world after

@@ -18,8 +18,8 @@ use Rattle.ca_qpstate.specs.ca_model.machine.World.{Name, Domain_of, Region_of, 
 use Rattle.ca_qpstate.specs.ca_model.declared.part_name.PartName.{PartName}
 use Rattle.ca_qpstate.specs.ca_model.declared.part_name.PartName.TheVariants as names
 use Rattle.ca_qpstate.proofs.of_ca_model.ThingLemmas.{domain-path, queue-path, slot-path}
-use Rattle.ca_shelf.specs.declared.shelf.Named.{Named}
-use Rattle.ca_shelf.specs.Shelved.{has_thing, thing_under, with_thing}
+use Rattle.ca_held_reach.specs.declared.shelf.Named.{Named}
+use Rattle.ca_held_reach.specs.Shelved.{has_thing, thing_under, with_thing}
 use Rattle.ca_held.specs.declared.held.Held.{Held}
 use Rattle.ca_held.specs.declared.part.QueueSlot.{QueueSlot}
 use Rattle.ca_held.specs.HeldView.{Holding, hold, holding, held_world, is_held_name, is_held_part, with_control, with_cq, with_mailbox, with_queue, with_region, with_srq, with_window}

@@ -21,8 +21,8 @@ use Rattle.ca_qpstate.specs.ca_model.machine.Parts.{part_eq, part_of}
 use Rattle.ca_qpstate.specs.ca_model.machine.World.{Name, World, put}
 use Rattle.ca_qpstate.specs.ca_model.machine.World.{Domain_of, Region_of, Window_of, Cq_of, Srq_of, Queue_of, Mailbox_of, Byte_at}
 use Rattle.ca_qpstate.proofs.of_ca_model.ThingLemmas.{domain-path, queue-path, slot-path}
-use Rattle.ca_shelf.specs.declared.shelf.Named.{Named}
-use Rattle.ca_shelf.specs.Shelved.{Shelved, has_thing, thing_under, without_thing}
+use Rattle.ca_held_reach.specs.declared.shelf.Named.{Named}
+use Rattle.ca_held_reach.specs.Shelved.{Shelved, has_thing, thing_under, without_thing}
 use Rattle.ca_held.specs.declared.held.Held.{Held}
 use Rattle.ca_held_reach.specs.declared.reached.BufferId.{BufferId}
 use Rattle.ca_held.specs.declared.part.Part.TheVariants as parts

@@ -21,7 +21,7 @@ use Rattle.ca_qpstate.specs.ca_model.declared.part_name.PartName.{PartName}
 use Rattle.ca_qpstate.specs.ca_model.declared.part_name.PartName.TheVariants as names
 use Rattle.ca_qpstate.specs.ca_model.machine.World.{World, Name, Thing, put}
 use Rattle.ca_qpstate.specs.ca_model.machine.World.{Domain_of, Region_of, Window_of, Cq_of, Srq_of, Queue_of, Mailbox_of, Byte_at}
-use Rattle.ca_shelf.specs.Shelved.{has_thing, thing_under, with_thing}
+use Rattle.ca_held_reach.specs.Shelved.{has_thing, thing_under, with_thing}
 use Rattle.std.specs.declared.alloc.Global.{Global}
 use Rattle.ca_held.specs.declared.held.Held.{Held}
 use Rattle.ca_held_reach.specs.declared.reached.BufferId.{BufferId}

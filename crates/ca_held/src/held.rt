@@ -4,10 +4,9 @@ use ca_cq::Cq;
 use ca_held_reach::ca_memory::Buffer;
 use ca_held_reach::ca_region::Region;
 use ca_held_reach::ca_window::Window;
-use ca_held_reach::{BufferId, Reached};
+use ca_held_reach::{BufferId, Reached, Shelf};
 use ca_mailbox::Mailbox;
 use ca_qpstate::ca_model::PartName;
-use ca_shelf::Shelf;
 use std::alloc::Global;
 
 /// The parts in hand, by kinds. What an engine reaches by keys stands by itself, so that a packet can stay lent from
@@ -34,7 +33,7 @@ impl Held {
     ghost use Rattle.ca_qpstate.specs.ca_model.declared.part_name.PartName.{PartName};
     ghost use Rattle.ca_held_reach.specs.Names.{buffer_eq};
     ghost use Rattle.ca_keys.specs.Memory.{bytes_at};
-    ghost use Rattle.ca_shelf.specs.Shelved.{has_thing, thing_under};
+    ghost use Rattle.ca_held_reach.specs.Shelved.{has_thing, thing_under};
     ghost use Rattle.ca_held.specs.Parts.{slot_of};
 
     /// No parts. It takes no memory; what is reserved later comes from `alloc`.

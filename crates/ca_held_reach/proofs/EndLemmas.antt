@@ -9,7 +9,7 @@ use Rattle.ca_keys.specs.Equal.{slot_eq}
 use Rattle.ca_base.specs.objects.LocalRequest.{window_refusal}
 use Rattle.ca_base.specs.objects.Region.{Region, with_window_unbound}
 use Rattle.ca_base.specs.objects.Window.{Binding, Window, without_binding}
-use Rattle.ca_shelf.specs.Shelved.{has_thing, thing_under}
+use Rattle.ca_held_reach.specs.Shelved.{has_thing, thing_under}
 use Rattle.ca_held_reach.specs.declared.reached.Reached.{Reached}
 use Rattle.ca_held_reach.specs.AtHand.{IsCounting}
 use Rattle.ca_held_reach.specs.Changed.{put_region, put_window, without_window_key}

@@ -18,8 +18,8 @@ use Rattle.ca_base.specs.objects.Slices.{is_key_of, slot_of_key}
 use Rattle.ca_base.specs.objects.Window.{Binding, Window, grant_of_binding, key_of_window, vacant_window, without_binding}
 use Rattle.ca_grant.specs.KeySlot.{list_of_grant}
 use Rattle.ca_grant.specs.Reaching.{grants_without, is_by_key}
-use Rattle.ca_shelf.specs.Paths.{slot_path}
-use Rattle.ca_shelf.specs.Shelved.{has_thing, thing_under}
+use Rattle.ca_held_reach.specs.Paths.{slot_path}
+use Rattle.ca_held_reach.specs.Shelved.{has_thing, thing_under}
 use Rattle.ca_held_reach.specs.declared.reached.Reached.{Reached}
 use Rattle.ca_held_reach.specs.AtHand.{CanEnd, FitTogether, IsCounting, LiesInValid}
 use Rattle.ca_held_reach.specs.Changed.{after_end_of, put_region, put_window, without_window_key}

@@ -8,8 +8,8 @@ use Rattle.ca_base.specs.objects.Region.{Region, grant_of_region, vacant_region}
 use Rattle.ca_base.specs.objects.Window.{Binding, Window, grant_of_binding}
 use Rattle.ca_grant.specs.Parts.{IsOfAdapter, LiesWithin}
 use Rattle.ca_keys.specs.Equal.{slot_eq}
-use Rattle.ca_shelf.specs.declared.shelf.Named.{Named}
-use Rattle.ca_shelf.specs.Shelved.{thing_under}
+use Rattle.ca_held_reach.specs.declared.shelf.Named.{Named}
+use Rattle.ca_held_reach.specs.Shelved.{thing_under}
 use Rattle.ca_held_reach.specs.AtHand.{LiesInValid}
 use Rattle.ca_held_reach.specs.Seen.{or_vacant, slot_under}
 

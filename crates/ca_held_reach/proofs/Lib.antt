@@ -1,3 +1,4 @@
 pub mod EndLemmas
 pub mod GrantLemmas
 mod JudgeLemmas
+pub mod ThingLemmas

@@ -10,8 +10,8 @@ use Rattle.ca_base.specs.objects.Region.{Region, after_region_invalidation, with
 use Rattle.ca_base.specs.objects.Slices.{is_key_of, slot_of_key}
 use Rattle.ca_base.specs.objects.Window.{Binding, Window, without_binding}
 use Rattle.ca_grant.specs.ca_memory.Buffer.{bytes_after}
-use Rattle.ca_shelf.specs.declared.shelf.Named.{Named}
-use Rattle.ca_shelf.specs.Shelved.{thing_under, with_thing}
+use Rattle.ca_held_reach.specs.declared.shelf.Named.{Named}
+use Rattle.ca_held_reach.specs.Shelved.{thing_under, with_thing}
 use Rattle.ca_held_reach.specs.declared.reached.BufferId.{BufferId}
 use Rattle.ca_held_reach.specs.declared.reached.Reached.{Reached}
 use Rattle.ca_held_reach.specs.Names.{buffer_eq, buffer_of_run}

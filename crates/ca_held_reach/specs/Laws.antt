@@ -18,8 +18,8 @@ use Rattle.ca_grant.specs.Reaching.{sight_after_write}
 use Rattle.ca_grant.specs.Access.{memory_of_buffer}
 use Rattle.ca_grant.proofs.Places.{run-keeps-length, run-written}
 use Rattle.ca_grant.specs.ca_memory.Buffer.{IsWrittenAt, bytes_after, memory_of}
-use Rattle.ca_shelf.specs.declared.shelf.Named.{Named}
-use Rattle.ca_shelf.specs.Shelved.{has_thing, thing_under, with_thing}
+use Rattle.ca_held_reach.specs.declared.shelf.Named.{Named}
+use Rattle.ca_held_reach.specs.Shelved.{has_thing, thing_under, with_thing}
 use Rattle.ca_held_reach.specs.declared.reached.BufferId.{BufferId}
 use Rattle.ca_held_reach.specs.declared.reached.Reached.{Reached}
 use Rattle.ca_held_reach.specs.AtHand.{AreRunsAtHand, CanEnd, HasBytesAtHand, IsRunAtHand}

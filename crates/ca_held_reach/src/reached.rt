@@ -1,8 +1,8 @@
+use crate::{Shelf, ShelfName};
 use ca_grant::ca_memory::Buffer;
 use ca_keys::{Run, Slot};
 use ca_localops::ca_region::Region;
 use ca_localops::ca_window::Window;
-use ca_shelf::{Shelf, ShelfName};
 
 /// What keys and asks reach of the parts in hand: windows, regions, and buffers.
 #[derive(Drop)]

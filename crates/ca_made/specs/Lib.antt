@@ -1,1 +1,3 @@
 pub mod Made
+pub mod Counted
+pub mod Text

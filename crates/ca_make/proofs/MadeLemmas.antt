@@ -11,8 +11,8 @@ use Rattle.ca_make.specs.Buffers.{HasTwoBuffers}
 use Rattle.ca_model.specs.Requests.{list_of}
 use Rattle.ca_model.specs.declared.verb.Verb.{Verb}
 use Rattle.ca_model.specs.machine.Sound.{AreLimited, HasFewPieces, IsLimitedAdapter}
-use Rattle.ca_order_laws.specs.Limits.{KeepsToLimits}
-use Rattle.ca_order_laws.specs.ca_rest.Rest.{AreCallable, IsCallable}
+use Rattle.ca_law_scripts.specs.Limits.{KeepsToLimits}
+use Rattle.ca_law_scripts.specs.Rest.{AreCallable, IsCallable}
 use Rattle.ca_script_lines.specs.declared.Line.{Line}
 
 -- ---- lists

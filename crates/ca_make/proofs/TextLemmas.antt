@@ -11,7 +11,7 @@ use Rattle.ca_model.specs.Past.{after_entries, opening_past}
 use Rattle.ca_model.specs.machine.World.{World}
 use Rattle.ca_order.specs.Order.{ending, order}
 use Rattle.ca_order.specs.Summary.{Summary, bytes_after, runs_from, summary}
-use Rattle.ca_order_laws.specs.Limits.{KeepsToLimits}
+use Rattle.ca_law_scripts.specs.Limits.{KeepsToLimits}
 use Rattle.ca_script_run.specs.ca_replay.Rows.{IsRow, IsRowOf}
 use Rattle.ca_script_run.specs.ca_replay.declared.row.Row.{Row}
 use Rattle.ca_script.specs.Script.{ScriptValue}

@@ -7,7 +7,7 @@ use Rattle.rand_pcg.specs.Pcg.{pcg32}
 use Rattle.ca_base.specs.Configuration.{Configuration}
 use Rattle.ca_base.specs.declared.limits.TheConstants.{MAX_EVENTS}
 use Rattle.ca_script_run.specs.ca_engine.Offers.{offers_of_round, offers_of_timers}
-use Rattle.ca_script_run.specs.ca_engine_laws.Loop.{most_offers}
+use Rattle.ca_script_run.specs.ca_engine.Loop.{most_offers}
 use Rattle.ca_made.specs.Made.{active, each_from, generator, lines_from, made_adapter, made_script, pair, passive, requests}
 use Rattle.ca_make.proofs.MadeLemmas.{made-limited}
 use Rattle.ca_model.specs.declared.verb.Verb.{Verb}

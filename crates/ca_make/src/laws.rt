@@ -3,11 +3,11 @@ ghost use Rattle.ca_made.specs.Made.{made_script};
 ghost use Rattle.ca_make.specs.Buffers.{HasTwoBuffers};
 ghost use Rattle.ca_make.specs.Requests.{requests_in};
 ghost use Rattle.ca_order.specs.Order.{order};
-ghost use Rattle.ca_order_laws.specs.Lawful.{IsLawfulOrder};
-ghost use Rattle.ca_order_laws.specs.Limits.{KeepsToLimits};
+ghost use Rattle.ca_law_scripts.specs.Lawful.{IsLawfulOrder};
+ghost use Rattle.ca_law_scripts.specs.Limits.{KeepsToLimits};
 ghost use Rattle.ca_script_run.specs.Working.{IsWorkable};
 
-use ca_order_laws::orders_are_lawful;
+use ca_law_scripts::orders_are_lawful;
 
 /// The made script of each seed keeps to the limits, and can be worked. It has two adapters alike, each with one buffer,
 /// and its lines post 800 requests.

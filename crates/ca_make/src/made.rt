@@ -3,17 +3,16 @@ ghost use Rattle.ca_made.specs.Made.{made_script};
 ghost use Rattle.ca_order.specs.OfScript as machine;
 ghost use Rattle.ca_order.specs.Order.{ending, order};
 ghost use Rattle.ca_order.specs.Summary.{summary};
-ghost use Rattle.ca_order_laws.specs.Lawful.{IsLawfulOrder};
+ghost use Rattle.ca_law_scripts.specs.Lawful.{IsLawfulOrder};
 ghost use Rattle.ca_script_run.specs.Statuses.{status_value};
-ghost use Rattle.ca_summary.specs.Text.{summary_text};
+ghost use Rattle.ca_made.specs.Text.{summary_text};
 
 use crate::buffers::byte_sum;
 use crate::laws::{made_scripts_can_be_worked, orders_of_made_scripts_are_lawful};
 use ca_base::Memory;
-use ca_made::generate;
-use ca_order_laws::marks_tell_the_memory_of_orders;
+use ca_law_scripts::marks_tell_the_memory_of_orders;
+use ca_made::{generate, summary_of};
 use ca_script_run::{Status, work_script};
-use ca_summary::summary_of;
 use std::alloc::Global;
 
 /// What came of a made script: the text of its summary, and how it ended.

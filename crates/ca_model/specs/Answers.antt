@@ -5,8 +5,8 @@ use Rattle.ca_base.specs.declared.change.ModifyRefusal.TheVariants as changes
 use Rattle.ca_base.specs.declared.refusals.RegionError.{RegionError}
 use Rattle.ca_base.specs.declared.refusals.RegionError.TheVariants as regions
 use Rattle.ca_base.specs.Spelling.{field_text}
-use Rattle.ca_packet.specs.declared.wire_error.WireError.{WireError}
-use Rattle.ca_packet.specs.declared.wire_error.WireError.TheVariants as wire
+use Rattle.ca_wire.specs.declared.wire_error.WireError.{WireError}
+use Rattle.ca_wire.specs.declared.wire_error.WireError.TheVariants as wire
 use Rattle.ca_model.specs.declared.answer.Refusal.{Refusal}
 use Rattle.ca_model.specs.declared.answer.Refusal.TheVariants as refusals
 use Rattle.ca_model.specs.declared.mark.Drop1.{Drop1}

@@ -17,10 +17,10 @@ use Rattle.ca_keys.specs.Equal.{bool_eq, key_eq, queue_eq}
 use Rattle.ca_base.specs.Equal.{operation_eq, status_eq}
 use Rattle.ca_keys.specs.Memory.{ByteMap}
 use Rattle.ca_psn.specs.Psn.{widened}
-use Rattle.ca_packet.specs.declared.opcode.TheConstants.{ATOMIC_ACKNOWLEDGE}
+use Rattle.ca_wire.specs.declared.opcode.TheConstants.{ATOMIC_ACKNOWLEDGE}
 use Rattle.ca_wire.specs.declared.syndrome.NakCode.{NakCode}
 use Rattle.ca_wire.specs.declared.syndrome.NakCode.TheVariants.{InvalidRequest, RemoteAccessError, RemoteOperationalError}
-use Rattle.ca_packet.specs.Packet.{Fields}
+use Rattle.ca_wire.specs.Packet.{Fields}
 use Rattle.ca_wire.specs.Syndrome.{nak_code}
 use Rattle.ca_model.specs.declared.mark.Mark.{Mark}
 use Rattle.ca_model.specs.declared.mark.Mark.TheVariants as marks

@@ -14,7 +14,7 @@ use Rattle.ca_keys.specs.Allowed.{denial_of}
 use Rattle.ca_keys.specs.Equal.{kind_eq, denial_eq, domain_eq}
 use Rattle.ca_keys.specs.Memory.{ByteMap, places_count, runs_for, bytes_at, little_endian}
 use Rattle.ca_keys.specs.Numbers.{domain_of}
-use Rattle.ca_packet.specs.Packet.{Fields}
+use Rattle.ca_wire.specs.Packet.{Fields}
 use Rattle.ca_model.specs.declared.answer.Answer.{Answer}
 use Rattle.ca_model.specs.declared.answer.Answer.TheVariants as answers
 use Rattle.ca_model.specs.declared.mark.Mark.{Mark}

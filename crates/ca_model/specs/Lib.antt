@@ -19,5 +19,4 @@ pub mod Lawful
 pub mod machine
 -- The libraries below, handed on to those above.
 pub use Rattle.ca_psn.specs as ca_psn
-pub use Rattle.ca_packet.specs as ca_packet
 pub use Rattle.ca_wire.specs as ca_wire

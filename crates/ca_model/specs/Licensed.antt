@@ -17,7 +17,7 @@ use Rattle.ca_keys.specs.Equal.{key_eq, domain_eq, queue_eq, grant_eq, run_eq}
 use Rattle.ca_base.specs.Grants.{grant_of_registration, grant_of_fast_registration, grant_of_bind, next_low, needs_local_write}
 use Rattle.ca_keys.specs.Memory.{ByteMap, runs_at}
 use Rattle.ca_keys.specs.Numbers.{region_index, window_index, index_of, domain_of}
-use Rattle.ca_packet.specs.Packet.{Fields}
+use Rattle.ca_wire.specs.Packet.{Fields}
 use Rattle.ca_model.specs.declared.answer.Answer.{Answer}
 use Rattle.ca_model.specs.declared.answer.Answer.TheVariants as answers
 use Rattle.ca_model.specs.declared.event.Event.{Event}

@@ -4,16 +4,16 @@ use Rattle.std.specs.Result.{result_ok}
 use Rattle.ca_keys.specs.declared.access.Kind.{Kind}
 use Rattle.ca_keys.specs.declared.access.Kind.TheVariants as kinds
 use Rattle.ca_keys.specs.Equal.{kind_eq}
-use Rattle.ca_packet.specs.declared.atomic_eth.AtomicEth.{AtomicEth}
-use Rattle.ca_packet.specs.declared.shape.Operation.{Operation}
-use Rattle.ca_packet.specs.declared.shape.Operation.TheVariants.{Request, ReadResponse}
-use Rattle.ca_packet.specs.declared.shape.Position.{Position}
-use Rattle.ca_packet.specs.declared.shape.Shape.{Shape}
-use Rattle.ca_packet.specs.declared.shape.Shape.TheVariants as shapes
-use Rattle.ca_packet.specs.Decoding.{packet_in}
-use Rattle.ca_packet.specs.Packet.{Fields, follows}
-use Rattle.ca_packet.specs.Shapes.{begins, ends}
-use Rattle.ca_packet.specs.Table.{IETH, operation_of, shape_of}
+use Rattle.ca_wire.specs.declared.atomic_eth.AtomicEth.{AtomicEth}
+use Rattle.ca_wire.specs.declared.shape.Operation.{Operation}
+use Rattle.ca_wire.specs.declared.shape.Operation.TheVariants.{Request, ReadResponse}
+use Rattle.ca_wire.specs.declared.shape.Position.{Position}
+use Rattle.ca_wire.specs.declared.shape.Shape.{Shape}
+use Rattle.ca_wire.specs.declared.shape.Shape.TheVariants as shapes
+use Rattle.ca_wire.specs.Decoding.{packet_in}
+use Rattle.ca_wire.specs.Packet.{Fields, follows}
+use Rattle.ca_wire.specs.Shapes.{begins, ends}
+use Rattle.ca_wire.specs.Table.{IETH, operation_of, shape_of}
 
 -- the packet that bytes spell, if they spell one
 abbrev pub packet_of : List ℕ → Option Fields

@@ -31,7 +31,7 @@ use Rattle.ca_base.specs.Equal.{operation_eq, status_eq}
 use Rattle.ca_base.specs.Grants.{next_low}
 use Rattle.ca_keys.specs.Memory.{ByteMap, runs_for, memory_after, little_endian_bytes}
 use Rattle.ca_keys.specs.Numbers.{index_of, low_of, queue_of, domain_of, region_index, window_index}
-use Rattle.ca_packet.specs.Packet.{Fields}
+use Rattle.ca_wire.specs.Packet.{Fields}
 use Rattle.ca_model.specs.declared.answer.Answer.{Answer}
 use Rattle.ca_model.specs.declared.answer.Answer.TheVariants as answers
 use Rattle.ca_model.specs.declared.event.Event.{Event}

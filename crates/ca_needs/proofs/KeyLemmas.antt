@@ -9,8 +9,8 @@ use Rattle.ca_base.specs.declared.step.Reason.TheVariants as reasons
 use Rattle.ca_base.specs.objects.QueuePair.{QueuePair}
 use Rattle.ca_base.specs.objects.StateTable.{is_among}
 use Rattle.ca_keys.specs.Refusals.{first_of}
-use Rattle.ca_packet.specs.Packet.{Fields}
-use Rattle.ca_packet.specs.declared.opcode.TheConstants.{ACKNOWLEDGE}
+use Rattle.ca_wire.specs.Packet.{Fields}
+use Rattle.ca_wire.specs.declared.opcode.TheConstants.{ACKNOWLEDGE}
 use Rattle.ca_wire.specs.Syndrome.{syndrome_in}
 use Rattle.ca_model.specs.declared.mark.Drop1.TheVariants as drops
 use Rattle.ca_base.specs.declared.completion.WcStatus.TheVariants.{BadResponse}

@@ -7,7 +7,7 @@ use Rattle.ca_keys.specs.declared.names.Slot.{Slot}
 use Rattle.ca_base.specs.Configuration.{Configuration}
 use Rattle.ca_base.specs.objects.QueuePair.{QueuePair, recv_cq_of, send_cq_of, srq_of}
 use Rattle.ca_base.specs.objects.Slices.{has_slot}
-use Rattle.ca_qpstate.proofs.of_ca_laws_sound.VerbLemmas.{queue-slot}
+use Rattle.ca_qpstate.proofs.of_ca_law_world.Sound.VerbLemmas.{queue-slot}
 use Rattle.ca_held.specs.declared.held.Held.{Held}
 use Rattle.ca_held.specs.HeldView.{holding}
 use Rattle.ca_model.specs.declared.part_name.PartName.{PartName}

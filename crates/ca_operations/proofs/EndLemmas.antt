@@ -12,8 +12,8 @@ use Rattle.ca_base.specs.declared.request.RecvRequest.{RecvRequest}
 use Rattle.ca_base.specs.objects.QueuePair.{QueuePair, in_error}
 use Rattle.ca_base.specs.objects.WorkQueue.{WorkQueue, after_take, with_all_taken}
 use Rattle.std.specs.Option.{option_map}
-use Rattle.ca_packet.specs.declared.shape.Position.{Position}
-use Rattle.ca_packet.specs.Packet.{Fields}
+use Rattle.ca_wire.specs.declared.shape.Position.{Position}
+use Rattle.ca_wire.specs.Packet.{Fields}
 use Rattle.ca_wire.specs.declared.syndrome.NakCode.TheVariants.{RemoteOperationalError}
 use Rattle.ca_wire.specs.Syndrome.{nak_code}
 use Rattle.ca_model.specs.Marks.{MarkList}

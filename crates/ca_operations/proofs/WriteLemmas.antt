@@ -7,11 +7,11 @@ use Rattle.ca_keys.specs.declared.verdict.Verdict.TheVariants.{Wrote}
 use Rattle.ca_base.specs.Sight.{Invalidation, Sight, first_denied}
 use Rattle.ca_base.specs.declared.request.PlacedReceive.{PlacedReceive}
 use Rattle.ca_base.specs.objects.QueuePair.{QueuePair}
-use Rattle.ca_packet.specs.declared.shape.Position.{Position}
-use Rattle.ca_packet.specs.declared.shape.Position.TheVariants.{First, Middle, Last, Only}
-use Rattle.ca_packet.specs.declared.shape.Shape.{Shape}
-use Rattle.ca_packet.specs.declared.shape.Shape.TheVariants as shapes
-use Rattle.ca_packet.specs.Packet.{Fields}
+use Rattle.ca_wire.specs.declared.shape.Position.{Position}
+use Rattle.ca_wire.specs.declared.shape.Position.TheVariants.{First, Middle, Last, Only}
+use Rattle.ca_wire.specs.declared.shape.Shape.{Shape}
+use Rattle.ca_wire.specs.declared.shape.Shape.TheVariants as shapes
+use Rattle.ca_wire.specs.Packet.{Fields}
 use Rattle.ca_model.specs.declared.write_reach.WriteReach.{WriteReach}
 use Rattle.ca_wire.specs.declared.syndrome.NakCode.TheVariants.{InvalidRequest}
 use Rattle.ca_model.specs.Marks.{MarkList}

@@ -8,8 +8,8 @@ use Rattle.ca_base.specs.declared.request.PlacedReceive.{PlacedReceive}
 use Rattle.ca_base.specs.Sight.{Sight, first_denied}
 use Rattle.ca_base.specs.objects.QueuePair.{QueuePair}
 use Rattle.ca_grant.specs.Reaching.{AreAtHand, IsFound}
-use Rattle.ca_packet.specs.Packet.{Fields}
-use Rattle.ca_packet.specs.declared.reth.Reth.{Reth}
+use Rattle.ca_wire.specs.Packet.{Fields}
+use Rattle.ca_wire.specs.declared.reth.Reth.{Reth}
 use Rattle.ca_wire.specs.declared.syndrome.NakCode.TheVariants.{InvalidRequest}
 use Rattle.ca_model.specs.machine.Arrivals.{packet_ask, refusal_effects}
 use Rattle.ca_model.specs.machine.Expected.{read_queued}

@@ -7,9 +7,9 @@ use Rattle.ca_keys.specs.declared.verdict.Verdict.{Verdict}
 use Rattle.ca_keys.specs.declared.verdict.Verdict.TheVariants as verdicts
 use Rattle.ca_base.specs.declared.limits.TheConstants.{ATOMIC_BYTES}
 use Rattle.ca_base.specs.Sight.{Sight, denial_in}
-use Rattle.ca_packet.specs.declared.atomic_eth.AtomicEth.{AtomicEth}
+use Rattle.ca_wire.specs.declared.atomic_eth.AtomicEth.{AtomicEth}
 use Rattle.ca_model.specs.Packets.{number_put}
-use Rattle.ca_packet.specs.Shapes.{IsAtomicKind}
+use Rattle.ca_wire.specs.Shapes.{IsAtomicKind}
 
 -- an ask for the eight bytes of an atomic, at an address that is a multiple of eight, which is allowed and at hand
 pub record IsAtomicRequest {S : Type 0} (sight : S → Sight) (judges touches : S → Ask → Type 0) (reach : S) (ask : Ask) : Type 0 where

@@ -3,9 +3,9 @@
 use Rattle.std.specs.Prelude.{◌≡◌, false, Option, Some}
 use Rattle.ca_base.specs.declared.request.PlacedReceive.{PlacedReceive}
 use Rattle.ca_base.specs.objects.QueuePair.{QueuePair}
-use Rattle.ca_packet.specs.Packet.{IsWellFormed}
-use Rattle.ca_packet.specs.Shapes.{IsRequestShape}
-use Rattle.ca_packet.specs.Table.{shape_of}
+use Rattle.ca_wire.specs.Packet.{IsWellFormed}
+use Rattle.ca_wire.specs.Shapes.{IsRequestShape}
+use Rattle.ca_wire.specs.Table.{shape_of}
 use Rattle.ca_model.specs.machine.Expected.{is_invalid}
 use Rattle.ca_operations.specs.declared.request.Request.{Request}
 use Rattle.ca_operations.specs.Receives.{CanReceive}

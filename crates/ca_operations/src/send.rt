@@ -4,7 +4,7 @@ ghost use Rattle.ca_base.specs.declared.completion.WcStatus.{WcStatus};
 ghost use Rattle.ca_base.specs.declared.limits.TheConstants.{MAX_PAYLOAD_BYTES};
 ghost use Rattle.ca_base.specs.declared.queue_numbers.Message.{Message};
 ghost use Rattle.ca_base.specs.objects.QueuePair.{QueuePair};
-ghost use Rattle.ca_packet.specs.declared.shape.Shape.{Shape};
+ghost use Rattle.ca_wire.specs.declared.shape.Shape.{Shape};
 ghost use Rattle.ca_model.specs.declared.marks.TheConstants.{SPARE_MARKS};
 ghost use Rattle.ca_model.specs.machine.Arrivals as arrivals;
 ghost use Rattle.ca_model.specs.machine.CanStep.{CanStep};

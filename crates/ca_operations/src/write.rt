@@ -1,6 +1,6 @@
 ghost use Rattle.std.specs.Prelude.{◌≡◌, ◌+◌, ◌<◌, ◌≤◌, ◌==◌, if◌then◌else◌, [], ◌∷◌, false, length, IfErr, IfOk, None, OnOk, Some};
 ghost use Rattle.ca_base.specs.Sight as sights;
-ghost use Rattle.ca_packet.specs.declared.shape.Shape.{Shape};
+ghost use Rattle.ca_wire.specs.declared.shape.Shape.{Shape};
 ghost use Rattle.ca_grant.specs.Reaching.{AreAtHand, IsPacketAsk};
 ghost use Rattle.ca_wire.specs.declared.syndrome.NakCode.{NakCode};
 ghost use Rattle.ca_model.specs.declared.marks.TheConstants.{SPARE_MARKS};

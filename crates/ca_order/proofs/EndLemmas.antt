@@ -13,7 +13,7 @@ use Rattle.ca_script.specs.Script.{ScriptValue}
 use Rattle.ca_script.specs.ca_script_lines.declared.Line.{Line}
 use Rattle.ca_script.specs.ca_script_lines.declared.what.What.{What}
 use Rattle.ca_script.specs.ca_script_lines.declared.what.What.TheVariants as whats
-use Rattle.ca_turns.specs.Turns.{event_of}
+use Rattle.ca_places.specs.Turns.{event_of}
 use Rattle.ca_order.proofs.KeepLemmas.{ByVisits, kept-pass}
 use Rattle.ca_order.specs.Visits.{Visit, Consumer, Engine, round_of, timer_pass_of}
 use Rattle.ca_order.specs.Order.{HasNoMoreLines, Stage, after_line, at_round, ending, after_first, has_no_event_left, lines_of, after_event, most_rounds, opening_stage, after_pass, after_rounds, after_visit, after_outcome, with_lines_left, after_round}

@@ -14,7 +14,7 @@ use Rattle.ca_script.specs.Script.{ScriptValue}
 use Rattle.ca_script.specs.ca_script_lines.declared.Line.{Line}
 use Rattle.ca_script.specs.ca_script_lines.declared.what.What.{What}
 use Rattle.ca_script.specs.ca_script_lines.declared.what.What.TheVariants as whats
-use Rattle.ca_turns.specs.Turns.{event_of}
+use Rattle.ca_places.specs.Turns.{event_of}
 use Rattle.ca_order.specs.Visits.{Visit, Consumer, Engine, round_of, timer_pass_of}
 
 -- how far a script is worked: the world, the entries, the latest first, and their number; the lines that are left of each

@@ -10,7 +10,7 @@
 
 mod laws;
 
-pub use ca_turns;
+pub use ca_places;
 pub use laws::{
     orders_are_of_their_scripts, orders_end, orders_follow_the_machine, orders_have_their_status,
     rounds_add_entries, rounds_are_of_their_scripts, rounds_end, rounds_follow_the_machine,

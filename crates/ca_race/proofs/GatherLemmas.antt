@@ -41,7 +41,7 @@ use Rattle.ca_verbs.proofs.of_ca_taking.PartLemmas.{bytes-with, kind-of, value-w
 use Rattle.ca_verbs.specs.ca_taking.Holding.{Known}
 use Rattle.ca_verbs.specs.Closing.{AreRemains, stamped_from}
 use Rattle.ca_verbs.specs.Kept.{Kept, kept_of}
-use Rattle.ca_fabric_machine.specs.ca_worlds.Worlds.{IsWorldAfter}
+use Rattle.ca_fabric_machine.specs.ca_law_parts.Worlds.{IsWorldAfter}
 
 -- ---- the parts as a row
 

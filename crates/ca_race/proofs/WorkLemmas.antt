@@ -18,7 +18,7 @@ use Rattle.ca_race_laws.specs.Work.{AreDoneBy, Call, HasCalled, HasWorked, IsAsk
 use Rattle.ca_script.specs.Script.{ScriptValue}
 use Rattle.ca_script_lines.specs.declared.Line.{Line}
 use Rattle.ca_script_run.specs.Progress.{lines_behind}
-use Rattle.ca_turns.specs.declared.turn.Turn.{Turn}
+use Rattle.ca_places.specs.declared.turn.Turn.{Turn}
 use Rattle.ca_verbs.specs.Tried.{told_of}
 
 -- ---- nothing is done yet

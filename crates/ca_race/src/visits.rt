@@ -8,8 +8,8 @@ use crate::worker::{Reach, Worker};
 use ca_base::Memory;
 use ca_engine::{Offer, Outcome};
 use ca_outside::Gate;
+use ca_places::Turn;
 use ca_script::Script;
-use ca_turns::Turn;
 use ca_verbs::{Fabric, TryError};
 
 /// What is told the engine of all that a worker did not do, whatever the reason: it names one clock always, so that a round

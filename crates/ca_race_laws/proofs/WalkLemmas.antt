@@ -27,9 +27,9 @@ use Rattle.ca_script.specs.Script.{ScriptValue}
 use Rattle.ca_script_lines.specs.declared.Line.{Line}
 use Rattle.ca_script_lines.specs.declared.what.What.{What}
 use Rattle.ca_script_lines.specs.declared.what.What.TheVariants as whats
-use Rattle.ca_turns.specs.Turns.{event_of, lot_at}
-use Rattle.ca_turns.specs.declared.turn.Turn.{Turn}
-use Rattle.ca_turns.specs.declared.turn.Turn.TheVariants as turns
+use Rattle.ca_places.specs.Turns.{event_of, lot_at}
+use Rattle.ca_places.specs.declared.turn.Turn.{Turn}
+use Rattle.ca_places.specs.declared.turn.Turn.TheVariants as turns
 
 -- ---- lines
 

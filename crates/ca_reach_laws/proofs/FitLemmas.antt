@@ -16,8 +16,8 @@ use Rattle.ca_base.specs.Sight.{Invalidation, runs_in}
 use Rattle.ca_base.specs.objects.Region.{FastRegistered, Free, NoRegion, Region, RegionState, Registered, grant_in_state, grant_of_region, vacant_region}
 use Rattle.ca_base.specs.objects.Slices.{has_slot, is_key_of, names_window, slot_of_key}
 use Rattle.ca_base.specs.objects.Window.{Binding, Window, vacant_window}
-use Rattle.ca_laws_windows.specs.Bindings.{IsBoundWorld, IsCounted, LiesIn}
-use Rattle.ca_laws_windows.proofs.BindingLemmas.{counted-binding}
+use Rattle.ca_law_world.specs.Bindings.{IsBoundWorld, IsCounted, LiesIn}
+use Rattle.ca_law_world.proofs.Windows.BindingLemmas.{counted-binding}
 use Rattle.ca_model.specs.declared.part_name.PartName.TheVariants as names
 use Rattle.ca_model.specs.machine.Frame.{AllPass}
 use Rattle.ca_model.specs.machine.Held.{IsEndHeld}
@@ -25,7 +25,7 @@ use Rattle.ca_model.specs.machine.Parts.{ShowsHeld}
 use Rattle.ca_model.specs.machine.Plan.{byte_names}
 use Rattle.ca_model.specs.machine.Sound.{IsSoundState, IsSoundWorld}
 use Rattle.ca_model.specs.machine.World.{Byte_at, Name, Region_of, Window_of, World}
-use Rattle.ca_shelf.specs.Shelved.{thing_under}
+use Rattle.ca_held_reach.specs.Shelved.{thing_under}
 use Rattle.ca_held_reach.specs.AtHand.{AreRunsAtHand, CanEnd, FitTogether, HasBytesAtHand, IsCounting, IsRunAtHand, LiesInValid}
 use Rattle.ca_held_reach.specs.Names.{buffer_eq, buffer_of_run}
 use Rattle.ca_held_reach.specs.Seen.{or_vacant, region_in, sight_of, slot_under, window_in}

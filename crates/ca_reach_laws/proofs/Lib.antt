@@ -5,4 +5,4 @@ pub mod RowLemmas
 pub mod TouchLemmas
 pub mod WriteLemmas
 -- The libraries below, handed on to those above.
-pub use Rattle.ca_laws_windows.proofs as of_ca_laws_windows
+pub use Rattle.ca_law_world.proofs as of_ca_law_world

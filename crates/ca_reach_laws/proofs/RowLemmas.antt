@@ -14,7 +14,7 @@ use Rattle.ca_base.specs.objects.Region.{grant_of_region}
 use Rattle.ca_base.specs.objects.Slices.{names_region, slot_of_key}
 use Rattle.ca_base.specs.objects.Window.{Binding, Window}
 use Rattle.ca_held_reach.specs.ca_grant.Reaching.{AreAtHand}
-use Rattle.ca_laws_windows.specs.Bindings.{IsBoundWorld}
+use Rattle.ca_law_world.specs.Bindings.{IsBoundWorld}
 use Rattle.ca_model.specs.machine.Frame.{AllPass}
 use Rattle.ca_model.specs.machine.Parts.{ShowsHeld}
 use Rattle.ca_model.specs.machine.Plan.{Look, Plan, Update, Write, byte_names, perform, put_all, touches, write_all}

@@ -19,7 +19,7 @@ use Rattle.ca_model.specs.machine.Parts.{ShowsHeld}
 use Rattle.ca_model.specs.machine.Row.{grant_if_fitting, grant_over, region_under}
 use Rattle.ca_model.specs.machine.Seen.{grant_in, refusal_in, sight_in}
 use Rattle.ca_model.specs.machine.World.{Region_of, Window_of, World}
-use Rattle.ca_shelf.specs.Shelved.{has_thing, thing_under}
+use Rattle.ca_held_reach.specs.Shelved.{has_thing, thing_under}
 use Rattle.ca_held_reach.specs.Seen.{grant_named, grant_of_window, or_vacant, refusal_named, region_in, sight_of, slot_under, window_in}
 use Rattle.ca_held.specs.declared.held.Held.{Held}
 use Rattle.ca_held.specs.HeldView.{held_world, holding}

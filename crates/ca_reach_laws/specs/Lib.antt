@@ -1,3 +1,3 @@
 pub mod Ties
 -- The libraries below, handed on to those above.
-pub use Rattle.ca_laws_windows.specs as ca_laws_windows
+pub use Rattle.ca_law_world.specs as ca_law_world

@@ -4,7 +4,7 @@ ghost use Rattle.ca_keys.specs.declared.access.Ask.{Ask};
 ghost use Rattle.ca_base.specs.Configuration.{Configuration};
 ghost use Rattle.ca_base.specs.Sight.{Invalidation, runs_in};
 ghost use Rattle.ca_held_reach.specs.ca_grant.Reaching.{AreAtHand};
-ghost use Rattle.ca_laws_windows.specs.Bindings.{IsBoundWorld};
+ghost use Rattle.ca_law_world.specs.Bindings.{IsBoundWorld};
 ghost use Rattle.ca_model.specs.machine.Frame.{AllPass};
 ghost use Rattle.ca_model.specs.machine.Held.{IsEndHeld};
 ghost use Rattle.ca_model.specs.machine.Parts.{ShowsHeld};

@@ -24,7 +24,7 @@ use Rattle.ca_base.specs.declared.refusals.WindowError.{WindowError}
 use Rattle.ca_base.specs.declared.refusals.WindowError.TheVariants as windows
 use Rattle.ca_keys.specs.Spelling.{dash, perhaps, run_text, kind_text, denial_text}
 use Rattle.ca_base.specs.Spelling.{piece_text, lot_text, state_text, field_text, operation_text, status_text, op_refusal_text}
-use Rattle.ca_packet.specs.declared.wire_error.WireError.TheVariants as wire
+use Rattle.ca_wire.specs.declared.wire_error.WireError.TheVariants as wire
 use Rattle.ca_trace_words.specs.ca_model.declared.answer.Refusal.{Refusal}
 use Rattle.ca_trace_words.specs.ca_model.declared.answer.Refusal.TheVariants as refusals
 use Rattle.ca_trace_words.specs.ca_model.declared.mark.Drop1.{Drop1}

@@ -19,7 +19,7 @@ use Rattle.ca_base.specs.declared.refusals.OpRefusal.{OpRefusal}
 use Rattle.ca_base.specs.declared.refusals.OpRefusal.TheVariants as causes
 use Rattle.ca_base.specs.declared.refusals.RegionError.TheVariants as regions
 use Rattle.ca_base.specs.declared.refusals.WindowError.TheVariants as windows
-use Rattle.ca_packet.specs.declared.wire_error.WireError.TheVariants as wire
+use Rattle.ca_wire.specs.declared.wire_error.WireError.TheVariants as wire
 use Rattle.ca_trace_words.specs.ca_model.declared.answer.Refusal.{Refusal}
 use Rattle.ca_trace_words.specs.ca_model.declared.answer.Refusal.TheVariants as refusals
 use Rattle.ca_trace_words.specs.ca_model.declared.mark.Drop1.{Drop1}

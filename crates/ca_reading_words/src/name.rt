@@ -10,9 +10,9 @@ use crate::word::is_name;
 use ca_base::{
     Denial, Field, Kind, Lot, OpRefusal, RegionError, Side, State, WcOp, WcStatus, WindowError,
 };
-use ca_packet::WireError;
 use ca_trace_words::ca_model::{Drop1, Refusal};
 use ca_trace_words::{alarm, object, side};
+use ca_wire::WireError;
 
 /// Which of two names a word is: the first, or the second.
 fn choice_in(word: &[u8], first: &str, second: &str) -> Result<bool, Stop>

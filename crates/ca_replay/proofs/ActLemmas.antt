@@ -1,7 +1,7 @@
 -- What an act makes of a row and a hand that stand for a world. For proofs only.
 use Rattle.std.proofs.Common.{◌≡◌, refl, sym, ap, subst, true, None, List, Result, Ok, Err}
 use Rattle.ca_adapter.specs.ca_acts.Act.{Acts, IsAct}
-use Rattle.ca_adapter.specs.ca_acts_laws.Steps.{IsStepOf, Shows}
+use Rattle.ca_adapter.specs.ca_acts.Steps.{IsStepOf, Shows}
 use Rattle.ca_adapter.proofs.WorldLemmas.{part-of-held}
 use Rattle.ca_adapter.specs.Ready.{IsReady}
 use Rattle.ca_base.specs.Configuration.{Configuration}

@@ -7,9 +7,9 @@ use Rattle.ca_base.specs.Configuration.{Configuration}
 use Rattle.ca_held.specs.declared.held.Held.{Held}
 use Rattle.ca_held.specs.declared.part.Part.{Part}
 use Rattle.ca_held.specs.HeldView.{holding, room_for}
-use Rattle.ca_adapter.proofs.of_ca_laws_parts.ConfiguredLemmas.{parts-configured}
-use Rattle.ca_adapter.proofs.of_ca_laws_parts.CountLemmas.{few-event}
-use Rattle.ca_adapter.proofs.of_ca_laws_parts.NeedsLemmas.{IsMissing, next-same, part-refl, some-missing}
+use Rattle.ca_adapter.proofs.of_ca_law_parts.Parts.ConfiguredLemmas.{parts-configured}
+use Rattle.ca_adapter.proofs.of_ca_law_parts.Parts.CountLemmas.{few-event}
+use Rattle.ca_adapter.proofs.of_ca_law_parts.Parts.NeedsLemmas.{IsMissing, next-same, part-refl, some-missing}
 use Rattle.ca_model.specs.declared.event.Event.{Event}
 use Rattle.ca_model.specs.declared.part_name.PartName.{PartName}
 use Rattle.ca_model.specs.machine.Parts.{IsAmong, Needs, event_needs, is_configured_part, is_held, listed, next_part, part_eq}

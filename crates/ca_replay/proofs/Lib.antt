@@ -9,5 +9,5 @@ mod ReplayLemmas
 mod LookLemmas
 pub mod RestLemmas
 -- The libraries below, handed on to those above.
-pub use Rattle.ca_caused_link.proofs.of_ca_laws_numbers
-pub use Rattle.ca_caused_link.proofs.of_ca_agree
+pub use Rattle.ca_law_caused.proofs.of_ca_law_parts
+pub use Rattle.ca_law_caused.proofs.of_ca_law_endings

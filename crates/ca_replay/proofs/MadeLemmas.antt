@@ -14,8 +14,8 @@ use Rattle.ca_model.specs.machine.World.{World}
 use Rattle.ca_replay.specs.declared.row.Row.{Row}
 use Rattle.ca_replay.specs.Hand.{IsOfWorld}
 use Rattle.ca_replay.specs.Rows.{AreTogether, IsEmpty, IsMade, IsRow, IsRowOf, count_after}
-use Rattle.ca_adapter.proofs.of_ca_worlds.LeadsLemmas.{after-event}
-use Rattle.ca_adapter.specs.ca_worlds.Worlds.{IsWorldAfter}
+use Rattle.ca_adapter.proofs.of_ca_law_parts.Worlds.LeadsLemmas.{after-event}
+use Rattle.ca_adapter.specs.ca_law_parts.Worlds.{IsWorldAfter}
 
 pub row_made : (c : Configuration) (event : Event) (w : World) (old new : Row) (result : Result MarkList StepError) → suc old.count < 2 ^ 32 - 1 → CanBeMade event
     → IsRowOf c w old → new.settings ≡ old.settings → new.count ≡ count_after result old.count → IsEmpty (holding new.held)

@@ -10,7 +10,7 @@ use Rattle.ca_held.specs.declared.part.Part.{Part}
 use Rattle.ca_held.specs.declared.part.Part.TheVariants as parts
 use Rattle.ca_held.specs.Taking.{has_in, nothing_held}
 use Rattle.ca_keys.specs.declared.place.Place.{Place}
-use Rattle.ca_adapter.specs.ca_laws_names.Placed.{is_configured}
+use Rattle.ca_adapter.specs.ca_law_parts.Placed.{is_configured}
 use Rattle.ca_model.specs.declared.part_name.PartName.{PartName}
 use Rattle.ca_model.specs.machine.Parts.{IsAmong, is_configured_part, part_of}
 use Rattle.ca_model.specs.machine.Sound.{AreLimited}

@@ -1,6 +1,6 @@
 -- What an event leaves as it was. For proofs only.
 use Rattle.std.proofs.Common.{◌≡◌, ◌∙◌, refl, sym, ap, subst, Bool, true, false, true≢false, List, [], Option, None, Some, Result, Ok, Err}
-use Rattle.ca_adapter.specs.ca_acts_laws.Steps.{IsStepOf, Shows}
+use Rattle.ca_adapter.specs.ca_acts.Steps.{IsStepOf, Shows}
 use Rattle.ca_adapter.proofs.WorldLemmas.{part-of-held}
 use Rattle.ca_base.specs.Configuration.{Configuration, configuration_in}
 use Rattle.ca_base.specs.declared.step.StepError.{StepError}
@@ -26,7 +26,7 @@ use Rattle.ca_replay.specs.Rest.{KeepsRest, KeepsRow, LeavesRest, names_changed}
 use Rattle.ca_replay.specs.Rows.{AreTogether, IsMade, IsRowOf, part_at}
 use Rattle.ca_replay.specs.declared.hand.Taken.{Taken}
 use Rattle.ca_replay.specs.declared.row.Row.{Row}
-use Rattle.ca_adapter.specs.ca_worlds.Worlds.{IsWorldAfter}
+use Rattle.ca_adapter.specs.ca_law_parts.Worlds.{IsWorldAfter}
 
 -- ---- one row
 

@@ -5,7 +5,7 @@ use Rattle.std.proofs.lemmas.Option.{slice_get_within}
 use Rattle.std.specs.Option.{option_and_then}
 use Rattle.ca_base.specs.Configuration.{Configuration}
 use Rattle.ca_held.specs.declared.part.Part.{Part}
-use Rattle.ca_adapter.proofs.of_ca_laws_parts.NeedsLemmas.{part-refl}
+use Rattle.ca_adapter.proofs.of_ca_law_parts.Parts.NeedsLemmas.{part-refl}
 use Rattle.ca_model.specs.declared.part_name.PartName.{PartName}
 use Rattle.ca_model.specs.machine.Parts.{part_eq}
 use Rattle.ca_model.specs.machine.Sound.{AreLimited}

@@ -1,6 +1,6 @@
 -- The row and the hand stand for one world, whatever is taken in hand, acted, and given back. For proofs only.
 use Rattle.std.proofs.Common.{◌≡◌, ◌∙◌, refl, sym, ap, subst, Bool, true, false, List, Option, None, Some, if◌then◌else◌, true≢false}
-use Rattle.ca_adapter.specs.ca_acts_laws.Steps.{LeavesUnheld, Shows}
+use Rattle.ca_adapter.specs.ca_acts.Steps.{LeavesUnheld, Shows}
 use Rattle.ca_adapter.proofs.WorldLemmas.{part-of-held}
 use Rattle.ca_base.specs.Configuration.{Configuration}
 use Rattle.ca_held.specs.declared.held.Held.{Held}
@@ -8,8 +8,8 @@ use Rattle.ca_held.specs.declared.part.Part.{Part}
 use Rattle.ca_held.specs.HeldView.{Holding, holding}
 use Rattle.ca_held.specs.Taking.{has_in, world_with, world_without}
 use Rattle.ca_keys.specs.declared.place.Place.{Place}
-use Rattle.ca_adapter.specs.ca_laws_names.Placed.{is_configured}
-use Rattle.ca_adapter.proofs.of_ca_laws_parts.NeedsLemmas.{part-refl}
+use Rattle.ca_adapter.specs.ca_law_parts.Placed.{is_configured}
+use Rattle.ca_adapter.proofs.of_ca_law_parts.Parts.NeedsLemmas.{part-refl}
 use Rattle.ca_model.specs.declared.part_name.PartName.{PartName}
 use Rattle.ca_model.specs.machine.Parts.{is_configured_part, part_eq, part_of}
 use Rattle.ca_model.specs.machine.World.{World, Name, Byte_at, get}

@@ -15,7 +15,7 @@ use Rattle.ca_places.specs.Places.{place_of}
 use Rattle.ca_replay.specs.declared.hand.Taken.{Taken}
 use Rattle.ca_replay.specs.declared.hand.TheConstants.{MOST_TAKEN}
 use Rattle.ca_replay.specs.Rows.{AreTogether, part_at}
-use Rattle.ca_adapter.specs.ca_worlds.Worlds.{IsWorldAfter}
+use Rattle.ca_adapter.specs.ca_law_parts.Worlds.{IsWorldAfter}
 
 -- a part of this name's kind is there
 abbrev pub IsOfKind : PartName → Option Part → Type 0

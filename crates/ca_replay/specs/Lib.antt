@@ -5,7 +5,7 @@ pub mod Replays
 pub mod Replaying
 pub mod Looks
 -- The libraries below, handed on to those above.
-pub use Rattle.ca_caused_link.specs.ca_agree
+pub use Rattle.ca_law_caused.specs.ca_law_endings
 pub use Rattle.ca_adapter.specs.ca_sending
 pub use Rattle.ca_held.specs as ca_held
 pub use Rattle.ca_opening.specs as ca_opening

@@ -8,7 +8,7 @@ use Rattle.ca_held.specs.declared.part.Part.{Part}
 use Rattle.ca_held.specs.HeldView.{Holding, holding}
 use Rattle.ca_held.specs.Taking.{has_in, is_of_kind, world_with}
 use Rattle.ca_keys.specs.declared.place.Place.{Place}
-use Rattle.ca_adapter.specs.ca_laws_names.Placed.{is_configured}
+use Rattle.ca_adapter.specs.ca_law_parts.Placed.{is_configured}
 use Rattle.ca_model.specs.Marks.{MarkList}
 use Rattle.ca_model.specs.declared.part_name.PartName.{PartName}
 use Rattle.ca_model.specs.declared.part_name.PartName.TheVariants as names
@@ -17,7 +17,7 @@ use Rattle.ca_model.specs.machine.Plan.{Did, NotReady, Outcome}
 use Rattle.ca_model.specs.machine.World.{World, Name, Byte_at, get}
 use Rattle.ca_places.specs.Places.{place_of}
 use Rattle.ca_replay.specs.declared.row.Row.{Row}
-use Rattle.ca_adapter.specs.ca_worlds.Worlds.{IsWorldAfter}
+use Rattle.ca_adapter.specs.ca_law_parts.Worlds.{IsWorldAfter}
 
 -- the part that stands at the place of a name, if it has one
 abbrev pub part_at : Configuration → List Part → PartName → Option Part

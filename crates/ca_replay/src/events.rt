@@ -14,7 +14,7 @@ ghost use Rattle.ca_model.specs.machine.World.{World};
 ghost use Rattle.ca_opening.specs.Opening.{FitContents, opening_bytes};
 ghost use Rattle.ca_replay.specs.Replays.{IsReplay, history_of, stop_at};
 ghost use Rattle.ca_replay.specs.Rows.{IsRow, IsRowOf};
-ghost use Rattle.ca_written.specs.Written.{Written, WrittenOnce};
+ghost use Rattle.ca_law_once.specs.Written.{Written, WrittenOnce};
 
 use crate::row::Row;
 use ca_base::{Memory, Reason, StepError};

@@ -7,7 +7,7 @@ use ca_cq::Cq;
 use ca_held::ca_qpstate::QueuePart;
 use ca_held::{Held, QueueSlot};
 use ca_model::{Event, PartName, Verb};
-use ca_packet::{Operation, Shape, operation_of};
+use ca_wire::{Operation, Shape, operation_of};
 
 /// Where the key of a WRITE or an atomic stands in its packet: behind the 12 bytes of the base header and the 8 of the
 /// address.

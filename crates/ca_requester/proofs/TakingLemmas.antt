@@ -19,7 +19,7 @@ use Rattle.ca_model.specs.machine.Numbering.{Numbered}
 use Rattle.ca_model.specs.machine.Requester.{local_denial}
 use Rattle.ca_model.specs.machine.Responses.{answer_asks, answer_bytes, local_writes, writes_by}
 use Rattle.ca_model.specs.machine.Row.{Does, Effects, Ending, Row, ending_of}
-use Rattle.ca_packet.specs.Packet.{Fields}
+use Rattle.ca_wire.specs.Packet.{Fields}
 use Rattle.ca_requester.proofs.ResponseLemmas.{IsFitting}
 use Rattle.ca_requester.specs.Progress.{IsProgress, numbers_behind}
 use Rattle.ca_requester.specs.declared.progress.Acknowledged.{Acknowledged}

@@ -11,7 +11,7 @@ use Rattle.ca_model.specs.machine.Numbering.{Numbered}
 use Rattle.ca_model.specs.machine.Requester.{local_denial}
 use Rattle.ca_model.specs.machine.Responses.{drop_effects, fits_request, fitting_row, local_writes, nak_effects, response_row, rnr_nak_effects, unless_back, writes_by}
 use Rattle.ca_model.specs.machine.Row.{Effects, Row, plain_row, Does}
-use Rattle.ca_packet.specs.Packet.{Fields}
+use Rattle.ca_wire.specs.Packet.{Fields}
 use Rattle.ca_base.specs.Sight.{Sight}
 use Rattle.ca_sending.specs.ca_rows.Asks.{CanWrite, touched_by}
 use Rattle.ca_requester.specs.declared.taking.Taken.{Taken}

@@ -7,7 +7,7 @@ ghost use Rattle.ca_model.specs.machine.Acknowledgements.{acknowledgement_below,
 ghost use Rattle.ca_model.specs.machine.CanStep.{CanStep};
 ghost use Rattle.ca_model.specs.machine.Responses as rows;
 ghost use Rattle.ca_model.specs.machine.Row.{Does, ending_of};
-ghost use Rattle.ca_packet.specs.Packet.{IsWellFormed};
+ghost use Rattle.ca_wire.specs.Packet.{IsWellFormed};
 ghost use Rattle.ca_requester.specs.Progress.{IsProgress, acknowledgement_of, numbers_behind};
 ghost use Rattle.ca_requester.specs.Responses.{CanWriteBy, IsTakenAnswer, answer_effects, bad_answer_effects, denied_effects};
 ghost use Rattle.ca_sending.specs.ca_rows.Asks.{AreAsksFor, IsFoundFirst};

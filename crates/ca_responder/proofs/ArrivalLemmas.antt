@@ -7,9 +7,9 @@ use Rattle.ca_base.specs.Sight.{Invalidation, Sight}
 use Rattle.ca_base.specs.objects.QueuePair.{QueuePair}
 use Rattle.ca_base.specs.declared.request.PlacedReceive.{PlacedReceive}
 use Rattle.ca_base.specs.objects.SharedReceives.{SharedReceives, after_receive_take}
-use Rattle.ca_packet.specs.Packet.{Fields}
-use Rattle.ca_packet.specs.declared.reth.Reth.{Reth}
-use Rattle.ca_packet.specs.declared.shape.Shape.TheVariants as shapes
+use Rattle.ca_wire.specs.Packet.{Fields}
+use Rattle.ca_wire.specs.declared.reth.Reth.{Reth}
+use Rattle.ca_wire.specs.declared.shape.Shape.TheVariants as shapes
 use Rattle.ca_wire.specs.declared.syndrome.NakCode.TheVariants.{InvalidRequest}
 use Rattle.ca_model.specs.Marks.{MarkList}
 use Rattle.ca_model.specs.machine.Arrivals.{refusal_effects}

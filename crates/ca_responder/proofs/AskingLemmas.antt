@@ -9,17 +9,17 @@ use Rattle.ca_base.specs.declared.request.Piece.{Piece}
 use Rattle.ca_base.specs.declared.request.RecvRequest.{RecvRequest}
 use Rattle.ca_base.specs.objects.QueuePair.{QueuePair}
 use Rattle.ca_base.specs.declared.request.PlacedReceive.{PlacedReceive}
-use Rattle.ca_packet.specs.declared.atomic_eth.AtomicEth.{AtomicEth}
-use Rattle.ca_packet.specs.declared.reth.Reth.{Reth}
-use Rattle.ca_packet.specs.Packet.{Fields}
-use Rattle.ca_packet.specs.declared.shape.Position.{Position}
+use Rattle.ca_wire.specs.declared.atomic_eth.AtomicEth.{AtomicEth}
+use Rattle.ca_wire.specs.declared.reth.Reth.{Reth}
+use Rattle.ca_wire.specs.Packet.{Fields}
+use Rattle.ca_wire.specs.declared.shape.Position.{Position}
 use Rattle.ca_model.specs.Requests.{list_length}
 use Rattle.ca_model.specs.machine.Arrivals.{refusal_effects, with_flag}
 use Rattle.ca_model.specs.declared.receiving.Receiving.{Receiving}
 use Rattle.ca_model.specs.declared.write_reach.WriteReach.{WriteReach}
 use Rattle.ca_model.specs.machine.Expected.{atomic_row, read_queued, receiving_of, send_row, valid_row, write_reach, write_row}
 use Rattle.ca_model.specs.machine.Row.{Row, plain_row, Does}
-use Rattle.ca_packet.specs.declared.shape.Shape.TheVariants as shapes
+use Rattle.ca_wire.specs.declared.shape.Shape.TheVariants as shapes
 use Rattle.ca_wire.specs.declared.syndrome.NakCode.TheVariants.{InvalidRequest}
 use Rattle.ca_responder.specs.Asking.{IsFree, fit_into, fit_of, send_asks, send_key}
 

@@ -1,9 +1,9 @@
 -- What holds of a packet that is no invalid request.
 use Rattle.std.proofs.Common.{◌≡◌, Bool, true, false, not, ◌||◌, refl}
 use Rattle.ca_base.specs.objects.QueuePair.{QueuePair}
-use Rattle.ca_packet.specs.Packet.{Fields}
+use Rattle.ca_wire.specs.Packet.{Fields}
 use Rattle.ca_model.specs.machine.Expected.{continues, fits_payload, fits_write, is_invalid}
-use Rattle.ca_packet.specs.declared.shape.Shape.{Shape}
+use Rattle.ca_wire.specs.declared.shape.Shape.{Shape}
 
 none-of : (a b c d e f : Bool) → not a || not b || not c || d || e || f ≡ false → (a ≡ true) × (b ≡ true) × (c ≡ true)
 none-of true true true d e f h = (refl, refl, refl)

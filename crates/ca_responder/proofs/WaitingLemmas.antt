@@ -8,9 +8,9 @@ use Rattle.ca_keys.specs.declared.verdict.Verdict.TheVariants as verdicts
 use Rattle.ca_base.specs.objects.QueuePair.{QueuePair}
 use Rattle.ca_base.specs.declared.request.PlacedReceive.{PlacedReceive}
 use Rattle.ca_base.specs.objects.SharedReceives.{SharedReceives}
-use Rattle.ca_packet.specs.Packet.{Fields}
-use Rattle.ca_packet.specs.Shapes.{begins, ends}
-use Rattle.ca_packet.specs.declared.shape.Position.{Position}
+use Rattle.ca_wire.specs.Packet.{Fields}
+use Rattle.ca_wire.specs.Shapes.{begins, ends}
+use Rattle.ca_wire.specs.declared.shape.Position.{Position}
 use Rattle.ca_wire.specs.declared.syndrome.NakCode.TheVariants.{InvalidRequest}
 use Rattle.ca_model.specs.machine.Arrivals.{next_receive, packet_ask, refusal_effects, remote_mark, with_flag}
 use Rattle.ca_model.specs.declared.receiving.Receiving.{Receiving}
@@ -22,10 +22,10 @@ use Rattle.std.proofs.lemmas.Bool.{le-ltb}
 use Rattle.ca_psn.specs.Psn.{widened}
 use Rattle.ca_model.specs.Packets.{is_response}
 use Rattle.ca_model.specs.machine.Delivery.{packet_arrived}
-use Rattle.ca_packet.specs.Table.{shape_of}
+use Rattle.ca_wire.specs.Table.{shape_of}
 use Rattle.ca_responder.proofs.ValidLemmas.{valid_order}
-use Rattle.ca_packet.specs.declared.shape.Shape.{Shape}
-use Rattle.ca_packet.specs.declared.shape.Shape.TheVariants as shapes
+use Rattle.ca_wire.specs.declared.shape.Shape.{Shape}
+use Rattle.ca_wire.specs.declared.shape.Shape.TheVariants as shapes
 
 -- a SEND that goes on has the receive of its message
 goes-on : (q : QueuePair) (next : Option PlacedReceive) (place : Position) (m : Option Message) → continues m (shapes.Send place) ≡ true → begins place ≡ false

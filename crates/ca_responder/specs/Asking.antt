@@ -9,7 +9,7 @@ use Rattle.ca_base.specs.Sight.{Invalidation}
 use Rattle.ca_base.specs.objects.QueuePair.{QueuePair}
 use Rattle.ca_base.specs.declared.request.PlacedReceive.{PlacedReceive}
 use Rattle.ca_base.specs.objects.SharedReceives.{SharedReceives}
-use Rattle.ca_packet.specs.Packet.{Fields, IsWellFormed}
+use Rattle.ca_wire.specs.Packet.{Fields, IsWellFormed}
 use Rattle.ca_model.specs.Requests.{list_length}
 use Rattle.ca_model.specs.declared.receiving.Receiving.{Receiving}
 use Rattle.ca_model.specs.machine.Expected.{invalidation_of, receiving_of}

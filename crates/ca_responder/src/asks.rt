@@ -13,7 +13,7 @@ ghost use Rattle.ca_responder.specs.Asking.{CanAsk, MeetsNothing};
 ghost use Rattle.ca_operations.specs.Receives.{AreCounted};
 ghost use Rattle.ca_operations.specs.Sends.{key_end};
 ghost use Rattle.ca_model.specs.machine.CanStep.{CanStep};
-ghost use Rattle.ca_packet.specs.Packet.{IsWellFormed};
+ghost use Rattle.ca_wire.specs.Packet.{IsWellFormed};
 
 use crate::checks::{is_invalid, lacks_receive};
 use arrayvec::ArrayVec;

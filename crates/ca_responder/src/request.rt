@@ -9,7 +9,7 @@ ghost use Rattle.ca_model.specs.machine.Expected as rows;
 ghost use Rattle.ca_model.specs.machine.Invariants.{IsSharedReceives};
 ghost use Rattle.ca_operations.specs.Taking.{CanMeet, IsArrival, IsTaken, is_taken, outcome_in};
 ghost use Rattle.ca_model.specs.machine.CanStep.{CanStep};
-ghost use Rattle.ca_packet.specs.Packet.{IsWellFormed};
+ghost use Rattle.ca_wire.specs.Packet.{IsWellFormed};
 ghost use Rattle.ca_operations.specs.ca_rows.Made.{IsMade};
 
 use crate::checks::{is_invalid, is_missing, put_receive};

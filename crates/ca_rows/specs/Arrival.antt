@@ -4,11 +4,11 @@ use Rattle.std.specs.Prelude.{◌≡◌, ℕ, true, false, List, Option, None, S
 use Rattle.ca_keys.specs.Refusals.{first_of}
 use Rattle.ca_base.specs.objects.QueuePair.{QueuePair}
 use Rattle.ca_base.specs.objects.SharedReceives.{SharedReceives}
-use Rattle.ca_packet.specs.declared.shape.Shape.{Shape}
-use Rattle.ca_packet.specs.declared.wire_error.WireError.{WireError}
-use Rattle.ca_packet.specs.Decoding.{packet_in}
-use Rattle.ca_packet.specs.Packet.{Fields, Spells}
-use Rattle.ca_packet.specs.Table.{shape_of}
+use Rattle.ca_wire.specs.declared.shape.Shape.{Shape}
+use Rattle.ca_wire.specs.declared.wire_error.WireError.{WireError}
+use Rattle.ca_wire.specs.Decoding.{packet_in}
+use Rattle.ca_wire.specs.Packet.{Fields, Spells}
+use Rattle.ca_wire.specs.Table.{shape_of}
 use Rattle.ca_qpstate.specs.ca_model.declared.mark.Drop1.{Drop1}
 use Rattle.ca_qpstate.specs.ca_model.declared.mark.Drop1.TheVariants as drops
 use Rattle.ca_qpstate.specs.ca_model.Packets.{is_response}

@@ -7,7 +7,7 @@ use Rattle.ca_base.specs.declared.step.Sent.{Sent}
 use Rattle.ca_base.specs.declared.step.StepError.{StepError}
 use Rattle.ca_base.specs.declared.step.StepError.TheVariants as steps
 use Rattle.ca_base.specs.objects.QueuePair.{QueuePair}
-use Rattle.ca_packet.specs.declared.packet.TheConstants.{MAX_PACKET_BYTES}
+use Rattle.ca_wire.specs.declared.packet.TheConstants.{MAX_PACKET_BYTES}
 use Rattle.ca_qpstate.specs.ca_model.Marks.{MarkList}
 use Rattle.ca_qpstate.specs.ca_model.declared.mark.Mark.{Mark}
 use Rattle.ca_qpstate.specs.ca_model.declared.marks.TheConstants.{SPARE_MARKS}

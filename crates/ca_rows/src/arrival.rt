@@ -9,7 +9,7 @@ ghost use Rattle.ca_rows.specs.Arrival.{IsArrivalOf, drop_of};
 use ca_base::State;
 use ca_qpstate::QueuePart;
 use ca_qpstate::ca_model::Drop1;
-use ca_qpstate::ca_wire::{DEFAULT_PKEY, Operation, Packet, Shape, decode, operation_of};
+use ca_wire::{DEFAULT_PKEY, Operation, Packet, Shape, decode, operation_of};
 
 /// A packet that arrived at a queue pair and is not dropped, for the engine that takes it.
 #[derive(Drop)]

@@ -1,14 +1,14 @@
 ghost use Rattle.std.specs.Prelude.{◌≡◌, ◌+◌, ◌<◌, ◌≤◌, ◌^◌, None, OnOk, OnErr, length};
 ghost use Rattle.ca_qpstate.specs.ca_model.machine.Invariants.{IsQueue};
 ghost use Rattle.ca_qpstate.specs.ca_model.machine.Requester as requester;
-ghost use Rattle.ca_packet.specs.Packet.{IsWellFormed, most_of_response, most_spelt, spelling};
-ghost use Rattle.ca_packet.specs.Table.{shape_of};
+ghost use Rattle.ca_wire.specs.Packet.{IsWellFormed, most_of_response, most_spelt, spelling};
+ghost use Rattle.ca_wire.specs.Table.{shape_of};
 ghost use Rattle.ca_rows.specs.Made.{IsSpelt};
 
 use ca_base::Memory;
 use ca_base::limits::PSN_COUNT;
 use ca_qpstate::QueuePart;
-use ca_qpstate::ca_wire::{Packet, encode, spelling_length};
+use ca_wire::{Packet, encode, spelling_length};
 
 /// The number of the peer, which the queue pair's packets name as their destination.
 pub fn peer_number(q: &QueuePart) -> u32

@@ -10,13 +10,13 @@ use Rattle.ca_order.specs.OfScript as machine
 use Rattle.ca_order.specs.OfScript.{HasStatus}
 use Rattle.ca_order.specs.Order.{Stage, ending, order}
 use Rattle.ca_order.specs.Summary.{summary}
-use Rattle.ca_script_texts.specs.ca_order_laws.Lawful.{IsLawfulHistory, IsLawfulOrder}
+use Rattle.ca_law_scripts.specs.Lawful.{IsLawfulHistory, IsLawfulOrder}
 use Rattle.ca_reading.specs.ca_reading_fits.Histories.{HistoryFits}
 use Rattle.ca_run.specs.Status.{ended_as}
 use Rattle.ca_run.specs.declared.status.Status.{Status}
 use Rattle.ca_run.specs.declared.status.Status.TheVariants as statuses
 use Rattle.ca_script.specs.Script.{ScriptValue, script_of}
-use Rattle.ca_summary.specs.Text.{summary_text}
+use Rattle.ca_made.specs.Text.{summary_text}
 use Rattle.ca_trace.specs.Trace.{text}
 use Rattle.ca_words.specs.declared.command.Command.{Command}
 use Rattle.ca_words.specs.declared.command.Command.TheVariants as commands

@@ -9,8 +9,8 @@ use Rattle.ca_run.specs.declared.status.Status.TheVariants as statuses
 use Rattle.ca_script.specs.declared.script_error.ScriptError.{ScriptError}
 use Rattle.ca_script.specs.declared.script_error.ScriptError.TheVariants as errors
 use Rattle.ca_script_words.specs.Causes.{cause_text}
-use Rattle.ca_writing.specs.declared.stop.WriteStop.{WriteStop}
-use Rattle.ca_writing.specs.declared.stop.WriteStop.TheVariants as write_stops
+use Rattle.ca_output.specs.declared.stop.WriteStop.{WriteStop}
+use Rattle.ca_output.specs.declared.stop.WriteStop.TheVariants as write_stops
 
 abbrev pub exit_code : Status → ℕ
 exit_code statuses.Fine = 0

@@ -15,8 +15,8 @@ use crate::working::work_beside;
 use ca_alone_run::{Lone, Outcome};
 use ca_base::DomainId;
 use ca_base::limits::MAX_SCRIPT_BYTES;
+use ca_output::{write_history, write_history_with};
 use ca_outside::{Sink, Source};
-use ca_writing::{write_history, write_history_with};
 use std::alloc::Global;
 
 /// Reads a script to the end of the source, works it, and writes the text of its history; behind it the replies of the group's

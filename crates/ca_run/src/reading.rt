@@ -8,9 +8,9 @@ ghost use Rattle.ca_script_words.specs.declared.cause.ScriptCause.{ScriptCause};
 
 use crate::status::Status;
 use ca_base::limits::MAX_SCRIPT_BYTES;
+use ca_law_scripts::long_texts_are_refused_by_their_fronts;
 use ca_outside::{Source, read_up_to};
 use ca_script::{Script, read_script};
-use ca_script_texts::long_texts_are_refused_by_their_fronts;
 use std::alloc::Global;
 
 /// The script that a source holds, read to its end. What was read before a refusal is lost.

@@ -12,8 +12,8 @@ use crate::reading::script_from;
 use crate::status::Status;
 use crate::working::work;
 use ca_base::limits::MAX_SCRIPT_BYTES;
+use ca_output::write_history;
 use ca_outside::{Sink, Source};
-use ca_writing::write_history;
 use std::alloc::Global;
 
 /// Reads a script to the end of the source, works it, and writes the text of its history.

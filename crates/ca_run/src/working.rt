@@ -9,11 +9,15 @@ ghost use Rattle.ca_run.specs.Run.{IsRaced, IsTextOf, IsWorked};
 ghost use Rattle.ca_script.specs.Script.{ScriptValue, script_of, script_value};
 ghost use Rattle.ca_race.specs.ca_script_run.Statuses.{status_value};
 ghost use Rattle.ca_race.specs.ca_script_run.Working.{IsWorkable};
-ghost use Rattle.ca_summary.specs.Text.{summary_text};
+ghost use Rattle.ca_made.specs.Text.{summary_text};
 ghost use Rattle.ca_trace.specs.Trace.{text};
 
 use ca_alone_run::{Lone, work_alone};
 use ca_base::{DomainId, Memory};
+use ca_law_scripts::{
+    histories_of_scripts_are_lawful, orders_of_texts_are_lawful, texts_mean_limited_scripts,
+    texts_mean_workable_scripts,
+};
 use ca_make::{Made, make};
 use ca_model::History;
 use ca_order::{
@@ -26,9 +30,6 @@ use ca_race::race_script;
 use ca_reading::ca_reading_fits::history_fits;
 use ca_reading::one_text;
 use ca_script::Script;
-use ca_script_texts::ca_order_laws::histories_of_scripts_are_lawful;
-use ca_script_texts::ca_rest::texts_mean_limited_scripts;
-use ca_script_texts::{orders_of_texts_are_lawful, texts_mean_workable_scripts};
 use std::alloc::Global;
 use std::sync::Wait;
 use std::thread::Threads;

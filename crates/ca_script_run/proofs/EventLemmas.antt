@@ -1,8 +1,8 @@
 -- An event that is tried on what is kept does what it does of the stage. For proofs only.
 use Rattle.std.proofs.Common.{◌≡◌, ◌∙◌, refl, sym, ap, subst, ℕ, suc, List, [], ◌∷◌, ◌++◌, length, Ok, Err}
 use Rattle.std.proofs.lemmas.List.{length-reverse, reverse-append}
-use Rattle.ca_replay.proofs.of_ca_agree.EventFitLemmas.{event-fits}
-use Rattle.ca_replay.specs.ca_agree.Runs.{Comes}
+use Rattle.ca_replay.proofs.of_ca_law_endings.EventFitLemmas.{event-fits}
+use Rattle.ca_replay.specs.ca_law_endings.Runs.{Comes}
 use Rattle.ca_base.specs.declared.step.Reason.{Reason}
 use Rattle.ca_base.specs.declared.step.StepError.TheVariants as steps
 use Rattle.ca_engine.specs.declared.outcome.Outcome as outcomes-of

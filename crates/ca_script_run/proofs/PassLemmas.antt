@@ -10,7 +10,7 @@ use Rattle.ca_engine.specs.declared.outcome.Outcome.{Outcome}
 use Rattle.ca_engine.specs.declared.outcome.Outcome.TheVariants as outcomes
 use Rattle.ca_engine.specs.declared.pass.Pass.{Pass}
 use Rattle.ca_engine.specs.declared.pass.Pass.TheVariants as passes
-use Rattle.ca_engine_laws.specs.Loop.{is_quiet_offer}
+use Rattle.ca_engine.specs.Loop.{is_quiet_offer}
 use Rattle.ca_model.specs.machine.World.{World}
 use Rattle.ca_order.specs.Order.{Stage}
 use Rattle.ca_replay.proofs.RestLemmas.{same_row}

@@ -14,7 +14,7 @@ use Rattle.ca_replay.specs.ca_held.declared.part.QueueSlot as seen
 use Rattle.ca_replay.specs.ca_held.declared.part.QueueSlot.TheVariants as slots
 use Rattle.ca_keys.specs.Refusals.{first_of}
 use Rattle.ca_keys.specs.declared.names.QueueId.{QueueId}
-use Rattle.ca_replay.proofs.of_ca_laws_numbers.LimitLemmas.{can-step}
+use Rattle.ca_replay.proofs.of_ca_law_parts.Numbers.LimitLemmas.{can-step}
 use Rattle.ca_mailbox.specs.declared.weather.Weather.{Weather}
 use Rattle.ca_model.proofs.PerformLemmas.{around-performs, around_at, queue-performs}
 use Rattle.ca_model.specs.declared.event.Event.TheVariants as events
@@ -33,9 +33,9 @@ use Rattle.ca_replay.specs.Rows.{IsRow, IsRowOf}
 use Rattle.ca_replay.specs.declared.row.Row as rows
 use Rattle.ca_replay.specs.ca_sending.Turn.{is_performing, turn_row}
 use Rattle.ca_script_run.specs.Vain.{CanStepSeen, HasNoQueue, HasNoRequest, IsIdle, IsInVain, OwesNoAnswer, Waits}
-use Rattle.ca_turns.specs.Turns.{event_of, lot_at}
-use Rattle.ca_turns.specs.declared.turn.Turn.{Turn}
-use Rattle.ca_turns.specs.declared.turn.Turn.TheVariants as turns
+use Rattle.ca_places.specs.Turns.{event_of, lot_at}
+use Rattle.ca_places.specs.declared.turn.Turn.{Turn}
+use Rattle.ca_places.specs.declared.turn.Turn.TheVariants as turns
 
 -- ---- whether a queue pair is there
 

@@ -2,7 +2,7 @@
 use Rattle.std.proofs.Common.{◌≡◌, ◌∙◌, refl, ap, ℕ, false, true≢false, Option, None, Some, Ok}
 use Rattle.std.specs.Option.{option_map_or}
 use Rattle.ca_engine.specs.declared.outcome.Outcome.TheVariants as outcomes
-use Rattle.ca_engine_laws.specs.Loop.{outcome_of}
+use Rattle.ca_engine.specs.Loop.{outcome_of}
 use Rattle.ca_model.specs.declared.event.Event.{Event}
 use Rattle.ca_model.specs.machine.Plan as plans
 use Rattle.ca_model.specs.machine.Step.{step}
@@ -13,8 +13,8 @@ use Rattle.ca_script.specs.Script.{ScriptValue}
 use Rattle.ca_script_run.specs.Progress.{IsAt, IsVisited}
 use Rattle.ca_script_run.specs.Vain.{IsInVain}
 use Rattle.ca_script_run.specs.declared.progress.Progress.{Progress}
-use Rattle.ca_turns.specs.Turns.{event_of}
-use Rattle.ca_turns.specs.declared.turn.Turn.{Turn}
+use Rattle.ca_places.specs.Turns.{event_of}
+use Rattle.ca_places.specs.declared.turn.Turn.{Turn}
 
 module _ (s : ScriptValue) (g : Stage) (turn : Turn) (p : Progress) (count : ℕ) (at : IsAt s g p) (numbered : count ≡ p.row.count) where
   at-round : IsAt s (at_round g) p

@@ -5,7 +5,7 @@ use Rattle.std.specs.Option.{option_map_or}
 use Rattle.std.proofs.lemmas.Bool.Decides.{nat_tests}
 use Rattle.ca_engine.specs.declared.outcome.Outcome.{Outcome}
 use Rattle.ca_engine.specs.declared.outcome.Outcome.TheVariants as outcomes
-use Rattle.ca_engine_laws.specs.Loop.{is_none_left, outcome_of}
+use Rattle.ca_engine.specs.Loop.{is_none_left, outcome_of}
 use Rattle.ca_keys.specs.declared.memory.Memory.{Memory}
 use Rattle.ca_model.specs.declared.event.Event.{Event}
 use Rattle.ca_model.specs.declared.event.Event.TheVariants as events
@@ -21,8 +21,8 @@ use Rattle.ca_script_lines.specs.declared.what.What.TheVariants as whats
 use Rattle.ca_script_run.proofs.LineLemmas.{line_passed}
 use Rattle.ca_script_run.specs.Progress.{IsAt, IsTried, IsVisited, lines_behind, told_of}
 use Rattle.ca_script_run.specs.declared.progress.Progress.{Progress}
-use Rattle.ca_turns.specs.Turns.{event_of}
-use Rattle.ca_turns.specs.declared.turn.Turn.{Turn}
+use Rattle.ca_places.specs.Turns.{event_of}
+use Rattle.ca_places.specs.declared.turn.Turn.{Turn}
 
 abbrev did : Outcome → Bool
 did outcomes.Did = true

@@ -5,8 +5,8 @@ use Rattle.ca_engine.specs.Engine.{EngineValue, engine_after, offer_of}
 use Rattle.ca_engine.specs.declared.offer.Offer.{Offer}
 use Rattle.ca_engine.specs.declared.offer.Offer.TheVariants as offers
 use Rattle.ca_engine.specs.declared.outcome.Outcome.{Outcome}
-use Rattle.ca_engine_laws.proofs.LoopLemmas.{loop-ends-from, loop-made-from}
-use Rattle.ca_engine_laws.specs.Loop.{Work, has_ended, is_quiet_offer, most_offers, visit_of, work_after, work_after_all, work_after_visit, work_from}
+use Rattle.ca_engine.proofs.LoopLemmas.{loop-ends-from, loop-made-from}
+use Rattle.ca_engine.specs.Loop.{Work, has_ended, is_quiet_offer, most_offers, visit_of, work_after, work_after_all, work_after_visit, work_from}
 use Rattle.ca_order.specs.OfScript.{status_of}
 use Rattle.ca_order.specs.Order.{HasNoMoreLines, Stage, at_round, ending_from, has_no_event_left}
 use Rattle.ca_order.specs.Visits.{Visit}

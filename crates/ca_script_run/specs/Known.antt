@@ -17,8 +17,8 @@ use Rattle.ca_replay.specs.declared.row.Row.{Row}
 use Rattle.ca_script_run.specs.Vain.{IsIdle}
 use Rattle.ca_script_run.specs.declared.known.Known.{Known}
 use Rattle.ca_script_run.specs.declared.known.TheConstants.{BLOCK}
-use Rattle.ca_turns.specs.declared.turn.Turn.{Turn}
-use Rattle.ca_turns.specs.declared.turn.Turn.TheVariants as turns
+use Rattle.ca_places.specs.declared.turn.Turn.{Turn}
+use Rattle.ca_places.specs.declared.turn.Turn.TheVariants as turns
 
 -- ---- places
 

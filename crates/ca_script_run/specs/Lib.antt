@@ -6,4 +6,3 @@ pub mod Vain
 -- The libraries below, handed on to those above.
 pub use Rattle.ca_replay.specs as ca_replay
 pub use Rattle.ca_engine.specs as ca_engine
-pub use Rattle.ca_engine_laws.specs as ca_engine_laws

@@ -2,7 +2,7 @@
 use Rattle.std.specs.Prelude.{◌≡◌, ℕ, if◌then◌else◌, List, [], ◌∷◌, length, drop, reverse, Result, Ok, Err}
 use Rattle.ca_engine.specs.declared.outcome.Outcome.{Outcome}
 use Rattle.ca_engine.specs.declared.outcome.Outcome.TheVariants as outcomes
-use Rattle.ca_engine_laws.specs.Loop.{outcome_of}
+use Rattle.ca_engine.specs.Loop.{outcome_of}
 use Rattle.ca_keys.specs.declared.memory.Memory.{Memory}
 use Rattle.ca_model.specs.declared.event.Event.{Event}
 use Rattle.ca_order.specs.Order.{Stage, after_event, after_visit, at_round}

@@ -15,9 +15,9 @@ use Rattle.ca_model.specs.machine.World.{World}
 use Rattle.ca_order.specs.OfScript.{is_possible}
 use Rattle.ca_replay.specs.Looks.{IsQueueIn}
 use Rattle.ca_replay.specs.ca_sending.Turn.{IsWaiting}
-use Rattle.ca_turns.specs.Turns.{event_of}
-use Rattle.ca_turns.specs.declared.turn.Turn.{Turn}
-use Rattle.ca_turns.specs.declared.turn.Turn.TheVariants as turns
+use Rattle.ca_places.specs.Turns.{event_of}
+use Rattle.ca_places.specs.declared.turn.Turn.{Turn}
+use Rattle.ca_places.specs.declared.turn.Turn.TheVariants as turns
 
 -- an engine may take a step with the queue pair that is seen, if one is
 abbrev pub CanStepSeen : Option QueueSlot → Type 0

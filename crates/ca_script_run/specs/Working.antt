@@ -4,7 +4,7 @@ use Rattle.ca_engine.specs.Engine.{EngineValue}
 use Rattle.ca_engine.specs.declared.offer.Offer.{Offer}
 use Rattle.ca_engine.specs.declared.offer.Offer.TheVariants as offers
 use Rattle.ca_engine.specs.declared.outcome.Outcome.{Outcome}
-use Rattle.ca_engine_laws.specs.Loop.{Work, has_ended, most_offers, work_after_all, work_from}
+use Rattle.ca_engine.specs.Loop.{Work, has_ended, most_offers, work_after_all, work_from}
 use Rattle.ca_keys.specs.declared.memory.Memory.{Memory}
 use Rattle.ca_model.specs.machine.Sound.{AreLimited}
 use Rattle.ca_order.specs.Order.{Stage}

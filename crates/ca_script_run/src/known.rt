@@ -13,8 +13,8 @@ use ca_base::limits::MAX_DOMAINS;
 use ca_base::{Config, Memory, QueueId};
 use ca_engine::Engine;
 use ca_model::PartName;
+use ca_places::Turn;
 use ca_replay::Taken;
-use ca_turns::Turn;
 use std::alloc::Global;
 
 /// So many offers of a round are a block.

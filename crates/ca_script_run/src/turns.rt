@@ -6,16 +6,16 @@ ghost use Rattle.ca_base.specs.objects.QueuePair.{Present};
 ghost use Rattle.ca_model.specs.machine.World.{World};
 ghost use Rattle.ca_replay.specs.Rows.{IsRow, IsRowOf};
 ghost use Rattle.ca_script_run.specs.Vain.{CanStepSeen, HasNoQueue, HasNoRequest, IsIdle, OwesNoAnswer};
-ghost use Rattle.ca_turns.specs.Turns as turns;
+ghost use Rattle.ca_places.specs.Turns as turns;
 
 use ca_base::{Lot, QueueId};
 use ca_mailbox::Weather;
 use ca_model::Event;
+use ca_places::Turn;
 use ca_qpstate::QueuePart;
 use ca_replay::Row;
 use ca_replay::ca_held::QueueSlot;
 use ca_replay::ca_sending::next_turn;
-use ca_turns::Turn;
 
 /// Whether a turn is seen at once not to be possible: no queue pair is in its slot, its requester waits, or its responder
 /// owes no answer. So the parts of such a turn need not be taken in hand.

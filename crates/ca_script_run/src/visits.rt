@@ -17,9 +17,9 @@ use crate::turns::{event_of, is_in_vain};
 use ca_base::Memory;
 use ca_engine::Outcome;
 use ca_model::{Event, Verb};
+use ca_places::Turn;
 use ca_script::Script;
 use ca_script_lines::{Line, What};
-use ca_turns::Turn;
 use std::alloc::Global;
 
 /// Visits a queue pair's engine for a turn, which a round offers at this place: its event is made where one is due and

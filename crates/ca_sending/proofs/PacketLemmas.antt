@@ -9,7 +9,7 @@ use Rattle.ca_base.specs.declared.request.Piece.{Piece}
 use Rattle.ca_base.specs.declared.request.SendOp.{SendOp}
 use Rattle.ca_base.specs.declared.request.SendOp.TheVariants as ops
 use Rattle.ca_base.specs.declared.request.SendRequest.{SendRequest}
-use Rattle.ca_packet.specs.Packet.{Fields, most_spelt}
+use Rattle.ca_wire.specs.Packet.{Fields, most_spelt}
 use Rattle.ca_model.specs.Requests.{carried_bytes, list_length, list_of, request_packet}
 use Rattle.ca_model.specs.machine.Numbering.{cut_list, is_answered_op, list_asks, piece_ask, piece_part}
 use Rattle.ca_rows.proofs.ListLemmas.{longer_list}

@@ -5,7 +5,7 @@ ghost use Rattle.ca_model.specs.Requests as requests;
 ghost use Rattle.ca_model.specs.machine.Invariants.{IsList};
 ghost use Rattle.ca_model.specs.machine.Numbering.{is_answered_op, is_atomic_op};
 ghost use Rattle.ca_model.specs.machine.Requester as requester;
-ghost use Rattle.ca_packet.specs.Packet.{most_spelt};
+ghost use Rattle.ca_wire.specs.Packet.{most_spelt};
 ghost use Rattle.ca_rows.specs.Asks.{AreAsksFor};
 ghost use Rattle.ca_rows.specs.Made.{IsSpelt};
 ghost use Rattle.ca_sending.specs.Packets.{IsBuilt, IsHead, IsHeadOf, IsPacket, packet_fields, reth_of};

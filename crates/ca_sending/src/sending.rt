@@ -10,7 +10,7 @@ ghost use Rattle.ca_model.specs.machine.Invariants.{IsQueue};
 ghost use Rattle.ca_model.specs.machine.Numbering as numbering;
 ghost use Rattle.ca_model.specs.machine.Requester as requester;
 ghost use Rattle.ca_model.specs.machine.Row.{ending_of};
-ghost use Rattle.ca_packet.specs.Packet.{most_spelt};
+ghost use Rattle.ca_wire.specs.Packet.{most_spelt};
 ghost use Rattle.ca_rows.specs.Asks.{AreAsksFor, CanJudge, bytes_read, touched_by};
 ghost use Rattle.ca_rows.specs.Made.{IsTurn};
 ghost use Rattle.ca_sending.specs.Packets.{IsPacket, IsSpelling, IsSpellingOrNone};

@@ -1,6 +1,6 @@
 -- How many of the parts that are needed are missing. For proofs only.
 use Rattle.std.proofs.Common.{◌≡◌, ◌∙◌, refl, sym, ap, suc, ◌+◌, ◌≤◌, ◌||◌, inl, inr, arith, Bool, true, false, List, [], ◌∷◌, ◌++◌, length, Option, None, Some, if◌then◌else◌, true≢false}
-use Rattle.ca_fabric_machine.proofs.of_ca_laws_parts.NeedsLemmas.{IsMissing, part-refl, some-missing}
+use Rattle.ca_fabric_machine.proofs.of_ca_law_parts.Parts.NeedsLemmas.{IsMissing, part-refl, some-missing}
 use Rattle.ca_model.specs.declared.part_name.PartName.{PartName}
 use Rattle.ca_model.specs.machine.Parts.{IsAmong, Needs, is_held, listed, next_part, part_eq}
 use Rattle.ca_model.specs.machine.World.{World}

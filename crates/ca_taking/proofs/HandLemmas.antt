@@ -11,7 +11,7 @@ use Rattle.ca_fabric_machine.specs.declared.asked.Asked.{Asked}
 use Rattle.ca_held.specs.HeldView.{Holding}
 use Rattle.ca_held.specs.Taking.{has_in, is_of_kind, with_part, without_part}
 use Rattle.ca_held.specs.declared.part.Part.{Part}
-use Rattle.ca_fabric_machine.proofs.of_ca_laws_parts.NeedsLemmas.{next-same, part-refl}
+use Rattle.ca_fabric_machine.proofs.of_ca_law_parts.Parts.NeedsLemmas.{next-same, part-refl}
 use Rattle.ca_model.specs.declared.part_name.PartName.{PartName}
 use Rattle.ca_model.specs.machine.Parts.{ShowsHeld, is_held, next_part, part_eq, part_of}
 use Rattle.ca_model.specs.machine.Sound.{AreLimited}

@@ -13,7 +13,7 @@ use Rattle.ca_held.specs.declared.part.Part.{Part}
 use Rattle.ca_held.specs.HeldView.{holding}
 use Rattle.ca_held.specs.Taking.{is_of_kind}
 use Rattle.ca_keys.specs.declared.place.Place.{Place}
-use Rattle.ca_fabric_machine.specs.ca_laws_names.Placed.{is_configured}
+use Rattle.ca_fabric_machine.specs.ca_law_parts.Placed.{is_configured}
 use Rattle.ca_model.specs.declared.part_name.PartName.{PartName}
 use Rattle.ca_model.specs.declared.part_name.PartName.TheVariants as kinds
 use Rattle.ca_model.specs.machine.Parts.{ShowsHeld, part_of}

@@ -20,8 +20,8 @@ use Rattle.ca_held.specs.declared.part.Part.{Part}
 use Rattle.ca_held.specs.HeldView.{Holding, holding, room_for}
 use Rattle.ca_held.specs.Taking as taking
 use Rattle.ca_held.specs.Taking.{is_of_kind}
-use Rattle.ca_fabric_machine.proofs.of_ca_laws_parts.EventPartLemmas.{among-held}
-use Rattle.ca_fabric_machine.proofs.of_ca_laws_parts.NeedsLemmas.{IsMissing, next-same, some-missing}
+use Rattle.ca_fabric_machine.proofs.of_ca_law_parts.Parts.EventPartLemmas.{among-held}
+use Rattle.ca_fabric_machine.proofs.of_ca_law_parts.Parts.NeedsLemmas.{IsMissing, next-same, some-missing}
 use Rattle.ca_model.specs.declared.part_name.PartName.{PartName}
 use Rattle.ca_model.specs.machine.Parts.{ShowsHeld, is_configured_part, listed, part_eq, part_of}
 use Rattle.ca_model.specs.machine.World.{World, get}

@@ -6,5 +6,4 @@ pub mod Giving
 pub mod Amid
 -- The libraries below, handed on to those above.
 pub use Rattle.ca_adapter.specs.ca_acts
-pub use Rattle.ca_adapter.specs.ca_acts_laws
 pub use Rattle.ca_adapter.specs as ca_adapter

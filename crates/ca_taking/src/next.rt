@@ -10,14 +10,14 @@ ghost use Rattle.ca_model.specs.machine.Invariants.{IsSharedReceives};
 ghost use Rattle.ca_model.specs.machine.Parts as machine;
 ghost use Rattle.ca_model.specs.machine.Sound.{AreLimited};
 ghost use Rattle.ca_taking.specs.Asking.{asked_of};
-ghost use Rattle.ca_turns.specs.declared.turn.Turn.TheVariants as turns;
+ghost use Rattle.ca_places.specs.declared.turn.Turn.TheVariants as turns;
 
 use crate::ask::Ask;
 use ca_adapter::ca_needs::next_part;
 use ca_base::{Lot, QueueId, Settings};
 use ca_held::{Held, QueueSlot};
 use ca_model::{Event, PartName};
-use ca_turns::Turn;
+use ca_places::Turn;
 
 /// The next part that is needed for what is asked, beside those in hand. A turn also needs what tells which event it is: the
 /// mailbox from which something is due, and the peer's mailbox, for the lot of what is sent.

@@ -1,10 +1,10 @@
 use crate::traces::{
     DRAWN, DRAWN_ALL, DRAWN_APART, DRAWN_PAIR, FOREIGN, FOREIGN_PAIR, OTHER, OTHER_PAIR,
 };
-use ca_alone::print_replies;
 use ca_base::{DomainId, Memory, QueueId};
 use ca_isolation::{closed, replies};
 use ca_model::History;
+use ca_output::print_replies;
 use ca_reading::{TraceError, read};
 use std::alloc::Global;
 use std::process::Abort;

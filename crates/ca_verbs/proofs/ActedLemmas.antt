@@ -2,7 +2,7 @@
 -- only.
 use Rattle.std.proofs.Common.{◌≡◌, ◌∙◌, refl, sym, ap, subst, ℕ, ◌≤◌, arith, Bool, true, false, List, [], ◌∷◌, ◌++◌, length, Option, None, Some, Result, Ok, Err}
 use Rattle.ca_taking.specs.ca_acts.Act.{Acts, IsAct}
-use Rattle.ca_taking.specs.ca_acts_laws.Steps.{IsStepOf, LeavesUnheld, Shows}
+use Rattle.ca_taking.specs.ca_acts.Steps.{IsStepOf, LeavesUnheld, Shows}
 use Rattle.ca_taking.proofs.of_ca_adapter.WorldLemmas.{part-of-held}
 use Rattle.ca_taking.specs.ca_adapter.Ready.{IsReady}
 use Rattle.ca_base.specs.Configuration.{configuration_in}
@@ -24,8 +24,8 @@ use Rattle.ca_held.specs.declared.held.Held.{Held}
 use Rattle.ca_held.specs.HeldView.{Holding, holding}
 use Rattle.ca_keys.specs.Memory.{zeros}
 use Rattle.ca_keys.specs.declared.place.Place.{Place}
-use Rattle.ca_laws_names.specs.Placed.{is_configured}
-use Rattle.ca_fabric_machine.proofs.of_ca_laws_parts.NeedsLemmas.{next-same}
+use Rattle.ca_law_parts.specs.Placed.{is_configured}
+use Rattle.ca_law_parts.proofs.Parts.NeedsLemmas.{next-same}
 use Rattle.ca_model.specs.Marks.{MarkList}
 use Rattle.ca_model.specs.declared.event.Event.{Event}
 use Rattle.ca_model.specs.declared.part_name.PartName.{PartName}
@@ -47,8 +47,8 @@ use Rattle.ca_taking.specs.Taking.{SameRecord, TookAll, WasStopped}
 use Rattle.ca_taking.specs.declared.take_error.TakeError.{TakeError}
 use Rattle.ca_taking.specs.declared.take_error.TakeError.TheVariants as takes
 use Rattle.ca_mailbox.specs.declared.weather.Weather.{Weather}
-use Rattle.ca_turns.specs.Turns.{event_of}
-use Rattle.ca_turns.specs.declared.turn.Turn.{Turn}
+use Rattle.ca_places.specs.Turns.{event_of}
+use Rattle.ca_places.specs.declared.turn.Turn.{Turn}
 use Rattle.ca_verbs.proofs.TurnLemmas.{turn-same}
 use Rattle.ca_verbs.specs.Tried.{IsEventOf, IsMade, IsNotPossible, WasNotMade, WasNotReady, error_of, refusal_of, told_of}
 

@@ -1,29 +1,29 @@
 -- The history of a fabric that is closed is lawful. For proofs only.
 use Rattle.std.proofs.Common.{◌≡◌, ◌∙◌, refl, sym, ap, ℕ, suc, List, [], ◌∷◌, map, Ok}
 use Rattle.std.specs.List.{AllByRecursion}
-use Rattle.ca_agree.proofs.EventFitLemmas.{followed-is-history}
-use Rattle.ca_agree.specs.Runs.{AreStamped}
+use Rattle.ca_law_endings.proofs.EventFitLemmas.{followed-is-history}
+use Rattle.ca_law_endings.specs.Runs.{AreStamped}
 use Rattle.ca_base.specs.Configuration.{configuration_in}
 use Rattle.ca_base.specs.declared.settings.Settings.{Settings}
-use Rattle.ca_caused_link.proofs.of_ca_carried.EndEventLemmas.{whole-along}
-use Rattle.ca_caused_link.proofs.HistoryLemmas.{caused-along}
+use Rattle.ca_law_caused.proofs.of_ca_law_carried.Carried.EndEventLemmas.{whole-along}
+use Rattle.ca_law_caused.proofs.Link.HistoryLemmas.{caused-along}
 use Rattle.ca_fabric_machine.specs.declared.asked.Told.{Told}
-use Rattle.ca_isolated.proofs.AloneLemmas.{alone-goes}
-use Rattle.ca_isolated.proofs.of_ca_judged.JudgeEventLemmas.{judged-along}
+use Rattle.ca_law_isolation.proofs.AloneLemmas.{alone-goes}
+use Rattle.ca_law_isolation.proofs.of_ca_law_keys.Judged.JudgeEventLemmas.{judged-along}
 use Rattle.ca_keys.specs.Memory.{zeros}
-use Rattle.ca_caused_link.proofs.of_ca_licensed.LicensedLemmas.{licensed-along}
+use Rattle.ca_law_caused.proofs.of_ca_law_keys.Licensed.LicensedLemmas.{licensed-along}
 use Rattle.ca_model.specs.Entries.{EntryValue, entry_of}
 use Rattle.ca_model.specs.declared.entry.Entry.{Entry}
 use Rattle.ca_model.specs.declared.event.Event.{Event}
 use Rattle.ca_model.specs.declared.mark.Mark.{Mark}
 use Rattle.ca_model.specs.machine.Run.{Follows, run}
 use Rattle.ca_model.specs.machine.Sound.{AreLimited, CanBeMade}
-use Rattle.ca_caused_link.proofs.of_ca_once.WholeLemmas.{whole-along as once-along}
-use Rattle.ca_ordered.proofs.OrderedLemmas.{ordered-along}
+use Rattle.ca_law_once.proofs.Once.WholeLemmas.{whole-along as once-along}
+use Rattle.ca_law_order.proofs.Ordered.OrderedLemmas.{ordered-along}
 use Rattle.ca_taking.specs.Holding.{Known}
 use Rattle.ca_verbs.specs.Closing.{IsHistoryOf, IsLawful, stamped_from}
 use Rattle.ca_verbs.specs.Kept.{Kept, kept_of}
-use Rattle.ca_written.proofs.WrittenLemmas.{once-whole, written-whole}
+use Rattle.ca_law_once.proofs.Written.WrittenLemmas.{once-whole, written-whole}
 
 events-seen : (j : List Entry) → map (λ (e : EntryValue). e.event) (map entry_of j) ≡ map (λ (e : Entry). e.event) j
 events-seen [] = refl

@@ -13,8 +13,8 @@ use Rattle.ca_fabric_machine.specs.Asks.{due_needs, peer_mail, turn_parts}
 use Rattle.ca_held.specs.declared.held.Held.{Held}
 use Rattle.ca_held.specs.HeldView.{holding}
 use Rattle.ca_keys.specs.declared.names.QueueId.{QueueId}
-use Rattle.ca_laws_names.specs.Placed.{IsPlacedWorld}
-use Rattle.ca_fabric_machine.proofs.of_ca_laws_parts.NeedsLemmas.{none-decided, none-first}
+use Rattle.ca_law_parts.specs.Placed.{IsPlacedWorld}
+use Rattle.ca_law_parts.proofs.Parts.NeedsLemmas.{none-decided, none-first}
 use Rattle.ca_mailbox.specs.Weather.{is_hastened, lot_under}
 use Rattle.ca_mailbox.specs.declared.weather.Weather.{Weather}
 use Rattle.ca_model.specs.declared.event.Event.TheVariants as events
@@ -24,9 +24,9 @@ use Rattle.ca_model.specs.machine.Parts.{By, Enough, Needs, ShowsHeld, also, eve
 use Rattle.ca_model.specs.machine.Turns.{reaches_peer}
 use Rattle.ca_model.specs.machine.World.{World, Mailbox_of, Queue_of}
 use Rattle.ca_taking.proofs.NextLemmas.{also_none, holds_mailbox, holds_queue}
-use Rattle.ca_turns.specs.Turns.{event_of, lot_at}
-use Rattle.ca_turns.specs.declared.turn.Turn.{Turn}
-use Rattle.ca_turns.specs.declared.turn.Turn.TheVariants as turns
+use Rattle.ca_places.specs.Turns.{event_of, lot_at}
+use Rattle.ca_places.specs.declared.turn.Turn.{Turn}
+use Rattle.ca_places.specs.declared.turn.Turn.TheVariants as turns
 use Rattle.std.specs.Option.{option_map}
 
 -- a queue pair or a mailbox that is not held is vacant in what is held

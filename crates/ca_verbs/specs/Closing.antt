@@ -22,7 +22,7 @@ use Rattle.ca_parts.specs.Hands.{AllStand}
 use Rattle.ca_parts.specs.Lists.{Has}
 use Rattle.ca_taking.specs.Holding.{Known}
 use Rattle.ca_verbs.specs.Kept.{Kept, kept_of}
-use Rattle.ca_written.specs.Written.{Written, WrittenOnce}
+use Rattle.ca_law_once.specs.Written.{Written, WrittenOnce}
 
 -- a list of entries with its stamps, of which the first is this
 abbrev pub stamped_from : ℕ → List Told → List Kept

@@ -21,9 +21,9 @@ use ca_held::Held;
 use ca_mailbox::Weather;
 use ca_model::{Event, PartName};
 use ca_parts::{PartPass, Parts};
+use ca_places::Turn;
 use ca_taking::ca_adapter::lists_fit;
 use ca_taking::{Ask, InHand, TakeError, put_back, take_all};
-use ca_turns::Turn;
 use std::alloc::Global;
 
 /// Takes the parts of what is asked, reads the clock, acts, stamps, and gives the parts back.

@@ -4,14 +4,14 @@ ghost use Rattle.ca_base.specs.objects.Mailbox.{due};
 ghost use Rattle.ca_base.specs.objects.QueuePair.{Present};
 ghost use Rattle.ca_held.specs.HeldView.{holding};
 ghost use Rattle.ca_taking.specs.Hands.{IsMailboxIn, IsQueueIn};
-ghost use Rattle.ca_turns.specs.Turns as turns;
+ghost use Rattle.ca_places.specs.Turns as turns;
 
 use ca_base::{Lot, QueueId};
 use ca_held::{Held, QueueSlot};
 use ca_mailbox::{Mailbox, Weather};
 use ca_model::{Event, PartName};
+use ca_places::Turn;
 use ca_qpstate::QueuePart;
-use ca_turns::Turn;
 
 /// The event that a turn is by what is held, under a weather; none where nothing is due.
 pub(crate) fn event_of(held: &Held, turn: Turn, weather: &Weather) -> Option<Event>

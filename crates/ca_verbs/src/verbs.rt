@@ -13,8 +13,8 @@ use crate::trying::{try_event, try_turn_event};
 use ca_base::Memory;
 use ca_mailbox::Weather;
 use ca_model::{Entry, Event, Verb};
+use ca_places::Turn;
 use ca_taking::{Ask, MAX_ASKED_PARTS};
-use ca_turns::Turn;
 
 impl Pass {
     /// Makes room for a call.

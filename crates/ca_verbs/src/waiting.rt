@@ -9,7 +9,7 @@ use crate::pass::{Pass, Receipt};
 use crate::try_error::TryError;
 use ca_mailbox::Weather;
 use ca_model::Verb;
-use ca_turns::Turn;
+use ca_places::Turn;
 use std::sync::Wait;
 
 impl Fabric {

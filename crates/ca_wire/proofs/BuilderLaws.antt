@@ -1,22 +1,22 @@
 -- The packets that the engines send are well formed.
 use Rattle.std.proofs.Common.{◌≡◌, ℕ, ◌^◌, ◌<◌, ◌≤◌, Bool, ◌&&◌, cond, List, length, Option, Some, None, refl, lit≤}
 use Rattle.std.specs.Prelude.{is_some}
-use Rattle.ca_packet.specs.ca_keys.declared.key.Key.{Key}
-use Rattle.ca_packet.specs.ca_base.declared.limits.TheConstants.{MAX_PAYLOAD_BYTES}
-use Rattle.ca_packet.specs.declared.atomic_eth.AtomicEth.{AtomicEth}
+use Rattle.ca_base.specs.ca_keys.declared.key.Key.{Key}
+use Rattle.ca_base.specs.declared.limits.TheConstants.{MAX_PAYLOAD_BYTES}
+use Rattle.ca_wire.specs.declared.atomic_eth.AtomicEth.{AtomicEth}
 use Rattle.ca_wire.specs.declared.requests.SendKind.{SendKind}
 use Rattle.ca_wire.specs.declared.requests.SendKind.TheVariants.{Plain, WithImmediate, WithInvalidate}
-use Rattle.ca_packet.specs.declared.reth.Reth.{Reth}
-use Rattle.ca_packet.specs.declared.shape.Position.{Position}
-use Rattle.ca_packet.specs.declared.shape.Position.TheVariants.{First, Middle, Last, Only}
+use Rattle.ca_wire.specs.declared.reth.Reth.{Reth}
+use Rattle.ca_wire.specs.declared.shape.Position.{Position}
+use Rattle.ca_wire.specs.declared.shape.Position.TheVariants.{First, Middle, Last, Only}
 use Rattle.ca_wire.specs.declared.segment.Segment.{Segment}
 use Rattle.ca_wire.specs.declared.syndrome.Syndrome.{Syndrome}
-use Rattle.ca_packet.specs.Packet.{plain}
+use Rattle.ca_wire.specs.Packet.{plain}
 use Rattle.ca_wire.specs.Builders.{acknowledge, atomic_acknowledge, read_response_opcode, read_response_aeth, read_response, send_opcode, immediate_of, invalidated_by, at_end, send_packet, write_opcode, write_packet, read_request, cmp_swap, fetch_add}
-use Rattle.ca_packet.specs.Packet.{Fields, IsWellFormed}
-use Rattle.ca_packet.specs.Shapes.{begins, ends}
+use Rattle.ca_wire.specs.Packet.{Fields, IsWellFormed}
+use Rattle.ca_wire.specs.Shapes.{begins, ends}
 use Rattle.ca_wire.specs.Segment.{position_of, asks_acknowledgement}
-use Rattle.ca_packet.specs.Table.{row_of}
+use Rattle.ca_wire.specs.Table.{row_of}
 
 pub acknowledge_fits : (s : Syndrome) (queue psn msn : ℕ) → queue < 2 ^ 24 → psn < 2 ^ 24 → msn < 2 ^ 24 → IsWellFormed (acknowledge s queue psn msn)
 unfolding row_of

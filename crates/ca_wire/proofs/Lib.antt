@@ -1,3 +1,14 @@
+pub mod NumberLaws
+pub mod Steps
+pub mod BthLaws
+pub mod HeaderLaws
+pub mod PayloadLaws
+pub mod TableRows
+pub mod AllHeaders
+pub mod PacketLaws
+pub mod RefusalLaws
+pub mod DecoderLaws
+pub mod WritingLaws
 pub mod SyndromeLaws
 pub mod BuilderLaws
 pub mod OperationLaws

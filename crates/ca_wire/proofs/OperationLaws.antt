@@ -1,10 +1,10 @@
 -- The opcodes that the builders choose are of their operations, at their places in the message.
 use Rattle.std.proofs.Common.{◌≡◌, ℕ, Option, Some, None, refl}
-use Rattle.ca_packet.specs.declared.shape.Operation.TheVariants.{Request, ReadResponse}
-use Rattle.ca_packet.specs.declared.shape.Position.{Position}
-use Rattle.ca_packet.specs.declared.shape.Position.TheVariants.{First, Middle, Last, Only}
-use Rattle.ca_packet.specs.declared.shape.Shape.TheVariants as shapes
-use Rattle.ca_packet.specs.Table.{row_of, operation_of}
+use Rattle.ca_wire.specs.declared.shape.Operation.TheVariants.{Request, ReadResponse}
+use Rattle.ca_wire.specs.declared.shape.Position.{Position}
+use Rattle.ca_wire.specs.declared.shape.Position.TheVariants.{First, Middle, Last, Only}
+use Rattle.ca_wire.specs.declared.shape.Shape.TheVariants as shapes
+use Rattle.ca_wire.specs.Table.{row_of, operation_of}
 use Rattle.ca_wire.specs.declared.requests.SendKind.{SendKind}
 use Rattle.ca_wire.specs.declared.requests.SendKind.TheVariants.{Plain, WithImmediate, WithInvalidate}
 use Rattle.ca_wire.specs.Builders.{read_response_opcode, send_opcode, write_opcode}

@@ -1,14 +1,14 @@
 -- Packets that follow from the standard's tables, byte for byte, so that a wrong definition does not check.
 use Rattle.std.proofs.Common.{◌≡◌, ℕ, false, List, [], ◌∷◌, Some, None, take, drop, refl}
-use Rattle.ca_packet.specs.declared.atomic_eth.AtomicEth.{AtomicEth}
-use Rattle.ca_packet.specs.declared.reth.Reth.{Reth}
+use Rattle.ca_wire.specs.declared.atomic_eth.AtomicEth.{AtomicEth}
+use Rattle.ca_wire.specs.declared.reth.Reth.{Reth}
 use Rattle.ca_wire.specs.declared.requests.SendKind.TheVariants.{WithInvalidate}
 use Rattle.ca_wire.specs.declared.segment.Segment.{Segment}
 use Rattle.ca_wire.specs.declared.syndrome.NakCode.TheVariants.{RemoteAccessError}
-use Rattle.ca_packet.specs.declared.wire_error.WireError.TheVariants.{TooShort, Version, Opcode, Length, Pad}
+use Rattle.ca_wire.specs.declared.wire_error.WireError.TheVariants.{TooShort, Version, Opcode, Length, Pad}
 use Rattle.ca_wire.specs.Builders.{acknowledgement, nak, rnr_nak, atomic_acknowledge, read_response, send_packet, write_packet, read_request, cmp_swap}
-use Rattle.ca_packet.specs.Packet.{be_bytes, packet_bytes, spelling, refusal_of}
-use Rattle.ca_packet.specs.Table.{row_of}
+use Rattle.ca_wire.specs.Packet.{be_bytes, packet_bytes, spelling, refusal_of}
+use Rattle.ca_wire.specs.Table.{row_of}
 
 -- the only packet of its message
 abbrev only : Segment

@@ -1,8 +1,8 @@
 -- The segments of a message: where each stands, and which ask for an acknowledgement. Contracts cite it.
 use Rattle.std.specs.Prelude.{◌+◌, ◌%◌, ◌==◌, Bool, ◌||◌, if◌then◌else◌}
 use Rattle.ca_wire.specs.declared.segment.Segment.{Segment}
-use Rattle.ca_packet.specs.declared.shape.Position.{Position}
-use Rattle.ca_packet.specs.declared.shape.Position.TheVariants.{First, Middle, Last, Only}
+use Rattle.ca_wire.specs.declared.shape.Position.{Position}
+use Rattle.ca_wire.specs.declared.shape.Position.TheVariants.{First, Middle, Last, Only}
 use Rattle.ca_wire.specs.declared.segment.TheConstants.{PACKETS_PER_ACKNOWLEDGEMENT}
 
 -- this segment ends its message

@@ -1,28 +1,56 @@
-//! What engines say in packets: the packets that requests and answers are sent as, the segments that a message is cut
-//! into, and the syndromes of acknowledgements. The packets themselves are those of `ca_packet`, which it hands out too.
+//! Packets: their bytes, and what engines say in them.
 //!
-//! To the layers above it promises that each packet has the fields that its kind asks for, that a segment lies where its
-//! message does, and that a syndrome that is sent is received as what it says.
+//! The packets of the reliable connection: their headers, the one table of their opcodes, the reading of bytes into a
+//! packet, and the one canonical spelling of a packet. To the layers above it promises that `decode` gives a packet
+//! exactly where the bytes spell it, that each refusal comes exactly where the first of its ordered tests fails, and
+//! that what `encode` wrote is read again.
+//!
+//! What engines say in packets: the packets that requests and answers are sent as, the segments that a message is cut
+//! into, and the syndromes of acknowledgements. The packets themselves are those of `ca_packet`, which it hands out
+//! too. To the layers above it promises that each packet has the fields that its kind asks for, that a segment lies
+//! where its message does, and that a syndrome that is sent is received as what it says.
+//!
+//! Source: InfiniBand Architecture Specification Volume 1, the chapter on the transport layer's packet formats.
 //!
 //! Source: InfiniBand Architecture Specification Volume 1, the chapters on the transport layer's packet formats and
 //! transport services.
 #![tactic(auto)]
 
+mod aeth;
+mod atomic_eth;
+mod bth;
+mod decoding;
+mod encoding;
+mod headers;
 mod laws;
+mod numbers;
+pub mod opcode;
+mod packet;
+mod payload;
 mod requests;
 mod responses;
+mod reth;
 mod segment;
+mod shape;
 mod syndrome;
+mod wire_error;
+mod writing;
 
-pub use ca_packet::{
-    Aeth, AtomicEth, Bth, DEFAULT_PKEY, MAX_PACKET_BYTES, Operation, Packet, Position, Reth, Shape,
-    WireError, decode, encode, one_packet, opcode, operation_of, read_bth, reading, round_trip,
-    shape_of, spelling_length,
-};
-pub use laws::{operations, syndromes};
+pub use aeth::Aeth;
+pub use atomic_eth::AtomicEth;
+pub use bth::{Bth, read_bth};
+pub use ca_base;
+pub use decoding::decode;
+pub use encoding::encode;
+pub use laws::{one_packet, operations, reading, round_trip, spelling_length, syndromes};
+pub use opcode::{operation_of, shape_of};
+pub use packet::{DEFAULT_PKEY, MAX_PACKET_BYTES, Packet};
 pub use requests::{SendKind, cmp_swap, fetch_add, read_request, send_packet, write_packet};
 pub use responses::{
     acknowledge, acknowledgement, atomic_acknowledge, nak, read_response, rnr_nak,
 };
+pub use reth::Reth;
 pub use segment::Segment;
+pub use shape::{Operation, Position, Shape};
 pub use syndrome::{NakCode, Syndrome, UNLIMITED_CREDITS};
+pub use wire_error::WireError;

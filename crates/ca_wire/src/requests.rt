@@ -1,12 +1,12 @@
 ghost use Rattle.std.specs.Prelude.{◌≡◌, ◌^◌, ◌<◌, ◌≤◌, length};
-ghost use Rattle.ca_packet.specs.ca_base.declared.limits.TheConstants.{MAX_PAYLOAD_BYTES};
+ghost use Rattle.ca_base.specs.declared.limits.TheConstants.{MAX_PAYLOAD_BYTES};
 ghost use Rattle.ca_wire.specs.Builders as packets;
-ghost use Rattle.ca_packet.specs.Packet.{IsWellFormed};
+ghost use Rattle.ca_wire.specs.Packet.{IsWellFormed};
 
+use crate::opcode::*;
 use crate::segment::Segment;
-use ca_packet::ca_base::Key;
-use ca_packet::opcode::*;
-use ca_packet::{AtomicEth, Packet, Position, Reth};
+use crate::{AtomicEth, Packet, Position, Reth};
+use ca_base::Key;
 
 /// What a SEND brings beside its bytes, at its end.
 #[derive(Clone, Copy)]

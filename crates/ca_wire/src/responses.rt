@@ -1,13 +1,13 @@
 ghost use Rattle.std.specs.Prelude.{◌≡◌, ◌^◌, ◌<◌, ◌≤◌, length};
-ghost use Rattle.ca_packet.specs.ca_base.declared.limits.TheConstants.{MAX_PAYLOAD_BYTES};
+ghost use Rattle.ca_base.specs.declared.limits.TheConstants.{MAX_PAYLOAD_BYTES};
 ghost use Rattle.ca_wire.specs.Builders as packets;
-ghost use Rattle.ca_packet.specs.Packet.{IsWellFormed};
+ghost use Rattle.ca_wire.specs.Packet.{IsWellFormed};
 ghost use Rattle.ca_wire.specs.Syndrome.{FitsSyndrome};
 
+use crate::opcode::*;
 use crate::segment::Segment;
 use crate::syndrome::{NakCode, Syndrome, UNLIMITED_CREDITS};
-use ca_packet::opcode::*;
-use ca_packet::{Aeth, Packet, Position};
+use crate::{Aeth, Packet, Position};
 
 #[inline(always)]
 fn aeth_of(syndrome: Syndrome, msn: u32) -> Aeth

@@ -1,7 +1,7 @@
 ghost use Rattle.std.specs.Prelude.{◌≡◌, ◌<◌};
 ghost use Rattle.ca_wire.specs.Segment.{is_last, position_of, asks_acknowledgement};
 
-use ca_packet::Position;
+use crate::Position;
 
 /// Besides the last packet of a message, each one whose number, counted from 1, is a multiple of this asks for an
 /// acknowledgement. The standard leaves it to the requester.

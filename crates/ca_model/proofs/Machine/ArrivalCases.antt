@@ -14,11 +14,11 @@ use Rattle.ca_keys.specs.declared.rights.Rights.{Rights}
 use Rattle.ca_base.specs.objects.QueuePair.{QueuePair, QueueSlot, NoQueue, Present}
 use Rattle.ca_base.specs.objects.Window.{vacant_window, after_binding, after_window_allocation}
 use Rattle.ca_wire.specs.declared.requests.SendKind.TheVariants.{Plain}
-use Rattle.ca_packet.specs.declared.wire_error.WireError.TheVariants as wire
+use Rattle.ca_wire.specs.declared.wire_error.WireError.TheVariants as wire
 use Rattle.ca_wire.specs.Builders.{send_packet, write_packet, read_request, cmp_swap, fetch_add}
-use Rattle.ca_packet.specs.Decoding.{packet_in, front_at, bth_at, number_at, reth_from, atomic_from, aeth_from, number_from, payload_at, payload_behind, body_in}
-use Rattle.ca_packet.specs.Packet.{Fields, be_bytes, packet_bytes, spelling}
-use Rattle.ca_packet.specs.Table.{row_of}
+use Rattle.ca_wire.specs.Decoding.{packet_in, front_at, bth_at, number_at, reth_from, atomic_from, aeth_from, number_from, payload_at, payload_behind, body_in}
+use Rattle.ca_wire.specs.Packet.{Fields, be_bytes, packet_bytes, spelling}
+use Rattle.ca_wire.specs.Table.{row_of}
 use Rattle.ca_model.specs.declared.event.Event.TheVariants as events
 use Rattle.ca_model.specs.declared.mark.Drop1.{Drop1}
 use Rattle.ca_model.specs.declared.mark.Drop1.TheVariants as drops

@@ -15,9 +15,9 @@ use Rattle.ca_base.specs.objects.WorkQueue.{with_item, after_take, empty_queue}
 use Rattle.ca_wire.specs.declared.requests.SendKind.{SendKind}
 use Rattle.ca_wire.specs.declared.requests.SendKind.TheVariants.{Plain, WithImmediate, WithInvalidate}
 use Rattle.ca_wire.specs.Builders.{acknowledgement, send_packet, write_packet}
-use Rattle.ca_packet.specs.Decoding.{packet_in, front_at, bth_at, number_at, reth_from, atomic_from, aeth_from, number_from, payload_at, payload_behind, body_in}
-use Rattle.ca_packet.specs.Packet.{Fields, be_bytes, packet_bytes, spelling}
-use Rattle.ca_packet.specs.Table.{row_of}
+use Rattle.ca_wire.specs.Decoding.{packet_in, front_at, bth_at, number_at, reth_from, atomic_from, aeth_from, number_from, payload_at, payload_behind, body_in}
+use Rattle.ca_wire.specs.Packet.{Fields, be_bytes, packet_bytes, spelling}
+use Rattle.ca_wire.specs.Table.{row_of}
 use Rattle.ca_model.specs.declared.event.Event.TheVariants as events
 use Rattle.ca_model.specs.declared.mark.Mark.{Mark}
 use Rattle.ca_model.specs.declared.mark.Mark.TheVariants as marks

@@ -12,7 +12,7 @@ use Rattle.ca_model.specs.declared.part_name.PartName.{PartName}
 use Rattle.ca_model.specs.declared.part_name.PartName.TheVariants as names
 use Rattle.ca_model.specs.declared.verb.Verb.{Verb}
 use Rattle.ca_model.specs.declared.verb.Verb.TheVariants as verbs
-use Rattle.ca_packet.specs.Decoding.{bth_at, packet_in}
+use Rattle.ca_wire.specs.Decoding.{bth_at, packet_in}
 use Rattle.ca_model.specs.machine.Parts.{Needs, event_needs, event_parts, gathered, is_held, next_part}
 use Rattle.ca_model.specs.machine.Plan.{◌:=◌, put_all}
 use Rattle.ca_model.specs.machine.World.{Cq_of, Window_of, World}

@@ -11,8 +11,8 @@ use Rattle.ca_base.specs.declared.request.Piece.{Piece}
 use Rattle.ca_base.specs.declared.request.SendOp.{SendOp}
 use Rattle.ca_base.specs.declared.request.SendOp.TheVariants as ops
 use Rattle.ca_base.specs.objects.QueuePair.{QueuePair}
-use Rattle.ca_packet.specs.Packet.{be_bytes, packet_bytes}
-use Rattle.ca_packet.specs.Table.{row_of}
+use Rattle.ca_wire.specs.Packet.{be_bytes, packet_bytes}
+use Rattle.ca_wire.specs.Table.{row_of}
 use Rattle.ca_model.specs.declared.event.Event.TheVariants as events
 use Rattle.ca_model.specs.declared.mark.Mark.{Mark}
 use Rattle.ca_model.specs.declared.mark.Mark.TheVariants as marks

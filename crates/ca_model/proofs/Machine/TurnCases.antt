@@ -12,9 +12,9 @@ use Rattle.ca_base.specs.declared.step.Reason.TheVariants as reasons
 use Rattle.ca_base.specs.declared.mail_envelope.MailEnvelope.{MailEnvelope}
 use Rattle.ca_base.specs.objects.Mailbox.{Mailbox, due, empty_mailbox}
 use Rattle.ca_base.specs.objects.QueuePair.{QueuePair, QueueSlot, Present, psn_base, vacant_queue}
-use Rattle.ca_packet.specs.Decoding.{packet_in, front_at, bth_at, number_at}
-use Rattle.ca_packet.specs.Packet.{be_bytes, packet_bytes}
-use Rattle.ca_packet.specs.Table.{row_of}
+use Rattle.ca_wire.specs.Decoding.{packet_in, front_at, bth_at, number_at}
+use Rattle.ca_wire.specs.Packet.{be_bytes, packet_bytes}
+use Rattle.ca_wire.specs.Table.{row_of}
 use Rattle.ca_model.specs.declared.event.Event.{Event}
 use Rattle.ca_model.specs.declared.event.Event.TheVariants as events
 use Rattle.ca_model.specs.machine.Plan.{◌:=◌, Outcome, NotReady, Did, put_all}

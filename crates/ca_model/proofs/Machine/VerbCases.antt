@@ -20,7 +20,7 @@ use Rattle.ca_model.specs.declared.verb.Verb.TheVariants as verbs
 use Rattle.ca_model.specs.machine.Plan.{Outcome, NotReady, Did, put_all, ◌:=◌}
 use Rattle.ca_model.specs.machine.Step.{step}
 use Rattle.ca_model.specs.machine.World.{Cq_of, World}
-use Rattle.ca_packet.specs.Decoding.{packet_in, front_at, bth_at, number_at}
+use Rattle.ca_wire.specs.Decoding.{packet_in, front_at, bth_at, number_at}
 use Rattle.ca_model.proofs.Literals.{completion, d, s, q, k, r}
 use Rattle.ca_model.proofs.Machine.AnsweredVerbs.{AnsweredVerb, ◌⟶◌, answer_in, refused}
 use Rattle.ca_model.proofs.Machine.Furnished.{pair, furnished, with_queue, all_rights, send_of, add_of, signalled, receive_of, ready, in_state, with_posted, with_received}

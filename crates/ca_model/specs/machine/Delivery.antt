@@ -11,10 +11,10 @@ use Rattle.ca_base.specs.objects.QueuePair.{QueuePair, QueueSlot, NoQueue, Prese
 use Rattle.ca_base.specs.objects.SharedReceives.{SharedReceives}
 use Rattle.ca_base.specs.objects.Slices.{has_queue}
 use Rattle.ca_base.specs.objects.StateTable.{is_among}
-use Rattle.ca_packet.specs.declared.packet.TheConstants.{DEFAULT_PKEY}
-use Rattle.ca_packet.specs.declared.wire_error.WireError.{WireError}
-use Rattle.ca_packet.specs.Decoding.{packet_in}
-use Rattle.ca_packet.specs.Packet.{Fields}
+use Rattle.ca_wire.specs.declared.packet.TheConstants.{DEFAULT_PKEY}
+use Rattle.ca_wire.specs.declared.wire_error.WireError.{WireError}
+use Rattle.ca_wire.specs.Decoding.{packet_in}
+use Rattle.ca_wire.specs.Packet.{Fields}
 use Rattle.ca_model.specs.declared.mark.Drop1.{Drop1}
 use Rattle.ca_model.specs.declared.mark.Drop1.TheVariants as drops
 use Rattle.ca_model.specs.declared.mark.Mark.{Mark}
@@ -25,8 +25,8 @@ use Rattle.ca_model.specs.machine.Duplicates.{request_row}
 use Rattle.ca_model.specs.machine.Plan.{Plan, Stuck, Look, If, Finish, Update, ◌:=◌}
 use Rattle.ca_model.specs.machine.Responses.{drop_effects, response_row}
 use Rattle.ca_model.specs.machine.Row.{Row, Row_plan, plain_row, Does}
-use Rattle.ca_packet.specs.declared.shape.Shape.{Shape}
-use Rattle.ca_packet.specs.Table.{shape_of}
+use Rattle.ca_wire.specs.declared.shape.Shape.{Shape}
+use Rattle.ca_wire.specs.Table.{shape_of}
 use Rattle.ca_model.specs.machine.World.{Mailbox_of, Queue_of}
 
 -- why a packet is dropped before its row, in order

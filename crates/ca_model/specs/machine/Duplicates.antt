@@ -10,9 +10,9 @@ use Rattle.ca_base.specs.objects.QueuePair.{QueuePair}
 use Rattle.ca_base.specs.objects.Saved.{saved_at}
 use Rattle.ca_base.specs.objects.SharedReceives.{SharedReceives}
 use Rattle.ca_psn.specs.Psn.{widened}
-use Rattle.ca_packet.specs.declared.reth.Reth.{Reth}
+use Rattle.ca_wire.specs.declared.reth.Reth.{Reth}
 use Rattle.ca_wire.specs.declared.syndrome.NakCode.TheVariants.{PsnSequenceError}
-use Rattle.ca_packet.specs.Packet.{Fields}
+use Rattle.ca_wire.specs.Packet.{Fields}
 use Rattle.ca_wire.specs.Syndrome.{nak_code}
 use Rattle.ca_model.specs.declared.mark.Drop1.TheVariants as drops
 use Rattle.ca_model.specs.Requests.{segments}
@@ -20,8 +20,8 @@ use Rattle.ca_model.specs.machine.Arrivals.{with_answer, with_flag, with_respond
 use Rattle.ca_model.specs.machine.Expected.{expected_row}
 use Rattle.ca_model.specs.machine.Responses.{drop_effects}
 use Rattle.ca_model.specs.machine.Row.{Effects, queue_and_marks, Row, plain_row, Does}
-use Rattle.ca_packet.specs.declared.shape.Shape.{Shape}
-use Rattle.ca_packet.specs.declared.shape.Shape.TheVariants as shapes
+use Rattle.ca_wire.specs.declared.shape.Shape.{Shape}
+use Rattle.ca_wire.specs.declared.shape.Shape.TheVariants as shapes
 
 -- a packet ahead: the first asks for what is missing, the others are dropped
 abbrev pub ahead_effects : QueuePair → Effects

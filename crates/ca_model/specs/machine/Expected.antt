@@ -23,14 +23,14 @@ use Rattle.ca_base.specs.objects.Saved.{after_save}
 use Rattle.ca_base.specs.declared.request.PlacedReceive.{PlacedReceive}
 use Rattle.ca_base.specs.objects.SharedReceives.{SharedReceives}
 use Rattle.ca_keys.specs.Numbers.{is_window_key}
-use Rattle.ca_packet.specs.declared.atomic_eth.AtomicEth.{AtomicEth}
-use Rattle.ca_packet.specs.declared.reth.Reth.{Reth}
-use Rattle.ca_packet.specs.declared.shape.Position.{Position}
-use Rattle.ca_packet.specs.declared.shape.Position.TheVariants.{First, Middle, Last, Only}
+use Rattle.ca_wire.specs.declared.atomic_eth.AtomicEth.{AtomicEth}
+use Rattle.ca_wire.specs.declared.reth.Reth.{Reth}
+use Rattle.ca_wire.specs.declared.shape.Position.{Position}
+use Rattle.ca_wire.specs.declared.shape.Position.TheVariants.{First, Middle, Last, Only}
 use Rattle.ca_wire.specs.declared.syndrome.NakCode.{NakCode}
 use Rattle.ca_wire.specs.declared.syndrome.NakCode.TheVariants.{InvalidRequest, RemoteAccessError, RemoteOperationalError}
-use Rattle.ca_packet.specs.Packet.{Fields}
-use Rattle.ca_packet.specs.Shapes.{begins, ends}
+use Rattle.ca_wire.specs.Packet.{Fields}
+use Rattle.ca_wire.specs.Shapes.{begins, ends}
 use Rattle.ca_model.specs.declared.mark.Mark.{Mark}
 use Rattle.ca_model.specs.declared.mark.Mark.TheVariants as marks
 use Rattle.ca_model.specs.declared.receiving.Receiving.{Receiving}
@@ -44,8 +44,8 @@ use Rattle.ca_model.specs.machine.Requester.{local_denial}
 use Rattle.ca_model.specs.machine.Responses.{local_writes, writes_by}
 use Rattle.ca_model.specs.machine.Row as rows
 use Rattle.ca_model.specs.machine.Row.{Effects, queue_and_marks, Row, Does}
-use Rattle.ca_packet.specs.declared.shape.Shape.{Shape}
-use Rattle.ca_packet.specs.declared.shape.Shape.TheVariants as shapes
+use Rattle.ca_wire.specs.declared.shape.Shape.{Shape}
+use Rattle.ca_wire.specs.declared.shape.Shape.TheVariants as shapes
 
 abbrev pub reach_of_reth : Reth → WriteReach
 reach_of_reth h = record { key = h.key; address = h.address; left = h.length; whole = h.length }

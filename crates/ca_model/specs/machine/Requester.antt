@@ -15,7 +15,7 @@ use Rattle.ca_keys.specs.Refusals.{first_of}
 use Rattle.ca_base.specs.declared.denied_ask.DeniedAsk.{DeniedAsk}
 use Rattle.ca_base.specs.objects.QueuePair.{QueuePair}
 use Rattle.ca_base.specs.objects.StateTable.{is_among, state_eq}
-use Rattle.ca_packet.specs.Packet.{spelling}
+use Rattle.ca_wire.specs.Packet.{spelling}
 use Rattle.ca_model.specs.declared.mark.Mark.{Mark}
 use Rattle.ca_model.specs.declared.mark.Mark.TheVariants as marks
 use Rattle.ca_model.specs.Requests.{carried_bytes, is_local, list_of, request_packet}

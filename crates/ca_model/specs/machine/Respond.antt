@@ -18,7 +18,7 @@ use Rattle.ca_wire.specs.declared.segment.Segment.{Segment}
 use Rattle.ca_wire.specs.declared.syndrome.NakCode.{NakCode}
 use Rattle.ca_wire.specs.declared.syndrome.NakCode.TheVariants.{PsnSequenceError, RemoteAccessError}
 use Rattle.ca_wire.specs.Builders.{acknowledgement, atomic_acknowledge, nak, read_response, rnr_nak}
-use Rattle.ca_packet.specs.Packet.{Fields, spelling}
+use Rattle.ca_wire.specs.Packet.{Fields, spelling}
 use Rattle.ca_wire.specs.Syndrome.{nak_code_in}
 use Rattle.ca_model.specs.declared.read_left.ReadLeft.{ReadLeft}
 use Rattle.ca_model.specs.machine.Arrivals.{packet_ask, remote_mark, with_responder}

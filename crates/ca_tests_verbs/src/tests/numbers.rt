@@ -7,7 +7,7 @@ use ca_base::{DomainId, Key, Piece, QueueId, SendOp, SendRequest, Slot, Verdict,
 use ca_bed_fabric::ca_verbs::{Fabric, Pass};
 use ca_bed_fabric::{answer, call, queue_pair, region, turn};
 use ca_model::{Answer, Entry, Mark, Verb};
-use ca_turns::Turn;
+use ca_places::Turn;
 use std::process::Abort;
 use std::sync::Wait;
 use std::thread::{Threads, join};

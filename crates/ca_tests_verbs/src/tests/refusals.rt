@@ -5,7 +5,7 @@ use ca_bed_fabric::ca_verbs::{Fabric, Receipt, StartError, TryError};
 use ca_bed_fabric::call;
 use ca_mailbox::Weather;
 use ca_model::Verb;
-use ca_turns::Turn;
+use ca_places::Turn;
 use std::alloc::Global;
 use std::process::Abort;
 

@@ -13,15 +13,15 @@ use Rattle.ca_model.specs.declared.event.Event.TheVariants as events
 use Rattle.ca_model.specs.declared.mark.Mark.TheVariants as marks
 use Rattle.ca_model.specs.declared.verb.Verb.TheVariants as verbs
 use Rattle.ca_keys.specs.Memory.{zeros}
-use Rattle.ca_packet.specs.Decoding.{number_at, bth_at, front_at, reth_from, atomic_from, aeth_from, number_from, payload_at, payload_behind, body_in, packet_in}
-use Rattle.ca_packet.specs.Packet.{be_bytes, packet_bytes}
-use Rattle.ca_packet.specs.Table.{row_of}
+use Rattle.ca_wire.specs.Decoding.{number_at, bth_at, front_at, reth_from, atomic_from, aeth_from, number_from, payload_at, payload_behind, body_in, packet_in}
+use Rattle.ca_wire.specs.Packet.{be_bytes, packet_bytes}
+use Rattle.ca_wire.specs.Table.{row_of}
 use Rattle.ca_model.specs.Entries.{EntryValue}
 use Rattle.ca_model.specs.Judged.{is_judged_history}
 use Rattle.ca_model.specs.Licensed.{is_licensed_history}
 use Rattle.ca_model.specs.Carried.{is_carried_history}
 use Rattle.ca_model.specs.Once.{is_once_history}
-use Rattle.ca_written.specs.Written.{is_written_history, is_written_once_history}
+use Rattle.ca_law_once.specs.Written.{is_written_history, is_written_once_history}
 use Rattle.ca_model.specs.Ordered.{is_ordered_history}
 use Rattle.ca_model.specs.Caused.{is_caused_history}
 use Rattle.ca_model.proofs.Literals.{d, s, q, k, r, run, place, piece, list, request, completion, grant, entry}

@@ -7,7 +7,7 @@ use Rattle.ca_base.specs.Configuration.{Configuration, configuration_of}
 use Rattle.ca_isolation.specs.Alone.{alone_entries, alone_events}
 use Rattle.ca_isolation.specs.Groups.{Group, group_of}
 use Rattle.ca_keys.specs.Memory.{ByteMap, zeros}
-use Rattle.ca_lone.specs.Cover.{AreInReach}
+use Rattle.ca_isolation.specs.Cover.{AreInReach}
 use Rattle.ca_model.specs.Entries.{EntryValue}
 use Rattle.ca_model.specs.machine.Run.{run_over}
 use Rattle.ca_opening.specs.Opening.{opening_bytes}

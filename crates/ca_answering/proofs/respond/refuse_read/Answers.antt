@@ -1,6 +1,6 @@
 use Rattle.std.proofs.Common.{arith, ap, length}
 use Rattle.ca_answering.proofs.SizeLemmas.{shape_acknowledge, spelt_response}
-use Rattle.ca_packet.specs.Packet.{Fields}
+use Rattle.ca_wire.specs.Packet.{Fields}
 use Rattle.ca_wire.specs.declared.syndrome.NakCode.TheVariants.{RemoteAccessError}
 use Rattle.ca_wire.specs.declared.syndrome.Syndrome.TheVariants.{Nak}
 use Rattle.ca_answering.proofs.respond.refuse_read.Goals as goal

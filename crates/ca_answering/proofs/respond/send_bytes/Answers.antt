@@ -1,6 +1,6 @@
 use Rattle.std.proofs.Common.{rules, arith, ap, length, ◌≡◌}
 use Rattle.ca_answering.proofs.SizeLemmas.{shape_read, spelt_response}
-use Rattle.ca_packet.specs.Packet.{Fields}
+use Rattle.ca_wire.specs.Packet.{Fields}
 use Rattle.ca_answering.proofs.respond.send_bytes.Goals as goal
 
 pub returns-clause-size : goal.returns-clause-size

@@ -1,5 +1,5 @@
 use Rattle.std.proofs.Common.{◌+◌}
-use Rattle.ca_laws_sound.proofs.TurnLemmas.{windows-queue}
+use Rattle.ca_law_world.proofs.Sound.TurnLemmas.{windows-queue}
 use Rattle.ca_qpstate.specs.Seen.{queue_seen}
 use Rattle.ca_bed_responder.proofs.responder.count_window.Goals as goal
 

@@ -2,7 +2,7 @@ use Rattle.std.proofs.Common.{◌∙◌, ap, subst, sym}
 use Rattle.ca_make.proofs.TextLemmas.{row-stands, summary-made}
 use Rattle.ca_script.specs.Script.{script_value}
 use Rattle.ca_script_run.specs.Working.{IsWorkable}
-use Rattle.ca_summary.specs.Text.{summary_text}
+use Rattle.ca_made.specs.Text.{summary_text}
 use Rattle.ca_make.proofs.made.make.Goals as goal
 
 pub work_script-requires : goal.work_script-requires

@@ -2,7 +2,7 @@ use Rattle.std.specs.List.{AllByRecursion}
 use Rattle.ca_keys.specs.declared.access.Ask.{Ask}
 use Rattle.ca_base.specs.Sight.{first_denied}
 use Rattle.ca_base.specs.objects.Answers.{with_ack_at_end}
-use Rattle.ca_packet.specs.Packet.{Fields}
+use Rattle.ca_wire.specs.Packet.{Fields}
 use Rattle.ca_model.specs.machine.Invariants.{IsAnswer}
 use Rattle.std.proofs.Common.{◌≡◌, [], ◌∷◌, ◌++◌, arith, ap, sym, subst, ◌∙◌, if◌then◌else◌, List, false, None, Some}
 use Rattle.ca_base.specs.objects.QueuePair.{QueuePair}

@@ -1,7 +1,7 @@
 use Rattle.std.proofs.Common.{◌≡◌, ◌++◌, arith, ap, refl, sym, subst, ◌∙◌, List, None, false, append_assoc}
 use Rattle.ca_keys.specs.declared.access.Ask.{Ask}
 use Rattle.ca_base.specs.objects.QueuePair.{QueuePair}
-use Rattle.ca_packet.specs.Packet.{Fields}
+use Rattle.ca_wire.specs.Packet.{Fields}
 use Rattle.ca_model.specs.declared.mark.Mark.{Mark}
 use Rattle.ca_model.specs.machine.Arrivals.{with_flag}
 use Rattle.ca_model.specs.machine.Expected.{after_send_packet}

@@ -1,9 +1,9 @@
 use Rattle.std.proofs.Common.{arith}
 use Rattle.ca_base.specs.Configuration.{configuration_of}
-use Rattle.ca_caused_link.proofs.of_ca_carried.EndEventLemmas.{whole-along}
-use Rattle.ca_caused_link.proofs.HistoryLemmas.{caused-along}
-use Rattle.ca_caused_link.proofs.of_ca_judged.JudgeEventLemmas.{judged-along}
-use Rattle.ca_caused_link.proofs.of_ca_licensed.LicensedLemmas.{licensed-along}
+use Rattle.ca_law_caused.proofs.of_ca_law_carried.Carried.EndEventLemmas.{whole-along}
+use Rattle.ca_law_caused.proofs.Link.HistoryLemmas.{caused-along}
+use Rattle.ca_law_caused.proofs.of_ca_law_keys.Judged.JudgeEventLemmas.{judged-along}
+use Rattle.ca_law_caused.proofs.of_ca_law_keys.Licensed.LicensedLemmas.{licensed-along}
 use Rattle.ca_model.specs.Carried.{Carried}
 use Rattle.ca_model.specs.Caused.{Caused}
 use Rattle.ca_model.specs.Judged.{Judged}
@@ -11,13 +11,13 @@ use Rattle.ca_model.specs.Licensed.{Licensed}
 use Rattle.ca_model.specs.Once.{Once}
 use Rattle.ca_model.specs.Ordered.{Ordered}
 use Rattle.ca_model.specs.machine.World.{opening_world}
-use Rattle.ca_caused_link.proofs.of_ca_once.WholeLemmas.{whole-along as once-along}
+use Rattle.ca_law_once.proofs.Once.WholeLemmas.{whole-along as once-along}
 use Rattle.ca_opening.specs.Opening.{opening_bytes}
-use Rattle.ca_ordered.proofs.OrderedLemmas.{ordered-along}
+use Rattle.ca_law_order.proofs.Ordered.OrderedLemmas.{ordered-along}
 use Rattle.ca_replay.proofs.ReplayLemmas.{from_opening, is_lawful, makes_history}
 use Rattle.ca_replay.proofs.events.replay.Goals as goal
-use Rattle.ca_written.proofs.WrittenLemmas.{once-whole, written-whole}
-use Rattle.ca_written.specs.Written.{Written, WrittenOnce}
+use Rattle.ca_law_once.proofs.Written.WrittenLemmas.{once-whole, written-whole}
+use Rattle.ca_law_once.specs.Written.{Written, WrittenOnce}
 
 pub make_all-requires-clause-few : goal.make_all-requires-clause-few
 make_all-requires-clause-few c = omega (arith, c.in_ok-row.ensures.count, c.requires.few)

@@ -3,9 +3,9 @@ use Rattle.std.proofs.lemmas.Grind.{common_steps}
 use Rattle.ca_model.specs.machine.Arrivals.{next_receive, with_flag}
 use Rattle.ca_model.specs.machine.Expected.{takes_receive, valid_row}
 use Rattle.ca_model.specs.machine.Row.{Does, Row, plain_row}
-use Rattle.ca_packet.specs.declared.shape.Shape.{Shape}
+use Rattle.ca_wire.specs.declared.shape.Shape.{Shape}
 use Rattle.ca_operations.specs.Access.{read_effects}
-use Rattle.ca_packet.specs.Table.{shape_of}
+use Rattle.ca_wire.specs.Table.{shape_of}
 use Rattle.ca_psn.specs.Psn.{widened}
 use Rattle.ca_responder.proofs.ArrivalLemmas.{plain_queued, queued_row, taken_plain}
 use Rattle.ca_responder.proofs.WaitingLemmas.{arrived_by, lacks_by}

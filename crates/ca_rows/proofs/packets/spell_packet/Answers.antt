@@ -1,7 +1,7 @@
 use Rattle.std.proofs.Common.{length}
 use Rattle.std.proofs.lemmas.Result.{on_ok_weaker}
-use Rattle.ca_packet.specs.declared.packet.TheConstants.{MAX_PACKET_BYTES}
-use Rattle.ca_packet.specs.Packet.{most_of_response, most_spelt, spelling}
+use Rattle.ca_wire.specs.declared.packet.TheConstants.{MAX_PACKET_BYTES}
+use Rattle.ca_wire.specs.Packet.{most_of_response, most_spelt, spelling}
 use Rattle.ca_rows.proofs.PacketLemmas.{longer}
 use Rattle.ca_rows.proofs.packets.spell_packet.Goals as goal
 

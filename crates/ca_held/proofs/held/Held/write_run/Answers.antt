@@ -1,7 +1,7 @@
 use Rattle.std.proofs.Common.{ap, ◌∙◌}
 use Rattle.ca_held_reach.specs.Names.{buffer_eq}
 use Rattle.ca_held.proofs.ByteLemmas.{put_bytes}
-use Rattle.ca_shelf.specs.Shelved.{thing_under}
+use Rattle.ca_held_reach.specs.Shelved.{thing_under}
 use Rattle.ca_held.proofs.held.Held.write_run.Goals as goal
 
 pub returns : goal.returns

@@ -1,8 +1,8 @@
 use Rattle.std.proofs.Common.{rules}
 use Rattle.ca_base.specs.Configuration.{configuration_in}
 use Rattle.ca_base.specs.objects.StateTable.{modify_refusals}
-use Rattle.ca_laws_sound.proofs.TurnLemmas.{all-fail}
-use Rattle.ca_laws_sound.proofs.VerbLemmas.{changed-queue}
+use Rattle.ca_law_world.proofs.Sound.TurnLemmas.{all-fail}
+use Rattle.ca_law_world.proofs.Sound.VerbLemmas.{changed-queue}
 use Rattle.ca_qpstate.proofs.queue_part.QueuePart.modify.Goals as goal
 
 pub returns-clause-comes_up : goal.returns-clause-comes_up

@@ -5,7 +5,7 @@ use Rattle.ca_replay.proofs.OpenLemmas.{opens}
 use Rattle.ca_replay.specs.Rows.{AreTogether, IsRowOf}
 use Rattle.ca_replay.proofs.MadeLemmas.{row_is}
 use Rattle.ca_model.specs.machine.World.{opening_world}
-use Rattle.ca_adapter.proofs.of_ca_worlds.LeadsLemmas.{opening-after}
+use Rattle.ca_adapter.proofs.of_ca_law_parts.Worlds.LeadsLemmas.{opening-after}
 use Rattle.ca_replay.proofs.row.Row.open.Goals as goal
 
 pub returns : goal.returns

@@ -1,5 +1,0 @@
-use Rattle.ca_agree.proofs.PathEventLemmas.{event-agrees}
-use Rattle.ca_agree.proofs.laws.event_keeps_paths_agreed.Goals as goal
-
-pub returns : goal.returns
-returns c = event-agrees

@@ -1,5 +1,0 @@
-use Rattle.ca_agree.proofs.ArrivalLemmas.{arrivals-along}
-use Rattle.ca_agree.proofs.laws.packets_arrive_as_sent.Goals as goal
-
-pub returns : goal.returns
-returns c = arrivals-along

@@ -1,5 +1,0 @@
-use Rattle.ca_agree.proofs.IndexLemmas.{indices-along}
-use Rattle.ca_agree.proofs.laws.packets_have_their_indices.Goals as goal
-
-pub returns : goal.returns
-returns c = indices-along

@@ -1,5 +1,0 @@
-use Rattle.ca_calm_scripts.proofs.BoundLemmas.{script-bounded, script-not-spent}
-use Rattle.ca_calm_scripts.proofs.laws.calm_scripts_are_bounded.Goals as goal
-
-pub returns : goal.returns
-returns c = record { entries = script-bounded; status = script-not-spent }

@@ -1,4 +1,0 @@
-pub mod CalmLemmas
-pub mod ChainLemmas
-pub mod LinkLemmas
-pub mod WalkLemmas

@@ -1,5 +1,0 @@
-use Rattle.ca_connection_calm.proofs.CalmLemmas.{cursor-on}
-use Rattle.ca_connection_calm.proofs.laws.calm_cursor_goes_on.Goals as goal
-
-pub returns : goal.returns
-returns c = cursor-on

@@ -1,5 +1,0 @@
-use Rattle.ca_connection_calm.proofs.LinkLemmas.{calmly-calm}
-use Rattle.ca_connection_calm.proofs.laws.calm_links_are_calm.Goals as goal
-
-pub returns : goal.returns
-returns c = calmly-calm

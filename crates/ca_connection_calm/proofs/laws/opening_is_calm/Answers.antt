@@ -1,5 +1,0 @@
-use Rattle.ca_connection_calm.proofs.CalmLemmas.{opening-calm}
-use Rattle.ca_connection_calm.proofs.laws.opening_is_calm.Goals as goal
-
-pub returns : goal.returns
-returns c = opening-calm

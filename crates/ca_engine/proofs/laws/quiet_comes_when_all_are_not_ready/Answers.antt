@@ -1,5 +1,0 @@
-use Rattle.ca_engine.proofs.QuietLemmas.{quiet-told}
-use Rattle.ca_engine.proofs.laws.quiet_comes_when_all_are_not_ready.Goals as goal
-
-pub returns : goal.returns
-returns c = quiet-told

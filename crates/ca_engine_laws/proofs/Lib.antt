@@ -1,3 +1,0 @@
-pub mod VisitLemmas
-pub mod OfferedLemmas
-pub mod LoopLemmas

@@ -1,5 +1,0 @@
-use Rattle.ca_engine_laws.proofs.LoopLemmas.{loop-ends-from}
-use Rattle.ca_engine_laws.proofs.laws.offers_from_a_stage_come_to_an_end.Goals as goal
-
-pub returns : goal.returns
-returns c = loop-ends-from

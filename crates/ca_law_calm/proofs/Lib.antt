@@ -1,0 +1,16 @@
+pub mod AdmitRows
+pub mod CalmRows
+pub mod StoodRows
+pub mod StandLemmas
+pub mod AnswerRows
+pub mod MailLemmas
+pub mod ArriveRows
+pub mod EndLemmas
+pub mod DeliverCalm
+pub mod QuietCalm
+pub mod SentCalm
+pub mod TurnCalm
+pub mod VerbCalm
+pub mod EventCalm
+pub mod RowCalm
+pub mod AddressLemmas

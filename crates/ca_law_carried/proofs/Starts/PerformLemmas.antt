@@ -1,0 +1,126 @@
+-- The plans of local operations lead where their effects do, which are those of an operation. For proofs only.
+use Rattle.std.proofs.Common.{Bool, List, None, Option, Some, [], false, if◌then◌else◌, refl, suc, true, ◌++◌, ◌==◌, ◌∷◌, ◌≡◌}
+use Rattle.ca_law_endings.proofs.LeadsLemmas.{AreAside, leads-row, unless-aside}
+use Rattle.ca_law_endings.specs.Runs.{Leads}
+use Rattle.ca_base.specs.Configuration.{Configuration}
+use Rattle.ca_base.specs.Sight.{Invalidation}
+use Rattle.ca_base.specs.declared.refusals.OpRefusal.{OpRefusal}
+use Rattle.ca_base.specs.declared.request.SendOp.{SendOp}
+use Rattle.ca_base.specs.objects.LocalRequest.{LocalMarks}
+use Rattle.ca_base.specs.objects.QueuePair.{QueuePair}
+use Rattle.ca_base.specs.objects.Region.{Region}
+use Rattle.ca_base.specs.objects.Slices.{slot_of_key}
+use Rattle.ca_base.specs.objects.Window.{Binding, Window}
+use Rattle.ca_keys.specs.declared.key.Key.{Key}
+use Rattle.ca_keys.specs.declared.names.DomainId.{DomainId}
+use Rattle.ca_model.specs.declared.mark.Mark.{Mark}
+use Rattle.ca_model.specs.machine.Expected.{with_window_gone}
+use Rattle.ca_model.specs.machine.LocalOperations.{Finishing, Perform_op, PlacedRegion, With_former, With_named, bind1_changes, bind1_marks, bind1_refusal, bind2_changes, bind2_marks, bind2_refusal, drawn_by, fast_changes, fast_marks, fast_refusal, former_updates, invalidate_row, named_updates, operation_effects, region_slot, window_slot}
+use Rattle.ca_model.specs.machine.Numbering.{Numbered}
+use Rattle.ca_model.specs.machine.Plan.{Look, Plan, Update, Write}
+use Rattle.ca_model.specs.machine.Row.{Effects, queue_and_marks, region_under, unless_none}
+use Rattle.ca_model.specs.machine.World.{Region_of, World}
+use Rattle.ca_wire.specs.Shapes.{ends}
+use Rattle.ca_base.specs.declared.request.SendOp.TheVariants as ops
+use Rattle.ca_keys.specs.Spelling.{rights_text as rights}
+
+-- a queue pair with other windows
+pub record IsAlike (q p : QueuePair) : Type 0 where
+  pub state : p.state ≡ q.state
+  pub sends : p.sends ≡ q.sends
+  pub requester : p.requester ≡ q.requester
+  pub mtu : p.responder.mtu ≡ q.responder.mtu
+
+aside-append : (xs ys : List Update) → AreAside xs → AreAside ys → AreAside (xs ++ ys)
+aside-append [] ys one other = other
+aside-append (x ∷ xs) ys one other = (one.0, aside-append xs ys one.1 other)
+
+former-aside : (former : Option PlacedRegion) → AreAside (former_updates former)
+former-aside None = record {}
+former-aside (Some f) = (record {}, record {})
+
+named-aside : (former named : Option PlacedRegion) → AreAside (named_updates former named)
+named-aside former None = record {}
+named-aside former (Some n) = (record {}, record {})
+
+leads-named : (c : Configuration) (w : World) (P : World → List Mark → Type 0) (d : DomainId) (key : Key) (k : Option PlacedRegion → Plan) → ((r : Option PlacedRegion) → Leads w P (k r)) → Leads w P (With_named c d key k)
+leads-named c w P d key k more = (λ named. more (Some (record { slot = slot_of_key d key; region = w.region (slot_of_key d key) })), λ none. more None)
+
+leads-former : (w : World) (P : World → List Mark → Type 0) (x : Window) (k : Option PlacedRegion → Plan) → ((r : Option PlacedRegion) → Leads w P (k r)) → Leads w P (With_former x k)
+leads-former w P x k more = by x.binding
+  where
+    former : Option Binding → Plan
+    former None = k None
+    former (Some b) = Look (Region_of (region_under x b)) (λ region. k (Some (record { slot = region_under x b; region = region })))
+
+    by : (o : Option Binding) → Leads w P (former o)
+    by None = more None
+    by (Some b) = more (Some (record { slot = region_under x b; region = w.region (region_under x b) }))
+
+-- what holds of each ending of an operation, and how its plan goes on
+pub leads-local : (c : Configuration) (w : World) (P : World → List Mark → Type 0) (E : Effects → Type 0) (q : QueuePair) (n : Numbered) (finish : Finishing) (op : SendOp)
+    → ((after : QueuePair) (m : LocalMarks) (refusal : Option OpRefusal) → IsAlike q after → E (operation_effects q n after m refusal)) → E (queue_and_marks q [])
+    → ((e : Effects) (cs : List Update) (ws : List Write) → E e → AreAside cs → Leads w P (finish e cs ws)) → Leads w P (Perform_op c q n finish op)
+leads-local c w P E q n finish (ops.Bind1 window key address count rights) ends none more =
+    leads-named c w P q.domain key (λ named. With_former x (λ former. ending named former)) (λ named. leads-former w P x (λ former. ending named former) (λ former.
+    more (operation_effects q n q (bind1_marks q n window named address count rights x) (refusal named))
+    (unless_none (refusal named) (bind1_changes (window_slot q window) (drawn_by n) x former named address count rights)) []
+    (ends q (bind1_marks q n window named address count rights x) (refusal named) (record { state = refl; sends = refl; requester = refl; mtu = refl }))
+    (unless-aside (refusal named) (bind1_changes (window_slot q window) (drawn_by n) x former named address count rights)
+    (record {}, aside-append (former_updates former) (if count == 0 then [] else named_updates former named) (former-aside former) (regions named former (count == 0))))))
+  where
+    x : Window
+    x = w.window (window_slot q window)
+
+    refusal : Option PlacedRegion → Option OpRefusal
+    refusal named = bind1_refusal n key named address count rights x
+
+    regions : (named former : Option PlacedRegion) (b : Bool) → AreAside (if b then [] else named_updates former named)
+    regions named former true = record {}
+    regions named former false = named-aside former named
+
+    ending : Option PlacedRegion → Option PlacedRegion → Plan
+    ending named former = finish (operation_effects q n q (bind1_marks q n window named address count rights x) (refusal named))
+        (unless_none (refusal named) (bind1_changes (window_slot q window) (drawn_by n) x former named address count rights)) []
+leads-local c w P E q n finish (ops.Bind2 window key low address count rights) ends none more =
+    leads-named c w P q.domain key (λ named. With_former x (λ former. ending named)) (λ named. leads-former w P x (λ former. ending named) (λ former.
+    more (operation_effects q n (record q { windows = suc q.windows }) (bind2_marks q window low named address count rights) (refusal named))
+    (unless_none (refusal named) (bind2_changes (window_slot q window) low q.queue x named address count rights)) []
+    (ends (record q { windows = suc q.windows }) (bind2_marks q window low named address count rights) (refusal named) (record { state = refl; sends = refl; requester = refl; mtu = refl }))
+    (unless-aside (refusal named) (bind2_changes (window_slot q window) low q.queue x named address count rights) (record {}, named-aside None named))))
+  where
+    x : Window
+    x = w.window (window_slot q window)
+
+    refusal : Option PlacedRegion → Option OpRefusal
+    refusal named = bind2_refusal key named address count rights x
+
+    ending : Option PlacedRegion → Plan
+    ending named = finish (operation_effects q n (record q { windows = suc q.windows }) (bind2_marks q window low named address count rights) (refusal named))
+        (unless_none (refusal named) (bind2_changes (window_slot q window) low q.queue x named address count rights)) []
+leads-local c w P E q n finish (ops.FastReg region low buffer address count rights pages) ends none more =
+    more (operation_effects q n q (fast_marks q region low buffer address count rights pages) refusal)
+    (unless_none refusal (fast_changes q region low buffer address count rights pages r)) []
+    (ends q (fast_marks q region low buffer address count rights pages) refusal (record { state = refl; sends = refl; requester = refl; mtu = refl }))
+    (unless-aside refusal (fast_changes q region low buffer address count rights pages r) (record {}, record {}))
+  where
+    r : Region
+    r = w.region (region_slot q region)
+
+    refusal : Option OpRefusal
+    refusal = fast_refusal c q region buffer address count rights pages r
+leads-local c w P E q n finish (ops.LocalInv key) ends none more = leads-row c w P E (invalidate_row q n key) finish (record {
+  denied = λ d. none;
+  allowed = λ bytes refusal. ends (with_window_gone i q) (record { revoked = Some key; granted = None }) refusal (record { state = refl; sends = refl; requester = refl; mtu = refl });
+}) more
+  where
+    i : Option Invalidation
+    i = Some (record { queue = q.queue; domain = q.domain; key = key })
+leads-local c w P E q n finish (ops.Send list) ends none more = more (queue_and_marks q []) [] [] none (record {})
+leads-local c w P E q n finish (ops.SendImm imm list) ends none more = more (queue_and_marks q []) [] [] none (record {})
+leads-local c w P E q n finish (ops.SendInv key list) ends none more = more (queue_and_marks q []) [] [] none (record {})
+leads-local c w P E q n finish (ops.Write address key list) ends none more = more (queue_and_marks q []) [] [] none (record {})
+leads-local c w P E q n finish (ops.WriteImm address key imm list) ends none more = more (queue_and_marks q []) [] [] none (record {})
+leads-local c w P E q n finish (ops.Read address key list) ends none more = more (queue_and_marks q []) [] [] none (record {})
+leads-local c w P E q n finish (ops.CmpSwap address key compare swap list) ends none more = more (queue_and_marks q []) [] [] none (record {})
+leads-local c w P E q n finish (ops.FetchAdd address key add list) ends none more = more (queue_and_marks q []) [] [] none (record {})

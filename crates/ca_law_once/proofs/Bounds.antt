@@ -1,0 +1,2 @@
+-- The bounds on the numbers of a connection, as laws of worlds that are tied to a link.
+pub mod BoundLemmas

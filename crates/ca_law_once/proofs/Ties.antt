@@ -1,0 +1,19 @@
+-- When a world and a link say the same of one direction of a connection, and that the turns of the machine keep this.
+pub mod DeliverWalk
+pub mod EntryLemmas
+pub mod DeliverLemmas
+pub mod DeliverTies
+pub mod QuietLemmas
+pub mod TimerLemmas
+pub mod SendLemmas
+pub mod SentTies
+pub mod RespondTies
+pub mod TellLemmas
+pub mod PerformTies
+pub mod TurnTies
+pub mod FollowLemmas
+pub mod OpeningLemmas
+pub mod EndLemmas
+pub mod DestroyLemmas
+pub mod AsideLemmas
+pub mod CreateLemmas

@@ -1,0 +1,5 @@
+pub mod Rest
+pub mod Limits
+pub mod Lawful
+pub mod Agreement
+pub mod CalmScripts

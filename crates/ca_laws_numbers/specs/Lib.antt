@@ -1,3 +1,0 @@
-pub mod Raised
--- The libraries below, handed on to those above.
-pub use Rattle.ca_model.specs as ca_model

@@ -1,8 +1,0 @@
-use Rattle.ca_laws_room.proofs.EventRoomLemmas.{each-fits, together-fit}
-use Rattle.ca_laws_room.proofs.laws.completions_of_an_event_fit.Goals as goal
-
-pub returns-clause-together : goal.returns-clause-together
-returns-clause-together c = together-fit
-
-pub returns-clause-each : goal.returns-clause-each
-returns-clause-each c = each-fits

@@ -1,5 +1,0 @@
-use Rattle.ca_laws_windows.proofs.BindingLemmas.{counted-binding}
-use Rattle.ca_laws_windows.proofs.laws.bound_window_is_counted.Goals as goal
-
-pub returns : goal.returns
-returns c = λ w s b bound is. counted-binding w.window w.region w.queue s b bound is

@@ -1,6 +1,0 @@
-pub mod Effects
-pub mod Alone
-pub mod Ends
-pub mod Asked
-pub mod Lie
-pub mod Ended

@@ -1,6 +1,0 @@
-use Rattle.std.proofs.Common.{rules}
-use Rattle.ca_lone.proofs.CoverLemmas.{adds-within}
-use Rattle.ca_lone.proofs.cover.add_run.Goals as goal
-
-pub returns-then-is_within_any : goal.returns-then-is_within_any
-returns-then-is_within_any c = adds-within c.args.run.now c.args.cover.now.items (search rules)

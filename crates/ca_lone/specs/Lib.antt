@@ -1,5 +1,0 @@
-pub mod Cover
-pub mod Covering
-pub mod Extents
-pub mod InForce
-pub mod Putting

@@ -1,2 +1,0 @@
--- The libraries below, handed on to those above.
-pub use Rattle.ca_agree_sends.specs.ca_agree_keys

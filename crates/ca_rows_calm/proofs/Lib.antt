@@ -1,2 +1,0 @@
-pub mod AdmitRows
-pub mod CalmRows

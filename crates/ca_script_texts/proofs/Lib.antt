@@ -1,4 +1,0 @@
-pub mod SizeLemmas
-pub mod OfferLemmas
-pub mod FrontLemmas
-pub mod LawfulLemmas

@@ -1,4 +1,0 @@
-pub mod Shelved
-pub mod Lending
-pub mod Found
-pub mod Paths

@@ -1,8 +1,0 @@
-use Rattle.ca_ties.proofs.TimerLemmas.{timeout-ties, wake-ties}
-use Rattle.ca_ties.proofs.laws.timers_keep_ties.Goals as goal
-
-pub returns-clause-timeout : goal.returns-clause-timeout
-returns-clause-timeout c = timeout-ties
-
-pub returns-clause-wake : goal.returns-clause-wake
-returns-clause-wake c = wake-ties

@@ -1,9 +1,0 @@
-pub mod MailLemmas
-pub mod ArriveRows
-pub mod EndLemmas
-pub mod DeliverCalm
-pub mod QuietCalm
-pub mod SentCalm
-pub mod TurnCalm
-pub mod VerbCalm
-pub mod EventCalm

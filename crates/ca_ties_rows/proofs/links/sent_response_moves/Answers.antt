@@ -1,8 +1,0 @@
-use Rattle.ca_ties_rows.proofs.LinkLemmas.{responded-moves, responded-nowhere-moves}
-use Rattle.ca_ties_rows.proofs.links.sent_response_moves.Goals as goal
-
-pub returns-clause-there : goal.returns-clause-there
-returns-clause-there c = responded-moves
-
-pub returns-clause-nowhere : goal.returns-clause-nowhere
-returns-clause-nowhere c = responded-nowhere-moves

@@ -1,9 +1,0 @@
-use Rattle.ca_ties_rows.proofs.StayLemmas.{wake-stays}
-use Rattle.ca_ties_rows.proofs.TurnLemmas.{wake-responder}
-use Rattle.ca_ties_rows.proofs.turns.wake_stays.Goals as goal
-
-pub returns-clause-requester : goal.returns-clause-requester
-returns-clause-requester c = wake-stays
-
-pub returns-clause-responder : goal.returns-clause-responder
-returns-clause-responder c = wake-responder

@@ -1,4 +1,0 @@
-pub mod Sides
-pub mod Entries
-pub mod Moves
-pub mod Links

@@ -1,4 +1,0 @@
-pub mod EventWeights
-pub mod LaidLemmas
-pub mod RunWeights
-pub mod SentTurns
